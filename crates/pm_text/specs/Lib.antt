@@ -1,0 +1,4 @@
+pub mod Extends
+pub mod Hex
+pub mod Names
+pub mod Numbers

@@ -1,9 +1,13 @@
 //! Lists, bytes and texts, which contracts see as lists.
 #![tactic(auto)]
 
+mod hex;
 mod items;
+mod names;
+mod numbers;
 mod text;
 
 pub use causes::NoMemory;
 pub use items::{Bytes, Items};
+pub use numbers::{Number, read_decimal, read_value};
 pub use text::Text;

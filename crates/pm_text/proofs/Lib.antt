@@ -1,0 +1,4 @@
+mod ExtendsLaws
+mod HexLaws
+mod NameLaws
+mod NumberLaws

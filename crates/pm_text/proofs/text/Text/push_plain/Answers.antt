@@ -1,0 +1,5 @@
+use Rattle.pm_text.proofs.ExtendsLaws.{cut_text}
+use Rattle.pm_text.proofs.text.Text.push_plain.Goals as goal
+
+pub settled-requires : goal.settled-requires
+settled-requires c = cut_text c.self.inside.string c.write_plain-written.new.out _ c.len-old_len.ensures c.write_plain-written.ensures.extends
