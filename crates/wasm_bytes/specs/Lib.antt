@@ -1,0 +1,5 @@
+pub mod Place
+pub mod Reading
+pub mod Answers
+pub mod Spelling
+pub mod Sections

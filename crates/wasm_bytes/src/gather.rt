@@ -1,0 +1,64 @@
+//! Elements that are read into a state.
+
+ghost use Rattle.std.specs.Prelude.{◌≡◌, ◌-◌, OnOk, length};
+ghost use Rattle.wasm_bytes.specs.Place.{Place, Read, Moves, Stays};
+ghost use Rattle.wasm_bytes.specs.Reading.{steps_from, steps_until_end, steps_to_end};
+ghost use Rattle.wasm_bytes.specs.Answers.{Gives, with_state};
+
+use crate::faults::ItemFault;
+use crate::reader::Reader;
+use std::alloc::Global;
+
+/// A state that takes one element after another. What an element may be can depend on those before it.
+pub trait Gather<'a> {
+    /// The state with the next element and the place behind that, or the offset of the first item without a reading.
+    ghost step: { Self → Place → Read Self };
+
+    fn take(&mut self, alloc: Global, reader: &mut Reader<'a>) -> Result<(), ItemFault>
+        ensures item { Gives (with_state self.new result) reader.new (step self.old reader.old) }
+        ensures moves { OnOk result (Moves reader.old reader.new) };
+}
+
+/// Takes so many elements.
+pub fn gather_count<'a, S: Gather<'a>>(
+    alloc: Global,
+    count: u32,
+    state: &mut S,
+    reader: &mut Reader<'a>,
+) -> Result<(), ItemFault>
+    ensures item { Gives (with_state state.new result) reader.new (steps_from S.step count state.old reader.old) }
+    ensures stays { OnOk result (Stays reader.old reader.new) }
+{
+    for _ in 0..count {
+        state.take(alloc, reader)?;
+    }
+    Ok(())
+}
+
+fn gather_left<'a, S: Gather<'a>>(
+    alloc: Global,
+    state: &mut S,
+    reader: &mut Reader<'a>,
+) -> Result<(), ItemFault>
+    ensures item { Gives (with_state state.new result) reader.new
+        (steps_until_end S.step (length reader.old.block - reader.old.at) state.old reader.old) }
+    ensures stays { OnOk result (Stays reader.old reader.new) }
+{
+    'elements: while reader.left() > 0 {
+        state.take(alloc, reader)?;
+    }
+    Ok(())
+}
+
+/// Takes elements up to the end of the block.
+#[tactic(auto, unfolding(crate::specs::Reading::steps_to_end))]
+pub fn gather_to_end<'a, S: Gather<'a>>(
+    alloc: Global,
+    state: &mut S,
+    reader: &mut Reader<'a>,
+) -> Result<(), ItemFault>
+    ensures item { Gives (with_state state.new result) reader.new (steps_to_end S.step state.old reader.old) }
+    ensures stays { OnOk result (Stays reader.old reader.new) }
+{
+    gather_left(alloc, state, reader)
+}

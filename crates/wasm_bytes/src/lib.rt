@@ -1,0 +1,16 @@
+//! Reading the bytes of WebAssembly's formats from left to right: places, single items, blocks and vectors.
+#![tactic(auto)]
+
+mod faults;
+mod gather;
+mod item;
+mod reader;
+mod runs;
+mod sections;
+
+pub use faults::{ItemFault, Malformed};
+pub use gather::{Gather, gather_count, gather_to_end};
+pub use item::{Item, items_to_end, named_section};
+pub use reader::Reader;
+pub use runs::Run;
+pub use sections::{SectionFrame, section_at};
