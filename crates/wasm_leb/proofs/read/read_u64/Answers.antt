@@ -1,0 +1,18 @@
+use Rattle.std.proofs.Common.{arith, refl}
+use Rattle.wasm_leb.specs.Numbers.{IsUnsigned}
+use Rattle.wasm_leb.specs.Reading.{unsigned_at, u64_at}
+use Rattle.wasm_leb.proofs.Readings.{found_at, truncated_at, too_long_at}
+use Rattle.wasm_leb.proofs.Widths.{u64_reading}
+use Rattle.wasm_leb.proofs.read.read_u64.Goals as goal
+
+pub returns-clause-found : goal.returns-clause-found
+unfolding u64_at
+returns-clause-found c = rw c.placed_u64.ensures (found_at (IsUnsigned 64) (unsigned_at 64) 10 c.args.at c.args.bytes.now _ u64_reading refl (λ i. omega (arith, c.type_inv.bytes i)) c.requires)
+
+pub returns-clause-truncated : goal.returns-clause-truncated
+unfolding u64_at
+returns-clause-truncated c = rw c.placed_u64.ensures (truncated_at (IsUnsigned 64) (unsigned_at 64) 10 c.args.at c.args.bytes.now u64_reading)
+
+pub returns-clause-too_long : goal.returns-clause-too_long
+unfolding u64_at
+returns-clause-too_long c = rw c.placed_u64.ensures (too_long_at (IsUnsigned 64) (unsigned_at 64) 10 c.args.at c.args.bytes.now u64_reading (λ i. omega (arith, c.type_inv.bytes i)))
