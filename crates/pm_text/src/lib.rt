@@ -8,6 +8,9 @@ mod numbers;
 mod text;
 
 pub use causes::NoMemory;
-pub use items::{Bytes, Items};
+pub use items::{Bytes, Items, Texts};
 pub use numbers::{Number, read_decimal, read_value};
 pub use text::Text;
+
+#[cfg(test)]
+mod tests;

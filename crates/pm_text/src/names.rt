@@ -47,10 +47,9 @@ fn write_byte(out: &mut String, marks: Marks, b: u8) -> Result<(), AllocError>
     ensures ok { OnOk result (string_bytes out.new ≡ string_bytes out.old ++ outside_text (marked_byte marks) b) }
     ensures extends { Extends (string_bytes out.old) (string_bytes out.new) }
 {
-    if b < 0x80 {
-        write_ascii(out, marks, b)
-    } else {
-        hex::write_byte(out, b)
+    match b {
+        0..0x80 => write_ascii(out, marks, b),
+        _ => hex::write_byte(out, b),
     }
 }
 

@@ -1,7 +1,9 @@
 //! A text.
 
-ghost use Rattle.std.specs.Prelude.{◌≡◌, ◌==◌, ◌++◌, [], length, take, IsOk, OnOk, OnErr, IfOk};
-ghost use Rattle.std.specs.Fmt.{signed_decimal};
+ghost use Rattle.std.specs.Prelude.{◌≡◌, ◌==◌, ◌++◌, [], length, take, nat_eq, IsOk, OnOk, OnErr, IfOk};
+ghost use Rattle.std.specs.Cmp.{partial_equiv_from_equiv};
+ghost use Rattle.std.specs.Cmp.Lexicographic.{pointwise, nat_list_eq_equiv};
+ghost use Rattle.std.specs.Fmt.{signed_decimal, debug_str};
 ghost use Rattle.std.specs.Str.{IsUtf8};
 ghost use Rattle.std.specs.String.{string_bytes};
 ghost use Rattle.std.specs.String.Boundary.{IsSplitPoint};
@@ -12,6 +14,7 @@ use crate::{hex, names};
 use causes::NoMemory;
 use itoa::Buffer;
 use std::alloc::{AllocError, Global};
+use std::fmt;
 use std::marker::Model;
 
 /// A text, which contracts see as its bytes.
@@ -133,7 +136,7 @@ impl Text {
         settled(&mut self.string, old_len, written)
     }
 
-    /// Adds a name between quotation marks. `"` and `\\` have a `\\` before them, and a byte below 0x20 or 0x7F is `\\`
+    /// Adds a name between quotation marks. `"` and `\` have a `\` before them, and a byte below 0x20 or 0x7F is `\`
     /// and two lower-case hexadecimal digits. In a name that is not UTF-8 each byte from 0x80 on is written so too.
     pub fn push_quoted(&mut self, s: &[u8]) -> Result<(), NoMemory>
         ensures ok { OnOk result (self.new ≡ self.old ++ quoted s.now) }
@@ -152,5 +155,27 @@ impl Text {
         let old_len = self.string.len();
         let written = names::write_plain(&mut self.string, s);
         settled(&mut self.string, old_len, written)
+    }
+}
+
+impl PartialEq for Text {
+    ghost eq = { λ x y. pointwise nat_eq x y };
+
+    ghost laws = { partial_equiv_from_equiv nat_list_eq_equiv };
+
+    fn eq(&self, other: &Self) -> bool {
+        self.as_str() == other.as_str()
+    }
+}
+
+impl Eq for Text {
+    ghost laws = { nat_list_eq_equiv };
+}
+
+impl fmt::Debug for Text {
+    ghost debug_output = { λ t. debug_str t };
+
+    fn fmt<W: fmt::Write>(&self, f: &mut fmt::Formatter<W>) -> fmt::Result {
+        fmt::Debug::fmt(&self.as_str(), f)
     }
 }
