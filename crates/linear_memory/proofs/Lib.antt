@@ -1,0 +1,7 @@
+mod Boxed
+mod Contents
+mod Instructions
+mod Making
+mod Moves
+mod Windows
+mod LowBytes

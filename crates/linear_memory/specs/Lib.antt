@@ -1,0 +1,6 @@
+pub mod Growth
+pub mod Lending
+pub mod Memory
+pub mod Ownership
+pub mod Paged
+pub mod Table
