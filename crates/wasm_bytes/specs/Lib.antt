@@ -3,3 +3,5 @@ pub mod Reading
 pub mod Answers
 pub mod Spelling
 pub mod Sections
+pub mod Stopping
+pub mod Laws

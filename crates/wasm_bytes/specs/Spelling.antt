@@ -27,7 +27,15 @@ leads {A} S T y at bytes = (x : A) × (S x & T x y) at bytes
 abbrev pub image : {A B : Type 0} → (A → B) → (A → Spellings) → B → Spellings
 image {A} to S y at bytes = (x : A) × (to x ≡ y) × S x at bytes
 
+-- the values that pass a test
+abbrev pub passing : {A : Type 0} → (A → Bool) → (A → Spellings) → A → Spellings
+passing test S x at bytes = (test x ≡ true) × S x at bytes
+
 -- ---- single items
+
+-- no byte, for one value alone
+abbrev pub only : {A : Type 0} → A → A → Spellings
+only x y at bytes = (y ≡ x) × (bytes ≡ [])
 
 abbrev pub nothing : Spellings
 nothing at bytes = bytes ≡ []
@@ -41,7 +49,7 @@ byte b at bytes = bytes ≡ b ∷ []
 
 -- a byte out of a stated set
 abbrev pub one_of : (ℕ → Bool) → ℕ → Spellings
-one_of has b at bytes = (has b ≡ true) × (bytes ≡ b ∷ [])
+one_of set = passing set byte
 
 -- these bytes
 abbrev pub text : List ℕ → Spellings
