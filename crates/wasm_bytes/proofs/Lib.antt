@@ -1,2 +1,5 @@
 pub mod Utf8
 pub mod Loops
+pub mod Places
+pub mod Exact
+pub mod ExactItems
