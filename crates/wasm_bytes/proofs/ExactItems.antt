@@ -13,7 +13,7 @@ use Rattle.wasm_leb.proofs.UnsignedLaws.{unsigned_sound, unsigned_complete}
 use Rattle.wasm_leb.proofs.SignedLaws.{signed_sound, signed_complete}
 use Rattle.wasm_bytes.specs.Place.{Place, Read}
 use Rattle.wasm_bytes.specs.Reading.{◌>>=◌, ◌▷◌, number_of, u32_item, s32_item, s64_item, byte_of, byte_item, checked, forgotten, as_one, one_of_item, fixed_item, bytes_item, run_item, sized_run_item, name_item, named_item}
-use Rattle.wasm_bytes.specs.Spelling.{◌&◌, leads, image, passing, u32, s32, s64, byte, one_of, text, run, sized_run, utf8, name}
+use Rattle.wasm_bytes.specs.Spelling.{◌&◌, always, leads, image, passing, u32, s32, s64, byte, one_of, text, run, sized_run, utf8, name}
 use Rattle.wasm_bytes.specs.Laws.{IsBytes, place, got, Took, IsExact}
 use Rattle.wasm_bytes.proofs.Places.{chosen, IsBytes-rest, place_behind, rest_length, byte_here, got_is, took_is, took_nothing}
 use Rattle.wasm_bytes.proofs.Exact.{first_took, then_took, same_exact, leads_exact, image_exact, checked_exact, as_one_exact}
@@ -103,10 +103,6 @@ byte_exact = record {
 pub one_of_exact : (set : ℕ → Bool) → IsExact (one_of set) (one_of_item set)
 unfolding one_of_item
 one_of_exact set = checked_exact set byte byte_item byte_exact
-
--- the spellings of nothing but these
-abbrev pub always : (ℕ → List ℕ → Type 0) → Unit {0} → ℕ → List ℕ → Type 0
-always S u = S
 
 pub fixed_exact : (b : ℕ) → IsExact (always (byte b)) (fixed_item b)
 unfolding fixed_item

@@ -5,3 +5,6 @@ pub mod Exact
 pub mod ExactItems
 pub mod ExactBlocks
 pub mod ExactLists
+pub mod Stops
+pub mod StopsBlocks
+pub mod StopsLists

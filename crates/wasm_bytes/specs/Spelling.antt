@@ -23,6 +23,10 @@ pair S T z = S z.0 & T z.1
 abbrev pub leads : {A B : Type 0} → (A → Spellings) → (A → B → Spellings) → B → Spellings
 leads {A} S T y at bytes = (x : A) × (S x & T x y) at bytes
 
+-- the one value of the unit type
+abbrev pub always : Spellings → Unit {0} → Spellings
+always S u = S
+
 -- the values made of those that are spelled
 abbrev pub image : {A B : Type 0} → (A → B) → (A → Spellings) → B → Spellings
 image {A} to S y at bytes = (x : A) × (to x ≡ y) × S x at bytes

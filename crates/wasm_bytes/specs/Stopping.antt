@@ -1,7 +1,7 @@
 -- Where reading stops: the offset of the first item without a reading, or of the end of the block where an item is still
 -- due there (WebAssembly Core 1.0, 5.1 to 5.5). The definitions here are the parts, for each way of putting items together.
 use Rattle.std.specs.Prelude.{◌≡◌, ℕ, ◌+◌, ◌<◌, ◌⊎◌, Bool, false, List, [], ◌∷◌, ◌++◌, length}
-use Rattle.wasm_bytes.specs.Spelling.{Spellings, u32, items, steps}
+use Rattle.wasm_bytes.specs.Spelling.{Spellings, always, byte, u32, run, items, steps}
 
 -- the offset where reading begins, the bytes from there to the end of the block, and the offset where it stops
 abbrev pub Stops : Type 1
@@ -34,6 +34,10 @@ refused {A} test S at bytes o = (o ≡ at) × (x : A) × (front : List ℕ) × (
 abbrev pub text_stops : List ℕ → Stops
 text_stops expected at bytes o = (same : List ℕ) × (b : ℕ) × (more : List ℕ) × (rest : List ℕ) × (expected ≡ same ++ b ∷ more) × (bytes ≡ same ++ rest) × (o ≡ at + length same) × ((after : List ℕ) → rest ≡ b ∷ after → ⊥)
 
+-- a length, or a run of as many bytes
+abbrev pub sized_run_stops : Stops
+sized_run_stops = either (unread u32) (behind u32 (λ n. unread (run n)))
+
 -- A byte is left over.
 abbrev pub left_over : Stops
 left_over at bytes o = (o ≡ at) × (0 < length bytes)
@@ -52,6 +56,10 @@ in_block stops at bytes o = (size : List ℕ) × (inner : List ℕ) × (rest : L
 
 abbrev pub sized_stops : Stops → Stops
 sized_stops stops = either no_block (in_block stops)
+
+-- in a custom section, whose contents with their name stop so
+abbrev pub section_stops : Stops → Stops
+section_stops stops = then_stops (always (byte 0x00)) (unread (always (byte 0x00))) (sized_stops stops)
 
 -- No byte is there that says what comes after it.
 abbrev pub no_tag : (ℕ → Type 0) → Stops
