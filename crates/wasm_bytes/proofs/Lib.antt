@@ -8,3 +8,5 @@ pub mod ExactLists
 pub mod Stops
 pub mod StopsBlocks
 pub mod StopsLists
+pub mod SectionLaws
+pub mod Takes

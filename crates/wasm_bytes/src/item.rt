@@ -2,13 +2,13 @@
 
 ghost use Rattle.std.specs.Prelude.{◌≡◌, ◌-◌, List, OnOk, length};
 ghost use Rattle.wasm_bytes.specs.Place.{Place, Read, Moves, Stays};
-ghost use Rattle.wasm_bytes.specs.Reading.{u32_item, sized_run_item, items_from, vector_item, until_end, to_end_item, section_item};
+ghost use Rattle.wasm_bytes.specs.Reading.{u32_item, name_item, sized_run_item, items_from, vector_item, until_end, to_end_item, section_item};
 ghost use Rattle.wasm_bytes.specs.Answers.{Gives};
 
 use crate::faults::ItemFault;
 use crate::reader::Reader;
 use crate::runs::Run;
-use pm_text::Items;
+use pm_text::{Items, Text};
 use std::alloc::Global;
 
 /// A type whose values are read from a place. They may borrow from the input.
@@ -26,6 +26,16 @@ impl<'a> Item<'a> for u32 {
 
     fn read(_alloc: Global, reader: &mut Reader<'a>) -> Result<u32, ItemFault> {
         Ok(reader.u32()?)
+    }
+}
+
+/// A name (Core 5.2.4).
+impl<'a> Item<'a> for Text {
+    ghost item = { name_item };
+
+    fn read(alloc: Global, reader: &mut Reader<'a>) -> Result<Text, ItemFault> {
+        let name = reader.name()?;
+        Ok(Text::from_str(alloc, name)?)
     }
 }
 

@@ -1,8 +1,9 @@
 //! The frames of sections.
 
-ghost use Rattle.std.specs.Prelude.{◌≡◌, ◌≤◌, length};
-ghost use Rattle.wasm_bytes.specs.Sections.{section_of};
+ghost use Rattle.std.specs.Prelude.{◌≡◌, ℕ, ◌≤◌, ◌↔◌, length};
+ghost use Rattle.wasm_bytes.specs.Sections.{section_of, IsSectionAt, NoSectionAt};
 ghost use Rattle.wasm_bytes.specs.Answers.{place_of_error};
+ghost use Rattle.wasm_bytes.specs.declared.sections.SectionFrame.{SectionFrame};
 
 use crate::faults::Malformed;
 use crate::reader::Reader;
@@ -36,14 +37,23 @@ fn frame_at(bytes: &[u8], at: usize) -> Result<SectionFrame, Malformed>
     })
 }
 
-/// The frame of the section at an offset (Core 5.5.2). The error is the offset of the id or of the size, where that has
-/// no reading.
-pub fn section_at(bytes: &[u8], at: usize) -> Result<SectionFrame, usize>
+fn placed(bytes: &[u8], at: usize) -> Result<SectionFrame, usize>
     requires { at ≤ length bytes.now }
-    ensures exact { result ≡ section_of bytes.now at }
+    ensures { result ≡ section_of bytes.now at }
 {
     match frame_at(bytes, at) {
         Ok(frame) => Ok(frame),
         Err(e) => Err(e.at),
     }
+}
+
+/// The frame of the section at an offset (Core 5.5.2). The error is the offset of the id or of the size, where that has
+/// no reading.
+pub fn section_at(bytes: &[u8], at: usize) -> Result<SectionFrame, usize>
+    requires { at ≤ length bytes.now }
+    ensures exact { result ≡ section_of bytes.now at }
+    ensures found { (s : SectionFrame) → (result ≡ Ok s) ↔ IsSectionAt bytes.now at s }
+    ensures broken { (o : ℕ) → (result ≡ Err o) ↔ NoSectionAt bytes.now at o }
+{
+    placed(bytes, at)
 }
