@@ -4,7 +4,7 @@ use Rattle.std.proofs.lemmas.Bool.{eqb-true}
 use Rattle.std.proofs.lemmas.List.{append-nil, nil_from_length, take-append-drop, take_at, length-take, length-drop}
 use Rattle.std.proofs.Math.Seq.{take-append-add, drop-append_seam}
 use Rattle.wasm_bytes.specs.Place.{Place, Read}
-use Rattle.wasm_bytes.specs.Reading.{◌>>=◌, ◌⊗◌, ◌▷◌, mapped, checked, if_passes, u32_item, if_inside, block_of, block_item, end_item, rest_item, closed, within, value_of, whole, fixed_item, named_item, section_item}
+use Rattle.wasm_bytes.specs.Reading.{◌>>=◌, ◌⊗◌, ◌▷◌, mapped, checked, if_passes, complete, if_complete, u32_item, if_inside, block_of, block_item, end_item, rest_item, closed, within, value_of, whole, fixed_item, named_item, section_item}
 use Rattle.wasm_bytes.specs.Spelling.{◌&◌, pair, always, leads, image, passing, byte, u32, text, name, sized, section}
 use Rattle.wasm_bytes.specs.Laws.{IsBytes, place, got, failed, Took, IsExact, IsTail}
 use Rattle.wasm_bytes.proofs.Places.{chosen, IsBytes-rest, IsBytes-front, place_is, place_behind, rest_length, got_is, bind_ok, took_is}
@@ -133,6 +133,20 @@ pub checked_tail : {A : Type 0} (test : A → Bool) (S : A → ℕ → List ℕ 
 checked_tail test S f e = record {
   sound = λ before after y q fits read.
       let a = bind_ok (f (place before after)) (if_passes test (length before)) y q read in
+      elim (chosen (test a.0) _ _ (got y q) a.3) [
+        | inl p ↦
+            let t = e.sound before after a.0 a.1 fits a.2 in
+            tail_is (passing test S) before after a.0 y a.1 q p.1 (p.0, t.0) t.1
+        | inr p ↦ absurd cc
+      ];
+  again = λ before after x s. rw (e.again before after x s.1, s.0) refl;
+}
+
+-- the values that lack nothing
+pub complete_tail : {A : Type 0} (test : A → Bool) (S : A → ℕ → List ℕ → Type 0) (f : Place → Read A) → IsTail S f → IsTail (passing test S) (complete test f)
+complete_tail test S f e = record {
+  sound = λ before after y q fits read.
+      let a = bind_ok (f (place before after)) (if_complete test) y q read in
       elim (chosen (test a.0) _ _ (got y q) a.3) [
         | inl p ↦
             let t = e.sound before after a.0 a.1 fits a.2 in

@@ -8,5 +8,6 @@ pub mod ExactLists
 pub mod Stops
 pub mod StopsBlocks
 pub mod StopsLists
+pub mod UntilDone
 pub mod SectionLaws
 pub mod Takes

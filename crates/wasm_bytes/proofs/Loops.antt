@@ -1,11 +1,11 @@
 -- What is left to read, at each turn of the loops over items and steps.
-use Rattle.std.proofs.Common.{◌≡◌, ℕ, zero, suc, ◌+◌, ◌-◌, ◌≤◌, ◌<◌, List, [], ◌∷◌, ◌++◌, length, get_or, drop, Ok, Err, refl, sym, ap, ◌∙◌, append_assoc, add-one, drop-cons, arith}
+use Rattle.std.proofs.Common.{◌≡◌, ℕ, zero, suc, ◌+◌, ◌-◌, ◌≤◌, ◌<◌, Bool, true, false, List, [], ◌∷◌, ◌++◌, length, get_or, drop, Ok, Err, refl, sym, ap, ◌∙◌, append_assoc, add-one, drop-cons, arith}
 use Rattle.std.proofs.lemmas.List.{append-nil, drop_all}
 use Rattle.std.proofs.lemmas.Bool.{lt-ltb, le-ltb}
 use Rattle.wasm_bytes.specs.declared.faults.ItemFault.{ItemFault}
 use Rattle.wasm_bytes.specs.declared.faults.ItemFault.TheVariants as faults
 use Rattle.wasm_bytes.specs.Place.{Place, Read}
-use Rattle.wasm_bytes.specs.Reading.{◌>>=◌, fixed_item, bytes_item, items_from, until_end, steps_from, steps_until_end}
+use Rattle.wasm_bytes.specs.Reading.{◌>>=◌, fixed_item, bytes_item, items_from, until_end, steps_from, steps_until_end, steps_while_due}
 use Rattle.wasm_bytes.specs.Answers.{Fails}
 
 abbrev pub failed : {A : Type 0} → ℕ → Read A
@@ -93,6 +93,20 @@ pub end_steps_done : {S : Type 0} (f : S → Place → Read S) (n : ℕ) (s : S)
 unfolding steps_until_end
 end_steps_done f zero s p le = let none = le-ltb p.at (length p.block) le in rw none refl
 end_steps_done f (suc n) s p le = let none = le-ltb p.at (length p.block) le in rw none refl
+
+pub due_on : {S : Type 0} (done : S → Bool) (f : S → Place → Read S) (n : ℕ) (s t : S) (p q : Place) → done s ≡ false → f s p ≡ got t q → steps_while_due done f (suc n) s p ≡ steps_while_due done f n t q
+unfolding steps_while_due
+due_on done f n s t p q due h = rw (due, h) refl
+
+pub due_fails : {S : Type 0} (done : S → Bool) (f : S → Place → Read S) (n : ℕ) (s : S) (p : Place) (e : ItemFault) → done s ≡ false → Fails e (f s p) → Fails e (steps_while_due done f (suc n) s p)
+unfolding steps_while_due
+due_fails done f n s p faults.NoMemory due h = tt
+due_fails done f n s p (faults.At at) due h = rw (due, h) refl
+
+pub none_due : {S : Type 0} (done : S → Bool) (f : S → Place → Read S) (n : ℕ) (s : S) (p : Place) → done s ≡ true → steps_while_due done f n s p ≡ got s p
+unfolding steps_while_due
+none_due done f zero s p all = rw all refl
+none_due done f (suc n) s p all = rw all refl
 
 -- ---- bytes that have to be these
 

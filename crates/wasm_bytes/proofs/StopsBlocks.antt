@@ -1,10 +1,10 @@
 -- Reading a block stops at its size, at an item in it, or at the first byte left over.
-use Rattle.std.proofs.Common.{◌≡◌, ℕ, ◌+◌, ◌-◌, ◌<◌, ◌⊎◌, Bool, true, cond, eqb, leb, List, [], ◌∷◌, ◌++◌, length, take, drop, Result, Ok, Err, refl, sym, ap, subst, ◌∙◌, inl, inr, append_assoc, arith, length-append}
+use Rattle.std.proofs.Common.{◌≡◌, ℕ, ◌+◌, ◌-◌, ◌<◌, ◌⊎◌, Bool, true, false, cond, eqb, leb, List, [], ◌∷◌, ◌++◌, length, take, drop, Result, Ok, Err, refl, sym, ap, subst, ◌∙◌, inl, inr, append_assoc, arith, length-append}
 use Rattle.std.proofs.lemmas.List.{append-nil}
 use Rattle.wasm_bytes.specs.Place.{Place, Read}
-use Rattle.wasm_bytes.specs.Reading.{◌>>=◌, ◌⊗◌, ◌▷◌, mapped, u32_item, if_inside, block_item, end_item, rest_item, closed, within, value_of, whole, fixed_item, named_item, section_item}
+use Rattle.wasm_bytes.specs.Reading.{◌>>=◌, ◌⊗◌, ◌▷◌, mapped, u32_item, if_inside, block_item, end_item, rest_item, complete, if_complete, closed, within, value_of, whole, fixed_item, named_item, section_item}
 use Rattle.wasm_bytes.specs.Spelling.{◌&◌, always, byte, u32, name, sized}
-use Rattle.wasm_bytes.specs.Stopping.{never, unread, either, behind, then_stops, left_over, closed_stops, no_block, in_block, sized_stops, section_stops}
+use Rattle.wasm_bytes.specs.Stopping.{never, unread, either, behind, then_stops, incomplete, left_over, closed_stops, no_block, in_block, sized_stops, section_stops}
 use Rattle.wasm_bytes.specs.Laws.{IsBytes, place, got, failed, IsExact, IsTail, StopsAt, FailsAtFront}
 use Rattle.wasm_bytes.proofs.Places.{chosen, IsBytes-rest, IsBytes-front, bind_ok, bind_err, reading}
 use Rattle.wasm_bytes.proofs.ExactItems.{fixed_exact, named_exact}
@@ -51,6 +51,28 @@ closed_tail_stops_at S s f e h = record {
         absurd cc
   ];
   again = λ before after o fits stops. rw (h.again before after o fits stops) refl;
+}
+
+-- What goes on to the end can lack something there.
+pub complete_stops_at : {A : Type 0} (test : A → Bool) (S : A → ℕ → List ℕ → Type 0) (s : ℕ → List ℕ → ℕ → Type 0) (f : Place → Read A) → IsTail S f → StopsAt s f → StopsAt (either s (incomplete test S)) (complete test f)
+complete_stops_at test S s f e h = record {
+  only = λ before after o fits read. elim (bind_err (f (place before after)) (if_complete test) o read) [
+    | inl r ↦ inl (h.only before after o fits r)
+    | inr r ↦ elim (chosen (test r.0) _ _ (failed o) r.3) [
+      | inl c ↦ absurd cc
+      | inr c ↦
+          let t = e.sound before after r.0 r.1 fits r.2 in
+          let at : r.1.at ≡ o = cc in
+          let end : o ≡ length before + length after = sym at ∙ ap (λ (p : Place). p.at) t.1 ∙ length-append before after in
+          inr (end, r.0, t.0, c.0)
+    ]
+  ];
+  again = λ before after o fits stops. elim stops [
+    | inl n ↦ rw (h.again before after o fits n) refl
+    | inr n ↦
+        let one = e.again before after n.1 n.2 in
+        rw (one, n.3) (ap failed (length-append before after ∙ sym n.0))
+  ];
 }
 
 pub rest_stops_at : StopsAt never rest_item

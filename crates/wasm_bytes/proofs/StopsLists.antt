@@ -77,11 +77,11 @@ rest_err x (Ok y) o e = absurd cc
 rest_err x (Err u) o e = let same : u ≡ o = cc in ap failed same
 
 -- the parts of a list of items one of which is at the front
-one_more : (after front rest others last : List ℕ) → after ≡ front ++ rest → rest ≡ others ++ last → after ≡ (front ++ others) ++ last
+pub one_more : (after front rest others last : List ℕ) → after ≡ front ++ rest → rest ≡ others ++ last → after ≡ (front ++ others) ++ last
 one_more after front rest others last e f = e ∙ ap (λ (t : List ℕ). front ++ t) f ∙ sym (append_assoc front others last)
 
 -- an offset behind two fronts
-behind_both : (before front others : List ℕ) → length (before ++ front) + length others ≡ length before + length (front ++ others)
+pub behind_both : (before front others : List ℕ) → length (before ++ front) + length others ≡ length before + length (front ++ others)
 behind_both before front others = omega (arith, length-append before front, length-append front others)
 
 items_only : {A : Type 0} (S : A → ℕ → List ℕ → Type 0) (s : ℕ → List ℕ → ℕ → Type 0) (f : Place → Read A) → IsExact S f → StopsAt s f

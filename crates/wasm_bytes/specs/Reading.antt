@@ -39,6 +39,13 @@ if_passes test at x = if test x.0 then Ok x else Err at
 abbrev pub checked : {A : Type 0} → (A → Bool) → (Place → Read A) → Place → Read A
 checked test f p = f p >>= if_passes test p.at
 
+-- one that has a reading only where its value passes a test, and lacks something behind it where not
+abbrev pub if_complete : {A : Type 0} → (A → Bool) → A × Place → Read A
+if_complete test x = if test x.0 then Ok x else Err x.1.at
+
+abbrev pub complete : {A : Type 0} → (A → Bool) → (Place → Read A) → Place → Read A
+complete test f p = f p >>= if_complete test
+
 -- The parts of one item fail where it begins.
 abbrev pub at_front : {A : Type 0} → ℕ → Read A → Read A
 at_front at (Ok x) = Ok x
@@ -189,3 +196,12 @@ steps_until_end f (suc n) s p = if nat_lt p.at (length p.block) then (f s p >>= 
 -- steps up to the end of the block, each of at least one byte
 unfoldable pub steps_to_end : {S : Type 0} → (S → Place → Read S) → S → Place → Read S
 steps_to_end f s p = steps_until_end f (length p.block - p.at) s p
+
+-- steps up to a state in which nothing more is due, at most so many
+unfoldable pub steps_while_due : {S : Type 0} → (S → Bool) → (S → Place → Read S) → ℕ → S → Place → Read S
+steps_while_due done f zero s p = if done s then Ok (s, p) else Err p.at
+steps_while_due done f (suc n) s p = if done s then Ok (s, p) else (f s p >>= λ x. steps_while_due done f n x.0 x.1)
+
+-- steps up to a state in which nothing more is due, each of at least one byte
+unfoldable pub steps_until_done : {S : Type 0} → (S → Bool) → (S → Place → Read S) → S → Place → Read S
+steps_until_done done f s p = steps_while_due done f (length p.block + 1 - p.at) s p

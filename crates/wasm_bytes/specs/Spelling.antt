@@ -1,6 +1,6 @@
 -- The bytes that spell a value (WebAssembly Core 1.0, 5.1 to 5.5). A value has many spellings, because a number has. The
 -- definitions here are the parts; the language of a format is put together of them.
-use Rattle.std.specs.Prelude.{◌≡◌, ℕ, zero, suc, ◌+◌, ℤ, Bool, true, List, [], ◌∷◌, ◌++◌, length}
+use Rattle.std.specs.Prelude.{◌≡◌, ℕ, zero, suc, ◌+◌, ℤ, Bool, true, false, List, [], ◌∷◌, ◌++◌, length}
 use Rattle.std.specs.Str.{IsUtf8}
 use Rattle.wasm_leb.specs.Numbers.{IsUnsigned, IsSigned}
 
@@ -120,3 +120,11 @@ steps {S} step (suc n) s t at bytes = (next : S) × (step s next & steps step n 
 
 abbrev pub some_steps : {S : Type 0} → (S → S → Spellings) → S → S → Spellings
 some_steps step s t at bytes = (n : ℕ) × steps step n s t at bytes
+
+-- a step from a state in which more is due
+abbrev pub due : {S : Type 0} → (S → Bool) → (S → S → Spellings) → S → S → Spellings
+due done step s t at bytes = (done s ≡ false) × step s t at bytes
+
+-- steps up to the first state in which nothing more is due
+abbrev pub steps_to_done : {S : Type 0} → (S → Bool) → (S → S → Spellings) → S → S → Spellings
+steps_to_done done step s t at bytes = (done t ≡ true) × some_steps (due done step) s t at bytes

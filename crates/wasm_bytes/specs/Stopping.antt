@@ -1,7 +1,7 @@
 -- Where reading stops: the offset of the first item without a reading, or of the end of the block where an item is still
 -- due there (WebAssembly Core 1.0, 5.1 to 5.5). The definitions here are the parts, for each way of putting items together.
 use Rattle.std.specs.Prelude.{◌≡◌, ℕ, ◌+◌, ◌<◌, ◌⊎◌, Bool, false, List, [], ◌∷◌, ◌++◌, length}
-use Rattle.wasm_bytes.specs.Spelling.{Spellings, always, byte, u32, run, items, steps}
+use Rattle.wasm_bytes.specs.Spelling.{Spellings, always, byte, u32, run, items, steps, due}
 
 -- the offset where reading begins, the bytes from there to the end of the block, and the offset where it stops
 abbrev pub Stops : Type 1
@@ -29,6 +29,10 @@ then_stops S first second = either first (behind S (λ x. second))
 -- The value is there, and does not pass the test.
 abbrev pub refused : {A : Type 0} → (A → Bool) → (A → Spellings) → Stops
 refused {A} test S at bytes o = (o ≡ at) × (x : A) × (front : List ℕ) × (rest : List ℕ) × S x at front × (bytes ≡ front ++ rest) × (test x ≡ false)
+
+-- Something is lacking behind a value that goes on to the end.
+abbrev pub incomplete : {A : Type 0} → (A → Bool) → (A → Spellings) → Stops
+incomplete {A} test S at bytes o = (o ≡ at + length bytes) × (x : A) × S x at bytes × (test x ≡ false)
 
 -- Of bytes that have to be these, one differs or is not there.
 abbrev pub text_stops : List ℕ → Stops
@@ -90,3 +94,7 @@ steps_stops {S} step stops n s at bytes o = (k : ℕ) × (t : S) × (front : Lis
 -- Of steps up to the end of the block, some are read and the next stops, before the end.
 abbrev pub steps_to_end_stops : {S : Type 0} → (S → S → Spellings) → (S → Stops) → S → Stops
 steps_to_end_stops {S} step stops s at bytes o = (k : ℕ) × (t : S) × (front : List ℕ) × (rest : List ℕ) × (0 < length rest) × steps step k s t at front × (bytes ≡ front ++ rest) × stops t (at + length front) rest o
+
+-- Of steps up to a state in which nothing more is due, some are read and the next, which is due, stops.
+abbrev pub steps_until_done_stops : {S : Type 0} → (S → Bool) → (S → S → Spellings) → (S → Stops) → S → Stops
+steps_until_done_stops {S} done step stops s at bytes o = (k : ℕ) × (t : S) × (front : List ℕ) × (rest : List ℕ) × (done t ≡ false) × steps (due done step) k s t at front × (bytes ≡ front ++ rest) × stops t (at + length front) rest o

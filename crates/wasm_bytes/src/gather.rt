@@ -1,8 +1,8 @@
 //! Elements that are read into a state.
 
-ghost use Rattle.std.specs.Prelude.{◌≡◌, ◌-◌, OnOk, length};
+ghost use Rattle.std.specs.Prelude.{◌≡◌, ◌-◌, Bool, OnOk, length};
 ghost use Rattle.wasm_bytes.specs.Place.{Place, Read, Moves, Stays};
-ghost use Rattle.wasm_bytes.specs.Reading.{steps_from, steps_until_end, steps_to_end};
+ghost use Rattle.wasm_bytes.specs.Reading.{steps_from, steps_until_end, steps_to_end, steps_until_done};
 ghost use Rattle.wasm_bytes.specs.Answers.{Gives, with_state};
 
 use crate::faults::ItemFault;
@@ -17,6 +17,14 @@ pub trait Gather<'a> {
     fn take(&mut self, alloc: Global, reader: &mut Reader<'a>) -> Result<(), ItemFault>
         ensures item { Gives (with_state self.new result) reader.new (step self.old reader.old) }
         ensures moves { OnOk result (Moves reader.old reader.new) };
+}
+
+/// A state that says when nothing more is due.
+pub trait GatherUntilDone<'a>: Gather<'a> {
+    ghost done: { Self → Bool };
+
+    fn is_done(&self) -> bool
+        ensures { result ≡ done self.now };
 }
 
 /// Takes so many elements.
@@ -61,4 +69,22 @@ pub fn gather_to_end<'a, S: Gather<'a>>(
     ensures stays { OnOk result (Stays reader.old reader.new) }
 {
     gather_left(alloc, state, reader)
+}
+
+/// Takes elements until nothing more is due.
+#[tactic(auto, unfolding(crate::specs::Reading::steps_until_done))]
+pub fn gather_until_done<'a, S: GatherUntilDone<'a>>(
+    alloc: Global,
+    state: &mut S,
+    reader: &mut Reader<'a>,
+) -> Result<(), ItemFault>
+    ensures item { Gives (with_state state.new result) reader.new (steps_until_done S.done S.step state.old reader.old) }
+    ensures stays { OnOk result (Stays reader.old reader.new) }
+{
+    'elements: while !state.is_done() {
+        // The place is inside its block, so that fewer elements are left behind it.
+        let _at = reader.at();
+        state.take(alloc, reader)?;
+    }
+    Ok(())
 }

@@ -9,7 +9,7 @@ mod runs;
 mod sections;
 
 pub use faults::{ItemFault, Malformed};
-pub use gather::{Gather, gather_count, gather_to_end};
+pub use gather::{Gather, GatherUntilDone, gather_count, gather_to_end, gather_until_done};
 pub use item::{Item, items_to_end, named_section};
 pub use reader::Reader;
 pub use runs::Run;

@@ -48,7 +48,8 @@ impl<'a> Reader<'a> {
 
     /// Where it stands, in bytes from the first byte of the input.
     pub fn at(&self) -> usize
-        ensures { result ≡ self.now.at }
+        ensures is { result ≡ self.now.at }
+        ensures inside { self.now.at ≤ length self.now.block }
     {
         self.at
     }
