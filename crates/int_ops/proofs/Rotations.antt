@@ -1,5 +1,5 @@
 -- A rotation as the sum of its two parts.
-use Rattle.std.proofs.Common.{◌≡◌, ℕ, zero, suc, ◌+◌, ◌-◌, ◌*◌, ◌/◌, ◌%◌, ◌^◌, ◌<◌, ◌≤◌, refl, sym, ap, subst, ◌∙◌, arith, bit_or}
+use Rattle.std.proofs.Common.{◌≡◌, ℕ, zero, suc, ◌+◌, ◌-◌, ◌*◌, ◌/◌, ◌%◌, ◌^◌, ◌<◌, sym, subst, ◌∙◌, arith, bit_or}
 use Rattle.std.proofs.Math.Nat.{mul-mod_left, div-lt_iff_lt-mul, mul_comm, mul-one, pow-zero, sub-zero, mod_self, mod-one, div-one, mod-eq_of_lt, div-eq_of_lt}
 use Rattle.std.specs.Int.Bits.{or_self, or_comm, or_shifted}
 use Rattle.std.proofs.lemmas.Nat.{pow-add, pow_pos, shl-shr, mod-pow-add}

@@ -1,8 +1,8 @@
 -- The signed reading of an integer is the machine's.
-use Rattle.std.proofs.Common.{◌≡◌, ℕ, suc, ◌+◌, ◌-◌, ◌*◌, ◌^◌, ◌<◌, ◌≤◌, Bool, true, false, cond, ltb, ℤ, pos, negsuc, ◌-ℤ◌, refl, inl, inr, arith, w32, w64, to_z, of_z}
+use Rattle.std.proofs.Common.{◌≡◌, ℕ, ◌^◌, ◌<◌, inl, inr, arith, w32, w64, to_z}
 use Rattle.std.proofs.lemmas.Bool.{lt-ltb, le-ltb, cases_lt}
 use Rattle.std.proofs.lemmas.Int.{ints}
-use Rattle.int_ops.specs.Integers.{signed, unsigned}
+use Rattle.int_ops.specs.Integers.{signed}
 
 pub signed_32 : (a : ℕ) → a < 2 ^ 32 → signed 32 a ≡ to_z w32 a
 signed_32 a h = elim (cases_lt a (2 ^ 31)) [
