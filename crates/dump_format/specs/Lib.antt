@@ -1,0 +1,9 @@
+pub mod Region
+pub mod Part
+pub mod Parts
+pub mod Form
+pub mod Judged
+pub mod Sections
+pub mod Decode
+pub mod Noting
+pub mod Gathering

@@ -1,0 +1,117 @@
+//! The sections of a dump.
+
+ghost use Rattle.std.specs.Prelude.{◌≡◌, OnOk};
+ghost use Rattle.wasm_bytes.specs.Place.{Moves, Stays};
+ghost use Rattle.wasm_bytes.specs.Reading.{whole};
+ghost use Rattle.wasm_bytes.specs.Answers.{Gives, with_state};
+ghost use Rattle.dump_format.specs.Sections.{may_follow, header};
+ghost use Rattle.dump_format.specs.Gathering.{custom_gathering, contents_gathering, section_step, gathered_item, GivesWhole};
+
+use crate::gathered::Gathered;
+use crate::lists::{memory_segments, module_name, module_names};
+use crate::noted::{noted_vector, stack};
+use pm_text::Items;
+use std::alloc::Global;
+use wasm_bytes::{Gather, Item, ItemFault, Reader, gather_to_end};
+
+/// The magic and the version of a module (Core 5.5.15).
+const HEADER: [u8; 8] = [0x00, 0x61, 0x73, 0x6d, 0x01, 0x00, 0x00, 0x00];
+
+impl<'a> Gathered<'a> {
+    /// Ids other than 0 rise strictly, up to 11.
+    fn may_be_next(&self, id: u8) -> bool
+        ensures { result ≡ may_follow self.now.last id }
+    {
+        id == 0 || (self.last < id && id <= 11)
+    }
+
+    /// A custom section, behind its name.
+    #[tactic(auto, unfolding(crate::specs::Gathering::custom_gathering))]
+    fn custom(
+        &mut self,
+        alloc: Global,
+        name: &str,
+        reader: &mut Reader<'a>,
+    ) -> Result<(), ItemFault>
+        ensures item { Gives (with_state self.new result) reader.new (custom_gathering self.old name.now reader.old) }
+    {
+        if name == "core" {
+            let name = module_name(alloc, reader)?;
+            self.name.add(name);
+        } else if name == "coremodules" {
+            let names = module_names(alloc, reader)?;
+            self.modules.add(names);
+        } else if name == "coreinstances" {
+            let instances = Items::read(alloc, reader)?;
+            self.instances.add(instances);
+        } else if name == "corestack" {
+            let noted = stack(alloc, self.first, reader)?;
+            self.frames.add(noted.items);
+            self.first = noted.first;
+        } else {
+            reader.rest();
+        }
+        Ok(())
+    }
+
+    /// The contents of a section of this id.
+    #[tactic(auto, unfolding(crate::specs::Gathering::contents_gathering))]
+    fn contents(&mut self, alloc: Global, id: u8, reader: &mut Reader<'a>) -> Result<(), ItemFault>
+        ensures item { Gives (with_state self.new result) reader.new (contents_gathering self.old id reader.old) }
+    {
+        match id {
+            0 => {
+                let name = reader.name()?;
+                return self.custom(alloc, name, reader);
+            }
+            5 => {
+                let memories = Items::read(alloc, reader)?;
+                self.memories.add(memories);
+            }
+            6 => {
+                let noted = noted_vector(alloc, self.first, reader)?;
+                self.globals.add(noted.items);
+                self.first = noted.first;
+            }
+            11 => {
+                let segments = memory_segments(alloc, self.memory(), reader)?;
+                self.segments.add(segments);
+            }
+            _ => {
+                reader.rest();
+            }
+        }
+        self.last = id;
+        Ok(())
+    }
+}
+
+impl<'a> Gather<'a> for Gathered<'a> {
+    ghost step = { section_step };
+
+    #[tactic(auto, unfolding(wasm_bytes::specs::Reading::choose, crate::specs::Gathering::section_step))]
+    fn take(&mut self, alloc: Global, reader: &mut Reader<'a>) -> Result<(), ItemFault> {
+        let at = reader.at();
+        let id = reader.byte()?;
+        if !self.may_be_next(id) {
+            return Err(ItemFault::At(at));
+        }
+        let mut inner = reader.open()?;
+        self.contents(alloc, id, &mut inner)?;
+        inner.end()?;
+        Ok(())
+    }
+}
+
+/// All sections of an input.
+#[tactic(auto, unfolding(crate::specs::Gathering::gathered_item))]
+pub fn gathered<'a>(alloc: Global, bytes: &'a [u8]) -> Result<Gathered<'a>, ItemFault>
+    ensures { GivesWhole result (whole gathered_item bytes.now) }
+{
+    let mut reader = Reader::new(bytes);
+    reader.bytes(&HEADER)?;
+    let mut gathered = Gathered::new();
+    gather_to_end(alloc, &mut gathered, &mut reader)?;
+    reader.end()?;
+    Ok(gathered)
+}
