@@ -1,0 +1,3 @@
+mod DistinctLaws
+mod ReadingLaws
+mod PartsLaws
