@@ -6,18 +6,13 @@ use Rattle.std.proofs.lemmas.Bool.{lt-ltb}
 use Rattle.wasm_bytes.specs.Place.{Place, Read}
 use Rattle.wasm_bytes.specs.Reading.{closed, value_of}
 use Rattle.dump_format.specs.Parts.{Part}
-use Rattle.dump_format.specs.Judged.{names_in, modules_in, instances_in, frames_in, memories_in, values_in, segments_in, memories_of, is_repeated, repeated, refusal, dump_of, missing_core, memory_of, frames_of, first_of, floats_in}
+use Rattle.dump_format.specs.Judged.{names_in, modules_in, instances_in, frames_in, memories_in, values_in, segments_in, memories_of, is_repeated, repeated, refusal, dump_of, memory_of, frames_of, first_of, floats_in}
 use Rattle.dump_format.specs.Sections.{parts_item}
-use Rattle.dump_format.specs.Gathering.{found_or, core_in, repeated_in, refusal_in, dump_in, judged_in, gathered_item, dump_gathered}
+use Rattle.dump_format.specs.Gathering.{found_or, repeated_in, refusal_in, dump_in, judged_in, gathered_item, dump_gathered}
 use Rattle.dump_format.specs.Decode.{dump_from, judged_parts}
 use Rattle.dump_format.proofs.Summary.{found, found_or-found, is_found_again-found, summary}
 use Rattle.dump_format.proofs.Steps.{made, closed-made}
-use Rattle.dump_format.proofs.SectionLaws.{memory_known, behind_header}
-
-core_known : (end : ℕ) (names : List (List ℕ)) → core_in end (found names) ≡ missing_core end names
-core_known end [] = refl
-core_known end (x ∷ []) = refl
-core_known end (x ∷ y ∷ ys) = refl
+use Rattle.dump_format.proofs.SectionLaws.{memory_known, complete_made}
 
 two_repeated : {A : Type 0} (xs : List A) → nat_lt 1 (length xs) ≡ is_repeated xs
 two_repeated [] = refl
@@ -33,29 +28,25 @@ frames_known : (ps : List Part) → found_or [] (summary ps).frames ≡ frames_o
 unfolding summary
 frames_known ps = found_or-found [] (flat_map frames_in ps)
 
-name_known : (end : ℕ) (ps : List Part) → core_in end (summary ps).name ≡ missing_core end (flat_map names_in ps)
-unfolding summary
-name_known end ps = core_known end (flat_map names_in ps)
-
 float_known : (ps : List Part) → (summary ps).first ≡ first_of (flat_map floats_in ps)
 unfolding summary
 float_known ps = refl
 
-refusal_known : (end : ℕ) (ps : List Part) → refusal_in end (summary ps) ≡ refusal end ps
+refusal_known : (ps : List Part) → refusal_in (summary ps) ≡ refusal ps
 unfolding refusal_in refusal
-refusal_known end ps = rw (repeated_known ps, memory_known ps, frames_known ps, name_known end ps, float_known ps) refl
+refusal_known ps = rw (repeated_known ps, memory_known ps, frames_known ps, float_known ps) refl
 
 dump_known : (ps : List Part) → dump_in (summary ps) ≡ dump_of ps
 unfolding dump_in dump_of summary memory_of
 dump_known ps =
     rw (found_or-found [] (flat_map names_in ps), found_or-found [] (flat_map modules_in ps), found_or-found [] (flat_map instances_in ps), found_or-found [] (flat_map frames_in ps), found_or-found [] (flat_map memories_in ps), found_or-found [] (flat_map values_in ps), found_or-found [] (flat_map segments_in ps)) refl
 
-judged_known : (end : ℕ) (read : Read (List Part)) → judged_in end (value_of (made summary read)) ≡ judged_parts end (value_of read)
-judged_known end (Ok x) = rw (refusal_known end x.0, dump_known x.0) refl
-judged_known end (Err at) = refl
+judged_known : (read : Read (List Part)) → judged_in (value_of (made summary read)) ≡ judged_parts (value_of read)
+judged_known (Ok x) = rw (refusal_known x.0, dump_known x.0) refl
+judged_known (Err at) = refl
 
 pub dump_known_from : (bytes : List ℕ) → dump_gathered bytes ≡ dump_from bytes
 unfolding dump_gathered dump_from
 dump_known_from bytes =
     let start : Place = record { block = bytes; at = 0 } in
-    rw (closed-made summary parts_item gathered_item behind_header start, judged_known (length bytes) (closed parts_item start)) refl
+    rw (closed-made summary parts_item gathered_item complete_made start, judged_known (closed parts_item start)) refl

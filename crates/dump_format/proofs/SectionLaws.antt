@@ -1,21 +1,21 @@
 -- What the code gathers is what the parts say together.
 use Rattle.std.proofs.Common.{◌≡◌, ℕ, List, [], ◌∷◌, ◌++◌, length, Bool, true, false, Option, Some, None, Ok, Err, refl, sym, ap, ◌∙◌, ◌-◌}
-use Rattle.std.specs.Prelude.{◌==◌, if◌then◌else◌, codes}
+use Rattle.std.specs.Prelude.{◌==◌, is_some, if◌then◌else◌, codes}
 use Rattle.std.specs.List.{flat_map}
 use Rattle.std.specs.Str.{bytes_eq}
 use Rattle.wasm_bytes.specs.Place.{Place, Read}
-use Rattle.wasm_bytes.specs.Reading.{◌>>=◌, ◌▷◌, mapped, byte_item, bytes_item, name_item, u32_item, vector_item, rest_item, steps_from, steps_to_end, within, choose, picked}
+use Rattle.wasm_bytes.specs.Reading.{◌>>=◌, ◌▷◌, mapped, byte_item, bytes_item, name_item, u32_item, vector_item, rest_item, steps_from, steps_to_end, within, choose, picked, if_complete, complete}
 use Rattle.dump_format.specs.declared.lists.ModuleNames.{ModuleNames}
 use Rattle.dump_format.specs.declared.lists.MemorySegments.{MemorySegments}
 use Rattle.dump_format.specs.declared.gathered.Gathered.{Gathered}
 use Rattle.dump_format.specs.Region.{Region}
 use Rattle.dump_format.specs.Parts.{Part, core, modules, instances, stack, memories, globals, segments, custom, passed}
 use Rattle.dump_format.specs.Form.{module_item, instance_item, stack_item, limits_item, global_item, segment_item}
-use Rattle.dump_format.specs.Judged.{value_of, frame_of, float_in, frame_floats, memories_in, memory_of, last_id, first_of}
-use Rattle.dump_format.specs.Sections.{custom_behind, custom_item, contents_item, may_follow, section_behind, section_item, with_section, header, parts_item}
+use Rattle.dump_format.specs.Judged.{value_of, frame_of, float_in, frame_floats, memories_in, memory_of, last_id, first_of, names_in}
+use Rattle.dump_format.specs.Sections.{custom_behind, custom_item, contents_item, may_follow, section_behind, section_item, with_section, header, sections_item, has_core, parts_item}
 use Rattle.dump_format.specs.Noting.{value_noting, noted_vector, stack_noting}
-use Rattle.dump_format.specs.Gathering.{added, name_step, module_names, segment_step, memory_segments, custom_gathering, contents_gathering, section_step, nothing_gathered, gathered_item, first_memory, with_stack, with_globals}
-use Rattle.dump_format.proofs.Summary.{found_or-found, summary, taken, summary-more}
+use Rattle.dump_format.specs.Gathering.{added, name_step, module_names, segment_step, memory_segments, custom_gathering, contents_gathering, section_step, nothing_gathered, is_found, has_name, all_gathered, gathered_item, first_memory, with_stack, with_globals}
+use Rattle.dump_format.proofs.Summary.{found, found_or-found, summary, taken, summary-more}
 use Rattle.dump_format.proofs.Steps.{made, bind-made, bind-same, until_end-made, vector-steps, within-made}
 use Rattle.dump_format.proofs.Values.{noted_by, stack-noted, globals-noted}
 
@@ -150,8 +150,8 @@ all_made : (p : Place) → steps_to_end section_step nothing_gathered p ≡ made
 unfolding steps_to_end
 all_made p = rw none_known (until_end-made summary with_section section_step step_made (length p.block - p.at) [] p)
 
-pub behind_header : (p : Place) → gathered_item p ≡ made summary (parts_item p)
-unfolding gathered_item parts_item
+behind_header : (p : Place) → all_gathered p ≡ made summary (sections_item p)
+unfolding all_gathered sections_item
 behind_header p = cases (bytes_item header p) where
   inner : (u : Unit {0}) (read : Read (List Part)) → made (λ (x : Unit {0} × Gathered). x.1) (made summary read >>= λ y. Ok ((u, y.0), y.1)) ≡ made summary (made (λ (x : Unit {0} × List Part). x.1) (read >>= λ y. Ok ((u, y.0), y.1)))
   inner u (Ok x) = refl
@@ -160,4 +160,23 @@ behind_header p = cases (bytes_item header p) where
   cases : (read : Read (Unit {0})) → made (λ (x : Unit {0} × Gathered). x.1) (read >>= λ x. steps_to_end section_step nothing_gathered x.1 >>= λ y. Ok ((x.0, y.0), y.1))
       ≡ made summary (made (λ (x : Unit {0} × List Part). x.1) (read >>= λ x. steps_to_end with_section [] x.1 >>= λ y. Ok ((x.0, y.0), y.1)))
   cases (Ok x) = rw (all_made x.1) (inner x.0 (steps_to_end with_section [] x.1))
+  cases (Err at) = refl
+
+name_known : (ps : List Part) → has_name (summary ps) ≡ has_core ps
+unfolding summary
+name_known ps = cases (flat_map names_in ps) where
+  cases : (names : List (List ℕ)) → is_found (found names) ≡ is_some (first_of names)
+  cases [] = refl
+  cases (x ∷ []) = refl
+  cases (x ∷ y ∷ ys) = refl
+
+pub complete_made : (p : Place) → gathered_item p ≡ made summary (parts_item p)
+unfolding gathered_item parts_item
+complete_made p = rw (behind_header p) (cases (sections_item p)) where
+  tested : (b : Bool) (x : List Part × Place) → (if b then Ok (summary x.0, x.1) else Err x.1.at) ≡ made summary (if b then Ok x else Err x.1.at)
+  tested true x = refl
+  tested false x = refl
+
+  cases : (read : Read (List Part)) → (made summary read >>= if_complete has_name) ≡ made summary (read >>= if_complete has_core)
+  cases (Ok x) = rw (name_known x.0) (tested (has_core x.0) x)
   cases (Err at) = refl

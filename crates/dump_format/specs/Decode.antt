@@ -10,13 +10,13 @@ use Rattle.dump_format.specs.Parts.{Part}
 use Rattle.dump_format.specs.Sections.{parts_item}
 use Rattle.dump_format.specs.Judged.{judged}
 
-abbrev pub judged_parts : ℕ → Result (List Part) ℕ → Result Dump DumpFault
-judged_parts end (Ok ps) = judged end ps
-judged_parts end (Err at) = Err (Malformed at)
+abbrev pub judged_parts : Result (List Part) ℕ → Result Dump DumpFault
+judged_parts (Ok ps) = judged ps
+judged_parts (Err at) = Err (Malformed at)
 
 -- the dump that the bytes spell, or why they are refused
 unfoldable pub dump_from : List ℕ → Result Dump DumpFault
-dump_from bytes = if nat_lt (greatest DumpBytes) (length bytes) then Err (Limit DumpBytes (length bytes)) else judged_parts (length bytes) (whole parts_item bytes)
+dump_from bytes = if nat_lt (greatest DumpBytes) (length bytes) then Err (Limit DumpBytes (length bytes)) else judged_parts (whole parts_item bytes)
 
 -- A function answered that, or memory ran out.
 abbrev pub Answers : {A : Type 0} → Result A DumpFault → Result A DumpFault → Type 0

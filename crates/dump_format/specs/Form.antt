@@ -6,18 +6,10 @@ use Rattle.wasm_syntax.specs.declared.value.Seen.TheVariants as seen
 use Rattle.wasm_syntax.specs.declared.value.Value.{Value}
 use Rattle.wasm_syntax.specs.declared.value.Value.TheVariants as value
 use Rattle.wasm_bytes.specs.Place.{Place, Read}
-use Rattle.wasm_bytes.specs.Reading.{◌>>=◌, ◌⊗◌, ◌▷◌, mapped, fixed_item, one_of_item, run_item, u32_item, s32_item, s64_item, name_item, here_item, choose, vector_item, sized_run_item}
+use Rattle.wasm_bytes.specs.Reading.{◌>>=◌, ◌⊗◌, ◌▷◌, mapped, fixed_item, one_of_item, run_item, u32_item, s32_item, s64_item, name_item, here_item, done_item, checked, choose, vector_item, sized_run_item}
 use Rattle.dump_format.specs.declared.dump.Instance.{Instance}
 use Rattle.dump_format.specs.Region.{Region}
 use Rattle.dump_format.specs.Parts.{Shown, known, float, ShownFrame}
-
--- no byte, for a value that needs none
-abbrev pub given : {A : Type 0} → A → Place → Read A
-given x p = Ok (x, p)
-
--- An item that passes a test. One that does not has no reading where it begins.
-abbrev pub such_that : {A : Type 0} → (A → Bool) → (Place → Read A) → Place → Read A
-such_that has f p = f p >>= λ x. if has x.0 then Ok x else Err p.at
 
 -- ---- values
 
@@ -34,7 +26,7 @@ float_behind at width = mapped (λ _. float at) (run_item width)
 -- what stands behind the tag of a value, where the tag is at that offset
 abbrev pub value_behind : ℕ → ℕ → Option (Place → Read (Shown Seen))
 value_behind at tag =
-    if tag == 0x01 then Some (given (known seen.Missing))
+    if tag == 0x01 then Some (done_item (known seen.Missing))
     else (if tag == 0x7f then Some (mapped known_i32 s32_item)
     else (if tag == 0x7e then Some (mapped known_i64 s64_item)
     else (if tag == 0x7d then Some (float_behind at 4)
@@ -128,5 +120,5 @@ region_of x = record { at = cast_unsigned w32 x.1.1.0; bytes = x.1.1.1.1 }
 -- a segment, where the memory has that many pages
 unfoldable pub segment_item : Option ℕ → Place → Read Region
 segment_item memory =
-    such_that (is_inside memory) (mapped region_of
-    (such_that (is_memory memory) u32_item ⊗ fixed_item 0x41 ⊗ s32_item ⊗ fixed_item 0x0b ⊗ sized_run_item))
+    checked (is_inside memory) (mapped region_of
+    (checked (is_memory memory) u32_item ⊗ fixed_item 0x41 ⊗ s32_item ⊗ fixed_item 0x0b ⊗ sized_run_item))

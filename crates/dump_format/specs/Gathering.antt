@@ -7,7 +7,7 @@ use Rattle.wasm_syntax.specs.Quantity.{greatest}
 use Rattle.wasm_bytes.specs.declared.faults.ItemFault.{ItemFault}
 use Rattle.wasm_bytes.specs.declared.faults.ItemFault.TheVariants as faults
 use Rattle.wasm_bytes.specs.Place.{Place, Read}
-use Rattle.wasm_bytes.specs.Reading.{◌⊗◌, ◌▷◌, mapped, bytes_item, u32_item, name_item, rest_item, vector_item, within, choose, steps_from, steps_to_end, whole}
+use Rattle.wasm_bytes.specs.Reading.{◌⊗◌, ◌▷◌, mapped, bytes_item, u32_item, name_item, rest_item, vector_item, within, choose, steps_from, steps_to_end, complete, whole}
 use Rattle.dump_format.specs.declared.dump.Dump.{Dump}
 use Rattle.dump_format.specs.declared.dump.Frame.{Frame}
 use Rattle.dump_format.specs.declared.fault.DumpPart.{DumpPart}
@@ -36,6 +36,10 @@ added Repeated x = Repeated
 abbrev pub found_or : {A : Type 0} → A → Found A → A
 found_or other (Once x) = x
 found_or other _ = other
+
+abbrev pub is_found : {A : Type 0} → Found A → Bool
+is_found Absent = false
+is_found _ = true
 
 abbrev pub is_found_again : {A : Type 0} → Found A → Bool
 is_found_again Repeated = true
@@ -106,8 +110,14 @@ nothing_gathered = record {
   segments = Absent;
 }
 
+unfoldable pub all_gathered : Place → Read Gathered
+all_gathered = mapped (λ x. x.1) (bytes_item header ⊗ steps_to_end section_step nothing_gathered)
+
+abbrev pub has_name : Gathered → Bool
+has_name g = is_found g.name
+
 unfoldable pub gathered_item : Place → Read Gathered
-gathered_item = mapped (λ x. x.1) (bytes_item header ⊗ steps_to_end section_step nothing_gathered)
+gathered_item = complete has_name all_gathered
 
 -- A function gave what reading all of an input gives, unless memory ran out.
 abbrev pub GivesWhole : {A : Type 0} → Result A ItemFault → Result A ℕ → Type 0
@@ -126,16 +136,12 @@ repeated_in g =
     else (if nat_lt 1 (length (found_or [] g.memories)) then Some parts.Memory
     else None))))
 
-abbrev pub core_in : ℕ → Found (List ℕ) → Option DumpFault
-core_in end Absent = Some (Malformed end)
-core_in end _ = None
-
 abbrev pub too_many_in : Gathered → Option DumpFault
 too_many_in g = over DumpPages (pages_of (first_memory g.memories)) orelse over DumpFrames (length (found_or [] g.frames))
 
-unfoldable pub refusal_in : ℕ → Gathered → Option DumpFault
-refusal_in end g =
-    core_in end g.name orelse at_float g.first orelse at_repeated (repeated_in g) orelse too_many_in g
+unfoldable pub refusal_in : Gathered → Option DumpFault
+refusal_in g =
+    at_float g.first orelse at_repeated (repeated_in g) orelse too_many_in g
 
 unfoldable pub dump_in : Gathered → Dump
 dump_in g = record {
@@ -148,9 +154,9 @@ dump_in g = record {
   segments = found_or [] g.segments;
 }
 
-abbrev pub judged_in : ℕ → Result Gathered ℕ → Result Dump DumpFault
-judged_in end (Ok g) = unless_refused (refusal_in end g) (dump_in g)
-judged_in end (Err at) = Err (Malformed at)
+abbrev pub judged_in : Result Gathered ℕ → Result Dump DumpFault
+judged_in (Ok g) = unless_refused (refusal_in g) (dump_in g)
+judged_in (Err at) = Err (Malformed at)
 
 unfoldable pub dump_gathered : List ℕ → Result Dump DumpFault
-dump_gathered bytes = if nat_lt (greatest DumpBytes) (length bytes) then Err (Limit DumpBytes (length bytes)) else judged_in (length bytes) (whole gathered_item bytes)
+dump_gathered bytes = if nat_lt (greatest DumpBytes) (length bytes) then Err (Limit DumpBytes (length bytes)) else judged_in (whole gathered_item bytes)

@@ -14,7 +14,7 @@ use Rattle.dump_format.specs.declared.dump.Dump.{Dump}
 use Rattle.dump_format.specs.declared.fault.DumpPart.{DumpPart}
 use Rattle.dump_format.specs.declared.fault.DumpPart.TheVariants as parts
 use Rattle.dump_format.specs.declared.fault.DumpFault.{DumpFault}
-use Rattle.dump_format.specs.declared.fault.DumpFault.TheVariants.{Malformed, FloatValue, Several, Limit}
+use Rattle.dump_format.specs.declared.fault.DumpFault.TheVariants.{FloatValue, Several, Limit}
 use Rattle.dump_format.specs.Region.{Region}
 use Rattle.dump_format.specs.Parts.{Shown, known, float, ShownFrame, Part, core, modules, instances, stack, memories, globals, segments, passed}
 use Rattle.dump_format.specs.Form.{pages_of}
@@ -150,10 +150,6 @@ abbrev pub ◌orelse◌ : Option DumpFault → Option DumpFault → Option DumpF
 (Some e) orelse other = Some e
 None orelse other = other
 
-abbrev pub missing_core : ℕ → List (List ℕ) → Option DumpFault
-missing_core end [] = Some (Malformed end)
-missing_core end (name ∷ names) = None
-
 abbrev pub at_float : Option ℕ → Option DumpFault
 at_float None = None
 at_float (Some at) = Some (FloatValue at)
@@ -162,15 +158,15 @@ abbrev pub at_repeated : Option DumpPart → Option DumpFault
 at_repeated None = None
 at_repeated (Some part) = Some (Several part)
 
--- why these parts of an input of that length are refused
-unfoldable pub refusal : ℕ → List Part → Option DumpFault
-refusal end ps =
-    missing_core end (flat_map names_in ps) orelse at_float (first_of (flat_map floats_in ps)) orelse at_repeated (repeated ps)
+-- why these parts are refused
+unfoldable pub refusal : List Part → Option DumpFault
+refusal ps =
+    at_float (first_of (flat_map floats_in ps)) orelse at_repeated (repeated ps)
     orelse over DumpPages (pages_of (memory_of ps)) orelse over DumpFrames (length (frames_of ps))
 
 abbrev pub unless_refused : {A : Type 0} → Option DumpFault → A → Result A DumpFault
 unless_refused None x = Ok x
 unless_refused (Some e) x = Err e
 
-abbrev pub judged : ℕ → List Part → Result Dump DumpFault
-judged end ps = unless_refused (refusal end ps) (dump_of ps)
+abbrev pub judged : List Part → Result Dump DumpFault
+judged ps = unless_refused (refusal ps) (dump_of ps)

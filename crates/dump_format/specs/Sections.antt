@@ -1,11 +1,12 @@
 -- Reading a dump as a list of sections (Core 5.5.2).
-use Rattle.std.specs.Prelude.{ℕ, List, [], ◌∷◌, ◌++◌, Option, Some, None, Bool, ◌&&◌, ◌||◌, ◌==◌, nat_lt, nat_le, codes, if◌then◌else◌}
+use Rattle.std.specs.Prelude.{ℕ, List, [], ◌∷◌, ◌++◌, Option, Some, None, Bool, ◌&&◌, ◌||◌, ◌==◌, nat_lt, nat_le, is_some, codes, if◌then◌else◌}
+use Rattle.std.specs.List.{flat_map}
 use Rattle.std.specs.Str.{bytes_eq}
 use Rattle.wasm_bytes.specs.Place.{Place, Read}
-use Rattle.wasm_bytes.specs.Reading.{◌⊗◌, ◌▷◌, mapped, bytes_item, name_item, rest_item, vector_item, within, choose, steps_to_end}
+use Rattle.wasm_bytes.specs.Reading.{◌⊗◌, ◌▷◌, mapped, bytes_item, name_item, rest_item, vector_item, within, choose, complete, steps_to_end}
 use Rattle.dump_format.specs.Parts.{Part, core, modules, instances, stack, memories, globals, segments, custom, passed}
 use Rattle.dump_format.specs.Form.{module_item, instance_item, stack_item, limits_item, global_item, segment_item}
-use Rattle.dump_format.specs.Judged.{last_id, memory_of}
+use Rattle.dump_format.specs.Judged.{last_id, memory_of, first_of, names_in}
 
 -- a custom section, behind its name
 unfoldable pub custom_behind : List ℕ → Place → Read Part
@@ -46,5 +47,12 @@ with_section ps = mapped (λ part. ps ++ part ∷ []) (section_item ps)
 abbrev pub header : List ℕ
 header = 0x00 ∷ 0x61 ∷ 0x73 ∷ 0x6d ∷ 0x01 ∷ 0x00 ∷ 0x00 ∷ 0x00 ∷ []
 
+unfoldable pub sections_item : Place → Read (List Part)
+sections_item = mapped (λ x. x.1) (bytes_item header ⊗ steps_to_end with_section [])
+
+-- A section `core` is due.
+abbrev pub has_core : List Part → Bool
+has_core ps = is_some (first_of (flat_map names_in ps))
+
 unfoldable pub parts_item : Place → Read (List Part)
-parts_item = mapped (λ x. x.1) (bytes_item header ⊗ steps_to_end with_section [])
+parts_item = complete has_core sections_item

@@ -23,7 +23,7 @@ fn decode<'a>(alloc: Global, bytes: &'a [u8]) -> Result<Dump<'a>, DumpFault>
         });
     }
     match gathered(alloc, bytes) {
-        Ok(gathered) => gathered.judged(alloc, bytes.len()),
+        Ok(gathered) => gathered.judged(alloc),
         Err(ItemFault::At(at)) => Err(DumpFault::Malformed { at }),
         Err(ItemFault::NoMemory) => Err(DumpFault::NoMemory),
     }

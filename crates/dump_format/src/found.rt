@@ -1,7 +1,7 @@
 //! Parts that may stand once.
 
 ghost use Rattle.std.specs.Prelude.{◌≡◌};
-ghost use Rattle.dump_format.specs.Gathering.{added, found_or, is_found_again};
+ghost use Rattle.dump_format.specs.Gathering.{added, found_or, is_found, is_found_again};
 
 /// A part of a dump, as far as its sections are read.
 #[derive(Drop)]
@@ -35,6 +35,12 @@ impl<T: Drop> Found<T> {
 }
 
 impl<T> Found<T> {
+    pub fn is_found(&self) -> bool
+        ensures { result ≡ is_found self.now }
+    {
+        !matches!(self, Found::Absent)
+    }
+
     pub fn is_repeated(&self) -> bool
         ensures { result ≡ is_found_again self.now }
     {

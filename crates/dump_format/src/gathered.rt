@@ -120,14 +120,11 @@ impl<'a> Gathered<'a> {
         }
     }
 
-    /// Why the sections of an input of this length make no dump.
+    /// Why the sections make no dump.
     #[tactic(auto, unfolding(crate::specs::Gathering::refusal_in))]
-    fn refusal(&self, end: usize) -> Option<DumpFault>
-        ensures { result ≡ refusal_in end self.now }
+    fn refusal(&self) -> Option<DumpFault>
+        ensures { result ≡ refusal_in self.now }
     {
-        if let Found::Absent = &self.name {
-            return Some(DumpFault::Malformed { at: end });
-        }
         if let Some(at) = self.first {
             return Some(DumpFault::FloatValue { at });
         }
@@ -137,12 +134,12 @@ impl<'a> Gathered<'a> {
         self.too_many()
     }
 
-    /// The dump that the sections of an input of this length make, or why they make none.
+    /// The dump that the sections make, or why they make none.
     #[tactic(auto, unfolding(crate::specs::Gathering::dump_in))]
-    pub fn judged(self, alloc: Global, end: usize) -> Result<Dump<'a>, DumpFault>
-        ensures { result ≡ unless_refused (refusal_in end self.entry) (dump_in self.entry) }
+    pub fn judged(self, alloc: Global) -> Result<Dump<'a>, DumpFault>
+        ensures { result ≡ unless_refused (refusal_in self.entry) (dump_in self.entry) }
     {
-        if let Some(fault) = self.refusal(end) {
+        if let Some(fault) = self.refusal() {
             return Err(fault);
         }
         let memory = self.memory();

@@ -103,8 +103,8 @@ impl<'a> Gather<'a> for Gathered<'a> {
     }
 }
 
-/// All sections of an input.
-#[tactic(auto, unfolding(crate::specs::Gathering::gathered_item))]
+/// All sections of an input. A section `core` is due.
+#[tactic(auto, unfolding(crate::specs::Gathering::all_gathered, crate::specs::Gathering::gathered_item))]
 pub fn gathered<'a>(alloc: Global, bytes: &'a [u8]) -> Result<Gathered<'a>, ItemFault>
     ensures { GivesWhole result (whole gathered_item bytes.now) }
 {
@@ -112,6 +112,9 @@ pub fn gathered<'a>(alloc: Global, bytes: &'a [u8]) -> Result<Gathered<'a>, Item
     reader.bytes(&HEADER)?;
     let mut gathered = Gathered::new();
     gather_to_end(alloc, &mut gathered, &mut reader)?;
+    if !gathered.name.is_found() {
+        return Err(ItemFault::At(reader.at()));
+    }
     reader.end()?;
     Ok(gathered)
 }
