@@ -1,1 +1,14 @@
 pub mod Quantity
+pub mod Integers
+pub mod Numbers
+pub mod Memory
+pub mod Access
+pub mod Tree
+pub mod Module
+pub mod Host
+pub mod Effect
+pub mod Machine
+pub mod Run
+pub mod Typing
+pub mod Valid
+pub mod Static

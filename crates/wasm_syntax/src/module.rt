@@ -1,0 +1,70 @@
+//! Modules (Core 2.5.1).
+
+ghost use Rattle.std.specs.Prelude.{◌≡◌};
+ghost use Rattle.wasm_syntax.specs.Module.{IsModule};
+
+use crate::parts::{
+    Bodies, Customs, DataSegs, ElementSegs, Exports, FuncTypes, Globals, Imports, Indices,
+    LimitsList,
+};
+use std::marker::Model;
+
+/// The lists of a module, each in index order.
+#[derive(Drop)]
+pub struct ModuleParts {
+    pub types: FuncTypes,
+    pub imports: Imports,
+    /// The type indices of the functions that the module defines.
+    pub functions: Indices,
+    pub tables: LimitsList,
+    pub memories: LimitsList,
+    pub globals: Globals,
+    pub exports: Exports,
+    pub start: Option<u32>,
+    pub elements: ElementSegs,
+    pub segments: DataSegs,
+    pub bodies: Bodies,
+    pub customs: Customs,
+    /// The length of the module in bytes, without its custom sections.
+    pub plain_bytes: u32,
+}
+
+/// A module, which contracts see as its parts. It has as many bodies as functions, and each body writes out a tree.
+#[derive(Drop)]
+pub struct Module {
+    parts: ModuleParts,
+}
+
+impl Model for Module {
+    ghost use Rattle.wasm_syntax.specs.declared.module.ModuleParts.{ModuleParts as Parts};
+    ghost use Rattle.wasm_syntax.specs.Module.{IsModule as Whole};
+
+    ghost Value = { Parts };
+
+    ghost view = { λ m. m.parts };
+
+    ghost invariant = { λ m. Whole m.parts };
+}
+
+impl Module {
+    pub fn new(parts: ModuleParts) -> Self
+        requires { IsModule parts }
+        ensures { result ≡ parts }
+    {
+        Module { parts }
+    }
+
+    pub fn parts(&self) -> &ModuleParts
+        ensures value { result.now ≡ self.now }
+        ensures whole { IsModule result.now }
+    {
+        &self.parts
+    }
+
+    pub fn into_parts(self) -> ModuleParts
+        ensures value { result ≡ self }
+        ensures whole { IsModule result }
+    {
+        self.parts
+    }
+}
