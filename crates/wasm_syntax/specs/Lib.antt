@@ -12,3 +12,4 @@ pub mod Run
 pub mod Typing
 pub mod Valid
 pub mod Static
+pub mod SameCode
