@@ -12,4 +12,5 @@ pub mod Run
 pub mod Typing
 pub mod Valid
 pub mod Static
+pub mod FlatTyping
 pub mod SameCode

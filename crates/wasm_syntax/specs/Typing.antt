@@ -1,5 +1,7 @@
 -- Typing (Core 3). Lists of types stand with the topmost first.
 use Rattle.std.specs.Prelude.{◌≡◌, ℕ, ◌*◌, ◌^◌, ◌≤◌, nat_le, Bool, List, [], ◌∷◌, ◌++◌, reverse, length, slice_get, if◌then◌else◌, Option, Some, None, option_map, option_to_list}
+use Rattle.wasm_syntax.specs.declared.blocks.BlockKind.{BlockKind}
+use Rattle.wasm_syntax.specs.declared.blocks.BlockKind.TheVariants as kinds
 use Rattle.wasm_syntax.specs.declared.value.ValType.{ValType}
 use Rattle.wasm_syntax.specs.declared.value.ValType.TheVariants.{I32, I64}
 use Rattle.wasm_syntax.specs.declared.instruction.Basic.{Basic}
@@ -146,36 +148,32 @@ pub record IsBody (m : Module) (type : FuncType) (body : Body) (code : List Plac
 
 -- ---- the closing of a list of instructions
 
--- what is open: an arm of an `if` that may still have an `else`, or anything else
-pub data Open : Type 0 where
-  plain : Open
-  then_arm : Open
-
 -- what is open behind an instruction, the innermost first
-abbrev pub open_next : List Open → Item → List Open
+abbrev pub open_next : List BlockKind → Item → List BlockKind
 open_next os (Plain i) = os
 open_next os (Goes j) = os
-open_next os (Opens t) = plain ∷ os
-open_next os (OpensLoop t) = plain ∷ os
-open_next os (OpensIf t) = then_arm ∷ os
+open_next os (Opens t) = kinds.Plain ∷ os
+open_next os (OpensLoop t) = kinds.Loop ∷ os
+open_next os (OpensIf t) = kinds.Then ∷ os
 open_next [] Else = []
-open_next (o ∷ os) Else = plain ∷ os
+open_next (o ∷ os) Else = kinds.Plain ∷ os
 open_next [] End = []
 open_next (o ∷ os) End = os
 
-abbrev pub open_behind : List Open → List Placed → List Open
+abbrev pub open_behind : List BlockKind → List Placed → List BlockKind
 open_behind os [] = os
 open_behind os (i ∷ is) = open_behind (open_next os i.code) is
 
 -- what closes them: `unreachable`, `else` and `unreachable` where there may be an `else`, and `end`, at no offsets of the body
-abbrev pub closing_of : List Open → List Placed
+abbrev pub closing_of : List BlockKind → List Placed
 closing_of [] = []
-closing_of (plain ∷ os) = placed 0 (Goes Unreachable) ∷ placed 0 End ∷ closing_of os
-closing_of (then_arm ∷ os) =
+closing_of (kinds.Plain ∷ os) = placed 0 (Goes Unreachable) ∷ placed 0 End ∷ closing_of os
+closing_of (kinds.Loop ∷ os) = placed 0 (Goes Unreachable) ∷ placed 0 End ∷ closing_of os
+closing_of (kinds.Then ∷ os) =
     placed 0 (Goes Unreachable) ∷ placed 0 Else ∷ placed 0 (Goes Unreachable) ∷ placed 0 End ∷ closing_of os
 
 abbrev pub closing : List Placed → List Placed
-closing is = is ++ closing_of (open_behind (plain ∷ []) is)
+closing is = is ++ closing_of (open_behind (kinds.Plain ∷ []) is)
 
 -- the instructions begin a well-typed body
 abbrev pub BeginsBody : Module → FuncType → Body → List Placed → Type 0
