@@ -12,7 +12,8 @@ use Rattle.wasm_syntax.specs.declared.host.CollectorCall.{CollectorCall}
 use Rattle.wasm_syntax.specs.declared.host.CollectorCall.TheVariants.{ValueI32, ValueI64, Frame}
 use Rattle.wasm_syntax.specs.Numbers.{type_of, same_type}
 use Rattle.wasm_syntax.specs.Memory.{Memory, put}
-use Rattle.wasm_syntax.specs.Module.{Module, option_then}
+use Rattle.wasm_syntax.specs.Module.{option_then}
+use Rattle.wasm_syntax.specs.declared.module.ModuleParts.{ModuleParts as Module}
 
 -- the globals, the memory if there is one, the functions in the table, the replies that are left, and what was served so far, the
 -- newest first

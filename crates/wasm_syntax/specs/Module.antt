@@ -8,7 +8,7 @@ use Rattle.wasm_syntax.specs.declared.instruction.Instr.{Instr}
 use Rattle.wasm_syntax.specs.declared.instruction.Instr.TheVariants as instr
 use Rattle.wasm_syntax.specs.declared.instruction.Jump.TheVariants as jumps
 use Rattle.wasm_syntax.specs.declared.instruction.Op.{Op}
-pub use Rattle.wasm_syntax.specs.declared.module.ModuleParts.{ModuleParts as Module}
+use Rattle.wasm_syntax.specs.declared.module.ModuleParts.{ModuleParts as Module}
 use Rattle.wasm_syntax.specs.declared.parts.LocalGroup.{LocalGroup}
 use Rattle.wasm_syntax.specs.declared.parts.ExportKind.{ExportKind}
 use Rattle.wasm_syntax.specs.declared.parts.ExportKind.TheVariants as kinds

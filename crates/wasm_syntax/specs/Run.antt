@@ -8,7 +8,8 @@ use Rattle.wasm_syntax.specs.declared.parts.Limits.{Limits}
 use Rattle.wasm_syntax.specs.declared.parts.Global.{Global}
 use Rattle.wasm_syntax.specs.declared.parts.ElementSeg.{ElementSeg}
 use Rattle.wasm_syntax.specs.declared.parts.DataSeg.{DataSeg}
-use Rattle.wasm_syntax.specs.Module.{Module, Program, Function, imported, defined, function_at, type_at, function_export, same_types, const_value}
+use Rattle.wasm_syntax.specs.Module.{Program, Function, imported, defined, function_at, type_at, function_export, same_types, const_value}
+use Rattle.wasm_syntax.specs.declared.module.ModuleParts.{ModuleParts as Module}
 use Rattle.wasm_syntax.specs.declared.host.HostCall.{HostCall}
 use Rattle.wasm_syntax.specs.declared.host.Reply.{Reply}
 use Rattle.wasm_syntax.specs.declared.host.Served.{Served}

@@ -5,7 +5,8 @@ use Rattle.wasm_syntax.specs.declared.value.ValType.TheVariants.{I32}
 use Rattle.wasm_syntax.specs.Tree.{Jump, Unreachable, Br, BrIf, BrTable, Return, Call, CallIndirect, Nodes, stop, basic, jump, block, loop, choose, Tree, Writes}
 use Rattle.wasm_syntax.specs.declared.parts.FuncType.{FuncType}
 use Rattle.wasm_syntax.specs.declared.parts.Body.{Body}
-use Rattle.wasm_syntax.specs.Module.{Module, type_at}
+use Rattle.wasm_syntax.specs.Module.{type_at}
+use Rattle.wasm_syntax.specs.declared.module.ModuleParts.{ModuleParts as Module}
 use Rattle.wasm_syntax.specs.Typing.{Context, BasicTypes, JumpTypes, within, body_context}
 use Rattle.wasm_syntax.specs.Machine.{offset_in}
 

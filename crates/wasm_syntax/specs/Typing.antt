@@ -13,7 +13,8 @@ use Rattle.wasm_syntax.specs.Tree.{Jump, Unreachable, Br, BrIf, BrTable, Return,
 use Rattle.wasm_syntax.specs.declared.parts.FuncType.{FuncType}
 use Rattle.wasm_syntax.specs.declared.parts.Body.{Body}
 use Rattle.wasm_syntax.specs.declared.parts.Global.{Global}
-use Rattle.wasm_syntax.specs.Module.{Module, type_at, option_then, declared_locals}
+use Rattle.wasm_syntax.specs.Module.{type_at, option_then, declared_locals}
+use Rattle.wasm_syntax.specs.declared.module.ModuleParts.{ModuleParts as Module}
 
 -- Core 3.1: the module, the types of the locals, what a branch to each label takes from the innermost out, and what the
 -- function gives

@@ -16,7 +16,8 @@ use Rattle.wasm_syntax.specs.declared.parts.Global.{Global}
 use Rattle.wasm_syntax.specs.declared.parts.Export.{Export}
 use Rattle.wasm_syntax.specs.declared.parts.ElementSeg.{ElementSeg}
 use Rattle.wasm_syntax.specs.declared.parts.DataSeg.{DataSeg}
-use Rattle.wasm_syntax.specs.Module.{Module, type_at, function_types, option_then}
+use Rattle.wasm_syntax.specs.Module.{type_at, function_types, option_then}
+use Rattle.wasm_syntax.specs.declared.module.ModuleParts.{ModuleParts as Module}
 use Rattle.wasm_syntax.specs.declared.place.Place.{Place}
 use Rattle.wasm_syntax.specs.declared.place.Place.TheVariants.{TypeAt, ImportAt, Declaration, TableAt, MemoryAt, GlobalAt, ExportAt, Start, ElementAt, DataAt, Function}
 use Rattle.wasm_syntax.specs.Tree.{Item, Placed, placed, code_of}
