@@ -4,3 +4,8 @@ pub mod Never
 pub mod Unique
 pub mod Lists
 pub mod Validity
+pub mod Longer
+pub mod Weaken
+pub mod LiteralTyping
+pub mod FlatSteps
+pub mod FlatBodies
