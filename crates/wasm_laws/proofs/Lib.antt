@@ -9,3 +9,4 @@ pub mod Weaken
 pub mod LiteralTyping
 pub mod FlatSteps
 pub mod FlatBodies
+pub mod Live

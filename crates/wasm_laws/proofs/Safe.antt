@@ -240,6 +240,7 @@ module _ (M : Engine) (typed : Typed M.program) where
       abbrev_out (inside ls) = ⊥
       abbrev_out (outside vs) = Unit {0}
       abbrev_out nowhere = ⊥
+
       not_out : (vs : List Value) (ls : List Label) (us : List Value) → outside us ≡ arrive vs ls → ⊥
       not_out vs [] us e = cc
       not_out vs (l ∷ ls) us e = cc
@@ -316,6 +317,7 @@ module _ (M : Engine) (typed : Typed M.program) where
               and_is : (a b : Bool) → (a && b) ≡ true → (a ≡ true) × (b ≡ true)
               and_is true b e = (refl, e)
               and_is false b e = absurd (cc)
+
               lists : (a b : List ValType) → same_types a b ≡ true → a ≡ b
               lists [] [] e = refl
               lists [] (_ ∷ _) e = absurd (cc)
@@ -324,8 +326,10 @@ module _ (M : Engine) (typed : Typed M.program) where
               lists (I32 ∷ a) (I64 ∷ b) e = absurd (cc)
               lists (I64 ∷ a) (I32 ∷ b) e = absurd (cc)
               lists (I64 ∷ a) (I64 ∷ b) e = ap (λ z. I64 ∷ z) (lists a b e)
+
               alike : (a b : FuncType) → same_functype a b ≡ true → a ≡ b
               alike a b e = let x = and_is (same_types a.params b.params) (same_types a.results b.results) e in let ps = lists a.params b.params x.0 in let rs = lists a.results b.results x.1 in λ i. record { params = ps i; results = rs i }
+
           by_type : ((u : FuncType) × (type_at p.module_ g ≡ Some u)) → SteppedFine p (calls_if M (fits_entry M type g) g vs o rest (fr (l ∷ ls)) l ls fs w co)
           by_type u = rw u.1 (typed_ u.0 (same_functype u.0 type) u.1 refl)
 
