@@ -1,23 +1,14 @@
 -- Texts that begin with another one.
-use Rattle.std.proofs.Common.{◌≡◌, ℕ, ◌≤◌, List, [], ◌++◌, length, take, sym, ap, ◌∙◌, append_assoc, arith}
+use Rattle.std.proofs.Common.{◌≡◌, ℕ, ◌≤◌, List, ◌++◌, length, take, ap, ◌∙◌, arith}
 use Rattle.std.proofs.Math.Seq.{take-append_seam}
-use Rattle.std.proofs.lemmas.List.{append-nil, length-append}
+use Rattle.std.proofs.lemmas.List.{length-append}
 use Rattle.std.proofs.lemmas.Str.{IsCharBoundary-from_take, IsUtf8-string_bytes}
 use Rattle.std.specs.declared.string.String.{String}
 use Rattle.std.specs.String.{string_bytes, string_len}
 use Rattle.std.specs.String.Boundary.{IsSplitPoint}
 use Rattle.pm_text.specs.Extends.{Extends}
 
-pub extends_same : (old : List ℕ) → Extends old old
-extends_same old = ([], sym (append-nil old))
-
-pub extends_by : (old new rest : List ℕ) → new ≡ old ++ rest → Extends old new
-extends_by old new rest e = (rest, e)
-
-pub extends_further : (old mid new : List ℕ) → Extends old mid → Extends mid new → Extends old new
-extends_further old mid new (a, e) (b, f) = (a ++ b, f ∙ ap (λ l. l ++ b) e ∙ append_assoc old a b)
-
-pub cut_back : (old new : List ℕ) (n : ℕ) → n ≡ length old → Extends old new → take n new ≡ old
+cut_back : (old new : List ℕ) (n : ℕ) → n ≡ length old → Extends old new → take n new ≡ old
 cut_back old new n e (rest, f) = ap (λ k. take k new) e ∙ ap (take (length old)) f ∙ take-append_seam old rest
 
 -- a string may be cut where the text ended that it was written behind

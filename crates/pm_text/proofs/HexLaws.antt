@@ -36,9 +36,6 @@ onto_more (suc k) n acc h = elim (cases_lt n 16) [
   | inr large ↦ onto_next (suc k) n acc large ∙ onto_more k (n / 16) (glyph n ∷ acc) (omega arith) ∙ sym (onto_next (suc (suc k)) n acc large)
 ]
 
-glyph_digit : (n : ℕ) → n < 16 → digit_glyph false n ≡ hex_digit n
-glyph_digit n h = refl
-
 pub hex_one : (n : ℕ) → n < 16 → digits 16 false n ≡ hex_digit n ∷ []
 hex_one n h = hex_one_digit false n h
 

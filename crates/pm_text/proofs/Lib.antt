@@ -1,4 +1,4 @@
 mod ExtendsLaws
 mod HexLaws
 mod NameLaws
-mod NumberLaws
+pub mod NumberLaws

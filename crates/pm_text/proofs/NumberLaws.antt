@@ -1,5 +1,6 @@
 -- Decimal texts as std reads them.
 use Rattle.std.proofs.Common.{◌≡◌, ◌≢◌, ℕ, ◌^◌, ◌≤◌, ◌<◌, true, false, List, [], ◌∷◌, length, get_or, nat_eq, refl, sym, ap, ◌∙◌, arith, Option, Some, None}
+use Rattle.std.specs.Fmt.{decimal}
 use Rattle.std.specs.List.{starts_with}
 use Rattle.std.specs.Str.{all_ascii_digits}
 use Rattle.std.specs.Str.Parse.{ParsesUnsigned}
@@ -7,6 +8,7 @@ use Rattle.std.specs.Str.Pattern.{FindsTextPrefix}
 use Rattle.std.specs.Result.{result_ok}
 use Rattle.std.specs.Prelude.{Result, Ok, Err}
 use Rattle.std.proofs.lemmas.Bool.Decides.{nat_tests}
+use Rattle.std.proofs.lemmas.Fmt.{digits_decimal, digits_value-decimal, decimal_nonempty, length-decimal-le}
 use Rattle.std.proofs.lemmas.Str.Parse.{IsNumeralModel, numerals_by_weight, tells_all_ascii_digits, parse_plain}
 use Rattle.std.proofs.lemmas.Str.Pattern.{starts_text}
 use Rattle.pm_text.specs.Numbers.{digits_sum, decimal_value}
@@ -33,10 +35,9 @@ begins front text k h = sym (starts_text true front text (k, (h.0, h.1, h.2), rw
 pub begins_not : (front text : List ℕ) → FindsTextPrefix front text None → starts_with nat_eq text front ≡ false
 begins_not front text h = sym (starts_text false front text h)
 
-pub begins_plus : (text : List ℕ) → get_or text 0 0 ≡ 43 → decimal_value text ≡ None
-begins_plus [] h = absurd (omega arith)
-begins_plus (d ∷ ds) h = value_none (d ∷ ds) (λ p. grind (arith, nat_tests))
-
-pub too_long : (text : List ℕ) → 20 < length text → decimal_value text ≡ None
-unfolding decimal_value
-too_long text long = grind (arith, nat_tests)
+-- a number below 2 ^ 64 is read from the text that it is written as
+pub decimal_back : (n : ℕ) → n < 2 ^ 64 → decimal_value (decimal n) ≡ Some n
+decimal_back n small =
+    let same : digits_sum (decimal n) ≡ n = digits_value-decimal decimals n small in
+    let short : length (decimal n) ≤ 20 = length-decimal-le 20 n (omega arith) (omega arith) small in
+    value_read (decimal n) short (digits_decimal decimals n small, decimal_nonempty n small, omega arith) ∙ ap Some same
