@@ -4,4 +4,5 @@ mod Instructions
 mod Making
 mod Moves
 mod Windows
+mod ListsOfCalls
 mod LowBytes

@@ -1,12 +1,18 @@
 //! A linear memory of WebAssembly (Core 4.2.8) in pages of 65,536 bytes, each made at its first write.
 #![tactic(auto)]
 
+mod calls;
 mod page;
 mod paged;
+#[cfg(test)]
+mod plain;
 mod raw;
 mod table;
+#[cfg(test)]
+mod tests;
 mod words;
 
+pub use calls::{Answer, Call, Width, run};
 pub use causes::NoMemory;
 pub use paged::Memory;
 
