@@ -31,6 +31,7 @@ impl From<AllocError> for FileError {
 /// The greatest size of a piece, in bytes. It is read into the heap.
 const PIECE: usize = 65_536;
 
+/// A buffer of so many zero bytes.
 fn zeros(alloc: Global, size: usize) -> Result<Vec<u8>, AllocError>
     ensures { IfOk result (λ piece. vec_len piece ≡ size) }
 {

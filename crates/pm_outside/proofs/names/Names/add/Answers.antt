@@ -1,6 +1,4 @@
-use Rattle.std.proofs.Common.{◌≡◌, map, rules}
-use Rattle.std.specs.String.{string_bytes}
-use Rattle.pm_outside.specs.Created.{with_name}
+use Rattle.std.proofs.Common.{rules}
 use Rattle.pm_outside.proofs.Naming.{pushed, stays, is_in_with_name}
 use Rattle.pm_outside.proofs.names.Names.add.Goals as goal
 
