@@ -47,22 +47,6 @@ leads_exact S T f g e h = record {
   again = λ before front rest y s. rw s.1.4 (leads_again S T f g e h before s.1.0 s.1.1 rest s.0 y s.1.2 s.1.3);
 }
 
--- two values, one after the other
-pub then_exact : {A B : Type 0} (S : A → ℕ → List ℕ → Type 0) (T : B → ℕ → List ℕ → Type 0) (f : Place → Read A) (g : Place → Read B) → IsExact S f → IsExact T g → IsExact (pair S T) (f ⊗ g)
-then_exact {A} {B} S T f g e h = record {
-  sound = λ before after z q fits read.
-      let a = first_took S f e before after (λ x. g x.1 >>= λ y. Ok ((x.0, y.0), y.1)) z q fits read in
-      let b = first_took T g h (before ++ a.1) a.2 (λ y. got (a.0, y.0) y.1) z q a.5 a.6 in
-      let second : Took T (before ++ a.1) a.2 b.0 (place ((before ++ a.1) ++ b.1) b.2) = record { front = b.1; rest = b.2; is = b.3; parts = b.4; behind = refl; bytes = b.5 } in
-      let both = then_took S T (pair S T) before after a.1 a.2 a.0 b.0 (a.0, b.0) _ (λ bytes s. s) a.3 a.4 second in
-      took_is (pair S T) before after (a.0, b.0) z _ q b.6 both;
-  again = λ before front rest z s.
-      let one = e.again before s.0 (s.1 ++ rest) z.0 s.2 in
-      let here : T z.1 (length (before ++ s.0)) s.1 = subst (λ (n : ℕ). T z.1 n s.1) (sym (length-append before s.0)) s.3 in
-      let two = h.again (before ++ s.0) s.1 rest z.1 here in
-      rw (s.4, append_assoc s.0 s.1 rest, one, two, append_assoc before s.0 s.1) refl;
-}
-
 -- ---- one item seen in another way
 
 -- a language that is the same
@@ -89,6 +73,15 @@ pub mapped_exact : {A B : Type 0} (S : A → ℕ → List ℕ → Type 0) (T : B
     → ((y : B) → to (from y) ≡ y) → ((x : A) (at : ℕ) (front : List ℕ) → S x at front → T (to x) at front) → ((y : B) (at : ℕ) (front : List ℕ) → T y at front → S (from y) at front) → IsExact S f → IsExact T (mapped to f)
 mapped_exact {A} {B} S T to from f back made parts e =
     same_exact (image to S) T (mapped to f) (λ y at front s. subst (λ (w : B). T w at front) s.1 (made s.0 at front s.2)) (λ y at front t. (from y, back y, parts y at front t)) (image_exact S to f e)
+
+-- two values, one after the other
+pub then_exact : {A B : Type 0} (S : A → ℕ → List ℕ → Type 0) (T : B → ℕ → List ℕ → Type 0) (f : Place → Read A) (g : Place → Read B) → IsExact S f → IsExact T g → IsExact (pair S T) (f ⊗ g)
+then_exact {A} {B} S T f g e h =
+    let parts : A → A × B → ℕ → List ℕ → Type 0 = λ x. image (λ (y : B). (x, y)) T in
+    same_exact (leads S parts) (pair S T) (f ⊗ g)
+    (λ z at front s. subst (λ (w : A × B). pair S T w at front) s.1.3.1 (s.1.0, s.1.1, s.1.2, s.1.3.2, s.1.4))
+    (λ z at front s. (z.0, (s.0, s.1, s.2, (z.1, refl, s.3), s.4)))
+    (leads_exact S parts f (λ x. mapped (λ (y : B). (x, y)) g) e (λ x. image_exact T (λ (y : B). (x, y)) g h))
 
 -- the values that pass a test
 pub checked_exact : {A : Type 0} (test : A → Bool) (S : A → ℕ → List ℕ → Type 0) (f : Place → Read A) → IsExact S f → IsExact (passing test S) (checked test f)

@@ -93,20 +93,6 @@ leads_tail S T f g e h = record {
       rw (s.1.4, one, two, append_assoc before s.1.0 s.1.1) refl;
 }
 
-pub then_tail : {A B : Type 0} (S : A → ℕ → List ℕ → Type 0) (T : B → ℕ → List ℕ → Type 0) (f : Place → Read A) (g : Place → Read B) → IsExact S f → IsTail T g → IsTail (pair S T) (f ⊗ g)
-then_tail {A} {B} S T f g e h = record {
-  sound = λ before after z q fits read.
-      let a = first_took S f e before after (λ x. g x.1 >>= λ y. Ok ((x.0, y.0), y.1)) z q fits read in
-      let b = bind_ok (g (place (before ++ a.1) a.2)) (λ y. got (a.0, y.0) y.1) z q a.6 in
-      let t = h.sound (before ++ a.1) a.2 b.0 b.1 a.5 b.2 in
-      tail_is (pair S T) before after (a.0, b.0) z b.1 q b.3 (a.1, a.2, a.3, subst (λ (n : ℕ). T b.0 n a.2) (length-append before a.1) t.0, a.4) (t.1 ∙ end_behind before a.1 a.2 after a.4);
-  again = λ before after z s.
-      let one = e.again before s.0 s.1 z.0 s.2 in
-      let here = subst (λ (n : ℕ). T z.1 n s.1) (sym (length-append before s.0)) s.3 in
-      let two = h.again (before ++ s.0) s.1 z.1 here in
-      rw (s.4, one, two, append_assoc before s.0 s.1) refl;
-}
-
 -- ---- one tail seen in another way
 
 pub same_tail : {A : Type 0} (S T : A → ℕ → List ℕ → Type 0) (f : Place → Read A) → ((x : A) (at : ℕ) (front : List ℕ) → S x at front → T x at front) → ((x : A) (at : ℕ) (front : List ℕ) → T x at front → S x at front) → IsTail S f → IsTail T f
@@ -128,6 +114,14 @@ pub mapped_tail : {A B : Type 0} (S : A → ℕ → List ℕ → Type 0) (T : B 
     → ((y : B) → to (from y) ≡ y) → ((x : A) (at : ℕ) (front : List ℕ) → S x at front → T (to x) at front) → ((y : B) (at : ℕ) (front : List ℕ) → T y at front → S (from y) at front) → IsTail S f → IsTail T (mapped to f)
 mapped_tail {A} {B} S T to from f back made parts e =
     same_tail (image to S) T (mapped to f) (λ y at front s. subst (λ (w : B). T w at front) s.1 (made s.0 at front s.2)) (λ y at front t. (from y, back y, parts y at front t)) (image_tail S to f e)
+
+pub then_tail : {A B : Type 0} (S : A → ℕ → List ℕ → Type 0) (T : B → ℕ → List ℕ → Type 0) (f : Place → Read A) (g : Place → Read B) → IsExact S f → IsTail T g → IsTail (pair S T) (f ⊗ g)
+then_tail {A} {B} S T f g e h =
+    let parts : A → A × B → ℕ → List ℕ → Type 0 = λ x. image (λ (y : B). (x, y)) T in
+    same_tail (leads S parts) (pair S T) (f ⊗ g)
+    (λ z at front s. subst (λ (w : A × B). pair S T w at front) s.1.3.1 (s.1.0, s.1.1, s.1.2, s.1.3.2, s.1.4))
+    (λ z at front s. (z.0, (s.0, s.1, s.2, (z.1, refl, s.3), s.4)))
+    (leads_tail S parts f (λ x. mapped (λ (y : B). (x, y)) g) e (λ x. image_tail T (λ (y : B). (x, y)) g h))
 
 pub checked_tail : {A : Type 0} (test : A → Bool) (S : A → ℕ → List ℕ → Type 0) (f : Place → Read A) → IsTail S f → IsTail (passing test S) (checked test f)
 checked_tail test S f e = record {
