@@ -76,23 +76,41 @@ size_parts before after from to s =
 
 -- ---- the section
 
+-- the frame of a section whose parts are these
+abbrev frame_with : (before size contents : List ℕ) → ℕ → SectionFrame
+frame_with before size contents id = record { id = id; at = length before + 1 + length size; «end» = length before + 1 + length size + length contents }
+
+section_here : (before size contents rest : List ℕ) (id : ℕ) → id ≤ 11 → IsUnsigned 32 size (length contents) → IsSectionAt (before ++ id ∷ (size ++ (contents ++ rest))) (length before) (frame_with before size contents id)
+section_here before size contents rest id small is =
+    let start : length (before ++ id ∷ []) ≡ length before + 1 = length-append before (id ∷ []) in
+    let from = length before + 1 + length size in
+    let to = from + length contents in
+    let here = size_here (before ++ id ∷ []) size contents rest from to is (omega (arith, start)) refl in
+    let moved = subst (λ (t : List ℕ). IsSizeAt t (length (before ++ id ∷ [])) from to) (append_assoc before (id ∷ []) (size ++ (contents ++ rest))) here in
+    (id_here before (size ++ (contents ++ rest)) id small, subst (λ (n : ℕ). IsSizeAt (before ++ id ∷ (size ++ (contents ++ rest))) n from to) start moved)
+
+-- what the block behind an id is, where its place is known
+block_frame : (before front size contents : List ℕ) (id : ℕ) (inner outer : Place) → front ≡ id ∷ [] → inner ≡ place ((before ++ front) ++ size) contents → (frame_of id (inner, outer)).0 ≡ frame_with before size contents id
+block_frame before front size contents id inner outer byte is =
+    let at : length ((before ++ front) ++ size) ≡ length before + 1 + length size = omega (arith, length-append (before ++ front) size, length-append before front, ap length byte) in
+    let end : length (((before ++ front) ++ size) ++ contents) ≡ length before + 1 + length size + length contents = omega (arith, at, length-append ((before ++ front) ++ size) contents) in
+    rw (is, end, at) refl
+
+found_parts : (before after front behind size contents rest : List ℕ) (id : ℕ) (s : SectionFrame) (inner outer q : Place) → (is_section_id id ≡ true) × (front ≡ id ∷ []) → after ≡ front ++ behind → behind ≡ size ++ (contents ++ rest)
+    → IsUnsigned 32 size (length contents) → inner ≡ place ((before ++ front) ++ size) contents → got (frame_of id (inner, outer)).0 outer ≡ got s q → IsSectionAt (before ++ after) (length before) s
+found_parts before after front behind size contents rest id s inner outer q first e f is at read =
+    let frame = sym (block_frame before front size contents id inner outer first.1 at) ∙ (got_is (frame_of id (inner, outer)).0 s outer q read).0 in
+    let bytes : after ≡ id ∷ (size ++ (contents ++ rest)) = e ∙ ap (λ (t : List ℕ). t ++ behind) first.1 ∙ ap (λ (t : List ℕ). id ∷ t) f in
+    let here = section_here before size contents rest id (leb-true id 11 first.0) is in
+    subst (λ (t : List ℕ). IsSectionAt (before ++ t) (length before) s) (sym bytes) (subst (λ (w : SectionFrame). IsSectionAt (before ++ id ∷ (size ++ (contents ++ rest))) (length before) w) frame here)
+
 found : (before after : List ℕ) (s : SectionFrame) (q : Place) → IsBytes after → section_frame_item (place before after) ≡ got s q → IsSectionAt (before ++ after) (length before) s
 unfolding section_frame_item
 found before after s q fits read =
     let a = first_took (one_of is_section_id) (one_of_item is_section_id) (one_of_exact is_section_id) before after (λ id. block_item id.1 >>= λ block. Ok (frame_of id.0 block)) s q fits read in
     let b = bind_ok (block_item (place (before ++ a.1) a.2)) (λ block. Ok (frame_of a.0 block)) s q a.6 in
     let o = block_sound (before ++ a.1) a.2 b.0 b.1 a.5 b.2 in
-    let frame = (got_is (frame_of a.0 (b.0, b.1)).0 s b.1 q b.3).0 in
-    let id : after ≡ a.0 ∷ a.2 = a.4 ∙ ap (λ (t : List ℕ). t ++ a.2) a.3.1 in
-    let here : IsIdAt (before ++ after) (length before) a.0 = subst (λ (t : List ℕ). IsIdAt (before ++ t) (length before) a.0) (sym id) (id_here before a.2 a.0 (leb-true a.0 11 a.3.0)) in
-    let all : (before ++ a.1) ++ (o.size ++ (o.contents ++ o.rest)) ≡ before ++ after = append_assoc before a.1 (o.size ++ (o.contents ++ o.rest)) ∙ ap (λ (t : List ℕ). before ++ (a.1 ++ t)) (sym o.parts) ∙ ap (λ (t : List ℕ). before ++ t) (sym a.4) in
-    let start : length (before ++ a.1) ≡ length before + 1 = length-append before a.1 ∙ ap (λ (t : List ℕ). length before + length t) a.3.1 in
-    let from : b.0.at ≡ length (before ++ a.1) + length o.size = ap (λ (p : Place). p.at) o.front ∙ length-append (before ++ a.1) o.size in
-    let to : length b.0.block ≡ b.0.at + length o.contents = ap (λ (p : Place). length p.block) o.front ∙ length-append ((before ++ a.1) ++ o.size) o.contents ∙ ap (λ (p : Place). p.at + length o.contents) (sym o.front) in
-    let size = size_here (before ++ a.1) o.size o.contents o.rest b.0.at (length b.0.block) o.is from to in
-    let moved = subst (λ (t : List ℕ). IsSizeAt t (length (before ++ a.1)) b.0.at (length b.0.block)) all size in
-    let behind = subst (λ (n : ℕ). IsSizeAt (before ++ after) n b.0.at (length b.0.block)) start moved in
-    subst (λ (f : SectionFrame). IsSectionAt (before ++ after) (length before) f) frame (here, behind)
+    found_parts before after a.1 a.2 o.size o.contents o.rest a.0 s b.0 b.1 q a.3 a.4 o.parts o.is o.front b.3
 
 read : (before after : List ℕ) (s : SectionFrame) → IsSectionAt (before ++ after) (length before) s → value_of (section_frame_item (place before after)) ≡ Ok s
 unfolding section_frame_item
