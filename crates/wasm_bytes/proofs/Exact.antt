@@ -1,11 +1,11 @@
 -- Items put together read exactly what is spelled by the parts.
-use Rattle.std.proofs.Common.{◌≡◌, ℕ, ◌+◌, ◌⊎◌, Bool, true, false, List, [], ◌∷◌, ◌++◌, length, Option, Some, None, Ok, Err, refl, sym, ap, subst, ◌∙◌, inl, inr, append_assoc, length-append}
+use Rattle.std.proofs.Common.{◌≡◌, ℕ, ◌+◌, Bool, List, ◌++◌, length, Ok, Err, refl, sym, ap, subst, ◌∙◌, inl, inr, append_assoc, length-append}
 use Rattle.std.proofs.lemmas.List.{append-nil}
 use Rattle.wasm_bytes.specs.Place.{Place, Read}
 use Rattle.wasm_bytes.specs.Reading.{◌>>=◌, ◌⊗◌, ◌▷◌, mapped, checked, if_passes, as_one, at_front, done_item, here_item}
 use Rattle.wasm_bytes.specs.Spelling.{◌&◌, pair, leads, image, passing, only, here}
 use Rattle.wasm_bytes.specs.Laws.{IsBytes, place, got, Took, IsExact}
-use Rattle.wasm_bytes.proofs.Places.{chosen, IsBytes-rest, got_is, bind_ok, took_as, took_is, took_nothing}
+use Rattle.wasm_bytes.proofs.Places.{chosen, bind_ok, took_as, took_is, took_nothing}
 
 -- ---- one after the other
 

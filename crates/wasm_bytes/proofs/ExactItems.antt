@@ -1,6 +1,6 @@
 -- The single items read exactly their spellings.
-use Rattle.std.proofs.Common.{◌≡◌, ℕ, ◌+◌, ◌-◌, ◌≤◌, Bool, true, cond, eqb, leb, List, [], ◌∷◌, ◌++◌, length, take, drop, Result, Ok, Err, refl, sym, ap, subst, ◌∙◌, inl, inr, append_assoc, arith, length-append}
-use Rattle.std.specs.Str.{IsUtf8, is_utf8, bytes_eq}
+use Rattle.std.proofs.Common.{◌≡◌, ℕ, ◌+◌, ◌-◌, ◌≤◌, Bool, true, eqb, leb, List, [], ◌∷◌, ◌++◌, length, take, drop, Result, Ok, Err, refl, sym, ap, subst, ◌∙◌, inl, inr, append_assoc, arith, length-append}
+use Rattle.std.specs.Str.{is_utf8, bytes_eq}
 use Rattle.std.specs.List.{slice_get}
 use Rattle.std.proofs.lemmas.Bool.{eqb-true}
 use Rattle.std.proofs.lemmas.Str.{IsUtf8-from_is_utf8, is_utf8-from_IsUtf8}
@@ -11,9 +11,9 @@ use Rattle.wasm_leb.specs.declared.LebFault.{LebFault}
 use Rattle.wasm_leb.specs.Reading.{unsigned_at, u32_at, signed_at, s32_at, s64_at, placed}
 use Rattle.wasm_leb.proofs.UnsignedLaws.{unsigned_sound, unsigned_complete}
 use Rattle.wasm_leb.proofs.SignedLaws.{signed_sound, signed_complete}
-use Rattle.wasm_bytes.specs.Place.{Place, Read}
-use Rattle.wasm_bytes.specs.Reading.{◌>>=◌, ◌▷◌, number_of, u32_item, s32_item, s64_item, byte_of, byte_item, checked, forgotten, as_one, one_of_item, fixed_item, bytes_item, run_item, sized_run_item, name_item, named_item}
-use Rattle.wasm_bytes.specs.Spelling.{◌&◌, always, leads, image, passing, u32, s32, s64, byte, one_of, text, run, sized_run, utf8, name}
+use Rattle.wasm_bytes.specs.Place.{Place}
+use Rattle.wasm_bytes.specs.Reading.{number_of, u32_item, s32_item, s64_item, byte_of, byte_item, one_of_item, fixed_item, bytes_item, run_item, sized_run_item, name_item, named_item}
+use Rattle.wasm_bytes.specs.Spelling.{always, leads, image, passing, u32, s32, s64, byte, one_of, text, run, sized_run, name}
 use Rattle.wasm_bytes.specs.Laws.{IsBytes, place, got, Took, IsExact}
 use Rattle.wasm_bytes.proofs.Places.{chosen, IsBytes-rest, place_behind, rest_length, byte_here, got_is, took_is, took_nothing}
 use Rattle.wasm_bytes.proofs.Exact.{first_took, then_took, same_exact, leads_exact, image_exact, checked_exact, as_one_exact}

@@ -1,12 +1,12 @@
 -- Vectors, steps and choices read exactly what is spelled by their elements.
-use Rattle.std.proofs.Common.{◌≡◌, ℕ, zero, suc, ◌+◌, ◌-◌, ◌≤◌, ◌<◌, true, false, cond, ltb, List, [], ◌∷◌, ◌++◌, length, Option, Some, None, Ok, Err, refl, sym, ap, subst, ◌∙◌, inl, inr, append_assoc, arith, length-append}
-use Rattle.std.proofs.lemmas.List.{append-nil, nil_from_length}
-use Rattle.std.proofs.lemmas.Bool.{ltb-true, ltb-false, lt-ltb}
+use Rattle.std.proofs.Common.{◌≡◌, ℕ, zero, suc, ◌+◌, ◌-◌, ◌≤◌, ◌<◌, false, ltb, List, [], ◌∷◌, ◌++◌, length, Option, Some, None, refl, sym, ap, subst, ◌∙◌, inl, inr, append_assoc, arith, length-append}
+use Rattle.std.proofs.lemmas.List.{append-nil}
+use Rattle.std.proofs.lemmas.Bool.{ltb-false}
 use Rattle.wasm_bytes.specs.Place.{Place, Read}
-use Rattle.wasm_bytes.specs.Reading.{◌>>=◌, ◌▷◌, u32_item, byte_item, picked, choose, items_from, vector_item, until_end, to_end_item, steps_from, steps_until_end, steps_to_end}
-use Rattle.wasm_bytes.specs.Spelling.{◌&◌, leads, byte, tagged, u32, items, vector, steps, some_steps}
+use Rattle.wasm_bytes.specs.Reading.{◌>>=◌, u32_item, byte_item, picked, choose, items_from, vector_item, until_end, to_end_item, steps_from, steps_until_end, steps_to_end}
+use Rattle.wasm_bytes.specs.Spelling.{leads, byte, tagged, u32, items, vector, steps, some_steps}
 use Rattle.wasm_bytes.specs.Laws.{IsBytes, place, got, Took, IsExact, IsTail, TakesBytes, PicksExact}
-use Rattle.wasm_bytes.proofs.Places.{place_is, chosen, got_is, bind_ok, took_as, took_is, took_nothing}
+use Rattle.wasm_bytes.proofs.Places.{place_is, chosen, bind_ok, took_is, took_nothing}
 use Rattle.wasm_bytes.proofs.Exact.{then_took, first_took, same_exact, leads_exact}
 use Rattle.wasm_bytes.proofs.ExactItems.{u32_exact, byte_exact}
 use Rattle.wasm_bytes.proofs.ExactBlocks.{tail_is, end_behind, none_left}

@@ -1,6 +1,6 @@
 -- The frame of a section, by the offsets of its parts.
-use Rattle.std.proofs.Common.{◌≡◌, ℕ, ◌+◌, ◌-◌, ◌≤◌, ◌<◌, ◌↔◌, ◌⊎◌, Bool, true, false, List, [], ◌∷◌, ◌++◌, length, take, drop, Option, Some, None, Result, Ok, Err, refl, sym, ap, subst, ◌∙◌, inl, inr, append_assoc, arith, length-append, length-drop}
-use Rattle.std.specs.List.{slice_get, slice_range}
+use Rattle.std.proofs.Common.{◌≡◌, ℕ, ◌+◌, ◌-◌, ◌≤◌, ◌<◌, ◌↔◌, true, List, [], ◌∷◌, ◌++◌, length, take, drop, Some, None, Ok, Err, refl, sym, ap, subst, ◌∙◌, inl, inr, append_assoc, arith, length-append, length-drop}
+use Rattle.std.specs.List.{slice_range}
 use Rattle.std.proofs.lemmas.Bool.{leb-true, le-leb}
 use Rattle.std.proofs.lemmas.List.{take_at, take-append-drop, length-take}
 use Rattle.std.proofs.lemmas.List.Folds.{drop_split}
@@ -8,12 +8,11 @@ use Rattle.std.proofs.Math.Seq.{drop-append_seam}
 use Rattle.wasm_leb.specs.Numbers.{IsUnsigned}
 use Rattle.wasm_bytes.specs.declared.sections.SectionFrame.{SectionFrame}
 use Rattle.wasm_bytes.specs.Place.{Place, Read}
-use Rattle.wasm_bytes.specs.Reading.{◌>>=◌, ◌▷◌, one_of_item, block_item, value_of}
-use Rattle.wasm_bytes.specs.Spelling.{byte, one_of, u32}
-use Rattle.wasm_bytes.specs.Stopping.{unread, no_block}
+use Rattle.wasm_bytes.specs.Reading.{◌>>=◌, one_of_item, block_item, value_of}
+use Rattle.wasm_bytes.specs.Spelling.{byte, one_of}
 use Rattle.wasm_bytes.specs.Laws.{IsBytes, place, got, failed}
 use Rattle.wasm_bytes.specs.Sections.{is_section_id, frame_of, section_frame_item, section_of, IsIdAt, IsSizeAt, IsSectionAt, NoSectionAt}
-use Rattle.wasm_bytes.proofs.Places.{IsBytes-rest, byte_here, got_is, bind_ok, bind_err}
+use Rattle.wasm_bytes.proofs.Places.{IsBytes-rest, byte_here, got_is, bind_ok}
 use Rattle.wasm_bytes.proofs.Exact.{first_took}
 use Rattle.wasm_bytes.proofs.ExactItems.{one_of_exact}
 use Rattle.wasm_bytes.proofs.ExactBlocks.{block_sound, block_again}

@@ -1,16 +1,16 @@
 -- Reading stops at the first item without a reading: single items, and items put together.
-use Rattle.std.proofs.Common.{◌≡◌, ℕ, ◌+◌, ◌-◌, ◌<◌, ◌⊎◌, Bool, true, false, cond, eqb, leb, List, [], ◌∷◌, ◌++◌, length, Option, Some, None, Result, Ok, Err, refl, sym, ap, subst, ◌∙◌, inl, inr, append_assoc, arith, length-append}
+use Rattle.std.proofs.Common.{◌≡◌, ℕ, ◌+◌, ◌-◌, ◌⊎◌, Bool, eqb, leb, List, [], ◌∷◌, ◌++◌, length, Option, Some, None, Result, Ok, Err, refl, sym, ap, subst, ◌∙◌, inl, inr, arith, length-append}
 use Rattle.std.specs.List.{slice_get}
 use Rattle.std.specs.Str.{is_utf8, bytes_eq}
 use Rattle.wasm_leb.specs.declared.LebFault.{LebFault}
 use Rattle.wasm_leb.specs.Reading.{u32_at, s32_at, s64_at}
 use Rattle.wasm_bytes.specs.Place.{Place, Read}
-use Rattle.wasm_bytes.specs.Reading.{◌>>=◌, ◌⊗◌, ◌▷◌, mapped, forgotten, checked, if_passes, at_front, as_one, done_item, here_item, byte_of, byte_item, one_of_item, fixed_item, bytes_item, number_of, u32_item, s32_item, s64_item, run_item, sized_run_item, name_item, named_item}
-use Rattle.wasm_bytes.specs.Spelling.{always, passing, byte, one_of, u32, s32, s64, run, sized_run, name}
+use Rattle.wasm_bytes.specs.Reading.{◌>>=◌, ◌⊗◌, ◌▷◌, mapped, checked, if_passes, at_front, as_one, done_item, here_item, byte_of, byte_item, one_of_item, fixed_item, bytes_item, number_of, u32_item, s32_item, s64_item, run_item, sized_run_item, name_item, named_item}
+use Rattle.wasm_bytes.specs.Spelling.{always, byte, one_of, u32, s32, s64, run, name}
 use Rattle.wasm_bytes.specs.Stopping.{never, unread, either, behind, then_stops, refused, sized_run_stops, text_stops}
-use Rattle.wasm_bytes.specs.Laws.{IsBytes, place, got, failed, Took, IsExact, StopsAt, FailsAtFront}
-use Rattle.wasm_bytes.proofs.Places.{chosen, IsBytes-rest, got_is, bind_ok, bind_err, reading}
-use Rattle.wasm_bytes.proofs.Exact.{as_one_exact, checked_exact}
+use Rattle.wasm_bytes.specs.Laws.{IsBytes, place, got, failed, IsExact, StopsAt, FailsAtFront}
+use Rattle.wasm_bytes.proofs.Places.{chosen, IsBytes-rest, bind_err, reading}
+use Rattle.wasm_bytes.proofs.Exact.{as_one_exact}
 use Rattle.wasm_bytes.proofs.ExactItems.{u32_exact, s32_exact, s64_exact, byte_exact, one_of_exact, fixed_exact, run_exact, name_exact, named_exact}
 
 -- ---- an item that fails where it begins

@@ -1,15 +1,14 @@
 -- Reading a block stops at its size, at an item in it, or at the first byte left over.
-use Rattle.std.proofs.Common.{◌≡◌, ℕ, ◌+◌, ◌-◌, ◌<◌, ◌⊎◌, Bool, true, false, cond, eqb, leb, List, [], ◌∷◌, ◌++◌, length, take, drop, Result, Ok, Err, refl, sym, ap, subst, ◌∙◌, inl, inr, append_assoc, arith, length-append}
-use Rattle.std.proofs.lemmas.List.{append-nil}
+use Rattle.std.proofs.Common.{◌≡◌, ℕ, ◌+◌, ◌-◌, ◌<◌, Bool, eqb, leb, List, [], ◌∷◌, ◌++◌, length, Ok, Err, refl, sym, ap, subst, ◌∙◌, inl, inr, arith, length-append}
 use Rattle.wasm_bytes.specs.Place.{Place, Read}
-use Rattle.wasm_bytes.specs.Reading.{◌>>=◌, ◌⊗◌, ◌▷◌, mapped, u32_item, if_inside, block_item, end_item, rest_item, complete, if_complete, closed, within, value_of, whole, fixed_item, named_item, section_item}
-use Rattle.wasm_bytes.specs.Spelling.{◌&◌, always, byte, u32, name, sized}
-use Rattle.wasm_bytes.specs.Stopping.{never, unread, either, behind, then_stops, incomplete, left_over, closed_stops, no_block, in_block, sized_stops, section_stops}
+use Rattle.wasm_bytes.specs.Reading.{◌>>=◌, ◌⊗◌, mapped, u32_item, if_inside, block_item, end_item, rest_item, complete, if_complete, closed, within, value_of, whole, fixed_item, named_item, section_item}
+use Rattle.wasm_bytes.specs.Spelling.{always, byte}
+use Rattle.wasm_bytes.specs.Stopping.{never, unread, either, incomplete, left_over, closed_stops, no_block, sized_stops, section_stops}
 use Rattle.wasm_bytes.specs.Laws.{IsBytes, place, got, failed, IsExact, IsTail, StopsAt, FailsAtFront}
-use Rattle.wasm_bytes.proofs.Places.{chosen, IsBytes-rest, IsBytes-front, bind_ok, bind_err, reading}
-use Rattle.wasm_bytes.proofs.ExactItems.{fixed_exact, named_exact}
+use Rattle.wasm_bytes.proofs.Places.{chosen, IsBytes-rest, IsBytes-front, bind_err, reading}
+use Rattle.wasm_bytes.proofs.ExactItems.{fixed_exact}
 use Rattle.wasm_bytes.proofs.ExactBlocks.{end_ok, end_here, none_left, block_sound, block_again}
-use Rattle.wasm_bytes.proofs.Stops.{u32_front, made_err, fixed_stops_at, named_stops_at, leads_stops_at, then_stops_at, mapped_stops_at}
+use Rattle.wasm_bytes.proofs.Stops.{u32_front, made_err, fixed_stops_at, leads_stops_at, then_stops_at, mapped_stops_at}
 
 -- ---- the end of a block
 

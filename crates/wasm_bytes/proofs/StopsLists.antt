@@ -1,13 +1,12 @@
 -- Reading vectors, steps and choices stops at the first of their elements without a reading.
-use Rattle.std.proofs.Common.{◌≡◌, ℕ, zero, suc, ◌+◌, ◌-◌, ◌≤◌, ◌<◌, ◌⊎◌, true, false, cond, ltb, List, [], ◌∷◌, ◌++◌, length, Option, Some, None, Ok, Err, refl, sym, ap, subst, ◌∙◌, inl, inr, append_assoc, arith, length-append}
-use Rattle.std.specs.List.{slice_get}
+use Rattle.std.proofs.Common.{◌≡◌, ℕ, zero, suc, ◌+◌, ◌≤◌, ◌<◌, ◌⊎◌, true, ltb, List, [], ◌∷◌, ◌++◌, length, Option, Some, None, Ok, Err, refl, sym, ap, subst, ◌∙◌, inl, inr, append_assoc, arith, length-append}
 use Rattle.std.proofs.lemmas.Bool.{ltb-true, lt-ltb}
 use Rattle.wasm_bytes.specs.Place.{Place, Read}
-use Rattle.wasm_bytes.specs.Reading.{◌>>=◌, ◌▷◌, u32_item, byte_item, byte_of, picked, choose, items_from, vector_item, until_end, to_end_item, steps_from, steps_until_end, steps_to_end}
-use Rattle.wasm_bytes.specs.Spelling.{◌&◌, byte, u32, items, steps}
-use Rattle.wasm_bytes.specs.Stopping.{unread, either, behind, no_tag, behind_tag, tagged_stops, items_stops, vector_stops, to_end_stops, steps_stops, steps_to_end_stops}
-use Rattle.wasm_bytes.specs.Laws.{IsBytes, place, got, failed, IsExact, StopsAt, TakesBytes, PicksStops}
-use Rattle.wasm_bytes.proofs.Places.{chosen, IsBytes-rest, bind_err}
+use Rattle.wasm_bytes.specs.Reading.{◌>>=◌, u32_item, byte_item, picked, choose, items_from, vector_item, until_end, to_end_item, steps_from, steps_until_end, steps_to_end}
+use Rattle.wasm_bytes.specs.Spelling.{byte, u32, items, steps}
+use Rattle.wasm_bytes.specs.Stopping.{unread, no_tag, tagged_stops, items_stops, vector_stops, to_end_stops, steps_stops, steps_to_end_stops}
+use Rattle.wasm_bytes.specs.Laws.{IsBytes, place, failed, IsExact, StopsAt, TakesBytes, PicksStops}
+use Rattle.wasm_bytes.proofs.Places.{chosen, IsBytes-rest}
 use Rattle.wasm_bytes.proofs.ExactItems.{u32_exact, byte_exact}
 use Rattle.wasm_bytes.proofs.ExactLists.{more_left}
 use Rattle.wasm_bytes.proofs.Loops.{first}

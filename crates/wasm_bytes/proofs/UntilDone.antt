@@ -1,14 +1,13 @@
 -- Steps up to a state in which nothing more is due: what they read, and where they stop.
-use Rattle.std.proofs.Common.{◌≡◌, ℕ, zero, suc, ◌+◌, ◌-◌, ◌≤◌, ◌<◌, ◌⊎◌, Bool, true, false, List, [], ◌∷◌, ◌++◌, length, Ok, Err, refl, sym, ap, subst, ◌∙◌, inl, inr, append_assoc, arith, length-append}
+use Rattle.std.proofs.Common.{◌≡◌, ℕ, zero, suc, ◌+◌, ◌<◌, Bool, true, false, List, [], ◌++◌, length, refl, sym, ap, subst, ◌∙◌, inl, inr, append_assoc, arith, length-append}
 use Rattle.std.proofs.lemmas.List.{append-nil}
 use Rattle.wasm_bytes.specs.Place.{Place, Read}
-use Rattle.wasm_bytes.specs.Reading.{◌>>=◌, steps_while_due, steps_until_done}
-use Rattle.wasm_bytes.specs.Spelling.{◌&◌, steps, due, steps_to_done}
+use Rattle.wasm_bytes.specs.Reading.{steps_while_due, steps_until_done}
+use Rattle.wasm_bytes.specs.Spelling.{steps, due, steps_to_done}
 use Rattle.wasm_bytes.specs.Stopping.{steps_until_done_stops}
 use Rattle.wasm_bytes.specs.Laws.{IsBytes, place, got, failed, Took, IsExact, StopsAt, TakesBytes}
 use Rattle.wasm_bytes.proofs.Places.{chosen, IsBytes-rest, took_is, took_nothing}
 use Rattle.wasm_bytes.proofs.Exact.{first_took, then_took}
-use Rattle.wasm_bytes.proofs.Loops.{none_due}
 use Rattle.wasm_bytes.proofs.Stops.{first_fails}
 use Rattle.wasm_bytes.proofs.StopsLists.{one_more, behind_both}
 

@@ -1,5 +1,5 @@
 -- A place in a block of bytes, and what reading there gives.
-use Rattle.std.specs.Prelude.{ℕ, ◌+◌, ◌<◌, ◌≤◌, ◌≡◌, List, Result}
+use Rattle.std.specs.Prelude.{ℕ, ◌<◌, ◌≤◌, ◌≡◌, List, Result}
 
 -- The block is all bytes of the input up to the block's end, so that a place counts from the input's first byte.
 pub record Place : Type 0 where

@@ -1,7 +1,7 @@
 -- Reading items from left to right (WebAssembly Core 1.0, 5.1 to 5.5): each function gives what stands at a place, and the
 -- place behind it, or the offset of the first item without a reading. The functions here are the parts; what a format
 -- holds is put together of them.
-use Rattle.std.specs.Prelude.{◌≡◌, ℕ, zero, suc, ◌+◌, ◌-◌, List, [], ◌∷◌, length, take, drop, slice_get, Option, Some, None, Result, Ok, Err, ℤ, Bool, nat_le, nat_lt, ◌==◌, if◌then◌else◌}
+use Rattle.std.specs.Prelude.{ℕ, zero, suc, ◌+◌, ◌-◌, List, [], ◌∷◌, length, take, drop, slice_get, Option, Some, None, Result, Ok, Err, ℤ, Bool, nat_le, nat_lt, ◌==◌, if◌then◌else◌}
 use Rattle.std.specs.Str.{is_utf8, bytes_eq}
 use Rattle.wasm_leb.specs.declared.LebFault.{LebFault}
 use Rattle.wasm_leb.specs.Reading.{u32_at, s32_at, s64_at}

@@ -1,6 +1,6 @@
 -- Where reading stops: the offset of the first item without a reading, or of the end of the block where an item is still
 -- due there (WebAssembly Core 1.0, 5.1 to 5.5). The definitions here are the parts, for each way of putting items together.
-use Rattle.std.specs.Prelude.{◌≡◌, ℕ, ◌+◌, ◌<◌, ◌⊎◌, Bool, false, List, [], ◌∷◌, ◌++◌, length}
+use Rattle.std.specs.Prelude.{◌≡◌, ℕ, ◌+◌, ◌<◌, ◌⊎◌, Bool, false, List, ◌∷◌, ◌++◌, length}
 use Rattle.wasm_bytes.specs.Spelling.{Spellings, always, byte, u32, run, items, steps, due}
 
 -- the offset where reading begins, the bytes from there to the end of the block, and the offset where it stops

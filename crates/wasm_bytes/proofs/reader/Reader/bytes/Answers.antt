@@ -1,4 +1,4 @@
-use Rattle.std.proofs.Common.{◌≡◌, ◌∙◌, ℕ, get_or, slice_index_or, refl, arith}
+use Rattle.std.proofs.Common.{◌∙◌, refl, arith}
 use Rattle.std.proofs.lemmas.Result.{err_from_is_err_and}
 use Rattle.wasm_bytes.proofs.Loops.{bytes_on, bytes_fail, bytes_done}
 use Rattle.wasm_bytes.proofs.reader.Reader.bytes.Goals as goal
