@@ -4,3 +4,6 @@ pub mod Steps
 pub mod Values
 pub mod SectionLaws
 pub mod DecodeLaws
+pub mod OnTest
+pub mod ExactEntries
+pub mod ExactSections

@@ -7,3 +7,4 @@ pub mod Sections
 pub mod Decode
 pub mod Noting
 pub mod Gathering
+pub mod Grammar

@@ -1,0 +1,60 @@
+-- A test that chooses between two ways to read.
+use Rattle.std.proofs.Common.{◌≡◌, ℕ, ◌⊎◌, Bool, true, false, List, [], ◌++◌, length, Option, Some, None, Ok, Err, refl, sym, ap, inl, inr, ◌∙◌}
+use Rattle.std.specs.Prelude.{if◌then◌else◌}
+use Rattle.wasm_bytes.specs.Place.{Place, Read}
+use Rattle.wasm_bytes.specs.Reading.{◌>>=◌, ◌▷◌, closed, here_item, end_item}
+use Rattle.wasm_bytes.specs.Laws.{IsBytes, place, got, failed, Took, IsExact, IsTail, StopsAt, PicksExact, TakesBytes}
+use Rattle.wasm_bytes.proofs.Exact.{same_exact}
+use Rattle.wasm_bytes.proofs.ExactBlocks.{same_tail}
+use Rattle.dump_format.specs.Grammar.{on_test, no_spelling}
+
+-- ---- a language by a test
+
+true_again : {A : Type 0} (S T : A → ℕ → List ℕ → Type 0) (x : A) (at : ℕ) (front : List ℕ) → on_test true S T x at front → S x at front
+true_again S T x at front s = elim s [ inl p ↦ p.1 | inr p ↦ absurd cc ]
+
+false_again : {A : Type 0} (S T : A → ℕ → List ℕ → Type 0) (x : A) (at : ℕ) (front : List ℕ) → on_test false S T x at front → T x at front
+false_again S T x at front s = elim s [ inl p ↦ absurd cc | inr p ↦ p.1 ]
+
+pub on_test_exact : {A : Type 0} (b : Bool) (S T : A → ℕ → List ℕ → Type 0) (f g : Place → Read A) → IsExact S f → IsExact T g → IsExact (on_test b S T) (if b then f else g)
+on_test_exact true S T f g e h = same_exact S (on_test true S T) f (λ x at front s. inl (refl, s)) (true_again S T) e
+on_test_exact false S T f g e h = same_exact T (on_test false S T) g (λ x at front s. inr (refl, s)) (false_again S T) h
+
+pub on_test_closed : {A : Type 0} (b : Bool) (S T : A → ℕ → List ℕ → Type 0) (f g : Place → Read A) → IsTail S (closed f) → IsTail T (closed g) → IsTail (on_test b S T) (closed (if b then f else g))
+on_test_closed true S T f g e h = same_tail S (on_test true S T) (closed f) (λ x at front s. inl (refl, s)) (true_again S T) e
+on_test_closed false S T f g e h = same_tail T (on_test false S T) (closed g) (λ x at front s. inr (refl, s)) (false_again S T) h
+
+none_picks : {A : Type 0} (S T : A → ℕ → List ℕ → Type 0) (pick : Option (Place → Read A)) → PicksExact T pick → PicksExact (on_test false S T) pick
+none_picks S T (Some g) h = same_exact T (on_test false S T) g (λ x at front s. inr (refl, s)) (false_again S T) h
+none_picks S T None h = λ x at front s. h x at front (false_again S T x at front s)
+
+pub on_test_picks : {A : Type 0} (b : Bool) (S T : A → ℕ → List ℕ → Type 0) (f : Place → Read A) (pick : Option (Place → Read A)) → IsExact S f → PicksExact T pick → PicksExact (on_test b S T) (if b then Some f else pick)
+on_test_picks true S T f pick e h = same_exact S (on_test true S T) f (λ x at front s. inl (refl, s)) (true_again S T) e
+on_test_picks false S T f pick e h = none_picks S T pick h
+
+pub no_spelling_picks : {A : Type 0} (x : A) (at : ℕ) (front : List ℕ) → no_spelling x at front → ⊥
+no_spelling_picks x at front s = s
+
+-- ---- an item that knows its offset
+
+pub offset_exact : {A : Type 0} (T : ℕ → A → ℕ → List ℕ → Type 0) (g : ℕ → Place → Read A) → ((at : ℕ) → IsExact (T at) (g at)) → IsExact (λ x at. T at x at) (here_item ▷ g)
+offset_exact T g h = record {
+  sound = λ before after x q fits read.
+      let t = (h (length before)).sound before after x q fits read in
+      record { front = t.front; rest = t.rest; is = t.is; parts = t.parts; behind = t.behind; bytes = t.bytes };
+  again = λ before front rest x s. (h (length before)).again before front rest x s;
+}
+
+-- ---- two functions that read the same
+
+pub same_closed : {A : Type 0} (S : A → ℕ → List ℕ → Type 0) (f g : Place → Read A) → ((p : Place) → f p ≡ g p) → IsTail S g → IsTail S f
+same_closed S f g same e = record {
+  sound = λ before after x q fits read. e.sound before after x q fits (sym (same (place before after)) ∙ read);
+  again = λ before after x s. same (place before after) ∙ e.again before after x s;
+}
+
+pub closed-leads : {A B : Type 0} (f : Place → Read A) (g : A → Place → Read B) (p : Place) → closed (f ▷ g) p ≡ (f ▷ (λ x. closed (g x))) p
+closed-leads {A} {B} f g p = cases (f p) where
+  cases : (read : Read A) → ((read >>= λ x. g x.0 x.1) >>= λ y. end_item y.1 >>= λ e. Ok (y.0, e.1)) ≡ (read >>= λ x. g x.0 x.1 >>= λ y. end_item y.1 >>= λ e. Ok (y.0, e.1))
+  cases (Ok x) = refl
+  cases (Err at) = refl
