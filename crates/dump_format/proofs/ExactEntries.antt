@@ -16,10 +16,10 @@ use Rattle.dump_format.specs.declared.dump.Instance.{Instance}
 use Rattle.dump_format.specs.Region.{Region}
 use Rattle.dump_format.specs.Parts.{Shown, known, float, ShownFrame}
 use Rattle.dump_format.specs.Form.{known_i32, known_i64, float_behind, value_behind, value_item, module_item, instance_of, instance_item, place_item, shown_frame_of, frame_item, thread_item, stack_item, limits_behind, limits_item, mutability_item, constant_item, global_i32, global_i64, global_behind, global_item, is_memory, is_inside, region_of, segment_item}
-use Rattle.dump_format.specs.Grammar.{no_spelling, float_bytes, value_tail, value_entry, module_entry, instance_entry, frame_entry, stack_entry, limits_tail, limits_entry, mutability, constant, global_tail, global_entry, segment_entry}
+use Rattle.dump_format.specs.Grammar.{no_spelling, float_bytes, value_tail, value_entry, module_entry, instance_entry, frame_entry, stack_entry, limits_tail, limits_entry, mutability, constant, global_tail, global_entry, segment_body, segment_entry}
 use Rattle.dump_format.proofs.OnTest.{on_test_picks, no_spelling_picks, offset_exact}
 
-float_exact : {A : Type 0} (at width : ℕ) → IsExact {A = Shown A} (float_bytes at width) (float_behind at width)
+pub float_exact : {A : Type 0} (at width : ℕ) → IsExact {A = Shown A} (float_bytes at width) (float_behind at width)
 float_exact at width = image_exact (run width) (λ _. float at) (run_item width) (run_exact width)
 
 -- ---- values
@@ -39,14 +39,14 @@ value_exact = offset_exact (λ at. tagged (value_tail at)) (λ at. choose (value
 
 -- ---- modules, instances and frames
 
-zero_exact : IsExact (always (byte 0x00)) (fixed_item 0x00)
+pub zero_exact : IsExact (always (byte 0x00)) (fixed_item 0x00)
 zero_exact = fixed_exact 0x00
 
 pub module_exact : IsExact module_entry module_item
 unfolding module_item
 module_exact = mapped_exact (pair (always (byte 0x00)) name) module_entry (λ x. x.1) (λ y. (tt, y)) (fixed_item 0x00 ⊗ name_item) (λ y. refl) (λ x at front s. s) (λ y at front s. s) (then_exact (always (byte 0x00)) name (fixed_item 0x00) name_item zero_exact name_exact)
 
-indices_exact : IsExact (vector u32) (vector_item u32_item)
+pub indices_exact : IsExact (vector u32) (vector_item u32_item)
 indices_exact = vector_exact u32 u32_item u32_exact
 
 pub instance_exact : IsExact instance_entry instance_item
@@ -55,11 +55,11 @@ instance_exact =
     mapped_exact (pair (always (byte 0x00)) (pair u32 (pair (vector u32) (vector u32)))) instance_entry instance_of (λ i. (tt, (i.module, (i.memories, i.globals)))) _ (λ i. refl) (λ x at front s. s) (λ i at front s. s)
     (then_exact _ _ _ _ zero_exact (then_exact _ _ _ _ u32_exact (then_exact _ _ _ _ indices_exact indices_exact)))
 
-place_exact : IsExact (pair (always (byte 0x00)) (pair u32 (pair u32 u32))) place_item
+pub place_exact : IsExact (pair (always (byte 0x00)) (pair u32 (pair u32 u32))) place_item
 unfolding place_item
 place_exact = then_exact _ _ _ _ zero_exact (then_exact _ _ _ _ u32_exact (then_exact _ _ _ _ u32_exact u32_exact))
 
-values_exact : IsExact (vector value_entry) (vector_item value_item)
+pub values_exact : IsExact (vector value_entry) (vector_item value_item)
 values_exact = vector_exact value_entry value_item value_exact
 
 pub frame_exact : IsExact frame_entry frame_item
@@ -68,7 +68,7 @@ frame_exact =
     mapped_exact (pair (pair (always (byte 0x00)) (pair u32 (pair u32 u32))) (pair (vector value_entry) (vector value_entry))) frame_entry shown_frame_of (λ f. ((tt, (f.instance, (f.function, f.offset))), (f.locals, f.operands))) _ (λ f. refl) (λ x at front s. s) (λ f at front s. s)
     (then_exact _ _ _ _ place_exact (then_exact _ _ _ _ values_exact values_exact))
 
-thread_exact : IsExact module_entry thread_item
+pub thread_exact : IsExact module_entry thread_item
 unfolding thread_item
 thread_exact = mapped_exact (pair (always (byte 0x00)) name) module_entry (λ x. x.1) (λ y. (tt, y)) (fixed_item 0x00 ⊗ name_item) (λ y. refl) (λ x at front s. s) (λ y at front s. s) (then_exact (always (byte 0x00)) name (fixed_item 0x00) name_item zero_exact name_exact)
 
@@ -100,7 +100,7 @@ pub limits_exact : IsExact limits_entry limits_item
 unfolding limits_item
 limits_exact = choose_exact limits_tail limits_behind limits_picks
 
-mutability_exact : IsExact mutability mutability_item
+pub mutability_exact : IsExact mutability mutability_item
 unfolding mutability_item
 mutability_exact = one_of_exact (λ b. nat_le b 0x01)
 
@@ -121,8 +121,8 @@ global_picks : (at type : ℕ) → PicksExact (global_tail at type) (global_behi
 global_picks at type =
     on_test_picks (type == 0x7f) _ _ _ _ (image_exact (constant 0x41 s32) global_i32 (constant_item 0x41 s32_item) (constant_exact 0x41 s32 s32_item s32_exact))
     (on_test_picks (type == 0x7e) _ _ _ _ (image_exact (constant 0x42 s64) global_i64 (constant_item 0x42 s64_item) (constant_exact 0x42 s64 s64_item s64_exact))
-    (on_test_picks (type == 0x7d) _ _ _ _ (constant_exact 0x43 (float_bytes at 4) (float_behind at 4) (float_exact at 4))
-    (on_test_picks (type == 0x7c) _ _ _ _ (constant_exact 0x44 (float_bytes at 8) (float_behind at 8) (float_exact at 8))
+    (on_test_picks (type == 0x7d) _ _ _ _ (image_exact (constant 0x43 (run 4)) (λ _. float at) (constant_item 0x43 (run_item 4)) (constant_exact 0x43 (run 4) (run_item 4) (run_exact 4)))
+    (on_test_picks (type == 0x7c) _ _ _ _ (image_exact (constant 0x44 (run 8)) (λ _. float at) (constant_item 0x44 (run_item 8)) (constant_exact 0x44 (run 8) (run_item 8) (run_exact 8)))
     no_spelling_picks)))
 
 pub global_exact : IsExact global_entry global_item
@@ -132,23 +132,23 @@ global_exact = offset_exact (λ at. tagged (global_tail at)) (λ at. choose (glo
 abbrev SegmentParts : Type 0
 SegmentParts = ℕ × (Unit {0} × (ℤ × (Unit {0} × List ℕ)))
 
-pub segment_exact : (memory : Option ℕ) → IsExact (segment_entry memory) (segment_item memory)
-unfolding segment_item
-segment_exact memory =
-    same_exact (passing (is_inside memory) (image region_of whole)) (segment_entry memory) (checked (is_inside memory) (mapped region_of parts_item))
-    (λ r at front s. made r at front s.0 s.1.0 s.1.1 s.1.2) (λ r at front s. (s.0, ((s.1, (tt, (s.2, (tt, r.bytes)))), again r s.2 s.3, s.4)))
-    (checked_exact (is_inside memory) (image region_of whole) (mapped region_of parts_item) (image_exact whole region_of parts_item
-      (then_exact _ _ _ _ (checked_exact (is_memory memory) u32 u32_item u32_exact) (then_exact _ _ _ _ (fixed_exact 0x41) (then_exact _ _ _ _ s32_exact (then_exact _ _ _ _ (fixed_exact 0x0b) sized_run_exact))))))
+pub body_exact : (memory : Option ℕ) → IsExact (segment_body memory) (mapped region_of (checked (is_memory memory) u32_item ⊗ fixed_item 0x41 ⊗ s32_item ⊗ fixed_item 0x0b ⊗ sized_run_item))
+body_exact memory =
+    same_exact (image region_of whole) (segment_body memory) (mapped region_of (checked (is_memory memory) u32_item ⊗ fixed_item 0x41 ⊗ s32_item ⊗ fixed_item 0x0b ⊗ sized_run_item))
+    (λ r at front s. made r at front s.0 s.1 s.2) (λ r at front s. ((s.0, (tt, (s.1, (tt, r.bytes)))), again r s.1 s.2, s.3))
+    (image_exact whole region_of (checked (is_memory memory) u32_item ⊗ fixed_item 0x41 ⊗ s32_item ⊗ fixed_item 0x0b ⊗ sized_run_item)
+      (then_exact _ _ _ _ (checked_exact (is_memory memory) u32 u32_item u32_exact) (then_exact _ _ _ _ (fixed_exact 0x41) (then_exact _ _ _ _ s32_exact (then_exact _ _ _ _ (fixed_exact 0x0b) sized_run_exact)))))
   where
   whole : SegmentParts → ℕ → List ℕ → Type 0
   whole = pair (passing (is_memory memory) u32) (pair (always (byte 0x41)) (pair s32 (pair (always (byte 0x0b)) sized_run)))
 
-  parts_item : Place → Read SegmentParts
-  parts_item = checked (is_memory memory) u32_item ⊗ fixed_item 0x41 ⊗ s32_item ⊗ fixed_item 0x0b ⊗ sized_run_item
-
-  made : (r : Region) (at : ℕ) (front : List ℕ) → is_inside memory r ≡ true → (y : SegmentParts) → region_of y ≡ r → whole y at front → segment_entry memory r at front
-  made r at front inside y same s =
-      (inside, y.0, y.1.1.0, ap (λ (q : Region). q.at) same, subst (λ (bytes : List ℕ). (passing (is_memory memory) u32 y.0 & byte 0x41 & s32 y.1.1.0 & byte 0x0b & sized_run bytes) at front) (ap (λ (q : Region). q.bytes) same) s)
+  made : (r : Region) (at : ℕ) (front : List ℕ) (y : SegmentParts) → region_of y ≡ r → whole y at front → segment_body memory r at front
+  made r at front y same s =
+      (y.0, y.1.1.0, ap (λ (q : Region). q.at) same, subst (λ (bytes : List ℕ). (passing (is_memory memory) u32 y.0 & byte 0x41 & s32 y.1.1.0 & byte 0x0b & sized_run bytes) at front) (ap (λ (q : Region). q.bytes) same) s)
 
   again : (r : Region) (address : ℤ) → cast_unsigned w32 address ≡ r.at → (let q : Region = record { at = cast_unsigned w32 address; bytes = r.bytes } in q ≡ r)
   again r address e = ap (λ (n : ℕ). let q : Region = record { at = n; bytes = r.bytes } in q) e
+
+pub segment_exact : (memory : Option ℕ) → IsExact (segment_entry memory) (segment_item memory)
+unfolding segment_item
+segment_exact memory = checked_exact (is_inside memory) (segment_body memory) _ (body_exact memory)

@@ -71,7 +71,7 @@ sections_tail =
     mapped_tail (pair (always (text header)) (some_steps one_section [])) sections (λ x. x.1) (λ ps. (tt, ps)) (bytes_item header ⊗ steps_to_end with_section []) (λ ps. refl) (λ x at front s. s) (λ ps at front s. s)
     (then_tail _ _ _ _ (text_exact header) steps_tail)
 
-parts_tail : IsTail dump_file parts_item
+pub parts_tail : IsTail dump_file parts_item
 unfolding parts_item
 parts_tail = complete_tail has_core sections sections_item sections_tail
 

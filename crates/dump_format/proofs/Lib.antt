@@ -7,3 +7,5 @@ pub mod DecodeLaws
 pub mod OnTest
 pub mod ExactEntries
 pub mod ExactSections
+pub mod StopsEntries
+pub mod StopsSections

@@ -3,10 +3,12 @@ use Rattle.std.proofs.Common.{◌≡◌, ℕ, ◌⊎◌, Bool, true, false, List
 use Rattle.std.specs.Prelude.{if◌then◌else◌}
 use Rattle.wasm_bytes.specs.Place.{Place, Read}
 use Rattle.wasm_bytes.specs.Reading.{◌>>=◌, ◌▷◌, closed, here_item, end_item}
-use Rattle.wasm_bytes.specs.Laws.{IsBytes, place, got, failed, Took, IsExact, IsTail, StopsAt, PicksExact, TakesBytes}
+use Rattle.wasm_bytes.specs.Laws.{IsBytes, place, got, failed, Took, IsExact, IsTail, StopsAt, PicksExact, PicksStops}
 use Rattle.wasm_bytes.proofs.Exact.{same_exact}
 use Rattle.wasm_bytes.proofs.ExactBlocks.{same_tail}
+use Rattle.wasm_bytes.proofs.Stops.{same_stops_at}
 use Rattle.dump_format.specs.Grammar.{on_test, no_spelling}
+use Rattle.dump_format.specs.Breaking.{stops_on_test, or_else}
 
 -- ---- a language by a test
 
@@ -58,3 +60,35 @@ closed-leads {A} {B} f g p = cases (f p) where
   cases : (read : Read A) → ((read >>= λ x. g x.0 x.1) >>= λ y. end_item y.1 >>= λ e. Ok (y.0, e.1)) ≡ (read >>= λ x. g x.0 x.1 >>= λ y. end_item y.1 >>= λ e. Ok (y.0, e.1))
   cases (Ok x) = refl
   cases (Err at) = refl
+
+-- ---- where reading stops
+
+true_stops : (s t : ℕ → List ℕ → ℕ → Type 0) (at : ℕ) (bytes : List ℕ) (o : ℕ) → stops_on_test true s t at bytes o → s at bytes o
+true_stops s t at bytes o x = elim x [ inl p ↦ p.1 | inr p ↦ absurd cc ]
+
+false_stops : (s t : ℕ → List ℕ → ℕ → Type 0) (at : ℕ) (bytes : List ℕ) (o : ℕ) → stops_on_test false s t at bytes o → t at bytes o
+false_stops s t at bytes o x = elim x [ inl p ↦ absurd cc | inr p ↦ p.1 ]
+
+pub on_test_stops : {A : Type 0} (b : Bool) (s t : ℕ → List ℕ → ℕ → Type 0) (f g : Place → Read A) → StopsAt s (closed f) → StopsAt t (closed g) → StopsAt (stops_on_test b s t) (closed (if b then f else g))
+on_test_stops true s t f g e h = same_stops_at s (stops_on_test true s t) (closed f) (λ at bytes o x. inl (refl, x)) (true_stops s t) e
+on_test_stops false s t f g e h = same_stops_at t (stops_on_test false s t) (closed g) (λ at bytes o x. inr (refl, x)) (false_stops s t) h
+
+none_stops : {A : Type 0} (P : Type 0) (s t : ℕ → List ℕ → ℕ → Type 0) (pick : Option (Place → Read A)) → PicksStops P t pick → PicksStops (or_else false P) (stops_on_test false s t) pick
+none_stops P s t (Some g) h = (inr (refl, h.0), same_stops_at t (stops_on_test false s t) g (λ at bytes o x. inr (refl, x)) (false_stops s t) h.1)
+none_stops P s t None h = λ x. elim x [ inl e ↦ absurd cc | inr p ↦ h p.1 ]
+
+pub picks_stops : {A : Type 0} (b : Bool) (P : Type 0) (s t : ℕ → List ℕ → ℕ → Type 0) (f : Place → Read A) (pick : Option (Place → Read A)) → StopsAt s f → PicksStops P t pick → PicksStops (or_else b P) (stops_on_test b s t) (if b then Some f else pick)
+picks_stops true P s t f pick e h = (inl refl, same_stops_at s (stops_on_test true s t) f (λ at bytes o x. inl (refl, x)) (true_stops s t) e)
+picks_stops false P s t f pick e h = none_stops P s t pick h
+
+pub offset_stops : {A : Type 0} (s : ℕ → List ℕ → ℕ → Type 0) (g : ℕ → Place → Read A) → ((at : ℕ) → StopsAt s (g at)) → StopsAt s (here_item ▷ g)
+offset_stops s g h = record {
+  only = λ before after o fits read. (h (length before)).only before after o fits read;
+  again = λ before after o fits stops. (h (length before)).again before after o fits stops;
+}
+
+pub same_item_stops : {A : Type 0} (s : ℕ → List ℕ → ℕ → Type 0) (f g : Place → Read A) → ((p : Place) → f p ≡ g p) → StopsAt s g → StopsAt s f
+same_item_stops s f g same e = record {
+  only = λ before after o fits read. e.only before after o fits (sym (same (place before after)) ∙ read);
+  again = λ before after o fits stops. same (place before after) ∙ e.again before after o fits stops;
+}

@@ -95,8 +95,8 @@ abbrev pub global_behind : ℕ → ℕ → Option (Place → Read (Shown Value))
 global_behind at type =
     if type == 0x7f then Some (mapped global_i32 (constant_item 0x41 s32_item))
     else (if type == 0x7e then Some (mapped global_i64 (constant_item 0x42 s64_item))
-    else (if type == 0x7d then Some (constant_item 0x43 (float_behind at 4))
-    else (if type == 0x7c then Some (constant_item 0x44 (float_behind at 8))
+    else (if type == 0x7d then Some (mapped (λ _. float at) (constant_item 0x43 (run_item 4)))
+    else (if type == 0x7c then Some (mapped (λ _. float at) (constant_item 0x44 (run_item 8)))
     else None)))
 
 unfoldable pub global_item : Place → Read (Shown Value)

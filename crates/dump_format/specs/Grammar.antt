@@ -80,18 +80,22 @@ abbrev pub global_tail : ℕ → ℕ → Shown Value → Spellings
 global_tail at type =
     on_test (type == 0x7f) (image global_i32 (constant 0x41 s32))
     (on_test (type == 0x7e) (image global_i64 (constant 0x42 s64))
-    (on_test (type == 0x7d) (constant 0x43 (float_bytes at 4))
-    (on_test (type == 0x7c) (constant 0x44 (float_bytes at 8))
+    (on_test (type == 0x7d) (image (λ _. float at) (constant 0x43 (run 4)))
+    (on_test (type == 0x7c) (image (λ _. float at) (constant 0x44 (run 8)))
     no_spelling)))
 
 abbrev pub global_entry : Shown Value → Spellings
 global_entry x at = tagged (global_tail at) x at
 
--- a segment inside the memory, where that has so many pages
-abbrev pub segment_entry : Option ℕ → Region → Spellings
-segment_entry memory r at bytes =
-    (is_inside memory r ≡ true) × (index : ℕ) × (address : ℤ) × (cast_unsigned w32 address ≡ r.at)
+-- a segment of a memory that has so many pages
+abbrev pub segment_body : Option ℕ → Region → Spellings
+segment_body memory r at bytes =
+    (index : ℕ) × (address : ℤ) × (cast_unsigned w32 address ≡ r.at)
     × (passing (is_memory memory) u32 index & byte 0x41 & s32 address & byte 0x0b & sized_run r.bytes) at bytes
+
+-- It lies inside the memory.
+abbrev pub segment_entry : Option ℕ → Region → Spellings
+segment_entry memory = passing (is_inside memory) (segment_body memory)
 
 -- ---- sections
 

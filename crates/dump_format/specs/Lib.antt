@@ -8,3 +8,4 @@ pub mod Decode
 pub mod Noting
 pub mod Gathering
 pub mod Grammar
+pub mod Breaking
