@@ -79,8 +79,8 @@ stack_exact =
     (λ x at front s. behind x at front s.0 s.1 s.2) (λ x at front s. ((s.0, x), refl, s.1))
     (image_exact (pair module_entry (vector frame_entry)) (λ x. x.1) (thread_item ⊗ vector_item frame_item) (then_exact _ _ _ _ thread_exact (vector_exact frame_entry frame_item frame_exact)))
   where
-  behind : (x : List ShownFrame) (at : ℕ) (front : List ℕ) (y : List ℕ × List ShownFrame) → y.1 ≡ x → pair module_entry (vector frame_entry) y at front → stack_entry x at front
-  behind x at front y e s = (y.0, subst (λ (z : List ShownFrame). (module_entry y.0 & vector frame_entry z) at front) e s)
+    behind : (x : List ShownFrame) (at : ℕ) (front : List ℕ) (y : List ℕ × List ShownFrame) → y.1 ≡ x → pair module_entry (vector frame_entry) y at front → stack_entry x at front
+    behind x at front y e s = (y.0, subst (λ (z : List ShownFrame). (module_entry y.0 & vector frame_entry z) at front) e s)
 
 -- ---- memories, globals and segments
 
@@ -88,13 +88,13 @@ limits_picks : (flag : ℕ) → PicksExact (limits_tail flag) (limits_behind fla
 limits_picks flag =
     on_test_picks (flag == 0x00) _ _ _ _ u32_exact
     (on_test_picks (flag == 0x01) _ _ _ _
-      (same_exact (image (λ x. x.0) (pair u32 u32)) (λ least at bytes. (greatest : ℕ) × (u32 least & u32 greatest) at bytes) (mapped (λ x. x.0) (u32_item ⊗ u32_item))
-        (λ x at front s. least x at front s.0 s.1 s.2) (λ x at front s. ((x, s.0), refl, s.1))
-        (image_exact (pair u32 u32) (λ x. x.0) (u32_item ⊗ u32_item) (then_exact _ _ _ _ u32_exact u32_exact)))
+    (same_exact (image (λ x. x.0) (pair u32 u32)) (λ least at bytes. (greatest : ℕ) × (u32 least & u32 greatest) at bytes) (mapped (λ x. x.0) (u32_item ⊗ u32_item))
+    (λ x at front s. least x at front s.0 s.1 s.2) (λ x at front s. ((x, s.0), refl, s.1))
+    (image_exact (pair u32 u32) (λ x. x.0) (u32_item ⊗ u32_item) (then_exact _ _ _ _ u32_exact u32_exact)))
     no_spelling_picks)
   where
-  least : (x at : ℕ) (front : List ℕ) (y : ℕ × ℕ) → y.0 ≡ x → pair u32 u32 y at front → (greatest : ℕ) × (u32 x & u32 greatest) at front
-  least x at front y e s = (y.1, subst (λ (n : ℕ). (u32 n & u32 y.1) at front) e s)
+    least : (x at : ℕ) (front : List ℕ) (y : ℕ × ℕ) → y.0 ≡ x → pair u32 u32 y at front → (greatest : ℕ) × (u32 x & u32 greatest) at front
+    least x at front y e s = (y.1, subst (λ (n : ℕ). (u32 n & u32 y.1) at front) e s)
 
 pub limits_exact : IsExact limits_entry limits_item
 unfolding limits_item
@@ -111,11 +111,11 @@ constant_exact {A} opcode S f e =
     (λ x at front s. made x at front s.0 s.1 s.2) (λ x at front s. ((s.0, (tt, (x, tt))), refl, s.1))
     (image_exact whole (λ x. x.1.1.0) (mutability_item ⊗ fixed_item opcode ⊗ f ⊗ fixed_item 0x0b) (then_exact _ _ _ _ mutability_exact (then_exact _ _ _ _ (fixed_exact opcode) (then_exact _ _ _ _ e (fixed_exact 0x0b)))))
   where
-  whole : ℕ × (Unit {0} × (A × Unit {0})) → ℕ → List ℕ → Type 0
-  whole = pair mutability (pair (always (byte opcode)) (pair S (always (byte 0x0b))))
+    whole : ℕ × (Unit {0} × (A × Unit {0})) → ℕ → List ℕ → Type 0
+    whole = pair mutability (pair (always (byte opcode)) (pair S (always (byte 0x0b))))
 
-  made : (x : A) (at : ℕ) (front : List ℕ) (y : ℕ × (Unit {0} × (A × Unit {0}))) → y.1.1.0 ≡ x → whole y at front → constant opcode S x at front
-  made x at front y same s = (y.0, subst (λ (z : A). (mutability y.0 & byte opcode & S z & byte 0x0b) at front) same s)
+    made : (x : A) (at : ℕ) (front : List ℕ) (y : ℕ × (Unit {0} × (A × Unit {0}))) → y.1.1.0 ≡ x → whole y at front → constant opcode S x at front
+    made x at front y same s = (y.0, subst (λ (z : A). (mutability y.0 & byte opcode & S z & byte 0x0b) at front) same s)
 
 global_picks : (at type : ℕ) → PicksExact (global_tail at type) (global_behind at type)
 global_picks at type =
@@ -137,17 +137,17 @@ body_exact memory =
     same_exact (image region_of whole) (segment_body memory) (mapped region_of (checked (is_memory memory) u32_item ⊗ fixed_item 0x41 ⊗ s32_item ⊗ fixed_item 0x0b ⊗ sized_run_item))
     (λ r at front s. made r at front s.0 s.1 s.2) (λ r at front s. ((s.0, (tt, (s.1, (tt, r.bytes)))), again r s.1 s.2, s.3))
     (image_exact whole region_of (checked (is_memory memory) u32_item ⊗ fixed_item 0x41 ⊗ s32_item ⊗ fixed_item 0x0b ⊗ sized_run_item)
-      (then_exact _ _ _ _ (checked_exact (is_memory memory) u32 u32_item u32_exact) (then_exact _ _ _ _ (fixed_exact 0x41) (then_exact _ _ _ _ s32_exact (then_exact _ _ _ _ (fixed_exact 0x0b) sized_run_exact)))))
+    (then_exact _ _ _ _ (checked_exact (is_memory memory) u32 u32_item u32_exact) (then_exact _ _ _ _ (fixed_exact 0x41) (then_exact _ _ _ _ s32_exact (then_exact _ _ _ _ (fixed_exact 0x0b) sized_run_exact)))))
   where
-  whole : SegmentParts → ℕ → List ℕ → Type 0
-  whole = pair (passing (is_memory memory) u32) (pair (always (byte 0x41)) (pair s32 (pair (always (byte 0x0b)) sized_run)))
+    whole : SegmentParts → ℕ → List ℕ → Type 0
+    whole = pair (passing (is_memory memory) u32) (pair (always (byte 0x41)) (pair s32 (pair (always (byte 0x0b)) sized_run)))
 
-  made : (r : Region) (at : ℕ) (front : List ℕ) (y : SegmentParts) → region_of y ≡ r → whole y at front → segment_body memory r at front
-  made r at front y same s =
-      (y.0, y.1.1.0, ap (λ (q : Region). q.at) same, subst (λ (bytes : List ℕ). (passing (is_memory memory) u32 y.0 & byte 0x41 & s32 y.1.1.0 & byte 0x0b & sized_run bytes) at front) (ap (λ (q : Region). q.bytes) same) s)
+    made : (r : Region) (at : ℕ) (front : List ℕ) (y : SegmentParts) → region_of y ≡ r → whole y at front → segment_body memory r at front
+    made r at front y same s =
+        (y.0, y.1.1.0, ap (λ (q : Region). q.at) same, subst (λ (bytes : List ℕ). (passing (is_memory memory) u32 y.0 & byte 0x41 & s32 y.1.1.0 & byte 0x0b & sized_run bytes) at front) (ap (λ (q : Region). q.bytes) same) s)
 
-  again : (r : Region) (address : ℤ) → cast_unsigned w32 address ≡ r.at → (let q : Region = record { at = cast_unsigned w32 address; bytes = r.bytes } in q ≡ r)
-  again r address e = ap (λ (n : ℕ). let q : Region = record { at = n; bytes = r.bytes } in q) e
+    again : (r : Region) (address : ℤ) → cast_unsigned w32 address ≡ r.at → (let q : Region = record { at = cast_unsigned w32 address; bytes = r.bytes } in q ≡ r)
+    again r address e = ap (λ (n : ℕ). let q : Region = record { at = n; bytes = r.bytes } in q) e
 
 pub segment_exact : (memory : Option ℕ) → IsExact (segment_entry memory) (segment_item memory)
 unfolding segment_item

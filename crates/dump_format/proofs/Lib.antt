@@ -9,3 +9,4 @@ pub mod ExactEntries
 pub mod ExactSections
 pub mod StopsEntries
 pub mod StopsSections
+pub mod Meanings

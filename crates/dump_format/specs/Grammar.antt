@@ -14,7 +14,6 @@ use Rattle.dump_format.specs.Form.{known_i32, known_i64, global_i32, global_i64,
 use Rattle.dump_format.specs.Judged.{last_id, memory_of}
 use Rattle.dump_format.specs.Sections.{may_follow, header, has_core}
 
-
 -- the one language where the test holds, the other one where it does not
 abbrev pub on_test : {A : Type 0} → Bool → (A → Spellings) → (A → Spellings) → A → Spellings
 on_test b S T x at bytes = ((b ≡ true) × S x at bytes) ⊎ ((b ≡ false) × T x at bytes)

@@ -9,3 +9,4 @@ pub mod Noting
 pub mod Gathering
 pub mod Grammar
 pub mod Breaking
+pub mod Meaning
