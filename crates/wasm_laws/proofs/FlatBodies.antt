@@ -5,13 +5,12 @@ use Rattle.wasm_syntax.specs.declared.blocks.BlockKind.{BlockKind}
 use Rattle.wasm_syntax.specs.declared.blocks.BlockKind.TheVariants.{Loop, Then}
 use Rattle.wasm_syntax.specs.declared.blocks.BlockKind.TheVariants as kinds
 use Rattle.wasm_syntax.specs.declared.value.ValType.{ValType}
-use Rattle.wasm_syntax.specs.declared.value.ValType.TheVariants.{I32}
 use Rattle.wasm_syntax.specs.declared.parts.FuncType.{FuncType}
 use Rattle.wasm_syntax.specs.declared.parts.Body.{Body}
 use Rattle.wasm_syntax.specs.declared.module.ModuleParts.{ModuleParts as Module}
-use Rattle.wasm_syntax.specs.Tree.{Jump, Item, Plain, Goes, Opens, OpensLoop, OpensIf, Else, End, Nodes, stop, basic, jump, block, loop, choose, Placed, placed, write, else_out, HasElse, IsTree}
-use Rattle.wasm_syntax.specs.Typing.{Context, Types, BasicTypes, JumpTypes, body_context, IsBody, BeginsBody, closing, closing_of, open_next, open_behind}
-use Rattle.wasm_syntax.specs.FlatTyping.{OpenBlock, opened, label_of, label_types, inside, given, MayEnd, FlatStep, FlatTypes, body_block}
+use Rattle.wasm_syntax.specs.Tree.{Item, Plain, Goes, Opens, OpensLoop, OpensIf, Else, End, Nodes, stop, basic, jump, block, loop, choose, Placed, placed, write, else_out, HasElse, IsTree}
+use Rattle.wasm_syntax.specs.Typing.{Context, Types, body_context, IsBody, BeginsBody, closing, closing_of, open_behind}
+use Rattle.wasm_syntax.specs.FlatTyping.{OpenBlock, opened, inside, given, MayEnd, FlatStep, FlatTypes, body_block}
 use Rattle.wasm_laws.proofs.FlatSteps.{steps_split, steps_join, opens, opens_steps, closes}
 
 -- ---- a tree's steps

@@ -1,17 +1,13 @@
 -- Flat steps one behind another, and their closing.
 use Rattle.std.proofs.Common.{◌≡◌, List, [], ◌∷◌, ◌++◌, map, refl, sym, ap, subst, ◌∙◌}
-use Rattle.std.specs.Prelude.{Option, None, option_to_list}
+use Rattle.std.specs.Prelude.{Option, option_to_list}
 use Rattle.wasm_syntax.specs.declared.blocks.BlockKind.{BlockKind}
 use Rattle.wasm_syntax.specs.declared.blocks.BlockKind.TheVariants.{Loop, Then}
 use Rattle.wasm_syntax.specs.declared.blocks.BlockKind.TheVariants as kinds
 use Rattle.wasm_syntax.specs.declared.value.ValType.{ValType}
-use Rattle.wasm_syntax.specs.declared.value.ValType.TheVariants.{I32}
-use Rattle.wasm_syntax.specs.declared.parts.FuncType.{FuncType}
-use Rattle.wasm_syntax.specs.declared.parts.Body.{Body}
-use Rattle.wasm_syntax.specs.declared.module.ModuleParts.{ModuleParts as Module}
-use Rattle.wasm_syntax.specs.Tree.{Jump, Item, Plain, Goes, Opens, OpensLoop, OpensIf, Else, End, Nodes, stop, basic, jump, block, loop, choose, Placed, placed, write, else_out, HasElse, IsTree}
-use Rattle.wasm_syntax.specs.Typing.{Context, Types, BasicTypes, JumpTypes, body_context, IsBody, BeginsBody, closing, closing_of, open_next, open_behind}
-use Rattle.wasm_syntax.specs.FlatTyping.{OpenBlock, opened, label_of, label_types, inside, given, MayEnd, FlatStep, FlatTypes, body_block}
+use Rattle.wasm_syntax.specs.Tree.{Item, Plain, Goes, Opens, OpensLoop, OpensIf, Else, End, Placed}
+use Rattle.wasm_syntax.specs.Typing.{Context, closing_of, open_next, open_behind}
+use Rattle.wasm_syntax.specs.FlatTyping.{OpenBlock, opened, given, FlatStep, FlatTypes}
 
 pub steps_split : (c : Context) (ps qs : List Placed) (gs hs : List OpenBlock) → FlatTypes c gs (ps ++ qs) hs → (between : List OpenBlock) × FlatTypes c gs ps between × FlatTypes c between qs hs
 steps_split c [] qs gs hs h = (gs, refl, h)

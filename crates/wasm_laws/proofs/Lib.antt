@@ -10,3 +10,6 @@ pub mod LiteralTyping
 pub mod FlatSteps
 pub mod FlatBodies
 pub mod Live
+pub mod RowModules
+pub mod Rows
+pub mod RowsValid

@@ -1,14 +1,11 @@
 -- The typing as a relation with one case per instruction, one for sequences and one that adds equal types below: the same.
-use Rattle.std.proofs.Common.{◌≡◌, ℕ, List, [], ◌∷◌, ◌++◌, reverse, length, refl, sym, subst}
+use Rattle.std.proofs.Common.{◌≡◌, ℕ, List, [], ◌∷◌, ◌++◌, reverse, refl, sym, subst}
 use Rattle.std.proofs.lemmas.List.{append-nil}
-use Rattle.std.specs.Prelude.{Option, Some, option_to_list, slice_get, ◌≤◌, ◌↔◌}
+use Rattle.std.specs.Prelude.{option_to_list, ◌↔◌}
 use Rattle.wasm_syntax.specs.declared.value.ValType.{ValType}
 use Rattle.wasm_syntax.specs.declared.value.ValType.TheVariants.{I32}
-use Rattle.wasm_syntax.specs.declared.instruction.Basic.{Basic}
-use Rattle.wasm_syntax.specs.declared.parts.FuncType.{FuncType}
-use Rattle.wasm_syntax.specs.Module.{type_at}
 use Rattle.wasm_syntax.specs.Tree.{Jump, Unreachable, Br, BrIf, BrTable, Return, Call, CallIndirect, Nodes, stop, basic, jump, block, loop, choose}
-use Rattle.wasm_syntax.specs.Typing.{Context, Arrow, ◌⇒◌, Above, arrow, JumpTypes, Types, within, IsLabel, AreLabels, call_arrow}
+use Rattle.wasm_syntax.specs.Typing.{Context, Arrow, ◌⇒◌, Above, JumpTypes, Types, within, call_arrow}
 use Rattle.wasm_laws.specs.Literal.{Has, empty, sequence, below, has_basic, has_unreachable, has_br, has_br_if, has_br_table, has_return, has_call, has_call_indirect, has_block, has_loop, has_if}
 use Rattle.wasm_laws.proofs.Weaken.{weaken, joined}
 

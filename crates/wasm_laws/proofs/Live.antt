@@ -1,5 +1,5 @@
 -- The operand types before a live instruction are unique.
-use Rattle.std.proofs.Common.{◌≡◌, ℕ, zero, suc, ◌+◌, ◌<◌, ◌≤◌, List, [], ◌∷◌, ◌++◌, ◌⊎◌, inl, inr, map, length, reverse, slice_get, Option, Some, None, refl, sym, ap, ap₂, subst, ◌∙◌, arith}
+use Rattle.std.proofs.Common.{◌≡◌, ℕ, suc, ◌<◌, ◌≤◌, List, [], ◌∷◌, ◌++◌, inl, inr, length, reverse, Option, Some, None, refl, sym, ap, ap₂, subst, ◌∙◌, arith}
 use Rattle.std.specs.Prelude.{option_to_list}
 use Rattle.wasm_syntax.specs.declared.value.ValType.{ValType}
 use Rattle.wasm_syntax.specs.declared.value.ValType.TheVariants.{I32}
@@ -10,10 +10,9 @@ use Rattle.wasm_syntax.specs.declared.parts.FuncType.{FuncType}
 use Rattle.wasm_syntax.specs.declared.parts.Body.{Body}
 use Rattle.wasm_syntax.specs.declared.module.ModuleParts.{ModuleParts as Module}
 use Rattle.wasm_syntax.specs.Module.{Ascend, InOrder}
-use Rattle.wasm_syntax.specs.Tree.{Jump, Unreachable, Br, BrIf, BrTable, Return, Call, CallIndirect, Nodes, stop, basic, jump, block, loop, choose, Tree, Placed, placed, Else, End, write, else_out, HasElse, IsTree, WritesOut, code_of}
+use Rattle.wasm_syntax.specs.Tree.{Jump, Unreachable, Br, BrIf, BrTable, Return, Call, CallIndirect, Nodes, stop, basic, jump, block, loop, choose, Placed, placed, Else, End, write, IsTree, code_of}
 use Rattle.wasm_syntax.specs.Typing.{Context, Arrow, ◌⇒◌, Above, BasicTypes, arrow, JumpTypes, within, body_context}
 use Rattle.wasm_syntax.specs.Machine.{offset_in}
-use Rattle.wasm_syntax.specs.Effect.{takes}
 use Rattle.wasm_syntax.specs.Static.{Spot, spot, goes_on, Live, IsNode, LiveAt, Static}
 use Rattle.wasm_laws.proofs.Progress.{head, tail, takes_len}
 use Rattle.wasm_laws.proofs.Unique.{one_tree}

@@ -1,41 +1,23 @@
 -- No run of a well-typed program gets stuck.
-use Rattle.std.proofs.Common.{◌≡◌, ℕ, zero, suc, ◌+◌, ◌-◌, ◌/◌, ◌≤◌, ◌==◌, Bool, true, false, ◌&&◌, nat_lt, List, [], ◌∷◌, ◌++◌, map, reverse, length, slice_get, slice_set, if◌then◌else◌, Option, Some, None, option_map, option_to_list, unwrap_or, Result, Ok, Err, refl, sym, ap, ap₂, ◌∙◌, subst, subst₂, arith, append_assoc, append-nil, ltb-true}
-use Rattle.std.proofs.lemmas.List.{map-append, reverse-append, reverse-reverse, length-reverse}
-use Rattle.std.specs.List.{AllByRecursion}
+use Rattle.std.proofs.Common.{◌≡◌, ℕ, zero, suc, Bool, true, false, List, [], ◌∷◌, ◌++◌, if◌then◌else◌, Option, Some, None, option_map, option_to_list, refl, sym, ap, ap₂, ◌∙◌, subst}
 use Rattle.wasm_syntax.specs.declared.value.ValType.{ValType}
 use Rattle.wasm_syntax.specs.declared.value.ValType.TheVariants.{I32, I64}
 use Rattle.wasm_syntax.specs.declared.value.Value.{Value}
-use Rattle.wasm_syntax.specs.declared.value.Value.TheVariants as values
-use Rattle.wasm_syntax.specs.declared.operators.ArithTrap.{ArithTrap}
-use Rattle.wasm_syntax.specs.declared.instruction.Basic.{Basic}
-use Rattle.wasm_syntax.specs.declared.instruction.Basic.TheVariants.{Nop, Drop, Select, LocalGet, LocalSet, LocalTee, GlobalGet, GlobalSet, Load, Store, MemorySize, MemoryGrow, MemoryCopy, MemoryFill, Const, Eqz, Unary, Compare, Binary, Convert, Extend32, Extend64}
 use Rattle.wasm_syntax.specs.declared.parts.FuncType.{FuncType}
-use Rattle.wasm_syntax.specs.declared.parts.Body.{Body}
-use Rattle.wasm_syntax.specs.declared.parts.Limits.{Limits}
-use Rattle.wasm_syntax.specs.declared.parts.Import.{Import}
-use Rattle.wasm_syntax.specs.declared.parts.Global.{Global}
-use Rattle.wasm_syntax.specs.Numbers.{type_of, types, same_type, value, number, bool_number, unary, compare, binary, convert, convert_from, convert_to}
-use Rattle.wasm_syntax.specs.Memory.{Memory, pages, load, put, grow, copy, fill, to_bytes}
-use Rattle.wasm_syntax.specs.Access.{load_type, load_bits, loaded, store_type, store_bits}
-use Rattle.wasm_syntax.specs.Tree.{Jump, Unreachable, Br, BrIf, BrTable, Return, Call, CallIndirect, Nodes, stop, basic, jump, block, loop, choose, Tree}
-use Rattle.wasm_syntax.specs.Module.{Program, Function, imported, defined, function_at, type_at, declared_locals, same_types, same_functype, option_then}
-use Rattle.wasm_syntax.specs.declared.module.ModuleParts.{ModuleParts as Module}
+use Rattle.wasm_syntax.specs.Numbers.{types}
+use Rattle.wasm_syntax.specs.Module.{Program, Function, imported, defined, function_at, type_at, declared_locals, same_types}
 use Rattle.wasm_syntax.specs.declared.host.HostCall.{HostCall}
-use Rattle.wasm_syntax.specs.declared.host.Write.{Write}
 use Rattle.wasm_syntax.specs.declared.host.Reply.{Reply}
 use Rattle.wasm_syntax.specs.declared.host.CollectorCall.{CollectorCall}
-use Rattle.wasm_syntax.specs.Host.{World, Answer, replied, told, silent, misfit, answer, told_or, served_by, if_fits, if_written, after_writes, fits_type, collector_of, if_none}
-use Rattle.wasm_syntax.specs.Host as hosts
-use Rattle.wasm_syntax.specs.Effect.{Effect, gives, fails, unfit, effect, takes, with_globals, with_memory, address}
-use Rattle.wasm_syntax.specs.Effect as effects
-use Rattle.wasm_syntax.specs.Machine.{Kind, leaves, again, returns, Label, Frame, Config, label, frame, config, Engine, Stepped, next, ends, traps, no_reply, bad_reply, stuck, Cut, short, parts, one_more, cut, if_so, top, exactly, Went, inside, outside, nowhere, arrive, arrive_some, out_some, leave, loops, land, branch, carried_by, carry, same_result, same_carry, pick, else_or, zero_of, zeros, first, result_of, function_type, entered, host_call, goes_to, deliver, moved, host, enters, applied, applied_if, calls_on, calls, trapped, calls_if, fits_entry, calls_entry, calls_typed, calls_indirect, branch_if, moved_if, branch_table, jumps, affects, does, opens_arm, chooses, runs, in_frame, steps, step}
-use Rattle.wasm_syntax.specs.Typing.{Context, Arrow, ◌⇒◌, Above, OnTop, BasicTypes, arrow, set_global, only_if, if_any, IsLabel, AreLabels, call_arrow, JumpTypes, within, Types, body_context}
-use Rattle.std.proofs.Common.{◌≢◌, not}
+use Rattle.wasm_syntax.specs.Host.{World, Answer, replied, told, silent, misfit, answer}
+use Rattle.wasm_syntax.specs.Machine.{Config, config, Engine, Stepped, next, ends, traps, no_reply, bad_reply, stuck, zeros, result_of, function_type, entered, host_call, step}
+use Rattle.wasm_syntax.specs.Typing.{Types, body_context}
+use Rattle.std.proofs.Common.{◌≢◌}
 use Rattle.wasm_syntax.specs.Module.{function_export}
-use Rattle.wasm_syntax.specs.Run.{Ended, ended, run_on, run_steps, host_alone, run_alone, run_function, Outcome, not_started, finished, trapped as trapped_, lacks_reply, misfits, running, got_stuck, Ran, ran, ran_to, run_entry, go_on, invoked, engine, start_world, Cause, or_else, cause_of_entry, cause_of_segments, if_fits as entry_fits, goes_on, fresh, session, unless, run, cause_of, Invocation}
+use Rattle.wasm_syntax.specs.Run.{run_on, run_steps, host_alone, run_alone, run_function, Outcome, got_stuck, Ran, ran_to, run_entry, go_on, invoked, engine, start_world, Cause, or_else, cause_of_entry, if_fits as entry_fits, goes_on, fresh, session, unless, run, cause_of, Invocation}
 use Rattle.wasm_laws.specs.Runs.{NoneStuck}
 use Rattle.wasm_laws.proofs.Progress.{types_append, zero_types, WorldFine}
-use Rattle.wasm_laws.proofs.Safe.{end_type, at_labels, FrameFine, FramesFine, SteppedFine, Typed, step_fine, one_result, AnswerFine, answer_fine}
+use Rattle.wasm_laws.proofs.Safe.{FramesFine, SteppedFine, Typed, step_fine, one_result, AnswerFine, answer_fine}
 
 -- a well-typed program whose instance starts well
 pub record Startable (p : Program) : Type 0 where

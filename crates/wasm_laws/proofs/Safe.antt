@@ -1,22 +1,16 @@
 -- No configuration that a well-typed program reaches is stuck, and each step leads to a fine one.
-use Rattle.std.proofs.Common.{◌≡◌, ℕ, zero, suc, ◌+◌, ◌-◌, ◌/◌, ◌≤◌, ◌==◌, Bool, true, false, ◌&&◌, nat_lt, List, [], ◌∷◌, ◌++◌, map, reverse, length, slice_get, slice_set, if◌then◌else◌, Option, Some, None, option_map, option_to_list, unwrap_or, Result, Ok, Err, refl, sym, ap, ap₂, ◌∙◌, subst, subst₂, arith, append_assoc, append-nil, ltb-true}
-use Rattle.std.proofs.lemmas.List.{map-append, reverse-append, reverse-reverse, length-reverse}
-use Rattle.std.specs.List.{AllByRecursion}
+use Rattle.std.proofs.Common.{◌≡◌, ℕ, zero, suc, ◌≤◌, Bool, true, false, ◌&&◌, nat_lt, List, [], ◌∷◌, ◌++◌, reverse, length, slice_get, Option, Some, None, option_to_list, refl, sym, ap, ap₂, ◌∙◌, subst, subst₂, arith}
+use Rattle.std.proofs.lemmas.List.{reverse-reverse, length-reverse}
 use Rattle.wasm_syntax.specs.declared.value.ValType.{ValType}
 use Rattle.wasm_syntax.specs.declared.value.ValType.TheVariants.{I32, I64}
 use Rattle.wasm_syntax.specs.declared.value.Value.{Value}
 use Rattle.wasm_syntax.specs.declared.value.Value.TheVariants as values
-use Rattle.wasm_syntax.specs.declared.operators.ArithTrap.{ArithTrap}
 use Rattle.wasm_syntax.specs.declared.instruction.Basic.{Basic}
-use Rattle.wasm_syntax.specs.declared.instruction.Basic.TheVariants.{Nop, Drop, Select, LocalGet, LocalSet, LocalTee, GlobalGet, GlobalSet, Load, Store, MemorySize, MemoryGrow, MemoryCopy, MemoryFill, Const, Eqz, Unary, Compare, Binary, Convert, Extend32, Extend64}
 use Rattle.wasm_syntax.specs.declared.parts.FuncType.{FuncType}
 use Rattle.wasm_syntax.specs.declared.parts.Body.{Body}
 use Rattle.wasm_syntax.specs.declared.parts.Limits.{Limits}
-use Rattle.wasm_syntax.specs.declared.parts.Import.{Import}
-use Rattle.wasm_syntax.specs.declared.parts.Global.{Global}
-use Rattle.wasm_syntax.specs.Numbers.{type_of, types, same_type, value, number, bool_number, unary, compare, binary, convert, convert_from, convert_to}
-use Rattle.wasm_syntax.specs.Memory.{Memory, pages, load, put, grow, copy, fill, to_bytes}
-use Rattle.wasm_syntax.specs.Access.{load_type, load_bits, loaded, store_type, store_bits}
+use Rattle.wasm_syntax.specs.Numbers.{type_of, types, same_type}
+use Rattle.wasm_syntax.specs.Memory.{Memory, put}
 use Rattle.wasm_syntax.specs.Tree.{Jump, Unreachable, Br, BrIf, BrTable, Return, Call, CallIndirect, Nodes, stop, basic, jump, block, loop, choose, Tree}
 use Rattle.wasm_syntax.specs.Module.{Program, Function, imported, defined, function_at, type_at, declared_locals, same_types, same_functype, option_then}
 use Rattle.wasm_syntax.specs.declared.module.ModuleParts.{ModuleParts as Module}
@@ -25,12 +19,10 @@ use Rattle.wasm_syntax.specs.declared.host.Write.{Write}
 use Rattle.wasm_syntax.specs.declared.host.Reply.{Reply}
 use Rattle.wasm_syntax.specs.declared.host.CollectorCall.{CollectorCall}
 use Rattle.wasm_syntax.specs.Host.{World, Answer, replied, told, silent, misfit, answer, told_or, served_by, if_fits, if_written, after_writes, fits_type, collector_of, if_none}
-use Rattle.wasm_syntax.specs.Host as hosts
-use Rattle.wasm_syntax.specs.Effect.{Effect, gives, fails, unfit, effect, takes, with_globals, with_memory, address}
-use Rattle.wasm_syntax.specs.Effect as effects
-use Rattle.wasm_syntax.specs.Machine.{Kind, leaves, again, returns, Label, Frame, Config, label, frame, config, Engine, Stepped, next, ends, traps, no_reply, bad_reply, stuck, Cut, short, parts, one_more, cut, if_so, top, exactly, Went, inside, outside, nowhere, arrive, arrive_some, out_some, leave, loops, land, branch, carried_by, carry, same_result, same_carry, pick, else_or, zero_of, zeros, first, result_of, function_type, entered, host_call, goes_to, deliver, moved, host, enters, applied, applied_if, calls_on, calls, trapped, calls_if, fits_entry, calls_entry, calls_typed, calls_indirect, branch_if, moved_if, branch_table, jumps, affects, does, opens_arm, chooses, runs, in_frame, steps, step}
-use Rattle.wasm_syntax.specs.Typing.{Context, Arrow, ◌⇒◌, Above, OnTop, BasicTypes, arrow, set_global, only_if, if_any, IsLabel, AreLabels, call_arrow, JumpTypes, within, Types, body_context}
-use Rattle.wasm_laws.proofs.Progress.{some_is, IsNil, tail, head, number_at, same_of, types_of, types_append, zero_types, types_reverse, Cuts, cuts, HasMemory, WorldFine, EffectFine, memory_stays, effect_fine, takes_len}
+use Rattle.wasm_syntax.specs.Effect.{Effect, gives, fails, unfit, effect, takes}
+use Rattle.wasm_syntax.specs.Machine.{Kind, leaves, again, returns, Label, Frame, Config, label, frame, config, Engine, Stepped, next, ends, traps, no_reply, bad_reply, stuck, parts, cut, top, exactly, Went, inside, outside, nowhere, arrive, out_some, leave, land, branch, carried_by, carry, same_result, same_carry, pick, zeros, first, result_of, function_type, entered, host_call, goes_to, deliver, moved, host, enters, applied, calls, calls_if, fits_entry, calls_entry, calls_indirect, branch_if, moved_if, branch_table, jumps, affects, does, chooses, runs, in_frame, steps, step}
+use Rattle.wasm_syntax.specs.Typing.{Context, BasicTypes, IsLabel, AreLabels, JumpTypes, within, Types, body_context}
+use Rattle.wasm_laws.proofs.Progress.{some_is, IsNil, tail, head, same_of, types_of, types_append, zero_types, types_reverse, cuts, HasMemory, WorldFine, EffectFine, memory_stays, effect_fine, takes_len}
 
 -- ---- what a fine configuration is
 

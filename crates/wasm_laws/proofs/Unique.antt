@@ -5,34 +5,34 @@ use Rattle.wasm_syntax.specs.declared.value.ValType.{ValType}
 use Rattle.wasm_syntax.specs.Tree.{Item, Plain, Goes, Opens, OpensLoop, OpensIf, Else, End, Nodes, stop, basic, jump, block, loop, choose, Tree, Placed, placed, write, IsTree, WritesOut}
 
 -- nodes, and what stands behind them
-abbrev Read : Type 0
+abbrev pub Read : Type 0
 Read = record { nodes : Nodes; after : List Placed }
 
-abbrev head_at : List Placed → ℕ
+abbrev pub head_at : List Placed → ℕ
 head_at [] = 0
 head_at (p ∷ ps) = p.at
 
-abbrev tail : List Placed → List Placed
+abbrev pub tail : List Placed → List Placed
 tail [] = []
 tail (p ∷ ps) = ps
 
-abbrev with_front : (Nodes → Nodes) → Read → Read
+abbrev pub with_front : (Nodes → Nodes) → Read → Read
 with_front f r = record { nodes = f r.nodes; after = r.after }
 
-abbrev Reader : Type 0
+abbrev pub Reader : Type 0
 Reader = List Placed → Read
 
 -- behind the first arm of an `if`
-abbrev read_else : Reader → ℕ → Option ValType → Read → Item → Read
+abbrev pub read_else : Reader → ℕ → Option ValType → Read → Item → Read
 read_else next at t a Else =
     let b = next (tail a.after) in with_front (choose at t a.nodes (Some (head_at a.after)) b.nodes (head_at b.after)) (next (tail b.after))
 read_else next at t a i = with_front (choose at t a.nodes None stop (head_at a.after)) (next (tail a.after))
 
-abbrev head_code : List Placed → Item
+abbrev pub head_code : List Placed → Item
 head_code [] = End
 head_code (p ∷ ps) = p.code
 
-abbrev read_node : Reader → ℕ → Item → List Placed → Read
+abbrev pub read_node : Reader → ℕ → Item → List Placed → Read
 read_node next at (Plain i) ps = with_front (basic at i) (next ps)
 read_node next at (Goes j) ps = with_front (jump at j) (next ps)
 read_node next at (Opens t) ps = let b = next ps in with_front (block at t b.nodes (head_at b.after)) (next (tail b.after))
@@ -41,10 +41,34 @@ read_node next at (OpensIf t) ps = let a = next ps in read_else next at t a (hea
 read_node next at Else ps = record { nodes = stop; after = placed at Else ∷ ps }
 read_node next at End ps = record { nodes = stop; after = placed at End ∷ ps }
 
-abbrev read : ℕ → Reader
+abbrev pub read : ℕ → Reader
 read zero ps = record { nodes = stop; after = ps }
 read (suc n) [] = record { nodes = stop; after = [] }
 read (suc n) (p ∷ ps) = read_node (read n) p.at p.code ps
+
+-- what is read is a tree
+else_is_tree : (next : Reader) → ((ps : List Placed) → IsTree (next ps).nodes) → (at : ℕ) (t : Option ValType) (a : Read) → IsTree a.nodes → (i : Item) → IsTree (read_else next at t a i).nodes
+else_is_tree next ih at t a h Else = (h, tt, ih (tail a.after), ih (tail (next (tail a.after)).after))
+else_is_tree next ih at t a h (Plain i) = (h, refl, tt, ih (tail a.after))
+else_is_tree next ih at t a h (Goes j) = (h, refl, tt, ih (tail a.after))
+else_is_tree next ih at t a h (Opens u) = (h, refl, tt, ih (tail a.after))
+else_is_tree next ih at t a h (OpensLoop u) = (h, refl, tt, ih (tail a.after))
+else_is_tree next ih at t a h (OpensIf u) = (h, refl, tt, ih (tail a.after))
+else_is_tree next ih at t a h End = (h, refl, tt, ih (tail a.after))
+
+node_is_tree : (next : Reader) → ((ps : List Placed) → IsTree (next ps).nodes) → (at : ℕ) (i : Item) (ps : List Placed) → IsTree (read_node next at i ps).nodes
+node_is_tree next ih at (Plain i) ps = ih ps
+node_is_tree next ih at (Goes j) ps = ih ps
+node_is_tree next ih at (Opens t) ps = (ih ps, ih (tail (next ps).after))
+node_is_tree next ih at (OpensLoop t) ps = (ih ps, ih (tail (next ps).after))
+node_is_tree next ih at (OpensIf t) ps = else_is_tree next ih at t (next ps) (ih ps) (head_code (next ps).after)
+node_is_tree next ih at Else ps = tt
+node_is_tree next ih at End ps = tt
+
+pub read_is_tree : (n : ℕ) (ps : List Placed) → IsTree (read n ps).nodes
+read_is_tree zero ps = tt
+read_is_tree (suc n) [] = tt
+read_is_tree (suc n) (p ∷ ps) = node_is_tree (read n) (read_is_tree n) p.at p.code ps
 
 -- what stands behind nodes: nothing, an `else` or an `end`
 abbrev IsStop : Item → Type 0

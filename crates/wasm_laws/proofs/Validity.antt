@@ -5,7 +5,6 @@ use Rattle.std.specs.Prelude.{IfSome, find, fold, bytes_eq}
 use Rattle.std.specs.List.{AllByRecursion}
 use Rattle.wasm_syntax.specs.declared.value.ValType.{ValType}
 use Rattle.wasm_syntax.specs.declared.value.Value.{Value}
-use Rattle.wasm_syntax.specs.declared.value.Value.TheVariants as values
 use Rattle.wasm_syntax.specs.declared.instruction.Basic.TheVariants as basics
 use Rattle.wasm_syntax.specs.declared.instruction.Instr.{Instr}
 use Rattle.wasm_syntax.specs.declared.instruction.Instr.TheVariants as instr
@@ -22,14 +21,14 @@ use Rattle.wasm_syntax.specs.declared.parts.ElementSeg.{ElementSeg}
 use Rattle.wasm_syntax.specs.declared.place.Place.TheVariants.{TypeAt, ImportAt, Declaration, GlobalAt, ExportAt, Start, ElementAt}
 use Rattle.wasm_syntax.specs.declared.place.Place.TheVariants as places
 use Rattle.wasm_syntax.specs.declared.host.Reply.{Reply}
-use Rattle.wasm_syntax.specs.Numbers.{type_of, types, value}
-use Rattle.wasm_syntax.specs.Tree.{Tree, Writes, WritesOut, code_of}
+use Rattle.wasm_syntax.specs.Numbers.{type_of, types}
+use Rattle.wasm_syntax.specs.Tree.{Tree, Writes, code_of}
 use Rattle.wasm_syntax.specs.declared.module.ModuleParts.{ModuleParts as Module}
 use Rattle.wasm_syntax.specs.Module.{AllWrite, IsProgram, Program, Function, imported, defined, function_at, defined_at, imported_at, function_types, type_at, option_then, function_export, is_function, const_value, const_code}
 use Rattle.wasm_syntax.specs.Machine.{zero_of, function_type}
-use Rattle.wasm_syntax.specs.Typing.{Types, body_context, IsBody}
-use Rattle.wasm_syntax.specs.Valid.{ConstTypes, ConstBody, FuncTypeFine, ImportFine, DeclarationFine, GlobalFine, ExportFine, ElementFine, BodyFine, There, defined_index, index_space, Fine, Valid}
-use Rattle.wasm_syntax.specs.Run.{initial_globals, over, table_min, empty_memory, start_table, start_memory, start_world, element_at}
+use Rattle.wasm_syntax.specs.Typing.{Types, body_context}
+use Rattle.wasm_syntax.specs.Valid.{ConstTypes, FuncTypeFine, ImportFine, DeclarationFine, GlobalFine, ExportFine, ElementFine, BodyFine, There, defined_index, index_space, Valid}
+use Rattle.wasm_syntax.specs.Run.{initial_globals, over, table_min, start_table, start_memory, start_world, element_at}
 use Rattle.wasm_laws.proofs.Progress.{HasMemory, WorldFine}
 use Rattle.wasm_laws.proofs.Safe.{Typed}
 use Rattle.wasm_laws.proofs.Never.{Startable}

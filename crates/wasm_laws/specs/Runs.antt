@@ -1,5 +1,5 @@
 -- What the laws on runs say.
-use Rattle.std.specs.Prelude.{◌≡◌, ◌≢◌, ℕ, ◌+◌, ◌-◌, ◌≤◌, List, [], ◌∷◌, slice_get, Option, Some}
+use Rattle.std.specs.Prelude.{◌≡◌, ◌≢◌, ℕ, ◌+◌, List, [], ◌∷◌, slice_get, Some}
 use Rattle.wasm_syntax.specs.Run.{Ran, running, got_stuck}
 
 -- no invocation of a list got stuck
