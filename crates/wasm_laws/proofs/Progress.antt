@@ -5,14 +5,14 @@ use Rattle.wasm_syntax.specs.declared.value.ValType.{ValType}
 use Rattle.wasm_syntax.specs.declared.value.ValType.TheVariants.{I32, I64}
 use Rattle.wasm_syntax.specs.declared.value.Value.{Value}
 use Rattle.wasm_syntax.specs.declared.value.Value.TheVariants as values
-use Rattle.wasm_syntax.specs.declared.operators.ArithTrap.{ArithTrap}
+use Rattle.int_ops.specs.declared.operators.ArithTrap.{ArithTrap}
 use Rattle.wasm_syntax.specs.declared.instruction.Basic.{Basic}
 use Rattle.wasm_syntax.specs.declared.instruction.Basic.TheVariants.{Nop, Drop, Select, LocalGet, LocalSet, LocalTee, GlobalGet, GlobalSet, Load, Store, MemorySize, MemoryGrow, MemoryCopy, MemoryFill, Const, Eqz, Unary, Compare, Binary, Convert, Extend32, Extend64}
 use Rattle.wasm_syntax.specs.declared.parts.FuncType.{FuncType}
 use Rattle.wasm_syntax.specs.declared.parts.Limits.{Limits}
 use Rattle.wasm_syntax.specs.declared.parts.Global.{Global}
 use Rattle.wasm_syntax.specs.Numbers.{modulo, type_of, types, same_type, value, number, unary, binary, convert, convert_from, convert_to}
-use Rattle.wasm_syntax.specs.Memory.{Memory, pages, load, put, grow, copy, fill, to_bytes}
+use Rattle.linear_memory.specs.Memory.{Memory, pages, load, put, grow, copy, fill, to_bytes}
 use Rattle.wasm_syntax.specs.Access.{load_type, load_bits, loaded, store_type, store_bits}
 use Rattle.wasm_syntax.specs.Module.{type_at, same_types, option_then}
 use Rattle.wasm_syntax.specs.declared.module.ModuleParts.{ModuleParts as Module}

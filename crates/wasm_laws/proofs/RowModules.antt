@@ -2,8 +2,8 @@
 use Rattle.std.specs.Prelude.{◌≡◌, ℕ, List, [], ◌∷◌, map, length, true, Some, None, codes, refl}
 use Rattle.wasm_syntax.specs.declared.value.ValType.TheVariants.{I32, I64}
 use Rattle.wasm_syntax.specs.declared.value.Value.TheVariants as values
-use Rattle.wasm_syntax.specs.declared.operators.Binary.TheVariants.{DivS, RemS, Add, Sub}
-use Rattle.wasm_syntax.specs.declared.operators.Narrow32.TheVariants as narrow32
+use Rattle.int_ops.specs.declared.operators.Binary.TheVariants.{DivS, RemS, Add, Sub}
+use Rattle.int_ops.specs.declared.operators.Narrow32.TheVariants as narrow32
 use Rattle.wasm_syntax.specs.declared.instruction.Load.TheVariants as loads
 use Rattle.wasm_syntax.specs.declared.instruction.Store.TheVariants as stores
 use Rattle.wasm_syntax.specs.declared.instruction.Basic.TheVariants.{LocalGet, GlobalGet, GlobalSet, Load, Store, MemoryGrow, MemoryCopy, MemoryFill, Const, Eqz, Binary, Extend32}

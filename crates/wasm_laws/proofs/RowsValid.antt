@@ -3,7 +3,7 @@ use Rattle.std.proofs.Common.{◌≡◌, ℕ, zero, suc, ◌-◌, ◌<◌, inl, 
 use Rattle.std.specs.Prelude.{IfSome}
 use Rattle.wasm_syntax.specs.declared.value.ValType.{ValType}
 use Rattle.wasm_syntax.specs.declared.value.ValType.TheVariants.{I32, I64}
-use Rattle.wasm_syntax.specs.declared.operators.Binary.TheVariants.{Add, DivS}
+use Rattle.int_ops.specs.declared.operators.Binary.TheVariants.{Add, DivS}
 use Rattle.wasm_syntax.specs.declared.instruction.Basic.TheVariants.{LocalGet, Binary}
 use Rattle.wasm_syntax.specs.declared.parts.FuncType.{FuncType}
 use Rattle.wasm_syntax.specs.declared.parts.Body.{Body}

@@ -10,7 +10,7 @@ use Rattle.wasm_syntax.specs.declared.parts.FuncType.{FuncType}
 use Rattle.wasm_syntax.specs.declared.parts.Body.{Body}
 use Rattle.wasm_syntax.specs.declared.parts.Limits.{Limits}
 use Rattle.wasm_syntax.specs.Numbers.{type_of, types, same_type}
-use Rattle.wasm_syntax.specs.Memory.{Memory, put}
+use Rattle.linear_memory.specs.Memory.{Memory, put}
 use Rattle.wasm_syntax.specs.Tree.{Jump, Unreachable, Br, BrIf, BrTable, Return, Call, CallIndirect, Nodes, stop, basic, jump, block, loop, choose, Tree}
 use Rattle.wasm_syntax.specs.Module.{Program, Function, imported, defined, function_at, type_at, declared_locals, same_types, same_functype, option_then}
 use Rattle.wasm_syntax.specs.declared.module.ModuleParts.{ModuleParts as Module}

@@ -8,7 +8,7 @@ use Rattle.wasm_syntax.specs.declared.instruction.Load.{Load}
 use Rattle.wasm_syntax.specs.declared.instruction.Load.TheVariants as loads
 use Rattle.wasm_syntax.specs.declared.instruction.Store.{Store}
 use Rattle.wasm_syntax.specs.declared.instruction.Store.TheVariants as stores
-use Rattle.wasm_syntax.specs.Integers.{narrow32_bits, narrow64_bits, sign_extended}
+use Rattle.int_ops.specs.Integers.{narrow32_bits, narrow64_bits, sign_extended}
 use Rattle.wasm_syntax.specs.Numbers.{bits}
 
 -- a number of k bits in n bits (Core 4.3.2, "extend")

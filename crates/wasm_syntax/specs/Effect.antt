@@ -5,13 +5,13 @@ use Rattle.wasm_syntax.specs.declared.value.ValType.{ValType}
 use Rattle.wasm_syntax.specs.declared.value.ValType.TheVariants.{I32, I64}
 use Rattle.wasm_syntax.specs.declared.value.Value.{Value}
 use Rattle.wasm_syntax.specs.declared.value.Value.TheVariants as values
-use Rattle.wasm_syntax.specs.declared.operators.ArithTrap.{ArithTrap}
-use Rattle.wasm_syntax.specs.declared.operators.ArithTrap.TheVariants.{DivideByZero, Overflow}
+use Rattle.int_ops.specs.declared.operators.ArithTrap.{ArithTrap}
+use Rattle.int_ops.specs.declared.operators.ArithTrap.TheVariants.{DivideByZero, Overflow}
 use Rattle.wasm_syntax.specs.declared.instruction.Basic.{Basic}
 use Rattle.wasm_syntax.specs.declared.instruction.Basic.TheVariants.{Nop, Drop, Select, LocalGet, LocalSet, LocalTee, GlobalGet, GlobalSet, Load, Store, MemorySize, MemoryGrow, MemoryCopy, MemoryFill, Const, Eqz, Unary, Compare, Binary, Convert, Extend32, Extend64}
 use Rattle.wasm_syntax.specs.Numbers.{type_of, same_type, number, value, modulo, bool_number, unary, compare, binary, convert, convert_from, convert_to}
-use Rattle.wasm_syntax.specs.Integers.{extend32, extend64}
-use Rattle.wasm_syntax.specs.Memory.{Memory, pages, load, put, grow, copy, fill, to_bytes}
+use Rattle.int_ops.specs.Integers.{extend32, extend64}
+use Rattle.linear_memory.specs.Memory.{Memory, pages, load, put, grow, copy, fill, to_bytes}
 use Rattle.wasm_syntax.specs.Access.{load_type, load_bits, loaded, store_type, store_bits}
 use Rattle.wasm_syntax.specs.Host.{World}
 

@@ -11,7 +11,7 @@ use Rattle.wasm_syntax.specs.declared.host.Served.{Served}
 use Rattle.wasm_syntax.specs.declared.host.CollectorCall.{CollectorCall}
 use Rattle.wasm_syntax.specs.declared.host.CollectorCall.TheVariants.{ValueI32, ValueI64, Frame}
 use Rattle.wasm_syntax.specs.Numbers.{type_of, same_type}
-use Rattle.wasm_syntax.specs.Memory.{Memory, put}
+use Rattle.linear_memory.specs.Memory.{Memory, put}
 use Rattle.wasm_syntax.specs.Module.{option_then}
 use Rattle.wasm_syntax.specs.declared.module.ModuleParts.{ModuleParts as Module}
 

@@ -1,7 +1,5 @@
 pub mod Quantity
-pub mod Integers
 pub mod Numbers
-pub mod Memory
 pub mod Access
 pub mod Tree
 pub mod Module

@@ -1,25 +1,20 @@
 -- Values (Core 4.2.1), and the operations of Core 4.3 at their types.
 use Rattle.std.specs.Prelude.{ℕ, ◌<◌, ◌^◌, Bool, true, false, if◌then◌else◌, Option, Some, None, Result, List, map}
-use Rattle.std.specs.Int.{Width, w32, w64}
 use Rattle.wasm_syntax.specs.declared.value.ValType.{ValType}
 use Rattle.wasm_syntax.specs.declared.value.ValType.TheVariants.{I32, I64}
 use Rattle.wasm_syntax.specs.declared.value.Value.{Value}
 use Rattle.wasm_syntax.specs.declared.value.Value.TheVariants as values
-use Rattle.wasm_syntax.specs.declared.operators.Unary.{Unary}
-use Rattle.wasm_syntax.specs.declared.operators.Compare.{Compare}
-use Rattle.wasm_syntax.specs.declared.operators.Binary.{Binary}
-use Rattle.wasm_syntax.specs.declared.operators.ArithTrap.{ArithTrap}
+use Rattle.int_ops.specs.declared.operators.Unary.{Unary}
+use Rattle.int_ops.specs.declared.operators.Compare.{Compare}
+use Rattle.int_ops.specs.declared.operators.Binary.{Binary}
+use Rattle.int_ops.specs.declared.operators.ArithTrap.{ArithTrap}
 use Rattle.wasm_syntax.specs.declared.instruction.Convert.{Convert}
 use Rattle.wasm_syntax.specs.declared.instruction.Convert.TheVariants.{Wrap, ExtendS, ExtendU}
-use Rattle.wasm_syntax.specs.Integers as integers
+use Rattle.int_ops.specs.Integers as integers
 
 abbrev pub bits : ValType → ℕ
 bits I32 = 32
 bits I64 = 64
-
-abbrev pub width : ValType → Width
-width I32 = w32
-width I64 = w64
 
 abbrev pub same_type : ValType → ValType → Bool
 same_type I32 I32 = true
@@ -54,16 +49,16 @@ IsValue (values.I64 n) = n < 2 ^ 64
 -- ---- operations at a type
 
 abbrev pub modulo : ValType → ℕ → ℕ
-modulo t n = integers.modulo (width t) n
+modulo t n = integers.modulo (bits t) n
 
 abbrev pub unary : ValType → Unary → ℕ → ℕ
-unary t op a = integers.unary (width t) op a
+unary t op a = integers.unary (bits t) op a
 
 abbrev pub compare : ValType → Compare → ℕ → ℕ → Bool
-compare t op a b = integers.compare (width t) op a b
+compare t op a b = integers.compare (bits t) op a b
 
 abbrev pub binary : ValType → Binary → ℕ → ℕ → Result ℕ ArithTrap
-binary t op a b = integers.binary (width t) op a b
+binary t op a b = integers.binary (bits t) op a b
 
 -- a conversion: where from, where to, and the number
 abbrev pub convert_from : Convert → ValType
@@ -79,7 +74,7 @@ convert_to ExtendU = I64
 abbrev pub convert : Convert → ℕ → ℕ
 convert Wrap a = integers.wrap a
 convert ExtendS a = integers.extend_s a
-convert ExtendU a = integers.extend_u a
+convert ExtendU a = integers.extend_u (modulo I32 a)
 
 -- a test's i32 (Core 4.3.2, "bool")
 abbrev pub bool_number : Bool → ℕ

@@ -1,8 +1,8 @@
 //! Instructions: one variant per production of Core 2.4, with its operator and its immediates as fields, so that each instruction of
 //! integers is exactly one value.
 
-use crate::operators::{Binary, Compare, Narrow32, Narrow64, Unary};
 use crate::value::{ValType, Value};
+use int_ops::{Binary, Compare, Narrow32, Narrow64, Unary};
 
 /// A conversion between the two types: `i32.wrap_i64`, `i64.extend_i32_s`, `i64.extend_i32_u` (Core 2.4.1).
 #[derive(Clone, Copy, PartialEq, Eq)]

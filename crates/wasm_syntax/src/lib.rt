@@ -7,19 +7,17 @@ mod equality;
 mod host;
 mod instruction;
 mod module;
-mod operators;
 mod parts;
 mod place;
 mod quantity;
 mod value;
 
-pub use quantity::Quantity;
 pub use blocks::BlockKind;
 pub use equality::same_code;
 pub use host::{CollectorCall, HostCall, Reply, Served, Values, Write, Writes};
 pub use instruction::{Basic, Convert, Instr, Jump, Load, Op, Sign, Store};
+pub use int_ops::{ArithTrap, Binary, Compare, Narrow32, Narrow64, Unary};
 pub use module::{Module, ModuleParts};
-pub use operators::{ArithTrap, Binary, Compare, Narrow32, Narrow64, Unary};
 pub use parts::{
     Bodies, Body, Custom, Customs, DataSeg, DataSegs, ElementSeg, ElementSegs, Export, ExportKind,
     Exports, FuncType, FuncTypes, Global, Globals, Heights, Import, Imports, Indices, Labels,
@@ -27,4 +25,5 @@ pub use parts::{
 };
 pub use place::Place;
 pub use pm_text::{Bytes, Items, Text};
+pub use quantity::Quantity;
 pub use value::{Seen, ValType, Value};
