@@ -12,3 +12,4 @@ pub mod Valid
 pub mod Static
 pub mod FlatTyping
 pub mod SameCode
+pub mod Sizes
