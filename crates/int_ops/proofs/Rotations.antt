@@ -19,6 +19,7 @@ joined m k a h = rw (moved_up m k a) (or_shifted (a % 2 ^ m) k (a / 2 ^ m) (high
 
 -- n bits, of which k move
 rotated_left : (n k a : ℕ) → k < n → a < 2 ^ n → bit_or ((a * 2 ^ k) % 2 ^ n) (a / 2 ^ ((n - k) % n)) ≡ rotl n a k
+unfolding rotl
 rotated_left n zero a h small =
     let none : (n - 0) % n ≡ 0 = rw (sub-zero n) (mod_self n) in
     let all : a % 2 ^ n ≡ a = mod-eq_of_lt small in
@@ -31,6 +32,7 @@ rotated_left n (suc k) a h small =
     rw left (subst (λ (m : ℕ). bit_or ((a * 2 ^ suc k) % 2 ^ m) (a / 2 ^ (n - suc k)) ≡ (a % 2 ^ (n - suc k)) * 2 ^ suc k + a / 2 ^ (n - suc k)) (sym whole) (joined (n - suc k) (suc k) a below))
 
 rotated_right : (n k a : ℕ) → k < n → a < 2 ^ n → bit_or (a / 2 ^ k) ((a * 2 ^ ((n - k) % n)) % 2 ^ n) ≡ rotr n a k
+unfolding rotr
 rotated_right n zero a h small =
     let none : (n - 0) % n ≡ 0 = rw (sub-zero n) (mod_self n) in
     let all : a % 2 ^ n ≡ a = mod-eq_of_lt small in

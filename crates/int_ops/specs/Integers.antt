@@ -31,14 +31,14 @@ modulo n a = a % 2 ^ n
 -- ---- Core 4.3.2: operations on one integer
 
 -- iclz, ictz and ipopcnt: all n bits of 0 are leading zeros, and trailing zeros
-abbrev pub unary : ℕ → Unary → ℕ → ℕ
+unfoldable pub unary : ℕ → Unary → ℕ → ℕ
 unary n Clz a = count_leading_zeros n a
 unary n Ctz a = count_trailing_zeros n a
 unary n Popcnt a = count_ones a
 
 -- ---- Core 4.3.2: comparisons
 
-abbrev pub compare : ℕ → Compare → ℕ → ℕ → Bool
+unfoldable pub compare : ℕ → Compare → ℕ → ℕ → Bool
 compare n Eq a b = a == b
 compare n Ne a b = not (a == b)
 compare n LtS a b = int_lt (signed n a) (signed n b)
@@ -60,11 +60,11 @@ unless_zero b result = if b == 0 then Err DivideByZero else result
 abbrev pub overflows : ℕ → ℕ → ℕ → Bool
 overflows n a b = (a == 2 ^ (n - 1)) && (b == 2 ^ n - 1)
 
-abbrev pub div_s : ℕ → ℕ → ℕ → Result ℕ ArithTrap
+unfoldable pub div_s : ℕ → ℕ → ℕ → Result ℕ ArithTrap
 div_s n a b = unless_zero b (if overflows n a b then Err Overflow else Ok (unsigned n (int_div (signed n a) (signed n b))))
 
 -- irem_s: the remainder has the sign of the dividend
-abbrev pub rem_s : ℕ → ℕ → ℕ → Result ℕ ArithTrap
+unfoldable pub rem_s : ℕ → ℕ → ℕ → Result ℕ ArithTrap
 rem_s n a b = unless_zero b (Ok (unsigned n (int_rem (signed n a) (signed n b))))
 
 -- ishl, ishr_s and ishr_u shift by k bits, where k is the second operand modulo n. ishr_s rounds down.
@@ -78,13 +78,13 @@ abbrev pub shr_u : ℕ → ℕ → ℕ → ℕ
 shr_u n a k = a / 2 ^ k
 
 -- irotl: the highest k bits come to the lowest places, behind the others. irotr: the lowest k bits go to the highest places.
-abbrev pub rotl : ℕ → ℕ → ℕ → ℕ
+unfoldable pub rotl : ℕ → ℕ → ℕ → ℕ
 rotl n a k = (a % 2 ^ (n - k)) * 2 ^ k + a / 2 ^ (n - k)
 
-abbrev pub rotr : ℕ → ℕ → ℕ → ℕ
+unfoldable pub rotr : ℕ → ℕ → ℕ → ℕ
 rotr n a k = (a % 2 ^ k) * 2 ^ (n - k) + a / 2 ^ k
 
-abbrev pub binary : ℕ → Binary → ℕ → ℕ → Result ℕ ArithTrap
+unfoldable pub binary : ℕ → Binary → ℕ → ℕ → Result ℕ ArithTrap
 binary n Add a b = Ok (modulo n (a + b))
 binary n Sub a b = Ok (modulo n (a + (2 ^ n - b)))
 binary n Mul a b = Ok (modulo n (a * b))

@@ -7,6 +7,7 @@ ghost use Rattle.int_ops.specs.Integers.{unary, compare, binary};
 use crate::{ArithTrap, Binary, Compare, Unary};
 
 /// `i32.clz`, `i32.ctz` and `i32.popcnt`.
+#[tactic(auto, unfolding(crate::specs::Integers::unary))]
 pub fn i32_unary(op: Unary, a: u32) -> u32
     ensures { result ≡ unary 32 op a }
 {
@@ -18,7 +19,7 @@ pub fn i32_unary(op: Unary, a: u32) -> u32
 }
 
 /// `i32.eq`, `i32.ne`, `i32.lt_s` and the other comparisons.
-#[tactic(auto, using(crate::proofs::Signs::signed_32))]
+#[tactic(auto, using(crate::proofs::Signs::signed_32), unfolding(crate::specs::Integers::compare))]
 pub fn i32_compare(op: Compare, a: u32, b: u32) -> bool
     ensures { result ≡ compare 32 op a b }
 {
@@ -37,6 +38,7 @@ pub fn i32_compare(op: Compare, a: u32, b: u32) -> bool
     }
 }
 
+#[tactic(auto, unfolding(crate::specs::Integers::div_s))]
 fn div_s(a: u32, b: u32) -> Result<u32, ArithTrap>
     ensures { result ≡ integers.div_s 32 a b }
 {
@@ -50,6 +52,7 @@ fn div_s(a: u32, b: u32) -> Result<u32, ArithTrap>
     }
 }
 
+#[tactic(auto, unfolding(crate::specs::Integers::rem_s))]
 fn rem_s(a: u32, b: u32) -> Result<u32, ArithTrap>
     ensures { result ≡ integers.rem_s 32 a b }
 {
@@ -83,6 +86,7 @@ fn rotr(a: u32, by: u32) -> u32
 
 /// `i32.add`, `i32.sub` and the other operations on two integers.
 /// `DivideByZero` exactly where the divisor of a division or remainder is 0, `Overflow` exactly at `i32.div_s` of -2^31 by -1.
+#[tactic(auto, unfolding(crate::specs::Integers::binary))]
 pub fn i32_binary(op: Binary, a: u32, b: u32) -> Result<u32, ArithTrap>
     ensures { result ≡ binary 32 op a b }
 {

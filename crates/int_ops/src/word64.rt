@@ -7,6 +7,7 @@ ghost use Rattle.int_ops.specs.Integers.{unary, compare, binary};
 use crate::{ArithTrap, Binary, Compare, Unary};
 
 /// `i64.clz`, `i64.ctz` and `i64.popcnt`.
+#[tactic(auto, unfolding(crate::specs::Integers::unary))]
 pub fn i64_unary(op: Unary, a: u64) -> u64
     ensures { result ≡ unary 64 op a }
 {
@@ -18,7 +19,7 @@ pub fn i64_unary(op: Unary, a: u64) -> u64
 }
 
 /// `i64.eq`, `i64.ne`, `i64.lt_s` and the other comparisons.
-#[tactic(auto, using(crate::proofs::Signs::signed_64))]
+#[tactic(auto, using(crate::proofs::Signs::signed_64), unfolding(crate::specs::Integers::compare))]
 pub fn i64_compare(op: Compare, a: u64, b: u64) -> bool
     ensures { result ≡ compare 64 op a b }
 {
@@ -37,6 +38,7 @@ pub fn i64_compare(op: Compare, a: u64, b: u64) -> bool
     }
 }
 
+#[tactic(auto, unfolding(crate::specs::Integers::div_s))]
 fn div_s(a: u64, b: u64) -> Result<u64, ArithTrap>
     ensures { result ≡ integers.div_s 64 a b }
 {
@@ -50,6 +52,7 @@ fn div_s(a: u64, b: u64) -> Result<u64, ArithTrap>
     }
 }
 
+#[tactic(auto, unfolding(crate::specs::Integers::rem_s))]
 fn rem_s(a: u64, b: u64) -> Result<u64, ArithTrap>
     ensures { result ≡ integers.rem_s 64 a b }
 {
@@ -85,6 +88,7 @@ fn rotr(a: u64, by: u64) -> u64
 
 /// `i64.add`, `i64.sub` and the other operations on two integers.
 /// `DivideByZero` exactly where the divisor of a division or remainder is 0, `Overflow` exactly at `i64.div_s` of -2^63 by -1.
+#[tactic(auto, unfolding(crate::specs::Integers::binary))]
 pub fn i64_binary(op: Binary, a: u64, b: u64) -> Result<u64, ArithTrap>
     ensures { result ≡ binary 64 op a b }
 {
