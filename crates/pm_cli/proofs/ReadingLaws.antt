@@ -1,9 +1,8 @@
 -- What the words that are left read as.
-use Rattle.std.proofs.Common.{◌≡◌, Bool, true, false, List, [], ◌∷◌, ◌++◌, map, Option, Some, None, refl, sym, ap, ◌∙◌, append_assoc}
+use Rattle.std.proofs.Common.{◌≡◌, true, false, List, [], ◌∷◌, ◌++◌, map, Option, Some, None, refl, sym, ap, ◌∙◌, append_assoc}
 use Rattle.std.proofs.lemmas.List.{append-nil, map-append}
 use Rattle.std.specs.Option.{MatchOption, option_map}
-use Rattle.std.specs.Prelude.{option_and_then, if◌then◌else◌, cond}
-use Rattle.pm_cli.specs.declared.reading.Kind.{Kind}
+use Rattle.std.specs.Prelude.{option_and_then, if◌then◌else◌}
 use Rattle.pm_cli.specs.declared.reading.Kind.TheVariants.{End, Plain, Flag, Valued, Joined, Refused}
 use Rattle.pm_cli.specs.Reading.{Word, Allowed, Read, nothing, with_plain, with_option, is_dashed, is_among, is_distinct, names, name_of, value_of, kind_of, by_kind, read_all, once, read_words}
 use Rattle.pm_cli.specs.Progress.{plain_also, plain_behind, given_also, appended, outcome}

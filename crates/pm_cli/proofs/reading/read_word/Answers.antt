@@ -1,7 +1,6 @@
-use Rattle.std.proofs.Common.{◌≡◌, ◌∷◌, map, arith}
+use Rattle.std.proofs.Common.{◌∷◌, map}
 use Rattle.std.specs.String.{string_bytes}
-use Rattle.pm_cli.specs.Reading.{kind_of, name_of, value_of}
-use Rattle.pm_cli.specs.declared.reading.Kind.TheVariants.{End, Plain, Flag, Valued, Joined, Refused}
+use Rattle.pm_cli.specs.Reading.{name_of, value_of}
 use Rattle.pm_cli.proofs.ReadingLaws.{end_step, plain_step, refused_step, option_step, flag_reads, joined_reads, valued_reads, valued_dashed, valued_last}
 use Rattle.pm_cli.proofs.reading.read_word.Goals as goal
 
