@@ -1,7 +1,6 @@
 //! The words behind a command: plain words and options.
 
 ghost use Rattle.std.specs.Prelude.{◌≡◌, ◌<◌, ◌≤◌, ◌++◌, ◌∷◌, [], true, false, length, map, OnOk, IfOk, IfSome, MatchOption};
-ghost use Rattle.std.specs.List.{list_any};
 ghost use Rattle.std.specs.String.{string_bytes};
 ghost use Rattle.pm_cli.specs.Reading.{is_dashed, is_among, is_distinct, names, name_of, value_of, nothing, kind_of, read_words, no_options};
 ghost use Rattle.pm_cli.specs.Progress.{plain_also, plain_behind, given_also, outcome};
@@ -65,14 +64,19 @@ impl<'a> Model for Reading<'a> {
 /// What a word is, where it is no value and no `--` stands before it.
 #[derive(Clone, Copy)]
 pub enum Kind {
+    /// `--`, behind which every word is plain.
     End,
     Plain,
+    /// An option that takes no value.
     Flag,
+    /// `--x`, whose value is the next word.
     Valued,
+    /// `--x=v`
     Joined,
     Refused,
 }
 
+/// Whether a word is longer than one byte and begins with a dash.
 fn is_dashed(word: &str) -> bool
     ensures { result ≡ is_dashed word.now }
 {
@@ -133,6 +137,7 @@ fn push_words<'a>(plain: &mut Vec<&'a str>, words: &'a [String]) -> Result<(), N
 }
 
 impl<'a> Reading<'a> {
+    /// No word, which takes no memory.
     pub fn new(alloc: Global) -> Self
         ensures { result ≡ nothing }
     {
@@ -169,6 +174,7 @@ impl<'a> Reading<'a> {
         push_words(&mut self.plain, words)
     }
 
+    /// Whether an option of this name is given.
     fn has(&self, name: &str) -> bool
         ensures { result ≡ is_among (names self.now) name.now }
     {
