@@ -1,5 +1,5 @@
 -- The lowest bytes of a number.
-use Rattle.std.proofs.Common.{◌≡◌, ℕ, zero, suc, ◌+◌, ◌*◌, ◌/◌, ◌%◌, ◌^◌, ◌≤◌, ◌<◌, List, [], ◌∷◌, length, take, refl, sym, ◌∙◌, ap, inl, inr, arith}
+use Rattle.std.proofs.Common.{◌≡◌, ℕ, zero, suc, ◌+◌, ◌*◌, ◌/◌, ◌%◌, ◌^◌, ◌≤◌, ◌<◌, List, [], ◌∷◌, length, take, refl, sym, ◌∙◌, ap, inl, inr, lit<, arith}
 use Rattle.std.proofs.Math.Nat.{div-div-eq-div-mul}
 use Rattle.std.specs.Int.{w64, to_le_bytes, bytes_low_first, byte_at}
 use Rattle.linear_memory.specs.Memory.{to_bytes}
@@ -8,6 +8,10 @@ use Rattle.linear_memory.specs.Paged.{IsWidth}
 pub length-to_bytes : (n v : ℕ) → length (to_bytes n v) ≡ n
 length-to_bytes zero v = refl
 length-to_bytes (suc n) v = omega (arith, length-to_bytes n (v / 256))
+
+pub zero_fits : (n : ℕ) → 0 < 256 ^ n
+zero_fits zero = lit< tt
+zero_fits (suc n) = omega (arith, zero_fits n)
 
 next_byte : (i v : ℕ) → v / 256 ^ i / 256 ≡ v / 256 ^ suc i
 next_byte i v = div-div-eq-div-mul v (256 ^ i) 256 ∙ ap (λ (k : ℕ). v / k) (omega arith)

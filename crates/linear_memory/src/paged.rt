@@ -1,5 +1,5 @@
 // A memory as a table of pages.
-ghost use Rattle.std.specs.Prelude.{◌≡◌, ◌+◌, ◌*◌, ◌<◌, ◌≤◌, ◌↔◌, ◌⊎◌, length, replicate, false, IfOk, OnOk, OnErr, IfSome, IfNone, IsSome, Some};
+ghost use Rattle.std.specs.Prelude.{◌≡◌, ◌+◌, ◌*◌, ◌^◌, ◌<◌, ◌≤◌, ◌↔◌, ◌⊎◌, length, replicate, false, IfOk, OnOk, OnErr, IfSome, IfNone, IsSome, Some};
 ghost use Rattle.linear_memory.specs.Memory.{page_size, pages, zeroed, window, to_bytes, load, store, put, fill, copy};
 ghost use Rattle.linear_memory.specs.Paged.{IsWidth, IsMade, AllMade, Makes};
 ghost use Rattle.linear_memory.specs.Growth.{Grows};
@@ -69,7 +69,8 @@ impl Memory {
     #[inline(always)]
     pub fn load(&self, at: u64, width: u32) -> Option<u64>
         requires { IsWidth width }
-        ensures { result ≡ load self.now.memory at width }
+        ensures value { result ≡ load self.now.memory at width }
+        ensures fits { IfSome result (λ value. value < 256 ^ width) }
     {
         let width = width as usize;
         if at / 65536 < self.pages.len() as u64 && (at % 65536) as usize + width <= 65536 {
@@ -84,7 +85,8 @@ impl Memory {
     #[inline(never)]
     fn load_across(&self, at: u64, width: usize) -> Option<u64>
         requires { IsWidth width }
-        ensures { result ≡ load self.now.memory at width }
+        ensures value { result ≡ load self.now.memory at width }
+        ensures fits { IfSome result (λ value. value < 256 ^ width) }
     {
         let end = 65536 * self.pages.len() as u64;
         if at <= end && width as u64 <= end - at {

@@ -7,11 +7,11 @@ ghost use Rattle.linear_memory.specs.Ownership.{block_owned, block_lent};
 use std::alloc::{AllocError, Global};
 use std::marker::Model;
 
-pub(crate) const PAGE: usize = 65536;
+const PAGE: usize = 65536;
 
 pub(crate) struct RawPage {
-    pub(crate) at: *mut [u8; PAGE],
-    pub(crate) heap: Global,
+    at: *mut [u8; PAGE],
+    heap: Global,
     pub(crate) ghost bytes: { List ℕ } by { coded_list coded_ℕ },
 }
 

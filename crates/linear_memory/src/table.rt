@@ -1,5 +1,5 @@
 // A table of pages, read and written as one list of bytes.
-ghost use Rattle.std.specs.Prelude.{◌≡◌, ◌+◌, ◌-◌, ◌*◌, ◌/◌, ◌%◌, ◌<◌, ◌≤◌, ◌↔◌, ◌++◌, length, map, is_some, replicate, if◌then◌else◌, IsTrue, IfOk, IsSome, IfSome, IfNone, false, ℕ, ◌⊎◌};
+ghost use Rattle.std.specs.Prelude.{◌≡◌, ◌+◌, ◌-◌, ◌*◌, ◌/◌, ◌%◌, ◌^◌, ◌<◌, ◌≤◌, ◌↔◌, ◌++◌, length, map, is_some, replicate, if◌then◌else◌, IsTrue, IfOk, IsSome, IfSome, IfNone, false, ℕ, ◌⊎◌};
 ghost use Rattle.linear_memory.specs.Memory.{window, splice, from_bytes, to_bytes};
 ghost use Rattle.linear_memory.specs.Paged.{IsWidth, AllMade, IsMade, StaysMade, Makes};
 ghost use Rattle.linear_memory.specs.Table.{contents, AllWhole, zeros};
@@ -144,12 +144,14 @@ pub(crate) fn add_pages(table: &mut Vec<Page>, count: usize) -> bool
 }
 
 // The number of `width` bytes from `at` on, within one page.
+#[tactic(auto, using(crate::proofs::LowBytes::zero_fits))]
 #[inline(always)]
 pub(crate) fn load_in(pages: &[Page], at: usize, width: usize) -> u64
     requires whole { AllWhole pages.now }
     requires width { IsWidth width }
     requires inside { (at / 65536 < length pages.now) × (at % 65536 + width ≤ 65536) }
-    ensures { result ≡ from_bytes (window (contents pages.now) at width) }
+    ensures value { result ≡ from_bytes (window (contents pages.now) at width) }
+    ensures fits { result < 256 ^ width }
 {
     match pages[at / 65536].bytes() {
         Some(bytes) => read_word(bytes, at % 65536, width),

@@ -1,5 +1,5 @@
 // Numbers as little-endian bytes.
-ghost use Rattle.std.specs.Prelude.{◌≡◌, ◌+◌, ◌≤◌, length, replicate};
+ghost use Rattle.std.specs.Prelude.{◌≡◌, ◌+◌, ◌^◌, ◌<◌, ◌≤◌, length, replicate};
 ghost use Rattle.linear_memory.specs.Memory.{from_bytes, to_bytes, window, splice};
 ghost use Rattle.linear_memory.specs.Paged.{IsWidth};
 
@@ -7,7 +7,8 @@ ghost use Rattle.linear_memory.specs.Paged.{IsWidth};
 pub(crate) fn read_word(bytes: &[u8], at: usize, width: usize) -> u64
     requires width { IsWidth width }
     requires inside { at + width ≤ length bytes.now }
-    ensures { result ≡ from_bytes (window bytes.now at width) }
+    ensures value { result ≡ from_bytes (window bytes.now at width) }
+    ensures fits { result < 256 ^ width }
 {
     match width {
         1 => bytes[at] as u64,
