@@ -1,5 +1,5 @@
 -- Vectors, steps and choices read exactly what is spelled by their elements.
-use Rattle.std.proofs.Common.{◌≡◌, ℕ, zero, suc, ◌+◌, ◌-◌, ◌≤◌, ◌<◌, false, ltb, List, [], ◌∷◌, ◌++◌, length, Option, Some, None, refl, sym, ap, subst, ◌∙◌, inl, inr, append_assoc, arith, length-append}
+use Rattle.std.proofs.Common.{◌≡◌, ℕ, zero, suc, ◌+◌, ◌-◌, ◌≤◌, ◌<◌, Bool, true, false, cond, ltb, List, [], ◌∷◌, ◌++◌, length, Option, Some, None, refl, sym, ap, subst, ◌∙◌, inl, inr, append_assoc, arith, length-append}
 use Rattle.std.proofs.lemmas.List.{append-nil}
 use Rattle.std.proofs.lemmas.Bool.{ltb-false}
 use Rattle.wasm_bytes.specs.Place.{Place, Read}
@@ -156,6 +156,11 @@ steps_to_end_tail T f e takes s = record {
 }
 
 -- ---- choices
+
+-- A test picks one of two.
+pub picks_exact_if : {A : Type 0} (test : Bool) (S : A → ℕ → List ℕ → Type 0) (one other : Option (Place → Read A)) → (test ≡ true → PicksExact S one) → (test ≡ false → PicksExact S other) → PicksExact S (cond test one other)
+picks_exact_if true S one other e h = e refl
+picks_exact_if false S one other e h = h refl
 
 picked_sound : {A : Type 0} (S : A → ℕ → List ℕ → Type 0) (o : ℕ) (pick : Option (Place → Read A)) → PicksExact S pick → (before after : List ℕ) (x : A) (q : Place) → IsBytes after → picked o pick (place before after) ≡ got x q → Took S before after x q
 picked_sound S o (Some f) e before after x q fits read = e.sound before after x q fits read

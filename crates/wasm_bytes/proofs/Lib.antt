@@ -8,6 +8,7 @@ pub mod ExactLists
 pub mod Stops
 pub mod StopsBlocks
 pub mod StopsLists
+pub mod Whole
 pub mod UntilDone
 pub mod SectionLaws
 pub mod Takes

@@ -1,5 +1,5 @@
 -- Reading vectors, steps and choices stops at the first of their elements without a reading.
-use Rattle.std.proofs.Common.{◌≡◌, ℕ, zero, suc, ◌+◌, ◌≤◌, ◌<◌, ◌⊎◌, true, ltb, List, [], ◌∷◌, ◌++◌, length, Option, Some, None, Ok, Err, refl, sym, ap, subst, ◌∙◌, inl, inr, append_assoc, arith, length-append}
+use Rattle.std.proofs.Common.{◌≡◌, ℕ, zero, suc, ◌+◌, ◌≤◌, ◌<◌, ◌⊎◌, Bool, true, false, cond, ltb, List, [], ◌∷◌, ◌++◌, length, Option, Some, None, Ok, Err, refl, sym, ap, subst, ◌∙◌, inl, inr, append_assoc, arith, length-append}
 use Rattle.std.proofs.lemmas.Bool.{ltb-true, lt-ltb}
 use Rattle.wasm_bytes.specs.Place.{Place, Read}
 use Rattle.wasm_bytes.specs.Reading.{◌>>=◌, u32_item, byte_item, picked, choose, items_from, vector_item, until_end, to_end_item, steps_from, steps_until_end, steps_to_end}
@@ -13,6 +13,11 @@ use Rattle.wasm_bytes.proofs.Loops.{first}
 use Rattle.wasm_bytes.proofs.Stops.{byte_stops_at, u32_stops_at, leads_stops_at, first_fails}
 
 -- ---- choices
+
+-- A test picks one of two.
+pub picks_stops_if : {A : Type 0} (test : Bool) (is_tag : Type 0) (s : ℕ → List ℕ → ℕ → Type 0) (one other : Option (Place → Read A)) → (test ≡ true → PicksStops is_tag s one) → (test ≡ false → PicksStops is_tag s other) → PicksStops is_tag s (cond test one other)
+picks_stops_if true is_tag s one other e h = e refl
+picks_stops_if false is_tag s one other e h = h refl
 
 picked_only : {A : Type 0} (is_tag : Type 0) (s : ℕ → List ℕ → ℕ → Type 0) (pick : Option (Place → Read A)) → PicksStops is_tag s pick → (at : ℕ) (before after : List ℕ) (o : ℕ) → IsBytes after → picked at pick (place before after) ≡ failed o
     → ((o ≡ at) × (is_tag → ⊥)) ⊎ (is_tag × s (length before) after o)
