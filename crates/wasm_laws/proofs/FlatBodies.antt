@@ -19,7 +19,7 @@ pub no_result : (t : Option ValType) → [] ≡ option_to_list t → t ≡ None
 no_result None e = refl
 no_result (Some t) e = absurd (cc)
 
-else_steps : (c : Context) (t : Option ValType) (ea : Option ℕ) (b : Nodes) (end : ℕ) (g : OpenBlock) (gs : List OpenBlock) (after : List ValType) (s : List Placed) (hs : List OpenBlock) →
+pub else_steps : (c : Context) (t : Option ValType) (ea : Option ℕ) (b : Nodes) (end : ℕ) (g : OpenBlock) (gs : List OpenBlock) (after : List ValType) (s : List Placed) (hs : List OpenBlock) →
     HasElse ea b → Types (inside c (opened kinds.Plain t [] ∷ g ∷ gs)) b [] (option_to_list t) →
     ((types : List ValType) → FlatTypes c (opened kinds.Plain t (option_to_list t) ∷ g ∷ gs) (placed end End ∷ s) hs → FlatTypes c (opened kinds.Plain t [] ∷ g ∷ gs) (write b (placed end End ∷ s)) hs) →
     FlatTypes c (given (option_to_list t) (g ∷ gs)) s hs →

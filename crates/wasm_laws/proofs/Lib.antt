@@ -13,3 +13,5 @@ pub mod Live
 pub mod RowModules
 pub mod Rows
 pub mod RowsValid
+pub mod FlatStatic
+pub mod FlatOne

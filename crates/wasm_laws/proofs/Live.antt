@@ -64,7 +64,7 @@ module _ (c : Context) where
   gives_one (Extend32 k) t u a b e f s = same_arrow (arrow c t (Extend32 k)) a b e f
   gives_one (Extend64 k) t u a b e f s = same_arrow (arrow c t (Extend64 k)) a b e f
 
-  basic_one : (i : Basic) (before after after' : List ValType) → BasicTypes c i before after → BasicTypes c i before after' → after ≡ after'
+  pub basic_one : (i : Basic) (before after after' : List ValType) → BasicTypes c i before after → BasicTypes c i before after' → after ≡ after'
   basic_one i before after after' h k =
       let together : h.arrow_is.takes ++ h.above.below ≡ k.arrow_is.takes ++ k.above.below = sym h.above.takes ∙ k.above.takes in
       let long : length h.arrow_is.takes ≡ length k.arrow_is.takes = takes_len c i h.any h.arrow_is h.has ∙ sym (takes_len c i k.any k.arrow_is k.has) in
@@ -72,7 +72,7 @@ module _ (c : Context) where
       let under : h.above.below ≡ k.above.below = cancel k.arrow_is.takes h.above.below k.above.below (ap (λ z. z ++ h.above.below) (sym front) ∙ together) in
       h.above.gives ∙ ap₂ (λ x y. x ++ y) (gives_one i h.any k.any h.arrow_is k.arrow_is h.has k.has front) under ∙ sym k.above.gives
 
-  jump_one : (j : Jump) (before after after' : List ValType) → goes_on j → JumpTypes c j before after → JumpTypes c j before after' → after ≡ after'
+  pub jump_one : (j : Jump) (before after after' : List ValType) → goes_on j → JumpTypes c j before after → JumpTypes c j before after' → after ≡ after'
   jump_one Unreachable before after after' g h k = absurd g
   jump_one (Br n) before after after' g h k = absurd g
   jump_one (BrIf n) before after after' g h k =
@@ -99,11 +99,11 @@ Ordered lo (loop at t body end rest) hi = (lo ≤ at) × (m : ℕ) × Ordered (s
 Ordered lo (choose at t a else_at b end rest) hi =
     (lo ≤ at) × (m : ℕ) × Ordered (suc at) a m × (k : ℕ) × (m ≤ k) × (n : ℕ) × Ordered k b n × (n ≤ end) × Ordered (suc end) rest hi
 
-abbrev AscendCode : ℕ → List Placed → Type 0
+abbrev pub AscendCode : ℕ → List Placed → Type 0
 AscendCode least [] = Unit {0}
 AscendCode least (p ∷ ps) = (least ≤ p.at) × AscendCode (suc p.at) ps
 
-ascend_code : (targets : List ℕ) (least : ℕ) (ops : List Op) → Ascend least ops → AscendCode least (code_of targets ops)
+pub ascend_code : (targets : List ℕ) (least : ℕ) (ops : List Op) → Ascend least ops → AscendCode least (code_of targets ops)
 ascend_code targets least [] h = tt
 ascend_code targets least (o ∷ ops) h = (h.0, ascend_code targets (suc o.at) ops h.1)
 

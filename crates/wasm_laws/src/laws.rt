@@ -2,14 +2,15 @@
 
 ghost use Rattle.std.specs.Prelude.{◌≡◌, ◌↔◌, ◌-◌, ◌≤◌, ◌+◌, ℕ, length, reverse, slice_get, Bool, List, [], Option, option_to_list};
 ghost use Rattle.wasm_syntax.specs.declared.value.ValType.{ValType};
+ghost use Rattle.wasm_syntax.specs.declared.instruction.Op.{Op as CodeOp};
 ghost use Rattle.wasm_syntax.specs.declared.parts.Body.{Body as FunctionBody};
 ghost use Rattle.wasm_syntax.specs.declared.parts.FuncType.{FuncType as Signature};
 ghost use Rattle.wasm_syntax.specs.declared.module.ModuleParts.{ModuleParts as Parts};
 ghost use Rattle.wasm_syntax.specs.declared.host.Reply.{Reply as HostReply};
 ghost use Rattle.wasm_syntax.specs.Module.{Program, IsProgram, InOrder};
-ghost use Rattle.wasm_syntax.specs.Tree.{Placed, Tree, Nodes, WritesOut};
+ghost use Rattle.wasm_syntax.specs.Tree.{Placed, Tree, Nodes, WritesOut, code_of, item_of};
 ghost use Rattle.wasm_syntax.specs.Typing.{Context, Types, IsBody, BeginsBody, body_context};
-ghost use Rattle.wasm_syntax.specs.FlatTyping.{FlatTypes, OpenBlock, body_block};
+ghost use Rattle.wasm_syntax.specs.FlatTyping.{FlatTypes, OpenBlock, body_block, BeginsNode, TypesBefore};
 ghost use Rattle.wasm_syntax.specs.Valid.{Valid};
 ghost use Rattle.wasm_syntax.specs.Static.{Static};
 ghost use Rattle.wasm_syntax.specs.Run.{Invocation, run};
@@ -39,6 +40,11 @@ pub fn flat_steps_begin_bodies()
 /// The operand types before the live instruction at an offset are unique.
 pub fn one_static()
     ensures { (m : Parts) (ftype : Signature) (body : FunctionBody) (offset : ℕ) (a b : List ValType) → InOrder body → Static m ftype body offset a → Static m ftype body offset b → a ≡ b }
+{}
+
+/// The operand types before the live instruction at an offset are those before it in the flat code.
+pub fn flat_static_is_the_same()
+    ensures { (m : Parts) (ftype : Signature) (body : FunctionBody) (given : Option ValType) (i : ℕ) (op : CodeOp) (types : List ValType) → reverse ftype.results ≡ option_to_list given → InOrder body → IsBody m ftype body (code_of body.targets body.ops) → slice_get body.ops i ≡ Some op → BeginsNode (item_of body.targets op.code) → Static m ftype body op.at types ↔ TypesBefore m ftype body i types }
 {}
 
 /// What an invocation came to, other than being still under way, it comes to with every greater number of steps; only more of them are left.

@@ -101,6 +101,16 @@ AllLive (d ∷ ds) = (d ≡ false) × AllLive ds
 abbrev pub IsLive : List Placed → ℕ → Type 0
 IsLive code i = AllLive (dead_behind (false ∷ []) (take i code))
 
+-- an instruction other than `else` and `end`
+abbrev pub BeginsNode : Item → Type 0
+BeginsNode (Plain i) = Unit {0}
+BeginsNode (Goes j) = Unit {0}
+BeginsNode (Opens t) = Unit {0}
+BeginsNode (OpensLoop t) = Unit {0}
+BeginsNode (OpensIf t) = Unit {0}
+BeginsNode Else = ⊥
+BeginsNode End = ⊥
+
 -- the types of the operands of all open blocks, the topmost first
 abbrev pub all_types : List OpenBlock → List ValType
 all_types [] = []

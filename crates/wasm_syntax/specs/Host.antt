@@ -1,4 +1,4 @@
--- What is outside the frames, and what a call of an import does to it (Core 4.4.7.4; 4.2.8).
+-- What is outside the frames, and what a call of an import does to it (Core 4.4.7, 4.2).
 use Rattle.std.specs.Prelude.{ℕ, List, [], ◌∷◌, slice_get, if◌then◌else◌, Bool, true, false, Option, Some, None, bytes_eq, codes}
 use Rattle.wasm_syntax.specs.declared.value.ValType.{ValType}
 use Rattle.wasm_syntax.specs.declared.value.Value.{Value}

@@ -17,7 +17,7 @@ use Rattle.wasm_syntax.specs.declared.host.CollectorCall.{CollectorCall}
 use Rattle.wasm_syntax.specs.Host.{World, Answer, replied, told, silent, misfit, answer}
 use Rattle.wasm_syntax.specs.Effect.{Effect, gives, fails, unfit, effect, takes}
 
--- what a branch to a label does (Core 4.2.12.2): it leaves a block or an arm, begins a loop anew, or leaves the function
+-- what a branch to a label does (Core 4.2.12): it leaves a block or an arm, begins a loop anew, or leaves the function
 pub data Kind : Type 0 where
   leaves : (t : Option ValType) → Kind
   again : (at : ℕ) (t : Option ValType) (body : Nodes) (end : ℕ) → Kind

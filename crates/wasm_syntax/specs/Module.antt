@@ -127,7 +127,7 @@ is_function kinds.Global = false
 abbrev pub function_export : Module → List ℕ → Option ℕ
 function_export m name = option_map (λ e. e.index) (find (λ e. is_function e.kind && bytes_eq e.name name) m.exports)
 
--- ---- constant expressions (Core 3.3.7.2): one constant, or the value of a global
+-- ---- constant expressions (Core 3.3.7): one constant, or the value of a global
 
 abbrev pub const_code : List Value → Instr → Option Value
 const_code globals (instr.Basic (basics.Const v)) = Some v

@@ -40,7 +40,7 @@ abbrev pub if_any : {A B : Type 0} → List A → Option B → Option B
 if_any [] o = None
 if_any (x ∷ xs) o = o
 
--- the alignment is at most the width (Core 3.3.5)
+-- the alignment is at most the width (Core 3.3.4)
 abbrev pub aligned : ℕ → ℕ → Bool
 aligned align n = nat_le (2 ^ align * 8) n
 

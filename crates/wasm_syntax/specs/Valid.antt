@@ -23,7 +23,7 @@ use Rattle.wasm_syntax.specs.declared.place.Place.TheVariants.{TypeAt, ImportAt,
 use Rattle.wasm_syntax.specs.Tree.{Item, Placed, placed, code_of}
 use Rattle.wasm_syntax.specs.Typing.{IsBody, BeginsBody}
 
--- ---- constant expressions (Core 3.3.7.2)
+-- ---- constant expressions (Core 3.3.7)
 
 -- an instruction is constant and gives this type; globals are those that it may read
 abbrev pub ConstTypes : List Global → Instr → ValType → Type 0

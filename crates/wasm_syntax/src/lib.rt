@@ -10,6 +10,8 @@ mod module;
 mod parts;
 mod place;
 mod quantity;
+#[cfg(test)]
+mod tests;
 mod value;
 
 pub use blocks::BlockKind;

@@ -1,4 +1,4 @@
-//! Modules (Core 2.5.1).
+//! Modules (Core 2.5).
 
 ghost use Rattle.std.specs.Prelude.{◌≡◌};
 ghost use Rattle.wasm_syntax.specs.Module.{IsModule};

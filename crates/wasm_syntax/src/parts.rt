@@ -53,7 +53,7 @@ pub struct Limits {
     pub max: Option<u32>,
 }
 
-/// Locals of one type (Core 5.5.12).
+/// Locals of one type (Core 5.5.13).
 #[derive(Clone, Copy, PartialEq, Eq)]
 pub struct LocalGroup {
     pub count: u32,
