@@ -1,7 +1,7 @@
 -- The contents of a table of pages, read and written inside one page.
-use Rattle.std.proofs.Common.{◌≡◌, ℕ, zero, suc, ◌+◌, ◌-◌, ◌*◌, ◌/◌, ◌%◌, ◌<◌, ◌≤◌, ◌⊎◌, Bool, true, false, List, [], ◌∷◌, ◌++◌, length, take, drop, map, replicate, get_or, set, is_some, IsTrue, Option, Some, None, refl, sym, ◌∙◌, ap, subst, inl, inr, arith, length-append, length-take, length-drop, length-set, append_assoc}
-use Rattle.std.proofs.lemmas.List.{take-append-le, drop-append-le, take_all, drop_all, drop-drop, drop-take, take-take, take_at, drop_at, map-set, replicate-append-replicate, length-take-le, take-append-drop, length-replicate}
-use Rattle.std.proofs.lemmas.List.{get_or-map, set-get_or, get_or_default, length-map, map-append, drop-replicate, take-replicate, get_or-set_same, take_rest}
+use Rattle.std.proofs.Common.{◌≡◌, ℕ, zero, suc, ◌+◌, ◌-◌, ◌*◌, ◌/◌, ◌%◌, ◌<◌, ◌≤◌, ◌⊎◌, Bool, true, false, List, [], ◌∷◌, ◌++◌, length, take, drop, map, replicate, get_or, set, is_some, Option, Some, None, refl, sym, ◌∙◌, ap, subst, inl, inr, arith, length-append, length-take, length-drop, length-set, append_assoc}
+use Rattle.std.proofs.lemmas.List.{take-append-le, drop-append-le, take_all, drop-drop, drop-take, take-take, take_at, drop_at, map-set, replicate-append-replicate, length-take-le, take-append-drop, length-replicate}
+use Rattle.std.proofs.lemmas.List.{get_or-map, set-get_or, get_or_default, length-map, map-append, drop-replicate, take-replicate, get_or-set_same}
 use Rattle.std.proofs.lemmas.Bool.{cases_lt}
 use Rattle.linear_memory.specs.Memory.{window, splice, from_bytes}
 use Rattle.linear_memory.specs.Paged.{IsMade, AllMade, StaysMade}

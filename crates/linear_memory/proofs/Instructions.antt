@@ -1,8 +1,7 @@
 -- A table after an instruction, as the definition has it.
-use Rattle.std.proofs.Common.{◌≡◌, ℕ, ◌+◌, ◌-◌, ◌*◌, ◌/◌, ◌<◌, ◌≤◌, Bool, List, [], ◌∷◌, ◌++◌, length, take, drop, map, is_some, cond, Option, Some, None, refl, sym, ◌∙◌, ap, subst, arith, append_assoc, length-append, length-take, length-drop}
+use Rattle.std.proofs.Common.{◌≡◌, ℕ, ◌+◌, ◌≤◌, Bool, List, ◌++◌, length, take, drop, map, is_some, cond, Some, None, sym, ◌∙◌, ap, arith, length-drop}
 use Rattle.std.proofs.lemmas.Bool.{le-leb}
 use Rattle.std.proofs.lemmas.List.{take_at, length-take-le}
-use Rattle.std.specs.Prelude.{nat_le}
 use Rattle.linear_memory.specs.Memory.{Memory, put, copy, window, splice}
 use Rattle.linear_memory.specs.Paged.{Paged}
 use Rattle.linear_memory.specs.Table.{contents}

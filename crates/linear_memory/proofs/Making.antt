@@ -1,5 +1,5 @@
 -- Which pages a write makes.
-use Rattle.std.proofs.Common.{◌≡◌, ℕ, ◌+◌, ◌-◌, ◌/◌, ◌%◌, ◌<◌, ◌≤◌, ◌⊎◌, Bool, List, refl, sym, subst, inl, inr, arith}
+use Rattle.std.proofs.Common.{◌≡◌, ℕ, ◌+◌, ◌-◌, ◌/◌, ◌%◌, ◌<◌, ◌≤◌, ◌⊎◌, Bool, List, sym, subst, inl, inr, arith}
 use Rattle.linear_memory.specs.Paged.{IsMade, AllMade, StaysMade, Makes, Touches}
 use Rattle.linear_memory.proofs.Contents.{stays_refl, stays_trans, all_made_join, all_made_kept}
 

@@ -1,8 +1,8 @@
 -- One step of a copy within one list, and of a fill.
-use Rattle.std.proofs.Common.{◌≡◌, ℕ, suc, ◌+◌, ◌-◌, ◌<◌, ◌≤◌, List, [], ◌∷◌, ◌++◌, length, take, drop, get_or, set, replicate, refl, sym, ◌∙◌, ap, arith, append_assoc, length-append, length-take, length-drop}
-use Rattle.std.proofs.lemmas.List.{length-take-le, get_or_append_left, get_or-take, get_or-drop, get_or-append_right, take_more, set_split, set_at, drop_more, drop-drop, drop_at, take-take, take-append-le, take-append-drop, length-replicate, replicate-append-replicate}
+use Rattle.std.proofs.Common.{◌≡◌, ℕ, ◌+◌, ◌-◌, ◌<◌, ◌≤◌, List, ◌++◌, length, take, drop, replicate, sym, ◌∙◌, ap, arith, append_assoc, length-append, length-drop}
+use Rattle.std.proofs.lemmas.List.{length-take-le, drop-drop, drop_at, take-take, take-append-le, take-append-drop, length-replicate, replicate-append-replicate}
 use Rattle.linear_memory.specs.Memory.{window, splice}
-use Rattle.linear_memory.proofs.Contents.{splice-splice, length-splice, windows_join, drop_past, window-left}
+use Rattle.linear_memory.proofs.Contents.{splice-splice, windows_join, drop_past, window-left}
 
 length-window : (xs : List ℕ) (at n : ℕ) → at + n ≤ length xs → length (window xs at n) ≡ n
 length-window xs at n inside = let low : n ≤ length (drop at xs) = omega (arith, length-drop at xs) in length-take-le n (drop at xs) low

@@ -1,5 +1,5 @@
 -- What a list of calls of a memory answers, by the definition of its instructions.
-use Rattle.std.specs.Prelude.{◌≡◌, ℕ, ◌*◌, ◌<◌, ◌≤◌, ◌⊎◌, ◌++◌, Bool, false, List, [], ◌∷◌, length, replicate, Option, Some, None, Ok, Err}
+use Rattle.std.specs.Prelude.{◌≡◌, ℕ, ◌*◌, ◌<◌, ◌⊎◌, ◌++◌, false, List, [], ◌∷◌, length, replicate, Option, Some, None, Ok, Err}
 use Rattle.std.specs.declared.vec.Vec.{Vec}
 use Rattle.std.specs.Global.{Global}
 use Rattle.linear_memory.specs.Memory.{Memory, page_size, pages, window, load, store, put, fill, copy, grow}

@@ -1,6 +1,6 @@
 -- What a growth does.
 use Rattle.std.specs.Prelude.{◌≡◌, ℕ, ◌++◌, false, replicate, Some}
-use Rattle.linear_memory.specs.Memory.{Memory, pages, grow}
+use Rattle.linear_memory.specs.Memory.{pages, grow}
 use Rattle.linear_memory.specs.Paged.{Paged}
 use Rattle.linear_memory.specs.declared.GrowAnswer.{GrowAnswer}
 use Rattle.linear_memory.specs.declared.GrowAnswer.TheVariants.{Grown, TooMany, NoMemory}

@@ -1,5 +1,5 @@
 -- A memory as contracts see it: the memory, and for each page whether it is made. A page that is not made reads as zeros.
-use Rattle.std.specs.Prelude.{◌≡◌, ℕ, ◌+◌, ◌*◌, ◌/◌, ◌<◌, ◌≤◌, ◌⊎◌, Bool, false, List, ◌++◌, length, replicate, IsTrue, slice_index_or}
+use Rattle.std.specs.Prelude.{◌≡◌, ℕ, ◌+◌, ◌/◌, ◌<◌, ◌≤◌, ◌⊎◌, Bool, false, List, length, IsTrue, slice_index_or}
 use Rattle.linear_memory.specs.Memory.{Memory, page_size}
 
 pub record Paged : Type 0 where

@@ -1,4 +1,4 @@
-use Rattle.std.proofs.Common.{◌≡◌, ℕ, ◌+◌, ◌-◌, ◌*◌, ◌≤◌, List, length, replicate, ap, ◌∙◌, arith}
+use Rattle.std.proofs.Common.{ℕ, ◌+◌, ◌-◌, ◌≤◌, List, length, replicate, ap, ◌∙◌, arith}
 use Rattle.linear_memory.specs.Memory.{splice}
 use Rattle.linear_memory.specs.Table.{contents}
 use Rattle.linear_memory.proofs.Contents.{length-contents}

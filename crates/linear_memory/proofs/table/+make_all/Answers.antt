@@ -1,4 +1,4 @@
-use Rattle.std.proofs.Common.{ℕ, ◌+◌, ◌/◌, ◌%◌, ◌*◌, ◌-◌, ◌≤◌, ◌<◌, List, map, is_some, length, ap, sym, ◌∙◌, arith}
+use Rattle.std.proofs.Common.{◌+◌, ◌/◌, ◌%◌, ◌≤◌, ◌<◌, map, is_some, length, ap, sym, ◌∙◌, arith}
 use Rattle.linear_memory.proofs.Contents.{made_is_at}
 use Rattle.linear_memory.proofs.Making.{makes_behind, makes_first}
 use Rattle.linear_memory.proofs.table.+make_all.Goals as goal

@@ -1,4 +1,4 @@
-use Rattle.std.proofs.Common.{ℕ, List, Option, None, Bool, cond, ◌++◌, replicate, map, is_some, ap, ◌∙◌}
+use Rattle.std.proofs.Common.{None, Bool, cond, ◌++◌, replicate, ap, ◌∙◌}
 use Rattle.linear_memory.proofs.Contents.{grown_contents, grown_whole, grown_made}
 use Rattle.linear_memory.proofs.table.add_pages.Goals as goal
 

@@ -1,4 +1,4 @@
-use Rattle.std.proofs.Common.{◌≡◌, ℕ, ◌+◌, ◌-◌, ◌*◌, ◌<◌, ◌≤◌, List, length, ap, sym, ◌∙◌, arith}
+use Rattle.std.proofs.Common.{◌≡◌, ℕ, ◌+◌, ◌-◌, ◌<◌, ◌≤◌, List, length, ap, sym, ◌∙◌, arith}
 use Rattle.linear_memory.specs.Memory.{window, splice}
 use Rattle.linear_memory.specs.Table.{contents}
 use Rattle.linear_memory.proofs.Contents.{length-contents}

@@ -1,4 +1,4 @@
-use Rattle.std.proofs.Common.{◌≡◌, ℕ, ◌/◌, ◌%◌, List, Option, length, ap, sym, ◌∙◌}
+use Rattle.std.proofs.Common.{ℕ, ◌%◌, List, Option, length, ap, sym, ◌∙◌}
 use Rattle.linear_memory.specs.Memory.{window}
 use Rattle.linear_memory.specs.Table.{page_bytes}
 use Rattle.linear_memory.proofs.Windows.{window_mid}

@@ -1,4 +1,4 @@
-use Rattle.std.proofs.Common.{◌≡◌, ℕ, ◌*◌, List, replicate, subst, IfNone}
+use Rattle.std.proofs.Common.{◌≡◌, ◌*◌, replicate, subst, IfNone}
 use Rattle.linear_memory.specs.Memory.{window}
 use Rattle.linear_memory.specs.Paged.{Paged}
 use Rattle.linear_memory.specs.Table.{contents}

@@ -1,7 +1,7 @@
-use Rattle.std.proofs.Common.{ℕ, ◌+◌, ◌*◌, ◌≤◌, length, ap, arith}
+use Rattle.std.proofs.Common.{◌+◌, ◌≤◌, length, ap, arith}
 use Rattle.linear_memory.specs.Memory.{to_bytes}
 use Rattle.linear_memory.specs.Table.{contents}
-use Rattle.linear_memory.proofs.Contents.{length-contents, Table}
+use Rattle.linear_memory.proofs.Contents.{length-contents}
 use Rattle.linear_memory.proofs.Instructions.{put_once}
 use Rattle.linear_memory.proofs.LowBytes.{length-to_bytes}
 use Rattle.linear_memory.proofs.paged.Memory.store.Goals as goal

@@ -1,18 +1,18 @@
 -- `into_box` makes a box of the pointer again.
-use Rattle.std.proofs.Common.{◌≡◌, ℕ, List, [], ◌∷◌, ◌∙◌, ap, sym, refl, subst}
+use Rattle.std.proofs.Common.{◌≡◌, List, [], ◌∷◌, ◌∙◌, ap, sym, refl, subst}
 use Rattle.std.proofs.raw_atomic.Walks.{proved}
 use Rattle.std.proofs.VecSteps.Shapes.{after}
 use Rattle.std.proofs.BoxSteps.Form as box
 use Rattle.std.proofs.BoxSteps.Steps.{box_out, box_in}
 use base.Fraction.{full_share}
-use base.Logic.{SProp, ent, sep, never, emp, fst∗, id⊢}
-use base.Fml.{Fml, fsep, ftrue, flft}
+use base.Logic.{never, emp, fst∗, id⊢}
+use base.Fml.{ftrue, flft}
 use contract.BorrowLft.{◌⊑◌, ⊑_static}
 use contract.Monad.{fact, fact_i}
 use contract.Lifetimes.{Lfts}
 use contract.Running.{tables}
 use denote.Exit.{yes}
-use denote.Laws.{Is, shows}
+use denote.Laws.{shows}
 use denote.Memory.{lone}
 use denote.RattleType.{RattleType}
 use denote.RawPtr.{Ptr, block_ptr, null_ptr, in_a_block}
@@ -30,11 +30,10 @@ use mir.Syntax.{Ty}
 use mir.Val.{Val, vptr, has_ty, WT}
 use prog.Wp.{WpFn}
 use types.ByLocal.{alloc_all, pass_all, free_all, look_at, get, get_in, sets, lands_last, env}
-use types.Kit.{‵, raw, ◌⊛◌, some, later, prop, at_ret, ◌$◌, ◌∵◌, !, qed, done, move, keep, drop, use0, use1, split, split3, join, fsplit, fjoin, fpick, feq_l, feq_i, pick, await, rewrite, regoal, suffices, frame}
+use types.Kit.{‵, raw, ◌⊛◌, some, later, prop, at_ret, ◌$◌, ◌∵◌, !, qed, done, move, keep, drop, use0, use1, split, split3, join, fsplit, fjoin, fpick, feq_i, pick, await, rewrite, regoal, suffices}
 use types.Logic.{sem}
 use types.Part.{whole, sub}
 use types.Run.{enter, of_opd, stop, fld, no_more, and_then, first, blocks, exec, returns}
-use Rattle.std_heap.specs.contracts.Global as heap
 use Rattle.std_heap.specs.contracts.GlobalAllocator.TheImpl.{ghosts, dict}
 use Rattle.std_heap.proofs.GlobalAllocator.TheImpl.Met.{passed}
 use Rattle.std_heap.proofs.Global.TheLaws as heap_laws

@@ -1,11 +1,11 @@
 -- `of` takes a box apart: the page keeps the pointer, what lies behind it, and the right to free that.
-use Rattle.std.proofs.Common.{◌≡◌, ℕ, List, [], ◌∷◌, ◌++◌, ◌∙◌, ap, sym, refl, subst}
+use Rattle.std.proofs.Common.{◌≡◌, List, [], ◌∷◌, ◌++◌, ◌∙◌, ap, sym, refl, subst}
 use Rattle.std.proofs.raw_atomic.Walks.{proved_at}
 use Rattle.std.proofs.BoxSteps.Form as box
 use Rattle.std.proofs.BoxSteps.Steps.{box_out, box_in}
 use base.Fraction.{full_share}
 use base.Logic.{SProp, ent, emp, never, fst∗, id⊢}
-use base.Fml.{fsep, ftrue, flft}
+use base.Fml.{ftrue, flft}
 use contract.BorrowLft.{◌⊑◌, ⊑_static}
 use contract.Lifetimes.{Lfts}
 use contract.Monad.{fact, fact_i}

@@ -4,7 +4,7 @@ use Rattle.std.proofs.raw_atomic.Walks.{proved}
 use Rattle.std.proofs.VecSteps.Shapes.{after}
 use Rattle.std.proofs.Words.{pointer_in, pointer_out}
 use base.Logic.{ent, sep}
-use base.Fml.{Lft, Fml, ftrue, fhide, flft}
+use base.Fml.{Lft, ftrue, fhide, flft}
 use contract.Monad.{fact}
 use contract.Running.{tables}
 use denote.Builtin.{RawPtr, RefOf}
@@ -29,7 +29,6 @@ use types.Logic.{Logic, sem}
 use types.Run.{enter, of_opd, addr, look, stop, fld, hop, first, blocks, exec, returns}
 use Rattle.std_heap.specs.contracts.Global as heap
 use Rattle.std_heap.proofs.Global.TheLaws as heap_laws
-use Rattle.linear_memory.specs.Ownership.{Block}
 use Rattle.linear_memory.specs.contracts.raw.RawPage as page
 use Rattle.linear_memory.specs.contracts.raw.RawPage.read as f
 use Rattle.linear_memory.proofs.raw.RawPage.read.Statement.{statement}
