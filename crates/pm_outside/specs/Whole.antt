@@ -1,5 +1,5 @@
 -- Reading a file whole.
-use Rattle.std.specs.Prelude.{◌≡◌, ℕ, ◌≤◌, ◌<◌, List, [], length, take, Option, Some, None, IsSomeAnd}
+use Rattle.std.specs.Prelude.{◌≡◌, ℕ, ◌<◌, List, length, Option, None, IsSomeAnd}
 use Rattle.pm_outside.specs.declared.whole.FileError.{FileError}
 use Rattle.pm_outside.specs.declared.whole.FileError.TheVariants as errors
 
@@ -9,8 +9,3 @@ Refuses limit file errors.Missing = file ≡ None
 Refuses limit file errors.TooLong = IsSomeAnd file (λ bytes. limit < length bytes)
 Refuses limit file errors.Failed = Unit {0}
 Refuses limit file errors.NoMemory = Unit {0}
-
--- what is read so far of a file
-abbrev pub IsFront : List ℕ → Option (List ℕ) → Type 0
-IsFront bytes None = bytes ≡ []
-IsFront bytes (Some all) = (length bytes ≤ length all) × (take (length bytes) all ≡ bytes)

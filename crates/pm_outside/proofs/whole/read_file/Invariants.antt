@@ -1,6 +1,6 @@
 use Rattle.std.proofs.Common.{◌≡◌, ◌-◌, ◌≤◌, vec_len}
 use Rattle.std.specs.Prelude.{IfSome}
-use Rattle.pm_outside.specs.Whole.{IsFront}
+use Rattle.pm_outside.proofs.Fronts.{IsFront}
 use Rattle.pm_outside.proofs.whole.read_file.Given as goal
 
 abbrev pub invariant-pieces : goal.invariant-pieces

@@ -1,0 +1,7 @@
+-- The front of a file, which reads make longer.
+use Rattle.std.specs.Prelude.{◌≡◌, ℕ, ◌≤◌, List, [], length, take, Option, Some, None}
+
+-- what is read so far of a file
+abbrev pub IsFront : List ℕ → Option (List ℕ) → Type 0
+IsFront bytes None = bytes ≡ []
+IsFront bytes (Some all) = (length bytes ≤ length all) × (take (length bytes) all ≡ bytes)
