@@ -10,3 +10,4 @@ pub mod ExactSections
 pub mod StopsEntries
 pub mod StopsSections
 pub mod Meanings
+pub mod ContainedLaws

@@ -92,13 +92,13 @@ taken g part = record {
   segments = added_all g.segments (segments_in part);
 }
 
-more : {A : Type 0} (f : Part → List A) (ps : List Part) (part : Part) → flat_map f (ps ++ part ∷ []) ≡ flat_map f ps ++ f part
+pub more : {A : Type 0} (f : Part → List A) (ps : List Part) (part : Part) → flat_map f (ps ++ part ∷ []) ≡ flat_map f ps ++ f part
 more f ps part = flat_map-append f ps (part ∷ []) ∙ ap (λ t. flat_map f ps ++ t) (append-nil (f part))
 
 found_more : {A : Type 0} (f : Part → List A) (ps : List Part) (part : Part) → found (flat_map f (ps ++ part ∷ [])) ≡ added_all (found (flat_map f ps)) (f part)
 found_more f ps part = ap found (more f ps part) ∙ found-append (flat_map f ps) (f part)
 
-last_more : (ps : List Part) (part : Part) → last_id (ps ++ part ∷ []) ≡ id_behind (last_id ps) part
+pub last_more : (ps : List Part) (part : Part) → last_id (ps ++ part ∷ []) ≡ id_behind (last_id ps) part
 unfolding last_id
 last_more ps part = fold-append id_behind 0 ps (part ∷ [])
 

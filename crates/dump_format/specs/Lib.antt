@@ -10,3 +10,4 @@ pub mod Gathering
 pub mod Grammar
 pub mod Breaking
 pub mod Meaning
+pub mod Contained

@@ -1,11 +1,12 @@
 //! A whole dump from its bytes.
 
-ghost use Rattle.std.specs.Prelude.{◌≡◌, ℕ};
+ghost use Rattle.std.specs.Prelude.{◌≡◌, ℕ, IfOk};
 ghost use Rattle.wasm_syntax.specs.declared.quantity.Quantity.{Quantity};
 ghost use Rattle.dump_format.specs.declared.dump.Dump.{Dump};
 ghost use Rattle.dump_format.specs.declared.fault.DumpPart.{DumpPart};
 ghost use Rattle.dump_format.specs.declared.fault.DumpFault.TheVariants.{Malformed, FloatValue, Several, Limit};
 ghost use Rattle.dump_format.specs.Meaning.{Exactly, IsDump, BreaksAt, HasFloatAt, HasSeveral, PassesLimit};
+ghost use Rattle.dump_format.specs.Contained.{IsContained, IsLimited};
 ghost use Rattle.dump_format.specs.Decode.{dump_from, Answers};
 ghost use Rattle.dump_format.specs.Gathering.{dump_gathered};
 
@@ -44,6 +45,8 @@ fn decode<'a>(alloc: Global, bytes: &'a [u8]) -> Result<Dump<'a>, DumpFault>
 pub fn decode_dump<'a>(alloc: Global, bytes: &'a [u8]) -> Result<Dump<'a>, DumpFault>
     ensures exact { Answers result (dump_from bytes.now) }
     ensures found { (d : Dump) → Exactly result (Ok d) (IsDump bytes.now d) }
+    ensures contained { IfOk result IsContained }
+    ensures limited { IfOk result IsLimited }
     ensures malformed { (at : ℕ) → Exactly result (Err (Malformed at)) (BreaksAt bytes.now at) }
     ensures float { (at : ℕ) → Exactly result (Err (FloatValue at)) (HasFloatAt bytes.now at) }
     ensures several { (part : DumpPart) → Exactly result (Err (Several part)) (HasSeveral bytes.now part) }

@@ -3,6 +3,7 @@ use Rattle.wasm_bytes.specs.Laws.{IsBytes}
 use Rattle.dump_format.specs.Decode.{dump_from, Answers}
 use Rattle.dump_format.proofs.DecodeLaws.{dump_known_from}
 use Rattle.dump_format.proofs.Meanings.{found_exactly, malformed_exactly, float_exactly, several_exactly, limit_exactly}
+use Rattle.dump_format.proofs.ContainedLaws.{ok_contained, ok_limited}
 use Rattle.dump_format.proofs.decode.decode_dump.Goals as goal
 
 pub returns : goal.returns
@@ -14,6 +15,8 @@ returns c =
     record {
       exact = given;
       found = found_exactly bytes result fits given;
+      contained = ok_contained bytes result (found_exactly bytes result fits given);
+      limited = ok_limited bytes result (found_exactly bytes result fits given);
       malformed = malformed_exactly bytes result fits given;
       float = float_exactly bytes result fits given;
       several = several_exactly bytes result fits given;
