@@ -1,15 +1,14 @@
 -- The segments of a dump lie inside its memory.
 use Rattle.std.proofs.Common.{◌≡◌, ℕ, zero, suc, ◌+◌, ◌-◌, ◌*◌, ◌^◌, ◌<◌, ◌≤◌, ◌⊎◌, Bool, true, false, List, [], ◌∷◌, ◌++◌, length, Option, refl, sym, ap, subst, ◌∙◌, inl, inr, arith}
-use Rattle.std.specs.Prelude.{◌==◌, ◌&&◌, ◌||◌, nat_lt, nat_le, map, All, codes, Result, Ok, Err, IfOk}
+use Rattle.std.specs.Prelude.{◌==◌, ◌&&◌, ◌||◌, nat_lt, nat_le, map, All, Result, Ok, Err, IfOk}
 use Rattle.std.specs.List.{flat_map}
-use Rattle.std.specs.Str.{bytes_eq}
 use Rattle.std.proofs.lemmas.Bool.{ltb-true, leb-true, eqb-true}
 use Rattle.std.proofs.lemmas.List.{append-nil, length-map}
 use Rattle.std.proofs.lemmas.List.Elements.{All-nil, All-cons, All-weaker}
 use Rattle.wasm_leb.specs.Numbers.{IsUnsigned}
 use Rattle.wasm_leb.proofs.Powers.{fits_above}
 use Rattle.wasm_syntax.specs.declared.value.Value.{Value}
-use Rattle.wasm_bytes.specs.Spelling.{items, vector, image, leads, name, text, sized, steps, some_steps}
+use Rattle.wasm_bytes.specs.Spelling.{items, vector, image, steps}
 use Rattle.dump_format.specs.declared.dump.Dump.{Dump}
 use Rattle.dump_format.specs.declared.fault.DumpFault.{DumpFault}
 use Rattle.dump_format.specs.Region.{Region}
@@ -17,7 +16,7 @@ use Rattle.dump_format.specs.Parts.{Part, core, modules, instances, stack, memor
 use Rattle.dump_format.specs.Form.{is_inside, pages_of}
 use Rattle.dump_format.specs.Judged.{value_of, memories_in, values_in, segments_in, only, first_of, last_id, memory_of, dump_of}
 use Rattle.dump_format.specs.Sections.{may_follow}
-use Rattle.dump_format.specs.Grammar.{on_test, no_spelling, module_entry, instance_entry, stack_entry, limits_entry, global_entry, segment_entry, custom_tail, contents, section_tail, section_entry, one_section, dump_file}
+use Rattle.dump_format.specs.Grammar.{global_entry, segment_entry, custom_tail, contents, section_entry, one_section, dump_file}
 use Rattle.dump_format.specs.Meaning.{IsDump, Exactly}
 use Rattle.dump_format.specs.Contained.{IsContained, IsLimited}
 use Rattle.dump_format.proofs.Summary.{more, last_more}

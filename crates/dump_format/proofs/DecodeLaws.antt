@@ -10,7 +10,7 @@ use Rattle.dump_format.specs.Judged.{names_in, modules_in, instances_in, frames_
 use Rattle.dump_format.specs.Sections.{parts_item}
 use Rattle.dump_format.specs.Gathering.{found_or, repeated_in, refusal_in, dump_in, judged_in, gathered_item, dump_gathered}
 use Rattle.dump_format.specs.Decode.{dump_from, judged_parts}
-use Rattle.dump_format.proofs.Summary.{found, found_or-found, is_found_again-found, summary}
+use Rattle.dump_format.proofs.Summary.{found_or-found, is_found_again-found, summary}
 use Rattle.dump_format.proofs.Steps.{made, closed-made}
 use Rattle.dump_format.proofs.SectionLaws.{memory_known, complete_made}
 

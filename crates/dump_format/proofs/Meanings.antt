@@ -1,5 +1,5 @@
 -- What is decoded has the meaning that the grammar gives it.
-use Rattle.std.proofs.Common.{◌≡◌, ℕ, suc, ◌<◌, ◌≤◌, ◌⊎◌, Bool, true, false, ltb, List, [], ◌∷◌, length, Option, Some, None, Result, Ok, Err, refl, sym, ap, subst, ◌∙◌, inl, inr, arith}
+use Rattle.std.proofs.Common.{◌≡◌, ℕ, ◌<◌, ◌≤◌, ◌⊎◌, Bool, true, false, List, [], ◌∷◌, length, Option, Some, None, Result, Ok, Err, refl, sym, ap, subst, ◌∙◌, inl, inr}
 use Rattle.std.specs.Prelude.{nat_lt, if◌then◌else◌}
 use Rattle.std.specs.List.{flat_map}
 use Rattle.std.proofs.lemmas.Bool.{ltb-true, ltb-false, lt-ltb, le-ltb}
@@ -14,10 +14,10 @@ use Rattle.dump_format.specs.declared.fault.DumpPart.{DumpPart}
 use Rattle.dump_format.specs.declared.fault.DumpFault.{DumpFault}
 use Rattle.dump_format.specs.declared.fault.DumpFault.TheVariants.{Malformed, FloatValue, Several, Limit}
 use Rattle.dump_format.specs.Parts.{Part}
-use Rattle.dump_format.specs.Judged.{floats_in, first_of, memory_of, frames_of, repeated, dump_of, over, ◌orelse◌, at_float, at_repeated, refusal, unless_refused, judged}
+use Rattle.dump_format.specs.Judged.{floats_in, first_of, repeated, dump_of, over, ◌orelse◌, at_float, at_repeated, refusal, unless_refused, judged}
 use Rattle.dump_format.specs.Sections.{parts_item}
 use Rattle.dump_format.specs.Decode.{judged_parts, dump_from, Answers}
-use Rattle.dump_format.specs.Meaning.{IsSpelled, IsPlain, page_count, frame_count, IsDump, BreaksAt, HasFloatAt, HasSeveral, IsOver, PassesLimit, Exactly}
+use Rattle.dump_format.specs.Meaning.{IsSpelled, page_count, frame_count, IsDump, BreaksAt, HasFloatAt, HasSeveral, IsOver, PassesLimit, Exactly}
 use Rattle.dump_format.proofs.ExactSections.{parts_found, parts_read}
 use Rattle.dump_format.proofs.StopsSections.{parts_stop, parts_stopped}
 

@@ -1,9 +1,9 @@
 -- A test that chooses between two ways to read.
-use Rattle.std.proofs.Common.{◌≡◌, ℕ, ◌⊎◌, Bool, true, false, List, [], ◌++◌, length, Option, Some, None, Ok, Err, refl, sym, ap, inl, inr, ◌∙◌}
+use Rattle.std.proofs.Common.{◌≡◌, ℕ, Bool, true, false, List, length, Option, Some, None, Ok, Err, refl, sym, inl, inr, ◌∙◌}
 use Rattle.std.specs.Prelude.{if◌then◌else◌}
 use Rattle.wasm_bytes.specs.Place.{Place, Read}
 use Rattle.wasm_bytes.specs.Reading.{◌>>=◌, ◌▷◌, closed, here_item, end_item}
-use Rattle.wasm_bytes.specs.Laws.{IsBytes, place, got, failed, Took, IsExact, IsTail, StopsAt, PicksExact, PicksStops}
+use Rattle.wasm_bytes.specs.Laws.{place, IsExact, IsTail, StopsAt, PicksExact, PicksStops}
 use Rattle.wasm_bytes.proofs.Exact.{same_exact}
 use Rattle.wasm_bytes.proofs.ExactBlocks.{same_tail}
 use Rattle.wasm_bytes.proofs.Stops.{same_stops_at}

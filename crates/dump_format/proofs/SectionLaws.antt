@@ -4,7 +4,7 @@ use Rattle.std.specs.Prelude.{◌==◌, is_some, if◌then◌else◌, codes}
 use Rattle.std.specs.List.{flat_map}
 use Rattle.std.specs.Str.{bytes_eq}
 use Rattle.wasm_bytes.specs.Place.{Place, Read}
-use Rattle.wasm_bytes.specs.Reading.{◌>>=◌, ◌▷◌, mapped, byte_item, bytes_item, name_item, u32_item, vector_item, rest_item, steps_from, steps_to_end, within, choose, picked, if_complete, complete}
+use Rattle.wasm_bytes.specs.Reading.{◌>>=◌, ◌▷◌, mapped, byte_item, bytes_item, name_item, u32_item, vector_item, rest_item, steps_from, steps_to_end, within, choose, picked, if_complete}
 use Rattle.dump_format.specs.declared.lists.ModuleNames.{ModuleNames}
 use Rattle.dump_format.specs.declared.lists.MemorySegments.{MemorySegments}
 use Rattle.dump_format.specs.declared.gathered.Gathered.{Gathered}

@@ -1,14 +1,14 @@
 -- Where the entries of a dump stop.
-use Rattle.std.proofs.Common.{◌≡◌, ℕ, ℤ, Bool, List, Option}
+use Rattle.std.proofs.Common.{ℕ, List, Option}
 use Rattle.std.specs.Prelude.{◌==◌, nat_le}
 use Rattle.wasm_syntax.specs.declared.value.Seen.TheVariants as seen
 use Rattle.wasm_bytes.specs.Place.{Place, Read}
-use Rattle.wasm_bytes.specs.Reading.{◌⊗◌, ◌▷◌, mapped, checked, choose, done_item, fixed_item, run_item, u32_item, s32_item, s64_item, name_item, vector_item, sized_run_item}
-use Rattle.wasm_bytes.specs.Spelling.{pair, always, passing, byte, u32, s32, s64, run, name, vector}
-use Rattle.wasm_bytes.specs.Stopping.{never, unread, then_stops, vector_stops}
+use Rattle.wasm_bytes.specs.Reading.{◌⊗◌, mapped, checked, choose, fixed_item, run_item, u32_item, s32_item, s64_item, name_item, vector_item}
+use Rattle.wasm_bytes.specs.Spelling.{pair, always, passing, byte, u32, s32, s64, run, vector}
+use Rattle.wasm_bytes.specs.Stopping.{unread}
 use Rattle.wasm_bytes.specs.Laws.{IsExact, StopsAt, PicksStops}
 use Rattle.wasm_bytes.proofs.Exact.{checked_exact}
-use Rattle.wasm_bytes.proofs.ExactItems.{u32_exact, s32_exact, s64_exact, fixed_exact, run_exact, name_exact}
+use Rattle.wasm_bytes.proofs.ExactItems.{u32_exact, s32_exact, s64_exact, fixed_exact, run_exact}
 use Rattle.wasm_bytes.proofs.Stops.{unread_stops_at, u32_front, checked_front, one_of_stops_at, fixed_stops_at, u32_stops_at, s32_stops_at, s64_stops_at, run_stops_at, name_stops_at, done_stops_at, mapped_stops_at, then_stops_at, checked_stops_at, sized_run_stops_at}
 use Rattle.wasm_bytes.proofs.StopsLists.{choose_stops_at, vector_stops_at}
 use Rattle.dump_format.specs.Parts.{Shown, known, float}

@@ -1,15 +1,15 @@
 -- Where a dump stops.
-use Rattle.std.proofs.Common.{◌≡◌, ℕ, Bool, List, [], ◌∷◌, ◌++◌, Option, Err}
+use Rattle.std.proofs.Common.{◌≡◌, ℕ, List, [], ◌∷◌, ◌++◌, Option, Err}
 use Rattle.std.specs.Prelude.{◌==◌, codes}
 use Rattle.std.specs.Str.{bytes_eq}
 use Rattle.wasm_bytes.specs.Place.{Place, Read}
 use Rattle.wasm_bytes.specs.Reading.{◌⊗◌, ◌▷◌, mapped, bytes_item, name_item, rest_item, vector_item, closed, steps_to_end, whole}
 use Rattle.wasm_bytes.specs.Spelling.{always, image, text, name, vector}
-use Rattle.wasm_bytes.specs.Stopping.{never, unread, closed_stops, sized_stops, text_stops, vector_stops, steps_to_end_stops, either, behind}
+use Rattle.wasm_bytes.specs.Stopping.{never, unread, closed_stops, sized_stops, either, behind}
 use Rattle.wasm_bytes.specs.Laws.{IsBytes, IsExact, StopsAt, PicksStops}
 use Rattle.wasm_bytes.proofs.Exact.{image_exact}
 use Rattle.wasm_bytes.proofs.ExactItems.{name_exact, text_exact}
-use Rattle.wasm_bytes.proofs.ExactBlocks.{rest_tail, image_tail, closed_tail}
+use Rattle.wasm_bytes.proofs.ExactBlocks.{rest_tail, image_tail}
 use Rattle.wasm_bytes.proofs.ExactLists.{vector_exact}
 use Rattle.wasm_bytes.proofs.Stops.{name_stops_at, mapped_stops_at, leads_stops_at, then_stops_at, text_stops_at}
 use Rattle.wasm_bytes.proofs.StopsBlocks.{closed_stops_at, closed_tail_stops_at, complete_stops_at, rest_stops_at, within_stops_at, whole_stops, whole_stopped}
@@ -18,7 +18,7 @@ use Rattle.dump_format.specs.Parts.{Part, core, modules, instances, stack, memor
 use Rattle.dump_format.specs.Form.{module_item, instance_item, stack_item, limits_item, global_item, segment_item}
 use Rattle.dump_format.specs.Judged.{last_id, memory_of}
 use Rattle.dump_format.specs.Sections.{custom_behind, custom_item, contents_item, may_follow, section_behind, section_item, with_section, header, sections_item, has_core, parts_item}
-use Rattle.dump_format.specs.Grammar.{module_entry, instance_entry, stack_entry, limits_entry, global_entry, segment_entry, section_entry, one_section, sections, dump_file}
+use Rattle.dump_format.specs.Grammar.{module_entry, instance_entry, stack_entry, limits_entry, global_entry, segment_entry, one_section, sections, dump_file}
 use Rattle.dump_format.specs.Breaking.{module_stops, instance_stops, stack_stops, limits_stops, global_stops, segment_stops, custom_tail_stops, contents_stops, IsNextId, section_stops, sections_stops, dump_stops, stops_on_test}
 use Rattle.dump_format.proofs.OnTest.{on_test_stops, picks_stops, same_item_stops, closed-leads}
 use Rattle.dump_format.proofs.ExactEntries.{module_exact, instance_exact, stack_exact, limits_exact, global_exact, segment_exact}

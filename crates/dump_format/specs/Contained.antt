@@ -1,5 +1,5 @@
 -- What holds of each dump that is read.
-use Rattle.std.specs.Prelude.{ℕ, ◌+◌, ◌*◌, ◌^◌, ◌<◌, ◌≤◌, length, All}
+use Rattle.std.specs.Prelude.{◌+◌, ◌*◌, ◌^◌, ◌<◌, ◌≤◌, length, All}
 use Rattle.wasm_syntax.specs.declared.quantity.Quantity.TheVariants.{DumpPages, DumpFrames}
 use Rattle.wasm_syntax.specs.Quantity.{greatest}
 use Rattle.dump_format.specs.declared.dump.Dump.{Dump}

@@ -1,12 +1,12 @@
 -- Reading the parts of a dump (tool-conventions Coredump.md; Core 5.2 and 5.5).
-use Rattle.std.specs.Prelude.{ℕ, ℤ, ◌+◌, ◌*◌, List, length, Option, Some, None, Ok, Err, Bool, ◌&&◌, ◌==◌, nat_le, is_some, if◌then◌else◌}
+use Rattle.std.specs.Prelude.{ℕ, ℤ, ◌+◌, ◌*◌, List, length, Option, Some, None, Bool, ◌&&◌, ◌==◌, nat_le, is_some, if◌then◌else◌}
 use Rattle.std.specs.Int.{w32, w64, cast_unsigned}
 use Rattle.wasm_syntax.specs.declared.value.Seen.{Seen}
 use Rattle.wasm_syntax.specs.declared.value.Seen.TheVariants as seen
 use Rattle.wasm_syntax.specs.declared.value.Value.{Value}
 use Rattle.wasm_syntax.specs.declared.value.Value.TheVariants as value
 use Rattle.wasm_bytes.specs.Place.{Place, Read}
-use Rattle.wasm_bytes.specs.Reading.{◌>>=◌, ◌⊗◌, ◌▷◌, mapped, fixed_item, one_of_item, run_item, u32_item, s32_item, s64_item, name_item, here_item, done_item, checked, choose, vector_item, sized_run_item}
+use Rattle.wasm_bytes.specs.Reading.{◌⊗◌, ◌▷◌, mapped, fixed_item, one_of_item, run_item, u32_item, s32_item, s64_item, name_item, here_item, done_item, checked, choose, vector_item, sized_run_item}
 use Rattle.dump_format.specs.declared.dump.Instance.{Instance}
 use Rattle.dump_format.specs.Region.{Region}
 use Rattle.dump_format.specs.Parts.{Shown, known, float, ShownFrame}
