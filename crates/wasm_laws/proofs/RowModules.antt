@@ -49,7 +49,7 @@ divides = record empty {
   plain_bytes = 41;
 }
 
-divides_trees : IsProgram (program_of divides)
+pub divides_trees : IsProgram (program_of divides)
 divides_trees = all_write divides.bodies (refl, tt)
 
 -- D with i32.rem_s

@@ -1,6 +1,7 @@
 -- A module that is valid, and one whose first invalid place is an instruction.
 use Rattle.std.proofs.Common.{◌≡◌, ℕ, zero, suc, ◌-◌, ◌<◌, inl, inr, Bool, true, false, nat_lt, if◌then◌else◌, List, [], ◌∷◌, ◌++◌, reverse, Option, Some, None, refl, sym, ap, subst, ◌∙◌, arith, ltb-true}
-use Rattle.std.specs.Prelude.{IfSome}
+use Rattle.std.specs.Prelude.{IfSome, codes}
+use lib.Utf8.{encode}
 use Rattle.wasm_syntax.specs.declared.value.ValType.{ValType}
 use Rattle.wasm_syntax.specs.declared.value.ValType.TheVariants.{I32, I64}
 use Rattle.int_ops.specs.declared.operators.Binary.TheVariants.{Add, DivS}
@@ -16,7 +17,13 @@ use Rattle.wasm_syntax.specs.Valid.{There, Fine, Valid, Before, FirstInvalid, Bo
 use Rattle.wasm_laws.proofs.Progress.{head}
 use Rattle.wasm_laws.proofs.Lists.{some_is}
 use Rattle.wasm_laws.proofs.Unique.{one_tree}
-use Rattle.wasm_laws.proofs.RowModules.{divides, adds_wide}
+use Rattle.wasm_syntax.specs.declared.host.Reply.{Reply}
+use Rattle.wasm_syntax.specs.Module.{IsModule}
+use Rattle.wasm_syntax.specs.Run.{Invocation, run}
+use Rattle.wasm_laws.specs.Runs.{NoneStuck}
+use Rattle.wasm_laws.proofs.Never.{never_stuck}
+use Rattle.wasm_laws.proofs.Validity.{startable}
+use Rattle.wasm_laws.proofs.RowModules.{program_of, divides, divides_trees, adds_wide}
 
 abbrev two_one : FuncType
 two_one = record { params = I32 ∷ I32 ∷ []; results = I32 ∷ [] }
@@ -168,3 +175,25 @@ adds_wide_invalid = record {
     record { before = before; code = Plain (Binary I64 Add); after = placed 6 End ∷ []; splits = refl; begins = begins; wrong = begins_no_more },
   );
 }
+
+-- ---- and both are what the type of a module keeps
+
+divides_kept : IsModule divides
+unfolding encode
+divides_kept = record {
+  trees = (program_of divides).trees;
+  write = divides_trees;
+  in_order = (record { offsets = (omega arith, (omega arith, (omega arith, (omega arith, tt)))); targets = refl }, tt);
+  as_many = refl;
+  globals = tt;
+  elements = tt;
+  segments = tt;
+  import_modules = tt;
+  import_names = tt;
+  export_names = ((codes "div", (refl, refl)), tt);
+  custom_names = tt;
+}
+
+-- so no run of it gets stuck
+divides_never_stuck : (collecting : Bool) (invocations : List Invocation) (replies : List Reply) (depth n : ℕ) → NoneStuck (run (program_of divides) collecting invocations replies depth n)
+divides_never_stuck collecting invocations replies depth n = never_stuck (program_of divides) (startable (program_of divides) divides_trees refl divides_valid) collecting invocations replies depth n

@@ -10,8 +10,6 @@ mod module;
 mod parts;
 mod place;
 mod quantity;
-#[cfg(test)]
-mod tests;
 mod value;
 
 pub use blocks::BlockKind;
