@@ -1,27 +1,25 @@
 -- The open blocks before a live instruction are unique, and so are the operand types.
-use Rattle.std.proofs.Common.{◌≡◌, ℕ, zero, suc, ◌+◌, ◌<◌, ◌≤◌, Bool, true, false, List, [], ◌∷◌, ◌++◌, ◌⊎◌, inl, inr, ⊎_elim, map, length, take, drop, reverse, slice_get, Option, Some, None, refl, sym, ap, ap₂, subst, ◌∙◌, arith}
-use Rattle.std.specs.Prelude.{option_to_list, ◌↔◌}
-use Rattle.wasm_syntax.specs.declared.blocks.BlockKind.{BlockKind}
+use Rattle.std.proofs.Common.{◌≡◌, ℕ, zero, suc, ◌≤◌, Bool, false, List, [], ◌∷◌, ◌++◌, ⊎_elim, map, length, take, drop, reverse, slice_get, Option, Some, None, refl, sym, ap, ap₂, subst, ◌∙◌, arith}
+use Rattle.std.specs.Prelude.{option_to_list}
 use Rattle.wasm_syntax.specs.declared.blocks.BlockKind.TheVariants.{Loop, Then}
 use Rattle.wasm_syntax.specs.declared.blocks.BlockKind.TheVariants as kinds
 use Rattle.wasm_syntax.specs.declared.value.ValType.{ValType}
-use Rattle.wasm_syntax.specs.declared.value.ValType.TheVariants.{I32}
 use Rattle.wasm_syntax.specs.declared.instruction.Op.{Op}
 use Rattle.wasm_syntax.specs.declared.parts.FuncType.{FuncType}
 use Rattle.wasm_syntax.specs.declared.parts.Body.{Body}
 use Rattle.wasm_syntax.specs.declared.module.ModuleParts.{ModuleParts as Module}
 use Rattle.wasm_syntax.specs.Module.{InOrder}
-use Rattle.wasm_syntax.specs.Tree.{Jump, Unreachable, Br, BrIf, BrTable, Return, Call, CallIndirect, Item, Plain, Goes, Opens, OpensLoop, OpensIf, Else, End, Nodes, stop, basic, jump, block, loop, choose, Tree, Placed, placed, write, WritesOut, code_of, item_of}
+use Rattle.wasm_syntax.specs.Tree.{Jump, Unreachable, Br, BrIf, BrTable, Return, Call, CallIndirect, Item, Plain, Goes, Opens, OpensLoop, OpensIf, Else, End, Nodes, stop, basic, jump, block, loop, choose, Placed, placed, write, code_of, item_of}
 use Rattle.wasm_syntax.specs.Typing.{Context, Types, BasicTypes, JumpTypes, IsBody, body_context}
-use Rattle.wasm_syntax.specs.FlatTyping.{OpenBlock, opened, label_of, label_types, inside, given, FlatStep, FlatTypes, body_block, dead_behind_jump, dead_next, dead_behind, AllLive, IsLive, BeginsNode, all_types, TypesBefore}
+use Rattle.wasm_syntax.specs.FlatTyping.{OpenBlock, opened, label_of, label_types, inside, given, FlatStep, FlatTypes, body_block, dead_behind_jump, dead_next, dead_behind, AllLive, BeginsNode, all_types, TypesBefore}
 use Rattle.wasm_syntax.specs.Machine.{offset_in}
-use Rattle.wasm_syntax.specs.Static.{Spot, goes_on, Live, IsNode, LiveAt, Static}
+use Rattle.wasm_syntax.specs.Static.{goes_on, Live, IsNode, LiveAt, Static}
 use Rattle.wasm_laws.proofs.Progress.{tail, head}
 use Rattle.wasm_laws.proofs.Lists.{some_is}
 use Rattle.wasm_laws.proofs.Unique.{one_tree}
 use Rattle.wasm_laws.proofs.Live.{basic_one, jump_one, AscendCode, ascend_code}
 use Rattle.wasm_laws.proofs.FlatBodies.{inside_body}
-use Rattle.wasm_laws.proofs.FlatStatic.{rest_of, head_or, out, write_append, Front, live_front, Spotted, spotted, where_}
+use Rattle.wasm_laws.proofs.FlatStatic.{live_front, Spotted, spotted, where_}
 
 -- ---- live blocks agree
 

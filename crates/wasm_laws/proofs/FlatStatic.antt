@@ -1,14 +1,12 @@
 -- The operand types before a live instruction, by its place in the tree and by its place in the flat code, are the same.
-use Rattle.std.proofs.Common.{◌≡◌, ℕ, zero, suc, ◌+◌, ◌<◌, ◌≤◌, Bool, true, false, List, [], ◌∷◌, ◌++◌, ◌⊎◌, inl, inr, ⊎_elim, map, length, take, drop, reverse, slice_get, Option, Some, None, refl, sym, ap, ap₂, subst, ◌∙◌, arith, append_assoc, append-nil}
+use Rattle.std.proofs.Common.{◌≡◌, ℕ, Bool, true, false, List, [], ◌∷◌, ◌++◌, ◌⊎◌, inl, inr, ⊎_elim, Option, Some, None, refl, sym, ap, ap₂, subst, ◌∙◌, append_assoc}
 use Rattle.std.specs.Prelude.{option_to_list}
-use Rattle.wasm_syntax.specs.declared.blocks.BlockKind.{BlockKind}
 use Rattle.wasm_syntax.specs.declared.blocks.BlockKind.TheVariants.{Loop, Then}
 use Rattle.wasm_syntax.specs.declared.blocks.BlockKind.TheVariants as kinds
 use Rattle.wasm_syntax.specs.declared.value.ValType.{ValType}
-use Rattle.wasm_syntax.specs.declared.value.ValType.TheVariants.{I32}
-use Rattle.wasm_syntax.specs.Tree.{Jump, Unreachable, Br, BrIf, BrTable, Return, Call, CallIndirect, Item, Plain, Goes, Opens, OpensLoop, OpensIf, Else, End, Nodes, stop, basic, jump, block, loop, choose, Placed, placed, write, else_out, HasElse, IsTree}
+use Rattle.wasm_syntax.specs.Tree.{Jump, Unreachable, Br, BrIf, BrTable, Return, Call, CallIndirect, Plain, Goes, Opens, OpensLoop, OpensIf, Else, End, Nodes, stop, basic, jump, block, loop, choose, Placed, placed, write, else_out, IsTree}
 use Rattle.wasm_syntax.specs.Typing.{Context, Types}
-use Rattle.wasm_syntax.specs.FlatTyping.{OpenBlock, opened, inside, given, FlatStep, FlatTypes, dead_behind_jump, dead_next, dead_behind, AllLive, BeginsNode, all_types}
+use Rattle.wasm_syntax.specs.FlatTyping.{OpenBlock, opened, inside, given, FlatTypes, dead_behind_jump, dead_behind, AllLive, BeginsNode, all_types}
 use Rattle.wasm_syntax.specs.Machine.{offset_in}
 use Rattle.wasm_syntax.specs.Static.{Spot, spot, goes_on, Live, IsNode}
 use Rattle.wasm_laws.proofs.Progress.{tail}
