@@ -1,0 +1,6 @@
+pub mod Options
+pub mod Fits
+pub mod Jumps
+pub mod Same
+pub mod LocalsLaws
+pub mod Through

@@ -1,0 +1,4 @@
+pub mod Algorithm
+pub mod Bodies
+pub mod Locals
+pub mod Steps

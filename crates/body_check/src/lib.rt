@@ -1,0 +1,12 @@
+//! Whether the body of a function has its type (Core 3.4.1), by the validation algorithm.
+#![tactic(auto)]
+
+mod body;
+mod locals;
+mod ops;
+mod shape;
+mod step;
+
+pub use body::{BodyFault, check_body};
+pub use shape::type_of_value;
+pub use step::type_of;
