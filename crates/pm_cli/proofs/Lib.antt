@@ -1,3 +1,5 @@
+mod Taken
 mod DistinctLaws
-mod ReadingLaws
+mod Numbered
 mod PartsLaws
+mod ReadingLaws

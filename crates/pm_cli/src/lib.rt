@@ -1,10 +1,18 @@
-//! The words of the program, and the commands that they ask for.
+//! The command line of the program.
 #![tactic(auto)]
 
+mod command;
+mod dump_text;
+mod outcome;
 mod reading;
-mod words;
-
-pub use words::{Command, WordsFault, parse_words};
-
+#[cfg(test)]
+mod show_tests;
+mod status;
 #[cfg(test)]
 mod tests;
+mod top;
+mod words;
+
+pub use status::Status;
+pub use top::post_mortem;
+pub use words::{Command, WordsFault, parse_words};

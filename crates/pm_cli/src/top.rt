@@ -1,0 +1,70 @@
+//! The top call.
+
+ghost use Rattle.std.specs.Prelude.{◌≡◌, ◌≤◌, ◌⊎◌, ◌++◌, List, ℕ, map, Some, IfSome};
+ghost use Rattle.std.specs.String.{string_bytes};
+ghost use Rattle.causes.specs.Counts.{Rose};
+ghost use Rattle.pm_cli.specs.Answer.{answer};
+ghost use Rattle.pm_cli.specs.Told.{UnlessFault, Takes, HasTakenFront, IsFaultText};
+
+use crate::command::respond;
+use crate::outcome::Outcome;
+use crate::status::Status;
+use pm_outside::{Files, PutAnswer, Sink};
+use std::alloc::Global;
+
+/// Writes the text of an outcome, and says how the program ends.
+fn deliver<O: Sink>(out: &mut O, outcome: &Outcome) -> Status
+    ensures taken { IfSome (O.taken out.old) (λ before.
+        UnlessFault result (Takes result before (O.taken out.new) outcome.now)) }
+    ensures fault { result ≡ Status.FileFault
+        → (outcome.now.status ≡ Status.FileFault) ⊎ Rose (O.faults out.old) (O.faults out.new) }
+    ensures whole { IfSome (O.taken out.old) (λ before. result ≡ Status.FileFault
+        → (Rose (O.faults out.old) (O.faults out.new) → ⊥)
+        → Takes result before (O.taken out.new) outcome.now) }
+    ensures front { IfSome (O.taken out.old) (λ before.
+        HasTakenFront before (O.taken out.new) outcome.now.text) }
+    ensures later { O.faults out.old ≤ O.faults out.new }
+{
+    match out.put(outcome.text.as_bytes()) {
+        PutAnswer::Done => outcome.status,
+        PutAnswer::Failed { .. } => Status::FileFault,
+        PutAnswer::NoMemory { .. } => Status::NoMemory,
+    }
+}
+
+/// Does all that the program does: `words` are its words without its name, `files` and `out` stand for the outside.
+pub fn post_mortem<F: Files, O: Sink>(
+    alloc: Global,
+    words: &[String],
+    files: &mut F,
+    out: &mut O,
+) -> Status
+    // Where files and output are told, status and text are those of the answer, but for a fault and want of memory.
+    ensures answer { IfSome (F.told files.old) (λ held. IfSome (O.taken out.old) (λ before.
+        UnlessFault result (Takes result before (O.taken out.new) (answer (map string_bytes words.now) held)))) }
+
+    // A fault is answered only where a count rose.
+    ensures fault { result ≡ Status.FileFault
+        → Rose (F.faults files.old) (F.faults files.new) ⊎ Rose (O.faults out.old) (O.faults out.new) }
+
+    // Where the count of the output did not rise, a fault is that of a file, and the output has its whole text.
+    ensures named { IfSome (O.taken out.old) (λ before. result ≡ Status.FileFault
+        → (Rose (O.faults out.old) (O.faults out.new) → ⊥)
+        → Rose (F.faults files.old) (F.faults files.new) × ((text : List ℕ)
+        × IsFaultText (map string_bytes words.now) text × (O.taken out.new ≡ Some (before ++ text)))) }
+
+    // However it ends, the output has taken a front of the answer's text, or, where a count of the files rose, of the
+    // text that names a file.
+    ensures front { IfSome (F.told files.old) (λ held. IfSome (O.taken out.old) (λ before.
+        HasTakenFront before (O.taken out.new) (answer (map string_bytes words.now) held).text
+        ⊎ (Rose (F.faults files.old) (F.faults files.new) × ((text : List ℕ)
+        × IsFaultText (map string_bytes words.now) text × HasTakenFront before (O.taken out.new) text)))) }
+
+    // No file is changed.
+    ensures same { F.told files.new ≡ F.told files.old }
+{
+    match respond(alloc, words, files) {
+        Ok(outcome) => deliver(out, &outcome),
+        Err(_) => Status::NoMemory,
+    }
+}

@@ -1,0 +1,29 @@
+//! The program: the real files and output under the top call.
+#![tactic(auto)]
+
+use causes::NoMemory;
+use pm_cli::{Status, post_mortem};
+use pm_outside::{HostFiles, HostOut};
+use std::process::ExitCode;
+use std::{env, io};
+
+/// The program's words without its name. Arguments that are no text are outside the rules of words, as no words are.
+fn words(rt: &HostRuntime) -> Result<Vec<String>, NoMemory> {
+    let Ok(args) = env::args(rt) else {
+        return Ok(Vec::new(rt.alloc()));
+    };
+    match args.skip(1).collect(rt.alloc()) {
+        Ok(words) => Ok(words),
+        Err(_) => Err(NoMemory),
+    }
+}
+
+fn main(rt: HostRuntime) -> ExitCode {
+    let Ok(words) = words(&rt) else {
+        return ExitCode::from(Status::NoMemory.code());
+    };
+    let mut out = HostOut::new(io::writer(&rt));
+    let mut files = HostFiles::new(rt.alloc(), rt);
+    let status = post_mortem(rt.alloc(), &words, &mut files, &mut out);
+    ExitCode::from(status.code())
+}
