@@ -1,0 +1,495 @@
+-- Calls, traps, and the whole step.
+use Rattle.std.proofs.Common.{◌≡◌, ℕ, zero, suc, ◌+◌, ◌≤◌, List, [], ◌∷◌, ◌++◌, length, map, reverse, Option, Some, None, Bool, true, false, ◌&&◌, nat_lt, refl, sym, ap, ap₂, ◌∙◌, subst, arith, append_assoc, append-nil, length-append, ◌⊎◌, inl, inr, slice_get, slice_set, option_to_list, option_map, ltb-true, lt-ltb, unwrap_or}
+use Rattle.wasm_syntax.specs.declared.value.ValType.{ValType}
+use Rattle.wasm_syntax.specs.declared.value.ValType.TheVariants.{I32, I64}
+use Rattle.wasm_syntax.specs.declared.value.Value.{Value}
+use Rattle.wasm_syntax.specs.declared.value.Value.TheVariants as values
+use Rattle.wasm_syntax.specs.declared.parts.FuncType.{FuncType}
+use Rattle.wasm_syntax.specs.declared.parts.Body.{Body}
+use Rattle.wasm_syntax.specs.declared.parts.Import.{Import}
+use Rattle.wasm_syntax.specs.Numbers.{type_of, types}
+use Rattle.wasm_syntax.specs.Tree.{BrTable, Call, CallIndirect, Nodes, stop, jump, Tree}
+use Rattle.wasm_syntax.specs.declared.module.ModuleParts.{ModuleParts as Module}
+use Rattle.wasm_syntax.specs.Module.{Function, imported, defined, function_at, type_at, declared_locals, same_types, same_functype, option_then}
+use Rattle.wasm_syntax.specs.Host.{World, Answer, replied, told, silent, misfit, answer, told_or, served_by, after_writes, if_fits, if_written, fits_type, collector_of}
+use Rattle.wasm_syntax.specs.declared.host.HostCall.{HostCall}
+use Rattle.wasm_syntax.specs.declared.host.Reply.{Reply}
+use Rattle.wasm_syntax.specs.declared.host.CollectorCall.{CollectorCall}
+use Rattle.wasm_syntax.specs.declared.host.CollectorCall.TheVariants as collector_calls
+use Rattle.wasm_syntax.specs.Machine.{Kind, leaves, returns, Label, Frame, Config, label, frame, config, Engine, Stepped, next, traps, Cut, short, parts, one_more, cut, exactly, pick, zero_of, zeros, result_of, function_type, entered, host_call, deliver, host, enters, applied_if, calls_on, calls, step, offset_in}
+use Rattle.unwind_rewrite.specs.Slots.{Place, Ctx, slot, kind_at, added, less, grown, ctx_of}
+use Rattle.unwind_rewrite.specs.Rewrite.{Info, test_flag, tested, after_call, after_direct, call_code, helper_of, rewrite, body}
+use Rattle.unwind_rewrite.specs.Numbering.{import_count, mapped, place_in, global_types, helper_base, helped}
+use Rattle.unwind_rewrite.specs.Pieces.{call, fetch, load, tree_of}
+use Rattle.linear_memory.specs.Memory.{Memory}
+use Rattle.linear_memory.specs.Memory as memories
+use Rattle.unwind_rewrite.proofs.Run.{Holds, Gets, To, Shell, st, stored, types-stored, slice_get-put_same, types-slice_set, same_type-same, same_type-refl, added_kind, more_parts, one_step, seq, weaken, fetch_to, load_to, less_holds, store_to}
+use Rattle.unwind_rewrite.proofs.Agreement.{now, info, infos, joined, Wit, t_frame, FitsIn, Has, Room_call, Room, FitsLabels, MemoryFits, WorldFits, FitsFrame, FitsFrames, Wrap, zero_vs, t_frames, flagged}
+use Rattle.unwind_rewrite.proofs.Parts.{put_keeps, cut_all, fits_put, settle}
+use Rattle.unwind_rewrite.specs.Guards.{helper_type, helper, entry_label, says}
+use Rattle.unwind_rewrite.proofs.Tell.{tell_labels, tell_locals, tell_frame}
+use Rattle.std.proofs.lemmas.List.{map-append}
+use Rattle.std.proofs.lemmas.Option.{slice_get-map}
+use Rattle.wasm_syntax.specs.Run.{start_table}
+use Rattle.unwind_rewrite.proofs.Sim.{Linked, After, refit, room_height, grown-append, grown_fits, len_of, shell, tgt, wit, armed, passed_to, caught_to}
+use Rattle.unwind_rewrite.proofs.Control.{flag_len, flag_down}
+use Rattle.unwind_rewrite.proofs.Unwind.{Speaks, exit_branch, frame_out, Up, up_all, renamed}
+use Rattle.wasm_syntax.specs.declared.host.Write.{Write}
+
+-- an import stays in its place, and is no collector's
+pub record ImportLinked (M M' : Engine) (f : ℕ) (i : Import) (type : FuncType) : Type 0 where
+  pub target : function_at M'.program (mapped M.program.module_ f) ≡ Some (imported i type)
+  pub same : mapped M.program.module_ f ≡ f
+  pub direct : nat_lt f (import_count M.program.module_) ≡ true
+  pub unheard : (args : List Value) → collector_of M'.program.module_ (host_call f i type args) ≡ None
+
+-- a type that is asked for has its helper
+pub record HelperLinked (M M' : Engine) (t : ℕ) : Type 0 where
+  pub new : Body
+  pub locals : declared_locals new.groups ≡ []
+  pub target : function_at M'.program (helper_base M.program.module_ + place_in t (helped M.program)) ≡ Some (defined new (tree_of (helper M.program.module_ t)) helper_type)
+
+-- the new module stands for the old one
+pub record Stands (M M' : Engine) (E : ℕ) (gl : List ValType) : Type 0 where
+  pub quiet : M.collects ≡ false
+  pub deeper : M'.depth ≡ suc (suc M.depth)
+  pub speaks : Speaks M' M.program.module_
+  pub type_is : (f : ℕ) (fn : Function) → function_at M.program f ≡ Some fn → type_at M.program.module_ f ≡ Some (function_type fn)
+  pub functions : (f : ℕ) (b : Body) (tree : Tree) (type : FuncType) → function_at M.program f ≡ Some (defined b tree type) → Linked M M' E gl f b tree type
+  pub imports : (f : ℕ) (i : Import) (type : FuncType) → function_at M.program f ≡ Some (imported i type) → ImportLinked M M' f i type
+  pub undirect : (f : ℕ) (b : Body) (tree : Tree) (type : FuncType) → function_at M.program f ≡ Some (defined b tree type) → nat_lt f (import_count M.program.module_) ≡ false
+  pub helpers : (t : ℕ) → Has t (helped M.program) → HelperLinked M M' t
+  pub entry_types : (t : ℕ) (type : FuncType) → slice_get M.program.module_.types t ≡ Some type → slice_get M'.program.module_.types t ≡ Some type
+  pub function_types_ : (f : ℕ) (type : FuncType) → type_at M.program.module_ f ≡ Some type → type_at M'.program.module_ (mapped M.program.module_ f) ≡ Some type
+
+pub types-append : (a b : List Value) → types (a ++ b) ≡ types a ++ types b
+types-append a b = map-append type_of a b
+
+pub types-zeros : (ts : List ValType) → types (zeros ts) ≡ ts
+types-zeros [] = refl
+types-zeros (I32 ∷ ts) = ap (λ z. I32 ∷ z) (types-zeros ts)
+types-zeros (I64 ∷ ts) = ap (λ z. I64 ∷ z) (types-zeros ts)
+
+pub same_types-same : (a b : List ValType) → same_types a b ≡ true → a ≡ b
+same_types-same [] [] e = refl
+same_types-same [] (_ ∷ _) e = absurd (cc)
+same_types-same (_ ∷ _) [] e = absurd (cc)
+same_types-same (I32 ∷ a) (I32 ∷ b) e = ap (λ z. I32 ∷ z) (same_types-same a b e)
+same_types-same (I32 ∷ a) (I64 ∷ b) e = absurd (cc)
+same_types-same (I64 ∷ a) (I32 ∷ b) e = absurd (cc)
+same_types-same (I64 ∷ a) (I64 ∷ b) e = ap (λ z. I64 ∷ z) (same_types-same a b e)
+
+-- the locals of a function that is called on these arguments
+pub types-locals : (args : List Value) (ps ls : List ValType) → types args ≡ ps → types (args ++ zeros ls) ≡ ps ++ ls
+types-locals args ps ls e = types-append args (zeros ls) ∙ ap₂ (λ a b. a ++ b) e (types-zeros ls)
+
+pub new_locals : (args : List Value) (new old more : List ValType) → new ≡ old ++ more → args ++ zeros new ≡ (args ++ zeros old) ++ zeros more
+new_locals args new old more e = ap (λ z. args ++ zeros z) e ∙ ap (λ z. args ++ z) (map-append zero_of old more) ∙ sym (append_assoc args (zeros old) (zeros more))
+
+pub holds_len : (ex : List Value) (js es : List Place) (ops : List Value) → Holds ex js ops es → length ops ≡ length es
+holds_len ex js [] [] h = refl
+holds_len ex js (e ∷ es) [] h = absurd h
+holds_len ex js [] (v ∷ ops) h = absurd h
+holds_len ex js (e ∷ es) (v ∷ ops) h = ap suc (holds_len ex js es ops h.1)
+
+pub cut_len : (m : ℕ) (ops vs below : List Value) → cut m ops ≡ parts vs below → m ≤ length ops
+cut_len zero ops vs below e = omega arith
+cut_len (suc m) [] vs below e = absurd (cc)
+cut_len (suc m) (v ∷ ops) vs below e = let r = more_parts v (cut m ops) vs below e in omega (arith, cut_len m ops r.0 below r.1)
+
+-- ---- what a host function does, in the two worlds
+
+module _ (M : Engine) (gl : List ValType) (r : Option ValType) (b : Value) where
+  abbrev pub AnswerRel : Answer → Answer → Type 0
+  AnswerRel (replied w v) A' = (A' ≡ replied (flagged M w b) v) × WorldFits M gl w × (exactly r (option_to_list v) ≡ Some (option_to_list v))
+  AnswerRel (told k) A' = ⊥
+  AnswerRel silent A' = A' ≡ silent
+  AnswerRel (misfit reply) A' = A' ≡ misfit reply
+
+fits_result : (r : Option ValType) (v : Option Value) → fits_type r v ≡ true → exactly r (option_to_list v) ≡ Some (option_to_list v)
+fits_result None None e = refl
+fits_result None (Some v) e = absurd (cc)
+fits_result (Some t) None e = absurd (cc)
+fits_result (Some t) (Some v) e = rw (same_type-refl (type_of v) t (sym (same_type-same t (type_of v) e))) refl
+
+writes_keep : (k : Option Memory) (ws : List Write) (k' : Option Memory) → after_writes k ws ≡ Some k' → MemoryFits k → MemoryFits k'
+writes_keep k [] k' e h = let z : k ≡ k' = cc in subst MemoryFits z h
+writes_keep None (w ∷ ws) k' e h = absurd (cc)
+writes_keep (Some m) (w ∷ ws) k' e h = by_put (memories.put m w.at w.bytes) refl e (λ m'. writes_keep (Some m') ws k')
+  where
+    by_put : (o : Option Memory) → memories.put m w.at w.bytes ≡ o → option_then o (λ m'. after_writes (Some m') ws) ≡ Some k' → ((m' : Memory) → after_writes (Some m') ws ≡ Some k' → MemoryFits (Some m') → MemoryFits k') → MemoryFits k'
+    by_put None p e ih = absurd (cc)
+    by_put (Some m') p e ih = ih m' e (put_keeps m m' w.at w.bytes p h)
+
+module _ (M : Engine) (gl : List ValType) (b : Value) (call : HostCall) (w : World) (wf : WorldFits M gl w) where
+  written_rel : (reply : Reply) (left : List Reply) (o : Option (Option Memory)) → fits_type call.result reply.value ≡ true → after_writes w.memory reply.writes ≡ o → AnswerRel M gl call.result b (if_written call reply left w o) (if_written call reply left (flagged M w b) o)
+  written_rel reply left None ft e = refl
+  written_rel reply left (Some k) ft e = (refl, record { globals = wf.globals; memory = writes_keep w.memory reply.writes k e wf.memory; table = wf.table }, fits_result call.result reply.value ft)
+
+  fits_rel : (reply : Reply) (left : List Reply) (q : Bool) → fits_type call.result reply.value ≡ q → AnswerRel M gl call.result b (if_fits call reply left w q) (if_fits call reply left (flagged M w b) q)
+  fits_rel reply left false ft = refl
+  fits_rel reply left true ft = written_rel reply left (after_writes w.memory reply.writes) ft refl
+
+  pub served_rel : (rs : List Reply) → AnswerRel M gl call.result b (served_by call w rs) (served_by call (flagged M w b) rs)
+  served_rel [] = refl
+  served_rel (reply ∷ left) = fits_rel reply left (fits_type call.result reply.value) refl
+
+module _ (M M' : Engine) (E : ℕ) (gl : List ValType) (W : Wrap) (S : Stands M M' E gl) where
+  pub length-frames : (r : Option ValType) (Fs : List Frame) (ws : List Wit) → FitsFrames M E gl W.result r Fs ws → length (t_frames W r Fs ws) ≡ suc (length Fs)
+  length-frames r [] [] h = refl
+  length-frames r [] (_ ∷ _) h = absurd h
+  length-frames r (F ∷ Fs) [] h = absurd h
+  length-frames r (F ∷ Fs) (w ∷ ws) h = ap suc (length-frames F.result Fs ws h.1)
+
+  deep : (a b : ℕ) → nat_lt a b ≡ true → nat_lt (suc a) (suc (suc b)) ≡ true
+  deep a b e = lt-ltb (suc a) (suc (suc b)) (omega (arith, ltb-true a b e))
+
+  module _ (C : Ctx) (ex : List Value) (e : List Place) (ss : List (List Place)) (ws : List Wit) (ix cl : ℕ) (r : Option ValType) (l ops : List Value) (en : ℕ) (kd : Kind) (Ls : List Label) (Fs : List Frame) (g : World) (co : List CollectorCall) (N : Nodes) (f : FitsFrame M E gl None (frame ix r cl l (label ops N en kd ∷ Ls)) (wit C ex (e ∷ ss))) (fs : FitsFrames M E gl W.result r Fs ws) (wf : WorldFits M gl g) where
+    abbrev FF : Frame
+    FF = frame ix r cl l (label ops N en kd ∷ Ls)
+
+    abbrev LL : Label
+    LL = label ops N en kd
+
+    abbrev es : List Place
+    es = e ++ joined ss
+
+    abbrev ls : List Info
+    ls = info kd ∷ infos Ls
+
+    abbrev X : Shell
+    X = shell W C r kd Ls ss Fs ws
+
+    abbrev g0 : World
+    g0 = flagged M g (values.I32 0)
+
+    abbrev o : ℕ
+    o = offset_in N en
+
+    gt : types g.globals ≡ global_types C.source
+    gt = wf.globals ∙ sym f.flag
+
+    sp : Speaks M' C.source
+    sp = subst (Speaks M') (sym f.funcs) S.speaks
+
+    size : length C.locals ≡ length l
+    size = len_of l C.locals f.size
+
+    -- the verdict is a trap: this frame hands over its values, and then the others
+    pub trap_from : (t : Config) (j : ℕ) (k : Nodes) → To M' 1 30 t (st X (l ++ ex) (values.I32 (suc j) ∷ []) (tested C ls es o k) g0 co) → After M M' E gl W t (traps (suc j) (config (FF ∷ Fs) g co))
+    trap_from t j k pre =
+        let h = f.labels in
+        let at : slice_get (types ex) (kind_at C) ≡ Some I32 = rw f.room (added_kind C.slots) in
+        let v = values.I32 (suc j) in
+        let ex1 = slice_set ex (kind_at C) v in
+        let X1 = armed X k [] in
+        let v1 = caught_to M' C l size {X = X} {g = g0} {co = co} ex j ls es o k f.room in
+        let h1 = fits_put C ex None (LL ∷ Ls) (e ∷ ss) (kind_at C) v (omega (arith, (room_height C es N h.2))) h in
+        let v3 = frame_out M' C sp M l f.size ex1 None LL Ls e ss X1.kind X1.below X1.frames g 0 co o (suc j) h1 (types-slice_set ex (kind_at C) I32 v at refl ∙ f.room) (slice_get-put_same ex (kind_at C) I32 v at) gt (room_height C es N h.2) (exit_branch C ex None [] k LL Ls e ss h) in
+        let all : Gets M' 1 E t (deliver M' (zero_vs C.result) X.frames (flagged M g (values.I32 1)) (collector_calls.Frame (suc j) C.index o (length C.locals) ∷ tell_locals l (tell_labels (LL ∷ Ls) co))) = weaken M' (seq M' pre (seq M' v1 v3)) (omega arith) (omega (arith, f.small)) in
+        let up : Up M M' E gl W S.speaks t 1 E r Fs ws g (tell_frame (suc j) o FF co) = renamed M M' E gl W S.speaks t 1 E C.result r C.index ix (length C.locals) (length l) o (suc j) X.frames g (tell_locals l (tell_labels (LL ∷ Ls) co)) f.result f.idx size all in
+        inr (wf, weaken M' (up_all M M' E gl W S.speaks Fs ws g (tell_frame (suc j) o FF co) t 1 E r fs wf up) (omega arith) (omega arith))
+
+    -- a function is called, from a state of the target that is about to call it
+    module _ (ex1 : List Value) (below : List Value) (e' : List Place) (rest : Nodes) (fn : Function) (vs : List Value) (dq : Bool) where
+      abbrev r1 : Option ValType
+      r1 = result_of (function_type fn)
+
+      abbrev k1 : Nodes
+      k1 = after_direct dq C ls r1 (e' ++ joined ss) o (λ es'. rewrite C ls es' rest)
+
+      abbrev Calling : ℕ → List Value → Nodes → Stepped
+      Calling g' stk nd = calls M' (function_at M'.program (mapped M.program.module_ g')) (mapped M.program.module_ g') (vs ++ []) 0 k1 (frame X.idx X.result 0 (l ++ ex1) (label stk nd 0 X.kind ∷ X.below)) (label stk nd 0 X.kind) X.below X.frames g0 co
+
+      abbrev Below : Type 0
+      Below = FitsLabels C ex1 r1 (label below rest en kd ∷ Ls) (e' ∷ ss)
+
+      -- where the target stands when the function has given its results
+      come_back : (g' : World) (vs' : List Value) (t : Config) → types ex1 ≡ types ex → Below → WorldFits M gl g' → exactly r1 vs' ≡ Some vs' → (q : ℕ) → q ≤ C.slots + 40 → To M' 1 q t (st X (l ++ ex1) vs' k1 (flagged M g' (values.I32 0)) co) → After M M' E gl W t (next (config (frame ix r cl l (label (vs' ++ below) rest en kd ∷ Ls) ∷ Fs) g' co))
+      come_back g' vs' t same hb wf' x q le pre =
+          let es' = e' ++ joined ss in
+          let room1 = same ∙ f.room in
+          let ex2 = stored r1 (λ t. slot t (length es')) vs' ex1 in
+          let pl = grown_fits C r1 es' ex1 room1 hb.1 in
+          let hs = settle C ex1 r1 (label below rest en kd) Ls e' ss vs' room1 x hb in
+          let k2 = rewrite C ls (grown r1 es') rest in
+          let g1 = flagged M g' (values.I32 0) in
+          let fl = flag_len C g' (wf'.globals ∙ sym f.flag) in
+          let go : To M' 1 (C.slots + 50) t (st X (l ++ ex2) [] k2 g1 co) = weaken M' (seq M' pre (behind dq)) (omega arith) (omega (arith, le)) in (
+            wit C ex2 (grown r1 e' ∷ ss) ∷ ws,
+            (wf', (refit l (label (vs' ++ below) rest en kd ∷ Ls) ex2 (grown r1 e' ∷ ss) None cl f refl (types-stored r1 (λ t. slot t (length es')) vs' ex1 pl x ∙ same) hs, fs)),
+            rw (← grown-append r1 e' (joined ss)) (weaken M' go (omega arith) (omega (arith, f.small))),
+          )
+        where
+          behind : (dq : Bool) → To M' 0 4 (st X (l ++ ex1) vs' (after_direct dq C ls r1 (e' ++ joined ss) o (λ es'. rewrite C ls es' rest)) (flagged M g' (values.I32 0)) co) (st X (l ++ stored r1 (λ t. slot t (length (e' ++ joined ss))) vs' ex1) [] (rewrite C ls (grown r1 (e' ++ joined ss)) rest) (flagged M g' (values.I32 0)) co)
+          behind true = weaken M' (store_to M' C l size ex1 r1 (e' ++ joined ss) vs' (rewrite C ls (grown r1 (e' ++ joined ss)) rest) (grown_fits C r1 (e' ++ joined ss) ex1 (same ∙ f.room) hb.1) x) (omega arith) (omega arith)
+          behind false =
+              let k = rewrite C ls (grown r1 (e' ++ joined ss)) rest in
+              weaken M' (seq M' (store_to M' C l size ex1 r1 (e' ++ joined ss) vs' (test_flag C ls (e' ++ joined ss) o k) (grown_fits C r1 (e' ++ joined ss) ex1 (same ∙ f.room) hb.1) x)
+              (flag_down M M' E gl W C X (l ++ stored r1 (λ t. slot t (length (e' ++ joined ss))) vs' ex1) g' co ls (e' ++ joined ss) o k (flag_len C g' (wf'.globals ∙ sym f.flag)))) (omega arith) (omega arith)
+
+    abbrev DirectFits : Function → Bool → Type 0
+    DirectFits (imported i type) dq = Unit {0}
+    DirectFits (defined b tree type) dq = dq ≡ false
+
+    -- a host function has answered
+    answered : (ex1 below : List Value) (e' : List Place) (rest : Nodes) (i : Import) (type : FuncType) (vs : List Value) (dq : Bool) (call : HostCall) (stk : List Value) (nd : Nodes) (t : Config) (n : ℕ) (A A' : Answer) → types ex1 ≡ types ex → Below ex1 below e' rest (imported i type) vs dq → n ≤ C.slots + 40 → AnswerRel M gl (result_of type) (values.I32 0) A A' → Gets M' 1 n t (host M' A' call [] (k1 ex1 below e' rest (imported i type) vs dq) (frame X.idx X.result 0 (l ++ ex1) (label stk nd 0 X.kind ∷ X.below)) (label stk nd 0 X.kind) X.below X.frames g0 co) → After M M' E gl W t (host M A call below rest FF LL Ls Fs g co)
+    answered ex1 below e' rest i type vs dq call stk nd t n (replied w v) A' same hb le h pre =
+        come_back ex1 below e' rest (imported i type) vs dq w (option_to_list v) t same hb h.1 h.2 n le (rw (h.0, append-nil) at pre)
+    answered ex1 below e' rest i type vs dq call stk nd t n (told k) A' same hb le h pre = absurd h
+    answered ex1 below e' rest i type vs dq call stk nd t n silent A' same hb le h pre = (wf, _, refl, refl, weaken M' (rw h at pre) (omega arith) (omega (arith, le, f.small)))
+    answered ex1 below e' rest i type vs dq call stk nd t n (misfit reply) A' same hb le h pre = (wf, _, refl, refl, weaken M' (rw h at pre) (omega arith) (omega (arith, le, f.small)))
+
+    -- a defined function begins
+    begun : (ex1 below : List Value) (e' : List Place) (rest : Nodes) (b : Body) (tree : Tree) (type : FuncType) (vs : List Value) (dq : Bool) (g' : ℕ) (stk : List Value) (nd : Nodes) (t : Config) (n : ℕ) (d : Bool) → function_at M.program g' ≡ Some (defined b tree type) → dq ≡ false → types ex1 ≡ types ex → Below ex1 below e' rest (defined b tree type) vs dq → types (reverse vs) ≡ type.params → n ≤ C.slots + 40 → nat_lt (suc (length Fs)) M.depth ≡ d
+        → ((k : Linked M M' E gl g' b tree type) → Gets M' 1 n t (enters M' (nat_lt (suc (length X.frames)) M'.depth) (entered (mapped M.program.module_ g') k.new (tree_of (body (ctx_of M.program g' b type k.slots) tree.nodes)) type (reverse vs)) [] 0 (k1 ex1 below e' rest (defined b tree type) vs dq) (frame X.idx X.result 0 (l ++ ex1) (label stk nd 0 X.kind ∷ X.below)) (label stk nd 0 X.kind) X.below X.frames g0 co))
+        → After M M' E gl W t (enters M d (entered g' b tree type (reverse vs)) below o rest FF LL Ls Fs g co)
+    begun ex1 below e' rest b tree type vs dq g' stk nd t n false at dqe same hb ty le d pre = inl refl
+    begun ex1 below e' rest b tree type vs dq g' stk nd t n true at dqe same hb ty le d pre =
+        let k = S.functions g' b tree type at in
+        let C' = ctx_of M.program g' b type k.slots in
+        let args = reverse vs in
+        let ex' = zeros (added k.slots) in
+        let depth : nat_lt (suc (length X.frames)) M'.depth ≡ true = rw (length-frames r Fs ws fs, S.deeper) (deep (suc (length Fs)) M.depth d) in
+        let locals : args ++ zeros (declared_locals k.new.groups) ≡ (args ++ zeros (declared_locals b.groups)) ++ ex' = new_locals args (declared_locals k.new.groups) (declared_locals b.groups) (added k.slots) k.locals in
+        let caller = frame X.idx C.result 0 (l ++ ex1) (label [] (after_call C ls (result_of type) (e' ++ joined ss) o (λ es'. rewrite C ls es' rest)) 0 X.kind ∷ X.below) in
+        let mid = config (frame (mapped M.program.module_ g') (result_of type) 0 ((args ++ zeros (declared_locals b.groups)) ++ ex') (label [] (body C' tree.nodes) 0 (returns (result_of type)) ∷ []) ∷ caller ∷ X.frames) g0 co in
+        let s1 : To M' 1 n t mid = rw (depth, dqe, locals) at (pre k) in
+        let s3 : To M' 2 2 mid (config (t_frame now (entered g' b tree type args) (wit C' ex' ([] ∷ [])) ∷ caller ∷ X.frames) g0 co) = seq M' (one_step M' mid _ refl) (one_step M' _ _ refl) in
+        let callee : FitsFrame M E gl None (entered g' b tree type args) (wit C' ex' ([] ∷ [])) =
+        record { size = types-locals args type.params (declared_locals b.groups) ty; room = types-zeros (added k.slots); idx = refl; result = refl; funcs = refl; base = refl; helpers = refl; flag = ap global_types (sym f.funcs) ∙ f.flag; small = k.small; narrow = k.narrow; labels = (tt, tt, k.room, refl, tt) } in (
+          wit C' ex' ([] ∷ []) ∷ wit C ex1 (e' ∷ ss) ∷ ws,
+          (wf, (callee, (refit l (label below rest en kd ∷ Ls) ex1 (e' ∷ ss) (result_of type) o f refl same hb, fs))),
+          weaken M' (seq M' s1 s3) (omega arith) (omega (arith, le, f.small)),
+        )
+
+    pub called : (ex1 below : List Value) (e' : List Place) (rest : Nodes) (fn : Function) (vs : List Value) (dq : Bool) (g' : ℕ) (stk : List Value) (nd : Nodes) (t T : Config) (n : ℕ) (q : Bool) → function_at M.program g' ≡ Some fn → DirectFits fn dq → cut (length (function_type fn).params) (vs ++ []) ≡ parts vs [] → types ex1 ≡ types ex → Below ex1 below e' rest fn vs dq → n ≤ C.slots + 35 → same_types (types (reverse vs)) (function_type fn).params ≡ q → To M' 0 n t T → step M' T ≡ Calling ex1 below e' rest fn vs dq g' stk nd → After M M' E gl W t (applied_if M q fn g' (reverse vs) below o rest FF LL Ls Fs g co)
+    called ex1 below e' rest fn vs dq g' stk nd t T n false at df c same hb le ty pre st_ = tt
+    called ex1 below e' rest (imported i type) vs dq g' stk nd t T n true at df c same hb le ty pre st_ =
+        let k = S.imports g' i type at in
+        let hc = host_call g' i type (reverse vs) in
+        let args = reverse vs in
+        let m = M'.program.module_ in
+        let gm = mapped M.program.module_ g' in
+        let FT = frame X.idx X.result 0 (l ++ ex1) (label stk nd 0 X.kind ∷ X.below) in
+        let kk = k1 ex1 below e' rest (imported i type) vs dq in
+        let e1 : step M' T ≡ host M' (answer M'.collects m (host_call gm i type args) g0) (host_call gm i type args) [] kk FT (label stk nd 0 X.kind) X.below X.frames g0 co = rw (k.target, c, ty) at st_ in
+        let heard : answer M'.collects m (host_call gm i type args) g0 ≡ served_by hc g0 g.replies =
+        ap (λ c. answer c m (host_call gm i type args) g0) S.speaks.collects ∙ ap (λ z. answer true m (host_call z i type args) g0) k.same ∙ ap (λ z. told_or z hc g0) (k.unheard args) in
+        let e2 = e1 ∙ ap₂ (λ A z. host M' A (host_call z i type args) [] kk FT (label stk nd 0 X.kind) X.below X.frames g0 co) heard k.same in
+        let go : Gets M' 1 (n + 1) t (host M' (served_by hc g0 g.replies) hc [] kk FT (label stk nd 0 X.kind) X.below X.frames g0 co) = weaken M' (seq M' pre (one_step M' T _ e2)) (omega arith) (omega arith) in
+        let quietly : answer M.collects M.program.module_ hc g ≡ served_by hc g g.replies = ap (λ c. answer c M.program.module_ hc g) S.quiet in
+        subst (λ A. After M M' E gl W t (host M A hc below rest FF LL Ls Fs g co)) (sym quietly) (answered ex1 below e' rest i type vs dq hc stk nd t (n + 1) (served_by hc g g.replies) (served_by hc g0 g.replies) same hb (omega (arith, le)) (served_rel M gl (values.I32 0) hc g wf g.replies) go)
+    called ex1 below e' rest (defined b tree type) vs dq g' stk nd t T n true at df c same hb le ty pre st_ =
+        begun ex1 below e' rest b tree type vs dq g' stk nd t (n + 1) (nat_lt (suc (length Fs)) M.depth) at df same hb (same_types-same (types (reverse vs)) type.params ty) (omega (arith, le)) refl
+        (λ k. weaken M' (rw (k.target, c, ty) at (seq M' pre (one_step M' T _ st_))) (omega arith) (omega arith))
+
+  -- ---- a direct call
+
+  module _ (C : Ctx) (ex : List Value) (e : List Place) (ss : List (List Place)) (ws : List Wit) (ix cl : ℕ) (r : Option ValType) (l ops : List Value) (en : ℕ) (kd : Kind) (Ls : List Label) (Fs : List Frame) (g : World) (co : List CollectorCall) (at g' : ℕ) (rest : Nodes) (f : FitsFrame M E gl None (frame ix r cl l (label ops (jump at (Call g') rest) en kd ∷ Ls)) (wit C ex (e ∷ ss))) (fs : FitsFrames M E gl W.result r Fs ws) (wf : WorldFits M gl g) where
+    abbrev FD : Frame
+    FD = frame ix r cl l (label ops (jump at (Call g') rest) en kd ∷ Ls)
+
+    abbrev LD : Label
+    LD = label ops (jump at (Call g') rest) en kd
+
+    abbrev esd : List Place
+    esd = e ++ joined ss
+
+    abbrev lsd : List Info
+    lsd = info kd ∷ infos Ls
+
+    abbrev XD : Shell
+    XD = shell W C r kd Ls ss Fs ws
+
+    direct_fits : (fn : Function) → function_at M.program g' ≡ Some fn → DirectFits C ex e ss ws ix cl r l ops en kd Ls Fs g co (jump at (Call g') rest) f fs wf fn (nat_lt g' (import_count M.program.module_))
+    direct_fits (imported i type) at_ = tt
+    direct_fits (defined b tree type) at_ = S.undirect g' b tree type at_
+
+    cut_call : (fn : Function) (u : Cut) → function_at M.program g' ≡ Some fn → cut (length (function_type fn).params) ops ≡ u → FitsIn C (result_of (function_type fn)) (less (length (function_type fn).params) esd) × Room C (grown (result_of (function_type fn)) (less (length (function_type fn).params) esd)) rest → After M M' E gl W (st XD (l ++ ex) [] (load C (length (function_type fn).params) esd (call (mapped M.program.module_ g') (after_direct (nat_lt g' (import_count M.program.module_)) C lsd (result_of (function_type fn)) (less (length (function_type fn).params) esd) at (λ es'. rewrite C lsd es' rest)))) (flagged M g (values.I32 0)) co) (calls_on M fn g' u at rest FD LD Ls Fs g co)
+    cut_call fn short at_ c rm = tt
+    cut_call fn (parts vs below) at_ c rm =
+        let h = f.labels in
+        let m = length (function_type fn).params in
+        let r1 = result_of (function_type fn) in
+        let lh = less_holds ex m (joined ss) e ops vs below h.0 c in
+        let e' = lh.0 in
+        let dq = nat_lt g' (import_count M.program.module_) in
+        let k = after_direct dq C lsd r1 (e' ++ joined ss) at (λ es'. rewrite C lsd es' rest) in
+        let code = call (mapped M.program.module_ g') k in
+        let g0 = flagged M g (values.I32 0) in
+        let hb : FitsLabels C ex r1 (label below rest en kd ∷ Ls) (e' ∷ ss) = (lh.2, subst (FitsIn C r1) lh.1 rm.0, subst (λ z. Room C (grown r1 z) rest) lh.1 rm.1, h.3, h.4) in
+        let T = st XD (l ++ ex) (vs ++ []) code g0 co in
+        let s1 : To M' m m (st XD (l ++ ex) [] (load C m esd code) g0 co) T = load_to M' C l (len_of l C.locals f.size) ex m (joined ss) e ops [] vs below code h.0 c in
+        let few : m ≤ C.slots = omega (arith, cut_len m ops vs below c, holds_len ex (joined ss) e ops h.0, length-append e (joined ss), h.2.0) in
+        rw lh.1 (called C ex e ss ws ix cl r l ops en kd Ls Fs g co (jump at (Call g') rest) f fs wf ex below e' rest fn vs dq g' (vs ++ []) code (st XD (l ++ ex) [] (load C m esd code) g0 co) T m (same_types (types (reverse vs)) (function_type fn).params) at_ (direct_fits fn at_) (cut_all m ops vs below [] c) refl hb (omega (arith, few)) refl (weaken M' s1 (omega arith) (omega arith)) refl)
+
+    abbrev code_with : FuncType → Module → Nodes
+    code_with type m = load C (length type.params) esd (call (mapped m g') (after_direct (nat_lt g' (import_count m)) C lsd (result_of type) (less (length type.params) esd) at (λ es'. rewrite C lsd es' rest)))
+
+    pub call_node : (q : Option Function) → function_at M.program g' ≡ q → After M M' E gl W (tgt M W C ex e ss ws r l kd Ls Fs g co (jump at (Call g') rest)) (calls M q g' ops at rest FD LD Ls Fs g co)
+    call_node None at_ = tt
+    call_node (Some fn) at_ =
+        let same : type_at C.source g' ≡ Some (function_type fn) = ap (λ z. type_at z g') f.funcs ∙ S.type_is g' fn at_ in
+        let go = λ (es' : List Place). rewrite C lsd es' rest in
+        let rm = subst (λ z. Room_call C z esd (λ es'. Room C es' rest)) same f.labels.2.1 in
+        subst (λ z. After M M' E gl W (st XD (l ++ ex) [] (call_code C lsd esd at g' z go) (flagged M g (values.I32 0)) co) (calls M (Some fn) g' ops at rest FD LD Ls Fs g co)) (sym same)
+        (subst (λ m. After M M' E gl W (st XD (l ++ ex) [] (code_with (function_type fn) m) (flagged M g (values.I32 0)) co) (calls M (Some fn) g' ops at rest FD LD Ls Fs g co)) (sym f.funcs)
+        (cut_call fn (cut (length (function_type fn).params) ops) at_ refl rm))
+
+pub same_functype-same : (a b : FuncType) → same_functype a b ≡ true → a ≡ b
+same_functype-same a b e =
+    let h = and_is (same_types a.params b.params) (same_types a.results b.results) e in
+    let ps = same_types-same a.params b.params h.0 in let rs = same_types-same a.results b.results h.1 in
+    λ i. record { params = ps i; results = rs i }
+  where
+    and_is : (a b : Bool) → (a && b) ≡ true → (a ≡ true) × (b ≡ true)
+    and_is true b e = (refl, e)
+    and_is false b e = absurd (cc)
+
+pub pick_map : (f : Option ℕ → ℕ) (xs : List (Option ℕ)) (d n : ℕ) (q : Option (Option ℕ)) → slice_get xs n ≡ q → pick (map f xs) d n ≡ unwrap_or (option_map f q) d
+pick_map f [] d n q e = let z : None ≡ q = e in rw (← z) refl
+pick_map f (x ∷ xs) d zero q e = rw (← e) refl
+pick_map f (x ∷ xs) d (suc n) q e = pick_map f xs d n q e
+
+pub same_types-refl : (a : List ValType) → same_types a a ≡ true
+same_types-refl [] = refl
+same_types-refl (I32 ∷ a) = same_types-refl a
+same_types-refl (I64 ∷ a) = same_types-refl a
+
+pub same_functype-refl : (a : FuncType) → same_functype a a ≡ true
+same_functype-refl a = ap₂ (λ p q. p && q) (same_types-refl a.params) (same_types-refl a.results)
+
+-- ---- the helper
+
+-- the label of a kind
+abbrev Label_kind : ℕ → ℕ → Type 0
+Label_kind lbl kind = (lbl ≡ 0) × (kind ≡ 0) ⊎ (lbl ≡ 1) × (kind ≡ 5) ⊎ (lbl ≡ 2) × (kind ≡ 6) ⊎ (lbl ≡ 3) × (kind ≡ 7)
+
+module _ (M M' : Engine) (t : ℕ) (k : HelperLinked M M' t) where
+  abbrev index : ℕ
+  index = helper_base M.program.module_ + place_in t (helped M.program)
+
+  module _ (X : Shell) (tl : List Value) (kk : Nodes) (g : World) (co : List CollectorCall) (n : ℕ) where
+    abbrev inner : Nodes
+    inner = jump 0 (BrTable (map (entry_label M.program.module_ t) (start_table M.program.module_)) 1) stop
+
+    abbrev in_helper : List Label → Config
+    in_helper Ls = config (frame index (Some I32) 0 (values.I32 n ∷ []) Ls ∷ frame X.idx X.result 0 tl (label [] kk 0 X.kind ∷ X.below) ∷ X.frames) g co
+
+    abbrev at_start : Config
+    at_start = in_helper (label [] (helper M.program.module_ t) 0 (returns (Some I32)) ∷ [])
+
+    abbrev at_table : Config
+    at_table = in_helper (label (values.I32 n ∷ []) inner 0 (leaves None) ∷ label [] (says 0) 0 (leaves None) ∷ label [] (says 5) 0 (leaves None) ∷ label [] (says 6) 0 (leaves None) ∷ label [] (says 7) 0 (returns (Some I32)) ∷ [])
+
+    starts : nat_lt (suc (length X.frames)) M'.depth ≡ true → To M' 1 1 (st X tl (values.I32 n ∷ []) (call index kk) g co) at_start
+    starts d = one_step M' _ _ (rw (k.target, d, k.locals) refl)
+
+    opened : To M' 5 5 at_start at_table
+    opened = seq M' (one_step M' _ _ refl) (seq M' (one_step M' _ _ refl) (seq M' (one_step M' _ _ refl) (seq M' (one_step M' _ _ refl) (one_step M' _ _ refl))))
+
+    said : (lbl kind : ℕ) → pick (map (entry_label M.program.module_ t) (start_table M.program.module_)) 1 n ≡ lbl → Label_kind lbl kind → To M' 3 3 at_table (st X tl (values.I32 kind ∷ []) kk g co)
+    said lbl kind e (inl x) = rw x.1 (seq M' (one_step M' at_table (next (in_helper (label [] (says 0) 0 (leaves None) ∷ label [] (says 5) 0 (leaves None) ∷ label [] (says 6) 0 (leaves None) ∷ label [] (says 7) 0 (returns (Some I32)) ∷ []))) (rw (e ∙ x.0) refl)) (seq M' (one_step M' _ _ refl) (one_step M' _ _ refl)))
+    said lbl kind e (inr (inl x)) = rw x.1 (seq M' (one_step M' at_table (next (in_helper (label [] (says 5) 0 (leaves None) ∷ label [] (says 6) 0 (leaves None) ∷ label [] (says 7) 0 (returns (Some I32)) ∷ []))) (rw (e ∙ x.0) refl)) (seq M' (one_step M' _ _ refl) (one_step M' _ _ refl)))
+    said lbl kind e (inr (inr (inl x))) = rw x.1 (seq M' (one_step M' at_table (next (in_helper (label [] (says 6) 0 (leaves None) ∷ label [] (says 7) 0 (returns (Some I32)) ∷ []))) (rw (e ∙ x.0) refl)) (seq M' (one_step M' _ _ refl) (one_step M' _ _ refl)))
+    said lbl kind e (inr (inr (inr x))) = rw x.1 (seq M' (one_step M' at_table (next (in_helper (label [] (says 7) 0 (returns (Some I32)) ∷ []))) (rw (e ∙ x.0) refl)) (seq M' (one_step M' _ _ refl) (one_step M' _ _ refl)))
+
+    helper_in : (lbl kind : ℕ) → nat_lt (suc (length X.frames)) M'.depth ≡ true → pick (map (entry_label M.program.module_ t) (start_table M.program.module_)) 1 n ≡ lbl → Label_kind lbl kind → To M' 1 12 (st X tl (values.I32 n ∷ []) (call index kk) g co) (st X tl (values.I32 kind ∷ []) kk g co)
+    helper_in lbl kind d e lk = weaken M' (seq M' (starts d) (seq M' opened (said lbl kind e lk))) (omega arith) (omega arith)
+
+-- ---- an indirect call
+
+module _ (M M' : Engine) (E : ℕ) (gl : List ValType) (W : Wrap) (S : Stands M M' E gl) where
+  module _ (C : Ctx) (ex : List Value) (e1 : Place) (e : List Place) (ss : List (List Place)) (ws : List Wit) (ix cl : ℕ) (r : Option ValType) (l : List Value) (n : ℕ) (ops : List Value) (en : ℕ) (kd : Kind) (Ls : List Label) (Fs : List Frame) (g : World) (co : List CollectorCall) (at t : ℕ) (rest : Nodes) (f : FitsFrame M E gl None (frame ix r cl l (label (values.I32 n ∷ ops) (jump at (CallIndirect t) rest) en kd ∷ Ls)) (wit C ex ((e1 ∷ e) ∷ ss))) (fs : FitsFrames M E gl W.result r Fs ws) (wf : WorldFits M gl g) (shallow : suc (length Fs) ≤ M.depth) where
+    abbrev NI : Nodes
+    NI = jump at (CallIndirect t) rest
+
+    abbrev FI : Frame
+    FI = frame ix r cl l (label (values.I32 n ∷ ops) NI en kd ∷ Ls)
+
+    abbrev LI : Label
+    LI = label (values.I32 n ∷ ops) NI en kd
+
+    abbrev esi : List Place
+    esi = e ++ joined ss
+
+    abbrev lsi : List Info
+    lsi = info kd ∷ infos Ls
+
+    abbrev XI : Shell
+    XI = shell W C r kd Ls ss Fs ws
+
+    abbrev gi : World
+    gi = flagged M g (values.I32 0)
+
+    abbrev exi : List Value
+    exi = slice_set ex (kind_at C) (values.I32 0)
+
+    -- behind the guard
+    abbrev behind_guard : FuncType → Nodes
+    behind_guard type = load C (suc (length type.params)) (e1 ∷ esi) (jump 0 (CallIndirect t) (after_call C lsi (result_of type) (less (length type.params) esi) at (λ es'. rewrite C lsi es' rest)))
+
+    abbrev guarded_call : FuncType → Nodes
+    guarded_call type = fetch C e1 (length esi) (call (helper_of C t) (tested C lsi (e1 ∷ esi) at (behind_guard type)))
+
+    size_i : length C.locals ≡ length l
+    size_i = len_of l C.locals f.size
+
+    -- the guard's verdict
+    judged : (type : FuncType) (q : Option (Option ℕ)) (lbl kind : ℕ) → Has t C.helpers → slice_get (start_table M.program.module_) n ≡ q → unwrap_or (option_map (entry_label M.program.module_ t) q) 1 ≡ lbl → Label_kind lbl kind → To M' 1 30 (st XI (l ++ ex) [] (guarded_call type) gi co) (st XI (l ++ ex) (values.I32 kind ∷ []) (tested C lsi (e1 ∷ esi) at (behind_guard type)) gi co)
+    judged type q lbl kind has tq le lk =
+        let kk = tested C lsi (e1 ∷ esi) at (behind_guard type) in
+        let h = f.labels in
+        let has' = subst (Has t) f.helpers has in
+        let s1 : To M' 1 1 (st XI (l ++ ex) [] (guarded_call type) gi co) (st XI (l ++ ex) (values.I32 n ∷ []) (call (helper_of C t) kk) gi co) = fetch_to M' C l size_i ex (length esi) e1 (values.I32 n) h.0.0 in
+        let d : nat_lt (suc (length XI.frames)) M'.depth ≡ true = rw (length-frames M M' E gl W S r Fs ws fs, S.deeper) (lt-ltb (suc (suc (length Fs))) (suc (suc M.depth)) (omega (arith, shallow))) in
+        let idx : helper_of C t ≡ helper_base M.program.module_ + place_in t (helped M.program) = ap₂ (λ b hs. b + place_in t hs) f.base f.helpers in
+        let pk = pick_map (entry_label M.program.module_ t) (start_table M.program.module_) 1 n q tq ∙ le in
+        let s2 = subst (λ z. To M' 1 12 (st XI (l ++ ex) (values.I32 n ∷ []) (call z kk) gi co) (st XI (l ++ ex) (values.I32 kind ∷ []) kk gi co)) (sym idx) (helper_in M M' t (S.helpers t has') XI (l ++ ex) kk gi co n lbl kind d pk lk) in
+        weaken M' (seq M' s1 s2) (omega arith) (omega arith)
+
+    pub entry_trap : (type : FuncType) (q : Option (Option ℕ)) (lbl j : ℕ) → Has t C.helpers → slice_get (start_table M.program.module_) n ≡ q → unwrap_or (option_map (entry_label M.program.module_ t) q) 1 ≡ lbl → Label_kind lbl (suc j) → After M M' E gl W (st XI (l ++ ex) [] (guarded_call type) gi co) (traps (suc j) (config (FI ∷ Fs) g co))
+    entry_trap type q lbl j has tq le lk =
+        trap_from M M' E gl W S C ex (e1 ∷ e) ss ws ix cl r l (values.I32 n ∷ ops) en kd Ls Fs g co NI f fs wf (st XI (l ++ ex) [] (guarded_call type) gi co) j (behind_guard type) (judged type q lbl (suc j) has tq le lk)
+
+    abbrev RoomI : FuncType → Type 0
+    RoomI type = FitsIn C (result_of type) (less (length type.params) esi) × Room C (grown (result_of type) (less (length type.params) esi)) rest
+
+    -- the function of an entry is called
+    pub entry_call : (type : FuncType) (g' : ℕ) (fn : Function) (u : Cut) → Has t C.helpers → RoomI type → slice_get M.program.module_.types t ≡ Some type → slice_get g.table n ≡ Some (Some g') → function_at M.program g' ≡ Some fn → function_type fn ≡ type → unwrap_or (option_map (entry_label M.program.module_ t) (Some (Some g'))) 1 ≡ 0 → cut (length (function_type fn).params) ops ≡ u → After M M' E gl W (st XI (l ++ ex) [] (guarded_call type) gi co) (calls_on M fn g' u at rest FI LI Ls Fs g co)
+    entry_call type g' fn short has rm ty tq at_ same le c = tt
+    entry_call type g' fn (parts vs below) has rm ty tq at_ same le c =
+        let h = f.labels in
+        let m = length type.params in
+        let r1 = result_of (function_type fn) in
+        let c' : cut m ops ≡ parts vs below = ap (λ z. cut (length z.params) ops) (sym same) ∙ c in
+        let same1 : types exi ≡ types ex = types-slice_set ex (kind_at C) I32 (values.I32 0) (rw f.room (added_kind C.slots)) refl in
+        let low : length (e1 ∷ esi) ≤ C.slots = room_height C (e1 ∷ esi) NI h.2 in
+        let h1 = fits_put C ex None (LI ∷ Ls) ((e1 ∷ e) ∷ ss) (kind_at C) (values.I32 0) (omega (arith, low)) h in
+        let lh = less_holds exi m (joined ss) e ops vs below h1.0.1 c' in
+        let e' = lh.0 in
+        let k = after_call C lsi r1 (e' ++ joined ss) at (λ es'. rewrite C lsi es' rest) in
+        let code = jump 0 (CallIndirect t) k in
+        let rm' : FitsIn C r1 (less m esi) × Room C (grown r1 (less m esi)) rest = subst (λ z. FitsIn C (result_of z) (less m esi) × Room C (grown (result_of z) (less m esi)) rest) (sym same) rm in
+        let hb : FitsLabels C exi r1 (label below rest en kd ∷ Ls) (e' ∷ ss) = (lh.2, subst (FitsIn C r1) lh.1 rm'.0, subst (λ z. Room C (grown r1 z) rest) lh.1 rm'.1, h1.3, h1.4) in
+        let T = st XI (l ++ exi) (values.I32 n ∷ (vs ++ [])) code gi co in
+        let t0 = st XI (l ++ ex) [] (guarded_call type) gi co in
+        let s0 = judged type (Some (Some g')) 0 0 has (ap (λ z. slice_get z n) (sym wf.table) ∙ tq) le (inl (refl, refl)) in
+        let s1 = passed_to M' C l size_i {X = XI} {g = gi} {co = co} ex lsi (e1 ∷ esi) at (behind_guard type) f.room in
+        let cu : cut (suc m) (values.I32 n ∷ ops) ≡ parts (values.I32 n ∷ vs) below = ap (one_more (values.I32 n)) c' in
+        let s2 : To M' (suc m) (suc m) (st XI (l ++ exi) [] (load C (suc m) (e1 ∷ esi) code) gi co) T = load_to M' C l size_i exi (suc m) (joined ss) (e1 ∷ e) (values.I32 n ∷ ops) [] (values.I32 n ∷ vs) below code h1.0 cu in
+        let conv : behind_guard type ≡ load C (suc m) (e1 ∷ esi) code = ap₂ (λ z es'. load C (suc m) (e1 ∷ esi) (jump 0 (CallIndirect t) (after_call C lsi (result_of z) es' at (λ es'. rewrite C lsi es' rest)))) (sym same) lh.1 in
+        let s2' = subst (λ z. To M' (suc m) (suc m) (st XI (l ++ exi) [] z gi co) T) (sym conv) s2 in
+        let few : m ≤ C.slots = omega (arith, cut_len m ops vs below c', holds_len ex (joined ss) e ops h.0.1, length-append e (joined ss), low) in
+        let tbl : slice_get gi.table n ≡ Some (Some (mapped M.program.module_ g')) = slice_get-map (option_map (mapped M.program.module_)) g.table n ∙ ap (option_map (option_map (mapped M.program.module_))) tq in
+        let ft : type_at M'.program.module_ (mapped M.program.module_ g') ≡ Some type = S.function_types_ g' type (S.type_is g' fn at_ ∙ ap Some same) in
+        let ty' = S.entry_types t type ty in
+        let self = same_functype-refl type in
+        let st_ : step M' T ≡ calls M' (function_at M'.program (mapped M.program.module_ g')) (mapped M.program.module_ g') (vs ++ []) 0 k (frame XI.idx XI.result 0 (l ++ exi) (label (values.I32 n ∷ (vs ++ [])) code 0 XI.kind ∷ XI.below)) (label (values.I32 n ∷ (vs ++ [])) code 0 XI.kind) XI.below XI.frames gi co = rw (ty', tbl, ft, self) refl in
+        let cc_ : cut (length (function_type fn).params) (vs ++ []) ≡ parts vs [] = cut_all (length (function_type fn).params) ops vs below [] c in
+        called M M' E gl W S C ex (e1 ∷ e) ss ws ix cl r l (values.I32 n ∷ ops) en kd Ls Fs g co NI f fs wf exi below e' rest fn vs false g' (values.I32 n ∷ (vs ++ [])) code t0 T (C.slots + 35) (same_types (types (reverse vs)) (function_type fn).params) at_ (direct_ fn) cc_ same1 hb (omega arith) refl (weaken M' (seq M' s0 (seq M' s1 s2')) (omega arith) (omega (arith, few))) st_
+      where
+        direct_ : (fn : Function) → DirectFits M M' E gl W S C ex (e1 ∷ e) ss ws ix cl r l (values.I32 n ∷ ops) en kd Ls Fs g co NI f fs wf fn false
+        direct_ (imported i type) = tt
+        direct_ (defined b tree type) = refl

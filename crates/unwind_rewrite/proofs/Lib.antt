@@ -1,0 +1,10 @@
+pub mod Run
+pub mod Agreement
+pub mod Parts
+pub mod Guards
+pub mod Tell
+pub mod Sim
+pub mod Control
+pub mod Unwind
+pub mod Calls
+pub mod Step

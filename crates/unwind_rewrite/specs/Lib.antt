@@ -1,0 +1,8 @@
+pub mod Offsets
+pub mod Numbering
+pub mod Slots
+pub mod Pieces
+pub mod Guards
+pub mod Rewrite
+pub mod Image
+pub mod Collected
