@@ -4,3 +4,5 @@ pub mod Jumps
 pub mod Same
 pub mod LocalsLaws
 pub mod Through
+pub mod Flags
+pub mod MarksLaws

@@ -14,7 +14,7 @@ abbrev pub HasTree : Body → Type 0
 HasTree body = (tree : Tree) × Writes body.targets body.ops tree
 
 -- a body has its function's type, or its first wrong instruction is at this offset
-abbrev pub Judged : Result (Unit {0}) BodyFault → Module → FuncType → Body → Type 0
+abbrev pub Judged : {A : Type 0} → Result A BodyFault → Module → FuncType → Body → Type 0
 Judged (Ok x) m type body = IsBody m type body (code_of body.targets body.ops)
 Judged (Err (WrongAt offset)) m type body = FirstWrong m type body offset
 Judged (Err NoMemory) m type body = Unit {0}

@@ -2,3 +2,4 @@ pub mod Algorithm
 pub mod Bodies
 pub mod Locals
 pub mod Steps
+pub mod Marks

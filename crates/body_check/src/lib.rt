@@ -3,10 +3,12 @@
 
 mod body;
 mod locals;
+mod marks;
 mod ops;
 mod shape;
 mod step;
 
 pub use body::{BodyFault, check_body};
+pub use marks::{Mark, Marks};
 pub use shape::type_of_value;
 pub use step::type_of;
