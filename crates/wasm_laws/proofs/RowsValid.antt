@@ -83,7 +83,7 @@ divides_body = record {
   typed = divides_gets (basic 5 (Binary I32 DivS) stop) (I32 ∷ [], record { any = I32; arrow_is = I32 ∷ I32 ∷ [] ⇒ I32 ∷ []; has = refl; above = record { below = []; takes = refl; gives = refl } }, refl);
 }
 
-divides_valid : Valid divides
+pub divides_valid : Valid divides
 divides_valid (TypeAt zero) = omega arith
 divides_valid (TypeAt (suc i)) = tt
 divides_valid (ImportAt i) = tt

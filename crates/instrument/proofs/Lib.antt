@@ -1,0 +1,11 @@
+pub mod Runs
+pub mod Whole
+pub mod Bounds
+pub mod Links
+pub mod Shown
+pub mod Start
+pub mod Final
+pub mod Sessions
+pub mod Theorem
+pub mod Rows
+pub mod Divider

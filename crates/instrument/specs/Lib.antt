@@ -1,0 +1,6 @@
+pub mod Wrappers
+pub mod FlatCode
+pub mod Instrument
+pub mod Simulates
+pub mod Given
+pub mod Example

@@ -1,0 +1,25 @@
+//! What the rewriting promises.
+
+ghost use Rattle.wasm_syntax.specs.Module.{Program};
+ghost use Rattle.instrument.specs.Given.{Given};
+ghost use Rattle.instrument.specs.Instrument.{instrument, multiple};
+ghost use Rattle.instrument.specs.Simulates.{Simulates};
+ghost use Rattle.instrument.specs.Example.{divider, HandsOver};
+
+/// The rewritten module does what the module does: for every list of invocations, with any arguments, replies, depth and number of steps, it
+/// makes the same host calls and each invocation comes to the same end. Where one traps, its collector calls hand over the dump of the
+/// original at that trap. It takes at least as many steps as the original, and at most the stated multiple.
+pub fn instrumented_module_simulates()
+    ensures { (p : Program) → Given p → Simulates (multiple p) p (instrument p) }
+{}
+
+/// The premises can be met.
+pub fn given_is_met()
+    ensures { Given divider }
+{}
+
+/// A division by zero, and then one that ends: the rewritten program hands over the dump of the trap, ends in a trap of its own, and then does
+/// the second division.
+pub fn division_by_zero_is_handed_over()
+    ensures { HandsOver }
+{}

@@ -1,0 +1,4 @@
+//! The rewriting of modules, so that they dump themselves at a trap.
+#![tactic(auto)]
+
+pub mod laws;
