@@ -9,7 +9,7 @@ use Rattle.wasm_syntax.specs.Module.{type_at}
 use Rattle.wasm_syntax.specs.Effect.{takes}
 use Rattle.wasm_syntax.specs.Machine.{result_of}
 use Rattle.unwind_rewrite.specs.Slots.{Place, Spilled, Known, Ctx, less, grown, result_type, after_plain, peak_call, peak_instr, peak}
-use Rattle.unwind_rewrite.proofs.Agreement.{FitsIn, Has, Room_call, Room_instr, Room}
+use Rattle.unwind_rewrite.specs.Agreement.{FitsIn, Has, Room_call, Room_instr, Room}
 use Rattle.unwind_rewrite.proofs.Sim.{room_height}
 use Rattle.unwind_rewrite.specs.Offsets.{SmallOffset}
 

@@ -18,10 +18,11 @@ use Rattle.wasm_syntax.specs.Machine.{Frame, Config, config, Engine, Stepped, ne
 use Rattle.unwind_rewrite.specs.Numbering.{mapped, global_types, wrapped, wrapper_base}
 use Rattle.unwind_rewrite.specs.Pieces.{call, tree_of}
 use Rattle.std.proofs.lemmas.List.{length-map}
-use Rattle.unwind_rewrite.proofs.Agreement.{Wit, MemoryFits, WorldFits, FitsTop, FitsConfig, Wrap, flagged}
-use Rattle.unwind_rewrite.proofs.Tell.{collected}
+use Rattle.unwind_rewrite.specs.Agreement.{Wit, MemoryFits, WorldFits, FitsTop, FitsConfig, Wrap, flagged}
+use Rattle.unwind_rewrite.specs.Telling.{collected}
 use Rattle.unwind_rewrite.proofs.Sim.{len_of}
-use Rattle.unwind_rewrite.proofs.Calls.{Stands, AnswerRel, served_rel}
+use Rattle.unwind_rewrite.specs.Standing.{Stands}
+use Rattle.unwind_rewrite.proofs.Calls.{AnswerRel, served_rel}
 use Rattle.wasm_syntax.specs.Run.{Ended, ended, run_steps, run_function, run_alone, host_alone, engine, globals_at_start, start_memory, start_world, cause_of_segments, got_stuck, ran_to, run_entry, go_on, invoked}
 use Rattle.instrument.specs.Wrappers.{wrapper_nodes, wrapper, parameter_count}
 use Rattle.instrument.specs.FlatCode.{body_of}

@@ -17,15 +17,13 @@ use Rattle.wasm_syntax.specs.Machine.{result_of, function_type, host_call}
 use Rattle.unwind_rewrite.specs.Numbering.{import_count, mapped, value_import, frame_import, place_in, global_types, helper_base, helped, value_type, frame_type, wrapped, wrapper_base}
 use Rattle.unwind_rewrite.specs.Slots.{added, ctx_of, groups, slots_of, sizes, most, greatest}
 use Rattle.std.proofs.lemmas.List.{length-map}
-use Rattle.unwind_rewrite.proofs.Agreement.{Has}
+use Rattle.unwind_rewrite.specs.Agreement.{Has}
 use Rattle.std.proofs.lemmas.Bool.{eqb-true}
 use Rattle.std.proofs.lemmas.Bool.Decides.{leb_tells}
 use Rattle.unwind_rewrite.specs.Collected.{value_call}
 use Rattle.unwind_rewrite.specs.Pieces.{tree_of}
 use Rattle.unwind_rewrite.specs.Guards.{helper_type, helper}
-use Rattle.unwind_rewrite.proofs.Sim.{Linked}
-use Rattle.unwind_rewrite.proofs.Unwind.{Speaks}
-use Rattle.unwind_rewrite.proofs.Calls.{ImportLinked, HelperLinked, Stands}
+use Rattle.unwind_rewrite.specs.Standing.{Linked, Speaks, ImportLinked, HelperLinked, Stands}
 use Rattle.std.specs.Prelude.{bytes_eq, codes}
 use Rattle.std.proofs.lemmas.Option.{slice_get-map, slice_get_within}
 use Rattle.std.proofs.lemmas.Grind.{flat_map-append}

@@ -24,11 +24,11 @@ use Rattle.wasm_syntax.specs.Access as accesses
 use Rattle.wasm_syntax.specs.Effect as effects
 use Rattle.int_ops.specs.declared.operators.ArithTrap.{ArithTrap}
 use Rattle.int_ops.specs.declared.operators.ArithTrap.TheVariants.{DivideByZero, Overflow}
-use Rattle.unwind_rewrite.proofs.Run.{Gets, To, still, seq, weaken}
-use Rattle.unwind_rewrite.proofs.Agreement.{Wit, WorldFits, FitsConfig, Wrap, w_frame, zero_vs, last_of, flagged, image}
-use Rattle.unwind_rewrite.proofs.Tell.{tell_frames}
-use Rattle.unwind_rewrite.proofs.Sim.{After}
-use Rattle.unwind_rewrite.proofs.Calls.{Stands}
+use Rattle.unwind_rewrite.specs.Steps.{Gets, To}
+use Rattle.unwind_rewrite.proofs.Run.{still, seq, weaken}
+use Rattle.unwind_rewrite.specs.Agreement.{Wit, WorldFits, FitsConfig, Wrap, w_frame, zero_vs, last_of, flagged, image}
+use Rattle.unwind_rewrite.specs.Telling.{tell_frames}
+use Rattle.unwind_rewrite.specs.Standing.{After, Stands}
 use Rattle.wasm_syntax.specs.Run.{Ended, run_on, run_steps}
 use Rattle.unwind_rewrite.proofs.Step.{step_sim}
 

@@ -12,8 +12,8 @@ use Rattle.wasm_syntax.specs.declared.host.Reply.{Reply}
 use Rattle.wasm_syntax.specs.Machine.{Config, config, Engine, Stepped, next, ends, traps, no_reply, bad_reply, stuck}
 use Rattle.unwind_rewrite.specs.Pieces.{call}
 use Rattle.unwind_rewrite.specs.Numbering.{global_types}
-use Rattle.unwind_rewrite.proofs.Run.{st}
-use Rattle.unwind_rewrite.proofs.Agreement.{WorldFits, flagged}
+use Rattle.unwind_rewrite.specs.Steps.{st}
+use Rattle.unwind_rewrite.specs.Agreement.{WorldFits, flagged}
 use Rattle.std.proofs.lemmas.Bool.{eqb-true}
 use Rattle.unwind_rewrite.proofs.Calls.{same_types-same}
 use Rattle.wasm_syntax.specs.Run.{Ended, ended, run_function, engine, start_world, cause_of_segments, cause_of_entry, Outcome, not_started, finished, lacks_reply, misfits, running, got_stuck, Ran, ran_to, not_begun, run_entry, go_on, invoked, if_fits as entry_fits, or_else, Cause, goes_on, fresh, session, run, Invocation}

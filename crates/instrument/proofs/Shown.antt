@@ -6,9 +6,9 @@ use Rattle.wasm_syntax.specs.declared.host.CollectorCall.{CollectorCall}
 use Rattle.wasm_syntax.specs.declared.host.CollectorCall.TheVariants as collector_calls
 use Rattle.wasm_syntax.specs.Machine.{Label, Frame, Config, frame, Engine, calls, offset_of}
 use Rattle.unwind_rewrite.specs.Slots.{Place, Ctx, grown, greatest}
-use Rattle.unwind_rewrite.proofs.Agreement.{awaits, pending, joined, Wit, FitsLabels, FitsFrame, FitsFrames, FitsTop, FitsConfig}
+use Rattle.unwind_rewrite.specs.Agreement.{awaits, pending, joined, Wit, FitsLabels, FitsFrame, FitsFrames, FitsTop, FitsConfig}
 use Rattle.unwind_rewrite.specs.Collected.{value_call, Entry, entry_calls, calls_of, HaveKind, Whole, collected_dump}
-use Rattle.unwind_rewrite.proofs.Tell.{tell_ops, tell_labels, tell_locals, tell_frame, tell_outer, tell_frames, collected}
+use Rattle.unwind_rewrite.specs.Telling.{tell_ops, tell_labels, tell_locals, tell_frame, tell_outer, tell_frames, collected}
 use Rattle.std.proofs.lemmas.List.{map-append, reverse-append, length-reverse}
 use Rattle.unwind_rewrite.proofs.Sim.{room_height, len_of, wit}
 use Rattle.unwind_rewrite.proofs.Control.{grown_longer}

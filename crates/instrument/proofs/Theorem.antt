@@ -8,7 +8,7 @@ use Rattle.unwind_rewrite.specs.Numbering.{place_in, helped, uses, distinct, is_
 use Rattle.unwind_rewrite.specs.Rewrite.{body}
 use Rattle.linear_memory.specs.Memory.{Memory}
 use Rattle.std.proofs.lemmas.List.{length-replicate}
-use Rattle.unwind_rewrite.proofs.Agreement.{Has, MemoryFits}
+use Rattle.unwind_rewrite.specs.Agreement.{Has, MemoryFits}
 use Rattle.std.proofs.lemmas.Bool.{eqb-true, eq-eqb}
 use Rattle.std.specs.Prelude.{flat_map, fold, min}
 use Rattle.instrument.specs.Instrument.{instrument, multiple}

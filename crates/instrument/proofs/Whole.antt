@@ -19,15 +19,17 @@ use Rattle.unwind_rewrite.specs.Numbering.{mapped, frame_import, flag_of, global
 use Rattle.unwind_rewrite.specs.Pieces.{const, i32, call, if_any, tree_of}
 use Rattle.unwind_rewrite.specs.Rewrite.{body}
 use Rattle.std.proofs.lemmas.List.{length-map, reverse-append, reverse-reverse, length-reverse}
-use Rattle.unwind_rewrite.proofs.Run.{went, run, Gets, To, Shell, st, still, one_step, seq, weaken, push_to, get_to}
-use Rattle.unwind_rewrite.proofs.Agreement.{Wit, WorldFits, FitsConfig, Wrap, w_frame, zero_vs, last_of, flagged, image}
+use Rattle.unwind_rewrite.specs.Steps.{went, run, Gets, To, Shell, st}
+use Rattle.unwind_rewrite.proofs.Run.{still, one_step, seq, weaken, push_to, get_to}
+use Rattle.unwind_rewrite.specs.Agreement.{Wit, WorldFits, FitsConfig, Wrap, w_frame, zero_vs, last_of, flagged, image}
 use Rattle.unwind_rewrite.proofs.Parts.{step_plain}
 use Rattle.unwind_rewrite.specs.Collected.{value_call}
-use Rattle.unwind_rewrite.proofs.Tell.{tell_locals, tell_frames, collected}
-use Rattle.unwind_rewrite.proofs.Sim.{Linked, len_of, wit, armed, if_zero_to, if_up_to}
+use Rattle.unwind_rewrite.specs.Telling.{tell_locals, tell_frames, collected}
+use Rattle.unwind_rewrite.specs.Standing.{Linked, Speaks, Stands}
+use Rattle.unwind_rewrite.proofs.Sim.{len_of, wit, armed, if_zero_to, if_up_to}
 use Rattle.unwind_rewrite.proofs.Control.{get_last}
-use Rattle.unwind_rewrite.proofs.Unwind.{Speaks, value_to, entry_to, put_last, get_middle}
-use Rattle.unwind_rewrite.proofs.Calls.{Stands, types-zeros, types-locals, new_locals, same_types-refl}
+use Rattle.unwind_rewrite.proofs.Unwind.{value_to, entry_to, put_last, get_middle}
+use Rattle.unwind_rewrite.proofs.Calls.{types-zeros, types-locals, new_locals, same_types-refl}
 use Rattle.wasm_syntax.specs.Run.{Ended, ended, run_on, run_steps}
 use Rattle.instrument.specs.Wrappers.{get_all, tell_globals, end_of_dump, after_wrapped, wrapper_nodes}
 use Rattle.instrument.proofs.Runs.{ReachS, AllMade, run_sim}

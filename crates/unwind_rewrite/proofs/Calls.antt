@@ -11,7 +11,7 @@ use Rattle.wasm_syntax.specs.Numbers.{type_of, types}
 use Rattle.wasm_syntax.specs.Tree.{BrTable, Call, CallIndirect, Nodes, stop, jump, Tree}
 use Rattle.wasm_syntax.specs.declared.module.ModuleParts.{ModuleParts as Module}
 use Rattle.wasm_syntax.specs.Module.{Function, imported, defined, function_at, type_at, declared_locals, same_types, same_functype, option_then}
-use Rattle.wasm_syntax.specs.Host.{World, Answer, replied, told, silent, misfit, answer, told_or, served_by, after_writes, if_fits, if_written, fits_type, collector_of}
+use Rattle.wasm_syntax.specs.Host.{World, Answer, replied, told, silent, misfit, answer, told_or, served_by, after_writes, if_fits, if_written, fits_type}
 use Rattle.wasm_syntax.specs.declared.host.HostCall.{HostCall}
 use Rattle.wasm_syntax.specs.declared.host.Reply.{Reply}
 use Rattle.wasm_syntax.specs.declared.host.CollectorCall.{CollectorCall}
@@ -23,44 +23,20 @@ use Rattle.unwind_rewrite.specs.Numbering.{import_count, mapped, place_in, globa
 use Rattle.unwind_rewrite.specs.Pieces.{call, fetch, load, tree_of}
 use Rattle.linear_memory.specs.Memory.{Memory}
 use Rattle.linear_memory.specs.Memory as memories
-use Rattle.unwind_rewrite.proofs.Run.{Holds, Gets, To, Shell, st, stored, types-stored, slice_get-put_same, types-slice_set, same_type-same, same_type-refl, added_kind, more_parts, one_step, seq, weaken, fetch_to, load_to, less_holds, store_to}
-use Rattle.unwind_rewrite.proofs.Agreement.{now, info, infos, joined, Wit, t_frame, FitsIn, Has, Room_call, Room, FitsLabels, MemoryFits, WorldFits, FitsFrame, FitsFrames, Wrap, zero_vs, t_frames, flagged}
+use Rattle.unwind_rewrite.specs.Agreement.{Holds, now, info, infos, joined, Wit, t_frame, FitsIn, Has, Room_call, Room, FitsLabels, MemoryFits, WorldFits, FitsFrame, FitsFrames, Wrap, zero_vs, t_frames, flagged}
+use Rattle.unwind_rewrite.specs.Steps.{Gets, To, Shell, st}
+use Rattle.unwind_rewrite.proofs.Run.{stored, types-stored, slice_get-put_same, types-slice_set, same_type-same, same_type-refl, added_kind, more_parts, one_step, seq, weaken, fetch_to, load_to, less_holds, store_to}
 use Rattle.unwind_rewrite.proofs.Parts.{put_keeps, cut_all, fits_put, settle}
-use Rattle.unwind_rewrite.specs.Guards.{helper_type, helper, entry_label, says}
-use Rattle.unwind_rewrite.proofs.Tell.{tell_labels, tell_locals, tell_frame}
+use Rattle.unwind_rewrite.specs.Guards.{helper, entry_label, says}
+use Rattle.unwind_rewrite.specs.Telling.{tell_labels, tell_locals, tell_frame}
 use Rattle.std.proofs.lemmas.List.{map-append}
 use Rattle.std.proofs.lemmas.Option.{slice_get-map}
 use Rattle.wasm_syntax.specs.Run.{start_table}
-use Rattle.unwind_rewrite.proofs.Sim.{Linked, After, refit, room_height, grown-append, grown_fits, len_of, shell, tgt, wit, armed, passed_to, caught_to}
+use Rattle.unwind_rewrite.specs.Standing.{Linked, After, Speaks, HelperLinked, Stands}
+use Rattle.unwind_rewrite.proofs.Sim.{refit, room_height, grown-append, grown_fits, len_of, shell, tgt, wit, armed, passed_to, caught_to}
 use Rattle.unwind_rewrite.proofs.Control.{flag_len, flag_down}
-use Rattle.unwind_rewrite.proofs.Unwind.{Speaks, exit_branch, frame_out, Up, up_all, renamed}
+use Rattle.unwind_rewrite.proofs.Unwind.{exit_branch, frame_out, Up, up_all, renamed}
 use Rattle.wasm_syntax.specs.declared.host.Write.{Write}
-
--- an import stays in its place, and is no collector's
-pub record ImportLinked (M M' : Engine) (f : ℕ) (i : Import) (type : FuncType) : Type 0 where
-  pub target : function_at M'.program (mapped M.program.module_ f) ≡ Some (imported i type)
-  pub same : mapped M.program.module_ f ≡ f
-  pub direct : nat_lt f (import_count M.program.module_) ≡ true
-  pub unheard : (args : List Value) → collector_of M'.program.module_ (host_call f i type args) ≡ None
-
--- a type that is asked for has its helper
-pub record HelperLinked (M M' : Engine) (t : ℕ) : Type 0 where
-  pub new : Body
-  pub locals : declared_locals new.groups ≡ []
-  pub target : function_at M'.program (helper_base M.program.module_ + place_in t (helped M.program)) ≡ Some (defined new (tree_of (helper M.program.module_ t)) helper_type)
-
--- the new module stands for the old one
-pub record Stands (M M' : Engine) (E : ℕ) (gl : List ValType) : Type 0 where
-  pub quiet : M.collects ≡ false
-  pub deeper : M'.depth ≡ suc (suc M.depth)
-  pub speaks : Speaks M' M.program.module_
-  pub type_is : (f : ℕ) (fn : Function) → function_at M.program f ≡ Some fn → type_at M.program.module_ f ≡ Some (function_type fn)
-  pub functions : (f : ℕ) (b : Body) (tree : Tree) (type : FuncType) → function_at M.program f ≡ Some (defined b tree type) → Linked M M' E gl f b tree type
-  pub imports : (f : ℕ) (i : Import) (type : FuncType) → function_at M.program f ≡ Some (imported i type) → ImportLinked M M' f i type
-  pub undirect : (f : ℕ) (b : Body) (tree : Tree) (type : FuncType) → function_at M.program f ≡ Some (defined b tree type) → nat_lt f (import_count M.program.module_) ≡ false
-  pub helpers : (t : ℕ) → Has t (helped M.program) → HelperLinked M M' t
-  pub entry_types : (t : ℕ) (type : FuncType) → slice_get M.program.module_.types t ≡ Some type → slice_get M'.program.module_.types t ≡ Some type
-  pub function_types_ : (f : ℕ) (type : FuncType) → type_at M.program.module_ f ≡ Some type → type_at M'.program.module_ (mapped M.program.module_ f) ≡ Some type
 
 pub types-append : (a b : List Value) → types (a ++ b) ≡ types a ++ types b
 types-append a b = map-append type_of a b

@@ -14,10 +14,12 @@ use Rattle.unwind_rewrite.specs.Rewrite.{Info, in_loop, result_back, finish, bod
 use Rattle.unwind_rewrite.specs.Numbering.{mapped, flag_of, global_types}
 use Rattle.unwind_rewrite.specs.Pieces.{fetch, store, to_result, from_result}
 use Rattle.std.proofs.lemmas.List.{length-map}
-use Rattle.unwind_rewrite.proofs.Run.{Holds, Gets, To, Shell, st, stored, if_same, types-stored, same_type-same, still, one_step, seq, weaken, fetch_to, store_to, to_result_to, from_result_to, finish_to}
-use Rattle.unwind_rewrite.proofs.Agreement.{Pending, Arrives, awaits, now, code_at, pending, info, infos, joined, t_kind, t_labels, Wit, KindFits, FitsLabels, WorldFits, FitsFrame, FitsFrames, Wrap, t_frames, flagged}
+use Rattle.unwind_rewrite.specs.Agreement.{Holds, Pending, Arrives, awaits, now, code_at, pending, info, infos, joined, t_kind, t_labels, Wit, KindFits, FitsLabels, WorldFits, FitsFrame, FitsFrames, Wrap, t_frames, flagged}
+use Rattle.unwind_rewrite.specs.Steps.{Gets, To, Shell, st}
+use Rattle.unwind_rewrite.proofs.Run.{stored, if_same, types-stored, same_type-same, still, one_step, seq, weaken, fetch_to, store_to, to_result_to, from_result_to, finish_to}
 use Rattle.unwind_rewrite.proofs.Parts.{fits_stored, has_slot, settle, step_plain}
-use Rattle.unwind_rewrite.proofs.Sim.{After, refit, room_height, grown-append, grown_fits, len_of, shell, tgt, wit, if_zero_to}
+use Rattle.unwind_rewrite.specs.Standing.{After}
+use Rattle.unwind_rewrite.proofs.Sim.{refit, room_height, grown-append, grown_fits, len_of, shell, tgt, wit, if_zero_to}
 
 pub flag_len : (C : Ctx) (g : World) → types g.globals ≡ global_types C.source → flag_of C.source ≡ length g.globals
 flag_len C g e = sym (length-map C.source.globals (λ g. g.vtype)) ∙ len_of g.globals (global_types C.source) e

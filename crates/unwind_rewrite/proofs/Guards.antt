@@ -25,8 +25,9 @@ use Rattle.int_ops.specs.declared.operators.Binary.{Binary as BinaryOp}
 use Rattle.int_ops.specs.declared.operators.Binary.TheVariants.{Add, Sub, Mul, DivS, DivU, RemS, RemU, And, Or, Xor, Shl, ShrS, ShrU, Rotl, Rotr}
 use Rattle.std.proofs.lemmas.List.{length-replicate}
 use Rattle.std.proofs.Math.Nat.{mod-lt, mod-eq_of_lt}
-use Rattle.unwind_rewrite.proofs.Run.{One, Holds, To, Shell, st, one_step, seq, weaken, push_to, fetch_to}
-use Rattle.unwind_rewrite.proofs.Agreement.{MemoryFits}
+use Rattle.unwind_rewrite.specs.Agreement.{One, Holds, MemoryFits}
+use Rattle.unwind_rewrite.specs.Steps.{To, Shell, st}
+use Rattle.unwind_rewrite.proofs.Run.{one_step, seq, weaken, push_to, fetch_to}
 use Rattle.std.proofs.lemmas.Bool.Decides.{leb_tells}
 use Rattle.int_ops.specs.declared.operators.Compare.TheVariants.{Eq, GtU}
 use Rattle.wasm_syntax.specs.declared.instruction.Convert.TheVariants.{ExtendU}
@@ -36,7 +37,8 @@ use Rattle.wasm_syntax.specs.declared.instruction.Store.{Store as Store_}
 use Rattle.wasm_syntax.specs.declared.instruction.Store.TheVariants as stores
 use Rattle.int_ops.specs.declared.operators.Narrow32.TheVariants as narrow32
 use Rattle.int_ops.specs.declared.operators.Narrow64.TheVariants as narrow64
-use Rattle.unwind_rewrite.proofs.Parts.{kind_of, pages_are}
+use Rattle.unwind_rewrite.specs.Promises.{kind_of}
+use Rattle.unwind_rewrite.proofs.Parts.{pages_are}
 use Rattle.int_ops.specs.Integers as integers
 use Rattle.int_ops.specs.Integers.{binary as int_binary, compare as int_compare, div_s, rem_s}
 use Rattle.unwind_rewrite.specs.Offsets.{SmallOffset}

@@ -1,8 +1,6 @@
 pub mod Run
-pub mod Agreement
 pub mod Parts
 pub mod Guards
-pub mod Tell
 pub mod Sim
 pub mod Control
 pub mod Unwind

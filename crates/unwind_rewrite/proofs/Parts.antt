@@ -25,8 +25,9 @@ use Rattle.int_ops.specs.declared.operators.Binary.{Binary as BinaryOp}
 use Rattle.int_ops.specs.declared.operators.Binary.TheVariants.{Add, Sub, Mul, DivS, DivU, RemS, RemU, And, Or, Xor, Shl, ShrS, ShrU, Rotl, Rotr}
 use Rattle.std.proofs.lemmas.List.{length-replicate}
 use Rattle.std.proofs.Math.Nat.{mul-div_cancel_left}
-use Rattle.unwind_rewrite.proofs.Run.{One, Holds, To, Shell, st, stored, HasPlace, if_same, slice_get-put_same, types-slice_set, same_type-same, same_type-refl, added_at, more_parts, one_step, holds_put}
-use Rattle.unwind_rewrite.proofs.Agreement.{awaits, pending, joined, FitsLabels, MemoryFits, WorldFits, flagged}
+use Rattle.unwind_rewrite.specs.Agreement.{One, Holds, awaits, pending, joined, FitsLabels, MemoryFits, WorldFits, flagged}
+use Rattle.unwind_rewrite.specs.Steps.{To, Shell, st}
+use Rattle.unwind_rewrite.proofs.Run.{stored, HasPlace, if_same, slice_get-put_same, types-slice_set, same_type-same, same_type-refl, added_at, more_parts, one_step, holds_put}
 use Rattle.int_ops.specs.Integers.{binary as int_binary}
 
 get-append_left : (l ex : List Value) (x : ℕ) (v : Value) → slice_get l x ≡ Some v → slice_get (l ++ ex) x ≡ Some v
@@ -49,12 +50,6 @@ abbrev pub Match : List Value → List Place → Type 0
 Match [] es = Unit {0}
 Match (v ∷ vs) [] = ⊥
 Match (v ∷ vs) (e ∷ es) = (type_of v ≡ place_type e) × Match vs es
-
--- the kind with which it traps, or 0
-abbrev pub kind_of : Effect → ℕ
-kind_of (gives g l ws) = 0
-kind_of (fails k) = k
-kind_of unfit = 0
 
 one_result : (v : Value) (t : ValType) → type_of v ≡ t → exactly (Some t) (v ∷ []) ≡ Some (v ∷ [])
 one_result v t d = rw (same_type-refl (type_of v) t d) refl

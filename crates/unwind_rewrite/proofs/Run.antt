@@ -8,22 +8,12 @@ use Rattle.wasm_syntax.specs.Numbers.{type_of, types, same_type}
 use Rattle.wasm_syntax.specs.Tree.{Nodes, basic}
 use Rattle.wasm_syntax.specs.Host.{World}
 use Rattle.wasm_syntax.specs.declared.host.CollectorCall.{CollectorCall}
-use Rattle.wasm_syntax.specs.Machine.{Kind, Label, Frame, Config, label, frame, config, Engine, Stepped, next, ends, traps, no_reply, bad_reply, stuck, Cut, short, parts, one_more, cut, if_so, top, exactly, deliver, step}
+use Rattle.wasm_syntax.specs.Machine.{Config, Engine, Stepped, next, ends, traps, no_reply, bad_reply, stuck, Cut, short, parts, one_more, cut, if_so, top, exactly, deliver, step}
 use Rattle.unwind_rewrite.specs.Slots.{Place, Spilled, Known, Ctx, slot, added, less}
-use Rattle.unwind_rewrite.specs.Pieces.{get, set, const, call, fetch, load, store, to_result, from_result}
+use Rattle.unwind_rewrite.specs.Pieces.{get, set, const, fetch, load, store, to_result, from_result}
 use Rattle.unwind_rewrite.specs.Rewrite.{result_back}
-
--- the operand is in its slot, or is the constant
-abbrev pub One : List Value → ℕ → Place → Value → Type 0
-One ex h (Spilled t) v = (slice_get ex (slot t h) ≡ Some v) × (type_of v ≡ t)
-One ex h (Known w) v = w ≡ v
-
--- so are all of a label's, above these places
-abbrev pub Holds : List Value → List Place → List Value → List Place → Type 0
-Holds ex js [] [] = Unit {0}
-Holds ex js [] (e ∷ es) = ⊥
-Holds ex js (v ∷ ops) [] = ⊥
-Holds ex js (v ∷ ops) (e ∷ es) = One ex (length (es ++ js)) e v × Holds ex js ops es
+use Rattle.unwind_rewrite.specs.Agreement.{One, Holds}
+use Rattle.unwind_rewrite.specs.Steps.{went, run, Gets, To, Shell, st}
 
 pub slice_get-append : {A : Type 0} (l ex : List A) (n h : ℕ) → n ≡ length l → slice_get (l ++ ex) (n + h) ≡ slice_get ex h
 slice_get-append [] ex n h e = ap (slice_get ex) (omega arith)
@@ -89,48 +79,6 @@ added_kind (suc n) = let z : 2 * suc n + 2 ≡ suc (suc (2 * n + 2)) = omega ari
 pub added_offset : (n : ℕ) → slice_get (added n) (2 * n + 3) ≡ Some I32
 added_offset zero = refl
 added_offset (suc n) = let z : 2 * suc n + 3 ≡ suc (suc (2 * n + 3)) = omega arith in rw z (added_offset n)
-
--- exactly so many steps, each of which but the last goes on
-module _ (M : Engine) where
-  abbrev pub went : (Config → Stepped) → ℕ → Stepped → Stepped
-  went more n (next c) = more c
-  went more zero (ends w vs co) = ends w vs co
-  went more (suc n) (ends w vs co) = stuck
-  went more zero (traps k c) = traps k c
-  went more (suc n) (traps k c) = stuck
-  went more zero (no_reply call c) = no_reply call c
-  went more (suc n) (no_reply call c) = stuck
-  went more zero (bad_reply call r c) = bad_reply call r c
-  went more (suc n) (bad_reply call r c) = stuck
-  went more zero stuck = stuck
-  went more (suc n) stuck = stuck
-
-  abbrev pub run : ℕ → Config → Stepped
-  run zero c = next c
-  run (suc n) c = went (run n) n (step M c)
-
--- what so many steps come to
-pub record Gets (M : Engine) (lo hi : ℕ) (c : Config) (r : Stepped) : Type 0 where
-  pub count : ℕ
-  pub low : lo ≤ count
-  pub high : count ≤ hi
-  pub goes : run M count c ≡ r
-
--- a run of so many steps from one configuration to another
-abbrev pub To : Engine → ℕ → ℕ → Config → Config → Type 0
-To M lo hi c c' = Gets M lo hi c (next c')
-
--- what stays while a piece of rewritten code runs
-pub record Shell : Type 0 where
-  pub idx : ℕ
-  pub result : Option ValType
-  pub kind : Kind
-  pub below : List Label
-  pub frames : List Frame
-
--- the state in the rewritten code
-abbrev pub st : Shell → List Value → List Value → Nodes → World → List CollectorCall → Config
-st X tl s k g co = config (frame X.idx X.result 0 tl (label s k 0 X.kind ∷ X.below) ∷ X.frames) g co
 
 -- the added locals after results went to a place
 abbrev pub stored : Option ValType → (ValType → ℕ) → List Value → List Value → List Value

@@ -1,50 +1,31 @@
 -- Each step of the source is some steps of the target, to the image of the next configuration.
 -- what the rewritten module has for a function
-use Rattle.std.proofs.Common.{◌≡◌, ℕ, zero, suc, ◌+◌, ◌*◌, ◌≤◌, List, [], ◌∷◌, ◌++◌, length, Option, Some, None, Bool, true, false, refl, sym, ap, ◌∙◌, subst, subst₂, arith, append-nil, ◌⊎◌, ◌≢◌, slice_get, slice_set, option_map}
+use Rattle.std.proofs.Common.{◌≡◌, ℕ, zero, suc, ◌≤◌, List, [], ◌∷◌, ◌++◌, length, Option, Some, None, Bool, true, false, refl, sym, ap, ◌∙◌, subst, subst₂, arith, append-nil, ◌≢◌, slice_get, slice_set, option_map}
 use Rattle.wasm_syntax.specs.declared.value.ValType.{ValType}
 use Rattle.wasm_syntax.specs.declared.value.ValType.TheVariants.{I32}
 use Rattle.wasm_syntax.specs.declared.value.Value.{Value}
 use Rattle.wasm_syntax.specs.declared.value.Value.TheVariants as values
 use Rattle.wasm_syntax.specs.declared.instruction.Basic.{Basic}
 use Rattle.wasm_syntax.specs.declared.instruction.Basic.TheVariants.{Nop, Drop, Select, LocalGet, LocalSet, LocalTee, GlobalGet, GlobalSet, Load, Store, MemorySize, MemoryGrow, Const, Eqz, Unary, Compare, Binary, Convert, MemoryCopy, MemoryFill, Extend32, Extend64}
-use Rattle.wasm_syntax.specs.declared.parts.FuncType.{FuncType}
-use Rattle.wasm_syntax.specs.declared.parts.Body.{Body}
 use Rattle.wasm_syntax.specs.Numbers.{types}
-use Rattle.wasm_syntax.specs.Tree.{Nodes, stop, basic, jump, block, loop, choose, Tree}
-use Rattle.wasm_syntax.specs.Module.{defined, function_at, declared_locals}
+use Rattle.wasm_syntax.specs.Tree.{Nodes, stop, basic, jump, block, loop, choose}
 use Rattle.wasm_syntax.specs.Host.{World}
 use Rattle.wasm_syntax.specs.declared.host.CollectorCall.{CollectorCall}
 use Rattle.wasm_syntax.specs.Effect.{gives, unfit, effect, takes}
-use Rattle.wasm_syntax.specs.Machine.{Kind, leaves, again, Label, Frame, Config, label, frame, config, Engine, Stepped, next, ends, traps, no_reply, bad_reply, stuck, parts, cut, exactly, else_or, chooses}
-use Rattle.unwind_rewrite.specs.Slots.{Place, Known, Ctx, slot, kind_at, added, less, grown, result_type, after_plain, ctx_of, greatest}
-use Rattle.unwind_rewrite.specs.Rewrite.{Info, unwind, tested, guarded, plain, rewrite, body}
+use Rattle.wasm_syntax.specs.Machine.{Kind, leaves, again, Label, Frame, Config, label, frame, config, Engine, next, parts, cut, else_or, chooses}
+use Rattle.unwind_rewrite.specs.Slots.{Place, Known, Ctx, slot, kind_at, added, less, grown, result_type, after_plain}
+use Rattle.unwind_rewrite.specs.Rewrite.{Info, unwind, tested, guarded, plain, rewrite}
 use Rattle.unwind_rewrite.specs.Numbering.{mapped, global_types}
-use Rattle.unwind_rewrite.specs.Pieces.{call, if_any, load, store, tree_of}
+use Rattle.unwind_rewrite.specs.Pieces.{if_any, load, store}
 use Rattle.unwind_rewrite.specs.Guards.{can_trap}
-use Rattle.unwind_rewrite.proofs.Run.{Holds, Gets, To, Shell, st, stored, HasPlace, types-stored, slice_get-put_same, types-slice_set, added_at, added_kind, still, one_step, seq, weaken, added_get, added_set, fetch_to, load_to, less_holds, store_to}
-use Rattle.unwind_rewrite.proofs.Agreement.{pending, info, infos, joined, t_kind, t_labels, Wit, FitsIn, Room, FitsLabels, FitsOpen, MemoryFits, WorldFits, FitsFrame, FitsFrames, FitsConfig, Wrap, w_frame, zero_vs, last_of, t_frames, flagged, image}
-use Rattle.unwind_rewrite.proofs.Parts.{kind_of, Rel, framed, match_of, cut_all, fits_stored, settle, step_plain}
+use Rattle.unwind_rewrite.specs.Agreement.{Holds, pending, info, infos, joined, t_kind, t_labels, Wit, FitsIn, Room, FitsLabels, FitsOpen, MemoryFits, WorldFits, FitsFrame, FitsFrames, Wrap, t_frames, flagged, image}
+use Rattle.unwind_rewrite.specs.Steps.{To, Shell, st}
+use Rattle.unwind_rewrite.proofs.Run.{stored, HasPlace, types-stored, slice_get-put_same, types-slice_set, added_at, added_kind, still, one_step, seq, weaken, added_get, added_set, fetch_to, load_to, less_holds, store_to}
+use Rattle.unwind_rewrite.specs.Promises.{kind_of}
+use Rattle.unwind_rewrite.proofs.Parts.{Rel, framed, match_of, cut_all, fits_stored, settle, step_plain}
 use Rattle.unwind_rewrite.proofs.Guards.{guard_to}
-use Rattle.unwind_rewrite.proofs.Tell.{tell_frames}
 use Rattle.unwind_rewrite.specs.Offsets.{SmallOffset}
-
-pub record Linked (M M' : Engine) (E : ℕ) (gl : List ValType) (f : ℕ) (b : Body) (tree : Tree) (type : FuncType) : Type 0 where
-  pub slots : ℕ
-  pub small : 2 * length (type.params ++ declared_locals b.groups) + 2 * slots + 60 ≤ E
-  pub narrow : length (type.params ++ declared_locals b.groups) + slots ≤ (greatest M.program).0 + (greatest M.program).1
-  pub room : Room (ctx_of M.program f b type slots) [] tree.nodes
-  pub new : Body
-  pub locals : declared_locals new.groups ≡ declared_locals b.groups ++ added slots
-  pub target : function_at M'.program (mapped M.program.module_ f) ≡ Some (defined new (tree_of (body (ctx_of M.program f b type slots) tree.nodes)) type)
-
--- the target of the whole step
-abbrev pub After : Engine → Engine → ℕ → List ValType → Wrap → Config → Stepped → Type 0
-After M M' E gl W t (next c) = (ws : List Wit) × FitsConfig M E gl W.result c ws × To M' 1 E t (image M W c ws)
-After M M' E gl W t (ends g vs co) = (exactly W.result vs ≡ Some vs) × WorldFits M gl g × To M' 1 E t (config (w_frame W (vs ++ []) ∷ []) (flagged M g (values.I32 0)) co)
-After M M' E gl W t (traps k c) = (k ≡ 8) ⊎ WorldFits M gl c.world × To M' 1 (length c.frames * E) t (config (w_frame W (zero_vs (last_of c.frames) ++ []) ∷ []) (flagged M c.world (values.I32 1)) (tell_frames k c.frames c.collected))
-After M M' E gl W t (no_reply call c) = WorldFits M gl c.world × (c' : Config) × (c'.world ≡ flagged M c.world (values.I32 0)) × (c'.collected ≡ c.collected) × Gets M' 1 E t (no_reply call c')
-After M M' E gl W t (bad_reply call r c) = WorldFits M gl c.world × (c' : Config) × (c'.world ≡ flagged M c.world (values.I32 0)) × (c'.collected ≡ c.collected) × Gets M' 1 E t (bad_reply call r c')
-After M M' E gl W t stuck = Unit {0}
+use Rattle.unwind_rewrite.specs.Standing.{After}
 
 -- a frame with other locals, labels and places
 pub refit : {M : Engine} {E : ℕ} {gl : List ValType} {a : Option ValType} {ix cl : ℕ} {r : Option ValType} {l : List Value} {Ls : List Label} {w : Wit} (l' : List Value) (Ls' : List Label) (ex' : List Value) (ss' : List (List Place)) (b : Option ValType) (cl' : ℕ) → FitsFrame M E gl a (frame ix r cl l Ls) w → types l' ≡ types l → types ex' ≡ types w.ex → FitsOpen w.ctx ex' b Ls' ss' → FitsFrame M E gl b (frame ix r cl' l' Ls') (record { ctx = w.ctx; ex = ex'; ss = ss' })

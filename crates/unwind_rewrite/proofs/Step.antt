@@ -16,13 +16,16 @@ use Rattle.unwind_rewrite.specs.Slots.{Place, Ctx, less, grown, result_type, aft
 use Rattle.unwind_rewrite.specs.Rewrite.{Info, tested, guarded, indirect_code, rewrite}
 use Rattle.unwind_rewrite.specs.Pieces.{load, store}
 use Rattle.unwind_rewrite.specs.Guards.{can_trap, entry_label, type_label}
-use Rattle.unwind_rewrite.proofs.Run.{To, Shell, st, weaken, push_to}
-use Rattle.unwind_rewrite.proofs.Agreement.{info, infos, joined, Wit, FitsIn, Has, Room_call, Room, WorldFits, FitsFrame, FitsFrames, FitsConfig, Wrap, flagged, image}
-use Rattle.unwind_rewrite.proofs.Parts.{kind_of, Rel, framed, match_of}
+use Rattle.unwind_rewrite.specs.Steps.{To, Shell, st}
+use Rattle.unwind_rewrite.proofs.Run.{weaken, push_to}
+use Rattle.unwind_rewrite.specs.Agreement.{info, infos, joined, Wit, FitsIn, Has, Room_call, Room, WorldFits, FitsFrame, FitsFrames, FitsConfig, Wrap, flagged, image}
+use Rattle.unwind_rewrite.specs.Promises.{kind_of}
+use Rattle.unwind_rewrite.proofs.Parts.{Rel, framed, match_of}
 use Rattle.wasm_syntax.specs.Run.{start_table}
-use Rattle.unwind_rewrite.proofs.Sim.{After, len_of, shell, tgt, wit, verdict_to, plain_gives, push_sim, block_sim, loop_sim, if_sim}
+use Rattle.unwind_rewrite.specs.Standing.{After, Stands}
+use Rattle.unwind_rewrite.proofs.Sim.{len_of, shell, tgt, wit, verdict_to, plain_gives, push_sim, block_sim, loop_sim, if_sim}
 use Rattle.unwind_rewrite.proofs.Control.{end_sim, br_node, br_if_node, return_node, table_node}
-use Rattle.unwind_rewrite.proofs.Calls.{Stands, trap_from, call_node, same_functype-same, same_functype-refl, entry_trap, entry_call}
+use Rattle.unwind_rewrite.proofs.Calls.{trap_from, call_node, same_functype-same, same_functype-refl, entry_trap, entry_call}
 use Rattle.unwind_rewrite.specs.Offsets.{SmallOffset}
 
 module _ (M M' : Engine) (E : ℕ) (gl : List ValType) (W : Wrap) (S : Stands M M' E gl) where

@@ -1,30 +1,30 @@
 -- Unwinding: frames hand over their values, the innermost first.
-use Rattle.std.proofs.Common.{◌≡◌, ℕ, suc, ◌+◌, ◌*◌, ◌≤◌, List, [], ◌∷◌, ◌++◌, length, Option, Some, None, true, refl, sym, ap, ◌∙◌, subst, arith, append_assoc, append-nil, length-append, ◌≢◌, slice_get, slice_set}
+use Rattle.std.proofs.Common.{◌≡◌, ℕ, suc, ◌+◌, ◌*◌, ◌≤◌, List, [], ◌∷◌, ◌++◌, length, Option, Some, None, refl, sym, ap, ◌∙◌, subst, arith, append_assoc, append-nil, length-append, ◌≢◌, slice_get, slice_set}
 use Rattle.wasm_syntax.specs.declared.value.ValType.{ValType}
 use Rattle.wasm_syntax.specs.declared.value.ValType.TheVariants.{I32, I64}
 use Rattle.wasm_syntax.specs.declared.value.Value.{Value}
 use Rattle.wasm_syntax.specs.declared.value.Value.TheVariants as values
 use Rattle.wasm_syntax.specs.declared.instruction.Basic.TheVariants.{GlobalGet, GlobalSet}
-use Rattle.wasm_syntax.specs.declared.parts.Import.{Import}
 use Rattle.wasm_syntax.specs.Numbers.{type_of, types}
 use Rattle.wasm_syntax.specs.Tree.{Br, Return, Nodes, stop, basic, jump}
 use Rattle.wasm_syntax.specs.declared.module.ModuleParts.{ModuleParts as Module}
-use Rattle.wasm_syntax.specs.Module.{imported, function_at}
-use Rattle.wasm_syntax.specs.Host.{World, told, answer}
+use Rattle.wasm_syntax.specs.Host.{World}
 use Rattle.wasm_syntax.specs.declared.host.CollectorCall.{CollectorCall}
 use Rattle.wasm_syntax.specs.declared.host.CollectorCall.TheVariants as collector_calls
-use Rattle.wasm_syntax.specs.Machine.{Kind, leaves, again, returns, Label, Frame, Config, label, frame, config, Engine, next, exactly, inside, branch, host_call, deliver}
+use Rattle.wasm_syntax.specs.Machine.{Kind, leaves, again, returns, Label, Frame, Config, label, frame, config, Engine, next, exactly, inside, branch, deliver}
 use Rattle.unwind_rewrite.specs.Slots.{Place, place_type, Ctx, slot, kind_at, offset_at, added, grown}
-use Rattle.unwind_rewrite.specs.Numbering.{mapped, value_import, frame_import, flag_of, global_types, value_type, frame_type}
+use Rattle.unwind_rewrite.specs.Numbering.{mapped, value_import, frame_import, flag_of, global_types}
 use Rattle.unwind_rewrite.specs.Pieces.{get, set, const, call, if_any, fetch, store}
 use Rattle.unwind_rewrite.specs.Rewrite.{hand_value, hand, unwind, test_flag, rewrite, hand_locals, zero_result, raise_flag, exit_code}
-use Rattle.unwind_rewrite.proofs.Run.{Holds, Gets, To, Shell, st, stored, types-stored, slice_get-put_same, slice_get-put_other, types-slice_set, same_type-refl, added_kind, added_offset, still, one_step, seq, weaken, push_to, get_to, added_get, added_set, fetch_to, store_to}
-use Rattle.unwind_rewrite.proofs.Agreement.{awaits, code_at, pending, info, infos, joined, t_kind, t_labels, Wit, KindFits, FitsLabels, WorldFits, FitsFrame, FitsFrames, Wrap, w_frame, zero_vs, last_result, t_frames, flagged}
+use Rattle.unwind_rewrite.specs.Agreement.{Holds, awaits, code_at, pending, info, infos, joined, t_kind, t_labels, Wit, KindFits, FitsLabels, WorldFits, FitsFrame, FitsFrames, Wrap, w_frame, zero_vs, last_result, t_frames, flagged}
+use Rattle.unwind_rewrite.specs.Steps.{Gets, To, Shell, st}
+use Rattle.unwind_rewrite.proofs.Run.{stored, types-stored, slice_get-put_same, slice_get-put_other, types-slice_set, same_type-refl, added_kind, added_offset, still, one_step, seq, weaken, push_to, get_to, added_get, added_set, fetch_to, store_to}
 use Rattle.unwind_rewrite.proofs.Parts.{place_of, fits_put, fits_stored, step_plain}
 use Rattle.unwind_rewrite.specs.Collected.{value_call}
-use Rattle.unwind_rewrite.proofs.Tell.{tell_ops, tell_labels, tell_locals, tell_frame, tell_outer}
+use Rattle.unwind_rewrite.specs.Telling.{tell_ops, tell_labels, tell_locals, tell_frame, tell_outer}
 use Rattle.unwind_rewrite.proofs.Sim.{room_height, grown_fits, len_of, shell, wit, armed}
 use Rattle.unwind_rewrite.proofs.Control.{flag_len, get_last, grown_longer}
+use Rattle.unwind_rewrite.specs.Standing.{Speaks}
 
 -- the part of the handing over that belongs to one label
 abbrev hand_part : Ctx → List Place → List Place → Nodes → Nodes
@@ -58,16 +58,6 @@ exit_branch C ex a o k L [] e ss h = exit_branch_last C o k ss L.kind h.3
 exit_branch C ex a o k L (L1 ∷ Ls) e [] h = absurd h.4
 exit_branch C ex a o k L (L1 ∷ Ls) e (e1 ∷ ss) h =
     exit_branch C ex (awaits (pending L.kind)) [] (code_at C (info L1.kind ∷ infos Ls) (e1 ++ joined ss) (pending L.kind) L1.nodes) L1 Ls e1 ss h.4
-
--- the collector's imports of the new module
-pub record Speaks (M' : Engine) (m : Module) : Type 0 where
-  pub collects : M'.collects ≡ true
-  pub value_imported : ValType → Import
-  pub values_ : (t : ValType) → function_at M'.program (value_import m t) ≡ Some (imported (value_imported t) (value_type t))
-  pub tells : (v : Value) (w : World) → answer true M'.program.module_ (host_call (value_import m (type_of v)) (value_imported (type_of v)) (value_type (type_of v)) (v ∷ [])) w ≡ told (value_call v)
-  pub frame_imported : Import
-  pub frames_ : function_at M'.program (frame_import m) ≡ Some (imported frame_imported frame_type)
-  pub closes : (k f o n : ℕ) (w : World) → answer true M'.program.module_ (host_call (frame_import m) frame_imported frame_type (values.I32 k ∷ values.I32 f ∷ values.I32 o ∷ values.I32 n ∷ [])) w ≡ told (collector_calls.Frame k f o n)
 
 module _ (M' : Engine) (m : Module) (sp : Speaks M' m) where
   value_at : {X : Shell} {tl s : List Value} {k : Nodes} {g : World} {co : List CollectorCall} (v : Value) → To M' 1 1 (st X tl (v ∷ s) (call (value_import m (type_of v)) k) g co) (st X tl s k g (value_call v ∷ co))

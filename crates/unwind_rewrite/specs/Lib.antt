@@ -6,3 +6,8 @@ pub mod Guards
 pub mod Rewrite
 pub mod Image
 pub mod Collected
+pub mod Steps
+pub mod Agreement
+pub mod Telling
+pub mod Standing
+pub mod Promises

@@ -1,25 +1,36 @@
--- The target configuration that stands for a source configuration.
-use Rattle.std.proofs.Common.{◌≡◌, ℕ, ◌+◌, ◌*◌, ◌<◌, ◌≤◌, List, [], ◌∷◌, ◌++◌, length, map, Option, Some, None, slice_get, option_map}
+-- The configuration of the rewritten module that stands for one of the original.
+use Rattle.std.specs.Prelude.{◌≡◌, ℕ, ◌+◌, ◌*◌, ◌<◌, ◌≤◌, List, [], ◌∷◌, ◌++◌, length, Option, Some, None, slice_get, map, option_map}
 use Rattle.wasm_syntax.specs.declared.value.ValType.{ValType}
 use Rattle.wasm_syntax.specs.declared.value.Value.{Value}
+use Rattle.wasm_syntax.specs.Numbers.{type_of, types}
+use Rattle.wasm_syntax.specs.Tree.{Nodes, basic, Jump, Unreachable, Br, BrIf, BrTable, Return, Call, CallIndirect, stop, jump, block, loop, choose}
+use Rattle.wasm_syntax.specs.Host.{World}
+use Rattle.wasm_syntax.specs.Machine.{Kind, Label, Frame, Config, label, frame, config, Engine, leaves, again, returns, zero_of, result_of}
+use Rattle.unwind_rewrite.specs.Slots.{Place, Spilled, Known, Ctx, slot, added, less, grown, result_type, after_plain, greatest}
+use Rattle.unwind_rewrite.specs.Pieces.{from_result}
 use Rattle.wasm_syntax.specs.declared.value.Value.TheVariants as values
 use Rattle.wasm_syntax.specs.declared.instruction.Basic.{Basic}
 use Rattle.wasm_syntax.specs.declared.instruction.Basic.TheVariants.{Const}
 use Rattle.wasm_syntax.specs.declared.parts.FuncType.{FuncType}
-use Rattle.wasm_syntax.specs.Numbers.{types}
-use Rattle.wasm_syntax.specs.Tree.{Jump, Unreachable, Br, BrIf, BrTable, Return, Call, CallIndirect, Nodes, stop, basic, jump, block, loop, choose}
 use Rattle.wasm_syntax.specs.Module.{type_at}
-use Rattle.wasm_syntax.specs.Host.{World}
 use Rattle.wasm_syntax.specs.Effect.{takes}
-use Rattle.wasm_syntax.specs.Machine.{Kind, leaves, again, returns, Label, Frame, Config, label, frame, config, Engine, zero_of, result_of}
-use Rattle.unwind_rewrite.specs.Slots.{Place, Known, Ctx, added, less, grown, result_type, after_plain, greatest}
 use Rattle.unwind_rewrite.specs.Rewrite.{Info, in_block, in_loop, in_body, finish, after_call, rewrite, exit_code}
 use Rattle.unwind_rewrite.specs.Numbering.{mapped, place_in, global_types, helper_base, helped}
-use Rattle.unwind_rewrite.specs.Pieces.{from_result}
 use Rattle.linear_memory.specs.Memory.{Memory}
 use Rattle.wasm_syntax.specs.Run.{start_table}
-use Rattle.unwind_rewrite.proofs.Run.{Holds}
 use Rattle.unwind_rewrite.specs.Offsets.{SmallOffset}
+
+-- the operand is in its slot, or is the constant
+abbrev pub One : List Value → ℕ → Place → Value → Type 0
+One ex h (Spilled t) v = (slice_get ex (slot t h) ≡ Some v) × (type_of v ≡ t)
+One ex h (Known w) v = w ≡ v
+
+-- so are all of a label's, above these places
+abbrev pub Holds : List Value → List Place → List Value → List Place → Type 0
+Holds ex js [] [] = Unit {0}
+Holds ex js [] (e ∷ es) = ⊥
+Holds ex js (v ∷ ops) [] = ⊥
+Holds ex js (v ∷ ops) (e ∷ es) = One ex (length (es ++ js)) e v × Holds ex js ops es
 
 -- what a label waits for: results of a block, or of a call
 pub data Pending : Type 0 where

@@ -2,9 +2,9 @@
 use Rattle.std.specs.Prelude.{ℕ, List, [], ◌∷◌, length}
 use Rattle.wasm_syntax.specs.declared.value.Value.{Value}
 use Rattle.wasm_syntax.specs.declared.host.CollectorCall.{CollectorCall}
+use Rattle.wasm_syntax.specs.Machine.{Label, Frame, Config, offset_of}
 use Rattle.wasm_syntax.specs.declared.host.CollectorCall.TheVariants as collector_calls
 use Rattle.unwind_rewrite.specs.Collected.{value_call}
-use Rattle.wasm_syntax.specs.Machine.{Label, Frame, Config, offset_of}
 
 abbrev pub tell_ops : List Value → List CollectorCall → List CollectorCall
 tell_ops [] co = co

@@ -1,0 +1,18 @@
+//! What guards and rewritten bodies promise.
+
+ghost use Rattle.std.specs.Prelude.{ℕ, List};
+ghost use Rattle.wasm_syntax.specs.declared.value.ValType.{ValType};
+ghost use Rattle.wasm_syntax.specs.declared.instruction.Basic.{Basic};
+ghost use Rattle.wasm_syntax.specs.Machine.{Engine};
+ghost use Rattle.unwind_rewrite.specs.Agreement.{Wrap};
+ghost use Rattle.unwind_rewrite.specs.Promises.{GuardTells, StepFollows};
+
+/// A guard changes nothing, and leaves the kind with which its instruction traps, or 0.
+pub fn guards_tell_kinds()
+    ensures { (M : Engine) (i : Basic) → GuardTells M i }
+{}
+
+/// Each step of the original is some steps of the rewritten module, and at a trap all frames hand over their values.
+pub fn each_step_is_followed()
+    ensures { (M M' : Engine) (E : ℕ) (gl : List ValType) (W : Wrap) → StepFollows M M' E gl W }
+{}
