@@ -1,0 +1,6 @@
+pub mod ConstantLaws
+pub mod ExportLaws
+pub mod HeightLaws
+pub mod OffsetLaws
+pub mod Order
+pub mod WholeLaws

@@ -1,0 +1,5 @@
+pub mod Answers
+pub mod Heights
+pub mod Offsets
+pub mod Places
+pub mod Whole

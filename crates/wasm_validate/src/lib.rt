@@ -1,0 +1,14 @@
+//! The validator of modules (Core 3.4).
+#![tactic(auto)]
+
+mod bodies;
+mod exports;
+mod expressions;
+mod first;
+mod limit;
+mod offsets;
+mod parts;
+mod places;
+mod validated;
+
+pub use validated::{ValidateFault, Validated, validate};

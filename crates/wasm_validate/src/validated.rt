@@ -1,0 +1,151 @@
+//! Modules that were validated.
+
+ghost use Rattle.std.specs.Prelude.{◌≡◌, length, slice_get, Option, Some, None};
+ghost use Rattle.wasm_syntax.specs.Module.{option_then};
+ghost use Rattle.body_check.specs.declared.marks.Mark.{Mark as MarkThere};
+ghost use Rattle.wasm_syntax.specs.Valid.{Valid};
+ghost use Rattle.wasm_validate.specs.Answers.{Answered};
+ghost use Rattle.wasm_validate.specs.Heights.{HasOp, HeightIs, HeightsAre, AllLow, OpIs};
+ghost use Rattle.wasm_syntax.specs.Sizes.{WithinLimits};
+ghost use Rattle.wasm_validate.specs.Whole.{MarkedUpTo};
+ghost use Rattle.wasm_validate.specs.declared.validated.ValidateFault.TheVariants as faults;
+
+use crate::bodies::{BodiesFault, check_bodies};
+use crate::limit::{first_high, heights_of_all};
+use crate::offsets::op_at;
+use crate::places::bad_part;
+use body_check::{Mark, Marks};
+use causes::NoMemory;
+use pm_text::Items;
+use std::alloc::Global;
+use std::marker::Model;
+use wasm_syntax::{Heights, Module, Place, Quantity};
+
+/// Why a module is refused: at the first place that is not valid; or since a function has too many operands at once, with the greatest
+/// number of the first such function; or for want of memory.
+#[derive(Clone, Copy, PartialEq, Eq)]
+pub enum ValidateFault {
+    Invalid { place: Place },
+    Limit { what: Quantity, count: u64 },
+    NoMemory,
+}
+
+impl From<NoMemory> for ValidateFault {
+    ghost from_gives = { λ _ e. e ≡ faults.NoMemory };
+
+    fn from(_error: NoMemory) -> Self {
+        ValidateFault::NoMemory
+    }
+}
+
+/// A valid module within the limits, which contracts see as its parts, with what is known before each instruction.
+#[derive(Drop)]
+pub struct Validated {
+    module: Module,
+    marks: Items<Marks>,
+    heights: Heights,
+}
+
+impl Model for Validated {
+    ghost use Rattle.wasm_syntax.specs.declared.module.ModuleParts.{ModuleParts as Parts};
+    ghost use Rattle.wasm_validate.specs.Answers.{Checked as IsChecked};
+
+    ghost Value = { Parts };
+
+    ghost view = { λ v. v.module };
+
+    ghost invariant = { λ v. IsChecked v.module v.marks v.heights };
+}
+
+/// Whether a module is valid, with at most 4,096 operands at once in each function.
+pub fn validate(alloc: Global, module: Module) -> Result<Validated, ValidateFault>
+    requires { WithinLimits «module» }
+    ensures { Answered result «module» }
+{
+    let found = bad_part(alloc, module.parts())?;
+    match found {
+        Some(place) => return Err(ValidateFault::Invalid { place }),
+        None => {}
+    }
+    match check_bodies(alloc, module.parts()) {
+        Ok(marks) => marked(alloc, module, marks),
+        Err(BodiesFault::At(place)) => Err(ValidateFault::Invalid { place }),
+        Err(BodiesFault::NoMemory) => Err(ValidateFault::NoMemory),
+    }
+}
+
+/// A valid module with its marks, where no function has too many operands.
+fn marked(alloc: Global, m: Module, marks: Items<Marks>) -> Result<Validated, ValidateFault>
+    requires limits { WithinLimits m }
+    requires valid { Valid m }
+    requires marked { MarkedUpTo marks m (length m.bodies) }
+    ensures { Answered result m }
+{
+    match first_high(marks.as_slice()) {
+        Some(count) => Err(ValidateFault::Limit {
+            what: Quantity::Height,
+            count: count as u64,
+        }),
+        None => {
+            let heights = heights_of_all(alloc, marks.as_slice())?;
+            Ok(Validated {
+                module: m,
+                marks,
+                heights,
+            })
+        }
+    }
+}
+
+/// The mark of an instruction of a function, where it is there.
+fn mark_at(all: &Items<Marks>, i: usize, op: usize) -> Option<Mark>
+    ensures { (k : Option MarkThere) → option_then (slice_get all.now i) (λ marks. slice_get marks op) ≡ Some k → result ≡ k }
+{
+    match all.get(i) {
+        Some(marks) => match marks.get(op).copied() {
+            Some(mark) => mark,
+            None => None,
+        },
+        None => None,
+    }
+}
+
+impl Validated {
+    /// The module.
+    pub fn module(&self) -> &Module
+        ensures value { result.now ≡ self.now }
+        ensures valid { Valid self.now }
+        ensures limits { WithinLimits self.now }
+        ensures heights { AllLow self.now }
+    {
+        &self.module
+    }
+
+    /// The operand height before each instruction, or 0 in dead code.
+    pub fn heights(&self) -> &Heights
+        ensures { HeightsAre result.now self.now }
+    {
+        &self.heights
+    }
+
+    /// The operand height before an instruction of a function that the module defines, or None in dead code. The `else` or `end` behind
+    /// a sequence with an unconditional transfer is dead.
+    pub fn height(&self, func: u32, op: u32) -> Option<u32>
+        requires { HasOp self.now func op }
+        ensures { HeightIs result self.now func op }
+    {
+        let i = func as usize - self.module.parts().imports.len();
+        match mark_at(&self.marks, i, op as usize) {
+            Some(mark) => Some(mark.height as u32),
+            None => None,
+        }
+    }
+
+    /// The number of the instruction of a function at a code offset, or None where no instruction other than `else` and `end` begins
+    /// there, or the module does not define such a function.
+    pub fn op_at(&self, func: u32, at: u32) -> Option<u32>
+        ensures { OpIs result self.now func at }
+    {
+        op_at(self.module.parts(), func, at)
+    }
+}
