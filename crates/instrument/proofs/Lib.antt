@@ -9,3 +9,5 @@ pub mod Sessions
 pub mod Theorem
 pub mod Rows
 pub mod Divider
+pub mod BareStep
+pub mod BareRuns

@@ -4,3 +4,4 @@ pub mod Instrument
 pub mod Simulates
 pub mod Given
 pub mod Example
+pub mod Bare

@@ -1,6 +1,10 @@
 //! What the rewriting promises.
 
+ghost use Rattle.std.specs.Prelude.{◌≡◌, ℕ, Bool, List, map};
+ghost use Rattle.wasm_syntax.specs.declared.host.Reply.{Reply as HostReply};
 ghost use Rattle.wasm_syntax.specs.Module.{Program};
+ghost use Rattle.wasm_syntax.specs.Run.{Invocation, run};
+ghost use Rattle.instrument.specs.Bare.{bare, bare_ran};
 ghost use Rattle.instrument.specs.Given.{Given};
 ghost use Rattle.instrument.specs.Instrument.{instrument, multiple};
 ghost use Rattle.instrument.specs.Simulates.{Simulates};
@@ -11,6 +15,16 @@ ghost use Rattle.instrument.specs.Example.{divider, HandsOver};
 /// original at that trap. It takes at least as many steps as the original, and at most the stated multiple.
 pub fn instrumented_module_simulates()
     ensures { (p : Program) → Given p → Simulates (multiple p) p (instrument p) }
+{}
+
+/// So does each module that is the rewritten one but for offsets, lengths and custom sections.
+pub fn rewritten_at_any_offsets_simulates()
+    ensures { (p other : Program) → Given p → bare other ≡ bare (instrument p) → Simulates (multiple p) p other }
+{}
+
+/// Offsets, lengths and custom sections change no run: they are only shown.
+pub fn offsets_change_no_run()
+    ensures { (p other : Program) (collecting : Bool) (invocations : List Invocation) (replies : List HostReply) (depth n : ℕ) → bare p ≡ bare other → map bare_ran (run p collecting invocations replies depth n) ≡ map bare_ran (run other collecting invocations replies depth n) }
 {}
 
 /// The premises can be met.
