@@ -11,3 +11,6 @@ pub mod Rows
 pub mod Divider
 pub mod BareStep
 pub mod BareRuns
+pub mod FlatOut
+pub mod Arms
+pub mod WrittenOut

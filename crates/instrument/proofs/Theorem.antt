@@ -146,7 +146,7 @@ few_pages : (m : Module) (ls : List Limits) → AllByRecursion (λ l. l.min ≤ 
 few_pages m [] h = tt
 few_pages m (l ∷ ls) h = h.0
 
-startable_given : (p : Program) → Given p → Startable p
+pub startable_given : (p : Program) → Given p → Startable p
 startable_given p g = startable p g.program g.as_many g.valid
 
 fits_given : (p : Program) → Given p → Fits p

@@ -2,11 +2,11 @@
 
 ghost use Rattle.std.specs.Prelude.{◌≡◌, ℕ, Bool, List, map};
 ghost use Rattle.wasm_syntax.specs.declared.host.Reply.{Reply as HostReply};
-ghost use Rattle.wasm_syntax.specs.Module.{Program};
+ghost use Rattle.wasm_syntax.specs.Module.{Program, IsProgram};
 ghost use Rattle.wasm_syntax.specs.Run.{Invocation, run};
-ghost use Rattle.instrument.specs.Bare.{bare, bare_ran};
+ghost use Rattle.instrument.specs.Bare.{bare, bare_module, bare_ran};
 ghost use Rattle.instrument.specs.Given.{Given};
-ghost use Rattle.instrument.specs.Instrument.{instrument, multiple};
+ghost use Rattle.instrument.specs.Instrument.{instrument, new_module, multiple};
 ghost use Rattle.instrument.specs.Simulates.{Simulates};
 ghost use Rattle.instrument.specs.Example.{divider, HandsOver};
 
@@ -18,8 +18,13 @@ pub fn instrumented_module_simulates()
 {}
 
 /// So does each module that is the rewritten one but for offsets, lengths and custom sections.
-pub fn rewritten_at_any_offsets_simulates()
-    ensures { (p other : Program) → Given p → bare other ≡ bare (instrument p) → Simulates (multiple p) p other }
+pub fn rewritten_module_simulates()
+    ensures { (p other : Program) → Given p → IsProgram other → bare_module other.module_ ≡ bare_module (new_module p) → Simulates (multiple p) p other }
+{}
+
+/// Each body of the rewritten module writes out its tree, but for offsets: the flat code is that of the trees.
+pub fn rewritten_bodies_write_their_trees()
+    ensures { (p : Program) → Given p → IsProgram (bare (instrument p)) }
 {}
 
 /// Offsets, lengths and custom sections change no run: they are only shown.
