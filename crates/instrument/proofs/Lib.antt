@@ -14,3 +14,4 @@ pub mod BareRuns
 pub mod FlatOut
 pub mod Arms
 pub mod WrittenOut
+pub mod Modules

@@ -5,3 +5,4 @@ pub mod Simulates
 pub mod Given
 pub mod Example
 pub mod Bare
+pub mod Instrumentable

@@ -2,10 +2,12 @@
 
 ghost use Rattle.std.specs.Prelude.{◌≡◌, ℕ, Bool, List, map};
 ghost use Rattle.wasm_syntax.specs.declared.host.Reply.{Reply as HostReply};
-ghost use Rattle.wasm_syntax.specs.Module.{Program, IsProgram};
+ghost use Rattle.wasm_syntax.specs.declared.module.ModuleParts.{ModuleParts as Parts};
+ghost use Rattle.wasm_syntax.specs.Module.{Program, IsProgram, IsModule};
 ghost use Rattle.wasm_syntax.specs.Run.{Invocation, run};
 ghost use Rattle.instrument.specs.Bare.{bare, bare_module, bare_ran};
 ghost use Rattle.instrument.specs.Given.{Given};
+ghost use Rattle.instrument.specs.Instrumentable.{Instrumentable, program_of};
 ghost use Rattle.instrument.specs.Instrument.{instrument, new_module, multiple};
 ghost use Rattle.instrument.specs.Simulates.{Simulates};
 ghost use Rattle.instrument.specs.Example.{divider, HandsOver};
@@ -17,14 +19,24 @@ pub fn instrumented_module_simulates()
     ensures { (p : Program) → Given p → Simulates (multiple p) p (instrument p) }
 {}
 
-/// So does each module that is the rewritten one but for offsets, lengths and custom sections.
-pub fn rewritten_module_simulates()
+/// So does each program whose module is the rewritten one but for offsets, lengths and custom sections.
+pub fn rewritten_programs_simulate()
     ensures { (p other : Program) → Given p → IsProgram other → bare_module other.module_ ≡ bare_module (new_module p) → Simulates (multiple p) p other }
 {}
 
 /// Each body of the rewritten module writes out its tree, but for offsets: the flat code is that of the trees.
 pub fn rewritten_bodies_write_their_trees()
     ensures { (p : Program) → Given p → IsProgram (bare (instrument p)) }
+{}
+
+/// Validity and the limits give the premises.
+pub fn instrumentable_modules_are_given()
+    ensures { (m : Parts) (these : Instrumentable m) → Given (program_of m these.whole) }
+{}
+
+/// All together, for modules alone: a module that is the rewritten one but for offsets, lengths and custom sections does what the original does.
+pub fn rewritten_modules_simulate()
+    ensures { (m other : Parts) (these : Instrumentable m) (whole : IsModule other) → bare_module other ≡ bare_module (new_module (program_of m these.whole)) → Simulates (multiple (program_of m these.whole)) (program_of m these.whole) (program_of other whole) }
 {}
 
 /// Offsets, lengths and custom sections change no run: they are only shown.

@@ -2,7 +2,7 @@ use Rattle.instrument.specs.Instrument.{instrument, multiple}
 use Rattle.instrument.proofs.Theorem.{startable_given, rewriting_simulates}
 use Rattle.instrument.proofs.BareRuns.{simulates_bare}
 use Rattle.instrument.proofs.WrittenOut.{program_bare, same_bare, instrument_bare}
-use Rattle.instrument.proofs.laws.rewritten_module_simulates.Goals as goal
+use Rattle.instrument.proofs.laws.rewritten_programs_simulate.Goals as goal
 
 pub returns : goal.returns
 returns c = λ p other g w e.
