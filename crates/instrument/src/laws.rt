@@ -49,6 +49,11 @@ pub fn given_is_met()
     ensures { Given divider }
 {}
 
+/// So can validity and the limits.
+pub fn limits_are_met()
+    ensures { Instrumentable divider.module_ }
+{}
+
 /// A division by zero, and then one that ends: the rewritten program hands over the dump of the trap, ends in a trap of its own, and then does
 /// the second division.
 pub fn division_by_zero_is_handed_over()
