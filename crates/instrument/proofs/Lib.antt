@@ -15,3 +15,4 @@ pub mod FlatOut
 pub mod Arms
 pub mod WrittenOut
 pub mod Modules
+pub mod Copies

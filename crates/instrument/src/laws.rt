@@ -59,3 +59,8 @@ pub fn limits_are_met()
 pub fn division_by_zero_is_handed_over()
     ensures { HandsOver }
 {}
+
+/// A copy does not do: with whatever multiple of the steps, a program that traps does not simulate itself.
+pub fn no_copy_simulates()
+    ensures { (factor : ℕ) → Simulates factor divider divider → ⊥ }
+{}
