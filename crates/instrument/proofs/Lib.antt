@@ -16,3 +16,4 @@ pub mod Arms
 pub mod WrittenOut
 pub mod Modules
 pub mod Copies
+pub mod Interface

@@ -6,3 +6,4 @@ pub mod Given
 pub mod Example
 pub mod Bare
 pub mod Instrumentable
+pub mod Interface

@@ -9,6 +9,7 @@ ghost use Rattle.instrument.specs.Bare.{bare, bare_module, bare_ran};
 ghost use Rattle.instrument.specs.Given.{Given};
 ghost use Rattle.instrument.specs.Instrumentable.{Instrumentable, program_of};
 ghost use Rattle.instrument.specs.Instrument.{instrument, new_module, multiple};
+ghost use Rattle.instrument.specs.Interface.{KeepsInterface};
 ghost use Rattle.instrument.specs.Simulates.{Simulates};
 ghost use Rattle.instrument.specs.Example.{divider, HandsOver};
 
@@ -42,6 +43,11 @@ pub fn rewritten_modules_simulate()
 /// Offsets, lengths and custom sections change no run: they are only shown.
 pub fn offsets_change_no_run()
     ensures { (p other : Program) (collecting : Bool) (invocations : List Invocation) (replies : List HostReply) (depth n : ℕ) → bare p ≡ bare other → map bare_ran (run p collecting invocations replies depth n) ≡ map bare_ran (run other collecting invocations replies depth n) }
+{}
+
+/// The imports are those of the module and then the collector's three, and the exports those of the module and then its memory.
+pub fn interface_is_kept()
+    ensures { (p : Program) → KeepsInterface p.module_ (new_module p) }
 {}
 
 /// The premises can be met.
