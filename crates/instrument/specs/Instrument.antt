@@ -19,6 +19,7 @@ use Rattle.unwind_rewrite.specs.Rewrite.{body}
 use Rattle.instrument.specs.Wrappers.{wrapper}
 use Rattle.instrument.specs.FlatCode.{op, body_of}
 
+-- the body, its nodes and its tree for function f
 abbrev pub new_nodes : Program → ℕ → Body → Tree → FuncType → Nodes
 new_nodes p f b tree type = body (ctx_of p f b type (slots_of p f b tree type)) tree.nodes
 
@@ -30,13 +31,16 @@ abbrev pub new_tree : Program → ℕ → Option Function → Tree
 new_tree p f (Some (defined b tree type)) = tree_of (new_nodes p f b tree type)
 new_tree p f _ = tree_of stop
 
+-- one for each element, numbered from f on
 abbrev pub each : {A B : Type 0} → (ℕ → B) → ℕ → List A → List B
 each go f [] = []
 each go f (x ∷ xs) = go f ∷ each go (suc f) xs
 
+-- an import of the collector's module, with its type
 abbrev pub collector_import : List ℕ → ℕ → Import
 collector_import name t = record { «module» = codes "coredump"; name = name; ftype = t }
 
+-- the flag is down at first
 abbrev pub zero_init : Body
 zero_init = record { groups = []; ops = op (instrs.Basic (Const (i32 0))) ∷ op instrs.End ∷ []; targets = []; start = 0 }
 
@@ -50,6 +54,7 @@ new_exports m k [] = []
 new_exports m k (e ∷ es) =
     record { name = e.name; kind = e.kind; index = new_index m k (wraps m e) e.index } ∷ new_exports m (k + length (wraps m e)) es
 
+-- where there is a memory
 abbrev pub memory_export : {A : Type 0} → List A → List Export
 memory_export [] = []
 memory_export (l ∷ ls) = record { name = codes "coredump.memory"; kind = kinds.Memory; index = 0 } ∷ []
@@ -58,6 +63,7 @@ abbrev pub new_start : Module → Option ℕ → Option ℕ
 new_start m None = None
 new_start m (Some f) = Some (new_index m (length (export_wrapped m)) (start_wraps m (Some f)) f)
 
+-- a wrapper has the type of its function
 abbrev pub wrapper_type : Module → ℕ → ℕ
 wrapper_type m f = unwrap_or (slice_get (function_types m) f) 0
 

@@ -9,14 +9,17 @@ use Rattle.wasm_syntax.specs.Module.{type_at}
 use Rattle.unwind_rewrite.specs.Numbering.{mapped, value_import, frame_import, flag_of, global_types}
 use Rattle.unwind_rewrite.specs.Pieces.{const, i32, call, if_any}
 
+-- the parameters from x on
 abbrev pub get_all : ℕ → ℕ → Nodes → Nodes
 get_all x zero k = k
 get_all x (suc n) k = basic 0 (LocalGet x) (get_all (suc x) n k)
 
+-- the globals from x on are handed over
 abbrev pub tell_globals : Module → ℕ → List ValType → Nodes → Nodes
 tell_globals m x [] k = k
 tell_globals m x (t ∷ ts) k = basic 0 (GlobalGet x) (call (value_import m t) (tell_globals m (suc x) ts k))
 
+-- the globals and the end of the dump
 abbrev pub end_of_dump : Module → Nodes
 end_of_dump m =
     tell_globals m 0 (global_types m) (const (i32 255) (const (i32 0) (const (i32 0) (const (i32 (length m.globals)) (call (frame_import m) (jump 0 Unreachable stop))))))

@@ -20,6 +20,7 @@ use Rattle.wasm_syntax.specs.Run.{start_table}
 use Rattle.unwind_rewrite.specs.Slots.{Place, Ctx}
 use Rattle.unwind_rewrite.specs.Pieces.{const, i32, fetch}
 
+-- the least signed number of a type, and -1
 abbrev pub least : ValType → Value
 least t = value t (2 ^ (bits t - 1))
 
@@ -30,13 +31,16 @@ minus_one t = value t (2 ^ bits t - 1)
 abbrev pub zero_test : ValType → Nodes → Nodes
 zero_test t k = basic 0 (Eqz t) (basic 0 Select k)
 
+-- 2 where the divisor, at height h, is zero
 abbrev pub guard_zero : Ctx → ValType → Place → ℕ → Nodes → Nodes
 guard_zero C t b h k = const (i32 2) (const (i32 0) (fetch C b h (zero_test t k)))
 
+-- 3 on the stack stays where the dividend a, at height h, is the least number and the divisor b is -1; otherwise 0 is taken
 abbrev pub overflow_test : Ctx → ValType → Place → Place → ℕ → Nodes → Nodes
 overflow_test C t b a h k =
     fetch C a h (const (least t) (basic 0 (Compare t Eq) (fetch C b (suc h) (const (minus_one t) (basic 0 (Compare t Eq) (basic 0 (Binary I32 And) (basic 0 Select k)))))))
 
+-- a quotient of signed numbers: 2, 3 or 0
 abbrev pub guard_signed : Ctx → ValType → Place → Place → ℕ → Nodes → Nodes
 guard_signed C t b a h k =
     const (i32 2) (const (i32 3) (const (i32 0) (overflow_test C t b a h (fetch C b (suc h) (zero_test t k)))))
@@ -49,6 +53,7 @@ past_end k = basic 0 MemorySize (basic 0 (Convert ExtendU) (const (values.I64 65
 abbrev pub out_test : ℕ → Nodes → Nodes
 out_test n k = basic 0 (Convert ExtendU) (const (values.I64 n) (basic 0 (Binary I64 Add) (past_end (basic 0 Select k))))
 
+-- 4 where an access of n bytes, offset included, from the address at height h passes the end
 abbrev pub guard_memory : Ctx → Place → ℕ → ℕ → Nodes → Nodes
 guard_memory C a h n k = const (i32 4) (const (i32 0) (fetch C a h (out_test n k)))
 
@@ -66,6 +71,7 @@ guard_copy C n from to h k =
 abbrev pub guard_fill : Ctx → Place → Place → ℕ → Nodes → Nodes
 guard_fill C n to h k = const (i32 4) (const (i32 0) (range_test C to h n (suc (suc h)) (basic 0 Select k)))
 
+-- the guard of an instruction on these places
 abbrev pub guard : Ctx → Basic → List Place → Nodes → Nodes
 guard C (Binary t DivS) (b ∷ a ∷ es) k = guard_signed C t b a (length es) k
 guard C (Binary t DivU) (b ∷ a ∷ es) k = guard_zero C t b (suc (length es)) k
@@ -84,6 +90,7 @@ divides RemS = true
 divides RemU = true
 divides op = false
 
+-- the instructions that have a guard
 abbrev pub can_trap : Basic → Bool
 can_trap (Binary t op) = divides op
 can_trap (Load l align o) = true
@@ -104,9 +111,11 @@ entry_label m t None = 2
 entry_label m t (Some g) =
     unwrap_or (option_then (slice_get m.types t) (λ type. option_map (λ u. type_label (same_functype u type)) (type_at m g))) 0
 
+-- a helper gives this kind
 abbrev pub says : ℕ → Nodes
 says kind = const (i32 kind) (jump 0 Return stop)
 
+-- the helper of a type, on the index of a table entry
 abbrev pub helper : Module → ℕ → Nodes
 helper m t =
     block 0 None (block 0 None (block 0 None (block 0 None

@@ -16,24 +16,29 @@ import_count m = length m.imports
 abbrev pub mapped : Module → ℕ → ℕ
 mapped m f = if nat_lt f (import_count m) then f else 3 + f
 
+-- i32 before i64
 abbrev pub type_number : ValType → ℕ
 type_number I32 = 0
 type_number I64 = 1
 
+-- the import that takes a value of this type, and the one that ends a frame
 abbrev pub value_import : Module → ValType → ℕ
 value_import m t = import_count m + type_number t
 
 abbrev pub frame_import : Module → ℕ
 frame_import m = import_count m + 2
 
+-- the global that says whether frames are being unwound
 abbrev pub flag_of : Module → ℕ
 flag_of m = length m.globals
 
 -- ---- the functions that have a wrapper
 
+-- the function that an export names, where the module defines it
 abbrev pub wraps : Module → Export → List ℕ
 wraps m e = if is_function e.kind then (if nat_lt e.index (import_count m) then [] else e.index ∷ []) else []
 
+-- the start function, where the module defines it
 abbrev pub start_wraps : Module → Option ℕ → List ℕ
 start_wraps m None = []
 start_wraps m (Some f) = if nat_lt f (import_count m) then [] else f ∷ []
@@ -45,11 +50,13 @@ export_wrapped m = flat_map (wraps m) m.exports
 abbrev pub wrapped : Module → List ℕ
 wrapped m = export_wrapped m ++ start_wraps m m.start
 
+-- the index of the first wrapper
 abbrev pub wrapper_base : Module → ℕ
 wrapper_base m = import_count m + (3 + length m.functions)
 
 -- ---- the types that a `call_indirect` uses
 
+-- in the nodes of a list, in order, dead code included
 abbrev pub uses : Nodes → List ℕ
 uses stop = []
 uses (basic o i rest) = uses rest
@@ -68,12 +75,15 @@ abbrev pub distinct : List ℕ → List ℕ
 distinct [] = []
 distinct (t ∷ ts) = if is_in t (distinct ts) then distinct ts else t ∷ distinct ts
 
+-- the types that have a helper
 abbrev pub helped : Program → List ℕ
 helped p = distinct (flat_map (λ tree. uses tree.nodes) p.trees)
 
+-- the index of the first helper
 abbrev pub helper_base : Module → ℕ
 helper_base m = wrapper_base m + length (wrapped m)
 
+-- the place of a type among those that have a helper
 abbrev pub place_in : ℕ → List ℕ → ℕ
 place_in t [] = 0
 place_in t (u ∷ us) = if t == u then 0 else suc (place_in t us)
@@ -81,6 +91,7 @@ place_in t (u ∷ us) = if t == u then 0 else suc (place_in t us)
 abbrev pub global_types : Module → List ValType
 global_types m = map (λ g. g.vtype) m.globals
 
+-- the types of the collector's imports
 abbrev pub value_type : ValType → FuncType
 value_type t = record { params = t ∷ []; results = [] }
 

@@ -7,6 +7,7 @@ use Rattle.wasm_syntax.specs.declared.instruction.Basic.TheVariants.{LocalGet, L
 use Rattle.wasm_syntax.specs.Tree.{Call, Nodes, stop, basic, jump, choose, Tree}
 use Rattle.unwind_rewrite.specs.Slots.{Place, Ctx, slot, result_at, Spilled, Known}
 
+-- the added local x is read, or written
 abbrev pub get : Ctx → ℕ → Nodes → Nodes
 get C x k = basic 0 (LocalGet (length C.locals + x)) k
 

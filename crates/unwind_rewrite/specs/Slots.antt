@@ -23,6 +23,7 @@ pub data Place : Type 0 where
   Spilled : (t : ValType) → Place
   Known : (v : Value) → Place
 
+-- the type of the operand there
 abbrev pub place_type : Place → ValType
 place_type (Spilled t) = t
 place_type (Known v) = type_of v
@@ -42,6 +43,7 @@ pub record Ctx : Type 0 where
 abbrev pub slot : ValType → ℕ → ℕ
 slot t h = 2 * h + type_number t
 
+-- the result local of a type; kind and offset of a trap
 abbrev pub result_at : Ctx → ValType → ℕ
 result_at C t = slot t C.slots
 
@@ -51,10 +53,12 @@ kind_at C = 2 * C.slots + 2
 abbrev pub offset_at : Ctx → ℕ
 offset_at C = 2 * C.slots + 3
 
+-- the types of the added locals, for so many heights
 abbrev pub added : ℕ → List ValType
 added zero = I32 ∷ I64 ∷ I32 ∷ I32 ∷ []
 added (suc n) = I32 ∷ I64 ∷ added n
 
+-- the same, as groups of locals
 abbrev pub group : ValType → LocalGroup
 group t = record { count = 1; vtype = t }
 
@@ -64,6 +68,7 @@ groups (suc n) = group I32 ∷ group I64 ∷ groups n
 
 -- ---- the places behind an instruction
 
+-- without the topmost so many
 abbrev pub less : ℕ → List Place → List Place
 less zero es = es
 less (suc m) [] = []
@@ -74,6 +79,7 @@ abbrev pub grown : Option ValType → List Place → List Place
 grown None es = es
 grown (Some t) es = Spilled t ∷ es
 
+-- the type of the operand under the topmost
 abbrev pub second_type : List Place → Option ValType
 second_type (c ∷ b ∷ es) = Some (place_type b)
 second_type _ = None
@@ -108,6 +114,7 @@ after_plain C es i = grown (result_type C es i) (less (takes i) es)
 
 -- ---- the greatest height of operands in live code
 
+-- behind a call of a function of this type
 abbrev pub peak_call : Option FuncType → List Place → (List Place → ℕ) → ℕ
 peak_call None es go = 0
 peak_call (Some type) es go = go (grown (result_of type) (less (length type.params) es))
@@ -136,6 +143,7 @@ peak C es (choose o t a else_at b end rest) =
 
 -- ---- functions of a program
 
+-- what is fixed in function f of a program
 abbrev pub ctx_of : Program → ℕ → Body → FuncType → ℕ → Ctx
 ctx_of p f b type slots =
     record { source = p.module_; base = helper_base p.module_; helpers = helped p; locals = type.params ++ declared_locals b.groups; slots = slots; index = f; result = result_of type }
@@ -144,11 +152,12 @@ ctx_of p f b type slots =
 abbrev pub slots_of : Program → ℕ → Body → Tree → FuncType → ℕ
 slots_of p f b tree type = peak (ctx_of p f b type 0) [] tree.nodes
 
--- the greatest number of locals with parameters, and the greatest height
+-- the locals, with parameters, and the greatest height of a function
 abbrev pub sizes : Program → ℕ → Option Function → ℕ × ℕ
 sizes p f (Some (defined b tree type)) = (length (type.params ++ declared_locals b.groups), slots_of p f b tree type)
 sizes p f _ = (0, 0)
 
+-- the greatest of both over these bodies, the first of which is that of function f
 abbrev pub most : (ℕ → ℕ × ℕ) → ℕ → List Body → ℕ × ℕ
 most go f [] = (0, 0)
 most go f (b ∷ bs) = (max (go f).0 (most go (suc f) bs).0, max (go f).1 (most go (suc f) bs).1)
