@@ -5,13 +5,12 @@ use Rattle.wasm_laws.proofs.Lists.{get_front, get_behind}
 use Rattle.std.proofs.lemmas.List.{length-reverse, reverse-reverse, reverse-append, map-append}
 use Rattle.std.specs.Prelude.{Bool, true, false, ◌||◌, ◌⊎◌, Option, Some, None, option_to_list}
 use Rattle.wasm_syntax.specs.declared.value.ValType.{ValType}
-use Rattle.wasm_syntax.specs.declared.instruction.Op.{Op}
 use Rattle.wasm_syntax.specs.declared.parts.FuncType.{FuncType}
 use Rattle.wasm_syntax.specs.declared.parts.Body.{Body}
 use Rattle.wasm_syntax.specs.declared.module.ModuleParts.{ModuleParts as Module}
 use Rattle.wasm_syntax.specs.Tree.{Placed, placed, code_of, item_of}
-use Rattle.wasm_syntax.specs.Typing.{Context, body_context}
-use Rattle.wasm_syntax.specs.FlatTyping.{OpenBlock, FlatTypes, body_block, dead_behind, AllLive, IsLive, all_types, TypesBefore}
+use Rattle.wasm_syntax.specs.Typing.{body_context}
+use Rattle.wasm_syntax.specs.FlatTyping.{OpenBlock, FlatTypes, body_block, dead_behind, AllLive, all_types, TypesBefore}
 use Rattle.wasm_laws.proofs.Progress.{some_is}
 use Rattle.wasm_laws.proofs.FlatBodies.{Gives}
 use Rattle.type_stack.specs.Frames.{Known, Frame, operands, any_free, height_of, topmost}

@@ -3,8 +3,6 @@ use Rattle.std.proofs.Common.{◌≡◌, refl, sym, subst}
 use Rattle.std.specs.Prelude.{List, [], ◌∷◌, Bool, true, false, Option, Some, None, option_map}
 use Rattle.wasm_syntax.specs.Module.{option_then}
 use Rattle.wasm_syntax.specs.Typing.{only_if}
-use Rattle.std.proofs.Common.{ap}
-use Rattle.std.specs.Prelude.{unwrap_or}
 use Rattle.wasm_syntax.specs.declared.value.ValType.{ValType}
 use Rattle.wasm_syntax.specs.declared.value.ValType.TheVariants.{I32, I64}
 use Rattle.wasm_syntax.specs.Numbers.{same_type}

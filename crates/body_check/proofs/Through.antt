@@ -1,7 +1,6 @@
 -- Lemmas of the code that goes through a body.
 use Rattle.std.proofs.Common.{◌≡◌, ℕ, zero, suc, ◌+◌, ◌≤◌, List, [], ◌∷◌, ◌++◌, length, take, drop, reverse, refl, sym, ap, ◌∙◌, arith}
 use Rattle.std.specs.Prelude.{Option, Some, None, slice_get, option_to_list}
-use Rattle.std.proofs.lemmas.List.{append-nil}
 use Rattle.wasm_syntax.specs.declared.value.ValType.{ValType}
 use Rattle.wasm_syntax.specs.declared.value.ValType.TheVariants.{I32}
 use Rattle.wasm_syntax.specs.declared.instruction.Basic.{Basic}
@@ -11,7 +10,6 @@ use Rattle.wasm_syntax.specs.declared.parts.FuncType.{FuncType}
 use Rattle.wasm_syntax.specs.declared.parts.Body.{Body}
 use Rattle.wasm_syntax.specs.declared.module.ModuleParts.{ModuleParts as Module}
 use Rattle.wasm_syntax.specs.Module.{option_then}
-use Rattle.std.proofs.Common.{append_assoc}
 use Rattle.wasm_syntax.specs.Tree.{placed, code_of, item_of, Tree, Writes}
 use Rattle.wasm_syntax.specs.Typing.{Context, arrow, body_context, IsBody}
 use Rattle.wasm_syntax.specs.Valid.{FirstWrong}
@@ -24,10 +22,7 @@ use Rattle.wasm_syntax.specs.Module.{declared_locals}
 use Rattle.type_stack.specs.Frames.{label}
 use Rattle.body_check.specs.Algorithm.{is_label, targets_fit}
 use Rattle.body_check.specs.Steps.{HasShape, context_of}
-use Rattle.wasm_syntax.specs.Tree.{Placed}
 use Rattle.std.proofs.Common.{subst}
-use Rattle.wasm_laws.proofs.Progress.{some_is}
-use Rattle.body_check.proofs.Options.{then_inv}
 use Rattle.body_check.proofs.Same.{run_append, wrong_there, went}
 use Rattle.wasm_laws.proofs.FlatBodies.{Gives}
 

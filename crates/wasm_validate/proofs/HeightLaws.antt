@@ -14,11 +14,10 @@ use Rattle.wasm_syntax.specs.Valid.{defined_index}
 use Rattle.wasm_laws.proofs.Progress.{some_is}
 use Rattle.wasm_laws.proofs.Lists.{get_within}
 use Rattle.body_check.specs.declared.marks.Mark.{Mark}
-use Rattle.body_check.specs.Marks.{Marked, MarkIs}
-use Rattle.body_check.proofs.Options.{none_is, then_inv, then_some, map_inv}
-use Rattle.wasm_validate.specs.Heights.{body_of, TypesAt, HasOp, HeightIs, StandsIn, AllLow, FirstHigh, height_or_zero, heights_of, IsGreatest, LowMarks, FirstHighMarks, HeightsAre}
+use Rattle.body_check.proofs.Options.{then_inv, then_some, map_inv}
+use Rattle.wasm_validate.specs.Heights.{TypesAt, HasOp, HeightIs, StandsIn, AllLow, FirstHigh, height_or_zero, heights_of, IsGreatest, LowMarks, FirstHighMarks, HeightsAre}
 use Rattle.wasm_validate.specs.Whole.{MarkedAt, MarkedUpTo}
-use Rattle.wasm_validate.proofs.Order.{index_of, index_back}
+use Rattle.wasm_validate.proofs.Order.{index_back}
 use Rattle.wasm_validate.proofs.WholeLaws.{body_at}
 
 -- ---- one function

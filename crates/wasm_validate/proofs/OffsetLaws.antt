@@ -1,17 +1,17 @@
 -- Offsets ascend, so that at most one instruction stands at each.
 use Rattle.std.proofs.Common.{◌≡◌, ℕ, zero, suc, ◌+◌, ◌-◌, ◌<◌, ◌≤◌, ◌^◌, List, [], ◌∷◌, length, slice_get, refl, sym, ap, subst, ◌∙◌, arith}
 use Rattle.std.proofs.lemmas.Option.{slice_get_within}
-use Rattle.std.specs.Prelude.{Bool, true, false, Option, Some, None, ◌⊎◌}
+use Rattle.std.specs.Prelude.{true, false, Some, None, ◌⊎◌}
 use Rattle.std.proofs.Common.{inl, inr, ⊎_elim}
 use Rattle.wasm_syntax.specs.declared.instruction.Op.{Op}
 use Rattle.wasm_syntax.specs.declared.parts.Body.{Body}
 use Rattle.wasm_syntax.specs.declared.module.ModuleParts.{ModuleParts as Module}
-use Rattle.wasm_syntax.specs.Module.{Ascend, InOrder, IsModule, option_then}
+use Rattle.wasm_syntax.specs.Module.{Ascend, InOrder, IsModule}
 use Rattle.wasm_syntax.specs.Valid.{defined_index}
 use Rattle.wasm_laws.proofs.Progress.{some_is}
 use Rattle.wasm_laws.proofs.Lists.{at_of, get_within}
 use Rattle.body_check.proofs.Options.{none_is, then_inv}
-use Rattle.wasm_validate.specs.Heights.{body_of, is_node, OpIs}
+use Rattle.wasm_validate.specs.Heights.{body_of, OpIs}
 use Rattle.wasm_syntax.specs.Sizes.{WithinLimits, ShortBody}
 use Rattle.wasm_validate.specs.Offsets.{SplitsAt, IsNodeAt}
 

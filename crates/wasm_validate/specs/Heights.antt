@@ -1,5 +1,5 @@
 -- The operand types and heights before the instructions of a module's functions.
-use Rattle.std.specs.Prelude.{◌≡◌, ℕ, ◌+◌, ◌<◌, ◌≤◌, List, [], ◌∷◌, map, length, slice_get, unwrap_or, Bool, true, false, Option, Some, None}
+use Rattle.std.specs.Prelude.{◌≡◌, ℕ, ◌+◌, ◌<◌, ◌≤◌, List, map, length, slice_get, unwrap_or, Bool, true, false, Option, Some, None}
 use Rattle.wasm_syntax.specs.declared.instruction.Instr.{Instr}
 use Rattle.wasm_syntax.specs.declared.instruction.Instr.TheVariants as instr
 use Rattle.wasm_syntax.specs.declared.instruction.Op.{Op}

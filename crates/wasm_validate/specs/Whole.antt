@@ -1,17 +1,11 @@
 -- The bodies of a module, and the module as a whole.
-use Rattle.std.specs.Prelude.{◌≡◌, ℕ, ◌+◌, ◌<◌, ◌≤◌, List, length, slice_get, Result, Ok, Err, Option, Some, None}
-use Rattle.wasm_syntax.specs.declared.value.ValType.{ValType}
-use Rattle.wasm_syntax.specs.declared.quantity.Quantity.{Quantity}
-use Rattle.wasm_syntax.specs.declared.quantity.Quantity.TheVariants as quantities
+use Rattle.std.specs.Prelude.{◌≡◌, ℕ, ◌+◌, ◌<◌, List, length, slice_get, Result, Ok, Err, Option, Some}
 use Rattle.wasm_syntax.specs.declared.module.ModuleParts.{ModuleParts as Module}
 use Rattle.wasm_syntax.specs.declared.parts.FuncType.{FuncType}
 use Rattle.wasm_syntax.specs.declared.parts.Body.{Body}
-use Rattle.wasm_syntax.specs.declared.place.Place.{Place}
 use Rattle.wasm_syntax.specs.declared.place.Place.TheVariants.{Function}
-use Rattle.wasm_syntax.specs.Quantity.{greatest}
-use Rattle.wasm_syntax.specs.Module.{type_at, option_then}
-use Rattle.wasm_syntax.specs.FlatTyping.{TypesBefore}
-use Rattle.wasm_syntax.specs.Valid.{BodyFine, OffsetIs, Valid, FirstInvalid, defined_index}
+use Rattle.wasm_syntax.specs.Module.{type_at}
+use Rattle.wasm_syntax.specs.Valid.{BodyFine, OffsetIs, Valid, FirstInvalid}
 use Rattle.body_check.specs.declared.body.BodyFault.{BodyFault}
 use Rattle.body_check.specs.declared.body.BodyFault.TheVariants as body_faults
 use Rattle.body_check.specs.declared.marks.Mark.{Mark}

@@ -1,4 +1,4 @@
-use Rattle.std.proofs.Common.{◌≡◌, ◌+◌, ◌<◌, ◌≤◌, length, sym, ap, subst, ◌∙◌, arith}
+use Rattle.std.proofs.Common.{◌≡◌, ◌+◌, ◌≤◌, length, sym, subst, arith}
 use Rattle.wasm_syntax.specs.Valid.{FirstInvalid}
 use Rattle.wasm_syntax.specs.declared.place.Place.TheVariants.{Function}
 use Rattle.wasm_validate.specs.Whole.{MarkedUpTo}

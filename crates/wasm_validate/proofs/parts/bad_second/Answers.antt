@@ -1,4 +1,4 @@
-use Rattle.std.proofs.Common.{◌<◌, ◌≤◌, length, refl, subst, arith}
+use Rattle.std.proofs.Common.{refl, arith}
 use Rattle.wasm_validate.specs.Places.{OneFine}
 use Rattle.wasm_validate.proofs.Order.{one_only, one_fine}
 use Rattle.wasm_validate.proofs.parts.bad_second.Goals as goal

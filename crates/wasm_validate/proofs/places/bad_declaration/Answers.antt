@@ -1,4 +1,4 @@
-use Rattle.std.proofs.Common.{◌≡◌, ◌+◌, length, ap, sym, subst}
+use Rattle.std.proofs.Common.{◌+◌, sym, subst}
 use Rattle.wasm_syntax.specs.declared.place.Place.TheVariants.{Declaration}
 use Rattle.wasm_syntax.specs.Valid.{FirstInvalid}
 use Rattle.wasm_validate.proofs.Order.{declarations_fine, declarations_bad}

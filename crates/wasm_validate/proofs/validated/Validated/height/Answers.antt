@@ -1,4 +1,4 @@
-use Rattle.std.proofs.Common.{◌≡◌, ◌≤◌, refl, sym, ap, subst, ◌∙◌, arith, length}
+use Rattle.std.proofs.Common.{◌≤◌, refl, sym, ap, subst, ◌∙◌, arith, length}
 use Rattle.wasm_validate.specs.Heights.{HasOp, HeightIs}
 use Rattle.wasm_validate.proofs.HeightLaws.{mark_at, mark_found, low_mark, height_of_mark, height_option}
 use Rattle.wasm_validate.proofs.validated.Validated.height.Goals as goal
