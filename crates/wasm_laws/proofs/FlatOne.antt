@@ -19,29 +19,29 @@ use Rattle.wasm_laws.proofs.Lists.{some_is}
 use Rattle.wasm_laws.proofs.Unique.{one_tree}
 use Rattle.wasm_laws.proofs.Live.{basic_one, jump_one, AscendCode, ascend_code}
 use Rattle.wasm_laws.proofs.FlatBodies.{inside_body}
-use Rattle.wasm_laws.proofs.FlatStatic.{live_front, Spotted, spotted, where_}
+use Rattle.wasm_laws.proofs.FlatStatic.{live_front, Spotted, spotted, stands}
 
 -- ---- live blocks agree
 
 -- the same blocks, with the same types where they are live
 abbrev Agree : List Bool → List OpenBlock → List OpenBlock → Type 0
 Agree [] [] [] = Unit {0}
-Agree (d ∷ ds) (a ∷ as_) (b ∷ bs) = (a.kind ≡ b.kind) × (a.result ≡ b.result) × (d ≡ false → a.types ≡ b.types) × Agree ds as_ bs
+Agree (d ∷ ds) (a ∷ more) (b ∷ bs) = (a.kind ≡ b.kind) × (a.result ≡ b.result) × (d ≡ false → a.types ≡ b.types) × Agree ds more bs
 Agree [] [] (b ∷ bs) = ⊥
-Agree [] (a ∷ as_) bs = ⊥
+Agree [] (a ∷ more) bs = ⊥
 Agree (d ∷ ds) [] bs = ⊥
-Agree (d ∷ ds) (a ∷ as_) [] = ⊥
+Agree (d ∷ ds) (a ∷ more) [] = ⊥
 
-same_labels : (ds : List Bool) (as_ bs : List OpenBlock) → Agree ds as_ bs → map label_types as_ ≡ map label_types bs
+same_labels : (ds : List Bool) (more bs : List OpenBlock) → Agree ds more bs → map label_types more ≡ map label_types bs
 same_labels [] [] [] h = refl
 same_labels [] [] (b ∷ bs) h = absurd h
-same_labels [] (a ∷ as_) bs h = absurd h
+same_labels [] (a ∷ more) bs h = absurd h
 same_labels (d ∷ ds) [] bs h = absurd h
-same_labels (d ∷ ds) (a ∷ as_) [] h = absurd h
-same_labels (d ∷ ds) (a ∷ as_) (b ∷ bs) h = ap₂ (λ x y. x ∷ y) (ap₂ (λ k r. option_to_list (label_of k r)) h.0 h.1) (same_labels ds as_ bs h.3)
+same_labels (d ∷ ds) (a ∷ more) [] h = absurd h
+same_labels (d ∷ ds) (a ∷ more) (b ∷ bs) h = ap₂ (λ x y. x ∷ y) (ap₂ (λ k r. option_to_list (label_of k r)) h.0 h.1) (same_labels ds more bs h.3)
 
-same_inside : (c : Context) (ds : List Bool) (as_ bs : List OpenBlock) → Agree ds as_ bs → inside c as_ ≡ inside c bs
-same_inside c ds as_ bs h = ap (λ l. record c { labels = l }) (same_labels ds as_ bs h)
+same_inside : (c : Context) (ds : List Bool) (more bs : List OpenBlock) → Agree ds more bs → inside c more ≡ inside c bs
+same_inside c ds more bs h = ap (λ l. record c { labels = l }) (same_labels ds more bs h)
 
 goes_live : (j : Jump) (d : Bool) → dead_behind_jump d j ≡ false → goes_on j × (d ≡ false)
 goes_live Unreachable d e = absurd (cc)
@@ -52,51 +52,51 @@ goes_live Return d e = absurd (cc)
 goes_live (Call f) d e = (tt, e)
 goes_live (CallIndirect t) d e = (tt, e)
 
-at_blocks : (c : Context) (ds : List Bool) (i : Item) (as_ bs : List OpenBlock) (x y : List OpenBlock) (p q : List OpenBlock) → p ≡ x → q ≡ y → Agree ds x y → Agree ds p q
-at_blocks c ds i as_ bs x y p q e f h = subst (λ z. Agree ds z q) (sym e) (subst (λ z. Agree ds x z) (sym f) h)
+at_blocks : (c : Context) (ds : List Bool) (i : Item) (more bs : List OpenBlock) (x y : List OpenBlock) (p q : List OpenBlock) → p ≡ x → q ≡ y → Agree ds x y → Agree ds p q
+at_blocks c ds i more bs x y p q e f h = subst (λ z. Agree ds z q) (sym e) (subst (λ z. Agree ds x z) (sym f) h)
 
-given_agree : (ds : List Bool) (as_ bs : List OpenBlock) (ts us : List ValType) → ts ≡ us → Agree ds as_ bs → Agree ds (given ts as_) (given us bs)
+given_agree : (ds : List Bool) (more bs : List OpenBlock) (ts us : List ValType) → ts ≡ us → Agree ds more bs → Agree ds (given ts more) (given us bs)
 given_agree [] [] [] ts us e h = tt
 given_agree [] [] (b ∷ bs) ts us e h = absurd h
-given_agree [] (a ∷ as_) bs ts us e h = absurd h
+given_agree [] (a ∷ more) bs ts us e h = absurd h
 given_agree (d ∷ ds) [] bs ts us e h = absurd h
-given_agree (d ∷ ds) (a ∷ as_) [] ts us e h = absurd h
-given_agree (d ∷ ds) (a ∷ as_) (b ∷ bs) ts us e h = (h.0, h.1, λ l. ap₂ (λ x y. x ++ y) e (h.2 l), h.3)
+given_agree (d ∷ ds) (a ∷ more) [] ts us e h = absurd h
+given_agree (d ∷ ds) (a ∷ more) (b ∷ bs) ts us e h = (h.0, h.1, λ l. ap₂ (λ x y. x ++ y) e (h.2 l), h.3)
 
-agree_step : (c : Context) (i : Item) (ds : List Bool) (as_ bs p q : List OpenBlock) → Agree ds as_ bs → FlatStep c as_ i p → FlatStep c bs i q → Agree (dead_next ds i) p q
+agree_step : (c : Context) (i : Item) (ds : List Bool) (more bs p q : List OpenBlock) → Agree ds more bs → FlatStep c more i p → FlatStep c bs i q → Agree (dead_next ds i) p q
 agree_step c i [] [] bs p q h s t = absurd s
-agree_step c i [] (a ∷ as_) bs p q h s t = absurd h
+agree_step c i [] (a ∷ more) bs p q h s t = absurd h
 agree_step c i (d ∷ ds) [] bs p q h s t = absurd h
-agree_step c i (d ∷ ds) (a ∷ as_) [] p q h s t = absurd h
-agree_step c (Plain i) (d ∷ ds) (a ∷ as_) (b ∷ bs) p q h s t =
-    let same : d ≡ false → s.0 ≡ t.0 = λ l. basic_one (inside c (b ∷ bs)) i b.types s.0 t.0 (subst (λ z. BasicTypes (inside c (b ∷ bs)) i z s.0) (h.2 l) (subst (λ z. BasicTypes z i a.types s.0) (same_inside c (d ∷ ds) (a ∷ as_) (b ∷ bs) h) s.1)) t.1 in
-    at_blocks c (d ∷ ds) (Plain i) as_ bs (opened a.kind a.result s.0 ∷ as_) (opened b.kind b.result t.0 ∷ bs) p q s.2 t.2 (h.0, h.1, same, h.3)
-agree_step c (Goes j) (d ∷ ds) (a ∷ as_) (b ∷ bs) p q h s t =
-    let same : dead_behind_jump d j ≡ false → s.0 ≡ t.0 = λ l. let g = goes_live j d l in jump_one (inside c (b ∷ bs)) j b.types s.0 t.0 g.0 (subst (λ z. JumpTypes (inside c (b ∷ bs)) j z s.0) (h.2 g.1) (subst (λ z. JumpTypes z j a.types s.0) (same_inside c (d ∷ ds) (a ∷ as_) (b ∷ bs) h) s.1)) t.1 in
-    at_blocks c (dead_behind_jump d j ∷ ds) (Goes j) as_ bs (opened a.kind a.result s.0 ∷ as_) (opened b.kind b.result t.0 ∷ bs) p q s.2 t.2 (h.0, h.1, same, h.3)
-agree_step c (Opens r) (d ∷ ds) (a ∷ as_) (b ∷ bs) p q h s t =
-    at_blocks c (false ∷ d ∷ ds) (Opens r) as_ bs (opened kinds.Plain r [] ∷ a ∷ as_) (opened kinds.Plain r [] ∷ b ∷ bs) p q s t (refl, refl, λ l. refl, h)
-agree_step c (OpensLoop r) (d ∷ ds) (a ∷ as_) (b ∷ bs) p q h s t =
-    at_blocks c (false ∷ d ∷ ds) (OpensLoop r) as_ bs (opened Loop r [] ∷ a ∷ as_) (opened Loop r [] ∷ b ∷ bs) p q s t (refl, refl, λ l. refl, h)
-agree_step c (OpensIf r) (d ∷ ds) (a ∷ as_) (b ∷ bs) p q h s t =
+agree_step c i (d ∷ ds) (a ∷ more) [] p q h s t = absurd h
+agree_step c (Plain i) (d ∷ ds) (a ∷ more) (b ∷ bs) p q h s t =
+    let same : d ≡ false → s.0 ≡ t.0 = λ l. basic_one (inside c (b ∷ bs)) i b.types s.0 t.0 (subst (λ z. BasicTypes (inside c (b ∷ bs)) i z s.0) (h.2 l) (subst (λ z. BasicTypes z i a.types s.0) (same_inside c (d ∷ ds) (a ∷ more) (b ∷ bs) h) s.1)) t.1 in
+    at_blocks c (d ∷ ds) (Plain i) more bs (opened a.kind a.result s.0 ∷ more) (opened b.kind b.result t.0 ∷ bs) p q s.2 t.2 (h.0, h.1, same, h.3)
+agree_step c (Goes j) (d ∷ ds) (a ∷ more) (b ∷ bs) p q h s t =
+    let same : dead_behind_jump d j ≡ false → s.0 ≡ t.0 = λ l. let g = goes_live j d l in jump_one (inside c (b ∷ bs)) j b.types s.0 t.0 g.0 (subst (λ z. JumpTypes (inside c (b ∷ bs)) j z s.0) (h.2 g.1) (subst (λ z. JumpTypes z j a.types s.0) (same_inside c (d ∷ ds) (a ∷ more) (b ∷ bs) h) s.1)) t.1 in
+    at_blocks c (dead_behind_jump d j ∷ ds) (Goes j) more bs (opened a.kind a.result s.0 ∷ more) (opened b.kind b.result t.0 ∷ bs) p q s.2 t.2 (h.0, h.1, same, h.3)
+agree_step c (Opens r) (d ∷ ds) (a ∷ more) (b ∷ bs) p q h s t =
+    at_blocks c (false ∷ d ∷ ds) (Opens r) more bs (opened kinds.Plain r [] ∷ a ∷ more) (opened kinds.Plain r [] ∷ b ∷ bs) p q s t (refl, refl, λ l. refl, h)
+agree_step c (OpensLoop r) (d ∷ ds) (a ∷ more) (b ∷ bs) p q h s t =
+    at_blocks c (false ∷ d ∷ ds) (OpensLoop r) more bs (opened Loop r [] ∷ a ∷ more) (opened Loop r [] ∷ b ∷ bs) p q s t (refl, refl, λ l. refl, h)
+agree_step c (OpensIf r) (d ∷ ds) (a ∷ more) (b ∷ bs) p q h s t =
     let same : d ≡ false → s.0 ≡ t.0 = λ l. ap tail (sym s.1 ∙ h.2 l ∙ t.1) in
-    at_blocks c (false ∷ d ∷ ds) (OpensIf r) as_ bs (opened Then r [] ∷ opened a.kind a.result s.0 ∷ as_) (opened Then r [] ∷ opened b.kind b.result t.0 ∷ bs) p q s.2 t.2 (refl, refl, λ l. refl, (h.0, h.1, same, h.3))
-agree_step c Else (d ∷ ds) (a ∷ as_) (b ∷ bs) p q h s t =
-    at_blocks c (false ∷ ds) Else as_ bs (opened kinds.Plain a.result [] ∷ as_) (opened kinds.Plain b.result [] ∷ bs) p q s.2 t.2 (refl, h.1, λ l. refl, h.3)
-agree_step c End (d ∷ ds) (a ∷ as_) (b ∷ bs) p q h s t =
-    at_blocks c ds End as_ bs (given (option_to_list a.result) as_) (given (option_to_list b.result) bs) p q s.2 t.2 (given_agree ds as_ bs (option_to_list a.result) (option_to_list b.result) (ap option_to_list h.1) h.3)
+    at_blocks c (false ∷ d ∷ ds) (OpensIf r) more bs (opened Then r [] ∷ opened a.kind a.result s.0 ∷ more) (opened Then r [] ∷ opened b.kind b.result t.0 ∷ bs) p q s.2 t.2 (refl, refl, λ l. refl, (h.0, h.1, same, h.3))
+agree_step c Else (d ∷ ds) (a ∷ more) (b ∷ bs) p q h s t =
+    at_blocks c (false ∷ ds) Else more bs (opened kinds.Plain a.result [] ∷ more) (opened kinds.Plain b.result [] ∷ bs) p q s.2 t.2 (refl, h.1, λ l. refl, h.3)
+agree_step c End (d ∷ ds) (a ∷ more) (b ∷ bs) p q h s t =
+    at_blocks c ds End more bs (given (option_to_list a.result) more) (given (option_to_list b.result) bs) p q s.2 t.2 (given_agree ds more bs (option_to_list a.result) (option_to_list b.result) (ap option_to_list h.1) h.3)
 
-agree_types : (c : Context) (code : List Placed) (ds : List Bool) (as_ bs p q : List OpenBlock) → Agree ds as_ bs → FlatTypes c as_ code p → FlatTypes c bs code q → Agree (dead_behind ds code) p q
-agree_types c [] ds as_ bs p q h s t = subst (λ z. Agree ds z q) s (subst (λ z. Agree ds as_ z) t h)
-agree_types c (x ∷ code) ds as_ bs p q h s t = agree_types c code (dead_next ds x.code) s.0 t.0 p q (agree_step c x.code ds as_ bs s.0 t.0 h s.1 t.1) s.2 t.2
+agree_types : (c : Context) (code : List Placed) (ds : List Bool) (more bs p q : List OpenBlock) → Agree ds more bs → FlatTypes c more code p → FlatTypes c bs code q → Agree (dead_behind ds code) p q
+agree_types c [] ds more bs p q h s t = subst (λ z. Agree ds z q) s (subst (λ z. Agree ds more z) t h)
+agree_types c (x ∷ code) ds more bs p q h s t = agree_types c code (dead_next ds x.code) s.0 t.0 p q (agree_step c x.code ds more bs s.0 t.0 h s.1 t.1) s.2 t.2
 
-same_types_all : (ds : List Bool) (as_ bs : List OpenBlock) → AllLive ds → Agree ds as_ bs → all_types as_ ≡ all_types bs
+same_types_all : (ds : List Bool) (more bs : List OpenBlock) → AllLive ds → Agree ds more bs → all_types more ≡ all_types bs
 same_types_all [] [] [] l h = refl
 same_types_all [] [] (b ∷ bs) l h = absurd h
-same_types_all [] (a ∷ as_) bs l h = absurd h
+same_types_all [] (a ∷ more) bs l h = absurd h
 same_types_all (d ∷ ds) [] bs l h = absurd h
-same_types_all (d ∷ ds) (a ∷ as_) [] l h = absurd h
-same_types_all (d ∷ ds) (a ∷ as_) (b ∷ bs) l h = ap₂ (λ x y. x ++ y) (h.2 l.0) (same_types_all ds as_ bs l.1 h.3)
+same_types_all (d ∷ ds) (a ∷ more) [] l h = absurd h
+same_types_all (d ∷ ds) (a ∷ more) (b ∷ bs) l h = ap₂ (λ x y. x ++ y) (h.2 l.0) (same_types_all ds more bs l.1 h.3)
 
 one_result_of : (r s : Option ValType) → option_to_list r ≡ option_to_list s → r ≡ s
 one_result_of None None e = refl
@@ -204,20 +204,20 @@ module _ (m : Module) (type : FuncType) (body : Body) (result : Option ValType) 
   no_end (k ∷ ks) p rs e = cc
 
   -- the instruction there
-  abbrev here_ : Placed
-  here_ = placed op.at (item_of body.targets op.code)
+  abbrev instruction : Placed
+  instruction = placed op.at (item_of body.targets op.code)
 
   from_spot : (ts : List ValType) → TypesBefore m type body i ts → Spotted c nodes start [] op.at → Static m type body op.at ts
   from_spot ts h s =
       let live : Live c nodes [] [] s.found = subst (λ z. Live z nodes [] [] s.found) context_is s.live in
-      let at_ : LiveAt m type body op.at s.found = record { tree = is_body.tree; writes = is_body.writes; live = live; node = s.node; at = s.offset } in
+      let live_at : LiveAt m type body op.at s.found = record { tree = is_body.tree; writes = is_body.writes; live = live; node = s.node; at = s.offset } in
       let us = reverse (s.found.here ++ s.found.outside) in
-      (s.found, at_, one_before m type body i ts us h (to_flat us (s.found, at_, refl)))
+      (s.found, live_at, one_before m type body i ts us h (to_flat us (s.found, live_at, refl)))
 
   pub to_tree : (ts : List ValType) → BeginsNode (item_of body.targets op.code) → TypesBefore m type body i ts → Static m type body op.at ts
   to_tree ts node h =
-      let split : write nodes last ≡ take i code ++ here_ ∷ drop (suc i) code = sym is_body.writes.out ∙ split_code code i here_ (code_at body.targets body.ops i op there) in
+      let split : write nodes last ≡ take i code ++ instruction ∷ drop (suc i) code = sym is_body.writes.out ∙ split_code code i instruction (code_at body.targets body.ops i op there) in
       ⊎_elim
-      (λ k. from_spot ts h (spotted c nodes start [] (option_to_list result) [] (take i code) here_ k.0 is_body.writes.arms typed k.1 node h.live))
-      (λ k. absurd (no_end k.0 here_ (drop (suc i) code) k.2))
-      (where_ nodes (placed is_body.tree.end End) [] (take i code) here_ (drop (suc i) code) split (λ z. z) node)
+      (λ k. from_spot ts h (spotted c nodes start [] (option_to_list result) [] (take i code) instruction k.0 is_body.writes.arms typed k.1 node h.live))
+      (λ k. absurd (no_end k.0 instruction (drop (suc i) code) k.2))
+      (stands nodes (placed is_body.tree.end End) [] (take i code) instruction (drop (suc i) code) split (λ z. z) node)

@@ -94,12 +94,12 @@ at_once c b bs ds n after s live e = record {
   live = (refl, live);
 }
 
-pub live_front : (c : Context) (ns : Nodes) (b : OpenBlock) (bs : List OpenBlock) (after : List ValType) (end_ : List Placed) (ds : List Bool) (s : Spot) → IsTree ns → AllLive ds → Types (inside c (b ∷ bs)) ns b.types after → Live (inside c (b ∷ bs)) ns b.types (all_types bs) s → IsNode s.nodes → Front c b bs ds (write ns end_) s
-live_front c stop b bs after end_ ds s w live ty l n = at_once c b bs ds stop end_ s live l
-live_front c (basic at i rest) b bs after end_ ds s w live ty (inl e) n = at_once c b bs ds (basic at i rest) end_ s live e
-live_front c (basic at i rest) b bs after end_ ds s w live ty (inr l) n =
+pub live_front : (c : Context) (ns : Nodes) (b : OpenBlock) (bs : List OpenBlock) (after : List ValType) (following : List Placed) (ds : List Bool) (s : Spot) → IsTree ns → AllLive ds → Types (inside c (b ∷ bs)) ns b.types after → Live (inside c (b ∷ bs)) ns b.types (all_types bs) s → IsNode s.nodes → Front c b bs ds (write ns following) s
+live_front c stop b bs after following ds s w live ty l n = at_once c b bs ds stop following s live l
+live_front c (basic at i rest) b bs after following ds s w live ty (inl e) n = at_once c b bs ds (basic at i rest) following s live e
+live_front c (basic at i rest) b bs after following ds s w live ty (inr l) n =
     let e : ty.0 ≡ l.0 = basic_one (inside c (b ∷ bs)) i b.types ty.0 l.0 ty.1 l.1 in
-    let f = live_front c rest (opened b.kind b.result l.0) bs after end_ ds s w live (subst (λ z. Types (inside c (b ∷ bs)) rest z after) e ty.2) l.2 n in
+    let f = live_front c rest (opened b.kind b.result l.0) bs after following ds s w live (subst (λ z. Types (inside c (b ∷ bs)) rest z after) e ty.2) l.2 n in
     record {
       front = placed at (Plain i) ∷ f.front;
       rest = f.rest;
@@ -111,10 +111,10 @@ live_front c (basic at i rest) b bs after end_ ds s w live ty (inr l) n =
       outside = f.outside;
       live = f.live;
     }
-live_front c (jump at j rest) b bs after end_ ds s w live ty (inl e) n = at_once c b bs ds (jump at j rest) end_ s live e
-live_front c (jump at j rest) b bs after end_ ds s w live ty (inr l) n =
+live_front c (jump at j rest) b bs after following ds s w live ty (inl e) n = at_once c b bs ds (jump at j rest) following s live e
+live_front c (jump at j rest) b bs after following ds s w live ty (inr l) n =
     let e : ty.0 ≡ l.0 = jump_one (inside c (b ∷ bs)) j b.types ty.0 l.0 l.1 ty.1 l.2 in
-    let f = live_front c rest (opened b.kind b.result l.0) bs after end_ ds s w live (subst (λ z. Types (inside c (b ∷ bs)) rest z after) e ty.2) l.3 n in
+    let f = live_front c rest (opened b.kind b.result l.0) bs after following ds s w live (subst (λ z. Types (inside c (b ∷ bs)) rest z after) e ty.2) l.3 n in
     record {
       front = placed at (Goes j) ∷ f.front;
       rest = f.rest;
@@ -126,9 +126,9 @@ live_front c (jump at j rest) b bs after end_ ds s w live ty (inr l) n =
       outside = f.outside;
       live = subst (λ z. AllLive (dead_behind (z ∷ ds) f.front)) (sym (stays j false l.1)) f.live;
     }
-live_front c (block at t body end rest) b bs after end_ ds s w live ty (inl e) n = at_once c b bs ds (block at t body end rest) end_ s live e
-live_front c (block at t body end rest) b bs after end_ ds s w live ty (inr (inl l)) n =
-    let f = live_front c body (opened kinds.Plain t []) (b ∷ bs) (option_to_list t) (placed end End ∷ write rest end_) (false ∷ ds) s w.0 (refl, live) ty.0 l n in
+live_front c (block at t body end rest) b bs after following ds s w live ty (inl e) n = at_once c b bs ds (block at t body end rest) following s live e
+live_front c (block at t body end rest) b bs after following ds s w live ty (inr (inl l)) n =
+    let f = live_front c body (opened kinds.Plain t []) (b ∷ bs) (option_to_list t) (placed end End ∷ write rest following) (false ∷ ds) s w.0 (refl, live) ty.0 l n in
     record {
       front = placed at (Opens t) ∷ f.front;
       rest = f.rest;
@@ -140,8 +140,8 @@ live_front c (block at t body end rest) b bs after end_ ds s w live ty (inr (inl
       outside = f.outside;
       live = f.live;
     }
-live_front c (block at t body end rest) b bs after end_ ds s w live ty (inr (inr l)) n =
-    let f = live_front c rest (opened b.kind b.result (option_to_list t ++ b.types)) bs after end_ ds s w.1 live ty.1 l n in
+live_front c (block at t body end rest) b bs after following ds s w live ty (inr (inr l)) n =
+    let f = live_front c rest (opened b.kind b.result (option_to_list t ++ b.types)) bs after following ds s w.1 live ty.1 l n in
     record {
       front = placed at (Opens t) ∷ write body (placed end End ∷ f.front);
       rest = f.rest;
@@ -153,9 +153,9 @@ live_front c (block at t body end rest) b bs after end_ ds s w live ty (inr (inr
       outside = f.outside;
       live = subst AllLive (sym (dead_pass body false (false ∷ ds) (placed end End ∷ f.front)).1) f.live;
     }
-live_front c (loop at t body end rest) b bs after end_ ds s w live ty (inl e) n = at_once c b bs ds (loop at t body end rest) end_ s live e
-live_front c (loop at t body end rest) b bs after end_ ds s w live ty (inr (inl l)) n =
-    let f = live_front c body (opened Loop t []) (b ∷ bs) (option_to_list t) (placed end End ∷ write rest end_) (false ∷ ds) s w.0 (refl, live) ty.0 l n in
+live_front c (loop at t body end rest) b bs after following ds s w live ty (inl e) n = at_once c b bs ds (loop at t body end rest) following s live e
+live_front c (loop at t body end rest) b bs after following ds s w live ty (inr (inl l)) n =
+    let f = live_front c body (opened Loop t []) (b ∷ bs) (option_to_list t) (placed end End ∷ write rest following) (false ∷ ds) s w.0 (refl, live) ty.0 l n in
     record {
       front = placed at (OpensLoop t) ∷ f.front;
       rest = f.rest;
@@ -167,8 +167,8 @@ live_front c (loop at t body end rest) b bs after end_ ds s w live ty (inr (inl 
       outside = f.outside;
       live = f.live;
     }
-live_front c (loop at t body end rest) b bs after end_ ds s w live ty (inr (inr l)) n =
-    let f = live_front c rest (opened b.kind b.result (option_to_list t ++ b.types)) bs after end_ ds s w.1 live ty.1 l n in
+live_front c (loop at t body end rest) b bs after following ds s w live ty (inr (inr l)) n =
+    let f = live_front c rest (opened b.kind b.result (option_to_list t ++ b.types)) bs after following ds s w.1 live ty.1 l n in
     record {
       front = placed at (OpensLoop t) ∷ write body (placed end End ∷ f.front);
       rest = f.rest;
@@ -180,9 +180,9 @@ live_front c (loop at t body end rest) b bs after end_ ds s w live ty (inr (inr 
       outside = f.outside;
       live = subst AllLive (sym (dead_pass body false (false ∷ ds) (placed end End ∷ f.front)).1) f.live;
     }
-live_front c (choose at t a ea a' end rest) b bs after end_ ds s w live ty (inl e) n = at_once c b bs ds (choose at t a ea a' end rest) end_ s live e
-live_front c (choose at t a ea a' end rest) b bs after end_ ds s w live ty (inr (u, e, inl l)) n =
-    let f = live_front c a (opened Then t []) (opened b.kind b.result u ∷ bs) (option_to_list t) (else_out ea (write a' (placed end End ∷ write rest end_))) (false ∷ ds) s w.0 (refl, live) ty.0 l n in
+live_front c (choose at t a ea a' end rest) b bs after following ds s w live ty (inl e) n = at_once c b bs ds (choose at t a ea a' end rest) following s live e
+live_front c (choose at t a ea a' end rest) b bs after following ds s w live ty (inr (u, e, inl l)) n =
+    let f = live_front c a (opened Then t []) (opened b.kind b.result u ∷ bs) (option_to_list t) (else_out ea (write a' (placed end End ∷ write rest following))) (false ∷ ds) s w.0 (refl, live) ty.0 l n in
     record {
       front = placed at (OpensIf t) ∷ f.front;
       rest = f.rest;
@@ -194,11 +194,11 @@ live_front c (choose at t a ea a' end rest) b bs after end_ ds s w live ty (inr 
       outside = f.outside;
       live = f.live;
     }
-live_front c (choose at t a None a' end rest) b bs after end_ ds s w live ty (inr (u, e, inr (inl l))) n =
+live_front c (choose at t a None a' end rest) b bs after following ds s w live ty (inr (u, e, inr (inl l))) n =
     let none : s ≡ spot stop [] (u ++ all_types bs) = subst (λ z. Live (inside c (opened kinds.Plain t [] ∷ opened b.kind b.result u ∷ bs)) z [] (u ++ all_types bs) s) w.1 l in
     absurd (subst (λ z. IsNode z.nodes) none n)
-live_front c (choose at t a (Some m) a' end rest) b bs after end_ ds s w live ty (inr (u, e, inr (inl l))) n =
-    let f = live_front c a' (opened kinds.Plain t []) (opened b.kind b.result u ∷ bs) (option_to_list t) (placed end End ∷ write rest end_) (false ∷ ds) s w.2 (refl, live) ty.1 l n in
+live_front c (choose at t a (Some m) a' end rest) b bs after following ds s w live ty (inr (u, e, inr (inl l))) n =
+    let f = live_front c a' (opened kinds.Plain t []) (opened b.kind b.result u ∷ bs) (option_to_list t) (placed end End ∷ write rest following) (false ∷ ds) s w.2 (refl, live) ty.1 l n in
     record {
       front = placed at (OpensIf t) ∷ write a (placed m Else ∷ f.front);
       rest = f.rest;
@@ -210,13 +210,13 @@ live_front c (choose at t a (Some m) a' end rest) b bs after end_ ds s w live ty
       outside = f.outside;
       live = subst AllLive (sym (dead_pass a false (false ∷ ds) (placed m Else ∷ f.front)).1) f.live;
     }
-live_front c (choose at t a ea a' end rest) b bs after end_ ds s w live ty (inr (u, e, inr (inr l))) n =
+live_front c (choose at t a ea a' end rest) b bs after following ds s w live ty (inr (u, e, inr (inr l))) n =
     let g : ty.2 ≡ u = ap tail (sym ty.3 ∙ e) in
     let o = opened b.kind b.result u in
-    let f = live_front c rest (opened b.kind b.result (option_to_list t ++ u)) bs after end_ ds s w.3 live (subst (λ z. Types (inside c (b ∷ bs)) rest (option_to_list t ++ z) after) g ty.4) l n in
+    let f = live_front c rest (opened b.kind b.result (option_to_list t ++ u)) bs after following ds s w.3 live (subst (λ z. Types (inside c (b ∷ bs)) rest (option_to_list t ++ z) after) g ty.4) l n in
     let arm = write a' (placed end End ∷ f.front) in
     let behind = write s.nodes f.rest in
-    let one : write a' (placed end End ∷ write rest end_) ≡ arm ++ behind = ap (λ z. write a' (placed end End ∷ z)) f.splits ∙ write_append a' (placed end End ∷ f.front) behind in
+    let one : write a' (placed end End ∷ write rest following) ≡ arm ++ behind = ap (λ z. write a' (placed end End ∷ z)) f.splits ∙ write_append a' (placed end End ∷ f.front) behind in
     record {
       front = placed at (OpensIf t) ∷ write a (else_out ea arm);
       rest = f.rest;
@@ -256,8 +256,8 @@ parted (x ∷ xs) ys [] p rs e = inl (xs, ap (λ z. z ∷ xs) (ap (head_or x) e)
 parted (x ∷ xs) ys (q ∷ fs) p rs e = longer (ap (head_or x) e) (parted xs ys fs p rs (ap rest_of e))
   where
     longer : x ≡ q → Parted xs ys fs p rs → Parted (x ∷ xs) ys (q ∷ fs) p rs
-    longer h (inl k) = inl (k.0, ap₂ (λ a as_. a ∷ as_) h k.1)
-    longer h (inr k) = inr (k.0, ap₂ (λ a as_. a ∷ as_) (sym h) k.1, k.2)
+    longer h (inl k) = inl (k.0, ap₂ (λ a l. a ∷ l) h k.1)
+    longer h (inr k) = inr (k.0, ap₂ (λ a l. a ∷ l) (sym h) k.1, k.2)
 
 abbrev pub out : Nodes → List Placed
 out ns = write ns []
@@ -270,31 +270,31 @@ no_marker : {A : Type 0} (m p : Placed) → m ≡ p → (BeginsNode m.code → �
 no_marker m p e non n = absurd (non (subst (λ z. BeginsNode z.code) (sym e) n))
 
 -- an item of nodes and of what follows their marker stands in the nodes or behind the marker
-abbrev pub Where_ : Nodes → Placed → List Placed → List Placed → Placed → List Placed → Type 0
-Where_ ns m xs fs p rs =
+abbrev pub Stands : Nodes → Placed → List Placed → List Placed → Placed → List Placed → Type 0
+Stands ns m xs fs p rs =
     ((ks : List Placed) × (out ns ≡ fs ++ p ∷ ks)) ⊎ ((ks : List Placed) × (fs ≡ out ns ++ m ∷ ks) × (xs ≡ ks ++ p ∷ rs))
 
-pub where_ : (ns : Nodes) (m : Placed) (xs fs : List Placed) (p : Placed) (rs : List Placed) → write ns (m ∷ xs) ≡ fs ++ p ∷ rs → (BeginsNode m.code → ⊥) → BeginsNode p.code → Where_ ns m xs fs p rs
-where_ ns m xs fs p rs e non n = by_part (parted (out ns) (m ∷ xs) fs p rs (sym (out_front ns (m ∷ xs)) ∙ e))
+pub stands : (ns : Nodes) (m : Placed) (xs fs : List Placed) (p : Placed) (rs : List Placed) → write ns (m ∷ xs) ≡ fs ++ p ∷ rs → (BeginsNode m.code → ⊥) → BeginsNode p.code → Stands ns m xs fs p rs
+stands ns m xs fs p rs e non n = by_part (parted (out ns) (m ∷ xs) fs p rs (sym (out_front ns (m ∷ xs)) ∙ e))
   where
-    by_part : Parted (out ns) (m ∷ xs) fs p rs → Where_ ns m xs fs p rs
+    by_part : Parted (out ns) (m ∷ xs) fs p rs → Stands ns m xs fs p rs
     by_part (inl k) = inl k
     by_part (inr ([], f, y)) = no_marker m p (ap (head_or p) y) non n
     by_part (inr (k ∷ ks, f, y)) = inr (ks, f ∙ ap (λ z. out ns ++ z ∷ ks) (sym (ap (head_or k) y)), ap rest_of y)
 
 -- the flags at an item of nodes: those of blocks that the nodes opened, of their own sequence, and those outside as they were
 pub record Kept (d : Bool) (ds flags : List Bool) : Type 0 where
-  pub opened_ : List Bool
+  pub deeper : List Bool
   pub own : Bool
-  pub are : flags ≡ opened_ ++ own ∷ ds
+  pub are : flags ≡ deeper ++ own ∷ ds
   pub dead : d ≡ true → own ≡ true
 
 kept_from : (d : Bool) (ds flags flags' : List Bool) → flags ≡ flags' → Kept d ds flags' → Kept d ds flags
-kept_from d ds flags flags' e k = record { opened_ = k.opened_; own = k.own; are = e ∙ k.are; dead = k.dead }
+kept_from d ds flags flags' e k = record { deeper = k.deeper; own = k.own; are = e ∙ k.are; dead = k.dead }
 
 -- one block further out
 kept_out : (d e : Bool) (ds flags : List Bool) → Kept e (d ∷ ds) flags → Kept d ds flags
-kept_out d e ds flags k = record { opened_ = k.opened_ ++ k.own ∷ []; own = d; are = k.are ∙ sym (append_assoc k.opened_ (k.own ∷ []) (d ∷ ds)); dead = λ t. t }
+kept_out d e ds flags k = record { deeper = k.deeper ++ k.own ∷ []; own = d; are = k.are ∙ sym (append_assoc k.deeper (k.own ∷ []) (d ∷ ds)); dead = λ t. t }
 
 still_dead : (j : Jump) (d : Bool) → d ≡ true → dead_behind_jump d j ≡ true
 still_dead Unreachable d e = refl
@@ -306,7 +306,7 @@ still_dead (Call f) d e = e
 still_dead (CallIndirect t) d e = e
 
 first_flags : (d : Bool) (ds : List Bool) → Kept d ds (d ∷ ds)
-first_flags d ds = record { opened_ = []; own = d; are = refl; dead = λ t. t }
+first_flags d ds = record { deeper = []; own = d; are = refl; dead = λ t. t }
 
 -- behind a first item
 next_flags : (ds : List Bool) (x q : Placed) (fs : List Placed) → x ≡ q → dead_behind ds (q ∷ fs) ≡ dead_behind ds (x ∷ fs)
@@ -327,21 +327,21 @@ flags_kept (basic at i rest) d ds (q ∷ fs) p rs w e n =
 flags_kept (jump at j rest) d ds [] p rs w e n = first_flags d ds
 flags_kept (jump at j rest) d ds (q ∷ fs) p rs w e n =
     let k = flags_kept rest (dead_behind_jump d j) ds fs p rs w (ap rest_of e) n in
-    record { opened_ = k.opened_; own = k.own; are = next_flags (d ∷ ds) (placed at (Goes j)) q fs (ap (head_or q) e) ∙ k.are; dead = λ t. k.dead (still_dead j d t) }
+    record { deeper = k.deeper; own = k.own; are = next_flags (d ∷ ds) (placed at (Goes j)) q fs (ap (head_or q) e) ∙ k.are; dead = λ t. k.dead (still_dead j d t) }
 flags_kept (block at t body end rest) d ds [] p rs w e n = first_flags d ds
 flags_kept (block at t body end rest) d ds (q ∷ fs) p rs w e n =
     kept_from d ds _ _ (next_flags (d ∷ ds) (placed at (Opens t)) q fs (ap (head_or q) e))
     (⊎_elim
     (λ k. kept_out d false ds _ (flags_kept body false (d ∷ ds) fs p k.0 w.0 k.1 n))
     (λ k. kept_from d ds _ _ ((passed_flags body false (d ∷ ds) (placed end End) fs k.0 k.1).1) (flags_kept rest d ds k.0 p rs w.1 k.2 n))
-    (where_ body (placed end End) (out rest) fs p rs (ap rest_of e) (λ z. z) n))
+    (stands body (placed end End) (out rest) fs p rs (ap rest_of e) (λ z. z) n))
 flags_kept (loop at t body end rest) d ds [] p rs w e n = first_flags d ds
 flags_kept (loop at t body end rest) d ds (q ∷ fs) p rs w e n =
     kept_from d ds _ _ (next_flags (d ∷ ds) (placed at (OpensLoop t)) q fs (ap (head_or q) e))
     (⊎_elim
     (λ k. kept_out d false ds _ (flags_kept body false (d ∷ ds) fs p k.0 w.0 k.1 n))
     (λ k. kept_from d ds _ _ ((passed_flags body false (d ∷ ds) (placed end End) fs k.0 k.1).1) (flags_kept rest d ds k.0 p rs w.1 k.2 n))
-    (where_ body (placed end End) (out rest) fs p rs (ap rest_of e) (λ z. z) n))
+    (stands body (placed end End) (out rest) fs p rs (ap rest_of e) (λ z. z) n))
 flags_kept (choose at t a ea b end rest) d ds [] p rs w e n = first_flags d ds
 flags_kept (choose at t a None b end rest) d ds (q ∷ fs) p rs w e n =
     let e' : write a (placed end End ∷ out rest) ≡ fs ++ p ∷ rs = subst (λ z. write a (write z (placed end End ∷ out rest)) ≡ fs ++ p ∷ rs) w.1 (ap rest_of e) in
@@ -349,7 +349,7 @@ flags_kept (choose at t a None b end rest) d ds (q ∷ fs) p rs w e n =
     (⊎_elim
     (λ k. kept_out d false ds _ (flags_kept a false (d ∷ ds) fs p k.0 w.0 k.1 n))
     (λ k. kept_from d ds _ _ ((passed_flags a false (d ∷ ds) (placed end End) fs k.0 k.1).1) (flags_kept rest d ds k.0 p rs w.3 k.2 n))
-    (where_ a (placed end End) (out rest) fs p rs e' (λ z. z) n))
+    (stands a (placed end End) (out rest) fs p rs e' (λ z. z) n))
 flags_kept (choose at t a (Some m) b end rest) d ds (q ∷ fs) p rs w e n =
     kept_from d ds _ _ (next_flags (d ∷ ds) (placed at (OpensIf t)) q fs (ap (head_or q) e))
     (⊎_elim
@@ -358,8 +358,8 @@ flags_kept (choose at t a (Some m) b end rest) d ds (q ∷ fs) p rs w e n =
     (⊎_elim
     (λ l. kept_out d false ds _ (flags_kept b false (d ∷ ds) k.0 p l.0 w.2 l.1 n))
     (λ l. kept_from d ds _ _ ((passed_flags b false (d ∷ ds) (placed end End) k.0 l.0 l.1).1) (flags_kept rest d ds l.0 p rs w.3 l.2 n))
-    (where_ b (placed end End) (out rest) k.0 p rs k.2 (λ z. z) n)))
-    (where_ a (placed m Else) (write b (placed end End ∷ out rest)) fs p rs (ap rest_of e) (λ z. z) n))
+    (stands b (placed end End) (out rest) k.0 p rs k.2 (λ z. z) n)))
+    (stands a (placed m Else) (write b (placed end End ∷ out rest)) fs p rs (ap rest_of e) (λ z. z) n))
 
 all_live_in : (fs : List Bool) (d : Bool) (ds : List Bool) → AllLive (fs ++ d ∷ ds) → d ≡ false
 all_live_in [] d ds h = h.0
@@ -369,7 +369,7 @@ all_live_in (f ∷ fs) d ds h = all_live_in fs d ds h.1
 not_dead : (ns : Nodes) (ds : List Bool) (fs : List Placed) (p : Placed) (rs : List Placed) → IsTree ns → out ns ≡ fs ++ p ∷ rs → BeginsNode p.code → AllLive (dead_behind (true ∷ ds) fs) → ⊥
 not_dead ns ds fs p rs w e n h =
     let k = flags_kept ns true ds fs p rs w e n in
-    let live : k.own ≡ false = all_live_in k.opened_ k.own ds (subst AllLive k.are h) in
+    let live : k.own ≡ false = all_live_in k.deeper k.own ds (subst AllLive k.are h) in
     let both : false ≡ true = sym live ∙ k.dead refl in cc
 
 goes_or_not : (j : Jump) → goes_on j ⊎ (dead_behind_jump false j ≡ true)
@@ -414,7 +414,7 @@ spotted c (block at t body end rest) b bs after ds (q ∷ fs) p rs w ty e n h =
     record { found = s.found; live = inr (inl s.live); node = s.node; offset = s.offset })
     (λ k. let s = spotted c rest (opened b.kind b.result (option_to_list t ++ b.types)) bs after ds k.0 p rs w.1 ty.1 k.2 n (subst AllLive ((passed_flags body false (false ∷ ds) (placed end End) fs k.0 k.1).1) g) in
     record { found = s.found; live = inr (inr s.live); node = s.node; offset = s.offset })
-    (where_ body (placed end End) (out rest) fs p rs (ap rest_of e) (λ z. z) n)
+    (stands body (placed end End) (out rest) fs p rs (ap rest_of e) (λ z. z) n)
 spotted c (loop at t body end rest) b bs after ds [] p rs w ty e n h = record { found = spot (loop at t body end rest) b.types (all_types bs); live = inl refl; node = tt; offset = ap (λ z. z.at) (ap (head_or p) e) }
 spotted c (loop at t body end rest) b bs after ds (q ∷ fs) p rs w ty e n h =
     let g : AllLive (dead_behind (false ∷ false ∷ ds) fs) = live_next (false ∷ ds) (placed at (OpensLoop t)) q fs (ap (head_or q) e) h in
@@ -423,7 +423,7 @@ spotted c (loop at t body end rest) b bs after ds (q ∷ fs) p rs w ty e n h =
     record { found = s.found; live = inr (inl s.live); node = s.node; offset = s.offset })
     (λ k. let s = spotted c rest (opened b.kind b.result (option_to_list t ++ b.types)) bs after ds k.0 p rs w.1 ty.1 k.2 n (subst AllLive ((passed_flags body false (false ∷ ds) (placed end End) fs k.0 k.1).1) g) in
     record { found = s.found; live = inr (inr s.live); node = s.node; offset = s.offset })
-    (where_ body (placed end End) (out rest) fs p rs (ap rest_of e) (λ z. z) n)
+    (stands body (placed end End) (out rest) fs p rs (ap rest_of e) (λ z. z) n)
 spotted c (choose at t a ea a' end rest) b bs after ds [] p rs w ty e n h = record { found = spot (choose at t a ea a' end rest) b.types (all_types bs); live = inl refl; node = tt; offset = ap (λ z. z.at) (ap (head_or p) e) }
 spotted c (choose at t a None a' end rest) b bs after ds (q ∷ fs) p rs w ty e n h =
     let e' : write a (placed end End ∷ out rest) ≡ fs ++ p ∷ rs = subst (λ z. write a (write z (placed end End ∷ out rest)) ≡ fs ++ p ∷ rs) w.1 (ap rest_of e) in
@@ -433,7 +433,7 @@ spotted c (choose at t a None a' end rest) b bs after ds (q ∷ fs) p rs w ty e 
     record { found = s.found; live = inr (ty.2, ty.3, inl s.live); node = s.node; offset = s.offset })
     (λ k. let s = spotted c rest (opened b.kind b.result (option_to_list t ++ ty.2)) bs after ds k.0 p rs w.3 ty.4 k.2 n (subst AllLive ((passed_flags a false (false ∷ ds) (placed end End) fs k.0 k.1).1) g) in
     record { found = s.found; live = inr (ty.2, ty.3, inr (inr s.live)); node = s.node; offset = s.offset })
-    (where_ a (placed end End) (out rest) fs p rs e' (λ z. z) n)
+    (stands a (placed end End) (out rest) fs p rs e' (λ z. z) n)
 spotted c (choose at t a (Some m) a' end rest) b bs after ds (q ∷ fs) p rs w ty e n h =
     let g : AllLive (dead_behind (false ∷ false ∷ ds) fs) = live_next (false ∷ ds) (placed at (OpensIf t)) q fs (ap (head_or q) e) h in
     ⊎_elim
@@ -445,5 +445,5 @@ spotted c (choose at t a (Some m) a' end rest) b bs after ds (q ∷ fs) p rs w t
     record { found = s.found; live = inr (ty.2, ty.3, inr (inl s.live)); node = s.node; offset = s.offset })
     (λ l. let s = spotted c rest (opened b.kind b.result (option_to_list t ++ ty.2)) bs after ds l.0 p rs w.3 ty.4 l.2 n (subst AllLive ((passed_flags a' false (false ∷ ds) (placed end End) k.0 l.0 l.1).1) g') in
     record { found = s.found; live = inr (ty.2, ty.3, inr (inr s.live)); node = s.node; offset = s.offset })
-    (where_ a' (placed end End) (out rest) k.0 p rs k.2 (λ z. z) n))
-    (where_ a (placed m Else) (write a' (placed end End ∷ out rest)) fs p rs (ap rest_of e) (λ z. z) n)
+    (stands a' (placed end End) (out rest) k.0 p rs k.2 (λ z. z) n))
+    (stands a (placed m Else) (write a' (placed end End ∷ out rest)) fs p rs (ap rest_of e) (λ z. z) n)

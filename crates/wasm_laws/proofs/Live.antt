@@ -28,7 +28,7 @@ same_front : (xs us ys zs : List ValType) → length xs ≡ length us → xs ++ 
 same_front [] [] ys zs l e = refl
 same_front [] (u ∷ us) ys zs l e = absurd (omega (arith, l))
 same_front (x ∷ xs) [] ys zs l e = absurd (omega (arith, l))
-same_front (x ∷ xs) (u ∷ us) ys zs l e = let l' : length xs ≡ length us = omega (arith, l) in ap₂ (λ a as_. a ∷ as_) (ap head e) (same_front xs us ys zs l' (ap tail e))
+same_front (x ∷ xs) (u ∷ us) ys zs l e = let l' : length xs ≡ length us = omega (arith, l) in ap₂ (λ a l. a ∷ l) (ap head e) (same_front xs us ys zs l' (ap tail e))
 
 above_one : (a : Arrow) (before after after' : List ValType) → Above a before after → Above a before after' → after ≡ after'
 above_one a before after after' h k = h.gives ∙ ap (λ z. a.gives ++ z) (cancel a.takes h.below k.below (sym h.takes ∙ k.takes)) ∙ sym k.gives

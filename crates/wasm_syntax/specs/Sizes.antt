@@ -23,18 +23,18 @@ local_count type body = parameter_count type + sum (map (λ g. g.count) body.gro
 
 -- how many blocks, loops and ifs are open behind an instruction
 abbrev pub depth_behind : ℕ → Instr → ℕ
-depth_behind open_ (instr.Basic i) = open_
-depth_behind open_ (instr.Jump j) = open_
-depth_behind open_ (instr.Block t) = suc open_
-depth_behind open_ (instr.Loop t) = suc open_
-depth_behind open_ (instr.If t) = suc open_
-depth_behind open_ instr.Else = open_
-depth_behind open_ instr.End = open_ - 1
+depth_behind depth (instr.Basic i) = depth
+depth_behind depth (instr.Jump j) = depth
+depth_behind depth (instr.Block t) = suc depth
+depth_behind depth (instr.Loop t) = suc depth
+depth_behind depth (instr.If t) = suc depth
+depth_behind depth instr.Else = depth
+depth_behind depth instr.End = depth - 1
 
 -- the most that are open at once
 abbrev pub deepest : ℕ → List Instr → ℕ
-deepest open_ [] = open_
-deepest open_ (i ∷ is) = max open_ (deepest (depth_behind open_ i) is)
+deepest depth [] = depth
+deepest depth (i ∷ is) = max depth (deepest (depth_behind depth i) is)
 
 abbrev pub nesting : Body → ℕ
 nesting body = deepest 0 (map (λ o. o.code) body.ops)

@@ -1,11 +1,11 @@
 //! Modules (Core 2.5).
 
-ghost use Rattle.std.specs.Prelude.{◌≡◌};
-ghost use Rattle.wasm_syntax.specs.Module.{IsModule};
+ghost use Rattle.std.specs.Prelude.{◌≡◌, option_copied, slice_get};
+ghost use Rattle.wasm_syntax.specs.Module.{IsModule, type_at, function_types};
 
 use crate::parts::{
-    Bodies, Customs, DataSegs, ElementSegs, Exports, FuncTypes, Globals, Imports, Indices,
-    LimitsList,
+    Bodies, Customs, DataSegs, ElementSegs, Exports, FuncType, FuncTypes, Globals, Imports,
+    Indices, LimitsList,
 };
 use std::marker::Model;
 
@@ -27,6 +27,27 @@ pub struct ModuleParts {
     pub customs: Customs,
     /// The length of the module in bytes, without its custom sections.
     pub plain_bytes: u32,
+}
+
+impl ModuleParts {
+    /// The type of a function, where the imported functions come first (Core 2.5.1). None where there is no such function, or where its
+    /// type index is out of range.
+    pub fn type_of(&self, function: usize) -> Option<&FuncType>
+        ensures { option_copied result ≡ type_at self.now function }
+    {
+        self.types.get(self.type_index(function)? as usize)
+    }
+
+    /// The type index of a function, where the imported functions come first.
+    fn type_index(&self, function: usize) -> Option<u32>
+        ensures { result ≡ slice_get (function_types self.now) function }
+    {
+        let imported = self.imports.len();
+        if function < imported {
+            return self.imports.get(function).map(|import| import.ftype);
+        }
+        self.functions.get(function - imported).copied()
+    }
 }
 
 /// A module, which contracts see as its parts. It has as many bodies as functions, and each body writes out a tree.
