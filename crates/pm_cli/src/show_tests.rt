@@ -2,7 +2,7 @@
 
 use crate::post_mortem;
 use pm_outside::{MemFiles, MemSink};
-use std::alloc::Global;
+use std::alloc::{AllocError, Global};
 use std::process::Abort;
 use std::test::Fail;
 
@@ -49,6 +49,15 @@ const MISSING_STACK: [u8; 28] = [
 
 /// A memory of 4,097 pages.
 const PAGES: [u8; 6] = [0x05, 0x04, 0x01, 0x00, 0x81, 0x20];
+
+/// The head of a stack of 65,537 frames, of which each is spelled in six bytes.
+const TALL_STACK: [u8; 23] = [
+    0x00, 0x99, 0x80, 0x18, 0x09, 0x63, 0x6F, 0x72, 0x65, 0x73, 0x74, 0x61, 0x63, 0x6B, 0x00, 0x04,
+    0x6D, 0x61, 0x69, 0x6E, 0x81, 0x80, 0x04,
+];
+
+/// A frame with no locals and no operands.
+const PLAIN_FRAME: [u8; 6] = [0x00, 0x00, 0x00, 0x05, 0x00, 0x00];
 
 /// Two globals, the i32 -1 and the i64 64.
 const GLOBALS: [u8; 14] = [
@@ -161,6 +170,42 @@ fn bad_dumps_are_refused(rt: HostRuntime) -> Result<(), Fail> {
         &[&CORE, &PAGES],
         13,
         "limit: dump pages 4097 over 4096\n",
+    )
+}
+
+/// `first`, and `count` times `piece` behind it.
+fn repeated(
+    alloc: Global,
+    first: &[u8],
+    piece: &[u8],
+    count: usize,
+) -> Result<Vec<u8>, AllocError> {
+    let mut bytes = Vec::from_slice(alloc, first)?;
+    for _ in 0..count {
+        bytes.extend_from_slice(piece)?;
+    }
+    Ok(bytes)
+}
+
+#[test]
+fn tall_and_long_dumps_are_refused(rt: HostRuntime) -> Result<(), Fail> {
+    let alloc = rt.alloc();
+    let tall = repeated(alloc, &TALL_STACK, &PLAIN_FRAME, 65_537)?;
+    shows(
+        &rt,
+        alloc,
+        &[&CORE, &tall],
+        13,
+        "limit: dump frames 65537 over 65536\n",
+    )?;
+    let page = [0; 4096];
+    let long = repeated(alloc, &CORE[..1], &page, 131_072)?;
+    shows(
+        &rt,
+        alloc,
+        &[&long],
+        13,
+        "limit: dump bytes 536870913 over 536870912\n",
     )
 }
 

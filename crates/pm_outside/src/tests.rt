@@ -101,6 +101,24 @@ fn files_read_whole(rt: HostRuntime) -> Result<(), Fail> {
     Ok(())
 }
 
+/// A file of a million bytes is refused by the sixth read of one byte, where five are the limit: the next call is the one that fails.
+#[test]
+fn a_long_file_is_not_read_whole(rt: HostRuntime) -> Result<(), Fail> {
+    let alloc = rt.alloc();
+    let mut files = MemFiles::new(alloc, vec![in alloc; 6]?);
+    let size = 1_000_000;
+    let bytes: Vec<u8> = vec![in alloc; 7u8; size]?;
+    files.add("a", &bytes)?;
+    files.limit_reads(1);
+    assert_eq!(rt;
+        read_file(alloc, &mut files, "a", 5),
+        Err(FileError::TooLong)
+    );
+    let mut into = [0u8; 1];
+    assert_eq!(rt; files.read_at("a", 0, &mut into), ReadAnswer::Failed);
+    Ok(())
+}
+
 #[test]
 fn real_files(rt: HostRuntime) -> Result<(), Fail> {
     let alloc = rt.alloc();
