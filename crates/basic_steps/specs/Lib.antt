@@ -1,0 +1,4 @@
+pub mod Numeric
+pub mod Parts
+pub mod Performs
+pub mod Traps
