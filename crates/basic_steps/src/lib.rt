@@ -9,9 +9,11 @@ mod numeric;
 mod operands;
 mod shared;
 mod stack;
+mod step;
 mod variables;
 
 pub use answer::{Performed, TrapKind};
 pub use causes::NoMemory;
 pub use shared::{Globals, Shared};
 pub use stack::Stack;
+pub use step::perform;
