@@ -14,16 +14,16 @@ use wasm_syntax::{Basic, Value};
 /// Performs an instruction on the values of a frame, whose locals stand from the place `base` on, with its operands above them.
 /// `Trap` and `NoMemory` change nothing. Where the instruction does not fit the operands, nothing is said of them.
 pub fn perform(
-    instruction: Basic,
+    instruction: &Basic,
     base: usize,
     values: &mut Stack<Value>,
     shared: &mut Shared,
 ) -> Performed
-    ensures effect { (w : World) (operands locals below : List Val) → Holds shared.old w → values.old ≡ laid_out operands locals below → base ≡ length below → Did (on_operands instruction w locals operands) result below values.new shared.new }
+    ensures effect { (w : World) (operands locals below : List Val) → Holds shared.old w → values.old ≡ laid_out operands locals below → base ≡ length below → Did (on_operands instruction.now w locals operands) result below values.new shared.new }
     ensures same { UnlessDone result ((values.new ≡ values.old) × (shared.new ≡ shared.old)) }
-    ensures room { result ≡ Performed.NoMemory → IsTrue (takes_memory instruction) }
+    ensures room { result ≡ Performed.NoMemory → IsTrue (takes_memory instruction.now) }
 {
-    match instruction {
+    match *instruction {
         Basic::Nop => Performed::Done,
         Basic::Drop => operands::drop_top(values),
         Basic::Select => operands::select(values),
