@@ -5,7 +5,7 @@ use Rattle.std.specs.Prelude.{Bool, true, false, Option, Some, None, slice_get, 
 use Rattle.wasm_syntax.specs.declared.value.Value.{Value}
 use Rattle.wasm_syntax.specs.declared.instruction.Basic.TheVariants.{LocalSet, LocalTee}
 use Rattle.wasm_syntax.specs.Numbers.{same_type, type_of}
-use Rattle.wasm_syntax.specs.Effect.{Effect, gives, when, over}
+use Rattle.wasm_syntax.specs.Effect.{gives, when, over}
 use Rattle.wasm_syntax.specs.Host.{World}
 use Rattle.basic_steps.specs.declared.answer.Performed.TheVariants.{Done}
 use Rattle.basic_steps.specs.Performs.{above, on_operands, laid_out}

@@ -10,6 +10,8 @@ mod operands;
 mod shared;
 mod stack;
 mod step;
+#[cfg(test)]
+mod tests;
 mod variables;
 
 pub use answer::{Performed, TrapKind};

@@ -1,4 +1,4 @@
-use Rattle.std.proofs.Common.{rules, ap, ◌∙◌, sym, reverse, length, drop, take, ◌-◌, ◌≡◌}
+use Rattle.std.proofs.Common.{rules, ap, ◌∙◌, reverse, length, drop, take, ◌-◌, ◌≡◌}
 use Rattle.basic_steps.proofs.Stacks.{discarded}
 use Rattle.basic_steps.proofs.stack.Stack.discard.Goals as goal
 
