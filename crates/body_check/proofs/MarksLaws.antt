@@ -136,6 +136,16 @@ there_before m type body r i types g h = record {
   types_are = h.types_are;
 }
 
+-- where operand types stand, the algorithm's frames have them
+pub frames_before : (m : Module) (type : FuncType) (body : Body) (r : Option ValType) (i : ℕ) (types : List ValType) → Gives type r → TypesBefore m type body i types →
+    (fs : List Frame) × (run (body_context m type body) (start r) (code_of body.targets (take i body.ops)) ≡ Some fs) × (any_free fs ≡ false) × (operands fs ≡ map (λ t. Some t) (reverse types))
+frames_before m type body r i types g h =
+    let ps = code_of body.targets (take i body.ops) in
+    let t = before_there m type body r i types g h in
+    let a = run_complete (body_context m type body) ps (start r) (body_block r) t.blocks ((refl, refl, refl), tt) t.leads in
+    let o = operands_there m type body r ps a.0 types a.1 t in
+    (a.0, a.1, live_not_free a.0 o.0, o.1)
+
 shows_of : (fs : List Frame) (types : List ValType) → operands fs ≡ map (λ t. Some t) (reverse types) → Shows (record { height = length (operands fs); top = topmost (operands fs) }) types
 shows_of fs types e =
     (ap (λ x. length x) e ∙ map_len (reverse types) ∙ length-reverse types, ap topmost e ∙ top_last (reverse types) ∙ ap last_type (reverse-reverse types))

@@ -22,7 +22,7 @@ use Rattle.wasm_validate.proofs.WholeLaws.{body_at}
 
 -- ---- one function
 
-at_of : (m : Module) (i op : ℕ) (type : FuncType) (body : Body) (types : List ValType) → type_at m (length m.imports + i) ≡ Some type → slice_get m.bodies i ≡ Some body → TypesAt m (length m.imports + i) op types → TypesBefore m type body op types
+pub at_of : (m : Module) (i op : ℕ) (type : FuncType) (body : Body) (types : List ValType) → type_at m (length m.imports + i) ≡ Some type → slice_get m.bodies i ≡ Some body → TypesAt m (length m.imports + i) op types → TypesBefore m type body op types
 at_of m i op type body types e b h =
     let p : h.0 ≡ type = some_is (sym h.2 ∙ e) in
     let q : h.1 ≡ body = some_is (sym h.3 ∙ body_at m i body b) in

@@ -3,5 +3,7 @@ pub mod ExportLaws
 pub mod Growth
 pub mod HeightLaws
 pub mod OffsetLaws
+pub mod OperandLaws
 pub mod Order
+pub mod RowLaws
 pub mod WholeLaws

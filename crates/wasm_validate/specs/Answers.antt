@@ -6,6 +6,7 @@ use Rattle.wasm_syntax.specs.Valid.{Valid, FirstInvalid}
 use Rattle.body_check.specs.declared.marks.Mark.{Mark}
 use Rattle.wasm_validate.specs.Heights.{AllLow, FirstHigh, FirstHighMarks, heights_of}
 use Rattle.wasm_syntax.specs.Sizes.{WithinLimits}
+use Rattle.wasm_validate.specs.Operands.{RowsUpTo}
 use Rattle.wasm_validate.specs.Whole.{MarkedUpTo}
 use Rattle.wasm_validate.specs.declared.validated.ValidateFault.{ValidateFault}
 use Rattle.wasm_validate.specs.declared.validated.ValidateFault.TheVariants as faults
@@ -18,9 +19,11 @@ Answered (Err (faults.Invalid place)) m = FirstInvalid m place
 Answered (Err (faults.Limit what count)) m = Valid m × (what ≡ quantities.Height) × FirstHigh m count
 Answered (Err faults.NoMemory) m = Unit {0}
 
-pub record Checked (m : Module) (marks : List (List (Option Mark))) (heights : List (List ℕ)) : Type 0 where
+-- what is kept beside a valid module: the marks before the instructions, their heights, and the instructions by their heights
+pub record Checked (m : Module) (marks : List (List (Option Mark))) (heights : List (List ℕ)) (rows : List (List (List ℕ))) : Type 0 where
   pub limits : WithinLimits m
   pub valid : Valid m
   pub marked : MarkedUpTo marks m (length m.bodies)
   pub low : FirstHighMarks marks None
   pub heights_are : heights ≡ heights_of marks
+  pub rows_are : RowsUpTo rows marks (length marks)

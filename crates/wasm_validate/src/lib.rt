@@ -9,6 +9,7 @@ mod limit;
 mod offsets;
 mod parts;
 mod places;
+mod rows;
 mod validated;
 
 pub use validated::{ValidateFault, Validated, validate};

@@ -23,7 +23,7 @@ fn height_of(mark: Option<Mark>) -> usize
 }
 
 /// A mark of a function.
-fn mark_in(marks: &[Option<Mark>], i: usize) -> Option<Mark>
+pub fn mark_in(marks: &[Option<Mark>], i: usize) -> Option<Mark>
     requires { i < length marks.now }
     ensures { slice_get marks.now i ≡ Some result }
 {
@@ -57,7 +57,7 @@ fn greatest_height(marks: &[Option<Mark>]) -> usize
 }
 
 /// The marks of a function.
-fn marks_in(all: &[Marks], i: usize) -> &[Option<Mark>]
+pub fn marks_in(all: &[Marks], i: usize) -> &[Option<Mark>]
     requires { i < length all.now }
     ensures { slice_get all.now i ≡ Some result.now }
 {

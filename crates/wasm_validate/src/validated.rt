@@ -1,12 +1,14 @@
 //! Modules that were validated.
 
-ghost use Rattle.std.specs.Prelude.{◌≡◌, length, slice_get, Option, Some, None};
+ghost use Rattle.std.specs.Prelude.{◌≡◌, ◌<◌, ℕ, List, length, slice_get, Option, Some, None};
 ghost use Rattle.wasm_syntax.specs.Module.{option_then};
 ghost use Rattle.body_check.specs.declared.marks.Mark.{Mark as MarkThere};
 ghost use Rattle.wasm_syntax.specs.Valid.{Valid};
 ghost use Rattle.wasm_validate.specs.Answers.{Answered};
 ghost use Rattle.wasm_validate.specs.Heights.{HasOp, HeightIs, HeightsAre, AllLow, OpIs};
 ghost use Rattle.wasm_syntax.specs.Sizes.{WithinLimits};
+ghost use Rattle.wasm_validate.specs.Operands.{HasOperand, OperandIs, StaticAt, RowsUpTo, LastOf};
+ghost use Rattle.wasm_syntax.specs.declared.value.ValType.{ValType as Sort};
 ghost use Rattle.wasm_validate.specs.Whole.{MarkedUpTo};
 ghost use Rattle.wasm_validate.specs.declared.validated.ValidateFault.TheVariants as faults;
 
@@ -14,12 +16,13 @@ use crate::bodies::{BodiesFault, check_bodies};
 use crate::limit::{first_high, heights_of_all};
 use crate::offsets::op_at;
 use crate::places::bad_part;
+use crate::rows::{Rows, last_top, rows_of_all};
 use body_check::{Mark, Marks};
 use causes::NoMemory;
 use pm_text::Items;
 use std::alloc::Global;
 use std::marker::Model;
-use wasm_syntax::{Heights, Module, Place, Quantity};
+use wasm_syntax::{Heights, Module, Place, Quantity, ValType};
 
 /// Why a module is refused: at the first place that is not valid; or since a function has too many operands at once, with the greatest
 /// number of the first such function; or for want of memory.
@@ -44,6 +47,7 @@ pub struct Validated {
     module: Module,
     marks: Items<Marks>,
     heights: Heights,
+    rows: Items<Rows>,
 }
 
 impl Model for Validated {
@@ -54,21 +58,21 @@ impl Model for Validated {
 
     ghost view = { λ v. v.module };
 
-    ghost invariant = { λ v. IsChecked v.module v.marks v.heights };
+    ghost invariant = { λ v. IsChecked v.module v.marks v.heights v.rows };
 }
 
 /// Whether a module is valid, with at most 4,096 operands at once in each function.
-pub fn validate(alloc: Global, module: Module) -> Result<Validated, ValidateFault>
-    requires { WithinLimits «module» }
-    ensures { Answered result «module» }
+pub fn validate(alloc: Global, module_: Module) -> Result<Validated, ValidateFault>
+    requires { WithinLimits module_ }
+    ensures { Answered result module_ }
 {
-    let found = bad_part(alloc, module.parts())?;
+    let found = bad_part(alloc, module_.parts())?;
     match found {
         Some(place) => return Err(ValidateFault::Invalid { place }),
         None => {}
     }
-    match check_bodies(alloc, module.parts()) {
-        Ok(marks) => marked(alloc, module, marks),
+    match check_bodies(alloc, module_.parts()) {
+        Ok(marks) => marked(alloc, module_, marks),
         Err(BodiesFault::At(place)) => Err(ValidateFault::Invalid { place }),
         Err(BodiesFault::NoMemory) => Err(ValidateFault::NoMemory),
     }
@@ -88,10 +92,12 @@ fn marked(alloc: Global, m: Module, marks: Items<Marks>) -> Result<Validated, Va
         }),
         None => {
             let heights = heights_of_all(alloc, marks.as_slice())?;
+            let rows = rows_of_all(alloc, marks.as_slice())?;
             Ok(Validated {
                 module: m,
                 marks,
                 heights,
+                rows,
             })
         }
     }
@@ -107,6 +113,29 @@ fn mark_at(all: &Items<Marks>, i: usize, op: usize) -> Option<Mark>
             None => None,
         },
         None => None,
+    }
+}
+
+/// The topmost type before the last instruction of a function up to one that has a height.
+fn top_at(
+    all: &Items<Marks>,
+    every: &Items<Rows>,
+    i: usize,
+    op: u32,
+    height: usize,
+) -> Option<ValType>
+    requires rows { RowsUpTo every.now all.now (length all.now) }
+    ensures { (marks : List (Option MarkThere)) (last : ℕ) (mark : MarkThere) → slice_get all.now i ≡ Some marks → op < length marks → LastOf marks op height last mark → result ≡ mark.top }
+{
+    match (all.get(i), every.get(i)) {
+        (Some(marks), Some(rows)) => {
+            if (op as usize) < marks.len() {
+                last_top(marks.as_slice(), rows, op, height)
+            } else {
+                None
+            }
+        }
+        _ => None,
     }
 }
 
@@ -138,6 +167,22 @@ impl Validated {
         match mark_at(&self.marks, i, op as usize) {
             Some(mark) => Some(mark.height as u32),
             None => None,
+        }
+    }
+
+    /// The type of an operand before an instruction of a function that the module defines, by its place from the bottom, over all open
+    /// blocks. The place is below the height, so the instruction is in live code.
+    pub fn operand(&self, func: u32, op: u32, from_bottom: u32) -> ValType
+        requires there { HasOp self.now func op }
+        requires below { HasOperand self.now func op from_bottom }
+        ensures typed { OperandIs result self.now func op from_bottom }
+        ensures fixed { (types : List Sort) → StaticAt self.now func op types → slice_get types from_bottom ≡ Some result }
+    {
+        let i = func as usize - self.module.parts().imports.len();
+        let height = from_bottom as usize + 1;
+        match top_at(&self.marks, &self.rows, i, op, height) {
+            Some(t) => t,
+            None => unreachable!(),
         }
     }
 
