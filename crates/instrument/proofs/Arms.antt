@@ -21,7 +21,7 @@ use Rattle.unwind_rewrite.specs.Numbering.{import_count, mapped, frame_import, g
 use Rattle.unwind_rewrite.specs.Slots.{Place, place_type, Ctx, result_at, kind_at, offset_at, less, grown, result_type, after_plain, Spilled, Known}
 use Rattle.unwind_rewrite.specs.Pieces.{get, set, const, i32, call, if_any, fetch, load, store, to_result, from_result}
 use Rattle.unwind_rewrite.specs.Guards.{least, minus_one, zero_test, guard_zero, guard_signed, past_end, out_test, guard_memory, range_test, guard, can_trap, helper}
-use Rattle.unwind_rewrite.specs.Rewrite.{Info, result_back, body_at, hand_value, hand, unwind, test_flag, tested, guarded, plain, instr, carries, end_gives, ending, go_to, branch_to, branch_if, table, after_call, after_direct, call_code, helper_of, indirect_code, control, rewrite, hand_locals, zero_result, raise_flag, exit_code, body, in_block, in_loop, in_body}
+use Rattle.unwind_rewrite.specs.Rewrite.{Info, result_back, body_at, hand_value, hand, hand_top, to_exit, unwind, test_flag, test_both, tested, guarded, plain, instr, carries, end_gives, ending, go_to, branch_to, branch_if, table, after_call, after_direct, call_code, helper_of, indirect_code, control, rewrite, hand_locals, zero_result, raise_flag, exit_code, body, in_block, in_loop, in_body}
 use Rattle.instrument.specs.Wrappers.{get_all, tell_globals, after_wrapped, parameter_count, wrapper}
 use Rattle.instrument.specs.FlatCode.{op}
 
@@ -231,6 +231,14 @@ module _ (C : Ctx) where
   tree_table ls [] ts d = tt
   tree_table ls (e ∷ es) ts d = tree_go (slice_get ls d) es (fetch C e (length es) (jump 0 (BrTable ts d) stop)) (tree_fetch e (length es) (jump 0 (BrTable ts d) stop) tt)
 
+  tree_hand_top : (m : ℕ) (es : List Place) (k : Nodes) → IsTree k → IsTree (hand_top C m es k)
+  tree_hand_top zero es k tk = tk
+  tree_hand_top (suc m) [] k tk = tk
+  tree_hand_top (suc m) (e ∷ es) k tk = tree_hand_top m es (fetch C e (length es) (hand_value C (place_type e) k)) (tree_fetch e (length es) (hand_value C (place_type e) k) tk)
+
+  tree_both : (ls : List Info) (es : List Place) (o : ℕ) (others k : Nodes) → IsTree others → IsTree k → IsTree (test_both C ls es o others k)
+  tree_both ls es o others k to tk = (tree_hand es (get C (kind_at C) (if_any others (to_exit ls))) (to, refl, tt, tt), refl, tt, tk)
+
   tree_after : (ls : List Info) (r : Option ValType) (es : List Place) (o : ℕ) (go : List Place → Nodes) → Goes go → IsTree (after_call C ls r es o go)
   tree_after ls r es o go h = tree_store r es (test_flag C ls es o (go (grown r es))) (tree_flag ls es o (go (grown r es)) (h (grown r es)))
 
@@ -248,9 +256,14 @@ module _ (C : Ctx) where
   tree_indirect None ls es o t go h = tt
   tree_indirect (Some type) ls [] o t go h = tt
   tree_indirect (Some type) ls (i ∷ es) o t go h =
-      let k = jump 0 (CallIndirect t) (after_call C ls (result_of type) (less (length type.params) es) o go) in
-      let k1 = load C (suc (length type.params)) (i ∷ es) k in
-      tree_fetch i (length es) (call (helper_of C t) (tested C ls (i ∷ es) o k1)) (tree_tested ls (i ∷ es) o k1 (tree_load (suc (length type.params)) (i ∷ es) k (tree_after ls (result_of type) (less (length type.params) es) o go h)))
+      let n = length type.params in
+      let left = less n es in
+      let r = result_of type in
+      let others = hand_top C (suc n) (i ∷ es) stop in
+      let next_ = go (grown r left) in
+      let inner = jump 0 (CallIndirect t) (store C r left stop) in
+      let k1 = set C (kind_at C) (get C (kind_at C) (basic 0 (Eqz I32) (if_any (load C (suc n) (i ∷ es) inner) (test_both C ls left o others next_)))) in
+      tree_fetch i (length es) (call (helper_of C t) k1) (tree_load (suc n) (i ∷ es) inner (tree_store r left stop tt), refl, tt, tree_both ls left o others next_ (tree_hand_top (suc n) (i ∷ es) stop tt) (h (grown r left)))
 
   tree_control : (j : Jump) (ls : List Info) (es : List Place) (o : ℕ) (go : List Place → Nodes) → Goes go → IsTree (control C ls es o j go)
   tree_control Unreachable ls es o go h = tree_tested ls es o (jump 0 Unreachable stop) tt

@@ -192,7 +192,7 @@ module _ (M M' : Engine) (E : ℕ) (gl : List ValType) (S : Stands M M' E gl) (g
     target = config (entered wi wb wtree type args ∷ []) (flagged M g (values.I32 up)) []
 
     pub fits : FitsConfig M E gl W.result source (w0 ∷ [])
-    fits = (wf, (record { size = types-locals args type.params (declared_locals b.groups) ty; room = types-zeros (added k.slots); idx = refl; result = refl; funcs = refl; base = refl; helpers = refl; flag = sym gm; small = k.small; narrow = k.narrow; labels = (tt, tt, k.room, refl, tt) }, refl))
+    fits = (wf, (record { size = types-locals args type.params (declared_locals b.groups) ty; room = types-zeros (added k.slots); idx = refl; result = refl; funcs = refl; base = refl; helpers = refl; flag = sym gm; small = k.small; narrow = k.narrow; labels = (tt, tt, k.room, refl, tt); no_kind = tt }, refl))
 
     pub begin : To M' 1 (length type.params + 10) target (image M W source (w0 ∷ []))
     begin =

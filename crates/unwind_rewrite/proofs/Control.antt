@@ -1,25 +1,28 @@
 -- Ends of blocks, branches and returns.
-use Rattle.std.proofs.Common.{◌≡◌, ℕ, zero, suc, ◌≤◌, List, [], ◌∷◌, ◌++◌, length, Option, Some, None, Bool, true, false, refl, sym, ap, ap₂, ◌∙◌, subst, arith, append-nil, ◌⊎◌, inl, inr, slice_get}
+use Rattle.std.proofs.Common.{◌≡◌, ℕ, zero, suc, ◌≤◌, List, [], ◌∷◌, ◌++◌, length, Option, Some, None, Bool, true, false, refl, sym, ap, ap₂, ◌∙◌, subst, arith, append-nil, ◌⊎◌, inl, inr, slice_get, Ok}
 use Rattle.wasm_syntax.specs.declared.value.ValType.{ValType}
+use Rattle.wasm_syntax.specs.declared.value.ValType.TheVariants.{I32}
+use Rattle.int_ops.specs.declared.operators.Binary.TheVariants.{Or}
+use Rattle.int_ops.specs.Integers.{binary as int_binary}
 use Rattle.wasm_syntax.specs.declared.value.Value.{Value}
 use Rattle.wasm_syntax.specs.declared.value.Value.TheVariants as values
-use Rattle.wasm_syntax.specs.declared.instruction.Basic.TheVariants.{GlobalGet}
-use Rattle.wasm_syntax.specs.Numbers.{type_of, types, same_type}
-use Rattle.wasm_syntax.specs.Tree.{Br, BrIf, BrTable, Return, Nodes, stop, jump, loop}
+use Rattle.wasm_syntax.specs.declared.instruction.Basic.TheVariants.{GlobalGet, Binary}
+use Rattle.wasm_syntax.specs.Numbers.{type_of, types, same_type, binary}
+use Rattle.wasm_syntax.specs.Tree.{Br, BrIf, BrTable, Return, Nodes, stop, basic, jump, loop}
 use Rattle.wasm_syntax.specs.Host.{World}
 use Rattle.wasm_syntax.specs.declared.host.CollectorCall.{CollectorCall}
 use Rattle.wasm_syntax.specs.Machine.{Kind, leaves, again, returns, Label, Frame, Config, label, frame, Engine, top, exactly, Went, arrive, arrive_some, out_some, leave, loops, land, branch, carried_by, carry, same_result, same_carry, pick, deliver, moved, branch_if, moved_if, branch_table}
-use Rattle.unwind_rewrite.specs.Slots.{Place, Ctx, slot, grown}
-use Rattle.unwind_rewrite.specs.Rewrite.{Info, in_loop, result_back, finish, body_at, test_flag, carries, go_to, rewrite, exit_code}
+use Rattle.unwind_rewrite.specs.Slots.{Place, Ctx, slot, kind_at, offset_at, grown}
+use Rattle.unwind_rewrite.specs.Rewrite.{Info, in_loop, result_back, finish, body_at, hand_left, test_flag, test_both, carries, go_to, rewrite, exit_code}
 use Rattle.unwind_rewrite.specs.Numbering.{mapped, flag_of, global_types}
-use Rattle.unwind_rewrite.specs.Pieces.{fetch, store, to_result, from_result}
+use Rattle.unwind_rewrite.specs.Pieces.{get, set, const, if_any, fetch, store, to_result, from_result}
 use Rattle.std.proofs.lemmas.List.{length-map}
 use Rattle.unwind_rewrite.specs.Agreement.{Holds, Pending, Arrives, awaits, now, code_at, pending, info, infos, joined, t_kind, t_labels, Wit, KindFits, FitsLabels, WorldFits, FitsFrame, FitsFrames, Wrap, t_frames, flagged}
 use Rattle.unwind_rewrite.specs.Steps.{Gets, To, Shell, st}
-use Rattle.unwind_rewrite.proofs.Run.{stored, if_same, types-stored, same_type-same, still, one_step, seq, weaken, fetch_to, store_to, to_result_to, from_result_to, finish_to}
+use Rattle.unwind_rewrite.proofs.Run.{stored, stored_other, kind_no_slot, if_same, types-stored, same_type-same, still, one_step, seq, weaken, added_get, fetch_to, store_to, to_result_to, from_result_to, finish_to}
 use Rattle.unwind_rewrite.proofs.Parts.{fits_stored, has_slot, settle, step_plain}
 use Rattle.unwind_rewrite.specs.Standing.{After}
-use Rattle.unwind_rewrite.proofs.Sim.{refit, room_height, grown-append, grown_fits, len_of, shell, tgt, wit, if_zero_to}
+use Rattle.unwind_rewrite.proofs.Sim.{refit, room_height, grown-append, grown_fits, len_of, shell, tgt, wit, wit_under, armed, if_zero_to}
 
 pub flag_len : (C : Ctx) (g : World) → types g.globals ≡ global_types C.source → flag_of C.source ≡ length g.globals
 flag_len C g e = sym (length-map C.source.globals (λ g. g.vtype)) ∙ len_of g.globals (global_types C.source) e
@@ -50,6 +53,18 @@ module _ (M M' : Engine) (E : ℕ) (gl : List ValType) (W : Wrap) where
   flag_down C X tl g co ls es o k fl =
       seq M' (step_plain M' (GlobalGet (flag_of C.source)) [] [] tl (flagged M g (values.I32 0)) (values.I32 0 ∷ []) (values.I32 0 ∷ []) refl (rw (get_last g.globals (flag_of C.source) (values.I32 0) fl) refl) refl) (if_zero_to M')
 
+  -- the kind and the flag are tested together
+  pub both_to : (C : Ctx) (X : Shell) (l ex : List Value) (g : World) (co : List CollectorCall) (ls : List Info) (es : List Place) (o : ℕ) (others k : Nodes) (x y z : ℕ) → length C.locals ≡ length l → slice_get ex (kind_at C) ≡ Some (values.I32 x) → flag_of C.source ≡ length g.globals → binary I32 Or x y ≡ Ok z → To M' 3 3 (st X (l ++ ex) [] (test_both C ls es o others k) (flagged M g (values.I32 y)) co) (st X (l ++ ex) (values.I32 z ∷ []) (if_any (const (values.I32 o) (set C (offset_at C) (hand_left C ls es others))) k) (flagged M g (values.I32 y)) co)
+  both_to C X l ex g co ls es o others k x y z size kd fl q =
+      let gy = flagged M g (values.I32 y) in
+      let k2 = if_any (const (values.I32 o) (set C (offset_at C) (hand_left C ls es others))) k in
+      let k1 = basic 0 (Binary I32 Or) k2 in
+      let k0 = basic 0 (GlobalGet (flag_of C.source)) k1 in
+      let s1 : To M' 1 1 (st X (l ++ ex) [] (get C (kind_at C) k0) gy co) (st X (l ++ ex) (values.I32 x ∷ []) k0 gy co) = added_get M' C l size ex (kind_at C) (values.I32 x) kd in
+      let s2 : To M' 1 1 (st X (l ++ ex) (values.I32 x ∷ []) k0 gy co) (st X (l ++ ex) (values.I32 y ∷ values.I32 x ∷ []) k1 gy co) = step_plain M' (GlobalGet (flag_of C.source)) [] (values.I32 x ∷ []) (l ++ ex) gy (values.I32 y ∷ []) (values.I32 y ∷ values.I32 x ∷ []) refl (rw (get_last g.globals (flag_of C.source) (values.I32 y) fl) refl) refl in
+      let s3 : To M' 1 1 (st X (l ++ ex) (values.I32 y ∷ values.I32 x ∷ []) k1 gy co) (st X (l ++ ex) (values.I32 z ∷ []) k2 gy co) = step_plain M' (Binary I32 Or) (values.I32 y ∷ values.I32 x ∷ []) [] (l ++ ex) gy (values.I32 z ∷ []) (values.I32 z ∷ []) refl (rw q refl) refl in
+      seq M' s1 (seq M' s2 s3)
+
   -- values come back to a frame
   returned_in : (vs : List Value) (Fs : List Frame) (ws : List Wit) (g : World) (co : List CollectorCall) (t : Config) (r : Option ValType) (C : Ctx) (ex : List Value) (i cl : ℕ) (r' : Option ValType) (l : List Value) (Ls : List Label) (ss : List (List Place)) → FitsFrame M E gl r (frame i r' cl l Ls) (wit C ex ss) → FitsFrames M E gl W.result r' Fs ws → WorldFits M gl g → exactly r vs ≡ Some vs → Gets M' 1 10 t (deliver M' vs (t_frames W r (frame i r' cl l Ls ∷ Fs) (wit C ex ss ∷ ws)) (flagged M g (values.I32 0)) co) → After M M' E gl W t (deliver M vs (frame i r' cl l Ls ∷ Fs) g co)
   returned_in vs Fs ws g co t r C ex i cl r' l [] ss f fs gl_ x go = tt
@@ -72,12 +87,44 @@ module _ (M M' : Engine) (E : ℕ) (gl : List ValType) (W : Wrap) where
         weaken M' (seq M' go1 (seq M' s1 s2)) (omega arith) (omega (arith, f.small)),
       )
 
+  -- or to one that called through the table
+  returned_arm : (vs : List Value) (Fs : List Frame) (ws : List Wit) (g : World) (co : List CollectorCall) (t : Config) (r : Option ValType) (C : Ctx) (ex : List Value) (others : Nodes) (i cl : ℕ) (r' : Option ValType) (l : List Value) (Ls : List Label) (ss : List (List Place)) → FitsFrame M E gl r (frame i r' cl l Ls) (wit_under C ex ss (Some others)) → FitsFrames M E gl W.result r' Fs ws → WorldFits M gl g → exactly r vs ≡ Some vs → Gets M' 1 10 t (deliver M' vs (t_frames W r (frame i r' cl l Ls ∷ Fs) (wit_under C ex ss (Some others) ∷ ws)) (flagged M g (values.I32 0)) co) → After M M' E gl W t (deliver M vs (frame i r' cl l Ls ∷ Fs) g co)
+  unfolding int_binary
+  returned_arm vs Fs ws g co t r C ex others i cl r' l [] ss f fs gl_ x go = tt
+  returned_arm vs Fs ws g co t r C ex others i cl r' l (L ∷ Ls) [] f fs gl_ x go = absurd f.labels
+  returned_arm vs Fs ws g co t r C ex others i cl r' l (L ∷ Ls) (e ∷ ss) f fs gl_ x go =
+      let h = f.labels in
+      let es = e ++ joined ss in
+      let X = shell W C r' L.kind Ls ss Fs ws in
+      let ls = info L.kind ∷ infos Ls in
+      let ex' = stored r (λ t. slot t (length es)) vs ex in
+      let size = len_of l C.locals f.size in
+      let pl = grown_fits C r es ex f.room h.1 in
+      let hs = settle C ex r L Ls e ss vs f.room x h in
+      let low : length es ≤ C.slots = omega (arith, grown_longer r es, room_height C (grown r es) L.nodes h.2) in
+      let kd : slice_get ex' (kind_at C) ≡ Some (values.I32 0) = stored_other r (λ t. slot t (length es)) vs ex (kind_at C) (λ t. kind_no_slot C (length es) t low) ∙ f.no_kind in
+      let k = rewrite C ls (grown r e ++ joined ss) L.nodes in
+      let K = test_both C ls es cl others k in
+      let g0 = flagged M g (values.I32 0) in
+      let go1 : To M' 1 10 t (st (armed X K []) (l ++ ex) vs (store C r es stop) g0 co) = rw (append-nil, grown-append) at go in
+      let s1 : To M' 0 1 (st (armed X K []) (l ++ ex) vs (store C r es stop) g0 co) (st (armed X K []) (l ++ ex') [] stop g0 co) = store_to M' C l size ex r es vs stop pl x in
+      let s2 : To M' 1 1 (st (armed X K []) (l ++ ex') [] stop g0 co) (st X (l ++ ex') [] K g0 co) = one_step M' _ _ refl in
+      let s3 = both_to C X l ex' g co ls es cl others k 0 0 0 size kd (flag_len C g (gl_.globals ∙ sym f.flag)) refl in (
+        wit C ex' (grown r e ∷ ss) ∷ ws,
+        (gl_, (refit l (label (vs ++ L.operands) L.nodes L.end L.kind ∷ Ls) ex' (grown r e ∷ ss) None cl f refl (types-stored r (λ t. slot t (length es)) vs ex pl x) hs, fs)),
+        weaken M' (seq M' go1 (seq M' s1 (seq M' s2 (seq M' s3 (if_zero_to M'))))) (omega arith) (omega (arith, f.small)),
+      )
+
+  returned_under : (vs : List Value) (Fs : List Frame) (ws : List Wit) (g : World) (co : List CollectorCall) (t : Config) (r : Option ValType) (F : Frame) (C : Ctx) (ex : List Value) (ss : List (List Place)) (others : Option Nodes) → FitsFrame M E gl r F (wit_under C ex ss others) → FitsFrames M E gl W.result F.result Fs ws → WorldFits M gl g → exactly r vs ≡ Some vs → Gets M' 1 10 t (deliver M' vs (t_frames W r (F ∷ Fs) (wit_under C ex ss others ∷ ws)) (flagged M g (values.I32 0)) co) → After M M' E gl W t (deliver M vs (F ∷ Fs) g co)
+  returned_under vs Fs ws g co t r F C ex ss None f fs gl_ x go = returned_in vs Fs ws g co t r C ex F.function F.call F.result F.locals F.labels ss f fs gl_ x go
+  returned_under vs Fs ws g co t r F C ex ss (Some others) f fs gl_ x go = returned_arm vs Fs ws g co t r C ex others F.function F.call F.result F.locals F.labels ss f fs gl_ x go
+
   returned : (vs : List Value) (Fs : List Frame) (ws : List Wit) (g : World) (co : List CollectorCall) (t : Config) (r : Option ValType) → 10 ≤ E → FitsFrames M E gl W.result r Fs ws → WorldFits M gl g → exactly r vs ≡ Some vs → Gets M' 1 10 t (deliver M' vs (t_frames W r Fs ws) (flagged M g (values.I32 0)) co) → After M M' E gl W t (deliver M vs Fs g co)
   returned vs [] [] g co t r le fs gl_ x go = (subst (λ z. exactly z vs ≡ Some vs) fs x, gl_, weaken M' go (omega arith) le)
   returned vs [] (_ ∷ _) g co t r le fs gl_ x go = absurd fs
   returned vs (F ∷ Fs) [] g co t r le fs gl_ x go = absurd fs
   returned vs (F ∷ Fs) (w ∷ ws) g co t r le fs gl_ x go =
-      returned_in vs Fs ws g co t r w.ctx w.ex F.function F.call F.result F.locals F.labels w.ss fs.0 fs.1 gl_ x go
+      returned_under vs Fs ws g co t r F w.ctx w.ex w.ss w.others fs.0 fs.1 gl_ x go
 
   -- values come to a label whose block has ended or was left by a branch
   arrived_in : (C : Ctx) (ex : List Value) (ws : List Wit) (i cl : ℕ) (r : Option ValType) (l : List Value) (Fs : List Frame) (g : World) (co : List CollectorCall) (t : Config) (Ls0 : List Label) (ss0 : List (List Place)) (Lx : List Label) (a : Option ValType) (vs : List Value) (Ls : List Label) (ss : List (List Place)) → FitsFrame M E gl None (frame i r cl l Ls0) (wit C ex ss0) → FitsFrames M E gl W.result r Fs ws → WorldFits M gl g → FitsLabels C ex a Ls ss → exactly a vs ≡ Some vs → Gets M' 1 10 t (moved M' (arrive [] (t_labels C (Arrives a) Ls ss)) (frame (mapped C.source C.index) C.result 0 (l ++ stored a (λ t. slot t C.slots) vs ex) Lx) (t_frames W r Fs ws) (flagged M g (values.I32 0)) co) → After M M' E gl W t (moved M (arrive vs Ls) (frame i r cl l Ls0) Fs g co)

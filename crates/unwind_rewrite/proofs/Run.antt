@@ -9,7 +9,7 @@ use Rattle.wasm_syntax.specs.Tree.{Nodes, basic}
 use Rattle.wasm_syntax.specs.Host.{World}
 use Rattle.wasm_syntax.specs.declared.host.CollectorCall.{CollectorCall}
 use Rattle.wasm_syntax.specs.Machine.{Config, Engine, Stepped, next, ends, traps, no_reply, bad_reply, stuck, Cut, short, parts, one_more, cut, if_so, top, exactly, deliver, step}
-use Rattle.unwind_rewrite.specs.Slots.{Place, Spilled, Known, Ctx, slot, added, less}
+use Rattle.unwind_rewrite.specs.Slots.{Place, Spilled, Known, Ctx, slot, kind_at, added, less}
 use Rattle.unwind_rewrite.specs.Pieces.{get, set, const, fetch, load, store, to_result, from_result}
 use Rattle.unwind_rewrite.specs.Rewrite.{result_back}
 use Rattle.unwind_rewrite.specs.Agreement.{One, Holds}
@@ -85,6 +85,16 @@ abbrev pub stored : Option ValType → (ValType → ℕ) → List Value → List
 stored None i vs ex = ex
 stored (Some t) i [] ex = ex
 stored (Some t) i (v ∷ vs) ex = slice_set ex (i t) v
+
+pub stored_other : (r : Option ValType) (i : ValType → ℕ) (vs ex : List Value) (j : ℕ) → ((t : ValType) → j ≢ i t) → slice_get (stored r i vs ex) j ≡ slice_get ex j
+stored_other None i vs ex j ne = refl
+stored_other (Some t) i [] ex j ne = refl
+stored_other (Some t) i (v ∷ vs) ex j ne = slice_get-put_other ex j (i t) v (ne t)
+
+-- the kind has no slot
+pub kind_no_slot : (C : Ctx) (h : ℕ) (t : ValType) → h ≤ C.slots → kind_at C ≢ slot t h
+kind_no_slot C h I32 le = omega arith
+kind_no_slot C h I64 le = omega arith
 
 -- there is a place for the result
 abbrev pub HasPlace : Option ValType → (ValType → ℕ) → List Value → Type 0

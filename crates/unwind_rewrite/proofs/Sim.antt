@@ -18,7 +18,7 @@ use Rattle.unwind_rewrite.specs.Rewrite.{Info, unwind, tested, guarded, plain, r
 use Rattle.unwind_rewrite.specs.Numbering.{mapped, global_types}
 use Rattle.unwind_rewrite.specs.Pieces.{if_any, load, store}
 use Rattle.unwind_rewrite.specs.Guards.{can_trap}
-use Rattle.unwind_rewrite.specs.Agreement.{Holds, pending, info, infos, joined, t_kind, t_labels, Wit, FitsIn, Room, FitsLabels, FitsOpen, MemoryFits, WorldFits, FitsFrame, FitsFrames, Wrap, t_frames, flagged, image}
+use Rattle.unwind_rewrite.specs.Agreement.{Holds, pending, info, infos, joined, t_kind, t_labels, Wit, FitsIn, Room, FitsLabels, FitsOpen, MemoryFits, NoKind, WorldFits, FitsFrame, FitsFrames, Wrap, t_frames, flagged, image}
 use Rattle.unwind_rewrite.specs.Steps.{To, Shell, st}
 use Rattle.unwind_rewrite.proofs.Run.{stored, HasPlace, types-stored, slice_get-put_same, types-slice_set, added_at, added_kind, still, one_step, seq, weaken, added_get, added_set, fetch_to, load_to, less_holds, store_to}
 use Rattle.unwind_rewrite.specs.Promises.{kind_of}
@@ -27,10 +27,13 @@ use Rattle.unwind_rewrite.proofs.Guards.{guard_to}
 use Rattle.unwind_rewrite.specs.Offsets.{SmallOffset}
 use Rattle.unwind_rewrite.specs.Standing.{After}
 
--- a frame with other locals, labels and places
-pub refit : {M : Engine} {E : ℕ} {gl : List ValType} {a : Option ValType} {ix cl : ℕ} {r : Option ValType} {l : List Value} {Ls : List Label} {w : Wit} (l' : List Value) (Ls' : List Label) (ex' : List Value) (ss' : List (List Place)) (b : Option ValType) (cl' : ℕ) → FitsFrame M E gl a (frame ix r cl l Ls) w → types l' ≡ types l → types ex' ≡ types w.ex → FitsOpen w.ctx ex' b Ls' ss' → FitsFrame M E gl b (frame ix r cl' l' Ls') (record { ctx = w.ctx; ex = ex'; ss = ss' })
-refit l' Ls' ex' ss' b cl' f ll le h =
-    record { size = ll ∙ f.size; room = le ∙ f.room; idx = f.idx; result = f.result; funcs = f.funcs; base = f.base; helpers = f.helpers; flag = f.flag; small = f.small; narrow = f.narrow; labels = h }
+-- a frame with other locals, labels and places, under a call or not
+pub refit_under : {M : Engine} {E : ℕ} {gl : List ValType} {a : Option ValType} {ix cl : ℕ} {r : Option ValType} {l : List Value} {Ls : List Label} {w : Wit} (l' : List Value) (Ls' : List Label) (ex' : List Value) (ss' : List (List Place)) (others : Option Nodes) (b : Option ValType) (cl' : ℕ) → FitsFrame M E gl a (frame ix r cl l Ls) w → types l' ≡ types l → types ex' ≡ types w.ex → FitsOpen w.ctx ex' b Ls' ss' → NoKind w.ctx ex' others → FitsFrame M E gl b (frame ix r cl' l' Ls') (record { ctx = w.ctx; ex = ex'; ss = ss'; others = others })
+refit_under l' Ls' ex' ss' others b cl' f ll le h nk =
+    record { size = ll ∙ f.size; room = le ∙ f.room; idx = f.idx; result = f.result; funcs = f.funcs; base = f.base; helpers = f.helpers; flag = f.flag; small = f.small; narrow = f.narrow; labels = h; no_kind = nk }
+
+pub refit : {M : Engine} {E : ℕ} {gl : List ValType} {a : Option ValType} {ix cl : ℕ} {r : Option ValType} {l : List Value} {Ls : List Label} {w : Wit} (l' : List Value) (Ls' : List Label) (ex' : List Value) (ss' : List (List Place)) (b : Option ValType) (cl' : ℕ) → FitsFrame M E gl a (frame ix r cl l Ls) w → types l' ≡ types l → types ex' ≡ types w.ex → FitsOpen w.ctx ex' b Ls' ss' → FitsFrame M E gl b (frame ix r cl' l' Ls') (record { ctx = w.ctx; ex = ex'; ss = ss'; others = None })
+refit l' Ls' ex' ss' b cl' f ll le h = refit_under l' Ls' ex' ss' None b cl' f ll le h tt
 
 pub room_height : (C : Ctx) (es : List Place) (code : Nodes) → Room C es code → length es ≤ C.slots
 room_height C es stop h = h
@@ -92,7 +95,11 @@ abbrev pub tgt : Engine → Wrap → Ctx → List Value → List Place → List 
 tgt M W C ex e ss ws r l kd Ls Fs g co code = st (shell W C r kd Ls ss Fs ws) (l ++ ex) [] (rewrite C (info kd ∷ infos Ls) (e ++ joined ss) code) (flagged M g (values.I32 0)) co
 
 abbrev pub wit : Ctx → List Value → List (List Place) → Wit
-wit C ex ss = record { ctx = C; ex = ex; ss = ss }
+wit C ex ss = record { ctx = C; ex = ex; ss = ss; others = None }
+
+-- the same, where a call through the table may be under way
+abbrev pub wit_under : Ctx → List Value → List (List Place) → Option Nodes → Wit
+wit_under C ex ss others = record { ctx = C; ex = ex; ss = ss; others = others }
 
 -- inside an `if`
 abbrev pub armed : Shell → Nodes → List Value → Shell
@@ -150,7 +157,7 @@ module _ (M M' : Engine) (E : ℕ) (gl : List ValType) (W : Wrap) where
     F rest = frame ix r cl l (label ops rest en kd ∷ Ls)
 
     abbrev pub w : Wit
-    w = record { ctx = C; ex = ex; ss = e ∷ ss }
+    w = record { ctx = C; ex = ex; ss = e ∷ ss; others = None }
 
     abbrev pub t : Nodes → Config
     t rest = image M W (config (F rest ∷ Fs) g co) (w ∷ ws)
@@ -196,7 +203,7 @@ module _ (M M' : Engine) (E : ℕ) (gl : List ValType) (W : Wrap) where
         let h1 = fits_stored C ex None gd.0.0 (label ops (basic o i rest) en kd ∷ Ls) (e ∷ ss) (λ t. kind_at C) gd.0.1 (λ t. omega (arith, h.2.0)) h in
         let d = plain_done i o rest vs below l' g' ws' (stored gd.0.0 (λ t. kind_at C) gd.0.1 ex) f.size wf (sym f.flag) (gd.1 ∙ f.room) rm h1 c p in
         let z : To M' 1 E (st X (l ++ ex) [] (plain C ls es o i (λ es'. rewrite C ls es' rest)) g0 co) (st X (l' ++ d.0.0) [] (rewrite C ls (d.0.1 ++ joined ss) rest) (flagged M g' (values.I32 0)) co) = weaken M' (seq M' gd.2 d.5) (omega arith) (omega (arith, f.small)) in
-        (record { ctx = C; ex = d.0.0; ss = d.0.1 ∷ ss } ∷ ws, (d.3, (refit l' (label (ws' ++ below) rest en kd ∷ Ls) d.0.0 (d.0.1 ∷ ss) None cl f d.2 (d.1 ∙ gd.1) d.4, fs)), z)
+        (record { ctx = C; ex = d.0.0; ss = d.0.1 ∷ ss; others = None } ∷ ws, (d.3, (refit l' (label (ws' ++ below) rest en kd ∷ Ls) d.0.0 (d.0.1 ∷ ss) None cl f d.2 (d.1 ∙ gd.1) d.4, fs)), z)
 
     pub push_sim : (o : ℕ) (n : Value) (rest : Nodes) → FitsFrame M E gl None (F (basic o (Const n) rest)) w → FitsFrames M E gl W.result r Fs ws → WorldFits M gl g → After M M' E gl W (tgt M W C ex e ss ws r l kd Ls Fs g co (basic o (Const n) rest)) (next (config (frame ix r cl l (label (n ∷ ops) rest en kd ∷ Ls) ∷ Fs) g co))
     push_sim o n rest f fs wf =

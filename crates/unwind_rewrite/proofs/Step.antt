@@ -23,7 +23,7 @@ use Rattle.unwind_rewrite.specs.Promises.{kind_of}
 use Rattle.unwind_rewrite.proofs.Parts.{Rel, framed, match_of}
 use Rattle.wasm_syntax.specs.Run.{start_table}
 use Rattle.unwind_rewrite.specs.Standing.{After, Stands}
-use Rattle.unwind_rewrite.proofs.Sim.{len_of, shell, tgt, wit, verdict_to, plain_gives, push_sim, block_sim, loop_sim, if_sim}
+use Rattle.unwind_rewrite.proofs.Sim.{refit, len_of, shell, tgt, wit, verdict_to, plain_gives, push_sim, block_sim, loop_sim, if_sim}
 use Rattle.unwind_rewrite.proofs.Control.{end_sim, br_node, br_if_node, return_node, table_node}
 use Rattle.unwind_rewrite.proofs.Calls.{trap_from, call_node, same_functype-same, same_functype-refl, entry_trap, entry_call}
 use Rattle.unwind_rewrite.specs.Offsets.{SmallOffset}
@@ -200,7 +200,9 @@ module _ (M M' : Engine) (E : ℕ) (gl : List ValType) (W : Wrap) (S : Stands M 
   frames_sim : (Fs : List Frame) (g : World) (co : List CollectorCall) (ws : List Wit) → FitsConfig M E gl W.result (config Fs g co) ws → length Fs ≤ M.depth → After M M' E gl W (image M W (config Fs g co) ws) (steps M Fs g co)
   frames_sim [] g co ws h sh = absurd h.1
   frames_sim (F ∷ Fs) g co [] h sh = absurd h.1
-  frames_sim (F ∷ Fs) g co (w ∷ ws) h sh = labels_sim w.ctx w.ex w.ss ws F.function F.call F.result F.locals F.labels Fs g co h.1.0 h.1.1 h.0 sh
+  frames_sim (F ∷ Fs) g co (w ∷ ws) h sh =
+      let f : FitsFrame M E gl None F w = h.1.0 in
+      labels_sim w.ctx w.ex w.ss ws F.function F.call F.result F.locals F.labels Fs g co (refit F.locals F.labels w.ex w.ss None F.call f refl refl f.labels) h.1.1 h.0 sh
 
   -- each step of the source is some steps of the target
   pub step_sim : (c : Config) (ws : List Wit) → FitsConfig M E gl W.result c ws → length c.frames ≤ M.depth → After M M' E gl W (image M W c ws) (step M c)

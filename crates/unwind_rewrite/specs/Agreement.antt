@@ -6,15 +6,15 @@ use Rattle.wasm_syntax.specs.Numbers.{type_of, types}
 use Rattle.wasm_syntax.specs.Tree.{Nodes, basic, Jump, Unreachable, Br, BrIf, BrTable, Return, Call, CallIndirect, stop, jump, block, loop, choose}
 use Rattle.wasm_syntax.specs.Host.{World}
 use Rattle.wasm_syntax.specs.Machine.{Kind, Label, Frame, Config, label, frame, config, Engine, leaves, again, returns, zero_of, result_of}
-use Rattle.unwind_rewrite.specs.Slots.{Place, Spilled, Known, Ctx, slot, added, less, grown, result_type, after_plain, greatest}
-use Rattle.unwind_rewrite.specs.Pieces.{from_result}
+use Rattle.unwind_rewrite.specs.Slots.{Place, Spilled, Known, Ctx, slot, kind_at, added, less, grown, result_type, after_plain, greatest}
+use Rattle.unwind_rewrite.specs.Pieces.{store, from_result}
 use Rattle.wasm_syntax.specs.declared.value.Value.TheVariants as values
 use Rattle.wasm_syntax.specs.declared.instruction.Basic.{Basic}
 use Rattle.wasm_syntax.specs.declared.instruction.Basic.TheVariants.{Const}
 use Rattle.wasm_syntax.specs.declared.parts.FuncType.{FuncType}
 use Rattle.wasm_syntax.specs.Module.{type_at}
 use Rattle.wasm_syntax.specs.Effect.{takes}
-use Rattle.unwind_rewrite.specs.Rewrite.{Info, in_block, in_loop, in_body, finish, after_call, rewrite, exit_code}
+use Rattle.unwind_rewrite.specs.Rewrite.{Info, in_block, in_loop, in_body, finish, after_call, test_both, rewrite, exit_code}
 use Rattle.unwind_rewrite.specs.Numbering.{mapped, place_in, global_types, helper_base, helped}
 use Rattle.linear_memory.specs.Memory.{Memory}
 use Rattle.wasm_syntax.specs.Run.{start_table}
@@ -32,14 +32,16 @@ Holds ex js [] (e ∷ es) = ⊥
 Holds ex js (v ∷ ops) [] = ⊥
 Holds ex js (v ∷ ops) (e ∷ es) = One ex (length (es ++ js)) e v × Holds ex js ops es
 
--- what a label waits for: results of a block, or of a call
+-- what a label waits for: results of a block, of a call, or of a call through the table, with the code that would hand over its arguments
 pub data Pending : Type 0 where
   Arrives : (a : Option ValType) → Pending
   Called : (o : ℕ) (r : Option ValType) → Pending
+  Through : (o : ℕ) (r : Option ValType) (others : Nodes) → Pending
 
 abbrev pub awaits : Pending → Option ValType
 awaits (Arrives a) = a
 awaits (Called o r) = r
+awaits (Through o r others) = r
 
 abbrev pub now : Pending
 now = Arrives None
@@ -48,6 +50,7 @@ now = Arrives None
 abbrev pub code_at : Ctx → List Info → List Place → Pending → Nodes → Nodes
 code_at C ls es (Arrives a) rest = from_result C a es (rewrite C ls (grown a es) rest)
 code_at C ls es (Called o r) rest = after_call C ls r es o (λ es'. rewrite C ls es' rest)
+code_at C ls es (Through o r others) rest = test_both C ls es o others (rewrite C ls (grown r es) rest)
 
 abbrev pub pending : Kind → Pending
 pending (leaves a) = Arrives a
@@ -78,14 +81,27 @@ t_labels C p (L ∷ Ls) [] = []
 t_labels C p (L ∷ Ls) (e ∷ ss) =
     label [] (code_at C (info L.kind ∷ infos Ls) (e ++ joined ss) p L.nodes) 0 (t_kind C (infos Ls) (joined ss) L.kind) ∷ t_labels C (pending L.kind) Ls ss
 
--- what the configuration does not say: the function's constants, the added locals, and what is known of each label's operands
+-- a call through the table is made inside an arm, which puts its result into its slot
+abbrev pub with_arm : Ctx → Pending → List Place → List Label → List Label
+with_arm C (Arrives a) es Ls = Ls
+with_arm C (Called o r) es Ls = Ls
+with_arm C (Through o r others) es Ls = label [] (store C r es stop) 0 (leaves None) ∷ Ls
+
+-- what the configuration does not say: the function's constants, the added locals, what is known of each label's operands, and where a
+-- call through the table is under way, the code that would hand over its arguments
 pub record Wit : Type 0 where
   pub ctx : Ctx
   pub ex : List Value
   pub ss : List (List Place)
+  pub others : Option Nodes
+
+abbrev pub pending_call : Option Nodes → ℕ → Option ValType → Pending
+pending_call None o r = Called o r
+pending_call (Some others) o r = Through o r others
 
 abbrev pub t_frame : Pending → Frame → Wit → Frame
-t_frame p F w = frame (mapped w.ctx.source w.ctx.index) w.ctx.result 0 (F.locals ++ w.ex) (t_labels w.ctx p F.labels w.ss)
+t_frame p F w =
+    frame (mapped w.ctx.source w.ctx.index) w.ctx.result 0 (F.locals ++ w.ex) (with_arm w.ctx p (joined w.ss) (t_labels w.ctx p F.labels w.ss))
 
 -- room in the slots, over the nodes of a list
 abbrev pub FitsIn : Ctx → Option ValType → List Place → Type 0
@@ -148,6 +164,11 @@ abbrev pub MemoryFits : Option Memory → Type 0
 MemoryFits None = Unit {0}
 MemoryFits (Some m) = (k : ℕ) × (length m.bytes ≡ 65536 * k) × (k ≤ 65535) × (m.max ≤ 65535)
 
+-- under a call through the table, the guard gave no kind
+abbrev pub NoKind : Ctx → List Value → Option Nodes → Type 0
+NoKind C ex None = Unit {0}
+NoKind C ex (Some others) = slice_get ex (kind_at C) ≡ Some (values.I32 0)
+
 pub record WorldFits (M : Engine) (gl : List ValType) (w : World) : Type 0 where
   pub globals : types w.globals ≡ gl
   pub memory : MemoryFits w.memory
@@ -165,6 +186,7 @@ pub record FitsFrame (M : Engine) (E : ℕ) (gl : List ValType) (a : Option ValT
   pub small : 2 * length w.ctx.locals + 2 * w.ctx.slots + 60 ≤ E
   pub narrow : length w.ctx.locals + w.ctx.slots ≤ (greatest M.program).0 + (greatest M.program).1
   pub labels : FitsOpen w.ctx w.ex a F.labels w.ss
+  pub no_kind : NoKind w.ctx w.ex w.others
 
 abbrev pub FitsFrames : Engine → ℕ → List ValType → Option ValType → Option ValType → List Frame → List Wit → Type 0
 FitsFrames M E gl wr r [] [] = r ≡ wr
@@ -193,7 +215,7 @@ w_frame W vs = frame W.idx W.result 0 W.locals (label vs W.rest 0 (returns W.res
 abbrev pub t_frames : Wrap → Option ValType → List Frame → List Wit → List Frame
 t_frames W r [] ws = w_frame W [] ∷ []
 t_frames W r (F ∷ Fs) [] = []
-t_frames W r (F ∷ Fs) (w ∷ ws) = t_frame (Called F.call r) F w ∷ t_frames W F.result Fs ws
+t_frames W r (F ∷ Fs) (w ∷ ws) = t_frame (pending_call w.others F.call r) F w ∷ t_frames W F.result Fs ws
 
 abbrev pub t_top : Wrap → List Frame → List Wit → List Frame
 t_top W [] ws = []

@@ -1,9 +1,11 @@
 -- The rewriting of a body: operands in slots by height, guards, and unwinding through a flag. Code is written in front of the code that
 -- goes on behind it.
-use Rattle.std.specs.Prelude.{ℕ, suc, ◌+◌, nat_lt, List, [], ◌∷◌, length, slice_get, Option, Some, None, option_map, Bool, true, false}
+use Rattle.std.specs.Prelude.{ℕ, zero, suc, ◌+◌, nat_lt, List, [], ◌∷◌, length, slice_get, Option, Some, None, option_map, Bool, true, false}
 use Rattle.wasm_syntax.specs.declared.value.ValType.{ValType}
 use Rattle.wasm_syntax.specs.declared.instruction.Basic.{Basic}
-use Rattle.wasm_syntax.specs.declared.instruction.Basic.TheVariants.{Nop, LocalGet, GlobalGet, GlobalSet, Const}
+use Rattle.wasm_syntax.specs.declared.value.ValType.TheVariants.{I32}
+use Rattle.int_ops.specs.declared.operators.Binary.TheVariants.{Or}
+use Rattle.wasm_syntax.specs.declared.instruction.Basic.TheVariants.{Nop, LocalGet, GlobalGet, GlobalSet, Const, Eqz, Binary}
 use Rattle.wasm_syntax.specs.declared.parts.FuncType.{FuncType}
 use Rattle.wasm_syntax.specs.Tree.{Jump, Unreachable, Br, BrIf, BrTable, Return, Call, CallIndirect, Nodes, stop, basic, jump, block, loop, choose}
 use Rattle.wasm_syntax.specs.Module.{type_at}
@@ -44,9 +46,18 @@ abbrev pub hand : Ctx → List Place → Nodes → Nodes
 hand C [] k = k
 hand C (e ∷ es) k = hand C es (fetch C e (length es) (hand_value C (place_type e) k))
 
+-- so many operands on top, the lowest first
+abbrev pub hand_top : Ctx → ℕ → List Place → Nodes → Nodes
+hand_top C zero es k = k
+hand_top C (suc m) [] k = k
+hand_top C (suc m) (e ∷ es) k = hand_top C m es (fetch C e (length es) (hand_value C (place_type e) k))
+
+abbrev pub to_exit : List Info → Nodes
+to_exit ls = jump 0 (Br (suc (length ls))) stop
+
 -- the offset is set, the operands are handed over, and the code goes to the exit
 abbrev pub unwind : Ctx → List Info → List Place → ℕ → Nodes
-unwind C ls es o = const (i32 o) (set C (offset_at C) (hand C es (jump 0 (Br (suc (length ls))) stop)))
+unwind C ls es o = const (i32 o) (set C (offset_at C) (hand C es (to_exit ls)))
 
 abbrev pub test_flag : Ctx → List Info → List Place → ℕ → Nodes → Nodes
 test_flag C ls es o k = basic 0 (GlobalGet (flag_of C.source)) (if_any (const (i32 0) (set C (kind_at C) (unwind C ls es o))) k)
@@ -119,12 +130,27 @@ call_code C ls es o f (Some type) go =
 abbrev pub helper_of : Ctx → ℕ → ℕ
 helper_of C t = C.base + place_in t C.helpers
 
+-- the operands left, and then these others where the guard gave a kind
+abbrev pub hand_left : Ctx → List Info → List Place → Nodes → Nodes
+hand_left C ls es others = hand C es (get C (kind_at C) (if_any others (to_exit ls)))
+
+-- where the guard gave a kind, or the flag is up
+abbrev pub test_both : Ctx → List Info → List Place → ℕ → Nodes → Nodes → Nodes
+test_both C ls es o others k =
+    get C (kind_at C) (basic 0 (GlobalGet (flag_of C.source)) (basic 0 (Binary I32 Or)
+    (if_any (const (i32 o) (set C (offset_at C) (hand_left C ls es others))) k)))
+
+-- where the guard gave no kind, the call is made; behind it, one piece of code hands over the operands left
 abbrev pub indirect_code : Ctx → List Info → List Place → ℕ → ℕ → Option FuncType → (List Place → Nodes) → Nodes
 indirect_code C ls es o t None go = stop
 indirect_code C ls [] o t (Some type) go = stop
 indirect_code C ls (i ∷ es) o t (Some type) go =
-    fetch C i (length es) (call (helper_of C t) (tested C ls (i ∷ es) o
-    (load C (suc (length type.params)) (i ∷ es) (jump 0 (CallIndirect t) (after_call C ls (result_of type) (less (length type.params) es) o go)))))
+    let n = length type.params in
+    let left = less n es in
+    let r = result_of type in
+    fetch C i (length es) (call (helper_of C t) (set C (kind_at C) (get C (kind_at C) (basic 0 (Eqz I32)
+    (if_any (load C (suc n) (i ∷ es) (jump 0 (CallIndirect t) (store C r left stop)))
+    (test_both C ls left o (hand_top C (suc n) (i ∷ es) stop) (go (grown r left))))))))
 
 abbrev pub control : Ctx → List Info → List Place → ℕ → Jump → (List Place → Nodes) → Nodes
 control C ls es o Unreachable go = const (i32 1) (tested C ls es o (jump 0 Unreachable stop))
