@@ -6,3 +6,5 @@ pub mod Control
 pub mod Unwind
 pub mod Calls
 pub mod Step
+pub mod TypedPieces
+pub mod TypedNodes

@@ -57,7 +57,7 @@ all_less ex (suc m) [] (e ∷ es) a = absurd a
 all_less ex (suc m) (v ∷ ops) [] a = absurd a
 all_less ex (suc m) (v ∷ ops) (e ∷ es) a = all_less ex m ops es a.1
 
-less_shorter : (m : ℕ) (es : List Place) → length (less m es) ≤ length es
+pub less_shorter : (m : ℕ) (es : List Place) → length (less m es) ≤ length es
 less_shorter zero es = omega arith
 less_shorter (suc m) [] = omega arith
 less_shorter (suc m) (e ∷ es) = omega (arith, less_shorter m es)

@@ -11,3 +11,4 @@ pub mod Agreement
 pub mod Telling
 pub mod Standing
 pub mod Promises
+pub mod Typed

@@ -6,6 +6,8 @@ ghost use Rattle.wasm_syntax.specs.declared.instruction.Basic.{Basic};
 ghost use Rattle.wasm_syntax.specs.Machine.{Engine};
 ghost use Rattle.unwind_rewrite.specs.Agreement.{Wrap};
 ghost use Rattle.unwind_rewrite.specs.Promises.{GuardTells, StepFollows};
+ghost use Rattle.unwind_rewrite.specs.Slots.{Ctx};
+ghost use Rattle.unwind_rewrite.specs.Typed.{BodyTyped};
 
 /// A guard changes nothing, and leaves the kind with which its instruction traps, or 0.
 pub fn guards_tell_kinds()
@@ -15,4 +17,9 @@ pub fn guards_tell_kinds()
 /// Each step of the original is some steps of the rewritten module, and at a trap all frames hand over their values.
 pub fn each_step_is_followed()
     ensures { (M M' : Engine) (E : ℕ) (gl : List ValType) (W : Wrap) → StepFollows M M' E gl W }
+{}
+
+/// The rewriting of a well-typed body is well typed in a module that has what its code names.
+pub fn rewritten_bodies_are_typed()
+    ensures { (C : Ctx) → BodyTyped C }
 {}
