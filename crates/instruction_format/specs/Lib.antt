@@ -1,0 +1,7 @@
+pub mod Spelled
+pub mod Form
+pub mod Table
+pub mod Grammar
+pub mod Reading
+pub mod Breaking
+pub mod Encoding
