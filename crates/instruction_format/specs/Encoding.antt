@@ -139,12 +139,16 @@ basic_bytes (basics.Extend64 narrow64.ThirtyTwo) = 0xc4 ∷ []
 abbrev pub targets_from : ℕ → ℕ → List ℕ → List ℕ
 targets_from start count targets = take count (drop start targets)
 
+-- a `br_table` with so many targets, and a default
+abbrev pub labels_bytes : ℕ → List ℕ → ℕ → List ℕ
+labels_bytes count targets default = 0x0e ∷ unsigned_bytes count ++ flat_map unsigned_bytes targets ++ unsigned_bytes default
+
 -- a jump of a body with those targets
 abbrev pub jump_bytes : List ℕ → Jump → List ℕ
 jump_bytes targets jumps.Unreachable = 0x00 ∷ []
 jump_bytes targets (jumps.Br l) = 0x0c ∷ unsigned_bytes l
 jump_bytes targets (jumps.BrIf l) = 0x0d ∷ unsigned_bytes l
-jump_bytes targets (jumps.BrTable start count default) = 0x0e ∷ unsigned_bytes count ++ flat_map unsigned_bytes (targets_from start count targets) ++ unsigned_bytes default
+jump_bytes targets (jumps.BrTable start count default) = labels_bytes count (targets_from start count targets) default
 jump_bytes targets jumps.Return = 0x0f ∷ []
 jump_bytes targets (jumps.Call f) = 0x10 ∷ unsigned_bytes f
 jump_bytes targets (jumps.CallIndirect t) = 0x11 ∷ unsigned_bytes t ++ 0x00 ∷ []

@@ -61,7 +61,7 @@ call_indirect x = alone (instr.Jump (CallIndirect x.0))
 abbrev pub is_block_type : ℕ → Bool
 is_block_type b = b == 0x40 || (b == 0x7f || (b == 0x7e || (b == 0x7d || b == 0x7c)))
 
--- a block of that type, whose byte is at that offset
+-- what opens a block of that type, whose byte is at that offset
 abbrev pub block : (Option ValType → Instr) → ℕ → ℕ → Spelled
 block to at b =
     if b == 0x40 then alone (to None)

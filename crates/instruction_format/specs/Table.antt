@@ -117,7 +117,7 @@ abbrev pub rows_from : ℕ → List Form → Rows
 rows_from first [] = []
 rows_from first (form ∷ forms) = (first, form) ∷ rows_from (first + 1) forms
 
-abbrev pub numeric : Rows
+unfoldable pub numeric : Rows
 numeric = rows_from 0x45 numeric_forms
 
 -- ---- the whole table

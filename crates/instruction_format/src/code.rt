@@ -1,5 +1,8 @@
 //! What bytes are read as.
 
+ghost use Rattle.std.specs.Prelude.{◌≡◌};
+ghost use Rattle.instruction_format.specs.Reading.{code_or_none};
+
 use wasm_syntax::{Instr, Labels};
 
 /// What an opcode and its immediates spell.
@@ -9,6 +12,18 @@ pub enum Code {
     /// An instruction that has a float type: the offset of the float opcode, or of the byte that is the type of a block,
     /// in bytes from the first byte of the input.
     Float { at: usize },
+}
+
+impl Code {
+    /// The instruction, unless it has a float type.
+    pub fn known(self) -> Option<Instr>
+        ensures { result ≡ code_or_none self }
+    {
+        match self {
+            Code::Known(code) => Some(code),
+            Code::Float { .. } => None,
+        }
+    }
 }
 
 /// An instruction that stands alone.

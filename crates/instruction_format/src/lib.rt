@@ -2,6 +2,13 @@
 #![tactic(auto)]
 
 mod code;
+mod control;
+mod memory;
+mod numeric;
+mod read;
 mod variable;
+mod write;
 
 pub use code::{Code, ReadInstr};
+pub use read::{read_code, read_instr};
+pub use write::write_instr;

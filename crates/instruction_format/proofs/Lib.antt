@@ -1,0 +1,5 @@
+pub mod Numbers
+pub mod Offsets
+pub mod Exact
+pub mod Stops
+pub mod Codes
