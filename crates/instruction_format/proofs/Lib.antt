@@ -3,3 +3,4 @@ pub mod Offsets
 pub mod Exact
 pub mod Stops
 pub mod Codes
+pub mod Encoded

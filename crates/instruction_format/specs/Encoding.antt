@@ -1,6 +1,6 @@
 -- The shortest spelling of an instruction (WebAssembly Core 1.0, 5.4).
-use Rattle.std.specs.Prelude.{ℕ, ◌+◌, ◌≤◌, List, [], ◌∷◌, ◌++◌, length, take, drop, Option, Some, None}
-use Rattle.std.specs.List.{flat_map}
+use Rattle.std.specs.Prelude.{◌≡◌, ℕ, ◌+◌, ◌^◌, ◌<◌, ◌≤◌, List, [], ◌∷◌, ◌++◌, length, take, drop, Option, Some, None}
+use Rattle.std.specs.List.{flat_map, AllByRecursion}
 use Rattle.std.specs.Int.{w32, w64, cast_signed}
 use Rattle.int_ops.specs.declared.operators.Unary.{Unary}
 use Rattle.int_ops.specs.declared.operators.Unary.TheVariants.{Clz, Ctz, Popcnt}
@@ -28,6 +28,8 @@ use Rattle.wasm_syntax.specs.declared.instruction.Jump.{Jump}
 use Rattle.wasm_syntax.specs.declared.instruction.Jump.TheVariants as jumps
 use Rattle.wasm_syntax.specs.declared.instruction.Instr.{Instr}
 use Rattle.wasm_syntax.specs.declared.instruction.Instr.TheVariants as instr
+use Rattle.instruction_format.specs.declared.code.Code.TheVariants.{Known}
+use Rattle.instruction_format.specs.Spelled.{Spelled}
 
 -- ---- opcodes
 
@@ -176,3 +178,53 @@ JumpInside targets _ = Unit {0}
 abbrev pub IsInside : List ℕ → Instr → Type 0
 IsInside targets (instr.Jump j) = JumpInside targets j
 IsInside targets _ = Unit {0}
+
+-- ---- what is written
+
+-- The numbers in an instruction have their widths.
+abbrev pub ValueFits : Value → Type 0
+ValueFits (value.I32 n) = n < 2 ^ 32
+ValueFits (value.I64 n) = n < 2 ^ 64
+
+abbrev pub BasicFits : Basic → Type 0
+BasicFits (basics.LocalGet x) = x < 2 ^ 32
+BasicFits (basics.LocalSet x) = x < 2 ^ 32
+BasicFits (basics.LocalTee x) = x < 2 ^ 32
+BasicFits (basics.GlobalGet x) = x < 2 ^ 32
+BasicFits (basics.GlobalSet x) = x < 2 ^ 32
+BasicFits (basics.Load l align offset) = (align < 2 ^ 32) × (offset < 2 ^ 32)
+BasicFits (basics.Store s align offset) = (align < 2 ^ 32) × (offset < 2 ^ 32)
+BasicFits (basics.Const v) = ValueFits v
+BasicFits _ = Unit {0}
+
+abbrev pub JumpFits : Jump → Type 0
+JumpFits (jumps.Br l) = l < 2 ^ 32
+JumpFits (jumps.BrIf l) = l < 2 ^ 32
+JumpFits (jumps.BrTable start count default) = (count < 2 ^ 32) × (default < 2 ^ 32)
+JumpFits (jumps.Call f) = f < 2 ^ 32
+JumpFits (jumps.CallIndirect t) = t < 2 ^ 32
+JumpFits _ = Unit {0}
+
+abbrev pub NumbersFit : Instr → Type 0
+NumbersFit (instr.Basic i) = BasicFits i
+NumbersFit (instr.Jump j) = JumpFits j
+NumbersFit _ = Unit {0}
+
+-- an instruction of a body with those targets
+pub record IsCode (targets : List ℕ) (i : Instr) : Type 0 where
+  pub numbers : NumbersFit i
+  pub labels : AllByRecursion (λ l. l < 2 ^ 32) targets
+  pub inside : IsInside targets i
+
+-- the targets of an instruction
+abbrev pub targets_of : List ℕ → Instr → List ℕ
+targets_of targets (instr.Jump (jumps.BrTable start count default)) = targets_from start count targets
+targets_of targets _ = []
+
+-- The targets before those of a `br_table` are so many.
+abbrev pub BeginsAt : ℕ → Instr → Type 0
+BeginsAt base (instr.Jump (jumps.BrTable start count default)) = start ≡ base
+BeginsAt base _ = Unit {0}
+
+abbrev pub spelled_of : List ℕ → Instr → Spelled
+spelled_of targets i = record { code = Known i; targets = targets_of targets i }

@@ -1,10 +1,11 @@
 //! Writing an instruction.
 
-ghost use Rattle.std.specs.Prelude.{◌≡◌, ◌+◌, ◌≤◌, [], ◌∷◌, ◌++◌, length, take, OnOk, OnErr};
+ghost use Rattle.std.specs.Prelude.{ℕ, ◌≡◌, ◌+◌, ◌≤◌, [], ◌∷◌, ◌++◌, length, take, OnOk, OnErr};
 ghost use Rattle.std.specs.List.{flat_map};
 ghost use Rattle.std.specs.Int.{w32, w64, cast_signed};
 ghost use Rattle.wasm_leb.specs.Writing.{unsigned_bytes, signed_bytes};
-ghost use Rattle.instruction_format.specs.Encoding.{load_opcode, store_opcode, unary_place, comparison_place, operation_place, by_type, conversion_opcode, two_numbers, constant_bytes, basic_bytes, targets_from, labels_bytes, jump_bytes, block_type_byte, encoding, IsInside, JumpInside};
+ghost use Rattle.instruction_format.specs.Encoding.{load_opcode, store_opcode, unary_place, comparison_place, operation_place, by_type, conversion_opcode, two_numbers, constant_bytes, basic_bytes, targets_from, labels_bytes, jump_bytes, block_type_byte, encoding, IsInside, JumpInside, BasicFits, IsCode, BeginsAt, spelled_of};
+ghost use Rattle.instruction_format.specs.Grammar.{instruction};
 
 use causes::NoMemory;
 use int_ops::{Binary, Compare, Narrow32, Narrow64, Unary};
@@ -240,6 +241,7 @@ fn push_labels(out: &mut Vec<u8>, count: u32, targets: &[u32], default: u32) -> 
 
 fn push_basic(out: &mut Vec<u8>, basic: Basic) -> Result<(), NoMemory>
     ensures exact { OnOk result (out.new.items ≡ out.old.items ++ basic_bytes basic) }
+    ensures fits { BasicFits basic }
     ensures front { take (length out.old.items) out.new.items ≡ out.old.items }
 {
     match basic {
@@ -308,9 +310,8 @@ fn push_instr(out: &mut Vec<u8>, code: &Instr, targets: &Labels) -> Result<(), N
     }
 }
 
-/// Appends the shortest spelling of an instruction of a body with these targets (Core 5.4), or leaves the bytes as they
-/// were.
-pub fn write_instr(out: &mut Vec<u8>, code: &Instr, targets: &Labels) -> Result<(), NoMemory>
+/// Appends the shortest spelling, or leaves the bytes as they were.
+fn append_instr(out: &mut Vec<u8>, code: &Instr, targets: &Labels) -> Result<(), NoMemory>
     requires { IsInside targets.now code.now }
     ensures exact { OnOk result (out.new.items ≡ out.old.items ++ encoding targets.now code.now) }
     ensures kept { OnErr result (out.new.items ≡ out.old.items) }
@@ -321,4 +322,15 @@ pub fn write_instr(out: &mut Vec<u8>, code: &Instr, targets: &Labels) -> Result<
         out.truncate(start);
     }
     done
+}
+
+/// Appends the shortest spelling of an instruction of a body with these targets (Core 5.4), or leaves the bytes as they
+/// were.
+pub fn write_instr(out: &mut Vec<u8>, code: &Instr, targets: &Labels) -> Result<(), NoMemory>
+    requires { IsInside targets.now code.now }
+    ensures exact { OnOk result (out.new.items ≡ out.old.items ++ encoding targets.now code.now) }
+    ensures kept { OnErr result (out.new.items ≡ out.old.items) }
+    ensures spelled { (base at : ℕ) → IsCode targets.now code.now → BeginsAt base code.now → instruction base (spelled_of targets.now code.now) at (encoding targets.now code.now) }
+{
+    append_instr(out, code, targets)
 }
