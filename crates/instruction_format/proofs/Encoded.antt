@@ -1,6 +1,6 @@
 -- The shortest spelling of an instruction spells it.
-use Rattle.std.proofs.Common.{◌≡◌, ℕ, zero, suc, ◌+◌, ◌^◌, ◌<◌, ◌≤◌, List, [], ◌∷◌, ◌++◌, length, take, drop, min, Option, Some, None, refl, sym, ap, subst, lit≤, lit<, arith, length-take, length-drop}
-use Rattle.std.specs.List.{flat_map, AllByRecursion}
+use Rattle.std.proofs.Common.{◌≡◌, ℕ, ◌+◌, ◌^◌, ◌<◌, ◌≤◌, List, [], ◌∷◌, ◌++◌, length, take, drop, min, Option, Some, None, refl, sym, ap, subst, lit≤, lit<, arith, length-take, length-drop}
+use Rattle.std.specs.List.{flat_map}
 use Rattle.std.specs.Int.{w32, w64, cast_signed}
 use Rattle.std.proofs.lemmas.Int.{of_z-to_z, ints}
 use Rattle.int_ops.specs.declared.operators.Unary.{Unary}
@@ -38,7 +38,7 @@ use Rattle.instruction_format.specs.Spelled.{Spelled, alone}
 use Rattle.instruction_format.specs.Form.{Form, bare, indexed, access, typed, labels, indirect, reserved, constant_i32, constant_i64, bulk, is_zero}
 use Rattle.instruction_format.specs.Table.{form_of, numeric, load, store}
 use Rattle.instruction_format.specs.Grammar.{immediates, behind_opcode, instruction}
-use Rattle.instruction_format.specs.Encoding.{load_opcode, store_opcode, comparison_place, unary_place, operation_place, by_type, conversion_opcode, two_numbers, constant_bytes, basic_bytes, targets_from, labels_bytes, jump_bytes, block_type_byte, encoding, JumpInside, IsInside, ValueFits, BasicFits, JumpFits, NumbersFit, IsCode, targets_of, BeginsAt, spelled_of}
+use Rattle.instruction_format.specs.Encoding.{load_opcode, store_opcode, comparison_place, unary_place, operation_place, by_type, conversion_opcode, two_numbers, constant_bytes, basic_bytes, targets_from, labels_bytes, jump_bytes, block_type_byte, encoding, JumpInside, IsInside, ValueFits, BasicFits, JumpFits, NumbersFit, IsCode, AllWords, targets_of, BeginsAt, spelled_of}
 
 abbrev some : Form → Option Form
 some form = Some form
@@ -193,21 +193,11 @@ constant_spells base at (value.I64 n) small =
 
 -- ---- a `br_table`
 
-numbers_spell : (xs : List ℕ) (at : ℕ) → AllByRecursion (λ l. l < 2 ^ 32) xs → items u32 xs at (flat_map unsigned_bytes xs)
+numbers_spell : (xs : List ℕ) (at : ℕ) → AllWords xs → items u32 xs at (flat_map unsigned_bytes xs)
 numbers_spell [] at small = refl
 numbers_spell (x ∷ xs) at small = (unsigned_bytes x, flat_map unsigned_bytes xs, number_spells x at small.0, numbers_spell xs (at + length (unsigned_bytes x)) small.1, refl)
 
-take_small : (n : ℕ) (xs : List ℕ) → AllByRecursion (λ l. l < 2 ^ 32) xs → AllByRecursion (λ l. l < 2 ^ 32) (take n xs)
-take_small zero xs small = tt
-take_small (suc n) [] small = tt
-take_small (suc n) (x ∷ xs) small = (small.0, take_small n xs small.1)
-
-drop_small : (n : ℕ) (xs : List ℕ) → AllByRecursion (λ l. l < 2 ^ 32) xs → AllByRecursion (λ l. l < 2 ^ 32) (drop n xs)
-drop_small zero xs small = small
-drop_small (suc n) [] small = tt
-drop_small (suc n) (x ∷ xs) small = drop_small n xs small.1
-
-labels_spell : (at count default : ℕ) (xs : List ℕ) → length xs ≡ count → count < 2 ^ 32 → default < 2 ^ 32 → AllByRecursion (λ l. l < 2 ^ 32) xs → pair (vector u32) u32 (xs, default) at ((unsigned_bytes count ++ flat_map unsigned_bytes xs) ++ unsigned_bytes default)
+labels_spell : (at count default : ℕ) (xs : List ℕ) → length xs ≡ count → count < 2 ^ 32 → default < 2 ^ 32 → AllWords xs → pair (vector u32) u32 (xs, default) at ((unsigned_bytes count ++ flat_map unsigned_bytes xs) ++ unsigned_bytes default)
 labels_spell at count default xs counted small last all =
     let counts : u32 (length xs) at (unsigned_bytes count) = subst (λ (n : ℕ). u32 n at (unsigned_bytes count)) (sym counted) (number_spells count at small) in
     let bytes = unsigned_bytes count ++ flat_map unsigned_bytes xs in
@@ -246,7 +236,7 @@ basic_spells base at (basics.Extend64 narrow64.Eight) fits = bare_spells base at
 basic_spells base at (basics.Extend64 narrow64.Sixteen) fits = bare_spells base at 0xc3 (instr.Basic (basics.Extend64 narrow64.Sixteen)) refl
 basic_spells base at (basics.Extend64 narrow64.ThirtyTwo) fits = bare_spells base at 0xc4 (instr.Basic (basics.Extend64 narrow64.ThirtyTwo)) refl
 
-jump_spells : (targets : List ℕ) (base at : ℕ) (j : Jump) → JumpFits j → AllByRecursion (λ l. l < 2 ^ 32) targets → JumpInside targets j → BeginsAt base (instr.Jump j) → instruction base (spelled_of targets (instr.Jump j)) at (jump_bytes targets j)
+jump_spells : (targets : List ℕ) (base at : ℕ) (j : Jump) → JumpFits j → AllWords (targets_of targets (instr.Jump j)) → JumpInside targets j → BeginsAt base (instr.Jump j) → instruction base (spelled_of targets (instr.Jump j)) at (jump_bytes targets j)
 unfolding form_of
 jump_spells targets base at jumps.Unreachable fits small inside from = bare_spells base at 0x00 (instr.Jump jumps.Unreachable) refl
 jump_spells targets base at (jumps.Br l) fits small inside from = indexed_spells base at 0x0c (λ n. instr.Jump (jumps.Br n)) l refl fits
@@ -254,9 +244,8 @@ jump_spells targets base at (jumps.BrIf l) fits small inside from = indexed_spel
 jump_spells targets base at (jumps.BrTable start count default) fits small inside from =
     let xs = targets_from start count targets in
     let counted = targets_counted start count targets inside in
-    let all = take_small count (drop start targets) (drop_small start targets small) in
     begins base at 0x0e labels (spelled_of targets (instr.Jump (jumps.BrTable start count default))) _ refl
-    ((xs, default), same xs start count default base (sym from) counted, labels_spell (at + 1) count default xs counted fits.0 fits.1 all)
+    ((xs, default), same xs start count default base (sym from) counted, labels_spell (at + 1) count default xs counted fits.0 fits.1 small)
   where
     same : (xs : List ℕ) (start count default base : ℕ) → base ≡ start → length xs ≡ count → (let s : Spelled = record { code = Known (instr.Jump (jumps.BrTable base (length xs) default)); targets = xs } in s) ≡ (let s : Spelled = record { code = Known (instr.Jump (jumps.BrTable start count default)); targets = xs } in s)
     same xs start count default base e f = cc

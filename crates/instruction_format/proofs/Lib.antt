@@ -4,3 +4,4 @@ pub mod Exact
 pub mod Stops
 pub mod Codes
 pub mod Encoded
+pub mod Meanings

@@ -210,16 +210,19 @@ NumbersFit (instr.Basic i) = BasicFits i
 NumbersFit (instr.Jump j) = JumpFits j
 NumbersFit _ = Unit {0}
 
--- an instruction of a body with those targets
-pub record IsCode (targets : List ℕ) (i : Instr) : Type 0 where
-  pub numbers : NumbersFit i
-  pub labels : AllByRecursion (λ l. l < 2 ^ 32) targets
-  pub inside : IsInside targets i
-
 -- the targets of an instruction
 abbrev pub targets_of : List ℕ → Instr → List ℕ
 targets_of targets (instr.Jump (jumps.BrTable start count default)) = targets_from start count targets
 targets_of targets _ = []
+
+abbrev pub AllWords : List ℕ → Type 0
+AllWords labels = AllByRecursion (λ l. l < 2 ^ 32) labels
+
+-- an instruction of a body with those targets
+pub record IsCode (targets : List ℕ) (i : Instr) : Type 0 where
+  pub numbers : NumbersFit i
+  pub labels : AllWords (targets_of targets i)
+  pub inside : IsInside targets i
 
 -- The targets before those of a `br_table` are so many.
 abbrev pub BeginsAt : ℕ → Instr → Type 0

@@ -5,3 +5,4 @@ pub mod Grammar
 pub mod Reading
 pub mod Breaking
 pub mod Encoding
+pub mod Meaning

@@ -1,9 +1,12 @@
 //! Reading an instruction.
 
 ghost use Rattle.std.specs.Prelude.{ℕ, ◌≡◌, ◌≢◌, ◌+◌, ◌^◌, ◌<◌, ◌≤◌, length, take, OnOk};
+ghost use Rattle.wasm_bytes.specs.declared.faults.ItemFault.TheVariants.{At};
 ghost use Rattle.wasm_bytes.specs.Place.{Moves, Stays};
 ghost use Rattle.wasm_bytes.specs.Answers.{Reads, Gives, with_state};
 ghost use Rattle.instruction_format.specs.Reading.{made, opcode_item, more_targets, labels_code, code_item, beside, instr_at, Answers};
+ghost use Rattle.instruction_format.specs.Meaning.{IsInstrAt, BreaksAt, Exactly};
+ghost use Rattle.instruction_format.specs.declared.code.ReadInstr.{ReadInstr};
 
 use crate::code::{Code, ReadInstr};
 use crate::control::read_control;
@@ -106,6 +109,8 @@ pub fn read_instr(
 ) -> Result<ReadInstr, ItemFault>
     requires { (at ≤ end) × (end ≤ length bytes.now) }
     ensures exact { Answers result (instr_at (take end bytes.now) at) }
+    ensures found { (x : ReadInstr) → Exactly result (Ok x) (IsInstrAt (take end bytes.now) at x) }
+    ensures broken { (o : ℕ) → Exactly result (Err (At o)) (BreaksAt (take end bytes.now) at o) }
 {
     instr_in(alloc, &bytes[..end], at)
 }

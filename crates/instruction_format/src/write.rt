@@ -4,7 +4,7 @@ ghost use Rattle.std.specs.Prelude.{ℕ, ◌≡◌, ◌+◌, ◌≤◌, [], ◌�
 ghost use Rattle.std.specs.List.{flat_map};
 ghost use Rattle.std.specs.Int.{w32, w64, cast_signed};
 ghost use Rattle.wasm_leb.specs.Writing.{unsigned_bytes, signed_bytes};
-ghost use Rattle.instruction_format.specs.Encoding.{load_opcode, store_opcode, unary_place, comparison_place, operation_place, by_type, conversion_opcode, two_numbers, constant_bytes, basic_bytes, targets_from, labels_bytes, jump_bytes, block_type_byte, encoding, IsInside, JumpInside, BasicFits, IsCode, BeginsAt, spelled_of};
+ghost use Rattle.instruction_format.specs.Encoding.{load_opcode, store_opcode, unary_place, comparison_place, operation_place, by_type, conversion_opcode, two_numbers, constant_bytes, basic_bytes, targets_from, labels_bytes, jump_bytes, block_type_byte, encoding, IsInside, JumpInside, BasicFits, AllWords, IsCode, BeginsAt, spelled_of};
 ghost use Rattle.instruction_format.specs.Grammar.{instruction};
 
 use causes::NoMemory;
@@ -229,6 +229,7 @@ fn push_numbers(out: &mut Vec<u8>, numbers: &[u32]) -> Result<(), NoMemory>
 /// Appends a `br_table` with these targets.
 fn push_labels(out: &mut Vec<u8>, count: u32, targets: &[u32], default: u32) -> Result<(), NoMemory>
     ensures exact { OnOk result (out.new.items ≡ out.old.items ++ labels_bytes count targets.now default) }
+    ensures words { AllWords targets.now }
     ensures front { take (length out.old.items) out.new.items ≡ out.old.items }
 {
     out.push(0x0e)?;
@@ -276,6 +277,7 @@ fn push_basic(out: &mut Vec<u8>, basic: Basic) -> Result<(), NoMemory>
 fn push_jump(out: &mut Vec<u8>, jump: Jump, targets: &Labels) -> Result<(), NoMemory>
     requires { JumpInside targets.now jump }
     ensures exact { OnOk result (out.new.items ≡ out.old.items ++ jump_bytes targets.now jump) }
+    ensures code { IsCode targets.now (Instr.Jump jump) }
     ensures front { take (length out.old.items) out.new.items ≡ out.old.items }
 {
     match jump {
@@ -297,6 +299,7 @@ fn push_jump(out: &mut Vec<u8>, jump: Jump, targets: &Labels) -> Result<(), NoMe
 fn push_instr(out: &mut Vec<u8>, code: &Instr, targets: &Labels) -> Result<(), NoMemory>
     requires { IsInside targets.now code.now }
     ensures exact { OnOk result (out.new.items ≡ out.old.items ++ encoding targets.now code.now) }
+    ensures code { IsCode targets.now code.now }
     ensures front { take (length out.old.items) out.new.items ≡ out.old.items }
 {
     match *code {
@@ -314,6 +317,7 @@ fn push_instr(out: &mut Vec<u8>, code: &Instr, targets: &Labels) -> Result<(), N
 fn append_instr(out: &mut Vec<u8>, code: &Instr, targets: &Labels) -> Result<(), NoMemory>
     requires { IsInside targets.now code.now }
     ensures exact { OnOk result (out.new.items ≡ out.old.items ++ encoding targets.now code.now) }
+    ensures code { IsCode targets.now code.now }
     ensures kept { OnErr result (out.new.items ≡ out.old.items) }
 {
     let start = out.len();
@@ -329,8 +333,9 @@ fn append_instr(out: &mut Vec<u8>, code: &Instr, targets: &Labels) -> Result<(),
 pub fn write_instr(out: &mut Vec<u8>, code: &Instr, targets: &Labels) -> Result<(), NoMemory>
     requires { IsInside targets.now code.now }
     ensures exact { OnOk result (out.new.items ≡ out.old.items ++ encoding targets.now code.now) }
+    ensures code { IsCode targets.now code.now }
     ensures kept { OnErr result (out.new.items ≡ out.old.items) }
-    ensures spelled { (base at : ℕ) → IsCode targets.now code.now → BeginsAt base code.now → instruction base (spelled_of targets.now code.now) at (encoding targets.now code.now) }
+    ensures spelled { (base at : ℕ) → BeginsAt base code.now → instruction base (spelled_of targets.now code.now) at (encoding targets.now code.now) }
 {
     append_instr(out, code, targets)
 }
