@@ -1,0 +1,62 @@
+-- Sizes of spellings.
+use Rattle.std.proofs.Common.{◌≡◌, ℕ, zero, suc, ◌+◌, ◌*◌, ◌/◌, ◌<◌, ◌≤◌, Bool, true, false, cond, List, [], ◌∷◌, ◌++◌, length, take, get_or, refl, sym, ap, subst, ◌∙◌, arith, append_assoc, length-append, ℤ, All}
+use Rattle.std.specs.Prelude.{nat_lt}
+use Rattle.std.specs.Int.{w32, cast_signed}
+use Rattle.std.specs.List.{flat_map}
+use Rattle.std.proofs.lemmas.List.{take_more, take_all}
+use Rattle.std.proofs.lemmas.List.Concat.{flat_map-append}
+use Rattle.wasm_leb.specs.Writing.{unsigned_groups, unsigned_bytes, fits_seven, signed_groups, signed_bytes, above_seven, low_seven}
+use Rattle.dump_format.specs.Region.{Region}
+use Rattle.dump_write.specs.Spelled.{segment_head, segment_bytes, vector_bytes}
+use Rattle.dump_write.proofs.Lists.{flat_map-one}
+
+-- a number has at most ten bytes
+one_or_more : (b : Bool) (k : ℕ) (xs ys : List ℕ) → length xs ≤ k → length ys ≤ k → length (cond b xs ys) ≤ k
+one_or_more true k xs ys one more = one
+one_or_more false k xs ys one more = more
+
+unsigned_long : (k n : ℕ) → length (unsigned_groups k n) ≤ suc k
+unfolding unsigned_groups
+unsigned_long zero n = omega arith
+unsigned_long (suc k) n = one_or_more (nat_lt n 128) (suc (suc k)) _ _ (omega arith) (omega (arith, unsigned_long k (n / 128)))
+
+signed_long : (k : ℕ) (z : ℤ) → length (signed_groups k z) ≤ suc k
+unfolding signed_groups
+signed_long zero z = omega arith
+signed_long (suc k) z = one_or_more (fits_seven z) (suc (suc k)) _ _ (omega arith) (omega (arith, signed_long k (above_seven z)))
+
+pub ten_bytes : (n : ℕ) → length (unsigned_bytes n) ≤ 10
+unfolding unsigned_bytes
+ten_bytes n = unsigned_long 9 n
+
+pub ten_signed : (z : ℤ) → length (signed_bytes z) ≤ 10
+unfolding signed_bytes
+ten_signed z = signed_long 9 z
+
+-- what stands before a segment is short
+pub head_short : (r : Region) → length (segment_head r) ≤ 32
+unfolding segment_head
+head_short r =
+    omega (arith, ten_bytes (length r.bytes), ten_signed (cast_signed w32 r.at), length-append (signed_bytes (cast_signed w32 r.at) ++ 0x0b ∷ []) (unsigned_bytes (length r.bytes)), length-append (signed_bytes (cast_signed w32 r.at)) (0x0b ∷ []))
+
+-- one segment more was counted
+pub size_more : (xs : List Region) (i size : ℕ) (counted : List ℕ) (r : Region) (head : List ℕ) → i < length xs → r ≡ get_or xs i r → head ≡ segment_head r
+    → size ≡ length counted + length (flat_map segment_bytes (take i xs)) → size + (length head + length r.bytes) ≡ length counted + length (flat_map segment_bytes (take (i + 1) xs))
+size_more xs i size counted r head inside is spelled so_far =
+    let grown : take (i + 1) xs ≡ take i xs ++ r ∷ [] = take_more xs i r inside ∙ ap (λ (q : Region). take i xs ++ q ∷ []) (sym is) in
+    let split : flat_map segment_bytes (take (i + 1) xs) ≡ flat_map segment_bytes (take i xs) ++ segment_bytes r =
+    ap (λ (ys : List Region). flat_map segment_bytes ys) grown ∙ flat_map-append segment_bytes (take i xs) (r ∷ []) ∙ ap (λ (bs : List ℕ). flat_map segment_bytes (take i xs) ++ bs) (flat_map-one segment_bytes r)
+    in
+    omega (arith, ap length split, length-append (flat_map segment_bytes (take i xs)) (segment_bytes r), length-append (segment_head r) r.bytes, ap length spelled)
+
+-- all segments were counted
+pub size_all : (xs : List Region) (i size : ℕ) (counted : List ℕ) → length xs ≤ i → counted ≡ unsigned_bytes (length xs) → size ≡ length counted + length (flat_map segment_bytes (take i xs)) → size ≡ length (vector_bytes segment_bytes xs)
+unfolding vector_bytes
+size_all xs i size counted past counts so_far =
+    so_far ∙ ap (λ (ys : List Region). length counted + length (flat_map segment_bytes ys)) (take_all i xs past)
+    ∙ ap (λ (bs : List ℕ). length bs + length (flat_map segment_bytes xs)) counts ∙ sym (length-append (unsigned_bytes (length xs)) (flat_map segment_bytes xs))
+
+pub size_within : (xs : List Region) (i size : ℕ) (r : Region) (head : List ℕ) → i < length xs → r ≡ get_or xs i r → All (λ q. length q.bytes ≤ 65536) xs → head ≡ segment_head r → size ≤ 10 + 70000 * i → size + (length head + length r.bytes) ≤ 10 + 70000 * (i + 1)
+size_within xs i size r head inside is small spelled so_far =
+    let bytes : length r.bytes ≤ 65536 = subst (λ (q : Region). length q.bytes ≤ 65536) (sym is) (small i r inside) in
+    omega (arith, bytes, head_short r, ap length spelled)

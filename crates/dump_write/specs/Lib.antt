@@ -1,0 +1,7 @@
+pub mod Spelled
+pub mod Pages
+pub mod Paged
+pub mod Pieces
+pub mod Canonical
+pub mod Typed
+pub mod Written

@@ -1,0 +1,12 @@
+//! Core dumps: the one list of bytes that is written of a dump.
+#![tactic(auto)]
+
+mod pages;
+mod parts;
+mod sections;
+mod segments;
+mod write;
+
+pub use causes::NoMemory;
+pub use pages::memory_segments;
+pub use write::{dump_bytes, write_dump};
