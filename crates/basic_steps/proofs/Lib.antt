@@ -1,3 +1,4 @@
 pub mod Frames
 pub mod InFrames
+pub mod Keeping
 pub mod Stacks

@@ -1,3 +1,4 @@
+pub mod Keeps
 pub mod Numeric
 pub mod Parts
 pub mod Performs

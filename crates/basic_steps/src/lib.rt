@@ -4,6 +4,7 @@
 
 mod access;
 mod answer;
+mod laws;
 mod memory;
 mod numeric;
 mod operands;
@@ -16,6 +17,7 @@ mod variables;
 
 pub use answer::{Performed, TrapKind};
 pub use causes::NoMemory;
+pub use laws::effects_keep;
 pub use shared::{Globals, Shared};
 pub use stack::Stack;
 pub use step::perform;

@@ -19,7 +19,7 @@ use wasm_syntax::{Convert, ValType, Value};
 
 /// Writes a result over the operand that it comes from.
 #[inline(always)]
-pub(crate) fn replace_one(values: &mut Stack<Value>, found: Option<Value>) -> Performed
+fn replace_one(values: &mut Stack<Value>, found: Option<Value>) -> Performed
     ensures found { IfSome found (λ v. values.new ≡ slice_set values.old 0 v) }
     ensures done { result ≡ Performed.Done }
 {
@@ -82,6 +82,7 @@ pub(crate) fn select(values: &mut Stack<Value>) -> Performed
             values.set_top(b);
             Performed::Done
         }
+        // The value that is left stands there already.
         _ => {
             values.discard(2);
             Performed::Done

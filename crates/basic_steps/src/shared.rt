@@ -29,6 +29,7 @@ impl Globals {
         Globals { items }
     }
 
+    /// The values, by their indices.
     pub fn as_slice(&self) -> &[Value]
         ensures { result.now ≡ self.now }
     {
@@ -54,7 +55,7 @@ impl Globals {
     }
 }
 
-/// The globals of an instance, and its memory if it has one.
+/// The globals of an instance, in the order of their indices, and its memory if it has one (Core 4.2.5).
 #[derive(Drop)]
 pub struct Shared {
     pub globals: Globals,
