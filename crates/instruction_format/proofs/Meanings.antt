@@ -49,6 +49,7 @@ here before front rest s is =
     (s, omega (arith, next), omega (arith, next, length-append before (front ++ rest), length-append front rest), subst (λ (t : List ℕ). instruction 0 s (length before) t) (sym bytes) is, refl, refl)
 
 found : (before after : List ℕ) (x : ReadInstr) → IsBytes after → instr_at (before ++ after) (length before) ≡ ok x → IsInstrAt (before ++ after) (length before) x
+unfolding instr_at
 found before after x fits e =
     let a = from_ok (instruction_item 0 (place before after)) x e in
     let t = (instruction_exact 0).sound before after a.0 a.1 fits a.2 in
@@ -61,6 +62,7 @@ read_is : (c d : Option Instr) (t u : List ℕ) (m n : ℕ) → c ≡ d → t �
 read_is c d t u m n e f g = cc
 
 again : (before after : List ℕ) (x : ReadInstr) → IsInstrAt (before ++ after) (length before) x → instr_at (before ++ after) (length before) ≡ ok x
+unfolding instr_at
 again before after x is =
     let s = is.0 in
     let n = x.next - length before in
@@ -81,11 +83,13 @@ from_err (Ok y) o e = absurd cc
 from_err (Err u) o e = let same : u ≡ o = cc in ap failed same
 
 breaks : (before after : List ℕ) (o : ℕ) → IsBytes after → instr_at (before ++ after) (length before) ≡ err o → BreaksAt (before ++ after) (length before) o
+unfolding instr_at
 breaks before after o fits e =
     let stops = (instruction_stops_at 0).only before after o fits (from_err (instruction_item 0 (place before after)) o e) in
     subst (λ (t : List ℕ). instruction_stops (length before) t o) (sym (drop-append_seam before after)) stops
 
 broken : (before after : List ℕ) (o : ℕ) → IsBytes after → BreaksAt (before ++ after) (length before) o → instr_at (before ++ after) (length before) ≡ err o
+unfolding instr_at
 broken before after o fits is =
     let stops = subst (λ (t : List ℕ). instruction_stops (length before) t o) (drop-append_seam before after) is in
     rw ((instruction_stops_at 0).again before after o fits stops) refl

@@ -132,7 +132,7 @@ instr_from (Ok x) = Ok (read_of x)
 instr_from (Err at) = Err at
 
 -- the instruction at an offset, in the bytes up to an end
-abbrev pub instr_at : List ℕ → ℕ → Result ReadInstr ℕ
+unfoldable pub instr_at : List ℕ → ℕ → Result ReadInstr ℕ
 instr_at block at = instr_from (instruction_item 0 (record { block = block; at = at }))
 
 -- A function answered that, or memory ran out.
