@@ -13,7 +13,7 @@ use Rattle.basic_steps.specs.Parts.{Acts, Moves, Changes}
 
 -- ---- a cut of a longer list
 
-cut_more : (n : ℕ) (vs more taken rest : List Value) → cut n vs ≡ parts taken rest → cut n (vs ++ more) ≡ parts taken (rest ++ more)
+pub cut_more : (n : ℕ) (vs more taken rest : List Value) → cut n vs ≡ parts taken rest → cut n (vs ++ more) ≡ parts taken (rest ++ more)
 cut_more zero vs more taken rest e =
     let t : [] ≡ taken = cc in
     let r : vs ≡ rest = cc in
@@ -49,7 +49,8 @@ weaker (fails kind) (Trap k) P Q f h = h
 weaker (fails kind) NoMemory P Q f h = h
 weaker unfit answer P Q f h = tt
 
-on_frame : (i : Basic) (w : World) (ls vs more : List Value) (answer : Performed) (P : World → List Value → List Value → Type 0) → Does (on_operands i w ls (vs ++ more)) answer P → Does (on_operands i w ls vs) answer (λ w' ls' rs. P w' ls' (rs ++ more))
+-- what is done to operands is done to them above others
+pub on_frame : (i : Basic) (w : World) (ls vs more : List Value) (answer : Performed) (P : World → List Value → List Value → Type 0) → Does (on_operands i w ls (vs ++ more)) answer P → Does (on_operands i w ls vs) answer (λ w' ls' rs. P w' ls' (rs ++ more))
 on_frame i w ls vs more answer P h = by_cut (cut (takes i) vs) refl
   where
     by_cut : (k : Cut) → cut (takes i) vs ≡ k → Does (on_cut i w ls k) answer (λ w' ls' rs. P w' ls' (rs ++ more))

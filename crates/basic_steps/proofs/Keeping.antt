@@ -103,7 +103,7 @@ module _ (w : World) (ls : List Value) where
   written : (o : Option Memory) → K (in_bounds o (λ m. gives (with_memory w m) ls []))
   written o = bounded o (λ m. gives (with_memory w m) ls []) new_memory
 
-  effect_keeps : (i : Basic) (vs : List Value) → K (effect i w ls vs)
+  pub effect_keeps : (i : Basic) (vs : List Value) → EffectKeeps w ls (effect i w ls vs)
   effect_keeps Nop vs = with_none (gives w ls []) vs same
   effect_keeps Drop vs = with_any (λ v. gives w ls []) vs (λ v. same)
   effect_keeps Select vs = with_choice (λ n b a. gives w ls ((if n == 0 then b else a) ∷ [])) vs (λ n b a. same)

@@ -583,3 +583,23 @@ fn variables(rt: HostRuntime) -> Result<(), Fail> {
     assert!(rt; matches!(shared.globals.as_slice(), [Value::I32(7), Value::I64(2)]));
     Ok(())
 }
+
+#[test]
+fn stack(rt: HostRuntime) -> Result<(), Fail> {
+    let mut stack = Stack::new(rt.alloc());
+    for n in [1u32, 2, 3, 4, 5] {
+        stack.push(n)?;
+    }
+    stack.discard(1);
+    stack.set_top(7);
+    stack.set_at(1, 0, 8);
+    assert!(rt; matches!(stack.as_slice(), [1, 8, 3, 7]));
+    assert_eq!(rt; stack.at(1, 1), Some(3));
+    assert_eq!(rt; stack.at(1, 3), None);
+    assert_eq!(rt; stack.peek(3), Some(1));
+    assert_eq!(rt; stack.peek(4), None);
+    stack.keep(2);
+    assert_eq!(rt; stack.pop(), Some(8));
+    assert_eq!(rt; stack.len(), 1);
+    Ok(())
+}
