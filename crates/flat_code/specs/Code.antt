@@ -1,7 +1,9 @@
 -- A function's code, and what it is prepared from.
-use Rattle.std.specs.Prelude.{◌≡◌, ℕ, ◌+◌, Bool, true, false, List, length, Option, Some, None, slice_get, nat_lt, if◌then◌else◌}
+use Rattle.std.specs.Prelude.{◌≡◌, ℕ, Bool, true, false, List, length, Option, Some, None, slice_get}
 use Rattle.wasm_syntax.specs.declared.value.ValType.{ValType}
 use Rattle.wasm_syntax.specs.declared.parts.FuncType.{FuncType}
+use Rattle.wasm_syntax.specs.declared.parts.Body.{Body}
+use Rattle.wasm_syntax.specs.Module.{Program, defined, defined_at}
 use Rattle.wasm_syntax.specs.Tree.{Tree, Placed, code_of}
 use Rattle.wasm_syntax.specs.Machine.{result_of}
 use Rattle.flat_code.specs.declared.code.Code.{Code}
@@ -21,6 +23,7 @@ pub record FitsCode (tree : Tree) (type : FuncType) (code : Code) : Type 0 where
   pub params : code.params ≡ length type.params
   pub gives : code.gives ≡ gives_one (result_of type)
 
--- the label that a `br_table` takes from the targets of its body
-abbrev pub target : List ℕ → ℕ → ℕ → ℕ → ℕ → Option ℕ
-target targets start count default n = if nat_lt n count then slice_get targets (start + n) else Some default
+-- the code of each function that is defined
+pub record Prepares (p : Program) (codes : List Code) : Type 0 where
+  pub at : (i : ℕ) (body : Body) (tree : Tree) (type : FuncType) → defined_at p i ≡ Some (defined body tree type) →
+      ((code : Code) × (slice_get codes i ≡ Some code) × (code.body.now ≡ body) × FitsCode tree type code)

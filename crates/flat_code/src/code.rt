@@ -1,9 +1,9 @@
 //! A function's code.
 
-ghost use Rattle.std.specs.Prelude.{◌≡◌, slice_get, IfOk};
+ghost use Rattle.std.specs.Prelude.{◌≡◌, slice_get, take, drop, IfOk};
 ghost use Rattle.wasm_syntax.specs.Tree.{Tree as CodeTree, Writes};
-ghost use Rattle.flat_code.specs.Code.{FitsCode, gives_one, target as target_of};
-ghost use Rattle.wasm_syntax.specs.Machine.{first};
+ghost use Rattle.flat_code.specs.Code.{FitsCode, gives_one};
+ghost use Rattle.wasm_syntax.specs.Machine.{first, pick};
 
 use crate::sides::{Side, side_table};
 use causes::NoMemory;
@@ -56,17 +56,19 @@ impl<'a> Code<'a> {
         self.sides.get(index).copied()
     }
 
-    /// The label to which a `br_table` goes (Core 4.4.5) with an operand, or None where its targets are not in the body.
-    pub fn target(&self, start: u32, count: u32, default: u32, operand: u32) -> Option<u32>
-        ensures { result ≡ target_of self.now.body.now.targets start count default operand }
+    /// The label to which a `br_table` goes with an operand (Core 4.4.5).
+    #[tactic(auto, using(crate::proofs::Targets::past))]
+    pub fn target(&self, start: u32, count: u32, default: u32, operand: u32) -> u32
+        ensures { result ≡ pick (take count (drop start self.now.body.now.targets)) default operand }
     {
         if operand < count {
-            self.body
-                .targets
-                .get(start as usize + operand as usize)
-                .copied()
+            let index = start as usize + operand as usize;
+            match self.body.targets.get(index).copied() {
+                Some(label) => label,
+                None => default,
+            }
         } else {
-            Some(default)
+            default
         }
     }
 }
