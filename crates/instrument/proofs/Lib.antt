@@ -17,3 +17,8 @@ pub mod WrittenOut
 pub mod Modules
 pub mod Copies
 pub mod Interface
+pub mod ValidBodies
+pub mod ValidModule
+pub mod Depths
+pub mod Heights
+pub mod NewSizes

@@ -367,6 +367,15 @@ module _ (p : Program) (ready : Ready p) where
   pub function_type_kept : (f : ℕ) (type : FuncType) → type_at m f ≡ Some type → type_at m' (mapped m f) ≡ Some type
   function_type_kept f type e = type_by f type (nat_lt f (import_count m)) refl e
 
+  pub import_types : (t : ValType) → type_at m' (value_import m t) ≡ Some (value_type t)
+  import_types t = type_is_import p' (value_import m t) (value_of_type t) (value_type t) (value_is t)
+
+  pub frame_types : type_at m' (frame_import m) ≡ Some frame_type
+  frame_types = type_is_import p' (frame_import m) _ frame_type frame_is
+
+  pub helper_type_there : (t : ℕ) → Has t (helped p) → type_at m' (helper_base m + place_in t (helped p)) ≡ Some helper_type
+  helper_type_there t has = type_is_of p' (helper_base m + place_in t (helped p)) _ (helper_linked 0 t has).target
+
   -- the rewritten module stands for the old one
   pub stands : (d : ℕ) → Stands (engine p false d) (engine p' true (d + 2)) half (global_types m)
   stands d = record {

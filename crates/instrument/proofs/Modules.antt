@@ -1,13 +1,17 @@
 -- From a module that is rewritten to its program.
-use Rattle.std.proofs.Common.{◌≡◌, ℕ, zero, suc, ◌+◌, ◌≤◌, List, [], ◌∷◌, length, map, Option, Some, None, refl, subst, slice_get, arith, length-append}
-use Rattle.std.specs.Prelude.{replicate, sum}
+use Rattle.std.proofs.Common.{◌≡◌, ℕ, zero, suc, ◌+◌, ◌*◌, ◌≤◌, Bool, true, false, ◌&&◌, if◌then◌else◌, option_map, List, [], ◌∷◌, length, map, Option, Some, None, refl, subst, slice_get, arith, length-append}
+use Rattle.std.specs.Prelude.{replicate, sum, find, bytes_eq}
 use Rattle.wasm_syntax.specs.declared.value.ValType.{ValType}
 use Rattle.wasm_syntax.specs.declared.instruction.Op.{Op}
 use Rattle.wasm_syntax.specs.declared.parts.Body.{Body}
 use Rattle.wasm_syntax.specs.declared.instruction.Instr.TheVariants as instrs
 use Rattle.wasm_syntax.specs.declared.module.ModuleParts.{ModuleParts as Module}
 use Rattle.wasm_syntax.specs.Tree.{Nodes, stop, basic, jump, block, loop, choose, Tree, Item, Plain, End, placed, else_out, write, code_of, Writes, Placed, item_of}
-use Rattle.wasm_syntax.specs.Module.{Program, Function, imported, defined, function_at, type_at, declared_locals, AllWrite}
+use Rattle.wasm_syntax.specs.Module.{Program, Function, imported, defined, function_at, type_at, declared_locals, AllWrite, is_function}
+use Rattle.wasm_syntax.specs.declared.parts.Export.{Export}
+use Rattle.wasm_laws.proofs.Validity.{typed}
+use Rattle.instrument.specs.Weight.{entry_weight, exports_weight}
+use Rattle.instrument.proofs.Heights.{heights_low}
 use Rattle.instrument.specs.Given.{Given, SmallCode}
 use Rattle.wasm_syntax.specs.declared.parts.LocalGroup.{LocalGroup}
 use Rattle.unwind_rewrite.specs.Numbering.{import_count}
@@ -79,7 +83,7 @@ small_trees (b ∷ bs) (t ∷ ts) (suc f) tree w h e = small_trees bs ts f tree 
 
 -- ---- locals
 
-length-declared : (groups : List LocalGroup) → length (declared_locals groups) ≡ sum (map (λ g. g.count) groups)
+pub length-declared : (groups : List LocalGroup) → length (declared_locals groups) ≡ sum (map (λ g. g.count) groups)
 length-declared [] = refl
 length-declared (g ∷ gs) =
     let more : sum (g.count ∷ map (λ g. g.count) gs) ≡ g.count + sum (map (λ g. g.count) gs) = sum_by-cons (λ n. n) g.count (map (λ g. g.count) gs) in
@@ -98,10 +102,20 @@ module _ (m : Module) (x : Instrumentable m) where
   locals_at f (Some (imported i type)) e = omega arith
   locals_at f (Some (defined b tree type)) e =
       let d = is_defined p f b tree type e in
-      let bound : local_count (type_at m (length m.imports + d.number)) b ≤ 10000 = x.few_locals d.number b d.body_is in
+      let bound : local_count (type_at m (length m.imports + d.number)) b ≤ 10000 = x.lightness.few_locals d.number b d.body_is in
       let tf : type_at m (length m.imports + d.number) ≡ Some type = subst (λ g. type_at m g ≡ Some type) d.number_is (type_is_of p f (defined b tree type) e) in
       let bound' : length type.params + sum (map (λ g. g.count) b.groups) ≤ 10000 = subst (λ o. local_count o b ≤ 10000) tf bound in
       omega (arith, bound', length-declared b.groups, length-append type.params (declared_locals b.groups))
+
+  -- the globals weigh, where something is exported
+  globals_weigh : (name : List ℕ) (es : List Export) (f : ℕ) → option_map (λ e. e.index) (find (λ e. is_function e.kind && bytes_eq e.name name) es) ≡ Some f → 16 * length m.globals ≤ exports_weight m es
+  globals_weigh name [] f h = absurd (cc)
+  globals_weigh name (e ∷ es) f h = by_test (is_function e.kind) (bytes_eq e.name name) h (globals_weigh name es f)
+    where
+      by_test : (q b : Bool) → option_map (λ e. e.index) (if q && b then Some e else find (λ e. is_function e.kind && bytes_eq e.name name) es) ≡ Some f → (option_map (λ e. e.index) (find (λ e. is_function e.kind && bytes_eq e.name name) es) ≡ Some f → 16 * length m.globals ≤ exports_weight m es) → 16 * length m.globals ≤ (if q then entry_weight m e.index else 0) + exports_weight m es
+      by_test true true h ih = omega arith
+      by_test true false h ih = omega arith
+      by_test false b h ih = omega (arith, ih h)
 
   pub module_given : Given (program_of m x.whole)
   module_given = record {
@@ -112,6 +126,6 @@ module _ (m : Module) (x : Instrumentable m) where
     small = λ f tree e. small_trees m.bodies x.whole.trees f tree x.whole.write x.small e;
     pages = x.limits_.memories;
     few_locals = most_bound (λ f. sizes p f (function_at p f)) 10000 (λ f. locals_at f (function_at p f) refl) (import_count m) m.bodies;
-    few_heights = x.few_heights;
-    few_globals = x.few_globals;
+    few_heights = heights_low p x.whole.write (typed p x.whole.write x.whole.as_many x.valid) x.lightness.heights x.lightness.heights_are 1000 x.lightness.low;
+    few_globals = λ name f e. (let g = globals_weigh name m.exports f e in omega (arith, g, x.lightness.light));
   }

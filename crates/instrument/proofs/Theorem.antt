@@ -1,9 +1,11 @@
 -- From a valid program within the limits to the simulation.
-use Rattle.std.proofs.Common.{◌≡◌, ℕ, zero, suc, ◌+◌, ◌*◌, ◌<◌, ◌≤◌, ◌==◌, List, [], ◌∷◌, ◌++◌, length, map, Option, Some, None, Bool, true, false, refl, sym, ap, ◌∙◌, subst, arith, length-append, ◌⊎◌, inl, inr, slice_get, option_map, if◌then◌else◌, take, drop, replicate, leb-true, length-drop, length-take-le, unwrap_or, true≢false}
+use Rattle.std.proofs.Common.{◌≡◌, ℕ, zero, suc, ◌+◌, ◌*◌, ◌<◌, ◌≤◌, ◌==◌, List, [], ◌∷◌, ◌++◌, length, map, Option, Some, None, Bool, true, false, refl, sym, ap, ◌∙◌, subst, arith, length-append, ◌⊎◌, inl, inr, slice_get, option_map, if◌then◌else◌, take, drop, replicate, leb-true, length-drop, length-take-le, unwrap_or, true≢false, subst₂, mul-le-mul}
 use Rattle.wasm_syntax.specs.declared.parts.Body.{Body}
 use Rattle.wasm_syntax.specs.Tree.{Unreachable, Br, BrIf, BrTable, Return, Call, CallIndirect, Nodes, stop, basic, jump, block, loop, choose, Tree}
 use Rattle.wasm_syntax.specs.declared.module.ModuleParts.{ModuleParts as Module}
-use Rattle.wasm_syntax.specs.Module.{Program, AllWrite}
+use Rattle.wasm_syntax.specs.Module.{Program, AllWrite, function_export}
+use Rattle.wasm_syntax.specs.declared.host.Reply.{Reply}
+use Rattle.unwind_rewrite.specs.Slots.{greatest}
 use Rattle.unwind_rewrite.specs.Numbering.{place_in, helped, uses, distinct, is_in}
 use Rattle.unwind_rewrite.specs.Rewrite.{body}
 use Rattle.linear_memory.specs.Memory.{Memory}
@@ -11,14 +13,16 @@ use Rattle.std.proofs.lemmas.List.{length-replicate}
 use Rattle.unwind_rewrite.specs.Agreement.{Has, MemoryFits}
 use Rattle.std.proofs.lemmas.Bool.{eqb-true, eq-eqb}
 use Rattle.std.specs.Prelude.{flat_map, fold, min}
-use Rattle.instrument.specs.Instrument.{instrument, multiple}
+use Rattle.instrument.specs.Instrument.{instrument, multiple, new_module}
 use Rattle.instrument.proofs.Bounds.{Static}
 use Rattle.std.specs.List.{AllByRecursion}
 use Rattle.wasm_syntax.specs.declared.parts.DataSeg.{DataSeg}
 use Rattle.wasm_syntax.specs.declared.parts.Limits.{Limits}
-use Rattle.wasm_syntax.specs.Run.{first_false, empty_memory, memory_bytes, data_at, element_fits, data_fits, by_data, by_element}
+use Rattle.wasm_syntax.specs.Run.{Cause, Invocation, not_begun, first_false, empty_memory, memory_bytes, data_at, element_fits, data_fits, by_data, by_element, cause_of, cause_of_entry, cause_of_segments, or_else, unless, engine, run}
 use Rattle.wasm_syntax.specs.Run as runs_
-use Rattle.instrument.specs.Simulates.{Simulates}
+use Rattle.instrument.specs.Simulates.{Simulates, AllAlike, NoneDeep}
+use Rattle.instrument.proofs.Links.{Ready}
+use Rattle.instrument.proofs.Start.{segments_same, unnamed}
 use Rattle.instrument.proofs.Final.{Fits}
 use Rattle.wasm_laws.proofs.Never.{Startable, never_stuck as never_stuck_all}
 use Rattle.instrument.proofs.Sessions.{simulates_all}
@@ -149,20 +153,69 @@ few_pages m (l ∷ ls) h = h.0
 pub startable_given : (p : Program) → Given p → Startable p
 startable_given p g = startable p g.program g.as_many g.valid
 
-fits_given : (p : Program) → Given p → Fits p
-fits_given p g =
+pub ready_given : (p : Program) → Given p → Ready p
+ready_given p g = record { bodies = g.as_many; trees = same_count p.module_.bodies p.trees g.program ∙ g.as_many; imports = g.no_collision; static = λ f tree e. static_of (helped p) tree.nodes (g.small f tree e) (λ t h. has_in t (helped p) (in_distinct t (flat_map (λ tree. uses tree.nodes) p.trees) (in_trees t f p.trees tree e h))) }
+
+fits_given : (p : Program) → Given p → length p.module_.globals ≤ 20000000 → Fits p
+fits_given p g few =
     let s = startable_given p g in
     record {
-      ready = record { bodies = g.as_many; trees = same_count p.module_.bodies p.trees g.program ∙ g.as_many; imports = g.no_collision; static = λ f tree e. static_of (helped p) tree.nodes (g.small f tree e) (λ t h. has_in t (helped p) (in_distinct t (flat_map (λ tree. uses tree.nodes) p.trees) (in_trees t f p.trees tree e h))) };
+      ready = ready_given p g;
       globals = (s.world []).globals;
       memory = λ e. memory_by p.module_ p.module_.memories refl (few_pages p.module_ p.module_.memories g.pages) (all_true 0 _ (segments_true p.module_ (first_false 0 (map (element_fits p.module_) p.module_.elements)) e));
       exported = s.exported;
       start = s.start;
       few_locals = g.few_locals;
       few_heights = g.few_heights;
-      few_globals = g.few_globals;
+      few_globals = few;
     }
+
+-- ---- where nothing can be invoked, both modules say so
+
+-- neither starts
+not_started_alike : (c : Cause) (n : ℕ) → AllAlike (not_begun c n ∷ []) (not_begun c n ∷ [])
+not_started_alike c n = (record { begun = refl; host_calls = refl; ends = (refl, refl); state = tt }, tt)
+
+enough : (n l f : ℕ) → n ≤ (n + 2 * l) * (200 + 8 * f)
+enough n l f = let z : (n + 2 * l) * 1 ≤ (n + 2 * l) * (200 + 8 * f) = mul-le-mul (omega arith) (omega arith) in omega (arith, z)
+
+module _ (p : Program) (given : Given p) where
+  abbrev E : ℕ
+  E = multiple p
+
+  abbrev SimulatesHere : List Invocation → List Reply → ℕ → ℕ → Type 0
+  SimulatesHere is replies d n = (k : ℕ) × (n ≤ k) × (k ≤ (n + 2 * length is) * E) × AllAlike (run p false is replies d n) (run (instrument p) true is replies (d + 2) k)
+
+  -- both have this cause, or both have none and nothing is invoked
+  by_cause : (is : List Invocation) (replies : List Reply) (d n : ℕ) (c : Cause) → cause_of p.module_ is ≡ Some c → cause_of (new_module p) is ≡ Some c → SimulatesHere is replies d n
+  by_cause is replies d n c e e' = (
+    n,
+    omega arith,
+    enough n (length is) ((greatest p).0 + (greatest p).1 + length p.module_.globals),
+    subst₂ (λ a b. AllAlike (unless (engine p false d) a is replies n) (unless (engine (instrument p) true (d + 2)) b is replies n)) (sym e) (sym e') (not_started_alike c n),
+  )
+
+  no_calls : (replies : List Reply) (d n : ℕ) (c : Option Cause) → cause_of_segments p.module_ ≡ c → SimulatesHere [] replies d n
+  no_calls replies d n (Some c) e = by_cause [] replies d n c e (segments_same p ∙ e)
+  no_calls replies d n None e = (
+    n,
+    omega arith,
+    enough n 0 ((greatest p).0 + (greatest p).1 + length p.module_.globals),
+    subst₂ (λ a b. AllAlike (unless (engine p false d) a [] replies n) (unless (engine (instrument p) true (d + 2)) b [] replies n)) (sym e) (sym (segments_same p ∙ e)) tt,
+  )
+
+  no_export : (i : Invocation) (is : List Invocation) (replies : List Reply) (d n : ℕ) → function_export p.module_ i.name ≡ None → SimulatesHere (i ∷ is) replies d n
+  no_export i is replies d n e =
+      by_cause (i ∷ is) replies d n runs_.no_export (ap (λ q. or_else (cause_of_entry p.module_ q i.args) (cause_of p.module_ is)) e) (ap (λ q. or_else (cause_of_entry (new_module p) q i.args) (cause_of (new_module p) is)) (unnamed p i.name e))
+
+  with_export : (is : List Invocation) (replies : List Reply) (d n : ℕ) → 1 ≤ d → d ≤ 10000 → NoneDeep (run p false is replies d n) → length p.module_.globals ≤ 20000000 → SimulatesHere is replies d n
+  with_export is replies d n d1 d2 nd few = simulates_all p (fits_given p given few) (λ is replies d n. never_stuck_all p (startable_given p given) false is replies d n) is replies d n d1 d2 nd
+
+  by_export : (i : Invocation) (is : List Invocation) (replies : List Reply) (d n : ℕ) (q : Option ℕ) → function_export p.module_ i.name ≡ q → 1 ≤ d → d ≤ 10000 → NoneDeep (run p false (i ∷ is) replies d n) → SimulatesHere (i ∷ is) replies d n
+  by_export i is replies d n None e d1 d2 nd = no_export i is replies d n e
+  by_export i is replies d n (Some f) e d1 d2 nd = with_export (i ∷ is) replies d n d1 d2 nd (given.few_globals i.name f e)
 
 -- the rewritten module does what the module does, for every list of invocations on one instance
 pub rewriting_simulates : (p : Program) → Given p → Simulates (multiple p) p (instrument p)
-rewriting_simulates p g = simulates_all p (fits_given p g) (λ is replies d n. never_stuck_all p (startable_given p g) false is replies d n)
+rewriting_simulates p g [] replies d n d1 d2 nd = no_calls p g replies d n (cause_of_segments p.module_) refl
+rewriting_simulates p g (i ∷ is) replies d n d1 d2 nd = by_export p g i is replies d n (function_export p.module_ i.name) refl d1 d2 nd

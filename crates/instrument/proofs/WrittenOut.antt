@@ -109,12 +109,18 @@ pairs_map : (code : ℕ → Nodes) → ((f : ℕ) → IsTree (code f)) → (fs :
 pairs_map code it [] = tt
 pairs_map code it (f ∷ fs) = (pair_of [] (code f) (it f), pairs_map code it fs)
 
-tree_at : (bodies : List Body) (trees : List Tree) (j : ℕ) (tree : Tree) → AllWrite bodies trees → slice_get trees j ≡ Some tree → IsTree tree.nodes
+pub tree_at : (bodies : List Body) (trees : List Tree) (j : ℕ) (tree : Tree) → AllWrite bodies trees → slice_get trees j ≡ Some tree → IsTree tree.nodes
 tree_at [] [] j tree w e = absurd (cc)
 tree_at [] (t ∷ ts) j tree w e = absurd w
 tree_at (b ∷ bs) [] j tree w e = absurd w
 tree_at (b ∷ bs) (t ∷ ts) zero tree w e = let z : t ≡ tree = cc in subst (λ x. IsTree x.nodes) z w.0.arms
 tree_at (b ∷ bs) (t ∷ ts) (suc j) tree w e = tree_at bs ts j tree w.1 e
+
+pub writes_at : (bodies : List Body) (trees : List Tree) (j : ℕ) (body : Body) (tree : Tree) → AllWrite bodies trees → slice_get bodies j ≡ Some body → slice_get trees j ≡ Some tree → Writes body.targets body.ops tree
+writes_at [] trees j body tree w e d = absurd (cc)
+writes_at (b ∷ bs) [] j body tree w e d = absurd w
+writes_at (b ∷ bs) (t ∷ ts) zero body tree w e d = let y : b ≡ body = cc in let z : t ≡ tree = cc in subst (λ b. Writes b.targets b.ops tree) y (subst (λ t. Writes b.targets b.ops t) z w.0)
+writes_at (b ∷ bs) (t ∷ ts) (suc j) body tree w e d = writes_at bs ts j body tree w.1 e d
 
 module _ (p : Program) (w : IsProgram p) (typed : Typed p) where
   pair_at : (f : ℕ) (q : Option Function) → function_at p f ≡ q → Pair (new_body p f q) (new_tree p f q)

@@ -14,6 +14,7 @@ use Rattle.wasm_syntax.specs.declared.host.CollectorCall.{CollectorCall}
 use Rattle.wasm_syntax.specs.declared.host.CollectorCall.TheVariants.{ValueI32, Frame}
 use Rattle.wasm_syntax.specs.Run.{Outcome, finished, trapped, Ran, Invocation, run}
 use Rattle.instrument.specs.Instrument.{instrument}
+use Rattle.instrument.specs.Weight.{weight}
 
 abbrev op : ℕ → ℕ → Instr → Op
 op at len code = record { at = at; len = len; code = code }
@@ -65,3 +66,7 @@ pub record HandsOver : Type 0 where
   pub rewritten : outcomes rewritten_runs ≡ trapped 1 ∷ finished (Some (values.I32 4)) ∷ []
   -- the two operands, the two locals, kind 2 in function 0 at offset 5 with two locals, and no globals
   pub handed_over : calls rewritten_runs ≡ (ValueI32 7 ∷ ValueI32 0 ∷ ValueI32 7 ∷ ValueI32 0 ∷ Frame 2 0 5 2 ∷ Frame 255 0 0 0 ∷ []) ∷ [] ∷ []
+
+-- 512 for the module, 208, 224, 232 and 216 for the instructions, 224 for the function, 160 for the export, and 8 for each of 41 bytes
+abbrev pub Weighs : Type 0
+Weighs = weight divider.module_ ((0 ∷ 1 ∷ 2 ∷ 1 ∷ []) ∷ []) ≡ 2104

@@ -1,11 +1,11 @@
 -- What the rewriting asks of a program, so that its result does what the program does.
-use Rattle.std.specs.Prelude.{◌≡◌, ℕ, ◌≤◌, false, Some, length, slice_get, bytes_eq, codes}
+use Rattle.std.specs.Prelude.{◌≡◌, ℕ, ◌≤◌, false, Some, length, slice_get, List, bytes_eq, codes}
 use Rattle.std.specs.List.{AllByRecursion}
 use Rattle.wasm_syntax.specs.declared.parts.Import.{Import}
 use Rattle.wasm_syntax.specs.declared.quantity.Quantity.TheVariants.{Memory, InstrumentLocals, InstrumentHeight}
 use Rattle.wasm_syntax.specs.Quantity as limits
 use Rattle.wasm_syntax.specs.Tree.{Nodes, stop, basic, jump, block, loop, choose, Tree}
-use Rattle.wasm_syntax.specs.Module.{Program, IsProgram}
+use Rattle.wasm_syntax.specs.Module.{Program, IsProgram, function_export}
 use Rattle.wasm_syntax.specs.Valid.{Valid}
 use Rattle.unwind_rewrite.specs.Offsets.{SmallOffset}
 use Rattle.unwind_rewrite.specs.Slots.{greatest}
@@ -34,5 +34,5 @@ pub record Given (p : Program) : Type 0 where
   -- each function is within the limits of the rewriting on locals, with parameters, and on the operand height
   pub few_locals : (greatest p).0 ≤ limits.greatest InstrumentLocals
   pub few_heights : (greatest p).1 ≤ limits.greatest InstrumentHeight
-  -- the globals of all dumps fit into a whole list of collector calls: each global takes bytes of the module, whose number is limited
-  pub few_globals : length p.module_.globals ≤ 20000000
+  -- the globals of a dump fit into a whole list of collector calls, where something can be invoked
+  pub few_globals : (name : List ℕ) (f : ℕ) → function_export p.module_ name ≡ Some f → length p.module_.globals ≤ 20000000

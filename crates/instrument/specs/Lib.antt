@@ -5,5 +5,7 @@ pub mod Simulates
 pub mod Given
 pub mod Example
 pub mod Bare
+pub mod Weight
 pub mod Instrumentable
 pub mod Interface
+pub mod LowSizes

@@ -11,7 +11,9 @@ ghost use Rattle.instrument.specs.Instrumentable.{Instrumentable, program_of};
 ghost use Rattle.instrument.specs.Instrument.{instrument, new_module, multiple};
 ghost use Rattle.instrument.specs.Interface.{KeepsInterface};
 ghost use Rattle.instrument.specs.Simulates.{Simulates};
-ghost use Rattle.instrument.specs.Example.{divider, HandsOver};
+ghost use Rattle.instrument.specs.Example.{divider, HandsOver, Weighs};
+ghost use Rattle.instrument.specs.LowSizes.{LowSizes};
+ghost use Rattle.wasm_syntax.specs.Valid.{Valid};
 
 /// The rewritten module does what the module does: for every list of invocations, with any arguments, replies, depth and number of steps, it
 /// makes the same host calls and each invocation comes to the same end. Where one traps, its collector calls hand over the dump of the
@@ -48,6 +50,21 @@ pub fn offsets_change_no_run()
 /// The imports are those of the module and then the collector's three, and the exports those of the module and then its memory.
 pub fn interface_is_kept()
     ensures { (p : Program) → KeepsInterface p.module_ (new_module p) }
+{}
+
+/// The rewritten module is valid.
+pub fn rewritten_module_is_valid()
+    ensures { (m : Parts) (these : Instrumentable m) → Valid (new_module (program_of m these.whole)) }
+{}
+
+/// It is within the limits of the decoder, but for its bytes: locals, nesting, table and memory.
+pub fn rewritten_module_is_within_limits()
+    ensures { (m : Parts) (these : Instrumentable m) → LowSizes (new_module (program_of m these.whole)) }
+{}
+
+/// The module of the example weighs what the sum of its parts is by hand.
+pub fn weight_of_the_example()
+    ensures { Weighs }
 {}
 
 /// The premises can be met.

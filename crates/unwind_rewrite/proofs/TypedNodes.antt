@@ -68,7 +68,7 @@ top_of None own js below e = tt
 top_of (Some t) [] js below e = absurd (cc)
 top_of (Some t) (p ∷ own) js below e = let z : place_type p ≡ t = cc in z
 
-grown_types : (r : Option ValType) (own : List Place) (below : List ValType) → map place_type own ≡ below → map place_type (grown r own) ≡ option_to_list r ++ below
+pub grown_types : (r : Option ValType) (own : List Place) (below : List ValType) → map place_type own ≡ below → map place_type (grown r own) ≡ option_to_list r ++ below
 grown_types None own below e = e
 grown_types (Some t) own below e = ap (λ z. t ∷ z) e
 
@@ -139,7 +139,7 @@ pub record Takes (C : Ctx) (i : Basic) (own js : List Place) (between : List Val
   pub left : less (takes i) (own ++ js) ≡ own1 ++ js
   pub after : map place_type (grown (result_type C (own ++ js) i) own1) ≡ between
 
-takes_of : (C : Ctx) (ls : List Info) (i : Basic) (own js : List Place) (between : List ValType) (h : BasicTypes (original C ls) i (map place_type own) between) → Takes C i own js between h.arrow_is
+pub takes_of : (C : Ctx) (ls : List Info) (i : Basic) (own js : List Place) (between : List ValType) (h : BasicTypes (original C ls) i (map place_type own) between) → Takes C i own js between h.arrow_is
 takes_of C ls i own js between h =
     let a = h.arrow_is in
     let c = cuts (takes i) own js a.takes h.above.below (takes_len (original C ls) i h.any a h.has) h.above.takes in
