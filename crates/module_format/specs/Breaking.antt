@@ -11,7 +11,7 @@ use Rattle.module_format.specs.Choices.{stops_on_test, or_else, first_and}
 use Rattle.module_format.specs.Form.{is_valtype, is_mutability, is_export_kind, no_locals, is_room}
 use Rattle.module_format.specs.Expressions.{may_stand, instr_of, no_code, is_closed}
 use Rattle.module_format.specs.Sections.{may_follow, header, no_sections, has_bodies}
-use Rattle.module_format.specs.Grammar.{valtype, noted_vector, functype, limits, table, globaltype, import_entry, export_kind, export_entry, instr_entry, expression, group_entry, locals, code, global_entry, element_entry, segment_entry, contents, section_entry, sections}
+use Rattle.module_format.specs.Grammar.{valtype, noted_vector, functype, limits, table, globaltype, import_entry, export_kind, export_entry, instr_entry, expression, group_entry, locals, code_contents, code, global_entry, element_entry, segment_entry, contents, section_entry, sections}
 
 abbrev pub no_byte : ℕ → Stops
 no_byte b = unread (always (byte b))
@@ -88,13 +88,13 @@ locals_stops = either (unread u32) (behind u32 (λ n. steps_stops group_entry gr
 abbrev pub code_contents_stops : Stops
 code_contents_stops at = either locals_stops (behind locals (λ l. expression_stops_from at)) at
 
-abbrev pub code_stops : Stops
-code_stops = sized_stops code_contents_stops
+abbrev pub code_stops : ℕ → Stops
+code_stops origin = sized_stops (closed_stops (code_contents origin) code_contents_stops)
 
 -- another count than that of the functions, or a body
 abbrev pub bodies_stops : ℕ → Stops
 bodies_stops due at =
-    either (unread (passing (λ n. n == due) u32)) (behind (passing (λ n. n == due) u32) (items_stops (code at) code_stops)) at
+    either (unread (passing (λ n. n == due) u32)) (behind (passing (λ n. n == due) u32) (items_stops (code at) (code_stops at))) at
 
 -- ---- globals and segments
 
