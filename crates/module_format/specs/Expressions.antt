@@ -1,5 +1,5 @@
 -- Reading expressions (Core 5.4.6) and the bodies of functions (5.5.13). An expression ends with the `end` that is its own.
-use Rattle.std.specs.Prelude.{ℕ, ◌-◌, List, [], ◌∷◌, ◌++◌, length, get_or, Option, Some, None, Ok, Bool, true, false, ◌==◌, if◌then◌else◌}
+use Rattle.std.specs.Prelude.{ℕ, ◌-◌, List, [], ◌∷◌, ◌++◌, length, get_or, slice_get, Option, Some, None, Ok, Bool, true, false, ◌==◌, if◌then◌else◌}
 use Rattle.wasm_syntax.specs.declared.instruction.Basic.TheVariants.{Nop}
 use Rattle.wasm_syntax.specs.declared.instruction.Instr.{Instr}
 use Rattle.wasm_syntax.specs.declared.instruction.Instr.TheVariants as instr
@@ -47,11 +47,15 @@ instr_of x = code_of x.0 x.1.code
 
 -- ---- blocks
 
--- An `else` stands only in an `if` that has none yet. The innermost block is the first one.
+-- The innermost block, which is the first one, is an `if` that has no `else` yet.
+abbrev pub is_then : Option BlockKind → Bool
+is_then (Some Then) = true
+is_then _ = false
+
+-- An `else` stands only in such an `if`.
 abbrev pub may_stand : List BlockKind → Instr → Bool
-may_stand (Then ∷ blocks) i = true
-may_stand blocks instr.Else = false
-may_stand blocks i = true
+may_stand blocks instr.Else = is_then (slice_get blocks 0)
+may_stand blocks _ = true
 
 -- the blocks that are open behind an instruction, the innermost first
 abbrev pub open_behind : List BlockKind → Instr → List BlockKind

@@ -63,7 +63,11 @@ bodies_item due = here_item ▷ λ origin. due_vector_item due (code_item origin
 
 -- ---- what a section adds to what the sections before it say
 
--- of the ids from 1 to 11
+-- parts that hold no types of values and no instructions
+abbrev pub with_plain : SpelledModule → ℕ → ModuleParts → SpelledModule
+with_plain s id parts = record { last = id; float = s.float; imports = s.imports; parts = parts }
+
+-- parts that may hold floats
 abbrev pub with_parts : SpelledModule → ℕ → Option ℕ → ModuleParts → SpelledModule
 with_parts s id float parts = record { last = id; float = first_float s.float float; imports = s.imports; parts = parts }
 
@@ -74,22 +78,22 @@ abbrev pub with_imports : SpelledModule → Noted (List Imported) → SpelledMod
 with_imports s x = record { last = 2; float = first_float s.float x.float; imports = x.value; parts = s.parts }
 
 abbrev pub with_functions : SpelledModule → List ℕ → SpelledModule
-with_functions s x = with_parts s 3 None (record s.parts { functions = x })
+with_functions s x = with_plain s 3 (record s.parts { functions = x })
 
 abbrev pub with_tables : SpelledModule → List Limits → SpelledModule
-with_tables s x = with_parts s 4 None (record s.parts { tables = x })
+with_tables s x = with_plain s 4 (record s.parts { tables = x })
 
 abbrev pub with_memories : SpelledModule → List Limits → SpelledModule
-with_memories s x = with_parts s 5 None (record s.parts { memories = x })
+with_memories s x = with_plain s 5 (record s.parts { memories = x })
 
 abbrev pub with_globals : SpelledModule → Noted (List Global) → SpelledModule
 with_globals s x = with_parts s 6 x.float (record s.parts { globals = x.value })
 
 abbrev pub with_exports : SpelledModule → List Export → SpelledModule
-with_exports s x = with_parts s 7 None (record s.parts { exports = x })
+with_exports s x = with_plain s 7 (record s.parts { exports = x })
 
 abbrev pub with_start : SpelledModule → ℕ → SpelledModule
-with_start s x = with_parts s 8 None (record s.parts { start = Some x })
+with_start s x = with_plain s 8 (record s.parts { start = Some x })
 
 abbrev pub with_elements : SpelledModule → Noted (List ElementSeg) → SpelledModule
 with_elements s x = with_parts s 9 x.float (record s.parts { elements = x.value })
