@@ -1,0 +1,9 @@
+pub mod Targets
+pub mod Spellings
+pub mod SpelledTypes
+pub mod Closing
+pub mod SpelledCode
+pub mod SpelledEntries
+pub mod SpelledSections
+pub mod Sizes
+pub mod WholeModule
