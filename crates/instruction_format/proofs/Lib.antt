@@ -5,3 +5,4 @@ pub mod Stops
 pub mod Codes
 pub mod Encoded
 pub mod Meanings
+pub mod Shortest

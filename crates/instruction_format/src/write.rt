@@ -1,6 +1,6 @@
 //! Writing an instruction.
 
-ghost use Rattle.std.specs.Prelude.{ℕ, ◌≡◌, ◌+◌, ◌≤◌, [], ◌∷◌, ◌++◌, length, take, OnOk, OnErr};
+ghost use Rattle.std.specs.Prelude.{ℕ, ◌≡◌, ◌+◌, ◌≤◌, List, [], ◌∷◌, ◌++◌, length, take, OnOk, OnErr};
 ghost use Rattle.std.specs.List.{flat_map};
 ghost use Rattle.std.specs.Int.{w32, w64, cast_signed};
 ghost use Rattle.wasm_leb.specs.Writing.{unsigned_bytes, signed_bytes};
@@ -336,6 +336,7 @@ pub fn write_instr(out: &mut Vec<u8>, code: &Instr, targets: &Labels) -> Result<
     ensures code { IsCode targets.now code.now }
     ensures kept { OnErr result (out.new.items ≡ out.old.items) }
     ensures spelled { (base at : ℕ) → BeginsAt base code.now → instruction base (spelled_of targets.now code.now) at (encoding targets.now code.now) }
+    ensures shortest { (base at : ℕ) (bytes : List ℕ) → instruction base (spelled_of targets.now code.now) at bytes → length (encoding targets.now code.now) ≤ length bytes }
 {
     append_instr(out, code, targets)
 }
