@@ -22,3 +22,4 @@ pub mod ValidModule
 pub mod Depths
 pub mod Heights
 pub mod NewSizes
+pub mod BareValid

@@ -45,7 +45,7 @@ zero_write (choose at t a ea b end rest) after =
     ∙ ap (write (bare_nodes a)) (zero_else ea (write b (placed end End ∷ write rest after))
     ∙ ap (else_out (option_map (λ at. 0) ea)) (zero_write b (placed end End ∷ write rest after) ∙ ap (λ z. write (bare_nodes b) (placed 0 End ∷ z)) (zero_write rest after))))
 
-bare_writes : (body : Body) (tree : Tree) → Writes body.targets body.ops tree → Writes (bare_body body).targets (bare_body body).ops (bare_tree tree)
+pub bare_writes : (body : Body) (tree : Tree) → Writes body.targets body.ops tree → Writes (bare_body body).targets (bare_body body).ops (bare_tree tree)
 bare_writes body tree w = record {
   arms = tree_bare tree.nodes w.arms;
   out = zero_code body.targets body.ops ∙ ap (map at_zero) w.out ∙ zero_write tree.nodes (placed tree.end End ∷ []);
@@ -115,6 +115,13 @@ tree_at [] (t ∷ ts) j tree w e = absurd w
 tree_at (b ∷ bs) [] j tree w e = absurd w
 tree_at (b ∷ bs) (t ∷ ts) zero tree w e = let z : t ≡ tree = cc in subst (λ x. IsTree x.nodes) z w.0.arms
 tree_at (b ∷ bs) (t ∷ ts) (suc j) tree w e = tree_at bs ts j tree w.1 e
+
+-- the tree of a body
+pub tree_of_body : (bodies : List Body) (trees : List Tree) (j : ℕ) (body : Body) → AllWrite bodies trees → slice_get bodies j ≡ Some body → (tree : Tree) × Writes body.targets body.ops tree
+tree_of_body [] trees j body w e = absurd (cc)
+tree_of_body (b ∷ bs) [] j body w e = absurd w
+tree_of_body (b ∷ bs) (t ∷ ts) zero body w e = (t, (let y : b ≡ body = cc in subst (λ b. Writes b.targets b.ops t) y w.0))
+tree_of_body (b ∷ bs) (t ∷ ts) (suc j) body w e = tree_of_body bs ts j body w.1 e
 
 pub writes_at : (bodies : List Body) (trees : List Tree) (j : ℕ) (body : Body) (tree : Tree) → AllWrite bodies trees → slice_get bodies j ≡ Some body → slice_get trees j ≡ Some tree → Writes body.targets body.ops tree
 writes_at [] trees j body tree w e d = absurd (cc)

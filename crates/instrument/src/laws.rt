@@ -52,14 +52,14 @@ pub fn interface_is_kept()
     ensures { (p : Program) → KeepsInterface p.module_ (new_module p) }
 {}
 
-/// The rewritten module is valid.
-pub fn rewritten_module_is_valid()
-    ensures { (m : Parts) (these : Instrumentable m) → Valid (new_module (program_of m these.whole)) }
+/// The rewritten module is valid, and so is each one that is the same but for offsets, lengths and custom sections.
+pub fn rewritten_modules_are_valid()
+    ensures { (m other : Parts) (these : Instrumentable m) (whole : IsModule other) → bare_module (new_module (program_of m these.whole)) ≡ bare_module other → Valid other }
 {}
 
-/// It is within the limits of the decoder, but for its bytes: locals, nesting, table and memory.
-pub fn rewritten_module_is_within_limits()
-    ensures { (m : Parts) (these : Instrumentable m) → LowSizes (new_module (program_of m these.whole)) }
+/// They are within the limits of the decoder, but for its bytes: locals, nesting, table and memory.
+pub fn rewritten_modules_are_within_limits()
+    ensures { (m other : Parts) (these : Instrumentable m) → bare_module (new_module (program_of m these.whole)) ≡ bare_module other → LowSizes other }
 {}
 
 /// The module of the example weighs what the sum of its parts is by hand.
