@@ -16,7 +16,7 @@ use Rattle.wasm_syntax.specs.Tree.{Tree, Writes}
 use Rattle.wasm_bytes.specs.Spelling.{Spellings, pair, passing, here, steps, due}
 use Rattle.instruction_format.specs.Spelled.{Spelled}
 use Rattle.instruction_format.specs.Grammar.{instruction}
-use Rattle.instruction_format.specs.Encoding.{encoding, IsInside, NumbersFit, targets_of, BeginsAt, spelled_of}
+use Rattle.instruction_format.specs.Encoding.{encoding, IsInside, IsCode, targets_of, BeginsAt, spelled_of}
 use Rattle.instruction_format.proofs.Encoded.{encoding_spells}
 use Rattle.module_format.specs.declared.noted.Noted.{Noted}
 use Rattle.module_format.specs.declared.expression.Expression.{Expression}
@@ -25,8 +25,8 @@ use Rattle.module_format.specs.Notes.{plain}
 use Rattle.module_format.specs.Expressions.{may_stand, instr_of, no_code, with_instr, is_closed, code_body}
 use Rattle.module_format.specs.Grammar.{instr_entry, expression_entries, expression}
 use Rattle.wasm_encode.specs.Encoding.{expression_bytes}
-use Rattle.wasm_encode.specs.Fits.{Fits32, FitsExpression}
-use Rattle.wasm_encode.proofs.Targets.{behind, taken, first_inside}
+use Rattle.wasm_encode.specs.Fits.{FitsExpression}
+use Rattle.wasm_encode.proofs.Targets.{behind, taken}
 use Rattle.wasm_encode.proofs.Closing.{Ends, expression_ends}
 
 -- ---- targets
@@ -104,14 +104,14 @@ with_op ts e at i =
     let bytes = encoding ts i in
     with_instr e (at, ((get_or bytes 0 0, spelled_of ts i), at + length {A = ℕ} [] + length bytes))
 
-op_spelled : (ts : List ℕ) (e : Expression) (at : ℕ) (i : Instr) → NumbersFit i → AllByRecursion Fits32 ts → BeginsAt (length e.targets) i → IsInside ts i → may_stand e.blocks i ≡ true → instr_entry e (with_op ts e at i) at (encoding ts i)
-op_spelled ts e at i fits all starts inside stands =
+op_spelled : (ts : List ℕ) (e : Expression) (at : ℕ) (i : Instr) → IsCode ts i → BeginsAt (length e.targets) i → may_stand e.blocks i ≡ true → instr_entry e (with_op ts e at i) at (encoding ts i)
+op_spelled ts e at i is starts stands =
     let bytes = encoding ts i in
     let here_on = at + length {A = ℕ} [] in
     let first = get_or bytes 0 0 in (
       (at, ((first, spelled_of ts i), here_on + length bytes)),
       refl,
-      between {A = ℕ × Spelled} (passing (λ x. may_stand e.blocks (instr_of x)) (first_and (instruction (length e.targets)))) (first, spelled_of ts i) at bytes (stands, (refl, encoding_spells ts (length e.targets) here_on i (record { numbers = fits; labels = all; inside = inside }) starts)),
+      between {A = ℕ × Spelled} (passing (λ x. may_stand e.blocks (instr_of x)) (first_and (instruction (length e.targets)))) (first, spelled_of ts i) at bytes (stands, (refl, encoding_spells ts (length e.targets) here_on i is starts)),
     )
 
 -- ---- the instructions one after the other
@@ -129,8 +129,8 @@ one_more [] p o os e = ap (λ (c : Op). c ∷ map op_code os) e
 one_more (f ∷ fs) p o os e = ap (λ (cs : List Op). op_code f ∷ cs) (one_more fs p o os e)
 
 ended : (ts : List ℕ) (ops : List Op) (e : Expression) (rest : List ℕ) (at : ℕ) → e.targets ++ rest ≡ ts → e.float ≡ None → Ends e.blocks (map (λ o. o.code) ops) → TakeUp (length e.targets) (map (λ o. o.code) ops) (length ts)
-    → AllByRecursion (λ o. NumbersFit o.code) ops → AllByRecursion Fits32 ts → Ended ts e ops at
-ended ts [] e rest at parts float closed taken_up fits all = record {
+    → AllByRecursion (λ o. IsCode ts o.code) ops → Ended ts e ops at
+ended ts [] e rest at parts float closed taken_up fits = record {
   after = e;
   closed = closed;
   targets = all_taken e.targets rest ts parts taken_up;
@@ -138,16 +138,15 @@ ended ts [] e rest at parts float closed taken_up fits all = record {
   no_float = float;
   spelled = (refl, refl);
 }
-ended ts (o ∷ os) e rest at parts float closed taken_up fits all =
+ended ts (o ∷ os) e rest at parts float closed taken_up fits =
     let is = map (λ p. p.code) os in
     let start = start_at (length e.targets) (length ts) o.code is taken_up in
-    let inside = first_inside (length e.targets) o.code is ts taken_up in
-    let l = left e.targets rest ts o.code parts start inside in
+    let l = left e.targets rest ts o.code parts start fits.0.inside in
     let next = with_op ts e at o.code in
     let bytes = encoding ts o.code in
-    let one = op_spelled ts e at o.code fits.0 all start inside closed.1 in
+    let one = op_spelled ts e at o.code fits.0 start closed.1 in
     let taken_on : TakeUp (length next.targets) is (length ts) = subst (λ (k : ℕ). TakeUp k is (length ts)) l.count (taken (length e.targets) (length ts) o.code is taken_up) in
-    let others = ended ts os next l.behind_it (at + length bytes) l.parts (rw float refl) closed.2 taken_on fits.1 all in
+    let others = ended ts os next l.behind_it (at + length bytes) l.parts (rw float refl) closed.2 taken_on fits.1 in
     record {
       after = others.after;
       closed = others.closed;
@@ -173,7 +172,7 @@ none_open blocks e = rw e refl
 pub entries_spelled : (body : Body) (tree : Tree) (origin at : ℕ) → Writes body.targets body.ops tree → InOrder body → FitsExpression body → IsRead body origin at
 unfolding expression_bytes
 entries_spelled body tree origin at writes order fits =
-    let e = ended body.targets body.ops (no_code origin) body.targets at refl refl (expression_ends body.targets body.ops tree writes) order.targets fits.0 fits.1 in
+    let e = ended body.targets body.ops (no_code origin) body.targets at refl refl (expression_ends body.targets body.ops tree writes) order.targets fits in
     record {
       read = e.after;
       same = e.same;

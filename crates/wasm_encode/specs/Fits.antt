@@ -6,7 +6,7 @@ use Rattle.wasm_syntax.specs.declared.parts.DataSeg.{DataSeg}
 use Rattle.wasm_syntax.specs.declared.parts.ElementSeg.{ElementSeg}
 use Rattle.wasm_syntax.specs.declared.parts.Limits.{Limits}
 use Rattle.wasm_syntax.specs.declared.module.ModuleParts.{ModuleParts}
-use Rattle.instruction_format.specs.Encoding.{NumbersFit}
+use Rattle.instruction_format.specs.Encoding.{IsCode}
 
 abbrev pub Fits32 : ℕ → Type 0
 Fits32 n = n < 2 ^ 32
@@ -14,9 +14,9 @@ Fits32 n = n < 2 ^ 32
 abbrev pub FitsLimits : Limits → Type 0
 FitsLimits l = Fits32 l.min × IfSome l.max Fits32
 
--- an expression: its instructions, and the targets of its `br_table`s
+-- the instructions of an expression, with the targets of its `br_table`s
 abbrev pub FitsExpression : Body → Type 0
-FitsExpression body = AllByRecursion (λ o. NumbersFit o.code) body.ops × AllByRecursion Fits32 body.targets
+FitsExpression body = AllByRecursion (λ o. IsCode body.targets o.code) body.ops
 
 abbrev pub FitsBody : Body → Type 0
 FitsBody body = AllByRecursion (λ g. Fits32 g.count) body.groups × FitsExpression body
