@@ -4,6 +4,7 @@ pub mod Growth
 pub mod HeightLaws
 pub mod OffsetLaws
 pub mod OperandLaws
+pub mod Once
 pub mod Order
 pub mod RowLaws
 pub mod WholeLaws

@@ -5,6 +5,7 @@ mod bodies;
 mod exports;
 mod expressions;
 mod first;
+pub mod laws;
 mod limit;
 mod offsets;
 mod parts;
