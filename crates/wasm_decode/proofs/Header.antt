@@ -1,7 +1,7 @@
 -- How far bytes that have to be there take a place.
-use Rattle.std.proofs.Common.{◌≡◌, ℕ, ◌+◌, ◌≤◌, true, false, List, [], ◌∷◌, length, Option, Some, None, Ok, ap, sym, inl, inr, arith}
+use Rattle.std.proofs.Common.{◌≡◌, ℕ, ◌+◌, ◌≤◌, List, [], ◌∷◌, length, Option, Some, None, ap, sym, inl, inr, arith}
 use Rattle.std.specs.Prelude.{◌==◌, slice_get}
-use Rattle.wasm_bytes.specs.Place.{Place, Read}
+use Rattle.wasm_bytes.specs.Place.{Place}
 use Rattle.wasm_bytes.specs.Reading.{◌>>=◌, byte_of, if_passes, byte_item, one_of_item, fixed_item, bytes_item}
 use Rattle.wasm_bytes.specs.Laws.{got}
 use Rattle.wasm_bytes.proofs.Places.{chosen, got_is, bind_ok}

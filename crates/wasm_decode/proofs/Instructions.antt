@@ -1,11 +1,11 @@
 -- What the code reads of one instruction, in the words of the expression grammar.
-use Rattle.std.proofs.Common.{◌≡◌, ℕ, ◌-◌, List, [], ◌∷◌, ◌++◌, length, get_or, true, false, Option, Ok, Err, refl, sym, ap, subst, ◌∙◌}
+use Rattle.std.proofs.Common.{◌≡◌, ℕ, ◌-◌, List, [], ◌∷◌, ◌++◌, length, get_or, true, false, Option, refl, ap, subst, ◌∙◌}
 use Rattle.wasm_syntax.specs.declared.instruction.Instr.{Instr}
 use Rattle.wasm_syntax.specs.declared.instruction.Op.{Op}
 use Rattle.wasm_syntax.specs.declared.blocks.BlockKind.{BlockKind}
 use Rattle.wasm_bytes.specs.declared.faults.ItemFault.{ItemFault}
 use Rattle.wasm_bytes.specs.declared.faults.ItemFault.TheVariants.{At, NoMemory}
-use Rattle.wasm_bytes.specs.Place.{Place, Read}
+use Rattle.wasm_bytes.specs.Place.{Place}
 use Rattle.wasm_bytes.specs.Answers.{Fails}
 use Rattle.wasm_bytes.specs.Laws.{got, failed}
 use Rattle.wasm_bytes.proofs.Places.{got_is, bind_ok}
@@ -15,7 +15,7 @@ use Rattle.instruction_format.specs.Spelled.{Spelled}
 use Rattle.instruction_format.specs.Reading.{instruction_item, with_targets, code_item}
 use Rattle.module_format.specs.declared.expression.Expression.{Expression}
 use Rattle.module_format.specs.Notes.{first_float}
-use Rattle.module_format.specs.Expressions.{code_of, float_of, may_stand, open_behind, with_instr, instr_step}
+use Rattle.module_format.specs.Expressions.{code_of, float_of, may_stand, open_behind, instr_step}
 
 abbrev opcode_at : Place → ℕ
 opcode_at p = get_or p.block p.at 0

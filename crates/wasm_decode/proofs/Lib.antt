@@ -1,3 +1,12 @@
 pub mod Vectors
 pub mod Instructions
 pub mod Header
+pub mod Counts
+pub mod Trees
+pub mod Targets
+pub mod Reached
+pub mod SoundForm
+pub mod SoundCode
+pub mod SoundSections
+pub mod Sounds
+pub mod Meanings

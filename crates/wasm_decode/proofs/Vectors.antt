@@ -5,7 +5,7 @@ use Rattle.std.proofs.lemmas.Grind.{fold-append}
 use Rattle.std.specs.Prelude.{◌==◌}
 use Rattle.wasm_syntax.specs.declared.parts.Body.{Body}
 use Rattle.wasm_bytes.specs.Place.{Place, Read}
-use Rattle.wasm_bytes.specs.Reading.{◌>>=◌, ◌▷◌, mapped, checked, u32_item, vector_item, items_from, steps_from}
+use Rattle.wasm_bytes.specs.Reading.{◌>>=◌, mapped, checked, u32_item, vector_item, items_from, steps_from}
 use Rattle.module_format.specs.declared.noted.Noted.{Noted}
 use Rattle.module_format.specs.Notes.{plain, with_noted, together, noted_vector_item}
 use Rattle.module_format.specs.Expressions.{code_item}

@@ -1,5 +1,5 @@
 -- A whole module from its bytes.
-use Rattle.std.specs.Prelude.{◌≡◌, ℕ, suc, ◌++◌, List, [], ◌∷◌, length, map, slice_get, Option, Some, None, Result, Ok, Err, nat_lt, if◌then◌else◌}
+use Rattle.std.specs.Prelude.{◌≡◌, ℕ, suc, List, [], ◌∷◌, length, map, slice_get, Option, Some, None, Result, Ok, Err, nat_lt, if◌then◌else◌}
 use Rattle.std.specs.List.{flat_map}
 use Rattle.wasm_syntax.specs.declared.quantity.Quantity.{Quantity}
 use Rattle.wasm_syntax.specs.declared.quantity.Quantity.TheVariants.{ModuleBytes, Locals, Nesting, Table, Memory}

@@ -1,3 +1,4 @@
 pub mod Steps
 pub mod Decode
 pub mod Meaning
+pub mod Fit

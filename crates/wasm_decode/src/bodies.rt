@@ -121,11 +121,7 @@ impl<'a> Collect<'a> for CodeEntries {
 }
 
 #[tactic(auto, unfolding(crate::specs::Steps::bodies_steps))]
-fn entries(
-    alloc: Global,
-    due: usize,
-    input: &mut Input<'_>,
-) -> Result<Noted<Bodies>, ItemFault>
+fn entries(alloc: Global, due: usize, input: &mut Input<'_>) -> Result<Noted<Bodies>, ItemFault>
     ensures item { Gives result input.new (bodies_steps due input.old) }
     ensures moves { OnOk result (Moves input.old input.new) }
 {

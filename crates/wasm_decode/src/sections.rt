@@ -23,11 +23,7 @@ use wasm_syntax::{Custom, ModuleParts};
 /// The magic and the version (Core 5.5.15).
 const HEADER: [u8; 8] = [0x00, 0x61, 0x73, 0x6d, 0x01, 0x00, 0x00, 0x00];
 
-fn types(
-    alloc: Global,
-    spelled: &mut SpelledModule,
-    input: &mut Input<'_>,
-) -> Result<(), ItemFault>
+fn types(alloc: Global, spelled: &mut SpelledModule, input: &mut Input<'_>) -> Result<(), ItemFault>
     ensures item { Gives (with_state spelled.new result) input.new (mapped (with_types spelled.old) (noted_vector_item functype_item) input.old) }
     ensures kept { OnOk result (spelled.new.parts.plain_bytes ≡ spelled.old.parts.plain_bytes) }
 {
@@ -120,11 +116,7 @@ fn exports(
     Ok(())
 }
 
-fn start(
-    alloc: Global,
-    spelled: &mut SpelledModule,
-    input: &mut Input<'_>,
-) -> Result<(), ItemFault>
+fn start(alloc: Global, spelled: &mut SpelledModule, input: &mut Input<'_>) -> Result<(), ItemFault>
     ensures item { Gives (with_state spelled.new result) input.new (mapped (with_start spelled.old) (u32_item) input.old) }
     ensures kept { OnOk result (spelled.new.parts.plain_bytes ≡ spelled.old.parts.plain_bytes) }
 {
@@ -149,11 +141,7 @@ fn elements(
     Ok(())
 }
 
-fn code(
-    alloc: Global,
-    spelled: &mut SpelledModule,
-    input: &mut Input<'_>,
-) -> Result<(), ItemFault>
+fn code(alloc: Global, spelled: &mut SpelledModule, input: &mut Input<'_>) -> Result<(), ItemFault>
     ensures item { Gives (with_state spelled.new result) input.new (mapped (with_bodies spelled.old) (bodies_item (length spelled.old.parts.functions)) input.old) }
     ensures kept { OnOk result (spelled.new.parts.plain_bytes ≡ spelled.old.parts.plain_bytes) }
 {
