@@ -12,3 +12,6 @@ mod write;
 pub use code::{Code, ReadInstr};
 pub use read::{read_code, read_instr};
 pub use write::write_instr;
+
+#[cfg(test)]
+mod tests;
