@@ -6,3 +6,7 @@ pub mod LaidLists
 pub mod Sizes
 pub mod Files
 pub mod Pieces
+pub mod SpelledParts
+pub mod SpelledSections
+pub mod ReadsBack
+pub mod CanonicalLaws

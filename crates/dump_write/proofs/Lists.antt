@@ -1,6 +1,12 @@
 -- Lists that are written one element after another.
-use Rattle.std.proofs.Common.{◌≡◌, ℕ, ◌+◌, ◌<◌, List, [], ◌∷◌, ◌++◌, length, take, drop, get_or, refl, sym, ap, ◌∙◌, append_assoc}
-use Rattle.std.specs.List.{flat_map}
+use Rattle.std.proofs.Common.{◌≡◌, ℕ, ◌+◌, ◌<◌, List, [], ◌∷◌, ◌++◌, length, take, drop, get_or, refl, sym, ap, ◌∙◌, append_assoc, inl, inr, subst, arith}
+use Rattle.std.specs.Prelude.{nat_lt, true}
+use Rattle.std.specs.List.{flat_map, list_all}
+use Rattle.std.specs.Str.{IsUtf8, IsAscii}
+use Rattle.std.proofs.lemmas.Bool.{ltb-true, cases_lt}
+use Rattle.std.proofs.lemmas.List.{get_or_past}
+use Rattle.std.proofs.lemmas.List.Sums.{AllPass-from_list_all}
+use Rattle.std.proofs.lemmas.Str.{IsUtf8-from_ascii}
 use Rattle.std.proofs.lemmas.List.{take_more, flat_map_more, append-nil, take-append-drop}
 use Rattle.std.proofs.lemmas.List.Concat.{flat_map-append}
 
@@ -21,3 +27,12 @@ split_at f xs i x start inside is =
     sym
     (ap (λ (bs : List ℕ). bs ++ flat_map f (drop (i + 1) xs)) front ∙ append_assoc start (flat_map f (take (i + 1) xs)) (flat_map f (drop (i + 1) xs))
     ∙ ap (λ (bs : List ℕ). start ++ bs) (sym (flat_map-append f (take (i + 1) xs) (drop (i + 1) xs)) ∙ ap (λ (ys : List _). flat_map f ys) (take-append-drop (i + 1) xs)))
+
+-- bytes below 128 are a text
+pub ascii_text : (bs : List ℕ) → list_all (λ b. nat_lt b 128) bs ≡ true → IsUtf8 bs
+ascii_text bs small = IsUtf8-from_ascii bs ascii where
+  ascii : IsAscii bs
+  ascii i = elim (cases_lt i (length bs)) [
+    | inl inside ↦ ltb-true (get_or bs i 0) 128 (AllPass-from_list_all (λ (b : ℕ). nat_lt b 128) bs small i 0 inside)
+    | inr past ↦ subst (λ (n : ℕ). n < 128) (sym (get_or_past bs i 0 past)) (omega arith)
+  ]

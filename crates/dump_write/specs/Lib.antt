@@ -5,3 +5,4 @@ pub mod Pieces
 pub mod Canonical
 pub mod Typed
 pub mod Written
+pub mod Laws

@@ -1,6 +1,7 @@
 //! Core dumps: the one list of bytes that is written of a dump.
 #![tactic(auto)]
 
+pub mod laws;
 mod pages;
 mod parts;
 mod sections;
