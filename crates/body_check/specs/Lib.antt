@@ -3,3 +3,4 @@ pub mod Bodies
 pub mod Locals
 pub mod Steps
 pub mod Marks
+pub mod Nesting
