@@ -1,0 +1,4 @@
+pub mod CutLaws
+pub mod StepLaws
+pub mod EntryLaws
+pub mod ImportLaws

@@ -1,0 +1,25 @@
+use Rattle.std.proofs.Common.{◌≡◌, ◌∷◌, ◌∙◌, sym, ap, subst, length, add-one}
+use Rattle.wasm_syntax.specs.Machine.{joined}
+use Rattle.frame_steps.specs.declared.layout.CallFrame.{CallFrame}
+use Rattle.frame_steps.specs.Meets.{step_at}
+use Rattle.frame_steps.proofs.BranchLaws.{first_of}
+use Rattle.machine_steps.specs.declared.machine.Machine.{Machine}
+use Rattle.machine_steps.specs.declared.machine.Outcome.TheVariants.{Trap}
+use Rattle.machine_steps.specs.Meets.{MeetsAt}
+use Rattle.machine_steps.proofs.StepLaws.{basic_done, basic_traps}
+use Rattle.machine_steps.proofs.steps.basic.Goals as goal
+
+pub returns-in-Done : goal.returns-in-Done
+returns-in-Done c = λ x code h r.
+    let base : c.in-Some.frame.base ≡ length h.inner.vs_below = ap (λ (f : CallFrame). f.base) (sym (first_of c.args.m.now.stack.frames h.inner.e c.in-Some.frame h.inner.es h.inner.es_are (sym c.in-Some.ensures))) ∙ h.inner.level.base in
+    basic_done x c.args.m.now code h c.args.instruction.now c.perform.new.values c.perform.new.shared c.args.next r (c.requires ∙ add-one c.args.m.now.stack.position)
+    (c.in-Done.ensures.effect x.world (joined (x.label ∷ x.outer)) x.frame.locals h.inner.vs_below h.shares.holds h.inner.level.vs_are base)
+
+pub returns-in-Trap : goal.returns-in-Trap
+returns-in-Trap c = λ x code h r.
+    let base : c.in-Some.frame.base ≡ length h.inner.vs_below = ap (λ (f : CallFrame). f.base) (sym (first_of c.args.m.now.stack.frames h.inner.e c.in-Some.frame h.inner.es h.inner.es_are (sym c.in-Some.ensures))) ∙ h.inner.level.base in
+    let same = c.in-Trap.ensures.same in
+    let m_is : c.args.m.now ≡ record c.args.m.now { stack = record c.args.m.now.stack { values = c.perform.new.values }; shared = c.perform.new.shared } = λ i. record c.args.m.now { stack = record c.args.m.now.stack { values = sym same.0 i }; shared = sym same.1 i } in
+    subst (λ (k : Machine). MeetsAt x (Trap c.in-Trap.kind) (step_at x) k) m_is
+    (basic_traps x c.args.m.now code h c.args.instruction.now c.in-Trap.kind c.perform.new.values c.perform.new.shared r
+    (c.in-Trap.ensures.effect x.world (joined (x.label ∷ x.outer)) x.frame.locals h.inner.vs_below h.shares.holds h.inner.level.vs_are base))
