@@ -186,7 +186,7 @@ runs_alike p q e collecting is replies d n = sym (run_bare p collecting is repli
 ends_to : (o : Outcome) (a b : Option Config) (other : Ran) → EndsAlike o a b other → EndsAlike o a (option_map bare_config b) (bare_ran other)
 ends_to (trapped k) None b other h = absurd h
 ends_to (trapped k) (Some a) None other h = absurd h
-ends_to (trapped k) (Some a) (Some b) other h = record { trapped_too = h.trapped_too; whole = h.whole; kind = h.kind; dump = h.dump }
+ends_to (trapped k) (Some a) (Some b) other h = record { trapped_too = h.trapped_too; whole = h.whole; kind = h.kind; dump = h.dump; bytes = h.bytes }
 ends_to (not_started c) a b other h = h
 ends_to (finished v) a b other h = h
 ends_to (lacks_reply call) a b other h = h
@@ -197,7 +197,7 @@ ends_to got_stuck a b other h = h
 ends_from : (o : Outcome) (a b : Option Config) (other : Ran) → EndsAlike o a (option_map bare_config b) (bare_ran other) → EndsAlike o a b other
 ends_from (trapped k) None b other h = absurd h
 ends_from (trapped k) (Some a) None other h = absurd h
-ends_from (trapped k) (Some a) (Some b) other h = record { trapped_too = h.trapped_too; whole = h.whole; kind = h.kind; dump = h.dump }
+ends_from (trapped k) (Some a) (Some b) other h = record { trapped_too = h.trapped_too; whole = h.whole; kind = h.kind; dump = h.dump; bytes = h.bytes }
 ends_from (not_started c) a b other h = h
 ends_from (finished v) a b other h = h
 ends_from (lacks_reply call) a b other h = h

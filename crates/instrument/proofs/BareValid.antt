@@ -10,26 +10,24 @@ use Rattle.wasm_syntax.specs.declared.instruction.Instr.TheVariants as instrs
 use Rattle.wasm_syntax.specs.declared.instruction.Basic.{Basic}
 use Rattle.wasm_syntax.specs.declared.instruction.Basic.TheVariants.{Nop, Drop, Select, LocalGet, LocalSet, LocalTee, GlobalGet, GlobalSet, Load, Store, MemorySize, MemoryGrow, MemoryCopy, MemoryFill, Const, Eqz, Unary, Compare, Binary, Convert, Extend32, Extend64}
 use Rattle.wasm_syntax.specs.declared.instruction.Op.{Op}
-use Rattle.wasm_syntax.specs.declared.parts.FuncType.{FuncType}
 use Rattle.wasm_syntax.specs.declared.parts.Body.{Body}
 use Rattle.wasm_syntax.specs.declared.parts.Global.{Global}
 use Rattle.wasm_syntax.specs.declared.parts.Export.{Export}
 use Rattle.wasm_syntax.specs.declared.parts.ExportKind.{ExportKind}
 use Rattle.wasm_syntax.specs.declared.parts.ExportKind.TheVariants as kinds
 use Rattle.wasm_syntax.specs.declared.module.ModuleParts.{ModuleParts as Module}
-use Rattle.wasm_syntax.specs.declared.place.Place.{Place}
 use Rattle.wasm_syntax.specs.declared.place.Place.TheVariants as places
-use Rattle.wasm_syntax.specs.Tree.{Jump, Unreachable, Br, BrIf, BrTable, Return, Call, CallIndirect, Nodes, stop, basic, jump, block, loop, choose, Tree, Writes, code_of}
+use Rattle.wasm_syntax.specs.Tree.{Jump, Unreachable, Br, BrIf, BrTable, Return, Call, CallIndirect, Nodes, stop, basic, jump, block, loop, choose, Tree, Writes}
 use Rattle.wasm_syntax.specs.Module.{IsModule, type_at, option_then}
-use Rattle.wasm_syntax.specs.Typing.{Context, Arrow, ◌⇒◌, arrow, set_global, BasicTypes, JumpTypes, Types, within, body_context}
-use Rattle.wasm_syntax.specs.Valid.{Valid, Fine, There, GlobalFine, ConstBody, ConstTypes, ExportFine, ElementFine, DataFine, BodyFine, index_space, defined_index}
+use Rattle.wasm_syntax.specs.Typing.{Context, Arrow, ◌⇒◌, arrow, set_global, BasicTypes, JumpTypes, Types, body_context}
+use Rattle.wasm_syntax.specs.Valid.{Valid, There, GlobalFine, ConstBody, ConstTypes, ExportFine, ElementFine, DataFine, BodyFine, index_space, defined_index}
 use Rattle.wasm_syntax.specs.Sizes.{nesting, deepest, local_count}
 use Rattle.wasm_laws.proofs.Unique.{one_tree}
 use Rattle.wasm_laws.proofs.Lists.{all_map}
 use Rattle.instrument.specs.Bare.{bare_nodes, bare_tree, bare_op, bare_body, bare_global, bare_element, bare_segment, bare_module}
 use Rattle.instrument.specs.LowSizes.{LowSizes}
 use Rattle.instrument.proofs.ValidBodies.{typed_bare, bare_typed}
-use Rattle.instrument.proofs.WrittenOut.{bare_writes, writes_at, tree_of_body}
+use Rattle.instrument.proofs.WrittenOut.{bare_writes, tree_of_body}
 
 -- ---- lists
 
@@ -253,12 +251,15 @@ module _ (m : Module) where
       let type = h.0 in
       let ib = h.2 in
       let locals = (body_context m type b).locals in
-      let returns = reverse type.results in
-      (type, h.1, record {
-        tree = bare_tree ib.tree;
-        writes = bare_writes b ib.tree ib.writes;
-        typed = types_to locals returns (bare_nodes ib.tree.nodes) (returns ∷ []) [] returns (typed_bare ib.tree.nodes (body_context m type b) [] returns ib.typed);
-      })
+      let returns = reverse type.results in (
+        type,
+        h.1,
+        record {
+          tree = bare_tree ib.tree;
+          writes = bare_writes b ib.tree ib.writes;
+          typed = types_to locals returns (bare_nodes ib.tree.nodes) (returns ∷ []) [] returns (typed_bare ib.tree.nodes (body_context m type b) [] returns ib.typed);
+        },
+      )
 
   bodies_from : (f : ℕ) (b : Body) (tree : Tree) → Writes b.targets b.ops tree → BodyFine m0 f (bare_body b) → BodyFine m f b
   bodies_from f b tree w h =
@@ -312,8 +313,8 @@ module _ (m : Module) where
   pub sizes_to : LowSizes m → LowSizes m0
   sizes_to s = record {
     locals = λ i b e.
-    let f = map_found (slice_get m.bodies i) bare_body b (sym (slice_get-map bare_body m.bodies i) ∙ e) in
-    subst (λ z. local_count (type_at m (length m.imports + i)) z ≤ 16384) f.2 (s.locals i f.0 f.1);
+        let f = map_found (slice_get m.bodies i) bare_body b (sym (slice_get-map bare_body m.bodies i) ∙ e) in
+        subst (λ z. local_count (type_at m (length m.imports + i)) z ≤ 16384) f.2 (s.locals i f.0 f.1);
     nested = all_map (λ b. nesting b ≤ 1024) bare_body m.bodies (all_as (λ b. nesting b ≤ 1024) (λ b. nesting (bare_body b) ≤ 1024) m.bodies (λ b h. subst (λ n. n ≤ 1024) (sym (nesting_bare b)) h) s.nested);
     tables = s.tables;
     memories = s.memories;

@@ -31,6 +31,7 @@ use Rattle.unwind_rewrite.specs.Slots.{greatest}
 use Rattle.wasm_syntax.specs.Run as runs_
 use Rattle.instrument.proofs.Links.{Ready, half, stands, wrapper_there, type_is_of, function_type_kept, sizes_fit, import_linked, is_defined, import_of}
 use Rattle.instrument.proofs.Shown.{whole_is, dump_is, few_calls}
+use Rattle.instrument.specs.DumpBytes.{bytes_of}
 use Rattle.instrument.specs.Simulates.{memory_of, SameState, Alike}
 use Rattle.instrument.proofs.Whole.{Stood, invocation}
 use Rattle.instrument.proofs.Runs.{AllMade}
@@ -162,6 +163,7 @@ module _ (p : Program) (fit : Fits p) (d : ℕ) (deep : 0 < d) (low : d ≤ 1000
       let some = frames_some wr c.frames ws h.1 in
       let col : reverse c'.collected ≡ reverse (collected j c) = ap reverse ce in
       let few = subst (λ z. length z ≤ 134217728) (sym col) (few_calls M E gl wr j c ws h e (omega (arith, sh, low)) fit.few_locals fit.few_heights lg) in
+      let same = λ (name : List ℕ). dump_is j c e (reverse c'.collected) col j1 j7 few some (memory_of c') name (ap (λ w. option_map (λ k. k.bytes) w.memory) we) in
       record {
         begun = refl;
         host_calls = ap (λ w. reverse w.served) we;
@@ -169,7 +171,8 @@ module _ (p : Program) (fit : Fits p) (d : ℕ) (deep : 0 < d) (low : d ≤ 1000
           trapped_too = refl;
           whole = whole_is j c e (reverse c'.collected) col j1 j7 few some;
           kind = refl;
-          dump = λ name l. dump_is j c e (reverse c'.collected) col j1 j7 few some (memory_of c') name (ap (λ w. option_map (λ k. k.bytes) w.memory) we);
+          dump = λ name l. same name;
+          bytes = λ name l. ap bytes_of (same name);
         };
         state = world_alike c c' up we;
       }

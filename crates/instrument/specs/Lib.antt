@@ -1,6 +1,7 @@
 pub mod Wrappers
 pub mod FlatCode
 pub mod Instrument
+pub mod DumpBytes
 pub mod Simulates
 pub mod Given
 pub mod Example

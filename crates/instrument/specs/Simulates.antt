@@ -6,6 +6,7 @@ use Rattle.wasm_syntax.specs.Machine.{Config}
 use Rattle.wasm_syntax.specs.Run.{Outcome, trapped, Ran, Invocation, run}
 use Rattle.unwind_rewrite.specs.Collected.{Whole, collected_dump}
 use Rattle.unwind_rewrite.specs.Image.{image}
+use Rattle.instrument.specs.DumpBytes.{bytes_of}
 
 abbrev pub memory_of : Config → Option (List ℕ)
 memory_of c = option_map (λ m. m.bytes) c.world.memory
@@ -16,6 +17,8 @@ pub record Shows (k : ℕ) (a b : Config) (other : Ran) : Type 0 where
   pub whole : Whole other.collected
   pub kind : whole.kind ≡ k
   pub dump : (name : List ℕ) → length name ≤ 4096 → collected_dump whole (memory_of b) name ≡ image a name
+  -- and so are their canonical bytes
+  pub bytes : (name : List ℕ) → length name ≤ 4096 → bytes_of (collected_dump whole (memory_of b) name) ≡ bytes_of (image a name)
 
 abbrev pub EndsAlike : Outcome → Option Config → Option Config → Ran → Type 0
 EndsAlike (trapped k) (Some a) (Some b) other = Shows k a b other
