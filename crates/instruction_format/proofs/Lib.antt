@@ -6,3 +6,4 @@ pub mod Codes
 pub mod Encoded
 pub mod Meanings
 pub mod Shortest
+pub mod Written
