@@ -1,10 +1,10 @@
 -- Reading an instruction item by item.
-use Rattle.std.proofs.Common.{◌≡◌, ℕ, List, [], ◌++◌, length, Result, Ok, Err, refl, ap}
+use Rattle.std.proofs.Common.{◌≡◌, ℕ, List, [], length, Result, Ok, Err, refl, ap}
 use Rattle.std.proofs.lemmas.List.{append-nil}
 use Rattle.wasm_bytes.specs.declared.faults.ItemFault.{ItemFault}
 use Rattle.wasm_bytes.specs.declared.faults.ItemFault.TheVariants as faults
 use Rattle.wasm_bytes.specs.Place.{Place}
-use Rattle.wasm_bytes.specs.Reading.{◌>>=◌, byte_item, choose}
+use Rattle.wasm_bytes.specs.Reading.{byte_item, choose}
 use Rattle.wasm_bytes.specs.Answers.{Fails}
 use Rattle.wasm_bytes.specs.Laws.{got}
 use Rattle.wasm_bytes.proofs.Places.{bind_ok, got_is}

@@ -1,5 +1,5 @@
 -- The shortest spelling of an instruction spells it.
-use Rattle.std.proofs.Common.{◌≡◌, ℕ, ◌+◌, ◌^◌, ◌<◌, ◌≤◌, List, [], ◌∷◌, ◌++◌, length, take, drop, min, Option, Some, None, refl, sym, ap, subst, lit≤, lit<, arith, length-take, length-drop}
+use Rattle.std.proofs.Common.{◌≡◌, ℕ, ◌+◌, ◌^◌, ◌<◌, ◌≤◌, List, [], ◌∷◌, ◌++◌, length, drop, Option, Some, None, refl, sym, ap, subst, lit≤, lit<, arith, length-take, length-drop}
 use Rattle.std.specs.List.{flat_map}
 use Rattle.std.specs.Int.{w32, w64, cast_signed}
 use Rattle.std.proofs.lemmas.Int.{of_z-to_z, ints}
@@ -32,13 +32,13 @@ use Rattle.wasm_syntax.specs.declared.instruction.Jump.{Jump}
 use Rattle.wasm_syntax.specs.declared.instruction.Jump.TheVariants as jumps
 use Rattle.wasm_syntax.specs.declared.instruction.Instr.{Instr}
 use Rattle.wasm_syntax.specs.declared.instruction.Instr.TheVariants as instr
-use Rattle.wasm_bytes.specs.Spelling.{pair, passing, u32, s32, s64, items, vector}
+use Rattle.wasm_bytes.specs.Spelling.{pair, u32, items, vector}
 use Rattle.instruction_format.specs.declared.code.Code.TheVariants.{Known}
 use Rattle.instruction_format.specs.Spelled.{Spelled, alone}
-use Rattle.instruction_format.specs.Form.{Form, bare, indexed, access, typed, labels, indirect, reserved, constant_i32, constant_i64, bulk, is_zero}
+use Rattle.instruction_format.specs.Form.{Form, bare, indexed, access, typed, labels, indirect, reserved, constant_i32, constant_i64, bulk}
 use Rattle.instruction_format.specs.Table.{form_of, numeric, load, store}
 use Rattle.instruction_format.specs.Grammar.{immediates, behind_opcode, instruction}
-use Rattle.instruction_format.specs.Encoding.{load_opcode, store_opcode, comparison_place, unary_place, operation_place, by_type, conversion_opcode, two_numbers, constant_bytes, basic_bytes, targets_from, labels_bytes, jump_bytes, block_type_byte, encoding, JumpInside, IsInside, ValueFits, BasicFits, JumpFits, NumbersFit, IsCode, AllWords, targets_of, BeginsAt, spelled_of}
+use Rattle.instruction_format.specs.Encoding.{load_opcode, store_opcode, comparison_place, unary_place, operation_place, by_type, conversion_opcode, two_numbers, constant_bytes, basic_bytes, targets_from, jump_bytes, block_type_byte, encoding, JumpInside, ValueFits, BasicFits, JumpFits, IsCode, AllWords, targets_of, BeginsAt, spelled_of}
 
 abbrev some : Form → Option Form
 some form = Some form

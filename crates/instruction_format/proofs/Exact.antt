@@ -1,17 +1,16 @@
 -- An instruction is read exactly as it is spelled.
-use Rattle.std.proofs.Common.{◌≡◌, ℕ, List, [], ◌∷◌, Option, Some, None}
+use Rattle.std.proofs.Common.{ℕ, [], ◌∷◌, Option, Some, None}
 use Rattle.wasm_syntax.specs.declared.value.ValType.{ValType}
 use Rattle.wasm_syntax.specs.declared.instruction.Instr.{Instr}
 use Rattle.wasm_syntax.specs.declared.instruction.Instr.TheVariants as instr
-use Rattle.wasm_bytes.specs.Place.{Place, Read}
-use Rattle.wasm_bytes.specs.Reading.{◌⊗◌, ◌▷◌, mapped, checked, choose, one_of_item, bytes_item, u32_item, s32_item, s64_item, run_item, vector_item}
+use Rattle.wasm_bytes.specs.Reading.{◌⊗◌, mapped, checked, choose, one_of_item, bytes_item, u32_item, s32_item, s64_item, run_item, vector_item}
 use Rattle.wasm_bytes.specs.Spelling.{pair, always, image, passing, one_of, text, u32, s32, s64, run, vector, tagged}
 use Rattle.wasm_bytes.specs.Laws.{IsExact, PicksExact, TakesBytes}
 use Rattle.wasm_bytes.proofs.Exact.{then_exact, image_exact, leads_exact, checked_exact, done_exact}
 use Rattle.wasm_bytes.proofs.ExactItems.{u32_exact, s32_exact, s64_exact, one_of_exact, text_exact, run_exact}
 use Rattle.wasm_bytes.proofs.ExactLists.{vector_exact, choose_exact}
 use Rattle.wasm_bytes.proofs.Takes.{tagged_takes}
-use Rattle.instruction_format.specs.Spelled.{Spelled, alone, float}
+use Rattle.instruction_format.specs.Spelled.{alone, float}
 use Rattle.instruction_format.specs.Form.{Form, bare, indexed, access, typed, labels, indirect, reserved, constant_i32, constant_i64, bulk, float_bare, float_access, float_constant, const_i32, const_i64, br_table, is_zero, call_indirect, is_block_type, block, is_bulk, bulk_of, bulk_zeros}
 use Rattle.instruction_format.specs.Table.{form_of}
 use Rattle.instruction_format.specs.Grammar.{block_type, bulk_number, immediates, behind_opcode, instruction}

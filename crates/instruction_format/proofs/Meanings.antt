@@ -14,7 +14,7 @@ use Rattle.instruction_format.specs.Spelled.{Spelled}
 use Rattle.instruction_format.specs.Grammar.{instruction}
 use Rattle.instruction_format.specs.Reading.{instruction_item, code_or_none, read_of, instr_from, instr_at, Answers}
 use Rattle.instruction_format.specs.Breaking.{instruction_stops}
-use Rattle.instruction_format.specs.Meaning.{IsInstrAt, BreaksAt, UnlessNoMemory, Exactly}
+use Rattle.instruction_format.specs.Meaning.{IsInstrAt, BreaksAt, Exactly}
 use Rattle.instruction_format.proofs.Exact.{instruction_exact}
 use Rattle.instruction_format.proofs.Stops.{instruction_stops_at}
 

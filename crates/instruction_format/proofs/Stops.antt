@@ -1,9 +1,8 @@
 -- Where an instruction stops.
-use Rattle.std.proofs.Common.{ℕ, List, [], ◌∷◌, Option, Some, None}
+use Rattle.std.proofs.Common.{ℕ, [], ◌∷◌, Option, Some, None}
 use Rattle.wasm_syntax.specs.declared.value.ValType.{ValType}
 use Rattle.wasm_syntax.specs.declared.instruction.Instr.{Instr}
 use Rattle.wasm_syntax.specs.declared.instruction.Instr.TheVariants as instr
-use Rattle.wasm_bytes.specs.Place.{Place, Read}
 use Rattle.wasm_bytes.specs.Reading.{◌⊗◌, mapped, checked, choose, one_of_item, bytes_item, u32_item, s32_item, s64_item, run_item, vector_item}
 use Rattle.wasm_bytes.specs.Spelling.{passing, one_of, u32, s32, s64, run, vector}
 use Rattle.wasm_bytes.specs.Stopping.{unread, text_stops, vector_stops}

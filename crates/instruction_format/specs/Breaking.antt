@@ -1,5 +1,5 @@
 -- Where an instruction stops being one: the offset of its first item without a reading, or of the end where an item is due.
-use Rattle.std.specs.Prelude.{ℕ, List, [], ◌∷◌, Option, Some, None}
+use Rattle.std.specs.Prelude.{ℕ, [], ◌∷◌, Option, Some, None}
 use Rattle.wasm_bytes.specs.Spelling.{passing, one_of, u32, s32, s64, run, vector}
 use Rattle.wasm_bytes.specs.Stopping.{Stops, never, unread, either, behind, then_stops, text_stops, tagged_stops, vector_stops}
 use Rattle.instruction_format.specs.Form.{Form, bare, indexed, access, typed, labels, indirect, reserved, constant_i32, constant_i64, bulk, float_bare, float_access, float_constant, is_zero, is_block_type, is_bulk, bulk_zeros}

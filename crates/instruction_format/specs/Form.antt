@@ -1,6 +1,6 @@
 -- The forms of immediates that stand behind opcodes (WebAssembly Core 1.0, 5.4; Core 2.0, 5.4, for `memory.copy`,
 -- `memory.fill` and the table number of `call_indirect`).
-use Rattle.std.specs.Prelude.{◌≡◌, ℕ, ℤ, List, [], ◌∷◌, length, Option, Some, None, Bool, ◌||◌, ◌==◌, if◌then◌else◌}
+use Rattle.std.specs.Prelude.{ℕ, ℤ, List, [], ◌∷◌, length, Option, Some, None, Bool, ◌||◌, ◌==◌, if◌then◌else◌}
 use Rattle.std.specs.Int.{w32, w64, cast_unsigned}
 use Rattle.wasm_syntax.specs.declared.value.ValType.{ValType}
 use Rattle.wasm_syntax.specs.declared.value.ValType.TheVariants.{I32, I64}

@@ -1,5 +1,5 @@
 -- The bytes that spell an instruction (WebAssembly Core 1.0, 5.4): an opcode of the table, and immediates of its form.
-use Rattle.std.specs.Prelude.{◌≡◌, ℕ, List, [], ◌∷◌, Option, Some, None}
+use Rattle.std.specs.Prelude.{ℕ, [], ◌∷◌, Option, Some, None}
 use Rattle.wasm_bytes.specs.Spelling.{Spellings, pair, leads, always, image, passing, only, one_of, text, u32, s32, s64, run, vector, tagged}
 use Rattle.wasm_syntax.specs.declared.instruction.Instr.TheVariants as instr
 use Rattle.instruction_format.specs.Spelled.{Spelled, alone, float}

@@ -1,5 +1,5 @@
 -- What the bytes of an instruction spell.
-use Rattle.std.specs.Prelude.{ℕ, List, [], Option, Some, None}
+use Rattle.std.specs.Prelude.{ℕ, List, []}
 use Rattle.wasm_syntax.specs.declared.instruction.Instr.{Instr}
 use Rattle.instruction_format.specs.declared.code.Code.{Code}
 use Rattle.instruction_format.specs.declared.code.Code.TheVariants.{Known, Float}

@@ -1,4 +1,4 @@
-use Rattle.std.proofs.Common.{length, take, ◌∙◌}
+use Rattle.std.proofs.Common.{take, ◌∙◌}
 use Rattle.std.specs.List.{flat_map}
 use Rattle.wasm_leb.specs.Writing.{unsigned_bytes}
 use Rattle.instruction_format.proofs.Written.{front_of, numbers_more, numbers_done}
