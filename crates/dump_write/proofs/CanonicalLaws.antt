@@ -1,6 +1,6 @@
 -- What the canonical bytes of a dump say.
-use Rattle.std.proofs.Common.{◌≡◌, ℕ, zero, suc, ◌+◌, ◌-◌, ◌*◌, ◌^◌, ◌<◌, ◌≤◌, Bool, true, false, cond, List, [], ◌∷◌, ◌++◌, length, map, take, drop, get_or, replicate, refl, sym, ap, subst, ◌∙◌, inl, inr, arith, lit<, add-one, length-append, length-take, All, Option, Some, None, Ok}
-use Rattle.std.specs.Prelude.{filter, not, ◌==◌, ◌||◌, nat_le}
+use Rattle.std.proofs.Common.{◌≡◌, ℕ, zero, suc, ◌+◌, ◌-◌, ◌*◌, ◌^◌, ◌<◌, ◌≤◌, Bool, true, false, cond, List, [], ◌∷◌, ◌++◌, length, map, drop, get_or, replicate, refl, sym, ap, subst, ◌∙◌, arith, lit<, add-one, length-append, length-take, All, Option, Some, None}
+use Rattle.std.specs.Prelude.{filter, not, ◌==◌, ◌||◌}
 use Rattle.std.specs.List.{list_any, range_with_len}
 use Rattle.std.proofs.lemmas.Bool.{le-leb, eqb-true}
 use Rattle.std.proofs.lemmas.List.{append-nil, length-replicate}
@@ -8,13 +8,9 @@ use Rattle.std.proofs.lemmas.List.Elements.{All-filter, All-map, All-head, All-t
 use Rattle.std.proofs.lemmas.List.FromFn.{length-range_with_len, get_or-range_with_len, filter_of_map_range_with_len_more}
 use Rattle.linear_memory.specs.Memory.{page_size, window, splice}
 use Rattle.wasm_syntax.specs.declared.value.Value.{Value}
-use Rattle.wasm_syntax.specs.declared.quantity.Quantity.TheVariants.{DumpBytes, DumpPages, DumpFrames}
-use Rattle.wasm_syntax.specs.Quantity.{greatest}
 use Rattle.dump_format.specs.declared.dump.Dump.{Dump}
 use Rattle.dump_format.specs.Region.{Region}
-use Rattle.dump_format.specs.Form.{pages_of, is_inside}
-use Rattle.dump_format.specs.Contained.{IsContained}
-use Rattle.dump_format.specs.Decode.{dump_from}
+use Rattle.dump_format.specs.Form.{pages_of}
 use Rattle.dump_format.specs.Sections.{header}
 use Rattle.dump_write.specs.Spelled.{global_bytes, vector_bytes}
 use Rattle.dump_write.specs.Pages.{memory_bytes, laid_on, page_region, is_used, used_pages}

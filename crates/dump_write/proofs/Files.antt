@@ -1,15 +1,14 @@
 -- Files that are written piece by piece.
-use Rattle.std.proofs.Common.{◌≡◌, ℕ, ◌+◌, ◌<◌, ◌≤◌, List, [], ◌∷◌, ◌++◌, length, take, drop, get_or, refl, sym, ap, subst, ◌∙◌, inl, inr, arith, append_assoc, length-append, Option, Some, None}
-use Rattle.std.specs.Prelude.{◌⊎◌, IfSome, IsSomeAnd, unwrap_or, min}
-use Rattle.std.specs.List.{flat_map}
+use Rattle.std.proofs.Common.{◌≡◌, ℕ, ◌+◌, List, [], ◌++◌, length, take, drop, refl, sym, ap, ◌∙◌, inl, inr, arith, append_assoc, Option, Some, None}
+use Rattle.std.specs.Prelude.{unwrap_or}
 use Rattle.std.proofs.lemmas.Bool.{cases_lt}
-use Rattle.std.proofs.lemmas.List.{take-append-le, take_all, take_at, append-nil, take-append-drop}
+use Rattle.std.proofs.lemmas.List.{take-append-le, take_all, take_at, take-append-drop}
 use Rattle.std.proofs.Math.Seq.{take-append-add}
 use Rattle.pm_outside.specs.Contents.{Contents, SameBut}
-use Rattle.pm_outside.specs.Answers.{Creates, Appends, IsKeptOrEmptied, HasMore, HasPrefixMore}
+use Rattle.pm_outside.specs.Answers.{Creates, Appends, HasMore, HasPrefixMore}
 use Rattle.pm_outside.specs.declared.answers.WriteAnswer.{WriteAnswer}
 use Rattle.pm_outside.specs.declared.answers.WriteAnswer.TheVariants as write
-use Rattle.dump_write.specs.Written.{OnTold, HasFile, HoldsFront, HasFront, Writes}
+use Rattle.dump_write.specs.Written.{OnTold, HasFile, HasFront, Writes}
 
 -- ---- facts where files tell what they hold
 

@@ -1,7 +1,6 @@
 -- The canonical bytes are read as the canonical dump.
-use Rattle.std.proofs.Common.{◌≡◌, ℕ, zero, suc, ◌+◌, ◌*◌, ◌^◌, ◌<◌, ◌≤◌, Bool, true, false, List, [], ◌∷◌, ◌++◌, length, map, refl, sym, ap, subst, ◌∙◌, inl, inr, arith, lit<, append_assoc, length-append, All, Option, Some, None, Ok, Err}
-use Rattle.std.specs.Prelude.{nat_lt, nat_le}
-use Rattle.std.specs.List.{flat_map, range_with_len}
+use Rattle.std.proofs.Common.{◌≡◌, ℕ, suc, ◌+◌, ◌^◌, ◌<◌, ◌≤◌, true, List, [], ◌∷◌, ◌++◌, length, map, refl, sym, ap, subst, ◌∙◌, arith, append_assoc, All, Option, Some, None, Ok}
+use Rattle.std.specs.List.{flat_map}
 use Rattle.std.specs.Str.{IsUtf8}
 use Rattle.std.proofs.lemmas.Bool.{le-ltb}
 use Rattle.std.proofs.lemmas.List.{append-nil}
@@ -18,15 +17,15 @@ use Rattle.dump_format.specs.declared.dump.Instance.{Instance}
 use Rattle.dump_format.specs.declared.fault.DumpPart.{DumpPart}
 use Rattle.dump_format.specs.declared.fault.DumpFault.{DumpFault}
 use Rattle.dump_format.specs.Region.{Region}
-use Rattle.dump_format.specs.Parts.{Part, Shown, ShownFrame, core, modules, instances, stack, memories, globals, segments, known}
+use Rattle.dump_format.specs.Parts.{Part, core, modules, instances, stack, memories, globals, segments, known}
 use Rattle.dump_format.specs.Form.{pages_of}
-use Rattle.dump_format.specs.Judged.{◌orelse◌, at_float, at_repeated, first_of, seen_of, value_of, frame_of, float_in, frame_floats, floats_in, dump_of, memory_of, frames_of, refusal, repeated, last_id, judged, over}
+use Rattle.dump_format.specs.Judged.{◌orelse◌, at_float, at_repeated, first_of, seen_of, value_of, frame_of, float_in, frame_floats, floats_in, dump_of, memory_of, frames_of, refusal, repeated, last_id, over}
 use Rattle.dump_format.specs.Decode.{dump_from}
 use Rattle.dump_format.specs.Sections.{has_core, header, parts_item}
-use Rattle.dump_format.specs.Grammar.{section_entry, one_section, dump_file, sections}
+use Rattle.dump_format.specs.Grammar.{section_entry, one_section, dump_file}
 use Rattle.dump_format.proofs.ExactSections.{parts_read}
 use Rattle.dump_write.specs.Canonical.{core_bytes, modules_bytes, instances_bytes, stack_bytes, memory_section, globals_section, data_section, sections_before_data, segments_of, instance_of, in_instance, canonical, canonical_bytes}
-use Rattle.dump_write.specs.Typed.{IsValueTyped, IsFrameTyped, IsTyped}
+use Rattle.dump_write.specs.Typed.{IsValueTyped, IsFrameTyped}
 use Rattle.dump_write.proofs.SpelledParts.{shown_frame, IsPlaced}
 use Rattle.dump_write.proofs.SpelledSections.{IsSmallInstance, core_spelled, modules_spelled, instances_spelled, stack_spelled, memory_spelled, globals_spelled, data_spelled, step_on, step_last}
 

@@ -1,11 +1,11 @@
 -- Sizes of spellings.
-use Rattle.std.proofs.Common.{◌≡◌, ℕ, zero, suc, ◌+◌, ◌*◌, ◌/◌, ◌<◌, ◌≤◌, Bool, true, false, cond, List, [], ◌∷◌, ◌++◌, length, take, get_or, refl, sym, ap, subst, ◌∙◌, arith, append_assoc, length-append, ℤ, All}
+use Rattle.std.proofs.Common.{◌≡◌, ℕ, zero, suc, ◌+◌, ◌*◌, ◌/◌, ◌<◌, ◌≤◌, Bool, true, false, cond, List, [], ◌∷◌, ◌++◌, length, take, get_or, sym, ap, subst, ◌∙◌, arith, length-append, ℤ, All}
 use Rattle.std.specs.Prelude.{nat_lt}
 use Rattle.std.specs.Int.{w32, cast_signed}
 use Rattle.std.specs.List.{flat_map}
 use Rattle.std.proofs.lemmas.List.{take_more, take_all}
 use Rattle.std.proofs.lemmas.List.Concat.{flat_map-append}
-use Rattle.wasm_leb.specs.Writing.{unsigned_groups, unsigned_bytes, fits_seven, signed_groups, signed_bytes, above_seven, low_seven}
+use Rattle.wasm_leb.specs.Writing.{unsigned_groups, unsigned_bytes, fits_seven, signed_groups, signed_bytes, above_seven}
 use Rattle.dump_format.specs.Region.{Region}
 use Rattle.dump_write.specs.Spelled.{segment_head, segment_bytes, vector_bytes}
 use Rattle.dump_write.proofs.Lists.{flat_map-one}

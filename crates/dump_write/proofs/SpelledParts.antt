@@ -1,12 +1,12 @@
 -- The shortest bytes of each part of a dump spell it.
-use Rattle.std.proofs.Common.{◌≡◌, ℕ, zero, suc, ◌+◌, ◌*◌, ◌^◌, ◌<◌, ◌≤◌, Bool, true, false, List, [], ◌∷◌, ◌++◌, length, map, refl, sym, ap, subst, ◌∙◌, inl, inr, arith, lit<, append_assoc, length-append, All, Option, Some, None}
-use Rattle.std.specs.Int.{w32, w64, cast_signed, cast_unsigned}
+use Rattle.std.proofs.Common.{◌≡◌, ℕ, ◌+◌, ◌^◌, ◌<◌, ◌≤◌, true, List, [], ◌∷◌, ◌++◌, length, map, refl, sym, ap, subst, ◌∙◌, inl, inr, arith, lit<, append_assoc, length-append, All, Some}
+use Rattle.std.specs.Int.{w32, w64, cast_signed}
 use Rattle.std.specs.List.{flat_map}
 use Rattle.std.specs.Str.{IsUtf8}
 use Rattle.std.proofs.lemmas.List.{length-map}
 use Rattle.std.proofs.lemmas.Int.{ints, of_z-to_z}
 use Rattle.std.proofs.lemmas.List.Elements.{All-head, All-tail}
-use Rattle.wasm_leb.specs.Numbers.{IsUnsigned, IsSigned}
+use Rattle.wasm_leb.specs.Numbers.{IsUnsigned}
 use Rattle.wasm_leb.specs.Reading.{IsWithin}
 use Rattle.wasm_leb.specs.Writing.{unsigned_bytes, signed_bytes}
 use Rattle.wasm_leb.proofs.UnsignedBytes.{unsigned_spells}
@@ -19,9 +19,9 @@ use Rattle.wasm_syntax.specs.declared.value.Value.TheVariants as value
 use Rattle.dump_format.specs.declared.dump.Frame.{Frame}
 use Rattle.dump_format.specs.declared.dump.Instance.{Instance}
 use Rattle.dump_format.specs.Region.{Region}
-use Rattle.dump_format.specs.Parts.{Shown, known, ShownFrame}
-use Rattle.dump_format.specs.Form.{known_i32, known_i64, global_i32, global_i64, is_inside}
-use Rattle.dump_format.specs.Grammar.{value_entry, module_entry, instance_entry, frame_entry, stack_entry, limits_entry, global_entry, segment_entry}
+use Rattle.dump_format.specs.Parts.{known, ShownFrame}
+use Rattle.dump_format.specs.Form.{is_inside}
+use Rattle.dump_format.specs.Grammar.{value_entry, module_entry, instance_entry, frame_entry, limits_entry, global_entry, segment_entry}
 use Rattle.dump_write.specs.Spelled.{name_bytes, vector_bytes, module_bytes, seen_bytes, frame_bytes, global_bytes, segment_head, segment_bytes}
 use Rattle.dump_write.specs.Canonical.{instance_bytes}
 use Rattle.dump_write.specs.Typed.{IsSeenTyped, IsValueTyped, IsFrameTyped}

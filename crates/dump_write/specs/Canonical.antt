@@ -1,6 +1,6 @@
 -- The one list of bytes that is written of a dump: one module and one instance of the dump's name, one thread, numbers in their
 -- shortest spellings, and of the memory the pages that are not all zero, each whole (tool-conventions Coredump.md; Core 5.5).
-use Rattle.std.specs.Prelude.{◌≡◌, ℕ, List, [], ◌∷◌, ◌++◌, length, map, Option, Some, None, codes}
+use Rattle.std.specs.Prelude.{ℕ, List, [], ◌∷◌, ◌++◌, length, map, Option, Some, None, codes}
 use Rattle.std.specs.List.{range_with_len}
 use Rattle.wasm_leb.specs.Writing.{unsigned_bytes}
 use Rattle.wasm_syntax.specs.declared.value.Value.{Value}
@@ -10,7 +10,7 @@ use Rattle.dump_format.specs.declared.dump.Instance.{Instance}
 use Rattle.dump_format.specs.Region.{Region}
 use Rattle.dump_format.specs.Form.{pages_of}
 use Rattle.dump_format.specs.Sections.{header}
-use Rattle.dump_write.specs.Spelled.{name_bytes, vector_bytes, module_bytes, frame_bytes, global_bytes, segment_bytes, section_bytes, custom_bytes}
+use Rattle.dump_write.specs.Spelled.{vector_bytes, module_bytes, frame_bytes, global_bytes, segment_bytes, section_bytes, custom_bytes}
 use Rattle.dump_write.specs.Pages.{memory_bytes, used_pages}
 
 -- ---- the instance

@@ -1,5 +1,5 @@
 -- The memory of a dump, and the pages that are written of it.
-use Rattle.std.specs.Prelude.{◌≡◌, ℕ, ◌+◌, ◌*◌, ◌≤◌, List, [], ◌∷◌, map, filter, fold, replicate, length, Option, Bool, true, false, not, ◌==◌}
+use Rattle.std.specs.Prelude.{ℕ, ◌*◌, List, map, filter, fold, replicate, Bool, not, ◌==◌}
 use Rattle.std.specs.List.{list_any, range_with_len}
 use Rattle.linear_memory.specs.Memory.{page_size, window, splice}
 use Rattle.dump_format.specs.declared.dump.Dump.{Dump}

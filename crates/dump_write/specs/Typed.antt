@@ -1,5 +1,5 @@
 -- The values that the types of a dump can hold: names are texts, and numbers have 32 or 64 bits.
-use Rattle.std.specs.Prelude.{◌≡◌, ℕ, ◌^◌, ◌<◌, All}
+use Rattle.std.specs.Prelude.{◌^◌, ◌<◌, All}
 use Rattle.std.specs.Str.{IsUtf8}
 use Rattle.wasm_syntax.specs.declared.value.Seen.{Seen}
 use Rattle.wasm_syntax.specs.declared.value.Seen.TheVariants as seen

@@ -1,9 +1,9 @@
 use Rattle.std.proofs.Common.{◌≡◌, ◌+◌, ◌*◌, ◌<◌, ◌≤◌, List, [], ◌∷◌, ◌++◌, length, replicate, All, refl, sym, ap, subst, ◌∙◌, arith}
 use Rattle.std.proofs.lemmas.List.Elements.{All-push}
-use Rattle.linear_memory.specs.Memory.{page_size, pages, window}
+use Rattle.linear_memory.specs.Memory.{page_size, pages}
 use Rattle.dump_format.specs.Region.{Region}
 use Rattle.dump_write.specs.Pages.{laid_on}
-use Rattle.dump_write.proofs.LaidLists.{PagesUpTo, FirstPages, page_more, page_passed, pages_all, page_laid, page_absent, pages_laid, length-window}
+use Rattle.dump_write.proofs.LaidLists.{PagesUpTo, FirstPages, page_more, page_passed, pages_all, page_laid, page_absent, length-window}
 use Rattle.dump_write.proofs.pages.memory_segments.Goals as goal
 use Rattle.dump_write.proofs.pages.memory_segments.Goals.{in-Some+in_ok-push, in_default}
 

@@ -1,4 +1,4 @@
-use Rattle.std.proofs.Common.{◌≡◌, ℕ, ◌+◌, ◌≤◌, List, [], ◌++◌, length, ap, ◌∙◌, arith}
+use Rattle.std.proofs.Common.{◌≡◌, ℕ, List, [], ◌++◌, length, ap, ◌∙◌, arith}
 use Rattle.dump_format.specs.Region.{Region}
 use Rattle.dump_write.proofs.Sizes.{ten_bytes, size_more, size_within, size_all}
 use Rattle.dump_write.proofs.segments.contents_size.Goals as goal

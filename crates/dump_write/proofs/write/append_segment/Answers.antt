@@ -1,5 +1,4 @@
-use Rattle.std.proofs.Common.{◌≡◌, ℕ, List, ◌++◌, sym, ap, subst, ◌∙◌}
-use Rattle.pm_outside.specs.Contents.{Contents}
+use Rattle.std.proofs.Common.{◌≡◌, ℕ, List, ◌++◌, ap, subst, ◌∙◌}
 use Rattle.pm_outside.specs.Answers.{Appends, HasMore}
 use Rattle.dump_format.specs.Region.{Region}
 use Rattle.dump_write.specs.Spelled.{segment_head, segment_bytes}

@@ -1,5 +1,4 @@
-use Rattle.std.proofs.Common.{◌≡◌, sym, ◌∙◌, arith}
-use Rattle.dump_write.specs.Canonical.{segments_of}
+use Rattle.std.proofs.Common.{sym, ◌∙◌, arith}
 use Rattle.dump_write.proofs.Pieces.{written_few, written_small, all_written}
 use Rattle.dump_write.proofs.write.bytes_with.Goals as goal
 

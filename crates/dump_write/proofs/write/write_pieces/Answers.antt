@@ -1,6 +1,5 @@
-use Rattle.std.proofs.Common.{◌≡◌, ℕ, ◌+◌, List, [], ◌++◌, take, drop, refl, subst, ◌∙◌, arith}
+use Rattle.std.proofs.Common.{ℕ, ◌+◌, List, [], ◌++◌, take, drop, refl, subst, ◌∙◌, arith}
 use Rattle.std.specs.List.{flat_map}
-use Rattle.pm_outside.specs.Contents.{Contents}
 use Rattle.pm_outside.specs.Answers.{Appends, HasMore}
 use Rattle.dump_write.specs.Spelled.{segment_bytes}
 use Rattle.dump_write.specs.Pieces.{pages_bytes}
