@@ -6,3 +6,4 @@ pub mod BranchLaws
 pub mod JumpLaws
 pub mod CallLaws
 pub mod LocalLaws
+pub mod BeginLaws

@@ -1,9 +1,11 @@
 -- What a step of a stack of calls has to come to.
-use Rattle.std.specs.Prelude.{◌≡◌, ℕ, List, [], ◌∷◌}
+use Rattle.std.specs.Prelude.{◌≡◌, ℕ, ◌+◌, List, [], ◌∷◌, length}
 use Rattle.wasm_syntax.specs.declared.value.Value.{Value}
 use Rattle.wasm_syntax.specs.declared.value.Value.TheVariants as values
+use Rattle.wasm_syntax.specs.declared.parts.Body.{Body}
+use Rattle.wasm_syntax.specs.declared.parts.FuncType.{FuncType}
 use Rattle.wasm_syntax.specs.declared.host.CollectorCall.{CollectorCall}
-use Rattle.wasm_syntax.specs.Tree.{Item, Jump, Nodes, jump}
+use Rattle.wasm_syntax.specs.Tree.{Item, Jump, Nodes, jump, Tree}
 use Rattle.wasm_syntax.specs.Module.{Program, function_at}
 use Rattle.wasm_syntax.specs.Host.{World}
 use Rattle.wasm_syntax.specs.Machine as steps
@@ -125,3 +127,11 @@ return_at x = steps.moved x.engine (steps.out_some (steps.top x.frame.result x.l
 
 abbrev pub branch_at : Point → ℕ → steps.Stepped
 branch_at x n = steps.moved x.engine (steps.branch n x.label.operands (x.label ∷ x.outer)) x.frame x.callers x.world x.collected
+
+-- a function was begun on these arguments, with no frame under it
+abbrev pub Begun : Program → List Code → ℕ → Body → Tree → FuncType → List Value → Stepped → CallStack → Type 0
+Begun p codes function body tree type args Next m = StandsFor p codes m (steps.entered (length p.module_.imports + function) body tree type args ∷ [])
+Begun p codes function body tree type args NoMemory m = Unit {0}
+Begun p codes function body tree type args Ended m = ⊥
+Begun p codes function body tree type args (Trap kind) m = ⊥
+Begun p codes function body tree type args Stuck m = ⊥

@@ -45,7 +45,7 @@ fn push_locals(values: &mut Stack<Value>, groups: &[LocalGroup]) -> Result<(), N
 }
 
 /// Enters a function with its arguments on top. Its caller goes on at `next`.
-fn enter(m: &mut CallStack, callee: &Code, function: usize, next: usize) -> Stepped
+pub(crate) fn enter(m: &mut CallStack, callee: &Code, function: usize, next: usize) -> Stepped
     ensures { Becomes result m.new (record {
       values = reverse (zeros (declared_locals callee.now.body.now.groups)) ++ m.old.values;
       controls = m.old.controls;
@@ -83,7 +83,7 @@ fn is_full(m: &CallStack, depth: usize) -> bool
     m.frames.len() >= depth
 }
 
-fn code_at<'a, 'b>(codes: &'b [Code<'a>], function: usize) -> Option<&'b Code<'a>>
+pub(crate) fn code_at<'a, 'b>(codes: &'b [Code<'a>], function: usize) -> Option<&'b Code<'a>>
     ensures { MatchOption result (slice_get codes.now function ≡ None) (λ code. slice_get codes.now function ≡ Some code.now) }
 {
     codes.get(function)
