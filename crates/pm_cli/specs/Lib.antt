@@ -1,5 +1,10 @@
 pub mod Answer
+pub mod Check
 pub mod Codes
+pub mod Input
+pub mod Inputs
+pub mod Loaded
+pub mod Loading
 pub mod Progress
 pub mod Reading
 pub mod Show

@@ -6,7 +6,7 @@ use Rattle.pm_cli.specs.declared.outcome.Outcome.{Outcome}
 use Rattle.pm_cli.specs.declared.status.Status.{Status}
 use Rattle.pm_cli.specs.declared.status.Status.TheVariants as status
 use Rattle.pm_cli.specs.declared.words.Command.{Command}
-use Rattle.pm_cli.specs.declared.words.Command.TheVariants.{Show}
+use Rattle.pm_cli.specs.declared.words.Command.TheVariants.{Check, Show}
 
 -- A fact on each status that is no fault of a file or of the output, nor want of memory.
 abbrev pub UnlessFault : Status → Type 0 → Type 0
@@ -39,6 +39,7 @@ HasTakenFront before after text = (n : ℕ) × (after ≡ Some (before ++ take n
 
 -- The text names the file that the command reads.
 abbrev pub IsFaultOf : Option Command → List ℕ → Type 0
+IsFaultOf (Some (Check m)) text = text ≡ (file_fault m).text
 IsFaultOf (Some (Show dump)) text = text ≡ (file_fault dump).text
 IsFaultOf None text = ⊥
 

@@ -1,20 +1,24 @@
 -- What a list of words asks for.
 use Rattle.std.specs.Prelude.{List, [], ◌∷◌, Option, Some, None, if◌then◌else◌, codes, option_and_then}
+use Rattle.std.specs.Option.{option_map}
 use Rattle.std.specs.Str.{bytes_eq}
 use Rattle.pm_cli.specs.Reading.{Word, no_options, read_words}
 use Rattle.pm_cli.specs.declared.words.Command.{Command}
-use Rattle.pm_cli.specs.declared.words.Command.TheVariants.{Show}
+use Rattle.pm_cli.specs.declared.words.Command.TheVariants.{Check, Show}
 
-abbrev pub only_dump : List Word → Option Command
-only_dump (dump ∷ []) = Some (Show dump)
-only_dump [] = None
-only_dump (dump ∷ other ∷ words) = None
+abbrev pub only : List Word → Option Word
+only (word ∷ []) = Some word
+only [] = None
+only (word ∷ other ∷ words) = None
 
--- `show DUMP`
-unfoldable pub show_command : List Word → Option Command
-show_command words = option_and_then (λ r. only_dump r.plain) (read_words no_options words)
+-- the one plain word behind a command without options
+unfoldable pub one_word : List Word → Option Word
+one_word words = option_and_then (λ r. only r.plain) (read_words no_options words)
 
--- the first word is the command
+-- the first word is the command: `check M`, `show DUMP`
 unfoldable pub command : List Word → Option Command
 command [] = None
-command (name ∷ words) = if bytes_eq name (codes "show") then show_command words else None
+command (name ∷ words) =
+    if bytes_eq name (codes "check") then option_map Check (one_word words)
+    else (if bytes_eq name (codes "show") then option_map Show (one_word words)
+    else None)

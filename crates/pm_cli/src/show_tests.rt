@@ -1,7 +1,6 @@
 //! `show` over files in memory.
 
-use crate::post_mortem;
-use pm_outside::{MemFiles, MemSink};
+use crate::trial::{USAGE, answers};
 use std::alloc::{AllocError, Global};
 use std::process::Abort;
 use std::test::Fail;
@@ -63,36 +62,6 @@ const PLAIN_FRAME: [u8; 6] = [0x00, 0x00, 0x00, 0x05, 0x00, 0x00];
 const GLOBALS: [u8; 14] = [
     0x06, 0x0C, 0x02, 0x7F, 0x00, 0x41, 0x7F, 0x0B, 0x7E, 0x01, 0x42, 0xC0, 0x00, 0x0B,
 ];
-
-const USAGE: &str = "usage: check, run, instrument, show, debug or selftest\n";
-
-/// The status and the text that the words get, where a file named `d` holds these pieces and these calls on files and
-/// on the output fail.
-fn answers(
-    rt: &impl Abort,
-    alloc: Global,
-    words: &[&str],
-    pieces: &[&[u8]],
-    fails: (&[u64], &[u64]),
-    wanted: (u8, &str),
-) -> Result<(), Fail> {
-    let mut list = Vec::new(alloc);
-    for word in words {
-        list.push(String::from_str(alloc, word)?)?;
-    }
-    let mut bytes = Vec::new(alloc);
-    for piece in pieces {
-        bytes.extend_from_slice(piece)?;
-    }
-    let mut files = MemFiles::new(alloc, Vec::from_slice(alloc, fails.0)?);
-    files.add("d", &bytes)?;
-    let mut out = MemSink::new(alloc, Vec::from_slice(alloc, fails.1)?);
-    let status = post_mortem(alloc, &list, &mut files, &mut out);
-    let text = str::from_utf8(out.bytes())?;
-    assert_eq!(rt; text, wanted.1);
-    assert_eq!(rt; status.code(), wanted.0);
-    Ok(())
-}
 
 /// `show d` over these pieces.
 fn shows(

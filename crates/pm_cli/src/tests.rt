@@ -48,6 +48,28 @@ fn reads_commands(rt: HostRuntime) -> Result<(), Fail> {
     Ok(())
 }
 
+#[test]
+fn reads_checks(rt: HostRuntime) -> Result<(), Fail> {
+    let cases = [
+        ("check a", Some("a")),
+        ("check -- -a", Some("-a")),
+        ("check", None),
+        ("check a b", None),
+        ("check --fuel=1 a", None),
+    ];
+    for (line, file) in cases {
+        let words = words_of(rt.alloc(), line)?;
+        let wanted = match file {
+            Some(file) => Ok(Command::Check {
+                module: Text::from_str(rt.alloc(), file)?,
+            }),
+            None => Err(WordsFault::Usage),
+        };
+        assert_eq!(rt; parse_words(rt.alloc(), words.as_slice()), wanted, "{line}");
+    }
+    Ok(())
+}
+
 /// The plain words and the options, each followed by a bar.
 fn spelled(alloc: Global, reading: &Reading<'_>) -> Result<Text, NoMemory> {
     let mut text = Text::new(alloc);

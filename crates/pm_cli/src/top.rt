@@ -3,7 +3,8 @@
 ghost use Rattle.std.specs.Prelude.{◌≡◌, ◌≤◌, ◌⊎◌, ◌++◌, List, ℕ, map, Some, IfSome};
 ghost use Rattle.std.specs.String.{string_bytes};
 ghost use Rattle.causes.specs.Counts.{Rose};
-ghost use Rattle.pm_cli.specs.Answer.{answer};
+ghost use Rattle.pm_cli.specs.Answer.{IsAnswer};
+ghost use Rattle.pm_cli.specs.declared.outcome.Outcome.{Outcome as OutcomeThere};
 ghost use Rattle.pm_cli.specs.Told.{UnlessFault, Takes, HasTakenFront, IsFaultText};
 
 use crate::command::respond;
@@ -41,7 +42,7 @@ pub fn post_mortem<F: Files, O: Sink>(
 ) -> Status
     // Where files and output are told, status and text are those of the answer, but for a fault and want of memory.
     ensures answer { IfSome (F.told files.old) (λ held. IfSome (O.taken out.old) (λ before.
-        UnlessFault result (Takes result before (O.taken out.new) (answer (map string_bytes words.now) held)))) }
+        UnlessFault result ((o : OutcomeThere) × IsAnswer (map string_bytes words.now) held o × Takes result before (O.taken out.new) o))) }
 
     // A fault is answered only where a count rose.
     ensures fault { result ≡ Status.FileFault
@@ -53,10 +54,11 @@ pub fn post_mortem<F: Files, O: Sink>(
         → Rose (F.faults files.old) (F.faults files.new) × ((text : List ℕ)
         × IsFaultText (map string_bytes words.now) text × (O.taken out.new ≡ Some (before ++ text)))) }
 
-    // However it ends, the output has taken a front of the answer's text, or, where a count of the files rose, of the
+    // However it ends, the output has taken nothing, or a front of the answer's text, or, where a count of the files rose, a front of the
     // text that names a file.
     ensures front { IfSome (F.told files.old) (λ held. IfSome (O.taken out.old) (λ before.
-        HasTakenFront before (O.taken out.new) (answer (map string_bytes words.now) held).text
+        (O.taken out.new ≡ Some before)
+        ⊎ ((o : OutcomeThere) × IsAnswer (map string_bytes words.now) held o × HasTakenFront before (O.taken out.new) o.text)
         ⊎ (Rose (F.faults files.old) (F.faults files.new) × ((text : List ℕ)
         × IsFaultText (map string_bytes words.now) text × HasTakenFront before (O.taken out.new) text)))) }
 

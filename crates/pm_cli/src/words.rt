@@ -2,7 +2,7 @@
 
 ghost use Rattle.std.specs.Prelude.{◌≡◌, map, None, Some, IfOk};
 ghost use Rattle.std.specs.String.{string_bytes};
-ghost use Rattle.pm_cli.specs.Words.{show_command, command};
+ghost use Rattle.pm_cli.specs.Words.{one_word, command};
 
 use crate::reading::{self, Options};
 use pm_text::{NoMemory, Text};
@@ -11,6 +11,8 @@ use std::alloc::Global;
 /// A command with its words.
 #[derive(Debug, PartialEq, Eq, Drop)]
 pub enum Command {
+    /// `check M`
+    Check { module: Text },
     /// `show DUMP`
     Show { dump: Text },
 }
@@ -34,20 +36,17 @@ impl From<NoMemory> for WordsFault {
     }
 }
 
-/// `show DUMP`
-#[tactic(auto, unfolding(crate::specs::Words::show_command))]
-fn show(alloc: Global, words: &[String]) -> Result<Command, WordsFault>
-    ensures ok { IfOk result (λ c. show_command (map string_bytes words.now) ≡ Some c) }
-    ensures usage { result ≡ Err WordsFault.Usage → show_command (map string_bytes words.now) ≡ None }
+/// The one plain word behind a command without options.
+#[tactic(auto, unfolding(crate::specs::Words::one_word))]
+fn one_word(alloc: Global, words: &[String]) -> Result<Text, WordsFault>
+    ensures ok { IfOk result (λ t. one_word (map string_bytes words.now) ≡ Some t) }
+    ensures usage { result ≡ Err WordsFault.Usage → one_word (map string_bytes words.now) ≡ None }
 {
     let Some(reading) = reading::read_words(alloc, words, &Options::none())? else {
         return Err(WordsFault::Usage);
     };
     match reading.plain() {
-        [dump] => {
-            let dump = Text::from_str(alloc, dump)?;
-            Ok(Command::Show { dump })
-        }
+        [word] => Ok(Text::from_str(alloc, word)?),
         _ => Err(WordsFault::Usage),
     }
 }
@@ -62,7 +61,12 @@ pub fn parse_words(alloc: Global, words: &[String]) -> Result<Command, WordsFaul
         return Err(WordsFault::Usage);
     };
     match name.as_str() {
-        "show" => show(alloc, words),
+        "check" => Ok(Command::Check {
+            module: one_word(alloc, words)?,
+        }),
+        "show" => Ok(Command::Show {
+            dump: one_word(alloc, words)?,
+        }),
         _ => Err(WordsFault::Usage),
     }
 }

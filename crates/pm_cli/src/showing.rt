@@ -1,0 +1,82 @@
+//! `show`.
+
+ghost use Rattle.std.specs.Prelude.{◌≡◌, ◌≢◌, ◌≤◌, ◌++◌, IfOk, IfSome, OnOk, codes};
+ghost use Rattle.std.specs.Fmt.{decimal};
+ghost use Rattle.causes.specs.Counts.{Rose};
+ghost use Rattle.dump_format.specs.Decode.{dump_from};
+ghost use Rattle.pm_cli.specs.Answer.{ShowAnswer, bad_dump, refused, shown};
+ghost use Rattle.pm_cli.specs.Texts.{file_fault};
+ghost use Rattle.pm_cli.specs.Told.{UnlessFault};
+
+use crate::dump_text::show;
+use crate::input::{Input, read_input};
+use crate::outcome::{Outcome, over_limit, push_number};
+use crate::status::Status;
+use causes::NoMemory;
+use dump_format::{DumpFault, DumpPart, decode_dump};
+use pm_outside::Files;
+use pm_text::Text;
+use std::alloc::Global;
+use wasm_syntax::Quantity;
+
+/// A dump that is refused for what stands at an offset.
+fn bad_at(alloc: Global, cause: &str, at: usize) -> Result<Outcome, NoMemory>
+    ensures { IfOk result (λ o. o ≡ bad_dump (cause.now ++ decimal at)) }
+{
+    let mut text = Text::from_str(alloc, "bad dump: ")?;
+    push_number(&mut text, cause, at as u64)?;
+    text.push_str("\n")?;
+    Ok(Outcome {
+        status: Status::BadDump,
+        text,
+    })
+}
+
+/// A dump that has a part twice.
+fn bad_part(alloc: Global, part: DumpPart) -> Result<Outcome, NoMemory>
+    ensures { IfOk result (λ o. o ≡ refused (DumpFault.Several part)) }
+{
+    let mut text = Text::from_str(alloc, "bad dump: several ")?;
+    text.push_str(part.text())?;
+    text.push_str("\n")?;
+    Ok(Outcome {
+        status: Status::BadDump,
+        text,
+    })
+}
+
+/// What the bytes of a dump show.
+fn show_bytes(alloc: Global, bytes: &[u8]) -> Result<Outcome, NoMemory>
+    ensures value { IfOk result (λ o. o ≡ shown (dump_from bytes.now)) }
+    ensures memory { IfOk result (λ o. o.status ≢ Status.NoMemory) }
+    ensures fault { IfOk result (λ o. o.status ≢ Status.FileFault) }
+{
+    match decode_dump(alloc, bytes) {
+        Ok(dump) => Ok(Outcome {
+            status: Status::Done,
+            text: show(alloc, &dump)?,
+        }),
+        Err(DumpFault::Malformed { at }) => bad_at(alloc, "malformed at ", at),
+        Err(DumpFault::FloatValue { at }) => bad_at(alloc, "float value at ", at),
+        Err(DumpFault::Several { part }) => bad_part(alloc, part),
+        Err(DumpFault::Limit { what, count }) => over_limit(alloc, what, count),
+        Err(DumpFault::NoMemory) => Err(NoMemory),
+    }
+}
+
+/// Shows the dump in a file.
+pub fn show_file<F: Files>(alloc: Global, files: &mut F, file: &str) -> Result<Outcome, NoMemory>
+    ensures told { IfSome (F.told files.old) (λ held. IfOk result (λ o.
+        UnlessFault o.status (ShowAnswer file.now (held file.now) o))) }
+    ensures fault { IfOk result (λ o. o.status ≡ Status.FileFault
+        → (o ≡ file_fault file.now) × Rose (F.faults files.old) (F.faults files.new)) }
+    ensures memory { IfOk result (λ o. o.status ≢ Status.NoMemory) }
+    ensures later { F.faults files.old ≤ F.faults files.new }
+    ensures same { F.told files.new ≡ F.told files.old }
+    ensures names { F.created files.new ≡ F.created files.old }
+{
+    match read_input(alloc, files, file, Quantity::DumpBytes)? {
+        Input::Whole(bytes) => show_bytes(alloc, &bytes),
+        Input::Refused(refusal) => Ok(refusal),
+    }
+}
