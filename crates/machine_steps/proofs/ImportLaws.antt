@@ -33,7 +33,7 @@ below : (p : Program) (g : ℕ) → g < length p.module_.imports → function_at
 below p g lt = let test : nat_lt g (length p.module_.imports) ≡ true = grind (arith, nat_tests) in ap (λ b. if b then imported_at p.module_ g else defined_at p (g - length p.module_.imports)) test
 
 module _ (x : Point) (m : Machine) (code : Code) (h : Here x m code) where
-  module _ (call : ImportCall) (vs : List Value) (at : ℕ) (j : Jump) (rest : Nodes) (node : x.label.nodes ≡ jump at j rest) (under : UnderIndex call.indirect x.label.operands vs) where
+  module _ (call : ImportCall) (vs : List Value) (at : ℕ) (j : Jump) (rest : Nodes) (node : x.label.nodes ≡ jump at j rest) (under : UnderIndex call.indirect x.label.operands vs) (next_is : call.next ≡ suc m.stack.position) where
     calls : (i : Imported) (type : FuncType) → function_at x.engine.program call.function ≡ Some (imported i type) → (s : steps.Stepped) → s ≡ call_at x call.function vs at rest → CallsImport x.engine x.codes (config_at x) call s m
     calls i type is s e = record {
       import = i;
@@ -50,6 +50,7 @@ module _ (x : Point) (m : Machine) (code : Code) (h : Here x m code) where
       node = node;
       operands = vs;
       under = under;
+      next = next_is;
       step = e;
       stands = stands_here x m code h;
     }

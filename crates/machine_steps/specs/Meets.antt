@@ -1,5 +1,5 @@
 -- What a step of a machine has to come to.
-use Rattle.std.specs.Prelude.{◌≡◌, ℕ, Bool, true, false, List, [], ◌∷◌, Option, Some}
+use Rattle.std.specs.Prelude.{◌≡◌, ℕ, suc, Bool, true, false, List, [], ◌∷◌, Option, Some}
 use Rattle.wasm_syntax.specs.declared.value.Value.{Value}
 use Rattle.wasm_syntax.specs.declared.value.Value.TheVariants as values
 use Rattle.wasm_syntax.specs.declared.parts.Import.{Import as Imported}
@@ -80,6 +80,7 @@ pub record CallsImport (engine : Engine) (codes : List Code) (c : Config) (call 
   pub node : label.nodes ≡ jump at jumps rest
   pub operands : List Value
   pub under : UnderIndex call.indirect label.operands operands
+  pub next : call.next ≡ suc m.stack.position
   pub step : s ≡ steps.calls engine (function_at engine.program call.function) call.function operands at rest frame label outer callers c.world c.collected
   pub stands : StandsFor engine.program codes m c
 

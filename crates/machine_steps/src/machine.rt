@@ -35,6 +35,8 @@ pub struct Machine {
 pub struct ImportCall {
     pub function: usize,
     pub indirect: bool,
+    /// The index of the instruction behind the call.
+    pub next: usize,
 }
 
 /// What a step came to.

@@ -3,7 +3,7 @@
 ghost use Rattle.std.specs.Prelude.{◌≡◌, ◌+◌, ◌<◌, ◌^◌, IsSome, MatchOption, slice_get, Some, None};
 ghost use Rattle.wasm_syntax.specs.Tree.{Plain, Goes, Call, CallIndirect, item_of, jump_of};
 ghost use Rattle.wasm_syntax.specs.Machine.{Engine, Config, step};
-ghost use Rattle.flat_code.specs.declared.code.Code.{Code as Prepared_};
+ghost use Rattle.flat_code.specs.declared.code.Code.{Code as FlatCode};
 ghost use Rattle.frame_steps.specs.Meets.{Point, Reads, CallPlace, step_at, call_at};
 ghost use Rattle.machine_steps.specs.Prepares.{IsPrepared};
 ghost use Rattle.machine_steps.specs.Meets.{StandsFor, Here, Meets, MeetsAt};
@@ -20,7 +20,7 @@ use wasm_syntax::{Basic, Instr, Jump, Op, Value};
 /// Performs an instruction behind which the next one is run.
 fn basic(m: &mut Machine, instruction: &Basic, next: usize) -> Outcome
     requires { next ≡ m.old.stack.position + 1 }
-    ensures { (x : Point) (code : Prepared_) → Here x m.old code → Reads m.old.stack code (Plain instruction.now) → MeetsAt x result (step_at x) m.new }
+    ensures { (x : Point) (code : FlatCode) → Here x m.old code → Reads m.old.stack code (Plain instruction.now) → MeetsAt x result (step_at x) m.new }
 {
     match m.stack.frames.peek(0) {
         Some(frame) => {
@@ -46,12 +46,13 @@ fn direct(
     next: usize,
 ) -> Outcome
     requires { next ≡ m.old.stack.position + 1 }
-    ensures { (x : Point) (code : Prepared_) → Here x m.old code → x.codes ≡ prepared.now.codes.items → IsPrepared x.engine.program prepared.now → x.engine.depth ≡ depth → Reads m.old.stack code (Goes (Call function)) → MeetsAt x result (step_at x) m.new }
+    ensures { (x : Point) (code : FlatCode) → Here x m.old code → x.codes ≡ prepared.now.codes.items → IsPrepared x.engine.program prepared.now → x.engine.depth ≡ depth → Reads m.old.stack code (Goes (Call function)) → MeetsAt x result (step_at x) m.new }
 {
     if function < prepared.imports {
         Outcome::Import(ImportCall {
             function,
             indirect: false,
+            next,
         })
     } else {
         let index = function - prepared.imports;
@@ -68,12 +69,13 @@ fn under_index(
     next: usize,
 ) -> Outcome
     requires { next ≡ m.old.stack.position + 1 }
-    ensures { (x : Point) (code : Prepared_) (place : CallPlace x) → Here x m.old code → x.codes ≡ prepared.now.codes.items → IsPrepared x.engine.program prepared.now → x.engine.depth ≡ depth → MeetsAt x result (call_at x function place.operands place.at place.rest) m.new }
+    ensures { (x : Point) (code : FlatCode) (place : CallPlace x) → Here x m.old code → x.codes ≡ prepared.now.codes.items → IsPrepared x.engine.program prepared.now → x.engine.depth ≡ depth → MeetsAt x result (call_at x function place.operands place.at place.rest) m.new }
 {
     if function < prepared.imports {
         Outcome::Import(ImportCall {
             function,
             indirect: true,
+            next,
         })
     } else {
         let index = function - prepared.imports;
@@ -84,7 +86,7 @@ fn under_index(
 /// Calls the function in the table that the topmost operand names, where it has this type.
 fn indirect(m: &mut Machine, prepared: &Prepared, t: usize, depth: usize, next: usize) -> Outcome
     requires { next ≡ m.old.stack.position + 1 }
-    ensures { (x : Point) (code : Prepared_) → Here x m.old code → x.codes ≡ prepared.now.codes.items → IsPrepared x.engine.program prepared.now → x.engine.depth ≡ depth → Reads m.old.stack code (Goes (CallIndirect t)) → MeetsAt x result (step_at x) m.new }
+    ensures { (x : Point) (code : FlatCode) → Here x m.old code → x.codes ≡ prepared.now.codes.items → IsPrepared x.engine.program prepared.now → x.engine.depth ≡ depth → Reads m.old.stack code (Goes (CallIndirect t)) → MeetsAt x result (step_at x) m.new }
 {
     match m.stack.values.peek(0) {
         Some(Value::I32(index)) => match resolve(prepared, m.table.as_slice(), t, index) {

@@ -1,4 +1,4 @@
-use Rattle.std.proofs.Common.{◌∙◌, ◌≡◌, ◌+◌, ◌-◌, ◌<◌, false, length, refl, sym, subst, arith}
+use Rattle.std.proofs.Common.{◌∙◌, ◌≡◌, ◌+◌, ◌-◌, ◌<◌, false, length, refl, sym, subst, add-one, arith}
 use Rattle.wasm_syntax.specs.Tree.{Call}
 use Rattle.frame_steps.specs.Meets.{step_at}
 use Rattle.frame_steps.proofs.JumpLaws.{jump_at}
@@ -13,8 +13,8 @@ pub returns-then-function-prepared : goal.returns-then-function-prepared
 returns-then-function-prepared c = λ x code h ce ip de r.
     let i = jump_at x c.args.m.now.stack code h.inner (Call c.args.function) r in
     let lt : c.args.function < length x.engine.program.module_.imports = omega (arith, ip.imports) in
-    subst (λ s. MeetsAt x (Import (record { function = c.args.function; indirect = false })) s c.args.m.now) (sym (step_calls x c.args.m.now.stack code h.inner c.args.function r))
-    (import_meets x c.args.m.now code h (record { function = c.args.function; indirect = false }) x.label.operands i.at (Call c.args.function) i.rest i.is refl lt)
+    subst (λ s. MeetsAt x (Import (record { function = c.args.function; indirect = false; next = c.args.next })) s c.args.m.now) (sym (step_calls x c.args.m.now.stack code h.inner c.args.function r))
+    (import_meets x c.args.m.now code h (record { function = c.args.function; indirect = false; next = c.args.next }) x.label.operands i.at (Call c.args.function) i.rest i.is refl (c.requires ∙ add-one c.args.m.now.stack.position) lt)
 
 pub returns-else-function-prepared : goal.returns-else-function-prepared
 returns-else-function-prepared c = λ x code h ce ip de r.

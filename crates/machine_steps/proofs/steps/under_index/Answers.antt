@@ -1,4 +1,4 @@
-use Rattle.std.proofs.Common.{◌∙◌, ◌≡◌, ◌+◌, ◌-◌, ◌<◌, true, length, refl, sym, ap, subst, arith}
+use Rattle.std.proofs.Common.{◌∙◌, ◌≡◌, ◌+◌, ◌-◌, ◌<◌, true, length, refl, sym, ap, subst, add-one, arith}
 use Rattle.frame_steps.specs.Meets.{call_at}
 use Rattle.machine_steps.specs.Meets.{MeetsAt}
 use Rattle.machine_steps.proofs.StepLaws.{lifts}
@@ -8,7 +8,7 @@ use Rattle.machine_steps.proofs.steps.under_index.Goals as goal
 pub returns-then-function-prepared : goal.returns-then-function-prepared
 returns-then-function-prepared c = λ x code place h ce ip de.
     let lt : c.args.function < length x.engine.program.module_.imports = omega (arith, ip.imports) in
-    import_meets x c.args.m.now code h (record { function = c.args.function; indirect = true }) place.operands place.at place.j place.rest place.node (place.index, place.operands_are) lt
+    import_meets x c.args.m.now code h (record { function = c.args.function; indirect = true; next = c.args.next }) place.operands place.at place.j place.rest place.node (place.index, place.operands_are) (c.requires ∙ add-one c.args.m.now.stack.position) lt
 
 pub returns-else-function-prepared : goal.returns-else-function-prepared
 returns-else-function-prepared c = λ x code place h ce ip de.
