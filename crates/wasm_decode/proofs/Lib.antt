@@ -10,3 +10,4 @@ pub mod SoundCode
 pub mod SoundSections
 pub mod Sounds
 pub mod Meanings
+pub mod NameLaws

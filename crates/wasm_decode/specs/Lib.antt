@@ -2,3 +2,4 @@ pub mod Steps
 pub mod Decode
 pub mod Meaning
 pub mod Fit
+pub mod Names

@@ -1,6 +1,6 @@
 //! A place in an input of fewer than 2^32 bytes.
 
-ghost use Rattle.std.specs.Prelude.{◌≡◌, ◌+◌, ◌-◌, ◌^◌, ◌<◌, ◌≤◌, length, get_or, Ok, OnOk};
+ghost use Rattle.std.specs.Prelude.{◌≡◌, ◌+◌, ◌-◌, ◌^◌, ◌<◌, ◌≤◌, length, get_or, take, Ok, OnOk};
 ghost use Rattle.wasm_bytes.specs.Place.{Moves, Stays};
 ghost use Rattle.wasm_bytes.specs.Reading.{byte_item, fixed_item, bytes_item, u32_item, block_item, end_item, rest_item};
 ghost use Rattle.wasm_bytes.specs.Answers.{Reads, Gives};
@@ -40,6 +40,19 @@ impl<'a> Input<'a> {
         Input {
             block: bytes,
             at: 0,
+        }
+    }
+
+    /// A place in an input, in a block that ends at an offset.
+    pub fn between(bytes: &'a [u8], at: u32, end: usize) -> Self
+        requires order { at ≤ end }
+        requires inside { end ≤ length bytes.now }
+        requires small { length bytes.now < 2 ^ 32 }
+        ensures { result ≡ record { block = take end bytes.now; at = at } }
+    {
+        Input {
+            block: &bytes[..end],
+            at,
         }
     }
 
