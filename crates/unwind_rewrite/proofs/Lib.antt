@@ -8,3 +8,5 @@ pub mod Calls
 pub mod Step
 pub mod TypedPieces
 pub mod TypedNodes
+pub mod Lengths
+pub mod LengthsNodes

@@ -12,3 +12,4 @@ pub mod Telling
 pub mod Standing
 pub mod Promises
 pub mod Typed
+pub mod Length

@@ -8,6 +8,7 @@ ghost use Rattle.unwind_rewrite.specs.Agreement.{Wrap};
 ghost use Rattle.unwind_rewrite.specs.Promises.{GuardTells, StepFollows};
 ghost use Rattle.unwind_rewrite.specs.Slots.{Ctx};
 ghost use Rattle.unwind_rewrite.specs.Typed.{BodyTyped};
+ghost use Rattle.unwind_rewrite.specs.Length.{BodyShort};
 
 /// A guard changes nothing, and leaves the kind with which its instruction traps, or 0.
 pub fn guards_tell_kinds()
@@ -22,4 +23,10 @@ pub fn each_step_is_followed()
 /// The rewriting of a well-typed body is well typed in a module that has what its code names.
 pub fn rewritten_bodies_are_typed()
     ensures { (C : Ctx) → BodyTyped C }
+{}
+
+/// The rewriting of a well-typed body takes at most the bytes that the weight of its module gives to its live instructions and to its
+/// function.
+pub fn rewritten_bodies_are_short()
+    ensures { (C : Ctx) → BodyShort C }
 {}
