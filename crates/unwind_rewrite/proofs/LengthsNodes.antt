@@ -45,9 +45,11 @@ module _ (C : Ctx) (few : FewNumbers C) where
   behind ls own js n r own1 rest between left ty rm ih =
       let conv : grown r (less n (own ++ js)) ≡ grown r own1 ++ js = ap (grown r) left ∙ grown-append r own1 js in
       let x = ih (grown r own1) ty (subst (λ z. Room C z rest) conv rm) in
-      let kg = known_grown r own1 in
-      (known own1, omega (arith, known_parts n (own ++ js), ap known left, known-append own1 js, known-append own js),
-      subst (λ z. Behind ls z rest (known own1)) (sym conv) (subst (λ k. code_length (rewrite C ls (grown r own1 ++ js) rest) ≤ live_weight C (grown r own1 ++ js) rest + 11 * k) kg x))
+      let kg = known_grown r own1 in (
+        known own1,
+        omega (arith, known_parts n (own ++ js), ap known left, known-append own1 js, known-append own js),
+        subst (λ z. Behind ls z rest (known own1)) (sym conv) (subst (λ k. code_length (rewrite C ls (grown r own1 ++ js) rest) ≤ live_weight C (grown r own1 ++ js) rest + 11 * k) kg x),
+      )
 
   guarded_short : (ls : List Info) (es : List Place) (o : ℕ) (i : Basic) (k : Nodes) (q : Bool) → length es ≤ C.slots → code_length (guarded q C ls es o i k) ≤ 146 + 16 * length es + code_length k
   guarded_short ls es o i k false le = omega arith

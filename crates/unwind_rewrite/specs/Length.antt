@@ -1,7 +1,6 @@
 -- The bytes that code takes in its shortest encoding (Core 5.4), and what the weight of a module gives for them.
 use Rattle.std.specs.Prelude.{◌≡◌, ℕ, ◌+◌, ◌*◌, ◌^◌, ◌≤◌, List, [], ◌∷◌, length, slice_get, Option, Some, None, option_to_list}
 use Rattle.wasm_leb.specs.Writing.{unsigned_bytes}
-
 use Rattle.wasm_syntax.specs.declared.instruction.Basic.{Basic}
 use Rattle.wasm_syntax.specs.declared.instruction.Basic.TheVariants.{MemoryCopy, MemoryFill, Const}
 use Rattle.wasm_syntax.specs.declared.parts.FuncType.{FuncType}
