@@ -1,5 +1,5 @@
 -- The instructions of an expression are as long as the bytes that spell them.
-use Rattle.std.proofs.Common.{◌≡◌, ℕ, zero, suc, ◌+◌, ◌-◌, ◌≤◌, Bool, true, false, List, [], ◌∷◌, ◌++◌, length, get_or, sum_by, refl, sym, ap, subst, ◌∙◌, append_assoc, arith, length-append, None, take_at}
+use Rattle.std.proofs.Common.{◌≡◌, ℕ, zero, suc, ◌+◌, ◌-◌, ◌≤◌, Bool, true, false, List, [], ◌∷◌, ◌++◌, length, get_or, sum_by, refl, sym, ap, subst, ◌∙◌, append_assoc, arith, length-append, Option, Some, None, take_at}
 use Rattle.std.specs.Prelude.{◌==◌, if◌then◌else◌}
 use Rattle.std.specs.List.{AllByRecursion}
 use Rattle.std.proofs.lemmas.Bool.{eqb-true}
@@ -7,6 +7,7 @@ use Rattle.std.proofs.lemmas.List.{append-nil}
 use Rattle.std.proofs.lemmas.List.Concat.{length-flat_map}
 use Rattle.std.proofs.lemmas.List.Sums.{sum_by-cons}
 use Rattle.std.proofs.Math.Seq.{drop-append_seam}
+use Rattle.wasm_syntax.specs.declared.value.ValType.{ValType}
 use Rattle.wasm_syntax.specs.declared.instruction.Basic.TheVariants.{Nop}
 use Rattle.wasm_syntax.specs.declared.instruction.Jump.TheVariants as jumps
 use Rattle.wasm_syntax.specs.declared.instruction.Instr.{Instr}
@@ -17,6 +18,7 @@ use Rattle.wasm_bytes.specs.Spelling.{pair, passing, here, steps, due}
 use Rattle.instruction_format.specs.declared.code.Code.{Code}
 use Rattle.instruction_format.specs.declared.code.Code.TheVariants.{Known, Float}
 use Rattle.instruction_format.specs.Spelled.{Spelled}
+use Rattle.instruction_format.specs.Form.{Form, typed}
 use Rattle.instruction_format.specs.Table.{form_of}
 use Rattle.instruction_format.specs.Grammar.{behind_opcode, instruction}
 use Rattle.instruction_format.specs.Encoding.{targets_of}
@@ -57,17 +59,10 @@ known_least front own later i at bytes h s =
     encoding_least targets (length front) at i bytes (subst (λ (ts : List ℕ). instruction (length front) (spelled (Known i) ts) at bytes) (sym (own_targets front own later i h)) s)
 
 -- what opens a block has a block type behind it
-opens_block : (base at opcode : ℕ) (x : Spelled) (here : ℕ) (bytes : List ℕ) → behind_opcode base at (form_of opcode) x here bytes → opcode ≡ 0x02 → 1 ≤ length bytes
-unfolding form_of
-opens_block base at opcode x here bytes s is = let t = subst (λ (n : ℕ). behind_opcode base at (form_of n) x here bytes) is s in omega (arith, ap length t.2.1)
-
-opens_loop : (base at opcode : ℕ) (x : Spelled) (here : ℕ) (bytes : List ℕ) → behind_opcode base at (form_of opcode) x here bytes → opcode ≡ 0x03 → 1 ≤ length bytes
-unfolding form_of
-opens_loop base at opcode x here bytes s is = let t = subst (λ (n : ℕ). behind_opcode base at (form_of n) x here bytes) is s in omega (arith, ap length t.2.1)
-
-opens_if : (base at opcode : ℕ) (x : Spelled) (here : ℕ) (bytes : List ℕ) → behind_opcode base at (form_of opcode) x here bytes → opcode ≡ 0x04 → 1 ≤ length bytes
-unfolding form_of
-opens_if base at opcode x here bytes s is = let t = subst (λ (n : ℕ). behind_opcode base at (form_of n) x here bytes) is s in omega (arith, ap length t.2.1)
+opens : (base at opcode tag : ℕ) (to : Option ValType → Instr) (x : Spelled) (here : ℕ) (bytes : List ℕ) → behind_opcode base at (form_of opcode) x here bytes → form_of tag ≡ Some (typed to) → opcode ≡ tag → 1 ≤ length bytes
+opens base at opcode tag to x here bytes s row is =
+    let t = subst (λ (form : Option Form). behind_opcode base at form x here bytes) (ap form_of is ∙ row) s in
+    omega (arith, ap length t.2.1)
 
 -- what stands in the place of an instruction that has a float type is no longer than it
 stand_in_least : (targets : List ℕ) (opcode : ℕ) (rest : List ℕ) → (opcode ≡ 0x02 → 1 ≤ length rest) → (opcode ≡ 0x03 → 1 ≤ length rest) → (opcode ≡ 0x04 → 1 ≤ length rest) → length (instruction_bytes targets (stand_in opcode)) ≤ 1 + length rest
@@ -81,10 +76,14 @@ stand_in_least targets opcode rest block loop choose = by (opcode == 0x02) (opco
     by false false false a b c = omega arith
 
 float_least : (targets : List ℕ) (base at opcode : ℕ) (x : Spelled) (bytes : List ℕ) → get_or bytes 0 0 ≡ opcode → instruction base x at bytes → length (instruction_bytes targets (stand_in opcode)) ≤ length bytes
+unfolding form_of
 float_least targets base at opcode x bytes first s =
     let b = s.1 in
     let same : s.0 ≡ opcode = let whole : bytes ≡ s.0 ∷ b.1 = b.4 ∙ ap (λ (front : List ℕ). front ++ b.1) b.2 in sym (ap (λ (t : List ℕ). get_or t 0 0) whole) ∙ first in
-    let least = stand_in_least targets s.0 b.1 (opens_block base at s.0 x (at + length b.0) b.1 b.3) (opens_loop base at s.0 x (at + length b.0) b.1 b.3) (opens_if base at s.0 x (at + length b.0) b.1 b.3) in
+    let block = opens base at s.0 0x02 instr.Block x (at + length b.0) b.1 b.3 refl in
+    let loop = opens base at s.0 0x03 instr.Loop x (at + length b.0) b.1 b.3 refl in
+    let choose = opens base at s.0 0x04 instr.If x (at + length b.0) b.1 b.3 refl in
+    let least = stand_in_least targets s.0 b.1 block loop choose in
     omega (arith, subst (λ (n : ℕ). length (instruction_bytes targets (stand_in n)) ≤ 1 + length b.1) same least, ap length b.2, ap length b.4, length-append b.0 b.1)
 
 code_least : (front own later : List ℕ) (code : Code) (opcode at : ℕ) (bytes : List ℕ) → get_or bytes 0 0 ≡ opcode → TakesUp (length front) code own → instruction (length front) (spelled code own) at bytes → length (instruction_bytes (front ++ (own ++ later)) (code_of opcode code)) ≤ length bytes

@@ -52,10 +52,15 @@ section_room : {A : Type 0} (id : ℕ) (written : A → List ℕ) (xs : List A) 
 section_room id written [] n le = omega arith
 section_room id written (x ∷ xs) n le = omega (arith, contents_room (vector_bytes written (x ∷ xs)) n le)
 
--- the lengths of the sections in order
-pub record Lengths (m : ModuleParts) (n : ℕ) : Type 0 where
-  pub is : n ≡ 8 + (length (vector_section 1 function_type_bytes m.types) + (length (vector_section 2 import_bytes m.imports) + (length (vector_section 3 unsigned_bytes m.functions) + (length (vector_section 4 table_bytes m.tables) + (length (vector_section 5 limits_bytes m.memories)
-      + (length (vector_section 6 global_bytes m.globals) + (length (vector_section 7 export_bytes m.exports) + (length (start_section m.start) + (length (vector_section 9 element_bytes m.elements) + (length (vector_section 10 entry_bytes m.bodies) + length (vector_section 11 segment_bytes m.segments)))))))))))
+-- how long a module is written, section by section
+abbrev pub written_length : ModuleParts → ℕ
+written_length m =
+    8 + (length (vector_section 1 function_type_bytes m.types) + (length (vector_section 2 import_bytes m.imports)
+    + (length (vector_section 3 unsigned_bytes m.functions) + (length (vector_section 4 table_bytes m.tables)
+    + (length (vector_section 5 limits_bytes m.memories) + (length (vector_section 6 global_bytes m.globals)
+    + (length (vector_section 7 export_bytes m.exports) + (length (start_section m.start)
+    + (length (vector_section 9 element_bytes m.elements) + (length (vector_section 10 entry_bytes m.bodies)
+    + length (vector_section 11 segment_bytes m.segments)))))))))))
 
 front_length : (m : ModuleParts) → length (front_sections m) ≡ length (declarations m) + (length (vector_section 6 global_bytes m.globals) + (length (vector_section 7 export_bytes m.exports) + (length (start_section m.start) + length (vector_section 9 element_bytes m.elements))))
 unfolding front_sections
@@ -76,12 +81,12 @@ declarations_length m =
     let one = vector_section 1 function_type_bytes m.types in
     omega (arith, length-append one (two ++ (three ++ (four ++ five))), length-append two (three ++ (four ++ five)), length-append three (four ++ five), length-append four five)
 
-pub lengths : (m : ModuleParts) → Lengths m (length (encoding m))
+pub lengths : (m : ModuleParts) → length (encoding m) ≡ written_length m
 unfolding encoding
 lengths m =
     let bs = vector_section 10 entry_bytes m.bodies in
     let ds = vector_section 11 segment_bytes m.segments in
-    record { is = omega (arith, declarations_length m, front_length m, length-append (front_sections m) (bs ++ ds), length-append bs ds) }
+    omega (arith, declarations_length m, front_length m, length-append (front_sections m) (bs ++ ds), length-append bs ds)
 
 -- ---- what a section adds
 
@@ -96,7 +101,7 @@ types_add : (s : SpelledModule) (x : Noted (List FuncType)) (n : ℕ) → length
 unfolding module_of
 types_add s x n h = record {
   plain = refl;
-  written = omega (arith, (lengths (module_of s)).is, (lengths (module_of (with_types s x))).is, section_room 1 function_type_bytes x.value n h);
+  written = omega (arith, lengths (module_of s), lengths (module_of (with_types s x)), section_room 1 function_type_bytes x.value n h);
   each = λ e. record { globals = e.globals; elements = e.elements; bodies = e.bodies; segments = e.segments };
   code = omega arith;
 }
@@ -105,7 +110,7 @@ imports_add : (s : SpelledModule) (x : Noted (List Imported)) (n : ℕ) → leng
 unfolding module_of
 imports_add s x n h = record {
   plain = refl;
-  written = omega (arith, (lengths (module_of s)).is, (lengths (module_of (with_imports s x))).is, section_room 2 import_bytes (functions_of x.value) n h);
+  written = omega (arith, lengths (module_of s), lengths (module_of (with_imports s x)), section_room 2 import_bytes (functions_of x.value) n h);
   each = λ e. record { globals = e.globals; elements = e.elements; bodies = e.bodies; segments = e.segments };
   code = omega arith;
 }
@@ -114,7 +119,7 @@ functions_add : (s : SpelledModule) (x : List ℕ) (n : ℕ) → length (vector_
 unfolding module_of
 functions_add s x n h = record {
   plain = refl;
-  written = omega (arith, (lengths (module_of s)).is, (lengths (module_of (with_functions s x))).is, section_room 3 unsigned_bytes x n h);
+  written = omega (arith, lengths (module_of s), lengths (module_of (with_functions s x)), section_room 3 unsigned_bytes x n h);
   each = λ e. record { globals = e.globals; elements = e.elements; bodies = e.bodies; segments = e.segments };
   code = omega arith;
 }
@@ -123,7 +128,7 @@ tables_add : (s : SpelledModule) (x : List Limits) (n : ℕ) → length (vector_
 unfolding module_of
 tables_add s x n h = record {
   plain = refl;
-  written = omega (arith, (lengths (module_of s)).is, (lengths (module_of (with_tables s x))).is, section_room 4 table_bytes x n h);
+  written = omega (arith, lengths (module_of s), lengths (module_of (with_tables s x)), section_room 4 table_bytes x n h);
   each = λ e. record { globals = e.globals; elements = e.elements; bodies = e.bodies; segments = e.segments };
   code = omega arith;
 }
@@ -132,7 +137,7 @@ memories_add : (s : SpelledModule) (x : List Limits) (n : ℕ) → length (vecto
 unfolding module_of
 memories_add s x n h = record {
   plain = refl;
-  written = omega (arith, (lengths (module_of s)).is, (lengths (module_of (with_memories s x))).is, section_room 5 limits_bytes x n h);
+  written = omega (arith, lengths (module_of s), lengths (module_of (with_memories s x)), section_room 5 limits_bytes x n h);
   each = λ e. record { globals = e.globals; elements = e.elements; bodies = e.bodies; segments = e.segments };
   code = omega arith;
 }
@@ -141,7 +146,7 @@ exports_add : (s : SpelledModule) (x : List Export) (n : ℕ) → length (vector
 unfolding module_of
 exports_add s x n h = record {
   plain = refl;
-  written = omega (arith, (lengths (module_of s)).is, (lengths (module_of (with_exports s x))).is, section_room 7 export_bytes x n h);
+  written = omega (arith, lengths (module_of s), lengths (module_of (with_exports s x)), section_room 7 export_bytes x n h);
   each = λ e. record { globals = e.globals; elements = e.elements; bodies = e.bodies; segments = e.segments };
   code = omega arith;
 }
@@ -150,7 +155,7 @@ start_add : (s : SpelledModule) (x n : ℕ) → length (unsigned_bytes x) ≤ n 
 unfolding module_of
 start_add s x n h = record {
   plain = refl;
-  written = omega (arith, (lengths (module_of s)).is, (lengths (module_of (with_start s x))).is, contents_room (unsigned_bytes x) n h);
+  written = omega (arith, lengths (module_of s), lengths (module_of (with_start s x)), contents_room (unsigned_bytes x) n h);
   each = λ e. record { globals = e.globals; elements = e.elements; bodies = e.bodies; segments = e.segments };
   code = omega arith;
 }
@@ -172,7 +177,7 @@ globals_add : (s : SpelledModule) (x : Noted (List Global)) (n : ℕ) → Code g
 unfolding module_of
 globals_add s x n h = record {
   plain = refl;
-  written = omega (arith, (lengths (module_of s)).is, (lengths (module_of (with_globals s x))).is, section_room 6 global_bytes x.value n h.written);
+  written = omega (arith, lengths (module_of s), lengths (module_of (with_globals s x)), section_room 6 global_bytes x.value n h.written);
   each = λ e. record { globals = h.each; elements = e.elements; bodies = e.bodies; segments = e.segments };
   code = omega (arith, h.total);
 }
@@ -181,7 +186,7 @@ elements_add : (s : SpelledModule) (x : Noted (List ElementSeg)) (n : ℕ) → C
 unfolding module_of
 elements_add s x n h = record {
   plain = refl;
-  written = omega (arith, (lengths (module_of s)).is, (lengths (module_of (with_elements s x))).is, section_room 9 element_bytes x.value n h.written);
+  written = omega (arith, lengths (module_of s), lengths (module_of (with_elements s x)), section_room 9 element_bytes x.value n h.written);
   each = λ e. record { globals = e.globals; elements = h.each; bodies = e.bodies; segments = e.segments };
   code = omega (arith, h.total);
 }
@@ -190,7 +195,7 @@ bodies_add : (s : SpelledModule) (x : Noted (List Body)) (n : ℕ) → Code entr
 unfolding module_of
 bodies_add s x n h = record {
   plain = refl;
-  written = omega (arith, (lengths (module_of s)).is, (lengths (module_of (with_bodies s x))).is, section_room 10 entry_bytes x.value n h.written);
+  written = omega (arith, lengths (module_of s), lengths (module_of (with_bodies s x)), section_room 10 entry_bytes x.value n h.written);
   each = λ e. record { globals = e.globals; elements = e.elements; bodies = h.each; segments = e.segments };
   code = omega (arith, h.total);
 }
@@ -199,7 +204,7 @@ segments_add : (s : SpelledModule) (x : Noted (List DataSeg)) (n : ℕ) → Code
 unfolding module_of
 segments_add s x n h = record {
   plain = refl;
-  written = omega (arith, (lengths (module_of s)).is, (lengths (module_of (with_segments s x))).is, section_room 11 segment_bytes x.value n h.written);
+  written = omega (arith, lengths (module_of s), lengths (module_of (with_segments s x)), section_room 11 segment_bytes x.value n h.written);
   each = λ e. record { globals = e.globals; elements = e.elements; bodies = e.bodies; segments = h.each };
   code = omega (arith, h.total);
 }

@@ -1,4 +1,4 @@
--- What is decoded is sized.
+-- What is spelled is sized.
 use Rattle.std.proofs.Common.{◌≡◌, ℕ, zero, suc, ◌+◌, ◌≤◌, List, length, Ok, refl, sym, ap, subst, ◌∙◌, inl, inr, arith, length-append}
 use Rattle.wasm_leb.specs.Writing.{unsigned_bytes}
 use Rattle.wasm_syntax.specs.declared.quantity.Quantity.TheVariants.{ModuleBytes}
@@ -43,7 +43,7 @@ custom_grows : (s : SpelledModule) (x : List ℕ × (ℕ × List ℕ)) (n : ℕ)
 unfolding module_of
 custom_grows s x n = record {
   plain = omega arith;
-  written = omega (arith, (lengths (module_of s)).is, (lengths (module_of (with_custom s x))).is);
+  written = omega (arith, lengths (module_of s), lengths (module_of (with_custom s x)));
   each = λ e. record { globals = e.globals; elements = e.elements; bodies = e.bodies; segments = e.segments };
   code = omega arith;
 }
@@ -53,7 +53,7 @@ measured_grows : (s t : SpelledModule) (from to n k : ℕ) → Adds s t n → le
 unfolding module_of
 measured_grows s t from to n k a size end =
     let u = measured from (t, to) in
-    let equal : length (encoding (module_of u)) ≡ length (encoding (module_of t)) = omega (arith, (lengths (module_of t)).is, (lengths (module_of u)).is) in
+    let equal : length (encoding (module_of u)) ≡ length (encoding (module_of t)) = omega (arith, lengths (module_of t), lengths (module_of u)) in
     record {
       plain = omega (arith, a.plain, end);
       written = omega (arith, equal, a.plain, a.written, size, end);
@@ -112,7 +112,7 @@ header_begins : Begins no_sections
 unfolding no_sections no_parts module_of
 header_begins = record {
   plain = refl;
-  written = omega (arith, (lengths (module_of no_sections)).is);
+  written = omega (arith, lengths (module_of no_sections));
   each = record { globals = tt; elements = tt; bodies = tt; segments = tt };
   code = refl;
 }
@@ -131,7 +131,8 @@ sized_module s bytes short file =
       code = omega (arith, begins.plain, begins.code, grown.code);
     }
 
+pub spelled : (bytes : List ℕ) (m : ModuleParts) → IsModuleOf bytes m → Sized m
+spelled bytes m h = subst Sized h.4 (sized_module h.0 bytes h.1.0 h.1.1)
+
 pub decoded : (bytes : List ℕ) (m : ModuleParts) → IsBytes bytes → module_from bytes ≡ Ok m → Sized m
-decoded bytes m fits e =
-    let h : IsModuleOf bytes m = (found_exactly bytes (Ok m) fits (sym e) m).only refl in
-    subst Sized h.4 (sized_module h.0 bytes h.1.0 h.1.1)
+decoded bytes m fits e = spelled bytes m ((found_exactly bytes (Ok m) fits (sym e) m).only refl)
