@@ -1,0 +1,16 @@
+-- Which calls of a device fail.
+use Rattle.std.specs.Prelude.{◌≡◌, ℕ, ◌+◌, ◌-◌, ◌^◌, List, min, Contains}
+
+-- the numbers of the calls that fail, counted from 0, the number of the next call, and how often a call has failed
+pub record Plan : Type 0 where
+  pub failing : List ℕ
+  pub next : ℕ
+  pub count : ℕ
+
+-- the next call fails
+abbrev pub IsToFail : Plan → Type 0
+IsToFail plan = Contains plan.failing plan.next
+
+-- one call more was made
+abbrev pub HasCounted : Plan → Plan → Type 0
+HasCounted old new = (new.failing ≡ old.failing) × (new.next ≡ min (old.next + 1) (2 ^ 64 - 1))

@@ -1,0 +1,18 @@
+//! What serves the imports of a module in a run.
+#![tactic(auto)]
+
+mod console;
+mod copies;
+mod counter;
+mod device;
+mod faults;
+mod host;
+
+pub use causes::NoMemory;
+pub use console::Console;
+pub use counter::Counter;
+pub use device::{Device, DeviceAnswer};
+pub use host::{HostAnswer, HostSide};
+
+#[cfg(test)]
+mod tests;
