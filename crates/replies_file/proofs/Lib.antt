@@ -1,0 +1,4 @@
+pub mod Splits
+pub mod Numbers
+pub mod Utf8
+pub mod Lines
