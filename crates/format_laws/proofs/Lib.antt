@@ -1,3 +1,4 @@
 pub mod Readings
 pub mod Limits
 pub mod Decoding
+pub mod SampleModules
