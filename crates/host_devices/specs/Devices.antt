@@ -1,5 +1,5 @@
 -- What a device does.
-use Rattle.std.specs.Prelude.{ℕ, ◌%◌, ◌^◌, List, [], ◌∷◌, ◌++◌, Option, Some, None}
+use Rattle.std.specs.Prelude.{◌≡◌, ℕ, ◌%◌, ◌^◌, List, [], ◌∷◌, ◌++◌, Option, Some, None}
 use Rattle.wasm_syntax.specs.declared.value.ValType.{ValType}
 use Rattle.wasm_syntax.specs.declared.value.ValType.TheVariants as types
 use Rattle.wasm_syntax.specs.declared.value.Value.{Value}
@@ -24,6 +24,13 @@ pub record ConsoleState : Type 0 where
   pub log : List Served
   pub plan : Plan
 
+-- a script: its name, its log, the replies that are left, and the plan of failures
+pub record ScriptState : Type 0 where
+  pub name : List ℕ
+  pub log : List Served
+  pub left : List Reply
+  pub plan : Plan
+
 -- no value, and no writes
 abbrev pub empty_reply : Reply
 empty_reply = record { value = None; writes = [] }
@@ -36,3 +43,9 @@ counted_value (Some types.I64) n = Some (values.I64 (n % 2 ^ 64))
 
 abbrev pub counted_reply : Option ValType → ℕ → Reply
 counted_reply type n = record { value = counted_value type n; writes = [] }
+
+-- A script gives its next reply, or uses none.
+abbrev pub GivesNext : DeviceAnswer → List Reply → List Reply → Type 0
+GivesNext (Replied reply) old new = old ≡ reply ∷ new
+GivesNext Failed old new = new ≡ old
+GivesNext NoMemory old new = new ≡ old

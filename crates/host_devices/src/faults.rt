@@ -41,6 +41,15 @@ impl Faults {
         self.count
     }
 
+    /// Counts a failure.
+    pub fn fail(&mut self)
+        ensures later { self.old.count ≤ self.new.count }
+        ensures rose { Rose self.old.count self.new.count }
+        ensures rest { self.new ≡ record self.old { count = self.new.count } }
+    {
+        self.count = self.count.saturating_add(1);
+    }
+
     /// Counts a call, and says whether it fails.
     pub fn next_fails(&mut self) -> bool
         ensures fails { IsTrue result ↔ IsToFail self.old }
@@ -52,7 +61,7 @@ impl Faults {
         let failing = self.failing.contains(&self.next);
         self.next = self.next.saturating_add(1);
         if failing {
-            self.count = self.count.saturating_add(1);
+            self.fail();
         }
         failing
     }

@@ -7,12 +7,14 @@ mod counter;
 mod device;
 mod faults;
 mod host;
+mod scripted;
 
 pub use causes::NoMemory;
 pub use console::Console;
 pub use counter::Counter;
 pub use device::{Device, DeviceAnswer};
 pub use host::{HostAnswer, HostSide};
+pub use scripted::Scripted;
 
 #[cfg(test)]
 mod tests;
