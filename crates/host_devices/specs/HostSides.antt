@@ -13,6 +13,14 @@ use Rattle.host_devices.specs.declared.host.HostAnswer.{HostAnswer}
 use Rattle.host_devices.specs.declared.host.HostAnswer.TheVariants.{Replied, NoReply, Failed, NoMemory}
 use Rattle.host_devices.specs.Devices.{empty_reply}
 
+-- What a host side began with: the imports that it serves, by their indices; the names of its devices, and the log that each had; the replies
+-- of a script, if there is one.
+pub record Origin : Type 0 where
+  pub imports : List Import
+  pub names : List (List ℕ)
+  pub logs : List ℕ → List Served
+  pub script : Option (List Reply)
+
 -- The call has arguments and a result of the type.
 abbrev pub IsOfType : FuncType → HostCall → Type 0
 IsOfType ftype call = (types call.args ≡ ftype.params) × (option_to_list call.result ≡ ftype.results)
