@@ -1,7 +1,3 @@
-mod Taken
-mod DistinctLaws
-mod Loads
 mod Numbered
 mod OneAnswer
-mod PartsLaws
-mod ReadingLaws
+mod Taken

@@ -11,13 +11,13 @@ use Rattle.dump_format.specs.Part.{part_name}
 use Rattle.wasm_syntax.specs.declared.module.ModuleParts.{ModuleParts as Module}
 use Rattle.wasm_decode.specs.Decode.{module_from}
 use Rattle.pm_cli.specs.Check.{counted}
-use Rattle.pm_cli.specs.Loading.{IfLoaded}
-use Rattle.pm_cli.specs.Inputs.{input_of, Then}
+use Rattle.command_answers.specs.Loading.{IfLoaded}
+use Rattle.command_answers.specs.Inputs.{input_of, Then}
 use Rattle.pm_cli.specs.Show.{show_text}
-use Rattle.pm_cli.specs.Texts.{ended, usage, over_limit}
+use Rattle.command_answers.specs.Texts.{ended, usage, over_limit}
 use Rattle.pm_cli.specs.Words.{command}
-use Rattle.pm_cli.specs.declared.outcome.Outcome.{Outcome}
-use Rattle.pm_cli.specs.declared.status.Status.TheVariants as status
+use Rattle.command_answers.specs.declared.outcome.Outcome.{Outcome}
+use Rattle.command_answers.specs.declared.status.Status.TheVariants as status
 use Rattle.pm_cli.specs.declared.words.Command.{Command}
 use Rattle.pm_cli.specs.declared.words.Command.TheVariants.{Check, Show}
 

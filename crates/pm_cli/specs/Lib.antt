@@ -1,13 +1,5 @@
 pub mod Answer
 pub mod Check
-pub mod Codes
-pub mod Input
-pub mod Inputs
-pub mod Loaded
-pub mod Loading
-pub mod Progress
-pub mod Reading
+pub mod FaultText
 pub mod Show
-pub mod Texts
-pub mod Told
 pub mod Words

@@ -1,8 +1,7 @@
 -- The lines that show a dump.
 use Rattle.std.specs.Prelude.{ℕ, pos, List, [], ◌∷◌, ◌++◌, length, Option, Some, None, codes}
 use Rattle.std.specs.List.{flat_map, enumerate_from}
-use Rattle.std.specs.Fmt.{decimal, signed_decimal}
-use Rattle.std.specs.Int.{w32, w64, cast_signed}
+use Rattle.std.specs.Fmt.{decimal}
 use Rattle.pm_text.specs.Names.{quoted}
 use Rattle.wasm_syntax.specs.declared.value.Value.{Value}
 use Rattle.wasm_syntax.specs.declared.value.Value.TheVariants as value
@@ -10,11 +9,7 @@ use Rattle.wasm_syntax.specs.declared.value.Seen.{Seen}
 use Rattle.wasm_syntax.specs.declared.value.Seen.TheVariants as seen
 use Rattle.dump_format.specs.declared.dump.Frame.{Frame}
 use Rattle.dump_format.specs.declared.dump.Dump.{Dump}
-
--- a value, signed
-abbrev pub value_text : Value → List ℕ
-value_text (value.I32 n) = codes "i32:" ++ signed_decimal (cast_signed w32 n)
-value_text (value.I64 n) = codes "i64:" ++ signed_decimal (cast_signed w64 n)
+use Rattle.command_answers.specs.Values.{value_text}
 
 abbrev pub seen_text : Seen → List ℕ
 seen_text (seen.I32 n) = value_text (value.I32 n)

@@ -4,16 +4,17 @@ ghost use Rattle.std.specs.Prelude.{◌≡◌, ◌≢◌, ◌≤◌, map, IfOk, 
 ghost use Rattle.std.specs.String.{string_bytes};
 ghost use Rattle.causes.specs.Counts.{Rose};
 ghost use Rattle.pm_cli.specs.Answer.{IsAnswer};
-ghost use Rattle.pm_cli.specs.Told.{IsFaultText, UnlessFault};
+ghost use Rattle.command_answers.specs.Told.{UnlessFault};
+ghost use Rattle.pm_cli.specs.FaultText.{IsFaultText};
 
 use crate::checking::check_file;
-use crate::outcome::{Outcome, plain};
 use crate::showing::show_file;
-use crate::status::Status;
-use crate::words::{Command, WordsFault, parse_words};
+use crate::words::{Command, parse_words};
 use causes::NoMemory;
+use command_answers::{Outcome, Status, plain};
 use pm_outside::Files;
 use std::alloc::Global;
+use word_rules::WordsFault;
 
 /// What the words get.
 #[tactic(auto, unfolding(crate::specs::Answer::IsAnswer))]

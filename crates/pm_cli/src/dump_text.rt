@@ -1,29 +1,15 @@
 //! The lines that show a dump.
 
 ghost use Rattle.std.specs.Prelude.{◌≡◌, ◌++◌, OnOk, IfOk};
-ghost use Rattle.pm_cli.specs.Show.{value_text, seen_text, values_text, place_text, frame_text, global_text, numbered, memory_text, head_text, show_text};
+ghost use Rattle.command_answers.specs.Values.{value_text};
+ghost use Rattle.pm_cli.specs.Show.{seen_text, values_text, place_text, frame_text, global_text, numbered, memory_text, head_text, show_text};
 
-use crate::outcome::push_number;
 use causes::NoMemory;
+use command_answers::{push_number, push_value};
 use dump_format::{Dump, Frame};
 use pm_text::Text;
 use std::alloc::Global;
 use wasm_syntax::{Seen, Value};
-
-fn push_value(out: &mut Text, value: Value) -> Result<(), NoMemory>
-    ensures { OnOk result (out.new ≡ out.old ++ value_text value) }
-{
-    match value {
-        Value::I32(bits) => {
-            out.push_str("i32:")?;
-            out.push_decimal(i128::from(bits.cast_signed()))
-        }
-        Value::I64(bits) => {
-            out.push_str("i64:")?;
-            out.push_decimal(i128::from(bits.cast_signed()))
-        }
-    }
-}
 
 fn push_seen(out: &mut Text, seen: Seen) -> Result<(), NoMemory>
     ensures { OnOk result (out.new ≡ out.old ++ seen_text seen) }

@@ -3,7 +3,7 @@
 ghost use Rattle.std.specs.Prelude.{◌≡◌, ℕ, List};
 ghost use Rattle.pm_outside.specs.Contents.{Contents};
 ghost use Rattle.pm_cli.specs.Answer.{IsAnswer};
-ghost use Rattle.pm_cli.specs.declared.outcome.Outcome.{Outcome};
+ghost use Rattle.command_answers.specs.declared.outcome.Outcome.{Outcome};
 
 /// A list of words has at most one answer.
 pub fn one_answer()

@@ -6,15 +6,10 @@ mod check_tests;
 mod checking;
 mod command;
 mod dump_text;
-mod input;
 mod laws;
-mod loading;
-mod outcome;
-mod reading;
 #[cfg(test)]
 mod show_tests;
 mod showing;
-mod status;
 #[cfg(test)]
 mod tests;
 mod top;
@@ -22,7 +17,8 @@ mod top;
 mod trial;
 mod words;
 
+pub use command_answers::Status;
 pub use laws::one_answer;
-pub use status::Status;
 pub use top::post_mortem;
-pub use words::{Command, WordsFault, parse_words};
+pub use word_rules::WordsFault;
+pub use words::{Command, parse_words};

@@ -5,14 +5,12 @@ ghost use Rattle.std.specs.Fmt.{decimal};
 ghost use Rattle.causes.specs.Counts.{Rose};
 ghost use Rattle.dump_format.specs.Decode.{dump_from};
 ghost use Rattle.pm_cli.specs.Answer.{ShowAnswer, bad_dump, refused, shown};
-ghost use Rattle.pm_cli.specs.Texts.{file_fault};
-ghost use Rattle.pm_cli.specs.Told.{UnlessFault};
+ghost use Rattle.command_answers.specs.Texts.{file_fault};
+ghost use Rattle.command_answers.specs.Told.{UnlessFault};
 
 use crate::dump_text::show;
-use crate::input::{Input, read_input};
-use crate::outcome::{Outcome, over_limit, push_number};
-use crate::status::Status;
 use causes::NoMemory;
+use command_answers::{Input, Outcome, Status, over_limit, push_number, read_input};
 use dump_format::{DumpFault, DumpPart, decode_dump};
 use pm_outside::Files;
 use pm_text::Text;

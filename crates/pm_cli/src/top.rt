@@ -4,12 +4,12 @@ ghost use Rattle.std.specs.Prelude.{◌≡◌, ◌≤◌, ◌⊎◌, ◌++◌, L
 ghost use Rattle.std.specs.String.{string_bytes};
 ghost use Rattle.causes.specs.Counts.{Rose};
 ghost use Rattle.pm_cli.specs.Answer.{IsAnswer};
-ghost use Rattle.pm_cli.specs.declared.outcome.Outcome.{Outcome as OutcomeThere};
-ghost use Rattle.pm_cli.specs.Told.{UnlessFault, Takes, HasTakenFront, IsFaultText};
+ghost use Rattle.command_answers.specs.declared.outcome.Outcome.{Outcome as OutcomeThere};
+ghost use Rattle.command_answers.specs.Told.{UnlessFault, Takes, HasTakenFront};
+ghost use Rattle.pm_cli.specs.FaultText.{IsFaultText};
 
 use crate::command::respond;
-use crate::outcome::Outcome;
-use crate::status::Status;
+use command_answers::{Outcome, Status};
 use pm_outside::{Files, PutAnswer, Sink};
 use std::alloc::Global;
 

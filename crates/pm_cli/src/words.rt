@@ -4,9 +4,9 @@ ghost use Rattle.std.specs.Prelude.{◌≡◌, map, None, Some, IfOk};
 ghost use Rattle.std.specs.String.{string_bytes};
 ghost use Rattle.pm_cli.specs.Words.{one_word, command};
 
-use crate::reading::{self, Options};
-use pm_text::{NoMemory, Text};
+use pm_text::Text;
 use std::alloc::Global;
+use word_rules::{Options, WordsFault, read_words};
 
 /// A command with its words.
 #[derive(Debug, PartialEq, Eq, Drop)]
@@ -17,32 +17,13 @@ pub enum Command {
     Show { dump: Text },
 }
 
-/// Why words give no command.
-#[derive(Clone, Copy, Debug, PartialEq, Eq)]
-pub enum WordsFault {
-    /// The words are outside the rules, or ask for no command.
-    Usage,
-    NoMemory,
-}
-
-impl From<NoMemory> for WordsFault {
-    ghost use Rattle.std.specs.Prelude.{◌≡◌};
-    ghost use Rattle.pm_cli.specs.declared.words.WordsFault.TheVariants.{NoMemory};
-
-    ghost from_gives = { λ _ fault. fault ≡ NoMemory };
-
-    fn from(_e: NoMemory) -> WordsFault {
-        WordsFault::NoMemory
-    }
-}
-
 /// The one plain word behind a command without options.
 #[tactic(auto, unfolding(crate::specs::Words::one_word))]
 fn one_word(alloc: Global, words: &[String]) -> Result<Text, WordsFault>
     ensures ok { IfOk result (λ t. one_word (map string_bytes words.now) ≡ Some t) }
     ensures usage { result ≡ Err WordsFault.Usage → one_word (map string_bytes words.now) ≡ None }
 {
-    let Some(reading) = reading::read_words(alloc, words, &Options::none())? else {
+    let Some(reading) = read_words(alloc, words, &Options::none())? else {
         return Err(WordsFault::Usage);
     };
     match reading.plain() {

@@ -1,0 +1,11 @@
+-- How values are printed.
+use Rattle.std.specs.Prelude.{ℕ, List, ◌++◌, codes}
+use Rattle.std.specs.Fmt.{signed_decimal}
+use Rattle.std.specs.Int.{w32, w64, cast_signed}
+use Rattle.wasm_syntax.specs.declared.value.Value.{Value}
+use Rattle.wasm_syntax.specs.declared.value.Value.TheVariants as value
+
+-- a value, signed
+abbrev pub value_text : Value → List ℕ
+value_text (value.I32 n) = codes "i32:" ++ signed_decimal (cast_signed w32 n)
+value_text (value.I64 n) = codes "i64:" ++ signed_decimal (cast_signed w64 n)

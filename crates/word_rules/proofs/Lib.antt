@@ -1,0 +1,3 @@
+mod DistinctLaws
+mod PartsLaws
+mod ReadingLaws
