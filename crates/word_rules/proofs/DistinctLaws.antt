@@ -1,8 +1,10 @@
 -- Words that are all different.
-use Rattle.std.proofs.Common.{◌≡◌, Bool, true, false, not, ◌&&◌, ◌||◌, List, [], ◌∷◌, ◌++◌, map, refl, ap, ◌∙◌}
+use Rattle.std.proofs.Common.{◌≡◌, Bool, true, false, not, ◌&&◌, ◌||◌, List, [], ◌∷◌, ◌++◌, map, refl, ap, ◌∙◌, Option, Some}
 use Rattle.std.proofs.lemmas.Cmp.{nat_list_eq_equiv}
 use Rattle.std.proofs.lemmas.List.Folds.{list_any-append}
-use Rattle.std.specs.List.{list_any}
+use Rattle.std.specs.List.{list_any, find}
+use Rattle.std.specs.Option.{option_map}
+use Rattle.std.specs.Prelude.{if◌then◌else◌}
 use Rattle.std.specs.Str.{bytes_eq}
 use Rattle.word_rules.specs.Reading.{Word, is_among, is_distinct}
 
@@ -61,3 +63,12 @@ among_map now (x ∷ xs) w = ap (λ b. bytes_eq (now x) w || b) (among_map now x
 pub among_pairs : {X : Type 0} (now also : X → Word) (xs : List X) (w : Word) → list_any (λ x. bytes_eq (now x) w) xs ≡ is_among (map (λ (g : Word × Word). g.0) (map (λ x. (now x, also x)) xs)) w
 among_pairs now also [] w = refl
 among_pairs now also (x ∷ xs) w = ap (λ b. bytes_eq (now x) w || b) (among_pairs now also xs w)
+
+-- the first pair with this word
+pub found_pairs : {X : Type 0} (now also : X → Word) (xs : List X) (w : Word) → option_map also (find (λ x. bytes_eq (now x) w) xs) ≡ option_map (λ (g : Word × Word). g.1) (find (λ (g : Word × Word). bytes_eq g.0 w) (map (λ x. (now x, also x)) xs))
+found_pairs now also [] w = refl
+found_pairs {X} now also (x ∷ xs) w = cases (bytes_eq (now x) w) (find (λ y. bytes_eq (now y) w) xs) (find (λ (g : Word × Word). bytes_eq g.0 w) (map (λ y. (now y, also y)) xs)) (found_pairs now also xs w) where
+  cases : (b : Bool) (found : Option X) (shown : Option (Word × Word)) → option_map also found ≡ option_map (λ (g : Word × Word). g.1) shown
+      → option_map also (if b then Some x else found) ≡ option_map (λ (g : Word × Word). g.1) (if b then Some (now x, also x) else shown)
+  cases true found shown e = refl
+  cases false found shown e = e

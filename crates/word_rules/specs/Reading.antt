@@ -1,6 +1,6 @@
 -- How the words behind a command are read: plain words and options.
 use Rattle.std.specs.Prelude.{ℕ, Bool, true, false, not, ◌&&◌, List, [], ◌∷◌, length, map, ◌==◌, nat_lt, Option, Some, None, if◌then◌else◌, codes, option_and_then}
-use Rattle.std.specs.List.{list_any, before_first, after_first}
+use Rattle.std.specs.List.{list_any, find, before_first, after_first}
 use Rattle.std.specs.Option.{option_map}
 use Rattle.std.specs.Str.{bytes_eq}
 use Rattle.word_rules.specs.declared.reading.Kind.{Kind}
@@ -77,6 +77,10 @@ is_distinct (word ∷ words) = not (is_among words word) && is_distinct words
 
 abbrev pub names : Read → List Word
 names r = map (λ g. g.0) r.given
+
+-- the value of the option of this name, where it is given
+abbrev pub given_value : Word → Read → Option Word
+given_value name r = option_map (λ g. g.1) (find (λ g. bytes_eq g.0 name) r.given)
 
 -- each option at most once
 abbrev pub once : Read → Option Read

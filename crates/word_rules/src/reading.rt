@@ -1,8 +1,9 @@
 //! The words behind a command: plain words and options.
 
 ghost use Rattle.std.specs.Prelude.{◌≡◌, ◌<◌, ◌≤◌, ◌++◌, ◌∷◌, [], true, false, length, map, OnOk, IfOk, IfSome, MatchOption};
+ghost use Rattle.std.specs.Option.{option_map};
 ghost use Rattle.std.specs.String.{string_bytes};
-ghost use Rattle.word_rules.specs.Reading.{is_dashed, is_among, is_distinct, names, name_of, value_of, nothing, kind_of, read_words, no_options};
+ghost use Rattle.word_rules.specs.Reading.{is_dashed, is_among, is_distinct, names, name_of, value_of, given_value, nothing, kind_of, read_words, no_options};
 ghost use Rattle.word_rules.specs.Progress.{plain_also, plain_behind, given_also, outcome};
 
 use pm_text::NoMemory;
@@ -159,6 +160,16 @@ impl<'a> Reading<'a> {
         ensures { map (λ g. (g.0.now, g.1.now)) result.now ≡ self.now.given }
     {
         self.given.as_slice()
+    }
+
+    /// The value of the option of this name, with its dashes, or None where it is not given.
+    pub fn value(&self, name: &str) -> Option<&'a str>
+        ensures { option_map (λ v. v.now) result ≡ given_value name.now self.now }
+    {
+        match self.given.iter().find(|g| g.0 == name) {
+            Some(g) => Some(g.1),
+            None => None,
+        }
     }
 
     fn push_plain(&mut self, word: &'a str) -> Result<(), NoMemory>
