@@ -1,2 +1,3 @@
 pub mod BoundLaws
 pub mod FillLaws
+pub mod EntryLaws
