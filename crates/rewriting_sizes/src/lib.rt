@@ -1,0 +1,4 @@
+//! How long the rewritten module is.
+#![tactic(auto)]
+
+pub mod laws;
