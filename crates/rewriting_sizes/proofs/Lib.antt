@@ -6,3 +6,4 @@ pub mod Pieces
 pub mod Sections
 pub mod Bodies
 pub mod Whole
+pub mod Lists

@@ -1,7 +1,8 @@
 //! How long the rewritten module is, against the weight of the module.
 
-ghost use Rattle.std.specs.Prelude.{◌≡◌, ◌≤◌, length};
+ghost use Rattle.std.specs.Prelude.{◌≡◌, ◌≤◌, [], length};
 ghost use Rattle.wasm_syntax.specs.declared.module.ModuleParts.{ModuleParts as Parts};
+ghost use Rattle.wasm_syntax.specs.Sizes.{WithinLimits};
 ghost use Rattle.wasm_encode.specs.Encoding.{encoding};
 ghost use Rattle.module_sizes.specs.Sized.{Sized};
 ghost use Rattle.unwind_rewrite.specs.Numbering.{import_count};
@@ -22,4 +23,11 @@ pub fn rewritten_bodies_weigh()
 /// that of each module that is the same but for offsets, lengths and custom sections.
 pub fn rewritten_modules_weigh()
     ensures { (m other : Parts) (these : Instrumentable m) → Sized m → ElementsFit m → bare_module (new_module (program_of m these.whole)) ≡ bare_module other → length (encoding other) ≤ weight m these.lightness.heights }
+{}
+
+/// So it is within the limits of the decoder: its lists are short, locals, nesting, table and memory are low, and its bytes are not too
+/// many.
+pub fn rewritten_modules_are_decodable()
+    ensures limits { (m other : Parts) (these : Instrumentable m) → Sized m → ElementsFit m → bare_module (new_module (program_of m these.whole)) ≡ bare_module other → other.customs ≡ [] → WithinLimits other }
+    ensures bytes { (m other : Parts) (these : Instrumentable m) → Sized m → ElementsFit m → bare_module (new_module (program_of m these.whole)) ≡ bare_module other → length (encoding other) ≤ 134_217_728 }
 {}
