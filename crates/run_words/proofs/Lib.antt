@@ -1,0 +1,2 @@
+mod EachLaws
+mod PartsLaws
