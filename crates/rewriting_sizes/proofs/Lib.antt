@@ -7,3 +7,6 @@ pub mod Sections
 pub mod Bodies
 pub mod Whole
 pub mod Lists
+pub mod Offsets
+pub mod Forms
+pub mod Spelled
