@@ -23,8 +23,9 @@ pub fn rewritten_bodies_weigh()
     ensures together { (m : Parts) (these : Instrumentable m) → Sized m → rewritten_lengths (program_of m these.whole) (import_count m) m.bodies ≤ bodies_weight m these.lightness.heights 0 m.bodies }
 {}
 
-/// The shortest encoding of the rewritten module takes at most as many bytes as the module weighs, where its element segments fit; so does
-/// that of each module that is the same but for offsets, lengths and custom sections.
+/// The shortest encoding of the rewritten module takes at most as many bytes as the module weighs, where its element segments lie inside the
+/// table: a helper of `call_indirect` has a target for each entry that they name, and the weight counts those of the table. So does the
+/// encoding of each module that is the same but for offsets, lengths and custom sections.
 pub fn rewritten_modules_weigh()
     ensures { (m other : Parts) (these : Instrumentable m) → Sized m → ElementsFit m → bare_module (new_module (program_of m these.whole)) ≡ bare_module other → length (encoding other) ≤ weight m these.lightness.heights }
 {}
