@@ -15,6 +15,7 @@ use Rattle.wasm_syntax.specs.declared.host.HostCall.{HostCall}
 use Rattle.wasm_syntax.specs.declared.host.Reply.{Reply}
 use Rattle.wasm_syntax.specs.declared.host.CollectorCall.{CollectorCall}
 use Rattle.wasm_syntax.specs.Machine.{Frame, Config, config, Engine, Stepped, next, ends, traps, no_reply, bad_reply, stuck, result_of, entered, host_call}
+use Rattle.unwind_rewrite.specs.Guards.{first_table}
 use Rattle.unwind_rewrite.specs.Numbering.{mapped, global_types, wrapped, wrapper_base}
 use Rattle.unwind_rewrite.specs.Pieces.{call, tree_of}
 use Rattle.std.proofs.lemmas.List.{length-map}
@@ -23,7 +24,7 @@ use Rattle.unwind_rewrite.specs.Telling.{collected}
 use Rattle.unwind_rewrite.proofs.Sim.{len_of}
 use Rattle.unwind_rewrite.specs.Standing.{Stands}
 use Rattle.unwind_rewrite.proofs.Calls.{AnswerRel, served_rel}
-use Rattle.wasm_syntax.specs.Run.{Ended, ended, run_steps, run_function, run_alone, host_alone, engine, globals_at_start, start_memory, start_world, cause_of_segments, got_stuck, ran_to, run_entry, go_on, invoked}
+use Rattle.wasm_syntax.specs.Run.{Ended, ended, run_steps, run_function, run_alone, host_alone, engine, globals_at_start, start_memory, start_table, start_world, cause_of_segments, got_stuck, ran_to, run_entry, go_on, invoked}
 use Rattle.instrument.specs.Wrappers.{wrapper_nodes, wrapper, parameter_count}
 use Rattle.instrument.specs.FlatCode.{body_of}
 use Rattle.instrument.specs.Instrument.{new_module, instrument}
@@ -43,6 +44,7 @@ pub record Fits (p : Program) : Type 0 where
   pub ready : Ready p
   pub globals : types (globals_at_start p.module_) ≡ global_types p.module_
   pub memory : cause_of_segments p.module_ ≡ None → MemoryFits (start_memory p.module_)
+  pub table : cause_of_segments p.module_ ≡ None → start_table p.module_ ≡ first_table p.module_
   pub exported : (name : List ℕ) (f : ℕ) → function_export p.module_ name ≡ Some f → (type : FuncType) × (type_at p.module_ f ≡ Some type)
   pub start : (s : ℕ) → p.module_.start ≡ Some s → type_at p.module_ s ≡ Some (record { params = []; results = [] })
   pub few_locals : (greatest p).0 ≤ 10000
@@ -281,7 +283,7 @@ module _ (p : Program) (fit : Fits p) (d : ℕ) (deep : 0 < d) (low : d ≤ 1000
   -- ---- whole runs
 
   pub start_fits : (replies : List Reply) → cause_of_segments m ≡ None → WorldFits M gl (start_world m replies)
-  start_fits replies e = record { globals = fit.globals; memory = fit.memory e; table = refl }
+  start_fits replies e = record { globals = fit.globals; memory = fit.memory e; table = fit.table e }
 
   pub out_type : (f f' : ℕ) (type : FuncType) → Outside m f f' → type_at m f ≡ Some type → type_at (new_module p) f' ≡ Some type
   out_type f f' type (inl o) tf = let z : mapped m f ≡ f' = rw (o.1, o.0) refl in subst (λ q. type_at (new_module p) q ≡ Some type) z (function_type_kept p fit.ready f type tf)

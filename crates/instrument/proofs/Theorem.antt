@@ -9,7 +9,10 @@ use Rattle.unwind_rewrite.specs.Slots.{greatest}
 use Rattle.unwind_rewrite.specs.Numbering.{place_in, helped, uses, distinct, is_in}
 use Rattle.unwind_rewrite.specs.Rewrite.{body}
 use Rattle.linear_memory.specs.Memory.{Memory}
-use Rattle.std.proofs.lemmas.List.{length-replicate}
+use Rattle.std.proofs.lemmas.List.{length-map, length-replicate}
+use Rattle.std.proofs.Math.Seq.{take-length}
+use Rattle.unwind_rewrite.specs.Guards.{first_table}
+use Rattle.wasm_syntax.specs.declared.parts.ElementSeg.{ElementSeg}
 use Rattle.unwind_rewrite.specs.Agreement.{Has, MemoryFits}
 use Rattle.std.proofs.lemmas.Bool.{eqb-true, eq-eqb}
 use Rattle.std.specs.Prelude.{flat_map, fold, min}
@@ -18,7 +21,7 @@ use Rattle.instrument.proofs.Bounds.{Static}
 use Rattle.std.specs.List.{AllByRecursion}
 use Rattle.wasm_syntax.specs.declared.parts.DataSeg.{DataSeg}
 use Rattle.wasm_syntax.specs.declared.parts.Limits.{Limits}
-use Rattle.wasm_syntax.specs.Run.{Cause, Invocation, not_begun, first_false, empty_memory, memory_bytes, data_at, element_fits, data_fits, by_data, by_element, cause_of, cause_of_entry, cause_of_segments, or_else, unless, engine, run}
+use Rattle.wasm_syntax.specs.Run.{Cause, Invocation, not_begun, first_false, table_min, start_table, element_at, empty_memory, memory_bytes, data_at, element_fits, data_fits, by_data, by_element, cause_of, cause_of_entry, cause_of_segments, or_else, unless, engine, run}
 use Rattle.wasm_syntax.specs.Run as runs_
 use Rattle.instrument.specs.Simulates.{Simulates, AllAlike, NoneDeep}
 use Rattle.instrument.proofs.Links.{Ready}
@@ -93,7 +96,7 @@ static_of hs (choose o t a ea b en rest) s h =
 
 -- ---- the first memory has whole pages
 
-over_len : (xs new : List ℕ) (at : ℕ) → at + length new ≤ length xs → length (runs_.over xs at new) ≡ length xs
+over_len : {A : Type 0} (xs new : List A) (at : ℕ) → at + length new ≤ length xs → length (runs_.over xs at new) ≡ length xs
 over_len xs new at le =
     omega (arith, le, length-append (take at xs) (new ++ drop (at + length new) xs), length-append new (drop (at + length new) xs), length-drop (at + length new) xs, length-take-le at xs (omega (arith, le)))
 
@@ -105,6 +108,10 @@ all_true : (n : ℕ) (bs : List Bool) → first_false n bs ≡ None → AllTrue 
 all_true n [] e = tt
 all_true n (true ∷ bs) e = (refl, all_true (suc n) bs e)
 all_true n (false ∷ bs) e = absurd (cc)
+
+elements_true : (m : Module) (q : Option ℕ) → by_element m q ≡ None → q ≡ None
+elements_true m None e = refl
+elements_true m (Some i) e = absurd (cc)
 
 segments_true : (m : Module) (q : Option ℕ) → by_element m q ≡ None → first_false 0 (map (data_fits m) m.segments) ≡ None
 segments_true m None e = data_none (first_false 0 (map (data_fits m) m.segments)) e
@@ -138,6 +145,21 @@ module _ (m : Module) where
       let x = filled m.segments k (65536 * l.min) n (sym n ∙ same) a in
       (l.min, x.0, omega (arith, h), omega (arith, x.1))
 
+-- ---- the first table has the size that the module gives it
+
+table_length : (m : Module) (es : List ElementSeg) (table : List (Option ℕ)) → length table ≡ table_min m.tables → AllTrue (map (element_fits m) es) → length (fold (λ t e. runs_.over t (element_at m e) (map Some e.functions)) table es) ≡ table_min m.tables
+table_length m [] table n h = n
+table_length m (e ∷ es) table n h =
+    let le = leb-true (element_at m e + length e.functions) (table_min m.tables) h.0 in
+    let k : length (map Some e.functions) ≡ length e.functions = length-map e.functions Some in
+    let one = over_len table (map Some e.functions) (element_at m e) (omega (arith, le, k, n)) in
+    table_length m es (runs_.over table (element_at m e) (map Some e.functions)) (omega (arith, one, n)) h.1
+
+first_is_start : (m : Module) → AllTrue (map (element_fits m) m.elements) → start_table m ≡ first_table m
+first_is_start m h =
+    let n = table_length m m.elements _ (length-replicate (table_min m.tables) None) h in
+    sym (take-length (start_table m)) ∙ ap (λ k. take k (start_table m)) n
+
 -- ---- what validity, the limits and the collisions give
 
 same_count : (bodies : List Body) (trees : List Tree) → AllWrite bodies trees → length trees ≡ length bodies
@@ -163,6 +185,7 @@ fits_given p g few =
       ready = ready_given p g;
       globals = (s.world []).globals;
       memory = λ e. memory_by p.module_ p.module_.memories refl (few_pages p.module_ p.module_.memories g.pages) (all_true 0 _ (segments_true p.module_ (first_false 0 (map (element_fits p.module_) p.module_.elements)) e));
+      table = λ e. first_is_start p.module_ (all_true 0 _ (elements_true p.module_ (first_false 0 (map (element_fits p.module_) p.module_.elements)) e));
       exported = s.exported;
       start = s.start;
       few_locals = g.few_locals;

@@ -14,11 +14,10 @@ use Rattle.wasm_syntax.specs.Tree.{BrTable, Return, Nodes, stop, basic, jump, bl
 use Rattle.wasm_syntax.specs.Module.{Program, defined, function_at, type_at, declared_locals, option_then, same_functype}
 use Rattle.wasm_syntax.specs.Machine.{result_of}
 use Rattle.wasm_syntax.specs.Typing.{Context, ◌⇒◌, arrow, Types, IsBody, body_context}
-use Rattle.wasm_syntax.specs.Run.{start_table}
 use Rattle.unwind_rewrite.specs.Numbering.{mapped, value_import, frame_import, flag_of, value_type, frame_type}
 use Rattle.unwind_rewrite.specs.Slots.{Ctx, added, groups, ctx_of, slots_of}
 use Rattle.unwind_rewrite.specs.Pieces.{i32, call, tree_of}
-use Rattle.unwind_rewrite.specs.Guards.{entry_label, type_label, says, helper, helper_type}
+use Rattle.unwind_rewrite.specs.Guards.{entry_label, type_label, says, helper, helper_type, first_table}
 use Rattle.unwind_rewrite.specs.Rewrite.{in_body}
 use Rattle.unwind_rewrite.specs.Typed.{Offers, original}
 use Rattle.unwind_rewrite.proofs.TypedPieces.{Ok, ok_basic, ok_const, ok_if, ok_call, at_labels, Open, open_label}
@@ -164,7 +163,7 @@ module _ (p : Program) (ready : Ready p) (typed : Typed p) where
   helper_ok t =
       let labels = [] ∷ [] ∷ [] ∷ [] ∷ (I32 ∷ []) ∷ [] in
       let op : Open 4 labels = (refl, (refl, (refl, (refl, tt)))) in
-      let go : Ok (c1 (I32 ∷ []) (I32 ∷ []) labels) [] (I32 ∷ []) (jump 0 (BrTable (map (entry_label m t) (start_table m)) 1) stop) = record { typed = ([], ([], refl, targets_open labels t (start_table m) op, record { below = []; takes = refl }), refl) } in
+      let go : Ok (c1 (I32 ∷ []) (I32 ∷ []) labels) [] (I32 ∷ []) (jump 0 (BrTable (map (entry_label m t) (first_table m)) 1) stop) = record { typed = ([], ([], refl, targets_open labels t (first_table m) op, record { below = []; takes = refl }), refl) } in
       let first = ok_basic [] (LocalGet 0) I32 ([] ⇒ I32 ∷ []) refl go in
       ((((first.typed, says_ok ([] ∷ [] ∷ [] ∷ (I32 ∷ []) ∷ []) 0 []), says_ok ([] ∷ [] ∷ (I32 ∷ []) ∷ []) 5 []), says_ok ([] ∷ (I32 ∷ []) ∷ []) 6 []), says_ok ((I32 ∷ []) ∷ []) 7 (I32 ∷ []))
 

@@ -46,7 +46,7 @@ pub labels_length : (count default : ℕ) (xs : List ℕ) → length (labels_byt
 labels_length count default xs =
     omega (arith, length-append (unsigned_bytes count ++ flat_map unsigned_bytes xs) (unsigned_bytes default), length-append (unsigned_bytes count) (flat_map unsigned_bytes xs))
 
-taken_most : (n : ℕ) (xs : List ℕ) → length (take n xs) ≤ n
+pub taken_most : {A : Type 0} (n : ℕ) (xs : List A) → length (take n xs) ≤ n
 taken_most zero xs = omega arith
 taken_most (suc n) [] = omega arith
 taken_most (suc n) (x ∷ xs) = omega (arith, taken_most n xs)

@@ -15,7 +15,6 @@ use Rattle.wasm_syntax.specs.declared.parts.Body.{Body}
 use Rattle.wasm_syntax.specs.declared.module.ModuleParts.{ModuleParts as Module}
 use Rattle.wasm_syntax.specs.Tree.{Jump, Unreachable, Br, BrIf, BrTable, Return, Call, CallIndirect, Nodes, stop, basic, jump, block, loop, choose, Item, Plain, Goes, Opens, OpensLoop, OpensIf, Else, End, item_of}
 use Rattle.wasm_syntax.specs.Module.{Program, Function, imported, defined, function_at}
-use Rattle.wasm_syntax.specs.Run.{table_min, start_table}
 use Rattle.wasm_syntax.specs.Sizes.{Short, ShortBody, ShortType, ShortElement, ShortData, ShortLists, WithinLimits}
 use Rattle.instruction_format.specs.Encoding.{encoding as instruction_bytes, labels_bytes}
 use Rattle.wasm_encode.specs.Encoding.{sized_bytes, group_bytes, function_type_bytes, import_bytes, kind_byte, global_bytes, export_bytes, entry_bytes}
@@ -260,10 +259,10 @@ lists_back m none s = record {
   custom_names = subst (AllByRecursion (λ c. Short c.name)) (sym none) tt;
 }
 
-pub within : (m other : Module) (x : Instrumentable m) → Sized m → length (start_table m) ≤ table_min m.tables → bare_module (new_module (program_of m x.whole)) ≡ bare_module other → other.customs ≡ [] → WithinLimits other
-within m other x sized fits e none =
+pub within : (m other : Module) (x : Instrumentable m) → Sized m → bare_module (new_module (program_of m x.whole)) ≡ bare_module other → other.customs ≡ [] → WithinLimits other
+within m other x sized e none =
     let p = program_of m x.whole in
-    let weighs = contents_weigh m x sized fits in
+    let weighs = contents_weigh m x sized in
     let new = new_short p x.limits_.short (omega (arith, weighs, x.lightness.light)) in
     let lists = lists_back other none (subst ShortLists e (lists_bare (new_module p) new)) in
     let low = same_sizes (new_module p) other e (new_sizes m x) in

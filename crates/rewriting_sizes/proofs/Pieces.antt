@@ -11,21 +11,21 @@ use Rattle.wasm_syntax.specs.declared.parts.Body.{Body}
 use Rattle.wasm_syntax.specs.declared.module.ModuleParts.{ModuleParts as Module}
 use Rattle.wasm_syntax.specs.Tree.{Unreachable, BrTable, Return, Nodes, stop, basic, jump}
 use Rattle.wasm_syntax.specs.Module.{type_at, same_functype, option_then}
-use Rattle.wasm_syntax.specs.Run.{start_table}
+use Rattle.wasm_syntax.specs.Run.{table_min, start_table}
 use Rattle.wasm_syntax.specs.Sizes as sizes_
 use Rattle.wasm_encode.specs.Encoding.{vector_bytes, value_type_bytes, group_bytes, function_bytes, entry_bytes, expression_bytes}
 use Rattle.module_sizes.proofs.Measures.{sized_length}
 use Rattle.unwind_rewrite.specs.Numbering.{import_count, mapped, value_import, frame_import, flag_of, global_types}
 use Rattle.unwind_rewrite.specs.Slots.{group, groups}
 use Rattle.unwind_rewrite.specs.Pieces.{const, i32, call, if_any}
-use Rattle.unwind_rewrite.specs.Guards.{type_label, entry_label, says, helper}
+use Rattle.unwind_rewrite.specs.Guards.{first_table, type_label, entry_label, says, helper}
 use Rattle.unwind_rewrite.specs.Length.{code_length, jump_length}
 use Rattle.unwind_rewrite.proofs.Lengths.{ten_bytes, len_const, len_call, len_global_get, len_global_set}
 use Rattle.instrument.specs.FlatCode.{body_of}
 use Rattle.instrument.specs.Wrappers.{get_all, tell_globals, end_of_dump, after_wrapped, parameter_count, wrapper}
 use Rattle.rewriting_sizes.proofs.Numbers.{some_bytes, few_bytes, single_byte, four_bytes}
 use Rattle.rewriting_sizes.proofs.Totals.{total, total-append, total_many, vector_total}
-use Rattle.rewriting_sizes.proofs.Items.{labels_length, new_expression}
+use Rattle.rewriting_sizes.proofs.Items.{taken_most, labels_length, new_expression}
 
 -- ---- entries
 
@@ -142,29 +142,30 @@ labels_short m t (q ∷ qs) =
     let c = length-append (unsigned_bytes n) (flat_map unsigned_bytes (map (entry_label m t) qs)) in
     omega (arith, a, b, c)
 
-table_short : (m : Module) (t : ℕ) → jump_length (BrTable (map (entry_label m t) (start_table m)) 1) ≤ 12 + length (start_table m)
+table_short : (m : Module) (t : ℕ) → jump_length (BrTable (map (entry_label m t) (first_table m)) 1) ≤ 12 + length (first_table m)
 table_short m t =
-    let ts = map (entry_label m t) (start_table m) in
+    let ts = map (entry_label m t) (first_table m) in
     let a = labels_length (length ts) 1 ts in
     let b = ten_bytes (length ts) in
-    let c = labels_short m t (start_table m) in
+    let c = labels_short m t (first_table m) in
     let d = single_byte 1 (omega arith) in
     omega (arith, a, b, c, d)
 
 says_short : (kind : ℕ) → code_length (says kind) ≤ 12
 says_short kind = let a = len_const (i32 kind) (jump 0 Return stop) in omega (arith, a)
 
-helper_short : (m : Module) (t : ℕ) → code_length (helper m t) ≤ 74 + length (start_table m)
+helper_short : (m : Module) (t : ℕ) → code_length (helper m t) ≤ 74 + length (first_table m)
 helper_short m t =
     let a = table_short m t in
     let b = single_byte 0 (omega arith) in
     omega (arith, a, b, says_short 0, says_short 5, says_short 6, says_short 7)
 
-pub helper_entry : (m : Module) (t : ℕ) → length (entry_bytes (body_of [] (helper m t))) ≤ 86 + length (start_table m)
+pub helper_entry : (m : Module) (t : ℕ) → length (entry_bytes (body_of [] (helper m t))) ≤ 86 + table_min m.tables
 helper_entry m t =
     let a = plain_entry (helper m t) in
     let b = helper_short m t in
-    omega (arith, a, b)
+    let c = taken_most (table_min m.tables) (start_table m) in
+    omega (arith, a, b, c)
 
 -- ---- rewritten bodies
 

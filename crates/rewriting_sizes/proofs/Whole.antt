@@ -1,15 +1,12 @@
 -- The encoding of a rewritten module takes at most its weight.
-use Rattle.std.proofs.Common.{◌≡◌, ℕ, suc, ◌+◌, ◌*◌, ◌≤◌, Bool, true, false, nat_lt, if◌then◌else◌, List, [], ◌∷◌, ◌++◌, length, map, flat_map, Option, Some, None, refl, sym, ap, subst, arith, length-append, slice_get, take, drop, fold, leb-true, length-drop, length-take-le}
-use Rattle.std.proofs.lemmas.List.{length-map, length-replicate}
-use Rattle.wasm_syntax.specs.declared.parts.ElementSeg.{ElementSeg}
-use Rattle.std.specs.List.{AllByRecursion}
+use Rattle.std.proofs.Common.{◌≡◌, ℕ, suc, ◌+◌, ◌*◌, ◌≤◌, Bool, true, false, nat_lt, if◌then◌else◌, List, [], ◌∷◌, ◌++◌, length, map, flat_map, Option, Some, None, refl, sym, ap, subst, arith, slice_get}
 use Rattle.wasm_syntax.specs.declared.parts.FuncType.{FuncType}
 use Rattle.wasm_syntax.specs.declared.parts.Export.{Export}
 use Rattle.wasm_syntax.specs.declared.parts.Body.{Body}
 use Rattle.wasm_syntax.specs.declared.module.ModuleParts.{ModuleParts as Module}
 use Rattle.wasm_syntax.specs.Tree.{stop, Tree}
 use Rattle.wasm_syntax.specs.Module.{Program, Function, imported, defined, function_at, type_at, is_function}
-use Rattle.wasm_syntax.specs.Run.{over, element_at, element_fits, table_min, start_table}
+use Rattle.wasm_syntax.specs.Run.{table_min}
 use Rattle.wasm_syntax.specs.Sizes.{local_count}
 use Rattle.wasm_encode.specs.Encoding.{entry_bytes, encoding}
 use Rattle.module_sizes.specs.Sized.{Sized}
@@ -24,7 +21,6 @@ use Rattle.instrument.specs.Weight.{height_at, ops_weight, bodies_weight, types_
 use Rattle.instrument.specs.Wrappers.{wrapper}
 use Rattle.instrument.proofs.Links.{is_defined}
 use Rattle.instrument.proofs.WrittenOut.{writes_at}
-use Rattle.rewriting_sizes.specs.Light.{ElementsFit}
 use Rattle.rewriting_sizes.proofs.Totals.{total, total-append, total-map, total_times}
 use Rattle.rewriting_sizes.proofs.Items.{old_expression, all_used, peak_few}
 use Rattle.rewriting_sizes.proofs.Bodies.{few_imports, code_short, same_body, from_first}
@@ -65,24 +61,6 @@ total_more f n (x ∷ xs) = omega (arith, total_more f n xs)
 tens : {A : Type 0} (xs : List A) → total (λ x. 10) xs ≡ 10 * length xs
 tens [] = refl
 tens (x ∷ xs) = omega (arith, tens xs)
-
--- ---- the table
-
-over_length : {A : Type 0} (xs new : List A) (at : ℕ) → at + length new ≤ length xs → length (over xs at new) ≡ length xs
-over_length xs new at le =
-    omega (arith, le, length-append (take at xs) (new ++ drop (at + length new) xs), length-append new (drop (at + length new) xs), length-take-le at xs (omega (arith, le)), length-drop (at + length new) xs)
-
-filled : (m : Module) (es : List ElementSeg) (table : List (Option ℕ)) → length table ≡ table_min m.tables → AllByRecursion (λ e. element_fits m e ≡ true) es → length (fold (λ t e. over t (element_at m e) (map Some e.functions)) table es) ≡ table_min m.tables
-filled m [] table e h = e
-filled m (s ∷ ss) table e h =
-    let le = leb-true (element_at m s + length s.functions) (table_min m.tables) h.0 in
-    let n : length (map Some s.functions) ≡ length s.functions = length-map s.functions Some in
-    let one = over_length table (map Some s.functions) (element_at m s) (omega (arith, le, n, e)) in
-    filled m ss (over table (element_at m s) (map Some s.functions)) (omega (arith, one, e)) h.1
-
--- where the element segments fit, the table has its first size
-pub table_fits : (m : Module) → ElementsFit m → length (start_table m) ≤ table_min m.tables
-table_fits m h = let e = filled m m.elements _ (length-replicate (table_min m.tables) None) h in omega (arith, e)
 
 -- ---- the module
 
@@ -140,9 +118,9 @@ module _ (m : Module) (x : Instrumentable m) (sized : Sized m) where
   helpers_are : length (helped p) ≡ length (types_used m)
   helpers_are = ap (λ ts. length (distinct ts)) (all_used m.bodies x.whole.trees x.whole.write)
 
-  helped_ : length (start_table m) ≤ table_min m.tables → total (λ u. 10 + entry (body_of [] (helper m u))) (helped p) ≤ length (types_used m) * (128 + 5 * table_min m.tables)
-  helped_ fits =
-      let a = total_times (λ u. 10 + entry (body_of [] (helper m u))) (128 + 5 * table_min m.tables) (helped p) (λ u. let a = helper_entry m u in omega (arith, a, fits)) in
+  helped_ : total (λ u. 10 + entry (body_of [] (helper m u))) (helped p) ≤ length (types_used m) * (128 + 5 * table_min m.tables)
+  helped_ =
+      let a = total_times (λ u. 10 + entry (body_of [] (helper m u))) (128 + 5 * table_min m.tables) (helped p) (λ u. let a = helper_entry m u in omega (arith, a)) in
       subst (λ n. total (λ u. 10 + entry (body_of [] (helper m u))) (helped p) ≤ n * (128 + 5 * table_min m.tables)) helpers_are a
 
   code_total : total entry (new_module p).bodies ≤ 8 * total entry m.bodies + bodies_weight m heights 0 m.bodies + (total (λ f. entry (body_of [] (wrapper m f))) (wrapped m) + total (λ u. entry (body_of [] (helper m u))) (helped p))
@@ -157,8 +135,8 @@ module _ (m : Module) (x : Instrumentable m) (sized : Sized m) where
       let e = total-map entry (λ u. body_of [] (helper m u)) (helped p) in
       omega (arith, a, b, c, d, e)
 
-  pub contents_weigh : length (start_table m) ≤ table_min m.tables → 239 + contents (new_module p) ≤ weight m heights
-  contents_weigh fits =
+  pub contents_weigh : 239 + contents (new_module p) ≤ weight m heights
+  contents_weigh =
       let t = length m.types in
       let a = types_grow m.types in
       let b = imports_grow m.imports t in
@@ -168,7 +146,7 @@ module _ (m : Module) (x : Instrumentable m) (sized : Sized m) where
       let f = elements_grow m m.elements in
       let g = code_total in
       let h = wrapped_ in
-      let i = helped_ fits in
+      let i = helped_ in
       let h1 = total_more (λ f. entry (body_of [] (wrapper m f))) 10 (wrapped m) in
       let h2 = tens (wrapped m) in
       let i1 = total_more (λ u. entry (body_of [] (helper m u))) 10 (helped p) in
@@ -177,10 +155,10 @@ module _ (m : Module) (x : Instrumentable m) (sized : Sized m) where
       omega (arith, a, b, c, d, e, f, g, h, h1, h2, i, i1, i2, z, sized.no_shorter)
 
   -- the encoding of a module that is the rewritten one but for offsets, lengths and custom sections
-  pub encoding_weighs : (other : Module) → length (start_table m) ≤ table_min m.tables → bare_module (new_module p) ≡ bare_module other → length (encoding other) ≤ weight m heights
-  encoding_weighs other fits e =
+  pub encoding_weighs : (other : Module) → bare_module (new_module p) ≡ bare_module other → length (encoding other) ≤ weight m heights
+  encoding_weighs other e =
       let a = contents_most other in
       let b = contents_bare other in
       let c = contents_bare (new_module p) in
       let d = ap contents e in
-      omega (arith, a, b, c, d, contents_weigh fits)
+      omega (arith, a, b, c, d, contents_weigh)

@@ -1,23 +1,17 @@
 -- What is said of the sizes of a rewritten module.
-use Rattle.std.specs.Prelude.{◌≡◌, ℕ, suc, ◌+◌, ◌≤◌, true, List, [], ◌∷◌, Option, Some}
+use Rattle.std.specs.Prelude.{◌≡◌, ℕ, suc, ◌+◌, ◌≤◌, List, [], ◌∷◌, Option, Some}
 use Rattle.std.specs.List.{AllByRecursion}
 use Rattle.wasm_syntax.specs.declared.parts.FuncType.{FuncType}
 use Rattle.wasm_syntax.specs.declared.parts.Body.{Body}
 use Rattle.wasm_syntax.specs.declared.module.ModuleParts.{ModuleParts as Module}
 use Rattle.wasm_syntax.specs.Tree.{Tree}
 use Rattle.wasm_syntax.specs.Module.{Program, Function, defined, function_at}
-use Rattle.wasm_syntax.specs.Run.{element_fits}
 use Rattle.unwind_rewrite.specs.Numbering.{import_count}
 use Rattle.unwind_rewrite.specs.Slots.{ctx_of, slots_of}
 use Rattle.unwind_rewrite.specs.Length.{code_length, live_weight}
 use Rattle.instrument.specs.Instrument.{new_nodes}
 use Rattle.instrument.specs.Instrumentable.{SmallInstr}
 use Rattle.instrument.specs.Weight.{height_at, ops_weight}
-
--- Each element segment lies inside the table, as where an instance starts (Core 4.5.4). A module without that can be valid, and none of
--- its functions ever runs; its helpers have a target for each entry that its segments name, also past the end of the table.
-abbrev pub ElementsFit : Module → Type 0
-ElementsFit m = AllByRecursion (λ e. element_fits m e ≡ true) m.elements
 
 -- What the rewriting gives to the live instructions of a function is at most what the weight of the module gives to its instructions.
 abbrev pub BodiesLight : Program → List (List ℕ) → Type 0

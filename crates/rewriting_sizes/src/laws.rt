@@ -14,7 +14,7 @@ ghost use Rattle.instrument.specs.Bare.{bare_module};
 ghost use Rattle.instrument.specs.Instrument.{new_module};
 ghost use Rattle.instrument.specs.Instrumentable.{Instrumentable, program_of};
 ghost use Rattle.instrument.specs.Weight.{bodies_weight, weight};
-ghost use Rattle.rewriting_sizes.specs.Light.{ElementsFit, BodiesLight, rewritten_lengths, SmallOffsets};
+ghost use Rattle.rewriting_sizes.specs.Light.{BodiesLight, rewritten_lengths, SmallOffsets};
 
 /// The live instructions of each body weigh at most what the weight of the module, by the heights of its operands, gives to all
 /// instructions of the body; and the rewritten bodies together take at most what the weight gives to the bodies.
@@ -23,18 +23,17 @@ pub fn rewritten_bodies_weigh()
     ensures together { (m : Parts) (these : Instrumentable m) → Sized m → rewritten_lengths (program_of m these.whole) (import_count m) m.bodies ≤ bodies_weight m these.lightness.heights 0 m.bodies }
 {}
 
-/// The shortest encoding of the rewritten module takes at most as many bytes as the module weighs, where its element segments lie inside the
-/// table: a helper of `call_indirect` has a target for each entry that they name, and the weight counts those of the table. So does the
-/// encoding of each module that is the same but for offsets, lengths and custom sections.
+/// The shortest encoding of the rewritten module takes at most as many bytes as the module weighs; so does that of each module that is the
+/// same but for offsets, lengths and custom sections.
 pub fn rewritten_modules_weigh()
-    ensures { (m other : Parts) (these : Instrumentable m) → Sized m → ElementsFit m → bare_module (new_module (program_of m these.whole)) ≡ bare_module other → length (encoding other) ≤ weight m these.lightness.heights }
+    ensures { (m other : Parts) (these : Instrumentable m) → Sized m → bare_module (new_module (program_of m these.whole)) ≡ bare_module other → length (encoding other) ≤ weight m these.lightness.heights }
 {}
 
 /// So it is within the limits of the decoder: its lists are short, locals, nesting, table and memory are low, and its bytes are not too
 /// many.
 pub fn rewritten_modules_are_decodable()
-    ensures limits { (m other : Parts) (these : Instrumentable m) → Sized m → ElementsFit m → bare_module (new_module (program_of m these.whole)) ≡ bare_module other → other.customs ≡ [] → WithinLimits other }
-    ensures bytes { (m other : Parts) (these : Instrumentable m) → Sized m → ElementsFit m → bare_module (new_module (program_of m these.whole)) ≡ bare_module other → length (encoding other) ≤ 134_217_728 }
+    ensures limits { (m other : Parts) (these : Instrumentable m) → Sized m → bare_module (new_module (program_of m these.whole)) ≡ bare_module other → other.customs ≡ [] → WithinLimits other }
+    ensures bytes { (m other : Parts) (these : Instrumentable m) → Sized m → bare_module (new_module (program_of m these.whole)) ≡ bare_module other → length (encoding other) ≤ 134_217_728 }
 {}
 
 /// The offset of each access is a number of 32 bits where the numbers of a module have the ranges of their types, and in each module that

@@ -30,11 +30,10 @@ use Rattle.unwind_rewrite.specs.Agreement.{Holds, now, info, infos, joined, Wit,
 use Rattle.unwind_rewrite.specs.Steps.{Gets, To, Shell, st}
 use Rattle.unwind_rewrite.proofs.Run.{stored, stored_other, kind_no_slot, slice_get-put_other, added_get, added_set, types-stored, slice_get-put_same, types-slice_set, same_type-same, same_type-refl, added_kind, more_parts, one_step, seq, weaken, fetch_to, load_to, less_holds, store_to}
 use Rattle.unwind_rewrite.proofs.Parts.{put_keeps, cut_all, fits_put, settle, step_plain}
-use Rattle.unwind_rewrite.specs.Guards.{helper, entry_label, says}
+use Rattle.unwind_rewrite.specs.Guards.{helper, entry_label, says, first_table}
 use Rattle.unwind_rewrite.specs.Telling.{tell_labels, tell_locals, tell_frame}
 use Rattle.std.proofs.lemmas.List.{map-append}
 use Rattle.std.proofs.lemmas.Option.{slice_get-map}
-use Rattle.wasm_syntax.specs.Run.{start_table}
 use Rattle.unwind_rewrite.specs.Standing.{Linked, After, Speaks, HelperLinked, Stands}
 use Rattle.unwind_rewrite.proofs.Sim.{refit, refit_under, room_height, grown-append, grown_fits, len_of, shell, tgt, wit, wit_under, armed, if_zero_to, caught_to}
 use Rattle.unwind_rewrite.proofs.Control.{flag_len, flag_down, both_to, grown_longer}
@@ -409,7 +408,7 @@ module _ (M M' : Engine) (t : ℕ) (k : HelperLinked M M' t) where
 
   module _ (X : Shell) (tl : List Value) (kk : Nodes) (g : World) (co : List CollectorCall) (n : ℕ) where
     abbrev inner : Nodes
-    inner = jump 0 (BrTable (map (entry_label M.program.module_ t) (start_table M.program.module_)) 1) stop
+    inner = jump 0 (BrTable (map (entry_label M.program.module_ t) (first_table M.program.module_)) 1) stop
 
     abbrev in_helper : List Label → Config
     in_helper Ls = config (frame index (Some I32) 0 (values.I32 n ∷ []) Ls ∷ frame X.idx X.result 0 tl (label [] kk 0 X.kind ∷ X.below) ∷ X.frames) g co
@@ -426,13 +425,13 @@ module _ (M M' : Engine) (t : ℕ) (k : HelperLinked M M' t) where
     opened : To M' 5 5 at_start at_table
     opened = seq M' (one_step M' _ _ refl) (seq M' (one_step M' _ _ refl) (seq M' (one_step M' _ _ refl) (seq M' (one_step M' _ _ refl) (one_step M' _ _ refl))))
 
-    said : (lbl kind : ℕ) → pick (map (entry_label M.program.module_ t) (start_table M.program.module_)) 1 n ≡ lbl → Label_kind lbl kind → To M' 3 3 at_table (st X tl (values.I32 kind ∷ []) kk g co)
+    said : (lbl kind : ℕ) → pick (map (entry_label M.program.module_ t) (first_table M.program.module_)) 1 n ≡ lbl → Label_kind lbl kind → To M' 3 3 at_table (st X tl (values.I32 kind ∷ []) kk g co)
     said lbl kind e (inl x) = rw x.1 (seq M' (one_step M' at_table (next (in_helper (label [] (says 0) 0 (leaves None) ∷ label [] (says 5) 0 (leaves None) ∷ label [] (says 6) 0 (leaves None) ∷ label [] (says 7) 0 (returns (Some I32)) ∷ []))) (rw (e ∙ x.0) refl)) (seq M' (one_step M' _ _ refl) (one_step M' _ _ refl)))
     said lbl kind e (inr (inl x)) = rw x.1 (seq M' (one_step M' at_table (next (in_helper (label [] (says 5) 0 (leaves None) ∷ label [] (says 6) 0 (leaves None) ∷ label [] (says 7) 0 (returns (Some I32)) ∷ []))) (rw (e ∙ x.0) refl)) (seq M' (one_step M' _ _ refl) (one_step M' _ _ refl)))
     said lbl kind e (inr (inr (inl x))) = rw x.1 (seq M' (one_step M' at_table (next (in_helper (label [] (says 6) 0 (leaves None) ∷ label [] (says 7) 0 (returns (Some I32)) ∷ []))) (rw (e ∙ x.0) refl)) (seq M' (one_step M' _ _ refl) (one_step M' _ _ refl)))
     said lbl kind e (inr (inr (inr x))) = rw x.1 (seq M' (one_step M' at_table (next (in_helper (label [] (says 7) 0 (returns (Some I32)) ∷ []))) (rw (e ∙ x.0) refl)) (seq M' (one_step M' _ _ refl) (one_step M' _ _ refl)))
 
-    helper_in : (lbl kind : ℕ) → nat_lt (suc (length X.frames)) M'.depth ≡ true → pick (map (entry_label M.program.module_ t) (start_table M.program.module_)) 1 n ≡ lbl → Label_kind lbl kind → To M' 1 12 (st X tl (values.I32 n ∷ []) (call index kk) g co) (st X tl (values.I32 kind ∷ []) kk g co)
+    helper_in : (lbl kind : ℕ) → nat_lt (suc (length X.frames)) M'.depth ≡ true → pick (map (entry_label M.program.module_ t) (first_table M.program.module_)) 1 n ≡ lbl → Label_kind lbl kind → To M' 1 12 (st X tl (values.I32 n ∷ []) (call index kk) g co) (st X tl (values.I32 kind ∷ []) kk g co)
     helper_in lbl kind d e lk = weaken M' (seq M' (starts d) (seq M' opened (said lbl kind e lk))) (omega arith) (omega arith)
 
 -- ---- an indirect call
@@ -491,7 +490,7 @@ module _ (M M' : Engine) (E : ℕ) (gl : List ValType) (W : Wrap) (S : Stands M 
     size_i = len_of l C.locals f.size
 
     -- the guard's verdict
-    judged : (type : FuncType) (q : Option (Option ℕ)) (lbl kind : ℕ) → Has t C.helpers → slice_get (start_table M.program.module_) n ≡ q → unwrap_or (option_map (entry_label M.program.module_ t) q) 1 ≡ lbl → Label_kind lbl kind → To M' 1 13 (st XI (l ++ ex) [] (guarded_call type) gi co) (st XI (l ++ ex) (values.I32 kind ∷ []) (weighed type) gi co)
+    judged : (type : FuncType) (q : Option (Option ℕ)) (lbl kind : ℕ) → Has t C.helpers → slice_get (first_table M.program.module_) n ≡ q → unwrap_or (option_map (entry_label M.program.module_ t) q) 1 ≡ lbl → Label_kind lbl kind → To M' 1 13 (st XI (l ++ ex) [] (guarded_call type) gi co) (st XI (l ++ ex) (values.I32 kind ∷ []) (weighed type) gi co)
     judged type q lbl kind has tq le lk =
         let kk = weighed type in
         let h = f.labels in
@@ -499,7 +498,7 @@ module _ (M M' : Engine) (E : ℕ) (gl : List ValType) (W : Wrap) (S : Stands M 
         let s1 : To M' 1 1 (st XI (l ++ ex) [] (guarded_call type) gi co) (st XI (l ++ ex) (values.I32 n ∷ []) (call (helper_of C t) kk) gi co) = fetch_to M' C l size_i ex (length esi) e1 (values.I32 n) h.0.0 in
         let d : nat_lt (suc (length XI.frames)) M'.depth ≡ true = rw (length-frames M M' E gl W S r Fs ws fs, S.deeper) (lt-ltb (suc (suc (length Fs))) (suc (suc M.depth)) (omega (arith, shallow))) in
         let idx : helper_of C t ≡ helper_base M.program.module_ + place_in t (helped M.program) = ap₂ (λ b hs. b + place_in t hs) f.base f.helpers in
-        let pk = pick_map (entry_label M.program.module_ t) (start_table M.program.module_) 1 n q tq ∙ le in
+        let pk = pick_map (entry_label M.program.module_ t) (first_table M.program.module_) 1 n q tq ∙ le in
         let s2 = subst (λ z. To M' 1 12 (st XI (l ++ ex) (values.I32 n ∷ []) (call z kk) gi co) (st XI (l ++ ex) (values.I32 kind ∷ []) kk gi co)) (sym idx) (helper_in M M' t (S.helpers t has') XI (l ++ ex) kk gi co n lbl kind d pk lk) in
         weaken M' (seq M' s1 s2) (omega arith) (omega arith)
 
@@ -523,7 +522,7 @@ module _ (M M' : Engine) (E : ℕ) (gl : List ValType) (W : Wrap) (S : Stands M 
     kind_stays lbl j (inr (inr (inl x))) = rw x.1 (refl, refl)
     kind_stays lbl j (inr (inr (inr x))) = rw x.1 (refl, refl)
 
-    pub entry_trap : (type : FuncType) (q : Option (Option ℕ)) (lbl j : ℕ) → Has t C.helpers → slice_get (start_table M.program.module_) n ≡ q → unwrap_or (option_map (entry_label M.program.module_ t) q) 1 ≡ lbl → Label_kind lbl (suc j) → After M M' E gl W (st XI (l ++ ex) [] (guarded_call type) gi co) (traps (suc j) (config (FI ∷ Fs) g co))
+    pub entry_trap : (type : FuncType) (q : Option (Option ℕ)) (lbl j : ℕ) → Has t C.helpers → slice_get (first_table M.program.module_) n ≡ q → unwrap_or (option_map (entry_label M.program.module_ t) q) 1 ≡ lbl → Label_kind lbl (suc j) → After M M' E gl W (st XI (l ++ ex) [] (guarded_call type) gi co) (traps (suc j) (config (FI ∷ Fs) g co))
     entry_trap type q lbl j has tq le lk =
         let h = f.labels in
         let v = values.I32 (suc j) in

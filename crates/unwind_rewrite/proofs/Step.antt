@@ -15,13 +15,12 @@ use Rattle.wasm_syntax.specs.Machine.{Kind, Label, Frame, Config, label, frame, 
 use Rattle.unwind_rewrite.specs.Slots.{Place, Ctx, less, grown, result_type, after_plain}
 use Rattle.unwind_rewrite.specs.Rewrite.{Info, tested, guarded, indirect_code, rewrite}
 use Rattle.unwind_rewrite.specs.Pieces.{load, store}
-use Rattle.unwind_rewrite.specs.Guards.{can_trap, entry_label, type_label}
+use Rattle.unwind_rewrite.specs.Guards.{can_trap, entry_label, type_label, first_table}
 use Rattle.unwind_rewrite.specs.Steps.{To, Shell, st}
 use Rattle.unwind_rewrite.proofs.Run.{weaken, push_to}
 use Rattle.unwind_rewrite.specs.Agreement.{info, infos, joined, Wit, FitsIn, Has, Room_call, Room, WorldFits, FitsFrame, FitsFrames, FitsConfig, Wrap, flagged, image}
 use Rattle.unwind_rewrite.specs.Promises.{kind_of}
 use Rattle.unwind_rewrite.proofs.Parts.{Rel, framed, match_of}
-use Rattle.wasm_syntax.specs.Run.{start_table}
 use Rattle.unwind_rewrite.specs.Standing.{After, Stands}
 use Rattle.unwind_rewrite.proofs.Sim.{refit, len_of, shell, tgt, wit, verdict_to, plain_gives, push_sim, block_sim, loop_sim, if_sim}
 use Rattle.unwind_rewrite.proofs.Control.{end_sim, br_node, br_if_node, return_node, table_node}
@@ -50,7 +49,7 @@ module _ (M M' : Engine) (E : ℕ) (gl : List ValType) (W : Wrap) (S : Stands M 
     abbrev RoomI : FuncType → Type 0
     RoomI type = FitsIn C (result_of type) (less (length type.params) esi) × Room C (grown (result_of type) (less (length type.params) esi)) rest
 
-    tab : (q : Option (Option ℕ)) → slice_get g.table n ≡ q → slice_get (start_table M.program.module_) n ≡ q
+    tab : (q : Option (Option ℕ)) → slice_get g.table n ≡ q → slice_get (first_table M.program.module_) n ≡ q
     tab q e = ap (λ z. slice_get z n) (sym wf.table) ∙ e
 
     module _ (type : FuncType) (ty : slice_get M.program.module_.types t ≡ Some type) (has : Has t C.helpers) (rm : RoomI type) where

@@ -6,6 +6,7 @@ use Rattle.wasm_syntax.specs.Numbers.{type_of, types}
 use Rattle.wasm_syntax.specs.Tree.{Nodes, basic, Jump, Unreachable, Br, BrIf, BrTable, Return, Call, CallIndirect, stop, jump, block, loop, choose}
 use Rattle.wasm_syntax.specs.Host.{World}
 use Rattle.wasm_syntax.specs.Machine.{Kind, Label, Frame, Config, label, frame, config, Engine, leaves, again, returns, zero_of, result_of}
+use Rattle.unwind_rewrite.specs.Guards.{first_table}
 use Rattle.unwind_rewrite.specs.Slots.{Place, Spilled, Known, Ctx, slot, kind_at, added, less, grown, result_type, after_plain, greatest}
 use Rattle.unwind_rewrite.specs.Pieces.{store, from_result}
 use Rattle.wasm_syntax.specs.declared.value.Value.TheVariants as values
@@ -17,7 +18,6 @@ use Rattle.wasm_syntax.specs.Effect.{takes}
 use Rattle.unwind_rewrite.specs.Rewrite.{Info, in_block, in_loop, in_body, finish, after_call, test_both, rewrite, exit_code}
 use Rattle.unwind_rewrite.specs.Numbering.{mapped, place_in, global_types, helper_base, helped}
 use Rattle.linear_memory.specs.Memory.{Memory}
-use Rattle.wasm_syntax.specs.Run.{start_table}
 use Rattle.unwind_rewrite.specs.Offsets.{SmallOffset}
 
 -- the operand is in its slot, or is the constant
@@ -172,7 +172,7 @@ NoKind C ex (Some others) = slice_get ex (kind_at C) ≡ Some (values.I32 0)
 pub record WorldFits (M : Engine) (gl : List ValType) (w : World) : Type 0 where
   pub globals : types w.globals ≡ gl
   pub memory : MemoryFits w.memory
-  pub table : w.table ≡ start_table M.program.module_
+  pub table : w.table ≡ first_table M.program.module_
 
 pub record FitsFrame (M : Engine) (E : ℕ) (gl : List ValType) (a : Option ValType) (F : Frame) (w : Wit) : Type 0 where
   pub size : types F.locals ≡ w.ctx.locals

@@ -1,5 +1,5 @@
 -- Guards: each pushes the kind with which an instruction traps on the operands in these places, or 0, and changes nothing.
-use Rattle.std.specs.Prelude.{ℕ, suc, ◌+◌, ◌-◌, ◌/◌, ◌^◌, List, [], ◌∷◌, length, map, slice_get, Option, Some, None, option_map, unwrap_or, Bool, true, false}
+use Rattle.std.specs.Prelude.{ℕ, suc, ◌+◌, ◌-◌, ◌/◌, ◌^◌, List, [], ◌∷◌, length, map, slice_get, Option, Some, None, option_map, unwrap_or, Bool, true, false, take}
 use Rattle.wasm_syntax.specs.declared.value.ValType.{ValType}
 use Rattle.wasm_syntax.specs.declared.value.ValType.TheVariants.{I32, I64}
 use Rattle.wasm_syntax.specs.declared.value.Value.{Value}
@@ -16,7 +16,7 @@ use Rattle.wasm_syntax.specs.Numbers.{bits, value}
 use Rattle.wasm_syntax.specs.Access.{load_bits, store_bits}
 use Rattle.wasm_syntax.specs.Tree.{BrTable, Return, Nodes, stop, basic, jump, block}
 use Rattle.wasm_syntax.specs.Module.{type_at, same_functype, option_then}
-use Rattle.wasm_syntax.specs.Run.{start_table}
+use Rattle.wasm_syntax.specs.Run.{table_min, start_table}
 use Rattle.unwind_rewrite.specs.Slots.{Place, Ctx}
 use Rattle.unwind_rewrite.specs.Pieces.{const, i32, fetch}
 
@@ -111,6 +111,10 @@ entry_label m t None = 2
 entry_label m t (Some g) =
     unwrap_or (option_then (slice_get m.types t) (λ type. option_map (λ u. type_label (same_functype u type)) (type_at m g))) 0
 
+-- the table where an instance starts (Core 4.5.4). Element segments that pass its end are cut there: no instance starts with them.
+abbrev pub first_table : Module → List (Option ℕ)
+first_table m = take (table_min m.tables) (start_table m)
+
 -- a helper gives this kind
 abbrev pub says : ℕ → Nodes
 says kind = const (i32 kind) (jump 0 Return stop)
@@ -119,7 +123,7 @@ says kind = const (i32 kind) (jump 0 Return stop)
 abbrev pub helper : Module → ℕ → Nodes
 helper m t =
     block 0 None (block 0 None (block 0 None (block 0 None
-    (basic 0 (LocalGet 0) (jump 0 (BrTable (map (entry_label m t) (start_table m)) 1) stop)) 0
+    (basic 0 (LocalGet 0) (jump 0 (BrTable (map (entry_label m t) (first_table m)) 1) stop)) 0
     (says 0)) 0 (says 5)) 0 (says 6)) 0 (says 7)
 
 abbrev pub helper_type : FuncType

@@ -1,10 +1,10 @@
 use Rattle.std.proofs.Common.{arith}
 use Rattle.rewriting_sizes.proofs.Lists.{within}
-use Rattle.rewriting_sizes.proofs.Whole.{table_fits, encoding_weighs}
+use Rattle.rewriting_sizes.proofs.Whole.{encoding_weighs}
 use Rattle.rewriting_sizes.proofs.laws.rewritten_modules_are_decodable.Goals as goal
 
 pub returns : goal.returns
 returns c = record {
-  limits = λ m other x sized fits e none. within m other x sized (table_fits m fits) e none;
-  bytes = λ m other x sized fits e. (let a = encoding_weighs m x sized other (table_fits m fits) e in omega (arith, a, x.lightness.light));
+  limits = λ m other x sized e none. within m other x sized e none;
+  bytes = λ m other x sized e. (let a = encoding_weighs m x sized other e in omega (arith, a, x.lightness.light));
 }
