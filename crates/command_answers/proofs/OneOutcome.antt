@@ -1,5 +1,5 @@
 -- The steps of a command have at most one outcome where what comes behind them has.
-use Rattle.std.proofs.Common.{◌≡◌, ℕ, Result, Ok, Err, sym, ap, ◌∙◌, inl, inr}
+use Rattle.std.proofs.Common.{◌≡◌, Result, Ok, Err, sym, ap, ◌∙◌, inl, inr}
 use Rattle.wasm_syntax.specs.declared.quantity.Quantity.TheVariants.{Height}
 use Rattle.wasm_syntax.specs.declared.module.ModuleParts.{ModuleParts as Module}
 use Rattle.wasm_syntax.specs.Valid.{Valid}
