@@ -1,5 +1,4 @@
-use Rattle.std.proofs.Common.{◌++◌}
-use Rattle.pm_cli.specs.Show.{numbered, frame_text}
+use Rattle.pm_cli.specs.Show.{frame_text}
 use Rattle.pm_cli.proofs.Numbered.{goes_on, is_done}
 use Rattle.pm_cli.proofs.dump_text.push_frames.Goals as goal
 

@@ -1,5 +1,5 @@
-use Rattle.std.proofs.Common.{◌++◌, refl}
-use Rattle.pm_cli.specs.Show.{numbered, global_text}
+use Rattle.std.proofs.Common.{refl}
+use Rattle.pm_cli.specs.Show.{global_text}
 use Rattle.pm_cli.proofs.Numbered.{goes_on, is_done}
 use Rattle.pm_cli.proofs.dump_text.push_globals.Goals as goal
 
