@@ -1,0 +1,4 @@
+pub mod Settings
+pub mod Alone
+pub mod Answers
+pub mod Invocations
