@@ -10,7 +10,8 @@ mod host;
 mod scripted;
 
 pub use causes::NoMemory;
-pub use console::Console;
+pub use console::{Console, empty_reply};
+pub use copies::{copy_call, copy_reply};
 pub use counter::Counter;
 pub use device::{Device, DeviceAnswer};
 pub use host::{HostAnswer, HostSide};
