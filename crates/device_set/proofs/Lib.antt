@@ -1,0 +1,5 @@
+pub mod Calls
+pub mod Logs
+pub mod Names
+pub mod Replies
+pub mod Sets
