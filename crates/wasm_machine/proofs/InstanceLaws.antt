@@ -1,0 +1,68 @@
+-- What is known of instances.
+use Rattle.std.proofs.Common.{◌≡◌, ℕ, ◌+◌, ◌<◌, ◌^◌, List, [], ◌∷◌, length, refl, sym, ap, subst, ◌∙◌}
+use Rattle.std.specs.Prelude.{Bool, true, false, ◌&&◌, Option, Some, None, IfSome, option_map}
+use Rattle.wasm_syntax.specs.declared.value.ValType.{ValType}
+use Rattle.wasm_syntax.specs.declared.value.ValType.TheVariants.{I32, I64}
+use Rattle.wasm_syntax.specs.declared.value.Value.{Value}
+use Rattle.wasm_syntax.specs.declared.parts.FuncType.{FuncType}
+use Rattle.wasm_syntax.specs.declared.module.ModuleParts.{ModuleParts as Module}
+use Rattle.wasm_syntax.specs.declared.host.Reply.{Reply}
+use Rattle.wasm_syntax.specs.declared.place.Place.TheVariants as places
+use Rattle.wasm_syntax.specs.Numbers.{types}
+use Rattle.wasm_syntax.specs.Module.{Program, IsProgram, IsModule, same_types, type_at}
+use Rattle.wasm_syntax.specs.Valid.{Valid, StartFine}
+use Rattle.wasm_syntax.specs.Host.{World}
+use Rattle.wasm_syntax.specs.Run.{cause_of_entry, if_fits, start_world}
+use Rattle.machine_steps.specs.declared.machine.Machine.{Machine}
+use Rattle.machine_steps.specs.declared.machine.Prepared.{Prepared}
+use Rattle.machine_steps.specs.Prepares.{IsPrepared}
+use Rattle.safe_runs.specs.Safe.{ValidProgram, WorldFits}
+use Rattle.safe_runs.proofs.SafeLaws.{start_fits}
+use Rattle.instance_start.specs.declared.started.Started.{Started}
+use Rattle.instance_start.specs.Starts as starts
+use Rattle.entry_runs.specs.Settings.{Sound, world_of, MachineFits, Takes}
+use Rattle.entry_runs.proofs.WorldLaws.{same_world, fits_same}
+use Rattle.wasm_machine.specs.Instances.{State, state, SoundState, IsNew}
+
+-- ---- entries
+
+same_list : (ts us : List ValType) → same_types ts us ≡ true → us ≡ ts
+same_list [] [] e = refl
+same_list [] (u ∷ us) e = absurd (cc)
+same_list (t ∷ ts) [] e = absurd (cc)
+same_list (I32 ∷ ts) (I32 ∷ us) e = ap (λ z. I32 ∷ z) (same_list ts us e)
+same_list (I32 ∷ ts) (I64 ∷ us) e = absurd (cc)
+same_list (I64 ∷ ts) (I32 ∷ us) e = absurd (cc)
+same_list (I64 ∷ ts) (I64 ∷ us) e = ap (λ z. I64 ∷ z) (same_list ts us e)
+
+-- an entry without a cause takes its arguments
+pub takes_entry : (m : Module) (f : ℕ) (args : List Value) → cause_of_entry m (Some f) args ≡ None → Takes m f args
+takes_entry m f args e = by_type (type_at m f) refl e
+  where
+    by_test : (type : FuncType) (b : Bool) → type_at m f ≡ Some type → same_types type.params (types args) ≡ b → if_fits (Some b) ≡ None → Takes m f args
+    by_test type true at t e = (type, at, same_list type.params (types args) t)
+    by_test type false at t e = absurd (cc)
+
+    by_type : (o : Option FuncType) → type_at m f ≡ o → if_fits (option_map (λ type. same_types type.params (types args)) o) ≡ None → Takes m f args
+    by_type None at e = absurd (cc)
+    by_type (Some type) at e = by_test type (same_types type.params (types args)) at refl e
+
+-- the start function of a valid module takes no arguments
+pub takes_start : (m : Module) (due : Option ℕ) → Valid m → ((f : ℕ) → due ≡ Some f → m.start ≡ Some f) → IfSome due (λ f. Takes m f [])
+takes_start m None v h = tt
+takes_start m (Some f) v h = (record { params = []; results = [] }, subst (λ o. IfSome o (StartFine m)) (h f refl) (v places.Start), refl)
+
+-- ---- a new instance
+
+pub new_sound : (m : Module) (prepared : Prepared) → IsModule m → Valid m → length m.imports + length m.functions < 2 ^ 32 → ((p : Program) → p.module_ ≡ m → IsProgram p → IsPrepared p prepared) → Sound m prepared
+new_sound m prepared w v f p = record { whole = w; valid = v; few = f; is_prepared = p }
+
+pub new_world : (m : Module) (s : Started) (machine : Machine) → ((replies : List Reply) → starts.StandsFor s (start_world m replies)) → machine.shared ≡ s.shared → machine.table ≡ s.table → (replies : List Reply) → world_of machine replies ≡ start_world m replies
+new_world m s machine h shared table replies =
+    let k = h replies in
+    same_world (world_of machine replies) (start_world m replies) (ap (λ s. s.globals) shared ∙ sym k.shared.globals) (ap (λ s. option_map (λ k. k.memory) s.memory) shared ∙ sym k.shared.memory) (table ∙ sym k.table) refl refl
+
+pub new_fits : (m : Module) (prepared : Prepared) (machine : Machine) → Sound m prepared → ((replies : List Reply) → world_of machine replies ≡ start_world m replies) → MachineFits m machine
+new_fits m prepared machine s h =
+    let p : Program = record { module_ = m; trees = s.whole.trees } in
+    subst (WorldFits m) (sym (h [])) (start_fits (record { module_ = m; trees = s.whole.trees }) [] (record { writes = s.whole.write; paired = s.whole.as_many; valid = s.valid }))

@@ -1,0 +1,29 @@
+use Rattle.std.proofs.Common.{◌≡◌, ◌+◌, ◌∙◌, [], refl, sym, ap, subst, arith}
+use Rattle.std.specs.Prelude.{Some, None, true}
+use Rattle.wasm_syntax.specs.Run.{cause_of_entry}
+use Rattle.entry_runs.specs.Settings.{ServesAll}
+use Rattle.wasm_machine.specs.Instances.{State, state, SoundState, Invoked}
+use Rattle.wasm_machine.proofs.InstanceLaws.{takes_entry, takes_start}
+use Rattle.wasm_machine.proofs.instance.Instance.invoke.Goals as goal
+
+pub run_invocation-run-requires-clause-fits : goal.run_invocation-run-requires-clause-fits
+run_invocation-run-requires-clause-fits g c = c.self.invariant.fits (ap (λ (s : State). s.ready) c.self.view_is ∙ c.requires.ready)
+
+pub run_invocation-run-requires-clause-start : goal.run_invocation-run-requires-clause-start
+run_invocation-run-requires-clause-start g c = takes_start c.self.inside.source.now c.self.inside.due c.self.invariant.sound.valid c.self.invariant.start
+
+pub run_invocation-run-requires-clause-entry : goal.run_invocation-run-requires-clause-entry
+run_invocation-run-requires-clause-entry g c = takes_entry c.self.inside.source.now c.args.entry c.args.args.now (ap (λ (s : State). cause_of_entry s.module_ (Some c.args.entry) c.args.args.now) c.self.view_is ∙ c.requires.entry)
+
+pub run_invocation-run-requires-clause-served : goal.run_invocation-run-requires-clause-served
+run_invocation-run-requires-clause-served g c = subst (λ (s : State). ServesAll (g.H.HostSide.serving c.args.hosts.now) s.module_) (sym c.self.view_is) c.requires.served
+
+pub run_invocation-run-requires-clause-imports : goal.run_invocation-run-requires-clause-imports
+run_invocation-run-requires-clause-imports g c = c.requires.imports ∙ ap (λ (s : State). s.module_.imports) (sym c.self.view_is)
+
+pub returns-clause-came : goal.returns-clause-came
+returns-clause-came g c = λ p e is.
+    let i = c.self.inside in
+    let r = c.run_invocation-run.result in
+    subst (λ (s : State). Invoked p (g.H.HostSide.collecting c.args.hosts.now) c.args.depth (g.H.HostSide.used_up c.run_invocation-run.new.hosts) c.args.entry c.args.args.now c.args.fuel s (state i.source.now i.prepared c.run_invocation-run.new.m None r.ready (i.steps + r.steps)) r.answer (g.H.HostSide.calls c.args.hosts.now) (g.H.HostSide.calls c.run_invocation-run.new.hosts)) c.self.view_is
+    (record { made = r.steps; steps = refl; came = c.run_invocation-run.ensures.came p (e ∙ ap (λ (s : State). s.module_) (sym c.self.view_is)) is })

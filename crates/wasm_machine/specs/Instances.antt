@@ -1,0 +1,56 @@
+-- Instances (Core 4.2.5) and what they are known to be.
+use Rattle.std.specs.Prelude.{◌≡◌, ℕ, ◌+◌, Bool, true, List, [], Option, Some, None, Result, Ok, Err}
+use Rattle.wasm_syntax.specs.declared.value.Value.{Value}
+use Rattle.wasm_syntax.specs.declared.parts.Import.{Import}
+use Rattle.wasm_syntax.specs.declared.module.ModuleParts.{ModuleParts as Module}
+use Rattle.wasm_syntax.specs.declared.host.Reply.{Reply}
+use Rattle.wasm_syntax.specs.Module.{Program}
+use Rattle.wasm_syntax.specs.Run.{element_out, data_out, start_world, cause_of_segments, engine}
+use Rattle.machine_steps.specs.declared.machine.Machine.{Machine}
+use Rattle.machine_steps.specs.declared.machine.Prepared.{Prepared}
+use Rattle.host_devices.specs.HostSides.{Calls}
+use Rattle.instance_start.specs.declared.started.StartFault.{StartFault}
+use Rattle.instance_start.specs.declared.started.StartFault.TheVariants.{ElementOut, DataOut, NoMemory}
+use Rattle.entry_runs.specs.declared.answer.RunAnswer.{RunAnswer}
+use Rattle.entry_runs.specs.Settings.{Sound, world_of, MachineFits}
+use Rattle.entry_runs.specs.Invocations.{InvocationCameWith, invoking}
+
+-- an instance: its module, and that prepared; its globals, memory, table and frames; the start function where it is due; whether it may be
+-- invoked; and how many steps it has made
+pub record State : Type 0 where
+  pub module_ : Module
+  pub prepared : Prepared
+  pub machine : Machine
+  pub due : Option ℕ
+  pub ready : Bool
+  pub steps : ℕ
+
+abbrev pub state : Module → Prepared → Machine → Option ℕ → Bool → ℕ → State
+state m prepared machine due ready steps = record { module_ = m; prepared = prepared; machine = machine; due = due; ready = ready; steps = steps }
+
+-- only the module's start function is ever due, and what is outside the frames fits the module while the instance is ready
+pub record SoundState (s : State) : Type 0 where
+  pub sound : Sound s.module_ s.prepared
+  pub start : (f : ℕ) → s.due ≡ Some f → s.module_.start ≡ Some f
+  pub fits : s.ready ≡ true → MachineFits s.module_ s.machine
+
+-- an instance of a module that was not invoked
+pub record IsNew (m : Module) (s : State) : Type 0 where
+  pub module_is : s.module_ ≡ m
+  pub world : (replies : List Reply) → world_of s.machine replies ≡ start_world m replies
+  pub due : s.due ≡ m.start
+  pub ready : s.ready ≡ true
+  pub steps : s.steps ≡ 0
+
+-- A new instance, where all segments lie inside; or the first one that does not.
+abbrev pub Begins : Result State StartFault → Module → Type 0
+Begins (Ok s) m = (cause_of_segments m ≡ None) × IsNew m s
+Begins (Err (ElementOut index)) m = cause_of_segments m ≡ Some (element_out index)
+Begins (Err (DataOut index)) m = cause_of_segments m ≡ Some (data_out index)
+Begins (Err NoMemory) m = Unit {0}
+
+-- So many steps were made, and the invocation came to the answer (Core 4.5.5).
+pub record Invoked (p : Program) (collecting : Bool) (depth : ℕ) (used_up : Import → Bool) (entry : ℕ) (args : List Value) (fuel : ℕ) (before now : State) (answer : RunAnswer) (old new : Calls) : Type 0 where
+  pub made : ℕ
+  pub steps : now.steps ≡ before.steps + made
+  pub came : InvocationCameWith p before.prepared.codes.items used_up (invoking (engine p collecting depth) before.due entry args (world_of before.machine [])) fuel answer made now.ready now.machine old new

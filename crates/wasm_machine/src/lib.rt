@@ -1,0 +1,9 @@
+//! Instances of modules and their invocations (Core 4.5.4, 4.5.5).
+#![tactic(auto)]
+
+mod instance;
+pub mod laws;
+
+pub use entry_runs::RunAnswer;
+pub use instance::Instance;
+pub use instance_start::StartFault;
