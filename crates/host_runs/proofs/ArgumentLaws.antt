@@ -23,10 +23,10 @@ middle xs ys zs start stop a b =
 pub above_others : (pre args under all : List Value) (start stop : ℕ) → all ≡ pre ++ (reverse args ++ under) → stop ≡ length all - length pre → start ≡ stop - length args → take (stop - start) (drop start (reverse all)) ≡ args
 above_others pre args under all start stop e p q =
     let turned : reverse all ≡ reverse under ++ (args ++ reverse pre) =
-        ap reverse e ∙ reverse-append pre (reverse args ++ under) ∙ ap (λ l. l ++ reverse pre) (reverse-append (reverse args) under ∙ ap (λ l. reverse under ++ l) (reverse-reverse args))
-        ∙ append_assoc (reverse under) args (reverse pre) in
+    ap reverse e ∙ reverse-append pre (reverse args ++ under) ∙ ap (λ l. l ++ reverse pre) (reverse-append (reverse args) under ∙ ap (λ l. reverse under ++ l) (reverse-reverse args))
+    ∙ append_assoc (reverse under) args (reverse pre) in
     let count : length all ≡ length pre + (length args + length under) =
-        ap length e ∙ length-append pre (reverse args ++ under) ∙ ap (λ n. length pre + n) (length-append (reverse args) under ∙ ap (λ n. n + length under) (length-reverse args)) in
+    ap length e ∙ length-append pre (reverse args ++ under) ∙ ap (λ n. length pre + n) (length-append (reverse args) under ∙ ap (λ n. n + length under) (length-reverse args)) in
     let l = length-reverse under in
     let a : start ≡ length (reverse under) = omega (arith, l, count, p, q) in
     let b : stop ≡ length (reverse under) + length args = omega (arith, l, count, p, q) in
@@ -60,8 +60,8 @@ module _ (M : Engine) (codes : List Code) (c : Config) (call : ImportCall) (s : 
   pub argument_values : (start stop : ℕ) → stop ≡ length m.stack.values - (if call.indirect then 1 else 0) → start ≡ stop - length args → take (stop - start) (drop start (reverse m.stack.values)) ≡ args
   argument_values start stop p q =
       let b = behind_call M.program codes h.frame h.label h.outer h.callers h.at h.jumps h.rest (above call.indirect (index_in call.indirect h.label.operands h.operands h.under) ++ reverse args) below []
-          m.stack.frames m.stack.position m.stack.controls m.stack.values h.node (taken_is call.indirect h.label.operands h.operands (reverse args) below h.under operands) frames in
+      m.stack.frames m.stack.position m.stack.controls m.stack.values h.node (taken_is call.indirect h.label.operands h.operands (reverse args) below h.under operands) frames in
       let e : m.stack.values ≡ above call.indirect (index_in call.indirect h.label.operands h.operands h.under) ++ (reverse args ++ b.0) =
-          b.1 ∙ append_assoc (above call.indirect (index_in call.indirect h.label.operands h.operands h.under)) (reverse args) b.0 in
+      b.1 ∙ append_assoc (above call.indirect (index_in call.indirect h.label.operands h.operands h.under)) (reverse args) b.0 in
       let n = under_count call.indirect (index_in call.indirect h.label.operands h.operands h.under) in
       above_others (above call.indirect (index_in call.indirect h.label.operands h.operands h.under)) args b.0 m.stack.values start stop e (p ∙ ap (λ k. length m.stack.values - k) (sym n)) q

@@ -82,7 +82,7 @@ module _ (us vs : List Value) (same : types us ≡ types vs) where
   name_same : (name : List ℕ) → is_some (collector_name name us) ≡ is_some (collector_name name vs)
   name_same name =
       choose (bytes_eq name (codes "value_i32")) (on_i32 us) (if bytes_eq name (codes "value_i64") then on_i64 us else if bytes_eq name (codes "frame") then on_frame us else None)
-          (on_i32 vs) (if bytes_eq name (codes "value_i64") then on_i64 vs else if bytes_eq name (codes "frame") then on_frame vs else None) i32_same
+      (on_i32 vs) (if bytes_eq name (codes "value_i64") then on_i64 vs else if bytes_eq name (codes "frame") then on_frame vs else None) i32_same
       (choose (bytes_eq name (codes "value_i64")) (on_i64 us) (if bytes_eq name (codes "frame") then on_frame us else None) (on_i64 vs) (if bytes_eq name (codes "frame") then on_frame vs else None) i64_same
       (choose (bytes_eq name (codes "frame")) (on_frame us) None (on_frame vs) None frame_same refl))
 

@@ -24,7 +24,7 @@ use Rattle.host_runs.specs.declared.halt.Halt.TheVariants as halts
 use Rattle.host_runs.specs.declared.turn.Turn.{Turn}
 use Rattle.host_runs.specs.declared.turn.Turn.TheVariants.{Goes, Halts, Lacking}
 use Rattle.host_runs.specs.Hosted.{replies_of, Asked, Grew, Admits}
-use Rattle.host_runs.specs.Turns.{Setting, Calling, AtCall, told_by, nothing, one_reply, one_told, halt_of, StopsOrGoes, Turned, TurnedWith, TurnMeets, HasCause, HasUse, IsReplied}
+use Rattle.host_runs.specs.Turns.{Calling, AtCall, told_by, nothing, one_reply, one_told, halt_of, Turned, TurnMeets, HasCause, HasUse, IsReplied}
 use Rattle.host_runs.proofs.CallLaws.{imported_is, called, at_call}
 use Rattle.host_runs.proofs.CollectorLaws.{told_same}
 use Rattle.host_runs.proofs.TurnLaws.{silent_turns, failed_turns}
@@ -58,7 +58,6 @@ grew_reply (Some k) b call reply old new e t h = absurd (cc)
 grew_reply None b call reply old new e t h = record { is = refl; grew = record { served = h.0; collected = h.1 ∙ sym (append_nil old.collected) } }
 
 -- ---- turns
-
 
 meets : (M : Engine) (codes : List Code) (used_up : Import → Bool) (turn : Turn) (there : List Reply → Config) (m : Machine) (old new : Calls) (asked : Asked) → Grew asked old new →
     ((more : List Reply) → Admits (halt_of turn) more → Turned M codes used_up asked turn (there (replies_of asked.given ++ more)) m more) → TurnMeets M codes used_up turn there m old new

@@ -1,8 +1,7 @@
 -- A run as a family over the replies that are left: how far it has come, whatever these are.
-use Rattle.std.proofs.Common.{◌≡◌, ◌≢◌, ℕ, zero, suc, ◌+◌, ◌-◌, ◌≤◌, ◌<◌, List, [], ◌∷◌, ◌++◌, map, reverse, refl, sym, ap, subst, ◌∙◌, append_assoc, arith}
+use Rattle.std.proofs.Common.{◌≡◌, ◌≢◌, ℕ, suc, ◌+◌, ◌-◌, ◌≤◌, ◌<◌, List, [], ◌∷◌, ◌++◌, reverse, refl, sym, ap, subst, ◌∙◌, append_assoc, arith}
 use Rattle.std.proofs.lemmas.List.{reverse-append, map-append}
 use Rattle.std.specs.Prelude.{Bool}
-use Rattle.wasm_syntax.specs.declared.value.Value.{Value}
 use Rattle.wasm_syntax.specs.declared.parts.Import.{Import}
 use Rattle.wasm_syntax.specs.declared.parts.FuncType.{FuncType}
 use Rattle.wasm_syntax.specs.declared.module.ModuleParts.{ModuleParts as Module}
@@ -11,7 +10,7 @@ use Rattle.wasm_syntax.specs.declared.host.Served.{Served as Given}
 use Rattle.wasm_syntax.specs.declared.host.CollectorCall.{CollectorCall}
 use Rattle.wasm_syntax.specs.Host.{World}
 use Rattle.wasm_syntax.specs.Machine.{Engine, Frame, Config, config, Stepped, next, ends, traps, no_reply, bad_reply, stuck, step}
-use Rattle.wasm_syntax.specs.Run.{Ended as Result, run_steps, run_on, ended}
+use Rattle.wasm_syntax.specs.Run.{run_steps, run_on, ended}
 use Rattle.basic_steps.specs.Traps.{trap_code}
 use Rattle.basic_steps.specs.declared.answer.TrapKind.{TrapKind}
 use Rattle.flat_code.specs.declared.code.Code.{Code}
@@ -20,7 +19,7 @@ use Rattle.machine_steps.specs.declared.machine.Prepared.{Prepared}
 use Rattle.machine_steps.specs.declared.machine.ImportCall.{ImportCall}
 use Rattle.machine_steps.specs.declared.machine.Outcome.{Outcome}
 use Rattle.machine_steps.specs.declared.machine.Outcome.TheVariants as outcomes
-use Rattle.machine_steps.specs.Meets.{StandsFor, SameHost, CallsImport}
+use Rattle.machine_steps.specs.Meets.{StandsFor, CallsImport}
 use Rattle.machine_runs.specs.Runs as runs
 use Rattle.machine_runs.specs.Runs.{Begins, Leads, Stops}
 use Rattle.safe_runs.proofs.SafeLaws.{reached}
@@ -28,7 +27,7 @@ use Rattle.host_devices.specs.HostSides.{Calls}
 use Rattle.host_runs.specs.declared.halt.Halt.{Halt}
 use Rattle.host_runs.specs.declared.halt.Halt.TheVariants as halts
 use Rattle.host_runs.specs.declared.turn.Turn.TheVariants.{Goes, Halts}
-use Rattle.host_runs.specs.Hosted.{replying, replies_of, Asked, Grew, Served, served_in, told_in, left_in, Tells, Admits, steps_given, Came, CameWith}
+use Rattle.host_runs.specs.Hosted.{replying, replies_of, Asked, Grew, Served, Tells, steps_given, Came, CameWith}
 use Rattle.host_runs.specs.Turns.{Setting, Ready, Calling, going, nothing, Turned, TurnedWith, HasCause}
 use Rattle.host_runs.specs.Turns as turns
 

@@ -8,9 +8,7 @@ use Rattle.wasm_syntax.specs.declared.host.HostCall.{HostCall}
 use Rattle.wasm_syntax.specs.declared.host.Reply.{Reply}
 use Rattle.wasm_syntax.specs.declared.host.CollectorCall.{CollectorCall}
 use Rattle.wasm_syntax.specs.Numbers.{types}
-use Rattle.wasm_syntax.specs.Module.{same_types}
-use Rattle.wasm_syntax.specs.Host.{World, Answer, replied, told, silent, misfit, answer, told_or, served_by, if_fits, if_written, fits_type, after_writes}
-use Rattle.wasm_syntax.specs.Machine as steps
+use Rattle.wasm_syntax.specs.Host.{World, told_or, served_by, if_fits, if_written, fits_type, after_writes}
 use Rattle.wasm_syntax.specs.Machine.{Engine, Config, config, Stepped, next, no_reply, bad_reply, step, host, host_call, label, result_of}
 use Rattle.linear_memory.specs.Memory.{Memory}
 use Rattle.flat_code.specs.declared.code.Code.{Code}
@@ -18,14 +16,13 @@ use Rattle.frame_steps.specs.Layout as layout
 use Rattle.frame_steps.specs.Meets.{with_labels}
 use Rattle.machine_steps.specs.declared.machine.Machine.{Machine}
 use Rattle.machine_steps.specs.declared.machine.ImportCall.{ImportCall}
-use Rattle.machine_steps.specs.Meets.{StandsFor, CallsImport}
+use Rattle.machine_steps.specs.Meets.{StandsFor}
 use Rattle.import_steps.specs.declared.reply.Replied.{Replied}
 use Rattle.import_steps.specs.declared.reply.Replied.TheVariants as replies
 use Rattle.import_steps.specs.Meets.{NotCollected, MeetsReply}
 use Rattle.host_runs.specs.declared.halt.Halt.TheVariants as halts
 use Rattle.host_runs.specs.declared.turn.Turn.{Turn}
-use Rattle.host_runs.specs.declared.turn.Turn.TheVariants.{Goes, Halts, Lacking}
-use Rattle.host_runs.specs.Hosted.{IsModuleOf}
+use Rattle.host_runs.specs.declared.turn.Turn.TheVariants.{Goes, Halts}
 use Rattle.host_runs.specs.Turns.{AtCall, told_by, nothing, one_reply, one_told, Turned}
 use Rattle.host_runs.proofs.CallLaws.{same_types_of}
 use Rattle.host_runs.proofs.CollectorLaws.{unheard}

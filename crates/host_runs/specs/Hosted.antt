@@ -8,7 +8,7 @@ use Rattle.wasm_syntax.specs.declared.host.Served.{Served as ServedCall}
 use Rattle.wasm_syntax.specs.declared.host.CollectorCall.{CollectorCall}
 use Rattle.wasm_syntax.specs.Module.{Program}
 use Rattle.wasm_syntax.specs.Host.{World}
-use Rattle.wasm_syntax.specs.Machine.{Config, Stepped, next, ends, traps, no_reply, bad_reply, stuck}
+use Rattle.wasm_syntax.specs.Machine.{Stepped, next, ends, traps, no_reply, bad_reply, stuck}
 use Rattle.wasm_syntax.specs.Run.{Ended, ended}
 use Rattle.basic_steps.specs.Traps.{trap_code}
 use Rattle.flat_code.specs.declared.code.Code.{Code}

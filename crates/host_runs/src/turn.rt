@@ -83,8 +83,7 @@ pub(crate) fn serve_import<H: HostSide>(
     };
     let function = call.function as u32;
     let memory = m.shared.memory.as_ref();
-    let Heard { answer, told } =
-        call_host(alloc, import, ftype, function, args, memory, hosts);
+    let Heard { answer, told } = call_host(alloc, import, ftype, function, args, memory, hosts);
     match answer {
         HostAnswer::Replied(reply) => {
             if told {

@@ -1,6 +1,4 @@
-use Rattle.std.proofs.Common.{◌≡◌, ◌+◌, ◌-◌, ◌<◌, ◌≤◌, ℕ, List, [], refl, sym, subst, ◌∙◌, arith}
-use Rattle.wasm_syntax.specs.declared.parts.Import.{Import}
-use Rattle.wasm_syntax.specs.declared.parts.FuncType.{FuncType}
+use Rattle.std.proofs.Common.{◌≡◌, ◌+◌, ◌-◌, ◌<◌, ◌≤◌, [], refl, sym, subst, ◌∙◌, arith}
 use Rattle.machine_steps.specs.declared.machine.Outcome.TheVariants as outcomes
 use Rattle.host_devices.specs.HostSides.{Calls}
 use Rattle.host_runs.specs.declared.halt.Halt.TheVariants as halts

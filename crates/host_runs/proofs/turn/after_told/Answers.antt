@@ -1,6 +1,5 @@
-use Rattle.std.proofs.Common.{◌≡◌, ◌∷◌, length, reverse, refl, sym, ap, ◌∙◌}
+use Rattle.std.proofs.Common.{◌∷◌, reverse, refl, sym, ◌∙◌}
 use Rattle.std.proofs.lemmas.List.{length-reverse}
-use Rattle.wasm_syntax.specs.declared.parts.FuncType.{FuncType}
 use Rattle.wasm_syntax.specs.Machine.{step}
 use Rattle.host_runs.proofs.TurnLaws.{told_goes, told_lacks}
 use Rattle.host_runs.proofs.turn.after_told.Goals as goal
