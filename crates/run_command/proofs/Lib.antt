@@ -1,0 +1,6 @@
+mod Entries
+mod Held
+mod Lists
+mod Steps
+mod Told
+mod Turning

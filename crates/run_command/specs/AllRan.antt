@@ -1,0 +1,44 @@
+-- What is told of all that was run.
+use Rattle.std.specs.Prelude.{ℕ, ◌-◌, List, [], ◌++◌, length, Option, Some, None, if◌then◌else◌, codes}
+use Rattle.std.specs.List.{flat_map}
+use Rattle.std.specs.Fmt.{decimal}
+use Rattle.pm_text.specs.Names.{quoted}
+use Rattle.wasm_syntax.specs.declared.host.HostCall.{HostCall}
+use Rattle.wasm_syntax.specs.declared.parts.Import.{Import}
+use Rattle.wasm_syntax.specs.Run.{Outcome as RunOutcome, not_started, finished, trapped, lacks_reply, misfits, running, got_stuck, Ran}
+use Rattle.device_set.specs.Sets.{is_named}
+use Rattle.command_answers.specs.Texts.{ended}
+use Rattle.command_answers.specs.declared.outcome.Outcome.{Outcome}
+use Rattle.command_answers.specs.declared.status.Status.TheVariants as status
+use Rattle.run_command.specs.RunText.{invocation_text, traps_in, last_of, fitted, not_invoked_text}
+use Rattle.run_command.specs.Given.{module_of}
+use Rattle.run_command.specs.Ending.{host_stopped, end_status}
+
+module _ (names : List (List ℕ)) (imports : List Import) where
+  -- the device that failed, or the number of the call that the script has no reply for
+  abbrev pub no_reply_text : HostCall → ℕ → List ℕ
+  no_reply_text call n =
+      if is_named names (module_of imports call.import) then codes "device " ++ quoted (module_of imports call.import)
+      else codes "no reply for call " ++ decimal n
+
+  -- the last line, behind so many replies that fitted and with so many invocations that were not begun
+  abbrev pub end_text : ℕ → ℕ → RunOutcome → List ℕ
+  end_text n due (lacks_reply call) = host_stopped (no_reply_text call n)
+  end_text n due (misfits call reply) = host_stopped (codes "reply " ++ decimal n ++ codes " does not fit")
+  end_text n due running = codes "fuel spent\n"
+  end_text n due (trapped kind) = not_invoked_text due
+  end_text n due (finished v) = []
+  end_text n due (not_started cause) = []
+  end_text n due got_stuck = []
+
+  -- all lines of what was run, of so many invocations that were asked for
+  abbrev pub text_to : ℕ → List Ran → Ran → List ℕ
+  text_to asked rans r = flat_map invocation_text rans ++ end_text (fitted rans) (asked - length rans) r.outcome
+
+abbrev pub ran_to_end : List (List ℕ) → List Import → ℕ → List Ran → Option Ran → Outcome
+ran_to_end names imports asked rans None = ended status.Done []
+ran_to_end names imports asked rans (Some r) = ended (end_status (traps_in rans) r.outcome) (text_to names imports asked rans r)
+
+-- where devices of these names serve these imports
+abbrev pub all_ran : List (List ℕ) → List Import → ℕ → List Ran → Outcome
+all_ran names imports asked rans = ran_to_end names imports asked rans (last_of rans)

@@ -1,0 +1,21 @@
+-- The last line of a list of invocations, and its status.
+use Rattle.std.specs.Prelude.{ℕ, nat_lt, List, ◌++◌, if◌then◌else◌, codes}
+use Rattle.wasm_syntax.specs.Run.{Outcome, not_started, finished, trapped, lacks_reply, misfits, running, got_stuck}
+use Rattle.command_answers.specs.declared.status.Status.{Status}
+use Rattle.command_answers.specs.declared.status.Status.TheVariants as status
+
+unfoldable pub host_stopped : List ℕ → List ℕ
+host_stopped cause = codes "host stopped: " ++ cause ++ codes "\n"
+
+-- where all invocations finished, or so many trapped
+abbrev pub trapped_or_done : ℕ → Status
+trapped_or_done traps = if nat_lt 0 traps then status.Trapped else status.Done
+
+abbrev pub end_status : ℕ → Outcome → Status
+end_status traps (lacks_reply call) = status.HostStopped
+end_status traps (misfits call reply) = status.HostStopped
+end_status traps running = status.FuelSpent
+end_status traps (trapped kind) = status.Trapped
+end_status traps (finished v) = trapped_or_done traps
+end_status traps (not_started cause) = status.NotStarted
+end_status traps got_stuck = status.NotStarted

@@ -1,0 +1,12 @@
+pub mod RunText
+pub mod Given
+pub mod Starting
+pub mod Hosting
+pub mod Progress
+pub mod Ending
+pub mod AllRan
+pub mod RunAnswer
+pub mod Dumping
+pub mod Written
+pub mod Turns
+pub mod Answers

@@ -1,0 +1,128 @@
+-- What `run` answers, and what it writes.
+use Rattle.std.specs.Prelude.{◌≡◌, ℕ, true, false, List, [], ◌∷◌, ◌++◌, map, length, Option, Some, None, Result, Ok, Err, codes}
+use Rattle.std.specs.Fmt.{decimal}
+use Rattle.pm_outside.specs.Contents.{Contents}
+use Rattle.wasm_syntax.specs.declared.quantity.Quantity.TheVariants.{ModuleBytes, RepliesBytes}
+use Rattle.wasm_syntax.specs.declared.host.Reply.{Reply}
+use Rattle.wasm_syntax.specs.declared.host.Served.{Served}
+use Rattle.wasm_syntax.specs.declared.module.ModuleParts.{ModuleParts as Module}
+use Rattle.wasm_syntax.specs.Module.{Program, IsProgram}
+use Rattle.wasm_syntax.specs.Run.{Outcome as RunOutcome, not_started, finished, trapped, lacks_reply, misfits, running, got_stuck, Ran, run}
+use Rattle.wasm_decode.specs.Decode.{module_from}
+use Rattle.replies_file.specs.Replies.{file_replies}
+use Rattle.command_answers.specs.Texts.{ended}
+use Rattle.command_answers.specs.Inputs.{input_of, Then}
+use Rattle.command_answers.specs.Loading.{IfLoaded}
+use Rattle.command_answers.specs.declared.outcome.Outcome.{Outcome}
+use Rattle.command_answers.specs.declared.status.Status.{Status}
+use Rattle.command_answers.specs.declared.status.Status.TheVariants as status
+use Rattle.run_words.specs.declared.words.RunWords.{RunWords}
+use Rattle.run_command.specs.RunText.{dumps_from, last_of}
+use Rattle.host_runs.specs.Hosted.{replies_of}
+use Rattle.device_set.specs.Sets.{DeviceState, names, log_of, is_named}
+use Rattle.run_command.specs.Given.{given_in, module_of, from_module}
+use Rattle.run_command.specs.Written.{Writes}
+use Rattle.run_command.specs.Starting.{invocation_of, not_started_with}
+use Rattle.run_command.specs.Hosting.{Hosting, scripted, start_text}
+use Rattle.run_command.specs.AllRan.{all_ran}
+
+abbrev pub script_replies : Option (List Reply) → List Reply
+script_replies None = []
+script_replies (Some replies) = replies
+
+-- no reply of the script is left where a call that no device serves has none
+abbrev pub UsesUp : Hosting → Module → List Reply → RunOutcome → Type 0
+UsesUp h m left (lacks_reply call) = is_named h.names (module_of m.imports call.import) ≡ false → left ≡ []
+UsesUp h m left (misfits call reply) = Unit {0}
+UsesUp h m left (finished v) = Unit {0}
+UsesUp h m left (trapped kind) = Unit {0}
+UsesUp h m left (not_started cause) = Unit {0}
+UsesUp h m left running = Unit {0}
+UsesUp h m left got_stuck = Unit {0}
+
+abbrev pub EndUsesUp : Hosting → Module → List Reply → Option Ran → Type 0
+EndUsesUp h m left None = Unit {0}
+EndUsesUp h m left (Some r) = UsesUp h m left r.outcome
+
+-- ---- the answer
+
+-- each device has logged what was given to its imports
+pub record Logs (m : Module) (given : List Served) (before after : List DeviceState) : Type 0 where
+  pub devices : names after ≡ names before
+  pub logs : (name : List ℕ) → is_named (names before) name ≡ true → log_of after name ≡ log_of before name ++ from_module m.imports name given
+
+abbrev pub hosting : List DeviceState → Option (List Reply) → Hosting
+hosting devices script = record { names = names devices; script = script }
+
+-- what the invocations come to on the replies that were given, those of the script being its first ones
+pub record RunsTo (h : Hosting) (w : RunWords) (m : Module) (given : List Served) (o : Outcome) (writes : Writes) : Type 0 where
+  pub program : Program
+  pub of_module : program.module_ ≡ m
+  pub writes_out : IsProgram program
+  pub rans : List Ran
+  pub runs : rans ≡ run program false (map invocation_of w.invocations) (replies_of given) w.depth w.fuel
+  pub all_given : given ≡ given_in rans
+  pub left : List Reply
+  pub by_script : script_replies h.script ≡ replies_of (scripted h.names m.imports given) ++ left
+  pub used_up : EndUsesUp h m left (last_of rans)
+  pub answer : o ≡ all_ran h.names m.imports (length w.invocations) rans
+  pub dumps : writes ≡ dumps_from w.dump w.name 0 rans
+
+abbrev pub StartsOr : Option (List ℕ) → Type 0 → Outcome → Type 0
+StartsOr (Some cause) P o = o ≡ not_started_with cause
+StartsOr None P o = P
+
+abbrev pub ModuleAnswer : (before after : List DeviceState) → RunWords → List Served → Writes → Option (List Reply) → Module → Outcome → Type 0
+ModuleAnswer before after w given writes script m o =
+    StartsOr (start_text (hosting before script) m (map invocation_of w.invocations)) (RunsTo (hosting before script) w m given o writes × Logs m given before after) o
+
+-- the bytes of the file of replies, where one is asked for
+abbrev pub replies_input : Option (List ℕ) → Contents → Result (Option (List ℕ)) Outcome
+replies_input None files = Ok None
+replies_input (Some file) files = elim (input_of RepliesBytes file (files file)) [ Ok bytes ↦ Ok (Some bytes) | Err o ↦ Err o ]
+
+abbrev pub bad_replies : ℕ → Outcome
+bad_replies line = ended status.BadReplies (codes "bad replies at line " ++ decimal line ++ codes "\n")
+
+abbrev pub script_of_bytes : Result (List Reply) ℕ → Result (Option (List Reply)) Outcome
+script_of_bytes (Ok replies) = Ok (Some replies)
+script_of_bytes (Err line) = Err (bad_replies line)
+
+abbrev pub script_of : Option (List ℕ) → Result (Option (List Reply)) Outcome
+script_of None = Ok None
+script_of (Some bytes) = script_of_bytes (file_replies bytes)
+
+-- a refusal writes nothing and calls nobody
+pub record IsUntouched (before after : List DeviceState) (given : List Served) (writes : Writes) : Type 0 where
+  pub devices : after ≡ before
+  pub given_none : given ≡ []
+  pub writes_none : writes ≡ []
+
+-- a fact on each status of a refusal
+abbrev pub IfRefusal : Status → Type 0 → Type 0
+IfRefusal status.Done P = Unit {0}
+IfRefusal status.Trapped P = Unit {0}
+IfRefusal status.HostStopped P = Unit {0}
+IfRefusal status.FuelSpent P = Unit {0}
+IfRefusal status.FileFault P = Unit {0}
+IfRefusal status.NoMemory P = Unit {0}
+IfRefusal status.Usage P = P
+IfRefusal status.NoFile P = P
+IfRefusal status.Malformed P = P
+IfRefusal status.Outside P = P
+IfRefusal status.Invalid P = P
+IfRefusal status.NotStarted P = P
+IfRefusal status.BadDump P = P
+IfRefusal status.Mismatch P = P
+IfRefusal status.Limit P = P
+IfRefusal status.Collision P = P
+IfRefusal status.TornCalls P = P
+IfRefusal status.BadReplies P = P
+
+-- The answer to `run`, where the devices are these before and then, files hold this, these replies were given in this call, and these files
+-- were written.
+pub record RunAnswer (before after : List DeviceState) (w : RunWords) (files : Contents) (given : List Served) (writes : Writes) (o : Outcome) : Type 0 where
+  pub answer : Then (input_of ModuleBytes w.source (files w.source)) (λ bytes.
+      Then (replies_input w.replies files) (λ script_bytes.
+      IfLoaded (λ m. Then (script_of script_bytes) (λ script. ModuleAnswer before after w given writes script m)) (module_from bytes))) o
+  pub untouched : IfRefusal o.status (IsUntouched before after given writes)

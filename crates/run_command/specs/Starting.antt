@@ -1,0 +1,33 @@
+-- Why nothing is run.
+use Rattle.std.specs.Prelude.{ℕ, List, [], ◌∷◌, ◌++◌, Option, Some, None, codes}
+use Rattle.std.specs.Fmt.{decimal}
+use Rattle.pm_text.specs.Names.{quoted}
+use Rattle.wasm_syntax.specs.declared.module.ModuleParts.{ModuleParts as Module}
+use Rattle.wasm_syntax.specs.Module.{function_export}
+use Rattle.wasm_syntax.specs.Run.{Cause, no_export, bad_arguments, element_out, data_out, cause_of_entry, Invocation}
+use Rattle.command_answers.specs.Texts.{ended}
+use Rattle.command_answers.specs.declared.outcome.Outcome.{Outcome}
+use Rattle.command_answers.specs.declared.status.Status.TheVariants as status
+use Rattle.run_words.specs.declared.invocation.Invocation.{Invocation as InvocationWords}
+
+abbrev pub invocation_of : InvocationWords → Invocation
+invocation_of i = record { name = i.entry; args = i.args }
+
+abbrev pub not_started_with : List ℕ → Outcome
+not_started_with cause = ended status.NotStarted (codes "not started: " ++ cause ++ codes "\n")
+
+abbrev pub or_text : Option (List ℕ) → Option (List ℕ) → Option (List ℕ)
+or_text None o = o
+or_text (Some t) o = Some t
+
+abbrev pub cause_text : List ℕ → Option Cause → Option (List ℕ)
+cause_text name None = None
+cause_text name (Some no_export) = Some (codes "export " ++ quoted name)
+cause_text name (Some bad_arguments) = Some (codes "arguments")
+cause_text name (Some (element_out i)) = Some (codes "element " ++ decimal i)
+cause_text name (Some (data_out i)) = Some (codes "data " ++ decimal i)
+
+-- by the first invocation that can't be made
+abbrev pub entries_text : Module → List Invocation → Option (List ℕ)
+entries_text m [] = None
+entries_text m (i ∷ is) = or_text (cause_text i.name (cause_of_entry m (function_export m i.name) i.args)) (entries_text m is)

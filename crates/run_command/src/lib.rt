@@ -1,0 +1,10 @@
+//! The command `run`: a module's functions are invoked, and a dump is written at each trap.
+#![tactic(auto)]
+
+mod dumps;
+mod ending;
+mod lines;
+mod starting;
+mod turns;
+
+pub use causes::NoMemory;
