@@ -1,6 +1,12 @@
-mod Entries
-mod Held
 mod Lists
 mod Steps
 mod Told
+mod Held
 mod Turning
+mod Sessions
+mod Ends
+mod Invocations
+mod Answering
+mod Entries
+mod Ones
+mod Whole

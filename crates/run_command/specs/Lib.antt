@@ -6,7 +6,9 @@ pub mod Progress
 pub mod Ending
 pub mod AllRan
 pub mod RunAnswer
+pub mod Steps
 pub mod Dumping
 pub mod Written
 pub mod Turns
+pub mod Sessions
 pub mod Answers

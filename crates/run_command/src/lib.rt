@@ -4,6 +4,7 @@
 mod dumps;
 mod ending;
 mod lines;
+mod session;
 mod starting;
 mod turns;
 

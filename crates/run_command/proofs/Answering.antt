@@ -1,0 +1,139 @@
+-- What was run is the answer.
+use Rattle.std.proofs.Common.{◌≡◌, ℕ, zero, suc, ◌+◌, ◌-◌, Bool, true, false, List, [], ◌∷◌, ◌++◌, map, length, refl, sym, ap, ◌∙◌, inl, inr, arith, Option, Some, None, subst}
+use Rattle.std.specs.Prelude.{slice_get, codes, if◌then◌else◌}
+use Rattle.std.specs.Fmt.{decimal}
+use Rattle.std.specs.List.{flat_map}
+use Rattle.pm_text.specs.Names.{quoted}
+use Rattle.causes.specs.Counts.{Rose}
+use Rattle.pm_outside.specs.Contents.{Contents}
+use Rattle.wasm_syntax.specs.declared.parts.Import.{Import}
+use Rattle.wasm_syntax.specs.declared.host.Reply.{Reply}
+use Rattle.wasm_syntax.specs.declared.module.ModuleParts.{ModuleParts as Module}
+use Rattle.wasm_syntax.specs.Module.{Program, IsProgram, function_export}
+use Rattle.wasm_syntax.specs.Run.{Cause, no_export, bad_arguments, element_out, data_out, cause_of_entry, cause_of_segments, cause_of, or_else, Invocation, Outcome as RunOutcome, not_started, finished, trapped, lacks_reply, misfits, running, got_stuck, Ran, session, start_world, unless, run, engine}
+use Rattle.host_devices.specs.HostSides.{Calls}
+use Rattle.host_runs.specs.Hosted.{replies_of}
+use Rattle.entry_runs.specs.Settings.{world_of}
+use Rattle.entry_runs.specs.Invocations.{unfitting}
+use Rattle.device_set.specs.Sets.{is_named}
+use Rattle.wasm_machine.specs.Instances.{State, IsNew}
+use Rattle.run_words.specs.declared.words.RunWords.{RunWords}
+use Rattle.command_answers.specs.Texts.{ended}
+use Rattle.command_answers.specs.declared.outcome.Outcome.{Outcome}
+use Rattle.run_command.specs.RunText.{invocation_text, traps_in, fitted}
+use Rattle.run_command.specs.Given.{module_name, module_of}
+use Rattle.run_command.specs.Starting.{invocation_of, or_text, cause_text, entries_text}
+use Rattle.run_command.specs.Hosting.{Hosting, scripted}
+use Rattle.run_command.specs.Answers.{device_cause, misfit_cause}
+use Rattle.run_command.specs.Ending.{host_stopped, end_status}
+use Rattle.run_command.specs.AllRan.{end_text, ran_to_end}
+use Rattle.run_command.specs.Sessions.{point_of, EndsIn, RanAll}
+use Rattle.run_command.specs.RunAnswer.{script_replies, UsesUp, EndUsesUp, RunsTo}
+
+-- ---- no cause, no refusal
+
+none_then : (name : List ℕ) (o : Option Cause) (t : Option (List ℕ)) → or_text (cause_text name o) t ≡ None → (o ≡ None) × (t ≡ None)
+none_then name None t e = (refl, e)
+none_then name (Some no_export) t e = absurd cc
+none_then name (Some bad_arguments) t e = absurd cc
+none_then name (Some (element_out i)) t e = absurd cc
+none_then name (Some (data_out i)) t e = absurd cc
+
+pub no_cause : (m : Module) (is : List Invocation) → entries_text m is ≡ None → cause_of_segments m ≡ None → cause_of m is ≡ None
+no_cause m [] e segments = segments
+no_cause m (i ∷ is) e segments =
+    let parts = none_then i.name (cause_of_entry m (function_export m i.name) i.args) (entries_text m is) e in
+    ap (λ o. or_else o (cause_of m is)) parts.0 ∙ no_cause m is parts.1 segments
+
+-- ---- the last line
+
+-- what the host side is known to be
+pub record HostFacts (names : List (List ℕ)) (used_up : Import → Bool) (left : List Reply) (counts now : List ℕ → ℕ) : Type 0 where
+  pub used : (i : Import) → used_up i ≡ true → (is_named names i.«module» ≡ false) × (left ≡ [])
+  pub failed : (device : List ℕ) → Rose (counts device) (now device) → is_named names device ≡ true
+
+module_is : (imports : List Import) (n : ℕ) (i : Import) → slice_get imports n ≡ Some i → module_of imports n ≡ i.«module»
+module_is imports n i e = ap module_name e
+
+same_count : (given n : ℕ) → given ≡ n + 0 → given ≡ n
+same_count given n e = omega arith
+
+one_less : (given n : ℕ) → given ≡ n + 1 → given - 1 ≡ n
+one_less given n e = omega arith
+
+line_is : (names : List (List ℕ)) (p : Program) (imports : List Import) (used_up : Import → Bool) (left : List Reply) (counts now : List ℕ → ℕ) (given n due : ℕ) (o : RunOutcome) (line : List ℕ) → imports ≡ p.module_.imports → HostFacts names used_up left counts now → given ≡ n + length (unfitting o) → EndsIn p used_up counts now given due o line → line ≡ end_text names imports n due o
+line_is names p imports used_up left counts now given n due (lacks_reply call) line is facts count (inl ((i, there, up), e)) =
+    let named : is_named names (module_of imports call.import) ≡ false = ap (λ m. is_named names m) (ap (λ l. module_of l call.import) is ∙ module_is p.module_.imports call.import i there) ∙ (facts.used i up).0 in
+    e ∙ ap (λ k. host_stopped (codes "no reply for call " ++ decimal k)) (same_count given n count)
+    ∙ sym (ap (λ b. host_stopped (if b then codes "device " ++ quoted (module_of imports call.import) else codes "no reply for call " ++ decimal n)) named)
+line_is names p imports used_up left counts now given n due (lacks_reply call) line is facts count (inr (device, (i, there, name), rose, e)) =
+    let same : module_of imports call.import ≡ device = ap (λ l. module_of l call.import) is ∙ module_is p.module_.imports call.import i there ∙ sym name in
+    let named : is_named names (module_of imports call.import) ≡ true = ap (λ m. is_named names m) same ∙ facts.failed device rose in
+    e ∙ ap (λ d. host_stopped (device_cause d)) (sym same)
+    ∙ sym (ap (λ b. host_stopped (if b then codes "device " ++ quoted (module_of imports call.import) else codes "no reply for call " ++ decimal n)) named)
+line_is names p imports used_up left counts now given n due (misfits call reply) line is facts count e = e ∙ ap (λ k. host_stopped (misfit_cause k)) (one_less given n count)
+line_is names p imports used_up left counts now given n due running line is facts count e = e
+line_is names p imports used_up left counts now given n due (trapped kind) line is facts count e = e
+line_is names p imports used_up left counts now given n due (finished v) line is facts count e = e
+line_is names p imports used_up left counts now given n due (not_started cause) line is facts count e = absurd e
+line_is names p imports used_up left counts now given n due got_stuck line is facts count e = absurd e
+
+-- no reply is left, where the script has none for a call
+uses_up : (h : Hosting) (p : Program) (m : Module) (used_up : Import → Bool) (left : List Reply) (counts now : List ℕ → ℕ) (given due : ℕ) (o : RunOutcome) (line : List ℕ) → p.module_ ≡ m → HostFacts h.names used_up left counts now → EndsIn p used_up counts now given due o line → UsesUp h m left o
+uses_up h p m used_up left counts now given due (lacks_reply call) line is facts (inl ((i, there, up), e)) = λ none. (facts.used i up).1
+uses_up h p m used_up left counts now given due (lacks_reply call) line is facts (inr (device, (i, there, name), rose, e)) = λ none.
+    let named : is_named h.names (module_of m.imports call.import) ≡ true = ap (λ n. is_named h.names n) (ap (λ (x : Module). module_of x.imports call.import) (sym is) ∙ module_is p.module_.imports call.import i there ∙ sym name) ∙ facts.failed device rose in
+    let clash : true ≡ false = sym named ∙ none in
+    absurd cc
+uses_up h p m used_up left counts now given due (misfits call reply) line is facts ends = tt
+uses_up h p m used_up left counts now given due (finished v) line is facts ends = tt
+uses_up h p m used_up left counts now given due (trapped kind) line is facts ends = tt
+uses_up h p m used_up left counts now given due (not_started cause) line is facts ends = tt
+uses_up h p m used_up left counts now given due running line is facts ends = tt
+uses_up h p m used_up left counts now given due got_stuck line is facts ends = tt
+
+-- ---- the answer
+
+not_begun : (asked made due : ℕ) → asked ≡ made + due → asked - made ≡ due
+not_begun asked made due e = omega arith
+
+map_length : {A B : Type 0} (f : A → B) (xs : List A) → length (map f xs) ≡ length xs
+map_length f [] = refl
+map_length f (x ∷ xs) = ap suc (map_length f xs)
+
+pub runs_to : (h : Hosting) (w : RunWords) (m : Module) (p : Program) (used_up : Import → Bool) (counts now : List ℕ → ℕ) (left : List Reply) (s : State) (before after : Calls) (told_before told_after : Option Contents) (o : Outcome)
+    → p.module_ ≡ m → IsProgram p → IsNew m s → entries_text m (map invocation_of w.invocations) ≡ None → cause_of_segments m ≡ None → HostFacts h.names used_up left counts now
+    → (r : RanAll p (engine p false w.depth) w.dump w.name used_up counts now (point_of s (map invocation_of w.invocations) w.fuel) before after told_before told_after o)
+    → script_replies h.script ≡ replies_of (scripted h.names m.imports r.given) ++ left
+    → RunsTo h w m r.given o r.writes
+runs_to h w m p used_up counts now left s before after told_before told_after o of_module writes_out new entries segments facts r script =
+    let is = map invocation_of w.invocations in
+    let M = engine p false w.depth in
+    let e = r.has_ended in
+    let cause : cause_of p.module_ is ≡ None = ap (λ x. cause_of x is) of_module ∙ no_cause m is entries segments in
+    let due : length w.invocations - length e.rans ≡ r.due = not_begun (length w.invocations) (length e.rans) r.due (sym (map_length invocation_of w.invocations) ∙ e.counted) in
+    record {
+      program = p;
+      of_module = of_module;
+      writes_out = writes_out;
+      rans = e.rans;
+      runs = sym e.is
+          ∙ ap (λ d. session M is d (world_of s.machine (replies_of r.given)) (w.fuel - s.steps)) (new.due ∙ ap (λ (x : Module). x.start) (sym of_module))
+          ∙ ap (λ v. session M is p.module_.start v (w.fuel - s.steps)) (new.world (replies_of r.given) ∙ ap (λ x. start_world x (replies_of r.given)) (sym of_module))
+          ∙ ap (λ n. session M is p.module_.start (start_world p.module_ (replies_of r.given)) n) (ap (λ n. w.fuel - n) new.steps ∙ no_less w.fuel)
+          ∙ sym (ap (λ c. unless M c is (replies_of r.given) w.fuel) cause);
+      all_given = e.came_of.given;
+      left = left;
+      by_script = script;
+      used_up = subst (λ l. EndUsesUp h m left l) (sym e.last) (uses_up h p m used_up left counts now (length r.given) r.due r.last.outcome r.line of_module facts r.ends);
+      answer = r.answer
+          ∙ ap (λ k. ended (end_status k r.last.outcome) (r.lines.text ++ r.line)) e.came_of.traps
+          ∙ ap (λ t. ended (end_status (traps_in e.rans) r.last.outcome) (t ++ r.line)) e.came_of.text
+          ∙ ap (λ t. ended (end_status (traps_in e.rans) r.last.outcome) (flat_map invocation_text e.rans ++ t)) (line_is h.names p m.imports used_up left counts now (length r.given) (fitted e.rans) r.due r.last.outcome r.line (ap (λ (x : Module). x.imports) (sym of_module)) facts e.fit r.ends)
+          ∙ ap (λ k. ended (end_status (traps_in e.rans) r.last.outcome) (flat_map invocation_text e.rans ++ end_text h.names m.imports (fitted e.rans) k r.last.outcome)) (sym due)
+          ∙ ap (λ l. ran_to_end h.names m.imports (length w.invocations) e.rans l) (sym e.last);
+      dumps = e.came_of.writes;
+    }
+  where
+    no_less : (n : ℕ) → n - 0 ≡ n
+    no_less n = omega arith
