@@ -3,7 +3,7 @@ use Rattle.std.proofs.Common.{◌≡◌, ℕ, zero, suc, ◌+◌, ◌<◌, List,
 use Rattle.std.specs.List.{position_from, remove}
 use Rattle.std.specs.Str.{bytes_eq}
 use Rattle.device_set.specs.Sets.{DeviceState, no_device, names, is_named, AreDistinct, IsPlace, IsUnnamed, device_named, attached, released}
-use Rattle.device_set.proofs.Names.{same, itself, neither}
+use Rattle.device_set.proofs.Names.{same, itself, swapped, neither}
 
 -- a place in a list that begins at a number
 pub record Found (ds : List DeviceState) (n : List ℕ) (start i : ℕ) : Type 0 where
@@ -124,6 +124,25 @@ pub distinct_released : (ds : List DeviceState) (n : List ℕ) → AreDistinct (
 distinct_released [] n h = tt
 distinct_released (d ∷ ds) n h =
     distinct_rest d ds (released ds n) (bytes_eq d.name n) h.1 (unnamed_released ds n d.name h.0) (distinct_released ds n h.1)
+
+unnamed_rest : (d new : DeviceState) (ds rest : List DeviceState) (x : List ℕ) (t : Bool) → bytes_eq d.name x ≡ false → bytes_eq new.name x ≡ false → is_named (names ds) x ≡ false → is_named (names rest) x ≡ false → is_named (names (cond t (new ∷ ds) (d ∷ rest))) x ≡ false
+unnamed_rest d new ds rest x true e f h r = rw f h
+unnamed_rest d new ds rest x false e f h r = rw e r
+
+unnamed_attached : (ds : List DeviceState) (new : DeviceState) (x : List ℕ) → bytes_eq new.name x ≡ false → is_named (names ds) x ≡ false → is_named (names (attached ds new)) x ≡ false
+unnamed_attached [] new x e h = rw e refl
+unnamed_attached (d ∷ ds) new x e h =
+    let k = neither (bytes_eq d.name x) (is_named (names ds) x) h in
+    unnamed_rest d new ds (attached ds new) x (bytes_eq d.name new.name) k.0 e k.1 (unnamed_attached ds new x e k.1)
+
+distinct_step : (d new : DeviceState) (ds rest : List DeviceState) (t : Bool) → bytes_eq d.name new.name ≡ t → is_named (names ds) d.name ≡ false → AreDistinct (names ds) → (bytes_eq new.name d.name ≡ false → is_named (names rest) d.name ≡ false) → AreDistinct (names rest) → AreDistinct (names (cond t (new ∷ ds) (d ∷ rest)))
+distinct_step d new ds rest true is once h e r = (let f : d.name ≡ new.name = same d.name new.name is in rw f at once, h)
+distinct_step d new ds rest false is once h e r = (e (rw (swapped new.name d.name) is), r)
+
+pub distinct_attached : (ds : List DeviceState) (new : DeviceState) → AreDistinct (names ds) → AreDistinct (names (attached ds new))
+distinct_attached [] new h = (refl, tt)
+distinct_attached (d ∷ ds) new h =
+    distinct_step d new ds (attached ds new) (bytes_eq d.name new.name) refl h.0 h.1 (λ e. unnamed_attached ds new d.name e h.0) (distinct_attached ds new h.1)
 
 -- ---- as a map
 

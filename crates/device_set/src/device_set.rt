@@ -120,6 +120,7 @@ impl DeviceSet {
         ensures unchanged { OnErr result (⟦<DeviceSet as Devices>⟧.shown self.new ≡ ⟦<DeviceSet as Devices>⟧.shown self.old) }
         ensures refused { IfErr result (λ b. (title b ≡ title device) × (served b ≡ served device) × (fault_count b ≡ fault_count device)) }
         ensures replacing { OnErr result (device_named (⟦<DeviceSet as Devices>⟧.shown self.old) (title device) ≡ None) }
+        ensures distinct { AreDistinct (names (⟦<DeviceSet as Devices>⟧.shown self.old)) → AreDistinct (names (⟦<DeviceSet as Devices>⟧.shown self.new)) }
     {
         if let Some(place) = self.place(name_of(&device)) {
             return Ok(Some(mem::replace(&mut self.devices[place], device)));
@@ -134,6 +135,7 @@ impl DeviceSet {
     pub fn release(&mut self, name: &str) -> Option<Box<dyn Device>>
         ensures released { ⟦<DeviceSet as Devices>⟧.shown self.new ≡ released (⟦<DeviceSet as Devices>⟧.shown self.old) name.now }
         ensures back { option_map (λ b. record { name = title b; log = served b; count = fault_count b }) result ≡ device_named (⟦<DeviceSet as Devices>⟧.shown self.old) name.now }
+        ensures distinct { AreDistinct (names (⟦<DeviceSet as Devices>⟧.shown self.old)) → AreDistinct (names (⟦<DeviceSet as Devices>⟧.shown self.new)) }
     {
         match self.place(name) {
             Some(place) => Some(self.devices.remove(place)),

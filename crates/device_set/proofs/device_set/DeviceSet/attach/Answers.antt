@@ -1,5 +1,5 @@
 use Rattle.std.proofs.Common.{◌≡◌, ◌<◌, ◌++◌, [], ◌∷◌, length, rules, sym}
-use Rattle.device_set.proofs.Sets.{attached_over, added_over, device_over, none_device, below_over, unnamed_since}
+use Rattle.device_set.proofs.Sets.{attached_over, added_over, device_over, none_device, below_over, unnamed_since, distinct_attached}
 use Rattle.device_set.proofs.device_set.DeviceSet.attach.Goals as goal
 
 pub index_mut-requires : goal.index_mut-requires
@@ -22,3 +22,9 @@ pub returns-in-Ok-clause-attached : goal.returns-in-Ok-clause-attached
 returns-in-Ok-clause-attached g c =
     let p : c.push.new.self.items ≡ c.args.self.now.devices.items ++ c.args.device ∷ [] = search rules in
     rw p (added_over _ _ _ (unnamed_since _ _ _ (rw c.name_of.ensures at c.place.ensures) (λ i e. search rules)).unnamed)
+
+pub returns-in-Some-clause-distinct : goal.returns-in-Some-clause-distinct
+returns-in-Some-clause-distinct g c = λ h. rw (returns-in-Some-clause-attached g c) (distinct_attached _ _ h)
+
+pub returns-in-Ok-clause-distinct : goal.returns-in-Ok-clause-distinct
+returns-in-Ok-clause-distinct g c = λ h. rw (returns-in-Ok-clause-attached g c) (distinct_attached _ _ h)

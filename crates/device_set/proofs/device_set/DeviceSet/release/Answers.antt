@@ -1,5 +1,5 @@
 use Rattle.std.proofs.Common.{◌<◌, length, rules}
-use Rattle.device_set.proofs.Sets.{released_over, none_released, device_over, none_device, below_over}
+use Rattle.device_set.proofs.Sets.{released_over, none_released, device_over, none_device, below_over, distinct_released}
 use Rattle.device_set.proofs.device_set.DeviceSet.release.Goals as goal
 
 pub remove-requires : goal.remove-requires
@@ -17,3 +17,6 @@ returns-in-None-clause-released g c = none_released _ _ c.in-None.ensures
 
 pub returns-in-None-clause-back : goal.returns-in-None-clause-back
 returns-in-None-clause-back g c = none_device _ _ c.in-None.ensures
+
+pub returns-in-Some-clause-distinct : goal.returns-in-Some-clause-distinct
+returns-in-Some-clause-distinct g c = λ h. rw (returns-in-Some-clause-released g c) (distinct_released _ _ h)
