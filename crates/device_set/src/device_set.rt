@@ -121,6 +121,7 @@ impl DeviceSet {
         ensures refused { IfErr result (λ b. (title b ≡ title device) × (served b ≡ served device) × (fault_count b ≡ fault_count device)) }
         ensures replacing { OnErr result (device_named (⟦<DeviceSet as Devices>⟧.shown self.old) (title device) ≡ None) }
         ensures distinct { AreDistinct (names (⟦<DeviceSet as Devices>⟧.shown self.old)) → AreDistinct (names (⟦<DeviceSet as Devices>⟧.shown self.new)) }
+        ensures maps { OnOk result ((name : List ℕ) → device_named (⟦<DeviceSet as Devices>⟧.shown self.new) name ≡ if bytes_eq (title device) name then Some (record { name = title device; log = served device; count = fault_count device }) else device_named (⟦<DeviceSet as Devices>⟧.shown self.old) name) }
     {
         if let Some(place) = self.place(name_of(&device)) {
             return Ok(Some(mem::replace(&mut self.devices[place], device)));
@@ -136,6 +137,7 @@ impl DeviceSet {
         ensures released { ⟦<DeviceSet as Devices>⟧.shown self.new ≡ released (⟦<DeviceSet as Devices>⟧.shown self.old) name.now }
         ensures back { option_map (λ b. record { name = title b; log = served b; count = fault_count b }) result ≡ device_named (⟦<DeviceSet as Devices>⟧.shown self.old) name.now }
         ensures distinct { AreDistinct (names (⟦<DeviceSet as Devices>⟧.shown self.old)) → AreDistinct (names (⟦<DeviceSet as Devices>⟧.shown self.new)) }
+        ensures maps { AreDistinct (names (⟦<DeviceSet as Devices>⟧.shown self.old)) → (other : List ℕ) → device_named (⟦<DeviceSet as Devices>⟧.shown self.new) other ≡ if bytes_eq name.now other then None else device_named (⟦<DeviceSet as Devices>⟧.shown self.old) other }
     {
         match self.place(name) {
             Some(place) => Some(self.devices.remove(place)),

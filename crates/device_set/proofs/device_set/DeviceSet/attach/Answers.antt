@@ -1,5 +1,5 @@
 use Rattle.std.proofs.Common.{◌≡◌, ◌<◌, ◌++◌, [], ◌∷◌, length, rules, sym}
-use Rattle.device_set.proofs.Sets.{attached_over, added_over, device_over, none_device, below_over, unnamed_since, distinct_attached}
+use Rattle.device_set.proofs.Sets.{attached_over, added_over, device_over, none_device, below_over, unnamed_since, distinct_attached, attached_named}
 use Rattle.device_set.proofs.device_set.DeviceSet.attach.Goals as goal
 
 pub index_mut-requires : goal.index_mut-requires
@@ -28,3 +28,9 @@ returns-in-Some-clause-distinct g c = λ h. rw (returns-in-Some-clause-attached 
 
 pub returns-in-Ok-clause-distinct : goal.returns-in-Ok-clause-distinct
 returns-in-Ok-clause-distinct g c = λ h. rw (returns-in-Ok-clause-attached g c) (distinct_attached _ _ h)
+
+pub returns-in-Some-clause-maps : goal.returns-in-Some-clause-maps
+returns-in-Some-clause-maps g c = λ name. rw (returns-in-Some-clause-attached g c) (attached_named _ _ name)
+
+pub returns-in-Ok-clause-maps : goal.returns-in-Ok-clause-maps
+returns-in-Ok-clause-maps g c = λ name. rw (returns-in-Ok-clause-attached g c) (attached_named _ _ name)

@@ -1,5 +1,6 @@
-use Rattle.std.proofs.Common.{◌<◌, length, rules}
-use Rattle.device_set.proofs.Sets.{released_over, none_released, device_over, none_device, below_over, distinct_released}
+use Rattle.std.proofs.Common.{◌<◌, ◌∙◌, ap, length, rules}
+use Rattle.device_set.specs.Sets.{device_named}
+use Rattle.device_set.proofs.Sets.{released_over, none_released, device_over, none_device, below_over, distinct_released, released_named}
 use Rattle.device_set.proofs.device_set.DeviceSet.release.Goals as goal
 
 pub remove-requires : goal.remove-requires
@@ -20,3 +21,9 @@ returns-in-None-clause-back g c = none_device _ _ c.in-None.ensures
 
 pub returns-in-Some-clause-distinct : goal.returns-in-Some-clause-distinct
 returns-in-Some-clause-distinct g c = λ h. rw (returns-in-Some-clause-released g c) (distinct_released _ _ h)
+
+pub returns-in-Some-clause-maps : goal.returns-in-Some-clause-maps
+returns-in-Some-clause-maps g c = λ h other. rw (returns-in-Some-clause-released g c) (released_named _ _ other h)
+
+pub returns-in-None-clause-maps : goal.returns-in-None-clause-maps
+returns-in-None-clause-maps g c = λ h other. ap (λ ds. device_named ds other) (returns-in-None-clause-released g c) ∙ released_named _ _ other h
