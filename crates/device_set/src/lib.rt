@@ -10,3 +10,6 @@ pub use causes::NoMemory;
 pub use device_set::DeviceSet;
 pub use devices::Devices;
 pub use hosts::Hosts;
+
+#[cfg(test)]
+mod tests;
