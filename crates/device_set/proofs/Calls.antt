@@ -1,16 +1,14 @@
 -- What a call of an import does to a host side.
 use Rattle.std.proofs.Common.{◌≡◌, ℕ, zero, suc, ◌+◌, ◌<◌, ◌≤◌, List, [], ◌∷◌, ◌++◌, Bool, true, false, cond, Option, Some, None, refl, sym, ap, ◌∙◌, arith, length, map, take, get_or, set, subst, slice_get}
 use Rattle.std.proofs.lemmas.List.{map-append, append-nil, take_at, take_more, length-set, get_or-set_same, get_or_at, length-append}
-use Rattle.std.proofs.lemmas.Option.{slice_get_read}
 use Rattle.std.specs.Option.{is_some}
 use Rattle.std.specs.Str.{bytes_eq}
-use Rattle.causes.specs.Counts.{Rose}
 use Rattle.wasm_syntax.specs.declared.parts.Import.{Import}
 use Rattle.wasm_syntax.specs.declared.host.HostCall.{HostCall}
 use Rattle.wasm_syntax.specs.declared.host.Reply.{Reply}
 use Rattle.wasm_syntax.specs.declared.host.Served.{Served}
 use Rattle.host_devices.specs.Devices.{empty_reply}
-use Rattle.host_devices.specs.HostSides.{Calls, Origin, Answers, IsExhausted, HasCause, KeepsUse}
+use Rattle.host_devices.specs.HostSides.{Origin}
 use Rattle.host_devices.specs.declared.device.DeviceAnswer.{DeviceAnswer}
 use Rattle.host_devices.specs.declared.device.DeviceAnswer.TheVariants as device
 use Rattle.host_devices.specs.declared.host.HostAnswer.{HostAnswer}
@@ -18,10 +16,10 @@ use Rattle.host_devices.specs.declared.host.HostAnswer.TheVariants.{Replied, NoR
 use Rattle.device_set.specs.declared.entry.Entry.{Entry}
 use Rattle.device_set.specs.declared.entry.Entry.TheVariants.{OfDevice, OfScript}
 use Rattle.device_set.specs.Sets.{DeviceState, no_device, names, is_named, AreDistinct, IsPlace, IsUnnamed, IsCalled, count_of}
-use Rattle.device_set.specs.Hosting.{HostsState, replies_of, serves, of_script, no_served, with_module, module_name, stored_at, served_at, all_served, logs_before, log_named, origin_of, calls_of, is_used_up, ServesNext, IsAnswered, IsFailed, AreInside, AreLogged, seen, Keeps}
-use Rattle.device_set.proofs.Names.{same, itself}
+use Rattle.device_set.specs.Hosting.{HostsState, replies_of, serves, no_served, stored_at, served_at, all_served, logs_before, log_named, IsAnswered, IsFailed, seen, Keeps}
+use Rattle.device_set.proofs.Names.{same}
 use Rattle.device_set.proofs.Sets.{at_place, place_below, named_at, names_set, place_set}
-use Rattle.device_set.proofs.Logs.{Grown, EntriesKept, SameFronts, entries_kept, inside_push, served_push, untouched, touched, quiet, of_script_push, fronts_first, logged_first}
+use Rattle.device_set.proofs.Logs.{Grown, entries_kept, inside_push, served_push, untouched, touched, quiet, of_script_push, logged_first}
 
 -- ---- counts of faults
 

@@ -1,6 +1,6 @@
 -- What is served stands at the end of the logs.
-use Rattle.std.proofs.Common.{◌≡◌, ℕ, zero, suc, ◌+◌, ◌-◌, ◌<◌, ◌≤◌, List, [], ◌∷◌, ◌++◌, Bool, true, false, cond, refl, sym, ap, ◌∙◌, arith, length, map, take, drop, get_or, set, append_assoc, length-append}
-use Rattle.std.proofs.lemmas.List.{append-nil, take_all, take-append-le, take-append-drop, get_or_append_left, map-append, length-set}
+use Rattle.std.proofs.Common.{◌≡◌, ℕ, zero, suc, ◌-◌, ◌<◌, List, [], ◌∷◌, ◌++◌, Bool, true, false, cond, refl, sym, ap, ◌∙◌, arith, length, map, get_or, set, append_assoc, length-append}
+use Rattle.std.proofs.lemmas.List.{append-nil, take_all, take-append-le, get_or_append_left, map-append, length-set}
 use Rattle.std.specs.Str.{bytes_eq}
 use Rattle.wasm_syntax.specs.declared.parts.Import.{Import}
 use Rattle.wasm_syntax.specs.declared.host.Served.{Served}
@@ -8,7 +8,7 @@ use Rattle.wasm_syntax.specs.declared.host.Reply.{Reply}
 use Rattle.device_set.specs.declared.entry.Entry.{Entry}
 use Rattle.device_set.specs.declared.entry.Entry.TheVariants.{OfDevice, OfScript}
 use Rattle.device_set.specs.Sets.{DeviceState, no_device, names, is_named, AreDistinct, IsPlace, log_of}
-use Rattle.device_set.specs.Hosting.{of_module, of_script, logs, log_named, with_module, module_name, in_front, no_served, stored_at, served_at, all_served, IsInside, AreInside, AreLogged}
+use Rattle.device_set.specs.Hosting.{of_module, of_script, logs, log_named, with_module, in_front, no_served, served_at, all_served, IsInside, AreInside, AreLogged}
 use Rattle.device_set.proofs.Names.{same, itself, neither}
 
 -- ---- by module

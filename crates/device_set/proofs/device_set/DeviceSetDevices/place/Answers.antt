@@ -1,4 +1,3 @@
-use Rattle.std.proofs.Common.{rules}
 use Rattle.device_set.proofs.Sets.{found_over}
 use Rattle.device_set.proofs.device_set.DeviceSetDevices.place.Goals as goal
 

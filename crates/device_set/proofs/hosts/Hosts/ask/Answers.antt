@@ -1,8 +1,8 @@
-use Rattle.std.proofs.Common.{rules, ◌≡◌, ◌∙◌, [], ◌∷◌, ◌++◌, ap, length}
-use Rattle.host_devices.specs.declared.host.HostAnswer.TheVariants.{Replied, NoMemory}
+use Rattle.std.proofs.Common.{rules, ◌≡◌, [], ◌∷◌, ◌++◌, ap, length}
+use Rattle.host_devices.specs.declared.host.HostAnswer.TheVariants.{NoMemory}
 use Rattle.device_set.specs.declared.entry.Entry.TheVariants.{OfDevice}
 use Rattle.device_set.proofs.Sets.{place_below}
-use Rattle.device_set.proofs.Calls.{Outcome, asked_replied, asked_failed, asked_wanting, taken_back}
+use Rattle.device_set.proofs.Calls.{asked_replied, asked_failed, asked_wanting, taken_back}
 use Rattle.device_set.proofs.hosts.Hosts.ask.Goals as goal
 
 pub log-at-requires : goal.log-at-requires

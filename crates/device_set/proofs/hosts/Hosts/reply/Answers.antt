@@ -1,4 +1,4 @@
-use Rattle.std.proofs.Common.{rules, ◌≡◌, ◌<◌, ◌∙◌, ap, sym, length, get_or, Some}
+use Rattle.std.proofs.Common.{rules, ◌<◌, ◌∙◌, ap, sym, length, get_or, Some}
 use Rattle.std.proofs.lemmas.List.{get_or_default}
 use Rattle.wasm_syntax.specs.declared.host.Reply.{Reply}
 use Rattle.wasm_syntax.specs.declared.host.Served.{Served}
