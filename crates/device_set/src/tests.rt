@@ -1,16 +1,19 @@
 //! Sets of boxed devices, and what they serve.
 
-ghost use Rattle.std.specs.Prelude.{◌≡◌, IfOk};
+ghost use Rattle.std.specs.Prelude.{◌≡◌, [], IfOk};
 ghost use Rattle.device_set.specs.Sets.{AreDistinct, names};
 
 use crate::{DeviceSet, Devices, Hosts};
 use causes::NoMemory;
-use host_devices::{Console, Counter, Device, HostAnswer, HostSide, Scripted};
+use host_devices::{Console, Counter, Device, DeviceAnswer, HostAnswer, HostSide, Scripted};
+use linear_memory::Memory;
 use pm_text::{Items, Text};
 use std::alloc::Global;
+use std::cell::Cell;
 use std::mem;
+use std::rc::Rc;
 use std::test::Fail;
-use wasm_syntax::{HostCall, Import, Reply, ValType, Value};
+use wasm_syntax::{HostCall, Import, Reply, Served, ValType, Value};
 
 /// An import of each of these modules.
 fn imports(alloc: Global, modules: [&str; 2]) -> Result<Items<Import>, NoMemory> {
@@ -150,6 +153,70 @@ fn a_replaced_device_is_handed_back(rt: HostRuntime) -> Result<(), Fail> {
     assert_eq!(rt; counts(&devices, "counter"), None);
     let third = devices.release("counter");
     assert_eq!(rt; logged(&third), None);
+    Ok(())
+}
+
+/// A device that counts how many such devices are dropped.
+struct Dropping {
+    drops: Rc<Cell<u64>>,
+}
+
+impl Drop for Dropping {
+    fn drop(self) {
+        let Self { drops } = self;
+        drops.set(drops.get().wrapping_add(1));
+    }
+}
+
+impl Device for Dropping {
+    ghost title = { λ _. [] };
+
+    ghost served = { λ _. [] };
+
+    ghost fault_count = { λ _. 0 };
+
+    fn name(&self) -> &str {
+        ""
+    }
+
+    fn log(&self) -> &[Served] {
+        &[]
+    }
+
+    fn faults(&self) -> u64 {
+        0
+    }
+
+    fn call(&mut self, _call: &HostCall, _memory: Option<&Memory>) -> DeviceAnswer {
+        DeviceAnswer::NoMemory
+    }
+}
+
+#[test]
+fn devices_that_are_left_are_dropped_with_the_set(rt: HostRuntime) -> Result<(), Fail> {
+    let alloc = rt.alloc();
+    let drops = Rc::new(alloc, Cell::new(0))?;
+    let mut devices = DeviceSet::new(alloc);
+    let first = devices.attach(Box::new(
+        alloc,
+        Dropping {
+            drops: drops.clone()?,
+        },
+    )?);
+    assert_eq!(rt; drops.get(), 0);
+    let second = devices.attach(Box::new(
+        alloc,
+        Dropping {
+            drops: drops.clone()?,
+        },
+    )?);
+    assert_eq!(rt; drops.get(), 0);
+    drop(first);
+    assert_eq!(rt; drops.get(), 0);
+    drop(second);
+    assert_eq!(rt; drops.get(), 1);
+    drop(devices);
+    assert_eq!(rt; drops.get(), 2);
     Ok(())
 }
 
