@@ -1,0 +1,15 @@
+//! What is promised of each module that is rewritten.
+
+ghost use Rattle.std.specs.Prelude.{◌≡◌};
+ghost use Rattle.wasm_syntax.specs.declared.module.ModuleParts.{ModuleParts as Parts};
+ghost use Rattle.wasm_syntax.specs.Module.{Program};
+ghost use Rattle.instrument.specs.Bare.{bare_module};
+ghost use Rattle.instrument.specs.Instrument.{new_module};
+ghost use Rattle.rewriting_promise.specs.Promise.{KeepsOutside};
+
+/// The rewritten module shows those outside what the module shows, and so does each one that is the same but for offsets, lengths and custom
+/// sections: its imports are those of the module and then the collector's three, its exports those of the module and then its memory. Types,
+/// tables, memories and segments are the module's, and its globals come first.
+pub fn interface_is_kept()
+    ensures { (p : Program) (other : Parts) → bare_module (new_module p) ≡ bare_module other → KeepsOutside p.module_ other }
+{}

@@ -1,0 +1,4 @@
+//! What is promised of the rewriting of a decoded module, whole.
+#![tactic(auto)]
+
+pub mod laws;
