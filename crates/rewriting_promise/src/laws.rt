@@ -1,10 +1,12 @@
 //! What is promised of each module that is rewritten.
 
-ghost use Rattle.std.specs.Prelude.{◌≡◌};
+ghost use Rattle.std.specs.Prelude.{◌≡◌, ℕ, List};
 ghost use Rattle.wasm_syntax.specs.declared.module.ModuleParts.{ModuleParts as Parts};
 ghost use Rattle.wasm_syntax.specs.Module.{Program};
+ghost use Rattle.wasm_syntax.specs.Valid.{Valid};
 ghost use Rattle.instrument.specs.Bare.{bare_module};
 ghost use Rattle.instrument.specs.Instrument.{new_module};
+ghost use Rattle.instrument.specs.Weight.{AreHeights, weight};
 ghost use Rattle.rewriting_promise.specs.Promise.{KeepsOutside};
 
 /// The rewritten module shows those outside what the module shows, and so does each one that is the same but for offsets, lengths and custom
@@ -12,4 +14,9 @@ ghost use Rattle.rewriting_promise.specs.Promise.{KeepsOutside};
 /// tables, memories and segments are the module's, and its globals come first.
 pub fn interface_is_kept()
     ensures { (p : Program) (other : Parts) → bare_module (new_module p) ≡ bare_module other → KeepsOutside p.module_ other }
+{}
+
+/// A valid module has one weight: operand heights are what they are.
+pub fn heights_give_one_weight()
+    ensures { (m : Parts) (one other : List (List ℕ)) → Valid m → AreHeights m one → AreHeights m other → weight m one ≡ weight m other }
 {}
