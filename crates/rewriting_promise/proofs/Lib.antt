@@ -1,3 +1,5 @@
 pub mod Outside
 pub mod Functions
 pub mod Heights
+pub mod Decoded
+pub mod Kept

@@ -1,13 +1,17 @@
 //! What is promised of each module that is rewritten.
 
-ghost use Rattle.std.specs.Prelude.{◌≡◌, ℕ, List};
+ghost use Rattle.std.specs.Prelude.{◌≡◌, ℕ, List, Ok};
 ghost use Rattle.wasm_syntax.specs.declared.module.ModuleParts.{ModuleParts as Parts};
-ghost use Rattle.wasm_syntax.specs.Module.{Program};
+ghost use Rattle.wasm_syntax.specs.Module.{Program, IsModule};
+ghost use Rattle.wasm_syntax.specs.Sizes.{WithinLimits};
 ghost use Rattle.wasm_syntax.specs.Valid.{Valid};
+ghost use Rattle.wasm_bytes.specs.Laws.{IsBytes};
+ghost use Rattle.wasm_decode.specs.Decode.{module_from};
 ghost use Rattle.instrument.specs.Bare.{bare_module};
 ghost use Rattle.instrument.specs.Instrument.{new_module};
+ghost use Rattle.instrument.specs.Instrumentable.{Instrumentable};
 ghost use Rattle.instrument.specs.Weight.{AreHeights, weight};
-ghost use Rattle.rewriting_promise.specs.Promise.{KeepsOutside};
+ghost use Rattle.rewriting_promise.specs.Promise.{Accepted, IsRewriting, KeepsOutside, Promised};
 
 /// The rewritten module shows those outside what the module shows, and so does each one that is the same but for offsets, lengths and custom
 /// sections: its imports are those of the module and then the collector's three, its exports those of the module and then its memory. Types,
@@ -19,4 +23,18 @@ pub fn interface_is_kept()
 /// A valid module has one weight: operand heights are what they are.
 pub fn heights_give_one_weight()
     ensures { (m : Parts) (one other : List (List ℕ)) → Valid m → AreHeights m one → AreHeights m other → weight m one ≡ weight m other }
+{}
+
+/// What decoding gives has what the type of a module keeps, and is within the limits of the decoder. Where it is accepted, the rewriting has
+/// all its premises.
+pub fn decoded_modules_are_instrumentable()
+    ensures whole { (bytes : List ℕ) (m : Parts) → IsBytes bytes → module_from bytes ≡ Ok m → IsModule m }
+    ensures limits { (bytes : List ℕ) (m : Parts) → IsBytes bytes → module_from bytes ≡ Ok m → WithinLimits m }
+    ensures accepted { (bytes : List ℕ) (m : Parts) → Accepted bytes m → Instrumentable m }
+{}
+
+/// The theorem of rewriting, whole: each module that is the rewriting of an accepted one, but for offsets, lengths and custom sections, keeps
+/// all promises.
+pub fn rewriting_promises()
+    ensures { (bytes : List ℕ) (m other : Parts) → Accepted bytes m → IsRewriting m other → Promised m other }
 {}
