@@ -3,3 +3,5 @@ pub mod Functions
 pub mod Heights
 pub mod Decoded
 pub mod Kept
+pub mod Laid
+pub mod There

@@ -38,3 +38,8 @@ pub fn decoded_modules_are_instrumentable()
 pub fn rewriting_promises()
     ensures { (bytes : List ℕ) (m other : Parts) → Accepted bytes m → IsRewriting m other → Promised m other }
 {}
+
+/// Each accepted module has such a rewriting: a module whose code is that of the rewritten one, at ascending offsets.
+pub fn rewritings_are_there()
+    ensures { (bytes : List ℕ) (m : Parts) → Accepted bytes m → (other : Parts) × IsRewriting m other × Promised m other }
+{}

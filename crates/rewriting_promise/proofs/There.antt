@@ -1,0 +1,33 @@
+-- Each accepted module has a rewriting.
+use Rattle.std.proofs.Common.{ℕ, List, lit<}
+use Rattle.wasm_syntax.specs.declared.module.ModuleParts.{ModuleParts as Module}
+use Rattle.wasm_syntax.specs.Module.{Program}
+use Rattle.instrument.specs.Given.{Given}
+use Rattle.instrument.specs.Instrumentable.{program_of, Instrumentable}
+use Rattle.instrument.proofs.Modules.{module_given}
+use Rattle.instrument.proofs.Theorem.{startable_given, ready_given}
+use Rattle.instrument.proofs.ValidModule.{new_valid}
+use Rattle.rewriting_promise.specs.Promise.{Accepted, IsRewriting, Promised}
+use Rattle.rewriting_promise.proofs.Decoded.{instrumentable}
+use Rattle.rewriting_promise.proofs.Kept.{promised}
+use Rattle.rewriting_promise.proofs.Laid.{laid, laid_is, laid_same}
+
+rewriting : (m : Module) → Instrumentable m → (other : Module) × IsRewriting m other
+rewriting m x =
+    let p : Program = program_of m x.whole in
+    let given : Given p = module_given m x in
+    let valid = new_valid p (ready_given p given) x.valid (startable_given p given).typed x.whole.write x.no_export_collision in (
+      laid p,
+      record {
+        whole = x.whole;
+        other_whole = laid_is p x.whole valid;
+        same = laid_same p;
+        few_customs = lit< tt;
+        short_names = tt;
+      },
+    )
+
+pub there : (bytes : List ℕ) (m : Module) → Accepted bytes m → (other : Module) × IsRewriting m other × Promised m other
+there bytes m a =
+    let r = rewriting m (instrumentable bytes m a) in
+    (r.0, r.1, promised bytes m r.0 a r.1)
