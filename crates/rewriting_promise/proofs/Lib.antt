@@ -5,3 +5,4 @@ pub mod Decoded
 pub mod Kept
 pub mod Laid
 pub mod There
+pub mod Written

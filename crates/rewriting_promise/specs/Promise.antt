@@ -59,3 +59,11 @@ pub record Promised (m other : Module) : Type 0 where
   -- whichever operand heights weigh the module: there is one list of them
   pub weighs : (heights : List (List ℕ)) → AreHeights m heights → length (encoding other) ≤ weight m heights
   pub few_bytes : length (encoding other) ≤ greatest ModuleBytes
+
+-- The bytes are decoded as a rewriting, which keeps the promises, and are at most as many as the module weighs.
+pub record DecodesAsRewriting (m : Module) (bytes : List ℕ) : Type 0 where
+  pub decoded : Module
+  pub is : module_from bytes ≡ Ok decoded
+  pub rewriting : IsRewriting m decoded
+  pub promised : Promised m decoded
+  pub weighs : (heights : List (List ℕ)) → AreHeights m heights → length bytes ≤ weight m heights

@@ -7,11 +7,13 @@ ghost use Rattle.wasm_syntax.specs.Sizes.{WithinLimits};
 ghost use Rattle.wasm_syntax.specs.Valid.{Valid};
 ghost use Rattle.wasm_bytes.specs.Laws.{IsBytes};
 ghost use Rattle.wasm_decode.specs.Decode.{module_from};
+ghost use Rattle.wasm_encode.specs.Encoding.{encoding};
+ghost use Rattle.wasm_encode.specs.Fits.{FitsModule};
 ghost use Rattle.instrument.specs.Bare.{bare_module};
 ghost use Rattle.instrument.specs.Instrument.{new_module};
 ghost use Rattle.instrument.specs.Instrumentable.{Instrumentable};
 ghost use Rattle.instrument.specs.Weight.{AreHeights, weight};
-ghost use Rattle.rewriting_promise.specs.Promise.{Accepted, IsRewriting, KeepsOutside, Promised};
+ghost use Rattle.rewriting_promise.specs.Promise.{Accepted, IsRewriting, KeepsOutside, Promised, DecodesAsRewriting};
 
 /// The rewritten module shows those outside what the module shows, and so does each one that is the same but for offsets, lengths and custom
 /// sections: its imports are those of the module and then the collector's three, its exports those of the module and then its memory. Types,
@@ -42,4 +44,10 @@ pub fn rewriting_promises()
 /// Each accepted module has such a rewriting: a module whose code is that of the rewritten one, at ascending offsets.
 pub fn rewritings_are_there()
     ensures { (bytes : List ℕ) (m : Parts) → Accepted bytes m → (other : Parts) × IsRewriting m other × Promised m other }
+{}
+
+/// What is written of a rewriting is decoded as a rewriting, so that it keeps all promises, and takes at most the weight of the module. The
+/// numbers of a value of `Module` always fit their types, and what is written of it is bytes.
+pub fn written_rewritings_are_decoded()
+    ensures { (bytes : List ℕ) (m other : Parts) → Accepted bytes m → IsRewriting m other → FitsModule other → IsBytes (encoding other) → DecodesAsRewriting m (encoding other) }
 {}
