@@ -6,3 +6,4 @@ pub mod Kept
 pub mod Laid
 pub mod There
 pub mod Written
+pub mod Example

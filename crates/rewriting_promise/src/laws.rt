@@ -12,7 +12,9 @@ ghost use Rattle.wasm_encode.specs.Fits.{FitsModule};
 ghost use Rattle.instrument.specs.Bare.{bare_module};
 ghost use Rattle.instrument.specs.Instrument.{new_module};
 ghost use Rattle.instrument.specs.Instrumentable.{Instrumentable};
+ghost use Rattle.instrument.specs.Example.{divider};
 ghost use Rattle.instrument.specs.Weight.{AreHeights, weight};
+ghost use Rattle.rewriting_promise.specs.Example.{divider_bytes};
 ghost use Rattle.rewriting_promise.specs.Promise.{Accepted, IsRewriting, KeepsOutside, Promised, DecodesAsRewriting};
 
 /// The rewritten module shows those outside what the module shows, and so does each one that is the same but for offsets, lengths and custom
@@ -50,4 +52,9 @@ pub fn rewritings_are_there()
 /// numbers of a value of `Module` always fit their types, and what is written of it is bytes.
 pub fn written_rewritings_are_decoded()
     ensures { (bytes : List ℕ) (m other : Parts) → Accepted bytes m → IsRewriting m other → FitsModule other → IsBytes (encoding other) → DecodesAsRewriting m (encoding other) }
+{}
+
+/// The premises can be met: the bytes of the example are decoded as it, and it is accepted.
+pub fn premises_are_met()
+    ensures { Accepted divider_bytes divider.module_ }
 {}
