@@ -23,6 +23,7 @@ use Rattle.rewriting_sizes.proofs.Lists.{within}
 use Rattle.rewriting_sizes.proofs.Whole.{encoding_weighs}
 use Rattle.rewriting_promise.specs.Promise.{Accepted, IsRewriting, Promised}
 use Rattle.rewriting_promise.proofs.Decoded.{instrumentable_with}
+use Rattle.rewriting_promise.proofs.Exported.{functions_kept}
 use Rattle.rewriting_promise.proofs.Heights.{one_weight}
 use Rattle.rewriting_promise.proofs.Outside.{outside}
 
@@ -95,6 +96,7 @@ promised bytes m other a r =
       valid = is_valid m other x sized r.other_whole r.same;
       within = within_too m other r x sized r.same;
       outside = outside (program_of m r.whole) other r.same;
+      functions = functions_kept (program_of m r.whole) other (ready_given (program_of m r.whole) (module_given m x)) r.same;
       weighs = weighs_ m other x sized r.other_whole r.same;
       few_bytes = few m other x sized r.other_whole r.same;
     }

@@ -1,4 +1,5 @@
 pub mod Outside
+pub mod Exported
 pub mod Functions
 pub mod Heights
 pub mod Decoded

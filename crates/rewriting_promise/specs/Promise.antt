@@ -2,10 +2,11 @@
 use Rattle.std.specs.Prelude.{◌≡◌, ℕ, ◌≤◌, false, Some, Ok, List, map, length, take, slice_get, bytes_eq, codes}
 use Rattle.std.specs.List.{AllByRecursion}
 use Rattle.wasm_syntax.specs.declared.quantity.Quantity.TheVariants.{ModuleBytes}
+use Rattle.wasm_syntax.specs.declared.parts.FuncType.{FuncType}
 use Rattle.wasm_syntax.specs.declared.parts.Import.{Import}
 use Rattle.wasm_syntax.specs.declared.module.ModuleParts.{ModuleParts as Module}
 use Rattle.wasm_syntax.specs.Quantity.{greatest}
-use Rattle.wasm_syntax.specs.Module.{IsModule}
+use Rattle.wasm_syntax.specs.Module.{IsModule, type_at, function_export}
 use Rattle.wasm_syntax.specs.Sizes.{Short, WithinLimits}
 use Rattle.wasm_syntax.specs.Valid.{Valid}
 use Rattle.wasm_bytes.specs.Laws.{IsBytes}
@@ -30,7 +31,7 @@ pub record Accepted (bytes : List ℕ) (m : Module) : Type 0 where
   pub no_export_collision : AllByRecursion (λ e. bytes_eq e.name (codes "coredump.memory") ≡ false) m.exports
   pub light : LightEnough m
 
--- A module is the rewriting of another but for offsets, lengths and custom sections, of which there may be some, as numbers of 32 bits count.
+-- The other module is the rewritten one but for offsets, lengths and custom sections. It may have custom sections, as many as 32 bits count.
 pub record IsRewriting (m other : Module) : Type 0 where
   pub whole : IsModule m
   pub other_whole : IsModule other
@@ -40,11 +41,19 @@ pub record IsRewriting (m other : Module) : Type 0 where
 
 -- ---- what is promised
 
--- What of a module those outside see of another, too: imports, exports, types, tables, memories and segments, these but for the offsets of
--- their code, and the globals in front of any others.
+-- The other module shows those outside what the module shows: its imports and exports, with those that the rewriting adds, its types, tables
+-- and memories, its segments but for the offsets of their code, and its globals in front of any others.
 pub record KeepsOutside (m other : Module) : Type 0 where
   pub interface : KeepsInterface (bare_module m) (bare_module other)
   pub globals : take (length m.globals) (map bare_global other.globals) ≡ map bare_global m.globals
+
+-- A function of this type is exported under this name.
+abbrev pub ExportsFunction : Module → List ℕ → FuncType → Type 0
+ExportsFunction m name type = (f : ℕ) × (function_export m name ≡ Some f) × (type_at m f ≡ Some type)
+
+-- Each function that a module exports, the other one exports under its name, with its type.
+abbrev pub KeepsFunctions : Module → Module → Type 0
+KeepsFunctions m other = (name : List ℕ) (type : FuncType) → ExportsFunction m name type → ExportsFunction other name type
 
 -- The other module does what the module does and hands over the dump of each trap, in at most the stated multiple of the steps. It is valid
 -- and within the limits of the decoder, and shows the same outside. Its encoding takes at most the weight of the module, and so at most as
@@ -56,6 +65,7 @@ pub record Promised (m other : Module) : Type 0 where
   pub valid : Valid other
   pub within : WithinLimits other
   pub outside : KeepsOutside m other
+  pub functions : KeepsFunctions m other
   -- whichever operand heights weigh the module: there is one list of them
   pub weighs : (heights : List (List ℕ)) → AreHeights m heights → length (encoding other) ≤ weight m heights
   pub few_bytes : length (encoding other) ≤ greatest ModuleBytes
