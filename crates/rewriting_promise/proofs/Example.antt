@@ -22,7 +22,7 @@ is_decoded : module_from divider_bytes ≡ Ok divider.module_
 unfolding unsigned_at u32_at byte_item one_of_item fixed_item bytes_item u32_item run_item sized_run_item name_item block_item end_item choose items_from vector_item steps_from steps_until_end steps_to_end steps_while_due steps_until_done numeric form_of instruction_item code_item instr_at noted_vector_item valtype_item functype_item export_kind_item export_item group_step locals_item instr_step expression_from expression_item body_item bodies_item contents_item section_step no_parts no_sections sections_item module_item module_of too_much refusal module_from is_utf8 chars lib.Utf8.encode
 is_decoded = refl
 
-below : (bs : List ℕ) → AllByRecursion (λ b. b < 256) bs → IsBytes bs
+pub below : (bs : List ℕ) → AllByRecursion (λ b. b < 256) bs → IsBytes bs
 below [] h i = lit< tt
 below (b ∷ bs) h zero = h.0
 below (b ∷ bs) h (suc i) = below bs h.1 i

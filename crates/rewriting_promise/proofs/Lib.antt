@@ -8,3 +8,4 @@ pub mod Laid
 pub mod There
 pub mod Written
 pub mod Example
+pub mod Rewritten

@@ -12,7 +12,7 @@ use Rattle.rewriting_promise.proofs.Decoded.{instrumentable}
 use Rattle.rewriting_promise.proofs.Kept.{promised}
 use Rattle.rewriting_promise.proofs.Laid.{laid, laid_is, laid_same}
 
-rewriting : (m : Module) → Instrumentable m → (other : Module) × IsRewriting m other
+abbrev pub rewriting : (m : Module) → Instrumentable m → (other : Module) × IsRewriting m other
 rewriting m x =
     let p : Program = program_of m x.whole in
     let given : Given p = module_given m x in

@@ -58,3 +58,8 @@ pub fn written_rewritings_are_decoded()
 pub fn premises_are_met()
     ensures { Accepted divider_bytes divider.module_ }
 {}
+
+/// The promises are kept by bytes: some are decoded as a rewriting of the example.
+pub fn an_example_is_rewritten()
+    ensures { (bytes : List ℕ) × DecodesAsRewriting divider.module_ bytes }
+{}
