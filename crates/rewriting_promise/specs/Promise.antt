@@ -66,7 +66,7 @@ pub record Promised (m other : Module) : Type 0 where
   pub within : WithinLimits other
   pub outside : KeepsOutside m other
   pub functions : KeepsFunctions m other
-  -- whichever operand heights weigh the module: there is one list of them
+  -- whichever list of operand heights weighs the module: the weight is the same
   pub weighs : (heights : List (List ℕ)) → AreHeights m heights → length (encoding other) ≤ weight m heights
   pub few_bytes : length (encoding other) ≤ greatest ModuleBytes
 
