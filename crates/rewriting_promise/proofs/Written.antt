@@ -6,8 +6,9 @@ use Rattle.wasm_bytes.specs.Laws.{IsBytes}
 use Rattle.wasm_decode.specs.Decode.{module_from}
 use Rattle.wasm_encode.specs.Encoding.{encoding}
 use Rattle.wasm_encode.specs.Fits.{FitsModule}
+use Rattle.wasm_encode.specs.SameModule.{SpellsSame}
 use Rattle.format_laws.specs.Laws.{DecodesSame}
-use Rattle.format_laws.proofs.Decoding.{encoding_decodes}
+use Rattle.format_laws.proofs.Decoding.{encoding_decodes, spelled_decodes}
 use Rattle.instrument.specs.Bare.{bare_module}
 use Rattle.rewriting_promise.specs.Promise.{Accepted, IsRewriting, DecodesAsRewriting}
 use Rattle.rewriting_promise.proofs.Decoded.{whole, limits}
@@ -27,15 +28,23 @@ rewriting_again m other decoded written r fits is code =
       short_names = within.short.custom_names;
     }
 
-pub written : (bytes : List ℕ) (m other : Module) → Accepted bytes m → IsRewriting m other → FitsModule other → IsBytes (encoding other) → DecodesAsRewriting m (encoding other)
-written bytes m other a r fits are =
-    let p = promised bytes m other a r in
-    let d : DecodesSame other (encoding other) = encoding_decodes other r.other_whole fits p.within p.few_bytes in
+decodes : (bytes : List ℕ) (m other : Module) → Accepted bytes m → IsRewriting m other → DecodesSame other (encoding other) → IsBytes (encoding other) → DecodesAsRewriting m (encoding other)
+decodes bytes m other a r d are =
     let again = rewriting_again m other d.decoded (encoding other) r are d.is d.code in
     record {
       decoded = d.decoded;
       is = d.is;
       rewriting = again;
       promised = promised bytes m d.decoded a again;
-      weighs = p.weighs;
+      weighs = (promised bytes m other a r).weighs;
     }
+
+pub written : (bytes : List ℕ) (m other : Module) → Accepted bytes m → IsRewriting m other → FitsModule other → IsBytes (encoding other) → DecodesAsRewriting m (encoding other)
+written bytes m other a r fits are =
+    let p = promised bytes m other a r in
+    decodes bytes m other a r (encoding_decodes other r.other_whole fits p.within p.few_bytes) are
+
+pub spelled : (bytes : List ℕ) (m other : Module) → Accepted bytes m → IsRewriting m other → SpellsSame other (encoding other) → IsBytes (encoding other) → DecodesAsRewriting m (encoding other)
+spelled bytes m other a r same are =
+    let p = promised bytes m other a r in
+    decodes bytes m other a r (spelled_decodes other (encoding other) p.within p.few_bytes same) are

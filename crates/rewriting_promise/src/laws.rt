@@ -9,6 +9,7 @@ ghost use Rattle.wasm_bytes.specs.Laws.{IsBytes};
 ghost use Rattle.wasm_decode.specs.Decode.{module_from};
 ghost use Rattle.wasm_encode.specs.Encoding.{encoding};
 ghost use Rattle.wasm_encode.specs.Fits.{FitsModule};
+ghost use Rattle.wasm_encode.specs.SameModule.{SpellsSame};
 ghost use Rattle.instrument.specs.Bare.{bare_module};
 ghost use Rattle.instrument.specs.Instrument.{new_module};
 ghost use Rattle.instrument.specs.Instrumentable.{Instrumentable};
@@ -49,9 +50,10 @@ pub fn rewritings_are_there()
 {}
 
 /// What is written of a rewriting is decoded as a rewriting, so that it keeps all promises, and takes at most the weight of the module. The
-/// numbers of a value of `Module` always fit their types, and what is written of it is bytes.
+/// numbers of a value of `Module` always fit their types, what is written of it is bytes, and encoding gives bytes that spell the same.
 pub fn written_rewritings_are_decoded()
-    ensures { (bytes : List ℕ) (m other : Parts) → Accepted bytes m → IsRewriting m other → FitsModule other → IsBytes (encoding other) → DecodesAsRewriting m (encoding other) }
+    ensures encoded { (bytes : List ℕ) (m other : Parts) → Accepted bytes m → IsRewriting m other → FitsModule other → IsBytes (encoding other) → DecodesAsRewriting m (encoding other) }
+    ensures spelled { (bytes : List ℕ) (m other : Parts) → Accepted bytes m → IsRewriting m other → SpellsSame other (encoding other) → IsBytes (encoding other) → DecodesAsRewriting m (encoding other) }
 {}
 
 /// The premises can be met: the bytes of the example are decoded as it, and it is accepted.
