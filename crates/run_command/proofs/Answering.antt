@@ -32,7 +32,7 @@ use Rattle.run_command.specs.RunAnswer.{script_replies, UsesUp, EndUsesUp, RunsT
 
 -- ---- no cause, no refusal
 
-none_then : (name : List ℕ) (o : Option Cause) (t : Option (List ℕ)) → or_text (cause_text name o) t ≡ None → (o ≡ None) × (t ≡ None)
+pub none_then : (name : List ℕ) (o : Option Cause) (t : Option (List ℕ)) → or_text (cause_text name o) t ≡ None → (o ≡ None) × (t ≡ None)
 none_then name None t e = (refl, e)
 none_then name (Some no_export) t e = absurd cc
 none_then name (Some bad_arguments) t e = absurd cc

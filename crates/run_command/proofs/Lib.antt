@@ -7,6 +7,8 @@ mod Sessions
 mod Ends
 mod Invocations
 mod Answering
+mod Hostings
+mod Valid
 mod Entries
 mod Ones
 mod Whole

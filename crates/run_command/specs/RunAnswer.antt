@@ -1,5 +1,5 @@
 -- What `run` answers, and what it writes.
-use Rattle.std.specs.Prelude.{◌≡◌, ℕ, true, false, List, [], ◌∷◌, ◌++◌, map, length, Option, Some, None, Result, Ok, Err, codes}
+use Rattle.std.specs.Prelude.{◌≡◌, ℕ, ◌⊎◌, true, false, List, [], ◌∷◌, ◌++◌, map, length, Option, Some, None, Result, Ok, Err, codes}
 use Rattle.std.specs.Fmt.{decimal}
 use Rattle.pm_outside.specs.Contents.{Contents}
 use Rattle.wasm_syntax.specs.declared.quantity.Quantity.TheVariants.{ModuleBytes, RepliesBytes}
@@ -17,7 +17,7 @@ use Rattle.command_answers.specs.declared.outcome.Outcome.{Outcome}
 use Rattle.command_answers.specs.declared.status.Status.{Status}
 use Rattle.command_answers.specs.declared.status.Status.TheVariants as status
 use Rattle.run_words.specs.declared.words.RunWords.{RunWords}
-use Rattle.run_command.specs.RunText.{dumps_from, last_of}
+use Rattle.run_command.specs.RunText.{dump_name, dumps_from, last_of}
 use Rattle.host_runs.specs.Hosted.{replies_of}
 use Rattle.device_set.specs.Sets.{DeviceState, names, log_of, is_named}
 use Rattle.run_command.specs.Given.{given_in, module_of, from_module}
@@ -126,3 +126,9 @@ pub record RunAnswer (before after : List DeviceState) (w : RunWords) (files : C
       Then (replies_input w.replies files) (λ script_bytes.
       IfLoaded (λ m. Then (script_of script_bytes) (λ script. ModuleAnswer before after w given writes script m)) (module_from bytes))) o
   pub untouched : IfRefusal o.status (IsUntouched before after given writes)
+
+-- ---- faults
+
+-- a file that the words name: the module's, that of the replies, or one of the dumps
+abbrev pub IsFileOf : RunWords → List ℕ → Type 0
+IsFileOf w file = (file ≡ w.source) ⊎ ((w.replies ≡ Some file) ⊎ ((j : ℕ) × (file ≡ dump_name w.dump j)))

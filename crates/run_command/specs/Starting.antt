@@ -8,6 +8,8 @@ use Rattle.wasm_syntax.specs.Run.{Cause, no_export, bad_arguments, element_out, 
 use Rattle.command_answers.specs.Texts.{ended}
 use Rattle.command_answers.specs.declared.outcome.Outcome.{Outcome}
 use Rattle.command_answers.specs.declared.status.Status.TheVariants as status
+use Rattle.instance_start.specs.declared.started.StartFault.{StartFault}
+use Rattle.instance_start.specs.declared.started.StartFault.TheVariants.{ElementOut, DataOut, NoMemory}
 use Rattle.run_words.specs.declared.invocation.Invocation.{Invocation as InvocationWords}
 
 abbrev pub invocation_of : InvocationWords → Invocation
@@ -31,3 +33,9 @@ cause_text name (Some (data_out i)) = Some (codes "data " ++ decimal i)
 abbrev pub entries_text : Module → List Invocation → Option (List ℕ)
 entries_text m [] = None
 entries_text m (i ∷ is) = or_text (cause_text i.name (cause_of_entry m (function_export m i.name) i.args)) (entries_text m is)
+
+-- the cause that a segment is, which lies outside
+abbrev pub segment_of : StartFault → Option Cause
+segment_of (ElementOut i) = Some (element_out i)
+segment_of (DataOut i) = Some (data_out i)
+segment_of NoMemory = None

@@ -3,7 +3,9 @@
 
 mod dumps;
 mod ending;
+mod hosting;
 mod lines;
+mod running;
 mod session;
 mod starting;
 mod turns;
