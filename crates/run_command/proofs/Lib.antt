@@ -12,3 +12,5 @@ mod Valid
 mod Entries
 mod Ones
 mod Whole
+mod Refusals
+mod Commands

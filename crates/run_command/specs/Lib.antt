@@ -11,4 +11,5 @@ pub mod Dumping
 pub mod Written
 pub mod Turns
 pub mod Sessions
+pub mod Scripts
 pub mod Answers

@@ -1,0 +1,14 @@
+use Rattle.std.proofs.Common.{refl}
+use Rattle.run_command.specs.Scripts.{script_result}
+use Rattle.run_command.proofs.Commands.{with_module, module_refused}
+use Rattle.run_command.proofs.command.run_bytes.Goals as goal
+
+pub returns-in-Valid-clause-told : goal.returns-in-Valid-clause-told
+returns-in-Valid-clause-told g c =
+    with_module (g.D.Devices.shown c.args.devices.now) (g.D.Devices.shown c.run_scripted.new.devices) c.args.words.now (g.F.Files.told c.args.files.now) (g.F.Files.told c.run_scripted.new.files) c.run_scripted.result
+    (script_result c.args.script) c.args.bytes.now c.in_ok-loaded.loaded c.in-Valid.source c.in-Valid.is c.in_ok-loaded.ensures.told c.run_scripted.ensures.told
+
+pub returns-in-TurnedDown-clause-told : goal.returns-in-TurnedDown-clause-told
+returns-in-TurnedDown-clause-told g c =
+    module_refused (g.D.Devices.shown c.args.devices.now) c.args.words.now (g.F.Files.told c.args.files.now) (g.F.Files.told c.args.files.now) c.in-TurnedDown.refusal refl
+    (script_result c.args.script) c.args.bytes.now c.in_ok-loaded.loaded c.in-TurnedDown.is c.in_ok-loaded.ensures.told

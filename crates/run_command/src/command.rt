@@ -1,0 +1,121 @@
+//! The command on the module in a file.
+
+ghost use Rattle.std.specs.Prelude.{◌≡◌, ◌≢◌, ◌≤◌, ◌<◌, ℕ, List, length, IfOk, IfSome, is_some};
+ghost use Rattle.causes.specs.Counts.{Rose};
+ghost use Rattle.wasm_syntax.specs.declared.host.Served.{Served};
+ghost use Rattle.device_set.specs.Sets.{names, AreDistinct};
+ghost use Rattle.command_answers.specs.Texts.{file_fault};
+ghost use Rattle.command_answers.specs.Told.{UnlessFault};
+ghost use Rattle.run_command.specs.Written.{Writes, HoldThen};
+ghost use Rattle.run_command.specs.Steps.{IsAnswered};
+ghost use Rattle.run_command.specs.RunAnswer.{IsFileOf, RunAnswer};
+ghost use Rattle.run_command.specs.Scripts.{script_result, ScriptAnswer, BytesAnswer, SourceAnswer, IsFaultOf};
+
+use crate::running::run_valid;
+use crate::scripts::{Asked, Script, asked_script, bad_replies};
+use causes::NoMemory;
+use command_answers::{Input, Loaded, Outcome, Status, load, read_input};
+use device_set::Devices;
+use pm_outside::Files;
+use run_words::RunWords;
+use std::alloc::Global;
+use wasm_syntax::Quantity;
+use wasm_validate::Validated;
+
+/// Runs the invocations on a valid module with a script, or refuses the script.
+fn run_scripted<F: Files, D: Devices>(
+    alloc: Global,
+    files: &mut F,
+    words: &RunWords,
+    source: &Validated,
+    script: Script,
+    devices: &mut D,
+) -> Result<Outcome, NoMemory>
+    requires distinct { AreDistinct (names (D.shown devices.old)) }
+    requires some { 0 < length words.now.invocations }
+    ensures told { IfSome (F.told files.old) (λ held. IfSome (F.told files.new) (λ after. IfOk result (λ o. UnlessFault o.status (IsAnswered (λ given writes. ScriptAnswer (D.shown devices.old) (D.shown devices.new) words.now given writes (script_result script) source.now) (D.shown devices.old) (D.shown devices.new) held after o)))) }
+    ensures fault { IfOk result (IsFaultOf words.now (F.faults files.old) (F.faults files.new)) }
+    ensures memory { IfOk result (λ o. o.status ≢ Status.NoMemory) }
+    ensures telling { is_some (F.told files.new) ≡ is_some (F.told files.old) }
+    ensures later { F.faults files.old ≤ F.faults files.new }
+{
+    match script {
+        Script::Whole(script) => run_valid(alloc, files, words, source, script, devices),
+        Script::Bad(line) => bad_replies(alloc, line),
+    }
+}
+
+/// Runs the invocations on the module that the bytes spell.
+fn run_bytes<F: Files, D: Devices>(
+    alloc: Global,
+    files: &mut F,
+    words: &RunWords,
+    bytes: &[u8],
+    script: Script,
+    devices: &mut D,
+) -> Result<Outcome, NoMemory>
+    requires distinct { AreDistinct (names (D.shown devices.old)) }
+    requires some { 0 < length words.now.invocations }
+    ensures told { IfSome (F.told files.old) (λ held. IfSome (F.told files.new) (λ after. IfOk result (λ o. UnlessFault o.status (IsAnswered (λ given writes. BytesAnswer (D.shown devices.old) (D.shown devices.new) words.now given writes (script_result script) bytes.now) (D.shown devices.old) (D.shown devices.new) held after o)))) }
+    ensures fault { IfOk result (IsFaultOf words.now (F.faults files.old) (F.faults files.new)) }
+    ensures memory { IfOk result (λ o. o.status ≢ Status.NoMemory) }
+    ensures telling { is_some (F.told files.new) ≡ is_some (F.told files.old) }
+    ensures later { F.faults files.old ≤ F.faults files.new }
+{
+    let loaded = load(alloc, bytes)?;
+    match loaded {
+        Loaded::Valid(source) => run_scripted(alloc, files, words, &source, script, devices),
+        Loaded::TurnedDown(refusal) => Ok(refusal),
+    }
+}
+
+/// Runs the module that the bytes spell, with the replies that the words ask for.
+fn run_source<F: Files, D: Devices>(
+    alloc: Global,
+    files: &mut F,
+    words: &RunWords,
+    bytes: &[u8],
+    devices: &mut D,
+) -> Result<Outcome, NoMemory>
+    requires distinct { AreDistinct (names (D.shown devices.old)) }
+    requires some { 0 < length words.now.invocations }
+    ensures told { IfSome (F.told files.old) (λ held. IfSome (F.told files.new) (λ after. IfOk result (λ o. UnlessFault o.status (IsAnswered (λ given writes. SourceAnswer (D.shown devices.old) (D.shown devices.new) words.now held given writes bytes.now) (D.shown devices.old) (D.shown devices.new) held after o)))) }
+    ensures fault { IfOk result (IsFaultOf words.now (F.faults files.old) (F.faults files.new)) }
+    ensures memory { IfOk result (λ o. o.status ≢ Status.NoMemory) }
+    ensures telling { is_some (F.told files.new) ≡ is_some (F.told files.old) }
+    ensures later { F.faults files.old ≤ F.faults files.new }
+{
+    let asked = asked_script(alloc, files, words)?;
+    match asked {
+        Asked::Read(script) => run_bytes(alloc, files, words, bytes, script, devices),
+        Asked::Refused(refusal) => Ok(refusal),
+    }
+}
+
+/// Runs the module in a file: its functions are invoked one after the other on one instance, with devices that serve its
+/// imports, and a dump is written at each trap. The names of the devices are distinct. A file that faults is named in the
+/// answer; dumps that were written before it stand.
+///
+/// # Errors
+///
+/// `NoMemory` where memory runs out.
+pub fn run_file<F: Files, D: Devices>(
+    alloc: Global,
+    files: &mut F,
+    words: &RunWords,
+    devices: &mut D,
+) -> Result<Outcome, NoMemory>
+    requires distinct { AreDistinct (names (D.shown devices.old)) }
+    requires some { 0 < length words.now.invocations }
+    ensures told { IfSome (F.told files.old) (λ held. IfSome (F.told files.new) (λ after. IfOk result (λ o. UnlessFault o.status ((given : List Served) × (writes : Writes) × RunAnswer (D.shown devices.old) (D.shown devices.new) words.now held given writes o × HoldThen writes held after)))) }
+    ensures fault { IfOk result (λ o. o.status ≡ Status.FileFault → ((file : List ℕ) × IsFileOf words.now file × (o ≡ file_fault file)) × Rose (F.faults files.old) (F.faults files.new)) }
+    ensures memory { IfOk result (λ o. o.status ≢ Status.NoMemory) }
+    ensures telling { is_some (F.told files.new) ≡ is_some (F.told files.old) }
+    ensures later { F.faults files.old ≤ F.faults files.new }
+{
+    let input = read_input(alloc, files, words.source.as_str(), Quantity::ModuleBytes)?;
+    match input {
+        Input::Whole(bytes) => run_source(alloc, files, words, &bytes, devices),
+        Input::Refused(refusal) => Ok(refusal),
+    }
+}

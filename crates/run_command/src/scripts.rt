@@ -1,0 +1,80 @@
+//! Scripts from files of replies.
+
+ghost use Rattle.std.specs.Prelude.{◌≡◌, ◌≢◌, ◌≤◌, IfOk, IfSome, Some};
+ghost use Rattle.causes.specs.Counts.{Rose};
+ghost use Rattle.command_answers.specs.Texts.{file_fault};
+ghost use Rattle.run_command.specs.RunAnswer.{replies_input, bad_replies, script_of};
+ghost use Rattle.run_command.specs.Scripts.{script_result, IsAsked, IfAskedRefused, IsFaultOf};
+
+use causes::NoMemory;
+use command_answers::{Input, Outcome, Status, push_number, read_input};
+use pm_outside::Files;
+use pm_text::{Items, Text};
+use replies_file::{ReplyFault, read_replies};
+use run_words::RunWords;
+use std::alloc::Global;
+use wasm_syntax::{Quantity, Reply};
+
+/// The replies of a script, where there is one, or the first line that is no reply.
+#[derive(Drop)]
+pub(crate) enum Script {
+    Whole(Option<Items<Reply>>),
+    /// The number of the line, counted from 1.
+    Bad(u64),
+}
+
+/// A script that was read where the words ask for one, or what is answered in its place.
+#[derive(Drop)]
+pub(crate) enum Asked {
+    Read(Script),
+    Refused(Outcome),
+}
+
+/// The answer where a line of the file of replies is no reply.
+pub(crate) fn bad_replies(alloc: Global, line: u64) -> Result<Outcome, NoMemory>
+    ensures { IfOk result (λ o. o ≡ bad_replies line) }
+{
+    let mut text = Text::new(alloc);
+    push_number(&mut text, "bad replies at line ", line)?;
+    text.push_str("\n")?;
+    Ok(Outcome {
+        status: Status::BadReplies,
+        text,
+    })
+}
+
+/// The script that the bytes of a file of replies spell.
+fn script_from(alloc: Global, bytes: &[u8]) -> Result<Script, NoMemory>
+    ensures { IfOk result (λ script. script_result script ≡ script_of (Some bytes.now)) }
+{
+    match read_replies(alloc, bytes) {
+        Ok(replies) => Ok(Script::Whole(Some(replies))),
+        Err(ReplyFault::Line(line)) => Ok(Script::Bad(line)),
+        Err(ReplyFault::NoMemory) => Err(NoMemory),
+    }
+}
+
+/// Reads the script that the words ask for.
+pub(crate) fn asked_script<F: Files>(
+    alloc: Global,
+    files: &mut F,
+    words: &RunWords,
+) -> Result<Asked, NoMemory>
+    ensures told { IfSome (F.told files.old) (λ held. IfOk result (λ asked. IsAsked asked (replies_input words.now.replies held))) }
+    ensures fault { IfOk result (IfAskedRefused (IsFaultOf words.now (F.faults files.old) (F.faults files.new))) }
+    ensures memory { IfOk result (IfAskedRefused (λ o. o.status ≢ Status.NoMemory)) }
+    ensures same { F.told files.new ≡ F.told files.old }
+    ensures later { F.faults files.old ≤ F.faults files.new }
+{
+    let Some(file) = &words.replies else {
+        return Ok(Asked::Read(Script::Whole(None)));
+    };
+    let input = read_input(alloc, files, file.as_str(), Quantity::RepliesBytes)?;
+    match input {
+        Input::Whole(bytes) => {
+            let script = script_from(alloc, &bytes)?;
+            Ok(Asked::Read(script))
+        }
+        Input::Refused(refusal) => Ok(Asked::Refused(refusal)),
+    }
+}
