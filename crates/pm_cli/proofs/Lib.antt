@@ -1,3 +1,5 @@
 mod Numbered
 mod OneAnswer
+mod OneRun
+mod Respond
 mod Taken

@@ -1,22 +1,33 @@
 -- A list of words has at most one answer.
 use Rattle.std.proofs.Common.{◌≡◌, ℕ, List, Option, Some, None, sym, ◌∙◌}
 use Rattle.wasm_syntax.specs.declared.quantity.Quantity.TheVariants.{ModuleBytes, DumpBytes}
+use Rattle.wasm_syntax.specs.declared.host.Served.{Served}
 use Rattle.pm_outside.specs.Contents.{Contents}
 use Rattle.wasm_decode.specs.Decode.{module_from}
+use Rattle.device_set.specs.Sets.{DeviceState}
 use Rattle.command_answers.specs.Inputs.{input_of}
 use Rattle.command_answers.specs.Loading.{IfLoaded}
 use Rattle.command_answers.specs.declared.outcome.Outcome.{Outcome}
-use Rattle.command_answers.proofs.OneOutcome.{AtMostOne, one_then, one_if_loaded}
-use Rattle.pm_cli.specs.Answer.{AnswersTo, IsAnswer, checked}
+use Rattle.command_answers.proofs.OneOutcome.{Agree, agree_then, agree_if_loaded}
+use Rattle.run_command.specs.Written.{Writes}
+use Rattle.pm_cli.specs.Answer.{AnswersTo, IsAnswer, CheckAnswer, ShowAnswer, checked}
 use Rattle.pm_cli.specs.Words.{command}
 use Rattle.pm_cli.specs.declared.words.Command.{Command}
-use Rattle.pm_cli.specs.declared.words.Command.TheVariants.{Check, Show}
+use Rattle.pm_cli.specs.declared.words.Command.TheVariants.{Check, Run, Show}
+use Rattle.pm_cli.proofs.OneRun.{one_run_answer}
 
-one_to : (c : Option Command) (files : Contents) → AtMostOne (AnswersTo c files)
-one_to (Some (Check m)) files = one_then (input_of ModuleBytes m (files m)) (λ bytes. IfLoaded checked (module_from bytes)) (λ bytes. one_if_loaded checked (λ parts a b pa pb. pa ∙ sym pb) (module_from bytes))
-one_to (Some (Show dump)) files = one_then (input_of DumpBytes dump (files dump)) _ (λ bytes a b pa pb. pa ∙ sym pb)
-one_to None files = λ a b pa pb. pa ∙ sym pb
+one_check : (m : List ℕ) (content : Option (List ℕ)) → Agree (CheckAnswer m content) (CheckAnswer m content)
+one_check m content = agree_then (input_of ModuleBytes m content) _ _ (λ bytes. agree_if_loaded checked checked (λ parts a b pa qb. pa ∙ sym qb) (module_from bytes))
 
-pub one_answer : (words : List (List ℕ)) (files : Contents) (a b : Outcome) → IsAnswer words files a → IsAnswer words files b → a ≡ b
+one_show : (dump : List ℕ) (content : Option (List ℕ)) → Agree (ShowAnswer dump content) (ShowAnswer dump content)
+one_show dump content = agree_then (input_of DumpBytes dump content) _ _ (λ bytes a b pa qb. pa ∙ sym qb)
+
+one_to : (before after : List DeviceState) (c : Option Command) (files : Contents) (given : List Served) (x y : Writes) → Agree (AnswersTo before after c files given x) (AnswersTo before after c files given y)
+one_to before after (Some (Check m)) files given x y a b pa qb = one_check m (files m) a b pa.0 qb.0
+one_to before after (Some (Run w)) files given x y a b pa qb = one_run_answer before after w files given x y a b pa qb
+one_to before after (Some (Show dump)) files given x y a b pa qb = one_show dump (files dump) a b pa.0 qb.0
+one_to before after None files given x y a b pa qb = pa.0 ∙ sym qb.0
+
+pub one_answer : (before after : List DeviceState) (words : List (List ℕ)) (files : Contents) (given : List Served) (x y : Writes) (a b : Outcome) → IsAnswer before after words files given x a → IsAnswer before after words files given y b → a ≡ b
 unfolding IsAnswer
-one_answer words files a b pa pb = one_to (command words) files a b pa pb
+one_answer before after words files given x y a b pa qb = one_to before after (command words) files given x y a b pa qb

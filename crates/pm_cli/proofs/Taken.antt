@@ -37,11 +37,12 @@ with_outcome status.Collision o P T same p t = (o, of_same status.Collision o.st
 with_outcome status.TornCalls o P T same p t = (o, of_same status.TornCalls o.status (P o) (same t) p, t)
 with_outcome status.BadReplies o P T same p t = (o, of_same status.BadReplies o.status (P o) (same t) p, t)
 
--- an outcome that is the answer, and was delivered
-pub answered : {C : Type 0} (told : Option C) (taken : Option (List ℕ)) (s : Status) (o : Outcome) (after : Option (List ℕ)) (P : C → Outcome → Type 0)
-    → IfSome told (λ held. UnlessFault o.status (P held o))
+-- an outcome that is the answer, and was delivered, where files tell what they hold before and then
+pub answered : {C : Type 0} (told then : Option C) (taken : Option (List ℕ)) (s : Status) (o : Outcome) (after : Option (List ℕ)) (P : C → C → Outcome → Type 0)
+    → IfSome told (λ held. IfSome then (λ now. UnlessFault o.status (P held now o)))
     → IfSome taken (λ before. UnlessFault s (Takes s before after o))
-    → IfSome told (λ held. IfSome taken (λ before. UnlessFault s ((p : Outcome) × P held p × Takes s before after p)))
-answered None taken s o after P p t = tt
-answered (Some held) None s o after P p t = tt
-answered (Some held) (Some before) s o after P p t = with_outcome s o (P held) (Takes s before after) (λ takes. takes.0) p t
+    → IfSome told (λ held. IfSome then (λ now. IfSome taken (λ before. UnlessFault s ((p : Outcome) × P held now p × Takes s before after p))))
+answered None then taken s o after P p t = tt
+answered (Some held) None taken s o after P p t = tt
+answered (Some held) (Some now) None s o after P p t = tt
+answered (Some held) (Some now) (Some before) s o after P p t = with_outcome s o (P held now) (Takes s before after) (λ takes. takes.0) p t

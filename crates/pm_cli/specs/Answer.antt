@@ -10,6 +10,10 @@ use Rattle.dump_format.specs.Decode.{dump_from}
 use Rattle.dump_format.specs.Part.{part_name}
 use Rattle.wasm_syntax.specs.declared.module.ModuleParts.{ModuleParts as Module}
 use Rattle.wasm_decode.specs.Decode.{module_from}
+use Rattle.wasm_syntax.specs.declared.host.Served.{Served}
+use Rattle.device_set.specs.Sets.{DeviceState}
+use Rattle.run_command.specs.RunAnswer.{RunAnswer, IsUntouched}
+use Rattle.run_command.specs.Written.{Writes, HoldThen}
 use Rattle.pm_cli.specs.Check.{counted}
 use Rattle.command_answers.specs.Loading.{IfLoaded}
 use Rattle.command_answers.specs.Inputs.{input_of, Then}
@@ -19,7 +23,7 @@ use Rattle.pm_cli.specs.Words.{command}
 use Rattle.command_answers.specs.declared.outcome.Outcome.{Outcome}
 use Rattle.command_answers.specs.declared.status.Status.TheVariants as status
 use Rattle.pm_cli.specs.declared.words.Command.{Command}
-use Rattle.pm_cli.specs.declared.words.Command.TheVariants.{Check, Show}
+use Rattle.pm_cli.specs.declared.words.Command.TheVariants.{Check, Run, Show}
 
 abbrev pub bad_dump : List ℕ → Outcome
 bad_dump cause = ended status.BadDump (codes "bad dump: " ++ cause ++ codes "\n")
@@ -47,11 +51,20 @@ checked m o = o ≡ counted m
 abbrev pub CheckAnswer : List ℕ → Option (List ℕ) → Outcome → Type 0
 CheckAnswer file content o = Then (input_of ModuleBytes file content) (λ bytes. IfLoaded checked (module_from bytes)) o
 
-abbrev pub AnswersTo : Option Command → Contents → Outcome → Type 0
-AnswersTo (Some (Check m)) files o = CheckAnswer m (files m) o
-AnswersTo (Some (Show dump)) files o = ShowAnswer dump (files dump) o
-AnswersTo None files o = o ≡ usage
+-- the answer to a command, where the devices were so before and after, files hold this, these replies were given, and these files written
+abbrev pub AnswersTo : (before after : List DeviceState) → Option Command → Contents → List Served → Writes → Outcome → Type 0
+AnswersTo before after (Some (Check m)) files given writes o = CheckAnswer m (files m) o × IsUntouched before after given writes
+AnswersTo before after (Some (Run w)) files given writes o = RunAnswer before after w files given writes o
+AnswersTo before after (Some (Show dump)) files given writes o = ShowAnswer dump (files dump) o × IsUntouched before after given writes
+AnswersTo before after None files given writes o = (o ≡ usage) × IsUntouched before after given writes
 
 -- this is the answer to a list of words
-unfoldable pub IsAnswer : List (List ℕ) → Contents → Outcome → Type 0
-IsAnswer words files o = AnswersTo (command words) files o
+unfoldable pub IsAnswer : (before after : List DeviceState) → List (List ℕ) → Contents → List Served → Writes → Outcome → Type 0
+IsAnswer before after words files given writes o = AnswersTo before after (command words) files given writes o
+
+-- the words are answered, and the files hold what is written
+pub record Answered (before after : List DeviceState) (words : List (List ℕ)) (old new : Contents) (o : Outcome) : Type 0 where
+  pub given : List Served
+  pub writes : Writes
+  pub answer : IsAnswer before after words old given writes o
+  pub files : HoldThen writes old new

@@ -1,9 +1,10 @@
 //! What the commands answer.
 
-ghost use Rattle.std.specs.Prelude.{◌≡◌, ◌≢◌, ◌≤◌, map, IfOk, IfSome};
+ghost use Rattle.std.specs.Prelude.{◌≡◌, ◌≢◌, ◌≤◌, map, is_some, IfOk, IfSome};
 ghost use Rattle.std.specs.String.{string_bytes};
 ghost use Rattle.causes.specs.Counts.{Rose};
-ghost use Rattle.pm_cli.specs.Answer.{IsAnswer};
+ghost use Rattle.device_set.specs.Sets.{AreDistinct, names};
+ghost use Rattle.pm_cli.specs.Answer.{IsAnswer, Answered};
 ghost use Rattle.command_answers.specs.Told.{UnlessFault};
 ghost use Rattle.pm_cli.specs.FaultText.{IsFaultText};
 
@@ -12,28 +13,32 @@ use crate::showing::show_file;
 use crate::words::{Command, parse_words};
 use causes::NoMemory;
 use command_answers::{Outcome, Status, plain};
+use device_set::Devices;
 use pm_outside::Files;
+use run_command::run_file;
 use std::alloc::Global;
 use word_rules::WordsFault;
 
 /// What the words get.
 #[tactic(auto, unfolding(crate::specs::Answer::IsAnswer))]
-pub fn respond<F: Files>(
+pub fn respond<F: Files, D: Devices>(
     alloc: Global,
     words: &[String],
     files: &mut F,
+    devices: &mut D,
 ) -> Result<Outcome, NoMemory>
-    ensures told { IfSome (F.told files.old) (λ held. IfOk result (λ o.
-        UnlessFault o.status (IsAnswer (map string_bytes words.now) held o))) }
+    requires distinct { AreDistinct (names (D.shown devices.old)) }
+    ensures told { IfSome (F.told files.old) (λ held. IfSome (F.told files.new) (λ then. IfOk result (λ o.
+        UnlessFault o.status (Answered (D.shown devices.old) (D.shown devices.new) (map string_bytes words.now) held then o)))) }
+    ensures telling { is_some (F.told files.new) ≡ is_some (F.told files.old) }
     ensures fault { IfOk result (λ o. o.status ≡ Status.FileFault
         → IsFaultText (map string_bytes words.now) o.text × Rose (F.faults files.old) (F.faults files.new)) }
     ensures memory { IfOk result (λ o. o.status ≢ Status.NoMemory) }
     ensures later { F.faults files.old ≤ F.faults files.new }
-    ensures same { F.told files.new ≡ F.told files.old }
-    ensures names { F.created files.new ≡ F.created files.old }
 {
     match parse_words(alloc, words) {
         Ok(Command::Check { module }) => check_file(alloc, files, module.as_str()),
+        Ok(Command::Run(words)) => run_file(alloc, files, &words, devices),
         Ok(Command::Show { dump }) => show_file(alloc, files, dump.as_str()),
         Err(WordsFault::Usage) => plain(
             alloc,

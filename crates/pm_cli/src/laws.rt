@@ -2,10 +2,13 @@
 
 ghost use Rattle.std.specs.Prelude.{◌≡◌, ℕ, List};
 ghost use Rattle.pm_outside.specs.Contents.{Contents};
+ghost use Rattle.wasm_syntax.specs.declared.host.Served.{Served};
+ghost use Rattle.device_set.specs.Sets.{DeviceState};
+ghost use Rattle.run_command.specs.Written.{Writes};
 ghost use Rattle.pm_cli.specs.Answer.{IsAnswer};
 ghost use Rattle.command_answers.specs.declared.outcome.Outcome.{Outcome};
 
-/// A list of words has at most one answer.
+/// A list of words has at most one status and text, where the same replies were given.
 pub fn one_answer()
-    ensures { (words : List (List ℕ)) (files : Contents) (a b : Outcome) → IsAnswer words files a → IsAnswer words files b → a ≡ b }
+    ensures { (before after : List DeviceState) (words : List (List ℕ)) (files : Contents) (given : List Served) (x y : Writes) (a b : Outcome) → IsAnswer before after words files given x a → IsAnswer before after words files given y b → a ≡ b }
 {}

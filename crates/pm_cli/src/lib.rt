@@ -8,6 +8,10 @@ mod command;
 mod dump_text;
 mod laws;
 #[cfg(test)]
+mod run_modules;
+#[cfg(test)]
+mod run_tests;
+#[cfg(test)]
 mod show_tests;
 mod showing;
 #[cfg(test)]

@@ -37,13 +37,18 @@ fn reads_commands(rt: HostRuntime) -> Result<(), Fail> {
     ];
     for (line, dump) in cases {
         let words = words_of(rt.alloc(), line)?;
-        let wanted = match dump {
-            Some(dump) => Ok(Command::Show {
-                dump: Text::from_str(rt.alloc(), dump)?,
-            }),
-            None => Err(WordsFault::Usage),
+        let read = match parse_words(rt.alloc(), words.as_slice()) {
+            Ok(Command::Show { dump }) => Some(dump),
+            other => {
+                assert!(rt; matches!(other, Err(WordsFault::Usage)));
+                None
+            }
         };
-        assert_eq!(rt; parse_words(rt.alloc(), words.as_slice()), wanted, "{line}");
+        let wanted = match dump {
+            Some(dump) => Some(Text::from_str(rt.alloc(), dump)?),
+            None => None,
+        };
+        assert_eq!(rt; read, wanted, "{line}");
     }
     Ok(())
 }
@@ -59,13 +64,18 @@ fn reads_checks(rt: HostRuntime) -> Result<(), Fail> {
     ];
     for (line, file) in cases {
         let words = words_of(rt.alloc(), line)?;
-        let wanted = match file {
-            Some(file) => Ok(Command::Check {
-                module: Text::from_str(rt.alloc(), file)?,
-            }),
-            None => Err(WordsFault::Usage),
+        let read = match parse_words(rt.alloc(), words.as_slice()) {
+            Ok(Command::Check { module }) => Some(module),
+            other => {
+                assert!(rt; matches!(other, Err(WordsFault::Usage)));
+                None
+            }
         };
-        assert_eq!(rt; parse_words(rt.alloc(), words.as_slice()), wanted, "{line}");
+        let wanted = match file {
+            Some(file) => Some(Text::from_str(rt.alloc(), file)?),
+            None => None,
+        };
+        assert_eq!(rt; read, wanted, "{line}");
     }
     Ok(())
 }

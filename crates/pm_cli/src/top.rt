@@ -1,15 +1,17 @@
 //! The top call.
 
-ghost use Rattle.std.specs.Prelude.{◌≡◌, ◌≤◌, ◌⊎◌, ◌++◌, List, ℕ, map, Some, IfSome};
+ghost use Rattle.std.specs.Prelude.{◌≡◌, ◌≤◌, ◌⊎◌, ◌++◌, List, ℕ, map, Some, IfSome, is_some};
 ghost use Rattle.std.specs.String.{string_bytes};
 ghost use Rattle.causes.specs.Counts.{Rose};
-ghost use Rattle.pm_cli.specs.Answer.{IsAnswer};
+ghost use Rattle.device_set.specs.Sets.{AreDistinct, names};
+ghost use Rattle.pm_cli.specs.Answer.{Answered};
 ghost use Rattle.command_answers.specs.declared.outcome.Outcome.{Outcome as OutcomeThere};
 ghost use Rattle.command_answers.specs.Told.{UnlessFault, Takes, HasTakenFront};
 ghost use Rattle.pm_cli.specs.FaultText.{IsFaultText};
 
 use crate::command::respond;
 use command_answers::{Outcome, Status};
+use device_set::Devices;
 use pm_outside::{Files, PutAnswer, Sink};
 use std::alloc::Global;
 
@@ -33,16 +35,23 @@ fn deliver<O: Sink>(out: &mut O, outcome: &Outcome) -> Status
     }
 }
 
-/// Does all that the program does: `words` are its words without its name, `files` and `out` stand for the outside.
-pub fn post_mortem<F: Files, O: Sink>(
+/// Does all that the program does: `words` are its words without its name, `files` and `out` stand for the outside, and `devices` serve
+/// imports by the names of their modules.
+pub fn post_mortem<F: Files, O: Sink, D: Devices>(
     alloc: Global,
     words: &[String],
     files: &mut F,
     out: &mut O,
+    devices: &mut D,
 ) -> Status
-    // Where files and output are told, status and text are those of the answer, but for a fault and want of memory.
-    ensures answer { IfSome (F.told files.old) (λ held. IfSome (O.taken out.old) (λ before.
-        UnlessFault result ((o : OutcomeThere) × IsAnswer (map string_bytes words.now) held o × Takes result before (O.taken out.new) o))) }
+    // Devices have distinct names.
+    requires distinct { AreDistinct (names (D.shown devices.old)) }
+
+    // Where files and output are told, status, text, files and the logs of devices are those of the answer, but for a fault and want of
+    // memory.
+    ensures answer { IfSome (F.told files.old) (λ held. IfSome (F.told files.new) (λ then. IfSome (O.taken out.old) (λ before.
+        UnlessFault result ((o : OutcomeThere) × Answered (D.shown devices.old) (D.shown devices.new) (map string_bytes words.now) held then o
+        × Takes result before (O.taken out.new) o)))) }
 
     // A fault is answered only where a count rose.
     ensures fault { result ≡ Status.FileFault
@@ -56,16 +65,16 @@ pub fn post_mortem<F: Files, O: Sink>(
 
     // However it ends, the output has taken nothing, or a front of the answer's text, or, where a count of the files rose, a front of the
     // text that names a file.
-    ensures front { IfSome (F.told files.old) (λ held. IfSome (O.taken out.old) (λ before.
+    ensures front { IfSome (F.told files.old) (λ held. IfSome (F.told files.new) (λ then. IfSome (O.taken out.old) (λ before.
         (O.taken out.new ≡ Some before)
-        ⊎ ((o : OutcomeThere) × IsAnswer (map string_bytes words.now) held o × HasTakenFront before (O.taken out.new) o.text)
+        ⊎ ((o : OutcomeThere) × Answered (D.shown devices.old) (D.shown devices.new) (map string_bytes words.now) held then o × HasTakenFront before (O.taken out.new) o.text)
         ⊎ (Rose (F.faults files.old) (F.faults files.new) × ((text : List ℕ)
-        × IsFaultText (map string_bytes words.now) text × HasTakenFront before (O.taken out.new) text)))) }
+        × IsFaultText (map string_bytes words.now) text × HasTakenFront before (O.taken out.new) text))))) }
 
-    // No file is changed.
-    ensures same { F.told files.new ≡ F.told files.old }
+    // Files that tell what they hold go on telling.
+    ensures telling { is_some (F.told files.new) ≡ is_some (F.told files.old) }
 {
-    match respond(alloc, words, files) {
+    match respond(alloc, words, files, devices) {
         Ok(outcome) => deliver(out, &outcome),
         Err(_) => Status::NoMemory,
     }

@@ -1,6 +1,7 @@
 //! Commands over files in memory.
 
 use crate::post_mortem;
+use device_set::DeviceSet;
 use pm_outside::{MemFiles, MemSink};
 use std::alloc::Global;
 use std::process::Abort;
@@ -29,7 +30,8 @@ pub fn answers(
     let mut files = MemFiles::new(alloc, Vec::from_slice(alloc, fails.0)?);
     files.add("d", &bytes)?;
     let mut out = MemSink::new(alloc, Vec::from_slice(alloc, fails.1)?);
-    let status = post_mortem(alloc, &list, &mut files, &mut out);
+    let mut devices = DeviceSet::new(alloc);
+    let status = post_mortem(alloc, &list, &mut files, &mut out, &mut devices);
     let text = str::from_utf8(out.bytes())?;
     assert_eq!(rt; text, wanted.1);
     assert_eq!(rt; status.code(), wanted.0);

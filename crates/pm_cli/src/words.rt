@@ -2,17 +2,20 @@
 
 ghost use Rattle.std.specs.Prelude.{◌≡◌, map, None, Some, IfOk};
 ghost use Rattle.std.specs.String.{string_bytes};
-ghost use Rattle.pm_cli.specs.Words.{one_word, command};
+ghost use Rattle.pm_cli.specs.Words.{one_word, command, HasInvocations};
 
 use pm_text::Text;
+use run_words::{RunWords, run_words};
 use std::alloc::Global;
 use word_rules::{Options, WordsFault, read_words};
 
 /// A command with its words.
-#[derive(Debug, PartialEq, Eq, Drop)]
+#[derive(Drop)]
 pub enum Command {
     /// `check M`
     Check { module: Text },
+    /// `run M ENTRY [ARG ...] [+ ENTRY [ARG ...]] ...`
+    Run(RunWords),
     /// `show DUMP`
     Show { dump: Text },
 }
@@ -37,6 +40,7 @@ fn one_word(alloc: Global, words: &[String]) -> Result<Text, WordsFault>
 pub fn parse_words(alloc: Global, words: &[String]) -> Result<Command, WordsFault>
     ensures ok { IfOk result (λ c. command (map string_bytes words.now) ≡ Some c) }
     ensures usage { result ≡ Err WordsFault.Usage → command (map string_bytes words.now) ≡ None }
+    ensures some { IfOk result HasInvocations }
 {
     let Some((name, words)) = words.split_first() else {
         return Err(WordsFault::Usage);
@@ -45,6 +49,7 @@ pub fn parse_words(alloc: Global, words: &[String]) -> Result<Command, WordsFaul
         "check" => Ok(Command::Check {
             module: one_word(alloc, words)?,
         }),
+        "run" => Ok(Command::Run(run_words(alloc, words)?)),
         "show" => Ok(Command::Show {
             dump: one_word(alloc, words)?,
         }),

@@ -2,8 +2,11 @@
 #![tactic(auto)]
 
 use causes::NoMemory;
+use device_set::DeviceSet;
+use host_devices::{Console, Counter, Device};
 use pm_cli::{Status, post_mortem};
 use pm_outside::{HostFiles, HostOut};
+use std::alloc::Global;
 use std::process::ExitCode;
 use std::{env, io};
 
@@ -18,12 +21,34 @@ fn words(rt: &HostRuntime) -> Result<Vec<String>, NoMemory> {
     }
 }
 
+/// Attaches a device of a new name.
+fn attach(devices: &mut DeviceSet, device: Box<dyn Device>) -> Result<(), NoMemory> {
+    match devices.attach(device) {
+        Ok(_) => Ok(()),
+        Err(_) => Err(NoMemory),
+    }
+}
+
+/// The devices of the program: a console, whose calls are logged, and a counter.
+fn devices(alloc: Global) -> Result<DeviceSet, NoMemory> {
+    let mut devices = DeviceSet::new(alloc);
+    attach(
+        &mut devices,
+        Box::new(alloc, Console::new(alloc, Vec::new(alloc)))?,
+    )?;
+    attach(&mut devices, Box::new(alloc, Counter::new(alloc))?)?;
+    Ok(devices)
+}
+
 fn main(rt: HostRuntime) -> ExitCode {
     let Ok(words) = words(&rt) else {
         return ExitCode::from(Status::NoMemory.code());
     };
+    let Ok(mut devices) = devices(rt.alloc()) else {
+        return ExitCode::from(Status::NoMemory.code());
+    };
     let mut out = HostOut::new(io::writer(&rt));
     let mut files = HostFiles::new(rt.alloc(), rt);
-    let status = post_mortem(rt.alloc(), &words, &mut files, &mut out);
+    let status = post_mortem(rt.alloc(), &words, &mut files, &mut out, &mut devices);
     ExitCode::from(status.code())
 }

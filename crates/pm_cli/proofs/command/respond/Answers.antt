@@ -1,0 +1,16 @@
+use Rattle.std.proofs.Common.{map, ap, ◌∙◌, Some, Err}
+use Rattle.std.specs.String.{string_bytes}
+use Rattle.pm_cli.proofs.Respond.{check_answered, show_answered, usage_answered, run_answered}
+use Rattle.pm_cli.proofs.command.respond.Goals as goal
+
+pub returns-in-Ok-Check-clause-told : goal.returns-in-Ok-Check-clause-told
+returns-in-Ok-Check-clause-told g c = check_answered (g.F.Files.told c.args.files.now) (g.F.Files.told c.check_file.new.files) c.check_file.result (g.D.Devices.shown c.args.devices.now) (map string_bytes c.args.words.now) _ _ (c.in-Ok-Check.ensures.ok ∙ ap Some c.in-Ok-Check.field-0-is) c.as_str.ensures.value c.check_file.ensures.same c.check_file.ensures.told
+
+pub returns-in-Ok-Run-clause-told : goal.returns-in-Ok-Run-clause-told
+returns-in-Ok-Run-clause-told g c = run_answered (g.F.Files.told c.args.files.now) (g.F.Files.told c.run_file.new.files) c.run_file.result (g.D.Devices.shown c.args.devices.now) (g.D.Devices.shown c.run_file.new.devices) (map string_bytes c.args.words.now) _ (c.in-Ok-Run.ensures.ok ∙ ap Some c.in-Ok-Run.field-0-is) c.run_file.ensures.told
+
+pub returns-in-Ok-Show-clause-told : goal.returns-in-Ok-Show-clause-told
+returns-in-Ok-Show-clause-told g c = show_answered (g.F.Files.told c.args.files.now) (g.F.Files.told c.show_file.new.files) c.show_file.result (g.D.Devices.shown c.args.devices.now) (map string_bytes c.args.words.now) _ _ (c.in-Ok-Show.ensures.ok ∙ ap Some c.in-Ok-Show.field-0-is) c.as_str-in-Ok-Show.ensures.value c.show_file.ensures.same c.show_file.ensures.told
+
+pub returns-in-Err-Usage-clause-told : goal.returns-in-Err-Usage-clause-told
+returns-in-Err-Usage-clause-told g c = usage_answered (g.F.Files.told c.args.files.now) c.plain.result (g.D.Devices.shown c.args.devices.now) (map string_bytes c.args.words.now) (c.in-Err-Usage.ensures.usage (ap Err c.in-Err-Usage.field-0-is)) c.plain.ensures

@@ -1,0 +1,639 @@
+//! `run` over files in memory. What is wanted was worked out by hand from Core 4.4 and 4.5.
+
+use crate::post_mortem;
+use crate::run_modules::*;
+use device_set::DeviceSet;
+use host_devices::{Console, Counter, Device};
+use pm_outside::{MemFiles, MemSink};
+use std::alloc::Global;
+use std::process::Abort;
+use std::test::Fail;
+use wasm_syntax::Value;
+
+/// A module in the file `m`, replies in the file `r`, the words behind `run m`, the status and the text, and what `show core.wasm` prints
+/// then: nothing where no dump is written.
+struct Row {
+    source: &'static [u8],
+    line: &'static str,
+    replies: &'static str,
+    status: u8,
+    text: &'static str,
+    shown: &'static str,
+}
+
+const NUMBERS: [Row; 6] = [
+    Row {
+        source: &DIVISION,
+        line: "div i32:7 i32:0",
+        replies: "",
+        status: 1,
+        text: "trap 2 integer divide by zero\nat function 0 offset 5\nhost calls 0\n",
+        shown: "dump \"module\" frames 1\n#0 instance 0 function 0 offset 5 locals i32:7 i32:0 operands i32:7 i32:0\n",
+    },
+    Row {
+        source: &DIVISION,
+        line: "div i32:-2147483648 i32:-1",
+        replies: "",
+        status: 1,
+        text: "trap 3 integer overflow\nat function 0 offset 5\nhost calls 0\n",
+        shown: "dump \"module\" frames 1\n#0 instance 0 function 0 offset 5 locals i32:-2147483648 i32:-1 operands i32:-2147483648 i32:-1\n",
+    },
+    Row {
+        source: &REMAINDER,
+        line: "div i32:-2147483648 i32:-1",
+        replies: "",
+        status: 0,
+        text: "finished i32:0\nhost calls 0\n",
+        shown: "",
+    },
+    Row {
+        source: &NARROW_8,
+        line: "f i32:255",
+        replies: "",
+        status: 0,
+        text: "finished i32:-1\nhost calls 0\n",
+        shown: "",
+    },
+    Row {
+        source: &NARROW_16,
+        line: "f i32:32768",
+        replies: "",
+        status: 0,
+        text: "finished i32:-32768\nhost calls 0\n",
+        shown: "",
+    },
+    Row {
+        source: &DIVISION,
+        line: "--name= div i32:7 i32:0",
+        replies: "",
+        status: 1,
+        text: "trap 2 integer divide by zero\nat function 0 offset 5\nhost calls 0\n",
+        shown: "dump \"\" frames 1\n#0 instance 0 function 0 offset 5 locals i32:7 i32:0 operands i32:7 i32:0\n",
+    },
+];
+
+const MEMORIES: [Row; 11] = [
+    Row {
+        source: &LOADING,
+        line: "f i32:65532",
+        replies: "",
+        status: 0,
+        text: "finished i32:0\nhost calls 0\n",
+        shown: "",
+    },
+    Row {
+        source: &LOADING,
+        line: "f i32:65533",
+        replies: "",
+        status: 1,
+        text: "trap 4 out of bounds memory access\nat function 0 offset 3\nhost calls 0\n",
+        shown: "dump \"module\" frames 1\n#0 instance 0 function 0 offset 3 locals i32:65533 operands i32:65533\nmemory 1\n",
+    },
+    Row {
+        source: &FAR_LOADING,
+        line: "f i32:-1",
+        replies: "",
+        status: 1,
+        text: "trap 4 out of bounds memory access\nat function 0 offset 3\nhost calls 0\n",
+        shown: "dump \"module\" frames 1\n#0 instance 0 function 0 offset 3 locals i32:-1 operands i32:-1\nmemory 1\n",
+    },
+    Row {
+        source: &FAR_LOADING,
+        line: "f i32:0",
+        replies: "",
+        status: 1,
+        text: "trap 4 out of bounds memory access\nat function 0 offset 3\nhost calls 0\n",
+        shown: "dump \"module\" frames 1\n#0 instance 0 function 0 offset 3 locals i32:0 operands i32:0\nmemory 1\n",
+    },
+    Row {
+        source: &GROWING,
+        line: "f i32:4095",
+        replies: "",
+        status: 0,
+        text: "finished i32:1\nhost calls 0\n",
+        shown: "",
+    },
+    Row {
+        source: &GROWING,
+        line: "f i32:4096",
+        replies: "",
+        status: 0,
+        text: "finished i32:-1\nhost calls 0\n",
+        shown: "",
+    },
+    Row {
+        source: &FILLING,
+        line: "f i32:65532",
+        replies: "",
+        status: 0,
+        text: "finished i32:117901063\nhost calls 0\n",
+        shown: "",
+    },
+    Row {
+        source: &FILLING,
+        line: "f i32:65533",
+        replies: "",
+        status: 1,
+        text: "trap 4 out of bounds memory access\nat function 0 offset 7\nhost calls 0\n",
+        shown: "dump \"module\" frames 1\n#0 instance 0 function 0 offset 7 locals i32:65533 operands i32:65533 i32:7 i32:4\nmemory 1\n",
+    },
+    Row {
+        source: &FILLING_NONE,
+        line: "f i32:65536",
+        replies: "",
+        status: 0,
+        text: "finished i32:0\nhost calls 0\n",
+        shown: "",
+    },
+    Row {
+        source: &FILLING_NONE,
+        line: "f i32:65537",
+        replies: "",
+        status: 1,
+        text: "trap 4 out of bounds memory access\nat function 0 offset 7\nhost calls 0\n",
+        shown: "dump \"module\" frames 1\n#0 instance 0 function 0 offset 7 locals i32:65537 operands i32:65537 i32:7 i32:0\nmemory 1\n",
+    },
+    Row {
+        source: &COPYING,
+        line: "f i32:0",
+        replies: "",
+        status: 0,
+        text: "finished i32:67305985\nhost calls 0\n",
+        shown: "",
+    },
+];
+
+const CONTROL: [Row; 12] = [
+    Row {
+        source: &NESTED,
+        line: "f",
+        replies: "",
+        status: 1,
+        text: "trap 1 unreachable\nat function 0 offset 13\nhost calls 0\n",
+        shown: "dump \"module\" frames 1\n#0 instance 0 function 0 offset 13 locals - operands i32:1 i32:2 i32:3\n",
+    },
+    Row {
+        source: &TABLE_BRANCH,
+        line: "f i32:0",
+        replies: "",
+        status: 1,
+        text: "trap 1 unreachable\nat function 0 offset 27\nhost calls 0\n",
+        shown: "dump \"module\" frames 1\n#0 instance 0 function 0 offset 27 locals i32:0 operands i32:10 i32:57\n",
+    },
+    Row {
+        source: &TABLE_BRANCH,
+        line: "f i32:1",
+        replies: "",
+        status: 1,
+        text: "trap 1 unreachable\nat function 0 offset 27\nhost calls 0\n",
+        shown: "dump \"module\" frames 1\n#0 instance 0 function 0 offset 27 locals i32:1 operands i32:10 i32:27\n",
+    },
+    Row {
+        source: &TABLE_BRANCH,
+        line: "f i32:5",
+        replies: "",
+        status: 1,
+        text: "trap 1 unreachable\nat function 0 offset 27\nhost calls 0\n",
+        shown: "dump \"module\" frames 1\n#0 instance 0 function 0 offset 27 locals i32:5 operands i32:10 i32:7\n",
+    },
+    Row {
+        source: &INDIRECT,
+        line: "f i32:0",
+        replies: "",
+        status: 0,
+        text: "finished i32:42\nhost calls 0\n",
+        shown: "",
+    },
+    Row {
+        source: &INDIRECT,
+        line: "f i32:5",
+        replies: "",
+        status: 1,
+        text: "trap 5 undefined element\nat function 1 offset 3\nhost calls 0\n",
+        shown: "dump \"module\" frames 1\n#0 instance 0 function 1 offset 3 locals i32:5 operands i32:5\n",
+    },
+    Row {
+        source: &INDIRECT,
+        line: "f i32:2",
+        replies: "",
+        status: 1,
+        text: "trap 6 uninitialized element\nat function 1 offset 3\nhost calls 0\n",
+        shown: "dump \"module\" frames 1\n#0 instance 0 function 1 offset 3 locals i32:2 operands i32:2\n",
+    },
+    Row {
+        source: &INDIRECT,
+        line: "f i32:1",
+        replies: "",
+        status: 1,
+        text: "trap 7 indirect call type mismatch\nat function 1 offset 3\nhost calls 0\n",
+        shown: "dump \"module\" frames 1\n#0 instance 0 function 1 offset 3 locals i32:1 operands i32:1\n",
+    },
+    Row {
+        source: &INDIRECT_LONG,
+        line: "f i32:0",
+        replies: "",
+        status: 0,
+        text: "finished i32:42\nhost calls 0\n",
+        shown: "",
+    },
+    Row {
+        source: &INDIRECT_LONG,
+        line: "f i32:5",
+        replies: "",
+        status: 1,
+        text: "trap 5 undefined element\nat function 1 offset 3\nhost calls 0\n",
+        shown: "dump \"module\" frames 1\n#0 instance 0 function 1 offset 3 locals i32:5 operands i32:5\n",
+    },
+    Row {
+        source: &INDIRECT_LONG,
+        line: "f i32:2",
+        replies: "",
+        status: 1,
+        text: "trap 6 uninitialized element\nat function 1 offset 3\nhost calls 0\n",
+        shown: "dump \"module\" frames 1\n#0 instance 0 function 1 offset 3 locals i32:2 operands i32:2\n",
+    },
+    Row {
+        source: &INDIRECT_LONG,
+        line: "f i32:1",
+        replies: "",
+        status: 1,
+        text: "trap 7 indirect call type mismatch\nat function 1 offset 3\nhost calls 0\n",
+        shown: "dump \"module\" frames 1\n#0 instance 0 function 1 offset 3 locals i32:1 operands i32:1\n",
+    },
+];
+
+const CALLS: [Row; 5] = [
+    Row {
+        source: &RECURSIVE,
+        line: "--depth 3 f i32:2",
+        replies: "",
+        status: 1,
+        text: "trap 5 undefined element\nat function 0 offset 8\nhost calls 0\n",
+        shown: "dump \"module\" frames 3\n#0 instance 0 function 0 offset 8 locals i32:0 operands i32:9\n#1 instance 0 function 0 offset 17 locals i32:1 operands -\n#2 instance 0 function 0 offset 17 locals i32:2 operands -\n",
+    },
+    Row {
+        source: &RECURSIVE,
+        line: "--depth 3 f i32:3",
+        replies: "",
+        status: 1,
+        text: "trap 8 call stack exhausted\nat function 0 offset 17\nhost calls 0\n",
+        shown: "dump \"module\" frames 3\n#0 instance 0 function 0 offset 17 locals i32:1 operands i32:0\n#1 instance 0 function 0 offset 17 locals i32:2 operands -\n#2 instance 0 function 0 offset 17 locals i32:3 operands -\n",
+    },
+    Row {
+        source: &STARTING,
+        line: "f",
+        replies: "",
+        status: 1,
+        text: "trap 1 unreachable\nat function 0 offset 1\nhost calls 0\n",
+        shown: "dump \"module\" frames 1\n#0 instance 0 function 0 offset 1 locals - operands -\n",
+    },
+    Row {
+        source: &GLOBAL,
+        line: "f",
+        replies: "",
+        status: 1,
+        text: "trap 1 unreachable\nat function 0 offset 1\nhost calls 0\n",
+        shown: "dump \"module\" frames 1\n#0 instance 0 function 0 offset 1 locals - operands -\nglobal 0 i32:5\n",
+    },
+    Row {
+        source: &FAR_STORES,
+        line: "f",
+        replies: "",
+        status: 1,
+        text: "trap 1 unreachable\nat function 0 offset 19\nhost calls 0\n",
+        shown: "dump \"module\" frames 1\n#0 instance 0 function 0 offset 19 locals - operands -\nmemory 4096\n",
+    },
+];
+
+const FUELS_AND_CAUSES: [Row; 8] = [
+    Row {
+        source: &DIVISION,
+        line: "--fuel 4 div i32:8 i32:2",
+        replies: "",
+        status: 0,
+        text: "finished i32:4\nhost calls 0\n",
+        shown: "",
+    },
+    Row {
+        source: &DIVISION,
+        line: "--fuel 3 div i32:8 i32:2",
+        replies: "",
+        status: 10,
+        text: "fuel spent\n",
+        shown: "",
+    },
+    Row {
+        source: &DIVISION,
+        line: "--fuel=4x div i32:8 i32:2",
+        replies: "",
+        status: 2,
+        text: "usage: check, run, instrument, show, debug or selftest\n",
+        shown: "",
+    },
+    Row {
+        source: &DIVISION,
+        line: "--depth 10001 div i32:8 i32:2",
+        replies: "",
+        status: 2,
+        text: "usage: check, run, instrument, show, debug or selftest\n",
+        shown: "",
+    },
+    Row {
+        source: &DIVISION,
+        line: "--fuel 4 --fuel 4 div i32:8 i32:2",
+        replies: "",
+        status: 2,
+        text: "usage: check, run, instrument, show, debug or selftest\n",
+        shown: "",
+    },
+    Row {
+        source: &DIVISION,
+        line: "div i32:8",
+        replies: "",
+        status: 8,
+        text: "not started: arguments\n",
+        shown: "",
+    },
+    Row {
+        source: &EMPTY,
+        line: "main",
+        replies: "",
+        status: 8,
+        text: "not started: export \"main\"\n",
+        shown: "",
+    },
+    Row {
+        source: &READING,
+        line: "f",
+        replies: "",
+        status: 8,
+        text: "not started: import 0\n",
+        shown: "",
+    },
+];
+
+const REPLIES: [Row; 4] = [
+    Row {
+        source: &READING,
+        line: "--replies r f",
+        replies: "i32:9 16=01020304",
+        status: 1,
+        text: "trap 1 unreachable\nat function 1 offset 5\nhost calls 1\n",
+        shown: "dump \"module\" frames 1\n#0 instance 0 function 1 offset 5 locals - operands i32:9\nmemory 1\n",
+    },
+    Row {
+        source: &READING,
+        line: "--replies r f",
+        replies: "",
+        status: 9,
+        text: "host stopped: no reply for call 0\n",
+        shown: "",
+    },
+    Row {
+        source: &READING,
+        line: "--replies r f",
+        replies: "i64:9",
+        status: 9,
+        text: "host stopped: reply 0 does not fit\n",
+        shown: "",
+    },
+    Row {
+        source: &READING,
+        line: "--replies r f",
+        replies: "i32:9 16=0",
+        status: 17,
+        text: "bad replies at line 1\n",
+        shown: "",
+    },
+];
+
+const LISTS: [Row; 4] = [
+    Row {
+        source: &DIVISION,
+        line: "div i32:7 i32:0 + div i32:8 i32:2",
+        replies: "",
+        status: 1,
+        text: "trap 2 integer divide by zero\nat function 0 offset 5\nhost calls 0\nfinished i32:4\nhost calls 0\n",
+        shown: "dump \"module\" frames 1\n#0 instance 0 function 0 offset 5 locals i32:7 i32:0 operands i32:7 i32:0\n",
+    },
+    Row {
+        source: &COUNTING,
+        line: "f + f",
+        replies: "",
+        status: 1,
+        text: "trap 1 unreachable\nat function 0 offset 8\nhost calls 0\ntrap 1 unreachable\nat function 0 offset 8\nhost calls 0\n",
+        shown: "dump \"module\" frames 1\n#0 instance 0 function 0 offset 8 locals - operands -\nglobal 0 i32:1\n",
+    },
+    Row {
+        source: &RECURSIVE,
+        line: "--depth 3 f i32:3 + f i32:2",
+        replies: "",
+        status: 1,
+        text: "trap 8 call stack exhausted\nat function 0 offset 17\nhost calls 0\nnot invoked 1\n",
+        shown: "dump \"module\" frames 3\n#0 instance 0 function 0 offset 17 locals i32:1 operands i32:0\n#1 instance 0 function 0 offset 17 locals i32:2 operands -\n#2 instance 0 function 0 offset 17 locals i32:3 operands -\n",
+    },
+    Row {
+        source: &RECURSIVE,
+        line: "--depth 3 f i32:2 + f i32:3",
+        replies: "",
+        status: 1,
+        text: "trap 5 undefined element\nat function 0 offset 8\nhost calls 0\ntrap 8 call stack exhausted\nat function 0 offset 17\nhost calls 0\n",
+        shown: "dump \"module\" frames 3\n#0 instance 0 function 0 offset 8 locals i32:0 operands i32:9\n#1 instance 0 function 0 offset 17 locals i32:1 operands -\n#2 instance 0 function 0 offset 17 locals i32:2 operands -\n",
+    },
+];
+
+/// The words of a line behind these.
+fn words_of(alloc: Global, front: &[&str], line: &str) -> Result<Vec<String>, Fail> {
+    let mut words = Vec::new(alloc);
+    for word in front {
+        words.push(String::from_str(alloc, word)?)?;
+    }
+    for word in line.split(' ') {
+        words.push(String::from_str(alloc, word)?)?;
+    }
+    Ok(words)
+}
+
+/// The words are answered with this status and text.
+fn answers(
+    rt: &impl Abort,
+    alloc: Global,
+    words: &[String],
+    files: &mut MemFiles,
+    devices: &mut DeviceSet,
+    wanted: (u8, &str),
+) -> Result<(), Fail> {
+    let mut out = MemSink::new(alloc, Vec::new(alloc));
+    let status = post_mortem(alloc, words, files, &mut out, devices);
+    let text = str::from_utf8(out.bytes())?;
+    assert_eq!(rt; text, wanted.1);
+    assert_eq!(rt; status.code(), wanted.0);
+    Ok(())
+}
+
+/// Attaches a device of a new name.
+fn attach(rt: &impl Abort, devices: &mut DeviceSet, device: Box<dyn Device>) {
+    assert!(rt; matches!(devices.attach(device), Ok(None)));
+}
+
+/// Files with a module in `m` and replies in `r`.
+fn files_of(alloc: Global, source: &[u8], replies: &str) -> Result<MemFiles, Fail> {
+    let mut files = MemFiles::new(alloc, Vec::new(alloc));
+    files.add("m", source)?;
+    files.add("r", replies.as_bytes())?;
+    Ok(files)
+}
+
+/// The row holds.
+fn runs(rt: &impl Abort, alloc: Global, row: &Row) -> Result<(), Fail> {
+    let mut files = files_of(alloc, row.source, row.replies)?;
+    let mut devices = DeviceSet::new(alloc);
+    let words = words_of(alloc, &["run", "m"], row.line)?;
+    answers(
+        rt,
+        alloc,
+        &words,
+        &mut files,
+        &mut devices,
+        (row.status, row.text),
+    )?;
+    if row.shown.is_empty() {
+        assert!(rt; files.get("core.wasm").is_none());
+        return Ok(());
+    }
+    let words = words_of(alloc, &["show"], "core.wasm")?;
+    answers(rt, alloc, &words, &mut files, &mut devices, (0, row.shown))
+}
+
+fn all_run(rt: &impl Abort, alloc: Global, rows: &[Row]) -> Result<(), Fail> {
+    for row in rows {
+        runs(rt, alloc, row)?;
+    }
+    Ok(())
+}
+
+#[test]
+fn numbers_run(rt: HostRuntime) -> Result<(), Fail> {
+    all_run(&rt, rt.alloc(), &NUMBERS)
+}
+
+#[test]
+fn memories_run(rt: HostRuntime) -> Result<(), Fail> {
+    all_run(&rt, rt.alloc(), &MEMORIES)
+}
+
+#[test]
+fn control_run(rt: HostRuntime) -> Result<(), Fail> {
+    all_run(&rt, rt.alloc(), &CONTROL)
+}
+
+#[test]
+fn calls_run(rt: HostRuntime) -> Result<(), Fail> {
+    all_run(&rt, rt.alloc(), &CALLS)
+}
+
+#[test]
+fn fuels_and_causes_run(rt: HostRuntime) -> Result<(), Fail> {
+    all_run(&rt, rt.alloc(), &FUELS_AND_CAUSES)
+}
+
+#[test]
+fn replies_run(rt: HostRuntime) -> Result<(), Fail> {
+    all_run(&rt, rt.alloc(), &REPLIES)
+}
+
+#[test]
+fn lists_run(rt: HostRuntime) -> Result<(), Fail> {
+    all_run(&rt, rt.alloc(), &LISTS)
+}
+
+#[test]
+fn a_dump_is_written_byte_by_byte(rt: HostRuntime) -> Result<(), Fail> {
+    let alloc = rt.alloc();
+    let mut files = files_of(alloc, &DIVISION, "")?;
+    let mut devices = DeviceSet::new(alloc);
+    let words = words_of(alloc, &["run", "m"], "--dump d div i32:7 i32:0")?;
+    let text = "trap 2 integer divide by zero\nat function 0 offset 5\nhost calls 0\n";
+    answers(&rt, alloc, &words, &mut files, &mut devices, (1, text))?;
+    assert!(rt; files.get("d") == Some(DIVISION_DUMP.as_slice()));
+    assert!(rt; files.get("core.wasm").is_none());
+    Ok(())
+}
+
+#[test]
+fn each_trap_of_a_list_has_a_dump(rt: HostRuntime) -> Result<(), Fail> {
+    let alloc = rt.alloc();
+    let mut files = files_of(alloc, &COUNTING, "")?;
+    let mut devices = DeviceSet::new(alloc);
+    let words = words_of(alloc, &["run", "m"], "f + f")?;
+    let text = "trap 1 unreachable\nat function 0 offset 8\nhost calls 0\n\
+                trap 1 unreachable\nat function 0 offset 8\nhost calls 0\n";
+    answers(&rt, alloc, &words, &mut files, &mut devices, (1, text))?;
+    let words = words_of(alloc, &["show"], "core.wasm.1")?;
+    let shown =
+        "dump \"module\" frames 1\n#0 instance 0 function 0 offset 8 locals - operands -\nglobal 0 i32:2\n";
+    answers(&rt, alloc, &words, &mut files, &mut devices, (0, shown))?;
+    assert!(rt; files.get("core.wasm.2").is_none());
+    Ok(())
+}
+
+#[test]
+fn devices_serve_imports(rt: HostRuntime) -> Result<(), Fail> {
+    let alloc = rt.alloc();
+    let mut devices = DeviceSet::new(alloc);
+    attach(
+        &rt,
+        &mut devices,
+        Box::new(alloc, Console::new(alloc, Vec::new(alloc)))?,
+    );
+    attach(&rt, &mut devices, Box::new(alloc, Counter::new(alloc))?);
+    let mut files = files_of(alloc, &PRINTING, "")?;
+    let words = words_of(alloc, &["run", "m"], "f")?;
+    answers(
+        &rt,
+        alloc,
+        &words,
+        &mut files,
+        &mut devices,
+        (0, "finished\nhost calls 2\n"),
+    )?;
+    let mut files = files_of(alloc, &TWICE_NEXT, "")?;
+    // The first value is 0, the second one 1.
+    answers(
+        &rt,
+        alloc,
+        &words,
+        &mut files,
+        &mut devices,
+        (0, "finished i32:1\nhost calls 2\n"),
+    )
+}
+
+#[test]
+fn a_failing_device_stops_the_run(rt: HostRuntime) -> Result<(), Fail> {
+    let alloc = rt.alloc();
+    let mut devices = DeviceSet::new(alloc);
+    let failing = Vec::from_slice(alloc, &[1])?;
+    attach(
+        &rt,
+        &mut devices,
+        Box::new(alloc, Console::new(alloc, failing))?,
+    );
+    let mut files = files_of(alloc, &PRINTING, "")?;
+    let words = words_of(alloc, &["run", "m"], "f")?;
+    answers(
+        &rt,
+        alloc,
+        &words,
+        &mut files,
+        &mut devices,
+        (9, "host stopped: device \"console\"\n"),
+    )?;
+    let logged = match devices.get("console") {
+        Some(console) =>
+            matches!(console.log(), [served] if matches!(served.call.args.as_slice(), [Value::I32(1)])),
+        None => false,
+    };
+    assert!(rt; logged);
+    Ok(())
+}
