@@ -1,8 +1,10 @@
 //! `run` over files in memory. What is wanted was worked out by hand from Core 4.4 and 4.5.
 
+ghost use Rattle.device_set.specs.Sets.{AreDistinct, names};
+
 use crate::post_mortem;
 use crate::run_modules::*;
-use device_set::DeviceSet;
+use device_set::{DeviceSet, Devices};
 use host_devices::{Console, Counter, Device};
 use pm_outside::{MemFiles, MemSink};
 use std::alloc::Global;
@@ -455,14 +457,16 @@ fn words_of(alloc: Global, front: &[&str], line: &str) -> Result<Vec<String>, Fa
 }
 
 /// The words are answered with this status and text.
-fn answers(
+fn answers<D: Devices>(
     rt: &impl Abort,
     alloc: Global,
     words: &[String],
     files: &mut MemFiles,
-    devices: &mut DeviceSet,
+    devices: &mut D,
     wanted: (u8, &str),
-) -> Result<(), Fail> {
+) -> Result<(), Fail>
+    requires { AreDistinct (names (D.shown devices.old)) }
+{
     let mut out = MemSink::new(alloc, Vec::new(alloc));
     let status = post_mortem(alloc, words, files, &mut out, devices);
     let text = str::from_utf8(out.bytes())?;
@@ -471,8 +475,22 @@ fn answers(
     Ok(())
 }
 
+/// The same without devices.
+fn answers_alone(
+    rt: &impl Abort,
+    alloc: Global,
+    words: &[String],
+    files: &mut MemFiles,
+    wanted: (u8, &str),
+) -> Result<(), Fail> {
+    let mut devices = DeviceSet::new(alloc);
+    answers(rt, alloc, words, files, &mut devices, wanted)
+}
+
 /// Attaches a device of a new name.
-fn attach(rt: &impl Abort, devices: &mut DeviceSet, device: Box<dyn Device>) {
+fn attach(rt: &impl Abort, devices: &mut DeviceSet, device: Box<dyn Device>)
+    ensures { AreDistinct (names (⟦<DeviceSet as Devices>⟧.shown devices.old)) → AreDistinct (names (⟦<DeviceSet as Devices>⟧.shown devices.new)) }
+{
     assert!(rt; matches!(devices.attach(device), Ok(None)));
 }
 
@@ -487,22 +505,14 @@ fn files_of(alloc: Global, source: &[u8], replies: &str) -> Result<MemFiles, Fai
 /// The row holds.
 fn runs(rt: &impl Abort, alloc: Global, row: &Row) -> Result<(), Fail> {
     let mut files = files_of(alloc, row.source, row.replies)?;
-    let mut devices = DeviceSet::new(alloc);
     let words = words_of(alloc, &["run", "m"], row.line)?;
-    answers(
-        rt,
-        alloc,
-        &words,
-        &mut files,
-        &mut devices,
-        (row.status, row.text),
-    )?;
+    answers_alone(rt, alloc, &words, &mut files, (row.status, row.text))?;
     if row.shown.is_empty() {
         assert!(rt; files.get("core.wasm").is_none());
         return Ok(());
     }
     let words = words_of(alloc, &["show"], "core.wasm")?;
-    answers(rt, alloc, &words, &mut files, &mut devices, (0, row.shown))
+    answers_alone(rt, alloc, &words, &mut files, (0, row.shown))
 }
 
 fn all_run(rt: &impl Abort, alloc: Global, rows: &[Row]) -> Result<(), Fail> {
@@ -551,10 +561,9 @@ fn lists_run(rt: HostRuntime) -> Result<(), Fail> {
 fn a_dump_is_written_byte_by_byte(rt: HostRuntime) -> Result<(), Fail> {
     let alloc = rt.alloc();
     let mut files = files_of(alloc, &DIVISION, "")?;
-    let mut devices = DeviceSet::new(alloc);
     let words = words_of(alloc, &["run", "m"], "--dump d div i32:7 i32:0")?;
     let text = "trap 2 integer divide by zero\nat function 0 offset 5\nhost calls 0\n";
-    answers(&rt, alloc, &words, &mut files, &mut devices, (1, text))?;
+    answers_alone(&rt, alloc, &words, &mut files, (1, text))?;
     assert!(rt; files.get("d") == Some(DIVISION_DUMP.as_slice()));
     assert!(rt; files.get("core.wasm").is_none());
     Ok(())
@@ -564,74 +573,56 @@ fn a_dump_is_written_byte_by_byte(rt: HostRuntime) -> Result<(), Fail> {
 fn each_trap_of_a_list_has_a_dump(rt: HostRuntime) -> Result<(), Fail> {
     let alloc = rt.alloc();
     let mut files = files_of(alloc, &COUNTING, "")?;
-    let mut devices = DeviceSet::new(alloc);
     let words = words_of(alloc, &["run", "m"], "f + f")?;
     let text = "trap 1 unreachable\nat function 0 offset 8\nhost calls 0\n\
                 trap 1 unreachable\nat function 0 offset 8\nhost calls 0\n";
-    answers(&rt, alloc, &words, &mut files, &mut devices, (1, text))?;
+    answers_alone(&rt, alloc, &words, &mut files, (1, text))?;
     let words = words_of(alloc, &["show"], "core.wasm.1")?;
     let shown =
         "dump \"module\" frames 1\n#0 instance 0 function 0 offset 8 locals - operands -\nglobal 0 i32:2\n";
-    answers(&rt, alloc, &words, &mut files, &mut devices, (0, shown))?;
+    answers_alone(&rt, alloc, &words, &mut files, (0, shown))?;
     assert!(rt; files.get("core.wasm.2").is_none());
     Ok(())
 }
 
 #[test]
-fn devices_serve_imports(rt: HostRuntime) -> Result<(), Fail> {
+fn a_counter_counts(rt: HostRuntime) -> Result<(), Fail> {
     let alloc = rt.alloc();
     let mut devices = DeviceSet::new(alloc);
-    attach(
-        &rt,
-        &mut devices,
-        Box::new(alloc, Console::new(alloc, Vec::new(alloc)))?,
-    );
     attach(&rt, &mut devices, Box::new(alloc, Counter::new(alloc))?);
+    let mut files = files_of(alloc, &TWICE_NEXT, "")?;
+    let words = words_of(alloc, &["run", "m"], "f")?;
+    // The first value is 0, the second one 1.
+    let text = "finished i32:1\nhost calls 2\n";
+    answers(&rt, alloc, &words, &mut files, &mut devices, (0, text))
+}
+
+#[test]
+fn a_console_takes_calls(rt: HostRuntime) -> Result<(), Fail> {
+    let alloc = rt.alloc();
+    let mut devices = DeviceSet::new(alloc);
+    let console = Console::new(alloc, Vec::new(alloc));
+    attach(&rt, &mut devices, Box::new(alloc, console)?);
     let mut files = files_of(alloc, &PRINTING, "")?;
     let words = words_of(alloc, &["run", "m"], "f")?;
-    answers(
-        &rt,
-        alloc,
-        &words,
-        &mut files,
-        &mut devices,
-        (0, "finished\nhost calls 2\n"),
-    )?;
-    let mut files = files_of(alloc, &TWICE_NEXT, "")?;
-    // The first value is 0, the second one 1.
-    answers(
-        &rt,
-        alloc,
-        &words,
-        &mut files,
-        &mut devices,
-        (0, "finished i32:1\nhost calls 2\n"),
-    )
+    let text = "finished\nhost calls 2\n";
+    answers(&rt, alloc, &words, &mut files, &mut devices, (0, text))
 }
 
 #[test]
 fn a_failing_device_stops_the_run(rt: HostRuntime) -> Result<(), Fail> {
     let alloc = rt.alloc();
     let mut devices = DeviceSet::new(alloc);
-    let failing = Vec::from_slice(alloc, &[1])?;
-    attach(
-        &rt,
-        &mut devices,
-        Box::new(alloc, Console::new(alloc, failing))?,
-    );
+    let console = Console::new(alloc, Vec::from_slice(alloc, &[1])?);
+    attach(&rt, &mut devices, Box::new(alloc, console)?);
     let mut files = files_of(alloc, &PRINTING, "")?;
     let words = words_of(alloc, &["run", "m"], "f")?;
-    answers(
-        &rt,
-        alloc,
-        &words,
-        &mut files,
-        &mut devices,
-        (9, "host stopped: device \"console\"\n"),
-    )?;
+    let text = "host stopped: device \"console\"\n";
+    answers(&rt, alloc, &words, &mut files, &mut devices, (9, text))?;
     let logged = match devices.get("console") {
-        Some(console) =>
-            matches!(console.log(), [served] if matches!(served.call.args.as_slice(), [Value::I32(1)])),
+        Some(console) => {
+            matches!(console.log(), [served] if matches!(served.call.args.as_slice(), [Value::I32(1)]))
+        }
         None => false,
     };
     assert!(rt; logged);

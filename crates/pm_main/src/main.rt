@@ -1,8 +1,11 @@
-//! The program: the real files and output under the top call.
+//! The program: the real files, output and devices under the top call.
 #![tactic(auto)]
 
+ghost use Rattle.std.specs.Prelude.{IfOk};
+ghost use Rattle.device_set.specs.Sets.{AreDistinct, names};
+
 use causes::NoMemory;
-use device_set::DeviceSet;
+use device_set::{DeviceSet, Devices};
 use host_devices::{Console, Counter, Device};
 use pm_cli::{Status, post_mortem};
 use pm_outside::{HostFiles, HostOut};
@@ -22,7 +25,9 @@ fn words(rt: &HostRuntime) -> Result<Vec<String>, NoMemory> {
 }
 
 /// Attaches a device of a new name.
-fn attach(devices: &mut DeviceSet, device: Box<dyn Device>) -> Result<(), NoMemory> {
+fn attach(devices: &mut DeviceSet, device: Box<dyn Device>) -> Result<(), NoMemory>
+    ensures { AreDistinct (names (⟦<DeviceSet as Devices>⟧.shown devices.old)) → AreDistinct (names (⟦<DeviceSet as Devices>⟧.shown devices.new)) }
+{
     match devices.attach(device) {
         Ok(_) => Ok(()),
         Err(_) => Err(NoMemory),
@@ -30,7 +35,9 @@ fn attach(devices: &mut DeviceSet, device: Box<dyn Device>) -> Result<(), NoMemo
 }
 
 /// The devices of the program: a console, whose calls are logged, and a counter.
-fn devices(alloc: Global) -> Result<DeviceSet, NoMemory> {
+fn devices(alloc: Global) -> Result<DeviceSet, NoMemory>
+    ensures { IfOk result (λ d. AreDistinct (names (⟦<DeviceSet as Devices>⟧.shown d))) }
+{
     let mut devices = DeviceSet::new(alloc);
     attach(
         &mut devices,
