@@ -487,13 +487,6 @@ fn answers_alone(
     answers(rt, alloc, words, files, &mut devices, wanted)
 }
 
-/// Attaches a device of a new name.
-fn attach(rt: &impl Abort, devices: &mut DeviceSet, device: Box<dyn Device>)
-    ensures { AreDistinct (names (⟦<DeviceSet as Devices>⟧.shown devices.old)) → AreDistinct (names (⟦<DeviceSet as Devices>⟧.shown devices.new)) }
-{
-    assert!(rt; matches!(devices.attach(device), Ok(None)));
-}
-
 /// Files with a module in `m` and replies in `r`.
 fn files_of(alloc: Global, source: &[u8], replies: &str) -> Result<MemFiles, Fail> {
     let mut files = MemFiles::new(alloc, Vec::new(alloc));
@@ -589,7 +582,11 @@ fn each_trap_of_a_list_has_a_dump(rt: HostRuntime) -> Result<(), Fail> {
 fn a_counter_counts(rt: HostRuntime) -> Result<(), Fail> {
     let alloc = rt.alloc();
     let mut devices = DeviceSet::new(alloc);
-    attach(&rt, &mut devices, Box::new(alloc, Counter::new(alloc))?);
+    assert!(rt;
+        devices
+            .attach(Box::new(alloc, Counter::new(alloc))?)
+            .is_ok()
+    );
     let mut files = files_of(alloc, &TWICE_NEXT, "")?;
     let words = words_of(alloc, &["run", "m"], "f")?;
     // The first value is 0, the second one 1.
@@ -602,7 +599,7 @@ fn a_console_takes_calls(rt: HostRuntime) -> Result<(), Fail> {
     let alloc = rt.alloc();
     let mut devices = DeviceSet::new(alloc);
     let console = Console::new(alloc, Vec::new(alloc));
-    attach(&rt, &mut devices, Box::new(alloc, console)?);
+    assert!(rt; devices.attach(Box::new(alloc, console)?).is_ok());
     let mut files = files_of(alloc, &PRINTING, "")?;
     let words = words_of(alloc, &["run", "m"], "f")?;
     let text = "finished\nhost calls 2\n";
@@ -614,7 +611,7 @@ fn a_failing_device_stops_the_run(rt: HostRuntime) -> Result<(), Fail> {
     let alloc = rt.alloc();
     let mut devices = DeviceSet::new(alloc);
     let console = Console::new(alloc, Vec::from_slice(alloc, &[1])?);
-    attach(&rt, &mut devices, Box::new(alloc, console)?);
+    assert!(rt; devices.attach(Box::new(alloc, console)?).is_ok());
     let mut files = files_of(alloc, &PRINTING, "")?;
     let words = words_of(alloc, &["run", "m"], "f")?;
     let text = "host stopped: device \"console\"\n";

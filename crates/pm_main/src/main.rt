@@ -1,15 +1,11 @@
 //! The program: the real files, output and devices under the top call.
 #![tactic(auto)]
 
-ghost use Rattle.std.specs.Prelude.{IfOk};
-ghost use Rattle.device_set.specs.Sets.{AreDistinct, names};
-
 use causes::NoMemory;
-use device_set::{DeviceSet, Devices};
-use host_devices::{Console, Counter, Device};
+use device_set::DeviceSet;
+use host_devices::{Console, Counter};
 use pm_cli::{Status, post_mortem};
 use pm_outside::{HostFiles, HostOut};
-use std::alloc::Global;
 use std::process::ExitCode;
 use std::{env, io};
 
@@ -24,36 +20,24 @@ fn words(rt: &HostRuntime) -> Result<Vec<String>, NoMemory> {
     }
 }
 
-/// Attaches a device of a new name.
-fn attach(devices: &mut DeviceSet, device: Box<dyn Device>) -> Result<(), NoMemory>
-    ensures { AreDistinct (names (⟦<DeviceSet as Devices>⟧.shown devices.old)) → AreDistinct (names (⟦<DeviceSet as Devices>⟧.shown devices.new)) }
-{
-    match devices.attach(device) {
-        Ok(_) => Ok(()),
-        Err(_) => Err(NoMemory),
-    }
-}
-
-/// The devices of the program: a console, whose calls are logged, and a counter.
-fn devices(alloc: Global) -> Result<DeviceSet, NoMemory>
-    ensures { IfOk result (λ d. AreDistinct (names (⟦<DeviceSet as Devices>⟧.shown d))) }
-{
-    let mut devices = DeviceSet::new(alloc);
-    attach(
-        &mut devices,
-        Box::new(alloc, Console::new(alloc, Vec::new(alloc)))?,
-    )?;
-    attach(&mut devices, Box::new(alloc, Counter::new(alloc))?)?;
-    Ok(devices)
-}
-
 fn main(rt: HostRuntime) -> ExitCode {
     let Ok(words) = words(&rt) else {
         return ExitCode::from(Status::NoMemory.code());
     };
-    let Ok(mut devices) = devices(rt.alloc()) else {
+    let alloc = rt.alloc();
+    let mut devices = DeviceSet::new(alloc);
+    let Ok(console) = Box::new(alloc, Console::new(alloc, Vec::new(alloc))) else {
         return ExitCode::from(Status::NoMemory.code());
     };
+    if devices.attach(console).is_err() {
+        return ExitCode::from(Status::NoMemory.code());
+    }
+    let Ok(counter) = Box::new(alloc, Counter::new(alloc)) else {
+        return ExitCode::from(Status::NoMemory.code());
+    };
+    if devices.attach(counter).is_err() {
+        return ExitCode::from(Status::NoMemory.code());
+    }
     let mut out = HostOut::new(io::writer(&rt));
     let mut files = HostFiles::new(rt.alloc(), rt);
     let status = post_mortem(rt.alloc(), &words, &mut files, &mut out, &mut devices);
