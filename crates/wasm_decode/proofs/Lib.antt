@@ -1,6 +1,3 @@
-pub mod Vectors
-pub mod Instructions
-pub mod Header
 pub mod Counts
 pub mod Trees
 pub mod Targets

@@ -1,4 +1,3 @@
-pub mod Steps
 pub mod Decode
 pub mod Meaning
 pub mod Fit

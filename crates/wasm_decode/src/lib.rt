@@ -1,17 +1,10 @@
-//! The decoder of modules (Core 5).
+//! The decoder of modules (Core 5): the sections judged as a module within the limits, and the names of functions.
 #![tactic(auto)]
 
-mod bodies;
-mod collect;
-mod expression;
 mod fault;
-mod form;
-mod input;
 mod limits;
 mod module;
 mod name_section;
-mod noted;
-mod sections;
 
 pub use fault::DecodeFault;
 pub use module::decode;

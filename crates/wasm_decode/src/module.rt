@@ -11,10 +11,10 @@ ghost use Rattle.wasm_decode.specs.Fit.{Fit};
 
 use crate::fault::DecodeFault;
 use crate::limits::too_much;
-use crate::sections::spelled;
 use causes::NoMemory;
 use module_format::{Imported, SpelledModule};
 use pm_text::Items;
+use section_decode::spelled;
 use std::alloc::Global;
 use wasm_bytes::ItemFault;
 use wasm_syntax::{Imports, Module, ModuleParts, Quantity};

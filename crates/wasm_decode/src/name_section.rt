@@ -7,11 +7,10 @@ ghost use Rattle.wasm_bytes.specs.Reading.{steps_to_end};
 ghost use Rattle.wasm_bytes.specs.Answers.{Gives, with_state};
 ghost use Rattle.wasm_decode.specs.Names.{name_of, with_name, names_from, name_step, name_steps, names_item, subsection_step, names_in};
 
-use crate::collect::{Collect, collect_count};
-use crate::input::Input;
 use causes::NoMemory;
 use indexmap::IndexMap;
 use pm_text::Text;
+use section_decode::{Collect, Input, collect_count};
 use std::alloc::Global;
 use std::marker::Model;
 use wasm_bytes::ItemFault;
