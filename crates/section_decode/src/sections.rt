@@ -291,19 +291,30 @@ fn header(input: &mut Input<'_>) -> Result<(), ItemFault>
     Ok(())
 }
 
-/// All sections of a module. A body is due for each of its functions.
+/// Reads a whole module into one without sections. A body is due for each function.
 #[tactic(auto, unfolding(module_format::specs::Sections::sections_item, module_format::specs::Sections::module_item))]
-pub fn spelled(alloc: Global, bytes: &[u8]) -> Result<SpelledModule, ItemFault>
-    requires { length bytes.now < 2 ^ 32 }
-    ensures { GivesWhole result (whole module_item bytes.now) }
+fn read_whole(alloc: Global, spelled: &mut SpelledModule, bytes: &[u8]) -> Result<(), ItemFault>
+    requires small { length bytes.now < 2 ^ 32 }
+    requires empty { spelled.old ≡ no_sections }
+    requires counted { spelled.old.parts.plain_bytes ≡ 8 }
+    ensures { GivesWhole (with_state spelled.new result) (whole module_item bytes.now) }
 {
     let mut input = Input::new(bytes);
     header(&mut input)?;
-    let mut spelled = no_sections(alloc);
-    sections(alloc, &mut spelled, &mut input)?;
+    sections(alloc, spelled, &mut input)?;
     if spelled.parts.bodies.len() != spelled.parts.functions.len() {
         return Err(ItemFault::At(input.at() as usize));
     }
     input.end()?;
+    Ok(())
+}
+
+/// All sections of a module. A body is due for each of its functions.
+pub fn spelled(alloc: Global, bytes: &[u8]) -> Result<SpelledModule, ItemFault>
+    requires { length bytes.now < 2 ^ 32 }
+    ensures { GivesWhole result (whole module_item bytes.now) }
+{
+    let mut spelled = no_sections(alloc);
+    read_whole(alloc, &mut spelled, bytes)?;
     Ok(spelled)
 }
