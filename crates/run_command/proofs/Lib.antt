@@ -14,3 +14,4 @@ mod Ones
 mod Whole
 mod Refusals
 mod Commands
+mod Fewer
