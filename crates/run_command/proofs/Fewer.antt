@@ -7,7 +7,7 @@ use Rattle.wasm_syntax.specs.declared.host.CollectorCall.{CollectorCall}
 use Rattle.wasm_syntax.specs.Module.{Program, Function, imported, defined, function_at, function_export}
 use Rattle.wasm_syntax.specs.Host.{World, answer}
 use Rattle.wasm_syntax.specs.Machine.{Engine, Config, config, Stepped, next, ends, traps, no_reply, bad_reply, stuck, step, entered, host_call}
-use Rattle.wasm_syntax.specs.Run.{Ended, ended, run_on, run_steps, host_alone, run_alone, run_function, Ran, ran_to, not_begun, run_entry, go_on, invoked, goes_on, fresh, Invocation, session, unless, run, cause_of, Cause, engine, start_world}
+use Rattle.wasm_syntax.specs.Run.{Ended, ended, run_on, run_steps, host_alone, run_alone, run_function, Ran, ran_to, run_entry, go_on, invoked, goes_on, fresh, Invocation, session, unless, run, cause_of, Cause, engine, start_world}
 use Rattle.run_command.specs.RunText.{last_of}
 
 abbrev pub with_left : Ran → ℕ → Ran
