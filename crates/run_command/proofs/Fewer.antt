@@ -138,7 +138,7 @@ module _ (M : Engine) (d : ℕ) where
   function_fewer n m f e (Some (imported i type)) args w co few = alone_fewer n m e (host_call f i type args) w co few
   function_fewer n m f e (Some (defined body tree type)) args w co few = steps_fewer n m e (config (entered f body tree type args ∷ []) w co) few
 
--- ---- the start function and the entry
+  -- ---- the start function and the entry
 
   entry_fewer : (n m f : ℕ) → n ≡ m + d → (args : List Value) (w : World) (co : List CollectorCall) → d ≤ (run_entry M n f args w co).left → run_entry M m f args w co ≡ less_left d (run_entry M n f args w co)
   entry_fewer n m f e args w co few =
