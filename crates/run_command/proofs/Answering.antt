@@ -15,7 +15,7 @@ use Rattle.host_devices.specs.HostSides.{Calls}
 use Rattle.host_runs.specs.Hosted.{replies_of}
 use Rattle.entry_runs.specs.Settings.{world_of}
 use Rattle.entry_runs.specs.Invocations.{unfitting}
-use Rattle.device_set.specs.Sets.{is_named}
+use Rattle.device_set.specs.Sets.{DeviceState, names, count_of, is_named}
 use Rattle.wasm_machine.specs.Instances.{State, IsNew}
 use Rattle.run_words.specs.declared.words.RunWords.{RunWords}
 use Rattle.command_answers.specs.Texts.{ended}
@@ -28,7 +28,7 @@ use Rattle.run_command.specs.Answers.{device_cause, misfit_cause}
 use Rattle.run_command.specs.Ending.{host_stopped, end_status}
 use Rattle.run_command.specs.AllRan.{end_text, ran_to_end}
 use Rattle.run_command.specs.Sessions.{point_of, EndsIn, RanAll}
-use Rattle.run_command.specs.RunAnswer.{script_replies, UsesUp, EndUsesUp, RunsTo}
+use Rattle.run_command.specs.RunAnswer.{hosting, script_replies, UsesUp, EndUsesUp, HasFailed, EndHasFailed, RunsTo}
 
 -- ---- no cause, no refusal
 
@@ -92,6 +92,22 @@ uses_up h p m used_up left counts now given due (not_started cause) line is fact
 uses_up h p m used_up left counts now given due running line is facts ends = tt
 uses_up h p m used_up left counts now given due got_stuck line is facts ends = tt
 
+-- the device's count rose, where it has no reply for a call
+has_failed : (before after : List DeviceState) (p : Program) (m : Module) (used_up : Import → Bool) (left : List Reply) (counts now : List ℕ → ℕ) (given due : ℕ) (o : RunOutcome) (line : List ℕ) → p.module_ ≡ m → HostFacts (names before) used_up left counts now → ((device : List ℕ) → Rose (counts device) (now device) → Rose (count_of before device) (count_of after device)) → EndsIn p used_up counts now given due o line → HasFailed before after m o
+has_failed before after p m used_up left counts now given due (lacks_reply call) line is facts counted (inl ((i, there, up), e)) = λ some.
+    let named : is_named (names before) (module_of m.imports call.import) ≡ false = ap (λ n. is_named (names before) n) (ap (λ (x : Module). module_of x.imports call.import) (sym is) ∙ module_is p.module_.imports call.import i there) ∙ (facts.used i up).0 in
+    let clash : true ≡ false = sym some ∙ named in
+    absurd cc
+has_failed before after p m used_up left counts now given due (lacks_reply call) line is facts counted (inr (device, (i, there, name), rose, e)) = λ some.
+    let same : device ≡ module_of m.imports call.import = name ∙ sym (module_is p.module_.imports call.import i there) ∙ ap (λ (x : Module). module_of x.imports call.import) is in
+    subst (λ d. Rose (count_of before d) (count_of after d)) same (counted device rose)
+has_failed before after p m used_up left counts now given due (misfits call reply) line is facts counted ends = tt
+has_failed before after p m used_up left counts now given due (finished v) line is facts counted ends = tt
+has_failed before after p m used_up left counts now given due (trapped kind) line is facts counted ends = tt
+has_failed before after p m used_up left counts now given due (not_started cause) line is facts counted ends = tt
+has_failed before after p m used_up left counts now given due running line is facts counted ends = tt
+has_failed before after p m used_up left counts now given due got_stuck line is facts counted ends = tt
+
 -- ---- the answer
 
 not_begun : (asked made due : ℕ) → asked ≡ made + due → asked - made ≡ due
@@ -101,12 +117,13 @@ map_length : {A B : Type 0} (f : A → B) (xs : List A) → length (map f xs) �
 map_length f [] = refl
 map_length f (x ∷ xs) = ap suc (map_length f xs)
 
-pub runs_to : (h : Hosting) (w : RunWords) (m : Module) (p : Program) (used_up : Import → Bool) (counts now : List ℕ → ℕ) (left : List Reply) (s : State) (before after : Calls) (told_before told_after : Option Contents) (o : Outcome)
-    → p.module_ ≡ m → IsProgram p → IsNew m s → entries_text m (map invocation_of w.invocations) ≡ None → cause_of_segments m ≡ None → HostFacts h.names used_up left counts now
-    → (r : RanAll p (engine p false w.depth) w.dump w.name used_up counts now (point_of s (map invocation_of w.invocations) w.fuel) before after told_before told_after o)
-    → script_replies h.script ≡ replies_of (scripted h.names m.imports r.given) ++ left
-    → RunsTo h w m r.given o r.writes
-runs_to h w m p used_up counts now left s before after told_before told_after o of_module writes_out new entries segments facts r script =
+pub runs_to : (before after : List DeviceState) (script : Option (List Reply)) (w : RunWords) (m : Module) (p : Program) (used_up : Import → Bool) (counts now : List ℕ → ℕ) (left : List Reply) (s : State) (calls calls' : Calls) (told_before told_after : Option Contents) (o : Outcome)
+    → p.module_ ≡ m → IsProgram p → IsNew m s → entries_text m (map invocation_of w.invocations) ≡ None → cause_of_segments m ≡ None → HostFacts (names before) used_up left counts now
+    → ((device : List ℕ) → Rose (counts device) (now device) → Rose (count_of before device) (count_of after device))
+    → (r : RanAll p (engine p false w.depth) w.dump w.name used_up counts now (point_of s (map invocation_of w.invocations) w.fuel) calls calls' told_before told_after o)
+    → script_replies script ≡ replies_of (scripted (names before) m.imports r.given) ++ left
+    → RunsTo before after script w m r.given o r.writes
+runs_to before after script w m p used_up counts now left s calls calls' told_before told_after o of_module writes_out new entries segments facts counted r of_script =
     let is = map invocation_of w.invocations in
     let M = engine p false w.depth in
     let e = r.has_ended in
@@ -124,14 +141,15 @@ runs_to h w m p used_up counts now left s before after told_before told_after o 
           ∙ sym (ap (λ c. unless M c is (replies_of r.given) w.fuel) cause);
       all_given = e.came_of.given;
       left = left;
-      by_script = script;
-      used_up = subst (λ l. EndUsesUp h m left l) (sym e.last) (uses_up h p m used_up left counts now (length r.given) r.due r.last.outcome r.line of_module facts r.ends);
+      by_script = of_script;
+      used_up = subst (λ l. EndUsesUp (hosting before script) m left l) (sym e.last) (uses_up (hosting before script) p m used_up left counts now (length r.given) r.due r.last.outcome r.line of_module facts r.ends);
+      failed = subst (λ l. EndHasFailed before after m l) (sym e.last) (has_failed before after p m used_up left counts now (length r.given) r.due r.last.outcome r.line of_module facts counted r.ends);
       answer = r.answer
           ∙ ap (λ k. ended (end_status k r.last.outcome) (r.lines.text ++ r.line)) e.came_of.traps
           ∙ ap (λ t. ended (end_status (traps_in e.rans) r.last.outcome) (t ++ r.line)) e.came_of.text
-          ∙ ap (λ t. ended (end_status (traps_in e.rans) r.last.outcome) (flat_map invocation_text e.rans ++ t)) (line_is h.names p m.imports used_up left counts now (length r.given) (fitted e.rans) r.due r.last.outcome r.line (ap (λ (x : Module). x.imports) (sym of_module)) facts e.fit r.ends)
-          ∙ ap (λ k. ended (end_status (traps_in e.rans) r.last.outcome) (flat_map invocation_text e.rans ++ end_text h.names m.imports (fitted e.rans) k r.last.outcome)) (sym due)
-          ∙ ap (λ l. ran_to_end h.names m.imports (length w.invocations) e.rans l) (sym e.last);
+          ∙ ap (λ t. ended (end_status (traps_in e.rans) r.last.outcome) (flat_map invocation_text e.rans ++ t)) (line_is (names before) p m.imports used_up left counts now (length r.given) (fitted e.rans) r.due r.last.outcome r.line (ap (λ (x : Module). x.imports) (sym of_module)) facts e.fit r.ends)
+          ∙ ap (λ k. ended (end_status (traps_in e.rans) r.last.outcome) (flat_map invocation_text e.rans ++ end_text (names before) m.imports (fitted e.rans) k r.last.outcome)) (sym due)
+          ∙ ap (λ l. ran_to_end (names before) m.imports (length w.invocations) e.rans l) (sym e.last);
       dumps = e.came_of.writes;
     }
   where

@@ -1,5 +1,5 @@
 -- What a host side of devices and a script has given in a run.
-use Rattle.std.proofs.Common.{◌≡◌, ℕ, zero, suc, ◌+◌, ◌<◌, Bool, true, false, List, [], ◌∷◌, ◌++◌, map, take, drop, refl, sym, ap, ap₂, ◌∙◌, inl, inr, arith, Option, Some, None}
+use Rattle.std.proofs.Common.{◌≡◌, ℕ, zero, suc, ◌+◌, ◌<◌, Bool, true, false, List, [], ◌∷◌, ◌++◌, map, take, drop, refl, sym, ap, ap₂, ◌∙◌, subst, inl, inr, arith, Option, Some, None}
 use Rattle.std.specs.Prelude.{◌≤◌, ◌⊎◌, length, get_or, not, cond, slice_get, is_some, is_none, bytes_eq}
 use Rattle.std.proofs.lemmas.List.{take-append-drop, drop_all}
 use Rattle.std.proofs.lemmas.Option.{slice_get_cases}
@@ -71,6 +71,11 @@ rose_named a b ns device first later rose = by_test (is_named ns device) refl
     by_test : (t : Bool) → is_named ns device ≡ t → is_named ns device ≡ true
     by_test true e = e
     by_test false e = absurd (no_rise (count_of a device) (count_of b device) (count_none a device (ap (λ l. is_named l device) first ∙ e)) (count_none b device (ap (λ l. is_named l device) later ∙ e)) rose)
+
+-- a count that rose on the host side rose on the devices
+pub rose_on : (before after first last : List DeviceState) (device : List ℕ) → first ≡ before → after ≡ last → Rose (count_of first device) (count_of last device) → Rose (count_of before device) (count_of after device)
+rose_on before after first last device began back rose =
+    subst (λ ds. Rose (count_of ds device) (count_of after device)) began (subst (λ ds. Rose (count_of first device) (count_of ds device)) (sym back) rose)
 
 -- ---- a host side at its begin and its end
 

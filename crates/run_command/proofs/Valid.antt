@@ -35,7 +35,7 @@ use Rattle.run_command.specs.RunAnswer.{hosting, script_replies, RunsTo, Logs, S
 use Rattle.run_command.specs.Steps.{IsAnswered}
 use Rattle.run_command.proofs.Ends.{on_all}
 use Rattle.run_command.proofs.Answering.{none_then, runs_to}
-use Rattle.run_command.proofs.Hostings.{Began, GaveBack, host_facts, by_script, logs}
+use Rattle.run_command.proofs.Hostings.{Began, GaveBack, host_facts, by_script, logs, rose_on}
 
 -- ---- facts on results
 
@@ -121,7 +121,7 @@ no_refusal p used_up counts now given due traps (not_started cause) line P ends 
 no_refusal p used_up counts now given due traps got_stuck line P ends = absurd ends
 
 abbrev pub Runs : (before after : List DeviceState) → Option (List Reply) → RunWords → Module → Contents → Contents → Outcome → Type 0
-Runs before after script w m held then_held o = IsAnswered (λ given writes o. RunsTo (hosting before script) w m given o writes × Logs m given before after) before after held then_held o
+Runs before after script w m held then_held o = IsAnswered (λ given writes o. RunsTo before after script w m given o writes × Logs m given before after) before after held then_held o
 
 hosted_by : (p : Program) (result : Result Outcome WantOfMemory) (before after : List DeviceState) (script : Option (List Reply)) (w : RunWords) (s : State) (h0 h1 : HostsState) (told told' : Option Contents)
     → p.module_ ≡ s.module_ → IsProgram p → IsNew s.module_ s → entries_text s.module_ (map invocation_of w.invocations) ≡ None → cause_of_segments s.module_ ≡ None
@@ -136,8 +136,8 @@ hosted_by p result before after script w s h0 h1 told told' of_module writes_out
       given = r.given;
       writes = r.writes;
       answer = (
-        runs_to (hosting before script) w s.module_ p (is_used_up h1) (count_of h0.devices) (count_of h1.devices) (drop h1.given (script_replies script)) s (calls_of h0) (calls_of h1) (Some held) (Some then_held) o
-            of_module writes_out new entries segments (host_facts s.module_.imports before script h0 h1 began same) r (by_script s.module_.imports before script h0 h1 began same after back r.given r.grew),
+        runs_to before after script w s.module_ p (is_used_up h1) (count_of h0.devices) (count_of h1.devices) (drop h1.given (script_replies script)) s (calls_of h0) (calls_of h1) (Some held) (Some then_held) o
+            of_module writes_out new entries segments (host_facts s.module_.imports before script h0 h1 began same) (λ device. rose_on before after h0.devices h1.devices device began.devices_are back.devices) r (by_script s.module_.imports before script h0 h1 began same after back r.given r.grew),
         logs s.module_ before after script h0 h1 began same back r.given r.grew,
       );
       files = r.files;
@@ -166,7 +166,7 @@ refused_told (Ok o) before script w m (Some held) cause starts is =
     on_all o.status _ record {
       given = [];
       writes = [];
-      answer = subst (λ t. StartsOr t (RunsTo (hosting before script) w m [] o [] × Logs m [] before before) o) (sym starts) is;
+      answer = subst (λ t. StartsOr t (RunsTo before before script w m [] o [] × Logs m [] before before) o) (sym starts) is;
       files = λ name. refl;
       untouched = subst (λ t. IfRefusal t (IsUntouched before before [] [])) (sym (ap (λ (x : Outcome). x.status) is)) (record { devices = refl; given_none = refl; writes_none = refl });
     }
@@ -206,7 +206,7 @@ valid_told result before after script w m n told told' same starts runs =
     (λ held then_held o a. record {
       given = a.given;
       writes = a.writes;
-      answer = subst (λ t. StartsOr t (RunsTo (hosting before script) w n a.given o a.writes × Logs n a.given before after) o) (sym starts) a.answer;
+      answer = subst (λ t. StartsOr t (RunsTo before after script w n a.given o a.writes × Logs n a.given before after) o) (sym starts) a.answer;
       files = a.files;
       untouched = a.untouched;
     })

@@ -1,6 +1,7 @@
 -- What `run` answers, and what it writes.
 use Rattle.std.specs.Prelude.{◌≡◌, ℕ, ◌⊎◌, true, false, List, [], ◌∷◌, ◌++◌, map, length, Option, Some, None, Result, Ok, Err, codes}
 use Rattle.std.specs.Fmt.{decimal}
+use Rattle.causes.specs.Counts.{Rose}
 use Rattle.pm_outside.specs.Contents.{Contents}
 use Rattle.wasm_syntax.specs.declared.quantity.Quantity.TheVariants.{ModuleBytes, RepliesBytes}
 use Rattle.wasm_syntax.specs.declared.host.Reply.{Reply}
@@ -19,7 +20,7 @@ use Rattle.command_answers.specs.declared.status.Status.TheVariants as status
 use Rattle.run_words.specs.declared.words.RunWords.{RunWords}
 use Rattle.run_command.specs.RunText.{dump_name, dumps_from, last_of}
 use Rattle.host_runs.specs.Hosted.{replies_of}
-use Rattle.device_set.specs.Sets.{DeviceState, names, log_of, is_named}
+use Rattle.device_set.specs.Sets.{DeviceState, names, count_of, log_of, is_named}
 use Rattle.run_command.specs.Given.{given_in, module_of, from_module}
 use Rattle.run_command.specs.Written.{Writes}
 use Rattle.run_command.specs.Starting.{invocation_of, not_started_with}
@@ -44,6 +45,21 @@ abbrev pub EndUsesUp : Hosting → Module → List Reply → Option Ran → Type
 EndUsesUp h m left None = Unit {0}
 EndUsesUp h m left (Some r) = UsesUp h m left r.outcome
 
+-- the count of a device rose, where a call that it serves has no reply
+abbrev pub HasFailed : (before after : List DeviceState) → Module → RunOutcome → Type 0
+HasFailed before after m (lacks_reply call) =
+    is_named (names before) (module_of m.imports call.import) ≡ true → Rose (count_of before (module_of m.imports call.import)) (count_of after (module_of m.imports call.import))
+HasFailed before after m (misfits call reply) = Unit {0}
+HasFailed before after m (finished v) = Unit {0}
+HasFailed before after m (trapped kind) = Unit {0}
+HasFailed before after m (not_started cause) = Unit {0}
+HasFailed before after m running = Unit {0}
+HasFailed before after m got_stuck = Unit {0}
+
+abbrev pub EndHasFailed : (before after : List DeviceState) → Module → Option Ran → Type 0
+EndHasFailed before after m None = Unit {0}
+EndHasFailed before after m (Some r) = HasFailed before after m r.outcome
+
 -- ---- the answer
 
 -- each device has logged what was given to its imports
@@ -54,8 +70,8 @@ pub record Logs (m : Module) (given : List Served) (before after : List DeviceSt
 abbrev pub hosting : List DeviceState → Option (List Reply) → Hosting
 hosting devices script = record { names = names devices; script = script }
 
--- what the invocations come to on the replies that were given, those of the script being its first ones
-pub record RunsTo (h : Hosting) (w : RunWords) (m : Module) (given : List Served) (o : Outcome) (writes : Writes) : Type 0 where
+-- what the invocations come to on the replies that were given, those of the script being its first ones; a device that gives none has failed
+pub record RunsTo (before after : List DeviceState) (script : Option (List Reply)) (w : RunWords) (m : Module) (given : List Served) (o : Outcome) (writes : Writes) : Type 0 where
   pub program : Program
   pub of_module : program.module_ ≡ m
   pub writes_out : IsProgram program
@@ -63,9 +79,10 @@ pub record RunsTo (h : Hosting) (w : RunWords) (m : Module) (given : List Served
   pub runs : rans ≡ run program false (map invocation_of w.invocations) (replies_of given) w.depth w.fuel
   pub all_given : given ≡ given_in rans
   pub left : List Reply
-  pub by_script : script_replies h.script ≡ replies_of (scripted h.names m.imports given) ++ left
-  pub used_up : EndUsesUp h m left (last_of rans)
-  pub answer : o ≡ all_ran h.names m.imports (length w.invocations) rans
+  pub by_script : script_replies script ≡ replies_of (scripted (names before) m.imports given) ++ left
+  pub used_up : EndUsesUp (hosting before script) m left (last_of rans)
+  pub failed : EndHasFailed before after m (last_of rans)
+  pub answer : o ≡ all_ran (names before) m.imports (length w.invocations) rans
   pub dumps : writes ≡ dumps_from w.dump w.name 0 rans
 
 abbrev pub StartsOr : Option (List ℕ) → Type 0 → Outcome → Type 0
@@ -74,7 +91,7 @@ StartsOr None P o = P
 
 abbrev pub ModuleAnswer : (before after : List DeviceState) → RunWords → List Served → Writes → Option (List Reply) → Module → Outcome → Type 0
 ModuleAnswer before after w given writes script m o =
-    StartsOr (start_text (hosting before script) m (map invocation_of w.invocations)) (RunsTo (hosting before script) w m given o writes × Logs m given before after) o
+    StartsOr (start_text (hosting before script) m (map invocation_of w.invocations)) (RunsTo before after script w m given o writes × Logs m given before after) o
 
 -- the bytes of the file of replies, where one is asked for
 abbrev pub replies_input : Option (List ℕ) → Contents → Result (Option (List ℕ)) Outcome

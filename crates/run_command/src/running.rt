@@ -75,7 +75,7 @@ fn run_hosted<F: Files, D: Devices>(
     requires entries { entries_text instance.old.module_ (map invocation_of words.now.invocations) ≡ None }
     requires imports { first_unserved (hosting (D.shown devices.old) script) instance.old.module_ ≡ None }
     requires segments { cause_of_segments instance.old.module_ ≡ None }
-    ensures told { IfSome (F.told files.old) (λ held. IfSome (F.told files.new) (λ then. IfOk result (λ o. UnlessFault o.status (IsAnswered (λ given writes o. RunsTo (hosting (D.shown devices.old) script) words.now instance.old.module_ given o writes × Logs instance.old.module_ given (D.shown devices.old) (D.shown devices.new)) (D.shown devices.old) (D.shown devices.new) held then o)))) }
+    ensures told { IfSome (F.told files.old) (λ held. IfSome (F.told files.new) (λ then. IfOk result (λ o. UnlessFault o.status (IsAnswered (λ given writes o. RunsTo (D.shown devices.old) (D.shown devices.new) script words.now instance.old.module_ given o writes × Logs instance.old.module_ given (D.shown devices.old) (D.shown devices.new)) (D.shown devices.old) (D.shown devices.new) held then o)))) }
     ensures fault { IfOk result (λ o. o.status ≡ Status.FileFault → IsDumpFault words.now.dump o × Rose (F.faults files.old) (F.faults files.new)) }
     ensures memory { IfOk result (λ o. o.status ≢ Status.NoMemory) }
     ensures telling { is_some (F.told files.new) ≡ is_some (F.told files.old) }
