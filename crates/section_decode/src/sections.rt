@@ -291,7 +291,8 @@ fn header(input: &mut Input<'_>) -> Result<(), ItemFault>
     Ok(())
 }
 
-/// Reads a whole module into one without sections. A body is due for each function.
+/// Reads a whole module into one without sections, which its caller drops, at one place, where this fails. A body is due for
+/// each of the module's functions.
 #[tactic(auto, unfolding(module_format::specs::Sections::sections_item, module_format::specs::Sections::module_item))]
 fn read_whole(alloc: Global, spelled: &mut SpelledModule, bytes: &[u8]) -> Result<(), ItemFault>
     requires small { length bytes.now < 2 ^ 32 }
