@@ -3,6 +3,7 @@ use crate::{
     first_refused, start,
 };
 use std::alloc::Global;
+use std::test::Fail;
 use wasm_decode::decode;
 use wasm_syntax::{Text, Value, Values};
 use wasm_validate::{Validated, validate};
@@ -39,26 +40,42 @@ fn valid(alloc: Global, bytes: &[u8]) -> Option<Validated> {
     }
 }
 
-fn started(alloc: Global, bytes: &[u8]) -> Option<Result<Started, StartFault>> {
-    match valid(alloc, bytes) {
+fn started(alloc: Global, valid: Option<Validated>) -> Option<Result<Started, StartFault>> {
+    match valid {
         Some(v) => Some(start(alloc, v.module().parts())),
         None => None,
     }
 }
 
 fn fault(alloc: Global, bytes: &[u8]) -> Option<StartFault> {
-    match started(alloc, bytes) {
+    match started(alloc, valid(alloc, bytes)) {
         Some(Err(fault)) => Some(fault),
         _ => None,
     }
 }
 
+fn tells_the_data(alloc: Global) -> bool {
+    matches!(
+        fault(alloc, &DATA_OUT),
+        Some(StartFault::DataOut { index: 1 })
+    )
+}
+
+fn tells_the_element(alloc: Global) -> bool {
+    matches!(
+        fault(alloc, &BOTH_OUT),
+        Some(StartFault::ElementOut { index: 0 })
+    )
+}
+
 #[test]
 fn the_first_segment_that_is_out_is_told(rt: HostRuntime) {
-    let data = fault(rt.alloc(), &DATA_OUT);
-    assert!(rt; matches!(data, Some(StartFault::DataOut { index: 1 })));
-    let both = fault(rt.alloc(), &BOTH_OUT);
-    assert!(rt; matches!(both, Some(StartFault::ElementOut { index: 0 })));
+    assert!(rt; tells_the_data(rt.alloc()));
+    assert!(rt; tells_the_element(rt.alloc()));
+}
+
+fn filled(alloc: Global) -> Option<Validated> {
+    valid(alloc, &FILLED)
 }
 
 /// The four bytes of the memory from a place on, the lowest first.
@@ -75,34 +92,41 @@ fn is_filled(instance: &Started) -> bool {
         && word_at(instance, 65_532) == Some(0x6361_0000)
 }
 
-#[test]
-fn later_segments_lie_over_earlier_ones(rt: HostRuntime) {
-    let filled = match started(rt.alloc(), &FILLED) {
+fn starts_filled(alloc: Global) -> bool {
+    match started(alloc, filled(alloc)) {
         Some(Ok(instance)) => is_filled(&instance),
         _ => false,
-    };
-    assert!(rt; filled);
+    }
+}
+
+#[test]
+fn later_segments_lie_over_earlier_ones(rt: HostRuntime) {
+    assert!(rt; starts_filled(rt.alloc()));
 }
 
 /// Why an entry of the module may not be invoked, if the module is valid.
 fn entry_of_filled(alloc: Global, entry: &str, args: &[Value]) -> Option<Option<EntryFault>> {
-    match valid(alloc, &FILLED) {
+    match filled(alloc) {
         Some(v) => Some(entry_fault(v.module().parts(), entry, args)),
         None => None,
     }
 }
 
+fn is_refused(alloc: Global, entry: &str, args: &[Value], fault: EntryFault) -> bool {
+    entry_of_filled(alloc, entry, args) == Some(Some(fault))
+}
+
+fn is_allowed(alloc: Global, entry: &str, args: &[Value]) -> bool {
+    matches!(entry_of_filled(alloc, entry, args), Some(None))
+}
+
 #[test]
 fn an_entry_is_exported_and_takes_its_arguments(rt: HostRuntime) {
     let alloc = rt.alloc();
-    let other = entry_of_filled(alloc, "g", &[]);
-    assert!(rt; matches!(other, Some(Some(EntryFault::NoExport))));
-    let fewer = entry_of_filled(alloc, "f", &[]);
-    assert!(rt; matches!(fewer, Some(Some(EntryFault::BadArguments))));
-    let wide = entry_of_filled(alloc, "f", &[Value::I64(7)]);
-    assert!(rt; matches!(wide, Some(Some(EntryFault::BadArguments))));
-    let fine = entry_of_filled(alloc, "f", &[Value::I32(7)]);
-    assert!(rt; matches!(fine, Some(None)));
+    assert!(rt; is_refused(alloc, "g", &[], EntryFault::NoExport));
+    assert!(rt; is_refused(alloc, "f", &[], EntryFault::BadArguments));
+    assert!(rt; is_refused(alloc, "f", &[Value::I64(7)], EntryFault::BadArguments));
+    assert!(rt; is_allowed(alloc, "f", &[Value::I32(7)]));
 }
 
 fn invocation(alloc: Global, entry: &str, args: &[Value]) -> Result<Invocation, NoMemory> {
@@ -112,21 +136,36 @@ fn invocation(alloc: Global, entry: &str, args: &[Value]) -> Result<Invocation, 
     })
 }
 
+fn push(
+    alloc: Global,
+    list: &mut Invocations,
+    entry: &str,
+    args: &[Value],
+) -> Result<(), NoMemory> {
+    list.push(invocation(alloc, entry, args)?)?;
+    Ok(())
+}
+
 /// One that may begin, one with too few arguments, and one under a name that is not exported.
 fn three(alloc: Global) -> Result<Invocations, NoMemory> {
     let mut list = Invocations::new(alloc);
-    list.push(invocation(alloc, "f", &[Value::I32(7)])?)?;
-    list.push(invocation(alloc, "f", &[])?)?;
-    list.push(invocation(alloc, "g", &[])?)?;
+    push(alloc, &mut list, "f", &[Value::I32(7)])?;
+    push(alloc, &mut list, "f", &[])?;
+    push(alloc, &mut list, "g", &[])?;
     Ok(list)
 }
 
+fn first_of(alloc: Global, list: &[Invocation]) -> Option<RefusedEntry> {
+    match filled(alloc) {
+        Some(v) => first_refused(v.module().parts(), list),
+        None => None,
+    }
+}
+
 #[test]
-fn the_first_refused_invocation_is_told(rt: HostRuntime) {
-    let found = match (valid(rt.alloc(), &FILLED), three(rt.alloc())) {
-        (Some(v), Ok(list)) => first_refused(v.module().parts(), list.as_slice()),
-        _ => None,
-    };
+fn the_first_refused_invocation_is_told(rt: HostRuntime) -> Result<(), Fail> {
+    let list = three(rt.alloc())?;
     let fault = EntryFault::BadArguments;
-    assert!(rt; found == Some(RefusedEntry { index: 1, fault }));
+    assert!(rt; first_of(rt.alloc(), list.as_slice()) == Some(RefusedEntry { index: 1, fault }));
+    Ok(())
 }
