@@ -1,10 +1,13 @@
 //! Dumps byte by byte. What is expected was put together by hand from the layout of the sections.
 
+ghost use Rattle.std.specs.Prelude.{◌≤◌};
+ghost use Rattle.dump_format.specs.Form.{pages_of};
+ghost use Rattle.dump_format.specs.Contained.{IsContained};
+
 use crate::{dump_bytes, write_dump};
-use dump_format::decode_dump;
+use dump_format::{Dump, decode_dump};
 use pm_outside::{MemFiles, WriteAnswer};
 use std::alloc::{AllocError, Global};
-use std::test::Fail;
 
 /// A trap in a module of one function: one frame, no memory, no globals.
 const TRAP: [u8; 100] = [
@@ -41,46 +44,85 @@ fn page(alloc: Global, at: usize, byte: u8) -> Result<Vec<u8>, AllocError> {
     Ok(page)
 }
 
-/// A file of these pieces, read as a dump, whose canonical bytes are returned.
-fn rewritten(alloc: Global, pieces: &[&[u8]]) -> Result<Vec<u8>, Fail> {
+fn joined(alloc: Global, pieces: &[&[u8]]) -> Result<Vec<u8>, AllocError> {
     let mut bytes = Vec::new(alloc);
     for piece in pieces {
         bytes.extend_from_slice(piece)?;
     }
-    let dump = decode_dump(alloc, &bytes)?;
-    Ok(dump_bytes(alloc, &dump)?)
+    Ok(bytes)
+}
+
+/// The canonical bytes of a dump.
+fn canonical(alloc: Global, bytes: &[u8]) -> Option<Vec<u8>> {
+    match decode_dump(alloc, bytes) {
+        Ok(dump) => dump_bytes(alloc, &dump).ok(),
+        Err(_) => None,
+    }
+}
+
+fn becomes(alloc: Global, bytes: &[u8], wanted: &[u8]) -> bool {
+    match canonical(alloc, bytes) {
+        Some(found) => found.as_slice() == wanted,
+        None => false,
+    }
+}
+
+/// Whether a file of these pieces, read as a dump, has these canonical bytes.
+fn is_rewritten(alloc: Global, pieces: &[&[u8]], wanted: &[u8]) -> bool {
+    match joined(alloc, pieces) {
+        Ok(bytes) => becomes(alloc, &bytes, wanted),
+        Err(_) => false,
+    }
+}
+
+fn is_kept(alloc: Global, trap: &[u8; 100]) -> bool {
+    is_rewritten(alloc, &[trap.as_slice()], trap.as_slice())
 }
 
 #[test]
-fn a_trap_is_written(rt: HostRuntime) -> Result<(), Fail> {
-    let bytes = rewritten(rt.alloc(), &[&TRAP])?;
-    assert_eq!(rt; bytes.as_slice(), TRAP.as_slice());
-    Ok(())
+fn a_trap_is_written(rt: HostRuntime) {
+    assert!(rt; is_kept(rt.alloc(), &TRAP));
 }
 
-#[test]
-fn another_instance_and_long_numbers_are_not_kept(rt: HostRuntime) -> Result<(), Fail> {
-    // The section of frames is three bytes longer: instance 3, offset 85 80 80 00.
+/// Whether the trap is what becomes of itself with the instance 3 and the offset 85 80 80 00, so that the section of frames is three bytes
+/// longer.
+fn is_shortened(alloc: Global, trap: &[u8; 100]) -> bool {
     let long = [0x22, 0x09];
     let frame = [0x00, 0x03, 0x00, 0x85, 0x80, 0x80, 0x00];
-    let bytes = rewritten(
-        rt.alloc(),
-        &[&TRAP[..68], &long, &TRAP[70..86], &frame, &TRAP[90..]],
-    )?;
-    assert_eq!(rt; bytes.as_slice(), TRAP.as_slice());
+    is_rewritten(
+        alloc,
+        &[&trap[..68], &long, &trap[70..86], &frame, &trap[90..]],
+        trap.as_slice(),
+    )
+}
+
+#[test]
+fn another_instance_and_long_numbers_are_not_kept(rt: HostRuntime) {
+    assert!(rt; is_shortened(rt.alloc(), &TRAP));
+}
+
+/// Adds a segment of a page with one byte, behind what stands before its bytes.
+fn add_page(
+    alloc: Global,
+    bytes: &mut Vec<u8>,
+    before: &[u8],
+    at: usize,
+    byte: u8,
+) -> Result<(), AllocError> {
+    bytes.extend_from_slice(before)?;
+    bytes.extend_from_slice(&page(alloc, at, byte)?)?;
     Ok(())
 }
 
 /// A dump of three whole pages, of which the one between is zero.
 fn three_pages(alloc: Global) -> Result<Vec<u8>, AllocError> {
+    let first = [0x00, 0x41, 0x00, 0x0B, 0x80, 0x80, 0x04];
+    let between = [0x00, 0x41, 0x80, 0x80, 0x04, 0x0B, 0x80, 0x80, 0x04];
     let mut bytes = BEFORE_PAGES[..89].to_vec(alloc)?;
     bytes.extend_from_slice(&[0x0B, 0x9A, 0x80, 0x0C, 0x03])?;
-    bytes.extend_from_slice(&[0x00, 0x41, 0x00, 0x0B, 0x80, 0x80, 0x04])?;
-    bytes.extend_from_slice(&page(alloc, 16, 1)?)?;
-    bytes.extend_from_slice(&[0x00, 0x41, 0x80, 0x80, 0x04, 0x0B, 0x80, 0x80, 0x04])?;
-    bytes.extend_from_slice(&page(alloc, 16, 0)?)?;
-    bytes.extend_from_slice(&BEFORE_LAST)?;
-    bytes.extend_from_slice(&page(alloc, 65_535, 2)?)?;
+    add_page(alloc, &mut bytes, &first, 16, 1)?;
+    add_page(alloc, &mut bytes, &between, 16, 0)?;
+    add_page(alloc, &mut bytes, &BEFORE_LAST, 65_535, 2)?;
     Ok(bytes)
 }
 
@@ -92,49 +134,100 @@ fn has_at(bytes: &[u8], at: usize, piece: &[u8]) -> bool {
     }
 }
 
-/// What is written of three pages, where the call of `Files` with that number fails.
-fn written(alloc: Global, failing: u64) -> Result<(WriteAnswer, Vec<u8>), Fail> {
-    let bytes = three_pages(alloc)?;
-    let dump = decode_dump(alloc, &bytes)?;
-    let mut files = MemFiles::new(alloc, vec![in alloc; failing]?);
-    let answer = write_dump(alloc, &dump, &mut files, "core.wasm");
-    let left = files.get("core.wasm").unwrap_or(&[]);
-    Ok((answer, left.to_vec(alloc)?))
+fn are_whole(bytes: &[u8]) -> bool {
+    has_at(bytes, 0, &BEFORE_PAGES)
+        && has_at(bytes, 116, &[0, 1, 0])
+        && has_at(bytes, 65_637, &BEFORE_LAST)
+        && has_at(bytes, 131_180, &[0, 2])
 }
 
-#[test]
-fn pages_are_written_one_by_one(rt: HostRuntime) -> Result<(), Fail> {
-    // The length of the file after each call: create, the head, and then each page behind its own head.
-    let lengths = [0, 0, 94, 101, 65_637, 65_646];
-    for (failing, length) in lengths.iter().enumerate() {
-        let (answer, bytes) = written(rt.alloc(), failing as u64)?;
-        assert_eq!(rt; answer, WriteAnswer::Failed);
-        assert_eq!(rt; bytes.len(), *length);
+/// Whether so many bytes are left of three pages, and all where the failing call is behind the six that there are.
+fn is_left(answer: WriteAnswer, left: &[u8], failing: u64, length: usize) -> bool {
+    if failing < 6 {
+        matches!(answer, WriteAnswer::Failed) && left.len() == length
+    } else {
+        matches!(answer, WriteAnswer::Done) && left.len() == length && are_whole(left)
     }
-    let (answer, bytes) = written(rt.alloc(), 6)?;
-    assert_eq!(rt; answer, WriteAnswer::Done);
-    assert_eq!(rt; bytes.len(), 131_182);
-    assert!(rt; has_at(&bytes, 0, &BEFORE_PAGES));
-    assert!(rt; has_at(&bytes, 116, &[0, 1, 0]));
-    assert!(rt; has_at(&bytes, 65_637, &BEFORE_LAST));
-    assert!(rt; has_at(&bytes, 131_180, &[0, 2]));
-    Ok(())
+}
+
+/// Whether so many bytes are written of a dump, where the call of `Files` with that number fails.
+fn is_written_of(alloc: Global, dump: &Dump, failing: u64, length: usize) -> bool
+    requires pages { pages_of dump.now.memory ≤ 4096 }
+    requires contained { IsContained dump.now }
+{
+    match Vec::from_slice(alloc, &[failing]) {
+        Ok(failing_calls) => {
+            let mut files = MemFiles::new(alloc, failing_calls);
+            let answer = write_dump(alloc, dump, &mut files, "core.wasm");
+            is_left(
+                answer,
+                files.get("core.wasm").unwrap_or(&[]),
+                failing,
+                length,
+            )
+        }
+        Err(_) => false,
+    }
+}
+
+fn is_written(alloc: Global, bytes: &[u8], failing: u64, length: usize) -> bool {
+    match decode_dump(alloc, bytes) {
+        Ok(dump) => is_written_of(alloc, &dump, failing, length),
+        Err(_) => false,
+    }
+}
+
+/// The length of the file after each call: create, the head, and then each page behind its own head.
+const LENGTHS: [usize; 7] = [0, 0, 94, 101, 65_637, 65_646, 131_182];
+
+fn are_written(alloc: Global, bytes: &[u8]) -> bool {
+    for (failing, length) in LENGTHS.iter().enumerate() {
+        if !is_written(alloc, bytes, failing as u64, *length) {
+            return false;
+        }
+    }
+    true
 }
 
 #[test]
-fn segments_become_pages(rt: HostRuntime) -> Result<(), Fail> {
-    // In a memory of one page: 1 at 0, then 2 3 at 16, then FF at 16.
+fn pages_are_written_one_by_one(rt: HostRuntime) {
+    let are_written = match three_pages(rt.alloc()) {
+        Ok(bytes) => are_written(rt.alloc(), &bytes),
+        Err(_) => false,
+    };
+    assert!(rt; are_written);
+}
+
+/// The instance has a memory now, so its section is one byte longer.
+fn is_one_page(bytes: &[u8]) -> bool {
+    let data = [
+        0x0B, 0x88, 0x80, 0x04, 0x01, 0x00, 0x41, 0x00, 0x0B, 0x80, 0x80, 0x04, 0x01, 0x00,
+    ];
+    bytes.len() == 106 + 12 + 65_536
+        && has_at(bytes, 106, &data)
+        && has_at(bytes, 134, &[0xFF, 0x03, 0x00])
+}
+
+fn becomes_one_page(alloc: Global, bytes: &[u8]) -> bool {
+    match canonical(alloc, bytes) {
+        Some(found) => is_one_page(&found),
+        None => false,
+    }
+}
+
+/// Whether a trap with a memory of one page, in which segments lay 1 at 0, then 2 3 at 16, then FF at 16, is written with that page.
+fn are_laid(alloc: Global) -> bool {
     let segments = [
         0x05, 0x03, 0x01, 0x00, 0x01, 0x0B, 0x14, 0x03, 0x00, 0x41, 0x00, 0x0B, 0x01, 0x01, 0x00,
         0x41, 0x10, 0x0B, 0x02, 0x02, 0x03, 0x00, 0x41, 0x10, 0x0B, 0x01, 0xFF,
     ];
-    let bytes = rewritten(rt.alloc(), &[&TRAP, &segments])?;
-    // The instance has a memory now, so its section is one byte longer.
-    let data = [
-        0x0B, 0x88, 0x80, 0x04, 0x01, 0x00, 0x41, 0x00, 0x0B, 0x80, 0x80, 0x04, 0x01, 0x00,
-    ];
-    assert_eq!(rt; bytes.len(), 106 + 12 + 65_536);
-    assert!(rt; has_at(&bytes, 106, &data));
-    assert!(rt; has_at(&bytes, 134, &[0xFF, 0x03, 0x00]));
-    Ok(())
+    match joined(alloc, &[&TRAP, &segments]) {
+        Ok(bytes) => becomes_one_page(alloc, &bytes),
+        Err(_) => false,
+    }
+}
+
+#[test]
+fn segments_become_pages(rt: HostRuntime) {
+    assert!(rt; are_laid(rt.alloc()));
 }
