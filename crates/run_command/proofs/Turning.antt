@@ -1,6 +1,6 @@
 -- The lines and the dump of one invocation.
 use Rattle.std.proofs.Common.{◌≡◌, ℕ, ◌+◌, Bool, true, false, List, [], ◌∷◌, ◌++◌, length, refl, sym, ap, ◌∙◌, arith, Option, Some, None, subst}
-use Rattle.std.specs.Prelude.{is_some}
+use Rattle.std.specs.Prelude.{◌≤◌, is_some}
 use Rattle.std.proofs.lemmas.List.{append-nil}
 use Rattle.wasm_syntax.specs.declared.parts.Import.{Import}
 use Rattle.wasm_syntax.specs.declared.value.Value.{Value}
@@ -19,14 +19,15 @@ use Rattle.entry_runs.specs.declared.answer.RunAnswer.TheVariants.{Finished, Tra
 use Rattle.entry_runs.specs.Invocations.{HasOutcome, unfitting}
 use Rattle.run_command.specs.RunText.{outcome_text, invocation_text, finished_text, trapped_text, innermost, dump_name, dumps_from, traps_in, if_trapped}
 use Rattle.run_command.specs.Given.{given_to}
-use Rattle.run_command.specs.Written.{Writes}
-use Rattle.run_command.specs.Dumping.{IfWritten}
-use Rattle.run_command.specs.Turns.{Adds, AddsTrap, TurnsTo, turn_of, UnlessRefused, Added}
+use Rattle.dump_write.specs.Written.{OnTold}
+use Rattle.run_command.specs.Written.{Writes, HoldPart}
+use Rattle.run_command.specs.Dumping.{LeavesFront, IfWritten}
+use Rattle.run_command.specs.Turns.{Adds, AddsTrap, TurnsTo, turn_of, UnlessRefused, Added, LeavesPart}
 use Rattle.run_command.specs.declared.dumps.Written.{Written}
 use Rattle.run_command.specs.declared.dumps.Written.TheVariants.{Whole}
 use Rattle.run_command.specs.declared.turns.Turn.{Turn}
 use Rattle.run_command.specs.declared.turns.Turn.TheVariants.{Ends}
-use Rattle.run_command.proofs.Held.{none_held, one_held}
+use Rattle.run_command.proofs.Held.{none_held, one_held, none_few, one_few, no_part, front_part}
 use Rattle.run_command.specs.declared.turns.Lines.{Lines}
 
 pub by_ready : (base name : List ℕ) (a : RunAnswer) (r : Ran) (old new : Lines) (writes : Writes) (ready : Bool) → ready ≡ goes_on r.outcome r.entered → Adds base name r old new writes → TurnsTo base name a r old new writes (turn_of ready a)
@@ -176,3 +177,30 @@ stopped_added base name prepared m ready a calls lines before nf nt nm = record 
       let quiet = adds_nothing base name p used_up a r lines nf nt nm known.outcome (ap (λ (l : Option Config). is_some l) known.last_is) in
       (refl, quiet.0, quiet.1);
 }
+
+-- ---- its dump, which may be there in part
+
+-- an invocation has one dump at most
+few_dumps : (base name : List ℕ) (j : ℕ) (o : Outcome) (last : Option Config) → length (dump_of base name j o last) ≤ 1
+few_dumps base name j (trapped kind) (Some c) = one_few
+few_dumps base name j (trapped kind) None = none_few
+few_dumps base name j (finished v) last = none_few
+few_dumps base name j (not_started cause) last = none_few
+few_dumps base name j (lacks_reply call) last = none_few
+few_dumps base name j (misfits call reply) last = none_few
+few_dumps base name j running last = none_few
+few_dumps base name j got_stuck last = none_few
+
+unwritten : (base name : List ℕ) (j : ℕ) (r : Ran) (told : Option Contents) → OnTold (HoldPart (dumps_from base name j (r ∷ []))) told told
+unfolding dumps_from
+unwritten base name j r told = no_part (dump_of base name j r.outcome r.last) told (few_dumps base name j r.outcome r.last)
+
+pub leaves_none : (base name : List ℕ) (prepared : Prepared) (m : Machine) (a : RunAnswer) (traps : ℕ) (told : Option Contents) → LeavesPart base name prepared m a traps told told
+leaves_none base name prepared m a traps told = λ p used_up r c whole few outcome last keeps. unwritten base name traps r told
+
+pub leaves_dump : (base name : List ℕ) (prepared : Prepared) (m : Machine) (a : RunAnswer) (kind : TrapKind) (traps : ℕ) (before after : Option Contents) → a ≡ Trapped kind → LeavesFront name prepared m (dump_name base traps) before after → LeavesPart base name prepared m a traps before after
+leaves_dump base name prepared m a kind traps before after is front =
+    subst (λ x. LeavesPart base name prepared m x traps before after) (sym is)
+    (λ p used_up r c whole few outcome last keeps.
+    subst (λ ws. OnTold (HoldPart ws) before after) (sym (trapped_dumps base name traps r (trap_code kind) c outcome last))
+    (front_part (dump_name base traps) (bytes_of (image c name)) before after (front p c whole few keeps)))

@@ -10,7 +10,7 @@ use Rattle.machine_steps.specs.Meets.{StandsFor}
 use Rattle.trap_image.specs.Pictured.{FewFunctions}
 use Rattle.unwind_rewrite.specs.Image.{image}
 use Rattle.instrument.specs.DumpBytes.{bytes_of}
-use Rattle.dump_write.specs.Written.{OnTold, HasFile}
+use Rattle.dump_write.specs.Written.{OnTold, HasFile, HasFront}
 use Rattle.command_answers.specs.declared.outcome.Outcome.{Outcome}
 use Rattle.run_command.specs.declared.dumps.Written.{Written}
 use Rattle.run_command.specs.declared.dumps.Written.TheVariants.{Whole, Refused}
@@ -20,6 +20,11 @@ pub record WritesImage (name : List ℕ) (prepared : Prepared) (m : Machine) (fi
   pub bytes : List ℕ
   pub files : OnTold (HasFile file bytes) before after
   pub shows : (p : Program) (c : Config) → IsPrepared p prepared → FewFunctions p.module_ → StandsFor p prepared.codes.items m c → bytes ≡ bytes_of (image c name)
+
+-- the file is as before, or holds a front of the canonical bytes of the image of each configuration that the machine stands for
+abbrev pub LeavesFront : (name : List ℕ) → Prepared → Machine → (file : List ℕ) → (before after : Option Contents) → Type 0
+LeavesFront name prepared m file before after =
+    (p : Program) (c : Config) → IsPrepared p prepared → FewFunctions p.module_ → StandsFor p prepared.codes.items m c → OnTold (HasFront file (bytes_of (image c name))) before after
 
 -- a fact where the dump was written
 abbrev pub IfWritten : Type 0 → Written → Type 0

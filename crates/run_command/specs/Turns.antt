@@ -14,13 +14,15 @@ use Rattle.trap_image.specs.Pictured.{FewFunctions}
 use Rattle.unwind_rewrite.specs.Image.{image}
 use Rattle.instrument.specs.DumpBytes.{bytes_of}
 use Rattle.dump_write.specs.Written.{OnTold, HasFile}
+use Rattle.basic_steps.specs.declared.answer.TrapKind.{TrapKind}
 use Rattle.entry_runs.specs.declared.answer.RunAnswer.{RunAnswer}
+use Rattle.entry_runs.specs.declared.answer.RunAnswer.TheVariants.{Trapped}
 use Rattle.entry_runs.specs.Answers.{KeepsThen}
 use Rattle.entry_runs.specs.Invocations.{HasOutcome, may_follow}
 use Rattle.command_answers.specs.declared.outcome.Outcome.{Outcome}
 use Rattle.run_command.specs.RunText.{invocation_text, trapped_text, innermost, dump_name, dumps_from, traps_in}
 use Rattle.run_command.specs.Given.{given_to}
-use Rattle.run_command.specs.Written.{Writes, HoldThen}
+use Rattle.run_command.specs.Written.{Writes, HoldThen, HoldPart}
 use Rattle.run_command.specs.declared.turns.Lines.{Lines}
 use Rattle.run_command.specs.declared.turns.Turn.{Turn}
 use Rattle.run_command.specs.declared.turns.Turn.TheVariants.{GoesOn, Ends, Refused}
@@ -87,3 +89,12 @@ pub record Added (base name : List ℕ) (prepared : Prepared) (m : Machine) (rea
   pub writes : Writes
   pub files : OnTold (HoldThen writes) before after
   pub turns : (p : Program) (used_up : Import → Bool) (r : Ran) → IsPrepared p prepared → FewFunctions p.module_ → Answered p prepared.codes.items used_up answer ready m calls r → TurnsTo base name answer r old new writes turn
+
+-- However it ends, an invocation with this answer leaves its dump in part.
+abbrev pub LeavesPart : (base name : List ℕ) → Prepared → Machine → RunAnswer → (traps : ℕ) → (before after : Option Contents) → Type 0
+LeavesPart base name prepared m answer traps before after =
+    (p : Program) (used_up : Import → Bool) (r : Ran) (c : Config) → IsPrepared p prepared → FewFunctions p.module_ → HasOutcome p used_up answer r.outcome → r.last ≡ Some c → KeepsThen p prepared.codes.items answer m c
+    → OnTold (HoldPart (dumps_from base name traps (r ∷ []))) before after
+
+abbrev pub HasTrapped : RunAnswer → Type 0
+HasTrapped answer = (kind : TrapKind) × (answer ≡ Trapped kind)

@@ -11,7 +11,7 @@ ghost use Rattle.machine_steps.specs.Prepares.{IsPrepared};
 ghost use Rattle.trap_image.specs.Pictured.{FewFunctions};
 ghost use Rattle.command_answers.specs.Texts.{file_fault};
 ghost use Rattle.run_command.specs.RunText.{place_text, innermost, trapped_text, dump_name};
-ghost use Rattle.run_command.specs.Dumping.{WritesImage, IfWritten, IfRefused};
+ghost use Rattle.run_command.specs.Dumping.{WritesImage, LeavesFront, IfWritten, IfRefused};
 
 use crate::lines::{push_calls, push_kind, push_place};
 use basic_steps::TrapKind;
@@ -52,6 +52,7 @@ pub(crate) fn write_image<F: Files>(
     file: &str,
 ) -> Result<Written, NoMemory>
     ensures written { IfOk result (IfWritten (WritesImage name.now prepared.now m.now file.now (F.told files.old) (F.told files.new))) }
+    ensures front { LeavesFront name.now prepared.now m.now file.now (F.told files.old) (F.told files.new) }
     ensures refused { IfOk result (IfRefused (λ o. (o ≡ file_fault file.now) × Rose (F.faults files.old) (F.faults files.new))) }
     ensures telling { is_some (F.told files.new) ≡ is_some (F.told files.old) }
     ensures names { (F.created files.new ≡ F.created files.old) ⊎ (F.created files.new ≡ with_name (F.created files.old) file.now) }
@@ -106,6 +107,7 @@ pub(crate) fn dump_at_trap<F: Files>(
     number: u64,
 ) -> Result<Written, NoMemory>
     ensures written { IfOk result (IfWritten (WritesImage name.now prepared.now m.now (dump_name base.now number) (F.told files.old) (F.told files.new))) }
+    ensures front { LeavesFront name.now prepared.now m.now (dump_name base.now number) (F.told files.old) (F.told files.new) }
     ensures refused { IfOk result (IfRefused (λ o. (o ≡ file_fault (dump_name base.now number)) × Rose (F.faults files.old) (F.faults files.new))) }
     ensures telling { is_some (F.told files.new) ≡ is_some (F.told files.old) }
     ensures later { F.faults files.old ≤ F.faults files.new }

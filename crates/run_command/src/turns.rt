@@ -5,8 +5,8 @@ ghost use Rattle.causes.specs.Counts.{Rose};
 ghost use Rattle.basic_steps.specs.Traps.{trap_code};
 ghost use Rattle.command_answers.specs.Texts.{file_fault};
 ghost use Rattle.run_command.specs.RunText.{dump_name};
-ghost use Rattle.run_command.specs.Dumping.{IfWritten, IfRefused};
-ghost use Rattle.run_command.specs.Turns.{AddsTrap, turn_of, UnlessRefused, IfGoesOn, IfEnds, IfTurnRefused, Added};
+ghost use Rattle.run_command.specs.Dumping.{LeavesFront, IfWritten, IfRefused};
+ghost use Rattle.run_command.specs.Turns.{AddsTrap, turn_of, UnlessRefused, IfGoesOn, IfEnds, IfTurnRefused, Added, LeavesPart, HasTrapped};
 
 use crate::dumps::{Written, dump_at_trap, push_trapped};
 use crate::lines::push_finished;
@@ -63,6 +63,7 @@ fn add_trap<F: Files>(
 ) -> Result<Written, NoMemory>
     requires { lines.old.traps < 2 ^ 64 - 1 }
     ensures added { IfOk result (IfWritten (AddsTrap words.now.dump words.now.name prepared.now m.now (trap_code kind) calls lines.old lines.new (F.told files.old) (F.told files.new))) }
+    ensures front { LeavesFront words.now.name prepared.now m.now (dump_name words.now.dump lines.old.traps) (F.told files.old) (F.told files.new) }
     ensures refused { IfOk result (IfRefused (λ o. (o ≡ file_fault (dump_name words.now.dump lines.old.traps)) × Rose (F.faults files.old) (F.faults files.new))) }
     ensures one { lines.new.traps ≤ lines.old.traps + 1 }
     ensures telling { is_some (F.told files.new) ≡ is_some (F.told files.old) }
@@ -102,6 +103,8 @@ pub(crate) fn add_lines<F: Files>(
 ) -> Result<Turn, NoMemory>
     requires { lines.old.traps < 2 ^ 64 - 1 }
     ensures added { IfOk result (λ turn. UnlessRefused turn (Added words.now.dump words.now.name prepared.now m.now ready answer calls lines.old lines.new (F.told files.old) (F.told files.new) turn)) }
+    ensures part { LeavesPart words.now.dump words.now.name prepared.now m.now answer lines.old.traps (F.told files.old) (F.told files.new) }
+    ensures trapped { IfOk result (IfTurnRefused (λ _. HasTrapped answer)) }
     ensures refused { IfOk result (IfTurnRefused (λ o. (o ≡ file_fault (dump_name words.now.dump lines.old.traps)) × Rose (F.faults files.old) (F.faults files.new))) }
     ensures memory { IfOk result (λ _. answer ≢ RunAnswer.NoMemory) }
     ensures ready { IfOk result (IfGoesOn (ready ≡ true)) }
