@@ -1,6 +1,7 @@
 -- How a list of invocations has ended.
 use Rattle.std.proofs.Common.{◌≡◌, ℕ, suc, ◌+◌, ◌<◌, Bool, true, false, List, [], ◌∷◌, ◌++◌, length, refl, sym, ap, ◌∙◌, inl, inr, arith, Option, Some, None, subst}
 use Rattle.std.specs.Prelude.{IfSome, is_some, nat_lt, if◌then◌else◌}
+use Rattle.std.proofs.Math.Nat.{le_refl}
 use Rattle.std.proofs.lemmas.Bool.{lt-ltb}
 use Rattle.std.proofs.lemmas.List.{append-nil}
 use Rattle.causes.specs.Counts.{Rose}
@@ -8,14 +9,14 @@ use Rattle.pm_outside.specs.Contents.{Contents}
 use Rattle.wasm_syntax.specs.declared.parts.Import.{Import}
 use Rattle.wasm_syntax.specs.Machine.{Config, Engine}
 use Rattle.wasm_syntax.specs.Module.{Program}
-use Rattle.wasm_syntax.specs.Run.{session, Outcome as RunOutcome, not_started, finished, trapped, lacks_reply, misfits, running, got_stuck, Ran, goes_on}
+use Rattle.wasm_syntax.specs.Run.{Invocation, Outcome as RunOutcome, not_started, finished, trapped, lacks_reply, misfits, running, got_stuck, Ran, goes_on}
 use Rattle.host_devices.specs.HostSides.{Calls}
 use Rattle.host_runs.specs.Hosted.{replies_of}
 use Rattle.entry_runs.specs.declared.answer.RunAnswer.{RunAnswer}
 use Rattle.entry_runs.specs.declared.answer.RunAnswer.TheVariants.{Finished, Trapped, NoReply, BadReply, DeviceFault, FuelSpent, NoMemory}
-use Rattle.entry_runs.specs.Settings.{world_of}
 use Rattle.entry_runs.specs.Answers.{HasCause}
 use Rattle.entry_runs.specs.Invocations.{HasOutcome, unfitting}
+use Rattle.wasm_machine.specs.Instances.{State}
 use Rattle.command_answers.specs.Texts.{ended}
 use Rattle.command_answers.specs.Told.{UnlessFault}
 use Rattle.command_answers.specs.declared.outcome.Outcome.{Outcome}
@@ -25,7 +26,7 @@ use Rattle.run_command.specs.RunText.{traps_in, last_of, if_trapped, fitted, not
 use Rattle.run_command.specs.Answers.{answer_line, answer_status}
 use Rattle.run_command.specs.Ending.{trapped_or_done, end_status}
 use Rattle.run_command.specs.Progress.{Point, session_from, WentOn}
-use Rattle.run_command.specs.Sessions.{EndsIn, RanAll, SoFar}
+use Rattle.run_command.specs.Sessions.{point_of, EndsIn, RanAll, SoFar}
 use Rattle.run_command.specs.declared.turns.Lines.{Lines}
 use Rattle.run_command.proofs.Sessions.{EndedWith}
 use Rattle.run_command.proofs.Turning.{trapped_traps}
@@ -186,16 +187,15 @@ none_unfits (misfits call reply) entered e = absurd cc
 none_unfits running entered e = absurd cc
 none_unfits got_stuck entered e = absurd cc
 
-pub all_made_so : (p : Program) (M : Engine) (base name : List ℕ) (used_up : Import → Bool) (counts now : List ℕ → ℕ) (first there : Point) (lines : Lines) (before after : Calls) (told_before told_after : Option Contents) (o : Outcome)
-    → there.due ≡ [] → 0 < length first.due → o ≡ ended (trapped_or_done lines.traps) lines.text
-    → SoFar M base name first there lines before after told_before told_after
-    → RanAll p M base name used_up counts now first before after told_before told_after o
-all_made_so p M base name used_up counts now first there lines before after told_before told_after o over some is so_far =
-    let come = so_far.come [] in
-    let counted : length first.due ≡ length come.rans + 0 = come.counted ∙ ap (λ l. length come.rans + length l) over in
-    let went = last_went come.rans (omega arith) come.went_on in
+pub all_made_so : (p : Program) (M : Engine) (base name : List ℕ) (used_up : Import → Bool) (counts now : List ℕ → ℕ) (first s : State) (done : List Invocation) (fuel : ℕ) (lines : Lines) (before after : Calls) (told_before told_after : Option Contents) (o : Outcome)
+    → 0 < length (done ++ []) → o ≡ ended (trapped_or_done lines.traps) lines.text
+    → SoFar M base name first s done fuel lines before after told_before told_after
+    → RanAll p M base name used_up counts now (point_of first (done ++ []) fuel) before after told_before told_after o
+all_made_so p M base name used_up counts now first s done fuel lines before after told_before told_after o some is so_far =
+    let come = so_far.come [] fuel so_far.within (le_refl fuel) [] in
+    let counted : length (done ++ []) ≡ length come.rans + 0 = come.counted in
+    let went = last_went come.rans (omega (arith, some, counted)) come.went_on in
     let quiet = ends_quietly p used_up counts now (length so_far.given) come.rans went.last went.last.outcome went.last.last refl refl went.is_last went.went.0 went.went.1 in
-    let no_more : session_from M there [] ≡ [] = ap (λ is. session M is there.start (world_of there.machine []) there.left) over in
     record {
       given = so_far.given;
       grew = so_far.grew;
@@ -206,7 +206,7 @@ all_made_so p M base name used_up counts now first there lines before after told
       last = went.last;
       has_ended = record {
         rans = come.rans;
-        is = ap (λ l. session_from M first l) (sym (append-nil (replies_of so_far.given))) ∙ come.is ∙ ap (λ l. come.rans ++ l) no_more ∙ append-nil come.rans;
+        is = ap (λ l. session_from M (point_of first (done ++ []) fuel) l) (sym (append-nil (replies_of so_far.given))) ∙ come.is ∙ append-nil come.rans;
         counted = counted;
         came_of = come.came_of;
         fit = come.fit ∙ plus_none (fitted come.rans) ∙ ap (λ l. fitted come.rans + length l) (sym (none_unfits went.last.outcome went.last.entered went.went.0));

@@ -4,6 +4,8 @@ mod Told
 mod Held
 mod Turning
 mod Sessions
+mod Stopped
+mod Fewer
 mod Ends
 mod Invocations
 mod Answering
@@ -14,4 +16,3 @@ mod Ones
 mod Whole
 mod Refusals
 mod Commands
-mod Fewer

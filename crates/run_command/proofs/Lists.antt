@@ -52,22 +52,22 @@ traps_more (q ∷ rans) r =
     same_choice q.outcome q.last (λ c. suc (traps_in (rans ++ r ∷ []))) (λ c. suc (traps_in rans) + traps_in (r ∷ [])) (traps_in (rans ++ r ∷ [])) (traps_in rans + traps_in (r ∷ [])) (λ c. one_more (traps_in (rans ++ r ∷ [])) (traps_in rans) (traps_in (r ∷ [])) (traps_more rans r)) (traps_more rans r)
     ∙ sym (under_choice (λ n. n + traps_in (r ∷ [])) q.outcome q.last (λ c. suc (traps_in rans)) (traps_in rans))
 
--- the dumps of one more
-pub dumps_more : (base name : List ℕ) (j : ℕ) (rans : List Ran) (r : Ran) → dumps_from base name j (rans ++ r ∷ []) ≡ dumps_from base name j rans ++ dumps_from base name (j + traps_in rans) (r ∷ [])
+-- the dumps of more of them
+pub dumps_behind : (base name : List ℕ) (j : ℕ) (rans rs : List Ran) → dumps_from base name j (rans ++ rs) ≡ dumps_from base name j rans ++ dumps_from base name (j + traps_in rans) rs
 unfolding dumps_from
-dumps_more base name j [] r = ap (λ n. dumps_from base name n (r ∷ [])) (plus_zero j)
-dumps_more base name j (q ∷ rans) r =
-    same_choice q.outcome q.last (λ c. (dump_name base j, bytes_of (image c name)) ∷ dumps_from base name (suc j) (rans ++ r ∷ []))
-    (λ c. (dump_name base j, bytes_of (image c name)) ∷ (dumps_from base name (suc j) rans ++ dumps_from base name (suc j + traps_in rans) (r ∷ [])))
-    (dumps_from base name j (rans ++ r ∷ []))
-    (dumps_from base name j rans ++ dumps_from base name (j + traps_in rans) (r ∷ []))
-    (λ c. ap (λ l. (dump_name base j, bytes_of (image c name)) ∷ l) (dumps_more base name (suc j) rans r)) (dumps_more base name j rans r)
+dumps_behind base name j [] rs = ap (λ n. dumps_from base name n rs) (plus_zero j)
+dumps_behind base name j (q ∷ rans) rs =
+    same_choice q.outcome q.last (λ c. (dump_name base j, bytes_of (image c name)) ∷ dumps_from base name (suc j) (rans ++ rs))
+    (λ c. (dump_name base j, bytes_of (image c name)) ∷ (dumps_from base name (suc j) rans ++ dumps_from base name (suc j + traps_in rans) rs))
+    (dumps_from base name j (rans ++ rs))
+    (dumps_from base name j rans ++ dumps_from base name (j + traps_in rans) rs)
+    (λ c. ap (λ l. (dump_name base j, bytes_of (image c name)) ∷ l) (dumps_behind base name (suc j) rans rs)) (dumps_behind base name j rans rs)
     ∙ all q.outcome q.last
   where
     all : (o : Outcome) (last : Option Config)
-        → if_trapped o last (λ c. (dump_name base j, bytes_of (image c name)) ∷ (dumps_from base name (suc j) rans ++ dumps_from base name (suc j + traps_in rans) (r ∷ []))) (dumps_from base name j rans ++ dumps_from base name (j + traps_in rans) (r ∷ []))
-        ≡ if_trapped o last (λ c. (dump_name base j, bytes_of (image c name)) ∷ dumps_from base name (suc j) rans) (dumps_from base name j rans) ++ dumps_from base name (j + if_trapped o last (λ c. suc (traps_in rans)) (traps_in rans)) (r ∷ [])
-    all (trapped kind) (Some c) = ap (λ n. (dump_name base j, bytes_of (image c name)) ∷ (dumps_from base name (suc j) rans ++ dumps_from base name n (r ∷ []))) (next_place j (traps_in rans))
+        → if_trapped o last (λ c. (dump_name base j, bytes_of (image c name)) ∷ (dumps_from base name (suc j) rans ++ dumps_from base name (suc j + traps_in rans) rs)) (dumps_from base name j rans ++ dumps_from base name (j + traps_in rans) rs)
+        ≡ if_trapped o last (λ c. (dump_name base j, bytes_of (image c name)) ∷ dumps_from base name (suc j) rans) (dumps_from base name j rans) ++ dumps_from base name (j + if_trapped o last (λ c. suc (traps_in rans)) (traps_in rans)) rs
+    all (trapped kind) (Some c) = ap (λ n. (dump_name base j, bytes_of (image c name)) ∷ (dumps_from base name (suc j) rans ++ dumps_from base name n rs)) (next_place j (traps_in rans))
     all (trapped kind) None = refl
     all (finished v) last = refl
     all (not_started cause) last = refl
@@ -75,6 +75,24 @@ dumps_more base name j (q ∷ rans) r =
     all (misfits call reply) last = refl
     all running last = refl
     all got_stuck last = refl
+
+pub dumps_more : (base name : List ℕ) (j : ℕ) (rans : List Ran) (r : Ran) → dumps_from base name j (rans ++ r ∷ []) ≡ dumps_from base name j rans ++ dumps_from base name (j + traps_in rans) (r ∷ [])
+dumps_more base name j rans r = dumps_behind base name j rans (r ∷ [])
+
+-- those that have no dumps add none
+pub dumps_only : (base name : List ℕ) (j : ℕ) (r : Ran) (rs : List Ran) → ((k : ℕ) → dumps_from base name k rs ≡ []) → dumps_from base name j (r ∷ rs) ≡ dumps_from base name j (r ∷ [])
+unfolding dumps_from
+dumps_only base name j r rs none =
+    same_choice r.outcome r.last (λ c. (dump_name base j, bytes_of (image c name)) ∷ dumps_from base name (suc j) rs) (λ c. (dump_name base j, bytes_of (image c name)) ∷ []) (dumps_from base name j rs) []
+    (λ c. ap (λ l. (dump_name base j, bytes_of (image c name)) ∷ l) (none (suc j))) (none j)
+
+pub last_behind : (rans rs : List Ran) (r : Ran) → last_of rs ≡ Some r → last_of (rans ++ rs) ≡ Some r
+last_behind [] rs r is = is
+last_behind (q ∷ rans) rs r is = at_front q (rans ++ rs) r (last_behind rans rs r is)
+  where
+    at_front : (q : Ran) (rest : List Ran) (r : Ran) → last_of rest ≡ Some r → last_of (q ∷ rest) ≡ Some r
+    at_front q [] r is = absurd cc
+    at_front q (x ∷ rest) r is = is
 
 pub last_more : (rans : List Ran) (r : Ran) → last_of (rans ++ r ∷ []) ≡ Some r
 last_more [] r = refl

@@ -1,5 +1,6 @@
 -- A list of invocations goes on, or ends.
 use Rattle.std.proofs.Common.{◌≡◌, ℕ, ◌+◌, Bool, true, List, [], ◌∷◌, ◌++◌, length, refl, sym, ap, ◌∙◌, append_assoc, subst, Option, Some, None}
+use Rattle.std.proofs.Math.Nat.{le_refl, le_trans}
 use Rattle.pm_outside.specs.Contents.{Contents}
 use Rattle.wasm_syntax.specs.declared.parts.Import.{Import}
 use Rattle.wasm_syntax.specs.declared.host.Reply.{Reply}
@@ -14,11 +15,12 @@ use Rattle.entry_runs.specs.declared.answer.RunAnswer.{RunAnswer}
 use Rattle.entry_runs.specs.declared.answer.RunAnswer.TheVariants.{Finished, Trapped, NoReply, BadReply, DeviceFault, FuelSpent, NoMemory}
 use Rattle.entry_runs.specs.Answers.{AdmitsReplies}
 use Rattle.entry_runs.specs.Invocations.{HasOutcome}
+use Rattle.wasm_machine.specs.Instances.{State}
 use Rattle.run_command.specs.RunText.{dumps_from, traps_in}
 use Rattle.run_command.specs.Written.{Writes, HoldThen}
 use Rattle.run_command.specs.Progress.{Point, Made, HasCome, HasEnded}
 use Rattle.run_command.specs.Turns.{Adds}
-use Rattle.run_command.specs.Sessions.{MadeOne, made_with, SoFar}
+use Rattle.run_command.specs.Sessions.{point_of, MadeOne, made_with, SoFar}
 use Rattle.run_command.specs.declared.turns.Lines.{Lines}
 use Rattle.run_command.specs.declared.turns.Turn.TheVariants.{GoesOn, Ends}
 use Rattle.run_command.proofs.Held.{held_also}
@@ -34,23 +36,26 @@ same_made base name old new given also writes more r adds =
     ∙ ap (λ ws. made_of new.text (writes ++ ws) (old.traps + traps_in (r ∷ [])) (given ++ also)) (sym adds.wrote)
     ∙ ap (λ n. made_of new.text (writes ++ more) n (given ++ also)) (sym adds.traps)
 
-grown : (a b c given also : List Served) → b ≡ a ++ given → c ≡ b ++ also → c ≡ a ++ (given ++ also)
+pub grown : (a b c given also : List Served) → b ≡ a ++ given → c ≡ b ++ also → c ≡ a ++ (given ++ also)
 grown a b c given also one other = other ∙ ap (λ l. l ++ also) one ∙ append_assoc a given also
 
-pub list_goes_on : (p : Program) (M : Engine) (base name : List ℕ) (used_up : Import → Bool) (first there next : Point) (i : Invocation) (old new : Lines) (before mid after : Calls) (told_before told_mid told_after : Option Contents)
-    → there.due ≡ i ∷ next.due
-    → SoFar M base name first there old before mid told_before told_mid
-    → MadeOne p M base name used_up there next old new mid after told_mid told_after GoesOn
-    → SoFar M base name first next new before after told_before told_after
-list_goes_on p M base name used_up first there next i old new before mid after told_before told_mid told_after due so_far made = record {
+pub list_goes_on : (p : Program) (M : Engine) (base name : List ℕ) (used_up : Import → Bool) (first s next : State) (done : List Invocation) (i : Invocation) (fuel : ℕ) (old new : Lines) (before mid after : Calls) (told_before told_mid told_after : Option Contents)
+    → SoFar M base name first s done fuel old before mid told_before told_mid
+    → MadeOne p M base name used_up s next i fuel old new mid after told_mid told_after GoesOn
+    → SoFar M base name first next (done ++ i ∷ []) fuel new before after told_before told_after
+list_goes_on p M base name used_up first s next done i fuel old new before mid after told_before told_mid told_after so_far made = record {
   given = so_far.given ++ made.given;
   grew = grown before.served mid.served after.served so_far.given made.given so_far.grew made.grew;
   writes = so_far.writes ++ made.writes;
   files = held_also so_far.writes made.writes told_before told_mid told_after so_far.files made.files;
-  come = λ more.
-      let one = made.ran more tt in
-      subst (λ m. HasCome M base name first next m more) (same_made base name old new so_far.given made.given so_far.writes made.writes one.ran one.turns.1)
-      (goes_further M base name first there next i (made_with old so_far.given so_far.writes) made.given one.ran more due one.session_turns one.given_is (one.turns.0, one.turns.1.placed) (so_far.come (replies_of made.given ++ more)));
+  within = made.within so_far.within;
+  come = λ rest total few many more.
+      let one = made.ran rest total few many more tt in
+      let new_made = made_with new (so_far.given ++ made.given) (so_far.writes ++ made.writes) in
+      subst (λ is. HasCome M base name (point_of first is total) (point_of next rest total) new_made more) (sym (append_assoc done (i ∷ []) rest))
+      (subst (λ m. HasCome M base name (point_of first (done ++ i ∷ rest) total) (point_of next rest total) m more) (same_made base name old new so_far.given made.given so_far.writes made.writes one.ran one.turns.1)
+      (goes_further M base name (point_of first (done ++ i ∷ rest) total) (point_of s (i ∷ rest) total) (point_of next rest total) i (made_with old so_far.given so_far.writes) made.given one.ran more refl one.session_turns one.given_is (one.turns.0, one.turns.1.placed)
+      (so_far.come (i ∷ rest) total (le_trans made.onward few) many (replies_of made.given ++ more))));
 }
 
 -- the list ends with an answer
@@ -72,20 +77,20 @@ no_replies (BadReply reply) = tt
 no_replies FuelSpent = tt
 no_replies NoMemory = tt
 
-pub list_ends : (p : Program) (M : Engine) (base name : List ℕ) (used_up : Import → Bool) (first there next : Point) (i : Invocation) (is : List Invocation) (old new : Lines) (before mid after : Calls) (told_before told_mid told_after : Option Contents) (answer : RunAnswer)
-    → there.due ≡ i ∷ is
-    → SoFar M base name first there old before mid told_before told_mid
-    → MadeOne p M base name used_up there next old new mid after told_mid told_after (Ends answer)
-    → EndedWith p M base name used_up first new before after told_before told_after answer (length is)
-list_ends p M base name used_up first there next i is old new before mid after told_before told_mid told_after answer due so_far made =
-    let one = made.ran [] (no_replies answer) in
+pub list_ends : (p : Program) (M : Engine) (base name : List ℕ) (used_up : Import → Bool) (first s next : State) (done : List Invocation) (i : Invocation) (rest : List Invocation) (fuel : ℕ) (old new : Lines) (before mid after : Calls) (told_before told_mid told_after : Option Contents) (answer : RunAnswer)
+    → SoFar M base name first s done fuel old before mid told_before told_mid
+    → MadeOne p M base name used_up s next i fuel old new mid after told_mid told_after (Ends answer)
+    → EndedWith p M base name used_up (point_of first (done ++ i ∷ rest) fuel) new before after told_before told_after answer (length rest)
+list_ends p M base name used_up first s next done i rest fuel old new before mid after told_before told_mid told_after answer so_far made =
+    let one = made.ran rest fuel (made.within so_far.within) (le_refl fuel) [] (no_replies answer) in
     record {
       given = so_far.given ++ made.given;
       grew = grown before.served mid.served after.served so_far.given made.given so_far.grew made.grew;
       writes = so_far.writes ++ made.writes;
       files = held_also so_far.writes made.writes told_before told_mid told_after so_far.files made.files;
       last = one.ran;
-      has_ended = subst (λ m. HasEnded M base name first m (length is) one.ran) (same_made base name old new so_far.given made.given so_far.writes made.writes one.ran one.turns.2)
-          (ends_there M base name first there i is (made_with old so_far.given so_far.writes) made.given one.ran due one.session_turns one.given_is (so_far.come (replies_of made.given ++ [])));
+      has_ended = subst (λ m. HasEnded M base name (point_of first (done ++ i ∷ rest) fuel) m (length rest) one.ran) (same_made base name old new so_far.given made.given so_far.writes made.writes one.ran one.turns.2)
+          (ends_there M base name (point_of first (done ++ i ∷ rest) fuel) (point_of s (i ∷ rest) fuel) i rest (made_with old so_far.given so_far.writes) made.given one.ran refl one.session_turns one.given_is
+          (so_far.come (i ∷ rest) fuel so_far.within (le_refl fuel) (replies_of made.given ++ [])));
       outcome = one.outcome;
     }

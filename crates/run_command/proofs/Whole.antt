@@ -1,7 +1,8 @@
 -- The whole list, from what its parts ensure.
-use Rattle.std.proofs.Common.{◌≡◌, ℕ, suc, ◌+◌, ◌-◌, ◌<◌, ◌≤◌, Bool, List, [], ◌∷◌, ◌++◌, map, length, drop, get_or, refl, sym, ap, ◌∙◌, subst, arith, Option, Some, None, Result, Ok, Err, drop-cons}
+use Rattle.std.proofs.Common.{◌≡◌, ℕ, suc, ◌+◌, ◌-◌, ◌<◌, ◌≤◌, Bool, List, [], ◌∷◌, ◌++◌, map, length, take, drop, get_or, refl, sym, ap, ◌∙◌, subst, arith, Option, Some, None, Result, Ok, Err, drop-cons}
 use Rattle.std.specs.Prelude.{IfOk}
-use Rattle.std.proofs.lemmas.List.{append-nil, drop_all, length-drop}
+use Rattle.std.proofs.Math.Seq.{take-suc}
+use Rattle.std.proofs.lemmas.List.{append-nil, drop_all, length-drop, map-append, take-append-drop}
 use Rattle.causes.specs.Counts.{Rose}
 use Rattle.causes.specs.declared.NoMemory.{NoMemory as WantOfMemory}
 use Rattle.pm_outside.specs.Contents.{Contents}
@@ -24,28 +25,31 @@ use Rattle.run_command.specs.Answers.{answer_line, answer_status}
 use Rattle.run_command.specs.Ending.{trapped_or_done}
 use Rattle.run_command.specs.Progress.{session_from}
 use Rattle.run_command.specs.Turns.{UnlessRefused, IfGoesOn, IfEnds, IfTurnRefused}
-use Rattle.run_command.specs.Sessions.{point_of, MadeOne, SoFar, RanAll}
+use Rattle.run_command.specs.Stops.{Stop, OnStop}
+use Rattle.run_command.specs.Sessions.{point_of, MadeOne, SoFar, RanAll, StopsIn, OnTurnStop}
 use Rattle.run_command.specs.declared.turns.Lines.{Lines}
 use Rattle.run_command.specs.declared.turns.Turn.{Turn}
 use Rattle.run_command.specs.declared.turns.Turn.TheVariants.{GoesOn, Ends, Refused}
 use Rattle.run_command.proofs.Held.{none_held}
 use Rattle.run_command.proofs.Lists.{zero_plus}
-use Rattle.run_command.proofs.Sessions.{list_goes_on, list_ends}
-use Rattle.run_command.proofs.Ends.{on_all, ended_so, all_made_so}
+use Rattle.run_command.proofs.Sessions.{EndedWith, list_goes_on, list_ends}
+use Rattle.run_command.proofs.Ends.{on_all, ended_so, all_made_so, no_file_fault, done_no_fault}
+use Rattle.run_command.proofs.Stopped.{ended_stopped, stops_behind}
 
 -- ---- the begin
 
-pub begins : (M : Engine) (base name : List ℕ) (s : State) (is all : List Invocation) (fuel : ℕ) (lines : Lines) (calls : Calls) (told : Option Contents) → is ≡ all → lines.text ≡ [] → lines.traps ≡ 0 → SoFar M base name (point_of s all fuel) (point_of s is fuel) lines calls calls told told
+pub begins : (M : Engine) (base name : List ℕ) (s : State) (done : List Invocation) (fuel : ℕ) (lines : Lines) (calls : Calls) (told : Option Contents) → [] ≡ done → s.steps ≡ 0 → lines.text ≡ [] → lines.traps ≡ 0 → SoFar M base name s s done fuel lines calls calls told told
 unfolding dumps_from
-begins M base name s is all fuel lines calls told same text traps = record {
+begins M base name s done fuel lines calls told none steps text traps = record {
   given = [];
   grew = sym (append-nil calls.served);
   writes = [];
   files = none_held told;
-  come = λ more. record {
+  within = omega (arith, steps);
+  come = λ rest total few many more. record {
     rans = [];
-    is = ap (λ l. session_from M (point_of s l fuel) more) (sym same);
-    counted = zero_plus (length all) ∙ ap (λ l. 0 + length l) (sym same);
+    is = ap (λ l. session_from M (point_of s (l ++ rest) total) more) (sym none);
+    counted = ap (λ l. length (l ++ rest)) (sym none) ∙ zero_plus (length rest);
     came_of = record { text = text; writes = refl; traps = traps; given = refl };
     fit = refl;
     went_on = tt;
@@ -81,45 +85,89 @@ of_refused turn o P is x = subst (λ t. IfTurnRefused P t) is x
 pub rose_since : (a b c : ℕ) → a ≤ b → Rose b c → Rose a c
 rose_since a b c le rose = omega (arith, le, rose)
 
-module _ (p : Program) (col also : Bool) (depth : ℕ) (base name : List ℕ) (used_up : Import → Bool) (s0 s new : State) (all here rest : List Invocation) (i : Invocation) (fuel : ℕ) (old later : Lines) (before mid after : Calls) (told_before told_mid told_after : Option Contents)
-    (same : also ≡ col) (due : here ≡ i ∷ rest) (so_far : SoFar (engine p col depth) base name (point_of s0 all fuel) (point_of s here fuel) old before mid told_before told_mid) where
-  from_here : SoFar (engine p col depth) base name (point_of s0 all fuel) (point_of s (i ∷ rest) fuel) old before mid told_before told_mid
-  from_here = subst (λ l. SoFar (engine p col depth) base name (point_of s0 all fuel) (point_of s l fuel) old before mid told_before told_mid) due so_far
+-- those that were made, with one more
+pub next_done : (xs : List InvocationWords) (k : ℕ) (x other : InvocationWords) → k < length xs → x ≡ get_or xs k other → map invocation_of (take k xs) ++ invocation_of x ∷ [] ≡ map invocation_of (take (k + 1) xs)
+next_done xs k x other lt is =
+    ap (λ y. map invocation_of (take k xs) ++ invocation_of y ∷ []) is
+    ∙ sym (map-append invocation_of (take k xs) (get_or xs k other ∷ []))
+    ∙ ap (λ l. map invocation_of l) (sym (take-suc xs k other lt))
+    ∙ ap (λ n. map invocation_of (take n xs)) (one_more k)
 
+-- those that were made, and those that are due
+pub all_due : (xs : List InvocationWords) (k : ℕ) → map invocation_of (take k xs) ++ map invocation_of (drop k xs) ≡ map invocation_of xs
+all_due xs k = sym (map-append invocation_of (take k xs) (drop k xs)) ∙ ap (λ l. map invocation_of l) (take-append-drop k xs)
+
+pub one_due : (xs : List InvocationWords) (k : ℕ) (x other : InvocationWords) → k < length xs → x ≡ get_or xs k other → map invocation_of (take k xs) ++ invocation_of x ∷ map invocation_of (drop (k + 1) xs) ≡ map invocation_of xs
+one_due xs k x other lt is = ap (λ l. map invocation_of (take k xs) ++ l) (sym (next_due xs k x other lt is)) ∙ all_due xs k
+
+module _ (p : Program) (col also : Bool) (depth : ℕ) (base name : List ℕ) (used_up : Import → Bool) (first s new : State) (done rest : List Invocation) (i : Invocation) (fuel : ℕ) (old later : Lines) (before mid after : Calls) (told_before told_mid told_after : Option Contents)
+    (same : also ≡ col) (so_far : SoFar (engine p col depth) base name first s done fuel old before mid told_before told_mid) where
   abbrev pub made_by : Turn → Bool → Type 0
-  made_by turn c = MadeOne p (engine p c depth) base name used_up (point_of s (i ∷ rest) fuel) (point_of new rest fuel) old later mid after told_mid told_after turn
+  made_by turn c = MadeOne p (engine p c depth) base name used_up s new i fuel old later mid after told_mid told_after turn
 
-  pub come_next : (turn : Turn) → turn ≡ GoesOn → UnlessRefused turn (made_by turn also) → SoFar (engine p col depth) base name (point_of s0 all fuel) (point_of new rest fuel) later before after told_before told_after
-  come_next turn is made =
-      list_goes_on p (engine p col depth) base name used_up (point_of s0 all fuel) (point_of s (i ∷ rest) fuel) (point_of new rest fuel) i old later before mid after told_before told_mid told_after refl from_here
-      (subst (λ c. made_by GoesOn c) same (subst (λ t. UnlessRefused t (made_by t also)) is made))
+  pub come_next : (turn : Turn) (more : List Invocation) → turn ≡ GoesOn → done ++ i ∷ [] ≡ more → UnlessRefused turn (made_by turn also) → SoFar (engine p col depth) base name first new more fuel later before after told_before told_after
+  come_next turn more is with_one made =
+      subst (λ l. SoFar (engine p col depth) base name first new l fuel later before after told_before told_after) with_one
+      (list_goes_on p (engine p col depth) base name used_up first s new done i fuel old later before mid after told_before told_mid told_after so_far
+      (subst (λ c. made_by GoesOn c) same (subst (λ t. UnlessRefused t (made_by t also)) is made)))
 
-  pub ends_ran : (counts now : List ℕ → ℕ) (turn : Turn) (a : RunAnswer) (result : Result Outcome WantOfMemory) (left count : ℕ) → turn ≡ Ends a → UnlessRefused turn (made_by turn also) → length rest ≡ left → before.served ≡ [] → count ≡ length after.served
+  ends_with : (turn : Turn) (a : RunAnswer) (all : List Invocation) → turn ≡ Ends a → done ++ i ∷ rest ≡ all → UnlessRefused turn (made_by turn also) → EndedWith p (engine p col depth) base name used_up (point_of first all fuel) later before after told_before told_after a (length rest)
+  ends_with turn a all is are made =
+      subst (λ l. EndedWith p (engine p col depth) base name used_up (point_of first l fuel) later before after told_before told_after a (length rest)) are
+      (list_ends p (engine p col depth) base name used_up first s new done i rest fuel old later before mid after told_before told_mid told_after a so_far
+      (subst (λ c. made_by (Ends a) c) same (subst (λ t. UnlessRefused t (made_by t also)) is made)))
+
+  pub ends_ran : (counts now : List ℕ → ℕ) (turn : Turn) (a : RunAnswer) (result : Result Outcome WantOfMemory) (all : List Invocation) (left count : ℕ) → turn ≡ Ends a → done ++ i ∷ rest ≡ all → UnlessRefused turn (made_by turn also) → length rest ≡ left → before.served ≡ [] → count ≡ length after.served
       → (a ≡ NoMemory → ⊥) → HasCause a counts now → IfOk result (λ o. o ≡ ended (answer_status a later.traps) (later.text ++ answer_line a count left))
-      → IfOk result (λ o. UnlessFault o.status (RanAll p (engine p col depth) base name used_up counts now (point_of s0 all fuel) before after told_before told_after o))
-  ends_ran counts now turn a (Err e) left count is made leaves none counted some cause answer = tt
-  ends_ran counts now turn a (Ok o) left count is made leaves none counted some cause answer =
-      on_all o.status (RanAll p (engine p col depth) base name used_up counts now (point_of s0 all fuel) before after told_before told_after o)
-      (ended_so p (engine p col depth) base name used_up counts now (point_of s0 all fuel) later before after told_before told_after a (length rest) count o none counted some cause
+      → IfOk result (λ o. UnlessFault o.status (RanAll p (engine p col depth) base name used_up counts now (point_of first all fuel) before after told_before told_after o))
+  ends_ran counts now turn a (Err e) all left count is are made leaves none counted some cause answer = tt
+  ends_ran counts now turn a (Ok o) all left count is are made leaves none counted some cause answer =
+      on_all o.status (RanAll p (engine p col depth) base name used_up counts now (point_of first all fuel) before after told_before told_after o)
+      (ended_so p (engine p col depth) base name used_up counts now (point_of first all fuel) later before after told_before told_after a (length rest) count o none counted some cause
       (answer ∙ ap (λ n. ended (answer_status a later.traps) (later.text ++ answer_line a count n)) (sym leaves))
-      (list_ends p (engine p col depth) base name used_up (point_of s0 all fuel) (point_of s (i ∷ rest) fuel) (point_of new rest fuel) i rest old later before mid after told_before told_mid told_after a refl from_here
-      (subst (λ c. made_by (Ends a) c) same (subst (λ t. UnlessRefused t (made_by t also)) is made))))
+      (ends_with turn a all is are made))
+
+  -- the line of its end can't be told
+  pub ends_stopped : (turn : Turn) (a : RunAnswer) (result : Result Outcome WantOfMemory) (all : List Invocation) (left count : ℕ) → turn ≡ Ends a → done ++ i ∷ rest ≡ all → UnlessRefused turn (made_by turn also) → first.steps ≡ 0
+      → IfOk result (λ o. o ≡ ended (answer_status a later.traps) (later.text ++ answer_line a count left))
+      → OnStop (λ stop. StopsIn stop (engine p col depth) base name 0 first all fuel before after told_before told_after) result
+  ends_stopped turn a (Err e) all left count is are made steps answer =
+      ended_stopped p (engine p col depth) base name used_up first all fuel later before after told_before told_after a (length rest) steps (ends_with turn a all is are made)
+  ends_stopped turn a (Ok o) all left count is are made steps answer = λ faulted. absurd (no_file_fault a later.traps (sym (ap (λ (x : Outcome). x.status) answer) ∙ faulted))
+
+  -- the invocation was stopped
+  pub stopped_here : (stop : Stop) (all : List Invocation) → done ++ i ∷ rest ≡ all → first.steps ≡ 0
+      → StopsIn stop (engine p also depth) base name old.traps s (i ∷ rest) fuel mid after told_mid told_after
+      → StopsIn stop (engine p col depth) base name 0 first all fuel before after told_before told_after
+  stopped_here stop all are steps x =
+      subst (λ l. StopsIn stop (engine p col depth) base name 0 first l fuel before after told_before told_after) are
+      (stops_behind stop (engine p col depth) base name first s done (i ∷ rest) fuel old before mid after told_before told_mid told_after steps so_far
+      (subst (λ c. StopsIn stop (engine p c depth) base name old.traps s (i ∷ rest) fuel mid after told_mid told_after) same x))
+
+  abbrev pub stops_here : Stop → Type 0
+  stops_here stop = StopsIn stop (engine p also depth) base name old.traps s (i ∷ rest) fuel mid after told_mid told_after
+
+  pub stopped_refused : (turn : Turn) (o : Outcome) (all : List Invocation) → turn ≡ Refused o → done ++ i ∷ rest ≡ all → first.steps ≡ 0 → OnTurnStop stops_here (Ok turn)
+      → (stop : Stop) → StopsIn stop (engine p col depth) base name 0 first all fuel before after told_before told_after
+  stopped_refused turn o all is are steps x stop = stopped_here stop all are steps (subst (λ t. OnTurnStop stops_here (Ok t)) is x stop)
 
 -- ---- the end of the list
-
-none_due : (xs : List InvocationWords) (k : ℕ) → length xs ≤ k → map invocation_of (drop k xs) ≡ []
-none_due xs k le = ap (λ l. map invocation_of l) (drop_all k xs le)
 
 some_due : (xs : List InvocationWords) → 0 < length xs → 0 < length (map invocation_of xs)
 some_due xs lt = subst (λ n. 0 < n) (sym (map_length invocation_of xs)) lt
 
-pub all_ran_so : (p : Program) (M : Engine) (base name : List ℕ) (used_up : Import → Bool) (counts now : List ℕ → ℕ) (s0 s : State) (all xs : List InvocationWords) (k fuel : ℕ) (lines : Lines) (before after : Calls) (told_before told_after : Option Contents) (o : Outcome)
-    → length xs ≤ k → 0 < length all → o ≡ ended (trapped_or_done lines.traps) lines.text
-    → SoFar M base name (point_of s0 (map invocation_of all) fuel) (point_of s (map invocation_of (drop k xs)) fuel) lines before after told_before told_after
-    → UnlessFault o.status (RanAll p M base name used_up counts now (point_of s0 (map invocation_of all) fuel) before after told_before told_after o)
-all_ran_so p M base name used_up counts now s0 s all xs k fuel lines before after told_before told_after o le some answer so_far =
-    on_all o.status (RanAll p M base name used_up counts now (point_of s0 (map invocation_of all) fuel) before after told_before told_after o)
-    (all_made_so p M base name used_up counts now (point_of s0 (map invocation_of all) fuel) (point_of s (map invocation_of (drop k xs)) fuel) lines before after told_before told_after o (none_due xs k le) (some_due all some) answer so_far)
+pub all_ran_so : (p : Program) (M : Engine) (base name : List ℕ) (used_up : Import → Bool) (counts now : List ℕ → ℕ) (first s : State) (all xs : List InvocationWords) (k fuel : ℕ) (lines : Lines) (before after : Calls) (told_before told_after : Option Contents) (o : Outcome)
+    → length xs ≤ k → xs ≡ all → 0 < length all → o ≡ ended (trapped_or_done lines.traps) lines.text
+    → SoFar M base name first s (map invocation_of (take k xs)) fuel lines before after told_before told_after
+    → UnlessFault o.status (RanAll p M base name used_up counts now (point_of first (map invocation_of all) fuel) before after told_before told_after o)
+all_ran_so p M base name used_up counts now first s all xs k fuel lines before after told_before told_after o le same some answer so_far =
+    on_all o.status (RanAll p M base name used_up counts now (point_of first (map invocation_of all) fuel) before after told_before told_after o)
+    (subst (λ l. RanAll p M base name used_up counts now (point_of first l fuel) before after told_before told_after o) are
+    (all_made_so p M base name used_up counts now first s (map invocation_of (take k xs)) fuel lines before after told_before told_after o
+    (subst (λ l. 0 < length l) (sym are) (some_due all some)) answer so_far))
+  where
+    are : map invocation_of (take k xs) ++ [] ≡ map invocation_of all
+    are = ap (λ l. map invocation_of (take k xs) ++ map invocation_of l) (sym (drop_all k xs le)) ∙ all_due xs k ∙ ap (λ l. map invocation_of l) same
 
 -- ---- the answer that ends the list
 

@@ -10,6 +10,7 @@ pub mod Steps
 pub mod Dumping
 pub mod Written
 pub mod Turns
+pub mod Stops
 pub mod Sessions
 pub mod Scripts
 pub mod Answers

@@ -1,7 +1,8 @@
 -- One invocation of a list, and the whole list, as the code makes them.
-use Rattle.std.specs.Prelude.{◌≡◌, ℕ, ◌-◌, ◌⊎◌, Bool, List, [], ◌∷◌, ◌++◌, length, Option, None, codes}
+use Rattle.std.specs.Prelude.{◌≡◌, ℕ, ◌-◌, ◌≤◌, ◌⊎◌, Bool, List, [], ◌∷◌, ◌++◌, length, take, Option, None, Result, Ok, Err, codes}
 use Rattle.std.specs.Fmt.{decimal}
 use Rattle.causes.specs.Counts.{Rose}
+use Rattle.causes.specs.declared.NoMemory.{NoMemory as WantOfMemory}
 use Rattle.pm_outside.specs.Contents.{Contents}
 use Rattle.wasm_syntax.specs.declared.parts.Import.{Import}
 use Rattle.wasm_syntax.specs.declared.host.Reply.{Reply}
@@ -19,13 +20,14 @@ use Rattle.entry_runs.specs.Invocations.{HasOutcome}
 use Rattle.wasm_machine.specs.Instances.{State}
 use Rattle.command_answers.specs.Texts.{ended, file_fault}
 use Rattle.command_answers.specs.declared.outcome.Outcome.{Outcome}
-use Rattle.run_command.specs.Given.{given_to}
-use Rattle.run_command.specs.RunText.{dump_name, not_invoked_text}
-use Rattle.run_command.specs.Written.{Writes, HoldThen}
+use Rattle.run_command.specs.Given.{given_to, given_in}
+use Rattle.run_command.specs.RunText.{dump_name, dumps_from, not_invoked_text}
+use Rattle.run_command.specs.Written.{Writes, HoldThen, HoldPart}
 use Rattle.run_command.specs.Progress.{Point, Made, session_from, HasCome, HasEnded}
 use Rattle.run_command.specs.Turns.{TurnsTo}
 use Rattle.run_command.specs.Answers.{device_cause, misfit_cause}
 use Rattle.run_command.specs.Ending.{host_stopped, end_status}
+use Rattle.run_command.specs.Stops.{Stop, no_memory, file_failed, EndsTrapped}
 use Rattle.run_command.specs.declared.turns.Lines.{Lines}
 use Rattle.run_command.specs.declared.turns.Turn.{Turn}
 use Rattle.run_command.specs.declared.turns.Turn.TheVariants.{GoesOn, Ends, Refused}
@@ -64,14 +66,18 @@ pub record OneRan (p : Program) (M : Engine) (base name : List ℕ) (used_up : I
   pub session_turns : SessionTurns M there next given more ran turn
   pub outcome : HasTurnOutcome p used_up ran turn
 
--- one invocation was made
-pub record MadeOne (p : Program) (M : Engine) (base name : List ℕ) (used_up : Import → Bool) (there next : Point) (old new : Lines) (before after : Calls) (told_before told_after : Option Contents) (turn : Turn) : Type 0 where
+-- One invocation was made. Whatever is to be made behind it, and for each number of steps from those that were made up to the fuel, it is the
+-- session's next one.
+pub record MadeOne (p : Program) (M : Engine) (base name : List ℕ) (used_up : Import → Bool) (s next : State) (i : Invocation) (fuel : ℕ) (old new : Lines) (before after : Calls) (told_before told_after : Option Contents) (turn : Turn) : Type 0 where
   pub answer : RunAnswer
   pub given : List Served
   pub grew : after.served ≡ before.served ++ given
   pub writes : Writes
   pub files : OnTold (HoldThen writes) told_before told_after
-  pub ran : (more : List Reply) → AdmitsTurn turn more → OneRan p M base name used_up there next given writes answer old new turn more
+  pub onward : s.steps ≤ next.steps
+  pub within : s.steps ≤ fuel → next.steps ≤ fuel
+  pub ran : (rest : List Invocation) (total : ℕ) → next.steps ≤ total → total ≤ fuel → (more : List Reply) → AdmitsTurn turn more
+      → OneRan p M base name used_up (point_of s (i ∷ rest) total) (point_of next rest total) given writes answer old new turn more
 
 -- ---- the list
 
@@ -79,13 +85,16 @@ pub record MadeOne (p : Program) (M : Engine) (base name : List ℕ) (used_up : 
 abbrev pub made_with : Lines → List Served → Writes → Made
 made_with lines given writes = record { text = lines.text; writes = writes; traps = lines.traps; given = given }
 
--- the list has come to a point
-pub record SoFar (M : Engine) (base name : List ℕ) (first there : Point) (lines : Lines) (before after : Calls) (told_before told_after : Option Contents) : Type 0 where
+-- These invocations were made, and the list goes on from here, whatever is still to be made, and for each number of steps from those that were
+-- made up to the fuel.
+pub record SoFar (M : Engine) (base name : List ℕ) (first s : State) (done : List Invocation) (fuel : ℕ) (lines : Lines) (before after : Calls) (told_before told_after : Option Contents) : Type 0 where
   pub given : List Served
   pub grew : after.served ≡ before.served ++ given
   pub writes : Writes
   pub files : OnTold (HoldThen writes) told_before told_after
-  pub come : (more : List Reply) → HasCome M base name first there (made_with lines given writes) more
+  pub within : s.steps ≤ fuel
+  pub come : (rest : List Invocation) (total : ℕ) → s.steps ≤ total → total ≤ fuel → (more : List Reply)
+      → HasCome M base name (point_of first (done ++ rest) total) (point_of s rest total) (made_with lines given writes) more
 
 -- the last line: it names the device that failed, whose count of faults rose, or the number of the call
 abbrev pub EndsIn : Program → (used_up : Import → Bool) → (counts now : List ℕ → ℕ) → (given due : ℕ) → RunOutcome → List ℕ → Type 0
@@ -116,3 +125,28 @@ pub record RanAll (p : Program) (M : Engine) (base name : List ℕ) (used_up : I
 -- the file of a dump failed
 abbrev pub IsDumpFault : (base : List ℕ) → Outcome → Type 0
 IsDumpFault base o = (j : ℕ) × (o ≡ file_fault (dump_name base j))
+
+-- ---- where there is no answer
+
+-- A session has come to these invocations, on the replies that were given. The first of their dumps has this number; the last one may be there
+-- in part.
+pub record WasStopped (M : Engine) (base name : List ℕ) (number : ℕ) (there : Point) (rans : List Ran) (before after : Calls) (told_before told_after : Option Contents) : Type 0 where
+  pub given : List Served
+  pub grew : after.served ≡ before.served ++ given
+  pub is : session_from M there (replies_of given) ≡ rans
+  pub all_given : given ≡ given_in rans
+  pub files : OnTold (HoldPart (dumps_from base name number rans)) told_before told_after
+
+-- within some number of steps; or behind the invocation that trapped, whose dump failed
+abbrev pub StopsIn : Stop → Engine → (base name : List ℕ) → (number : ℕ) → State → List Invocation → (fuel : ℕ) → (before after : Calls) → (told_before told_after : Option Contents) → Type 0
+StopsIn no_memory M base name number s is fuel before after told_before told_after =
+    (total : ℕ) × (s.steps ≤ total) × (total ≤ fuel) × (rans : List Ran) × WasStopped M base name number (point_of s is total) rans before after told_before told_after
+StopsIn file_failed M base name number s is fuel before after told_before told_after =
+    (made : ℕ) × (rans : List Ran) × EndsTrapped rans × WasStopped M base name number (point_of s (take made is) fuel) rans before after told_before told_after
+
+-- a fact on each way in which an invocation has no answer
+abbrev pub OnTurnStop : (Stop → Type 0) → Result Turn WantOfMemory → Type 0
+OnTurnStop P (Err e) = P no_memory
+OnTurnStop P (Ok GoesOn) = Unit {0}
+OnTurnStop P (Ok (Ends answer)) = Unit {0}
+OnTurnStop P (Ok (Refused o)) = (stop : Stop) → P stop

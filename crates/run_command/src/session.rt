@@ -14,7 +14,8 @@ ghost use Rattle.command_answers.specs.Told.{UnlessFault};
 ghost use Rattle.run_command.specs.RunText.{dump_name};
 ghost use Rattle.run_command.specs.Starting.{invocation_of};
 ghost use Rattle.run_command.specs.Turns.{UnlessRefused, IfGoesOn, IfEnds, IfTurnRefused};
-ghost use Rattle.run_command.specs.Sessions.{MayBegin, point_of, MadeOne, RanAll, IsDumpFault};
+ghost use Rattle.run_command.specs.Stops.{OnStop};
+ghost use Rattle.run_command.specs.Sessions.{MayBegin, point_of, MadeOne, RanAll, IsDumpFault, StopsIn, OnTurnStop};
 
 use crate::ending::{all_made, ended_with};
 use crate::turns::{Lines, Turn, add_lines};
@@ -51,7 +52,8 @@ pub(crate) fn run_one<F: Files, H: Counting>(
     requires served { ServesAll (H.serving hosts.old) instance.old.module_ }
     requires imports { (H.origin hosts.old).imports ≡ instance.old.module_.imports }
     requires traps { lines.old.traps < 2 ^ 64 - 1 }
-    ensures made { (p : Program) (rest : List Invoking) → p.module_ ≡ instance.old.module_ → IsProgram p → FewFunctions p.module_ → IfOk result (λ turn. UnlessRefused turn (MadeOne p (engine p (H.collecting hosts.old) words.now.depth) words.now.dump words.now.name (H.used_up hosts.new) (point_of instance.old (invocation_of invocation.now ∷ rest) words.now.fuel) (point_of instance.new rest words.now.fuel) lines.old lines.new (H.calls hosts.old) (H.calls hosts.new) (F.told files.old) (F.told files.new) turn)) }
+    ensures made { (p : Program) → p.module_ ≡ instance.old.module_ → IsProgram p → FewFunctions p.module_ → IfOk result (λ turn. UnlessRefused turn (MadeOne p (engine p (H.collecting hosts.old) words.now.depth) words.now.dump words.now.name (H.used_up hosts.new) instance.old instance.new (invocation_of invocation.now) words.now.fuel lines.old lines.new (H.calls hosts.old) (H.calls hosts.new) (F.told files.old) (F.told files.new) turn)) }
+    ensures stops { (p : Program) (rest : List Invoking) → p.module_ ≡ instance.old.module_ → IsProgram p → FewFunctions p.module_ → instance.old.steps ≤ words.now.fuel → OnTurnStop (λ stop. StopsIn stop (engine p (H.collecting hosts.old) words.now.depth) words.now.dump words.now.name lines.old.traps instance.old (invocation_of invocation.now ∷ rest) words.now.fuel (H.calls hosts.old) (H.calls hosts.new) (F.told files.old) (F.told files.new)) result }
     ensures ready { IfOk result (IfGoesOn (instance.new.ready ≡ true)) }
     ensures same { instance.new.module_ ≡ instance.old.module_ }
     ensures serving { (i : ImportValue) (t : TypeValue) → H.serving hosts.new i t ≡ H.serving hosts.old i t }
@@ -103,6 +105,7 @@ pub(crate) fn run_all<F: Files, H: Counting>(
     requires steps { instance.old.steps ≡ 0 }
     requires calls { (H.calls hosts.old).served ≡ [] }
     ensures ran { (p : Program) → p.module_ ≡ instance.old.module_ → IsProgram p → FewFunctions p.module_ → IfOk result (λ o. UnlessFault o.status (RanAll p (engine p (H.collecting hosts.old) words.now.depth) words.now.dump words.now.name (H.used_up hosts.new) (H.fault_count hosts.old) (H.fault_count hosts.new) (point_of instance.old (map invocation_of words.now.invocations) words.now.fuel) (H.calls hosts.old) (H.calls hosts.new) (F.told files.old) (F.told files.new) o)) }
+    ensures stops { (p : Program) → p.module_ ≡ instance.old.module_ → IsProgram p → FewFunctions p.module_ → OnStop (λ stop. StopsIn stop (engine p (H.collecting hosts.old) words.now.depth) words.now.dump words.now.name 0 instance.old (map invocation_of words.now.invocations) words.now.fuel (H.calls hosts.old) (H.calls hosts.new) (F.told files.old) (F.told files.new)) result }
     ensures memory { IfOk result (λ o. o.status ≢ Status.NoMemory) }
     ensures fault { IfOk result (λ o. o.status ≡ Status.FileFault → IsDumpFault words.now.dump o × Rose (F.faults files.old) (F.faults files.new)) }
     ensures origin { H.origin hosts.new ≡ H.origin hosts.old }

@@ -1,0 +1,94 @@
+-- What is left where memory is wanting, or where a file fails.
+use Rattle.std.specs.Prelude.{◌≡◌, ◌≢◌, ℕ, ◌≤◌, ◌⊎◌, List, ◌++◌, map, take, false, Option, Some, None, Result, Ok, Err}
+use Rattle.causes.specs.declared.NoMemory.{NoMemory}
+use Rattle.pm_outside.specs.Contents.{Contents}
+use Rattle.wasm_syntax.specs.declared.quantity.Quantity.TheVariants.{ModuleBytes}
+use Rattle.wasm_syntax.specs.declared.host.Reply.{Reply}
+use Rattle.wasm_syntax.specs.declared.host.Served.{Served}
+use Rattle.wasm_syntax.specs.declared.module.ModuleParts.{ModuleParts as Module}
+use Rattle.wasm_syntax.specs.Module.{Program, IsProgram}
+use Rattle.wasm_syntax.specs.Valid.{Valid}
+use Rattle.wasm_syntax.specs.Run.{Invocation, trapped, Ran, run}
+use Rattle.wasm_decode.specs.Decode.{module_from}
+use Rattle.wasm_validate.specs.Heights.{AllLow}
+use Rattle.host_runs.specs.Hosted.{replies_of}
+use Rattle.device_set.specs.Sets.{DeviceState, names}
+use Rattle.command_answers.specs.Inputs.{input_of}
+use Rattle.command_answers.specs.declared.outcome.Outcome.{Outcome}
+use Rattle.command_answers.specs.declared.status.Status.TheVariants as status
+use Rattle.run_words.specs.declared.words.RunWords.{RunWords}
+use Rattle.run_command.specs.RunText.{dumps_from, last_of}
+use Rattle.run_command.specs.Given.{given_in}
+use Rattle.run_command.specs.Written.{HoldPart}
+use Rattle.run_command.specs.Starting.{invocation_of}
+use Rattle.run_command.specs.Hosting.{scripted, start_text}
+use Rattle.run_command.specs.RunAnswer.{Logs, hosting, script_replies, replies_input, script_of}
+
+-- why there is no answer
+pub data Stop : Type 0 where
+  no_memory : Stop
+  file_failed : Stop
+
+-- A fact on each way in which there is no answer. Where a file failed, what is known of want of memory is known too.
+abbrev pub OnStop : (Stop → Type 0) → Result Outcome NoMemory → Type 0
+OnStop P (Err e) = P no_memory
+OnStop P (Ok o) = o.status ≡ status.FileFault → (stop : Stop) → P stop
+
+-- ---- what was run
+
+-- the last of these invocations trapped
+abbrev pub EndsTrapped : List Ran → Type 0
+EndsTrapped rans = (r : Ran) × (kind : ℕ) × (last_of rans ≡ Some r) × (r.outcome ≡ trapped kind)
+
+-- What these invocations come to within so many steps, on the replies that were given, those of the script being its first ones. The dumps of
+-- their traps are written, but the last one may be there in part.
+pub record RunsFor (w : RunWords) (m : Module) (script : Option (List Reply)) (is : List Invocation) (fuel : ℕ) (rans : List Ran) (before after : List DeviceState) (old new : Contents) : Type 0 where
+  pub program : Program
+  pub of_module : program.module_ ≡ m
+  pub writes_out : IsProgram program
+  pub given : List Served
+  pub runs : rans ≡ run program false is (replies_of given) w.depth fuel
+  pub all_given : given ≡ given_in rans
+  pub left : List Reply
+  pub by_script : script_replies script ≡ replies_of (scripted (names before) m.imports given) ++ left
+  pub logs : Logs m given before after
+  pub files : HoldPart (dumps_from w.dump w.name 0 rans) old new
+
+-- all invocations, for some number of steps up to the fuel; or the invocations up to one that trapped, where the file of its dump failed
+abbrev pub StopsRun : Stop → RunWords → Module → Option (List Reply) → (before after : List DeviceState) → (old new : Contents) → Type 0
+StopsRun no_memory w m script before after old new =
+    (fuel : ℕ) × (fuel ≤ w.fuel) × (rans : List Ran) × RunsFor w m script (map invocation_of w.invocations) fuel rans before after old new
+StopsRun file_failed w m script before after old new =
+    (made : ℕ) × (rans : List Ran) × EndsTrapped rans × RunsFor w m script (take made (map invocation_of w.invocations)) w.fuel rans before after old new
+
+-- ---- the steps of the command, from the last to the first
+
+-- no device was called, and all files are as before
+pub record IsUnchanged (before after : List DeviceState) (old new : Contents) : Type 0 where
+  pub devices : after ≡ before
+  pub files : (name : List ℕ) → new name ≡ old name
+
+-- nothing hinders the start of this module with this script
+abbrev pub ModuleStops : Stop → RunWords → Module → Option (List Reply) → (before after : List DeviceState) → (old new : Contents) → Type 0
+ModuleStops stop w m script before after old new =
+    (start_text (hosting before script) m (map invocation_of w.invocations) ≡ None) × StopsRun stop w m script before after old new
+
+abbrev pub ScriptStops : Stop → RunWords → Module → Result (Option (List Reply)) Outcome → (before after : List DeviceState) → (old new : Contents) → Type 0
+ScriptStops stop w m script before after old new = (replies : Option (List Reply)) × (script ≡ Ok replies) × ModuleStops stop w m replies before after old new
+
+-- the bytes spell a module that is taken
+abbrev pub BytesStops : Stop → RunWords → List ℕ → Result (Option (List Reply)) Outcome → (before after : List DeviceState) → (old new : Contents) → Type 0
+BytesStops stop w bytes script before after old new =
+    (m : Module) × ((module_from bytes ≡ Ok m) × Valid m × AllLow m) × ScriptStops stop w m script before after old new
+
+abbrev pub SourceStops : Stop → RunWords → List ℕ → (before after : List DeviceState) → (old new : Contents) → Type 0
+SourceStops stop w bytes before after old new =
+    (replies : Option (List ℕ)) × (replies_input w.replies old ≡ Ok replies) × BytesStops stop w bytes (script_of replies) before after old new
+
+abbrev pub FileStops : Stop → RunWords → (before after : List DeviceState) → (old new : Contents) → Type 0
+FileStops stop w before after old new =
+    (bytes : List ℕ) × (input_of ModuleBytes w.source (old w.source) ≡ Ok bytes) × SourceStops stop w bytes before after old new
+
+-- What `run` leaves where it has no answer.
+abbrev pub RunStops : Stop → RunWords → (before after : List DeviceState) → (old new : Contents) → Type 0
+RunStops stop w before after old new = IsUnchanged before after old new ⊎ FileStops stop w before after old new
