@@ -8,6 +8,7 @@ use Rattle.causes.specs.Counts.{Rose}
 use Rattle.pm_outside.specs.Contents.{Contents}
 use Rattle.wasm_syntax.specs.declared.parts.Import.{Import}
 use Rattle.wasm_syntax.specs.declared.host.Reply.{Reply}
+use Rattle.wasm_syntax.specs.declared.host.Served.{Served}
 use Rattle.wasm_syntax.specs.declared.module.ModuleParts.{ModuleParts as Module}
 use Rattle.wasm_syntax.specs.Module.{Program, IsProgram, function_export}
 use Rattle.wasm_syntax.specs.Run.{Cause, no_export, bad_arguments, element_out, data_out, cause_of_entry, cause_of_segments, cause_of, or_else, Invocation, Outcome as RunOutcome, not_started, finished, trapped, lacks_reply, misfits, running, got_stuck, Ran, session, start_world, unless, run, engine}
@@ -27,6 +28,7 @@ use Rattle.run_command.specs.Hosting.{Hosting, scripted}
 use Rattle.run_command.specs.Answers.{device_cause, misfit_cause}
 use Rattle.run_command.specs.Ending.{host_stopped, end_status}
 use Rattle.run_command.specs.AllRan.{end_text, ran_to_end}
+use Rattle.run_command.specs.Progress.{session_from}
 use Rattle.run_command.specs.Sessions.{point_of, EndsIn, RanAll}
 use Rattle.run_command.specs.RunAnswer.{hosting, script_replies, UsesUp, EndUsesUp, HasFailed, EndHasFailed, RunsTo}
 
@@ -117,6 +119,20 @@ map_length : {A B : Type 0} (f : A → B) (xs : List A) → length (map f xs) �
 map_length f [] = refl
 map_length f (x ∷ xs) = ap suc (map_length f xs)
 
+no_less : (n : ℕ) → n - 0 ≡ n
+no_less n = omega arith
+
+-- the session of a new instance is the run
+pub is_run : (m : Module) (p : Program) (s : State) (is : List Invocation) (depth fuel : ℕ) (given : List Served) → p.module_ ≡ m → IsNew m s → entries_text m is ≡ None → cause_of_segments m ≡ None
+    → session_from (engine p false depth) (point_of s is fuel) (replies_of given) ≡ run p false is (replies_of given) depth fuel
+is_run m p s is depth fuel given of_module new entries segments =
+    let M = engine p false depth in
+    let cause : cause_of p.module_ is ≡ None = ap (λ x. cause_of x is) of_module ∙ no_cause m is entries segments in
+    ap (λ d. session M is d (world_of s.machine (replies_of given)) (fuel - s.steps)) (new.due ∙ ap (λ (x : Module). x.start) (sym of_module))
+    ∙ ap (λ v. session M is p.module_.start v (fuel - s.steps)) (new.world (replies_of given) ∙ ap (λ x. start_world x (replies_of given)) (sym of_module))
+    ∙ ap (λ n. session M is p.module_.start (start_world p.module_ (replies_of given)) n) (ap (λ n. fuel - n) new.steps ∙ no_less fuel)
+    ∙ sym (ap (λ c. unless M c is (replies_of given) fuel) cause)
+
 pub runs_to : (before after : List DeviceState) (script : Option (List Reply)) (w : RunWords) (m : Module) (p : Program) (used_up : Import → Bool) (counts now : List ℕ → ℕ) (left : List Reply) (s : State) (calls calls' : Calls) (told_before told_after : Option Contents) (o : Outcome)
     → p.module_ ≡ m → IsProgram p → IsNew m s → entries_text m (map invocation_of w.invocations) ≡ None → cause_of_segments m ≡ None → HostFacts (names before) used_up left counts now
     → ((device : List ℕ) → Rose (counts device) (now device) → Rose (count_of before device) (count_of after device))
@@ -125,20 +141,14 @@ pub runs_to : (before after : List DeviceState) (script : Option (List Reply)) (
     → RunsTo before after script w m r.given o r.writes
 runs_to before after script w m p used_up counts now left s calls calls' told_before told_after o of_module writes_out new entries segments facts counted r of_script =
     let is = map invocation_of w.invocations in
-    let M = engine p false w.depth in
     let e = r.has_ended in
-    let cause : cause_of p.module_ is ≡ None = ap (λ x. cause_of x is) of_module ∙ no_cause m is entries segments in
     let due : length w.invocations - length e.rans ≡ r.due = not_begun (length w.invocations) (length e.rans) r.due (sym (map_length invocation_of w.invocations) ∙ e.counted) in
     record {
       program = p;
       of_module = of_module;
       writes_out = writes_out;
       rans = e.rans;
-      runs = sym e.is
-          ∙ ap (λ d. session M is d (world_of s.machine (replies_of r.given)) (w.fuel - s.steps)) (new.due ∙ ap (λ (x : Module). x.start) (sym of_module))
-          ∙ ap (λ v. session M is p.module_.start v (w.fuel - s.steps)) (new.world (replies_of r.given) ∙ ap (λ x. start_world x (replies_of r.given)) (sym of_module))
-          ∙ ap (λ n. session M is p.module_.start (start_world p.module_ (replies_of r.given)) n) (ap (λ n. w.fuel - n) new.steps ∙ no_less w.fuel)
-          ∙ sym (ap (λ c. unless M c is (replies_of r.given) w.fuel) cause);
+      runs = sym e.is ∙ is_run m p s is w.depth w.fuel r.given of_module new entries segments;
       all_given = e.came_of.given;
       left = left;
       by_script = of_script;
@@ -152,6 +162,3 @@ runs_to before after script w m p used_up counts now left s calls calls' told_be
           ∙ ap (λ l. ran_to_end (names before) m.imports (length w.invocations) e.rans l) (sym e.last);
       dumps = e.came_of.writes;
     }
-  where
-    no_less : (n : ℕ) → n - 0 ≡ n
-    no_less n = omega arith

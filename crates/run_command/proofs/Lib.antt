@@ -16,3 +16,4 @@ mod Ones
 mod Whole
 mod Refusals
 mod Commands
+mod Stopping

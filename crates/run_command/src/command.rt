@@ -1,6 +1,6 @@
 //! The command on the module in a file.
 
-ghost use Rattle.std.specs.Prelude.{◌≡◌, ◌≢◌, ◌≤◌, ◌<◌, ℕ, List, length, IfOk, IfSome, is_some};
+ghost use Rattle.std.specs.Prelude.{◌≡◌, ◌≢◌, ◌≤◌, ◌<◌, ◌⊎◌, ℕ, List, length, IfOk, IfSome, is_some};
 ghost use Rattle.causes.specs.Counts.{Rose};
 ghost use Rattle.wasm_syntax.specs.declared.host.Served.{Served};
 ghost use Rattle.device_set.specs.Sets.{names, AreDistinct};
@@ -8,6 +8,7 @@ ghost use Rattle.command_answers.specs.Texts.{file_fault};
 ghost use Rattle.command_answers.specs.Told.{UnlessFault};
 ghost use Rattle.run_command.specs.Written.{Writes, HoldThen};
 ghost use Rattle.run_command.specs.Steps.{IsAnswered};
+ghost use Rattle.run_command.specs.Stops.{OnStop, IsUnchanged, ScriptStops, BytesStops, SourceStops, RunStops};
 ghost use Rattle.run_command.specs.RunAnswer.{IsFileOf, RunAnswer};
 ghost use Rattle.run_command.specs.Scripts.{script_result, ScriptAnswer, BytesAnswer, SourceAnswer, IsFaultOf};
 
@@ -34,6 +35,7 @@ fn run_scripted<F: Files, D: Devices>(
     requires distinct { AreDistinct (names (D.shown devices.old)) }
     requires some { 0 < length words.now.invocations }
     ensures told { IfSome (F.told files.old) (λ held. IfSome (F.told files.new) (λ after. IfOk result (λ o. UnlessFault o.status (IsAnswered (λ given writes. ScriptAnswer (D.shown devices.old) (D.shown devices.new) words.now given writes (script_result script) source.now) (D.shown devices.old) (D.shown devices.new) held after o)))) }
+    ensures stops { IfSome (F.told files.old) (λ held. IfSome (F.told files.new) (λ after. OnStop (λ stop. IsUnchanged (D.shown devices.old) (D.shown devices.new) held after ⊎ ScriptStops stop words.now source.now (script_result script) (D.shown devices.old) (D.shown devices.new) held after) result)) }
     ensures fault { IfOk result (IsFaultOf words.now (F.faults files.old) (F.faults files.new)) }
     ensures memory { IfOk result (λ o. o.status ≢ Status.NoMemory) }
     ensures telling { is_some (F.told files.new) ≡ is_some (F.told files.old) }
@@ -57,6 +59,7 @@ fn run_bytes<F: Files, D: Devices>(
     requires distinct { AreDistinct (names (D.shown devices.old)) }
     requires some { 0 < length words.now.invocations }
     ensures told { IfSome (F.told files.old) (λ held. IfSome (F.told files.new) (λ after. IfOk result (λ o. UnlessFault o.status (IsAnswered (λ given writes. BytesAnswer (D.shown devices.old) (D.shown devices.new) words.now given writes (script_result script) bytes.now) (D.shown devices.old) (D.shown devices.new) held after o)))) }
+    ensures stops { IfSome (F.told files.old) (λ held. IfSome (F.told files.new) (λ after. OnStop (λ stop. IsUnchanged (D.shown devices.old) (D.shown devices.new) held after ⊎ BytesStops stop words.now bytes.now (script_result script) (D.shown devices.old) (D.shown devices.new) held after) result)) }
     ensures fault { IfOk result (IsFaultOf words.now (F.faults files.old) (F.faults files.new)) }
     ensures memory { IfOk result (λ o. o.status ≢ Status.NoMemory) }
     ensures telling { is_some (F.told files.new) ≡ is_some (F.told files.old) }
@@ -80,6 +83,7 @@ fn run_source<F: Files, D: Devices>(
     requires distinct { AreDistinct (names (D.shown devices.old)) }
     requires some { 0 < length words.now.invocations }
     ensures told { IfSome (F.told files.old) (λ held. IfSome (F.told files.new) (λ after. IfOk result (λ o. UnlessFault o.status (IsAnswered (λ given writes. SourceAnswer (D.shown devices.old) (D.shown devices.new) words.now held given writes bytes.now) (D.shown devices.old) (D.shown devices.new) held after o)))) }
+    ensures stops { IfSome (F.told files.old) (λ held. IfSome (F.told files.new) (λ after. OnStop (λ stop. IsUnchanged (D.shown devices.old) (D.shown devices.new) held after ⊎ SourceStops stop words.now bytes.now (D.shown devices.old) (D.shown devices.new) held after) result)) }
     ensures fault { IfOk result (IsFaultOf words.now (F.faults files.old) (F.faults files.new)) }
     ensures memory { IfOk result (λ o. o.status ≢ Status.NoMemory) }
     ensures telling { is_some (F.told files.new) ≡ is_some (F.told files.old) }
@@ -108,6 +112,7 @@ pub fn run_file<F: Files, D: Devices>(
     requires distinct { AreDistinct (names (D.shown devices.old)) }
     requires some { 0 < length words.now.invocations }
     ensures told { IfSome (F.told files.old) (λ held. IfSome (F.told files.new) (λ after. IfOk result (λ o. UnlessFault o.status ((given : List Served) × (writes : Writes) × RunAnswer (D.shown devices.old) (D.shown devices.new) words.now held given writes o × HoldThen writes held after)))) }
+    ensures stops { IfSome (F.told files.old) (λ held. IfSome (F.told files.new) (λ after. OnStop (λ stop. RunStops stop words.now (D.shown devices.old) (D.shown devices.new) held after) result)) }
     ensures fault { IfOk result (λ o. o.status ≡ Status.FileFault → ((file : List ℕ) × IsFileOf words.now file × (o ≡ file_fault file)) × Rose (F.faults files.old) (F.faults files.new)) }
     ensures memory { IfOk result (λ o. o.status ≢ Status.NoMemory) }
     ensures telling { is_some (F.told files.new) ≡ is_some (F.told files.old) }

@@ -1,6 +1,6 @@
 //! The run of a list of invocations on a valid module.
 
-ghost use Rattle.std.specs.Prelude.{◌≡◌, ◌≢◌, ◌<◌, ◌≤◌, [], ℕ, List, None, Some, map, IfOk, IfSome, length, is_some};
+ghost use Rattle.std.specs.Prelude.{◌≡◌, ◌≢◌, ◌<◌, ◌≤◌, ◌⊎◌, [], ℕ, List, None, Some, map, IfOk, IfSome, length, is_some};
 ghost use Rattle.causes.specs.Counts.{Rose};
 ghost use Rattle.wasm_syntax.specs.Module.{IsModule};
 ghost use Rattle.wasm_syntax.specs.Run.{cause_of_segments};
@@ -14,6 +14,7 @@ ghost use Rattle.run_command.specs.Hosting.{import_text, first_unserved};
 ghost use Rattle.run_command.specs.Sessions.{IsDumpFault};
 ghost use Rattle.run_command.specs.RunAnswer.{hosting, RunsTo, Logs, ModuleAnswer, IsFileOf};
 ghost use Rattle.run_command.specs.Steps.{IsAnswered};
+ghost use Rattle.run_command.specs.Stops.{OnStop, StopsRun, IsUnchanged, ModuleStops};
 
 use crate::hosting::import_cause;
 use crate::session::run_all;
@@ -76,6 +77,7 @@ fn run_hosted<F: Files, D: Devices>(
     requires imports { first_unserved (hosting (D.shown devices.old) script) instance.old.module_ ≡ None }
     requires segments { cause_of_segments instance.old.module_ ≡ None }
     ensures told { IfSome (F.told files.old) (λ held. IfSome (F.told files.new) (λ then. IfOk result (λ o. UnlessFault o.status (IsAnswered (λ given writes o. RunsTo (D.shown devices.old) (D.shown devices.new) script words.now instance.old.module_ given o writes × Logs instance.old.module_ given (D.shown devices.old) (D.shown devices.new)) (D.shown devices.old) (D.shown devices.new) held then o)))) }
+    ensures stops { IfSome (F.told files.old) (λ held. IfSome (F.told files.new) (λ then. OnStop (λ stop. StopsRun stop words.now instance.old.module_ script (D.shown devices.old) (D.shown devices.new) held then) result)) }
     ensures fault { IfOk result (λ o. o.status ≡ Status.FileFault → IsDumpFault words.now.dump o × Rose (F.faults files.old) (F.faults files.new)) }
     ensures memory { IfOk result (λ o. o.status ≢ Status.NoMemory) }
     ensures telling { is_some (F.told files.new) ≡ is_some (F.told files.old) }
@@ -101,6 +103,7 @@ pub(crate) fn run_valid<F: Files, D: Devices>(
     requires distinct { AreDistinct (names (D.shown devices.old)) }
     requires some { 0 < length words.now.invocations }
     ensures told { IfSome (F.told files.old) (λ held. IfSome (F.told files.new) (λ then. IfOk result (λ o. UnlessFault o.status (IsAnswered (λ given writes o. ModuleAnswer (D.shown devices.old) (D.shown devices.new) words.now given writes script source.now o) (D.shown devices.old) (D.shown devices.new) held then o)))) }
+    ensures stops { IfSome (F.told files.old) (λ held. IfSome (F.told files.new) (λ then. OnStop (λ stop. IsUnchanged (D.shown devices.old) (D.shown devices.new) held then ⊎ ModuleStops stop words.now source.now script (D.shown devices.old) (D.shown devices.new) held then) result)) }
     ensures fault { IfOk result (λ o. o.status ≡ Status.FileFault → ((file : List ℕ) × IsFileOf words.now file × (o ≡ file_fault file)) × Rose (F.faults files.old) (F.faults files.new)) }
     ensures memory { IfOk result (λ o. o.status ≢ Status.NoMemory) }
     ensures telling { is_some (F.told files.new) ≡ is_some (F.told files.old) }
