@@ -3,3 +3,4 @@ mod OneAnswer
 mod OneRun
 mod Respond
 mod Taken
+mod Stopping

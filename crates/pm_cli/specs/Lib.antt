@@ -3,3 +3,4 @@ pub mod Check
 pub mod FaultText
 pub mod Show
 pub mod Words
+pub mod Stops

@@ -7,6 +7,9 @@ ghost use Rattle.device_set.specs.Sets.{AreDistinct, names};
 ghost use Rattle.pm_cli.specs.Answer.{IsAnswer, Answered};
 ghost use Rattle.command_answers.specs.Told.{UnlessFault};
 ghost use Rattle.pm_cli.specs.FaultText.{IsFaultText};
+ghost use Rattle.pm_cli.specs.Stops.{UnlessRun, WordsStop};
+ghost use Rattle.pm_cli.specs.Words.{command};
+ghost use Rattle.run_command.specs.Stops.{OnStop};
 
 use crate::checking::check_file;
 use crate::showing::show_file;
@@ -30,6 +33,10 @@ pub fn respond<F: Files, D: Devices>(
     requires distinct { AreDistinct (names (D.shown devices.old)) }
     ensures told { IfSome (F.told files.old) (λ held. IfSome (F.told files.new) (λ then. IfOk result (λ o.
         UnlessFault o.status (Answered (D.shown devices.old) (D.shown devices.new) (map string_bytes words.now) held then o)))) }
+    ensures stops { IfSome (F.told files.old) (λ held. IfSome (F.told files.new) (λ then.
+        OnStop (λ stop. WordsStop stop (map string_bytes words.now) (D.shown devices.old) (D.shown devices.new) held then) result)) }
+    ensures quiet { UnlessRun (command (map string_bytes words.now))
+        ((D.shown devices.new ≡ D.shown devices.old) × (F.told files.new ≡ F.told files.old) × (F.created files.new ≡ F.created files.old)) }
     ensures telling { is_some (F.told files.new) ≡ is_some (F.told files.old) }
     ensures fault { IfOk result (λ o. o.status ≡ Status.FileFault
         → IsFaultText (map string_bytes words.now) o.text × Rose (F.faults files.old) (F.faults files.new)) }

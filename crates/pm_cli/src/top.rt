@@ -8,6 +8,9 @@ ghost use Rattle.pm_cli.specs.Answer.{Answered};
 ghost use Rattle.command_answers.specs.declared.outcome.Outcome.{Outcome as OutcomeThere};
 ghost use Rattle.command_answers.specs.Told.{UnlessFault, Takes, HasTakenFront};
 ghost use Rattle.pm_cli.specs.FaultText.{IsFaultText};
+ghost use Rattle.pm_cli.specs.Stops.{UnlessRun, WordsStop};
+ghost use Rattle.pm_cli.specs.Words.{command};
+ghost use Rattle.run_command.specs.Stops.{no_memory, file_failed};
 
 use crate::command::respond;
 use command_answers::{Outcome, Status};
@@ -52,6 +55,20 @@ pub fn post_mortem<F: Files, O: Sink, D: Devices>(
     ensures answer { IfSome (F.told files.old) (λ held. IfSome (F.told files.new) (λ then. IfSome (O.taken out.old) (λ before.
         UnlessFault result ((o : OutcomeThere) × Answered (D.shown devices.old) (D.shown devices.new) (map string_bytes words.now) held then o
         × Takes result before (O.taken out.new) o)))) }
+
+    // Where memory runs out, the command was stopped, or its whole answer stands but for what the output has taken.
+    ensures memory { IfSome (F.told files.old) (λ held. IfSome (F.told files.new) (λ then. result ≡ Status.NoMemory
+        → WordsStop no_memory (map string_bytes words.now) (D.shown devices.old) (D.shown devices.new) held then
+        ⊎ ((o : OutcomeThere) × Answered (D.shown devices.old) (D.shown devices.new) (map string_bytes words.now) held then o))) }
+
+    // So it is where a file or the output fails.
+    ensures failed { IfSome (F.told files.old) (λ held. IfSome (F.told files.new) (λ then. result ≡ Status.FileFault
+        → WordsStop file_failed (map string_bytes words.now) (D.shown devices.old) (D.shown devices.new) held then
+        ⊎ ((o : OutcomeThere) × Answered (D.shown devices.old) (D.shown devices.new) (map string_bytes words.now) held then o))) }
+
+    // However it ends, commands other than `run`, and wrong words, call no device and leave the files as they are.
+    ensures quiet { UnlessRun (command (map string_bytes words.now))
+        ((D.shown devices.new ≡ D.shown devices.old) × (F.told files.new ≡ F.told files.old) × (F.created files.new ≡ F.created files.old)) }
 
     // A fault is answered only where a count rose.
     ensures fault { result ≡ Status.FileFault

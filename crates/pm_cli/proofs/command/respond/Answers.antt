@@ -1,6 +1,8 @@
-use Rattle.std.proofs.Common.{map, ap, ◌∙◌, Some, Err}
+use Rattle.std.proofs.Common.{◌≡◌, map, refl, ap, ◌∙◌, Some, Err}
 use Rattle.std.specs.String.{string_bytes}
 use Rattle.pm_cli.proofs.Respond.{check_answered, show_answered, usage_answered, run_answered}
+use Rattle.pm_cli.specs.Words.{command}
+use Rattle.pm_cli.proofs.Stopping.{check_stops, show_stops, usage_stops, unread_stops, run_stops, quiet_all, quiet_run}
 use Rattle.pm_cli.proofs.command.respond.Goals as goal
 
 pub returns-in-Ok-Check-clause-told : goal.returns-in-Ok-Check-clause-told
@@ -14,3 +16,35 @@ returns-in-Ok-Show-clause-told g c = show_answered (g.F.Files.told c.args.files.
 
 pub returns-in-Err-Usage-clause-told : goal.returns-in-Err-Usage-clause-told
 returns-in-Err-Usage-clause-told g c = usage_answered (g.F.Files.told c.args.files.now) c.plain.result (g.D.Devices.shown c.args.devices.now) (map string_bytes c.args.words.now) (c.in-Err-Usage.ensures.usage (ap Err c.in-Err-Usage.field-0-is)) c.plain.ensures
+
+pub returns-in-Ok-Check-clause-stops : goal.returns-in-Ok-Check-clause-stops
+returns-in-Ok-Check-clause-stops g c = check_stops (g.F.Files.told c.args.files.now) (g.F.Files.told c.check_file.new.files) c.check_file.result (g.D.Devices.shown c.args.devices.now) (map string_bytes c.args.words.now) _ (c.in-Ok-Check.ensures.ok ∙ ap Some c.in-Ok-Check.field-0-is) c.check_file.ensures.same
+
+pub returns-in-Ok-Run-clause-stops : goal.returns-in-Ok-Run-clause-stops
+returns-in-Ok-Run-clause-stops g c = run_stops (g.F.Files.told c.args.files.now) (g.F.Files.told c.run_file.new.files) c.run_file.result (g.D.Devices.shown c.args.devices.now) (g.D.Devices.shown c.run_file.new.devices) (map string_bytes c.args.words.now) _ (c.in-Ok-Run.ensures.ok ∙ ap Some c.in-Ok-Run.field-0-is) c.run_file.ensures.stops
+
+pub returns-in-Ok-Show-clause-stops : goal.returns-in-Ok-Show-clause-stops
+returns-in-Ok-Show-clause-stops g c = show_stops (g.F.Files.told c.args.files.now) (g.F.Files.told c.show_file.new.files) c.show_file.result (g.D.Devices.shown c.args.devices.now) (map string_bytes c.args.words.now) _ (c.in-Ok-Show.ensures.ok ∙ ap Some c.in-Ok-Show.field-0-is) c.show_file.ensures.same
+
+pub returns-in-Err-Usage-clause-stops : goal.returns-in-Err-Usage-clause-stops
+returns-in-Err-Usage-clause-stops g c = usage_stops (g.F.Files.told c.args.files.now) c.plain.result (g.D.Devices.shown c.args.devices.now) (map string_bytes c.args.words.now) (c.in-Err-Usage.ensures.usage (ap Err c.in-Err-Usage.field-0-is))
+
+pub returns-in-Err-NoMemory-clause-stops : goal.returns-in-Err-NoMemory-clause-stops
+returns-in-Err-NoMemory-clause-stops g c = unread_stops (g.F.Files.told c.args.files.now) (g.D.Devices.shown c.args.devices.now) (map string_bytes c.args.words.now)
+
+-- however it ends
+
+pub returns-in-Ok-Check-clause-quiet : goal.returns-in-Ok-Check-clause-quiet
+returns-in-Ok-Check-clause-quiet g c = quiet_all (command (map string_bytes c.args.words.now)) ((g.D.Devices.shown c.args.devices.now ≡ g.D.Devices.shown c.args.devices.now) × (g.F.Files.told c.check_file.new.files ≡ g.F.Files.told c.args.files.now) × (g.F.Files.created c.check_file.new.files ≡ g.F.Files.created c.args.files.now)) (refl, c.check_file.ensures.same, c.check_file.ensures.names)
+
+pub returns-in-Ok-Run-clause-quiet : goal.returns-in-Ok-Run-clause-quiet
+returns-in-Ok-Run-clause-quiet g c = quiet_run (command (map string_bytes c.args.words.now)) _ ((g.D.Devices.shown c.run_file.new.devices ≡ g.D.Devices.shown c.args.devices.now) × (g.F.Files.told c.run_file.new.files ≡ g.F.Files.told c.args.files.now) × (g.F.Files.created c.run_file.new.files ≡ g.F.Files.created c.args.files.now)) (c.in-Ok-Run.ensures.ok ∙ ap Some c.in-Ok-Run.field-0-is)
+
+pub returns-in-Ok-Show-clause-quiet : goal.returns-in-Ok-Show-clause-quiet
+returns-in-Ok-Show-clause-quiet g c = quiet_all (command (map string_bytes c.args.words.now)) ((g.D.Devices.shown c.args.devices.now ≡ g.D.Devices.shown c.args.devices.now) × (g.F.Files.told c.show_file.new.files ≡ g.F.Files.told c.args.files.now) × (g.F.Files.created c.show_file.new.files ≡ g.F.Files.created c.args.files.now)) (refl, c.show_file.ensures.same, c.show_file.ensures.names)
+
+pub returns-in-Err-Usage-clause-quiet : goal.returns-in-Err-Usage-clause-quiet
+returns-in-Err-Usage-clause-quiet g c = quiet_all (command (map string_bytes c.args.words.now)) ((g.D.Devices.shown c.args.devices.now ≡ g.D.Devices.shown c.args.devices.now) × (g.F.Files.told c.args.files.now ≡ g.F.Files.told c.args.files.now) × (g.F.Files.created c.args.files.now ≡ g.F.Files.created c.args.files.now)) (refl, refl, refl)
+
+pub returns-in-Err-NoMemory-clause-quiet : goal.returns-in-Err-NoMemory-clause-quiet
+returns-in-Err-NoMemory-clause-quiet g c = quiet_all (command (map string_bytes c.args.words.now)) ((g.D.Devices.shown c.args.devices.now ≡ g.D.Devices.shown c.args.devices.now) × (g.F.Files.told c.args.files.now ≡ g.F.Files.told c.args.files.now) × (g.F.Files.created c.args.files.now ≡ g.F.Files.created c.args.files.now)) (refl, refl, refl)
