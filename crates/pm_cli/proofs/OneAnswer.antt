@@ -1,4 +1,4 @@
--- A list of words has at most one answer.
+-- A list of words has at most one answer, and one list of written files.
 use Rattle.std.proofs.Common.{◌≡◌, ℕ, List, Option, Some, None, sym, ◌∙◌}
 use Rattle.wasm_syntax.specs.declared.quantity.Quantity.TheVariants.{ModuleBytes, DumpBytes}
 use Rattle.wasm_syntax.specs.declared.host.Served.{Served}
@@ -14,7 +14,7 @@ use Rattle.pm_cli.specs.Answer.{AnswersTo, IsAnswer, CheckAnswer, ShowAnswer, ch
 use Rattle.pm_cli.specs.Words.{command}
 use Rattle.pm_cli.specs.declared.words.Command.{Command}
 use Rattle.pm_cli.specs.declared.words.Command.TheVariants.{Check, Run, Show}
-use Rattle.pm_cli.proofs.OneRun.{one_run_answer}
+use Rattle.pm_cli.proofs.OneRun.{one_run_answer, one_run_written}
 
 one_check : (m : List ℕ) (content : Option (List ℕ)) → Agree (CheckAnswer m content) (CheckAnswer m content)
 one_check m content = agree_then (input_of ModuleBytes m content) _ _ (λ bytes. agree_if_loaded checked checked (λ parts a b pa qb. pa ∙ sym qb) (module_from bytes))
@@ -28,6 +28,12 @@ one_to before after (Some (Run w)) files given x y a b pa qb = one_run_answer be
 one_to before after (Some (Show dump)) files given x y a b pa qb = one_show dump (files dump) a b pa.0 qb.0
 one_to before after None files given x y a b pa qb = pa.0 ∙ sym qb.0
 
-pub one_answer : (before after : List DeviceState) (words : List (List ℕ)) (files : Contents) (given : List Served) (x y : Writes) (a b : Outcome) → IsAnswer before after words files given x a → IsAnswer before after words files given y b → a ≡ b
+one_written : (before after : List DeviceState) (c : Option Command) (files : Contents) (given : List Served) (x y : Writes) (a b : Outcome) → AnswersTo before after c files given x a → AnswersTo before after c files given y b → x ≡ y
+one_written before after (Some (Check m)) files given x y a b pa qb = pa.1.writes_none ∙ sym qb.1.writes_none
+one_written before after (Some (Run w)) files given x y a b pa qb = one_run_written before after w files given x y a b pa qb
+one_written before after (Some (Show dump)) files given x y a b pa qb = pa.1.writes_none ∙ sym qb.1.writes_none
+one_written before after None files given x y a b pa qb = pa.1.writes_none ∙ sym qb.1.writes_none
+
+pub one_answer : (before after : List DeviceState) (words : List (List ℕ)) (files : Contents) (given : List Served) (x y : Writes) (a b : Outcome) → IsAnswer before after words files given x a → IsAnswer before after words files given y b → (a ≡ b) × (x ≡ y)
 unfolding IsAnswer
-one_answer before after words files given x y a b pa qb = one_to before after (command words) files given x y a b pa qb
+one_answer before after words files given x y a b pa qb = (one_to before after (command words) files given x y a b pa qb, one_written before after (command words) files given x y a b pa qb)

@@ -1,8 +1,9 @@
--- `run` has at most one answer, where the same replies were given.
+-- `run` has at most one answer, and one list of written files, where the same replies were given.
 use Rattle.std.proofs.Common.{◌≡◌, ℕ, List, [], ◌∷◌, map, length, Option, Some, None, false, refl, sym, ap, subst, ◌∙◌}
 use Rattle.pm_outside.specs.Contents.{Contents}
 use Rattle.wasm_syntax.specs.declared.quantity.Quantity.TheVariants.{ModuleBytes}
 use Rattle.wasm_syntax.specs.declared.parts.Body.{Body}
+use Rattle.wasm_syntax.specs.declared.host.Reply.{Reply}
 use Rattle.wasm_syntax.specs.declared.host.Served.{Served}
 use Rattle.wasm_syntax.specs.declared.module.ModuleParts.{ModuleParts as Module}
 use Rattle.wasm_syntax.specs.Tree.{Tree, code_of}
@@ -11,7 +12,7 @@ use Rattle.wasm_syntax.specs.Run.{Ran, run}
 use Rattle.wasm_laws.proofs.Unique.{one_tree}
 use Rattle.wasm_decode.specs.Decode.{module_from}
 use Rattle.host_runs.specs.Hosted.{replies_of}
-use Rattle.device_set.specs.Sets.{DeviceState}
+use Rattle.device_set.specs.Sets.{DeviceState, names}
 use Rattle.command_answers.specs.Inputs.{input_of, Then}
 use Rattle.command_answers.specs.Loading.{IfLoaded}
 use Rattle.command_answers.specs.declared.outcome.Outcome.{Outcome}
@@ -19,9 +20,11 @@ use Rattle.command_answers.proofs.OneOutcome.{Agree, agree_then, agree_if_loaded
 use Rattle.run_words.specs.declared.words.RunWords.{RunWords}
 use Rattle.run_command.specs.Written.{Writes}
 use Rattle.run_command.specs.Starting.{invocation_of}
-use Rattle.run_command.specs.Hosting.{Hosting, start_text}
+use Rattle.run_command.specs.Hosting.{start_text}
+use Rattle.run_command.specs.RunText.{dumps_from}
 use Rattle.run_command.specs.AllRan.{all_ran}
-use Rattle.run_command.specs.RunAnswer.{RunAnswer, RunsTo, StartsOr, ModuleAnswer, hosting, replies_input, script_of}
+use Rattle.run_command.specs.RunAnswer.{RunAnswer, RunsTo, StartsOr, ModuleAnswer, IfRefusal, IsUntouched, hosting, replies_input, script_of}
+use Rattle.run_command.proofs.OneWritten.{Gives, at_refusal, gives_then, gives_starts, gives_if_loaded, input_refuses, replies_refuse, script_refuses}
 
 -- flat bodies write out at most one list of trees
 same_trees : (bodies : List Body) (a b : List Tree) → AllWrite bodies a → AllWrite bodies b → a ≡ b
@@ -39,19 +42,25 @@ same_program m p q ep eq wp wq =
     let trees = same_trees m.bodies p.trees q.trees (subst (λ k. AllWrite k.bodies p.trees) ep wp) (subst (λ k. AllWrite k.bodies q.trees) eq wq) in
     ap (λ k. record { module_ = k; trees = p.trees }) (ep ∙ sym eq) ∙ ap (λ ts. record { module_ = q.module_; trees = ts }) trees
 
-one_run : (h : Hosting) (w : RunWords) (m : Module) (given : List Served) (x y : Writes) (a b : Outcome) → RunsTo h w m given a x → RunsTo h w m given b y → a ≡ b
-one_run h w m given x y a b r s =
-    let p = same_program m r.program s.program r.of_module s.of_module r.writes_out s.writes_out in
-    let rans : r.rans ≡ s.rans = r.runs ∙ ap (λ k. run k false (map invocation_of w.invocations) (replies_of given) w.depth w.fuel) p ∙ sym s.runs in
-    r.answer ∙ ap (λ k. all_ran h.names m.imports (length w.invocations) k) rans ∙ sym s.answer
+one_list : (before after : List DeviceState) (script : Option (List Reply)) (w : RunWords) (m : Module) (given : List Served) (x y : Writes) (a b : Outcome) → (r : RunsTo before after script w m given a x) → (s : RunsTo before after script w m given b y) → r.rans ≡ s.rans
+one_list before after script w m given x y a b r s =
+    r.runs ∙ ap (λ k. run k false (map invocation_of w.invocations) (replies_of given) w.depth w.fuel) (same_program m r.program s.program r.of_module s.of_module r.writes_out s.writes_out) ∙ sym s.runs
+
+one_run : (before after : List DeviceState) (script : Option (List Reply)) (w : RunWords) (m : Module) (given : List Served) (x y : Writes) (a b : Outcome) → RunsTo before after script w m given a x → RunsTo before after script w m given b y → a ≡ b
+one_run before after script w m given x y a b r s =
+    r.answer ∙ ap (λ k. all_ran (names before) m.imports (length w.invocations) k) (one_list before after script w m given x y a b r s) ∙ sym s.answer
+
+same_dumps : (before after : List DeviceState) (script : Option (List Reply)) (w : RunWords) (m : Module) (given : List Served) (x y : Writes) (a b : Outcome) → RunsTo before after script w m given a x → RunsTo before after script w m given b y → x ≡ y
+same_dumps before after script w m given x y a b r s =
+    r.dumps ∙ ap (λ k. dumps_from w.dump w.name 0 k) (one_list before after script w m given x y a b r s) ∙ sym s.dumps
 
 agree_starts : (cause : Option (List ℕ)) (P Q : Type 0) (a b : Outcome) → (P → Q → a ≡ b) → StartsOr cause P a → StartsOr cause Q b → a ≡ b
 agree_starts (Some cause) P Q a b agree pa qb = pa ∙ sym qb
 agree_starts None P Q a b agree pa qb = agree pa qb
 
-agree_module : (before after : List DeviceState) (w : RunWords) (given : List Served) (x y : Writes) (script : _) (m : Module) → Agree (ModuleAnswer before after w given x script m) (ModuleAnswer before after w given y script m)
+agree_module : (before after : List DeviceState) (w : RunWords) (given : List Served) (x y : Writes) (script : Option (List Reply)) (m : Module) → Agree (ModuleAnswer before after w given x script m) (ModuleAnswer before after w given y script m)
 agree_module before after w given x y script m a b pa qb =
-    agree_starts (start_text (hosting before script) m (map invocation_of w.invocations)) _ _ a b (λ r s. one_run (hosting before script) w m given x y a b r.0 s.0) pa qb
+    agree_starts (start_text (hosting before script) m (map invocation_of w.invocations)) _ _ a b (λ r s. one_run before after script w m given x y a b r.0 s.0) pa qb
 
 -- whatever is said to be written
 pub one_run_answer : (before after : List DeviceState) (w : RunWords) (files : Contents) (given : List Served) (x y : Writes) → Agree (RunAnswer before after w files given x) (RunAnswer before after w files given y)
@@ -59,3 +68,21 @@ one_run_answer before after w files given x y a b pa qb =
     agree_then (input_of ModuleBytes w.source (files w.source)) _ _ (λ bytes.
     agree_then (replies_input w.replies files) _ _ (λ script_bytes.
     agree_if_loaded _ _ (λ m. agree_then (script_of script_bytes) _ _ (λ script. agree_module before after w given x y script m)) (module_from bytes))) a b pa.answer qb.answer
+
+-- ---- the files
+
+agree_writes : (before after : List DeviceState) (w : RunWords) (given : List Served) (x y : Writes) (script : Option (List Reply)) (m : Module) → Gives (x ≡ y) (ModuleAnswer before after w given x script m) (ModuleAnswer before after w given y script m)
+agree_writes before after w given x y script m a b at_a at_b pa qb =
+    gives_starts (x ≡ y) (start_text (hosting before script) m (map invocation_of w.invocations)) _ _ (λ r s. same_dumps before after script w m given x y a b r.0 s.0) a b at_a at_b pa qb
+
+written : (before after : List DeviceState) (w : RunWords) (files : Contents) (given : List Served) (x y : Writes) (a b : Outcome) → IfRefusal a.status (x ≡ y) → IfRefusal b.status (x ≡ y) → RunAnswer before after w files given x a → RunAnswer before after w files given y b → x ≡ y
+written before after w files given x y a b at_a at_b pa qb =
+    gives_then (x ≡ y) (input_of ModuleBytes w.source (files w.source)) _ _ (input_refuses (x ≡ y) ModuleBytes w.source (files w.source)) (λ bytes.
+    gives_then (x ≡ y) (replies_input w.replies files) _ _ (replies_refuse (x ≡ y) w.replies files) (λ script_bytes.
+    gives_if_loaded (x ≡ y) _ _ (λ m. gives_then (x ≡ y) (script_of script_bytes) _ _ (script_refuses (x ≡ y) script_bytes) (λ script. agree_writes before after w given x y script m)) (module_from bytes))) a b at_a at_b pa.answer qb.answer
+
+pub one_run_written : (before after : List DeviceState) (w : RunWords) (files : Contents) (given : List Served) (x y : Writes) (a b : Outcome) → RunAnswer before after w files given x a → RunAnswer before after w files given y b → x ≡ y
+one_run_written before after w files given x y a b pa qb =
+    let same : a ≡ b = one_run_answer before after w files given x y a b pa qb in
+    let at_a : IfRefusal a.status (x ≡ y) = at_refusal a.status (IsUntouched before after given x) (IsUntouched before after given y) (x ≡ y) (λ p q. p.writes_none ∙ sym q.writes_none) pa.untouched (subst (λ (o : Outcome). IfRefusal o.status (IsUntouched before after given y)) (sym same) qb.untouched) in
+    written before after w files given x y a b at_a (subst (λ (o : Outcome). IfRefusal o.status (x ≡ y)) same at_a) pa qb

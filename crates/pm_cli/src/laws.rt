@@ -8,7 +8,7 @@ ghost use Rattle.run_command.specs.Written.{Writes};
 ghost use Rattle.pm_cli.specs.Answer.{IsAnswer};
 ghost use Rattle.command_answers.specs.declared.outcome.Outcome.{Outcome};
 
-/// A list of words has at most one status and text, where the same replies were given.
+/// A list of words has at most one status and text, and writes the same files, where the same replies were given.
 pub fn one_answer()
-    ensures { (before after : List DeviceState) (words : List (List ℕ)) (files : Contents) (given : List Served) (x y : Writes) (a b : Outcome) → IsAnswer before after words files given x a → IsAnswer before after words files given y b → a ≡ b }
+    ensures { (before after : List DeviceState) (words : List (List ℕ)) (files : Contents) (given : List Served) (x y : Writes) (a b : Outcome) → IsAnswer before after words files given x a → IsAnswer before after words files given y b → (a ≡ b) × (x ≡ y) }
 {}

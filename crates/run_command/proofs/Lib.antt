@@ -13,6 +13,7 @@ mod Hostings
 mod Valid
 mod Entries
 mod Ones
+pub mod OneWritten
 mod Whole
 mod Refusals
 mod Commands

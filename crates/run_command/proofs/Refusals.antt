@@ -36,7 +36,7 @@ unless status.BadReplies P Q to x = to x
 
 if_refusal : (s : Status) (P : Type 0) → P → IfRefusal s P
 if_refusal status.FileFault P x = tt
-if_refusal status.NoMemory P x = tt
+if_refusal status.NoMemory P x = x
 if_refusal status.Done P x = tt
 if_refusal status.Trapped P x = tt
 if_refusal status.HostStopped P x = tt
