@@ -69,19 +69,31 @@ fn value(answer: &HostAnswer) -> Result<Option<Value>, &str> {
     }
 }
 
+fn is_value(answer: &HostAnswer, wanted: u32) -> bool {
+    value(answer) == Ok(Some(Value::I32(wanted)))
+}
+
+fn is_word(answer: &HostAnswer, wanted: &str) -> bool {
+    value(answer) == Err(wanted)
+}
+
 /// The answer to a call of the import of a number.
 fn answer<S: Devices>(
     alloc: Global,
     hosts: &mut Hosts<'_, S>,
     imports: &[Import],
     number: u32,
-) -> Result<HostAnswer, Fail>
+) -> HostAnswer
     requires { hosts.old.imports ≡ imports.now }
     ensures { hosts.new.imports ≡ imports.now }
 {
-    let call = call_of(alloc, number)?;
-    let import = imports.get(number as usize).ok_or("no such import")?;
-    Ok(hosts.call(import, &call, None))
+    let Some(import) = imports.get(number as usize) else {
+        return HostAnswer::NoMemory;
+    };
+    match call_of(alloc, number) {
+        Ok(call) => hosts.call(import, &call, None),
+        Err(_) => HostAnswer::NoMemory,
+    }
 }
 
 /// The answers to three calls, of the imports of these numbers, by a set of devices and a script.
@@ -91,30 +103,57 @@ fn answers<S: Devices>(
     script: Option<Items<Reply>>,
     imports: &[Import],
     numbers: [u32; 3],
-) -> Result<[HostAnswer; 3], Fail>
+) -> [HostAnswer; 3]
     requires { AreDistinct (names (S.shown devices.old)) }
 {
     let [first, second, third] = numbers;
     let empty = S::empty(alloc);
     let mut hosts = Hosts::new(alloc, mem::replace(devices, empty), script, imports);
-    let first = answer(alloc, &mut hosts, imports, first)?;
-    let second = answer(alloc, &mut hosts, imports, second)?;
-    let third = answer(alloc, &mut hosts, imports, third)?;
+    let first = answer(alloc, &mut hosts, imports, first);
+    let second = answer(alloc, &mut hosts, imports, second);
+    let third = answer(alloc, &mut hosts, imports, third);
     *devices = hosts.into_devices();
-    Ok([first, second, third])
+    [first, second, third]
 }
 
-/// Attaches a device. The answer is the one that it replaces.
-fn attach(
+/// The answers to three calls of the imports of `env` and `counter`, by a set of devices and the replies 5 and 6.
+fn scripted(
+    alloc: Global,
     devices: &mut DeviceSet,
-    device: Box<dyn Device>,
-) -> Result<Option<Box<dyn Device>>, NoMemory>
+    numbers: [u32; 3],
+) -> Result<[HostAnswer; 3], NoMemory>
+    requires { AreDistinct (names (⟦<DeviceSet as Devices>⟧.shown devices.old)) }
+{
+    let imports = imports(alloc, ["env", "counter"])?;
+    let script = Some(replies(alloc, [5, 6])?);
+    Ok(answers(alloc, devices, script, imports.as_slice(), numbers))
+}
+
+/// The answers to three calls of the imports of `env` and `counter`, by a set of devices alone.
+fn unscripted(
+    alloc: Global,
+    devices: &mut DeviceSet,
+    numbers: [u32; 3],
+) -> Result<[HostAnswer; 3], NoMemory>
+    requires { AreDistinct (names (⟦<DeviceSet as Devices>⟧.shown devices.old)) }
+{
+    let imports = imports(alloc, ["env", "counter"])?;
+    Ok(answers(alloc, devices, None, imports.as_slice(), numbers))
+}
+
+/// Attaches a device. The answer is how many calls the one that it replaces has replied to.
+fn attach(devices: &mut DeviceSet, device: Box<dyn Device>) -> Result<Option<usize>, NoMemory>
     ensures { AreDistinct (names (⟦<DeviceSet as Devices>⟧.shown devices.old)) → AreDistinct (names (⟦<DeviceSet as Devices>⟧.shown devices.new)) }
 {
     match devices.attach(device) {
-        Ok(replaced) => Ok(replaced),
+        Ok(replaced) => Ok(logged(&replaced)),
         Err(_) => Err(NoMemory),
     }
+}
+
+/// Releases a device. The answer is how many calls it has replied to.
+fn release(devices: &mut DeviceSet, name: &str) -> Option<usize> {
+    logged(&devices.release(name))
 }
 
 /// How many calls the device of a name has replied to, and how many failed.
@@ -125,6 +164,10 @@ fn counts(devices: &DeviceSet, name: &str) -> Option<(usize, u64)> {
     }
 }
 
+fn has_counts(devices: &DeviceSet, name: &str, wanted: (usize, u64)) -> bool {
+    counts(devices, name) == Some(wanted)
+}
+
 /// How many calls a device has replied to.
 fn logged(device: &Option<Box<dyn Device>>) -> Option<usize> {
     match device {
@@ -133,26 +176,27 @@ fn logged(device: &Option<Box<dyn Device>>) -> Option<usize> {
     }
 }
 
+/// A counter that was called once.
+fn called(alloc: Global) -> Result<Counter, NoMemory> {
+    let mut counter = Counter::new(alloc);
+    counter.call(&call_of(alloc, 0)?, None);
+    Ok(counter)
+}
+
 #[test]
 fn a_replaced_device_is_handed_back(rt: HostRuntime) -> Result<(), Fail> {
     let alloc = rt.alloc();
     let mut devices = DeviceSet::new(alloc);
-    let mut second = Counter::new(alloc);
-    second.call(&call_of(alloc, 0)?, None);
     let first = attach(&mut devices, Box::new(alloc, Counter::new(alloc))?)?;
-    assert_eq!(rt; logged(&first), None);
     let console = Console::new(alloc, Vec::new(alloc));
     let console = attach(&mut devices, Box::new(alloc, console)?)?;
-    assert_eq!(rt; logged(&console), None);
-    let first = attach(&mut devices, Box::new(alloc, second)?)?;
-    assert_eq!(rt; logged(&first), Some(0));
-    assert_eq!(rt; counts(&devices, "counter"), Some((1, 0)));
-    assert_eq!(rt; counts(&devices, "console"), Some((0, 0)));
-    let second = devices.release("counter");
-    assert_eq!(rt; logged(&second), Some(1));
-    assert_eq!(rt; counts(&devices, "counter"), None);
-    let third = devices.release("counter");
-    assert_eq!(rt; logged(&third), None);
+    let again = attach(&mut devices, Box::new(alloc, called(alloc)?)?)?;
+    assert!(rt; first.is_none() && console.is_none() && again == Some(0));
+    assert!(rt; has_counts(&devices, "counter", (1, 0)));
+    assert!(rt; has_counts(&devices, "console", (0, 0)));
+    assert!(rt; release(&mut devices, "counter") == Some(1));
+    assert!(rt; counts(&devices, "counter").is_none());
+    assert!(rt; release(&mut devices, "counter").is_none());
     Ok(())
 }
 
@@ -192,76 +236,72 @@ impl Device for Dropping {
     }
 }
 
+fn counted(drops: &Rc<Cell<u64>>) -> Result<Dropping, Fail> {
+    Ok(Dropping {
+        drops: drops.clone()?,
+    })
+}
+
 #[test]
 fn devices_that_are_left_are_dropped_with_the_set(rt: HostRuntime) -> Result<(), Fail> {
     let alloc = rt.alloc();
     let drops = Rc::new(alloc, Cell::new(0))?;
     let mut devices = DeviceSet::new(alloc);
-    let first = devices.attach(Box::new(
-        alloc,
-        Dropping {
-            drops: drops.clone()?,
-        },
-    )?);
-    assert_eq!(rt; drops.get(), 0);
-    let second = devices.attach(Box::new(
-        alloc,
-        Dropping {
-            drops: drops.clone()?,
-        },
-    )?);
-    assert_eq!(rt; drops.get(), 0);
+    let first = devices.attach(Box::new(alloc, counted(&drops)?)?);
+    assert!(rt; drops.get() == 0);
+    let second = devices.attach(Box::new(alloc, counted(&drops)?)?);
+    assert!(rt; drops.get() == 0);
     drop(first);
-    assert_eq!(rt; drops.get(), 0);
+    assert!(rt; drops.get() == 0);
     drop(second);
-    assert_eq!(rt; drops.get(), 1);
+    assert!(rt; drops.get() == 1);
     drop(devices);
-    assert_eq!(rt; drops.get(), 2);
+    assert!(rt; drops.get() == 2);
     Ok(())
 }
 
 #[test]
 fn a_script_ends(rt: HostRuntime) -> Result<(), Fail> {
     let alloc = rt.alloc();
-    let imports = imports(alloc, ["env", "counter"])?;
-    let script = Some(replies(alloc, [5, 6])?);
     let mut devices = DeviceSet::new(alloc);
-    let answers = answers(alloc, &mut devices, script, imports.as_slice(), [0, 1, 0])?;
-    assert_eq!(rt; value(&answers[0]), Ok(Some(Value::I32(5))));
-    assert_eq!(rt; value(&answers[1]), Ok(Some(Value::I32(6))));
-    assert_eq!(rt; value(&answers[2]), Err("(no reply)"));
+    let answers = scripted(alloc, &mut devices, [0, 1, 0])?;
+    assert!(rt; is_value(&answers[0], 5));
+    assert!(rt; is_value(&answers[1], 6));
+    assert!(rt; is_word(&answers[2], "(no reply)"));
     Ok(())
 }
 
 #[test]
 fn a_device_goes_before_the_script(rt: HostRuntime) -> Result<(), Fail> {
     let alloc = rt.alloc();
-    let imports = imports(alloc, ["env", "counter"])?;
-    let script = Some(replies(alloc, [5, 6])?);
     let mut devices = DeviceSet::new(alloc);
     attach(&mut devices, Box::new(alloc, Counter::new(alloc))?)?;
-    let answers = answers(alloc, &mut devices, script, imports.as_slice(), [1, 0, 1])?;
-    assert_eq!(rt; value(&answers[0]), Ok(Some(Value::I32(0))));
-    assert_eq!(rt; value(&answers[1]), Ok(Some(Value::I32(5))));
-    assert_eq!(rt; value(&answers[2]), Ok(Some(Value::I32(1))));
-    assert_eq!(rt; counts(&devices, "counter"), Some((2, 0)));
+    let answers = scripted(alloc, &mut devices, [1, 0, 1])?;
+    assert!(rt; is_value(&answers[0], 0));
+    assert!(rt; is_value(&answers[1], 5));
+    assert!(rt; is_value(&answers[2], 1));
+    assert!(rt; has_counts(&devices, "counter", (2, 0)));
     Ok(())
+}
+
+/// A device for `env` that replies 5 and 6, and fails at once.
+fn failing(alloc: Global) -> Result<Scripted, Fail> {
+    let name = Text::from_str(alloc, "env")?;
+    let replies = replies(alloc, [5, 6])?;
+    Ok(Scripted::new(alloc, name, replies, vec![in alloc; 0]?))
 }
 
 #[test]
 fn a_fault_names_its_device(rt: HostRuntime) -> Result<(), Fail> {
     let alloc = rt.alloc();
-    let imports = imports(alloc, ["env", "counter"])?;
-    let name = Text::from_str(alloc, "env")?;
-    let env = Scripted::new(alloc, name, replies(alloc, [5, 6])?, vec![in alloc; 0]?);
     let mut devices = DeviceSet::new(alloc);
-    attach(&mut devices, Box::new(alloc, env)?)?;
+    attach(&mut devices, Box::new(alloc, failing(alloc)?)?)?;
     attach(&mut devices, Box::new(alloc, Counter::new(alloc))?)?;
-    let answers = answers(alloc, &mut devices, None, imports.as_slice(), [0, 1, 0])?;
-    assert_eq!(rt; value(&answers[0]), Err("env"));
-    assert_eq!(rt; value(&answers[1]), Ok(Some(Value::I32(0))));
-    assert_eq!(rt; value(&answers[2]), Ok(Some(Value::I32(5))));
-    assert_eq!(rt; counts(&devices, "env"), Some((1, 1)));
-    assert_eq!(rt; counts(&devices, "counter"), Some((1, 0)));
+    let answers = unscripted(alloc, &mut devices, [0, 1, 0])?;
+    assert!(rt; is_word(&answers[0], "env"));
+    assert!(rt; is_value(&answers[1], 0));
+    assert!(rt; is_value(&answers[2], 5));
+    assert!(rt; has_counts(&devices, "env", (1, 1)));
+    assert!(rt; has_counts(&devices, "counter", (1, 0)));
     Ok(())
 }
