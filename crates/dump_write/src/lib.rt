@@ -11,6 +11,3 @@ mod write;
 pub use causes::NoMemory;
 pub use pages::memory_segments;
 pub use write::{dump_bytes, write_dump};
-
-#[cfg(test)]
-mod tests;

@@ -7,6 +7,3 @@ mod frames;
 pub use causes::NoMemory;
 pub use dump::image;
 pub use frames::{FrameRef, frame, frame_count};
-
-#[cfg(test)]
-mod tests;
