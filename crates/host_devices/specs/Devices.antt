@@ -9,13 +9,19 @@ use Rattle.wasm_syntax.specs.declared.host.HostCall.{HostCall}
 use Rattle.wasm_syntax.specs.declared.host.Served.{Served}
 use Rattle.host_devices.specs.declared.device.DeviceAnswer.{DeviceAnswer}
 use Rattle.host_devices.specs.declared.device.DeviceAnswer.TheVariants.{Replied, Failed, NoMemory}
-use Rattle.host_devices.specs.Faults.{Plan}
+use Rattle.host_devices.specs.Faults.{Plan, one_more}
 
 -- the log behind a call: exactly the call and the reply are added, where there is one
 abbrev pub log_after : DeviceAnswer → HostCall → List Served → List Served
 log_after (Replied reply) call log = log ++ record { call = call; reply = reply } ∷ []
 log_after Failed call log = log
 log_after NoMemory call log = log
+
+-- the count of faults behind the call: one more exactly where it failed
+abbrev pub count_after : DeviceAnswer → ℕ → ℕ
+count_after (Replied reply) count = count
+count_after Failed count = one_more count
+count_after NoMemory count = count
 
 -- ---- the devices of this crate
 

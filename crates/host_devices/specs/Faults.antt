@@ -11,6 +11,10 @@ pub record Plan : Type 0 where
 abbrev pub IsToFail : Plan → Type 0
 IsToFail plan = Contains plan.failing plan.next
 
+-- one more, up to the greatest number of 64 bits
+abbrev pub one_more : ℕ → ℕ
+one_more n = min (n + 1) (2 ^ 64 - 1)
+
 -- one call more was made
 abbrev pub HasCounted : Plan → Plan → Type 0
-HasCounted old new = (new.failing ≡ old.failing) × (new.next ≡ min (old.next + 1) (2 ^ 64 - 1))
+HasCounted old new = (new.failing ≡ old.failing) × (new.next ≡ one_more old.next)

@@ -2,7 +2,7 @@
 
 ghost use Rattle.std.specs.Prelude.{◌≡◌, ◌≤◌, ◌↔◌, [], codes};
 ghost use Rattle.causes.specs.Counts.{Rose};
-ghost use Rattle.host_devices.specs.Devices.{log_after, empty_reply};
+ghost use Rattle.host_devices.specs.Devices.{log_after, count_after, empty_reply};
 ghost use Rattle.wasm_syntax.specs.declared.host.Reply.{Reply as ReplyValue};
 ghost use Rattle.host_devices.specs.Faults.{IsToFail, HasCounted};
 
@@ -78,6 +78,7 @@ impl Device for Console {
         ensures counted { HasCounted self.old.plan self.new.plan }
         ensures fails { (result ≡ DeviceAnswer.Failed) ↔ IsToFail self.old.plan }
         ensures silent { (reply : ReplyValue) → result ≡ DeviceAnswer.Replied reply → reply ≡ empty_reply }
+        ensures counts { self.new.plan.count ≡ count_after result self.old.plan.count }
         ensures later { self.old.plan.count ≤ self.new.plan.count }
         ensures failed { result ≡ DeviceAnswer.Failed → Rose self.old.plan.count self.new.plan.count }
     {

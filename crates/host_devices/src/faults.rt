@@ -1,9 +1,9 @@
 //! Which calls of a device fail.
 
 ghost use Rattle.std.specs.Prelude.{◌≡◌, ◌≤◌, ◌↔◌, IsTrue};
-ghost use Rattle.std.specs.Bool.{OnFalse};
+ghost use Rattle.std.specs.Bool.{OnFalse, OnTrue};
 ghost use Rattle.causes.specs.Counts.{Rose};
-ghost use Rattle.host_devices.specs.Faults.{IsToFail, HasCounted};
+ghost use Rattle.host_devices.specs.Faults.{IsToFail, HasCounted, one_more};
 
 use std::marker::Model;
 
@@ -45,7 +45,7 @@ impl Faults {
     pub fn fail(&mut self)
         ensures later { self.old.count ≤ self.new.count }
         ensures rose { Rose self.old.count self.new.count }
-        ensures rest { self.new ≡ record self.old { count = self.new.count } }
+        ensures counted { self.new ≡ record self.old { count = one_more self.old.count } }
     {
         self.count = self.count.saturating_add(1);
     }
@@ -56,6 +56,7 @@ impl Faults {
         ensures counted { HasCounted self.old self.new }
         ensures later { self.old.count ≤ self.new.count }
         ensures rose { IsTrue result → Rose self.old.count self.new.count }
+        ensures once { OnTrue result (self.new.count ≡ one_more self.old.count) }
         ensures same { OnFalse result (self.new.count ≡ self.old.count) }
     {
         let failing = self.failing.contains(&self.next);

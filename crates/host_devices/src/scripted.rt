@@ -1,9 +1,9 @@
 //! A device that gives replies in order.
 
-ghost use Rattle.std.specs.Prelude.{◌≡◌, ◌≤◌, ◌⊎◌, ◌∷◌, []};
+ghost use Rattle.std.specs.Prelude.{◌≡◌, ◌≤◌, ◌↔◌, ◌⊎◌, []};
 ghost use Rattle.causes.specs.Counts.{Rose};
 ghost use Rattle.wasm_syntax.specs.declared.host.Reply.{Reply as ReplyValue};
-ghost use Rattle.host_devices.specs.Devices.{log_after, GivesNext};
+ghost use Rattle.host_devices.specs.Devices.{log_after, count_after, GivesNext};
 ghost use Rattle.host_devices.specs.Faults.{IsToFail, HasCounted};
 
 use crate::copies::{copy_reply, entry};
@@ -82,7 +82,8 @@ impl Device for Scripted {
         ensures log { self.new.log ≡ log_after result call.now self.old.log }
         ensures gives { GivesNext result self.old.left self.new.left }
         ensures counted { HasCounted self.old.plan self.new.plan }
-        ensures fails { result ≡ DeviceAnswer.Failed → IsToFail self.old.plan ⊎ (self.old.left ≡ []) }
+        ensures fails { (result ≡ DeviceAnswer.Failed) ↔ (IsToFail self.old.plan ⊎ (self.old.left ≡ [])) }
+        ensures counts { self.new.plan.count ≡ count_after result self.old.plan.count }
         ensures later { self.old.plan.count ≤ self.new.plan.count }
         ensures failed { result ≡ DeviceAnswer.Failed → Rose self.old.plan.count self.new.plan.count }
     {
