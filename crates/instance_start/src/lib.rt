@@ -9,8 +9,6 @@ mod invocations;
 mod memory;
 mod started;
 mod table;
-#[cfg(test)]
-mod tests;
 
 pub use bounds::{SegmentOut, segment_out};
 pub use causes::NoMemory;

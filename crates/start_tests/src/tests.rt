@@ -1,4 +1,4 @@
-use crate::{
+use instance_start::{
     EntryFault, Invocation, Invocations, NoMemory, RefusedEntry, StartFault, Started, entry_fault,
     first_refused, start,
 };
