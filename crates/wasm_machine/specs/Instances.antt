@@ -1,5 +1,5 @@
 -- Instances (Core 4.2.5) and what they are known to be.
-use Rattle.std.specs.Prelude.{◌≡◌, ℕ, ◌+◌, Bool, true, List, [], Option, Some, None, Result, Ok, Err}
+use Rattle.std.specs.Prelude.{◌≡◌, ℕ, ◌+◌, Bool, true, List, [], Option, Some, None, option_map, Result, Ok, Err}
 use Rattle.wasm_syntax.specs.declared.value.Value.{Value}
 use Rattle.wasm_syntax.specs.declared.parts.Import.{Import}
 use Rattle.wasm_syntax.specs.declared.module.ModuleParts.{ModuleParts as Module}
@@ -12,11 +12,35 @@ use Rattle.host_devices.specs.HostSides.{Calls}
 use Rattle.instance_start.specs.declared.started.StartFault.{StartFault}
 use Rattle.instance_start.specs.declared.started.StartFault.TheVariants.{ElementOut, DataOut, NoMemory}
 use Rattle.entry_runs.specs.declared.answer.RunAnswer.{RunAnswer}
+use Rattle.entry_runs.specs.declared.answer.RunAnswer.TheVariants as answers
 use Rattle.entry_runs.specs.Settings.{Sound, world_of, MachineFits}
 use Rattle.entry_runs.specs.Invocations.{InvocationCameWith, invoking}
+use Rattle.wasm_machine.specs.declared.invocation.End.{End}
+use Rattle.wasm_machine.specs.declared.invocation.End.TheVariants as ends
+use Rattle.wasm_machine.specs.declared.invocation.LastInvocation.{LastInvocation}
+
+-- ---- the last invocation
+
+-- how it ended, where memory sufficed
+abbrev pub end_of : RunAnswer → Option End
+end_of (answers.Finished value) = Some (ends.Finished value)
+end_of (answers.Trapped kind) = Some (ends.Trapped kind)
+end_of answers.NoReply = Some ends.NoReply
+end_of (answers.BadReply reply) = Some ends.BadReply
+end_of (answers.DeviceFault name) = Some ends.DeviceFault
+end_of answers.FuelSpent = Some ends.FuelSpent
+end_of answers.NoMemory = None
+
+-- what is kept of it: the function and its arguments, how many frames there may be, whether the calls of the collector were collected, and how
+-- it ended; behind want of memory nothing
+abbrev pub last_of : (entry : ℕ) (args : List Value) (depth : ℕ) (collecting : Bool) → RunAnswer → Option LastInvocation
+last_of entry args depth collecting answer =
+    option_map (λ end. record { entry = entry; args = args; depth = depth; collecting = collecting; end = end }) (end_of answer)
+
+-- ---- instances
 
 -- an instance: its module, and that prepared; its globals, memory, table and frames; the start function where it is due; whether it may be
--- invoked; and how many steps it has made
+-- invoked; how many steps it has made; and what it keeps of its last invocation
 pub record State : Type 0 where
   pub module_ : Module
   pub prepared : Prepared
@@ -24,9 +48,10 @@ pub record State : Type 0 where
   pub due : Option ℕ
   pub ready : Bool
   pub steps : ℕ
+  pub last : Option LastInvocation
 
-abbrev pub state : Module → Prepared → Machine → Option ℕ → Bool → ℕ → State
-state m prepared machine due ready steps = record { module_ = m; prepared = prepared; machine = machine; due = due; ready = ready; steps = steps }
+abbrev pub state : Module → Prepared → Machine → Option ℕ → Bool → ℕ → Option LastInvocation → State
+state m prepared machine due ready steps last = record { module_ = m; prepared = prepared; machine = machine; due = due; ready = ready; steps = steps; last = last }
 
 -- only the module's start function is ever due, and what is outside the frames fits the module while the instance is ready
 pub record SoundState (s : State) : Type 0 where
@@ -41,6 +66,7 @@ pub record IsNew (m : Module) (s : State) : Type 0 where
   pub due : s.due ≡ m.start
   pub ready : s.ready ≡ true
   pub steps : s.steps ≡ 0
+  pub last : s.last ≡ None
 
 -- A new instance, where all segments lie inside; or the first one that does not.
 abbrev pub Begins : Result State StartFault → Module → Type 0

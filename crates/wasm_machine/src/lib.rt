@@ -2,8 +2,10 @@
 #![tactic(auto)]
 
 mod instance;
+mod invocation;
 pub mod laws;
 
 pub use entry_runs::RunAnswer;
 pub use instance::Instance;
 pub use instance_start::StartFault;
+pub use invocation::{End, LastInvocation};

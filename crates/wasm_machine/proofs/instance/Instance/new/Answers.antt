@@ -30,5 +30,6 @@ returns c =
         due = ap (λ (x : Module). x.start) same;
         ready = refl;
         steps = refl;
+        last = refl;
       },
     )

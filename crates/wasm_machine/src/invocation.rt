@@ -1,0 +1,75 @@
+//! What an instance keeps of its last invocation.
+
+ghost use Rattle.std.specs.Prelude.{◌≡◌};
+ghost use Rattle.wasm_machine.specs.Instances.{end_of, last_of};
+
+use basic_steps::TrapKind;
+use entry_runs::RunAnswer;
+use wasm_syntax::{Value, Values};
+
+/// How an invocation ended, where memory sufficed: a variant for each other answer, without what was handed out with it.
+#[derive(Clone, Copy, PartialEq, Eq)]
+pub enum End {
+    /// The function gave this result, or none.
+    Finished { value: Option<Value> },
+    Trapped { kind: TrapKind },
+    /// The replies for an import are used up.
+    NoReply,
+    /// A reply does not fit its call.
+    BadReply,
+    /// A device failed.
+    DeviceFault,
+    /// The steps are used up.
+    FuelSpent,
+}
+
+/// The last invocation of an instance.
+#[derive(Drop)]
+pub struct LastInvocation {
+    /// The index of the function.
+    pub entry: u32,
+    /// In the parameters' order.
+    pub args: Values,
+    /// The number of frames that there may be at most.
+    pub depth: u32,
+    /// Whether the host side collected the calls of the collector's imports.
+    pub collecting: bool,
+    pub end: End,
+}
+
+/// How an invocation ended, where memory sufficed.
+fn ending(answer: &RunAnswer) -> Option<End>
+    ensures { result ≡ end_of answer.now }
+{
+    match answer {
+        RunAnswer::Finished { value } => Some(End::Finished { value: *value }),
+        RunAnswer::Trapped { kind } => Some(End::Trapped { kind: *kind }),
+        RunAnswer::NoReply => Some(End::NoReply),
+        RunAnswer::BadReply { .. } => Some(End::BadReply),
+        RunAnswer::DeviceFault { .. } => Some(End::DeviceFault),
+        RunAnswer::FuelSpent => Some(End::FuelSpent),
+        RunAnswer::NoMemory => None,
+    }
+}
+
+/// What is kept of an invocation that came to this answer.
+pub(crate) fn kept(
+    entry: u32,
+    args: Values,
+    depth: u32,
+    collecting: bool,
+    answer: &RunAnswer,
+) -> Option<LastInvocation>
+    ensures { result ≡ last_of entry args depth collecting answer.now }
+{
+    match ending(answer) {
+        Some(end) => Some(LastInvocation {
+            entry,
+            args,
+            depth,
+            collecting,
+            end,
+        }),
+        None => None,
+    }
+}
