@@ -4,6 +4,8 @@
 mod instance;
 mod invocation;
 pub mod laws;
+#[cfg(test)]
+mod tests;
 
 pub use entry_runs::RunAnswer;
 pub use instance::Instance;
