@@ -1,0 +1,6 @@
+pub mod Meeting
+pub mod Below
+pub mod Places
+pub mod Trees
+pub mod Few
+pub mod First

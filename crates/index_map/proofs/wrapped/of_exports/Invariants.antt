@@ -1,0 +1,6 @@
+use Rattle.std.proofs.Common.{◌≡◌, flat_map, take}
+use Rattle.unwind_rewrite.specs.Numbering.{wraps}
+use Rattle.index_map.proofs.wrapped.of_exports.Given as goal
+
+abbrev pub invariant-loop-export : goal.invariant-loop-export
+invariant-loop-export l = l.out.items ≡ flat_map (wraps l.fn.parts) (take l.export-index l.fn.parts.exports)

@@ -1,0 +1,174 @@
+//! The numbers of a rewritten module.
+
+ghost use Rattle.std.specs.Prelude.{◌≡◌, ℕ, suc, ◌+◌, ◌<◌, true, length, slice_get, Some, IfOk};
+ghost use Rattle.wasm_syntax.specs.declared.module.ModuleParts.{ModuleParts as Parts};
+ghost use Rattle.wasm_syntax.specs.Module.{Program, IsProgram, function_types};
+ghost use Rattle.wasm_syntax.specs.Valid.{Valid};
+ghost use Rattle.module_sizes.specs.Sized.{Sized};
+ghost use Rattle.unwind_rewrite.specs.Numbering.{flag_of, frame_import, helped, helper_base, is_in, mapped, place_in, value_import, wrapped, wrapper_base};
+ghost use Rattle.instrument.specs.Instrument.{new_start};
+ghost use Rattle.instrument.specs.Weight.{types_used};
+ghost use Rattle.index_map.specs.Kept.{CanBeNumbered};
+
+use crate::used::used_types;
+use crate::wrapped::{of_exports, push_start};
+use causes::NoMemory;
+use std::alloc::Global;
+use std::marker::Model;
+use wasm_syntax::{Items, Module, ModuleParts, ValType};
+
+/// Where functions, the flag and helpers stand in the rewriting of a module. Contracts see it as the module.
+#[derive(Drop)]
+pub struct IndexMap<'a> {
+    parts: &'a ModuleParts,
+    /// How many exports have a wrapper.
+    exported: usize,
+    wrapped: Items<u32>,
+    helped: Items<u32>,
+    /// For each type of the module, how many of the types with a helper stand behind it; None where it has none.
+    places: Items<Option<usize>>,
+}
+
+impl<'a> Model for IndexMap<'a> {
+    ghost use Rattle.wasm_syntax.specs.declared.module.ModuleParts.{ModuleParts as Numbered};
+    ghost use Rattle.index_map.specs.Kept.{IsMap};
+
+    ghost Value = { Numbered };
+
+    ghost view = { λ s. s.parts.now };
+
+    ghost invariant = { λ s. IsMap s.parts.now s.exported s.wrapped s.helped s.places };
+}
+
+/// The place of a type among `count` types, by the table of how many stand behind it.
+fn place_of(places: &Items<Option<usize>>, count: usize, t: u32) -> usize
+    requires { (k : ℕ) → slice_get places.now t ≡ Some (Some k) → k < count }
+    ensures { (k : ℕ) → slice_get places.now t ≡ Some (Some k) → result + suc k ≡ count }
+{
+    match places.get(t as usize).copied() {
+        Some(Some(k)) => count - 1 - k,
+        _ => 0,
+    }
+}
+
+/// The numbers of a module's rewriting.
+fn number<'a>(alloc: Global, parts: &'a ModuleParts) -> Result<IndexMap<'a>, NoMemory>
+    requires { CanBeNumbered parts.now }
+    ensures { IfOk result (λ map. map ≡ parts.now) }
+{
+    let mut wrapped = of_exports(alloc, parts)?;
+    let exported = wrapped.as_slice().len();
+    push_start(&mut wrapped, parts)?;
+    let used = used_types(alloc, parts)?;
+    Ok(IndexMap {
+        parts,
+        exported,
+        wrapped: Items::from_vec(wrapped),
+        helped: used.types,
+        places: used.places,
+    })
+}
+
+impl<'a> IndexMap<'a> {
+    /// The numbers of the rewriting of a valid module, whose lengths are those of a spelling.
+    pub fn new(alloc: Global, source: &'a Module) -> Result<IndexMap<'a>, NoMemory>
+        requires valid { Valid source.now }
+        requires sized { Sized source.now }
+        ensures { IfOk result (λ map. map ≡ source.now) }
+    {
+        let map = number(alloc, source.parts())?;
+        Ok(map)
+    }
+
+    /// The index of a function of the module.
+    pub fn function(&self, f: u32) -> u32
+        requires { f < length (function_types self.now) }
+        ensures { result ≡ mapped self.now f }
+    {
+        if (f as usize) < self.parts.imports.len() {
+            f
+        } else {
+            3 + f
+        }
+    }
+
+    /// The import that takes a value of a type.
+    pub fn value_import(&self, t: ValType) -> u32
+        ensures { result ≡ value_import self.now t }
+    {
+        let imports = self.parts.imports.len() as u32;
+        match t {
+            ValType::I32 => imports,
+            ValType::I64 => imports + 1,
+        }
+    }
+
+    /// The import that ends a frame.
+    pub fn frame_import(&self) -> u32
+        ensures { result ≡ frame_import self.now }
+    {
+        self.parts.imports.len() as u32 + 2
+    }
+
+    /// The global that says whether frames are being unwound.
+    pub fn flag(&self) -> u32
+        ensures { result ≡ flag_of self.now }
+    {
+        self.parts.globals.len() as u32
+    }
+
+    /// The functions that have a wrapper: one for each export of a function that the module defines, and the start function, where the
+    /// module defines it.
+    pub fn wrapped(&self) -> &[u32]
+        ensures { result.now ≡ wrapped self.now }
+    {
+        self.wrapped.as_slice()
+    }
+
+    /// The index of the first wrapper.
+    pub fn wrapper_base(&self) -> u32
+        ensures { result ≡ wrapper_base self.now }
+    {
+        self.parts.imports.len() as u32 + (3 + self.parts.functions.len() as u32)
+    }
+
+    /// The types that have a helper: those that a `call_indirect` uses, each once.
+    pub fn helped(&self) -> &[u32]
+        ensures flat { result.now ≡ types_used self.now }
+        ensures trees { (p : Program) → IsProgram p → p.module_ ≡ self.now → result.now ≡ helped p }
+    {
+        self.helped.as_slice()
+    }
+
+    /// The index of the first helper.
+    pub fn helper_base(&self) -> u32
+        ensures { result ≡ helper_base self.now }
+    {
+        self.wrapper_base() + self.wrapped.len() as u32
+    }
+
+    /// The helper of a type that a `call_indirect` uses.
+    pub fn helper(&self, ftype: u32) -> u32
+        requires { is_in ftype (types_used self.now) ≡ true }
+        ensures flat { result ≡ helper_base self.now + place_in ftype (types_used self.now) }
+        ensures trees { (p : Program) → IsProgram p → p.module_ ≡ self.now → result ≡ helper_base self.now + place_in ftype (helped p) }
+    {
+        self.helper_base() + place_of(&self.places, self.helped.len(), ftype) as u32
+    }
+
+    /// The start function of the rewritten module.
+    pub fn start(&self) -> Option<u32>
+        ensures { result ≡ new_start self.now self.now.start }
+    {
+        match self.parts.start {
+            Some(f) => {
+                if (f as usize) < self.parts.imports.len() {
+                    Some(f)
+                } else {
+                    Some(self.wrapper_base() + self.exported as u32)
+                }
+            }
+            None => None,
+        }
+    }
+}
