@@ -4,3 +4,5 @@ pub mod Places
 pub mod Trees
 pub mod Few
 pub mod First
+pub mod Within
+pub mod Exports

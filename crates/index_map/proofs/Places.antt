@@ -40,25 +40,25 @@ behind_there t xs e = by (behind t xs) refl
     by (Some k) q = record { number = k; is = q }
 
 -- the table has it
-pub table_has : (m : Module) (exported : ℕ) (wraps helped : List ℕ) (places : List (Option ℕ)) → IsMap m exported wraps helped places → (t : ℕ) → is_in t (types_used m) ≡ true → (b : Behind t (types_used m)) → slice_get places t ≡ Some (Some b.number)
-table_has m exported wraps helped places h t e b =
+pub table_has : (m : Module) (exported : ℕ) (wraps exports helped : List ℕ) (places : List (Option ℕ)) → IsMap m exported wraps exports helped places → (t : ℕ) → is_in t (types_used m) ≡ true → (b : Behind t (types_used m)) → slice_get places t ≡ Some (Some b.number)
+table_has m exported wraps exports helped places h t e b =
     let within : t < length places = omega (arith, h.used.count, is_in_below (length m.types) t (types_used m) (distinct_below (length m.types) (bodies_used m.bodies) h.can.types_there) e) in
     slice_get-get_or places t None within ∙ ap Some (h.used.places_are t within ∙ b.is)
 
 -- each entry is less than how many there are
-pub table_low : (m : Module) (exported : ℕ) (wraps helped : List ℕ) (places : List (Option ℕ)) → IsMap m exported wraps helped places → (t k : ℕ) → is_in t (types_used m) ≡ true → slice_get places t ≡ Some (Some k) → k < length helped
-table_low m exported wraps helped places h t k e at =
+pub table_low : (m : Module) (exported : ℕ) (wraps exports helped : List ℕ) (places : List (Option ℕ)) → IsMap m exported wraps exports helped places → (t k : ℕ) → is_in t (types_used m) ≡ true → slice_get places t ≡ Some (Some k) → k < length helped
+table_low m exported wraps exports helped places h t k e at =
     let b = behind_there t (types_used m) e in
-    let same : b.number ≡ k = some_is (some_is (sym (table_has m exported wraps helped places h t e b) ∙ at)) in
+    let same : b.number ≡ k = some_is (some_is (sym (table_has m exported wraps exports helped places h t e b) ∙ at)) in
     let a = place_behind t (types_used m) b.number b.is in
     omega (arith, same, a, ap length h.used.helped_is)
 
 -- the place that the table gives
-pub place_found : (m : Module) (exported : ℕ) (wraps helped : List ℕ) (places : List (Option ℕ)) → IsMap m exported wraps helped places → (t r : ℕ) → is_in t (types_used m) ≡ true → ((k : ℕ) → slice_get places t ≡ Some (Some k) → r + suc k ≡ length helped) → (r ≡ place_in t (types_used m)) × (r < length (types_used m))
-place_found m exported wraps helped places h t r e found =
+pub place_found : (m : Module) (exported : ℕ) (wraps exports helped : List ℕ) (places : List (Option ℕ)) → IsMap m exported wraps exports helped places → (t r : ℕ) → is_in t (types_used m) ≡ true → ((k : ℕ) → slice_get places t ≡ Some (Some k) → r + suc k ≡ length helped) → (r ≡ place_in t (types_used m)) × (r < length (types_used m))
+place_found m exported wraps exports helped places h t r e found =
     let b = behind_there t (types_used m) e in
     let a = place_behind t (types_used m) b.number b.is in
-    let c = found b.number (table_has m exported wraps helped places h t e b) in
+    let c = found b.number (table_has m exported wraps exports helped places h t e b) in
     let d = ap length h.used.helped_is in
     (omega (arith, a, c, d), omega (arith, c, d))
 

@@ -2,6 +2,7 @@
 use Rattle.std.specs.Prelude.{◌≡◌, ℕ, ◌+◌, ◌<◌, ◌^◌, List, map, length, get_or, Option, None}
 use Rattle.wasm_syntax.specs.declared.module.ModuleParts.{ModuleParts as Module}
 use Rattle.unwind_rewrite.specs.Numbering.{export_wrapped, wrapped, flag_of, helper_base}
+use Rattle.instrument.specs.Instrument.{new_exports}
 use Rattle.instrument.specs.Weight.{types_used}
 use Rattle.index_map.specs.Used.{AllBelow, bodies_used, behind}
 
@@ -21,8 +22,9 @@ pub record AreUsed (m : Module) (helped : List ℕ) (places : List (Option ℕ))
   pub count : length places ≡ length m.types
   pub places_are : (t : ℕ) → t < length places → get_or places t None ≡ behind t (types_used m)
 
-pub record IsMap (m : Module) (exported : ℕ) (wraps helped : List ℕ) (places : List (Option ℕ)) : Type 0 where
+pub record IsMap (m : Module) (exported : ℕ) (wraps exports helped : List ℕ) (places : List (Option ℕ)) : Type 0 where
   pub can : CanBeNumbered m
   pub exported_is : exported ≡ length (export_wrapped m)
   pub wraps_is : wraps ≡ wrapped m
+  pub exports_is : exports ≡ map (λ e. e.index) (new_exports m 0 m.exports)
   pub used : AreUsed m helped places

@@ -1,17 +1,17 @@
 //! The numbers of a rewritten module.
 
-ghost use Rattle.std.specs.Prelude.{◌≡◌, ℕ, suc, ◌+◌, ◌<◌, true, length, slice_get, Some, IfOk};
+ghost use Rattle.std.specs.Prelude.{◌≡◌, ℕ, suc, ◌+◌, ◌<◌, true, length, map, slice_get, Some, IfOk};
 ghost use Rattle.wasm_syntax.specs.declared.module.ModuleParts.{ModuleParts as Parts};
 ghost use Rattle.wasm_syntax.specs.Module.{Program, IsProgram, function_types};
 ghost use Rattle.wasm_syntax.specs.Valid.{Valid};
 ghost use Rattle.module_sizes.specs.Sized.{Sized};
 ghost use Rattle.unwind_rewrite.specs.Numbering.{flag_of, frame_import, helped, helper_base, is_in, mapped, place_in, value_import, wrapped, wrapper_base};
-ghost use Rattle.instrument.specs.Instrument.{new_start};
+ghost use Rattle.instrument.specs.Instrument.{new_exports, new_start};
 ghost use Rattle.instrument.specs.Weight.{types_used};
 ghost use Rattle.index_map.specs.Kept.{CanBeNumbered};
 
 use crate::used::used_types;
-use crate::wrapped::{of_exports, push_start};
+use crate::wrapped::{indices, of_exports, push_start};
 use causes::NoMemory;
 use std::alloc::Global;
 use std::marker::Model;
@@ -24,6 +24,7 @@ pub struct IndexMap<'a> {
     /// How many exports have a wrapper.
     exported: usize,
     wrapped: Items<u32>,
+    exports: Items<u32>,
     helped: Items<u32>,
     /// For each type of the module, how many of the types with a helper stand behind it; None where it has none.
     places: Items<Option<usize>>,
@@ -37,7 +38,7 @@ impl<'a> Model for IndexMap<'a> {
 
     ghost view = { λ s. s.parts.now };
 
-    ghost invariant = { λ s. IsMap s.parts.now s.exported s.wrapped s.helped s.places };
+    ghost invariant = { λ s. IsMap s.parts.now s.exported s.wrapped s.exports s.helped s.places };
 }
 
 /// The place of a type among `count` types, by the table of how many stand behind it.
@@ -59,11 +60,17 @@ fn number<'a>(alloc: Global, parts: &'a ModuleParts) -> Result<IndexMap<'a>, NoM
     let mut wrapped = of_exports(alloc, parts)?;
     let exported = wrapped.as_slice().len();
     push_start(&mut wrapped, parts)?;
+    let exports = indices(
+        alloc,
+        parts,
+        parts.imports.len() + (3 + parts.functions.len()),
+    )?;
     let used = used_types(alloc, parts)?;
     Ok(IndexMap {
         parts,
         exported,
         wrapped: Items::from_vec(wrapped),
+        exports: Items::from_vec(exports),
         helped: used.types,
         places: used.places,
     })
@@ -123,6 +130,13 @@ impl<'a> IndexMap<'a> {
         ensures { result.now ≡ wrapped self.now }
     {
         self.wrapped.as_slice()
+    }
+
+    /// The index of each export: that of its wrapper, where it has one.
+    pub fn exports(&self) -> &[u32]
+        ensures { result.now ≡ map (λ e. e.index) (new_exports self.now 0 self.now.exports) }
+    {
+        self.exports.as_slice()
     }
 
     /// The index of the first wrapper.

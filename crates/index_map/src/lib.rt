@@ -3,6 +3,7 @@
 
 mod collisions;
 mod indices;
+pub mod laws;
 mod used;
 mod wrapped;
 

@@ -1,9 +1,10 @@
 //! The functions that have a wrapper.
 
-ghost use Rattle.std.specs.Prelude.{◌≡◌, ◌++◌, nat_lt, not, false, length, IfOk, OnOk, if◌then◌else◌};
+ghost use Rattle.std.specs.Prelude.{◌≡◌, ℕ, ◌+◌, ◌<◌, ◌^◌, ◌++◌, [], ◌∷◌, map, nat_lt, not, false, length, IfOk, OnOk, if◌then◌else◌};
 ghost use Rattle.wasm_syntax.specs.declared.module.ModuleParts.{ModuleParts as Parts};
 ghost use Rattle.wasm_syntax.specs.Module.{is_function};
-ghost use Rattle.unwind_rewrite.specs.Numbering.{export_wrapped, start_wraps, wraps};
+ghost use Rattle.unwind_rewrite.specs.Numbering.{export_wrapped, start_wraps, wrapper_base, wraps};
+ghost use Rattle.instrument.specs.Instrument.{new_exports, new_index};
 
 use causes::NoMemory;
 use std::alloc::Global;
@@ -53,4 +54,39 @@ pub(crate) fn push_start(out: &mut Vec<u32>, parts: &ModuleParts) -> Result<(), 
         }
         None => Ok(()),
     }
+}
+
+/// Adds the index of an export in the rewritten module, where the next wrapper stands at this index. Gives the index of the wrapper behind.
+fn push_index(
+    out: &mut Vec<u32>,
+    imports: usize,
+    next: usize,
+    export: &Export,
+) -> Result<usize, NoMemory>
+    requires { next < 2 ^ 32 }
+    ensures index { (m : Parts) (k : ℕ) → length m.imports ≡ imports → next ≡ wrapper_base m + k → OnOk result (out.new.items ≡ out.old.items ++ new_index m k (wraps m export.now) export.now.index ∷ []) }
+    ensures next { (m : Parts) → length m.imports ≡ imports → IfOk result (λ behind. behind ≡ next + length (wraps m export.now)) }
+{
+    if is_wrapped(imports, export) {
+        out.push(next as u32)?;
+        Ok(next + 1)
+    } else {
+        out.push(export.index)?;
+        Ok(next)
+    }
+}
+
+/// The index of each export in the rewritten module, where the first wrapper stands at this index.
+pub(crate) fn indices(alloc: Global, parts: &ModuleParts, base: usize) -> Result<Vec<u32>, NoMemory>
+    requires base { base ≡ wrapper_base parts.now }
+    requires few { wrapper_base parts.now + length (export_wrapped parts.now) < 2 ^ 32 }
+    ensures { IfOk result (λ out. out.items ≡ map (λ e. e.index) (new_exports parts.now 0 parts.now.exports)) }
+{
+    let mut out = Vec::new(alloc);
+    let imports = parts.imports.len();
+    let mut next = base;
+    for export in parts.exports.as_slice() {
+        next = push_index(&mut out, imports, next, export)?;
+    }
+    Ok(out)
 }
