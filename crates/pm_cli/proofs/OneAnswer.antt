@@ -9,7 +9,7 @@ use Rattle.command_answers.specs.Inputs.{input_of}
 use Rattle.command_answers.specs.Loading.{IfLoaded}
 use Rattle.command_answers.specs.declared.outcome.Outcome.{Outcome}
 use Rattle.command_answers.proofs.OneOutcome.{Agree, agree_then, agree_if_loaded}
-use Rattle.run_command.specs.Written.{Writes}
+use Rattle.run_session.specs.Written.{Writes}
 use Rattle.pm_cli.specs.Answer.{AnswersTo, IsAnswer, CheckAnswer, ShowAnswer, checked}
 use Rattle.pm_cli.specs.Words.{command}
 use Rattle.pm_cli.specs.declared.words.Command.{Command}

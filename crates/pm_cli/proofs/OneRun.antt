@@ -18,10 +18,10 @@ use Rattle.command_answers.specs.Loading.{IfLoaded}
 use Rattle.command_answers.specs.declared.outcome.Outcome.{Outcome}
 use Rattle.command_answers.proofs.OneOutcome.{Agree, agree_then, agree_if_loaded}
 use Rattle.run_words.specs.declared.words.RunWords.{RunWords}
-use Rattle.run_command.specs.Written.{Writes}
-use Rattle.run_command.specs.Starting.{invocation_of}
+use Rattle.run_session.specs.Written.{Writes}
+use Rattle.run_session.specs.Invocations.{invocation_of}
+use Rattle.run_session.specs.RunText.{dumps_from}
 use Rattle.run_command.specs.Hosting.{start_text}
-use Rattle.run_command.specs.RunText.{dumps_from}
 use Rattle.run_command.specs.AllRan.{all_ran}
 use Rattle.run_command.specs.RunAnswer.{RunAnswer, RunsTo, StartsOr, ModuleAnswer, IfRefusal, IsUntouched, hosting, replies_input, script_of}
 use Rattle.run_command.proofs.OneWritten.{Gives, at_refusal, gives_then, gives_starts, gives_if_loaded, input_refuses, replies_refuse, script_refuses}

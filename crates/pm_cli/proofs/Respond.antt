@@ -10,7 +10,7 @@ use Rattle.command_answers.specs.declared.outcome.Outcome.{Outcome}
 use Rattle.command_answers.specs.declared.status.Status.{Status}
 use Rattle.command_answers.specs.declared.status.Status.TheVariants as status
 use Rattle.run_words.specs.declared.words.RunWords.{RunWords}
-use Rattle.run_command.specs.Written.{Writes, HoldThen}
+use Rattle.run_session.specs.Written.{Writes, HoldThen}
 use Rattle.run_command.specs.RunAnswer.{RunAnswer}
 use Rattle.pm_cli.specs.Answer.{AnswersTo, IsAnswer, Answered, CheckAnswer, ShowAnswer}
 use Rattle.pm_cli.specs.Words.{command}

@@ -9,7 +9,8 @@ use Rattle.command_answers.specs.declared.outcome.Outcome.{Outcome}
 use Rattle.command_answers.specs.declared.status.Status.{Status}
 use Rattle.command_answers.specs.declared.status.Status.TheVariants as status
 use Rattle.run_words.specs.declared.words.RunWords.{RunWords}
-use Rattle.run_command.specs.Stops.{Stop, no_memory, file_failed, OnStop, IsUnchanged, RunStops}
+use Rattle.run_session.specs.Stop.{Stop, no_memory, file_failed, OnStop}
+use Rattle.run_command.specs.Stops.{IsUnchanged, RunStops}
 use Rattle.pm_cli.specs.Stops.{UnlessRun, CommandStops, WordsStop}
 use Rattle.pm_cli.specs.Words.{command}
 use Rattle.pm_cli.specs.declared.words.Command.{Command}

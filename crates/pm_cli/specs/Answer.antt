@@ -12,8 +12,8 @@ use Rattle.wasm_syntax.specs.declared.module.ModuleParts.{ModuleParts as Module}
 use Rattle.wasm_decode.specs.Decode.{module_from}
 use Rattle.wasm_syntax.specs.declared.host.Served.{Served}
 use Rattle.device_set.specs.Sets.{DeviceState}
+use Rattle.run_session.specs.Written.{Writes, HoldThen}
 use Rattle.run_command.specs.RunAnswer.{RunAnswer, IsUntouched}
-use Rattle.run_command.specs.Written.{Writes, HoldThen}
 use Rattle.pm_cli.specs.Check.{counted}
 use Rattle.command_answers.specs.Loading.{IfLoaded}
 use Rattle.command_answers.specs.Inputs.{input_of, Then}

@@ -2,7 +2,8 @@
 use Rattle.std.specs.Prelude.{ℕ, List, Option, Some, None}
 use Rattle.pm_outside.specs.Contents.{Contents}
 use Rattle.device_set.specs.Sets.{DeviceState}
-use Rattle.run_command.specs.Stops.{Stop, IsUnchanged, RunStops}
+use Rattle.run_session.specs.Stop.{Stop}
+use Rattle.run_command.specs.Stops.{IsUnchanged, RunStops}
 use Rattle.pm_cli.specs.Words.{command}
 use Rattle.pm_cli.specs.declared.words.Command.{Command}
 use Rattle.pm_cli.specs.declared.words.Command.TheVariants.{Check, Run, Show}

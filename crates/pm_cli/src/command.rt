@@ -9,7 +9,7 @@ ghost use Rattle.command_answers.specs.Told.{UnlessFault};
 ghost use Rattle.pm_cli.specs.FaultText.{IsFaultText};
 ghost use Rattle.pm_cli.specs.Stops.{UnlessRun, WordsStop};
 ghost use Rattle.pm_cli.specs.Words.{command};
-ghost use Rattle.run_command.specs.Stops.{OnStop};
+ghost use Rattle.run_session.specs.Stop.{OnStop};
 
 use crate::checking::check_file;
 use crate::showing::show_file;

@@ -10,7 +10,7 @@ ghost use Rattle.command_answers.specs.Told.{UnlessFault, Takes, HasTakenFront};
 ghost use Rattle.pm_cli.specs.FaultText.{IsFaultText};
 ghost use Rattle.pm_cli.specs.Stops.{UnlessRun, WordsStop};
 ghost use Rattle.pm_cli.specs.Words.{command};
-ghost use Rattle.run_command.specs.Stops.{no_memory, file_failed};
+ghost use Rattle.run_session.specs.Stop.{no_memory, file_failed};
 
 use crate::command::respond;
 use command_answers::{Outcome, Status};

@@ -21,15 +21,16 @@ use Rattle.wasm_machine.specs.Instances.{State, IsNew}
 use Rattle.run_words.specs.declared.words.RunWords.{RunWords}
 use Rattle.command_answers.specs.Texts.{ended}
 use Rattle.command_answers.specs.declared.outcome.Outcome.{Outcome}
-use Rattle.run_command.specs.RunText.{invocation_text, traps_in, fitted}
-use Rattle.run_command.specs.Given.{module_name, module_of}
-use Rattle.run_command.specs.Starting.{invocation_of, or_text, cause_text, entries_text}
+use Rattle.run_session.specs.RunText.{invocation_text, traps_in, fitted}
+use Rattle.run_session.specs.Given.{module_name, module_of}
+use Rattle.run_session.specs.Invocations.{invocation_of}
+use Rattle.run_session.specs.Answers.{device_cause, misfit_cause}
+use Rattle.run_session.specs.Ending.{host_stopped, end_status}
+use Rattle.run_session.specs.Progress.{session_from}
+use Rattle.run_session.specs.Sessions.{point_of, EndsIn, RanAll}
+use Rattle.run_command.specs.Starting.{or_text, cause_text, entries_text}
 use Rattle.run_command.specs.Hosting.{Hosting, scripted}
-use Rattle.run_command.specs.Answers.{device_cause, misfit_cause}
-use Rattle.run_command.specs.Ending.{host_stopped, end_status}
 use Rattle.run_command.specs.AllRan.{end_text, ran_to_end}
-use Rattle.run_command.specs.Progress.{session_from}
-use Rattle.run_command.specs.Sessions.{point_of, EndsIn, RanAll}
 use Rattle.run_command.specs.RunAnswer.{hosting, script_replies, UsesUp, EndUsesUp, HasFailed, EndHasFailed, RunsTo}
 
 -- ---- no cause, no refusal

@@ -29,15 +29,15 @@ use Rattle.command_answers.specs.declared.loading.Loaded.{Loaded}
 use Rattle.command_answers.specs.declared.loading.Loaded.TheVariants.{Valid as IsValid, TurnedDown}
 use Rattle.command_answers.specs.declared.input.Input.{Input}
 use Rattle.command_answers.specs.declared.input.Input.TheVariants as inputs
+use Rattle.run_session.specs.Written.{Writes, HoldThen}
+use Rattle.run_session.proofs.Unless.{on_all}
 use Rattle.run_command.specs.declared.scripts.Script.{Script}
 use Rattle.run_command.specs.declared.scripts.Script.TheVariants.{Bad}
 use Rattle.run_command.specs.declared.scripts.Asked.{Asked}
 use Rattle.run_command.specs.declared.scripts.Asked.TheVariants.{Read, Refused}
-use Rattle.run_command.specs.Written.{Writes, HoldThen}
 use Rattle.run_command.specs.Steps.{IsAnswered}
 use Rattle.run_command.specs.RunAnswer.{ModuleAnswer, bad_replies, script_of, replies_input, RunAnswer}
 use Rattle.run_command.specs.Scripts.{script_result, IsAsked, ScriptAnswer, BytesAnswer, SourceAnswer, IsFaultOf}
-use Rattle.run_command.proofs.Ends.{on_all}
 use Rattle.run_command.proofs.Refusals.{unless, OnAnswer, on_answer, holds, carried, refused}
 
 -- ---- results

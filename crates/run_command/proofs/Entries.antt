@@ -5,7 +5,8 @@ use Rattle.wasm_syntax.specs.declared.module.ModuleParts.{ModuleParts as Module}
 use Rattle.wasm_syntax.specs.Module.{function_export}
 use Rattle.wasm_syntax.specs.Run.{cause_of_entry}
 use Rattle.run_words.specs.declared.invocation.Invocation.{Invocation}
-use Rattle.run_command.specs.Starting.{invocation_of, or_text, cause_text, entries_text}
+use Rattle.run_session.specs.Invocations.{invocation_of}
+use Rattle.run_command.specs.Starting.{or_text, cause_text, entries_text}
 
 abbrev pub own_text : Module → Invocation → Option (List ℕ)
 own_text m i = cause_text i.entry (cause_of_entry m (function_export m i.entry) i.args)

@@ -14,7 +14,7 @@ use Rattle.device_set.specs.Sets.{DeviceState, names, is_named, IsPlace, count_o
 use Rattle.device_set.specs.Hosting.{HostsState, module_name as name_in, with_module, of_module, of_script, logs_before, log_named, origin_of, calls_of, is_used_up, replies_of as replies_in}
 use Rattle.device_set.proofs.Sets.{named_at}
 use Rattle.device_set.proofs.Names.{swapped, neither}
-use Rattle.run_command.specs.Given.{module_name, module_of, from_module}
+use Rattle.run_session.specs.Given.{module_name, module_of, from_module}
 use Rattle.run_command.specs.Hosting.{scripted, is_served}
 use Rattle.run_command.specs.RunAnswer.{Logs, hosting, script_replies}
 use Rattle.run_command.proofs.Answering.{HostFacts}

@@ -1,20 +1,8 @@
-mod Lists
-mod Steps
-mod Told
-mod Held
-mod Turning
-mod Sessions
-mod Stopped
-mod Fewer
-mod Ends
-mod Invocations
 mod Answering
 mod Hostings
 mod Valid
 mod Entries
-mod Ones
 pub mod OneWritten
-mod Whole
 mod Refusals
 mod Commands
 mod Stopping

@@ -8,7 +8,7 @@ use Rattle.command_answers.specs.Told.{UnlessFault}
 use Rattle.command_answers.specs.declared.outcome.Outcome.{Outcome}
 use Rattle.command_answers.specs.declared.status.Status.{Status}
 use Rattle.command_answers.specs.declared.status.Status.TheVariants as status
-use Rattle.run_command.specs.Written.{Writes}
+use Rattle.run_session.specs.Written.{Writes}
 use Rattle.run_command.specs.Steps.{IsAnswered}
 use Rattle.run_command.specs.RunAnswer.{IfRefusal, IsUntouched}
 

@@ -21,12 +21,14 @@ use Rattle.command_answers.specs.declared.outcome.Outcome.{Outcome}
 use Rattle.command_answers.specs.declared.loading.Loaded.{Loaded}
 use Rattle.command_answers.specs.declared.loading.Loaded.TheVariants.{Valid as IsValid}
 use Rattle.run_words.specs.declared.words.RunWords.{RunWords}
-use Rattle.run_command.specs.Starting.{invocation_of, cause_text, entries_text, or_text}
+use Rattle.run_session.specs.Invocations.{invocation_of}
+use Rattle.run_session.specs.Stop.{Stop, no_memory, file_failed, OnStop}
+use Rattle.run_session.specs.Sessions.{point_of, WasStopped, StopsIn}
+use Rattle.run_command.specs.Starting.{cause_text, entries_text, or_text}
 use Rattle.run_command.specs.Hosting.{start_text}
 use Rattle.run_command.specs.RunAnswer.{hosting, script_replies, replies_input, script_of}
 use Rattle.run_command.specs.Scripts.{script_result, IsAsked}
-use Rattle.run_command.specs.Stops.{Stop, no_memory, file_failed, OnStop, RunsFor, StopsRun, IsUnchanged, ModuleStops, ScriptStops, BytesStops, SourceStops, FileStops, RunStops}
-use Rattle.run_command.specs.Sessions.{point_of, WasStopped, StopsIn}
+use Rattle.run_command.specs.Stops.{RunsFor, StopsRun, IsUnchanged, ModuleStops, ScriptStops, BytesStops, SourceStops, FileStops, RunStops}
 use Rattle.run_command.specs.declared.scripts.Script.{Script}
 use Rattle.run_command.specs.declared.scripts.Script.TheVariants.{Whole}
 use Rattle.run_command.specs.declared.scripts.Asked.{Asked}

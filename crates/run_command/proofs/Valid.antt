@@ -25,15 +25,16 @@ use Rattle.command_answers.specs.declared.status.Status.{Status}
 use Rattle.command_answers.specs.declared.status.Status.TheVariants as status
 use Rattle.run_words.specs.declared.invocation.Invocation.{Invocation as InvocationWords}
 use Rattle.run_words.specs.declared.words.RunWords.{RunWords}
-use Rattle.run_command.specs.Written.{Writes, HoldThen}
-use Rattle.run_command.specs.RunText.{dump_name}
-use Rattle.run_command.specs.Starting.{invocation_of, not_started_with, or_text, cause_text, segment_of, entries_text}
+use Rattle.run_session.specs.Written.{Writes, HoldThen}
+use Rattle.run_session.specs.RunText.{dump_name}
+use Rattle.run_session.specs.Invocations.{invocation_of}
+use Rattle.run_session.specs.Ending.{end_status}
+use Rattle.run_session.specs.Sessions.{MayBegin, point_of, EndsIn, RanAll, IsDumpFault}
+use Rattle.run_session.proofs.Unless.{on_all}
+use Rattle.run_command.specs.Starting.{not_started_with, or_text, cause_text, segment_of, entries_text}
 use Rattle.run_command.specs.Hosting.{Hosting, is_served, import_text, first_unserved, start_text}
-use Rattle.run_command.specs.Ending.{end_status}
-use Rattle.run_command.specs.Sessions.{MayBegin, point_of, EndsIn, RanAll, IsDumpFault}
 use Rattle.run_command.specs.RunAnswer.{hosting, script_replies, RunsTo, Logs, StartsOr, ModuleAnswer, IfRefusal, IsUntouched, IsFileOf}
 use Rattle.run_command.specs.Steps.{IsAnswered}
-use Rattle.run_command.proofs.Ends.{on_all}
 use Rattle.run_command.proofs.Answering.{none_then, runs_to}
 use Rattle.run_command.proofs.Hostings.{Began, GaveBack, host_facts, by_script, logs, rose_on}
 

@@ -10,9 +10,9 @@ use Rattle.device_set.specs.Sets.{is_named}
 use Rattle.command_answers.specs.Texts.{ended}
 use Rattle.command_answers.specs.declared.outcome.Outcome.{Outcome}
 use Rattle.command_answers.specs.declared.status.Status.TheVariants as status
-use Rattle.run_command.specs.RunText.{invocation_text, traps_in, last_of, fitted, not_invoked_text}
-use Rattle.run_command.specs.Given.{module_of}
-use Rattle.run_command.specs.Ending.{host_stopped, end_status}
+use Rattle.run_session.specs.RunText.{invocation_text, traps_in, last_of, fitted, not_invoked_text}
+use Rattle.run_session.specs.Given.{module_of}
+use Rattle.run_session.specs.Ending.{host_stopped, end_status}
 
 module _ (names : List (List ℕ)) (imports : List Import) where
   -- the device that failed, or the number of the call that the script has no reply for

@@ -1,16 +1,7 @@
-pub mod RunText
-pub mod Given
 pub mod Starting
 pub mod Hosting
-pub mod Progress
-pub mod Ending
 pub mod AllRan
 pub mod RunAnswer
 pub mod Steps
-pub mod Dumping
-pub mod Written
-pub mod Turns
 pub mod Stops
-pub mod Sessions
 pub mod Scripts
-pub mod Answers

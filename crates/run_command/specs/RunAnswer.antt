@@ -18,12 +18,13 @@ use Rattle.command_answers.specs.declared.outcome.Outcome.{Outcome}
 use Rattle.command_answers.specs.declared.status.Status.{Status}
 use Rattle.command_answers.specs.declared.status.Status.TheVariants as status
 use Rattle.run_words.specs.declared.words.RunWords.{RunWords}
-use Rattle.run_command.specs.RunText.{dump_name, dumps_from, last_of}
+use Rattle.run_session.specs.RunText.{dump_name, dumps_from, last_of}
 use Rattle.host_runs.specs.Hosted.{replies_of}
 use Rattle.device_set.specs.Sets.{DeviceState, names, count_of, log_of, is_named}
-use Rattle.run_command.specs.Given.{given_in, module_of, from_module}
-use Rattle.run_command.specs.Written.{Writes}
-use Rattle.run_command.specs.Starting.{invocation_of, not_started_with}
+use Rattle.run_session.specs.Given.{given_in, module_of, from_module}
+use Rattle.run_session.specs.Written.{Writes}
+use Rattle.run_session.specs.Invocations.{invocation_of}
+use Rattle.run_command.specs.Starting.{not_started_with}
 use Rattle.run_command.specs.Hosting.{Hosting, scripted, start_text}
 use Rattle.run_command.specs.AllRan.{all_ran}
 

@@ -14,11 +14,11 @@ use Rattle.command_answers.specs.Told.{UnlessFault}
 use Rattle.command_answers.specs.Texts.{file_fault}
 use Rattle.command_answers.specs.declared.outcome.Outcome.{Outcome}
 use Rattle.command_answers.specs.declared.status.Status.TheVariants as status
+use Rattle.run_session.specs.Written.{Writes}
 use Rattle.run_command.specs.declared.scripts.Script.{Script}
 use Rattle.run_command.specs.declared.scripts.Script.TheVariants.{Whole, Bad}
 use Rattle.run_command.specs.declared.scripts.Asked.{Asked}
 use Rattle.run_command.specs.declared.scripts.Asked.TheVariants.{Read, Refused}
-use Rattle.run_command.specs.Written.{Writes}
 use Rattle.run_command.specs.RunAnswer.{IsFileOf, ModuleAnswer, replies_input, bad_replies, script_of}
 
 -- the replies, where there are any, or the refusal that names a line

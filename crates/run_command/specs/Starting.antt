@@ -10,10 +10,6 @@ use Rattle.command_answers.specs.declared.outcome.Outcome.{Outcome}
 use Rattle.command_answers.specs.declared.status.Status.TheVariants as status
 use Rattle.instance_start.specs.declared.started.StartFault.{StartFault}
 use Rattle.instance_start.specs.declared.started.StartFault.TheVariants.{ElementOut, DataOut, NoMemory}
-use Rattle.run_words.specs.declared.invocation.Invocation.{Invocation as InvocationWords}
-
-abbrev pub invocation_of : InvocationWords → Invocation
-invocation_of i = record { name = i.entry; args = i.args }
 
 abbrev pub not_started_with : List ℕ → Outcome
 not_started_with cause = ended status.NotStarted (codes "not started: " ++ cause ++ codes "\n")

@@ -4,7 +4,7 @@ use Rattle.pm_outside.specs.Contents.{Contents}
 use Rattle.wasm_syntax.specs.declared.host.Served.{Served}
 use Rattle.device_set.specs.Sets.{DeviceState}
 use Rattle.command_answers.specs.declared.outcome.Outcome.{Outcome}
-use Rattle.run_command.specs.Written.{Writes, HoldThen}
+use Rattle.run_session.specs.Written.{Writes, HoldThen}
 use Rattle.run_command.specs.RunAnswer.{IfRefusal, IsUntouched}
 
 -- this is answered, where the devices are these before and after, and files hold this before and then

@@ -1,6 +1,5 @@
 -- What is left where memory is wanting, or where a file fails.
-use Rattle.std.specs.Prelude.{◌≡◌, ◌≢◌, ℕ, ◌≤◌, ◌⊎◌, List, ◌++◌, map, take, false, Option, Some, None, Result, Ok, Err}
-use Rattle.causes.specs.declared.NoMemory.{NoMemory}
+use Rattle.std.specs.Prelude.{◌≡◌, ℕ, ◌≤◌, ◌⊎◌, List, ◌++◌, map, take, false, Option, None, Result, Ok}
 use Rattle.pm_outside.specs.Contents.{Contents}
 use Rattle.wasm_syntax.specs.declared.quantity.Quantity.TheVariants.{ModuleBytes}
 use Rattle.wasm_syntax.specs.declared.host.Reply.{Reply}
@@ -8,37 +7,23 @@ use Rattle.wasm_syntax.specs.declared.host.Served.{Served}
 use Rattle.wasm_syntax.specs.declared.module.ModuleParts.{ModuleParts as Module}
 use Rattle.wasm_syntax.specs.Module.{Program, IsProgram}
 use Rattle.wasm_syntax.specs.Valid.{Valid}
-use Rattle.wasm_syntax.specs.Run.{Invocation, trapped, Ran, run}
+use Rattle.wasm_syntax.specs.Run.{Invocation, Ran, run}
 use Rattle.wasm_decode.specs.Decode.{module_from}
 use Rattle.wasm_validate.specs.Heights.{AllLow}
 use Rattle.host_runs.specs.Hosted.{replies_of}
 use Rattle.device_set.specs.Sets.{DeviceState, names}
 use Rattle.command_answers.specs.Inputs.{input_of}
 use Rattle.command_answers.specs.declared.outcome.Outcome.{Outcome}
-use Rattle.command_answers.specs.declared.status.Status.TheVariants as status
 use Rattle.run_words.specs.declared.words.RunWords.{RunWords}
-use Rattle.run_command.specs.RunText.{dumps_from, last_of}
-use Rattle.run_command.specs.Given.{given_in}
-use Rattle.run_command.specs.Written.{HoldPart}
-use Rattle.run_command.specs.Starting.{invocation_of}
+use Rattle.run_session.specs.Stop.{Stop, no_memory, file_failed, EndsTrapped}
+use Rattle.run_session.specs.RunText.{dumps_from}
+use Rattle.run_session.specs.Given.{given_in}
+use Rattle.run_session.specs.Written.{HoldPart}
+use Rattle.run_session.specs.Invocations.{invocation_of}
 use Rattle.run_command.specs.Hosting.{scripted, start_text}
 use Rattle.run_command.specs.RunAnswer.{Logs, hosting, script_replies, replies_input, script_of}
 
--- why there is no answer
-pub data Stop : Type 0 where
-  no_memory : Stop
-  file_failed : Stop
-
--- A fact on each way in which there is no answer. Where a file failed, what is known of want of memory is known too.
-abbrev pub OnStop : (Stop → Type 0) → Result Outcome NoMemory → Type 0
-OnStop P (Err e) = P no_memory
-OnStop P (Ok o) = o.status ≡ status.FileFault → (stop : Stop) → P stop
-
 -- ---- what was run
-
--- the last of these invocations trapped
-abbrev pub EndsTrapped : List Ran → Type 0
-EndsTrapped rans = (r : Ran) × (kind : ℕ) × (last_of rans ≡ Some r) × (r.outcome ≡ trapped kind)
 
 -- What these invocations come to within so many steps, on the replies that were given, those of the script being its first ones. The dumps of
 -- their traps are written, but the last one may be there in part.

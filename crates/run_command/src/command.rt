@@ -6,9 +6,10 @@ ghost use Rattle.wasm_syntax.specs.declared.host.Served.{Served};
 ghost use Rattle.device_set.specs.Sets.{names, AreDistinct};
 ghost use Rattle.command_answers.specs.Texts.{file_fault};
 ghost use Rattle.command_answers.specs.Told.{UnlessFault};
-ghost use Rattle.run_command.specs.Written.{Writes, HoldThen};
+ghost use Rattle.run_session.specs.Written.{Writes, HoldThen};
+ghost use Rattle.run_session.specs.Stop.{OnStop};
 ghost use Rattle.run_command.specs.Steps.{IsAnswered};
-ghost use Rattle.run_command.specs.Stops.{OnStop, IsUnchanged, ScriptStops, BytesStops, SourceStops, RunStops};
+ghost use Rattle.run_command.specs.Stops.{IsUnchanged, ScriptStops, BytesStops, SourceStops, RunStops};
 ghost use Rattle.run_command.specs.RunAnswer.{IsFileOf, RunAnswer};
 ghost use Rattle.run_command.specs.Scripts.{script_result, ScriptAnswer, BytesAnswer, SourceAnswer, IsFaultOf};
 

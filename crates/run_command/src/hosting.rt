@@ -5,19 +5,12 @@ ghost use Rattle.device_set.specs.Sets.{AreDistinct};
 ghost use Rattle.run_command.specs.Hosting.{is_served, import_text, first_unserved};
 ghost use Rattle.run_command.specs.RunAnswer.{hosting};
 
-use crate::session::Counting;
-use crate::starting::numbered;
 use causes::NoMemory;
-use device_set::{Devices, Hosts};
+use device_set::Devices;
 use pm_text::{Items, Text};
+use run_session::numbered;
 use std::alloc::Global;
 use wasm_syntax::{Import, ModuleParts, Reply};
-
-impl<D: Devices> Counting for Hosts<'_, D> {
-    fn given(&self) -> u64 {
-        Hosts::given(self)
-    }
-}
 
 /// Whether a device has the name of the import's module, or there is a script.
 fn is_served<D: Devices>(import: &Import, devices: &D, script: &Option<Items<Reply>>) -> bool

@@ -2,15 +2,10 @@
 #![tactic(auto)]
 
 mod command;
-mod dumps;
-mod ending;
 mod hosting;
-mod lines;
 mod running;
 mod scripts;
-mod session;
 mod starting;
-mod turns;
 
 pub use causes::NoMemory;
 pub use command::run_file;

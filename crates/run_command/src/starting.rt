@@ -1,28 +1,19 @@
 //! Why nothing is run.
 
 ghost use Rattle.std.specs.Prelude.{◌≡◌, ◌++◌, IfOk, map, codes};
-ghost use Rattle.std.specs.Fmt.{decimal};
 ghost use Rattle.pm_text.specs.Names.{quoted};
 ghost use Rattle.wasm_syntax.specs.Module.{function_export};
 ghost use Rattle.wasm_syntax.specs.Run.{cause_of_entry};
-ghost use Rattle.run_command.specs.Starting.{invocation_of, cause_text, entries_text, not_started_with};
+ghost use Rattle.run_session.specs.Invocations.{invocation_of};
+ghost use Rattle.run_command.specs.Starting.{cause_text, entries_text, not_started_with};
 
 use causes::NoMemory;
-use command_answers::{Outcome, Status, push_number};
+use command_answers::{Outcome, Status};
 use instance_start::{EntryFault, entry_fault};
 use pm_text::Text;
 use run_words::Invocation;
 use std::alloc::Global;
 use wasm_syntax::ModuleParts;
-
-/// A word and a number.
-pub(crate) fn numbered(alloc: Global, word: &str, number: u64) -> Result<Text, NoMemory>
-    ensures { IfOk result (λ t. t ≡ word.now ++ decimal number) }
-{
-    let mut text = Text::new(alloc);
-    push_number(&mut text, word, number)?;
-    Ok(text)
-}
 
 /// The cause that names an export.
 fn no_export(alloc: Global, entry: &Text) -> Result<Text, NoMemory>

@@ -1,6 +1,6 @@
 use Rattle.std.proofs.Common.{map}
 use Rattle.command_answers.specs.declared.outcome.Outcome.{Outcome}
-use Rattle.run_command.specs.Stops.{no_memory, file_failed}
+use Rattle.run_session.specs.Stop.{no_memory, file_failed}
 use Rattle.std.specs.String.{string_bytes}
 use Rattle.pm_cli.specs.Answer.{Answered}
 use Rattle.pm_cli.proofs.Taken.{answered}

@@ -1,0 +1,385 @@
+-- What an invocation of the instance comes to in the session.
+use Rattle.std.proofs.Common.{◌≡◌, ℕ, ◌+◌, ◌-◌, ◌≤◌, Bool, true, false, List, [], ◌∷◌, ◌++◌, length, drop, refl, sym, ap, ◌∙◌, arith, Option, Some, None, subst}
+use Rattle.std.specs.Prelude.{if◌then◌else◌, option_map}
+use Rattle.std.proofs.Math.Nat.{le_refl}
+use Rattle.std.proofs.lemmas.List.{length-append, append-nil}
+use Rattle.linear_memory.specs.Memory.{Memory}
+use Rattle.linear_memory.specs.Paged.{Paged}
+use Rattle.pm_outside.specs.Contents.{Contents}
+use Rattle.wasm_syntax.specs.declared.parts.Import.{Import}
+use Rattle.wasm_syntax.specs.declared.value.Value.{Value}
+use Rattle.wasm_syntax.specs.declared.host.Reply.{Reply}
+use Rattle.wasm_syntax.specs.declared.host.Served.{Served}
+use Rattle.wasm_syntax.specs.Host.{World}
+use Rattle.wasm_syntax.specs.Machine.{Config, Engine}
+use Rattle.wasm_syntax.specs.Module.{Program, function_export}
+use Rattle.wasm_syntax.specs.Run.{Invocation, Outcome, not_started, finished, trapped, lacks_reply, misfits, running, got_stuck, Ran, goes_on, fresh, session, invoked, engine}
+use Rattle.basic_steps.specs.declared.answer.TrapKind.{TrapKind}
+use Rattle.basic_steps.specs.Traps.{trap_code}
+use Rattle.flat_code.specs.declared.code.Code.{Code}
+use Rattle.machine_steps.specs.declared.machine.Machine.{Machine}
+use Rattle.machine_steps.specs.declared.machine.Prepared.{Prepared}
+use Rattle.machine_steps.specs.Prepares.{IsPrepared}
+use Rattle.machine_steps.specs.Meets.{Shares}
+use Rattle.trap_image.specs.Pictured.{FewFunctions}
+use Rattle.dump_write.specs.Written.{OnTold}
+use Rattle.host_devices.specs.HostSides.{Calls}
+use Rattle.host_runs.specs.Hosted.{replies_of}
+use Rattle.entry_runs.specs.declared.answer.RunAnswer.{RunAnswer}
+use Rattle.entry_runs.specs.declared.answer.RunAnswer.TheVariants.{Finished, Trapped, NoReply, BadReply, DeviceFault, FuelSpent, NoMemory}
+use Rattle.entry_runs.specs.Settings.{world_of}
+use Rattle.entry_runs.specs.Answers.{AdmitsReplies, KeepsThen, given_steps}
+use Rattle.entry_runs.specs.Invocations.{HasOutcome, unfitting, may_follow, InvocationCame, invoking}
+use Rattle.wasm_machine.specs.Instances.{State, Invoked}
+use Rattle.run_session.specs.Progress.{session_from}
+use Rattle.run_session.specs.RunText.{dumps_from}
+use Rattle.run_session.specs.Given.{given_to}
+use Rattle.run_session.specs.Written.{HoldPart}
+use Rattle.run_session.specs.Stop.{no_memory, file_failed}
+use Rattle.run_session.specs.Turns.{Answered, UnlessRefused, Added, LeavesPart, HasTrapped}
+use Rattle.run_session.specs.Sessions.{point_of, MadeOne, StopsIn}
+use Rattle.run_session.specs.declared.turns.Lines.{Lines}
+use Rattle.run_session.specs.declared.turns.Turn.{Turn}
+use Rattle.run_session.specs.declared.turns.Turn.TheVariants.{GoesOn, Ends, Refused}
+use Rattle.run_session.proofs.Lists.{dumps_only}
+use Rattle.run_session.proofs.Sessions.{no_replies}
+use Rattle.run_session.proofs.Stopped.{Nothing, none_left, choice_left}
+use Rattle.run_session.proofs.Fewer.{with_left, fewer_steps}
+
+-- ---- an answer behind which the list goes on
+
+abbrev OnAnswer : RunAnswer → Type 0
+OnAnswer (Finished v) = Unit {0}
+OnAnswer (Trapped kind) = Unit {0}
+OnAnswer NoReply = ⊥
+OnAnswer (DeviceFault device) = ⊥
+OnAnswer (BadReply reply) = ⊥
+OnAnswer FuelSpent = ⊥
+OnAnswer NoMemory = ⊥
+
+is_off : (o x : Outcome) (e : Bool) → o ≡ x → goes_on o e ≡ true → goes_on x e ≡ false → ⊥
+is_off o x e is on off = let same : true ≡ false = sym on ∙ ap (λ (y : Outcome). goes_on y e) is ∙ off in absurd cc
+
+on_answer : (p : Program) (used_up : Import → Bool) (a : RunAnswer) (o : Outcome) (e : Bool) → HasOutcome p used_up a o → goes_on o e ≡ true → (a ≡ NoMemory → ⊥) → OnAnswer a
+on_answer p used_up (Finished v) o e is on some = tt
+on_answer p used_up (Trapped kind) o e is on some = tt
+on_answer p used_up NoReply o e (call, is, up) on some = is_off o (lacks_reply call) e is on refl
+on_answer p used_up (DeviceFault device) o e (call, is, named) on some = is_off o (lacks_reply call) e is on refl
+on_answer p used_up (BadReply reply) o e (call, is) on some = is_off o (misfits call reply) e is on refl
+on_answer p used_up FuelSpent o e is on some = is_off o running e is on refl
+on_answer p used_up NoMemory o e is on some = some refl
+
+admits_on : (a : RunAnswer) → OnAnswer a → (more : List Reply) → AdmitsReplies a more
+admits_on (Finished v) on more = tt
+admits_on (Trapped kind) on more = tt
+admits_on (BadReply reply) on more = tt
+admits_on FuelSpent on more = tt
+admits_on NoMemory on more = tt
+admits_on NoReply on more = absurd on
+admits_on (DeviceFault device) on more = absurd on
+
+shares_on : (p : Program) (codes : List Code) (a : RunAnswer) (m : Machine) (c : Config) → OnAnswer a → KeepsThen p codes a m c → Shares m c.world
+shares_on p codes (Finished v) m c on keeps = keeps.shares
+shares_on p codes (Trapped kind) m c on keeps = keeps.shares
+shares_on p codes (BadReply reply) m c on keeps = absurd on
+shares_on p codes FuelSpent m c on keeps = absurd on
+shares_on p codes NoMemory m c on keeps = absurd on
+shares_on p codes NoReply m c on keeps = absurd on
+shares_on p codes (DeviceFault device) m c on keeps = absurd on
+
+none_unfit : (o : Outcome) (e : Bool) → goes_on o e ≡ true → unfitting o ≡ []
+none_unfit (finished v) e on = refl
+none_unfit (trapped kind) e on = refl
+none_unfit (not_started cause) e on = refl
+none_unfit (lacks_reply call) e on = refl
+none_unfit (misfits call reply) e on = absurd cc
+none_unfit running e on = refl
+none_unfit got_stuck e on = refl
+
+-- all steps were given
+all_given : (a : RunAnswer) (fuel steps : ℕ) → (a ≡ NoMemory → ⊥) → given_steps a fuel steps ≡ fuel
+all_given (Finished v) fuel steps some = refl
+all_given (Trapped kind) fuel steps some = refl
+all_given NoReply fuel steps some = refl
+all_given (DeviceFault device) fuel steps some = refl
+all_given (BadReply reply) fuel steps some = refl
+all_given FuelSpent fuel steps some = refl
+all_given NoMemory fuel steps some = absurd (some refl)
+
+-- ---- the world behind it
+
+abbrev world : List Value → Option Memory → List (Option ℕ) → List Reply → World
+world globals memory table replies = record { globals = globals; memory = memory; table = table; replies = replies; served = [] }
+
+same_world : (m : Machine) (c : Config) (w : World) (more : List Reply) → Shares m c.world → c.world.replies ≡ more → fresh (Some c) w ≡ world_of m more
+same_world m c w more shares left =
+    ap (λ g. world g c.world.memory c.world.table c.world.replies) shares.holds.globals
+    ∙ ap (λ k. world m.shared.globals k c.world.table c.world.replies) shares.holds.memory
+    ∙ ap (λ t. world m.shared.globals (option_map (λ (k : Paged). k.memory) m.shared.memory) t c.world.replies) shares.table
+    ∙ ap (λ rs. world m.shared.globals (option_map (λ (k : Paged). k.memory) m.shared.memory) m.table rs) left
+
+-- ---- the session
+
+abbrev behind : Engine → List Invocation → Ran → World → List Ran
+behind M rest r w = r ∷ (if goes_on r.outcome r.entered then session M rest None (fresh r.last w) r.left else [])
+
+first_of : (M : Engine) (i : Invocation) (rest : List Invocation) (due : Option ℕ) (w : World) (n f : ℕ) (r : Ran) → function_export M.program.module_ i.name ≡ Some f → invoked M due n f i.args w ≡ r → session M (i ∷ rest) due w n ≡ behind M rest r w
+first_of M i rest due w n f r entry is = ap (λ (o : Option ℕ). elim o [ None ↦ [] | Some g ↦ behind M rest (invoked M due n g i.args w) w ]) entry ∙ ap (λ x. behind M rest x w) is
+
+-- within fewer steps, but not fewer than were made, the invocation comes to the same
+came_within : (M : Engine) (due : Option ℕ) (n t steps f : ℕ) (args : List Value) (w : World) (r : Ran) → invoked M due n f args w ≡ r → r.left ≡ n - steps → steps ≤ t → t ≤ n → invoked M due t f args w ≡ with_left r (t - steps)
+came_within M due n t steps f args w r gives left few many =
+    ap (λ k. invoked M due k f args w) (sym (back n t many))
+    ∙ fewer_steps M due n (n - t) f args w (subst (λ k. n - t ≤ k) (sym (ap (λ (x : Ran). x.left) gives ∙ left)) (enough n t steps few))
+    ∙ ap (λ (x : Ran). with_left x (x.left - (n - t))) gives
+    ∙ ap (λ k. with_left r k) (ap (λ k. k - (n - t)) left ∙ less n t steps few many)
+  where
+    back : (n t : ℕ) → t ≤ n → n - (n - t) ≡ t
+    back n t many = omega arith
+
+    enough : (n t steps : ℕ) → steps ≤ t → n - t ≤ n - steps
+    enough n t steps few = omega arith
+
+    less : (n t steps : ℕ) → steps ≤ t → t ≤ n → n - steps - (n - t) ≡ t - steps
+    less n t steps few many = omega arith
+
+-- at least as many steps were given as were made
+given_enough : (a : RunAnswer) (fuel steps : ℕ) → steps ≤ fuel → steps ≤ given_steps a fuel steps
+given_enough (Finished v) fuel steps le = le
+given_enough (Trapped kind) fuel steps le = le
+given_enough NoReply fuel steps le = le
+given_enough (DeviceFault device) fuel steps le = le
+given_enough (BadReply reply) fuel steps le = le
+given_enough FuelSpent fuel steps le = le
+given_enough NoMemory fuel steps le = le_refl steps
+
+-- what is known of the invocation with these replies left
+module _ (M : Engine) (s new : State) (i : Invocation) (rest : List Invocation) (f fuel steps : ℕ) (given : List Served) (a : RunAnswer)
+    (entry : function_export M.program.module_ i.name ≡ Some f) (made : new.steps ≡ s.steps + steps) where
+  -- within so many steps
+  opens : (total : ℕ) (more : List Reply) (r : Ran) → invoking M s.due f i.args (world_of s.machine []) (replies_of given ++ more) (given_steps a (fuel - s.steps) steps) ≡ r → r.left ≡ given_steps a (fuel - s.steps) steps - steps
+      → new.steps ≤ total → total - s.steps ≤ given_steps a (fuel - s.steps) steps
+      → session_from M (point_of s (i ∷ rest) total) (replies_of given ++ more) ≡ behind M rest (with_left r (total - new.steps)) (world_of s.machine (replies_of given ++ more))
+  opens total more r gives left few many =
+      let w = world_of s.machine (replies_of given ++ more) in
+      first_of M i rest s.due w (total - s.steps) f (with_left r (total - new.steps)) entry
+      (came_within M s.due (given_steps a (fuel - s.steps) steps) (total - s.steps) steps f i.args w r gives left (reaches total s.steps steps new.steps made few) many
+      ∙ ap (λ k. with_left r k) (less total s.steps steps new.steps made))
+    where
+      reaches : (t x y k : ℕ) → k ≡ x + y → k ≤ t → y ≤ t - x
+      reaches t x y k e le = omega arith
+
+      less : (t x y k : ℕ) → k ≡ x + y → t - x - y ≡ t - k
+      less t x y k e = omega arith
+
+  -- up to the fuel, where memory was not wanting
+  up_to : (total : ℕ) → (a ≡ NoMemory → ⊥) → total ≤ fuel → total - s.steps ≤ given_steps a (fuel - s.steps) steps
+  up_to total some many = subst (λ k. total - s.steps ≤ k) (sym (all_given a (fuel - s.steps) steps some)) (fewer total fuel s.steps many)
+    where
+      fewer : (t n x : ℕ) → t ≤ n → t - x ≤ n - x
+      fewer t n x le = omega arith
+
+  pub goes_on_from : (total : ℕ) (more : List Reply) (r : Ran) (c : Config) → (a ≡ NoMemory → ⊥) → new.due ≡ None → new.steps ≤ total → total ≤ fuel
+      → invoking M s.due f i.args (world_of s.machine []) (replies_of given ++ more) (given_steps a (fuel - s.steps) steps) ≡ r
+      → r.left ≡ given_steps a (fuel - s.steps) steps - steps → r.last ≡ Some c → goes_on r.outcome r.entered ≡ true → Shares new.machine c.world → drop (length (unfitting r.outcome)) c.world.replies ≡ more
+      → session_from M (point_of s (i ∷ rest) total) (replies_of given ++ more) ≡ with_left r (total - new.steps) ∷ session_from M (point_of new rest total) more
+  goes_on_from total more r c some due few many gives left last on shares replies =
+      let w = world_of s.machine (replies_of given ++ more) in
+      let q = with_left r (total - new.steps) in
+      opens total more r gives left few (up_to total some many)
+      ∙ ap (λ b. q ∷ (if b then session M rest None (fresh r.last w) (total - new.steps) else [])) on
+      ∙ ap (λ l. q ∷ session M rest None (fresh l w) (total - new.steps)) last
+      ∙ ap (λ v. q ∷ session M rest None v (total - new.steps)) (same_world new.machine c w more shares (ap (λ us. drop (length us) c.world.replies) (sym (none_unfit r.outcome r.entered on)) ∙ replies))
+      ∙ ap (λ d. q ∷ session M rest d (world_of new.machine more) (total - new.steps)) (sym due)
+
+  pub ends_at : (total : ℕ) (more : List Reply) (r : Ran) → (a ≡ NoMemory → ⊥) → new.steps ≤ total → total ≤ fuel
+      → invoking M s.due f i.args (world_of s.machine []) (replies_of given ++ more) (given_steps a (fuel - s.steps) steps) ≡ r → r.left ≡ given_steps a (fuel - s.steps) steps - steps → goes_on r.outcome r.entered ≡ false
+      → session_from M (point_of s (i ∷ rest) total) (replies_of given ++ more) ≡ with_left r (total - new.steps) ∷ []
+  ends_at total more r some few many gives left off =
+      let w = world_of s.machine (replies_of given ++ more) in
+      opens total more r gives left few (up_to total some many)
+      ∙ ap (λ b. with_left r (total - new.steps) ∷ (if b then session M rest None (fresh r.last w) (total - new.steps) else [])) off
+
+  -- the steps that were made are all
+  pub stops_at : (more : List Reply) (r : Ran) → steps ≤ fuel - s.steps
+      → invoking M s.due f i.args (world_of s.machine []) (replies_of given ++ more) (given_steps a (fuel - s.steps) steps) ≡ r → r.left ≡ given_steps a (fuel - s.steps) steps - steps
+      → session_from M (point_of s (i ∷ rest) new.steps) (replies_of given ++ more) ≡ behind M rest (with_left r 0) (world_of s.machine (replies_of given ++ more))
+  stops_at more r within gives left =
+      opens new.steps more r gives left (le_refl new.steps) (subst (λ k. k ≤ given_steps a (fuel - s.steps) steps) (sym (just new.steps s.steps steps made)) (given_enough a (fuel - s.steps) steps within))
+      ∙ ap (λ k. behind M rest (with_left r k) (world_of s.machine (replies_of given ++ more))) (none new.steps)
+    where
+      just : (k x y : ℕ) → k ≡ x + y → k - x ≡ y
+      just k x y e = omega arith
+
+      none : (n : ℕ) → n - n ≡ 0
+      none n = omega arith
+
+-- ---- one invocation
+
+counts : (old new given : List Served) (calls before after : ℕ) → new ≡ old ++ given → before ≡ length old → after ≡ length new → calls ≡ after - before → calls ≡ length given
+counts old new given calls before after grew one other is =
+    let all : length new ≡ length old + length given = ap (λ l. length l) grew ∙ length-append old given in
+    omega arith
+
+-- whatever is left of the steps
+same_follow : (a : RunAnswer) (r : Ran) (left : ℕ) → may_follow a r ≡ may_follow a (with_left r left)
+same_follow (Finished v) r left = refl
+same_follow (Trapped kind) r left = refl
+same_follow NoReply r left = refl
+same_follow (DeviceFault device) r left = refl
+same_follow (BadReply reply) r left = refl
+same_follow FuelSpent r left = refl
+same_follow NoMemory r left = refl
+
+onward : (x k y : ℕ) → k ≡ x + y → x ≤ k
+onward x k y e = omega arith
+
+within : (n x k y : ℕ) → k ≡ x + y → y ≤ n - x → x ≤ n → k ≤ n
+within n x k y e le few = omega arith
+
+pub made_one : (p : Program) (collecting : Bool) (depth : ℕ) (base name : List ℕ) (used_up : Import → Bool) (prepared : Prepared) (s new : State) (i : Invocation) (f fuel calls before_count after_count : ℕ) (ready : Bool) (a : RunAnswer)
+    (lines later : Lines) (before after : Calls) (told_before told_after : Option Contents) (turn : Turn)
+    → IsPrepared p prepared → FewFunctions p.module_ → prepared.codes.items ≡ s.prepared.codes.items
+    → (a ≡ NoMemory → ⊥) → function_export p.module_ i.name ≡ Some f → new.due ≡ None → ready ≡ new.ready
+    → before_count ≡ length before.served → after_count ≡ length after.served → calls ≡ after_count - before_count
+    → Invoked p collecting depth used_up f i.args (fuel - s.steps) s new a before after
+    → UnlessRefused turn (Added base name prepared new.machine ready a calls lines later told_before told_after turn)
+    → UnlessRefused turn (MadeOne p (engine p collecting depth) base name used_up s new i fuel lines later before after told_before told_after turn)
+made_one p collecting depth base name used_up prepared s new i f fuel calls before_count after_count ready a lines later before after told_before told_after (Refused o) is_prepared few_functions codes some entry due same one other counted invoked added = tt
+made_one p collecting depth base name used_up prepared s new i f fuel calls before_count after_count ready a lines later before after told_before told_after GoesOn is_prepared few_functions codes some entry due same one other counted was added =
+    let M = engine p collecting depth in
+    let given = was.came.asked.given in
+    let count = counts before.served after.served given calls before_count after_count was.came.grew.served one other counted in
+    let known : (more : List Reply) (came : InvocationCame p s.prepared.codes.items used_up (invoking M s.due f i.args (world_of s.machine [])) (fuel - s.steps) was.came.asked a was.made new.ready new.machine more) (left : ℕ) → Answered p prepared.codes.items used_up a ready new.machine calls (with_left came.ran left) =
+    λ more came left. record {
+      outcome = came.outcome;
+      follows = same ∙ came.follows ∙ same_follow a came.ran left;
+      last = came.last;
+      last_is = came.last_is;
+      keeps = subst (λ cs. KeepsThen p cs a new.machine came.last) (sym codes) came.keeps;
+      counted = count ∙ ap (λ l. length l) came.served;
+    } in
+    let begin = was.came.came [] (no_replies a) in
+    let on = on_answer p used_up a begin.ran.outcome begin.ran.entered begin.outcome (added.turns p used_up (with_left begin.ran 0) is_prepared few_functions (known [] begin 0)).0 some in
+    record {
+      answer = a;
+      given = given;
+      grew = was.came.grew.served;
+      writes = added.writes;
+      files = added.files;
+      onward = onward s.steps new.steps was.made was.steps;
+      within = within fuel s.steps new.steps was.made was.steps begin.within;
+      ran = λ rest total few many more admits.
+          let came = was.came.came more (admits_on a on more) in
+          let ran = with_left came.ran (total - new.steps) in
+          let turns = added.turns p used_up ran is_prepared few_functions (known more came (total - new.steps)) in
+          record {
+            ran = ran;
+            given_is = came.served;
+            turns = turns;
+            session_turns = goes_on_from M s new i rest f fuel was.made given a entry was.steps total more came.ran came.last some due few many came.gives came.left came.last_is turns.0 (shares_on p s.prepared.codes.items a new.machine came.last on came.keeps) came.replies;
+            outcome = tt;
+          };
+    }
+made_one p collecting depth base name used_up prepared s new i f fuel calls before_count after_count ready a lines later before after told_before told_after (Ends b) is_prepared few_functions codes some entry due same one other counted was added =
+    let M = engine p collecting depth in
+    let given = was.came.asked.given in
+    let count = counts before.served after.served given calls before_count after_count was.came.grew.served one other counted in
+    let known : (more : List Reply) (came : InvocationCame p s.prepared.codes.items used_up (invoking M s.due f i.args (world_of s.machine [])) (fuel - s.steps) was.came.asked a was.made new.ready new.machine more) (left : ℕ) → Answered p prepared.codes.items used_up a ready new.machine calls (with_left came.ran left) =
+    λ more came left. record {
+      outcome = came.outcome;
+      follows = same ∙ came.follows ∙ same_follow a came.ran left;
+      last = came.last;
+      last_is = came.last_is;
+      keeps = subst (λ cs. KeepsThen p cs a new.machine came.last) (sym codes) came.keeps;
+      counted = count ∙ ap (λ l. length l) came.served;
+    } in
+    let begin = was.came.came [] (no_replies a) in
+    let is : b ≡ a = (added.turns p used_up (with_left begin.ran 0) is_prepared few_functions (known [] begin 0)).0 in
+    record {
+      answer = a;
+      given = given;
+      grew = was.came.grew.served;
+      writes = added.writes;
+      files = added.files;
+      onward = onward s.steps new.steps was.made was.steps;
+      within = within fuel s.steps new.steps was.made was.steps begin.within;
+      ran = λ rest total few many more admits.
+          let came = was.came.came more (subst (λ x. AdmitsReplies x more) is admits) in
+          let ran = with_left came.ran (total - new.steps) in
+          let turns = added.turns p used_up ran is_prepared few_functions (known more came (total - new.steps)) in
+          record {
+            ran = ran;
+            given_is = came.served;
+            turns = turns;
+            session_turns = ends_at M s new i rest f fuel was.made given a entry was.steps total more came.ran some few many came.gives came.left turns.1;
+            outcome = subst (λ x. HasOutcome p used_up x came.ran.outcome) (sym is) came.outcome;
+          };
+    }
+
+-- ---- an invocation that was stopped
+
+module _ (p : Program) (collecting : Bool) (depth : ℕ) (base name : List ℕ) (used_up : Import → Bool) (prepared : Prepared) (s new : State) (i : Invocation) (rest : List Invocation) (f fuel traps : ℕ) (a : RunAnswer) (before after : Calls) (told_before told_after : Option Contents)
+    (whole : IsPrepared p prepared) (few : FewFunctions p.module_) (codes : prepared.codes.items ≡ s.prepared.codes.items) (entry : function_export p.module_ i.name ≡ Some f) (begun : s.steps ≤ fuel)
+    (was : Invoked p collecting depth used_up f i.args (fuel - s.steps) s new a before after) (part : LeavesPart base name prepared new.machine a traps told_before told_after) where
+  came : InvocationCame p s.prepared.codes.items used_up (invoking (engine p collecting depth) s.due f i.args (world_of s.machine [])) (fuel - s.steps) was.came.asked a was.made new.ready new.machine []
+  came = was.came.came [] (no_replies a)
+
+  dumped : (left : ℕ) → OnTold (HoldPart (dumps_from base name traps (with_left came.ran left ∷ []))) told_before told_after
+  dumped left = part p used_up (with_left came.ran left) came.last whole few came.outcome came.last_is (subst (λ cs. KeepsThen p cs a new.machine came.last) (sym codes) came.keeps)
+
+  no_more : session_from (engine p collecting depth) (point_of s (i ∷ rest) new.steps) (replies_of was.came.asked.given ++ []) ≡ session_from (engine p collecting depth) (point_of s (i ∷ rest) new.steps) (replies_of was.came.asked.given)
+  no_more = ap (λ l. session_from (engine p collecting depth) (point_of s (i ∷ rest) new.steps) l) (append-nil (replies_of was.came.asked.given))
+
+  fresh_served : (l : Option Config) (c : Config) (w : World) → l ≡ Some c → (fresh l w).served ≡ []
+  fresh_served l c w is = ap (λ k. (fresh k w).served) is
+
+  pub stopped_in : StopsIn no_memory (engine p collecting depth) base name traps s (i ∷ rest) fuel before after told_before told_after
+  stopped_in =
+      let M = engine p collecting depth in
+      let given = was.came.asked.given in
+      let w = world_of s.machine (replies_of given ++ []) in
+      let r = with_left came.ran 0 in
+      let others = if goes_on r.outcome r.entered then session M rest None (fresh r.last w) 0 else [] in
+      let none : Nothing base name others = choice_left base name (goes_on r.outcome r.entered) (session M rest None (fresh r.last w) 0) (none_left base name M rest (fresh r.last w) (fresh_served r.last came.last w came.last_is)) in (
+        new.steps,
+        onward s.steps new.steps was.made was.steps,
+        within fuel s.steps new.steps was.made was.steps came.within begun,
+        r ∷ others,
+        record {
+          given = given;
+          grew = was.came.grew.served;
+          is = sym no_more ∙ stops_at M s new i rest f fuel was.made given a entry was.steps [] came.ran came.within came.gives came.left;
+          all_given = came.served ∙ sym (append-nil (given_to r)) ∙ ap (λ l. given_to r ++ l) (sym none.given);
+          files = subst (λ ws. OnTold (HoldPart ws) told_before told_after) (sym (dumps_only base name traps r others none.dumps)) (dumped 0);
+        },
+      )
+
+  pub failed_in : HasTrapped a → StopsIn file_failed (engine p collecting depth) base name traps s (i ∷ rest) fuel before after told_before told_after
+  failed_in (kind, is) =
+      let M = engine p collecting depth in
+      let given = was.came.asked.given in
+      let w = world_of s.machine (replies_of given ++ []) in
+      let r = with_left came.ran (fuel - new.steps) in
+      let trap : came.ran.outcome ≡ trapped (trap_code kind) = subst (λ x. HasOutcome p used_up x came.ran.outcome) is came.outcome in
+      let some : a ≡ NoMemory → ⊥ = λ e. no_trap kind (sym is ∙ e) in (
+        1,
+        r ∷ [],
+        (r, trap_code kind, refl, trap),
+        record {
+          given = given;
+          grew = was.came.grew.served;
+          is = ap (λ l. session_from M (point_of s (i ∷ []) fuel) l) (sym (append-nil (replies_of given)))
+              ∙ opens M s new i [] f fuel was.made given a entry was.steps fuel [] came.ran came.gives came.left (within fuel s.steps new.steps was.made was.steps came.within begun) (up_to M s new i [] f fuel was.made given a entry was.steps fuel some (le_refl fuel))
+              ∙ either (goes_on r.outcome r.entered) r;
+          all_given = came.served ∙ sym (append-nil (given_to r));
+          files = dumped (fuel - new.steps);
+        },
+      )
+    where
+      no_trap : (kind : TrapKind) → Trapped kind ≡ NoMemory → ⊥
+      no_trap kind e = absurd cc
+
+      either : (b : Bool) (r : Ran) → r ∷ (if b then [] else []) ≡ r ∷ []
+      either true r = refl
+      either false r = refl

@@ -1,0 +1,148 @@
+-- Lists of invocations that were stopped.
+use Rattle.std.proofs.Common.{◌≡◌, ℕ, zero, suc, ◌+◌, ◌-◌, ◌≤◌, Bool, true, false, List, [], ◌∷◌, ◌++◌, length, take, refl, sym, ap, ap₂, ◌∙◌, subst, arith, Option, Some, None, Result, Ok, Err}
+use Rattle.std.specs.Prelude.{IfOk, reverse, if◌then◌else◌}
+use Rattle.std.proofs.Math.Nat.{le_refl}
+use Rattle.std.proofs.Math.Seq.{take-append-add}
+use Rattle.std.proofs.lemmas.List.{map-append, append-nil}
+use Rattle.std.proofs.lemmas.Grind.{flat_map-append}
+use Rattle.causes.specs.declared.NoMemory.{NoMemory as WantOfMemory}
+use Rattle.pm_outside.specs.Contents.{Contents}
+use Rattle.wasm_syntax.specs.declared.parts.Import.{Import}
+use Rattle.wasm_syntax.specs.declared.value.Value.{Value}
+use Rattle.wasm_syntax.specs.declared.host.Served.{Served}
+use Rattle.wasm_syntax.specs.Host.{World}
+use Rattle.wasm_syntax.specs.Machine.{Config, Engine}
+use Rattle.wasm_syntax.specs.Module.{Program, Function, imported, defined, function_at, function_export}
+use Rattle.wasm_syntax.specs.Run.{Invocation, Ran, ran_to, run_function, run_entry, invoked, fresh, goes_on, session}
+use Rattle.dump_write.specs.Written.{OnTold}
+use Rattle.host_devices.specs.HostSides.{Calls}
+use Rattle.host_runs.specs.Hosted.{replies_of}
+use Rattle.entry_runs.specs.declared.answer.RunAnswer.{RunAnswer}
+use Rattle.wasm_machine.specs.Instances.{State}
+use Rattle.command_answers.specs.declared.outcome.Outcome.{Outcome}
+use Rattle.run_session.specs.RunText.{dumps_from, traps_in, last_of}
+use Rattle.run_session.specs.Given.{given_to, given_in}
+use Rattle.run_session.specs.Written.{Writes, HoldThen, HoldPart}
+use Rattle.run_session.specs.Progress.{Point, session_from, HasCome}
+use Rattle.run_session.specs.Stop.{Stop, no_memory, file_failed, OnStop}
+use Rattle.run_session.specs.Turns.{IfTurnRefused}
+use Rattle.run_session.specs.Sessions.{point_of, made_with, SoFar, WasStopped, StopsIn, OnTurnStop}
+use Rattle.run_session.specs.declared.turns.Lines.{Lines}
+use Rattle.run_session.specs.declared.turns.Turn.{Turn}
+use Rattle.run_session.specs.declared.turns.Turn.TheVariants.{GoesOn, Ends, Refused}
+use Rattle.run_session.proofs.Held.{held_part, part_also}
+use Rattle.run_session.proofs.Lists.{dumps_behind, last_behind, zero_plus}
+use Rattle.run_session.proofs.Sessions.{EndedWith, grown}
+
+-- ---- no step is left
+
+-- nothing was given, and nothing is dumped
+pub record Nothing (base name : List ℕ) (rans : List Ran) : Type 0 where
+  pub given : given_in rans ≡ []
+  pub dumps : (j : ℕ) → dumps_from base name j rans ≡ []
+
+pub nothing : (base name : List ℕ) → Nothing base name []
+unfolding dumps_from
+nothing base name = record { given = refl; dumps = λ j. refl }
+
+-- the list does not go on behind it
+record Still (base name : List ℕ) (r : Ran) : Type 0 where
+  pub off : goes_on r.outcome r.entered ≡ false
+  pub none : Nothing base name (r ∷ [])
+
+still : (base name : List ℕ) (M : Engine) (f : ℕ) (fn : Option Function) (args : List Value) (w : World) → w.served ≡ [] → Still base name (let e = run_function M 0 f fn args w [] in ran_to true e.what e.left)
+unfolding dumps_from
+still base name M f None args w none = record { off = refl; none = record { given = refl; dumps = λ j. refl } }
+still base name M f (Some (imported import type)) args w none = record { off = refl; none = record { given = ap (λ l. (reverse l ++ []) ++ []) none; dumps = λ j. refl } }
+still base name M f (Some (defined body tree type)) args w none = record { off = refl; none = record { given = ap (λ l. (reverse l ++ []) ++ []) none; dumps = λ j. refl } }
+
+ends_still : (base name : List ℕ) (r : Ran) (others : List Ran) → Still base name r → Nothing base name (r ∷ (if goes_on r.outcome r.entered then others else []))
+ends_still base name r others s = subst (λ b. Nothing base name (r ∷ (if b then others else []))) (sym s.off) s.none
+
+-- no invocation begins
+pub none_left : (base name : List ℕ) (M : Engine) (is : List Invocation) (w : World) → w.served ≡ [] → Nothing base name (session M is None w 0)
+none_left base name M [] w none = nothing base name
+none_left base name M (i ∷ is) w none = by_export (function_export M.program.module_ i.name)
+  where
+    others : Ran → List Ran
+    others r = session M is None (fresh r.last w) r.left
+
+    by_export : (o : Option ℕ) → Nothing base name (elim o [ None ↦ [] | Some f ↦ let r = invoked M None 0 f i.args w in r ∷ (if goes_on r.outcome r.entered then session M is None (fresh r.last w) r.left else []) ])
+    by_export None = nothing base name
+    by_export (Some f) = let r = invoked M None 0 f i.args w in ends_still base name r (others r) (still base name M f (function_at M.program f) i.args w none)
+
+pub choice_left : (base name : List ℕ) (b : Bool) (rans : List Ran) → Nothing base name rans → Nothing base name (if b then rans else [])
+choice_left base name true rans none = none
+choice_left base name false rans none = nothing base name
+
+-- ---- behind others
+
+-- the same numbers of the dumps
+same_dumps : (base name : List ℕ) (n : ℕ) (rans rs : List Ran) → n ≡ traps_in rans → dumps_from base name 0 rans ++ dumps_from base name n rs ≡ dumps_from base name 0 (rans ++ rs)
+same_dumps base name n rans rs is = ap (λ k. dumps_from base name 0 rans ++ dumps_from base name k rs) (is ∙ zero_plus (traps_in rans)) ∙ sym (dumps_behind base name 0 rans rs)
+
+was_behind : (M : Engine) (base name : List ℕ) (first there : Point) (rans : List Ran) (lines : Lines) (given : List Served) (writes : Writes) (before mid after : Calls) (told_before told_mid told_after : Option Contents)
+    → mid.served ≡ before.served ++ given → OnTold (HoldThen writes) told_before told_mid
+    → (w : WasStopped M base name lines.traps there rans mid after told_mid told_after)
+    → (come : HasCome M base name first there (made_with lines given writes) (replies_of w.given))
+    → WasStopped M base name 0 first (come.rans ++ rans) before after told_before told_after
+was_behind M base name first there rans lines given writes before mid after told_before told_mid told_after grew files w come = record {
+  given = given ++ w.given;
+  grew = grown before.served mid.served after.served given w.given grew w.grew;
+  is = ap (λ l. session_from M first l) (map-append (λ (s : Served). s.reply) given w.given) ∙ come.is ∙ ap (λ l. come.rans ++ l) w.is;
+  all_given = ap₂ (λ a b. a ++ b) come.came_of.given w.all_given ∙ sym (flat_map-append given_to come.rans rans);
+  files =
+      subst (λ ws. OnTold (HoldPart ws) told_before told_after)
+      (ap (λ ws. ws ++ dumps_from base name lines.traps rans) come.came_of.writes ∙ same_dumps base name lines.traps come.rans rans come.came_of.traps)
+      (part_also writes (dumps_from base name lines.traps rans) told_before told_mid told_after files w.files);
+}
+
+pub stops_behind : (stop : Stop) (M : Engine) (base name : List ℕ) (first s : State) (done is : List Invocation) (fuel : ℕ) (lines : Lines) (before mid after : Calls) (told_before told_mid told_after : Option Contents)
+    → first.steps ≡ 0 → SoFar M base name first s done fuel lines before mid told_before told_mid
+    → StopsIn stop M base name lines.traps s is fuel mid after told_mid told_after
+    → StopsIn stop M base name 0 first (done ++ is) fuel before after told_before told_after
+stops_behind no_memory M base name first s done is fuel lines before mid after told_before told_mid told_after none so_far (total, few, many, rans, w) =
+    let come = so_far.come is total few many (replies_of w.given) in
+    (total, omega (arith, none), many, come.rans ++ rans, was_behind M base name (point_of first (done ++ is) total) (point_of s is total) rans lines so_far.given so_far.writes before mid after told_before told_mid told_after so_far.grew so_far.files w come)
+stops_behind file_failed M base name first s done is fuel lines before mid after told_before told_mid told_after none so_far (made, rans, (r, kind, last, trap), w) =
+    let come = so_far.come (take made is) fuel so_far.within (le_refl fuel) (replies_of w.given) in (
+      length done + made,
+      come.rans ++ rans,
+      (r, kind, last_behind come.rans rans r last, trap),
+      subst (λ l. WasStopped M base name 0 (point_of first l fuel) (come.rans ++ rans) before after told_before told_after) (sym (take-append-add done is made))
+          (was_behind M base name (point_of first (done ++ take made is) fuel) (point_of s (take made is) fuel) rans lines so_far.given so_far.writes before mid after told_before told_mid told_after so_far.grew so_far.files w come),
+    )
+
+-- ---- behind all of them
+
+pub ended_stopped : (p : Program) (M : Engine) (base name : List ℕ) (used_up : Import → Bool) (first : State) (all : List Invocation) (fuel : ℕ) (lines : Lines) (before after : Calls) (told_before told_after : Option Contents) (answer : RunAnswer) (due : ℕ)
+    → first.steps ≡ 0 → EndedWith p M base name used_up (point_of first all fuel) lines before after told_before told_after answer due
+    → StopsIn no_memory M base name 0 first all fuel before after told_before told_after
+ended_stopped p M base name used_up first all fuel lines before after told_before told_after answer due none e = (
+  fuel,
+  omega (arith, none),
+  le_refl fuel,
+  e.has_ended.rans,
+  record {
+    given = e.given;
+    grew = e.grew;
+    is = e.has_ended.is;
+    all_given = e.has_ended.came_of.given;
+    files = subst (λ ws. OnTold (HoldPart ws) told_before told_after) e.has_ended.came_of.writes (held_part e.writes told_before told_after e.files);
+  },
+)
+
+-- ---- one of them
+
+pub turn_stops : (P : Stop → Type 0) (H : Type 0) (result : Result Turn WantOfMemory) → P no_memory → (H → P file_failed) → IfOk result (IfTurnRefused (λ _. H)) → OnTurnStop P result
+turn_stops P H (Err e) memory failed refused = memory
+turn_stops P H (Ok GoesOn) memory failed refused = tt
+turn_stops P H (Ok (Ends a)) memory failed refused = tt
+turn_stops P H (Ok (Refused o)) memory failed refused = by_stop
+  where
+    by_stop : (stop : Stop) → P stop
+    by_stop no_memory = memory
+    by_stop file_failed = failed refused
+
+pub want_stops : (P : Stop → Type 0) (result : Result Outcome WantOfMemory) (e : WantOfMemory) → result ≡ Err e → P no_memory → OnStop P result
+want_stops P result e is x = subst (λ r. OnStop P r) (sym is) x

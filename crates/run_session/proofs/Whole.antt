@@ -1,0 +1,186 @@
+-- The whole list, from what its parts ensure.
+use Rattle.std.proofs.Common.{◌≡◌, ℕ, suc, ◌+◌, ◌-◌, ◌<◌, ◌≤◌, Bool, List, [], ◌∷◌, ◌++◌, map, length, take, drop, get_or, refl, sym, ap, ◌∙◌, subst, arith, Option, Some, None, Result, Ok, Err, drop-cons}
+use Rattle.std.specs.Prelude.{IfOk}
+use Rattle.std.proofs.Math.Seq.{take-suc}
+use Rattle.std.proofs.lemmas.List.{append-nil, drop_all, length-drop, map-append, take-append-drop}
+use Rattle.causes.specs.Counts.{Rose}
+use Rattle.causes.specs.declared.NoMemory.{NoMemory as WantOfMemory}
+use Rattle.pm_outside.specs.Contents.{Contents}
+use Rattle.wasm_syntax.specs.declared.parts.Import.{Import}
+use Rattle.wasm_syntax.specs.Machine.{Engine}
+use Rattle.wasm_syntax.specs.Module.{Program}
+use Rattle.wasm_syntax.specs.Run.{Invocation, engine}
+use Rattle.host_devices.specs.HostSides.{Calls}
+use Rattle.entry_runs.specs.declared.answer.RunAnswer.{RunAnswer}
+use Rattle.entry_runs.specs.declared.answer.RunAnswer.TheVariants.{Finished, Trapped, NoReply, BadReply, DeviceFault, FuelSpent, NoMemory}
+use Rattle.entry_runs.specs.Answers.{HasCause}
+use Rattle.wasm_machine.specs.Instances.{State}
+use Rattle.command_answers.specs.Texts.{ended}
+use Rattle.command_answers.specs.Told.{UnlessFault}
+use Rattle.command_answers.specs.declared.outcome.Outcome.{Outcome}
+use Rattle.run_words.specs.declared.invocation.Invocation.{Invocation as InvocationWords}
+use Rattle.run_session.specs.RunText.{dumps_from}
+use Rattle.run_session.specs.Invocations.{invocation_of}
+use Rattle.run_session.specs.Answers.{answer_line, answer_status}
+use Rattle.run_session.specs.Ending.{trapped_or_done}
+use Rattle.run_session.specs.Progress.{session_from}
+use Rattle.run_session.specs.Turns.{UnlessRefused, IfGoesOn, IfEnds, IfTurnRefused}
+use Rattle.run_session.specs.Stop.{Stop, OnStop}
+use Rattle.run_session.specs.Sessions.{point_of, MadeOne, SoFar, RanAll, StopsIn, OnTurnStop}
+use Rattle.run_session.specs.declared.turns.Lines.{Lines}
+use Rattle.run_session.specs.declared.turns.Turn.{Turn}
+use Rattle.run_session.specs.declared.turns.Turn.TheVariants.{GoesOn, Ends, Refused}
+use Rattle.run_session.proofs.Held.{none_held}
+use Rattle.run_session.proofs.Lists.{zero_plus}
+use Rattle.run_session.proofs.Sessions.{EndedWith, list_goes_on, list_ends}
+use Rattle.run_session.proofs.Unless.{on_all}
+use Rattle.run_session.proofs.Ends.{ended_so, all_made_so, no_file_fault, done_no_fault}
+use Rattle.run_session.proofs.Stopped.{ended_stopped, stops_behind}
+
+-- ---- the begin
+
+pub begins : (M : Engine) (base name : List ℕ) (s : State) (done : List Invocation) (fuel : ℕ) (lines : Lines) (calls : Calls) (told : Option Contents) → [] ≡ done → s.steps ≡ 0 → lines.text ≡ [] → lines.traps ≡ 0 → SoFar M base name s s done fuel lines calls calls told told
+unfolding dumps_from
+begins M base name s done fuel lines calls told none steps text traps = record {
+  given = [];
+  grew = sym (append-nil calls.served);
+  writes = [];
+  files = none_held told;
+  within = omega (arith, steps);
+  come = λ rest total few many more. record {
+    rans = [];
+    is = ap (λ l. session_from M (point_of s (l ++ rest) total) more) (sym none);
+    counted = ap (λ l. length (l ++ rest)) (sym none) ∙ zero_plus (length rest);
+    came_of = record { text = text; writes = refl; traps = traps; given = refl };
+    fit = refl;
+    went_on = tt;
+  };
+}
+
+-- ---- one turn
+
+one_more : (n : ℕ) → suc n ≡ n + 1
+one_more n = omega arith
+
+pub next_due : (xs : List InvocationWords) (k : ℕ) (x other : InvocationWords) → k < length xs → x ≡ get_or xs k other → map invocation_of (drop k xs) ≡ invocation_of x ∷ map invocation_of (drop (k + 1) xs)
+next_due xs k x other lt is =
+    ap (λ l. map invocation_of l) (drop-cons xs k other lt) ∙ ap (λ y. invocation_of y ∷ map invocation_of (drop (suc k) xs)) (sym is)
+    ∙ ap (λ n. invocation_of x ∷ map invocation_of (drop n xs)) (one_more k)
+
+map_length : {A B : Type 0} (f : A → B) (xs : List A) → length (map f xs) ≡ length xs
+map_length f [] = refl
+map_length f (x ∷ xs) = ap suc (map_length f xs)
+
+pub due_left : (xs : List InvocationWords) (k : ℕ) → length (map invocation_of (drop (k + 1) xs)) ≡ length xs - k - 1
+due_left xs k = map_length invocation_of (drop (k + 1) xs) ∙ length-drop (k + 1) xs ∙ less (length xs) k
+  where
+    less : (a b : ℕ) → a - (b + 1) ≡ a - b - 1
+    less a b = omega arith
+
+pub of_goes : (turn : Turn) (P : Type 0) → turn ≡ GoesOn → IfGoesOn P turn → P
+of_goes turn P is x = subst (λ t. IfGoesOn P t) is x
+
+pub of_refused : (turn : Turn) (o : Outcome) (P : Outcome → Type 0) → turn ≡ Refused o → IfTurnRefused P turn → P o
+of_refused turn o P is x = subst (λ t. IfTurnRefused P t) is x
+
+pub rose_since : (a b c : ℕ) → a ≤ b → Rose b c → Rose a c
+rose_since a b c le rose = omega (arith, le, rose)
+
+-- those that were made, with one more
+pub next_done : (xs : List InvocationWords) (k : ℕ) (x other : InvocationWords) → k < length xs → x ≡ get_or xs k other → map invocation_of (take k xs) ++ invocation_of x ∷ [] ≡ map invocation_of (take (k + 1) xs)
+next_done xs k x other lt is =
+    ap (λ y. map invocation_of (take k xs) ++ invocation_of y ∷ []) is
+    ∙ sym (map-append invocation_of (take k xs) (get_or xs k other ∷ []))
+    ∙ ap (λ l. map invocation_of l) (sym (take-suc xs k other lt))
+    ∙ ap (λ n. map invocation_of (take n xs)) (one_more k)
+
+-- those that were made, and those that are due
+pub all_due : (xs : List InvocationWords) (k : ℕ) → map invocation_of (take k xs) ++ map invocation_of (drop k xs) ≡ map invocation_of xs
+all_due xs k = sym (map-append invocation_of (take k xs) (drop k xs)) ∙ ap (λ l. map invocation_of l) (take-append-drop k xs)
+
+pub one_due : (xs : List InvocationWords) (k : ℕ) (x other : InvocationWords) → k < length xs → x ≡ get_or xs k other → map invocation_of (take k xs) ++ invocation_of x ∷ map invocation_of (drop (k + 1) xs) ≡ map invocation_of xs
+one_due xs k x other lt is = ap (λ l. map invocation_of (take k xs) ++ l) (sym (next_due xs k x other lt is)) ∙ all_due xs k
+
+module _ (p : Program) (col also : Bool) (depth : ℕ) (base name : List ℕ) (used_up : Import → Bool) (first s new : State) (done rest : List Invocation) (i : Invocation) (fuel : ℕ) (old later : Lines) (before mid after : Calls) (told_before told_mid told_after : Option Contents)
+    (same : also ≡ col) (so_far : SoFar (engine p col depth) base name first s done fuel old before mid told_before told_mid) where
+  abbrev pub made_by : Turn → Bool → Type 0
+  made_by turn c = MadeOne p (engine p c depth) base name used_up s new i fuel old later mid after told_mid told_after turn
+
+  pub come_next : (turn : Turn) (more : List Invocation) → turn ≡ GoesOn → done ++ i ∷ [] ≡ more → UnlessRefused turn (made_by turn also) → SoFar (engine p col depth) base name first new more fuel later before after told_before told_after
+  come_next turn more is with_one made =
+      subst (λ l. SoFar (engine p col depth) base name first new l fuel later before after told_before told_after) with_one
+      (list_goes_on p (engine p col depth) base name used_up first s new done i fuel old later before mid after told_before told_mid told_after so_far
+      (subst (λ c. made_by GoesOn c) same (subst (λ t. UnlessRefused t (made_by t also)) is made)))
+
+  ends_with : (turn : Turn) (a : RunAnswer) (all : List Invocation) → turn ≡ Ends a → done ++ i ∷ rest ≡ all → UnlessRefused turn (made_by turn also) → EndedWith p (engine p col depth) base name used_up (point_of first all fuel) later before after told_before told_after a (length rest)
+  ends_with turn a all is are made =
+      subst (λ l. EndedWith p (engine p col depth) base name used_up (point_of first l fuel) later before after told_before told_after a (length rest)) are
+      (list_ends p (engine p col depth) base name used_up first s new done i rest fuel old later before mid after told_before told_mid told_after a so_far
+      (subst (λ c. made_by (Ends a) c) same (subst (λ t. UnlessRefused t (made_by t also)) is made)))
+
+  pub ends_ran : (counts now : List ℕ → ℕ) (turn : Turn) (a : RunAnswer) (result : Result Outcome WantOfMemory) (all : List Invocation) (left count : ℕ) → turn ≡ Ends a → done ++ i ∷ rest ≡ all → UnlessRefused turn (made_by turn also) → length rest ≡ left → before.served ≡ [] → count ≡ length after.served
+      → (a ≡ NoMemory → ⊥) → HasCause a counts now → IfOk result (λ o. o ≡ ended (answer_status a later.traps) (later.text ++ answer_line a count left))
+      → IfOk result (λ o. UnlessFault o.status (RanAll p (engine p col depth) base name used_up counts now (point_of first all fuel) before after told_before told_after o))
+  ends_ran counts now turn a (Err e) all left count is are made leaves none counted some cause answer = tt
+  ends_ran counts now turn a (Ok o) all left count is are made leaves none counted some cause answer =
+      on_all o.status (RanAll p (engine p col depth) base name used_up counts now (point_of first all fuel) before after told_before told_after o)
+      (ended_so p (engine p col depth) base name used_up counts now (point_of first all fuel) later before after told_before told_after a (length rest) count o none counted some cause
+      (answer ∙ ap (λ n. ended (answer_status a later.traps) (later.text ++ answer_line a count n)) (sym leaves))
+      (ends_with turn a all is are made))
+
+  -- the line of its end can't be told
+  pub ends_stopped : (turn : Turn) (a : RunAnswer) (result : Result Outcome WantOfMemory) (all : List Invocation) (left count : ℕ) → turn ≡ Ends a → done ++ i ∷ rest ≡ all → UnlessRefused turn (made_by turn also) → first.steps ≡ 0
+      → IfOk result (λ o. o ≡ ended (answer_status a later.traps) (later.text ++ answer_line a count left))
+      → OnStop (λ stop. StopsIn stop (engine p col depth) base name 0 first all fuel before after told_before told_after) result
+  ends_stopped turn a (Err e) all left count is are made steps answer =
+      ended_stopped p (engine p col depth) base name used_up first all fuel later before after told_before told_after a (length rest) steps (ends_with turn a all is are made)
+  ends_stopped turn a (Ok o) all left count is are made steps answer = λ faulted. absurd (no_file_fault a later.traps (sym (ap (λ (x : Outcome). x.status) answer) ∙ faulted))
+
+  -- the invocation was stopped
+  pub stopped_here : (stop : Stop) (all : List Invocation) → done ++ i ∷ rest ≡ all → first.steps ≡ 0
+      → StopsIn stop (engine p also depth) base name old.traps s (i ∷ rest) fuel mid after told_mid told_after
+      → StopsIn stop (engine p col depth) base name 0 first all fuel before after told_before told_after
+  stopped_here stop all are steps x =
+      subst (λ l. StopsIn stop (engine p col depth) base name 0 first l fuel before after told_before told_after) are
+      (stops_behind stop (engine p col depth) base name first s done (i ∷ rest) fuel old before mid after told_before told_mid told_after steps so_far
+      (subst (λ c. StopsIn stop (engine p c depth) base name old.traps s (i ∷ rest) fuel mid after told_mid told_after) same x))
+
+  abbrev pub stops_here : Stop → Type 0
+  stops_here stop = StopsIn stop (engine p also depth) base name old.traps s (i ∷ rest) fuel mid after told_mid told_after
+
+  pub stopped_refused : (turn : Turn) (o : Outcome) (all : List Invocation) → turn ≡ Refused o → done ++ i ∷ rest ≡ all → first.steps ≡ 0 → OnTurnStop stops_here (Ok turn)
+      → (stop : Stop) → StopsIn stop (engine p col depth) base name 0 first all fuel before after told_before told_after
+  stopped_refused turn o all is are steps x stop = stopped_here stop all are steps (subst (λ t. OnTurnStop stops_here (Ok t)) is x stop)
+
+-- ---- the end of the list
+
+some_due : (xs : List InvocationWords) → 0 < length xs → 0 < length (map invocation_of xs)
+some_due xs lt = subst (λ n. 0 < n) (sym (map_length invocation_of xs)) lt
+
+pub all_ran_so : (p : Program) (M : Engine) (base name : List ℕ) (used_up : Import → Bool) (counts now : List ℕ → ℕ) (first s : State) (all xs : List InvocationWords) (k fuel : ℕ) (lines : Lines) (before after : Calls) (told_before told_after : Option Contents) (o : Outcome)
+    → length xs ≤ k → xs ≡ all → 0 < length all → o ≡ ended (trapped_or_done lines.traps) lines.text
+    → SoFar M base name first s (map invocation_of (take k xs)) fuel lines before after told_before told_after
+    → UnlessFault o.status (RanAll p M base name used_up counts now (point_of first (map invocation_of all) fuel) before after told_before told_after o)
+all_ran_so p M base name used_up counts now first s all xs k fuel lines before after told_before told_after o le same some answer so_far =
+    on_all o.status (RanAll p M base name used_up counts now (point_of first (map invocation_of all) fuel) before after told_before told_after o)
+    (subst (λ l. RanAll p M base name used_up counts now (point_of first l fuel) before after told_before told_after o) are
+    (all_made_so p M base name used_up counts now first s (map invocation_of (take k xs)) fuel lines before after told_before told_after o
+    (subst (λ l. 0 < length l) (sym are) (some_due all some)) answer so_far))
+  where
+    are : map invocation_of (take k xs) ++ [] ≡ map invocation_of all
+    are = ap (λ l. map invocation_of (take k xs) ++ map invocation_of l) (sym (drop_all k xs le)) ∙ all_due xs k ∙ ap (λ l. map invocation_of l) same
+
+-- ---- the answer that ends the list
+
+pub of_end : (turn : Turn) (a : RunAnswer) (P : RunAnswer → Type 0) → turn ≡ Ends a → IfEnds P turn → P a
+of_end turn a P is x = subst (λ t. IfEnds P t) is x
+
+-- what rose since a later count rose since an earlier one
+pub cause_since : (a : RunAnswer) (first mid now : List ℕ → ℕ) → ((n : List ℕ) → first n ≤ mid n) → HasCause a mid now → HasCause a first now
+cause_since (DeviceFault device) first mid now later rose = rose_since (first device) (mid device) (now device) (later device) rose
+cause_since (Finished v) first mid now later rose = tt
+cause_since (Trapped kind) first mid now later rose = tt
+cause_since NoReply first mid now later rose = tt
+cause_since (BadReply reply) first mid now later rose = tt
+cause_since FuelSpent first mid now later rose = tt
+cause_since NoMemory first mid now later rose = tt

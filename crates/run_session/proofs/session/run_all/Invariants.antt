@@ -1,0 +1,23 @@
+use Rattle.std.proofs.Common.{◌≡◌, ◌≤◌, ℕ, List, map, take, true, is_some}
+use Rattle.wasm_syntax.specs.declared.parts.Import.{Import as ImportValue}
+use Rattle.wasm_syntax.specs.declared.parts.FuncType.{FuncType as TypeValue}
+use Rattle.wasm_syntax.specs.Module.{Program, IsProgram}
+use Rattle.wasm_syntax.specs.Run.{engine}
+use Rattle.trap_image.specs.Pictured.{FewFunctions}
+use Rattle.run_session.specs.Invocations.{invocation_of}
+use Rattle.run_session.specs.Sessions.{SoFar}
+use Rattle.run_session.proofs.session.run_all.Given as goal
+
+abbrev pub invariant-loop-index : goal.invariant-loop-index
+invariant-loop-index g l = record {
+  ready : l.instance.ready ≡ true;
+  same : l.instance.module_ ≡ l.fn.instance.module_;
+  serving : ((i : ImportValue) (t : TypeValue) → g.H.HostSide.serving l.hosts i t ≡ g.H.HostSide.serving l.fn.hosts i t);
+  collecting : g.H.HostSide.collecting l.hosts ≡ g.H.HostSide.collecting l.fn.hosts;
+  origin : g.H.HostSide.origin l.hosts ≡ g.H.HostSide.origin l.fn.hosts;
+  counts : ((name : List ℕ) → g.H.HostSide.fault_count l.fn.hosts name ≤ g.H.HostSide.fault_count l.hosts name);
+  traps : l.lines.traps ≤ l.index;
+  telling : is_some (g.F.Files.told l.files) ≡ is_some (g.F.Files.told l.fn.files);
+  later : g.F.Files.faults l.fn.files ≤ g.F.Files.faults l.files;
+  come : ((p : Program) → p.module_ ≡ l.fn.instance.module_ → IsProgram p → FewFunctions p.module_ → SoFar (engine p (g.H.HostSide.collecting l.fn.hosts) l.fn.words.depth) l.fn.words.dump l.fn.words.name l.fn.instance l.instance (map invocation_of (take l.index l.invocations)) l.fn.words.fuel l.lines (g.H.HostSide.calls l.fn.hosts) (g.H.HostSide.calls l.hosts) (g.F.Files.told l.fn.files) (g.F.Files.told l.files));
+}

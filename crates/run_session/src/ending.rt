@@ -1,0 +1,118 @@
+//! The end of a list of invocations.
+
+ghost use Rattle.std.specs.Prelude.{◌≡◌, ◌++◌, IfOk};
+ghost use Rattle.command_answers.specs.Texts.{ended};
+ghost use Rattle.run_session.specs.Ending.{host_stopped, trapped_or_done};
+ghost use Rattle.run_session.specs.Answers.{device_cause, misfit_cause, answer_line, answer_status};
+
+use crate::lines::{not_invoked, numbered};
+use crate::turns::Lines;
+use causes::NoMemory;
+use command_answers::{Outcome, Status};
+use entry_runs::RunAnswer;
+use pm_text::Text;
+use std::alloc::Global;
+
+/// The line that names why a host function did not reply.
+#[tactic(auto, unfolding(crate::specs::Ending::host_stopped))]
+fn stopped(alloc: Global, cause: &Text) -> Result<Text, NoMemory>
+    ensures { IfOk result (λ t. t ≡ host_stopped cause.now) }
+{
+    let mut text = Text::from_str(alloc, "host stopped: ")?;
+    text.push_str(cause.as_str())?;
+    text.push_str("\n")?;
+    Ok(text)
+}
+
+fn device_cause(alloc: Global, device: &Text) -> Result<Text, NoMemory>
+    ensures { IfOk result (λ t. t ≡ device_cause device.now) }
+{
+    let mut text = Text::from_str(alloc, "device ")?;
+    text.push_quoted(device.as_bytes())?;
+    Ok(text)
+}
+
+fn misfit_cause(alloc: Global, number: u64) -> Result<Text, NoMemory>
+    ensures { IfOk result (λ t. t ≡ misfit_cause number) }
+{
+    let mut text = numbered(alloc, "reply ", number)?;
+    text.push_str(" does not fit")?;
+    Ok(text)
+}
+
+/// The last line, behind so many replies and with so many invocations that were not begun.
+fn end_line(alloc: Global, answer: &RunAnswer, given: u64, due: usize) -> Result<Text, NoMemory>
+    ensures { IfOk result (λ t. t ≡ answer_line answer.now given due) }
+{
+    match answer {
+        RunAnswer::Finished { .. } => Ok(Text::new(alloc)),
+        RunAnswer::Trapped { .. } => not_invoked(alloc, due),
+        RunAnswer::NoReply => {
+            let cause = numbered(alloc, "no reply for call ", given)?;
+            stopped(alloc, &cause)
+        }
+        RunAnswer::BadReply { .. } => {
+            let cause = misfit_cause(alloc, given.saturating_sub(1))?;
+            stopped(alloc, &cause)
+        }
+        RunAnswer::DeviceFault { name } => {
+            let cause = device_cause(alloc, name)?;
+            stopped(alloc, &cause)
+        }
+        RunAnswer::FuelSpent => Text::from_str(alloc, "fuel spent\n"),
+        RunAnswer::NoMemory => Ok(Text::new(alloc)),
+    }
+}
+
+/// The status where all invocations finished, or all but so many, which trapped.
+fn trapped_or_done(traps: u64) -> Status
+    ensures { result ≡ trapped_or_done traps }
+{
+    if traps > 0 {
+        Status::Trapped
+    } else {
+        Status::Done
+    }
+}
+
+/// The status of a list that ends with an answer, behind so many traps.
+fn answer_status(answer: &RunAnswer, traps: u64) -> Status
+    ensures { result ≡ answer_status answer.now traps }
+{
+    match answer {
+        RunAnswer::Finished { .. } => trapped_or_done(traps),
+        RunAnswer::Trapped { .. } => Status::Trapped,
+        RunAnswer::NoReply => Status::HostStopped,
+        RunAnswer::BadReply { .. } => Status::HostStopped,
+        RunAnswer::DeviceFault { .. } => Status::HostStopped,
+        RunAnswer::FuelSpent => Status::FuelSpent,
+        RunAnswer::NoMemory => Status::NoMemory,
+    }
+}
+
+/// What is answered where a list ends with an answer.
+pub(crate) fn ended_with(
+    alloc: Global,
+    lines: Lines,
+    answer: &RunAnswer,
+    given: u64,
+    due: usize,
+) -> Result<Outcome, NoMemory>
+    ensures { IfOk result (λ o. o ≡ ended (answer_status answer.now lines.traps) (lines.text ++ answer_line answer.now given due)) }
+{
+    let status = answer_status(answer, lines.traps);
+    let mut text = lines.text;
+    let line = end_line(alloc, answer, given, due)?;
+    text.push_str(line.as_str())?;
+    Ok(Outcome { status, text })
+}
+
+/// What is answered where all invocations were made.
+pub(crate) fn all_made(lines: Lines) -> Outcome
+    ensures { result ≡ ended (trapped_or_done lines.traps) lines.text }
+{
+    Outcome {
+        status: trapped_or_done(lines.traps),
+        text: lines.text,
+    }
+}
