@@ -2,7 +2,7 @@
 
 ghost use Rattle.device_set.specs.Sets.{AreDistinct, names};
 
-use crate::post_mortem;
+use pm_cli::post_mortem;
 use crate::run_modules::*;
 use device_set::{DeviceSet, Devices};
 use host_devices::{Console, Counter, Device};

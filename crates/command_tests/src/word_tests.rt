@@ -1,4 +1,4 @@
-use crate::{Command, parse_words};
+use pm_cli::{Command, parse_words};
 use pm_text::Text;
 use std::alloc::{AllocError, Global};
 use std::test::Fail;
