@@ -37,6 +37,7 @@ pub fn respond<F: Files, D: Devices>(
         OnStop (λ stop. WordsStop stop (map string_bytes words.now) (D.shown devices.old) (D.shown devices.new) held then) result)) }
     ensures quiet { UnlessRun (command (map string_bytes words.now))
         ((D.shown devices.new ≡ D.shown devices.old) × (F.told files.new ≡ F.told files.old) × (F.created files.new ≡ F.created files.old)) }
+    ensures distinct { AreDistinct (names (D.shown devices.new)) }
     ensures telling { is_some (F.told files.new) ≡ is_some (F.told files.old) }
     ensures fault { IfOk result (λ o. o.status ≡ Status.FileFault
         → IsFaultText (map string_bytes words.now) o.text × Rose (F.faults files.old) (F.faults files.new)) }

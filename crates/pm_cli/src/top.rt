@@ -88,6 +88,9 @@ pub fn post_mortem<F: Files, O: Sink, D: Devices>(
         ⊎ (Rose (F.faults files.old) (F.faults files.new) × ((text : List ℕ)
         × IsFaultText (map string_bytes words.now) text × HasTakenFront before (O.taken out.new) text))))) }
 
+    // The devices keep distinct names.
+    ensures distinct { AreDistinct (names (D.shown devices.new)) }
+
     // Files that tell what they hold go on telling.
     ensures telling { is_some (F.told files.new) ≡ is_some (F.told files.old) }
 {

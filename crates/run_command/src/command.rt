@@ -39,6 +39,7 @@ fn run_scripted<F: Files, D: Devices>(
     ensures stops { IfSome (F.told files.old) (λ held. IfSome (F.told files.new) (λ after. OnStop (λ stop. IsUnchanged (D.shown devices.old) (D.shown devices.new) held after ⊎ ScriptStops stop words.now source.now (script_result script) (D.shown devices.old) (D.shown devices.new) held after) result)) }
     ensures fault { IfOk result (IsFaultOf words.now (F.faults files.old) (F.faults files.new)) }
     ensures memory { IfOk result (λ o. o.status ≢ Status.NoMemory) }
+    ensures distinct { AreDistinct (names (D.shown devices.new)) }
     ensures telling { is_some (F.told files.new) ≡ is_some (F.told files.old) }
     ensures later { F.faults files.old ≤ F.faults files.new }
 {
@@ -63,6 +64,7 @@ fn run_bytes<F: Files, D: Devices>(
     ensures stops { IfSome (F.told files.old) (λ held. IfSome (F.told files.new) (λ after. OnStop (λ stop. IsUnchanged (D.shown devices.old) (D.shown devices.new) held after ⊎ BytesStops stop words.now bytes.now (script_result script) (D.shown devices.old) (D.shown devices.new) held after) result)) }
     ensures fault { IfOk result (IsFaultOf words.now (F.faults files.old) (F.faults files.new)) }
     ensures memory { IfOk result (λ o. o.status ≢ Status.NoMemory) }
+    ensures distinct { AreDistinct (names (D.shown devices.new)) }
     ensures telling { is_some (F.told files.new) ≡ is_some (F.told files.old) }
     ensures later { F.faults files.old ≤ F.faults files.new }
 {
@@ -87,6 +89,7 @@ fn run_source<F: Files, D: Devices>(
     ensures stops { IfSome (F.told files.old) (λ held. IfSome (F.told files.new) (λ after. OnStop (λ stop. IsUnchanged (D.shown devices.old) (D.shown devices.new) held after ⊎ SourceStops stop words.now bytes.now (D.shown devices.old) (D.shown devices.new) held after) result)) }
     ensures fault { IfOk result (IsFaultOf words.now (F.faults files.old) (F.faults files.new)) }
     ensures memory { IfOk result (λ o. o.status ≢ Status.NoMemory) }
+    ensures distinct { AreDistinct (names (D.shown devices.new)) }
     ensures telling { is_some (F.told files.new) ≡ is_some (F.told files.old) }
     ensures later { F.faults files.old ≤ F.faults files.new }
 {
@@ -116,6 +119,7 @@ pub fn run_file<F: Files, D: Devices>(
     ensures stops { IfSome (F.told files.old) (λ held. IfSome (F.told files.new) (λ after. OnStop (λ stop. RunStops stop words.now (D.shown devices.old) (D.shown devices.new) held after) result)) }
     ensures fault { IfOk result (λ o. o.status ≡ Status.FileFault → ((file : List ℕ) × IsFileOf words.now file × (o ≡ file_fault file)) × Rose (F.faults files.old) (F.faults files.new)) }
     ensures memory { IfOk result (λ o. o.status ≢ Status.NoMemory) }
+    ensures distinct { AreDistinct (names (D.shown devices.new)) }
     ensures telling { is_some (F.told files.new) ≡ is_some (F.told files.old) }
     ensures later { F.faults files.old ≤ F.faults files.new }
 {

@@ -82,6 +82,7 @@ fn run_hosted<F: Files, D: Devices>(
     ensures stops { IfSome (F.told files.old) (λ held. IfSome (F.told files.new) (λ then. OnStop (λ stop. StopsRun stop words.now instance.old.module_ script (D.shown devices.old) (D.shown devices.new) held then) result)) }
     ensures fault { IfOk result (λ o. o.status ≡ Status.FileFault → IsDumpFault words.now.dump o × Rose (F.faults files.old) (F.faults files.new)) }
     ensures memory { IfOk result (λ o. o.status ≢ Status.NoMemory) }
+    ensures distinct { AreDistinct (names (D.shown devices.new)) }
     ensures telling { is_some (F.told files.new) ≡ is_some (F.told files.old) }
     ensures later { F.faults files.old ≤ F.faults files.new }
 {
@@ -108,6 +109,7 @@ pub(crate) fn run_valid<F: Files, D: Devices>(
     ensures stops { IfSome (F.told files.old) (λ held. IfSome (F.told files.new) (λ then. OnStop (λ stop. IsUnchanged (D.shown devices.old) (D.shown devices.new) held then ⊎ ModuleStops stop words.now source.now script (D.shown devices.old) (D.shown devices.new) held then) result)) }
     ensures fault { IfOk result (λ o. o.status ≡ Status.FileFault → ((file : List ℕ) × IsFileOf words.now file × (o ≡ file_fault file)) × Rose (F.faults files.old) (F.faults files.new)) }
     ensures memory { IfOk result (λ o. o.status ≢ Status.NoMemory) }
+    ensures distinct { AreDistinct (names (D.shown devices.new)) }
     ensures telling { is_some (F.told files.new) ≡ is_some (F.told files.old) }
     ensures later { F.faults files.old ≤ F.faults files.new }
 {
