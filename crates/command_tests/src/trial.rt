@@ -1,7 +1,7 @@
 //! Commands over files in memory.
 
-use pm_cli::post_mortem;
 use device_set::DeviceSet;
+use pm_cli::post_mortem;
 use pm_outside::{MemFiles, MemSink};
 use std::alloc::Global;
 use std::process::Abort;

@@ -2,10 +2,10 @@
 
 ghost use Rattle.device_set.specs.Sets.{AreDistinct, names};
 
-use pm_cli::post_mortem;
 use crate::run_modules::*;
 use device_set::{DeviceSet, Devices};
 use host_devices::{Console, Counter, Device};
+use pm_cli::post_mortem;
 use pm_outside::{MemFiles, MemSink};
 use std::alloc::Global;
 use std::process::Abort;

@@ -2,8 +2,8 @@
 
 ghost use Rattle.device_set.specs.Sets.{AreDistinct, names};
 
-use pm_cli::post_mortem;
 use device_set::Devices;
+use pm_cli::post_mortem;
 use pm_outside::{MemFiles, MemSink};
 use std::alloc::Global;
 use std::process::Abort;
