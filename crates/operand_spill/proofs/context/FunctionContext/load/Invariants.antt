@@ -1,0 +1,13 @@
+use Rattle.std.proofs.Common.{◌≡◌, ◌≤◌, ◌-◌, length, take}
+use Rattle.unwind_rewrite.specs.Pieces.{load}
+use Rattle.code_writing.specs.Writing.{Emits}
+use Rattle.operand_spill.specs.Places.{from_top}
+use Rattle.operand_spill.proofs.context.FunctionContext.load.Given as goal
+
+abbrev pub invariant-loop-height : goal.invariant-loop-height
+invariant-loop-height l = record {
+  same : l.self ≡ l.fn.self;
+  after : l.first ≤ l.height;
+  before : l.height ≤ length l.operands;
+  so_far : Emits (load l.fn.self (l.height - l.first) (from_top (take l.height l.operands))) l.fn.writer l.writer;
+}

@@ -1,0 +1,16 @@
+-- What is fixed in a function that is rewritten.
+use Rattle.std.specs.Prelude.{ℕ, ◌+◌, ◌*◌, ◌^◌, ◌<◌, List, length, Option}
+use Rattle.wasm_syntax.specs.declared.value.ValType.{ValType}
+use Rattle.wasm_syntax.specs.declared.module.ModuleParts.{ModuleParts as Module}
+use Rattle.unwind_rewrite.specs.Numbering.{helper_base}
+use Rattle.unwind_rewrite.specs.Slots.{Ctx}
+use Rattle.instrument.specs.Weight.{types_used}
+
+-- a function of this module: the types of its locals, the number of heights, its index, and what it gives
+abbrev pub context : Module → List ValType → ℕ → ℕ → Option ValType → Ctx
+context m locals slots index gives =
+    record { source = m; base = helper_base m; helpers = types_used m; locals = locals; slots = slots; index = index; result = gives }
+
+-- all locals have numbers of 32 bits, those added too
+abbrev pub FewLocals : List ValType → ℕ → Type 0
+FewLocals locals slots = length locals + 2 * slots + 4 < 2 ^ 32
