@@ -6,6 +6,8 @@ mod context;
 mod handing;
 mod moves;
 mod place;
+#[cfg(test)]
+mod tests;
 mod unwinding;
 
 pub use causes::NoMemory;
