@@ -1,0 +1,7 @@
+use Rattle.code_writing.proofs.Pieces.{emits_then}
+use Rattle.operand_spill.proofs.Loads.{when_ok}
+use Rattle.guard_insert.proofs.accesses.guard_memory.Goals as goal
+
+pub returns : goal.returns
+returns c =
+    when_ok (emits_then (emits_then c.in_ok-const_value.ensures (emits_then c.in_ok-const_value-2.ensures c.in_ok-fetch.ensures))) c.out_test.result c.out_test.ensures

@@ -1,0 +1,7 @@
+use Rattle.code_writing.proofs.Pieces.{emits_then}
+use Rattle.operand_spill.proofs.Loads.{when_ok}
+use Rattle.guard_insert.proofs.accesses.range_test.Goals as goal
+
+pub returns : goal.returns
+returns c =
+    when_ok (emits_then (emits_then c.in_ok-fetch.ensures (emits_then c.in_ok-basic.ensures (emits_then c.in_ok-fetch-2.ensures (emits_then c.in_ok-basic-2.ensures c.in_ok-basic-3.ensures))))) c.past_end.result c.past_end.ensures

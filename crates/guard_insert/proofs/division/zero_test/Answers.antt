@@ -1,0 +1,7 @@
+use Rattle.code_writing.proofs.Pieces.{emits_then}
+use Rattle.operand_spill.proofs.Loads.{when_ok}
+use Rattle.guard_insert.proofs.division.zero_test.Goals as goal
+
+pub returns : goal.returns
+returns c =
+    when_ok (emits_then c.in_ok-basic.ensures) c.basic-2.result c.basic-2.ensures

@@ -1,0 +1,152 @@
+//! Guards of accesses to the memory.
+
+ghost use Rattle.std.specs.Prelude.{◌≡◌, ◌+◌, ◌/◌, ◌≤◌, OnOk};
+ghost use Rattle.wasm_syntax.specs.Access.{load_bits, store_bits};
+ghost use Rattle.unwind_rewrite.specs.Guards.{past_end, out_test, guard_memory, range_test, guard_copy, guard_fill};
+ghost use Rattle.code_writing.specs.Writing.{Emits};
+ghost use Rattle.operand_spill.specs.Places.{place};
+
+use causes::NoMemory;
+use code_writing::CodeWriter;
+use int_ops::{Narrow32, Narrow64};
+use operand_spill::{FunctionContext, OperandPlace};
+use wasm_syntax::{Basic, Binary, Compare, Convert, Load, Store, ValType, Value};
+
+/// How many bytes a load reads.
+pub(crate) fn load_bytes(load: Load) -> u64
+    ensures bytes { result ≡ load_bits load / 8 }
+    ensures few { result ≤ 8 }
+{
+    match load {
+        Load::Full(ValType::I32) => 4,
+        Load::Full(ValType::I64) => 8,
+        Load::Part32(Narrow32::Eight, _) => 1,
+        Load::Part32(Narrow32::Sixteen, _) => 2,
+        Load::Part64(Narrow64::Eight, _) => 1,
+        Load::Part64(Narrow64::Sixteen, _) => 2,
+        Load::Part64(Narrow64::ThirtyTwo, _) => 4,
+    }
+}
+
+/// How many bytes a store writes.
+pub(crate) fn store_bytes(store: Store) -> u64
+    ensures bytes { result ≡ store_bits store / 8 }
+    ensures few { result ≤ 8 }
+{
+    match store {
+        Store::Full(ValType::I32) => 4,
+        Store::Full(ValType::I64) => 8,
+        Store::Part32(Narrow32::Eight) => 1,
+        Store::Part32(Narrow32::Sixteen) => 2,
+        Store::Part64(Narrow64::Eight) => 1,
+        Store::Part64(Narrow64::Sixteen) => 2,
+        Store::Part64(Narrow64::ThirtyTwo) => 4,
+    }
+}
+
+/// The height so many operands above another one.
+pub(crate) fn above(context: &FunctionContext<'_, '_>, height: usize, count: usize) -> usize
+    requires { height + count ≤ context.now.slots }
+    ensures { result ≡ height + count }
+{
+    // The number of heights is read so that its bound is known.
+    let _ = context.slots();
+    height + count
+}
+
+/// Whether the i64 on top is past the end of the memory.
+fn past_end(writer: &mut CodeWriter) -> Result<(), NoMemory>
+    ensures { OnOk result (Emits past_end writer.old writer.new) }
+{
+    writer.basic(Basic::MemorySize)?;
+    writer.basic(Basic::Convert(Convert::ExtendU))?;
+    writer.const_value(Value::I64(65_536))?;
+    writer.basic(Basic::Binary(ValType::I64, Binary::Mul))?;
+    writer.basic(Basic::Compare(ValType::I64, Compare::GtU))
+}
+
+/// Of two verdicts, whether so many bytes from the address on top pass the end.
+fn out_test(writer: &mut CodeWriter, count: u64) -> Result<(), NoMemory>
+    ensures { OnOk result (Emits (out_test count) writer.old writer.new) }
+{
+    writer.basic(Basic::Convert(Convert::ExtendU))?;
+    writer.const_value(Value::I64(count))?;
+    writer.basic(Basic::Binary(ValType::I64, Binary::Add))?;
+    past_end(writer)?;
+    writer.basic(Basic::Select)
+}
+
+/// 4 where an access of so many bytes, offset included, passes the end.
+pub(crate) fn guard_memory(
+    context: &FunctionContext<'_, '_>,
+    writer: &mut CodeWriter,
+    address: OperandPlace,
+    height: usize,
+    count: u64,
+) -> Result<(), NoMemory>
+    requires { height ≤ context.now.slots }
+    ensures { OnOk result (Emits (guard_memory context.now (place address) height count) writer.old writer.new) }
+{
+    writer.const_value(Value::I32(4))?;
+    writer.const_value(Value::I32(0))?;
+    context.fetch(writer, address, height)?;
+    out_test(writer, count)
+}
+
+/// Whether so many bytes from an address on pass the end. Both operands have their heights.
+fn range_test(
+    context: &FunctionContext<'_, '_>,
+    writer: &mut CodeWriter,
+    address: (OperandPlace, usize),
+    count: (OperandPlace, usize),
+) -> Result<(), NoMemory>
+    requires { (address.1 ≤ context.now.slots) × (count.1 ≤ context.now.slots) }
+    ensures { OnOk result (Emits (range_test context.now (place address.0) address.1 (place count.0) count.1) writer.old writer.new) }
+{
+    context.fetch(writer, address.0, address.1)?;
+    writer.basic(Basic::Convert(Convert::ExtendU))?;
+    context.fetch(writer, count.0, count.1)?;
+    writer.basic(Basic::Convert(Convert::ExtendU))?;
+    writer.basic(Basic::Binary(ValType::I64, Binary::Add))?;
+    past_end(writer)
+}
+
+/// Of `memory.copy`: 4 or 0. Where to is at this height, and above it are where from and the length.
+pub(crate) fn guard_copy(
+    context: &FunctionContext<'_, '_>,
+    writer: &mut CodeWriter,
+    len: OperandPlace,
+    from: OperandPlace,
+    to: OperandPlace,
+    height: usize,
+) -> Result<(), NoMemory>
+    requires { height + 2 ≤ context.now.slots }
+    ensures { OnOk result (Emits (guard_copy context.now (place len) (place from) (place to) height) writer.old writer.new) }
+{
+    let second = above(context, height, 1);
+    let third = above(context, height, 2);
+    writer.const_value(Value::I32(4))?;
+    writer.const_value(Value::I32(0))?;
+    range_test(context, writer, (from, second), (len, third))?;
+    range_test(context, writer, (to, height), (len, third))?;
+    writer.basic(Basic::Binary(ValType::I32, Binary::Or))?;
+    writer.basic(Basic::Select)
+}
+
+/// Of `memory.fill`: 4 or 0. Where to is at this height, and the length is the second one above it.
+pub(crate) fn guard_fill(
+    context: &FunctionContext<'_, '_>,
+    writer: &mut CodeWriter,
+    len: OperandPlace,
+    to: OperandPlace,
+    height: usize,
+) -> Result<(), NoMemory>
+    requires { height + 2 ≤ context.now.slots }
+    ensures { OnOk result (Emits (guard_fill context.now (place len) (place to) height) writer.old writer.new) }
+{
+    let third = above(context, height, 2);
+    writer.const_value(Value::I32(4))?;
+    writer.const_value(Value::I32(0))?;
+    range_test(context, writer, (to, height), (len, third))?;
+    writer.basic(Basic::Select)
+}

@@ -1,0 +1,225 @@
+//! Which instructions have a guard, and which one.
+
+ghost use Rattle.std.specs.Prelude.{◌≡◌, ◌+◌, ◌^◌, ◌<◌, ◌≤◌, List, length, OnOk};
+ghost use Rattle.unwind_rewrite.specs.Guards.{can_trap, divides, guard};
+ghost use Rattle.unwind_rewrite.specs.Pieces.{const, i32};
+ghost use Rattle.unwind_rewrite.specs.Rewrite.{Info, guarded};
+ghost use Rattle.int_ops.specs.declared.operators.Binary.TheVariants.{DivS as DivSOf, DivU as DivUOf, RemS as RemSOf, RemU as RemUOf};
+ghost use Rattle.wasm_syntax.specs.declared.instruction.Basic.TheVariants.{Binary as BinaryOf, Load as LoadOf, Store as StoreOf, MemoryCopy as MemoryCopyOf, MemoryFill as MemoryFillOf};
+ghost use Rattle.code_writing.specs.Writing.{Emits};
+
+use crate::accesses::{guard_copy, guard_fill, guard_memory, load_bytes, store_bytes};
+use crate::division::{guard_signed, guard_zero};
+use causes::NoMemory;
+use code_writing::CodeWriter;
+use operand_spill::{FunctionContext, OperandPlaces};
+use wasm_syntax::{Basic, Binary, Load, Store, ValType, Value};
+
+fn divides(operator: Binary) -> bool
+    ensures { result ≡ divides operator }
+{
+    matches!(
+        operator,
+        Binary::DivS | Binary::DivU | Binary::RemS | Binary::RemU
+    )
+}
+
+/// Whether an instruction has a guard.
+pub fn can_trap(instruction: &Basic) -> bool
+    ensures { result ≡ can_trap instruction.now }
+{
+    match *instruction {
+        Basic::Binary(_, operator) => divides(operator),
+        Basic::Load(..) | Basic::Store(..) | Basic::MemoryCopy | Basic::MemoryFill => true,
+        _ => false,
+    }
+}
+
+/// No kind.
+fn no_kind(writer: &mut CodeWriter) -> Result<(), NoMemory>
+    ensures { OnOk result (Emits (const (i32 0)) writer.old writer.new) }
+{
+    writer.const_value(Value::I32(0))
+}
+
+/// Of a quotient of signed numbers.
+fn guard_quotient(
+    context: &FunctionContext<'_, '_>,
+    writer: &mut CodeWriter,
+    t: ValType,
+    places: &OperandPlaces,
+) -> Result<(), NoMemory>
+    requires { length places.now ≤ context.now.slots }
+    ensures { OnOk result (Emits (guard context.now (BinaryOf t DivSOf) places.now) writer.old writer.new) }
+{
+    let Some(dividend) = places.peek(1) else {
+        return no_kind(writer);
+    };
+    let Some(divisor) = places.peek(0) else {
+        return no_kind(writer);
+    };
+    guard_signed(context, writer, t, divisor, dividend, places.len() - 2)
+}
+
+/// Of the other quotient and the remainders, which want a divisor.
+fn guard_divisor(
+    context: &FunctionContext<'_, '_>,
+    writer: &mut CodeWriter,
+    t: ValType,
+    places: &OperandPlaces,
+) -> Result<(), NoMemory>
+    requires { length places.now ≤ context.now.slots }
+    ensures quotient { OnOk result (Emits (guard context.now (BinaryOf t DivUOf) places.now) writer.old writer.new) }
+    ensures signed { OnOk result (Emits (guard context.now (BinaryOf t RemSOf) places.now) writer.old writer.new) }
+    ensures unsigned { OnOk result (Emits (guard context.now (BinaryOf t RemUOf) places.now) writer.old writer.new) }
+{
+    let Some(_) = places.peek(1) else {
+        return no_kind(writer);
+    };
+    let Some(divisor) = places.peek(0) else {
+        return no_kind(writer);
+    };
+    guard_zero(context, writer, t, divisor, places.len() - 1)
+}
+
+/// Of an operator on two numbers.
+fn guard_binary(
+    context: &FunctionContext<'_, '_>,
+    writer: &mut CodeWriter,
+    t: ValType,
+    operator: Binary,
+    places: &OperandPlaces,
+) -> Result<(), NoMemory>
+    requires { length places.now ≤ context.now.slots }
+    ensures { OnOk result (Emits (guard context.now (BinaryOf t operator) places.now) writer.old writer.new) }
+{
+    match operator {
+        Binary::DivS => guard_quotient(context, writer, t, places),
+        Binary::DivU => guard_divisor(context, writer, t, places),
+        Binary::RemS => guard_divisor(context, writer, t, places),
+        Binary::RemU => guard_divisor(context, writer, t, places),
+        _ => no_kind(writer),
+    }
+}
+
+/// Of a load of so many bytes, offset included.
+fn guard_load(
+    context: &FunctionContext<'_, '_>,
+    writer: &mut CodeWriter,
+    load: Load,
+    align: u32,
+    offset: u32,
+    places: &OperandPlaces,
+) -> Result<(), NoMemory>
+    requires { length places.now ≤ context.now.slots }
+    ensures { OnOk result (Emits (guard context.now (LoadOf load align offset) places.now) writer.old writer.new) }
+{
+    let Some(address) = places.peek(0) else {
+        return no_kind(writer);
+    };
+    let count = u64::from(offset) + load_bytes(load);
+    guard_memory(context, writer, address, places.len() - 1, count)
+}
+
+/// Of a store of so many bytes, offset included.
+fn guard_store(
+    context: &FunctionContext<'_, '_>,
+    writer: &mut CodeWriter,
+    store: Store,
+    align: u32,
+    offset: u32,
+    places: &OperandPlaces,
+) -> Result<(), NoMemory>
+    requires { length places.now ≤ context.now.slots }
+    ensures { OnOk result (Emits (guard context.now (StoreOf store align offset) places.now) writer.old writer.new) }
+{
+    let Some(address) = places.peek(1) else {
+        return no_kind(writer);
+    };
+    let count = u64::from(offset) + store_bytes(store);
+    guard_memory(context, writer, address, places.len() - 2, count)
+}
+
+/// Of `memory.copy`.
+fn guard_copied(
+    context: &FunctionContext<'_, '_>,
+    writer: &mut CodeWriter,
+    places: &OperandPlaces,
+) -> Result<(), NoMemory>
+    requires { length places.now ≤ context.now.slots }
+    ensures { OnOk result (Emits (guard context.now MemoryCopyOf places.now) writer.old writer.new) }
+{
+    let Some(to) = places.peek(2) else {
+        return no_kind(writer);
+    };
+    let Some(second) = places.peek(1) else {
+        return no_kind(writer);
+    };
+    let Some(len) = places.peek(0) else {
+        return no_kind(writer);
+    };
+    guard_copy(context, writer, len, second, to, places.len() - 3)
+}
+
+/// Of `memory.fill`.
+fn guard_filled(
+    context: &FunctionContext<'_, '_>,
+    writer: &mut CodeWriter,
+    places: &OperandPlaces,
+) -> Result<(), NoMemory>
+    requires { length places.now ≤ context.now.slots }
+    ensures { OnOk result (Emits (guard context.now MemoryFillOf places.now) writer.old writer.new) }
+{
+    let Some(to) = places.peek(2) else {
+        return no_kind(writer);
+    };
+    let Some(len) = places.peek(0) else {
+        return no_kind(writer);
+    };
+    guard_fill(context, writer, len, to, places.len() - 3)
+}
+
+/// The guard of an instruction on these operands, which leaves the kind or 0 on the stack.
+pub fn guard(
+    context: &FunctionContext<'_, '_>,
+    writer: &mut CodeWriter,
+    instruction: &Basic,
+    places: &OperandPlaces,
+) -> Result<(), NoMemory>
+    requires { length places.now ≤ context.now.slots }
+    ensures { OnOk result (Emits (guard context.now instruction.now places.now) writer.old writer.new) }
+{
+    match *instruction {
+        Basic::Binary(t, operator) => guard_binary(context, writer, t, operator, places),
+        Basic::Load(load, align, offset) => {
+            guard_load(context, writer, load, align, offset, places)
+        }
+        Basic::Store(store, align, offset) => {
+            guard_store(context, writer, store, align, offset, places)
+        }
+        Basic::MemoryCopy => guard_copied(context, writer, places),
+        Basic::MemoryFill => guard_filled(context, writer, places),
+        _ => no_kind(writer),
+    }
+}
+
+/// The guard with the test of its verdict, where the instruction has one.
+pub fn guarded(
+    context: &FunctionContext<'_, '_>,
+    writer: &mut CodeWriter,
+    labels: u32,
+    places: &OperandPlaces,
+    offset: u32,
+    instruction: &Basic,
+) -> Result<(), NoMemory>
+    requires shallow { labels + 1 < 2 ^ 32 }
+    requires room { length places.now ≤ context.now.slots }
+    ensures { (ls : List Info) → length ls ≡ labels → OnOk result (Emits (guarded (can_trap instruction.now) context.now ls places.now offset instruction.now) writer.old writer.new) }
+{
+    if can_trap(instruction) {
+        guard(context, writer, instruction, places)?;
+        context.tested(writer, labels, places, offset)
+    } else {
+        Ok(())
+    }
+}

@@ -1,0 +1,9 @@
+//! Writes guards: code in front of an instruction that gives the kind with which it would trap on its operands, or 0.
+#![tactic(auto)]
+
+mod accesses;
+mod choice;
+mod division;
+
+pub use causes::NoMemory;
+pub use choice::{can_trap, guard, guarded};
