@@ -4,6 +4,8 @@
 mod accesses;
 mod choice;
 mod division;
+#[cfg(test)]
+mod tests;
 
 pub use causes::NoMemory;
 pub use choice::{can_trap, guard, guarded};
