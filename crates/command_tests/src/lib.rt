@@ -5,6 +5,10 @@
 #[cfg(test)]
 mod check_tests;
 #[cfg(test)]
+mod option_tests;
+#[cfg(test)]
+mod run_word_tests;
+#[cfg(test)]
 mod show_tests;
 #[cfg(test)]
 mod trial;

@@ -1,6 +1,6 @@
 //! Commands over files in memory.
 
-use device_set::DeviceSet;
+use host_set::DeviceSet;
 use pm_cli::post_mortem;
 use pm_outside::{MemFiles, MemSink};
 use std::alloc::Global;

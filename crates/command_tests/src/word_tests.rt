@@ -1,8 +1,10 @@
+//! Commands by their words.
+
+use command_words::WordsFault;
 use pm_cli::{Command, parse_words};
 use pm_text::Text;
 use std::alloc::{AllocError, Global};
 use std::test::Fail;
-use word_rules::WordsFault;
 
 fn words_of(alloc: Global, line: &str) -> Result<Vec<String>, AllocError> {
     let mut words = Vec::new(alloc);

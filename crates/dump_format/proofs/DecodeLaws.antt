@@ -8,7 +8,7 @@ use Rattle.wasm_bytes.specs.Reading.{closed, value_of}
 use Rattle.dump_format.specs.Parts.{Part}
 use Rattle.dump_format.specs.Judged.{names_in, modules_in, instances_in, frames_in, memories_in, values_in, segments_in, memories_of, is_repeated, repeated, refusal, dump_of, memory_of, frames_of, first_of, floats_in}
 use Rattle.dump_format.specs.Sections.{parts_item}
-use Rattle.dump_format.specs.Gathering.{found_or, repeated_in, refusal_in, dump_in, judged_in, gathered_item, dump_gathered}
+use Rattle.dump_format.specs.inner.Gathering.{found_or, repeated_in, refusal_in, dump_in, judged_in, gathered_item, dump_gathered}
 use Rattle.dump_format.specs.Decode.{dump_from, judged_parts}
 use Rattle.dump_format.proofs.Summary.{found_or-found, is_found_again-found, summary}
 use Rattle.dump_format.proofs.Steps.{made, closed-made}

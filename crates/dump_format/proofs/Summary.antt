@@ -8,7 +8,7 @@ use Rattle.dump_format.specs.declared.found.Found.TheVariants.{Absent, Once, Rep
 use Rattle.dump_format.specs.declared.gathered.Gathered.{Gathered}
 use Rattle.dump_format.specs.Parts.{Part, core, modules, instances, stack, memories, globals, segments, custom, passed}
 use Rattle.dump_format.specs.Judged.{names_in, modules_in, instances_in, frames_in, memories_in, values_in, segments_in, floats_in, frame_floats, float_in, only, first_of, id_behind, last_id, is_repeated}
-use Rattle.dump_format.specs.Gathering.{added, found_or, is_found_again}
+use Rattle.dump_format.specs.inner.Gathering.{added, found_or, is_found_again}
 use Rattle.dump_format.proofs.Firsts.{or_first, or_nothing, first_of-append}
 
 -- ---- what may stand once

@@ -6,8 +6,8 @@ pub mod Judged
 pub mod Sections
 pub mod Decode
 pub mod Noting
-pub mod Gathering
 pub mod Grammar
 pub mod Breaking
 pub mod Meaning
 pub mod Contained
+pub mod inner

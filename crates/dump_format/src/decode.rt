@@ -8,7 +8,7 @@ ghost use Rattle.dump_format.specs.declared.fault.DumpFault.TheVariants.{Malform
 ghost use Rattle.dump_format.specs.Meaning.{Exactly, IsDump, BreaksAt, HasFloatAt, HasSeveral, PassesLimit};
 ghost use Rattle.dump_format.specs.Contained.{IsContained, IsLimited};
 ghost use Rattle.dump_format.specs.Decode.{dump_from, Answers};
-ghost use Rattle.dump_format.specs.Gathering.{dump_gathered};
+ghost use Rattle.dump_format.specs.inner.Gathering.{dump_gathered};
 
 use crate::dump::Dump;
 use crate::fault::DumpFault;
@@ -17,7 +17,7 @@ use std::alloc::Global;
 use wasm_bytes::ItemFault;
 use wasm_syntax::Quantity;
 
-#[tactic(auto, unfolding(crate::specs::Gathering::dump_gathered))]
+#[tactic(auto, unfolding(crate::specs::inner::Gathering::dump_gathered))]
 fn decode<'a>(alloc: Global, bytes: &'a [u8]) -> Result<Dump<'a>, DumpFault>
     ensures { Answers result (dump_gathered bytes.now) }
 {

@@ -1,7 +1,7 @@
 //! Parts that may stand once.
 
 ghost use Rattle.std.specs.Prelude.{◌≡◌};
-ghost use Rattle.dump_format.specs.Gathering.{added, found_or, is_found, is_found_again};
+ghost use Rattle.dump_format.specs.inner.Gathering.{added, found_or, is_found, is_found_again};
 
 /// A part of a dump, as far as its sections are read.
 #[derive(Drop)]

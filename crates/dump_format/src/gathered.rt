@@ -2,7 +2,7 @@
 
 ghost use Rattle.std.specs.Prelude.{◌≡◌, [], length};
 ghost use Rattle.dump_format.specs.Judged.{over, unless_refused};
-ghost use Rattle.dump_format.specs.Gathering.{nothing_gathered, first_memory, found_or, repeated_in, too_many_in, refusal_in, dump_in};
+ghost use Rattle.dump_format.specs.inner.Gathering.{nothing_gathered, first_memory, found_or, repeated_in, too_many_in, refusal_in, dump_in};
 
 use crate::dump::{Dump, Frames, Instances, Segments, Texts, Values};
 use crate::fault::{DumpFault, DumpPart};
@@ -41,7 +41,7 @@ fn over(what: Quantity, count: u64) -> Option<DumpFault>
 
 impl<'a> Gathered<'a> {
     /// Nothing was read.
-    #[tactic(auto, unfolding(crate::specs::Gathering::nothing_gathered))]
+    #[tactic(auto, unfolding(crate::specs::inner::Gathering::nothing_gathered))]
     pub fn new() -> Self
         ensures { result ≡ nothing_gathered }
     {
@@ -90,7 +90,7 @@ impl<'a> Gathered<'a> {
     }
 
     /// The first part that stands more than once.
-    #[tactic(auto, unfolding(crate::specs::Gathering::repeated_in))]
+    #[tactic(auto, unfolding(crate::specs::inner::Gathering::repeated_in))]
     fn repeated(&self) -> Option<DumpPart>
         ensures { result ≡ repeated_in self.now }
     {
@@ -121,7 +121,7 @@ impl<'a> Gathered<'a> {
     }
 
     /// Why the sections make no dump.
-    #[tactic(auto, unfolding(crate::specs::Gathering::refusal_in))]
+    #[tactic(auto, unfolding(crate::specs::inner::Gathering::refusal_in))]
     fn refusal(&self) -> Option<DumpFault>
         ensures { result ≡ refusal_in self.now }
     {
@@ -135,7 +135,7 @@ impl<'a> Gathered<'a> {
     }
 
     /// The dump that the sections make, or why they make none.
-    #[tactic(auto, unfolding(crate::specs::Gathering::dump_in))]
+    #[tactic(auto, unfolding(crate::specs::inner::Gathering::dump_in))]
     pub fn judged(self, alloc: Global) -> Result<Dump<'a>, DumpFault>
         ensures { result ≡ unless_refused (refusal_in self.entry) (dump_in self.entry) }
     {

@@ -15,6 +15,3 @@ pub use dump::{
     Dump, Frame, Frames, Indices, Instance, Instances, Seens, Segment, Segments, Texts, Values,
 };
 pub use fault::{DumpFault, DumpPart};
-
-#[cfg(test)]
-mod tests;

@@ -4,7 +4,7 @@ ghost use Rattle.std.specs.Prelude.{◌≡◌, ◌+◌, ◌*◌, nat_le, OnOk};
 ghost use Rattle.wasm_bytes.specs.Place.{Moves};
 ghost use Rattle.wasm_bytes.specs.Answers.{Gives};
 ghost use Rattle.dump_format.specs.Form.{module_item, instance_item, limits_item, segment_item};
-ghost use Rattle.dump_format.specs.Gathering.{name_step, module_names, segment_step, memory_segments};
+ghost use Rattle.dump_format.specs.inner.Gathering.{name_step, module_names, segment_step, memory_segments};
 
 use crate::dump::{Instance, Segment, Segments, Texts};
 use pm_text::{Items, Text};
@@ -32,7 +32,7 @@ pub struct ModuleNames {
 impl<'a> Gather<'a> for ModuleNames {
     ghost step = { name_step };
 
-    #[tactic(auto, unfolding(crate::specs::Gathering::name_step))]
+    #[tactic(auto, unfolding(crate::specs::inner::Gathering::name_step))]
     fn take(&mut self, alloc: Global, reader: &mut Reader<'a>) -> Result<(), ItemFault> {
         self.names.push(module_name(alloc, reader)?)?;
         Ok(())
@@ -40,7 +40,7 @@ impl<'a> Gather<'a> for ModuleNames {
 }
 
 /// A vector of modules.
-#[tactic(auto, unfolding(crate::specs::Gathering::module_names))]
+#[tactic(auto, unfolding(crate::specs::inner::Gathering::module_names))]
 pub fn module_names<'a>(alloc: Global, reader: &mut Reader<'a>) -> Result<Texts, ItemFault>
     ensures item { Gives result reader.new (module_names reader.old) }
     ensures moves { OnOk result (Moves reader.old reader.new) }
@@ -133,7 +133,7 @@ fn has_room(pages: u32, address: u32, len: usize) -> bool
 impl<'a> Gather<'a> for MemorySegments<'a> {
     ghost step = { segment_step };
 
-    #[tactic(auto, unfolding(crate::specs::Form::segment_item, crate::specs::Gathering::segment_step))]
+    #[tactic(auto, unfolding(crate::specs::Form::segment_item, crate::specs::inner::Gathering::segment_step))]
     fn take(&mut self, _alloc: Global, reader: &mut Reader<'a>) -> Result<(), ItemFault> {
         let start = reader.at();
         let index = reader.u32()?;
@@ -156,7 +156,7 @@ impl<'a> Gather<'a> for MemorySegments<'a> {
 }
 
 /// A vector of segments of a memory, whose size in pages is given where it is there.
-#[tactic(auto, unfolding(crate::specs::Gathering::memory_segments))]
+#[tactic(auto, unfolding(crate::specs::inner::Gathering::memory_segments))]
 pub fn memory_segments<'a>(
     alloc: Global,
     memory: Option<u32>,

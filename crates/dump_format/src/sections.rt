@@ -5,7 +5,7 @@ ghost use Rattle.wasm_bytes.specs.Place.{Moves, Stays};
 ghost use Rattle.wasm_bytes.specs.Reading.{whole};
 ghost use Rattle.wasm_bytes.specs.Answers.{Gives, with_state};
 ghost use Rattle.dump_format.specs.Sections.{may_follow, header};
-ghost use Rattle.dump_format.specs.Gathering.{custom_gathering, contents_gathering, section_step, gathered_item, GivesWhole};
+ghost use Rattle.dump_format.specs.inner.Gathering.{custom_gathering, contents_gathering, section_step, gathered_item, GivesWhole};
 
 use crate::gathered::Gathered;
 use crate::lists::{memory_segments, module_name, module_names};
@@ -26,7 +26,7 @@ impl<'a> Gathered<'a> {
     }
 
     /// A custom section, behind its name.
-    #[tactic(auto, unfolding(crate::specs::Gathering::custom_gathering))]
+    #[tactic(auto, unfolding(crate::specs::inner::Gathering::custom_gathering))]
     fn custom(
         &mut self,
         alloc: Global,
@@ -55,7 +55,7 @@ impl<'a> Gathered<'a> {
     }
 
     /// The contents of a section of this id.
-    #[tactic(auto, unfolding(crate::specs::Gathering::contents_gathering))]
+    #[tactic(auto, unfolding(crate::specs::inner::Gathering::contents_gathering))]
     fn contents(&mut self, alloc: Global, id: u8, reader: &mut Reader<'a>) -> Result<(), ItemFault>
         ensures item { Gives (with_state self.new result) reader.new (contents_gathering self.old id reader.old) }
     {
@@ -89,7 +89,7 @@ impl<'a> Gathered<'a> {
 impl<'a> Gather<'a> for Gathered<'a> {
     ghost step = { section_step };
 
-    #[tactic(auto, unfolding(wasm_bytes::specs::Reading::choose, crate::specs::Gathering::section_step))]
+    #[tactic(auto, unfolding(wasm_bytes::specs::Reading::choose, crate::specs::inner::Gathering::section_step))]
     fn take(&mut self, alloc: Global, reader: &mut Reader<'a>) -> Result<(), ItemFault> {
         let at = reader.at();
         let id = reader.byte()?;
@@ -104,7 +104,7 @@ impl<'a> Gather<'a> for Gathered<'a> {
 }
 
 /// All sections of an input. A section `core` is due.
-#[tactic(auto, unfolding(crate::specs::Gathering::all_gathered, crate::specs::Gathering::gathered_item))]
+#[tactic(auto, unfolding(crate::specs::inner::Gathering::all_gathered, crate::specs::inner::Gathering::gathered_item))]
 pub fn gathered<'a>(alloc: Global, bytes: &'a [u8]) -> Result<Gathered<'a>, ItemFault>
     ensures { GivesWhole result (whole gathered_item bytes.now) }
 {

@@ -2,6 +2,8 @@
 #![tactic(auto)]
 
 #[cfg(test)]
+mod collected_tests;
+#[cfg(test)]
 mod trap;
 #[cfg(test)]
 mod trap_tests;

@@ -1,189 +1,133 @@
-//! Dumps of small machines. The offsets, locals, operands and bytes were put together by hand from the encoded bodies.
+//! Dumps of instances that stand at a trap. The offsets, locals, operands and bytes were put together by hand from the encoded bodies.
 
-ghost use Rattle.std.specs.Prelude.{◌≤◌};
+ghost use Rattle.std.specs.Prelude.{◌≡◌, ◌≤◌, true, false, [], None};
 ghost use Rattle.dump_format.specs.Form.{pages_of};
 ghost use Rattle.dump_format.specs.Contained.{IsContained};
 
 use crate::trap::TRAP;
-use basic_steps::{Globals, Shared, Stack, TrapKind};
-use causes::NoMemory;
-use dump_format::{Dump, Instance, Segment};
+use dump_format::{Dump, Segment};
 use dump_write::dump_bytes;
-use flat_code::Code;
-use frame_steps::{CallStack, begin};
+use host_devices::{HostAnswer, HostSide};
 use linear_memory::Memory;
-use machine_steps::{Machine, Outcome, Prepared, step};
+use machine_basics::TrapKind;
 use std::alloc::Global;
-use trap_image::{frame, frame_count, image};
-use wasm_syntax::{Basic, Binary, Body, FuncType, Instr, Items, Jump, Op, ValType, Value};
+use trap_image::image;
+use wasm_decode::decode;
+use wasm_machine::{Instance, RunAnswer};
+use wasm_syntax::{FuncType, HostCall, Import, Value};
+use wasm_validate::{Validated, validate};
 
-const I32: ValType = ValType::I32;
-
-/// The offset of an instruction, its length, its opcode and its immediate, or 0 for one without.
-type Placed = (u32, u32, u8, u32);
-
-/// `local.get 0`, `local.get 1`, `i32.div_s`: 20 00 20 01 6D 0B behind an empty list of locals.
-const DIVISION: [Placed; 4] = [
-    (1, 2, 0x20, 0),
-    (3, 2, 0x20, 1),
-    (5, 1, 0x6D, 0),
-    (6, 1, 0x0B, 0),
+/// `div` of two i32s: `local.get 0`, `local.get 1`, `i32.div_s`.
+const DIVISION: [u8; 41] = [
+    0x00, 0x61, 0x73, 0x6d, 0x01, 0x00, 0x00, 0x00, 0x01, 0x07, 0x01, 0x60, 0x02, 0x7f, 0x7f, 0x01,
+    0x7f, 0x03, 0x02, 0x01, 0x00, 0x07, 0x07, 0x01, 0x03, 0x64, 0x69, 0x76, 0x00, 0x00, 0x0a, 0x09,
+    0x01, 0x07, 0x00, 0x20, 0x00, 0x20, 0x01, 0x6d, 0x0b,
 ];
 
-/// An `unreachable` in three blocks, each behind a constant: 41 01 02 7F 41 02 02 7F 41 03 02 7F 00 0B 6A 0B 6A 0B 6A 0B.
-const BLOCKS: [Placed; 14] = [
-    (1, 2, 0x41, 1),
-    (3, 2, 0x02, 0x7F),
-    (5, 2, 0x41, 2),
-    (7, 2, 0x02, 0x7F),
-    (9, 2, 0x41, 3),
-    (11, 2, 0x02, 0x7F),
-    (13, 1, 0x00, 0),
-    (14, 1, 0x0B, 0),
-    (15, 1, 0x6A, 0),
-    (16, 1, 0x0B, 0),
-    (17, 1, 0x6A, 0),
-    (18, 1, 0x0B, 0),
-    (19, 1, 0x6A, 0),
-    (20, 1, 0x0B, 0),
+/// The division, with a memory of two to four pages, of which the second one holds 1 2 3 4 behind its first 16 bytes, and two globals.
+const MEMORY: [u8; 74] = [
+    0x00, 0x61, 0x73, 0x6d, 0x01, 0x00, 0x00, 0x00, 0x01, 0x07, 0x01, 0x60, 0x02, 0x7f, 0x7f, 0x01,
+    0x7f, 0x03, 0x02, 0x01, 0x00, 0x05, 0x04, 0x01, 0x01, 0x02, 0x04, 0x06, 0x0b, 0x02, 0x7f, 0x00,
+    0x41, 0x05, 0x0b, 0x7e, 0x00, 0x42, 0x06, 0x0b, 0x07, 0x07, 0x01, 0x03, 0x64, 0x69, 0x76, 0x00,
+    0x00, 0x0a, 0x09, 0x01, 0x07, 0x00, 0x20, 0x00, 0x20, 0x01, 0x6d, 0x0b, 0x0b, 0x0c, 0x01, 0x00,
+    0x41, 0x90, 0x80, 0x04, 0x0b, 0x04, 0x01, 0x02, 0x03, 0x04,
 ];
 
-/// Calls itself with one less down to 0, and there an entry past the end of the table:
-/// 20 00 45 04 40 41 09 11 01 00 0B 20 00 41 01 6B 10 00 0B.
-const CALLS: [Placed; 11] = [
-    (1, 2, 0x20, 0),
-    (3, 1, 0x45, 0),
-    (4, 2, 0x04, 0x40),
-    (6, 2, 0x41, 9),
-    (8, 3, 0x11, 1),
-    (11, 1, 0x0B, 0),
-    (12, 2, 0x20, 0),
-    (14, 2, 0x41, 1),
-    (16, 1, 0x6B, 0),
-    (17, 2, 0x10, 0),
-    (19, 1, 0x0B, 0),
+/// `f`: an `unreachable` in three blocks, each behind a constant.
+const BLOCKS: [u8; 51] = [
+    0x00, 0x61, 0x73, 0x6d, 0x01, 0x00, 0x00, 0x00, 0x01, 0x05, 0x01, 0x60, 0x00, 0x01, 0x7f, 0x03,
+    0x02, 0x01, 0x00, 0x07, 0x05, 0x01, 0x01, 0x66, 0x00, 0x00, 0x0a, 0x17, 0x01, 0x15, 0x00, 0x41,
+    0x01, 0x02, 0x7f, 0x41, 0x02, 0x02, 0x7f, 0x41, 0x03, 0x02, 0x7f, 0x00, 0x0b, 0x6a, 0x0b, 0x6a,
+    0x0b, 0x6a, 0x0b,
 ];
 
-/// Those of the bodies above.
-fn instruction(opcode: u8, immediate: u32) -> Instr {
-    match opcode {
-        0x00 => Instr::Jump(Jump::Unreachable),
-        0x02 => Instr::Block(Some(I32)),
-        0x04 => Instr::If(None),
-        0x0B => Instr::End,
-        0x10 => Instr::Jump(Jump::Call(immediate)),
-        0x11 => Instr::Jump(Jump::CallIndirect(immediate)),
-        _ => Instr::Basic(basic(opcode, immediate)),
+/// `f` calls itself with one less down to 0, and there an entry past the end of the table.
+const CALLS: [u8; 59] = [
+    0x00, 0x61, 0x73, 0x6d, 0x01, 0x00, 0x00, 0x00, 0x01, 0x08, 0x02, 0x60, 0x01, 0x7f, 0x00, 0x60,
+    0x00, 0x00, 0x03, 0x02, 0x01, 0x00, 0x04, 0x04, 0x01, 0x70, 0x00, 0x01, 0x07, 0x05, 0x01, 0x01,
+    0x66, 0x00, 0x00, 0x0a, 0x16, 0x01, 0x14, 0x00, 0x20, 0x00, 0x45, 0x04, 0x40, 0x41, 0x09, 0x11,
+    0x01, 0x00, 0x0b, 0x20, 0x00, 0x41, 0x01, 0x6b, 0x10, 0x00, 0x0b,
+];
+
+/// A host side without replies for these imports.
+#[derive(Drop)]
+struct Silent<'a> {
+    imports: &'a [Import],
+}
+
+impl<'a> HostSide for Silent<'a> {
+    ghost origin = { λ s. record { imports = s.imports.now; names = []; logs = λ _. []; script = None } };
+
+    ghost calls = { λ _. record { served = []; collected = [] } };
+
+    ghost collecting = { λ _. false };
+
+    ghost serving = { λ _ _ _. true };
+
+    ghost used_up = { λ _ _. true };
+
+    ghost fault_count = { λ _ _. 0 };
+
+    fn serves(&self, _import: &Import, _ftype: &FuncType) -> bool {
+        true
+    }
+
+    fn collects(&self) -> bool {
+        false
+    }
+
+    fn call(&mut self, _import: &Import, _call: &HostCall, _memory: Option<&Memory>) -> HostAnswer {
+        HostAnswer::NoReply
     }
 }
 
-fn basic(opcode: u8, immediate: u32) -> Basic {
-    match opcode {
-        0x20 => Basic::LocalGet(immediate),
-        0x41 => Basic::Const(Value::I32(immediate)),
-        0x45 => Basic::Eqz(I32),
-        0x6A => Basic::Binary(I32, Binary::Add),
-        0x6B => Basic::Binary(I32, Binary::Sub),
-        _ => Basic::Binary(I32, Binary::DivS),
+fn valid(alloc: Global, bytes: &[u8]) -> Option<Validated> {
+    match decode(alloc, bytes) {
+        Ok(m) => validate(alloc, m).ok(),
+        Err(_) => None,
     }
 }
 
-fn body(alloc: Global, rows: &[Placed]) -> Result<Body, NoMemory> {
-    let mut ops = Items::new(alloc);
-    for row in rows {
-        let (at, len, opcode, immediate) = *row;
-        let code = instruction(opcode, immediate);
-        ops.push(Op { at, len, code })?;
+/// Whether the first invocation of an instance comes to this trap with at most three frames.
+fn traps(
+    instance: &mut Instance<'_>,
+    imports: &[Import],
+    entry: &str,
+    args: &[Value],
+    kind: TrapKind,
+) -> bool
+    requires { imports.now ≡ instance.old.module_.imports }
+{
+    if !instance.ready() || instance.steps() != 0 {
+        return false;
     }
-    Ok(Body {
-        groups: Items::new(alloc),
-        ops,
-        targets: Items::new(alloc),
-        start: 0,
-    })
-}
-
-/// A function of no results that takes so many i32s.
-fn code(alloc: Global, body: &Body, params: usize) -> Result<Code<'_>, NoMemory> {
-    let mut types = Items::new(alloc);
-    for _ in 0..params {
-        types.push(I32)?;
+    let mut hosts = Silent { imports };
+    match instance.invoke(entry, args, 3, 1000, &mut hosts) {
+        RunAnswer::Trapped { kind: found } => found == kind,
+        _ => false,
     }
-    let ftype = FuncType {
-        params: types,
-        results: Items::new(alloc),
-    };
-    let code = Code::prepare(alloc, body, &ftype)?;
-    Ok(code)
-}
-
-/// A module of one function, which takes so many i32s.
-fn prepared(alloc: Global, body: &Body, params: usize) -> Result<Prepared<'_>, NoMemory> {
-    let type_numbers = Items::from_slice(alloc, &[0, 1])?;
-    let function_numbers = Items::from_slice(alloc, &[0])?;
-    let mut codes = Vec::new(alloc);
-    codes.push(code(alloc, body, params)?)?;
-    Ok(Prepared {
-        codes,
-        imports: 0,
-        type_numbers,
-        function_numbers,
-    })
-}
-
-/// A machine with these globals and no memory, and a table of one entry, which is not set.
-fn machine(alloc: Global, globals: &[Value]) -> Result<Machine, NoMemory> {
-    let globals = Vec::from_slice(alloc, globals)?;
-    let table = Items::from_slice(alloc, &[None])?;
-    Ok(Machine {
-        stack: CallStack {
-            values: Stack::new(alloc),
-            controls: Stack::new(alloc),
-            frames: Stack::new(alloc),
-            position: 0,
-        },
-        shared: Shared {
-            globals: Globals::from_vec(globals),
-            memory: None,
-        },
-        table,
-    })
-}
-
-/// The kind of the trap to which the function comes with these arguments.
-fn trap(m: &mut Machine, prepared: &Prepared, args: &[Value]) -> Option<TrapKind> {
-    begin(&mut m.stack, &prepared.codes, 0, args);
-    for _ in 0..100 {
-        match step(m, prepared, 3) {
-            Outcome::Next => {}
-            Outcome::Trap(kind) => return Some(kind),
-            _ => return None,
-        }
-    }
-    None
 }
 
 /// Whether the frame at this index is one of function 0 with these values.
 fn shows(
-    m: &Machine,
-    prepared: &Prepared,
+    instance: &Instance<'_>,
     index: usize,
     offset: u32,
     locals: &[Value],
     operands: &[Value],
 ) -> bool {
-    if index >= frame_count(m) {
+    if index >= instance.frame_count() {
         return false;
     }
-    let shown = frame(m, prepared, index);
+    let shown = instance.frame(index);
     shown.function == 0
         && shown.offset == offset
         && shown.locals == locals
         && shown.operands == operands
 }
 
-/// What is looked at, when its function has come to a trap. One function makes the module of each of them and one the machine, since the
-/// proof of a function that holds such a value is long.
+/// What is looked at, when a function has come to a trap. One function makes the module of each of them and one the instance, since the proof of
+/// a function that holds such a value is long.
 #[derive(Clone, Copy)]
 enum Scene {
     /// 7 is divided by 0.
@@ -196,15 +140,6 @@ enum Scene {
 
 const GLOBALS: [Value; 2] = [Value::I32(5), Value::I64(6)];
 
-/// Gives the machine two pages, the second of which holds 1 2 3 4 behind its first 16 bytes.
-fn give_memory(alloc: Global, m: &mut Machine) {
-    if let Ok(mut memory) = Memory::new(alloc, 2, 4)
-        && memory.write(65_552, &[1, 2, 3, 4]).is_ok()
-    {
-        m.shared.memory = Some(memory);
-    }
-}
-
 fn has_page(segments: &[Segment]) -> bool {
     match segments {
         [page] => {
@@ -216,7 +151,7 @@ fn has_page(segments: &[Segment]) -> bool {
     }
 }
 
-fn has_both_globals(instances: &[Instance]) -> bool {
+fn has_both_globals(instances: &[dump_format::Instance]) -> bool {
     match instances {
         [instance] => {
             matches!(instance.memories.as_slice(), [0])
@@ -243,12 +178,12 @@ fn is_of_division(alloc: Global, dump: &Dump) -> bool
     }
 }
 
-fn is_dumped(alloc: Global, m: &Machine, prepared: &Prepared, scene: Scene) -> bool {
+fn is_dumped(alloc: Global, instance: &Instance<'_>, scene: Scene) -> bool {
     let name = match scene {
         Scene::Division => "module",
         _ => "",
     };
-    match image(alloc, m, prepared, name) {
+    match image(alloc, instance, name) {
         Ok(dump) => match scene {
             Scene::Division => is_of_division(alloc, &dump),
             _ => has_memory(&dump),
@@ -257,86 +192,82 @@ fn is_dumped(alloc: Global, m: &Machine, prepared: &Prepared, scene: Scene) -> b
     }
 }
 
-fn shows_blocks(m: &Machine, prepared: &Prepared) -> bool {
+fn shows_blocks(instance: &Instance<'_>) -> bool {
     let operands = [Value::I32(1), Value::I32(2), Value::I32(3)];
-    frame_count(m) == 1 && shows(m, prepared, 0, 13, &[], &operands)
+    instance.frame_count() == 1 && shows(instance, 0, 13, &[], &operands)
 }
 
-fn shows_calls(m: &Machine, prepared: &Prepared) -> bool {
-    frame_count(m) == 3
-        && shows(m, prepared, 0, 8, &[Value::I32(0)], &[Value::I32(9)])
-        && shows(m, prepared, 1, 17, &[Value::I32(1)], &[])
-        && shows(m, prepared, 2, 17, &[Value::I32(2)], &[])
+fn shows_calls(instance: &Instance<'_>) -> bool {
+    instance.frame_count() == 3
+        && shows(instance, 0, 8, &[Value::I32(0)], &[Value::I32(9)])
+        && shows(instance, 1, 17, &[Value::I32(1)], &[])
+        && shows(instance, 2, 17, &[Value::I32(2)], &[])
 }
 
-fn division_traps(m: &mut Machine, prepared: &Prepared) -> bool {
-    let kind = trap(m, prepared, &[Value::I32(7), Value::I32(0)]);
-    matches!(kind, Some(TrapKind::DivideByZero))
+/// Whether the globals are lent one by one too.
+fn shows_globals(instance: &Instance<'_>) -> bool {
+    matches!(instance.globals(), [Value::I32(5), Value::I64(6)])
 }
 
-fn blocks_trap(m: &mut Machine, prepared: &Prepared) -> bool {
-    matches!(trap(m, prepared, &[]), Some(TrapKind::Unreachable))
-}
-
-fn calls_trap(m: &mut Machine, prepared: &Prepared) -> bool {
-    let kind = trap(m, prepared, &[Value::I32(2)]);
-    matches!(kind, Some(TrapKind::UndefinedElement))
-}
-
-fn is_seen_by(alloc: Global, m: &mut Machine, prepared: &Prepared, scene: Scene) -> bool {
+fn is_seen_by(alloc: Global, instance: &mut Instance<'_>, imports: &[Import], scene: Scene) -> bool
+    requires { imports.now ≡ instance.old.module_.imports }
+{
+    let seven_by_zero = [Value::I32(7), Value::I32(0)];
+    let zero = TrapKind::DivideByZero;
     match scene {
-        Scene::Division => division_traps(m, prepared) && is_dumped(alloc, m, prepared, scene),
-        Scene::Memory => {
-            give_memory(alloc, m);
-            division_traps(m, prepared) && is_dumped(alloc, m, prepared, scene)
+        Scene::Division => {
+            traps(instance, imports, "div", &seven_by_zero, zero)
+                && is_dumped(alloc, instance, scene)
         }
-        Scene::Blocks => blocks_trap(m, prepared) && shows_blocks(m, prepared),
-        Scene::Calls => calls_trap(m, prepared) && shows_calls(m, prepared),
+        Scene::Memory => {
+            traps(instance, imports, "div", &seven_by_zero, zero)
+                && shows_globals(instance)
+                && is_dumped(alloc, instance, scene)
+        }
+        Scene::Blocks => {
+            traps(instance, imports, "f", &[], TrapKind::Unreachable) && shows_blocks(instance)
+        }
+        Scene::Calls => {
+            let two = [Value::I32(2)];
+            traps(instance, imports, "f", &two, TrapKind::UndefinedElement) && shows_calls(instance)
+        }
     }
 }
 
-fn is_seen_in(alloc: Global, prepared: &Prepared, scene: Scene) -> bool {
-    let globals: &[Value] = match scene {
-        Scene::Memory => &GLOBALS,
-        _ => &[],
-    };
-    match machine(alloc, globals) {
-        Ok(mut m) => is_seen_by(alloc, &mut m, prepared, scene),
+fn is_seen_in(alloc: Global, source: &Validated, scene: Scene) -> bool {
+    match Instance::new(alloc, source) {
+        Ok(mut instance) => {
+            let imports = source.module().parts().imports.as_slice();
+            is_seen_by(alloc, &mut instance, imports, scene)
+        }
         Err(_) => false,
     }
 }
 
-fn is_seen_of(alloc: Global, body: &Body, params: usize, scene: Scene) -> bool {
-    match prepared(alloc, body, params) {
-        Ok(prepared) => is_seen_in(alloc, &prepared, scene),
-        Err(_) => false,
-    }
-}
-
-/// Whether all is as it must be at the trap of a function with this body, which takes so many i32s.
-fn is_seen(alloc: Global, rows: &[Placed], params: usize, scene: Scene) -> bool {
-    match body(alloc, rows) {
-        Ok(body) => is_seen_of(alloc, &body, params, scene),
-        Err(_) => false,
+/// Whether all is as it must be at the trap of the function of the module that these bytes spell.
+fn is_seen(alloc: Global, bytes: &[u8], scene: Scene) -> bool {
+    match valid(alloc, bytes) {
+        Some(source) => is_seen_in(alloc, &source, scene),
+        None => false,
     }
 }
 
 #[test]
 fn a_division_by_zero_has_these_bytes(rt: HostRuntime) {
-    assert!(rt; is_seen(rt.alloc(), &DIVISION, 2, Scene::Division));
+    assert!(rt; is_seen(rt.alloc(), &DIVISION, Scene::Division));
 }
 
 #[test]
 fn operands_of_all_blocks_are_shown(rt: HostRuntime) {
-    assert!(rt; is_seen(rt.alloc(), &BLOCKS, 0, Scene::Blocks));
+    assert!(rt; is_seen(rt.alloc(), &BLOCKS, Scene::Blocks));
 }
 
 #[test]
 fn callers_stand_at_their_calls(rt: HostRuntime) {
-    assert!(rt; is_seen(rt.alloc(), &CALLS, 1, Scene::Calls));
+    assert!(rt; is_seen(rt.alloc(), &CALLS, Scene::Calls));
 }
 
 #[test]
 fn made_pages_and_globals_are_dumped(rt: HostRuntime) {
-    assert!(rt; is_seen(rt.alloc(), &DIVISION, 2, Scene::Memory));
+    assert!(rt; is_seen(rt.alloc(), &MEMORY, Scene::Memory));
 }

@@ -2,7 +2,7 @@
 
 ghost use Rattle.std.specs.Prelude.{◌≡◌, ◌++◌, ◌≤◌, ◌<◌, length, IfOk, OnOk, All};
 ghost use Rattle.dump_write.specs.Spelled.{segment_head, segment_bytes, vector_bytes};
-ghost use Rattle.dump_write.specs.Pieces.{data_head};
+ghost use Rattle.dump_write.specs.inner.Pieces.{data_head};
 
 use causes::NoMemory;
 use dump_format::Segment;
@@ -46,7 +46,7 @@ fn contents_size(alloc: Global, segments: &[Segment<'_>]) -> Result<u64, NoMemor
 }
 
 /// What stands before the first segment, where there is one.
-#[tactic(auto, unfolding(crate::specs::Pieces::data_head))]
+#[tactic(auto, unfolding(crate::specs::inner::Pieces::data_head))]
 pub fn push_data_head(
     alloc: Global,
     out: &mut Vec<u8>,

@@ -8,7 +8,7 @@ ghost use Rattle.dump_format.specs.Form.{pages_of};
 ghost use Rattle.dump_format.specs.Contained.{IsContained};
 ghost use Rattle.dump_write.specs.Spelled.{segment_bytes};
 ghost use Rattle.dump_write.specs.Pages.{is_used};
-ghost use Rattle.dump_write.specs.Pieces.{data_head, pages_bytes};
+ghost use Rattle.dump_write.specs.inner.Pieces.{data_head, pages_bytes};
 ghost use Rattle.dump_write.specs.Canonical.{sections_before_data, segments_of, canonical_bytes};
 ghost use Rattle.dump_write.specs.Typed.{IsTyped};
 ghost use Rattle.dump_write.specs.Written.{OnTold, Writes};

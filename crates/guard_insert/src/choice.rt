@@ -1,18 +1,18 @@
 //! Which instructions have a guard, and which one.
 
 ghost use Rattle.std.specs.Prelude.{◌≡◌, ◌+◌, ◌^◌, ◌<◌, ◌≤◌, List, length, OnOk};
-ghost use Rattle.unwind_rewrite.specs.Guards.{can_trap, divides, guard};
-ghost use Rattle.unwind_rewrite.specs.Pieces.{const, i32};
-ghost use Rattle.unwind_rewrite.specs.Rewrite.{Info, guarded};
+ghost use Rattle.rewrite_bodies.specs.Guards.{can_trap, divides, guard};
+ghost use Rattle.rewrite_bodies.specs.Pieces.{const, i32};
+ghost use Rattle.rewrite_bodies.specs.Rewrite.{Info, guarded};
 ghost use Rattle.int_ops.specs.declared.operators.Binary.TheVariants.{DivS as DivSOf, DivU as DivUOf, RemS as RemSOf, RemU as RemUOf};
 ghost use Rattle.wasm_syntax.specs.declared.instruction.Basic.TheVariants.{Binary as BinaryOf, Load as LoadOf, Store as StoreOf, MemoryCopy as MemoryCopyOf, MemoryFill as MemoryFillOf};
-ghost use Rattle.code_writing.specs.Writing.{Emits};
+ghost use Rattle.rewrite_code.specs.Writing.{Emits};
 
 use crate::accesses::{guard_copy, guard_fill, guard_memory, load_bytes, store_bytes};
 use crate::division::{guard_signed, guard_zero};
 use causes::NoMemory;
-use code_writing::CodeWriter;
 use operand_spill::{FunctionContext, OperandPlaces};
+use rewrite_code::CodeWriter;
 use wasm_syntax::{Basic, Binary, Load, Store, ValType, Value};
 
 fn divides(operator: Binary) -> bool

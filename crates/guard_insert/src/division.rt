@@ -1,14 +1,14 @@
 //! Guards of divisions and remainders.
 
 ghost use Rattle.std.specs.Prelude.{◌≡◌, ◌+◌, ◌≤◌, OnOk};
-ghost use Rattle.unwind_rewrite.specs.Guards.{least, minus_one, zero_test, guard_zero, overflow_test, guard_signed};
-ghost use Rattle.code_writing.specs.Writing.{Emits};
+ghost use Rattle.rewrite_bodies.specs.Guards.{least, minus_one, zero_test, guard_zero, overflow_test, guard_signed};
+ghost use Rattle.rewrite_code.specs.Writing.{Emits};
 ghost use Rattle.operand_spill.specs.Places.{place};
 
 use crate::accesses::above;
 use causes::NoMemory;
-use code_writing::CodeWriter;
 use operand_spill::{FunctionContext, OperandPlace};
+use rewrite_code::CodeWriter;
 use wasm_syntax::{Basic, Binary, Compare, ValType, Value};
 
 /// The least signed number of a type.

@@ -4,8 +4,6 @@
 mod accesses;
 mod choice;
 mod division;
-#[cfg(test)]
-mod tests;
 
 pub use causes::NoMemory;
 pub use choice::{can_trap, guard, guarded};

@@ -16,6 +16,3 @@ pub use counter::Counter;
 pub use device::{Device, DeviceAnswer};
 pub use host::{HostAnswer, HostSide};
 pub use scripted::Scripted;
-
-#[cfg(test)]
-mod tests;

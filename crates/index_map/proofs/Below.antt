@@ -3,8 +3,8 @@ use Rattle.std.proofs.Common.{◌≡◌, ℕ, zero, suc, ◌+◌, ◌-◌, ◌<�
 use Rattle.std.specs.List.{AllByRecursion}
 use Rattle.std.specs.Prelude.{◌==◌}
 use Rattle.std.proofs.lemmas.Bool.Decides.{nat_tests}
-use Rattle.unwind_rewrite.specs.Numbering.{is_in, distinct}
-use Rattle.index_map.specs.Used.{AllBelow}
+use Rattle.rewrite_bodies.specs.Numbering.{is_in, distinct}
+use Rattle.index_map.specs.inner.Used.{AllBelow}
 
 pub left_below : (n : ℕ) (xs ys : List ℕ) → AllBelow n (xs ++ ys) → AllBelow n xs
 left_below n [] ys h = tt

@@ -4,8 +4,8 @@ use Rattle.std.proofs.Math.Seq.{drop-cons}
 use Rattle.std.proofs.lemmas.List.{reverse-append, length-reverse, length-set, get_or-set_same, get_or-set_other}
 use Rattle.std.proofs.lemmas.Bool.Decides.{nat_tests}
 use Rattle.std.specs.Prelude.{is_some, ◌==◌}
-use Rattle.unwind_rewrite.specs.Numbering.{is_in, distinct}
-use Rattle.index_map.specs.Used.{behind, HasMet}
+use Rattle.rewrite_bodies.specs.Numbering.{is_in, distinct}
+use Rattle.index_map.specs.inner.Used.{behind, HasMet}
 
 -- a number is in a list where some elements stand behind it
 pub is_in_behind : (t : ℕ) (xs : List ℕ) → is_in t xs ≡ is_some (behind t xs)

@@ -6,10 +6,10 @@ use Rattle.std.proofs.lemmas.Option.{slice_get-get_or}
 use Rattle.std.specs.Prelude.{◌==◌, is_some}
 use Rattle.wasm_syntax.specs.declared.parts.Body.{Body}
 use Rattle.wasm_syntax.specs.declared.module.ModuleParts.{ModuleParts as Module}
-use Rattle.unwind_rewrite.specs.Numbering.{is_in, distinct, place_in}
-use Rattle.instrument.specs.Weight.{types_used}
-use Rattle.index_map.specs.Used.{behind, bodies_used, HasMet}
-use Rattle.index_map.specs.Kept.{AreUsed, IsMap}
+use Rattle.rewrite_bodies.specs.Numbering.{is_in, distinct, place_in}
+use Rattle.rewrite_modules.specs.Weight.{types_used}
+use Rattle.index_map.specs.inner.Used.{behind, bodies_used, HasMet}
+use Rattle.index_map.specs.inner.Kept.{AreUsed, IsMap}
 use Rattle.index_map.proofs.Meeting.{is_in_behind}
 use Rattle.index_map.proofs.Below.{distinct_below, is_in_below}
 

@@ -4,11 +4,11 @@ ghost use Rattle.std.specs.Prelude.{◌≡◌, ℕ, suc, ◌+◌, ◌<◌, true,
 ghost use Rattle.wasm_syntax.specs.declared.module.ModuleParts.{ModuleParts as Parts};
 ghost use Rattle.wasm_syntax.specs.Module.{Program, IsProgram, function_types};
 ghost use Rattle.wasm_syntax.specs.Valid.{Valid};
-ghost use Rattle.module_sizes.specs.Sized.{Sized};
-ghost use Rattle.unwind_rewrite.specs.Numbering.{flag_of, frame_import, helped, helper_base, is_in, mapped, place_in, value_import, wrapped, wrapper_base};
-ghost use Rattle.instrument.specs.Instrument.{new_exports, new_start};
-ghost use Rattle.instrument.specs.Weight.{types_used};
-ghost use Rattle.index_map.specs.Kept.{CanBeNumbered};
+ghost use Rattle.wasm_sizes.specs.Sized.{Sized};
+ghost use Rattle.rewrite_bodies.specs.Numbering.{flag_of, frame_import, helped, helper_base, is_in, mapped, place_in, value_import, wrapped, wrapper_base};
+ghost use Rattle.rewrite_modules.specs.Instrument.{new_exports, new_start};
+ghost use Rattle.rewrite_modules.specs.Weight.{types_used};
+ghost use Rattle.index_map.specs.inner.Kept.{CanBeNumbered};
 
 use crate::used::used_types;
 use crate::wrapped::{indices, of_exports, push_start};
@@ -32,7 +32,7 @@ pub struct IndexMap<'a> {
 
 impl<'a> Model for IndexMap<'a> {
     ghost use Rattle.wasm_syntax.specs.declared.module.ModuleParts.{ModuleParts as Numbered};
-    ghost use Rattle.index_map.specs.Kept.{IsMap};
+    ghost use Rattle.index_map.specs.inner.Kept.{IsMap};
 
     ghost Value = { Numbered };
 

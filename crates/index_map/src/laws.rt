@@ -5,8 +5,8 @@ ghost use Rattle.wasm_syntax.specs.declared.instruction.Op.{Op};
 ghost use Rattle.wasm_syntax.specs.declared.parts.Body.{Body};
 ghost use Rattle.wasm_syntax.specs.declared.module.ModuleParts.{ModuleParts as Parts};
 ghost use Rattle.wasm_syntax.specs.Module.{Program, IsProgram};
-ghost use Rattle.unwind_rewrite.specs.Numbering.{helped, is_in};
-ghost use Rattle.instrument.specs.Weight.{type_used, types_used};
+ghost use Rattle.rewrite_bodies.specs.Numbering.{helped, is_in};
+ghost use Rattle.rewrite_modules.specs.Weight.{type_used, types_used};
 
 /// A type that an instruction of the module uses has a helper, and the types that flat code uses are those of its trees.
 pub fn used_types_have_helpers()

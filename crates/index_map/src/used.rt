@@ -1,9 +1,9 @@
 //! The types that `call_indirect`s use.
 
 ghost use Rattle.std.specs.Prelude.{◌≡◌, ℕ, ◌<◌, ◌∷◌, ◌++◌, List, None, length, replicate, IfOk, OnOk};
-ghost use Rattle.instrument.specs.Weight.{type_used};
-ghost use Rattle.index_map.specs.Used.{AllBelow, HasMet, bodies_used, ops_used};
-ghost use Rattle.index_map.specs.Kept.{AreUsed};
+ghost use Rattle.rewrite_modules.specs.Weight.{type_used};
+ghost use Rattle.index_map.specs.inner.Used.{AllBelow, HasMet, bodies_used, ops_used};
+ghost use Rattle.index_map.specs.inner.Kept.{AreUsed};
 
 use causes::NoMemory;
 use std::alloc::Global;

@@ -17,7 +17,7 @@ use prog.Wired.{Wired}
 use Rattle.std_heap.specs.contracts.Global as heap
 use Rattle.std_heap.specs.contracts.GlobalAllocator.TheImpl.{ghosts, dict}
 use Rattle.std_heap.proofs.Global.TheLaws as heap_laws
-use Rattle.linear_memory.specs.Ownership.{Block}
+use Rattle.linear_memory.specs.inner.Ownership.{Block}
 use Rattle.linear_memory.specs.contracts.Destruct++none.drop.Key.{symbol}
 use Rattle.linear_memory.proofs.Destruct++none.drop.Code as dropped
 

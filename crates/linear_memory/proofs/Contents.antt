@@ -5,7 +5,7 @@ use Rattle.std.proofs.lemmas.List.{get_or-map, set-get_or, get_or_default, lengt
 use Rattle.std.proofs.lemmas.Bool.{cases_lt}
 use Rattle.linear_memory.specs.Memory.{window, splice, from_bytes}
 use Rattle.linear_memory.specs.Paged.{IsMade, AllMade, StaysMade}
-use Rattle.linear_memory.specs.Table.{zeros, page_bytes, contents, IsWhole, AllWhole}
+use Rattle.linear_memory.specs.inner.Table.{zeros, page_bytes, contents, IsWhole, AllWhole}
 
 pub length-zeros : length zeros ≡ 65536
 unfolding zeros

@@ -1,4 +1,5 @@
-// Calls of a memory one after another.
+//! Calls of a memory one after another.
+
 ghost use Rattle.std.specs.Prelude.{◌≡◌, IfOk};
 ghost use Rattle.linear_memory.specs.Width.{width_bytes};
 ghost use Rattle.linear_memory.specs.Calls.{Does, Runs, Shows};

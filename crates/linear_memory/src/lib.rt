@@ -4,12 +4,8 @@
 mod calls;
 mod page;
 mod paged;
-#[cfg(test)]
-mod plain;
 mod raw;
 mod table;
-#[cfg(test)]
-mod tests;
 mod words;
 
 pub use calls::{Answer, Call, Width, run};

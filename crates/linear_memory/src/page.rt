@@ -1,4 +1,5 @@
-// One page: absent, or 65,536 bytes.
+//! One page: absent, or 65,536 bytes.
+
 ghost use Rattle.std.specs.Prelude.{◌≡◌, ◌+◌, ◌≤◌, length, IfOk, MatchOption, is_some, IsSome, replicate};
 ghost use Rattle.linear_memory.specs.Memory.{splice, to_bytes};
 ghost use Rattle.linear_memory.specs.Paged.{IsWidth};
@@ -15,7 +16,7 @@ pub(crate) struct Page {
 
 impl Model for Page {
     ghost use Rattle.std.specs.Prelude.{List, ℕ, Option};
-    ghost use Rattle.linear_memory.specs.Table.{IsWhole, bytes_behind};
+    ghost use Rattle.linear_memory.specs.inner.Table.{IsWhole, bytes_behind};
 
     ghost Value = { Option (List ℕ) };
 
@@ -25,7 +26,7 @@ impl Model for Page {
 }
 
 impl Page {
-    ghost use Rattle.linear_memory.specs.Table.{zeros, page_bytes};
+    ghost use Rattle.linear_memory.specs.inner.Table.{zeros, page_bytes};
 
     pub(crate) fn absent() -> Page
         ensures { result ≡ None }

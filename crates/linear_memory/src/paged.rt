@@ -1,4 +1,5 @@
-// A memory as a table of pages.
+//! A memory as a table of pages.
+
 ghost use Rattle.std.specs.Prelude.{◌≡◌, ◌+◌, ◌*◌, ◌^◌, ◌<◌, ◌≤◌, ◌↔◌, ◌⊎◌, length, replicate, false, IfOk, OnOk, OnErr, IfSome, IfNone, IsSome, Some};
 ghost use Rattle.linear_memory.specs.Memory.{page_size, pages, zeroed, window, to_bytes, load, store, put, fill, copy};
 ghost use Rattle.linear_memory.specs.Paged.{IsWidth, IsMade, AllMade, Makes};
@@ -26,7 +27,7 @@ pub struct Memory {
 impl Model for Memory {
     ghost use Rattle.std.specs.Prelude.{◌≤◌, length, map, is_some};
     ghost use Rattle.linear_memory.specs.Paged.{Paged};
-    ghost use Rattle.linear_memory.specs.Table.{contents, AllWhole};
+    ghost use Rattle.linear_memory.specs.inner.Table.{contents, AllWhole};
 
     ghost Value = { Paged };
 

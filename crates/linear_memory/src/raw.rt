@@ -1,8 +1,9 @@
-// The bytes of a page behind a raw pointer. No other file of the crate touches a pointer.
+//! The bytes of a page behind a raw pointer. No other file of the crate touches a pointer.
+
 ghost use Rattle.std.specs.Prelude.{◌≡◌, ℕ, List, IfOk};
 ghost use Rattle.std.specs.Borrow.{sem};
 ghost use Rattle.std.specs.Coded.{coded_list, coded_ℕ};
-ghost use Rattle.linear_memory.specs.Ownership.{block_owned, block_lent};
+ghost use Rattle.linear_memory.specs.inner.Ownership.{block_owned, block_lent};
 
 use std::alloc::{AllocError, Global};
 use std::marker::Model;
@@ -22,8 +23,8 @@ impl Model for RawPage {
 }
 
 impl RawPage {
-    ghost use Rattle.linear_memory.specs.Lending.{LendsBytes};
-    ghost use Rattle.linear_memory.specs.Table.{zeros};
+    ghost use Rattle.linear_memory.specs.inner.Lending.{LendsBytes};
+    ghost use Rattle.linear_memory.specs.inner.Table.{zeros};
 
     // A page of zeros.
     #[inline(never)]

@@ -1,8 +1,9 @@
-// A table of pages, read and written as one list of bytes.
+//! A table of pages, read and written as one list of bytes.
+
 ghost use Rattle.std.specs.Prelude.{◌≡◌, ◌+◌, ◌-◌, ◌*◌, ◌/◌, ◌%◌, ◌^◌, ◌<◌, ◌≤◌, ◌↔◌, ◌++◌, length, map, is_some, replicate, if◌then◌else◌, IsTrue, IfOk, IsSome, IfSome, IfNone, false, ℕ, ◌⊎◌};
 ghost use Rattle.linear_memory.specs.Memory.{window, splice, from_bytes, to_bytes};
 ghost use Rattle.linear_memory.specs.Paged.{IsWidth, AllMade, IsMade, StaysMade, Makes};
-ghost use Rattle.linear_memory.specs.Table.{contents, AllWhole, zeros};
+ghost use Rattle.linear_memory.specs.inner.Table.{contents, AllWhole, zeros};
 
 use crate::page::Page;
 use crate::words::read_word;

@@ -1,4 +1,5 @@
-// Numbers as little-endian bytes.
+//! Numbers as little-endian bytes.
+
 ghost use Rattle.std.specs.Prelude.{◌≡◌, ◌+◌, ◌^◌, ◌<◌, ◌≤◌, length, replicate};
 ghost use Rattle.linear_memory.specs.Memory.{from_bytes, to_bytes, window, splice};
 ghost use Rattle.linear_memory.specs.Paged.{IsWidth};

@@ -12,21 +12,21 @@ use Rattle.wasm_syntax.specs.Module.{Program, Function, imported, defined, funct
 use Rattle.wasm_syntax.specs.Host.{Answer, replied, told, silent, misfit, answer}
 use Rattle.wasm_syntax.specs.Machine as steps
 use Rattle.wasm_syntax.specs.Machine.{Cut, short, parts, cut, host_call}
-use Rattle.flat_code.specs.declared.code.Code.{Code}
-use Rattle.frame_steps.specs.Meets.{Point, CallPlace, call_at, step_at, Reads}
-use Rattle.frame_steps.proofs.Points.{top_is}
-use Rattle.frame_steps.proofs.JumpLaws.{IsJump, jump_at, step_jumps}
+use Rattle.machine_code.specs.declared.code.Code.{Code}
+use Rattle.machine_frames.specs.Meets.{Point, CallPlace, call_at, step_at, Reads}
+use Rattle.machine_frames.proofs.Points.{top_is}
+use Rattle.machine_frames.proofs.JumpLaws.{IsJump, jump_at, step_jumps}
 use Rattle.machine_steps.specs.declared.machine.Machine.{Machine}
 use Rattle.machine_steps.specs.declared.machine.ImportCall.{ImportCall}
 use Rattle.machine_steps.specs.declared.machine.Outcome.{Outcome}
 use Rattle.machine_steps.specs.declared.machine.Outcome.TheVariants.{Next, Ended, Trap, Import, NoMemory, Stuck}
 use Rattle.machine_steps.specs.declared.indirect.Entry.{Entry}
 use Rattle.machine_steps.specs.declared.indirect.Entry.TheVariants as entries
-use Rattle.basic_steps.specs.Traps.{trap_code}
+use Rattle.machine_basics.specs.Traps.{trap_code}
 use Rattle.machine_steps.specs.Meets.{UnderIndex, CallsImport, MeetsAt, Here, config_at}
-use Rattle.machine_steps.specs.Entries.{EntryFits}
+use Rattle.machine_steps.specs.inner.Entries.{EntryFits}
 use Rattle.machine_steps.proofs.StepLaws.{stuck_meets, stands_here, traps_here}
-use Rattle.basic_steps.specs.declared.answer.TrapKind.{TrapKind}
+use Rattle.machine_basics.specs.declared.answer.TrapKind.{TrapKind}
 
 -- an import, by its index
 below : (p : Program) (g : ℕ) → g < length p.module_.imports → function_at p g ≡ imported_at p.module_ g

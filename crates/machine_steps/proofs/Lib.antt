@@ -2,3 +2,4 @@ pub mod CutLaws
 pub mod StepLaws
 pub mod EntryLaws
 pub mod ImportLaws
+pub mod TurnLaws

@@ -10,31 +10,31 @@ use Rattle.wasm_syntax.specs.Host.{World}
 use Rattle.wasm_syntax.specs.Effect.{Effect, gives, fails, unfit, effect, takes}
 use Rattle.wasm_syntax.specs.Machine as steps
 use Rattle.wasm_syntax.specs.Machine.{Engine, Cut, short, parts, cut, Label, label, Frame, frame, Config, config, joined, in_frame, runs}
-use Rattle.basic_steps.specs.declared.answer.Performed.{Performed}
-use Rattle.basic_steps.specs.declared.answer.Performed.TheVariants as performed
-use Rattle.basic_steps.specs.declared.answer.TrapKind.{TrapKind}
-use Rattle.basic_steps.specs.declared.shared.Shared.{Shared}
-use Rattle.basic_steps.specs.Traps.{trap_code}
-use Rattle.basic_steps.specs.Performs.{Holds, Did, on_operands, on_cut, above, laid_out}
-use Rattle.flat_code.specs.declared.code.Code.{Code}
-use Rattle.flat_code.specs.Flat.{Is}
-use Rattle.flat_code.specs.Code.{items, Prepares}
-use Rattle.frame_steps.specs.declared.layout.CallFrame.{CallFrame}
-use Rattle.frame_steps.specs.declared.layout.CallStack.{CallStack}
-use Rattle.frame_steps.specs.declared.layout.Stepped.{Stepped}
-use Rattle.frame_steps.specs.declared.layout.Stepped.TheVariants as stepped
-use Rattle.frame_steps.specs.Layout as layout
-use Rattle.frame_steps.specs.Layout.{Level, Frames, Labels}
-use Rattle.frame_steps.specs.Meets as moved
-use Rattle.frame_steps.specs.Meets.{Point, with_labels, step_at, Inner, Reads}
-use Rattle.frame_steps.proofs.Labels.{First, some_is, some_item, behind_basic}
-use Rattle.frame_steps.proofs.Points.{floor_at, LabelsAt, labels_are, first_at, moves}
+use Rattle.machine_basics.specs.declared.answer.Performed.{Performed}
+use Rattle.machine_basics.specs.declared.answer.Performed.TheVariants as performed
+use Rattle.machine_basics.specs.declared.answer.TrapKind.{TrapKind}
+use Rattle.machine_basics.specs.declared.shared.Shared.{Shared}
+use Rattle.machine_basics.specs.Traps.{trap_code}
+use Rattle.machine_basics.specs.Performs.{Holds, Did, on_operands, on_cut, above, laid_out}
+use Rattle.machine_code.specs.declared.code.Code.{Code}
+use Rattle.machine_code.specs.Flat.{Is}
+use Rattle.machine_code.specs.Code.{items, Prepares}
+use Rattle.machine_frames.specs.declared.layout.CallFrame.{CallFrame}
+use Rattle.machine_frames.specs.declared.layout.CallStack.{CallStack}
+use Rattle.machine_frames.specs.declared.layout.Stepped.{Stepped}
+use Rattle.machine_frames.specs.declared.layout.Stepped.TheVariants as stepped
+use Rattle.machine_frames.specs.Layout as layout
+use Rattle.machine_frames.specs.Layout.{Level, Frames, Labels}
+use Rattle.machine_frames.specs.Meets as moved
+use Rattle.machine_frames.specs.Meets.{Point, with_labels, step_at, Inner, Reads}
+use Rattle.machine_frames.proofs.Labels.{First, some_is, some_item, behind_basic}
+use Rattle.machine_frames.proofs.Points.{floor_at, LabelsAt, labels_are, first_at, moves}
 use Rattle.machine_steps.specs.declared.machine.Machine.{Machine}
 use Rattle.machine_steps.specs.declared.machine.Outcome.{Outcome}
 use Rattle.machine_steps.specs.declared.machine.Outcome.TheVariants.{Next, Ended, Trap, Import, NoMemory, Stuck}
 use Rattle.machine_steps.specs.Meets.{outcome_of, Shares, StandsFor, SameHost, Then, Left, Meets, MeetsAt, Here, config_at}
-use Rattle.basic_steps.specs.Keeps.{Keeps, EffectKeeps}
-use Rattle.basic_steps.proofs.Keeping.{operands_keep}
+use Rattle.machine_basics.specs.inner.Keeps.{Keeps, EffectKeeps}
+use Rattle.machine_basics.proofs.Keeping.{operands_keep}
 use Rattle.machine_steps.proofs.CutLaws.{cut_more}
 
 pub stuck_meets : (x : Point) (o : Outcome) (s : steps.Stepped) (m : Machine) → s ≡ steps.stuck → MeetsAt x o s m

@@ -1,3 +1,3 @@
 pub mod Prepares
 pub mod Meets
-pub mod Entries
+pub mod inner

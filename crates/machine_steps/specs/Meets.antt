@@ -10,13 +10,13 @@ use Rattle.wasm_syntax.specs.Module.{Program, imported, function_at}
 use Rattle.wasm_syntax.specs.Host.{World}
 use Rattle.wasm_syntax.specs.Machine as steps
 use Rattle.wasm_syntax.specs.Machine.{Engine, Label, Frame, Config}
-use Rattle.basic_steps.specs.Traps.{trap_code}
-use Rattle.basic_steps.specs.Performs.{Holds}
-use Rattle.flat_code.specs.declared.code.Code.{Code}
-use Rattle.frame_steps.specs.declared.layout.Stepped.{Stepped}
-use Rattle.frame_steps.specs.declared.layout.Stepped.TheVariants as stepped
-use Rattle.frame_steps.specs.Layout as layout
-use Rattle.frame_steps.specs.Meets.{Point, with_labels, call_at, Inner}
+use Rattle.machine_basics.specs.Traps.{trap_code}
+use Rattle.machine_basics.specs.Performs.{Holds}
+use Rattle.machine_code.specs.declared.code.Code.{Code}
+use Rattle.machine_frames.specs.declared.layout.Stepped.{Stepped}
+use Rattle.machine_frames.specs.declared.layout.Stepped.TheVariants as stepped
+use Rattle.machine_frames.specs.Layout as layout
+use Rattle.machine_frames.specs.Meets.{Point, with_labels, call_at, Inner}
 use Rattle.machine_steps.specs.declared.machine.Machine.{Machine}
 use Rattle.machine_steps.specs.declared.machine.ImportCall.{ImportCall}
 use Rattle.machine_steps.specs.declared.machine.Outcome.{Outcome}

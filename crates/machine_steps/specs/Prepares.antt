@@ -3,7 +3,7 @@ use Rattle.std.specs.Prelude.{◌≡◌, ◌==◌, ℕ, List, length, Some, slic
 use Rattle.wasm_syntax.specs.declared.module.ModuleParts.{ModuleParts as Module}
 use Rattle.wasm_syntax.specs.declared.parts.FuncType.{FuncType}
 use Rattle.wasm_syntax.specs.Module.{Program, type_at, same_functype}
-use Rattle.flat_code.specs.Code.{Prepares}
+use Rattle.machine_code.specs.Code.{Prepares}
 use Rattle.machine_steps.specs.declared.machine.Prepared.{Prepared}
 
 -- the number of a function, by which it is told whether it has a type

@@ -4,10 +4,10 @@ ghost use Rattle.std.specs.Prelude.{◌≡◌, ℕ, slice_get, Some};
 ghost use Rattle.wasm_syntax.specs.Machine.{Engine};
 ghost use Rattle.wasm_syntax.specs.Host.{World};
 ghost use Rattle.machine_steps.specs.Prepares.{Numbered};
-ghost use Rattle.machine_steps.specs.Entries.{EntryFits};
+ghost use Rattle.machine_steps.specs.inner.Entries.{EntryFits};
 
 use crate::machine::Prepared;
-use basic_steps::TrapKind;
+use machine_basics::TrapKind;
 use wasm_syntax::Items;
 
 /// What an entry of the table leads to.

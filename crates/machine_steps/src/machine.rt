@@ -3,9 +3,9 @@
 ghost use Rattle.std.specs.Prelude.{◌≡◌};
 ghost use Rattle.machine_steps.specs.Meets.{outcome_of};
 
-use basic_steps::{Shared, TrapKind};
-use flat_code::Code;
-use frame_steps::{CallStack, Stepped};
+use machine_basics::{Shared, TrapKind};
+use machine_code::Code;
+use machine_frames::{CallStack, Stepped};
 use wasm_syntax::Items;
 
 /// What the functions and types of a module are prepared to.

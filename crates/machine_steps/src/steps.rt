@@ -3,16 +3,16 @@
 ghost use Rattle.std.specs.Prelude.{◌≡◌, ◌+◌, ◌<◌, ◌^◌, IsSome, MatchOption, slice_get, Some, None};
 ghost use Rattle.wasm_syntax.specs.Tree.{Plain, Goes, Call, CallIndirect, item_of, jump_of};
 ghost use Rattle.wasm_syntax.specs.Machine.{Engine, Config, step};
-ghost use Rattle.flat_code.specs.declared.code.Code.{Code as FlatCode};
-ghost use Rattle.frame_steps.specs.Meets.{Point, Reads, CallPlace, step_at, call_at};
+ghost use Rattle.machine_code.specs.declared.code.Code.{Code as FlatCode};
+ghost use Rattle.machine_frames.specs.Meets.{Point, Reads, CallPlace, step_at, call_at};
 ghost use Rattle.machine_steps.specs.Prepares.{IsPrepared};
 ghost use Rattle.machine_steps.specs.Meets.{StandsFor, Here, Meets, MeetsAt};
 
 use crate::indirect::{Entry, resolve};
 use crate::machine::{ImportCall, Machine, Outcome, Prepared, of_frames};
-use basic_steps::{Performed, TrapKind, perform};
-use flat_code::Code;
-use frame_steps::{
+use machine_basics::{Performed, TrapKind, perform};
+use machine_code::Code;
+use machine_frames::{
     block, branch, branch_if, branch_table, call, call_under_index, else_, end, if_, leave, loop_,
 };
 use wasm_syntax::{Basic, Instr, Jump, Op, Value};

@@ -6,12 +6,12 @@ use Rattle.std.specs.declared.result.Result.{Result}
 use Rattle.wasm_syntax.specs.declared.value.ValType.{ValType}
 use Rattle.wasm_syntax.specs.declared.instruction.Basic.TheVariants.{LocalGet, GlobalGet}
 use Rattle.wasm_syntax.specs.Tree.{Br, Nodes, stop, basic, jump, choose}
-use Rattle.unwind_rewrite.specs.Numbering.{flag_of}
-use Rattle.unwind_rewrite.specs.Slots.{Place, Ctx, less, place_type, slot, result_at, kind_at, offset_at}
-use Rattle.unwind_rewrite.specs.Pieces.{get, set, const, i32, fetch, load}
-use Rattle.unwind_rewrite.specs.Rewrite.{Info, hand, hand_top, hand_value, hand_locals, to_exit, unwind, test_flag, tested}
-use Rattle.code_writing.specs.Writing.{Written, Behind, goes, Emits, EmitsLast, Opens, Closes}
-use Rattle.code_writing.proofs.Pieces.{emits_then, emits_last, emits_stop, emits_within}
+use Rattle.rewrite_bodies.specs.Numbering.{flag_of}
+use Rattle.rewrite_bodies.specs.Slots.{Place, Ctx, less, place_type, slot, result_at, kind_at, offset_at}
+use Rattle.rewrite_bodies.specs.Pieces.{get, set, const, i32, fetch, load}
+use Rattle.rewrite_bodies.specs.Rewrite.{Info, hand, hand_top, hand_value, hand_locals, to_exit, unwind, test_flag, tested}
+use Rattle.rewrite_code.specs.Writing.{Written, Behind, goes, Emits, EmitsLast, Opens, Closes}
+use Rattle.rewrite_code.proofs.Pieces.{emits_then, emits_last, emits_stop, emits_within}
 use Rattle.operand_spill.specs.declared.place.OperandPlace.{OperandPlace}
 use Rattle.operand_spill.specs.Places.{place, from_top}
 

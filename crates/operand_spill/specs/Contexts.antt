@@ -2,9 +2,9 @@
 use Rattle.std.specs.Prelude.{ℕ, ◌+◌, ◌*◌, ◌^◌, ◌<◌, List, length, Option}
 use Rattle.wasm_syntax.specs.declared.value.ValType.{ValType}
 use Rattle.wasm_syntax.specs.declared.module.ModuleParts.{ModuleParts as Module}
-use Rattle.unwind_rewrite.specs.Numbering.{helper_base}
-use Rattle.unwind_rewrite.specs.Slots.{Ctx}
-use Rattle.instrument.specs.Weight.{types_used}
+use Rattle.rewrite_bodies.specs.Numbering.{helper_base}
+use Rattle.rewrite_bodies.specs.Slots.{Ctx}
+use Rattle.rewrite_modules.specs.Weight.{types_used}
 
 -- a function of this module: the types of its locals, the number of heights, its index, and what it gives
 abbrev pub context : Module → List ValType → ℕ → ℕ → Option ValType → Ctx

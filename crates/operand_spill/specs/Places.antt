@@ -1,6 +1,6 @@
 -- Places of operands as they are kept.
 use Rattle.std.specs.Prelude.{List, map, reverse}
-use Rattle.unwind_rewrite.specs.Slots.{Place, Spilled, Known}
+use Rattle.rewrite_bodies.specs.Slots.{Place, Spilled, Known}
 use Rattle.operand_spill.specs.declared.place.OperandPlace.{OperandPlace}
 use Rattle.operand_spill.specs.declared.place.OperandPlace.TheVariants as kept
 

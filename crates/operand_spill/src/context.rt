@@ -3,17 +3,17 @@
 ghost use Rattle.std.specs.Prelude.{◌≡◌, ◌+◌, ◌*◌, ◌≤◌, OnOk};
 ghost use Rattle.wasm_syntax.specs.Tree.{basic};
 ghost use Rattle.wasm_syntax.specs.declared.instruction.Basic.TheVariants.{GlobalGet as GlobalGetOf};
-ghost use Rattle.unwind_rewrite.specs.Numbering.{flag_of};
-ghost use Rattle.unwind_rewrite.specs.Slots.{slot, result_at, kind_at, offset_at};
-ghost use Rattle.unwind_rewrite.specs.Pieces.{get, set};
-ghost use Rattle.unwind_rewrite.specs.Rewrite.{hand_value};
-ghost use Rattle.code_writing.specs.Writing.{Emits};
+ghost use Rattle.rewrite_bodies.specs.Numbering.{flag_of};
+ghost use Rattle.rewrite_bodies.specs.Slots.{slot, result_at, kind_at, offset_at};
+ghost use Rattle.rewrite_bodies.specs.Pieces.{get, set};
+ghost use Rattle.rewrite_bodies.specs.Rewrite.{hand_value};
+ghost use Rattle.rewrite_code.specs.Writing.{Emits};
 ghost use Rattle.operand_spill.specs.Contexts.{context, FewLocals};
 
 use crate::place::slot;
 use causes::NoMemory;
-use code_writing::CodeWriter;
 use index_map::IndexMap;
+use rewrite_code::CodeWriter;
 use std::marker::Model;
 use wasm_syntax::{Basic, Items, ValType};
 
@@ -28,7 +28,7 @@ pub struct FunctionContext<'m, 'a> {
 }
 
 impl<'m, 'a> Model for FunctionContext<'m, 'a> {
-    ghost use Rattle.unwind_rewrite.specs.Slots.{Ctx};
+    ghost use Rattle.rewrite_bodies.specs.Slots.{Ctx};
     ghost use Rattle.operand_spill.specs.Contexts.{context, FewLocals};
 
     ghost Value = { Ctx };

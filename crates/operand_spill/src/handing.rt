@@ -1,16 +1,16 @@
 //! Operands and locals are handed over to the collector.
 
 ghost use Rattle.std.specs.Prelude.{◌≤◌, length, OnOk};
-ghost use Rattle.unwind_rewrite.specs.Slots.{place_type};
-ghost use Rattle.unwind_rewrite.specs.Pieces.{fetch};
-ghost use Rattle.unwind_rewrite.specs.Rewrite.{hand, hand_locals, hand_top, hand_value};
-ghost use Rattle.code_writing.specs.Writing.{Emits};
+ghost use Rattle.rewrite_bodies.specs.Slots.{place_type};
+ghost use Rattle.rewrite_bodies.specs.Pieces.{fetch};
+ghost use Rattle.rewrite_bodies.specs.Rewrite.{hand, hand_locals, hand_top, hand_value};
+ghost use Rattle.rewrite_code.specs.Writing.{Emits};
 ghost use Rattle.operand_spill.specs.Places.{place};
 
 use crate::context::FunctionContext;
 use crate::place::{OperandPlace, OperandPlaces};
 use causes::NoMemory;
-use code_writing::CodeWriter;
+use rewrite_code::CodeWriter;
 use wasm_syntax::Basic;
 
 impl<'m, 'a> FunctionContext<'m, 'a> {

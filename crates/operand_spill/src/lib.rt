@@ -6,8 +6,6 @@ mod context;
 mod handing;
 mod moves;
 mod place;
-#[cfg(test)]
-mod tests;
 mod unwinding;
 
 pub use causes::NoMemory;

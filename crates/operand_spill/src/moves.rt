@@ -1,15 +1,15 @@
 //! Operands go from their slots to the stack, and results to slots and result locals.
 
 ghost use Rattle.std.specs.Prelude.{◌≡◌, ◌≤◌, List, length, OnOk};
-ghost use Rattle.unwind_rewrite.specs.Slots.{Place as PlaceOf, slot, result_at};
-ghost use Rattle.unwind_rewrite.specs.Pieces.{get, set, fetch, load, store, to_result, from_result};
-ghost use Rattle.code_writing.specs.Writing.{Emits};
+ghost use Rattle.rewrite_bodies.specs.Slots.{Place as PlaceOf, slot, result_at};
+ghost use Rattle.rewrite_bodies.specs.Pieces.{get, set, fetch, load, store, to_result, from_result};
+ghost use Rattle.rewrite_code.specs.Writing.{Emits};
 ghost use Rattle.operand_spill.specs.Places.{place};
 
 use crate::context::FunctionContext;
 use crate::place::{OperandPlace, OperandPlaces};
 use causes::NoMemory;
-use code_writing::CodeWriter;
+use rewrite_code::CodeWriter;
 use wasm_syntax::ValType;
 
 impl<'m, 'a> FunctionContext<'m, 'a> {

@@ -1,8 +1,8 @@
 //! Where operands are.
 
 ghost use Rattle.std.specs.Prelude.{◌≡◌, ◌+◌, ◌*◌, ◌^◌, ◌<◌, [], ◌∷◌, length, slice_get, option_map, OnOk, OnErr, MatchOption};
-ghost use Rattle.unwind_rewrite.specs.Numbering.{type_number};
-ghost use Rattle.unwind_rewrite.specs.Slots.{place_type, slot, less, grown};
+ghost use Rattle.rewrite_bodies.specs.Numbering.{type_number};
+ghost use Rattle.rewrite_bodies.specs.Slots.{place_type, slot, less, grown};
 ghost use Rattle.operand_spill.specs.Places.{place, from_top};
 
 use causes::NoMemory;
@@ -55,7 +55,7 @@ pub struct OperandPlaces {
 
 impl Model for OperandPlaces {
     ghost use Rattle.std.specs.Prelude.{List};
-    ghost use Rattle.unwind_rewrite.specs.Slots.{Place};
+    ghost use Rattle.rewrite_bodies.specs.Slots.{Place};
     ghost use Rattle.operand_spill.specs.Places.{from_top};
 
     ghost Value = { List Place };

@@ -1,15 +1,15 @@
 //! Code that goes to the exit of the function where an instruction traps, or where a call came back with the flag up.
 
 ghost use Rattle.std.specs.Prelude.{◌≡◌, ◌+◌, ◌^◌, ◌<◌, ◌≤◌, List, length, OnOk};
-ghost use Rattle.unwind_rewrite.specs.Slots.{kind_at};
-ghost use Rattle.unwind_rewrite.specs.Pieces.{const, i32, set};
-ghost use Rattle.unwind_rewrite.specs.Rewrite.{Info, to_exit, unwind, test_flag, tested};
-ghost use Rattle.code_writing.specs.Writing.{Emits, EmitsLast};
+ghost use Rattle.rewrite_bodies.specs.Slots.{kind_at};
+ghost use Rattle.rewrite_bodies.specs.Pieces.{const, i32, set};
+ghost use Rattle.rewrite_bodies.specs.Rewrite.{Info, to_exit, unwind, test_flag, tested};
+ghost use Rattle.rewrite_code.specs.Writing.{Emits, EmitsLast};
 
 use crate::context::FunctionContext;
 use crate::place::OperandPlaces;
 use causes::NoMemory;
-use code_writing::CodeWriter;
+use rewrite_code::CodeWriter;
 use wasm_syntax::Value;
 
 /// The branch to the exit, out of so many open labels.

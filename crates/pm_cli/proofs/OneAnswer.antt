@@ -4,7 +4,7 @@ use Rattle.wasm_syntax.specs.declared.quantity.Quantity.TheVariants.{ModuleBytes
 use Rattle.wasm_syntax.specs.declared.host.Served.{Served}
 use Rattle.pm_outside.specs.Contents.{Contents}
 use Rattle.wasm_decode.specs.Decode.{module_from}
-use Rattle.device_set.specs.Sets.{DeviceState}
+use Rattle.host_set.specs.Sets.{DeviceState}
 use Rattle.command_answers.specs.Inputs.{input_of}
 use Rattle.command_answers.specs.Loading.{IfLoaded}
 use Rattle.command_answers.specs.declared.outcome.Outcome.{Outcome}

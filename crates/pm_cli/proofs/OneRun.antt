@@ -11,8 +11,8 @@ use Rattle.wasm_syntax.specs.Module.{Program, IsProgram, AllWrite}
 use Rattle.wasm_syntax.specs.Run.{Ran, run}
 use Rattle.wasm_laws.proofs.Unique.{one_tree}
 use Rattle.wasm_decode.specs.Decode.{module_from}
-use Rattle.host_runs.specs.Hosted.{replies_of}
-use Rattle.device_set.specs.Sets.{DeviceState, names}
+use Rattle.host_devices.specs.Given.{replies_of}
+use Rattle.host_set.specs.Sets.{DeviceState, names}
 use Rattle.command_answers.specs.Inputs.{input_of, Then}
 use Rattle.command_answers.specs.Loading.{IfLoaded}
 use Rattle.command_answers.specs.declared.outcome.Outcome.{Outcome}

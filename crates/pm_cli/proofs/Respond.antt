@@ -3,7 +3,7 @@ use Rattle.std.proofs.Common.{◌≡◌, ℕ, List, [], Option, Some, None, Resu
 use Rattle.std.specs.Prelude.{IfSome, IfOk}
 use Rattle.pm_outside.specs.Contents.{Contents}
 use Rattle.wasm_syntax.specs.declared.host.Served.{Served}
-use Rattle.device_set.specs.Sets.{DeviceState}
+use Rattle.host_set.specs.Sets.{DeviceState}
 use Rattle.command_answers.specs.Texts.{usage}
 use Rattle.command_answers.specs.Told.{UnlessFault}
 use Rattle.command_answers.specs.declared.outcome.Outcome.{Outcome}

@@ -11,7 +11,7 @@ use Rattle.dump_format.specs.Part.{part_name}
 use Rattle.wasm_syntax.specs.declared.module.ModuleParts.{ModuleParts as Module}
 use Rattle.wasm_decode.specs.Decode.{module_from}
 use Rattle.wasm_syntax.specs.declared.host.Served.{Served}
-use Rattle.device_set.specs.Sets.{DeviceState}
+use Rattle.host_set.specs.Sets.{DeviceState}
 use Rattle.run_session.specs.Written.{Writes, HoldThen}
 use Rattle.run_command.specs.RunAnswer.{RunAnswer, IsUntouched}
 use Rattle.pm_cli.specs.Check.{counted}

@@ -1,7 +1,7 @@
 -- What a list of words leaves where it has no answer.
 use Rattle.std.specs.Prelude.{ℕ, List, Option, Some, None}
 use Rattle.pm_outside.specs.Contents.{Contents}
-use Rattle.device_set.specs.Sets.{DeviceState}
+use Rattle.host_set.specs.Sets.{DeviceState}
 use Rattle.run_session.specs.Stop.{Stop}
 use Rattle.run_command.specs.Stops.{IsUnchanged, RunStops}
 use Rattle.pm_cli.specs.Words.{command}

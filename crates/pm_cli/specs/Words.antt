@@ -2,7 +2,7 @@
 use Rattle.std.specs.Prelude.{◌<◌, List, length, [], ◌∷◌, Option, Some, None, if◌then◌else◌, codes, option_and_then}
 use Rattle.std.specs.Option.{option_map}
 use Rattle.std.specs.Str.{bytes_eq}
-use Rattle.word_rules.specs.Reading.{Word, no_options, read_words}
+use Rattle.command_words.specs.Reading.{Word, no_options, read_words}
 use Rattle.pm_cli.specs.declared.words.Command.{Command}
 use Rattle.run_words.specs.RunWords.{run_words}
 use Rattle.pm_cli.specs.declared.words.Command.TheVariants.{Check, Run, Show}

@@ -3,7 +3,7 @@
 ghost use Rattle.std.specs.Prelude.{◌≡◌, ◌≢◌, ◌≤◌, map, is_some, IfOk, IfSome};
 ghost use Rattle.std.specs.String.{string_bytes};
 ghost use Rattle.causes.specs.Counts.{Rose};
-ghost use Rattle.device_set.specs.Sets.{AreDistinct, names};
+ghost use Rattle.host_set.specs.Sets.{AreDistinct, names};
 ghost use Rattle.pm_cli.specs.Answer.{IsAnswer, Answered};
 ghost use Rattle.command_answers.specs.Told.{UnlessFault};
 ghost use Rattle.pm_cli.specs.FaultText.{IsFaultText};
@@ -16,11 +16,11 @@ use crate::showing::show_file;
 use crate::words::{Command, parse_words};
 use causes::NoMemory;
 use command_answers::{Outcome, Status, plain};
-use device_set::Devices;
+use command_words::WordsFault;
+use host_set::Devices;
 use pm_outside::Files;
 use run_command::run_file;
 use std::alloc::Global;
-use word_rules::WordsFault;
 
 /// What the words get.
 #[tactic(auto, unfolding(crate::specs::Answer::IsAnswer))]

@@ -3,7 +3,7 @@
 ghost use Rattle.std.specs.Prelude.{◌≡◌, ℕ, List};
 ghost use Rattle.pm_outside.specs.Contents.{Contents};
 ghost use Rattle.wasm_syntax.specs.declared.host.Served.{Served};
-ghost use Rattle.device_set.specs.Sets.{DeviceState};
+ghost use Rattle.host_set.specs.Sets.{DeviceState};
 ghost use Rattle.run_session.specs.Written.{Writes};
 ghost use Rattle.pm_cli.specs.Answer.{IsAnswer};
 ghost use Rattle.command_answers.specs.declared.outcome.Outcome.{Outcome};

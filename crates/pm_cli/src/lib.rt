@@ -10,7 +10,7 @@ mod top;
 mod words;
 
 pub use command_answers::Status;
+pub use command_words::WordsFault;
 pub use laws::one_answer;
 pub use top::post_mortem;
-pub use word_rules::WordsFault;
 pub use words::{Command, parse_words};

@@ -3,7 +3,7 @@
 ghost use Rattle.std.specs.Prelude.{◌≡◌, ◌≤◌, ◌⊎◌, ◌++◌, List, ℕ, map, Some, IfSome, is_some};
 ghost use Rattle.std.specs.String.{string_bytes};
 ghost use Rattle.causes.specs.Counts.{Rose};
-ghost use Rattle.device_set.specs.Sets.{AreDistinct, names};
+ghost use Rattle.host_set.specs.Sets.{AreDistinct, names};
 ghost use Rattle.pm_cli.specs.Answer.{Answered};
 ghost use Rattle.command_answers.specs.declared.outcome.Outcome.{Outcome as OutcomeThere};
 ghost use Rattle.command_answers.specs.Told.{UnlessFault, Takes, HasTakenFront};
@@ -14,7 +14,7 @@ ghost use Rattle.run_session.specs.Stop.{no_memory, file_failed};
 
 use crate::command::respond;
 use command_answers::{Outcome, Status};
-use device_set::Devices;
+use host_set::Devices;
 use pm_outside::{Files, PutAnswer, Sink};
 use std::alloc::Global;
 

@@ -4,10 +4,10 @@ ghost use Rattle.std.specs.Prelude.{◌≡◌, map, None, Some, IfOk};
 ghost use Rattle.std.specs.String.{string_bytes};
 ghost use Rattle.pm_cli.specs.Words.{one_word, command, HasInvocations};
 
+use command_words::{Options, WordsFault, read_words};
 use pm_text::Text;
 use run_words::{RunWords, run_words};
 use std::alloc::Global;
-use word_rules::{Options, WordsFault, read_words};
 
 /// A command with its words.
 #[derive(Drop)]

@@ -2,8 +2,8 @@
 #![tactic(auto)]
 
 use causes::NoMemory;
-use device_set::DeviceSet;
 use host_devices::{Console, Counter};
+use host_set::DeviceSet;
 use pm_cli::{Status, post_mortem};
 use pm_outside::{HostFiles, HostOut};
 use std::process::ExitCode;

@@ -6,7 +6,7 @@ use Rattle.std.proofs.lemmas.Str.{IsCharBoundary-from_take, IsUtf8-string_bytes}
 use Rattle.std.specs.declared.string.String.{String}
 use Rattle.std.specs.String.{string_bytes, string_len}
 use Rattle.std.specs.String.Boundary.{IsSplitPoint}
-use Rattle.pm_text.specs.Extends.{Extends}
+use Rattle.pm_text.specs.inner.Extends.{Extends}
 
 cut_back : (old new : List ℕ) (n : ℕ) → n ≡ length old → Extends old new → take n new ≡ old
 cut_back old new n e (rest, f) = ap (λ k. take k new) e ∙ ap (take (length old)) f ∙ take-append_seam old rest

@@ -1,4 +1,4 @@
-pub mod Extends
 pub mod Hex
 pub mod Names
 pub mod Numbers
+pub mod inner

@@ -3,7 +3,7 @@
 ghost use Rattle.std.specs.Prelude.{◌≡◌, ◌<◌, ◌≤◌, ◌+◌, ◌/◌, ◌++◌, ◌∷◌, length, replicate, false, OnOk};
 ghost use Rattle.std.specs.Fmt.{digits};
 ghost use Rattle.std.specs.String.{string_bytes};
-ghost use Rattle.pm_text.specs.Extends.{Extends};
+ghost use Rattle.pm_text.specs.inner.Extends.{Extends};
 ghost use Rattle.pm_text.specs.Hex.{hex_digit, hex_byte, hex_padded};
 
 use std::alloc::AllocError;

@@ -11,6 +11,3 @@ pub use causes::NoMemory;
 pub use items::{Bytes, Items, Texts};
 pub use numbers::{Number, read_decimal, read_value};
 pub use text::Text;
-
-#[cfg(test)]
-mod tests;

@@ -3,7 +3,7 @@
 ghost use Rattle.std.specs.Prelude.{◌≡◌, ◌<◌, ◌++◌, OnOk, encode_utf8};
 ghost use Rattle.std.specs.List.{flat_map};
 ghost use Rattle.std.specs.String.{string_bytes};
-ghost use Rattle.pm_text.specs.Extends.{Extends};
+ghost use Rattle.pm_text.specs.inner.Extends.{Extends};
 ghost use Rattle.pm_text.specs.Names.{marked_byte, outside_text, name_bytes, plain, quoted};
 
 use crate::hex;

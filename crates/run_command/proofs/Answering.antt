@@ -13,10 +13,10 @@ use Rattle.wasm_syntax.specs.declared.module.ModuleParts.{ModuleParts as Module}
 use Rattle.wasm_syntax.specs.Module.{Program, IsProgram, function_export}
 use Rattle.wasm_syntax.specs.Run.{Cause, no_export, bad_arguments, element_out, data_out, cause_of_entry, cause_of_segments, cause_of, or_else, Invocation, Outcome as RunOutcome, not_started, finished, trapped, lacks_reply, misfits, running, got_stuck, Ran, session, start_world, unless, run, engine}
 use Rattle.host_devices.specs.HostSides.{Calls}
-use Rattle.host_runs.specs.Hosted.{replies_of}
-use Rattle.entry_runs.specs.Settings.{world_of}
-use Rattle.entry_runs.specs.Invocations.{unfitting}
-use Rattle.device_set.specs.Sets.{DeviceState, names, count_of, is_named}
+use Rattle.host_devices.specs.Given.{replies_of}
+use Rattle.machine_hosted.specs.Settings.{world_of}
+use Rattle.host_devices.specs.Given.{unfitting}
+use Rattle.host_set.specs.Sets.{DeviceState, names, count_of, is_named}
 use Rattle.wasm_machine.specs.Instances.{State, IsNew}
 use Rattle.run_words.specs.declared.words.RunWords.{RunWords}
 use Rattle.command_answers.specs.Texts.{ended}
@@ -24,10 +24,10 @@ use Rattle.command_answers.specs.declared.outcome.Outcome.{Outcome}
 use Rattle.run_session.specs.RunText.{invocation_text, traps_in, fitted}
 use Rattle.run_session.specs.Given.{module_name, module_of}
 use Rattle.run_session.specs.Invocations.{invocation_of}
-use Rattle.run_session.specs.Answers.{device_cause, misfit_cause}
+use Rattle.run_session.specs.inner.Answers.{device_cause, misfit_cause}
 use Rattle.run_session.specs.Ending.{host_stopped, end_status}
-use Rattle.run_session.specs.Progress.{session_from}
-use Rattle.run_session.specs.Sessions.{point_of, EndsIn, RanAll}
+use Rattle.run_session.specs.inner.Progress.{session_from}
+use Rattle.run_session.specs.inner.Sessions.{point_of, EndsIn, RanAll}
 use Rattle.run_command.specs.Starting.{or_text, cause_text, entries_text}
 use Rattle.run_command.specs.Hosting.{Hosting, scripted}
 use Rattle.run_command.specs.AllRan.{end_text, ran_to_end}
@@ -69,7 +69,7 @@ line_is names p imports used_up left counts now given n due (lacks_reply call) l
     let named : is_named names (module_of imports call.import) ≡ false = ap (λ m. is_named names m) (ap (λ l. module_of l call.import) is ∙ module_is p.module_.imports call.import i there) ∙ (facts.used i up).0 in
     e ∙ ap (λ k. host_stopped (codes "no reply for call " ++ decimal k)) (same_count given n count)
     ∙ sym (ap (λ b. host_stopped (if b then codes "device " ++ quoted (module_of imports call.import) else codes "no reply for call " ++ decimal n)) named)
-line_is names p imports used_up left counts now given n due (lacks_reply call) line is facts count (inr (device, (i, there, name), rose, e)) =
+line_is names p imports used_up left counts now given n due (lacks_reply call) line is facts count (inr (device, (i, there, name, some_left), rose, e)) =
     let same : module_of imports call.import ≡ device = ap (λ l. module_of l call.import) is ∙ module_is p.module_.imports call.import i there ∙ sym name in
     let named : is_named names (module_of imports call.import) ≡ true = ap (λ m. is_named names m) same ∙ facts.failed device rose in
     e ∙ ap (λ d. host_stopped (device_cause d)) (sym same)
@@ -84,7 +84,7 @@ line_is names p imports used_up left counts now given n due got_stuck line is fa
 -- no reply is left, where the script has none for a call
 uses_up : (h : Hosting) (p : Program) (m : Module) (used_up : Import → Bool) (left : List Reply) (counts now : List ℕ → ℕ) (given due : ℕ) (o : RunOutcome) (line : List ℕ) → p.module_ ≡ m → HostFacts h.names used_up left counts now → EndsIn p used_up counts now given due o line → UsesUp h m left o
 uses_up h p m used_up left counts now given due (lacks_reply call) line is facts (inl ((i, there, up), e)) = λ none. (facts.used i up).1
-uses_up h p m used_up left counts now given due (lacks_reply call) line is facts (inr (device, (i, there, name), rose, e)) = λ none.
+uses_up h p m used_up left counts now given due (lacks_reply call) line is facts (inr (device, (i, there, name, some_left), rose, e)) = λ none.
     let named : is_named h.names (module_of m.imports call.import) ≡ true = ap (λ n. is_named h.names n) (ap (λ (x : Module). module_of x.imports call.import) (sym is) ∙ module_is p.module_.imports call.import i there ∙ sym name) ∙ facts.failed device rose in
     let clash : true ≡ false = sym named ∙ none in
     absurd cc
@@ -101,7 +101,7 @@ has_failed before after p m used_up left counts now given due (lacks_reply call)
     let named : is_named (names before) (module_of m.imports call.import) ≡ false = ap (λ n. is_named (names before) n) (ap (λ (x : Module). module_of x.imports call.import) (sym is) ∙ module_is p.module_.imports call.import i there) ∙ (facts.used i up).0 in
     let clash : true ≡ false = sym some ∙ named in
     absurd cc
-has_failed before after p m used_up left counts now given due (lacks_reply call) line is facts counted (inr (device, (i, there, name), rose, e)) = λ some.
+has_failed before after p m used_up left counts now given due (lacks_reply call) line is facts counted (inr (device, (i, there, name, some_left), rose, e)) = λ some.
     let same : device ≡ module_of m.imports call.import = name ∙ sym (module_is p.module_.imports call.import i there) ∙ ap (λ (x : Module). module_of x.imports call.import) is in
     subst (λ d. Rose (count_of before d) (count_of after d)) same (counted device rose)
 has_failed before after p m used_up left counts now given due (misfits call reply) line is facts counted ends = tt

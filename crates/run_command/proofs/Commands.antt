@@ -13,7 +13,7 @@ use Rattle.wasm_syntax.specs.Valid.{Valid}
 use Rattle.wasm_validate.specs.Heights.{AllLow}
 use Rattle.wasm_decode.specs.Decode.{module_from}
 use Rattle.wasm_decode.specs.declared.fault.DecodeFault.{DecodeFault}
-use Rattle.device_set.specs.Sets.{DeviceState}
+use Rattle.host_set.specs.Sets.{DeviceState}
 use Rattle.run_words.specs.declared.words.RunWords.{RunWords}
 use Rattle.command_answers.specs.Inputs.{input_of, Then}
 use Rattle.causes.specs.Counts.{Rose}
@@ -35,9 +35,9 @@ use Rattle.run_command.specs.declared.scripts.Script.{Script}
 use Rattle.run_command.specs.declared.scripts.Script.TheVariants.{Bad}
 use Rattle.run_command.specs.declared.scripts.Asked.{Asked}
 use Rattle.run_command.specs.declared.scripts.Asked.TheVariants.{Read, Refused}
-use Rattle.run_command.specs.Steps.{IsAnswered}
+use Rattle.run_command.specs.inner.Steps.{IsAnswered}
 use Rattle.run_command.specs.RunAnswer.{ModuleAnswer, bad_replies, script_of, replies_input, RunAnswer}
-use Rattle.run_command.specs.Scripts.{script_result, IsAsked, ScriptAnswer, BytesAnswer, SourceAnswer, IsFaultOf}
+use Rattle.run_command.specs.inner.Scripts.{script_result, IsAsked, ScriptAnswer, BytesAnswer, SourceAnswer, IsFaultOf}
 use Rattle.run_command.proofs.Refusals.{unless, OnAnswer, on_answer, holds, carried, refused}
 
 -- ---- results

@@ -9,11 +9,11 @@ use Rattle.wasm_syntax.specs.declared.host.Reply.{Reply}
 use Rattle.wasm_syntax.specs.declared.host.Served.{Served}
 use Rattle.wasm_syntax.specs.declared.module.ModuleParts.{ModuleParts as Module}
 use Rattle.host_devices.specs.HostSides.{Origin}
-use Rattle.host_runs.specs.Hosted.{replies_of}
-use Rattle.device_set.specs.Sets.{DeviceState, names, is_named, IsPlace, count_of, log_of}
-use Rattle.device_set.specs.Hosting.{HostsState, module_name as name_in, with_module, of_module, of_script, logs_before, log_named, origin_of, calls_of, is_used_up, replies_of as replies_in}
-use Rattle.device_set.proofs.Sets.{named_at}
-use Rattle.device_set.proofs.Names.{swapped, neither}
+use Rattle.host_devices.specs.Given.{replies_of}
+use Rattle.host_set.specs.Sets.{DeviceState, names, is_named, IsPlace, count_of, log_of}
+use Rattle.host_set.specs.Hosting.{HostsState, module_name as name_in, with_module, of_module, of_script, logs_before, log_named, origin_of, calls_of, is_used_up, replies_of as replies_in}
+use Rattle.host_set.proofs.Sets.{named_at}
+use Rattle.host_set.proofs.Names.{swapped, neither}
 use Rattle.run_session.specs.Given.{module_name, module_of, from_module}
 use Rattle.run_command.specs.Hosting.{scripted, is_served}
 use Rattle.run_command.specs.RunAnswer.{Logs, hosting, script_replies}
@@ -86,6 +86,17 @@ pub record Began (imports : List Import) (before : List DeviceState) (script : O
   pub script_is : h.script ≡ script
   pub none_served : h.served ≡ []
   pub logs_are : (name : List ℕ) → log_named (logs_before h) name ≡ log_of before name
+
+-- it was made so
+pub began_so : (imports lent : List Import) (before set : List DeviceState) (script : Option (List Reply)) (h : HostsState) → h ≡ record { imports = lent; devices = set; script = script; given = 0; served = [] }
+    → ((name : List ℕ) → log_named (logs_before h) name ≡ log_of set name) → lent ≡ imports → set ≡ before → Began imports before script h
+began_so imports lent before set script h is logs same_imports same_set = record {
+  imports_are = ap (λ (x : HostsState). x.imports) is ∙ same_imports;
+  devices_are = ap (λ (x : HostsState). x.devices) is ∙ same_set;
+  script_is = ap (λ (x : HostsState). x.script) is;
+  none_served = ap (λ (x : HostsState). x.served) is;
+  logs_are = λ name. logs name ∙ ap (λ ds. log_of ds name) same_set;
+}
 
 -- the devices were given back
 pub record GaveBack (h : HostsState) (after : List DeviceState) : Type 0 where

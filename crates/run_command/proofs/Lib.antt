@@ -1,6 +1,7 @@
 mod Answering
 mod Hostings
 mod Valid
+mod Beginning
 mod Entries
 pub mod OneWritten
 mod Refusals

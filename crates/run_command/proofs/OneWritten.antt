@@ -9,7 +9,7 @@ use Rattle.wasm_syntax.specs.declared.host.Reply.{Reply}
 use Rattle.wasm_syntax.specs.declared.module.ModuleParts.{ModuleParts as Module}
 use Rattle.wasm_decode.specs.declared.fault.DecodeFault.{DecodeFault}
 use Rattle.wasm_decode.specs.declared.fault.DecodeFault.TheVariants.{NoMemory, Malformed, Float, ImportKind, Limit}
-use Rattle.replies_file.specs.Replies.{file_replies}
+use Rattle.host_replies.specs.Replies.{file_replies}
 use Rattle.command_answers.specs.Inputs.{input_of, Then}
 use Rattle.command_answers.specs.Loading.{IfLoaded, undecoded}
 use Rattle.command_answers.specs.Refusal.{IsRefusal, IfValid}

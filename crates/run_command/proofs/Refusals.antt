@@ -3,13 +3,13 @@ use Rattle.std.proofs.Common.{◌≡◌, List, [], refl, sym, ap, subst, Option,
 use Rattle.std.specs.Prelude.{IfSome, IfOk, unwrap_or}
 use Rattle.pm_outside.specs.Contents.{Contents}
 use Rattle.wasm_syntax.specs.declared.host.Served.{Served}
-use Rattle.device_set.specs.Sets.{DeviceState}
+use Rattle.host_set.specs.Sets.{DeviceState}
 use Rattle.command_answers.specs.Told.{UnlessFault}
 use Rattle.command_answers.specs.declared.outcome.Outcome.{Outcome}
 use Rattle.command_answers.specs.declared.status.Status.{Status}
 use Rattle.command_answers.specs.declared.status.Status.TheVariants as status
 use Rattle.run_session.specs.Written.{Writes}
-use Rattle.run_command.specs.Steps.{IsAnswered}
+use Rattle.run_command.specs.inner.Steps.{IsAnswered}
 use Rattle.run_command.specs.RunAnswer.{IfRefusal, IsUntouched}
 
 -- ---- statuses

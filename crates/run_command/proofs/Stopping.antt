@@ -9,12 +9,11 @@ use Rattle.wasm_syntax.specs.declared.quantity.Quantity.TheVariants.{ModuleBytes
 use Rattle.wasm_syntax.specs.Valid.{Valid}
 use Rattle.wasm_syntax.specs.Module.{Program, IsProgram, IsModule, function_export}
 use Rattle.wasm_syntax.specs.Run.{Invocation, cause_of_entry, cause_of_segments, Ran, engine}
-use Rattle.trap_image.specs.Pictured.{FewFunctions}
 use Rattle.wasm_decode.specs.Decode.{module_from}
 use Rattle.wasm_validate.specs.Heights.{AllLow}
-use Rattle.wasm_machine.specs.Instances.{State, IsNew}
-use Rattle.device_set.specs.Sets.{DeviceState}
-use Rattle.device_set.specs.Hosting.{HostsState, origin_of, calls_of}
+use Rattle.wasm_machine.specs.Instances.{State, IsNew, IsOf}
+use Rattle.host_set.specs.Sets.{DeviceState}
+use Rattle.host_set.specs.Hosting.{HostsState, origin_of, calls_of, serves}
 use Rattle.command_answers.specs.Inputs.{input_of}
 use Rattle.command_answers.specs.Loaded.{IsLoaded}
 use Rattle.command_answers.specs.declared.outcome.Outcome.{Outcome}
@@ -23,20 +22,22 @@ use Rattle.command_answers.specs.declared.loading.Loaded.TheVariants.{Valid as I
 use Rattle.run_words.specs.declared.words.RunWords.{RunWords}
 use Rattle.run_session.specs.Invocations.{invocation_of}
 use Rattle.run_session.specs.Stop.{Stop, no_memory, file_failed, OnStop}
-use Rattle.run_session.specs.Sessions.{point_of, WasStopped, StopsIn}
+use Rattle.run_session.specs.inner.Sessions.{point_of, WasStopped, StopsIn}
 use Rattle.run_command.specs.Starting.{cause_text, entries_text, or_text}
 use Rattle.run_command.specs.Hosting.{start_text}
 use Rattle.run_command.specs.RunAnswer.{hosting, script_replies, replies_input, script_of}
-use Rattle.run_command.specs.Scripts.{script_result, IsAsked}
+use Rattle.run_command.specs.inner.Scripts.{script_result, IsAsked}
 use Rattle.run_command.specs.Stops.{RunsFor, StopsRun, IsUnchanged, ModuleStops, ScriptStops, BytesStops, SourceStops, FileStops, RunStops}
 use Rattle.run_command.specs.declared.scripts.Script.{Script}
 use Rattle.run_command.specs.declared.scripts.Script.TheVariants.{Whole}
 use Rattle.run_command.specs.declared.scripts.Asked.{Asked}
 use Rattle.run_command.specs.declared.scripts.Asked.TheVariants.{Read}
 use Rattle.run_command.proofs.Answering.{none_then, is_run}
+use Rattle.run_command.specs.inner.Begun.{HasBegun}
+use Rattle.run_command.specs.declared.running.Begun.TheVariants.{Ready}
+use Rattle.run_command.proofs.Beginning.{none_starts, starts_alike}
 use Rattle.run_command.proofs.Hostings.{Began, GaveBack, by_script, logs}
 use Rattle.run_command.proofs.Refusals.{holds}
-use Rattle.run_command.proofs.Valid.{early, none_early, starts_by_segments}
 
 -- ---- facts on results
 
@@ -125,13 +126,13 @@ stops_with p result before after script w s h0 h1 (Some held) (Some then_held) o
     (λ stop y. runs_stop before after script w s h0 h1 held then_held new segments began same back p stop of_module writes_out entries y) x
 
 pub hosted_stops : (result : Result Outcome WantOfMemory) (before after : List DeviceState) (script : Option (List Reply)) (w : RunWords) (s : State) (h0 h1 : HostsState) (told told' : Option Contents)
-    → IsModule s.module_ → FewFunctions s.module_ → IsNew s.module_ s → entries_text s.module_ (map invocation_of w.invocations) ≡ None → cause_of_segments s.module_ ≡ None
+    → IsModule s.module_ → IsNew s.module_ s → entries_text s.module_ (map invocation_of w.invocations) ≡ None → cause_of_segments s.module_ ≡ None
     → Began s.module_.imports before script h0 → origin_of h1 ≡ origin_of h0 → GaveBack h1 after
-    → ((p : Program) → p.module_ ≡ s.module_ → IsProgram p → FewFunctions p.module_ → OnStop (StopsSo p w s h0 h1 told told') result)
+    → ((p : Program) → IsOf s p → OnStop (StopsSo p w s h0 h1 told told') result)
     → StopsTold (λ stop held then_held. StopsRun stop w s.module_ script before after held then_held) told told' result
-hosted_stops result before after script w s h0 h1 told told' whole few new entries segments began same back x =
+hosted_stops result before after script w s h0 h1 told told' whole new entries segments began same back x =
     let p : Program = record { module_ = s.module_; trees = whole.trees } in
-    stops_with p result before after script w s h0 h1 told told' refl whole.write new entries segments began same back (x p refl whole.write few)
+    stops_with p result before after script w s h0 h1 told told' refl whole.write new entries segments began same back (x p (record { of_module = refl; writes_out = whole.write }))
 
 -- ---- the steps of the command, from the last to the first
 
@@ -153,16 +154,34 @@ reached before after P Q told mid told' result same go x =
     either stop held is then_held (inl u) = inl u
     either stop held is then_held (inr y) = inr (go held is then_held stop y)
 
+-- nothing was run, and the devices were given back
+pub not_begun : (P : (before after : List DeviceState) → Stop → Contents → Contents → Type 0) (before after given : List DeviceState) (told : Option Contents) (result : Result Outcome WantOfMemory) → after ≡ given → given ≡ before
+    → StopsTold (StepStops before after (P before after)) told told result
+not_begun P before after given told result back began =
+    subst (λ ds. StopsTold (StepStops before ds (P before ds)) told told result) (sym (back ∙ began)) (not_reached (P before before) before told told result refl)
+
 module _ (before after : List DeviceState) (w : RunWords) (result : Result Outcome WantOfMemory) where
-  pub valid_stops : (script : Option (List Reply)) (n m : Module) (s : State) (told told' : Option Contents) (t : Option (List ℕ))
-      → n ≡ m → t ≡ early before script w n → t ≡ None → cause_of_segments m ≡ None → IsNew m s
+  pub valid_stops : (script : Option (List Reply)) (m : Module) (s : State) (told told' : Option Contents)
+      → start_text (hosting before script) m (map invocation_of w.invocations) ≡ None → s.module_ ≡ m
       → StopsTold (λ stop held then_held. StopsRun stop w s.module_ script before after held then_held) told told' result
       → StopsTold (StepStops before after (λ stop held then_held. ModuleStops stop w m script before after held then_held)) told told' result
-  valid_stops script n m s told told' t same is none segments new x =
-      let k = none_early m w (hosting before script) (sym (is ∙ ap (λ (x : Module). early before script w x) same) ∙ none) in
-      let starts = starts_by_segments (hosting before script) m w k.0 k.1 ∙ ap (λ c. cause_text [] c) segments in
+  valid_stops script m s told told' starts same x =
       map_told (λ stop held then_held. StopsRun stop w s.module_ script before after held then_held) (StepStops before after (λ stop held then_held. ModuleStops stop w m script before after held then_held)) told told told' result refl
-      (λ held told_is then_held stop y. inr (starts, subst (λ (x : Module). StopsRun stop w x script before after held then_held) new.module_is y)) x
+      (λ held told_is then_held stop y. inr (starts, subst (λ (x : Module). StopsRun stop w x script before after held then_held) same y)) x
+
+  -- a new instance was made, and the invocations were run on it
+  pub ready_stops : (script : Option (List Reply)) (m : Module) (s : State) (h0 h1 : HostsState) (told told' : Option Contents)
+      → IsModule m → Valid m → HasBegun (λ i type. serves h0 i) m (map invocation_of w.invocations) (Ready s)
+      → Began m.imports before script h0 → origin_of h1 ≡ origin_of h0 → GaveBack h1 after
+      → ((p : Program) → IsOf s p → OnStop (StopsSo p w s h0 h1 told told') result)
+      → StopsTold (StepStops before after (λ stop held then_held. ModuleStops stop w m script before after held then_held)) told told' result
+  ready_stops script m s h0 h1 told told' whole valid (starts, segments, new) began same back x =
+      let is = map invocation_of w.invocations in
+      let at = sym new.module_is in
+      valid_stops script m s told told' (sym (starts_alike m h0 before script valid began.devices_are began.script_is is) ∙ starts) new.module_is
+      (hosted_stops result before after script w s h0 h1 told told' (subst IsModule at whole) (subst (λ (x : Module). IsNew x s) at new)
+      (ap (λ (x : Module). entries_text x is) new.module_is ∙ (none_starts (λ i type. serves h0 i) m is starts).0) (ap (λ (x : Module). cause_of_segments x) new.module_is ∙ segments)
+      (subst (λ (x : Module). Began x.imports before script h0) at began) same back x)
 
   pub scripted_stops : (m : Module) (given : Script) (script : Option (List Reply)) (told told' : Option Contents) → given ≡ Whole script
       → StopsTold (StepStops before after (λ stop held then_held. ModuleStops stop w m script before after held then_held)) told told' result

@@ -10,14 +10,11 @@ use Rattle.wasm_syntax.specs.declared.host.Reply.{Reply}
 use Rattle.wasm_syntax.specs.declared.host.Served.{Served}
 use Rattle.wasm_syntax.specs.declared.module.ModuleParts.{ModuleParts as Module}
 use Rattle.wasm_syntax.specs.Module.{Program, IsProgram, IsModule, function_export}
+use Rattle.wasm_syntax.specs.Valid.{Valid}
 use Rattle.wasm_syntax.specs.Run.{Cause, cause_of_entry, cause_of_segments, first_false, Outcome as RunOutcome, not_started, finished, trapped, lacks_reply, misfits, running, got_stuck, engine}
-use Rattle.trap_image.specs.Pictured.{FewFunctions}
-use Rattle.instance_start.specs.declared.started.StartFault.{StartFault}
-use Rattle.instance_start.specs.declared.started.StartFault.TheVariants.{ElementOut, DataOut, NoMemory}
-use Rattle.entry_runs.specs.Settings.{ServesAll}
-use Rattle.wasm_machine.specs.Instances.{State, IsNew, Begins}
-use Rattle.device_set.specs.Sets.{DeviceState, names, count_of}
-use Rattle.device_set.specs.Hosting.{HostsState, origin_of, calls_of, is_used_up, serves}
+use Rattle.wasm_machine.specs.Instances.{State, IsNew, IsOf}
+use Rattle.host_set.specs.Sets.{DeviceState, names, count_of}
+use Rattle.host_set.specs.Hosting.{HostsState, origin_of, calls_of, is_used_up, serves}
 use Rattle.command_answers.specs.Texts.{file_fault}
 use Rattle.command_answers.specs.Told.{UnlessFault}
 use Rattle.command_answers.specs.declared.outcome.Outcome.{Outcome}
@@ -29,13 +26,16 @@ use Rattle.run_session.specs.Written.{Writes, HoldThen}
 use Rattle.run_session.specs.RunText.{dump_name}
 use Rattle.run_session.specs.Invocations.{invocation_of}
 use Rattle.run_session.specs.Ending.{end_status}
-use Rattle.run_session.specs.Sessions.{MayBegin, point_of, EndsIn, RanAll, IsDumpFault}
+use Rattle.run_session.specs.inner.Sessions.{point_of, EndsIn, RanAll, IsDumpFault}
 use Rattle.run_session.proofs.Unless.{on_all}
 use Rattle.run_command.specs.Starting.{not_started_with, or_text, cause_text, segment_of, entries_text}
 use Rattle.run_command.specs.Hosting.{Hosting, is_served, import_text, first_unserved, start_text}
 use Rattle.run_command.specs.RunAnswer.{hosting, script_replies, RunsTo, Logs, StartsOr, ModuleAnswer, IfRefusal, IsUntouched, IsFileOf}
-use Rattle.run_command.specs.Steps.{IsAnswered}
+use Rattle.run_command.specs.inner.Steps.{IsAnswered}
 use Rattle.run_command.proofs.Answering.{none_then, runs_to}
+use Rattle.run_command.specs.inner.Begun.{HasBegun}
+use Rattle.run_command.specs.declared.running.Begun.TheVariants.{Ready, Refused}
+use Rattle.run_command.proofs.Beginning.{none_starts, starts_alike}
 use Rattle.run_command.proofs.Hostings.{Began, GaveBack, host_facts, by_script, logs, rose_on}
 
 -- ---- facts on results
@@ -77,33 +77,6 @@ other_told P Q None told' result go x = tt
 other_told P Q (Some held) None result go x = tt
 other_told P Q (Some held) (Some then_held) (Err e) go x = tt
 other_told P Q (Some held) (Some then_held) (Ok o) go x = map_unless o.status (P held then_held o) (Q held then_held o) (go held then_held o) x
-
--- ---- what is known before anything is run
-
-pub entries_begin : (m : Module) (is : List InvocationWords) → entries_text m (map invocation_of is) ≡ None → All (λ i. MayBegin m (invocation_of i)) is
-entries_begin m [] e k d lt = absurd (omega (arith, lt))
-entries_begin m (i ∷ is) e zero d lt = (none_then i.entry (cause_of_entry m (function_export m i.entry) i.args) (entries_text m (map invocation_of is)) e).0
-entries_begin m (i ∷ is) e (suc k) d lt = entries_begin m is (none_then i.entry (cause_of_entry m (function_export m i.entry) i.args) (entries_text m (map invocation_of is)) e).1 k d (omega (arith, lt))
-
-no_import : (o : Option ℕ) → import_text o ≡ None → o ≡ None
-no_import None e = refl
-no_import (Some i) e = absurd cc
-
-all_served : (h : Hosting) (imports : List Import) (n f : ℕ) (i : Import) → first_false n (map (is_served h) imports) ≡ None → slice_get imports f ≡ Some i → is_served h i ≡ true
-all_served h [] n f i e at = absurd cc
-all_served h (x ∷ xs) n f i e at = by_test (is_served h x) refl e (λ k rest there. all_served h xs (suc n) k i rest there) f at
-  where
-    at_place : is_served h x ≡ true → first_false (suc n) (map (is_served h) xs) ≡ None → ((k : ℕ) → first_false (suc n) (map (is_served h) xs) ≡ None → slice_get xs k ≡ Some i → is_served h i ≡ true) → (f : ℕ) → slice_get (x ∷ xs) f ≡ Some i → is_served h i ≡ true
-    at_place t e others zero at = let same : x ≡ i = cc in subst (λ y. is_served h y ≡ true) same t
-    at_place t e others (suc f) at = others f e at
-
-    by_test : (b : Bool) → is_served h x ≡ b → first_false n (b ∷ map (is_served h) xs) ≡ None → ((k : ℕ) → first_false (suc n) (map (is_served h) xs) ≡ None → slice_get xs k ≡ Some i → is_served h i ≡ true) → (f : ℕ) → slice_get (x ∷ xs) f ≡ Some i → is_served h i ≡ true
-    by_test true t e others f at = at_place t e others f at
-    by_test false t e others f at = absurd cc
-
-pub serves_all : (m : Module) (before : List DeviceState) (script : Option (List Reply)) (h : HostsState) → h.devices ≡ before → h.script ≡ script → first_unserved (hosting before script) m ≡ None → ServesAll (λ i type. serves h i) m
-serves_all m before script h devices script_is e =
-    λ f i type at typed. ap (λ ds. is_served (hosting ds h.script) i) devices ∙ ap (λ s. is_served (hosting before s) i) script_is ∙ all_served (hosting before script) m.imports 0 f i e at
 
 -- ---- the run
 
@@ -147,13 +120,13 @@ hosted_by p result before after script w s h0 h1 told told' of_module writes_out
     ran
 
 pub hosted_told : (result : Result Outcome WantOfMemory) (before after : List DeviceState) (script : Option (List Reply)) (w : RunWords) (s : State) (h0 h1 : HostsState) (told told' : Option Contents)
-    → IsModule s.module_ → FewFunctions s.module_ → IsNew s.module_ s → entries_text s.module_ (map invocation_of w.invocations) ≡ None → cause_of_segments s.module_ ≡ None
+    → IsModule s.module_ → IsNew s.module_ s → entries_text s.module_ (map invocation_of w.invocations) ≡ None → cause_of_segments s.module_ ≡ None
     → Began s.module_.imports before script h0 → origin_of h1 ≡ origin_of h0 → GaveBack h1 after
-    → ((p : Program) → p.module_ ≡ s.module_ → IsProgram p → FewFunctions p.module_ → IfOk result (λ o. UnlessFault o.status (RanAll p (engine p false w.depth) w.dump w.name (is_used_up h1) (count_of h0.devices) (count_of h1.devices) (point_of s (map invocation_of w.invocations) w.fuel) (calls_of h0) (calls_of h1) told told' o)))
+    → ((p : Program) → IsOf s p → IfOk result (λ o. UnlessFault o.status (RanAll p (engine p false w.depth) w.dump w.name (is_used_up h1) (count_of h0.devices) (count_of h1.devices) (point_of s (map invocation_of w.invocations) w.fuel) (calls_of h0) (calls_of h1) told told' o)))
     → OnAnswer (Runs before after script w s.module_) told told' result
-hosted_told result before after script w s h0 h1 told told' whole few new entries segments began same back ran =
+hosted_told result before after script w s h0 h1 told told' whole new entries segments began same back ran =
     hosted_by (record { module_ = s.module_; trees = whole.trees }) result before after script w s h0 h1 told told' refl whole.write new entries segments began same back
-    (ran (record { module_ = s.module_; trees = whole.trees }) refl whole.write few)
+    (ran (record { module_ = s.module_; trees = whole.trees }) (record { of_module = refl; writes_out = whole.write }))
 
 -- ---- the whole
 
@@ -172,33 +145,6 @@ refused_told (Ok o) before script w m (Some held) cause starts is =
       untouched = subst (λ t. IfRefusal t (IsUntouched before before [] [])) (sym (ap (λ (x : Outcome). x.status) is)) (record { devices = refl; given_none = refl; writes_none = refl });
     }
 
--- no cause was found before the segments
-pub none_early : (m : Module) (w : RunWords) (h : Hosting) → or_text (entries_text m (map invocation_of w.invocations)) (import_text (first_unserved h m)) ≡ None
-    → (entries_text m (map invocation_of w.invocations) ≡ None) × (first_unserved h m ≡ None)
-none_early m w h e = by_case (entries_text m (map invocation_of w.invocations)) e
-  where
-    by_case : (t : Option (List ℕ)) → or_text t (import_text (first_unserved h m)) ≡ None → (t ≡ None) × (first_unserved h m ≡ None)
-    by_case None e = (refl, no_import (first_unserved h m) e)
-    by_case (Some t) e = absurd cc
-
-some_first : (a b c : Option (List ℕ)) (t : List ℕ) → or_text a b ≡ Some t → or_text a (or_text b c) ≡ Some t
-some_first None None c t e = absurd cc
-some_first None (Some x) c t e = e
-some_first (Some x) b c t e = e
-
-pub starts_early : (h : Hosting) (m : Module) (w : RunWords) (t : List ℕ) → or_text (entries_text m (map invocation_of w.invocations)) (import_text (first_unserved h m)) ≡ Some t → start_text h m (map invocation_of w.invocations) ≡ Some t
-starts_early h m w t e = some_first (entries_text m (map invocation_of w.invocations)) (import_text (first_unserved h m)) (cause_text [] (cause_of_segments m)) t e
-
-pub starts_by_segments : (h : Hosting) (m : Module) (w : RunWords) → entries_text m (map invocation_of w.invocations) ≡ None → first_unserved h m ≡ None → start_text h m (map invocation_of w.invocations) ≡ cause_text [] (cause_of_segments m)
-starts_by_segments h m w entries imports =
-    ap (λ t. or_text t (or_text (import_text (first_unserved h m)) (cause_text [] (cause_of_segments m)))) entries
-    ∙ ap (λ i. or_text (import_text i) (cause_text [] (cause_of_segments m))) imports
-
-pub segment_text : (fault : StartFault) (m : Module) (t : List ℕ) → Begins (Err fault) m → cause_text [] (segment_of fault) ≡ Some t → cause_text [] (cause_of_segments m) ≡ Some t
-segment_text (ElementOut i) m t begins is = ap (λ c. cause_text [] c) begins ∙ is
-segment_text (DataOut i) m t begins is = ap (λ c. cause_text [] c) begins ∙ is
-segment_text NoMemory m t begins is = absurd cc
-
 pub valid_told : (result : Result Outcome WantOfMemory) (before after : List DeviceState) (script : Option (List Reply)) (w : RunWords) (m n : Module) (told told' : Option Contents)
     → m ≡ n → start_text (hosting before script) n (map invocation_of w.invocations) ≡ None → OnAnswer (Runs before after script w m) told told' result
     → OnAnswer (IsAnswered (λ given writes o. ModuleAnswer before after w given writes script n o) before after) told told' result
@@ -215,28 +161,28 @@ valid_told result before after script w m n told told' same starts runs =
 
 -- ---- as the code comes to them
 
-abbrev pub early : (before : List DeviceState) → Option (List Reply) → RunWords → Module → Option (List ℕ)
-early before script w m = or_text (entries_text m (map invocation_of w.invocations)) (import_text (first_unserved (hosting before script) m))
-
-pub some_told : (result : Result Outcome WantOfMemory) (before : List DeviceState) (script : Option (List Reply)) (w : RunWords) (n m : Module) (told : Option Contents) (t : Option (List ℕ)) (cause : List ℕ)
-    → n ≡ m → t ≡ early before script w n → t ≡ Some cause → IfOk result (λ o. o ≡ not_started_with cause)
-    → OnAnswer (IsAnswered (λ given writes o. ModuleAnswer before before w given writes script m o) before before) told told result
-some_told result before script w n m told t cause same is found refused =
-    refused_told result before script w m told cause (starts_early (hosting before script) m w cause (sym (is ∙ ap (λ (x : Module). early before script w x) same) ∙ found)) refused
-
-pub ok_told : (result : Result Outcome WantOfMemory) (before after : List DeviceState) (script : Option (List Reply)) (w : RunWords) (n m : Module) (s : State) (told told' : Option Contents) (t : Option (List ℕ))
-    → n ≡ m → t ≡ early before script w n → t ≡ None → cause_of_segments m ≡ None → IsNew m s → OnAnswer (Runs before after script w s.module_) told told' result
+-- a new instance was made, and the invocations were run on it
+pub ready_told : (result : Result Outcome WantOfMemory) (before after : List DeviceState) (script : Option (List Reply)) (w : RunWords) (m : Module) (s : State) (h0 h1 : HostsState) (told told' : Option Contents)
+    → IsModule m → Valid m → HasBegun (λ i type. serves h0 i) m (map invocation_of w.invocations) (Ready s)
+    → Began m.imports before script h0 → origin_of h1 ≡ origin_of h0 → GaveBack h1 after
+    → ((p : Program) → IsOf s p → IfOk result (λ o. UnlessFault o.status (RanAll p (engine p false w.depth) w.dump w.name (is_used_up h1) (count_of h0.devices) (count_of h1.devices) (point_of s (map invocation_of w.invocations) w.fuel) (calls_of h0) (calls_of h1) told told' o)))
     → OnAnswer (IsAnswered (λ given writes o. ModuleAnswer before after w given writes script m o) before after) told told' result
-ok_told result before after script w n m s told told' t same is none segments new runs =
-    let k = none_early m w (hosting before script) (sym (is ∙ ap (λ (x : Module). early before script w x) same) ∙ none) in
-    valid_told result before after script w s.module_ m told told' new.module_is (starts_by_segments (hosting before script) m w k.0 k.1 ∙ ap (λ c. cause_text [] c) segments) runs
+ready_told result before after script w m s h0 h1 told told' whole valid (starts, segments, new) began same back ran =
+    let is = map invocation_of w.invocations in
+    let at = sym new.module_is in
+    valid_told result before after script w s.module_ m told told' new.module_is (sym (starts_alike m h0 before script valid began.devices_are began.script_is is) ∙ starts)
+    (hosted_told result before after script w s h0 h1 told told' (subst IsModule at whole) (subst (λ (x : Module). IsNew x s) at new)
+    (ap (λ (x : Module). entries_text x is) new.module_is ∙ (none_starts (λ i type. serves h0 i) m is starts).0) (ap (λ (x : Module). cause_of_segments x) new.module_is ∙ segments)
+    (subst (λ (x : Module). Began x.imports before script h0) at began) same back ran)
 
-pub err_told : (result : Result Outcome WantOfMemory) (before : List DeviceState) (script : Option (List Reply)) (w : RunWords) (n m : Module) (told : Option Contents) (t : Option (List ℕ)) (fault : StartFault) (cause : List ℕ)
-    → n ≡ m → t ≡ early before script w n → t ≡ None → Begins (Err fault) m → cause_text [] (segment_of fault) ≡ Some cause → IfOk result (λ o. o ≡ not_started_with cause)
-    → OnAnswer (IsAnswered (λ given writes o. ModuleAnswer before before w given writes script m o) before before) told told result
-err_told result before script w n m told t fault cause same is none begins text refused =
-    let k = none_early m w (hosting before script) (sym (is ∙ ap (λ (x : Module). early before script w x) same) ∙ none) in
-    refused_told result before script w m told cause (starts_by_segments (hosting before script) m w k.0 k.1 ∙ segment_text fault m cause begins text) refused
+-- nothing was run, and the devices were given back
+pub refused_back : (result : Result Outcome WantOfMemory) (before after : List DeviceState) (script : Option (List Reply)) (w : RunWords) (m : Module) (h : HostsState) (told : Option Contents) (o : Outcome)
+    → Valid m → Began m.imports before script h → after ≡ h.devices → HasBegun (λ i type. serves h i) m (map invocation_of w.invocations) (Refused o) → result ≡ Ok o
+    → OnAnswer (IsAnswered (λ given writes o. ModuleAnswer before after w given writes script m o) before after) told told result
+refused_back result before after script w m h told o valid began back (cause, starts, is) same =
+    subst (λ ds. OnAnswer (IsAnswered (λ given writes o. ModuleAnswer before ds w given writes script m o) before ds) told told result) (sym (back ∙ began.devices_are))
+    (refused_told result before script w m told cause (sym (starts_alike m h before script valid began.devices_are began.script_is (map invocation_of w.invocations)) ∙ starts)
+    (subst (λ r. IfOk r (λ x. x ≡ not_started_with cause)) (sym same) is))
 
 -- ---- faults
 

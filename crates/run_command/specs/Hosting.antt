@@ -6,7 +6,7 @@ use Rattle.wasm_syntax.specs.declared.host.Reply.{Reply}
 use Rattle.wasm_syntax.specs.declared.host.Served.{Served}
 use Rattle.wasm_syntax.specs.declared.module.ModuleParts.{ModuleParts as Module}
 use Rattle.wasm_syntax.specs.Run.{cause_of_segments, first_false, Invocation}
-use Rattle.device_set.specs.Sets.{is_named}
+use Rattle.host_set.specs.Sets.{is_named}
 use Rattle.run_session.specs.Given.{module_of}
 use Rattle.run_command.specs.Starting.{or_text, cause_text, entries_text}
 

@@ -10,7 +10,7 @@ use Rattle.wasm_syntax.specs.declared.module.ModuleParts.{ModuleParts as Module}
 use Rattle.wasm_syntax.specs.Module.{Program, IsProgram}
 use Rattle.wasm_syntax.specs.Run.{Outcome as RunOutcome, not_started, finished, trapped, lacks_reply, misfits, running, got_stuck, Ran, run}
 use Rattle.wasm_decode.specs.Decode.{module_from}
-use Rattle.replies_file.specs.Replies.{file_replies}
+use Rattle.host_replies.specs.Replies.{file_replies}
 use Rattle.command_answers.specs.Texts.{ended}
 use Rattle.command_answers.specs.Inputs.{input_of, Then}
 use Rattle.command_answers.specs.Loading.{IfLoaded}
@@ -19,8 +19,8 @@ use Rattle.command_answers.specs.declared.status.Status.{Status}
 use Rattle.command_answers.specs.declared.status.Status.TheVariants as status
 use Rattle.run_words.specs.declared.words.RunWords.{RunWords}
 use Rattle.run_session.specs.RunText.{dump_name, dumps_from, last_of}
-use Rattle.host_runs.specs.Hosted.{replies_of}
-use Rattle.device_set.specs.Sets.{DeviceState, names, count_of, log_of, is_named}
+use Rattle.host_devices.specs.Given.{replies_of}
+use Rattle.host_set.specs.Sets.{DeviceState, names, count_of, log_of, is_named}
 use Rattle.run_session.specs.Given.{given_in, module_of, from_module}
 use Rattle.run_session.specs.Written.{Writes}
 use Rattle.run_session.specs.Invocations.{invocation_of}

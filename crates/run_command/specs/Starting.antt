@@ -8,8 +8,8 @@ use Rattle.wasm_syntax.specs.Run.{Cause, no_export, bad_arguments, element_out, 
 use Rattle.command_answers.specs.Texts.{ended}
 use Rattle.command_answers.specs.declared.outcome.Outcome.{Outcome}
 use Rattle.command_answers.specs.declared.status.Status.TheVariants as status
-use Rattle.instance_start.specs.declared.started.StartFault.{StartFault}
-use Rattle.instance_start.specs.declared.started.StartFault.TheVariants.{ElementOut, DataOut, NoMemory}
+use Rattle.machine_start.specs.declared.started.StartFault.{StartFault}
+use Rattle.machine_start.specs.declared.started.StartFault.TheVariants.{ElementOut, DataOut, NoMemory}
 
 abbrev pub not_started_with : List ℕ → Outcome
 not_started_with cause = ended status.NotStarted (codes "not started: " ++ cause ++ codes "\n")

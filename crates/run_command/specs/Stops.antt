@@ -10,8 +10,8 @@ use Rattle.wasm_syntax.specs.Valid.{Valid}
 use Rattle.wasm_syntax.specs.Run.{Invocation, Ran, run}
 use Rattle.wasm_decode.specs.Decode.{module_from}
 use Rattle.wasm_validate.specs.Heights.{AllLow}
-use Rattle.host_runs.specs.Hosted.{replies_of}
-use Rattle.device_set.specs.Sets.{DeviceState, names}
+use Rattle.host_devices.specs.Given.{replies_of}
+use Rattle.host_set.specs.Sets.{DeviceState, names}
 use Rattle.command_answers.specs.Inputs.{input_of}
 use Rattle.command_answers.specs.declared.outcome.Outcome.{Outcome}
 use Rattle.run_words.specs.declared.words.RunWords.{RunWords}

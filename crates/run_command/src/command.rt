@@ -3,21 +3,21 @@
 ghost use Rattle.std.specs.Prelude.{◌≡◌, ◌≢◌, ◌≤◌, ◌<◌, ◌⊎◌, ℕ, List, length, IfOk, IfSome, is_some};
 ghost use Rattle.causes.specs.Counts.{Rose};
 ghost use Rattle.wasm_syntax.specs.declared.host.Served.{Served};
-ghost use Rattle.device_set.specs.Sets.{names, AreDistinct};
+ghost use Rattle.host_set.specs.Sets.{names, AreDistinct};
 ghost use Rattle.command_answers.specs.Texts.{file_fault};
 ghost use Rattle.command_answers.specs.Told.{UnlessFault};
 ghost use Rattle.run_session.specs.Written.{Writes, HoldThen};
 ghost use Rattle.run_session.specs.Stop.{OnStop};
-ghost use Rattle.run_command.specs.Steps.{IsAnswered};
+ghost use Rattle.run_command.specs.inner.Steps.{IsAnswered};
 ghost use Rattle.run_command.specs.Stops.{IsUnchanged, ScriptStops, BytesStops, SourceStops, RunStops};
 ghost use Rattle.run_command.specs.RunAnswer.{IsFileOf, RunAnswer};
-ghost use Rattle.run_command.specs.Scripts.{script_result, ScriptAnswer, BytesAnswer, SourceAnswer, IsFaultOf};
+ghost use Rattle.run_command.specs.inner.Scripts.{script_result, ScriptAnswer, BytesAnswer, SourceAnswer, IsFaultOf};
 
 use crate::running::run_valid;
 use crate::scripts::{Asked, Script, asked_script, bad_replies};
 use causes::NoMemory;
 use command_answers::{Input, Loaded, Outcome, Status, load, read_input};
-use device_set::Devices;
+use host_set::Devices;
 use pm_outside::Files;
 use run_words::RunWords;
 use std::alloc::Global;

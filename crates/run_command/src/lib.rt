@@ -2,7 +2,6 @@
 #![tactic(auto)]
 
 mod command;
-mod hosting;
 mod running;
 mod scripts;
 mod starting;

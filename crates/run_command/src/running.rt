@@ -1,53 +1,38 @@
 //! The run of a list of invocations on a valid module.
 
-ghost use Rattle.std.specs.Prelude.{◌≡◌, ◌≢◌, ◌<◌, ◌≤◌, ◌⊎◌, [], ℕ, List, None, Some, map, IfOk, IfSome, length, is_some};
+ghost use Rattle.std.specs.Prelude.{◌≡◌, ◌≢◌, ◌<◌, ◌≤◌, ◌⊎◌, [], ℕ, List, Some, map, IfOk, IfSome, length, is_some};
 ghost use Rattle.causes.specs.Counts.{Rose};
-ghost use Rattle.wasm_syntax.specs.Module.{IsModule};
-ghost use Rattle.wasm_syntax.specs.Run.{cause_of_segments};
-ghost use Rattle.trap_image.specs.Pictured.{FewFunctions};
-ghost use Rattle.device_set.specs.Sets.{AreDistinct, names};
-ghost use Rattle.wasm_machine.specs.Instances.{IsNew};
+ghost use Rattle.host_set.specs.Sets.{AreDistinct, names};
 ghost use Rattle.command_answers.specs.Texts.{file_fault};
 ghost use Rattle.command_answers.specs.Told.{UnlessFault};
 ghost use Rattle.run_session.specs.Invocations.{invocation_of};
-ghost use Rattle.run_session.specs.Sessions.{IsDumpFault};
 ghost use Rattle.run_session.specs.Stop.{OnStop};
-ghost use Rattle.run_command.specs.Starting.{or_text, cause_text, segment_of, entries_text};
-ghost use Rattle.run_command.specs.Hosting.{import_text, first_unserved};
-ghost use Rattle.run_command.specs.RunAnswer.{hosting, RunsTo, Logs, ModuleAnswer, IsFileOf};
-ghost use Rattle.run_command.specs.Steps.{IsAnswered};
-ghost use Rattle.run_command.specs.Stops.{StopsRun, IsUnchanged, ModuleStops};
+ghost use Rattle.run_command.specs.Starting.{cause_text, segment_of};
+ghost use Rattle.run_command.specs.RunAnswer.{ModuleAnswer, IsFileOf};
+ghost use Rattle.run_command.specs.inner.Begun.{HasBegun};
+ghost use Rattle.run_command.specs.inner.Steps.{IsAnswered};
+ghost use Rattle.run_command.specs.Stops.{IsUnchanged, ModuleStops};
 
-use crate::hosting::import_cause;
-use crate::starting::{entries_cause, not_started};
+use crate::starting::{early_cause, not_started};
 use causes::NoMemory;
 use command_answers::{Outcome, Status};
-use device_set::{Devices, Hosts};
+use host_devices::HostSide;
+use host_set::{Devices, Hosts};
 use pm_outside::Files;
 use pm_text::{Items, Text};
 use run_session::{numbered, run_all};
-use run_words::RunWords;
+use run_words::{Invocation, RunWords};
 use std::alloc::Global;
 use std::mem;
 use wasm_machine::{Instance, StartFault};
-use wasm_syntax::{ModuleParts, Reply};
+use wasm_syntax::Reply;
 use wasm_validate::Validated;
 
-/// Why nothing is run, where an invocation can't be made or nobody serves an import.
-fn early_cause<D: Devices>(
-    alloc: Global,
-    m: &ModuleParts,
-    words: &RunWords,
-    devices: &D,
-    script: &Option<Items<Reply>>,
-) -> Result<Option<Text>, NoMemory>
-    ensures { IfOk result (λ t. t ≡ or_text (entries_text m.now (map invocation_of words.now.invocations)) (import_text (first_unserved (hosting (D.shown devices.now) script.now) m.now))) }
-{
-    let cause = entries_cause(alloc, m, words.invocations.as_slice())?;
-    match cause {
-        Some(text) => Ok(Some(text)),
-        None => import_cause(alloc, m, devices, script),
-    }
+/// A new instance, or what is answered where nothing is run.
+#[derive(Drop)]
+pub(crate) enum Begun<'a> {
+    Ready(Instance<'a>),
+    Refused(Outcome),
 }
 
 /// The cause that names a segment that lies outside.
@@ -61,37 +46,32 @@ fn segment_cause(alloc: Global, fault: StartFault) -> Result<Text, NoMemory>
     }
 }
 
-/// Runs the invocations on a new instance, and gives the devices back.
-fn run_hosted<F: Files, D: Devices>(
+/// A new instance, where all of these invocations may begin with a host side, or the answer that says why not.
+fn begin<'a, H: HostSide>(
     alloc: Global,
-    files: &mut F,
-    words: &RunWords,
-    instance: &mut Instance<'_>,
-    script: Option<Items<Reply>>,
-    devices: &mut D,
-) -> Result<Outcome, NoMemory>
-    requires distinct { AreDistinct (names (D.shown devices.old)) }
-    requires some { 0 < length words.now.invocations }
-    requires new_one { IsNew instance.old.module_ instance.old }
-    requires whole { IsModule instance.old.module_ }
-    requires few { FewFunctions instance.old.module_ }
-    requires entries { entries_text instance.old.module_ (map invocation_of words.now.invocations) ≡ None }
-    requires imports { first_unserved (hosting (D.shown devices.old) script) instance.old.module_ ≡ None }
-    requires segments { cause_of_segments instance.old.module_ ≡ None }
-    ensures told { IfSome (F.told files.old) (λ held. IfSome (F.told files.new) (λ then. IfOk result (λ o. UnlessFault o.status (IsAnswered (λ given writes o. RunsTo (D.shown devices.old) (D.shown devices.new) script words.now instance.old.module_ given o writes × Logs instance.old.module_ given (D.shown devices.old) (D.shown devices.new)) (D.shown devices.old) (D.shown devices.new) held then o)))) }
-    ensures stops { IfSome (F.told files.old) (λ held. IfSome (F.told files.new) (λ then. OnStop (λ stop. StopsRun stop words.now instance.old.module_ script (D.shown devices.old) (D.shown devices.new) held then) result)) }
-    ensures fault { IfOk result (λ o. o.status ≡ Status.FileFault → IsDumpFault words.now.dump o × Rose (F.faults files.old) (F.faults files.new)) }
-    ensures memory { IfOk result (λ o. o.status ≢ Status.NoMemory) }
-    ensures distinct { AreDistinct (names (D.shown devices.new)) }
-    ensures telling { is_some (F.told files.new) ≡ is_some (F.told files.old) }
-    ensures later { F.faults files.old ≤ F.faults files.new }
+    source: &'a Validated,
+    invocations: &[Invocation],
+    hosts: &H,
+) -> Result<Begun<'a>, NoMemory>
+    requires { 0 < length invocations.now }
+    ensures { IfOk result (HasBegun (H.serving hosts.now) source.now (map invocation_of invocations.now)) }
 {
-    let set = mem::replace(devices, D::empty(alloc));
-    let imports = instance.parts().imports.as_slice();
-    let mut hosts = Hosts::new(alloc, set, script, imports);
-    let outcome = run_all(alloc, files, words, instance, &mut hosts);
-    *devices = hosts.into_devices();
-    outcome
+    let cause = early_cause(alloc, source, invocations, hosts)?;
+    match cause {
+        Some(text) => {
+            let refusal = not_started(alloc, &text)?;
+            return Ok(Begun::Refused(refusal));
+        }
+        None => {}
+    }
+    match Instance::new(alloc, source) {
+        Ok(instance) => Ok(Begun::Ready(instance)),
+        Err(fault) => {
+            let text = segment_cause(alloc, fault)?;
+            let refusal = not_started(alloc, &text)?;
+            Ok(Begun::Refused(refusal))
+        }
+    }
 }
 
 /// Runs the invocations on a valid module, and gives the devices back.
@@ -113,17 +93,22 @@ pub(crate) fn run_valid<F: Files, D: Devices>(
     ensures telling { is_some (F.told files.new) ≡ is_some (F.told files.old) }
     ensures later { F.faults files.old ≤ F.faults files.new }
 {
-    let m = source.module().parts();
-    let cause = early_cause(alloc, m, words, devices, &script)?;
-    match cause {
-        Some(text) => return not_started(alloc, &text),
-        None => {}
-    }
-    match Instance::new(alloc, source) {
-        Ok(mut instance) => run_hosted(alloc, files, words, &mut instance, script, devices),
-        Err(fault) => {
-            let text = segment_cause(alloc, fault)?;
-            not_started(alloc, &text)
+    let set = mem::replace(devices, D::empty(alloc));
+    let imports = source.module().parts().imports.as_slice();
+    let mut hosts = Hosts::new(alloc, set, script, imports);
+    match begin(alloc, source, words.invocations.as_slice(), &hosts) {
+        Ok(Begun::Ready(mut instance)) => {
+            let outcome = run_all(alloc, files, words, &mut instance, &mut hosts);
+            *devices = hosts.into_devices();
+            outcome
+        }
+        Ok(Begun::Refused(refusal)) => {
+            *devices = hosts.into_devices();
+            Ok(refusal)
+        }
+        Err(NoMemory) => {
+            *devices = hosts.into_devices();
+            Err(NoMemory)
         }
     }
 }

@@ -4,13 +4,13 @@ ghost use Rattle.std.specs.Prelude.{◌≡◌, ◌≢◌, ◌≤◌, IfOk, IfSom
 ghost use Rattle.causes.specs.Counts.{Rose};
 ghost use Rattle.command_answers.specs.Texts.{file_fault};
 ghost use Rattle.run_command.specs.RunAnswer.{replies_input, bad_replies, script_of};
-ghost use Rattle.run_command.specs.Scripts.{script_result, IsAsked, IfAskedRefused, IsFaultOf};
+ghost use Rattle.run_command.specs.inner.Scripts.{script_result, IsAsked, IfAskedRefused, IsFaultOf};
 
 use causes::NoMemory;
 use command_answers::{Input, Outcome, Status, push_number, read_input};
+use host_replies::{ReplyFault, read_replies};
 use pm_outside::Files;
 use pm_text::{Items, Text};
-use replies_file::{ReplyFault, read_replies};
 use run_words::RunWords;
 use std::alloc::Global;
 use wasm_syntax::{Quantity, Reply};

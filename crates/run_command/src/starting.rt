@@ -1,19 +1,22 @@
 //! Why nothing is run.
 
-ghost use Rattle.std.specs.Prelude.{◌≡◌, ◌++◌, IfOk, map, codes};
+ghost use Rattle.std.specs.Prelude.{◌≡◌, ◌<◌, ◌++◌, IfOk, map, length, codes};
 ghost use Rattle.pm_text.specs.Names.{quoted};
-ghost use Rattle.wasm_syntax.specs.Module.{function_export};
-ghost use Rattle.wasm_syntax.specs.Run.{cause_of_entry};
+ghost use Rattle.wasm_machine.specs.Entries.{entry_fault, first_unserved};
 ghost use Rattle.run_session.specs.Invocations.{invocation_of};
-ghost use Rattle.run_command.specs.Starting.{cause_text, entries_text, not_started_with};
+ghost use Rattle.run_command.specs.Starting.{entries_text, or_text, not_started_with};
+ghost use Rattle.run_command.specs.Hosting.{import_text};
+ghost use Rattle.run_command.specs.inner.Begun.{fault_text, import_in};
 
 use causes::NoMemory;
 use command_answers::{Outcome, Status};
-use instance_start::{EntryFault, entry_fault};
+use host_devices::HostSide;
 use pm_text::Text;
+use run_session::numbered;
 use run_words::Invocation;
 use std::alloc::Global;
-use wasm_syntax::ModuleParts;
+use wasm_machine::{EntryFault, entry_fault};
+use wasm_validate::Validated;
 
 /// The cause that names an export.
 fn no_export(alloc: Global, entry: &Text) -> Result<Text, NoMemory>
@@ -24,15 +27,27 @@ fn no_export(alloc: Global, entry: &Text) -> Result<Text, NoMemory>
     Ok(text)
 }
 
-/// Why an invocation can't be made, if it can't.
-fn entry_cause(
-    alloc: Global,
-    m: &ModuleParts,
+/// Why an invocation may not begin with a host side, if it may not.
+fn fault_of<H: HostSide>(
+    source: &Validated,
     invocation: &Invocation,
-) -> Result<Option<Text>, NoMemory>
-    ensures { IfOk result (λ t. t ≡ cause_text invocation.now.entry (cause_of_entry m.now (function_export m.now invocation.now.entry) invocation.now.args)) }
+    hosts: &H,
+) -> Option<EntryFault>
+    ensures { result ≡ entry_fault (H.serving hosts.now) source.now invocation.now.entry invocation.now.args }
 {
-    match entry_fault(m, invocation.entry.as_str(), invocation.args.as_slice()) {
+    let entry = invocation.entry.as_str();
+    entry_fault(source, entry, invocation.args.as_slice(), hosts)
+}
+
+/// Why an invocation can't be made by itself, if it can't.
+fn own_cause(
+    alloc: Global,
+    invocation: &Invocation,
+    fault: Option<EntryFault>,
+) -> Result<Option<Text>, NoMemory>
+    ensures { IfOk result (λ t. t ≡ fault_text invocation.now.entry fault) }
+{
+    match fault {
         Some(EntryFault::NoExport) => {
             let text = no_export(alloc, &invocation.entry)?;
             Ok(Some(text))
@@ -41,26 +56,56 @@ fn entry_cause(
             let text = Text::from_str(alloc, "arguments")?;
             Ok(Some(text))
         }
+        Some(EntryFault::Unserved { .. }) => Ok(None),
         None => Ok(None),
     }
 }
 
-/// Why the first invocation that can't be made can't, if there is one.
-pub(crate) fn entries_cause(
-    alloc: Global,
-    m: &ModuleParts,
-    invocations: &[Invocation],
-) -> Result<Option<Text>, NoMemory>
-    ensures { IfOk result (λ t. t ≡ entries_text m.now (map invocation_of invocations.now)) }
+/// The import that is not served, where that is the fault.
+fn unserved(fault: Option<EntryFault>) -> Option<u32>
+    ensures { result ≡ import_in fault }
 {
+    match fault {
+        Some(EntryFault::Unserved { import }) => Some(import),
+        Some(EntryFault::NoExport) => None,
+        Some(EntryFault::BadArguments) => None,
+        None => None,
+    }
+}
+
+/// The cause that names an import, if there is one.
+fn import_cause(alloc: Global, import: Option<u32>) -> Result<Option<Text>, NoMemory>
+    ensures { IfOk result (λ t. t ≡ import_text import) }
+{
+    match import {
+        Some(index) => {
+            let text = numbered(alloc, "import ", u64::from(index))?;
+            Ok(Some(text))
+        }
+        None => Ok(None),
+    }
+}
+
+/// Why the first invocation that can't be made can't, or else which import is not served.
+pub(crate) fn early_cause<H: HostSide>(
+    alloc: Global,
+    source: &Validated,
+    invocations: &[Invocation],
+    hosts: &H,
+) -> Result<Option<Text>, NoMemory>
+    requires { 0 < length invocations.now }
+    ensures { IfOk result (λ t. t ≡ or_text (entries_text source.now (map invocation_of invocations.now)) (import_text (first_unserved (H.serving hosts.now) source.now))) }
+{
+    let mut import = None;
     for invocation in invocations {
-        let cause = entry_cause(alloc, m, invocation)?;
+        let fault = fault_of(source, invocation, hosts);
+        let cause = own_cause(alloc, invocation, fault)?;
         match cause {
             Some(text) => return Ok(Some(text)),
-            None => {}
+            None => import = unserved(fault),
         }
     }
-    Ok(None)
+    import_cause(alloc, import)
 }
 
 /// The answer where nothing is run.

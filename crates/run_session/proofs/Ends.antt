@@ -10,27 +10,28 @@ use Rattle.wasm_syntax.specs.Machine.{Config, Engine}
 use Rattle.wasm_syntax.specs.Module.{Program}
 use Rattle.wasm_syntax.specs.Run.{Invocation, Outcome as RunOutcome, not_started, finished, trapped, lacks_reply, misfits, running, got_stuck, Ran, goes_on}
 use Rattle.host_devices.specs.HostSides.{Calls}
-use Rattle.host_runs.specs.Hosted.{replies_of}
-use Rattle.entry_runs.specs.declared.answer.RunAnswer.{RunAnswer}
-use Rattle.entry_runs.specs.declared.answer.RunAnswer.TheVariants.{Finished, Trapped, NoReply, BadReply, DeviceFault, FuelSpent, NoMemory}
-use Rattle.entry_runs.specs.Answers.{HasCause}
-use Rattle.entry_runs.specs.Invocations.{HasOutcome, unfitting}
+use Rattle.host_devices.specs.Given.{replies_of}
+use Rattle.machine_hosted.specs.declared.answer.RunEnd.{RunEnd}
+use Rattle.machine_hosted.specs.declared.answer.RunEnd.TheVariants.{Finished, Trapped, NoReply, BadReply, DeviceFault, FuelSpent, NoMemory}
+use Rattle.machine_hosted.specs.Answers.{HasCause}
+use Rattle.machine_hosted.specs.Invocations.{HasOutcome}
+use Rattle.host_devices.specs.Given.{unfitting}
 use Rattle.wasm_machine.specs.Instances.{State}
 use Rattle.command_answers.specs.Texts.{ended}
 use Rattle.command_answers.specs.declared.outcome.Outcome.{Outcome}
 use Rattle.command_answers.specs.declared.status.Status.TheVariants as status
 use Rattle.run_session.specs.RunText.{traps_in, last_of, if_trapped, fitted, not_invoked_text}
-use Rattle.run_session.specs.Answers.{answer_line, answer_status}
+use Rattle.run_session.specs.inner.Answers.{answer_line, answer_status}
 use Rattle.run_session.specs.Ending.{trapped_or_done, end_status}
-use Rattle.run_session.specs.Progress.{Point, session_from, WentOn}
-use Rattle.run_session.specs.Sessions.{point_of, EndsIn, RanAll, SoFar}
+use Rattle.run_session.specs.inner.Progress.{Point, session_from, WentOn}
+use Rattle.run_session.specs.inner.Sessions.{point_of, EndsIn, RanAll, SoFar}
 use Rattle.run_session.specs.declared.turns.Lines.{Lines}
 use Rattle.run_session.proofs.Sessions.{EndedWith}
 use Rattle.run_session.proofs.Turning.{trapped_traps}
 
 -- ---- the last line and the status by the answer
 
-pub line_ends : (p : Program) (used_up : Import → Bool) (counts now : List ℕ → ℕ) (given due : ℕ) (a : RunAnswer) (o : RunOutcome) → HasOutcome p used_up a o → (a ≡ NoMemory → ⊥) → HasCause a counts now → EndsIn p used_up counts now given due o (answer_line a given due)
+pub line_ends : (p : Program) (used_up : Import → Bool) (counts now : List ℕ → ℕ) (given due : ℕ) (a : RunEnd) (o : RunOutcome) → HasOutcome p used_up a o → (a ≡ NoMemory → ⊥) → HasCause a counts now → EndsIn p used_up counts now given due o (answer_line a given due)
 line_ends p used_up counts now given due (Finished v) o is some cause = subst (λ x. EndsIn p used_up counts now given due x []) (sym is) refl
 line_ends p used_up counts now given due (Trapped kind) o is some cause = subst (λ x. EndsIn p used_up counts now given due x (not_invoked_text due)) (sym is) refl
 line_ends p used_up counts now given due NoReply o (call, is, up) some cause = subst (λ x. EndsIn p used_up counts now given due x (answer_line NoReply given due)) (sym is) (inl (up, refl))
@@ -39,7 +40,7 @@ line_ends p used_up counts now given due (BadReply reply) o (call, is) some caus
 line_ends p used_up counts now given due FuelSpent o is some cause = subst (λ x. EndsIn p used_up counts now given due x (answer_line FuelSpent given due)) (sym is) refl
 line_ends p used_up counts now given due NoMemory o is some cause = absurd (some refl)
 
-pub status_ends : (p : Program) (used_up : Import → Bool) (traps : ℕ) (a : RunAnswer) (o : RunOutcome) → HasOutcome p used_up a o → (a ≡ NoMemory → ⊥) → answer_status a traps ≡ end_status traps o
+pub status_ends : (p : Program) (used_up : Import → Bool) (traps : ℕ) (a : RunEnd) (o : RunOutcome) → HasOutcome p used_up a o → (a ≡ NoMemory → ⊥) → answer_status a traps ≡ end_status traps o
 status_ends p used_up traps (Finished v) o is some = ap (λ x. end_status traps x) (sym is)
 status_ends p used_up traps (Trapped kind) o is some = ap (λ x. end_status traps x) (sym is)
 status_ends p used_up traps NoReply o (call, is, up) some = ap (λ x. end_status traps x) (sym is)
@@ -56,7 +57,7 @@ of_choice false = (λ e. absurd cc, λ e. absurd cc)
 of_traps : (traps : ℕ) → (trapped_or_done traps ≡ status.FileFault → ⊥) × (trapped_or_done traps ≡ status.NoMemory → ⊥)
 of_traps traps = of_choice (nat_lt 0 traps)
 
-pub no_file_fault : (a : RunAnswer) (traps : ℕ) → answer_status a traps ≡ status.FileFault → ⊥
+pub no_file_fault : (a : RunEnd) (traps : ℕ) → answer_status a traps ≡ status.FileFault → ⊥
 no_file_fault (Finished v) traps e = (of_traps traps).0 e
 no_file_fault (Trapped kind) traps e = absurd cc
 no_file_fault NoReply traps e = absurd cc
@@ -65,7 +66,7 @@ no_file_fault (BadReply reply) traps e = absurd cc
 no_file_fault FuelSpent traps e = absurd cc
 no_file_fault NoMemory traps e = absurd cc
 
-pub no_want : (a : RunAnswer) (traps : ℕ) → (a ≡ NoMemory → ⊥) → answer_status a traps ≡ status.NoMemory → ⊥
+pub no_want : (a : RunEnd) (traps : ℕ) → (a ≡ NoMemory → ⊥) → answer_status a traps ≡ status.NoMemory → ⊥
 no_want (Finished v) traps some e = (of_traps traps).1 e
 no_want (Trapped kind) traps some e = absurd cc
 no_want NoReply traps some e = absurd cc
@@ -82,7 +83,7 @@ done_no_want traps = (of_traps traps).1
 
 -- ---- the whole list
 
-pub ended_so : (p : Program) (M : Engine) (base name : List ℕ) (used_up : Import → Bool) (counts now : List ℕ → ℕ) (first : Point) (lines : Lines) (before after : Calls) (told_before told_after : Option Contents) (a : RunAnswer) (due count : ℕ) (o : Outcome)
+pub ended_so : (p : Program) (M : Engine) (base name : List ℕ) (used_up : Import → Bool) (counts now : List ℕ → ℕ) (first : Point) (lines : Lines) (before after : Calls) (told_before told_after : Option Contents) (a : RunEnd) (due count : ℕ) (o : Outcome)
     → before.served ≡ [] → count ≡ length after.served → (a ≡ NoMemory → ⊥) → HasCause a counts now → o ≡ ended (answer_status a lines.traps) (lines.text ++ answer_line a count due)
     → EndedWith p M base name used_up first lines before after told_before told_after a due
     → RanAll p M base name used_up counts now first before after told_before told_after o

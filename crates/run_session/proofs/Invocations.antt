@@ -14,30 +14,29 @@ use Rattle.wasm_syntax.specs.Host.{World}
 use Rattle.wasm_syntax.specs.Machine.{Config, Engine}
 use Rattle.wasm_syntax.specs.Module.{Program, function_export}
 use Rattle.wasm_syntax.specs.Run.{Invocation, Outcome, not_started, finished, trapped, lacks_reply, misfits, running, got_stuck, Ran, goes_on, fresh, session, invoked, engine}
-use Rattle.basic_steps.specs.declared.answer.TrapKind.{TrapKind}
-use Rattle.basic_steps.specs.Traps.{trap_code}
-use Rattle.flat_code.specs.declared.code.Code.{Code}
+use Rattle.machine_basics.specs.declared.answer.TrapKind.{TrapKind}
+use Rattle.machine_basics.specs.Traps.{trap_code}
+use Rattle.machine_code.specs.declared.code.Code.{Code}
 use Rattle.machine_steps.specs.declared.machine.Machine.{Machine}
 use Rattle.machine_steps.specs.declared.machine.Prepared.{Prepared}
-use Rattle.machine_steps.specs.Prepares.{IsPrepared}
 use Rattle.machine_steps.specs.Meets.{Shares}
-use Rattle.trap_image.specs.Pictured.{FewFunctions}
 use Rattle.dump_write.specs.Written.{OnTold}
 use Rattle.host_devices.specs.HostSides.{Calls}
-use Rattle.host_runs.specs.Hosted.{replies_of}
-use Rattle.entry_runs.specs.declared.answer.RunAnswer.{RunAnswer}
-use Rattle.entry_runs.specs.declared.answer.RunAnswer.TheVariants.{Finished, Trapped, NoReply, BadReply, DeviceFault, FuelSpent, NoMemory}
-use Rattle.entry_runs.specs.Settings.{world_of}
-use Rattle.entry_runs.specs.Answers.{AdmitsReplies, KeepsThen, given_steps}
-use Rattle.entry_runs.specs.Invocations.{HasOutcome, unfitting, may_follow, InvocationCame, invoking}
-use Rattle.wasm_machine.specs.Instances.{State, Invoked}
-use Rattle.run_session.specs.Progress.{session_from}
+use Rattle.host_devices.specs.Given.{replies_of}
+use Rattle.machine_hosted.specs.declared.answer.RunEnd.{RunEnd}
+use Rattle.machine_hosted.specs.declared.answer.RunEnd.TheVariants.{Finished, Trapped, NoReply, BadReply, DeviceFault, FuelSpent, NoMemory}
+use Rattle.machine_hosted.specs.Settings.{world_of}
+use Rattle.machine_hosted.specs.Answers.{AdmitsReplies, KeepsThen, given_steps}
+use Rattle.machine_hosted.specs.Invocations.{HasOutcome, may_follow, InvocationCame, invoking}
+use Rattle.host_devices.specs.Given.{unfitting}
+use Rattle.wasm_machine.specs.Instances.{State, IsOf, Invoked}
+use Rattle.run_session.specs.inner.Progress.{session_from}
 use Rattle.run_session.specs.RunText.{dumps_from}
 use Rattle.run_session.specs.Given.{given_to}
 use Rattle.run_session.specs.Written.{HoldPart}
 use Rattle.run_session.specs.Stop.{no_memory, file_failed}
-use Rattle.run_session.specs.Turns.{Answered, UnlessRefused, Added, LeavesPart, HasTrapped}
-use Rattle.run_session.specs.Sessions.{point_of, MadeOne, StopsIn}
+use Rattle.run_session.specs.inner.Turns.{Answered, UnlessRefused, Added, LeavesPart, HasTrapped}
+use Rattle.run_session.specs.inner.Sessions.{point_of, MadeOne, StopsIn}
 use Rattle.run_session.specs.declared.turns.Lines.{Lines}
 use Rattle.run_session.specs.declared.turns.Turn.{Turn}
 use Rattle.run_session.specs.declared.turns.Turn.TheVariants.{GoesOn, Ends, Refused}
@@ -48,7 +47,7 @@ use Rattle.run_session.proofs.Fewer.{with_left, fewer_steps}
 
 -- ---- an answer behind which the list goes on
 
-abbrev OnAnswer : RunAnswer → Type 0
+abbrev OnAnswer : RunEnd → Type 0
 OnAnswer (Finished v) = Unit {0}
 OnAnswer (Trapped kind) = Unit {0}
 OnAnswer NoReply = ⊥
@@ -60,7 +59,7 @@ OnAnswer NoMemory = ⊥
 is_off : (o x : Outcome) (e : Bool) → o ≡ x → goes_on o e ≡ true → goes_on x e ≡ false → ⊥
 is_off o x e is on off = let same : true ≡ false = sym on ∙ ap (λ (y : Outcome). goes_on y e) is ∙ off in absurd cc
 
-on_answer : (p : Program) (used_up : Import → Bool) (a : RunAnswer) (o : Outcome) (e : Bool) → HasOutcome p used_up a o → goes_on o e ≡ true → (a ≡ NoMemory → ⊥) → OnAnswer a
+on_answer : (p : Program) (used_up : Import → Bool) (a : RunEnd) (o : Outcome) (e : Bool) → HasOutcome p used_up a o → goes_on o e ≡ true → (a ≡ NoMemory → ⊥) → OnAnswer a
 on_answer p used_up (Finished v) o e is on some = tt
 on_answer p used_up (Trapped kind) o e is on some = tt
 on_answer p used_up NoReply o e (call, is, up) on some = is_off o (lacks_reply call) e is on refl
@@ -69,7 +68,7 @@ on_answer p used_up (BadReply reply) o e (call, is) on some = is_off o (misfits 
 on_answer p used_up FuelSpent o e is on some = is_off o running e is on refl
 on_answer p used_up NoMemory o e is on some = some refl
 
-admits_on : (a : RunAnswer) → OnAnswer a → (more : List Reply) → AdmitsReplies a more
+admits_on : (a : RunEnd) → OnAnswer a → (more : List Reply) → AdmitsReplies a more
 admits_on (Finished v) on more = tt
 admits_on (Trapped kind) on more = tt
 admits_on (BadReply reply) on more = tt
@@ -78,7 +77,7 @@ admits_on NoMemory on more = tt
 admits_on NoReply on more = absurd on
 admits_on (DeviceFault device) on more = absurd on
 
-shares_on : (p : Program) (codes : List Code) (a : RunAnswer) (m : Machine) (c : Config) → OnAnswer a → KeepsThen p codes a m c → Shares m c.world
+shares_on : (p : Program) (codes : List Code) (a : RunEnd) (m : Machine) (c : Config) → OnAnswer a → KeepsThen p codes a m c → Shares m c.world
 shares_on p codes (Finished v) m c on keeps = keeps.shares
 shares_on p codes (Trapped kind) m c on keeps = keeps.shares
 shares_on p codes (BadReply reply) m c on keeps = absurd on
@@ -97,7 +96,7 @@ none_unfit running e on = refl
 none_unfit got_stuck e on = refl
 
 -- all steps were given
-all_given : (a : RunAnswer) (fuel steps : ℕ) → (a ≡ NoMemory → ⊥) → given_steps a fuel steps ≡ fuel
+all_given : (a : RunEnd) (fuel steps : ℕ) → (a ≡ NoMemory → ⊥) → given_steps a fuel steps ≡ fuel
 all_given (Finished v) fuel steps some = refl
 all_given (Trapped kind) fuel steps some = refl
 all_given NoReply fuel steps some = refl
@@ -144,7 +143,7 @@ came_within M due n t steps f args w r gives left few many =
     less n t steps few many = omega arith
 
 -- at least as many steps were given as were made
-given_enough : (a : RunAnswer) (fuel steps : ℕ) → steps ≤ fuel → steps ≤ given_steps a fuel steps
+given_enough : (a : RunEnd) (fuel steps : ℕ) → steps ≤ fuel → steps ≤ given_steps a fuel steps
 given_enough (Finished v) fuel steps le = le
 given_enough (Trapped kind) fuel steps le = le
 given_enough NoReply fuel steps le = le
@@ -154,7 +153,7 @@ given_enough FuelSpent fuel steps le = le
 given_enough NoMemory fuel steps le = le_refl steps
 
 -- what is known of the invocation with these replies left
-module _ (M : Engine) (s new : State) (i : Invocation) (rest : List Invocation) (f fuel steps : ℕ) (given : List Served) (a : RunAnswer)
+module _ (M : Engine) (s new : State) (i : Invocation) (rest : List Invocation) (f fuel steps : ℕ) (given : List Served) (a : RunEnd)
     (entry : function_export M.program.module_ i.name ≡ Some f) (made : new.steps ≡ s.steps + steps) where
   -- within so many steps
   opens : (total : ℕ) (more : List Reply) (r : Ran) → invoking M s.due f i.args (world_of s.machine []) (replies_of given ++ more) (given_steps a (fuel - s.steps) steps) ≡ r → r.left ≡ given_steps a (fuel - s.steps) steps - steps
@@ -222,7 +221,7 @@ counts old new given calls before after grew one other is =
     omega arith
 
 -- whatever is left of the steps
-same_follow : (a : RunAnswer) (r : Ran) (left : ℕ) → may_follow a r ≡ may_follow a (with_left r left)
+same_follow : (a : RunEnd) (r : Ran) (left : ℕ) → may_follow a r ≡ may_follow a (with_left r left)
 same_follow (Finished v) r left = refl
 same_follow (Trapped kind) r left = refl
 same_follow NoReply r left = refl
@@ -237,30 +236,29 @@ onward x k y e = omega arith
 within : (n x k y : ℕ) → k ≡ x + y → y ≤ n - x → x ≤ n → k ≤ n
 within n x k y e le few = omega arith
 
-pub made_one : (p : Program) (collecting : Bool) (depth : ℕ) (base name : List ℕ) (used_up : Import → Bool) (prepared : Prepared) (s new : State) (i : Invocation) (f fuel calls before_count after_count : ℕ) (ready : Bool) (a : RunAnswer)
+pub made_one : (p : Program) (collecting : Bool) (depth : ℕ) (base name : List ℕ) (used_up : Import → Bool) (s new : State) (i : Invocation) (f fuel calls before_count after_count : ℕ) (a : RunEnd)
     (lines later : Lines) (before after : Calls) (told_before told_after : Option Contents) (turn : Turn)
-    → IsPrepared p prepared → FewFunctions p.module_ → prepared.codes.items ≡ s.prepared.codes.items
-    → (a ≡ NoMemory → ⊥) → function_export p.module_ i.name ≡ Some f → new.due ≡ None → ready ≡ new.ready
+    → IsOf new p → new.prepared ≡ s.prepared → (a ≡ NoMemory → ⊥) → function_export p.module_ i.name ≡ Some f → new.due ≡ None
     → before_count ≡ length before.served → after_count ≡ length after.served → calls ≡ after_count - before_count
     → Invoked p collecting depth used_up f i.args (fuel - s.steps) s new a before after
-    → UnlessRefused turn (Added base name prepared new.machine ready a calls lines later told_before told_after turn)
+    → UnlessRefused turn (Added base name new a calls lines later told_before told_after turn)
     → UnlessRefused turn (MadeOne p (engine p collecting depth) base name used_up s new i fuel lines later before after told_before told_after turn)
-made_one p collecting depth base name used_up prepared s new i f fuel calls before_count after_count ready a lines later before after told_before told_after (Refused o) is_prepared few_functions codes some entry due same one other counted invoked added = tt
-made_one p collecting depth base name used_up prepared s new i f fuel calls before_count after_count ready a lines later before after told_before told_after GoesOn is_prepared few_functions codes some entry due same one other counted was added =
+made_one p collecting depth base name used_up s new i f fuel calls before_count after_count a lines later before after told_before told_after (Refused o) is_of same some entry due one other counted invoked added = tt
+made_one p collecting depth base name used_up s new i f fuel calls before_count after_count a lines later before after told_before told_after GoesOn is_of same some entry due one other counted was added =
     let M = engine p collecting depth in
     let given = was.came.asked.given in
     let count = counts before.served after.served given calls before_count after_count was.came.grew.served one other counted in
-    let known : (more : List Reply) (came : InvocationCame p s.prepared.codes.items used_up (invoking M s.due f i.args (world_of s.machine [])) (fuel - s.steps) was.came.asked a was.made new.ready new.machine more) (left : ℕ) → Answered p prepared.codes.items used_up a ready new.machine calls (with_left came.ran left) =
+    let known : (more : List Reply) (came : InvocationCame p s.prepared.codes.items used_up (invoking M s.due f i.args (world_of s.machine [])) (fuel - s.steps) was.came.asked a was.made new.ready new.machine more) (left : ℕ) → Answered p used_up a new calls (with_left came.ran left) =
     λ more came left. record {
       outcome = came.outcome;
-      follows = same ∙ came.follows ∙ same_follow a came.ran left;
+      follows = came.follows ∙ same_follow a came.ran left;
       last = came.last;
       last_is = came.last_is;
-      keeps = subst (λ cs. KeepsThen p cs a new.machine came.last) (sym codes) came.keeps;
+      keeps = subst (λ (q : Prepared). KeepsThen p q.codes.items a new.machine came.last) (sym same) came.keeps;
       counted = count ∙ ap (λ l. length l) came.served;
     } in
     let begin = was.came.came [] (no_replies a) in
-    let on = on_answer p used_up a begin.ran.outcome begin.ran.entered begin.outcome (added.turns p used_up (with_left begin.ran 0) is_prepared few_functions (known [] begin 0)).0 some in
+    let on = on_answer p used_up a begin.ran.outcome begin.ran.entered begin.outcome (added.turns p used_up (with_left begin.ran 0) is_of (known [] begin 0)).0 some in
     record {
       answer = a;
       given = given;
@@ -272,7 +270,7 @@ made_one p collecting depth base name used_up prepared s new i f fuel calls befo
       ran = λ rest total few many more admits.
           let came = was.came.came more (admits_on a on more) in
           let ran = with_left came.ran (total - new.steps) in
-          let turns = added.turns p used_up ran is_prepared few_functions (known more came (total - new.steps)) in
+          let turns = added.turns p used_up ran is_of (known more came (total - new.steps)) in
           record {
             ran = ran;
             given_is = came.served;
@@ -281,21 +279,21 @@ made_one p collecting depth base name used_up prepared s new i f fuel calls befo
             outcome = tt;
           };
     }
-made_one p collecting depth base name used_up prepared s new i f fuel calls before_count after_count ready a lines later before after told_before told_after (Ends b) is_prepared few_functions codes some entry due same one other counted was added =
+made_one p collecting depth base name used_up s new i f fuel calls before_count after_count a lines later before after told_before told_after (Ends b) is_of same some entry due one other counted was added =
     let M = engine p collecting depth in
     let given = was.came.asked.given in
     let count = counts before.served after.served given calls before_count after_count was.came.grew.served one other counted in
-    let known : (more : List Reply) (came : InvocationCame p s.prepared.codes.items used_up (invoking M s.due f i.args (world_of s.machine [])) (fuel - s.steps) was.came.asked a was.made new.ready new.machine more) (left : ℕ) → Answered p prepared.codes.items used_up a ready new.machine calls (with_left came.ran left) =
+    let known : (more : List Reply) (came : InvocationCame p s.prepared.codes.items used_up (invoking M s.due f i.args (world_of s.machine [])) (fuel - s.steps) was.came.asked a was.made new.ready new.machine more) (left : ℕ) → Answered p used_up a new calls (with_left came.ran left) =
     λ more came left. record {
       outcome = came.outcome;
-      follows = same ∙ came.follows ∙ same_follow a came.ran left;
+      follows = came.follows ∙ same_follow a came.ran left;
       last = came.last;
       last_is = came.last_is;
-      keeps = subst (λ cs. KeepsThen p cs a new.machine came.last) (sym codes) came.keeps;
+      keeps = subst (λ (q : Prepared). KeepsThen p q.codes.items a new.machine came.last) (sym same) came.keeps;
       counted = count ∙ ap (λ l. length l) came.served;
     } in
     let begin = was.came.came [] (no_replies a) in
-    let is : b ≡ a = (added.turns p used_up (with_left begin.ran 0) is_prepared few_functions (known [] begin 0)).0 in
+    let is : b ≡ a = (added.turns p used_up (with_left begin.ran 0) is_of (known [] begin 0)).0 in
     record {
       answer = a;
       given = given;
@@ -307,7 +305,7 @@ made_one p collecting depth base name used_up prepared s new i f fuel calls befo
       ran = λ rest total few many more admits.
           let came = was.came.came more (subst (λ x. AdmitsReplies x more) is admits) in
           let ran = with_left came.ran (total - new.steps) in
-          let turns = added.turns p used_up ran is_prepared few_functions (known more came (total - new.steps)) in
+          let turns = added.turns p used_up ran is_of (known more came (total - new.steps)) in
           record {
             ran = ran;
             given_is = came.served;
@@ -319,14 +317,14 @@ made_one p collecting depth base name used_up prepared s new i f fuel calls befo
 
 -- ---- an invocation that was stopped
 
-module _ (p : Program) (collecting : Bool) (depth : ℕ) (base name : List ℕ) (used_up : Import → Bool) (prepared : Prepared) (s new : State) (i : Invocation) (rest : List Invocation) (f fuel traps : ℕ) (a : RunAnswer) (before after : Calls) (told_before told_after : Option Contents)
-    (whole : IsPrepared p prepared) (few : FewFunctions p.module_) (codes : prepared.codes.items ≡ s.prepared.codes.items) (entry : function_export p.module_ i.name ≡ Some f) (begun : s.steps ≤ fuel)
-    (was : Invoked p collecting depth used_up f i.args (fuel - s.steps) s new a before after) (part : LeavesPart base name prepared new.machine a traps told_before told_after) where
+module _ (p : Program) (collecting : Bool) (depth : ℕ) (base name : List ℕ) (used_up : Import → Bool) (s new : State) (i : Invocation) (rest : List Invocation) (f fuel traps : ℕ) (a : RunEnd) (before after : Calls) (told_before told_after : Option Contents)
+    (is_of : IsOf new p) (same : new.prepared ≡ s.prepared) (entry : function_export p.module_ i.name ≡ Some f) (begun : s.steps ≤ fuel)
+    (was : Invoked p collecting depth used_up f i.args (fuel - s.steps) s new a before after) (part : LeavesPart base name new a traps told_before told_after) where
   came : InvocationCame p s.prepared.codes.items used_up (invoking (engine p collecting depth) s.due f i.args (world_of s.machine [])) (fuel - s.steps) was.came.asked a was.made new.ready new.machine []
   came = was.came.came [] (no_replies a)
 
   dumped : (left : ℕ) → OnTold (HoldPart (dumps_from base name traps (with_left came.ran left ∷ []))) told_before told_after
-  dumped left = part p used_up (with_left came.ran left) came.last whole few came.outcome came.last_is (subst (λ cs. KeepsThen p cs a new.machine came.last) (sym codes) came.keeps)
+  dumped left = part p used_up (with_left came.ran left) came.last is_of came.outcome came.last_is (subst (λ (q : Prepared). KeepsThen p q.codes.items a new.machine came.last) (sym same) came.keeps)
 
   no_more : session_from (engine p collecting depth) (point_of s (i ∷ rest) new.steps) (replies_of was.came.asked.given ++ []) ≡ session_from (engine p collecting depth) (point_of s (i ∷ rest) new.steps) (replies_of was.came.asked.given)
   no_more = ap (λ l. session_from (engine p collecting depth) (point_of s (i ∷ rest) new.steps) l) (append-nil (replies_of was.came.asked.given))

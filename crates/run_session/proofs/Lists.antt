@@ -5,8 +5,8 @@ use Rattle.std.specs.List.{flat_map}
 use Rattle.std.proofs.lemmas.Grind.{flat_map-append}
 use Rattle.wasm_syntax.specs.Machine.{Config}
 use Rattle.wasm_syntax.specs.Run.{Outcome, not_started, finished, trapped, lacks_reply, misfits, running, got_stuck, Ran}
-use Rattle.unwind_rewrite.specs.Image.{image}
-use Rattle.instrument.specs.DumpBytes.{bytes_of}
+use Rattle.dump_write.specs.Image.{image}
+use Rattle.dump_write.specs.ImageBytes.{bytes_of}
 use Rattle.run_session.specs.RunText.{invocation_text, dumps_from, traps_in, last_of, fitted, if_trapped, dump_name}
 use Rattle.run_session.specs.Given.{given_to, given_in}
 

@@ -10,17 +10,17 @@ use Rattle.wasm_syntax.specs.Module.{Program}
 use Rattle.wasm_syntax.specs.Run.{Invocation, Ran}
 use Rattle.dump_write.specs.Written.{OnTold}
 use Rattle.host_devices.specs.HostSides.{Calls}
-use Rattle.host_runs.specs.Hosted.{replies_of}
-use Rattle.entry_runs.specs.declared.answer.RunAnswer.{RunAnswer}
-use Rattle.entry_runs.specs.declared.answer.RunAnswer.TheVariants.{Finished, Trapped, NoReply, BadReply, DeviceFault, FuelSpent, NoMemory}
-use Rattle.entry_runs.specs.Answers.{AdmitsReplies}
-use Rattle.entry_runs.specs.Invocations.{HasOutcome}
+use Rattle.host_devices.specs.Given.{replies_of}
+use Rattle.machine_hosted.specs.declared.answer.RunEnd.{RunEnd}
+use Rattle.machine_hosted.specs.declared.answer.RunEnd.TheVariants.{Finished, Trapped, NoReply, BadReply, DeviceFault, FuelSpent, NoMemory}
+use Rattle.machine_hosted.specs.Answers.{AdmitsReplies}
+use Rattle.machine_hosted.specs.Invocations.{HasOutcome}
 use Rattle.wasm_machine.specs.Instances.{State}
 use Rattle.run_session.specs.RunText.{dumps_from, traps_in}
 use Rattle.run_session.specs.Written.{Writes, HoldThen}
-use Rattle.run_session.specs.Progress.{Point, Made, HasCome, HasEnded}
-use Rattle.run_session.specs.Turns.{Adds}
-use Rattle.run_session.specs.Sessions.{point_of, MadeOne, made_with, SoFar}
+use Rattle.run_session.specs.inner.Progress.{Point, Made, HasCome, HasEnded}
+use Rattle.run_session.specs.inner.Turns.{Adds}
+use Rattle.run_session.specs.inner.Sessions.{point_of, MadeOne, made_with, SoFar}
 use Rattle.run_session.specs.declared.turns.Lines.{Lines}
 use Rattle.run_session.specs.declared.turns.Turn.TheVariants.{GoesOn, Ends}
 use Rattle.run_session.proofs.Held.{held_also}
@@ -59,7 +59,7 @@ list_goes_on p M base name used_up first s next done i fuel old new before mid a
 }
 
 -- the list ends with an answer
-pub record EndedWith (p : Program) (M : Engine) (base name : List ℕ) (used_up : Import → Bool) (first : Point) (lines : Lines) (before after : Calls) (told_before told_after : Option Contents) (answer : RunAnswer) (due : ℕ) : Type 0 where
+pub record EndedWith (p : Program) (M : Engine) (base name : List ℕ) (used_up : Import → Bool) (first : Point) (lines : Lines) (before after : Calls) (told_before told_after : Option Contents) (answer : RunEnd) (due : ℕ) : Type 0 where
   pub given : List Served
   pub grew : after.served ≡ before.served ++ given
   pub writes : Writes
@@ -68,7 +68,7 @@ pub record EndedWith (p : Program) (M : Engine) (base name : List ℕ) (used_up 
   pub has_ended : HasEnded M base name first (made_with lines given writes) due last
   pub outcome : HasOutcome p used_up answer last.outcome
 
-pub no_replies : (a : RunAnswer) → AdmitsReplies a []
+pub no_replies : (a : RunEnd) → AdmitsReplies a []
 no_replies NoReply = refl
 no_replies (DeviceFault device) = refl
 no_replies (Finished v) = tt
@@ -77,7 +77,7 @@ no_replies (BadReply reply) = tt
 no_replies FuelSpent = tt
 no_replies NoMemory = tt
 
-pub list_ends : (p : Program) (M : Engine) (base name : List ℕ) (used_up : Import → Bool) (first s next : State) (done : List Invocation) (i : Invocation) (rest : List Invocation) (fuel : ℕ) (old new : Lines) (before mid after : Calls) (told_before told_mid told_after : Option Contents) (answer : RunAnswer)
+pub list_ends : (p : Program) (M : Engine) (base name : List ℕ) (used_up : Import → Bool) (first s next : State) (done : List Invocation) (i : Invocation) (rest : List Invocation) (fuel : ℕ) (old new : Lines) (before mid after : Calls) (told_before told_mid told_after : Option Contents) (answer : RunEnd)
     → SoFar M base name first s done fuel old before mid told_before told_mid
     → MadeOne p M base name used_up s next i fuel old new mid after told_mid told_after (Ends answer)
     → EndedWith p M base name used_up (point_of first (done ++ i ∷ rest) fuel) new before after told_before told_after answer (length rest)

@@ -6,11 +6,11 @@ use Rattle.wasm_syntax.specs.declared.host.Reply.{Reply}
 use Rattle.wasm_syntax.specs.declared.host.Served.{Served}
 use Rattle.wasm_syntax.specs.Machine.{Engine}
 use Rattle.wasm_syntax.specs.Run.{Invocation, Outcome, not_started, finished, trapped, lacks_reply, misfits, running, got_stuck, Ran, goes_on}
-use Rattle.host_runs.specs.Hosted.{replies_of}
-use Rattle.entry_runs.specs.Invocations.{unfitting}
+use Rattle.host_devices.specs.Given.{replies_of}
+use Rattle.host_devices.specs.Given.{unfitting}
 use Rattle.run_session.specs.RunText.{invocation_text, dumps_from, traps_in, last_of, fitted}
 use Rattle.run_session.specs.Given.{given_in, given_to}
-use Rattle.run_session.specs.Progress.{Point, Made, session_from, CameOf, WentOn, HasCome, HasEnded}
+use Rattle.run_session.specs.inner.Progress.{Point, Made, session_from, CameOf, WentOn, HasCome, HasEnded}
 use Rattle.run_session.proofs.Lists.{one_of, traps_more, dumps_more, last_more, fitted_more, zero_plus}
 
 -- what is made with one invocation more

@@ -16,17 +16,17 @@ use Rattle.wasm_syntax.specs.Module.{Program, Function, imported, defined, funct
 use Rattle.wasm_syntax.specs.Run.{Invocation, Ran, ran_to, run_function, run_entry, invoked, fresh, goes_on, session}
 use Rattle.dump_write.specs.Written.{OnTold}
 use Rattle.host_devices.specs.HostSides.{Calls}
-use Rattle.host_runs.specs.Hosted.{replies_of}
-use Rattle.entry_runs.specs.declared.answer.RunAnswer.{RunAnswer}
+use Rattle.host_devices.specs.Given.{replies_of}
+use Rattle.machine_hosted.specs.declared.answer.RunEnd.{RunEnd}
 use Rattle.wasm_machine.specs.Instances.{State}
 use Rattle.command_answers.specs.declared.outcome.Outcome.{Outcome}
 use Rattle.run_session.specs.RunText.{dumps_from, traps_in, last_of}
 use Rattle.run_session.specs.Given.{given_to, given_in}
 use Rattle.run_session.specs.Written.{Writes, HoldThen, HoldPart}
-use Rattle.run_session.specs.Progress.{Point, session_from, HasCome}
+use Rattle.run_session.specs.inner.Progress.{Point, session_from, HasCome}
 use Rattle.run_session.specs.Stop.{Stop, no_memory, file_failed, OnStop}
-use Rattle.run_session.specs.Turns.{IfTurnRefused}
-use Rattle.run_session.specs.Sessions.{point_of, made_with, SoFar, WasStopped, StopsIn, OnTurnStop}
+use Rattle.run_session.specs.inner.Turns.{IfTurnRefused}
+use Rattle.run_session.specs.inner.Sessions.{point_of, made_with, SoFar, WasStopped, StopsIn, OnTurnStop}
 use Rattle.run_session.specs.declared.turns.Lines.{Lines}
 use Rattle.run_session.specs.declared.turns.Turn.{Turn}
 use Rattle.run_session.specs.declared.turns.Turn.TheVariants.{GoesOn, Ends, Refused}
@@ -115,7 +115,7 @@ stops_behind file_failed M base name first s done is fuel lines before mid after
 
 -- ---- behind all of them
 
-pub ended_stopped : (p : Program) (M : Engine) (base name : List ℕ) (used_up : Import → Bool) (first : State) (all : List Invocation) (fuel : ℕ) (lines : Lines) (before after : Calls) (told_before told_after : Option Contents) (answer : RunAnswer) (due : ℕ)
+pub ended_stopped : (p : Program) (M : Engine) (base name : List ℕ) (used_up : Import → Bool) (first : State) (all : List Invocation) (fuel : ℕ) (lines : Lines) (before after : Calls) (told_before told_after : Option Contents) (answer : RunEnd) (due : ℕ)
     → first.steps ≡ 0 → EndedWith p M base name used_up (point_of first all fuel) lines before after told_before told_after answer due
     → StopsIn no_memory M base name 0 first all fuel before after told_before told_after
 ended_stopped p M base name used_up first all fuel lines before after told_before told_after answer due none e = (

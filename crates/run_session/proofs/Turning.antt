@@ -7,22 +7,23 @@ use Rattle.wasm_syntax.specs.declared.value.Value.{Value}
 use Rattle.wasm_syntax.specs.Machine.{Config}
 use Rattle.wasm_syntax.specs.Module.{Program}
 use Rattle.wasm_syntax.specs.Run.{Outcome, not_started, finished, trapped, lacks_reply, misfits, running, got_stuck, Ran, goes_on}
-use Rattle.basic_steps.specs.declared.answer.TrapKind.{TrapKind}
-use Rattle.basic_steps.specs.Traps.{trap_code}
-use Rattle.machine_steps.specs.declared.machine.Machine.{Machine}
-use Rattle.machine_steps.specs.declared.machine.Prepared.{Prepared}
+use Rattle.machine_basics.specs.declared.answer.TrapKind.{TrapKind}
+use Rattle.machine_basics.specs.Traps.{trap_code}
+use Rattle.wasm_machine.specs.Instances.{State}
+use Rattle.wasm_machine.proofs.StandingLaws.{trap_stands}
 use Rattle.pm_outside.specs.Contents.{Contents}
-use Rattle.unwind_rewrite.specs.Image.{image}
-use Rattle.instrument.specs.DumpBytes.{bytes_of}
-use Rattle.entry_runs.specs.declared.answer.RunAnswer.{RunAnswer}
-use Rattle.entry_runs.specs.declared.answer.RunAnswer.TheVariants.{Finished, Trapped, NoReply, BadReply, DeviceFault, FuelSpent, NoMemory}
-use Rattle.entry_runs.specs.Invocations.{HasOutcome, unfitting}
+use Rattle.dump_write.specs.Image.{image}
+use Rattle.dump_write.specs.ImageBytes.{bytes_of}
+use Rattle.machine_hosted.specs.declared.answer.RunEnd.{RunEnd}
+use Rattle.machine_hosted.specs.declared.answer.RunEnd.TheVariants.{Finished, Trapped, NoReply, BadReply, DeviceFault, FuelSpent, NoMemory}
+use Rattle.machine_hosted.specs.Invocations.{HasOutcome}
+use Rattle.host_devices.specs.Given.{unfitting}
 use Rattle.run_session.specs.RunText.{outcome_text, invocation_text, finished_text, trapped_text, innermost, dump_name, dumps_from, traps_in, if_trapped}
 use Rattle.run_session.specs.Given.{given_to}
 use Rattle.dump_write.specs.Written.{OnTold}
 use Rattle.run_session.specs.Written.{Writes, HoldPart}
-use Rattle.run_session.specs.Dumping.{LeavesFront, IfWritten}
-use Rattle.run_session.specs.Turns.{Adds, AddsTrap, TurnsTo, turn_of, UnlessRefused, Added, LeavesPart}
+use Rattle.run_session.specs.inner.Dumping.{LeavesFront, IfWritten}
+use Rattle.run_session.specs.inner.Turns.{Adds, AddsTrap, TurnsTo, turn_of, UnlessRefused, Added, LeavesPart}
 use Rattle.run_session.specs.declared.dumps.Written.{Written}
 use Rattle.run_session.specs.declared.dumps.Written.TheVariants.{Whole}
 use Rattle.run_session.specs.declared.turns.Turn.{Turn}
@@ -30,7 +31,7 @@ use Rattle.run_session.specs.declared.turns.Turn.TheVariants.{Ends}
 use Rattle.run_session.proofs.Held.{none_held, one_held, none_few, one_few, no_part, front_part}
 use Rattle.run_session.specs.declared.turns.Lines.{Lines}
 
-pub by_ready : (base name : List ℕ) (a : RunAnswer) (r : Ran) (old new : Lines) (writes : Writes) (ready : Bool) → ready ≡ goes_on r.outcome r.entered → Adds base name r old new writes → TurnsTo base name a r old new writes (turn_of ready a)
+pub by_ready : (base name : List ℕ) (a : RunEnd) (r : Ran) (old new : Lines) (writes : Writes) (ready : Bool) → ready ≡ goes_on r.outcome r.entered → Adds base name r old new writes → TurnsTo base name a r old new writes (turn_of ready a)
 by_ready base name a r old new writes true e adds = (sym e, adds)
 by_ready base name a r old new writes false e adds = (refl, sym e, adds)
 
@@ -102,7 +103,7 @@ record Quiet (o : Outcome) (last : Option Config) : Type 0 where
   pub dumps : (base name : List ℕ) (j : ℕ) → dump_of base name j o last ≡ []
   pub off : (entered : Bool) → goes_on o entered ≡ false
 
-quiet_of : (p : Program) (used_up : Import → Bool) (a : RunAnswer) (o : Outcome) (last : Option Config) → ((v : Option Value) → a ≡ Finished v → ⊥) → ((kind : TrapKind) → a ≡ Trapped kind → ⊥) → (a ≡ NoMemory → ⊥) → HasOutcome p used_up a o → Quiet o last
+quiet_of : (p : Program) (used_up : Import → Bool) (a : RunEnd) (o : Outcome) (last : Option Config) → ((v : Option Value) → a ≡ Finished v → ⊥) → ((kind : TrapKind) → a ≡ Trapped kind → ⊥) → (a ≡ NoMemory → ⊥) → HasOutcome p used_up a o → Quiet o last
 quiet_of p used_up (Finished v) o last nf nt nm is = absurd (nf v refl)
 quiet_of p used_up (Trapped kind) o last nf nt nm is = absurd (nt kind refl)
 quiet_of p used_up NoMemory o last nf nt nm is = absurd (nm refl)
@@ -115,7 +116,7 @@ quiet_dumps : (base name : List ℕ) (j : ℕ) (r : Ran) → Quiet r.outcome r.l
 unfolding dumps_from
 quiet_dumps base name j r quiet = sym (quiet.dumps base name j)
 
-pub adds_nothing : (base name : List ℕ) (p : Program) (used_up : Import → Bool) (a : RunAnswer) (r : Ran) (lines : Lines) → ((v : Option Value) → a ≡ Finished v → ⊥) → ((kind : TrapKind) → a ≡ Trapped kind → ⊥) → (a ≡ NoMemory → ⊥)
+pub adds_nothing : (base name : List ℕ) (p : Program) (used_up : Import → Bool) (a : RunEnd) (r : Ran) (lines : Lines) → ((v : Option Value) → a ≡ Finished v → ⊥) → ((kind : TrapKind) → a ≡ Trapped kind → ⊥) → (a ≡ NoMemory → ⊥)
     → HasOutcome p used_up a r.outcome → is_some r.last ≡ true → (goes_on r.outcome r.entered ≡ false) × Adds base name r lines lines []
 adds_nothing base name p used_up a r lines nf nt nm is placed =
     let quiet = quiet_of p used_up a r.outcome r.last nf nt nm is in (
@@ -130,50 +131,50 @@ adds_nothing base name p used_up a r lines nf nt nm is placed =
 
 -- ---- how the list goes on behind it
 
-abbrev added_to : (base name : List ℕ) (prepared : Prepared) (m : Machine) (ready : Bool) (a : RunAnswer) (calls : ℕ) (old new : Lines) (before after : Option Contents) → Turn → Type 0
-added_to base name prepared m ready a calls old new before after turn = UnlessRefused turn (Added base name prepared m ready a calls old new before after turn)
+abbrev added_to : (base name : List ℕ) (s : State) (a : RunEnd) (calls : ℕ) (old new : Lines) (before after : Option Contents) → Turn → Type 0
+added_to base name s a calls old new before after turn = UnlessRefused turn (Added base name s a calls old new before after turn)
 
-of_turn : (base name : List ℕ) (prepared : Prepared) (m : Machine) (ready b : Bool) (a : RunAnswer) (calls : ℕ) (old new : Lines) (before after : Option Contents) → Added base name prepared m ready a calls old new before after (turn_of b a) → added_to base name prepared m ready a calls old new before after (turn_of b a)
-of_turn base name prepared m ready true a calls old new before after x = x
-of_turn base name prepared m ready false a calls old new before after x = x
+of_turn : (base name : List ℕ) (s : State) (b : Bool) (a : RunEnd) (calls : ℕ) (old new : Lines) (before after : Option Contents) → Added base name s a calls old new before after (turn_of b a) → added_to base name s a calls old new before after (turn_of b a)
+of_turn base name s true a calls old new before after x = x
+of_turn base name s false a calls old new before after x = x
 
-pub finished_added : (base name : List ℕ) (prepared : Prepared) (m : Machine) (ready : Bool) (a : RunAnswer) (v : Option Value) (calls : ℕ) (old new : Lines) (before : Option Contents) (turn : Turn)
-    → a ≡ Finished v → turn ≡ turn_of ready (Finished v) → new.text ≡ old.text ++ finished_text v calls → new.traps ≡ old.traps
-    → UnlessRefused turn (Added base name prepared m ready a calls old new before before turn)
-finished_added base name prepared m ready a v calls old new before turn is turned text traps =
-    subst (λ x. added_to base name prepared m ready x calls old new before before turn) (sym is)
-    (subst (λ t. added_to base name prepared m ready (Finished v) calls old new before before t) (sym turned)
-    (of_turn base name prepared m ready ready (Finished v) calls old new before before (record {
+pub finished_added : (base name : List ℕ) (s : State) (a : RunEnd) (v : Option Value) (calls : ℕ) (old new : Lines) (before : Option Contents) (turn : Turn)
+    → a ≡ Finished v → turn ≡ turn_of s.ready (Finished v) → new.text ≡ old.text ++ finished_text v calls → new.traps ≡ old.traps
+    → UnlessRefused turn (Added base name s a calls old new before before turn)
+finished_added base name s a v calls old new before turn is turned text traps =
+    subst (λ x. added_to base name s x calls old new before before turn) (sym is)
+    (subst (λ t. added_to base name s (Finished v) calls old new before before t) (sym turned)
+    (of_turn base name s s.ready (Finished v) calls old new before before (record {
       writes = [];
       files = none_held before;
-      turns = λ p used_up r whole few known.
-          by_ready base name (Finished v) r old new [] ready known.follows
+      turns = λ p used_up r is_of known.
+          by_ready base name (Finished v) r old new [] s.ready known.follows
           (adds_finished base name old new v calls r known.outcome known.counted (ap (λ (l : Option Config). is_some l) known.last_is) text traps);
     })))
 
-pub trapped_added : (base name : List ℕ) (prepared : Prepared) (m : Machine) (ready : Bool) (a : RunAnswer) (kind : TrapKind) (calls : ℕ) (old new : Lines) (before after : Option Contents) (turn : Turn) (written : Written)
-    → a ≡ Trapped kind → turn ≡ turn_of ready (Trapped kind) → written ≡ Whole → IfWritten (AddsTrap base name prepared m (trap_code kind) calls old new before after) written
-    → UnlessRefused turn (Added base name prepared m ready a calls old new before after turn)
-trapped_added base name prepared m ready a kind calls old new before after turn written is turned whole_written added_there =
-    let adds : AddsTrap base name prepared m (trap_code kind) calls old new before after = subst (λ w. IfWritten (AddsTrap base name prepared m (trap_code kind) calls old new before after) w) whole_written added_there in
-    subst (λ x. added_to base name prepared m ready x calls old new before after turn) (sym is)
-    (subst (λ t. added_to base name prepared m ready (Trapped kind) calls old new before after t) (sym turned)
-    (of_turn base name prepared m ready ready (Trapped kind) calls old new before after (record {
+pub trapped_added : (base name : List ℕ) (s : State) (a : RunEnd) (kind : TrapKind) (calls : ℕ) (old new : Lines) (before after : Option Contents) (turn : Turn) (written : Written)
+    → a ≡ Trapped kind → turn ≡ turn_of s.ready (Trapped kind) → written ≡ Whole → IfWritten (AddsTrap base name s (trap_code kind) calls old new before after) written
+    → UnlessRefused turn (Added base name s a calls old new before after turn)
+trapped_added base name s a kind calls old new before after turn written is turned whole_written added_there =
+    let adds : AddsTrap base name s (trap_code kind) calls old new before after = subst (λ w. IfWritten (AddsTrap base name s (trap_code kind) calls old new before after) w) whole_written added_there in
+    subst (λ x. added_to base name s x calls old new before after turn) (sym is)
+    (subst (λ t. added_to base name s (Trapped kind) calls old new before after t) (sym turned)
+    (of_turn base name s s.ready (Trapped kind) calls old new before after (record {
       writes = (dump_name base old.traps, adds.bytes) ∷ [];
       files = one_held (dump_name base old.traps) adds.bytes before after adds.files;
-      turns = λ p used_up r whole few known.
-          let shown = adds.shows p known.last whole few known.keeps in
-          by_ready base name (Trapped kind) r old new ((dump_name base old.traps, adds.bytes) ∷ []) ready known.follows
+      turns = λ p used_up r is_of known.
+          let shown = adds.shows p known.last (trap_stands s p known.last is_of known.keeps) in
+          by_ready base name (Trapped kind) r old new ((dump_name base old.traps, adds.bytes) ∷ []) s.ready known.follows
           (adds_trapped base name adds.bytes old new (trap_code kind) known.last calls r known.outcome known.last_is known.counted shown.0 shown.1 adds.traps);
     })))
 
-pub stopped_added : (base name : List ℕ) (prepared : Prepared) (m : Machine) (ready : Bool) (a : RunAnswer) (calls : ℕ) (lines : Lines) (before : Option Contents)
+pub stopped_added : (base name : List ℕ) (s : State) (a : RunEnd) (calls : ℕ) (lines : Lines) (before : Option Contents)
     → ((v : Option Value) → a ≡ Finished v → ⊥) → ((kind : TrapKind) → a ≡ Trapped kind → ⊥) → (a ≡ NoMemory → ⊥)
-    → Added base name prepared m ready a calls lines lines before before (Ends a)
-stopped_added base name prepared m ready a calls lines before nf nt nm = record {
+    → Added base name s a calls lines lines before before (Ends a)
+stopped_added base name s a calls lines before nf nt nm = record {
   writes = [];
   files = none_held before;
-  turns = λ p used_up r whole few known.
+  turns = λ p used_up r is_of known.
       let quiet = adds_nothing base name p used_up a r lines nf nt nm known.outcome (ap (λ (l : Option Config). is_some l) known.last_is) in
       (refl, quiet.0, quiet.1);
 }
@@ -195,12 +196,12 @@ unwritten : (base name : List ℕ) (j : ℕ) (r : Ran) (told : Option Contents) 
 unfolding dumps_from
 unwritten base name j r told = no_part (dump_of base name j r.outcome r.last) told (few_dumps base name j r.outcome r.last)
 
-pub leaves_none : (base name : List ℕ) (prepared : Prepared) (m : Machine) (a : RunAnswer) (traps : ℕ) (told : Option Contents) → LeavesPart base name prepared m a traps told told
-leaves_none base name prepared m a traps told = λ p used_up r c whole few outcome last keeps. unwritten base name traps r told
+pub leaves_none : (base name : List ℕ) (s : State) (a : RunEnd) (traps : ℕ) (told : Option Contents) → LeavesPart base name s a traps told told
+leaves_none base name s a traps told = λ p used_up r c is_of outcome last keeps. unwritten base name traps r told
 
-pub leaves_dump : (base name : List ℕ) (prepared : Prepared) (m : Machine) (a : RunAnswer) (kind : TrapKind) (traps : ℕ) (before after : Option Contents) → a ≡ Trapped kind → LeavesFront name prepared m (dump_name base traps) before after → LeavesPart base name prepared m a traps before after
-leaves_dump base name prepared m a kind traps before after is front =
-    subst (λ x. LeavesPart base name prepared m x traps before after) (sym is)
-    (λ p used_up r c whole few outcome last keeps.
+pub leaves_dump : (base name : List ℕ) (s : State) (a : RunEnd) (kind : TrapKind) (traps : ℕ) (before after : Option Contents) → a ≡ Trapped kind → LeavesFront name s (dump_name base traps) before after → LeavesPart base name s a traps before after
+leaves_dump base name s a kind traps before after is front =
+    subst (λ x. LeavesPart base name s x traps before after) (sym is)
+    (λ p used_up r c is_of outcome last keeps.
     subst (λ ws. OnTold (HoldPart ws) before after) (sym (trapped_dumps base name traps r (trap_code kind) c outcome last))
-    (front_part (dump_name base traps) (bytes_of (image c name)) before after (front p c whole few keeps)))
+    (front_part (dump_name base traps) (bytes_of (image c name)) before after (front p c (trap_stands s p c is_of keeps))))

@@ -11,9 +11,9 @@ use Rattle.wasm_syntax.specs.Machine.{Engine}
 use Rattle.wasm_syntax.specs.Module.{Program}
 use Rattle.wasm_syntax.specs.Run.{Invocation, engine}
 use Rattle.host_devices.specs.HostSides.{Calls}
-use Rattle.entry_runs.specs.declared.answer.RunAnswer.{RunAnswer}
-use Rattle.entry_runs.specs.declared.answer.RunAnswer.TheVariants.{Finished, Trapped, NoReply, BadReply, DeviceFault, FuelSpent, NoMemory}
-use Rattle.entry_runs.specs.Answers.{HasCause}
+use Rattle.machine_hosted.specs.declared.answer.RunEnd.{RunEnd}
+use Rattle.machine_hosted.specs.declared.answer.RunEnd.TheVariants.{Finished, Trapped, NoReply, BadReply, DeviceFault, FuelSpent, NoMemory}
+use Rattle.machine_hosted.specs.Answers.{HasCause}
 use Rattle.wasm_machine.specs.Instances.{State}
 use Rattle.command_answers.specs.Texts.{ended}
 use Rattle.command_answers.specs.Told.{UnlessFault}
@@ -21,12 +21,12 @@ use Rattle.command_answers.specs.declared.outcome.Outcome.{Outcome}
 use Rattle.run_words.specs.declared.invocation.Invocation.{Invocation as InvocationWords}
 use Rattle.run_session.specs.RunText.{dumps_from}
 use Rattle.run_session.specs.Invocations.{invocation_of}
-use Rattle.run_session.specs.Answers.{answer_line, answer_status}
+use Rattle.run_session.specs.inner.Answers.{answer_line, answer_status}
 use Rattle.run_session.specs.Ending.{trapped_or_done}
-use Rattle.run_session.specs.Progress.{session_from}
-use Rattle.run_session.specs.Turns.{UnlessRefused, IfGoesOn, IfEnds, IfTurnRefused}
+use Rattle.run_session.specs.inner.Progress.{session_from}
+use Rattle.run_session.specs.inner.Turns.{UnlessRefused, IfGoesOn, IfEnds, IfTurnRefused}
 use Rattle.run_session.specs.Stop.{Stop, OnStop}
-use Rattle.run_session.specs.Sessions.{point_of, MadeOne, SoFar, RanAll, StopsIn, OnTurnStop}
+use Rattle.run_session.specs.inner.Sessions.{point_of, MadeOne, SoFar, RanAll, StopsIn, OnTurnStop}
 use Rattle.run_session.specs.declared.turns.Lines.{Lines}
 use Rattle.run_session.specs.declared.turns.Turn.{Turn}
 use Rattle.run_session.specs.declared.turns.Turn.TheVariants.{GoesOn, Ends, Refused}
@@ -112,13 +112,13 @@ module _ (p : Program) (col also : Bool) (depth : ℕ) (base name : List ℕ) (u
       (list_goes_on p (engine p col depth) base name used_up first s new done i fuel old later before mid after told_before told_mid told_after so_far
       (subst (λ c. made_by GoesOn c) same (subst (λ t. UnlessRefused t (made_by t also)) is made)))
 
-  ends_with : (turn : Turn) (a : RunAnswer) (all : List Invocation) → turn ≡ Ends a → done ++ i ∷ rest ≡ all → UnlessRefused turn (made_by turn also) → EndedWith p (engine p col depth) base name used_up (point_of first all fuel) later before after told_before told_after a (length rest)
+  ends_with : (turn : Turn) (a : RunEnd) (all : List Invocation) → turn ≡ Ends a → done ++ i ∷ rest ≡ all → UnlessRefused turn (made_by turn also) → EndedWith p (engine p col depth) base name used_up (point_of first all fuel) later before after told_before told_after a (length rest)
   ends_with turn a all is are made =
       subst (λ l. EndedWith p (engine p col depth) base name used_up (point_of first l fuel) later before after told_before told_after a (length rest)) are
       (list_ends p (engine p col depth) base name used_up first s new done i rest fuel old later before mid after told_before told_mid told_after a so_far
       (subst (λ c. made_by (Ends a) c) same (subst (λ t. UnlessRefused t (made_by t also)) is made)))
 
-  pub ends_ran : (counts now : List ℕ → ℕ) (turn : Turn) (a : RunAnswer) (result : Result Outcome WantOfMemory) (all : List Invocation) (left count : ℕ) → turn ≡ Ends a → done ++ i ∷ rest ≡ all → UnlessRefused turn (made_by turn also) → length rest ≡ left → before.served ≡ [] → count ≡ length after.served
+  pub ends_ran : (counts now : List ℕ → ℕ) (turn : Turn) (a : RunEnd) (result : Result Outcome WantOfMemory) (all : List Invocation) (left count : ℕ) → turn ≡ Ends a → done ++ i ∷ rest ≡ all → UnlessRefused turn (made_by turn also) → length rest ≡ left → before.served ≡ [] → count ≡ length after.served
       → (a ≡ NoMemory → ⊥) → HasCause a counts now → IfOk result (λ o. o ≡ ended (answer_status a later.traps) (later.text ++ answer_line a count left))
       → IfOk result (λ o. UnlessFault o.status (RanAll p (engine p col depth) base name used_up counts now (point_of first all fuel) before after told_before told_after o))
   ends_ran counts now turn a (Err e) all left count is are made leaves none counted some cause answer = tt
@@ -129,7 +129,7 @@ module _ (p : Program) (col also : Bool) (depth : ℕ) (base name : List ℕ) (u
       (ends_with turn a all is are made))
 
   -- the line of its end can't be told
-  pub ends_stopped : (turn : Turn) (a : RunAnswer) (result : Result Outcome WantOfMemory) (all : List Invocation) (left count : ℕ) → turn ≡ Ends a → done ++ i ∷ rest ≡ all → UnlessRefused turn (made_by turn also) → first.steps ≡ 0
+  pub ends_stopped : (turn : Turn) (a : RunEnd) (result : Result Outcome WantOfMemory) (all : List Invocation) (left count : ℕ) → turn ≡ Ends a → done ++ i ∷ rest ≡ all → UnlessRefused turn (made_by turn also) → first.steps ≡ 0
       → IfOk result (λ o. o ≡ ended (answer_status a later.traps) (later.text ++ answer_line a count left))
       → OnStop (λ stop. StopsIn stop (engine p col depth) base name 0 first all fuel before after told_before told_after) result
   ends_stopped turn a (Err e) all left count is are made steps answer =
@@ -172,11 +172,11 @@ all_ran_so p M base name used_up counts now first s all xs k fuel lines before a
 
 -- ---- the answer that ends the list
 
-pub of_end : (turn : Turn) (a : RunAnswer) (P : RunAnswer → Type 0) → turn ≡ Ends a → IfEnds P turn → P a
+pub of_end : (turn : Turn) (a : RunEnd) (P : RunEnd → Type 0) → turn ≡ Ends a → IfEnds P turn → P a
 of_end turn a P is x = subst (λ t. IfEnds P t) is x
 
 -- what rose since a later count rose since an earlier one
-pub cause_since : (a : RunAnswer) (first mid now : List ℕ → ℕ) → ((n : List ℕ) → first n ≤ mid n) → HasCause a mid now → HasCause a first now
+pub cause_since : (a : RunEnd) (first mid now : List ℕ → ℕ) → ((n : List ℕ) → first n ≤ mid n) → HasCause a mid now → HasCause a first now
 cause_since (DeviceFault device) first mid now later rose = rose_since (first device) (mid device) (now device) (later device) rose
 cause_since (Finished v) first mid now later rose = tt
 cause_since (Trapped kind) first mid now later rose = tt

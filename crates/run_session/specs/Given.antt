@@ -4,7 +4,7 @@ use Rattle.std.specs.List.{flat_map}
 use Rattle.wasm_syntax.specs.declared.parts.Import.{Import}
 use Rattle.wasm_syntax.specs.declared.host.Served.{Served}
 use Rattle.wasm_syntax.specs.Run.{Ran}
-use Rattle.entry_runs.specs.Invocations.{unfitting}
+use Rattle.host_devices.specs.Given.{unfitting}
 
 -- all calls of an invocation with their replies, in order; the last one may have a reply that does not fit
 abbrev pub given_to : Ran → List Served

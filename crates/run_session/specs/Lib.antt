@@ -2,10 +2,6 @@ pub mod RunText
 pub mod Given
 pub mod Invocations
 pub mod Written
-pub mod Progress
 pub mod Ending
-pub mod Answers
-pub mod Dumping
 pub mod Stop
-pub mod Turns
-pub mod Sessions
+pub mod inner

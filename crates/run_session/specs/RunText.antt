@@ -8,8 +8,8 @@ use Rattle.wasm_syntax.specs.declared.host.HostCall.{HostCall}
 use Rattle.wasm_syntax.specs.declared.host.Reply.{Reply}
 use Rattle.wasm_syntax.specs.Machine.{Config, first}
 use Rattle.wasm_syntax.specs.Run.{Outcome, not_started, finished, trapped, lacks_reply, misfits, running, got_stuck, Ran}
-use Rattle.unwind_rewrite.specs.Image.{DumpFrame, frame_images, image}
-use Rattle.instrument.specs.DumpBytes.{bytes_of}
+use Rattle.dump_write.specs.Image.{DumpFrame, frame_images, image}
+use Rattle.dump_write.specs.ImageBytes.{bytes_of}
 use Rattle.command_answers.specs.Values.{value_text}
 
 -- ---- the lines of one invocation

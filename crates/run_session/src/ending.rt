@@ -3,13 +3,13 @@
 ghost use Rattle.std.specs.Prelude.{◌≡◌, ◌++◌, IfOk};
 ghost use Rattle.command_answers.specs.Texts.{ended};
 ghost use Rattle.run_session.specs.Ending.{host_stopped, trapped_or_done};
-ghost use Rattle.run_session.specs.Answers.{device_cause, misfit_cause, answer_line, answer_status};
+ghost use Rattle.run_session.specs.inner.Answers.{device_cause, misfit_cause, answer_line, answer_status};
 
 use crate::lines::{not_invoked, numbered};
 use crate::turns::Lines;
 use causes::NoMemory;
 use command_answers::{Outcome, Status};
-use entry_runs::RunAnswer;
+use machine_hosted::RunEnd;
 use pm_text::Text;
 use std::alloc::Global;
 
@@ -41,26 +41,26 @@ fn misfit_cause(alloc: Global, number: u64) -> Result<Text, NoMemory>
 }
 
 /// The last line, behind so many replies and with so many invocations that were not begun.
-fn end_line(alloc: Global, answer: &RunAnswer, given: u64, due: usize) -> Result<Text, NoMemory>
+fn end_line(alloc: Global, answer: &RunEnd, given: u64, due: usize) -> Result<Text, NoMemory>
     ensures { IfOk result (λ t. t ≡ answer_line answer.now given due) }
 {
     match answer {
-        RunAnswer::Finished { .. } => Ok(Text::new(alloc)),
-        RunAnswer::Trapped { .. } => not_invoked(alloc, due),
-        RunAnswer::NoReply => {
+        RunEnd::Finished { .. } => Ok(Text::new(alloc)),
+        RunEnd::Trapped { .. } => not_invoked(alloc, due),
+        RunEnd::NoReply => {
             let cause = numbered(alloc, "no reply for call ", given)?;
             stopped(alloc, &cause)
         }
-        RunAnswer::BadReply { .. } => {
+        RunEnd::BadReply { .. } => {
             let cause = misfit_cause(alloc, given.saturating_sub(1))?;
             stopped(alloc, &cause)
         }
-        RunAnswer::DeviceFault { name } => {
+        RunEnd::DeviceFault { name } => {
             let cause = device_cause(alloc, name)?;
             stopped(alloc, &cause)
         }
-        RunAnswer::FuelSpent => Text::from_str(alloc, "fuel spent\n"),
-        RunAnswer::NoMemory => Ok(Text::new(alloc)),
+        RunEnd::FuelSpent => Text::from_str(alloc, "fuel spent\n"),
+        RunEnd::NoMemory => Ok(Text::new(alloc)),
     }
 }
 
@@ -76,17 +76,17 @@ fn trapped_or_done(traps: u64) -> Status
 }
 
 /// The status of a list that ends with an answer, behind so many traps.
-fn answer_status(answer: &RunAnswer, traps: u64) -> Status
+fn answer_status(answer: &RunEnd, traps: u64) -> Status
     ensures { result ≡ answer_status answer.now traps }
 {
     match answer {
-        RunAnswer::Finished { .. } => trapped_or_done(traps),
-        RunAnswer::Trapped { .. } => Status::Trapped,
-        RunAnswer::NoReply => Status::HostStopped,
-        RunAnswer::BadReply { .. } => Status::HostStopped,
-        RunAnswer::DeviceFault { .. } => Status::HostStopped,
-        RunAnswer::FuelSpent => Status::FuelSpent,
-        RunAnswer::NoMemory => Status::NoMemory,
+        RunEnd::Finished { .. } => trapped_or_done(traps),
+        RunEnd::Trapped { .. } => Status::Trapped,
+        RunEnd::NoReply => Status::HostStopped,
+        RunEnd::BadReply { .. } => Status::HostStopped,
+        RunEnd::DeviceFault { .. } => Status::HostStopped,
+        RunEnd::FuelSpent => Status::FuelSpent,
+        RunEnd::NoMemory => Status::NoMemory,
     }
 }
 
@@ -94,7 +94,7 @@ fn answer_status(answer: &RunAnswer, traps: u64) -> Status
 pub(crate) fn ended_with(
     alloc: Global,
     lines: Lines,
-    answer: &RunAnswer,
+    answer: &RunEnd,
     given: u64,
     due: usize,
 ) -> Result<Outcome, NoMemory>

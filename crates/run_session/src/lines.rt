@@ -2,12 +2,12 @@
 
 ghost use Rattle.std.specs.Prelude.{◌≡◌, ◌++◌, IfOk, OnOk};
 ghost use Rattle.std.specs.Fmt.{decimal};
-ghost use Rattle.basic_steps.specs.Traps.{trap_code};
+ghost use Rattle.machine_basics.specs.Traps.{trap_code};
 ghost use Rattle.run_session.specs.RunText.{kind_text, kind_line, place_line, calls_text, result_text, finished_text, not_invoked_text};
 
-use basic_steps::TrapKind;
 use causes::NoMemory;
 use command_answers::{push_number, push_value};
+use machine_basics::TrapKind;
 use pm_text::Text;
 use std::alloc::Global;
 use wasm_syntax::Value;

@@ -1,30 +1,29 @@
 //! Lists of invocations on one instance.
 
-ghost use Rattle.std.specs.Prelude.{◌≡◌, ◌≢◌, ◌<◌, ◌≤◌, ◌+◌, ◌-◌, ◌^◌, ◌∷◌, [], ℕ, List, All, map, IfOk, true, length, is_some};
+ghost use Rattle.std.specs.Prelude.{◌≡◌, ◌≢◌, ◌<◌, ◌≤◌, ◌+◌, ◌-◌, ◌^◌, ◌∷◌, [], ℕ, List, None, All, map, IfOk, true, length, is_some};
 ghost use Rattle.causes.specs.Counts.{Rose};
 ghost use Rattle.wasm_syntax.specs.declared.parts.Import.{Import as ImportValue};
 ghost use Rattle.wasm_syntax.specs.declared.parts.FuncType.{FuncType as TypeValue};
-ghost use Rattle.wasm_syntax.specs.Module.{Program, IsProgram};
+ghost use Rattle.wasm_syntax.specs.Module.{Program};
 ghost use Rattle.wasm_syntax.specs.Run.{Invocation as Invoking, engine};
-ghost use Rattle.trap_image.specs.Pictured.{FewFunctions};
-ghost use Rattle.entry_runs.specs.Settings.{ServesAll};
-ghost use Rattle.entry_runs.specs.Answers.{HasCause};
+ghost use Rattle.wasm_machine.specs.Instances.{IsOf};
+ghost use Rattle.wasm_machine.specs.Entries.{entry_fault};
+ghost use Rattle.machine_hosted.specs.Answers.{HasCause};
 ghost use Rattle.command_answers.specs.Texts.{file_fault};
 ghost use Rattle.command_answers.specs.Told.{UnlessFault};
 ghost use Rattle.run_session.specs.RunText.{dump_name};
 ghost use Rattle.run_session.specs.Invocations.{invocation_of};
-ghost use Rattle.run_session.specs.Turns.{UnlessRefused, IfGoesOn, IfEnds, IfTurnRefused};
+ghost use Rattle.run_session.specs.inner.Turns.{UnlessRefused, IfGoesOn, IfEnds, IfTurnRefused};
 ghost use Rattle.run_session.specs.Stop.{OnStop};
-ghost use Rattle.run_session.specs.Sessions.{MayBegin, point_of, MadeOne, RanAll, IsDumpFault, StopsIn, OnTurnStop};
+ghost use Rattle.run_session.specs.inner.Sessions.{point_of, MadeOne, RanAll, IsDumpFault, StopsIn, OnTurnStop};
 
 use crate::ending::{all_made, ended_with};
 use crate::turns::{Lines, Turn, add_lines};
 use causes::NoMemory;
 use command_answers::{Outcome, Status};
-use device_set::{Devices, Hosts};
-use entry_runs::RunAnswer;
 use host_devices::HostSide;
-use instance_start::entry_function;
+use host_set::{Devices, Hosts};
+use machine_hosted::RunEnd;
 use pm_outside::Files;
 use pm_text::Text;
 use run_words::{Invocation, RunWords};
@@ -55,45 +54,34 @@ pub(crate) fn run_one<F: Files, H: Counting>(
     lines: &mut Lines,
 ) -> Result<Turn, NoMemory>
     requires ready { instance.old.ready ≡ true }
-    requires entry { MayBegin instance.old.module_ (invocation_of invocation.now) }
-    requires served { ServesAll (H.serving hosts.old) instance.old.module_ }
+    requires entry { entry_fault (H.serving hosts.old) instance.old.module_ invocation.now.entry invocation.now.args ≡ None }
     requires imports { (H.origin hosts.old).imports ≡ instance.old.module_.imports }
     requires traps { lines.old.traps < 2 ^ 64 - 1 }
-    ensures made { (p : Program) → p.module_ ≡ instance.old.module_ → IsProgram p → FewFunctions p.module_ → IfOk result (λ turn. UnlessRefused turn (MadeOne p (engine p (H.collecting hosts.old) words.now.depth) words.now.dump words.now.name (H.used_up hosts.new) instance.old instance.new (invocation_of invocation.now) words.now.fuel lines.old lines.new (H.calls hosts.old) (H.calls hosts.new) (F.told files.old) (F.told files.new) turn)) }
-    ensures stops { (p : Program) (rest : List Invoking) → p.module_ ≡ instance.old.module_ → IsProgram p → FewFunctions p.module_ → instance.old.steps ≤ words.now.fuel → OnTurnStop (λ stop. StopsIn stop (engine p (H.collecting hosts.old) words.now.depth) words.now.dump words.now.name lines.old.traps instance.old (invocation_of invocation.now ∷ rest) words.now.fuel (H.calls hosts.old) (H.calls hosts.new) (F.told files.old) (F.told files.new)) result }
+    ensures made { (p : Program) → IsOf instance.old p → IfOk result (λ turn. UnlessRefused turn (MadeOne p (engine p (H.collecting hosts.old) words.now.depth) words.now.dump words.now.name (H.used_up hosts.new) instance.old instance.new (invocation_of invocation.now) words.now.fuel lines.old lines.new (H.calls hosts.old) (H.calls hosts.new) (F.told files.old) (F.told files.new) turn)) }
+    ensures stops { (p : Program) (rest : List Invoking) → IsOf instance.old p → instance.old.steps ≤ words.now.fuel → OnTurnStop (λ stop. StopsIn stop (engine p (H.collecting hosts.old) words.now.depth) words.now.dump words.now.name lines.old.traps instance.old (invocation_of invocation.now ∷ rest) words.now.fuel (H.calls hosts.old) (H.calls hosts.new) (F.told files.old) (F.told files.new)) result }
     ensures ready { IfOk result (IfGoesOn (instance.new.ready ≡ true)) }
     ensures same { instance.new.module_ ≡ instance.old.module_ }
     ensures serving { (i : ImportValue) (t : TypeValue) → H.serving hosts.new i t ≡ H.serving hosts.old i t }
     ensures collecting { H.collecting hosts.new ≡ H.collecting hosts.old }
     ensures origin { H.origin hosts.new ≡ H.origin hosts.old }
     ensures counts { (name : List ℕ) → H.fault_count hosts.old name ≤ H.fault_count hosts.new name }
-    ensures memory { IfOk result (IfEnds (λ answer. answer ≢ RunAnswer.NoMemory)) }
+    ensures memory { IfOk result (IfEnds (λ answer. answer ≢ RunEnd.NoMemory)) }
     ensures cause { IfOk result (IfEnds (λ answer. HasCause answer (H.fault_count hosts.old) (H.fault_count hosts.new))) }
     ensures one { lines.new.traps ≤ lines.old.traps + 1 }
     ensures refused { IfOk result (IfTurnRefused (λ o. (o ≡ file_fault (dump_name words.now.dump lines.old.traps)) × Rose (F.faults files.old) (F.faults files.new))) }
     ensures telling { is_some (F.told files.new) ≡ is_some (F.told files.old) }
     ensures later { F.faults files.old ≤ F.faults files.new }
 {
-    let Some(entry) = entry_function(instance.parts(), invocation.entry.as_str()) else {
-        unreachable!();
-    };
     let before = hosts.given();
     let left = words.fuel.saturating_sub(instance.steps());
+    let entry = invocation.entry.as_str();
     let args = invocation.args.as_slice();
-    let answer = instance.invoke(alloc, entry, args, words.depth, left, hosts);
+    let answer = instance.invoke(entry, args, words.depth, left, hosts);
+    let Ok(end) = answer.end() else {
+        unreachable!();
+    };
     let calls = hosts.given().saturating_sub(before);
-    let ready = instance.ready();
-    add_lines(
-        alloc,
-        files,
-        words,
-        instance.machine(),
-        instance.prepared(),
-        ready,
-        answer,
-        calls,
-        lines,
-    )
+    add_lines(alloc, files, words, instance, end, calls, lines)
 }
 
 /// Makes the invocations that the words name one after the other on a new instance, up to the first one behind which the
@@ -113,14 +101,13 @@ pub fn run_all<F: Files, H: Counting>(
     hosts: &mut H,
 ) -> Result<Outcome, NoMemory>
     requires ready { instance.old.ready ≡ true }
-    requires entries { All (λ i. MayBegin instance.old.module_ (invocation_of i)) words.now.invocations }
+    requires entries { All (λ i. entry_fault (H.serving hosts.old) instance.old.module_ i.entry i.args ≡ None) words.now.invocations }
     requires some { 0 < length words.now.invocations }
-    requires served { ServesAll (H.serving hosts.old) instance.old.module_ }
     requires imports { (H.origin hosts.old).imports ≡ instance.old.module_.imports }
     requires steps { instance.old.steps ≡ 0 }
     requires calls { (H.calls hosts.old).served ≡ [] }
-    ensures ran { (p : Program) → p.module_ ≡ instance.old.module_ → IsProgram p → FewFunctions p.module_ → IfOk result (λ o. UnlessFault o.status (RanAll p (engine p (H.collecting hosts.old) words.now.depth) words.now.dump words.now.name (H.used_up hosts.new) (H.fault_count hosts.old) (H.fault_count hosts.new) (point_of instance.old (map invocation_of words.now.invocations) words.now.fuel) (H.calls hosts.old) (H.calls hosts.new) (F.told files.old) (F.told files.new) o)) }
-    ensures stops { (p : Program) → p.module_ ≡ instance.old.module_ → IsProgram p → FewFunctions p.module_ → OnStop (λ stop. StopsIn stop (engine p (H.collecting hosts.old) words.now.depth) words.now.dump words.now.name 0 instance.old (map invocation_of words.now.invocations) words.now.fuel (H.calls hosts.old) (H.calls hosts.new) (F.told files.old) (F.told files.new)) result }
+    ensures ran { (p : Program) → IsOf instance.old p → IfOk result (λ o. UnlessFault o.status (RanAll p (engine p (H.collecting hosts.old) words.now.depth) words.now.dump words.now.name (H.used_up hosts.new) (H.fault_count hosts.old) (H.fault_count hosts.new) (point_of instance.old (map invocation_of words.now.invocations) words.now.fuel) (H.calls hosts.old) (H.calls hosts.new) (F.told files.old) (F.told files.new) o)) }
+    ensures stops { (p : Program) → IsOf instance.old p → OnStop (λ stop. StopsIn stop (engine p (H.collecting hosts.old) words.now.depth) words.now.dump words.now.name 0 instance.old (map invocation_of words.now.invocations) words.now.fuel (H.calls hosts.old) (H.calls hosts.new) (F.told files.old) (F.told files.new)) result }
     ensures memory { IfOk result (λ o. o.status ≢ Status.NoMemory) }
     ensures fault { IfOk result (λ o. o.status ≡ Status.FileFault → IsDumpFault words.now.dump o × Rose (F.faults files.old) (F.faults files.new)) }
     ensures origin { H.origin hosts.new ≡ H.origin hosts.old }

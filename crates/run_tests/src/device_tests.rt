@@ -4,8 +4,8 @@ ghost use Rattle.std.specs.Prelude.{◌≡◌, codes, []};
 
 use crate::run_modules::{FAR_STORES_LENT, LENDING, PRINTING, TWICE_NEXT};
 use crate::run_trial::{runs, with_module};
-use device_set::DeviceSet;
 use host_devices::{Console, Counter, Device, DeviceAnswer, copy_call};
+use host_set::DeviceSet;
 use linear_memory::Memory;
 use pm_text::Items;
 use std::alloc::Global;

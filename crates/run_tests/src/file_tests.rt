@@ -2,7 +2,7 @@
 
 use crate::run_modules::{FAR_STORES, READING};
 use crate::run_trial::{runs, with_module};
-use device_set::DeviceSet;
+use host_set::DeviceSet;
 use pm_outside::MemFiles;
 use std::alloc::{AllocError, Global};
 use std::process::Abort;

@@ -1,10 +1,10 @@
 //! `run` over files in memory. What is wanted was worked out by hand from Core 4.4 and 4.5.
 
-ghost use Rattle.device_set.specs.Sets.{AreDistinct, names};
+ghost use Rattle.host_set.specs.Sets.{AreDistinct, names};
 
 use crate::run_modules::*;
-use device_set::{DeviceSet, Devices};
 use host_devices::{Console, Counter, Device};
+use host_set::{DeviceSet, Devices};
 use pm_cli::post_mortem;
 use pm_outside::{MemFiles, MemSink};
 use std::alloc::Global;

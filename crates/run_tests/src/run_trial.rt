@@ -1,8 +1,8 @@
 //! `run` over files in memory and devices.
 
-ghost use Rattle.device_set.specs.Sets.{AreDistinct, names};
+ghost use Rattle.host_set.specs.Sets.{AreDistinct, names};
 
-use device_set::Devices;
+use host_set::Devices;
 use pm_cli::post_mortem;
 use pm_outside::{MemFiles, MemSink};
 use std::alloc::Global;

@@ -2,7 +2,7 @@
 use Rattle.std.specs.Prelude.{ℕ, List, [], ◌∷◌, ◌&&◌, length, nat_le, Option, Some, None, if◌then◌else◌, codes, option_and_then, unwrap_or}
 use Rattle.std.specs.Option.{option_map}
 use Rattle.pm_text.specs.Numbers.{decimal_value}
-use Rattle.word_rules.specs.Reading.{Word, Allowed, Read, given_value, read_words}
+use Rattle.command_words.specs.Reading.{Word, Allowed, Read, given_value, read_words}
 use Rattle.run_words.specs.Invocations.{invocations}
 use Rattle.run_words.specs.declared.words.RunWords.{RunWords}
 

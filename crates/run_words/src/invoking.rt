@@ -2,14 +2,14 @@
 
 ghost use Rattle.std.specs.Prelude.{◌≡◌, ◌<◌, ◌^◌, length, map, false, Some, None, IfOk};
 ghost use Rattle.std.specs.List.{slice_split};
-ghost use Rattle.replies_file.specs.Replies.{typed};
+ghost use Rattle.host_replies.specs.Replies.{typed};
 ghost use Rattle.run_words.specs.Invocations.{argument, each, invocation, invocations, is_plus};
 
 use crate::invocation::{Invocation, Invocations};
+use command_words::WordsFault;
 use pm_text::{Items, NoMemory, Number, Text, read_value};
 use std::alloc::Global;
 use wasm_syntax::{Value, Values};
-use word_rules::WordsFault;
 
 /// A number of 32 or 64 bits as a value.
 fn typed(number: Number) -> Value

@@ -3,8 +3,6 @@
 
 mod invocation;
 mod invoking;
-#[cfg(test)]
-mod tests;
 mod words;
 
 pub use causes::NoMemory;

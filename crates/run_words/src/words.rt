@@ -2,14 +2,14 @@
 
 ghost use Rattle.std.specs.Prelude.{◌≡◌, ◌<◌, ◌≤◌, length, map, Some, None, IfOk, IfSome, MatchOption, unwrap_or};
 ghost use Rattle.std.specs.String.{string_bytes};
-ghost use Rattle.word_rules.specs.Reading.{given_value};
+ghost use Rattle.command_words.specs.Reading.{given_value};
 ghost use Rattle.run_words.specs.RunWords.{run_options, number_or, fuel, depth, name, dump, replies, asked, run_words};
 
 use crate::invocation::Invocations;
 use crate::invoking::invocations;
+use command_words::{Options, Reading, WordsFault, read_words};
 use pm_text::{NoMemory, Text, read_decimal};
 use std::alloc::Global;
-use word_rules::{Options, Reading, WordsFault, read_words};
 
 /// The words behind `run`, with the defaults of what is not given.
 #[derive(Drop)]

@@ -1,9 +1,10 @@
 -- Dumps that show an image, and their canonical bytes.
-use Rattle.std.proofs.Common.{◌≡◌, ℕ, ◌+◌, ◌-◌, ◌*◌, ◌/◌, ◌^◌, ◌<◌, ◌≤◌, List, [], ◌∷◌, ◌++◌, length, map, drop, replicate, refl, sym, ap, subst, ◌∙◌, arith, add-one, Option, Some, None}
-use Rattle.std.specs.Prelude.{min, option_map, IfSome}
+use Rattle.std.proofs.Common.{◌≡◌, ℕ, suc, ◌+◌, ◌-◌, ◌*◌, ◌/◌, ◌^◌, ◌<◌, ◌≤◌, List, [], ◌∷◌, ◌++◌, length, map, take, drop, replicate, refl, sym, ap, subst, ◌∙◌, arith, add-one, Option, Some, None}
+use Rattle.std.specs.Prelude.{min, option_map, slice_get, IfSome}
 use Rattle.std.specs.List.{range_with_len}
 use Rattle.std.proofs.Math.Nat.{min-eq_left}
-use Rattle.std.proofs.lemmas.List.{append-nil, length-replicate, drop_all}
+use Rattle.std.proofs.lemmas.List.{append-nil, length-replicate, drop_all, take_more, map-append, length-map}
+use Rattle.std.proofs.lemmas.Option.{slice_get_within, get_or_from_slice_get}
 use Rattle.linear_memory.specs.Memory.{Memory, page_size, pages, splice}
 use Rattle.linear_memory.specs.Paged.{Paged}
 use Rattle.dump_format.specs.declared.dump.Dump.{Dump}
@@ -13,8 +14,9 @@ use Rattle.dump_format.specs.Sections.{header}
 use Rattle.dump_write.specs.Pages.{laid_on, memory_bytes, used_pages}
 use Rattle.dump_write.specs.Canonical.{core_bytes, modules_bytes, instances_bytes, instance_of, stack_bytes, memory_section, memory_indices, globals_section, data_section, sections_before_data, canonical_bytes}
 use Rattle.dump_write.proofs.Vectors.{range_more}
-use Rattle.unwind_rewrite.specs.Image.{Dump as Image}
-use Rattle.instrument.specs.DumpBytes.{frame_of, dump_of, bytes_of}
+use Rattle.wasm_syntax.specs.Machine.{Frame}
+use Rattle.dump_write.specs.Image.{DumpFrame, frame_image, frame_images, Dump as Image}
+use Rattle.dump_write.specs.ImageBytes.{frame_of, dump_of, bytes_of}
 use Rattle.trap_image.specs.Pictured.{Pictures, CoversIfThere}
 
 -- ---- the memory of an image, which is one segment
@@ -101,3 +103,15 @@ pub range_grown : (n : ℕ) → range_with_len 0 (n + 1) ≡ range_with_len 0 n 
 range_grown n =
     let same : 0 + n ≡ n = omega arith in
     ap (λ (k : ℕ). range_with_len 0 k) (add-one n) ∙ range_more 0 n ∙ ap (λ (k : ℕ). range_with_len 0 n ++ k ∷ []) same
+
+-- ---- the frames
+
+-- the frame at an index behind those before it
+pub frame_more : (xs : List DumpFrame) (i : ℕ) (x : DumpFrame) → slice_get xs i ≡ Some x → map frame_of (take (i + 1) xs) ≡ map frame_of (take i xs) ++ frame_of x ∷ []
+frame_more xs i x there =
+    ap (λ (ys : List DumpFrame). map frame_of ys) (take_more xs i x (slice_get_within xs i x there) ∙ ap (λ (y : DumpFrame). take i xs ++ y ∷ []) (get_or_from_slice_get xs i x x there))
+    ∙ map-append frame_of (take i xs) (x ∷ [])
+
+pub images_count : (fs : List Frame) → length (frame_images fs) ≡ length fs
+images_count [] = refl
+images_count (f ∷ fs) = ap (λ (n : ℕ). suc n) (length-map fs (λ g. frame_image g.call g))

@@ -1,18 +1,13 @@
--- The dump of a machine that stands for a configuration.
+-- The dump of an instance that stands at a configuration.
 use Rattle.std.specs.Prelude.{◌≡◌, ◌+◌, ◌*◌, ◌/◌, ◌^◌, ◌<◌, ◌≤◌, List, [], ◌∷◌, length, map, replicate, All, Option, Some, None, option_map, IfSome}
 use Rattle.linear_memory.specs.Memory.{page_size, pages}
 use Rattle.linear_memory.specs.Paged.{Paged}
-use Rattle.wasm_syntax.specs.declared.module.ModuleParts.{ModuleParts as Module}
 use Rattle.dump_format.specs.declared.dump.Dump.{Dump}
 use Rattle.dump_format.specs.Region.{Region}
 use Rattle.dump_write.specs.Pages.{laid_on, memory_bytes}
 use Rattle.dump_write.specs.Canonical.{instance_of}
-use Rattle.unwind_rewrite.specs.Image.{Dump as Image}
-use Rattle.instrument.specs.DumpBytes.{frame_of}
-
--- the index of each function has 32 bits
-abbrev pub FewFunctions : Module → Type 0
-FewFunctions m = length m.imports + length m.functions < 2 ^ 32
+use Rattle.dump_write.specs.Image.{Dump as Image}
+use Rattle.dump_write.specs.ImageBytes.{frame_of}
 
 -- the dump is this image: one module and one instance of its name
 pub record Pictures (i : Image) (d : Dump) : Type 0 where

@@ -5,24 +5,20 @@ ghost use Rattle.std.specs.List.{range_with_len};
 ghost use Rattle.linear_memory.specs.Memory.{pages};
 ghost use Rattle.wasm_syntax.specs.Module.{Program};
 ghost use Rattle.wasm_syntax.specs.Machine.{Config};
-ghost use Rattle.machine_steps.specs.Prepares.{IsPrepared};
-ghost use Rattle.machine_steps.specs.Meets.{StandsFor};
+ghost use Rattle.wasm_machine.specs.Instances.{StandsAt};
 ghost use Rattle.dump_format.specs.Form.{pages_of};
 ghost use Rattle.dump_format.specs.Contained.{IsContained};
 ghost use Rattle.dump_write.specs.Canonical.{canonical_bytes, memory_indices};
-ghost use Rattle.unwind_rewrite.specs.Image.{image as image_of};
-ghost use Rattle.instrument.specs.DumpBytes.{seen_of, frame_of, bytes_of};
-ghost use Rattle.trap_image.specs.Shown.{all_shown};
-ghost use Rattle.trap_image.specs.Pictured.{FewFunctions, Pictures, CoversIfThere};
+ghost use Rattle.dump_write.specs.Image.{frame_images, image as image_of};
+ghost use Rattle.dump_write.specs.ImageBytes.{seen_of, frame_of, bytes_of};
+ghost use Rattle.trap_image.specs.Pictured.{Pictures, CoversIfThere};
 
-use crate::frames::{FrameRef, frame_at, frame_count};
-use basic_steps::Shared;
 use causes::NoMemory;
-use dump_format::{Dump, Frame, Frames, Indices, Instance, Instances, Seens, Segments, Texts};
+use dump_format::{Dump, Frame, Frames, Indices, Instances, Seens, Segments, Texts};
 use dump_write::memory_segments;
-use machine_steps::{Machine, Prepared};
 use pm_text::{Items, Text};
 use std::alloc::Global;
+use wasm_machine::{FrameRef, Instance};
 use wasm_syntax::{Seen, Value};
 
 fn seen(value: Value) -> Seen
@@ -59,12 +55,12 @@ fn owned_frame(alloc: Global, frame: &FrameRef) -> Result<Frame, NoMemory>
 }
 
 /// All frames, innermost first.
-fn all_frames(alloc: Global, m: &Machine, prepared: &Prepared) -> Result<Frames, NoMemory>
-    ensures { IfOk result (λ v. v ≡ map frame_of (all_shown prepared.now m.now)) }
+fn all_frames(alloc: Global, instance: &Instance) -> Result<Frames, NoMemory>
+    ensures { (p : Program) (c : Config) → StandsAt instance.now p c → IfOk result (λ v. v ≡ map frame_of (frame_images c.frames)) }
 {
     let mut frames = Items::new(alloc);
-    for index in 0..frame_count(m) {
-        frames.push(owned_frame(alloc, &frame_at(m, prepared, index))?)?;
+    for index in 0..instance.frame_count() {
+        frames.push(owned_frame(alloc, &instance.frame(index))?)?;
     }
     Ok(frames)
 }
@@ -86,7 +82,7 @@ fn instances(alloc: Global, memory: Option<u32>, globals: usize) -> Result<Insta
 {
     let count = u32::try_from(globals).unwrap_or(u32::MAX);
     let mut out = Items::new(alloc);
-    out.push(Instance {
+    out.push(dump_format::Instance {
         module: 0,
         memories: indices(alloc, u32::from(memory.is_some()))?,
         globals: indices(alloc, count)?,
@@ -103,21 +99,21 @@ fn one_name(alloc: Global, name: &str) -> Result<Texts, NoMemory>
 }
 
 /// The size of the memory in pages, if there is one.
-fn memory_size(shared: &Shared) -> Option<u32>
-    ensures size { result ≡ option_map (λ m. pages m.memory) shared.now.memory }
+fn memory_size(instance: &Instance) -> Option<u32>
+    ensures size { result ≡ option_map (λ m. pages m.memory) instance.now.machine.shared.memory }
     ensures limit { pages_of result ≤ 4096 }
 {
-    match &shared.memory {
+    match instance.memory() {
         Some(memory) => Some(memory.size()),
         None => None,
     }
 }
 
 /// The pages of the memory that are made, if there is one.
-fn segments<'a>(alloc: Global, shared: &'a Shared) -> Result<Segments<'a>, NoMemory>
-    ensures { IfOk result (λ v. CoversIfThere shared.now.memory v) }
+fn segments<'a>(alloc: Global, instance: &'a Instance) -> Result<Segments<'a>, NoMemory>
+    ensures { IfOk result (λ v. CoversIfThere instance.now.machine.shared.memory v) }
 {
-    match &shared.memory {
+    match instance.memory() {
         Some(memory) => {
             let pages = memory_segments(alloc, memory)?;
             Ok(pages)
@@ -126,28 +122,23 @@ fn segments<'a>(alloc: Global, shared: &'a Shared) -> Result<Segments<'a>, NoMem
     }
 }
 
-/// The dump of a machine, with one module and one instance of this name. Its segments are the memory's pages that are made, and borrow
-/// their bytes.
-pub fn image<'a>(
-    alloc: Global,
-    m: &'a Machine,
-    prepared: &Prepared,
-    name: &str,
-) -> Result<Dump<'a>, NoMemory>
-    ensures image { (p : Program) (c : Config) → IsPrepared p prepared.now → FewFunctions p.module_ → StandsFor p prepared.now.codes.items m.now c → IfOk result (λ d. Pictures (image_of c name.now) d) }
-    ensures bytes { (p : Program) (c : Config) → IsPrepared p prepared.now → FewFunctions p.module_ → StandsFor p prepared.now.codes.items m.now c → IfOk result (λ d. canonical_bytes d ≡ bytes_of (image_of c name.now)) }
+/// The dump of an instance where it stands, with one module and one instance of this name. Its segments are the memory's pages that are made,
+/// and borrow their bytes.
+pub fn image<'a>(alloc: Global, instance: &'a Instance, name: &str) -> Result<Dump<'a>, NoMemory>
+    ensures image { (p : Program) (c : Config) → StandsAt instance.now p c → IfOk result (λ d. Pictures (image_of c name.now) d) }
+    ensures bytes { (p : Program) (c : Config) → StandsAt instance.now p c → IfOk result (λ d. canonical_bytes d ≡ bytes_of (image_of c name.now)) }
     ensures contained { IfOk result (λ d. IsContained d) }
     ensures pages { IfOk result (λ d. pages_of d.memory ≤ 4096) }
 {
-    let memory = memory_size(&m.shared);
-    let globals = m.shared.globals.as_slice();
+    let memory = memory_size(instance);
+    let globals = instance.globals();
     Ok(Dump {
         name: Text::from_str(alloc, name)?,
         modules: one_name(alloc, name)?,
         instances: instances(alloc, memory, globals.len())?,
-        frames: all_frames(alloc, m, prepared)?,
+        frames: all_frames(alloc, instance)?,
         memory,
         globals: Items::from_slice(alloc, globals)?,
-        segments: segments(alloc, &m.shared)?,
+        segments: segments(alloc, instance)?,
     })
 }

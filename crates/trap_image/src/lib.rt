@@ -1,9 +1,7 @@
-//! The dump of a machine that stands at a trap.
+//! The dump of an instance, as it stands at a trap or wherever else a run stopped.
 #![tactic(auto)]
 
 mod dump;
-mod frames;
 
 pub use causes::NoMemory;
 pub use dump::image;
-pub use frames::{FrameRef, frame, frame_count};

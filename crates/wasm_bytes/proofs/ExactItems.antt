@@ -8,12 +8,12 @@ use Rattle.std.proofs.lemmas.List.{take-append-drop, take_at, length-take, appen
 use Rattle.std.proofs.lemmas.Slice.Eq.{bytes_eq-Decides}
 use Rattle.std.proofs.Math.Seq.{drop-append_seam}
 use Rattle.wasm_leb.specs.declared.LebFault.{LebFault}
-use Rattle.wasm_leb.specs.Reading.{unsigned_at, u32_at, signed_at, s32_at, s64_at, placed}
+use Rattle.wasm_leb.specs.Reading.{unsigned_at, u32_at, u64_at, signed_at, s32_at, s64_at, placed}
 use Rattle.wasm_leb.proofs.UnsignedLaws.{unsigned_sound, unsigned_complete}
 use Rattle.wasm_leb.proofs.SignedLaws.{signed_sound, signed_complete}
 use Rattle.wasm_bytes.specs.Place.{Place}
-use Rattle.wasm_bytes.specs.Reading.{number_of, u32_item, s32_item, s64_item, byte_of, byte_item, one_of_item, fixed_item, bytes_item, run_item, sized_run_item, name_item, named_item}
-use Rattle.wasm_bytes.specs.Spelling.{always, leads, image, passing, u32, s32, s64, byte, one_of, text, run, sized_run, name}
+use Rattle.wasm_bytes.specs.Reading.{number_of, u32_item, u64_item, s32_item, s64_item, byte_of, byte_item, one_of_item, fixed_item, bytes_item, run_item, sized_run_item, name_item, named_item}
+use Rattle.wasm_bytes.specs.Spelling.{always, leads, image, passing, u32, u64, s32, s64, byte, one_of, text, run, sized_run, name}
 use Rattle.wasm_bytes.specs.Laws.{IsBytes, place, got, Took, IsExact}
 use Rattle.wasm_bytes.proofs.Places.{chosen, IsBytes-rest, place_behind, rest_length, byte_here, got_is, took_is, took_nothing}
 use Rattle.wasm_bytes.proofs.Exact.{first_took, then_took, same_exact, leads_exact, image_exact, checked_exact, as_one_exact}
@@ -55,6 +55,19 @@ u32_exact = record {
       took_number u32 before after s.front n.0 x q fits s.spells s.parts n.2;
   again = λ before front rest x s.
       let reads = unsigned_complete 32 front rest x s in
+      rw (drop-append_seam before (front ++ rest), reads) (ap (got x) (place_behind before front rest _ (behind_number before front rest)));
+}
+
+pub u64_exact : IsExact u64 u64_item
+unfolding u64_item u64_at
+u64_exact = record {
+  sound = λ before after x q fits read.
+      let n = number_ok (place before after) (length (before ++ after)) (unsigned_at 64 (drop (length before) (before ++ after))) x q read in
+      let here : unsigned_at 64 after ≡ Ok (x, n.0) = ap (unsigned_at 64) (sym (drop-append_seam before after)) ∙ n.1 in
+      let s = unsigned_sound 64 after (x, n.0) fits here in
+      took_number u64 before after s.front n.0 x q fits s.spells s.parts n.2;
+  again = λ before front rest x s.
+      let reads = unsigned_complete 64 front rest x s in
       rw (drop-append_seam before (front ++ rest), reads) (ap (got x) (place_behind before front rest _ (behind_number before front rest)));
 }
 

@@ -4,7 +4,7 @@
 use Rattle.std.specs.Prelude.{ℕ, zero, suc, ◌+◌, ◌-◌, List, [], ◌∷◌, length, take, drop, slice_get, Option, Some, None, Result, Ok, Err, ℤ, Bool, nat_le, nat_lt, ◌==◌, if◌then◌else◌}
 use Rattle.std.specs.Str.{is_utf8, bytes_eq}
 use Rattle.wasm_leb.specs.declared.LebFault.{LebFault}
-use Rattle.wasm_leb.specs.Reading.{u32_at, s32_at, s64_at}
+use Rattle.wasm_leb.specs.Reading.{u32_at, u64_at, s32_at, s64_at}
 use Rattle.wasm_bytes.specs.Place.{Place, Read}
 
 infixl 10 ◌>>=◌
@@ -90,6 +90,9 @@ number_of p (Err e) = Err p.at
 
 unfoldable pub u32_item : Place → Read ℕ
 u32_item p = number_of p (u32_at p.block p.at)
+
+unfoldable pub u64_item : Place → Read ℕ
+u64_item p = number_of p (u64_at p.block p.at)
 
 unfoldable pub s32_item : Place → Read ℤ
 s32_item p = number_of p (s32_at p.block p.at)

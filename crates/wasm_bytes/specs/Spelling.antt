@@ -62,6 +62,9 @@ text expected at bytes = bytes ≡ expected
 abbrev pub u32 : ℕ → Spellings
 u32 n at bytes = IsUnsigned 32 bytes n
 
+abbrev pub u64 : ℕ → Spellings
+u64 n at bytes = IsUnsigned 64 bytes n
+
 abbrev pub s32 : ℤ → Spellings
 s32 z at bytes = IsSigned 32 bytes z
 

@@ -2,12 +2,12 @@
 
 ghost use Rattle.std.specs.Prelude.{◌==◌, ◌-◌, ◌≡◌, ◌≤◌, List, length, OnOk};
 ghost use Rattle.wasm_bytes.specs.Place.{Moves, Stays};
-ghost use Rattle.wasm_bytes.specs.Reading.{byte_item, fixed_item, bytes_item, u32_item, s32_item, s64_item, run_item, sized_run_item, name_item, named_item, block_item, end_item, rest_item};
+ghost use Rattle.wasm_bytes.specs.Reading.{byte_item, fixed_item, bytes_item, u32_item, u64_item, s32_item, s64_item, run_item, sized_run_item, name_item, named_item, if_inside, block_item, end_item, rest_item};
 ghost use Rattle.wasm_bytes.specs.Answers.{Reads, result_now};
 
 use crate::faults::Malformed;
 use std::marker::Model;
-use wasm_leb::{read_s32, read_s64, read_u32};
+use wasm_leb::{read_s32, read_s64, read_u32, read_u64};
 
 /// A place in a block, which is all bytes of the input up to the block's end.
 #[derive(Drop)]
@@ -44,6 +44,16 @@ impl<'a> Reader<'a> {
         ensures { result ≡ record { block = bytes.now; at = at } }
     {
         Reader { block: bytes, at }
+    }
+
+    /// Another reader at the same place.
+    pub fn fork(&self) -> Reader<'a>
+        ensures { result ≡ self.now }
+    {
+        Reader {
+            block: self.block,
+            at: self.at,
+        }
     }
 
     /// Where it stands, in bytes from the first byte of the input.
@@ -120,6 +130,21 @@ impl<'a> Reader<'a> {
         ensures moves { OnOk result (Moves self.old self.new) }
     {
         match read_u32(self.block, self.at) {
+            Ok((value, next)) => {
+                self.at = next;
+                Ok(value)
+            }
+            Err(_) => Err(Malformed { at: self.at }),
+        }
+    }
+
+    /// An unsigned number of 64 bits in LEB128 (Core 5.2.2).
+    #[tactic(auto, unfolding(crate::specs::Reading::u64_item))]
+    pub fn u64(&mut self) -> Result<u64, Malformed>
+        ensures item { Reads result self.new (u64_item self.old) }
+        ensures moves { OnOk result (Moves self.old self.new) }
+    {
+        match read_u64(self.block, self.at) {
             Ok((value, next)) => {
                 self.at = next;
                 Ok(value)
@@ -219,11 +244,20 @@ impl<'a> Reader<'a> {
         ensures moves { OnOk result (Moves self.old self.new) }
     {
         let start = self.at;
-        let size = self.u32()? as usize;
-        if size > self.block.len() - self.at {
-            return Err(Malformed { at: start });
+        let size = self.u32()?;
+        self.cut(u64::from(size), start)
+    }
+
+    /// A reader of the block of so many bytes that begins here. This one goes on behind the block. The error is the offset that
+    /// is given, where the block does not end inside this one.
+    pub fn cut(&mut self, len: u64, at: usize) -> Result<Reader<'a>, Malformed>
+        ensures item { Reads result self.new (if_inside at (len, self.old)) }
+        ensures stays { OnOk result (Stays self.old self.new) }
+    {
+        if len > (self.block.len() - self.at) as u64 {
+            return Err(Malformed { at });
         }
-        let end = self.at + size;
+        let end = self.at + len as usize;
         let inner = Reader {
             block: &self.block[..end],
             at: self.at,

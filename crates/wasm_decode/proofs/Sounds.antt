@@ -21,11 +21,11 @@ use Rattle.wasm_syntax.specs.Module.{AllWrite, InOrder, IsExpression, IsModule, 
 use Rattle.wasm_syntax.specs.Sizes.{local_count, nesting, ShortBody, ShortType, ShortElement, ShortData, ShortLists, WithinLimits}
 use Rattle.wasm_bytes.specs.Laws.{IsBytes}
 use Rattle.wasm_bytes.specs.Reading.{whole}
-use Rattle.module_format.specs.declared.module.Imported.{Imported}
-use Rattle.module_format.specs.declared.module.Imported.TheVariants as imported
-use Rattle.module_format.specs.declared.module.SpelledModule.{SpelledModule}
-use Rattle.module_format.specs.Sections.{module_item}
-use Rattle.module_format.proofs.ExactSections.{module_found}
+use Rattle.wasm_format.specs.declared.module.Imported.{Imported}
+use Rattle.wasm_format.specs.declared.module.Imported.TheVariants as imported
+use Rattle.wasm_format.specs.declared.module.SpelledModule.{SpelledModule}
+use Rattle.wasm_format.specs.Sections.{module_item}
+use Rattle.wasm_format.proofs.ExactSections.{module_found}
 use Rattle.wasm_decode.proofs.SoundForm.{SoundName, SoundType, SoundImport}
 use Rattle.wasm_decode.proofs.SoundCode.{SoundBody, SoundConstant, SoundElement, SoundData}
 use Rattle.wasm_decode.proofs.SoundSections.{Sound, module_sound}
@@ -33,7 +33,7 @@ use Rattle.wasm_decode.specs.declared.fault.DecodeFault.{DecodeFault}
 use Rattle.wasm_decode.specs.declared.fault.DecodeFault.TheVariants.{Limit}
 use Rattle.wasm_decode.specs.Decode.{functions_of, module_of, all_locals, first_over, ◌orelse◌, too_much}
 use Rattle.wasm_decode.specs.Meaning.{IsModuleOf, Exactly}
-use Rattle.wasm_decode.specs.Fit.{FewLocals, Fit}
+use Rattle.wasm_decode.specs.inner.Fit.{FewLocals, Fit}
 
 weaker : {A : Type 0} (P Q : A → Type 0) → ((x : A) → P x → Q x) → (xs : List A) → AllByRecursion P xs → AllByRecursion Q xs
 weaker P Q f [] h = tt

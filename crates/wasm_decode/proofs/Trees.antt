@@ -8,7 +8,7 @@ use Rattle.wasm_syntax.specs.declared.blocks.BlockKind.{BlockKind}
 use Rattle.wasm_syntax.specs.declared.blocks.BlockKind.TheVariants.{Plain, Loop, Then}
 use Rattle.wasm_syntax.specs.Tree.{Jump, Nodes, stop, basic, jump, block, loop, choose, Tree, Goes, Opens, OpensLoop, OpensIf, Else, End, Placed, placed, write, IsTree, WritesOut, item_of}
 use Rattle.wasm_syntax.specs.Tree.{Plain as PlainItem}
-use Rattle.module_format.specs.Expressions.{may_stand, open_behind}
+use Rattle.wasm_format.specs.Expressions.{may_stand, open_behind}
 
 -- ---- what is still to come, while blocks are open
 

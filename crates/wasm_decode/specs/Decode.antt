@@ -10,10 +10,10 @@ use Rattle.wasm_syntax.specs.declared.module.ModuleParts.{ModuleParts}
 use Rattle.wasm_syntax.specs.Quantity.{greatest}
 use Rattle.wasm_syntax.specs.Sizes.{local_count, nesting}
 use Rattle.wasm_bytes.specs.Reading.{whole}
-use Rattle.module_format.specs.declared.module.Imported.{Imported}
-use Rattle.module_format.specs.declared.module.Imported.TheVariants as imported
-use Rattle.module_format.specs.declared.module.SpelledModule.{SpelledModule}
-use Rattle.module_format.specs.Sections.{module_item}
+use Rattle.wasm_format.specs.declared.module.Imported.{Imported}
+use Rattle.wasm_format.specs.declared.module.Imported.TheVariants as imported
+use Rattle.wasm_format.specs.declared.module.SpelledModule.{SpelledModule}
+use Rattle.wasm_format.specs.Sections.{module_item}
 use Rattle.wasm_decode.specs.declared.fault.DecodeFault.{DecodeFault}
 use Rattle.wasm_decode.specs.declared.fault.DecodeFault.TheVariants.{NoMemory, Malformed, Float, ImportKind, Limit}
 

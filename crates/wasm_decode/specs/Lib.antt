@@ -1,4 +1,4 @@
 pub mod Decode
 pub mod Meaning
-pub mod Fit
 pub mod Names
+pub mod inner

@@ -4,9 +4,9 @@ use Rattle.wasm_syntax.specs.declared.quantity.Quantity.{Quantity}
 use Rattle.wasm_syntax.specs.declared.quantity.Quantity.TheVariants.{ModuleBytes}
 use Rattle.wasm_syntax.specs.declared.module.ModuleParts.{ModuleParts}
 use Rattle.wasm_syntax.specs.Quantity.{greatest}
-use Rattle.module_format.specs.declared.module.SpelledModule.{SpelledModule}
-use Rattle.module_format.specs.Grammar.{module_file}
-use Rattle.module_format.specs.Breaking.{module_stops}
+use Rattle.wasm_format.specs.declared.module.SpelledModule.{SpelledModule}
+use Rattle.wasm_format.specs.Grammar.{module_file}
+use Rattle.wasm_format.specs.Breaking.{module_stops}
 use Rattle.wasm_decode.specs.declared.fault.DecodeFault.{DecodeFault}
 use Rattle.wasm_decode.specs.declared.fault.DecodeFault.TheVariants.{Limit}
 use Rattle.wasm_decode.specs.Decode.{first_other, module_of, too_much, Answers}

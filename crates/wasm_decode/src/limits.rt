@@ -5,7 +5,7 @@ ghost use Rattle.std.specs.List.{AllByRecursion};
 ghost use Rattle.wasm_syntax.specs.declared.quantity.Quantity.TheVariants.{Locals};
 ghost use Rattle.wasm_syntax.specs.Sizes.{ShortType, parameter_count, depth_behind, deepest, nesting};
 ghost use Rattle.wasm_decode.specs.Decode.{all_locals, first_over, too_much};
-ghost use Rattle.wasm_decode.specs.Fit.{FewLocals};
+ghost use Rattle.wasm_decode.specs.inner.Fit.{FewLocals};
 
 use crate::fault::DecodeFault;
 use wasm_syntax::{Body, FuncTypes, Instr, Items, Limits, LocalGroup, ModuleParts, Ops, Quantity};

@@ -10,10 +10,10 @@ ghost use Rattle.wasm_decode.specs.Names.{name_of, with_name, names_from, name_s
 use causes::NoMemory;
 use indexmap::IndexMap;
 use pm_text::Text;
-use section_decode::{Collect, Input, collect_count};
 use std::alloc::Global;
 use std::marker::Model;
 use wasm_bytes::ItemFault;
+use wasm_sections::{Collect, Input, collect_count};
 use wasm_syntax::{Custom, Module};
 
 /// Names by the indices of functions, which contracts see as pairs in the order of their first mention.

@@ -7,7 +7,7 @@ use Rattle.wasm_syntax.specs.declared.instruction.Instr.{Instr}
 use Rattle.wasm_syntax.specs.declared.instruction.Instr.TheVariants as instr
 use Rattle.wasm_syntax.specs.declared.instruction.Op.{Op}
 use Rattle.wasm_syntax.specs.Tree.{Nodes, stop, basic, jump, block, loop, choose, Tree, Item, Plain, Goes, Opens, OpensLoop, OpensIf, Else, End, Placed, placed, write, written, code_of, item_of, Writes}
-use Rattle.module_format.specs.Expressions.{may_stand, open_behind}
+use Rattle.wasm_format.specs.Expressions.{may_stand, open_behind}
 
 -- ---- on the items that trees write out
 

@@ -14,16 +14,16 @@ use Rattle.wasm_syntax.specs.Module.{TakeUp, InOrder, IsExpression}
 use Rattle.wasm_syntax.specs.SameCode.{op_code, body_code}
 use Rattle.wasm_syntax.specs.Tree.{Tree, Writes}
 use Rattle.wasm_bytes.specs.Spelling.{Spellings, pair, passing, here, steps, due}
-use Rattle.instruction_format.specs.Spelled.{Spelled}
-use Rattle.instruction_format.specs.Grammar.{instruction}
-use Rattle.instruction_format.specs.Encoding.{encoding, IsInside, IsCode, targets_of, BeginsAt, spelled_of}
-use Rattle.instruction_format.proofs.Encoded.{encoding_spells}
-use Rattle.module_format.specs.declared.noted.Noted.{Noted}
-use Rattle.module_format.specs.declared.expression.Expression.{Expression}
-use Rattle.module_format.specs.Choices.{first_and}
-use Rattle.module_format.specs.Notes.{plain}
-use Rattle.module_format.specs.Expressions.{may_stand, instr_of, no_code, with_instr, is_closed, code_body}
-use Rattle.module_format.specs.Grammar.{instr_entry, expression_entries, expression}
+use Rattle.wasm_instructions.specs.Spelled.{Spelled}
+use Rattle.wasm_instructions.specs.Grammar.{instruction}
+use Rattle.wasm_instructions.specs.Encoding.{encoding, IsInside, IsCode, targets_of, BeginsAt, spelled_of}
+use Rattle.wasm_instructions.proofs.Encoded.{encoding_spells}
+use Rattle.wasm_format.specs.declared.noted.Noted.{Noted}
+use Rattle.wasm_format.specs.declared.expression.Expression.{Expression}
+use Rattle.wasm_format.specs.Choices.{first_and}
+use Rattle.wasm_format.specs.Notes.{plain}
+use Rattle.wasm_format.specs.Expressions.{may_stand, instr_of, no_code, with_instr, is_closed, code_body}
+use Rattle.wasm_format.specs.Grammar.{instr_entry, expression_entries, expression}
 use Rattle.wasm_encode.specs.Encoding.{expression_bytes}
 use Rattle.wasm_encode.specs.Fits.{FitsExpression}
 use Rattle.wasm_encode.proofs.Targets.{behind, taken}

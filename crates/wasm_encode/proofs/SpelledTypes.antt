@@ -19,11 +19,11 @@ use Rattle.wasm_syntax.specs.declared.parts.LocalGroup.{LocalGroup}
 use Rattle.wasm_syntax.specs.Sizes.{ShortType}
 use Rattle.wasm_leb.specs.Writing.{unsigned_bytes}
 use Rattle.wasm_bytes.specs.Spelling.{vector, tagged, steps}
-use Rattle.module_format.specs.declared.noted.Noted.{Noted}
-use Rattle.module_format.specs.declared.expression.Locals.{Locals}
-use Rattle.module_format.specs.declared.module.Imported.TheVariants.{Function}
-use Rattle.module_format.specs.Notes.{plain, together, with_noted}
-use Rattle.module_format.specs.Grammar.{valtype, noted_vector, functype, limits, table, mutability, import_entry, export_kind, export_entry, group_entry, locals, limits_tail, import_tail}
+use Rattle.wasm_format.specs.declared.noted.Noted.{Noted}
+use Rattle.wasm_format.specs.declared.expression.Locals.{Locals}
+use Rattle.wasm_format.specs.declared.module.Imported.TheVariants.{Function}
+use Rattle.wasm_format.specs.Notes.{plain, together, with_noted}
+use Rattle.wasm_format.specs.Grammar.{valtype, noted_vector, functype, limits, table, mutability, import_entry, export_kind, export_entry, group_entry, locals, limits_tail, import_tail}
 use Rattle.wasm_encode.specs.Encoding.{vector_bytes, sized_bytes, range_bytes, type_byte, value_type_bytes, function_type_bytes, limits_bytes, table_bytes, mutability_byte, import_bytes, kind_byte, export_bytes, group_bytes}
 use Rattle.wasm_encode.specs.Fits.{Fits32, FitsLimits}
 use Rattle.wasm_encode.proofs.Spellings.{u32_spelled, name_spelled, wrapped_vector, all_true}

@@ -16,12 +16,12 @@ use Rattle.wasm_syntax.specs.Module.{IsModule, IsExpression}
 use Rattle.wasm_syntax.specs.Sizes.{Short, ShortType, ShortElement, ShortData, WithinLimits}
 use Rattle.wasm_syntax.specs.SameCode.{body_code, global_code, element_code, segment_code, code_alone}
 use Rattle.wasm_bytes.specs.Spelling.{u32}
-use Rattle.module_format.specs.declared.module.Imported.{Imported}
-use Rattle.module_format.specs.declared.module.Imported.TheVariants.{Function}
-use Rattle.module_format.specs.declared.module.SpelledModule.{SpelledModule}
-use Rattle.module_format.specs.Notes.{plain}
-use Rattle.module_format.specs.Sections.{with_parts, with_plain, with_types, with_imports, with_functions, with_tables, with_memories, with_globals, with_exports, with_start, with_elements, with_bodies, with_segments, no_parts, no_sections}
-use Rattle.module_format.specs.Grammar.{functype, import_entry, table, limits, global_entry, export_entry, element_entry, code, segment_entry}
+use Rattle.wasm_format.specs.declared.module.Imported.{Imported}
+use Rattle.wasm_format.specs.declared.module.Imported.TheVariants.{Function}
+use Rattle.wasm_format.specs.declared.module.SpelledModule.{SpelledModule}
+use Rattle.wasm_format.specs.Notes.{plain}
+use Rattle.wasm_format.specs.Sections.{with_parts, with_plain, with_types, with_imports, with_functions, with_tables, with_memories, with_globals, with_exports, with_start, with_elements, with_bodies, with_segments, no_parts, no_sections}
+use Rattle.wasm_format.specs.Grammar.{functype, import_entry, table, limits, global_entry, export_entry, element_entry, code, segment_entry}
 use Rattle.wasm_encode.specs.Encoding.{vector_bytes, vector_section, start_section, header, function_type_bytes, import_bytes, table_bytes, limits_bytes, global_bytes, export_bytes, element_bytes, entry_bytes, segment_bytes, declarations, front_sections, encoding}
 use Rattle.wasm_encode.specs.Fits.{Fits32, FitsLimits, FitsExpression, FitsElement, FitsSegment, FitsModule}
 use Rattle.wasm_encode.specs.SameModule.{SpellsSame}

@@ -6,7 +6,7 @@ use Rattle.wasm_syntax.specs.declared.parts.DataSeg.{DataSeg}
 use Rattle.wasm_syntax.specs.declared.parts.ElementSeg.{ElementSeg}
 use Rattle.wasm_syntax.specs.declared.parts.Limits.{Limits}
 use Rattle.wasm_syntax.specs.declared.module.ModuleParts.{ModuleParts}
-use Rattle.instruction_format.specs.Encoding.{IsCode}
+use Rattle.wasm_instructions.specs.Encoding.{IsCode}
 
 abbrev pub Fits32 : ℕ → Type 0
 Fits32 n = n < 2 ^ 32

@@ -2,9 +2,9 @@
 use Rattle.std.specs.Prelude.{◌≡◌, ℕ, List, map, None}
 use Rattle.wasm_syntax.specs.declared.module.ModuleParts.{ModuleParts}
 use Rattle.wasm_syntax.specs.SameCode.{code_alone}
-use Rattle.module_format.specs.declared.module.Imported.TheVariants.{Function}
-use Rattle.module_format.specs.declared.module.SpelledModule.{SpelledModule}
-use Rattle.module_format.specs.Grammar.{module_file}
+use Rattle.wasm_format.specs.declared.module.Imported.TheVariants.{Function}
+use Rattle.wasm_format.specs.declared.module.SpelledModule.{SpelledModule}
+use Rattle.wasm_format.specs.Grammar.{module_file}
 
 -- The bytes spell a module (Core 5) that has no floats, imports these functions and nothing else, and has the same code: it
 -- differs in places, in lengths and in custom sections alone.

@@ -6,7 +6,7 @@ ghost use Rattle.wasm_encode.specs.Encoding.{expression_bytes};
 ghost use Rattle.wasm_encode.specs.Fits.{FitsExpression};
 
 use causes::NoMemory;
-use instruction_format::write_instr;
+use wasm_instructions::write_instr;
 use wasm_syntax::Body;
 
 /// Appends the instructions of a body, with its last `end` (Core 5.4.6).

@@ -16,36 +16,15 @@ use Rattle.wasm_syntax.specs.Run.{cause_of_entry, if_fits, start_world}
 use Rattle.machine_steps.specs.declared.machine.Machine.{Machine}
 use Rattle.machine_steps.specs.declared.machine.Prepared.{Prepared}
 use Rattle.machine_steps.specs.Prepares.{IsPrepared}
-use Rattle.safe_runs.specs.Safe.{ValidProgram, WorldFits}
-use Rattle.safe_runs.proofs.SafeLaws.{start_fits}
-use Rattle.instance_start.specs.declared.started.Started.{Started}
-use Rattle.instance_start.specs.Starts as starts
-use Rattle.entry_runs.specs.Settings.{Sound, world_of, MachineFits, Takes}
-use Rattle.entry_runs.proofs.WorldLaws.{same_world, fits_same}
+use Rattle.machine_hosted.specs.Safe.{ValidProgram, WorldFits}
+use Rattle.machine_hosted.proofs.SafeLaws.{start_fits}
+use Rattle.machine_start.specs.declared.started.Started.{Started}
+use Rattle.machine_start.specs.Starts as starts
+use Rattle.machine_hosted.specs.Settings.{Sound, world_of, MachineFits, Takes}
+use Rattle.machine_hosted.proofs.WorldLaws.{same_world, fits_same}
 use Rattle.wasm_machine.specs.Instances.{State, state, SoundState, IsNew}
 
--- ---- entries
-
-same_list : (ts us : List ValType) → same_types ts us ≡ true → us ≡ ts
-same_list [] [] e = refl
-same_list [] (u ∷ us) e = absurd (cc)
-same_list (t ∷ ts) [] e = absurd (cc)
-same_list (I32 ∷ ts) (I32 ∷ us) e = ap (λ z. I32 ∷ z) (same_list ts us e)
-same_list (I32 ∷ ts) (I64 ∷ us) e = absurd (cc)
-same_list (I64 ∷ ts) (I32 ∷ us) e = absurd (cc)
-same_list (I64 ∷ ts) (I64 ∷ us) e = ap (λ z. I64 ∷ z) (same_list ts us e)
-
--- an entry without a cause takes its arguments
-pub takes_entry : (m : Module) (f : ℕ) (args : List Value) → cause_of_entry m (Some f) args ≡ None → Takes m f args
-takes_entry m f args e = by_type (type_at m f) refl e
-  where
-    by_test : (type : FuncType) (b : Bool) → type_at m f ≡ Some type → same_types type.params (types args) ≡ b → if_fits (Some b) ≡ None → Takes m f args
-    by_test type true at t e = (type, at, same_list type.params (types args) t)
-    by_test type false at t e = absurd (cc)
-
-    by_type : (o : Option FuncType) → type_at m f ≡ o → if_fits (option_map (λ type. same_types type.params (types args)) o) ≡ None → Takes m f args
-    by_type None at e = absurd (cc)
-    by_type (Some type) at e = by_test type (same_types type.params (types args)) at refl e
+-- ---- the start function
 
 -- the start function of a valid module takes no arguments
 pub takes_start : (m : Module) (due : Option ℕ) → Valid m → ((f : ℕ) → due ≡ Some f → m.start ≡ Some f) → IfSome due (λ f. Takes m f [])

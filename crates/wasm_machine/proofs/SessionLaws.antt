@@ -8,19 +8,21 @@ use Rattle.wasm_syntax.specs.Module.{Program, function_export}
 use Rattle.wasm_syntax.specs.Host.{World}
 use Rattle.wasm_syntax.specs.Machine.{Engine, Config}
 use Rattle.wasm_syntax.specs.Run.{Outcome, not_started, finished, trapped, lacks_reply, misfits, running, got_stuck, Ran, goes_on, fresh, invoked, Invocation, session}
-use Rattle.flat_code.specs.declared.code.Code.{Code}
+use Rattle.machine_code.specs.declared.code.Code.{Code}
 use Rattle.machine_steps.specs.declared.machine.Machine.{Machine}
 use Rattle.machine_steps.specs.Meets.{Shares}
-use Rattle.host_runs.specs.Hosted.{Asked, replies_of}
-use Rattle.entry_runs.specs.declared.answer.RunAnswer.{RunAnswer}
-use Rattle.entry_runs.specs.declared.answer.RunAnswer.TheVariants.{Finished, Trapped, NoReply, BadReply, DeviceFault, FuelSpent, NoMemory}
-use Rattle.entry_runs.specs.Settings.{world_of}
-use Rattle.entry_runs.specs.Answers.{KeepsThen, given_steps}
-use Rattle.entry_runs.specs.Invocations.{unfitting, may_follow, invoking, InvocationCame}
-use Rattle.entry_runs.proofs.WorldLaws.{same_world}
+use Rattle.machine_hosted.specs.Hosted.{Asked}
+use Rattle.host_devices.specs.Given.{replies_of}
+use Rattle.machine_hosted.specs.declared.answer.RunEnd.{RunEnd}
+use Rattle.machine_hosted.specs.declared.answer.RunEnd.TheVariants.{Finished, Trapped, NoReply, BadReply, DeviceFault, FuelSpent, NoMemory}
+use Rattle.machine_hosted.specs.Settings.{world_of}
+use Rattle.machine_hosted.specs.Answers.{KeepsThen, given_steps}
+use Rattle.machine_hosted.specs.Invocations.{may_follow, invoking, InvocationCame}
+use Rattle.host_devices.specs.Given.{unfitting}
+use Rattle.machine_hosted.proofs.WorldLaws.{same_world}
 use Rattle.wasm_machine.specs.Sessions.{HadMemory, GoesOn}
 
-all_given : (answer : RunAnswer) (fuel steps : ℕ) → HadMemory answer → given_steps answer fuel steps ≡ fuel
+all_given : (answer : RunEnd) (fuel steps : ℕ) → HadMemory answer → given_steps answer fuel steps ≡ fuel
 all_given NoMemory fuel steps h = absurd h
 all_given (Finished value) fuel steps h = refl
 all_given (Trapped kind) fuel steps h = refl
@@ -29,7 +31,7 @@ all_given (BadReply reply) fuel steps h = refl
 all_given (DeviceFault name) fuel steps h = refl
 all_given FuelSpent fuel steps h = refl
 
-may_is : (answer : RunAnswer) (r : Ran) → HadMemory answer → may_follow answer r ≡ goes_on r.outcome r.entered
+may_is : (answer : RunEnd) (r : Ran) → HadMemory answer → may_follow answer r ≡ goes_on r.outcome r.entered
 may_is NoMemory r h = absurd h
 may_is (Finished value) r h = refl
 may_is (Trapped kind) r h = refl
@@ -38,7 +40,7 @@ may_is (BadReply reply) r h = refl
 may_is (DeviceFault name) r h = refl
 may_is FuelSpent r h = refl
 
-keeps_shares : (p : Program) (codes : List Code) (answer : RunAnswer) (m : Machine) (c : Config) → HadMemory answer → KeepsThen p codes answer m c → Shares m c.world
+keeps_shares : (p : Program) (codes : List Code) (answer : RunEnd) (m : Machine) (c : Config) → HadMemory answer → KeepsThen p codes answer m c → Shares m c.world
 keeps_shares p codes NoMemory m c h k = absurd h
 keeps_shares p codes (Finished value) m c h k = k.shares
 keeps_shares p codes (Trapped kind) m c h k = k.shares
@@ -59,7 +61,7 @@ all_fitted got_stuck q e = refl
 fresh_world : (m : Machine) (c : Config) (w : World) (more : List Reply) → Shares m c.world → c.world.replies ≡ more → fresh (Some c) w ≡ world_of m more
 fresh_world m c w more s r = same_world (fresh (Some c) w) (world_of m more) s.holds.globals s.holds.memory s.table r refl
 
-module _ (M : Engine) (codes : List Code) (used_up : Import → Bool) (i : Invocation) (rest : List Invocation) (f : ℕ) (due : Option ℕ) (m m' : Machine) (left : ℕ) (asked : Asked) (answer : RunAnswer) (steps : ℕ) (ready : Bool) (more : List Reply)
+module _ (M : Engine) (codes : List Code) (used_up : Import → Bool) (i : Invocation) (rest : List Invocation) (f : ℕ) (due : Option ℕ) (m m' : Machine) (left : ℕ) (asked : Asked) (answer : RunEnd) (steps : ℕ) (ready : Bool) (more : List Reply)
     (exported : function_export M.program.module_ i.name ≡ Some f) (memory : HadMemory answer) (came : InvocationCame M.program codes used_up (invoking M due f i.args (world_of m [])) left asked answer steps ready m' more) where
   abbrev w : World
   w = world_of m (replies_of asked.given ++ more)

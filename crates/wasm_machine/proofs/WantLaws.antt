@@ -10,15 +10,15 @@ use Rattle.wasm_syntax.specs.Module.{Program, IsProgram, Function, imported, def
 use Rattle.wasm_syntax.specs.Host.{World}
 use Rattle.wasm_syntax.specs.Machine.{Engine, Config, config, next, entered}
 use Rattle.wasm_syntax.specs.Run.{ran, ran_to, running, run_function, go_on}
-use Rattle.flat_code.specs.declared.code.Code.{Code}
+use Rattle.machine_code.specs.declared.code.Code.{Code}
 use Rattle.machine_steps.specs.declared.machine.Machine.{Machine}
 use Rattle.machine_steps.specs.declared.machine.Prepared.{Prepared}
 use Rattle.host_devices.specs.HostSides.{Calls}
-use Rattle.host_runs.specs.Hosted.{Asked}
-use Rattle.entry_runs.specs.declared.answer.RunAnswer.TheVariants.{NoMemory}
-use Rattle.entry_runs.specs.Settings.{Sound, Takes, world_of}
-use Rattle.entry_runs.specs.Invocations.{Invoking, invoking, InvocationCame, InvocationCameWith}
-use Rattle.entry_runs.proofs.ModuleLaws.{function_there}
+use Rattle.machine_hosted.specs.Hosted.{Asked}
+use Rattle.machine_hosted.specs.declared.answer.RunEnd.TheVariants.{NoMemory}
+use Rattle.machine_hosted.specs.Settings.{Sound, Takes, world_of}
+use Rattle.machine_hosted.specs.Invocations.{Invoking, invoking, InvocationCame, InvocationCameWith}
+use Rattle.machine_hosted.proofs.ModuleLaws.{function_there}
 
 abbrev nothing : Asked
 nothing = record { given = []; told = [] }

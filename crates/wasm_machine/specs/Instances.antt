@@ -4,17 +4,19 @@ use Rattle.wasm_syntax.specs.declared.value.Value.{Value}
 use Rattle.wasm_syntax.specs.declared.parts.Import.{Import}
 use Rattle.wasm_syntax.specs.declared.module.ModuleParts.{ModuleParts as Module}
 use Rattle.wasm_syntax.specs.declared.host.Reply.{Reply}
-use Rattle.wasm_syntax.specs.Module.{Program}
+use Rattle.wasm_syntax.specs.Module.{Program, IsProgram}
+use Rattle.wasm_syntax.specs.Machine.{Config}
 use Rattle.wasm_syntax.specs.Run.{element_out, data_out, start_world, cause_of_segments, engine}
 use Rattle.machine_steps.specs.declared.machine.Machine.{Machine}
 use Rattle.machine_steps.specs.declared.machine.Prepared.{Prepared}
 use Rattle.host_devices.specs.HostSides.{Calls}
-use Rattle.instance_start.specs.declared.started.StartFault.{StartFault}
-use Rattle.instance_start.specs.declared.started.StartFault.TheVariants.{ElementOut, DataOut, NoMemory}
-use Rattle.entry_runs.specs.declared.answer.RunAnswer.{RunAnswer}
-use Rattle.entry_runs.specs.declared.answer.RunAnswer.TheVariants as answers
-use Rattle.entry_runs.specs.Settings.{Sound, world_of, MachineFits}
-use Rattle.entry_runs.specs.Invocations.{InvocationCameWith, invoking}
+use Rattle.machine_start.specs.declared.started.StartFault.{StartFault}
+use Rattle.machine_start.specs.declared.started.StartFault.TheVariants.{ElementOut, DataOut, NoMemory}
+use Rattle.machine_hosted.specs.declared.answer.RunEnd.{RunEnd}
+use Rattle.machine_hosted.specs.declared.answer.RunEnd.TheVariants as answers
+use Rattle.machine_hosted.specs.Settings.{Sound, world_of, MachineFits}
+use Rattle.machine_hosted.specs.Answers.{Keeps}
+use Rattle.machine_hosted.specs.Invocations.{InvocationCameWith, invoking}
 use Rattle.wasm_machine.specs.declared.invocation.End.{End}
 use Rattle.wasm_machine.specs.declared.invocation.End.TheVariants as ends
 use Rattle.wasm_machine.specs.declared.invocation.LastInvocation.{LastInvocation}
@@ -22,20 +24,20 @@ use Rattle.wasm_machine.specs.declared.invocation.LastInvocation.{LastInvocation
 -- ---- the last invocation
 
 -- how it ended, where memory sufficed
-abbrev pub end_of : RunAnswer → Option End
-end_of (answers.Finished value) = Some (ends.Finished value)
-end_of (answers.Trapped kind) = Some (ends.Trapped kind)
-end_of answers.NoReply = Some ends.NoReply
-end_of (answers.BadReply reply) = Some ends.BadReply
-end_of (answers.DeviceFault name) = Some ends.DeviceFault
-end_of answers.FuelSpent = Some ends.FuelSpent
-end_of answers.NoMemory = None
+abbrev pub kept_end : RunEnd → Option End
+kept_end (answers.Finished value) = Some (ends.Finished value)
+kept_end (answers.Trapped kind) = Some (ends.Trapped kind)
+kept_end answers.NoReply = Some ends.NoReply
+kept_end (answers.BadReply reply) = Some ends.BadReply
+kept_end (answers.DeviceFault name) = Some ends.DeviceFault
+kept_end answers.FuelSpent = Some ends.FuelSpent
+kept_end answers.NoMemory = None
 
 -- what is kept of it: the function and its arguments, how many frames there may be, whether the calls of the collector were collected, and how
 -- it ended; behind want of memory nothing
-abbrev pub last_of : (entry : ℕ) (args : List Value) (depth : ℕ) (collecting : Bool) → RunAnswer → Option LastInvocation
+abbrev pub last_of : (entry : ℕ) (args : List Value) (depth : ℕ) (collecting : Bool) → RunEnd → Option LastInvocation
 last_of entry args depth collecting answer =
-    option_map (λ end. record { entry = entry; args = args; depth = depth; collecting = collecting; end = end }) (end_of answer)
+    option_map (λ end. record { entry = entry; args = args; depth = depth; collecting = collecting; end = end }) (kept_end answer)
 
 -- ---- instances
 
@@ -68,6 +70,16 @@ pub record IsNew (m : Module) (s : State) : Type 0 where
   pub steps : s.steps ≡ 0
   pub last : s.last ≡ None
 
+-- the program is that of the instance's module
+pub record IsOf (s : State) (p : Program) : Type 0 where
+  pub of_module : p.module_ ≡ s.module_
+  pub writes_out : IsProgram p
+
+-- the instance stands at a configuration of the program of its module
+pub record StandsAt (s : State) (p : Program) (c : Config) : Type 0 where
+  pub is_of : IsOf s p
+  pub keeps : Keeps p s.prepared.codes.items s.machine c
+
 -- A new instance, where all segments lie inside; or the first one that does not.
 abbrev pub Begins : Result State StartFault → Module → Type 0
 Begins (Ok s) m = (cause_of_segments m ≡ None) × IsNew m s
@@ -76,7 +88,7 @@ Begins (Err (DataOut index)) m = cause_of_segments m ≡ Some (data_out index)
 Begins (Err NoMemory) m = Unit {0}
 
 -- So many steps were made, and the invocation came to the answer (Core 4.5.5).
-pub record Invoked (p : Program) (collecting : Bool) (depth : ℕ) (used_up : Import → Bool) (entry : ℕ) (args : List Value) (fuel : ℕ) (before now : State) (answer : RunAnswer) (old new : Calls) : Type 0 where
+pub record Invoked (p : Program) (collecting : Bool) (depth : ℕ) (used_up : Import → Bool) (entry : ℕ) (args : List Value) (fuel : ℕ) (before now : State) (answer : RunEnd) (old new : Calls) : Type 0 where
   pub made : ℕ
   pub steps : now.steps ≡ before.steps + made
   pub came : InvocationCameWith p before.prepared.codes.items used_up (invoking (engine p collecting depth) before.due entry args (world_of before.machine [])) fuel answer made now.ready now.machine old new

@@ -5,16 +5,17 @@ use Rattle.wasm_syntax.specs.declared.host.Reply.{Reply}
 use Rattle.wasm_syntax.specs.Module.{Program, function_export}
 use Rattle.wasm_syntax.specs.Machine.{Engine}
 use Rattle.wasm_syntax.specs.Run.{Invocation, session}
-use Rattle.flat_code.specs.declared.code.Code.{Code}
+use Rattle.machine_code.specs.declared.code.Code.{Code}
 use Rattle.machine_steps.specs.declared.machine.Machine.{Machine}
-use Rattle.host_runs.specs.Hosted.{Asked, replies_of}
-use Rattle.entry_runs.specs.declared.answer.RunAnswer.{RunAnswer}
-use Rattle.entry_runs.specs.declared.answer.RunAnswer.TheVariants.{Finished, Trapped, NoReply, BadReply, DeviceFault, FuelSpent, NoMemory}
-use Rattle.entry_runs.specs.Settings.{world_of}
-use Rattle.entry_runs.specs.Invocations.{InvocationCame, invoking}
+use Rattle.machine_hosted.specs.Hosted.{Asked}
+use Rattle.host_devices.specs.Given.{replies_of}
+use Rattle.machine_hosted.specs.declared.answer.RunEnd.{RunEnd}
+use Rattle.machine_hosted.specs.declared.answer.RunEnd.TheVariants.{Finished, Trapped, NoReply, BadReply, DeviceFault, FuelSpent, NoMemory}
+use Rattle.machine_hosted.specs.Settings.{world_of}
+use Rattle.machine_hosted.specs.Invocations.{InvocationCame, invoking}
 
 -- memory sufficed
-abbrev pub HadMemory : RunAnswer → Type 0
+abbrev pub HadMemory : RunEnd → Type 0
 HadMemory NoMemory = ⊥
 HadMemory (Finished value) = Unit {0}
 HadMemory (Trapped kind) = Unit {0}
@@ -27,7 +28,7 @@ HadMemory FuelSpent = Unit {0}
 -- with what the machine holds then, with the replies that are left and the steps that are left.
 abbrev pub GoesOn : Type 0
 GoesOn =
-    (M : Engine) (codes : List Code) (used_up : Import → Bool) (i : Invocation) (rest : List Invocation) (f : ℕ) (due : Option ℕ) (m m' : Machine) (left : ℕ) (asked : Asked) (answer : RunAnswer) (steps : ℕ) (ready : Bool) (more : List Reply) →
+    (M : Engine) (codes : List Code) (used_up : Import → Bool) (i : Invocation) (rest : List Invocation) (f : ℕ) (due : Option ℕ) (m m' : Machine) (left : ℕ) (asked : Asked) (answer : RunEnd) (steps : ℕ) (ready : Bool) (more : List Reply) →
     function_export M.program.module_ i.name ≡ Some f → HadMemory answer →
     (came : InvocationCame M.program codes used_up (invoking M due f i.args (world_of m [])) left asked answer steps ready m' more) →
     session M (i ∷ rest) due (world_of m (replies_of asked.given ++ more)) left ≡ came.ran ∷ (if ready then session M rest None (world_of m' more) (left - steps) else [])

@@ -1,25 +1,32 @@
 //! An instance of a module.
 
-ghost use Rattle.std.specs.Prelude.{◌≡◌, ◌+◌, ◌<◌, ◌≤◌, ◌^◌, true, ℕ, List, Some, None};
+ghost use Rattle.std.specs.Prelude.{◌≡◌, ◌+◌, ◌<◌, ◌≤◌, ◌^◌, true, ℕ, List, Some, None, IfOk, OnOk, OnErr, length, option_map, slice_get};
 ghost use Rattle.std.specs.Option.{option_copied};
+ghost use Rattle.wasm_syntax.specs.declared.value.Value.{Value as Val};
 ghost use Rattle.wasm_syntax.specs.declared.parts.Import.{Import as ImportValue};
 ghost use Rattle.wasm_syntax.specs.declared.parts.FuncType.{FuncType as TypeValue};
-ghost use Rattle.wasm_syntax.specs.Module.{Program, IsProgram};
-ghost use Rattle.wasm_syntax.specs.Run.{cause_of_entry};
-ghost use Rattle.machine_steps.specs.Prepares.{IsPrepared};
-ghost use Rattle.entry_runs.specs.Settings.{ServesAll};
-ghost use Rattle.entry_runs.specs.Answers.{HasCause};
-ghost use Rattle.wasm_machine.specs.Instances.{Begins, Invoked, last_of};
+ghost use Rattle.wasm_syntax.specs.Module.{Program, function_export};
+ghost use Rattle.wasm_syntax.specs.Machine.{Config};
+ghost use Rattle.dump_write.specs.Image.{frame_images};
+ghost use Rattle.machine_hosted.specs.Settings.{ServesAll, Takes};
+ghost use Rattle.machine_hosted.specs.Answers.{HasCause};
+ghost use Rattle.wasm_machine.specs.Entries.{entry_fault};
+ghost use Rattle.wasm_machine.specs.Answers.{end_of, refusal};
+ghost use Rattle.wasm_machine.specs.Instances.{Begins, IsOf, StandsAt, Invoked, last_of};
 
+use crate::answer::{RunAnswer, ran, refused};
+use crate::entries::callee;
+use crate::frames::{FrameRef, frame_at};
 use crate::invocation::{LastInvocation, kept};
-use basic_steps::Stack;
 use causes::NoMemory;
-use entry_runs::{RunAnswer, run_invocation};
-use frame_steps::CallStack;
 use host_devices::HostSide;
-use instance_start::{StartFault, Started, start};
+use linear_memory::Memory;
+use machine_basics::Stack;
+use machine_frames::CallStack;
+use machine_hosted::{RunEnd, run_invocation};
+use machine_prepared::prepare;
+use machine_start::{StartFault, Started, start};
 use machine_steps::{Machine, Prepared};
-use prepared_module::prepare;
 use std::alloc::Global;
 use std::marker::Model;
 use wasm_syntax::{ModuleParts, Value, Values};
@@ -32,6 +39,7 @@ use wasm_validate::Validated;
 /// want of frames (kind 8) or inside the start function.
 #[derive(Drop)]
 pub struct Instance<'a> {
+    alloc: Global,
     source: &'a ModuleParts,
     prepared: Prepared<'a>,
     machine: Machine,
@@ -80,6 +88,7 @@ impl<'a> Instance<'a> {
         let started = start(alloc, parts)?;
         let prepared = prepare(alloc, whole)?;
         Ok(Instance {
+            alloc,
             source: parts,
             prepared,
             machine: machine_of(alloc, started),
@@ -90,29 +99,60 @@ impl<'a> Instance<'a> {
         })
     }
 
-    /// Runs the start function, where it was not run yet, and then the function of this index on its arguments, for at most so many steps and with
-    /// at most so many frames. A host side serves the imports. The arguments are copied before the first step, and kept with the answer; behind want
-    /// of memory nothing is kept.
+    /// Runs the start function, where it was not run yet, and then the function that is exported under this name on these arguments, for at most
+    /// so many steps and with at most so many frames. A host side serves the imports. Nothing is run and nothing changed where there is no such
+    /// function, where it does not take the arguments, or where an import is not served. The arguments are copied before the first step, and
+    /// kept with the answer; behind want of memory nothing is kept.
     pub fn invoke<H: HostSide>(
         &mut self,
-        alloc: Global,
-        entry: u32,
+        entry: &str,
         args: &[Value],
         depth: u32,
         fuel: u64,
         hosts: &mut H,
     ) -> RunAnswer
         requires ready { self.old.ready ≡ true }
-        requires entry { cause_of_entry self.old.module_ (Some entry) args.now ≡ None }
+        requires imports { (H.origin hosts.old).imports ≡ self.old.module_.imports }
+        requires steps { self.old.steps + fuel < 2 ^ 64 }
+        ensures refused { refusal result ≡ entry_fault (H.serving hosts.old) self.old.module_ entry.now args.now }
+        ensures unchanged { OnErr (end_of result) ((self.new ≡ self.old) × (hosts.new ≡ hosts.old)) }
+        ensures came { IfOk (end_of result) (λ end. (f : ℕ) × (function_export self.old.module_ entry.now ≡ Some f) × ((p : Program) → IsOf self.old p → Invoked p (H.collecting hosts.old) depth (H.used_up hosts.new) f args.now fuel self.old self.new end (H.calls hosts.old) (H.calls hosts.new)) × (self.new.last ≡ last_of f args.now depth (H.collecting hosts.old) end)) }
+        ensures cause { IfOk (end_of result) (λ end. HasCause end (H.fault_count hosts.old) (H.fault_count hosts.new)) }
+        ensures due { OnOk (end_of result) (self.new.due ≡ None) }
+        ensures module_ { self.new.module_ ≡ self.old.module_ }
+        ensures prepared { self.new.prepared ≡ self.old.prepared }
+        ensures later { (name : List ℕ) → H.fault_count hosts.old name ≤ H.fault_count hosts.new name }
+        ensures serving { (i : ImportValue) (t : TypeValue) → H.serving hosts.new i t ≡ H.serving hosts.old i t }
+        ensures collecting { H.collecting hosts.new ≡ H.collecting hosts.old }
+        ensures origin { H.origin hosts.new ≡ H.origin hosts.old }
+    {
+        match callee(self.source, entry, args, hosts) {
+            Ok(function) => ran(self.call(function, args, depth, fuel, hosts)),
+            Err(fault) => refused(fault),
+        }
+    }
+
+    /// Runs the start function, where it was not run yet, and then the function of this index on its arguments. Both are there, and all imports
+    /// are served.
+    fn call<H: HostSide>(
+        &mut self,
+        function: u32,
+        args: &[Value],
+        depth: u32,
+        fuel: u64,
+        hosts: &mut H,
+    ) -> RunEnd
+        requires ready { self.old.ready ≡ true }
+        requires takes { Takes self.old.module_ function args.now }
         requires served { ServesAll (H.serving hosts.old) self.old.module_ }
         requires imports { (H.origin hosts.old).imports ≡ self.old.module_.imports }
         requires steps { self.old.steps + fuel < 2 ^ 64 }
-        ensures came { (p : Program) → p.module_ ≡ self.old.module_ → IsProgram p → Invoked p (H.collecting hosts.old) depth (H.used_up hosts.new) entry args.now fuel self.old self.new result (H.calls hosts.old) (H.calls hosts.new) }
+        ensures came { (p : Program) → IsOf self.old p → Invoked p (H.collecting hosts.old) depth (H.used_up hosts.new) function args.now fuel self.old self.new result (H.calls hosts.old) (H.calls hosts.new) }
+        ensures last { self.new.last ≡ last_of function args.now depth (H.collecting hosts.old) result }
+        ensures cause { HasCause result (H.fault_count hosts.old) (H.fault_count hosts.new) }
+        ensures due { self.new.due ≡ None }
         ensures module_ { self.new.module_ ≡ self.old.module_ }
         ensures prepared { self.new.prepared ≡ self.old.prepared }
-        ensures due { self.new.due ≡ None }
-        ensures last { self.new.last ≡ last_of entry args.now depth (H.collecting hosts.old) result }
-        ensures cause { HasCause result (H.fault_count hosts.old) (H.fault_count hosts.new) }
         ensures later { (name : List ℕ) → H.fault_count hosts.old name ≤ H.fault_count hosts.new name }
         ensures serving { (i : ImportValue) (t : TypeValue) → H.serving hosts.new i t ≡ H.serving hosts.old i t }
         ensures collecting { H.collecting hosts.new ≡ H.collecting hosts.old }
@@ -122,18 +162,18 @@ impl<'a> Instance<'a> {
         self.due = None;
         self.ready = false;
         self.last = None;
-        let copy = match Values::from_slice(alloc, args) {
+        let copy = match Values::from_slice(self.alloc, args) {
             Ok(copy) => copy,
-            Err(NoMemory) => return RunAnswer::NoMemory,
+            Err(NoMemory) => return RunEnd::NoMemory,
         };
         let collecting = hosts.collects();
         let run = run_invocation(
-            alloc,
+            self.alloc,
             &mut self.machine,
             &self.prepared,
             self.source,
             start,
-            entry,
+            function,
             args,
             depth as usize,
             fuel,
@@ -141,7 +181,7 @@ impl<'a> Instance<'a> {
         );
         self.ready = run.ready;
         self.steps += run.steps;
-        self.last = kept(entry, copy, depth, collecting, &run.answer);
+        self.last = kept(function, copy, depth, collecting, &run.answer);
         run.answer
     }
 
@@ -166,25 +206,46 @@ impl<'a> Instance<'a> {
         self.last.as_ref()
     }
 
-    /// The frames of its last invocation, its globals, its memory and its table.
-    pub fn machine(&self) -> &Machine
-        ensures { result.now ≡ self.now.machine }
+    /// The number of frames of its last invocation.
+    pub fn frame_count(&self) -> usize
+        ensures count { result ≡ length self.now.machine.stack.frames }
+        ensures stands { (p : Program) (c : Config) → StandsAt self.now p c → result ≡ length c.frames }
     {
-        &self.machine
+        self.machine.stack.frames.len()
     }
 
-    /// Its module prepared for running.
-    pub fn prepared(&self) -> &Prepared<'a>
-        ensures value { result.now ≡ self.now.prepared }
-        ensures prepared { (p : Program) → p.module_ ≡ self.now.module_ → IsProgram p → IsPrepared p result.now }
+    /// The frame under so many others.
+    pub fn frame(&self, index: usize) -> FrameRef
+        requires { index < length self.now.machine.stack.frames }
+        ensures { (p : Program) (c : Config) → StandsAt self.now p c → slice_get (frame_images c.frames) index ≡ Some result }
     {
-        &self.prepared
+        frame_at(&self.machine, &self.prepared, index)
     }
 
-    /// The parts of its module.
-    pub fn parts(&self) -> &'a ModuleParts
-        ensures { result.now ≡ self.now.module_ }
+    /// Its globals, in the module's order.
+    pub fn globals(&self) -> &[Value]
+        ensures globals { result.now ≡ self.now.machine.shared.globals }
+        ensures stands { (p : Program) (c : Config) → StandsAt self.now p c → result.now ≡ c.world.globals }
     {
-        self.source
+        self.machine.shared.globals.as_slice()
+    }
+
+    /// The global of an index, which the module has.
+    pub fn global(&self, index: u32) -> Value
+        requires { index < length self.now.module_.globals }
+        ensures { (p : Program) (c : Config) (value : Val) → StandsAt self.now p c → slice_get c.world.globals index ≡ Some value → result ≡ value }
+    {
+        match self.globals().get(index as usize) {
+            Some(value) => *value,
+            None => Value::I32(0),
+        }
+    }
+
+    /// Its memory, where the module has one.
+    pub fn memory(&self) -> Option<&Memory>
+        ensures memory { option_copied result ≡ self.now.machine.shared.memory }
+        ensures stands { (p : Program) (c : Config) → StandsAt self.now p c → option_map (λ m. m.memory) (option_copied result) ≡ c.world.memory }
+    {
+        self.machine.shared.memory.as_ref()
     }
 }

@@ -1,10 +1,10 @@
 //! What an instance keeps of its last invocation.
 
 ghost use Rattle.std.specs.Prelude.{◌≡◌};
-ghost use Rattle.wasm_machine.specs.Instances.{end_of, last_of};
+ghost use Rattle.wasm_machine.specs.Instances.{kept_end, last_of};
 
-use basic_steps::TrapKind;
-use entry_runs::RunAnswer;
+use machine_basics::TrapKind;
+use machine_hosted::RunEnd;
 use wasm_syntax::{Value, Values};
 
 /// How an invocation ended, where memory sufficed: a variant for each other answer, without what was handed out with it.
@@ -38,17 +38,17 @@ pub struct LastInvocation {
 }
 
 /// How an invocation ended, where memory sufficed.
-fn ending(answer: &RunAnswer) -> Option<End>
-    ensures { result ≡ end_of answer.now }
+fn ending(answer: &RunEnd) -> Option<End>
+    ensures { result ≡ kept_end answer.now }
 {
     match answer {
-        RunAnswer::Finished { value } => Some(End::Finished { value: *value }),
-        RunAnswer::Trapped { kind } => Some(End::Trapped { kind: *kind }),
-        RunAnswer::NoReply => Some(End::NoReply),
-        RunAnswer::BadReply { .. } => Some(End::BadReply),
-        RunAnswer::DeviceFault { .. } => Some(End::DeviceFault),
-        RunAnswer::FuelSpent => Some(End::FuelSpent),
-        RunAnswer::NoMemory => None,
+        RunEnd::Finished { value } => Some(End::Finished { value: *value }),
+        RunEnd::Trapped { kind } => Some(End::Trapped { kind: *kind }),
+        RunEnd::NoReply => Some(End::NoReply),
+        RunEnd::BadReply { .. } => Some(End::BadReply),
+        RunEnd::DeviceFault { .. } => Some(End::DeviceFault),
+        RunEnd::FuelSpent => Some(End::FuelSpent),
+        RunEnd::NoMemory => None,
     }
 }
 
@@ -58,7 +58,7 @@ pub(crate) fn kept(
     args: Values,
     depth: u32,
     collecting: bool,
-    answer: &RunAnswer,
+    answer: &RunEnd,
 ) -> Option<LastInvocation>
     ensures { result ≡ last_of entry args depth collecting answer.now }
 {

@@ -1,10 +1,9 @@
 //! Invocations of one module.
 
-ghost use Rattle.std.specs.Prelude.{true, false, [], None};
+ghost use Rattle.std.specs.Prelude.{◌≡◌, true, false, [], None};
 
 use crate::{End, Instance, LastInvocation};
 use host_devices::{HostAnswer, HostSide};
-use instance_start::{entry_fault, entry_function};
 use linear_memory::Memory;
 use std::alloc::Global;
 use wasm_decode::decode;
@@ -58,19 +57,12 @@ fn valid(alloc: Global, bytes: &[u8]) -> Option<Validated> {
 }
 
 /// Invokes the function of a new instance with at most eight frames.
-fn invoke(alloc: Global, instance: &mut Instance<'_>, args: &[Value], fuel: u64) {
-    let parts = instance.parts();
-    let fresh = instance.ready() && instance.steps() == 0;
-    match (entry_function(parts, "f"), entry_fault(parts, "f", args)) {
-        (Some(entry), None) => {
-            if fresh {
-                let mut hosts = Silent {
-                    imports: parts.imports.as_slice(),
-                };
-                instance.invoke(alloc, entry, args, 8, fuel, &mut hosts);
-            }
-        }
-        _ => {}
+fn invoke(instance: &mut Instance<'_>, imports: &[Import], args: &[Value], fuel: u64)
+    requires { imports.now ≡ instance.old.module_.imports }
+{
+    if instance.ready() && instance.steps() == 0 {
+        let mut hosts = Silent { imports };
+        instance.invoke("f", args, 8, fuel, &mut hosts);
     }
 }
 
@@ -100,7 +92,8 @@ fn end_of_call(instance: &Instance<'_>, argument: u32) -> Option<End> {
 fn first_end(alloc: Global, source: &Validated, argument: u32) -> Option<End> {
     match Instance::new(alloc, source) {
         Ok(mut instance) => {
-            invoke(alloc, &mut instance, &[Value::I32(argument)], 1000);
+            let imports = source.module().parts().imports.as_slice();
+            invoke(&mut instance, imports, &[Value::I32(argument)], 1000);
             end_of_call(&instance, argument)
         }
         Err(_) => None,

@@ -18,11 +18,11 @@ use Rattle.wasm_syntax.specs.Module.{type_at, function_types, option_then}
 use Rattle.wasm_syntax.specs.Tree.{Jump, Unreachable, Br, BrIf, BrTable, Return, Call, CallIndirect, Item, Plain, Goes, Opens, OpensLoop, OpensIf, Else, End}
 use Rattle.wasm_syntax.specs.Typing.{Context, Arrow, ◌⇒◌, arrow, call_arrow, set_global}
 use Rattle.wasm_laws.proofs.Progress.{some_is}
-use Rattle.type_stack.specs.Frames.{Known, Frame, opening, set_known, pop_type, pop_any, pop, push, pops, pushes, forget, label, emptied, operands, any_free}
-use Rattle.body_check.specs.Algorithm.{apply, drop_any, both, select_known, select, step_basic, step_jump, step, targets_fit, closed, at_else, may_end, at_end}
-use Rattle.body_check.proofs.Options.{none_is, then_inv, map_inv, if_inv}
-use Rattle.body_check.proofs.Jumps.{any_sound_inv, drop_inv}
-use Rattle.body_check.proofs.Same.{emptied_inv, else_inv}
+use Rattle.validate_stack.specs.Frames.{Known, Frame, opening, set_known, pop_type, pop_any, pop, push, pops, pushes, forget, label, emptied, operands, any_free}
+use Rattle.validate_body.specs.inner.Algorithm.{apply, drop_any, both, select_known, select, step_basic, step_jump, step, targets_fit, closed, at_else, may_end, at_end}
+use Rattle.validate_body.proofs.Options.{none_is, then_inv, map_inv, if_inv}
+use Rattle.validate_body.proofs.Jumps.{any_sound_inv, drop_inv}
+use Rattle.validate_body.proofs.Same.{emptied_inv, else_inv}
 
 -- the operands under the outermost dead sequence, the topmost first; in live code those of all frames
 abbrev pub base : List Frame → Known

@@ -20,8 +20,8 @@ use Rattle.wasm_laws.proofs.Lists.{there_at}
 use Rattle.wasm_laws.proofs.FlatSteps.{steps_split}
 use Rattle.wasm_laws.proofs.FlatBodies.{Gives, begins_steps, steps_begins}
 use Rattle.wasm_laws.proofs.FlatStatic.{rest_of, head_or}
-use Rattle.body_check.proofs.Options.{then_inv}
-use Rattle.body_check.proofs.Through.{first_gives}
+use Rattle.validate_body.proofs.Options.{then_inv}
+use Rattle.validate_body.proofs.Through.{first_gives}
 use Rattle.wasm_validate.specs.declared.validated.ValidateFault.{ValidateFault}
 use Rattle.wasm_validate.specs.declared.validated.ValidateFault.TheVariants.{Invalid, Limit, NoMemory}
 use Rattle.wasm_validate.specs.Heights.{AllLow, FirstHigh, StandsIn}

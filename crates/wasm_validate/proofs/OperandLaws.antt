@@ -14,13 +14,13 @@ use Rattle.wasm_syntax.specs.FlatTyping.{TypesBefore}
 use Rattle.wasm_laws.proofs.Progress.{some_is}
 use Rattle.wasm_laws.proofs.FlatBodies.{Gives}
 use Rattle.wasm_laws.proofs.Lists.{at_of as in_list, there_at, get_within}
-use Rattle.type_stack.specs.Frames.{Known, Frame, operands, any_free, topmost}
-use Rattle.body_check.specs.declared.marks.Mark.{Mark}
-use Rattle.body_check.specs.Algorithm.{run, start, step}
-use Rattle.body_check.specs.Marks.{mark_of, MarkIs, Marked}
-use Rattle.body_check.proofs.Options.{then_inv}
-use Rattle.body_check.proofs.Through.{take_next, first_gives}
-use Rattle.body_check.proofs.MarksLaws.{mark_is, frames_before}
+use Rattle.validate_stack.specs.Frames.{Known, Frame, operands, any_free, topmost}
+use Rattle.validate_body.specs.declared.marks.Mark.{Mark}
+use Rattle.validate_body.specs.inner.Algorithm.{run, start, step}
+use Rattle.validate_body.specs.Marks.{mark_of, MarkIs, Marked}
+use Rattle.validate_body.proofs.Options.{then_inv}
+use Rattle.validate_body.proofs.Through.{take_next, first_gives}
+use Rattle.validate_body.proofs.MarksLaws.{mark_is, frames_before}
 use Rattle.wasm_syntax.specs.Sizes.{ShortBody, WithinLimits}
 use Rattle.wasm_syntax.specs.declared.place.Place.TheVariants.{TypeAt, Function}
 use Rattle.wasm_syntax.specs.Typing.{IsBody}

@@ -9,7 +9,7 @@ use Rattle.wasm_syntax.specs.declared.parts.Limits.{Limits}
 use Rattle.wasm_syntax.specs.declared.module.ModuleParts.{ModuleParts as Module}
 use Rattle.wasm_syntax.specs.Valid.{AtIndex, There, Fine, FirstInvalid, FuncTypeFine, ImportFine, DeclarationFine, TableFine, MemoryFine, GlobalFine, ExportFine, StartFine, ElementFine, DataFine, defined_index, kind_number, index_number}
 use Rattle.wasm_laws.proofs.Progress.{some_is}
-use Rattle.wasm_validate.specs.Places.{FineUpTo, FirstBad, UpTo, OneFine}
+use Rattle.wasm_validate.specs.inner.Places.{FineUpTo, FirstBad, UpTo, OneFine}
 
 pub nothing_before : (m : Module) → UpTo m 0 0
 nothing_before m other b = ⊎_elim (λ lt. absurd (omega arith)) (λ e. absurd (omega (arith, e.1))) b

@@ -6,7 +6,7 @@ use Rattle.std.specs.Prelude.{Bool, true, false, ◌⊎◌, Option, Some, None, 
 use Rattle.std.specs.List.Sorted.{IsNonDecreasingBy, IsPartitionPoint}
 use Rattle.wasm_laws.proofs.Progress.{some_is}
 use Rattle.wasm_laws.proofs.Lists.{get_front, get_behind}
-use Rattle.body_check.specs.declared.marks.Mark.{Mark}
+use Rattle.validate_body.specs.declared.marks.Mark.{Mark}
 use Rattle.wasm_validate.specs.Operands.{Ascends, UpTo, IsRow, AreRows, RowsUpTo, LastOf}
 
 -- ---- places of a list

@@ -15,19 +15,19 @@ use Rattle.wasm_syntax.specs.Tree.{Tree, Placed, Writes, code_of, placed}
 use Rattle.wasm_syntax.specs.Typing.{Context, body_context, IsBody}
 use Rattle.wasm_syntax.specs.Valid.{Fine, Valid, There, FirstWrong, FirstInvalid, OffsetIs, BodyFine, FuncTypeFine, DeclarationFine, defined_index, kind_number, index_number}
 use Rattle.wasm_laws.proofs.Progress.{some_is}
-use Rattle.type_stack.specs.Frames.{Frame}
-use Rattle.body_check.specs.declared.marks.Mark.{Mark}
-use Rattle.body_check.specs.Marks.{Marked}
-use Rattle.body_check.specs.Bodies.{Judged}
-use Rattle.body_check.specs.Algorithm.{step, run, start}
-use Rattle.body_check.specs.declared.body.BodyFault.{BodyFault}
-use Rattle.body_check.specs.declared.body.BodyFault.TheVariants.{WrongAt, NoMemory}
-use Rattle.body_check.proofs.Options.{none_is, then_inv, then_some}
-use Rattle.body_check.proofs.Same.{accepts, began}
-use Rattle.body_check.proofs.Through.{first_gives}
+use Rattle.validate_stack.specs.Frames.{Frame}
+use Rattle.validate_body.specs.declared.marks.Mark.{Mark}
+use Rattle.validate_body.specs.Marks.{Marked}
+use Rattle.validate_body.specs.inner.Bodies.{Judged}
+use Rattle.validate_body.specs.inner.Algorithm.{step, run, start}
+use Rattle.validate_body.specs.declared.body.BodyFault.{BodyFault}
+use Rattle.validate_body.specs.declared.body.BodyFault.TheVariants.{WrongAt, NoMemory}
+use Rattle.validate_body.proofs.Options.{none_is, then_inv, then_some}
+use Rattle.validate_body.proofs.Same.{accepts, began}
+use Rattle.validate_body.proofs.Through.{first_gives}
 use Rattle.wasm_laws.proofs.Lists.{get_front, get_behind}
 use Rattle.wasm_syntax.specs.Sizes.{WithinLimits, local_count}
-use Rattle.wasm_validate.specs.Places.{UpTo}
+use Rattle.wasm_validate.specs.inner.Places.{UpTo}
 use Rattle.wasm_validate.specs.Whole.{BodiesUpTo, BodyJudged, MarkedAt, MarkedUpTo}
 use Rattle.wasm_validate.proofs.Order.{there_is, there_from, index_of, index_back}
 

@@ -3,8 +3,9 @@ use Rattle.std.specs.Prelude.{◌≡◌, ℕ, length, List, Result, Ok, Err, Opt
 use Rattle.wasm_syntax.specs.declared.quantity.Quantity.TheVariants as quantities
 use Rattle.wasm_syntax.specs.declared.module.ModuleParts.{ModuleParts as Module}
 use Rattle.wasm_syntax.specs.Valid.{Valid, FirstInvalid}
-use Rattle.body_check.specs.declared.marks.Mark.{Mark}
-use Rattle.wasm_validate.specs.Heights.{AllLow, FirstHigh, FirstHighMarks, heights_of}
+use Rattle.validate_body.specs.declared.marks.Mark.{Mark}
+use Rattle.wasm_validate.specs.Heights.{AllLow, FirstHigh}
+use Rattle.wasm_validate.specs.MarkedHeights.{FirstHighMarks, heights_of}
 use Rattle.wasm_syntax.specs.Sizes.{WithinLimits}
 use Rattle.wasm_validate.specs.Operands.{RowsUpTo}
 use Rattle.wasm_validate.specs.Whole.{MarkedUpTo}

@@ -1,6 +1,7 @@
 pub mod Answers
 pub mod Heights
-pub mod Offsets
+pub mod Instructions
+pub mod MarkedHeights
 pub mod Operands
-pub mod Places
 pub mod Whole
+pub mod inner

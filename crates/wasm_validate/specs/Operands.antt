@@ -7,7 +7,7 @@ use Rattle.wasm_syntax.specs.declared.parts.FuncType.{FuncType}
 use Rattle.wasm_syntax.specs.declared.parts.Body.{Body}
 use Rattle.wasm_syntax.specs.Module.{type_at}
 use Rattle.wasm_syntax.specs.Static.{Static}
-use Rattle.body_check.specs.declared.marks.Mark.{Mark}
+use Rattle.validate_body.specs.declared.marks.Mark.{Mark}
 use Rattle.wasm_validate.specs.Heights.{TypesAt, body_of}
 
 -- more than n operands stand before an instruction

@@ -6,10 +6,10 @@ use Rattle.wasm_syntax.specs.declared.parts.Body.{Body}
 use Rattle.wasm_syntax.specs.declared.place.Place.TheVariants.{Function}
 use Rattle.wasm_syntax.specs.Module.{type_at}
 use Rattle.wasm_syntax.specs.Valid.{BodyFine, OffsetIs, Valid, FirstInvalid}
-use Rattle.body_check.specs.declared.body.BodyFault.{BodyFault}
-use Rattle.body_check.specs.declared.body.BodyFault.TheVariants as body_faults
-use Rattle.body_check.specs.declared.marks.Mark.{Mark}
-use Rattle.body_check.specs.Marks.{Marked}
+use Rattle.validate_body.specs.declared.body.BodyFault.{BodyFault}
+use Rattle.validate_body.specs.declared.body.BodyFault.TheVariants as body_faults
+use Rattle.validate_body.specs.declared.marks.Mark.{Mark}
+use Rattle.validate_body.specs.Marks.{Marked}
 use Rattle.wasm_validate.specs.declared.bodies.BodiesFault.{BodiesFault}
 use Rattle.wasm_validate.specs.declared.bodies.BodiesFault.TheVariants as bodies_faults
 

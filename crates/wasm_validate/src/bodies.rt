@@ -3,14 +3,14 @@
 ghost use Rattle.std.specs.Prelude.{◌≡◌, ◌<◌, length, slice_get, Some};
 ghost use Rattle.wasm_syntax.specs.Module.{IsModule};
 ghost use Rattle.wasm_syntax.specs.Sizes.{WithinLimits};
-ghost use Rattle.wasm_validate.specs.Places.{UpTo};
+ghost use Rattle.wasm_validate.specs.inner.Places.{UpTo};
 ghost use Rattle.wasm_validate.specs.Whole.{BodyJudged, BodiesJudged};
 ghost use Rattle.wasm_validate.specs.declared.bodies.BodiesFault.TheVariants as faults;
 
-use body_check::{BodyFault, Marks, check_body, type_of};
 use causes::NoMemory;
 use pm_text::Items;
 use std::alloc::Global;
+use validate_body::{BodyFault, Marks, check_body, type_of};
 use wasm_syntax::{Body, ModuleParts, Place};
 
 /// Why a module is refused: at a place, or for want of memory.

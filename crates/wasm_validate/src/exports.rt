@@ -1,12 +1,12 @@
-//! Exports, whose names are distinct.
+//! Exports, whose names are distinct. They are looked up in their order, so that no choice of names makes the search slow.
 
 ghost use Rattle.std.specs.Prelude.{◌≡◌, ◌<◌, ◌+◌, ◌^◌, length, IfOk};
 ghost use Rattle.wasm_syntax.specs.Valid.{ExportFine, index_space};
-ghost use Rattle.wasm_validate.specs.Places.{FirstBad};
+ghost use Rattle.wasm_validate.specs.inner.Places.{FirstBad};
 
 use causes::NoMemory;
 use std::alloc::Global;
-use std::collections::HashMap;
+use std::collections::BTreeMap;
 use wasm_syntax::{ExportKind, ModuleParts};
 
 /// How many things of a kind there are.
@@ -29,7 +29,7 @@ pub fn bad_export(alloc: Global, m: &ModuleParts) -> Result<Option<u32>, NoMemor
     ensures { IfOk result (λ found. FirstBad m.now.exports (ExportFine m.now) found) }
 {
     let exports = m.exports.as_slice();
-    let mut names = HashMap::new(alloc);
+    let mut names = BTreeMap::new(alloc);
     let mut i = 0u32;
     while (i as usize) < exports.len() {
         let export = &exports[i as usize];

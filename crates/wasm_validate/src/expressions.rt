@@ -2,9 +2,9 @@
 
 ghost use Rattle.std.specs.Prelude.{◌≡◌, true, false};
 ghost use Rattle.wasm_syntax.specs.Valid.{ConstBody, ConstTypes};
-ghost use Rattle.wasm_validate.specs.Places.{Decides, is_end as is_last, one_instr};
+ghost use Rattle.wasm_validate.specs.inner.Places.{Decides, is_end as is_last, one_instr};
 
-use body_check::type_of_value;
+use validate_body::type_of_value;
 use wasm_syntax::{Basic, Body, Global, Instr, Op, ValType};
 
 fn is_end(code: Instr) -> bool

@@ -2,7 +2,7 @@
 
 ghost use Rattle.std.specs.Prelude.{◌<◌, ◌+◌, ◌^◌, ℕ, length};
 ghost use Rattle.wasm_syntax.specs.declared.module.ModuleParts.{ModuleParts as Parts};
-ghost use Rattle.wasm_validate.specs.Places.{Decides, FirstBad};
+ghost use Rattle.wasm_validate.specs.inner.Places.{Decides, FirstBad};
 
 use pm_text::Items;
 use wasm_syntax::ModuleParts;

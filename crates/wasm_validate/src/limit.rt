@@ -1,12 +1,12 @@
 //! The greatest heights of operands.
 
 ghost use Rattle.std.specs.Prelude.{◌≡◌, ◌<◌, ◌≤◌, ◌⊎◌, map, length, slice_get, IfOk, Some, None};
-ghost use Rattle.wasm_validate.specs.Heights.{height_or_zero, heights_of, IsGreatest, FirstHighMarks, LowMarks};
+ghost use Rattle.wasm_validate.specs.MarkedHeights.{height_or_zero, heights_of, IsGreatest, FirstHighMarks, LowMarks};
 
-use body_check::{Mark, Marks};
 use causes::NoMemory;
 use pm_text::Items;
 use std::alloc::Global;
+use validate_body::{Mark, Marks};
 use wasm_syntax::Heights;
 
 /// The greatest number of operands before an instruction.

@@ -3,12 +3,12 @@
 ghost use Rattle.std.specs.Prelude.{◌≡◌, ◌<◌, ◌≤◌, ◌^◌, ◌+◌, ℕ, length, slice_get, None, Some};
 ghost use Rattle.wasm_syntax.specs.Valid.{AtIndex, FuncTypeFine, ImportFine, DeclarationFine, LimitsFine, GlobalFine, ElementFine, DataFine, StartFine};
 ghost use Rattle.wasm_syntax.specs.Module.{function_types};
-ghost use Rattle.wasm_validate.specs.Places.{Decides, FirstBad, OneFine};
+ghost use Rattle.wasm_validate.specs.inner.Places.{Decides, FirstBad, OneFine};
 
 use crate::expressions::is_const_body;
 use crate::first::Part;
-use body_check::type_of;
 use pm_text::Items;
+use validate_body::type_of;
 use wasm_syntax::{DataSeg, ElementSeg, FuncType, Global, Import, Limits, ModuleParts, ValType};
 
 impl Part for FuncType {

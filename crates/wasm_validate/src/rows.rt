@@ -1,14 +1,14 @@
 //! The instructions of a function by their operand heights.
 
 ghost use Rattle.std.specs.Prelude.{◌≡◌, ◌<◌, ◌+◌, ◌^◌, ℕ, List, [], ◌∷◌, ◌++◌, length, slice_get, slice_set, IfOk, OnOk, Some};
-ghost use Rattle.body_check.specs.declared.marks.Mark.{Mark as MarkThere};
+ghost use Rattle.validate_body.specs.declared.marks.Mark.{Mark as MarkThere};
 ghost use Rattle.wasm_validate.specs.Operands.{Ascends, UpTo, AreRows, LastOf, FewMarks, RowsUpTo};
 
 use crate::limit::{mark_in, marks_in};
-use body_check::{Mark, Marks};
 use causes::NoMemory;
 use pm_text::Items;
 use std::alloc::Global;
+use validate_body::{Mark, Marks};
 use wasm_syntax::ValType;
 
 /// For each operand height the instructions of a function that have it, ascending. Those in dead code have none.

@@ -2,10 +2,11 @@
 
 ghost use Rattle.std.specs.Prelude.{◌≡◌, ◌<◌, ℕ, List, length, slice_get, Option, Some, None};
 ghost use Rattle.wasm_syntax.specs.Module.{option_then};
-ghost use Rattle.body_check.specs.declared.marks.Mark.{Mark as MarkThere};
+ghost use Rattle.validate_body.specs.declared.marks.Mark.{Mark as MarkThere};
 ghost use Rattle.wasm_syntax.specs.Valid.{Valid};
 ghost use Rattle.wasm_validate.specs.Answers.{Answered};
-ghost use Rattle.wasm_validate.specs.Heights.{HasOp, HeightIs, HeightsAre, AllLow, OpIs};
+ghost use Rattle.wasm_validate.specs.Heights.{HasOp, HeightIs, AllLow};
+ghost use Rattle.wasm_validate.specs.Instructions.{HeightsAre, OpIs};
 ghost use Rattle.wasm_syntax.specs.Sizes.{WithinLimits};
 ghost use Rattle.wasm_validate.specs.Operands.{HasOperand, OperandIs, StaticAt, RowsUpTo, LastOf};
 ghost use Rattle.wasm_syntax.specs.declared.value.ValType.{ValType as Sort};
@@ -17,11 +18,11 @@ use crate::limit::{first_high, heights_of_all};
 use crate::offsets::op_at;
 use crate::places::bad_part;
 use crate::rows::{Rows, last_top, rows_of_all};
-use body_check::{Mark, Marks};
 use causes::NoMemory;
 use pm_text::Items;
 use std::alloc::Global;
 use std::marker::Model;
+use validate_body::{Mark, Marks};
 use wasm_syntax::{Heights, Module, Place, Quantity, ValType};
 
 /// Why a module is refused: at the first place that is not valid; or since a function has too many operands at once, with the greatest

@@ -2,7 +2,7 @@ use Rattle.std.proofs.Common.{ℕ, ◌+◌, List, [], ◌++◌, take, drop, refl
 use Rattle.std.specs.List.{flat_map}
 use Rattle.pm_outside.specs.Answers.{Appends, HasMore}
 use Rattle.dump_write.specs.Spelled.{segment_bytes}
-use Rattle.dump_write.specs.Pieces.{pages_bytes}
+use Rattle.dump_write.specs.inner.Pieces.{pages_bytes}
 use Rattle.dump_write.specs.Written.{OnTold, HasFile, Writes}
 use Rattle.dump_write.proofs.Lists.{one_more, split_at}
 use Rattle.dump_write.proofs.Files.{then_told, piece_refused, file_more}

@@ -1,6 +1,6 @@
 use Rattle.std.proofs.Common.{◌≡◌, List, ℕ, ◌++◌, sym, ap, subst, ◌∙◌}
 use Rattle.dump_format.specs.Region.{Region}
-use Rattle.dump_write.specs.Pieces.{data_head, pages_bytes}
+use Rattle.dump_write.specs.inner.Pieces.{data_head, pages_bytes}
 use Rattle.dump_write.specs.Canonical.{sections_before_data, canonical_bytes}
 use Rattle.dump_write.specs.Written.{OnTold, Writes}
 use Rattle.dump_write.proofs.Pieces.{written_few, written_small, in_pieces}

@@ -1,4 +1,4 @@
-use Rattle.code_writing.proofs.Pieces.{emits_then}
+use Rattle.rewrite_code.proofs.Pieces.{emits_then}
 use Rattle.operand_spill.proofs.Loads.{when_ok}
 use Rattle.guard_insert.proofs.accesses.range_test.Goals as goal
 

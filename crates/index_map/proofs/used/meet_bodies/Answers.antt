@@ -1,6 +1,6 @@
 use Rattle.std.proofs.Common.{ℕ, ◌-◌, ◌<◌, length, arith}
 use Rattle.wasm_syntax.specs.declared.parts.Body.{Body}
-use Rattle.index_map.specs.Used.{ops_used}
+use Rattle.index_map.specs.inner.Used.{ops_used}
 use Rattle.index_map.proofs.Below.{item_below}
 use Rattle.index_map.proofs.used.meet_bodies.Goals as goal
 

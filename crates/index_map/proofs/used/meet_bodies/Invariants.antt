@@ -1,5 +1,5 @@
 use Rattle.std.proofs.Common.{ℕ, ◌≤◌, ◌++◌, List, length, drop, flat_map}
-use Rattle.index_map.specs.Used.{HasMet, ops_used}
+use Rattle.index_map.specs.inner.Used.{HasMet, ops_used}
 use Rattle.index_map.proofs.used.meet_bodies.Given as goal
 
 abbrev pub invariant-loop-i : goal.invariant-loop-i

@@ -1,5 +1,5 @@
 use Rattle.std.proofs.Common.{ℕ, ◌-◌, ◌<◌, length, arith}
-use Rattle.instrument.specs.Weight.{type_used}
+use Rattle.rewrite_modules.specs.Weight.{type_used}
 use Rattle.index_map.proofs.Below.{item_below}
 use Rattle.index_map.proofs.used.meet_code.Goals as goal
 

@@ -1,6 +1,6 @@
 use Rattle.std.proofs.Common.{ℕ, ◌≤◌, ◌++◌, List, length, drop, flat_map}
-use Rattle.instrument.specs.Weight.{type_used}
-use Rattle.index_map.specs.Used.{HasMet}
+use Rattle.rewrite_modules.specs.Weight.{type_used}
+use Rattle.index_map.specs.inner.Used.{HasMet}
 use Rattle.index_map.proofs.used.meet_code.Given as goal
 
 abbrev pub invariant-loop-i : goal.invariant-loop-i

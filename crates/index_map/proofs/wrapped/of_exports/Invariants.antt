@@ -1,5 +1,5 @@
 use Rattle.std.proofs.Common.{◌≡◌, flat_map, take}
-use Rattle.unwind_rewrite.specs.Numbering.{wraps}
+use Rattle.rewrite_bodies.specs.Numbering.{wraps}
 use Rattle.index_map.proofs.wrapped.of_exports.Given as goal
 
 abbrev pub invariant-loop-export : goal.invariant-loop-export

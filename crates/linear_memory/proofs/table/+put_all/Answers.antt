@@ -1,7 +1,7 @@
 use Rattle.std.proofs.Common.{ℕ, ◌+◌, ◌-◌, ◌≤◌, List, length, take, drop, ap, ◌∙◌, arith}
 use Rattle.std.proofs.lemmas.List.{take_rest}
 use Rattle.linear_memory.specs.Memory.{splice}
-use Rattle.linear_memory.specs.Table.{contents}
+use Rattle.linear_memory.specs.inner.Table.{contents}
 use Rattle.linear_memory.proofs.Contents.{put_twice, length-contents}
 use Rattle.linear_memory.proofs.table.+put_all.Goals as goal
 

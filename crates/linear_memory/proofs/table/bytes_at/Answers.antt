@@ -1,5 +1,5 @@
 use Rattle.std.proofs.Common.{ap, sym, ◌∙◌}
-use Rattle.linear_memory.specs.Table.{page_bytes}
+use Rattle.linear_memory.specs.inner.Table.{page_bytes}
 use Rattle.linear_memory.proofs.Contents.{page_at, zeros_is}
 use Rattle.linear_memory.proofs.table.bytes_at.Goals as goal
 

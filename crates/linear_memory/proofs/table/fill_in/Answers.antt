@@ -1,6 +1,6 @@
 use Rattle.std.proofs.Common.{ℕ, ◌+◌, ◌≤◌, length, arith, ◌/◌, ◌%◌, List, Option, map, is_some, ap, subst, sym, ◌∙◌, set, get_or, replicate}
 use Rattle.std.proofs.lemmas.List.{length-replicate}
-use Rattle.linear_memory.specs.Table.{contents, AllWhole}
+use Rattle.linear_memory.specs.inner.Table.{contents, AllWhole}
 use Rattle.linear_memory.proofs.Contents.{put_step, put_whole, put_made, is_made_at}
 use Rattle.linear_memory.proofs.table.fill_in.Goals as goal
 

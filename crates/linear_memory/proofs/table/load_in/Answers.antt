@@ -1,6 +1,6 @@
 use Rattle.std.proofs.Common.{ℕ, ◌%◌, List, Option, ap, sym, ◌∙◌}
 use Rattle.linear_memory.specs.Memory.{window, from_bytes}
-use Rattle.linear_memory.specs.Table.{page_bytes}
+use Rattle.linear_memory.specs.inner.Table.{page_bytes}
 use Rattle.linear_memory.proofs.Contents.{read_step, load_absent}
 use Rattle.linear_memory.proofs.table.load_in.Goals as goal
 

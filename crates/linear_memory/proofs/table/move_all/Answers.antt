@@ -1,6 +1,6 @@
 use Rattle.std.proofs.Common.{◌≡◌, ℕ, ◌+◌, ◌-◌, ◌<◌, ◌≤◌, List, length, ap, sym, ◌∙◌, arith}
 use Rattle.linear_memory.specs.Memory.{window, splice}
-use Rattle.linear_memory.specs.Table.{contents}
+use Rattle.linear_memory.specs.inner.Table.{contents}
 use Rattle.linear_memory.proofs.Contents.{length-contents}
 use Rattle.linear_memory.proofs.Moves.{forward_part, backward_part}
 use Rattle.linear_memory.proofs.table.move_all.Goals as goal

@@ -1,6 +1,6 @@
 use Rattle.std.proofs.Common.{◌≡◌, ◌+◌, ◌-◌, ◌≤◌, map, is_some}
 use Rattle.linear_memory.specs.Memory.{window, splice}
-use Rattle.linear_memory.specs.Table.{contents, AllWhole}
+use Rattle.linear_memory.specs.inner.Table.{contents, AllWhole}
 use Rattle.linear_memory.proofs.table.move_all.Given as goal
 
 abbrev pub invariant-loop-done : goal.invariant-loop-done

@@ -1,5 +1,5 @@
 use Rattle.std.proofs.Common.{ℕ, ◌/◌, ◌%◌, List, Option, map, is_some, ap, subst, sym, ◌∙◌, set, get_or}
-use Rattle.linear_memory.specs.Table.{contents, AllWhole}
+use Rattle.linear_memory.specs.inner.Table.{contents, AllWhole}
 use Rattle.linear_memory.proofs.Contents.{put_step, put_whole, put_made, is_made_at}
 use Rattle.linear_memory.proofs.table.put_in.Goals as goal
 

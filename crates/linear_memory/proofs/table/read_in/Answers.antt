@@ -1,6 +1,6 @@
 use Rattle.std.proofs.Common.{ℕ, ◌%◌, List, Option, length, ap, sym, ◌∙◌}
 use Rattle.linear_memory.specs.Memory.{window}
-use Rattle.linear_memory.specs.Table.{page_bytes}
+use Rattle.linear_memory.specs.inner.Table.{page_bytes}
 use Rattle.linear_memory.proofs.Windows.{window_mid}
 use Rattle.linear_memory.proofs.Contents.{read_step, window-zeros}
 use Rattle.linear_memory.proofs.table.read_in.Goals as goal

@@ -1,5 +1,5 @@
 use Rattle.std.proofs.Common.{◌∙◌, ◌≡◌, ◌+◌, ◌-◌, ◌<◌, true, length, refl, sym, ap, subst, add-one, arith}
-use Rattle.frame_steps.specs.Meets.{call_at}
+use Rattle.machine_frames.specs.Meets.{call_at}
 use Rattle.machine_steps.specs.Meets.{MeetsAt}
 use Rattle.machine_steps.proofs.StepLaws.{lifts}
 use Rattle.machine_steps.proofs.ImportLaws.{import_meets}

@@ -1,5 +1,5 @@
 use Rattle.std.proofs.Common.{refl}
-use Rattle.run_command.specs.Scripts.{script_result}
+use Rattle.run_command.specs.inner.Scripts.{script_result}
 use Rattle.run_command.specs.Stops.{ScriptStops}
 use Rattle.run_command.proofs.Stopping.{not_reached, scripted_stops}
 use Rattle.run_command.proofs.Commands.{script_refused}

@@ -1,41 +1,61 @@
-use Rattle.std.proofs.Common.{refl, ◌∙◌}
+use Rattle.std.proofs.Common.{◌≡◌, List, map, refl, sym, ap, ◌∙◌, subst, Ok}
+use Rattle.wasm_syntax.specs.declared.module.ModuleParts.{ModuleParts as Module}
+use Rattle.wasm_syntax.specs.Module.{IsModule}
+use Rattle.host_set.specs.Hosting.{serves}
+use Rattle.run_words.specs.declared.invocation.Invocation.{Invocation as InvocationWords}
+use Rattle.run_session.specs.Invocations.{invocation_of}
+use Rattle.wasm_machine.specs.Entries.{entry_fault}
 use Rattle.run_command.specs.Stops.{ModuleStops}
-use Rattle.run_command.proofs.Stopping.{not_reached, valid_stops}
-use Rattle.run_command.proofs.Valid.{some_told, ok_told, err_told, dump_faults}
+use Rattle.run_command.specs.inner.Begun.{HasBegun}
+use Rattle.run_command.specs.declared.running.Begun.{Begun}
+use Rattle.run_command.specs.declared.running.Begun.TheVariants.{Ready, Refused}
+use Rattle.run_command.proofs.Hostings.{began_so}
+use Rattle.run_command.proofs.Beginning.{begun_begin}
+use Rattle.run_command.proofs.Valid.{ready_told, refused_back, dump_faults}
+use Rattle.run_command.proofs.Stopping.{ready_stops}
 use Rattle.run_command.proofs.running.run_valid.Goals as goal
 
-pub returns-in-Some-clause-told : goal.returns-in-Some-clause-told
-returns-in-Some-clause-told g c =
-    some_told c.not_started.result (g.D.Devices.shown c.args.devices.now) c.args.script c.args.words.now c.parts-m.result.now c.args.source.now (g.F.Files.told c.args.files.now) c.in_ok-cause.cause c.in-Some.text
-    (c.parts-m.ensures.value ∙ c.module.ensures.value) c.in_ok-cause.ensures c.in-Some.is c.not_started.ensures
+pub run_all-outcome-requires-clause-entries : goal.run_all-outcome-requires-clause-entries
+run_all-outcome-requires-clause-entries g c =
+    begun_begin (λ i type. serves c.new-hosts.result i) c.args.source.now c.args.words.now.invocations c.in-Ok-Ready.instance
+    (subst (λ (is : List InvocationWords). HasBegun (λ i type. serves c.new-hosts.result i) c.args.source.now (map invocation_of is) (Ready c.in-Ok-Ready.instance)) c.as_slice.ensures
+    (subst (λ (b : Begun). HasBegun (λ i type. serves c.new-hosts.result i) c.args.source.now (map invocation_of c.as_slice.result.now) b) c.in-Ok-Ready.field-0-is c.in-Ok-Ready.ensures))
 
-pub returns-in-Ok-clause-told : goal.returns-in-Ok-clause-told
-returns-in-Ok-clause-told g c =
-    ok_told c.run_hosted.result (g.D.Devices.shown c.args.devices.now) (g.D.Devices.shown c.run_hosted.new.devices) c.args.script c.args.words.now c.parts-m.result.now c.args.source.now c.in-Ok.instance (g.F.Files.told c.args.files.now) (g.F.Files.told c.run_hosted.new.files) c.in_ok-cause.cause
-    (c.parts-m.ensures.value ∙ c.module.ensures.value) c.in_ok-cause.ensures c.in-None.is c.in-Ok.ensures.0 c.in-Ok.ensures.1 c.run_hosted.ensures.told
+pub returns-in-Ok-Ready-clause-told : goal.returns-in-Ok-Ready-clause-told
+returns-in-Ok-Ready-clause-told g c =
+    ready_told c.run_all-outcome.result (g.D.Devices.shown c.args.devices.now) (g.D.Devices.shown c.into_devices.result) c.args.script c.args.words.now c.args.source.now c.in-Ok-Ready.instance c.new-hosts.result c.run_all-outcome.new.hosts
+    (g.F.Files.told c.args.files.now) (g.F.Files.told c.run_all-outcome.new.files)
+    (subst IsModule (c.parts.ensures.value ∙ c.module.ensures.value) c.parts.ensures.whole) c.module.ensures.valid
+    (subst (λ (is : List InvocationWords). HasBegun (λ i type. serves c.new-hosts.result i) c.args.source.now (map invocation_of is) (Ready c.in-Ok-Ready.instance)) c.as_slice.ensures
+    (subst (λ (b : Begun). HasBegun (λ i type. serves c.new-hosts.result i) c.args.source.now (map invocation_of c.as_slice.result.now) b) c.in-Ok-Ready.field-0-is c.in-Ok-Ready.ensures))
+    (began_so c.args.source.now.imports c.as_slice-imports.result.now (g.D.Devices.shown c.args.devices.now) (g.D.Devices.shown c.replace-set.result) c.args.script c.new-hosts.result c.new-hosts.ensures.state c.new-hosts.ensures.logs
+    (c.as_slice-imports.ensures ∙ ap (λ (m : Module). m.imports) (c.parts.ensures.value ∙ c.module.ensures.value)) (ap (λ d. g.D.Devices.shown d) c.replace-set.ensures.value))
+    c.run_all-outcome.ensures.origin
+    (record { devices = c.into_devices.ensures.devices; logged = c.into_devices.ensures.logged; modules = c.into_devices.ensures.modules; scripted = c.into_devices.ensures.scripted })
+    c.run_all-outcome.ensures.ran
 
-pub returns-in-Ok-clause-fault : goal.returns-in-Ok-clause-fault
-returns-in-Ok-clause-fault g c = dump_faults c.args.words.now c.run_hosted.result _ c.run_hosted.ensures.fault
+pub returns-in-Ok-Ready-clause-stops : goal.returns-in-Ok-Ready-clause-stops
+returns-in-Ok-Ready-clause-stops g c =
+    ready_stops (g.D.Devices.shown c.args.devices.now) (g.D.Devices.shown c.into_devices.result) c.args.words.now c.run_all-outcome.result c.args.script c.args.source.now c.in-Ok-Ready.instance c.new-hosts.result c.run_all-outcome.new.hosts
+    (g.F.Files.told c.args.files.now) (g.F.Files.told c.run_all-outcome.new.files)
+    (subst IsModule (c.parts.ensures.value ∙ c.module.ensures.value) c.parts.ensures.whole) c.module.ensures.valid
+    (subst (λ (is : List InvocationWords). HasBegun (λ i type. serves c.new-hosts.result i) c.args.source.now (map invocation_of is) (Ready c.in-Ok-Ready.instance)) c.as_slice.ensures
+    (subst (λ (b : Begun). HasBegun (λ i type. serves c.new-hosts.result i) c.args.source.now (map invocation_of c.as_slice.result.now) b) c.in-Ok-Ready.field-0-is c.in-Ok-Ready.ensures))
+    (began_so c.args.source.now.imports c.as_slice-imports.result.now (g.D.Devices.shown c.args.devices.now) (g.D.Devices.shown c.replace-set.result) c.args.script c.new-hosts.result c.new-hosts.ensures.state c.new-hosts.ensures.logs
+    (c.as_slice-imports.ensures ∙ ap (λ (m : Module). m.imports) (c.parts.ensures.value ∙ c.module.ensures.value)) (ap (λ d. g.D.Devices.shown d) c.replace-set.ensures.value))
+    c.run_all-outcome.ensures.origin
+    (record { devices = c.into_devices.ensures.devices; logged = c.into_devices.ensures.logged; modules = c.into_devices.ensures.modules; scripted = c.into_devices.ensures.scripted })
+    c.run_all-outcome.ensures.stops
 
-pub returns-in_ok-text-in-Err-clause-told : goal.returns-in_ok-text-in-Err-clause-told
-returns-in_ok-text-in-Err-clause-told g c =
-    err_told c.not_started-in-Err.result (g.D.Devices.shown c.args.devices.now) c.args.script c.args.words.now c.parts-m.result.now c.args.source.now (g.F.Files.told c.args.files.now) c.in_ok-cause.cause c.in-Err.fault c.in_ok-text-in-Err.text
-    (c.parts-m.ensures.value ∙ c.module.ensures.value) c.in_ok-cause.ensures c.in-None.is c.in-Err.ensures c.in_ok-text-in-Err.ensures c.not_started-in-Err.ensures
+pub returns-in-Ok-Ready-clause-fault : goal.returns-in-Ok-Ready-clause-fault
+returns-in-Ok-Ready-clause-fault g c = dump_faults c.args.words.now c.run_all-outcome.result _ c.run_all-outcome.ensures.fault
 
--- where nothing was run
-pub returns-in_err-cause-clause-stops : goal.returns-in_err-cause-clause-stops
-returns-in_err-cause-clause-stops g c = not_reached (λ stop held then_held. ModuleStops stop c.args.words.now c.args.source.now c.args.script (g.D.Devices.shown c.args.devices.now) (g.D.Devices.shown c.args.devices.now) held then_held) (g.D.Devices.shown c.args.devices.now) (g.F.Files.told c.args.files.now) (g.F.Files.told c.args.files.now) c.from_residual.result refl
-
-pub returns-in-Some-clause-stops : goal.returns-in-Some-clause-stops
-returns-in-Some-clause-stops g c = not_reached (λ stop held then_held. ModuleStops stop c.args.words.now c.args.source.now c.args.script (g.D.Devices.shown c.args.devices.now) (g.D.Devices.shown c.args.devices.now) held then_held) (g.D.Devices.shown c.args.devices.now) (g.F.Files.told c.args.files.now) (g.F.Files.told c.args.files.now) c.not_started.result refl
-
-pub returns-in_err-text-in-Err-clause-stops : goal.returns-in_err-text-in-Err-clause-stops
-returns-in_err-text-in-Err-clause-stops g c = not_reached (λ stop held then_held. ModuleStops stop c.args.words.now c.args.source.now c.args.script (g.D.Devices.shown c.args.devices.now) (g.D.Devices.shown c.args.devices.now) held then_held) (g.D.Devices.shown c.args.devices.now) (g.F.Files.told c.args.files.now) (g.F.Files.told c.args.files.now) c.from_residual-in_err-text-in-Err.result refl
-
-pub returns-in_ok-text-in-Err-clause-stops : goal.returns-in_ok-text-in-Err-clause-stops
-returns-in_ok-text-in-Err-clause-stops g c = not_reached (λ stop held then_held. ModuleStops stop c.args.words.now c.args.source.now c.args.script (g.D.Devices.shown c.args.devices.now) (g.D.Devices.shown c.args.devices.now) held then_held) (g.D.Devices.shown c.args.devices.now) (g.F.Files.told c.args.files.now) (g.F.Files.told c.args.files.now) c.not_started-in-Err.result refl
-
-pub returns-in-Ok-clause-stops : goal.returns-in-Ok-clause-stops
-returns-in-Ok-clause-stops g c =
-    valid_stops (g.D.Devices.shown c.args.devices.now) (g.D.Devices.shown c.run_hosted.new.devices) c.args.words.now c.run_hosted.result c.args.script c.parts-m.result.now c.args.source.now c.in-Ok.instance (g.F.Files.told c.args.files.now) (g.F.Files.told c.run_hosted.new.files) c.in_ok-cause.cause
-    (c.parts-m.ensures.value ∙ c.module.ensures.value) c.in_ok-cause.ensures c.in-None.is c.in-Ok.ensures.0 c.in-Ok.ensures.1 c.run_hosted.ensures.stops
+pub returns-in-Ok-Refused-clause-told : goal.returns-in-Ok-Refused-clause-told
+returns-in-Ok-Refused-clause-told g c =
+    refused_back (Ok c.in-Ok-Refused.refusal) (g.D.Devices.shown c.args.devices.now) (g.D.Devices.shown c.into_devices-in-Ok-Refused.result) c.args.script c.args.words.now c.args.source.now c.new-hosts.result (g.F.Files.told c.args.files.now) c.in-Ok-Refused.refusal
+    c.module.ensures.valid
+    (began_so c.args.source.now.imports c.as_slice-imports.result.now (g.D.Devices.shown c.args.devices.now) (g.D.Devices.shown c.replace-set.result) c.args.script c.new-hosts.result c.new-hosts.ensures.state c.new-hosts.ensures.logs
+    (c.as_slice-imports.ensures ∙ ap (λ (m : Module). m.imports) (c.parts.ensures.value ∙ c.module.ensures.value)) (ap (λ d. g.D.Devices.shown d) c.replace-set.ensures.value))
+    c.into_devices-in-Ok-Refused.ensures.devices
+    (subst (λ (is : List InvocationWords). HasBegun (λ i type. serves c.new-hosts.result i) c.args.source.now (map invocation_of is) (Refused c.in-Ok-Refused.refusal)) c.as_slice.ensures
+    (subst (λ (b : Begun). HasBegun (λ i type. serves c.new-hosts.result i) c.args.source.now (map invocation_of c.as_slice.result.now) b) c.in-Ok-Refused.field-0-is c.in-Ok-Refused.ensures)) refl

@@ -1,11 +1,11 @@
 use Rattle.std.proofs.Common.{◌≡◌, ◌≤◌, ℕ, List, map, take, true, is_some}
 use Rattle.wasm_syntax.specs.declared.parts.Import.{Import as ImportValue}
 use Rattle.wasm_syntax.specs.declared.parts.FuncType.{FuncType as TypeValue}
-use Rattle.wasm_syntax.specs.Module.{Program, IsProgram}
+use Rattle.wasm_syntax.specs.Module.{Program}
 use Rattle.wasm_syntax.specs.Run.{engine}
-use Rattle.trap_image.specs.Pictured.{FewFunctions}
+use Rattle.wasm_machine.specs.Instances.{IsOf}
 use Rattle.run_session.specs.Invocations.{invocation_of}
-use Rattle.run_session.specs.Sessions.{SoFar}
+use Rattle.run_session.specs.inner.Sessions.{SoFar}
 use Rattle.run_session.proofs.session.run_all.Given as goal
 
 abbrev pub invariant-loop-index : goal.invariant-loop-index
@@ -19,5 +19,5 @@ invariant-loop-index g l = record {
   traps : l.lines.traps ≤ l.index;
   telling : is_some (g.F.Files.told l.files) ≡ is_some (g.F.Files.told l.fn.files);
   later : g.F.Files.faults l.fn.files ≤ g.F.Files.faults l.files;
-  come : ((p : Program) → p.module_ ≡ l.fn.instance.module_ → IsProgram p → FewFunctions p.module_ → SoFar (engine p (g.H.HostSide.collecting l.fn.hosts) l.fn.words.depth) l.fn.words.dump l.fn.words.name l.fn.instance l.instance (map invocation_of (take l.index l.invocations)) l.fn.words.fuel l.lines (g.H.HostSide.calls l.fn.hosts) (g.H.HostSide.calls l.hosts) (g.F.Files.told l.fn.files) (g.F.Files.told l.files));
+  come : ((p : Program) → IsOf l.fn.instance p → SoFar (engine p (g.H.HostSide.collecting l.fn.hosts) l.fn.words.depth) l.fn.words.dump l.fn.words.name l.fn.instance l.instance (map invocation_of (take l.index l.invocations)) l.fn.words.fuel l.lines (g.H.HostSide.calls l.fn.hosts) (g.H.HostSide.calls l.hosts) (g.F.Files.told l.fn.files) (g.F.Files.told l.files));
 }

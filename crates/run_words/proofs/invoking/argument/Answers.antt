@@ -1,5 +1,5 @@
 use Rattle.std.proofs.Common.{sym}
-use Rattle.replies_file.proofs.Numbers.{number_fits}
+use Rattle.host_replies.proofs.Numbers.{number_fits}
 use Rattle.run_words.proofs.invoking.argument.Goals as goal
 
 pub typed-requires : goal.typed-requires

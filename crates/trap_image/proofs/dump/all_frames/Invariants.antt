@@ -1,7 +1,10 @@
 use Rattle.std.proofs.Common.{◌≡◌, map, take}
-use Rattle.instrument.specs.DumpBytes.{frame_of}
-use Rattle.trap_image.specs.Shown.{all_shown}
+use Rattle.wasm_syntax.specs.Module.{Program}
+use Rattle.wasm_syntax.specs.Machine.{Config}
+use Rattle.wasm_machine.specs.Instances.{StandsAt}
+use Rattle.dump_write.specs.Image.{frame_images}
+use Rattle.dump_write.specs.ImageBytes.{frame_of}
 use Rattle.trap_image.proofs.dump.all_frames.Given as goal
 
 abbrev pub invariant-loop-index : goal.invariant-loop-index
-invariant-loop-index l = l.frames ≡ map frame_of (take l.index (all_shown l.prepared l.m))
+invariant-loop-index l = (p : Program) (c : Config) → StandsAt l.instance p c → l.frames ≡ map frame_of (take l.index (frame_images c.frames))

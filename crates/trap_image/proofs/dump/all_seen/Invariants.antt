@@ -1,5 +1,5 @@
 use Rattle.std.proofs.Common.{◌≡◌, map, take}
-use Rattle.instrument.specs.DumpBytes.{seen_of}
+use Rattle.dump_write.specs.ImageBytes.{seen_of}
 use Rattle.trap_image.proofs.dump.all_seen.Given as goal
 
 abbrev pub invariant-loop-value : goal.invariant-loop-value

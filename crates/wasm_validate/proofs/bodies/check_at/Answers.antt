@@ -2,7 +2,7 @@ use Rattle.std.proofs.Common.{◌≡◌, ◌+◌, ◌<◌, length, sym, ap, subs
 use Rattle.std.specs.Prelude.{Some, None}
 use Rattle.std.specs.Option.{option_copied}
 use Rattle.wasm_syntax.specs.Module.{type_at}
-use Rattle.body_check.proofs.Options.{none_is}
+use Rattle.validate_body.proofs.Options.{none_is}
 use Rattle.wasm_validate.proofs.WholeLaws.{one_result, tree_of, has_type, judged_at, few_locals}
 use Rattle.wasm_validate.proofs.bodies.check_at.Goals as goal
 

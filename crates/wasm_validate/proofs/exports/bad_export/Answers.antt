@@ -1,8 +1,10 @@
 use Rattle.std.proofs.Common.{◌≡◌, ◌<◌, ◌≤◌, length, slice_get, refl, ap, subst, ◌∙◌, arith}
 use Rattle.std.proofs.lemmas.Option.{slice_get_read}
-use Rattle.std.proofs.lemmas.Map.Text.{hash_map_updates_str}
+use Rattle.std.proofs.lemmas.Map.Text.{btree_map_updates_str}
 use Rattle.std.specs.Prelude.{Some, bytes_eq, is_some}
-use Rattle.std.specs.HashMap as hash
+use Rattle.std.specs.BTreeMap as tree
+use Rattle.std.specs.Cmp.Lexicographic.{slice_cmp}
+use Rattle.std.specs.Ordering.{nat_cmp}
 use Rattle.wasm_syntax.specs.Valid.{index_space}
 use Rattle.wasm_validate.proofs.Order.{fine_more, fine_all}
 use Rattle.wasm_validate.proofs.ExportLaws.{repeated, distinct, seen_next}
@@ -23,8 +25,8 @@ loop-i-preserved c =
     record {
       within = grind (arith, c.as_slice-exports.ensures, c.loop-i-test.true);
       fine = fine_more c.args.m.now.exports (ExportFine c.args.m.now) c.loop-i.i x e (distinct c.args.m.now c.loop-i.i x c.as_str.result.now c.in_ok-insert.field-0 c.as_str.ensures.value c.in-None.is (ap (λ o. is_some o) c.in_ok-insert.ensures.old ∙ c.loop-i.invariant.seen c.as_str.result.now) lt) c.loop-i.invariant.fine;
-      seen = λ q. seen_next c.args.m.now.exports c.loop-i.i x q (hash.get_by (λ k. bytes_eq q k.now) c.loop-i.names) (hash.get_by (λ k. bytes_eq q k.now) c.insert.new.self) c.loop-i.i e (c.loop-i.invariant.seen q)
-          (hash_map_updates_str x.name c.loop-i.names c.insert.new.self (Some c.loop-i.i) (subst (λ s. hash.UpdatesBy (λ a b. bytes_eq a.now b.now) (λ k. bytes_eq s k.now) c.loop-i.names c.insert.new.self (Some c.loop-i.i)) c.as_str.ensures.value c.in_ok-insert.ensures.updates) q);
+      seen = λ q. seen_next c.args.m.now.exports c.loop-i.i x q (tree.get_by (λ k. slice_cmp nat_cmp q k.now) c.loop-i.names) (tree.get_by (λ k. slice_cmp nat_cmp q k.now) c.insert.new.self) c.loop-i.i e (c.loop-i.invariant.seen q)
+          (btree_map_updates_str x.name c.loop-i.names c.insert.new.self (Some c.loop-i.i) (subst (λ s. tree.UpdatesBy (λ a b. slice_cmp nat_cmp a.now b.now) (λ k. slice_cmp nat_cmp s k.now) c.loop-i.names c.insert.new.self (Some c.loop-i.i)) c.as_str.ensures.value c.in_ok-insert.ensures.updates) q);
     }
 
 pub returns : goal.returns

@@ -1,5 +1,5 @@
 use Rattle.std.proofs.Common.{sym, ap, ◌∙◌}
-use Rattle.wasm_validate.specs.Places.{one_instr}
+use Rattle.wasm_validate.specs.inner.Places.{one_instr}
 use Rattle.wasm_validate.proofs.ConstantLaws.{const_decides, const_none}
 use Rattle.wasm_validate.proofs.expressions.is_const_body.Goals as goal
 

@@ -1,5 +1,5 @@
 use Rattle.std.proofs.Common.{◌≤◌, ◌<◌, ◌-◌, length}
-use Rattle.wasm_validate.specs.Places.{FineUpTo}
+use Rattle.wasm_validate.specs.inner.Places.{FineUpTo}
 use Rattle.wasm_validate.proofs.parts.are_below.Given as goal
 
 abbrev pub invariant-loop-i : goal.invariant-loop-i

@@ -1,5 +1,5 @@
 use Rattle.std.proofs.Common.{refl, arith}
-use Rattle.wasm_validate.specs.Places.{OneFine}
+use Rattle.wasm_validate.specs.inner.Places.{OneFine}
 use Rattle.wasm_validate.proofs.Order.{one_only, one_fine}
 use Rattle.wasm_validate.proofs.parts.bad_second.Goals as goal
 

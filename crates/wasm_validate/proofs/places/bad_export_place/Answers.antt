@@ -1,6 +1,6 @@
 use Rattle.std.proofs.Common.{subst}
 use Rattle.wasm_syntax.specs.Valid.{ExportFine}
-use Rattle.wasm_validate.specs.Places.{FirstBad}
+use Rattle.wasm_validate.specs.inner.Places.{FirstBad}
 use Rattle.wasm_validate.proofs.Order.{exports_fine, exports_bad}
 use Rattle.wasm_validate.proofs.places.bad_export_place.Goals as goal
 

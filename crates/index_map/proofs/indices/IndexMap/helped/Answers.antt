@@ -1,6 +1,6 @@
 use Rattle.std.proofs.Common.{◌≡◌, List, ap, ◌∙◌}
 use Rattle.wasm_syntax.specs.declared.module.ModuleParts.{ModuleParts as Module}
-use Rattle.instrument.specs.Weight.{types_used}
+use Rattle.rewrite_modules.specs.Weight.{types_used}
 use Rattle.index_map.proofs.Trees.{of_module}
 use Rattle.index_map.proofs.indices.IndexMap.helped.Goals as goal
 

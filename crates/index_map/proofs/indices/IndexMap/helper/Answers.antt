@@ -1,7 +1,7 @@
 use Rattle.std.proofs.Common.{◌≡◌, ℕ, ◌+◌, ◌<◌, length, true, refl, sym, ap, ap₂, ◌∙◌, arith}
 use Rattle.wasm_syntax.specs.declared.module.ModuleParts.{ModuleParts as Module}
-use Rattle.unwind_rewrite.specs.Numbering.{helper_base, is_in, place_in}
-use Rattle.instrument.specs.Weight.{types_used}
+use Rattle.rewrite_bodies.specs.Numbering.{helper_base, is_in, place_in}
+use Rattle.rewrite_modules.specs.Weight.{types_used}
 use Rattle.index_map.proofs.Trees.{of_module}
 use Rattle.index_map.proofs.Places.{table_low, place_found}
 use Rattle.index_map.proofs.indices.IndexMap.helper.Goals as goal

@@ -1,5 +1,5 @@
 use Rattle.std.proofs.Common.{◌+◌, ◌≤◌, length, arith}
-use Rattle.linear_memory.specs.Table.{contents}
+use Rattle.linear_memory.specs.inner.Table.{contents}
 use Rattle.linear_memory.proofs.Contents.{length-contents}
 use Rattle.linear_memory.proofs.Instructions.{copy_twice}
 use Rattle.linear_memory.proofs.paged.Memory.copy.Goals as goal

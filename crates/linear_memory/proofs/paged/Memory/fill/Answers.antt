@@ -1,6 +1,6 @@
 use Rattle.std.proofs.Common.{ℕ, ◌+◌, ◌≤◌, length, replicate, arith}
 use Rattle.std.proofs.lemmas.List.{length-replicate}
-use Rattle.linear_memory.specs.Table.{contents}
+use Rattle.linear_memory.specs.inner.Table.{contents}
 use Rattle.linear_memory.proofs.Contents.{length-contents}
 use Rattle.linear_memory.proofs.Instructions.{put_twice}
 use Rattle.linear_memory.proofs.paged.Memory.fill.Goals as goal

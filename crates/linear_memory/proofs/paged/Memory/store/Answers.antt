@@ -1,6 +1,6 @@
 use Rattle.std.proofs.Common.{◌+◌, ◌≤◌, length, ap, arith}
 use Rattle.linear_memory.specs.Memory.{to_bytes}
-use Rattle.linear_memory.specs.Table.{contents}
+use Rattle.linear_memory.specs.inner.Table.{contents}
 use Rattle.linear_memory.proofs.Contents.{length-contents}
 use Rattle.linear_memory.proofs.Instructions.{put_once}
 use Rattle.linear_memory.proofs.LowBytes.{length-to_bytes}

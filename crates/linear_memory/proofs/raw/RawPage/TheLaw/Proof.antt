@@ -12,7 +12,7 @@ use mir.Raw.{raw}
 use Rattle.std_heap.specs.contracts.Global as heap
 use Rattle.std_heap.specs.contracts.GlobalAllocator.TheImpl.{ghosts}
 use Rattle.std_heap.proofs.Global.TheLaws as heap_laws
-use Rattle.linear_memory.specs.Ownership.{Block}
+use Rattle.linear_memory.specs.inner.Ownership.{Block}
 use Rattle.linear_memory.specs.contracts.raw.RawPage as page
 use Rattle.linear_memory.proofs.raw.RawPage.TheLaw.Statement.{statement}
 

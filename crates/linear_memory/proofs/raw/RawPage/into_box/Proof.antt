@@ -40,7 +40,7 @@ use Rattle.std_heap.proofs.Global.TheLaws as heap_laws
 use Rattle.std.proofs.Handle.{heap_val, heap_Tells}
 use Rattle.std_alloc.specs.contracts.boxed.Box.from_raw as g
 use Rattle.std_alloc.proofs.boxed.Box.from_raw.Met.{met}
-use Rattle.linear_memory.specs.Ownership.{Block, block_owned}
+use Rattle.linear_memory.specs.inner.Ownership.{Block, block_owned}
 use Rattle.linear_memory.specs.contracts.raw.RawPage as page
 use Rattle.linear_memory.specs.contracts.raw.RawPage.into_box as f
 use Rattle.linear_memory.proofs.Boxed.{E, T, T_laws, Z, Z_laws, no_drop, glued}

@@ -1,5 +1,5 @@
 use Rattle.std.proofs.Common.{◌∙◌}
-use Rattle.linear_memory.specs.Table.{zeros}
+use Rattle.linear_memory.specs.inner.Table.{zeros}
 use Rattle.linear_memory.proofs.raw.RawPage.make.Goals as goal
 
 pub returns : goal.returns

@@ -43,7 +43,7 @@ use Rattle.std_alloc.specs.Box.Ownership.{box_owns}
 use Rattle.std_alloc.specs.contracts.boxed.Box as boxed
 use Rattle.std_alloc.specs.contracts.boxed.Box.into_raw_with_allocator as g
 use Rattle.std_alloc.proofs.boxed.Box.into_raw_with_allocator.Met.{met}
-use Rattle.linear_memory.specs.Ownership.{Block}
+use Rattle.linear_memory.specs.inner.Ownership.{Block}
 use Rattle.linear_memory.specs.contracts.raw.RawPage as page
 use Rattle.linear_memory.specs.contracts.raw.RawPage.of as f
 use Rattle.linear_memory.proofs.Boxed.{E, T, T_laws, Z, Z_laws, no_drop, glued}

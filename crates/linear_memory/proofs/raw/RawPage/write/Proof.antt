@@ -28,8 +28,8 @@ use types.Logic.{Logic, sem}
 use types.Part.{whole, sub, look_in}
 use types.Run.{enter, of_opd, addr, stop, fld, hop, first, blocks, exec, returns}
 use Rattle.std_heap.specs.contracts.GlobalAllocator.TheImpl.{ghosts}
-use Rattle.linear_memory.specs.Lending.{with_bytes}
-use Rattle.linear_memory.specs.Ownership.{Block, block_owned}
+use Rattle.linear_memory.specs.inner.Lending.{with_bytes}
+use Rattle.linear_memory.specs.inner.Ownership.{Block, block_owned}
 use Rattle.linear_memory.specs.contracts.raw.RawPage as page
 use Rattle.linear_memory.specs.contracts.raw.RawPage.write as f
 use Rattle.linear_memory.proofs.raw.RawPage.TheLaws.{lowers}

@@ -1,7 +1,7 @@
 use Rattle.std.proofs.Common.{◌≡◌, ◌≤◌, List, length, drop}
 use Rattle.wasm_syntax.specs.Tree.{Nodes}
-use Rattle.unwind_rewrite.specs.Rewrite.{hand_locals}
-use Rattle.code_writing.specs.Writing.{Behind, goes}
+use Rattle.rewrite_bodies.specs.Rewrite.{hand_locals}
+use Rattle.rewrite_code.specs.Writing.{Behind, goes}
 use Rattle.operand_spill.proofs.context.FunctionContext.hand_locals.Given as goal
 
 abbrev pub invariant-loop-x : goal.invariant-loop-x

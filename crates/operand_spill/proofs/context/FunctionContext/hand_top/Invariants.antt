@@ -1,6 +1,6 @@
 use Rattle.std.proofs.Common.{◌≡◌, ◌≤◌, ◌-◌, length, take}
-use Rattle.unwind_rewrite.specs.Rewrite.{hand_top}
-use Rattle.code_writing.specs.Writing.{Emits}
+use Rattle.rewrite_bodies.specs.Rewrite.{hand_top}
+use Rattle.rewrite_code.specs.Writing.{Emits}
 use Rattle.operand_spill.specs.Places.{from_top}
 use Rattle.operand_spill.proofs.context.FunctionContext.hand_top.Given as goal
 

@@ -1,4 +1,4 @@
-use Rattle.unwind_rewrite.specs.Rewrite.{unwind}
+use Rattle.rewrite_bodies.specs.Rewrite.{unwind}
 use Rattle.operand_spill.proofs.Loads.{when_ok, kind_kept}
 use Rattle.operand_spill.proofs.context.FunctionContext.unwind_caller.Goals as goal
 

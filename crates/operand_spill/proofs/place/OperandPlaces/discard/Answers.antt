@@ -1,5 +1,5 @@
 use Rattle.std.proofs.Common.{rules, ap, ◌∙◌, length, take, ◌-◌, ◌≡◌}
-use Rattle.unwind_rewrite.specs.Slots.{less}
+use Rattle.rewrite_bodies.specs.Slots.{less}
 use Rattle.operand_spill.specs.Places.{from_top}
 use Rattle.operand_spill.proofs.Loads.{discarded}
 use Rattle.operand_spill.proofs.place.OperandPlaces.discard.Goals as goal

@@ -1,5 +1,0 @@
-use Rattle.basic_steps.proofs.Keeping.{operands_keep}
-use Rattle.basic_steps.proofs.laws.effects_keep.Goals as goal
-
-pub returns : goal.returns
-returns c = λ i w locals operands. operands_keep w locals i operands

@@ -1,6 +1,0 @@
-use Rattle.std.proofs.Common.{sym, ◌∙◌, take, reverse}
-use Rattle.type_stack.proofs.StackLaws.{pops_any}
-use Rattle.body_check.proofs.ops.pop_all.Goals as goal
-
-pub returns-then-gives_any : goal.returns-then-gives_any
-returns-then-gives_any c = c.loop-n.invariant.same ∙ pops_any c.loop-n.stack (reverse (take c.loop-n.n c.args.types.now)) (sym c.gives_any.ensures ∙ c.if-gives_any.true)

@@ -1,6 +1,0 @@
-use Rattle.std.proofs.Common.{sym}
-use Rattle.type_stack.proofs.StackLaws.{aligned_not}
-use Rattle.body_check.proofs.shape.is_aligned.Goals as goal
-
-pub returns-then-align-ge4 : goal.returns-then-align-ge4
-returns-then-align-ge4 c = sym (aligned_not c.args.align c.args.bits c.if-align-ge4.true c.requires)

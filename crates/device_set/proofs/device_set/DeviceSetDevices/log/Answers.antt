@@ -1,8 +1,0 @@
-use Rattle.std.proofs.Common.{ap, ◌∙◌}
-use Rattle.std.proofs.lemmas.List.{length-map}
-use Rattle.device_set.specs.Sets.{DeviceState}
-use Rattle.device_set.proofs.Sets.{shown_at}
-use Rattle.device_set.proofs.device_set.DeviceSetDevices.log.Goals as goal
-
-pub returns : goal.returns
-returns g c = c.log.ensures ∙ ap (λ (d : DeviceState). d.log) (shown_at _ _ _ _ c.index.ensures (rw length-map at c.requires))

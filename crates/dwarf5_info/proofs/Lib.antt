@@ -1,0 +1,2 @@
+pub mod UnitLaws5
+pub mod UnitRows5

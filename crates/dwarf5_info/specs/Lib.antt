@@ -1,0 +1,4 @@
+pub mod Forms5
+pub mod Indices
+pub mod Version5
+pub mod Grammar5

@@ -1,0 +1,3 @@
+pub mod Entries
+pub mod Layout5
+pub mod inner

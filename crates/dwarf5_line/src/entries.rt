@@ -1,0 +1,285 @@
+//! The directories and files of a line header of version 5 (DWARF 5 sections 6.2.4 and 6.2.4.1).
+
+ghost use Rattle.std.specs.Prelude.{◌≡◌, map, IfOk, OnOk};
+ghost use Rattle.wasm_bytes.specs.Place.{Stays};
+ghost use Rattle.wasm_bytes.specs.Reading.{forgotten, run_item, items_from};
+ghost use Rattle.wasm_bytes.specs.Answers.{Reads, Gives};
+ghost use Rattle.dwarf_bytes.specs.Format.{read};
+ghost use Rattle.dwarf5_line.specs.Entries.{text_in, content, pair, describes, path_of, directory_of, entry_item, counted_item, pairs_item, entries_item, name_of, tables_item};
+ghost use Rattle.dwarf5_line.specs.inner.Summary.{summary_item, with_first};
+
+use causes::NoMemory;
+use dwarf_bytes::{byte, number, text, text_at};
+use dwarf_line::{Directories, LineFile, LineFiles, Tables};
+use pm_text::Items;
+use std::alloc::Global;
+use wasm_bytes::{ItemFault, Malformed, Reader, Run};
+
+/// The sections that texts of a line header stand in.
+#[derive(Drop)]
+pub struct Texts<'a> {
+    /// `.debug_str`
+    pub str: Run<'a>,
+    /// `.debug_line_str`
+    pub line_str: Run<'a>,
+}
+
+/// A content type and its form.
+#[derive(Clone, Copy, Debug, PartialEq, Eq)]
+pub struct Pair {
+    pub kind: u64,
+    pub form: u64,
+}
+
+/// What a form gives.
+#[derive(Drop)]
+pub enum Content<'a> {
+    Number(u64),
+    Text(Run<'a>),
+    /// A block or a checksum.
+    Unused,
+}
+
+/// What an entry says that is used.
+#[derive(Drop)]
+pub struct Summary<'a> {
+    pub path: Option<Content<'a>>,
+    pub directory: Option<Content<'a>>,
+}
+
+/// The text at the offset that stands here.
+#[tactic(auto, unfolding(dwarf_bytes::specs::Format::read))]
+fn text_in<'a>(section: &Run<'a>, reader: &mut Reader<'a>) -> Result<Content<'a>, Malformed>
+    ensures item { Reads result reader.new (read (text_in section.now) reader.old) }
+    ensures stays { OnOk result (Stays reader.old reader.new) }
+{
+    let at = number(reader, 4)?;
+    match text_at(section.as_slice(), at) {
+        Some(text) => Ok(Content::Text(text)),
+        None => Err(Malformed { at: reader.at() }),
+    }
+}
+
+/// What stands here, in a form (DWARF 5 section 7.5.6).
+#[tactic(auto, unfolding(dwarf_bytes::specs::Format::read))]
+fn read_content<'a>(
+    texts: &Texts<'a>,
+    form: u64,
+    reader: &mut Reader<'a>,
+) -> Result<Content<'a>, Malformed>
+    ensures item { Reads result reader.new (read (content texts.now form) reader.old) }
+    ensures stays { OnOk result (Stays reader.old reader.new) }
+{
+    match form {
+        0x05 => Ok(Content::Number(number(reader, 2)?)),
+        0x06 => Ok(Content::Number(number(reader, 4)?)),
+        0x07 => Ok(Content::Number(number(reader, 8)?)),
+        0x08 => Ok(Content::Text(Run::new(text(reader)?))),
+        0x09 => {
+            let len = reader.u64()?;
+            skip(len, reader)?;
+            Ok(Content::Unused)
+        }
+        0x0b => Ok(Content::Number(number(reader, 1)?)),
+        0x0e => text_in(&texts.str, reader),
+        0x0f => Ok(Content::Number(reader.u64()?)),
+        0x1e => {
+            reader.run(16)?;
+            Ok(Content::Unused)
+        }
+        0x1f => text_in(&texts.line_str, reader),
+        _ => Err(Malformed { at: reader.at() }),
+    }
+}
+
+/// Passes over so many bytes.
+#[tactic(auto, unfolding(wasm_bytes::specs::Reading::run_item))]
+fn skip(len: u64, reader: &mut Reader<'_>) -> Result<(), Malformed>
+    ensures item { Reads result reader.new (forgotten (run_item len) reader.old) }
+    ensures stays { OnOk result (Stays reader.old reader.new) }
+{
+    if len > reader.left() as u64 {
+        return Err(Malformed { at: reader.at() });
+    }
+    reader.run(len as usize)?;
+    Ok(())
+}
+
+impl<'a> Summary<'a> {
+    /// The same with a content in front.
+    fn add(&mut self, kind: u64, content: Content<'a>)
+        ensures { self.new ≡ with_first (describes kind content.entry) self.old }
+    {
+        match kind {
+            1 => self.path = Some(content),
+            2 => self.directory = Some(content),
+            _ => {}
+        }
+    }
+}
+
+/// One value for each pair, in order. Of a content type twice, the first counts.
+fn read_summary<'a>(
+    texts: &Texts<'a>,
+    pairs: &[Pair],
+    reader: &mut Reader<'a>,
+) -> Result<Summary<'a>, Malformed>
+    ensures item { Reads result reader.new (summary_item texts.now pairs.now reader.old) }
+    ensures stays { OnOk result (Stays reader.old reader.new) }
+{
+    let [pair, others @ ..] = pairs else {
+        return Ok(Summary {
+            path: None,
+            directory: None,
+        });
+    };
+    let first = read_content(texts, pair.form, reader)?;
+    let mut summary = read_summary(texts, others, reader)?;
+    summary.add(pair.kind, first);
+    Ok(summary)
+}
+
+fn path_of<'a>(content: Option<Content<'a>>) -> Run<'a>
+    ensures { result ≡ path_of content.entry }
+{
+    match content {
+        Some(Content::Text(text)) => text,
+        _ => Run::new(&[]),
+    }
+}
+
+fn directory_of(content: Option<Content<'_>>) -> u64
+    ensures { result ≡ directory_of content.entry }
+{
+    match content {
+        Some(Content::Number(number)) => number,
+        _ => 0,
+    }
+}
+
+/// A directory or a file (DWARF 5 section 6.2.4.1).
+#[tactic(auto, unfolding(crate::specs::Entries::entry_item))]
+fn entry<'a>(
+    texts: &Texts<'a>,
+    pairs: &[Pair],
+    reader: &mut Reader<'a>,
+) -> Result<LineFile<'a>, Malformed>
+    ensures item { Reads result reader.new (entry_item texts.now pairs.now reader.old) }
+    ensures stays { OnOk result (Stays reader.old reader.new) }
+{
+    let summary = read_summary(texts, pairs, reader)?;
+    Ok(LineFile {
+        name: path_of(summary.path),
+        directory: directory_of(summary.directory),
+    })
+}
+
+/// So many directories or files.
+fn entries_of<'a>(
+    alloc: Global,
+    texts: &Texts<'a>,
+    pairs: &[Pair],
+    count: u64,
+    reader: &mut Reader<'a>,
+) -> Result<LineFiles<'a>, ItemFault>
+    ensures item { Gives result reader.new (items_from (entry_item texts.now pairs.now) count reader.old) }
+    ensures stays { OnOk result (Stays reader.old reader.new) }
+{
+    let mut files = Items::new(alloc);
+    for _ in 0..count {
+        files.push(entry(texts, pairs, reader)?)?;
+    }
+    Ok(files)
+}
+
+#[tactic(auto, unfolding(dwarf_bytes::specs::Format::read))]
+fn read_pair(reader: &mut Reader<'_>) -> Result<Pair, Malformed>
+    ensures item { Reads result reader.new (read pair reader.old) }
+    ensures stays { OnOk result (Stays reader.old reader.new) }
+{
+    let kind = reader.u64()?;
+    let form = reader.u64()?;
+    Ok(Pair { kind, form })
+}
+
+fn pairs_of(alloc: Global, count: u8, reader: &mut Reader<'_>) -> Result<Items<Pair>, ItemFault>
+    ensures item { Gives result reader.new (items_from (read pair) count reader.old) }
+    ensures stays { OnOk result (Stays reader.old reader.new) }
+{
+    let mut pairs = Items::new(alloc);
+    for _ in 0..count {
+        pairs.push(read_pair(reader)?)?;
+    }
+    Ok(pairs)
+}
+
+/// A count of pairs in one byte, and the pairs.
+#[tactic(auto, unfolding(crate::specs::Entries::pairs_item))]
+fn pairs(alloc: Global, reader: &mut Reader<'_>) -> Result<Items<Pair>, ItemFault>
+    ensures item { Gives result reader.new (pairs_item reader.old) }
+    ensures stays { OnOk result (Stays reader.old reader.new) }
+{
+    let count = byte(reader)?;
+    pairs_of(alloc, count, reader)
+}
+
+/// A count, and as many directories or files.
+#[tactic(auto, unfolding(crate::specs::Entries::counted_item))]
+fn counted<'a>(
+    alloc: Global,
+    texts: &Texts<'a>,
+    pairs: &[Pair],
+    reader: &mut Reader<'a>,
+) -> Result<LineFiles<'a>, ItemFault>
+    ensures item { Gives result reader.new (counted_item texts.now pairs.now reader.old) }
+    ensures stays { OnOk result (Stays reader.old reader.new) }
+{
+    let at = reader.at();
+    let count = reader.u64()?;
+    if pairs.is_empty() && count != 0 {
+        return Err(ItemFault::At(at));
+    }
+    entries_of(alloc, texts, pairs, count, reader)
+}
+
+/// The directories or the files.
+#[tactic(auto, unfolding(crate::specs::Entries::entries_item))]
+fn entries<'a>(
+    alloc: Global,
+    texts: &Texts<'a>,
+    reader: &mut Reader<'a>,
+) -> Result<LineFiles<'a>, ItemFault>
+    ensures item { Gives result reader.new (entries_item texts.now reader.old) }
+    ensures stays { OnOk result (Stays reader.old reader.new) }
+{
+    let pairs = pairs(alloc, reader)?;
+    counted(alloc, texts, pairs.as_slice(), reader)
+}
+
+fn names<'a>(alloc: Global, files: &[LineFile<'a>]) -> Result<Directories<'a>, NoMemory>
+    ensures { IfOk result (λ names. names ≡ map name_of files.now) }
+{
+    let mut names = Items::new(alloc);
+    for file in files {
+        names.push(Run::new(file.name.as_slice()))?;
+    }
+    Ok(names)
+}
+
+/// Directories, and then files.
+#[tactic(auto, unfolding(crate::specs::Entries::tables_item))]
+pub fn read_tables<'a>(
+    alloc: Global,
+    texts: &Texts<'a>,
+    reader: &mut Reader<'a>,
+) -> Result<Tables<'a>, ItemFault>
+    ensures item { Gives result reader.new (tables_item texts.now reader.old) }
+    ensures stays { OnOk result (Stays reader.old reader.new) }
+{
+    let directories = entries(alloc, texts, reader)?;
+    let files = entries(alloc, texts, reader)?;
+    Ok(Tables {
+        directories: names(alloc, directories.as_slice())?,
+        files,
+    })
+}

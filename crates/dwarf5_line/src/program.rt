@@ -1,0 +1,79 @@
+//! Reading line programs of versions 2 to 5 (DWARF 5 section 6.2.4).
+
+ghost use Rattle.std.specs.Prelude.{◌≡◌, OnOk};
+ghost use Rattle.wasm_bytes.specs.Place.{Stays};
+ghost use Rattle.wasm_bytes.specs.Answers.{Gives};
+ghost use Rattle.dwarf_bytes.specs.Answers.{ReadsThere};
+ghost use Rattle.dwarf_line.specs.Header.{header_item};
+ghost use Rattle.dwarf_line.specs.Program.{lines_at};
+ghost use Rattle.dwarf_line.specs.Standing.{IsWhatStands};
+ghost use Rattle.dwarf5_line.specs.Layout5.{new_layout, layout5, lines5};
+
+use crate::entries::{Texts, read_tables};
+use dwarf_bytes::{ReadFault, byte, open_counted};
+use dwarf_line::{Header, Lines, Versions, old_header, read_parameters, read_program};
+use std::alloc::Global;
+use wasm_bytes::{ItemFault, Reader};
+
+/// The header of a program of version 5, behind its version.
+#[tactic(auto, unfolding(dwarf_bytes::specs::Format::read, dwarf_line::specs::Header::header_item))]
+fn new_header<'a>(
+    alloc: Global,
+    texts: &Texts<'a>,
+    reader: &mut Reader<'a>,
+) -> Result<Header<'a>, ItemFault>
+    ensures item { Gives result reader.new (header_item (new_layout texts.now) reader.old) }
+    ensures stays { OnOk result (Stays reader.old reader.new) }
+{
+    let address_size = byte(reader)?;
+    if address_size != 4 {
+        return Err(ItemFault::At(reader.at()));
+    }
+    let segment_selector_size = byte(reader)?;
+    if segment_selector_size != 0 {
+        return Err(ItemFault::At(reader.at()));
+    }
+    let mut inner = open_counted(reader)?;
+    let parameters = read_parameters(true, &mut inner)?;
+    let tables = read_tables(alloc, texts, &mut inner)?;
+    Ok(Header {
+        first: 0,
+        parameters,
+        tables,
+    })
+}
+
+impl<'a> Versions<'a> for Texts<'a> {
+    ghost layouts = { layout5 };
+
+    #[tactic(auto, unfolding(crate::specs::Layout5::layout5))]
+    fn header(
+        &self,
+        alloc: Global,
+        version: u16,
+        reader: &mut Reader<'a>,
+    ) -> Result<Header<'a>, ItemFault> {
+        if version == 5 {
+            new_header(alloc, self, reader)
+        } else {
+            old_header(alloc, version, reader)
+        }
+    }
+}
+
+/// What the line program of version 2, 3, 4 or 5 at an offset of `.debug_line` says.
+///
+/// # Errors
+///
+/// `Unreadable` where no program that has a reading stands there, with the offset that is given.
+pub fn read_lines5<'a>(
+    alloc: Global,
+    texts: &Texts<'a>,
+    section: &'a [u8],
+    at: usize,
+) -> Result<Lines<'a>, ReadFault>
+    ensures there { ReadsThere at result (lines_at (layout5 texts.now) section.now at) }
+    ensures spelled { IsWhatStands (lines5 texts.now) section.now at result }
+{
+    read_program(alloc, texts, section, at)
+}

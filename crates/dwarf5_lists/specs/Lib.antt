@@ -1,0 +1,4 @@
+pub mod Kinds
+pub mod Addresses
+pub mod Lists
+pub mod Grammar

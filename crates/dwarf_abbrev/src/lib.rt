@@ -1,0 +1,12 @@
+//! Tables of abbreviations (DWARF 4 section 7.5.3).
+#![tactic(auto)]
+
+mod abbrev;
+mod read;
+mod table;
+#[cfg(test)]
+mod tests;
+
+pub use abbrev::{Abbrev, Abbrevs, Pair, Pairs};
+pub use read::{Row, abbrevs, read_abbrevs, read_row};
+pub use table::{Coded, Table};

@@ -1,0 +1,10 @@
+pub mod Blocks
+pub mod Exact
+pub mod Lists
+pub mod Formats
+pub mod Loops
+pub mod Numbers
+pub mod Texts
+pub mod Fronts
+pub mod OneByte
+pub mod Standing

@@ -1,0 +1,16 @@
+//! Reading the bytes of DWARF sections from left to right: numbers, texts, lengths and lists that an end mark ends.
+#![tactic(auto)]
+
+mod bytes;
+mod ended;
+mod faults;
+mod items;
+mod names;
+#[cfg(test)]
+mod tests;
+
+pub use bytes::{byte, open_counted};
+pub use causes::NoMemory;
+pub use ended::{Ended, ended_items};
+pub use faults::ReadFault;
+pub use items::{number, open_long, open_unit, text, text_at};

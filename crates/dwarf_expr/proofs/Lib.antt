@@ -1,0 +1,7 @@
+pub mod Entries
+pub mod Numbers
+pub mod Going
+pub mod Continued
+pub mod Turns
+pub mod OperatorLaws
+pub mod Worked

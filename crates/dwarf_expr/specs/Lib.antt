@@ -1,0 +1,7 @@
+pub mod View
+pub mod Operators
+pub mod Decode
+pub mod Meaning
+pub mod FrameBase
+pub mod Plain
+pub mod inner

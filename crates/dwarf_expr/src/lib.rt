@@ -1,0 +1,17 @@
+//! DWARF expressions: what they mean in a frame (DWARF 4 sections 2.5 and 2.6, DWARF for WebAssembly).
+#![tactic(auto)]
+
+mod answer;
+mod decode;
+mod effects;
+mod evaluate;
+pub mod laws;
+mod operators;
+mod progress;
+mod stack;
+mod view;
+
+pub use answer::{Base, Eval, Piece, PieceList, PiecePlace};
+pub use evaluate::{eval, frame_base};
+pub use operators::{Begun, Operator, Placed, Space};
+pub use view::FrameView;

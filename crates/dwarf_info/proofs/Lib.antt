@@ -1,0 +1,10 @@
+pub mod ValueLaws
+pub mod StepLaws
+pub mod TreeLaws
+pub mod RootedLaws
+pub mod UnitLaws
+pub mod AnswerLaws
+pub mod UnitLaws4
+pub mod SettleLaws
+pub mod ReadLaws
+pub mod FormLaws

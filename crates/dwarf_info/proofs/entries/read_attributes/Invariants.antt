@@ -1,0 +1,13 @@
+use Rattle.std.proofs.Common.{◌≡◌, drop}
+use Rattle.wasm_bytes.specs.Place.{Stays}
+use Rattle.wasm_bytes.specs.Reading.{◌>>=◌}
+use Rattle.wasm_bytes.proofs.Loops.{in_front}
+use Rattle.dwarf_info.specs.Values.{attributes_item}
+use Rattle.dwarf_info.specs.inner.Contexts.{seen}
+use Rattle.dwarf_info.proofs.entries.read_attributes.Given as goal
+
+abbrev pub invariant-slots : goal.invariant-slots
+invariant-slots g l = record {
+  so_far : attributes_item (seen g.V.UnitVersion.version g.V.UnitVersion.looked l.fn.context) l.slots l.initial.reader ≡ (attributes_item (seen g.V.UnitVersion.version g.V.UnitVersion.looked l.fn.context) (drop l.slot-index l.slots) l.reader >>= in_front l.attributes.items);
+  stays : Stays l.initial.reader l.reader;
+}

@@ -1,0 +1,12 @@
+pub mod Sections
+pub mod Forms
+pub mod Attributes
+pub mod Values
+pub mod Entries
+pub mod Units
+pub mod Version4
+pub mod Trees
+pub mod Grammar
+pub mod Grammar4
+pub mod inner
+pub mod EntryPlaces

@@ -1,0 +1,4 @@
+pub mod Sizes
+pub mod Contexts
+pub mod Keeping
+pub mod Settling

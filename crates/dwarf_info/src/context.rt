@@ -1,0 +1,16 @@
+//! What the entries of a unit are read by.
+
+use crate::form::Shape;
+use crate::sections::Sections5;
+use dwarf_abbrev::Table;
+
+/// What the entries of a unit are read by.
+#[derive(Drop)]
+pub struct UnitContext<'c, 'a, I> {
+    pub sections: &'c Sections5<'a>,
+    /// The offset of the unit, from which its references count.
+    pub origin: u32,
+    pub table: &'c Table<Shape>,
+    /// What indices are looked up by, or None while the root is looked at for that.
+    pub index: Option<I>,
+}

@@ -1,0 +1,160 @@
+//! Reading the entries of a unit (DWARF 4 sections 2.3 and 7.5.2), written out in the order of the section.
+
+ghost use Rattle.std.specs.Prelude.{◌≡◌, ◌≤◌, ◌<◌, ◌+◌, ◌-◌, ◌^◌, length, OnOk};
+ghost use Rattle.wasm_bytes.specs.Place.{Moves, Stays};
+ghost use Rattle.wasm_bytes.specs.Reading.{steps_while_due};
+ghost use Rattle.wasm_bytes.specs.Answers.{Gives, with_state};
+ghost use Rattle.dwarf_info.specs.Sections.{greatest_section};
+ghost use Rattle.dwarf_info.specs.Values.{attributes_item};
+ghost use Rattle.dwarf_info.specs.inner.Contexts.{seen};
+ghost use Rattle.dwarf_info.specs.Entries.{seed, closing_item, shape_item, step_item, is_whole, entries_item};
+
+use crate::context::UnitContext;
+use crate::entry::{Attributes, Entries, Entry};
+use crate::form::{Shape, Slot};
+use crate::growing::Growing;
+use crate::value::read_attribute;
+use crate::version::UnitVersion;
+use pm_text::Items;
+use std::alloc::Global;
+use wasm_bytes::{ItemFault, Reader};
+
+impl<'a> Growing<'a> {
+    /// No entry yet.
+    pub fn new(alloc: Global) -> Self
+        ensures { result ≡ seed }
+    {
+        Growing {
+            entries: Items::new(alloc),
+            depth: 0,
+        }
+    }
+
+    /// The tree is whole: its root is there, and no list of children is open.
+    fn is_whole(&self) -> bool
+        ensures { result ≡ is_whole self.now }
+    {
+        !self.entries.is_empty() && self.depth == 0
+    }
+}
+
+/// The attributes of an entry, as its abbreviation lists them.
+pub fn read_attributes<'c, 'a, V: UnitVersion<'a>>(
+    alloc: Global,
+    context: &UnitContext<'c, 'a, V::Index>,
+    slots: &[Slot],
+    reader: &mut Reader<'a>,
+) -> Result<Attributes<'a>, ItemFault>
+    ensures item { Gives result reader.new (attributes_item (seen V.version V.looked context.now) slots.now reader.old) }
+    ensures stays { OnOk result (Stays reader.old reader.new) }
+{
+    let mut attributes = Vec::new(alloc);
+    'slots: for slot in slots {
+        attributes.push(read_attribute::<V>(context, slot, reader)?)?;
+    }
+    Ok(Items::from_vec(attributes))
+}
+
+/// The end of the innermost list of children.
+fn close<'a>(growing: &mut Growing<'a>, reader: &Reader<'a>) -> Result<(), ItemFault>
+    ensures item { Gives (with_state growing.new result) reader.now
+        (closing_item growing.old.entries growing.old.depth reader.now) }
+    ensures depth { OnOk result (growing.new.depth ≤ growing.old.depth) }
+{
+    if growing.depth == 0 {
+        return Err(ItemFault::At(reader.at()));
+    }
+    growing.depth -= 1;
+    Ok(())
+}
+
+/// One more entry, which began at that offset.
+fn open<'c, 'a, V: UnitVersion<'a>>(
+    alloc: Global,
+    context: &UnitContext<'c, 'a, V::Index>,
+    shape: &Shape,
+    at: u32,
+    growing: &mut Growing<'a>,
+    reader: &mut Reader<'a>,
+) -> Result<(), ItemFault>
+    requires room { growing.old.depth < 2 ^ 32 - 1 }
+    ensures item { Gives (with_state growing.new result) reader.new
+        (shape_item (seen V.version V.looked context.now) growing.old at shape.now reader.old) }
+    ensures stays { OnOk result (Stays reader.old reader.new) }
+    ensures depth { OnOk result (growing.new.depth ≤ growing.old.depth + 1) }
+{
+    let attributes = read_attributes::<V>(alloc, context, shape.slots.as_slice(), reader)?;
+    growing.entries.push(Entry {
+        at,
+        depth: growing.depth,
+        tag: shape.tag,
+        attributes,
+    })?;
+    if shape.children {
+        growing.depth += 1;
+    }
+    Ok(())
+}
+
+/// The next entry, or the end of a list of children.
+#[tactic(auto, unfolding(crate::specs::Entries::step_item))]
+pub fn step<'c, 'a, V: UnitVersion<'a>>(
+    alloc: Global,
+    context: &UnitContext<'c, 'a, V::Index>,
+    growing: &mut Growing<'a>,
+    reader: &mut Reader<'a>,
+) -> Result<(), ItemFault>
+    requires short { length reader.old.block ≤ greatest_section }
+    requires depth { growing.old.depth ≤ reader.old.at }
+    ensures item { Gives (with_state growing.new result) reader.new
+        (step_item (seen V.version V.looked context.now) growing.old reader.old) }
+    ensures moves { OnOk result (Moves reader.old reader.new) }
+    ensures depth { OnOk result (growing.new.depth ≤ reader.new.at) }
+{
+    let at = reader.at();
+    let code = reader.u64()?;
+    if code == 0 {
+        return close(growing, reader);
+    }
+    match context.table.find(code) {
+        Some(shape) => open::<V>(alloc, context, shape, at as u32, growing, reader),
+        None => Err(ItemFault::At(reader.at())),
+    }
+}
+
+fn entries_left<'c, 'a, V: UnitVersion<'a>>(
+    alloc: Global,
+    context: &UnitContext<'c, 'a, V::Index>,
+    growing: &mut Growing<'a>,
+    reader: &mut Reader<'a>,
+) -> Result<(), ItemFault>
+    requires short { length reader.old.block ≤ greatest_section }
+    requires depth { growing.old.depth ≤ reader.old.at }
+    ensures item { Gives (with_state growing.new result) reader.new
+        (steps_while_due is_whole (step_item (seen V.version V.looked context.now))
+        (length reader.old.block + 1 - reader.old.at) growing.old reader.old) }
+    ensures stays { OnOk result (Stays reader.old reader.new) }
+{
+    'entries: while !growing.is_whole() {
+        // The place is inside its block, so that fewer bytes are left behind it.
+        let _at = reader.at();
+        step::<V>(alloc, context, growing, reader)?;
+    }
+    Ok(())
+}
+
+/// The entries of the tree that stands at a place.
+#[tactic(auto, unfolding(crate::specs::Entries::entries_item, wasm_bytes::specs::Reading::steps_until_done))]
+pub fn read_entries<'c, 'a, V: UnitVersion<'a>>(
+    alloc: Global,
+    context: &UnitContext<'c, 'a, V::Index>,
+    reader: &mut Reader<'a>,
+) -> Result<Entries<'a>, ItemFault>
+    requires short { length reader.old.block ≤ greatest_section }
+    ensures item { Gives result reader.new (entries_item (seen V.version V.looked context.now) reader.old) }
+    ensures stays { OnOk result (Stays reader.old reader.new) }
+{
+    let mut growing: Growing<'a> = Growing::new(alloc);
+    entries_left::<V>(alloc, context, &mut growing, reader)?;
+    Ok(growing.entries)
+}

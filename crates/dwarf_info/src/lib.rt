@@ -1,0 +1,34 @@
+//! Units of DWARF (DWARF 4 section 7.5).
+#![tactic(auto)]
+
+mod answers;
+mod context;
+mod entries;
+mod entry;
+mod form;
+mod growing;
+mod places;
+mod read;
+mod sections;
+mod settle;
+mod tables;
+mod unit;
+mod units;
+mod value;
+mod version;
+mod version4;
+
+pub use context::UnitContext;
+pub use entry::{AttrValue, Attribute, Attributes, Entries, Entry, Unit, UnitAnswer};
+pub use form::{
+    Form, IndexTable, Meaning, NumberForm, Shape, Shapes, SizedForm, Slot, Slots, TextSection,
+};
+pub use growing::Growing;
+pub use places::EntryPlace;
+pub use read::{read_all, read_units};
+pub use sections::{Sections, Sections5};
+pub use tables::Tables;
+pub use unit::read_body;
+pub use units::Units;
+pub use version::{UnitVersion, UnitVersions};
+pub use version4::{Four, form4};

@@ -1,0 +1,82 @@
+//! What a version says of its units.
+
+ghost use Rattle.std.specs.Prelude.{◌≡◌, ◌≤◌, ℕ, length, Option, option_map, IfOk, OnOk, IfSome};
+ghost use Rattle.wasm_bytes.specs.Place.{Stays};
+ghost use Rattle.wasm_bytes.specs.Answers.{Reads, Gives};
+ghost use Rattle.dwarf_info.specs.declared.form.IndexTable.{IndexTable};
+ghost use Rattle.dwarf_info.specs.declared.entry.AttrValue.{AttrValue};
+ghost use Rattle.dwarf_bytes.specs.Items.{item_or_none, read_at};
+ghost use Rattle.dwarf_info.specs.Sections.{SectionBytes5, greatest_section};
+ghost use Rattle.dwarf_info.specs.Forms.{form_of};
+ghost use Rattle.dwarf_info.specs.Units.{Version, Versions, body_item};
+ghost use Rattle.dwarf_info.specs.inner.Sizes.{IsSized};
+
+use crate::entry::{AttrValue, Attribute, Unit};
+use crate::form::{Form, IndexTable, Shape};
+use crate::sections::Sections5;
+use causes::NoMemory;
+use pm_text::Items;
+use std::alloc::Global;
+use wasm_bytes::{ItemFault, Malformed, Reader};
+
+/// How the units of a version are read.
+pub trait UnitVersion<'a>: Drop {
+    /// What indices are looked up by.
+    type Index: Drop;
+
+    ghost version: { Version };
+
+    /// What an index of a table stands for.
+    ghost looked: { Self.Index → IndexTable → ℕ → Option AttrValue };
+
+    /// The form of a code.
+    fn form(code: u64) -> Option<Form>
+        ensures row { result ≡ form_of version.rows code }
+        ensures sized { IfSome result IsSized };
+
+    /// What stands between the version and the entries, which gives the offset of the abbreviations.
+    fn header(reader: &mut Reader<'a>) -> Result<u64, Malformed>
+        ensures item { Reads result reader.new (version.header reader.old) }
+        ensures stays { OnOk result (Stays reader.old reader.new) };
+
+    /// The table at an offset of a section of abbreviations, with the forms of its codes, if one stands there.
+    fn shapes_at(
+        alloc: Global,
+        section: &'a [u8],
+        at: u64,
+    ) -> Result<Option<Items<Shape>>, NoMemory>
+        ensures { IfOk result (λ shapes. shapes ≡ read_at version.shapes section.now at) };
+
+    /// What indices are looked up by, in a unit whose root has these attributes.
+    fn index(sections: &Sections5<'a>, root: &[Attribute<'a>]) -> Self::Index
+        ensures { looked result ≡ version.index sections.now root.now };
+
+    /// What an index of a table stands for.
+    fn value(index: &Self::Index, table: IndexTable, number: u64) -> Option<AttrValue<'a>>
+        ensures { result ≡ looked index.now table number };
+}
+
+/// The versions that are read.
+pub trait UnitVersions<'a>: Drop {
+    ghost versions: { Versions };
+
+    /// What is kept of abbreviations is that of these sections.
+    ghost is_ready: { SectionBytes5 → Self → Type 0 };
+
+    /// What stands behind the version of a unit.
+    fn read_body(
+        &mut self,
+        alloc: Global,
+        sections: &Sections5<'a>,
+        origin: u32,
+        version: u32,
+        reader: &mut Reader<'a>,
+    ) -> Result<Unit<'a>, ItemFault>
+        requires ready { is_ready sections.now self.old }
+        requires short { length reader.old.block ≤ greatest_section }
+        ensures item { Gives result reader.new
+            (item_or_none (option_map (body_item sections.now origin version) (versions version))
+            reader.old) }
+        ensures stays { OnOk result (Stays reader.old reader.new) }
+        ensures ready { is_ready sections.now self.new };
+}

@@ -1,0 +1,207 @@
+//! Units of version 4 (DWARF 4 section 7.5.1.1).
+
+ghost use Rattle.std.specs.Prelude.{◌≡◌, map, IfOk, IfSome};
+ghost use Rattle.dwarf_bytes.specs.Items.{read_at};
+ghost use Rattle.dwarf_info.specs.Forms.{forms4, form_of};
+ghost use Rattle.dwarf_info.specs.Version4.{slot_of, shape_in, header4_item, shapes4_item, version4, only4};
+ghost use Rattle.dwarf_info.specs.Sections.{SectionBytes5};
+ghost use Rattle.dwarf_info.specs.inner.Contexts.{no_index};
+ghost use Rattle.dwarf_info.specs.inner.Keeping.{Keeps};
+ghost use Rattle.dwarf_info.specs.inner.Sizes.{IsSized};
+
+use crate::entry::{AttrValue, Attribute, Unit};
+use crate::form::{
+    Form, IndexTable, Meaning, NumberForm, Shape, SizedForm, Slot, Slots, TextSection,
+};
+use crate::sections::Sections5;
+use crate::tables::Tables;
+use crate::unit::read_body;
+use crate::version::{UnitVersion, UnitVersions};
+use causes::NoMemory;
+use dwarf_abbrev::{Abbrev, Pair, abbrevs};
+use dwarf_bytes::number;
+use pm_text::Items;
+use std::alloc::Global;
+use wasm_bytes::{ItemFault, Malformed, Reader};
+
+/// The form of a code (DWARF 4 section 7.5.4).
+pub fn form4(code: u64) -> Option<Form>
+    ensures row { result ≡ form_of forms4 code }
+    ensures sized { IfSome result IsSized }
+{
+    match code {
+        0x01 => Some(Form::Number(NumberForm::Bytes(4), Meaning::Address)),
+        0x03 => Some(Form::Block(NumberForm::Bytes(2))),
+        0x04 => Some(Form::Block(NumberForm::Bytes(4))),
+        0x05 => Some(Form::Number(NumberForm::Bytes(2), Meaning::Constant)),
+        0x06 => Some(Form::Number(NumberForm::Bytes(4), Meaning::Constant)),
+        0x07 => Some(Form::Number(NumberForm::Bytes(8), Meaning::Constant)),
+        0x08 => Some(Form::Text),
+        0x09 => Some(Form::Block(NumberForm::Leb)),
+        0x0A => Some(Form::Block(NumberForm::Bytes(1))),
+        0x0B => Some(Form::Number(NumberForm::Bytes(1), Meaning::Constant)),
+        0x0C => Some(Form::Number(NumberForm::Bytes(1), Meaning::Flag)),
+        0x0D => Some(Form::Signed),
+        0x0E => Some(Form::Number(NumberForm::Bytes(4), Meaning::TextIn(TextSection::Str))),
+        0x0F => Some(Form::Number(NumberForm::Leb, Meaning::Constant)),
+        0x10 => Some(Form::Number(NumberForm::Bytes(4), Meaning::InSection)),
+        0x11 => Some(Form::Number(NumberForm::Bytes(1), Meaning::InUnit)),
+        0x12 => Some(Form::Number(NumberForm::Bytes(2), Meaning::InUnit)),
+        0x13 => Some(Form::Number(NumberForm::Bytes(4), Meaning::InUnit)),
+        0x14 => Some(Form::Number(NumberForm::Bytes(8), Meaning::InUnit)),
+        0x15 => Some(Form::Number(NumberForm::Leb, Meaning::InUnit)),
+        0x16 => Some(Form::Indirect),
+        0x17 => Some(Form::Number(NumberForm::Bytes(4), Meaning::Offset)),
+        0x18 => Some(Form::Block(NumberForm::Leb)),
+        0x19 => Some(Form::Present),
+        0x20 => Some(Form::Skipped(8)),
+        _ => None,
+    }
+}
+
+fn slot(pair: &Pair) -> Slot
+    ensures { result ≡ slot_of forms4 pair.now }
+{
+    Slot {
+        attribute: pair.attribute,
+        form: match form4(pair.form) {
+            Some(form) => Some(SizedForm::new(form)),
+            None => None,
+        },
+    }
+}
+
+fn slots(alloc: Global, pairs: &[Pair]) -> Result<Slots, NoMemory>
+    ensures { IfOk result (λ slots. slots ≡ map (slot_of forms4) pairs.now) }
+{
+    let mut slots = Vec::new(alloc);
+    for pair in pairs {
+        slots.push(slot(pair))?;
+    }
+    Ok(Items::from_vec(slots))
+}
+
+fn shape(alloc: Global, row: &Abbrev) -> Result<Shape, NoMemory>
+    ensures { IfOk result (λ shape. shape ≡ shape_in forms4 row.now) }
+{
+    let slots = slots(alloc, row.pairs.as_slice())?;
+    Ok(Shape {
+        code: row.code,
+        tag: row.tag,
+        children: row.children,
+        slots,
+    })
+}
+
+fn shapes(alloc: Global, rows: &[Abbrev]) -> Result<Items<Shape>, NoMemory>
+    ensures { IfOk result (λ shapes. shapes ≡ map (shape_in forms4) rows.now) }
+{
+    let mut shapes = Vec::new(alloc);
+    for row in rows {
+        shapes.push(shape(alloc, row)?)?;
+    }
+    Ok(Items::from_vec(shapes))
+}
+
+/// The table at an offset of a section of abbreviations, with the forms of its codes, if one stands there.
+#[tactic(auto, unfolding(crate::specs::Version4::shapes4_item))]
+fn shapes4_at(alloc: Global, section: &[u8], at: u64) -> Result<Option<Items<Shape>>, NoMemory>
+    ensures { IfOk result (λ shapes. shapes ≡ read_at shapes4_item section.now at) }
+{
+    if at > section.len() as u64 {
+        return Ok(None);
+    }
+    match abbrevs(alloc, &mut Reader::starting_at(section, at as usize)) {
+        Ok(rows) => Ok(Some(shapes(alloc, rows.as_slice())?)),
+        Err(ItemFault::At(_)) => Ok(None),
+        Err(ItemFault::NoMemory) => Err(NoMemory),
+    }
+}
+
+/// Version 4, in which no form is an index.
+#[derive(Drop)]
+pub struct Four {}
+
+impl<'a> UnitVersion<'a> for Four {
+    type Index = ();
+
+    ghost version = { version4 };
+
+    ghost looked = { λ _. no_index };
+
+    fn form(code: u64) -> Option<Form> {
+        form4(code)
+    }
+
+    /// The offset of the abbreviations, and the size of an address, which is 4.
+    #[tactic(auto, unfolding(crate::specs::Version4::header4_item))]
+    fn header(reader: &mut Reader<'a>) -> Result<u64, Malformed> {
+        let offset = number(reader, 4)?;
+        let at = reader.at();
+        if number(reader, 1)? != 4 {
+            return Err(Malformed { at });
+        }
+        Ok(offset)
+    }
+
+    fn shapes_at(
+        alloc: Global,
+        section: &'a [u8],
+        at: u64,
+    ) -> Result<Option<Items<Shape>>, NoMemory> {
+        shapes4_at(alloc, section, at)
+    }
+
+    fn index(sections: &Sections5<'a>, root: &[Attribute<'a>])
+        ensures { no_index ≡ version4.index sections.now root.now }
+    {
+        let _unused = (sections.addr.len(), root.len());
+    }
+
+    fn value(_index: &(), table: IndexTable, number: u64) -> Option<AttrValue<'a>>
+        ensures { result ≡ no_index table number }
+    {
+        let _unused = (table, number);
+        None
+    }
+}
+
+/// Version 4 alone.
+#[derive(Drop)]
+pub struct OnlyFour {
+    tables: Tables,
+}
+
+impl OnlyFour {
+    /// No table of abbreviations is read yet.
+    pub fn new() -> Self
+        ensures { (s : SectionBytes5) → Keeps version4 s result.tables }
+    {
+        OnlyFour {
+            tables: Tables {
+                at: None,
+                table: None,
+            },
+        }
+    }
+}
+
+impl<'a> UnitVersions<'a> for OnlyFour {
+    ghost versions = { only4 };
+
+    ghost is_ready = { λ s v. Keeps version4 s v.tables };
+
+    fn read_body(
+        &mut self,
+        alloc: Global,
+        sections: &Sections5<'a>,
+        origin: u32,
+        version: u32,
+        reader: &mut Reader<'a>,
+    ) -> Result<Unit<'a>, ItemFault> {
+        if version != 4 {
+            return Err(ItemFault::At(reader.at()));
+        }
+        read_body::<Four>(alloc, sections, &mut self.tables, origin, version, reader)
+    }
+}

@@ -1,0 +1,6 @@
+pub mod PlaceLaws
+pub mod Folds
+pub mod Laws
+pub mod Numbers
+pub mod Skips
+pub mod Standing

@@ -1,0 +1,9 @@
+pub mod Parameters
+pub mod Opcodes
+pub mod Rows
+pub mod Header
+pub mod Program
+pub mod Grammar
+pub mod Place
+pub mod Standing
+pub mod inner

@@ -1,0 +1,20 @@
+//! Line programs of DWARF: which rows they make, and the row of an address.
+#![tactic(auto)]
+
+mod header;
+mod lines;
+mod matrix;
+mod opcodes;
+mod parameters;
+mod place;
+mod program;
+
+pub use causes::NoMemory;
+pub use dwarf_bytes::ReadFault;
+pub use header::{Header, Tables, Versions, old_header};
+pub use lines::{Directories, LineFile, LineFiles, Lines, Row, Rows, Sequence, Sequences};
+pub use parameters::{Parameters, read_parameters};
+pub use program::{read_lines, read_program};
+
+#[cfg(test)]
+mod tests;

@@ -1,0 +1,74 @@
+-- What stands at an offset of a section is what is read there.
+use Rattle.std.proofs.Common.{◌≡◌, ℕ, suc, ◌+◌, ◌-◌, ◌<◌, ◌≤◌, ◌↔◌, ◌⊎◌, List, [], ◌∷◌, ◌++◌, length, take, drop, Option, Some, None, Result, Ok, Err, refl, sym, ap, subst, ◌∙◌, inl, inr, arith}
+use Rattle.std.specs.Prelude.{option_map}
+use Rattle.std.proofs.lemmas.Bool.{cases_lt}
+use Rattle.std.proofs.lemmas.List.{take-append-drop, length-take-le}
+use Rattle.std.proofs.Math.Seq.{drop-append_seam}
+use Rattle.wasm_bytes.specs.Place.{Place, Read}
+use Rattle.wasm_bytes.specs.Laws.{IsBytes, place, got, Took, IsExact}
+use Rattle.wasm_bytes.proofs.Places.{IsBytes-rest, place_is}
+use Rattle.dwarf_bytes.specs.Items.{ended_from, ended_item, reading_of, read_at}
+use Rattle.dwarf_bytes.specs.Spelled.{StandsAt}
+use Rattle.dwarf_bytes.specs.Answers.{found_at}
+use Rattle.dwarf_bytes.specs.declared.faults.ReadFault.{ReadFault}
+use Rattle.dwarf_bytes.specs.declared.faults.ReadFault.TheVariants.{Unreadable}
+
+reading_ok : {A : Type 0} (r : Read A) (x : A) → reading_of r ≡ Some x → (q : Place) × (r ≡ got x q)
+reading_ok {A} (Ok y) x e = (y.1, let same : y.0 ≡ x = (let some : Some y.0 ≡ Some x = e in cc) in ap (λ (z : A). got z y.1) same)
+reading_ok (Err at) x e = absurd cc
+
+-- a section is what stands before an offset and behind it
+before_at : (section : List ℕ) (at : ℕ) → at ≤ length section → place (take at section) (drop at section) ≡ (let p : Place = record { block = section; at = at } in p)
+before_at section at inside = place_is (take at section ++ drop at section) section (length (take at section)) at (take-append-drop at section) (length-take-le at section inside)
+
+pub stands_read : {A : Type 0} (S : A → ℕ → List ℕ → Type 0) (f : Place → Read A) → IsExact S f
+    → (section : List ℕ) (at : ℕ) (x : A) → StandsAt S x section at → read_at f section at ≡ Some x
+stands_read S f e section at x s =
+    let spelled : S x (length (take at section)) s.0 = subst (λ (n : ℕ). S x n s.0) (sym (length-take-le at section s.2)) s.4 in
+    let here = ap (λ (t : List ℕ). place (take at section) t) (sym s.3) ∙ before_at section at s.2 in
+    ap (λ (p : Place). reading_of (f p)) (sym here) ∙ ap reading_of (e.again (take at section) s.0 s.1 x spelled)
+
+pub read_stands : {A : Type 0} (S : A → ℕ → List ℕ → Type 0) (f : Place → Read A) → IsExact S f
+    → (section : List ℕ) (at : ℕ) (x : A) → IsBytes section → at ≤ length section → read_at f section at ≡ Some x → StandsAt S x section at
+read_stands S f e section at x fits inside read =
+    let here = before_at section at inside in
+    let r = reading_ok (f (place (take at section) (drop at section))) x (ap (λ (p : Place). reading_of (f p)) here ∙ read) in
+    let behind : IsBytes (drop at section) = IsBytes-rest (take at section) (drop at section) (subst IsBytes (sym (take-append-drop at section)) fits) in
+    let t = e.sound (take at section) (drop at section) x r.0 behind r.1 in
+    (t.front, t.rest, inside, t.parts, subst (λ (n : ℕ). S x n t.front) (length-take-le at section inside) t.is)
+
+-- no list stands past the end
+pub past_end : {A : Type 0} (f : Place → Read (Option A)) (section : List ℕ) (at : ℕ) → length section < at → read_at (ended_item f) section at ≡ None
+unfolding ended_item ended_from
+past_end f section at past = let none : length section + 1 - at ≡ 0 = omega arith in rw none refl
+
+-- ---- what a call answers that reads a list
+
+pub answer_spelled : {A B : Type 0} (S : A → ℕ → List ℕ → Type 0) (f : Place → Read A) → IsExact S f → (answer : A → B)
+    → (section : List ℕ) (at : ℕ) (x : A) → StandsAt S x section at → found_at at (option_map answer (read_at f section at)) ≡ Ok (answer x)
+answer_spelled S f e answer section at x s = let read = stands_read S f e section at x s in rw read refl
+
+unread : {A B : Type 0} (at : ℕ) (answer : A → B) (o : Option A) → found_at at (option_map answer o) ≡ Err (Unreadable at) → o ≡ None
+unread at answer None e = refl
+unread at answer (Some x) e = absurd cc
+
+none_read : {A : Type 0} (o : Option A) → ((x : A) → o ≡ Some x → ⊥) → o ≡ None
+none_read None h = refl
+none_read (Some x) h = absurd (h x refl)
+
+none_stands : {A : Type 0} (S : List A → ℕ → List ℕ → Type 0) (f : Place → Read (Option A)) → IsExact S (ended_item f)
+    → (section : List ℕ) (at : ℕ) → IsBytes section → ((xs : List A) → StandsAt S xs section at → ⊥) → read_at (ended_item f) section at ≡ None
+none_stands S f e section at fits h = elim (cases_lt (length section) at) [
+  | inl past ↦ past_end f section at past
+  | inr inside ↦ none_read (read_at (ended_item f) section at) (λ xs read. h xs (read_stands S (ended_item f) e section at xs fits inside read))
+]
+
+pub answer_unreadable : {A B : Type 0} (S : List A → ℕ → List ℕ → Type 0) (f : Place → Read (Option A)) → IsExact S (ended_item f) → (answer : List A → B)
+    → (section : List ℕ) (at : ℕ) → IsBytes section
+    → (found_at at (option_map answer (read_at (ended_item f) section at)) ≡ Err (Unreadable at)) ↔ ((xs : List A) → StandsAt S xs section at → ⊥)
+answer_unreadable {A} S f e answer section at fits = (
+  λ failed xs s.
+      let none : None ≡ Some xs = sym (unread at answer (read_at (ended_item f) section at) failed) ∙ stands_read S (ended_item f) e section at xs s in
+      absurd cc,
+  λ h. let none = none_stands S f e section at fits h in rw none refl,
+)

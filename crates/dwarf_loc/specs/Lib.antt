@@ -1,0 +1,5 @@
+pub mod Lists
+pub mod Contents
+pub mod Version4
+pub mod Grammar
+pub mod inner

@@ -1,0 +1,7 @@
+//! Tests of the readers of DWARF. They stand apart from the crates that they test, so that those are proved once.
+#![tactic(auto)]
+
+#[cfg(test)]
+mod expression_tests;
+#[cfg(test)]
+mod unit_tests;

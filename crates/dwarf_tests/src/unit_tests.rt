@@ -1,0 +1,222 @@
+//! The units of a module as a C compiler writes them, the same cut short, and each form once. The expected values are from
+//! the standard's tables and another reader.
+
+use dwarf_info::{AttrValue, Entry, Sections, UnitAnswer, Units, read_units};
+use std::alloc::Global;
+use std::process::Abort;
+use std::test::Fail;
+
+const ABBREV: [u8; 103] = [
+    0x01, 0x11, 0x01, 0x03, 0x08, 0x10, 0x17, 0x11, 0x01, 0x12, 0x06, 0x00, 0x00, 0x02, 0x2E, 0x01,
+    0x03, 0x08, 0x11, 0x01, 0x12, 0x06, 0x40, 0x18, 0x49, 0x13, 0x00, 0x00, 0x03, 0x05, 0x00, 0x03,
+    0x08, 0x02, 0x18, 0x49, 0x13, 0x00, 0x00, 0x04, 0x34, 0x00, 0x03, 0x08, 0x02, 0x18, 0x49, 0x13,
+    0x00, 0x00, 0x05, 0x24, 0x00, 0x03, 0x08, 0x3E, 0x0B, 0x0B, 0x0B, 0x00, 0x00, 0x06, 0x0F, 0x00,
+    0x49, 0x13, 0x00, 0x00, 0x07, 0x13, 0x01, 0x03, 0x08, 0x0B, 0x0B, 0x00, 0x00, 0x08, 0x0D, 0x00,
+    0x03, 0x08, 0x49, 0x13, 0x38, 0x0B, 0x00, 0x00, 0x09, 0x01, 0x01, 0x49, 0x13, 0x00, 0x00, 0x0A,
+    0x21, 0x00, 0x37, 0x0B, 0x00, 0x00, 0x00,
+];
+
+const INFO: [u8; 129] = [
+    0x7D, 0x00, 0x00, 0x00, 0x04, 0x00, 0x00, 0x00, 0x00, 0x00, 0x04, 0x01, 0x74, 0x2E, 0x63, 0x00,
+    0x00, 0x00, 0x00, 0x00, 0x02, 0x00, 0x00, 0x00, 0x2F, 0x00, 0x00, 0x00, 0x02, 0x66, 0x00, 0x02,
+    0x00, 0x00, 0x00, 0x2F, 0x00, 0x00, 0x00, 0x04, 0xED, 0x00, 0x02, 0x9F, 0x4F, 0x00, 0x00, 0x00,
+    0x03, 0x70, 0x00, 0x02, 0x91, 0x08, 0x5E, 0x00, 0x00, 0x00, 0x04, 0x78, 0x00, 0x02, 0x91, 0x0C,
+    0x4F, 0x00, 0x00, 0x00, 0x04, 0x73, 0x00, 0x02, 0x91, 0x10, 0x63, 0x00, 0x00, 0x00, 0x00, 0x05,
+    0x69, 0x6E, 0x74, 0x00, 0x05, 0x04, 0x05, 0x63, 0x68, 0x61, 0x72, 0x00, 0x06, 0x01, 0x06, 0x4F,
+    0x00, 0x00, 0x00, 0x07, 0x53, 0x00, 0x08, 0x08, 0x61, 0x00, 0x4F, 0x00, 0x00, 0x00, 0x00, 0x08,
+    0x62, 0x00, 0x78, 0x00, 0x00, 0x00, 0x04, 0x00, 0x09, 0x56, 0x00, 0x00, 0x00, 0x0A, 0x04, 0x00,
+    0x00,
+];
+
+/// The units of these sections, each of which is short.
+fn units_of<'a>(
+    rt: &impl Abort,
+    alloc: Global,
+    info: &'a [u8],
+    abbrev: &'a [u8],
+    str: &'a [u8],
+) -> Result<Units<'a>, Fail> {
+    assert!(rt; info.len() <= 1000 && abbrev.len() <= 1000 && str.len() <= 1000);
+    let sections = Sections {
+        info,
+        abbrev,
+        line: &[],
+        str,
+        loc: &[],
+        ranges: &[],
+    };
+    match read_units(alloc, &sections) {
+        Ok(units) => Ok(units),
+        Err(_) => Err("there is memory".into()),
+    }
+}
+
+// Offset, depth, tag and number of attributes.
+const ENTRIES: [(u32, u32, u64, usize); 13] = [
+    (11, 0, 0x11, 4),
+    (28, 1, 0x2E, 5),
+    (48, 2, 0x05, 3),
+    (58, 2, 0x34, 3),
+    (68, 2, 0x34, 3),
+    (79, 1, 0x24, 3),
+    (86, 1, 0x24, 3),
+    (94, 1, 0x0F, 1),
+    (99, 1, 0x13, 2),
+    (103, 2, 0x0D, 3),
+    (111, 2, 0x0D, 3),
+    (120, 1, 0x01, 1),
+    (125, 2, 0x21, 1),
+];
+
+fn is_entry(entry: &Entry, row: (u32, u32, u64, usize)) -> bool {
+    entry.at == row.0
+        && entry.depth == row.1
+        && entry.tag == row.2
+        && entry.attributes.len() == row.3
+}
+
+#[test]
+fn a_unit_is_read(rt: HostRuntime) -> Result<(), Fail> {
+    let units = units_of(&rt, rt.alloc(), &INFO, &ABBREV, &[])?;
+    let [answer] = units.as_slice() else {
+        return Err("there is one unit".into());
+    };
+    let UnitAnswer::Tree(unit) = answer else {
+        return Err("it is read".into());
+    };
+    assert!(rt; unit.at == 0 && unit.version == 4 && unit.entries.len() == ENTRIES.len());
+    let mut rows = ENTRIES.iter();
+    for entry in unit.entries.as_slice() {
+        let row = rows.next().ok_or("there are as many rows")?;
+        assert!(rt; is_entry(entry, *row));
+    }
+    let function = unit.entries.get(1).ok_or("the function is there")?;
+    let [name, low, high, base, declared] = function.attributes.as_slice() else {
+        return Err("the function has five attributes".into());
+    };
+    assert!(rt; matches!(&low.value, AttrValue::Address(2)));
+    assert!(rt; matches!(&high.value, AttrValue::Constant(47)));
+    assert!(rt; matches!(&declared.value, AttrValue::Reference(79)));
+    let AttrValue::Block(block) = &base.value else {
+        return Err("the frame base is a block".into());
+    };
+    assert!(rt; matches!(block.as_slice(), [0xED, 0x00, 0x02, 0x9F]));
+    let AttrValue::Text(text) = &name.value else {
+        return Err("the name is a text".into());
+    };
+    assert!(rt; matches!(text.as_slice(), [0x66]));
+    Ok(())
+}
+
+// How many bytes are left of the section.
+const CUT: [usize; 8] = [1, 3, 4, 10, 11, 60, 125, 128];
+
+fn is_unreadable(answer: &UnitAnswer) -> bool {
+    match answer {
+        UnitAnswer::Unreadable { at, .. } => *at == 0,
+        UnitAnswer::Tree(_) => false,
+    }
+}
+
+#[test]
+fn a_unit_that_is_cut_is_unreadable(rt: HostRuntime) -> Result<(), Fail> {
+    for len in CUT {
+        assert!(rt; len <= INFO.len());
+        let units = units_of(&rt, rt.alloc(), &INFO[..len], &ABBREV, &[])?;
+        let [answer] = units.as_slice() else {
+            return Err("there is one unit".into());
+        };
+        assert!(rt; is_unreadable(answer));
+    }
+    Ok(())
+}
+
+// One entry with an attribute of each form, whose attribute has the number of the form.
+const FORMS: [u8; 56] = [
+    0x01, 0x11, 0x00, 0x01, 0x01, 0x03, 0x03, 0x04, 0x04, 0x05, 0x05, 0x06, 0x06, 0x07, 0x07, 0x08,
+    0x08, 0x09, 0x09, 0x0A, 0x0A, 0x0B, 0x0B, 0x0C, 0x0C, 0x0D, 0x0D, 0x0E, 0x0E, 0x0F, 0x0F, 0x10,
+    0x10, 0x11, 0x11, 0x12, 0x12, 0x13, 0x13, 0x14, 0x14, 0x15, 0x15, 0x16, 0x16, 0x17, 0x17, 0x18,
+    0x18, 0x19, 0x19, 0x20, 0x20, 0x00, 0x00, 0x00,
+];
+
+// The values in the same order, and two bytes of padding.
+const VALUES: [u8; 92] = [
+    0x58, 0x00, 0x00, 0x00, 0x04, 0x00, 0x00, 0x00, 0x00, 0x00, 0x04, 0x01, 0x78, 0x56, 0x34, 0x12,
+    0x01, 0x00, 0xAA, 0x01, 0x00, 0x00, 0x00, 0xBB, 0x34, 0x12, 0x78, 0x56, 0x34, 0x12, 0xF0, 0xDE,
+    0xBC, 0x9A, 0x78, 0x56, 0x34, 0x12, 0x61, 0x00, 0x01, 0xCC, 0x01, 0xDD, 0xFF, 0x02, 0x7F, 0x02,
+    0x00, 0x00, 0x00, 0x80, 0x01, 0x0B, 0x00, 0x00, 0x00, 0x0B, 0x0C, 0x00, 0x0B, 0x00, 0x00, 0x00,
+    0x0B, 0x00, 0x00, 0x00, 0x00, 0x00, 0x00, 0x00, 0x0D, 0x0D, 0x7E, 0x04, 0x03, 0x02, 0x01, 0x02,
+    0xEE, 0xFF, 0x01, 0x02, 0x03, 0x04, 0x05, 0x06, 0x07, 0x08, 0x00, 0x00,
+];
+
+// The text "xyz", whose end "z" is a text too.
+const TEXTS: [u8; 4] = [0x78, 0x79, 0x7A, 0x00];
+
+// A number that tells classes and values apart.
+fn seen(value: &AttrValue) -> (u32, u64) {
+    match value {
+        AttrValue::Address(n) => (1, u64::from(*n)),
+        AttrValue::Constant(n) => (2, *n),
+        AttrValue::Signed(n) => (3, u64::from(*n == -2)),
+        AttrValue::Block(bytes) => (4, first(bytes.as_slice())),
+        AttrValue::Text(bytes) => (5, first(bytes.as_slice())),
+        AttrValue::Flag(flag) => (6, u64::from(*flag)),
+        AttrValue::Reference(at) => (7, u64::from(*at)),
+        AttrValue::Offset(at) => (8, u64::from(*at)),
+        AttrValue::Other => (9, 0),
+    }
+}
+
+fn first(bytes: &[u8]) -> u64 {
+    match bytes.first() {
+        Some(byte) => u64::from(*byte),
+        None => 0,
+    }
+}
+
+const SEEN: [(u32, u64); 25] = [
+    (1, 0x1234_5678),
+    (4, 0xAA),
+    (4, 0xBB),
+    (2, 0x1234),
+    (2, 0x1234_5678),
+    (2, 0x1234_5678_9ABC_DEF0),
+    (5, 0x61),
+    (4, 0xCC),
+    (4, 0xDD),
+    (2, 0xFF),
+    (6, 1),
+    (3, 0),
+    (5, 0x7A),
+    (2, 0x80),
+    (7, 11),
+    (7, 11),
+    (9, 0),
+    (7, 11),
+    (7, 11),
+    (9, 0),
+    (3, 1),
+    (8, 0x0102_0304),
+    (4, 0xEE),
+    (6, 1),
+    (9, 0),
+];
+
+#[test]
+fn each_form_is_read(rt: HostRuntime) -> Result<(), Fail> {
+    let units = units_of(&rt, rt.alloc(), &VALUES, &FORMS, &TEXTS)?;
+    let [answer] = units.as_slice() else {
+        return Err("there is one unit".into());
+    };
+    let UnitAnswer::Tree(unit) = answer else {
+        return Err("it is read".into());
+    };
+    let root = unit.entries.get(0).ok_or("the root is there")?;
+    let mut rows = SEEN.iter();
+    for attribute in root.attributes.as_slice() {
+        let row = rows.next().ok_or("there are as many rows")?;
+        assert!(rt; seen(&attribute.value) == *row);
+    }
+    assert!(rt; root.attributes.len() == SEEN.len());
+    Ok(())
+}

@@ -1,4 +1,0 @@
-pub mod Settings
-pub mod Alone
-pub mod Answers
-pub mod Invocations

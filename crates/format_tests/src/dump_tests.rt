@@ -1,0 +1,181 @@
+//! Dumps byte by byte, with offsets that were worked out by hand.
+
+use dump_format::{DumpFault, DumpPart, decode_dump};
+use std::alloc::{AllocError, Global};
+use std::process::Abort;
+use std::test::Fail;
+use wasm_syntax::{Quantity, Seen};
+
+/// A trap in a module of one function: one frame, no memory, no globals.
+const TRAP: [u8; 100] = [
+    0x00, 0x61, 0x73, 0x6D, 0x01, 0x00, 0x00, 0x00, 0x00, 0x0D, 0x04, 0x63, 0x6F, 0x72, 0x65, 0x00,
+    0x06, 0x6D, 0x6F, 0x64, 0x75, 0x6C, 0x65, 0x00, 0x15, 0x0B, 0x63, 0x6F, 0x72, 0x65, 0x6D, 0x6F,
+    0x64, 0x75, 0x6C, 0x65, 0x73, 0x01, 0x00, 0x06, 0x6D, 0x6F, 0x64, 0x75, 0x6C, 0x65, 0x00, 0x13,
+    0x0D, 0x63, 0x6F, 0x72, 0x65, 0x69, 0x6E, 0x73, 0x74, 0x61, 0x6E, 0x63, 0x65, 0x73, 0x01, 0x00,
+    0x00, 0x00, 0x00, 0x00, 0x1F, 0x09, 0x63, 0x6F, 0x72, 0x65, 0x73, 0x74, 0x61, 0x63, 0x6B, 0x00,
+    0x04, 0x6D, 0x61, 0x69, 0x6E, 0x01, 0x00, 0x00, 0x00, 0x05, 0x02, 0x7F, 0x07, 0x7F, 0x00, 0x02,
+    0x7F, 0x07, 0x7F, 0x00,
+];
+
+/// A dump with a foreign section, a memory of one page and three segments.
+const SEGMENTS: [u8; 113] = [
+    0x00, 0x61, 0x73, 0x6D, 0x01, 0x00, 0x00, 0x00, 0x00, 0x07, 0x04, 0x63, 0x6F, 0x72, 0x65, 0x00,
+    0x00, 0x00, 0x03, 0x01, 0x78, 0xFF, 0x00, 0x0F, 0x0B, 0x63, 0x6F, 0x72, 0x65, 0x6D, 0x6F, 0x64,
+    0x75, 0x6C, 0x65, 0x73, 0x01, 0x00, 0x00, 0x00, 0x14, 0x0D, 0x63, 0x6F, 0x72, 0x65, 0x69, 0x6E,
+    0x73, 0x74, 0x61, 0x6E, 0x63, 0x65, 0x73, 0x01, 0x00, 0x00, 0x01, 0x00, 0x00, 0x00, 0x17, 0x09,
+    0x63, 0x6F, 0x72, 0x65, 0x73, 0x74, 0x61, 0x63, 0x6B, 0x00, 0x04, 0x6D, 0x61, 0x69, 0x6E, 0x01,
+    0x00, 0x00, 0x00, 0x03, 0x00, 0x00, 0x05, 0x03, 0x01, 0x00, 0x01, 0x0B, 0x14, 0x03, 0x00, 0x41,
+    0x00, 0x0B, 0x01, 0x01, 0x00, 0x41, 0x10, 0x0B, 0x02, 0x02, 0x03, 0x00, 0x41, 0x10, 0x0B, 0x01,
+    0xFF,
+];
+
+/// The header, and a section `core` with the empty name: 17 bytes.
+const CORE: [u8; 17] = [
+    0x00, 0x61, 0x73, 0x6D, 0x01, 0x00, 0x00, 0x00, 0x00, 0x07, 0x04, 0x63, 0x6F, 0x72, 0x65, 0x00,
+    0x00,
+];
+
+/// A stack with one frame, whose one local is a float.
+const FLOAT_STACK: [u8; 30] = [
+    0x00, 0x1C, 0x09, 0x63, 0x6F, 0x72, 0x65, 0x73, 0x74, 0x61, 0x63, 0x6B, 0x00, 0x04, 0x6D, 0x61,
+    0x69, 0x6E, 0x01, 0x00, 0x00, 0x00, 0x05, 0x01, 0x7D, 0x00, 0x00, 0x80, 0x3F, 0x00,
+];
+
+#[test]
+fn a_trap_is_read(rt: HostRuntime) -> Result<(), Fail> {
+    let dump = decode_dump(rt.alloc(), &TRAP)?;
+    assert_eq!(rt; dump.name.as_str(), "module");
+    assert_eq!(rt; dump.modules.len(), 1);
+    assert_eq!(rt; dump.modules.as_slice()[0].as_str(), "module");
+    assert_eq!(rt; dump.instances.len(), 1);
+    assert_eq!(rt; dump.instances.as_slice()[0].memories.len(), 0);
+    assert_eq!(rt; dump.frames.len(), 1);
+    let frame = &dump.frames.as_slice()[0];
+    assert_eq!(rt; frame.offset, 5);
+    assert_eq!(rt;
+        frame.locals.as_slice(),
+        [Seen::I32(7), Seen::I32(0)].as_slice()
+    );
+    assert_eq!(rt;
+        frame.operands.as_slice(),
+        [Seen::I32(7), Seen::I32(0)].as_slice()
+    );
+    assert_eq!(rt; dump.memory, None);
+    assert_eq!(rt; dump.globals.len(), 0);
+    assert_eq!(rt; dump.segments.len(), 0);
+    Ok(())
+}
+
+#[test]
+fn segments_are_read(rt: HostRuntime) -> Result<(), Fail> {
+    let dump = decode_dump(rt.alloc(), &SEGMENTS)?;
+    assert_eq!(rt; dump.name.as_str(), "");
+    assert_eq!(rt; dump.memory, Some(1));
+    assert_eq!(rt; dump.segments.len(), 3);
+    let last = &dump.segments.as_slice()[2];
+    assert_eq!(rt; last.at, 16);
+    assert_eq!(rt; last.bytes, [0xFF].as_slice());
+    Ok(())
+}
+
+/// The bytes of `CORE`, and others behind them.
+fn with_core(alloc: Global, others: &[&[u8]]) -> Result<Vec<u8>, AllocError> {
+    let mut bytes = CORE.to_vec(alloc)?;
+    for other in others {
+        bytes.extend_from_slice(other)?;
+    }
+    Ok(bytes)
+}
+
+#[test]
+fn long_numbers_are_read(rt: HostRuntime) -> Result<(), Fail> {
+    let bytes = with_core(rt.alloc(), &[&[0x05, 0x05, 0x01, 0x00, 0x81, 0x80, 0x00]])?;
+    assert_eq!(rt; decode_dump(rt.alloc(), &bytes)?.memory, Some(1));
+    Ok(())
+}
+
+fn assert_refused(rt: &impl Abort, alloc: Global, bytes: &[u8], fault: DumpFault) {
+    assert_eq!(rt; decode_dump(alloc, bytes).err(), Some(fault));
+}
+
+#[test]
+fn inputs_that_end_early_are_refused(rt: HostRuntime) {
+    let alloc = rt.alloc();
+    assert_refused(&rt, alloc, &[], DumpFault::Malformed { at: 0 });
+    assert_refused(
+        &rt,
+        alloc,
+        &[0x00, 0x61, 0x73, 0x6E],
+        DumpFault::Malformed { at: 3 },
+    );
+    assert_refused(&rt, alloc, &CORE[..8], DumpFault::Malformed { at: 8 });
+    assert_refused(&rt, alloc, &TRAP[..99], DumpFault::Malformed { at: 68 });
+}
+
+#[test]
+fn refusals_name_the_place(rt: HostRuntime) -> Result<(), Fail> {
+    let page: &[u8] = &[0x05, 0x03, 0x01, 0x00, 0x01];
+    let malformed = |at: usize| DumpFault::Malformed { at };
+    let core = DumpFault::Several {
+        part: DumpPart::Core,
+    };
+    let memory = DumpFault::Several {
+        part: DumpPart::Memory,
+    };
+    let pages = DumpFault::Limit {
+        what: Quantity::DumpPages,
+        count: 4097,
+    };
+    let rows: [(&[&[u8]], DumpFault); 14] = [
+        // a section twice, and one left over byte
+        (&[page, page], malformed(22)),
+        (&[&[0x05, 0x04, 0x01, 0x00, 0x01, 0x00]], malformed(22)),
+        // an id past 11
+        (&[&[0x0C, 0x00]], malformed(17)),
+        // a segment that is cut, one past the end, one without a memory
+        (
+            &[page, &[0x0B, 0x06, 0x01, 0x00, 0x41, 0x00, 0x0B, 0x02]],
+            malformed(30),
+        ),
+        (
+            &[
+                page,
+                &[
+                    0x0B, 0x0A, 0x01, 0x00, 0x41, 0xFF, 0xFF, 0x03, 0x0B, 0x02, 0xAA, 0xBB,
+                ],
+            ],
+            malformed(25),
+        ),
+        (
+            &[&[0x0B, 0x06, 0x01, 0x00, 0x41, 0x00, 0x0B, 0x00]],
+            malformed(20),
+        ),
+        // floats: a global, a local, a cut one
+        (
+            &[&[
+                0x06, 0x09, 0x01, 0x7D, 0x00, 0x43, 0x00, 0x00, 0x80, 0x3F, 0x0B,
+            ]],
+            DumpFault::FloatValue { at: 20 },
+        ),
+        (&[&FLOAT_STACK], DumpFault::FloatValue { at: 41 }),
+        (
+            &[&[0x06, 0x05, 0x01, 0x7C, 0x00, 0x44, 0x00]],
+            malformed(23),
+        ),
+        // an unknown tag of a global
+        (&[&[0x06, 0x02, 0x01, 0x70]], malformed(20)),
+        // parts that stand twice, behind a float and before the limits
+        (
+            &[&CORE[8..], &FLOAT_STACK],
+            DumpFault::FloatValue { at: 50 },
+        ),
+        (&[&CORE[8..], &[0x05, 0x04, 0x01, 0x00, 0x81, 0x20]], core),
+        (&[&[0x05, 0x05, 0x02, 0x00, 0x01, 0x00, 0x01]], memory),
+        (&[&[0x05, 0x04, 0x01, 0x00, 0x81, 0x20]], pages),
+    ];
+    for (others, fault) in rows.iter() {
+        let bytes = with_core(rt.alloc(), others)?;
+        assert_refused(&rt, rt.alloc(), &bytes, *fault);
+    }
+    Ok(())
+}

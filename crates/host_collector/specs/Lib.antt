@@ -1,0 +1,4 @@
+pub mod Collecting
+pub mod Torn
+pub mod Closed
+pub mod inner

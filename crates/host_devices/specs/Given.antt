@@ -1,0 +1,19 @@
+-- The replies that a run was given (Core 4.4.7, host functions).
+use Rattle.std.specs.Prelude.{List, [], ◌∷◌, map}
+use Rattle.wasm_syntax.specs.declared.host.Reply.{Reply}
+use Rattle.wasm_syntax.specs.declared.host.Served.{Served}
+use Rattle.wasm_syntax.specs.Run.{Outcome, not_started, finished, trapped, lacks_reply, misfits, running, got_stuck}
+
+-- the replies among calls with their replies
+abbrev pub replies_of : List Served → List Reply
+replies_of given = map (λ s. s.reply) given
+
+-- the call whose reply does not fit, which is not among those that were served
+abbrev pub unfitting : Outcome → List Served
+unfitting (misfits call reply) = record { call = call; reply = reply } ∷ []
+unfitting (not_started cause) = []
+unfitting (finished value) = []
+unfitting (trapped kind) = []
+unfitting (lacks_reply call) = []
+unfitting running = []
+unfitting got_stuck = []

@@ -1,3 +1,0 @@
-pub mod ReplyLaws
-pub mod WriteLaws
-pub mod MeetLaws

@@ -1,3 +1,0 @@
-pub mod Replies
-pub mod Writes
-pub mod Meets

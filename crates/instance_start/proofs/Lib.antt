@@ -1,3 +1,0 @@
-pub mod BoundLaws
-pub mod FillLaws
-pub mod EntryLaws

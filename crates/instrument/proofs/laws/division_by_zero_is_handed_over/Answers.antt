@@ -1,5 +1,0 @@
-use Rattle.instrument.proofs.Divider.{hands_over}
-use Rattle.instrument.proofs.laws.division_by_zero_is_handed_over.Goals as goal
-
-pub returns : goal.returns
-returns c = hands_over

@@ -1,5 +1,0 @@
-use Rattle.instrument.proofs.BareRuns.{runs_alike}
-use Rattle.instrument.proofs.laws.offsets_change_no_run.Goals as goal
-
-pub returns : goal.returns
-returns c = λ p other collecting is replies d n e. runs_alike p other e collecting is replies d n

@@ -1,8 +1,0 @@
-use Rattle.instrument.specs.Instrument.{new_module}
-use Rattle.instrument.specs.Instrumentable.{program_of}
-use Rattle.instrument.proofs.BareValid.{same_sizes}
-use Rattle.instrument.proofs.NewSizes.{new_sizes}
-use Rattle.instrument.proofs.laws.rewritten_modules_are_within_limits.Goals as goal
-
-pub returns : goal.returns
-returns c = λ m other x e. same_sizes (new_module (program_of m x.whole)) other e (new_sizes m x)

@@ -1,0 +1,6 @@
+use Rattle.machine_basics.proofs.Frames.{set_moves}
+use Rattle.machine_basics.proofs.variables.local_set.Goals as goal
+
+pub returns-in-Some-clause-effect : goal.returns-in-Some-clause-effect
+returns-in-Some-clause-effect c = λ w operands locals below e b.
+    set_moves w locals below c.args.index operands c.args.values.now c.pop.new.self c.set_at.new.self c.args.base c.in-Some.v e b c.in-Some.ensures c.set_at.ensures

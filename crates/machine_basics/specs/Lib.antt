@@ -1,0 +1,3 @@
+pub mod Performs
+pub mod Traps
+pub mod inner

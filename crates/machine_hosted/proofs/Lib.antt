@@ -1,0 +1,16 @@
+pub mod ReplyLaws
+pub mod WriteLaws
+pub mod MeetLaws
+pub mod SafeLaws
+pub mod ArgumentLaws
+pub mod CollectorLaws
+pub mod CallLaws
+pub mod TurnLaws
+pub mod HeardLaws
+pub mod StageLaws
+pub mod WorldLaws
+pub mod ModuleLaws
+pub mod AloneLaws
+pub mod FrameLaws
+pub mod DefinedLaws
+pub mod JoinLaws

@@ -1,0 +1,104 @@
+-- Functions of valid modules.
+use Rattle.std.proofs.Common.{◌≡◌, ℕ, ◌+◌, ◌-◌, ◌<◌, ◌≤◌, List, [], ◌∷◌, ◌++◌, map, length, refl, sym, ap, subst, ◌∙◌, arith}
+use Rattle.std.proofs.lemmas.Bool.Decides.{nat_tests}
+use Rattle.std.specs.Prelude.{Bool, true, false, nat_lt, if◌then◌else◌, Option, Some, None, option_map, slice_get}
+use Rattle.wasm_syntax.specs.declared.value.Value.{Value}
+use Rattle.wasm_syntax.specs.declared.parts.FuncType.{FuncType}
+use Rattle.wasm_syntax.specs.declared.parts.Import.{Import}
+use Rattle.wasm_syntax.specs.declared.parts.Body.{Body}
+use Rattle.wasm_syntax.specs.declared.module.ModuleParts.{ModuleParts as Module}
+use Rattle.wasm_syntax.specs.Numbers.{types}
+use Rattle.wasm_syntax.specs.Tree.{Tree}
+use Rattle.wasm_syntax.specs.Module.{Program, IsProgram, Function, imported, defined, imported_at, defined_at, function_at, function_types, type_at, option_then}
+use Rattle.wasm_syntax.specs.Valid.{Valid}
+use Rattle.wasm_syntax.specs.Machine.{function_type}
+use Rattle.machine_steps.specs.declared.machine.Prepared.{Prepared}
+use Rattle.wasm_laws.proofs.Lists.{some_is, get_inside, get_front, get_map}
+use Rattle.wasm_laws.proofs.Validity.{startable}
+use Rattle.wasm_laws.proofs.Safe.{Typed}
+use Rattle.machine_hosted.specs.Safe.{ValidProgram}
+use Rattle.machine_hosted.specs.Settings.{Sound, Takes}
+
+pub valid_program : (p : Program) (m : Module) (prepared : Prepared) → Sound m prepared → p.module_ ≡ m → IsProgram p → ValidProgram p
+valid_program p m prepared s e w = record {
+  writes = w;
+  paired = subst (λ (x : Module). length x.bodies ≡ length x.functions) (sym e) s.whole.as_many;
+  valid = subst Valid (sym e) s.valid;
+}
+
+-- the program of a module
+abbrev pub program_of : (m : Module) (prepared : Prepared) → Sound m prepared → Program
+program_of m prepared s = record { module_ = m; trees = s.whole.trees }
+
+pub typed_of : (p : Program) → ValidProgram p → Typed p
+typed_of p v = let s = startable p v.writes v.paired v.valid in s.typed
+
+-- ---- imported functions
+
+pub import_type : (m : Module) (f : ℕ) (i : Import) → slice_get m.imports f ≡ Some i → type_at m f ≡ slice_get m.types i.ftype
+import_type m f i e =
+    let lt : f < length m.imports = get_inside m.imports f i e in
+    let within : f < length (map (λ i. i.ftype) m.imports) = get_inside (map (λ i. i.ftype) m.imports) f i.ftype (get_map (λ i. i.ftype) m.imports f ∙ ap (option_map (λ i. i.ftype)) e) in
+    ap (λ o. option_then o (λ t. slice_get m.types t)) (get_front (map (λ i. i.ftype) m.imports) m.functions f within ∙ get_map (λ i. i.ftype) m.imports f ∙ ap (option_map (λ i. i.ftype)) e)
+
+pub function_imported : (p : Program) (f : ℕ) (i : Import) (type : FuncType) → slice_get p.module_.imports f ≡ Some i → type_at p.module_ f ≡ Some type → function_at p f ≡ Some (imported i type)
+function_imported p f i type e t =
+    let lt : f < length p.module_.imports = get_inside p.module_.imports f i e in
+    let test : nat_lt f (length p.module_.imports) ≡ true = grind (arith, nat_tests, lt) in
+    ap (λ b. if b then imported_at p.module_ f else defined_at p (f - length p.module_.imports)) test
+    ∙ ap (λ o. option_then o (λ i. option_map (imported i) (slice_get p.module_.types i.ftype))) e
+    ∙ ap (option_map (imported i)) (sym (import_type p.module_ f i e) ∙ t)
+
+-- ---- defined functions
+
+-- a defined function, by its index among all
+pub at_index : (p : Program) (i : ℕ) → function_at p (length p.module_.imports + i) ≡ defined_at p i
+at_index p i =
+    let test : nat_lt (length p.module_.imports + i) (length p.module_.imports) ≡ false = grind (arith, nat_tests) in
+    let less : length p.module_.imports + i - length p.module_.imports ≡ i = omega arith in
+    ap (λ b. if b then imported_at p.module_ (length p.module_.imports + i) else defined_at p (length p.module_.imports + i - length p.module_.imports)) test ∙ ap (defined_at p) less
+
+pub record IsDefined (p : Program) (i : ℕ) (type : FuncType) : Type 0 where
+  pub body : Body
+  pub tree : Tree
+  pub at : defined_at p i ≡ Some (defined body tree type)
+  pub function : function_at p (length p.module_.imports + i) ≡ Some (defined body tree type)
+
+not_imported : (p : Program) (i : ℕ) (x : Import) (type : FuncType) → defined_at p i ≡ Some (imported x type) → ⊥
+not_imported p i x type e = by_index (slice_get p.module_.functions i) e
+  where
+    by_tree : (body : Body) (u : FuncType) (o : Option Tree) → option_map (λ tree. defined body tree u) o ≡ Some (imported x type) → ⊥
+    by_tree body u None e = cc
+    by_tree body u (Some tree) e = cc
+
+    by_body : (u : FuncType) (o : Option Body) → option_then o (λ body. option_map (λ tree. defined body tree u) (slice_get p.trees i)) ≡ Some (imported x type) → ⊥
+    by_body u None e = cc
+    by_body u (Some body) e = by_tree body u (slice_get p.trees i) e
+
+    by_type : (o : Option FuncType) → option_then o (λ u. option_then (slice_get p.module_.bodies i) (λ body. option_map (λ tree. defined body tree u) (slice_get p.trees i))) ≡ Some (imported x type) → ⊥
+    by_type None e = cc
+    by_type (Some u) e = by_body u (slice_get p.module_.bodies i) e
+
+    by_index : (o : Option ℕ) → option_then o (λ t. option_then (slice_get p.module_.types t) (λ u. option_then (slice_get p.module_.bodies i) (λ body. option_map (λ tree. defined body tree u) (slice_get p.trees i)))) ≡ Some (imported x type) → ⊥
+    by_index None e = cc
+    by_index (Some t) e = by_type (slice_get p.module_.types t) e
+
+pub is_defined : (p : Program) (i : ℕ) (type : FuncType) → ValidProgram p → type_at p.module_ (length p.module_.imports + i) ≡ Some type → IsDefined p i type
+is_defined p i type v t = let fn = (typed_of p v).functions (length p.module_.imports + i) type t in by_function fn.0 fn.1 fn.2
+  where
+    by_function : (fn : Function) → function_at p (length p.module_.imports + i) ≡ Some fn → function_type fn ≡ type → IsDefined p i type
+    by_function (imported x u) at ty = absurd (not_imported p i x u (sym (at_index p i) ∙ at))
+    by_function (defined body tree u) at ty =
+        let same : function_at p (length p.module_.imports + i) ≡ Some (defined body tree type) = at ∙ ap (λ (z : FuncType). Some (defined body tree z)) ty in
+        record { body = body; tree = tree; at = sym (at_index p i) ∙ same; function = same }
+
+pub function_there : (p : Program) (m : Module) (prepared : Prepared) (f : ℕ) (args : List Value) → Sound m prepared → p.module_ ≡ m → IsProgram p → Takes m f args → (fn : Function) × (function_at p f ≡ Some fn)
+function_there p m prepared f args s e w t =
+    let fn = (typed_of p (valid_program p m prepared s e w)).functions f t.0 (subst (λ (x : Module). type_at x f ≡ Some t.0) (sym e) t.1) in
+    (fn.0, fn.1)
+
+-- at most one result
+pub few_results : (p : Program) (f : ℕ) (type : FuncType) → ValidProgram p → type_at p.module_ f ≡ Some type → length type.results ≤ 1
+few_results p f type v t =
+    let fn = (typed_of p v).functions f type t in
+    subst (λ (x : FuncType). length x.results ≤ 1) fn.2 ((typed_of p v).few f fn.0 fn.1)

@@ -1,0 +1,6 @@
+pub mod Safe
+pub mod Hosted
+pub mod Settings
+pub mod Answers
+pub mod Invocations
+pub mod inner

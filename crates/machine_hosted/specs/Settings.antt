@@ -1,0 +1,38 @@
+-- What a run begins with.
+use Rattle.std.specs.Prelude.{◌≡◌, ℕ, ◌+◌, ◌<◌, ◌^◌, Bool, true, List, [], length, option_map, slice_get, Some}
+use Rattle.wasm_syntax.specs.declared.value.Value.{Value}
+use Rattle.wasm_syntax.specs.declared.parts.Import.{Import}
+use Rattle.wasm_syntax.specs.declared.parts.FuncType.{FuncType}
+use Rattle.wasm_syntax.specs.declared.module.ModuleParts.{ModuleParts as Module}
+use Rattle.wasm_syntax.specs.declared.host.Reply.{Reply}
+use Rattle.wasm_syntax.specs.Numbers.{types}
+use Rattle.wasm_syntax.specs.Module.{Program, IsProgram, IsModule, type_at}
+use Rattle.wasm_syntax.specs.Valid.{Valid}
+use Rattle.wasm_syntax.specs.Host.{World}
+use Rattle.machine_steps.specs.declared.machine.Machine.{Machine}
+use Rattle.machine_steps.specs.declared.machine.Prepared.{Prepared}
+use Rattle.machine_steps.specs.Prepares.{IsPrepared}
+use Rattle.machine_hosted.specs.Safe.{WorldFits}
+
+-- a valid module that is prepared, with fewer than 2 ^ 32 functions
+pub record Sound (m : Module) (prepared : Prepared) : Type 0 where
+  pub whole : IsModule m
+  pub valid : Valid m
+  pub few : length m.imports + length m.functions < 2 ^ 32
+  pub is_prepared : (p : Program) → p.module_ ≡ m → IsProgram p → IsPrepared p prepared
+
+-- the world of a machine, with these replies left and nothing served
+abbrev pub world_of : Machine → List Reply → World
+world_of m replies = record { globals = m.shared.globals; memory = option_map (λ k. k.memory) m.shared.memory; table = m.table; replies = replies; served = [] }
+
+-- what is outside the frames fits the module
+abbrev pub MachineFits : Module → Machine → Type 0
+MachineFits m machine = WorldFits m (world_of machine [])
+
+-- a function of the module takes these arguments
+abbrev pub Takes : Module → ℕ → List Value → Type 0
+Takes m f args = (type : FuncType) × (type_at m f ≡ Some type) × (types args ≡ type.params)
+
+-- each import is served with the type that the module gives it
+abbrev pub ServesAll : (Import → FuncType → Bool) → Module → Type 0
+ServesAll serving m = (f : ℕ) (i : Import) (type : FuncType) → slice_get m.imports f ≡ Some i → slice_get m.types i.ftype ≡ Some type → serving i type ≡ true

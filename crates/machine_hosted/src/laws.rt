@@ -1,0 +1,40 @@
+//! Laws of safe runs.
+
+ghost use Rattle.std.specs.Prelude.{◌≡◌, ℕ, List, ◌∷◌, [], Some};
+ghost use Rattle.wasm_syntax.specs.declared.value.Value.{Value as Val};
+ghost use Rattle.wasm_syntax.specs.declared.parts.Body.{Body as FunctionBody};
+ghost use Rattle.wasm_syntax.specs.declared.parts.FuncType.{FuncType as Signature};
+ghost use Rattle.wasm_syntax.specs.declared.host.Reply.{Reply as HostReply};
+ghost use Rattle.wasm_syntax.specs.declared.host.CollectorCall.{CollectorCall as Collected};
+ghost use Rattle.wasm_syntax.specs.Numbers.{types};
+ghost use Rattle.wasm_syntax.specs.Tree.{Tree as CodeTree};
+ghost use Rattle.wasm_syntax.specs.Module.{Program, defined, function_at};
+ghost use Rattle.wasm_syntax.specs.Host.{World};
+ghost use Rattle.wasm_syntax.specs.Machine.{Engine, Config, config, entered, step, next};
+ghost use Rattle.wasm_syntax.specs.Run.{run_steps, start_world};
+ghost use Rattle.machine_steps.specs.declared.machine.Machine.{Machine as Kept};
+ghost use Rattle.machine_steps.specs.declared.machine.Prepared.{Prepared as Ready};
+ghost use Rattle.machine_steps.specs.Meets.{StandsFor};
+ghost use Rattle.machine_steps.specs.inner.Runs.{Begins, Leads};
+ghost use Rattle.machine_hosted.specs.Safe.{ValidProgram, WorldFits, RunFits};
+
+/// What is outside the frames fits a valid module where its instance starts.
+pub fn start_world_fits()
+    ensures { (p : Program) (replies : List HostReply) → ValidProgram p → WorldFits p.module_ (start_world p.module_ replies) }
+{}
+
+/// From the begin of a function of a valid module, in a world that fits, no number of steps gets stuck, and where the run ends or traps,
+/// the world fits again.
+pub fn entered_runs_fit()
+    ensures { (engine : Engine) (f : ℕ) (body : FunctionBody) (tree : CodeTree) (type : Signature) (args : List Val) (w : World) (co : List Collected) (n : ℕ) → ValidProgram engine.program → function_at engine.program f ≡ Some (defined body tree type) → types args ≡ type.params → WorldFits engine.program.module_ w → RunFits engine.program.module_ (run_steps engine n (config (entered f body tree type args ∷ []) w co)).what }
+{}
+
+/// A machine that stands where the next step of a safe run leads, as behind a call of an import, begins a safe run there.
+pub fn step_stays_safe()
+    ensures { (engine : Engine) (prepared : Ready) (depth : ℕ) (c then : Config) (m later : Kept) → Begins engine prepared depth c m → step engine c ≡ next then → StandsFor engine.program prepared.codes.items later then → Begins engine prepared depth then later }
+{}
+
+/// A machine that stands where so many steps of a safe run lead, as where the fuel is spent, begins a safe run there.
+pub fn reached_stays_safe()
+    ensures { (engine : Engine) (prepared : Ready) (depth n : ℕ) (c then : Config) (m later : Kept) → Begins engine prepared depth c m → Leads engine prepared.codes.items c n then → StandsFor engine.program prepared.codes.items later then → Begins engine prepared depth then later }
+{}

@@ -1,0 +1,23 @@
+//! Runs whose imports a host side serves (Core 4.4.7, 4.5.4, 4.5.5): a reply to a call of an import, a run of one function, and an
+//! invocation, which is the start function, where it is due, and the entry behind it. No run of a valid module gets stuck (Core, appendix
+//! "Soundness").
+#![tactic(auto)]
+
+mod alone;
+mod answer;
+mod begin;
+mod collector;
+mod function;
+mod halt;
+mod heard;
+mod invocation;
+pub mod laws;
+mod replies;
+mod reply;
+mod run;
+mod taken;
+mod turn;
+mod writes;
+
+pub use answer::{EntryRun, RunEnd};
+pub use invocation::run_invocation;

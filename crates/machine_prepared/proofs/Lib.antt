@@ -1,0 +1,4 @@
+pub mod TreeLaws
+pub mod WordLaws
+pub mod NumberLaws
+pub mod ModuleLaws

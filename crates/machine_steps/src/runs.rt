@@ -1,0 +1,42 @@
+//! Steps up to the fuel.
+
+ghost use Rattle.std.specs.Prelude.{◌≡◌};
+ghost use Rattle.wasm_syntax.specs.Machine.{Engine, Config};
+ghost use Rattle.machine_steps.specs.inner.Runs.{Begins, Came};
+
+use crate::machine::{Machine, Outcome, Prepared};
+use crate::steps::step;
+
+/// What a run came to, and the number of steps that it made. The step that traps counts; a call of an import is not made yet.
+#[derive(Clone, Copy)]
+pub struct Ended {
+    pub outcome: Outcome,
+    pub steps: u64,
+}
+
+/// At most so many steps, up to the first one that does not go on. `Next` says that the fuel is spent.
+pub fn run(m: &mut Machine, prepared: &Prepared, depth: usize, fuel: u64) -> Ended
+    ensures { (engine : Engine) (c : Config) → Begins engine prepared.now depth c m.old → Came engine prepared.now.codes.items c fuel result.outcome result.steps m.new }
+{
+    for i in 0..fuel {
+        match step(m, prepared, depth) {
+            Outcome::Next => {}
+            Outcome::Import(call) => {
+                return Ended {
+                    outcome: Outcome::Import(call),
+                    steps: i,
+                };
+            }
+            outcome => {
+                return Ended {
+                    outcome,
+                    steps: i + 1,
+                };
+            }
+        }
+    }
+    Ended {
+        outcome: Outcome::Next,
+        steps: fuel,
+    }
+}

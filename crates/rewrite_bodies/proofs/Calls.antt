@@ -1,0 +1,596 @@
+-- Calls, traps, and the whole step.
+use Rattle.std.proofs.Common.{◌≡◌, ℕ, zero, suc, ◌+◌, ◌≤◌, List, [], ◌∷◌, ◌++◌, length, map, reverse, Option, Some, None, Bool, true, false, ◌&&◌, nat_lt, refl, sym, ap, ap₂, ◌∙◌, subst, arith, append_assoc, append-nil, length-append, ◌⊎◌, inl, inr, slice_get, slice_set, option_to_list, option_map, ltb-true, lt-ltb, unwrap_or, ◌≢◌, ◌==◌, Ok}
+use Rattle.wasm_syntax.specs.declared.value.ValType.{ValType}
+use Rattle.wasm_syntax.specs.declared.value.ValType.TheVariants.{I32, I64}
+use Rattle.wasm_syntax.specs.declared.value.Value.{Value}
+use Rattle.wasm_syntax.specs.declared.value.Value.TheVariants as values
+use Rattle.wasm_syntax.specs.declared.parts.FuncType.{FuncType}
+use Rattle.wasm_syntax.specs.declared.parts.Body.{Body}
+use Rattle.wasm_syntax.specs.declared.parts.Import.{Import}
+use Rattle.wasm_syntax.specs.Numbers.{type_of, types, bool_number, binary}
+use Rattle.int_ops.specs.Integers.{binary as int_binary}
+use Rattle.int_ops.specs.declared.operators.Binary.TheVariants.{Or}
+use Rattle.wasm_syntax.specs.declared.instruction.Basic.TheVariants.{Eqz}
+use Rattle.wasm_syntax.specs.Tree.{BrTable, Call, CallIndirect, Nodes, stop, basic, jump, Tree}
+use Rattle.wasm_syntax.specs.declared.module.ModuleParts.{ModuleParts as Module}
+use Rattle.wasm_syntax.specs.Module.{Function, imported, defined, function_at, type_at, declared_locals, same_types, same_functype, option_then}
+use Rattle.wasm_syntax.specs.Host.{World, Answer, replied, told, silent, misfit, answer, told_or, served_by, after_writes, if_fits, if_written, fits_type}
+use Rattle.wasm_syntax.specs.declared.host.HostCall.{HostCall}
+use Rattle.wasm_syntax.specs.declared.host.Reply.{Reply}
+use Rattle.wasm_syntax.specs.declared.host.CollectorCall.{CollectorCall}
+use Rattle.wasm_syntax.specs.declared.host.CollectorCall.TheVariants as collector_calls
+use Rattle.wasm_syntax.specs.Machine.{Kind, leaves, returns, Label, Frame, Config, label, frame, config, Engine, Stepped, next, traps, Cut, short, parts, one_more, cut, exactly, pick, zero_of, zeros, result_of, function_type, entered, host_call, deliver, host, enters, applied_if, calls_on, calls, step, offset_in}
+use Rattle.rewrite_bodies.specs.Slots.{Place, Ctx, slot, kind_at, offset_at, added, less, grown, ctx_of}
+use Rattle.rewrite_bodies.specs.Rewrite.{Info, hand, hand_top, to_exit, hand_left, test_flag, test_both, tested, after_direct, call_code, helper_of, rewrite, body}
+use Rattle.rewrite_bodies.specs.Numbering.{import_count, mapped, place_in, global_types, helper_base, helped}
+use Rattle.rewrite_bodies.specs.Pieces.{get, set, const, call, if_any, fetch, load, store, tree_of}
+use Rattle.linear_memory.specs.Memory.{Memory}
+use Rattle.linear_memory.specs.Memory as memories
+use Rattle.rewrite_bodies.specs.Agreement.{Holds, now, info, infos, joined, Wit, t_frame, FitsIn, Has, Room_call, Room, FitsLabels, MemoryFits, NoKind, WorldFits, FitsFrame, FitsFrames, Wrap, zero_vs, t_frames, flagged}
+use Rattle.rewrite_bodies.specs.inner.Steps.{Gets, To, Shell, st}
+use Rattle.rewrite_bodies.proofs.Run.{stored, stored_other, kind_no_slot, slice_get-put_other, added_get, added_set, types-stored, slice_get-put_same, types-slice_set, same_type-same, same_type-refl, added_kind, more_parts, one_step, seq, weaken, fetch_to, load_to, less_holds, store_to}
+use Rattle.rewrite_bodies.proofs.Parts.{put_keeps, cut_all, fits_put, settle, step_plain}
+use Rattle.rewrite_bodies.specs.Guards.{helper, entry_label, says, first_table}
+use Rattle.rewrite_bodies.specs.inner.Telling.{tell_labels, tell_locals, tell_frame}
+use Rattle.std.proofs.lemmas.List.{map-append}
+use Rattle.std.proofs.lemmas.Option.{slice_get-map}
+use Rattle.rewrite_bodies.specs.inner.Standing.{Linked, After, Speaks, HelperLinked, Stands}
+use Rattle.rewrite_bodies.proofs.Sim.{refit, refit_under, room_height, grown-append, grown_fits, len_of, shell, tgt, wit, wit_under, armed, if_zero_to, caught_to}
+use Rattle.rewrite_bodies.proofs.Control.{flag_len, flag_down, both_to, grown_longer}
+use Rattle.rewrite_bodies.proofs.Unwind.{exit_branch, frame_out, Hands, hand_to, hand_left_to, Up, up_all, renamed}
+use Rattle.wasm_syntax.specs.declared.host.Write.{Write}
+
+pub types-append : (a b : List Value) → types (a ++ b) ≡ types a ++ types b
+types-append a b = map-append type_of a b
+
+pub types-zeros : (ts : List ValType) → types (zeros ts) ≡ ts
+types-zeros [] = refl
+types-zeros (I32 ∷ ts) = ap (λ z. I32 ∷ z) (types-zeros ts)
+types-zeros (I64 ∷ ts) = ap (λ z. I64 ∷ z) (types-zeros ts)
+
+pub same_types-same : (a b : List ValType) → same_types a b ≡ true → a ≡ b
+same_types-same [] [] e = refl
+same_types-same [] (_ ∷ _) e = absurd (cc)
+same_types-same (_ ∷ _) [] e = absurd (cc)
+same_types-same (I32 ∷ a) (I32 ∷ b) e = ap (λ z. I32 ∷ z) (same_types-same a b e)
+same_types-same (I32 ∷ a) (I64 ∷ b) e = absurd (cc)
+same_types-same (I64 ∷ a) (I32 ∷ b) e = absurd (cc)
+same_types-same (I64 ∷ a) (I64 ∷ b) e = ap (λ z. I64 ∷ z) (same_types-same a b e)
+
+-- the locals of a function that is called on these arguments
+pub types-locals : (args : List Value) (ps ls : List ValType) → types args ≡ ps → types (args ++ zeros ls) ≡ ps ++ ls
+types-locals args ps ls e = types-append args (zeros ls) ∙ ap₂ (λ a b. a ++ b) e (types-zeros ls)
+
+pub new_locals : (args : List Value) (new old more : List ValType) → new ≡ old ++ more → args ++ zeros new ≡ (args ++ zeros old) ++ zeros more
+new_locals args new old more e = ap (λ z. args ++ zeros z) e ∙ ap (λ z. args ++ z) (map-append zero_of old more) ∙ sym (append_assoc args (zeros old) (zeros more))
+
+pub holds_len : (ex : List Value) (js es : List Place) (ops : List Value) → Holds ex js ops es → length ops ≡ length es
+holds_len ex js [] [] h = refl
+holds_len ex js (e ∷ es) [] h = absurd h
+holds_len ex js [] (v ∷ ops) h = absurd h
+holds_len ex js (e ∷ es) (v ∷ ops) h = ap suc (holds_len ex js es ops h.1)
+
+pub cut_len : (m : ℕ) (ops vs below : List Value) → cut m ops ≡ parts vs below → m ≤ length ops
+cut_len zero ops vs below e = omega arith
+cut_len (suc m) [] vs below e = absurd (cc)
+cut_len (suc m) (v ∷ ops) vs below e = let r = more_parts v (cut m ops) vs below e in omega (arith, cut_len m ops r.0 below r.1)
+
+-- ---- what a host function does, in the two worlds
+
+module _ (M : Engine) (gl : List ValType) (r : Option ValType) (b : Value) where
+  abbrev pub AnswerRel : Answer → Answer → Type 0
+  AnswerRel (replied w v) A' = (A' ≡ replied (flagged M w b) v) × WorldFits M gl w × (exactly r (option_to_list v) ≡ Some (option_to_list v))
+  AnswerRel (told k) A' = ⊥
+  AnswerRel silent A' = A' ≡ silent
+  AnswerRel (misfit reply) A' = A' ≡ misfit reply
+
+fits_result : (r : Option ValType) (v : Option Value) → fits_type r v ≡ true → exactly r (option_to_list v) ≡ Some (option_to_list v)
+fits_result None None e = refl
+fits_result None (Some v) e = absurd (cc)
+fits_result (Some t) None e = absurd (cc)
+fits_result (Some t) (Some v) e = rw (same_type-refl (type_of v) t (sym (same_type-same t (type_of v) e))) refl
+
+writes_keep : (k : Option Memory) (ws : List Write) (k' : Option Memory) → after_writes k ws ≡ Some k' → MemoryFits k → MemoryFits k'
+writes_keep k [] k' e h = let z : k ≡ k' = cc in subst MemoryFits z h
+writes_keep None (w ∷ ws) k' e h = absurd (cc)
+writes_keep (Some m) (w ∷ ws) k' e h = by_put (memories.put m w.at w.bytes) refl e (λ m'. writes_keep (Some m') ws k')
+  where
+    by_put : (o : Option Memory) → memories.put m w.at w.bytes ≡ o → option_then o (λ m'. after_writes (Some m') ws) ≡ Some k' → ((m' : Memory) → after_writes (Some m') ws ≡ Some k' → MemoryFits (Some m') → MemoryFits k') → MemoryFits k'
+    by_put None p e ih = absurd (cc)
+    by_put (Some m') p e ih = ih m' e (put_keeps m m' w.at w.bytes p h)
+
+module _ (M : Engine) (gl : List ValType) (b : Value) (call : HostCall) (w : World) (wf : WorldFits M gl w) where
+  written_rel : (reply : Reply) (left : List Reply) (o : Option (Option Memory)) → fits_type call.result reply.value ≡ true → after_writes w.memory reply.writes ≡ o → AnswerRel M gl call.result b (if_written call reply left w o) (if_written call reply left (flagged M w b) o)
+  written_rel reply left None ft e = refl
+  written_rel reply left (Some k) ft e = (refl, record { globals = wf.globals; memory = writes_keep w.memory reply.writes k e wf.memory; table = wf.table }, fits_result call.result reply.value ft)
+
+  fits_rel : (reply : Reply) (left : List Reply) (q : Bool) → fits_type call.result reply.value ≡ q → AnswerRel M gl call.result b (if_fits call reply left w q) (if_fits call reply left (flagged M w b) q)
+  fits_rel reply left false ft = refl
+  fits_rel reply left true ft = written_rel reply left (after_writes w.memory reply.writes) ft refl
+
+  pub served_rel : (rs : List Reply) → AnswerRel M gl call.result b (served_by call w rs) (served_by call (flagged M w b) rs)
+  served_rel [] = refl
+  served_rel (reply ∷ left) = fits_rel reply left (fits_type call.result reply.value) refl
+
+module _ (M M' : Engine) (E : ℕ) (gl : List ValType) (W : Wrap) (S : Stands M M' E gl) where
+  pub length-frames : (r : Option ValType) (Fs : List Frame) (ws : List Wit) → FitsFrames M E gl W.result r Fs ws → length (t_frames W r Fs ws) ≡ suc (length Fs)
+  length-frames r [] [] h = refl
+  length-frames r [] (_ ∷ _) h = absurd h
+  length-frames r (F ∷ Fs) [] h = absurd h
+  length-frames r (F ∷ Fs) (w ∷ ws) h = ap suc (length-frames F.result Fs ws h.1)
+
+  deep : (a b : ℕ) → nat_lt a b ≡ true → nat_lt (suc a) (suc (suc b)) ≡ true
+  deep a b e = lt-ltb (suc a) (suc (suc b)) (omega (arith, ltb-true a b e))
+
+  module _ (C : Ctx) (ex : List Value) (e : List Place) (ss : List (List Place)) (ws : List Wit) (ix cl : ℕ) (r : Option ValType) (l ops : List Value) (en : ℕ) (kd : Kind) (Ls : List Label) (Fs : List Frame) (g : World) (co : List CollectorCall) (N : Nodes) (f : FitsFrame M E gl None (frame ix r cl l (label ops N en kd ∷ Ls)) (wit C ex (e ∷ ss))) (fs : FitsFrames M E gl W.result r Fs ws) (wf : WorldFits M gl g) where
+    abbrev FF : Frame
+    FF = frame ix r cl l (label ops N en kd ∷ Ls)
+
+    abbrev LL : Label
+    LL = label ops N en kd
+
+    abbrev es : List Place
+    es = e ++ joined ss
+
+    abbrev ls : List Info
+    ls = info kd ∷ infos Ls
+
+    abbrev X : Shell
+    X = shell W C r kd Ls ss Fs ws
+
+    abbrev g0 : World
+    g0 = flagged M g (values.I32 0)
+
+    abbrev o : ℕ
+    o = offset_in N en
+
+    gt : types g.globals ≡ global_types C.source
+    gt = wf.globals ∙ sym f.flag
+
+    sp : Speaks M' C.source
+    sp = subst (Speaks M') (sym f.funcs) S.speaks
+
+    size : length C.locals ≡ length l
+    size = len_of l C.locals f.size
+
+    -- a verdict is a trap, and this code hands over the operands of this frame: it hands over its values, and then the others do
+    trap_out : (t : Config) (j : ℕ) (k : Nodes) (ex1 : List Value) (H : Nodes) → types ex1 ≡ added C.slots → slice_get ex1 (kind_at C) ≡ Some (values.I32 (suc j)) → Hands M' C sp M l (leaves None) (armed X k []).below X.frames g 0 co (length ls) H (LL ∷ Ls) (slice_set ex1 (offset_at C) (values.I32 o)) → To M' 1 34 t (st (armed X k []) (l ++ ex1) [] (const (values.I32 o) (set C (offset_at C) H)) g0 co) → After M M' E gl W t (traps (suc j) (config (FF ∷ Fs) g co))
+    trap_out t j k ex1 H room kd hands pre =
+        let X1 = armed X k [] in
+        let v3 = frame_out M' C sp M l f.size ex1 (LL ∷ Ls) (length ls) X1.kind X1.below X1.frames g 0 co o (suc j) H room kd gt (exit_branch C ex None [] k LL Ls e ss f.labels) hands in
+        let all : Gets M' 1 E t (deliver M' (zero_vs C.result) X.frames (flagged M g (values.I32 1)) (collector_calls.Frame (suc j) C.index o (length C.locals) ∷ tell_locals l (tell_labels (LL ∷ Ls) co))) = weaken M' (seq M' pre v3) (omega arith) (omega (arith, f.small)) in
+        let up : Up M M' E gl W S.speaks t 1 E r Fs ws g (tell_frame (suc j) o FF co) = renamed M M' E gl W S.speaks t 1 E C.result r C.index ix (length C.locals) (length l) o (suc j) X.frames g (tell_locals l (tell_labels (LL ∷ Ls) co)) f.result f.idx size all in
+        inr (wf, weaken M' (up_all M M' E gl W S.speaks Fs ws g (tell_frame (suc j) o FF co) t 1 E r fs wf up) (omega arith) (omega arith))
+
+    -- the verdict of a guard
+    pub trap_from : (t : Config) (j : ℕ) (k : Nodes) → To M' 1 30 t (st X (l ++ ex) (values.I32 (suc j) ∷ []) (tested C ls es o k) g0 co) → After M M' E gl W t (traps (suc j) (config (FF ∷ Fs) g co))
+    trap_from t j k pre =
+        let h = f.labels in
+        let at : slice_get (types ex) (kind_at C) ≡ Some I32 = rw f.room (added_kind C.slots) in
+        let v = values.I32 (suc j) in
+        let ex1 = slice_set ex (kind_at C) v in
+        let low = room_height C es N h.2 in
+        let v1 = caught_to M' C l size {X = X} {g = g0} {co = co} ex j ls es o k f.room in
+        let h1 = fits_put C ex None (LL ∷ Ls) (e ∷ ss) (kind_at C) v (omega (arith, low)) h in
+        let h2 = fits_put C ex1 None (LL ∷ Ls) (e ∷ ss) (offset_at C) (values.I32 o) (omega (arith, low)) h1 in
+        let X1 = armed X k [] in
+        let hands : Hands M' C sp M l X1.kind X1.below X1.frames g 0 co (length ls) (hand C es (to_exit ls)) (LL ∷ Ls) (slice_set ex1 (offset_at C) (values.I32 o)) = weaken M' (hand_to M' C sp l size (slice_set ex1 (offset_at C) (values.I32 o)) None (LL ∷ Ls) (e ∷ ss) (to_exit ls) h2) (omega arith) (omega (arith, low)) in
+        trap_out t j k ex1 (hand C es (to_exit ls)) (types-slice_set ex (kind_at C) I32 v at refl ∙ f.room) (slice_get-put_same ex (kind_at C) I32 v at) hands (weaken M' (seq M' pre v1) (omega arith) (omega arith))
+
+    -- a function is called, from a state of the target that is about to call it: directly, or through the table inside an arm
+    module _ (ex1 : List Value) (below : List Value) (e' : List Place) (rest : Nodes) (fn : Function) (vs : List Value) (dq : Bool) (others : Option Nodes) where
+      abbrev r1 : Option ValType
+      r1 = result_of (function_type fn)
+
+      abbrev es1 : List Place
+      es1 = e' ++ joined ss
+
+      abbrev goes_on : Nodes
+      goes_on = rewrite C ls (grown r1 es1) rest
+
+      abbrev k1_of : Bool → Option Nodes → Nodes
+      k1_of q None = after_direct q C ls r1 es1 o (λ es'. rewrite C ls es' rest)
+      k1_of q (Some k) = store C r1 es1 stop
+
+      abbrev Y_of : Option Nodes → Shell
+      Y_of None = X
+      Y_of (Some k) = armed X (test_both C ls es1 o k goes_on) []
+
+      abbrev k1 : Nodes
+      k1 = k1_of dq others
+
+      abbrev Y : Shell
+      Y = Y_of others
+
+      abbrev Calling : ℕ → List Value → Nodes → Stepped
+      Calling g' stk nd = calls M' (function_at M'.program (mapped M.program.module_ g')) (mapped M.program.module_ g') (vs ++ []) 0 k1 (frame Y.idx Y.result 0 (l ++ ex1) (label stk nd 0 Y.kind ∷ Y.below)) (label stk nd 0 Y.kind) Y.below Y.frames g0 co
+
+      abbrev Below : Type 0
+      Below = FitsLabels C ex1 r1 (label below rest en kd ∷ Ls) (e' ∷ ss)
+
+      -- the added locals when it has given its results
+      abbrev after_of : List Value → List Value
+      after_of vs' = stored r1 (λ t. slot t (length es1)) vs' ex1
+
+      -- where the target stands when the function has given its results
+      come_back : (g' : World) (vs' : List Value) (t : Config) → types ex1 ≡ types ex → NoKind C ex1 others → Below → WorldFits M gl g' → exactly r1 vs' ≡ Some vs' → (q : ℕ) → q ≤ C.slots + 40 → To M' 1 q t (st Y (l ++ ex1) vs' k1 (flagged M g' (values.I32 0)) co) → After M M' E gl W t (next (config (frame ix r cl l (label (vs' ++ below) rest en kd ∷ Ls) ∷ Fs) g' co))
+      unfolding int_binary
+      come_back g' vs' t same nk hb wf' x q le pre =
+          let room1 = same ∙ f.room in
+          let pl = grown_fits C r1 es1 ex1 room1 hb.1 in
+          let hs = settle C ex1 r1 (label below rest en kd) Ls e' ss vs' room1 x hb in
+          let g1 = flagged M g' (values.I32 0) in
+          let fl = flag_len C g' (wf'.globals ∙ sym f.flag) in
+          let go : To M' 1 (C.slots + 50) t (st X (l ++ (after_of vs')) [] goes_on g1 co) = weaken M' (seq M' pre (behind others nk dq)) (omega arith) (omega (arith, le)) in (
+            wit C (after_of vs') (grown r1 e' ∷ ss) ∷ ws,
+            (wf', (refit l (label (vs' ++ below) rest en kd ∷ Ls) (after_of vs') (grown r1 e' ∷ ss) None cl f refl (types-stored r1 (λ t. slot t (length es1)) vs' ex1 pl x ∙ same) hs, fs)),
+            rw (← grown-append r1 e' (joined ss)) (weaken M' go (omega arith) (omega (arith, f.small))),
+          )
+        where
+          stored_to : {Z : Shell} (k : Nodes) → To M' 0 1 (st Z (l ++ ex1) vs' (store C r1 es1 k) (flagged M g' (values.I32 0)) co) (st Z (l ++ (after_of vs')) [] k (flagged M g' (values.I32 0)) co)
+          stored_to k = store_to M' C l size ex1 r1 es1 vs' k (grown_fits C r1 es1 ex1 (same ∙ f.room) hb.1) x
+
+          low : length es1 ≤ C.slots
+          low = omega (arith, grown_longer r1 es1, room_height C (grown r1 es1) rest hb.2)
+
+          behind : (under : Option Nodes) → NoKind C ex1 under → (q : Bool) → To M' 0 10 (st (Y_of under) (l ++ ex1) vs' (k1_of q under) (flagged M g' (values.I32 0)) co) (st X (l ++ (after_of vs')) [] goes_on (flagged M g' (values.I32 0)) co)
+          behind None nk true = weaken M' (stored_to goes_on) (omega arith) (omega arith)
+          behind None nk false =
+              weaken M' (seq M' (stored_to (test_flag C ls es1 o goes_on)) (flag_down M M' E gl W C X (l ++ (after_of vs')) g' co ls es1 o goes_on (flag_len C g' (wf'.globals ∙ sym f.flag)))) (omega arith) (omega arith)
+          behind (Some k) nk q =
+              let kd0 : slice_get (after_of vs') (kind_at C) ≡ Some (values.I32 0) = stored_other r1 (λ t. slot t (length es1)) vs' ex1 (kind_at C) (λ t. kind_no_slot C (length es1) t low) ∙ nk in
+              let K = test_both C ls es1 o k goes_on in
+              let g1 = flagged M g' (values.I32 0) in
+              let s2 : To M' 1 1 (st (armed X K []) (l ++ (after_of vs')) [] stop g1 co) (st X (l ++ (after_of vs')) [] K g1 co) = one_step M' _ _ refl in
+              let s3 = both_to M M' E gl W C X l (after_of vs') g' co ls es1 o k goes_on 0 0 0 size kd0 (flag_len C g' (wf'.globals ∙ sym f.flag)) refl in
+              weaken M' (seq M' (stored_to stop) (seq M' s2 (seq M' s3 (if_zero_to M')))) (omega arith) (omega arith)
+
+    abbrev DirectFits : Function → Bool → Option Nodes → Type 0
+    DirectFits (imported i type) dq others = Unit {0}
+    DirectFits (defined b tree type) dq None = dq ≡ false
+    DirectFits (defined b tree type) dq (Some k) = Unit {0}
+
+    -- the frames under a call of a defined function
+    abbrev stands_under : Shell → List Value → Nodes → List Frame
+    stands_under Z ex1 k = frame Z.idx Z.result 0 (l ++ ex1) (label [] k 0 Z.kind ∷ Z.below) ∷ Z.frames
+
+    frames_under : (ex1 below : List Value) (e' : List Place) (rest : Nodes) (b : Body) (tree : Tree) (type : FuncType) (vs : List Value) (dq : Bool) (others : Option Nodes) → DirectFits (defined b tree type) dq others → stands_under (Y ex1 below e' rest (defined b tree type) vs dq others) ex1 (k1 ex1 below e' rest (defined b tree type) vs dq others) ≡ t_frames W (result_of type) (frame ix r o l (label below rest en kd ∷ Ls) ∷ Fs) (wit_under C ex1 (e' ∷ ss) others ∷ ws)
+    frames_under ex1 below e' rest b tree type vs dq None df = rw df refl
+    frames_under ex1 below e' rest b tree type vs dq (Some k) df = refl
+
+    frames_same : (ex1 below : List Value) (e' : List Place) (rest : Nodes) (fn : Function) (vs : List Value) (dq : Bool) (others : Option Nodes) → (Y ex1 below e' rest fn vs dq others).frames ≡ X.frames
+    frames_same ex1 below e' rest fn vs dq None = refl
+    frames_same ex1 below e' rest fn vs dq (Some k) = refl
+
+    abbrev Y_frame : Shell → List Value → List Value → Nodes → Frame
+    Y_frame Z ex1 stk nd = frame Z.idx Z.result 0 (l ++ ex1) (label stk nd 0 Z.kind ∷ Z.below)
+
+    -- a host function has answered
+    answered : (ex1 below : List Value) (e' : List Place) (rest : Nodes) (i : Import) (type : FuncType) (vs : List Value) (dq : Bool) (others : Option Nodes) (call : HostCall) (stk : List Value) (nd : Nodes) (t : Config) (n : ℕ) (A A' : Answer) → types ex1 ≡ types ex → NoKind C ex1 others → Below ex1 below e' rest (imported i type) vs dq others → n ≤ C.slots + 40 → AnswerRel M gl (result_of type) (values.I32 0) A A' → Gets M' 1 n t (host M' A' call [] (k1 ex1 below e' rest (imported i type) vs dq others) (Y_frame (Y ex1 below e' rest (imported i type) vs dq others) ex1 stk nd) (label stk nd 0 (Y ex1 below e' rest (imported i type) vs dq others).kind) (Y ex1 below e' rest (imported i type) vs dq others).below (Y ex1 below e' rest (imported i type) vs dq others).frames g0 co) → After M M' E gl W t (host M A call below rest FF LL Ls Fs g co)
+    answered ex1 below e' rest i type vs dq others call stk nd t n (replied w v) A' same nk hb le h pre =
+        come_back ex1 below e' rest (imported i type) vs dq others w (option_to_list v) t same nk hb h.1 h.2 n le (rw (h.0, append-nil) at pre)
+    answered ex1 below e' rest i type vs dq others call stk nd t n (told k) A' same nk hb le h pre = absurd h
+    answered ex1 below e' rest i type vs dq others call stk nd t n silent A' same nk hb le h pre = (wf, _, refl, refl, weaken M' (rw h at pre) (omega arith) (omega (arith, le, f.small)))
+    answered ex1 below e' rest i type vs dq others call stk nd t n (misfit reply) A' same nk hb le h pre = (wf, _, refl, refl, weaken M' (rw h at pre) (omega arith) (omega (arith, le, f.small)))
+
+    -- a defined function begins
+    begun : (ex1 below : List Value) (e' : List Place) (rest : Nodes) (b : Body) (tree : Tree) (type : FuncType) (vs : List Value) (dq : Bool) (others : Option Nodes) (g' : ℕ) (stk : List Value) (nd : Nodes) (t : Config) (n : ℕ) (d : Bool) → function_at M.program g' ≡ Some (defined b tree type) → DirectFits (defined b tree type) dq others → types ex1 ≡ types ex → NoKind C ex1 others → Below ex1 below e' rest (defined b tree type) vs dq others → types (reverse vs) ≡ type.params → n ≤ C.slots + 40 → nat_lt (suc (length Fs)) M.depth ≡ d
+        → ((k : Linked M M' E gl g' b tree type) → let Z = Y ex1 below e' rest (defined b tree type) vs dq others in Gets M' 1 n t (enters M' (nat_lt (suc (length Z.frames)) M'.depth) (entered (mapped M.program.module_ g') k.new (tree_of (body (ctx_of M.program g' b type k.slots) tree.nodes)) type (reverse vs)) [] 0 (k1 ex1 below e' rest (defined b tree type) vs dq others) (Y_frame Z ex1 stk nd) (label stk nd 0 Z.kind) Z.below Z.frames g0 co))
+        → After M M' E gl W t (enters M d (entered g' b tree type (reverse vs)) below o rest FF LL Ls Fs g co)
+    begun ex1 below e' rest b tree type vs dq others g' stk nd t n false at df same nk hb ty le d pre = inl refl
+    begun ex1 below e' rest b tree type vs dq others g' stk nd t n true at df same nk hb ty le d pre =
+        let k = S.functions g' b tree type at in
+        let C' = ctx_of M.program g' b type k.slots in
+        let args = reverse vs in
+        let ex' = zeros (added k.slots) in
+        let Z = Y ex1 below e' rest (defined b tree type) vs dq others in
+        let code = k1 ex1 below e' rest (defined b tree type) vs dq others in
+        let few : length Z.frames ≡ suc (length Fs) = ap length (frames_same ex1 below e' rest (defined b tree type) vs dq others) ∙ length-frames r Fs ws fs in
+        let depth : nat_lt (suc (length Z.frames)) M'.depth ≡ true = rw (few, S.deeper) (deep (suc (length Fs)) M.depth d) in
+        let locals : args ++ zeros (declared_locals k.new.groups) ≡ (args ++ zeros (declared_locals b.groups)) ++ ex' = new_locals args (declared_locals k.new.groups) (declared_locals b.groups) (added k.slots) k.locals in
+        let mid = config (frame (mapped M.program.module_ g') (result_of type) 0 ((args ++ zeros (declared_locals b.groups)) ++ ex') (label [] (body C' tree.nodes) 0 (returns (result_of type)) ∷ []) ∷ stands_under Z ex1 code) g0 co in
+        let s1 : To M' 1 n t mid = rw (depth, locals) at (pre k) in
+        let s3 : To M' 2 2 mid (config (t_frame now (entered g' b tree type args) (wit C' ex' ([] ∷ [])) ∷ stands_under Z ex1 code) g0 co) = seq M' (one_step M' mid _ refl) (one_step M' _ _ refl) in
+        let callee : FitsFrame M E gl None (entered g' b tree type args) (wit C' ex' ([] ∷ [])) =
+        record { size = types-locals args type.params (declared_locals b.groups) ty; room = types-zeros (added k.slots); idx = refl; result = refl; funcs = refl; base = refl; helpers = refl; flag = ap global_types (sym f.funcs) ∙ f.flag; small = k.small; narrow = k.narrow; labels = (tt, tt, k.room, refl, tt); no_kind = tt } in (
+          wit C' ex' ([] ∷ []) ∷ wit_under C ex1 (e' ∷ ss) others ∷ ws,
+          (wf, (callee, (refit_under l (label below rest en kd ∷ Ls) ex1 (e' ∷ ss) others (result_of type) o f refl same hb nk, fs))),
+          subst (λ z. To M' 1 E t (config (t_frame now (entered g' b tree type args) (wit C' ex' ([] ∷ [])) ∷ z) g0 co)) (frames_under ex1 below e' rest b tree type vs dq others df) (weaken M' (seq M' s1 s3) (omega arith) (omega (arith, le, f.small))),
+        )
+
+    pub called : (ex1 below : List Value) (e' : List Place) (rest : Nodes) (fn : Function) (vs : List Value) (dq : Bool) (others : Option Nodes) (g' : ℕ) (stk : List Value) (nd : Nodes) (t T : Config) (n : ℕ) (q : Bool) → function_at M.program g' ≡ Some fn → DirectFits fn dq others → cut (length (function_type fn).params) (vs ++ []) ≡ parts vs [] → types ex1 ≡ types ex → NoKind C ex1 others → Below ex1 below e' rest fn vs dq others → n ≤ C.slots + 35 → same_types (types (reverse vs)) (function_type fn).params ≡ q → To M' 0 n t T → step M' T ≡ Calling ex1 below e' rest fn vs dq others g' stk nd → After M M' E gl W t (applied_if M q fn g' (reverse vs) below o rest FF LL Ls Fs g co)
+    called ex1 below e' rest fn vs dq others g' stk nd t T n false at df c same nk hb le ty pre st_ = tt
+    called ex1 below e' rest (imported i type) vs dq others g' stk nd t T n true at df c same nk hb le ty pre st_ =
+        let k = S.imports g' i type at in
+        let hc = host_call g' i type (reverse vs) in
+        let args = reverse vs in
+        let m = M'.program.module_ in
+        let gm = mapped M.program.module_ g' in
+        let Z = Y ex1 below e' rest (imported i type) vs dq others in
+        let FT = Y_frame Z ex1 stk nd in
+        let kk = k1 ex1 below e' rest (imported i type) vs dq others in
+        let e1 : step M' T ≡ host M' (answer M'.collects m (host_call gm i type args) g0) (host_call gm i type args) [] kk FT (label stk nd 0 Z.kind) Z.below Z.frames g0 co = rw (k.target, c, ty) at st_ in
+        let heard : answer M'.collects m (host_call gm i type args) g0 ≡ served_by hc g0 g.replies =
+        ap (λ c. answer c m (host_call gm i type args) g0) S.speaks.collects ∙ ap (λ z. answer true m (host_call z i type args) g0) k.same ∙ ap (λ z. told_or z hc g0) (k.unheard args) in
+        let e2 = e1 ∙ ap₂ (λ A z. host M' A (host_call z i type args) [] kk FT (label stk nd 0 Z.kind) Z.below Z.frames g0 co) heard k.same in
+        let go : Gets M' 1 (n + 1) t (host M' (served_by hc g0 g.replies) hc [] kk FT (label stk nd 0 Z.kind) Z.below Z.frames g0 co) = weaken M' (seq M' pre (one_step M' T _ e2)) (omega arith) (omega arith) in
+        let quietly : answer M.collects M.program.module_ hc g ≡ served_by hc g g.replies = ap (λ c. answer c M.program.module_ hc g) S.quiet in
+        subst (λ A. After M M' E gl W t (host M A hc below rest FF LL Ls Fs g co)) (sym quietly) (answered ex1 below e' rest i type vs dq others hc stk nd t (n + 1) (served_by hc g g.replies) (served_by hc g0 g.replies) same nk hb (omega (arith, le)) (served_rel M gl (values.I32 0) hc g wf g.replies) go)
+    called ex1 below e' rest (defined b tree type) vs dq others g' stk nd t T n true at df c same nk hb le ty pre st_ =
+        begun ex1 below e' rest b tree type vs dq others g' stk nd t (n + 1) (nat_lt (suc (length Fs)) M.depth) at df same nk hb (same_types-same (types (reverse vs)) type.params ty) (omega (arith, le)) refl
+        (λ k. weaken M' (rw (k.target, c, ty) at (seq M' pre (one_step M' T _ st_))) (omega arith) (omega arith))
+
+  -- ---- a direct call
+
+  module _ (C : Ctx) (ex : List Value) (e : List Place) (ss : List (List Place)) (ws : List Wit) (ix cl : ℕ) (r : Option ValType) (l ops : List Value) (en : ℕ) (kd : Kind) (Ls : List Label) (Fs : List Frame) (g : World) (co : List CollectorCall) (at g' : ℕ) (rest : Nodes) (f : FitsFrame M E gl None (frame ix r cl l (label ops (jump at (Call g') rest) en kd ∷ Ls)) (wit C ex (e ∷ ss))) (fs : FitsFrames M E gl W.result r Fs ws) (wf : WorldFits M gl g) where
+    abbrev FD : Frame
+    FD = frame ix r cl l (label ops (jump at (Call g') rest) en kd ∷ Ls)
+
+    abbrev LD : Label
+    LD = label ops (jump at (Call g') rest) en kd
+
+    abbrev esd : List Place
+    esd = e ++ joined ss
+
+    abbrev lsd : List Info
+    lsd = info kd ∷ infos Ls
+
+    abbrev XD : Shell
+    XD = shell W C r kd Ls ss Fs ws
+
+    direct_fits : (fn : Function) → function_at M.program g' ≡ Some fn → DirectFits C ex e ss ws ix cl r l ops en kd Ls Fs g co (jump at (Call g') rest) f fs wf fn (nat_lt g' (import_count M.program.module_)) None
+    direct_fits (imported i type) at_ = tt
+    direct_fits (defined b tree type) at_ = S.undirect g' b tree type at_
+
+    cut_call : (fn : Function) (u : Cut) → function_at M.program g' ≡ Some fn → cut (length (function_type fn).params) ops ≡ u → FitsIn C (result_of (function_type fn)) (less (length (function_type fn).params) esd) × Room C (grown (result_of (function_type fn)) (less (length (function_type fn).params) esd)) rest → After M M' E gl W (st XD (l ++ ex) [] (load C (length (function_type fn).params) esd (call (mapped M.program.module_ g') (after_direct (nat_lt g' (import_count M.program.module_)) C lsd (result_of (function_type fn)) (less (length (function_type fn).params) esd) at (λ es'. rewrite C lsd es' rest)))) (flagged M g (values.I32 0)) co) (calls_on M fn g' u at rest FD LD Ls Fs g co)
+    cut_call fn short at_ c rm = tt
+    cut_call fn (parts vs below) at_ c rm =
+        let h = f.labels in
+        let m = length (function_type fn).params in
+        let r1 = result_of (function_type fn) in
+        let lh = less_holds ex m (joined ss) e ops vs below h.0 c in
+        let e' = lh.0 in
+        let dq = nat_lt g' (import_count M.program.module_) in
+        let k = after_direct dq C lsd r1 (e' ++ joined ss) at (λ es'. rewrite C lsd es' rest) in
+        let code = call (mapped M.program.module_ g') k in
+        let g0 = flagged M g (values.I32 0) in
+        let hb : FitsLabels C ex r1 (label below rest en kd ∷ Ls) (e' ∷ ss) = (lh.2, subst (FitsIn C r1) lh.1 rm.0, subst (λ z. Room C (grown r1 z) rest) lh.1 rm.1, h.3, h.4) in
+        let T = st XD (l ++ ex) (vs ++ []) code g0 co in
+        let s1 : To M' m m (st XD (l ++ ex) [] (load C m esd code) g0 co) T = load_to M' C l (len_of l C.locals f.size) ex m (joined ss) e ops [] vs below code h.0 c in
+        let few : m ≤ C.slots = omega (arith, cut_len m ops vs below c, holds_len ex (joined ss) e ops h.0, length-append e (joined ss), h.2.0) in
+        rw lh.1 (called C ex e ss ws ix cl r l ops en kd Ls Fs g co (jump at (Call g') rest) f fs wf ex below e' rest fn vs dq None g' (vs ++ []) code (st XD (l ++ ex) [] (load C m esd code) g0 co) T m (same_types (types (reverse vs)) (function_type fn).params) at_ (direct_fits fn at_) (cut_all m ops vs below [] c) refl tt hb (omega (arith, few)) refl (weaken M' s1 (omega arith) (omega arith)) refl)
+
+    abbrev code_with : FuncType → Module → Nodes
+    code_with type m = load C (length type.params) esd (call (mapped m g') (after_direct (nat_lt g' (import_count m)) C lsd (result_of type) (less (length type.params) esd) at (λ es'. rewrite C lsd es' rest)))
+
+    pub call_node : (q : Option Function) → function_at M.program g' ≡ q → After M M' E gl W (tgt M W C ex e ss ws r l kd Ls Fs g co (jump at (Call g') rest)) (calls M q g' ops at rest FD LD Ls Fs g co)
+    call_node None at_ = tt
+    call_node (Some fn) at_ =
+        let same : type_at C.source g' ≡ Some (function_type fn) = ap (λ z. type_at z g') f.funcs ∙ S.type_is g' fn at_ in
+        let go = λ (es' : List Place). rewrite C lsd es' rest in
+        let rm = subst (λ z. Room_call C z esd (λ es'. Room C es' rest)) same f.labels.2.1 in
+        subst (λ z. After M M' E gl W (st XD (l ++ ex) [] (call_code C lsd esd at g' z go) (flagged M g (values.I32 0)) co) (calls M (Some fn) g' ops at rest FD LD Ls Fs g co)) (sym same)
+        (subst (λ m. After M M' E gl W (st XD (l ++ ex) [] (code_with (function_type fn) m) (flagged M g (values.I32 0)) co) (calls M (Some fn) g' ops at rest FD LD Ls Fs g co)) (sym f.funcs)
+        (cut_call fn (cut (length (function_type fn).params) ops) at_ refl rm))
+
+pub same_functype-same : (a b : FuncType) → same_functype a b ≡ true → a ≡ b
+same_functype-same a b e =
+    let h = and_is (same_types a.params b.params) (same_types a.results b.results) e in
+    let ps = same_types-same a.params b.params h.0 in let rs = same_types-same a.results b.results h.1 in
+    λ i. record { params = ps i; results = rs i }
+  where
+    and_is : (a b : Bool) → (a && b) ≡ true → (a ≡ true) × (b ≡ true)
+    and_is true b e = (refl, e)
+    and_is false b e = absurd (cc)
+
+pub pick_map : (f : Option ℕ → ℕ) (xs : List (Option ℕ)) (d n : ℕ) (q : Option (Option ℕ)) → slice_get xs n ≡ q → pick (map f xs) d n ≡ unwrap_or (option_map f q) d
+pick_map f [] d n q e = let z : None ≡ q = e in rw (← z) refl
+pick_map f (x ∷ xs) d zero q e = rw (← e) refl
+pick_map f (x ∷ xs) d (suc n) q e = pick_map f xs d n q e
+
+pub same_types-refl : (a : List ValType) → same_types a a ≡ true
+same_types-refl [] = refl
+same_types-refl (I32 ∷ a) = same_types-refl a
+same_types-refl (I64 ∷ a) = same_types-refl a
+
+pub same_functype-refl : (a : FuncType) → same_functype a a ≡ true
+same_functype-refl a = ap₂ (λ p q. p && q) (same_types-refl a.params) (same_types-refl a.results)
+
+-- ---- the helper
+
+-- the label of a kind
+abbrev Label_kind : ℕ → ℕ → Type 0
+Label_kind lbl kind = (lbl ≡ 0) × (kind ≡ 0) ⊎ (lbl ≡ 1) × (kind ≡ 5) ⊎ (lbl ≡ 2) × (kind ≡ 6) ⊎ (lbl ≡ 3) × (kind ≡ 7)
+
+module _ (M M' : Engine) (t : ℕ) (k : HelperLinked M M' t) where
+  abbrev index : ℕ
+  index = helper_base M.program.module_ + place_in t (helped M.program)
+
+  module _ (X : Shell) (tl : List Value) (kk : Nodes) (g : World) (co : List CollectorCall) (n : ℕ) where
+    abbrev inner : Nodes
+    inner = jump 0 (BrTable (map (entry_label M.program.module_ t) (first_table M.program.module_)) 1) stop
+
+    abbrev in_helper : List Label → Config
+    in_helper Ls = config (frame index (Some I32) 0 (values.I32 n ∷ []) Ls ∷ frame X.idx X.result 0 tl (label [] kk 0 X.kind ∷ X.below) ∷ X.frames) g co
+
+    abbrev at_start : Config
+    at_start = in_helper (label [] (helper M.program.module_ t) 0 (returns (Some I32)) ∷ [])
+
+    abbrev at_table : Config
+    at_table = in_helper (label (values.I32 n ∷ []) inner 0 (leaves None) ∷ label [] (says 0) 0 (leaves None) ∷ label [] (says 5) 0 (leaves None) ∷ label [] (says 6) 0 (leaves None) ∷ label [] (says 7) 0 (returns (Some I32)) ∷ [])
+
+    starts : nat_lt (suc (length X.frames)) M'.depth ≡ true → To M' 1 1 (st X tl (values.I32 n ∷ []) (call index kk) g co) at_start
+    starts d = one_step M' _ _ (rw (k.target, d, k.locals) refl)
+
+    opened : To M' 5 5 at_start at_table
+    opened = seq M' (one_step M' _ _ refl) (seq M' (one_step M' _ _ refl) (seq M' (one_step M' _ _ refl) (seq M' (one_step M' _ _ refl) (one_step M' _ _ refl))))
+
+    said : (lbl kind : ℕ) → pick (map (entry_label M.program.module_ t) (first_table M.program.module_)) 1 n ≡ lbl → Label_kind lbl kind → To M' 3 3 at_table (st X tl (values.I32 kind ∷ []) kk g co)
+    said lbl kind e (inl x) = rw x.1 (seq M' (one_step M' at_table (next (in_helper (label [] (says 0) 0 (leaves None) ∷ label [] (says 5) 0 (leaves None) ∷ label [] (says 6) 0 (leaves None) ∷ label [] (says 7) 0 (returns (Some I32)) ∷ []))) (rw (e ∙ x.0) refl)) (seq M' (one_step M' _ _ refl) (one_step M' _ _ refl)))
+    said lbl kind e (inr (inl x)) = rw x.1 (seq M' (one_step M' at_table (next (in_helper (label [] (says 5) 0 (leaves None) ∷ label [] (says 6) 0 (leaves None) ∷ label [] (says 7) 0 (returns (Some I32)) ∷ []))) (rw (e ∙ x.0) refl)) (seq M' (one_step M' _ _ refl) (one_step M' _ _ refl)))
+    said lbl kind e (inr (inr (inl x))) = rw x.1 (seq M' (one_step M' at_table (next (in_helper (label [] (says 6) 0 (leaves None) ∷ label [] (says 7) 0 (returns (Some I32)) ∷ []))) (rw (e ∙ x.0) refl)) (seq M' (one_step M' _ _ refl) (one_step M' _ _ refl)))
+    said lbl kind e (inr (inr (inr x))) = rw x.1 (seq M' (one_step M' at_table (next (in_helper (label [] (says 7) 0 (returns (Some I32)) ∷ []))) (rw (e ∙ x.0) refl)) (seq M' (one_step M' _ _ refl) (one_step M' _ _ refl)))
+
+    helper_in : (lbl kind : ℕ) → nat_lt (suc (length X.frames)) M'.depth ≡ true → pick (map (entry_label M.program.module_ t) (first_table M.program.module_)) 1 n ≡ lbl → Label_kind lbl kind → To M' 1 12 (st X tl (values.I32 n ∷ []) (call index kk) g co) (st X tl (values.I32 kind ∷ []) kk g co)
+    helper_in lbl kind d e lk = weaken M' (seq M' (starts d) (seq M' opened (said lbl kind e lk))) (omega arith) (omega arith)
+
+-- ---- an indirect call
+
+module _ (M M' : Engine) (E : ℕ) (gl : List ValType) (W : Wrap) (S : Stands M M' E gl) where
+  module _ (C : Ctx) (ex : List Value) (e1 : Place) (e : List Place) (ss : List (List Place)) (ws : List Wit) (ix cl : ℕ) (r : Option ValType) (l : List Value) (n : ℕ) (ops : List Value) (en : ℕ) (kd : Kind) (Ls : List Label) (Fs : List Frame) (g : World) (co : List CollectorCall) (at t : ℕ) (rest : Nodes) (f : FitsFrame M E gl None (frame ix r cl l (label (values.I32 n ∷ ops) (jump at (CallIndirect t) rest) en kd ∷ Ls)) (wit C ex ((e1 ∷ e) ∷ ss))) (fs : FitsFrames M E gl W.result r Fs ws) (wf : WorldFits M gl g) (shallow : suc (length Fs) ≤ M.depth) where
+    abbrev NI : Nodes
+    NI = jump at (CallIndirect t) rest
+
+    abbrev FI : Frame
+    FI = frame ix r cl l (label (values.I32 n ∷ ops) NI en kd ∷ Ls)
+
+    abbrev LI : Label
+    LI = label (values.I32 n ∷ ops) NI en kd
+
+    abbrev esi : List Place
+    esi = e ++ joined ss
+
+    abbrev lsi : List Info
+    lsi = info kd ∷ infos Ls
+
+    abbrev XI : Shell
+    XI = shell W C r kd Ls ss Fs ws
+
+    abbrev gi : World
+    gi = flagged M g (values.I32 0)
+
+    abbrev exi : List Value
+    exi = slice_set ex (kind_at C) (values.I32 0)
+
+    -- the operands left, and the code that hands over the others
+    abbrev left_by : FuncType → List Place
+    left_by type = less (length type.params) esi
+
+    abbrev others_of : FuncType → Nodes
+    others_of type = hand_top C (suc (length type.params)) (e1 ∷ esi) stop
+
+    -- the call, and what is behind it
+    abbrev made : FuncType → Nodes
+    made type = load C (suc (length type.params)) (e1 ∷ esi) (jump 0 (CallIndirect t) (store C (result_of type) (left_by type) stop))
+
+    abbrev goes_on_i : FuncType → Nodes
+    goes_on_i type = rewrite C lsi (grown (result_of type) (left_by type)) rest
+
+    abbrev behind_i : FuncType → Nodes
+    behind_i type = test_both C lsi (left_by type) at (others_of type) (goes_on_i type)
+
+    -- behind the guard
+    abbrev weighed : FuncType → Nodes
+    weighed type = set C (kind_at C) (get C (kind_at C) (basic 0 (Eqz I32) (if_any (made type) (behind_i type))))
+
+    abbrev guarded_call : FuncType → Nodes
+    guarded_call type = fetch C e1 (length esi) (call (helper_of C t) (weighed type))
+
+    size_i : length C.locals ≡ length l
+    size_i = len_of l C.locals f.size
+
+    -- the guard's verdict
+    judged : (type : FuncType) (q : Option (Option ℕ)) (lbl kind : ℕ) → Has t C.helpers → slice_get (first_table M.program.module_) n ≡ q → unwrap_or (option_map (entry_label M.program.module_ t) q) 1 ≡ lbl → Label_kind lbl kind → To M' 1 13 (st XI (l ++ ex) [] (guarded_call type) gi co) (st XI (l ++ ex) (values.I32 kind ∷ []) (weighed type) gi co)
+    judged type q lbl kind has tq le lk =
+        let kk = weighed type in
+        let h = f.labels in
+        let has' = subst (Has t) f.helpers has in
+        let s1 : To M' 1 1 (st XI (l ++ ex) [] (guarded_call type) gi co) (st XI (l ++ ex) (values.I32 n ∷ []) (call (helper_of C t) kk) gi co) = fetch_to M' C l size_i ex (length esi) e1 (values.I32 n) h.0.0 in
+        let d : nat_lt (suc (length XI.frames)) M'.depth ≡ true = rw (length-frames M M' E gl W S r Fs ws fs, S.deeper) (lt-ltb (suc (suc (length Fs))) (suc (suc M.depth)) (omega (arith, shallow))) in
+        let idx : helper_of C t ≡ helper_base M.program.module_ + place_in t (helped M.program) = ap₂ (λ b hs. b + place_in t hs) f.base f.helpers in
+        let pk = pick_map (entry_label M.program.module_ t) (first_table M.program.module_) 1 n q tq ∙ le in
+        let s2 = subst (λ z. To M' 1 12 (st XI (l ++ ex) (values.I32 n ∷ []) (call z kk) gi co) (st XI (l ++ ex) (values.I32 kind ∷ []) kk gi co)) (sym idx) (helper_in M M' t (S.helpers t has') XI (l ++ ex) kk gi co n lbl kind d pk lk) in
+        weaken M' (seq M' s1 s2) (omega arith) (omega arith)
+
+    -- the verdict is kept and tested
+    weighed_to : (type : FuncType) (kind : ℕ) → To M' 3 3 (st XI (l ++ ex) (values.I32 kind ∷ []) (weighed type) gi co) (st XI (l ++ slice_set ex (kind_at C) (values.I32 kind)) (values.I32 (bool_number (kind == 0)) ∷ []) (if_any (made type) (behind_i type)) gi co)
+    weighed_to type kind =
+        let v = values.I32 kind in
+        let exk = slice_set ex (kind_at C) v in
+        let at : slice_get (types ex) (kind_at C) ≡ Some I32 = rw f.room (added_kind C.slots) in
+        let k2 = if_any (made type) (behind_i type) in
+        let s1 : To M' 1 1 (st XI (l ++ ex) (v ∷ []) (weighed type) gi co) (st XI (l ++ exk) [] (get C (kind_at C) (basic 0 (Eqz I32) k2)) gi co) = added_set M' C l size_i ex (kind_at C) I32 v at refl in
+        let s2 : To M' 1 1 (st XI (l ++ exk) [] (get C (kind_at C) (basic 0 (Eqz I32) k2)) gi co) (st XI (l ++ exk) (v ∷ []) (basic 0 (Eqz I32) k2) gi co) = added_get M' C l size_i exk (kind_at C) v (slice_get-put_same ex (kind_at C) I32 v at) in
+        let s3 : To M' 1 1 (st XI (l ++ exk) (v ∷ []) (basic 0 (Eqz I32) k2) gi co) (st XI (l ++ exk) (values.I32 (bool_number (kind == 0)) ∷ []) k2 gi co) = step_plain M' (Eqz I32) (v ∷ []) [] (l ++ exk) gi (values.I32 (bool_number (kind == 0)) ∷ []) (values.I32 (bool_number (kind == 0)) ∷ []) refl refl refl in
+        seq M' s1 (seq M' s2 s3)
+
+    -- a kind is tested with the flag down
+    kind_stays : (lbl j : ℕ) → Label_kind lbl (suc j) → (bool_number (suc j == 0) ≡ 0) × (binary I32 Or (suc j) 0 ≡ Ok (suc j))
+    unfolding int_binary
+    kind_stays lbl j (inl x) = absurd (omega (arith, x.1))
+    kind_stays lbl j (inr (inl x)) = rw x.1 (refl, refl)
+    kind_stays lbl j (inr (inr (inl x))) = rw x.1 (refl, refl)
+    kind_stays lbl j (inr (inr (inr x))) = rw x.1 (refl, refl)
+
+    pub entry_trap : (type : FuncType) (q : Option (Option ℕ)) (lbl j : ℕ) → Has t C.helpers → slice_get (first_table M.program.module_) n ≡ q → unwrap_or (option_map (entry_label M.program.module_ t) q) 1 ≡ lbl → Label_kind lbl (suc j) → After M M' E gl W (st XI (l ++ ex) [] (guarded_call type) gi co) (traps (suc j) (config (FI ∷ Fs) g co))
+    entry_trap type q lbl j has tq le lk =
+        let h = f.labels in
+        let v = values.I32 (suc j) in
+        let exk = slice_set ex (kind_at C) v in
+        let ty : slice_get (types ex) (kind_at C) ≡ Some I32 = rw f.room (added_kind C.slots) in
+        let low : length (e1 ∷ esi) ≤ C.slots = room_height C (e1 ∷ esi) NI h.2 in
+        let kq : slice_get exk (kind_at C) ≡ Some v = slice_get-put_same ex (kind_at C) I32 v ty in
+        let room : types exk ≡ added C.slots = types-slice_set ex (kind_at C) I32 v ty refl ∙ f.room in
+        let ks = kind_stays lbl j lk in
+        let k = goes_on_i type in
+        let H = hand_left C lsi (left_by type) (others_of type) in
+        let X1 = armed XI k [] in
+        let ex3 = slice_set exk (offset_at C) (values.I32 at) in
+        let ne : kind_at C ≢ offset_at C = omega arith in
+        let kd3 : slice_get ex3 (kind_at C) ≡ Some v = slice_get-put_other exk (kind_at C) (offset_at C) (values.I32 at) ne ∙ kq in
+        let h1 = fits_put C ex None (LI ∷ Ls) ((e1 ∷ e) ∷ ss) (kind_at C) v (omega (arith, low)) h in
+        let h3 = fits_put C exk None (LI ∷ Ls) ((e1 ∷ e) ∷ ss) (offset_at C) (values.I32 at) (omega (arith, low)) h1 in
+        let sp_ = subst (Speaks M') (sym f.funcs) S.speaks in
+        let hands : Hands M' C sp_ M l X1.kind X1.below X1.frames g 0 co (length lsi) H (LI ∷ Ls) ex3 = weaken M' (hand_left_to M' C sp_ l size_i ex3 None (LI ∷ Ls) ((e1 ∷ e) ∷ ss) lsi (suc (length type.params)) j h3 kd3) (omega arith) (omega (arith, low)) in
+        let s0 = judged type q lbl (suc j) has tq le lk in
+        let s1 : To M' 3 3 (st XI (l ++ ex) (v ∷ []) (weighed type) gi co) (st XI (l ++ exk) (values.I32 0 ∷ []) (if_any (made type) (behind_i type)) gi co) = subst (λ z. To M' 3 3 (st XI (l ++ ex) (v ∷ []) (weighed type) gi co) (st XI (l ++ exk) (values.I32 z ∷ []) (if_any (made type) (behind_i type)) gi co)) ks.0 (weighed_to type (suc j)) in
+        let s2 : To M' 2 2 (st XI (l ++ exk) (values.I32 0 ∷ []) (if_any (made type) (behind_i type)) gi co) (st XI (l ++ exk) [] (behind_i type) gi co) = if_zero_to M' in
+        let s3 = both_to M M' E gl W C XI l exk g co lsi (left_by type) at (others_of type) k (suc j) 0 (suc j) size_i kq (flag_len C g (wf.globals ∙ sym f.flag)) ks.1 in
+        let s4 : To M' 1 1 (st XI (l ++ exk) (v ∷ []) (if_any (const (values.I32 at) (set C (offset_at C) H)) k) gi co) (st X1 (l ++ exk) [] (const (values.I32 at) (set C (offset_at C) H)) gi co) = one_step M' _ _ refl in
+        trap_out M M' E gl W S C ex (e1 ∷ e) ss ws ix cl r l (values.I32 n ∷ ops) en kd Ls Fs g co NI f fs wf (st XI (l ++ ex) [] (guarded_call type) gi co) j k exk H room kq hands (weaken M' (seq M' s0 (seq M' s1 (seq M' s2 (seq M' s3 s4)))) (omega arith) (omega arith))
+
+    abbrev RoomI : FuncType → Type 0
+    RoomI type = FitsIn C (result_of type) (less (length type.params) esi) × Room C (grown (result_of type) (less (length type.params) esi)) rest
+
+    -- the function of an entry is called
+    pub entry_call : (type : FuncType) (g' : ℕ) (fn : Function) (u : Cut) → Has t C.helpers → RoomI type → slice_get M.program.module_.types t ≡ Some type → slice_get g.table n ≡ Some (Some g') → function_at M.program g' ≡ Some fn → function_type fn ≡ type → unwrap_or (option_map (entry_label M.program.module_ t) (Some (Some g'))) 1 ≡ 0 → cut (length (function_type fn).params) ops ≡ u → After M M' E gl W (st XI (l ++ ex) [] (guarded_call type) gi co) (calls_on M fn g' u at rest FI LI Ls Fs g co)
+    entry_call type g' fn short has rm ty tq at_ same le c = tt
+    entry_call type g' fn (parts vs below) has rm ty tq at_ same le c =
+        let h = f.labels in
+        let m = length type.params in
+        let r1 = result_of (function_type fn) in
+        let c' : cut m ops ≡ parts vs below = ap (λ z. cut (length z.params) ops) (sym same) ∙ c in
+        let same1 : types exi ≡ types ex = types-slice_set ex (kind_at C) I32 (values.I32 0) (rw f.room (added_kind C.slots)) refl in
+        let low : length (e1 ∷ esi) ≤ C.slots = room_height C (e1 ∷ esi) NI h.2 in
+        let h1 = fits_put C ex None (LI ∷ Ls) ((e1 ∷ e) ∷ ss) (kind_at C) (values.I32 0) (omega (arith, low)) h in
+        let lh = less_holds exi m (joined ss) e ops vs below h1.0.1 c' in
+        let e' = lh.0 in
+        let others = hand_top C (suc m) (e1 ∷ esi) stop in
+        let k = store C r1 (e' ++ joined ss) stop in
+        let code = jump 0 (CallIndirect t) k in
+        let behind = test_both C lsi (e' ++ joined ss) at others (rewrite C lsi (grown r1 (e' ++ joined ss)) rest) in
+        let YI = armed XI behind [] in
+        let at_kind : slice_get (types ex) (kind_at C) ≡ Some I32 = rw f.room (added_kind C.slots) in
+        let no_kind : slice_get exi (kind_at C) ≡ Some (values.I32 0) = slice_get-put_same ex (kind_at C) I32 (values.I32 0) at_kind in
+        let rm' : FitsIn C r1 (less m esi) × Room C (grown r1 (less m esi)) rest = subst (λ z. FitsIn C (result_of z) (less m esi) × Room C (grown (result_of z) (less m esi)) rest) (sym same) rm in
+        let hb : FitsLabels C exi r1 (label below rest en kd ∷ Ls) (e' ∷ ss) = (lh.2, subst (FitsIn C r1) lh.1 rm'.0, subst (λ z. Room C (grown r1 z) rest) lh.1 rm'.1, h1.3, h1.4) in
+        let T = st YI (l ++ exi) (values.I32 n ∷ (vs ++ [])) code gi co in
+        let t0 = st XI (l ++ ex) [] (guarded_call type) gi co in
+        let s0 = judged type (Some (Some g')) 0 0 has (ap (λ z. slice_get z n) (sym wf.table) ∙ tq) le (inl (refl, refl)) in
+        let conv : if_any (made type) (behind_i type) ≡ if_any (load C (suc m) (e1 ∷ esi) code) behind = ap₂ (λ z es'. if_any (load C (suc m) (e1 ∷ esi) (jump 0 (CallIndirect t) (store C (result_of z) es' stop))) (test_both C lsi es' at others (rewrite C lsi (grown (result_of z) es') rest))) (sym same) lh.1 in
+        let s1 : To M' 3 3 (st XI (l ++ ex) (values.I32 0 ∷ []) (weighed type) gi co) (st XI (l ++ exi) (values.I32 1 ∷ []) (if_any (load C (suc m) (e1 ∷ esi) code) behind) gi co) = subst (λ z. To M' 3 3 (st XI (l ++ ex) (values.I32 0 ∷ []) (weighed type) gi co) (st XI (l ++ exi) (values.I32 1 ∷ []) z gi co)) conv (weighed_to type 0) in
+        let s1b : To M' 1 1 (st XI (l ++ exi) (values.I32 1 ∷ []) (if_any (load C (suc m) (e1 ∷ esi) code) behind) gi co) (st YI (l ++ exi) [] (load C (suc m) (e1 ∷ esi) code) gi co) = one_step M' _ _ refl in
+        let cu : cut (suc m) (values.I32 n ∷ ops) ≡ parts (values.I32 n ∷ vs) below = ap (one_more (values.I32 n)) c' in
+        let s2 : To M' (suc m) (suc m) (st YI (l ++ exi) [] (load C (suc m) (e1 ∷ esi) code) gi co) T = load_to M' C l size_i {X = YI} exi (suc m) (joined ss) (e1 ∷ e) (values.I32 n ∷ ops) [] (values.I32 n ∷ vs) below code h1.0 cu in
+        let few : m ≤ C.slots = omega (arith, cut_len m ops vs below c', holds_len ex (joined ss) e ops h.0.1, length-append e (joined ss), low) in
+        let tbl : slice_get gi.table n ≡ Some (Some (mapped M.program.module_ g')) = slice_get-map (option_map (mapped M.program.module_)) g.table n ∙ ap (option_map (option_map (mapped M.program.module_))) tq in
+        let ft : type_at M'.program.module_ (mapped M.program.module_ g') ≡ Some type = S.function_types_ g' type (S.type_is g' fn at_ ∙ ap Some same) in
+        let ty' = S.entry_types t type ty in
+        let self = same_functype-refl type in
+        let st_ : step M' T ≡ calls M' (function_at M'.program (mapped M.program.module_ g')) (mapped M.program.module_ g') (vs ++ []) 0 k (frame YI.idx YI.result 0 (l ++ exi) (label (values.I32 n ∷ (vs ++ [])) code 0 YI.kind ∷ YI.below)) (label (values.I32 n ∷ (vs ++ [])) code 0 YI.kind) YI.below YI.frames gi co = rw (ty', tbl, ft, self) refl in
+        let cc_ : cut (length (function_type fn).params) (vs ++ []) ≡ parts vs [] = cut_all (length (function_type fn).params) ops vs below [] c in
+        called M M' E gl W S C ex (e1 ∷ e) ss ws ix cl r l (values.I32 n ∷ ops) en kd Ls Fs g co NI f fs wf exi below e' rest fn vs false (Some others) g' (values.I32 n ∷ (vs ++ [])) code t0 T (C.slots + 35) (same_types (types (reverse vs)) (function_type fn).params) at_ (direct_ fn) cc_ same1 no_kind hb (omega arith) refl (weaken M' (seq M' s0 (seq M' s1 (seq M' s1b s2))) (omega arith) (omega (arith, few))) st_
+      where
+        direct_ : (fn : Function) → DirectFits M M' E gl W S C ex (e1 ∷ e) ss ws ix cl r l (values.I32 n ∷ ops) en kd Ls Fs g co NI f fs wf fn false (Some (hand_top C (suc (length type.params)) (e1 ∷ esi) stop))
+        direct_ (imported i type) = tt
+        direct_ (defined b tree type) = tt

@@ -1,0 +1,394 @@
+-- The bytes of rewritten code.
+use Rattle.std.proofs.Common.{◌≡◌, ℕ, zero, suc, ◌+◌, ◌*◌, ◌/◌, ◌%◌, ◌^◌, ◌<◌, ◌≤◌, nat_lt, List, [], ◌∷◌, ◌++◌, length, Option, Some, None, Bool, true, false, refl, arith, take, if◌then◌else◌}
+use Rattle.std.specs.Prelude.{ℤ}
+use Rattle.std.specs.Int.{w32, w64, cast_signed}
+use Rattle.std.proofs.lemmas.Bool.{ltb-false}
+use Rattle.std.proofs.Math.Nat.{div-lt_iff_lt-mul}
+use Rattle.wasm_leb.specs.Writing.{unsigned_groups, unsigned_bytes, signed_groups, signed_bytes, fits_seven, low_seven, above_seven}
+use Rattle.wasm_syntax.specs.declared.value.ValType.{ValType}
+use Rattle.wasm_syntax.specs.declared.value.ValType.TheVariants.{I32, I64}
+use Rattle.wasm_syntax.specs.declared.value.Value.{Value}
+use Rattle.wasm_syntax.specs.declared.value.Value.TheVariants as values
+use Rattle.int_ops.specs.declared.operators.Binary.{Binary as BinaryOp}
+use Rattle.int_ops.specs.declared.operators.Binary.TheVariants.{Add, Sub, Mul, DivS, DivU, RemS, RemU, And, Or, Xor, Shl, ShrS, ShrU, Rotl, Rotr}
+use Rattle.int_ops.specs.declared.operators.Compare.TheVariants.{Eq, GtU}
+use Rattle.wasm_syntax.specs.declared.instruction.Convert.TheVariants.{ExtendU}
+use Rattle.wasm_syntax.specs.declared.instruction.Basic.{Basic}
+use Rattle.wasm_syntax.specs.declared.instruction.Basic.TheVariants.{Nop, Drop, Select, LocalGet, LocalSet, LocalTee, GlobalGet, GlobalSet, Load, Store, MemorySize, MemoryGrow, MemoryCopy, MemoryFill, Const, Eqz, Unary, Compare, Binary, Convert, Extend32, Extend64}
+use Rattle.wasm_syntax.specs.Access.{load_bits, store_bits}
+use Rattle.wasm_syntax.specs.Tree.{Br, Nodes, stop, basic, jump}
+use Rattle.rewrite_bodies.specs.Numbering.{import_count, flag_of}
+use Rattle.rewrite_bodies.specs.Slots.{Place, Spilled, Known, place_type, Ctx, slot, result_at, kind_at, offset_at, less, grown}
+use Rattle.rewrite_bodies.specs.Pieces.{get, set, const, i32, call, if_any, fetch, load, store, to_result, from_result}
+use Rattle.rewrite_bodies.specs.Guards.{least, minus_one, zero_test, guard_zero, guard_signed, past_end, out_test, guard_memory, range_test, guard_copy, guard_fill, guard}
+use Rattle.rewrite_bodies.specs.Rewrite.{Info, hand_value, hand, hand_top, to_exit, unwind, hand_left, test_flag, test_both, tested}
+use Rattle.rewrite_bodies.specs.Agreement.{FitsIn}
+use Rattle.rewrite_bodies.specs.Length.{code_length, FewNumbers}
+
+-- ---- numbers
+
+unsigned_most : (k n : ℕ) → length (unsigned_groups k n) ≤ suc k
+unfolding unsigned_groups
+unsigned_most zero n = omega arith
+unsigned_most (suc k) n = by_test (nat_lt n 128) (unsigned_most k (n / 128))
+  where
+    by_test : (q : Bool) → length (unsigned_groups k (n / 128)) ≤ suc k → length (if q then n ∷ [] else (n % 128 + 128) ∷ unsigned_groups k (n / 128)) ≤ suc (suc k)
+    by_test true r = omega arith
+    by_test false r = omega (arith, r)
+
+-- so many groups of seven bits
+abbrev groups_hold : ℕ → ℕ
+groups_hold zero = 128
+groups_hold (suc b) = groups_hold b * 128
+
+unsigned_few : (b k n : ℕ) → b ≤ k → n < groups_hold b → length (unsigned_groups k n) ≤ suc b
+unfolding unsigned_groups
+unsigned_few zero zero n le lt = omega arith
+unsigned_few zero (suc k) n le lt = by_test (nat_lt n 128) refl
+  where
+    by_test : (q : Bool) → nat_lt n 128 ≡ q → length (if q then n ∷ [] else (n % 128 + 128) ∷ unsigned_groups k (n / 128)) ≤ 1
+    by_test true e = omega arith
+    by_test false e = absurd (let z = ltb-false n 128 e in omega (arith, z, lt))
+unsigned_few (suc b) zero n le lt = absurd (omega (arith, le))
+unsigned_few (suc b) (suc k) n le lt = by_test (nat_lt n 128) (unsigned_few b k (n / 128) (omega (arith, le)) ((div-lt_iff_lt-mul {k = 128} {x = n} {y = groups_hold b} (omega arith)).1 lt))
+  where
+    by_test : (q : Bool) → length (unsigned_groups k (n / 128)) ≤ suc b → length (if q then n ∷ [] else (n % 128 + 128) ∷ unsigned_groups k (n / 128)) ≤ suc (suc b)
+    by_test true r = omega arith
+    by_test false r = omega (arith, r)
+
+signed_most : (k : ℕ) (z : ℤ) → length (signed_groups k z) ≤ suc k
+unfolding signed_groups
+signed_most zero z = omega arith
+signed_most (suc k) z = by_test (fits_seven z) (signed_most k (above_seven z))
+  where
+    by_test : (q : Bool) → length (signed_groups k (above_seven z)) ≤ suc k → length (if q then low_seven z ∷ [] else (low_seven z + 128) ∷ signed_groups k (above_seven z)) ≤ suc (suc k)
+    by_test true r = omega arith
+    by_test false r = omega (arith, r)
+
+pub ten_bytes : (n : ℕ) → length (unsigned_bytes n) ≤ 10
+unfolding unsigned_bytes
+ten_bytes n = unsigned_most 9 n
+
+four_bytes : (n : ℕ) → n < 2 ^ 28 → length (unsigned_bytes n) ≤ 4
+unfolding unsigned_bytes
+four_bytes n lt = unsigned_few 3 9 n (omega arith) lt
+
+signed_ten : (z : ℤ) → length (signed_bytes z) ≤ 10
+unfolding signed_bytes
+signed_ten z = signed_most 9 z
+
+pub len_const : (v : Value) (k : Nodes) → code_length (const v k) ≤ 11 + code_length k
+len_const (values.I32 n) k = let s = signed_ten (cast_signed w32 n) in omega (arith, s)
+len_const (values.I64 n) k = let s = signed_ten (cast_signed w64 n) in omega (arith, s)
+
+pub len_call : (f : ℕ) (k : Nodes) → code_length (call f k) ≤ 11 + code_length k
+len_call f k = let s = ten_bytes f in omega (arith, s)
+
+pub len_global_get : (x : ℕ) (k : Nodes) → code_length (basic 0 (GlobalGet x) k) ≤ 11 + code_length k
+len_global_get x k = let s = ten_bytes x in omega (arith, s)
+
+pub len_global_set : (x : ℕ) (k : Nodes) → code_length (basic 0 (GlobalSet x) k) ≤ 11 + code_length k
+len_global_set x k = let s = ten_bytes x in omega (arith, s)
+
+pub len_branch : (l : ℕ) → code_length (jump 0 (Br l) stop) ≤ 11
+len_branch l = let s = ten_bytes l in omega (arith, s)
+
+-- ---- places
+
+-- the bytes that fetch an operand
+abbrev pub cost : Place → ℕ
+cost (Spilled t) = 5
+cost (Known v) = 11
+
+abbrev pub costs : List Place → ℕ
+costs [] = 0
+costs (e ∷ es) = cost e + costs es
+
+-- how many are known
+abbrev pub one_known : Place → ℕ
+one_known (Spilled t) = 0
+one_known (Known v) = 1
+
+abbrev pub known : List Place → ℕ
+known [] = 0
+known (e ∷ es) = one_known e + known es
+
+cost_most : (e : Place) → cost e ≤ 11
+cost_most (Spilled t) = omega arith
+cost_most (Known v) = omega arith
+
+pub costs_most : (es : List Place) → costs es ≤ 11 * length es
+costs_most [] = omega arith
+costs_most (e ∷ es) = let a = cost_most e in let b = costs_most es in omega (arith, a, b)
+
+-- fetched twice and handed over once
+pub costs_twice : (es : List Place) → 2 * costs es + 5 * length es ≤ 16 * length es + 11 * known es
+costs_twice [] = omega arith
+costs_twice (e ∷ es) = by e (costs_twice es)
+  where
+    by : (e : Place) → 2 * costs es + 5 * length es ≤ 16 * length es + 11 * known es → 2 * (cost e + costs es) + 5 * suc (length es) ≤ 16 * suc (length es) + 11 * (one_known e + known es)
+    by (Spilled t) h = omega (arith, h)
+    by (Known v) h = omega (arith, h)
+
+pub known-append : (a b : List Place) → known (a ++ b) ≡ known a + known b
+known-append [] b = omega arith
+known-append (e ∷ a) b = omega (arith, known-append a b)
+
+pub known_parts : (n : ℕ) (es : List Place) → known (take n es) + known (less n es) ≡ known es
+known_parts zero es = omega arith
+known_parts (suc n) [] = omega arith
+known_parts (suc n) (e ∷ es) = omega (arith, known_parts n es)
+
+pub length_parts : (n : ℕ) (es : List Place) → length (take n es) + length (less n es) ≡ length es
+length_parts zero es = omega arith
+length_parts (suc n) [] = omega arith
+length_parts (suc n) (e ∷ es) = omega (arith, length_parts n es)
+
+pub length_taken : (n : ℕ) (es : List Place) → length (take n es) ≤ n
+length_taken zero es = omega arith
+length_taken (suc n) [] = omega arith
+length_taken (suc n) (e ∷ es) = omega (arith, length_taken n es)
+
+pub known_grown : (t : Option ValType) (es : List Place) → known (grown t es) ≡ known es
+known_grown None es = refl
+known_grown (Some t) es = omega arith
+
+module _ (C : Ctx) (few : FewNumbers C) where
+  local_four : (x : ℕ) → x < 2 * C.slots + 4 → length (unsigned_bytes (length C.locals + x)) ≤ 4
+  local_four x lt = four_bytes (length C.locals + x) (omega (arith, few.locals, lt))
+
+  pub len_get : (x : ℕ) (k : Nodes) → x < 2 * C.slots + 4 → code_length (get C x k) ≤ 5 + code_length k
+  len_get x k lt = let s = local_four x lt in omega (arith, s)
+
+  pub len_set : (x : ℕ) (k : Nodes) → x < 2 * C.slots + 4 → code_length (set C x k) ≤ 5 + code_length k
+  len_set x k lt = let s = local_four x lt in omega (arith, s)
+
+  slot_low : (t : ValType) (h : ℕ) → h ≤ C.slots → slot t h < 2 * C.slots + 4
+  slot_low I32 h le = omega (arith, le)
+  slot_low I64 h le = omega (arith, le)
+
+  pub len_fetch : (e : Place) (h : ℕ) (k : Nodes) → h ≤ C.slots → code_length (fetch C e h k) ≤ cost e + code_length k
+  len_fetch (Spilled t) h k le = len_get (slot t h) k (slot_low t h le)
+  len_fetch (Known v) h k le = len_const v k
+
+  pub len_fetched : (e : Place) (h : ℕ) (k : Nodes) → h ≤ C.slots → code_length (fetch C e h k) ≤ 11 + code_length k
+  len_fetched e h k le = let a = len_fetch e h k le in let b = cost_most e in omega (arith, a, b)
+
+  pub len_load : (n : ℕ) (es : List Place) (k : Nodes) → length es ≤ C.slots → code_length (load C n es k) ≤ costs (take n es) + code_length k
+  len_load zero es k le = omega arith
+  len_load (suc n) [] k le = omega arith
+  len_load (suc n) (e ∷ es) k le =
+      let a = len_load n es (fetch C e (length es) k) (omega (arith, le)) in
+      let b = len_fetch e (length es) k (omega (arith, le)) in
+      omega (arith, a, b)
+
+  pub len_hand_value : (t : ValType) (k : Nodes) → code_length (hand_value C t k) ≤ 5 + code_length k
+  len_hand_value I32 k = let s = four_bytes (import_count C.source + 0) (omega (arith, few.imports)) in omega (arith, s)
+  len_hand_value I64 k = let s = four_bytes (import_count C.source + 1) (omega (arith, few.imports)) in omega (arith, s)
+
+  pub len_hand : (es : List Place) (k : Nodes) → length es ≤ C.slots → code_length (hand C es k) ≤ 16 * length es + code_length k
+  len_hand [] k le = omega arith
+  len_hand (e ∷ es) k le =
+      let a = len_hand es (fetch C e (length es) (hand_value C (place_type e) k)) (omega (arith, le)) in
+      let b = len_fetched e (length es) (hand_value C (place_type e) k) (omega (arith, le)) in
+      let c = len_hand_value (place_type e) k in
+      omega (arith, a, b, c)
+
+  len_hand_top : (n : ℕ) (es : List Place) (k : Nodes) → length es ≤ C.slots → code_length (hand_top C n es k) ≤ costs (take n es) + 5 * length (take n es) + code_length k
+  len_hand_top zero es k le = omega arith
+  len_hand_top (suc n) [] k le = omega arith
+  len_hand_top (suc n) (e ∷ es) k le =
+      let a = len_hand_top n es (fetch C e (length es) (hand_value C (place_type e) k)) (omega (arith, le)) in
+      let b = len_fetch e (length es) (hand_value C (place_type e) k) (omega (arith, le)) in
+      let c = len_hand_value (place_type e) k in
+      omega (arith, a, b, c)
+
+  pub len_store : (r : Option ValType) (es : List Place) (k : Nodes) → FitsIn C r es → code_length (store C r es k) ≤ 5 + code_length k
+  len_store None es k fit = omega arith
+  len_store (Some t) es k fit = len_set (slot t (length es)) k (slot_low t (length es) (omega (arith, fit)))
+
+  pub len_to_result : (r : Option ValType) (es : List Place) (k : Nodes) → length es ≤ C.slots → code_length (to_result C r es k) ≤ 16 + code_length k
+  len_to_result None es k le = omega arith
+  len_to_result (Some t) [] k le = omega arith
+  len_to_result (Some t) (e ∷ es) k le =
+      let a = len_fetched e (length es) (set C (result_at C t) k) (omega (arith, le)) in
+      let b = len_set (result_at C t) k (slot_low t C.slots (omega arith)) in
+      omega (arith, a, b)
+
+  pub len_from_result : (r : Option ValType) (es : List Place) (k : Nodes) → FitsIn C r es → code_length (from_result C r es k) ≤ 10 + code_length k
+  len_from_result None es k fit = omega arith
+  len_from_result (Some t) es k fit =
+      let a = len_get (result_at C t) (set C (slot t (length es)) k) (slot_low t C.slots (omega arith)) in
+      let b = len_set (slot t (length es)) k (slot_low t (length es) (omega (arith, fit))) in
+      omega (arith, a, b)
+
+  len_exit : (ls : List Info) → code_length (to_exit ls) ≤ 11
+  len_exit ls = len_branch (suc (length ls))
+
+  len_unwind : (ls : List Info) (es : List Place) (o : ℕ) → length es ≤ C.slots → code_length (unwind C ls es o) ≤ 27 + 16 * length es
+  len_unwind ls es o le =
+      let a = len_const (i32 o) (set C (offset_at C) (hand C es (to_exit ls))) in
+      let b = len_set (offset_at C) (hand C es (to_exit ls)) (omega arith) in
+      let c = len_hand es (to_exit ls) le in
+      let d = len_exit ls in
+      omega (arith, a, b, c, d)
+
+  pub len_tested : (ls : List Info) (es : List Place) (o : ℕ) (k : Nodes) → length es ≤ C.slots → code_length (tested C ls es o k) ≤ 40 + 16 * length es + code_length k
+  len_tested ls es o k le =
+      let rest = if_any (unwind C ls es o) k in
+      let a = len_set (kind_at C) (get C (kind_at C) rest) (omega arith) in
+      let b = len_get (kind_at C) rest (omega arith) in
+      let c = len_unwind ls es o le in
+      omega (arith, a, b, c)
+
+  pub len_test_flag : (ls : List Info) (es : List Place) (o : ℕ) (k : Nodes) → length es ≤ C.slots → code_length (test_flag C ls es o k) ≤ 57 + 16 * length es + code_length k
+  len_test_flag ls es o k le =
+      let arm = set C (kind_at C) (unwind C ls es o) in
+      let a = len_global_get (flag_of C.source) (if_any (const (i32 0) arm) k) in
+      let b = len_const (i32 0) arm in
+      let c = len_set (kind_at C) (unwind C ls es o) (omega arith) in
+      let d = len_unwind ls es o le in
+      omega (arith, a, b, c, d)
+
+  pub len_test_both : (ls : List Info) (n : ℕ) (es left : List Place) (o : ℕ) (k : Nodes) → length es ≤ C.slots → length left ≤ C.slots → code_length (test_both C ls left o (hand_top C n es stop) k) ≤ 60 + 16 * length left + (costs (take n es) + 5 * length (take n es)) + code_length k
+  len_test_both ls n es left o k le le1 =
+      let others = hand_top C n es stop in
+      let inner = get C (kind_at C) (if_any others (to_exit ls)) in
+      let arm = set C (offset_at C) (hand_left C ls left others) in
+      let rest = if_any (const (i32 o) arm) k in
+      let a = len_get (kind_at C) (basic 0 (GlobalGet (flag_of C.source)) (basic 0 (Binary I32 Or) rest)) (omega arith) in
+      let b = len_global_get (flag_of C.source) (basic 0 (Binary I32 Or) rest) in
+      let c = len_const (i32 o) arm in
+      let d = len_set (offset_at C) (hand_left C ls left others) (omega arith) in
+      let e = len_hand left inner le1 in
+      let f = len_get (kind_at C) (if_any others (to_exit ls)) (omega arith) in
+      let g = len_hand_top n es stop le in
+      let h = len_exit ls in
+      omega (arith, a, b, c, d, e, f, g, h)
+
+  -- ---- guards
+
+  len_guard_zero : (t : ValType) (b : Place) (h : ℕ) (k : Nodes) → h ≤ C.slots → code_length (guard_zero C t b h k) ≤ 35 + code_length k
+  len_guard_zero t b h k le =
+      let x = len_const (i32 2) (const (i32 0) (fetch C b h (zero_test t k))) in
+      let y = len_const (i32 0) (fetch C b h (zero_test t k)) in
+      let z = len_fetched b h (zero_test t k) le in
+      omega (arith, x, y, z)
+
+  len_guard_signed : (t : ValType) (b a : Place) (h : ℕ) (k : Nodes) → suc h ≤ C.slots → code_length (guard_signed C t b a h k) ≤ 94 + code_length k
+  len_guard_signed t b a h k le =
+      let k1 = fetch C b (suc h) (zero_test t k) in
+      let k2 = const (minus_one t) (basic 0 (Compare t Eq) (basic 0 (Binary I32 And) (basic 0 Select k1))) in
+      let k3 = fetch C b (suc h) k2 in
+      let k4 = const (least t) (basic 0 (Compare t Eq) k3) in
+      let k5 = fetch C a h k4 in
+      let x1 = len_const (i32 2) (const (i32 3) (const (i32 0) k5)) in
+      let x2 = len_const (i32 3) (const (i32 0) k5) in
+      let x3 = len_const (i32 0) k5 in
+      let x4 = len_fetched a h k4 (omega (arith, le)) in
+      let x5 = len_const (least t) (basic 0 (Compare t Eq) k3) in
+      let x6 = len_fetched b (suc h) k2 (omega (arith, le)) in
+      let x7 = len_const (minus_one t) (basic 0 (Compare t Eq) (basic 0 (Binary I32 And) (basic 0 Select k1))) in
+      let x8 = len_fetched b (suc h) (zero_test t k) (omega (arith, le)) in
+      omega (arith, x1, x2, x3, x4, x5, x6, x7, x8)
+
+  len_past_end : (k : Nodes) → code_length (past_end k) ≤ 16 + code_length k
+  len_past_end k = let x = len_const (values.I64 65536) (basic 0 (Binary I64 Mul) (basic 0 (Compare I64 GtU) k)) in omega (arith, x)
+
+  len_guard_memory : (a : Place) (h n : ℕ) (k : Nodes) → h ≤ C.slots → code_length (guard_memory C a h n k) ≤ 63 + code_length k
+  len_guard_memory a h n k le =
+      let k1 = past_end (basic 0 Select k) in
+      let x1 = len_const (i32 4) (const (i32 0) (fetch C a h (out_test n k))) in
+      let x2 = len_const (i32 0) (fetch C a h (out_test n k)) in
+      let x3 = len_fetched a h (out_test n k) le in
+      let x4 = len_const (values.I64 n) (basic 0 (Binary I64 Add) k1) in
+      let x5 = len_past_end (basic 0 Select k) in
+      omega (arith, x1, x2, x3, x4, x5)
+
+  len_range : (a : Place) (h : ℕ) (n : Place) (hn : ℕ) (k : Nodes) → h ≤ C.slots → hn ≤ C.slots → code_length (range_test C a h n hn k) ≤ 41 + code_length k
+  len_range a h n hn k le len =
+      let k1 = basic 0 (Convert ExtendU) (basic 0 (Binary I64 Add) (past_end k)) in
+      let x1 = len_fetched a h (basic 0 (Convert ExtendU) (fetch C n hn k1)) le in
+      let x2 = len_fetched n hn k1 len in
+      let x3 = len_past_end k in
+      omega (arith, x1, x2, x3)
+
+  len_guard_copy : (n from to : Place) (h : ℕ) (k : Nodes) → suc (suc h) ≤ C.slots → code_length (guard_copy C n from to h k) ≤ 106 + code_length k
+  len_guard_copy n from to h k le =
+      let k1 = basic 0 (Binary I32 Or) (basic 0 Select k) in
+      let k2 = range_test C to h n (suc (suc h)) k1 in
+      let k3 = range_test C from (suc h) n (suc (suc h)) k2 in
+      let x1 = len_const (i32 4) (const (i32 0) k3) in
+      let x2 = len_const (i32 0) k3 in
+      let x3 = len_range from (suc h) n (suc (suc h)) k2 (omega (arith, le)) le in
+      let x4 = len_range to h n (suc (suc h)) k1 (omega (arith, le)) le in
+      omega (arith, x1, x2, x3, x4)
+
+  len_guard_fill : (n to : Place) (h : ℕ) (k : Nodes) → suc (suc h) ≤ C.slots → code_length (guard_fill C n to h k) ≤ 64 + code_length k
+  len_guard_fill n to h k le =
+      let k2 = range_test C to h n (suc (suc h)) (basic 0 Select k) in
+      let x1 = len_const (i32 4) (const (i32 0) k2) in
+      let x2 = len_const (i32 0) k2 in
+      let x3 = len_range to h n (suc (suc h)) (basic 0 Select k) (omega (arith, le)) le in
+      omega (arith, x1, x2, x3)
+
+  len_none : (k : Nodes) → code_length (const (i32 0) k) ≤ 106 + code_length k
+  len_none k = let x = len_const (i32 0) k in omega (arith, x)
+
+  len_division : (op : BinaryOp) (t : ValType) (es : List Place) (k : Nodes) → length es ≤ C.slots → code_length (guard C (Binary t op) es k) ≤ 106 + code_length k
+  len_division DivS t [] k le = len_none k
+  len_division DivS t (b ∷ []) k le = len_none k
+  len_division DivS t (b ∷ a ∷ es) k le = let x = len_guard_signed t b a (length es) k (omega (arith, le)) in omega (arith, x)
+  len_division DivU t [] k le = len_none k
+  len_division DivU t (b ∷ []) k le = len_none k
+  len_division DivU t (b ∷ a ∷ es) k le = let x = len_guard_zero t b (suc (length es)) k (omega (arith, le)) in omega (arith, x)
+  len_division RemS t [] k le = len_none k
+  len_division RemS t (b ∷ []) k le = len_none k
+  len_division RemS t (b ∷ a ∷ es) k le = let x = len_guard_zero t b (suc (length es)) k (omega (arith, le)) in omega (arith, x)
+  len_division RemU t [] k le = len_none k
+  len_division RemU t (b ∷ []) k le = len_none k
+  len_division RemU t (b ∷ a ∷ es) k le = let x = len_guard_zero t b (suc (length es)) k (omega (arith, le)) in omega (arith, x)
+  len_division Add t es k le = len_none k
+  len_division Sub t es k le = len_none k
+  len_division Mul t es k le = len_none k
+  len_division And t es k le = len_none k
+  len_division Or t es k le = len_none k
+  len_division Xor t es k le = len_none k
+  len_division Shl t es k le = len_none k
+  len_division ShrS t es k le = len_none k
+  len_division ShrU t es k le = len_none k
+  len_division Rotl t es k le = len_none k
+  len_division Rotr t es k le = len_none k
+
+  pub len_guard : (i : Basic) (es : List Place) (k : Nodes) → length es ≤ C.slots → code_length (guard C i es k) ≤ 106 + code_length k
+  len_guard (Binary t op) es k le = len_division op t es k le
+  len_guard (Load l al o) [] k le = len_none k
+  len_guard (Load l al o) (a ∷ es) k le = let x = len_guard_memory a (length es) (o + load_bits l / 8) k (omega (arith, le)) in omega (arith, x)
+  len_guard (Store l al o) [] k le = len_none k
+  len_guard (Store l al o) (v ∷ []) k le = len_none k
+  len_guard (Store l al o) (v ∷ a ∷ es) k le = let x = len_guard_memory a (length es) (o + store_bits l / 8) k (omega (arith, le)) in omega (arith, x)
+  len_guard MemoryCopy [] k le = len_none k
+  len_guard MemoryCopy (n ∷ []) k le = len_none k
+  len_guard MemoryCopy (n ∷ from ∷ []) k le = len_none k
+  len_guard MemoryFill [] k le = len_none k
+  len_guard MemoryFill (n ∷ []) k le = len_none k
+  len_guard MemoryFill (n ∷ from ∷ []) k le = len_none k
+  len_guard MemoryCopy (n ∷ from ∷ to ∷ es) k le = len_guard_copy n from to (length es) k (omega (arith, le))
+  len_guard MemoryFill (n ∷ byte ∷ to ∷ es) k le = let x = len_guard_fill n to (length es) k (omega (arith, le)) in omega (arith, x)
+  len_guard Nop es k le = len_none k
+  len_guard Drop es k le = len_none k
+  len_guard Select es k le = len_none k
+  len_guard (LocalGet x) es k le = len_none k
+  len_guard (LocalSet x) es k le = len_none k
+  len_guard (LocalTee x) es k le = len_none k
+  len_guard (GlobalGet x) es k le = len_none k
+  len_guard (GlobalSet x) es k le = len_none k
+  len_guard MemorySize es k le = len_none k
+  len_guard MemoryGrow es k le = len_none k
+  len_guard (Const v) es k le = len_none k
+  len_guard (Eqz u) es k le = len_none k
+  len_guard (Unary u op) es k le = len_none k
+  len_guard (Compare u op) es k le = len_none k
+  len_guard (Convert c) es k le = len_none k
+  len_guard (Extend32 c) es k le = len_none k
+  len_guard (Extend64 c) es k le = len_none k

@@ -1,0 +1,249 @@
+-- Runs of so many steps, and what the small pieces of rewritten code do.
+use Rattle.std.proofs.Common.{◌≡◌, ℕ, zero, suc, ◌+◌, ◌*◌, ◌<◌, ◌≤◌, List, [], ◌∷◌, ◌++◌, length, Option, Some, None, Bool, true, false, refl, sym, ap, ◌∙◌, subst, arith, ◌≢◌, slice_get, slice_set}
+use Rattle.wasm_syntax.specs.declared.value.ValType.{ValType}
+use Rattle.wasm_syntax.specs.declared.value.ValType.TheVariants.{I32, I64}
+use Rattle.wasm_syntax.specs.declared.value.Value.{Value}
+use Rattle.wasm_syntax.specs.declared.instruction.Basic.TheVariants.{LocalGet, LocalSet}
+use Rattle.wasm_syntax.specs.Numbers.{type_of, types, same_type}
+use Rattle.wasm_syntax.specs.Tree.{Nodes, basic}
+use Rattle.wasm_syntax.specs.Host.{World}
+use Rattle.wasm_syntax.specs.declared.host.CollectorCall.{CollectorCall}
+use Rattle.wasm_syntax.specs.Machine.{Config, Engine, Stepped, next, ends, traps, no_reply, bad_reply, stuck, Cut, short, parts, one_more, cut, if_so, top, exactly, deliver, step}
+use Rattle.rewrite_bodies.specs.Slots.{Place, Spilled, Known, Ctx, slot, kind_at, added, less}
+use Rattle.rewrite_bodies.specs.Pieces.{get, set, const, fetch, load, store, to_result, from_result}
+use Rattle.rewrite_bodies.specs.Rewrite.{result_back}
+use Rattle.rewrite_bodies.specs.Agreement.{One, Holds}
+use Rattle.rewrite_bodies.specs.inner.Steps.{went, run, Gets, To, Shell, st}
+
+pub slice_get-append : {A : Type 0} (l ex : List A) (n h : ℕ) → n ≡ length l → slice_get (l ++ ex) (n + h) ≡ slice_get ex h
+slice_get-append [] ex n h e = ap (slice_get ex) (omega arith)
+slice_get-append (x ∷ l) ex n h e =
+    let m : n + h ≡ suc (length l + h) = omega arith in
+    ap (slice_get (x ∷ (l ++ ex))) m ∙ slice_get-append l ex (length l) h refl
+
+pub slice_set-append : (l ex : List Value) (n h : ℕ) (v : Value) → n ≡ length l → slice_set (l ++ ex) (n + h) v ≡ l ++ slice_set ex h v
+slice_set-append [] ex n h v e = ap (λ k. slice_set ex k v) (omega arith)
+slice_set-append (x ∷ l) ex n h v e =
+    let m : n + h ≡ suc (length l + h) = omega arith in
+    ap (λ k. slice_set (x ∷ (l ++ ex)) k v) m ∙ ap (λ r. x ∷ r) (slice_set-append l ex (length l) h v refl)
+
+-- a place of this type
+pub typed_at : (ex : List Value) (i : ℕ) (t : ValType) → slice_get (types ex) i ≡ Some t → (w : Value) × (slice_get ex i ≡ Some w) × (type_of w ≡ t)
+typed_at [] i t e = absurd (cc)
+typed_at (x ∷ ex) zero t e = (x, refl, cc)
+typed_at (x ∷ ex) (suc i) t e = typed_at ex i t e
+
+pub slice_get-put_same : (ex : List Value) (i : ℕ) (t : ValType) (v : Value) → slice_get (types ex) i ≡ Some t → slice_get (slice_set ex i v) i ≡ Some v
+slice_get-put_same [] i t v e = absurd (cc)
+slice_get-put_same (x ∷ ex) zero t v e = refl
+slice_get-put_same (x ∷ ex) (suc i) t v e = slice_get-put_same ex i t v e
+
+pub slice_get-put_other : (ex : List Value) (h i : ℕ) (v : Value) → h ≢ i → slice_get (slice_set ex i v) h ≡ slice_get ex h
+slice_get-put_other [] h i v ne = refl
+slice_get-put_other (x ∷ ex) zero zero v ne = absurd (ne refl)
+slice_get-put_other (x ∷ ex) zero (suc i) v ne = refl
+slice_get-put_other (x ∷ ex) (suc h) zero v ne = refl
+slice_get-put_other (x ∷ ex) (suc h) (suc i) v ne = let n : h ≢ i = omega arith in slice_get-put_other ex h i v n
+
+-- a write of the same type
+pub types-slice_set : (ex : List Value) (i : ℕ) (t : ValType) (v : Value) → slice_get (types ex) i ≡ Some t → type_of v ≡ t → types (slice_set ex i v) ≡ types ex
+types-slice_set [] i t v e d = refl
+types-slice_set (x ∷ ex) zero t v e d = let z : type_of v ≡ type_of x = cc in ap (λ q. q ∷ types ex) z
+types-slice_set (x ∷ ex) (suc i) t v e d = ap (λ q. type_of x ∷ q) (types-slice_set ex i t v e d)
+
+pub same_type-same : (a b : ValType) → same_type a b ≡ true → a ≡ b
+same_type-same I32 I32 e = refl
+same_type-same I32 I64 e = absurd (cc)
+same_type-same I64 I32 e = absurd (cc)
+same_type-same I64 I64 e = refl
+
+pub same_type-refl : (a b : ValType) → a ≡ b → same_type a b ≡ true
+same_type-refl I32 I32 e = refl
+same_type-refl I32 I64 e = absurd (cc)
+same_type-refl I64 I32 e = absurd (cc)
+same_type-refl I64 I64 e = refl
+
+-- the types of the added locals
+pub added_at : (n h : ℕ) (t : ValType) → h ≤ n → slice_get (added n) (slot t h) ≡ Some t
+added_at zero zero I32 le = refl
+added_at zero zero I64 le = refl
+added_at zero (suc h) t le = absurd (omega arith)
+added_at (suc n) zero I32 le = refl
+added_at (suc n) zero I64 le = refl
+added_at (suc n) (suc h) t le = let z : slot t (suc h) ≡ suc (suc (slot t h)) = omega arith in rw z (added_at n h t (omega arith))
+
+pub added_kind : (n : ℕ) → slice_get (added n) (2 * n + 2) ≡ Some I32
+added_kind zero = refl
+added_kind (suc n) = let z : 2 * suc n + 2 ≡ suc (suc (2 * n + 2)) = omega arith in rw z (added_kind n)
+
+pub added_offset : (n : ℕ) → slice_get (added n) (2 * n + 3) ≡ Some I32
+added_offset zero = refl
+added_offset (suc n) = let z : 2 * suc n + 3 ≡ suc (suc (2 * n + 3)) = omega arith in rw z (added_offset n)
+
+-- the added locals after results went to a place
+abbrev pub stored : Option ValType → (ValType → ℕ) → List Value → List Value → List Value
+stored None i vs ex = ex
+stored (Some t) i [] ex = ex
+stored (Some t) i (v ∷ vs) ex = slice_set ex (i t) v
+
+pub stored_other : (r : Option ValType) (i : ValType → ℕ) (vs ex : List Value) (j : ℕ) → ((t : ValType) → j ≢ i t) → slice_get (stored r i vs ex) j ≡ slice_get ex j
+stored_other None i vs ex j ne = refl
+stored_other (Some t) i [] ex j ne = refl
+stored_other (Some t) i (v ∷ vs) ex j ne = slice_get-put_other ex j (i t) v (ne t)
+
+-- the kind has no slot
+pub kind_no_slot : (C : Ctx) (h : ℕ) (t : ValType) → h ≤ C.slots → kind_at C ≢ slot t h
+kind_no_slot C h I32 le = omega arith
+kind_no_slot C h I64 le = omega arith
+
+-- there is a place for the result
+abbrev pub HasPlace : Option ValType → (ValType → ℕ) → List Value → Type 0
+HasPlace None i ex = Unit {0}
+HasPlace (Some t) i ex = slice_get (types ex) (i t) ≡ Some t
+
+pub if_same : {A : Type 0} (b : Bool) (x y : A) → if_so b x ≡ Some y → (b ≡ true) × (x ≡ y)
+if_same false x y e = absurd (cc)
+if_same true x y e = (refl, cc)
+
+pub types-stored : (r : Option ValType) (i : ValType → ℕ) (vs ex : List Value) → HasPlace r i ex → exactly r vs ≡ Some vs → types (stored r i vs ex) ≡ types ex
+types-stored None i vs ex p e = refl
+types-stored (Some t) i [] ex p e = refl
+types-stored (Some t) i (v ∷ []) ex p e = types-slice_set ex (i t) t v p (same_type-same (type_of v) t (if_same (same_type (type_of v) t) (v ∷ []) (v ∷ []) e).0)
+types-stored (Some t) i (v ∷ w ∷ vs) ex p e = absurd (cc)
+
+pub more_parts : (v : Value) (u : Cut) (vs below : List Value) → one_more v u ≡ parts vs below → (t : List Value) × (u ≡ parts t below) × (vs ≡ v ∷ t)
+more_parts v short vs below e = cc
+more_parts v (parts t b) vs below e = let x : b ≡ below = cc in (t, ap (parts t) x, cc)
+
+-- what is left of them
+pub less_holds : (ex : List Value) (m : ℕ) (js es : List Place) (ops vs below : List Value) → Holds ex js ops es → cut m ops ≡ parts vs below → (es' : List Place) × (less m (es ++ js) ≡ es' ++ js) × Holds ex js below es'
+less_holds ex zero js es ops vs below h e = let f : ops ≡ below = cc in (es, refl, rw f at h)
+less_holds ex (suc m) js [] [] vs below h e = absurd (cc)
+less_holds ex (suc m) js (e ∷ es) [] vs below h c = absurd h
+less_holds ex (suc m) js [] (v ∷ ops) vs below h c = absurd h
+less_holds ex (suc m) js (e ∷ es) (v ∷ ops) vs below h c =
+    let r = more_parts v (cut m ops) vs below c in
+    less_holds ex m js es ops r.0 below h.1 r.1
+
+-- the places below a height are not touched by a write at it
+pub one_put : (ex : List Value) (h i : ℕ) (v w : Value) (e : Place) → 2 * h + 1 < i → One ex h e v → One (slice_set ex i w) h e v
+one_put ex h i v w (Spilled I32) lt o = let ne : slot I32 h ≢ i = omega arith in (slice_get-put_other ex (slot I32 h) i w ne ∙ o.0, o.1)
+one_put ex h i v w (Spilled I64) lt o = let ne : slot I64 h ≢ i = omega arith in (slice_get-put_other ex (slot I64 h) i w ne ∙ o.0, o.1)
+one_put ex h i v w (Known u) lt o = o
+
+pub holds_put : (ex : List Value) (js es : List Place) (ops : List Value) (i : ℕ) (w : Value) → 2 * length (es ++ js) ≤ i → Holds ex js ops es → Holds (slice_set ex i w) js ops es
+holds_put ex js [] [] i w le h = tt
+holds_put ex js (e ∷ es) [] i w le h = absurd h
+holds_put ex js [] (v ∷ ops) i w le h = absurd h
+holds_put ex js (e ∷ es) (v ∷ ops) i w le h =
+    (one_put ex (length (es ++ js)) i v w e (omega arith) h.0, holds_put ex js es ops i w (omega arith) h.1)
+
+module _ (M : Engine) where
+  went-to : (more more' : Config → Stepped) (n k : ℕ) (q r : Stepped) (c' : Config) → ((c : Config) → more c ≡ next c' → more' c ≡ r) → went M more n q ≡ next c' → went M more' k q ≡ r
+  went-to more more' n k (next c) r c' h e = h c e
+  went-to more more' zero k (ends w vs co) r c' h e = cc
+  went-to more more' (suc n) k (ends w vs co) r c' h e = cc
+  went-to more more' zero k (traps j c) r c' h e = cc
+  went-to more more' (suc n) k (traps j c) r c' h e = cc
+  went-to more more' zero k (no_reply cl c) r c' h e = cc
+  went-to more more' (suc n) k (no_reply cl c) r c' h e = cc
+  went-to more more' zero k (bad_reply cl rp c) r c' h e = cc
+  went-to more more' (suc n) k (bad_reply cl rp c) r c' h e = cc
+  went-to more more' zero k stuck r c' h e = cc
+  went-to more more' (suc n) k stuck r c' h e = cc
+
+  run-add : (a b : ℕ) (c c' : Config) → run M a c ≡ next c' → run M (a + b) c ≡ run M b c'
+  run-add zero b c c' e = let f : c ≡ c' = cc in let z : 0 + b ≡ b = omega arith in ap (λ n. run M n c) z ∙ ap (run M b) f
+  run-add (suc a) b c c' e =
+      let z : suc a + b ≡ suc (a + b) = omega arith in
+      ap (λ n. run M n c) z ∙ went-to (run M a) (run M (a + b)) a (a + b) (step M c) (run M b c') c' (λ d. run-add a b d c') e
+
+  one_on : (r : Stepped) → went M (run M 0) 0 r ≡ r
+  one_on (next c) = refl
+  one_on (ends w vs co) = refl
+  one_on (traps k c) = refl
+  one_on (no_reply cl c) = refl
+  one_on (bad_reply cl r c) = refl
+  one_on stuck = refl
+
+  pub still : (c : Config) → To M 0 0 c c
+  still c = record { count = 0; low = omega arith; high = omega arith; goes = refl }
+
+  pub one_step : (c : Config) (r : Stepped) → step M c ≡ r → Gets M 1 1 c r
+  one_step c r e = record { count = 1; low = omega arith; high = omega arith; goes = one_on (step M c) ∙ e }
+
+  pub seq : {p q r t : ℕ} {x y : Config} {z : Stepped} → To M p q x y → Gets M r t y z → Gets M (p + r) (q + t) x z
+  seq {x = x} {y = y} a b = record { count = a.count + b.count; low = omega (arith, a.low, b.low); high = omega (arith, a.high, b.high); goes = run-add a.count b.count x y a.goes ∙ b.goes }
+
+  pub weaken : {p q r t : ℕ} {x : Config} {y : Stepped} → Gets M p q x y → r ≤ p → q ≤ t → Gets M r t x y
+  weaken a l h = record { count = a.count; low = omega (arith, a.low); high = omega (arith, a.high); goes = a.goes }
+
+  pub push_to : {X : Shell} {tl s : List Value} {k : Nodes} {g : World} {co : List CollectorCall} (v : Value) → To M 1 1 (st X tl s (const v k) g co) (st X tl (v ∷ s) k g co)
+  push_to v = one_step _ _ refl
+
+  pub get_to : {X : Shell} {tl s : List Value} {k : Nodes} {g : World} {co : List CollectorCall} (x : ℕ) (v : Value) → slice_get tl x ≡ Some v → To M 1 1 (st X tl s (basic 0 (LocalGet x) k) g co) (st X tl (v ∷ s) k g co)
+  get_to x v e = one_step _ _ (rw e)
+
+  pub put_to : {X : Shell} {tl s : List Value} {k : Nodes} {g : World} {co : List CollectorCall} (x : ℕ) (v w : Value) → slice_get tl x ≡ Some w → type_of w ≡ type_of v → To M 1 1 (st X tl (v ∷ s) (basic 0 (LocalSet x) k) g co) (st X (slice_set tl x v) s k g co)
+  put_to x v w e d = one_step _ _ (rw (e, same_type-refl (type_of w) (type_of v) d) refl)
+
+  -- the added locals
+  module _ (C : Ctx) (l : List Value) (size : length C.locals ≡ length l) where
+    pub added_get : {X : Shell} {s : List Value} {k : Nodes} {g : World} {co : List CollectorCall} (ex : List Value) (h : ℕ) (v : Value) → slice_get ex h ≡ Some v → To M 1 1 (st X (l ++ ex) s (get C h k) g co) (st X (l ++ ex) (v ∷ s) k g co)
+    added_get ex h v e = get_to ((length C.locals) + h) v (slice_get-append l ex (length C.locals) h size ∙ e)
+
+    pub added_set : {X : Shell} {s : List Value} {k : Nodes} {g : World} {co : List CollectorCall} (ex : List Value) (h : ℕ) (t : ValType) (v : Value) → slice_get (types ex) h ≡ Some t → type_of v ≡ t → To M 1 1 (st X (l ++ ex) (v ∷ s) (set C h k) g co) (st X (l ++ slice_set ex h v) s k g co)
+    added_set {X = X} {s = s} {k = k} {g = g} {co = co} ex h t v at d =
+        let w = typed_at ex h t at in
+        subst (λ z. To M 1 1 (st X (l ++ ex) (v ∷ s) (set C h k) g co) (st X z s k g co)) (slice_set-append l ex (length C.locals) h v size) (put_to ((length C.locals) + h) v w.0 (slice_get-append l ex (length C.locals) h size ∙ w.1) (w.2 ∙ sym d))
+
+    pub fetch_to : {X : Shell} {s : List Value} {k : Nodes} {g : World} {co : List CollectorCall} (ex : List Value) (h : ℕ) (e : Place) (v : Value) → One ex h e v → To M 1 1 (st X (l ++ ex) s (fetch C e h k) g co) (st X (l ++ ex) (v ∷ s) k g co)
+    fetch_to ex h (Spilled t) v o = added_get ex (slot t h) v o.0
+    fetch_to {X = X} {s = s} {k = k} {g = g} {co = co} ex h (Known w) v o = subst (λ t. To M 1 1 (st X (l ++ ex) s (const w k) g co) (st X (l ++ ex) (t ∷ s) k g co)) o (push_to w)
+
+    -- operands of the innermost label are fetched
+    pub load_to : {X : Shell} {g : World} {co : List CollectorCall} (ex : List Value) (m : ℕ) (js es : List Place) (ops s vs below : List Value) (k : Nodes) → Holds ex js ops es → cut m ops ≡ parts vs below → To M m m (st X (l ++ ex) s (load C m (es ++ js) k) g co) (st X (l ++ ex) (vs ++ s) k g co)
+    load_to ex zero js es ops s vs below k h e = let f : vs ≡ [] = cc in rw f (still _)
+    load_to ex (suc m) js [] [] s vs below k h e = absurd (cc)
+    load_to ex (suc m) js (e ∷ es) [] s vs below k h c = absurd h
+    load_to ex (suc m) js [] (v ∷ ops) s vs below k h c = absurd h
+    load_to ex (suc m) js (e ∷ es) (v ∷ ops) s vs below k h c =
+        let r = more_parts v (cut m ops) vs below c in
+        rw r.2 (weaken (seq (load_to ex m js es ops s r.0 below (fetch C e (length (es ++ js)) k) h.1 r.1) (fetch_to ex (length (es ++ js)) e v h.0)) (omega arith) (omega arith))
+
+    -- results go to their slots
+    pub store_to : {X : Shell} {g : World} {co : List CollectorCall} (ex : List Value) (r : Option ValType) (es : List Place) (vs : List Value) (k : Nodes) → HasPlace r (λ t. slot t (length es)) ex → exactly r vs ≡ Some vs → To M 0 1 (st X (l ++ ex) vs (store C r es k) g co) (st X (l ++ stored r (λ t. slot t (length es)) vs ex) [] k g co)
+    store_to ex None es [] k p e = weaken (still _) (omega arith) (omega arith)
+    store_to ex None es (v ∷ vs) k p e = absurd (cc)
+    store_to ex (Some t) es [] k p e = absurd (cc)
+    store_to ex (Some t) es (v ∷ []) k p e = weaken (added_set ex (slot t (length es)) t v p (same_type-same (type_of v) t (if_same (same_type (type_of v) t) (v ∷ []) (v ∷ []) e).0)) (omega arith) (omega arith)
+    store_to ex (Some t) es (v ∷ w ∷ vs) k p e = absurd (cc)
+
+    -- the top operand goes to the result local
+    pub to_result_to : {X : Shell} {g : World} {co : List CollectorCall} (ex : List Value) (r : Option ValType) (js es : List Place) (ops vs : List Value) (k : Nodes) → HasPlace r (λ t. slot t C.slots) ex → Holds ex js ops es → top r ops ≡ Some vs → To M 0 2 (st X (l ++ ex) [] (to_result C r (es ++ js) k) g co) (st X (l ++ stored r (λ t. slot t C.slots) vs ex) [] k g co)
+    to_result_to ex None js es ops vs k p h e = weaken (still _) (omega arith) (omega arith)
+    to_result_to ex (Some t) js es [] vs k p h e = absurd (cc)
+    to_result_to ex (Some t) js [] (v ∷ ops) vs k p h e = absurd h
+    to_result_to ex (Some t) js (e ∷ es) (v ∷ ops) vs k p h c =
+        let f = if_same (same_type (type_of v) t) (v ∷ []) vs c in
+        rw (← f.1) (weaken (seq (fetch_to ex (length (es ++ js)) e v h.0) (added_set ex (slot t C.slots) t v p (same_type-same (type_of v) t f.0))) (omega arith) (omega arith))
+
+    -- and from there to its slot
+    pub from_result_to : {X : Shell} {g : World} {co : List CollectorCall} (ex : List Value) (r : Option ValType) (es : List Place) (vs : List Value) (k : Nodes) → HasPlace r (λ t. slot t C.slots) ex → HasPlace r (λ t. slot t (length es)) ex → exactly r vs ≡ Some vs → To M 0 2 (st X (l ++ stored r (λ t. slot t C.slots) vs ex) [] (from_result C r es k) g co) (st X (l ++ stored r (λ t. slot t (length es)) vs (stored r (λ t. slot t C.slots) vs ex)) [] k g co)
+    from_result_to ex None es vs k p p' e = weaken (still _) (omega arith) (omega arith)
+    from_result_to ex (Some t) es [] k p p' e = absurd (cc)
+    from_result_to ex (Some t) es (v ∷ []) k p p' e =
+        let d : type_of v ≡ t = same_type-same (type_of v) t (if_same (same_type (type_of v) t) (v ∷ []) (v ∷ []) e).0 in
+        let i = slot t C.slots in
+        weaken (seq (added_get (slice_set ex i v) i v (slice_get-put_same ex i t v p)) (added_set (slice_set ex i v) (slot t (length es)) t v (rw (types-slice_set ex i t v p d) p') d)) (omega arith) (omega arith)
+    from_result_to ex (Some t) es (v ∷ w ∷ vs) k p p' e = absurd (cc)
+
+    -- a frame ends with its value
+    pub finish_to : {X : Shell} {g : World} {co : List CollectorCall} (ex : List Value) (r : Option ValType) (vs : List Value) → r ≡ X.result → HasPlace r (λ t. slot t C.slots) ex → exactly r vs ≡ Some vs → Gets M 1 2 (st X (l ++ stored r (λ t. slot t C.slots) vs ex) [] (result_back C r) g co) (deliver M vs X.frames g co)
+    finish_to ex None [] re p e = weaken (one_step _ _ (rw (← re) refl)) (omega arith) (omega arith)
+    finish_to ex None (v ∷ vs) re p e = absurd (cc)
+    finish_to ex (Some t) [] re p e = absurd (cc)
+    finish_to ex (Some t) (v ∷ []) re p e =
+        let f = if_same (same_type (type_of v) t) (v ∷ []) (v ∷ []) e in
+        weaken (seq (added_get (slice_set ex (slot t C.slots) v) (slot t C.slots) v (slice_get-put_same ex (slot t C.slots) t v p)) (one_step _ _ (rw (← re, f.0) refl))) (omega arith) (omega arith)
+    finish_to ex (Some t) (v ∷ w ∷ vs) re p e = absurd (cc)

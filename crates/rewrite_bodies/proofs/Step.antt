@@ -1,0 +1,208 @@
+-- The whole step.
+use Rattle.std.proofs.Common.{◌≡◌, ℕ, suc, ◌≤◌, List, [], ◌∷◌, ◌++◌, length, Option, Some, None, Bool, true, false, refl, sym, ap, ◌∙◌, subst, subst₂, arith, inl, inr, slice_get, option_map, unwrap_or}
+use Rattle.wasm_syntax.specs.declared.value.ValType.{ValType}
+use Rattle.wasm_syntax.specs.declared.value.Value.{Value}
+use Rattle.wasm_syntax.specs.declared.value.Value.TheVariants as values
+use Rattle.wasm_syntax.specs.declared.instruction.Basic.{Basic}
+use Rattle.wasm_syntax.specs.declared.instruction.Basic.TheVariants.{Nop, Drop, Select, LocalGet, LocalSet, LocalTee, GlobalGet, GlobalSet, Load, Store, MemorySize, MemoryGrow, Const, Eqz, Unary, Compare, Binary, Convert, MemoryCopy, MemoryFill, Extend32, Extend64}
+use Rattle.wasm_syntax.specs.declared.parts.FuncType.{FuncType}
+use Rattle.wasm_syntax.specs.Tree.{Jump, Unreachable, Br, BrIf, BrTable, Return, Call, CallIndirect, Nodes, stop, basic, jump, block, loop, choose}
+use Rattle.wasm_syntax.specs.Module.{Function, function_at, type_at, same_functype}
+use Rattle.wasm_syntax.specs.Host.{World}
+use Rattle.wasm_syntax.specs.declared.host.CollectorCall.{CollectorCall}
+use Rattle.wasm_syntax.specs.Effect.{Effect, gives, fails, unfit, effect, takes}
+use Rattle.wasm_syntax.specs.Machine.{Kind, Label, Frame, Config, label, frame, config, Engine, traps, Cut, short, parts, cut, result_of, function_type, calls, calls_if, calls_entry, calls_typed, calls_indirect, jumps, affects, does, runs, in_frame, steps, step}
+use Rattle.rewrite_bodies.specs.Slots.{Place, Ctx, less, grown, result_type, after_plain}
+use Rattle.rewrite_bodies.specs.Rewrite.{Info, tested, guarded, indirect_code, rewrite}
+use Rattle.rewrite_bodies.specs.Pieces.{load, store}
+use Rattle.rewrite_bodies.specs.Guards.{can_trap, entry_label, type_label, first_table}
+use Rattle.rewrite_bodies.specs.inner.Steps.{To, Shell, st}
+use Rattle.rewrite_bodies.proofs.Run.{weaken, push_to}
+use Rattle.rewrite_bodies.specs.Agreement.{info, infos, joined, Wit, FitsIn, Has, Room_call, Room, WorldFits, FitsFrame, FitsFrames, FitsConfig, Wrap, flagged, image}
+use Rattle.rewrite_bodies.specs.inner.Promises.{kind_of}
+use Rattle.rewrite_bodies.proofs.Parts.{Rel, framed, match_of}
+use Rattle.rewrite_bodies.specs.inner.Standing.{After, Stands}
+use Rattle.rewrite_bodies.proofs.Sim.{refit, len_of, shell, tgt, wit, verdict_to, plain_gives, push_sim, block_sim, loop_sim, if_sim}
+use Rattle.rewrite_bodies.proofs.Control.{end_sim, br_node, br_if_node, return_node, table_node}
+use Rattle.rewrite_bodies.proofs.Calls.{trap_from, call_node, same_functype-same, same_functype-refl, entry_trap, entry_call}
+use Rattle.rewrite_bodies.specs.Offsets.{SmallOffset}
+
+module _ (M M' : Engine) (E : ℕ) (gl : List ValType) (W : Wrap) (S : Stands M M' E gl) where
+  -- ---- an indirect call
+
+  module _ (C : Ctx) (ex : List Value) (e1 : Place) (e : List Place) (ss : List (List Place)) (ws : List Wit) (ix cl : ℕ) (r : Option ValType) (l : List Value) (n : ℕ) (ops : List Value) (en : ℕ) (kd : Kind) (Ls : List Label) (Fs : List Frame) (g : World) (co : List CollectorCall) (at t : ℕ) (rest : Nodes) (f : FitsFrame M E gl None (frame ix r cl l (label (values.I32 n ∷ ops) (jump at (CallIndirect t) rest) en kd ∷ Ls)) (wit C ex ((e1 ∷ e) ∷ ss))) (fs : FitsFrames M E gl W.result r Fs ws) (wf : WorldFits M gl g) (shallow : suc (length Fs) ≤ M.depth) where
+    abbrev FI : Frame
+    FI = frame ix r cl l (label (values.I32 n ∷ ops) (jump at (CallIndirect t) rest) en kd ∷ Ls)
+
+    abbrev LI : Label
+    LI = label (values.I32 n ∷ ops) (jump at (CallIndirect t) rest) en kd
+
+    abbrev esi : List Place
+    esi = e ++ joined ss
+
+    abbrev lsi : List Info
+    lsi = info kd ∷ infos Ls
+
+    abbrev TI : Option FuncType → Config
+    TI ty = st (shell W C r kd Ls ss Fs ws) (l ++ ex) [] (indirect_code C lsi (e1 ∷ esi) at t ty (λ es'. rewrite C lsi es' rest)) (flagged M g (values.I32 0)) co
+
+    abbrev RoomI : FuncType → Type 0
+    RoomI type = FitsIn C (result_of type) (less (length type.params) esi) × Room C (grown (result_of type) (less (length type.params) esi)) rest
+
+    tab : (q : Option (Option ℕ)) → slice_get g.table n ≡ q → slice_get (first_table M.program.module_) n ≡ q
+    tab q e = ap (λ z. slice_get z n) (sym wf.table) ∙ e
+
+    module _ (type : FuncType) (ty : slice_get M.program.module_.types t ≡ Some type) (has : Has t C.helpers) (rm : RoomI type) where
+      label_is : (g' : ℕ) (u : FuncType) (b : Bool) → type_at M.program.module_ g' ≡ Some u → same_functype u type ≡ b → unwrap_or (option_map (entry_label M.program.module_ t) (Some (Some g'))) 1 ≡ type_label b
+      label_is g' u b tu sb = rw (ty, tu, sb) refl
+
+      by_function : (g' : ℕ) (o : Option Function) → slice_get g.table n ≡ Some (Some g') → type_at M.program.module_ g' ≡ Some type → function_at M.program g' ≡ o → After M M' E gl W (TI (Some type)) (calls M o g' ops at rest FI LI Ls Fs g co)
+      by_function g' None tq tu at_ = tt
+      by_function g' (Some fn) tq tu at_ =
+          let ft = S.type_is g' fn at_ in
+          let same : function_type fn ≡ type = some_same (sym ft ∙ tu) in
+          entry_call M M' E gl W S C ex e1 e ss ws ix cl r l n ops en kd Ls Fs g co at t rest f fs wf shallow type g' fn (cut (length (function_type fn).params) ops) has rm ty tq at_ same (label_is g' type true tu (same_functype-refl type)) refl
+        where
+          some_same : {a b : FuncType} → Some a ≡ Some b → a ≡ b
+          some_same {a} e = ap (λ o. unwrap_or o a) e
+
+      by_type : (g' : ℕ) (u : FuncType) (b : Bool) → slice_get g.table n ≡ Some (Some g') → type_at M.program.module_ g' ≡ Some u → same_functype u type ≡ b → After M M' E gl W (TI (Some type)) (calls_if M (Some b) g' ops at rest FI LI Ls Fs g co)
+      by_type g' u false tq tu sb = entry_trap M M' E gl W S C ex e1 e ss ws ix cl r l n ops en kd Ls Fs g co at t rest f fs wf shallow type (Some (Some g')) 3 6 has (tab (Some (Some g')) tq) (label_is g' u false tu sb) (inr (inr (inr (refl, refl))))
+      by_type g' u true tq tu sb = by_function g' (function_at M.program g') tq (tu ∙ ap Some (same_functype-same u type sb)) refl
+
+      by_typed : (g' : ℕ) (o : Option FuncType) → slice_get g.table n ≡ Some (Some g') → type_at M.program.module_ g' ≡ o → After M M' E gl W (TI (Some type)) (calls_if M (option_map (λ u. same_functype u type) o) g' ops at rest FI LI Ls Fs g co)
+      by_typed g' None tq tu = tt
+      by_typed g' (Some u) tq tu = by_type g' u (same_functype u type) tq tu refl
+
+      by_entry : (q : Option (Option ℕ)) → slice_get g.table n ≡ q → After M M' E gl W (TI (Some type)) (calls_entry M q type ops at rest FI LI Ls Fs g co)
+      by_entry None tq = entry_trap M M' E gl W S C ex e1 e ss ws ix cl r l n ops en kd Ls Fs g co at t rest f fs wf shallow type None 1 4 has (tab None tq) refl (inr (inl (refl, refl)))
+      by_entry (Some None) tq = entry_trap M M' E gl W S C ex e1 e ss ws ix cl r l n ops en kd Ls Fs g co at t rest f fs wf shallow type (Some None) 2 5 has (tab (Some None) tq) refl (inr (inr (inl (refl, refl))))
+      by_entry (Some (Some g')) tq = by_typed g' (type_at M.program.module_ g') tq refl
+
+    indirect_in : (ty : Option FuncType) → slice_get M.program.module_.types t ≡ ty → Has t C.helpers × Room_call C ty esi (λ es'. Room C es' rest) → After M M' E gl W (TI ty) (calls_typed M ty (slice_get g.table n) ops at rest FI LI Ls Fs g co)
+    indirect_in None ty rm = tt
+    indirect_in (Some type) ty rm = by_entry type ty rm.0 rm.1 (slice_get g.table n) refl
+
+    indirect_here : After M M' E gl W (tgt M W C ex (e1 ∷ e) ss ws r l kd Ls Fs g co (jump at (CallIndirect t) rest)) (calls_typed M (slice_get M.program.module_.types t) (slice_get g.table n) ops at rest FI LI Ls Fs g co)
+    indirect_here =
+        let same : slice_get C.source.types t ≡ slice_get M.program.module_.types t = ap (λ z. slice_get z.types t) f.funcs in
+        subst (λ z. After M M' E gl W (TI z) (calls_typed M (slice_get M.program.module_.types t) (slice_get g.table n) ops at rest FI LI Ls Fs g co)) (sym same)
+        (indirect_in (slice_get M.program.module_.types t) refl (subst (λ z. Has t C.helpers × Room_call C z esi (λ es'. Room C es' rest)) same f.labels.2.1))
+
+  indirect_node : (C : Ctx) (ex : List Value) (e : List Place) (ss : List (List Place)) (ws : List Wit) (ix cl : ℕ) (r : Option ValType) (l ops : List Value) (en : ℕ) (kd : Kind) (Ls : List Label) (Fs : List Frame) (g : World) (co : List CollectorCall) (at t : ℕ) (rest : Nodes) → FitsFrame M E gl None (frame ix r cl l (label ops (jump at (CallIndirect t) rest) en kd ∷ Ls)) (wit C ex (e ∷ ss)) → FitsFrames M E gl W.result r Fs ws → WorldFits M gl g → suc (length Fs) ≤ M.depth → After M M' E gl W (tgt M W C ex e ss ws r l kd Ls Fs g co (jump at (CallIndirect t) rest)) (calls_indirect M t ops at rest (frame ix r cl l (label ops (jump at (CallIndirect t) rest) en kd ∷ Ls)) (label ops (jump at (CallIndirect t) rest) en kd) Ls Fs g co)
+  indirect_node C ex e ss ws ix cl r l [] en kd Ls Fs g co at t rest f fs wf sh = tt
+  indirect_node C ex e ss ws ix cl r l (values.I64 n ∷ ops) en kd Ls Fs g co at t rest f fs wf sh = tt
+  indirect_node C ex [] ss ws ix cl r l (values.I32 n ∷ ops) en kd Ls Fs g co at t rest f fs wf sh = absurd f.labels.0
+  indirect_node C ex (e1 ∷ e) ss ws ix cl r l (values.I32 n ∷ ops) en kd Ls Fs g co at t rest f fs wf sh = indirect_here C ex e1 e ss ws ix cl r l n ops en kd Ls Fs g co at t rest f fs wf sh
+
+  -- ---- a basic instruction, whatever comes of it
+
+  module _ (C : Ctx) (ex : List Value) (e : List Place) (ss : List (List Place)) (ws : List Wit) (ix cl : ℕ) (r : Option ValType) (l ops : List Value) (en : ℕ) (kd : Kind) (Ls : List Label) (Fs : List Frame) (g : World) (co : List CollectorCall) (o : ℕ) (i : Basic) (rest : Nodes) (f : FitsFrame M E gl None (frame ix r cl l (label ops (basic o i rest) en kd ∷ Ls)) (wit C ex (e ∷ ss))) (fs : FitsFrames M E gl W.result r Fs ws) (wf : WorldFits M gl g) (rm : SmallOffset i × FitsIn C (result_type C (e ++ joined ss) i) (less (takes i) (e ++ joined ss)) × Room C (after_plain C (e ++ joined ss) i) rest) where
+    abbrev FB : Frame
+    FB = frame ix r cl l (label ops (basic o i rest) en kd ∷ Ls)
+
+    abbrev LB : Label
+    LB = label ops (basic o i rest) en kd
+
+    abbrev esb : List Place
+    esb = e ++ joined ss
+
+    abbrev lsb : List Info
+    lsb = info kd ∷ infos Ls
+
+    abbrev XB : Shell
+    XB = shell W C r kd Ls ss Fs ws
+
+    abbrev gb : World
+    gb = flagged M g (values.I32 0)
+
+    abbrev kb : Nodes
+    kb = load C (takes i) esb (basic 0 i (store C (result_type C esb i) (less (takes i) esb) (rewrite C lsb (after_plain C esb i) rest)))
+
+    abbrev TB : Bool → Config
+    TB b = st XB (l ++ ex) [] (guarded b C lsb esb o i kb) gb co
+
+    basic_trap : (vs below : List Value) (k : ℕ) → cut (takes i) ops ≡ parts vs below → effect i g l vs ≡ fails k → After M M' E gl W (TB (can_trap i)) (traps k (config (FB ∷ Fs) g co))
+    basic_trap vs below k c p =
+        let h = f.labels in
+        let tr = subst (λ z. Rel M gl (result_type C esb i) (can_trap i) l ex (values.I32 0) z (effect i gb (l ++ ex) vs)) p (framed M gl C esb l g ex (values.I32 0) f.size wf (sym f.flag) i vs (match_of ex (takes i) (joined ss) e ops vs below h.0 c)) in
+        let j = tr.1 in
+        let kind : kind_of (effect i g l vs) ≡ suc j = ap kind_of p ∙ tr.2 in
+        let v1 = verdict_to M M' E gl W C ex e ss ws ix cl r l ops en kd Ls Fs g co i o kb vs below tr.0 (len_of l C.locals f.size) wf.memory rm.0 h.0 c (λ n. cc) in
+        let v2 = subst (λ z. To M' 1 26 (TB true) (st XB (l ++ ex) (values.I32 z ∷ []) (tested C lsb esb o kb) gb co)) kind v1 in
+        subst₂ (λ b z. After M M' E gl W (TB b) (traps z (config (FB ∷ Fs) g co))) (sym tr.0) (sym tr.2)
+        (trap_from M M' E gl W S C ex e ss ws ix cl r l ops en kd Ls Fs g co (basic o i rest) f fs wf (TB true) j kb (weaken M' v2 (omega arith) (omega arith)))
+
+    performed : (vs below : List Value) (x : Effect) → cut (takes i) ops ≡ parts vs below → effect i g l vs ≡ x → After M M' E gl W (TB (can_trap i)) (affects M x below rest FB LB Ls Fs g co)
+    performed vs below (gives g' l' ws') c p = plain_gives M M' E gl W C ex e ss ws ix cl r l ops en kd Ls Fs g co i o rest vs below l' g' ws' f fs wf rm c p
+    performed vs below (fails k) c p = basic_trap vs below k c p
+    performed vs below unfit c p = tt
+
+    acts : (u : Cut) → cut (takes i) ops ≡ u → After M M' E gl W (TB (can_trap i)) (does M i u rest FB LB Ls Fs g co)
+    acts short c = tt
+    acts (parts vs below) c = performed vs below (effect i g l vs) c refl
+
+    plain_sim : After M M' E gl W (TB (can_trap i)) (does M i (cut (takes i) ops) rest FB LB Ls Fs g co)
+    plain_sim = acts (cut (takes i) ops) refl
+
+  unreachable_sim : (C : Ctx) (ex : List Value) (e : List Place) (ss : List (List Place)) (ws : List Wit) (ix cl : ℕ) (r : Option ValType) (l ops : List Value) (en : ℕ) (kd : Kind) (Ls : List Label) (Fs : List Frame) (g : World) (co : List CollectorCall) (o : ℕ) (rest : Nodes) → FitsFrame M E gl None (frame ix r cl l (label ops (jump o Unreachable rest) en kd ∷ Ls)) (wit C ex (e ∷ ss)) → FitsFrames M E gl W.result r Fs ws → WorldFits M gl g → After M M' E gl W (tgt M W C ex e ss ws r l kd Ls Fs g co (jump o Unreachable rest)) (traps 1 (config (frame ix r cl l (label ops (jump o Unreachable rest) en kd ∷ Ls) ∷ Fs) g co))
+  unreachable_sim C ex e ss ws ix cl r l ops en kd Ls Fs g co o rest f fs wf = trap_from M M' E gl W S C ex e ss ws ix cl r l ops en kd Ls Fs g co (jump o Unreachable rest) f fs wf _ 0 (jump 0 Unreachable stop) (weaken M' (push_to M' (values.I32 1)) (omega arith) (omega arith))
+
+  -- ---- each step
+
+  basic_sim : (C : Ctx) (ex : List Value) (e : List Place) (ss : List (List Place)) (ws : List Wit) (ix cl : ℕ) (r : Option ValType) (l ops : List Value) (en : ℕ) (kd : Kind) (Ls : List Label) (Fs : List Frame) (g : World) (co : List CollectorCall) (o : ℕ) (i : Basic) (rest : Nodes) → FitsFrame M E gl None (frame ix r cl l (label ops (basic o i rest) en kd ∷ Ls)) (wit C ex (e ∷ ss)) → FitsFrames M E gl W.result r Fs ws → WorldFits M gl g → After M M' E gl W (tgt M W C ex e ss ws r l kd Ls Fs g co (basic o i rest)) (does M i (cut (takes i) ops) rest (frame ix r cl l (label ops (basic o i rest) en kd ∷ Ls)) (label ops (basic o i rest) en kd) Ls Fs g co)
+  basic_sim C ex e ss ws ix cl r l ops en kd Ls Fs g co o Nop rest f fs wf = plain_sim C ex e ss ws ix cl r l ops en kd Ls Fs g co o Nop rest f fs wf f.labels.2.1
+  basic_sim C ex e ss ws ix cl r l ops en kd Ls Fs g co o Drop rest f fs wf = plain_sim C ex e ss ws ix cl r l ops en kd Ls Fs g co o Drop rest f fs wf f.labels.2.1
+  basic_sim C ex e ss ws ix cl r l ops en kd Ls Fs g co o Select rest f fs wf = plain_sim C ex e ss ws ix cl r l ops en kd Ls Fs g co o Select rest f fs wf f.labels.2.1
+  basic_sim C ex e ss ws ix cl r l ops en kd Ls Fs g co o (LocalGet x) rest f fs wf = plain_sim C ex e ss ws ix cl r l ops en kd Ls Fs g co o (LocalGet x) rest f fs wf f.labels.2.1
+  basic_sim C ex e ss ws ix cl r l ops en kd Ls Fs g co o (LocalSet x) rest f fs wf = plain_sim C ex e ss ws ix cl r l ops en kd Ls Fs g co o (LocalSet x) rest f fs wf f.labels.2.1
+  basic_sim C ex e ss ws ix cl r l ops en kd Ls Fs g co o (LocalTee x) rest f fs wf = plain_sim C ex e ss ws ix cl r l ops en kd Ls Fs g co o (LocalTee x) rest f fs wf f.labels.2.1
+  basic_sim C ex e ss ws ix cl r l ops en kd Ls Fs g co o (GlobalGet x) rest f fs wf = plain_sim C ex e ss ws ix cl r l ops en kd Ls Fs g co o (GlobalGet x) rest f fs wf f.labels.2.1
+  basic_sim C ex e ss ws ix cl r l ops en kd Ls Fs g co o (GlobalSet x) rest f fs wf = plain_sim C ex e ss ws ix cl r l ops en kd Ls Fs g co o (GlobalSet x) rest f fs wf f.labels.2.1
+  basic_sim C ex e ss ws ix cl r l ops en kd Ls Fs g co o (Load y al of) rest f fs wf = plain_sim C ex e ss ws ix cl r l ops en kd Ls Fs g co o (Load y al of) rest f fs wf f.labels.2.1
+  basic_sim C ex e ss ws ix cl r l ops en kd Ls Fs g co o (Store y al of) rest f fs wf = plain_sim C ex e ss ws ix cl r l ops en kd Ls Fs g co o (Store y al of) rest f fs wf f.labels.2.1
+  basic_sim C ex e ss ws ix cl r l ops en kd Ls Fs g co o MemorySize rest f fs wf = plain_sim C ex e ss ws ix cl r l ops en kd Ls Fs g co o MemorySize rest f fs wf f.labels.2.1
+  basic_sim C ex e ss ws ix cl r l ops en kd Ls Fs g co o MemoryGrow rest f fs wf = plain_sim C ex e ss ws ix cl r l ops en kd Ls Fs g co o MemoryGrow rest f fs wf f.labels.2.1
+  basic_sim C ex e ss ws ix cl r l ops en kd Ls Fs g co o (Eqz t) rest f fs wf = plain_sim C ex e ss ws ix cl r l ops en kd Ls Fs g co o (Eqz t) rest f fs wf f.labels.2.1
+  basic_sim C ex e ss ws ix cl r l ops en kd Ls Fs g co o (Unary t op) rest f fs wf = plain_sim C ex e ss ws ix cl r l ops en kd Ls Fs g co o (Unary t op) rest f fs wf f.labels.2.1
+  basic_sim C ex e ss ws ix cl r l ops en kd Ls Fs g co o (Compare t op) rest f fs wf = plain_sim C ex e ss ws ix cl r l ops en kd Ls Fs g co o (Compare t op) rest f fs wf f.labels.2.1
+  basic_sim C ex e ss ws ix cl r l ops en kd Ls Fs g co o (Binary t op) rest f fs wf = plain_sim C ex e ss ws ix cl r l ops en kd Ls Fs g co o (Binary t op) rest f fs wf f.labels.2.1
+  basic_sim C ex e ss ws ix cl r l ops en kd Ls Fs g co o (Convert c) rest f fs wf = plain_sim C ex e ss ws ix cl r l ops en kd Ls Fs g co o (Convert c) rest f fs wf f.labels.2.1
+  basic_sim C ex e ss ws ix cl r l ops en kd Ls Fs g co o MemoryCopy rest f fs wf = plain_sim C ex e ss ws ix cl r l ops en kd Ls Fs g co o MemoryCopy rest f fs wf f.labels.2.1
+  basic_sim C ex e ss ws ix cl r l ops en kd Ls Fs g co o MemoryFill rest f fs wf = plain_sim C ex e ss ws ix cl r l ops en kd Ls Fs g co o MemoryFill rest f fs wf f.labels.2.1
+  basic_sim C ex e ss ws ix cl r l ops en kd Ls Fs g co o (Extend32 k) rest f fs wf = plain_sim C ex e ss ws ix cl r l ops en kd Ls Fs g co o (Extend32 k) rest f fs wf f.labels.2.1
+  basic_sim C ex e ss ws ix cl r l ops en kd Ls Fs g co o (Extend64 k) rest f fs wf = plain_sim C ex e ss ws ix cl r l ops en kd Ls Fs g co o (Extend64 k) rest f fs wf f.labels.2.1
+  basic_sim C ex e ss ws ix cl r l ops en kd Ls Fs g co o (Const v) rest f fs wf = push_sim M M' E gl W C ex e ss ws ix cl r l ops en kd Ls Fs g co o v rest f fs wf
+
+  jump_sim : (C : Ctx) (ex : List Value) (e : List Place) (ss : List (List Place)) (ws : List Wit) (ix cl : ℕ) (r : Option ValType) (l ops : List Value) (en : ℕ) (kd : Kind) (Ls : List Label) (Fs : List Frame) (g : World) (co : List CollectorCall) (o : ℕ) (j : Jump) (rest : Nodes) → FitsFrame M E gl None (frame ix r cl l (label ops (jump o j rest) en kd ∷ Ls)) (wit C ex (e ∷ ss)) → FitsFrames M E gl W.result r Fs ws → WorldFits M gl g → suc (length Fs) ≤ M.depth → After M M' E gl W (tgt M W C ex e ss ws r l kd Ls Fs g co (jump o j rest)) (jumps M j o rest (frame ix r cl l (label ops (jump o j rest) en kd ∷ Ls)) (label ops (jump o j rest) en kd) Ls Fs g co)
+  jump_sim C ex e ss ws ix cl r l ops en kd Ls Fs g co o Unreachable rest f fs wf sh = unreachable_sim C ex e ss ws ix cl r l ops en kd Ls Fs g co o rest f fs wf
+  jump_sim C ex e ss ws ix cl r l ops en kd Ls Fs g co o (Br n) rest f fs wf sh = br_node M M' E gl W C ex e ss ws ix cl r l ops en kd Ls Fs g co o n rest f fs wf
+  jump_sim C ex e ss ws ix cl r l ops en kd Ls Fs g co o (BrIf n) rest f fs wf sh = br_if_node M M' E gl W C ex e ss ws ix cl r l ops en kd Ls Fs g co o n rest f fs wf
+  jump_sim C ex e ss ws ix cl r l ops en kd Ls Fs g co o (BrTable ts d) rest f fs wf sh = table_node M M' E gl W C ex e ss ws ix cl r l ops en kd Ls Fs g co o d ts rest f fs wf
+  jump_sim C ex e ss ws ix cl r l ops en kd Ls Fs g co o Return rest f fs wf sh = return_node M M' E gl W C ex e ss ws ix cl r l ops en kd Ls Fs g co o rest f fs wf
+  jump_sim C ex e ss ws ix cl r l ops en kd Ls Fs g co o (Call g') rest f fs wf sh = call_node M M' E gl W S C ex e ss ws ix cl r l ops en kd Ls Fs g co o g' rest f fs wf (function_at M.program g') refl
+  jump_sim C ex e ss ws ix cl r l ops en kd Ls Fs g co o (CallIndirect t) rest f fs wf sh = indirect_node C ex e ss ws ix cl r l ops en kd Ls Fs g co o t rest f fs wf sh
+
+  node_sim : (C : Ctx) (ex : List Value) (e : List Place) (ss : List (List Place)) (ws : List Wit) (ix cl : ℕ) (r : Option ValType) (l ops : List Value) (en : ℕ) (kd : Kind) (Ls : List Label) (Fs : List Frame) (g : World) (co : List CollectorCall) (N : Nodes) → FitsFrame M E gl None (frame ix r cl l (label ops N en kd ∷ Ls)) (wit C ex (e ∷ ss)) → FitsFrames M E gl W.result r Fs ws → WorldFits M gl g → suc (length Fs) ≤ M.depth → After M M' E gl W (tgt M W C ex e ss ws r l kd Ls Fs g co N) (runs M N (frame ix r cl l (label ops N en kd ∷ Ls)) (label ops N en kd) Ls Fs g co)
+  node_sim C ex e ss ws ix cl r l ops en kd Ls Fs g co stop f fs wf sh = end_sim M M' E gl W C ex e ss ws ix cl r l ops en kd Ls Fs g co f fs wf
+  node_sim C ex e ss ws ix cl r l ops en kd Ls Fs g co (basic o i rest) f fs wf sh = basic_sim C ex e ss ws ix cl r l ops en kd Ls Fs g co o i rest f fs wf
+  node_sim C ex e ss ws ix cl r l ops en kd Ls Fs g co (jump o j rest) f fs wf sh = jump_sim C ex e ss ws ix cl r l ops en kd Ls Fs g co o j rest f fs wf sh
+  node_sim C ex e ss ws ix cl r l ops en kd Ls Fs g co (block o a inner en' rest) f fs wf sh = block_sim M M' E gl W C ex e ss ws ix cl r l ops en kd Ls Fs g co o a inner en' rest f fs wf
+  node_sim C ex e ss ws ix cl r l ops en kd Ls Fs g co (loop o a inner en' rest) f fs wf sh = loop_sim M M' E gl W C ex e ss ws ix cl r l ops en kd Ls Fs g co o a inner en' rest f fs wf
+  node_sim C ex e ss ws ix cl r l ops en kd Ls Fs g co (choose o a x ea y en' rest) f fs wf sh = if_sim M M' E gl W C ex e ss ws ix cl r l ops en kd Ls Fs g co o a x ea y en' rest f fs wf
+
+  labels_sim : (C : Ctx) (ex : List Value) (ss : List (List Place)) (ws : List Wit) (ix cl : ℕ) (r : Option ValType) (l : List Value) (Ls : List Label) (Fs : List Frame) (g : World) (co : List CollectorCall) → FitsFrame M E gl None (frame ix r cl l Ls) (wit C ex ss) → FitsFrames M E gl W.result r Fs ws → WorldFits M gl g → suc (length Fs) ≤ M.depth → After M M' E gl W (image M W (config (frame ix r cl l Ls ∷ Fs) g co) (wit C ex ss ∷ ws)) (in_frame M Ls (frame ix r cl l Ls) Fs g co)
+  labels_sim C ex ss ws ix cl r l [] Fs g co f fs wf sh = tt
+  labels_sim C ex [] ws ix cl r l (L ∷ Ls) Fs g co f fs wf sh = absurd f.labels
+  labels_sim C ex (e ∷ ss) ws ix cl r l (L ∷ Ls) Fs g co f fs wf sh = node_sim C ex e ss ws ix cl r l L.operands L.end L.kind Ls Fs g co L.nodes f fs wf sh
+
+  frames_sim : (Fs : List Frame) (g : World) (co : List CollectorCall) (ws : List Wit) → FitsConfig M E gl W.result (config Fs g co) ws → length Fs ≤ M.depth → After M M' E gl W (image M W (config Fs g co) ws) (steps M Fs g co)
+  frames_sim [] g co ws h sh = absurd h.1
+  frames_sim (F ∷ Fs) g co [] h sh = absurd h.1
+  frames_sim (F ∷ Fs) g co (w ∷ ws) h sh =
+      let f : FitsFrame M E gl None F w = h.1.0 in
+      labels_sim w.ctx w.ex w.ss ws F.function F.call F.result F.locals F.labels Fs g co (refit F.locals F.labels w.ex w.ss None F.call f refl refl f.labels) h.1.1 h.0 sh
+
+  -- each step of the source is some steps of the target
+  pub step_sim : (c : Config) (ws : List Wit) → FitsConfig M E gl W.result c ws → length c.frames ≤ M.depth → After M M' E gl W (image M W c ws) (step M c)
+  step_sim c ws h sh = frames_sim c.frames c.world c.collected ws h sh

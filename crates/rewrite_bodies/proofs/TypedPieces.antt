@@ -1,0 +1,213 @@
+-- The small pieces of rewritten code are well typed.
+use Rattle.std.proofs.Common.{◌≡◌, ℕ, zero, suc, ◌+◌, ◌<◌, ◌≤◌, List, [], ◌∷◌, ◌++◌, length, map, reverse, Option, Some, None, refl, sym, ap, ◌∙◌, subst, arith, slice_get, option_map, option_to_list}
+use Rattle.std.specs.Prelude.{take}
+use Rattle.wasm_syntax.specs.declared.value.ValType.{ValType}
+use Rattle.wasm_syntax.specs.declared.value.ValType.TheVariants.{I32, I64}
+use Rattle.wasm_syntax.specs.declared.value.Value.{Value}
+use Rattle.wasm_syntax.specs.declared.value.Value.TheVariants as values
+use Rattle.int_ops.specs.declared.operators.Binary.{Binary as BinaryOp}
+use Rattle.int_ops.specs.declared.operators.Binary.TheVariants.{Add, Mul, And, Or}
+use Rattle.int_ops.specs.declared.operators.Compare.TheVariants.{Eq, GtU}
+use Rattle.wasm_syntax.specs.declared.instruction.Convert.TheVariants.{ExtendU}
+use Rattle.wasm_syntax.specs.declared.instruction.Basic.{Basic}
+use Rattle.wasm_syntax.specs.declared.instruction.Basic.TheVariants.{Select, LocalGet, LocalSet, GlobalGet, MemorySize, Const, Eqz, Compare, Binary, Convert}
+use Rattle.wasm_syntax.specs.declared.parts.FuncType.{FuncType}
+use Rattle.wasm_syntax.specs.declared.parts.Limits.{Limits}
+use Rattle.wasm_syntax.specs.declared.module.ModuleParts.{ModuleParts as Module}
+use Rattle.wasm_syntax.specs.Numbers.{type_of, value}
+use Rattle.wasm_syntax.specs.Tree.{Br, Nodes, stop, basic, jump}
+use Rattle.wasm_syntax.specs.Module.{type_at}
+use Rattle.wasm_syntax.specs.Typing.{Context, Arrow, ◌⇒◌, arrow, set_global, Types}
+use Rattle.rewrite_bodies.specs.Slots.{Place, Spilled, Known, place_type, Ctx, slot, result_at, kind_at, offset_at, added}
+use Rattle.rewrite_bodies.specs.Numbering.{value_import, flag_of}
+use Rattle.rewrite_bodies.specs.Pieces.{get, set, const, i32, call, if_any, fetch, load, store, to_result, from_result}
+use Rattle.rewrite_bodies.specs.Guards.{zero_test, guard_zero, guard_signed, past_end, guard_memory, range_test, guard_copy, guard_fill}
+use Rattle.rewrite_bodies.specs.Rewrite.{Info, hand_value, hand, hand_top, to_exit, unwind, test_flag, test_both, tested}
+use Rattle.rewrite_bodies.specs.Agreement.{FitsIn}
+use Rattle.rewrite_bodies.specs.Typed.{Offers}
+use Rattle.rewrite_bodies.proofs.Run.{slice_get-append, added_at, added_kind, added_offset}
+
+-- the nodes take these types to those
+pub record Ok (c : Context) (after before : List ValType) (nodes : Nodes) : Type 0 where
+  pub typed : Types c nodes before after
+
+pub ok_basic : {c : Context} {z : List ValType} {k : Nodes} (s : List ValType) (i : Basic) (t : ValType) (a : Arrow) → arrow c t i ≡ Some a → Ok c z (a.gives ++ s) k → Ok c z (a.takes ++ s) (basic 0 i k)
+ok_basic s i t a e h = record { typed = (a.gives ++ s, record { any = t; arrow_is = a; has = e; above = record { below = s; takes = refl; gives = refl } }, h.typed) }
+
+pub ok_const : {c : Context} {z s : List ValType} {k : Nodes} (v : Value) → Ok c z (type_of v ∷ s) k → Ok c z s (const v k)
+ok_const {s = s} v h = ok_basic s (Const v) I32 ([] ⇒ type_of v ∷ []) refl h
+
+pub ok_select : {c : Context} {z s : List ValType} {k : Nodes} (t : ValType) → Ok c z (t ∷ s) k → Ok c z (I32 ∷ t ∷ t ∷ s) (basic 0 Select k)
+ok_select {s = s} t h = ok_basic s Select t (I32 ∷ t ∷ t ∷ [] ⇒ t ∷ []) refl h
+
+pub ok_eqz : {c : Context} {z s : List ValType} {k : Nodes} (t : ValType) → Ok c z (I32 ∷ s) k → Ok c z (t ∷ s) (basic 0 (Eqz t) k)
+ok_eqz {s = s} t h = ok_basic s (Eqz t) I32 (t ∷ [] ⇒ I32 ∷ []) refl h
+
+pub ok_binary : {c : Context} {z s : List ValType} {k : Nodes} (t : ValType) (op : BinaryOp) → Ok c z (t ∷ s) k → Ok c z (t ∷ t ∷ s) (basic 0 (Binary t op) k)
+ok_binary {s = s} t op h = ok_basic s (Binary t op) I32 (t ∷ t ∷ [] ⇒ t ∷ []) refl h
+
+ok_compare : {c : Context} {z s : List ValType} {k : Nodes} (t : ValType) (op : _) → Ok c z (I32 ∷ s) k → Ok c z (t ∷ t ∷ s) (basic 0 (Compare t op) k)
+ok_compare {s = s} t op h = ok_basic s (Compare t op) I32 (t ∷ t ∷ [] ⇒ I32 ∷ []) refl h
+
+ok_extend : {c : Context} {z s : List ValType} {k : Nodes} → Ok c z (I64 ∷ s) k → Ok c z (I32 ∷ s) (basic 0 (Convert ExtendU) k)
+ok_extend {s = s} h = ok_basic s (Convert ExtendU) I32 (I32 ∷ [] ⇒ I64 ∷ []) refl h
+
+-- the first so many labels take nothing
+
+abbrev pub Open : ℕ → List (List ValType) → Type 0
+Open zero ls = Unit {0}
+Open (suc n) [] = ⊥
+Open (suc n) (t ∷ ls) = (t ≡ []) × Open n ls
+
+pub open_label : (n : ℕ) (ls : List (List ValType)) (l : ℕ) → Open n ls → l < n → slice_get ls l ≡ Some []
+open_label zero ls l o lt = absurd (omega (arith, lt))
+open_label (suc n) [] l o lt = absurd o
+open_label (suc n) (t ∷ ls) zero o lt = ap Some o.0
+open_label (suc n) (t ∷ ls) (suc l) o lt = open_label n ls l o.1 (omega (arith, lt))
+
+abbrev pub HasMemory : List Limits → Type 0
+HasMemory [] = ⊥
+HasMemory (l ∷ ls) = Unit {0}
+
+-- what is on top has this type, where anything is
+abbrev pub TopIs : Option ValType → List Place → Type 0
+TopIs None es = Unit {0}
+TopIs (Some t) [] = Unit {0}
+TopIs (Some t) (e ∷ es) = place_type e ≡ t
+
+-- a context with these labels
+abbrev pub at_labels : Module → List ValType → List ValType → List (List ValType) → Context
+at_labels m locals returns labels = record { module_ = m; locals = locals; labels = labels; returns = returns }
+
+pub ok_if : {m : Module} {locals returns : List ValType} {labels : List (List ValType)} {z s : List ValType} {a k : Nodes} → Ok (at_labels m locals returns ([] ∷ labels)) [] [] a → Ok (at_labels m locals returns labels) z s k → Ok (at_labels m locals returns labels) z (I32 ∷ s) (if_any a k)
+ok_if {s = s} a k = record { typed = (a.typed, refl, s, refl, k.typed) }
+
+pub ok_branch : {m : Module} {locals returns : List ValType} {labels : List (List ValType)} {z s : List ValType} (l : ℕ) → slice_get labels l ≡ Some [] → Ok (at_labels m locals returns labels) z s (jump 0 (Br l) stop)
+ok_branch {z = z} {s = s} l e = record { typed = (z, ([], e, record { below = s; takes = refl }), refl) }
+
+pub ok_call : {m : Module} {locals returns : List ValType} {labels : List (List ValType)} {z : List ValType} {k : Nodes} (s : List ValType) (f : ℕ) (type : FuncType) → type_at m f ≡ Some type → Ok (at_labels m locals returns labels) z (reverse type.results ++ s) k → Ok (at_labels m locals returns labels) z (reverse type.params ++ s) (call f k)
+ok_call s f type e h = record { typed = (reverse type.results ++ s, (type, e, record { below = s; takes = refl; gives = refl }), h.typed) }
+
+module _ (C : Ctx) (m : Module) (locals : List ValType) (off : Offers C m locals) (returns : List ValType) where
+  abbrev pub at : List (List ValType) → Context
+  at labels = at_labels m locals returns labels
+
+  local_is : (x : ℕ) (t : ValType) → slice_get (added C.slots) x ≡ Some t → slice_get locals (length C.locals + x) ≡ Some t
+  local_is x t e = ap (λ z. slice_get z (length C.locals + x)) off.locals_are ∙ slice_get-append C.locals (added C.slots) (length C.locals) x refl ∙ e
+
+  pub ok_get : {labels : List (List ValType)} {z s : List ValType} {k : Nodes} (x : ℕ) (t : ValType) → slice_get (added C.slots) x ≡ Some t → Ok (at labels) z (t ∷ s) k → Ok (at labels) z s (get C x k)
+  ok_get {s = s} x t e h = ok_basic s (LocalGet (length C.locals + x)) I32 ([] ⇒ t ∷ []) (ap (option_map (λ u. [] ⇒ u ∷ [])) (local_is x t e)) h
+
+  pub ok_set : {labels : List (List ValType)} {z s : List ValType} {k : Nodes} (x : ℕ) (t : ValType) → slice_get (added C.slots) x ≡ Some t → Ok (at labels) z s k → Ok (at labels) z (t ∷ s) (set C x k)
+  ok_set {s = s} x t e h = ok_basic s (LocalSet (length C.locals + x)) I32 (t ∷ [] ⇒ []) (ap (option_map (λ u. u ∷ [] ⇒ [])) (local_is x t e)) h
+
+  pub ok_fetch : {labels : List (List ValType)} {z s : List ValType} {k : Nodes} (e : Place) (h : ℕ) → h ≤ C.slots → Ok (at labels) z (place_type e ∷ s) k → Ok (at labels) z s (fetch C e h k)
+  ok_fetch (Spilled t) h le k = ok_get (slot t h) t (added_at C.slots h t le) k
+  ok_fetch (Known v) h le k = ok_const v k
+
+  pub ok_load : {labels : List (List ValType)} {z s : List ValType} (n : ℕ) (es : List Place) (k : Nodes) → length es ≤ C.slots → Ok (at labels) z (map place_type (take n es) ++ s) k → Ok (at labels) z s (load C n es k)
+  ok_load zero es k le h = h
+  ok_load (suc n) [] k le h = h
+  ok_load (suc n) (e ∷ es) k le h = ok_load n es (fetch C e (length es) k) (omega (arith, le)) (ok_fetch e (length es) (omega (arith, le)) h)
+
+  pub ok_store : {labels : List (List ValType)} {z s : List ValType} {k : Nodes} (r : Option ValType) (es : List Place) → FitsIn C r es → Ok (at labels) z s k → Ok (at labels) z (option_to_list r ++ s) (store C r es k)
+  ok_store None es fit h = h
+  ok_store (Some t) es fit h = ok_set (slot t (length es)) t (added_at C.slots (length es) t (omega (arith, fit))) h
+
+  pub ok_to_result : {labels : List (List ValType)} {z s : List ValType} {k : Nodes} (r : Option ValType) (es : List Place) → length es ≤ C.slots → TopIs r es → Ok (at labels) z s k → Ok (at labels) z s (to_result C r es k)
+  ok_to_result None es le top h = h
+  ok_to_result (Some t) [] le top h = h
+  ok_to_result {labels = labels} {z = z} {s = s} {k = k} (Some t) (e ∷ es) le top h =
+      ok_fetch e (length es) (omega (arith, le)) (subst (λ u. Ok (at labels) z (u ∷ s) (set C (result_at C t) k)) (sym top) (ok_set (result_at C t) t (added_at C.slots C.slots t (omega arith)) h))
+
+  pub ok_from_result : {labels : List (List ValType)} {z s : List ValType} {k : Nodes} (r : Option ValType) (es : List Place) → FitsIn C r es → Ok (at labels) z s k → Ok (at labels) z s (from_result C r es k)
+  ok_from_result None es fit h = h
+  ok_from_result (Some t) es fit h = ok_get (result_at C t) t (added_at C.slots C.slots t (omega arith)) (ok_set (slot t (length es)) t (added_at C.slots (length es) t (omega (arith, fit))) h)
+
+  -- ---- handing over
+
+  pub ok_hand_value : {labels : List (List ValType)} {z s : List ValType} {k : Nodes} (t : ValType) → Ok (at labels) z s k → Ok (at labels) z (t ∷ s) (hand_value C t k)
+  ok_hand_value {s = s} t h = ok_call s (value_import C.source t) _ (off.values t) h
+
+  pub ok_hand : {labels : List (List ValType)} {z s : List ValType} (es : List Place) (k : Nodes) → length es ≤ C.slots → Ok (at labels) z s k → Ok (at labels) z s (hand C es k)
+  ok_hand [] k le h = h
+  ok_hand (e ∷ es) k le h = ok_hand es (fetch C e (length es) (hand_value C (place_type e) k)) (omega (arith, le)) (ok_fetch e (length es) (omega (arith, le)) (ok_hand_value (place_type e) h))
+
+  ok_hand_top : {labels : List (List ValType)} {z s : List ValType} (n : ℕ) (es : List Place) (k : Nodes) → length es ≤ C.slots → Ok (at labels) z s k → Ok (at labels) z s (hand_top C n es k)
+  ok_hand_top zero es k le h = h
+  ok_hand_top (suc n) [] k le h = h
+  ok_hand_top (suc n) (e ∷ es) k le h = ok_hand_top n es (fetch C e (length es) (hand_value C (place_type e) k)) (omega (arith, le)) (ok_fetch e (length es) (omega (arith, le)) (ok_hand_value (place_type e) h))
+
+  ok_stop : {labels : List (List ValType)} → Ok (at labels) [] [] stop
+  ok_stop = record { typed = refl }
+
+  -- inside an arm
+  ok_exit : {labels : List (List ValType)} {z s : List ValType} (ls : List Info) → Open (suc (length ls)) labels → Ok (at ([] ∷ labels)) z s (to_exit ls)
+  ok_exit {labels = labels} ls o = ok_branch (suc (length ls)) (open_label (suc (length ls)) labels (length ls) o (omega arith))
+
+  ok_unwind : {labels : List (List ValType)} {s : List ValType} (ls : List Info) (es : List Place) (o : ℕ) → length es ≤ C.slots → Open (suc (length ls)) labels → Ok (at ([] ∷ labels)) [] s (unwind C ls es o)
+  ok_unwind ls es o le op = ok_const (i32 o) (ok_set (offset_at C) I32 (added_offset C.slots) (ok_hand es (to_exit ls) le (ok_exit ls op)))
+
+  pub ok_tested : {labels : List (List ValType)} {z s : List ValType} {k : Nodes} (ls : List Info) (es : List Place) (o : ℕ) → length es ≤ C.slots → Open (suc (length ls)) labels → Ok (at labels) z s k → Ok (at labels) z (I32 ∷ s) (tested C ls es o k)
+  ok_tested ls es o le op h = ok_set (kind_at C) I32 (added_kind C.slots) (ok_get (kind_at C) I32 (added_kind C.slots) (ok_if (ok_unwind ls es o le op) h))
+
+  pub ok_flag : {labels : List (List ValType)} {z s : List ValType} {k : Nodes} → Ok (at labels) z (I32 ∷ s) k → Ok (at labels) z s (basic 0 (GlobalGet (flag_of C.source)) k)
+  ok_flag {s = s} h = ok_basic s (GlobalGet (flag_of C.source)) I32 ([] ⇒ I32 ∷ []) (ap (option_map (λ g. [] ⇒ g.vtype ∷ [])) off.flag_there ∙ ap (λ t. Some ([] ⇒ t ∷ [])) off.flag_type) h
+
+  pub ok_test_flag : {labels : List (List ValType)} {z s : List ValType} {k : Nodes} (ls : List Info) (es : List Place) (o : ℕ) → length es ≤ C.slots → Open (suc (length ls)) labels → Ok (at labels) z s k → Ok (at labels) z s (test_flag C ls es o k)
+  ok_test_flag ls es o le op h = ok_flag (ok_if (ok_const (i32 0) (ok_set (kind_at C) I32 (added_kind C.slots) (ok_unwind ls es o le op))) h)
+
+  pub ok_test_both : {labels : List (List ValType)} {z s : List ValType} {k : Nodes} (ls : List Info) (n : ℕ) (es left : List Place) (o : ℕ) → length es ≤ C.slots → length left ≤ C.slots → Open (suc (length ls)) labels → Ok (at labels) z s k → Ok (at labels) z s (test_both C ls left o (hand_top C n es stop) k)
+  ok_test_both ls n es left o le le1 op h =
+      ok_get (kind_at C) I32 (added_kind C.slots) (ok_flag (ok_binary I32 Or (ok_if
+      (ok_const (i32 o) (ok_set (offset_at C) I32 (added_offset C.slots) (ok_hand left _ le1
+      (ok_get (kind_at C) I32 (added_kind C.slots) (ok_if (ok_hand_top n es stop le ok_stop) (ok_exit ls op)))))) h)))
+
+  -- ---- guards
+
+  ok_size : {labels : List (List ValType)} {z s : List ValType} {k : Nodes} → HasMemory m.memories → Ok (at labels) z (I32 ∷ s) k → Ok (at labels) z s (basic 0 MemorySize k)
+  ok_size {labels = labels} {s = s} has h = ok_basic s MemorySize I32 ([] ⇒ I32 ∷ []) (there m.memories has) h
+    where
+      there : (ls : List Limits) → HasMemory ls → Rattle.wasm_syntax.specs.Typing.if_any ls (Some ([] ⇒ I32 ∷ [])) ≡ Some ([] ⇒ I32 ∷ [])
+      there [] has = absurd has
+      there (l ∷ ls) has = refl
+
+  ok_zero_test : {labels : List (List ValType)} {z s : List ValType} {k : Nodes} (t : ValType) → Ok (at labels) z (I32 ∷ s) k → Ok (at labels) z (t ∷ I32 ∷ I32 ∷ s) (zero_test t k)
+  ok_zero_test t h = ok_eqz t (ok_select I32 h)
+
+  pub ok_guard_zero : {labels : List (List ValType)} {z s : List ValType} {k : Nodes} (t : ValType) (b : Place) (h : ℕ) → h ≤ C.slots → place_type b ≡ t → Ok (at labels) z (I32 ∷ s) k → Ok (at labels) z s (guard_zero C t b h k)
+  ok_guard_zero {labels = labels} {z = z} {s = s} {k = k} t b h le e g =
+      ok_const (i32 2) (ok_const (i32 0) (ok_fetch b h le (subst (λ u. Ok (at labels) z (u ∷ I32 ∷ I32 ∷ s) (zero_test t k)) (sym e) (ok_zero_test t g))))
+
+  type_value : (t : ValType) (n : ℕ) → type_of (value t n) ≡ t
+  type_value I32 n = refl
+  type_value I64 n = refl
+
+  ok_constant : {labels : List (List ValType)} {z s : List ValType} {k : Nodes} (t : ValType) (n : ℕ) → Ok (at labels) z (t ∷ s) k → Ok (at labels) z s (const (value t n) k)
+  ok_constant {labels = labels} {z = z} {s = s} {k = k} t n h = ok_const (value t n) (subst (λ u. Ok (at labels) z (u ∷ s) k) (sym (type_value t n)) h)
+
+  ok_place : {labels : List (List ValType)} {z s : List ValType} {k : Nodes} (e : Place) (t : ValType) (h : ℕ) → h ≤ C.slots → place_type e ≡ t → Ok (at labels) z (t ∷ s) k → Ok (at labels) z s (fetch C e h k)
+  ok_place {labels = labels} {z = z} {s = s} {k = k} e t h le q g = ok_fetch e h le (subst (λ u. Ok (at labels) z (u ∷ s) k) (sym q) g)
+
+  pub ok_guard_signed : {labels : List (List ValType)} {z s : List ValType} {k : Nodes} (t : ValType) (b a : Place) (h : ℕ) → suc h ≤ C.slots → place_type b ≡ t → place_type a ≡ t → Ok (at labels) z (I32 ∷ s) k → Ok (at labels) z s (guard_signed C t b a h k)
+  ok_guard_signed t b a h le eb ea g =
+      ok_const (i32 2) (ok_const (i32 3) (ok_const (i32 0)
+      (ok_place a t h (omega (arith, le)) ea (ok_constant t _ (ok_compare t Eq (ok_place b t (suc h) le eb (ok_constant t _ (ok_compare t Eq (ok_binary I32 And (ok_select I32
+      (ok_place b t (suc h) le eb (ok_zero_test t g))))))))))))
+
+  ok_past_end : {labels : List (List ValType)} {z s : List ValType} {k : Nodes} → HasMemory m.memories → Ok (at labels) z (I32 ∷ s) k → Ok (at labels) z (I64 ∷ s) (past_end k)
+  ok_past_end has h = ok_size has (ok_extend (ok_const (values.I64 65536) (ok_binary I64 Mul (ok_compare I64 GtU h))))
+
+  pub ok_guard_memory : {labels : List (List ValType)} {z s : List ValType} {k : Nodes} (a : Place) (h n : ℕ) → h ≤ C.slots → HasMemory m.memories → place_type a ≡ I32 → Ok (at labels) z (I32 ∷ s) k → Ok (at labels) z s (guard_memory C a h n k)
+  ok_guard_memory a h n le has e g =
+      ok_const (i32 4) (ok_const (i32 0) (ok_place a I32 h le e (ok_extend (ok_const (values.I64 n) (ok_binary I64 Add (ok_past_end has (ok_select I32 g)))))))
+
+  ok_range : {labels : List (List ValType)} {z s : List ValType} {k : Nodes} (a : Place) (h : ℕ) (n : Place) (hn : ℕ) → h ≤ C.slots → hn ≤ C.slots → HasMemory m.memories → place_type a ≡ I32 → place_type n ≡ I32 → Ok (at labels) z (I32 ∷ s) k → Ok (at labels) z s (range_test C a h n hn k)
+  ok_range a h n hn le len has ea en g = ok_place a I32 h le ea (ok_extend (ok_place n I32 hn len en (ok_extend (ok_binary I64 Add (ok_past_end has g)))))
+
+  pub ok_guard_copy : {labels : List (List ValType)} {z s : List ValType} {k : Nodes} (n from to : Place) (h : ℕ) → suc (suc h) ≤ C.slots → HasMemory m.memories → place_type n ≡ I32 → place_type from ≡ I32 → place_type to ≡ I32 → Ok (at labels) z (I32 ∷ s) k → Ok (at labels) z s (guard_copy C n from to h k)
+  ok_guard_copy n from to h le has en ef et g =
+      ok_const (i32 4) (ok_const (i32 0) (ok_range from (suc h) n (suc (suc h)) (omega (arith, le)) le has ef en (ok_range to h n (suc (suc h)) (omega (arith, le)) le has et en (ok_binary I32 Or (ok_select I32 g)))))
+
+  pub ok_guard_fill : {labels : List (List ValType)} {z s : List ValType} {k : Nodes} (n to : Place) (h : ℕ) → suc (suc h) ≤ C.slots → HasMemory m.memories → place_type n ≡ I32 → place_type to ≡ I32 → Ok (at labels) z (I32 ∷ s) k → Ok (at labels) z s (guard_fill C n to h k)
+  ok_guard_fill n to h le has en et g = ok_const (i32 4) (ok_const (i32 0) (ok_range to h n (suc (suc h)) (omega (arith, le)) le has et en (ok_select I32 g)))

@@ -1,0 +1,315 @@
+-- Unwinding: frames hand over their values, the innermost first.
+use Rattle.std.proofs.Common.{◌≡◌, ℕ, zero, suc, ◌+◌, ◌*◌, ◌≤◌, List, [], ◌∷◌, ◌++◌, length, Option, Some, None, refl, sym, ap, ◌∙◌, subst, arith, append_assoc, append-nil, length-append, ◌≢◌, ◌-◌, take, drop, slice_get, slice_set}
+use Rattle.wasm_syntax.specs.declared.value.ValType.{ValType}
+use Rattle.wasm_syntax.specs.declared.value.ValType.TheVariants.{I32, I64}
+use Rattle.wasm_syntax.specs.declared.value.Value.{Value}
+use Rattle.wasm_syntax.specs.declared.value.Value.TheVariants as values
+use Rattle.wasm_syntax.specs.declared.instruction.Basic.TheVariants.{GlobalGet, GlobalSet}
+use Rattle.wasm_syntax.specs.Numbers.{type_of, types}
+use Rattle.int_ops.specs.Integers.{binary as int_binary}
+use Rattle.wasm_syntax.specs.Tree.{Br, Return, Nodes, stop, basic, jump}
+use Rattle.wasm_syntax.specs.declared.module.ModuleParts.{ModuleParts as Module}
+use Rattle.wasm_syntax.specs.Host.{World}
+use Rattle.wasm_syntax.specs.declared.host.CollectorCall.{CollectorCall}
+use Rattle.wasm_syntax.specs.declared.host.CollectorCall.TheVariants as collector_calls
+use Rattle.wasm_syntax.specs.Machine.{Kind, leaves, again, returns, Label, Frame, Config, label, frame, config, Engine, next, exactly, inside, branch, deliver}
+use Rattle.rewrite_bodies.specs.Slots.{Place, place_type, Ctx, slot, kind_at, offset_at, added, less, grown}
+use Rattle.rewrite_bodies.specs.Numbering.{mapped, value_import, frame_import, flag_of, global_types}
+use Rattle.rewrite_bodies.specs.Pieces.{get, set, const, call, if_any, fetch, store}
+use Rattle.rewrite_bodies.specs.Rewrite.{Info, hand_value, hand, hand_top, to_exit, unwind, hand_left, test_flag, test_both, rewrite, hand_locals, zero_result, raise_flag, exit_code}
+use Rattle.rewrite_bodies.specs.Agreement.{One, Holds, awaits, code_at, pending, info, infos, joined, t_kind, t_labels, Wit, KindFits, FitsLabels, WorldFits, FitsFrame, FitsFrames, Wrap, w_frame, zero_vs, last_result, t_frames, flagged}
+use Rattle.rewrite_bodies.specs.inner.Steps.{Gets, To, Shell, st}
+use Rattle.rewrite_bodies.proofs.Run.{stored, stored_other, kind_no_slot, types-stored, slice_get-put_same, slice_get-put_other, types-slice_set, same_type-refl, added_kind, added_offset, still, one_step, seq, weaken, push_to, get_to, added_get, added_set, fetch_to, store_to}
+use Rattle.rewrite_bodies.proofs.Parts.{place_of, fits_put, fits_stored, step_plain}
+use Rattle.dump_write.specs.Collected.{value_call}
+use Rattle.rewrite_bodies.specs.inner.Telling.{tell_ops, tell_labels, tell_locals, tell_frame, tell_outer}
+use Rattle.rewrite_bodies.proofs.Sim.{room_height, grown_fits, len_of, shell, wit, wit_under, armed, if_zero_to, if_up_to}
+use Rattle.rewrite_bodies.proofs.Control.{flag_len, get_last, grown_longer, both_to}
+use Rattle.rewrite_bodies.specs.inner.Standing.{Speaks}
+
+-- all operands of a frame are in their places
+abbrev AllIn : List Value → List Value → List Place → Type 0
+AllIn ex [] [] = Unit {0}
+AllIn ex [] (e ∷ es) = ⊥
+AllIn ex (v ∷ ops) [] = ⊥
+AllIn ex (v ∷ ops) (e ∷ es) = One ex (length es) e v × AllIn ex ops es
+
+abbrev all_ops : List Label → List Value
+all_ops [] = []
+all_ops (L ∷ Ls) = L.operands ++ all_ops Ls
+
+all_in-append : (ex ops below : List Value) (es js : List Place) → Holds ex js ops es → AllIn ex below js → AllIn ex (ops ++ below) (es ++ js)
+all_in-append ex [] below [] js h a = a
+all_in-append ex [] below (e ∷ es) js h a = absurd h
+all_in-append ex (v ∷ ops) below [] js h a = absurd h
+all_in-append ex (v ∷ ops) below (e ∷ es) js h a = (h.0, all_in-append ex ops below es js h.1 a)
+
+all_in : (C : Ctx) (ex : List Value) (a : Option ValType) (Ls : List Label) (ss : List (List Place)) → FitsLabels C ex a Ls ss → AllIn ex (all_ops Ls) (joined ss)
+all_in C ex a [] [] h = tt
+all_in C ex a [] (_ ∷ _) h = absurd h
+all_in C ex a (L ∷ Ls) [] h = absurd h
+all_in C ex a (L ∷ Ls) (e ∷ ss) h = all_in-append ex L.operands (all_ops Ls) e (joined ss) h.0 (all_in C ex (awaits (pending L.kind)) Ls ss h.4)
+
+all_less : (ex : List Value) (m : ℕ) (ops : List Value) (es : List Place) → AllIn ex ops es → AllIn ex (drop m ops) (less m es)
+all_less ex zero ops es a = a
+all_less ex (suc m) [] [] a = tt
+all_less ex (suc m) [] (e ∷ es) a = absurd a
+all_less ex (suc m) (v ∷ ops) [] a = absurd a
+all_less ex (suc m) (v ∷ ops) (e ∷ es) a = all_less ex m ops es a.1
+
+pub less_shorter : (m : ℕ) (es : List Place) → length (less m es) ≤ length es
+less_shorter zero es = omega arith
+less_shorter (suc m) [] = omega arith
+less_shorter (suc m) (e ∷ es) = omega (arith, less_shorter m es)
+
+tell-append : (a b : List Value) (co : List CollectorCall) → tell_ops (a ++ b) co ≡ tell_ops a (tell_ops b co)
+tell-append [] b co = refl
+tell-append (v ∷ a) b co = ap (λ z. value_call v ∷ z) (tell-append a b co)
+
+tell-all : (Ls : List Label) (co : List CollectorCall) → tell_ops (all_ops Ls) co ≡ tell_labels Ls co
+tell-all [] co = refl
+tell-all (L ∷ Ls) co = tell-append L.operands (all_ops Ls) co ∙ ap (tell_ops L.operands) (tell-all Ls co)
+
+-- the topmost operands and then those below
+tell-parts : (m : ℕ) (ops : List Value) (co : List CollectorCall) → tell_ops (take m ops) (tell_ops (drop m ops) co) ≡ tell_ops ops co
+tell-parts zero ops co = refl
+tell-parts (suc m) [] co = refl
+tell-parts (suc m) (v ∷ ops) co = ap (λ z. value_call v ∷ z) (tell-parts m ops co)
+
+pub put_last : (g : List Value) (n : ℕ) (b v : Value) → n ≡ length g → slice_set (g ++ b ∷ []) n v ≡ g ++ v ∷ []
+put_last [] n b v e = let z : n ≡ 0 = e in rw z refl
+put_last (u ∷ g) n b v e = let z : n ≡ suc (length g) = e in rw z (ap (λ r. u ∷ r) (put_last g (length g) b v refl))
+
+length-infos : (Ls : List Label) → length (infos Ls) ≡ length Ls
+length-infos [] = refl
+length-infos (L ∷ Ls) = ap suc (length-infos Ls)
+
+pub get_middle : (done todo ex : List Value) (v : Value) → slice_get ((done ++ v ∷ todo) ++ ex) (length done) ≡ Some v
+get_middle [] todo ex v = refl
+get_middle (u ∷ done) todo ex v = get_middle done todo ex v
+
+-- a branch to the exit block
+exit_branch_last : (C : Ctx) (o : List Value) (k : Nodes) (ss : List (List Place)) (kd : Kind) → KindFits C (joined ss) kd [] → branch 1 [] (label o k 0 (t_kind C [] (joined ss) kd) ∷ t_labels C (pending kd) [] ss) ≡ inside (label [] (exit_code C) 0 (returns C.result) ∷ [])
+exit_branch_last C o k ss (leaves a) h = absurd h
+exit_branch_last C o k ss (again o1 a inner ee) h = absurd h
+exit_branch_last C o k ss (returns r) h = refl
+
+pub exit_branch : (C : Ctx) (ex : List Value) (a : Option ValType) (o : List Value) (k : Nodes) (L : Label) (Ls : List Label) (e : List Place) (ss : List (List Place)) → FitsLabels C ex a (L ∷ Ls) (e ∷ ss) → branch (suc (length (infos Ls))) [] (label o k 0 (t_kind C (infos Ls) (joined ss) L.kind) ∷ t_labels C (pending L.kind) Ls ss) ≡ inside (label [] (exit_code C) 0 (returns C.result) ∷ [])
+exit_branch C ex a o k L [] e ss h = exit_branch_last C o k ss L.kind h.3
+exit_branch C ex a o k L (L1 ∷ Ls) e [] h = absurd h.4
+exit_branch C ex a o k L (L1 ∷ Ls) e (e1 ∷ ss) h =
+    exit_branch C ex (awaits (pending L.kind)) [] (code_at C (info L1.kind ∷ infos Ls) (e1 ++ joined ss) (pending L.kind) L1.nodes) L1 Ls e1 ss h.4
+
+module _ (M' : Engine) (m : Module) (sp : Speaks M' m) where
+  value_at : {X : Shell} {tl s : List Value} {k : Nodes} {g : World} {co : List CollectorCall} (v : Value) → To M' 1 1 (st X tl (v ∷ s) (call (value_import m (type_of v)) k) g co) (st X tl s k g (value_call v ∷ co))
+  value_at {g = g} v = one_step M' _ _ (rw (sp.values_ (type_of v), same_type-refl (type_of v) (type_of v) refl, sp.collects, sp.tells v g) refl)
+
+  pub value_to : {X : Shell} {tl s : List Value} {k : Nodes} {g : World} {co : List CollectorCall} (t : ValType) (v : Value) → type_of v ≡ t → To M' 1 1 (st X tl (v ∷ s) (call (value_import m t) k) g co) (st X tl s k g (value_call v ∷ co))
+  value_to {X = X} {tl = tl} {s = s} {k = k} {g = g} {co = co} t v d = subst (λ t. To M' 1 1 (st X tl (v ∷ s) (call (value_import m t) k) g co) (st X tl s k g (value_call v ∷ co))) d (value_at v)
+
+  pub entry_to : {X : Shell} {tl s : List Value} {kk : Nodes} {g : World} {co : List CollectorCall} (k f o n : ℕ) → To M' 1 1 (st X tl (values.I32 n ∷ values.I32 o ∷ values.I32 f ∷ values.I32 k ∷ s) (call (frame_import m) kk) g co) (st X tl s kk g (collector_calls.Frame k f o n ∷ co))
+  entry_to {g = g} k f o n = one_step M' _ _ (rw (sp.frames_, sp.collects, sp.closes k f o n g) refl)
+
+module _ (M' : Engine) (C : Ctx) (sp : Speaks M' C.source) where
+  value_out : {X : Shell} {tl s : List Value} {k : Nodes} {g : World} {co : List CollectorCall} (t : ValType) (v : Value) → type_of v ≡ t → To M' 1 1 (st X tl (v ∷ s) (hand_value C t k) g co) (st X tl s k g (value_call v ∷ co))
+  value_out t v d = value_to M' C.source sp t v d
+
+  module _ (l : List Value) (size : length C.locals ≡ length l) where
+    -- the operands in these places
+    hand_all_to : {X : Shell} {g : World} {co : List CollectorCall} (ex ops : List Value) (es : List Place) (k : Nodes) → AllIn ex ops es → To M' 0 (2 * length es) (st X (l ++ ex) [] (hand C es k) g co) (st X (l ++ ex) [] k g (tell_ops ops co))
+    hand_all_to ex [] [] k h = weaken M' (still M' _) (omega arith) (omega arith)
+    hand_all_to ex [] (e ∷ es) k h = absurd h
+    hand_all_to ex (v ∷ ops) [] k h = absurd h
+    hand_all_to ex (v ∷ ops) (e ∷ es) k h =
+        weaken M' (seq M' (hand_all_to ex ops es (fetch C e (length es) (hand_value C (place_type e) k)) h.1) (seq M' (fetch_to M' C l size ex (length es) e v h.0) (value_out (place_type e) v (place_of ex (length es) e v h.0)))) (omega arith) (omega arith)
+
+    -- the topmost ones
+    hand_top_to : {X : Shell} {g : World} {co : List CollectorCall} (ex : List Value) (m : ℕ) (ops : List Value) (es : List Place) (k : Nodes) → AllIn ex ops es → To M' 0 (2 * (length es - length (less m es))) (st X (l ++ ex) [] (hand_top C m es k) g co) (st X (l ++ ex) [] k g (tell_ops (take m ops) co))
+    hand_top_to ex zero ops es k h = weaken M' (still M' _) (omega arith) (omega arith)
+    hand_top_to ex (suc m) [] [] k h = weaken M' (still M' _) (omega arith) (omega arith)
+    hand_top_to ex (suc m) [] (e ∷ es) k h = absurd h
+    hand_top_to ex (suc m) (v ∷ ops) [] k h = absurd h
+    hand_top_to ex (suc m) (v ∷ ops) (e ∷ es) k h =
+        weaken M' (seq M' (hand_top_to ex m ops es (fetch C e (length es) (hand_value C (place_type e) k)) h.1) (seq M' (fetch_to M' C l size ex (length es) e v h.0) (value_out (place_type e) v (place_of ex (length es) e v h.0)))) (omega arith) (omega (arith, less_shorter m es))
+
+    -- all operands of the frame
+    pub hand_to : {X : Shell} {g : World} {co : List CollectorCall} (ex : List Value) (a : Option ValType) (Ls : List Label) (ss : List (List Place)) (k : Nodes) → FitsLabels C ex a Ls ss → To M' 0 (2 * length (joined ss)) (st X (l ++ ex) [] (hand C (joined ss) k) g co) (st X (l ++ ex) [] k g (tell_labels Ls co))
+    hand_to {co = co} ex a Ls ss k h = rw (← tell-all Ls co) (hand_all_to ex (all_ops Ls) (joined ss) k (all_in C ex a Ls ss h))
+
+    -- those below the topmost ones, and then, behind a verdict, these
+    pub hand_left_to : {X : Shell} {g : World} {co : List CollectorCall} (ex : List Value) (a : Option ValType) (Ls : List Label) (ss : List (List Place)) (ls : List Info) (m j : ℕ) → FitsLabels C ex a Ls ss → slice_get ex (kind_at C) ≡ Some (values.I32 (suc j)) → To M' 0 (2 * length (joined ss) + 3) (st X (l ++ ex) [] (hand_left C ls (less m (joined ss)) (hand_top C m (joined ss) stop)) g co) (st X (l ++ ex) [] (to_exit ls) g (tell_labels Ls co))
+    hand_left_to {X = X} {g = g} {co = co} ex a Ls ss ls m j h kd =
+        let es = joined ss in
+        let ops = all_ops Ls in
+        let at = all_in C ex a Ls ss h in
+        let others = hand_top C m es stop in
+        let test = if_any others (to_exit ls) in
+        let co1 = tell_ops (drop m ops) co in
+        let co2 = tell_ops (take m ops) co1 in
+        let A = armed X (to_exit ls) [] in
+        let s1 : To M' 0 (2 * length (less m es)) (st X (l ++ ex) [] (hand C (less m es) (get C (kind_at C) test)) g co) (st X (l ++ ex) [] (get C (kind_at C) test) g co1) = hand_all_to ex (drop m ops) (less m es) (get C (kind_at C) test) (all_less ex m ops es at) in
+        let s2 : To M' 1 1 (st X (l ++ ex) [] (get C (kind_at C) test) g co1) (st X (l ++ ex) (values.I32 (suc j) ∷ []) test g co1) = added_get M' C l size ex (kind_at C) (values.I32 (suc j)) kd in
+        let s3 : To M' 1 1 (st X (l ++ ex) (values.I32 (suc j) ∷ []) test g co1) (st A (l ++ ex) [] others g co1) = if_up_to M' j in
+        let s4 : To M' 0 (2 * (length es - length (less m es))) (st A (l ++ ex) [] others g co1) (st A (l ++ ex) [] stop g co2) = hand_top_to ex m ops es stop at in
+        let s5 : To M' 1 1 (st A (l ++ ex) [] stop g co2) (st X (l ++ ex) [] (to_exit ls) g co2) = one_step M' _ _ refl in
+        rw (← tell-all Ls co, ← tell-parts m ops co) (weaken M' (seq M' s1 (seq M' s2 (seq M' s3 (seq M' s4 s5)))) (omega arith) (omega (arith, less_shorter m es)))
+
+  -- the locals
+  locals_to : {X : Shell} {g : World} {co : List CollectorCall} (ex todo done : List Value) (k : Nodes) → To M' 0 (2 * length todo) (st X ((done ++ todo) ++ ex) [] (hand_locals C (length done) (types todo) k) g co) (st X ((done ++ todo) ++ ex) [] k g (tell_locals todo co))
+  locals_to ex [] done k = weaken M' (still M' _) (omega arith) (omega arith)
+  locals_to {X = X} {g = g} {co = co} ex (v ∷ todo) done k =
+      let n : length (done ++ v ∷ []) ≡ suc (length done) = omega (arith, length-append done (v ∷ [])) in
+      let rest : To M' 0 (2 * length todo) (st X ((done ++ v ∷ todo) ++ ex) [] (hand_locals C (suc (length done)) (types todo) k) g (value_call v ∷ co)) (st X ((done ++ v ∷ todo) ++ ex) [] k g (tell_locals todo (value_call v ∷ co))) =
+      rw (append_assoc done (v ∷ []) todo, n) at (locals_to {X = X} {g = g} {co = value_call v ∷ co} ex todo (done ++ v ∷ []) k) in
+      weaken M' (seq M' (get_to M' (length done) v (get_middle done todo ex v)) (seq M' (value_out (type_of v) v refl) rest)) (omega arith) (omega arith)
+
+  zero_out : {X : Shell} {tl : List Value} {g : World} {co : List CollectorCall} (r : Option ValType) → X.result ≡ r → Gets M' 1 2 (st X tl [] (zero_result r (jump 0 Return stop)) g co) (deliver M' (zero_vs r) X.frames g co)
+  zero_out None e = weaken M' (one_step M' _ _ (rw e refl)) (omega arith) (omega arith)
+  zero_out (Some I32) e = weaken M' (seq M' (push_to M' (values.I32 0)) (one_step M' _ _ (rw e refl))) (omega arith) (omega arith)
+  zero_out (Some I64) e = weaken M' (seq M' (push_to M' (values.I64 0)) (one_step M' _ _ (rw e refl))) (omega arith) (omega arith)
+
+  -- this code hands over the operands of a frame
+  abbrev pub Hands : Engine → List Value → Kind → List Label → List Frame → World → ℕ → List CollectorCall → ℕ → Nodes → List Label → List Value → Type 0
+  Hands M l K B FR g b co n H Ls ex =
+      To M' 0 (2 * C.slots + 10) (st (record { idx = mapped C.source C.index; result = C.result; kind = K; below = B; frames = FR }) (l ++ ex) [] H (flagged M g (values.I32 b)) co) (st (record { idx = mapped C.source C.index; result = C.result; kind = K; below = B; frames = FR }) (l ++ ex) [] (jump 0 (Br (suc n)) stop) (flagged M g (values.I32 b)) (tell_labels Ls co))
+
+  -- a frame hands over its values and returns with the flag up
+  pub frame_out : (M : Engine) (l : List Value) (lt : types l ≡ C.locals) (ex : List Value) (Ls : List Label) (n : ℕ) (K : Kind) (B : List Label) (FR : List Frame) (g : World) (b : ℕ) (co : List CollectorCall) (o k : ℕ) (H : Nodes) → types ex ≡ added C.slots → slice_get ex (kind_at C) ≡ Some (values.I32 k) → types g.globals ≡ global_types C.source → branch (suc n) [] (label [] (jump 0 (Br (suc n)) stop) 0 K ∷ B) ≡ inside (label [] (exit_code C) 0 (returns C.result) ∷ []) → Hands M l K B FR g b co n H Ls (slice_set ex (offset_at C) (values.I32 o)) → Gets M' 1 (2 * C.slots + 2 * length C.locals + 25) (st (record { idx = mapped C.source C.index; result = C.result; kind = K; below = B; frames = FR }) (l ++ ex) [] (const (values.I32 o) (set C (offset_at C) H)) (flagged M g (values.I32 b)) co) (deliver M' (zero_vs C.result) FR (flagged M g (values.I32 1)) (collector_calls.Frame k C.index o (length C.locals) ∷ tell_locals l (tell_labels Ls co)))
+  frame_out M l lt ex Ls n K B FR g b co o k H room kd gt br a2 =
+      let size = len_of l C.locals lt in
+      let nl = values.I32 (length C.locals) in
+      let fl = flag_len C g gt in
+      let X1 : Shell = record { idx = mapped C.source C.index; result = C.result; kind = K; below = B; frames = FR } in
+      let X2 : Shell = record { idx = mapped C.source C.index; result = C.result; kind = returns C.result; below = []; frames = FR } in
+      let at : slice_get (types ex) (offset_at C) ≡ Some I32 = rw room (added_offset C.slots) in
+      let ex2 = slice_set ex (offset_at C) (values.I32 o) in
+      let go = jump 0 (Br (suc n)) stop in
+      let co1 = tell_labels Ls co in
+      let co2 = tell_locals l co1 in
+      let co3 = collector_calls.Frame k C.index o (length C.locals) ∷ co2 in
+      let g0 = flagged M g (values.I32 b) in
+      let g1 = flagged M g (values.I32 1) in
+      let k9 = zero_result C.result (jump 0 Return stop) in
+      let k7 = call (frame_import C.source) (raise_flag C k9) in
+      let k3 = get C (kind_at C) (const (values.I32 C.index) (get C (offset_at C) (const nl k7))) in
+      let ne : kind_at C ≢ offset_at C = omega arith in
+      let kd2 = slice_get-put_other ex (kind_at C) (offset_at C) (values.I32 o) ne ∙ kd in
+      let off2 = slice_get-put_same ex (offset_at C) I32 (values.I32 o) at in
+      let a1 : To M' 2 2 (st X1 (l ++ ex) [] (const (values.I32 o) (set C (offset_at C) H)) g0 co) (st X1 (l ++ ex2) [] H g0 co) = seq M' (push_to M' (values.I32 o)) (added_set M' C l size ex (offset_at C) I32 (values.I32 o) at refl) in
+      let a3 : To M' 1 1 (st X1 (l ++ ex2) [] go g0 co1) (st X2 (l ++ ex2) [] (exit_code C) g0 co1) = one_step M' _ _ (rw br refl) in
+      let a4 : To M' 0 (2 * length l) (st X2 (l ++ ex2) [] (exit_code C) g0 co1) (st X2 (l ++ ex2) [] k3 g0 co2) =
+      subst (λ m. To M' 0 (2 * length l) (st X2 (l ++ ex2) [] (hand_locals C 0 m k3) g0 co1) (st X2 (l ++ ex2) [] k3 g0 co2)) lt (locals_to ex2 l [] k3) in
+      let a5 : To M' 1 1 (st X2 (l ++ ex2) [] k3 g0 co2) (st X2 (l ++ ex2) (values.I32 k ∷ []) (const (values.I32 C.index) (get C (offset_at C) (const nl k7))) g0 co2) = added_get M' C l size ex2 (kind_at C) (values.I32 k) kd2 in
+      let a6 : To M' 1 1 (st X2 (l ++ ex2) (values.I32 C.index ∷ values.I32 k ∷ []) (get C (offset_at C) (const nl k7)) g0 co2) (st X2 (l ++ ex2) (values.I32 o ∷ values.I32 C.index ∷ values.I32 k ∷ []) (const nl k7) g0 co2) = added_get M' C l size ex2 (offset_at C) (values.I32 o) off2 in
+      let put_ : slice_set g0.globals (flag_of C.source) (values.I32 1) ≡ g.globals ++ values.I32 1 ∷ [] = put_last g.globals (flag_of C.source) (values.I32 b) (values.I32 1) fl in
+      let a7 : To M' 1 1 (st X2 (l ++ ex2) (values.I32 1 ∷ []) (basic 0 (GlobalSet (flag_of C.source)) k9) g0 co3) (st X2 (l ++ ex2) [] k9 g1 co3) = step_plain M' (GlobalSet (flag_of C.source)) (values.I32 1 ∷ []) [] (l ++ ex2) g1 [] [] refl (rw (get_last g.globals (flag_of C.source) (values.I32 b) fl, put_) refl) refl in
+      weaken M' (seq M' a1 (seq M' a2 (seq M' a3 (seq M' a4 (seq M' a5 (seq M' (push_to M' (values.I32 C.index)) (seq M' a6 (seq M' (push_to M' nl) (seq M' (entry_to M' C.source sp k C.index o (length C.locals)) (seq M' (push_to M' (values.I32 1)) (seq M' a7 (zero_out {X = X2} C.result refl)))))))))))) (omega arith) (omega arith)
+
+module _ (M M' : Engine) (E : ℕ) (gl : List ValType) (W : Wrap) (sp : Speaks M' M.program.module_) where
+  -- a frame is left behind, the flag up: it hands over its own
+  abbrev pub Up : Config → ℕ → ℕ → Option ValType → List Frame → List Wit → World → List CollectorCall → Type 0
+  Up t p q r Fs ws g co = Gets M' p q t (deliver M' (zero_vs r) (t_frames W r Fs ws) (flagged M g (values.I32 1)) co)
+
+  pub renamed : (t : Config) (p q : ℕ) (a r : Option ValType) (i i' n m : ℕ) (o k : ℕ) (FR : List Frame) (g : World) (co : List CollectorCall) → a ≡ r → i ≡ i' → n ≡ m → Gets M' p q t (deliver M' (zero_vs a) FR (flagged M g (values.I32 1)) (collector_calls.Frame k i o n ∷ co)) → Gets M' p q t (deliver M' (zero_vs r) FR (flagged M g (values.I32 1)) (collector_calls.Frame k i' o m ∷ co))
+  renamed t p q a r i i' n m o k FR g co ea ei en h = rw (ea, ei, en) at h
+
+  exact_zero : (r : Option ValType) → exactly r (zero_vs r) ≡ Some (zero_vs r)
+  exact_zero None = refl
+  exact_zero (Some I32) = refl
+  exact_zero (Some I64) = refl
+
+  up_in : (Fs : List Frame) (ws : List Wit) (g : World) (co : List CollectorCall) (t : Config) (p q : ℕ) (r : Option ValType) (C : Ctx) (ex : List Value) (i cl : ℕ) (r' : Option ValType) (l : List Value) (Ls : List Label) (ss : List (List Place)) → FitsFrame M E gl r (frame i r' cl l Ls) (wit C ex ss) → FitsFrames M E gl W.result r' Fs ws → WorldFits M gl g → Up t p q r (frame i r' cl l Ls ∷ Fs) (wit C ex ss ∷ ws) g co → Up t p (q + E) r' Fs ws g (tell_frame 0 cl (frame i r' cl l Ls) co)
+  up_in Fs ws g co t p q r C ex i cl r' l [] ss f fs gl_ u = absurd f.labels
+  up_in Fs ws g co t p q r C ex i cl r' l (L ∷ Ls) [] f fs gl_ u = absurd f.labels
+  up_in Fs ws g co t p q r C ex i cl r' l (L ∷ Ls) (e ∷ ss) f fs gl_ u =
+      let h = f.labels in
+      let es = e ++ joined ss in
+      let ls = info L.kind ∷ infos Ls in
+      let X = shell W C r' L.kind Ls ss Fs ws in
+      let size = len_of l C.locals f.size in
+      let n = length C.locals in
+      let pl = grown_fits C r es ex f.room h.1 in
+      let ex1 = stored r (λ t. slot t (length es)) (zero_vs r) ex in
+      let len1 : types ex1 ≡ types ex = types-stored r (λ t. slot t (length es)) (zero_vs r) ex pl (exact_zero r) in
+      let k = rewrite C ls (grown r es) L.nodes in
+      let k1 = test_flag C ls es cl k in
+      let low : length es ≤ C.slots = omega (arith, grown_longer r es, room_height C (grown r es) L.nodes h.2) in
+      let gt : types g.globals ≡ global_types C.source = gl_.globals ∙ sym f.flag in
+      let fl = flag_len C g gt in
+      let at : slice_get (types ex1) (kind_at C) ≡ Some I32 = rw (len1 ∙ f.room) (added_kind C.slots) in
+      let X1 = armed X k [] in
+      let g1 = flagged M g (values.I32 1) in
+      let h1 = fits_stored C ex r r (L ∷ Ls) (e ∷ ss) (λ t. slot t (length es)) (zero_vs r) (λ t. omega arith) h in
+      let h2 = fits_put C ex1 r (L ∷ Ls) (e ∷ ss) (kind_at C) (values.I32 0) (omega (arith, low)) h1 in
+      let ex2 = slice_set ex1 (kind_at C) (values.I32 0) in
+      let go1 : Gets M' p q t (next (st X (l ++ ex) (zero_vs r) (store C r es k1) g1 co)) = rw append-nil at u in
+      let s1 : To M' 0 1 (st X (l ++ ex) (zero_vs r) (store C r es k1) g1 co) (st X (l ++ ex1) [] k1 g1 co) = store_to M' C l size ex r es (zero_vs r) k1 pl (exact_zero r) in
+      let s2 : To M' 1 1 (st X (l ++ ex1) [] k1 g1 co) (st X (l ++ ex1) (values.I32 1 ∷ []) (if_any (const (values.I32 0) (set C (kind_at C) (unwind C ls es cl))) k) g1 co) = step_plain M' (GlobalGet (flag_of C.source)) [] [] (l ++ ex1) g1 (values.I32 1 ∷ []) (values.I32 1 ∷ []) refl (rw (get_last g.globals (flag_of C.source) (values.I32 1) fl) refl) refl in
+      let s3 : To M' 1 1 (st X (l ++ ex1) (values.I32 1 ∷ []) (if_any (const (values.I32 0) (set C (kind_at C) (unwind C ls es cl))) k) g1 co) (st X1 (l ++ ex1) [] (const (values.I32 0) (set C (kind_at C) (unwind C ls es cl))) g1 co) = one_step M' _ _ refl in
+      let s4 : To M' 2 2 (st X1 (l ++ ex1) [] (const (values.I32 0) (set C (kind_at C) (unwind C ls es cl))) g1 co) (st X1 (l ++ ex2) [] (unwind C ls es cl) g1 co) = seq M' (push_to M' (values.I32 0)) (added_set M' C l size ex1 (kind_at C) I32 (values.I32 0) at refl) in
+      let br = exit_branch C ex r [] k L Ls e ss h in
+      let sp_ = subst (Speaks M') (sym f.funcs) sp in
+      let h3 = fits_put C ex2 r (L ∷ Ls) (e ∷ ss) (offset_at C) (values.I32 cl) (omega (arith, low)) h2 in
+      let hands : Hands M' C sp_ M l X1.kind X1.below X1.frames g 1 co (length ls) (hand C es (to_exit ls)) (L ∷ Ls) (slice_set ex2 (offset_at C) (values.I32 cl)) = weaken M' (hand_to M' C sp_ l size (slice_set ex2 (offset_at C) (values.I32 cl)) r (L ∷ Ls) (e ∷ ss) (to_exit ls) h3) (omega arith) (omega (arith, low)) in
+      let s5 = frame_out M' C sp_ M l f.size ex2 (L ∷ Ls) (length ls) X1.kind X1.below X1.frames g 1 co cl 0 (hand C es (to_exit ls)) (types-slice_set ex1 (kind_at C) I32 (values.I32 0) at refl ∙ len1 ∙ f.room) (slice_get-put_same ex1 (kind_at C) I32 (values.I32 0) at) gt br hands in
+      let all : Gets M' p (q + E) t (deliver M' (zero_vs C.result) X.frames g1 (collector_calls.Frame 0 C.index cl n ∷ tell_locals l (tell_labels (L ∷ Ls) co))) = weaken M' (seq M' go1 (seq M' s1 (seq M' s2 (seq M' s3 (seq M' s4 s5))))) (omega arith) (omega (arith, f.small)) in
+      renamed t p (q + E) C.result r' C.index i n (length l) cl 0 X.frames g (tell_locals l (tell_labels (L ∷ Ls) co)) f.result f.idx size all
+
+  -- the same for a frame that called through the table
+  up_arm : (Fs : List Frame) (ws : List Wit) (g : World) (co : List CollectorCall) (t : Config) (p q : ℕ) (r : Option ValType) (C : Ctx) (ex : List Value) (others : Nodes) (i cl : ℕ) (r' : Option ValType) (l : List Value) (Ls : List Label) (ss : List (List Place)) → FitsFrame M E gl r (frame i r' cl l Ls) (wit_under C ex ss (Some others)) → FitsFrames M E gl W.result r' Fs ws → WorldFits M gl g → Up t p q r (frame i r' cl l Ls ∷ Fs) (wit_under C ex ss (Some others) ∷ ws) g co → Up t p (q + E) r' Fs ws g (tell_frame 0 cl (frame i r' cl l Ls) co)
+  unfolding int_binary
+  up_arm Fs ws g co t p q r C ex others i cl r' l [] ss f fs gl_ u = absurd f.labels
+  up_arm Fs ws g co t p q r C ex others i cl r' l (L ∷ Ls) [] f fs gl_ u = absurd f.labels
+  up_arm Fs ws g co t p q r C ex others i cl r' l (L ∷ Ls) (e ∷ ss) f fs gl_ u =
+      let h = f.labels in
+      let es = e ++ joined ss in
+      let ls = info L.kind ∷ infos Ls in
+      let X = shell W C r' L.kind Ls ss Fs ws in
+      let size = len_of l C.locals f.size in
+      let n = length C.locals in
+      let pl = grown_fits C r es ex f.room h.1 in
+      let ex1 = stored r (λ t. slot t (length es)) (zero_vs r) ex in
+      let len1 : types ex1 ≡ types ex = types-stored r (λ t. slot t (length es)) (zero_vs r) ex pl (exact_zero r) in
+      let k = rewrite C ls (grown r es) L.nodes in
+      let K = test_both C ls es cl others k in
+      let low : length es ≤ C.slots = omega (arith, grown_longer r es, room_height C (grown r es) L.nodes h.2) in
+      let kd : slice_get ex1 (kind_at C) ≡ Some (values.I32 0) = stored_other r (λ t. slot t (length es)) (zero_vs r) ex (kind_at C) (λ t. kind_no_slot C (length es) t low) ∙ f.no_kind in
+      let gt : types g.globals ≡ global_types C.source = gl_.globals ∙ sym f.flag in
+      let fl = flag_len C g gt in
+      let A = armed X K [] in
+      let X1 = armed X k [] in
+      let H = hand_left C ls es others in
+      let g1 = flagged M g (values.I32 1) in
+      let h1 = fits_stored C ex r r (L ∷ Ls) (e ∷ ss) (λ t. slot t (length es)) (zero_vs r) (λ t. omega arith) h in
+      let go1 : Gets M' p q t (next (st A (l ++ ex) (zero_vs r) (store C r es stop) g1 co)) = rw append-nil at u in
+      let s1 : To M' 0 1 (st A (l ++ ex) (zero_vs r) (store C r es stop) g1 co) (st A (l ++ ex1) [] stop g1 co) = store_to M' C l size ex r es (zero_vs r) stop pl (exact_zero r) in
+      let s2 : To M' 1 1 (st A (l ++ ex1) [] stop g1 co) (st X (l ++ ex1) [] K g1 co) = one_step M' _ _ refl in
+      let s3 = both_to M M' E gl W C X l ex1 g co ls es cl others k 0 1 1 size kd fl refl in
+      let s4 : To M' 1 1 (st X (l ++ ex1) (values.I32 1 ∷ []) (if_any (const (values.I32 cl) (set C (offset_at C) H)) k) g1 co) (st X1 (l ++ ex1) [] (const (values.I32 cl) (set C (offset_at C) H)) g1 co) = one_step M' _ _ refl in
+      let br = exit_branch C ex r [] k L Ls e ss h in
+      let sp_ = subst (Speaks M') (sym f.funcs) sp in
+      let ex3 = slice_set ex1 (offset_at C) (values.I32 cl) in
+      let h3 = fits_put C ex1 r (L ∷ Ls) (e ∷ ss) (offset_at C) (values.I32 cl) (omega (arith, low)) h1 in
+      let ne : kind_at C ≢ offset_at C = omega arith in
+      let kd3 : slice_get ex3 (kind_at C) ≡ Some (values.I32 0) = slice_get-put_other ex1 (kind_at C) (offset_at C) (values.I32 cl) ne ∙ kd in
+      let co1 = tell_labels (L ∷ Ls) co in
+      let test = get C (kind_at C) (if_any others (to_exit ls)) in
+      let b1 : To M' 0 (2 * length es) (st X1 (l ++ ex3) [] H g1 co) (st X1 (l ++ ex3) [] test g1 co1) = hand_to M' C sp_ l size ex3 r (L ∷ Ls) (e ∷ ss) test h3 in
+      let b2 : To M' 1 1 (st X1 (l ++ ex3) [] test g1 co1) (st X1 (l ++ ex3) (values.I32 0 ∷ []) (if_any others (to_exit ls)) g1 co1) = added_get M' C l size ex3 (kind_at C) (values.I32 0) kd3 in
+      let b3 : To M' 2 2 (st X1 (l ++ ex3) (values.I32 0 ∷ []) (if_any others (to_exit ls)) g1 co1) (st X1 (l ++ ex3) [] (to_exit ls) g1 co1) = if_zero_to M' in
+      let hands : Hands M' C sp_ M l X1.kind X1.below X1.frames g 1 co (length ls) H (L ∷ Ls) ex3 = weaken M' (seq M' b1 (seq M' b2 b3)) (omega arith) (omega (arith, low)) in
+      let s5 = frame_out M' C sp_ M l f.size ex1 (L ∷ Ls) (length ls) X1.kind X1.below X1.frames g 1 co cl 0 H (len1 ∙ f.room) kd gt br hands in
+      let all : Gets M' p (q + E) t (deliver M' (zero_vs C.result) X.frames g1 (collector_calls.Frame 0 C.index cl n ∷ tell_locals l (tell_labels (L ∷ Ls) co))) = weaken M' (seq M' go1 (seq M' s1 (seq M' s2 (seq M' s3 (seq M' s4 s5))))) (omega arith) (omega (arith, f.small)) in
+      renamed t p (q + E) C.result r' C.index i n (length l) cl 0 X.frames g (tell_locals l (tell_labels (L ∷ Ls) co)) f.result f.idx size all
+
+  pub up_under : (Fs : List Frame) (ws : List Wit) (g : World) (co : List CollectorCall) (t : Config) (p q : ℕ) (r : Option ValType) (F : Frame) (C : Ctx) (ex : List Value) (ss : List (List Place)) (others : Option Nodes) → FitsFrame M E gl r F (wit_under C ex ss others) → FitsFrames M E gl W.result F.result Fs ws → WorldFits M gl g → Up t p q r (F ∷ Fs) (wit_under C ex ss others ∷ ws) g co → Up t p (q + E) F.result Fs ws g (tell_frame 0 F.call F co)
+  up_under Fs ws g co t p q r F C ex ss None f fs gl_ u = up_in Fs ws g co t p q r C ex F.function F.call F.result F.locals F.labels ss f fs gl_ u
+  up_under Fs ws g co t p q r F C ex ss (Some others) f fs gl_ u = up_arm Fs ws g co t p q r C ex others F.function F.call F.result F.locals F.labels ss f fs gl_ u
+
+  -- all frames, the innermost first
+  pub up_all : (Fs : List Frame) (ws : List Wit) (g : World) (co : List CollectorCall) (t : Config) (p q : ℕ) (r : Option ValType) → FitsFrames M E gl W.result r Fs ws → WorldFits M gl g → Up t p q r Fs ws g co → To M' p (q + length Fs * E) t (config (w_frame W (zero_vs (last_result r Fs) ++ []) ∷ []) (flagged M g (values.I32 1)) (tell_outer Fs co))
+  up_all [] ws g co t p q r fs gl_ u = weaken M' u (omega arith) (omega arith)
+  up_all (F ∷ Fs) [] g co t p q r fs gl_ u = absurd fs
+  up_all (F ∷ Fs) (w ∷ ws) g co t p q r fs gl_ u =
+      weaken M' (up_all Fs ws g (tell_frame 0 F.call F co) t p (q + E) F.result fs.1 gl_
+      (up_under Fs ws g co t p q r F w.ctx w.ex w.ss w.others fs.0 fs.1 gl_ u)) (omega arith) (omega arith)

@@ -1,0 +1,243 @@
+-- The configuration of the rewritten module that stands for one of the original.
+use Rattle.std.specs.Prelude.{◌≡◌, ℕ, ◌+◌, ◌*◌, ◌<◌, ◌≤◌, List, [], ◌∷◌, ◌++◌, length, Option, Some, None, slice_get, map, option_map}
+use Rattle.wasm_syntax.specs.declared.value.ValType.{ValType}
+use Rattle.wasm_syntax.specs.declared.value.Value.{Value}
+use Rattle.wasm_syntax.specs.Numbers.{type_of, types}
+use Rattle.wasm_syntax.specs.Tree.{Nodes, basic, Jump, Unreachable, Br, BrIf, BrTable, Return, Call, CallIndirect, stop, jump, block, loop, choose}
+use Rattle.wasm_syntax.specs.Host.{World}
+use Rattle.wasm_syntax.specs.Machine.{Kind, Label, Frame, Config, label, frame, config, Engine, leaves, again, returns, zero_of, result_of}
+use Rattle.rewrite_bodies.specs.Guards.{first_table}
+use Rattle.rewrite_bodies.specs.Slots.{Place, Spilled, Known, Ctx, slot, kind_at, added, less, grown, result_type, after_plain, greatest}
+use Rattle.rewrite_bodies.specs.Pieces.{store, from_result}
+use Rattle.wasm_syntax.specs.declared.value.Value.TheVariants as values
+use Rattle.wasm_syntax.specs.declared.instruction.Basic.{Basic}
+use Rattle.wasm_syntax.specs.declared.instruction.Basic.TheVariants.{Const}
+use Rattle.wasm_syntax.specs.declared.parts.FuncType.{FuncType}
+use Rattle.wasm_syntax.specs.Module.{type_at}
+use Rattle.wasm_syntax.specs.Effect.{takes}
+use Rattle.rewrite_bodies.specs.Rewrite.{Info, in_block, in_loop, in_body, finish, after_call, test_both, rewrite, exit_code}
+use Rattle.rewrite_bodies.specs.Numbering.{mapped, place_in, global_types, helper_base, helped}
+use Rattle.linear_memory.specs.Memory.{Memory}
+use Rattle.rewrite_bodies.specs.Offsets.{SmallOffset}
+
+-- the operand is in its slot, or is the constant
+abbrev pub One : List Value → ℕ → Place → Value → Type 0
+One ex h (Spilled t) v = (slice_get ex (slot t h) ≡ Some v) × (type_of v ≡ t)
+One ex h (Known w) v = w ≡ v
+
+-- so are all of a label's, above these places
+abbrev pub Holds : List Value → List Place → List Value → List Place → Type 0
+Holds ex js [] [] = Unit {0}
+Holds ex js [] (e ∷ es) = ⊥
+Holds ex js (v ∷ ops) [] = ⊥
+Holds ex js (v ∷ ops) (e ∷ es) = One ex (length (es ++ js)) e v × Holds ex js ops es
+
+-- what a label waits for: results of a block, of a call, or of a call through the table, with the code that would hand over its arguments
+pub data Pending : Type 0 where
+  Arrives : (a : Option ValType) → Pending
+  Called : (o : ℕ) (r : Option ValType) → Pending
+  Through : (o : ℕ) (r : Option ValType) (others : Nodes) → Pending
+
+abbrev pub awaits : Pending → Option ValType
+awaits (Arrives a) = a
+awaits (Called o r) = r
+awaits (Through o r others) = r
+
+abbrev pub now : Pending
+now = Arrives None
+
+-- what is still to be run in a label
+abbrev pub code_at : Ctx → List Info → List Place → Pending → Nodes → Nodes
+code_at C ls es (Arrives a) rest = from_result C a es (rewrite C ls (grown a es) rest)
+code_at C ls es (Called o r) rest = after_call C ls r es o (λ es'. rewrite C ls es' rest)
+code_at C ls es (Through o r others) rest = test_both C ls es o others (rewrite C ls (grown r es) rest)
+
+abbrev pub pending : Kind → Pending
+pending (leaves a) = Arrives a
+pending (again o a inner en) = Arrives a
+pending (returns r) = now
+
+abbrev pub info : Kind → Info
+info (leaves a) = in_block a
+info (again o a inner en) = in_loop a
+info (returns r) = in_body r
+
+abbrev pub infos : List Label → List Info
+infos [] = []
+infos (L ∷ Ls) = info L.kind ∷ infos Ls
+
+abbrev pub joined : List (List Place) → List Place
+joined [] = []
+joined (e ∷ ss) = e ++ joined ss
+
+abbrev pub t_kind : Ctx → List Info → List Place → Kind → Kind
+t_kind C ls js (leaves a) = leaves None
+t_kind C ls js (again o a inner en) = again 0 None (rewrite C (in_loop a ∷ ls) js inner) 0
+t_kind C ls js (returns r) = leaves None
+
+abbrev pub t_labels : Ctx → Pending → List Label → List (List Place) → List Label
+t_labels C p [] ss = label [] (finish C) 0 (leaves None) ∷ label [] (exit_code C) 0 (returns C.result) ∷ []
+t_labels C p (L ∷ Ls) [] = []
+t_labels C p (L ∷ Ls) (e ∷ ss) =
+    label [] (code_at C (info L.kind ∷ infos Ls) (e ++ joined ss) p L.nodes) 0 (t_kind C (infos Ls) (joined ss) L.kind) ∷ t_labels C (pending L.kind) Ls ss
+
+-- a call through the table is made inside an arm, which puts its result into its slot
+abbrev pub with_arm : Ctx → Pending → List Place → List Label → List Label
+with_arm C (Arrives a) es Ls = Ls
+with_arm C (Called o r) es Ls = Ls
+with_arm C (Through o r others) es Ls = label [] (store C r es stop) 0 (leaves None) ∷ Ls
+
+-- what the configuration does not say: the function's constants, the added locals, what is known of each label's operands, and where a
+-- call through the table is under way, the code that would hand over its arguments
+pub record Wit : Type 0 where
+  pub ctx : Ctx
+  pub ex : List Value
+  pub ss : List (List Place)
+  pub others : Option Nodes
+
+abbrev pub pending_call : Option Nodes → ℕ → Option ValType → Pending
+pending_call None o r = Called o r
+pending_call (Some others) o r = Through o r others
+
+abbrev pub t_frame : Pending → Frame → Wit → Frame
+t_frame p F w =
+    frame (mapped w.ctx.source w.ctx.index) w.ctx.result 0 (F.locals ++ w.ex) (with_arm w.ctx p (joined w.ss) (t_labels w.ctx p F.labels w.ss))
+
+-- room in the slots, over the nodes of a list
+abbrev pub FitsIn : Ctx → Option ValType → List Place → Type 0
+FitsIn C None es = Unit {0}
+FitsIn C (Some t) es = length es < C.slots
+
+abbrev pub Has : ℕ → List ℕ → Type 0
+Has t ts = place_in t ts < length ts
+
+abbrev pub Room_call : Ctx → Option FuncType → List Place → (List Place → Type 0) → Type 0
+Room_call C None es go = Unit {0}
+Room_call C (Some type) es go = FitsIn C (result_of type) (less (length type.params) es) × go (grown (result_of type) (less (length type.params) es))
+
+abbrev pub Room_instr : Ctx → Basic → List Place → (List Place → Type 0) → Type 0
+Room_instr C (Const v) es go = go (Known v ∷ es)
+Room_instr C i es go = SmallOffset i × FitsIn C (result_type C es i) (less (takes i) es) × go (after_plain C es i)
+
+abbrev pub Room_jump : Ctx → Jump → List Place → (List Place → Type 0) → Type 0
+Room_jump C Unreachable es go = Unit {0}
+Room_jump C (Br l) es go = Unit {0}
+Room_jump C (BrIf l) es go = go (less 1 es)
+Room_jump C (BrTable ts d) es go = Unit {0}
+Room_jump C Return es go = Unit {0}
+Room_jump C (Call f) es go = Room_call C (type_at C.source f) es go
+Room_jump C (CallIndirect t) es go = Has t C.helpers × Room_call C (slice_get C.source.types t) (less 1 es) go
+
+abbrev pub Room : Ctx → List Place → Nodes → Type 0
+Room C es stop = length es ≤ C.slots
+Room C es (basic o i rest) = (length es ≤ C.slots) × Room_instr C i es (λ es'. Room C es' rest)
+Room C es (jump o j rest) = (length es ≤ C.slots) × Room_jump C j es (λ es'. Room C es' rest)
+Room C es (block o a inner en rest) = (length es ≤ C.slots) × Room C es inner × FitsIn C a es × Room C (grown a es) rest
+Room C es (loop o a inner en rest) = (length es ≤ C.slots) × Room C es inner × FitsIn C a es × Room C (grown a es) rest
+Room C es (choose o a x ea y en rest) =
+    (length es ≤ C.slots) × Room C (less 1 es) x × Room C (less 1 es) y × FitsIn C a (less 1 es) × Room C (grown a (less 1 es)) rest
+
+-- the function's label is the outermost
+abbrev pub KindFits : Ctx → List Place → Kind → List Label → Type 0
+KindFits C js (leaves a) [] = ⊥
+KindFits C js (leaves a) (_ ∷ _) = Unit {0}
+KindFits C js (again o a inner en) [] = ⊥
+KindFits C js (again o a inner en) (_ ∷ _) = (length js ≤ C.slots) × Room C js inner
+KindFits C js (returns r) [] = r ≡ C.result
+KindFits C js (returns r) (_ ∷ _) = ⊥
+
+abbrev pub FitsLabels : Ctx → List Value → Option ValType → List Label → List (List Place) → Type 0
+FitsLabels C ex a [] [] = Unit {0}
+FitsLabels C ex a [] (_ ∷ _) = ⊥
+FitsLabels C ex a (L ∷ Ls) [] = ⊥
+FitsLabels C ex a (L ∷ Ls) (e ∷ ss) =
+    Holds ex (joined ss) L.operands e × FitsIn C a (e ++ joined ss) × Room C (grown a (e ++ joined ss)) L.nodes × KindFits C (joined ss) L.kind Ls × FitsLabels C ex (awaits (pending L.kind)) Ls ss
+
+-- and there is one
+abbrev pub FitsOpen : Ctx → List Value → Option ValType → List Label → List (List Place) → Type 0
+FitsOpen C ex a [] ss = ⊥
+FitsOpen C ex a (L ∷ Ls) [] = ⊥
+FitsOpen C ex a (L ∷ Ls) (e ∷ ss) = FitsLabels C ex a (L ∷ Ls) (e ∷ ss)
+
+-- whole pages, and not too many
+abbrev pub MemoryFits : Option Memory → Type 0
+MemoryFits None = Unit {0}
+MemoryFits (Some m) = (k : ℕ) × (length m.bytes ≡ 65536 * k) × (k ≤ 65535) × (m.max ≤ 65535)
+
+-- under a call through the table, the guard gave no kind
+abbrev pub NoKind : Ctx → List Value → Option Nodes → Type 0
+NoKind C ex None = Unit {0}
+NoKind C ex (Some others) = slice_get ex (kind_at C) ≡ Some (values.I32 0)
+
+pub record WorldFits (M : Engine) (gl : List ValType) (w : World) : Type 0 where
+  pub globals : types w.globals ≡ gl
+  pub memory : MemoryFits w.memory
+  pub table : w.table ≡ first_table M.program.module_
+
+pub record FitsFrame (M : Engine) (E : ℕ) (gl : List ValType) (a : Option ValType) (F : Frame) (w : Wit) : Type 0 where
+  pub size : types F.locals ≡ w.ctx.locals
+  pub room : types w.ex ≡ added w.ctx.slots
+  pub idx : w.ctx.index ≡ F.function
+  pub result : w.ctx.result ≡ F.result
+  pub funcs : w.ctx.source ≡ M.program.module_
+  pub base : w.ctx.base ≡ helper_base M.program.module_
+  pub helpers : w.ctx.helpers ≡ helped M.program
+  pub flag : global_types w.ctx.source ≡ gl
+  pub small : 2 * length w.ctx.locals + 2 * w.ctx.slots + 60 ≤ E
+  pub narrow : length w.ctx.locals + w.ctx.slots ≤ (greatest M.program).0 + (greatest M.program).1
+  pub labels : FitsOpen w.ctx w.ex a F.labels w.ss
+  pub no_kind : NoKind w.ctx w.ex w.others
+
+abbrev pub FitsFrames : Engine → ℕ → List ValType → Option ValType → Option ValType → List Frame → List Wit → Type 0
+FitsFrames M E gl wr r [] [] = r ≡ wr
+FitsFrames M E gl wr r [] (_ ∷ _) = ⊥
+FitsFrames M E gl wr r (F ∷ Fs) [] = ⊥
+FitsFrames M E gl wr r (F ∷ Fs) (w ∷ ws) = FitsFrame M E gl r F w × FitsFrames M E gl wr F.result Fs ws
+
+abbrev pub FitsTop : Engine → ℕ → List ValType → Option ValType → List Frame → List Wit → Type 0
+FitsTop M E gl wr [] ws = ⊥
+FitsTop M E gl wr (F ∷ Fs) [] = ⊥
+FitsTop M E gl wr (F ∷ Fs) (w ∷ ws) = FitsFrame M E gl None F w × FitsFrames M E gl wr F.result Fs ws
+
+abbrev pub FitsConfig : Engine → ℕ → List ValType → Option ValType → Config → List Wit → Type 0
+FitsConfig M E gl wr c ws = WorldFits M gl c.world × FitsTop M E gl wr c.frames ws
+
+-- what a wrapper's frame is but for its operands
+pub record Wrap : Type 0 where
+  pub idx : ℕ
+  pub result : Option ValType
+  pub locals : List Value
+  pub rest : Nodes
+
+abbrev pub w_frame : Wrap → List Value → Frame
+w_frame W vs = frame W.idx W.result 0 W.locals (label vs W.rest 0 (returns W.result) ∷ [])
+
+abbrev pub t_frames : Wrap → Option ValType → List Frame → List Wit → List Frame
+t_frames W r [] ws = w_frame W [] ∷ []
+t_frames W r (F ∷ Fs) [] = []
+t_frames W r (F ∷ Fs) (w ∷ ws) = t_frame (pending_call w.others F.call r) F w ∷ t_frames W F.result Fs ws
+
+abbrev pub t_top : Wrap → List Frame → List Wit → List Frame
+t_top W [] ws = []
+t_top W (F ∷ Fs) [] = []
+t_top W (F ∷ Fs) (w ∷ ws) = t_frame now F w ∷ t_frames W F.result Fs ws
+
+-- the same world, with a flag behind the globals, and new indices in the table
+abbrev pub flagged : Engine → World → Value → World
+flagged M w b = record { globals = w.globals ++ b ∷ []; memory = w.memory; table = map (option_map (mapped M.program.module_)) w.table; replies = w.replies; served = w.served }
+
+abbrev pub image : Engine → Wrap → Config → List Wit → Config
+image M W c ws = config (t_top W c.frames ws) (flagged M c.world (values.I32 0)) c.collected
+
+abbrev pub zero_vs : Option ValType → List Value
+zero_vs None = []
+zero_vs (Some t) = zero_of t ∷ []
+
+-- what the outermost of these frames gives
+abbrev pub last_result : Option ValType → List Frame → Option ValType
+last_result r [] = r
+last_result r (F ∷ Fs) = last_result F.result Fs
+
+abbrev pub last_of : List Frame → Option ValType
+last_of [] = None
+last_of (F ∷ Fs) = last_result F.result Fs

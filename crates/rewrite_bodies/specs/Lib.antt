@@ -1,0 +1,10 @@
+pub mod Offsets
+pub mod Numbering
+pub mod Slots
+pub mod Pieces
+pub mod Guards
+pub mod Rewrite
+pub mod Agreement
+pub mod Typed
+pub mod Length
+pub mod inner

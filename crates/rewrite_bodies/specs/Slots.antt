@@ -1,0 +1,166 @@
+-- Where operands are kept in a rewritten function: each operand has a height and a type, and so a slot among the added locals, unless a constant
+-- instruction pushed it.
+use Rattle.std.specs.Prelude.{ℕ, zero, suc, ◌+◌, ◌*◌, max, List, [], ◌∷◌, ◌++◌, length, map, slice_get, Option, Some, None}
+use Rattle.wasm_syntax.specs.declared.value.ValType.{ValType}
+use Rattle.wasm_syntax.specs.declared.value.ValType.TheVariants.{I32, I64}
+use Rattle.wasm_syntax.specs.declared.value.Value.{Value}
+use Rattle.wasm_syntax.specs.declared.instruction.Basic.{Basic}
+use Rattle.wasm_syntax.specs.declared.instruction.Basic.TheVariants.{Nop, Drop, Select, LocalGet, LocalSet, LocalTee, GlobalGet, GlobalSet, Load, Store, MemorySize, MemoryGrow, MemoryCopy, MemoryFill, Const, Eqz, Unary, Compare, Binary, Convert, Extend32, Extend64}
+use Rattle.wasm_syntax.specs.declared.parts.LocalGroup.{LocalGroup}
+use Rattle.wasm_syntax.specs.declared.parts.FuncType.{FuncType}
+use Rattle.wasm_syntax.specs.declared.parts.Body.{Body}
+use Rattle.wasm_syntax.specs.declared.module.ModuleParts.{ModuleParts as Module}
+use Rattle.wasm_syntax.specs.Numbers.{type_of, convert_to}
+use Rattle.wasm_syntax.specs.Access.{load_type}
+use Rattle.wasm_syntax.specs.Tree.{Jump, Unreachable, Br, BrIf, BrTable, Return, Call, CallIndirect, Nodes, stop, basic, jump, block, loop, choose, Tree}
+use Rattle.wasm_syntax.specs.Module.{Program, Function, defined, function_at, type_at, declared_locals}
+use Rattle.wasm_syntax.specs.Effect.{takes}
+use Rattle.wasm_syntax.specs.Machine.{result_of}
+use Rattle.rewrite_bodies.specs.Numbering.{import_count, type_number, helped, helper_base}
+
+-- what is known of an operand: a constant, or its type, and then its value is in its slot
+pub data Place : Type 0 where
+  Spilled : (t : ValType) → Place
+  Known : (v : Value) → Place
+
+-- the type of the operand there
+abbrev pub place_type : Place → ValType
+place_type (Spilled t) = t
+place_type (Known v) = type_of v
+
+-- what is fixed in a function: its module, the index of the first helper and the types that have one, the types of its locals, the
+-- number of heights, its index and its result
+pub record Ctx : Type 0 where
+  pub source : Module
+  pub base : ℕ
+  pub helpers : List ℕ
+  pub locals : List ValType
+  pub slots : ℕ
+  pub index : ℕ
+  pub result : Option ValType
+
+-- the added locals: a slot of each type at each height, two results, kind and offset
+abbrev pub slot : ValType → ℕ → ℕ
+slot t h = 2 * h + type_number t
+
+-- the result local of a type; kind and offset of a trap
+abbrev pub result_at : Ctx → ValType → ℕ
+result_at C t = slot t C.slots
+
+abbrev pub kind_at : Ctx → ℕ
+kind_at C = 2 * C.slots + 2
+
+abbrev pub offset_at : Ctx → ℕ
+offset_at C = 2 * C.slots + 3
+
+-- the types of the added locals, for so many heights
+abbrev pub added : ℕ → List ValType
+added zero = I32 ∷ I64 ∷ I32 ∷ I32 ∷ []
+added (suc n) = I32 ∷ I64 ∷ added n
+
+-- the same, as groups of locals
+abbrev pub group : ValType → LocalGroup
+group t = record { count = 1; vtype = t }
+
+abbrev pub groups : ℕ → List LocalGroup
+groups zero = group I32 ∷ group I64 ∷ group I32 ∷ group I32 ∷ []
+groups (suc n) = group I32 ∷ group I64 ∷ groups n
+
+-- ---- the places behind an instruction
+
+-- without the topmost so many
+abbrev pub less : ℕ → List Place → List Place
+less zero es = es
+less (suc m) [] = []
+less (suc m) (e ∷ es) = less m es
+
+-- the places after a result
+abbrev pub grown : Option ValType → List Place → List Place
+grown None es = es
+grown (Some t) es = Spilled t ∷ es
+
+-- the type of the operand under the topmost
+abbrev pub second_type : List Place → Option ValType
+second_type (c ∷ b ∷ es) = Some (place_type b)
+second_type _ = None
+
+-- what an instruction gives on these places
+abbrev pub result_type : Ctx → List Place → Basic → Option ValType
+result_type C es Nop = None
+result_type C es Drop = None
+result_type C es Select = second_type es
+result_type C es (LocalGet x) = slice_get C.locals x
+result_type C es (LocalSet x) = None
+result_type C es (LocalTee x) = slice_get C.locals x
+result_type C es (GlobalGet x) = slice_get (map (λ g. g.vtype) C.source.globals) x
+result_type C es (GlobalSet x) = None
+result_type C es (Load l align o) = Some (load_type l)
+result_type C es (Store l align o) = None
+result_type C es MemorySize = Some I32
+result_type C es MemoryGrow = Some I32
+result_type C es (Const v) = Some (type_of v)
+result_type C es (Eqz t) = Some I32
+result_type C es (Unary t op) = Some t
+result_type C es (Compare t op) = Some I32
+result_type C es (Binary t op) = Some t
+result_type C es (Convert c) = Some (convert_to c)
+result_type C es MemoryCopy = None
+result_type C es MemoryFill = None
+result_type C es (Extend32 k) = Some I32
+result_type C es (Extend64 k) = Some I64
+
+abbrev pub after_plain : Ctx → List Place → Basic → List Place
+after_plain C es i = grown (result_type C es i) (less (takes i) es)
+
+-- ---- the greatest height of operands in live code
+
+-- behind a call of a function of this type
+abbrev pub peak_call : Option FuncType → List Place → (List Place → ℕ) → ℕ
+peak_call None es go = 0
+peak_call (Some type) es go = go (grown (result_of type) (less (length type.params) es))
+
+abbrev pub peak_instr : Ctx → Basic → List Place → (List Place → ℕ) → ℕ
+peak_instr C (Const v) es go = go (Known v ∷ es)
+peak_instr C i es go = go (after_plain C es i)
+
+abbrev pub peak_jump : Ctx → Jump → List Place → (List Place → ℕ) → ℕ
+peak_jump C Unreachable es go = 0
+peak_jump C (Br l) es go = 0
+peak_jump C (BrIf l) es go = go (less 1 es)
+peak_jump C (BrTable ts d) es go = 0
+peak_jump C Return es go = 0
+peak_jump C (Call f) es go = peak_call (type_at C.source f) es go
+peak_jump C (CallIndirect t) es go = peak_call (slice_get C.source.types t) (less 1 es) go
+
+abbrev pub peak : Ctx → List Place → Nodes → ℕ
+peak C es stop = length es
+peak C es (basic o i rest) = max (length es) (peak_instr C i es (λ es'. peak C es' rest))
+peak C es (jump o j rest) = max (length es) (peak_jump C j es (λ es'. peak C es' rest))
+peak C es (block o t inner end rest) = max (length es) (max (peak C es inner) (peak C (grown t es) rest))
+peak C es (loop o t inner end rest) = max (length es) (max (peak C es inner) (peak C (grown t es) rest))
+peak C es (choose o t a else_at b end rest) =
+    max (length es) (max (peak C (less 1 es) a) (max (peak C (less 1 es) b) (peak C (grown t (less 1 es)) rest)))
+
+-- ---- functions of a program
+
+-- what is fixed in function f of a program
+abbrev pub ctx_of : Program → ℕ → Body → FuncType → ℕ → Ctx
+ctx_of p f b type slots =
+    record { source = p.module_; base = helper_base p.module_; helpers = helped p; locals = type.params ++ declared_locals b.groups; slots = slots; index = f; result = result_of type }
+
+-- heights do not depend on the number of slots
+abbrev pub slots_of : Program → ℕ → Body → Tree → FuncType → ℕ
+slots_of p f b tree type = peak (ctx_of p f b type 0) [] tree.nodes
+
+-- the locals, with parameters, and the greatest height of a function
+abbrev pub sizes : Program → ℕ → Option Function → ℕ × ℕ
+sizes p f (Some (defined b tree type)) = (length (type.params ++ declared_locals b.groups), slots_of p f b tree type)
+sizes p f _ = (0, 0)
+
+-- the greatest of both over these bodies, the first of which is that of function f
+abbrev pub most : (ℕ → ℕ × ℕ) → ℕ → List Body → ℕ × ℕ
+most go f [] = (0, 0)
+most go f (b ∷ bs) = (max (go f).0 (most go (suc f) bs).0, max (go f).1 (most go (suc f) bs).1)
+
+abbrev pub greatest : Program → ℕ × ℕ
+greatest p = most (λ f. sizes p f (function_at p f)) (import_count p.module_) p.module_.bodies

@@ -1,0 +1,39 @@
+-- What is promised of guards and of the steps of rewritten code.
+use Rattle.std.specs.Prelude.{◌≡◌, ℕ, ◌≤◌, List, [], ◌∷◌, ◌++◌, length, true, ◌≢◌}
+use Rattle.wasm_syntax.specs.declared.value.ValType.{ValType}
+use Rattle.wasm_syntax.specs.declared.value.Value.{Value}
+use Rattle.wasm_syntax.specs.Tree.{Nodes}
+use Rattle.wasm_syntax.specs.Host.{World}
+use Rattle.wasm_syntax.specs.declared.host.CollectorCall.{CollectorCall}
+use Rattle.wasm_syntax.specs.Machine.{Config, Engine, parts, cut, step}
+use Rattle.rewrite_bodies.specs.Slots.{Place, Ctx}
+use Rattle.wasm_syntax.specs.declared.value.Value.TheVariants as values
+use Rattle.wasm_syntax.specs.declared.instruction.Basic.{Basic}
+use Rattle.wasm_syntax.specs.Effect.{takes, Effect, gives, fails, unfit, effect}
+use Rattle.rewrite_bodies.specs.Offsets.{SmallOffset}
+use Rattle.rewrite_bodies.specs.Guards.{can_trap, guard}
+use Rattle.rewrite_bodies.specs.inner.Steps.{To, Shell, st}
+use Rattle.rewrite_bodies.specs.Agreement.{Holds, Wit, MemoryFits, FitsConfig, Wrap, image}
+use Rattle.rewrite_bodies.specs.inner.Standing.{After, Stands}
+
+-- the kind with which it traps, or 0
+abbrev pub kind_of : Effect → ℕ
+kind_of (gives g l ws) = 0
+kind_of (fails k) = k
+kind_of unfit = 0
+
+-- the guard of an instruction takes at most 26 steps, leaves the kind with which the instruction traps on these operands, or 0, and changes
+-- nothing; kind 8 aside, which no basic instruction has
+abbrev pub GuardTells : Engine → Basic → Type 0
+GuardTells M i =
+    (C : Ctx) (locals added_ : List Value) (X : Shell) (behind : Nodes) (there here : World) (calls : List CollectorCall) (js es : List Place) (ops vs below : List Value) →
+    length C.locals ≡ length locals → there.memory ≡ here.memory → MemoryFits here.memory → SmallOffset i → can_trap i ≡ true →
+    Holds added_ js ops es → cut (takes i) ops ≡ parts vs below → effect i here locals vs ≢ unfit →
+    To M 1 26 (st X (locals ++ added_) [] (guard C i (es ++ js) behind) there calls) (st X (locals ++ added_) (values.I32 (kind_of (effect i here locals vs)) ∷ []) behind there calls)
+
+-- Each step of the original from an agreeing configuration is from one to E steps of the rewritten module, to an agreeing configuration or to
+-- the same end. Where it traps, with a kind other than 8, each frame of the original takes at most E steps: all frames hand over their
+-- values, the innermost first, the memory and the globals stay, and the wrapper is reached with the flag up.
+abbrev pub StepFollows : Engine → Engine → ℕ → List ValType → Wrap → Type 0
+StepFollows M M' E gl W =
+    Stands M M' E gl → (c : Config) (ws : List Wit) → FitsConfig M E gl W.result c ws → length c.frames ≤ M.depth → After M M' E gl W (image M W c ws) (step M c)

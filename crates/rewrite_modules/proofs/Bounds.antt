@@ -1,0 +1,110 @@
+-- The slots suffice.
+use Rattle.std.proofs.Common.{◌≡◌, ℕ, ◌≤◌, List, ◌∷◌, length, Option, Some, None, refl, arith, slice_get}
+use Rattle.wasm_syntax.specs.declared.value.ValType.{ValType}
+use Rattle.wasm_syntax.specs.declared.instruction.Basic.{Basic}
+use Rattle.wasm_syntax.specs.declared.instruction.Basic.TheVariants.{Nop, Drop, Select, LocalGet, LocalSet, LocalTee, GlobalGet, GlobalSet, Load, Store, MemorySize, MemoryGrow, Const, Eqz, Unary, Compare, Binary, Convert, MemoryCopy, MemoryFill, Extend32, Extend64}
+use Rattle.wasm_syntax.specs.declared.parts.FuncType.{FuncType}
+use Rattle.wasm_syntax.specs.Tree.{Unreachable, Br, BrIf, BrTable, Return, Call, CallIndirect, Nodes, stop, basic, jump, block, loop, choose}
+use Rattle.wasm_syntax.specs.Module.{type_at}
+use Rattle.wasm_syntax.specs.Effect.{takes}
+use Rattle.wasm_syntax.specs.Machine.{result_of}
+use Rattle.rewrite_bodies.specs.Slots.{Place, Spilled, Known, Ctx, less, grown, result_type, after_plain, peak_call, peak_instr, peak}
+use Rattle.rewrite_bodies.specs.Agreement.{FitsIn, Has, Room_call, Room_instr, Room}
+use Rattle.rewrite_bodies.proofs.Sim.{room_height}
+use Rattle.rewrite_bodies.specs.Offsets.{SmallOffset}
+
+fits_of : (C : Ctx) (a : Option ValType) (es : List Place) (code : Nodes) → Room C (grown a es) code → FitsIn C a es
+fits_of C None es code r = tt
+fits_of C (Some t) es code r = omega (arith, room_height C (Spilled t ∷ es) code r)
+
+-- the offsets are small, and the types that are asked for have helpers
+abbrev pub Static : List ℕ → Nodes → Type 0
+Static hs stop = Unit {0}
+Static hs (basic o i rest) = SmallOffset i × Static hs rest
+Static hs (jump o (CallIndirect t) rest) = Has t hs × Static hs rest
+Static hs (jump o j rest) = Static hs rest
+Static hs (block o t inner en rest) = Static hs inner × Static hs rest
+Static hs (loop o t inner en rest) = Static hs inner × Static hs rest
+Static hs (choose o t a ea b en rest) = Static hs a × Static hs b × Static hs rest
+
+abbrev pub with_slots : Ctx → ℕ → Ctx
+with_slots C n = record { source = C.source; base = C.base; helpers = C.helpers; locals = C.locals; slots = n; index = C.index; result = C.result }
+
+module _ (C : Ctx) (n : ℕ) where
+  abbrev D : Ctx
+  D = with_slots C n
+
+  room_call : (q : Option FuncType) (es : List Place) (rest : Nodes) → ((es' : List Place) → peak C es' rest ≤ n → Room D es' rest) → peak_call q es (λ es'. peak C es' rest) ≤ n → Room_call D q es (λ es'. Room D es' rest)
+  room_call None es rest ih h = tt
+  room_call (Some type) es rest ih h = let r = ih (grown (result_of type) (less (length type.params) es)) h in (fits_of D (result_of type) (less (length type.params) es) rest r, r)
+
+  same_type_ : (es : List Place) (i : Basic) → result_type D es i ≡ result_type C es i
+  same_type_ es Nop = refl
+  same_type_ es Drop = refl
+  same_type_ es Select = refl
+  same_type_ es (LocalGet x) = refl
+  same_type_ es (LocalSet x) = refl
+  same_type_ es (LocalTee x) = refl
+  same_type_ es (GlobalGet x) = refl
+  same_type_ es (GlobalSet x) = refl
+  same_type_ es (Load t al of) = refl
+  same_type_ es (Store t al of) = refl
+  same_type_ es MemorySize = refl
+  same_type_ es MemoryGrow = refl
+  same_type_ es MemoryCopy = refl
+  same_type_ es MemoryFill = refl
+  same_type_ es (Extend32 k) = refl
+  same_type_ es (Extend64 k) = refl
+  same_type_ es (Const v) = refl
+  same_type_ es (Eqz t) = refl
+  same_type_ es (Unary t op) = refl
+  same_type_ es (Compare t op) = refl
+  same_type_ es (Binary t op) = refl
+  same_type_ es (Convert c) = refl
+
+  room_plain : (i : Basic) (es : List Place) (rest : Nodes) → ((es' : List Place) → peak C es' rest ≤ n → Room D es' rest) → SmallOffset i → peak C (after_plain C es i) rest ≤ n → SmallOffset i × FitsIn D (result_type D es i) (less (takes i) es) × Room D (after_plain D es i) rest
+  room_plain i es rest ih so h = let r = ih (after_plain C es i) h in rw same_type_ (so, fits_of D (result_type C es i) (less (takes i) es) rest r, r)
+
+  room_instr : (i : Basic) (es : List Place) (rest : Nodes) → ((es' : List Place) → peak C es' rest ≤ n → Room D es' rest) → SmallOffset i → peak_instr C i es (λ es'. peak C es' rest) ≤ n → Room_instr D i es (λ es'. Room D es' rest)
+  room_instr Nop es rest ih so h = room_plain Nop es rest ih so h
+  room_instr Drop es rest ih so h = room_plain Drop es rest ih so h
+  room_instr Select es rest ih so h = room_plain Select es rest ih so h
+  room_instr (LocalGet x) es rest ih so h = room_plain (LocalGet x) es rest ih so h
+  room_instr (LocalSet x) es rest ih so h = room_plain (LocalSet x) es rest ih so h
+  room_instr (LocalTee x) es rest ih so h = room_plain (LocalTee x) es rest ih so h
+  room_instr (GlobalGet x) es rest ih so h = room_plain (GlobalGet x) es rest ih so h
+  room_instr (GlobalSet x) es rest ih so h = room_plain (GlobalSet x) es rest ih so h
+  room_instr (Load t al of) es rest ih so h = room_plain (Load t al of) es rest ih so h
+  room_instr (Store t al of) es rest ih so h = room_plain (Store t al of) es rest ih so h
+  room_instr MemorySize es rest ih so h = room_plain MemorySize es rest ih so h
+  room_instr MemoryGrow es rest ih so h = room_plain MemoryGrow es rest ih so h
+  room_instr (Eqz t) es rest ih so h = room_plain (Eqz t) es rest ih so h
+  room_instr (Unary t op) es rest ih so h = room_plain (Unary t op) es rest ih so h
+  room_instr (Compare t op) es rest ih so h = room_plain (Compare t op) es rest ih so h
+  room_instr (Binary t op) es rest ih so h = room_plain (Binary t op) es rest ih so h
+  room_instr (Convert c) es rest ih so h = room_plain (Convert c) es rest ih so h
+  room_instr MemoryCopy es rest ih so h = room_plain MemoryCopy es rest ih so h
+  room_instr MemoryFill es rest ih so h = room_plain MemoryFill es rest ih so h
+  room_instr (Extend32 k) es rest ih so h = room_plain (Extend32 k) es rest ih so h
+  room_instr (Extend64 k) es rest ih so h = room_plain (Extend64 k) es rest ih so h
+  room_instr (Const v) es rest ih so h = ih (Known v ∷ es) h
+
+  pub room_of : (nodes : Nodes) (es : List Place) → Static C.helpers nodes → peak C es nodes ≤ n → Room D es nodes
+  room_of stop es s h = h
+  room_of (basic o i rest) es s h = (omega (arith, h), room_instr i es rest (λ es' q. room_of rest es' s.1 q) s.0 (omega (arith, h)))
+  room_of (jump o Unreachable rest) es s h = (omega (arith, h), tt)
+  room_of (jump o (Br l) rest) es s h = (omega (arith, h), tt)
+  room_of (jump o (BrIf l) rest) es s h = (omega (arith, h), room_of rest (less 1 es) s (omega (arith, h)))
+  room_of (jump o (BrTable ts d) rest) es s h = (omega (arith, h), tt)
+  room_of (jump o Return rest) es s h = (omega (arith, h), tt)
+  room_of (jump o (Call f) rest) es s h = (omega (arith, h), room_call (type_at C.source f) es rest (λ es' q. room_of rest es' s q) (omega (arith, h)))
+  room_of (jump o (CallIndirect t) rest) es s h = (omega (arith, h), (s.0, room_call (slice_get C.source.types t) (less 1 es) rest (λ es' q. room_of rest es' s.1 q) (omega (arith, h))))
+  room_of (block o a inner en rest) es s h =
+      let r = room_of rest (grown a es) s.1 (omega (arith, h)) in
+      (omega (arith, h), room_of inner es s.0 (omega (arith, h)), fits_of D a es rest r, r)
+  room_of (loop o a inner en rest) es s h =
+      let r = room_of rest (grown a es) s.1 (omega (arith, h)) in
+      (omega (arith, h), room_of inner es s.0 (omega (arith, h)), fits_of D a es rest r, r)
+  room_of (choose o a x ea y en rest) es s h =
+      let r = room_of rest (grown a (less 1 es)) s.2 (omega (arith, h)) in
+      (omega (arith, h), room_of x (less 1 es) s.0 (omega (arith, h)), room_of y (less 1 es) s.1 (omega (arith, h)), fits_of D a (less 1 es) rest r, r)

@@ -1,0 +1,437 @@
+-- How deep blocks are nested in rewritten code.
+use Rattle.std.proofs.Common.{◌≡◌, ℕ, zero, suc, ◌+◌, List, [], ◌∷◌, length, Option, Some, None, Bool, true, false, nat_lt, refl, ap, slice_get, option_map, ◌/◌, ◌-◌, ◌≤◌, max, map, ◌∙◌, arith}
+use Rattle.wasm_syntax.specs.declared.value.ValType.{ValType}
+use Rattle.wasm_syntax.specs.declared.instruction.Basic.{Basic}
+use Rattle.wasm_syntax.specs.declared.parts.FuncType.{FuncType}
+use Rattle.wasm_syntax.specs.declared.module.ModuleParts.{ModuleParts as Module}
+use Rattle.wasm_syntax.specs.Tree.{Jump, Unreachable, Br, BrIf, BrTable, Return, Call, CallIndirect, Nodes, stop, basic, jump, block, loop, choose, Plain, Goes, Opens, OpensLoop, OpensIf, Else, End, Item, Placed, placed, else_out, write, written, item_of, code_of}
+use Rattle.wasm_syntax.specs.Module.{type_at}
+use Rattle.wasm_syntax.specs.Effect.{takes}
+use Rattle.wasm_syntax.specs.Machine.{result_of}
+use Rattle.rewrite_modules.specs.Bare.{bare_nodes}
+use Rattle.wasm_syntax.specs.Access.{load_bits, store_bits}
+use Rattle.int_ops.specs.declared.operators.Binary.{Binary as BinaryOp}
+use Rattle.int_ops.specs.declared.operators.Binary.TheVariants.{Add, Sub, Mul, DivS, DivU, RemS, RemU, And, Or, Xor, Shl, ShrS, ShrU, Rotl, Rotr}
+use Rattle.int_ops.specs.declared.operators.Compare.TheVariants.{Eq}
+use Rattle.wasm_syntax.specs.declared.instruction.Convert.TheVariants.{ExtendU}
+use Rattle.wasm_syntax.specs.declared.instruction.Basic.TheVariants.{Nop, Drop, Select, LocalGet, LocalSet, LocalTee, GlobalGet, GlobalSet, Load, Store, MemorySize, MemoryGrow, MemoryCopy, MemoryFill, Const, Eqz, Unary, Compare, Binary, Convert, Extend32, Extend64}
+use Rattle.wasm_syntax.specs.declared.value.ValType.TheVariants.{I32, I64}
+use Rattle.rewrite_bodies.specs.Numbering.{import_count, mapped, frame_import, global_types}
+use Rattle.rewrite_bodies.specs.Slots.{Place, place_type, Ctx, result_at, kind_at, offset_at, less, grown, result_type, after_plain, Spilled, Known}
+use Rattle.rewrite_bodies.specs.Pieces.{get, set, const, i32, call, if_any, fetch, load, store, to_result, from_result}
+use Rattle.rewrite_bodies.specs.Guards.{least, minus_one, zero_test, guard_zero, guard_signed, past_end, out_test, guard_memory, range_test, guard, can_trap, helper}
+use Rattle.rewrite_bodies.specs.Rewrite.{Info, result_back, body_at, hand_value, hand, hand_top, to_exit, unwind, test_flag, test_both, tested, guarded, plain, instr, carries, end_gives, ending, go_to, branch_to, branch_if, table, after_call, after_direct, call_code, helper_of, indirect_code, control, rewrite, hand_locals, zero_result, raise_flag, exit_code, body, in_block, in_loop, in_body}
+use Rattle.rewrite_modules.specs.Wrappers.{get_all, tell_globals, after_wrapped, parameter_count, wrapper}
+use Rattle.wasm_syntax.specs.declared.instruction.Instr.{Instr}
+use Rattle.wasm_syntax.specs.declared.instruction.Instr.TheVariants as instrs
+use Rattle.wasm_syntax.specs.declared.instruction.Op.{Op}
+use Rattle.wasm_syntax.specs.declared.parts.Body.{Body}
+use Rattle.wasm_syntax.specs.declared.parts.LocalGroup.{LocalGroup}
+use Rattle.wasm_syntax.specs.Tree.{Tree}
+use Rattle.wasm_syntax.specs.Sizes.{depth_behind, deepest, nesting}
+use Rattle.rewrite_modules.specs.FlatCode.{body_of}
+use Rattle.rewrite_modules.proofs.FlatOut.{body_out}
+
+-- at most so many blocks are open at once inside the nodes
+abbrev pub Low : ℕ → Nodes → Type 0
+Low n stop = Unit {0}
+Low n (basic at i rest) = Low n rest
+Low n (jump at j rest) = Low n rest
+Low zero (block at t inner end rest) = ⊥
+Low (suc n) (block at t inner end rest) = Low n inner × Low (suc n) rest
+Low zero (loop at t inner end rest) = ⊥
+Low (suc n) (loop at t inner end rest) = Low n inner × Low (suc n) rest
+Low zero (choose at t a else_at b end rest) = ⊥
+Low (suc n) (choose at t a else_at b end rest) = Low n a × Low n b × Low (suc n) rest
+
+-- ---- the flat code
+
+abbrev open_behind : ℕ → Item → ℕ
+open_behind k (Plain i) = k
+open_behind k (Goes j) = k
+open_behind k (Opens t) = suc k
+open_behind k (OpensLoop t) = suc k
+open_behind k (OpensIf t) = suc k
+open_behind k Else = k
+open_behind k End = k - 1
+
+abbrev most_open : ℕ → List Placed → ℕ
+most_open k [] = k
+most_open k (x ∷ xs) = max k (most_open (open_behind k x.code) xs)
+
+same_open : (T : List ℕ) (k : ℕ) (i : Instr) → depth_behind k i ≡ open_behind k (item_of T i)
+same_open T k (instrs.Basic i) = refl
+same_open T k (instrs.Jump j) = refl
+same_open T k (instrs.Block t) = refl
+same_open T k (instrs.Loop t) = refl
+same_open T k (instrs.If t) = refl
+same_open T k instrs.Else = refl
+same_open T k instrs.End = refl
+
+pub same_most : (T : List ℕ) (k : ℕ) (ops : List Op) → deepest k (map (λ o. o.code) ops) ≡ most_open k (code_of T ops)
+same_most T k [] = refl
+same_most T k (o ∷ ops) = ap (max k) (ap (λ z. deepest z (map (λ o. o.code) ops)) (same_open T k o.code) ∙ same_most T (open_behind k (item_of T o.code)) ops)
+
+at_least : (k : ℕ) (xs : List Placed) → k ≤ most_open k xs
+at_least k [] = omega arith
+at_least k (x ∷ xs) = omega arith
+
+-- what is open at most, from the flat code
+pub low_of : (nodes : Nodes) (after : List Placed) (k d : ℕ) → most_open k (write nodes after) ≤ k + d → Low d nodes × (most_open k after ≤ k + d)
+low_of stop after k d h = (tt, h)
+low_of (basic at i rest) after k d h = low_of rest after k d (omega (arith, h))
+low_of (jump at j rest) after k d h = low_of rest after k d (omega (arith, h))
+low_of (block at t inner end rest) after k zero h = absurd (omega (arith, h, at_least (suc k) (write inner (placed end End ∷ write rest after))))
+low_of (block at t inner end rest) after k (suc d) h =
+    let a = low_of inner (placed end End ∷ write rest after) (suc k) d (omega (arith, h)) in
+    let z : suc k - 1 ≡ k = omega arith in
+    let e = ap (λ j. most_open j (write rest after)) z in
+    let b = low_of rest after k (suc d) (omega (arith, a.1, e)) in
+    ((a.0, b.0), b.1)
+low_of (loop at t inner end rest) after k zero h = absurd (omega (arith, h, at_least (suc k) (write inner (placed end End ∷ write rest after))))
+low_of (loop at t inner end rest) after k (suc d) h =
+    let a = low_of inner (placed end End ∷ write rest after) (suc k) d (omega (arith, h)) in
+    let z : suc k - 1 ≡ k = omega arith in
+    let e = ap (λ j. most_open j (write rest after)) z in
+    let b = low_of rest after k (suc d) (omega (arith, a.1, e)) in
+    ((a.0, b.0), b.1)
+low_of (choose at t x ea y end rest) after k zero h = absurd (omega (arith, h, at_least (suc k) (write x (else_out ea (write y (placed end End ∷ write rest after))))))
+low_of (choose at t x ea y end rest) after k (suc d) h =
+    let a = low_of x (else_out ea (write y (placed end End ∷ write rest after))) (suc k) d (omega (arith, h)) in
+    let b = low_of y (placed end End ∷ write rest after) (suc k) d (behind ea a.1) in
+    let z : suc k - 1 ≡ k = omega arith in
+    let e = ap (λ j. most_open j (write rest after)) z in
+    let c = low_of rest after k (suc d) (omega (arith, b.1, e)) in
+    ((a.0, b.0, c.0), c.1)
+  where
+    behind : (ea : Option ℕ) → most_open (suc k) (else_out ea (write y (placed end End ∷ write rest after))) ≤ suc k + d → most_open (suc k) (write y (placed end End ∷ write rest after)) ≤ suc k + d
+    behind None h = h
+    behind (Some at) h = omega (arith, h)
+
+-- and back
+pub low_out : (nodes : Nodes) (after : List Placed) (k d : ℕ) → Low d nodes → most_open k after ≤ k + d → most_open k (write nodes after) ≤ k + d
+low_out stop after k d h le = le
+low_out (basic at i rest) after k d h le = omega (arith, low_out rest after k d h le)
+low_out (jump at j rest) after k d h le = omega (arith, low_out rest after k d h le)
+low_out (block at t inner end rest) after k zero h le = absurd h
+low_out (block at t inner end rest) after k (suc d) h le =
+    let z : suc k - 1 ≡ k = omega arith in
+    let e = ap (λ j. most_open j (write rest after)) z in
+    let r = low_out rest after k (suc d) h.1 le in
+    let a = low_out inner (placed end End ∷ write rest after) (suc k) d h.0 (omega (arith, e, r)) in
+    omega (arith, a)
+low_out (loop at t inner end rest) after k zero h le = absurd h
+low_out (loop at t inner end rest) after k (suc d) h le =
+    let z : suc k - 1 ≡ k = omega arith in
+    let e = ap (λ j. most_open j (write rest after)) z in
+    let r = low_out rest after k (suc d) h.1 le in
+    let a = low_out inner (placed end End ∷ write rest after) (suc k) d h.0 (omega (arith, e, r)) in
+    omega (arith, a)
+low_out (choose at t x ea y end rest) after k zero h le = absurd h
+low_out (choose at t x ea y end rest) after k (suc d) h le =
+    let z : suc k - 1 ≡ k = omega arith in
+    let e = ap (λ j. most_open j (write rest after)) z in
+    let r = low_out rest after k (suc d) h.2 le in
+    let b = low_out y (placed end End ∷ write rest after) (suc k) d h.1 (omega (arith, e, r)) in
+    let a = low_out x (else_out ea (write y (placed end End ∷ write rest after))) (suc k) d h.0 (behind ea b) in
+    omega (arith, a)
+  where
+    behind : (ea : Option ℕ) → most_open (suc k) (write y (placed end End ∷ write rest after)) ≤ suc k + d → most_open (suc k) (else_out ea (write y (placed end End ∷ write rest after))) ≤ suc k + d
+    behind None h = h
+    behind (Some at) h = omega (arith, h)
+
+low_bare : (d : ℕ) (nodes : Nodes) → Low d nodes → Low d (bare_nodes nodes)
+low_bare d stop h = tt
+low_bare d (basic at i rest) h = low_bare d rest h
+low_bare d (jump at j rest) h = low_bare d rest h
+low_bare zero (block at t inner end rest) h = absurd h
+low_bare (suc d) (block at t inner end rest) h = (low_bare d inner h.0, low_bare (suc d) rest h.1)
+low_bare zero (loop at t inner end rest) h = absurd h
+low_bare (suc d) (loop at t inner end rest) h = (low_bare d inner h.0, low_bare (suc d) rest h.1)
+low_bare zero (choose at t a ea b end rest) h = absurd h
+low_bare (suc d) (choose at t a ea b end rest) h = (low_bare d a h.0, low_bare d b h.1, low_bare (suc d) rest h.2)
+
+-- of a body with few open blocks, and back
+pub body_low : (body : Body) (tree : Tree) (d : ℕ) → code_of body.targets body.ops ≡ written tree → nesting body ≤ d → Low d tree.nodes
+body_low body tree d out le = (low_of tree.nodes (placed tree.end End ∷ []) 0 d (omega (arith, le, same_most body.targets 0 body.ops, ap (most_open 0) out))).0
+
+pub low_nesting : (groups : List LocalGroup) (nodes : Nodes) (d : ℕ) → Low d nodes → nesting (body_of groups nodes) ≤ d
+low_nesting groups nodes d h =
+    let b = body_of groups nodes in
+    let last : most_open 0 (placed 0 End ∷ []) ≤ 0 + d = omega arith in
+    let m = low_out (bare_nodes nodes) (placed 0 End ∷ []) 0 d (low_bare d nodes h) last in
+    omega (arith, m, same_most b.targets 0 b.ops, ap (most_open 0) (body_out groups nodes))
+
+-- ---- rewritten code
+
+module _ (C : Ctx) where
+  low_fetch : (lv : ℕ) (e : Place) (h : ℕ) (k : Nodes) → Low lv k → Low lv (fetch C e h k)
+  low_fetch lv (Spilled t) h k tk = tk
+  low_fetch lv (Known v) h k tk = tk
+
+  low_load : (lv : ℕ) (m : ℕ) (es : List Place) (k : Nodes) → Low lv k → Low lv (load C m es k)
+  low_load lv zero es k tk = tk
+  low_load lv (suc m) [] k tk = tk
+  low_load lv (suc m) (e ∷ es) k tk = low_load lv m es (fetch C e (length es) k) (low_fetch lv e (length es) k tk)
+
+  low_store : (lv : ℕ) (t : Option ValType) (es : List Place) (k : Nodes) → Low lv k → Low lv (store C t es k)
+  low_store lv None es k tk = tk
+  low_store lv (Some t) es k tk = tk
+
+  low_to : (lv : ℕ) (t : Option ValType) (es : List Place) (k : Nodes) → Low lv k → Low lv (to_result C t es k)
+  low_to lv None es k tk = tk
+  low_to lv (Some t) [] k tk = tk
+  low_to lv (Some t) (e ∷ es) k tk = low_fetch lv e (length es) (set C (result_at C t) k) tk
+
+  low_from : (lv : ℕ) (t : Option ValType) (es : List Place) (k : Nodes) → Low lv k → Low lv (from_result C t es k)
+  low_from lv None es k tk = tk
+  low_from lv (Some t) es k tk = tk
+
+  low_back : (lv : ℕ) (t : Option ValType) → Low lv (result_back C t)
+  low_back lv None = tt
+  low_back lv (Some t) = tt
+
+  low_hand : (lv : ℕ) (es : List Place) (k : Nodes) → Low lv k → Low lv (hand C es k)
+  low_hand lv [] k tk = tk
+  low_hand lv (e ∷ es) k tk = low_hand lv es (fetch C e (length es) (hand_value C (place_type e) k)) (low_fetch lv e (length es) (hand_value C (place_type e) k) tk)
+
+  low_unwind : (lv : ℕ) (ls : List Info) (es : List Place) (o : ℕ) → Low lv (unwind C ls es o)
+  low_unwind lv ls es o = low_hand lv es (jump 0 (Br (suc (length ls))) stop) tt
+
+  low_flag : (d : ℕ) (ls : List Info) (es : List Place) (o : ℕ) (k : Nodes) → Low (suc (suc d)) k → Low (suc (suc d)) (test_flag C ls es o k)
+  low_flag d ls es o k tk = (low_unwind (suc d) ls es o, tt, tk)
+
+  low_tested : (d : ℕ) (ls : List Info) (es : List Place) (o : ℕ) (k : Nodes) → Low (suc (suc d)) k → Low (suc (suc d)) (tested C ls es o k)
+  low_tested d ls es o k tk = (low_unwind (suc d) ls es o, tt, tk)
+
+  -- ---- guards
+
+  low_zero : (lv : ℕ) (t : ValType) (b : Place) (h : ℕ) (k : Nodes) → Low lv k → Low lv (guard_zero C t b h k)
+  low_zero lv t b h k tk = low_fetch lv b h (zero_test t k) tk
+
+  low_signed : (lv : ℕ) (t : ValType) (b a : Place) (h : ℕ) (k : Nodes) → Low lv k → Low lv (guard_signed C t b a h k)
+  low_signed lv t b a h k tk =
+      let k6 = fetch C b (suc h) (zero_test t k) in
+      let t6 = low_fetch lv b (suc h) (zero_test t k) tk in
+      let k3 = const (minus_one t) (basic 0 (Compare t Eq) (basic 0 (Binary I32 And) (basic 0 Select k6))) in
+      low_fetch lv a h (const (least t) (basic 0 (Compare t Eq) (fetch C b (suc h) k3))) (low_fetch lv b (suc h) k3 t6)
+
+  low_memory : (lv : ℕ) (a : Place) (h n : ℕ) (k : Nodes) → Low lv k → Low lv (guard_memory C a h n k)
+  low_memory lv a h n k tk = low_fetch lv a h (out_test n k) tk
+
+  low_range : (lv : ℕ) (a : Place) (h : ℕ) (n : Place) (hn : ℕ) (k : Nodes) → Low lv k → Low lv (range_test C a h n hn k)
+  low_range lv a h n hn k tk =
+      let k2 = basic 0 (Convert ExtendU) (basic 0 (Binary I64 Add) (past_end k)) in
+      low_fetch lv a h (basic 0 (Convert ExtendU) (fetch C n hn k2)) (low_fetch lv n hn k2 tk)
+
+  low_division : (lv : ℕ) (op : BinaryOp) (t : ValType) (es : List Place) (k : Nodes) → Low lv k → Low lv (guard C (Binary t op) es k)
+  low_division lv DivS t [] k tk = tk
+  low_division lv DivS t (b ∷ []) k tk = tk
+  low_division lv DivS t (b ∷ a ∷ es) k tk = low_signed lv t b a (length es) k tk
+  low_division lv DivU t [] k tk = tk
+  low_division lv DivU t (b ∷ []) k tk = tk
+  low_division lv DivU t (b ∷ a ∷ es) k tk = low_zero lv t b (suc (length es)) k tk
+  low_division lv RemS t [] k tk = tk
+  low_division lv RemS t (b ∷ []) k tk = tk
+  low_division lv RemS t (b ∷ a ∷ es) k tk = low_zero lv t b (suc (length es)) k tk
+  low_division lv RemU t [] k tk = tk
+  low_division lv RemU t (b ∷ []) k tk = tk
+  low_division lv RemU t (b ∷ a ∷ es) k tk = low_zero lv t b (suc (length es)) k tk
+  low_division lv Add t es k tk = tk
+  low_division lv Sub t es k tk = tk
+  low_division lv Mul t es k tk = tk
+  low_division lv And t es k tk = tk
+  low_division lv Or t es k tk = tk
+  low_division lv Xor t es k tk = tk
+  low_division lv Shl t es k tk = tk
+  low_division lv ShrS t es k tk = tk
+  low_division lv ShrU t es k tk = tk
+  low_division lv Rotl t es k tk = tk
+  low_division lv Rotr t es k tk = tk
+
+  low_guard : (lv : ℕ) (i : Basic) (es : List Place) (k : Nodes) → Low lv k → Low lv (guard C i es k)
+  low_guard lv (Binary t op) es k tk = low_division lv op t es k tk
+  low_guard lv (Load t align o) [] k tk = tk
+  low_guard lv (Load t align o) (a ∷ es) k tk = low_memory lv a (length es) (o + load_bits t / 8) k tk
+  low_guard lv (Store t align o) [] k tk = tk
+  low_guard lv (Store t align o) (v ∷ []) k tk = tk
+  low_guard lv (Store t align o) (v ∷ a ∷ es) k tk = low_memory lv a (length es) (o + store_bits t / 8) k tk
+  low_guard lv MemoryCopy [] k tk = tk
+  low_guard lv MemoryCopy (n ∷ []) k tk = tk
+  low_guard lv MemoryCopy (n ∷ from ∷ []) k tk = tk
+  low_guard lv MemoryCopy (n ∷ from ∷ to ∷ es) k tk =
+      let h = length es in
+      let k2 = basic 0 (Binary I32 Or) (basic 0 Select k) in
+      low_range lv from (suc h) n (suc (suc h)) (range_test C to h n (suc (suc h)) k2) (low_range lv to h n (suc (suc h)) k2 tk)
+  low_guard lv MemoryFill [] k tk = tk
+  low_guard lv MemoryFill (n ∷ []) k tk = tk
+  low_guard lv MemoryFill (n ∷ byte ∷ []) k tk = tk
+  low_guard lv MemoryFill (n ∷ byte ∷ to ∷ es) k tk = low_range lv to (length es) n (suc (suc (length es))) (basic 0 Select k) tk
+  low_guard lv Nop es k tk = tk
+  low_guard lv Drop es k tk = tk
+  low_guard lv Select es k tk = tk
+  low_guard lv (LocalGet x) es k tk = tk
+  low_guard lv (LocalSet x) es k tk = tk
+  low_guard lv (LocalTee x) es k tk = tk
+  low_guard lv (GlobalGet x) es k tk = tk
+  low_guard lv (GlobalSet x) es k tk = tk
+  low_guard lv MemorySize es k tk = tk
+  low_guard lv MemoryGrow es k tk = tk
+  low_guard lv (Const v) es k tk = tk
+  low_guard lv (Eqz t) es k tk = tk
+  low_guard lv (Unary t op) es k tk = tk
+  low_guard lv (Compare t op) es k tk = tk
+  low_guard lv (Convert c) es k tk = tk
+  low_guard lv (Extend32 j) es k tk = tk
+  low_guard lv (Extend64 j) es k tk = tk
+
+  low_guarded : (d : ℕ) (q : Bool) (ls : List Info) (es : List Place) (o : ℕ) (i : Basic) (k : Nodes) → Low (suc (suc d)) k → Low (suc (suc d)) (guarded q C ls es o i k)
+  low_guarded d false ls es o i k tk = tk
+  low_guarded d true ls es o i k tk = low_guard (suc (suc d)) i es (tested C ls es o k) (low_tested d ls es o k tk)
+
+  -- ---- instructions
+
+  abbrev AllLow : ℕ → (List Place → Nodes) → Type 0
+  AllLow d go = (es : List Place) → Low (suc (suc d)) (go es)
+
+  low_plain : (d : ℕ) (ls : List Info) (es : List Place) (o : ℕ) (i : Basic) (go : List Place → Nodes) → AllLow d go → Low (suc (suc d)) (plain C ls es o i go)
+  low_plain d ls es o i go h =
+      let k1 = go (after_plain C es i) in
+      let k2 = store C (result_type C es i) (less (takes i) es) k1 in
+      low_guarded d (can_trap i) ls es o i (load C (takes i) es (basic 0 i k2)) (low_load (suc (suc d)) (takes i) es (basic 0 i k2) (low_store (suc (suc d)) (result_type C es i) (less (takes i) es) k1 (h (after_plain C es i))))
+
+  low_instr : (d : ℕ) (i : Basic) (ls : List Info) (es : List Place) (o : ℕ) (go : List Place → Nodes) → AllLow d go → Low (suc (suc d)) (instr C ls es o i go)
+  low_instr d (Const v) ls es o go h = h (Known v ∷ es)
+  low_instr d Nop ls es o go h = low_plain d ls es o Nop go h
+  low_instr d Drop ls es o go h = low_plain d ls es o Drop go h
+  low_instr d Select ls es o go h = low_plain d ls es o Select go h
+  low_instr d (LocalGet x) ls es o go h = low_plain d ls es o (LocalGet x) go h
+  low_instr d (LocalSet x) ls es o go h = low_plain d ls es o (LocalSet x) go h
+  low_instr d (LocalTee x) ls es o go h = low_plain d ls es o (LocalTee x) go h
+  low_instr d (GlobalGet x) ls es o go h = low_plain d ls es o (GlobalGet x) go h
+  low_instr d (GlobalSet x) ls es o go h = low_plain d ls es o (GlobalSet x) go h
+  low_instr d (Load t al of) ls es o go h = low_plain d ls es o (Load t al of) go h
+  low_instr d (Store t al of) ls es o go h = low_plain d ls es o (Store t al of) go h
+  low_instr d MemorySize ls es o go h = low_plain d ls es o MemorySize go h
+  low_instr d MemoryGrow ls es o go h = low_plain d ls es o MemoryGrow go h
+  low_instr d MemoryCopy ls es o go h = low_plain d ls es o MemoryCopy go h
+  low_instr d MemoryFill ls es o go h = low_plain d ls es o MemoryFill go h
+  low_instr d (Eqz t) ls es o go h = low_plain d ls es o (Eqz t) go h
+  low_instr d (Unary t op) ls es o go h = low_plain d ls es o (Unary t op) go h
+  low_instr d (Compare t op) ls es o go h = low_plain d ls es o (Compare t op) go h
+  low_instr d (Binary t op) ls es o go h = low_plain d ls es o (Binary t op) go h
+  low_instr d (Convert c) ls es o go h = low_plain d ls es o (Convert c) go h
+  low_instr d (Extend32 j) ls es o go h = low_plain d ls es o (Extend32 j) go h
+  low_instr d (Extend64 j) ls es o go h = low_plain d ls es o (Extend64 j) go h
+
+  -- ---- control
+
+  low_go : (lv : ℕ) (q : Option Info) (es : List Place) (k : Nodes) → Low lv k → Low lv (go_to C q es k)
+  low_go lv None es k tk = tt
+  low_go lv (Some i) es k tk = low_to lv (carries i) es k tk
+
+  low_ending : (lv : ℕ) (ls : List Info) (es : List Place) → Low lv (ending C ls es)
+  low_ending lv [] es = tt
+  low_ending lv (i ∷ ls) es = low_to lv (end_gives i) es stop tt
+
+  low_branch_if : (d : ℕ) (ls : List Info) (es : List Place) (l : ℕ) (go : List Place → Nodes) → AllLow d go → Low (suc (suc d)) (branch_if C ls es l go)
+  low_branch_if d ls [] l go h = tt
+  low_branch_if d ls (e ∷ es) l go h = low_fetch (suc (suc d)) e (length es) (if_any (branch_to C (slice_get ls l) es (suc l)) (go es)) (low_go (suc d) (slice_get ls l) es (jump 0 (Br (suc l)) stop) tt, tt, h es)
+
+  low_table : (d : ℕ) (ls : List Info) (es : List Place) (ts : List ℕ) (default : ℕ) → Low (suc (suc d)) (table C ls es ts default)
+  low_table d ls [] ts default = tt
+  low_table d ls (e ∷ es) ts default = low_go (suc (suc d)) (slice_get ls default) es (fetch C e (length es) (jump 0 (BrTable ts default) stop)) (low_fetch (suc (suc d)) e (length es) (jump 0 (BrTable ts default) stop) tt)
+
+  low_hand_top : (lv : ℕ) (m : ℕ) (es : List Place) (k : Nodes) → Low lv k → Low lv (hand_top C m es k)
+  low_hand_top lv zero es k tk = tk
+  low_hand_top lv (suc m) [] k tk = tk
+  low_hand_top lv (suc m) (e ∷ es) k tk = low_hand_top lv m es (fetch C e (length es) (hand_value C (place_type e) k)) (low_fetch lv e (length es) (hand_value C (place_type e) k) tk)
+
+  low_both : (d : ℕ) (ls : List Info) (es : List Place) (o : ℕ) (others k : Nodes) → Low d others → Low (suc (suc d)) k → Low (suc (suc d)) (test_both C ls es o others k)
+  low_both d ls es o others k to tk = (low_hand (suc d) es (get C (kind_at C) (if_any others (to_exit ls))) (to, tt, tt), tt, tk)
+
+  low_after : (d : ℕ) (ls : List Info) (r : Option ValType) (es : List Place) (o : ℕ) (go : List Place → Nodes) → AllLow d go → Low (suc (suc d)) (after_call C ls r es o go)
+  low_after d ls r es o go h = low_store (suc (suc d)) r es (test_flag C ls es o (go (grown r es))) (low_flag d ls es o (go (grown r es)) (h (grown r es)))
+
+  low_direct : (d : ℕ) (q : Bool) (ls : List Info) (r : Option ValType) (es : List Place) (o : ℕ) (go : List Place → Nodes) → AllLow d go → Low (suc (suc d)) (after_direct q C ls r es o go)
+  low_direct d true ls r es o go h = low_store (suc (suc d)) r es (go (grown r es)) (h (grown r es))
+  low_direct d false ls r es o go h = low_after d ls r es o go h
+
+  low_call : (d : ℕ) (q : Option FuncType) (ls : List Info) (es : List Place) (o f : ℕ) (go : List Place → Nodes) → AllLow d go → Low (suc (suc d)) (call_code C ls es o f q go)
+  low_call d None ls es o f go h = tt
+  low_call d (Some type) ls es o f go h =
+      let k = after_direct (nat_lt f (import_count C.source)) C ls (result_of type) (less (length type.params) es) o go in
+      low_load (suc (suc d)) (length type.params) es (call (mapped C.source f) k) (low_direct d (nat_lt f (import_count C.source)) ls (result_of type) (less (length type.params) es) o go h)
+
+  low_indirect : (d : ℕ) (q : Option FuncType) (ls : List Info) (es : List Place) (o t : ℕ) (go : List Place → Nodes) → AllLow d go → Low (suc (suc d)) (indirect_code C ls es o t q go)
+  low_indirect d None ls es o t go h = tt
+  low_indirect d (Some type) ls [] o t go h = tt
+  low_indirect d (Some type) ls (i ∷ es) o t go h =
+      let n = length type.params in
+      let left = less n es in
+      let r = result_of type in
+      let others = hand_top C (suc n) (i ∷ es) stop in
+      let next_ = go (grown r left) in
+      let inner = jump 0 (CallIndirect t) (store C r left stop) in
+      let k1 = set C (kind_at C) (get C (kind_at C) (basic 0 (Eqz I32) (if_any (load C (suc n) (i ∷ es) inner) (test_both C ls left o others next_)))) in
+      low_fetch (suc (suc d)) i (length es) (call (helper_of C t) k1) (low_load (suc d) (suc n) (i ∷ es) inner (low_store (suc d) r left stop tt), tt, low_both d ls left o others next_ (low_hand_top d (suc n) (i ∷ es) stop tt) (h (grown r left)))
+
+  low_control : (d : ℕ) (j : Jump) (ls : List Info) (es : List Place) (o : ℕ) (go : List Place → Nodes) → AllLow d go → Low (suc (suc d)) (control C ls es o j go)
+  low_control d Unreachable ls es o go h = low_tested d ls es o (jump 0 Unreachable stop) tt
+  low_control d (Br l) ls es o go h = low_go (suc (suc d)) (slice_get ls l) es (jump 0 (Br l) stop) tt
+  low_control d (BrIf l) ls es o go h = low_branch_if d ls es l go h
+  low_control d (BrTable ts default) ls es o go h = low_table d ls es ts default
+  low_control d Return ls es o go h = low_to (suc (suc d)) C.result es (jump 0 (Br (body_at ls)) stop) tt
+  low_control d (Call f) ls es o go h = low_call d (type_at C.source f) ls es o f go h
+  low_control d (CallIndirect t) ls es o go h = low_indirect d (slice_get C.source.types t) ls es o t go h
+
+  -- ---- the nodes
+
+  low_rewrite : (d : ℕ) (nodes : Nodes) (ls : List Info) (es : List Place) → Low d nodes → Low (suc (suc d)) (rewrite C ls es nodes)
+  low_rewrite d stop ls es h = low_ending (suc (suc d)) ls es
+  low_rewrite d (basic o i rest) ls es h = low_instr d i ls es o (λ es'. rewrite C ls es' rest) (λ es'. low_rewrite d rest ls es' h)
+  low_rewrite d (jump o j rest) ls es h = low_control d j ls es o (λ es'. rewrite C ls es' rest) (λ es'. low_rewrite d rest ls es' h)
+  low_rewrite zero (block o t inner en rest) ls es h = absurd h
+  low_rewrite (suc d) (block o t inner en rest) ls es h = (low_rewrite d inner (in_block t ∷ ls) es h.0, low_from (suc (suc (suc d))) t es (rewrite C ls (grown t es) rest) (low_rewrite (suc d) rest ls (grown t es) h.1))
+  low_rewrite zero (loop o t inner en rest) ls es h = absurd h
+  low_rewrite (suc d) (loop o t inner en rest) ls es h = (low_rewrite d inner (in_loop t ∷ ls) es h.0, low_from (suc (suc (suc d))) t es (rewrite C ls (grown t es) rest) (low_rewrite (suc d) rest ls (grown t es) h.1))
+  low_rewrite zero (choose o t a ea b en rest) ls es h = absurd h
+  low_rewrite (suc d) (choose o t a ea b en rest) ls [] h = tt
+  low_rewrite (suc d) (choose o t a ea b en rest) ls (e ∷ es) h =
+      let k = from_result C t es (rewrite C ls (grown t es) rest) in
+      low_fetch (suc (suc (suc d))) e (length es) (choose 0 None (rewrite C (in_block t ∷ ls) es a) (option_map (λ at. 0) ea) (rewrite C (in_block t ∷ ls) es b) 0 k)
+      (low_rewrite d a (in_block t ∷ ls) es h.0, low_rewrite d b (in_block t ∷ ls) es h.1, low_from (suc (suc (suc d))) t es (rewrite C ls (grown t es) rest) (low_rewrite (suc d) rest ls (grown t es) h.2))
+
+  -- ---- the exit
+
+  low_locals : (lv : ℕ) (x : ℕ) (ts : List ValType) (k : Nodes) → Low lv k → Low lv (hand_locals C x ts k)
+  low_locals lv x [] k tk = tk
+  low_locals lv x (t ∷ ts) k tk = low_locals lv (suc x) ts k tk
+
+  low_zero_result : (lv : ℕ) (r : Option ValType) (k : Nodes) → Low lv k → Low lv (zero_result r k)
+  low_zero_result lv None k tk = tk
+  low_zero_result lv (Some t) k tk = tk
+
+  low_exit : (lv : ℕ) → Low lv (exit_code C)
+  low_exit lv =
+      let k9 = zero_result C.result (jump 0 Return stop) in
+      low_locals lv 0 C.locals (get C (kind_at C) (const (i32 C.index) (get C (offset_at C) (const (i32 (length C.locals)) (call (frame_import C.source) (raise_flag C k9)))))) (low_zero_result lv C.result (jump 0 Return stop) tt)
+
+  pub low_body : (d : ℕ) (nodes : Nodes) → Low d nodes → Low (suc (suc (suc (suc d)))) (body C nodes)
+  low_body d nodes h = ((low_rewrite d nodes (in_body C.result ∷ []) [] h, low_back (suc (suc (suc d))) C.result), low_exit (suc (suc (suc (suc d)))))
+
+-- ---- wrappers and helpers
+
+low_get : (lv : ℕ) (x n : ℕ) (k : Nodes) → Low lv k → Low lv (get_all x n k)
+low_get lv x zero k tk = tk
+low_get lv x (suc n) k tk = low_get lv (suc x) n k tk
+
+low_globals : (lv : ℕ) (m : Module) (x : ℕ) (ts : List ValType) (k : Nodes) → Low lv k → Low lv (tell_globals m x ts k)
+low_globals lv m x [] k tk = tk
+low_globals lv m x (t ∷ ts) k tk = low_globals lv m (suc x) ts k tk
+
+pub low_wrapper : (lv : ℕ) (m : Module) (f : ℕ) → Low (suc lv) (wrapper m f)
+low_wrapper lv m f = low_get (suc lv) 0 (parameter_count (type_at m f)) (call (mapped m f) (after_wrapped m)) (low_globals lv m 0 (global_types m) _ tt, tt, tt)
+
+pub low_helper : (lv : ℕ) (m : Module) (t : ℕ) → Low (suc (suc (suc (suc lv)))) (helper m t)
+low_helper lv m t = ((((tt, tt), tt), tt), tt)

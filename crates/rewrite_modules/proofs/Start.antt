@@ -1,0 +1,245 @@
+-- The start of the two instances, and their exports.
+use Rattle.std.proofs.Common.{◌≡◌, ℕ, zero, suc, ◌+◌, List, [], ◌∷◌, ◌++◌, length, map, Option, Some, None, Bool, true, false, ◌&&◌, nat_lt, nat_le, refl, sym, ap, ap₂, ◌∙◌, subst, arith, ◌⊎◌, inl, inr, slice_get, option_map, take, drop, replicate, unwrap_or}
+use Rattle.wasm_syntax.specs.declared.value.Value.{Value}
+use Rattle.wasm_syntax.specs.declared.value.Value.TheVariants as values
+use Rattle.wasm_syntax.specs.declared.instruction.Basic.TheVariants.{Nop, Drop, Select, LocalGet, LocalSet, LocalTee, GlobalGet, GlobalSet, Load, Store, MemorySize, MemoryGrow, Const, Eqz, Unary, Compare, Binary, Convert, MemoryCopy, MemoryFill, Extend32, Extend64}
+use Rattle.wasm_syntax.specs.declared.module.ModuleParts.{ModuleParts as Module}
+use Rattle.wasm_syntax.specs.Module.{Program, const_value, const_code, function_export, is_function}
+use Rattle.wasm_syntax.specs.declared.host.Reply.{Reply}
+use Rattle.wasm_syntax.specs.Machine.{zero_of}
+use Rattle.rewrite_bodies.specs.Numbering.{import_count, mapped, wrapped, wrapper_base, export_wrapped, start_wraps, wraps}
+use Rattle.linear_memory.specs.Memory.{Memory}
+use Rattle.std.proofs.lemmas.List.{length-map, map-append}
+use Rattle.rewrite_bodies.specs.Agreement.{flagged}
+use Rattle.wasm_syntax.specs.Run.{start_table, engine, i32_or_zero, first_false, table_min, empty_memory, memory_bytes, globals_at_start, element_at, data_at, element_fits, data_fits, start_memory, start_world, by_data, by_element, cause_of_segments}
+use Rattle.std.specs.Prelude.{flat_map, bytes_eq, fold, find, cond}
+use Rattle.rewrite_modules.specs.Collector.{memory_export}
+use Rattle.rewrite_modules.specs.Instrument.{new_module, new_exports, new_index}
+use Rattle.wasm_syntax.specs.declared.instruction.Instr.TheVariants as instrs
+use Rattle.wasm_syntax.specs.declared.instruction.Op.{Op}
+use Rattle.wasm_syntax.specs.declared.instruction.Instr.{Instr}
+use Rattle.wasm_syntax.specs.declared.parts.Export.{Export}
+use Rattle.wasm_syntax.specs.declared.parts.ElementSeg.{ElementSeg}
+use Rattle.wasm_syntax.specs.declared.parts.DataSeg.{DataSeg}
+use Rattle.wasm_syntax.specs.Run as runs_
+use Rattle.rewrite_modules.proofs.Links.{get_left, get_right}
+
+-- ---- constant expressions with one more global, a zero
+
+zero_more : (gs : List Value) (x : ℕ) → i32_or_zero (slice_get (gs ++ values.I32 0 ∷ []) x) ≡ i32_or_zero (slice_get gs x)
+zero_more [] zero = refl
+zero_more [] (suc x) = refl
+zero_more (g ∷ gs) zero = refl
+zero_more (g ∷ gs) (suc x) = zero_more gs x
+
+code_more : (gs : List Value) (i : Instr) → i32_or_zero (const_code (gs ++ values.I32 0 ∷ []) i) ≡ i32_or_zero (const_code gs i)
+code_more gs (instrs.Basic (GlobalGet x)) = zero_more gs x
+code_more gs (instrs.Basic Nop) = refl
+code_more gs (instrs.Basic Drop) = refl
+code_more gs (instrs.Basic Select) = refl
+code_more gs (instrs.Basic (LocalGet x)) = refl
+code_more gs (instrs.Basic (LocalSet x)) = refl
+code_more gs (instrs.Basic (LocalTee x)) = refl
+code_more gs (instrs.Basic (GlobalSet x)) = refl
+code_more gs (instrs.Basic (Load t al of)) = refl
+code_more gs (instrs.Basic (Store t al of)) = refl
+code_more gs (instrs.Basic MemorySize) = refl
+code_more gs (instrs.Basic MemoryGrow) = refl
+code_more gs (instrs.Basic MemoryCopy) = refl
+code_more gs (instrs.Basic MemoryFill) = refl
+code_more gs (instrs.Basic (Extend32 k)) = refl
+code_more gs (instrs.Basic (Extend64 k)) = refl
+code_more gs (instrs.Basic (Const v)) = refl
+code_more gs (instrs.Basic (Eqz t)) = refl
+code_more gs (instrs.Basic (Unary t op)) = refl
+code_more gs (instrs.Basic (Compare t op)) = refl
+code_more gs (instrs.Basic (Binary t op)) = refl
+code_more gs (instrs.Basic (Convert c)) = refl
+code_more gs (instrs.Jump j) = refl
+code_more gs (instrs.Block t) = refl
+code_more gs (instrs.Loop t) = refl
+code_more gs (instrs.If t) = refl
+code_more gs instrs.Else = refl
+code_more gs instrs.End = refl
+
+const_more : (gs : List Value) (ops : List Op) → i32_or_zero (const_value (gs ++ values.I32 0 ∷ []) ops) ≡ i32_or_zero (const_value gs ops)
+const_more gs [] = refl
+const_more gs (o ∷ os) = code_more gs o.code
+
+-- ---- lists under a function
+
+map-over : {A B : Type 0} (f : A → B) (xs new : List A) (at : ℕ) → map f (runs_.over xs at new) ≡ runs_.over (map f xs) at (map f new)
+map-over f xs new at =
+    map-append f (take at xs) (new ++ drop (at + length new) xs) ∙ ap₂ (λ a b. a ++ b) (map-take at xs) (map-append f new (drop (at + length new) xs) ∙ ap (λ z. map f new ++ z) (map-drop (at + length new) xs ∙ ap (λ n. drop (at + n) (map f xs)) (sym (length-map new f))))
+  where
+    map-take : (n : ℕ) (xs : List _) → map f (take n xs) ≡ take n (map f xs)
+    map-take zero xs = refl
+    map-take (suc n) [] = refl
+    map-take (suc n) (x ∷ xs) = ap (λ z. f x ∷ z) (map-take n xs)
+
+    map-drop : (n : ℕ) (xs : List _) → map f (drop n xs) ≡ drop n (map f xs)
+    map-drop zero xs = refl
+    map-drop (suc n) [] = refl
+    map-drop (suc n) (x ∷ xs) = map-drop n xs
+
+map-replicate : {A B : Type 0} (f : A → B) (n : ℕ) (x : A) → map f (replicate n x) ≡ replicate n (f x)
+map-replicate f zero x = refl
+map-replicate f (suc n) x = ap (λ z. f x ∷ z) (map-replicate f n x)
+
+module _ (p : Program) where
+  abbrev m : Module
+  m = p.module_
+
+  abbrev m' : Module
+  m' = new_module p
+
+  abbrev new_element : ElementSeg → ElementSeg
+  new_element e = record { table = e.table; offset = e.offset; functions = map (mapped m) e.functions }
+
+  abbrev go : Option ℕ → Option ℕ
+  go = option_map (mapped m)
+
+  globals_start : globals_at_start m' ≡ globals_at_start m ++ values.I32 0 ∷ []
+  globals_start = map-append (λ g. unwrap_or (const_value [] g.init.ops) (zero_of g.vtype)) m.globals _
+
+  element_same : (e : ElementSeg) → element_at m' (new_element e) ≡ element_at m e
+  element_same e = ap (λ gs. i32_or_zero (const_value gs e.offset.ops)) globals_start ∙ const_more (globals_at_start m) e.offset.ops
+
+  data_same : (s : DataSeg) → data_at m' s ≡ data_at m s
+  data_same s = ap (λ gs. i32_or_zero (const_value gs s.offset.ops)) globals_start ∙ const_more (globals_at_start m) s.offset.ops
+
+  some_map : (fs : List ℕ) → map Some (map (mapped m) fs) ≡ map go (map Some fs)
+  some_map [] = refl
+  some_map (f ∷ fs) = ap (λ z. Some (mapped m f) ∷ z) (some_map fs)
+
+  table_fold : (es : List ElementSeg) (t : List (Option ℕ)) → fold (λ table e. runs_.over table (element_at m' e) (map Some e.functions)) (map go t) (map new_element es) ≡ map go (fold (λ table e. runs_.over table (element_at m e) (map Some e.functions)) t es)
+  table_fold [] t = refl
+  table_fold (e ∷ es) t =
+      ap (λ z. fold (λ table e. runs_.over table (element_at m' e) (map Some e.functions)) z (map new_element es)) (ap₂ (λ n new. runs_.over (map go t) n new) (element_same e) (some_map e.functions) ∙ sym (map-over go t (map Some e.functions) (element_at m e)))
+      ∙ table_fold es (runs_.over t (element_at m e) (map Some e.functions))
+
+  table_start : start_table m' ≡ map go (start_table m)
+  table_start = ap (λ z. fold (λ table e. runs_.over table (element_at m' e) (map Some e.functions)) z (map new_element m.elements)) (sym (map-replicate go (table_min m.tables) None)) ∙ table_fold m.elements (replicate (table_min m.tables) None)
+
+  memory_fold : (ss : List DataSeg) (k : Memory) → fold (λ k s. record k { bytes = runs_.over k.bytes (data_at m' s) s.bytes }) k ss ≡ fold (λ k s. record k { bytes = runs_.over k.bytes (data_at m s) s.bytes }) k ss
+  memory_fold [] k = refl
+  memory_fold (s ∷ ss) k = ap (λ n. fold (λ k s. record k { bytes = runs_.over k.bytes (data_at m' s) s.bytes }) (record k { bytes = runs_.over k.bytes n s.bytes }) ss) (data_same s) ∙ memory_fold ss (record k { bytes = runs_.over k.bytes (data_at m s) s.bytes })
+
+  memory_option : (o : Option Memory) → option_map (λ memory. fold (λ k s. record k { bytes = runs_.over k.bytes (data_at m' s) s.bytes }) memory m.segments) o ≡ option_map (λ memory. fold (λ k s. record k { bytes = runs_.over k.bytes (data_at m s) s.bytes }) memory m.segments) o
+  memory_option None = refl
+  memory_option (Some k) = ap Some (memory_fold m.segments k)
+
+  memory_start : start_memory m' ≡ start_memory m
+  memory_start = memory_option (empty_memory m.memories)
+
+  pub world_start : (d : ℕ) (replies : List Reply) → start_world m' replies ≡ flagged (engine p false d) (start_world m replies) (values.I32 0)
+  world_start d replies = λ i. record { globals = globals_start i; memory = memory_start i; table = table_start i; replies = replies; served = [] }
+
+  -- ---- the segments fit in both
+
+  elements_fit : (es : List ElementSeg) → map (element_fits m') (map new_element es) ≡ map (element_fits m) es
+  elements_fit [] = refl
+  elements_fit (e ∷ es) = ap₂ (λ a b. a ∷ b) (ap₂ (λ n k. nat_le (n + k) (table_min m.tables)) (element_same e) (length-map e.functions (mapped m))) (elements_fit es)
+
+  data_fit : (ss : List DataSeg) → map (data_fits m') ss ≡ map (data_fits m) ss
+  data_fit [] = refl
+  data_fit (s ∷ ss) = ap₂ (λ a b. a ∷ b) (ap (λ n. nat_le (n + length s.bytes) (length (memory_bytes (empty_memory m.memories)))) (data_same s)) (data_fit ss)
+
+  segments_of : Option ℕ → List Bool → Option runs_.Cause
+  segments_of None ds = by_data (first_false 0 ds)
+  segments_of (Some i) ds = Some (runs_.element_out i)
+
+  by_element_is : (n : Module) (q : Option ℕ) → by_element n q ≡ segments_of q (map (data_fits n) n.segments)
+  unfolding segments_of
+  by_element_is n None = refl
+  by_element_is n (Some i) = refl
+
+  pub segments_same : cause_of_segments m' ≡ cause_of_segments m
+  segments_same =
+      by_element_is m' (first_false 0 (map (element_fits m') m'.elements)) ∙ ap₂ (λ es ds. segments_of (first_false 0 es) ds) (elements_fit m.elements) (data_fit m.segments) ∙ sym (by_element_is m (first_false 0 (map (element_fits m) m.elements)))
+
+-- ---- exports
+
+-- how a function that is named from outside appears in the new module
+abbrev pub Outside : Module → ℕ → ℕ → Type 0
+Outside m f f' = ((f' ≡ f) × (nat_lt f (import_count m) ≡ true)) ⊎ ((j : ℕ) × (f' ≡ wrapper_base m + j) × (slice_get (wrapped m) j ≡ Some f) × (nat_lt f (import_count m) ≡ false))
+
+module _ (m : Module) (name : List ℕ) where
+  abbrev test : Export → Bool
+  test e = is_function e.kind && bytes_eq e.name name
+
+  abbrev renew : ℕ → Export → Export
+  renew k e = record { name = e.name; kind = e.kind; index = new_index m k (wraps m e) e.index }
+
+  -- what is found in the one list and in the other
+  abbrev Finds : List ℕ → ℕ → Option Export → Option Export → Type 0
+  Finds ws k None q = q ≡ None
+  Finds ws k (Some e) q = (j : ℕ) × (q ≡ Some (renew (k + j) e)) × ((f : ℕ) → wraps m e ≡ f ∷ [] → slice_get ws j ≡ Some f) × (is_function e.kind ≡ true)
+
+  no_memory : {A : Type 0} (ls : List A) → find test (memory_export ls) ≡ None
+  no_memory [] = refl
+  no_memory (l ∷ ls) = refl
+
+  later : (e : Export) (ws : List ℕ) (k : ℕ) (q q' : Option Export) → Finds ws (k + length (wraps m e)) q q' → Finds (wraps m e ++ ws) k q q'
+  later e ws k None q' h = h
+  later e ws k (Some x) q' h =
+      let z : k + length (wraps m e) + h.0 ≡ k + (length (wraps m e) + h.0) = omega arith in
+      (length (wraps m e) + h.0, h.1 ∙ ap (λ n. Some (renew n x)) z, (λ f w. get_right (wraps m e) ws h.0 (length (wraps m e) + h.0) refl ∙ h.2 f w), h.3)
+
+  finds : {A : Type 0} (es : List Export) (k : ℕ) (ls : List A) → Finds (flat_map (wraps m) es) k (find test es) (find test (new_exports m k es ++ memory_export ls))
+  finds [] k ls = no_memory ls
+  finds (e ∷ es) k ls = by_test (test e) refl (finds es (k + length (wraps m e)) ls)
+    where
+      fst_true : (a b : Bool) → (a && b) ≡ true → a ≡ true
+      fst_true true b e = refl
+      fst_true false b e = absurd (cc)
+
+      by_test : (q : Bool) → test e ≡ q → Finds (flat_map (wraps m) es) (k + length (wraps m e)) (find test es) (find test (new_exports m (k + length (wraps m e)) es ++ memory_export ls)) → Finds (wraps m e ++ flat_map (wraps m) es) k (cond q (Some e) (find test es)) (cond q (Some (renew k e)) (find test (new_exports m (k + length (wraps m e)) es ++ memory_export ls)))
+      by_test true t h =
+          let z : k ≡ k + 0 = omega arith in
+          (0, ap (λ n. Some (renew n e)) z, (λ f w. ap (λ l. slice_get (l ++ flat_map (wraps m) es) 0) w), fst_true (is_function e.kind) (bytes_eq e.name name) t)
+      by_test false t h = later e (flat_map (wraps m) es) k (find test es) (find test (new_exports m (k + length (wraps m e)) es ++ memory_export ls)) h
+
+pub record Named (p : Program) (name : List ℕ) (f : ℕ) : Type 0 where
+  pub there : ℕ
+  pub found : function_export (new_module p) name ≡ Some there
+  pub outside : Outside p.module_ f there
+
+module _ (p : Program) (name : List ℕ) where
+  abbrev mm : Module
+  mm = p.module_
+
+  wraps_by : (e : Export) (j : ℕ) (q b : Bool) → is_function e.kind ≡ true → nat_lt e.index (import_count mm) ≡ b → ((f : ℕ) → wraps mm e ≡ f ∷ [] → slice_get (export_wrapped mm) j ≡ Some f) → Outside mm e.index (new_index mm (0 + j) (wraps mm e) e.index)
+  wraps_by e j q true fk lt h = inl (rw (fk, lt) refl, lt)
+  wraps_by e j q false fk lt h =
+      let w : wraps mm e ≡ e.index ∷ [] = rw (fk, lt) refl in
+      let z : 0 + j ≡ j = omega arith in
+      inr (j, ap (λ l. new_index mm (0 + j) l e.index) w ∙ ap (λ n. wrapper_base mm + n) z, get_left (export_wrapped mm) (start_wraps mm mm.start) j e.index (h e.index w), lt)
+
+  named_by : (q q' : Option Export) → find (test mm name) mm.exports ≡ q → find (test mm name) (new_module p).exports ≡ q' → Finds mm name (export_wrapped mm) 0 q q' → (f : ℕ) → option_map (λ e. e.index) q ≡ Some f → Named p name f
+  named_by None q' e e' h f o = absurd (cc)
+  named_by (Some x) q' e e' h f o =
+      let same : x.index ≡ f = cc in
+      record { there = new_index mm (0 + h.0) (wraps mm x) x.index; found = ap (option_map (λ e. e.index)) (e' ∙ h.1); outside = subst (λ z. Outside mm z (new_index mm (0 + h.0) (wraps mm x) x.index)) same (wraps_by x h.0 true (nat_lt x.index (import_count mm)) h.3 refl h.2) }
+
+  pub named : (f : ℕ) → function_export mm name ≡ Some f → Named p name f
+  named f o = named_by (find (test mm name) mm.exports) (find (test mm name) (new_module p).exports) refl refl (finds mm name mm.exports 0 mm.memories) f o
+
+  unnamed_by : (q q' : Option Export) → find (test mm name) (new_module p).exports ≡ q' → Finds mm name (export_wrapped mm) 0 q q' → option_map (λ e. e.index) q ≡ None → function_export (new_module p) name ≡ None
+  unnamed_by None q' e' h o = ap (option_map (λ e. e.index)) (e' ∙ h)
+  unnamed_by (Some x) q' e' h o = absurd (cc)
+
+  pub unnamed : function_export mm name ≡ None → function_export (new_module p) name ≡ None
+  unnamed o = unnamed_by (find (test mm name) mm.exports) (find (test mm name) (new_module p).exports) refl (finds mm name mm.exports 0 mm.memories) o
+
+  -- the start function
+  start_by : (s : ℕ) (b : Bool) → mm.start ≡ Some s → nat_lt s (import_count mm) ≡ b → (s' : ℕ) × ((new_module p).start ≡ Some s') × Outside mm s s'
+  start_by s true e lt = (s, rw (e, lt) refl, inl (refl, lt))
+  start_by s false e lt =
+      (wrapper_base mm + length (export_wrapped mm), rw (e, lt) refl, inr (length (export_wrapped mm), refl, get_right (export_wrapped mm) (start_wraps mm mm.start) 0 (length (export_wrapped mm)) (omega arith) ∙ rw (e, lt) refl, lt))
+
+  pub started : (s : ℕ) → mm.start ≡ Some s → (s' : ℕ) × ((new_module p).start ≡ Some s') × Outside mm s s'
+  started s e = start_by s (nat_lt s (import_count mm)) e refl
+
+  pub not_started_ : mm.start ≡ None → (new_module p).start ≡ None
+  not_started_ e = rw e refl

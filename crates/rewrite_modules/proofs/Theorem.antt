@@ -1,0 +1,255 @@
+-- From a valid program within the limits to the simulation.
+use Rattle.std.proofs.Common.{◌≡◌, ℕ, zero, suc, ◌+◌, ◌*◌, ◌<◌, ◌≤◌, ◌==◌, List, [], ◌∷◌, ◌++◌, length, map, Option, Some, None, Bool, true, false, refl, sym, ap, ◌∙◌, subst, arith, length-append, ◌⊎◌, inl, inr, slice_get, option_map, if◌then◌else◌, take, drop, replicate, leb-true, length-drop, length-take-le, unwrap_or, true≢false, subst₂, mul-le-mul}
+use Rattle.wasm_syntax.specs.declared.parts.Body.{Body}
+use Rattle.wasm_syntax.specs.Tree.{Unreachable, Br, BrIf, BrTable, Return, Call, CallIndirect, Nodes, stop, basic, jump, block, loop, choose, Tree}
+use Rattle.wasm_syntax.specs.declared.module.ModuleParts.{ModuleParts as Module}
+use Rattle.wasm_syntax.specs.Module.{Program, AllWrite, function_export}
+use Rattle.wasm_syntax.specs.declared.host.Reply.{Reply}
+use Rattle.rewrite_bodies.specs.Slots.{greatest}
+use Rattle.rewrite_bodies.specs.Numbering.{place_in, helped, uses, distinct, is_in, global_types}
+use Rattle.rewrite_bodies.specs.Rewrite.{body}
+use Rattle.linear_memory.specs.Memory.{Memory}
+use Rattle.std.proofs.lemmas.List.{length-map, length-replicate}
+use Rattle.std.proofs.Math.Seq.{take-length}
+use Rattle.rewrite_bodies.specs.Guards.{first_table}
+use Rattle.wasm_syntax.specs.declared.parts.ElementSeg.{ElementSeg}
+use Rattle.rewrite_bodies.specs.Agreement.{Has, MemoryFits, WorldFits}
+use Rattle.std.proofs.lemmas.Bool.{eqb-true, eq-eqb}
+use Rattle.std.specs.Prelude.{flat_map, fold, min}
+use Rattle.rewrite_modules.specs.Instrument.{instrument, new_module}
+use Rattle.rewrite_modules.proofs.SlotMultiple.{slot_multiple}
+use Rattle.rewrite_modules.proofs.Bounds.{Static}
+use Rattle.std.specs.List.{AllByRecursion}
+use Rattle.wasm_syntax.specs.declared.parts.DataSeg.{DataSeg}
+use Rattle.wasm_syntax.specs.declared.parts.Limits.{Limits}
+use Rattle.wasm_syntax.specs.Run.{Cause, Invocation, not_begun, first_false, table_min, start_table, element_at, empty_memory, memory_bytes, data_at, element_fits, data_fits, by_data, by_element, cause_of, cause_of_entry, cause_of_segments, or_else, unless, engine, run, start_world}
+use Rattle.wasm_syntax.specs.Run as runs_
+use Rattle.rewrite_modules.specs.Simulates.{Simulates, AllAlike, NoneDeep}
+use Rattle.rewrite_modules.proofs.Links.{Ready}
+use Rattle.rewrite_modules.proofs.Start.{segments_same, unnamed}
+use Rattle.rewrite_modules.proofs.Final.{Fits}
+use Rattle.wasm_laws.proofs.Never.{Startable, never_stuck as never_stuck_all}
+use Rattle.rewrite_modules.proofs.Sessions.{simulates_all}
+use Rattle.rewrite_modules.specs.Given.{SmallCode, Given}
+use Rattle.wasm_laws.proofs.Validity.{startable}
+
+-- ---- the types that are asked for have helpers
+
+abbrev In : ℕ → List ℕ → Type 0
+In t [] = ⊥
+In t (u ∷ us) = (t ≡ u) ⊎ In t us
+
+in_left : (t : ℕ) (xs ys : List ℕ) → In t xs → In t (xs ++ ys)
+in_left t [] ys h = absurd h
+in_left t (x ∷ xs) ys (inl e) = inl e
+in_left t (x ∷ xs) ys (inr h) = inr (in_left t xs ys h)
+
+in_right : (t : ℕ) (xs ys : List ℕ) → In t ys → In t (xs ++ ys)
+in_right t [] ys h = h
+in_right t (x ∷ xs) ys h = inr (in_right t xs ys h)
+
+in_true : (t : ℕ) (xs : List ℕ) → is_in t xs ≡ true → In t xs
+in_true t [] e = absurd (cc)
+in_true t (x ∷ xs) e = by (t == x) refl e (in_true t xs)
+  where
+    by : (q : Bool) → (t == x) ≡ q → (if q then true else is_in t xs) ≡ true → (is_in t xs ≡ true → In t xs) → In t (x ∷ xs)
+    by true q e ih = inl (eqb-true t x q)
+    by false q e ih = inr (ih e)
+
+in_distinct : (t : ℕ) (xs : List ℕ) → In t xs → In t (distinct xs)
+in_distinct t [] h = absurd h
+in_distinct t (x ∷ xs) h = by (is_in x (distinct xs)) refl h (in_distinct t xs)
+  where
+    by : (q : Bool) → is_in x (distinct xs) ≡ q → In t (x ∷ xs) → (In t xs → In t (distinct xs)) → In t (if q then distinct xs else x ∷ distinct xs)
+    by true q (inl e) ih = subst (λ z. In z (distinct xs)) (sym e) (in_true x (distinct xs) q)
+    by true q (inr h) ih = ih h
+    by false q (inl e) ih = inl e
+    by false q (inr h) ih = inr (ih h)
+
+has_in : (t : ℕ) (xs : List ℕ) → In t xs → Has t xs
+has_in t [] h = absurd h
+has_in t (x ∷ xs) h = by (t == x) refl h (has_in t xs)
+  where
+    by : (q : Bool) → (t == x) ≡ q → In t (x ∷ xs) → (In t xs → Has t xs) → (if q then 0 else suc (place_in t xs)) < suc (length xs)
+    by true q h ih = omega arith
+    by false q (inl e) ih = absurd (true≢false (sym (eq-eqb t x e) ∙ q))
+    by false q (inr h) ih = let z = ih h in omega (arith, z)
+
+in_trees : (t f : ℕ) (trees : List Tree) (tree : Tree) → slice_get trees f ≡ Some tree → In t (uses tree.nodes) → In t (flat_map (λ tree. uses tree.nodes) trees)
+in_trees t f [] tree e h = absurd (cc)
+in_trees t zero (x ∷ trees) tree e h = let z : x ≡ tree = cc in in_left t (uses x.nodes) _ (subst (λ y. In t (uses y.nodes)) (sym z) h)
+in_trees t (suc f) (x ∷ trees) tree e h = in_right t (uses x.nodes) _ (in_trees t f trees tree e h)
+
+static_of : (hs : List ℕ) (nodes : Nodes) → SmallCode nodes → ((t : ℕ) → In t (uses nodes) → Has t hs) → Static hs nodes
+static_of hs stop s h = tt
+static_of hs (basic o i rest) s h = (s.0, static_of hs rest s.1 h)
+static_of hs (jump o Unreachable rest) s h = static_of hs rest s h
+static_of hs (jump o (Br l) rest) s h = static_of hs rest s h
+static_of hs (jump o (BrIf l) rest) s h = static_of hs rest s h
+static_of hs (jump o (BrTable ts d) rest) s h = static_of hs rest s h
+static_of hs (jump o Return rest) s h = static_of hs rest s h
+static_of hs (jump o (Call f) rest) s h = static_of hs rest s h
+static_of hs (jump o (CallIndirect t) rest) s h = (h t (inl refl), static_of hs rest s (λ u q. h u (inr q)))
+static_of hs (block o t inner en rest) s h = (static_of hs inner s.0 (λ u q. h u (in_left u (uses inner) (uses rest) q)), static_of hs rest s.1 (λ u q. h u (in_right u (uses inner) (uses rest) q)))
+static_of hs (loop o t inner en rest) s h = (static_of hs inner s.0 (λ u q. h u (in_left u (uses inner) (uses rest) q)), static_of hs rest s.1 (λ u q. h u (in_right u (uses inner) (uses rest) q)))
+static_of hs (choose o t a ea b en rest) s h =
+    (static_of hs a s.0 (λ u q. h u (in_left u (uses a) (uses b ++ uses rest) q)), static_of hs b s.1 (λ u q. h u (in_right u (uses a) (uses b ++ uses rest) (in_left u (uses b) (uses rest) q))), static_of hs rest s.2 (λ u q. h u (in_right u (uses a) (uses b ++ uses rest) (in_right u (uses b) (uses rest) q))))
+
+-- ---- the first memory has whole pages
+
+over_len : {A : Type 0} (xs new : List A) (at : ℕ) → at + length new ≤ length xs → length (runs_.over xs at new) ≡ length xs
+over_len xs new at le =
+    omega (arith, le, length-append (take at xs) (new ++ drop (at + length new) xs), length-append new (drop (at + length new) xs), length-drop (at + length new) xs, length-take-le at xs (omega (arith, le)))
+
+abbrev AllTrue : List Bool → Type 0
+AllTrue [] = Unit {0}
+AllTrue (b ∷ bs) = (b ≡ true) × AllTrue bs
+
+all_true : (n : ℕ) (bs : List Bool) → first_false n bs ≡ None → AllTrue bs
+all_true n [] e = tt
+all_true n (true ∷ bs) e = (refl, all_true (suc n) bs e)
+all_true n (false ∷ bs) e = absurd (cc)
+
+elements_true : (m : Module) (q : Option ℕ) → by_element m q ≡ None → q ≡ None
+elements_true m None e = refl
+elements_true m (Some i) e = absurd (cc)
+
+segments_true : (m : Module) (q : Option ℕ) → by_element m q ≡ None → first_false 0 (map (data_fits m) m.segments) ≡ None
+segments_true m None e = data_none (first_false 0 (map (data_fits m) m.segments)) e
+  where
+    data_none : (q : Option ℕ) → by_data q ≡ None → q ≡ None
+    data_none None e = refl
+    data_none (Some i) e = absurd (cc)
+segments_true m (Some i) e = absurd (cc)
+
+module _ (m : Module) where
+  filled : (ss : List DataSeg) (k : Memory) (n : ℕ) → length k.bytes ≡ n → n ≡ length (memory_bytes (empty_memory m.memories)) → AllTrue (map (data_fits m) ss) → (length (fold (λ k s. record k { bytes = runs_.over k.bytes (data_at m s) s.bytes }) k ss).bytes ≡ n) × ((fold (λ k s. record k { bytes = runs_.over k.bytes (data_at m s) s.bytes }) k ss).max ≡ k.max)
+  filled [] k n e n' h = (e, refl)
+  filled (s ∷ ss) k n e n' h =
+      let le : data_at m s + length s.bytes ≤ length (memory_bytes (empty_memory m.memories)) = leb-true _ _ h.0 in
+      let z : length (runs_.over k.bytes (data_at m s) s.bytes) ≡ n = over_len k.bytes s.bytes (data_at m s) (omega (arith, le, e, n')) ∙ e in
+      filled ss (record k { bytes = runs_.over k.bytes (data_at m s) s.bytes }) n z n' h.1
+
+  abbrev FewPages : List Limits → Type 0
+  FewPages [] = Unit {0}
+  FewPages (l ∷ ls) = l.min ≤ 4096
+
+  abbrev start_of : Option Memory → Option Memory
+  start_of o = option_map (λ memory. fold (λ k s. record k { bytes = runs_.over k.bytes (data_at m s) s.bytes }) memory m.segments) o
+
+  memory_by : (ls : List Limits) → m.memories ≡ ls → FewPages ls → AllTrue (map (data_fits m) m.segments) → MemoryFits (start_of (empty_memory ls))
+  memory_by [] e h a = tt
+  memory_by (l ∷ ls) e h a =
+      let k : Memory = record { bytes = replicate (65536 * l.min) 0; max = min 4096 (unwrap_or l.max 4096) } in
+      let n : length k.bytes ≡ 65536 * l.min = length-replicate {A = ℕ} (65536 * l.min) 0 in
+      let same : length k.bytes ≡ length (memory_bytes (empty_memory m.memories)) = ap (λ z. length (memory_bytes (empty_memory z))) (sym e) in
+      let x = filled m.segments k (65536 * l.min) n (sym n ∙ same) a in
+      (l.min, x.0, omega (arith, h), omega (arith, x.1))
+
+-- ---- the first table has the size that the module gives it
+
+table_length : (m : Module) (es : List ElementSeg) (table : List (Option ℕ)) → length table ≡ table_min m.tables → AllTrue (map (element_fits m) es) → length (fold (λ t e. runs_.over t (element_at m e) (map Some e.functions)) table es) ≡ table_min m.tables
+table_length m [] table n h = n
+table_length m (e ∷ es) table n h =
+    let le = leb-true (element_at m e + length e.functions) (table_min m.tables) h.0 in
+    let k : length (map Some e.functions) ≡ length e.functions = length-map e.functions Some in
+    let one = over_len table (map Some e.functions) (element_at m e) (omega (arith, le, k, n)) in
+    table_length m es (runs_.over table (element_at m e) (map Some e.functions)) (omega (arith, one, n)) h.1
+
+first_is_start : (m : Module) → AllTrue (map (element_fits m) m.elements) → start_table m ≡ first_table m
+first_is_start m h =
+    let n = table_length m m.elements _ (length-replicate (table_min m.tables) None) h in
+    sym (take-length (start_table m)) ∙ ap (λ k. take k (start_table m)) n
+
+-- ---- what validity, the limits and the collisions give
+
+same_count : (bodies : List Body) (trees : List Tree) → AllWrite bodies trees → length trees ≡ length bodies
+same_count [] [] w = refl
+same_count [] (tree ∷ trees) w = absurd w
+same_count (body ∷ bodies) [] w = absurd w
+same_count (body ∷ bodies) (tree ∷ trees) w = ap suc (same_count bodies trees w.1)
+
+few_pages : (m : Module) (ls : List Limits) → AllByRecursion (λ l. l.min ≤ 4096) ls → FewPages m ls
+few_pages m [] h = tt
+few_pages m (l ∷ ls) h = h.0
+
+pub startable_given : (p : Program) → Given p → Startable p
+startable_given p g = startable p g.program g.as_many g.valid
+
+pub ready_given : (p : Program) → Given p → Ready p
+ready_given p g = record { bodies = g.as_many; trees = same_count p.module_.bodies p.trees g.program ∙ g.as_many; imports = g.no_collision; static = λ f tree e. static_of (helped p) tree.nodes (g.small f tree e) (λ t h. has_in t (helped p) (in_distinct t (flat_map (λ tree. uses tree.nodes) p.trees) (in_trees t f p.trees tree e h))) }
+
+-- where an instance starts, its world agrees
+pub starts_fit : (p : Program) → Given p → (d : ℕ) (replies : List Reply) → cause_of_segments p.module_ ≡ None → WorldFits (engine p false d) (global_types p.module_) (start_world p.module_ replies)
+starts_fit p g d replies e =
+    let s = startable_given p g in
+    record {
+      globals = (s.world []).globals;
+      memory = memory_by p.module_ p.module_.memories refl (few_pages p.module_ p.module_.memories g.pages) (all_true 0 _ (segments_true p.module_ (first_false 0 (map (element_fits p.module_) p.module_.elements)) e));
+      table = first_is_start p.module_ (all_true 0 _ (elements_true p.module_ (first_false 0 (map (element_fits p.module_) p.module_.elements)) e));
+    }
+
+fits_given : (p : Program) → Given p → length p.module_.globals ≤ 20000000 → Fits p
+fits_given p g few =
+    let s = startable_given p g in
+    record {
+      ready = ready_given p g;
+      globals = (s.world []).globals;
+      memory = λ e. memory_by p.module_ p.module_.memories refl (few_pages p.module_ p.module_.memories g.pages) (all_true 0 _ (segments_true p.module_ (first_false 0 (map (element_fits p.module_) p.module_.elements)) e));
+      table = λ e. first_is_start p.module_ (all_true 0 _ (elements_true p.module_ (first_false 0 (map (element_fits p.module_) p.module_.elements)) e));
+      exported = s.exported;
+      start = s.start;
+      few_locals = g.few_locals;
+      few_heights = g.few_heights;
+      few_globals = few;
+    }
+
+-- ---- where nothing can be invoked, both modules say so
+
+-- neither starts
+not_started_alike : (c : Cause) (n : ℕ) → AllAlike (not_begun c n ∷ []) (not_begun c n ∷ [])
+not_started_alike c n = (record { begun = refl; host_calls = refl; ends = (refl, refl); state = tt }, tt)
+
+enough : (n l f : ℕ) → n ≤ (n + 2 * l) * (200 + 8 * f)
+enough n l f = let z : (n + 2 * l) * 1 ≤ (n + 2 * l) * (200 + 8 * f) = mul-le-mul (omega arith) (omega arith) in omega (arith, z)
+
+module _ (p : Program) (given : Given p) where
+  abbrev E : ℕ
+  E = slot_multiple p
+
+  abbrev SimulatesHere : List Invocation → List Reply → ℕ → ℕ → Type 0
+  SimulatesHere is replies d n = (k : ℕ) × (n ≤ k) × (k ≤ (n + 2 * length is) * E) × AllAlike (run p false is replies d n) (run (instrument p) true is replies (d + 2) k)
+
+  -- both have this cause, or both have none and nothing is invoked
+  by_cause : (is : List Invocation) (replies : List Reply) (d n : ℕ) (c : Cause) → cause_of p.module_ is ≡ Some c → cause_of (new_module p) is ≡ Some c → SimulatesHere is replies d n
+  by_cause is replies d n c e e' = (
+    n,
+    omega arith,
+    enough n (length is) ((greatest p).0 + (greatest p).1 + length p.module_.globals),
+    subst₂ (λ a b. AllAlike (unless (engine p false d) a is replies n) (unless (engine (instrument p) true (d + 2)) b is replies n)) (sym e) (sym e') (not_started_alike c n),
+  )
+
+  no_calls : (replies : List Reply) (d n : ℕ) (c : Option Cause) → cause_of_segments p.module_ ≡ c → SimulatesHere [] replies d n
+  no_calls replies d n (Some c) e = by_cause [] replies d n c e (segments_same p ∙ e)
+  no_calls replies d n None e = (
+    n,
+    omega arith,
+    enough n 0 ((greatest p).0 + (greatest p).1 + length p.module_.globals),
+    subst₂ (λ a b. AllAlike (unless (engine p false d) a [] replies n) (unless (engine (instrument p) true (d + 2)) b [] replies n)) (sym e) (sym (segments_same p ∙ e)) tt,
+  )
+
+  no_export : (i : Invocation) (is : List Invocation) (replies : List Reply) (d n : ℕ) → function_export p.module_ i.name ≡ None → SimulatesHere (i ∷ is) replies d n
+  no_export i is replies d n e =
+      by_cause (i ∷ is) replies d n runs_.no_export (ap (λ q. or_else (cause_of_entry p.module_ q i.args) (cause_of p.module_ is)) e) (ap (λ q. or_else (cause_of_entry (new_module p) q i.args) (cause_of (new_module p) is)) (unnamed p i.name e))
+
+  with_export : (is : List Invocation) (replies : List Reply) (d n : ℕ) → 1 ≤ d → d ≤ 10000 → NoneDeep (run p false is replies d n) → length p.module_.globals ≤ 20000000 → SimulatesHere is replies d n
+  with_export is replies d n d1 d2 nd few = simulates_all p (fits_given p given few) (λ is replies d n. never_stuck_all p (startable_given p given) false is replies d n) is replies d n d1 d2 nd
+
+  by_export : (i : Invocation) (is : List Invocation) (replies : List Reply) (d n : ℕ) (q : Option ℕ) → function_export p.module_ i.name ≡ q → 1 ≤ d → d ≤ 10000 → NoneDeep (run p false (i ∷ is) replies d n) → SimulatesHere (i ∷ is) replies d n
+  by_export i is replies d n None e d1 d2 nd = no_export i is replies d n e
+  by_export i is replies d n (Some f) e d1 d2 nd = with_export (i ∷ is) replies d n d1 d2 nd (given.few_globals i.name f e)
+
+-- the rewritten module does what the module does, for every list of invocations on one instance
+pub rewriting_simulates : (p : Program) → Given p → Simulates (slot_multiple p) p (instrument p)
+rewriting_simulates p g [] replies d n d1 d2 nd = no_calls p g replies d n (cause_of_segments p.module_) refl
+rewriting_simulates p g (i ∷ is) replies d n d1 d2 nd = by_export p g i is replies d n (function_export p.module_ i.name) refl d1 d2 nd

@@ -1,0 +1,12 @@
+pub mod Outside
+pub mod Low
+pub mod Exported
+pub mod Heights
+pub mod Decoded
+pub mod Kept
+pub mod Laid
+pub mod There
+pub mod Written
+pub mod Admitted
+pub mod Example
+pub mod Rewritten

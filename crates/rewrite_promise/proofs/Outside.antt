@@ -1,0 +1,45 @@
+-- What those outside see does not hang on offsets, lengths and custom sections.
+use Rattle.std.proofs.Common.{◌≡◌, ℕ, true, List, [], ◌∷◌, ◌++◌, length, map, sym, ap, ◌∙◌, subst}
+use Rattle.std.specs.Prelude.{take}
+use Rattle.std.proofs.lemmas.List.{length-map, map-append}
+use Rattle.std.proofs.Math.Seq.{take-append_seam}
+use Rattle.wasm_syntax.specs.declared.value.ValType.TheVariants.{I32}
+use Rattle.wasm_syntax.specs.declared.parts.Global.{Global}
+use Rattle.wasm_syntax.specs.declared.module.ModuleParts.{ModuleParts as Module}
+use Rattle.wasm_syntax.specs.Module.{Program}
+use Rattle.rewrite_modules.specs.Bare.{bare_global, bare_segment, bare_module}
+use Rattle.rewrite_modules.specs.Instrument.{zero_init, new_module}
+use Rattle.rewrite_modules.specs.Interface.{KeepsInterface}
+use Rattle.rewrite_modules.proofs.Interface.{interface}
+use Rattle.rewrite_promise.specs.Outside.{KeepsOutside}
+
+bare_kept : (m n : Module) → KeepsInterface m n → KeepsInterface (bare_module m) (bare_module n)
+bare_kept m n k = record {
+  imports = k.imports;
+  types = k.types;
+  takes_i32 = k.takes_i32;
+  takes_i64 = k.takes_i64;
+  takes_frame = k.takes_frame;
+  exports = k.exports;
+  indices = k.indices;
+  tables = k.tables;
+  memories = k.memories;
+  segments = ap (map bare_segment) k.segments;
+}
+
+front_mapped : {A B : Type 0} (f : A → B) (xs ys : List A) → take (length xs) (map f (xs ++ ys)) ≡ map f xs
+front_mapped f xs ys =
+    ap (take (length xs)) (map-append f xs ys) ∙ ap (λ (n : ℕ). take n (map f xs ++ map f ys)) (sym (length-map xs f)) ∙ take-append_seam (map f xs) (map f ys)
+
+-- the flag
+abbrev flag : Global
+flag = record { vtype = I32; mutable = true; init = zero_init }
+
+globals_first : (p : Program) → take (length p.module_.globals) (map bare_global (new_module p).globals) ≡ map bare_global p.module_.globals
+globals_first p = front_mapped bare_global p.module_.globals (flag ∷ [])
+
+pub outside : (p : Program) (other : Module) → bare_module (new_module p) ≡ bare_module other → KeepsOutside p.module_ other
+outside p other e = record {
+  interface = subst (KeepsInterface (bare_module p.module_)) e (bare_kept p.module_ (new_module p) (interface p));
+  globals = ap (λ (z : Module). take (length p.module_.globals) z.globals) (sym e) ∙ globals_first p;
+}

@@ -1,0 +1,4 @@
+pub mod Outside
+pub mod Promise
+pub mod Admitted
+pub mod Example

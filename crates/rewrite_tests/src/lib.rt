@@ -1,0 +1,9 @@
+//! Tests of the code that writes rewritten bodies. They stand apart from the crates that they test, so that those are proved once.
+#![tactic(auto)]
+
+#[cfg(test)]
+mod code_tests;
+#[cfg(test)]
+mod guard_tests;
+#[cfg(test)]
+mod spill_tests;

@@ -1,5 +1,0 @@
-use Rattle.rewriting_promise.proofs.Rewritten.{rewritten}
-use Rattle.rewriting_promise.proofs.laws.an_example_is_rewritten.Goals as goal
-
-pub returns : goal.returns
-returns c = rewritten

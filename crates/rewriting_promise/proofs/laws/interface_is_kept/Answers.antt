@@ -1,5 +1,0 @@
-use Rattle.rewriting_promise.proofs.Outside.{outside}
-use Rattle.rewriting_promise.proofs.laws.interface_is_kept.Goals as goal
-
-pub returns : goal.returns
-returns c = outside

@@ -1,5 +1,0 @@
-use Rattle.rewriting_promise.proofs.There.{there}
-use Rattle.rewriting_promise.proofs.laws.rewritings_are_there.Goals as goal
-
-pub returns : goal.returns
-returns c = there

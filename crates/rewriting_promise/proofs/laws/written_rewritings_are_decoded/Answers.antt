@@ -1,8 +1,0 @@
-use Rattle.rewriting_promise.proofs.Written.{written, spelled}
-use Rattle.rewriting_promise.proofs.laws.written_rewritings_are_decoded.Goals as goal
-
-pub returns : goal.returns
-returns c = record {
-  encoded = written;
-  spelled = spelled;
-}

@@ -1,0 +1,162 @@
+-- Whether the invocations may begin.
+use Rattle.std.proofs.Common.{◌≡◌, ℕ, zero, suc, ◌+◌, ◌<◌, Bool, true, false, List, [], ◌∷◌, ◌++◌, map, length, drop, get_or, refl, sym, ap, ap₂, ◌∙◌, subst, arith, Option, Some, None, Err, inl, inr}
+use Rattle.std.specs.Prelude.{◌≤◌, ◌⊎◌, All, IfSome, slice_get, is_some, if◌then◌else◌, option_map, codes}
+use Rattle.std.proofs.lemmas.Option.{slice_get_cases}
+use Rattle.wasm_syntax.specs.declared.value.Value.{Value}
+use Rattle.wasm_syntax.specs.declared.parts.Import.{Import}
+use Rattle.wasm_syntax.specs.declared.parts.FuncType.{FuncType}
+use Rattle.wasm_syntax.specs.declared.host.Reply.{Reply}
+use Rattle.wasm_syntax.specs.declared.module.ModuleParts.{ModuleParts as Module}
+use Rattle.wasm_syntax.specs.declared.place.Place.TheVariants as places
+use Rattle.wasm_syntax.specs.Numbers.{types}
+use Rattle.wasm_syntax.specs.Module.{function_export, same_types, type_at}
+use Rattle.wasm_syntax.specs.Valid.{Valid, ImportFine}
+use Rattle.wasm_syntax.specs.Run.{Cause, no_export, bad_arguments, element_out, data_out, cause_of_entry, cause_of_segments, if_fits, first_false, Invocation}
+use Rattle.machine_start.specs.declared.started.StartFault.{StartFault}
+use Rattle.machine_start.specs.declared.started.StartFault.TheVariants.{ElementOut, DataOut, NoMemory}
+use Rattle.wasm_machine.specs.declared.entries.EntryFault.{EntryFault}
+use Rattle.wasm_machine.specs.Entries as machine
+use Rattle.wasm_machine.specs.Entries.{serves_type, unserved, fault_or, entry_fault}
+use Rattle.wasm_machine.specs.Instances.{State, Begins}
+use Rattle.host_set.specs.Sets.{DeviceState, names, is_named}
+use Rattle.host_set.specs.Hosting.{HostsState, serves}
+use Rattle.run_words.specs.declared.invocation.Invocation.{Invocation as InvocationWords}
+use Rattle.run_session.specs.Invocations.{invocation_of}
+use Rattle.run_command.specs.Starting.{or_text, cause_text, segment_of, entries_text}
+use Rattle.run_command.specs.Hosting.{Hosting, is_served, import_text, first_unserved, start_text}
+use Rattle.run_command.specs.RunAnswer.{hosting}
+use Rattle.run_command.specs.inner.Begun.{fault_text, import_in, start_cause, HasBegun}
+use Rattle.run_command.specs.declared.running.Begun.TheVariants.{Ready}
+use Rattle.run_command.proofs.Answering.{none_then}
+use Rattle.run_command.proofs.Entries.{own_text}
+
+-- ---- one entry
+
+no_text : (name : List ℕ) (u : Option ℕ) → fault_text name (unserved u) ≡ None
+no_text name None = refl
+no_text name (Some i) = refl
+
+same_import : (u : Option ℕ) → import_in (unserved u) ≡ u
+same_import None = refl
+same_import (Some i) = refl
+
+-- its text is that of its cause, whichever import is not served
+text_is : (m : Module) (name : List ℕ) (o : Option ℕ) (args : List Value) (u : Option ℕ) → fault_text name (fault_or (cause_of_entry m o args) (unserved u)) ≡ cause_text name (cause_of_entry m o args)
+text_is m name None args u = refl
+text_is m name (Some f) args u = by_test (option_map (λ type. same_types type.params (types args)) (type_at m f))
+  where
+    by_test : (t : Option Bool) → fault_text name (fault_or (if_fits t) (unserved u)) ≡ cause_text name (if_fits t)
+    by_test None = refl
+    by_test (Some true) = no_text name u
+    by_test (Some false) = refl
+
+-- and without a cause the import is told
+import_is : (m : Module) (name : List ℕ) (o : Option ℕ) (args : List Value) (u : Option ℕ) → cause_text name (cause_of_entry m o args) ≡ None → import_in (fault_or (cause_of_entry m o args) (unserved u)) ≡ u
+import_is m name None args u e = absurd cc
+import_is m name (Some f) args u e = by_test (option_map (λ type. same_types type.params (types args)) (type_at m f)) e
+  where
+    by_test : (t : Option Bool) → cause_text name (if_fits t) ≡ None → import_in (fault_or (if_fits t) (unserved u)) ≡ u
+    by_test None e = absurd cc
+    by_test (Some true) e = same_import u
+    by_test (Some false) e = absurd cc
+
+module _ (serving : Import → FuncType → Bool) (m : Module) (i : InvocationWords) where
+  pub own_fault : fault_text i.entry (entry_fault serving m i.entry i.args) ≡ own_text m i
+  own_fault = text_is m i.entry (function_export m i.entry) i.args (machine.first_unserved serving m)
+
+  pub import_left : own_text m i ≡ None → import_in (entry_fault serving m i.entry i.args) ≡ machine.first_unserved serving m
+  import_left e = import_is m i.entry (function_export m i.entry) i.args (machine.first_unserved serving m) e
+
+-- ---- the causes in order
+
+-- what is looked at before the segments
+abbrev pub early : (Import → FuncType → Bool) → Module → List Invocation → Option (List ℕ)
+early serving m is = or_text (entries_text m is) (import_text (machine.first_unserved serving m))
+
+some_first : (a b c : Option (List ℕ)) (t : List ℕ) → or_text a b ≡ Some t → or_text a (or_text b c) ≡ Some t
+some_first None None c t e = absurd cc
+some_first None (Some x) c t e = e
+some_first (Some x) b c t e = e
+
+no_import : (o : Option ℕ) → import_text o ≡ None → o ≡ None
+no_import None e = refl
+no_import (Some i) e = absurd cc
+
+segment_text : (fault : StartFault) (m : Module) (t : List ℕ) → Begins (Err fault) m → cause_text [] (segment_of fault) ≡ Some t → cause_text [] (cause_of_segments m) ≡ Some t
+segment_text (ElementOut i) m t begins is = ap (λ c. cause_text [] c) begins ∙ is
+segment_text (DataOut i) m t begins is = ap (λ c. cause_text [] c) begins ∙ is
+segment_text NoMemory m t begins is = absurd cc
+
+module _ (serving : Import → FuncType → Bool) (m : Module) (is : List Invocation) where
+  pub early_starts : (t : List ℕ) → early serving m is ≡ Some t → start_cause serving m is ≡ Some t
+  early_starts t e = some_first (entries_text m is) (import_text (machine.first_unserved serving m)) (cause_text [] (cause_of_segments m)) t e
+
+  none_early : early serving m is ≡ None → (entries_text m is ≡ None) × (machine.first_unserved serving m ≡ None)
+  none_early e = by_case (entries_text m is) e
+    where
+      by_case : (t : Option (List ℕ)) → or_text t (import_text (machine.first_unserved serving m)) ≡ None → (t ≡ None) × (machine.first_unserved serving m ≡ None)
+      by_case None e = (refl, no_import (machine.first_unserved serving m) e)
+      by_case (Some t) e = absurd cc
+
+  by_segments : early serving m is ≡ None → start_cause serving m is ≡ cause_text [] (cause_of_segments m)
+  by_segments e =
+      let k = none_early e in
+      ap (λ t. or_text t (or_text (import_text (machine.first_unserved serving m)) (cause_text [] (cause_of_segments m)))) k.0
+      ∙ ap (λ i. or_text (import_text i) (cause_text [] (cause_of_segments m))) k.1
+
+  pub segments_start : early serving m is ≡ None → cause_of_segments m ≡ None → start_cause serving m is ≡ None
+  segments_start e segments = by_segments e ∙ ap (λ c. cause_text [] c) segments
+
+  pub segment_starts : (fault : StartFault) (t : List ℕ) → early serving m is ≡ None → Begins (Err fault) m → cause_text [] (segment_of fault) ≡ Some t → start_cause serving m is ≡ Some t
+  segment_starts fault t e begins is_text = by_segments e ∙ segment_text fault m t begins is_text
+
+  -- nothing hinders the start
+  pub none_starts : start_cause serving m is ≡ None → (entries_text m is ≡ None) × (machine.first_unserved serving m ≡ None)
+  none_starts e = by_case (entries_text m is) (import_text (machine.first_unserved serving m)) refl e
+    where
+      by_case : (t u : Option (List ℕ)) → import_text (machine.first_unserved serving m) ≡ u → or_text t (or_text u (cause_text [] (cause_of_segments m))) ≡ None → (t ≡ None) × (machine.first_unserved serving m ≡ None)
+      by_case None None is e = (refl, no_import (machine.first_unserved serving m) is)
+      by_case None (Some u) is e = absurd cc
+      by_case (Some t) u is e = absurd cc
+
+-- each of them may begin
+pub all_begin : (serving : Import → FuncType → Bool) (m : Module) (is : List InvocationWords) → entries_text m (map invocation_of is) ≡ None → machine.first_unserved serving m ≡ None → All (λ i. entry_fault serving m i.entry i.args ≡ None) is
+all_begin serving m [] e u k d lt = absurd (omega (arith, lt))
+all_begin serving m (i ∷ is) e u zero d lt =
+    ap (λ c. fault_or c (unserved (machine.first_unserved serving m))) (none_then i.entry (cause_of_entry m (function_export m i.entry) i.args) (entries_text m (map invocation_of is)) e).0
+    ∙ ap (λ o. unserved o) u
+all_begin serving m (i ∷ is) e u (suc k) d lt = all_begin serving m is (none_then i.entry (cause_of_entry m (function_export m i.entry) i.args) (entries_text m (map invocation_of is)) e).1 u k d (omega (arith, lt))
+
+-- with an instance that was made
+pub begun_begin : (serving : Import → FuncType → Bool) (m : Module) (is : List InvocationWords) (s : State) → HasBegun serving m (map invocation_of is) (Ready s) → All (λ i. entry_fault serving s.module_ i.entry i.args ≡ None) is
+begun_begin serving m is s (starts, segments, new) =
+    let k = none_starts serving m (map invocation_of is) starts in
+    subst (λ (x : Module). All (λ i. entry_fault serving x i.entry i.args ≡ None) is) (sym new.module_is) (all_begin serving m is k.0 k.1)
+
+-- ---- devices and a script
+
+map_alike : {A B : Type 0} (f g : A → B) (xs : List A) → ((k : ℕ) (x : A) → slice_get xs k ≡ Some x → f x ≡ g x) → map f xs ≡ map g xs
+map_alike f g [] h = refl
+map_alike f g (x ∷ xs) h = ap₂ (λ y ys. y ∷ ys) (h 0 x refl) (map_alike f g xs (λ k y at. h (suc k) y at))
+
+-- an import of a valid module has a type
+typed : (m : Module) (k : ℕ) (i : Import) → Valid m → slice_get m.imports k ≡ Some i → (type : FuncType) × (slice_get m.types i.ftype ≡ Some type)
+typed m k i v at = by_case (slice_get_cases m.types i.ftype).1
+  where
+    fine : i.ftype < length m.types
+    fine = subst (λ o. IfSome o (ImportFine m)) at (v (places.ImportAt k))
+
+    by_case : ((x : FuncType) × (i.ftype < length m.types) × (slice_get m.types i.ftype ≡ Some x) × (get_or m.types i.ftype x ≡ x)) ⊎ ((length m.types ≤ i.ftype) × (slice_get m.types i.ftype ≡ None)) → (type : FuncType) × (slice_get m.types i.ftype ≡ Some type)
+    by_case (inl (x, lt, there, get)) = (x, there)
+    by_case (inr (le, none)) = absurd (omega (arith, fine, le))
+
+module _ (m : Module) (h : HostsState) (before : List DeviceState) (script : Option (List Reply)) (valid : Valid m) (devices : h.devices ≡ before) (script_is : h.script ≡ script) where
+  served_alike : (i : Import) → serves h i ≡ is_served (hosting before script) i
+  served_alike i = ap (λ ds. is_served (hosting ds h.script) i) devices ∙ ap (λ s. is_served (hosting before s) i) script_is
+
+  alike : machine.first_unserved (λ i type. serves h i) m ≡ first_unserved (hosting before script) m
+  alike = ap (λ bs. first_false 0 bs) (map_alike (machine.is_served (λ i type. serves h i) m) (is_served (hosting before script)) m.imports
+      (λ k i at. let t = typed m k i valid at in ap (λ o. serves_type (λ i type. serves h i) i o) t.1 ∙ served_alike i))
+
+  pub starts_alike : (is : List Invocation) → start_cause (λ i type. serves h i) m is ≡ start_text (hosting before script) m is
+  starts_alike is = ap (λ o. or_text (entries_text m is) (or_text (import_text o) (cause_text [] (cause_of_segments m)))) alike

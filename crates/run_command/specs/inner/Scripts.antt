@@ -1,0 +1,52 @@
+-- Files of replies that were read, and what comes behind them.
+use Rattle.std.specs.Prelude.{◌≡◌, ℕ, List, Option, Result, Ok, Err}
+use Rattle.pm_outside.specs.Contents.{Contents}
+use Rattle.causes.specs.Counts.{Rose}
+use Rattle.wasm_syntax.specs.declared.host.Reply.{Reply}
+use Rattle.wasm_syntax.specs.declared.host.Served.{Served}
+use Rattle.wasm_syntax.specs.declared.module.ModuleParts.{ModuleParts as Module}
+use Rattle.wasm_decode.specs.Decode.{module_from}
+use Rattle.host_set.specs.Sets.{DeviceState}
+use Rattle.run_words.specs.declared.words.RunWords.{RunWords}
+use Rattle.command_answers.specs.Inputs.{Then}
+use Rattle.command_answers.specs.Loading.{IfLoaded}
+use Rattle.command_answers.specs.Told.{UnlessFault}
+use Rattle.command_answers.specs.Texts.{file_fault}
+use Rattle.command_answers.specs.declared.outcome.Outcome.{Outcome}
+use Rattle.command_answers.specs.declared.status.Status.TheVariants as status
+use Rattle.run_session.specs.Written.{Writes}
+use Rattle.run_command.specs.declared.scripts.Script.{Script}
+use Rattle.run_command.specs.declared.scripts.Script.TheVariants.{Whole, Bad}
+use Rattle.run_command.specs.declared.scripts.Asked.{Asked}
+use Rattle.run_command.specs.declared.scripts.Asked.TheVariants.{Read, Refused}
+use Rattle.run_command.specs.RunAnswer.{IsFileOf, ModuleAnswer, replies_input, bad_replies, script_of}
+
+-- the replies, where there are any, or the refusal that names a line
+abbrev pub script_result : Script → Result (Option (List Reply)) Outcome
+script_result (Whole script) = Ok script
+script_result (Bad line) = Err (bad_replies line)
+
+-- this came of the bytes of the file of replies, but for a fault
+abbrev pub IsAsked : Asked → Result (Option (List ℕ)) Outcome → Type 0
+IsAsked (Read script) input = (bytes : Option (List ℕ)) × (input ≡ Ok bytes) × (script_result script ≡ script_of bytes)
+IsAsked (Refused o) input = UnlessFault o.status (input ≡ Err o)
+
+abbrev pub IfAskedRefused : (Outcome → Type 0) → Asked → Type 0
+IfAskedRefused P (Read script) = Unit {0}
+IfAskedRefused P (Refused o) = P o
+
+-- a fault is that of a file which the command reads or writes, and was counted
+abbrev pub IsFaultOf : RunWords → (before now : ℕ) → Outcome → Type 0
+IsFaultOf w before now o = o.status ≡ status.FileFault → ((file : List ℕ) × IsFileOf w file × (o ≡ file_fault file)) × Rose before now
+
+-- ---- the steps of the command, from the last to the first
+
+abbrev pub ScriptAnswer : (before after : List DeviceState) → RunWords → List Served → Writes → Result (Option (List Reply)) Outcome → Module → Outcome → Type 0
+ScriptAnswer before after w given writes script m o = Then script (λ replies. ModuleAnswer before after w given writes replies m) o
+
+abbrev pub BytesAnswer : (before after : List DeviceState) → RunWords → List Served → Writes → Result (Option (List Reply)) Outcome → List ℕ → Outcome → Type 0
+BytesAnswer before after w given writes script bytes o = IfLoaded (ScriptAnswer before after w given writes script) (module_from bytes) o
+
+abbrev pub SourceAnswer : (before after : List DeviceState) → RunWords → Contents → List Served → Writes → List ℕ → Outcome → Type 0
+SourceAnswer before after w files given writes bytes o =
+    Then (replies_input w.replies files) (λ script_bytes. BytesAnswer before after w given writes (script_of script_bytes) bytes) o

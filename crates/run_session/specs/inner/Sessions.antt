@@ -1,0 +1,149 @@
+-- One invocation of a list, and the whole list, as the code makes them.
+use Rattle.std.specs.Prelude.{◌≡◌, ℕ, ◌-◌, ◌≤◌, ◌⊎◌, Bool, List, [], ◌∷◌, ◌++◌, length, take, Option, None, Result, Ok, Err, codes}
+use Rattle.std.specs.Fmt.{decimal}
+use Rattle.causes.specs.Counts.{Rose}
+use Rattle.causes.specs.declared.NoMemory.{NoMemory as WantOfMemory}
+use Rattle.pm_outside.specs.Contents.{Contents}
+use Rattle.wasm_syntax.specs.declared.parts.Import.{Import}
+use Rattle.wasm_syntax.specs.declared.host.Reply.{Reply}
+use Rattle.wasm_syntax.specs.declared.host.Served.{Served}
+use Rattle.wasm_syntax.specs.declared.module.ModuleParts.{ModuleParts as Module}
+use Rattle.wasm_syntax.specs.Machine.{Engine}
+use Rattle.wasm_syntax.specs.Module.{Program, function_export}
+use Rattle.wasm_syntax.specs.Run.{Invocation, Outcome as RunOutcome, not_started, finished, trapped, lacks_reply, misfits, running, got_stuck, Ran, cause_of_entry}
+use Rattle.dump_write.specs.Written.{OnTold}
+use Rattle.host_devices.specs.HostSides.{Calls}
+use Rattle.machine_hosted.specs.Hosted.{IsFaultOf, IsUsedUp}
+use Rattle.host_devices.specs.Given.{replies_of}
+use Rattle.machine_hosted.specs.declared.answer.RunEnd.{RunEnd}
+use Rattle.machine_hosted.specs.Answers.{AdmitsReplies}
+use Rattle.machine_hosted.specs.Invocations.{HasOutcome}
+use Rattle.wasm_machine.specs.Instances.{State}
+use Rattle.command_answers.specs.Texts.{ended, file_fault}
+use Rattle.command_answers.specs.declared.outcome.Outcome.{Outcome}
+use Rattle.run_session.specs.Given.{given_to, given_in}
+use Rattle.run_session.specs.RunText.{dump_name, dumps_from, not_invoked_text}
+use Rattle.run_session.specs.Written.{Writes, HoldThen, HoldPart}
+use Rattle.run_session.specs.inner.Progress.{Point, Made, session_from, HasCome, HasEnded}
+use Rattle.run_session.specs.inner.Turns.{TurnsTo}
+use Rattle.run_session.specs.inner.Answers.{device_cause, misfit_cause}
+use Rattle.run_session.specs.Ending.{host_stopped, end_status}
+use Rattle.run_session.specs.Stop.{Stop, no_memory, file_failed, EndsTrapped}
+use Rattle.run_session.specs.declared.turns.Lines.{Lines}
+use Rattle.run_session.specs.declared.turns.Turn.{Turn}
+use Rattle.run_session.specs.declared.turns.Turn.TheVariants.{GoesOn, Ends, Refused}
+
+-- where an instance stands with these invocations still to be made and so many steps in all
+abbrev pub point_of : State → List Invocation → (steps : ℕ) → Point
+point_of s is steps = record { due = is; start = s.due; machine = s.machine; left = steps - s.steps }
+
+-- ---- one invocation
+
+-- the replies that were not asked for, where the list goes on or ends
+abbrev pub AdmitsTurn : Turn → List Reply → Type 0
+AdmitsTurn GoesOn more = Unit {0}
+AdmitsTurn (Ends answer) more = AdmitsReplies answer more
+AdmitsTurn (Refused o) more = Unit {0}
+
+-- the session's next invocation, behind which it goes on from the new point, or which is its last
+abbrev pub SessionTurns : Engine → (there next : Point) → (given : List Served) → (more : List Reply) → Ran → Turn → Type 0
+SessionTurns M there next given more r GoesOn = session_from M there (replies_of given ++ more) ≡ r ∷ session_from M next more
+SessionTurns M there next given more r (Ends answer) = session_from M there (replies_of given ++ more) ≡ r ∷ []
+SessionTurns M there next given more r (Refused o) = Unit {0}
+
+abbrev pub HasTurnOutcome : Program → (Import → Bool) → Ran → Turn → Type 0
+HasTurnOutcome p used_up r GoesOn = Unit {0}
+HasTurnOutcome p used_up r (Ends answer) = HasOutcome p used_up answer r.outcome
+HasTurnOutcome p used_up r (Refused o) = Unit {0}
+
+pub record OneRan (p : Program) (M : Engine) (base name : List ℕ) (used_up : Import → Bool) (there next : Point) (given : List Served) (writes : Writes) (answer : RunEnd) (old new : Lines) (turn : Turn) (more : List Reply) : Type 0 where
+  pub ran : Ran
+  pub given_is : given ≡ given_to ran
+  pub turns : TurnsTo base name answer ran old new writes turn
+  pub session_turns : SessionTurns M there next given more ran turn
+  pub outcome : HasTurnOutcome p used_up ran turn
+
+-- One invocation was made. Whatever is to be made behind it, and for each number of steps from those that were made up to the fuel, it is the
+-- session's next one.
+pub record MadeOne (p : Program) (M : Engine) (base name : List ℕ) (used_up : Import → Bool) (s next : State) (i : Invocation) (fuel : ℕ) (old new : Lines) (before after : Calls) (told_before told_after : Option Contents) (turn : Turn) : Type 0 where
+  pub answer : RunEnd
+  pub given : List Served
+  pub grew : after.served ≡ before.served ++ given
+  pub writes : Writes
+  pub files : OnTold (HoldThen writes) told_before told_after
+  pub onward : s.steps ≤ next.steps
+  pub within : s.steps ≤ fuel → next.steps ≤ fuel
+  pub ran : (rest : List Invocation) (total : ℕ) → next.steps ≤ total → total ≤ fuel → (more : List Reply) → AdmitsTurn turn more
+      → OneRan p M base name used_up (point_of s (i ∷ rest) total) (point_of next rest total) given writes answer old new turn more
+
+-- ---- the list
+
+-- what came of the invocations that were made, the lines being these
+abbrev pub made_with : Lines → List Served → Writes → Made
+made_with lines given writes = record { text = lines.text; writes = writes; traps = lines.traps; given = given }
+
+-- These invocations were made, and the list goes on from here, whatever is still to be made, and for each number of steps from those that were
+-- made up to the fuel.
+pub record SoFar (M : Engine) (base name : List ℕ) (first s : State) (done : List Invocation) (fuel : ℕ) (lines : Lines) (before after : Calls) (told_before told_after : Option Contents) : Type 0 where
+  pub given : List Served
+  pub grew : after.served ≡ before.served ++ given
+  pub writes : Writes
+  pub files : OnTold (HoldThen writes) told_before told_after
+  pub within : s.steps ≤ fuel
+  pub come : (rest : List Invocation) (total : ℕ) → s.steps ≤ total → total ≤ fuel → (more : List Reply)
+      → HasCome M base name (point_of first (done ++ rest) total) (point_of s rest total) (made_with lines given writes) more
+
+-- the last line: it names the device that failed, whose count of faults rose, or the number of the call
+abbrev pub EndsIn : Program → (used_up : Import → Bool) → (counts now : List ℕ → ℕ) → (given due : ℕ) → RunOutcome → List ℕ → Type 0
+EndsIn p used_up counts now given due (lacks_reply call) line =
+    (IsUsedUp p used_up call × (line ≡ host_stopped (codes "no reply for call " ++ decimal given)))
+    ⊎ ((device : List ℕ) × IsFaultOf p used_up call device × Rose (counts device) (now device) × (line ≡ host_stopped (device_cause device)))
+EndsIn p used_up counts now given due (misfits call reply) line = line ≡ host_stopped (misfit_cause (given - 1))
+EndsIn p used_up counts now given due running line = line ≡ codes "fuel spent\n"
+EndsIn p used_up counts now given due (trapped kind) line = line ≡ not_invoked_text due
+EndsIn p used_up counts now given due (finished v) line = line ≡ []
+EndsIn p used_up counts now given due (not_started cause) line = ⊥
+EndsIn p used_up counts now given due got_stuck line = ⊥
+
+-- the list was made up to its end, and this is the answer
+pub record RanAll (p : Program) (M : Engine) (base name : List ℕ) (used_up : Import → Bool) (counts now : List ℕ → ℕ) (first : Point) (before after : Calls) (told_before told_after : Option Contents) (o : Outcome) : Type 0 where
+  pub given : List Served
+  pub grew : after.served ≡ before.served ++ given
+  pub writes : Writes
+  pub files : OnTold (HoldThen writes) told_before told_after
+  pub lines : Lines
+  pub due : ℕ
+  pub last : Ran
+  pub has_ended : HasEnded M base name first (made_with lines given writes) due last
+  pub line : List ℕ
+  pub ends : EndsIn p used_up counts now (length given) due last.outcome line
+  pub answer : o ≡ ended (end_status lines.traps last.outcome) (lines.text ++ line)
+
+-- the file of a dump failed
+abbrev pub IsDumpFault : (base : List ℕ) → Outcome → Type 0
+IsDumpFault base o = (j : ℕ) × (o ≡ file_fault (dump_name base j))
+
+-- ---- where there is no answer
+
+-- A session has come to these invocations, on the replies that were given. The first of their dumps has this number; the last one may be there
+-- in part.
+pub record WasStopped (M : Engine) (base name : List ℕ) (number : ℕ) (there : Point) (rans : List Ran) (before after : Calls) (told_before told_after : Option Contents) : Type 0 where
+  pub given : List Served
+  pub grew : after.served ≡ before.served ++ given
+  pub is : session_from M there (replies_of given) ≡ rans
+  pub all_given : given ≡ given_in rans
+  pub files : OnTold (HoldPart (dumps_from base name number rans)) told_before told_after
+
+-- within some number of steps; or behind the invocation that trapped, whose dump failed
+abbrev pub StopsIn : Stop → Engine → (base name : List ℕ) → (number : ℕ) → State → List Invocation → (fuel : ℕ) → (before after : Calls) → (told_before told_after : Option Contents) → Type 0
+StopsIn no_memory M base name number s is fuel before after told_before told_after =
+    (total : ℕ) × (s.steps ≤ total) × (total ≤ fuel) × (rans : List Ran) × WasStopped M base name number (point_of s is total) rans before after told_before told_after
+StopsIn file_failed M base name number s is fuel before after told_before told_after =
+    (made : ℕ) × (rans : List Ran) × EndsTrapped rans × WasStopped M base name number (point_of s (take made is) fuel) rans before after told_before told_after
+
+-- a fact on each way in which an invocation has no answer
+abbrev pub OnTurnStop : (Stop → Type 0) → Result Turn WantOfMemory → Type 0
+OnTurnStop P (Err e) = P no_memory
+OnTurnStop P (Ok GoesOn) = Unit {0}
+OnTurnStop P (Ok (Ends answer)) = Unit {0}
+OnTurnStop P (Ok (Refused o)) = (stop : Stop) → P stop

@@ -1,5 +1,0 @@
-use Rattle.safe_runs.proofs.SafeLaws.{start_fits}
-use Rattle.safe_runs.proofs.laws.start_world_fits.Goals as goal
-
-pub returns : goal.returns
-returns c = λ p replies v. start_fits p replies v

@@ -1,8 +1,0 @@
-//! Numbers for function types: the same one exactly for types that are the same by structure (Core 2.3.3), so that a call through a table
-//! compares them in constant time. The types are words of a tree whose edges are types of values, and the number is the word's node.
-#![tactic(auto)]
-
-mod numbers;
-mod tree;
-
-pub use numbers::number_types;

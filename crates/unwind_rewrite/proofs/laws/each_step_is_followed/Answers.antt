@@ -1,5 +1,0 @@
-use Rattle.unwind_rewrite.proofs.Step.{step_sim}
-use Rattle.unwind_rewrite.proofs.laws.each_step_is_followed.Goals as goal
-
-pub returns : goal.returns
-returns c = λ M M' E gl W S. step_sim M M' E gl W S

@@ -1,0 +1,158 @@
+//! Whether an entry may be invoked (Core 4.5.5).
+
+ghost use Rattle.std.specs.Prelude.{◌≡◌, ◌<◌, ◌^◌, length, Some, IfOk};
+ghost use Rattle.wasm_syntax.specs.Module.{function_export, is_function as names_function, same_types};
+ghost use Rattle.wasm_syntax.specs.Numbers.{types, type_of as type_of_value, same_type as are_same};
+ghost use Rattle.wasm_machine.specs.Entries.{is_served, first_unserved, entry_fault};
+ghost use Rattle.wasm_machine.specs.Answers.{fault_in};
+ghost use Rattle.wasm_machine.specs.inner.Callees.{is_entry, takes_arguments};
+
+use host_devices::HostSide;
+use wasm_syntax::{Export, ExportKind, Import, ModuleParts, ValType, Value};
+use wasm_validate::Validated;
+
+/// Why an entry may not be invoked: no function is exported under its name; or the arguments are not as many as its parameters, or not of
+/// their types; or the host side does not serve the import of this index, the first such one.
+#[derive(Clone, Copy, Debug, PartialEq, Eq)]
+pub enum EntryFault {
+    NoExport,
+    BadArguments,
+    Unserved { import: u32 },
+}
+
+fn is_function(kind: ExportKind) -> bool
+    ensures { result ≡ names_function kind }
+{
+    match kind {
+        ExportKind::Function => true,
+        ExportKind::Table | ExportKind::Memory | ExportKind::Global => false,
+    }
+}
+
+/// Whether a function is exported under this name.
+fn exports_function(export: &Export, entry: &str) -> bool
+    ensures { result ≡ is_entry export.now entry.now }
+{
+    is_function(export.kind) && export.name.as_str() == entry
+}
+
+/// The index of the function that is exported under a name.
+fn entry_function(m: &ModuleParts, entry: &str) -> Option<u32>
+    ensures { result ≡ function_export m.now entry.now }
+{
+    let exports = m.exports.as_slice();
+    for export in exports {
+        if exports_function(export, entry) {
+            return Some(export.index);
+        }
+    }
+    None
+}
+
+fn type_of(value: Value) -> ValType
+    ensures { result ≡ type_of_value value }
+{
+    match value {
+        Value::I32(_) => ValType::I32,
+        Value::I64(_) => ValType::I64,
+    }
+}
+
+fn same_type(a: ValType, b: ValType) -> bool
+    ensures { result ≡ are_same a b }
+{
+    match (a, b) {
+        (ValType::I32, ValType::I32) => true,
+        (ValType::I32, ValType::I64) => false,
+        (ValType::I64, ValType::I32) => false,
+        (ValType::I64, ValType::I64) => true,
+    }
+}
+
+/// Whether values are as many as these types, and of these types.
+fn have_types(params: &[ValType], args: &[Value]) -> bool
+    ensures { result ≡ same_types params.now (types args.now) }
+{
+    if params.len() != args.len() {
+        return false;
+    }
+    for i in 0..params.len() {
+        if !same_type(params[i], type_of(args[i])) {
+            return false;
+        }
+    }
+    true
+}
+
+/// Whether a function takes these arguments.
+fn takes(m: &ModuleParts, function: u32, args: &[Value]) -> bool
+    ensures { result ≡ takes_arguments m.now function args.now }
+{
+    match m.type_of(function as usize) {
+        Some(signature) => have_types(signature.params.as_slice(), args),
+        None => false,
+    }
+}
+
+/// Whether a host side serves an import with the type that the module gives it.
+fn is_served<H: HostSide>(m: &ModuleParts, import: &Import, hosts: &H) -> bool
+    ensures { result ≡ is_served (H.serving hosts.now) m.now import.now }
+{
+    match m.types.get(import.ftype as usize) {
+        Some(ftype) => hosts.serves(import, ftype),
+        None => false,
+    }
+}
+
+/// The index of the first import that a host side does not serve.
+fn first_unserved<H: HostSide>(m: &ModuleParts, hosts: &H) -> Option<u32>
+    requires { length m.now.imports < 2 ^ 32 }
+    ensures { result ≡ first_unserved (H.serving hosts.now) m.now }
+{
+    let mut index = 0;
+    for import in m.imports.as_slice() {
+        if !is_served(m, import, hosts) {
+            return Some(index);
+        }
+        index += 1;
+    }
+    None
+}
+
+/// The function that an entry names, or why it may not be invoked.
+pub(crate) fn callee<H: HostSide>(
+    m: &ModuleParts,
+    entry: &str,
+    args: &[Value],
+    hosts: &H,
+) -> Result<u32, EntryFault>
+    requires { length m.now.imports < 2 ^ 32 }
+    ensures fault { fault_in result ≡ entry_fault (H.serving hosts.now) m.now entry.now args.now }
+    ensures callee { IfOk result (λ f. function_export m.now entry.now ≡ Some f) }
+{
+    let Some(function) = entry_function(m, entry) else {
+        return Err(EntryFault::NoExport);
+    };
+    if !takes(m, function, args) {
+        return Err(EntryFault::BadArguments);
+    }
+    match first_unserved(m, hosts) {
+        Some(import) => Err(EntryFault::Unserved { import }),
+        None => Ok(function),
+    }
+}
+
+/// Why an entry may not be invoked on these arguments with this host side, if it may not. It takes no memory.
+pub fn entry_fault<H: HostSide>(
+    source: &Validated,
+    entry: &str,
+    args: &[Value],
+    hosts: &H,
+) -> Option<EntryFault>
+    ensures { result ≡ entry_fault (H.serving hosts.now) source.now entry.now args.now }
+{
+    match callee(source.module().parts(), entry, args, hosts) {
+        Ok(_) => None,
+        Err(fault) => Some(fault),
+    }
+}
