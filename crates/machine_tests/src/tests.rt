@@ -1,14 +1,14 @@
 //! The start of instances of decoded modules, and the causes why entries are not invoked.
 
 ghost use Rattle.std.specs.Prelude.{true, false, [], None};
+ghost use Rattle.host_set.specs.Sets.{AreDistinct, names};
 
-use host_devices::{HostAnswer, HostSide};
-use linear_memory::Memory;
+use host_set::{DeviceSet, Devices, Hosts};
 use machine_start::{StartFault, Started, start};
 use std::alloc::Global;
 use wasm_decode::decode;
 use wasm_machine::{EntryFault, entry_fault};
-use wasm_syntax::{FuncType, HostCall, Import, Value};
+use wasm_syntax::Value;
 use wasm_validate::{Validated, validate};
 
 /// Two functions, a table of four, a memory of one page and a global of 1. The second element segment, which begins at that global, and
@@ -107,36 +107,6 @@ fn later_segments_lie_over_earlier_ones(rt: HostRuntime) {
     assert!(rt; starts_filled(rt.alloc()));
 }
 
-/// A host side that serves no import.
-#[derive(Drop)]
-struct Nobody;
-
-impl HostSide for Nobody {
-    ghost origin = { λ _. record { imports = []; names = []; logs = λ _. []; script = None } };
-
-    ghost calls = { λ _. record { served = []; collected = [] } };
-
-    ghost collecting = { λ _. false };
-
-    ghost serving = { λ _ _ _. false };
-
-    ghost used_up = { λ _ _. true };
-
-    ghost fault_count = { λ _ _. 0 };
-
-    fn serves(&self, _import: &Import, _ftype: &FuncType) -> bool {
-        false
-    }
-
-    fn collects(&self) -> bool {
-        false
-    }
-
-    fn call(&mut self, _import: &Import, _call: &HostCall, _memory: Option<&Memory>) -> HostAnswer {
-        HostAnswer::NoReply
-    }
-}
-
 /// A function `f` without parameters, and the import `env.read`.
 const READS: [u8; 61] = [
     0x00, 0x61, 0x73, 0x6d, 0x01, 0x00, 0x00, 0x00, 0x01, 0x0a, 0x02, 0x60, 0x01, 0x7f, 0x01, 0x7f,
@@ -145,25 +115,49 @@ const READS: [u8; 61] = [
     0x00, 0x01, 0x0a, 0x09, 0x01, 0x07, 0x00, 0x41, 0x10, 0x10, 0x00, 0x00, 0x0b,
 ];
 
-/// Why an entry of a module may not be invoked where nobody serves its imports, if the module is valid.
-fn entry_of(source: Option<Validated>, entry: &str, args: &[Value]) -> Option<Option<EntryFault>> {
+/// Why an entry may not be invoked where these devices alone serve the imports.
+fn entry_by<S: Devices>(
+    alloc: Global,
+    devices: S,
+    source: &Validated,
+    entry: &str,
+    args: &[Value],
+) -> Option<EntryFault>
+    requires { AreDistinct (names (S.shown devices)) }
+{
+    let imports = source.module().parts().imports.as_slice();
+    entry_fault(
+        source,
+        entry,
+        args,
+        &Hosts::new(alloc, devices, None, imports),
+    )
+}
+
+/// The same where nobody serves them, if the module is valid.
+fn entry_of(
+    alloc: Global,
+    source: Option<Validated>,
+    entry: &str,
+    args: &[Value],
+) -> Option<Option<EntryFault>> {
     match source {
-        Some(v) => Some(entry_fault(&v, entry, args, &Nobody)),
+        Some(v) => Some(entry_by(alloc, DeviceSet::new(alloc), &v, entry, args)),
         None => None,
     }
 }
 
 fn is_refused(alloc: Global, entry: &str, args: &[Value], fault: EntryFault) -> bool {
-    entry_of(filled(alloc), entry, args) == Some(Some(fault))
+    entry_of(alloc, filled(alloc), entry, args) == Some(Some(fault))
 }
 
 fn is_allowed(alloc: Global, entry: &str, args: &[Value]) -> bool {
-    matches!(entry_of(filled(alloc), entry, args), Some(None))
+    matches!(entry_of(alloc, filled(alloc), entry, args), Some(None))
 }
 
 /// The fault of an entry of the module with an import.
 fn fault_of_reads(alloc: Global, entry: &str, args: &[Value]) -> Option<EntryFault> {
-    match entry_of(valid(alloc, &READS), entry, args) {
+    match entry_of(alloc, valid(alloc, &READS), entry, args) {
         Some(fault) => fault,
         None => None,
     }
