@@ -1,7 +1,7 @@
 //! Each public call once: what no clause says is that memory suffices, and what the system does.
 
 use pm_outside::{
-    FileError, Files, HostFiles, HostOut, MemFiles, MemSink, PutAnswer, ReadAnswer, Sink,
+    FileError, Files, HostFiles, HostOut, MemFiles, MemSink, Part, PutAnswer, ReadAnswer, Sink,
     WriteAnswer, read_file,
 };
 use std::alloc::Global;
@@ -50,6 +50,36 @@ fn output_in_memory(rt: HostRuntime) -> Result<(), Fail> {
     assert_eq!(rt; out.put(b"cd"), PutAnswer::Failed { written: 0 });
     assert_eq!(rt; out.put(b"ef"), PutAnswer::Done);
     assert_eq!(rt; out.bytes(), b"abef".as_slice());
+    Ok(())
+}
+
+/// Each failing append adds its part: two bytes, none, and all of a piece that is shorter.
+#[test]
+fn failing_appends_take_a_part(rt: HostRuntime) -> Result<(), Fail> {
+    let alloc = rt.alloc();
+    let mut files = MemFiles::new(alloc, Vec::from_slice(alloc, &[1, 2, 3])?);
+    let parts = [Part { call: 1, bytes: 2 }, Part { call: 3, bytes: 9 }];
+    files.take_parts(Vec::from_slice(alloc, &parts)?);
+    assert_eq!(rt; files.create("a"), WriteAnswer::Done);
+    assert_eq!(rt; files.append("a", b"abc"), WriteAnswer::Failed);
+    assert_eq!(rt; files.append("a", b"def"), WriteAnswer::Failed);
+    assert_eq!(rt; files.append("a", b"ghi"), WriteAnswer::Failed);
+    assert_eq!(rt; files.append("a", b"jkl"), WriteAnswer::Done);
+    assert_eq!(rt; files.get("a"), Some(b"abghijkl".as_slice()));
+    Ok(())
+}
+
+#[test]
+fn failing_puts_take_a_part(rt: HostRuntime) -> Result<(), Fail> {
+    let alloc = rt.alloc();
+    let mut out = MemSink::new(alloc, Vec::from_slice(alloc, &[0, 1, 2])?);
+    let parts = [Part { call: 0, bytes: 2 }, Part { call: 2, bytes: 9 }];
+    out.take_parts(Vec::from_slice(alloc, &parts)?);
+    assert_eq!(rt; out.put(b"abc"), PutAnswer::Failed { written: 2 });
+    assert_eq!(rt; out.put(b"def"), PutAnswer::Failed { written: 0 });
+    assert_eq!(rt; out.put(b"ghi"), PutAnswer::Failed { written: 3 });
+    assert_eq!(rt; out.put(b"jkl"), PutAnswer::Done);
+    assert_eq!(rt; out.bytes(), b"abghijkl".as_slice());
     Ok(())
 }
 

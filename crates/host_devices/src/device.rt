@@ -3,7 +3,7 @@
 ghost use Rattle.std.specs.Prelude.{◌≡◌, ◌≤◌, ℕ, List};
 ghost use Rattle.causes.specs.Counts.{Rose};
 ghost use Rattle.wasm_syntax.specs.declared.host.Served.{Served};
-ghost use Rattle.host_devices.specs.Devices.{log_after, count_after};
+ghost use Rattle.host_devices.specs.Devices.{log_after};
 
 use linear_memory::Memory;
 use wasm_syntax::{HostCall, Reply, Served};
@@ -45,7 +45,6 @@ pub trait Device: Drop {
     fn call(&mut self, call: &HostCall, memory: Option<&Memory>) -> DeviceAnswer
         ensures name { title self.new ≡ title self.old }
         ensures log { served self.new ≡ log_after result call.now (served self.old) }
-        ensures counts { fault_count self.new ≡ count_after result (fault_count self.old) }
         ensures later { fault_count self.old ≤ fault_count self.new }
         ensures failed { result ≡ DeviceAnswer.Failed → Rose (fault_count self.old) (fault_count self.new) };
 }

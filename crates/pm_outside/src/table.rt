@@ -1,8 +1,9 @@
 //! Files in memory, by name.
 
-ghost use Rattle.std.specs.Prelude.{◌≡◌, [], ◌++◌, Some, OnOk, OnErr, unwrap_or};
+ghost use Rattle.std.specs.Prelude.{◌≡◌, ◌≢◌, [], ◌++◌, Some, OnOk, OnErr, unwrap_or};
 ghost use Rattle.std.specs.Option.{option_copied};
 ghost use Rattle.pm_outside.specs.Contents.{SameBut, held};
+ghost use Rattle.pm_outside.specs.Memory.{IsPartAdded};
 
 use causes::NoMemory;
 use std::alloc::Global;
@@ -70,5 +71,24 @@ impl Table {
             }
             None => self.set(name, bytes),
         }
+    }
+
+    /// Adds the first `part` bytes of a piece, all of a shorter one. Where that is none the file is as before, and no
+    /// memory is taken.
+    pub(crate) fn append_part(
+        &mut self,
+        name: &str,
+        piece: &[u8],
+        part: usize,
+    ) -> Result<(), NoMemory>
+        ensures added { OnOk result (IsPartAdded part name.now piece.now (held self.old) (held self.new)) }
+        ensures others { SameBut name.now (held self.old) (held self.new) }
+        ensures refused { OnErr result (held self.new name.now ≡ held self.old name.now) }
+        ensures some { OnErr result (part ≢ 0) }
+    {
+        if part == 0 {
+            return Ok(());
+        }
+        self.append(name, &piece[..part.min(piece.len())])
     }
 }
