@@ -1,12 +1,15 @@
 -- How pieces of code are put together.
-use Rattle.std.proofs.Common.{◌≡◌, ℕ, List, [], ◌∷◌, Option, Some, refl, sym, ap, ap₂, ◌∙◌, append-nil}
+use Rattle.std.proofs.Common.{◌≡◌, ℕ, List, [], ◌∷◌, map, Option, Some, refl, sym, ap, ap₂, ◌∙◌, append-nil}
 use Rattle.wasm_syntax.specs.declared.value.ValType.{ValType}
 use Rattle.wasm_syntax.specs.declared.instruction.Instr.TheVariants as instrs
 use Rattle.wasm_syntax.specs.declared.instruction.Op.{Op}
 use Rattle.wasm_syntax.specs.declared.parts.LocalGroup.{LocalGroup}
 use Rattle.wasm_syntax.specs.declared.parts.Body.{Body}
 use Rattle.wasm_syntax.specs.Tree.{Nodes, stop, choose}
+use Rattle.rewrite_modules.specs.Bare.{bare_op, bare_body}
 use Rattle.rewrite_modules.specs.FlatCode.{body_of}
+use Rattle.rewrite_code.specs.inner.Numbered.{numbered}
+use Rattle.rewrite_code.proofs.Numbers.{bare_numbered}
 use Rattle.rewrite_code.specs.Writing.{Written, written, nothing, with_op, with_nodes, ends, alternates, Emits, EmitsLast, Opens, OpensArms, Alternates, Closes}
 
 pub emits_nothing : {a : Written} → Emits (λ k. k) a a
@@ -50,3 +53,11 @@ finished_body groups nodes ops targets e d =
   where
     same : {os os' : List Op} {ts ts' : List ℕ} → os ≡ os' → ts ≡ ts' → ◌≡◌ {A = Body} (record { groups = groups; ops = os; targets = ts; start = 0 }) (record { groups = groups; ops = os'; targets = ts'; start = 0 })
     same e d = cc
+
+-- but for the offsets of instructions that were numbered
+pub numbered_body : {w : Written} (groups : List LocalGroup) (nodes : Nodes) (ops placed : List Op) (targets : List ℕ) → EmitsLast nodes nothing w → written ops targets ≡ with_op w instrs.End → placed ≡ numbered 0 ops → bare_body (record { groups = groups; ops = placed; targets = targets; start = 0 }) ≡ bare_body (body_of groups nodes)
+numbered_body groups nodes ops placed targets e d n =
+    same (ap (λ (os : List Op). map bare_op os) n ∙ bare_numbered 0 ops) ∙ ap bare_body (finished_body groups nodes ops targets e d)
+  where
+    same : {os os' : List Op} → os ≡ os' → ◌≡◌ {A = Body} (record { groups = groups; ops = os; targets = targets; start = 0 }) (record { groups = groups; ops = os'; targets = targets; start = 0 })
+    same e = cc

@@ -1,9 +1,12 @@
 //! The code that is being written.
 
-ghost use Rattle.std.specs.Prelude.{◌≡◌, ◌+◌, ◌<◌, ◌^◌, nat_lt, length, IfOk, OnOk, None};
+ghost use Rattle.std.specs.Prelude.{◌≡◌, ◌+◌, ◌<◌, ◌≤◌, ◌^◌, nat_lt, length, IfOk, OnOk, None};
+ghost use Rattle.wasm_syntax.specs.Module.{Ascend};
 ghost use Rattle.wasm_syntax.specs.Tree.{Nodes, stop, basic, jump, block, loop, choose, Unreachable, Br, BrIf, BrTable, Return, CallIndirect};
 ghost use Rattle.rewrite_bodies.specs.Pieces.{const, call};
+ghost use Rattle.rewrite_modules.specs.Bare.{bare_body};
 ghost use Rattle.rewrite_modules.specs.FlatCode.{body_of};
+ghost use Rattle.rewrite_code.specs.inner.Numbered.{numbered};
 ghost use Rattle.rewrite_code.specs.Writing.{nothing, with_op, Emits, EmitsLast, Opens, OpensArms, Alternates, Closes};
 
 use causes::NoMemory;
@@ -11,7 +14,7 @@ use std::alloc::Global;
 use std::marker::Model;
 use wasm_syntax::{Basic, Body, Instr, Items, Jump, LocalGroups, Op, ValType, Value};
 
-/// Flat code, each instruction at offset 0 with length 0, with the targets of its `br_table`s.
+/// Flat code, each instruction at offset 0 with length 0, with the targets of its `br_table`s. Offsets come with the finished body.
 #[derive(Drop)]
 pub struct CodeWriter {
     ops: Items<Op>,
@@ -24,6 +27,17 @@ impl Model for CodeWriter {
     ghost Value = { Written };
 
     ghost view = { λ s. written s.ops s.targets };
+}
+
+/// Puts each instruction at the offset of its number.
+fn number(ops: &mut [Op])
+    ensures { ops.new ≡ numbered 0 ops.old }
+{
+    let mut at: u32 = 0;
+    for op in ops.iter_mut() {
+        op.at = at;
+        at = at.saturating_add(1);
+    }
 }
 
 impl CodeWriter {
@@ -159,14 +173,17 @@ impl CodeWriter {
         self.push(Instr::End)
     }
 
-    /// The body with these groups of locals, and with its last `end`.
+    /// The body with these groups of locals, and with its last `end`. Its instructions stand at ascending offsets, where 32 bits count them.
     pub fn finish(mut self, groups: LocalGroups) -> Result<Body, NoMemory>
-        ensures { (nodes : Nodes) → EmitsLast nodes nothing self → IfOk result (λ body. body ≡ body_of groups nodes) }
+        ensures code { (nodes : Nodes) → EmitsLast nodes nothing self → IfOk result (λ body. bare_body body ≡ bare_body (body_of groups nodes)) }
+        ensures offsets { IfOk result (λ body. length body.ops ≤ 2 ^ 32 → Ascend 0 body.ops) }
     {
         self.push(Instr::End)?;
+        let mut ops = self.ops.into_vec();
+        number(&mut ops);
         Ok(Body {
             groups,
-            ops: self.ops,
+            ops: Items::from_vec(ops),
             targets: self.targets,
             start: 0,
         })

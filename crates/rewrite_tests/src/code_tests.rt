@@ -6,14 +6,14 @@ use std::alloc::Global;
 use std::test::Fail;
 use wasm_syntax::{Basic, Body, Instr, Items, Jump, LocalGroup, Op, ValType, Value};
 
-// Each instruction at offset 0 with length 0.
+// Each instruction at the offset of its number, with length 0.
 fn is_code(body: &Body, expected: &[Instr]) -> bool {
     let ops = body.ops.as_slice();
     if ops.len() != expected.len() {
         return false;
     }
-    for (op, code) in ops.iter().zip(expected) {
-        if op.at != 0 || op.len != 0 || op.code != *code {
+    for i in 0..ops.len() {
+        if ops[i].at as usize != i || ops[i].len != 0 || ops[i].code != expected[i] {
             return false;
         }
     }
