@@ -1,5 +1,5 @@
 -- The rewriting of a sized module has few functions, and the module has few globals.
-use Rattle.std.proofs.Common.{◌≡◌, ℕ, suc, ◌+◌, ◌^◌, ◌<◌, ◌≤◌, Bool, true, false, nat_lt, if◌then◌else◌, List, [], ◌∷◌, ◌++◌, length, flat_map, Option, Some, None, refl, arith, length-append}
+use Rattle.std.proofs.Common.{ℕ, suc, ◌+◌, ◌≤◌, Bool, true, false, nat_lt, if◌then◌else◌, List, [], ◌∷◌, length, flat_map, Option, Some, None, arith, length-append}
 use Rattle.wasm_leb.specs.Writing.{unsigned_bytes}
 use Rattle.wasm_syntax.specs.declared.instruction.Jump.TheVariants as flat
 use Rattle.wasm_syntax.specs.declared.instruction.Instr.{Instr}
@@ -13,7 +13,7 @@ use Rattle.wasm_syntax.specs.Tree.{item_of}
 use Rattle.wasm_syntax.specs.Module.{is_function}
 use Rattle.wasm_syntax.specs.Valid.{Valid}
 use Rattle.wasm_instructions.specs.Encoding.{encoding as instruction_bytes}
-use Rattle.wasm_encode.specs.Encoding.{sized_bytes, import_bytes, kind_byte, mutability_byte, value_type_bytes, global_bytes, export_bytes, entry_bytes}
+use Rattle.wasm_encode.specs.Encoding.{sized_bytes, import_bytes, kind_byte, global_bytes, export_bytes, entry_bytes}
 use Rattle.wasm_sizes.specs.Sized.{Sized}
 use Rattle.rewrite_bodies.specs.Numbering.{import_count, wraps, start_wraps, export_wrapped, wrapped, is_in, distinct}
 use Rattle.rewrite_modules.specs.Weight.{type_used}

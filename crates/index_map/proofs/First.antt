@@ -1,5 +1,5 @@
 -- The first element that passes a test.
-use Rattle.std.proofs.Common.{◌≡◌, ℕ, suc, ◌+◌, ◌<◌, Bool, true, false, cond, List, [], ◌∷◌, length, Option, Some, None, refl, arith}
+use Rattle.std.proofs.Common.{◌≡◌, ℕ, suc, ◌+◌, ◌<◌, Bool, true, false, cond, List, [], ◌∷◌, length, Some, None, refl, arith}
 use Rattle.std.specs.List.{AllByRecursion, position_from}
 
 pub position_within : {A : Type 0} (test : A → Bool) (xs : List A) (n i : ℕ) → position_from test n xs ≡ Some i → i < n + length xs

@@ -6,3 +6,4 @@ pub mod Few
 pub mod First
 pub mod Within
 pub mod Exports
+pub mod Numbers

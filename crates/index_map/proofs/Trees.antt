@@ -1,5 +1,5 @@
 -- The types that trees use are those that their flat code uses, and in a valid module each is there.
-use Rattle.std.proofs.Common.{◌≡◌, ℕ, zero, suc, ◌+◌, ◌-◌, ◌<◌, false, nat_lt, if◌then◌else◌, List, [], ◌∷◌, ◌++◌, length, reverse, flat_map, slice_get, Option, Some, None, refl, sym, ap, subst, ◌∙◌, arith, append-nil}
+use Rattle.std.proofs.Common.{◌≡◌, ℕ, zero, suc, ◌+◌, ◌-◌, ◌<◌, false, nat_lt, if◌then◌else◌, List, [], ◌∷◌, ◌++◌, length, reverse, slice_get, Some, None, refl, sym, ap, subst, ◌∙◌, arith, append-nil}
 use Rattle.std.specs.Prelude.{IfSome}
 use Rattle.std.proofs.lemmas.Bool.Decides.{nat_tests}
 use Rattle.std.proofs.lemmas.Option.{slice_get_within}
@@ -10,7 +10,7 @@ use Rattle.wasm_syntax.specs.declared.module.ModuleParts.{ModuleParts as Module}
 use Rattle.wasm_syntax.specs.declared.place.Place.TheVariants.{Function}
 use Rattle.wasm_syntax.specs.Tree.{Unreachable, Br, BrIf, BrTable, Return, Call, CallIndirect, Nodes, stop, basic, jump, block, loop, choose, code_of}
 use Rattle.wasm_syntax.specs.Module.{Program, IsProgram}
-use Rattle.wasm_syntax.specs.Typing.{Context, Types, IsBody, body_context, within}
+use Rattle.wasm_syntax.specs.Typing.{Context, Types, IsBody, body_context}
 use Rattle.wasm_syntax.specs.Valid.{Valid, There, BodyFine, defined_index}
 use Rattle.wasm_laws.proofs.Lists.{all_append, there_at}
 use Rattle.rewrite_bodies.specs.Numbering.{uses, distinct, helped}

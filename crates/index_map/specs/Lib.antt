@@ -1,1 +1,2 @@
+pub mod Wrapper
 pub mod inner

@@ -8,6 +8,7 @@ ghost use Rattle.wasm_sizes.specs.Sized.{Sized};
 ghost use Rattle.rewrite_bodies.specs.Numbering.{flag_of, frame_import, helped, helper_base, is_in, mapped, place_in, value_import, wrapped, wrapper_base};
 ghost use Rattle.rewrite_modules.specs.Instrument.{new_exports, new_start};
 ghost use Rattle.rewrite_modules.specs.Weight.{types_used};
+ghost use Rattle.index_map.specs.Wrapper.{HasWrapper, wrapper_of};
 ghost use Rattle.index_map.specs.inner.Kept.{CanBeNumbered};
 
 use crate::used::used_types;
@@ -87,6 +88,13 @@ impl<'a> IndexMap<'a> {
         Ok(map)
     }
 
+    /// The module.
+    pub fn source(&self) -> &'a ModuleParts
+        ensures { result.now ≡ self.now }
+    {
+        self.parts
+    }
+
     /// The index of a function of the module.
     pub fn function(&self, f: u32) -> u32
         requires { f < length (function_types self.now) }
@@ -137,6 +145,14 @@ impl<'a> IndexMap<'a> {
         ensures { result.now ≡ map (λ e. e.index) (new_exports self.now 0 self.now.exports) }
     {
         self.exports.as_slice()
+    }
+
+    /// The index of the wrapper of an export of a function that the module defines.
+    pub fn wrapper(&self, export: u32) -> u32
+        requires { HasWrapper self.now export }
+        ensures { result ≡ wrapper_of self.now export }
+    {
+        self.exports()[export as usize]
     }
 
     /// The index of the first wrapper.

@@ -1,4 +1,4 @@
-use Rattle.std.proofs.Common.{ℕ, ◌-◌, ◌<◌, length, arith}
+use Rattle.std.proofs.Common.{◌-◌, ◌<◌, length, arith}
 use Rattle.wasm_syntax.specs.declared.parts.Body.{Body}
 use Rattle.index_map.specs.inner.Used.{ops_used}
 use Rattle.index_map.proofs.Below.{item_below}

@@ -1,4 +1,4 @@
-use Rattle.std.proofs.Common.{ℕ, ◌-◌, ◌<◌, length, arith}
+use Rattle.std.proofs.Common.{◌-◌, ◌<◌, length, arith}
 use Rattle.rewrite_modules.specs.Weight.{type_used}
 use Rattle.index_map.proofs.Below.{item_below}
 use Rattle.index_map.proofs.used.meet_code.Goals as goal

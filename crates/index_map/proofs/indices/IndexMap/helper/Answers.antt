@@ -1,4 +1,4 @@
-use Rattle.std.proofs.Common.{◌≡◌, ℕ, ◌+◌, ◌<◌, length, true, refl, sym, ap, ap₂, ◌∙◌, arith}
+use Rattle.std.proofs.Common.{◌+◌, refl, ap, ap₂, ◌∙◌, arith}
 use Rattle.wasm_syntax.specs.declared.module.ModuleParts.{ModuleParts as Module}
 use Rattle.rewrite_bodies.specs.Numbering.{helper_base, is_in, place_in}
 use Rattle.rewrite_modules.specs.Weight.{types_used}
