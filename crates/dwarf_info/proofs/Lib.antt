@@ -6,5 +6,6 @@ pub mod UnitLaws
 pub mod AnswerLaws
 pub mod UnitLaws4
 pub mod SettleLaws
+pub mod FindLaws
 pub mod ReadLaws
 pub mod FormLaws

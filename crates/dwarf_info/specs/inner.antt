@@ -2,3 +2,4 @@ pub mod Sizes
 pub mod Contexts
 pub mod Keeping
 pub mod Settling
+pub mod Finding

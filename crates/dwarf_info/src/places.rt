@@ -1,8 +1,10 @@
 //! Where the entries of units stand.
 
-ghost use Rattle.std.specs.Prelude.{◌≡◌, ◌==◌, ◌||◌, ℕ, Some, None, flat_map, IfOk, OnOk, if◌then◌else◌};
+ghost use Rattle.std.specs.Prelude.{◌≡◌, ◌==◌, ℕ, Some, None, IfOk, OnOk, if◌then◌else◌};
+ghost use Rattle.std.specs.Option.{option_or};
 ghost use Rattle.dwarf_info.specs.Units.{entries_in};
-ghost use Rattle.dwarf_info.specs.inner.Settling.{placed, meets, any_at};
+ghost use Rattle.dwarf_info.specs.inner.Settling.{placed, meets};
+ghost use Rattle.dwarf_info.specs.inner.Finding.{place_in, place_among};
 
 use crate::entry::{Entry, UnitAnswer};
 use causes::NoMemory;
@@ -55,23 +57,36 @@ impl Places {
         Ok(())
     }
 
+    /// The first place of an offset counts.
+    #[tactic(auto, using(crate::proofs::FindLaws::kept_first, crate::proofs::FindLaws::added_first))]
+    fn insert_first(&mut self, at: u32, place: EntryPlace) -> Result<(), NoMemory>
+        ensures { OnOk result ((q : ℕ) → placed self.new q
+            ≡ option_or (placed self.old q) (if at == q then Some place else None)) }
+    {
+        if self.contains(at) {
+            Ok(())
+        } else {
+            self.insert(at, place)
+        }
+    }
+
     fn add_entries<'a>(&mut self, unit: usize, entries: &[Entry<'a>]) -> Result<(), NoMemory>
-        ensures { OnOk result ((q : ℕ) → meets (placed self.new) q
-            ≡ (meets (placed self.old) q || any_at q entries.now)) }
+        ensures { OnOk result ((q : ℕ) → placed self.new q
+            ≡ option_or (placed self.old q) (place_in unit 0 entries.now q)) }
     {
         'entries: for (number, entry) in entries.iter().enumerate() {
             let place = EntryPlace {
                 unit,
                 entry: number,
             };
-            self.insert(entry.at, place)?;
+            self.insert_first(entry.at, place)?;
         }
         Ok(())
     }
 
     fn add_unit<'a>(&mut self, unit: usize, answer: &UnitAnswer<'a>) -> Result<(), NoMemory>
-        ensures { OnOk result ((q : ℕ) → meets (placed self.new) q
-            ≡ (meets (placed self.old) q || any_at q (entries_in answer.now))) }
+        ensures { OnOk result ((q : ℕ) → placed self.new q
+            ≡ option_or (placed self.old q) (place_in unit 0 (entries_in answer.now) q)) }
     {
         match answer {
             UnitAnswer::Tree(tree) => self.add_entries(unit, tree.entries.as_slice()),
@@ -81,8 +96,7 @@ impl Places {
 
     /// The places of the entries of all units.
     pub fn of<'a>(alloc: Global, units: &[UnitAnswer<'a>]) -> Result<Self, NoMemory>
-        ensures { IfOk result (λ places. (q : ℕ) → meets (placed places) q
-            ≡ any_at q (flat_map entries_in units.now)) }
+        ensures { IfOk result (λ places. (q : ℕ) → placed places q ≡ place_among 0 units.now q) }
     {
         let mut places = Places::new(alloc);
         'units: for (unit, answer) in units.iter().enumerate() {

@@ -1,7 +1,8 @@
-use Rattle.std.proofs.Common.{◌≡◌, ℕ, take}
-use Rattle.std.specs.Prelude.{◌||◌}
-use Rattle.dwarf_info.specs.inner.Settling.{placed, meets, any_at}
+use Rattle.std.proofs.Common.{◌≡◌, ℕ, drop}
+use Rattle.std.specs.Option.{option_or}
+use Rattle.dwarf_info.specs.inner.Settling.{placed}
+use Rattle.dwarf_info.specs.inner.Finding.{place_in}
 use Rattle.dwarf_info.proofs.places.Places.add_entries.Given as goal
 
 abbrev pub invariant-entries : goal.invariant-entries
-invariant-entries l = (q : ℕ) → meets (placed l.self) q ≡ (meets (placed l.initial.self) q || any_at q (take l.number l.entries))
+invariant-entries l = (q : ℕ) → option_or (placed l.self q) (place_in l.unit l.number (drop l.number l.entries) q) ≡ option_or (placed l.initial.self q) (place_in l.unit 0 l.entries q)

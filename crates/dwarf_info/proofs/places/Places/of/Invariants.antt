@@ -1,8 +1,8 @@
-use Rattle.std.proofs.Common.{◌≡◌, ℕ, take}
-use Rattle.std.specs.Prelude.{flat_map}
-use Rattle.dwarf_info.specs.Units.{entries_in}
-use Rattle.dwarf_info.specs.inner.Settling.{placed, meets, any_at}
+use Rattle.std.proofs.Common.{◌≡◌, ℕ, drop}
+use Rattle.std.specs.Option.{option_or}
+use Rattle.dwarf_info.specs.inner.Settling.{placed}
+use Rattle.dwarf_info.specs.inner.Finding.{place_among}
 use Rattle.dwarf_info.proofs.places.Places.of.Given as goal
 
 abbrev pub invariant-units : goal.invariant-units
-invariant-units l = (q : ℕ) → meets (placed l.places) q ≡ any_at q (flat_map entries_in (take l.unit l.units))
+invariant-units l = (q : ℕ) → option_or (placed l.places q) (place_among l.unit (drop l.unit l.units) q) ≡ place_among 0 l.units q
