@@ -1,2 +1,5 @@
 pub mod UnitLaws5
 pub mod UnitRows5
+pub mod LookUp
+pub mod ReadLaws5
+pub mod ListLaws

@@ -73,7 +73,7 @@ unfolding shapes5_item
 shapes5_exact = table_exact shape5 (pair slot5) (pair_item slot5_item) (pair_takes slot5) (pair_exact slot5 slot5_item slot5_exact)
 
 -- Past the end of a section no table stands.
-shapes5_inside : (section : List ℕ) (at : ℕ) → length section < at → read_at shapes5_item section at ≡ None
+pub shapes5_inside : (section : List ℕ) (at : ℕ) → length section < at → read_at shapes5_item section at ≡ None
 unfolding shapes5_item table_item ended_item ended_from
 shapes5_inside section at past = let room : length section + 1 - at ≡ 0 = omega (arith, past) in rw room refl
 

@@ -1,0 +1,153 @@
+//! Units of version 5 (DWARF 5 section 7.5.1.1).
+
+ghost use Rattle.std.specs.Prelude.{◌≡◌, ◌≤◌, length, option_map, IfOk, OnOk, IfSome};
+ghost use Rattle.wasm_bytes.specs.Place.{Stays};
+ghost use Rattle.wasm_bytes.specs.Answers.{Reads, Gives};
+ghost use Rattle.dwarf_bytes.specs.Items.{item_or_none, read_at};
+ghost use Rattle.dwarf_info.specs.Sections.{SectionBytes5, greatest_section};
+ghost use Rattle.dwarf_info.specs.Forms.{form_of};
+ghost use Rattle.dwarf_info.specs.Units.{body_item};
+ghost use Rattle.dwarf_info.specs.Version4.{version4};
+ghost use Rattle.dwarf_info.specs.inner.Sizes.{IsSized};
+ghost use Rattle.dwarf_info.specs.inner.Keeping.{Keeps};
+ghost use Rattle.dwarf5_info.specs.Forms5.{forms5};
+ghost use Rattle.dwarf5_info.specs.Indices.{index5};
+ghost use Rattle.dwarf5_info.specs.Version5.{is_unit_type, header5_item, shapes5_item, version5, up_to5};
+ghost use Rattle.dwarf5_info.specs.inner.Bases.{looked_up};
+
+use crate::abbreviations::shapes5_at;
+use crate::forms::form5;
+use crate::indices::Indices;
+use causes::NoMemory;
+use dwarf_bytes::number;
+use dwarf_info::{
+    AttrValue, Attribute, Form, Four, IndexTable, Sections5, Shape, Tables, Unit, UnitVersion,
+    UnitVersions, read_body,
+};
+use pm_text::Items;
+use std::alloc::Global;
+use wasm_bytes::{ItemFault, Malformed, Reader};
+
+/// A compile or a partial unit.
+fn is_unit_type(unit_type: u64) -> bool
+    ensures { result ≡ is_unit_type unit_type }
+{
+    unit_type == 1 || unit_type == 3
+}
+
+/// Version 5.
+#[derive(Drop)]
+pub struct Five {}
+
+impl<'a> UnitVersion<'a> for Five {
+    type Index = Indices<'a>;
+
+    ghost version = { version5 };
+
+    ghost looked = { looked_up };
+
+    fn form(code: u64) -> Option<Form>
+        ensures row { result ≡ form_of forms5 code }
+        ensures sized { IfSome result IsSized }
+    {
+        form5(code)
+    }
+
+    /// The type of the unit, which is a compile or a partial unit, the size of an address, which is 4, and the offset of
+    /// the abbreviations.
+    #[tactic(auto, unfolding(crate::specs::Version5::header5_item))]
+    fn header(reader: &mut Reader<'a>) -> Result<u64, Malformed>
+        ensures item { Reads result reader.new (header5_item reader.old) }
+        ensures stays { OnOk result (Stays reader.old reader.new) }
+    {
+        let at = reader.at();
+        let unit_type = number(reader, 1)?;
+        if !is_unit_type(unit_type) {
+            return Err(Malformed { at });
+        }
+        let at = reader.at();
+        if number(reader, 1)? != 4 {
+            return Err(Malformed { at });
+        }
+        let offset = number(reader, 4)?;
+        Ok(offset)
+    }
+
+    fn shapes_at(
+        alloc: Global,
+        section: &'a [u8],
+        at: u64,
+    ) -> Result<Option<Items<Shape>>, NoMemory>
+        ensures { IfOk result (λ shapes. shapes ≡ read_at shapes5_item section.now at) }
+    {
+        shapes5_at(alloc, section, at)
+    }
+
+    fn index(sections: &Sections5<'a>, root: &[Attribute<'a>]) -> Indices<'a>
+        ensures { looked_up result ≡ index5 sections.now root.now }
+    {
+        Indices::of(sections, root)
+    }
+
+    fn value(index: &Indices<'a>, table: IndexTable, number: u64) -> Option<AttrValue<'a>>
+        ensures { result ≡ looked_up index.now table number }
+    {
+        index.value(table, number)
+    }
+}
+
+/// Versions 4 and 5.
+#[derive(Drop)]
+pub struct UpToFive {
+    four: Tables,
+    five: Tables,
+}
+
+impl UpToFive {
+    /// No table of abbreviations is read yet.
+    pub fn new() -> Self
+        ensures { (s : SectionBytes5) → Keeps version4 s result.four × Keeps version5 s result.five }
+    {
+        UpToFive {
+            four: Tables {
+                at: None,
+                table: None,
+            },
+            five: Tables {
+                at: None,
+                table: None,
+            },
+        }
+    }
+}
+
+impl<'a> UnitVersions<'a> for UpToFive {
+    ghost versions = { up_to5 };
+
+    ghost is_ready = { λ s v. Keeps version4 s v.four × Keeps version5 s v.five };
+
+    fn read_body(
+        &mut self,
+        alloc: Global,
+        sections: &Sections5<'a>,
+        origin: u32,
+        version: u32,
+        reader: &mut Reader<'a>,
+    ) -> Result<Unit<'a>, ItemFault>
+        requires ready { Keeps version4 sections.now self.old.four
+            × Keeps version5 sections.now self.old.five }
+        requires short { length reader.old.block ≤ greatest_section }
+        ensures item { Gives result reader.new
+            (item_or_none (option_map (body_item sections.now origin version) (up_to5 version))
+            reader.old) }
+        ensures stays { OnOk result (Stays reader.old reader.new) }
+        ensures ready { Keeps version4 sections.now self.new.four
+            × Keeps version5 sections.now self.new.five }
+    {
+        match version {
+            5 => read_body::<Five>(alloc, sections, &mut self.five, origin, version, reader),
+            4 => read_body::<Four>(alloc, sections, &mut self.four, origin, version, reader),
+            _ => Err(ItemFault::At(reader.at())),
+        }
+    }
+}
