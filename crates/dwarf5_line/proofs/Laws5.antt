@@ -1,8 +1,7 @@
 -- A line program of version 5 is read exactly as it is spelled.
-use Rattle.std.proofs.Common.{◌≡◌, ℕ, ◌<◌, Bool, true, false, eqb, List, [], ◌∷◌, length, Option, Some, None, refl, sym, ap, subst, ◌∙◌, inl, inr}
-use Rattle.wasm_bytes.specs.Place.{Place, Read}
-use Rattle.wasm_bytes.specs.Reading.{◌⊗◌, ◌▷◌, mapped, checked, u64_item, items_from}
-use Rattle.wasm_bytes.specs.Spelling.{Spellings, ◌&◌, pair, leads, image, passing, items, u64}
+use Rattle.std.proofs.Common.{◌≡◌, ℕ, Bool, true, false, eqb, List, length, Some, refl, sym, subst}
+use Rattle.wasm_bytes.specs.Reading.{◌⊗◌, checked, u64_item, items_from}
+use Rattle.wasm_bytes.specs.Spelling.{◌&◌, pair, leads, passing, items, u64}
 use Rattle.wasm_bytes.specs.Laws.{IsExact}
 use Rattle.std.specs.Prelude.{if◌then◌else◌}
 use Rattle.wasm_bytes.proofs.Exact.{image_exact, then_exact, same_exact, leads_exact, checked_exact}
@@ -14,8 +13,6 @@ use Rattle.dwarf_bytes.specs.Format.{spelled, read}
 use Rattle.dwarf_bytes.proofs.Exact.{number_exact}
 use Rattle.dwarf_bytes.proofs.Lists.{each_exact}
 use Rattle.dwarf_bytes.proofs.Formats.{format_exact}
-use Rattle.dwarf_line.specs.declared.lines.LineFile.{LineFile}
-use Rattle.dwarf_line.specs.declared.header.Tables.{Tables}
 use Rattle.dwarf_line.specs.Header.{Layout, layout}
 use Rattle.dwarf_line.specs.Program.{lines_item}
 use Rattle.dwarf_line.proofs.Laws.{AreTablesExact, line_program_exact, old_tables}

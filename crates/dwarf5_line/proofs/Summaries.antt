@@ -12,7 +12,7 @@ use Rattle.dwarf5_line.specs.declared.entries.Texts.{Texts}
 use Rattle.dwarf5_line.specs.declared.entries.Pair.{Pair}
 use Rattle.dwarf5_line.specs.declared.entries.Content.{Content}
 use Rattle.dwarf5_line.specs.declared.entries.Summary.{Summary}
-use Rattle.dwarf5_line.specs.Entries.{Described, describes, content, described_item, content_of}
+use Rattle.dwarf5_line.specs.Entries.{Described, describes, content, described_item}
 use Rattle.dwarf5_line.specs.inner.Summary.{summary_of, summary_item, with_first}
 
 first_content : (b : Bool) (x : Described) (more : Option Described) → option_map (λ (y : Described). y.content) (cond b (Some x) more) ≡ cond b (Some x.content) (option_map (λ (y : Described). y.content) more)

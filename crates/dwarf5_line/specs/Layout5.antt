@@ -3,6 +3,7 @@ use Rattle.std.specs.Prelude.{◌≡◌, ℕ, List, [], ◌∷◌, length, Bool,
 use Rattle.wasm_bytes.specs.Spelling.{Spellings, ◌&◌, pair, leads, image, items, u64}
 use Rattle.dwarf_bytes.specs.Spelled.{each, number}
 use Rattle.dwarf_bytes.specs.Format.{spelled}
+use Rattle.dwarf_info.specs.Sections.{SectionBytes5}
 use Rattle.dwarf_line.specs.declared.lines.LineFile.{LineFile}
 use Rattle.dwarf_line.specs.declared.lines.Lines.{Lines}
 use Rattle.dwarf_line.specs.declared.header.Tables.{Tables}
@@ -13,6 +14,10 @@ use Rattle.dwarf5_line.specs.declared.entries.Texts.{Texts}
 use Rattle.dwarf5_line.specs.declared.entries.Pair.{Pair}
 use Rattle.dwarf5_line.specs.Entries as entries
 use Rattle.dwarf5_line.specs.Entries.{Described, content, describes, file_of, may_count, tables_of, tables_item}
+
+-- the sections that names of directories and files may stand in
+abbrev pub texts_of : SectionBytes5 → Texts
+texts_of s = record { str = s.base.str; line_str = s.line_str }
 
 -- Behind the version stand the size of an address, and that of a segment selector. Directories and files count from 0.
 abbrev pub new_layout : Texts → Layout

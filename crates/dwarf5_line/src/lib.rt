@@ -7,8 +7,4 @@ mod program;
 pub use causes::NoMemory;
 pub use dwarf_bytes::ReadFault;
 pub use dwarf_line::Lines;
-pub use entries::Texts;
 pub use program::read_lines5;
-
-#[cfg(test)]
-mod tests;

@@ -7,13 +7,14 @@ ghost use Rattle.dwarf_bytes.specs.Answers.{ReadsThere};
 ghost use Rattle.dwarf_line.specs.Header.{header_item};
 ghost use Rattle.dwarf_line.specs.Program.{lines_at};
 ghost use Rattle.dwarf_line.specs.Standing.{IsWhatStands};
-ghost use Rattle.dwarf5_line.specs.Layout5.{new_layout, layout5, lines5};
+ghost use Rattle.dwarf5_line.specs.Layout5.{texts_of, new_layout, layout5, lines5};
 
 use crate::entries::{Texts, read_tables};
 use dwarf_bytes::{ReadFault, byte, open_counted};
+use dwarf_info::Sections5;
 use dwarf_line::{Header, Lines, Versions, old_header, read_parameters, read_program};
 use std::alloc::Global;
-use wasm_bytes::{ItemFault, Reader};
+use wasm_bytes::{ItemFault, Reader, Run};
 
 /// The header of a program of version 5, behind its version.
 #[tactic(auto, unfolding(dwarf_bytes::specs::Format::read, dwarf_line::specs::Header::header_item))]
@@ -61,12 +62,25 @@ impl<'a> Versions<'a> for Texts<'a> {
     }
 }
 
-/// What the line program of version 2, 3, 4 or 5 at an offset of `.debug_line` says.
-///
-/// # Errors
-///
-/// `Unreadable` where no program that has a reading stands there, with the offset that is given.
-pub fn read_lines5<'a>(
+/// The sections that names of directories and files may stand in.
+fn texts_of<'a>(sections: &Sections5<'a>) -> Texts<'a>
+    ensures { result ≡ texts_of sections.now }
+{
+    Texts {
+        str: Run::new(sections.base.str),
+        line_str: Run::new(sections.line_str),
+    }
+}
+
+/// `.debug_line`
+fn programs<'a>(sections: &Sections5<'a>) -> &'a [u8]
+    ensures { result.now ≡ sections.now.base.line }
+{
+    sections.base.line
+}
+
+/// The program at an offset of a section, whose names may stand in others.
+fn read_at<'a>(
     alloc: Global,
     texts: &Texts<'a>,
     section: &'a [u8],
@@ -76,4 +90,22 @@ pub fn read_lines5<'a>(
     ensures spelled { IsWhatStands (lines5 texts.now) section.now at result }
 {
     read_program(alloc, texts, section, at)
+}
+
+/// What the line program of version 2, 3, 4 or 5 at an offset of `.debug_line` says.
+///
+/// # Errors
+///
+/// `Unreadable` where no program that has a reading stands there, with the offset that is given.
+pub fn read_lines5<'a>(
+    alloc: Global,
+    sections: &Sections5<'a>,
+    at: usize,
+) -> Result<Lines<'a>, ReadFault>
+    ensures there { ReadsThere at result (lines_at (layout5 (texts_of sections.now)) sections.now.base.line at) }
+    ensures spelled { IsWhatStands (lines5 (texts_of sections.now)) sections.now.base.line at result }
+{
+    let texts = texts_of(sections);
+    let section = programs(sections);
+    read_at(alloc, &texts, section, at)
 }

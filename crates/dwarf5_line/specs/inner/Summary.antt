@@ -1,5 +1,5 @@
 -- What an entry says that is used, gathered from left to right.
-use Rattle.std.specs.Prelude.{ℕ, List, ◌==◌, if◌then◌else◌, Some}
+use Rattle.std.specs.Prelude.{List, ◌==◌, if◌then◌else◌, Some}
 use Rattle.wasm_bytes.specs.Place.{Place, Read}
 use Rattle.wasm_bytes.specs.Reading.{mapped}
 use Rattle.dwarf_bytes.specs.Items.{each_item}

@@ -1,7 +1,4 @@
 use Rattle.std.proofs.lemmas.Result.{err_from_is_err_and}
-use Rattle.std.proofs.Common.{ap, ◌∙◌}
-use Rattle.wasm_bytes.specs.Laws.{got}
-use Rattle.dwarf5_line.specs.declared.entries.Summary.{Summary}
 use Rattle.dwarf5_line.proofs.Summaries.{summary_none, summary_split, first_fails, others_fail}
 use Rattle.dwarf5_line.proofs.entries.+read_summary.Goals as goal
 
