@@ -1,0 +1,5 @@
+pub mod Shapes
+pub mod Steps
+pub mod Skips
+pub mod Arms
+pub mod Opens

@@ -1,0 +1,3 @@
+pub mod Labels
+pub mod Walking
+pub mod Standing
