@@ -4,6 +4,8 @@
 #[cfg(test)]
 mod code_tests;
 #[cfg(test)]
+mod control_tests;
+#[cfg(test)]
 mod guard_tests;
 #[cfg(test)]
 mod spill_tests;

@@ -1,0 +1,5 @@
+pub mod Numbers
+pub mod Branching
+pub mod Calling
+pub mod Bodies
+pub mod Adding

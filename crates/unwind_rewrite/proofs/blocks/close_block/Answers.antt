@@ -1,0 +1,6 @@
+use Rattle.operand_spill.proofs.Loads.{when_ok}
+use Rattle.unwind_rewrite.proofs.Branching.{closed_before}
+use Rattle.unwind_rewrite.proofs.blocks.close_block.Goals as goal
+
+pub returns : goal.returns
+returns c = λ places e. when_ok (closed_before c.in_ok-close.ensures) c.from_result.result (c.from_result.ensures places e)

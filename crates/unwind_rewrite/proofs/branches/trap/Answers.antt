@@ -1,0 +1,7 @@
+use Rattle.operand_spill.proofs.Loads.{when_ok}
+use Rattle.unwind_rewrite.proofs.Branching.{trapped}
+use Rattle.unwind_rewrite.proofs.branches.trap.Goals as goal
+
+pub returns : goal.returns
+returns c = λ ls go e.
+    when_ok (trapped c.args.context.now ls c.args.places.now c.args.offset go c.in_ok-const_value.ensures (c.in_ok-tested.ensures ls e)) c.unreachable.result c.unreachable.ensures

@@ -1,0 +1,8 @@
+use Rattle.rewrite_bodies.specs.Slots.{less}
+use Rattle.operand_spill.proofs.Loads.{when_ok}
+use Rattle.unwind_rewrite.proofs.Calling.{came_back}
+use Rattle.unwind_rewrite.proofs.calls.after_call.Goals as goal
+
+pub returns : goal.returns
+returns c = λ ls e.
+    when_ok (came_back c.args.context.now ls c.args.gives (less c.args.count c.args.places.now) c.args.offset c.in_ok-store_left.ensures) c.test_flag.result (c.test_flag.ensures ls e)

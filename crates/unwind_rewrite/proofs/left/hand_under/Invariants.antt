@@ -1,0 +1,11 @@
+use Rattle.std.proofs.Common.{◌≤◌, ◌-◌, take}
+use Rattle.rewrite_bodies.specs.Rewrite.{hand_top}
+use Rattle.rewrite_code.specs.Writing.{Emits}
+use Rattle.operand_spill.specs.Places.{from_top}
+use Rattle.unwind_rewrite.proofs.left.hand_under.Given as goal
+
+abbrev pub invariant-loop-height : goal.invariant-loop-height
+invariant-loop-height l = record {
+  before : l.height ≤ l.kept;
+  so_far : Emits (hand_top l.fn.context (l.height - 0) (from_top (take l.height l.operands))) l.fn.writer l.writer;
+}

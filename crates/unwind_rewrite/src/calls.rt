@@ -1,0 +1,178 @@
+//! Calls, and what stands behind them.
+
+ghost use Rattle.std.specs.Prelude.{◌≡◌, ◌+◌, ◌^◌, ◌<◌, ◌≤◌, nat_lt, List, ◌∷◌, length, Some, OnOk};
+ghost use Rattle.wasm_syntax.specs.declared.value.ValType.TheVariants.{I32 as I32Of};
+ghost use Rattle.wasm_syntax.specs.declared.instruction.Basic.TheVariants.{Eqz as EqzOf};
+ghost use Rattle.wasm_syntax.specs.Tree.{CallIndirect, stop, basic, jump};
+ghost use Rattle.wasm_syntax.specs.Machine.{result_of};
+ghost use Rattle.wasm_syntax.specs.Module.{function_types};
+ghost use Rattle.rewrite_bodies.specs.Numbering.{import_count, mapped};
+ghost use Rattle.rewrite_bodies.specs.Slots.{Place as PlaceOf, less, kind_at};
+ghost use Rattle.rewrite_bodies.specs.Pieces.{call, fetch, get, load, set, store};
+ghost use Rattle.rewrite_bodies.specs.Rewrite.{Info, after_call, after_direct, call_code, helper_of, indirect_code};
+ghost use Rattle.rewrite_code.specs.Writing.{Emits, EmitsLast};
+ghost use Rattle.operand_spill.specs.Places.{place};
+
+use crate::left::{store_left, test_both, test_flag};
+use causes::NoMemory;
+use operand_spill::{FunctionContext, OperandPlace, OperandPlaces};
+use rewrite_code::CodeWriter;
+use wasm_syntax::{Basic, FuncType, ValType};
+
+/// The index of a type, and that of the function that is its helper.
+#[derive(Clone, Copy)]
+pub struct TypeNumbers {
+    pub index: u32,
+    pub helper: u32,
+}
+
+/// What a function gives, if anything.
+fn result_type(ftype: &FuncType) -> Option<ValType>
+    ensures { result ≡ result_of ftype.now }
+{
+    ftype.results.get(0).copied()
+}
+
+/// Whether a function is imported: the collector's imports stand behind the module's.
+fn is_imported(context: &FunctionContext<'_, '_>, function: u32) -> bool
+    ensures { result ≡ nat_lt function (import_count context.now.source) }
+{
+    function < context.map().value_import(ValType::I32)
+}
+
+/// Behind a call that took so many operands and may come back with the flag up.
+fn after_call(
+    context: &FunctionContext<'_, '_>,
+    writer: &mut CodeWriter,
+    labels: u32,
+    places: &OperandPlaces,
+    count: usize,
+    offset: u32,
+    gives: Option<ValType>,
+) -> Result<(), NoMemory>
+    requires shallow { labels + 1 < 2 ^ 32 }
+    requires room { length places.now ≤ context.now.slots }
+    ensures { (ls : List Info) → length ls ≡ labels → OnOk result (Emits (λ k. after_call context.now ls gives (less count places.now) offset (λ es. k)) writer.old writer.new) }
+{
+    store_left(context, writer, gives, places, count)?;
+    test_flag(context, writer, labels, places, count, offset)
+}
+
+/// Behind the call of a function. An import cannot come back with the flag up.
+fn after_direct(
+    context: &FunctionContext<'_, '_>,
+    writer: &mut CodeWriter,
+    labels: u32,
+    places: &OperandPlaces,
+    offset: u32,
+    function: u32,
+    ftype: &FuncType,
+) -> Result<(), NoMemory>
+    requires shallow { labels + 1 < 2 ^ 32 }
+    requires room { length places.now ≤ context.now.slots }
+    ensures { (ls : List Info) → length ls ≡ labels → OnOk result (Emits (λ k. after_direct (nat_lt function (import_count context.now.source)) context.now ls (result_of ftype.now) (less (length ftype.now.params) places.now) offset (λ es. k)) writer.old writer.new) }
+{
+    let count = ftype.params.len();
+    let gives = result_type(ftype);
+    if is_imported(context, function) {
+        store_left(context, writer, gives, places, count)
+    } else {
+        after_call(context, writer, labels, places, count, offset, gives)
+    }
+}
+
+/// The arguments are loaded, and the call is made.
+fn call_with(
+    context: &FunctionContext<'_, '_>,
+    writer: &mut CodeWriter,
+    places: &OperandPlaces,
+    function: u32,
+    count: usize,
+) -> Result<(), NoMemory>
+    requires there { function < length (function_types context.now.source) }
+    requires room { length places.now ≤ context.now.slots }
+    ensures { OnOk result (Emits (λ k. load context.now count places.now (call (mapped context.now.source function) k)) writer.old writer.new) }
+{
+    context.load(writer, count, places)?;
+    writer.call(context.map().function(function))
+}
+
+/// `call`, of a function of this type.
+pub fn call_function(
+    context: &FunctionContext<'_, '_>,
+    writer: &mut CodeWriter,
+    labels: u32,
+    places: &OperandPlaces,
+    offset: u32,
+    function: u32,
+    ftype: &FuncType,
+) -> Result<(), NoMemory>
+    requires there { function < length (function_types context.now.source) }
+    requires shallow { labels + 1 < 2 ^ 32 }
+    requires room { length places.now ≤ context.now.slots }
+    ensures { (ls : List Info) → length ls ≡ labels → OnOk result (Emits (λ k. call_code context.now ls places.now offset function (Some ftype.now) (λ es. k)) writer.old writer.new) }
+{
+    call_with(context, writer, places, function, ftype.params.len())?;
+    after_direct(context, writer, labels, places, offset, function, ftype)
+}
+
+/// The kind that a helper gives for the index of an entry, which is kept, and whether it is none.
+fn guard_entry(
+    context: &FunctionContext<'_, '_>,
+    writer: &mut CodeWriter,
+    entry: OperandPlace,
+    height: usize,
+    helper: u32,
+) -> Result<(), NoMemory>
+    requires { height ≤ context.now.slots }
+    ensures { OnOk result (Emits (λ k. fetch context.now (place entry) height (call helper (set context.now (kind_at context.now) (get context.now (kind_at context.now) (basic 0 (EqzOf I32Of) k))))) writer.old writer.new) }
+{
+    context.fetch(writer, entry, height)?;
+    writer.call(helper)?;
+    context.set(writer, context.kind_at())?;
+    context.get(writer, context.kind_at())?;
+    writer.basic(Basic::Eqz(ValType::I32))
+}
+
+/// The call with its operands, so many with the index of the entry, and its result.
+fn call_entry(
+    context: &FunctionContext<'_, '_>,
+    writer: &mut CodeWriter,
+    places: &OperandPlaces,
+    count: usize,
+    type_index: u32,
+    gives: Option<ValType>,
+) -> Result<(), NoMemory>
+    requires { length places.now ≤ context.now.slots }
+    ensures { OnOk result (EmitsLast (load context.now count places.now (jump 0 (CallIndirect type_index) (store context.now gives (less count places.now) stop))) writer.old writer.new) }
+{
+    context.load(writer, count, places)?;
+    writer.call_indirect(type_index)?;
+    store_left(context, writer, gives, places, count)
+}
+
+/// `call_indirect`, of a function of this type; the index of the entry is the topmost operand.
+pub fn call_through_table(
+    context: &FunctionContext<'_, '_>,
+    writer: &mut CodeWriter,
+    labels: u32,
+    places: &OperandPlaces,
+    offset: u32,
+    numbers: TypeNumbers,
+    ftype: &FuncType,
+) -> Result<(), NoMemory>
+    requires shallow { labels + 1 < 2 ^ 32 }
+    requires room { length places.now ≤ context.now.slots }
+    ensures { (ls : List Info) (e : PlaceOf) (es : List PlaceOf) → length ls ≡ labels → numbers.helper ≡ helper_of context.now numbers.index → places.now ≡ e ∷ es → OnOk result (Emits (λ k. indirect_code context.now ls places.now offset numbers.index (Some ftype.now) (λ es. k)) writer.old writer.new) }
+{
+    let Some(entry) = places.peek(0) else {
+        return Ok(());
+    };
+    let gives = result_type(ftype);
+    let count = ftype.params.as_slice().len() + 1;
+    guard_entry(context, writer, entry, places.len() - 1, numbers.helper)?;
+    writer.open_if(None)?;
+    call_entry(context, writer, places, count, numbers.index, gives)?;
+    writer.close()?;
+    test_both(context, writer, labels, places, count, offset)
+}

@@ -1,0 +1,114 @@
+//! The bodies of wrappers.
+
+ghost use Rattle.std.specs.Prelude.{◌≡◌, ◌<◌, length, OnOk};
+ghost use Rattle.wasm_syntax.specs.Module.{function_types};
+ghost use Rattle.wasm_syntax.specs.declared.instruction.Basic.TheVariants.{GlobalGet as GlobalGetOf};
+ghost use Rattle.wasm_syntax.specs.Tree.{Unreachable, stop, basic, jump};
+ghost use Rattle.rewrite_bodies.specs.Numbering.{value_import, frame_import, global_types};
+ghost use Rattle.rewrite_bodies.specs.Pieces.{const, i32, call};
+ghost use Rattle.rewrite_modules.specs.Wrappers.{get_all, tell_globals, end_of_dump, after_wrapped, wrapper_nodes};
+ghost use Rattle.rewrite_code.specs.Writing.{Emits, EmitsLast};
+
+use causes::NoMemory;
+use index_map::IndexMap;
+use rewrite_code::CodeWriter;
+use wasm_syntax::{Basic, Global, ValType, Value};
+
+/// So many parameters.
+fn get_all(writer: &mut CodeWriter, count: u32) -> Result<(), NoMemory>
+    ensures { OnOk result (Emits (get_all 0 count) writer.old writer.new) }
+{
+    for x in 0..count {
+        writer.basic(Basic::LocalGet(x))?;
+    }
+    Ok(())
+}
+
+/// A global with this number is handed over.
+fn tell_global(
+    map: &IndexMap<'_>,
+    writer: &mut CodeWriter,
+    index: u32,
+    t: ValType,
+) -> Result<(), NoMemory>
+    ensures { OnOk result (Emits (λ k. basic 0 (GlobalGetOf index) (call (value_import map.now t) k)) writer.old writer.new) }
+{
+    writer.basic(Basic::GlobalGet(index))?;
+    writer.call(map.value_import(t))
+}
+
+/// All globals of the module, the first one first.
+fn tell_globals(
+    map: &IndexMap<'_>,
+    writer: &mut CodeWriter,
+    globals: &[Global],
+) -> Result<(), NoMemory>
+    requires { globals.now ≡ map.now.globals }
+    ensures { OnOk result (Emits (tell_globals map.now 0 (global_types map.now)) writer.old writer.new) }
+{
+    let count = map.flag();
+    for x in 0..count {
+        tell_global(map, writer, x, globals[x as usize].vtype)?;
+    }
+    Ok(())
+}
+
+/// The end of the dump: its kind, function and offset say that it is one, and it counts the globals.
+fn end_dump(map: &IndexMap<'_>, writer: &mut CodeWriter) -> Result<(), NoMemory>
+    ensures { OnOk result (EmitsLast (const (i32 255) (const (i32 0) (const (i32 0) (const (i32 (length map.now.globals)) (call (frame_import map.now) (jump 0 Unreachable stop)))))) writer.old writer.new) }
+{
+    writer.const_value(Value::I32(255))?;
+    writer.const_value(Value::I32(0))?;
+    writer.const_value(Value::I32(0))?;
+    // The flag stands behind the globals, so its index is their number.
+    writer.const_value(Value::I32(map.flag()))?;
+    writer.call(map.frame_import())?;
+    writer.unreachable()
+}
+
+/// The globals and the end of the dump.
+fn end_of_dump(
+    map: &IndexMap<'_>,
+    writer: &mut CodeWriter,
+    globals: &[Global],
+) -> Result<(), NoMemory>
+    requires { globals.now ≡ map.now.globals }
+    ensures { OnOk result (EmitsLast (end_of_dump map.now) writer.old writer.new) }
+{
+    tell_globals(map, writer, globals)?;
+    end_dump(map, writer)
+}
+
+/// Where the flag is up behind the call, the dump is ended.
+fn after_wrapped(
+    map: &IndexMap<'_>,
+    writer: &mut CodeWriter,
+    globals: &[Global],
+) -> Result<(), NoMemory>
+    requires { globals.now ≡ map.now.globals }
+    ensures { OnOk result (EmitsLast (after_wrapped map.now) writer.old writer.new) }
+{
+    writer.basic(Basic::GlobalGet(map.flag()))?;
+    writer.open_if(None)?;
+    end_of_dump(map, writer, globals)?;
+    writer.close()
+}
+
+/// The nodes of the wrapper of a function with so many parameters, in a module with these globals.
+pub fn wrapper(
+    map: &IndexMap<'_>,
+    writer: &mut CodeWriter,
+    globals: &[Global],
+    function: u32,
+    parameters: u32,
+) -> Result<(), NoMemory>
+    requires globals { globals.now ≡ map.now.globals }
+    requires there { function < length (function_types map.now) }
+    ensures { OnOk result (EmitsLast (wrapper_nodes map.now function parameters) writer.old writer.new) }
+{
+    writer.const_value(Value::I32(0))?;
+    writer.basic(Basic::GlobalSet(map.flag()))?;
+    get_all(writer, parameters)?;
+    writer.call(map.function(function))?;
+    after_wrapped(map, writer, globals)
+}
