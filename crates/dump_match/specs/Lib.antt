@@ -1,0 +1,5 @@
+pub mod Values
+pub mod Frames
+pub mod Matching
+pub mod Judged
+pub mod inner

@@ -1,0 +1,40 @@
+//! Whether a dump can be one of a module: nine tests, of which the first that fails is told. It takes no memory.
+#![tactic(auto)]
+
+ghost use Rattle.std.specs.Prelude.{◌<◌, ◌^◌, length};
+ghost use Rattle.dump_match.specs.Judged.{Judged};
+ghost use Rattle.dump_format.specs.Contained.{IsContained};
+
+mod code;
+mod frames;
+mod matched;
+mod mismatch;
+mod stand;
+mod values;
+mod whole;
+
+use dump_format::Dump;
+use frames::judge_frames;
+pub use matched::Matched;
+pub use mismatch::Mismatch;
+use wasm_validate::Validated;
+use whole::judge_whole;
+
+/// Whether a dump can be one of a module (tool-conventions Coredump.md): its one instance, its memory and its globals are those of the
+/// module, and each frame stands in live code with locals and operands of the types there, each one but the innermost at a call that can
+/// have called the function of the frame before it.
+///
+/// # Errors
+///
+/// The first test that fails: of the instance, of the memory, and of the globals by their indices; then those of the innermost frame, of
+/// the next one and so on.
+pub fn matches<'a>(module_: &'a Validated, dump: &'a Dump<'a>) -> Result<Matched<'a>, Mismatch>
+    requires frames { length dump.now.frames < 2 ^ 32 }
+    requires globals { length dump.now.globals < 2 ^ 32 }
+    requires contained { IsContained dump.now }
+    ensures { Judged result module_.now dump.now }
+{
+    judge_whole(module_.module().parts(), dump)?;
+    judge_frames(module_, dump)?;
+    Ok(Matched::new(module_, dump))
+}
