@@ -18,7 +18,6 @@ use Rattle.dwarf_expr.specs.Operators.{behind}
 use Rattle.dwarf_expr.specs.Decode.{operators, operators_from}
 use Rattle.dwarf_expr.specs.Meaning.{meaning, parts, pieces_of, run, effect}
 use Rattle.dwarf_expr.specs.FrameBase.{frame_base}
-use Rattle.dwarf_expr.specs.Plain.{plain, plain_from}
 
 abbrev view : List Seen → List Seen → List Seen → Option Memory → View
 view locals operands globals memory = record { locals = locals; operands = operands; globals = globals; memory = memory }
@@ -193,7 +192,7 @@ too_deep : meaning (replicate 65 0x30) bare base.Absent ≡ eval.TooDeep
 unfolding meaning parts pieces_of run effect operators operators_from behind read number_item u64_item byte_item run_item s64_item unsigned_at u64_at signed_at s64_at last_signed binary compare div_s rem_s
 too_deep = refl
 
--- ---- frame bases, and expressions without `addrx`
+-- ---- frame bases
 
 -- a value, an address, a missing local, the base itself, a piece, a division by zero, and no attribute
 bases : map (λ (e : Option (List ℕ)). frame_base e (view [] [] [] None))
@@ -201,15 +200,3 @@ bases : map (λ (e : Option (List ℕ)). frame_base e (view [] [] [] None))
     ≡ base.At 4294967295 ∷ base.At 1 ∷ base.Missing ∷ base.Absent ∷ base.Absent ∷ base.Absent ∷ base.Absent ∷ base.Absent ∷ []
 unfolding frame_base meaning parts pieces_of run effect operators operators_from behind read number_item u64_item byte_item run_item s64_item unsigned_at u64_at signed_at s64_at last_signed binary compare div_s rem_s
 bases = refl
-
--- a table with one entry, 8, of index 1
-abbrev table : ℕ → Option ℕ
-table index = if index == 1 then Some 8 else None
-
--- replaced; between others; without an entry, and then replaced; behind an operator that is not known; inside an operand; cut; behind
--- a cut operator; behind a deref_size of another size
-plains : map (plain table)
-    ((0xa1 ∷ 0x01 ∷ []) ∷ (0x31 ∷ 0xa1 ∷ 0x01 ∷ 0x22 ∷ []) ∷ (0xa1 ∷ 0x02 ∷ 0xa1 ∷ 0x01 ∷ []) ∷ (0xe0 ∷ 0xa1 ∷ 0x01 ∷ []) ∷ (0x03 ∷ 0xa1 ∷ 0x01 ∷ 0x00 ∷ 0x00 ∷ []) ∷ (0x31 ∷ 0xa1 ∷ 0x80 ∷ []) ∷ (0x0a ∷ 0xa1 ∷ []) ∷ (0x94 ∷ 0x03 ∷ 0xa1 ∷ 0x01 ∷ []) ∷ [] ∷ [])
-    ≡ (0x03 ∷ 0x08 ∷ 0x00 ∷ 0x00 ∷ 0x00 ∷ []) ∷ (0x31 ∷ 0x03 ∷ 0x08 ∷ 0x00 ∷ 0x00 ∷ 0x00 ∷ 0x22 ∷ []) ∷ (0xa1 ∷ 0x02 ∷ 0x03 ∷ 0x08 ∷ 0x00 ∷ 0x00 ∷ 0x00 ∷ []) ∷ (0xe0 ∷ 0xa1 ∷ 0x01 ∷ []) ∷ (0x03 ∷ 0xa1 ∷ 0x01 ∷ 0x00 ∷ 0x00 ∷ []) ∷ (0x31 ∷ 0xa1 ∷ 0x80 ∷ []) ∷ (0x0a ∷ 0xa1 ∷ []) ∷ (0x94 ∷ 0x03 ∷ 0x03 ∷ 0x08 ∷ 0x00 ∷ 0x00 ∷ 0x00 ∷ []) ∷ [] ∷ []
-unfolding plain plain_from behind read number_item u64_item byte_item run_item s64_item unsigned_at u64_at signed_at s64_at last_signed
-plains = refl

@@ -3,5 +3,4 @@ pub mod Operators
 pub mod Decode
 pub mod Meaning
 pub mod FrameBase
-pub mod Plain
 pub mod inner

@@ -1,9 +1,10 @@
 //! Reading operators (DWARF 4 section 7.7.1).
 
-ghost use Rattle.std.specs.Prelude.{ℕ, ◌≡◌, ◌<◌, ◌≤◌, ◌-◌, ◌*◌, ◌^◌, OnOk, IfSome, length};
+ghost use Rattle.std.specs.Prelude.{ℕ, ◌≡◌, ◌<◌, ◌≤◌, ◌-◌, ◌*◌, ◌^◌, OnOk, IfSome, length, option_map};
 ghost use Rattle.int_ops.specs.Integers.{narrow64_bits, unsigned as word_of};
 ghost use Rattle.wasm_bytes.specs.Place.{Moves, Stays};
 ghost use Rattle.wasm_bytes.specs.Answers.{Reads};
+ghost use Rattle.dwarf_bytes.specs.Items.{item_or_none};
 ghost use Rattle.dwarf_bytes.specs.Format.{read, made, unsigned, signed, number};
 ghost use Rattle.dwarf_expr.specs.Operators as table;
 ghost use Rattle.dwarf_expr.specs.Operators.{lookup, behind};
@@ -236,6 +237,18 @@ fn operator(opcode: u8, reader: &mut Reader<'_>) -> Option<Result<Operator, Malf
         0x00..=0x19 => constants(opcode, reader),
         0x1a..=0x2f => operations(opcode, reader),
         _ => locations(opcode, reader),
+    }
+}
+
+/// An operator of that opcode, behind it.
+pub fn read_operator(opcode: u8, reader: &mut Reader<'_>) -> Result<Operator, Malformed>
+    ensures item { Reads result reader.new
+        (item_or_none (option_map read (behind opcode)) reader.old) }
+    ensures stays { OnOk result (Stays reader.old reader.new) }
+{
+    match operator(opcode, reader) {
+        Some(result) => result,
+        None => Err(Malformed { at: reader.at() }),
     }
 }
 

@@ -12,6 +12,7 @@ mod stack;
 mod view;
 
 pub use answer::{Base, Eval, Piece, PieceList, PiecePlace};
+pub use decode::read_operator;
 pub use evaluate::{eval, frame_base};
 pub use operators::{Begun, Operator, Placed, Space};
 pub use view::FrameView;
