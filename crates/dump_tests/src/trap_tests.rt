@@ -13,7 +13,7 @@ use machine_basics::TrapKind;
 use std::alloc::Global;
 use trap_image::image;
 use wasm_decode::decode;
-use wasm_machine::{Instance, RunAnswer};
+use wasm_machine::{Instance, RunEnd};
 use wasm_syntax::{FuncType, HostCall, Import, Value};
 use wasm_validate::{Validated, validate};
 
@@ -103,7 +103,7 @@ fn traps(
     }
     let mut hosts = Silent { imports };
     match instance.invoke(entry, args, 3, 1000, &mut hosts) {
-        RunAnswer::Trapped { kind: found } => found == kind,
+        Ok(RunEnd::Trapped { kind: found }) => found == kind,
         _ => false,
     }
 }

@@ -24,14 +24,14 @@ use Rattle.machine_steps.specs.inner.Runs.{Begins}
 use Rattle.machine_hosted.specs.Safe.{ValidProgram, WorldFits}
 use Rattle.machine_hosted.proofs.SafeLaws.{entered_fits}
 use Rattle.host_devices.specs.HostSides.{Calls}
-use Rattle.machine_hosted.specs.declared.halt.Halt.{Halt}
-use Rattle.machine_hosted.specs.Hosted.{Going, CameWith, replying}
+use Rattle.machine_hosted.specs.Hosted.{Going, replying}
+use Rattle.machine_hosted.specs.inner.FrameRuns.{CameWith}
 use Rattle.machine_hosted.specs.inner.Turns.{Ready, going}
 use Rattle.machine_hosted.specs.declared.answer.RunEnd.{RunEnd}
 use Rattle.machine_hosted.specs.declared.answer.RunEnd.TheVariants.{NoMemory}
 use Rattle.machine_hosted.specs.Settings.{Sound, MachineFits, Takes, ServesAll}
 use Rattle.machine_hosted.specs.inner.Alone.{alone}
-use Rattle.machine_hosted.specs.Answers.{answer_of, FunctionCameWith, function_going}
+use Rattle.machine_hosted.specs.Answers.{FunctionCameWith, function_going}
 use Rattle.machine_hosted.proofs.WorldLaws.{shares_replying, fits_replying, each_fits}
 use Rattle.machine_hosted.proofs.ModuleLaws.{valid_program, IsDefined, is_defined, function_imported}
 use Rattle.machine_hosted.proofs.FrameLaws.{by_frames}
@@ -91,12 +91,12 @@ module _ (m : Module) (prepared : Prepared) (function : ℕ) (args : List Value)
     begins = λ replies. begun M d.body d.tree takes.0 (replying w replies) co v (sound.is_prepared p e is) (shares_replying before w replies s) (fits_replying p.module_ w replies world_fits) d.at takes.2;
   }
 
-  pub came : (used_up : Import → Bool) (fuel : ℕ) (halt : Halt) (steps : ℕ) (later : Machine) (old new : Calls) → CameWith p prepared.codes.items used_up (going M frames w co) w co fuel halt steps later old new →
-      FunctionCameWith p prepared.codes.items used_up go w co fuel (answer_of halt (slice_get later.stack.values 0)) steps later old new
-  came used_up fuel halt steps later old new h =
+  pub came : (used_up : Import → Bool) (fuel : ℕ) (answer : RunEnd) (steps : ℕ) (later : Machine) (old new : Calls) → CameWith p prepared.codes.items used_up (going M frames w co) w co fuel answer steps later old new →
+      FunctionCameWith p prepared.codes.items used_up go w co fuel answer steps later old new
+  came used_up fuel answer steps later old new h =
       by_frames p prepared.codes.items used_up M frames w co go same
       (λ replies n. entered_fits M (length p.module_.imports + function) d.body d.tree takes.0 args (replying w replies) co n v d.function takes.2 (fits_replying p.module_ w replies world_fits))
-      fuel halt steps later old new h
+      fuel answer steps later old new h
 
   pub no_memory : (used_up : Import → Bool) (fuel : ℕ) (later : Machine) (calls : Calls) → FunctionCameWith p prepared.codes.items used_up go w co fuel NoMemory 0 later calls calls
   no_memory used_up fuel later calls = record {

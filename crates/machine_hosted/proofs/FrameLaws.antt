@@ -15,50 +15,17 @@ use Rattle.machine_steps.specs.declared.machine.Machine.{Machine}
 use Rattle.machine_steps.specs.Meets.{StandsFor, Shares}
 use Rattle.machine_hosted.specs.Safe.{WorldFits, RunFits}
 use Rattle.host_devices.specs.HostSides.{Calls}
-use Rattle.machine_hosted.specs.declared.halt.Halt.{Halt}
-use Rattle.machine_hosted.specs.declared.halt.Halt.TheVariants as halts
-use Rattle.machine_hosted.specs.Hosted.{Going, Admits, Tells, CameWith, steps_given}
+use Rattle.machine_hosted.specs.Hosted.{Going}
+use Rattle.machine_hosted.specs.inner.FrameRuns.{Tells, Came, CameWith}
 use Rattle.host_devices.specs.Given.{replies_of}
-use Rattle.machine_hosted.specs.Hosted as hosted
 use Rattle.machine_hosted.specs.inner.Turns as turns
 use Rattle.machine_hosted.specs.declared.answer.RunEnd.{RunEnd}
 use Rattle.machine_hosted.specs.declared.answer.RunEnd.TheVariants.{Finished, Trapped, NoReply, BadReply, DeviceFault, FuelSpent, NoMemory}
-use Rattle.machine_hosted.specs.Answers.{answer_of, KeepsFrames, Keeps, KeepsThen, last_in, AnswersTo, AdmitsReplies, given_steps, FunctionCame, FunctionCameWith, FitsThen, HasCause}
+use Rattle.machine_hosted.specs.Answers.{KeepsFrames, Keeps, KeepsThen, last_in, AnswersTo, AdmitsReplies, given_steps, FunctionCame, FunctionCameWith, FitsThen}
 use Rattle.machine_hosted.proofs.WorldLaws.{machine_fits}
 
 some_is : {A : Type 0} {a b : A} → Some a ≡ Some b → a ≡ b
 some_is e = cc
-
-first_is : (vs : List Value) → slice_get vs 0 ≡ first vs
-first_is [] = refl
-first_is (v ∷ vs) = refl
-
-given_same : (halt : Halt) (v : Option Value) (fuel steps : ℕ) → given_steps (answer_of halt v) fuel steps ≡ steps_given halt fuel steps
-given_same halts.Spent v fuel steps = refl
-given_same halts.Ended v fuel steps = refl
-given_same (halts.Trap kind) v fuel steps = refl
-given_same halts.NoReply v fuel steps = refl
-given_same (halts.Failed name) v fuel steps = refl
-given_same (halts.Misfit reply) v fuel steps = refl
-given_same halts.NoMemory v fuel steps = refl
-
-admits_same : (halt : Halt) (v : Option Value) (more : List Reply) → AdmitsReplies (answer_of halt v) more → Admits halt more
-admits_same halts.Spent v more h = tt
-admits_same halts.Ended v more h = tt
-admits_same (halts.Trap kind) v more h = tt
-admits_same halts.NoReply v more h = h
-admits_same (halts.Failed name) v more h = h
-admits_same (halts.Misfit reply) v more h = tt
-admits_same halts.NoMemory v more h = tt
-
-pub cause_same : (halt : Halt) (v : Option Value) (before now : List ℕ → ℕ) → turns.HasCause halt before now → HasCause (answer_of halt v) before now
-cause_same halts.Spent v before now h = tt
-cause_same halts.Ended v before now h = tt
-cause_same (halts.Trap kind) v before now h = tt
-cause_same halts.NoReply v before now h = tt
-cause_same (halts.Failed name) v before now h = h
-cause_same (halts.Misfit reply) v before now h = tt
-cause_same halts.NoMemory v before now h = tt
 
 module _ (p : Program) (codes : List Code) (used_up : Import → Bool) where
   keeps_frames : (m : Machine) (fs : List Frame) → layout.StandsFor p codes m.stack fs → KeepsFrames p codes m fs
@@ -71,73 +38,68 @@ module _ (p : Program) (codes : List Code) (used_up : Import → Bool) where
   keeps_at : (m : Machine) (k c : Config) → StandsFor p codes m k → Some k ≡ Some c → Keeps p codes m c
   keeps_at m k c h e = subst (Keeps p codes m) (some_is e) (keeps_of m k h)
 
-  abbrev Says : Halt → Stepped → Machine → Type 0
-  Says halt s m = AnswersTo p used_up (answer_of halt (slice_get m.stack.values 0)) s × ((c : Config) → last_in s ≡ Some c → KeepsThen p codes (answer_of halt (slice_get m.stack.values 0)) m c)
+  abbrev Says : RunEnd → Stepped → Machine → Type 0
+  Says answer s m = AnswersTo p used_up answer s × ((c : Config) → last_in s ≡ Some c → KeepsThen p codes answer m c)
 
-  says : (halt : Halt) (s : Stepped) (m : Machine) → Tells p codes used_up halt s m → Says halt s m
-  says halts.NoMemory s m t = (tt, λ c e. tt)
-  says halts.Spent (next k) m t = ((k, refl), λ c e. keeps_at m k c t e)
-  says halts.Spent (ends w vs co) m t = absurd t
-  says halts.Spent (traps kind k) m t = absurd t
-  says halts.Spent (no_reply call k) m t = absurd t
-  says halts.Spent (bad_reply call r k) m t = absurd t
-  says halts.Spent stuck m t = absurd t
-  says halts.Ended (next k) m t = absurd t
-  says halts.Ended (ends w vs co) m t = (
-    (w, vs, co, refl, ap (λ (l : List Value). slice_get l 0) t.values ∙ first_is vs),
-    λ c e. subst (Keeps p codes m) (some_is e) (record { frames = t.frames; shares = t.shares }),
-  )
-  says halts.Ended (traps kind k) m t = absurd t
-  says halts.Ended (no_reply call k) m t = absurd t
-  says halts.Ended (bad_reply call r k) m t = absurd t
-  says halts.Ended stuck m t = absurd t
-  says (halts.Trap kind) (next k) m t = absurd t
-  says (halts.Trap kind) (ends w vs co) m t = absurd t
-  says (halts.Trap kind) (traps number k) m t = ((k, ap (λ n. traps n k) (sym t.0)), λ c e. subst (StandsFor p codes m) (some_is e) t.1)
-  says (halts.Trap kind) (no_reply call k) m t = absurd t
-  says (halts.Trap kind) (bad_reply call r k) m t = absurd t
-  says (halts.Trap kind) stuck m t = absurd t
-  says halts.NoReply (next k) m t = absurd t
-  says halts.NoReply (ends w vs co) m t = absurd t
-  says halts.NoReply (traps kind k) m t = absurd t
-  says halts.NoReply (no_reply call k) m t = ((call, k, refl, t.1), λ c e. keeps_at m k c t.0 e)
-  says halts.NoReply (bad_reply call r k) m t = absurd t
-  says halts.NoReply stuck m t = absurd t
-  says (halts.Failed name) (next k) m t = absurd t
-  says (halts.Failed name) (ends w vs co) m t = absurd t
-  says (halts.Failed name) (traps kind k) m t = absurd t
-  says (halts.Failed name) (no_reply call k) m t = ((call, k, refl, t.0), λ c e. keeps_at m k c t.1 e)
-  says (halts.Failed name) (bad_reply call r k) m t = absurd t
-  says (halts.Failed name) stuck m t = absurd t
-  says (halts.Misfit reply) (next k) m t = absurd t
-  says (halts.Misfit reply) (ends w vs co) m t = absurd t
-  says (halts.Misfit reply) (traps kind k) m t = absurd t
-  says (halts.Misfit reply) (no_reply call k) m t = absurd t
-  says (halts.Misfit reply) (bad_reply call r k) m t = ((call, k, ap (λ r. bad_reply call r k) t.0), λ c e. keeps_at m k c t.1 e)
-  says (halts.Misfit reply) stuck m t = absurd t
+  says : (answer : RunEnd) (s : Stepped) (m : Machine) → Tells p codes used_up answer s m → Says answer s m
+  says NoMemory s m t = (tt, λ c e. tt)
+  says FuelSpent (next k) m t = ((k, refl), λ c e. keeps_at m k c t e)
+  says FuelSpent (ends w vs co) m t = absurd t
+  says FuelSpent (traps number k) m t = absurd t
+  says FuelSpent (no_reply call k) m t = absurd t
+  says FuelSpent (bad_reply call r k) m t = absurd t
+  says FuelSpent stuck m t = absurd t
+  says (Finished value) (next k) m t = absurd t
+  says (Finished value) (ends w vs co) m t = ((w, vs, co, refl, t.value_is), λ c e. subst (Keeps p codes m) (some_is e) (record { frames = t.frames; shares = t.shares }))
+  says (Finished value) (traps number k) m t = absurd t
+  says (Finished value) (no_reply call k) m t = absurd t
+  says (Finished value) (bad_reply call r k) m t = absurd t
+  says (Finished value) stuck m t = absurd t
+  says (Trapped kind) (next k) m t = absurd t
+  says (Trapped kind) (ends w vs co) m t = absurd t
+  says (Trapped kind) (traps number k) m t = ((k, ap (λ n. traps n k) (sym t.0)), λ c e. subst (StandsFor p codes m) (some_is e) t.1)
+  says (Trapped kind) (no_reply call k) m t = absurd t
+  says (Trapped kind) (bad_reply call r k) m t = absurd t
+  says (Trapped kind) stuck m t = absurd t
+  says NoReply (next k) m t = absurd t
+  says NoReply (ends w vs co) m t = absurd t
+  says NoReply (traps number k) m t = absurd t
+  says NoReply (no_reply call k) m t = ((call, k, refl, t.1), λ c e. keeps_at m k c t.0 e)
+  says NoReply (bad_reply call r k) m t = absurd t
+  says NoReply stuck m t = absurd t
+  says (DeviceFault name) (next k) m t = absurd t
+  says (DeviceFault name) (ends w vs co) m t = absurd t
+  says (DeviceFault name) (traps number k) m t = absurd t
+  says (DeviceFault name) (no_reply call k) m t = ((call, k, refl, t.0), λ c e. keeps_at m k c t.1 e)
+  says (DeviceFault name) (bad_reply call r k) m t = absurd t
+  says (DeviceFault name) stuck m t = absurd t
+  says (BadReply reply) (next k) m t = absurd t
+  says (BadReply reply) (ends w vs co) m t = absurd t
+  says (BadReply reply) (traps number k) m t = absurd t
+  says (BadReply reply) (no_reply call k) m t = absurd t
+  says (BadReply reply) (bad_reply call r k) m t = ((call, k, ap (λ r. bad_reply call r k) t.0), λ c e. keeps_at m k c t.1 e)
+  says (BadReply reply) stuck m t = absurd t
 
   -- a run of frames that is the run of a function
   pub by_frames : (M : Engine) (fs : List Frame) (w : World) (co : List CollectorCall) (go : Going) → ((replies : List Reply) (n : ℕ) → go replies n ≡ turns.going M fs w co replies n) → ((replies : List Reply) (n : ℕ) → RunFits p.module_ (turns.going M fs w co replies n).what) →
-      (fuel : ℕ) (halt : Halt) (steps : ℕ) (m : Machine) (old new : Calls) → CameWith p codes used_up (turns.going M fs w co) w co fuel halt steps m old new → FunctionCameWith p codes used_up go w co fuel (answer_of halt (slice_get m.stack.values 0)) steps m old new
-  by_frames M fs w co go same fits fuel halt steps m old new h = record {
+      (fuel : ℕ) (answer : RunEnd) (steps : ℕ) (m : Machine) (old new : Calls) → CameWith p codes used_up (turns.going M fs w co) w co fuel answer steps m old new → FunctionCameWith p codes used_up go w co fuel answer steps m old new
+  by_frames M fs w co go same fits fuel answer steps m old new h = record {
     asked = h.asked;
     grew = h.grew;
-    came = λ more ad. by_came more (h.came more (admits_same halt (slice_get m.stack.values 0) more ad));
+    came = λ more ad. by_came more (h.came more ad);
   }
     where
-      by_came : (more : List Reply) → hosted.Came p codes used_up (turns.going M fs w co) w co fuel h.asked halt steps m more → FunctionCame p codes used_up go w co fuel h.asked (answer_of halt (slice_get m.stack.values 0)) steps m more
+      by_came : (more : List Reply) → Came p codes used_up (turns.going M fs w co) w co fuel h.asked answer steps m more → FunctionCame p codes used_up go w co fuel h.asked answer steps m more
       by_came more c =
-          let n = steps_given halt fuel steps in
-          let replies = replies_of h.asked.given ++ more in
-          let said = says halt c.what m c.tells in
+          let said = says answer c.what m c.tells in
           record {
             what = c.what;
             within = c.within;
-            gives = subst (λ k. go (replies_of h.asked.given ++ more) k ≡ ended c.what (k - steps)) (sym (given_same halt (slice_get m.stack.values 0) fuel steps)) (same (replies_of h.asked.given ++ more) (steps_given halt fuel steps) ∙ c.gives);
+            gives = same (replies_of h.asked.given ++ more) (given_steps answer fuel steps) ∙ c.gives;
             answers = said.0;
             keeps = said.1;
             served = c.served;
-            fits = subst (λ (e : Result). RunFits p.module_ e.what) c.gives (fits (replies_of h.asked.given ++ more) (steps_given halt fuel steps));
+            fits = subst (λ (e : Result). RunFits p.module_ e.what) c.gives (fits (replies_of h.asked.given ++ more) (given_steps answer fuel steps));
           }
 
   -- ---- what follows of any run of a function

@@ -18,14 +18,14 @@ use Rattle.machine_steps.specs.declared.machine.Machine.{Machine}
 use Rattle.machine_steps.specs.declared.machine.ImportCall.{ImportCall}
 use Rattle.machine_steps.specs.Meets.{CallsImport}
 use Rattle.host_devices.specs.HostSides.{Calls, told, Adds, IsOfType}
-use Rattle.machine_hosted.specs.declared.halt.Halt.{Halt}
-use Rattle.machine_hosted.specs.declared.halt.Halt.{Halt}
-use Rattle.machine_hosted.specs.declared.halt.Halt.TheVariants as halts
+use Rattle.machine_hosted.specs.declared.answer.RunEnd.{RunEnd}
+use Rattle.machine_hosted.specs.declared.answer.RunEnd.TheVariants as answers
 use Rattle.machine_hosted.specs.declared.turn.Turn.{Turn}
-use Rattle.machine_hosted.specs.declared.turn.Turn.TheVariants.{Goes, Halts, Lacking}
-use Rattle.machine_hosted.specs.Hosted.{Asked, Grew, Admits}
+use Rattle.machine_hosted.specs.declared.turn.Turn.TheVariants.{Goes, Ends, Lacking}
+use Rattle.machine_hosted.specs.Hosted.{Asked, Grew}
+use Rattle.machine_hosted.specs.Answers.{AdmitsReplies, HasCause}
 use Rattle.host_devices.specs.Given.{replies_of}
-use Rattle.machine_hosted.specs.inner.Turns.{Calling, AtCall, told_by, nothing, one_reply, one_told, halt_of, Turned, TurnMeets, HasCause, IsReplied}
+use Rattle.machine_hosted.specs.inner.Turns.{Calling, AtCall, told_by, nothing, one_reply, one_told, end_of, Turned, TurnMeets, IsReplied}
 use Rattle.machine_hosted.proofs.CallLaws.{imported_is, called, at_call}
 use Rattle.machine_hosted.proofs.CollectorLaws.{told_same}
 use Rattle.machine_hosted.proofs.TurnLaws.{silent_turns, failed_turns}
@@ -61,9 +61,9 @@ grew_reply None b call reply old new e t h = record { is = refl; grew = record {
 -- ---- turns
 
 meets : (M : Engine) (codes : List Code) (used_up : Import → Bool) (turn : Turn) (there : List Reply → Config) (m : Machine) (old new : Calls) (asked : Asked) → Grew asked old new →
-    ((more : List Reply) → Admits (halt_of turn) more → Turned M codes used_up asked turn (there (replies_of asked.given ++ more)) m more) → TurnMeets M codes used_up turn there m old new
+    ((more : List Reply) → AdmitsReplies (end_of turn) more → Turned M codes used_up asked turn (there (replies_of asked.given ++ more)) m more) → TurnMeets M codes used_up turn there m old new
 meets M codes used_up Goes there m old new asked g t = record { asked = asked; grew = g; turned = t }
-meets M codes used_up (Halts halt) there m old new asked g t = record { asked = asked; grew = g; turned = t }
+meets M codes used_up (Ends answer) there m old new asked g t = record { asked = asked; grew = g; turned = t }
 meets M codes used_up Lacking there m old new asked g t = absurd ((t [] tt).stops)
 
 module _ (source : Module) (call : ImportCall) (m : Machine) (collecting : Bool) (serving : Import → FuncType → Bool) (import : Import) (type : FuncType) (args : List Value)
@@ -115,19 +115,19 @@ module _ (source : Module) (call : ImportCall) (m : Machine) (collecting : Bool)
     reply_meets reply g t = meets k.engine k.codes used_up turn k.there m' old new (one_reply (host_call call.function import type args) reply) g.grew
         (λ more admits. t used_up k.engine k.codes import args (k.there (reply ∷ more)) more (at_calls (reply ∷ more)) (told_is None g.is) (k.replies (reply ∷ more)))
 
-  pub silent_meets : (used_up : Import → Bool) (old new : Calls) → used_up import ≡ true → (new ≡ old) × (told collecting import (host_call call.function import type args) ≡ None) → TurnMeets k.engine k.codes used_up (Halts halts.NoReply) k.there m old new
+  pub silent_meets : (used_up : Import → Bool) (old new : Calls) → used_up import ≡ true → (new ≡ old) × (told collecting import (host_call call.function import type args) ≡ None) → TurnMeets k.engine k.codes used_up (Ends answers.NoReply) k.there m old new
   silent_meets used_up old new none_left h = record {
     asked = nothing;
     grew = grew_none old new h.0;
-    turned = λ more admits. subst (λ r. Turned k.engine k.codes used_up nothing (Halts halts.NoReply) (k.there more) m r) (sym admits)
+    turned = λ more admits. subst (λ r. Turned k.engine k.codes used_up nothing (Ends answers.NoReply) (k.there more) m r) (sym admits)
         (silent_turns k.engine k.codes call import type args m (k.there more) used_up (at_calls more) (told_is None h.1) (k.replies more ∙ admits) in_program none_left);
   }
 
-  pub failed_meets : (used_up : Import → Bool) (name : List ℕ) (old new : Calls) → name ≡ import.«module» → used_up import ≡ false → (new ≡ old) × (told collecting import (host_call call.function import type args) ≡ None) → TurnMeets k.engine k.codes used_up (Halts (halts.Failed name)) k.there m old new
+  pub failed_meets : (used_up : Import → Bool) (name : List ℕ) (old new : Calls) → name ≡ import.«module» → used_up import ≡ false → (new ≡ old) × (told collecting import (host_call call.function import type args) ≡ None) → TurnMeets k.engine k.codes used_up (Ends (answers.DeviceFault name)) k.there m old new
   failed_meets used_up name old new e some_left h = record {
     asked = nothing;
     grew = grew_none old new h.0;
-    turned = λ more admits. subst (λ r. Turned k.engine k.codes used_up nothing (Halts (halts.Failed name)) (k.there more) m r) (sym admits)
+    turned = λ more admits. subst (λ r. Turned k.engine k.codes used_up nothing (Ends (answers.DeviceFault name)) (k.there more) m r) (sym admits)
         (failed_turns k.engine k.codes call import type args m (k.there more) used_up (at_calls more) (told_is None h.1) (k.replies more ∙ admits) name in_program e some_left);
   }
 
@@ -143,11 +143,11 @@ of_type f i type args call e t le = subst (IsOfType type) (sym e) (t, one_listed
 
 -- ---- where the host side replied
 
-pub replied_cause : (halt : Halt) (before now : List ℕ → ℕ) → IsReplied halt → HasCause halt before now
-replied_cause halts.Spent before now h = tt
-replied_cause halts.Ended before now h = tt
-replied_cause (halts.Trap kind) before now h = tt
-replied_cause halts.NoReply before now h = absurd h
-replied_cause (halts.Failed name) before now h = absurd h
-replied_cause (halts.Misfit reply) before now h = tt
-replied_cause halts.NoMemory before now h = tt
+pub replied_cause : (answer : RunEnd) (before now : List ℕ → ℕ) → IsReplied answer → HasCause answer before now
+replied_cause answers.FuelSpent before now h = tt
+replied_cause (answers.Finished value) before now h = tt
+replied_cause (answers.Trapped kind) before now h = tt
+replied_cause answers.NoReply before now h = absurd h
+replied_cause (answers.DeviceFault name) before now h = absurd h
+replied_cause (answers.BadReply reply) before now h = tt
+replied_cause answers.NoMemory before now h = tt

@@ -16,7 +16,6 @@ use Rattle.wasm_syntax.specs.Host.{World}
 use Rattle.wasm_syntax.specs.Machine.{Engine, Config, config, Stepped, next, ends, traps, no_reply, bad_reply, stuck, step, host_call, first, entered}
 use Rattle.wasm_syntax.specs.Run.{Ended, ended, run_on, run_steps, run_alone, run_function, run_entry, go_on, invoked, Ran, ran_to, finished, trapped, lacks_reply, misfits, running, goes_on}
 use Rattle.machine_basics.specs.Traps.{trap_code}
-use Rattle.causes.specs.Counts.{Rose}
 use Rattle.machine_code.specs.declared.code.Code.{Code}
 use Rattle.machine_steps.specs.declared.machine.Machine.{Machine}
 use Rattle.machine_steps.specs.Meets.{Shares}
@@ -27,8 +26,8 @@ use Rattle.host_devices.specs.Given.{replies_of}
 use Rattle.machine_hosted.specs.declared.answer.RunEnd.{RunEnd}
 use Rattle.machine_hosted.specs.declared.answer.RunEnd.TheVariants.{Finished, Trapped, NoReply, BadReply, DeviceFault, FuelSpent, NoMemory}
 use Rattle.machine_hosted.specs.Settings.{world_of}
-use Rattle.machine_hosted.specs.Answers.{Keeps, KeepsThen, last_in, AnswersTo, AdmitsReplies, given_steps, FunctionCame, FunctionCameWith, function_going, HasCause}
-use Rattle.machine_hosted.specs.Invocations.{HasOutcome, may_follow, follows_behind, finishes, Invoking, invoking, InvocationCame, InvocationCameWith}
+use Rattle.machine_hosted.specs.Answers.{Keeps, KeepsThen, last_in, AnswersTo, AdmitsReplies, given_steps, FunctionCame, FunctionCameWith, function_going}
+use Rattle.machine_hosted.specs.Invocations.{HasOutcome, IsEntered, may_follow, follows_behind, finishes, Invoking, invoking, InvocationCame, InvocationCameWith}
 use Rattle.host_devices.specs.Given.{unfitting}
 use Rattle.machine_hosted.proofs.WorldLaws.{one_world, shares_replying}
 
@@ -157,12 +156,30 @@ module _ (p : Program) (codes : List Code) (used_up : Import → Bool) where
   follows_is FuelSpent q s left a = ap (λ s. goes_on (ran_to q s left).outcome (ran_to q s left).entered) (sym a.1)
   follows_is NoMemory q s left a = refl
 
-  ran_came : (q : Bool) (go : Invoking) (fuel : ℕ) (asked : Asked) (answer : RunEnd) (steps : ℕ) (m : Machine) (more : List Reply) (s : Stepped) (left : ℕ) →
+  -- whether the entry was begun
+  begun_in : (q : Bool) (s : Stepped) (left : ℕ) → q ≡ (ran_to q s left).entered
+  begun_in q (next c) left = refl
+  begun_in q (ends w vs co) left = refl
+  begun_in q (traps k c) left = refl
+  begun_in q (no_reply call c) left = refl
+  begun_in q (bad_reply call r c) left = refl
+  begun_in q stuck left = refl
+
+  begun_is : (answer : RunEnd) (q : Bool) (s : Stepped) (left : ℕ) → IsEntered answer q (ran_to q s left)
+  begun_is (Finished v) q s left = begun_in q s left
+  begun_is (Trapped kind) q s left = begun_in q s left
+  begun_is NoReply q s left = begun_in q s left
+  begun_is (DeviceFault name) q s left = begun_in q s left
+  begun_is (BadReply reply) q s left = begun_in q s left
+  begun_is FuelSpent q s left = begun_in q s left
+  begun_is NoMemory q s left = tt
+
+  ran_came : (q begun : Bool) (go : Invoking) (fuel : ℕ) (asked : Asked) (answer : RunEnd) (steps : ℕ) (m : Machine) (more : List Reply) (s : Stepped) (left : ℕ) →
       steps ≤ fuel → go (replies_of asked.given ++ more) (given_steps answer fuel steps) ≡ ran_to q s left → left ≡ given_steps answer fuel steps - steps →
       AnswersTo p used_up answer s → ((c : Config) → last_in s ≡ Some c → KeepsThen p codes answer m c) →
-      served_in s ≡ reverse asked.given → told_in s ≡ reverse asked.told → left_in s ≡ more → RunFits p.module_ s →
-      InvocationCame p codes used_up go fuel asked answer steps (follows_behind answer q) m more
-  ran_came q go fuel asked answer steps m more s left le e l a k given told rest fits =
+      served_in s ≡ reverse asked.given → told_in s ≡ reverse asked.told → left_in s ≡ more → RunFits p.module_ s → IsEntered answer begun (ran_to q s left) →
+      InvocationCame p codes used_up go fuel asked answer steps (follows_behind answer q) begun m more
+  ran_came q begun go fuel asked answer steps m more s left le e l a k given told rest fits is_begun =
       let there = there_is p.module_ s fits in
       record {
         ran = ran_to q s left;
@@ -173,6 +190,7 @@ module _ (p : Program) (codes : List Code) (used_up : Import → Bool) where
         served = sym (served_is q s left ∙ ap reverse given ∙ reverse-reverse asked.given);
         collected = sym (told_is q s left ∙ ap reverse told ∙ reverse-reverse asked.told);
         follows = follows_is answer q s left a;
+        entered_is = is_begun;
         last = there.0;
         last_is = last_is q s left ∙ there.1;
         keeps = k there.0 there.1;
@@ -186,15 +204,16 @@ module _ (p : Program) (codes : List Code) (used_up : Import → Bool) where
     -- ---- without a start function
 
     pub entry_alone : (answer : RunEnd) (steps : ℕ) (m : Machine) (old new : Calls) → FunctionCameWith p codes used_up (function_going M f args w0 []) w0 [] fuel answer steps m old new →
-        InvocationCameWith p codes used_up (invoking M None f args w0) fuel answer steps (follows_behind answer true) m old new
+        InvocationCameWith p codes used_up (invoking M None f args w0) fuel answer steps (follows_behind answer true) true m old new
     entry_alone answer steps m old new h = record {
       asked = h.asked;
       grew = h.grew;
       came = λ more ad.
           let c = h.came more ad in
-          ran_came true (invoking M None f args w0) fuel h.asked answer steps m more c.what (given_steps answer fuel steps - steps) c.within
+          ran_came true true (invoking M None f args w0) fuel h.asked answer steps m more c.what (given_steps answer fuel steps - steps) c.within
           (ap (λ (e : Ended). ran_to true e.what e.left) c.gives) refl c.answers c.keeps
-          (c.served.served ∙ append-nil (reverse h.asked.given)) (c.served.collected ∙ append-nil (reverse h.asked.told)) c.served.left c.fits;
+          (c.served.served ∙ append-nil (reverse h.asked.given)) (c.served.collected ∙ append-nil (reverse h.asked.told)) c.served.left c.fits
+          (begun_is answer true c.what (given_steps answer fuel steps - steps));
     }
 
     module _ (start : ℕ) where
@@ -240,21 +259,21 @@ module _ (p : Program) (codes : List Code) (used_up : Import → Bool) where
       waits (defined body tree type) at w co = record { there = config (entered f body tree type args ∷ []) w co; world = refl; collected = refl; is = ap (λ o. run_function M 0 f o args w co) at }
 
       lacking : (fn : Function) → function_at M.program f ≡ Some fn → (steps : ℕ) (m : Machine) (asked : Asked) (more : List Reply) (s : Stepped) → steps ≤ fuel → go (replies_of asked.given ++ more) steps ≡ go_on M s (steps - steps) f args →
-          served_in s ≡ reverse asked.given → told_in s ≡ reverse asked.told → left_in s ≡ more → RunFits p.module_ s → InvocationCame p codes used_up go fuel asked NoMemory steps false m more
+          served_in s ≡ reverse asked.given → told_in s ≡ reverse asked.told → left_in s ≡ more → RunFits p.module_ s → InvocationCame p codes used_up go fuel asked NoMemory steps false false m more
       lacking fn at steps m asked more (ends w vs co) le e given told rest fits =
           let x = waits fn at w co in
           let z : steps - steps ≡ 0 = omega arith in
-          ran_came true go fuel asked NoMemory steps m more (next x.there) 0 le
+          ran_came true false go fuel asked NoMemory steps m more (next x.there) 0 le
           (e ∙ ap (λ n. run_entry M n f args w co) z ∙ ap (λ (e : Ended). ran_to true e.what e.left) x.is) (sym z) tt (λ c q. tt)
-          (ap (λ (w : World). w.served) x.world ∙ given) (x.collected ∙ told) (ap (λ (w : World). w.replies) x.world ∙ rest) tt
-      lacking fn at steps m asked more (next c) le e given told rest fits = ran_came false go fuel asked NoMemory steps m more (next c) (steps - steps) le e refl tt (λ c q. tt) given told rest fits
-      lacking fn at steps m asked more (traps k c) le e given told rest fits = ran_came false go fuel asked NoMemory steps m more (traps k c) (steps - steps) le e refl tt (λ c q. tt) given told rest fits
-      lacking fn at steps m asked more (no_reply call c) le e given told rest fits = ran_came false go fuel asked NoMemory steps m more (no_reply call c) (steps - steps) le e refl tt (λ c q. tt) given told rest fits
-      lacking fn at steps m asked more (bad_reply call r c) le e given told rest fits = ran_came false go fuel asked NoMemory steps m more (bad_reply call r c) (steps - steps) le e refl tt (λ c q. tt) given told rest fits
+          (ap (λ (w : World). w.served) x.world ∙ given) (x.collected ∙ told) (ap (λ (w : World). w.replies) x.world ∙ rest) tt tt
+      lacking fn at steps m asked more (next c) le e given told rest fits = ran_came false false go fuel asked NoMemory steps m more (next c) (steps - steps) le e refl tt (λ c q. tt) given told rest fits tt
+      lacking fn at steps m asked more (traps k c) le e given told rest fits = ran_came false false go fuel asked NoMemory steps m more (traps k c) (steps - steps) le e refl tt (λ c q. tt) given told rest fits tt
+      lacking fn at steps m asked more (no_reply call c) le e given told rest fits = ran_came false false go fuel asked NoMemory steps m more (no_reply call c) (steps - steps) le e refl tt (λ c q. tt) given told rest fits tt
+      lacking fn at steps m asked more (bad_reply call r c) le e given told rest fits = ran_came false false go fuel asked NoMemory steps m more (bad_reply call r c) (steps - steps) le e refl tt (λ c q. tt) given told rest fits tt
       lacking fn at steps m asked more stuck le e given told rest fits = absurd fits
 
       pub inside_start : (fn : Function) → function_at M.program f ≡ Some fn → (answer : RunEnd) → ((v : Option Value) → answer ≡ Finished v → ⊥) → (steps : ℕ) (m : Machine) (old new : Calls) →
-          FunctionCameWith p codes used_up go_first w0 [] fuel answer steps m old new → InvocationCameWith p codes used_up go fuel answer steps (follows_behind answer false) m old new
+          FunctionCameWith p codes used_up go_first w0 [] fuel answer steps m old new → InvocationCameWith p codes used_up go fuel answer steps (follows_behind answer false) false m old new
       inside_start fn at answer no_end steps m old new h = record { asked = h.asked; grew = h.grew; came = λ more ad. by_answer answer (none answer no_end) more (h.came more ad) }
         where
           none : (answer : RunEnd) → ((v : Option Value) → answer ≡ Finished v → ⊥) → NoEnd answer
@@ -266,13 +285,14 @@ module _ (p : Program) (codes : List Code) (used_up : Import → Bool) where
           none FuelSpent n = tt
           none NoMemory n = tt
 
-          by_stay : (answer : RunEnd) → NoEnd answer → (answer ≡ NoMemory → ⊥) → (more : List Reply) → FunctionCame p codes used_up go_first w0 [] fuel h.asked answer steps m more → InvocationCame p codes used_up go fuel h.asked answer steps (follows_behind answer false) m more
+          by_stay : (answer : RunEnd) → NoEnd answer → (answer ≡ NoMemory → ⊥) → (more : List Reply) → FunctionCame p codes used_up go_first w0 [] fuel h.asked answer steps m more → InvocationCame p codes used_up go fuel h.asked answer steps (follows_behind answer false) false m more
           by_stay answer n ok more c =
-              ran_came false go fuel h.asked answer steps m more c.what (given_steps answer fuel steps - steps) c.within
+              ran_came false false go fuel h.asked answer steps m more c.what (given_steps answer fuel steps - steps) c.within
               (from_first (replies_of h.asked.given ++ more) (given_steps answer fuel steps) c.what (given_steps answer fuel steps - steps) c.gives ∙ stays answer c.what (given_steps answer fuel steps - steps) n ok c.answers) refl c.answers c.keeps
               (c.served.served ∙ append-nil (reverse h.asked.given)) (c.served.collected ∙ append-nil (reverse h.asked.told)) c.served.left c.fits
+              (begun_is answer false c.what (given_steps answer fuel steps - steps))
 
-          by_answer : (answer : RunEnd) → NoEnd answer → (more : List Reply) → FunctionCame p codes used_up go_first w0 [] fuel h.asked answer steps m more → InvocationCame p codes used_up go fuel h.asked answer steps (follows_behind answer false) m more
+          by_answer : (answer : RunEnd) → NoEnd answer → (more : List Reply) → FunctionCame p codes used_up go_first w0 [] fuel h.asked answer steps m more → InvocationCame p codes used_up go fuel h.asked answer steps (follows_behind answer false) false m more
           by_answer (Finished v) n more c = absurd n
           by_answer (Trapped kind) n more c = by_stay (Trapped kind) n (λ e. cc) more c
           by_answer NoReply n more c = by_stay NoReply n (λ e. cc) more c
@@ -328,7 +348,7 @@ module _ (p : Program) (codes : List Code) (used_up : Import → Bool) where
 
           both : (asked : Asked) (more : List Reply) → FunctionCame p codes first_up go_first w0 [] fuel first_asked (Finished v) made mid (replies_of asked.given ++ more) →
               FunctionCame p codes used_up (function_going M f args w1 co1) w1 co1 (fuel - made) asked answer steps m more →
-              InvocationCame p codes used_up go fuel (record { given = first_asked.given ++ asked.given; told = first_asked.told ++ asked.told }) answer (made + steps) (follows_behind answer true) m more
+              InvocationCame p codes used_up go fuel (record { given = first_asked.given ++ asked.given; told = first_asked.told ++ asked.told }) answer (made + steps) (follows_behind answer true) true m more
           both asked more a b =
               let e = a.answers in
               let k = a.keeps (config [] e.0 e.2) (ap last_in e.3) in
@@ -339,7 +359,7 @@ module _ (p : Program) (codes : List Code) (used_up : Import → Bool) where
               let n = given_steps answer (fuel - made) steps in
               let ended_there : go_first (replies_of first_asked.given ++ (replies_of asked.given ++ more)) (given_steps answer fuel (made + steps)) ≡ ended (ends e.0 e.1 e.2) (given_steps answer (fuel - made) steps) =
               long_enough answer steps (replies_of first_asked.given ++ (replies_of asked.given ++ more)) e.0 e.1 e.2 a.within b.within (a.gives ∙ ap (λ s. ended s (fuel - made)) e.3) in
-              ran_came true go fuel (record { given = first_asked.given ++ asked.given; told = first_asked.told ++ asked.told }) answer (made + steps) m more b.what (given_steps answer (fuel - made) steps - steps) (omega (arith, a.within, b.within))
+              ran_came true true go fuel (record { given = first_asked.given ++ asked.given; told = first_asked.told ++ asked.told }) answer (made + steps) m more b.what (given_steps answer (fuel - made) steps - steps) (omega (arith, a.within, b.within))
               (ap (λ l. go l (given_steps answer fuel (made + steps))) (replies_joined asked.given more)
               ∙ from_first (replies_of first_asked.given ++ (replies_of asked.given ++ more)) (given_steps answer fuel (made + steps)) (ends e.0 e.1 e.2) (given_steps answer (fuel - made) steps) ended_there
               ∙ ap₂ (λ u uo. run_entry M (given_steps answer (fuel - made) steps) f args u uo) world_is told_is
@@ -347,29 +367,15 @@ module _ (p : Program) (codes : List Code) (used_up : Import → Bool) where
               (left_over answer steps a.within b.within) b.answers b.keeps
               (b.served.served ∙ ap (λ l. reverse asked.given ++ l) (append-nil (reverse first_asked.given)) ∙ sym (reverse-append first_asked.given asked.given))
               (b.served.collected ∙ ap (λ l. reverse asked.told ++ l) (append-nil (reverse first_asked.told)) ∙ sym (reverse-append first_asked.told asked.told))
-              b.served.left b.fits
+              b.served.left b.fits (begun_is answer true b.what (given_steps answer (fuel - made) steps - steps))
 
           pub behind_start : (a : (more : List Reply) → FunctionCame p codes first_up go_first w0 [] fuel first_asked (Finished v) made mid more) → Grew first_asked old middle →
-              FunctionCameWith p codes used_up (function_going M f args w1 co1) w1 co1 (fuel - made) answer steps m middle new → InvocationCameWith p codes used_up go fuel answer (made + steps) (follows_behind answer true) m old new
+              FunctionCameWith p codes used_up (function_going M f args w1 co1) w1 co1 (fuel - made) answer steps m middle new → InvocationCameWith p codes used_up go fuel answer (made + steps) (follows_behind answer true) true m old new
           behind_start a g b = record {
             asked = record { given = first_asked.given ++ b.asked.given; told = first_asked.told ++ b.asked.told };
             grew = joined b.asked g b.grew;
             came = λ more ad. both b.asked more (a (replies_of b.asked.given ++ more)) (b.came more ad);
           }
-
--- ---- faults
-
-rose_later : (a b c : ℕ) → a ≤ b → Rose b c → Rose a c
-rose_later a b c le h = omega (arith, le, h)
-
-pub cause_later : (answer : RunEnd) (a b c : List ℕ → ℕ) → ((name : List ℕ) → a name ≤ b name) → HasCause answer b c → HasCause answer a c
-cause_later (DeviceFault name) a b c le h = rose_later (a name) (b name) (c name) (le name) h
-cause_later (Finished v) a b c le h = tt
-cause_later (Trapped kind) a b c le h = tt
-cause_later NoReply a b c le h = tt
-cause_later (BadReply reply) a b c le h = tt
-cause_later FuelSpent a b c le h = tt
-cause_later NoMemory a b c le h = tt
 
 -- ---- answers
 

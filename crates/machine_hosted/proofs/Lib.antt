@@ -1,3 +1,4 @@
+pub mod HostLaws
 pub mod ReplyLaws
 pub mod WriteLaws
 pub mod MeetLaws

@@ -1,7 +1,8 @@
 -- A run as a family over the replies that are left: how far it has come, whatever these are.
 use Rattle.std.proofs.Common.{◌≡◌, ◌≢◌, ℕ, suc, ◌+◌, ◌-◌, ◌≤◌, ◌<◌, List, [], ◌∷◌, ◌++◌, reverse, refl, sym, ap, subst, ◌∙◌, append_assoc, arith}
 use Rattle.std.proofs.lemmas.List.{reverse-append, map-append}
-use Rattle.std.specs.Prelude.{Bool}
+use Rattle.std.specs.Prelude.{Bool, slice_get}
+use Rattle.wasm_syntax.specs.declared.value.Value.{Value}
 use Rattle.wasm_syntax.specs.declared.parts.Import.{Import}
 use Rattle.wasm_syntax.specs.declared.parts.FuncType.{FuncType}
 use Rattle.wasm_syntax.specs.declared.module.ModuleParts.{ModuleParts as Module}
@@ -9,7 +10,7 @@ use Rattle.wasm_syntax.specs.declared.host.Reply.{Reply}
 use Rattle.wasm_syntax.specs.declared.host.Served.{Served as Given}
 use Rattle.wasm_syntax.specs.declared.host.CollectorCall.{CollectorCall}
 use Rattle.wasm_syntax.specs.Host.{World}
-use Rattle.wasm_syntax.specs.Machine.{Engine, Frame, Config, config, Stepped, next, ends, traps, no_reply, bad_reply, stuck, step}
+use Rattle.wasm_syntax.specs.Machine.{Engine, Frame, Config, config, Stepped, next, ends, traps, no_reply, bad_reply, stuck, step, first}
 use Rattle.wasm_syntax.specs.Run.{run_steps, run_on, ended}
 use Rattle.machine_basics.specs.Traps.{trap_code}
 use Rattle.machine_basics.specs.declared.answer.TrapKind.{TrapKind}
@@ -24,12 +25,14 @@ use Rattle.machine_steps.specs.inner.Runs as runs
 use Rattle.machine_steps.specs.inner.Runs.{Begins, Leads, Stops}
 use Rattle.machine_hosted.proofs.SafeLaws.{reached}
 use Rattle.host_devices.specs.HostSides.{Calls}
-use Rattle.machine_hosted.specs.declared.halt.Halt.{Halt}
-use Rattle.machine_hosted.specs.declared.halt.Halt.TheVariants as halts
-use Rattle.machine_hosted.specs.declared.turn.Turn.TheVariants.{Goes, Halts}
-use Rattle.machine_hosted.specs.Hosted.{replying, Asked, Grew, Served, Tells, steps_given, Came, CameWith}
+use Rattle.machine_hosted.specs.declared.answer.RunEnd.{RunEnd}
+use Rattle.machine_hosted.specs.declared.answer.RunEnd.TheVariants as answers
+use Rattle.machine_hosted.specs.declared.turn.Turn.TheVariants.{Goes, Ends}
+use Rattle.machine_hosted.specs.Hosted.{replying, Asked, Grew, Served}
+use Rattle.machine_hosted.specs.Answers.{given_steps}
+use Rattle.machine_hosted.specs.inner.FrameRuns.{Tells, Came, CameWith}
 use Rattle.host_devices.specs.Given.{replies_of}
-use Rattle.machine_hosted.specs.inner.Turns.{Setting, Ready, Calling, going, nothing, Turned, TurnedWith, HasCause}
+use Rattle.machine_hosted.specs.inner.Turns.{Setting, Ready, Calling, going, nothing, Turned, TurnedWith}
 use Rattle.machine_hosted.specs.inner.Turns as turns
 
 -- ---- what was asked, one after the other
@@ -91,14 +94,18 @@ module _ (M : Engine) (codes : List Code) where
       let z : 0 ≡ n - n = omega arith in
       ap (λ j. run_steps M j c) e ∙ leads 0 ∙ ap (ended (next c')) z
 
-enough : (halt : Halt) (fuel n : ℕ) → n ≤ fuel → n ≤ steps_given halt fuel n
-enough halts.NoMemory fuel n le = omega arith
-enough halts.Spent fuel n le = le
-enough halts.Ended fuel n le = le
-enough (halts.Trap kind) fuel n le = le
-enough halts.NoReply fuel n le = le
-enough (halts.Failed name) fuel n le = le
-enough (halts.Misfit reply) fuel n le = le
+enough : (answer : RunEnd) (fuel n : ℕ) → n ≤ fuel → n ≤ given_steps answer fuel n
+enough answers.NoMemory fuel n le = omega arith
+enough answers.FuelSpent fuel n le = le
+enough (answers.Finished value) fuel n le = le
+enough (answers.Trapped kind) fuel n le = le
+enough answers.NoReply fuel n le = le
+enough (answers.DeviceFault name) fuel n le = le
+enough (answers.BadReply reply) fuel n le = le
+
+first_is : (vs : List Value) → slice_get vs 0 ≡ first vs
+first_is [] = refl
+first_is (v ∷ vs) = refl
 
 -- ---- how far a run has come
 
@@ -122,11 +129,11 @@ module _ (M : Engine) (codes : List Code) (fs : List Frame) (w : World) (co : Li
     pub grew : Grew asked old new
     pub reaches : (more : List Reply) → Reaches asked n m more
 
-  abbrev pub Comes : (used_up : Import → Bool) (fuel : ℕ) → Asked → Halt → ℕ → Machine → List Reply → Type 0
-  Comes used_up fuel asked halt steps m more = Came M.program codes used_up (going M fs w co) w co fuel asked halt steps m more
+  abbrev pub Comes : (used_up : Import → Bool) (fuel : ℕ) → Asked → RunEnd → ℕ → Machine → List Reply → Type 0
+  Comes used_up fuel asked answer steps m more = Came M.program codes used_up (going M fs w co) w co fuel asked answer steps m more
 
-  abbrev pub ComesWith : (used_up : Import → Bool) (fuel : ℕ) → Halt → ℕ → Machine → Calls → Calls → Type 0
-  ComesWith used_up fuel halt steps m old new = CameWith M.program codes used_up (going M fs w co) w co fuel halt steps m old new
+  abbrev pub ComesWith : (used_up : Import → Bool) (fuel : ℕ) → RunEnd → ℕ → Machine → Calls → Calls → Type 0
+  ComesWith used_up fuel answer steps m old new = CameWith M.program codes used_up (going M fs w co) w co fuel answer steps m old new
 
   pub at_first : (m : Machine) (calls : Calls) → ((replies : List Reply) → StandsFor M.program codes m (config fs (replying w replies) co)) → SoFar 0 m calls calls
   at_first m calls stands = record {
@@ -149,7 +156,7 @@ module _ (M : Engine) (codes : List Code) (fs : List Frame) (w : World) (co : Li
   -- ---- ends between steps
 
   -- memory ran out
-  pub lacking : (used_up : Import → Bool) (fuel n : ℕ) (m m' : Machine) (old new : Calls) → n ≤ fuel → SoFar n m old new → ComesWith used_up fuel halts.NoMemory n m' old new
+  pub lacking : (used_up : Import → Bool) (fuel n : ℕ) (m m' : Machine) (old new : Calls) → n ≤ fuel → SoFar n m old new → ComesWith used_up fuel answers.NoMemory n m' old new
   lacking used_up fuel n m m' old new le s = record {
     asked = s.asked;
     grew = s.grew;
@@ -162,7 +169,7 @@ module _ (M : Engine) (codes : List Code) (fs : List Frame) (w : World) (co : Li
     };
   }
 
-  pub spent : (used_up : Import → Bool) (fuel n : ℕ) (m : Machine) (old new : Calls) → n ≡ fuel → SoFar n m old new → ComesWith used_up fuel halts.Spent fuel m old new
+  pub spent : (used_up : Import → Bool) (fuel n : ℕ) (m : Machine) (old new : Calls) → n ≡ fuel → SoFar n m old new → ComesWith used_up fuel answers.FuelSpent fuel m old new
   spent used_up fuel n m old new e s = record {
     asked = s.asked;
     grew = s.grew;
@@ -204,13 +211,13 @@ module _ (M : Engine) (codes : List Code) (fs : List Frame) (w : World) (co : Li
       };
     }
 
-    pub run_spends : (used_up : Import → Bool) (fuel k : ℕ) (m' : Machine) → n ≤ fuel → ((more : List Reply) → runs.Came M codes (s.reaches more).there (fuel - n) outcomes.Next k m') → ComesWith used_up fuel halts.Spent fuel m' old mid
+    pub run_spends : (used_up : Import → Bool) (fuel k : ℕ) (m' : Machine) → n ≤ fuel → ((more : List Reply) → runs.Came M codes (s.reaches more).there (fuel - n) outcomes.Next k m') → ComesWith used_up fuel answers.FuelSpent fuel m' old mid
     run_spends used_up fuel k m' le t =
         let l : k ≡ fuel - n = (t []).0 in
         let e : n + k ≡ fuel = omega (arith, l, le) in
         spent used_up fuel (n + k) m' old mid e (run_goes k m' (λ more. (t more).1))
 
-    pub run_ends : (used_up : Import → Bool) (fuel k : ℕ) (m' : Machine) → n ≤ fuel → ((more : List Reply) → runs.Came M codes (s.reaches more).there (fuel - n) outcomes.Ended k m') → ComesWith used_up fuel halts.Ended (n + k) m' old mid
+    pub run_ends : (used_up : Import → Bool) (fuel k : ℕ) (m' : Machine) → n ≤ fuel → ((more : List Reply) → runs.Came M codes (s.reaches more).there (fuel - n) outcomes.Ended k m') → ComesWith used_up fuel (answers.Finished (slice_get m'.stack.values 0)) (n + k) m' old mid
     run_ends used_up fuel k m' le t = record {
       asked = s.asked;
       grew = s.grew;
@@ -219,12 +226,12 @@ module _ (M : Engine) (codes : List Code) (fs : List Frame) (w : World) (co : Li
         within = within;
         gives = at_stop M codes (config fs (replying w (replies_of s.asked.given ++ more)) co) (ends q.world q.results q.collected) (n + k) fuel within
             (stops_on M codes (config fs (replying w (replies_of s.asked.given ++ more)) co) r.there (ends q.world q.results q.collected) n k r.leads q.stops);
-        tells = record { values = q.left.values; controls = q.left.controls; frames = q.left.frames; shares = q.left.shares };
+        tells = record { value_is = ap (λ (l : List Value). slice_get l 0) q.left.values ∙ first_is q.results; frames = q.left.frames; shares = q.left.shares };
         served = record { served = q.left.host.served ∙ r.served; collected = q.left.host.collected ∙ r.collected; left = q.left.host.replies ∙ r.replies };
       };
     }
 
-    pub run_traps : (used_up : Import → Bool) (kind : TrapKind) (fuel k : ℕ) (m' : Machine) → n ≤ fuel → ((more : List Reply) → runs.Came M codes (s.reaches more).there (fuel - n) (outcomes.Trap kind) k m') → ComesWith used_up fuel (halts.Trap kind) (n + k) m' old mid
+    pub run_traps : (used_up : Import → Bool) (kind : TrapKind) (fuel k : ℕ) (m' : Machine) → n ≤ fuel → ((more : List Reply) → runs.Came M codes (s.reaches more).there (fuel - n) (outcomes.Trap kind) k m') → ComesWith used_up fuel (answers.Trapped kind) (n + k) m' old mid
     run_traps used_up kind fuel k m' le t = record {
       asked = s.asked;
       grew = s.grew;
@@ -261,7 +268,7 @@ module _ (M : Engine) (codes : List Code) (fs : List Frame) (w : World) (co : Li
     turn_reaches : (used_up : Import → Bool) (m' : Machine) (asked : Asked) (more : List Reply) → Turned M codes used_up asked Goes (s.reaches (replies_of asked.given ++ more)).there m' more → Reaches (joined s.asked asked) (n + 1) m' more
     turn_reaches used_up m' asked more t = by_cases t.what t.is t.tells t.served
       where
-        by_cases : (what : Stepped) → step M (s.reaches (replies_of asked.given ++ more)).there ≡ what → Tells M.program codes used_up halts.Spent what m' →
+        by_cases : (what : Stepped) → step M (s.reaches (replies_of asked.given ++ more)).there ≡ what → Tells M.program codes used_up answers.FuelSpent what m' →
             Served asked (s.reaches (replies_of asked.given ++ more)).there.world (s.reaches (replies_of asked.given ++ more)).there.collected more what → Reaches (joined s.asked asked) (n + 1) m' more
         by_cases (next c) e tells served = let r = s.reaches (replies_of asked.given ++ more) in record {
           there = c;
@@ -285,8 +292,8 @@ module _ (M : Engine) (codes : List Code) (fs : List Frame) (w : World) (co : Li
       reaches = λ more. turn_reaches used_up m' t.asked more (t.turned more tt);
     }
 
-    turn_comes : (used_up : Import → Bool) (halt : Halt) (fuel : ℕ) (m' : Machine) (asked : Asked) (more : List Reply) → n < fuel → Turned M codes used_up asked (Halts halt) (s.reaches (replies_of asked.given ++ more)).there m' more → Comes used_up fuel (joined s.asked asked) halt (n + 1) m' more
-    turn_comes used_up halt fuel m' asked more lt t = by_cases halt t.what t.is t.stops t.tells t.served
+    turn_comes : (used_up : Import → Bool) (answer : RunEnd) (fuel : ℕ) (m' : Machine) (asked : Asked) (more : List Reply) → n < fuel → Turned M codes used_up asked (Ends answer) (s.reaches (replies_of asked.given ++ more)).there m' more → Comes used_up fuel (joined s.asked asked) answer (n + 1) m' more
+    turn_comes used_up answer fuel m' asked more lt t = by_cases answer t.what t.is t.stops t.tells t.served
       where
         gives_next : (c : Config) → step M (s.reaches (replies_of asked.given ++ more)).there ≡ next c → run_steps M (n + 1) (config fs (replying w (replies_of (s.asked.given ++ asked.given) ++ more)) co) ≡ ended (next c) (n + 1 - (n + 1))
         gives_next c e = let r = s.reaches (replies_of asked.given ++ more) in
@@ -308,36 +315,36 @@ module _ (M : Engine) (codes : List Code) (fs : List Frame) (w : World) (co : Li
         }
 
         -- the step ends the run
-        by_end : (halt : Halt) (what : Stepped) → ends_here what → step M (s.reaches (replies_of asked.given ++ more)).there ≡ what → Tells M.program codes used_up halt what m' →
-            Served asked (s.reaches (replies_of asked.given ++ more)).there.world (s.reaches (replies_of asked.given ++ more)).there.collected more what → Comes used_up fuel (joined s.asked asked) halt (n + 1) m' more
-        by_end halt what h e tells served =
+        by_end : (answer : RunEnd) (what : Stepped) → ends_here what → step M (s.reaches (replies_of asked.given ++ more)).there ≡ what → Tells M.program codes used_up answer what m' →
+            Served asked (s.reaches (replies_of asked.given ++ more)).there.world (s.reaches (replies_of asked.given ++ more)).there.collected more what → Comes used_up fuel (joined s.asked asked) answer (n + 1) m' more
+        by_end answer what h e tells served =
             let le : n + 1 ≤ fuel = omega (arith, lt) in
-            record { what = what; within = le; gives = gives_end what (steps_given halt fuel (n + 1)) h (enough halt fuel (n + 1) le) e; tells = tells; served = served_on what served }
+            record { what = what; within = le; gives = gives_end what (given_steps answer fuel (n + 1)) h (enough answer fuel (n + 1) le) e; tells = tells; served = served_on what served }
 
-        by_next : (halt : Halt) (c : Config) → step M (s.reaches (replies_of asked.given ++ more)).there ≡ next c → turns.Stops halt → Tells M.program codes used_up halt (next c) m' →
-            Served asked (s.reaches (replies_of asked.given ++ more)).there.world (s.reaches (replies_of asked.given ++ more)).there.collected more (next c) → Comes used_up fuel (joined s.asked asked) halt (n + 1) m' more
-        by_next halts.NoMemory c e stops tells served = let le : n + 1 ≤ fuel = omega (arith, lt) in record { what = next c; within = le; gives = gives_next c e; tells = tt; served = served_on (next c) served }
-        by_next halts.Spent c e stops tells served = absurd stops
-        by_next halts.Ended c e stops tells served = absurd tells
-        by_next (halts.Trap kind) c e stops tells served = absurd tells
-        by_next halts.NoReply c e stops tells served = absurd tells
-        by_next (halts.Failed name) c e stops tells served = absurd tells
-        by_next (halts.Misfit reply) c e stops tells served = absurd tells
+        by_next : (answer : RunEnd) (c : Config) → step M (s.reaches (replies_of asked.given ++ more)).there ≡ next c → turns.Stops answer → Tells M.program codes used_up answer (next c) m' →
+            Served asked (s.reaches (replies_of asked.given ++ more)).there.world (s.reaches (replies_of asked.given ++ more)).there.collected more (next c) → Comes used_up fuel (joined s.asked asked) answer (n + 1) m' more
+        by_next answers.NoMemory c e stops tells served = let le : n + 1 ≤ fuel = omega (arith, lt) in record { what = next c; within = le; gives = gives_next c e; tells = tt; served = served_on (next c) served }
+        by_next answers.FuelSpent c e stops tells served = absurd stops
+        by_next (answers.Finished value) c e stops tells served = absurd tells
+        by_next (answers.Trapped kind) c e stops tells served = absurd tells
+        by_next answers.NoReply c e stops tells served = absurd tells
+        by_next (answers.DeviceFault name) c e stops tells served = absurd tells
+        by_next (answers.BadReply reply) c e stops tells served = absurd tells
 
-        by_cases : (halt : Halt) (what : Stepped) → step M (s.reaches (replies_of asked.given ++ more)).there ≡ what → turns.Stops halt → Tells M.program codes used_up halt what m' →
-            Served asked (s.reaches (replies_of asked.given ++ more)).there.world (s.reaches (replies_of asked.given ++ more)).there.collected more what → Comes used_up fuel (joined s.asked asked) halt (n + 1) m' more
-        by_cases halt (next c) e stops tells served = by_next halt c e stops tells served
-        by_cases halt (ends v vs do_) e stops tells served = by_end halt (ends v vs do_) tt e tells served
-        by_cases halt (traps j c) e stops tells served = by_end halt (traps j c) tt e tells served
-        by_cases halt (no_reply call c) e stops tells served = by_end halt (no_reply call c) tt e tells served
-        by_cases halt (bad_reply call reply c) e stops tells served = by_end halt (bad_reply call reply c) tt e tells served
-        by_cases halt stuck e stops tells served = by_end halt stuck tt e tells served
+        by_cases : (answer : RunEnd) (what : Stepped) → step M (s.reaches (replies_of asked.given ++ more)).there ≡ what → turns.Stops answer → Tells M.program codes used_up answer what m' →
+            Served asked (s.reaches (replies_of asked.given ++ more)).there.world (s.reaches (replies_of asked.given ++ more)).there.collected more what → Comes used_up fuel (joined s.asked asked) answer (n + 1) m' more
+        by_cases answer (next c) e stops tells served = by_next answer c e stops tells served
+        by_cases answer (ends v vs do_) e stops tells served = by_end answer (ends v vs do_) tt e tells served
+        by_cases answer (traps j c) e stops tells served = by_end answer (traps j c) tt e tells served
+        by_cases answer (no_reply call c) e stops tells served = by_end answer (no_reply call c) tt e tells served
+        by_cases answer (bad_reply call reply c) e stops tells served = by_end answer (bad_reply call reply c) tt e tells served
+        by_cases answer stuck e stops tells served = by_end answer stuck tt e tells served
 
-    pub turn_halts : (used_up : Import → Bool) (halt : Halt) (fuel : ℕ) (m' : Machine) (new : Calls) → n < fuel → TurnedWith M codes used_up (Halts halt) (λ more. (s.reaches more).there) m' mid new → ComesWith used_up fuel halt (n + 1) m' old new
-    turn_halts used_up halt fuel m' new lt t = record {
+    pub turn_ends : (used_up : Import → Bool) (answer : RunEnd) (fuel : ℕ) (m' : Machine) (new : Calls) → n < fuel → TurnedWith M codes used_up (Ends answer) (λ more. (s.reaches more).there) m' mid new → ComesWith used_up fuel answer (n + 1) m' old new
+    turn_ends used_up answer fuel m' new lt t = record {
       asked = joined s.asked t.asked;
       grew = grew_on s.asked t.asked old mid new s.grew t.grew;
-      came = λ more admits. turn_comes used_up halt fuel m' t.asked more lt (t.turned more admits);
+      came = λ more admits. turn_comes used_up answer fuel m' t.asked more lt (t.turned more admits);
     }
 
 -- ---- safety
@@ -360,15 +367,6 @@ setting_on M source collecting collecting' serving serving' s c e = record {
   serves = λ f i t a b. e i t ∙ s.serves f i t a b;
   few = s.few;
 }
-
-pub cause_on : (halt : Halt) (old mid new : List ℕ → ℕ) → ((name : List ℕ) → old name ≤ mid name) → HasCause halt mid new → HasCause halt old new
-cause_on (halts.Failed name) old mid new le h = let l = le name in omega (arith, l, h)
-cause_on halts.Spent old mid new le h = tt
-cause_on halts.Ended old mid new le h = tt
-cause_on (halts.Trap kind) old mid new le h = tt
-cause_on halts.NoReply old mid new le h = tt
-cause_on (halts.Misfit reply) old mid new le h = tt
-cause_on halts.NoMemory old mid new le h = tt
 
 -- ---- the call of an import, as the code that serves it takes it
 

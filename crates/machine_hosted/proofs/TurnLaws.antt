@@ -20,9 +20,9 @@ use Rattle.machine_steps.specs.Meets.{StandsFor}
 use Rattle.machine_hosted.specs.declared.reply.Replied.{Replied}
 use Rattle.machine_hosted.specs.declared.reply.Replied.TheVariants as replies
 use Rattle.machine_hosted.specs.inner.Meets.{NotCollected, MeetsReply}
-use Rattle.machine_hosted.specs.declared.halt.Halt.TheVariants as halts
+use Rattle.machine_hosted.specs.declared.answer.RunEnd.TheVariants as answers
 use Rattle.machine_hosted.specs.declared.turn.Turn.{Turn}
-use Rattle.machine_hosted.specs.declared.turn.Turn.TheVariants.{Goes, Halts}
+use Rattle.machine_hosted.specs.declared.turn.Turn.TheVariants.{Goes, Ends}
 use Rattle.machine_hosted.specs.inner.Turns.{AtCall, told_by, nothing, one_reply, one_told, Turned}
 use Rattle.machine_hosted.proofs.CallLaws.{same_types_of}
 use Rattle.machine_hosted.proofs.CollectorLaws.{unheard}
@@ -30,8 +30,8 @@ use Rattle.machine_hosted.proofs.CollectorLaws.{unheard}
 -- what came of a reply
 abbrev pub turn_of : Replied → Reply → Turn
 turn_of replies.Done reply = Goes
-turn_of replies.Misfit reply = Halts (halts.Misfit reply)
-turn_of replies.NoMemory reply = Halts halts.NoMemory
+turn_of replies.Misfit reply = Ends (answers.BadReply reply)
+turn_of replies.NoMemory reply = Ends answers.NoMemory
 
 module _ (M : Engine) (codes : List Code) (call : ImportCall) (import : Import) (type : FuncType) (args : List Value) (m : Machine) (c : Config) (used_up : Import → Bool) (k : AtCall M codes call import type args m c) where
   abbrev the_call : HostCall
@@ -103,14 +103,14 @@ module _ (M : Engine) (codes : List Code) (call : ImportCall) (import : Import) 
         Turned M codes used_up (one_told kept) Goes c m' c.world.replies
     told_goes stands = record { what = next (behind_it None c.world (kept ∷ c.collected)); is = by_told (Some kept) some; stops = tt; tells = stands; served = record { served = refl; collected = refl; left = refl } }
 
-    pub told_lacks : Turned M codes used_up (one_told kept) (Halts halts.NoMemory) c m' c.world.replies
+    pub told_lacks : Turned M codes used_up (one_told kept) (Ends answers.NoMemory) c m' c.world.replies
     told_lacks = record { what = next (behind_it None c.world (kept ∷ c.collected)); is = by_told (Some kept) some; stops = tt; tells = tt; served = record { served = refl; collected = refl; left = refl } }
 
   -- ---- no reply
 
   module _ (none : told_by M (host_call call.function import type args) ≡ None) (e : c.world.replies ≡ []) where
-    pub silent_turns : slice_get M.program.module_.imports call.function ≡ Some import → used_up import ≡ true → Turned M codes used_up nothing (Halts halts.NoReply) c m []
+    pub silent_turns : slice_get M.program.module_.imports call.function ≡ Some import → used_up import ≡ true → Turned M codes used_up nothing (Ends answers.NoReply) c m []
     silent_turns is none_left = record { what = no_reply the_call at_it; is = by_replies [] none e; stops = tt; tells = (stands_still, (import, is, none_left)); served = record { served = refl; collected = refl; left = e } }
 
-    pub failed_turns : (name : List ℕ) → slice_get M.program.module_.imports call.function ≡ Some import → name ≡ import.«module» → used_up import ≡ false → Turned M codes used_up nothing (Halts (halts.Failed name)) c m []
+    pub failed_turns : (name : List ℕ) → slice_get M.program.module_.imports call.function ≡ Some import → name ≡ import.«module» → used_up import ≡ false → Turned M codes used_up nothing (Ends (answers.DeviceFault name)) c m []
     failed_turns name is same some_left = record { what = no_reply the_call at_it; is = by_replies [] none e; stops = tt; tells = ((import, is, same, some_left), stands_still); served = record { served = refl; collected = refl; left = e } }

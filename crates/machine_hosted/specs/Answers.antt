@@ -18,23 +18,11 @@ use Rattle.machine_steps.specs.declared.machine.Machine.{Machine}
 use Rattle.machine_steps.specs.Meets.{StandsFor, Shares}
 use Rattle.machine_hosted.specs.Safe.{RunFits}
 use Rattle.host_devices.specs.HostSides.{Calls}
-use Rattle.machine_hosted.specs.declared.halt.Halt.{Halt}
-use Rattle.machine_hosted.specs.declared.halt.Halt.TheVariants as halts
 use Rattle.machine_hosted.specs.Hosted.{Going, replying, Asked, Grew, Served, IsFaultOf, IsUsedUp}
 use Rattle.host_devices.specs.Given.{replies_of}
 use Rattle.machine_hosted.specs.Settings.{MachineFits}
 use Rattle.machine_hosted.specs.declared.answer.RunEnd.{RunEnd}
 use Rattle.machine_hosted.specs.declared.answer.RunEnd.TheVariants.{Finished, Trapped, NoReply, BadReply, DeviceFault, FuelSpent, NoMemory}
-
--- the answer behind a run of frames, with the value on top of the machine's values
-abbrev pub answer_of : Halt → Option Value → RunEnd
-answer_of halts.Spent value = FuelSpent
-answer_of halts.Ended value = Finished value
-answer_of (halts.Trap kind) value = Trapped kind
-answer_of halts.NoReply value = NoReply
-answer_of (halts.Failed name) value = DeviceFault name
-answer_of (halts.Misfit reply) value = BadReply reply
-answer_of halts.NoMemory value = NoMemory
 
 -- ---- what the machine keeps
 

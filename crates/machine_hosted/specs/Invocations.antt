@@ -39,6 +39,16 @@ may_follow (DeviceFault name) r = goes_on r.outcome r.entered
 may_follow (BadReply reply) r = goes_on r.outcome r.entered
 may_follow FuelSpent r = goes_on r.outcome r.entered
 
+-- whether the entry was begun, behind the start function; with want of memory nothing is said
+abbrev pub IsEntered : RunEnd → (entered : Bool) → Ran → Type 0
+IsEntered NoMemory entered r = Unit {0}
+IsEntered (Finished value) entered r = entered ≡ r.entered
+IsEntered (Trapped kind) entered r = entered ≡ r.entered
+IsEntered NoReply entered r = entered ≡ r.entered
+IsEntered (DeviceFault name) entered r = entered ≡ r.entered
+IsEntered (BadReply reply) entered r = entered ≡ r.entered
+IsEntered FuelSpent entered r = entered ≡ r.entered
+
 -- the function gave its result
 abbrev pub finishes : RunEnd → Bool
 finishes (Finished value) = true
@@ -65,7 +75,7 @@ Invoking = List Reply → ℕ → Ran
 
 -- The invocation came to this after so many steps, with these calls, whatever replies were left behind those that were given. With want of
 -- memory it is what some number of steps comes to.
-pub record InvocationCame (p : Program) (codes : List Code) (used_up : Import → Bool) (go : Invoking) (fuel : ℕ) (asked : Asked) (answer : RunEnd) (steps : ℕ) (ready : Bool) (m : Machine) (more : List Reply) : Type 0 where
+pub record InvocationCame (p : Program) (codes : List Code) (used_up : Import → Bool) (go : Invoking) (fuel : ℕ) (asked : Asked) (answer : RunEnd) (steps : ℕ) (ready entered : Bool) (m : Machine) (more : List Reply) : Type 0 where
   pub ran : Ran
   pub within : steps ≤ fuel
   pub gives : go (replies_of asked.given ++ more) (given_steps answer fuel steps) ≡ ran
@@ -74,16 +84,17 @@ pub record InvocationCame (p : Program) (codes : List Code) (used_up : Import �
   pub served : asked.given ≡ ran.served ++ unfitting ran.outcome
   pub collected : asked.told ≡ ran.collected
   pub follows : ready ≡ may_follow answer ran
+  pub entered_is : IsEntered answer entered ran
   pub last : Config
   pub last_is : ran.last ≡ Some last
   pub keeps : KeepsThen p codes answer m last
   -- the replies that were not asked for
   pub replies : drop (length (unfitting ran.outcome)) last.world.replies ≡ more
 
-pub record InvocationCameWith (p : Program) (codes : List Code) (used_up : Import → Bool) (go : Invoking) (fuel : ℕ) (answer : RunEnd) (steps : ℕ) (ready : Bool) (m : Machine) (old new : Calls) : Type 0 where
+pub record InvocationCameWith (p : Program) (codes : List Code) (used_up : Import → Bool) (go : Invoking) (fuel : ℕ) (answer : RunEnd) (steps : ℕ) (ready entered : Bool) (m : Machine) (old new : Calls) : Type 0 where
   pub asked : Asked
   pub grew : Grew asked old new
-  pub came : (more : List Reply) → AdmitsReplies answer more → InvocationCame p codes used_up go fuel asked answer steps ready m more
+  pub came : (more : List Reply) → AdmitsReplies answer more → InvocationCame p codes used_up go fuel asked answer steps ready entered m more
 
 abbrev pub invoking : Engine → Option ℕ → ℕ → List Value → World → Invoking
 invoking M start f args w replies n = invoked M start n f args (replying w replies)

@@ -1,5 +1,5 @@
 -- What a run begins with.
-use Rattle.std.specs.Prelude.{◌≡◌, ℕ, ◌+◌, ◌<◌, ◌^◌, Bool, true, List, [], length, option_map, slice_get, Some}
+use Rattle.std.specs.Prelude.{◌≡◌, ℕ, ◌+◌, ◌<◌, ◌≤◌, ◌^◌, Bool, true, List, [], length, option_map, slice_get, Some}
 use Rattle.wasm_syntax.specs.declared.value.Value.{Value}
 use Rattle.wasm_syntax.specs.declared.parts.Import.{Import}
 use Rattle.wasm_syntax.specs.declared.parts.FuncType.{FuncType}
@@ -9,6 +9,7 @@ use Rattle.wasm_syntax.specs.Numbers.{types}
 use Rattle.wasm_syntax.specs.Module.{Program, IsProgram, IsModule, type_at}
 use Rattle.wasm_syntax.specs.Valid.{Valid}
 use Rattle.wasm_syntax.specs.Host.{World}
+use Rattle.host_devices.specs.HostSides.{Origin}
 use Rattle.machine_steps.specs.declared.machine.Machine.{Machine}
 use Rattle.machine_steps.specs.declared.machine.Prepared.{Prepared}
 use Rattle.machine_steps.specs.Prepares.{IsPrepared}
@@ -36,3 +37,19 @@ Takes m f args = (type : FuncType) × (type_at m f ≡ Some type) × (types args
 -- each import is served with the type that the module gives it
 abbrev pub ServesAll : (Import → FuncType → Bool) → Module → Type 0
 ServesAll serving m = (f : ℕ) (i : Import) (type : FuncType) → slice_get m.imports f ≡ Some i → slice_get m.types i.ftype ≡ Some type → serving i type ≡ true
+
+-- a host side knows each import of the module by its index
+abbrev pub Knows : Origin → Module → Type 0
+Knows origin m = (f : ℕ) (i : Import) → slice_get m.imports f ≡ Some i → slice_get origin.imports f ≡ Some i
+
+-- a host side that may be lent to runs of the module
+pub record HostServes (origin : Origin) (serving : Import → FuncType → Bool) (m : Module) : Type 0 where
+  pub knows : Knows origin m
+  pub serves : ServesAll serving m
+
+-- What never changes of a host side did not change, and no count of faults fell.
+pub record HostKept {H : Type 0} (origin : H → Origin) (collecting : H → Bool) (serving : H → Import → FuncType → Bool) (fault_count : H → List ℕ → ℕ) (old new : H) : Type 0 where
+  pub origin_is : origin new ≡ origin old
+  pub collecting_is : collecting new ≡ collecting old
+  pub serving_is : (i : Import) (type : FuncType) → serving new i type ≡ serving old i type
+  pub later : (name : List ℕ) → fault_count old name ≤ fault_count new name

@@ -1,25 +1,24 @@
 //! A call of an import with no frame (Core 4.5.5): of an entry or a start function that is imported.
 
 ghost use Rattle.std.specs.Prelude.{◌≡◌, ◌≤◌, ℕ, List, [], true, length, slice_get, Some};
-ghost use Rattle.wasm_syntax.specs.declared.parts.Import.{Import as ImportValue};
-ghost use Rattle.wasm_syntax.specs.declared.parts.FuncType.{FuncType as TypeValue};
 ghost use Rattle.wasm_syntax.specs.declared.host.CollectorCall.{CollectorCall as Collected};
 ghost use Rattle.wasm_syntax.specs.Numbers.{types};
 ghost use Rattle.wasm_syntax.specs.Module.{Program};
-ghost use Rattle.wasm_syntax.specs.Host.{World, fits_type};
-ghost use Rattle.wasm_syntax.specs.Machine.{host_call, result_of as first_result};
+ghost use Rattle.wasm_syntax.specs.Host.{World};
+ghost use Rattle.wasm_syntax.specs.Machine.{host_call};
 ghost use Rattle.wasm_syntax.specs.Run.{engine};
 ghost use Rattle.machine_basics.specs.Performs.{Holds};
 ghost use Rattle.machine_code.specs.declared.code.Code.{Code as FlatCode};
 ghost use Rattle.machine_steps.specs.Meets.{Shares};
 ghost use Rattle.machine_hosted.specs.Safe.{WorldFits};
+ghost use Rattle.machine_hosted.specs.Settings.{HostKept};
 ghost use Rattle.host_devices.specs.HostSides.{told, Answers, IsExhausted, KeepsUse, HasCause as AnswerHasCause};
 ghost use Rattle.machine_hosted.specs.inner.Alone.{Took, alone};
 ghost use Rattle.machine_hosted.specs.Answers.{FunctionCameWith, HasCause};
 
 use crate::answer::{FunctionRun, RunEnd};
-use crate::heard::call_host;
-use crate::reply::Replied;
+use crate::heard::{call_host, result_type};
+use crate::reply::{Replied, fits_result};
 use crate::writes::make_writes;
 use causes::NoMemory;
 use host_devices::{HostAnswer, HostSide};
@@ -36,25 +35,6 @@ fn leave_frames(m: &mut CallStack)
     m.values.keep(0);
     m.controls.keep(0);
     m.frames.keep(0);
-}
-
-/// The result of a function's type, if it has one.
-fn result_of(ftype: &FuncType) -> Option<ValType>
-    ensures { result ≡ first_result ftype.now }
-{
-    ftype.results.get(0).copied()
-}
-
-/// Whether a value is there exactly where a result is wanted, and of its type.
-fn fits_result(wanted: Option<ValType>, value: Option<Value>) -> bool
-    ensures { result ≡ fits_type wanted value }
-{
-    match (wanted, value) {
-        (None, None) => true,
-        (Some(ValType::I32), Some(Value::I32(_))) => true,
-        (Some(ValType::I64), Some(Value::I64(_))) => true,
-        _ => false,
-    }
 }
 
 /// Takes the reply to a call with this result: first its writes are made, and then its value is what the call gives. Nothing is changed
@@ -90,10 +70,7 @@ fn ask<H: HostSide>(
     ensures exhausted { IsExhausted (H.used_up hosts.old import.now) result }
     ensures used { KeepsUse result (H.used_up hosts.old) (H.used_up hosts.new) }
     ensures cause { AnswerHasCause import.now result (H.fault_count hosts.old) (H.fault_count hosts.new) }
-    ensures later { (name : List ℕ) → H.fault_count hosts.old name ≤ H.fault_count hosts.new name }
-    ensures serving { (i : ImportValue) (t : TypeValue) → H.serving hosts.new i t ≡ H.serving hosts.old i t }
-    ensures collecting { H.collecting hosts.new ≡ H.collecting hosts.old }
-    ensures origin { H.origin hosts.new ≡ H.origin hosts.old }
+    ensures host { HostKept H.origin H.collecting H.serving H.fault_count hosts.old hosts.new }
 {
     match Items::from_slice(alloc, args) {
         Ok(copy) => {
@@ -121,10 +98,7 @@ pub(crate) fn call_alone<H: HostSide>(
     requires one { length ftype.now.results ≤ 1 }
     ensures came { (p : Program) (codes : List FlatCode) (depth : ℕ) (w : World) (co : List Collected) → slice_get p.module_.imports index ≡ Some import.now → Shares m.old w → WorldFits p.module_ w → FunctionCameWith p codes (H.used_up hosts.new) (alone (engine p (H.collecting hosts.old) depth) (host_call index import.now ftype.now args.now) w co) w co fuel result.answer result.steps m.new (H.calls hosts.old) (H.calls hosts.new) }
     ensures cause { HasCause result.answer (H.fault_count hosts.old) (H.fault_count hosts.new) }
-    ensures later { (name : List ℕ) → H.fault_count hosts.old name ≤ H.fault_count hosts.new name }
-    ensures serving { (i : ImportValue) (t : TypeValue) → H.serving hosts.new i t ≡ H.serving hosts.old i t }
-    ensures collecting { H.collecting hosts.new ≡ H.collecting hosts.old }
-    ensures origin { H.origin hosts.new ≡ H.origin hosts.old }
+    ensures host { HostKept H.origin H.collecting H.serving H.fault_count hosts.old hosts.new }
 {
     leave_frames(&mut m.stack);
     if fuel == 0 {
@@ -135,7 +109,7 @@ pub(crate) fn call_alone<H: HostSide>(
     }
     match ask(alloc, index, import, ftype, args, &m.shared, hosts) {
         HostAnswer::Replied(reply) => FunctionRun {
-            answer: take_reply(&mut m.shared, result_of(ftype), reply),
+            answer: take_reply(&mut m.shared, result_type(ftype), reply),
             steps: 1,
         },
         HostAnswer::NoReply => FunctionRun {

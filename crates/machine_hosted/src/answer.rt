@@ -1,4 +1,4 @@
-//! What a run comes to.
+//! What a run comes to: one type for frames, for a function and for an invocation.
 
 ghost use Rattle.std.specs.Prelude.{◌≡◌};
 
@@ -9,7 +9,7 @@ use wasm_syntax::{Reply, Value};
 /// What a run came to.
 #[derive(Drop)]
 pub enum RunEnd {
-    /// The function gave this result, or none.
+    /// The last frame was left, with this result, or none.
     Finished { value: Option<Value> },
     Trapped { kind: TrapKind },
     /// The replies for an import are used up.
@@ -23,7 +23,7 @@ pub enum RunEnd {
     NoMemory,
 }
 
-/// What the run of one function came to, and the number of steps that it made. A step that traps, or that has no fitting reply, counts.
+/// What a run of one function came to, and the number of steps that it made. A step that traps, or that has no fitting reply, counts.
 #[derive(Drop)]
 pub struct FunctionRun {
     pub answer: RunEnd,
@@ -36,10 +36,13 @@ pub(crate) fn ran(answer: RunEnd, steps: u64) -> FunctionRun
     FunctionRun { answer, steps }
 }
 
-/// What an invocation came to, the number of steps that it made with the start function, and whether another one may follow.
+/// What an invocation came to, and the number of steps that it made with the start function.
 #[derive(Drop)]
 pub struct EntryRun {
     pub answer: RunEnd,
     pub steps: u64,
+    /// Whether another invocation may follow.
     pub ready: bool,
+    /// Whether the entry was begun. Where it was not, the start function was under way.
+    pub entered: bool,
 }

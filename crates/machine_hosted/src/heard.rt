@@ -1,10 +1,9 @@
 //! A host side is asked to serve a call.
 
-ghost use Rattle.std.specs.Prelude.{◌≡◌, ◌≤◌, ℕ, List, Bool, true, length, slice_get, is_some, Some, IfOk};
-ghost use Rattle.wasm_syntax.specs.declared.parts.Import.{Import as ImportValue};
-ghost use Rattle.wasm_syntax.specs.declared.parts.FuncType.{FuncType as TypeValue};
+ghost use Rattle.std.specs.Prelude.{◌≡◌, ◌≤◌, true, length, slice_get, is_some, Some, IfOk};
 ghost use Rattle.wasm_syntax.specs.Numbers.{types};
 ghost use Rattle.wasm_syntax.specs.Machine.{host_call, result_of};
+ghost use Rattle.machine_hosted.specs.Settings.{HostKept};
 ghost use Rattle.host_devices.specs.HostSides.{told, Answers, IsExhausted, HasCause, KeepsUse};
 
 use crate::collector::is_told;
@@ -66,10 +65,7 @@ pub(crate) fn call_host<H: HostSide>(
     ensures exhausted { IsExhausted (H.used_up hosts.old import.now) result.answer }
     ensures used { KeepsUse result.answer (H.used_up hosts.old) (H.used_up hosts.new) }
     ensures cause { HasCause import.now result.answer (H.fault_count hosts.old) (H.fault_count hosts.new) }
-    ensures later { (name : List ℕ) → H.fault_count hosts.old name ≤ H.fault_count hosts.new name }
-    ensures serving { (i : ImportValue) (t : TypeValue) → H.serving hosts.new i t ≡ H.serving hosts.old i t }
-    ensures collecting { H.collecting hosts.new ≡ H.collecting hosts.old }
-    ensures origin { H.origin hosts.new ≡ H.origin hosts.old }
+    ensures host { HostKept H.origin H.collecting H.serving H.fault_count hosts.old hosts.new }
 {
     let told = is_told(
         hosts.collects(),

@@ -1,22 +1,20 @@
 //! Invocations: the start function where it is due, and then the entry (Core 4.5.4, 4.5.5).
 
-ghost use Rattle.std.specs.Prelude.{◌≡◌, ◌==◌, ◌≤◌, not, true, ℕ, List, [], IfSome, Some};
-ghost use Rattle.wasm_syntax.specs.declared.parts.Import.{Import as ImportValue};
-ghost use Rattle.wasm_syntax.specs.declared.parts.FuncType.{FuncType as TypeValue};
+ghost use Rattle.std.specs.Prelude.{◌≡◌, ◌==◌, ◌≤◌, not, true, [], IfSome, Some};
 ghost use Rattle.wasm_syntax.specs.Module.{Program, IsProgram};
 ghost use Rattle.wasm_syntax.specs.Run.{engine};
 ghost use Rattle.machine_basics.specs.Traps.{trap_code};
-ghost use Rattle.machine_hosted.specs.Settings.{Sound, MachineFits, ServesAll, Takes, world_of};
+ghost use Rattle.machine_hosted.specs.Settings.{Sound, MachineFits, HostServes, HostKept, Takes, world_of};
 ghost use Rattle.machine_hosted.specs.Answers.{HasCause};
 ghost use Rattle.machine_hosted.specs.Invocations.{InvocationCameWith, invoking, follows_behind, finishes};
 
 use crate::answer::{EntryRun, RunEnd};
 use crate::function::run_function;
+use crate::runner::Runner;
 use host_devices::HostSide;
 use machine_basics::TrapKind;
-use machine_steps::{Machine, Prepared};
-use std::alloc::Global;
-use wasm_syntax::{ModuleParts, Value};
+use machine_steps::Machine;
+use wasm_syntax::Value;
 
 /// Whether a trap of this kind leaves room for a call.
 fn leaves_room(kind: TrapKind) -> bool
@@ -64,88 +62,73 @@ fn is_finished(answer: &RunEnd) -> bool
 }
 
 fn ended(answer: RunEnd, steps: u64, entered: bool) -> EntryRun
-    ensures { result ≡ record { answer = answer; steps = steps; ready = follows_behind answer entered } }
+    ensures { result ≡ record { answer = answer; steps = steps; ready = follows_behind answer entered; entered = entered } }
 {
     let ready = may_follow(&answer, entered);
     EntryRun {
         answer,
         steps,
         ready,
+        entered,
     }
 }
 
 /// Runs the start function of this index, and then the entry where it ended.
 fn run_with_start<H: HostSide>(
-    alloc: Global,
+    runner: &Runner<'_, '_>,
     m: &mut Machine,
-    prepared: &Prepared,
-    source: &ModuleParts,
     start: u32,
     entry: u32,
     args: &[Value],
-    depth: usize,
     fuel: u64,
     hosts: &mut H,
 ) -> EntryRun
-    requires sound { Sound source.now prepared.now }
-    requires fits { MachineFits source.now m.old }
-    requires start { Takes source.now start [] }
-    requires entry { Takes source.now entry args.now }
-    requires served { ServesAll (H.serving hosts.old) source.now }
-    requires imports { (H.origin hosts.old).imports ≡ source.now.imports }
-    ensures came { (p : Program) → p.module_ ≡ source.now → IsProgram p → InvocationCameWith p prepared.now.codes.items (H.used_up hosts.new) (invoking (engine p (H.collecting hosts.old) depth) (Some start) entry args.now (world_of m.old [])) fuel result.answer result.steps result.ready m.new (H.calls hosts.old) (H.calls hosts.new) }
+    requires sound { Sound runner.now.source.now runner.now.prepared.now }
+    requires fits { MachineFits runner.now.source.now m.old }
+    requires start { Takes runner.now.source.now start [] }
+    requires entry { Takes runner.now.source.now entry args.now }
+    requires host { HostServes (H.origin hosts.old) (H.serving hosts.old) runner.now.source.now }
+    ensures came { (p : Program) → p.module_ ≡ runner.now.source.now → IsProgram p → InvocationCameWith p runner.now.prepared.now.codes.items (H.used_up hosts.new) (invoking (engine p (H.collecting hosts.old) runner.now.depth) (Some start) entry args.now (world_of m.old [])) fuel result.answer result.steps result.ready result.entered m.new (H.calls hosts.old) (H.calls hosts.new) }
     ensures within { result.steps ≤ fuel }
-    ensures fits { result.ready ≡ true → MachineFits source.now m.new }
+    ensures fits { result.ready ≡ true → MachineFits runner.now.source.now m.new }
     ensures cause { HasCause result.answer (H.fault_count hosts.old) (H.fault_count hosts.new) }
-    ensures later { (name : List ℕ) → H.fault_count hosts.old name ≤ H.fault_count hosts.new name }
-    ensures serving { (i : ImportValue) (t : TypeValue) → H.serving hosts.new i t ≡ H.serving hosts.old i t }
-    ensures collecting { H.collecting hosts.new ≡ H.collecting hosts.old }
-    ensures origin { H.origin hosts.new ≡ H.origin hosts.old }
+    ensures host { HostKept H.origin H.collecting H.serving H.fault_count hosts.old hosts.new }
 {
-    let first = run_function(alloc, m, prepared, source, start, &[], depth, fuel, hosts);
+    let first = run_function(runner, m, start, &[], fuel, hosts);
     if !is_finished(&first.answer) {
         return ended(first.answer, first.steps, false);
     }
     let left = fuel - first.steps;
-    let then = run_function(alloc, m, prepared, source, entry, args, depth, left, hosts);
+    let then = run_function(runner, m, entry, args, left, hosts);
     ended(then.answer, first.steps + then.steps, true)
 }
 
-/// Runs the start function, where it is due, and then the entry on its arguments in the parameters' order, for at most so many steps in all
-/// and with at most so many frames. A host side serves the imports.
+/// Runs the start function, where it is due, and then the entry on its arguments in the parameters' order, for at most so many steps in all.
+/// A host side serves the imports.
 pub fn run_invocation<H: HostSide>(
-    alloc: Global,
+    runner: &Runner<'_, '_>,
     m: &mut Machine,
-    prepared: &Prepared,
-    source: &ModuleParts,
     start: Option<u32>,
     entry: u32,
     args: &[Value],
-    depth: usize,
     fuel: u64,
     hosts: &mut H,
 ) -> EntryRun
-    requires sound { Sound source.now prepared.now }
-    requires fits { MachineFits source.now m.old }
-    requires start { IfSome start (λ f. Takes source.now f []) }
-    requires entry { Takes source.now entry args.now }
-    requires served { ServesAll (H.serving hosts.old) source.now }
-    requires imports { (H.origin hosts.old).imports ≡ source.now.imports }
-    ensures came { (p : Program) → p.module_ ≡ source.now → IsProgram p → InvocationCameWith p prepared.now.codes.items (H.used_up hosts.new) (invoking (engine p (H.collecting hosts.old) depth) start entry args.now (world_of m.old [])) fuel result.answer result.steps result.ready m.new (H.calls hosts.old) (H.calls hosts.new) }
+    requires sound { Sound runner.now.source.now runner.now.prepared.now }
+    requires fits { MachineFits runner.now.source.now m.old }
+    requires start { IfSome start (λ f. Takes runner.now.source.now f []) }
+    requires entry { Takes runner.now.source.now entry args.now }
+    requires host { HostServes (H.origin hosts.old) (H.serving hosts.old) runner.now.source.now }
+    ensures came { (p : Program) → p.module_ ≡ runner.now.source.now → IsProgram p → InvocationCameWith p runner.now.prepared.now.codes.items (H.used_up hosts.new) (invoking (engine p (H.collecting hosts.old) runner.now.depth) start entry args.now (world_of m.old [])) fuel result.answer result.steps result.ready result.entered m.new (H.calls hosts.old) (H.calls hosts.new) }
     ensures within { result.steps ≤ fuel }
-    ensures fits { result.ready ≡ true → MachineFits source.now m.new }
+    ensures fits { result.ready ≡ true → MachineFits runner.now.source.now m.new }
     ensures cause { HasCause result.answer (H.fault_count hosts.old) (H.fault_count hosts.new) }
-    ensures later { (name : List ℕ) → H.fault_count hosts.old name ≤ H.fault_count hosts.new name }
-    ensures serving { (i : ImportValue) (t : TypeValue) → H.serving hosts.new i t ≡ H.serving hosts.old i t }
-    ensures collecting { H.collecting hosts.new ≡ H.collecting hosts.old }
-    ensures origin { H.origin hosts.new ≡ H.origin hosts.old }
+    ensures host { HostKept H.origin H.collecting H.serving H.fault_count hosts.old hosts.new }
 {
     match start {
-        Some(function) => run_with_start(
-            alloc, m, prepared, source, function, entry, args, depth, fuel, hosts,
-        ),
+        Some(function) => run_with_start(runner, m, function, entry, args, fuel, hosts),
         None => {
-            let run = run_function(alloc, m, prepared, source, entry, args, depth, fuel, hosts);
+            let run = run_function(runner, m, entry, args, fuel, hosts);
             ended(run.answer, run.steps, true)
         }
     }

@@ -8,16 +8,17 @@ mod answer;
 mod begin;
 mod collector;
 mod function;
-mod halt;
 mod heard;
 mod invocation;
 pub mod laws;
 mod replies;
 mod reply;
 mod run;
+mod runner;
 mod taken;
 mod turn;
 mod writes;
 
 pub use answer::{EntryRun, RunEnd};
 pub use invocation::run_invocation;
+pub use runner::Runner;

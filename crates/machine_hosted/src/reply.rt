@@ -25,7 +25,7 @@ pub enum Replied {
 }
 
 /// Whether a value is there exactly where a result is wanted, and of its type.
-fn fits_result(wanted: Option<ValType>, value: Option<Value>) -> bool
+pub(crate) fn fits_result(wanted: Option<ValType>, value: Option<Value>) -> bool
     ensures { result ≡ fits_type wanted value }
 {
     match (wanted, value) {

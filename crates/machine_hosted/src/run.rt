@@ -1,55 +1,51 @@
 //! A run over a host side.
 
-ghost use Rattle.std.specs.Prelude.{◌≡◌, ◌≤◌, ℕ, List};
-ghost use Rattle.wasm_syntax.specs.declared.parts.Import.{Import as ImportValue};
-ghost use Rattle.wasm_syntax.specs.declared.parts.FuncType.{FuncType as TypeValue};
-ghost use Rattle.machine_hosted.specs.Hosted.{CameWith};
-ghost use Rattle.machine_hosted.specs.inner.Turns.{Ready, going, HasCause};
+ghost use Rattle.std.specs.Prelude.{◌≡◌};
+ghost use Rattle.machine_hosted.specs.Answers.{HasCause};
+ghost use Rattle.machine_hosted.specs.Settings.{HostKept, Knows};
+ghost use Rattle.machine_hosted.specs.inner.FrameRuns.{CameWith};
+ghost use Rattle.machine_hosted.specs.inner.Turns.{Ready, going};
 
-use crate::halt::{Halt, Halted, stop};
+use crate::answer::{FunctionRun, RunEnd, ran};
+use crate::runner::Runner;
 use crate::turn::{Turn, serve_import};
 use host_devices::HostSide;
-use machine_steps::{Machine, Outcome, Prepared, run};
-use std::alloc::Global;
-use wasm_syntax::ModuleParts;
+use machine_steps::{Machine, Outcome, run};
 
 /// Runs a function of a valid module, begun with `crate::begin_function`, for at most so many steps. The host side serves its imports.
 /// After want of memory the machine is of no use.
 pub(crate) fn run_frames<H: HostSide>(
-    alloc: Global,
+    runner: &Runner<'_, '_>,
     m: &mut Machine,
-    prepared: &Prepared,
-    source: &ModuleParts,
-    depth: usize,
     fuel: u64,
     hosts: &mut H,
-) -> Halted
-    requires ready { Ready prepared.now source.now depth m.old (H.collecting hosts.old) (H.serving hosts.old) }
-    requires imports { (H.origin hosts.old).imports ≡ source.now.imports }
-    ensures came { (r : Ready prepared.now source.now depth m.old (H.collecting hosts.old) (H.serving hosts.old)) → CameWith r.engine.program prepared.now.codes.items (H.used_up hosts.new) (going r.engine r.frames r.world r.collected) r.world r.collected fuel result.halt result.steps m.new (H.calls hosts.old) (H.calls hosts.new) }
-    ensures cause { HasCause result.halt (H.fault_count hosts.old) (H.fault_count hosts.new) }
-    ensures later { (name : List ℕ) → H.fault_count hosts.old name ≤ H.fault_count hosts.new name }
-    ensures serving { (i : ImportValue) (t : TypeValue) → H.serving hosts.new i t ≡ H.serving hosts.old i t }
-    ensures collecting { H.collecting hosts.new ≡ H.collecting hosts.old }
-    ensures origin { H.origin hosts.new ≡ H.origin hosts.old }
+) -> FunctionRun
+    requires ready { Ready runner.now.prepared.now runner.now.source.now runner.now.depth m.old (H.collecting hosts.old) (H.serving hosts.old) }
+    requires knows { Knows (H.origin hosts.old) runner.now.source.now }
+    ensures came { (r : Ready runner.now.prepared.now runner.now.source.now runner.now.depth m.old (H.collecting hosts.old) (H.serving hosts.old)) → CameWith r.engine.program runner.now.prepared.now.codes.items (H.used_up hosts.new) (going r.engine r.frames r.world r.collected) r.world r.collected fuel result.answer result.steps m.new (H.calls hosts.old) (H.calls hosts.new) }
+    ensures cause { HasCause result.answer (H.fault_count hosts.old) (H.fault_count hosts.new) }
+    ensures host { HostKept H.origin H.collecting H.serving H.fault_count hosts.old hosts.new }
 {
     let mut made = 0;
     while made < fuel {
-        let ended = run(m, prepared, depth, fuel - made);
+        let ended = run(m, runner.prepared, runner.depth, fuel - made);
         match ended.outcome {
             Outcome::Import(call) => {
                 made += ended.steps;
-                match serve_import(alloc, m, source, call, hosts) {
+                match serve_import(runner, m, call, hosts) {
                     Turn::Goes => made += 1,
-                    Turn::Halts(halt) => return stop(halt, made + 1),
-                    Turn::Lacking => return stop(Halt::NoMemory, made),
+                    Turn::Ends(answer) => return ran(answer, made + 1),
+                    Turn::Lacking => return ran(RunEnd::NoMemory, made),
                 }
             }
-            Outcome::Next => return stop(Halt::Spent, fuel),
-            Outcome::Ended => return stop(Halt::Ended, made + ended.steps),
-            Outcome::Trap(kind) => return stop(Halt::Trap(kind), made + ended.steps),
-            Outcome::NoMemory | Outcome::Stuck => return stop(Halt::NoMemory, made),
+            Outcome::Next => return ran(RunEnd::FuelSpent, fuel),
+            Outcome::Ended => {
+                let value = m.stack.values.peek(0);
+                return ran(RunEnd::Finished { value }, made + ended.steps);
+            }
+            Outcome::Trap(kind) => return ran(RunEnd::Trapped { kind }, made + ended.steps),
+            Outcome::NoMemory | Outcome::Stuck => return ran(RunEnd::NoMemory, made),
         }
     }
-    stop(Halt::Spent, fuel)
+    ran(RunEnd::FuelSpent, fuel)
 }

@@ -1,8 +1,10 @@
-//! Tests of single instructions and of the start of instances. They stand apart from the crates that they test, so that those are proved
+//! Tests of single instructions, of the start of instances and of their invocations. They stand apart from the crates that they test, so that those are proved
 //! once.
 #![tactic(auto)]
 
 #[cfg(test)]
 mod basic_tests;
+#[cfg(test)]
+mod instance_tests;
 #[cfg(test)]
 mod tests;

@@ -248,7 +248,7 @@ made_one p collecting depth base name used_up s new i f fuel calls before_count 
     let M = engine p collecting depth in
     let given = was.came.asked.given in
     let count = counts before.served after.served given calls before_count after_count was.came.grew.served one other counted in
-    let known : (more : List Reply) (came : InvocationCame p s.prepared.codes.items used_up (invoking M s.due f i.args (world_of s.machine [])) (fuel - s.steps) was.came.asked a was.made new.ready new.machine more) (left : ℕ) → Answered p used_up a new calls (with_left came.ran left) =
+    let known : (more : List Reply) (came : InvocationCame p s.prepared.codes.items used_up (invoking M s.due f i.args (world_of s.machine [])) (fuel - s.steps) was.came.asked a was.made new.ready new.entered new.machine more) (left : ℕ) → Answered p used_up a new calls (with_left came.ran left) =
     λ more came left. record {
       outcome = came.outcome;
       follows = came.follows ∙ same_follow a came.ran left;
@@ -283,7 +283,7 @@ made_one p collecting depth base name used_up s new i f fuel calls before_count 
     let M = engine p collecting depth in
     let given = was.came.asked.given in
     let count = counts before.served after.served given calls before_count after_count was.came.grew.served one other counted in
-    let known : (more : List Reply) (came : InvocationCame p s.prepared.codes.items used_up (invoking M s.due f i.args (world_of s.machine [])) (fuel - s.steps) was.came.asked a was.made new.ready new.machine more) (left : ℕ) → Answered p used_up a new calls (with_left came.ran left) =
+    let known : (more : List Reply) (came : InvocationCame p s.prepared.codes.items used_up (invoking M s.due f i.args (world_of s.machine [])) (fuel - s.steps) was.came.asked a was.made new.ready new.entered new.machine more) (left : ℕ) → Answered p used_up a new calls (with_left came.ran left) =
     λ more came left. record {
       outcome = came.outcome;
       follows = came.follows ∙ same_follow a came.ran left;
@@ -320,7 +320,7 @@ made_one p collecting depth base name used_up s new i f fuel calls before_count 
 module _ (p : Program) (collecting : Bool) (depth : ℕ) (base name : List ℕ) (used_up : Import → Bool) (s new : State) (i : Invocation) (rest : List Invocation) (f fuel traps : ℕ) (a : RunEnd) (before after : Calls) (told_before told_after : Option Contents)
     (is_of : IsOf new p) (same : new.prepared ≡ s.prepared) (entry : function_export p.module_ i.name ≡ Some f) (begun : s.steps ≤ fuel)
     (was : Invoked p collecting depth used_up f i.args (fuel - s.steps) s new a before after) (part : LeavesPart base name new a traps told_before told_after) where
-  came : InvocationCame p s.prepared.codes.items used_up (invoking (engine p collecting depth) s.due f i.args (world_of s.machine [])) (fuel - s.steps) was.came.asked a was.made new.ready new.machine []
+  came : InvocationCame p s.prepared.codes.items used_up (invoking (engine p collecting depth) s.due f i.args (world_of s.machine [])) (fuel - s.steps) was.came.asked a was.made new.ready new.entered new.machine []
   came = was.came.came [] (no_replies a)
 
   dumped : (left : ℕ) → OnTold (HoldPart (dumps_from base name traps (with_left came.ran left ∷ []))) told_before told_after

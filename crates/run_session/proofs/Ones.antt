@@ -1,6 +1,6 @@
 -- One invocation, from what its parts ensure.
 use Rattle.std.proofs.Common.{◌≡◌, ℕ, ◌-◌, ◌≤◌, Bool, List, [], ◌∷◌, length, refl, sym, ap, ◌∙◌, subst, Option, Some, None, Result, Ok, Err}
-use Rattle.std.specs.Prelude.{IfOk, OnOk}
+use Rattle.std.specs.Prelude.{IfOk}
 use Rattle.causes.specs.declared.NoMemory.{NoMemory as WantOfMemory}
 use Rattle.pm_outside.specs.Contents.{Contents}
 use Rattle.wasm_syntax.specs.declared.parts.Import.{Import}
@@ -10,9 +10,6 @@ use Rattle.wasm_syntax.specs.Run.{Invocation, engine}
 use Rattle.host_devices.specs.HostSides.{Calls}
 use Rattle.machine_hosted.specs.declared.answer.RunEnd.{RunEnd}
 use Rattle.machine_hosted.specs.declared.answer.RunEnd.TheVariants.{NoMemory}
-use Rattle.wasm_machine.specs.declared.answer.RunAnswer.{RunAnswer}
-use Rattle.wasm_machine.specs.declared.entries.EntryFault.{EntryFault}
-use Rattle.wasm_machine.specs.Answers.{end_of, fault_in, refusal}
 use Rattle.wasm_machine.specs.Instances.{State, IsOf, Invoked}
 use Rattle.run_session.specs.inner.Turns.{UnlessRefused, IfEnds, IfTurnRefused, Added, LeavesPart, HasTrapped}
 use Rattle.run_session.specs.inner.Sessions.{MadeOne, StopsIn, OnTurnStop}
@@ -65,14 +62,3 @@ ends_all (Err e) a P same x = tt
 pub ends_some : (result : Result Turn WantOfMemory) (a : RunEnd) (P : RunEnd → Type 0) → IfOk result (IfEnds (λ b. b ≡ a)) → IfOk result (λ (turn : Turn). P a) → IfOk result (IfEnds P)
 ends_some (Ok turn) a P same x = of_ends turn a P same x
 ends_some (Err e) a P same x = tt
-
--- ---- the answer of the invocation
-
-pub of_end : (a : RunAnswer) (r : Result RunEnd EntryFault) (end : RunEnd) (P : RunEnd → Type 0) → r ≡ end_of a → r ≡ Ok end → IfOk (end_of a) P → P end
-of_end a r end P is ok x = subst (λ q. IfOk q P) (sym is ∙ ok) x
-
-pub of_ok : (a : RunAnswer) (r : Result RunEnd EntryFault) (end : RunEnd) (P : Type 0) → r ≡ end_of a → r ≡ Ok end → OnOk (end_of a) P → P
-of_ok a r end P is ok x = subst (λ q. OnOk q P) (sym is ∙ ok) x
-
-pub not_refused : (a : RunAnswer) (r : Result RunEnd EntryFault) (fault : EntryFault) → r ≡ end_of a → r ≡ Err fault → refusal a ≡ None → ⊥
-not_refused a r fault is err none = let clash : Some fault ≡ None = ap (λ q. fault_in q) (sym err ∙ is) ∙ none in absurd cc

@@ -1,14 +1,13 @@
 //! Lists of invocations on one instance.
 
-ghost use Rattle.std.specs.Prelude.{◌≡◌, ◌≢◌, ◌<◌, ◌≤◌, ◌+◌, ◌-◌, ◌^◌, ◌∷◌, [], ℕ, List, None, All, map, IfOk, true, length, is_some};
+ghost use Rattle.std.specs.Prelude.{◌≡◌, ◌≢◌, ◌<◌, ◌≤◌, ◌+◌, ◌-◌, ◌^◌, ◌∷◌, [], List, None, All, map, IfOk, true, length, is_some};
 ghost use Rattle.causes.specs.Counts.{Rose};
-ghost use Rattle.wasm_syntax.specs.declared.parts.Import.{Import as ImportValue};
-ghost use Rattle.wasm_syntax.specs.declared.parts.FuncType.{FuncType as TypeValue};
 ghost use Rattle.wasm_syntax.specs.Module.{Program};
 ghost use Rattle.wasm_syntax.specs.Run.{Invocation as Invoking, engine};
 ghost use Rattle.wasm_machine.specs.Instances.{IsOf};
 ghost use Rattle.wasm_machine.specs.Entries.{entry_fault};
 ghost use Rattle.machine_hosted.specs.Answers.{HasCause};
+ghost use Rattle.machine_hosted.specs.Settings.{HostKept};
 ghost use Rattle.command_answers.specs.Texts.{file_fault};
 ghost use Rattle.command_answers.specs.Told.{UnlessFault};
 ghost use Rattle.run_session.specs.RunText.{dump_name};
@@ -61,10 +60,7 @@ pub(crate) fn run_one<F: Files, H: Counting>(
     ensures stops { (p : Program) (rest : List Invoking) → IsOf instance.old p → instance.old.steps ≤ words.now.fuel → OnTurnStop (λ stop. StopsIn stop (engine p (H.collecting hosts.old) words.now.depth) words.now.dump words.now.name lines.old.traps instance.old (invocation_of invocation.now ∷ rest) words.now.fuel (H.calls hosts.old) (H.calls hosts.new) (F.told files.old) (F.told files.new)) result }
     ensures ready { IfOk result (IfGoesOn (instance.new.ready ≡ true)) }
     ensures same { instance.new.module_ ≡ instance.old.module_ }
-    ensures serving { (i : ImportValue) (t : TypeValue) → H.serving hosts.new i t ≡ H.serving hosts.old i t }
-    ensures collecting { H.collecting hosts.new ≡ H.collecting hosts.old }
-    ensures origin { H.origin hosts.new ≡ H.origin hosts.old }
-    ensures counts { (name : List ℕ) → H.fault_count hosts.old name ≤ H.fault_count hosts.new name }
+    ensures host { HostKept H.origin H.collecting H.serving H.fault_count hosts.old hosts.new }
     ensures memory { IfOk result (IfEnds (λ answer. answer ≢ RunEnd.NoMemory)) }
     ensures cause { IfOk result (IfEnds (λ answer. HasCause answer (H.fault_count hosts.old) (H.fault_count hosts.new))) }
     ensures one { lines.new.traps ≤ lines.old.traps + 1 }
@@ -76,8 +72,7 @@ pub(crate) fn run_one<F: Files, H: Counting>(
     let left = words.fuel.saturating_sub(instance.steps());
     let entry = invocation.entry.as_str();
     let args = invocation.args.as_slice();
-    let answer = instance.invoke(entry, args, words.depth, left, hosts);
-    let Ok(end) = answer.end() else {
+    let Ok(end) = instance.invoke(entry, args, words.depth, left, hosts) else {
         unreachable!();
     };
     let calls = hosts.given().saturating_sub(before);

@@ -4,3 +4,4 @@ pub mod InstanceLaws
 pub mod Layouts
 pub mod StandingLaws
 pub mod WantLaws
+pub mod StoppedLaws

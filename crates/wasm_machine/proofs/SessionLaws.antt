@@ -61,8 +61,8 @@ all_fitted got_stuck q e = refl
 fresh_world : (m : Machine) (c : Config) (w : World) (more : List Reply) → Shares m c.world → c.world.replies ≡ more → fresh (Some c) w ≡ world_of m more
 fresh_world m c w more s r = same_world (fresh (Some c) w) (world_of m more) s.holds.globals s.holds.memory s.table r refl
 
-module _ (M : Engine) (codes : List Code) (used_up : Import → Bool) (i : Invocation) (rest : List Invocation) (f : ℕ) (due : Option ℕ) (m m' : Machine) (left : ℕ) (asked : Asked) (answer : RunEnd) (steps : ℕ) (ready : Bool) (more : List Reply)
-    (exported : function_export M.program.module_ i.name ≡ Some f) (memory : HadMemory answer) (came : InvocationCame M.program codes used_up (invoking M due f i.args (world_of m [])) left asked answer steps ready m' more) where
+module _ (M : Engine) (codes : List Code) (used_up : Import → Bool) (i : Invocation) (rest : List Invocation) (f : ℕ) (due : Option ℕ) (m m' : Machine) (left : ℕ) (asked : Asked) (answer : RunEnd) (steps : ℕ) (ready entered : Bool) (more : List Reply)
+    (exported : function_export M.program.module_ i.name ≡ Some f) (memory : HadMemory answer) (came : InvocationCame M.program codes used_up (invoking M due f i.args (world_of m [])) left asked answer steps ready entered m' more) where
   abbrev w : World
   w = world_of m (replies_of asked.given ++ more)
 
@@ -101,4 +101,4 @@ module _ (M : Engine) (codes : List Code) (used_up : Import → Bool) (i : Invoc
       ∙ ap (λ l. came.ran ∷ l) (tails ready refl)
 
 pub goes_on_behind : GoesOn
-goes_on_behind M codes used_up i rest f due m m' left asked answer steps ready more e h came = first_of_list M codes used_up i rest f due m m' left asked answer steps ready more e h came
+goes_on_behind M codes used_up i rest f due m m' left asked answer steps ready entered more e h came = first_of_list M codes used_up i rest f due m m' left asked answer steps ready entered more e h came

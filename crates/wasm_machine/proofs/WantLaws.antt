@@ -27,8 +27,8 @@ nothing = record { given = []; told = [] }
 abbrev pub IsThere : Program → ℕ → Type 0
 IsThere p f = (fn : Function) × (function_at p f ≡ Some fn)
 
-module _ (p : Program) (codes : List Code) (used_up : Import → Bool) (m : Machine) (fuel : ℕ) where
-  rests : (go : Invoking) (entered : Bool) (more : List Reply) (c : Config) → c.world ≡ world_of m more → c.collected ≡ [] → go more 0 ≡ ran_to entered (next c) 0 → InvocationCame p codes used_up go fuel nothing NoMemory 0 false m more
+module _ (p : Program) (codes : List Code) (used_up : Import → Bool) (m : Machine) (fuel : ℕ) (begun : Bool) where
+  rests : (go : Invoking) (entered : Bool) (more : List Reply) (c : Config) → c.world ≡ world_of m more → c.collected ≡ [] → go more 0 ≡ ran_to entered (next c) 0 → InvocationCame p codes used_up go fuel nothing NoMemory 0 false begun m more
   rests go entered more c world collected e = record {
     ran = ran running entered c 0;
     within = omega arith;
@@ -38,6 +38,7 @@ module _ (p : Program) (codes : List Code) (used_up : Import → Bool) (m : Mach
     served = ap (λ (w : World). reverse w.served ++ []) (sym world);
     collected = ap reverse (sym collected);
     follows = refl;
+    entered_is = tt;
     last = c;
     last_is = refl;
     keeps = tt;
@@ -48,7 +49,7 @@ module _ (p : Program) (codes : List Code) (used_up : Import → Bool) (m : Mach
     abbrev go : Option ℕ → Invoking
     go due = invoking M due f args (world_of m [])
 
-    entry_rests : (fn : Function) → function_at M.program f ≡ Some fn → (more : List Reply) → InvocationCame p codes used_up (go None) fuel nothing NoMemory 0 false m more
+    entry_rests : (fn : Function) → function_at M.program f ≡ Some fn → (more : List Reply) → InvocationCame p codes used_up (go None) fuel nothing NoMemory 0 false begun m more
     entry_rests (imported i type) at more =
         rests (go None) true more (config [] (world_of m more) []) refl refl
         (ap (λ o. let e = run_function M 0 f o args (world_of m more) [] in ran_to true e.what e.left) at)
@@ -56,7 +57,7 @@ module _ (p : Program) (codes : List Code) (used_up : Import → Bool) (m : Mach
         rests (go None) true more (config (entered f body tree type args ∷ []) (world_of m more) []) refl refl
         (ap (λ o. let e = run_function M 0 f o args (world_of m more) [] in ran_to true e.what e.left) at)
 
-    start_rests : (s : ℕ) (fn : Function) → function_at M.program s ≡ Some fn → (more : List Reply) → InvocationCame p codes used_up (go (Some s)) fuel nothing NoMemory 0 false m more
+    start_rests : (s : ℕ) (fn : Function) → function_at M.program s ≡ Some fn → (more : List Reply) → InvocationCame p codes used_up (go (Some s)) fuel nothing NoMemory 0 false begun m more
     start_rests s (imported i type) at more =
         rests (go (Some s)) false more (config [] (world_of m more) []) refl refl
         (ap (λ o. let e = run_function M 0 s o [] (world_of m more) [] in go_on M e.what e.left f args) at)
@@ -64,7 +65,7 @@ module _ (p : Program) (codes : List Code) (used_up : Import → Bool) (m : Mach
         rests (go (Some s)) false more (config (entered s body tree type [] ∷ []) (world_of m more) []) refl refl
         (ap (λ o. let e = run_function M 0 s o [] (world_of m more) [] in go_on M e.what e.left f args) at)
 
-    pub not_begun : (due : Option ℕ) → IfSome due (IsThere M.program) → IsThere M.program f → (calls : Calls) → InvocationCameWith p codes used_up (go due) fuel NoMemory 0 false m calls calls
+    pub not_begun : (due : Option ℕ) → IfSome due (IsThere M.program) → IsThere M.program f → (calls : Calls) → InvocationCameWith p codes used_up (go due) fuel NoMemory 0 false begun m calls calls
     not_begun None s fn calls = record {
       asked = nothing;
       grew = record { served = sym (append-nil calls.served); collected = sym (append-nil calls.collected) };

@@ -1,5 +1,5 @@
 -- Instances (Core 4.2.5) and what they are known to be.
-use Rattle.std.specs.Prelude.{◌≡◌, ℕ, ◌+◌, Bool, true, List, [], Option, Some, None, option_map, Result, Ok, Err}
+use Rattle.std.specs.Prelude.{◌≡◌, ℕ, ◌+◌, Bool, true, false, List, [], Option, Some, None, option_map, Result, Ok, Err}
 use Rattle.wasm_syntax.specs.declared.value.Value.{Value}
 use Rattle.wasm_syntax.specs.declared.parts.Import.{Import}
 use Rattle.wasm_syntax.specs.declared.module.ModuleParts.{ModuleParts as Module}
@@ -14,9 +14,10 @@ use Rattle.machine_start.specs.declared.started.StartFault.{StartFault}
 use Rattle.machine_start.specs.declared.started.StartFault.TheVariants.{ElementOut, DataOut, NoMemory}
 use Rattle.machine_hosted.specs.declared.answer.RunEnd.{RunEnd}
 use Rattle.machine_hosted.specs.declared.answer.RunEnd.TheVariants as answers
-use Rattle.machine_hosted.specs.Settings.{Sound, world_of, MachineFits}
-use Rattle.machine_hosted.specs.Answers.{Keeps}
-use Rattle.machine_hosted.specs.Invocations.{InvocationCameWith, invoking}
+use Rattle.machine_hosted.specs.Settings.{Sound, world_of, MachineFits, Takes}
+use Rattle.machine_hosted.specs.Hosted.{Asked}
+use Rattle.machine_hosted.specs.Answers.{Keeps, AdmitsReplies}
+use Rattle.machine_hosted.specs.Invocations.{InvocationCame, InvocationCameWith, invoking}
 use Rattle.wasm_machine.specs.declared.invocation.End.{End}
 use Rattle.wasm_machine.specs.declared.invocation.End.TheVariants as ends
 use Rattle.wasm_machine.specs.declared.invocation.LastInvocation.{LastInvocation}
@@ -42,24 +43,48 @@ last_of entry args depth collecting answer =
 -- ---- instances
 
 -- an instance: its module, and that prepared; its globals, memory, table and frames; the start function where it is due; whether it may be
--- invoked; how many steps it has made; and what it keeps of its last invocation
+-- invoked; whether the function of its last invocation was begun, behind the start function; how many steps it has made; and what it keeps of its last invocation
 pub record State : Type 0 where
   pub module_ : Module
   pub prepared : Prepared
   pub machine : Machine
   pub due : Option ℕ
   pub ready : Bool
+  pub entered : Bool
   pub steps : ℕ
   pub last : Option LastInvocation
 
-abbrev pub state : Module → Prepared → Machine → Option ℕ → Bool → ℕ → Option LastInvocation → State
-state m prepared machine due ready steps last = record { module_ = m; prepared = prepared; machine = machine; due = due; ready = ready; steps = steps; last = last }
+abbrev pub state : Module → Prepared → Machine → Option ℕ → (ready entered : Bool) → ℕ → Option LastInvocation → State
+state m prepared machine due ready entered steps last = record { module_ = m; prepared = prepared; machine = machine; due = due; ready = ready; entered = entered; steps = steps; last = last }
 
--- only the module's start function is ever due, and what is outside the frames fits the module while the instance is ready
+-- the program is that of the instance's module
+pub record IsOf (s : State) (p : Program) : Type 0 where
+  pub of_module : p.module_ ≡ s.module_
+  pub writes_out : IsProgram p
+
+-- The last invocation came to where the instance stands, whatever replies are left, if memory sufficed: the start function where it was due,
+-- and the function that is kept, from what the instance held before.
+pub record Stopped (s : State) (l : LastInvocation) (p : Program) : Type 0 where
+  pub start : Option ℕ
+  pub due : (f : ℕ) → start ≡ Some f → s.module_.start ≡ Some f
+  pub before : Machine
+  pub fits : MachineFits s.module_ before
+  pub takes : Takes s.module_ l.entry l.args
+  pub used_up : Import → Bool
+  pub fuel : ℕ
+  pub steps : ℕ
+  pub asked : Asked
+  pub answer : RunEnd
+  pub ends : kept_end answer ≡ Some l.end
+  pub came : (more : List Reply) → AdmitsReplies answer more → InvocationCame p s.prepared.codes.items used_up (invoking (engine p l.collecting l.depth) start l.entry l.args (world_of before [])) fuel asked answer steps s.ready s.entered s.machine more
+
+-- Only the module's start function is ever due, what is outside the frames fits the module while the instance is ready, and where an
+-- invocation is kept, the instance stands where that stopped.
 pub record SoundState (s : State) : Type 0 where
   pub sound : Sound s.module_ s.prepared
   pub start : (f : ℕ) → s.due ≡ Some f → s.module_.start ≡ Some f
   pub fits : s.ready ≡ true → MachineFits s.module_ s.machine
+  pub stopped : (l : LastInvocation) → s.last ≡ Some l → (p : Program) → IsOf s p → Stopped s l p
 
 -- an instance of a module that was not invoked
 pub record IsNew (m : Module) (s : State) : Type 0 where
@@ -67,13 +92,9 @@ pub record IsNew (m : Module) (s : State) : Type 0 where
   pub world : (replies : List Reply) → world_of s.machine replies ≡ start_world m replies
   pub due : s.due ≡ m.start
   pub ready : s.ready ≡ true
+  pub entered : s.entered ≡ false
   pub steps : s.steps ≡ 0
   pub last : s.last ≡ None
-
--- the program is that of the instance's module
-pub record IsOf (s : State) (p : Program) : Type 0 where
-  pub of_module : p.module_ ≡ s.module_
-  pub writes_out : IsProgram p
 
 -- the instance stands at a configuration of the program of its module
 pub record StandsAt (s : State) (p : Program) (c : Config) : Type 0 where
@@ -91,4 +112,4 @@ Begins (Err NoMemory) m = Unit {0}
 pub record Invoked (p : Program) (collecting : Bool) (depth : ℕ) (used_up : Import → Bool) (entry : ℕ) (args : List Value) (fuel : ℕ) (before now : State) (answer : RunEnd) (old new : Calls) : Type 0 where
   pub made : ℕ
   pub steps : now.steps ≡ before.steps + made
-  pub came : InvocationCameWith p before.prepared.codes.items used_up (invoking (engine p collecting depth) before.due entry args (world_of before.machine [])) fuel answer made now.ready now.machine old new
+  pub came : InvocationCameWith p before.prepared.codes.items used_up (invoking (engine p collecting depth) before.due entry args (world_of before.machine [])) fuel answer made now.ready now.entered now.machine old new

@@ -28,7 +28,7 @@ HadMemory FuelSpent = Unit {0}
 -- with what the machine holds then, with the replies that are left and the steps that are left.
 abbrev pub GoesOn : Type 0
 GoesOn =
-    (M : Engine) (codes : List Code) (used_up : Import → Bool) (i : Invocation) (rest : List Invocation) (f : ℕ) (due : Option ℕ) (m m' : Machine) (left : ℕ) (asked : Asked) (answer : RunEnd) (steps : ℕ) (ready : Bool) (more : List Reply) →
+    (M : Engine) (codes : List Code) (used_up : Import → Bool) (i : Invocation) (rest : List Invocation) (f : ℕ) (due : Option ℕ) (m m' : Machine) (left : ℕ) (asked : Asked) (answer : RunEnd) (steps : ℕ) (ready entered : Bool) (more : List Reply) →
     function_export M.program.module_ i.name ≡ Some f → HadMemory answer →
-    (came : InvocationCame M.program codes used_up (invoking M due f i.args (world_of m [])) left asked answer steps ready m' more) →
+    (came : InvocationCame M.program codes used_up (invoking M due f i.args (world_of m [])) left asked answer steps ready entered m' more) →
     session M (i ∷ rest) due (world_of m (replies_of asked.given ++ more)) left ≡ came.ran ∷ (if ready then session M rest None (world_of m' more) (left - steps) else [])

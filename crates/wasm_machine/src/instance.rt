@@ -1,34 +1,33 @@
 //! An instance of a module.
 
-ghost use Rattle.std.specs.Prelude.{◌≡◌, ◌+◌, ◌<◌, ◌≤◌, ◌^◌, true, ℕ, List, Some, None, IfOk, OnOk, OnErr, length, option_map, slice_get};
+ghost use Rattle.std.specs.Prelude.{◌≡◌, ◌+◌, ◌<◌, ◌^◌, ℕ, true, Some, None, IfOk, OnOk, OnErr, length, option_map, slice_get};
 ghost use Rattle.std.specs.Option.{option_copied};
 ghost use Rattle.wasm_syntax.specs.declared.value.Value.{Value as Val};
-ghost use Rattle.wasm_syntax.specs.declared.parts.Import.{Import as ImportValue};
-ghost use Rattle.wasm_syntax.specs.declared.parts.FuncType.{FuncType as TypeValue};
 ghost use Rattle.wasm_syntax.specs.Module.{Program, function_export};
 ghost use Rattle.wasm_syntax.specs.Machine.{Config};
 ghost use Rattle.dump_write.specs.Image.{frame_images};
-ghost use Rattle.machine_hosted.specs.Settings.{ServesAll, Takes};
+ghost use Rattle.machine_hosted.specs.Settings.{HostKept, HostServes, Knows, Takes};
 ghost use Rattle.machine_hosted.specs.Answers.{HasCause};
 ghost use Rattle.wasm_machine.specs.Entries.{entry_fault};
-ghost use Rattle.wasm_machine.specs.Answers.{end_of, refusal};
-ghost use Rattle.wasm_machine.specs.Instances.{Begins, IsOf, StandsAt, Invoked, last_of};
+ghost use Rattle.wasm_machine.specs.Answers.{fault_in};
+ghost use Rattle.wasm_machine.specs.Instances.{Begins, IsOf, StandsAt, Invoked, Stopped, last_of};
+ghost use Rattle.wasm_machine.specs.declared.invocation.LastInvocation.{LastInvocation as Kept};
 
-use crate::answer::{RunAnswer, ran, refused};
 use crate::entries::callee;
 use crate::frames::{FrameRef, frame_at};
-use crate::invocation::{LastInvocation, kept};
+use crate::invocation::{LastInvocation, RunAnswer, kept};
 use causes::NoMemory;
 use host_devices::HostSide;
 use linear_memory::Memory;
 use machine_basics::Stack;
 use machine_frames::CallStack;
-use machine_hosted::{RunEnd, run_invocation};
+use machine_hosted::{RunEnd, Runner, run_invocation};
 use machine_prepared::prepare;
 use machine_start::{StartFault, Started, start};
 use machine_steps::{Machine, Prepared};
 use std::alloc::Global;
 use std::marker::Model;
+use std::rc::Rc;
 use wasm_syntax::{ModuleParts, Value, Values};
 use wasm_validate::Validated;
 
@@ -41,10 +40,11 @@ use wasm_validate::Validated;
 pub struct Instance<'a> {
     alloc: Global,
     source: &'a ModuleParts,
-    prepared: Prepared<'a>,
+    prepared: Rc<Prepared<'a>>,
     machine: Machine,
     due: Option<u32>,
     ready: bool,
+    entered: bool,
     steps: u64,
     last: Option<LastInvocation>,
 }
@@ -54,9 +54,9 @@ impl<'a> Model for Instance<'a> {
 
     ghost Value = { State };
 
-    ghost view = { λ i. state i.source.now i.prepared i.machine i.due i.ready i.steps i.last };
+    ghost view = { λ i. state i.source.now i.prepared.value i.machine i.due i.ready i.entered i.steps i.last };
 
-    ghost invariant = { λ i. SoundState (state i.source.now i.prepared i.machine i.due i.ready i.steps i.last) };
+    ghost invariant = { λ i. SoundState (state i.source.now i.prepared.value i.machine i.due i.ready i.entered i.steps i.last) };
 }
 
 /// A machine without frames.
@@ -77,6 +77,16 @@ fn machine_of(alloc: Global, started: Started) -> Machine
     }
 }
 
+/// A module prepared for running, which copies of its instance can share.
+fn share<'a>(alloc: Global, prepared: Prepared<'a>) -> Result<Rc<Prepared<'a>>, NoMemory>
+    ensures { IfOk result (λ shared. shared.value ≡ prepared.entry) }
+{
+    match Rc::new(alloc, prepared) {
+        Ok(shared) => Ok(shared),
+        Err(_) => Err(NoMemory),
+    }
+}
+
 impl<'a> Instance<'a> {
     /// Starts an instance (Core 4.5.4): all segments are judged first, the element segments before the data segments, and then they are written.
     /// No function is run yet.
@@ -86,7 +96,8 @@ impl<'a> Instance<'a> {
         let whole = source.module();
         let parts = whole.parts();
         let started = start(alloc, parts)?;
-        let prepared = prepare(alloc, whole)?;
+        let made = prepare(alloc, whole)?;
+        let prepared = share(alloc, made)?;
         Ok(Instance {
             alloc,
             source: parts,
@@ -94,6 +105,7 @@ impl<'a> Instance<'a> {
             machine: machine_of(alloc, started),
             due: parts.start,
             ready: true,
+            entered: false,
             steps: 0,
             last: None,
         })
@@ -112,23 +124,20 @@ impl<'a> Instance<'a> {
         hosts: &mut H,
     ) -> RunAnswer
         requires ready { self.old.ready ≡ true }
-        requires imports { (H.origin hosts.old).imports ≡ self.old.module_.imports }
+        requires knows { Knows (H.origin hosts.old) self.old.module_ }
         requires steps { self.old.steps + fuel < 2 ^ 64 }
-        ensures refused { refusal result ≡ entry_fault (H.serving hosts.old) self.old.module_ entry.now args.now }
-        ensures unchanged { OnErr (end_of result) ((self.new ≡ self.old) × (hosts.new ≡ hosts.old)) }
-        ensures came { IfOk (end_of result) (λ end. (f : ℕ) × (function_export self.old.module_ entry.now ≡ Some f) × ((p : Program) → IsOf self.old p → Invoked p (H.collecting hosts.old) depth (H.used_up hosts.new) f args.now fuel self.old self.new end (H.calls hosts.old) (H.calls hosts.new)) × (self.new.last ≡ last_of f args.now depth (H.collecting hosts.old) end)) }
-        ensures cause { IfOk (end_of result) (λ end. HasCause end (H.fault_count hosts.old) (H.fault_count hosts.new)) }
-        ensures due { OnOk (end_of result) (self.new.due ≡ None) }
+        ensures refused { fault_in result ≡ entry_fault (H.serving hosts.old) self.old.module_ entry.now args.now }
+        ensures unchanged { OnErr result ((self.new ≡ self.old) × (hosts.new ≡ hosts.old)) }
+        ensures came { IfOk result (λ end. (f : ℕ) × (function_export self.old.module_ entry.now ≡ Some f) × ((p : Program) → IsOf self.old p → Invoked p (H.collecting hosts.old) depth (H.used_up hosts.new) f args.now fuel self.old self.new end (H.calls hosts.old) (H.calls hosts.new)) × (self.new.last ≡ last_of f args.now depth (H.collecting hosts.old) end)) }
+        ensures cause { IfOk result (λ end. HasCause end (H.fault_count hosts.old) (H.fault_count hosts.new)) }
+        ensures due { OnOk result (self.new.due ≡ None) }
         ensures module_ { self.new.module_ ≡ self.old.module_ }
         ensures prepared { self.new.prepared ≡ self.old.prepared }
-        ensures later { (name : List ℕ) → H.fault_count hosts.old name ≤ H.fault_count hosts.new name }
-        ensures serving { (i : ImportValue) (t : TypeValue) → H.serving hosts.new i t ≡ H.serving hosts.old i t }
-        ensures collecting { H.collecting hosts.new ≡ H.collecting hosts.old }
-        ensures origin { H.origin hosts.new ≡ H.origin hosts.old }
+        ensures host { HostKept H.origin H.collecting H.serving H.fault_count hosts.old hosts.new }
     {
         match callee(self.source, entry, args, hosts) {
-            Ok(function) => ran(self.call(function, args, depth, fuel, hosts)),
-            Err(fault) => refused(fault),
+            Ok(function) => Ok(self.call(function, args, depth, fuel, hosts)),
+            Err(fault) => Err(fault),
         }
     }
 
@@ -144,8 +153,7 @@ impl<'a> Instance<'a> {
     ) -> RunEnd
         requires ready { self.old.ready ≡ true }
         requires takes { Takes self.old.module_ function args.now }
-        requires served { ServesAll (H.serving hosts.old) self.old.module_ }
-        requires imports { (H.origin hosts.old).imports ≡ self.old.module_.imports }
+        requires host { HostServes (H.origin hosts.old) (H.serving hosts.old) self.old.module_ }
         requires steps { self.old.steps + fuel < 2 ^ 64 }
         ensures came { (p : Program) → IsOf self.old p → Invoked p (H.collecting hosts.old) depth (H.used_up hosts.new) function args.now fuel self.old self.new result (H.calls hosts.old) (H.calls hosts.new) }
         ensures last { self.new.last ≡ last_of function args.now depth (H.collecting hosts.old) result }
@@ -153,33 +161,29 @@ impl<'a> Instance<'a> {
         ensures due { self.new.due ≡ None }
         ensures module_ { self.new.module_ ≡ self.old.module_ }
         ensures prepared { self.new.prepared ≡ self.old.prepared }
-        ensures later { (name : List ℕ) → H.fault_count hosts.old name ≤ H.fault_count hosts.new name }
-        ensures serving { (i : ImportValue) (t : TypeValue) → H.serving hosts.new i t ≡ H.serving hosts.old i t }
-        ensures collecting { H.collecting hosts.new ≡ H.collecting hosts.old }
-        ensures origin { H.origin hosts.new ≡ H.origin hosts.old }
+        ensures host { HostKept H.origin H.collecting H.serving H.fault_count hosts.old hosts.new }
     {
         let start = self.due;
         self.due = None;
         self.ready = false;
+        self.entered = start.is_none();
         self.last = None;
         let copy = match Values::from_slice(self.alloc, args) {
             Ok(copy) => copy,
             Err(NoMemory) => return RunEnd::NoMemory,
         };
         let collecting = hosts.collects();
-        let run = run_invocation(
-            self.alloc,
-            &mut self.machine,
-            &self.prepared,
-            self.source,
-            start,
-            function,
-            args,
-            depth as usize,
-            fuel,
-            hosts,
-        );
+        let prepared: &Prepared = &self.prepared;
+        let runner = Runner {
+            alloc: self.alloc,
+            source: self.source,
+            prepared,
+            depth: depth as usize,
+        };
+        let machine = &mut self.machine;
+        let run = run_invocation(&runner, machine, start, function, args, fuel, hosts);
         self.ready = run.ready;
+        self.entered = run.entered;
         self.steps += run.steps;
         self.last = kept(function, copy, depth, collecting, &run.answer);
         run.answer
@@ -192,6 +196,14 @@ impl<'a> Instance<'a> {
         self.ready
     }
 
+    /// Whether the function that was invoked last was begun. Where it was not, the start function was still under way. Before the first
+    /// invocation none was.
+    pub fn entered(&self) -> bool
+        ensures { result ≡ self.now.entered }
+    {
+        self.entered
+    }
+
     /// The number of steps that it has made, over all its invocations.
     pub fn steps(&self) -> u64
         ensures { result ≡ self.now.steps }
@@ -199,9 +211,11 @@ impl<'a> Instance<'a> {
         self.steps
     }
 
-    /// What was invoked last, and how that ended. None where nothing was invoked, or memory was wanting.
+    /// What was invoked last, and how that ended. None where nothing was invoked, or memory was wanting. The instance stands where that
+    /// stopped.
     pub fn last(&self) -> Option<&LastInvocation>
-        ensures { option_copied result ≡ self.now.last }
+        ensures last { option_copied result ≡ self.now.last }
+        ensures stopped { (l : Kept) (p : Program) → self.now.last ≡ Some l → IsOf self.now p → Stopped self.now l p }
     {
         self.last.as_ref()
     }
@@ -219,7 +233,8 @@ impl<'a> Instance<'a> {
         requires { index < length self.now.machine.stack.frames }
         ensures { (p : Program) (c : Config) → StandsAt self.now p c → slice_get (frame_images c.frames) index ≡ Some result }
     {
-        frame_at(&self.machine, &self.prepared, index)
+        let prepared: &Prepared = &self.prepared;
+        frame_at(&self.machine, prepared, index)
     }
 
     /// Its globals, in the module's order.

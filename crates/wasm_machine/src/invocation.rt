@@ -1,11 +1,15 @@
-//! What an instance keeps of its last invocation.
+//! What an invocation comes to, and what an instance keeps of it.
 
 ghost use Rattle.std.specs.Prelude.{◌≡◌};
 ghost use Rattle.wasm_machine.specs.Instances.{kept_end, last_of};
 
+use crate::entries::EntryFault;
 use machine_basics::TrapKind;
 use machine_hosted::RunEnd;
 use wasm_syntax::{Value, Values};
+
+/// What an invocation came to, or why nothing was run.
+pub type RunAnswer = Result<RunEnd, EntryFault>;
 
 /// How an invocation ended, where memory sufficed: a variant for each other answer, without what was handed out with it.
 #[derive(Clone, Copy, PartialEq, Eq)]

@@ -19,13 +19,14 @@ use Rattle.machine_steps.specs.declared.machine.ImportCall.{ImportCall}
 use Rattle.machine_steps.specs.Meets.{CallsImport}
 use Rattle.machine_steps.specs.inner.Runs.{Begins}
 use Rattle.machine_hosted.specs.Safe.{ValidProgram}
-use Rattle.causes.specs.Counts.{Rose}
 use Rattle.host_devices.specs.HostSides.{Calls}
-use Rattle.machine_hosted.specs.declared.halt.Halt.{Halt}
-use Rattle.machine_hosted.specs.declared.halt.Halt.TheVariants.{Spent, Ended as LastFrameLeft, Trap, NoReply, Failed, Misfit, NoMemory}
+use Rattle.machine_hosted.specs.declared.answer.RunEnd.{RunEnd}
+use Rattle.machine_hosted.specs.declared.answer.RunEnd.TheVariants.{Finished, Trapped, NoReply, BadReply, DeviceFault, FuelSpent, NoMemory}
 use Rattle.machine_hosted.specs.declared.turn.Turn.{Turn}
-use Rattle.machine_hosted.specs.declared.turn.Turn.TheVariants.{Goes, Halts, Lacking}
-use Rattle.machine_hosted.specs.Hosted.{replying, Asked, Grew, Served, Going, Admits, Tells}
+use Rattle.machine_hosted.specs.declared.turn.Turn.TheVariants.{Goes, Ends, Lacking}
+use Rattle.machine_hosted.specs.Hosted.{replying, Asked, Grew, Served, Going}
+use Rattle.machine_hosted.specs.Answers.{AdmitsReplies}
+use Rattle.machine_hosted.specs.inner.FrameRuns.{Tells}
 use Rattle.host_devices.specs.Given.{replies_of}
 
 -- ---- what a run begins with
@@ -79,24 +80,25 @@ pub record AtCall (M : Engine) (codes : List Code) (call : ImportCall) (import :
   pub operands : calls.operands ≡ reverse args ++ below
   pub step_is : step M c ≡ host M (answer M.collects M.program.module_ (host_call call.function import type args) c.world) (host_call call.function import type args) below calls.rest calls.frame calls.label calls.outer calls.callers c.world c.collected
 
-abbrev pub halt_of : Turn → Halt
-halt_of Goes = Spent
-halt_of (Halts halt) = halt
-halt_of Lacking = NoMemory
+-- how the run ends, or that it goes on
+abbrev pub end_of : Turn → RunEnd
+end_of Goes = FuelSpent
+end_of (Ends answer) = answer
+end_of Lacking = NoMemory
 
 -- it is no end where the run goes on
-abbrev pub Stops : Halt → Type 0
-Stops Spent = ⊥
-Stops LastFrameLeft = Unit {0}
-Stops (Trap kind) = Unit {0}
+abbrev pub Stops : RunEnd → Type 0
+Stops FuelSpent = ⊥
+Stops (Finished value) = Unit {0}
+Stops (Trapped kind) = Unit {0}
 Stops NoReply = Unit {0}
-Stops (Failed name) = Unit {0}
-Stops (Misfit reply) = Unit {0}
+Stops (DeviceFault name) = Unit {0}
+Stops (BadReply reply) = Unit {0}
 Stops NoMemory = Unit {0}
 
 abbrev pub StopsOrGoes : Turn → Type 0
 StopsOrGoes Goes = Unit {0}
-StopsOrGoes (Halts halt) = Stops halt
+StopsOrGoes (Ends answer) = Stops answer
 StopsOrGoes Lacking = ⊥
 
 -- the host side was asked for nothing, for one reply, or for one call of the collector
@@ -114,37 +116,27 @@ pub record Turned (M : Engine) (codes : List Code) (used_up : Import → Bool) (
   pub what : Stepped
   pub is : step M c ≡ what
   pub stops : StopsOrGoes turn
-  pub tells : Tells M.program codes used_up (halt_of turn) what m
+  pub tells : Tells M.program codes used_up (end_of turn) what m
   pub served : Served asked c.world c.collected more what
 
 -- the host side was asked for something, and with its reply the step comes to what the turn says
 pub record TurnedWith (M : Engine) (codes : List Code) (used_up : Import → Bool) (turn : Turn) (there : List Reply → Config) (m : Machine) (old new : Calls) : Type 0 where
   pub asked : Asked
   pub grew : Grew asked old new
-  pub turned : (more : List Reply) → Admits (halt_of turn) more → Turned M codes used_up asked turn (there (replies_of asked.given ++ more)) m more
+  pub turned : (more : List Reply) → AdmitsReplies (end_of turn) more → Turned M codes used_up asked turn (there (replies_of asked.given ++ more)) m more
 
 -- where memory ran out before the host side answered, nothing is said but that it was asked for nothing
 abbrev pub TurnMeets : Engine → List Code → (Import → Bool) → Turn → (List Reply → Config) → Machine → Calls → Calls → Type 0
 TurnMeets M codes used_up Lacking there m old new = new ≡ old
 TurnMeets M codes used_up Goes there m old new = TurnedWith M codes used_up Goes there m old new
-TurnMeets M codes used_up (Halts halt) there m old new = TurnedWith M codes used_up (Halts halt) there m old new
-
--- a device that failed is named, and its count of faults rose
-abbrev pub HasCause : Halt → (List ℕ → ℕ) → (List ℕ → ℕ) → Type 0
-HasCause (Failed name) before now = Rose (before name) (now name)
-HasCause Spent before now = Unit {0}
-HasCause LastFrameLeft before now = Unit {0}
-HasCause (Trap kind) before now = Unit {0}
-HasCause NoReply before now = Unit {0}
-HasCause (Misfit reply) before now = Unit {0}
-HasCause NoMemory before now = Unit {0}
+TurnMeets M codes used_up (Ends answer) there m old new = TurnedWith M codes used_up (Ends answer) there m old new
 
 -- it is no end for want of a reply
-abbrev pub IsReplied : Halt → Type 0
+abbrev pub IsReplied : RunEnd → Type 0
 IsReplied NoReply = ⊥
-IsReplied (Failed name) = ⊥
-IsReplied Spent = Unit {0}
-IsReplied LastFrameLeft = Unit {0}
-IsReplied (Trap kind) = Unit {0}
-IsReplied (Misfit reply) = Unit {0}
+IsReplied (DeviceFault name) = ⊥
+IsReplied FuelSpent = Unit {0}
+IsReplied (Finished value) = Unit {0}
+IsReplied (Trapped kind) = Unit {0}
+IsReplied (BadReply reply) = Unit {0}
 IsReplied NoMemory = Unit {0}

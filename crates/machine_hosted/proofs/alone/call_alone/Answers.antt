@@ -18,12 +18,12 @@ returns-in-Replied-clause-came g c = λ p codes depth w co there s wf.
     replied p codes (g.H.HostSide.used_up c.ask.new.hosts) (g.H.HostSide.collecting c.args.hosts.now) depth c.args.index c.args.import.now c.args.ftype.now c.args.args.now w co there wf
     (record c.args.m.now { stack = c.leave_frames.new.m; shared = c.take_reply.new.shared }) c.args.fuel some c.args.m.now c.in-Replied.reply c.leave_frames.ensures refl s
     c.take_reply.result (g.H.HostSide.calls c.args.hosts.now) (g.H.HostSide.calls c.ask.new.hosts) c.in-Replied.ensures.calls
-    (subst (λ t. Took c.take_reply.result t c.in-Replied.reply w c.args.m.now.shared c.take_reply.new.shared) c.result_of.ensures (c.take_reply.ensures w s.holds))
+    (subst (λ t. Took c.take_reply.result t c.in-Replied.reply w c.args.m.now.shared c.take_reply.new.shared) c.result_type.ensures (c.take_reply.ensures w s.holds))
 
 pub returns-in-Replied-clause-cause : goal.returns-in-Replied-clause-cause
 returns-in-Replied-clause-cause g c =
     let s = shares_own c.args.m.now [] in
-    took_cause c.take_reply.result c.result_of.result c.in-Replied.reply (world_of c.args.m.now []) c.args.m.now.shared c.take_reply.new.shared (g.H.HostSide.fault_count c.args.hosts.now) (g.H.HostSide.fault_count c.ask.new.hosts)
+    took_cause c.take_reply.result c.result_type.result c.in-Replied.reply (world_of c.args.m.now []) c.args.m.now.shared c.take_reply.new.shared (g.H.HostSide.fault_count c.args.hosts.now) (g.H.HostSide.fault_count c.ask.new.hosts)
     (c.take_reply.ensures (world_of c.args.m.now []) s.holds)
 
 pub returns-in-NoReply-clause-came : goal.returns-in-NoReply-clause-came

@@ -1,7 +1,6 @@
-use Rattle.std.proofs.Common.{[], ◌+◌, length, sym, refl, subst}
-use Rattle.machine_hosted.specs.declared.answer.FunctionRun.{FunctionRun}
+use Rattle.std.proofs.Common.{[], ◌+◌, length, refl}
 use Rattle.machine_hosted.specs.Settings.{world_of}
-use Rattle.machine_hosted.specs.Answers.{FunctionCameWith, function_going}
+use Rattle.machine_hosted.specs.Answers.{function_going}
 use Rattle.wasm_syntax.specs.Run.{engine}
 use Rattle.machine_hosted.proofs.WorldLaws.{shares_own}
 use Rattle.machine_hosted.proofs.ModuleLaws.{program_of}
@@ -9,33 +8,32 @@ use Rattle.machine_hosted.proofs.FrameLaws.{within_fuel, fits_then}
 use Rattle.machine_hosted.proofs.DefinedLaws.{ready, came, no_memory}
 use Rattle.machine_hosted.proofs.function.run_defined.Goals as goal
 
-pub run_frames-halted-requires-clause-ready : goal.run_frames-halted-requires-clause-ready
-run_frames-halted-requires-clause-ready g c =
-    ready c.args.source.now c.args.prepared.now c.args.function c.args.args.now c.args.m.now c.begin_function.new.m c.args.depth (g.H.HostSide.collecting c.args.hosts.now) (g.H.HostSide.serving c.args.hosts.now)
-    c.requires.sound c.requires.fits c.requires.args c.requires.served (program_of c.args.source.now c.args.prepared.now c.requires.sound) refl c.requires.sound.whole.write (world_of c.args.m.now []) [] (shares_own c.args.m.now []) c.in-Ok.ensures
+pub run_frames-requires-clause-ready : goal.run_frames-requires-clause-ready
+run_frames-requires-clause-ready g c =
+    ready c.args.runner.now.source.now c.args.runner.now.prepared.now c.args.function c.args.args.now c.args.m.now c.begin_function.new.m c.args.runner.now.depth (g.H.HostSide.collecting c.args.hosts.now) (g.H.HostSide.serving c.args.hosts.now)
+    c.requires.sound c.requires.fits c.requires.args c.requires.host.serves (program_of c.args.runner.now.source.now c.args.runner.now.prepared.now c.requires.sound) refl c.requires.sound.whole.write (world_of c.args.m.now []) [] (shares_own c.args.m.now []) c.in-Ok.ensures
 
 pub returns-in-Ok-clause-came : goal.returns-in-Ok-clause-came
 returns-in-Ok-clause-came g c = λ p w co e is s.
-    subst (λ (r : FunctionRun). FunctionCameWith p c.args.prepared.now.codes.items (g.H.HostSide.used_up c.run_frames-halted.new.hosts) (function_going (engine p (g.H.HostSide.collecting c.args.hosts.now) c.args.depth) (length c.args.source.now.imports + c.args.function) c.args.args.now w co) w co c.args.fuel r.answer r.steps c.run_frames-halted.new.m (g.H.HostSide.calls c.args.hosts.now) (g.H.HostSide.calls c.run_frames-halted.new.hosts)) (sym c.answer.ensures)
-    (came c.args.source.now c.args.prepared.now c.args.function c.args.args.now c.args.m.now c.begin_function.new.m c.args.depth (g.H.HostSide.collecting c.args.hosts.now) (g.H.HostSide.serving c.args.hosts.now)
-    c.requires.sound c.requires.fits c.requires.args c.requires.served p e is w co s (g.H.HostSide.used_up c.run_frames-halted.new.hosts) c.args.fuel c.run_frames-halted.result.halt c.run_frames-halted.result.steps c.run_frames-halted.new.m (g.H.HostSide.calls c.args.hosts.now) (g.H.HostSide.calls c.run_frames-halted.new.hosts)
-    (c.run_frames-halted.ensures.came
-    (ready c.args.source.now c.args.prepared.now c.args.function c.args.args.now c.args.m.now c.begin_function.new.m c.args.depth (g.H.HostSide.collecting c.args.hosts.now) (g.H.HostSide.serving c.args.hosts.now)
-    c.requires.sound c.requires.fits c.requires.args c.requires.served p e is w co s c.in-Ok.ensures)))
+    came c.args.runner.now.source.now c.args.runner.now.prepared.now c.args.function c.args.args.now c.args.m.now c.begin_function.new.m c.args.runner.now.depth (g.H.HostSide.collecting c.args.hosts.now) (g.H.HostSide.serving c.args.hosts.now)
+    c.requires.sound c.requires.fits c.requires.args c.requires.host.serves p e is w co s (g.H.HostSide.used_up c.run_frames.new.hosts) c.args.fuel c.run_frames.result.answer c.run_frames.result.steps c.run_frames.new.m (g.H.HostSide.calls c.args.hosts.now) (g.H.HostSide.calls c.run_frames.new.hosts)
+    (c.run_frames.ensures.came
+    (ready c.args.runner.now.source.now c.args.runner.now.prepared.now c.args.function c.args.args.now c.args.m.now c.begin_function.new.m c.args.runner.now.depth (g.H.HostSide.collecting c.args.hosts.now) (g.H.HostSide.serving c.args.hosts.now)
+    c.requires.sound c.requires.fits c.requires.args c.requires.host.serves p e is w co s c.in-Ok.ensures))
 
 pub returns-in-Ok-clause-within : goal.returns-in-Ok-clause-within
 returns-in-Ok-clause-within g c =
-    let p = program_of c.args.source.now c.args.prepared.now c.requires.sound in
-    within_fuel p c.args.prepared.now.codes.items (g.H.HostSide.used_up c.run_frames-halted.new.hosts) (function_going (engine p (g.H.HostSide.collecting c.args.hosts.now) c.args.depth) (length c.args.source.now.imports + c.args.function) c.args.args.now (world_of c.args.m.now []) []) (world_of c.args.m.now []) [] c.args.fuel c.answer.result.steps c.run_frames-halted.new.m (g.H.HostSide.calls c.args.hosts.now) (g.H.HostSide.calls c.run_frames-halted.new.hosts) c.answer.result.answer
+    let p = program_of c.args.runner.now.source.now c.args.runner.now.prepared.now c.requires.sound in
+    within_fuel p c.args.runner.now.prepared.now.codes.items (g.H.HostSide.used_up c.run_frames.new.hosts) (function_going (engine p (g.H.HostSide.collecting c.args.hosts.now) c.args.runner.now.depth) (length c.args.runner.now.source.now.imports + c.args.function) c.args.args.now (world_of c.args.m.now []) []) (world_of c.args.m.now []) [] c.args.fuel c.run_frames.result.steps c.run_frames.new.m (g.H.HostSide.calls c.args.hosts.now) (g.H.HostSide.calls c.run_frames.new.hosts) c.run_frames.result.answer
     (returns-in-Ok-clause-came g c p (world_of c.args.m.now []) [] refl c.requires.sound.whole.write (shares_own c.args.m.now []))
 
 pub returns-in-Ok-clause-fits : goal.returns-in-Ok-clause-fits
 returns-in-Ok-clause-fits g c =
-    let p = program_of c.args.source.now c.args.prepared.now c.requires.sound in
-    fits_then p c.args.prepared.now.codes.items (g.H.HostSide.used_up c.run_frames-halted.new.hosts) (function_going (engine p (g.H.HostSide.collecting c.args.hosts.now) c.args.depth) (length c.args.source.now.imports + c.args.function) c.args.args.now (world_of c.args.m.now []) []) (world_of c.args.m.now []) [] c.args.fuel c.answer.result.steps c.run_frames-halted.new.m (g.H.HostSide.calls c.args.hosts.now) (g.H.HostSide.calls c.run_frames-halted.new.hosts) c.answer.result.answer
+    let p = program_of c.args.runner.now.source.now c.args.runner.now.prepared.now c.requires.sound in
+    fits_then p c.args.runner.now.prepared.now.codes.items (g.H.HostSide.used_up c.run_frames.new.hosts) (function_going (engine p (g.H.HostSide.collecting c.args.hosts.now) c.args.runner.now.depth) (length c.args.runner.now.source.now.imports + c.args.function) c.args.args.now (world_of c.args.m.now []) []) (world_of c.args.m.now []) [] c.args.fuel c.run_frames.result.steps c.run_frames.new.m (g.H.HostSide.calls c.args.hosts.now) (g.H.HostSide.calls c.run_frames.new.hosts) c.run_frames.result.answer
     (returns-in-Ok-clause-came g c p (world_of c.args.m.now []) [] refl c.requires.sound.whole.write (shares_own c.args.m.now []))
 
 pub returns-in-Err-clause-came : goal.returns-in-Err-clause-came
 returns-in-Err-clause-came g c = λ p w co e is s.
-    no_memory c.args.source.now c.args.prepared.now c.args.function c.args.args.now c.args.m.now c.begin_function.new.m c.args.depth (g.H.HostSide.collecting c.args.hosts.now) (g.H.HostSide.serving c.args.hosts.now)
-    c.requires.sound c.requires.fits c.requires.args c.requires.served p e is w co s (g.H.HostSide.used_up c.args.hosts.now) c.args.fuel c.begin_function.new.m (g.H.HostSide.calls c.args.hosts.now)
+    no_memory c.args.runner.now.source.now c.args.runner.now.prepared.now c.args.function c.args.args.now c.args.m.now c.begin_function.new.m c.args.runner.now.depth (g.H.HostSide.collecting c.args.hosts.now) (g.H.HostSide.serving c.args.hosts.now)
+    c.requires.sound c.requires.fits c.requires.args c.requires.host.serves p e is w co s (g.H.HostSide.used_up c.args.hosts.now) c.args.fuel c.begin_function.new.m (g.H.HostSide.calls c.args.hosts.now)

@@ -14,29 +14,32 @@ use Rattle.machine_hosted.proofs.FrameLaws.{within_fuel, fits_then}
 use Rattle.machine_hosted.proofs.DefinedLaws.{by_same, same_alone}
 use Rattle.machine_hosted.proofs.function.run_function.Goals as goal
 
+pub call_alone-requires-clause-there : goal.call_alone-requires-clause-there
+call_alone-requires-clause-there g c = c.requires.host.knows _ _ (sym c.in-Some-Some.ensures.value)
+
 pub call_alone-requires-clause-one : goal.call_alone-requires-clause-one
 call_alone-requires-clause-one g c =
-    let p = program_of c.args.source.now c.args.prepared.now c.requires.sound in
-    few_results (program_of c.args.source.now c.args.prepared.now c.requires.sound) c.args.function c.in-Some-Some.ftype.now (valid_program (program_of c.args.source.now c.args.prepared.now c.requires.sound) c.args.source.now c.args.prepared.now c.requires.sound refl c.requires.sound.whole.write) (sym c.in-Some-Some.ensures')
+    let p = program_of c.args.runner.now.source.now c.args.runner.now.prepared.now c.requires.sound in
+    few_results (program_of c.args.runner.now.source.now c.args.runner.now.prepared.now c.requires.sound) c.args.function c.in-Some-Some.ftype.now (valid_program (program_of c.args.runner.now.source.now c.args.runner.now.prepared.now c.requires.sound) c.args.runner.now.source.now c.args.runner.now.prepared.now c.requires.sound refl c.requires.sound.whole.write) (sym c.in-Some-Some.ensures')
 
 pub returns-clause-came : goal.returns-clause-came
 returns-clause-came g c = λ p w co e is s.
     let at : slice_get p.module_.imports c.args.function ≡ Some c.in-Some-Some.import.now = ap (λ (x : Module). slice_get x.imports c.args.function) e ∙ sym c.in-Some-Some.ensures.value in
     let typed : type_at p.module_ c.args.function ≡ Some c.in-Some-Some.ftype.now = ap (λ (x : Module). type_at x c.args.function) e ∙ sym c.in-Some-Some.ensures' in
-    by_same p c.args.prepared.now.codes.items (g.H.HostSide.used_up c.call_alone.new.hosts) (alone (engine p (g.H.HostSide.collecting c.args.hosts.now) c.args.depth) (host_call c.args.function c.in-Some-Some.import.now c.in-Some-Some.ftype.now c.args.args.now) w co) (function_going (engine p (g.H.HostSide.collecting c.args.hosts.now) c.args.depth) c.args.function c.args.args.now w co) w co c.args.fuel c.call_alone.result.answer c.call_alone.result.steps c.call_alone.new.m (g.H.HostSide.calls c.args.hosts.now) (g.H.HostSide.calls c.call_alone.new.hosts)
-    (same_alone p (g.H.HostSide.collecting c.args.hosts.now) c.args.depth c.args.function c.in-Some-Some.import.now c.in-Some-Some.ftype.now c.args.args.now w co at typed)
-    (c.call_alone.ensures.came p c.args.prepared.now.codes.items c.args.depth w co at s (subst (λ (x : Module). WorldFits x w) (sym e) (each_fits c.args.source.now c.args.m.now w s c.requires.fits)))
+    by_same p c.args.runner.now.prepared.now.codes.items (g.H.HostSide.used_up c.call_alone.new.hosts) (alone (engine p (g.H.HostSide.collecting c.args.hosts.now) c.args.runner.now.depth) (host_call c.args.function c.in-Some-Some.import.now c.in-Some-Some.ftype.now c.args.args.now) w co) (function_going (engine p (g.H.HostSide.collecting c.args.hosts.now) c.args.runner.now.depth) c.args.function c.args.args.now w co) w co c.args.fuel c.call_alone.result.answer c.call_alone.result.steps c.call_alone.new.m (g.H.HostSide.calls c.args.hosts.now) (g.H.HostSide.calls c.call_alone.new.hosts)
+    (same_alone p (g.H.HostSide.collecting c.args.hosts.now) c.args.runner.now.depth c.args.function c.in-Some-Some.import.now c.in-Some-Some.ftype.now c.args.args.now w co at typed)
+    (c.call_alone.ensures.came p c.args.runner.now.prepared.now.codes.items c.args.runner.now.depth w co at s (subst (λ (x : Module). WorldFits x w) (sym e) (each_fits c.args.runner.now.source.now c.args.m.now w s c.requires.fits)))
 
 pub returns-clause-within : goal.returns-clause-within
 returns-clause-within g c =
-    let p = program_of c.args.source.now c.args.prepared.now c.requires.sound in
+    let p = program_of c.args.runner.now.source.now c.args.runner.now.prepared.now c.requires.sound in
     let w = world_of c.args.m.now [] in
-    within_fuel p c.args.prepared.now.codes.items (g.H.HostSide.used_up c.call_alone.new.hosts) (function_going (engine p (g.H.HostSide.collecting c.args.hosts.now) c.args.depth) c.args.function c.args.args.now w []) w [] c.args.fuel c.call_alone.result.steps c.call_alone.new.m (g.H.HostSide.calls c.args.hosts.now) (g.H.HostSide.calls c.call_alone.new.hosts) c.call_alone.result.answer
+    within_fuel p c.args.runner.now.prepared.now.codes.items (g.H.HostSide.used_up c.call_alone.new.hosts) (function_going (engine p (g.H.HostSide.collecting c.args.hosts.now) c.args.runner.now.depth) c.args.function c.args.args.now w []) w [] c.args.fuel c.call_alone.result.steps c.call_alone.new.m (g.H.HostSide.calls c.args.hosts.now) (g.H.HostSide.calls c.call_alone.new.hosts) c.call_alone.result.answer
     (returns-clause-came g c p w [] refl c.requires.sound.whole.write (shares_own c.args.m.now []))
 
 pub returns-clause-fits : goal.returns-clause-fits
 returns-clause-fits g c =
-    let p = program_of c.args.source.now c.args.prepared.now c.requires.sound in
+    let p = program_of c.args.runner.now.source.now c.args.runner.now.prepared.now c.requires.sound in
     let w = world_of c.args.m.now [] in
-    fits_then p c.args.prepared.now.codes.items (g.H.HostSide.used_up c.call_alone.new.hosts) (function_going (engine p (g.H.HostSide.collecting c.args.hosts.now) c.args.depth) c.args.function c.args.args.now w []) w [] c.args.fuel c.call_alone.result.steps c.call_alone.new.m (g.H.HostSide.calls c.args.hosts.now) (g.H.HostSide.calls c.call_alone.new.hosts) c.call_alone.result.answer
+    fits_then p c.args.runner.now.prepared.now.codes.items (g.H.HostSide.used_up c.call_alone.new.hosts) (function_going (engine p (g.H.HostSide.collecting c.args.hosts.now) c.args.runner.now.depth) c.args.function c.args.args.now w []) w [] c.args.fuel c.call_alone.result.steps c.call_alone.new.m (g.H.HostSide.calls c.args.hosts.now) (g.H.HostSide.calls c.call_alone.new.hosts) c.call_alone.result.answer
     (returns-clause-came g c p w [] refl c.requires.sound.whole.write (shares_own c.args.m.now []))

@@ -10,9 +10,9 @@ use Rattle.machine_hosted.proofs.invocation.run_invocation.Goals as goal
 
 pub returns-in-None-clause-came : goal.returns-in-None-clause-came
 returns-in-None-clause-came g c = λ p e is.
-    let M = engine p (g.H.HostSide.collecting c.args.hosts.now) c.args.depth in
+    let M = engine p (g.H.HostSide.collecting c.args.hosts.now) c.args.runner.now.depth in
     let w = world_of c.args.m.now [] in
-    subst (λ (r : EntryRun). InvocationCameWith p c.args.prepared.now.codes.items (g.H.HostSide.used_up c.run_function-run.new.hosts) (invoking (engine p (g.H.HostSide.collecting c.args.hosts.now) c.args.depth) c.args.start c.args.entry c.args.args.now (world_of c.args.m.now [])) c.args.fuel r.answer r.steps r.ready c.run_function-run.new.m (g.H.HostSide.calls c.args.hosts.now) (g.H.HostSide.calls c.run_function-run.new.hosts)) (sym c.ended.ensures)
-    (subst (λ o. InvocationCameWith p c.args.prepared.now.codes.items (g.H.HostSide.used_up c.run_function-run.new.hosts) (invoking (engine p (g.H.HostSide.collecting c.args.hosts.now) c.args.depth) o c.args.entry c.args.args.now (world_of c.args.m.now [])) c.args.fuel c.run_function-run.result.answer c.run_function-run.result.steps (follows_behind c.run_function-run.result.answer true) c.run_function-run.new.m (g.H.HostSide.calls c.args.hosts.now) (g.H.HostSide.calls c.run_function-run.new.hosts)) (sym c.in-None.is)
-    (entry_alone p c.args.prepared.now.codes.items (g.H.HostSide.used_up c.run_function-run.new.hosts) M refl c.args.m.now c.args.entry c.args.args.now c.args.fuel c.run_function-run.result.answer c.run_function-run.result.steps c.run_function-run.new.m (g.H.HostSide.calls c.args.hosts.now) (g.H.HostSide.calls c.run_function-run.new.hosts)
+    subst (λ (r : EntryRun). InvocationCameWith p c.args.runner.now.prepared.now.codes.items (g.H.HostSide.used_up c.run_function-run.new.hosts) (invoking (engine p (g.H.HostSide.collecting c.args.hosts.now) c.args.runner.now.depth) c.args.start c.args.entry c.args.args.now (world_of c.args.m.now [])) c.args.fuel r.answer r.steps r.ready r.entered c.run_function-run.new.m (g.H.HostSide.calls c.args.hosts.now) (g.H.HostSide.calls c.run_function-run.new.hosts)) (sym c.ended.ensures)
+    (subst (λ o. InvocationCameWith p c.args.runner.now.prepared.now.codes.items (g.H.HostSide.used_up c.run_function-run.new.hosts) (invoking (engine p (g.H.HostSide.collecting c.args.hosts.now) c.args.runner.now.depth) o c.args.entry c.args.args.now (world_of c.args.m.now [])) c.args.fuel c.run_function-run.result.answer c.run_function-run.result.steps (follows_behind c.run_function-run.result.answer true) true c.run_function-run.new.m (g.H.HostSide.calls c.args.hosts.now) (g.H.HostSide.calls c.run_function-run.new.hosts)) (sym c.in-None.is)
+    (entry_alone p c.args.runner.now.prepared.now.codes.items (g.H.HostSide.used_up c.run_function-run.new.hosts) M refl c.args.m.now c.args.entry c.args.args.now c.args.fuel c.run_function-run.result.answer c.run_function-run.result.steps c.run_function-run.new.m (g.H.HostSide.calls c.args.hosts.now) (g.H.HostSide.calls c.run_function-run.new.hosts)
     (c.run_function-run.ensures.came p w [] e is (shares_own c.args.m.now []))))

@@ -14,23 +14,23 @@ use Rattle.machine_hosted.proofs.invocation.run_with_start.Goals as goal
 
 pub returns-then-not-is_finished-clause-came : goal.returns-then-not-is_finished-clause-came
 returns-then-not-is_finished-clause-came g c = λ p e is.
-    let M = engine p (g.H.HostSide.collecting c.args.hosts.now) c.args.depth in
-    let codes = c.args.prepared.now.codes.items in
+    let M = engine p (g.H.HostSide.collecting c.args.hosts.now) c.args.runner.now.depth in
+    let codes = c.args.runner.now.prepared.now.codes.items in
     let w = world_of c.args.m.now [] in
     let mid = c.run_function-first.new.m in
     let old = g.H.HostSide.calls c.args.hosts.now in
     let middle = g.H.HostSide.calls c.run_function-first.new.hosts in
     let up = g.H.HostSide.used_up c.run_function-first.new.hosts in
-    let fn = function_there p c.args.source.now c.args.prepared.now c.args.entry c.args.args.now c.requires.sound e is c.requires.entry in
+    let fn = function_there p c.args.runner.now.source.now c.args.runner.now.prepared.now c.args.entry c.args.args.now c.requires.sound e is c.requires.entry in
     let no : finishes c.run_function-first.result.answer ≡ false = sym c.is_finished.ensures ∙ c.if-not-is_finished.true in
-    subst (λ (r : EntryRun). InvocationCameWith p codes up (invoking M (Some c.args.start) c.args.entry c.args.args.now w) c.args.fuel r.answer r.steps r.ready mid old middle) (sym c.ended.ensures)
+    subst (λ (r : EntryRun). InvocationCameWith p codes up (invoking M (Some c.args.start) c.args.entry c.args.args.now w) c.args.fuel r.answer r.steps r.ready r.entered mid old middle) (sym c.ended.ensures)
     (inside_start p codes up M refl c.args.m.now c.args.entry c.args.args.now c.args.fuel c.args.start fn.0 fn.1 c.run_function-first.result.answer (not_finished c.run_function-first.result.answer no) c.run_function-first.result.steps mid old middle
     (c.run_function-first.ensures.came p w [] e is (shares_own c.args.m.now [])))
 
 pub returns-clause-came : goal.returns-clause-came
 returns-clause-came g c = λ p e is.
-    let M = engine p (g.H.HostSide.collecting c.args.hosts.now) c.args.depth in
-    let codes = c.args.prepared.now.codes.items in
+    let M = engine p (g.H.HostSide.collecting c.args.hosts.now) c.args.runner.now.depth in
+    let codes = c.args.runner.now.prepared.now.codes.items in
     let w = world_of c.args.m.now [] in
     let mid = c.run_function-first.new.m in
     let old = g.H.HostSide.calls c.args.hosts.now in
@@ -45,8 +45,8 @@ returns-clause-came g c = λ p e is.
     let u = w1 p codes up M refl c.args.m.now c.args.entry c.args.args.now c.args.fuel c.args.start mid made first.asked in
     let uo = co1 p codes up M refl c.args.m.now c.args.entry c.args.args.now c.args.fuel c.args.start mid made first.asked in
     let second : FunctionCameWith p codes up (function_going M c.args.entry c.args.args.now u uo) u uo (c.args.fuel - made) c.run_function-then.result.answer c.run_function-then.result.steps c.run_function-then.new.m middle new =
-    subst (λ b. FunctionCameWith p codes up (function_going (engine p b c.args.depth) c.args.entry c.args.args.now u uo) u uo (c.args.fuel - made) c.run_function-then.result.answer c.run_function-then.result.steps c.run_function-then.new.m middle new) c.run_function-first.ensures.collecting
+    subst (λ b. FunctionCameWith p codes up (function_going (engine p b c.args.runner.now.depth) c.args.entry c.args.args.now u uo) u uo (c.args.fuel - made) c.run_function-then.result.answer c.run_function-then.result.steps c.run_function-then.new.m middle new) c.run_function-first.ensures.host.collecting_is
     (c.run_function-then.ensures.came p u uo e is (record { holds = record { globals = refl; memory = refl }; table = refl })) in
-    subst (λ (r : EntryRun). InvocationCameWith p codes up (invoking M (Some c.args.start) c.args.entry c.args.args.now w) c.args.fuel r.answer r.steps r.ready c.run_function-then.new.m old new) (sym c.ended-2.ensures)
+    subst (λ (r : EntryRun). InvocationCameWith p codes up (invoking M (Some c.args.start) c.args.entry c.args.args.now w) c.args.fuel r.answer r.steps r.ready r.entered c.run_function-then.new.m old new) (sym c.ended-2.ensures)
     (behind_start p codes up M refl c.args.m.now c.args.entry c.args.args.now c.args.fuel c.args.start mid made first.asked (g.H.HostSide.used_up c.run_function-first.new.hosts) v.0 old middle new c.run_function-then.result.answer c.run_function-then.result.steps c.run_function-then.new.m
     (λ more. first.came more tt) first.grew second)

@@ -6,6 +6,7 @@ use Rattle.command_answers.specs.declared.outcome.Outcome.{Outcome}
 use Rattle.run_session.specs.RunText.{dump_name}
 use Rattle.run_session.specs.Invocations.{invocation_of}
 use Rattle.wasm_syntax.specs.Run.{engine}
+use Rattle.machine_hosted.proofs.HostLaws.{kept_same, kept_on}
 use Rattle.wasm_machine.proofs.StandingLaws.{of_same}
 use Rattle.run_session.specs.Stop.{no_memory}
 use Rattle.run_session.specs.inner.Sessions.{StopsIn}
@@ -18,10 +19,7 @@ pub loop-index-init : goal.loop-index-init
 loop-index-init g c = record {
   ready = c.requires.ready;
   same = refl;
-  serving = λ i t. refl;
-  collecting = refl;
-  origin = refl;
-  counts = λ n. le_refl _;
+  host = kept_same g.H.HostSide.origin g.H.HostSide.collecting g.H.HostSide.serving g.H.HostSide.fault_count c.args.hosts.now;
   traps = le_refl _;
   telling = refl;
   later = le_refl _;
@@ -38,10 +36,7 @@ loop-index-preserved g c =
     record {
       ready = of_goes c.in_ok-turn.turn _ c.in-GoesOn.is c.in_ok-turn.ensures.ready;
       same = c.in_ok-turn.ensures.same ∙ h.same;
-      serving = λ i t. c.in_ok-turn.ensures.serving i t ∙ h.serving i t;
-      collecting = c.in_ok-turn.ensures.collecting ∙ h.collecting;
-      origin = c.in_ok-turn.ensures.origin ∙ h.origin;
-      counts = λ n. omega (arith, c.in_ok-turn.ensures.counts n, h.counts n);
+      host = kept_on g.H.HostSide.origin g.H.HostSide.collecting g.H.HostSide.serving g.H.HostSide.fault_count c.args.hosts.now c.loop-index.hosts c.run_one.new.hosts h.host c.in_ok-turn.ensures.host;
       traps = omega (arith, c.in_ok-turn.ensures.one, h.traps);
       telling = c.in_ok-turn.ensures.telling ∙ h.telling;
       later = omega (arith, c.in_ok-turn.ensures.later, h.later);
@@ -49,7 +44,7 @@ loop-index-preserved g c =
           come_next p (g.H.HostSide.collecting c.args.hosts.now) (g.H.HostSide.collecting c.loop-index.hosts) c.args.words.now.depth c.args.words.now.dump c.args.words.now.name (g.H.HostSide.used_up c.run_one.new.hosts) c.args.instance.now c.loop-index.instance c.run_one.new.instance
           (map invocation_of (take k xs)) (map invocation_of (drop (k + 1) xs)) (invocation_of c.index-invocations-index.result) c.args.words.now.fuel c.loop-index.lines c.run_one.new.lines
           (g.H.HostSide.calls c.args.hosts.now) (g.H.HostSide.calls c.loop-index.hosts) (g.H.HostSide.calls c.run_one.new.hosts) (g.F.Files.told c.args.files.now) (g.F.Files.told c.loop-index.files) (g.F.Files.told c.run_one.new.files)
-          h.collecting (h.come p is_of) c.in_ok-turn.turn (map invocation_of (take (k + 1) xs)) c.in-GoesOn.is (next_done xs k c.index-invocations-index.result _ c.loop-index-test.true c.index-invocations-index.is)
+          h.host.collecting_is (h.come p is_of) c.in_ok-turn.turn (map invocation_of (take (k + 1) xs)) c.in-GoesOn.is (next_done xs k c.index-invocations-index.result _ c.loop-index-test.true c.index-invocations-index.is)
           (c.in_ok-turn.ensures.made p (of_same _ _ p h.same is_of));
     }
 
@@ -61,11 +56,11 @@ returns-in-Ends-clause-ran g c = λ p is_of.
     ends_ran p (g.H.HostSide.collecting c.args.hosts.now) (g.H.HostSide.collecting c.loop-index.hosts) c.args.words.now.depth c.args.words.now.dump c.args.words.now.name (g.H.HostSide.used_up c.run_one.new.hosts) c.args.instance.now c.loop-index.instance c.run_one.new.instance
     (map invocation_of (take k xs)) (map invocation_of (drop (k + 1) xs)) (invocation_of c.index-invocations-index.result) c.args.words.now.fuel c.loop-index.lines c.run_one.new.lines
     (g.H.HostSide.calls c.args.hosts.now) (g.H.HostSide.calls c.loop-index.hosts) (g.H.HostSide.calls c.run_one.new.hosts) (g.F.Files.told c.args.files.now) (g.F.Files.told c.loop-index.files) (g.F.Files.told c.run_one.new.files)
-    h.collecting (h.come p is_of)
+    h.host.collecting_is (h.come p is_of)
     (g.H.HostSide.fault_count c.args.hosts.now) (g.H.HostSide.fault_count c.run_one.new.hosts) c.in_ok-turn.turn c.in-Ends.answer c.ended_with.result (map invocation_of c.args.words.now.invocations) (length xs - k - 1) c.given.result c.in-Ends.is
     (one_due xs k c.index-invocations-index.result _ c.loop-index-test.true c.index-invocations-index.is ∙ ap (λ l. map invocation_of l) c.as_slice-invocations.ensures)
     (c.in_ok-turn.ensures.made p (of_same _ _ p h.same is_of)) (due_left xs k) c.requires.calls c.given.ensures
-    (of_end c.in_ok-turn.turn c.in-Ends.answer _ c.in-Ends.is c.in_ok-turn.ensures.memory) (cause_since c.in-Ends.answer (g.H.HostSide.fault_count c.args.hosts.now) (g.H.HostSide.fault_count c.loop-index.hosts) (g.H.HostSide.fault_count c.run_one.new.hosts) h.counts (of_end c.in_ok-turn.turn c.in-Ends.answer _ c.in-Ends.is c.in_ok-turn.ensures.cause))
+    (of_end c.in_ok-turn.turn c.in-Ends.answer _ c.in-Ends.is c.in_ok-turn.ensures.memory) (cause_since c.in-Ends.answer (g.H.HostSide.fault_count c.args.hosts.now) (g.H.HostSide.fault_count c.loop-index.hosts) (g.H.HostSide.fault_count c.run_one.new.hosts) h.host.later (of_end c.in_ok-turn.turn c.in-Ends.answer _ c.in-Ends.is c.in_ok-turn.ensures.cause))
     c.ended_with.ensures
 
 pub returns-in-Ends-clause-stops : goal.returns-in-Ends-clause-stops
@@ -76,7 +71,7 @@ returns-in-Ends-clause-stops g c = λ p is_of.
     ends_stopped p (g.H.HostSide.collecting c.args.hosts.now) (g.H.HostSide.collecting c.loop-index.hosts) c.args.words.now.depth c.args.words.now.dump c.args.words.now.name (g.H.HostSide.used_up c.run_one.new.hosts) c.args.instance.now c.loop-index.instance c.run_one.new.instance
     (map invocation_of (take k xs)) (map invocation_of (drop (k + 1) xs)) (invocation_of c.index-invocations-index.result) c.args.words.now.fuel c.loop-index.lines c.run_one.new.lines
     (g.H.HostSide.calls c.args.hosts.now) (g.H.HostSide.calls c.loop-index.hosts) (g.H.HostSide.calls c.run_one.new.hosts) (g.F.Files.told c.args.files.now) (g.F.Files.told c.loop-index.files) (g.F.Files.told c.run_one.new.files)
-    h.collecting (h.come p is_of)
+    h.host.collecting_is (h.come p is_of)
     c.in_ok-turn.turn c.in-Ends.answer c.ended_with.result (map invocation_of c.args.words.now.invocations) (length xs - k - 1) c.given.result c.in-Ends.is
     (one_due xs k c.index-invocations-index.result _ c.loop-index-test.true c.index-invocations-index.is ∙ ap (λ l. map invocation_of l) c.as_slice-invocations.ensures)
     (c.in_ok-turn.ensures.made p (of_same _ _ p h.same is_of)) c.requires.steps c.ended_with.ensures
@@ -92,7 +87,7 @@ returns-in_err-turn-clause-stops g c = λ p is_of.
     (stopped_here p (g.H.HostSide.collecting c.args.hosts.now) (g.H.HostSide.collecting c.loop-index.hosts) c.args.words.now.depth c.args.words.now.dump c.args.words.now.name (g.H.HostSide.used_up c.run_one.new.hosts) c.args.instance.now c.loop-index.instance c.run_one.new.instance
     (map invocation_of (take k xs)) (map invocation_of (drop (k + 1) xs)) (invocation_of c.index-invocations-index.result) c.args.words.now.fuel c.loop-index.lines c.run_one.new.lines
     (g.H.HostSide.calls c.args.hosts.now) (g.H.HostSide.calls c.loop-index.hosts) (g.H.HostSide.calls c.run_one.new.hosts) (g.F.Files.told c.args.files.now) (g.F.Files.told c.loop-index.files) (g.F.Files.told c.run_one.new.files)
-    h.collecting (h.come p is_of)
+    h.host.collecting_is (h.come p is_of)
     no_memory (map invocation_of c.args.words.now.invocations)
     (one_due xs k c.index-invocations-index.result _ c.loop-index-test.true c.index-invocations-index.is ∙ ap (λ l. map invocation_of l) c.as_slice-invocations.ensures) c.requires.steps
     (c.in_err-turn.ensures.stops p (map invocation_of (drop (k + 1) xs)) (of_same _ _ p h.same is_of) (h.come p is_of).within))
@@ -105,7 +100,7 @@ returns-in-Refused-clause-stops g c = λ p is_of faulted.
     stopped_refused p (g.H.HostSide.collecting c.args.hosts.now) (g.H.HostSide.collecting c.loop-index.hosts) c.args.words.now.depth c.args.words.now.dump c.args.words.now.name (g.H.HostSide.used_up c.run_one.new.hosts) c.args.instance.now c.loop-index.instance c.run_one.new.instance
     (map invocation_of (take k xs)) (map invocation_of (drop (k + 1) xs)) (invocation_of c.index-invocations-index.result) c.args.words.now.fuel c.loop-index.lines c.run_one.new.lines
     (g.H.HostSide.calls c.args.hosts.now) (g.H.HostSide.calls c.loop-index.hosts) (g.H.HostSide.calls c.run_one.new.hosts) (g.F.Files.told c.args.files.now) (g.F.Files.told c.loop-index.files) (g.F.Files.told c.run_one.new.files)
-    h.collecting (h.come p is_of)
+    h.host.collecting_is (h.come p is_of)
     c.in_ok-turn.turn c.in-Refused.refusal (map invocation_of c.args.words.now.invocations) c.in-Refused.is
     (one_due xs k c.index-invocations-index.result _ c.loop-index-test.true c.index-invocations-index.is ∙ ap (λ l. map invocation_of l) c.as_slice-invocations.ensures) c.requires.steps
     (c.in_ok-turn.ensures.stops p (map invocation_of (drop (k + 1) xs)) (of_same _ _ p h.same is_of) (h.come p is_of).within)

@@ -1,8 +1,7 @@
-use Rattle.std.proofs.Common.{◌≡◌, ◌≤◌, ℕ, List, map, take, true, is_some}
-use Rattle.wasm_syntax.specs.declared.parts.Import.{Import as ImportValue}
-use Rattle.wasm_syntax.specs.declared.parts.FuncType.{FuncType as TypeValue}
+use Rattle.std.proofs.Common.{◌≡◌, ◌≤◌, map, take, true, is_some}
 use Rattle.wasm_syntax.specs.Module.{Program}
 use Rattle.wasm_syntax.specs.Run.{engine}
+use Rattle.machine_hosted.specs.Settings.{HostKept}
 use Rattle.wasm_machine.specs.Instances.{IsOf}
 use Rattle.run_session.specs.Invocations.{invocation_of}
 use Rattle.run_session.specs.inner.Sessions.{SoFar}
@@ -12,10 +11,7 @@ abbrev pub invariant-loop-index : goal.invariant-loop-index
 invariant-loop-index g l = record {
   ready : l.instance.ready ≡ true;
   same : l.instance.module_ ≡ l.fn.instance.module_;
-  serving : ((i : ImportValue) (t : TypeValue) → g.H.HostSide.serving l.hosts i t ≡ g.H.HostSide.serving l.fn.hosts i t);
-  collecting : g.H.HostSide.collecting l.hosts ≡ g.H.HostSide.collecting l.fn.hosts;
-  origin : g.H.HostSide.origin l.hosts ≡ g.H.HostSide.origin l.fn.hosts;
-  counts : ((name : List ℕ) → g.H.HostSide.fault_count l.fn.hosts name ≤ g.H.HostSide.fault_count l.hosts name);
+  host : HostKept g.H.HostSide.origin g.H.HostSide.collecting g.H.HostSide.serving g.H.HostSide.fault_count l.fn.hosts l.hosts;
   traps : l.lines.traps ≤ l.index;
   telling : is_some (g.F.Files.told l.files) ≡ is_some (g.F.Files.told l.fn.files);
   later : g.F.Files.faults l.fn.files ≤ g.F.Files.faults l.files;

@@ -1,12 +1,12 @@
-//! Invocations of one module.
+//! Invocations of one instance.
 
 ghost use Rattle.std.specs.Prelude.{◌≡◌, true, false, [], None};
 
-use crate::{End, Instance, LastInvocation};
 use host_devices::{HostAnswer, HostSide};
 use linear_memory::Memory;
 use std::alloc::Global;
 use wasm_decode::decode;
+use wasm_machine::{End, Instance, LastInvocation};
 use wasm_syntax::{FuncType, HostCall, Import, Value};
 use wasm_validate::{Validated, validate};
 
@@ -62,7 +62,7 @@ fn invoke(instance: &mut Instance<'_>, imports: &[Import], args: &[Value], fuel:
 {
     if instance.ready() && instance.steps() == 0 {
         let mut hosts = Silent { imports };
-        instance.invoke("f", args, 8, fuel, &mut hosts);
+        let _ = instance.invoke("f", args, 8, fuel, &mut hosts);
     }
 }
 
