@@ -1,21 +1,19 @@
 -- A call of an import with no frame, by what the host side answers.
-use Rattle.std.proofs.Common.{◌≡◌, ℕ, zero, suc, ◌+◌, ◌-◌, ◌<◌, ◌≤◌, List, [], ◌∷◌, ◌++◌, reverse, refl, sym, ap, ap₂, subst, ◌∙◌, arith}
+use Rattle.std.proofs.Common.{◌≡◌, ℕ, zero, suc, ◌-◌, ◌<◌, List, [], ◌∷◌, ◌++◌, refl, sym, ap, ap₂, subst, ◌∙◌, arith}
 use Rattle.std.proofs.lemmas.List.{append-nil}
 use Rattle.std.specs.Prelude.{Bool, true, false, if◌then◌else◌, Option, Some, None, option_map, option_to_list, slice_get}
 use Rattle.wasm_syntax.specs.declared.value.Value.{Value}
 use Rattle.wasm_syntax.specs.declared.value.ValType.{ValType}
 use Rattle.wasm_syntax.specs.declared.parts.Import.{Import}
 use Rattle.wasm_syntax.specs.declared.parts.FuncType.{FuncType}
-use Rattle.wasm_syntax.specs.declared.module.ModuleParts.{ModuleParts as Module}
 use Rattle.wasm_syntax.specs.declared.host.HostCall.{HostCall}
 use Rattle.wasm_syntax.specs.declared.host.Reply.{Reply}
 use Rattle.wasm_syntax.specs.declared.host.Served.{Served as ServedCall}
 use Rattle.wasm_syntax.specs.declared.host.CollectorCall.{CollectorCall}
 use Rattle.wasm_syntax.specs.Module.{Program, option_then}
-use Rattle.wasm_syntax.specs.Host as hosts
-use Rattle.wasm_syntax.specs.Host.{World, Answer, answer, told_or, served_by, if_fits, if_written, if_none, fits_type, after_writes, collector_call}
+use Rattle.wasm_syntax.specs.Host.{World, answer, told_or, served_by, if_fits, if_written, if_none, fits_type, after_writes, collector_call}
 use Rattle.wasm_syntax.specs.Machine.{Config, config, Stepped, next, ends, no_reply, bad_reply, host_call, first}
-use Rattle.wasm_syntax.specs.Run.{ended, engine, host_alone, run_alone}
+use Rattle.wasm_syntax.specs.Run.{ended, engine, host_alone}
 use Rattle.linear_memory.specs.Memory.{Memory}
 use Rattle.machine_basics.specs.declared.shared.Shared.{Shared}
 use Rattle.machine_code.specs.declared.code.Code.{Code}
@@ -24,7 +22,7 @@ use Rattle.machine_steps.specs.Meets.{Shares}
 use Rattle.machine_hosted.specs.Safe.{WorldFits, RunFits}
 use Rattle.host_devices.specs.Devices.{empty_reply}
 use Rattle.host_devices.specs.HostSides.{Calls, Adds, told}
-use Rattle.machine_hosted.specs.Hosted.{Going, Asked, Grew, Served, replying, served_in, told_in, left_in, IsUsedUp, IsFaultOf}
+use Rattle.machine_hosted.specs.Hosted.{Going, Asked, Grew, Served, replying}
 use Rattle.host_devices.specs.Given.{replies_of}
 use Rattle.machine_hosted.specs.declared.answer.RunEnd.{RunEnd}
 use Rattle.machine_hosted.specs.declared.answer.RunEnd.TheVariants.{Finished, Trapped, NoReply, BadReply, DeviceFault, FuelSpent, NoMemory}

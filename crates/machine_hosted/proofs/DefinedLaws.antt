@@ -1,7 +1,7 @@
 -- A defined function is run from its begin.
-use Rattle.std.proofs.Common.{◌≡◌, ℕ, ◌+◌, ◌≤◌, ◌^◌, List, [], ◌∷◌, ◌++◌, length, refl, sym, ap, subst, ◌∙◌, arith}
+use Rattle.std.proofs.Common.{◌≡◌, ℕ, ◌+◌, List, [], ◌∷◌, length, refl, sym, ap, subst, ◌∙◌, arith}
 use Rattle.std.proofs.lemmas.List.{append-nil}
-use Rattle.std.specs.Prelude.{Bool, Option, Some, None, slice_get}
+use Rattle.std.specs.Prelude.{Bool, Some, slice_get}
 use Rattle.wasm_syntax.specs.declared.value.Value.{Value}
 use Rattle.wasm_syntax.specs.declared.parts.Import.{Import}
 use Rattle.wasm_syntax.specs.declared.parts.FuncType.{FuncType}
@@ -11,7 +11,7 @@ use Rattle.wasm_syntax.specs.declared.host.Reply.{Reply}
 use Rattle.wasm_syntax.specs.declared.host.CollectorCall.{CollectorCall}
 use Rattle.wasm_syntax.specs.Numbers.{types}
 use Rattle.wasm_syntax.specs.Tree.{Tree}
-use Rattle.wasm_syntax.specs.Module.{Program, IsProgram, imported, defined, defined_at, function_at, type_at}
+use Rattle.wasm_syntax.specs.Module.{Program, IsProgram, defined, defined_at, function_at, type_at}
 use Rattle.wasm_syntax.specs.Host.{World}
 use Rattle.wasm_syntax.specs.Machine.{Engine, Frame, config, next, entered, host_call}
 use Rattle.wasm_syntax.specs.Run.{engine, run_function}

@@ -1,19 +1,18 @@
 -- The run of one function, from the run of its frames.
-use Rattle.std.proofs.Common.{◌≡◌, ℕ, ◌+◌, ◌-◌, ◌≤◌, List, [], ◌∷◌, ◌++◌, length, refl, sym, ap, subst, ◌∙◌, arith}
-use Rattle.std.specs.Prelude.{Bool, Option, Some, None, slice_get}
-use Rattle.wasm_syntax.specs.declared.value.Value.{Value}
+use Rattle.std.proofs.Common.{◌≡◌, ℕ, ◌≤◌, List, [], ◌∷◌, ◌++◌, refl, sym, ap, subst, ◌∙◌}
+use Rattle.std.specs.Prelude.{Bool, Some}
 use Rattle.wasm_syntax.specs.declared.parts.Import.{Import}
 use Rattle.wasm_syntax.specs.declared.host.Reply.{Reply}
 use Rattle.wasm_syntax.specs.declared.host.CollectorCall.{CollectorCall}
 use Rattle.wasm_syntax.specs.Module.{Program}
 use Rattle.wasm_syntax.specs.Host.{World}
-use Rattle.wasm_syntax.specs.Machine.{Engine, Frame, Config, config, Stepped, next, ends, traps, no_reply, bad_reply, stuck, first}
-use Rattle.wasm_syntax.specs.Run.{Ended as Result, ended}
+use Rattle.wasm_syntax.specs.Machine.{Engine, Frame, Config, config, Stepped, next, ends, traps, no_reply, bad_reply, stuck}
+use Rattle.wasm_syntax.specs.Run.{Ended as Result}
 use Rattle.machine_code.specs.declared.code.Code.{Code}
 use Rattle.machine_frames.specs.Layout as layout
 use Rattle.machine_steps.specs.declared.machine.Machine.{Machine}
-use Rattle.machine_steps.specs.Meets.{StandsFor, Shares}
-use Rattle.machine_hosted.specs.Safe.{WorldFits, RunFits}
+use Rattle.machine_steps.specs.Meets.{StandsFor}
+use Rattle.machine_hosted.specs.Safe.{RunFits}
 use Rattle.host_devices.specs.HostSides.{Calls}
 use Rattle.machine_hosted.specs.Hosted.{Going}
 use Rattle.machine_hosted.specs.inner.FrameRuns.{Tells, Came, CameWith}

@@ -1,11 +1,9 @@
 -- The start function and the entry behind it.
-use Rattle.std.proofs.Common.{◌≡◌, ℕ, zero, suc, ◌+◌, ◌-◌, ◌<◌, ◌≤◌, List, [], ◌∷◌, ◌++◌, map, reverse, drop, length, append_assoc, refl, sym, ap, ap₂, subst, ◌∙◌, arith}
+use Rattle.std.proofs.Common.{◌≡◌, ℕ, zero, suc, ◌+◌, ◌-◌, ◌≤◌, List, [], ◌∷◌, ◌++◌, reverse, drop, length, append_assoc, refl, sym, ap, ap₂, ◌∙◌, arith}
 use Rattle.std.proofs.lemmas.List.{append-nil, reverse-append, reverse-reverse, map-append}
-use Rattle.std.specs.Prelude.{Bool, true, false, min, ◌^◌, Option, Some, None, option_map}
+use Rattle.std.specs.Prelude.{Bool, true, false, Option, Some, None, option_map}
 use Rattle.wasm_syntax.specs.declared.value.Value.{Value}
 use Rattle.wasm_syntax.specs.declared.parts.Import.{Import}
-use Rattle.wasm_syntax.specs.declared.parts.FuncType.{FuncType}
-use Rattle.wasm_syntax.specs.declared.parts.Body.{Body}
 use Rattle.wasm_syntax.specs.declared.host.HostCall.{HostCall}
 use Rattle.wasm_syntax.specs.declared.host.Reply.{Reply}
 use Rattle.wasm_syntax.specs.declared.host.Served.{Served as ServedCall}
@@ -13,12 +11,10 @@ use Rattle.wasm_syntax.specs.declared.host.CollectorCall.{CollectorCall}
 use Rattle.wasm_syntax.specs.declared.module.ModuleParts.{ModuleParts as Module}
 use Rattle.wasm_syntax.specs.Module.{Program, Function, imported, defined, function_at}
 use Rattle.wasm_syntax.specs.Host.{World}
-use Rattle.wasm_syntax.specs.Machine.{Engine, Config, config, Stepped, next, ends, traps, no_reply, bad_reply, stuck, step, host_call, first, entered}
-use Rattle.wasm_syntax.specs.Run.{Ended, ended, run_on, run_steps, run_alone, run_function, run_entry, go_on, invoked, Ran, ran_to, finished, trapped, lacks_reply, misfits, running, goes_on}
-use Rattle.machine_basics.specs.Traps.{trap_code}
+use Rattle.wasm_syntax.specs.Machine.{Engine, Config, config, Stepped, next, ends, traps, no_reply, bad_reply, stuck, step, host_call, entered}
+use Rattle.wasm_syntax.specs.Run.{Ended, ended, run_on, run_steps, run_alone, run_function, run_entry, go_on, ran_to, finished, goes_on}
 use Rattle.machine_code.specs.declared.code.Code.{Code}
 use Rattle.machine_steps.specs.declared.machine.Machine.{Machine}
-use Rattle.machine_steps.specs.Meets.{Shares}
 use Rattle.machine_hosted.specs.Safe.{RunFits}
 use Rattle.host_devices.specs.HostSides.{Calls}
 use Rattle.machine_hosted.specs.Hosted.{Asked, Grew, replying, served_in, told_in, left_in}
@@ -26,10 +22,10 @@ use Rattle.host_devices.specs.Given.{replies_of}
 use Rattle.machine_hosted.specs.declared.answer.RunEnd.{RunEnd}
 use Rattle.machine_hosted.specs.declared.answer.RunEnd.TheVariants.{Finished, Trapped, NoReply, BadReply, DeviceFault, FuelSpent, NoMemory}
 use Rattle.machine_hosted.specs.Settings.{world_of}
-use Rattle.machine_hosted.specs.Answers.{Keeps, KeepsThen, last_in, AnswersTo, AdmitsReplies, given_steps, FunctionCame, FunctionCameWith, function_going}
+use Rattle.machine_hosted.specs.Answers.{KeepsThen, last_in, AnswersTo, given_steps, FunctionCame, FunctionCameWith, function_going}
 use Rattle.machine_hosted.specs.Invocations.{HasOutcome, IsEntered, may_follow, follows_behind, finishes, Invoking, invoking, InvocationCame, InvocationCameWith}
 use Rattle.host_devices.specs.Given.{unfitting}
-use Rattle.machine_hosted.proofs.WorldLaws.{one_world, shares_replying}
+use Rattle.machine_hosted.proofs.WorldLaws.{one_world}
 
 some_is : {A : Type 0} {a b : A} → Some a ≡ Some b → a ≡ b
 some_is e = cc

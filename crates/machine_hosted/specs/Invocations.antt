@@ -1,5 +1,5 @@
 -- What an invocation comes to: the start function, where it is due, and then the entry (Core 4.5.4, 4.5.5).
-use Rattle.std.specs.Prelude.{◌≡◌, ℕ, ◌-◌, ◌≤◌, ◌==◌, ◌&&◌, not, Bool, true, false, List, ◌++◌, drop, length, Option, Some, None}
+use Rattle.std.specs.Prelude.{◌≡◌, ℕ, ◌-◌, ◌≤◌, ◌==◌, ◌&&◌, not, Bool, true, false, List, ◌++◌, drop, length, Option, Some}
 use Rattle.wasm_syntax.specs.declared.value.Value.{Value}
 use Rattle.wasm_syntax.specs.declared.parts.Import.{Import}
 use Rattle.wasm_syntax.specs.declared.host.HostCall.{HostCall}
@@ -7,7 +7,7 @@ use Rattle.wasm_syntax.specs.declared.host.Reply.{Reply}
 use Rattle.wasm_syntax.specs.Module.{Program}
 use Rattle.wasm_syntax.specs.Host.{World}
 use Rattle.wasm_syntax.specs.Machine.{Engine, Config}
-use Rattle.wasm_syntax.specs.Run.{Outcome, not_started, finished, trapped, lacks_reply, misfits, running, got_stuck, Ran, goes_on, invoked}
+use Rattle.wasm_syntax.specs.Run.{Outcome, finished, trapped, lacks_reply, misfits, running, Ran, goes_on, invoked}
 use Rattle.machine_basics.specs.Traps.{trap_code}
 use Rattle.machine_code.specs.declared.code.Code.{Code}
 use Rattle.machine_steps.specs.declared.machine.Machine.{Machine}

@@ -3,7 +3,7 @@ use Rattle.std.proofs.Common.{◌≡◌, ℕ, Bool, true, false, List, [], ◌�
 use Rattle.std.specs.Prelude.{◌⊎◌, ◌≤◌, bytes_eq, if◌then◌else◌}
 use Rattle.std.proofs.lemmas.List.{append-nil}
 use Rattle.std.proofs.lemmas.Slice.Eq.{bytes_eq-Decides}
-use Rattle.pm_outside.specs.Contents.{Contents, SameBut}
+use Rattle.pm_outside.specs.Contents.{Contents}
 use Rattle.pm_outside.specs.declared.answers.WriteAnswer.{WriteAnswer}
 use Rattle.pm_outside.specs.declared.answers.WriteAnswer.TheVariants as write
 use Rattle.dump_write.specs.Written.{OnTold, HasFile, HoldsFront, HasFront, Writes as Leaves}

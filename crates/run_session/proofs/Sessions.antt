@@ -1,9 +1,8 @@
 -- A list of invocations goes on, or ends.
-use Rattle.std.proofs.Common.{◌≡◌, ℕ, ◌+◌, Bool, true, List, [], ◌∷◌, ◌++◌, length, refl, sym, ap, ◌∙◌, append_assoc, subst, Option, Some, None}
+use Rattle.std.proofs.Common.{◌≡◌, ℕ, ◌+◌, Bool, List, [], ◌∷◌, ◌++◌, length, refl, sym, ap, ◌∙◌, append_assoc, subst, Option}
 use Rattle.std.proofs.Math.Nat.{le_refl, le_trans}
 use Rattle.pm_outside.specs.Contents.{Contents}
 use Rattle.wasm_syntax.specs.declared.parts.Import.{Import}
-use Rattle.wasm_syntax.specs.declared.host.Reply.{Reply}
 use Rattle.wasm_syntax.specs.declared.host.Served.{Served}
 use Rattle.wasm_syntax.specs.Machine.{Engine}
 use Rattle.wasm_syntax.specs.Module.{Program}

@@ -1,5 +1,5 @@
 -- One more invocation of a list.
-use Rattle.std.proofs.Common.{◌≡◌, ℕ, suc, ◌+◌, Bool, true, List, [], ◌∷◌, ◌++◌, length, map, refl, sym, ap, ◌∙◌, append_assoc, arith, Option, Some, None, subst}
+use Rattle.std.proofs.Common.{◌≡◌, ℕ, suc, ◌+◌, Bool, true, List, [], ◌∷◌, ◌++◌, length, refl, sym, ap, ◌∙◌, append_assoc, arith, subst}
 use Rattle.std.specs.Prelude.{IfSome}
 use Rattle.std.proofs.lemmas.List.{append-nil, map-append, length-append}
 use Rattle.wasm_syntax.specs.declared.host.Reply.{Reply}
@@ -8,7 +8,7 @@ use Rattle.wasm_syntax.specs.Machine.{Engine}
 use Rattle.wasm_syntax.specs.Run.{Invocation, Outcome, not_started, finished, trapped, lacks_reply, misfits, running, got_stuck, Ran, goes_on}
 use Rattle.host_devices.specs.Given.{replies_of}
 use Rattle.host_devices.specs.Given.{unfitting}
-use Rattle.run_session.specs.RunText.{invocation_text, dumps_from, traps_in, last_of, fitted}
+use Rattle.run_session.specs.RunText.{invocation_text, dumps_from, traps_in, fitted}
 use Rattle.run_session.specs.Given.{given_in, given_to}
 use Rattle.run_session.specs.inner.Progress.{Point, Made, session_from, CameOf, WentOn, HasCome, HasEnded}
 use Rattle.run_session.proofs.Lists.{one_of, traps_more, dumps_more, last_more, fitted_more, zero_plus}

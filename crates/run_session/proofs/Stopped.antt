@@ -1,9 +1,9 @@
 -- Lists of invocations that were stopped.
-use Rattle.std.proofs.Common.{◌≡◌, ℕ, zero, suc, ◌+◌, ◌-◌, ◌≤◌, Bool, true, false, List, [], ◌∷◌, ◌++◌, length, take, refl, sym, ap, ap₂, ◌∙◌, subst, arith, Option, Some, None, Result, Ok, Err}
+use Rattle.std.proofs.Common.{◌≡◌, ℕ, ◌+◌, Bool, true, false, List, [], ◌∷◌, ◌++◌, length, take, refl, sym, ap, ap₂, ◌∙◌, subst, arith, Option, Some, None, Result, Ok, Err}
 use Rattle.std.specs.Prelude.{IfOk, reverse, if◌then◌else◌}
 use Rattle.std.proofs.Math.Nat.{le_refl}
 use Rattle.std.proofs.Math.Seq.{take-append-add}
-use Rattle.std.proofs.lemmas.List.{map-append, append-nil}
+use Rattle.std.proofs.lemmas.List.{map-append}
 use Rattle.std.proofs.lemmas.Grind.{flat_map-append}
 use Rattle.causes.specs.declared.NoMemory.{NoMemory as WantOfMemory}
 use Rattle.pm_outside.specs.Contents.{Contents}
@@ -11,16 +11,16 @@ use Rattle.wasm_syntax.specs.declared.parts.Import.{Import}
 use Rattle.wasm_syntax.specs.declared.value.Value.{Value}
 use Rattle.wasm_syntax.specs.declared.host.Served.{Served}
 use Rattle.wasm_syntax.specs.Host.{World}
-use Rattle.wasm_syntax.specs.Machine.{Config, Engine}
+use Rattle.wasm_syntax.specs.Machine.{Engine}
 use Rattle.wasm_syntax.specs.Module.{Program, Function, imported, defined, function_at, function_export}
-use Rattle.wasm_syntax.specs.Run.{Invocation, Ran, ran_to, run_function, run_entry, invoked, fresh, goes_on, session}
+use Rattle.wasm_syntax.specs.Run.{Invocation, Ran, ran_to, run_function, invoked, fresh, goes_on, session}
 use Rattle.dump_write.specs.Written.{OnTold}
 use Rattle.host_devices.specs.HostSides.{Calls}
 use Rattle.host_devices.specs.Given.{replies_of}
 use Rattle.machine_hosted.specs.declared.answer.RunEnd.{RunEnd}
 use Rattle.wasm_machine.specs.Instances.{State}
 use Rattle.command_answers.specs.declared.outcome.Outcome.{Outcome}
-use Rattle.run_session.specs.RunText.{dumps_from, traps_in, last_of}
+use Rattle.run_session.specs.RunText.{dumps_from, traps_in}
 use Rattle.run_session.specs.Given.{given_to, given_in}
 use Rattle.run_session.specs.Written.{Writes, HoldThen, HoldPart}
 use Rattle.run_session.specs.inner.Progress.{Point, session_from, HasCome}

@@ -1,5 +1,5 @@
 -- The whole list, from what its parts ensure.
-use Rattle.std.proofs.Common.{◌≡◌, ℕ, suc, ◌+◌, ◌-◌, ◌<◌, ◌≤◌, Bool, List, [], ◌∷◌, ◌++◌, map, length, take, drop, get_or, refl, sym, ap, ◌∙◌, subst, arith, Option, Some, None, Result, Ok, Err, drop-cons}
+use Rattle.std.proofs.Common.{◌≡◌, ℕ, suc, ◌+◌, ◌-◌, ◌<◌, ◌≤◌, Bool, List, [], ◌∷◌, ◌++◌, map, length, take, drop, get_or, refl, sym, ap, ◌∙◌, subst, arith, Option, Result, Ok, Err, drop-cons}
 use Rattle.std.specs.Prelude.{IfOk}
 use Rattle.std.proofs.Math.Seq.{take-suc}
 use Rattle.std.proofs.lemmas.List.{append-nil, drop_all, length-drop, map-append, take-append-drop}
@@ -34,7 +34,7 @@ use Rattle.run_session.proofs.Held.{none_held}
 use Rattle.run_session.proofs.Lists.{zero_plus}
 use Rattle.run_session.proofs.Sessions.{EndedWith, list_goes_on, list_ends}
 use Rattle.run_session.proofs.Unless.{on_all}
-use Rattle.run_session.proofs.Ends.{ended_so, all_made_so, no_file_fault, done_no_fault}
+use Rattle.run_session.proofs.Ends.{ended_so, all_made_so, no_file_fault}
 use Rattle.run_session.proofs.Stopped.{ended_stopped, stops_behind}
 
 -- ---- the begin

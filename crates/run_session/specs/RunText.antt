@@ -1,11 +1,7 @@
 -- The lines of `run`, and the dumps that it writes.
 use Rattle.std.specs.Prelude.{ℕ, zero, suc, ◌+◌, ◌==◌, List, [], ◌∷◌, ◌++◌, length, Option, Some, None, if◌then◌else◌, codes}
-use Rattle.std.specs.List.{flat_map}
 use Rattle.std.specs.Fmt.{decimal}
-use Rattle.pm_text.specs.Names.{quoted}
 use Rattle.wasm_syntax.specs.declared.value.Value.{Value}
-use Rattle.wasm_syntax.specs.declared.host.HostCall.{HostCall}
-use Rattle.wasm_syntax.specs.declared.host.Reply.{Reply}
 use Rattle.wasm_syntax.specs.Machine.{Config, first}
 use Rattle.wasm_syntax.specs.Run.{Outcome, not_started, finished, trapped, lacks_reply, misfits, running, got_stuck, Ran}
 use Rattle.dump_write.specs.Image.{DumpFrame, frame_images, image}

@@ -1,28 +1,21 @@
 -- What is known of instances.
-use Rattle.std.proofs.Common.{◌≡◌, ℕ, ◌+◌, ◌<◌, ◌^◌, List, [], ◌∷◌, length, refl, sym, ap, subst, ◌∙◌}
-use Rattle.std.specs.Prelude.{Bool, true, false, ◌&&◌, Option, Some, None, IfSome, option_map}
-use Rattle.wasm_syntax.specs.declared.value.ValType.{ValType}
-use Rattle.wasm_syntax.specs.declared.value.ValType.TheVariants.{I32, I64}
-use Rattle.wasm_syntax.specs.declared.value.Value.{Value}
-use Rattle.wasm_syntax.specs.declared.parts.FuncType.{FuncType}
+use Rattle.std.proofs.Common.{◌≡◌, ℕ, ◌+◌, ◌<◌, ◌^◌, List, [], length, refl, sym, ap, subst, ◌∙◌}
+use Rattle.std.specs.Prelude.{Option, Some, None, IfSome, option_map}
 use Rattle.wasm_syntax.specs.declared.module.ModuleParts.{ModuleParts as Module}
 use Rattle.wasm_syntax.specs.declared.host.Reply.{Reply}
 use Rattle.wasm_syntax.specs.declared.place.Place.TheVariants as places
-use Rattle.wasm_syntax.specs.Numbers.{types}
-use Rattle.wasm_syntax.specs.Module.{Program, IsProgram, IsModule, same_types, type_at}
+use Rattle.wasm_syntax.specs.Module.{Program, IsProgram, IsModule}
 use Rattle.wasm_syntax.specs.Valid.{Valid, StartFine}
-use Rattle.wasm_syntax.specs.Host.{World}
-use Rattle.wasm_syntax.specs.Run.{cause_of_entry, if_fits, start_world}
+use Rattle.wasm_syntax.specs.Run.{start_world}
 use Rattle.machine_steps.specs.declared.machine.Machine.{Machine}
 use Rattle.machine_steps.specs.declared.machine.Prepared.{Prepared}
 use Rattle.machine_steps.specs.Prepares.{IsPrepared}
-use Rattle.machine_hosted.specs.Safe.{ValidProgram, WorldFits}
+use Rattle.machine_hosted.specs.Safe.{WorldFits}
 use Rattle.machine_hosted.proofs.SafeLaws.{start_fits}
 use Rattle.machine_start.specs.declared.started.Started.{Started}
 use Rattle.machine_start.specs.Starts as starts
 use Rattle.machine_hosted.specs.Settings.{Sound, world_of, MachineFits, Takes}
-use Rattle.machine_hosted.proofs.WorldLaws.{same_world, fits_same}
-use Rattle.wasm_machine.specs.Instances.{State, state, SoundState, IsNew}
+use Rattle.machine_hosted.proofs.WorldLaws.{same_world}
 
 -- ---- the start function
 

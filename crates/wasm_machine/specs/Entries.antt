@@ -1,5 +1,5 @@
 -- Why an entry may not be invoked (Core 4.5.5).
-use Rattle.std.specs.Prelude.{ℕ, Bool, false, List, map, slice_get, Option, Some, None, Result, Ok, Err}
+use Rattle.std.specs.Prelude.{ℕ, Bool, false, List, map, slice_get, Option, Some, None}
 use Rattle.wasm_syntax.specs.declared.value.Value.{Value}
 use Rattle.wasm_syntax.specs.declared.parts.Import.{Import}
 use Rattle.wasm_syntax.specs.declared.parts.FuncType.{FuncType}

@@ -1,5 +1,5 @@
 -- Runs whose imports are served, and one call of an import in them (Core 4.4.7, host functions).
-use Rattle.std.specs.Prelude.{◌≡◌, ◌≢◌, ℕ, ◌≤◌, ◌^◌, length, List, [], ◌∷◌, ◌++◌, reverse, slice_get, Bool, true, false, Option, Some, None, if◌then◌else◌}
+use Rattle.std.specs.Prelude.{◌≡◌, ◌≢◌, ℕ, ◌≤◌, ◌^◌, length, List, [], ◌∷◌, ◌++◌, reverse, slice_get, Bool, true, Option, Some, None, if◌then◌else◌}
 use Rattle.wasm_syntax.specs.declared.value.Value.{Value}
 use Rattle.wasm_syntax.specs.declared.parts.Import.{Import}
 use Rattle.wasm_syntax.specs.declared.parts.FuncType.{FuncType}

@@ -1,5 +1,5 @@
 -- One invocation of a list, and the whole list, as the code makes them.
-use Rattle.std.specs.Prelude.{◌≡◌, ℕ, ◌-◌, ◌≤◌, ◌⊎◌, Bool, List, [], ◌∷◌, ◌++◌, length, take, Option, None, Result, Ok, Err, codes}
+use Rattle.std.specs.Prelude.{◌≡◌, ℕ, ◌-◌, ◌≤◌, ◌⊎◌, Bool, List, [], ◌∷◌, ◌++◌, length, take, Option, Result, Ok, Err, codes}
 use Rattle.std.specs.Fmt.{decimal}
 use Rattle.causes.specs.Counts.{Rose}
 use Rattle.causes.specs.declared.NoMemory.{NoMemory as WantOfMemory}
@@ -7,10 +7,9 @@ use Rattle.pm_outside.specs.Contents.{Contents}
 use Rattle.wasm_syntax.specs.declared.parts.Import.{Import}
 use Rattle.wasm_syntax.specs.declared.host.Reply.{Reply}
 use Rattle.wasm_syntax.specs.declared.host.Served.{Served}
-use Rattle.wasm_syntax.specs.declared.module.ModuleParts.{ModuleParts as Module}
 use Rattle.wasm_syntax.specs.Machine.{Engine}
-use Rattle.wasm_syntax.specs.Module.{Program, function_export}
-use Rattle.wasm_syntax.specs.Run.{Invocation, Outcome as RunOutcome, not_started, finished, trapped, lacks_reply, misfits, running, got_stuck, Ran, cause_of_entry}
+use Rattle.wasm_syntax.specs.Module.{Program}
+use Rattle.wasm_syntax.specs.Run.{Invocation, Outcome as RunOutcome, not_started, finished, trapped, lacks_reply, misfits, running, got_stuck, Ran}
 use Rattle.dump_write.specs.Written.{OnTold}
 use Rattle.host_devices.specs.HostSides.{Calls}
 use Rattle.machine_hosted.specs.Hosted.{IsFaultOf, IsUsedUp}

@@ -1,4 +1,4 @@
-use Rattle.std.proofs.Common.{◌≡◌, ◌∙◌, ◌+◌, ◌-◌, [], refl, sym, subst}
+use Rattle.std.proofs.Common.{◌≡◌, ◌∙◌, ◌-◌, [], refl, sym, subst}
 use Rattle.std.specs.Prelude.{Some, true, false}
 use Rattle.wasm_syntax.specs.Run.{engine}
 use Rattle.machine_hosted.specs.declared.answer.EntryRun.{EntryRun}

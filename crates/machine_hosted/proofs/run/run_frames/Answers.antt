@@ -1,11 +1,11 @@
-use Rattle.std.proofs.Common.{◌≡◌, ◌+◌, ◌-◌, ◌<◌, ◌≤◌, [], refl, sym, subst, ◌∙◌, arith}
+use Rattle.std.proofs.Common.{◌≡◌, ◌+◌, ◌-◌, ◌<◌, ◌≤◌, [], sym, subst, arith}
 use Rattle.machine_steps.specs.declared.machine.Outcome.TheVariants as outcomes
 use Rattle.host_devices.specs.HostSides.{Calls}
 use Rattle.machine_hosted.specs.declared.answer.RunEnd.TheVariants as answers
 use Rattle.machine_hosted.specs.declared.answer.FunctionRun.{FunctionRun}
 use Rattle.machine_hosted.specs.inner.FrameRuns.{CameWith}
 use Rattle.machine_hosted.specs.inner.Turns.{going}
-use Rattle.machine_hosted.proofs.HostLaws.{kept_same, kept_on, knows_then, cause_later}
+use Rattle.machine_hosted.proofs.HostLaws.{kept_same, kept_on, knows_then}
 use Rattle.machine_hosted.proofs.StageLaws.{at_first, lacking, spent, run_spends, run_ends, run_traps, run_calls, turn_goes, turn_ends, ran, calling}
 use Rattle.machine_hosted.proofs.run.run_frames.Goals as goal
 

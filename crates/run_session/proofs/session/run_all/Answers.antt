@@ -1,9 +1,7 @@
-use Rattle.std.proofs.Common.{◌≡◌, ◌-◌, ◌+◌, ℕ, map, length, refl, sym, ap, ◌∙◌, arith, take, drop}
+use Rattle.std.proofs.Common.{◌-◌, ◌+◌, map, length, refl, sym, ap, ◌∙◌, arith, take, drop}
 use Rattle.std.proofs.Math.Nat.{le_refl}
 use Rattle.std.proofs.lemmas.Result.{err_from_is_err_and}
-use Rattle.command_answers.specs.Texts.{file_fault}
 use Rattle.command_answers.specs.declared.outcome.Outcome.{Outcome}
-use Rattle.run_session.specs.RunText.{dump_name}
 use Rattle.run_session.specs.Invocations.{invocation_of}
 use Rattle.wasm_syntax.specs.Run.{engine}
 use Rattle.machine_hosted.proofs.HostLaws.{kept_same, kept_on}

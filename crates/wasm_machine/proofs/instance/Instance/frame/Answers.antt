@@ -1,4 +1,4 @@
-use Rattle.std.proofs.Common.{◌≡◌, ◌∙◌, List, sym, ap, subst}
+use Rattle.std.proofs.Common.{◌∙◌, List, sym, ap, subst}
 use Rattle.std.specs.Prelude.{slice_get}
 use Rattle.dump_write.specs.Image.{DumpFrame}
 use Rattle.machine_steps.specs.declared.machine.Prepared.{Prepared}
