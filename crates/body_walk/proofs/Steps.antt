@@ -25,7 +25,7 @@ use Rattle.body_walk.proofs.Shapes.{Begins, Shape, shape}
 -- ---- lengths of written code
 
 -- nodes make code longer
-written_longer : (nodes : Nodes) (after : List Placed) → length after ≤ length (write nodes after)
+pub written_longer : (nodes : Nodes) (after : List Placed) → length after ≤ length (write nodes after)
 written_longer stop after = omega arith
 written_longer (basic at i rest) after = omega (arith, written_longer rest after)
 written_longer (jump at j rest) after = omega (arith, written_longer rest after)
@@ -36,7 +36,7 @@ written_longer (choose at t a None b end rest) after =
 written_longer (choose at t a (Some else_at) b end rest) after =
     omega (arith, written_longer a (placed else_at Else ∷ write b (placed end End ∷ write rest after)), written_longer b (placed end End ∷ write rest after), written_longer rest after)
 
-some_due : (C : Ctx) (opens : List OpenBlock) (dues : List Due) → Around C opens dues → 1 ≤ length (flat dues)
+pub some_due : (C : Ctx) (opens : List OpenBlock) (dues : List Due) → Around C opens dues → 1 ≤ length (flat dues)
 some_due C [] [] around = absurd around
 some_due C [] (before_end end rest ∷ ds) around = omega arith
 some_due C [] (before_else at other end rest ∷ ds) around = omega arith
@@ -45,7 +45,7 @@ some_due C (o ∷ os) (before_end end rest ∷ ds) around = omega arith
 some_due C (o ∷ os) (before_else at other end rest ∷ ds) around = omega arith
 
 -- behind the nodes behind a block stands what is due around it
-longer : (C : Ctx) (rest : Nodes) (opens : List OpenBlock) (dues : List Due) → Around C opens dues → 1 ≤ length (write rest (flat dues))
+pub longer : (C : Ctx) (rest : Nodes) (opens : List OpenBlock) (dues : List Due) → Around C opens dues → 1 ≤ length (write rest (flat dues))
 longer C rest opens dues around = omega (arith, written_longer rest (flat dues), some_due C opens dues around)
 
 -- ---- basic instructions
@@ -471,6 +471,41 @@ module _ (C : Ctx) (code : List Placed) (start : Written) (whole : Nodes) where
       by (x ∷ xs) (before_end end rest ∷ ds) e around comes = absurd (omega (arith, one, ap length e, longer C rest xs ds around.1))
       by (x ∷ xs) (before_else at_ other end rest ∷ ds) e around comes =
           absurd (omega (arith, one, ap length e, written_longer other (placed end End ∷ write rest (flat ds)), longer C rest xs ds around.2))
+
+-- ---- what lies below the innermost block
+
+grown_longer : (t : Option ValType) (es : List Place) → length es ≤ length (grown t es)
+grown_longer None es = omega arith
+grown_longer (Some t) es = omega arith
+
+-- has slots
+pub below_fits : (C : Ctx) (code : List Placed) (pc : ℕ) (w : Walking) (dues : List Due) (block_ : OpenBlock) (others : List OpenBlock) → Leaves C code pc w dues → w.opens ≡ block_ ∷ others →
+    length block_.saved ≤ C.slots
+below_fits C code pc w dues block_ others l is = by dues (subst (λ os. Around C os dues) is l.around)
+  where
+    fits : (rest : Nodes) → Fine C (behind_block block_) rest → length block_.saved ≤ C.slots
+    fits rest f = omega (arith, room_height C (behind_block block_) rest f.room, grown_longer (end_gives (info block_.label)) block_.saved)
+
+    by : (ds : List Due) → Around C (block_ ∷ others) ds → length block_.saved ≤ C.slots
+    by [] a = absurd a
+    by (before_end end rest ∷ ds) a = fits rest a.0
+    by (before_else at other end rest ∷ ds) a = fits rest a.1
+
+-- in front of any instruction but the last, a block is open at the end of a list
+pub open_before_last : (C : Ctx) (code : List Placed) (pc : ℕ) (w : Walking) (dues : List Due) → Leaves C code pc w dues → suc pc < length code →
+    (block_ : OpenBlock) × (others : List OpenBlock) × (w.opens ≡ block_ ∷ others)
+open_before_last C code pc w dues l lt = by w.opens refl
+  where
+    last : (ds : List Due) → drop pc code ≡ flat ds → IsLast ds → ⊥
+    last [] e i = i
+    last (before_end end rest ∷ ds) e i =
+        let one : drop pc code ≡ placed end End ∷ [] = e ∙ ap (λ n. placed end End ∷ write n (flat ds)) i.0 ∙ ap (λ z. placed end End ∷ flat z) i.1 in
+        omega (arith, lt, length-drop pc code, ap length one)
+    last (before_else at other end rest ∷ ds) e i = i
+
+    by : (os : List OpenBlock) → w.opens ≡ os → (block_ : OpenBlock) × (others : List OpenBlock) × (w.opens ≡ block_ ∷ others)
+    by [] e = absurd (last dues l.code_is (subst (λ os. Around C os dues) e l.around))
+    by (x ∷ xs) e = (x, xs, e)
 
 -- ---- the beginning
 

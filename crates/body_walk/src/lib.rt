@@ -11,4 +11,4 @@ pub use causes::NoMemory;
 pub use effect::{result_type, takes};
 pub use labels::{Label, OpenBlock};
 pub use skip::end_of_list;
-pub use walk::Walk;
+pub use walk::{Walk, copy_of};

@@ -34,7 +34,7 @@ impl Model for Walk {
 }
 
 /// A copy of places.
-fn copy_of(alloc: Global, places: &OperandPlaces) -> Result<OperandPlaces, NoMemory>
+pub fn copy_of(alloc: Global, places: &OperandPlaces) -> Result<OperandPlaces, NoMemory>
     ensures { IfOk result (λ copy. copy ≡ places.now) }
 {
     let mut copy = OperandPlaces::new(alloc);
