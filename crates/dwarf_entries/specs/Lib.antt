@@ -1,0 +1,4 @@
+pub mod Names
+pub mod Tags
+pub mod Standing
+pub mod Origins

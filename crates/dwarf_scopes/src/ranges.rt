@@ -1,0 +1,60 @@
+//! Whether an entry holds an address (DWARF 4 section 2.17).
+
+ghost use Rattle.std.specs.Prelude.{ℕ, ◌≡◌};
+ghost use Rattle.dwarf_scopes.specs.Ranges as ranges;
+
+use crate::lists::range_in;
+use dwarf_entries::names::{HIGH_PC, LOW_PC, RANGES};
+use dwarf_entries::{Standing, address, attribute, offset};
+use dwarf_info::{AttrValue, Entry, Sections5, Unit};
+
+/// Where the addresses end of an entry that begins there. A constant counts from the begin.
+fn high_from(low: u32, high: &AttrValue<'_>) -> Option<i128>
+    ensures { result ≡ ranges.high_from low high.now }
+{
+    match high {
+        AttrValue::Address(end) => Some(i128::from(*end)),
+        AttrValue::Constant(count) => Some(i128::from(low) + i128::from(*count)),
+        AttrValue::Signed(count) => Some(i128::from(low) + i128::from(*count)),
+        _ => None,
+    }
+}
+
+fn bounds_from(entry: &Entry<'_>, low: u32) -> Option<(u32, i128)>
+    ensures { result ≡ ranges.bounds_from entry.now low }
+{
+    let high = high_from(low, attribute(entry.attributes.as_slice(), HIGH_PC)?)?;
+    Some((low, high))
+}
+
+/// Where the addresses of an entry begin and end, where it says both.
+fn bounds(entry: &Entry<'_>) -> Option<(u32, i128)>
+    ensures { result ≡ ranges.bounds_of entry.now }
+{
+    let low = address(entry.attributes.as_slice(), LOW_PC)?;
+    bounds_from(entry, low)
+}
+
+/// A list that can't be read holds no address.
+fn in_list(sections: &Sections5<'_>, unit: &Unit<'_>, address: u32, at: Option<u32>) -> bool
+    ensures { result ≡ ranges.in_list sections.now unit.now address at }
+{
+    match at {
+        Some(at) => range_in(sections, unit, at as usize, address).unwrap_or(false),
+        None => false,
+    }
+}
+
+/// Whether an entry holds an address: from its low_pc up to but not including its high_pc, where it has both, else by its list.
+pub fn holds(sections: &Sections5<'_>, address: u32, standing: &Standing<'_, '_>) -> bool
+    ensures { result ≡ ranges.holds sections.now address standing.now }
+{
+    let entry = standing.entry();
+    match bounds(entry) {
+        Some((low, high)) => low <= address && i128::from(address) < high,
+        None => {
+            let at = offset(entry.attributes.as_slice(), RANGES);
+            in_list(sections, standing.unit(), address, at)
+        }
+    }
+}

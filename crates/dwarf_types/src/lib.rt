@@ -1,0 +1,14 @@
+//! Types of variables: what stands behind them, and their sizes (DWARF 4 chapter 5).
+#![tactic(auto)]
+
+mod behind;
+mod class;
+mod counts;
+mod kind;
+mod size;
+
+pub use behind::{Behind, LONGEST_CHAIN, Typed, resolved, type_at, type_of};
+pub use class::{Class, class_of};
+pub use counts::{has_subranges, subrange_count, subranges_behind};
+pub use kind::{Kind, kind_of};
+pub use size::{size_of, type_size};

@@ -1,0 +1,7 @@
+pub mod Spans
+pub mod Open
+pub mod Digits
+pub mod StepLaws
+pub mod Complete
+pub mod Sound
+pub mod Going
