@@ -1,2 +1,4 @@
 mod Loads
 pub mod OneOutcome
+pub mod Unless
+pub mod Reading

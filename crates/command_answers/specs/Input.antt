@@ -1,8 +1,13 @@
 -- What reading a file whole gives.
-use Rattle.std.specs.Prelude.{◌≡◌, ℕ, List, Result, Ok, Err}
+use Rattle.std.specs.Prelude.{◌≡◌, ℕ, ◌+◌, List, Result, Ok, Err}
+use Rattle.pm_outside.specs.declared.whole.FileError.{FileError}
+use Rattle.pm_outside.specs.declared.whole.FileError.TheVariants.{Missing, TooLong, Failed, NoMemory}
+use Rattle.wasm_syntax.specs.declared.quantity.Quantity.{Quantity}
+use Rattle.wasm_syntax.specs.Quantity.{greatest}
 use Rattle.command_answers.specs.declared.input.Input.{Input}
 use Rattle.command_answers.specs.declared.input.Input.TheVariants.{Whole, Refused}
 use Rattle.command_answers.specs.declared.outcome.Outcome.{Outcome}
+use Rattle.command_answers.specs.Texts.{no_file, over_limit, file_fault}
 use Rattle.command_answers.specs.Told.{UnlessFault}
 
 -- this is the input, but for a fault
@@ -13,3 +18,10 @@ IsInput (Refused o) input = UnlessFault o.status (input ≡ Err o)
 abbrev pub IfRefused : (Outcome → Type 0) → Input → Type 0
 IfRefused P (Whole bytes) = Unit {0}
 IfRefused P (Refused o) = P o
+
+-- the answer where a file is not read
+abbrev pub IsUnread : Quantity → List ℕ → FileError → Outcome → Type 0
+IsUnread what file Missing o = o ≡ no_file file
+IsUnread what file TooLong o = o ≡ over_limit what (greatest what + 1)
+IsUnread what file Failed o = o ≡ file_fault file
+IsUnread what file NoMemory o = ⊥

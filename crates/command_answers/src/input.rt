@@ -1,10 +1,11 @@
 //! Files that a command reads whole.
 
-ghost use Rattle.std.specs.Prelude.{◌≡◌, ◌≢◌, ◌≤◌, IfOk, IfSome};
+ghost use Rattle.std.specs.Prelude.{◌≡◌, ◌≢◌, ◌≤◌, IfOk};
 ghost use Rattle.causes.specs.Counts.{Rose};
-ghost use Rattle.command_answers.specs.Input.{IsInput, IfRefused};
+ghost use Rattle.command_answers.specs.Input.{IsInput, IsUnread, IfRefused};
 ghost use Rattle.command_answers.specs.Inputs.{input_of};
 ghost use Rattle.command_answers.specs.Texts.{file_fault};
+ghost use Rattle.command_answers.specs.Told.{OnContents};
 ghost use Rattle.wasm_syntax.specs.Quantity.{greatest};
 
 use crate::outcome::{Outcome, about_file, over_limit};
@@ -21,6 +22,18 @@ pub enum Input {
     Refused(Outcome),
 }
 
+/// What is answered where a file is not read.
+fn unread(alloc: Global, what: Quantity, file: &str, error: FileError) -> Result<Outcome, NoMemory>
+    ensures { IfOk result (IsUnread what file.now error) }
+{
+    match error {
+        FileError::Missing => about_file(alloc, Status::NoFile, "no file: ", file),
+        FileError::TooLong => over_limit(alloc, what, what.limit() + 1),
+        FileError::Failed => about_file(alloc, Status::FileFault, "file fault: ", file),
+        FileError::NoMemory => Err(NoMemory),
+    }
+}
+
 /// Reads a file that has at most so many bytes.
 pub fn read_input<F: Files>(
     alloc: Global,
@@ -28,7 +41,7 @@ pub fn read_input<F: Files>(
     file: &str,
     what: Quantity,
 ) -> Result<Input, NoMemory>
-    ensures told { IfSome (F.told files.old) (λ held. IfOk result (λ input. IsInput input (input_of what file.now (held file.now)))) }
+    ensures told { IfOk result (λ input. OnContents (F.told files.old) (λ held. IsInput input (input_of what file.now (held file.now)))) }
     ensures fault { IfOk result (IfRefused (λ o. o.status ≡ Status.FileFault
         → (o ≡ file_fault file.now) × Rose (F.faults files.old) (F.faults files.new))) }
     ensures memory { IfOk result (IfRefused (λ o. o.status ≢ Status.NoMemory)) }
@@ -36,13 +49,11 @@ pub fn read_input<F: Files>(
     ensures same { F.told files.new ≡ F.told files.old }
     ensures names { F.created files.new ≡ F.created files.old }
 {
-    let limit = what.limit();
-    let refusal = match read_file(alloc, files, file, limit as usize) {
-        Ok(bytes) => return Ok(Input::Whole(bytes)),
-        Err(FileError::Missing) => about_file(alloc, Status::NoFile, "no file: ", file)?,
-        Err(FileError::TooLong) => over_limit(alloc, what, limit + 1)?,
-        Err(FileError::Failed) => about_file(alloc, Status::FileFault, "file fault: ", file)?,
-        Err(FileError::NoMemory) => return Err(NoMemory),
-    };
-    Ok(Input::Refused(refusal))
+    match read_file(alloc, files, file, what.limit() as usize) {
+        Ok(bytes) => Ok(Input::Whole(bytes)),
+        Err(error) => {
+            let refusal = unread(alloc, what, file, error)?;
+            Ok(Input::Refused(refusal))
+        }
+    }
 }

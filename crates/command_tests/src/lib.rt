@@ -7,6 +7,8 @@ mod check_tests;
 #[cfg(test)]
 mod option_tests;
 #[cfg(test)]
+mod output_tests;
+#[cfg(test)]
 mod run_word_tests;
 #[cfg(test)]
 mod show_tests;

@@ -22,18 +22,18 @@ one_check m content = agree_then (input_of ModuleBytes m content) _ _ (λ bytes.
 one_show : (dump : List ℕ) (content : Option (List ℕ)) → Agree (ShowAnswer dump content) (ShowAnswer dump content)
 one_show dump content = agree_then (input_of DumpBytes dump content) _ _ (λ bytes a b pa qb. pa ∙ sym qb)
 
-one_to : (before after : List DeviceState) (c : Option Command) (files : Contents) (given : List Served) (x y : Writes) → Agree (AnswersTo before after c files given x) (AnswersTo before after c files given y)
-one_to before after (Some (Check m)) files given x y a b pa qb = one_check m (files m) a b pa.0 qb.0
-one_to before after (Some (Run w)) files given x y a b pa qb = one_run_answer before after w files given x y a b pa qb
-one_to before after (Some (Show dump)) files given x y a b pa qb = one_show dump (files dump) a b pa.0 qb.0
-one_to before after None files given x y a b pa qb = pa.0 ∙ sym qb.0
+one_to : (before after : List DeviceState) (c : Option Command) (first later : Contents) (given : List Served) (x y : Writes) → Agree (AnswersTo before after c first later given x) (AnswersTo before after c first later given y)
+one_to before after (Some (Check m)) first later given x y a b pa qb = one_check m (first m) a b pa.0 qb.0
+one_to before after (Some (Run w)) first later given x y a b pa qb = one_run_answer before after w first later given x y a b pa qb
+one_to before after (Some (Show dump)) first later given x y a b pa qb = one_show dump (first dump) a b pa.0 qb.0
+one_to before after None first later given x y a b pa qb = pa.0 ∙ sym qb.0
 
-one_written : (before after : List DeviceState) (c : Option Command) (files : Contents) (given : List Served) (x y : Writes) (a b : Outcome) → AnswersTo before after c files given x a → AnswersTo before after c files given y b → x ≡ y
-one_written before after (Some (Check m)) files given x y a b pa qb = pa.1.writes_none ∙ sym qb.1.writes_none
-one_written before after (Some (Run w)) files given x y a b pa qb = one_run_written before after w files given x y a b pa qb
-one_written before after (Some (Show dump)) files given x y a b pa qb = pa.1.writes_none ∙ sym qb.1.writes_none
-one_written before after None files given x y a b pa qb = pa.1.writes_none ∙ sym qb.1.writes_none
+one_written : (before after : List DeviceState) (c : Option Command) (first later : Contents) (given : List Served) (x y : Writes) (a b : Outcome) → AnswersTo before after c first later given x a → AnswersTo before after c first later given y b → x ≡ y
+one_written before after (Some (Check m)) first later given x y a b pa qb = pa.1.writes_none ∙ sym qb.1.writes_none
+one_written before after (Some (Run w)) first later given x y a b pa qb = one_run_written before after w first later given x y a b pa qb
+one_written before after (Some (Show dump)) first later given x y a b pa qb = pa.1.writes_none ∙ sym qb.1.writes_none
+one_written before after None first later given x y a b pa qb = pa.1.writes_none ∙ sym qb.1.writes_none
 
-pub one_answer : (before after : List DeviceState) (words : List (List ℕ)) (files : Contents) (given : List Served) (x y : Writes) (a b : Outcome) → IsAnswer before after words files given x a → IsAnswer before after words files given y b → (a ≡ b) × (x ≡ y)
+pub one_answer : (before after : List DeviceState) (words : List (List ℕ)) (first later : Contents) (given : List Served) (x y : Writes) (a b : Outcome) → IsAnswer before after words first later given x a → IsAnswer before after words first later given y b → (a ≡ b) × (x ≡ y)
 unfolding IsAnswer
-one_answer before after words files given x y a b pa qb = (one_to before after (command words) files given x y a b pa qb, one_written before after (command words) files given x y a b pa qb)
+one_answer before after words first later given x y a b pa qb = (one_to before after (command words) first later given x y a b pa qb, one_written before after (command words) first later given x y a b pa qb)

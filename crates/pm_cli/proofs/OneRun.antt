@@ -63,10 +63,10 @@ agree_module before after w given x y script m a b pa qb =
     agree_starts (start_text (hosting before script) m (map invocation_of w.invocations)) _ _ a b (λ r s. one_run before after script w m given x y a b r.0 s.0) pa qb
 
 -- whatever is said to be written
-pub one_run_answer : (before after : List DeviceState) (w : RunWords) (files : Contents) (given : List Served) (x y : Writes) → Agree (RunAnswer before after w files given x) (RunAnswer before after w files given y)
-one_run_answer before after w files given x y a b pa qb =
-    agree_then (input_of ModuleBytes w.source (files w.source)) _ _ (λ bytes.
-    agree_then (replies_input w.replies files) _ _ (λ script_bytes.
+pub one_run_answer : (before after : List DeviceState) (w : RunWords) (first later : Contents) (given : List Served) (x y : Writes) → Agree (RunAnswer before after w first later given x) (RunAnswer before after w first later given y)
+one_run_answer before after w first later given x y a b pa qb =
+    agree_then (input_of ModuleBytes w.source (first w.source)) _ _ (λ bytes.
+    agree_then (replies_input w.replies later) _ _ (λ script_bytes.
     agree_if_loaded _ _ (λ m. agree_then (script_of script_bytes) _ _ (λ script. agree_module before after w given x y script m)) (module_from bytes))) a b pa.answer qb.answer
 
 -- ---- the files
@@ -75,14 +75,14 @@ agree_writes : (before after : List DeviceState) (w : RunWords) (given : List Se
 agree_writes before after w given x y script m a b at_a at_b pa qb =
     gives_starts (x ≡ y) (start_text (hosting before script) m (map invocation_of w.invocations)) _ _ (λ r s. same_dumps before after script w m given x y a b r.0 s.0) a b at_a at_b pa qb
 
-written : (before after : List DeviceState) (w : RunWords) (files : Contents) (given : List Served) (x y : Writes) (a b : Outcome) → IfRefusal a.status (x ≡ y) → IfRefusal b.status (x ≡ y) → RunAnswer before after w files given x a → RunAnswer before after w files given y b → x ≡ y
-written before after w files given x y a b at_a at_b pa qb =
-    gives_then (x ≡ y) (input_of ModuleBytes w.source (files w.source)) _ _ (input_refuses (x ≡ y) ModuleBytes w.source (files w.source)) (λ bytes.
-    gives_then (x ≡ y) (replies_input w.replies files) _ _ (replies_refuse (x ≡ y) w.replies files) (λ script_bytes.
+written : (before after : List DeviceState) (w : RunWords) (first later : Contents) (given : List Served) (x y : Writes) (a b : Outcome) → IfRefusal a.status (x ≡ y) → IfRefusal b.status (x ≡ y) → RunAnswer before after w first later given x a → RunAnswer before after w first later given y b → x ≡ y
+written before after w first later given x y a b at_a at_b pa qb =
+    gives_then (x ≡ y) (input_of ModuleBytes w.source (first w.source)) _ _ (input_refuses (x ≡ y) ModuleBytes w.source (first w.source)) (λ bytes.
+    gives_then (x ≡ y) (replies_input w.replies later) _ _ (replies_refuse (x ≡ y) w.replies later) (λ script_bytes.
     gives_if_loaded (x ≡ y) _ _ (λ m. gives_then (x ≡ y) (script_of script_bytes) _ _ (script_refuses (x ≡ y) script_bytes) (λ script. agree_writes before after w given x y script m)) (module_from bytes))) a b at_a at_b pa.answer qb.answer
 
-pub one_run_written : (before after : List DeviceState) (w : RunWords) (files : Contents) (given : List Served) (x y : Writes) (a b : Outcome) → RunAnswer before after w files given x a → RunAnswer before after w files given y b → x ≡ y
-one_run_written before after w files given x y a b pa qb =
-    let same : a ≡ b = one_run_answer before after w files given x y a b pa qb in
+pub one_run_written : (before after : List DeviceState) (w : RunWords) (first later : Contents) (given : List Served) (x y : Writes) (a b : Outcome) → RunAnswer before after w first later given x a → RunAnswer before after w first later given y b → x ≡ y
+one_run_written before after w first later given x y a b pa qb =
+    let same : a ≡ b = one_run_answer before after w first later given x y a b pa qb in
     let at_a : IfRefusal a.status (x ≡ y) = at_refusal a.status (IsUntouched before after given x) (IsUntouched before after given y) (x ≡ y) (λ p q. p.writes_none ∙ sym q.writes_none) pa.untouched (subst (λ (o : Outcome). IfRefusal o.status (IsUntouched before after given y)) (sym same) qb.untouched) in
-    written before after w files given x y a b at_a (subst (λ (o : Outcome). IfRefusal o.status (x ≡ y)) same at_a) pa qb
+    written before after w first later given x y a b at_a (subst (λ (o : Outcome). IfRefusal o.status (x ≡ y)) same at_a) pa qb

@@ -1,72 +1,71 @@
 -- What is left where there is no answer, from what the commands leave.
 use Rattle.std.proofs.Common.{◌≡◌, ℕ, List, refl, sym, ap, ◌∙◌, subst, inl, inr, Option, Some, None, Result, Ok, Err}
-use Rattle.std.specs.Prelude.{◌⊎◌, IfSome}
+use Rattle.std.specs.Prelude.{◌⊎◌, IfSome, IfOk}
+use Rattle.causes.specs.Counts.{Rose}
 use Rattle.causes.specs.declared.NoMemory.{NoMemory}
 use Rattle.pm_outside.specs.Contents.{Contents}
 use Rattle.host_set.specs.Sets.{DeviceState}
-use Rattle.command_answers.specs.Told.{UnlessFault}
+use Rattle.command_answers.specs.Texts.{usage, file_fault}
+use Rattle.command_answers.specs.Told.{UnlessFault, Takes, HasTakenFront}
 use Rattle.command_answers.specs.declared.outcome.Outcome.{Outcome}
 use Rattle.command_answers.specs.declared.status.Status.{Status}
 use Rattle.command_answers.specs.declared.status.Status.TheVariants as status
 use Rattle.run_words.specs.declared.words.RunWords.{RunWords}
-use Rattle.run_session.specs.Stop.{Stop, no_memory, file_failed, OnStop}
-use Rattle.run_command.specs.Stops.{IsUnchanged, RunStops}
+use Rattle.run_session.specs.Stop.{Stop, no_memory, file_failed, IsFileFault, OnStop}
+use Rattle.run_command.specs.Stops.{NothingDone, RunStops}
 use Rattle.pm_cli.specs.Stops.{UnlessRun, CommandStops, WordsStop}
 use Rattle.pm_cli.specs.Words.{command}
 use Rattle.pm_cli.specs.declared.words.Command.{Command}
 use Rattle.pm_cli.specs.declared.words.Command.TheVariants.{Check, Run, Show}
 
-abbrev StopsTold : (Stop → Contents → Contents → Type 0) → Option Contents → Option Contents → Result Outcome NoMemory → Type 0
-StopsTold P told told' result = IfSome told (λ held. IfSome told' (λ then_held. OnStop (λ stop. P stop held then_held) result))
-
 -- ---- commands that run nothing
 
-all_stop : (P : Stop → Type 0) (result : Result Outcome NoMemory) → ((stop : Stop) → P stop) → OnStop P result
-all_stop P (Err e) x = x no_memory
-all_stop P (Ok o) x = λ faulted stop. x stop
-
--- files and devices are as before
-pub unchanged_stops : (P : Stop → Contents → Contents → Type 0) (devices : List DeviceState) (told told' : Option Contents) (result : Result Outcome NoMemory) → told' ≡ told
-    → ((stop : Stop) (held : Contents) → IsUnchanged devices devices held held → P stop held held) → StopsTold P told told' result
-unchanged_stops P devices told told' result same go = subst (λ t. StopsTold P told t result) (sym same) (alike told)
-  where
-    alike : (t : Option Contents) → StopsTold P t t result
-    alike None = tt
-    alike (Some held) = all_stop (λ stop. P stop held held) result (λ stop. go stop held (record { devices = refl; files = λ name. refl }))
-
-of_command : (words : List (List ℕ)) (c : Option Command) (before after : List DeviceState) (stop : Stop) (old new : Contents) → command words ≡ c → CommandStops stop c before after old new → WordsStop stop words before after old new
+of_command : (words : List (List ℕ)) (c : Option Command) (before after : List DeviceState) (stop : Stop) (old new : Option Contents) → command words ≡ c → CommandStops stop c before after old new → WordsStop stop words before after old new
 of_command words c before after stop old new asked x = subst (λ k. CommandStops stop k before after old new) (sym asked) x
 
-pub check_stops : (told told' : Option Contents) (result : Result Outcome NoMemory) (devices : List DeviceState) (words : List (List ℕ)) (m : List ℕ) → command words ≡ Some (Check m) → told' ≡ told
-    → StopsTold (λ stop held then_held. WordsStop stop words devices devices held then_held) told told' result
-check_stops told told' result devices words m asked same =
-    unchanged_stops (λ stop held then_held. WordsStop stop words devices devices held then_held) devices told told' result same (λ stop held x. of_command words (Some (Check m)) devices devices stop held held asked x)
+module _ (devices : List DeviceState) (words : List (List ℕ)) (told told' : Option Contents) (same : told' ≡ told) (R : Type 0) where
+  abbrev Leaves : Stop → Type 0
+  Leaves stop = WordsStop stop words devices devices told told'
 
-pub show_stops : (told told' : Option Contents) (result : Result Outcome NoMemory) (devices : List DeviceState) (words : List (List ℕ)) (dump : List ℕ) → command words ≡ Some (Show dump) → told' ≡ told
-    → StopsTold (λ stop held then_held. WordsStop stop words devices devices held then_held) told told' result
-show_stops told told' result devices words dump asked same =
-    unchanged_stops (λ stop held then_held. WordsStop stop words devices devices held then_held) devices told told' result same (λ stop held x. of_command words (Some (Show dump)) devices devices stop held held asked x)
+  pub check_stops : (result : Result Outcome NoMemory) (m file : List ℕ) → command words ≡ Some (Check m) → file ≡ m → IfOk result (λ o. o.status ≡ status.FileFault → (o ≡ file_fault file) × R) → OnStop Leaves result
+  check_stops (Err e) m file asked named fault = of_command words (Some (Check m)) devices devices no_memory told told' asked record { devices = refl; files = same; file = tt }
+  check_stops (Ok o) m file asked named fault = λ faulted. record {
+    file = file;
+    named = (fault faulted).0;
+    failed = of_command words (Some (Check m)) devices devices (file_failed file) told told' asked record { devices = refl; files = same; file = named };
+    memory = of_command words (Some (Check m)) devices devices no_memory told told' asked record { devices = refl; files = same; file = tt };
+  }
 
-pub usage_stops : (told : Option Contents) (result : Result Outcome NoMemory) (devices : List DeviceState) (words : List (List ℕ)) → command words ≡ None
-    → StopsTold (λ stop held then_held. WordsStop stop words devices devices held then_held) told told result
-usage_stops told result devices words asked =
-    unchanged_stops (λ stop held then_held. WordsStop stop words devices devices held then_held) devices told told result refl (λ stop held x. of_command words None devices devices stop held held asked x)
+  pub show_stops : (result : Result Outcome NoMemory) (dump file : List ℕ) → command words ≡ Some (Show dump) → file ≡ dump → IfOk result (λ o. o.status ≡ status.FileFault → (o ≡ file_fault file) × R) → OnStop Leaves result
+  show_stops (Err e) dump file asked named fault = of_command words (Some (Show dump)) devices devices no_memory told told' asked record { devices = refl; files = same; file = tt }
+  show_stops (Ok o) dump file asked named fault = λ faulted. record {
+    file = file;
+    named = (fault faulted).0;
+    failed = of_command words (Some (Show dump)) devices devices (file_failed file) told told' asked record { devices = refl; files = same; file = named };
+    memory = of_command words (Some (Show dump)) devices devices no_memory told told' asked record { devices = refl; files = same; file = tt };
+  }
+
+-- no words that are wrong fail a file
+no_usage_fault : (o : Outcome) → o ≡ usage → o.status ≡ status.FileFault → ⊥
+no_usage_fault o e is = let clash : status.Usage ≡ status.FileFault = sym (ap (λ (x : Outcome). x.status) e) ∙ is in absurd cc
 
 -- the words were not read: whatever they ask for, nothing was done
-unread : (c : Option Command) (devices : List DeviceState) (stop : Stop) (held : Contents) → IsUnchanged devices devices held held → CommandStops stop c devices devices held held
-unread (Some (Check m)) devices stop held x = x
-unread (Some (Run w)) devices stop held x = inl x
-unread (Some (Show dump)) devices stop held x = x
-unread None devices stop held x = x
+unread : (c : Option Command) (devices : List DeviceState) (told : Option Contents) → CommandStops no_memory c devices devices told told
+unread (Some (Check m)) devices told = record { devices = refl; files = refl; file = tt }
+unread (Some (Run w)) devices told = inl record { devices = refl; files = refl; file = tt }
+unread (Some (Show dump)) devices told = record { devices = refl; files = refl; file = tt }
+unread None devices told = record { devices = refl; files = refl; file = tt }
 
-pub unread_stops : (told : Option Contents) (devices : List DeviceState) (words : List (List ℕ)) → IfSome told (λ held. IfSome told (λ then_held. WordsStop no_memory words devices devices held then_held))
-unread_stops None devices words = tt
-unread_stops (Some held) devices words = unread (command words) devices no_memory held (record { devices = refl; files = λ name. refl })
+pub unread_stops : (devices : List DeviceState) (words : List (List ℕ)) (told : Option Contents) → WordsStop no_memory words devices devices told told
+unread_stops devices words told = unread (command words) devices told
 
-pub run_stops : (told told' : Option Contents) (result : Result Outcome NoMemory) (before after : List DeviceState) (words : List (List ℕ)) (w : RunWords) → command words ≡ Some (Run w)
-    → StopsTold (λ stop held then_held. RunStops stop w before after held then_held) told told' result
-    → StopsTold (λ stop held then_held. WordsStop stop words before after held then_held) told told' result
-run_stops told told' result before after words w asked x = subst (λ c. StopsTold (λ stop held then_held. CommandStops stop c before after held then_held) told told' result) (sym asked) x
+pub usage_stops : (devices : List DeviceState) (words : List (List ℕ)) (told : Option Contents) (result : Result Outcome NoMemory) → IfOk result (λ o. o ≡ usage) → OnStop (λ stop. WordsStop stop words devices devices told told) result
+usage_stops devices words told (Err e) x = unread_stops devices words told
+usage_stops devices words told (Ok o) x = λ faulted. absurd (no_usage_fault o x faulted)
+
+pub run_stops : (before after : List DeviceState) (words : List (List ℕ)) (told told' : Option Contents) (result : Result Outcome NoMemory) (w : RunWords) → command words ≡ Some (Run w)
+    → OnStop (λ stop. RunStops stop w before after told told') result → OnStop (λ stop. WordsStop stop words before after told told') result
+run_stops before after words told told' result w asked x = subst (λ c. OnStop (λ stop. CommandStops stop c before after told told') result) (sym asked) x
 
 -- however it ends
 pub quiet_all : (c : Option Command) (P : Type 0) → P → UnlessRun c P
@@ -101,30 +100,45 @@ by_status status.Collision P Q some answer stopped = inr answer
 by_status status.TornCalls P Q some answer stopped = inr answer
 by_status status.BadReplies P Q some answer stopped = inr answer
 
-pub stopped_or_answered : (stop : Stop) (told told' : Option Contents) (o : Outcome) (P : Stop → Contents → Contents → Type 0) (A : Contents → Contents → Outcome → Type 0) (R : Type 0) → (o.status ≡ status.NoMemory → ⊥)
-    → IfSome told (λ held. IfSome told' (λ then_held. UnlessFault o.status (A held then_held o)))
-    → IfSome told (λ held. IfSome told' (λ then_held. o.status ≡ status.FileFault → (stop : Stop) → P stop held then_held))
-    → IfSome told (λ held. IfSome told' (λ then_held. R → P stop held then_held ⊎ ((p : Outcome) × A held then_held p)))
-stopped_or_answered stop None told' o P A R some answer stops = tt
-stopped_or_answered stop (Some held) None o P A R some answer stops = tt
-stopped_or_answered stop (Some held) (Some then_held) o P A R some answer stops =
-    λ so. either (by_status o.status (P stop held then_held) (A held then_held o) some answer (λ faulted. stops faulted stop))
-  where
-    either : P stop held then_held ⊎ A held then_held o → P stop held then_held ⊎ ((p : Outcome) × A held then_held p)
-    either (inl x) = inl x
-    either (inr a) = inr (o, a)
+module _ (o : Outcome) (A : Outcome → Type 0) (P : Stop → Type 0) (some : o.status ≡ status.NoMemory → ⊥) (answer : UnlessFault o.status (A o)) (stops : o.status ≡ status.FileFault → IsFileFault P o) where
+  pub stopped_or_answered : P no_memory ⊎ ((p : Outcome) × A p)
+  stopped_or_answered = either (by_status o.status (P no_memory) (A o) some answer (λ faulted. (stops faulted).memory))
+    where
+      either : P no_memory ⊎ A o → P no_memory ⊎ ((p : Outcome) × A p)
+      either (inl x) = inl x
+      either (inr a) = inr (o, a)
 
-pub stopped_only : (told told' : Option Contents) (P A : Contents → Contents → Type 0) (R : Type 0)
-    → IfSome told (λ held. IfSome told' (λ then_held. P held then_held))
-    → IfSome told (λ held. IfSome told' (λ then_held. R → P held then_held ⊎ A held then_held))
-stopped_only None told' P A R x = tt
-stopped_only (Some held) None P A R x = tt
-stopped_only (Some held) (Some then_held) P A R x = λ so. inl x
+  pub failed_or_answered : ((file : List ℕ) × P (file_failed file)) ⊎ ((p : Outcome) × A p)
+  failed_or_answered = either (by_status o.status (IsFileFault P o) (A o) some answer stops)
+    where
+      either : IsFileFault P o ⊎ A o → ((file : List ℕ) × P (file_failed file)) ⊎ ((p : Outcome) × A p)
+      either (inl x) = inl (x.file, x.failed)
+      either (inr a) = inr (o, a)
 
-pub never : (told told' : Option Contents) (Q : Contents → Contents → Type 0) (R : Type 0) → (R → ⊥) → IfSome told (λ held. IfSome told' (λ then_held. R → Q held then_held))
-never None told' Q R none = tt
-never (Some held) None Q R none = tt
-never (Some held) (Some then_held) Q R none = λ so. absurd (none so)
+  -- the output has taken a front of the text
+  pub fronts : (taken taken' : Option (List ℕ)) (R : Type 0) → (o.status ≡ status.FileFault → R) → IfSome taken (λ before. HasTakenFront before taken' o.text)
+      → IfSome taken (λ before. (taken' ≡ Some before) ⊎ (((p : Outcome) × A p × HasTakenFront before taken' p.text) ⊎ (R × ((file : List ℕ) × P (file_failed file) × HasTakenFront before taken' (file_fault file).text))))
+  fronts None taken' R rose x = tt
+  fronts (Some before) taken' R rose x = either (by_status o.status (R × IsFileFault P o) (A o) some answer (λ faulted. (rose faulted, stops faulted)))
+    where
+      either : (R × IsFileFault P o) ⊎ A o → (taken' ≡ Some before) ⊎ (((p : Outcome) × A p × HasTakenFront before taken' p.text) ⊎ (R × ((file : List ℕ) × P (file_failed file) × HasTakenFront before taken' (file_fault file).text)))
+      either (inl (rose, k)) = inr (inr (rose, (k.file, k.failed, subst (λ (p : Outcome). HasTakenFront before taken' p.text) k.named x)))
+      either (inr a) = inr (inl (o, a, x))
+
+  -- a fault that is not the output's
+  pub named_fault : (s : Status) (taken taken' : Option (List ℕ)) (R S : Type 0) → (o.status ≡ status.FileFault → R) → (s ≡ status.FileFault → (o.status ≡ status.FileFault) ⊎ S)
+      → (s ≡ status.FileFault → (S → ⊥) → Takes s taken taken' o)
+      → s ≡ status.FileFault → (S → ⊥) → R × ((file : List ℕ) × P (file_failed file) × Takes s taken taken' (file_fault file))
+  named_fault s taken taken' R S rose cause takes faulted not_there = either (cause faulted)
+    where
+      either : (o.status ≡ status.FileFault) ⊎ S → R × ((file : List ℕ) × P (file_failed file) × Takes s taken taken' (file_fault file))
+      either (inl is) = let k = stops is in (rose is, (k.file, k.failed, subst (λ (p : Outcome). Takes s taken taken' p) k.named (takes faulted not_there)))
+      either (inr there) = absurd (not_there there)
+
+-- the output was not asked
+pub untaken : (taken : Option (List ℕ)) (B : List ℕ → Type 0) → IfSome taken (λ before. (taken ≡ Some before) ⊎ B before)
+untaken None B = tt
+untaken (Some before) B = inl refl
 
 pub no_fault : status.NoMemory ≡ status.FileFault → ⊥
 no_fault e = absurd cc

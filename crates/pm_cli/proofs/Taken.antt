@@ -17,7 +17,7 @@ of_same : (s t : Status) (P : Type 0) → s ≡ t → UnlessFault t P → Unless
 of_same s t P e p = rw e p
 
 -- what is known of an outcome on its own status is known on the status that was delivered
-with_outcome : (s : Status) (o : Outcome) (P T : Outcome → Type 0) → (T o → s ≡ o.status) → UnlessFault o.status (P o) → UnlessFault s (T o) → UnlessFault s ((p : Outcome) × P p × T p)
+pub with_outcome : (s : Status) (o : Outcome) (P T : Outcome → Type 0) → (T o → s ≡ o.status) → UnlessFault o.status (P o) → UnlessFault s (T o) → UnlessFault s ((p : Outcome) × P p × T p)
 with_outcome status.FileFault o P T same p t = tt
 with_outcome status.NoMemory o P T same p t = tt
 with_outcome status.Done o P T same p t = (o, of_same status.Done o.status (P o) (same t) p, t)
@@ -36,13 +36,3 @@ with_outcome status.Limit o P T same p t = (o, of_same status.Limit o.status (P 
 with_outcome status.Collision o P T same p t = (o, of_same status.Collision o.status (P o) (same t) p, t)
 with_outcome status.TornCalls o P T same p t = (o, of_same status.TornCalls o.status (P o) (same t) p, t)
 with_outcome status.BadReplies o P T same p t = (o, of_same status.BadReplies o.status (P o) (same t) p, t)
-
--- an outcome that is the answer, and was delivered, where files tell what they hold before and then
-pub answered : {C : Type 0} (told then : Option C) (taken : Option (List ℕ)) (s : Status) (o : Outcome) (after : Option (List ℕ)) (P : C → C → Outcome → Type 0)
-    → IfSome told (λ held. IfSome then (λ now. UnlessFault o.status (P held now o)))
-    → IfSome taken (λ before. UnlessFault s (Takes s before after o))
-    → IfSome told (λ held. IfSome then (λ now. IfSome taken (λ before. UnlessFault s ((p : Outcome) × P held now p × Takes s before after p))))
-answered None then taken s o after P p t = tt
-answered (Some held) None taken s o after P p t = tt
-answered (Some held) (Some now) None s o after P p t = tt
-answered (Some held) (Some now) (Some before) s o after P p t = with_outcome s o (P held now) (Takes s before after) (λ takes. takes.0) p t

@@ -12,8 +12,8 @@ use Rattle.wasm_syntax.specs.declared.module.ModuleParts.{ModuleParts as Module}
 use Rattle.wasm_decode.specs.Decode.{module_from}
 use Rattle.wasm_syntax.specs.declared.host.Served.{Served}
 use Rattle.host_set.specs.Sets.{DeviceState}
-use Rattle.run_session.specs.Written.{Writes, HoldThen}
-use Rattle.run_command.specs.RunAnswer.{RunAnswer, IsUntouched}
+use Rattle.run_session.specs.Written.{Writes}
+use Rattle.run_command.specs.RunAnswer.{RunAnswer, IsUntouched, AnsweredOn}
 use Rattle.pm_cli.specs.Check.{counted}
 use Rattle.command_answers.specs.Loading.{IfLoaded}
 use Rattle.command_answers.specs.Inputs.{input_of, Then}
@@ -51,20 +51,18 @@ checked m o = o ≡ counted m
 abbrev pub CheckAnswer : List ℕ → Option (List ℕ) → Outcome → Type 0
 CheckAnswer file content o = Then (input_of ModuleBytes file content) (λ bytes. IfLoaded checked (module_from bytes)) o
 
--- the answer to a command, where the devices were so before and after, files hold this, these replies were given, and these files written
-abbrev pub AnswersTo : (before after : List DeviceState) → Option Command → Contents → List Served → Writes → Outcome → Type 0
-AnswersTo before after (Some (Check m)) files given writes o = CheckAnswer m (files m) o × IsUntouched before after given writes
-AnswersTo before after (Some (Run w)) files given writes o = RunAnswer before after w files given writes o
-AnswersTo before after (Some (Show dump)) files given writes o = ShowAnswer dump (files dump) o × IsUntouched before after given writes
-AnswersTo before after None files given writes o = (o ≡ usage) × IsUntouched before after given writes
+-- The answer to a command, where the devices were so before and after, files hold this when the first one is read and that when the second one
+-- is, these replies were given, and these files written.
+abbrev pub AnswersTo : (before after : List DeviceState) → Option Command → (first later : Contents) → List Served → Writes → Outcome → Type 0
+AnswersTo before after (Some (Check m)) first later given writes o = CheckAnswer m (first m) o × IsUntouched before after given writes
+AnswersTo before after (Some (Run w)) first later given writes o = RunAnswer before after w first later given writes o
+AnswersTo before after (Some (Show dump)) first later given writes o = ShowAnswer dump (first dump) o × IsUntouched before after given writes
+AnswersTo before after None first later given writes o = (o ≡ usage) × IsUntouched before after given writes
 
 -- this is the answer to a list of words
-unfoldable pub IsAnswer : (before after : List DeviceState) → List (List ℕ) → Contents → List Served → Writes → Outcome → Type 0
-IsAnswer before after words files given writes o = AnswersTo before after (command words) files given writes o
+unfoldable pub IsAnswer : (before after : List DeviceState) → List (List ℕ) → (first later : Contents) → List Served → Writes → Outcome → Type 0
+IsAnswer before after words first later given writes o = AnswersTo before after (command words) first later given writes o
 
--- the words are answered, and the files hold what is written
-pub record Answered (before after : List DeviceState) (words : List (List ℕ)) (old new : Contents) (o : Outcome) : Type 0 where
-  pub given : List Served
-  pub writes : Writes
-  pub answer : IsAnswer before after words old given writes o
-  pub files : HoldThen writes old new
+-- The words are answered, where files tell this before and then. Where they tell nothing there are contents on which this is the answer.
+abbrev pub Answered : (before after : List DeviceState) → List (List ℕ) → (old new : Option Contents) → Outcome → Type 0
+Answered before after words old new o = AnsweredOn (IsAnswer before after words) old new o

@@ -1,6 +1,5 @@
 pub mod Answer
 pub mod Check
-pub mod FaultText
 pub mod Show
 pub mod Words
 pub mod Stops

@@ -1,13 +1,13 @@
 //! `check`.
 
-ghost use Rattle.std.specs.Prelude.{◌≡◌, ◌≢◌, ◌≤◌, ◌++◌, IfOk, IfSome, OnOk};
+ghost use Rattle.std.specs.Prelude.{◌≡◌, ◌≢◌, ◌≤◌, ◌++◌, IfOk, OnOk};
 ghost use Rattle.causes.specs.Counts.{Rose};
 ghost use Rattle.wasm_decode.specs.Decode.{module_from};
 ghost use Rattle.pm_cli.specs.Answer.{CheckAnswer, checked};
 ghost use Rattle.pm_cli.specs.Check.{code_text, other_text, valid_text, counted};
 ghost use Rattle.command_answers.specs.Loading.{IfLoaded};
 ghost use Rattle.command_answers.specs.Texts.{file_fault};
-ghost use Rattle.command_answers.specs.Told.{UnlessFault};
+ghost use Rattle.command_answers.specs.Told.{UnlessFault, OnContents};
 
 use causes::NoMemory;
 use command_answers::{Input, Loaded, Outcome, Status, load, push_number, read_input};
@@ -69,8 +69,8 @@ fn check_bytes(alloc: Global, bytes: &[u8]) -> Result<Outcome, NoMemory>
 
 /// Checks the module in a file.
 pub fn check_file<F: Files>(alloc: Global, files: &mut F, file: &str) -> Result<Outcome, NoMemory>
-    ensures told { IfSome (F.told files.old) (λ held. IfOk result (λ o.
-        UnlessFault o.status (CheckAnswer file.now (held file.now) o))) }
+    ensures told { IfOk result (λ o. UnlessFault o.status (OnContents (F.told files.old) (λ held.
+        CheckAnswer file.now (held file.now) o))) }
     ensures fault { IfOk result (λ o. o.status ≡ Status.FileFault
         → (o ≡ file_fault file.now) × Rose (F.faults files.old) (F.faults files.new)) }
     ensures memory { IfOk result (λ o. o.status ≢ Status.NoMemory) }
@@ -78,7 +78,8 @@ pub fn check_file<F: Files>(alloc: Global, files: &mut F, file: &str) -> Result<
     ensures same { F.told files.new ≡ F.told files.old }
     ensures names { F.created files.new ≡ F.created files.old }
 {
-    match read_input(alloc, files, file, Quantity::ModuleBytes)? {
+    let input = read_input(alloc, files, file, Quantity::ModuleBytes)?;
+    match input {
         Input::Whole(bytes) => check_bytes(alloc, &bytes),
         Input::Refused(refusal) => Ok(refusal),
     }

@@ -1,12 +1,11 @@
 //! What the commands answer.
 
-ghost use Rattle.std.specs.Prelude.{◌≡◌, ◌≢◌, ◌≤◌, map, is_some, IfOk, IfSome};
+ghost use Rattle.std.specs.Prelude.{◌≡◌, ◌≢◌, ◌≤◌, map, is_some, IfOk};
 ghost use Rattle.std.specs.String.{string_bytes};
 ghost use Rattle.causes.specs.Counts.{Rose};
 ghost use Rattle.host_set.specs.Sets.{AreDistinct, names};
 ghost use Rattle.pm_cli.specs.Answer.{IsAnswer, Answered};
 ghost use Rattle.command_answers.specs.Told.{UnlessFault};
-ghost use Rattle.pm_cli.specs.FaultText.{IsFaultText};
 ghost use Rattle.pm_cli.specs.Stops.{UnlessRun, WordsStop};
 ghost use Rattle.pm_cli.specs.Words.{command};
 ghost use Rattle.run_session.specs.Stop.{OnStop};
@@ -31,16 +30,16 @@ pub fn respond<F: Files, D: Devices>(
     devices: &mut D,
 ) -> Result<Outcome, NoMemory>
     requires distinct { AreDistinct (names (D.shown devices.old)) }
-    ensures told { IfSome (F.told files.old) (λ held. IfSome (F.told files.new) (λ then. IfOk result (λ o.
-        UnlessFault o.status (Answered (D.shown devices.old) (D.shown devices.new) (map string_bytes words.now) held then o)))) }
-    ensures stops { IfSome (F.told files.old) (λ held. IfSome (F.told files.new) (λ then.
-        OnStop (λ stop. WordsStop stop (map string_bytes words.now) (D.shown devices.old) (D.shown devices.new) held then) result)) }
+    ensures told { IfOk result (λ o. UnlessFault o.status (Answered (D.shown devices.old) (D.shown devices.new)
+        (map string_bytes words.now) (F.told files.old) (F.told files.new) o)) }
+    ensures stops { OnStop (λ stop. WordsStop stop (map string_bytes words.now)
+        (D.shown devices.old) (D.shown devices.new) (F.told files.old) (F.told files.new)) result }
     ensures quiet { UnlessRun (command (map string_bytes words.now))
         ((D.shown devices.new ≡ D.shown devices.old) × (F.told files.new ≡ F.told files.old) × (F.created files.new ≡ F.created files.old)) }
     ensures distinct { AreDistinct (names (D.shown devices.new)) }
     ensures telling { is_some (F.told files.new) ≡ is_some (F.told files.old) }
     ensures fault { IfOk result (λ o. o.status ≡ Status.FileFault
-        → IsFaultText (map string_bytes words.now) o.text × Rose (F.faults files.old) (F.faults files.new)) }
+        → Rose (F.faults files.old) (F.faults files.new)) }
     ensures memory { IfOk result (λ o. o.status ≢ Status.NoMemory) }
     ensures later { F.faults files.old ≤ F.faults files.new }
 {

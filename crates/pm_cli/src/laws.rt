@@ -10,5 +10,5 @@ ghost use Rattle.command_answers.specs.declared.outcome.Outcome.{Outcome};
 
 /// A list of words has at most one status and text, and writes the same files, where the same replies were given.
 pub fn one_answer()
-    ensures { (before after : List DeviceState) (words : List (List ℕ)) (files : Contents) (given : List Served) (x y : Writes) (a b : Outcome) → IsAnswer before after words files given x a → IsAnswer before after words files given y b → (a ≡ b) × (x ≡ y) }
+    ensures { (before after : List DeviceState) (words : List (List ℕ)) (first later : Contents) (given : List Served) (x y : Writes) (a b : Outcome) → IsAnswer before after words first later given x a → IsAnswer before after words first later given y b → (a ≡ b) × (x ≡ y) }
 {}

@@ -1,12 +1,12 @@
 //! `show`.
 
-ghost use Rattle.std.specs.Prelude.{◌≡◌, ◌≢◌, ◌≤◌, ◌++◌, IfOk, IfSome, OnOk, codes};
+ghost use Rattle.std.specs.Prelude.{◌≡◌, ◌≢◌, ◌≤◌, ◌++◌, IfOk, OnOk, codes};
 ghost use Rattle.std.specs.Fmt.{decimal};
 ghost use Rattle.causes.specs.Counts.{Rose};
 ghost use Rattle.dump_format.specs.Decode.{dump_from};
 ghost use Rattle.pm_cli.specs.Answer.{ShowAnswer, bad_dump, refused, shown};
 ghost use Rattle.command_answers.specs.Texts.{file_fault};
-ghost use Rattle.command_answers.specs.Told.{UnlessFault};
+ghost use Rattle.command_answers.specs.Told.{UnlessFault, OnContents};
 
 use crate::dump_text::show;
 use causes::NoMemory;
@@ -64,8 +64,8 @@ fn show_bytes(alloc: Global, bytes: &[u8]) -> Result<Outcome, NoMemory>
 
 /// Shows the dump in a file.
 pub fn show_file<F: Files>(alloc: Global, files: &mut F, file: &str) -> Result<Outcome, NoMemory>
-    ensures told { IfSome (F.told files.old) (λ held. IfOk result (λ o.
-        UnlessFault o.status (ShowAnswer file.now (held file.now) o))) }
+    ensures told { IfOk result (λ o. UnlessFault o.status (OnContents (F.told files.old) (λ held.
+        ShowAnswer file.now (held file.now) o))) }
     ensures fault { IfOk result (λ o. o.status ≡ Status.FileFault
         → (o ≡ file_fault file.now) × Rose (F.faults files.old) (F.faults files.new)) }
     ensures memory { IfOk result (λ o. o.status ≢ Status.NoMemory) }
@@ -73,7 +73,8 @@ pub fn show_file<F: Files>(alloc: Global, files: &mut F, file: &str) -> Result<O
     ensures same { F.told files.new ≡ F.told files.old }
     ensures names { F.created files.new ≡ F.created files.old }
 {
-    match read_input(alloc, files, file, Quantity::DumpBytes)? {
+    let input = read_input(alloc, files, file, Quantity::DumpBytes)?;
+    match input {
         Input::Whole(bytes) => show_bytes(alloc, &bytes),
         Input::Refused(refusal) => Ok(refusal),
     }

@@ -1,10 +1,10 @@
 -- The steps of the command, from the last to the first.
-use Rattle.std.proofs.Common.{◌≡◌, ℕ, List, [], refl, sym, ap, ◌∙◌, subst, Option, Some, None, Result, Ok, Err, inl, inr}
-use Rattle.std.specs.Prelude.{IfSome, IfOk}
+use Rattle.std.proofs.Common.{◌≡◌, List, [], refl, sym, ap, ◌∙◌, subst, Option, Some, None, Result, Ok, Err, inl, inr, ℕ}
+use Rattle.std.specs.Prelude.{IfOk}
 use Rattle.std.specs.declared.vec.Vec.{Vec}
 use Rattle.std.specs.Global.{Global}
+use Rattle.causes.specs.Counts.{Rose}
 use Rattle.pm_outside.specs.Contents.{Contents}
-use Rattle.wasm_syntax.specs.declared.quantity.Quantity.{Quantity}
 use Rattle.wasm_syntax.specs.declared.quantity.Quantity.TheVariants.{ModuleBytes, RepliesBytes}
 use Rattle.wasm_syntax.specs.declared.host.Reply.{Reply}
 use Rattle.wasm_syntax.specs.declared.host.Served.{Served}
@@ -16,37 +16,30 @@ use Rattle.wasm_decode.specs.declared.fault.DecodeFault.{DecodeFault}
 use Rattle.host_set.specs.Sets.{DeviceState}
 use Rattle.run_words.specs.declared.words.RunWords.{RunWords}
 use Rattle.command_answers.specs.Inputs.{input_of, Then}
-use Rattle.causes.specs.Counts.{Rose}
-use Rattle.causes.specs.declared.NoMemory.{NoMemory}
 use Rattle.command_answers.specs.Texts.{file_fault}
 use Rattle.command_answers.specs.Input.{IsInput, IfRefused}
-use Rattle.command_answers.specs.declared.status.Status.TheVariants as status
 use Rattle.command_answers.specs.Loading.{IsTurnedDown, IfLoaded}
 use Rattle.command_answers.specs.Loaded.{IsLoaded}
-use Rattle.command_answers.specs.Told.{UnlessFault}
+use Rattle.command_answers.specs.Told.{UnlessFault, OnContents}
 use Rattle.command_answers.specs.declared.outcome.Outcome.{Outcome}
+use Rattle.command_answers.specs.declared.status.Status.TheVariants as status
 use Rattle.command_answers.specs.declared.loading.Loaded.{Loaded}
 use Rattle.command_answers.specs.declared.loading.Loaded.TheVariants.{Valid as IsValid, TurnedDown}
 use Rattle.command_answers.specs.declared.input.Input.{Input}
 use Rattle.command_answers.specs.declared.input.Input.TheVariants as inputs
-use Rattle.run_session.specs.Written.{Writes, HoldThen}
-use Rattle.run_session.proofs.Unless.{on_all}
+use Rattle.command_answers.proofs.Unless.{OnAnswer, unless, on_all, map_answer, all_answers}
+use Rattle.command_answers.proofs.Reading.{map_contents, then_ok, then_err, whole_then, refused_then}
+use Rattle.run_session.specs.Written.{Writes}
 use Rattle.run_command.specs.declared.scripts.Script.{Script}
 use Rattle.run_command.specs.declared.scripts.Script.TheVariants.{Bad}
 use Rattle.run_command.specs.declared.scripts.Asked.{Asked}
 use Rattle.run_command.specs.declared.scripts.Asked.TheVariants.{Read, Refused}
 use Rattle.run_command.specs.inner.Steps.{IsAnswered}
-use Rattle.run_command.specs.RunAnswer.{ModuleAnswer, bad_replies, script_of, replies_input, RunAnswer}
-use Rattle.run_command.specs.inner.Scripts.{script_result, IsAsked, ScriptAnswer, BytesAnswer, SourceAnswer, IsFaultOf}
-use Rattle.run_command.proofs.Refusals.{unless, OnAnswer, on_answer, holds, carried, refused}
+use Rattle.run_command.specs.RunAnswer.{ModuleAnswer, RunAnswer, AnsweredOn, IsReadBy, bad_replies, script_of, replies_input}
+use Rattle.run_command.specs.inner.Scripts.{script_result, IsAsked, ScriptAnswer, BytesAnswer, SourceAnswer, IsReadFault}
+use Rattle.run_command.proofs.Refusals.{untouched, carried, all_carried}
 
--- ---- results
-
-then_ok : {A : Type 0} (r : Result A Outcome) (x : A) (Answers : A → Outcome → Type 0) (o : Outcome) → r ≡ Ok x → Answers x o → Then r Answers o
-then_ok r x Answers o is a = subst (λ s. Then s Answers o) (sym is) a
-
-then_err : {A : Type 0} (r : Result A Outcome) (Answers : A → Outcome → Type 0) (o : Outcome) → r ≡ Err o → Then r Answers o
-then_err r Answers o is = subst (λ s. Then s Answers o) (sym is) refl
+-- ---- modules
 
 turned_down : (Answers : Module → Outcome → Type 0) (decoded : Result Module DecodeFault) (o : Outcome) → IsTurnedDown decoded o → IfLoaded Answers decoded o
 turned_down Answers (Err fault) o x = x
@@ -55,105 +48,138 @@ turned_down Answers (Ok m) o x = inl x
 if_loaded : (Answers : Module → Outcome → Type 0) (decoded : Result Module DecodeFault) (m : Module) (o : Outcome) → (decoded ≡ Ok m) × Valid m × AllLow m → Answers m o → IfLoaded Answers decoded o
 if_loaded Answers decoded m o (is, valid, low) x = subst (λ d. IfLoaded Answers d o) (sym is) (inr (valid, low, x))
 
--- ---- the inputs
-
--- under the name that the words have
-pub input_named : (old : Option Contents) (what : Quantity) (name file : List ℕ) (input : Input) → name ≡ file → IfSome old (λ held. IsInput input (input_of what name (held name))) → IfSome old (λ held. IsInput input (input_of what file (held file)))
-input_named old what name file input is x = subst (λ n. IfSome old (λ held. IsInput input (input_of what n (held n)))) is x
-
--- the whole file was read
-pub input_whole : (old : Option Contents) (read : Contents → Result (List ℕ) Outcome) (input : Input) (bytes : Vec ℕ Global) → input ≡ inputs.Whole bytes → IfSome old (λ held. IsInput input (read held)) → IfSome old (λ held. read held ≡ Ok bytes.items)
-input_whole None read input bytes is x = tt
-input_whole (Some held) read input bytes is x = subst (λ i. IsInput i (read held)) is x
-
--- it was refused
-pub input_refused : (old : Option Contents) (read : Contents → Result (List ℕ) Outcome) (input : Input) (o : Outcome) → input ≡ inputs.Refused o → IfSome old (λ held. IsInput input (read held)) → IfSome old (λ held. UnlessFault o.status (read held ≡ Err o))
-input_refused None read input o is x = tt
-input_refused (Some held) read input o is x = subst (λ i. IsInput i (read held)) is x
-
 -- ---- the script
 
 abbrev some_bytes : Result (List ℕ) Outcome → Result (Option (List ℕ)) Outcome
 some_bytes r = elim r [ Ok bytes ↦ Ok (Some bytes) | Err o ↦ Err o ]
 
+-- what is known of the file of replies, under the name that the words have
+of_replies : (replies : Option (List ℕ)) (file name : List ℕ) (held : Contents) (r : Result (List ℕ) Outcome) → replies ≡ Some file → name ≡ file → input_of RepliesBytes name (held name) ≡ r → replies_input replies held ≡ some_bytes r
+of_replies replies file name held r is named e = ap (λ f. replies_input f held) is ∙ ap (λ n. some_bytes (input_of RepliesBytes n (held n))) (sym named) ∙ ap some_bytes e
+
 -- the replies that the bytes of the file spell
-pub asked_whole : (old : Option Contents) (replies : Option (List ℕ)) (file name bytes spelled : List ℕ) (script : Script) → replies ≡ Some file → name ≡ file → spelled ≡ bytes
-    → IfSome old (λ held. input_of RepliesBytes name (held name) ≡ Ok bytes) → script_result script ≡ script_of (Some spelled) → IfSome old (λ held. IsAsked (Read script) (replies_input replies held))
-asked_whole None replies file name bytes spelled script is named spells input from = tt
-asked_whole (Some held) replies file name bytes spelled script is named spells input from =
-    (Some bytes, ap (λ r. replies_input r held) is ∙ whole (input_of RepliesBytes file (held file)) (subst (λ n. input_of RepliesBytes n (held n) ≡ Ok bytes) named input), from ∙ ap (λ b. script_of (Some b)) spells)
+pub asked_whole : (told : Option Contents) (replies : Option (List ℕ)) (file name : List ℕ) (input : Input) (bytes : Vec ℕ Global) (spelled : List ℕ) (script : Script) → replies ≡ Some file → name ≡ file → spelled ≡ bytes.items
+    → input ≡ inputs.Whole bytes → OnContents told (λ held. IsInput input (input_of RepliesBytes name (held name))) → script_result script ≡ script_of (Some spelled) → OnContents told (λ held. IsAsked (Read script) (replies_input replies held))
+asked_whole told replies file name input bytes spelled script is named spells whole x from =
+    map_contents told (λ held. IsInput (inputs.Whole bytes) (input_of RepliesBytes name (held name))) (λ held. IsAsked (Read script) (replies_input replies held))
+    (λ held e. (Some bytes.items, of_replies replies file name held (Ok bytes.items) is named e, from ∙ ap (λ b. script_of (Some b)) spells))
+    (subst (λ i. OnContents told (λ held. IsInput i (input_of RepliesBytes name (held name)))) whole x)
+
+pub asked_refused : (told : Option Contents) (replies : Option (List ℕ)) (file name : List ℕ) (input : Input) (o : Outcome) → replies ≡ Some file → name ≡ file
+    → input ≡ inputs.Refused o → OnContents told (λ held. IsInput input (input_of RepliesBytes name (held name))) → OnContents told (λ held. IsAsked (Refused o) (replies_input replies held))
+asked_refused told replies file name input o is named refused x =
+    map_contents told (λ held. IsInput (inputs.Refused o) (input_of RepliesBytes name (held name))) (λ held. IsAsked (Refused o) (replies_input replies held))
+    (λ held. unless o.status (input_of RepliesBytes name (held name) ≡ Err o) (replies_input replies held ≡ Err o) (of_replies replies file name held (Err o) is named))
+    (subst (λ i. OnContents told (λ held. IsInput i (input_of RepliesBytes name (held name)))) refused x)
+
+-- none is asked for
+pub asked_none : (told : Option Contents) (replies : Option (List ℕ)) (script : Script) → replies ≡ None → script_result script ≡ script_of None → OnContents told (λ held. IsAsked (Read script) (replies_input replies held))
+asked_none told replies script is from = by_telling told
   where
-    whole : (r : Result (List ℕ) Outcome) → r ≡ Ok bytes → some_bytes r ≡ Ok (Some bytes)
-    whole r e = ap some_bytes e
+    known : (held : Contents) → IsAsked (Read script) (replies_input replies held)
+    known held = (None, ap (λ f. replies_input f held) is, from)
+
+    by_telling : (t : Option Contents) → OnContents t (λ held. IsAsked (Read script) (replies_input replies held))
+    by_telling None = record { files = λ name. None; may = tt; holds = known (λ name. None) }
+    by_telling (Some held) = record { files = held; may = refl; holds = known held }
 
 module _ {E : Type 0} (before after : List DeviceState) (w : RunWords) (old new : Option Contents) (r : Result Outcome E) where
+  pub with_script : (m : Module) (given : Script) (script : Option (List Reply)) → script_result given ≡ Ok script
+      → OnAnswer (IsAnswered (λ served writes. ModuleAnswer before after w served writes script m) before after old new) r
+      → OnAnswer (IsAnswered (λ served writes. ScriptAnswer before after w served writes (script_result given) m) before after old new) r
+  with_script m given script is x =
+      all_carried before after (λ served writes. ModuleAnswer before after w served writes script m) (λ served writes. ScriptAnswer before after w served writes (script_result given) m) old old new refl r
+      (λ served writes o a. then_ok (script_result given) script (λ s. ModuleAnswer before after w served writes s m) o is a) x
+
   pub with_module : (script : Result (Option (List Reply)) Outcome) (bytes : List ℕ) (loaded : Loaded) (m : Module) → loaded ≡ IsValid m → IsLoaded loaded (module_from bytes)
-      → OnAnswer (λ held later o. IsAnswered (λ given writes. ScriptAnswer before after w given writes script m) before after held later o) old new r
-      → OnAnswer (λ held later o. IsAnswered (λ given writes. BytesAnswer before after w given writes script bytes) before after held later o) old new r
+      → OnAnswer (IsAnswered (λ given writes. ScriptAnswer before after w given writes script m) before after old new) r
+      → OnAnswer (IsAnswered (λ given writes. BytesAnswer before after w given writes script bytes) before after old new) r
   with_module script bytes loaded m is facts x =
-      carried before after (λ held given writes. ScriptAnswer before after w given writes script m) (λ held given writes. BytesAnswer before after w given writes script bytes) old old new r refl
-      (λ held told given writes o a. if_loaded (ScriptAnswer before after w given writes script) (module_from bytes) m o (subst (λ l. IsLoaded l (module_from bytes)) is facts) a) x
+      all_carried before after (λ given writes. ScriptAnswer before after w given writes script m) (λ given writes. BytesAnswer before after w given writes script bytes) old old new refl r
+      (λ given writes o a. if_loaded (ScriptAnswer before after w given writes script) (module_from bytes) m o (subst (λ l. IsLoaded l (module_from bytes)) is facts) a) x
+
+  abbrev SourceAnswered : List ℕ → Option Contents → Option Contents → Outcome → Type 0
+  SourceAnswered bytes told mid o = OnContents told (λ later. IsAnswered (λ given writes. SourceAnswer before after w later given writes bytes) before after mid new o)
+
+  pub with_replies : (mid : Option Contents) (bytes : List ℕ) (asked : Asked) (script : Script) → mid ≡ old → asked ≡ Read script → OnContents old (λ held. IsAsked asked (replies_input w.replies held))
+      → OnAnswer (IsAnswered (λ given writes. BytesAnswer before after w given writes (script_result script) bytes) before after mid new) r
+      → OnAnswer (SourceAnswered bytes old old) r
+  with_replies mid bytes asked script same is facts x =
+      map_answer (IsAnswered (λ given writes. BytesAnswer before after w given writes (script_result script) bytes) before after mid new) (SourceAnswered bytes old old) r
+      (λ o a. map_contents old (λ held. IsAsked (Read script) (replies_input w.replies held)) (λ later. IsAnswered (λ given writes. SourceAnswer before after w later given writes bytes) before after old new o)
+      (λ held k. carried before after (λ given writes. BytesAnswer before after w given writes (script_result script) bytes) (λ given writes. SourceAnswer before after w held given writes bytes) old mid new same o
+      (λ given writes b. then_ok (replies_input w.replies held) k.0 (λ s. BytesAnswer before after w given writes (script_of s) bytes) o k.1 (subst (λ s. BytesAnswer before after w given writes s bytes o) k.2 b)) a)
+      (subst (λ a. OnContents old (λ held. IsAsked a (replies_input w.replies held))) is facts)) x
 
   -- ---- the whole command
 
-  abbrev pub IsWhole : Contents → Contents → Outcome → Type 0
-  IsWhole held later o = (given : List Served) × (writes : Writes) × RunAnswer before after w held given writes o × HoldThen writes held later
+  abbrev pub IsWhole : Outcome → Type 0
+  IsWhole o = AnsweredOn (RunAnswer before after w) old new o
 
-  abbrev pub FileAnswer : Contents → List Served → Writes → Outcome → Type 0
-  FileAnswer held given writes o = Then (input_of ModuleBytes w.source (held w.source)) (λ bytes. SourceAnswer before after w held given writes bytes) o
+  whole_answer : (o : Outcome) → OnContents old (λ first. OnContents old (λ later. IsAnswered (λ given writes o. Then (input_of ModuleBytes w.source (first w.source)) (λ bytes. SourceAnswer before after w later given writes bytes) o) before after old new o)) → IsWhole o
+  whole_answer o x =
+      let y = x.holds in
+      let a = y.holds in
+      record { first = x.files; may_first = x.may; later = y.files; may_later = y.may; given = a.given; writes = a.writes; answer = record { answer = a.answer; untouched = a.untouched }; files = a.files }
 
-  whole_answer : OnAnswer (λ held later o. IsAnswered (FileAnswer held) before after held later o) old new r → OnAnswer IsWhole old new r
-  whole_answer x = on_answer (λ held later o. IsAnswered (FileAnswer held) before after held later o) IsWhole old old new r refl
-      (λ held told later o a. (a.given, a.writes, record { answer = a.answer; untouched = a.untouched }, a.files)) x
-
-  pub with_source : (mid : Option Contents) (bytes spelled : List ℕ) → mid ≡ old → spelled ≡ bytes
-      → IfSome old (λ held. input_of ModuleBytes w.source (held w.source) ≡ Ok bytes)
-      → OnAnswer (λ held later o. IsAnswered (λ given writes. SourceAnswer before after w held given writes spelled) before after held later o) mid new r
-      → OnAnswer IsWhole old new r
-  with_source mid bytes spelled same spells facts x = whole_answer
-      (carried before after (λ held given writes. SourceAnswer before after w held given writes spelled) FileAnswer old mid new r same
-      (λ held told given writes o a. then_ok (input_of ModuleBytes w.source (held w.source)) spelled (λ b. SourceAnswer before after w held given writes b) o (holds old (λ h. input_of ModuleBytes w.source (h w.source) ≡ Ok bytes) held told facts ∙ ap Ok (sym spells)) a) x)
+  pub with_source : (mid : Option Contents) (name : List ℕ) (input : Input) (bytes : Vec ℕ Global) (spelled : List ℕ) → mid ≡ old → name ≡ w.source → input ≡ inputs.Whole bytes → spelled ≡ bytes.items
+      → OnContents old (λ held. IsInput input (input_of ModuleBytes name (held name)))
+      → OnAnswer (λ o. OnContents mid (λ later. IsAnswered (λ given writes. SourceAnswer before after w later given writes spelled) before after mid new o)) r
+      → OnAnswer IsWhole r
+  with_source mid name input bytes spelled same named is spells facts x =
+      map_answer (SourceAnswered spelled old old) IsWhole r
+      (λ o a. whole_answer o (map_contents old (λ held. IsInput (inputs.Whole bytes) (input_of ModuleBytes w.source (held w.source))) (λ first. OnContents old (λ later. IsAnswered (λ given writes o. Then (input_of ModuleBytes w.source (first w.source)) (λ bytes. SourceAnswer before after w later given writes bytes) o) before after old new o))
+      (λ first e. map_contents old (λ later. IsAnswered (λ given writes. SourceAnswer before after w later given writes spelled) before after old new o) (λ later. IsAnswered (λ given writes o. Then (input_of ModuleBytes w.source (first w.source)) (λ bytes. SourceAnswer before after w later given writes bytes) o) before after old new o)
+      (λ later b. carried before after (λ given writes. SourceAnswer before after w later given writes spelled) (λ given writes o. Then (input_of ModuleBytes w.source (first w.source)) (λ bytes. SourceAnswer before after w later given writes bytes) o) old old new refl o
+      (λ given writes c. then_ok (input_of ModuleBytes w.source (first w.source)) spelled (λ bytes. SourceAnswer before after w later given writes bytes) o (e ∙ ap Ok (sym spells)) c) b) a)
+      (subst (λ n. OnContents old (λ held. IsInput (inputs.Whole bytes) (input_of ModuleBytes n (held n)))) named (subst (λ i. OnContents old (λ held. IsInput i (input_of ModuleBytes name (held name)))) is facts))))
+      (subst (λ t. OnAnswer (SourceAnswered spelled t t) r) same x)
 
 -- ---- refusals
 
-module _ {E : Type 0} (devices : List DeviceState) (w : RunWords) (old new : Option Contents) (r : Result Outcome E) (same : new ≡ old) where
-  pub script_refused : (m : Module) (script : Script) (line : ℕ) → script ≡ Bad line → IfOk r (λ o. o ≡ bad_replies line)
-      → OnAnswer (λ held later o. IsAnswered (λ given writes. ScriptAnswer devices devices w given writes (script_result script) m) devices devices held later o) old new r
-  script_refused m script line is x =
-      refused devices (λ held given writes. ScriptAnswer devices devices w given writes (script_result script) m) old new r same (λ held told. ended r x)
-    where
-      ended : (q : Result Outcome E) → IfOk q (λ o. o ≡ bad_replies line) → IfOk q (λ o. UnlessFault o.status (ScriptAnswer devices devices w [] [] (script_result script) m o))
-      ended (Err e) x = tt
-      ended (Ok o) x = on_all o.status (ScriptAnswer devices devices w [] [] (script_result script) m o)
-          (then_err (script_result script) (λ s. ModuleAnswer devices devices w [] [] s m) o (ap script_result is ∙ ap Err (sym x)))
+module _ (devices : List DeviceState) (w : RunWords) (old new : Option Contents) (same : new ≡ old) where
+  pub script_refused : {E : Type 0} (r : Result Outcome E) (m : Module) (script : Script) (line : ℕ) → script ≡ Bad line → IfOk r (λ o. o ≡ bad_replies line)
+      → OnAnswer (IsAnswered (λ given writes. ScriptAnswer devices devices w given writes (script_result script) m) devices devices old new) r
+  script_refused r m script line is x =
+      map_answer (λ o. o ≡ bad_replies line) (IsAnswered (λ given writes. ScriptAnswer devices devices w given writes (script_result script) m) devices devices old new) r
+      (λ o e. untouched devices (λ given writes. ScriptAnswer devices devices w given writes (script_result script) m) old new o same
+      (then_err (script_result script) (λ s. ModuleAnswer devices devices w [] [] s m) o (ap script_result is ∙ ap Err (sym e))))
+      (all_answers (λ o. o ≡ bad_replies line) r x)
 
-module _ (devices : List DeviceState) (w : RunWords) (old new : Option Contents) (o : Outcome) (same : new ≡ old) where
-  pub module_refused : (script : Result (Option (List Reply)) Outcome) (bytes : List ℕ) (loaded : Loaded) → loaded ≡ TurnedDown o → IsLoaded loaded (module_from bytes)
-      → OnAnswer {E = NoMemory} (λ held later o. IsAnswered (λ given writes. BytesAnswer devices devices w given writes script bytes) devices devices held later o) old new (Ok o)
-  module_refused script bytes loaded is x =
-      refused {E = NoMemory} devices (λ held given writes. BytesAnswer devices devices w given writes script bytes) old new (Ok o) same
-      (λ held told. on_all o.status (BytesAnswer devices devices w [] [] script bytes o) (turned_down (ScriptAnswer devices devices w [] [] script) (module_from bytes) o (subst (λ l. IsLoaded l (module_from bytes)) is x)))
+  pub module_refused : (o : Outcome) (script : Result (Option (List Reply)) Outcome) (bytes : List ℕ) (loaded : Loaded) → loaded ≡ TurnedDown o → IsLoaded loaded (module_from bytes)
+      → UnlessFault o.status (IsAnswered (λ given writes. BytesAnswer devices devices w given writes script bytes) devices devices old new o)
+  module_refused o script bytes loaded is x =
+      on_all o.status (IsAnswered (λ given writes. BytesAnswer devices devices w given writes script bytes) devices devices old new o)
+      (untouched devices (λ given writes. BytesAnswer devices devices w given writes script bytes) old new o same
+      (turned_down (ScriptAnswer devices devices w [] [] script) (module_from bytes) o (subst (λ l. IsLoaded l (module_from bytes)) is x)))
 
-  pub replies_refused : (bytes : List ℕ) (asked : Asked) → asked ≡ Refused o → IfSome old (λ held. IsAsked asked (replies_input w.replies held))
-      → OnAnswer {E = NoMemory} (λ held later o. IsAnswered (λ given writes. SourceAnswer devices devices w held given writes bytes) devices devices held later o) old new (Ok o)
-  replies_refused bytes asked is x =
-      refused {E = NoMemory} devices (λ held given writes. SourceAnswer devices devices w held given writes bytes) old new (Ok o) same
-      (λ held told. unless o.status (replies_input w.replies held ≡ Err o) (SourceAnswer devices devices w held [] [] bytes o)
-      (λ e. then_err (replies_input w.replies held) (λ b. BytesAnswer devices devices w [] [] (script_of b) bytes) o e)
-      (subst (λ a. IsAsked a (replies_input w.replies held)) is (holds old (λ h. IsAsked asked (replies_input w.replies h)) held told x)))
+  pub replies_refused : (o : Outcome) (bytes : List ℕ) (asked : Asked) → asked ≡ Refused o → OnContents old (λ held. IsAsked asked (replies_input w.replies held))
+      → UnlessFault o.status (OnContents old (λ later. IsAnswered (λ given writes. SourceAnswer devices devices w later given writes bytes) devices devices old new o))
+  replies_refused o bytes asked is x =
+      let k : OnContents old (λ held. IsAsked (Refused o) (replies_input w.replies held)) = subst (λ a. OnContents old (λ held. IsAsked a (replies_input w.replies held))) is x in
+      unless o.status (replies_input w.replies k.files ≡ Err o) (OnContents old (λ later. IsAnswered (λ given writes. SourceAnswer devices devices w later given writes bytes) devices devices old new o))
+      (λ e. record {
+        files = k.files;
+        may = k.may;
+        holds = untouched devices (λ given writes. SourceAnswer devices devices w k.files given writes bytes) old new o same
+            (then_err (replies_input w.replies k.files) (λ b. BytesAnswer devices devices w [] [] (script_of b) bytes) o e);
+      })
+      k.holds
 
-  pub source_refused : IfSome old (λ held. UnlessFault o.status (input_of ModuleBytes w.source (held w.source) ≡ Err o))
-      → OnAnswer {E = NoMemory} (IsWhole {E = NoMemory} devices devices w old new (Ok o)) old new (Ok o)
-  source_refused x =
-      whole_answer {E = NoMemory} devices devices w old new (Ok o)
-      (refused {E = NoMemory} devices (FileAnswer {E = NoMemory} devices devices w old new (Ok o)) old new (Ok o) same
-      (λ held told. unless o.status (input_of ModuleBytes w.source (held w.source) ≡ Err o) (FileAnswer {E = NoMemory} devices devices w old new (Ok o) held [] [] o)
-      (λ e. then_err (input_of ModuleBytes w.source (held w.source)) (λ b. SourceAnswer devices devices w held [] [] b) o e)
-      (holds old (λ h. UnlessFault o.status (input_of ModuleBytes w.source (h w.source) ≡ Err o)) held told x)))
+  pub source_refused : (o : Outcome) (name : List ℕ) (input : Input) → name ≡ w.source → input ≡ inputs.Refused o → OnContents old (λ held. IsInput input (input_of ModuleBytes name (held name)))
+      → UnlessFault o.status (AnsweredOn (RunAnswer devices devices w) old new o)
+  source_refused o name input named is x =
+      let k : OnContents old (λ held. IsInput (inputs.Refused o) (input_of ModuleBytes w.source (held w.source))) = subst (λ n. OnContents old (λ held. IsInput (inputs.Refused o) (input_of ModuleBytes n (held n)))) named (subst (λ i. OnContents old (λ held. IsInput i (input_of ModuleBytes name (held name)))) is x) in
+      unless o.status (input_of ModuleBytes w.source (k.files w.source) ≡ Err o) (AnsweredOn (RunAnswer devices devices w) old new o)
+      (λ e.
+      let a = untouched devices (λ given writes o. Then (input_of ModuleBytes w.source (k.files w.source)) (λ bytes. SourceAnswer devices devices w k.files given writes bytes) o) old new o same
+      (then_err (input_of ModuleBytes w.source (k.files w.source)) (λ bytes. SourceAnswer devices devices w k.files [] [] bytes) o e) in
+      record { first = k.files; may_first = k.may; later = k.files; may_later = k.may; given = a.given; writes = a.writes; answer = record { answer = a.answer; untouched = a.untouched }; files = a.files })
+      k.holds
 
 -- the file of the module failed
 pub source_fault : (w : RunWords) (before now : ℕ) (name : List ℕ) (input : Input) (o : Outcome) → input ≡ inputs.Refused o → name ≡ w.source
-    → IfRefused (λ o. o.status ≡ status.FileFault → (o ≡ file_fault name) × Rose before now) input → IsFaultOf w before now o
+    → IfRefused (λ o. o.status ≡ status.FileFault → (o ≡ file_fault name) × Rose before now) input → IsReadFault w before now o
 source_fault w before now name input o is named x = λ faulted.
     let known : (o ≡ file_fault name) × Rose before now = subst (λ i. IfRefused (λ o. o.status ≡ status.FileFault → (o ≡ file_fault name) × Rose before now) i) is x faulted in
     ((name, inl named, known.0), known.1)

@@ -1,38 +1,18 @@
 -- The steps of the command: what one answers is carried to the one before it, or it is a refusal.
-use Rattle.std.proofs.Common.{◌≡◌, List, [], refl, sym, ap, subst, Option, Some, None, Result, Ok, Err}
-use Rattle.std.specs.Prelude.{IfSome, IfOk, unwrap_or}
+use Rattle.std.proofs.Common.{◌≡◌, List, [], refl, sym, subst, Option, Some, None, Result}
 use Rattle.pm_outside.specs.Contents.{Contents}
 use Rattle.wasm_syntax.specs.declared.host.Served.{Served}
+use Rattle.dump_write.specs.Written.{OnTold}
 use Rattle.host_set.specs.Sets.{DeviceState}
-use Rattle.command_answers.specs.Told.{UnlessFault}
 use Rattle.command_answers.specs.declared.outcome.Outcome.{Outcome}
 use Rattle.command_answers.specs.declared.status.Status.{Status}
 use Rattle.command_answers.specs.declared.status.Status.TheVariants as status
-use Rattle.run_session.specs.Written.{Writes}
+use Rattle.command_answers.proofs.Unless.{OnAnswer, map_answer}
+use Rattle.run_session.specs.Written.{Writes, HoldThen}
 use Rattle.run_command.specs.inner.Steps.{IsAnswered}
 use Rattle.run_command.specs.RunAnswer.{IfRefusal, IsUntouched}
 
 -- ---- statuses
-
-pub unless : (s : Status) (P Q : Type 0) → (P → Q) → UnlessFault s P → UnlessFault s Q
-unless status.FileFault P Q to x = tt
-unless status.NoMemory P Q to x = tt
-unless status.Done P Q to x = to x
-unless status.Trapped P Q to x = to x
-unless status.Usage P Q to x = to x
-unless status.NoFile P Q to x = to x
-unless status.Malformed P Q to x = to x
-unless status.Outside P Q to x = to x
-unless status.Invalid P Q to x = to x
-unless status.NotStarted P Q to x = to x
-unless status.HostStopped P Q to x = to x
-unless status.FuelSpent P Q to x = to x
-unless status.BadDump P Q to x = to x
-unless status.Mismatch P Q to x = to x
-unless status.Limit P Q to x = to x
-unless status.Collision P Q to x = to x
-unless status.TornCalls P Q to x = to x
-unless status.BadReplies P Q to x = to x
 
 if_refusal : (s : Status) (P : Type 0) → P → IfRefusal s P
 if_refusal status.FileFault P x = tt
@@ -54,43 +34,30 @@ if_refusal status.Collision P x = x
 if_refusal status.TornCalls P x = x
 if_refusal status.BadReplies P x = x
 
--- ---- what is answered, where files tell what they hold
+-- ---- steps
 
-abbrev pub OnAnswer : {E : Type 0} → (Contents → Contents → Outcome → Type 0) → Option Contents → Option Contents → Result Outcome E → Type 0
-OnAnswer R old new r = IfSome old (λ held. IfSome new (λ after. IfOk r (λ o. UnlessFault o.status (R held after o))))
-
-pub on_answer : {E : Type 0} (R S : Contents → Contents → Outcome → Type 0) (old mid new : Option Contents) (r : Result Outcome E) → mid ≡ old → ((held : Contents) → old ≡ Some held → (after : Contents) (o : Outcome) → R held after o → S held after o) → OnAnswer R mid new r → OnAnswer S old new r
-on_answer R S None mid new r same to x = tt
-on_answer R S (Some held) None new r same to x = absurd cc
-on_answer R S (Some held) (Some m) None r same to x = tt
-on_answer R S (Some held) (Some m) (Some after) (Err e) same to x = tt
-on_answer R S (Some held) (Some m) (Some after) (Ok o) same to x =
-    unless o.status (R held after o) (S held after o) (to held refl after o)
-    (subst (λ h. UnlessFault o.status (R h after o)) (ap (λ (c : Option Contents). unwrap_or c held) same) x)
-
--- what is known where files tell what they hold
-pub holds : (old : Option Contents) (F : Contents → Type 0) (held : Contents) → old ≡ Some held → IfSome old F → F held
-holds old F held is x = subst (λ o. IfSome o F) is x
-
-pub carried : {E : Type 0} (before after : List DeviceState) (P Q : Contents → List Served → Writes → Outcome → Type 0) (old mid new : Option Contents) (r : Result Outcome E) → mid ≡ old → ((held : Contents) → old ≡ Some held → (given : List Served) (writes : Writes) (o : Outcome) → P held given writes o → Q held given writes o) → OnAnswer (λ held later o. IsAnswered (P held) before after held later o) mid new r → OnAnswer (λ held later o. IsAnswered (Q held) before after held later o) old new r
-carried before after P Q old mid new r same to x =
-    on_answer (λ held later o. IsAnswered (P held) before after held later o) (λ held later o. IsAnswered (Q held) before after held later o) old mid new r same
-    (λ held is later o a. record { given = a.given; writes = a.writes; answer = to held is a.given a.writes o a.answer; files = a.files; untouched = a.untouched }) x
+-- files that tell the same hold what they held
+untold : (old new : Option Contents) → new ≡ old → OnTold (HoldThen []) old new
+untold old new same = subst (λ t. OnTold (HoldThen []) old t) (sym same) (alike old)
+  where
+    alike : (t : Option Contents) → OnTold (HoldThen []) t t
+    alike None = tt
+    alike (Some held) = λ name. refl
 
 -- nothing was done, and this is answered
-untouched : (devices : List DeviceState) (Q : List Served → Writes → Outcome → Type 0) (held : Contents) (o : Outcome) → Q [] [] o → IsAnswered Q devices devices held held o
-untouched devices Q held o x = record {
+pub untouched : (devices : List DeviceState) (Q : List Served → Writes → Outcome → Type 0) (old new : Option Contents) (o : Outcome) → new ≡ old → Q [] [] o → IsAnswered Q devices devices old new o
+untouched devices Q old new o same x = record {
   given = [];
   writes = [];
   answer = x;
-  files = λ name. refl;
+  files = untold old new same;
   untouched = if_refusal o.status (IsUntouched devices devices [] []) (record { devices = refl; given_none = refl; writes_none = refl });
 }
 
-pub refused : {E : Type 0} (devices : List DeviceState) (Q : Contents → List Served → Writes → Outcome → Type 0) (old new : Option Contents) (r : Result Outcome E) → new ≡ old → ((held : Contents) → old ≡ Some held → IfOk r (λ o. UnlessFault o.status (Q held [] [] o))) → OnAnswer (λ held later o. IsAnswered (Q held) devices devices held later o) old new r
-refused devices Q None new r same to = tt
-refused devices Q (Some held) None r same to = tt
-refused devices Q (Some held) (Some later) (Err e) same to = tt
-refused devices Q (Some held) (Some later) (Ok o) same to =
-    subst (λ f. UnlessFault o.status (IsAnswered (Q held) devices devices held f o)) (sym (ap (λ (c : Option Contents). unwrap_or c held) same))
-    (unless o.status (Q held [] [] o) (IsAnswered (Q held) devices devices held held o) (untouched devices (Q held) held o) (to held refl))
+module _ (before after : List DeviceState) (P Q : List Served → Writes → Outcome → Type 0) (old mid new : Option Contents) (same : mid ≡ old) where
+  -- what is answered behind a step
+  pub carried : (o : Outcome) → ((given : List Served) (writes : Writes) → P given writes o → Q given writes o) → IsAnswered P before after mid new o → IsAnswered Q before after old new o
+  carried o to a = record { given = a.given; writes = a.writes; answer = to a.given a.writes a.answer; files = subst (λ t. OnTold (HoldThen a.writes) t new) same a.files; untouched = a.untouched }
+
+  pub all_carried : {E : Type 0} (r : Result Outcome E) → ((given : List Served) (writes : Writes) (o : Outcome) → P given writes o → Q given writes o) → OnAnswer (IsAnswered P before after mid new) r → OnAnswer (IsAnswered Q before after old new) r
+  all_carried r to x = map_answer (IsAnswered P before after mid new) (IsAnswered Q before after old new) r (λ o. carried o (λ given writes. to given writes o)) x

@@ -1,7 +1,10 @@
 -- What a command leaves where it has no answer, from what its parts leave.
 use Rattle.std.proofs.Common.{◌≡◌, ℕ, zero, suc, false, List, [], ◌∷◌, map, take, drop, refl, sym, ap, ◌∙◌, subst, inl, inr, Option, Some, None, Result, Ok, Err}
-use Rattle.std.specs.Prelude.{◌⊎◌, IfSome, unwrap_or}
+use Rattle.std.specs.Prelude.{◌⊎◌, IfOk}
 use Rattle.causes.specs.declared.NoMemory.{NoMemory as WantOfMemory}
+use Rattle.causes.specs.Counts.{Rose}
+use Rattle.std.specs.declared.vec.Vec.{Vec}
+use Rattle.std.specs.Global.{Global}
 use Rattle.pm_outside.specs.Contents.{Contents}
 use Rattle.wasm_syntax.specs.declared.host.Reply.{Reply}
 use Rattle.wasm_syntax.specs.declared.module.ModuleParts.{ModuleParts as Module}
@@ -10,24 +13,29 @@ use Rattle.wasm_syntax.specs.Valid.{Valid}
 use Rattle.wasm_syntax.specs.Module.{Program, IsProgram, IsModule, function_export}
 use Rattle.wasm_syntax.specs.Run.{Invocation, cause_of_entry, cause_of_segments, Ran, engine}
 use Rattle.wasm_decode.specs.Decode.{module_from}
-use Rattle.wasm_validate.specs.Heights.{AllLow}
 use Rattle.wasm_machine.specs.Instances.{State, IsNew, IsOf}
 use Rattle.host_set.specs.Sets.{DeviceState}
 use Rattle.host_set.specs.Hosting.{HostsState, origin_of, calls_of, serves}
+use Rattle.command_answers.specs.Input.{IsInput}
 use Rattle.command_answers.specs.Inputs.{input_of}
 use Rattle.command_answers.specs.Loaded.{IsLoaded}
+use Rattle.command_answers.specs.Told.{OnContents}
+use Rattle.command_answers.specs.declared.input.Input.{Input}
+use Rattle.command_answers.specs.declared.input.Input.TheVariants as inputs
 use Rattle.command_answers.specs.declared.outcome.Outcome.{Outcome}
+use Rattle.command_answers.specs.declared.status.Status.TheVariants as status
 use Rattle.command_answers.specs.declared.loading.Loaded.{Loaded}
 use Rattle.command_answers.specs.declared.loading.Loaded.TheVariants.{Valid as IsValid}
+use Rattle.command_answers.proofs.Reading.{map_contents}
 use Rattle.run_words.specs.declared.words.RunWords.{RunWords}
 use Rattle.run_session.specs.Invocations.{invocation_of}
 use Rattle.run_session.specs.Stop.{Stop, no_memory, file_failed, OnStop}
 use Rattle.run_session.specs.inner.Sessions.{point_of, WasStopped, StopsIn}
 use Rattle.run_command.specs.Starting.{cause_text, entries_text, or_text}
 use Rattle.run_command.specs.Hosting.{start_text}
-use Rattle.run_command.specs.RunAnswer.{hosting, script_replies, replies_input, script_of}
-use Rattle.run_command.specs.inner.Scripts.{script_result, IsAsked}
-use Rattle.run_command.specs.Stops.{RunsFor, StopsRun, IsUnchanged, ModuleStops, ScriptStops, BytesStops, SourceStops, FileStops, RunStops}
+use Rattle.run_command.specs.RunAnswer.{IsReadBy, bad_replies, hosting, script_replies, replies_input, script_of}
+use Rattle.run_command.specs.inner.Scripts.{script_result, IsAsked, IsReadFault}
+use Rattle.run_command.specs.Stops.{RunsFor, StopsRun, NothingDone, ModuleStops, ScriptStops, BytesStops, SourceStops, FileStops, RunStops}
 use Rattle.run_command.specs.declared.scripts.Script.{Script}
 use Rattle.run_command.specs.declared.scripts.Script.TheVariants.{Whole}
 use Rattle.run_command.specs.declared.scripts.Asked.{Asked}
@@ -37,44 +45,22 @@ use Rattle.run_command.specs.inner.Begun.{HasBegun}
 use Rattle.run_command.specs.declared.running.Begun.TheVariants.{Ready}
 use Rattle.run_command.proofs.Beginning.{none_starts, starts_alike}
 use Rattle.run_command.proofs.Hostings.{Began, GaveBack, by_script, logs}
-use Rattle.run_command.proofs.Refusals.{holds}
 
 -- ---- facts on results
 
 pub map_stop : (P Q : Stop → Type 0) (result : Result Outcome WantOfMemory) → ((stop : Stop) → P stop → Q stop) → OnStop P result → OnStop Q result
 map_stop P Q (Err e) go x = go no_memory x
-map_stop P Q (Ok o) go x = λ faulted stop. go stop (x faulted stop)
+map_stop P Q (Ok o) go x = λ faulted. let k = x faulted in record { file = k.file; named = k.named; failed = go (file_failed k.file) k.failed; memory = go no_memory k.memory }
 
--- on what files hold before and then
-abbrev pub StopsTold : (Stop → Contents → Contents → Type 0) → Option Contents → Option Contents → Result Outcome WantOfMemory → Type 0
-StopsTold P told told' result = IfSome told (λ held. IfSome told' (λ then_held. OnStop (λ stop. P stop held then_held) result))
+-- where no file can have failed
+pub only_want : (P : Stop → Type 0) (result : Result Outcome WantOfMemory) → P no_memory → IfOk result (λ o. o.status ≡ status.FileFault → ⊥) → OnStop P result
+only_want P (Err e) memory some = memory
+only_want P (Ok o) memory some = λ faulted. absurd (some faulted)
 
-pub map_told : (P Q : Stop → Contents → Contents → Type 0) (told mid told' : Option Contents) (result : Result Outcome WantOfMemory) → mid ≡ told
-    → ((held : Contents) → told ≡ Some held → (then_held : Contents) (stop : Stop) → P stop held then_held → Q stop held then_held)
-    → StopsTold P mid told' result → StopsTold Q told told' result
-map_told P Q None mid told' result same go x = tt
-map_told P Q (Some held) None told' result same go x = absurd cc
-map_told P Q (Some held) (Some m) None result same go x = tt
-map_told P Q (Some held) (Some m) (Some then_held) result same go x =
-    map_stop (λ stop. P stop held then_held) (λ stop. Q stop held then_held) result (go held refl then_held)
-    (subst (λ h. OnStop (λ stop. P stop h then_held) result) (ap (λ (c : Option Contents). unwrap_or c held) same) x)
-
--- where nothing was done
-pub all_stop : (P : Stop → Type 0) (result : Result Outcome WantOfMemory) → ((stop : Stop) → P stop) → OnStop P result
-all_stop P (Err e) x = x no_memory
-all_stop P (Ok o) x = λ faulted stop. x stop
-
-unchanged : (devices : List DeviceState) (told told' : Option Contents) (held then_held : Contents) → told ≡ Some held → told' ≡ Some then_held → told' ≡ told → IsUnchanged devices devices held then_held
-unchanged devices told told' held then_held is then_is same =
-    let alike : then_held ≡ held = ap (λ (c : Option Contents). unwrap_or c held) (sym then_is ∙ same ∙ is) in
-    record { devices = refl; files = λ name. ap (λ (f : Contents). f name) alike }
-
-pub nothing_done : (P : Stop → Contents → Contents → Type 0) (devices : List DeviceState) (told told' : Option Contents) (result : Result Outcome WantOfMemory) → told' ≡ told
-    → ((stop : Stop) (held then_held : Contents) → IsUnchanged devices devices held then_held → P stop held then_held) → StopsTold P told told' result
-nothing_done P devices None told' result same go = tt
-nothing_done P devices (Some held) None result same go = tt
-nothing_done P devices (Some held) (Some then_held) result same go =
-    all_stop (λ stop. P stop held then_held) result (λ stop. go stop held then_held (unchanged devices (Some held) (Some then_held) held then_held refl refl same))
+-- a line of the file of replies that is refused is no fault
+pub no_read_fault : (result : Result Outcome WantOfMemory) (line : ℕ) → IfOk result (λ o. o ≡ bad_replies line) → IfOk result (λ o. o.status ≡ status.FileFault → ⊥)
+no_read_fault (Err e) line x = tt
+no_read_fault (Ok o) line x = λ is. let clash : status.BadReplies ≡ status.FileFault = sym (ap (λ (x : Outcome). x.status) x) ∙ is in absurd cc
 
 -- ---- what was run
 
@@ -86,11 +72,11 @@ taken_entries m (suc k) (i ∷ is) e =
     let parts = none_then i.name (cause_of_entry m (function_export m i.name) i.args) (entries_text m is) e in
     ap (λ o. or_text (cause_text i.name o) (entries_text m (take k is))) parts.0 ∙ taken_entries m k is parts.1
 
-module _ (before after : List DeviceState) (script : Option (List Reply)) (w : RunWords) (s : State) (h0 h1 : HostsState) (held then_held : Contents)
+module _ (before after : List DeviceState) (script : Option (List Reply)) (w : RunWords) (s : State) (h0 h1 : HostsState) (told told' : Option Contents)
     (new : IsNew s.module_ s) (segments : cause_of_segments s.module_ ≡ None) (began : Began s.module_.imports before script h0) (same : origin_of h1 ≡ origin_of h0) (back : GaveBack h1 after) where
   runs_for : (p : Program) (is : List Invocation) (fuel : ℕ) (rans : List Ran) → p.module_ ≡ s.module_ → IsProgram p → entries_text s.module_ is ≡ None
-      → WasStopped (engine p false w.depth) w.dump w.name 0 (point_of s is fuel) rans (calls_of h0) (calls_of h1) (Some held) (Some then_held)
-      → RunsFor w s.module_ script is fuel rans before after held then_held
+      → WasStopped (engine p false w.depth) w.dump w.name 0 (point_of s is fuel) rans (calls_of h0) (calls_of h1) told told'
+      → RunsFor w s.module_ script is fuel rans before after told told'
   runs_for p is fuel rans of_module writes_out entries x = record {
     program = p;
     of_module = of_module;
@@ -105,110 +91,100 @@ module _ (before after : List DeviceState) (script : Option (List Reply)) (w : R
   }
 
   runs_stop : (p : Program) (stop : Stop) → p.module_ ≡ s.module_ → IsProgram p → entries_text s.module_ (map invocation_of w.invocations) ≡ None
-      → StopsIn stop (engine p false w.depth) w.dump w.name 0 s (map invocation_of w.invocations) w.fuel (calls_of h0) (calls_of h1) (Some held) (Some then_held)
-      → StopsRun stop w s.module_ script before after held then_held
+      → StopsIn stop (engine p false w.depth) w.dump w.name 0 s (map invocation_of w.invocations) w.fuel (calls_of h0) (calls_of h1) told told'
+      → StopsRun stop w s.module_ script before after told told'
   runs_stop p no_memory of_module writes_out entries (total, few, many, rans, x) = (total, many, rans, runs_for p (map invocation_of w.invocations) total rans of_module writes_out entries x)
-  runs_stop p file_failed of_module writes_out entries (made, rans, trap, x) =
-      (made, rans, trap, runs_for p (take made (map invocation_of w.invocations)) w.fuel rans of_module writes_out (taken_entries s.module_ made (map invocation_of w.invocations) entries) x)
+  runs_stop p (file_failed file) of_module writes_out entries (made, rans, dump, x) =
+      (made, rans, dump, runs_for p (take made (map invocation_of w.invocations)) w.fuel rans of_module writes_out (taken_entries s.module_ made (map invocation_of w.invocations) entries) x)
 
 abbrev StopsSo : Program → RunWords → State → (h0 h1 : HostsState) → (told told' : Option Contents) → Stop → Type 0
 StopsSo p w s h0 h1 told told' stop = StopsIn stop (engine p false w.depth) w.dump w.name 0 s (map invocation_of w.invocations) w.fuel (calls_of h0) (calls_of h1) told told'
-
-stops_with : (p : Program) (result : Result Outcome WantOfMemory) (before after : List DeviceState) (script : Option (List Reply)) (w : RunWords) (s : State) (h0 h1 : HostsState) (told told' : Option Contents)
-    → p.module_ ≡ s.module_ → IsProgram p → IsNew s.module_ s → entries_text s.module_ (map invocation_of w.invocations) ≡ None → cause_of_segments s.module_ ≡ None
-    → Began s.module_.imports before script h0 → origin_of h1 ≡ origin_of h0 → GaveBack h1 after
-    → OnStop (StopsSo p w s h0 h1 told told') result
-    → StopsTold (λ stop held then_held. StopsRun stop w s.module_ script before after held then_held) told told' result
-stops_with p result before after script w s h0 h1 None told' of_module writes_out new entries segments began same back x = tt
-stops_with p result before after script w s h0 h1 (Some held) None of_module writes_out new entries segments began same back x = tt
-stops_with p result before after script w s h0 h1 (Some held) (Some then_held) of_module writes_out new entries segments began same back x =
-    map_stop (StopsSo p w s h0 h1 (Some held) (Some then_held)) (λ stop. StopsRun stop w s.module_ script before after held then_held) result
-    (λ stop y. runs_stop before after script w s h0 h1 held then_held new segments began same back p stop of_module writes_out entries y) x
 
 pub hosted_stops : (result : Result Outcome WantOfMemory) (before after : List DeviceState) (script : Option (List Reply)) (w : RunWords) (s : State) (h0 h1 : HostsState) (told told' : Option Contents)
     → IsModule s.module_ → IsNew s.module_ s → entries_text s.module_ (map invocation_of w.invocations) ≡ None → cause_of_segments s.module_ ≡ None
     → Began s.module_.imports before script h0 → origin_of h1 ≡ origin_of h0 → GaveBack h1 after
     → ((p : Program) → IsOf s p → OnStop (StopsSo p w s h0 h1 told told') result)
-    → StopsTold (λ stop held then_held. StopsRun stop w s.module_ script before after held then_held) told told' result
+    → OnStop (λ stop. StopsRun stop w s.module_ script before after told told') result
 hosted_stops result before after script w s h0 h1 told told' whole new entries segments began same back x =
     let p : Program = record { module_ = s.module_; trees = whole.trees } in
-    stops_with p result before after script w s h0 h1 told told' refl whole.write new entries segments began same back (x p (record { of_module = refl; writes_out = whole.write }))
+    map_stop (StopsSo p w s h0 h1 told told') (λ stop. StopsRun stop w s.module_ script before after told told') result
+    (λ stop y. runs_stop before after script w s h0 h1 told told' new segments began same back p stop refl whole.write entries y)
+    (x p (record { of_module = refl; writes_out = whole.write }))
 
 -- ---- the steps of the command, from the last to the first
 
--- a step of the command, behind which there is this
-abbrev pub StepStops : (before after : List DeviceState) → (Stop → Contents → Contents → Type 0) → Stop → Contents → Contents → Type 0
-StepStops before after P stop held then_held = IsUnchanged before after held then_held ⊎ P stop held then_held
+module _ (before after : List DeviceState) (w : RunWords) where
+  -- a step of the command, behind which there is this
+  abbrev pub StepStops : (Stop → Option Contents → Option Contents → Type 0) → Option Contents → Option Contents → Stop → Type 0
+  StepStops P told told' stop = NothingDone stop (IsReadBy w) before after told told' ⊎ P stop told told'
 
--- it was not reached
-pub not_reached : (P : Stop → Contents → Contents → Type 0) (devices : List DeviceState) (told told' : Option Contents) (result : Result Outcome WantOfMemory) → told' ≡ told → StopsTold (StepStops devices devices P) told told' result
-not_reached P devices told told' result same = nothing_done (StepStops devices devices P) devices told told' result same (λ stop held then_held x. inl x)
+  pub reached : (P Q : Stop → Option Contents → Option Contents → Type 0) (told mid told' : Option Contents) (result : Result Outcome WantOfMemory) → mid ≡ told
+      → ((stop : Stop) → P stop told told' → Q stop told told') → OnStop (StepStops P mid told') result → OnStop (StepStops Q told told') result
+  reached P Q told mid told' result same go x =
+      map_stop (StepStops P told told') (StepStops Q told told') result either (subst (λ t. OnStop (StepStops P t told') result) same x)
+    where
+      either : (stop : Stop) → StepStops P told told' stop → StepStops Q told told' stop
+      either stop (inl u) = inl u
+      either stop (inr y) = inr (go stop y)
 
-pub reached : (before after : List DeviceState) (P Q : Stop → Contents → Contents → Type 0) (told mid told' : Option Contents) (result : Result Outcome WantOfMemory) → mid ≡ told
-    → ((held : Contents) → told ≡ Some held → (then_held : Contents) (stop : Stop) → P stop held then_held → Q stop held then_held)
-    → StopsTold (StepStops before after P) mid told' result → StopsTold (StepStops before after Q) told told' result
-reached before after P Q told mid told' result same go x =
-    map_told (StepStops before after P) (StepStops before after Q) told mid told' result same (λ held is then_held stop y. either stop held is then_held y) x
-  where
-    either : (stop : Stop) (held : Contents) → told ≡ Some held → (then_held : Contents) → StepStops before after P stop held then_held → StepStops before after Q stop held then_held
-    either stop held is then_held (inl u) = inl u
-    either stop held is then_held (inr y) = inr (go held is then_held stop y)
+module _ (devices : List DeviceState) (w : RunWords) (P : Stop → Option Contents → Option Contents → Type 0) (told told' : Option Contents) (same : told' ≡ told) where
+  -- memory was wanting before it was reached
+  pub unreached : StepStops devices devices w P told told' no_memory
+  unreached = inl record { devices = refl; files = same; file = tt }
 
--- nothing was run, and the devices were given back
-pub not_begun : (P : (before after : List DeviceState) → Stop → Contents → Contents → Type 0) (before after given : List DeviceState) (told : Option Contents) (result : Result Outcome WantOfMemory) → after ≡ given → given ≡ before
-    → StopsTold (StepStops before after (P before after)) told told result
-not_begun P before after given told result back began =
-    subst (λ ds. StopsTold (StepStops before ds (P before ds)) told told result) (sym (back ∙ began)) (not_reached (P before before) before told told result refl)
+  -- it was refused
+  pub not_reached : (result : Result Outcome WantOfMemory) → IfOk result (λ o. o.status ≡ status.FileFault → ⊥) → OnStop (StepStops devices devices w P told told') result
+  not_reached result some = only_want (StepStops devices devices w P told told') result unreached some
+
+  -- a file that is read failed
+  pub read_failed : (before now : ℕ) (o : Outcome) → IsReadFault w before now o → OnStop (StepStops devices devices w P told told') (Ok o)
+  read_failed before now o fault = λ faulted. let k = fault faulted in record { file = k.0.0; named = k.0.2; failed = inl record { devices = refl; files = same; file = k.0.1 }; memory = unreached }
 
 module _ (before after : List DeviceState) (w : RunWords) (result : Result Outcome WantOfMemory) where
-  pub valid_stops : (script : Option (List Reply)) (m : Module) (s : State) (told told' : Option Contents)
-      → start_text (hosting before script) m (map invocation_of w.invocations) ≡ None → s.module_ ≡ m
-      → StopsTold (λ stop held then_held. StopsRun stop w s.module_ script before after held then_held) told told' result
-      → StopsTold (StepStops before after (λ stop held then_held. ModuleStops stop w m script before after held then_held)) told told' result
-  valid_stops script m s told told' starts same x =
-      map_told (λ stop held then_held. StopsRun stop w s.module_ script before after held then_held) (StepStops before after (λ stop held then_held. ModuleStops stop w m script before after held then_held)) told told told' result refl
-      (λ held told_is then_held stop y. inr (starts, subst (λ (x : Module). StopsRun stop w x script before after held then_held) same y)) x
-
   -- a new instance was made, and the invocations were run on it
   pub ready_stops : (script : Option (List Reply)) (m : Module) (s : State) (h0 h1 : HostsState) (told told' : Option Contents)
       → IsModule m → Valid m → HasBegun (λ i type. serves h0 i) m (map invocation_of w.invocations) (Ready s)
       → Began m.imports before script h0 → origin_of h1 ≡ origin_of h0 → GaveBack h1 after
       → ((p : Program) → IsOf s p → OnStop (StopsSo p w s h0 h1 told told') result)
-      → StopsTold (StepStops before after (λ stop held then_held. ModuleStops stop w m script before after held then_held)) told told' result
+      → OnStop (StepStops before after w (λ stop old new. ModuleStops stop w m script before after old new) told told') result
   ready_stops script m s h0 h1 told told' whole valid (starts, segments, new) began same back x =
       let is = map invocation_of w.invocations in
       let at = sym new.module_is in
-      valid_stops script m s told told' (sym (starts_alike m h0 before script valid began.devices_are began.script_is is) ∙ starts) new.module_is
+      map_stop (λ stop. StopsRun stop w s.module_ script before after told told') (StepStops before after w (λ stop old new. ModuleStops stop w m script before after old new) told told') result
+      (λ stop y. inr (sym (starts_alike m h0 before script valid began.devices_are began.script_is is) ∙ starts, subst (λ (x : Module). StopsRun stop w x script before after told told') new.module_is y))
       (hosted_stops result before after script w s h0 h1 told told' (subst IsModule at whole) (subst (λ (x : Module). IsNew x s) at new)
       (ap (λ (x : Module). entries_text x is) new.module_is ∙ (none_starts (λ i type. serves h0 i) m is starts).0) (ap (λ (x : Module). cause_of_segments x) new.module_is ∙ segments)
       (subst (λ (x : Module). Began x.imports before script h0) at began) same back x)
 
   pub scripted_stops : (m : Module) (given : Script) (script : Option (List Reply)) (told told' : Option Contents) → given ≡ Whole script
-      → StopsTold (StepStops before after (λ stop held then_held. ModuleStops stop w m script before after held then_held)) told told' result
-      → StopsTold (StepStops before after (λ stop held then_held. ScriptStops stop w m (script_result given) before after held then_held)) told told' result
+      → OnStop (StepStops before after w (λ stop old new. ModuleStops stop w m script before after old new) told told') result
+      → OnStop (StepStops before after w (λ stop old new. ScriptStops stop w m (script_result given) before after old new) told told') result
   scripted_stops m given script told told' is x =
-      reached before after (λ stop held then_held. ModuleStops stop w m script before after held then_held) (λ stop held then_held. ScriptStops stop w m (script_result given) before after held then_held) told told told' result refl
-      (λ held told_is then_held stop y. (script, ap (λ s. script_result s) is, y)) x
+      reached before after w (λ stop old new. ModuleStops stop w m script before after old new) (λ stop old new. ScriptStops stop w m (script_result given) before after old new) told told told' result refl
+      (λ stop y. (script, ap (λ s. script_result s) is, y)) x
 
   pub bytes_stop : (script : Result (Option (List Reply)) Outcome) (bytes : List ℕ) (loaded : Loaded) (m : Module) (told told' : Option Contents) → loaded ≡ IsValid m → IsLoaded loaded (module_from bytes)
-      → StopsTold (StepStops before after (λ stop held then_held. ScriptStops stop w m script before after held then_held)) told told' result
-      → StopsTold (StepStops before after (λ stop held then_held. BytesStops stop w bytes script before after held then_held)) told told' result
+      → OnStop (StepStops before after w (λ stop old new. ScriptStops stop w m script before after old new) told told') result
+      → OnStop (StepStops before after w (λ stop old new. BytesStops stop w bytes script before after old new) told told') result
   bytes_stop script bytes loaded m told told' is facts x =
-      reached before after (λ stop held then_held. ScriptStops stop w m script before after held then_held) (λ stop held then_held. BytesStops stop w bytes script before after held then_held) told told told' result refl
-      (λ held told_is then_held stop y. (m, subst (λ l. IsLoaded l (module_from bytes)) is facts, y)) x
+      reached before after w (λ stop old new. ScriptStops stop w m script before after old new) (λ stop old new. BytesStops stop w bytes script before after old new) told told told' result refl
+      (λ stop y. (m, subst (λ l. IsLoaded l (module_from bytes)) is facts, y)) x
 
-  pub source_stops : (bytes : List ℕ) (asked : Asked) (script : Script) (told mid told' : Option Contents) → mid ≡ told → asked ≡ Read script → IfSome told (λ held. IsAsked asked (replies_input w.replies held))
-      → StopsTold (StepStops before after (λ stop held then_held. BytesStops stop w bytes (script_result script) before after held then_held)) mid told' result
-      → StopsTold (StepStops before after (λ stop held then_held. SourceStops stop w bytes before after held then_held)) told told' result
+  pub source_stops : (bytes : List ℕ) (asked : Asked) (script : Script) (told mid told' : Option Contents) → mid ≡ told → asked ≡ Read script → OnContents told (λ held. IsAsked asked (replies_input w.replies held))
+      → OnStop (StepStops before after w (λ stop old new. BytesStops stop w bytes (script_result script) before after old new) mid told') result
+      → OnStop (StepStops before after w (λ stop old new. SourceStops stop w bytes before after old new) told told') result
   source_stops bytes asked script told mid told' same is facts x =
-      reached before after (λ stop held then_held. BytesStops stop w bytes (script_result script) before after held then_held) (λ stop held then_held. SourceStops stop w bytes before after held then_held) told mid told' result same
-      (λ held told_is then_held stop y.
-      let read : IsAsked (Read script) (replies_input w.replies held) = subst (λ a. IsAsked a (replies_input w.replies held)) is (holds told (λ h. IsAsked asked (replies_input w.replies h)) held told_is facts) in
-      (read.0, read.1, subst (λ s. BytesStops stop w bytes s before after held then_held) read.2 y)) x
+      reached before after w (λ stop old new. BytesStops stop w bytes (script_result script) before after old new) (λ stop old new. SourceStops stop w bytes before after old new) told mid told' result same
+      (λ stop y. map_contents told (λ held. IsAsked (Read script) (replies_input w.replies held)) (λ later. (replies : Option (List ℕ)) × (replies_input w.replies later ≡ Ok replies) × BytesStops stop w bytes (script_of replies) before after told told')
+      (λ held read. (read.0, read.1, subst (λ s. BytesStops stop w bytes s before after told told') read.2 y))
+      (subst (λ a. OnContents told (λ held. IsAsked a (replies_input w.replies held))) is facts)) x
 
-  pub file_stops : (bytes spelled : List ℕ) (told mid told' : Option Contents) → mid ≡ told → spelled ≡ bytes → IfSome told (λ held. input_of ModuleBytes w.source (held w.source) ≡ Ok bytes)
-      → StopsTold (StepStops before after (λ stop held then_held. SourceStops stop w spelled before after held then_held)) mid told' result
-      → StopsTold (λ stop held then_held. RunStops stop w before after held then_held) told told' result
-  file_stops bytes spelled told mid told' same spells facts x =
-      reached before after (λ stop held then_held. SourceStops stop w spelled before after held then_held) (λ stop held then_held. FileStops stop w before after held then_held) told mid told' result same
-      (λ held told_is then_held stop y. (bytes, holds told (λ h. input_of ModuleBytes w.source (h w.source) ≡ Ok bytes) held told_is facts, subst (λ b. SourceStops stop w b before after held then_held) spells y)) x
+  pub file_stops : (name : List ℕ) (input : Input) (bytes : Vec ℕ Global) (spelled : List ℕ) (told mid told' : Option Contents) → mid ≡ told → name ≡ w.source → input ≡ inputs.Whole bytes → spelled ≡ bytes.items
+      → OnContents told (λ held. IsInput input (input_of ModuleBytes name (held name)))
+      → OnStop (StepStops before after w (λ stop old new. SourceStops stop w spelled before after old new) mid told') result
+      → OnStop (λ stop. RunStops stop w before after told told') result
+  file_stops name input bytes spelled told mid told' same named is spells facts x =
+      reached before after w (λ stop old new. SourceStops stop w spelled before after old new) (λ stop old new. FileStops stop w before after old new) told mid told' result same
+      (λ stop y. map_contents told (λ held. IsInput (inputs.Whole bytes) (input_of ModuleBytes w.source (held w.source))) (λ first. (bytes : List ℕ) × (input_of ModuleBytes w.source (first w.source) ≡ Ok bytes) × SourceStops stop w bytes before after told told')
+      (λ held read. (bytes.items, read, subst (λ b. SourceStops stop w b before after told told') spells y))
+      (subst (λ n. OnContents told (λ held. IsInput (inputs.Whole bytes) (input_of ModuleBytes n (held n)))) named (subst (λ i. OnContents told (λ held. IsInput i (input_of ModuleBytes name (held name)))) is facts))) x

@@ -1,6 +1,6 @@
 -- The answer on a valid module, from what its parts ensure.
 use Rattle.std.proofs.Common.{◌≡◌, ℕ, zero, suc, ◌+◌, ◌<◌, Bool, true, false, List, [], ◌∷◌, ◌++◌, map, length, drop, refl, sym, ap, ◌∙◌, subst, inl, inr, arith, Option, Some, None, Result, Ok, Err}
-use Rattle.std.specs.Prelude.{◌⊎◌, All, IfOk, IfSome, nat_lt, slice_get, if◌then◌else◌}
+use Rattle.std.specs.Prelude.{IfOk, nat_lt, if◌then◌else◌}
 use Rattle.causes.specs.Counts.{Rose}
 use Rattle.causes.specs.declared.NoMemory.{NoMemory as WantOfMemory}
 use Rattle.pm_outside.specs.Contents.{Contents}
@@ -15,68 +15,26 @@ use Rattle.wasm_syntax.specs.Run.{Cause, cause_of_entry, cause_of_segments, firs
 use Rattle.wasm_machine.specs.Instances.{State, IsNew, IsOf}
 use Rattle.host_set.specs.Sets.{DeviceState, names, count_of}
 use Rattle.host_set.specs.Hosting.{HostsState, origin_of, calls_of, is_used_up, serves}
-use Rattle.command_answers.specs.Texts.{file_fault}
 use Rattle.command_answers.specs.Told.{UnlessFault}
 use Rattle.command_answers.specs.declared.outcome.Outcome.{Outcome}
 use Rattle.command_answers.specs.declared.status.Status.{Status}
 use Rattle.command_answers.specs.declared.status.Status.TheVariants as status
 use Rattle.run_words.specs.declared.invocation.Invocation.{Invocation as InvocationWords}
 use Rattle.run_words.specs.declared.words.RunWords.{RunWords}
-use Rattle.run_session.specs.Written.{Writes, HoldThen}
-use Rattle.run_session.specs.RunText.{dump_name}
 use Rattle.run_session.specs.Invocations.{invocation_of}
 use Rattle.run_session.specs.Ending.{end_status}
 use Rattle.run_session.specs.inner.Sessions.{point_of, EndsIn, RanAll, IsDumpFault}
-use Rattle.run_session.proofs.Unless.{on_all}
+use Rattle.command_answers.proofs.Unless.{OnAnswer, map_answer, all_answers}
 use Rattle.run_command.specs.Starting.{not_started_with, or_text, cause_text, segment_of, entries_text}
 use Rattle.run_command.specs.Hosting.{Hosting, is_served, import_text, first_unserved, start_text}
-use Rattle.run_command.specs.RunAnswer.{hosting, script_replies, RunsTo, Logs, StartsOr, ModuleAnswer, IfRefusal, IsUntouched, IsFileOf}
+use Rattle.run_command.specs.RunAnswer.{hosting, script_replies, RunsTo, Logs, StartsOr, ModuleAnswer, IfRefusal, IsUntouched}
 use Rattle.run_command.specs.inner.Steps.{IsAnswered}
 use Rattle.run_command.proofs.Answering.{none_then, runs_to}
 use Rattle.run_command.specs.inner.Begun.{HasBegun}
 use Rattle.run_command.specs.declared.running.Begun.TheVariants.{Ready, Refused}
 use Rattle.run_command.proofs.Beginning.{none_starts, starts_alike}
+use Rattle.run_command.proofs.Refusals.{untouched}
 use Rattle.run_command.proofs.Hostings.{Began, GaveBack, host_facts, by_script, logs, rose_on}
-
--- ---- facts on results
-
-map_unless : (s : Status) (P Q : Type 0) → (P → Q) → UnlessFault s P → UnlessFault s Q
-map_unless status.FileFault P Q f x = tt
-map_unless status.NoMemory P Q f x = tt
-map_unless status.Done P Q f x = f x
-map_unless status.Trapped P Q f x = f x
-map_unless status.Usage P Q f x = f x
-map_unless status.NoFile P Q f x = f x
-map_unless status.Malformed P Q f x = f x
-map_unless status.Outside P Q f x = f x
-map_unless status.Invalid P Q f x = f x
-map_unless status.NotStarted P Q f x = f x
-map_unless status.HostStopped P Q f x = f x
-map_unless status.FuelSpent P Q f x = f x
-map_unless status.BadDump P Q f x = f x
-map_unless status.Mismatch P Q f x = f x
-map_unless status.Limit P Q f x = f x
-map_unless status.Collision P Q f x = f x
-map_unless status.TornCalls P Q f x = f x
-map_unless status.BadReplies P Q f x = f x
-
--- a fact on what files hold before and then, and on the answer
-abbrev pub OnAnswer : (Contents → Contents → Outcome → Type 0) → Option Contents → Option Contents → Result Outcome WantOfMemory → Type 0
-OnAnswer P told told' result = IfSome told (λ held. IfSome told' (λ then_held. IfOk result (λ o. UnlessFault o.status (P held then_held o))))
-
-told_of : (R : Option Contents → Option Contents → Outcome → Type 0) (P : Contents → Contents → Outcome → Type 0) (told told' : Option Contents) (result : Result Outcome WantOfMemory)
-    → ((held then_held : Contents) (o : Outcome) → R (Some held) (Some then_held) o → P held then_held o) → IfOk result (λ o. UnlessFault o.status (R told told' o)) → OnAnswer P told told' result
-told_of R P None told' result go x = tt
-told_of R P (Some held) None result go x = tt
-told_of R P (Some held) (Some then_held) (Err e) go x = tt
-told_of R P (Some held) (Some then_held) (Ok o) go x = map_unless o.status (R (Some held) (Some then_held) o) (P held then_held o) (go held then_held o) x
-
-pub other_told : (P Q : Contents → Contents → Outcome → Type 0) (told told' : Option Contents) (result : Result Outcome WantOfMemory)
-    → ((held then_held : Contents) (o : Outcome) → P held then_held o → Q held then_held o) → OnAnswer P told told' result → OnAnswer Q told told' result
-other_told P Q None told' result go x = tt
-other_told P Q (Some held) None result go x = tt
-other_told P Q (Some held) (Some then_held) (Err e) go x = tt
-other_told P Q (Some held) (Some then_held) (Ok o) go x = map_unless o.status (P held then_held o) (Q held then_held o) (go held then_held o) x
 
 -- ---- the run
 
@@ -94,23 +52,23 @@ no_refusal p used_up counts now given due traps (finished v) line P ends = of_ch
 no_refusal p used_up counts now given due traps (not_started cause) line P ends = absurd ends
 no_refusal p used_up counts now given due traps got_stuck line P ends = absurd ends
 
-abbrev pub Runs : (before after : List DeviceState) → Option (List Reply) → RunWords → Module → Contents → Contents → Outcome → Type 0
-Runs before after script w m held then_held o = IsAnswered (λ given writes o. RunsTo before after script w m given o writes × Logs m given before after) before after held then_held o
+abbrev pub Runs : (before after : List DeviceState) → Option (List Reply) → RunWords → Module → Option Contents → Option Contents → Outcome → Type 0
+Runs before after script w m told told' o = IsAnswered (λ given writes o. RunsTo before after script w m given o writes × Logs m given before after) before after told told' o
 
 hosted_by : (p : Program) (result : Result Outcome WantOfMemory) (before after : List DeviceState) (script : Option (List Reply)) (w : RunWords) (s : State) (h0 h1 : HostsState) (told told' : Option Contents)
     → p.module_ ≡ s.module_ → IsProgram p → IsNew s.module_ s → entries_text s.module_ (map invocation_of w.invocations) ≡ None → cause_of_segments s.module_ ≡ None
     → Began s.module_.imports before script h0 → origin_of h1 ≡ origin_of h0 → GaveBack h1 after
-    → IfOk result (λ o. UnlessFault o.status (RanAll p (engine p false w.depth) w.dump w.name (is_used_up h1) (count_of h0.devices) (count_of h1.devices) (point_of s (map invocation_of w.invocations) w.fuel) (calls_of h0) (calls_of h1) told told' o))
-    → OnAnswer (Runs before after script w s.module_) told told' result
+    → OnAnswer (λ o. RanAll p (engine p false w.depth) w.dump w.name (is_used_up h1) (count_of h0.devices) (count_of h1.devices) (point_of s (map invocation_of w.invocations) w.fuel) (calls_of h0) (calls_of h1) told told' o) result
+    → OnAnswer (Runs before after script w s.module_ told told') result
 hosted_by p result before after script w s h0 h1 told told' of_module writes_out new entries segments began same back ran =
-    told_of
-    (λ told told' o. RanAll p (engine p false w.depth) w.dump w.name (is_used_up h1) (count_of h0.devices) (count_of h1.devices) (point_of s (map invocation_of w.invocations) w.fuel) (calls_of h0) (calls_of h1) told told' o)
-    (Runs before after script w s.module_) told told' result
-    (λ held then_held o r. record {
+    map_answer
+    (λ o. RanAll p (engine p false w.depth) w.dump w.name (is_used_up h1) (count_of h0.devices) (count_of h1.devices) (point_of s (map invocation_of w.invocations) w.fuel) (calls_of h0) (calls_of h1) told told' o)
+    (Runs before after script w s.module_ told told') result
+    (λ o r. record {
       given = r.given;
       writes = r.writes;
       answer = (
-        runs_to before after script w s.module_ p (is_used_up h1) (count_of h0.devices) (count_of h1.devices) (drop h1.given (script_replies script)) s (calls_of h0) (calls_of h1) (Some held) (Some then_held) o
+        runs_to before after script w s.module_ p (is_used_up h1) (count_of h0.devices) (count_of h1.devices) (drop h1.given (script_replies script)) s (calls_of h0) (calls_of h1) told told' o
             of_module writes_out new entries segments (host_facts s.module_.imports before script h0 h1 began same) (λ device. rose_on before after h0.devices h1.devices device began.devices_are back.devices) r (by_script s.module_.imports before script h0 h1 began same after back r.given r.grew),
         logs s.module_ before after script h0 h1 began same back r.given r.grew,
       );
@@ -122,8 +80,8 @@ hosted_by p result before after script w s h0 h1 told told' of_module writes_out
 pub hosted_told : (result : Result Outcome WantOfMemory) (before after : List DeviceState) (script : Option (List Reply)) (w : RunWords) (s : State) (h0 h1 : HostsState) (told told' : Option Contents)
     → IsModule s.module_ → IsNew s.module_ s → entries_text s.module_ (map invocation_of w.invocations) ≡ None → cause_of_segments s.module_ ≡ None
     → Began s.module_.imports before script h0 → origin_of h1 ≡ origin_of h0 → GaveBack h1 after
-    → ((p : Program) → IsOf s p → IfOk result (λ o. UnlessFault o.status (RanAll p (engine p false w.depth) w.dump w.name (is_used_up h1) (count_of h0.devices) (count_of h1.devices) (point_of s (map invocation_of w.invocations) w.fuel) (calls_of h0) (calls_of h1) told told' o)))
-    → OnAnswer (Runs before after script w s.module_) told told' result
+    → ((p : Program) → IsOf s p → OnAnswer (λ o. RanAll p (engine p false w.depth) w.dump w.name (is_used_up h1) (count_of h0.devices) (count_of h1.devices) (point_of s (map invocation_of w.invocations) w.fuel) (calls_of h0) (calls_of h1) told told' o) result)
+    → OnAnswer (Runs before after script w s.module_ told told') result
 hosted_told result before after script w s h0 h1 told told' whole new entries segments began same back ran =
     hosted_by (record { module_ = s.module_; trees = whole.trees }) result before after script w s h0 h1 told told' refl whole.write new entries segments began same back
     (ran (record { module_ = s.module_; trees = whole.trees }) (record { of_module = refl; writes_out = whole.write }))
@@ -133,31 +91,26 @@ hosted_told result before after script w s h0 h1 told told' whole new entries se
 -- a refusal leaves the files and the devices as they are
 pub refused_told : (result : Result Outcome WantOfMemory) (before : List DeviceState) (script : Option (List Reply)) (w : RunWords) (m : Module) (told : Option Contents) (cause : List ℕ)
     → start_text (hosting before script) m (map invocation_of w.invocations) ≡ Some cause → IfOk result (λ o. o ≡ not_started_with cause)
-    → OnAnswer (IsAnswered (λ given writes o. ModuleAnswer before before w given writes script m o) before before) told told result
-refused_told result before script w m None cause starts is = tt
-refused_told (Err e) before script w m (Some held) cause starts is = tt
-refused_told (Ok o) before script w m (Some held) cause starts is =
-    on_all o.status _ record {
-      given = [];
-      writes = [];
-      answer = subst (λ t. StartsOr t (RunsTo before before script w m [] o [] × Logs m [] before before) o) (sym starts) is;
-      files = λ name. refl;
-      untouched = subst (λ t. IfRefusal t (IsUntouched before before [] [])) (sym (ap (λ (x : Outcome). x.status) is)) (record { devices = refl; given_none = refl; writes_none = refl });
-    }
+    → OnAnswer (IsAnswered (λ given writes. ModuleAnswer before before w given writes script m) before before told told) result
+refused_told result before script w m told cause starts is =
+    map_answer (λ o. o ≡ not_started_with cause) (IsAnswered (λ given writes. ModuleAnswer before before w given writes script m) before before told told) result
+    (λ o e. untouched before (λ given writes. ModuleAnswer before before w given writes script m) told told o refl
+    (subst (λ t. StartsOr t (RunsTo before before script w m [] o [] × Logs m [] before before) o) (sym starts) e))
+    (all_answers (λ o. o ≡ not_started_with cause) result is)
 
 pub valid_told : (result : Result Outcome WantOfMemory) (before after : List DeviceState) (script : Option (List Reply)) (w : RunWords) (m n : Module) (told told' : Option Contents)
-    → m ≡ n → start_text (hosting before script) n (map invocation_of w.invocations) ≡ None → OnAnswer (Runs before after script w m) told told' result
-    → OnAnswer (IsAnswered (λ given writes o. ModuleAnswer before after w given writes script n o) before after) told told' result
+    → m ≡ n → start_text (hosting before script) n (map invocation_of w.invocations) ≡ None → OnAnswer (Runs before after script w m told told') result
+    → OnAnswer (IsAnswered (λ given writes. ModuleAnswer before after w given writes script n) before after told told') result
 valid_told result before after script w m n told told' same starts runs =
-    other_told (Runs before after script w n) (IsAnswered (λ given writes o. ModuleAnswer before after w given writes script n o) before after) told told' result
-    (λ held then_held o a. record {
+    map_answer (Runs before after script w n told told') (IsAnswered (λ given writes. ModuleAnswer before after w given writes script n) before after told told') result
+    (λ o a. record {
       given = a.given;
       writes = a.writes;
       answer = subst (λ t. StartsOr t (RunsTo before after script w n a.given o a.writes × Logs n a.given before after) o) (sym starts) a.answer;
       files = a.files;
       untouched = a.untouched;
     })
-    (subst (λ (x : Module). OnAnswer (Runs before after script w x) told told' result) same runs)
+    (subst (λ (x : Module). OnAnswer (Runs before after script w x told told') result) same runs)
 
 -- ---- as the code comes to them
 
@@ -165,8 +118,8 @@ valid_told result before after script w m n told told' same starts runs =
 pub ready_told : (result : Result Outcome WantOfMemory) (before after : List DeviceState) (script : Option (List Reply)) (w : RunWords) (m : Module) (s : State) (h0 h1 : HostsState) (told told' : Option Contents)
     → IsModule m → Valid m → HasBegun (λ i type. serves h0 i) m (map invocation_of w.invocations) (Ready s)
     → Began m.imports before script h0 → origin_of h1 ≡ origin_of h0 → GaveBack h1 after
-    → ((p : Program) → IsOf s p → IfOk result (λ o. UnlessFault o.status (RanAll p (engine p false w.depth) w.dump w.name (is_used_up h1) (count_of h0.devices) (count_of h1.devices) (point_of s (map invocation_of w.invocations) w.fuel) (calls_of h0) (calls_of h1) told told' o)))
-    → OnAnswer (IsAnswered (λ given writes o. ModuleAnswer before after w given writes script m o) before after) told told' result
+    → ((p : Program) → IsOf s p → OnAnswer (λ o. RanAll p (engine p false w.depth) w.dump w.name (is_used_up h1) (count_of h0.devices) (count_of h1.devices) (point_of s (map invocation_of w.invocations) w.fuel) (calls_of h0) (calls_of h1) told told' o) result)
+    → OnAnswer (IsAnswered (λ given writes. ModuleAnswer before after w given writes script m) before after told told') result
 ready_told result before after script w m s h0 h1 told told' whole valid (starts, segments, new) began same back ran =
     let is = map invocation_of w.invocations in
     let at = sym new.module_is in
@@ -178,18 +131,17 @@ ready_told result before after script w m s h0 h1 told told' whole valid (starts
 -- nothing was run, and the devices were given back
 pub refused_back : (result : Result Outcome WantOfMemory) (before after : List DeviceState) (script : Option (List Reply)) (w : RunWords) (m : Module) (h : HostsState) (told : Option Contents) (o : Outcome)
     → Valid m → Began m.imports before script h → after ≡ h.devices → HasBegun (λ i type. serves h i) m (map invocation_of w.invocations) (Refused o) → result ≡ Ok o
-    → OnAnswer (IsAnswered (λ given writes o. ModuleAnswer before after w given writes script m o) before after) told told result
+    → OnAnswer (IsAnswered (λ given writes. ModuleAnswer before after w given writes script m) before after told told) result
 refused_back result before after script w m h told o valid began back (cause, starts, is) same =
-    subst (λ ds. OnAnswer (IsAnswered (λ given writes o. ModuleAnswer before ds w given writes script m o) before ds) told told result) (sym (back ∙ began.devices_are))
+    subst (λ ds. OnAnswer (IsAnswered (λ given writes. ModuleAnswer before ds w given writes script m) before ds told told) result) (sym (back ∙ began.devices_are))
     (refused_told result before script w m told cause (sym (starts_alike m h before script valid began.devices_are began.script_is (map invocation_of w.invocations)) ∙ starts)
     (subst (λ r. IfOk r (λ x. x ≡ not_started_with cause)) (sym same) is))
 
 -- ---- faults
 
-pub dump_faults : (w : RunWords) (result : Result Outcome WantOfMemory) (R : Type 0) → IfOk result (λ o. o.status ≡ status.FileFault → IsDumpFault w.dump o × R)
-    → IfOk result (λ o. o.status ≡ status.FileFault → ((file : List ℕ) × IsFileOf w file × (o ≡ file_fault file)) × R)
-dump_faults w (Err e) R x = tt
-dump_faults w (Ok o) R x = λ is. let k = x is in ((dump_name w.dump k.0.0, inr (inr (k.0.0, refl)), k.0.1), k.1)
+pub fault_rose : (base : List ℕ) (result : Result Outcome WantOfMemory) (R : Type 0) → IfOk result (λ o. o.status ≡ status.FileFault → IsDumpFault base o × R) → IfOk result (λ o. o.status ≡ status.FileFault → R)
+fault_rose base (Err e) R x = tt
+fault_rose base (Ok o) R x = λ faulted. (x faulted).1
 
 pub no_faults : (result : Result Outcome WantOfMemory) (cause : List ℕ) (R : Outcome → Type 0) → IfOk result (λ o. o ≡ not_started_with cause) → IfOk result (λ o. o.status ≡ status.FileFault → R o)
 no_faults (Err e) cause R x = tt

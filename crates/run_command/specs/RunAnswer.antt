@@ -10,19 +10,21 @@ use Rattle.wasm_syntax.specs.declared.module.ModuleParts.{ModuleParts as Module}
 use Rattle.wasm_syntax.specs.Module.{Program, IsProgram}
 use Rattle.wasm_syntax.specs.Run.{Outcome as RunOutcome, not_started, finished, trapped, lacks_reply, misfits, running, got_stuck, Ran, run}
 use Rattle.wasm_decode.specs.Decode.{module_from}
+use Rattle.dump_write.specs.Written.{OnTold}
 use Rattle.host_replies.specs.Replies.{file_replies}
 use Rattle.command_answers.specs.Texts.{ended}
 use Rattle.command_answers.specs.Inputs.{input_of, Then}
 use Rattle.command_answers.specs.Loading.{IfLoaded}
+use Rattle.command_answers.specs.Told.{MayHold}
 use Rattle.command_answers.specs.declared.outcome.Outcome.{Outcome}
 use Rattle.command_answers.specs.declared.status.Status.{Status}
 use Rattle.command_answers.specs.declared.status.Status.TheVariants as status
 use Rattle.run_words.specs.declared.words.RunWords.{RunWords}
-use Rattle.run_session.specs.RunText.{dump_name, dumps_from, last_of}
+use Rattle.run_session.specs.RunText.{dumps_from, last_of}
 use Rattle.host_devices.specs.Given.{replies_of}
 use Rattle.host_set.specs.Sets.{DeviceState, names, count_of, log_of, is_named}
 use Rattle.run_session.specs.Given.{given_in, module_of, from_module}
-use Rattle.run_session.specs.Written.{Writes}
+use Rattle.run_session.specs.Written.{Writes, HoldThen}
 use Rattle.run_session.specs.Invocations.{invocation_of}
 use Rattle.run_command.specs.Starting.{not_started_with}
 use Rattle.run_command.specs.Hosting.{Hosting, scripted, start_text}
@@ -137,16 +139,28 @@ IfRefusal status.Collision P = P
 IfRefusal status.TornCalls P = P
 IfRefusal status.BadReplies P = P
 
--- The answer to `run`, where the devices are these before and then, files hold this, these replies were given in this call, and these files
--- were written.
-pub record RunAnswer (before after : List DeviceState) (w : RunWords) (files : Contents) (given : List Served) (writes : Writes) (o : Outcome) : Type 0 where
-  pub answer : Then (input_of ModuleBytes w.source (files w.source)) (λ bytes.
-      Then (replies_input w.replies files) (λ script_bytes.
+-- The answer to `run`, where the devices are these before and then, files hold this when the module is read and that when the replies are,
+-- these replies were given in this call, and these files were written.
+pub record RunAnswer (before after : List DeviceState) (w : RunWords) (first later : Contents) (given : List Served) (writes : Writes) (o : Outcome) : Type 0 where
+  pub answer : Then (input_of ModuleBytes w.source (first w.source)) (λ bytes.
+      Then (replies_input w.replies later) (λ script_bytes.
       IfLoaded (λ m. Then (script_of script_bytes) (λ script. ModuleAnswer before after w given writes script m)) (module_from bytes))) o
   pub untouched : IfRefusal o.status (IsUntouched before after given writes)
 
--- ---- faults
+-- ---- files
 
--- a file that the words name: the module's, that of the replies, or one of the dumps
-abbrev pub IsFileOf : RunWords → List ℕ → Type 0
-IsFileOf w file = (file ≡ w.source) ⊎ ((w.replies ≡ Some file) ⊎ ((j : ℕ) × (file ≡ dump_name w.dump j)))
+-- a file that is read: the module's, or that of the replies
+abbrev pub IsReadBy : RunWords → List ℕ → Type 0
+IsReadBy w file = (file ≡ w.source) ⊎ (w.replies ≡ Some file)
+
+-- Something is answered by what files hold when the first of them is read, and when the second one is. Both are what files tell, where they
+-- tell it. The files then hold what is written.
+pub record AnsweredOn (Answers : (first later : Contents) → List Served → Writes → Outcome → Type 0) (old new : Option Contents) (o : Outcome) : Type 0 where
+  pub first : Contents
+  pub may_first : MayHold old first
+  pub later : Contents
+  pub may_later : MayHold old later
+  pub given : List Served
+  pub writes : Writes
+  pub answer : Answers first later given writes o
+  pub files : OnTold (HoldThen writes) old new

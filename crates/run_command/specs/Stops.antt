@@ -10,24 +10,26 @@ use Rattle.wasm_syntax.specs.Valid.{Valid}
 use Rattle.wasm_syntax.specs.Run.{Invocation, Ran, run}
 use Rattle.wasm_decode.specs.Decode.{module_from}
 use Rattle.wasm_validate.specs.Heights.{AllLow}
+use Rattle.dump_write.specs.Written.{OnTold}
 use Rattle.host_devices.specs.Given.{replies_of}
 use Rattle.host_set.specs.Sets.{DeviceState, names}
 use Rattle.command_answers.specs.Inputs.{input_of}
+use Rattle.command_answers.specs.Told.{OnContents}
 use Rattle.command_answers.specs.declared.outcome.Outcome.{Outcome}
 use Rattle.run_words.specs.declared.words.RunWords.{RunWords}
-use Rattle.run_session.specs.Stop.{Stop, no_memory, file_failed, EndsTrapped}
+use Rattle.run_session.specs.Stop.{Stop, no_memory, file_failed, EndsAtDump}
 use Rattle.run_session.specs.RunText.{dumps_from}
 use Rattle.run_session.specs.Given.{given_in}
 use Rattle.run_session.specs.Written.{HoldPart}
 use Rattle.run_session.specs.Invocations.{invocation_of}
 use Rattle.run_command.specs.Hosting.{scripted, start_text}
-use Rattle.run_command.specs.RunAnswer.{Logs, hosting, script_replies, replies_input, script_of}
+use Rattle.run_command.specs.RunAnswer.{Logs, IsReadBy, hosting, script_replies, replies_input, script_of}
 
 -- ---- what was run
 
 -- What these invocations come to within so many steps, on the replies that were given, those of the script being its first ones. The dumps of
 -- their traps are written, but the last one may be there in part.
-pub record RunsFor (w : RunWords) (m : Module) (script : Option (List Reply)) (is : List Invocation) (fuel : ℕ) (rans : List Ran) (before after : List DeviceState) (old new : Contents) : Type 0 where
+pub record RunsFor (w : RunWords) (m : Module) (script : Option (List Reply)) (is : List Invocation) (fuel : ℕ) (rans : List Ran) (before after : List DeviceState) (old new : Option Contents) : Type 0 where
   pub program : Program
   pub of_module : program.module_ ≡ m
   pub writes_out : IsProgram program
@@ -37,43 +39,49 @@ pub record RunsFor (w : RunWords) (m : Module) (script : Option (List Reply)) (i
   pub left : List Reply
   pub by_script : script_replies script ≡ replies_of (scripted (names before) m.imports given) ++ left
   pub logs : Logs m given before after
-  pub files : HoldPart (dumps_from w.dump w.name 0 rans) old new
+  pub files : OnTold (HoldPart (dumps_from w.dump w.name 0 rans)) old new
 
--- all invocations, for some number of steps up to the fuel; or the invocations up to one that trapped, where the file of its dump failed
-abbrev pub StopsRun : Stop → RunWords → Module → Option (List Reply) → (before after : List DeviceState) → (old new : Contents) → Type 0
+-- all invocations, for some number of steps up to the fuel; or the invocations up to one that trapped, the file of whose dump failed
+abbrev pub StopsRun : Stop → RunWords → Module → Option (List Reply) → (before after : List DeviceState) → (old new : Option Contents) → Type 0
 StopsRun no_memory w m script before after old new =
     (fuel : ℕ) × (fuel ≤ w.fuel) × (rans : List Ran) × RunsFor w m script (map invocation_of w.invocations) fuel rans before after old new
-StopsRun file_failed w m script before after old new =
-    (made : ℕ) × (rans : List Ran) × EndsTrapped rans × RunsFor w m script (take made (map invocation_of w.invocations)) w.fuel rans before after old new
+StopsRun (file_failed file) w m script before after old new =
+    (made : ℕ) × (rans : List Ran) × EndsAtDump w.dump 0 rans file × RunsFor w m script (take made (map invocation_of w.invocations)) w.fuel rans before after old new
 
 -- ---- the steps of the command, from the last to the first
 
--- no device was called, and all files are as before
-pub record IsUnchanged (before after : List DeviceState) (old new : Contents) : Type 0 where
+-- a fact on the file that failed, where one did
+abbrev pub OnFile : Stop → (List ℕ → Type 0) → Type 0
+OnFile no_memory P = Unit {0}
+OnFile (file_failed file) P = P file
+
+-- No device was called, and all files are as before. A file that failed is one that is read.
+pub record NothingDone (stop : Stop) (IsRead : List ℕ → Type 0) (before after : List DeviceState) (old new : Option Contents) : Type 0 where
   pub devices : after ≡ before
-  pub files : (name : List ℕ) → new name ≡ old name
+  pub files : new ≡ old
+  pub file : OnFile stop IsRead
 
 -- nothing hinders the start of this module with this script
-abbrev pub ModuleStops : Stop → RunWords → Module → Option (List Reply) → (before after : List DeviceState) → (old new : Contents) → Type 0
+abbrev pub ModuleStops : Stop → RunWords → Module → Option (List Reply) → (before after : List DeviceState) → (old new : Option Contents) → Type 0
 ModuleStops stop w m script before after old new =
     (start_text (hosting before script) m (map invocation_of w.invocations) ≡ None) × StopsRun stop w m script before after old new
 
-abbrev pub ScriptStops : Stop → RunWords → Module → Result (Option (List Reply)) Outcome → (before after : List DeviceState) → (old new : Contents) → Type 0
+abbrev pub ScriptStops : Stop → RunWords → Module → Result (Option (List Reply)) Outcome → (before after : List DeviceState) → (old new : Option Contents) → Type 0
 ScriptStops stop w m script before after old new = (replies : Option (List Reply)) × (script ≡ Ok replies) × ModuleStops stop w m replies before after old new
 
 -- the bytes spell a module that is taken
-abbrev pub BytesStops : Stop → RunWords → List ℕ → Result (Option (List Reply)) Outcome → (before after : List DeviceState) → (old new : Contents) → Type 0
+abbrev pub BytesStops : Stop → RunWords → List ℕ → Result (Option (List Reply)) Outcome → (before after : List DeviceState) → (old new : Option Contents) → Type 0
 BytesStops stop w bytes script before after old new =
     (m : Module) × ((module_from bytes ≡ Ok m) × Valid m × AllLow m) × ScriptStops stop w m script before after old new
 
-abbrev pub SourceStops : Stop → RunWords → List ℕ → (before after : List DeviceState) → (old new : Contents) → Type 0
+abbrev pub SourceStops : Stop → RunWords → List ℕ → (before after : List DeviceState) → (old new : Option Contents) → Type 0
 SourceStops stop w bytes before after old new =
-    (replies : Option (List ℕ)) × (replies_input w.replies old ≡ Ok replies) × BytesStops stop w bytes (script_of replies) before after old new
+    OnContents old (λ later. (replies : Option (List ℕ)) × (replies_input w.replies later ≡ Ok replies) × BytesStops stop w bytes (script_of replies) before after old new)
 
-abbrev pub FileStops : Stop → RunWords → (before after : List DeviceState) → (old new : Contents) → Type 0
+abbrev pub FileStops : Stop → RunWords → (before after : List DeviceState) → (old new : Option Contents) → Type 0
 FileStops stop w before after old new =
-    (bytes : List ℕ) × (input_of ModuleBytes w.source (old w.source) ≡ Ok bytes) × SourceStops stop w bytes before after old new
+    OnContents old (λ first. (bytes : List ℕ) × (input_of ModuleBytes w.source (first w.source) ≡ Ok bytes) × SourceStops stop w bytes before after old new)
 
 -- What `run` leaves where it has no answer.
-abbrev pub RunStops : Stop → RunWords → (before after : List DeviceState) → (old new : Contents) → Type 0
-RunStops stop w before after old new = IsUnchanged before after old new ⊎ FileStops stop w before after old new
+abbrev pub RunStops : Stop → RunWords → (before after : List DeviceState) → (old new : Option Contents) → Type 0
+RunStops stop w before after old new = NothingDone stop (IsReadBy w) before after old new ⊎ FileStops stop w before after old new

@@ -1,17 +1,14 @@
 //! The command on the module in a file.
 
-ghost use Rattle.std.specs.Prelude.{◌≡◌, ◌≢◌, ◌≤◌, ◌<◌, ◌⊎◌, ℕ, List, length, IfOk, IfSome, is_some};
+ghost use Rattle.std.specs.Prelude.{◌≡◌, ◌≢◌, ◌≤◌, ◌<◌, ◌⊎◌, length, IfOk, is_some};
 ghost use Rattle.causes.specs.Counts.{Rose};
-ghost use Rattle.wasm_syntax.specs.declared.host.Served.{Served};
 ghost use Rattle.host_set.specs.Sets.{names, AreDistinct};
-ghost use Rattle.command_answers.specs.Texts.{file_fault};
-ghost use Rattle.command_answers.specs.Told.{UnlessFault};
-ghost use Rattle.run_session.specs.Written.{Writes, HoldThen};
+ghost use Rattle.command_answers.specs.Told.{UnlessFault, OnContents};
 ghost use Rattle.run_session.specs.Stop.{OnStop};
 ghost use Rattle.run_command.specs.inner.Steps.{IsAnswered};
-ghost use Rattle.run_command.specs.Stops.{IsUnchanged, ScriptStops, BytesStops, SourceStops, RunStops};
-ghost use Rattle.run_command.specs.RunAnswer.{IsFileOf, RunAnswer};
-ghost use Rattle.run_command.specs.inner.Scripts.{script_result, ScriptAnswer, BytesAnswer, SourceAnswer, IsFaultOf};
+ghost use Rattle.run_command.specs.Stops.{NothingDone, ScriptStops, BytesStops, SourceStops, RunStops};
+ghost use Rattle.run_command.specs.RunAnswer.{IsReadBy, RunAnswer, AnsweredOn};
+ghost use Rattle.run_command.specs.inner.Scripts.{script_result, ScriptAnswer, BytesAnswer, SourceAnswer};
 
 use crate::running::run_valid;
 use crate::scripts::{Asked, Script, asked_script, bad_replies};
@@ -35,9 +32,18 @@ fn run_scripted<F: Files, D: Devices>(
 ) -> Result<Outcome, NoMemory>
     requires distinct { AreDistinct (names (D.shown devices.old)) }
     requires some { 0 < length words.now.invocations }
-    ensures told { IfSome (F.told files.old) (λ held. IfSome (F.told files.new) (λ after. IfOk result (λ o. UnlessFault o.status (IsAnswered (λ given writes. ScriptAnswer (D.shown devices.old) (D.shown devices.new) words.now given writes (script_result script) source.now) (D.shown devices.old) (D.shown devices.new) held after o)))) }
-    ensures stops { IfSome (F.told files.old) (λ held. IfSome (F.told files.new) (λ after. OnStop (λ stop. IsUnchanged (D.shown devices.old) (D.shown devices.new) held after ⊎ ScriptStops stop words.now source.now (script_result script) (D.shown devices.old) (D.shown devices.new) held after) result)) }
-    ensures fault { IfOk result (IsFaultOf words.now (F.faults files.old) (F.faults files.new)) }
+    ensures told { IfOk result (λ o. UnlessFault o.status (IsAnswered
+        (λ given writes. ScriptAnswer (D.shown devices.old) (D.shown devices.new)
+        words.now given writes (script_result script) source.now)
+        (D.shown devices.old) (D.shown devices.new) (F.told files.old) (F.told files.new) o)) }
+    ensures stops { OnStop (λ stop.
+        NothingDone stop (IsReadBy words.now)
+        (D.shown devices.old) (D.shown devices.new) (F.told files.old) (F.told files.new)
+        ⊎ ScriptStops stop words.now source.now (script_result script)
+        (D.shown devices.old) (D.shown devices.new) (F.told files.old) (F.told files.new))
+        result }
+    ensures fault { IfOk result (λ o. o.status ≡ Status.FileFault
+        → Rose (F.faults files.old) (F.faults files.new)) }
     ensures memory { IfOk result (λ o. o.status ≢ Status.NoMemory) }
     ensures distinct { AreDistinct (names (D.shown devices.new)) }
     ensures telling { is_some (F.told files.new) ≡ is_some (F.told files.old) }
@@ -60,9 +66,18 @@ fn run_bytes<F: Files, D: Devices>(
 ) -> Result<Outcome, NoMemory>
     requires distinct { AreDistinct (names (D.shown devices.old)) }
     requires some { 0 < length words.now.invocations }
-    ensures told { IfSome (F.told files.old) (λ held. IfSome (F.told files.new) (λ after. IfOk result (λ o. UnlessFault o.status (IsAnswered (λ given writes. BytesAnswer (D.shown devices.old) (D.shown devices.new) words.now given writes (script_result script) bytes.now) (D.shown devices.old) (D.shown devices.new) held after o)))) }
-    ensures stops { IfSome (F.told files.old) (λ held. IfSome (F.told files.new) (λ after. OnStop (λ stop. IsUnchanged (D.shown devices.old) (D.shown devices.new) held after ⊎ BytesStops stop words.now bytes.now (script_result script) (D.shown devices.old) (D.shown devices.new) held after) result)) }
-    ensures fault { IfOk result (IsFaultOf words.now (F.faults files.old) (F.faults files.new)) }
+    ensures told { IfOk result (λ o. UnlessFault o.status (IsAnswered
+        (λ given writes. BytesAnswer (D.shown devices.old) (D.shown devices.new)
+        words.now given writes (script_result script) bytes.now)
+        (D.shown devices.old) (D.shown devices.new) (F.told files.old) (F.told files.new) o)) }
+    ensures stops { OnStop (λ stop.
+        NothingDone stop (IsReadBy words.now)
+        (D.shown devices.old) (D.shown devices.new) (F.told files.old) (F.told files.new)
+        ⊎ BytesStops stop words.now bytes.now (script_result script)
+        (D.shown devices.old) (D.shown devices.new) (F.told files.old) (F.told files.new))
+        result }
+    ensures fault { IfOk result (λ o. o.status ≡ Status.FileFault
+        → Rose (F.faults files.old) (F.faults files.new)) }
     ensures memory { IfOk result (λ o. o.status ≢ Status.NoMemory) }
     ensures distinct { AreDistinct (names (D.shown devices.new)) }
     ensures telling { is_some (F.told files.new) ≡ is_some (F.told files.old) }
@@ -85,9 +100,18 @@ fn run_source<F: Files, D: Devices>(
 ) -> Result<Outcome, NoMemory>
     requires distinct { AreDistinct (names (D.shown devices.old)) }
     requires some { 0 < length words.now.invocations }
-    ensures told { IfSome (F.told files.old) (λ held. IfSome (F.told files.new) (λ after. IfOk result (λ o. UnlessFault o.status (IsAnswered (λ given writes. SourceAnswer (D.shown devices.old) (D.shown devices.new) words.now held given writes bytes.now) (D.shown devices.old) (D.shown devices.new) held after o)))) }
-    ensures stops { IfSome (F.told files.old) (λ held. IfSome (F.told files.new) (λ after. OnStop (λ stop. IsUnchanged (D.shown devices.old) (D.shown devices.new) held after ⊎ SourceStops stop words.now bytes.now (D.shown devices.old) (D.shown devices.new) held after) result)) }
-    ensures fault { IfOk result (IsFaultOf words.now (F.faults files.old) (F.faults files.new)) }
+    ensures told { IfOk result (λ o. UnlessFault o.status (OnContents (F.told files.old) (λ later.
+        IsAnswered (λ given writes. SourceAnswer (D.shown devices.old) (D.shown devices.new)
+        words.now later given writes bytes.now)
+        (D.shown devices.old) (D.shown devices.new) (F.told files.old) (F.told files.new) o))) }
+    ensures stops { OnStop (λ stop.
+        NothingDone stop (IsReadBy words.now)
+        (D.shown devices.old) (D.shown devices.new) (F.told files.old) (F.told files.new)
+        ⊎ SourceStops stop words.now bytes.now
+        (D.shown devices.old) (D.shown devices.new) (F.told files.old) (F.told files.new))
+        result }
+    ensures fault { IfOk result (λ o. o.status ≡ Status.FileFault
+        → Rose (F.faults files.old) (F.faults files.new)) }
     ensures memory { IfOk result (λ o. o.status ≢ Status.NoMemory) }
     ensures distinct { AreDistinct (names (D.shown devices.new)) }
     ensures telling { is_some (F.told files.new) ≡ is_some (F.told files.old) }
@@ -115,9 +139,13 @@ pub fn run_file<F: Files, D: Devices>(
 ) -> Result<Outcome, NoMemory>
     requires distinct { AreDistinct (names (D.shown devices.old)) }
     requires some { 0 < length words.now.invocations }
-    ensures told { IfSome (F.told files.old) (λ held. IfSome (F.told files.new) (λ after. IfOk result (λ o. UnlessFault o.status ((given : List Served) × (writes : Writes) × RunAnswer (D.shown devices.old) (D.shown devices.new) words.now held given writes o × HoldThen writes held after)))) }
-    ensures stops { IfSome (F.told files.old) (λ held. IfSome (F.told files.new) (λ after. OnStop (λ stop. RunStops stop words.now (D.shown devices.old) (D.shown devices.new) held after) result)) }
-    ensures fault { IfOk result (λ o. o.status ≡ Status.FileFault → ((file : List ℕ) × IsFileOf words.now file × (o ≡ file_fault file)) × Rose (F.faults files.old) (F.faults files.new)) }
+    ensures told { IfOk result (λ o. UnlessFault o.status (AnsweredOn
+        (RunAnswer (D.shown devices.old) (D.shown devices.new) words.now)
+        (F.told files.old) (F.told files.new) o)) }
+    ensures stops { OnStop (λ stop. RunStops stop words.now
+        (D.shown devices.old) (D.shown devices.new) (F.told files.old) (F.told files.new)) result }
+    ensures fault { IfOk result (λ o. o.status ≡ Status.FileFault
+        → Rose (F.faults files.old) (F.faults files.new)) }
     ensures memory { IfOk result (λ o. o.status ≢ Status.NoMemory) }
     ensures distinct { AreDistinct (names (D.shown devices.new)) }
     ensures telling { is_some (F.told files.new) ≡ is_some (F.told files.old) }

@@ -1,17 +1,16 @@
 //! The run of a list of invocations on a valid module.
 
-ghost use Rattle.std.specs.Prelude.{◌≡◌, ◌≢◌, ◌<◌, ◌≤◌, ◌⊎◌, [], ℕ, List, Some, map, IfOk, IfSome, length, is_some};
+ghost use Rattle.std.specs.Prelude.{◌≡◌, ◌≢◌, ◌<◌, ◌≤◌, ◌⊎◌, [], Some, map, IfOk, length, is_some};
 ghost use Rattle.causes.specs.Counts.{Rose};
 ghost use Rattle.host_set.specs.Sets.{AreDistinct, names};
-ghost use Rattle.command_answers.specs.Texts.{file_fault};
 ghost use Rattle.command_answers.specs.Told.{UnlessFault};
 ghost use Rattle.run_session.specs.Invocations.{invocation_of};
 ghost use Rattle.run_session.specs.Stop.{OnStop};
 ghost use Rattle.run_command.specs.Starting.{cause_text, segment_of};
-ghost use Rattle.run_command.specs.RunAnswer.{ModuleAnswer, IsFileOf};
+ghost use Rattle.run_command.specs.RunAnswer.{ModuleAnswer, IsReadBy};
 ghost use Rattle.run_command.specs.inner.Begun.{HasBegun};
 ghost use Rattle.run_command.specs.inner.Steps.{IsAnswered};
-ghost use Rattle.run_command.specs.Stops.{IsUnchanged, ModuleStops};
+ghost use Rattle.run_command.specs.Stops.{NothingDone, ModuleStops};
 
 use crate::starting::{early_cause, not_started};
 use causes::NoMemory;
@@ -85,9 +84,18 @@ pub(crate) fn run_valid<F: Files, D: Devices>(
 ) -> Result<Outcome, NoMemory>
     requires distinct { AreDistinct (names (D.shown devices.old)) }
     requires some { 0 < length words.now.invocations }
-    ensures told { IfSome (F.told files.old) (λ held. IfSome (F.told files.new) (λ then. IfOk result (λ o. UnlessFault o.status (IsAnswered (λ given writes o. ModuleAnswer (D.shown devices.old) (D.shown devices.new) words.now given writes script source.now o) (D.shown devices.old) (D.shown devices.new) held then o)))) }
-    ensures stops { IfSome (F.told files.old) (λ held. IfSome (F.told files.new) (λ then. OnStop (λ stop. IsUnchanged (D.shown devices.old) (D.shown devices.new) held then ⊎ ModuleStops stop words.now source.now script (D.shown devices.old) (D.shown devices.new) held then) result)) }
-    ensures fault { IfOk result (λ o. o.status ≡ Status.FileFault → ((file : List ℕ) × IsFileOf words.now file × (o ≡ file_fault file)) × Rose (F.faults files.old) (F.faults files.new)) }
+    ensures told { IfOk result (λ o. UnlessFault o.status (IsAnswered
+        (λ given writes. ModuleAnswer (D.shown devices.old) (D.shown devices.new)
+        words.now given writes script source.now)
+        (D.shown devices.old) (D.shown devices.new) (F.told files.old) (F.told files.new) o)) }
+    ensures stops { OnStop (λ stop.
+        NothingDone stop (IsReadBy words.now)
+        (D.shown devices.old) (D.shown devices.new) (F.told files.old) (F.told files.new)
+        ⊎ ModuleStops stop words.now source.now script
+        (D.shown devices.old) (D.shown devices.new) (F.told files.old) (F.told files.new))
+        result }
+    ensures fault { IfOk result (λ o. o.status ≡ Status.FileFault
+        → Rose (F.faults files.old) (F.faults files.new)) }
     ensures memory { IfOk result (λ o. o.status ≢ Status.NoMemory) }
     ensures distinct { AreDistinct (names (D.shown devices.new)) }
     ensures telling { is_some (F.told files.new) ≡ is_some (F.told files.old) }

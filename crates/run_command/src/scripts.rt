@@ -1,10 +1,11 @@
 //! Scripts from files of replies.
 
-ghost use Rattle.std.specs.Prelude.{◌≡◌, ◌≢◌, ◌≤◌, IfOk, IfSome, Some};
+ghost use Rattle.std.specs.Prelude.{◌≡◌, ◌≢◌, ◌≤◌, IfOk, Some};
 ghost use Rattle.causes.specs.Counts.{Rose};
 ghost use Rattle.command_answers.specs.Texts.{file_fault};
+ghost use Rattle.command_answers.specs.Told.{OnContents};
 ghost use Rattle.run_command.specs.RunAnswer.{replies_input, bad_replies, script_of};
-ghost use Rattle.run_command.specs.inner.Scripts.{script_result, IsAsked, IfAskedRefused, IsFaultOf};
+ghost use Rattle.run_command.specs.inner.Scripts.{script_result, IsAsked, IfAskedRefused, IsReadFault};
 
 use causes::NoMemory;
 use command_answers::{Input, Outcome, Status, push_number, read_input};
@@ -60,8 +61,10 @@ pub(crate) fn asked_script<F: Files>(
     files: &mut F,
     words: &RunWords,
 ) -> Result<Asked, NoMemory>
-    ensures told { IfSome (F.told files.old) (λ held. IfOk result (λ asked. IsAsked asked (replies_input words.now.replies held))) }
-    ensures fault { IfOk result (IfAskedRefused (IsFaultOf words.now (F.faults files.old) (F.faults files.new))) }
+    ensures told { IfOk result (λ asked. OnContents (F.told files.old) (λ held.
+        IsAsked asked (replies_input words.now.replies held))) }
+    ensures fault { IfOk result (IfAskedRefused
+        (IsReadFault words.now (F.faults files.old) (F.faults files.new))) }
     ensures memory { IfOk result (IfAskedRefused (λ o. o.status ≢ Status.NoMemory)) }
     ensures same { F.told files.new ≡ F.told files.old }
     ensures later { F.faults files.old ≤ F.faults files.new }

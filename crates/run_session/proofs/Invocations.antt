@@ -1,5 +1,5 @@
 -- What an invocation of the instance comes to in the session.
-use Rattle.std.proofs.Common.{◌≡◌, ℕ, ◌+◌, ◌-◌, ◌≤◌, Bool, true, false, List, [], ◌∷◌, ◌++◌, length, drop, refl, sym, ap, ◌∙◌, arith, Option, Some, None, subst}
+use Rattle.std.proofs.Common.{◌≡◌, ℕ, ◌+◌, ◌-◌, ◌≤◌, Bool, true, false, List, [], ◌∷◌, ◌++◌, length, drop, refl, sym, ap, ◌∙◌, add-one, arith, Option, Some, None, subst}
 use Rattle.std.specs.Prelude.{if◌then◌else◌, option_map}
 use Rattle.std.proofs.Math.Nat.{le_refl}
 use Rattle.std.proofs.lemmas.List.{length-append, append-nil}
@@ -31,7 +31,7 @@ use Rattle.machine_hosted.specs.Invocations.{HasOutcome, may_follow, InvocationC
 use Rattle.host_devices.specs.Given.{unfitting}
 use Rattle.wasm_machine.specs.Instances.{State, IsOf, Invoked}
 use Rattle.run_session.specs.inner.Progress.{session_from}
-use Rattle.run_session.specs.RunText.{dumps_from}
+use Rattle.run_session.specs.RunText.{dump_name, dumps_from}
 use Rattle.run_session.specs.Given.{given_to}
 use Rattle.run_session.specs.Written.{HoldPart}
 use Rattle.run_session.specs.Stop.{no_memory, file_failed}
@@ -40,7 +40,7 @@ use Rattle.run_session.specs.inner.Sessions.{point_of, MadeOne, StopsIn}
 use Rattle.run_session.specs.declared.turns.Lines.{Lines}
 use Rattle.run_session.specs.declared.turns.Turn.{Turn}
 use Rattle.run_session.specs.declared.turns.Turn.TheVariants.{GoesOn, Ends, Refused}
-use Rattle.run_session.proofs.Lists.{dumps_only}
+use Rattle.run_session.proofs.Lists.{dumps_only, one_trap}
 use Rattle.run_session.proofs.Sessions.{no_replies}
 use Rattle.run_session.proofs.Stopped.{Nothing, none_left, choice_left}
 use Rattle.run_session.proofs.Fewer.{with_left, fewer_steps}
@@ -353,7 +353,7 @@ module _ (p : Program) (collecting : Bool) (depth : ℕ) (base name : List ℕ) 
         },
       )
 
-  pub failed_in : HasTrapped a → StopsIn file_failed (engine p collecting depth) base name traps s (i ∷ rest) fuel before after told_before told_after
+  pub failed_in : HasTrapped a → StopsIn (file_failed (dump_name base traps)) (engine p collecting depth) base name traps s (i ∷ rest) fuel before after told_before told_after
   failed_in (kind, is) =
       let M = engine p collecting depth in
       let given = was.came.asked.given in
@@ -363,7 +363,15 @@ module _ (p : Program) (collecting : Bool) (depth : ℕ) (base name : List ℕ) 
       let some : a ≡ NoMemory → ⊥ = λ e. no_trap kind (sym is ∙ e) in (
         1,
         r ∷ [],
-        (r, trap_code kind, refl, trap),
+        record {
+          ran = r;
+          kind = trap_code kind;
+          last = refl;
+          has_trapped = trap;
+          trap = traps;
+          counted = ap (λ n. traps + n) (one_trap r (trap_code kind) came.last trap came.last_is) ∙ add-one traps;
+          file_is = refl;
+        },
         record {
           given = given;
           grew = was.came.grew.served;

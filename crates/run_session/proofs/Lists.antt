@@ -45,11 +45,18 @@ one_more a b k e = omega arith
 next_place : (j n : ℕ) → suc j + n ≡ j + suc n
 next_place j n = omega arith
 
+pub traps_behind : (rans rs : List Ran) → traps_in (rans ++ rs) ≡ traps_in rans + traps_in rs
+traps_behind [] rs = zero_plus (traps_in rs)
+traps_behind (q ∷ rans) rs =
+    same_choice q.outcome q.last (λ c. suc (traps_in (rans ++ rs))) (λ c. suc (traps_in rans) + traps_in rs) (traps_in (rans ++ rs)) (traps_in rans + traps_in rs) (λ c. one_more (traps_in (rans ++ rs)) (traps_in rans) (traps_in rs) (traps_behind rans rs)) (traps_behind rans rs)
+    ∙ sym (under_choice (λ n. n + traps_in rs) q.outcome q.last (λ c. suc (traps_in rans)) (traps_in rans))
+
 pub traps_more : (rans : List Ran) (r : Ran) → traps_in (rans ++ r ∷ []) ≡ traps_in rans + traps_in (r ∷ [])
-traps_more [] r = zero_plus (traps_in (r ∷ []))
-traps_more (q ∷ rans) r =
-    same_choice q.outcome q.last (λ c. suc (traps_in (rans ++ r ∷ []))) (λ c. suc (traps_in rans) + traps_in (r ∷ [])) (traps_in (rans ++ r ∷ [])) (traps_in rans + traps_in (r ∷ [])) (λ c. one_more (traps_in (rans ++ r ∷ [])) (traps_in rans) (traps_in (r ∷ [])) (traps_more rans r)) (traps_more rans r)
-    ∙ sym (under_choice (λ n. n + traps_in (r ∷ [])) q.outcome q.last (λ c. suc (traps_in rans)) (traps_in rans))
+traps_more rans r = traps_behind rans (r ∷ [])
+
+-- one that trapped
+pub one_trap : (r : Ran) (kind : ℕ) (c : Config) → r.outcome ≡ trapped kind → r.last ≡ Some c → traps_in (r ∷ []) ≡ 1
+one_trap r kind c is last = ap (λ o. if_trapped o r.last (λ c. 1) 0) is ∙ ap (λ l. if_trapped (trapped kind) l (λ c. 1) 0) last
 
 -- the dumps of more of them
 pub dumps_behind : (base name : List ℕ) (j : ℕ) (rans rs : List Ran) → dumps_from base name j (rans ++ rs) ≡ dumps_from base name j rans ++ dumps_from base name (j + traps_in rans) rs

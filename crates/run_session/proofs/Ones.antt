@@ -11,6 +11,8 @@ use Rattle.host_devices.specs.HostSides.{Calls}
 use Rattle.machine_hosted.specs.declared.answer.RunEnd.{RunEnd}
 use Rattle.machine_hosted.specs.declared.answer.RunEnd.TheVariants.{NoMemory}
 use Rattle.wasm_machine.specs.Instances.{State, IsOf, Invoked}
+use Rattle.command_answers.specs.Texts.{file_fault}
+use Rattle.run_session.specs.RunText.{dump_name}
 use Rattle.run_session.specs.inner.Turns.{UnlessRefused, IfEnds, IfTurnRefused, Added, LeavesPart, HasTrapped}
 use Rattle.run_session.specs.inner.Sessions.{MadeOne, StopsIn, OnTurnStop}
 use Rattle.run_session.specs.declared.turns.Lines.{Lines}
@@ -34,20 +36,20 @@ result_made (Ok turn) p collecting depth base name used_up s new i args f fuel l
     (subst (λ n. Invoked p collecting depth used_up f i.args n s new a before after) same_left (subst (λ vs. Invoked p collecting depth used_up f vs left s new a before after) same_args invoked)) added
 
 -- in it or behind it
-pub result_stopped : (result : Result Turn WantOfMemory) (p : Program) (collecting : Bool) (depth : ℕ) (base name : List ℕ) (used_up : Import → Bool) (s new : State) (i : Invocation) (args : List Value) (rest : List Invocation) (f fuel left traps : ℕ) (a : RunEnd)
+pub result_stopped : (result : Result Turn WantOfMemory) (R : Type 0) (p : Program) (collecting : Bool) (depth : ℕ) (base name : List ℕ) (used_up : Import → Bool) (s new : State) (i : Invocation) (args : List Value) (rest : List Invocation) (f fuel left traps : ℕ) (a : RunEnd)
     (before after : Calls) (told_before told_after : Option Contents)
     → IsOf new p → new.prepared ≡ s.prepared → args ≡ i.args → left ≡ fuel - s.steps
     → function_export p.module_ i.name ≡ Some f → s.steps ≤ fuel
     → Invoked p collecting depth used_up f args left s new a before after
     → LeavesPart base name new a traps told_before told_after
-    → IfOk result (IfTurnRefused (λ _. HasTrapped a))
+    → IfOk result (IfTurnRefused (λ _. HasTrapped a)) → IfOk result (IfTurnRefused (λ o. (o ≡ file_fault (dump_name base traps)) × R))
     → OnTurnStop (λ stop. StopsIn stop (engine p collecting depth) base name traps s (i ∷ rest) fuel before after told_before told_after) result
-result_stopped result p collecting depth base name used_up s new i args rest f fuel left traps a before after told_before told_after is_of same_prepared same_args same_left entry begun invoked part refused =
+result_stopped result R p collecting depth base name used_up s new i args rest f fuel left traps a before after told_before told_after is_of same_prepared same_args same_left entry begun invoked part refused named =
     let was = subst (λ n. Invoked p collecting depth used_up f i.args n s new a before after) same_left (subst (λ vs. Invoked p collecting depth used_up f vs left s new a before after) same_args invoked) in
-    turn_stops (λ stop. StopsIn stop (engine p collecting depth) base name traps s (i ∷ rest) fuel before after told_before told_after) (HasTrapped a) result
+    turn_stops (λ stop. StopsIn stop (engine p collecting depth) base name traps s (i ∷ rest) fuel before after told_before told_after) (HasTrapped a) R (dump_name base traps) result
     (stopped_in p collecting depth base name used_up s new i rest f fuel traps a before after told_before told_after is_of same_prepared entry begun was part)
     (λ trap. failed_in p collecting depth base name used_up s new i rest f fuel traps a before after told_before told_after is_of same_prepared entry begun was part trap)
-    refused
+    refused named
 
 -- a fact on the answer that ends the list
 of_ends : (turn : Turn) (a : RunEnd) (P : RunEnd → Type 0) → IfEnds (λ b. b ≡ a) turn → P a → IfEnds P turn

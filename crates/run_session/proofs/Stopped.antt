@@ -19,19 +19,20 @@ use Rattle.host_devices.specs.HostSides.{Calls}
 use Rattle.host_devices.specs.Given.{replies_of}
 use Rattle.machine_hosted.specs.declared.answer.RunEnd.{RunEnd}
 use Rattle.wasm_machine.specs.Instances.{State}
+use Rattle.command_answers.specs.Texts.{file_fault}
 use Rattle.command_answers.specs.declared.outcome.Outcome.{Outcome}
 use Rattle.run_session.specs.RunText.{dumps_from, traps_in}
 use Rattle.run_session.specs.Given.{given_to, given_in}
 use Rattle.run_session.specs.Written.{Writes, HoldThen, HoldPart}
 use Rattle.run_session.specs.inner.Progress.{Point, session_from, HasCome}
-use Rattle.run_session.specs.Stop.{Stop, no_memory, file_failed, OnStop}
+use Rattle.run_session.specs.Stop.{Stop, no_memory, file_failed, OnStop, EndsAtDump}
 use Rattle.run_session.specs.inner.Turns.{IfTurnRefused}
 use Rattle.run_session.specs.inner.Sessions.{point_of, made_with, SoFar, WasStopped, StopsIn, OnTurnStop}
 use Rattle.run_session.specs.declared.turns.Lines.{Lines}
 use Rattle.run_session.specs.declared.turns.Turn.{Turn}
 use Rattle.run_session.specs.declared.turns.Turn.TheVariants.{GoesOn, Ends, Refused}
 use Rattle.run_session.proofs.Held.{held_part, part_also}
-use Rattle.run_session.proofs.Lists.{dumps_behind, last_behind, zero_plus}
+use Rattle.run_session.proofs.Lists.{dumps_behind, last_behind, traps_behind, zero_plus}
 use Rattle.run_session.proofs.Sessions.{EndedWith, grown}
 
 -- ---- no step is left
@@ -97,6 +98,10 @@ was_behind M base name first there rans lines given writes before mid after told
       (part_also writes (dumps_from base name lines.traps rans) told_before told_mid told_after files w.files);
 }
 
+-- the number of the last trap
+trap_behind : (traps trap : ℕ) (rans rs : List Ran) → traps ≡ traps_in rans → traps + traps_in rs ≡ suc trap → 0 + traps_in (rans ++ rs) ≡ suc trap
+trap_behind traps trap rans rs is counted = sym (zero_plus (traps_in (rans ++ rs))) ∙ traps_behind rans rs ∙ ap (λ n. n + traps_in rs) (sym is) ∙ counted
+
 pub stops_behind : (stop : Stop) (M : Engine) (base name : List ℕ) (first s : State) (done is : List Invocation) (fuel : ℕ) (lines : Lines) (before mid after : Calls) (told_before told_mid told_after : Option Contents)
     → first.steps ≡ 0 → SoFar M base name first s done fuel lines before mid told_before told_mid
     → StopsIn stop M base name lines.traps s is fuel mid after told_mid told_after
@@ -104,11 +109,19 @@ pub stops_behind : (stop : Stop) (M : Engine) (base name : List ℕ) (first s : 
 stops_behind no_memory M base name first s done is fuel lines before mid after told_before told_mid told_after none so_far (total, few, many, rans, w) =
     let come = so_far.come is total few many (replies_of w.given) in
     (total, omega (arith, none), many, come.rans ++ rans, was_behind M base name (point_of first (done ++ is) total) (point_of s is total) rans lines so_far.given so_far.writes before mid after told_before told_mid told_after so_far.grew so_far.files w come)
-stops_behind file_failed M base name first s done is fuel lines before mid after told_before told_mid told_after none so_far (made, rans, (r, kind, last, trap), w) =
+stops_behind (file_failed file) M base name first s done is fuel lines before mid after told_before told_mid told_after none so_far (made, rans, d, w) =
     let come = so_far.come (take made is) fuel so_far.within (le_refl fuel) (replies_of w.given) in (
       length done + made,
       come.rans ++ rans,
-      (r, kind, last_behind come.rans rans r last, trap),
+      record {
+        ran = d.ran;
+        kind = d.kind;
+        last = last_behind come.rans rans d.ran d.last;
+        has_trapped = d.has_trapped;
+        trap = d.trap;
+        counted = trap_behind lines.traps d.trap come.rans rans come.came_of.traps d.counted;
+        file_is = d.file_is;
+      },
       subst (λ l. WasStopped M base name 0 (point_of first l fuel) (come.rans ++ rans) before after told_before told_after) (sym (take-append-add done is made))
           (was_behind M base name (point_of first (done ++ take made is) fuel) (point_of s (take made is) fuel) rans lines so_far.given so_far.writes before mid after told_before told_mid told_after so_far.grew so_far.files w come),
     )
@@ -134,15 +147,12 @@ ended_stopped p M base name used_up first all fuel lines before after told_befor
 
 -- ---- one of them
 
-pub turn_stops : (P : Stop → Type 0) (H : Type 0) (result : Result Turn WantOfMemory) → P no_memory → (H → P file_failed) → IfOk result (IfTurnRefused (λ _. H)) → OnTurnStop P result
-turn_stops P H (Err e) memory failed refused = memory
-turn_stops P H (Ok GoesOn) memory failed refused = tt
-turn_stops P H (Ok (Ends a)) memory failed refused = tt
-turn_stops P H (Ok (Refused o)) memory failed refused = by_stop
-  where
-    by_stop : (stop : Stop) → P stop
-    by_stop no_memory = memory
-    by_stop file_failed = failed refused
+pub turn_stops : (P : Stop → Type 0) (H R : Type 0) (file : List ℕ) (result : Result Turn WantOfMemory) → P no_memory → (H → P (file_failed file)) → IfOk result (IfTurnRefused (λ _. H))
+    → IfOk result (IfTurnRefused (λ o. (o ≡ file_fault file) × R)) → OnTurnStop P result
+turn_stops P H R file (Err e) memory failed refused named = memory
+turn_stops P H R file (Ok GoesOn) memory failed refused named = tt
+turn_stops P H R file (Ok (Ends a)) memory failed refused named = tt
+turn_stops P H R file (Ok (Refused o)) memory failed refused named = record { file = file; named = named.0; failed = failed refused; memory = memory }
 
 pub want_stops : (P : Stop → Type 0) (result : Result Outcome WantOfMemory) (e : WantOfMemory) → result ≡ Err e → P no_memory → OnStop P result
 want_stops P result e is x = subst (λ r. OnStop P r) (sym is) x

@@ -25,7 +25,7 @@ use Rattle.run_session.specs.inner.Answers.{answer_line, answer_status}
 use Rattle.run_session.specs.Ending.{trapped_or_done}
 use Rattle.run_session.specs.inner.Progress.{session_from}
 use Rattle.run_session.specs.inner.Turns.{UnlessRefused, IfGoesOn, IfEnds, IfTurnRefused}
-use Rattle.run_session.specs.Stop.{Stop, OnStop}
+use Rattle.run_session.specs.Stop.{Stop, no_memory, file_failed, IsFileFault, OnStop}
 use Rattle.run_session.specs.inner.Sessions.{point_of, MadeOne, SoFar, RanAll, StopsIn, OnTurnStop}
 use Rattle.run_session.specs.declared.turns.Lines.{Lines}
 use Rattle.run_session.specs.declared.turns.Turn.{Turn}
@@ -149,8 +149,10 @@ module _ (p : Program) (col also : Bool) (depth : ℕ) (base name : List ℕ) (u
   stops_here stop = StopsIn stop (engine p also depth) base name old.traps s (i ∷ rest) fuel mid after told_mid told_after
 
   pub stopped_refused : (turn : Turn) (o : Outcome) (all : List Invocation) → turn ≡ Refused o → done ++ i ∷ rest ≡ all → first.steps ≡ 0 → OnTurnStop stops_here (Ok turn)
-      → (stop : Stop) → StopsIn stop (engine p col depth) base name 0 first all fuel before after told_before told_after
-  stopped_refused turn o all is are steps x stop = stopped_here stop all are steps (subst (λ t. OnTurnStop stops_here (Ok t)) is x stop)
+      → IsFileFault (λ stop. StopsIn stop (engine p col depth) base name 0 first all fuel before after told_before told_after) o
+  stopped_refused turn o all is are steps x =
+      let k : IsFileFault stops_here o = subst (λ t. OnTurnStop stops_here (Ok t)) is x in
+      record { file = k.file; named = k.named; failed = stopped_here (file_failed k.file) all are steps k.failed; memory = stopped_here no_memory all are steps k.memory }
 
 -- ---- the end of the list
 

@@ -262,3 +262,55 @@ fn a_device_is_dropped_once(rt: HostRuntime) -> Result<(), Fail> {
     let stopped = "host stopped: device \"console\"\n";
     is_dropped_once(&rt, alloc, 1, (9, stopped))
 }
+
+/// A console that counts a fault at each call, and replies all the same.
+#[derive(Drop)]
+struct Complaining {
+    console: Console,
+    faults: u64,
+}
+
+impl Device for Complaining {
+    ghost title = { λ _. codes "console" };
+
+    ghost served = { λ c. c.console.log };
+
+    ghost fault_count = { λ c. c.faults };
+
+    fn name(&self) -> &str {
+        self.console.name()
+    }
+
+    fn log(&self) -> &[Served] {
+        self.console.log()
+    }
+
+    fn faults(&self) -> u64 {
+        self.faults
+    }
+
+    fn call(&mut self, call: &HostCall, memory: Option<&Memory>) -> DeviceAnswer {
+        self.faults = self.faults.saturating_add(1);
+        self.console.call(call, memory)
+    }
+}
+
+#[test]
+fn a_count_may_rise_at_a_reply(rt: HostRuntime) -> Result<(), Fail> {
+    let alloc = rt.alloc();
+    let mut devices = DeviceSet::new(alloc);
+    let complaining = Complaining {
+        console: Console::new(alloc, Vec::new(alloc)),
+        faults: 0,
+    };
+    assert!(rt; devices.attach(Box::new(alloc, complaining)?).is_ok());
+    let mut files = with_module(alloc, &PRINTING, &[])?;
+    let done = (0, "finished\nhost calls 2\n");
+    runs(&rt, alloc, "f", &mut files, &mut devices, done)?;
+    let faults = match devices.get("console") {
+        Some(console) => console.faults(),
+        None => 0,
+    };
+    assert_eq!(rt; faults, 2);
+    Ok(())
+}

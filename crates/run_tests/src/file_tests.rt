@@ -3,7 +3,7 @@
 use crate::run_modules::{FAR_STORES, READING};
 use crate::run_trial::{runs, with_module};
 use host_set::DeviceSet;
-use pm_outside::MemFiles;
+use pm_outside::{MemFiles, Part};
 use std::alloc::{AllocError, Global};
 use std::process::Abort;
 use std::test::Fail;
@@ -74,6 +74,22 @@ fn a_memory_is_written_page_by_page(rt: HostRuntime) -> Result<(), Fail> {
         let bytes = files.get("core.wasm").ok_or("no dump")?;
         assert_eq!(rt; bytes.len(), *length);
     }
+    Ok(())
+}
+
+/// The call that adds the head of a dump fails behind its first ten bytes: the module's header, and the id and size of
+/// the first section.
+#[test]
+fn a_failing_append_leaves_a_front(rt: HostRuntime) -> Result<(), Fail> {
+    let alloc = rt.alloc();
+    let mut files = with_module(alloc, &FAR_STORES, &[3])?;
+    let part = Part { call: 3, bytes: 10 };
+    files.take_parts(Vec::from_slice(alloc, &[part])?);
+    let mut devices = DeviceSet::new(alloc);
+    let fault = (4, "file fault: \"core.wasm\"\n");
+    runs(&rt, alloc, "f", &mut files, &mut devices, fault)?;
+    let front = [0x00, 0x61, 0x73, 0x6D, 0x01, 0x00, 0x00, 0x00, 0x00, 0x0D];
+    assert_eq!(rt; files.get("core.wasm"), Some(front.as_slice()));
     Ok(())
 }
 

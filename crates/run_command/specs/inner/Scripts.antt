@@ -19,7 +19,7 @@ use Rattle.run_command.specs.declared.scripts.Script.{Script}
 use Rattle.run_command.specs.declared.scripts.Script.TheVariants.{Whole, Bad}
 use Rattle.run_command.specs.declared.scripts.Asked.{Asked}
 use Rattle.run_command.specs.declared.scripts.Asked.TheVariants.{Read, Refused}
-use Rattle.run_command.specs.RunAnswer.{IsFileOf, ModuleAnswer, replies_input, bad_replies, script_of}
+use Rattle.run_command.specs.RunAnswer.{IsReadBy, ModuleAnswer, replies_input, bad_replies, script_of}
 
 -- the replies, where there are any, or the refusal that names a line
 abbrev pub script_result : Script → Result (Option (List Reply)) Outcome
@@ -35,9 +35,9 @@ abbrev pub IfAskedRefused : (Outcome → Type 0) → Asked → Type 0
 IfAskedRefused P (Read script) = Unit {0}
 IfAskedRefused P (Refused o) = P o
 
--- a fault is that of a file which the command reads or writes, and was counted
-abbrev pub IsFaultOf : RunWords → (before now : ℕ) → Outcome → Type 0
-IsFaultOf w before now o = o.status ≡ status.FileFault → ((file : List ℕ) × IsFileOf w file × (o ≡ file_fault file)) × Rose before now
+-- a fault of a file that is read names it, and was counted
+abbrev pub IsReadFault : RunWords → (before now : ℕ) → Outcome → Type 0
+IsReadFault w before now o = o.status ≡ status.FileFault → ((file : List ℕ) × IsReadBy w file × (o ≡ file_fault file)) × Rose before now
 
 -- ---- the steps of the command, from the last to the first
 
@@ -48,5 +48,5 @@ abbrev pub BytesAnswer : (before after : List DeviceState) → RunWords → List
 BytesAnswer before after w given writes script bytes o = IfLoaded (ScriptAnswer before after w given writes script) (module_from bytes) o
 
 abbrev pub SourceAnswer : (before after : List DeviceState) → RunWords → Contents → List Served → Writes → List ℕ → Outcome → Type 0
-SourceAnswer before after w files given writes bytes o =
-    Then (replies_input w.replies files) (λ script_bytes. BytesAnswer before after w given writes (script_of script_bytes) bytes) o
+SourceAnswer before after w later given writes bytes o =
+    Then (replies_input w.replies later) (λ script_bytes. BytesAnswer before after w given writes (script_of script_bytes) bytes) o

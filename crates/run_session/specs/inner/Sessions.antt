@@ -27,7 +27,7 @@ use Rattle.run_session.specs.inner.Progress.{Point, Made, session_from, HasCome,
 use Rattle.run_session.specs.inner.Turns.{TurnsTo}
 use Rattle.run_session.specs.inner.Answers.{device_cause, misfit_cause}
 use Rattle.run_session.specs.Ending.{host_stopped, end_status}
-use Rattle.run_session.specs.Stop.{Stop, no_memory, file_failed, EndsTrapped}
+use Rattle.run_session.specs.Stop.{Stop, no_memory, file_failed, IsFileFault, EndsAtDump}
 use Rattle.run_session.specs.declared.turns.Lines.{Lines}
 use Rattle.run_session.specs.declared.turns.Turn.{Turn}
 use Rattle.run_session.specs.declared.turns.Turn.TheVariants.{GoesOn, Ends, Refused}
@@ -137,12 +137,12 @@ pub record WasStopped (M : Engine) (base name : List ℕ) (number : ℕ) (there 
 abbrev pub StopsIn : Stop → Engine → (base name : List ℕ) → (number : ℕ) → State → List Invocation → (fuel : ℕ) → (before after : Calls) → (told_before told_after : Option Contents) → Type 0
 StopsIn no_memory M base name number s is fuel before after told_before told_after =
     (total : ℕ) × (s.steps ≤ total) × (total ≤ fuel) × (rans : List Ran) × WasStopped M base name number (point_of s is total) rans before after told_before told_after
-StopsIn file_failed M base name number s is fuel before after told_before told_after =
-    (made : ℕ) × (rans : List Ran) × EndsTrapped rans × WasStopped M base name number (point_of s (take made is) fuel) rans before after told_before told_after
+StopsIn (file_failed file) M base name number s is fuel before after told_before told_after =
+    (made : ℕ) × (rans : List Ran) × EndsAtDump base number rans file × WasStopped M base name number (point_of s (take made is) fuel) rans before after told_before told_after
 
 -- a fact on each way in which an invocation has no answer
 abbrev pub OnTurnStop : (Stop → Type 0) → Result Turn WantOfMemory → Type 0
 OnTurnStop P (Err e) = P no_memory
 OnTurnStop P (Ok GoesOn) = Unit {0}
 OnTurnStop P (Ok (Ends answer)) = Unit {0}
-OnTurnStop P (Ok (Refused o)) = (stop : Stop) → P stop
+OnTurnStop P (Ok (Refused o)) = IsFileFault P o

@@ -1,36 +1,37 @@
 use Rattle.std.proofs.Common.{◌≡◌, map, refl, ap, ◌∙◌, Some, Err}
 use Rattle.std.specs.String.{string_bytes}
+use Rattle.causes.specs.Counts.{Rose}
 use Rattle.pm_cli.proofs.Respond.{check_answered, show_answered, usage_answered, run_answered}
 use Rattle.pm_cli.specs.Words.{command}
 use Rattle.pm_cli.proofs.Stopping.{check_stops, show_stops, usage_stops, unread_stops, run_stops, quiet_all, quiet_run}
 use Rattle.pm_cli.proofs.command.respond.Goals as goal
 
 pub returns-in-Ok-Check-clause-told : goal.returns-in-Ok-Check-clause-told
-returns-in-Ok-Check-clause-told g c = check_answered (g.F.Files.told c.args.files.now) (g.F.Files.told c.check_file.new.files) c.check_file.result (g.D.Devices.shown c.args.devices.now) (map string_bytes c.args.words.now) _ _ (c.in-Ok-Check.ensures.ok ∙ ap Some c.in-Ok-Check.field-0-is) c.as_str.ensures.value c.check_file.ensures.same c.check_file.ensures.told
+returns-in-Ok-Check-clause-told g c = check_answered (g.D.Devices.shown c.args.devices.now) (map string_bytes c.args.words.now) (g.F.Files.told c.args.files.now) (g.F.Files.told c.check_file.new.files) c.check_file.result c.check_file.ensures.same _ c.as_str.result.now (c.in-Ok-Check.ensures.ok ∙ ap Some c.in-Ok-Check.field-0-is) c.as_str.ensures.value c.check_file.ensures.told
 
 pub returns-in-Ok-Run-clause-told : goal.returns-in-Ok-Run-clause-told
-returns-in-Ok-Run-clause-told g c = run_answered (g.F.Files.told c.args.files.now) (g.F.Files.told c.run_file.new.files) c.run_file.result (g.D.Devices.shown c.args.devices.now) (g.D.Devices.shown c.run_file.new.devices) (map string_bytes c.args.words.now) _ (c.in-Ok-Run.ensures.ok ∙ ap Some c.in-Ok-Run.field-0-is) c.run_file.ensures.told
+returns-in-Ok-Run-clause-told g c = run_answered (g.D.Devices.shown c.args.devices.now) (g.D.Devices.shown c.run_file.new.devices) (map string_bytes c.args.words.now) _ (g.F.Files.told c.args.files.now) (g.F.Files.told c.run_file.new.files) c.run_file.result (c.in-Ok-Run.ensures.ok ∙ ap Some c.in-Ok-Run.field-0-is) c.run_file.ensures.told
 
 pub returns-in-Ok-Show-clause-told : goal.returns-in-Ok-Show-clause-told
-returns-in-Ok-Show-clause-told g c = show_answered (g.F.Files.told c.args.files.now) (g.F.Files.told c.show_file.new.files) c.show_file.result (g.D.Devices.shown c.args.devices.now) (map string_bytes c.args.words.now) _ _ (c.in-Ok-Show.ensures.ok ∙ ap Some c.in-Ok-Show.field-0-is) c.as_str-in-Ok-Show.ensures.value c.show_file.ensures.same c.show_file.ensures.told
+returns-in-Ok-Show-clause-told g c = show_answered (g.D.Devices.shown c.args.devices.now) (map string_bytes c.args.words.now) (g.F.Files.told c.args.files.now) (g.F.Files.told c.show_file.new.files) c.show_file.result c.show_file.ensures.same _ c.as_str-in-Ok-Show.result.now (c.in-Ok-Show.ensures.ok ∙ ap Some c.in-Ok-Show.field-0-is) c.as_str-in-Ok-Show.ensures.value c.show_file.ensures.told
 
 pub returns-in-Err-Usage-clause-told : goal.returns-in-Err-Usage-clause-told
-returns-in-Err-Usage-clause-told g c = usage_answered (g.F.Files.told c.args.files.now) c.plain.result (g.D.Devices.shown c.args.devices.now) (map string_bytes c.args.words.now) (c.in-Err-Usage.ensures.usage (ap Err c.in-Err-Usage.field-0-is)) c.plain.ensures
+returns-in-Err-Usage-clause-told g c = usage_answered (g.D.Devices.shown c.args.devices.now) (map string_bytes c.args.words.now) (g.F.Files.told c.args.files.now) (g.F.Files.told c.args.files.now) c.plain.result refl (c.in-Err-Usage.ensures.usage (ap Err c.in-Err-Usage.field-0-is)) c.plain.ensures
 
 pub returns-in-Ok-Check-clause-stops : goal.returns-in-Ok-Check-clause-stops
-returns-in-Ok-Check-clause-stops g c = check_stops (g.F.Files.told c.args.files.now) (g.F.Files.told c.check_file.new.files) c.check_file.result (g.D.Devices.shown c.args.devices.now) (map string_bytes c.args.words.now) _ (c.in-Ok-Check.ensures.ok ∙ ap Some c.in-Ok-Check.field-0-is) c.check_file.ensures.same
+returns-in-Ok-Check-clause-stops g c = check_stops (g.D.Devices.shown c.args.devices.now) (map string_bytes c.args.words.now) (g.F.Files.told c.args.files.now) (g.F.Files.told c.check_file.new.files) c.check_file.ensures.same (Rose (g.F.Files.faults c.args.files.now) (g.F.Files.faults c.check_file.new.files)) c.check_file.result _ c.as_str.result.now (c.in-Ok-Check.ensures.ok ∙ ap Some c.in-Ok-Check.field-0-is) c.as_str.ensures.value c.check_file.ensures.fault
 
 pub returns-in-Ok-Run-clause-stops : goal.returns-in-Ok-Run-clause-stops
-returns-in-Ok-Run-clause-stops g c = run_stops (g.F.Files.told c.args.files.now) (g.F.Files.told c.run_file.new.files) c.run_file.result (g.D.Devices.shown c.args.devices.now) (g.D.Devices.shown c.run_file.new.devices) (map string_bytes c.args.words.now) _ (c.in-Ok-Run.ensures.ok ∙ ap Some c.in-Ok-Run.field-0-is) c.run_file.ensures.stops
+returns-in-Ok-Run-clause-stops g c = run_stops (g.D.Devices.shown c.args.devices.now) (g.D.Devices.shown c.run_file.new.devices) (map string_bytes c.args.words.now) (g.F.Files.told c.args.files.now) (g.F.Files.told c.run_file.new.files) c.run_file.result _ (c.in-Ok-Run.ensures.ok ∙ ap Some c.in-Ok-Run.field-0-is) c.run_file.ensures.stops
 
 pub returns-in-Ok-Show-clause-stops : goal.returns-in-Ok-Show-clause-stops
-returns-in-Ok-Show-clause-stops g c = show_stops (g.F.Files.told c.args.files.now) (g.F.Files.told c.show_file.new.files) c.show_file.result (g.D.Devices.shown c.args.devices.now) (map string_bytes c.args.words.now) _ (c.in-Ok-Show.ensures.ok ∙ ap Some c.in-Ok-Show.field-0-is) c.show_file.ensures.same
+returns-in-Ok-Show-clause-stops g c = show_stops (g.D.Devices.shown c.args.devices.now) (map string_bytes c.args.words.now) (g.F.Files.told c.args.files.now) (g.F.Files.told c.show_file.new.files) c.show_file.ensures.same (Rose (g.F.Files.faults c.args.files.now) (g.F.Files.faults c.show_file.new.files)) c.show_file.result _ c.as_str-in-Ok-Show.result.now (c.in-Ok-Show.ensures.ok ∙ ap Some c.in-Ok-Show.field-0-is) c.as_str-in-Ok-Show.ensures.value c.show_file.ensures.fault
 
 pub returns-in-Err-Usage-clause-stops : goal.returns-in-Err-Usage-clause-stops
-returns-in-Err-Usage-clause-stops g c = usage_stops (g.F.Files.told c.args.files.now) c.plain.result (g.D.Devices.shown c.args.devices.now) (map string_bytes c.args.words.now) (c.in-Err-Usage.ensures.usage (ap Err c.in-Err-Usage.field-0-is))
+returns-in-Err-Usage-clause-stops g c = usage_stops (g.D.Devices.shown c.args.devices.now) (map string_bytes c.args.words.now) (g.F.Files.told c.args.files.now) c.plain.result c.plain.ensures
 
 pub returns-in-Err-NoMemory-clause-stops : goal.returns-in-Err-NoMemory-clause-stops
-returns-in-Err-NoMemory-clause-stops g c = unread_stops (g.F.Files.told c.args.files.now) (g.D.Devices.shown c.args.devices.now) (map string_bytes c.args.words.now)
+returns-in-Err-NoMemory-clause-stops g c = unread_stops (g.D.Devices.shown c.args.devices.now) (map string_bytes c.args.words.now) (g.F.Files.told c.args.files.now)
 
 -- however it ends
 

@@ -12,20 +12,10 @@ returns-in-Valid-clause-told g c =
 
 pub returns-in-TurnedDown-clause-told : goal.returns-in-TurnedDown-clause-told
 returns-in-TurnedDown-clause-told g c =
-    module_refused (g.D.Devices.shown c.args.devices.now) c.args.words.now (g.F.Files.told c.args.files.now) (g.F.Files.told c.args.files.now) c.in-TurnedDown.refusal refl
+    module_refused (g.D.Devices.shown c.args.devices.now) c.args.words.now (g.F.Files.told c.args.files.now) (g.F.Files.told c.args.files.now) refl c.in-TurnedDown.refusal
     (script_result c.args.script) c.args.bytes.now c.in_ok-loaded.loaded c.in-TurnedDown.is c.in_ok-loaded.ensures.told
 
 pub returns-in-Valid-clause-stops : goal.returns-in-Valid-clause-stops
 returns-in-Valid-clause-stops g c =
     bytes_stop (g.D.Devices.shown c.args.devices.now) (g.D.Devices.shown c.run_scripted.new.devices) c.args.words.now c.run_scripted.result (script_result c.args.script) c.args.bytes.now c.in_ok-loaded.loaded c.in-Valid.source (g.F.Files.told c.args.files.now) (g.F.Files.told c.run_scripted.new.files)
     c.in-Valid.is c.in_ok-loaded.ensures.told c.run_scripted.ensures.stops
-
-pub returns-in-TurnedDown-clause-stops : goal.returns-in-TurnedDown-clause-stops
-returns-in-TurnedDown-clause-stops g c =
-    not_reached (λ stop held then_held. BytesStops stop c.args.words.now c.args.bytes.now (script_result c.args.script) (g.D.Devices.shown c.args.devices.now) (g.D.Devices.shown c.args.devices.now) held then_held) (g.D.Devices.shown c.args.devices.now)
-    (g.F.Files.told c.args.files.now) (g.F.Files.told c.args.files.now) (Ok c.in-TurnedDown.refusal) refl
-
-pub returns-in_err-loaded-clause-stops : goal.returns-in_err-loaded-clause-stops
-returns-in_err-loaded-clause-stops g c =
-    not_reached (λ stop held then_held. BytesStops stop c.args.words.now c.args.bytes.now (script_result c.args.script) (g.D.Devices.shown c.args.devices.now) (g.D.Devices.shown c.args.devices.now) held then_held) (g.D.Devices.shown c.args.devices.now)
-    (g.F.Files.told c.args.files.now) (g.F.Files.told c.args.files.now) c.from_residual.result refl

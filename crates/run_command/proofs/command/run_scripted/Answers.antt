@@ -1,13 +1,18 @@
-use Rattle.std.proofs.Common.{refl}
+use Rattle.std.proofs.Common.{refl, ap}
 use Rattle.run_command.specs.inner.Scripts.{script_result}
 use Rattle.run_command.specs.Stops.{ScriptStops}
-use Rattle.run_command.proofs.Stopping.{not_reached, scripted_stops}
-use Rattle.run_command.proofs.Commands.{script_refused}
+use Rattle.run_command.proofs.Stopping.{no_read_fault, not_reached, scripted_stops}
+use Rattle.run_command.proofs.Commands.{with_script, script_refused}
 use Rattle.run_command.proofs.command.run_scripted.Goals as goal
+
+pub returns-in-Whole-clause-told : goal.returns-in-Whole-clause-told
+returns-in-Whole-clause-told g c =
+    with_script (g.D.Devices.shown c.args.devices.now) (g.D.Devices.shown c.run_valid.new.devices) c.args.words.now (g.F.Files.told c.args.files.now) (g.F.Files.told c.run_valid.new.files) c.run_valid.result
+    c.args.source.now c.args.script c.in-Whole.script (ap (λ s. script_result s) c.in-Whole.is) c.run_valid.ensures.told
 
 pub returns-in-Bad-clause-told : goal.returns-in-Bad-clause-told
 returns-in-Bad-clause-told g c =
-    script_refused (g.D.Devices.shown c.args.devices.now) c.args.words.now (g.F.Files.told c.args.files.now) (g.F.Files.told c.args.files.now) c.bad_replies.result refl
+    script_refused (g.D.Devices.shown c.args.devices.now) c.args.words.now (g.F.Files.told c.args.files.now) (g.F.Files.told c.args.files.now) refl c.bad_replies.result
     c.args.source.now c.args.script c.in-Bad.line c.in-Bad.is c.bad_replies.ensures
 
 pub returns-in-Whole-clause-stops : goal.returns-in-Whole-clause-stops
@@ -16,5 +21,5 @@ returns-in-Whole-clause-stops g c =
 
 pub returns-in-Bad-clause-stops : goal.returns-in-Bad-clause-stops
 returns-in-Bad-clause-stops g c =
-    not_reached (λ stop held then_held. ScriptStops stop c.args.words.now c.args.source.now (script_result c.args.script) (g.D.Devices.shown c.args.devices.now) (g.D.Devices.shown c.args.devices.now) held then_held) (g.D.Devices.shown c.args.devices.now)
-    (g.F.Files.told c.args.files.now) (g.F.Files.told c.args.files.now) c.bad_replies.result refl
+    not_reached (g.D.Devices.shown c.args.devices.now) c.args.words.now (λ stop old new. ScriptStops stop c.args.words.now c.args.source.now (script_result c.args.script) (g.D.Devices.shown c.args.devices.now) (g.D.Devices.shown c.args.devices.now) old new)
+    (g.F.Files.told c.args.files.now) (g.F.Files.told c.args.files.now) refl c.bad_replies.result (no_read_fault c.bad_replies.result c.in-Bad.line c.bad_replies.ensures)

@@ -11,7 +11,7 @@ use Rattle.run_command.specs.declared.running.Begun.{Begun}
 use Rattle.run_command.specs.declared.running.Begun.TheVariants.{Ready, Refused}
 use Rattle.run_command.proofs.Hostings.{began_so}
 use Rattle.run_command.proofs.Beginning.{begun_begin}
-use Rattle.run_command.proofs.Valid.{ready_told, refused_back, dump_faults}
+use Rattle.run_command.proofs.Valid.{ready_told, refused_back, fault_rose}
 use Rattle.run_command.proofs.Stopping.{ready_stops}
 use Rattle.run_command.proofs.running.run_valid.Goals as goal
 
@@ -48,7 +48,7 @@ returns-in-Ok-Ready-clause-stops g c =
     c.run_all-outcome.ensures.stops
 
 pub returns-in-Ok-Ready-clause-fault : goal.returns-in-Ok-Ready-clause-fault
-returns-in-Ok-Ready-clause-fault g c = dump_faults c.args.words.now c.run_all-outcome.result _ c.run_all-outcome.ensures.fault
+returns-in-Ok-Ready-clause-fault g c = fault_rose c.args.words.now.dump c.run_all-outcome.result _ c.run_all-outcome.ensures.fault
 
 pub returns-in-Ok-Refused-clause-told : goal.returns-in-Ok-Refused-clause-told
 returns-in-Ok-Refused-clause-told g c =

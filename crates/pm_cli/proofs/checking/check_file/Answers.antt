@@ -1,0 +1,17 @@
+use Rattle.wasm_syntax.specs.declared.quantity.Quantity.TheVariants.{ModuleBytes}
+use Rattle.command_answers.proofs.Unless.{all_answers}
+use Rattle.command_answers.proofs.Reading.{whole_then, refused_then}
+use Rattle.wasm_decode.specs.Decode.{module_from}
+use Rattle.command_answers.specs.Loading.{IfLoaded}
+use Rattle.pm_cli.specs.Answer.{checked}
+use Rattle.pm_cli.proofs.checking.check_file.Goals as goal
+
+pub returns-in-Whole-clause-told : goal.returns-in-Whole-clause-told
+returns-in-Whole-clause-told g c =
+    whole_then (g.F.Files.told c.args.files.now) ModuleBytes c.args.file.now c.in_ok-input.input c.in-Whole.bytes c.deref.result.now (λ bytes. IfLoaded checked (module_from bytes)) c.check_bytes.result
+    c.in-Whole.is c.deref.ensures.value c.in_ok-input.ensures.told (all_answers _ c.check_bytes.result c.check_bytes.ensures.value)
+
+pub returns-in-Refused-clause-told : goal.returns-in-Refused-clause-told
+returns-in-Refused-clause-told g c =
+    refused_then (g.F.Files.told c.args.files.now) ModuleBytes c.args.file.now c.in_ok-input.input c.in-Refused.refusal (λ bytes. IfLoaded checked (module_from bytes))
+    c.in-Refused.is c.in_ok-input.ensures.told
