@@ -1,0 +1,4 @@
+pub mod Apart
+pub mod Groups
+pub mod Greatest
+pub mod Least

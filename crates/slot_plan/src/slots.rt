@@ -1,0 +1,122 @@
+//! The locals that are added to a function.
+
+ghost use Rattle.std.specs.Prelude.{◌≡◌, ◌+◌, ◌*◌, ◌<◌, ◌++◌, ℕ, length, Some, IfOk};
+ghost use Rattle.wasm_syntax.specs.declared.parts.Body.{Body as BodyOf};
+ghost use Rattle.wasm_syntax.specs.declared.parts.FuncType.{FuncType as TypeOf};
+ghost use Rattle.wasm_syntax.specs.Tree.{Tree};
+ghost use Rattle.wasm_syntax.specs.Module.{Program, IsProgram, defined, function_at, type_at};
+ghost use Rattle.wasm_validate.specs.Heights.{body_of};
+ghost use Rattle.slot_plan.specs.Plans.{IsDefined, IsPlan, own_types, number, Slot, Result, Kind, Offset};
+
+use crate::heights::greatest_height;
+use crate::locals::local_types;
+use causes::NoMemory;
+use operand_spill::slot;
+use std::alloc::Global;
+use std::marker::Model;
+use wasm_syntax::{Body, Items, ModuleParts, ValType};
+use wasm_validate::Validated;
+
+/// The types of a function's locals with its parameters, and how many heights have slots. Contracts see these two.
+#[derive(Drop)]
+pub struct SlotPlan {
+    locals: Items<ValType>,
+    slots: u32,
+}
+
+impl Model for SlotPlan {
+    ghost use Rattle.slot_plan.specs.Plans.{Planned, planned, Fits};
+
+    ghost Value = { Planned };
+
+    ghost view = { λ s. planned s.locals s.slots };
+
+    ghost invariant = { λ s. Fits (planned s.locals s.slots) };
+}
+
+/// The body of a function that the module defines.
+fn body_at(parts: &ModuleParts, func: u32) -> &Body
+    requires { IsDefined parts.now func }
+    ensures { body_of parts.now func ≡ Some result.now }
+{
+    &parts.bodies.as_slice()[func as usize - parts.imports.len()]
+}
+
+/// The types of the locals of a function with this body.
+fn own_types(
+    alloc: Global,
+    parts: &ModuleParts,
+    func: u32,
+    body: &Body,
+) -> Result<Items<ValType>, NoMemory>
+    ensures { IfOk result (λ types. types ≡ own_types (type_at parts.now func) body.now) }
+{
+    match parts.type_of(func as usize) {
+        Some(ftype) => local_types(alloc, ftype.params.as_slice(), body.groups.as_slice()),
+        None => Ok(Items::new(alloc)),
+    }
+}
+
+/// The plan of a function that the module defines.
+pub fn plan(alloc: Global, source: &Validated, func: u32) -> Result<SlotPlan, NoMemory>
+    requires { IsDefined source.now func }
+    ensures { (p : Program) (body : BodyOf) (tree : Tree) (ftype : TypeOf) → IsProgram p → p.module_ ≡ source.now → function_at p func ≡ Some (defined body tree ftype) → IfOk result (λ plan. IsPlan p func body tree ftype plan) }
+{
+    let parts = source.module().parts();
+    let body = body_at(parts, func);
+    let slots = greatest_height(source, func, body.ops.len() as u32);
+    let locals = own_types(alloc, parts, func, body)?;
+    Ok(SlotPlan { locals, slots })
+}
+
+impl SlotPlan {
+    /// The types of the function's own locals, the parameters first.
+    pub fn types(&self) -> &[ValType]
+        ensures { result.now ≡ self.now.locals }
+    {
+        self.locals.as_slice()
+    }
+
+    /// How many heights have slots: the greatest number of operands at once.
+    pub fn heights(&self) -> u32
+        ensures { result ≡ self.now.slots }
+    {
+        self.slots
+    }
+
+    /// The local that keeps an operand of a type at a height, which is the number of operands below it.
+    pub fn slot(&self, vtype: ValType, height: u32) -> u32
+        requires { height < self.now.slots }
+        ensures { result ≡ number self.now (Slot vtype height) }
+    {
+        self.locals.len() as u32 + slot(vtype, height)
+    }
+
+    /// The local through which results of a type go.
+    pub fn result(&self, vtype: ValType) -> u32
+        ensures { result ≡ number self.now (Result vtype) }
+    {
+        self.locals.len() as u32 + slot(vtype, self.slots)
+    }
+
+    /// The local for the kind of a trap.
+    pub fn kind(&self) -> u32
+        ensures { result ≡ number self.now Kind }
+    {
+        self.locals.len() as u32 + 2 * self.slots + 2
+    }
+
+    /// The local for the code offset of a trap.
+    pub fn offset(&self) -> u32
+        ensures { result ≡ number self.now Offset }
+    {
+        self.locals.len() as u32 + 2 * self.slots + 3
+    }
+
+    /// How many locals are added: a slot of each type for each height, two for results, one for a kind and one for an offset.
+    pub fn locals(&self) -> u32
+        ensures { result ≡ 2 * self.now.slots + 4 }
+    {
+        2 * self.slots + 4
+    }
+}
