@@ -1,0 +1,4 @@
+pub mod Copied
+pub mod Trees
+pub mod Whole
+pub mod Refused
