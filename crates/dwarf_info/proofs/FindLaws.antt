@@ -10,9 +10,9 @@ use Rattle.dwarf_info.specs.declared.entry.UnitAnswer.{UnitAnswer}
 use Rattle.dwarf_info.specs.declared.entry.UnitAnswer.TheVariants.{Tree, Unreadable}
 use Rattle.dwarf_info.specs.declared.places.EntryPlace.{EntryPlace}
 use Rattle.dwarf_info.specs.Units.{entries_in}
-use Rattle.dwarf_info.specs.EntryPlaces.{IsEntryAt, first_at, entry_of, entry_there}
+use Rattle.dwarf_info.specs.EntryPlaces.{IsEntryAt, first_at, entry_of, entry_there, place, place_in, place_among}
 use Rattle.dwarf_info.specs.inner.Settling.{meets, entry_by, answer_by, any_at}
-use Rattle.dwarf_info.specs.inner.Finding.{place, place_in, place_among, IsTied}
+use Rattle.dwarf_info.specs.inner.Finding.{IsTied}
 use Rattle.dwarf_info.proofs.SettleLaws.{any_append}
 
 -- ---- the first of several
@@ -203,3 +203,7 @@ pub first_here : (units now : List UnitAnswer) (places : ℕ → Option EntryPla
 first_here units now places q o same is at =
     let there : option_and_then (entry_there units) o ≡ first_at q units = ap (option_and_then (entry_there units)) is ∙ placed_first units places q at in
     subst (λ (us : List UnitAnswer). option_and_then (entry_there us) o ≡ first_at q us) same there
+
+pub place_here : (units now : List UnitAnswer) (places : ℕ → Option EntryPlace) (q : ℕ) (o : Option EntryPlace) → units ≡ now → o ≡ places q → places q ≡ place_among 0 units q
+    → o ≡ place_among 0 now q
+place_here units now places q o same is at = is ∙ at ∙ ap (λ (us : List UnitAnswer). place_among 0 us q) same

@@ -3,8 +3,8 @@
 ghost use Rattle.std.specs.Prelude.{◌≡◌, ◌==◌, ℕ, Some, None, IfOk, OnOk, if◌then◌else◌};
 ghost use Rattle.std.specs.Option.{option_or};
 ghost use Rattle.dwarf_info.specs.Units.{entries_in};
+ghost use Rattle.dwarf_info.specs.EntryPlaces.{place_in, place_among};
 ghost use Rattle.dwarf_info.specs.inner.Settling.{placed, meets};
-ghost use Rattle.dwarf_info.specs.inner.Finding.{place_in, place_among};
 
 use crate::entry::{Entry, UnitAnswer};
 use causes::NoMemory;

@@ -1,9 +1,8 @@
 //! The units of a section.
 
 ghost use Rattle.std.specs.Prelude.{◌≡◌, ℕ, IfSome, option_and_then};
-ghost use Rattle.dwarf_info.specs.EntryPlaces.{IsEntryAt, first_at, entry_there};
+ghost use Rattle.dwarf_info.specs.EntryPlaces.{IsEntryAt, first_at, entry_there, place_among};
 ghost use Rattle.dwarf_info.specs.inner.Settling.{placed};
-ghost use Rattle.dwarf_info.specs.inner.Finding.{place_among};
 
 use crate::entry::UnitAnswer;
 use crate::places::{EntryPlace, Places};
@@ -21,7 +20,7 @@ impl<'a> Model for Units<'a> {
     ghost use Rattle.std.specs.Prelude.{◌≡◌, ℕ, List};
     ghost use Rattle.dwarf_info.specs.declared.entry.UnitAnswer.{UnitAnswer};
     ghost use Rattle.dwarf_info.specs.inner.Settling.{placed};
-    ghost use Rattle.dwarf_info.specs.inner.Finding.{place_among};
+    ghost use Rattle.dwarf_info.specs.EntryPlaces.{place_among};
 
     ghost Value = { List UnitAnswer };
 
@@ -47,6 +46,7 @@ impl<'a> Units<'a> {
 
     /// Where the entry at an offset of the section stands, if there is one; of several the first. It takes logarithmic time.
     pub fn place_of(&self, at: u32) -> Option<EntryPlace>
+        ensures place { result ≡ place_among 0 self.now at }
         ensures found { IfSome result (IsEntryAt self.now at) }
         ensures first { option_and_then (entry_there self.now) result ≡ first_at at self.now }
     {
