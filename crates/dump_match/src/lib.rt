@@ -28,7 +28,10 @@ use whole::judge_whole;
 ///
 /// The first test that fails: of the instance, of the memory, and of the globals by their indices; then those of the innermost frame, of
 /// the next one and so on.
-pub fn matches<'a>(module_: &'a Validated, dump: &'a Dump<'a>) -> Result<Matched<'a>, Mismatch>
+pub fn matches<'m, 'd, 'b>(
+    module_: &'m Validated,
+    dump: &'d Dump<'b>,
+) -> Result<Matched<'m, 'd, 'b>, Mismatch>
     requires frames { length dump.now.frames < 2 ^ 32 }
     requires globals { length dump.now.globals < 2 ^ 32 }
     requires contained { IsContained dump.now }

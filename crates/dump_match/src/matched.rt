@@ -10,12 +10,12 @@ use wasm_validate::Validated;
 
 /// A module and a dump that can be one of it, which contracts see as the two.
 #[derive(Drop)]
-pub struct Matched<'a> {
-    module: &'a Validated,
-    dump: &'a Dump<'a>,
+pub struct Matched<'m, 'd, 'b> {
+    module: &'m Validated,
+    dump: &'d Dump<'b>,
 }
 
-impl<'a> Model for Matched<'a> {
+impl<'m, 'd, 'b> Model for Matched<'m, 'd, 'b> {
     ghost use Rattle.dump_match.specs.Judged.{Match, Kept};
 
     ghost Value = { Match };
@@ -25,9 +25,9 @@ impl<'a> Model for Matched<'a> {
     ghost invariant = { λ s. Kept s.«module».now s.dump.now };
 }
 
-impl<'a> Matched<'a> {
+impl<'m, 'd, 'b> Matched<'m, 'd, 'b> {
     /// The two, where they match.
-    pub(crate) fn new(module_: &'a Validated, dump: &'a Dump<'a>) -> Self
+    pub(crate) fn new(module_: &'m Validated, dump: &'d Dump<'b>) -> Self
         requires matches { Matches module_.now dump.now }
         requires frames { length dump.now.frames < 2 ^ 32 }
         requires globals { length dump.now.globals < 2 ^ 32 }
@@ -50,7 +50,7 @@ impl<'a> Matched<'a> {
     }
 
     /// The dump.
-    pub fn dump(&self) -> &Dump<'a>
+    pub fn dump(&self) -> &Dump<'b>
         ensures value { result.now ≡ self.now.dump }
         ensures matches { Matches self.now.module_ result.now }
         ensures frames { length result.now.frames < 2 ^ 32 }
