@@ -1,0 +1,3 @@
+pub mod JumpLaws
+pub mod NodeLaws
+pub mod PointLaws
