@@ -8,4 +8,8 @@ mod control_tests;
 #[cfg(test)]
 mod guard_tests;
 #[cfg(test)]
+mod plan_tests;
+#[cfg(test)]
 mod spill_tests;
+#[cfg(test)]
+mod walk_tests;

@@ -7,7 +7,7 @@ use Rattle.wasm_syntax.specs.declared.parts.LocalGroup.{LocalGroup}
 use Rattle.wasm_syntax.specs.Module.{declared_locals}
 
 -- one more of a type
-pub one_more : (t : ValType) (n : ℕ) → replicate n t ++ t ∷ [] ≡ replicate (suc n) t
+pub one_more : {A : Type 0} (t : A) (n : ℕ) → replicate n t ++ t ∷ [] ≡ replicate (suc n) t
 one_more t zero = refl
 one_more t (suc n) = ap (λ ts. t ∷ ts) (one_more t n)
 
@@ -20,7 +20,7 @@ one_group groups i d lt =
     ∙ ap (λ ts. declared_locals (take i groups) ++ ts) (append-nil (replicate (get_or groups i d).count (get_or groups i d).vtype))
 
 -- a local more of a group
-pub push_step : (xs ys : List ValType) (t : ValType) (n : ℕ) → ys ≡ xs ++ replicate n t → ys ++ t ∷ [] ≡ xs ++ replicate (n + 1) t
+pub push_step : {A : Type 0} (xs ys : List A) (t : A) (n : ℕ) → ys ≡ xs ++ replicate n t → ys ++ t ∷ [] ≡ xs ++ replicate (n + 1) t
 push_step xs ys t n e =
     let one : suc n ≡ n + 1 = omega arith in
     ap (λ l. l ++ t ∷ []) e ∙ append_assoc xs (replicate n t) (t ∷ []) ∙ ap (λ l. xs ++ l) (one_more t n) ∙ ap (λ m. xs ++ replicate m t) one

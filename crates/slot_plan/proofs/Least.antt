@@ -1,6 +1,6 @@
 -- A function has no more slots than operands at once, and no fewer.
 use Rattle.std.proofs.Common.{◌≡◌, ℕ, zero, suc, ◌+◌, ◌<◌, ◌≤◌, false, List, [], ◌∷◌, ◌++◌, ⊎_elim, slice_get, length, reverse, refl, sym, ap, ◌∙◌, subst, arith, option_to_list, length-append, append-nil, take, drop}
-use Rattle.std.specs.Prelude.{Some}
+use Rattle.std.specs.Prelude.{Option, Some}
 use Rattle.std.proofs.lemmas.List.{length-reverse, length-map}
 use Rattle.std.proofs.Math.Seq.{take-append_seam}
 use Rattle.wasm_syntax.specs.declared.blocks.BlockKind.TheVariants as block_kinds
@@ -23,11 +23,12 @@ use Rattle.wasm_syntax.specs.Valid.{Valid}
 use Rattle.wasm_validate.specs.Heights.{body_of, TypesAt}
 use Rattle.wasm_validate.proofs.HeightLaws.{at_of}
 use Rattle.wasm_validate.proofs.WholeLaws.{body_at}
-use Rattle.rewrite_bodies.specs.Slots.{Ctx, ctx_of, slots_of}
+use Rattle.rewrite_bodies.specs.Slots.{Place, Ctx, ctx_of, slots_of}
 use Rattle.rewrite_modules.proofs.Heights.{peak_low}
 use Rattle.rewrite_modules.proofs.Links.{is_defined, type_is_of, IsDefined}
 use Rattle.rewrite_modules.proofs.Multiple.{slots_high}
 use Rattle.rewrite_modules.proofs.WrittenOut.{writes_at}
+use Rattle.slot_plan.specs.Before.{before, kept_at}
 use Rattle.slot_plan.specs.Plans.{own_types, planned, IsPlan}
 use Rattle.slot_plan.specs.inner.Greatest.{IsGreatestUpTo}
 
@@ -108,24 +109,33 @@ module _ (p : Program) (write_ : IsProgram p) (typed_ : Typed p) (f : ℕ) (b : 
           let before : TypesBefore m type b op types = at_of m d.number op type b types ty d.body_is (subst (λ k. TypesAt m k op types) d.number_is h) in
           omega (arith, slots_high p write_ typed_ f b tree type at op types before, e)
 
-pub plan_is : (p : Program) (f : ℕ) (b own : Body) (tree : Tree) (type : FuncType) (most : ℕ) → IsProgram p → length p.module_.bodies ≡ length p.module_.functions → Valid p.module_ →
-    function_at p f ≡ Some (defined b tree type) → body_of p.module_ f ≡ Some own → IsGreatestUpTo p.module_ f (length own.ops) most → IsPlan p f b tree type (planned (own_types (type_at p.module_ f) own) most)
-plan_is p f b own tree type most w as_many valid at here g =
+pub plan_is : (p : Program) (f : ℕ) (b own : Body) (tree : Tree) (type : FuncType) (most : ℕ) (kept : List (Option (List Place))) → IsProgram p → length p.module_.bodies ≡ length p.module_.functions → Valid p.module_ →
+    function_at p f ≡ Some (defined b tree type) → body_of p.module_ f ≡ Some own → IsGreatestUpTo p.module_ f (length own.ops) most →
+    ((op : ℕ) → kept_at kept op ≡ before (ctx_of p f b type 0) tree.nodes op) → IsPlan p f b tree type (planned (own_types (type_at p.module_ f) own) most kept)
+plan_is p f b own tree type most kept w as_many valid at here g known =
     let d = is_defined p f b tree type at in
     let there : body_of p.module_ f ≡ Some b = subst (λ k. body_of p.module_ k ≡ Some b) (sym d.number_is) (body_at p.module_ d.number b d.body_is) in
     let same : own ≡ b = some_is (sym here ∙ there) in
     record {
       locals = ap (λ q. own_types q own) (type_is_of p f (defined b tree type) at) ∙ ap (own_types (Some type)) same;
       slots = slots_are p w (typed p w as_many valid) f b tree type at most (subst (λ (x : Body). IsGreatestUpTo p.module_ f (length x.ops) most) same g);
+      before = known;
     }
 
 -- where the parts are those of the module
-pub plan_from : (m parts : Module) (p : Program) (f : ℕ) (b own : Body) (tree : Tree) (type : FuncType) (most : ℕ) (locals : List ValType) → p.module_ ≡ m → parts ≡ m → IsModule parts → Valid m → IsProgram p →
-    function_at p f ≡ Some (defined b tree type) → body_of parts f ≡ Some own → IsGreatestUpTo m f (length own.ops) most → locals ≡ own_types (type_at parts f) own → IsPlan p f b tree type (planned locals most)
-plan_from m parts p f b own tree type most locals same parts_are is valid w at here g types =
+pub plan_from : (m parts : Module) (p : Program) (f : ℕ) (b own : Body) (tree : Tree) (type : FuncType) (most : ℕ) (locals : List ValType) (kept : List (Option (List Place))) → p.module_ ≡ m → parts ≡ m →
+    IsModule parts → Valid m → IsProgram p → function_at p f ≡ Some (defined b tree type) → body_of parts f ≡ Some own → IsGreatestUpTo m f (length own.ops) most → locals ≡ own_types (type_at parts f) own →
+    ((C : Ctx) (targets : List ℕ) (t : Tree) → C.locals ≡ locals → C.source ≡ parts → Writes targets own.ops t → (op : ℕ) → kept_at kept op ≡ before C t.nodes op) → IsPlan p f b tree type (planned locals most kept)
+plan_from m parts p f b own tree type most locals kept same parts_are is valid w at here g types places =
     let e : parts ≡ p.module_ = parts_are ∙ sym same in
+    let d = is_defined p f b tree type at in
     let as_many : length p.module_.bodies ≡ length p.module_.functions = subst (λ (x : Module). length x.bodies ≡ length x.functions) e is.as_many in
     let there : body_of p.module_ f ≡ Some own = subst (λ x. body_of x f ≡ Some own) e here in
+    let is_b : own ≡ b = some_is (sym there ∙ subst (λ k. body_of p.module_ k ≡ Some b) (sym d.number_is) (body_at p.module_ d.number b d.body_is)) in
     let most_here : IsGreatestUpTo p.module_ f (length own.ops) most = subst (λ x. IsGreatestUpTo x f (length own.ops) most) (sym same) g in
     let locals_are : locals ≡ own_types (type_at p.module_ f) own = types ∙ ap (λ x. own_types (type_at x f) own) e in
-    subst (λ ls. IsPlan p f b tree type (planned ls most)) (sym locals_are) (plan_is p f b own tree type most w as_many (subst Valid (sym same) valid) at there most_here)
+    let typed_locals : type.params ++ declared_locals b.groups ≡ locals = sym (locals_are ∙ ap (λ q. own_types q own) (type_is_of p f (defined b tree type) at) ∙ ap (own_types (Some type)) is_b) in
+    let writes_b : Writes b.targets b.ops tree = writes_at p.module_.bodies p.trees d.number b tree w d.body_is d.tree_is in
+    let writes_own : Writes b.targets own.ops tree = subst (λ (x : Body). Writes b.targets x.ops tree) (sym is_b) writes_b in
+    let known : (op : ℕ) → kept_at kept op ≡ before (ctx_of p f b type 0) tree.nodes op = places (ctx_of p f b type 0) b.targets tree typed_locals (sym e) writes_own in
+    subst (λ ls. IsPlan p f b tree type (planned ls most kept)) (sym locals_are) (plan_is p f b own tree type most kept w as_many (subst Valid (sym same) valid) at there most_here known)

@@ -2,3 +2,4 @@ pub mod Apart
 pub mod Groups
 pub mod Greatest
 pub mod Least
+pub mod Knowing

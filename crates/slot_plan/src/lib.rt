@@ -4,6 +4,7 @@
 mod heights;
 pub mod laws;
 mod locals;
+mod places;
 mod slots;
 
 pub use causes::NoMemory;

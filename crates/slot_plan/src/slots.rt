@@ -1,27 +1,31 @@
 //! The locals that are added to a function.
 
-ghost use Rattle.std.specs.Prelude.{◌≡◌, ◌+◌, ◌*◌, ◌<◌, ◌++◌, ℕ, length, Some, IfOk};
+ghost use Rattle.std.specs.Prelude.{◌≡◌, ◌+◌, ◌*◌, ◌<◌, ◌++◌, ℕ, length, slice_get, Some, IfOk};
 ghost use Rattle.wasm_syntax.specs.declared.parts.Body.{Body as BodyOf};
 ghost use Rattle.wasm_syntax.specs.declared.parts.FuncType.{FuncType as TypeOf};
 ghost use Rattle.wasm_syntax.specs.Tree.{Tree};
 ghost use Rattle.wasm_syntax.specs.Module.{Program, IsProgram, defined, function_at, type_at};
 ghost use Rattle.wasm_validate.specs.Heights.{body_of};
+ghost use Rattle.slot_plan.specs.Before.{constant_of, kept_at, known_among};
+ghost use Rattle.operand_spill.specs.Places.{place};
 ghost use Rattle.slot_plan.specs.Plans.{IsDefined, IsPlan, own_types, number, Slot, Result, Kind, Offset};
 
 use crate::heights::greatest_height;
 use crate::locals::local_types;
+use crate::places::{PlacesBefore, places_before};
 use causes::NoMemory;
-use operand_spill::slot;
+use operand_spill::{OperandPlace, OperandPlaces, slot};
 use std::alloc::Global;
 use std::marker::Model;
-use wasm_syntax::{Body, Items, ModuleParts, ValType};
+use wasm_syntax::{Body, Items, ModuleParts, ValType, Value};
 use wasm_validate::Validated;
 
-/// The types of a function's locals with its parameters, and how many heights have slots. Contracts see these two.
+/// The types of a function's locals with its parameters, how many heights have slots, and where the operands are before each instruction.
 #[derive(Drop)]
 pub struct SlotPlan {
     locals: Items<ValType>,
     slots: u32,
+    before: PlacesBefore,
 }
 
 impl Model for SlotPlan {
@@ -29,9 +33,9 @@ impl Model for SlotPlan {
 
     ghost Value = { Planned };
 
-    ghost view = { λ s. planned s.locals s.slots };
+    ghost view = { λ s. planned s.locals s.slots s.before };
 
-    ghost invariant = { λ s. Fits (planned s.locals s.slots) };
+    ghost invariant = { λ s. Fits (planned s.locals s.slots s.before) };
 }
 
 /// The body of a function that the module defines.
@@ -66,7 +70,38 @@ pub fn plan(alloc: Global, source: &Validated, func: u32) -> Result<SlotPlan, No
     let body = body_at(parts, func);
     let slots = greatest_height(source, func, body.ops.len() as u32);
     let locals = own_types(alloc, parts, func, body)?;
-    Ok(SlotPlan { locals, slots })
+    let before = places_before(alloc, locals.as_slice(), parts, body.ops.as_slice())?;
+    Ok(SlotPlan {
+        locals,
+        slots,
+        before,
+    })
+}
+
+/// The value of an operand that is known.
+fn known_value(operand: OperandPlace) -> Option<Value>
+    ensures { result ≡ constant_of (Some (place operand)) }
+{
+    match operand {
+        OperandPlace::Known(value) => Some(value),
+        OperandPlace::Spilled(_) => None,
+    }
+}
+
+fn place_at(operands: &[OperandPlace], index: usize) -> Option<OperandPlace>
+    ensures { result ≡ slice_get operands.now index }
+{
+    operands.get(index).copied()
+}
+
+/// The constant that is known of an operand, by the number of operands below it.
+fn constant_at(places: &OperandPlaces, from_bottom: usize) -> Option<Value>
+    ensures { result ≡ known_among (Some places.now) from_bottom }
+{
+    match place_at(places.as_slice(), from_bottom) {
+        Some(operand) => known_value(operand),
+        None => None,
+    }
 }
 
 impl SlotPlan {
@@ -111,6 +146,18 @@ impl SlotPlan {
         ensures { result ≡ number self.now Offset }
     {
         self.locals.len() as u32 + 2 * self.slots + 3
+    }
+
+    /// The value of an operand before a live instruction, by the number of operands below it, where a constant instruction pushed it and it was
+    /// not taken since. Dead code has none.
+    pub fn known(&self, op: u32, from_bottom: u32) -> Option<Value>
+        ensures { result ≡ known_among (kept_at self.now.before op) from_bottom }
+    {
+        match self.before.get(op as usize) {
+            Some(Some(places)) => constant_at(places, from_bottom as usize),
+            Some(None) => None,
+            None => None,
+        }
     }
 
     /// How many locals are added: a slot of each type for each height, two for results, one for a kind and one for an offset.

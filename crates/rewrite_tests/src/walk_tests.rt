@@ -1,0 +1,119 @@
+//! Places of operands and open labels by hand, through blocks, an `else` and dead code.
+
+use body_walk::{Label, Walk, end_of_list, takes};
+use causes::NoMemory;
+use operand_spill::{OperandPlace, OperandPlaces};
+use std::alloc::Global;
+use std::test::Fail;
+use wasm_syntax::{Basic, Binary, Instr, Jump, Load, Op, Store, ValType, Value};
+
+const ONE: OperandPlace = OperandPlace::Known(Value::I32(1));
+
+const FIVE: OperandPlace = OperandPlace::Known(Value::I64(5));
+
+const NARROW: OperandPlace = OperandPlace::Spilled(ValType::I32);
+
+const WIDE: OperandPlace = OperandPlace::Spilled(ValType::I64);
+
+fn are(places: &OperandPlaces, expected: &[OperandPlace]) -> bool {
+    places.as_slice() == expected
+}
+
+// An `if` over a constant and an i64, both of which its first arm takes.
+fn first_arm(walk: &mut Walk) -> Result<bool, NoMemory> {
+    walk.push_constant(Value::I32(1))?;
+    walk.perform(0, Some(ValType::I64))?;
+    walk.push_constant(Value::I64(5))?;
+    let before = are(walk.places(), &[ONE, WIDE, FIVE]);
+    let condition = walk.pop() == Some(FIVE);
+    walk.open(Label::Block(Some(ValType::I32)))?;
+    let inside = are(walk.places(), &[ONE, WIDE]) && walk.below() == 2;
+    walk.perform(2, None)?;
+    Ok(before && condition && inside && are(walk.places(), &[]))
+}
+
+fn both_arms(walk: &mut Walk) -> Result<bool, NoMemory> {
+    let first = first_arm(walk)?;
+    walk.alternate()?;
+    let second = are(walk.places(), &[ONE, WIDE]);
+    walk.perform(1, Some(ValType::I32))?;
+    let taken = are(walk.places(), &[ONE, NARROW]);
+    walk.close()?;
+    Ok(first && second && taken && are(walk.places(), &[ONE, WIDE, NARROW]))
+}
+
+#[test]
+fn places_come_back_at_else_and_end(rt: HostRuntime) -> Result<(), Fail> {
+    let mut walk = Walk::new(rt.alloc(), Some(ValType::I32));
+    assert!(rt; both_arms(&mut walk)?);
+    Ok(())
+}
+
+fn labels_are(walk: &Walk, expected: &[Option<Label>; 3]) -> bool {
+    walk.label(0) == expected[0] && walk.label(1) == expected[1] && walk.label(2) == expected[2]
+}
+
+fn labels(alloc: Global) -> Result<bool, NoMemory> {
+    let body = Label::Body(Some(ValType::I32));
+    let inner = Label::Loop(Some(ValType::I64));
+    let mut walk = Walk::new(alloc, Some(ValType::I32));
+    let alone = walk.innermost() == body && walk.depth() == 1;
+    walk.open(inner)?;
+    let two = labels_are(&walk, &[Some(inner), Some(body), None]);
+    let carried = inner.carries().is_none() && inner.end_gives() == Some(ValType::I64);
+    walk.close()?;
+    let left = labels_are(&walk, &[Some(body), None, None]);
+    Ok(alone && two && carried && left && are(walk.places(), &[WIDE]))
+}
+
+#[test]
+fn labels_count_from_the_innermost(rt: HostRuntime) -> Result<(), Fail> {
+    assert!(rt; labels(rt.alloc())?);
+    Ok(())
+}
+
+const fn op(code: Instr) -> Op {
+    Op {
+        at: 0,
+        len: 1,
+        code,
+    }
+}
+
+// An `if` with `else` in a loop in a block in dead code, and the end of the body.
+const DEAD: [Instr; 9] = [
+    Instr::Jump(Jump::Return),
+    Instr::Block(None),
+    Instr::Loop(None),
+    Instr::If(None),
+    Instr::Else,
+    Instr::End,
+    Instr::End,
+    Instr::End,
+    Instr::End,
+];
+
+#[test]
+fn dead_code_ends_with_its_list(rt: HostRuntime) -> Result<(), Fail> {
+    let ops = DEAD.map(op);
+    let ends = [(0, 8), (2, 7), (3, 6), (4, 4), (5, 5)];
+    assert!(rt;
+        ends.iter()
+            .all(|(from, end)| end_of_list(&ops, *from) == *end)
+    );
+    Ok(())
+}
+
+#[test]
+fn instructions_take_their_operands(rt: HostRuntime) -> Result<(), Fail> {
+    let counts = [
+        (Basic::Const(Value::I32(0)), 0),
+        (Basic::LocalTee(0), 1),
+        (Basic::Load(Load::Full(ValType::I32), 0, 0), 1),
+        (Basic::Store(Store::Full(ValType::I32), 0, 0), 2),
+        (Basic::Binary(ValType::I32, Binary::Add), 2),
+        (Basic::Select, 3),
+    ];
+    assert!(rt; counts.iter().all(|(code, count)| takes(*code) == *count));
+    Ok(())
+}
