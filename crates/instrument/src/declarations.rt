@@ -64,7 +64,7 @@ pub(crate) fn new_imports(alloc: Global, parts: &ModuleParts) -> Result<Imports,
     Ok(imports)
 }
 
-/// An instruction of one byte or more, by its number.
+/// An instruction at an offset, without a length.
 fn placed(at: u32, code: Instr) -> Op
     ensures { result ≡ record { at = at; len = 0; code = code } }
 {
