@@ -4,4 +4,12 @@
 #[cfg(test)]
 mod expression_tests;
 #[cfg(test)]
+mod line5_tests;
+#[cfg(test)]
+mod list5_tests;
+#[cfg(test)]
+mod seen;
+#[cfg(test)]
+mod unit5_tests;
+#[cfg(test)]
 mod unit_tests;

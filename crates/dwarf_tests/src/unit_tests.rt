@@ -1,7 +1,8 @@
 //! The units of a module as a C compiler writes them, the same cut short, and each form once. The expected values are from
 //! the standard's tables and another reader.
 
-use dwarf_info::{AttrValue, Entry, Sections, UnitAnswer, Units, read_units};
+use crate::seen::{has, is_entry};
+use dwarf_info::{AttrValue, EntryPlace, Sections, UnitAnswer, Units, read_units};
 use std::alloc::Global;
 use std::process::Abort;
 use std::test::Fail;
@@ -68,13 +69,6 @@ const ENTRIES: [(u32, u32, u64, usize); 13] = [
     (125, 2, 0x21, 1),
 ];
 
-fn is_entry(entry: &Entry, row: (u32, u32, u64, usize)) -> bool {
-    entry.at == row.0
-        && entry.depth == row.1
-        && entry.tag == row.2
-        && entry.attributes.len() == row.3
-}
-
 #[test]
 fn a_unit_is_read(rt: HostRuntime) -> Result<(), Fail> {
     let units = units_of(&rt, rt.alloc(), &INFO, &ABBREV, &[])?;
@@ -105,6 +99,41 @@ fn a_unit_is_read(rt: HostRuntime) -> Result<(), Fail> {
         return Err("the name is a text".into());
     };
     assert!(rt; matches!(text.as_slice(), [0x66]));
+    Ok(())
+}
+
+// An offset of the section, and the number of the entry there.
+const PLACES: [(u32, Option<usize>); 6] = [
+    (11, Some(0)),
+    (79, Some(5)),
+    (125, Some(12)),
+    (0, None),
+    (80, None),
+    (128, None),
+];
+
+#[test]
+fn entries_are_found_by_their_offsets(rt: HostRuntime) -> Result<(), Fail> {
+    let units = units_of(&rt, rt.alloc(), &INFO, &ABBREV, &[])?;
+    for (at, entry) in PLACES {
+        assert!(rt; units.place_of(at) == entry.map(|entry| EntryPlace { unit: 0, entry }));
+    }
+    Ok(())
+}
+
+// Two units, each with one entry, at 11 and at 26; the first is unreadable, as its padding is not zero.
+const TWO: [u8; 29] = [
+    0x0B, 0x00, 0x00, 0x00, 0x04, 0x00, 0x00, 0x00, 0x00, 0x00, 0x04, 0x01, 0x61, 0x00, 0x01, 0x0A,
+    0x00, 0x00, 0x00, 0x04, 0x00, 0x00, 0x00, 0x00, 0x00, 0x04, 0x01, 0x62, 0x00,
+];
+
+const NAMED: [u8; 8] = [0x01, 0x11, 0x00, 0x03, 0x08, 0x00, 0x00, 0x00];
+
+#[test]
+fn an_unreadable_unit_has_no_entries(rt: HostRuntime) -> Result<(), Fail> {
+    let units = units_of(&rt, rt.alloc(), &TWO, &NAMED, &[])?;
+    assert!(rt; units.place_of(11).is_none());
+    assert!(rt; units.place_of(26) == Some(EntryPlace { unit: 1, entry: 0 }));
     Ok(())
 }
 
@@ -152,28 +181,6 @@ const VALUES: [u8; 92] = [
 // The text "xyz", whose end "z" is a text too.
 const TEXTS: [u8; 4] = [0x78, 0x79, 0x7A, 0x00];
 
-// A number that tells classes and values apart.
-fn seen(value: &AttrValue) -> (u32, u64) {
-    match value {
-        AttrValue::Address(n) => (1, u64::from(*n)),
-        AttrValue::Constant(n) => (2, *n),
-        AttrValue::Signed(n) => (3, u64::from(*n == -2)),
-        AttrValue::Block(bytes) => (4, first(bytes.as_slice())),
-        AttrValue::Text(bytes) => (5, first(bytes.as_slice())),
-        AttrValue::Flag(flag) => (6, u64::from(*flag)),
-        AttrValue::Reference(at) => (7, u64::from(*at)),
-        AttrValue::Offset(at) => (8, u64::from(*at)),
-        AttrValue::Other => (9, 0),
-    }
-}
-
-fn first(bytes: &[u8]) -> u64 {
-    match bytes.first() {
-        Some(byte) => u64::from(*byte),
-        None => 0,
-    }
-}
-
 const SEEN: [(u32, u64); 25] = [
     (1, 0x1234_5678),
     (4, 0xAA),
@@ -186,7 +193,7 @@ const SEEN: [(u32, u64); 25] = [
     (4, 0xDD),
     (2, 0xFF),
     (6, 1),
-    (3, 0),
+    (3, 0xFFFF_FFFF_FFFF_FFFF),
     (5, 0x7A),
     (2, 0x80),
     (7, 11),
@@ -195,7 +202,7 @@ const SEEN: [(u32, u64); 25] = [
     (7, 11),
     (7, 11),
     (9, 0),
-    (3, 1),
+    (3, 0xFFFF_FFFF_FFFF_FFFE),
     (8, 0x0102_0304),
     (4, 0xEE),
     (6, 1),
@@ -212,11 +219,6 @@ fn each_form_is_read(rt: HostRuntime) -> Result<(), Fail> {
         return Err("it is read".into());
     };
     let root = unit.entries.get(0).ok_or("the root is there")?;
-    let mut rows = SEEN.iter();
-    for attribute in root.attributes.as_slice() {
-        let row = rows.next().ok_or("there are as many rows")?;
-        assert!(rt; seen(&attribute.value) == *row);
-    }
-    assert!(rt; root.attributes.len() == SEEN.len());
+    assert!(rt; has(root, &SEEN));
     Ok(())
 }
