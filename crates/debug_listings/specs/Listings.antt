@@ -1,5 +1,5 @@
 -- Listings of recorded values.
-use Rattle.std.specs.Prelude.{ℕ, zero, suc, ◌+◌, List, [], ◌∷◌, ◌++◌, replicate, codes}
+use Rattle.std.specs.Prelude.{ℕ, List, [], ◌∷◌, ◌++◌, replicate, codes}
 use Rattle.std.specs.List.{flat_map, enumerate_from}
 use Rattle.std.specs.Fmt.{decimal}
 use Rattle.wasm_syntax.specs.declared.value.Value.TheVariants as values
