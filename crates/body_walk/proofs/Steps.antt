@@ -1,20 +1,19 @@
 -- The steps of a walk: from a point before an instruction to the point behind it, where the piece of the instruction was written.
-use Rattle.std.proofs.Common.{◌≡◌, ℕ, zero, suc, ◌+◌, ◌<◌, ◌≤◌, Bool, true, false, nat_lt, List, [], ◌∷◌, ◌++◌, length, drop, slice_get, Option, Some, None, refl, sym, ap, subst, ◌∙◌, arith, length-drop}
+use Rattle.std.proofs.Common.{◌≡◌, ℕ, suc, ◌<◌, ◌≤◌, Bool, true, false, nat_lt, List, [], ◌∷◌, ◌++◌, length, drop, slice_get, Option, Some, None, refl, sym, ap, subst, ◌∙◌, arith, length-drop}
 use Rattle.wasm_syntax.specs.declared.value.ValType.{ValType}
 use Rattle.wasm_syntax.specs.declared.instruction.Basic.{Basic}
 use Rattle.wasm_syntax.specs.declared.instruction.Basic.TheVariants.{Nop, Drop, Select, LocalGet, LocalSet, LocalTee, GlobalGet, GlobalSet, Load, Store, MemorySize, MemoryGrow, MemoryCopy, MemoryFill, Const, Eqz, Unary, Compare, Binary, Convert, Extend32, Extend64}
 use Rattle.wasm_syntax.specs.declared.parts.FuncType.{FuncType}
-use Rattle.wasm_syntax.specs.Tree.{Jump, Br, BrIf, BrTable, Return, Unreachable, Call, CallIndirect, Nodes, stop, basic, jump, block, loop, choose, Item, Plain, Goes, Opens as BlockOpens, OpensLoop, OpensIf, Else, End, Placed, placed, else_out, write, Tree, WritesOut}
+use Rattle.wasm_syntax.specs.Tree.{Jump, BrIf, Call, CallIndirect, Nodes, stop, basic, jump, block, loop, choose, Item, Plain, Goes, Opens as BlockOpens, OpensLoop, OpensIf, Else, End, Placed, placed, else_out, write, Tree, WritesOut}
 use Rattle.wasm_syntax.specs.Machine.{result_of}
 use Rattle.wasm_syntax.specs.Module.{type_at}
-use Rattle.rewrite_bodies.specs.Slots.{Place, Ctx, less, grown, after_plain}
+use Rattle.rewrite_bodies.specs.Slots.{Place, Ctx, less, grown}
 use Rattle.rewrite_bodies.specs.Numbering.{import_count, mapped}
 use Rattle.rewrite_bodies.specs.Pieces.{call, fetch, load, to_result, from_result}
-use Rattle.rewrite_bodies.specs.Rewrite.{Info, in_block, in_loop, in_body, end_gives, ending, plain, instr, control, branch_if, call_code, indirect_code, after_direct, rewrite}
+use Rattle.rewrite_bodies.specs.Rewrite.{Info, in_block, in_body, end_gives, ending, instr, control, branch_if, call_code, indirect_code, after_direct, rewrite}
 use Rattle.rewrite_bodies.specs.Agreement.{Room, Room_instr, Room_jump, Room_call}
 use Rattle.rewrite_bodies.proofs.Sim.{room_height}
 use Rattle.rewrite_code.specs.Writing.{Written, Behind, ends, alternates, goes, Emits, EmitsLast, Opens, Alternates}
-use Rattle.body_walk.specs.declared.labels.Label.{Label}
 use Rattle.body_walk.specs.declared.labels.Label.TheVariants as kept
 use Rattle.body_walk.specs.declared.labels.OpenBlock.{OpenBlock}
 use Rattle.body_walk.specs.Labels.{info}

@@ -1,5 +1,5 @@
 -- What a walk over a body keeps, and what becomes of it.
-use Rattle.std.specs.Prelude.{ℕ, List, [], ◌∷◌, Option}
+use Rattle.std.specs.Prelude.{List, [], ◌∷◌, Option}
 use Rattle.wasm_syntax.specs.declared.value.ValType.{ValType}
 use Rattle.rewrite_bodies.specs.Slots.{Place, grown}
 use Rattle.rewrite_bodies.specs.Rewrite.{Info, in_body, end_gives}

@@ -1,6 +1,6 @@
 -- The greatest height of a function's instructions, one after the other.
-use Rattle.std.proofs.Common.{◌≡◌, ℕ, ◌+◌, ◌-◌, ◌*◌, ◌^◌, ◌<◌, ◌≤◌, List, [], length, get_or, map, inl, inr, ⊎_elim, refl, sym, ap, subst, ◌∙◌, arith, length-append}
-use Rattle.std.specs.Prelude.{◌⊎◌, Option, Some, None, slice_get, sum}
+use Rattle.std.proofs.Common.{◌≡◌, ℕ, ◌+◌, ◌-◌, ◌^◌, ◌<◌, ◌≤◌, List, length, get_or, inl, inr, ⊎_elim, refl, sym, ap, subst, ◌∙◌, arith, length-append}
+use Rattle.std.specs.Prelude.{◌⊎◌, Option, Some, None, slice_get}
 use Rattle.std.proofs.lemmas.Option.{get_or_from_slice_get}
 use Rattle.wasm_syntax.specs.declared.value.ValType.{ValType}
 use Rattle.wasm_syntax.specs.declared.parts.FuncType.{FuncType}
@@ -9,7 +9,7 @@ use Rattle.wasm_syntax.specs.declared.module.ModuleParts.{ModuleParts as Module}
 use Rattle.wasm_syntax.specs.Module.{type_at, declared_locals}
 use Rattle.wasm_syntax.specs.Sizes.{WithinLimits, ShortBody, local_count}
 use Rattle.wasm_syntax.specs.Valid.{defined_index}
-use Rattle.wasm_laws.proofs.Lists.{at_of, some_is}
+use Rattle.wasm_laws.proofs.Lists.{at_of}
 use Rattle.validate_body.proofs.Options.{then_inv}
 use Rattle.wasm_validate.specs.Heights.{body_of, TypesAt, HasOp, HeightIs, StandsIn, AllLow}
 use Rattle.wasm_validate.proofs.Order.{index_back}

@@ -18,7 +18,7 @@ use Rattle.wasm_syntax.specs.Tree.{Jump, Call, CallIndirect, Nodes, stop, basic,
 use Rattle.rewrite_bodies.specs.Slots.{Place, Ctx, less, grown}
 use Rattle.body_walk.specs.declared.labels.Label.TheVariants as kept
 use Rattle.body_walk.specs.declared.labels.OpenBlock.{OpenBlock}
-use Rattle.body_walk.specs.Walking.{Walking, walking, with_places, opened, opening, behind_block, at_start, alternating_in, alternating, closing_in, closing}
+use Rattle.body_walk.specs.Walking.{Walking, walking, with_places, opening, behind_block, at_start, alternating_in, alternating, closing_in, closing}
 use Rattle.body_walk.specs.Standing.{Due, before_end, before_else, flat, after_instr, IsLast}
 use Rattle.body_walk.proofs.Shapes.{Begins, Shape, shape, begins}
 use Rattle.slot_plan.specs.Before.{dead, live, after_call, after_jump, before, constant_of, known_among, kept_at}

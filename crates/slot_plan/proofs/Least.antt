@@ -1,5 +1,5 @@
 -- A function has no more slots than operands at once, and no fewer.
-use Rattle.std.proofs.Common.{◌≡◌, ℕ, zero, suc, ◌+◌, ◌<◌, ◌≤◌, false, List, [], ◌∷◌, ◌++◌, ⊎_elim, slice_get, length, reverse, refl, sym, ap, ◌∙◌, subst, arith, option_to_list, length-append, append-nil, take, drop}
+use Rattle.std.proofs.Common.{◌≡◌, ℕ, ◌+◌, ◌<◌, ◌≤◌, false, List, [], ◌∷◌, ◌++◌, ⊎_elim, slice_get, length, reverse, refl, sym, ap, ◌∙◌, subst, arith, option_to_list, length-append, append-nil, take}
 use Rattle.std.specs.Prelude.{Option, Some}
 use Rattle.std.proofs.lemmas.List.{length-reverse, length-map}
 use Rattle.std.proofs.Math.Seq.{take-append_seam}
@@ -12,7 +12,7 @@ use Rattle.wasm_syntax.specs.declared.module.ModuleParts.{ModuleParts as Module}
 use Rattle.wasm_syntax.specs.Tree.{Tree, End, Placed, placed, code_of, item_of, Writes}
 use Rattle.wasm_syntax.specs.Module.{Program, IsModule, IsProgram, defined, function_at, type_at, declared_locals}
 use Rattle.wasm_syntax.specs.Machine.{result_of}
-use Rattle.wasm_syntax.specs.Typing.{Context, Types, IsBody, body_context}
+use Rattle.wasm_syntax.specs.Typing.{Types, IsBody, body_context}
 use Rattle.wasm_syntax.specs.FlatTyping.{OpenBlock, opened, inside, FlatTypes, body_block, dead_behind, AllLive, all_types, TypesBefore}
 use Rattle.wasm_laws.proofs.FlatBodies.{inside_body, body_steps}
 use Rattle.wasm_laws.proofs.FlatOne.{one_before}

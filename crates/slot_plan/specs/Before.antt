@@ -1,8 +1,7 @@
 -- Where the operands are before each instruction of a body, by its index in the flat code; `else` and `end` count. None stands for dead code,
 -- which is what follows an unconditional transfer in its list, up to the end of the list and with it.
-use Rattle.std.specs.Prelude.{ℕ, zero, suc, List, [], ◌∷◌, length, reverse, slice_get, unwrap_or, Option, Some, None}
+use Rattle.std.specs.Prelude.{ℕ, zero, suc, List, [], length, reverse, slice_get, unwrap_or, Option, Some, None}
 use Rattle.wasm_syntax.specs.declared.value.Value.{Value}
-use Rattle.wasm_syntax.specs.declared.instruction.Basic.{Basic}
 use Rattle.wasm_syntax.specs.declared.parts.FuncType.{FuncType}
 use Rattle.wasm_syntax.specs.Tree.{Jump, Unreachable, Br, BrIf, BrTable, Return, Call, CallIndirect, Nodes, stop, basic, jump, block, loop, choose}
 use Rattle.wasm_syntax.specs.Machine.{result_of}

@@ -1,4 +1,4 @@
-use Rattle.std.proofs.Common.{◌≡◌, ℕ, zero, ◌+◌, ◌-◌, ◌≤◌, List, length, drop}
+use Rattle.std.proofs.Common.{◌≡◌, ℕ, zero, ◌-◌, ◌≤◌, List, length, drop}
 use Rattle.wasm_syntax.specs.Tree.{code_of}
 use Rattle.body_walk.specs.Standing.{skip}
 use Rattle.body_walk.proofs.skip.end_of_list.Given as goal

@@ -1,4 +1,4 @@
-use Rattle.std.proofs.Common.{◌≡◌, suc, ◌+◌, ◌++◌, [], ◌∷◌, Some, sym, ap, subst, ◌∙◌, arith}
+use Rattle.std.proofs.Common.{◌≡◌, suc, ◌+◌, ◌++◌, [], ◌∷◌, Some, ap, subst, ◌∙◌, arith}
 use Rattle.wasm_syntax.specs.Tree.{code_of}
 use Rattle.slot_plan.specs.inner.Knowing.{Ended, Flowed, Kept, Proceeds}
 use Rattle.slot_plan.proofs.Knowing.{knows_here, advance_next, starts_at}
