@@ -13,3 +13,5 @@ mod plan_tests;
 mod spill_tests;
 #[cfg(test)]
 mod walk_tests;
+#[cfg(test)]
+mod weight_tests;
