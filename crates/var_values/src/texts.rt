@@ -1,0 +1,162 @@
+//! Texts of scalars (DWARF 4 sections 5.1, 5.6 and 7.8).
+
+ghost use Rattle.std.specs.Prelude.{◌≡◌, ◌<◌, ◌≤◌, ◌^◌, ◌*◌, ◌∷◌, [], ◌++◌, pos, filter, find, OnOk, option_copied};
+ghost use Rattle.dwarf_entries.specs.Standing.{is_child};
+ghost use Rattle.dwarf_entries.specs.Tags.{tag_enumerator};
+ghost use Rattle.var_values.specs.Texts as texts;
+
+use dwarf_entries::names::CONST_VALUE;
+use dwarf_entries::tags::ENUMERATOR;
+use dwarf_entries::{Standing, is_child, name_of, number};
+use dwarf_info::{Entry, Units};
+use pm_text::{NoMemory, Text};
+use std::str;
+
+/// Appends an ASCII character.
+#[tactic(auto, using(crate::proofs::Ascii::one_ascii))]
+fn push_ascii(text: &mut Text, byte: u8) -> Result<(), NoMemory>
+    requires { byte < 128 }
+    ensures { OnOk result (text.new ≡ text.old ++ byte ∷ []) }
+{
+    match str::from_utf8(&[byte]) {
+        Ok(character) => text.push_str(character),
+        Err(_) => unreachable!(),
+    }
+}
+
+/// Appends the character of a number from 32 to 126, in marks.
+fn push_character(text: &mut Text, number: i128) -> Result<(), NoMemory>
+    ensures { OnOk result (text.new ≡ text.old ++ texts.character number) }
+{
+    if number < 32 || number > 126 {
+        return Ok(());
+    }
+    text.push_str(" '")?;
+    push_ascii(text, number as u8)?;
+    push_ascii(text, b'\'')
+}
+
+/// Appends a number, and behind one from 32 to 126 the character.
+fn push_with_character(text: &mut Text, number: i128) -> Result<(), NoMemory>
+    ensures { OnOk result (text.new ≡ text.old ++ texts.with_character number) }
+{
+    text.push_decimal(number)?;
+    push_character(text, number)
+}
+
+/// Appends an address.
+pub fn push_address(text: &mut Text, address: u64) -> Result<(), NoMemory>
+    ensures { OnOk result (text.new ≡ text.old ++ texts.address_text address) }
+{
+    text.push_str("0x")?;
+    text.push_hex(address, 8)
+}
+
+/// Appends two digits for each of so many bytes of a number, the highest first.
+fn push_byte_digits(text: &mut Text, count: u64, word: u128) -> Result<(), NoMemory>
+    ensures { OnOk result (text.new ≡ text.old ++ texts.byte_digits count word) }
+{
+    if count == 0 {
+        return Ok(());
+    }
+    push_byte_digits(text, count - 1, word / 256)?;
+    text.push_hex((word % 256) as u64, 2)
+}
+
+fn push_float(text: &mut Text, size: u64, word: u128) -> Result<(), NoMemory>
+    ensures { OnOk result (text.new ≡ text.old ++ texts.float_text size word) }
+{
+    text.push_str("0x")?;
+    push_byte_digits(text, size, word)
+}
+
+fn push_boolean(text: &mut Text, word: u128) -> Result<(), NoMemory>
+    ensures { OnOk result (text.new ≡ text.old ++ texts.boolean_text word) }
+{
+    if word == 0 {
+        text.push_str("false")
+    } else {
+        text.push_str("true")
+    }
+}
+
+/// Appends the text of a base type: by its encoding and size its bits as an unsigned number, or the number that they are.
+#[tactic(auto, unfolding(crate::specs::Texts::base_text))]
+pub fn push_base(
+    text: &mut Text,
+    encoding: u64,
+    size: u64,
+    word: u128,
+    number: i128,
+) -> Result<(), NoMemory>
+    requires { encoding ≡ 1 → word < 2 ^ 64 }
+    ensures { OnOk result (text.new ≡ text.old ++ texts.base_text encoding size word number) }
+{
+    match encoding {
+        1 => push_address(text, word as u64),
+        2 => push_boolean(text, word),
+        4 => push_float(text, size, word),
+        6 | 8 => push_with_character(text, number),
+        _ => text.push_decimal(number),
+    }
+}
+
+/// The number of values of a type of this size, in bytes.
+fn range(size: u64) -> i128
+    requires { size ≤ 8 }
+    ensures { result ≡ pos (2 ^ (8 * size)) }
+{
+    1 << (8 * size)
+}
+
+/// Whether an enumerator has a value, as numbers of the type's size.
+fn has_value(entry: &Entry<'_>, size: u64, value: i128) -> bool
+    requires { size ≤ 8 }
+    ensures { result ≡ texts.has_value size value entry.now }
+{
+    match number(entry.attributes.as_slice(), CONST_VALUE) {
+        Some(constant) => constant.rem_euclid(range(size)) == value.rem_euclid(range(size)),
+        None => false,
+    }
+}
+
+/// The first enumerator of a value.
+fn enumerator<'r, 'a>(
+    entries: &'r [Entry<'a>],
+    depth: u32,
+    size: u64,
+    value: i128,
+) -> Option<&'r Entry<'a>>
+    requires { size ≤ 8 }
+    ensures { option_copied result ≡ find (texts.has_value size value)
+        (filter (is_child depth tag_enumerator) entries.now) }
+{
+    for entry in entries {
+        if is_child(entry, depth, ENUMERATOR) && has_value(entry, size, value) {
+            return Some(entry);
+        }
+    }
+    None
+}
+
+/// Appends the name of the first enumerator of a value, or else the value.
+#[tactic(auto, unfolding(crate::specs::Texts::enumeration_text))]
+pub fn push_enumeration<'r, 'a>(
+    text: &mut Text,
+    units: &'r Units<'a>,
+    standing: &Standing<'r, 'a>,
+    size: u64,
+    value: i128,
+) -> Result<(), NoMemory>
+    requires { size ≤ 8 }
+    ensures { OnOk result (text.new
+        ≡ text.old ++ texts.enumeration_text units.now standing.now size value) }
+{
+    match enumerator(standing.inside(), standing.entry().depth, size, value) {
+        Some(entry) => match name_of(units, entry.attributes.as_slice()) {
+            Some(name) => text.push_plain(name),
+            None => text.push_plain(&[]),
+        },
+        None => text.push_decimal(value),
+    }
+}
