@@ -1,0 +1,58 @@
+//! Visible variables (DWARF 4 sections 3.3, 3.4 and 4.1).
+
+ghost use Rattle.std.specs.Prelude.{◌≡◌, IfOk};
+ghost use Rattle.var_eval.specs.Variables as definitions;
+
+use causes::NoMemory;
+use dwarf_entries::{Standing, name_of};
+use dwarf_info::{Sections5, Units};
+use dwarf_scopes::variables_at;
+use pm_text::Items;
+use std::alloc::Global;
+use wasm_bytes::Run;
+
+/// A variable or a formal parameter.
+#[derive(Drop)]
+pub struct Variable<'a> {
+    /// Empty where it has none.
+    pub name: Run<'a>,
+    /// The offset of its entry in the section.
+    pub entry: u32,
+}
+
+/// Variables, those of outer scopes first.
+pub type Variables<'a> = Items<Variable<'a>>;
+
+fn variable_of<'r, 'a>(units: &'r Units<'a>, standing: &Standing<'r, 'a>) -> Variable<'a>
+    ensures { result ≡ definitions.variable_of units.now standing.now }
+{
+    let entry = standing.entry().at;
+    match name_of(units, standing.entry().attributes.as_slice()) {
+        Some(name) => Variable {
+            name: Run::new(name),
+            entry,
+        },
+        None => Variable {
+            name: Run::new(&[]),
+            entry,
+        },
+    }
+}
+
+/// The variables that are visible at an address, those of outer scopes first.
+#[tactic(auto, unfolding(crate::specs::Variables::visible))]
+pub fn visible_at<'r, 'a>(
+    alloc: Global,
+    sections: &Sections5<'a>,
+    units: &'r Units<'a>,
+    address: u32,
+) -> Result<Variables<'a>, NoMemory>
+    ensures { IfOk result (λ all. all ≡ definitions.visible sections.now units.now address) }
+{
+    let standing = variables_at(alloc, sections, units.as_slice(), address)?;
+    let mut variables = Items::new(alloc);
+    for variable in standing.as_slice() {
+        variables.push(variable_of(units, variable))?;
+    }
+    Ok(variables)
+}
