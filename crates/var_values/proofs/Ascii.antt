@@ -1,5 +1,5 @@
 -- One ASCII byte is a text.
-use Rattle.std.proofs.Common.{ℕ, zero, suc, ◌<◌, [], ◌∷◌, lit<, arith}
+use Rattle.std.proofs.Common.{ℕ, zero, suc, ◌<◌, [], ◌∷◌, lit<}
 use Rattle.std.specs.Prelude.{slice_index}
 use Rattle.std.specs.Str.{IsUtf8}
 use Rattle.std.proofs.lemmas.Str.{IsUtf8-from_ascii}

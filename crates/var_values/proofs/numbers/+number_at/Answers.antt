@@ -1,4 +1,4 @@
-use Rattle.std.proofs.Common.{◌≡◌, ◌∙◌, ◌-◌, ◌<◌, ◌≤◌, ℕ, sym, ap, arith}
+use Rattle.std.proofs.Common.{◌-◌, ◌<◌, ◌≤◌, arith}
 use Rattle.std.proofs.lemmas.Int.{ints, to_z-of_z}
 use Rattle.var_values.proofs.FuelLaws.{joined_bytes, short_number, one_byte_more}
 use Rattle.var_values.proofs.numbers.+number_at.Goals as goal
