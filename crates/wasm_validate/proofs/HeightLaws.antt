@@ -1,6 +1,6 @@
 -- From marks to the operand types of the typing.
 use Rattle.std.proofs.Common.{◌≡◌, ℕ, zero, suc, ◌+◌, ◌-◌, ◌<◌, ◌≤◌, List, [], ◌∷◌, map, length, take, slice_get, refl, sym, ap, subst, ◌∙◌, arith, inl, inr, ⊎_elim, ◌++◌}
-use Rattle.std.proofs.lemmas.List.{map-append}
+use Rattle.std.proofs.lemmas.List.{map-append, length-map}
 use Rattle.validate_stack.proofs.StackLaws.{take_one}
 use Rattle.std.proofs.lemmas.Option.{slice_get_within, slice_get-map}
 use Rattle.std.specs.Prelude.{Option, Some, None, option_map, unwrap_or, ◌⊎◌}
@@ -126,6 +126,11 @@ length_map (x ∷ xs) = ap suc (length_map xs)
 pub heights_are : (all : List (List (Option Mark))) (m : Module) (heights : List (List ℕ)) → MarkedUpTo all m (length m.bodies) → heights ≡ heights_of all → HeightsAre heights m
 heights_are all m heights h e = subst (λ x. HeightsAre x m) (sym e) (record {
   as_many = length_map all ∙ h.as_many;
+  long = λ i ns body a b.
+      let x = map_inv (map height_or_zero) (slice_get all i) ns (sym (slice_get-map (map height_or_zero) all i) ∙ a) in
+      let k = h.each i x.0 x.1 in
+      let same : k.1 ≡ body = some_is (sym k.3 ∙ b) in
+      ap length (sym x.2) ∙ length-map x.0 height_or_zero ∙ k.4.as_many ∙ ap (λ (b : Body). length b.ops) same;
   each = λ i op ns n a b.
       let x = map_inv (map height_or_zero) (slice_get all i) ns (sym (slice_get-map (map height_or_zero) all i) ∙ a) in
       let c = subst (λ z. slice_get z op ≡ Some n) (sym x.2) b in

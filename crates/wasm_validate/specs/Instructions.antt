@@ -10,6 +10,8 @@ use Rattle.wasm_validate.specs.Heights.{body_of, HeightIs}
 -- the height of each instruction of each function that the module defines, or 0 in dead code
 pub record HeightsAre (heights : List (List ℕ)) (m : Module) : Type 0 where
   pub as_many : length heights ≡ length m.bodies
+  -- as many as the function has instructions
+  pub long : (i : ℕ) (ns : List ℕ) (body : Body) → slice_get heights i ≡ Some ns → slice_get m.bodies i ≡ Some body → length ns ≡ length body.ops
   pub each : (i op : ℕ) (ns : List ℕ) (h : ℕ) → slice_get heights i ≡ Some ns → slice_get ns op ≡ Some h →
       (o : Option ℕ) × HeightIs o m (length m.imports + i) op × (h ≡ unwrap_or o 0)
 
