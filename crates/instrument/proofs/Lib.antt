@@ -2,3 +2,4 @@ pub mod Copied
 pub mod Trees
 pub mod Whole
 pub mod Refused
+pub mod Own
