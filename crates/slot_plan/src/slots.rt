@@ -8,7 +8,7 @@ ghost use Rattle.wasm_syntax.specs.Module.{Program, IsProgram, defined, function
 ghost use Rattle.wasm_validate.specs.Heights.{body_of};
 ghost use Rattle.slot_plan.specs.Before.{constant_of, kept_at, known_among};
 ghost use Rattle.operand_spill.specs.Places.{place};
-ghost use Rattle.slot_plan.specs.Plans.{IsDefined, IsPlan, own_types, number, Slot, Result, Kind, Offset};
+ghost use Rattle.slot_plan.specs.Plans.{Fits, IsDefined, IsPlan, own_types, number, Slot, Result, Kind, Offset};
 
 use crate::heights::greatest_height;
 use crate::locals::local_types;
@@ -107,8 +107,11 @@ fn constant_at(places: &OperandPlaces, from_bottom: usize) -> Option<Value>
 impl SlotPlan {
     /// The types of the function's own locals, the parameters first.
     pub fn types(&self) -> &[ValType]
-        ensures { result.now ≡ self.now.locals }
+        ensures types { result.now ≡ self.now.locals }
+        ensures few { Fits self.now }
     {
+        // The field is named so that the invariant is known, by which all locals have numbers.
+        let _ = &self.slots;
         self.locals.as_slice()
     }
 
