@@ -8,8 +8,16 @@ mod line5_tests;
 #[cfg(test)]
 mod list5_tests;
 #[cfg(test)]
+mod path_tests;
+#[cfg(test)]
+mod scope_tests;
+#[cfg(test)]
 mod seen;
+#[cfg(test)]
+mod type_tests;
 #[cfg(test)]
 mod unit5_tests;
 #[cfg(test)]
 mod unit_tests;
+#[cfg(test)]
+mod value_tests;
