@@ -5,19 +5,11 @@ ghost use Rattle.dwarf_bytes.specs.Items.{number_item, read_at};
 ghost use Rattle.dwarf5_info.specs.Indices.{table_section, base_of, list_offset, entry_means, index5};
 ghost use Rattle.dwarf5_info.specs.inner.Bases.{base_in, looked_up};
 
-use crate::attributes::offset;
 use dwarf_bytes::text_at;
+use dwarf_entries::names::{ADDR_BASE, LOCLISTS_BASE, RNGLISTS_BASE, STR_OFFSETS_BASE};
+use dwarf_entries::offset;
 use dwarf_info::{AttrValue, Attribute, IndexTable, Sections, Sections5};
 use dwarf5_lists::AddressTable;
-
-// The names of the bases (DWARF 5 section 7.5.4).
-const STR_OFFSETS_BASE: u64 = 0x72;
-
-const ADDR_BASE: u64 = 0x73;
-
-const RNGLISTS_BASE: u64 = 0x74;
-
-const LOCLISTS_BASE: u64 = 0x8C;
 
 /// Where the tables of a unit begin, as far as its root says.
 #[derive(Clone, Copy)]

@@ -2,7 +2,6 @@
 #![tactic(auto)]
 
 mod abbreviations;
-mod attributes;
 mod forms;
 mod indices;
 mod lists;

@@ -3,7 +3,6 @@
 ghost use Rattle.std.specs.Prelude.{ℕ, ◌≡◌, ◌↔◌, List, Ok, Err, is_some};
 ghost use Rattle.dwarf_bytes.specs.Answers.{found_at};
 ghost use Rattle.dwarf_bytes.specs.declared.faults.ReadFault.TheVariants.{Unreadable};
-ghost use Rattle.dwarf_info.specs.Attributes.{valued, as_address, as_offset};
 ghost use Rattle.dwarf_info.specs.Entries.{root_attributes};
 ghost use Rattle.dwarf_loc.specs.declared.entry.ListEntry.{ListEntry as Listed};
 ghost use Rattle.dwarf_loc.specs.declared.contents.Span.{Span as SpanOf};
@@ -12,15 +11,12 @@ ghost use Rattle.dwarf5_lists.specs.Addresses.{address_of};
 ghost use Rattle.dwarf5_lists.specs.Grammar.{IsLocations5, IsRanges5};
 ghost use Rattle.dwarf5_info.specs.Lists as lists;
 
-use crate::attributes::{address, offset};
 use dwarf_bytes::ReadFault;
+use dwarf_entries::names::{ADDR_BASE, LOW_PC};
+use dwarf_entries::{address, offset};
 use dwarf_info::{Attribute, Sections5, Unit};
 use dwarf_loc::Span;
 use dwarf5_lists::AddressTable;
-
-const LOW_PC: u64 = 0x11;
-
-const ADDR_BASE: u64 = 0x73;
 
 fn root<'r, 'a>(unit: &'r Unit<'a>) -> &'r [Attribute<'a>]
     ensures { result.now ≡ root_attributes unit.now.entries }

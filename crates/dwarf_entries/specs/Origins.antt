@@ -1,5 +1,5 @@
 -- Names and types, which may stand in another entry (DWARF 4, 2.13 and 3.3.8).
-use Rattle.std.specs.Prelude.{ℕ, zero, suc, List, Option, option_map, option_and_then}
+use Rattle.std.specs.Prelude.{ℕ, zero, suc, List, [], Option, option_map, option_and_then, unwrap_or}
 use Rattle.std.specs.Option.{option_or}
 use Rattle.dwarf_info.specs.declared.entry.Attribute.{Attribute}
 use Rattle.dwarf_info.specs.declared.entry.UnitAnswer.{UnitAnswer}
@@ -31,6 +31,10 @@ own_type es = valued as_reference at_type es
 -- a name, of an entry with these attributes
 unfoldable pub name_of : List UnitAnswer → List Attribute → Option (List ℕ)
 name_of units es = through units own_name longest_chain es
+
+-- the empty name, where it has none
+abbrev pub name_or_empty : List UnitAnswer → List Attribute → List ℕ
+name_or_empty units es = unwrap_or (name_of units es) []
 
 -- the entry of its type
 unfoldable pub type_entry : List UnitAnswer → List Attribute → Option Standing

@@ -11,7 +11,7 @@ pub mod tags;
 mod values;
 
 pub use classes::{as_address, as_block, as_natural, as_number, as_offset, as_reference, as_text};
-pub use origins::{name_of, type_entry};
+pub use origins::{LONGEST_CHAIN, name_of, name_or_empty, type_entry};
 pub use pick::{Pick, first_picked, push_picked};
 pub use search::{first_in_units, standing_at};
 pub use standing::{Standing, is_child};

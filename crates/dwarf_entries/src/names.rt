@@ -36,4 +36,10 @@ pub const RANGES: u64 = 0x55;
 
 pub const DATA_BIT_OFFSET: u64 = 0x6b;
 
+pub const STR_OFFSETS_BASE: u64 = 0x72;
+
 pub const ADDR_BASE: u64 = 0x73;
+
+pub const RNGLISTS_BASE: u64 = 0x74;
+
+pub const LOCLISTS_BASE: u64 = 0x8c;

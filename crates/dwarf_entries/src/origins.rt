@@ -9,8 +9,8 @@ use crate::standing::Standing;
 use crate::values::{reference, text};
 use dwarf_info::{Attribute, Units};
 
-/// How many further entries are asked for what an entry does not say.
-const LONGEST_CHAIN: u32 = 16;
+/// How many entries may follow each other, where one says what another does not, or a type is another name of one.
+pub const LONGEST_CHAIN: u32 = 16;
 
 /// The attributes of the entry that one with these attributes completes or instantiates.
 fn origin<'r, 'a>(units: &'r Units<'a>, attributes: &[Attribute<'a>]) -> Option<&'r [Attribute<'a>]>
@@ -65,6 +65,16 @@ pub fn name_of<'r, 'a>(units: &'r Units<'a>, attributes: &'r [Attribute<'a>]) ->
     ensures { option_copied result ≡ origins.name_of units.now attributes.now }
 {
     name_within(units, attributes, LONGEST_CHAIN)
+}
+
+/// The name of an entry with these attributes, which is empty where neither it nor one behind it has one.
+pub fn name_or_empty<'r, 'a>(units: &'r Units<'a>, attributes: &'r [Attribute<'a>]) -> &'a [u8]
+    ensures { result.now ≡ origins.name_or_empty units.now attributes.now }
+{
+    match name_of(units, attributes) {
+        Some(name) => name,
+        None => &[],
+    }
 }
 
 /// The entry of the type of an entry with these attributes.

@@ -1,33 +1,15 @@
--- The range lists of a unit by its version: in `.debug_ranges` (DWARF 4, 2.17.3), from version 5 on in `.debug_rnglists` (DWARF 5, 2.17.3).
-use Rattle.std.specs.Prelude.{ℕ, Option, unwrap_or, Bool, ◌==◌, if◌then◌else◌}
+-- The lists of a unit by its version: in `.debug_loc` and `.debug_ranges` (DWARF 4, 2.6.2 and 2.17.3), from version 5 on in `.debug_loclists` and `.debug_rnglists` (DWARF 5, 2.6.2 and 2.17.3).
+use Rattle.std.specs.Prelude.{ℕ, Option, Bool, ◌==◌, if◌then◌else◌}
 use Rattle.dwarf_info.specs.declared.entry.Unit.{Unit as UnitTree}
-use Rattle.dwarf_info.specs.Attributes.{valued, as_address, as_offset, low_pc, addr_base}
-use Rattle.dwarf_info.specs.Entries.{root_attributes}
 use Rattle.dwarf_info.specs.Sections.{SectionBytes5}
 use Rattle.dwarf_loc.specs.declared.contents.Span.{Span}
 use Rattle.dwarf_loc.specs.Version4.{location4, range4}
-use Rattle.dwarf5_lists.specs.Addresses.{Table, table, address_of}
-use Rattle.dwarf5_lists.specs.Lists.{location5, range5}
+use Rattle.dwarf5_info.specs.Lists.{list_base, location5_of, range5_of}
 
--- the base from which the lists of a unit begin to count: the low_pc of its root, or 0
-abbrev pub list_base : UnitTree → ℕ
-list_base u = unwrap_or (valued as_address low_pc (root_attributes u.entries)) 0
-
--- the addresses of the indices of a unit: its root has the base
-abbrev pub addresses_of : SectionBytes5 → UnitTree → Table
-addresses_of s u = table s.addr (valued as_offset addr_base (root_attributes u.entries))
-
--- What the list at an offset says of an address, of a unit of version 5. None where no list stands there.
-abbrev pub location5_of : SectionBytes5 → UnitTree → ℕ → ℕ → Option (Option Span)
-location5_of s u at address = location5 s.loclists (address_of (addresses_of s u)) at (list_base u) address
-
-abbrev pub range5_of : SectionBytes5 → UnitTree → ℕ → ℕ → Option Bool
-range5_of s u at address = range5 s.rnglists (address_of (addresses_of s u)) at (list_base u) address
-
--- the same, by the version of the unit
 abbrev pub is_version5 : UnitTree → Bool
 is_version5 u = u.version == 5
 
+-- What the list at an offset says of an address. None where no list stands there.
 abbrev pub location_in : SectionBytes5 → UnitTree → ℕ → ℕ → Option (Option Span)
 location_in s u at address = if is_version5 u then location5_of s u at address else location4 s.base.loc at (list_base u) address
 

@@ -5,6 +5,6 @@ mod lists;
 mod ranges;
 mod scopes;
 
-pub use lists::{address_table, list_base, location_in, location5_at, range_in, range5_holds};
+pub use lists::{location_in, range_in};
 pub use ranges::holds;
 pub use scopes::{inlined_at, scopes_at, subprogram_at, variables_at};
