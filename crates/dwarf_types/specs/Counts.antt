@@ -3,13 +3,9 @@ use Rattle.std.specs.Prelude.{ℕ, pos, ◌+ℤ◌, List, [], ◌∷◌, map, Op
 use Rattle.dwarf_info.specs.declared.entry.AttrValue.{AttrValue}
 use Rattle.dwarf_info.specs.declared.entry.Entry.{Entry}
 use Rattle.dwarf_info.specs.Attributes.{attribute, as_number}
-use Rattle.dwarf_entries.specs.Names.{not_negative, at_count, at_upper_bound}
+use Rattle.dwarf_entries.specs.Names.{as_natural, not_negative, at_count, at_upper_bound}
 use Rattle.dwarf_entries.specs.Standing.{Standing, children_tagged}
 use Rattle.dwarf_entries.specs.Tags.{tag_subrange}
-
--- a count: a constant that is not below 0
-abbrev pub value_count : AttrValue → Option ℕ
-value_count v = option_and_then not_negative (as_number v)
 
 -- the count that an upper bound makes
 abbrev pub bound_count : AttrValue → Option ℕ
@@ -17,7 +13,7 @@ bound_count v = option_and_then not_negative (option_map (λ u. u +ℤ pos 1) (a
 
 -- count; where there is none, upper_bound + 1
 abbrev pub count_said : Option AttrValue → Option AttrValue → Option ℕ
-count_said (Some v) bound = value_count v
+count_said (Some v) bound = as_natural v
 count_said None bound = option_and_then bound_count bound
 
 abbrev pub subrange_count : Entry → Option ℕ

@@ -7,9 +7,6 @@ use crate::class::{Class, class_of};
 use dwarf_entries::{Standing, standing_at, type_entry};
 use dwarf_info::{Attribute, Units};
 
-/// How many type entries may follow each other.
-pub const LONGEST_CHAIN: u32 = 16;
-
 /// A type: that of an entry, or none. Of an array without its first so many subranges it is that of the rows behind them
 /// (DWARF 4 section 5.4).
 #[derive(Drop)]

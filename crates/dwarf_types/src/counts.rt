@@ -2,30 +2,22 @@
 
 ghost use Rattle.std.specs.Prelude.{◌≡◌, ℕ, ◌≤ℤ◌, ◌<ℤ◌, ◌^◌, pos, filter, drop, find, IfSome};
 ghost use Rattle.std.specs.Option.{is_some};
+ghost use Rattle.dwarf_entries.specs.Names.{as_natural};
 ghost use Rattle.dwarf_entries.specs.Standing.{is_child};
 ghost use Rattle.dwarf_entries.specs.Tags.{tag_subrange};
 ghost use Rattle.dwarf_types.specs.Counts as counts;
 
 use dwarf_entries::names::{COUNT, UPPER_BOUND};
 use dwarf_entries::tags::SUBRANGE;
-use dwarf_entries::{attribute, is_child};
+use dwarf_entries::{as_natural, attribute, is_child};
 use dwarf_info::{AttrValue, Attribute, Entry};
 
 /// A count that is not below 0.
 fn count(value: &AttrValue<'_>) -> Option<u128>
-    ensures { result ≡ counts.value_count value.now }
+    ensures { result ≡ as_natural value.now }
 {
-    match value {
-        AttrValue::Constant(count) => Some(u128::from(*count)),
-        AttrValue::Signed(count) => {
-            if *count >= 0 {
-                Some(*count as u128)
-            } else {
-                None
-            }
-        }
-        _ => None,
-    }
+    let count = as_natural(value)?;
+    Some(u128::from(count))
 }
 
 /// The count that an upper bound makes.

@@ -3,10 +3,10 @@
 ghost use Rattle.std.specs.Prelude.{◌≡◌};
 ghost use Rattle.dwarf_types.specs.Kinds as kinds;
 
-use crate::behind::{Behind, LONGEST_CHAIN, resolved, type_at};
+use crate::behind::{Behind, resolved, type_at};
 use crate::class::{Class, class_of};
 use dwarf_entries::names::ENCODING;
-use dwarf_entries::{Standing, natural, type_entry};
+use dwarf_entries::{LONGEST_CHAIN, Standing, natural, type_entry};
 use dwarf_info::Units;
 
 /// What stands behind the types passed through.

@@ -7,7 +7,7 @@ mod counts;
 mod kind;
 mod size;
 
-pub use behind::{Behind, LONGEST_CHAIN, Typed, resolved, type_at, type_of};
+pub use behind::{Behind, Typed, resolved, type_at, type_of};
 pub use class::{Class, class_of};
 pub use counts::{has_subranges, subrange_count, subranges_behind};
 pub use kind::{Kind, kind_of};

@@ -7,12 +7,12 @@ ghost use Rattle.dwarf_entries.specs.Tags.{tag_subrange};
 ghost use Rattle.dwarf_types.specs.Counts.{subrange_count};
 ghost use Rattle.dwarf_types.specs.Sizes as sizes;
 
-use crate::behind::{LONGEST_CHAIN, Typed, type_at, type_of};
+use crate::behind::{Typed, type_at, type_of};
 use crate::class::{Class, class_of};
 use crate::counts::{has_subranges, subrange_count, subranges_behind};
 use dwarf_entries::names::BYTE_SIZE;
 use dwarf_entries::tags::SUBRANGE;
-use dwarf_entries::{Standing, as_natural, attribute, is_child};
+use dwarf_entries::{LONGEST_CHAIN, Standing, as_natural, attribute, is_child};
 use dwarf_info::{AttrValue, Entry, Units};
 
 /// So many sizes, where the product is below 2^64.
