@@ -4,7 +4,7 @@ ghost use Rattle.std.specs.Prelude.{◌≡◌, IfOk};
 ghost use Rattle.var_eval.specs.Variables as definitions;
 
 use causes::NoMemory;
-use dwarf_entries::{Standing, name_of};
+use dwarf_entries::{Standing, name_or_empty};
 use dwarf_info::{Sections5, Units};
 use dwarf_scopes::variables_at;
 use pm_text::Items;
@@ -26,16 +26,10 @@ pub type Variables<'a> = Items<Variable<'a>>;
 fn variable_of<'r, 'a>(units: &'r Units<'a>, standing: &Standing<'r, 'a>) -> Variable<'a>
     ensures { result ≡ definitions.variable_of units.now standing.now }
 {
-    let entry = standing.entry().at;
-    match name_of(units, standing.entry().attributes.as_slice()) {
-        Some(name) => Variable {
-            name: Run::new(name),
-            entry,
-        },
-        None => Variable {
-            name: Run::new(&[]),
-            entry,
-        },
+    let name = name_or_empty(units, standing.entry().attributes.as_slice());
+    Variable {
+        name: Run::new(name),
+        entry: standing.entry().at,
     }
 }
 

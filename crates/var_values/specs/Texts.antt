@@ -1,5 +1,5 @@
 -- Texts of scalars: pointers, enumerations and base types by their encodings (DWARF 4, 5.1, 5.6 and 7.8).
-use Rattle.std.specs.Prelude.{ℕ, zero, suc, ◌*◌, ◌/◌, ◌%◌, ◌^◌, ◌==◌, ◌&&◌, ◌||◌, Bool, false, nat_le, ℤ, pos, negsuc, List, [], ◌∷◌, ◌++◌, find, Option, Some, None, unwrap_or, if◌then◌else◌, codes}
+use Rattle.std.specs.Prelude.{ℕ, zero, suc, ◌*◌, ◌/◌, ◌%◌, ◌^◌, ◌==◌, ◌&&◌, ◌||◌, Bool, false, nat_le, ℤ, pos, negsuc, List, [], ◌∷◌, ◌++◌, find, Option, Some, None, if◌then◌else◌, codes}
 use Rattle.std.specs.Fmt.{signed_decimal}
 use Rattle.std.specs.Int.{int_rem_euclid}
 use Rattle.pm_text.specs.Hex.{hex_padded}
@@ -10,7 +10,7 @@ use Rattle.dwarf_info.specs.Attributes.{valued, as_number}
 use Rattle.dwarf_entries.specs.Names.{at_const_value}
 use Rattle.dwarf_entries.specs.Tags.{tag_enumerator}
 use Rattle.dwarf_entries.specs.Standing.{Standing, children_tagged}
-use Rattle.dwarf_entries.specs.Origins.{name_of}
+use Rattle.dwarf_entries.specs.Origins.{name_or_empty}
 
 -- a number, and behind 32 to 126 the character
 abbrev pub character : ℤ → List ℕ
@@ -63,12 +63,9 @@ equals size z (Some c) = same_number (residue size c) (residue size z)
 abbrev pub has_value : ℕ → ℤ → Entry → Bool
 has_value size z e = equals size z (valued as_number at_const_value e.attributes)
 
-abbrev pub name_or_empty : List UnitAnswer → Entry → List ℕ
-name_or_empty units e = unwrap_or (name_of units e.attributes) []
-
 abbrev pub enumerator_text : List UnitAnswer → ℤ → Option Entry → List ℕ
 enumerator_text units z None = signed_decimal z
-enumerator_text units z (Some e) = plain (name_or_empty units e)
+enumerator_text units z (Some e) = plain (name_or_empty units e.attributes)
 
 -- the first enumerator of the value, or the number
 unfoldable pub enumeration_text : List UnitAnswer → Standing → ℕ → ℤ → List ℕ

@@ -7,7 +7,7 @@ ghost use Rattle.var_values.specs.Texts as texts;
 
 use dwarf_entries::names::CONST_VALUE;
 use dwarf_entries::tags::ENUMERATOR;
-use dwarf_entries::{Standing, is_child, name_of, number};
+use dwarf_entries::{Standing, is_child, name_or_empty, number};
 use dwarf_info::{Entry, Units};
 use pm_text::{NoMemory, Text};
 use std::str;
@@ -153,10 +153,7 @@ pub fn push_enumeration<'r, 'a>(
         ≡ text.old ++ texts.enumeration_text units.now standing.now size value) }
 {
     match enumerator(standing.inside(), standing.entry().depth, size, value) {
-        Some(entry) => match name_of(units, entry.attributes.as_slice()) {
-            Some(name) => text.push_plain(name),
-            None => text.push_plain(&[]),
-        },
+        Some(entry) => text.push_plain(name_or_empty(units, entry.attributes.as_slice())),
         None => text.push_decimal(value),
     }
 }
