@@ -4,10 +4,10 @@ use causes::NoMemory;
 use rewrite_code::CodeWriter;
 use std::alloc::Global;
 use std::test::Fail;
-use wasm_syntax::{Basic, Body, Instr, Items, Jump, LocalGroup, Op, ValType, Value};
+use wasm_syntax::{Body, Instr, Items, Jump, LocalGroup, ValType};
 
 // Each instruction at the offset of its number, with length 0.
-fn is_code(body: &Body, expected: &[Instr]) -> bool {
+pub fn is_code(body: &Body, expected: &[Instr]) -> bool {
     let ops = body.ops.as_slice();
     if ops.len() != expected.len() {
         return false;
@@ -18,28 +18,6 @@ fn is_code(body: &Body, expected: &[Instr]) -> bool {
         }
     }
     body.start == 0
-}
-
-// The call of function 3 with two locals, with the flag down before it.
-fn called(writer: &mut CodeWriter) -> Result<(), NoMemory> {
-    writer.const_value(Value::I32(0))?;
-    writer.basic(Basic::GlobalSet(0))?;
-    writer.basic(Basic::LocalGet(0))?;
-    writer.basic(Basic::LocalGet(1))?;
-    writer.call(3)
-}
-
-// Where the flag is up, the end of a dump without globals.
-fn tested(writer: &mut CodeWriter) -> Result<(), NoMemory> {
-    writer.basic(Basic::GlobalGet(0))?;
-    writer.open_if(None)?;
-    writer.const_value(Value::I32(255))?;
-    writer.const_value(Value::I32(0))?;
-    writer.const_value(Value::I32(0))?;
-    writer.const_value(Value::I32(0))?;
-    writer.call(2)?;
-    writer.unreachable()?;
-    writer.close()
 }
 
 fn table(writer: &mut CodeWriter, targets: &[u32]) -> Result<(), NoMemory> {
@@ -70,25 +48,6 @@ fn branches(writer: &mut CodeWriter) -> Result<(), NoMemory> {
     writer.return_values()
 }
 
-// The wrapper of a function of two parameters in a module without imports and globals.
-const WRAPPER: [Instr; 15] = [
-    Instr::Basic(Basic::Const(Value::I32(0))),
-    Instr::Basic(Basic::GlobalSet(0)),
-    Instr::Basic(Basic::LocalGet(0)),
-    Instr::Basic(Basic::LocalGet(1)),
-    Instr::Jump(Jump::Call(3)),
-    Instr::Basic(Basic::GlobalGet(0)),
-    Instr::If(None),
-    Instr::Basic(Basic::Const(Value::I32(255))),
-    Instr::Basic(Basic::Const(Value::I32(0))),
-    Instr::Basic(Basic::Const(Value::I32(0))),
-    Instr::Basic(Basic::Const(Value::I32(0))),
-    Instr::Jump(Jump::Call(2)),
-    Instr::Jump(Jump::Unreachable),
-    Instr::End,
-    Instr::End,
-];
-
 const BRANCHES: [Instr; 14] = [
     Instr::If(None),
     Instr::Jump(Jump::BrTable(0, 2, 1)),
@@ -106,13 +65,6 @@ const BRANCHES: [Instr; 14] = [
     Instr::End,
 ];
 
-fn wrapper(alloc: Global) -> Result<Body, NoMemory> {
-    let mut writer = CodeWriter::new(alloc);
-    called(&mut writer)?;
-    tested(&mut writer)?;
-    writer.finish(Items::new(alloc))
-}
-
 fn all_branches(alloc: Global) -> Result<Body, NoMemory> {
     let mut writer = CodeWriter::new(alloc);
     arms(&mut writer)?;
@@ -128,18 +80,9 @@ fn all_branches(alloc: Global) -> Result<Body, NoMemory> {
 }
 
 #[test]
-fn writes_a_wrapper(rt: HostRuntime) -> Result<(), Fail> {
-    let body = wrapper(rt.alloc())?;
-    assert!(rt; is_code(&body, &WRAPPER));
-    assert!(rt; body.targets.is_empty() && body.groups.is_empty());
-    Ok(())
-}
-
-#[test]
 fn writes_branches(rt: HostRuntime) -> Result<(), Fail> {
     let body = all_branches(rt.alloc())?;
-    assert!(rt; is_code(&body, &BRANCHES));
-    assert!(rt; matches!(body.targets.as_slice(), [0, 1, 2]));
-    assert!(rt; body.groups.len() == 1);
+    let lists = matches!(body.targets.as_slice(), [0, 1, 2]) && body.groups.len() == 1;
+    assert!(rt; is_code(&body, &BRANCHES) && lists);
     Ok(())
 }

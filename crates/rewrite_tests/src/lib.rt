@@ -4,13 +4,11 @@
 #[cfg(test)]
 mod code_tests;
 #[cfg(test)]
-mod control_tests;
+mod modules;
 #[cfg(test)]
-mod guard_tests;
+mod piece_tests;
 #[cfg(test)]
 mod plan_tests;
-#[cfg(test)]
-mod spill_tests;
 #[cfg(test)]
 mod walk_tests;
 #[cfg(test)]

@@ -42,13 +42,6 @@ fn both_arms(walk: &mut Walk) -> Result<bool, NoMemory> {
     Ok(first && second && taken && are(walk.places(), &[ONE, WIDE, NARROW]))
 }
 
-#[test]
-fn places_come_back_at_else_and_end(rt: HostRuntime) -> Result<(), Fail> {
-    let mut walk = Walk::new(rt.alloc(), Some(ValType::I32));
-    assert!(rt; both_arms(&mut walk)?);
-    Ok(())
-}
-
 fn labels_are(walk: &Walk, expected: &[Option<Label>; 3]) -> bool {
     walk.label(0) == expected[0] && walk.label(1) == expected[1] && walk.label(2) == expected[2]
 }
@@ -67,8 +60,10 @@ fn labels(alloc: Global) -> Result<bool, NoMemory> {
 }
 
 #[test]
-fn labels_count_from_the_innermost(rt: HostRuntime) -> Result<(), Fail> {
-    assert!(rt; labels(rt.alloc())?);
+fn places_and_labels_come_back(rt: HostRuntime) -> Result<(), Fail> {
+    let mut walk = Walk::new(rt.alloc(), Some(ValType::I32));
+    let places = both_arms(&mut walk)?;
+    assert!(rt; places && labels(rt.alloc())?);
     Ok(())
 }
 
@@ -93,19 +88,14 @@ const DEAD: [Instr; 9] = [
     Instr::End,
 ];
 
-#[test]
-fn dead_code_ends_with_its_list(rt: HostRuntime) -> Result<(), Fail> {
+fn ends_with_its_list() -> bool {
     let ops = DEAD.map(op);
     let ends = [(0, 8), (2, 7), (3, 6), (4, 4), (5, 5)];
-    assert!(rt;
-        ends.iter()
-            .all(|(from, end)| end_of_list(&ops, *from) == *end)
-    );
-    Ok(())
+    ends.iter()
+        .all(|(from, end)| end_of_list(&ops, *from) == *end)
 }
 
-#[test]
-fn instructions_take_their_operands(rt: HostRuntime) -> Result<(), Fail> {
+fn take_their_operands() -> bool {
     let counts = [
         (Basic::Const(Value::I32(0)), 0),
         (Basic::LocalTee(0), 1),
@@ -114,6 +104,11 @@ fn instructions_take_their_operands(rt: HostRuntime) -> Result<(), Fail> {
         (Basic::Binary(ValType::I32, Binary::Add), 2),
         (Basic::Select, 3),
     ];
-    assert!(rt; counts.iter().all(|(code, count)| takes(*code) == *count));
+    counts.iter().all(|(code, count)| takes(*code) == *count)
+}
+
+#[test]
+fn ends_and_operands_of_instructions(rt: HostRuntime) -> Result<(), Fail> {
+    assert!(rt; ends_with_its_list() && take_their_operands());
     Ok(())
 }

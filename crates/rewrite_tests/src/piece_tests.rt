@@ -1,11 +1,15 @@
-//! Pieces of control written out by hand from the definitions, for a function of an i32 and an i64 that gives an i32, with four heights.
+//! Pieces of rewritten bodies, written out by hand from the definitions, for a function of an i32 and an i64 that gives an i32, with four
+//! heights.
 
-ghost use Rattle.std.specs.Prelude.{◌≡◌, ◌≤◌, ◌<◌, nat_lt, length, IfOk, IfSome};
+ghost use Rattle.std.specs.Prelude.{◌≡◌, ◌≤◌, ◌<◌, length, IfOk};
+ghost use Rattle.std.specs.Bool.{OnTrue};
 ghost use Rattle.wasm_syntax.specs.Module.{function_types};
-ghost use Rattle.wasm_syntax.specs.Sizes.{WithinLimits};
 ghost use Rattle.wasm_sizes.specs.Sized.{Sized};
 
+use crate::code_tests::is_code;
+use crate::modules::valid;
 use causes::NoMemory;
+use guard_insert::guarded;
 use index_map::IndexMap;
 use operand_spill::{FunctionContext, OperandPlace, OperandPlaces};
 use rewrite_code::CodeWriter;
@@ -15,12 +19,10 @@ use unwind_rewrite::{
     Target, TypeNumbers, branch_if, branch_table, call_function, call_through_table, close_body,
     end_block, helper, open_body, return_from, trap, wrapper,
 };
-use wasm_decode::decode;
-use wasm_sizes::laws::spelled_is_sized;
 use wasm_syntax::{
-    Basic, Binary, Body, FuncType, Instr, Items, Jump, Module, ModuleParts, ValType, Value,
+    Basic, Binary, Compare, FuncType, Instr, Items, Jump, ModuleParts, ValType, Value,
 };
-use wasm_validate::{Validated, validate};
+use wasm_validate::Validated;
 
 /// Function 0 is imported; function 1 calls through a table, and is exported. Both have type 0. There is a global.
 const MODULE: [u8; 66] = [
@@ -29,6 +31,49 @@ const MODULE: [u8; 66] = [
     0x01, 0x70, 0x00, 0x02, 0x06, 0x06, 0x01, 0x7f, 0x01, 0x41, 0x00, 0x0b, 0x07, 0x05, 0x01, 0x01,
     0x66, 0x00, 0x01, 0x0a, 0x0d, 0x01, 0x0b, 0x00, 0x20, 0x00, 0x20, 0x01, 0x20, 0x00, 0x11, 0x00,
     0x00, 0x0b,
+];
+
+const EQUAL: Instr = Instr::Basic(Basic::Compare(ValType::I64, Compare::Eq));
+
+// Operands go to the stack and back, to a result local and from one, and to the collector; and a signed division is guarded.
+const MOVES: [Instr; 37] = [
+    Instr::Basic(Basic::Const(Value::I64(7))),
+    Instr::Basic(Basic::LocalGet(7)),
+    Instr::Basic(Basic::LocalSet(7)),
+    Instr::Basic(Basic::LocalGet(7)),
+    Instr::Basic(Basic::LocalSet(11)),
+    Instr::Basic(Basic::LocalGet(10)),
+    Instr::Basic(Basic::LocalSet(4)),
+    Instr::Basic(Basic::LocalGet(7)),
+    Instr::Jump(Jump::Call(2)),
+    Instr::Basic(Basic::Const(Value::I32(2))),
+    Instr::Basic(Basic::Const(Value::I32(3))),
+    Instr::Basic(Basic::Const(Value::I32(0))),
+    Instr::Basic(Basic::Const(Value::I64(7))),
+    Instr::Basic(Basic::Const(Value::I64(0x8000_0000_0000_0000))),
+    EQUAL,
+    Instr::Basic(Basic::LocalGet(7)),
+    Instr::Basic(Basic::Const(Value::I64(0xFFFF_FFFF_FFFF_FFFF))),
+    EQUAL,
+    Instr::Basic(Basic::Binary(ValType::I32, Binary::And)),
+    Instr::Basic(Basic::Select),
+    Instr::Basic(Basic::LocalGet(7)),
+    Instr::Basic(Basic::Eqz(ValType::I64)),
+    Instr::Basic(Basic::Select),
+    Instr::Basic(Basic::LocalSet(12)),
+    Instr::Basic(Basic::LocalGet(12)),
+    Instr::If(None),
+    Instr::Basic(Basic::Const(Value::I32(5))),
+    Instr::Basic(Basic::LocalSet(13)),
+    Instr::Basic(Basic::LocalGet(2)),
+    Instr::Jump(Jump::Call(1)),
+    Instr::Basic(Basic::Const(Value::I64(7))),
+    Instr::Jump(Jump::Call(2)),
+    Instr::Basic(Basic::LocalGet(7)),
+    Instr::Jump(Jump::Call(2)),
+    Instr::Jump(Jump::Br(2)),
+    Instr::End,
+    Instr::End,
 ];
 
 // A branch with a condition, a table, the end of a loop, `return` and `unreachable`, over an i32 and an i64.
@@ -115,8 +160,8 @@ const CALLS: [Instr; 47] = [
     Instr::End,
 ];
 
-// A body without nodes.
-const BODY: [Instr; 20] = [
+// The ends of a body without nodes, a wrapper, and a helper of a table with an empty entry and one of the right type.
+const ENDS: [Instr; 54] = [
     Instr::Block(None),
     Instr::Block(None),
     Instr::End,
@@ -136,10 +181,6 @@ const BODY: [Instr; 20] = [
     Instr::Basic(Basic::GlobalSet(1)),
     Instr::Basic(Basic::Const(Value::I32(0))),
     Instr::Jump(Jump::Return),
-    Instr::End,
-];
-
-const WRAPPER: [Instr; 17] = [
     Instr::Basic(Basic::Const(Value::I32(0))),
     Instr::Basic(Basic::GlobalSet(1)),
     Instr::Basic(Basic::LocalGet(0)),
@@ -156,11 +197,6 @@ const WRAPPER: [Instr; 17] = [
     Instr::Jump(Jump::Call(3)),
     Instr::Jump(Jump::Unreachable),
     Instr::End,
-    Instr::End,
-];
-
-// Of a table with an empty entry and one of the right type.
-const HELPER: [Instr; 19] = [
     Instr::Block(None),
     Instr::Block(None),
     Instr::Block(None),
@@ -182,38 +218,15 @@ const HELPER: [Instr; 19] = [
     Instr::End,
 ];
 
-fn checked(alloc: Global, m: Module) -> Option<Validated>
-    requires limits { WithinLimits m }
-    requires sized { Sized m }
-    ensures { IfSome result Sized }
+// An i32, a constant and an i64.
+fn three_places(alloc: Global) -> Result<OperandPlaces, NoMemory>
+    ensures { IfOk result (λ places. length places ≡ 3) }
 {
-    match validate(alloc, m) {
-        Ok(v) => Some(v),
-        Err(_) => None,
-    }
-}
-
-fn valid(alloc: Global, bytes: &[u8]) -> Option<Validated>
-    ensures { IfSome result Sized }
-{
-    spelled_is_sized();
-    match decode(alloc, bytes) {
-        Ok(m) => checked(alloc, m),
-        Err(_) => None,
-    }
-}
-
-fn is_code(body: &Body, expected: &[Instr]) -> bool {
-    let ops = body.ops.as_slice();
-    if ops.len() != expected.len() {
-        return false;
-    }
-    for (op, code) in ops.iter().zip(expected) {
-        if op.code != *code {
-            return false;
-        }
-    }
-    true
+    let mut places = OperandPlaces::new(alloc);
+    places.push(OperandPlace::Spilled(ValType::I32))?;
+    places.push(OperandPlace::Known(Value::I64(7)))?;
+    places.push(OperandPlace::Spilled(ValType::I64))?;
+    Ok(places)
 }
 
 // An i32 and an i64.
@@ -238,6 +251,23 @@ fn four_places(alloc: Global) -> Result<OperandPlaces, NoMemory>
     Ok(places)
 }
 
+fn moves(
+    context: &FunctionContext<'_, '_>,
+    writer: &mut CodeWriter,
+    places: &OperandPlaces,
+) -> Result<(), NoMemory>
+    requires room { length places.now ≤ context.now.slots }
+    requires heights { 4 ≤ context.now.slots }
+{
+    context.load(writer, 2, places)?;
+    context.store(writer, Some(ValType::I64), 2)?;
+    context.to_result(writer, Some(ValType::I64), places)?;
+    context.from_result(writer, Some(ValType::I32), 1)?;
+    context.hand_top(writer, 1, places)?;
+    let division = Basic::Binary(ValType::I64, Binary::DivS);
+    guarded(context, writer, 1, places, 5, &division)
+}
+
 fn branches(
     context: &FunctionContext<'_, '_>,
     writer: &mut CodeWriter,
@@ -257,37 +287,12 @@ fn branches(
     trap(context, writer, 1, places, 3)
 }
 
-fn is_there(parts: &ModuleParts, function: u32) -> bool
-    ensures { result ≡ nat_lt function (length (function_types parts.now)) }
-{
-    (function as usize) < parts.imports.len() + parts.functions.len()
-}
-
-fn call_indirect(
+// A call behind one that took so many operands and gave an i32.
+fn call_behind(
     context: &FunctionContext<'_, '_>,
     writer: &mut CodeWriter,
-    places: &OperandPlaces,
-    ftype: &FuncType,
-) -> Result<(), NoMemory>
-    requires { length places.now ≤ context.now.slots }
-{
-    let numbers = TypeNumbers {
-        index: 0,
-        helper: 6,
-    };
-    call_through_table(context, writer, 1, places, 9, numbers, ftype)
-}
-
-/// The operands behind a call that took so many and gave an i32.
-fn behind_call(places: &mut OperandPlaces, taken: usize) -> Result<(), NoMemory> {
-    places.discard(taken);
-    places.push(OperandPlace::Spilled(ValType::I32))
-}
-
-fn call_direct(
-    context: &FunctionContext<'_, '_>,
-    writer: &mut CodeWriter,
-    places: &OperandPlaces,
+    places: &mut OperandPlaces,
+    taken: usize,
     offset: u32,
     function: u32,
     ftype: &FuncType,
@@ -295,6 +300,8 @@ fn call_direct(
     requires there { function < length (function_types context.now.source) }
     requires heights { 4 ≤ context.now.slots }
 {
+    places.discard(taken);
+    places.push(OperandPlace::Spilled(ValType::I32))?;
     if places.len() <= 4 {
         call_function(context, writer, 1, places, offset, function, ftype)
     } else {
@@ -306,26 +313,43 @@ fn calls(
     context: &FunctionContext<'_, '_>,
     writer: &mut CodeWriter,
     places: &mut OperandPlaces,
-    parts: &ModuleParts,
     ftype: &FuncType,
 ) -> Result<(), NoMemory>
-    requires source { parts.now ≡ context.now.source }
+    requires there { 1 < length (function_types context.now.source) }
     requires room { length places.old ≤ context.now.slots }
     requires heights { 4 ≤ context.now.slots }
 {
-    call_indirect(context, writer, places, ftype)?;
-    if is_there(parts, 0) && is_there(parts, 1) {
-        behind_call(places, 3)?;
-        call_direct(context, writer, places, 12, 1, ftype)?;
-        behind_call(places, 2)?;
-        call_direct(context, writer, places, 15, 0, ftype)?;
-    }
-    Ok(())
+    let numbers = TypeNumbers {
+        index: 0,
+        helper: 6,
+    };
+    call_through_table(context, writer, 1, places, 9, numbers, ftype)?;
+    call_behind(context, writer, places, 3, 12, 1, ftype)?;
+    call_behind(context, writer, places, 2, 15, 0, ftype)
+}
+
+fn ends(context: &FunctionContext<'_, '_>, writer: &mut CodeWriter) -> Result<(), NoMemory>
+    requires { 1 < length (function_types context.now.source) }
+{
+    open_body(writer)?;
+    close_body(context, writer)?;
+    let map = context.map();
+    wrapper(map, writer, map.source().globals.as_slice(), 1, 2)?;
+    helper(writer, &[2, 0])
 }
 
 fn is_written(alloc: Global, writer: CodeWriter, expected: &[Instr]) -> Result<bool, NoMemory> {
     let body = writer.finish(Items::new(alloc))?;
     Ok(is_code(&body, expected))
+}
+
+fn writes_moves(alloc: Global, context: &FunctionContext<'_, '_>) -> Result<bool, NoMemory>
+    requires { 4 ≤ context.now.slots }
+{
+    let mut writer = CodeWriter::new(alloc);
+    let places = three_places(alloc)?;
+    moves(context, &mut writer, &places)?;
+    is_written(alloc, writer, &MOVES)
 }
 
 fn writes_branches(alloc: Global, context: &FunctionContext<'_, '_>) -> Result<bool, NoMemory>
@@ -340,39 +364,49 @@ fn writes_branches(alloc: Global, context: &FunctionContext<'_, '_>) -> Result<b
 fn writes_calls(
     alloc: Global,
     context: &FunctionContext<'_, '_>,
-    parts: &ModuleParts,
     ftype: &FuncType,
 ) -> Result<bool, NoMemory>
-    requires source { parts.now ≡ context.now.source }
+    requires there { 1 < length (function_types context.now.source) }
     requires heights { 4 ≤ context.now.slots }
 {
     let mut writer = CodeWriter::new(alloc);
     let mut places = four_places(alloc)?;
-    calls(context, &mut writer, &mut places, parts, ftype)?;
+    calls(context, &mut writer, &mut places, ftype)?;
     is_written(alloc, writer, &CALLS)
 }
 
-fn writes_body(alloc: Global, context: &FunctionContext<'_, '_>) -> Result<bool, NoMemory> {
-    let mut writer = CodeWriter::new(alloc);
-    open_body(&mut writer)?;
-    close_body(context, &mut writer)?;
-    is_written(alloc, writer, &BODY)
-}
-
-fn writes_wrapper(alloc: Global, map: &IndexMap<'_>, parts: &ModuleParts) -> Result<bool, NoMemory>
-    requires { parts.now ≡ map.now }
+fn writes_ends(alloc: Global, context: &FunctionContext<'_, '_>) -> Result<bool, NoMemory>
+    requires { 1 < length (function_types context.now.source) }
 {
     let mut writer = CodeWriter::new(alloc);
-    if is_there(parts, 1) {
-        wrapper(map, &mut writer, parts.globals.as_slice(), 1, 2)?;
-    }
-    is_written(alloc, writer, &WRAPPER)
+    ends(context, &mut writer)?;
+    is_written(alloc, writer, &ENDS)
 }
 
-fn writes_helper(alloc: Global) -> Result<bool, NoMemory> {
-    let mut writer = CodeWriter::new(alloc);
-    helper(&mut writer, &[2, 0])?;
-    is_written(alloc, writer, &HELPER)
+fn has_two_functions(parts: &ModuleParts) -> bool
+    ensures { OnTrue result (1 < length (function_types parts.now)) }
+{
+    if parts.imports.is_empty() || parts.functions.is_empty() {
+        return false;
+    }
+    true
+}
+
+fn writes_all(alloc: Global, context: &FunctionContext<'_, '_>) -> Result<bool, NoMemory>
+    requires { 4 ≤ context.now.slots }
+{
+    let parts = context.map().source();
+    let Some(ftype) = parts.types.get(0) else {
+        return Ok(false);
+    };
+    if !has_two_functions(parts) {
+        return Ok(false);
+    }
+    let moves = writes_moves(alloc, context)?;
+    let branches = writes_branches(alloc, context)?;
+    let ends = writes_ends(alloc, context)?;
+    let calls = writes_calls(alloc, context, ftype)?;
+    Ok(moves && branches && ends && calls)
 }
 
 fn two_locals(alloc: Global) -> Result<Items<ValType>, NoMemory>
@@ -382,39 +416,20 @@ fn two_locals(alloc: Global) -> Result<Items<ValType>, NoMemory>
     Ok(types)
 }
 
-fn writes_all(
-    alloc: Global,
-    context: &FunctionContext<'_, '_>,
-    parts: &ModuleParts,
-) -> Result<bool, NoMemory>
-    requires source { parts.now ≡ context.now.source }
-    requires heights { 4 ≤ context.now.slots }
-{
-    let branches = writes_branches(alloc, context)?;
-    let body = writes_body(alloc, context)?;
-    let wrapper = writes_wrapper(alloc, context.map(), parts)?;
-    let calls = match parts.types.get(0) {
-        Some(ftype) => writes_calls(alloc, context, parts, ftype)?,
-        None => false,
-    };
-    Ok(branches && body && wrapper && calls)
-}
-
-fn writes_control(alloc: Global, source: &Validated) -> Result<bool, NoMemory>
+fn writes_pieces(alloc: Global, source: &Validated) -> Result<bool, NoMemory>
     requires { Sized source.now }
 {
     let locals = two_locals(alloc)?;
     let map = IndexMap::new(alloc, source.module())?;
     let context = FunctionContext::new(&map, locals, 4, 1, Some(ValType::I32));
-    let same = writes_all(alloc, &context, source.module().parts())?;
+    let same = writes_all(alloc, &context)?;
     Ok(same)
 }
 
 #[test]
-fn control_is_written(rt: HostRuntime) -> Result<(), Fail> {
-    assert!(rt; writes_helper(rt.alloc())?);
+fn pieces_are_written(rt: HostRuntime) -> Result<(), Fail> {
     match valid(rt.alloc(), &MODULE) {
-        Some(v) => assert!(rt; writes_control(rt.alloc(), &v)?),
+        Some(v) => assert!(rt; writes_pieces(rt.alloc(), &v)?),
         None => assert!(rt; false),
     }
     Ok(())
