@@ -1,5 +1,17 @@
 //! Modules, and dumps of them that were put together by hand from the layout of the sections.
 
+use std::alloc::Global;
+use wasm_decode::decode;
+use wasm_validate::{Validated, validate};
+
+/// A module that is read and validated.
+pub fn valid(alloc: Global, bytes: &[u8]) -> Option<Validated> {
+    match decode(alloc, bytes) {
+        Ok(m) => validate(alloc, m).ok(),
+        Err(_) => None,
+    }
+}
+
 /// `div` of two i32s: `local.get 0`, `local.get 1`, `i32.div_s` at 5.
 pub const DIVISION: [u8; 41] = [
     0x00, 0x61, 0x73, 0x6d, 0x01, 0x00, 0x00, 0x00, 0x01, 0x07, 0x01, 0x60, 0x02, 0x7f, 0x7f, 0x01,

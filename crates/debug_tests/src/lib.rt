@@ -7,3 +7,5 @@ mod cases;
 mod command_tests;
 #[cfg(test)]
 mod match_tests;
+#[cfg(test)]
+mod stack_tests;

@@ -1,17 +1,14 @@
 //! Dumps against modules: each row changes some bytes of a dump, and tells the first test that fails then.
 
-ghost use Rattle.std.specs.Prelude.{◌<◌, ◌^◌, length};
-
 use crate::cases::{
     CALLS, CALLS_DUMP, CHAIN, CHAIN_DUMP, CONSTANT, CONSTANT_DUMP, DIVISION, DIVISION_DUMP, GROUPS,
     GROUPS_DUMP, INDIRECT, INDIRECT_DUMP, LOAD, MEMORY, MEMORY_DUMP, PARTLY_DUMP, SHOWN_DUMP,
-    TABLE, TABLE_DUMP,
+    TABLE, TABLE_DUMP, valid,
 };
 use dump_format::decode_dump;
 use dump_match::{Mismatch, matches};
 use std::alloc::Global;
-use wasm_decode::decode;
-use wasm_validate::{Validated, validate};
+use wasm_validate::Validated;
 
 /// A byte of a dump, by its place and its new value.
 type Change = (usize, u8);
@@ -22,13 +19,6 @@ type Row<'a> = (&'a [u8], &'a [u8], &'a [Change], Option<Mismatch>);
 const INNERMOST: u32 = 0;
 
 const CALLER: u32 = 1;
-
-fn valid(alloc: Global, bytes: &[u8]) -> Option<Validated> {
-    match decode(alloc, bytes) {
-        Ok(m) => validate(alloc, m).ok(),
-        Err(_) => None,
-    }
-}
 
 fn changed(alloc: Global, dump: &[u8], changes: &[Change]) -> Option<Vec<u8>> {
     let mut bytes = Vec::from_slice(alloc, dump).ok()?;
