@@ -1,4 +1,4 @@
-use Rattle.std.proofs.Common.{◌≡◌, ℕ, zero, suc, ◌≤◌, List, [], ◌∷◌, sym, subst, lit≤}
+use Rattle.std.proofs.Common.{ℕ, zero, suc, ◌≤◌, List, [], ◌∷◌, sym, subst, lit≤}
 use Rattle.rewrite_modules.specs.Weight.{height_at}
 use Rattle.rewrite_tests.proofs.weight_tests.division_weighs.Goals as goal
 

@@ -1,4 +1,4 @@
-use Rattle.std.proofs.Common.{◌≡◌, ℕ, ◌≤◌, List, [], sym, subst, lit≤}
+use Rattle.std.proofs.Common.{ℕ, ◌≤◌, List, [], sym, subst, lit≤}
 use Rattle.rewrite_modules.specs.Weight.{height_at}
 use Rattle.rewrite_tests.proofs.weight_tests.nothing_weighs.Goals as goal
 
