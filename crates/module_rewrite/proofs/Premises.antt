@@ -1,5 +1,5 @@
 -- What the writing of a body asks of an accepted module, and what it gives.
-use Rattle.std.proofs.Common.{◌≡◌, ℕ, zero, suc, ◌+◌, ◌^◌, ◌<◌, ◌≤◌, true, false, List, [], ◌∷◌, ◌++◌, length, reverse, Some, None, Option, slice_get, refl, sym, ap, ◌∙◌, subst, arith}
+use Rattle.std.proofs.Common.{◌≡◌, ℕ, zero, suc, ◌+◌, ◌^◌, ◌<◌, ◌≤◌, true, List, [], ◌∷◌, ◌++◌, length, reverse, Some, Option, slice_get, refl, sym, ap, ◌∙◌, subst, arith}
 use Rattle.std.specs.Prelude.{Result, Ok, Err, IfOk}
 use Rattle.std.proofs.lemmas.Bool.Decides.{nat_tests}
 use Rattle.wasm_syntax.specs.declared.value.ValType.{ValType}
@@ -23,7 +23,6 @@ use Rattle.rewrite_bodies.specs.Rewrite.{body}
 use Rattle.rewrite_bodies.specs.Slots.{Ctx, ctx_of, slots_of, groups}
 use Rattle.rewrite_modules.specs.Bare.{bare_body}
 use Rattle.rewrite_modules.specs.FlatCode.{body_of}
-use Rattle.rewrite_modules.specs.Given.{Given}
 use Rattle.rewrite_modules.specs.Instrument.{new_body}
 use Rattle.rewrite_modules.specs.Weight.{height_at, type_used, types_used, ops_weight, bodies_weight}
 use Rattle.rewrite_modules.proofs.Bounds.{room_of}
