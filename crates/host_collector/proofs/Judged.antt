@@ -230,3 +230,10 @@ by_answer calls at (Err b) e x = ap (λ (n : ℕ). Err n) (one_offending calls b
 
 pub refuses : (calls : List CollectorCall) (at : ℕ) → IsFirstOffending calls at → judged 0 (First 0) calls ≡ Err at
 refuses calls at x = by_answer calls at (judged 0 (First 0) calls) refl x
+
+by_judgement : (calls : List CollectorCall) (r : Result ℕ ℕ) → judged 0 (First 0) calls ≡ r → IsWhole calls ⊎ ((at : ℕ) × IsFirstOffending calls at)
+by_judgement calls (Ok kind) is = inl (accepted calls kind is).0
+by_judgement calls (Err at) is = inr (at, offends calls at is)
+
+pub whole_or_offending : (calls : List CollectorCall) → IsWhole calls ⊎ ((at : ℕ) × IsFirstOffending calls at)
+whole_or_offending calls = by_judgement calls (judged 0 (First 0) calls) refl

@@ -1,6 +1,6 @@
 //! Laws of calls of the collector.
 
-ghost use Rattle.std.specs.Prelude.{◌≡◌, ℕ, List, Option};
+ghost use Rattle.std.specs.Prelude.{◌≡◌, ◌⊎◌, ℕ, List, Option};
 ghost use Rattle.wasm_syntax.specs.declared.host.CollectorCall.{CollectorCall as Call};
 ghost use Rattle.dump_write.specs.Collected.{Whole, collected_dump};
 ghost use Rattle.host_collector.specs.Torn.{IsFirstOffending};
@@ -8,6 +8,11 @@ ghost use Rattle.host_collector.specs.Torn.{IsFirstOffending};
 /// Calls have at most one first offending call.
 pub fn one_offending_call()
     ensures { (calls : List Call) (a b : ℕ) → IsFirstOffending calls a → IsFirstOffending calls b → a ≡ b }
+{}
+
+/// Calls are whole, or have a first offending call.
+pub fn whole_or_offending()
+    ensures { (calls : List Call) → Whole calls ⊎ ((at : ℕ) × IsFirstOffending calls at) }
 {}
 
 /// Whole calls are so in one way: they have one kind and one dump.
