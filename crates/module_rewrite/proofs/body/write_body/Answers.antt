@@ -1,12 +1,10 @@
-use Rattle.std.proofs.Common.{◌≡◌, [], ◌∷◌, ◌++◌, sym, ap, ◌∙◌, subst, refl}
+use Rattle.std.proofs.Common.{◌≡◌, ◌++◌, ap, ◌∙◌, subst}
 use Rattle.std.specs.Prelude.{IfOk}
-use Rattle.wasm_syntax.specs.declared.parts.Body.{Body}
 use Rattle.rewrite_bodies.specs.Rewrite.{body}
 use Rattle.rewrite_bodies.specs.Slots.{groups}
 use Rattle.rewrite_modules.specs.Bare.{bare_body}
 use Rattle.rewrite_modules.specs.FlatCode.{body_of}
 use Rattle.rewrite_code.specs.Writing.{Written, EmitsLast, nothing}
-use Rattle.unwind_rewrite.specs.Bodies.{OpensTwo}
 use Rattle.module_rewrite.proofs.body.write_body.Goals as goal
 
 pub returns-clause-code : goal.returns-clause-code
