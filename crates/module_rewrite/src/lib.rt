@@ -1,4 +1,4 @@
-//! Rewrites a module, so that it hands over its own dump at each trap, in any host.
+//! Rewrites a module, so that it hands over its own dump at each trap, on equal replies of its host.
 #![tactic(auto)]
 
 mod bodies;
