@@ -1,3 +1,6 @@
 pub mod ValueLaws
 pub mod Spots
 pub mod Order
+pub mod InTurn
+pub mod InState
+pub mod Closings

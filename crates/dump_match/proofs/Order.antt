@@ -1,5 +1,5 @@
 -- The order of the tests.
-use Rattle.std.proofs.Common.{◌≡◌, ℕ, zero, suc, ◌+◌, ◌<◌, ◌≤◌, List, [], ◌∷◌, length, ◌⊎◌, inl, inr, ⊎_elim, Option, Some, None, slice_get, refl, sym, ap, subst, ◌∙◌, arith}
+use Rattle.std.proofs.Common.{◌≡◌, ℕ, zero, suc, ◌+◌, ◌<◌, ◌≤◌, List, [], ◌∷◌, length, Option, Some, None, slice_get, refl, sym, ap, subst, ◌∙◌, arith}
 use Rattle.std.specs.Prelude.{IfSome, Result, Ok, Err}
 use Rattle.wasm_syntax.specs.declared.module.ModuleParts.{ModuleParts as Module}
 use Rattle.wasm_syntax.specs.Valid.{There}
@@ -9,8 +9,8 @@ use Rattle.dump_format.specs.declared.dump.Instance.{Instance}
 use Rattle.dump_match.specs.declared.mismatch.Mismatch.{Mismatch}
 use Rattle.dump_match.specs.declared.mismatch.Mismatch.TheVariants as rows
 use Rattle.dump_match.specs.Frames.{FunctionFits, OffsetFits, LocalsFit, OperandsFit, CallFits, CalleeFits}
-use Rattle.dump_match.specs.Matching.{OneInstance, MemoryFits, GlobalFits, Passes, Matches, Before, FirstMismatch, group, place}
-use Rattle.dump_match.specs.inner.Decides.{GlobalsFound, WholeJudged, FrameJudged, FramesJudged, UpTo}
+use Rattle.dump_match.specs.Matching.{OneInstance, MemoryFits, GlobalFits, Passes, Before, FirstMismatch, group, place}
+use Rattle.dump_match.specs.inner.Decides.{GlobalsFound, WholeJudged, FrameJudged}
 
 -- ---- one instance
 
@@ -84,7 +84,7 @@ module _ (m : Module) (dump : Dump) where
 
     pub globals_judged : (o : Option ℕ) → MemoryFits m dump one → GlobalsFound o m dump one → WholeJudged (global_answer o) m dump
     globals_judged None mem g = whole_fine mem g
-    globals_judged (Some i) mem g = no_global i mem g.0 g.1
+    globals_judged (Some i) mem g = (refl, no_global i mem g.0 g.1)
 
   -- ---- the tests of a frame
 
@@ -137,27 +137,6 @@ module _ (m : Module) (dump : Dump) where
     pub no_callee : FunctionFits m f → OffsetFits m f → LocalsFit m f → OperandsFit m i f → CallFits m i f → (CalleeFits m dump.frames i f → ⊥) → FrameJudged (Err (rows.Callee i)) m dump i
     no_callee a b c d e n = fails_at (rows.Callee i) (omega arith) (λ p. n (fits (CalleeFits m dump.frames i) p)) (λ x. a) (λ x. b) (λ x. c) (λ x. d) (λ x. e) (none_yet 9)
 
-  -- ---- the frames one after the other
-
-  pub one_more : (i : ℕ) → UpTo m dump i → ((row : Mismatch) → group row ≡ suc i → Passes m dump row) → UpTo m dump (suc i)
-  one_more i up here row pos le = by_order (less_or_same (group row) i le)
-    where
-      less_or_same : (a b : ℕ) → a ≤ suc b → (a ≤ b) ⊎ (a ≡ suc b)
-      less_or_same zero b le = inl (omega arith)
-      less_or_same (suc a) zero le = inr (omega (arith, le))
-      less_or_same (suc a) (suc b) le = ⊎_elim (λ x. inl (omega (arith, x))) (λ x. inr (ap suc x)) (less_or_same a b (omega (arith, le)))
-
-      by_order : (group row ≤ i) ⊎ (group row ≡ suc i) → Passes m dump row
-      by_order (inl x) = up row pos x
-      by_order (inr x) = here row x
-
-  pub first_of_frames : (i : ℕ) (row : Mismatch) → UpTo m dump i → FrameJudged (Err row) m dump i → FramesJudged (Err row) m dump
-  first_of_frames i row up h = (omega (arith, h.0), h.1, λ other pos b. by_order other pos b)
-    where
-      by_order : (other : Mismatch) → 0 < group other → Before other row → Passes m dump other
-      by_order other pos (inl x) = up other pos (omega (arith, x, h.0))
-      by_order other pos (inr x) = h.2 other (x.0 ∙ h.0) x.1
-
   nothing : (j : ℕ) (P : Frame → Type 0) → slice_get dump.frames j ≡ None → There dump.frames j P
   nothing j P e = subst (λ o. IfSome o P) (sym e) tt
 
@@ -178,34 +157,6 @@ module _ (m : Module) (dump : Dump) where
   beyond (f ∷ fs) zero h = absurd (omega (arith, h))
   beyond (f ∷ fs) (suc j) h = beyond fs j (omega (arith, h))
 
-  pub past_end : (i : ℕ) → length dump.frames ≤ i → UpTo m dump i → (row : Mismatch) → 0 < group row → Passes m dump row
-  past_end i end up row pos = by_group (group row) refl
-    where
-      by_group : (n : ℕ) → group row ≡ n → Passes m dump row
-      by_group zero e = absurd (omega (arith, e, pos))
-      by_group (suc j) e = by_order (le_or_lt (suc j) i)
-        where
-          le_or_lt : (a b : ℕ) → (a ≤ b) ⊎ (b < a)
-          le_or_lt zero b = inl (omega arith)
-          le_or_lt (suc a) zero = inr (omega arith)
-          le_or_lt (suc a) (suc b) = ⊎_elim (λ x. inl (omega (arith, x))) (λ x. inr (omega (arith, x))) (le_or_lt a b)
-
-          by_order : (suc j ≤ i) ⊎ (i < suc j) → Passes m dump row
-          by_order (inl x) = up row pos (omega (arith, x, e))
-          by_order (inr x) = not_there row j e (beyond dump.frames j (omega (arith, x, end)))
-
-  -- ---- the whole
-
-  pub first_of_all : (row : Mismatch) → WholeJudged (Ok tt) m dump → FramesJudged (Err row) m dump → FirstMismatch m dump row
-  first_of_all row whole h = record { fails = h.1; earlier = λ other b. by_group other (group other) refl b }
-    where
-      by_group : (other : Mismatch) (n : ℕ) → group other ≡ n → Before other row → Passes m dump other
-      by_group other zero e b = whole other e
-      by_group other (suc n) e b = h.2 other (omega (arith, e)) b
-
-  pub all_of_them : WholeJudged (Ok tt) m dump → FramesJudged (Ok tt) m dump → Matches m dump
-  all_of_them whole frames row = by_group (group row) refl
-    where
-      by_group : (n : ℕ) → group row ≡ n → Passes m dump row
-      by_group zero e = whole row e
-      by_group (suc n) e = frames row (omega (arith, e))
+  -- so does one behind the last
+  pub past_frames : (row : Mismatch) (j : ℕ) → group row ≡ suc j → length dump.frames ≤ j → Passes m dump row
+  past_frames row j e h = not_there row j e (beyond dump.frames j h)

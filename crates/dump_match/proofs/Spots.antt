@@ -35,7 +35,7 @@ use Rattle.wasm_validate.proofs.OperandLaws.{static_there}
 use Rattle.dump_format.specs.declared.dump.Frame.{Frame}
 use Rattle.dump_match.specs.declared.stand.Stand.{Stand}
 use Rattle.dump_match.specs.Values.{can_be}
-use Rattle.dump_match.specs.Frames.{IsOf, StandsAt, instruction, taken, shown, FunctionFits, OperandsFit}
+use Rattle.dump_match.specs.Frames.{IsOf, StandsAt, instruction, taken, shown, OperandCount, FunctionFits, OperandsFit}
 use Rattle.dump_match.specs.inner.Decides.{Decides}
 use Rattle.dump_match.specs.inner.Stands.{CodeIs, Stands, count_shown}
 use Rattle.dump_match.proofs.ValueLaws.{take_reverse, take_all}
@@ -264,6 +264,11 @@ module _ (m : Module) (f : Frame) (x : Stand) (st : Stands m f x) where
       let n : x.height - taken m (item_of st.body.targets x.code) ≡ length all - taken m (instruction st.spot.nodes) = ap₂ (λ a b. a - taken m b) (sym st.height) st.item in
       sym (ap (λ k. take k (reverse all)) n ∙ take_reverse all (taken m (instruction st.spot.nodes)))
 
+  shown_length : (i n : ℕ) → n ≡ count_shown m (item_of st.body.targets x.code) i x.height → n ≤ x.height → n ≡ length (shown m i st.spot)
+  shown_length i n e le =
+      let all = reverse (st.spot.here ++ st.spot.outside) in
+      sym (ap length (shown_all i) ∙ ap (λ k. length (take k all)) (sym e) ∙ count_of n le)
+
   -- those of an instruction and operands
   shown_of : ℕ → Item → List ValType → List ValType
   shown_of zero item all = reverse all
@@ -273,6 +278,14 @@ module _ (m : Module) (f : Frame) (x : Stand) (st : Stands m f x) where
   unfolding shown_of
   shown_is zero s = refl
   shown_is (suc i) s = refl
+
+  same_length : (i : ℕ) (s : Spot) → LiveAt m st.type st.body f.offset s → length (shown m i st.spot) ≡ length (shown m i s)
+  same_length i s live =
+      let same = st.only s live in
+      ap length (shown_is i st.spot ∙ sym (ap₂ (shown_of i) same.0 same.1) ∙ sym (shown_is i s))
+
+  pub shown_count : (i n : ℕ) → n ≡ count_shown m (item_of st.body.targets x.code) i x.height → n ≤ x.height → OperandCount m i f n
+  shown_count i n e le = (st.type, st.body, st.is_of, ((st.spot, st.live), λ s live. shown_length i n e le ∙ same_length i s live))
 
   pub operands_judged : (i : ℕ) (b : Bool) → b ≡ can_be (take (count_shown m (item_of st.body.targets x.code) i x.height) (reverse (st.spot.here ++ st.spot.outside))) f.operands → Decides b (OperandsFit m i f)
   operands_judged i true e = from_spot (λ s. can_be (shown m i s) f.operands ≡ true) (ap (λ ts. can_be ts f.operands) (shown_all i) ∙ sym e)

@@ -1,5 +1,5 @@
 -- When a frame of a dump can be one of a module (Core 4.2.12; tool-conventions Coredump.md): tests 4 to 9.
-use Rattle.std.specs.Prelude.{◌≡◌, ℕ, zero, suc, ◌==◌, Bool, true, false, List, ◌++◌, drop, reverse, slice_get, Option, Some, None}
+use Rattle.std.specs.Prelude.{◌≡◌, ℕ, zero, suc, ◌==◌, Bool, true, false, List, ◌++◌, length, drop, reverse, slice_get, Option, Some, None}
 use Rattle.wasm_syntax.specs.declared.value.ValType.{ValType}
 use Rattle.wasm_syntax.specs.declared.parts.FuncType.{FuncType}
 use Rattle.wasm_syntax.specs.declared.parts.Body.{Body}
@@ -64,6 +64,11 @@ StandsAt m f P = OfFunction m f (λ type body. (s : Spot) × LiveAt m type body 
 abbrev pub shown : Module → ℕ → Spot → List ValType
 shown m zero s = reverse (s.here ++ s.outside)
 shown m (suc i) s = reverse (drop (taken m (instruction s.nodes)) (s.here ++ s.outside))
+
+-- a live instruction begins at the frame's offset, and before each that does the frame of an index shows so many operands
+abbrev pub OperandCount : Module → ℕ → Frame → ℕ → Type 0
+OperandCount m i f n = OfFunction m f (λ type body.
+    ((s : Spot) × LiveAt m type body f.offset s) × ((s : Spot) → LiveAt m type body f.offset s → n ≡ length (shown m i s)))
 
 -- ---- the tests
 

@@ -2,4 +2,5 @@ pub mod Values
 pub mod Frames
 pub mod Matching
 pub mod Judged
+pub mod States
 pub mod inner

@@ -5,7 +5,7 @@ ghost use Rattle.wasm_syntax.specs.declared.module.ModuleParts.{ModuleParts as M
 ghost use Rattle.wasm_syntax.specs.Sizes.{WithinLimits};
 ghost use Rattle.wasm_syntax.specs.Tree.{item_of};
 ghost use Rattle.dump_format.specs.declared.dump.Frame.{Frame as ShownFrame};
-ghost use Rattle.dump_match.specs.Frames.{FunctionFits, LocalsFit, OperandsFit, CallFits, CalleeFits};
+ghost use Rattle.dump_match.specs.Frames.{FunctionFits, OffsetFits, OperandCount, LocalsFit, OperandsFit, CallFits, CalleeFits};
 ghost use Rattle.dump_match.specs.inner.Decides.{Decides, FrameJudged, FramesJudged};
 ghost use Rattle.dump_match.specs.inner.Stands.{Stands, OperandsAre, count_shown};
 
@@ -28,7 +28,7 @@ fn is_defined(m: &Validated, frame: &Frame) -> bool
 }
 
 /// Whether the recorded locals have their types.
-fn locals_fit(m: &ModuleParts, frame: &Frame) -> bool
+pub fn locals_fit(m: &ModuleParts, frame: &Frame) -> bool
     requires { FunctionFits m.now frame.now }
     ensures { Decides result (LocalsFit m.now frame.now) }
 {
@@ -80,6 +80,17 @@ fn shown_count(m: &ModuleParts, stand: Stand, i: u32) -> u32
     (stand.height as usize).saturating_sub(count) as u32
 }
 
+/// How many operands a frame shows that stands before a live instruction.
+pub fn operand_count(m: &Validated, frame: &Frame, i: u32) -> u32
+    requires { OffsetFits m.now frame.now }
+    ensures { OperandCount m.now i frame.now result }
+{
+    match stand_of(m, frame) {
+        Some(stand) => shown_count(m.module().parts(), stand, i),
+        None => 0,
+    }
+}
+
 /// Whether the recorded operands have the types of those that the frame shows.
 fn operands_fit(m: &Validated, frame: &Frame, stand: Stand, i: u32) -> bool
     requires { Stands m.now frame.now stand }
@@ -108,7 +119,7 @@ fn callee_fits(m: &ModuleParts, frames: &[Frame], stand: Stand, i: u32) -> bool
 }
 
 /// The tests of a frame.
-fn judge_frame(m: &Validated, dump: &Dump<'_>, i: u32) -> Result<(), Mismatch>
+pub fn judge_frame(m: &Validated, dump: &Dump<'_>, i: u32) -> Result<(), Mismatch>
     requires { i < length dump.now.frames }
     ensures { FrameJudged result m.now dump.now i }
 {

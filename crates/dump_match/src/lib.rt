@@ -3,20 +3,24 @@
 
 ghost use Rattle.std.specs.Prelude.{◌<◌, ◌^◌, length};
 ghost use Rattle.dump_match.specs.Judged.{Judged};
+ghost use Rattle.dump_match.specs.States.{StateJudged};
 ghost use Rattle.dump_format.specs.Contained.{IsContained};
 
+mod close;
 mod code;
 mod frames;
 mod matched;
 mod mismatch;
 mod stand;
+mod state;
 mod values;
 mod whole;
 
 use dump_format::Dump;
 use frames::judge_frames;
-pub use matched::Matched;
+pub use matched::{Matched, StateMatched};
 pub use mismatch::Mismatch;
+use state::judge_state_frames;
 use wasm_validate::Validated;
 use whole::judge_whole;
 
@@ -40,4 +44,24 @@ pub fn matches<'m, 'd, 'b>(
     judge_whole(module_.module().parts(), dump)?;
     judge_frames(module_, dump)?;
     Ok(Matched::new(module_, dump))
+}
+
+/// Whether a dump can show a state of a module, at a trap or elsewhere: as `matches`, but the innermost frame may stand at an `else` or
+/// `end`, where nothing is asked of its operands.
+///
+/// # Errors
+///
+/// The first test that fails, in the order of `matches`.
+pub fn matches_state<'m, 'd, 'b>(
+    module_: &'m Validated,
+    dump: &'d Dump<'b>,
+) -> Result<StateMatched<'m, 'd, 'b>, Mismatch>
+    requires frames { length dump.now.frames < 2 ^ 32 }
+    requires globals { length dump.now.globals < 2 ^ 32 }
+    requires contained { IsContained dump.now }
+    ensures { StateJudged result module_.now dump.now }
+{
+    judge_whole(module_.module().parts(), dump)?;
+    judge_state_frames(module_, dump)?;
+    Ok(StateMatched::new(module_, dump))
 }

@@ -11,6 +11,7 @@ use Rattle.wasm_syntax.specs.Numbers.{types}
 use Rattle.wasm_syntax.specs.Module.{Program, IsProgram, option_then}
 use Rattle.wasm_syntax.specs.Host.{World}
 use Rattle.wasm_syntax.specs.Machine.{Frame, Config, offset_of}
+use Rattle.wasm_syntax.specs.Static.{Spot}
 use Rattle.wasm_syntax.specs.Valid.{There}
 use Rattle.wasm_laws.proofs.Progress.{head, tail, HasMemory}
 use Rattle.dump_format.specs.declared.dump.Dump.{Dump}
@@ -32,23 +33,23 @@ use Rattle.match_laws.proofs.Frames.{shown_frame, map_stands, InnerFits, inner_f
 -- ---- the parts of the dump
 
 -- the size in pages
-abbrev size_of : Option Memory → Option ℕ
+abbrev pub size_of : Option Memory → Option ℕ
 size_of o = option_map (λ bytes. length bytes / page_size) (option_map (λ k. k.bytes) o)
 
-abbrev one_of : World → Instance
+abbrev pub one_of : World → Instance
 one_of w = record { «module» = 0; memories = memory_indices (size_of w.memory); globals = range_with_len 0 (length w.globals) }
 
-abbrev shown_frames : List Frame → List ShownFrame
+abbrev pub shown_frames : List Frame → List ShownFrame
 shown_frames fs = map in_instance (map frame_of (frame_images fs))
 
-record IsImage (d : Dump) (c : Config) : Type 0 where
+pub record IsImage (d : Dump) (c : Config) : Type 0 where
   pub instances : d.instances ≡ one_of c.world ∷ []
   pub modules : 0 < length d.modules
   pub memory : d.memory ≡ size_of c.world.memory
   pub globals : d.globals ≡ c.world.globals
   pub frames : d.frames ≡ shown_frames c.frames
 
-is_image : (c : Config) (name : List ℕ) → IsImage (dump_at c name) c
+pub is_image : (c : Config) (name : List ℕ) → IsImage (dump_at c name) c
 unfolding canonical instance_of
 is_image c name = record { instances = refl; modules = omega arith; memory = refl; globals = refl; frames = refl }
 
@@ -117,42 +118,80 @@ module _ (p : Program) (is_program : IsProgram p) where
   abbrev m : Module
   m = p.module_
 
-  module _ (x0 : ShownFrame) (xs : List ShownFrame) (inner : InnerFits p is_program x0) (callers : AllCallers p is_program x0.function xs) where
+  -- the frames under the innermost one
+  module _ (x0 : ShownFrame) (xs : List ShownFrame) (callers : AllCallers p is_program x0.function xs) where
     abbrev all : List ShownFrame
     all = x0 ∷ xs
 
-    function_there : (i : ℕ) → There all i (FunctionFits m)
-    function_there zero = inner.function
-    function_there (suc i) = there_of (slice_get xs i) (FunctionFits m) (λ x e. (caller_at p is_program x0 xs i x callers e).2.function)
+    -- what the spot of a caller has, with the function that it called
+    abbrev Calling : ℕ → ℕ → ShownFrame → Spot → Type 0
+    Calling i g x s = (is_call (instruction s.nodes) ≡ true) × (can_call m (instruction s.nodes) g ≡ true) × (can_be (shown m (suc i) s) x.operands ≡ true)
 
-    offset_there : (i : ℕ) → There all i (OffsetFits m)
-    offset_there zero = map_stands m x0 (λ s. can_be (shown m zero s) x0.operands ≡ true) (λ s. Unit {0}) (λ s h. tt) inner.spot_
-    offset_there (suc i) = there_of (slice_get xs i) (OffsetFits m) (λ x e.
-        let c = caller_at p is_program x0 xs i x callers e in
-        map_stands m x (λ s. (is_call (instruction s.nodes) ≡ true) × (can_call m (instruction s.nodes) c.0.function ≡ true) × (can_be (shown m (suc i) s) x.operands ≡ true)) (λ s. Unit {0}) (λ s h. tt) c.2.spot_)
+    pub outer_function : (i : ℕ) → There xs i (FunctionFits m)
+    outer_function i = there_of (slice_get xs i) (FunctionFits m) (λ x e. (caller_at p is_program x0 xs i x callers e).2.function)
 
-    locals_there : (i : ℕ) → There all i (LocalsFit m)
-    locals_there zero = inner.locals
-    locals_there (suc i) = there_of (slice_get xs i) (LocalsFit m) (λ x e. (caller_at p is_program x0 xs i x callers e).2.locals)
+    pub outer_offset : (i : ℕ) → There xs i (OffsetFits m)
+    outer_offset i = there_of (slice_get xs i) (OffsetFits m) (λ x e. let c = caller_at p is_program x0 xs i x callers e in map_stands m x (Calling i c.0.function x) (λ s. Unit {0}) (λ s h. tt) c.2.spot_)
 
-    operands_there : (i : ℕ) → There all i (OperandsFit m i)
-    operands_there zero = inner.spot_
-    operands_there (suc i) = there_of (slice_get xs i) (OperandsFit m (suc i)) (λ x e.
-        let c = caller_at p is_program x0 xs i x callers e in
-        map_stands m x (λ s. (is_call (instruction s.nodes) ≡ true) × (can_call m (instruction s.nodes) c.0.function ≡ true) × (can_be (shown m (suc i) s) x.operands ≡ true)) (λ s. can_be (shown m (suc i) s) x.operands ≡ true) (λ s h. h.2) c.2.spot_)
+    pub outer_locals : (i : ℕ) → There xs i (LocalsFit m)
+    outer_locals i = there_of (slice_get xs i) (LocalsFit m) (λ x e. (caller_at p is_program x0 xs i x callers e).2.locals)
 
-    call_there : (i : ℕ) → There all i (CallFits m i)
-    call_there zero = tt
-    call_there (suc i) = there_of (slice_get xs i) (CallFits m (suc i)) (λ x e.
-        let c = caller_at p is_program x0 xs i x callers e in
-        map_stands m x (λ s. (is_call (instruction s.nodes) ≡ true) × (can_call m (instruction s.nodes) c.0.function ≡ true) × (can_be (shown m (suc i) s) x.operands ≡ true)) (λ s. is_call (instruction s.nodes) ≡ true) (λ s h. h.0) c.2.spot_)
+    pub outer_operands : (i : ℕ) → There xs i (OperandsFit m (suc i))
+    outer_operands i = there_of (slice_get xs i) (OperandsFit m (suc i)) (λ x e. let c = caller_at p is_program x0 xs i x callers e in map_stands m x (Calling i c.0.function x) (λ s. can_be (shown m (suc i) s) x.operands ≡ true) (λ s h. h.2) c.2.spot_)
 
-    callee_there : (i : ℕ) → There all i (CalleeFits m all i)
-    callee_there zero = tt
-    callee_there (suc i) = there_of (slice_get xs i) (CalleeFits m all (suc i)) (λ x e.
+    pub outer_call : (i : ℕ) → There xs i (CallFits m (suc i))
+    outer_call i = there_of (slice_get xs i) (CallFits m (suc i)) (λ x e. let c = caller_at p is_program x0 xs i x callers e in map_stands m x (Calling i c.0.function x) (λ s. is_call (instruction s.nodes) ≡ true) (λ s h. h.0) c.2.spot_)
+
+    pub outer_callee : (i : ℕ) → There xs i (CalleeFits m all (suc i))
+    outer_callee i = there_of (slice_get xs i) (CalleeFits m all (suc i)) (λ x e.
         let c = caller_at p is_program x0 xs i x callers e in
         subst (λ o. IfSome o (λ y. StandsAt m x (λ s. can_call m (instruction s.nodes) y.function ≡ true))) (sym c.1)
-        (map_stands m x (λ s. (is_call (instruction s.nodes) ≡ true) × (can_call m (instruction s.nodes) c.0.function ≡ true) × (can_be (shown m (suc i) s) x.operands ≡ true)) (λ s. can_call m (instruction s.nodes) c.0.function ≡ true) (λ s h. h.1) c.2.spot_))
+        (map_stands m x (Calling i c.0.function x) (λ s. can_call m (instruction s.nodes) c.0.function ≡ true) (λ s h. h.1) c.2.spot_))
+
+    -- all frames
+    module _ (inner : InnerFits p is_program x0) where
+      function_there : (i : ℕ) → There all i (FunctionFits m)
+      function_there zero = inner.function
+      function_there (suc i) = outer_function i
+
+      offset_there : (i : ℕ) → There all i (OffsetFits m)
+      offset_there zero = map_stands m x0 (λ s. can_be (shown m zero s) x0.operands ≡ true) (λ s. Unit {0}) (λ s h. tt) inner.spot_
+      offset_there (suc i) = outer_offset i
+
+      locals_there : (i : ℕ) → There all i (LocalsFit m)
+      locals_there zero = inner.locals
+      locals_there (suc i) = outer_locals i
+
+      operands_there : (i : ℕ) → There all i (OperandsFit m i)
+      operands_there zero = inner.spot_
+      operands_there (suc i) = outer_operands i
+
+      call_there : (i : ℕ) → There all i (CallFits m i)
+      call_there zero = tt
+      call_there (suc i) = outer_call i
+
+      callee_there : (i : ℕ) → There all i (CalleeFits m all i)
+      callee_there zero = tt
+      callee_there (suc i) = outer_callee i
+
+  -- the instance, its memory and its globals
+  module _ (d : Dump) (fs : List Frame) (w : World) (is : IsImage d (record { frames = fs; world = w; collected = [] })) (wf : WorldAt m w) where
+    pub instance_fits : OneInstance d (one_of w)
+    instance_fits = record {
+      alone = is.instances;
+      of_module = is.modules;
+      memories = subst (λ o. (memory_indices (size_of w.memory) ≡ []) ⊎ ((memory_indices (size_of w.memory) ≡ 0 ∷ []) × (o ≢ None))) (sym is.memory) (memory_case w.memory);
+      globals = subst (λ vs. All (λ g. g < length vs) (range_with_len 0 (length w.globals))) (sym is.globals) (λ k d h. let r = range_below 0 (length w.globals) k d h in omega (arith, r));
+      frames = subst (All (λ x. x.instance ≡ 0)) (sym is.frames) (λ k d h. of_instance (map frame_of (frame_images fs)) k d h);
+    }
+
+    pub memory_there : MemoryFits m d (one_of w)
+    memory_there ne =
+        let h = memory_fits m.memories w.memory wf.0.memory wf.1.memory ne in
+        (h.0, h.1, h.2, is.memory ∙ h.3, h.4, h.5)
+
+    pub global_there : (i : ℕ) → BothHave (global_of d (one_of w) i) (slice_get m.globals i)
+    global_there i = subst (λ o. BothHave o (slice_get m.globals i)) (sym (ap (λ vs. option_then (slice_get (range_with_len 0 (length w.globals)) i) (slice_get vs)) is.globals ∙ each_global w.globals i)) (globals_fit w.globals m.globals wf.0.globals wf.1.globals i)
 
   module _ (d : Dump) (f : Frame) (fs : List Frame) (w : World) (is : IsImage d (record { frames = f ∷ fs; world = w; collected = [] })) (wf : WorldAt m w) (ff : FramesAt p (f ∷ fs)) (node : AtNode (f ∷ fs)) where
     abbrev x0 : ShownFrame
@@ -167,33 +206,16 @@ module _ (p : Program) (is_program : IsProgram p) where
     others : AllCallers p is_program x0.function callers
     others = callers_fit p is_program fs f.function f.result ff.2
 
-    instance_fits : OneInstance d (one_of w)
-    instance_fits = record {
-      alone = is.instances;
-      of_module = is.modules;
-      memories = subst (λ o. (memory_indices (size_of w.memory) ≡ []) ⊎ ((memory_indices (size_of w.memory) ≡ 0 ∷ []) × (o ≢ None))) (sym is.memory) (memory_case w.memory);
-      globals = subst (λ vs. All (λ g. g < length vs) (range_with_len 0 (length w.globals))) (sym is.globals) (λ k d h. let r = range_below 0 (length w.globals) k d h in omega (arith, r));
-      frames = subst (All (λ x. x.instance ≡ 0)) (sym is.frames) (λ k d h. of_instance (map frame_of (frame_images (f ∷ fs))) k d h);
-    }
-
-    memory_there : MemoryFits m d (one_of w)
-    memory_there ne =
-        let h = memory_fits m.memories w.memory wf.0.memory wf.1.memory ne in
-        (h.0, h.1, h.2, is.memory ∙ h.3, h.4, h.5)
-
-    global_there : (i : ℕ) → BothHave (global_of d (one_of w) i) (slice_get m.globals i)
-    global_there i = subst (λ o. BothHave o (slice_get m.globals i)) (sym (ap (λ vs. option_then (slice_get (range_with_len 0 (length w.globals)) i) (slice_get vs)) is.globals ∙ each_global w.globals i)) (globals_fit w.globals m.globals wf.0.globals wf.1.globals i)
-
-    matches_image : Matches m d
-    matches_image rows.Instance = (one_of w, instance_fits)
-    matches_image rows.Memory = (one_of w, is.instances, memory_there)
-    matches_image (rows.Global i) = (one_of w, is.instances, inr (global_there i))
-    matches_image (rows.Function i) = subst (λ all. There all i (FunctionFits m)) (sym is.frames) (function_there x0 callers inner others i)
-    matches_image (rows.Offset i) = subst (λ all. There all i (OffsetFits m)) (sym is.frames) (offset_there x0 callers inner others i)
-    matches_image (rows.Locals i) = subst (λ all. There all i (LocalsFit m)) (sym is.frames) (locals_there x0 callers inner others i)
-    matches_image (rows.Operands i) = subst (λ all. There all i (OperandsFit m i)) (sym is.frames) (operands_there x0 callers inner others i)
-    matches_image (rows.NotACall i) = subst (λ all. There all i (CallFits m i)) (sym is.frames) (call_there x0 callers inner others i)
-    matches_image (rows.Callee i) = subst (λ all. There all i (CalleeFits m all i)) (sym is.frames) (callee_there x0 callers inner others i)
+    pub matches_image : Matches m d
+    matches_image rows.Instance = (one_of w, instance_fits d (f ∷ fs) w is wf)
+    matches_image rows.Memory = (one_of w, is.instances, memory_there d (f ∷ fs) w is wf)
+    matches_image (rows.Global i) = (one_of w, is.instances, inr (global_there d (f ∷ fs) w is wf i))
+    matches_image (rows.Function i) = subst (λ all. There all i (FunctionFits m)) (sym is.frames) (function_there x0 callers others inner i)
+    matches_image (rows.Offset i) = subst (λ all. There all i (OffsetFits m)) (sym is.frames) (offset_there x0 callers others inner i)
+    matches_image (rows.Locals i) = subst (λ all. There all i (LocalsFit m)) (sym is.frames) (locals_there x0 callers others inner i)
+    matches_image (rows.Operands i) = subst (λ all. There all i (OperandsFit m i)) (sym is.frames) (operands_there x0 callers others inner i)
+    matches_image (rows.NotACall i) = subst (λ all. There all i (CallFits m i)) (sym is.frames) (call_there x0 callers others inner i)
+    matches_image (rows.Callee i) = subst (λ all. There all i (CalleeFits m all i)) (sym is.frames) (callee_there x0 callers others inner i)
 
   by_frames : (d : Dump) (fs : List Frame) (w : World) → IsImage d (record { frames = fs; world = w; collected = [] }) → WorldAt m w → FramesAt p fs → AtNode fs → Matches m d
   by_frames d [] w is wf ff node = absurd ff

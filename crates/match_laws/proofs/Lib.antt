@@ -6,3 +6,6 @@ pub mod Begins
 pub mod Images
 pub mod TrapRuns
 pub mod LeftLaws
+pub mod RunStates
+pub mod Closings
+pub mod StateImages

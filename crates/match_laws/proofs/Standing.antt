@@ -35,8 +35,8 @@ abbrev pub SteppedAt : Program → Stepped → Type 0
 SteppedAt p (next c) = WorldAt p.module_ c.world × FramesAt p c.frames
 SteppedAt p (ends w vs co) = WorldAt p.module_ w
 SteppedAt p (traps kind c) = WorldAt p.module_ c.world × FramesAt p c.frames × AtNode c.frames
-SteppedAt p (no_reply call c) = Unit {0}
-SteppedAt p (bad_reply call r c) = Unit {0}
+SteppedAt p (no_reply call c) = WorldAt p.module_ c.world × FramesAt p c.frames
+SteppedAt p (bad_reply call r c) = WorldAt p.module_ c.world × FramesAt p c.frames
 SteppedAt p stuck = ⊥
 
 -- ---- results
@@ -165,8 +165,8 @@ module _ (M : Engine) (typed : Typed M.program) where
       host_at : (A : Answer) (call : HostCall) (below : List Value) (rest : Nodes) → AnswerFine p.module_ call.result A → AnswerKept p.module_ A → GoesOn rest (option_to_list call.result ++ types below) → SteppedAt p (host M A call below rest (fr (l ∷ ls)) l ls fs w co)
       host_at (replied w' v) call below rest h a g = ((h.0, a), (k, (subst (λ z. GoesOn rest z) (ap (λ z. z ++ types below) (sym h.1) ∙ sym (types_append (option_to_list v) below)) g, kf, lf), cf))
       host_at (told c) call below rest h a g = (wf, (k, (subst (λ z. GoesOn rest z) (ap (λ z. option_to_list z ++ types below) h) g, kf, lf), cf))
-      host_at silent call below rest h a g = tt
-      host_at (misfit reply) call below rest h a g = tt
+      host_at silent call below rest h a g = let t = tr 0 in (t.0, t.1)
+      host_at (misfit reply) call below rest h a g = let t = tr 0 in (t.0, t.1)
 
       -- behind the call
       abbrev Behind : ℕ → ℕ → Nodes → List Value → Type 0

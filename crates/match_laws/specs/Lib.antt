@@ -1,1 +1,2 @@
 pub mod TrapDumps
+pub mod StateDumps

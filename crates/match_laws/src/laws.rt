@@ -13,12 +13,18 @@ ghost use Rattle.wasm_syntax.specs.Typing.{IsBody};
 ghost use Rattle.wasm_syntax.specs.Valid.{Valid};
 ghost use Rattle.wasm_syntax.specs.Run.{Invocation, run};
 ghost use Rattle.dump_match.specs.Frames.{instruction, is_call, shown};
+ghost use Rattle.match_laws.specs.StateDumps.{StatesMatch};
 ghost use Rattle.match_laws.specs.TrapDumps.{TrapsMatch};
 
 /// The dump of each trap of a valid module within the limits of the decoder can be one of that module, whatever the invocations, their
 /// arguments, the replies, the depth and the number of steps.
 pub fn traps_match()
     ensures { (p : Program) (collecting : Bool) (invocations : List Invocation) (replies : List HostReply) (depth n : ℕ) → IsProgram p → length p.module_.bodies ≡ length p.module_.functions → Valid p.module_ → WithinLimits p.module_ → TrapsMatch p.module_ (run p collecting invocations replies depth n) }
+{}
+
+/// The dump of the last configuration of each invocation, however it ended or was left, can be one of a state of that module.
+pub fn states_match()
+    ensures { (p : Program) (collecting : Bool) (invocations : List Invocation) (replies : List HostReply) (depth n : ℕ) → IsProgram p → length p.module_.bodies ≡ length p.module_.functions → Valid p.module_ → WithinLimits p.module_ → StatesMatch p.module_ (run p collecting invocations replies depth n) }
 {}
 
 /// What a frame shows at a call, where it is not the innermost one, is what the call left.

@@ -1,0 +1,4 @@
+//! Laws of written dumps: their bytes are accepted with the module that ran.
+#![tactic(auto)]
+
+pub mod laws;
