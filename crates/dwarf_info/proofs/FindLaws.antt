@@ -11,7 +11,7 @@ use Rattle.dwarf_info.specs.declared.entry.UnitAnswer.TheVariants.{Tree, Unreada
 use Rattle.dwarf_info.specs.declared.places.EntryPlace.{EntryPlace}
 use Rattle.dwarf_info.specs.Units.{entries_in}
 use Rattle.dwarf_info.specs.EntryPlaces.{IsEntryAt, first_at, entry_of, entry_there, place, place_in, place_among}
-use Rattle.dwarf_info.specs.inner.Settling.{meets, entry_by, answer_by, any_at}
+use Rattle.dwarf_info.specs.inner.Settling.{entry_by, answer_by, any_at}
 use Rattle.dwarf_info.specs.inner.Finding.{IsTied}
 use Rattle.dwarf_info.proofs.SettleLaws.{any_append}
 
@@ -32,25 +32,6 @@ some_or (Some x) b = refl
 some_tie : (p : EntryPlace) (t : Bool) → is_some (if t then Some p else None) ≡ t
 some_tie p true = refl
 some_tie p false = refl
-
-kept_by : (p : EntryPlace) (t : Bool) (o : Option EntryPlace) → (t ≡ true → is_some o ≡ true) → o ≡ option_or o (if t then Some p else None)
-kept_by p t (Some x) h = refl
-kept_by p false None h = refl
-kept_by p true None h = let there : false ≡ true = h refl in cc
-
--- a place that is known stays
-pub kept_first : (at q : ℕ) (p : EntryPlace) (places : ℕ → Option EntryPlace) → meets places at ≡ true → places q ≡ option_or (places q) (if at == q then Some p else None)
-kept_first at q p places there = kept_by p (at == q) (places q) (λ tie. subst (λ n. meets places n ≡ true) (eqb-true at q tie) there)
-
-added_by : (p : EntryPlace) (t : Bool) (o : Option EntryPlace) → (t ≡ true → is_some o ≡ false) → (if t then Some p else o) ≡ option_or o (if t then Some p else None)
-added_by p true None h = refl
-added_by p true (Some x) h = let absent : true ≡ false = h refl in cc
-added_by p false o h = sym (or_none o)
-
--- one that was not known is added
-pub added_first : (at q : ℕ) (p : EntryPlace) (places new : ℕ → Option EntryPlace) → meets places at ≡ false → new q ≡ (if at == q then Some p else places q)
-    → new q ≡ option_or (places q) (if at == q then Some p else None)
-added_first at q p places new absent is = is ∙ added_by p (at == q) (places q) (λ tie. subst (λ n. meets places n ≡ false) (eqb-true at q tie) absent)
 
 -- ---- as places are collected
 

@@ -9,3 +9,4 @@ pub mod SettleLaws
 pub mod FindLaws
 pub mod ReadLaws
 pub mod FormLaws
+pub mod PlaceLaws

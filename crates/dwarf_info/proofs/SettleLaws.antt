@@ -1,7 +1,8 @@
 -- References are settled by the test whether an entry stands at an offset.
 use Rattle.std.proofs.Common.{◌≡◌, ℕ, Bool, true, false, List, [], ◌∷◌, ◌++◌, Option, refl, ap, ◌∙◌}
 use Rattle.std.specs.Prelude.{◌||◌, ◌==◌, map, flat_map, if◌then◌else◌}
-use Rattle.std.specs.List.{list_any}
+use Rattle.std.specs.List.{list_any, list_all}
+use Rattle.std.proofs.lemmas.Bool.{and_parts}
 use Rattle.dwarf_info.specs.declared.entry.AttrValue.{AttrValue}
 use Rattle.dwarf_info.specs.declared.entry.AttrValue.TheVariants.{Address, Constant, Signed, Block, Text, Flag, Reference, Offset, Other}
 use Rattle.dwarf_info.specs.declared.entry.Attribute.{Attribute}
@@ -10,7 +11,7 @@ use Rattle.dwarf_info.specs.declared.entry.UnitAnswer.{UnitAnswer}
 use Rattle.dwarf_info.specs.declared.entry.UnitAnswer.TheVariants.{Tree, Unreadable}
 use Rattle.dwarf_info.specs.declared.places.EntryPlace.{EntryPlace}
 use Rattle.dwarf_info.specs.Units.{entries_in, offsets_of, settled_value, settled_entry, settled_answer, settled}
-use Rattle.dwarf_info.specs.inner.Settling.{meets, settled_by, attribute_by, entry_by, answer_by, any_at}
+use Rattle.dwarf_info.specs.inner.Settling.{meets, settled_by, attribute_by, entry_by, answer_by, is_met, are_met, all_met, any_at}
 
 -- ---- entries at an offset
 
@@ -49,6 +50,39 @@ entry_settled m offsets h e = ap (λ (vs : List Attribute). let x : Entry = reco
 answer_settled : (m : ℕ → Bool) (offsets : List ℕ) → ((q : ℕ) → m q ≡ list_any (λ o. o == q) offsets) → (u : UnitAnswer) → answer_by m u ≡ settled_answer offsets u
 answer_settled m offsets h (Tree u) = ap (λ (es : List Entry). Tree (record u { entries = es })) (same_map (entry_by m) (settled_entry offsets) (entry_settled m offsets h) u.entries)
 answer_settled m offsets h (Unreadable section at) = refl
+
+-- ---- what stays as it is
+
+map_stays : {A : Type 0} (test : A → Bool) (f : A → A) → ((x : A) → test x ≡ true → f x ≡ x) → (xs : List A) → list_all test xs ≡ true → map f xs ≡ xs
+map_stays test f h [] all = refl
+map_stays test f h (x ∷ xs) all =
+    let parts = and_parts (test x) (list_all test xs) all in
+    ap (λ y. y ∷ map f xs) (h x parts.0) ∙ ap (λ ys. x ∷ ys) (map_stays test f h xs parts.1)
+
+value_stays : (m : ℕ → Bool) (v : AttrValue) → is_met m v ≡ true → settled_by m v ≡ v
+value_stays m (Address n) met = refl
+value_stays m (Constant n) met = refl
+value_stays m (Signed z) met = refl
+value_stays m (Block bytes) met = refl
+value_stays m (Text bytes) met = refl
+value_stays m (Flag b) met = refl
+value_stays m (Reference at) met = ap (λ (b : Bool). if b then Reference at else Other) met
+value_stays m (Offset at) met = refl
+value_stays m Other met = refl
+
+attribute_stays : (m : ℕ → Bool) (a : Attribute) → is_met m a.value ≡ true → attribute_by m a ≡ a
+attribute_stays m a met = ap (λ (v : AttrValue). let b : Attribute = record { name = a.name; value = v } in b) (value_stays m a.value met)
+
+pub attributes_stay : (m : ℕ → Bool) (attributes : List Attribute) → are_met m attributes ≡ true → map (attribute_by m) attributes ≡ attributes
+attributes_stay m attributes met = map_stays (λ a. is_met m a.value) (attribute_by m) (attribute_stays m) attributes met
+
+entry_stays : (m : ℕ → Bool) (e : Entry) → are_met m e.attributes ≡ true → entry_by m e ≡ e
+entry_stays m e met = ap (λ (vs : List Attribute). let x : Entry = record e { attributes = vs } in x) (attributes_stay m e.attributes met)
+
+pub entries_stay : (m : ℕ → Bool) (entries : List Entry) → all_met m entries ≡ true → map (entry_by m) entries ≡ entries
+entries_stay m entries met = map_stays (λ e. are_met m e.attributes) (entry_by m) (entry_stays m) entries met
+
+-- ---- all units
 
 -- What is settled by the places of all entries is settled.
 pub all_settled : (places : ℕ → Option EntryPlace) (units : List UnitAnswer) → ((q : ℕ) → meets places q ≡ any_at q (flat_map entries_in units)) → map (answer_by (meets places)) units ≡ settled units

@@ -3,3 +3,4 @@ pub mod Contexts
 pub mod Keeping
 pub mod Settling
 pub mod Finding
+pub mod Ascending

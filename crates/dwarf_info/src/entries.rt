@@ -48,7 +48,7 @@ pub fn read_attributes<'c, 'a, V: UnitVersion<'a>>(
     ensures item { Gives result reader.new (attributes_item (seen V.version V.looked context.now) slots.now reader.old) }
     ensures stays { OnOk result (Stays reader.old reader.new) }
 {
-    let mut attributes = Vec::new(alloc);
+    let mut attributes = Vec::with_capacity(alloc, slots.len())?;
     'slots: for slot in slots {
         attributes.push(read_attribute::<V>(context, slot, reader)?)?;
     }

@@ -1,15 +1,17 @@
 //! Where the entries of units stand.
 
-ghost use Rattle.std.specs.Prelude.{◌≡◌, ◌==◌, ℕ, Some, None, IfOk, OnOk, if◌then◌else◌};
+ghost use Rattle.std.specs.Prelude.{◌≡◌, ◌==◌, ℕ, true, slice_get, Some, None, IfOk, OnOk, if◌then◌else◌};
 ghost use Rattle.std.specs.Option.{option_or};
 ghost use Rattle.dwarf_info.specs.Units.{entries_in};
 ghost use Rattle.dwarf_info.specs.EntryPlaces.{place_in, place_among};
-ghost use Rattle.dwarf_info.specs.inner.Settling.{placed, meets};
+ghost use Rattle.dwarf_info.specs.inner.Settling.{placed, placed_by, meets};
+ghost use Rattle.dwarf_info.specs.inner.Ascending.{ascends_from};
 
 use crate::entry::{Entry, UnitAnswer};
 use causes::NoMemory;
+use pm_text::Items;
 use std::alloc::Global;
-use std::collections::BTreeMap;
+use std::marker::Model;
 
 /// Where an entry stands in a list of units.
 #[derive(Clone, Copy, Debug, PartialEq, Eq)]
@@ -20,88 +22,169 @@ pub struct EntryPlace {
     pub entry: usize,
 }
 
-/// Where an entry stands, by offsets in the section.
+/// An offset of the section, and where the entry with that offset stands.
+#[derive(Clone, Copy, Debug, PartialEq, Eq)]
+pub struct PlacedEntry {
+    pub at: u32,
+    pub place: EntryPlace,
+}
+
+/// Entries with their places, which contracts see as the list. Of several with one offset the first counts.
 #[derive(Drop)]
 pub struct Places {
-    pub places: BTreeMap<u32, EntryPlace>,
+    entries: Items<PlacedEntry>,
+    // Offsets ascend, as they do in units that are read one behind the other. Then an entry is found by halving.
+    ascend: bool,
+}
+
+impl Model for Places {
+    ghost use Rattle.std.specs.Prelude.{◌≡◌, List};
+    ghost use Rattle.dwarf_info.specs.declared.places.PlacedEntry.{PlacedEntry};
+    ghost use Rattle.dwarf_info.specs.inner.Ascending.{ascends_from};
+
+    ghost Value = { List PlacedEntry };
+
+    ghost view = { λ p. p.entries };
+
+    ghost invariant = { λ p. p.ascend ≡ ascends_from 0 p.entries };
+}
+
+/// No offset is less than the one in front of it.
+fn are_ascending(entries: &[PlacedEntry]) -> bool
+    ensures { result ≡ ascends_from 0 entries.now }
+{
+    let mut reached = 0;
+    for entry in entries {
+        if entry.at < reached {
+            return false;
+        }
+        reached = entry.at;
+    }
+    true
+}
+
+/// The place of an entry, if it has that offset.
+fn place_if(entry: Option<PlacedEntry>, at: u32) -> Option<EntryPlace>
+    ensures { result ≡ placed_by at entry }
+{
+    match entry {
+        Some(entry) => if entry.at == at {
+            Some(entry.place)
+        } else {
+            None
+        },
+        None => None,
+    }
+}
+
+fn entry_at(entries: &[PlacedEntry], index: usize) -> Option<PlacedEntry>
+    ensures { result ≡ slice_get entries.now index }
+{
+    entries.get(index).copied()
+}
+
+/// The place of the first entry with an offset, where offsets ascend.
+fn halved(entries: &[PlacedEntry], at: u32) -> Option<EntryPlace>
+    requires { ascends_from 0 entries.now ≡ true }
+    ensures { result ≡ placed entries.now at }
+{
+    let count = entries.partition_point(|entry| entry.at < at);
+    place_if(entry_at(entries, count), at)
+}
+
+/// The place of the first entry with an offset.
+fn searched(entries: &[PlacedEntry], at: u32) -> Option<EntryPlace>
+    ensures { result ≡ placed entries.now at }
+{
+    match entries.iter().find(|entry| entry.at == at) {
+        Some(entry) => Some(entry.place),
+        None => None,
+    }
+}
+
+/// One more entry, behind the others.
+#[tactic(auto, using(crate::proofs::PlaceLaws::placed_more))]
+fn add_entry(rows: &mut Items<PlacedEntry>, at: u32, place: EntryPlace) -> Result<(), NoMemory>
+    ensures { OnOk result ((q : ℕ) → placed rows.new q
+        ≡ option_or (placed rows.old q) (if at == q then Some place else None)) }
+{
+    rows.push(PlacedEntry { at, place })
+}
+
+fn add_entries<'a>(
+    rows: &mut Items<PlacedEntry>,
+    unit: usize,
+    entries: &[Entry<'a>],
+) -> Result<(), NoMemory>
+    ensures { OnOk result ((q : ℕ) → placed rows.new q
+        ≡ option_or (placed rows.old q) (place_in unit 0 entries.now q)) }
+{
+    'entries: for (number, entry) in entries.iter().enumerate() {
+        let place = EntryPlace {
+            unit,
+            entry: number,
+        };
+        add_entry(rows, entry.at, place)?;
+    }
+    Ok(())
+}
+
+fn add_unit<'a>(
+    rows: &mut Items<PlacedEntry>,
+    unit: usize,
+    answer: &UnitAnswer<'a>,
+) -> Result<(), NoMemory>
+    ensures { OnOk result ((q : ℕ) → placed rows.new q
+        ≡ option_or (placed rows.old q) (place_in unit 0 (entries_in answer.now) q)) }
+{
+    match answer {
+        UnitAnswer::Tree(tree) => add_entries(rows, unit, tree.entries.as_slice()),
+        UnitAnswer::Unreadable { section: _, at: _ } => Ok(()),
+    }
+}
+
+/// The entries of all units.
+fn all_entries<'a>(alloc: Global, units: &[UnitAnswer<'a>]) -> Result<Items<PlacedEntry>, NoMemory>
+    ensures { IfOk result (λ rows. (q : ℕ) → placed rows q ≡ place_among 0 units.now q) }
+{
+    let mut rows = Items::new(alloc);
+    'units: for (unit, answer) in units.iter().enumerate() {
+        add_unit(&mut rows, unit, answer)?;
+    }
+    Ok(rows)
 }
 
 impl Places {
-    fn new(alloc: Global) -> Self
-        ensures { (q : ℕ) → placed result q ≡ None }
+    fn new(entries: Items<PlacedEntry>) -> Self
+        ensures { result ≡ entries }
     {
-        Places {
-            places: BTreeMap::new(alloc),
-        }
-    }
-
-    /// Whether an entry stands at an offset.
-    pub fn contains(&self, at: u32) -> bool
-        ensures { result ≡ meets (placed self.now) at }
-    {
-        self.places.contains_key(&at)
-    }
-
-    /// The place of the entry at an offset.
-    pub fn get(&self, at: u32) -> Option<EntryPlace>
-        ensures { result ≡ placed self.now at }
-    {
-        self.places.get(&at).copied()
-    }
-
-    fn insert(&mut self, at: u32, place: EntryPlace) -> Result<(), NoMemory>
-        ensures { OnOk result ((q : ℕ) → placed self.new q
-            ≡ (if at == q then Some place else placed self.old q)) }
-    {
-        self.places.insert(at, place)?;
-        Ok(())
-    }
-
-    /// The first place of an offset counts.
-    #[tactic(auto, using(crate::proofs::FindLaws::kept_first, crate::proofs::FindLaws::added_first))]
-    fn insert_first(&mut self, at: u32, place: EntryPlace) -> Result<(), NoMemory>
-        ensures { OnOk result ((q : ℕ) → placed self.new q
-            ≡ option_or (placed self.old q) (if at == q then Some place else None)) }
-    {
-        if self.contains(at) {
-            Ok(())
-        } else {
-            self.insert(at, place)
-        }
-    }
-
-    fn add_entries<'a>(&mut self, unit: usize, entries: &[Entry<'a>]) -> Result<(), NoMemory>
-        ensures { OnOk result ((q : ℕ) → placed self.new q
-            ≡ option_or (placed self.old q) (place_in unit 0 entries.now q)) }
-    {
-        'entries: for (number, entry) in entries.iter().enumerate() {
-            let place = EntryPlace {
-                unit,
-                entry: number,
-            };
-            self.insert_first(entry.at, place)?;
-        }
-        Ok(())
-    }
-
-    fn add_unit<'a>(&mut self, unit: usize, answer: &UnitAnswer<'a>) -> Result<(), NoMemory>
-        ensures { OnOk result ((q : ℕ) → placed self.new q
-            ≡ option_or (placed self.old q) (place_in unit 0 (entries_in answer.now) q)) }
-    {
-        match answer {
-            UnitAnswer::Tree(tree) => self.add_entries(unit, tree.entries.as_slice()),
-            UnitAnswer::Unreadable { section: _, at: _ } => Ok(()),
-        }
+        let ascend = are_ascending(entries.as_slice());
+        Places { entries, ascend }
     }
 
     /// The places of the entries of all units.
     pub fn of<'a>(alloc: Global, units: &[UnitAnswer<'a>]) -> Result<Self, NoMemory>
         ensures { IfOk result (λ places. (q : ℕ) → placed places q ≡ place_among 0 units.now q) }
     {
-        let mut places = Places::new(alloc);
-        'units: for (unit, answer) in units.iter().enumerate() {
-            places.add_unit(unit, answer)?;
+        let entries = all_entries(alloc, units)?;
+        Ok(Places::new(entries))
+    }
+
+    /// Whether an entry stands at an offset.
+    pub fn contains(&self, at: u32) -> bool
+        ensures { result ≡ meets (placed self.now) at }
+    {
+        self.get(at).is_some()
+    }
+
+    /// The place of the entry at an offset.
+    pub fn get(&self, at: u32) -> Option<EntryPlace>
+        ensures { result ≡ placed self.now at }
+    {
+        if self.ascend {
+            halved(self.entries.as_slice(), at)
+        } else {
+            searched(self.entries.as_slice(), at)
         }
-        Ok(places)
     }
 }

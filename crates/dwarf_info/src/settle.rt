@@ -1,13 +1,39 @@
 //! References: which of them meet an entry.
 
 ghost use Rattle.std.specs.Prelude.{◌≡◌, map, IfOk};
-ghost use Rattle.dwarf_info.specs.inner.Settling.{placed, meets, settled_by, attribute_by, entry_by, unit_by, answer_by};
+ghost use Rattle.dwarf_info.specs.inner.Settling.{placed, meets, settled_by, attribute_by, entry_by, unit_by, answer_by, is_met, are_met, all_met};
 
 use crate::entry::{AttrValue, Attribute, Attributes, Entries, Entry, Unit, UnitAnswer};
 use crate::places::Places;
 use causes::NoMemory;
 use pm_text::Items;
 use std::alloc::Global;
+
+/// A value that stays as it is: no reference, or one that meets an entry.
+fn is_met<'a>(places: &Places, value: &AttrValue<'a>) -> bool
+    ensures { result ≡ is_met (meets (placed places.now)) value.now }
+{
+    match value {
+        AttrValue::Reference(at) => places.contains(*at),
+        _ => true,
+    }
+}
+
+fn are_met<'a>(places: &Places, attributes: &[Attribute<'a>]) -> bool
+    ensures { result ≡ are_met (meets (placed places.now)) attributes.now }
+{
+    attributes
+        .iter()
+        .all(|attribute| is_met(places, &attribute.value))
+}
+
+fn all_met<'a>(places: &Places, entries: &[Entry<'a>]) -> bool
+    ensures { result ≡ all_met (meets (placed places.now)) entries.now }
+{
+    entries
+        .iter()
+        .all(|entry| are_met(places, entry.attributes.as_slice()))
+}
 
 /// A reference that meets no entry refers to nothing.
 fn settled_value<'a>(places: &Places, value: AttrValue<'a>) -> AttrValue<'a>
@@ -34,6 +60,8 @@ fn settled_attribute<'a>(places: &Places, attribute: Attribute<'a>) -> Attribute
     }
 }
 
+/// Attributes that all stay as they are need no memory.
+#[tactic(auto, using(crate::proofs::SettleLaws::attributes_stay))]
 fn settled_attributes<'a>(
     alloc: Global,
     places: &Places,
@@ -42,6 +70,9 @@ fn settled_attributes<'a>(
     ensures { IfOk result (λ kept. kept
         ≡ map (attribute_by (meets (placed places.now))) attributes.entry) }
 {
+    if are_met(places, attributes.as_slice()) {
+        return Ok(attributes);
+    }
     let mut kept = Vec::new(alloc);
     for attribute in attributes.into_vec() {
         kept.push(settled_attribute(places, attribute))?;
@@ -65,6 +96,8 @@ fn settled_entry<'a>(
     })
 }
 
+/// Entries that all stay as they are need no memory.
+#[tactic(auto, using(crate::proofs::SettleLaws::entries_stay))]
 fn settled_entries<'a>(
     alloc: Global,
     places: &Places,
@@ -73,6 +106,9 @@ fn settled_entries<'a>(
     ensures { IfOk result (λ kept. kept
         ≡ map (entry_by (meets (placed places.now))) entries.entry) }
 {
+    if all_met(places, entries.as_slice()) {
+        return Ok(entries);
+    }
     let mut kept = Vec::new(alloc);
     for entry in entries.into_vec() {
         kept.push(settled_entry(alloc, places, entry)?)?;

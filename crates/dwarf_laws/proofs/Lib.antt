@@ -1,3 +1,4 @@
 pub mod Readings
 pub mod Offsets
 pub mod Inside
+pub mod Tables

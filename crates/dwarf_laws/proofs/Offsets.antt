@@ -14,6 +14,7 @@ use Rattle.dwarf_info.specs.Trees.{Siblings, none, entry, Tree, written_at, writ
 use Rattle.dwarf_info.specs.Units.{context, entries_in, offsets_of, settled_entry, settled_answer}
 use Rattle.dwarf_info.specs.Grammar.{Grammars, children_if, entry_with, siblings, tree, unit, answer, answers, IsUnits}
 use Rattle.dwarf_info.specs.Grammar4.{grammars4, IsUnits4}
+use Rattle.dwarf5_info.specs.Grammar5.{grammars5, IsUnits5}
 
 -- Each is past the one before it, and all are from low on and below high.
 abbrev Ascend : ℕ → List ℕ → ℕ → Type 0
@@ -166,3 +167,9 @@ entries_inside s us i units room = ascend_below 0 (offsets_of us) (length s.info
 
 pub entries_apart : (s : SectionBytes) (us : List UnitAnswer) (i j : ℕ) → IsUnits4 s us → i < j → j < length (offsets_of us) → get_or (offsets_of us) i 0 < get_or (offsets_of us) j 0
 entries_apart s us i j units less room = ascend_apart 0 (offsets_of us) (length s.info) i j (units_ascend (without5 s) grammars4 us units) less room
+
+pub entries_inside5 : (s : SectionBytes5) (us : List UnitAnswer) (i : ℕ) → IsUnits5 s us → i < length (offsets_of us) → get_or (offsets_of us) i 0 < length s.base.info
+entries_inside5 s us i units room = ascend_below 0 (offsets_of us) (length s.base.info) i (units_ascend s grammars5 us units) room
+
+pub entries_apart5 : (s : SectionBytes5) (us : List UnitAnswer) (i j : ℕ) → IsUnits5 s us → i < j → j < length (offsets_of us) → get_or (offsets_of us) i 0 < get_or (offsets_of us) j 0
+entries_apart5 s us i j units less room = ascend_apart 0 (offsets_of us) (length s.base.info) i j (units_ascend s grammars5 us units) less room

@@ -4,3 +4,5 @@ pub mod Laws
 pub mod Numbers
 pub mod Skips
 pub mod Standing
+pub mod HalvingLaws
+pub mod StartLaws

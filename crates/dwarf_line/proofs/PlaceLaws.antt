@@ -9,16 +9,16 @@ use Rattle.dwarf_line.specs.Place.{IsFirst, Holds, HoldsFrom, IsNearest, IsPlace
 
 -- ---- the nearest row
 
-abbrev reached : ℕ → Row → Bool
+abbrev pub reached : ℕ → Row → Bool
 reached a r = leb r.address a
 
-filter_in : (a : ℕ) (r : Row) (rows : List Row) → leb r.address a ≡ true → filter (reached a) (r ∷ rows) ≡ r ∷ filter (reached a) rows
+pub filter_in : (a : ℕ) (r : Row) (rows : List Row) → leb r.address a ≡ true → filter (reached a) (r ∷ rows) ≡ r ∷ filter (reached a) rows
 filter_in a r rows e = rw e refl
 
-filter_out : (a : ℕ) (r : Row) (rows : List Row) → leb r.address a ≡ false → filter (reached a) (r ∷ rows) ≡ filter (reached a) rows
+pub filter_out : (a : ℕ) (r : Row) (rows : List Row) → leb r.address a ≡ false → filter (reached a) (r ∷ rows) ≡ filter (reached a) rows
 filter_out a r rows e = rw e refl
 
-greater_second : (r s : Row) → r.address ≤ s.address → greater r s ≡ s
+pub greater_second : (r s : Row) → r.address ≤ s.address → greater r s ≡ s
 greater_second r s h = let e : leb r.address s.address ≡ true = grind (arith, h) in rw e refl
 
 greater_first : (r s : Row) → s.address < r.address → greater r s ≡ r
@@ -32,14 +32,14 @@ abbrev NotAbove : ℕ → Row → List Row → Type 0
 NotAbove a row rows = AllByRecursion (λ (r : Row). r.address ≤ a → r.address ≤ row.address) rows
 
 -- the best row, going on from one
-abbrev best_from : ℕ → Row → List Row → Row
+abbrev pub best_from : ℕ → Row → List Row → Row
 best_from a best rows = fold greater best (filter (reached a) rows)
 
 -- one row further
-on_in : (a : ℕ) (best y : Row) (ys : List Row) → leb y.address a ≡ true → best_from a best (y ∷ ys) ≡ best_from a (greater best y) ys
+pub on_in : (a : ℕ) (best y : Row) (ys : List Row) → leb y.address a ≡ true → best_from a best (y ∷ ys) ≡ best_from a (greater best y) ys
 on_in a best y ys e = ap (λ (rows : List Row). fold greater best rows) (filter_in a y ys e)
 
-on_out : (a : ℕ) (best y : Row) (ys : List Row) → leb y.address a ≡ false → best_from a best (y ∷ ys) ≡ best_from a best ys
+pub on_out : (a : ℕ) (best y : Row) (ys : List Row) → leb y.address a ≡ false → best_from a best (y ∷ ys) ≡ best_from a best ys
 on_out a best y ys e = ap (λ (rows : List Row). fold greater best rows) (filter_out a y ys e)
 
 keeps_by : (a : ℕ) (best y : Row) (ys : List Row) (t : Bool) → leb y.address a ≡ t → (y.address ≤ a → y.address < best.address) → best_from a best ys ≡ best → best_from a best (y ∷ ys) ≡ best
@@ -120,10 +120,10 @@ nearest_found a (y ∷ ys) = found_by a y ys (leb y.address a) refl (best_of a y
 
 -- ---- the first sequence
 
-first_here : {A : Type 0} (test : A → Bool) (x : A) (xs : List A) → test x ≡ true → find test (x ∷ xs) ≡ Some x
+pub first_here : {A : Type 0} (test : A → Bool) (x : A) (xs : List A) → test x ≡ true → find test (x ∷ xs) ≡ Some x
 first_here test x xs e = rw e refl
 
-first_later : {A : Type 0} (test : A → Bool) (x : A) (xs : List A) → test x ≡ false → find test (x ∷ xs) ≡ find test xs
+pub first_later : {A : Type 0} (test : A → Bool) (x : A) (xs : List A) → test x ≡ false → find test (x ∷ xs) ≡ find test xs
 first_later test x xs e = rw e refl
 
 find_first : {A : Type 0} (test : A → Bool) (before after : List A) (x : A) → AllByRecursion (λ y. test y ≡ false) before → test x ≡ true → find test (before ++ x ∷ after) ≡ Some x
@@ -135,7 +135,7 @@ all_as h [] all = tt
 all_as h (x ∷ xs) all = (h x all.0, all_as h xs all.1)
 
 -- The test is the fact.
-holds_from_true : (a : ℕ) (rows : List Row) (last : ℕ) → HoldsFrom a rows last → holds_from a rows last ≡ true
+pub holds_from_true : (a : ℕ) (rows : List Row) (last : ℕ) → HoldsFrom a rows last → holds_from a rows last ≡ true
 holds_from_true a [] last h = absurd h
 holds_from_true a (r ∷ rows) last h =
     let kept : eqb r.address 0 ≡ false = grind (arith, h.0.0) in
@@ -151,7 +151,7 @@ holds_from_by a r rows last false false u v e f g h all = absurd cc
 holds_from_by a r rows last false true false v e f g h all = absurd cc
 holds_from_by a r rows last false true true false e f g h all = absurd cc
 
-holds_from_fact : (a : ℕ) (rows : List Row) (last : ℕ) → holds_from a rows last ≡ true → HoldsFrom a rows last
+pub holds_from_fact : (a : ℕ) (rows : List Row) (last : ℕ) → holds_from a rows last ≡ true → HoldsFrom a rows last
 holds_from_fact a [] last e = absurd cc
 holds_from_fact a (r ∷ rows) last e = holds_from_by a r rows last (eqb r.address 0) (ltb r.address 0xfffffffe) (leb r.address a) (ltb a last) refl refl refl refl e
 

@@ -1,7 +1,8 @@
 -- The row of an address.
-use Rattle.std.specs.Prelude.{◌≡◌, ◌≢◌, ◌<◌, ◌≤◌, ℕ, List, [], ◌∷◌, ◌++◌, Option, Some, None, Bool, false, not, ◌&&◌, ◌==◌, nat_lt, nat_le, find, filter, option_and_then, if◌then◌else◌}
+use Rattle.std.specs.Prelude.{◌≡◌, ◌≢◌, ◌<◌, ◌≤◌, ℕ, List, [], ◌∷◌, ◌++◌, Option, Some, None, nat_le, find, filter, option_and_then, if◌then◌else◌}
 use Rattle.std.specs.List.{AllByRecursion, reduce}
 use Rattle.dwarf_line.specs.declared.lines.Row.{Row}
+pub use Rattle.dwarf_line.specs.Holding.{holds_from, holds}
 use Rattle.dwarf_line.specs.declared.lines.Sequence.{Sequence}
 use Rattle.dwarf_line.specs.declared.lines.Lines.{Lines}
 
@@ -50,13 +51,6 @@ IsPlaceIfAny address sequences (Some row) = IsPlace address sequences row
 IsPlaceIfAny address sequences None = HoldsNone address sequences
 
 -- ---- the same, computed
-
-abbrev pub holds_from : ℕ → List Row → ℕ → Bool
-holds_from address [] last = false
-holds_from address (first ∷ rows) last = not (first.address == 0) && (nat_lt first.address 0xfffffffe && (nat_le first.address address && nat_lt address last))
-
-abbrev pub holds : ℕ → Sequence → Bool
-holds address s = holds_from address s.rows s.«end»
 
 -- the one with the greater address, the second of equals
 abbrev pub greater : Row → Row → Row

@@ -8,13 +8,17 @@ mod opcodes;
 mod parameters;
 mod place;
 mod program;
+mod rows;
+mod sequences;
 
 pub use causes::NoMemory;
 pub use dwarf_bytes::ReadFault;
 pub use header::{Header, Tables, Versions, old_header};
-pub use lines::{Directories, LineFile, LineFiles, Lines, Row, Rows, Sequence, Sequences};
+pub use lines::{Directories, LineFile, LineFiles, Lines, Row, Sequence};
 pub use parameters::{Parameters, read_parameters};
 pub use program::{read_lines, read_program};
+pub use rows::Rows;
+pub use sequences::Sequences;
 
 #[cfg(test)]
 mod tests;

@@ -1,5 +1,7 @@
 //! What a line program says (DWARF 4 section 6.2).
 
+use crate::rows::Rows;
+use crate::sequences::Sequences;
 use pm_text::Items;
 use wasm_bytes::Run;
 
@@ -13,8 +15,6 @@ pub struct Row {
     pub column: u32,
 }
 
-pub type Rows = Items<Row>;
-
 /// Rows of instructions that stand one behind the other.
 #[derive(Drop)]
 pub struct Sequence {
@@ -22,8 +22,6 @@ pub struct Sequence {
     /// The address behind the last instruction.
     pub end: u32,
 }
-
-pub type Sequences = Items<Sequence>;
 
 /// A source file.
 #[derive(Drop)]

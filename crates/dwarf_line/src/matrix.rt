@@ -4,9 +4,10 @@ ghost use Rattle.std.specs.Prelude.{◌≡◌, ◌+◌, ◌*◌, OnOk};
 ghost use Rattle.dwarf_line.specs.Rows.{first_registers, with_address, with_line, appended, ended, first_matrix, step};
 ghost use Rattle.dwarf_line.specs.inner.Running.{running_step};
 
-use crate::lines::{LineFiles, Row, Rows, Sequence, Sequences};
+use crate::lines::{LineFiles, Row, Sequence};
 use crate::opcodes::{Opcode, read_opcode};
 use crate::parameters::Parameters;
+use crate::rows::Rows;
 use causes::NoMemory;
 use pm_text::Items;
 use std::alloc::Global;
@@ -42,9 +43,9 @@ impl Row {
 /// What was made so far.
 #[derive(Drop)]
 pub struct Matrix<'a> {
-    pub sequences: Sequences,
+    pub sequences: Items<Sequence>,
     /// The rows behind the last sequence.
-    pub rows: Rows,
+    pub rows: Items<Row>,
     pub registers: Row,
     pub files: LineFiles<'a>,
 }
@@ -73,7 +74,7 @@ impl<'a> Matrix<'a> {
     {
         let rows = mem::replace(&mut self.rows, Items::new(alloc));
         self.sequences.push(Sequence {
-            rows,
+            rows: Rows::new(rows),
             end: self.registers.address,
         })?;
         self.registers = Row::first();

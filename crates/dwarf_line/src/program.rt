@@ -11,6 +11,7 @@ ghost use Rattle.dwarf_line.specs.Program.{opcodes_item, program_item, lines_ite
 use crate::header::{Header, Versions, old_header};
 use crate::lines::Lines;
 use crate::matrix::{Matrix, Running};
+use crate::sequences::Sequences;
 use dwarf_bytes::{ReadFault, number, open_unit};
 use std::alloc::Global;
 use wasm_bytes::{ItemFault, Reader, gather_to_end};
@@ -29,11 +30,13 @@ fn run<'a>(
         matrix: Matrix::new(alloc, tables.files),
     };
     gather_to_end(alloc, &mut running, reader)?;
+    let matrix = running.matrix;
+    let sequences = Sequences::new(alloc, matrix.sequences)?;
     Ok(Lines {
         first: header.first,
         directories: tables.directories,
-        files: running.matrix.files,
-        sequences: running.matrix.sequences,
+        files: matrix.files,
+        sequences,
     })
 }
 

@@ -38,6 +38,19 @@ const EACH: [u8; 133] = [
     0x20, 0x00, 0x01, 0x01, 0x01,
 ];
 
+// Sequences that are apart and not in order: from 40 to 50, of removed code at 0, from 2 to 16, from 30 to 34, and from 100 to 108
+// with a second row at 96, which the standard forbids.
+const APART: [u8; 114] = [
+    0x6E, 0x00, 0x00, 0x00, 0x04, 0x00, 0x1B, 0x00, 0x00, 0x00, 0x01, 0x01, 0x01, 0xFB, 0x0E, 0x0D,
+    0x00, 0x01, 0x01, 0x01, 0x01, 0x00, 0x00, 0x00, 0x01, 0x00, 0x00, 0x01, 0x00, 0x74, 0x2E, 0x63,
+    0x00, 0x00, 0x00, 0x00, 0x00, 0x00, 0x05, 0x02, 0x28, 0x00, 0x00, 0x00, 0x13, 0x4B, 0x02, 0x06,
+    0x00, 0x01, 0x01, 0x00, 0x05, 0x02, 0x00, 0x00, 0x00, 0x00, 0x14, 0x02, 0x14, 0x00, 0x01, 0x01,
+    0x00, 0x05, 0x02, 0x02, 0x00, 0x00, 0x00, 0x15, 0x4B, 0x13, 0x02, 0x0A, 0x00, 0x01, 0x01, 0x00,
+    0x05, 0x02, 0x1E, 0x00, 0x00, 0x00, 0x16, 0x4C, 0x02, 0x00, 0x00, 0x01, 0x01, 0x00, 0x05, 0x02,
+    0x64, 0x00, 0x00, 0x00, 0x17, 0x00, 0x05, 0x02, 0x60, 0x00, 0x00, 0x00, 0x18, 0x02, 0x0C, 0x00,
+    0x01, 0x01,
+];
+
 // An address, and the address, file, line and column of its row.
 const SMALL_PLACES: [[u32; 5]; 3] = [[2, 2, 1, 2, 0], [45, 43, 1, 5, 0], [48, 43, 1, 5, 0]];
 
@@ -57,6 +70,20 @@ const EACH_PLACES: [[u32; 5]; 7] = [
     [115, 112, 2, 7, 7],
     [135, 8, 1, 100, 0],
 ];
+
+const APART_PLACES: [[u32; 5]; 9] = [
+    [2, 2, 1, 4, 0],
+    [7, 6, 1, 6, 0],
+    [15, 6, 1, 6, 0],
+    [30, 30, 1, 5, 0],
+    [33, 30, 1, 5, 0],
+    [43, 40, 1, 2, 0],
+    [44, 44, 1, 3, 0],
+    [49, 44, 1, 3, 0],
+    [107, 100, 1, 6, 0],
+];
+
+const APART_NONE: [u32; 8] = [1, 16, 29, 34, 39, 50, 99, 108];
 
 // Bytes of SMALL that make it unreadable: the version, operations of an instruction, line range, opcode base, the length
 // of an extended opcode, that of the header, and those of the unit.
@@ -104,6 +131,18 @@ fn places_are_found(rt: HostRuntime) -> Result<(), Fail> {
     let each = program(rt.alloc(), &EACH)?;
     assert!(rt; has_places(&each, &EACH_PLACES));
     assert!(rt; each.place(7).is_none() && each.place(136).is_none());
+    Ok(())
+}
+
+#[test]
+fn sequences_that_are_apart_are_found(rt: HostRuntime) -> Result<(), Fail> {
+    let apart = program(rt.alloc(), &APART)?;
+    assert!(rt; has_places(&apart, &APART_PLACES));
+    assert!(rt;
+        APART_NONE
+            .iter()
+            .all(|address| apart.place(*address).is_none())
+    );
     Ok(())
 }
 

@@ -1,11 +1,9 @@
 -- References that meet an entry, by a test of offsets.
-use Rattle.std.specs.Prelude.{ℕ, List, Option, Bool, map, ◌==◌, if◌then◌else◌}
-use Rattle.std.specs.List.{list_any}
+use Rattle.std.specs.Prelude.{ℕ, List, Option, Some, None, Bool, true, map, option_map, find, ◌==◌, if◌then◌else◌}
+use Rattle.std.specs.List.{list_any, list_all}
 use Rattle.std.specs.Option.{is_some}
-use Rattle.std.specs.Ordering.{nat_cmp}
-use Rattle.std.specs.BTreeMap.{get}
 use Rattle.dwarf_info.specs.declared.places.EntryPlace.{EntryPlace}
-use Rattle.dwarf_info.specs.declared.places.Places.{Places}
+use Rattle.dwarf_info.specs.declared.places.PlacedEntry.{PlacedEntry}
 use Rattle.dwarf_info.specs.declared.entry.AttrValue.{AttrValue}
 use Rattle.dwarf_info.specs.declared.entry.AttrValue.TheVariants.{Reference, Other}
 use Rattle.dwarf_info.specs.declared.entry.Attribute.{Attribute}
@@ -14,8 +12,14 @@ use Rattle.dwarf_info.specs.declared.entry.Unit.{Unit as UnitTree}
 use Rattle.dwarf_info.specs.declared.entry.UnitAnswer.{UnitAnswer}
 use Rattle.dwarf_info.specs.declared.entry.UnitAnswer.TheVariants.{Tree, Unreadable}
 
-abbrev pub placed : Places → ℕ → Option EntryPlace
-placed p at = get nat_cmp p.places at
+-- the place of the first entry with an offset
+abbrev pub placed : List PlacedEntry → ℕ → Option EntryPlace
+placed entries at = option_map (λ e. e.place) (find (λ e. e.at == at) entries)
+
+-- the place of an entry, if it has that offset
+abbrev pub placed_by : ℕ → Option PlacedEntry → Option EntryPlace
+placed_by at (Some e) = if e.at == at then Some e.place else None
+placed_by at None = None
 
 -- An entry stands there.
 abbrev pub meets : (ℕ → Option EntryPlace) → ℕ → Bool
@@ -25,11 +29,22 @@ abbrev pub settled_by : (ℕ → Bool) → AttrValue → AttrValue
 settled_by meets (Reference at) = if meets at then Reference at else Other
 settled_by meets v = v
 
+-- It stays as it is: it is no reference, or one that meets an entry.
+abbrev pub is_met : (ℕ → Bool) → AttrValue → Bool
+is_met meets (Reference at) = meets at
+is_met meets v = true
+
 abbrev pub attribute_by : (ℕ → Bool) → Attribute → Attribute
 attribute_by meets a = record { name = a.name; value = settled_by meets a.value }
 
+abbrev pub are_met : (ℕ → Bool) → List Attribute → Bool
+are_met meets attributes = list_all (λ a. is_met meets a.value) attributes
+
 abbrev pub entry_by : (ℕ → Bool) → Entry → Entry
 entry_by meets e = record e { attributes = map (attribute_by meets) e.attributes }
+
+abbrev pub all_met : (ℕ → Bool) → List Entry → Bool
+all_met meets entries = list_all (λ e. are_met meets e.attributes) entries
 
 abbrev pub unit_by : (ℕ → Bool) → UnitTree → UnitTree
 unit_by meets u = record u { entries = map (entry_by meets) u.entries }

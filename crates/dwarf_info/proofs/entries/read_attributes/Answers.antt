@@ -22,7 +22,7 @@ pub returns-in_err-read_attribute-clause-item : goal.returns-in_err-read_attribu
 unfolding attributes_item
 returns-in_err-read_attribute-clause-item g c =
     let f = slot_item (seen g.V.UnitVersion.version g.V.UnitVersion.looked c.args.context.now) in
-    let p = err_from_is_err_and c.from_residual.result c.from_residual.ensures.1 in
+    let p = err_from_is_err_and c.from_residual-in_err-read_attribute.result c.from_residual-in_err-read_attribute.ensures.1 in
     let failing = each_fails f c.args.slots.now c.slots.slot-index c.slot-item.result c.slots.reader c.in_err-read_attribute.field-0.0.at c.slots-test.true c.slot-item.is c.in_err-read_attribute.ensures.item in
     rw (p.1, p.2) (left_fails _ _ (in_front c.slots.attributes.items) (faults.At c.in_err-read_attribute.field-0.0.at) c.slots.invariant.so_far failing)
 

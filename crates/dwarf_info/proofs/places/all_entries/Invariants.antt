@@ -2,7 +2,7 @@ use Rattle.std.proofs.Common.{◌≡◌, ℕ, drop}
 use Rattle.std.specs.Option.{option_or}
 use Rattle.dwarf_info.specs.inner.Settling.{placed}
 use Rattle.dwarf_info.specs.EntryPlaces.{place_among}
-use Rattle.dwarf_info.proofs.places.Places.of.Given as goal
+use Rattle.dwarf_info.proofs.places.all_entries.Given as goal
 
 abbrev pub invariant-units : goal.invariant-units
-invariant-units l = (q : ℕ) → option_or (placed l.places q) (place_among l.unit (drop l.unit l.units) q) ≡ place_among 0 l.units q
+invariant-units l = (q : ℕ) → option_or (placed l.rows q) (place_among l.unit (drop l.unit l.units) q) ≡ place_among 0 l.units q

@@ -1,8 +1,0 @@
-use Rattle.std.proofs.Common.{◌≡◌, ℕ, drop}
-use Rattle.std.specs.Option.{option_or}
-use Rattle.dwarf_info.specs.inner.Settling.{placed}
-use Rattle.dwarf_info.specs.EntryPlaces.{place_in}
-use Rattle.dwarf_info.proofs.places.Places.add_entries.Given as goal
-
-abbrev pub invariant-entries : goal.invariant-entries
-invariant-entries l = (q : ℕ) → option_or (placed l.self q) (place_in l.unit l.number (drop l.number l.entries) q) ≡ option_or (placed l.initial.self q) (place_in l.unit 0 l.entries q)
