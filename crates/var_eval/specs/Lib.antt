@@ -1,1 +1,4 @@
 pub mod Variables
+pub mod Frames
+pub mod Locations
+pub mod Shown

@@ -11,7 +11,7 @@ use Rattle.var_path.specs.Words.{is_letter, is_name_byte, is_front, is_bracketed
 use Rattle.var_path.specs.Language.{PathTree, starred, named, grouped, with_member, with_arrow, with_index, CanBeFollowed, IsPathTree, spelling, path, extended, then_step, meaning}
 use Rattle.var_path.specs.Reading.{step_read, begins_name, named_step, one_step, derefs, behind_stars, if_none_open, if_one_open, step_and, steps_behind, path_behind, read_path}
 use Rattle.var_path.proofs.Spans.{Stops, both, front_of, behind_of, reversed_onto}
-use Rattle.var_path.proofs.StepLaws.{read_end, read_one}
+use Rattle.var_path.proofs.StepLaws.{name_byte, read_end, read_one}
 use Rattle.var_path.proofs.Digits.{some_index}
 
 -- A text is read where these stars and parentheses are unclosed.
@@ -99,14 +99,11 @@ begins : (name rest : List ℕ) → is_name name ≡ true → begins_name (name 
 begins [] rest e = absurd cc
 begins (b ∷ bs) rest e = (both (is_letter b) (list_all is_name_byte bs) e).0
 
-letter_byte : (b : ℕ) → is_letter b ≡ true → is_name_byte b ≡ true
-letter_byte b is = rw is refl
-
 all_bytes : (name : List ℕ) → is_name name ≡ true → list_all is_name_byte name ≡ true
 all_bytes [] e = absurd cc
 all_bytes (b ∷ bs) e =
     let parted = both (is_letter b) (list_all is_name_byte bs) e in
-    rw (letter_byte b parted.0) parted.1
+    rw (name_byte b parted.0) parted.1
 
 no_front : (b : ℕ) → is_letter b ≡ true → is_front b ≡ false
 no_front b is = by_tests b (b == 42) refl (b == 40) refl is

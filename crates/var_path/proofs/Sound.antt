@@ -13,7 +13,7 @@ use Rattle.var_path.specs.Words.{is_name_byte, is_star, is_front, in_front, behi
 use Rattle.var_path.specs.Language.{PathTree, starred, named, grouped, with_member, with_arrow, with_index, CanBeFollowed, IsPathTree, spelling, path, extended, then_step, meaning, SpellsPath}
 use Rattle.var_path.specs.Reading.{begins_name, one_step, derefs, behind_stars, if_none_open, if_one_open, step_and, steps_behind, read_path}
 use Rattle.var_path.proofs.Spans.{Stops, both, parts, passes, stops, reversed_onto, all_reversed}
-use Rattle.var_path.proofs.StepLaws.{IsStep, name_in_front, step_spelled, shorter, read_end, read_one}
+use Rattle.var_path.proofs.StepLaws.{IsStep, name_in_front, some_is, step_spelled, shorter, read_end, read_one}
 use Rattle.var_path.proofs.Complete.{spelled_read}
 
 -- ---- a step more
@@ -57,9 +57,6 @@ Text unclosed t rest = reverse unclosed ++ (spelling t ++ rest)
 
 abbrev Found : List ℕ → PathTree → List ℕ → List Step → Type 0
 Found unclosed t rest steps = SpellsPath (extended (meaning t) steps) (Text unclosed t rest)
-
-some_is : {A : Type 0} (x y : A) → Some x ≡ Some y → x ≡ y
-some_is x y e = cc
 
 at_end : (unclosed : List ℕ) (t : PathTree) → IsPathTree t → (steps : List Step) (left : List ℕ) → behind_stars unclosed ≡ left → if_none_open (derefs unclosed) left ≡ Some steps → Found unclosed t [] steps
 at_end unclosed t h steps (b ∷ left) is e = absurd cc

@@ -19,7 +19,7 @@ IsStep Deref word = ⊥
 
 -- ---- what is read is spelled
 
-name_byte : (b : ℕ) → is_letter b ≡ true → is_name_byte b ≡ true
+pub name_byte : (b : ℕ) → is_letter b ≡ true → is_name_byte b ≡ true
 name_byte b is = rw is refl
 
 pub name_in_front : (text : List ℕ) → begins_name text ≡ true → is_name (in_front is_name_byte text) ≡ true
@@ -31,7 +31,7 @@ name_in_front (b ∷ bs) e =
 abbrev pub Spelled : ℕ → List ℕ → StepRead → Type 0
 Spelled b text r = (word : List ℕ) × IsStep r.step word × (b ∷ text ≡ word ++ r.behind)
 
-some_is : {A : Type 0} (x y : A) → Some x ≡ Some y → x ≡ y
+pub some_is : {A : Type 0} (x y : A) → Some x ≡ Some y → x ≡ y
 some_is x y e = cc
 
 member_by : (text : List ℕ) (r : StepRead) (t : Bool) → begins_name text ≡ t → (if t then Some (step_read (Member (in_front is_name_byte text)) (behind is_name_byte text)) else None) ≡ Some r → Spelled 46 text r

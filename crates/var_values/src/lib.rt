@@ -8,7 +8,7 @@ mod source;
 mod texts;
 
 pub use bytes::byte_at;
-pub use mark::Mark;
+pub use mark::{Mark, first_mark};
 pub use numbers::number_at;
 pub use source::Source;
 pub use texts::{push_address, push_base, push_enumeration};

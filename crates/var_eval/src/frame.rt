@@ -1,0 +1,92 @@
+//! Frames as variables see them.
+
+ghost use Rattle.std.specs.Prelude.{◌≡◌, IfOk};
+ghost use Rattle.var_eval.specs.Frames.{frame_of};
+ghost use Rattle.var_eval.specs.Locations as locations;
+
+use crate::locations::base_in;
+use causes::NoMemory;
+use dwarf_expr::{Base, FrameView};
+use dwarf_info::{Sections5, Units};
+use dwarf_scopes::subprogram_at;
+use std::alloc::Global;
+use std::marker::Model;
+
+/// A frame as its variables see it: what the sections of its module say, the address of the code where it stands, and what is
+/// recorded of it.
+#[derive(Drop)]
+pub struct Frame<'s, 'u, 'w, 'v, 'a> {
+    sections: &'s Sections5<'a>,
+    units: &'u Units<'a>,
+    address: u32,
+    view: &'w FrameView<'v>,
+    base: Base,
+}
+
+impl<'s, 'u, 'w, 'v, 'a> Model for Frame<'s, 'u, 'w, 'v, 'a> {
+    ghost use Rattle.std.specs.Prelude.{◌≡◌};
+    ghost use Rattle.var_eval.specs.Frames.{Frame, frame_of};
+    ghost use Rattle.var_eval.specs.Locations.{base_of};
+
+    ghost Value = { Frame };
+
+    ghost view = { λ f. frame_of f.sections.now f.units.now f.address f.view.now };
+
+    ghost invariant = { λ f. f.base
+        ≡ base_of (frame_of f.sections.now f.units.now f.address f.view.now) };
+}
+
+impl<'s, 'u, 'w, 'v, 'a> Frame<'s, 'u, 'w, 'v, 'a> {
+    #[tactic(auto, unfolding(crate::specs::Locations::base_of))]
+    pub fn new(
+        alloc: Global,
+        sections: &'s Sections5<'a>,
+        units: &'u Units<'a>,
+        address: u32,
+        view: &'w FrameView<'v>,
+    ) -> Result<Self, NoMemory>
+        ensures { IfOk result (λ f. f ≡ frame_of sections.now units.now address view.now) }
+    {
+        let subprogram = subprogram_at(sections, units.as_slice(), address);
+        let base = base_in(alloc, sections, address, view, &subprogram)?;
+        Ok(Frame {
+            sections,
+            units,
+            address,
+            view,
+            base,
+        })
+    }
+
+    pub fn sections(&self) -> &'s Sections5<'a>
+        ensures { result.now ≡ self.now.sections }
+    {
+        self.sections
+    }
+
+    pub fn units(&self) -> &'u Units<'a>
+        ensures { result.now ≡ self.now.units }
+    {
+        self.units
+    }
+
+    /// Of the code where it stands.
+    pub fn address(&self) -> u32
+        ensures { result ≡ self.now.address }
+    {
+        self.address
+    }
+
+    pub fn view(&self) -> &'w FrameView<'v>
+        ensures { result.now ≡ self.now.view }
+    {
+        self.view
+    }
+
+    /// The frame base (DWARF 4 section 3.3.5).
+    pub fn base(&self) -> Base
+        ensures { result ≡ locations.base_of self.now }
+    {
+        self.base
+    }
+}

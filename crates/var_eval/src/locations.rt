@@ -1,0 +1,229 @@
+//! Where variables are (DWARF 4 sections 2.6, 3.3.5 and 4.1; DWARF 5 section 2.6).
+
+ghost use Rattle.std.specs.Prelude.{◌≡◌, ◌<◌, ◌^◌, IfOk, Some, length, take, drop};
+ghost use Rattle.dwarf_info.specs.declared.entry.AttrValue.TheVariants.{Offset};
+ghost use Rattle.dwarf_scopes.specs.Lists.{location_in as entry_in};
+ghost use Rattle.dwarf5_expr.specs.Units.{plain_of};
+ghost use Rattle.dwarf_expr.specs.Meaning.{meaning};
+ghost use Rattle.dwarf_expr.specs.FrameBase.{frame_base as base_given};
+ghost use Rattle.var_eval.specs.Locations as locations;
+
+use crate::frame::Frame;
+use crate::located::Located;
+use causes::NoMemory;
+use dwarf_entries::names::{CONST_VALUE, FRAME_BASE, LOCATION};
+use dwarf_entries::{Standing, attribute, number};
+use dwarf_expr::{Base, Eval, FrameView, PiecePlace, eval, frame_base};
+use dwarf_info::{AttrValue, Sections5, Unit};
+use dwarf_loc::Span;
+use dwarf_scopes::location_in;
+use dwarf5_expr::plain_expr;
+use std::alloc::Global;
+use var_values::{Mark, Source};
+use wasm_bytes::Run;
+
+/// What stands from an offset on.
+fn behind(section: &[u8], at: usize) -> &[u8]
+    ensures { result.now ≡ drop at section.now }
+{
+    if at < section.len() {
+        &section[at..]
+    } else {
+        &[]
+    }
+}
+
+/// So many bytes at the front, or all where there are fewer.
+fn front(bytes: &[u8], len: usize) -> &[u8]
+    ensures { result.now ≡ take len bytes.now }
+{
+    if len < bytes.len() {
+        &bytes[..len]
+    } else {
+        bytes
+    }
+}
+
+/// The bytes of a span of a section.
+fn spanned<'a>(section: &'a [u8], span: Span) -> &'a [u8]
+    ensures { result.now ≡ locations.spanned section.now span }
+{
+    front(behind(section, span.at), span.len)
+}
+
+/// The section that holds the location lists of a unit.
+fn lists_of<'a>(sections: &Sections5<'a>, unit: &Unit<'a>) -> &'a [u8]
+    ensures { result.now ≡ locations.lists_of sections.now unit.now }
+{
+    if unit.version == 5 {
+        sections.loclists
+    } else {
+        sections.base.loc
+    }
+}
+
+/// The entry of a list that counts for an address, where a list stands at the offset.
+fn entry_at<'a>(
+    sections: &Sections5<'a>,
+    unit: &Unit<'a>,
+    at: u32,
+    address: u32,
+) -> Option<Option<Span>>
+    ensures { result ≡ entry_in sections.now unit.now at address }
+{
+    match location_in(sections, unit, at as usize, address) {
+        Ok(entry) => Some(entry),
+        Err(_) => None,
+    }
+}
+
+/// What the list at an offset says of an address.
+fn in_list<'a>(sections: &Sections5<'a>, unit: &Unit<'a>, at: u32, address: u32) -> Located<'a>
+    ensures { result ≡ locations.located_by sections.now address unit.now (Some (Offset at)) }
+{
+    match entry_at(sections, unit, at, address) {
+        Some(Some(span)) => Located::Expression(Run::new(spanned(lists_of(sections, unit), span))),
+        Some(None) => Located::NoEntry,
+        None => Located::Unreadable,
+    }
+}
+
+/// What the attribute of a name says of an address.
+fn located<'r, 'a>(
+    sections: &Sections5<'a>,
+    address: u32,
+    standing: &Standing<'r, 'a>,
+    name: u64,
+) -> Located<'a>
+    ensures { result ≡ locations.located sections.now address standing.now name }
+{
+    match attribute(standing.entry().attributes.as_slice(), name) {
+        Some(AttrValue::Block(expr)) => Located::Expression(Run::new(expr.as_slice())),
+        Some(AttrValue::Offset(at)) => in_list(sections, standing.unit(), *at, address),
+        _ => Located::Unsaid,
+    }
+}
+
+/// An expression whose offsets have 32 bits. A longer one takes more memory than there is.
+fn short(expr: &[u8]) -> Result<&[u8], NoMemory>
+    ensures same { IfOk result (λ e. e.now ≡ expr.now) }
+    ensures short { IfOk result (λ e. length e.now < 2 ^ 32) }
+{
+    if expr.len() > u32::MAX as usize {
+        return Err(NoMemory);
+    }
+    Ok(expr)
+}
+
+/// What an expression of a unit means with a frame base.
+fn eval_in(
+    alloc: Global,
+    sections: &Sections5<'_>,
+    unit: &Unit<'_>,
+    view: &FrameView<'_>,
+    base: Base,
+    expr: &[u8],
+) -> Result<Eval, NoMemory>
+    ensures { IfOk result (λ e. e
+        ≡ meaning (plain_of sections.now unit.now expr.now) view.now base) }
+{
+    if unit.version == 5 {
+        let plain = plain_expr(alloc, sections, unit, expr)?;
+        Ok(eval(short(plain.as_slice())?, view, base))
+    } else {
+        Ok(eval(short(expr)?, view, base))
+    }
+}
+
+/// The frame base that an expression of a unit gives.
+fn base_meant(
+    alloc: Global,
+    sections: &Sections5<'_>,
+    unit: &Unit<'_>,
+    view: &FrameView<'_>,
+    expr: &[u8],
+) -> Result<Base, NoMemory>
+    ensures { IfOk result (λ b. b
+        ≡ base_given (Some (plain_of sections.now unit.now expr.now)) view.now) }
+{
+    if unit.version == 5 {
+        let plain = plain_expr(alloc, sections, unit, expr)?;
+        Ok(frame_base(short(plain.as_slice())?, view))
+    } else {
+        Ok(frame_base(short(expr)?, view))
+    }
+}
+
+/// The frame base of a subprogram, or none.
+pub fn base_in<'r, 'a>(
+    alloc: Global,
+    sections: &Sections5<'a>,
+    address: u32,
+    view: &FrameView<'_>,
+    subprogram: &Option<Standing<'r, 'a>>,
+) -> Result<Base, NoMemory>
+    ensures { IfOk result (λ b. b
+        ≡ locations.base_in sections.now address view.now subprogram.now) }
+{
+    let Some(subprogram) = subprogram else {
+        return Ok(Base::Absent);
+    };
+    match located(sections, address, subprogram, FRAME_BASE) {
+        Located::Expression(expr) => {
+            base_meant(alloc, sections, subprogram.unit(), view, expr.as_slice())
+        }
+        Located::Unsaid | Located::NoEntry | Located::Unreadable => Ok(Base::Absent),
+    }
+}
+
+/// Where a value comes from by what its expression means.
+fn source_meant(eval: Eval) -> Source
+    ensures { result ≡ locations.source_of eval }
+{
+    match eval {
+        Eval::Empty => Source::Lost(Mark::OptimisedOut),
+        Eval::Value(word) => Source::Single(PiecePlace::Value(word)),
+        Eval::Address(address) => Source::Single(PiecePlace::Address(address)),
+        Eval::Pieces(pieces) => Source::Pieces(pieces),
+        Eval::Missing => Source::Lost(Mark::NotRecorded),
+        Eval::Outside(_) => Source::Lost(Mark::OutsideMemory),
+        Eval::Unsupported { op: _, at: _ } => Source::Lost(Mark::UnsupportedExpression),
+        Eval::BadExpr { at: _ } => Source::Lost(Mark::BadExpression),
+        Eval::TooDeep => Source::Lost(Mark::ExpressionTooDeep),
+    }
+}
+
+/// A variable that is a constant, modulo 2^64.
+fn constant_source(standing: &Standing<'_, '_>) -> Source
+    ensures { result ≡ locations.constant_source standing.now }
+{
+    match number(standing.entry().attributes.as_slice(), CONST_VALUE) {
+        Some(constant) => {
+            let word = constant.rem_euclid(0x1_0000_0000_0000_0000);
+            Source::Single(PiecePlace::Value(word as u64))
+        }
+        None => Source::Lost(Mark::OptimisedOut),
+    }
+}
+
+/// Where a variable comes from in a frame.
+#[tactic(auto, unfolding(crate::specs::Locations::variable_source))]
+pub fn source_of<'r, 'a>(
+    alloc: Global,
+    frame: &Frame<'_, '_, '_, '_, 'a>,
+    variable: &Standing<'r, 'a>,
+) -> Result<Source, NoMemory>
+    ensures { IfOk result (λ source. source ≡ locations.variable_source frame.now variable.now) }
+{
+    match located(frame.sections(), frame.address(), variable, LOCATION) {
+        Located::Expression(expr) => {
+            let (unit, base) = (variable.unit(), frame.base());
+            let expr = expr.as_slice();
+            let meant = eval_in(alloc, frame.sections(), unit, frame.view(), base, expr)?;
+            Ok(source_meant(meant))
+        }
+        Located::NoEntry => Ok(Source::Lost(Mark::OptimisedOut)),
+        Located::Unreadable => Ok(Source::Lost(Mark::BadExpression)),
+        Located::Unsaid => Ok(constant_source(variable)),
+    }
+}

@@ -1,0 +1,4 @@
+mod Stops
+mod Places
+mod Rows
+mod Walks
