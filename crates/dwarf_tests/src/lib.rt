@@ -4,15 +4,25 @@
 #[cfg(test)]
 mod expression_tests;
 #[cfg(test)]
+mod form_tests;
+#[cfg(test)]
 mod line5_tests;
 #[cfg(test)]
 mod list5_tests;
 #[cfg(test)]
 mod path_tests;
 #[cfg(test)]
+mod print_tests;
+#[cfg(test)]
 mod scope_tests;
 #[cfg(test)]
 mod seen;
+#[cfg(test)]
+mod shown_tests;
+#[cfg(test)]
+mod step_tests;
+#[cfg(test)]
+mod text_tests;
 #[cfg(test)]
 mod type_tests;
 #[cfg(test)]

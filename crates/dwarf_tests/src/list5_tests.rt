@@ -5,8 +5,9 @@ ghost use Rattle.dwarf_info.specs.Sections.{IsReadable5};
 use dwarf_bytes::ReadFault;
 use dwarf_info::{Sections, Sections5, Unit, UnitAnswer};
 use dwarf_loc::Span;
+use dwarf_scopes::{location_in, range_in};
 use dwarf5_expr::{plain_expr, with_addresses};
-use dwarf5_info::{location5_at, range5_holds, read_units5};
+use dwarf5_info::read_units5;
 use dwarf5_lists::AddressTable;
 use std::test::Fail;
 
@@ -30,6 +31,9 @@ const LOCATION_LISTS: [u8; 21] = [
     0x02, 0x02, 0x01, 0x32, 0x00,
 ];
 
+// At 0, in the layout of version 4: from 2 up to 14, counted from the low_pc of a unit.
+const OLD_LISTS: [u8; 19] = [2, 0, 0, 0, 14, 0, 0, 0, 1, 0, 0x30, 0, 0, 0, 0, 0, 0, 0, 0];
+
 // At 0 the offsets 5 to 8, at 4 five addresses from that of index 0 on, at 8 an index without an address.
 const RANGE_LISTS: [u8; 12] = [
     0x04, 0x05, 0x08, 0x00, 0x03, 0x00, 0x05, 0x00, 0x03, 0x02, 0x05, 0x00,
@@ -44,7 +48,7 @@ fn sections<'a>() -> Sections5<'a>
             abbrev: &ABBREV,
             line: &[],
             str: &[],
-            loc: &[],
+            loc: &OLD_LISTS,
             ranges: &[],
         },
         line_str: &[],
@@ -82,7 +86,7 @@ fn is_location(
 
 fn locations_are_found(sections: &Sections5<'_>, unit: &Unit<'_>) -> bool {
     for (list, address, wanted) in LOCATIONS {
-        if !is_location(&location5_at(sections, unit, list, address), wanted) {
+        if !is_location(&location_in(sections, unit, list, address), wanted) {
             return false;
         }
     }
@@ -109,7 +113,7 @@ fn is_held(found: &Result<bool, ReadFault>, wanted: Result<bool, usize>) -> bool
 
 fn ranges_are_held(sections: &Sections5<'_>, unit: &Unit<'_>) -> bool {
     for (list, address, wanted) in RANGES {
-        if !is_held(&range5_holds(sections, unit, list, address), wanted) {
+        if !is_held(&range_in(sections, unit, list, address), wanted) {
             return false;
         }
     }
@@ -132,6 +136,7 @@ fn lists_of_a_unit_are_read(rt: HostRuntime) -> Result<(), Fail> {
         return Err("the second is read".into());
     };
     assert!(rt; locations_are_found(&sections, five));
+    assert!(rt; is_location(&location_in(&sections, four, 0, 103), Ok(Some(10))));
     assert!(rt; ranges_are_held(&sections, five));
     let plain = plain_expr(rt.alloc(), &sections, five, &[0xA1, 0x00]);
     let plain = plain.ok().ok_or("there is memory")?;

@@ -34,12 +34,12 @@ fn types_of_a_module_are_known(rt: HostRuntime) -> Result<(), Fail> {
     Ok(())
 }
 
-const CHAIN_ABBREV: [u8; 22] = [
+pub(crate) const CHAIN_ABBREV: [u8; 22] = [
     1, 17, 1, 0, 0, 2, 36, 0, 62, 11, 11, 11, 0, 0, 3, 22, 0, 73, 17, 0, 0, 0,
 ];
 
 // 16 typedefs from offset 12 on, each of the next one, and `int` behind them.
-const CHAIN: [u8; 48] = [
+pub(crate) const CHAIN: [u8; 48] = [
     44, 0, 0, 0, 4, 0, 0, 0, 0, 0, 4, 1, 3, 14, 3, 16, 3, 18, 3, 20, 3, 22, 3, 24, 3, 26, 3, 28, 3,
     30, 3, 32, 3, 34, 3, 36, 3, 38, 3, 40, 3, 42, 3, 44, 2, 5, 4, 0,
 ];

@@ -235,6 +235,22 @@ const MIXED: [u8; 29] = [
 
 const NAMED: [u8; 8] = [0x01, 0x11, 0x00, 0x03, 0x08, 0x00, 0x00, 0x00];
 
+// How many bytes are left of MIXED, and where the first unit stands that is then cut.
+const CUT: [(usize, usize); 12] = [
+    (1, 0),
+    (3, 0),
+    (4, 0),
+    (6, 0),
+    (12, 0),
+    (14, 0),
+    (16, 15),
+    (18, 15),
+    (19, 15),
+    (21, 15),
+    (26, 15),
+    (28, 15),
+];
+
 // The unit of a compiled module, with references from the section of version 5.
 const COMPILED: [u8; 130] = [
     0x7E, 0x00, 0x00, 0x00, 0x05, 0x00, 0x01, 0x04, 0x00, 0x00, 0x00, 0x00, 0x01, 0x74, 0x2E, 0x63,
@@ -330,6 +346,28 @@ fn has_references(unit: &Unit) -> bool {
         }
     }
     left.next().is_none()
+}
+
+fn is_cut(answer: &UnitAnswer, wanted: usize) -> bool {
+    match answer {
+        UnitAnswer::Unreadable { section, at } => {
+            *at == wanted && section.as_str() == ".debug_info"
+        }
+        UnitAnswer::Tree(_) => false,
+    }
+}
+
+#[test]
+fn a_unit_that_is_cut_is_unreadable_where_it_stands(rt: HostRuntime) -> Result<(), Fail> {
+    for (len, at) in CUT {
+        assert!(rt; len <= MIXED.len());
+        let units = units_of(&rt, rt.alloc(), &MIXED[..len], &NAMED)?;
+        let [.., last] = units.as_slice() else {
+            return Err("there is a unit".into());
+        };
+        assert!(rt; units.as_slice().len() == if at == 0 { 1 } else { 2 } && is_cut(last, at));
+    }
+    Ok(())
 }
 
 #[test]

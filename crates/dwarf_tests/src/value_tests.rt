@@ -1,12 +1,13 @@
 //! Visible variables of a compiled module, bytes of values, and texts of base types. The expected values are by hand.
 
 use crate::unit_tests::{ABBREV, INFO, units_of};
+use dwarf_entries::standing_at;
 use dwarf_expr::{FrameView, PiecePlace};
 use dwarf_info::{Sections, Sections5};
 use pm_text::Text;
 use std::test::Fail;
 use var_eval::visible_at;
-use var_values::{Mark, Source, number_at, push_base};
+use var_values::{Mark, Source, number_at, push_base, push_enumeration};
 
 #[test]
 fn parameters_and_variables_are_visible(rt: HostRuntime) -> Result<(), Fail> {
@@ -61,6 +62,28 @@ fn base_types_have_texts(rt: HostRuntime) -> Result<(), Fail> {
         }
         assert!(rt; text.as_bytes() == expected.as_bytes());
     }
+    Ok(())
+}
+
+const ENUMERATION_ABBREV: [u8; 22] = [
+    1, 17, 1, 0, 0, 2, 4, 1, 11, 11, 0, 0, 3, 40, 0, 3, 8, 28, 13, 0, 0, 0,
+];
+
+// At 12 an enumeration of four bytes: `a` is 1, `b` is -1, and `c` is 1 too.
+const ENUMERATION: [u8; 28] = [
+    24, 0, 0, 0, 4, 0, 0, 0, 0, 0, 4, 1, 2, 4, 3, 97, 0, 1, 3, 98, 0, 0x7f, 3, 99, 0, 1, 0, 0,
+];
+
+#[test]
+fn enumerators_have_names(rt: HostRuntime) -> Result<(), Fail> {
+    let units = units_of(&rt, rt.alloc(), &ENUMERATION, &ENUMERATION_ABBREV, &[])?;
+    let standing = standing_at(&units, 12).ok_or("the enumeration is there")?;
+    let mut text = Text::new(rt.alloc());
+    for value in [1, -1, 7] {
+        push_enumeration(&mut text, &units, &standing, 4, value)?;
+    }
+    text.push_str(Mark::OutsideMemory.text())?;
+    assert!(rt; text.as_bytes() == b"ab7<outside memory>".as_slice());
     Ok(())
 }
 
