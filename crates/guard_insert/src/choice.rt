@@ -1,12 +1,14 @@
 //! Which instructions have a guard, and which one.
 
-ghost use Rattle.std.specs.Prelude.{◌≡◌, ◌+◌, ◌^◌, ◌<◌, ◌≤◌, List, length, OnOk};
+ghost use Rattle.std.specs.Prelude.{◌≡◌, ◌+◌, ◌^◌, ◌<◌, ◌≤◌, true, List, length, OnOk};
 ghost use Rattle.rewrite_bodies.specs.Guards.{can_trap, divides, guard};
 ghost use Rattle.rewrite_bodies.specs.Pieces.{const, i32};
 ghost use Rattle.rewrite_bodies.specs.Rewrite.{Info, guarded};
 ghost use Rattle.int_ops.specs.declared.operators.Binary.TheVariants.{DivS as DivSOf, DivU as DivUOf, RemS as RemSOf, RemU as RemUOf};
 ghost use Rattle.wasm_syntax.specs.declared.instruction.Basic.TheVariants.{Binary as BinaryOf, Load as LoadOf, Store as StoreOf, MemoryCopy as MemoryCopyOf, MemoryFill as MemoryFillOf};
+ghost use Rattle.guard_laws.specs.Verdicts.{IsGuard};
 ghost use Rattle.rewrite_code.specs.Writing.{Emits};
+ghost use Rattle.guard_insert.specs.Meaning.{Writes};
 
 use crate::accesses::{guard_copy, guard_fill, guard_memory, load_bytes, store_bytes};
 use crate::division::{guard_signed, guard_zero};
@@ -179,8 +181,7 @@ fn guard_filled(
     guard_fill(context, writer, len, to, places.len() - 3)
 }
 
-/// The guard of an instruction on these operands, which leaves the kind or 0 on the stack.
-pub fn guard(
+fn write_guard(
     context: &FunctionContext<'_, '_>,
     writer: &mut CodeWriter,
     instruction: &Basic,
@@ -201,6 +202,20 @@ pub fn guard(
         Basic::MemoryFill => guard_filled(context, writer, places),
         _ => no_kind(writer),
     }
+}
+
+/// The guard of an instruction on these operands, which leaves the kind or 0 on the stack.
+pub fn guard(
+    context: &FunctionContext<'_, '_>,
+    writer: &mut CodeWriter,
+    instruction: &Basic,
+    places: &OperandPlaces,
+) -> Result<(), NoMemory>
+    requires { length places.now ≤ context.now.slots }
+    ensures emits { OnOk result (Emits (guard context.now instruction.now places.now) writer.old writer.new) }
+    ensures means { can_trap instruction.now ≡ true → OnOk result (Writes (IsGuard context.now instruction.now places.now) writer.old writer.new) }
+{
+    write_guard(context, writer, instruction, places)
 }
 
 /// The guard with the test of its verdict, where the instruction has one.

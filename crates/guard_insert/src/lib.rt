@@ -4,6 +4,8 @@
 mod accesses;
 mod choice;
 mod division;
+mod entries;
 
 pub use causes::NoMemory;
 pub use choice::{can_trap, guard, guarded};
+pub use entries::{guard_entry, guard_unreachable};

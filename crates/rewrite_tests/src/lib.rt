@@ -4,7 +4,11 @@
 #[cfg(test)]
 mod code_tests;
 #[cfg(test)]
+mod guard_tests;
+#[cfg(test)]
 mod modules;
+#[cfg(test)]
+mod number_tests;
 #[cfg(test)]
 mod piece_tests;
 #[cfg(test)]

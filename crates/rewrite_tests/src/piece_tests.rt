@@ -383,7 +383,8 @@ fn writes_ends(alloc: Global, context: &FunctionContext<'_, '_>) -> Result<bool,
     is_written(alloc, writer, &ENDS)
 }
 
-fn has_two_functions(parts: &ModuleParts) -> bool
+/// Whether there are an import and a function.
+pub fn has_two_functions(parts: &ModuleParts) -> bool
     ensures { OnTrue result (1 < length (function_types parts.now)) }
 {
     if parts.imports.is_empty() || parts.functions.is_empty() {

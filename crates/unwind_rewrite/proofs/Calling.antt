@@ -62,9 +62,9 @@ pub both_tested : (C : Ctx) (ls : List Info) (es : List Place) (o x : ℕ) (othe
     Emits (test_both C ls es o others) a g
 both_tested C ls es o x others at p q r op i j = emits_then (get_at C at p) (emits_then q (emits_then r (emits_within op i j)))
 
-pub entry_guarded : (C : Ctx) (e : Place) (h f x y : ℕ) {a b c d g j : Written} → x ≡ kind_at C → y ≡ kind_at C → Emits (fetch C e h) a b → Emits (call f) b c → Emits (set C x) c d → Emits (get C y) d g → Emits (basic 0 (Eqz I32)) g j →
+pub entry_guarded : (C : Ctx) (e : Place) (h f x y : ℕ) {a c d g j : Written} → x ≡ kind_at C → y ≡ kind_at C → Emits (λ k. fetch C e h (call f k)) a c → Emits (set C x) c d → Emits (get C y) d g → Emits (basic 0 (Eqz I32)) g j →
     Emits (λ k. fetch C e h (call f (set C (kind_at C) (get C (kind_at C) (basic 0 (Eqz I32) k))))) a j
-entry_guarded C e h f x y at there p q r s t = emits_then p (emits_then q (emits_then (set_at C at r) (emits_then (get_at C there s) t)))
+entry_guarded C e h f x y at there p r s t = emits_then p (emits_then (set_at C at r) (emits_then (get_at C there s) t))
 
 pub entry_called : (C : Ctx) (n t : ℕ) (r : Option ValType) (es : List Place) {a b c d : Written} → Emits (load C n es) a b → Emits (jump 0 (CallIndirect t)) b c → Emits (store C r (less n es)) c d →
     EmitsLast (load C n es (jump 0 (CallIndirect t) (store C r (less n es) stop))) a d

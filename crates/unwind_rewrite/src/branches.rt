@@ -9,9 +9,10 @@ ghost use Rattle.rewrite_code.specs.Writing.{Emits, EmitsLast};
 ghost use Rattle.operand_spill.specs.Places.{place};
 
 use causes::NoMemory;
+use guard_insert::guard_unreachable;
 use operand_spill::{FunctionContext, OperandPlace, OperandPlaces};
 use rewrite_code::CodeWriter;
-use wasm_syntax::{ValType, Value};
+use wasm_syntax::ValType;
 
 /// The label to which a branch goes, by what a branch to it carries.
 #[derive(Clone, Copy)]
@@ -178,7 +179,7 @@ pub fn trap(
     requires room { length places.now ≤ context.now.slots }
     ensures { (ls : List Info) (go : List PlaceOf → Nodes) → length ls ≡ labels → OnOk result (EmitsLast (control context.now ls places.now offset Unreachable go) writer.old writer.new) }
 {
-    writer.const_value(Value::I32(1))?;
+    guard_unreachable(writer)?;
     context.tested(writer, labels, places, offset)?;
     writer.unreachable()
 }

@@ -15,6 +15,7 @@ ghost use Rattle.operand_spill.specs.Places.{place};
 
 use crate::left::{store_left, test_both, test_flag};
 use causes::NoMemory;
+use guard_insert::guard_entry;
 use operand_spill::{FunctionContext, OperandPlace, OperandPlaces};
 use rewrite_code::CodeWriter;
 use wasm_syntax::{Basic, FuncType, ValType};
@@ -117,7 +118,7 @@ pub fn call_function(
 }
 
 /// The kind that a helper gives for the index of an entry, which is kept, and whether it is none.
-fn guard_entry(
+fn keep_verdict(
     context: &FunctionContext<'_, '_>,
     writer: &mut CodeWriter,
     entry: OperandPlace,
@@ -127,8 +128,7 @@ fn guard_entry(
     requires { height ≤ context.now.slots }
     ensures { OnOk result (Emits (λ k. fetch context.now (place entry) height (call helper (set context.now (kind_at context.now) (get context.now (kind_at context.now) (basic 0 (EqzOf I32Of) k))))) writer.old writer.new) }
 {
-    context.fetch(writer, entry, height)?;
-    writer.call(helper)?;
+    guard_entry(context, writer, entry, height, helper)?;
     context.set(writer, context.kind_at())?;
     context.get(writer, context.kind_at())?;
     writer.basic(Basic::Eqz(ValType::I32))
@@ -170,7 +170,7 @@ pub fn call_through_table(
     };
     let gives = result_type(ftype);
     let count = ftype.params.as_slice().len() + 1;
-    guard_entry(context, writer, entry, places.len() - 1, numbers.helper)?;
+    keep_verdict(context, writer, entry, places.len() - 1, numbers.helper)?;
     writer.open_if(None)?;
     call_entry(context, writer, places, count, numbers.index, gives)?;
     writer.close()?;

@@ -1,0 +1,4 @@
+pub mod Runs
+pub mod Helpers
+pub mod TypedGuards
+pub mod Verdicts
