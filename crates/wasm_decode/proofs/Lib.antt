@@ -8,3 +8,4 @@ pub mod SoundSections
 pub mod Sounds
 pub mod Meanings
 pub mod NameLaws
+pub mod NameSpelled

@@ -36,8 +36,11 @@ names_item = mapped firsts (vector_item named_item)
 abbrev pub counts : Option (List Named) → ℕ → Bool
 counts found id = id == 1 && not (is_some found)
 
+abbrev pub found_some : List Named → Option (List Named)
+found_some names = Some names
+
 abbrev pub subsection_behind : Option (List Named) → ℕ → Place → Read (Option (List Named))
-subsection_behind found id = if counts found id then mapped (λ names. Some names) (within names_item) else mapped (λ _. found) (within rest_item)
+subsection_behind found id = if counts found id then mapped found_some (within names_item) else mapped (λ bytes. found) (within rest_item)
 
 unfoldable pub subsection_step : Option (List Named) → Place → Read (Option (List Named))
 subsection_step found = byte_item ▷ subsection_behind found

@@ -1,11 +1,12 @@
 //! The names of functions (Core, appendix "Custom Sections", A.2).
 
-ghost use Rattle.std.specs.Prelude.{◌≡◌, ◌<◌, ◌^◌, [], length, IfOk, OnOk};
+ghost use Rattle.std.specs.Prelude.{◌≡◌, ◌<◌, ◌^◌, List, [], length, IfOk, OnOk};
 ghost use Rattle.std.specs.Option.{option_copied};
 ghost use Rattle.wasm_bytes.specs.Place.{Moves, Stays};
 ghost use Rattle.wasm_bytes.specs.Reading.{steps_to_end};
 ghost use Rattle.wasm_bytes.specs.Answers.{Gives, with_state};
-ghost use Rattle.wasm_decode.specs.Names.{name_of, with_name, names_from, name_step, name_steps, names_item, subsection_step, names_in};
+ghost use Rattle.wasm_decode.specs.NameGrammar.{AreNamesOf};
+ghost use Rattle.wasm_decode.specs.Names.{Named, name_of, with_name, names_from, name_step, name_steps, names_item, subsection_step, names_in};
 
 use causes::NoMemory;
 use indexmap::IndexMap;
@@ -164,12 +165,21 @@ fn first_names(alloc: Global, bytes: &[u8], customs: &[Custom]) -> Result<Names,
     Ok(Names::new(alloc))
 }
 
+fn names_of(alloc: Global, bytes: &[u8], module: &Module) -> Result<Names, NoMemory>
+    requires { length bytes.now < 2 ^ 32 }
+    ensures { IfOk result (λ names. names ≡ names_from bytes.now «module».now.customs) }
+{
+    first_names(alloc, bytes, module.parts().customs.as_slice())
+}
+
 /// The names of functions that the first custom section `name` of a module gives: its first subsection of function names,
 /// in which the first name of an index counts. There are none where the section or the subsection is not there, or where an
 /// item of the section has no reading. The bytes are those that the module was decoded from.
 pub fn function_names(alloc: Global, bytes: &[u8], module: &Module) -> Result<Names, NoMemory>
     requires { length bytes.now < 2 ^ 32 }
-    ensures { IfOk result (λ names. names ≡ names_from bytes.now «module».now.customs) }
+    ensures exact { IfOk result (λ names. names ≡ names_from bytes.now «module».now.customs) }
+    ensures spelled { IfOk result (AreNamesOf bytes.now «module».now.customs) }
+    ensures only { (names : List Named) → AreNamesOf bytes.now «module».now.customs names → IfOk result (λ found. found ≡ names) }
 {
-    first_names(alloc, bytes, module.parts().customs.as_slice())
+    names_of(alloc, bytes, module)
 }

@@ -1,4 +1,4 @@
--- The operand types before a live instruction are unique.
+-- The operand types before a live instruction are unique, and those that a call leaves.
 use Rattle.std.proofs.Common.{◌≡◌, ℕ, suc, ◌<◌, ◌≤◌, List, [], ◌∷◌, ◌++◌, inl, inr, length, reverse, Option, Some, None, refl, sym, ap, ap₂, subst, ◌∙◌, arith}
 use Rattle.std.specs.Prelude.{option_to_list}
 use Rattle.wasm_syntax.specs.declared.value.ValType.{ValType}
@@ -13,7 +13,7 @@ use Rattle.wasm_syntax.specs.Module.{Ascend, InOrder}
 use Rattle.wasm_syntax.specs.Tree.{Jump, Unreachable, Br, BrIf, BrTable, Return, Call, CallIndirect, Nodes, stop, basic, jump, block, loop, choose, Placed, placed, Else, End, write, IsTree, code_of}
 use Rattle.wasm_syntax.specs.Typing.{Context, Arrow, ◌⇒◌, Above, BasicTypes, arrow, JumpTypes, within, body_context}
 use Rattle.wasm_syntax.specs.Machine.{offset_in}
-use Rattle.wasm_syntax.specs.Static.{Spot, spot, goes_on, Live, IsNode, LiveAt, Static}
+use Rattle.wasm_syntax.specs.Static.{Spot, spot, goes_on, Live, IsNode, LiveAt, Static, CallTakes, Left}
 use Rattle.wasm_laws.proofs.Progress.{head, tail, takes_len}
 use Rattle.wasm_laws.proofs.Unique.{one_tree}
 use Rattle.wasm_laws.proofs.Lists.{some_is}
@@ -272,14 +272,38 @@ same_spot c (choose at t a ea b end rest) lo hi here outside s s' h n n' o (inr 
 same_spot c (choose at t a ea b end rest) lo hi here outside s s' h n n' o (inr (u, e, inr (inr l))) (inr (u', e', inr (inr l'))) =
     let g : u' ≡ u = ap tail (sym e' ∙ e) in same_spot c rest (suc end) hi (option_to_list t ++ u) outside s s' h.8 n n' o l (subst (λ z. Live c rest (option_to_list t ++ z) outside s') g l')
 
--- the live instruction at an offset has one list of operand types before it
-pub one_static : (m : Module) (type : FuncType) (body : Body) (o : ℕ) (ts us : List ValType) → InOrder body → Static m type body o ts → Static m type body o us → ts ≡ us
-one_static m type body o ts us q h k =
-    let l : LiveAt m type body o h.0 = h.1 in
-    let r : LiveAt m type body o k.0 = k.1 in
+-- the live instruction at an offset stands at one spot
+one_spot : (m : Module) (type : FuncType) (body : Body) (o : ℕ) (s t : Spot) → InOrder body → LiveAt m type body o s → LiveAt m type body o t → s ≡ t
+one_spot m type body o s t q l r =
     let tree : r.tree ≡ l.tree = one_tree (code_of body.targets body.ops) r.tree l.tree r.writes l.writes in
     let asc : AscendCode 0 (write l.tree.nodes (placed l.tree.end End ∷ [])) = subst (AscendCode 0) l.writes.out (ascend_code body.targets 0 body.ops q.offsets) in
     let w = ordered l.tree.nodes 0 (placed l.tree.end End ∷ []) l.writes.arms asc in
-    let live : Live (body_context m type body) l.tree.nodes [] [] k.0 = subst (λ t. Live (body_context m type body) t.nodes [] [] k.0) tree r.live in
-    let same : h.0 ≡ k.0 = same_spot (body_context m type body) l.tree.nodes 0 w.0 [] [] h.0 k.0 w.1 l.node r.node (l.at ∙ sym r.at) l.live live in
-    h.2 ∙ ap (λ s. reverse (s.here ++ s.outside)) same ∙ sym k.2
+    let live : Live (body_context m type body) l.tree.nodes [] [] t = subst (λ x. Live (body_context m type body) x.nodes [] [] t) tree r.live in
+    same_spot (body_context m type body) l.tree.nodes 0 w.0 [] [] s t w.1 l.node r.node (l.at ∙ sym r.at) l.live live
+
+-- and has one list of operand types before it
+pub one_static : (m : Module) (type : FuncType) (body : Body) (o : ℕ) (ts us : List ValType) → InOrder body → Static m type body o ts → Static m type body o us → ts ≡ us
+one_static m type body o ts us q h k = h.2 ∙ ap (λ s. reverse (s.here ++ s.outside)) (one_spot m type body o h.0 k.0 q h.1 k.1) ∙ sym k.2
+
+takes_one : (m : Module) (ns : Nodes) (ts us : List ValType) → CallTakes m ns ts → CallTakes m ns us → ts ≡ us
+takes_one m (jump at (Call g) rest) ts us h k = let e : h.0 ≡ k.0 = some_is (sym h.1 ∙ k.1) in h.2 ∙ ap (λ z. reverse z.params) e ∙ sym k.2
+takes_one m (jump at (CallIndirect t) rest) ts us h k = let e : h.0 ≡ k.0 = some_is (sym h.1 ∙ k.1) in h.2 ∙ ap (λ z. I32 ∷ reverse z.params) e ∙ sym k.2
+takes_one m (jump at Unreachable rest) ts us h k = absurd h
+takes_one m (jump at (Br n) rest) ts us h k = absurd h
+takes_one m (jump at (BrIf n) rest) ts us h k = absurd h
+takes_one m (jump at (BrTable targets default) rest) ts us h k = absurd h
+takes_one m (jump at Return rest) ts us h k = absurd h
+takes_one m stop ts us h k = absurd h
+takes_one m (basic at i rest) ts us h k = absurd h
+takes_one m (block at t body end rest) ts us h k = absurd h
+takes_one m (loop at t body end rest) ts us h k = absurd h
+takes_one m (choose at t a ea b end rest) ts us h k = absurd h
+
+-- a call at an offset has one list of operand types without what it takes
+pub one_left : (m : Module) (type : FuncType) (body : Body) (o : ℕ) (ts us : List ValType) → InOrder body → Left m type body o ts → Left m type body o us → ts ≡ us
+one_left m type body o ts us q h k =
+    let same : h.0 ≡ k.0 = one_spot m type body o h.0 k.0 q h.1 k.1 in
+    let takes : h.2 ≡ k.2 = takes_one m k.0.nodes h.2 k.2 (subst (λ s. CallTakes m s.nodes h.2) same h.3) k.3 in
+    let here : h.2 ++ h.4 ≡ k.2 ++ k.4 = sym h.5 ∙ ap (λ s. s.here) same ∙ k.5 in
+    let below : h.4 ≡ k.4 = cancel k.2 h.4 k.4 (ap (λ z. z ++ h.4) (sym takes) ∙ here) in
+    h.6 ∙ ap₂ (λ b s. reverse (b ++ s.outside)) below same ∙ sym k.6

@@ -12,7 +12,7 @@ ghost use Rattle.wasm_syntax.specs.Tree.{Placed, Tree, Nodes, WritesOut, code_of
 ghost use Rattle.wasm_syntax.specs.Typing.{Context, Types, IsBody, BeginsBody, body_context};
 ghost use Rattle.wasm_syntax.specs.FlatTyping.{FlatTypes, OpenBlock, body_block, BeginsNode, TypesBefore};
 ghost use Rattle.wasm_syntax.specs.Valid.{Valid};
-ghost use Rattle.wasm_syntax.specs.Static.{Static};
+ghost use Rattle.wasm_syntax.specs.Static.{Static, Left};
 ghost use Rattle.wasm_syntax.specs.Run.{Invocation, run};
 ghost use Rattle.wasm_laws.specs.Literal.{Has};
 ghost use Rattle.wasm_laws.specs.Runs.{Stay, NoneStuck};
@@ -40,6 +40,11 @@ pub fn flat_steps_begin_bodies()
 /// The operand types before the live instruction at an offset are unique.
 pub fn one_static()
     ensures { (m : Parts) (ftype : Signature) (body : FunctionBody) (offset : ℕ) (a b : List ValType) → InOrder body → Static m ftype body offset a → Static m ftype body offset b → a ≡ b }
+{}
+
+/// The operand types that the live call at an offset leaves below what it takes are unique.
+pub fn one_left()
+    ensures { (m : Parts) (ftype : Signature) (body : FunctionBody) (offset : ℕ) (a b : List ValType) → InOrder body → Left m ftype body offset a → Left m ftype body offset b → a ≡ b }
 {}
 
 /// The operand types before the live instruction at an offset are those before it in the flat code.
