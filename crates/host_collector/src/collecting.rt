@@ -46,7 +46,14 @@ impl<H> Collecting<H> {
         }
     }
 
-    /// The other host side.
+    /// The other host side, as it is.
+    pub fn inner(&self) -> &H
+        ensures { result.now ≡ self.now.inner }
+    {
+        &self.inner
+    }
+
+    /// The other host side, given back.
     pub fn into_inner(self) -> H
         ensures { result ≡ self.inner }
     {

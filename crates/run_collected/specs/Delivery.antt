@@ -29,3 +29,7 @@ abbrev pub Delivers : List CollectorCall → Delivery → Type 0
 Delivers calls nothing = calls ≡ []
 Delivers calls (whole d) = (w : Whole calls) × (handed_by w ≡ d)
 Delivers calls (torn at) = (calls ≢ []) × IsFirstOffending calls at
+
+-- each list of calls hands this over
+abbrev pub IsDelivery : (List CollectorCall → Delivery) → Type 0
+IsDelivery deliver = (calls : List CollectorCall) → Delivers calls (deliver calls)

@@ -2,7 +2,7 @@
 
 ghost use Rattle.std.specs.Prelude.{◌≡◌, List};
 ghost use Rattle.wasm_syntax.specs.declared.host.CollectorCall.{CollectorCall as Call};
-ghost use Rattle.run_collected.specs.Delivery.{Delivery, Delivers};
+ghost use Rattle.run_collected.specs.Delivery.{Delivery, Delivers, IsDelivery};
 
 /// Calls hand over one thing.
 pub fn one_delivery()
@@ -11,5 +11,5 @@ pub fn one_delivery()
 
 /// Each list of calls hands something over.
 pub fn some_delivery()
-    ensures { (delivery : List Call → Delivery) × ((calls : List Call) → Delivers calls (delivery calls)) }
+    ensures { (deliver : List Call → Delivery) × IsDelivery deliver }
 {}

@@ -1,5 +1,5 @@
 -- What was run is the answer.
-use Rattle.std.proofs.Common.{◌≡◌, ℕ, zero, suc, ◌+◌, ◌-◌, Bool, true, false, List, [], ◌∷◌, ◌++◌, map, length, refl, sym, ap, ◌∙◌, inl, inr, arith, Option, Some, None, subst}
+use Rattle.std.proofs.Common.{◌≡◌, ℕ, suc, ◌+◌, ◌-◌, Bool, true, false, List, [], ◌∷◌, ◌++◌, map, length, refl, sym, ap, ◌∙◌, inl, inr, arith, Option, Some, None, subst}
 use Rattle.std.specs.Prelude.{slice_get, codes, if◌then◌else◌}
 use Rattle.std.specs.Fmt.{decimal}
 use Rattle.std.specs.List.{flat_map}
@@ -8,11 +8,12 @@ use Rattle.causes.specs.Counts.{Rose}
 use Rattle.pm_outside.specs.Contents.{Contents}
 use Rattle.wasm_syntax.specs.declared.parts.Import.{Import}
 use Rattle.wasm_syntax.specs.declared.host.Reply.{Reply}
+use Rattle.wasm_syntax.specs.declared.host.HostCall.{HostCall}
 use Rattle.wasm_syntax.specs.declared.host.Served.{Served}
+use Rattle.wasm_syntax.specs.declared.host.CollectorCall.{CollectorCall}
 use Rattle.wasm_syntax.specs.declared.module.ModuleParts.{ModuleParts as Module}
 use Rattle.wasm_syntax.specs.Module.{Program, IsProgram, function_export}
 use Rattle.wasm_syntax.specs.Run.{Cause, no_export, bad_arguments, element_out, data_out, cause_of_entry, cause_of_segments, cause_of, or_else, Invocation, Outcome as RunOutcome, not_started, finished, trapped, lacks_reply, misfits, running, got_stuck, Ran, session, start_world, unless, run, engine}
-use Rattle.host_devices.specs.HostSides.{Calls}
 use Rattle.host_devices.specs.Given.{replies_of}
 use Rattle.machine_hosted.specs.Settings.{world_of}
 use Rattle.host_devices.specs.Given.{unfitting}
@@ -21,16 +22,19 @@ use Rattle.wasm_machine.specs.Instances.{State, IsNew}
 use Rattle.run_words.specs.declared.words.RunWords.{RunWords}
 use Rattle.command_answers.specs.Texts.{ended}
 use Rattle.command_answers.specs.declared.outcome.Outcome.{Outcome}
-use Rattle.run_session.specs.RunText.{invocation_text, traps_in, fitted}
+use Rattle.run_collected.specs.Delivery.{Delivery, IsDelivery}
+use Rattle.run_session.proofs.Tellings.{Behaves, behaves}
+use Rattle.run_session.specs.Telling.{Tells, tells, told, torn_in}
+use Rattle.run_session.specs.RunText.{invocation_text, traps_in, fitted, up_to_torn}
 use Rattle.run_session.specs.Given.{module_name, module_of}
-use Rattle.run_session.specs.Invocations.{invocation_of}
+use Rattle.run_session.specs.Invocations.{invocation_of, depth_of}
 use Rattle.run_session.specs.inner.Answers.{device_cause, misfit_cause}
-use Rattle.run_session.specs.Ending.{host_stopped, end_status}
+use Rattle.run_session.specs.Ending.{host_stopped, told_status}
 use Rattle.run_session.specs.inner.Progress.{session_from}
-use Rattle.run_session.specs.inner.Sessions.{point_of, EndsIn, RanAll}
+use Rattle.run_session.specs.inner.Sessions.{point_of, EndsIn, ToldEndsIn, RanAll}
 use Rattle.run_command.specs.Starting.{or_text, cause_text, entries_text}
 use Rattle.run_command.specs.Hosting.{Hosting, scripted}
-use Rattle.run_command.specs.AllRan.{end_text, ran_to_end}
+use Rattle.run_command.specs.AllRan.{end_text, told_end, ran_to_end}
 use Rattle.run_command.specs.RunAnswer.{hosting, script_replies, UsesUp, EndUsesUp, HasFailed, EndHasFailed, RunsTo}
 
 -- ---- no cause, no refusal
@@ -111,6 +115,49 @@ has_failed before after p m used_up left counts now given due (not_started cause
 has_failed before after p m used_up left counts now given due running line is facts counted ends = tt
 has_failed before after p m used_up left counts now given due got_stuck line is facts counted ends = tt
 
+-- ---- torn calls
+
+told_line : (names : List (List ℕ)) (p : Program) (imports : List Import) (used_up : Import → Bool) (left : List Reply) (counts now : List ℕ → ℕ) (given n due : ℕ) (torn : Option ℕ) (o : RunOutcome) (line : List ℕ) → imports ≡ p.module_.imports → HostFacts names used_up left counts now → given ≡ n + length (unfitting o) → ToldEndsIn p used_up counts now given due torn o line
+    → line ≡ told_end names imports n due torn o
+told_line names p imports used_up left counts now given n due None o line is facts count ends = line_is names p imports used_up left counts now given n due o line is facts count ends
+told_line names p imports used_up left counts now given n due (Some at) o line is facts count ends = ends
+
+module _ (tell : Tells) (b : Behaves tell) (r : Ran) where
+  -- where calls are torn, no reply was lacking
+  none_lacked : (at : ℕ) (call : HostCall) → torn_in (told tell r) ≡ Some at → r.outcome ≡ lacks_reply call → ⊥
+  none_lacked at call torn is =
+      let whole : torn_in (told tell r) ≡ None = ap torn_in (ap (λ o. tell o r.collected r.last) is ∙ b.lacking call r.collected r.last) in
+      let clash : Some at ≡ None = sym torn ∙ whole in
+      absurd cc
+
+  torn_uses : (h : Hosting) (m : Module) (left : List Reply) (at : ℕ) → torn_in (told tell r) ≡ Some at → (o : RunOutcome) → r.outcome ≡ o → UsesUp h m left o
+  torn_uses h m left at torn (lacks_reply call) is = absurd (none_lacked at call torn is)
+  torn_uses h m left at torn (misfits call reply) is = tt
+  torn_uses h m left at torn (finished v) is = tt
+  torn_uses h m left at torn (trapped kind) is = tt
+  torn_uses h m left at torn (not_started cause) is = tt
+  torn_uses h m left at torn running is = tt
+  torn_uses h m left at torn got_stuck is = tt
+
+  torn_fails : (before after : List DeviceState) (m : Module) (at : ℕ) → torn_in (told tell r) ≡ Some at → (o : RunOutcome) → r.outcome ≡ o → HasFailed before after m o
+  torn_fails before after m at torn (lacks_reply call) is = absurd (none_lacked at call torn is)
+  torn_fails before after m at torn (misfits call reply) is = tt
+  torn_fails before after m at torn (finished v) is = tt
+  torn_fails before after m at torn (trapped kind) is = tt
+  torn_fails before after m at torn (not_started cause) is = tt
+  torn_fails before after m at torn running is = tt
+  torn_fails before after m at torn got_stuck is = tt
+
+  module _ (p : Program) (m : Module) (used_up : Import → Bool) (left : List Reply) (counts now : List ℕ → ℕ) (given due : ℕ) (line : List ℕ) (is : p.module_ ≡ m) where
+    told_uses : (h : Hosting) → HostFacts h.names used_up left counts now → (t : Option ℕ) → torn_in (told tell r) ≡ t → ToldEndsIn p used_up counts now given due t r.outcome line → UsesUp h m left r.outcome
+    told_uses h facts None torn ends = uses_up h p m used_up left counts now given due r.outcome line is facts ends
+    told_uses h facts (Some at) torn ends = torn_uses h m left at torn r.outcome refl
+
+    told_fails : (before after : List DeviceState) → HostFacts (names before) used_up left counts now → ((device : List ℕ) → Rose (counts device) (now device) → Rose (count_of before device) (count_of after device))
+        → (t : Option ℕ) → torn_in (told tell r) ≡ t → ToldEndsIn p used_up counts now given due t r.outcome line → HasFailed before after m r.outcome
+    told_fails before after facts counted None torn ends = has_failed before after p m used_up left counts now given due r.outcome line is facts counted ends
+    told_fails before after facts counted (Some at) torn ends = torn_fails before after m at torn r.outcome refl
+
 -- ---- the answer
 
 not_begun : (asked made due : ℕ) → asked ≡ made + due → asked - made ≡ due
@@ -124,42 +171,48 @@ no_less : (n : ℕ) → n - 0 ≡ n
 no_less n = omega arith
 
 -- the session of a new instance is the run
-pub is_run : (m : Module) (p : Program) (s : State) (is : List Invocation) (depth fuel : ℕ) (given : List Served) → p.module_ ≡ m → IsNew m s → entries_text m is ≡ None → cause_of_segments m ≡ None
-    → session_from (engine p false depth) (point_of s is fuel) (replies_of given) ≡ run p false is (replies_of given) depth fuel
-is_run m p s is depth fuel given of_module new entries segments =
-    let M = engine p false depth in
+pub is_run : (m : Module) (p : Program) (collect : Bool) (s : State) (is : List Invocation) (depth fuel : ℕ) (given : List Served) → p.module_ ≡ m → IsNew m s → entries_text m is ≡ None → cause_of_segments m ≡ None
+    → session_from (engine p collect depth) (point_of s is fuel) (replies_of given) ≡ run p collect is (replies_of given) depth fuel
+is_run m p collect s is depth fuel given of_module new entries segments =
+    let M = engine p collect depth in
     let cause : cause_of p.module_ is ≡ None = ap (λ x. cause_of x is) of_module ∙ no_cause m is entries segments in
     ap (λ d. session M is d (world_of s.machine (replies_of given)) (fuel - s.steps)) (new.due ∙ ap (λ (x : Module). x.start) (sym of_module))
     ∙ ap (λ v. session M is p.module_.start v (fuel - s.steps)) (new.world (replies_of given) ∙ ap (λ x. start_world x (replies_of given)) (sym of_module))
     ∙ ap (λ n. session M is p.module_.start (start_world p.module_ (replies_of given)) n) (ap (λ n. fuel - n) new.steps ∙ no_less fuel)
     ∙ sym (ap (λ c. unless M c is (replies_of given) fuel) cause)
 
-pub runs_to : (before after : List DeviceState) (script : Option (List Reply)) (w : RunWords) (m : Module) (p : Program) (used_up : Import → Bool) (counts now : List ℕ → ℕ) (left : List Reply) (s : State) (calls calls' : Calls) (told_before told_after : Option Contents) (o : Outcome)
+pub runs_to : (before after : List DeviceState) (script : Option (List Reply)) (w : RunWords) (m : Module) (p : Program) (used_up : Import → Bool) (counts now : List ℕ → ℕ) (left : List Reply) (s : State) (calls calls' : List Served) (told_before told_after : Option Contents) (o : Outcome)
+    (deliver : List CollectorCall → Delivery) → IsDelivery deliver
     → p.module_ ≡ m → IsProgram p → IsNew m s → entries_text m (map invocation_of w.invocations) ≡ None → cause_of_segments m ≡ None → HostFacts (names before) used_up left counts now
     → ((device : List ℕ) → Rose (counts device) (now device) → Rose (count_of before device) (count_of after device))
-    → (r : RanAll p (engine p false w.depth) w.dump w.name used_up counts now (point_of s (map invocation_of w.invocations) w.fuel) calls calls' told_before told_after o)
+    → (r : RanAll (tells w.collect deliver) p (engine p w.collect (depth_of w)) w.dump w.name used_up counts now (point_of s (map invocation_of w.invocations) w.fuel) calls calls' told_before told_after o)
     → script_replies script ≡ replies_of (scripted (names before) m.imports r.given) ++ left
     → RunsTo before after script w m r.given o r.writes
-runs_to before after script w m p used_up counts now left s calls calls' told_before told_after o of_module writes_out new entries segments facts counted r of_script =
+runs_to before after script w m p used_up counts now left s calls calls' told_before told_after o deliver delivers of_module writes_out new entries segments facts counted r of_script =
     let is = map invocation_of w.invocations in
+    let tell = tells w.collect deliver in
+    let b = behaves w.collect deliver in
     let e = r.has_ended in
+    let torn = torn_in (told tell r.last) in
     let due : length w.invocations - length e.rans ≡ r.due = not_begun (length w.invocations) (length e.rans) r.due (sym (map_length invocation_of w.invocations) ∙ e.counted) in
     record {
       program = p;
       of_module = of_module;
       writes_out = writes_out;
+      deliver = deliver;
+      delivers = delivers;
       rans = e.rans;
-      runs = sym e.is ∙ is_run m p s is w.depth w.fuel r.given of_module new entries segments;
+      runs = sym e.is ∙ ap (λ l. up_to_torn tell l) (is_run m p w.collect s is (depth_of w) w.fuel r.given of_module new entries segments);
       all_given = e.came_of.given;
       left = left;
       by_script = of_script;
-      used_up = subst (λ l. EndUsesUp (hosting before script) m left l) (sym e.last) (uses_up (hosting before script) p m used_up left counts now (length r.given) r.due r.last.outcome r.line of_module facts r.ends);
-      failed = subst (λ l. EndHasFailed before after m l) (sym e.last) (has_failed before after p m used_up left counts now (length r.given) r.due r.last.outcome r.line of_module facts counted r.ends);
+      used_up = subst (λ l. EndUsesUp (hosting before script w.collect) m left l) (sym e.last) (told_uses tell b r.last p m used_up left counts now (length r.given) r.due r.line of_module (hosting before script w.collect) facts torn refl r.ends);
+      failed = subst (λ l. EndHasFailed before after m l) (sym e.last) (told_fails tell b r.last p m used_up left counts now (length r.given) r.due r.line of_module before after facts counted torn refl r.ends);
       answer = r.answer
-          ∙ ap (λ k. ended (end_status k r.last.outcome) (r.lines.text ++ r.line)) e.came_of.traps
-          ∙ ap (λ t. ended (end_status (traps_in e.rans) r.last.outcome) (t ++ r.line)) e.came_of.text
-          ∙ ap (λ t. ended (end_status (traps_in e.rans) r.last.outcome) (flat_map invocation_text e.rans ++ t)) (line_is (names before) p m.imports used_up left counts now (length r.given) (fitted e.rans) r.due r.last.outcome r.line (ap (λ (x : Module). x.imports) (sym of_module)) facts e.fit r.ends)
-          ∙ ap (λ k. ended (end_status (traps_in e.rans) r.last.outcome) (flat_map invocation_text e.rans ++ end_text (names before) m.imports (fitted e.rans) k r.last.outcome)) (sym due)
-          ∙ ap (λ l. ran_to_end (names before) m.imports (length w.invocations) e.rans l) (sym e.last);
+          ∙ ap (λ k. ended (told_status k torn r.last.outcome) (r.lines.text ++ r.line)) e.came_of.traps
+          ∙ ap (λ t. ended (told_status (traps_in tell e.rans) torn r.last.outcome) (t ++ r.line)) e.came_of.text
+          ∙ ap (λ t. ended (told_status (traps_in tell e.rans) torn r.last.outcome) (flat_map (invocation_text tell) e.rans ++ t)) (told_line (names before) p m.imports used_up left counts now (length r.given) (fitted e.rans) r.due torn r.last.outcome r.line (ap (λ (x : Module). x.imports) (sym of_module)) facts e.fit r.ends)
+          ∙ ap (λ k. ended (told_status (traps_in tell e.rans) torn r.last.outcome) (flat_map (invocation_text tell) e.rans ++ told_end (names before) m.imports (fitted e.rans) k torn r.last.outcome)) (sym due)
+          ∙ ap (λ l. ran_to_end tell (names before) m.imports (length w.invocations) e.rans l) (sym e.last);
       dumps = e.came_of.writes;
     }

@@ -1,7 +1,8 @@
 -- Whether the invocations may begin.
-use Rattle.std.proofs.Common.{◌≡◌, ℕ, zero, suc, ◌+◌, ◌<◌, Bool, true, false, List, [], ◌∷◌, ◌++◌, map, length, drop, get_or, refl, sym, ap, ap₂, ◌∙◌, subst, arith, Option, Some, None, Err, inl, inr}
-use Rattle.std.specs.Prelude.{◌≤◌, ◌⊎◌, All, IfSome, slice_get, is_some, if◌then◌else◌, option_map, codes}
+use Rattle.std.proofs.Common.{◌≡◌, ℕ, zero, suc, ◌<◌, Bool, true, false, List, [], ◌∷◌, map, length, get_or, refl, sym, ap, ap₂, ◌∙◌, subst, arith, Option, Some, None, Result, Ok, Err, inl, inr}
+use Rattle.std.specs.Prelude.{◌≤◌, ◌⊎◌, All, IfOk, IfSome, slice_get, if◌then◌else◌, option_map}
 use Rattle.std.proofs.lemmas.Option.{slice_get_cases}
+use Rattle.causes.specs.declared.NoMemory.{NoMemory as WantOfMemory}
 use Rattle.wasm_syntax.specs.declared.value.Value.{Value}
 use Rattle.wasm_syntax.specs.declared.parts.Import.{Import}
 use Rattle.wasm_syntax.specs.declared.parts.FuncType.{FuncType}
@@ -11,21 +12,23 @@ use Rattle.wasm_syntax.specs.declared.place.Place.TheVariants as places
 use Rattle.wasm_syntax.specs.Numbers.{types}
 use Rattle.wasm_syntax.specs.Module.{function_export, same_types, type_at}
 use Rattle.wasm_syntax.specs.Valid.{Valid, ImportFine}
-use Rattle.wasm_syntax.specs.Run.{Cause, no_export, bad_arguments, element_out, data_out, cause_of_entry, cause_of_segments, if_fits, first_false, Invocation}
+use Rattle.wasm_syntax.specs.Run.{cause_of_entry, cause_of_segments, if_fits, first_false, Invocation}
 use Rattle.machine_start.specs.declared.started.StartFault.{StartFault}
 use Rattle.machine_start.specs.declared.started.StartFault.TheVariants.{ElementOut, DataOut, NoMemory}
-use Rattle.wasm_machine.specs.declared.entries.EntryFault.{EntryFault}
 use Rattle.wasm_machine.specs.Entries as machine
 use Rattle.wasm_machine.specs.Entries.{serves_type, unserved, fault_or, entry_fault}
 use Rattle.wasm_machine.specs.Instances.{State, Begins}
-use Rattle.host_set.specs.Sets.{DeviceState, names, is_named}
+use Rattle.host_set.specs.Sets.{DeviceState}
 use Rattle.host_set.specs.Hosting.{HostsState, serves}
 use Rattle.run_words.specs.declared.invocation.Invocation.{Invocation as InvocationWords}
+use Rattle.host_collector.specs.Collecting.{CollectingState, is_told, is_collected, serves as collected}
+use Rattle.run_session.specs.inner.Collecting.{serving_of}
 use Rattle.run_session.specs.Invocations.{invocation_of}
 use Rattle.run_command.specs.Starting.{or_text, cause_text, segment_of, entries_text}
-use Rattle.run_command.specs.Hosting.{Hosting, is_served, import_text, first_unserved, start_text}
+use Rattle.run_command.specs.Hosting.{is_replied, is_one_of, is_served, import_text, first_unserved, start_text}
 use Rattle.run_command.specs.RunAnswer.{hosting}
 use Rattle.run_command.specs.inner.Begun.{fault_text, import_in, start_cause, HasBegun}
+use Rattle.run_command.specs.declared.running.Begun.{Begun}
 use Rattle.run_command.specs.declared.running.Begun.TheVariants.{Ready}
 use Rattle.run_command.proofs.Answering.{none_then}
 use Rattle.run_command.proofs.Entries.{own_text}
@@ -133,6 +136,22 @@ begun_begin serving m is s (starts, segments, new) =
     let k = none_starts serving m (map invocation_of is) starts in
     subst (λ (x : Module). All (λ i. entry_fault serving x i.entry i.args ≡ None) is) (sym new.module_is) (all_begin serving m is k.0 k.1)
 
+pub of_begun : (result : Result Begun WantOfMemory) (begun is_it : Begun) (P : Begun → Type 0) → result ≡ Ok begun → begun ≡ is_it → IfOk result P → P is_it
+of_begun result begun is_it P is same x = subst P same (subst (λ r. IfOk r P) is x)
+
+pub same_list : (serving : Import → FuncType → Bool) (m : Module) (xs is : List InvocationWords) (result : Result Begun WantOfMemory) → xs ≡ is → IfOk result (HasBegun serving m (map invocation_of xs)) → IfOk result (HasBegun serving m (map invocation_of is))
+same_list serving m xs is result same begun = subst (λ l. IfOk result (HasBegun serving m (map invocation_of l))) same begun
+
+-- with a collector in front of the host side, and without one
+pub behind_collector : {H : Type 0} (serving : H → Import → FuncType → Bool) (collect : Bool) (c : CollectingState H) (h : H) (m : Module) (is : List Invocation) (result : Result Begun WantOfMemory) → collect ≡ true → h ≡ c.inner
+    → IfOk result (HasBegun (λ i type. collected serving c i type) m is) → IfOk result (HasBegun (serving_of collect (serving h)) m is)
+behind_collector serving collect c h m is result asked back begun =
+    subst (λ b. IfOk result (HasBegun (serving_of b (serving h)) m is)) (sym asked) (subst (λ k. IfOk result (HasBegun (serving_of true (serving k)) m is)) (sym back) begun)
+
+pub without_collector : {H : Type 0} (serving : H → Import → FuncType → Bool) (collect : Bool) (h : H) (m : Module) (is : List Invocation) (result : Result Begun WantOfMemory) → collect ≡ false
+    → IfOk result (HasBegun (serving h) m is) → IfOk result (HasBegun (serving_of collect (serving h)) m is)
+without_collector serving collect h m is result none begun = subst (λ b. IfOk result (HasBegun (serving_of b (serving h)) m is)) (sym none) begun
+
 -- ---- devices and a script
 
 map_alike : {A B : Type 0} (f g : A → B) (xs : List A) → ((k : ℕ) (x : A) → slice_get xs k ≡ Some x → f x ≡ g x) → map f xs ≡ map g xs
@@ -150,13 +169,22 @@ typed m k i v at = by_case (slice_get_cases m.types i.ftype).1
     by_case (inl (x, lt, there, get)) = (x, there)
     by_case (inr (le, none)) = absurd (omega (arith, fine, le))
 
-module _ (m : Module) (h : HostsState) (before : List DeviceState) (script : Option (List Reply)) (valid : Valid m) (devices : h.devices ≡ before) (script_is : h.script ≡ script) where
-  served_alike : (i : Import) → serves h i ≡ is_served (hosting before script) i
-  served_alike i = ap (λ ds. is_served (hosting ds h.script) i) devices ∙ ap (λ s. is_served (hosting before s) i) script_is
+module _ (m : Module) (h : HostsState) (before : List DeviceState) (script : Option (List Reply)) (collect : Bool) (valid : Valid m) (devices : h.devices ≡ before) (script_is : h.script ≡ script) where
+  abbrev pub served_by : Import → FuncType → Bool
+  served_by i type = serving_of collect (λ i type. serves h i) i type
 
-  alike : machine.first_unserved (λ i type. serves h i) m ≡ first_unserved (hosting before script) m
-  alike = ap (λ bs. first_false 0 bs) (map_alike (machine.is_served (λ i type. serves h i) m) (is_served (hosting before script)) m.imports
-      (λ k i at. let t = typed m k i valid at in ap (λ o. serves_type (λ i type. serves h i) i o) t.1 ∙ served_alike i))
+  replied_alike : (i : Import) → serves h i ≡ is_replied (hosting before script collect) i
+  replied_alike i = ap (λ ds. is_replied (hosting ds h.script collect) i) devices ∙ ap (λ s. is_replied (hosting before s collect) i) script_is
 
-  pub starts_alike : (is : List Invocation) → start_cause (λ i type. serves h i) m is ≡ start_text (hosting before script) m is
+  -- of this type
+  served_alike : (i : Import) (type : FuncType) → slice_get m.types i.ftype ≡ Some type → served_by i type ≡ is_served (hosting before script collect) m i
+  served_alike i type there =
+      ap (λ r. if collect then (if is_told i then is_collected i type else r) else r) (replied_alike i)
+      ∙ ap (λ o. if collect then (if is_told i then is_one_of i o else is_replied (hosting before script collect) i) else is_replied (hosting before script collect) i) (sym there)
+
+  alike : machine.first_unserved served_by m ≡ first_unserved (hosting before script collect) m
+  alike = ap (λ bs. first_false 0 bs) (map_alike (machine.is_served served_by m) (is_served (hosting before script collect) m) m.imports
+      (λ k i at. let t = typed m k i valid at in ap (λ o. serves_type served_by i o) t.1 ∙ served_alike i t.0 t.1))
+
+  pub starts_alike : (is : List Invocation) → start_cause served_by m is ≡ start_text (hosting before script collect) m is
   starts_alike is = ap (λ o. or_text (entries_text m is) (or_text (import_text o) (cause_text [] (cause_of_segments m)))) alike

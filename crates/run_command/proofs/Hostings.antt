@@ -1,6 +1,6 @@
 -- What a host side of devices and a script has given in a run.
-use Rattle.std.proofs.Common.{◌≡◌, ℕ, zero, suc, ◌+◌, ◌<◌, Bool, true, false, List, [], ◌∷◌, ◌++◌, map, take, drop, refl, sym, ap, ap₂, ◌∙◌, subst, inl, inr, arith, Option, Some, None}
-use Rattle.std.specs.Prelude.{◌≤◌, ◌⊎◌, length, get_or, not, cond, slice_get, is_some, is_none, bytes_eq}
+use Rattle.std.proofs.Common.{◌≡◌, ℕ, ◌+◌, ◌<◌, Bool, true, false, List, [], ◌∷◌, ◌++◌, map, take, drop, refl, sym, ap, ap₂, ◌∙◌, subst, inl, inr, arith, Option, Some, None}
+use Rattle.std.specs.Prelude.{◌≤◌, ◌⊎◌, length, get_or, not, cond, if◌then◌else◌, slice_get, is_none, bytes_eq}
 use Rattle.std.proofs.lemmas.List.{take-append-drop, drop_all}
 use Rattle.std.proofs.lemmas.Option.{slice_get_cases}
 use Rattle.causes.specs.Counts.{Rose}
@@ -10,13 +10,14 @@ use Rattle.wasm_syntax.specs.declared.host.Served.{Served}
 use Rattle.wasm_syntax.specs.declared.module.ModuleParts.{ModuleParts as Module}
 use Rattle.host_devices.specs.HostSides.{Origin}
 use Rattle.host_devices.specs.Given.{replies_of}
-use Rattle.host_set.specs.Sets.{DeviceState, names, is_named, IsPlace, count_of, log_of}
+use Rattle.host_set.specs.Sets.{DeviceState, names, is_named, count_of, log_of}
 use Rattle.host_set.specs.Hosting.{HostsState, module_name as name_in, with_module, of_module, of_script, logs_before, log_named, origin_of, calls_of, is_used_up, replies_of as replies_in}
-use Rattle.host_set.proofs.Sets.{named_at}
 use Rattle.host_set.proofs.Names.{swapped, neither}
 use Rattle.run_session.specs.Given.{module_name, module_of, from_module}
-use Rattle.run_command.specs.Hosting.{scripted, is_served}
-use Rattle.run_command.specs.RunAnswer.{Logs, hosting, script_replies}
+use Rattle.host_collector.specs.Collecting.{is_told}
+use Rattle.run_session.specs.inner.Collecting.{used_up_of}
+use Rattle.run_command.specs.Hosting.{scripted}
+use Rattle.run_command.specs.RunAnswer.{Logs, script_replies}
 use Rattle.run_command.proofs.Answering.{HostFacts}
 
 -- ---- the modules of what was served
@@ -50,6 +51,12 @@ used_of : (b : Bool) (o : Option Reply) → cond b false (is_none o) ≡ true �
 used_of true o e = absurd cc
 used_of false None e = (refl, refl)
 used_of false (Some r) e = absurd cc
+
+-- what is used up with a collector is so without it
+used_behind : (collect told up : Bool) → (if collect then (if told then false else up) else up) ≡ true → up ≡ true
+used_behind true true up e = absurd cc
+used_behind true false up e = e
+used_behind false told up e = e
 
 none_left : (xs : List Reply) (n : ℕ) → slice_get xs n ≡ None → drop n xs ≡ []
 none_left xs n e = by_case (slice_get_cases xs n).1
@@ -88,7 +95,7 @@ pub record Began (imports : List Import) (before : List DeviceState) (script : O
   pub logs_are : (name : List ℕ) → log_named (logs_before h) name ≡ log_of before name
 
 -- it was made so
-pub began_so : (imports lent : List Import) (before set : List DeviceState) (script : Option (List Reply)) (h : HostsState) → h ≡ record { imports = lent; devices = set; script = script; given = 0; served = [] }
+began_so : (imports lent : List Import) (before set : List DeviceState) (script : Option (List Reply)) (h : HostsState) → h ≡ record { imports = lent; devices = set; script = script; given = 0; served = [] }
     → ((name : List ℕ) → log_named (logs_before h) name ≡ log_of set name) → lent ≡ imports → set ≡ before → Began imports before script h
 began_so imports lent before set script h is logs same_imports same_set = record {
   imports_are = ap (λ (x : HostsState). x.imports) is ∙ same_imports;
@@ -97,6 +104,12 @@ began_so imports lent before set script h is logs same_imports same_set = record
   none_served = ap (λ (x : HostsState). x.served) is;
   logs_are = λ name. logs name ∙ ap (λ ds. log_of ds name) same_set;
 }
+
+-- and is still so
+pub began_behind : (imports lent : List Import) (before set : List DeviceState) (script : Option (List Reply)) (h later : HostsState) → later ≡ h → h ≡ record { imports = lent; devices = set; script = script; given = 0; served = [] }
+    → ((name : List ℕ) → log_named (logs_before h) name ≡ log_of set name) → lent ≡ imports → set ≡ before → Began imports before script later
+began_behind imports lent before set script h later same is logs same_imports same_set =
+    began_so imports lent before set script later (same ∙ is) (λ name. ap (λ x. log_named (logs_before x) name) same ∙ logs name) same_imports same_set
 
 -- the devices were given back
 pub record GaveBack (h : HostsState) (after : List DeviceState) : Type 0 where
@@ -121,10 +134,10 @@ module _ (imports : List Import) (before : List DeviceState) (script : Option (L
   replies_are : replies_in h1.script ≡ script_replies script
   replies_are = ap replies_in script_is ∙ same_replies script
 
-  pub host_facts : HostFacts (names before) (is_used_up h1) (drop h1.given (script_replies script)) (count_of h0.devices) (count_of h1.devices)
-  host_facts = record {
+  pub host_facts : (collect : Bool) → HostFacts (names before) (used_up_of collect (is_used_up h1)) (drop h1.given (script_replies script)) (count_of h0.devices) (count_of h1.devices)
+  host_facts collect = record {
     used = λ i up.
-        let k = used_of (is_named (names h1.devices) i.«module») (slice_get (replies_in h1.script) h1.given) up in
+        let k = used_of (is_named (names h1.devices) i.«module») (slice_get (replies_in h1.script) h1.given) (used_behind collect (is_told i) (is_used_up h1 i) up) in
         (ap (λ n. is_named n i.«module») (sym names_are) ∙ k.0, ap (λ l. drop h1.given l) (sym replies_are) ∙ none_left (replies_in h1.script) h1.given k.1);
     failed = λ device rose. rose_named h0.devices h1.devices (names before) device (ap names began.devices_are) names_are rose;
   }
@@ -156,8 +169,3 @@ logs m before after script h0 h1 began same back given grew = record {
   devices = names_stay m.imports before script h0 h1 began same after back given grew;
   logs = log_is m.imports before script h0 h1 began same after back given grew;
 }
-
--- ---- who serves an import
-
-pub served_by_name : (ds : List DeviceState) (script : Option (List Reply)) (i : Import) (name : List ℕ) (place : ℕ) → name ≡ i.«module» → IsPlace ds name place → true ≡ is_served (hosting ds script) i
-served_by_name ds script i name place same at = sym (ap (λ b. cond b true (is_some script)) (ap (λ n. is_named (names ds) n) (sym same) ∙ named_at ds name place at))

@@ -37,7 +37,7 @@ at_refusal status.BadDump P Q D to p q = to p q
 at_refusal status.Mismatch P Q D to p q = to p q
 at_refusal status.Limit P Q D to p q = to p q
 at_refusal status.Collision P Q D to p q = to p q
-at_refusal status.TornCalls P Q D to p q = to p q
+at_refusal status.TornCalls P Q D to p q = tt
 at_refusal status.BadReplies P Q D to p q = to p q
 
 module _ (D : Type 0) where

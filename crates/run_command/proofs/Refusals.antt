@@ -31,7 +31,7 @@ if_refusal status.BadDump P x = x
 if_refusal status.Mismatch P x = x
 if_refusal status.Limit P x = x
 if_refusal status.Collision P x = x
-if_refusal status.TornCalls P x = x
+if_refusal status.TornCalls P x = tt
 if_refusal status.BadReplies P x = x
 
 -- ---- steps

@@ -1,8 +1,7 @@
 -- What a command leaves where it has no answer, from what its parts leave.
-use Rattle.std.proofs.Common.{◌≡◌, ℕ, zero, suc, false, List, [], ◌∷◌, map, take, drop, refl, sym, ap, ◌∙◌, subst, inl, inr, Option, Some, None, Result, Ok, Err}
+use Rattle.std.proofs.Common.{◌≡◌, ℕ, zero, suc, List, [], ◌∷◌, map, take, drop, refl, sym, ap, ◌∙◌, subst, inl, inr, Option, None, Result, Ok, Err}
 use Rattle.std.specs.Prelude.{◌⊎◌, IfOk}
 use Rattle.causes.specs.declared.NoMemory.{NoMemory as WantOfMemory}
-use Rattle.causes.specs.Counts.{Rose}
 use Rattle.std.specs.declared.vec.Vec.{Vec}
 use Rattle.std.specs.Global.{Global}
 use Rattle.pm_outside.specs.Contents.{Contents}
@@ -28,12 +27,16 @@ use Rattle.command_answers.specs.declared.loading.Loaded.{Loaded}
 use Rattle.command_answers.specs.declared.loading.Loaded.TheVariants.{Valid as IsValid}
 use Rattle.command_answers.proofs.Reading.{map_contents}
 use Rattle.run_words.specs.declared.words.RunWords.{RunWords}
-use Rattle.run_session.specs.Invocations.{invocation_of}
+use Rattle.wasm_syntax.specs.declared.host.CollectorCall.{CollectorCall}
+use Rattle.run_collected.specs.Delivery.{Delivery, IsDelivery}
+use Rattle.run_session.specs.Telling.{tells}
+use Rattle.run_session.specs.RunText.{up_to_torn}
+use Rattle.run_session.specs.inner.Collecting.{serving_of}
+use Rattle.run_session.specs.Invocations.{invocation_of, depth_of}
 use Rattle.run_session.specs.Stop.{Stop, no_memory, file_failed, OnStop}
 use Rattle.run_session.specs.inner.Sessions.{point_of, WasStopped, StopsIn}
 use Rattle.run_command.specs.Starting.{cause_text, entries_text, or_text}
-use Rattle.run_command.specs.Hosting.{start_text}
-use Rattle.run_command.specs.RunAnswer.{IsReadBy, bad_replies, hosting, script_replies, replies_input, script_of}
+use Rattle.run_command.specs.RunAnswer.{IsReadBy, bad_replies, script_replies, replies_input, script_of}
 use Rattle.run_command.specs.inner.Scripts.{script_result, IsAsked, IsReadFault}
 use Rattle.run_command.specs.Stops.{RunsFor, StopsRun, NothingDone, ModuleStops, ScriptStops, BytesStops, SourceStops, FileStops, RunStops}
 use Rattle.run_command.specs.declared.scripts.Script.{Script}
@@ -74,15 +77,16 @@ taken_entries m (suc k) (i ∷ is) e =
 
 module _ (before after : List DeviceState) (script : Option (List Reply)) (w : RunWords) (s : State) (h0 h1 : HostsState) (told told' : Option Contents)
     (new : IsNew s.module_ s) (segments : cause_of_segments s.module_ ≡ None) (began : Began s.module_.imports before script h0) (same : origin_of h1 ≡ origin_of h0) (back : GaveBack h1 after) where
-  runs_for : (p : Program) (is : List Invocation) (fuel : ℕ) (rans : List Ran) → p.module_ ≡ s.module_ → IsProgram p → entries_text s.module_ is ≡ None
-      → WasStopped (engine p false w.depth) w.dump w.name 0 (point_of s is fuel) rans (calls_of h0) (calls_of h1) told told'
-      → RunsFor w s.module_ script is fuel rans before after told told'
-  runs_for p is fuel rans of_module writes_out entries x = record {
+  runs_for : (deliver : List CollectorCall → Delivery) → IsDelivery deliver → (p : Program) (is : List Invocation) (fuel : ℕ) (rans : List Ran) → p.module_ ≡ s.module_ → IsProgram p → entries_text s.module_ is ≡ None
+      → WasStopped (tells w.collect deliver) (engine p w.collect (depth_of w)) w.dump w.name 0 (point_of s is fuel) rans (calls_of h0).served (calls_of h1).served told told'
+      → RunsFor deliver w s.module_ script is fuel rans before after told told'
+  runs_for deliver delivers p is fuel rans of_module writes_out entries x = record {
     program = p;
     of_module = of_module;
     writes_out = writes_out;
     given = x.given;
-    runs = sym x.is ∙ is_run s.module_ p s is w.depth fuel x.given of_module new entries segments;
+    delivers = delivers;
+    runs = sym x.is ∙ ap (λ l. up_to_torn (tells w.collect deliver) l) (is_run s.module_ p w.collect s is (depth_of w) fuel x.given of_module new entries segments);
     all_given = x.all_given;
     left = drop h1.given (script_replies script);
     by_script = by_script s.module_.imports before script h0 h1 began same after back x.given x.grew;
@@ -90,25 +94,25 @@ module _ (before after : List DeviceState) (script : Option (List Reply)) (w : R
     files = x.files;
   }
 
-  runs_stop : (p : Program) (stop : Stop) → p.module_ ≡ s.module_ → IsProgram p → entries_text s.module_ (map invocation_of w.invocations) ≡ None
-      → StopsIn stop (engine p false w.depth) w.dump w.name 0 s (map invocation_of w.invocations) w.fuel (calls_of h0) (calls_of h1) told told'
+  runs_stop : (deliver : List CollectorCall → Delivery) → IsDelivery deliver → (p : Program) (stop : Stop) → p.module_ ≡ s.module_ → IsProgram p → entries_text s.module_ (map invocation_of w.invocations) ≡ None
+      → StopsIn (tells w.collect deliver) stop (engine p w.collect (depth_of w)) w.dump w.name 0 s (map invocation_of w.invocations) w.fuel (calls_of h0).served (calls_of h1).served told told'
       → StopsRun stop w s.module_ script before after told told'
-  runs_stop p no_memory of_module writes_out entries (total, few, many, rans, x) = (total, many, rans, runs_for p (map invocation_of w.invocations) total rans of_module writes_out entries x)
-  runs_stop p (file_failed file) of_module writes_out entries (made, rans, dump, x) =
-      (made, rans, dump, runs_for p (take made (map invocation_of w.invocations)) w.fuel rans of_module writes_out (taken_entries s.module_ made (map invocation_of w.invocations) entries) x)
+  runs_stop deliver delivers p no_memory of_module writes_out entries (total, few, many, rans, x) = (deliver, total, many, rans, runs_for deliver delivers p (map invocation_of w.invocations) total rans of_module writes_out entries x)
+  runs_stop deliver delivers p (file_failed file) of_module writes_out entries (made, rans, dump, x) =
+      (deliver, made, rans, dump, runs_for deliver delivers p (take made (map invocation_of w.invocations)) w.fuel rans of_module writes_out (taken_entries s.module_ made (map invocation_of w.invocations) entries) x)
 
-abbrev StopsSo : Program → RunWords → State → (h0 h1 : HostsState) → (told told' : Option Contents) → Stop → Type 0
-StopsSo p w s h0 h1 told told' stop = StopsIn stop (engine p false w.depth) w.dump w.name 0 s (map invocation_of w.invocations) w.fuel (calls_of h0) (calls_of h1) told told'
+abbrev StopsSo : (List CollectorCall → Delivery) → Program → RunWords → State → (h0 h1 : HostsState) → (told told' : Option Contents) → Stop → Type 0
+StopsSo deliver p w s h0 h1 told told' stop = StopsIn (tells w.collect deliver) stop (engine p w.collect (depth_of w)) w.dump w.name 0 s (map invocation_of w.invocations) w.fuel (calls_of h0).served (calls_of h1).served told told'
 
-pub hosted_stops : (result : Result Outcome WantOfMemory) (before after : List DeviceState) (script : Option (List Reply)) (w : RunWords) (s : State) (h0 h1 : HostsState) (told told' : Option Contents)
+pub hosted_stops : (deliver : List CollectorCall → Delivery) → IsDelivery deliver → (result : Result Outcome WantOfMemory) (before after : List DeviceState) (script : Option (List Reply)) (w : RunWords) (s : State) (h0 h1 : HostsState) (told told' : Option Contents)
     → IsModule s.module_ → IsNew s.module_ s → entries_text s.module_ (map invocation_of w.invocations) ≡ None → cause_of_segments s.module_ ≡ None
     → Began s.module_.imports before script h0 → origin_of h1 ≡ origin_of h0 → GaveBack h1 after
-    → ((p : Program) → IsOf s p → OnStop (StopsSo p w s h0 h1 told told') result)
+    → ((p : Program) → IsOf s p → OnStop (StopsSo deliver p w s h0 h1 told told') result)
     → OnStop (λ stop. StopsRun stop w s.module_ script before after told told') result
-hosted_stops result before after script w s h0 h1 told told' whole new entries segments began same back x =
+hosted_stops deliver delivers result before after script w s h0 h1 told told' whole new entries segments began same back x =
     let p : Program = record { module_ = s.module_; trees = whole.trees } in
-    map_stop (StopsSo p w s h0 h1 told told') (λ stop. StopsRun stop w s.module_ script before after told told') result
-    (λ stop y. runs_stop before after script w s h0 h1 told told' new segments began same back p stop refl whole.write entries y)
+    map_stop (StopsSo deliver p w s h0 h1 told told') (λ stop. StopsRun stop w s.module_ script before after told told') result
+    (λ stop y. runs_stop before after script w s h0 h1 told told' new segments began same back deliver delivers p stop refl whole.write entries y)
     (x p (record { of_module = refl; writes_out = whole.write }))
 
 -- ---- the steps of the command, from the last to the first
@@ -142,18 +146,18 @@ module _ (devices : List DeviceState) (w : RunWords) (P : Stop → Option Conten
 
 module _ (before after : List DeviceState) (w : RunWords) (result : Result Outcome WantOfMemory) where
   -- a new instance was made, and the invocations were run on it
-  pub ready_stops : (script : Option (List Reply)) (m : Module) (s : State) (h0 h1 : HostsState) (told told' : Option Contents)
-      → IsModule m → Valid m → HasBegun (λ i type. serves h0 i) m (map invocation_of w.invocations) (Ready s)
+  pub ready_stops : (deliver : List CollectorCall → Delivery) → IsDelivery deliver → (script : Option (List Reply)) (m : Module) (s : State) (h0 h1 : HostsState) (told told' : Option Contents)
+      → IsModule m → Valid m → HasBegun (serving_of w.collect (λ i type. serves h0 i)) m (map invocation_of w.invocations) (Ready s)
       → Began m.imports before script h0 → origin_of h1 ≡ origin_of h0 → GaveBack h1 after
-      → ((p : Program) → IsOf s p → OnStop (StopsSo p w s h0 h1 told told') result)
+      → ((p : Program) → IsOf s p → OnStop (StopsSo deliver p w s h0 h1 told told') result)
       → OnStop (StepStops before after w (λ stop old new. ModuleStops stop w m script before after old new) told told') result
-  ready_stops script m s h0 h1 told told' whole valid (starts, segments, new) began same back x =
+  ready_stops deliver delivers script m s h0 h1 told told' whole valid (starts, segments, new) began same back x =
       let is = map invocation_of w.invocations in
       let at = sym new.module_is in
       map_stop (λ stop. StopsRun stop w s.module_ script before after told told') (StepStops before after w (λ stop old new. ModuleStops stop w m script before after old new) told told') result
-      (λ stop y. inr (sym (starts_alike m h0 before script valid began.devices_are began.script_is is) ∙ starts, subst (λ (x : Module). StopsRun stop w x script before after told told') new.module_is y))
-      (hosted_stops result before after script w s h0 h1 told told' (subst IsModule at whole) (subst (λ (x : Module). IsNew x s) at new)
-      (ap (λ (x : Module). entries_text x is) new.module_is ∙ (none_starts (λ i type. serves h0 i) m is starts).0) (ap (λ (x : Module). cause_of_segments x) new.module_is ∙ segments)
+      (λ stop y. inr (sym (starts_alike m h0 before script w.collect valid began.devices_are began.script_is is) ∙ starts, subst (λ (x : Module). StopsRun stop w x script before after told told') new.module_is y))
+      (hosted_stops deliver delivers result before after script w s h0 h1 told told' (subst IsModule at whole) (subst (λ (x : Module). IsNew x s) at new)
+      (ap (λ (x : Module). entries_text x is) new.module_is ∙ (none_starts (serving_of w.collect (λ i type. serves h0 i)) m is starts).0) (ap (λ (x : Module). cause_of_segments x) new.module_is ∙ segments)
       (subst (λ (x : Module). Began x.imports before script h0) at began) same back x)
 
   pub scripted_stops : (m : Module) (given : Script) (script : Option (List Reply)) (told told' : Option Contents) → given ≡ Whole script

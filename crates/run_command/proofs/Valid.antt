@@ -1,35 +1,33 @@
 -- The answer on a valid module, from what its parts ensure.
-use Rattle.std.proofs.Common.{◌≡◌, ℕ, zero, suc, ◌+◌, ◌<◌, Bool, true, false, List, [], ◌∷◌, ◌++◌, map, length, drop, refl, sym, ap, ◌∙◌, subst, inl, inr, arith, Option, Some, None, Result, Ok, Err}
+use Rattle.std.proofs.Common.{◌≡◌, ℕ, Bool, true, false, List, [], map, length, drop, refl, sym, ap, ◌∙◌, subst, Option, Some, None, Result, Ok, Err}
 use Rattle.std.specs.Prelude.{IfOk, nat_lt, if◌then◌else◌}
-use Rattle.causes.specs.Counts.{Rose}
 use Rattle.causes.specs.declared.NoMemory.{NoMemory as WantOfMemory}
 use Rattle.pm_outside.specs.Contents.{Contents}
 use Rattle.wasm_syntax.specs.declared.parts.Import.{Import}
-use Rattle.wasm_syntax.specs.declared.parts.FuncType.{FuncType}
 use Rattle.wasm_syntax.specs.declared.host.Reply.{Reply}
-use Rattle.wasm_syntax.specs.declared.host.Served.{Served}
 use Rattle.wasm_syntax.specs.declared.module.ModuleParts.{ModuleParts as Module}
-use Rattle.wasm_syntax.specs.Module.{Program, IsProgram, IsModule, function_export}
+use Rattle.wasm_syntax.specs.Module.{Program, IsProgram, IsModule}
 use Rattle.wasm_syntax.specs.Valid.{Valid}
-use Rattle.wasm_syntax.specs.Run.{Cause, cause_of_entry, cause_of_segments, first_false, Outcome as RunOutcome, not_started, finished, trapped, lacks_reply, misfits, running, got_stuck, engine}
+use Rattle.wasm_syntax.specs.Run.{cause_of_segments, Outcome as RunOutcome, not_started, finished, trapped, lacks_reply, misfits, running, got_stuck, engine}
 use Rattle.wasm_machine.specs.Instances.{State, IsNew, IsOf}
-use Rattle.host_set.specs.Sets.{DeviceState, names, count_of}
+use Rattle.host_set.specs.Sets.{DeviceState, count_of}
 use Rattle.host_set.specs.Hosting.{HostsState, origin_of, calls_of, is_used_up, serves}
-use Rattle.command_answers.specs.Told.{UnlessFault}
 use Rattle.command_answers.specs.declared.outcome.Outcome.{Outcome}
-use Rattle.command_answers.specs.declared.status.Status.{Status}
 use Rattle.command_answers.specs.declared.status.Status.TheVariants as status
-use Rattle.run_words.specs.declared.invocation.Invocation.{Invocation as InvocationWords}
 use Rattle.run_words.specs.declared.words.RunWords.{RunWords}
-use Rattle.run_session.specs.Invocations.{invocation_of}
-use Rattle.run_session.specs.Ending.{end_status}
-use Rattle.run_session.specs.inner.Sessions.{point_of, EndsIn, RanAll, IsDumpFault}
+use Rattle.wasm_syntax.specs.declared.host.CollectorCall.{CollectorCall}
+use Rattle.run_collected.specs.Delivery.{Delivery, IsDelivery}
+use Rattle.run_session.specs.Telling.{tells, told as told_of, torn_in}
+use Rattle.run_session.specs.inner.Collecting.{serving_of, used_up_of}
+use Rattle.run_session.specs.Invocations.{invocation_of, depth_of}
+use Rattle.run_session.specs.Ending.{end_status, told_status}
+use Rattle.run_session.specs.inner.Sessions.{point_of, EndsIn, ToldEndsIn, RanAll, IsDumpFault}
 use Rattle.command_answers.proofs.Unless.{OnAnswer, map_answer, all_answers}
-use Rattle.run_command.specs.Starting.{not_started_with, or_text, cause_text, segment_of, entries_text}
-use Rattle.run_command.specs.Hosting.{Hosting, is_served, import_text, first_unserved, start_text}
+use Rattle.run_command.specs.Starting.{not_started_with, entries_text}
+use Rattle.run_command.specs.Hosting.{start_text}
 use Rattle.run_command.specs.RunAnswer.{hosting, script_replies, RunsTo, Logs, StartsOr, ModuleAnswer, IfRefusal, IsUntouched}
 use Rattle.run_command.specs.inner.Steps.{IsAnswered}
-use Rattle.run_command.proofs.Answering.{none_then, runs_to}
+use Rattle.run_command.proofs.Answering.{runs_to}
 use Rattle.run_command.specs.inner.Begun.{HasBegun}
 use Rattle.run_command.specs.declared.running.Begun.TheVariants.{Ready, Refused}
 use Rattle.run_command.proofs.Beginning.{none_starts, starts_alike}
@@ -52,45 +50,54 @@ no_refusal p used_up counts now given due traps (finished v) line P ends = of_ch
 no_refusal p used_up counts now given due traps (not_started cause) line P ends = absurd ends
 no_refusal p used_up counts now given due traps got_stuck line P ends = absurd ends
 
+told_no_refusal : (p : Program) (used_up : Import → Bool) (counts now : List ℕ → ℕ) (given due traps : ℕ) (torn : Option ℕ) (o : RunOutcome) (line : List ℕ) (P : Type 0) → ToldEndsIn p used_up counts now given due torn o line → IfRefusal (told_status traps torn o) P
+told_no_refusal p used_up counts now given due traps None o line P ends = no_refusal p used_up counts now given due traps o line P ends
+told_no_refusal p used_up counts now given due traps (Some at) o line P ends = tt
+
+-- all that was run, with these host sides before and after
+abbrev pub RanSo : (List CollectorCall → Delivery) → Program → RunWords → State → (h0 h1 : HostsState) → (told told' : Option Contents) → Outcome → Type 0
+RanSo deliver p w s h0 h1 told told' o =
+    RanAll (tells w.collect deliver) p (engine p w.collect (depth_of w)) w.dump w.name (used_up_of w.collect (is_used_up h1)) (count_of h0.devices) (count_of h1.devices) (point_of s (map invocation_of w.invocations) w.fuel) (calls_of h0).served (calls_of h1).served told told' o
+
 abbrev pub Runs : (before after : List DeviceState) → Option (List Reply) → RunWords → Module → Option Contents → Option Contents → Outcome → Type 0
 Runs before after script w m told told' o = IsAnswered (λ given writes o. RunsTo before after script w m given o writes × Logs m given before after) before after told told' o
 
-hosted_by : (p : Program) (result : Result Outcome WantOfMemory) (before after : List DeviceState) (script : Option (List Reply)) (w : RunWords) (s : State) (h0 h1 : HostsState) (told told' : Option Contents)
+hosted_by : (deliver : List CollectorCall → Delivery) → IsDelivery deliver → (p : Program) (result : Result Outcome WantOfMemory) (before after : List DeviceState) (script : Option (List Reply)) (w : RunWords) (s : State) (h0 h1 : HostsState) (told told' : Option Contents)
     → p.module_ ≡ s.module_ → IsProgram p → IsNew s.module_ s → entries_text s.module_ (map invocation_of w.invocations) ≡ None → cause_of_segments s.module_ ≡ None
     → Began s.module_.imports before script h0 → origin_of h1 ≡ origin_of h0 → GaveBack h1 after
-    → OnAnswer (λ o. RanAll p (engine p false w.depth) w.dump w.name (is_used_up h1) (count_of h0.devices) (count_of h1.devices) (point_of s (map invocation_of w.invocations) w.fuel) (calls_of h0) (calls_of h1) told told' o) result
+    → OnAnswer (RanSo deliver p w s h0 h1 told told') result
     → OnAnswer (Runs before after script w s.module_ told told') result
-hosted_by p result before after script w s h0 h1 told told' of_module writes_out new entries segments began same back ran =
-    map_answer
-    (λ o. RanAll p (engine p false w.depth) w.dump w.name (is_used_up h1) (count_of h0.devices) (count_of h1.devices) (point_of s (map invocation_of w.invocations) w.fuel) (calls_of h0) (calls_of h1) told told' o)
-    (Runs before after script w s.module_ told told') result
+hosted_by deliver delivers p result before after script w s h0 h1 told told' of_module writes_out new entries segments began same back ran =
+    let used_up = used_up_of w.collect (is_used_up h1) in
+    map_answer (RanSo deliver p w s h0 h1 told told') (Runs before after script w s.module_ told told') result
     (λ o r. record {
       given = r.given;
       writes = r.writes;
       answer = (
-        runs_to before after script w s.module_ p (is_used_up h1) (count_of h0.devices) (count_of h1.devices) (drop h1.given (script_replies script)) s (calls_of h0) (calls_of h1) told told' o
-            of_module writes_out new entries segments (host_facts s.module_.imports before script h0 h1 began same) (λ device. rose_on before after h0.devices h1.devices device began.devices_are back.devices) r (by_script s.module_.imports before script h0 h1 began same after back r.given r.grew),
+        runs_to before after script w s.module_ p used_up (count_of h0.devices) (count_of h1.devices) (drop h1.given (script_replies script)) s (calls_of h0).served (calls_of h1).served told told' o deliver delivers
+            of_module writes_out new entries segments (host_facts s.module_.imports before script h0 h1 began same w.collect) (λ device. rose_on before after h0.devices h1.devices device began.devices_are back.devices) r (by_script s.module_.imports before script h0 h1 began same after back r.given r.grew),
         logs s.module_ before after script h0 h1 began same back r.given r.grew,
       );
       files = r.files;
-      untouched = subst (λ t. IfRefusal t (IsUntouched before after r.given r.writes)) (sym (ap (λ (x : Outcome). x.status) r.answer)) (no_refusal p (is_used_up h1) (count_of h0.devices) (count_of h1.devices) (length r.given) r.due r.lines.traps r.last.outcome r.line (IsUntouched before after r.given r.writes) r.ends);
+      untouched = subst (λ t. IfRefusal t (IsUntouched before after r.given r.writes)) (sym (ap (λ (x : Outcome). x.status) r.answer))
+          (told_no_refusal p used_up (count_of h0.devices) (count_of h1.devices) (length r.given) r.due r.lines.traps (torn_in (told_of (tells w.collect deliver) r.last)) r.last.outcome r.line (IsUntouched before after r.given r.writes) r.ends);
     })
     ran
 
-pub hosted_told : (result : Result Outcome WantOfMemory) (before after : List DeviceState) (script : Option (List Reply)) (w : RunWords) (s : State) (h0 h1 : HostsState) (told told' : Option Contents)
+pub hosted_told : (deliver : List CollectorCall → Delivery) → IsDelivery deliver → (result : Result Outcome WantOfMemory) (before after : List DeviceState) (script : Option (List Reply)) (w : RunWords) (s : State) (h0 h1 : HostsState) (told told' : Option Contents)
     → IsModule s.module_ → IsNew s.module_ s → entries_text s.module_ (map invocation_of w.invocations) ≡ None → cause_of_segments s.module_ ≡ None
     → Began s.module_.imports before script h0 → origin_of h1 ≡ origin_of h0 → GaveBack h1 after
-    → ((p : Program) → IsOf s p → OnAnswer (λ o. RanAll p (engine p false w.depth) w.dump w.name (is_used_up h1) (count_of h0.devices) (count_of h1.devices) (point_of s (map invocation_of w.invocations) w.fuel) (calls_of h0) (calls_of h1) told told' o) result)
+    → ((p : Program) → IsOf s p → OnAnswer (RanSo deliver p w s h0 h1 told told') result)
     → OnAnswer (Runs before after script w s.module_ told told') result
-hosted_told result before after script w s h0 h1 told told' whole new entries segments began same back ran =
-    hosted_by (record { module_ = s.module_; trees = whole.trees }) result before after script w s h0 h1 told told' refl whole.write new entries segments began same back
+hosted_told deliver delivers result before after script w s h0 h1 told told' whole new entries segments began same back ran =
+    hosted_by deliver delivers (record { module_ = s.module_; trees = whole.trees }) result before after script w s h0 h1 told told' refl whole.write new entries segments began same back
     (ran (record { module_ = s.module_; trees = whole.trees }) (record { of_module = refl; writes_out = whole.write }))
 
 -- ---- the whole
 
 -- a refusal leaves the files and the devices as they are
 pub refused_told : (result : Result Outcome WantOfMemory) (before : List DeviceState) (script : Option (List Reply)) (w : RunWords) (m : Module) (told : Option Contents) (cause : List ℕ)
-    → start_text (hosting before script) m (map invocation_of w.invocations) ≡ Some cause → IfOk result (λ o. o ≡ not_started_with cause)
+    → start_text (hosting before script w.collect) m (map invocation_of w.invocations) ≡ Some cause → IfOk result (λ o. o ≡ not_started_with cause)
     → OnAnswer (IsAnswered (λ given writes. ModuleAnswer before before w given writes script m) before before told told) result
 refused_told result before script w m told cause starts is =
     map_answer (λ o. o ≡ not_started_with cause) (IsAnswered (λ given writes. ModuleAnswer before before w given writes script m) before before told told) result
@@ -99,7 +106,7 @@ refused_told result before script w m told cause starts is =
     (all_answers (λ o. o ≡ not_started_with cause) result is)
 
 pub valid_told : (result : Result Outcome WantOfMemory) (before after : List DeviceState) (script : Option (List Reply)) (w : RunWords) (m n : Module) (told told' : Option Contents)
-    → m ≡ n → start_text (hosting before script) n (map invocation_of w.invocations) ≡ None → OnAnswer (Runs before after script w m told told') result
+    → m ≡ n → start_text (hosting before script w.collect) n (map invocation_of w.invocations) ≡ None → OnAnswer (Runs before after script w m told told') result
     → OnAnswer (IsAnswered (λ given writes. ModuleAnswer before after w given writes script n) before after told told') result
 valid_told result before after script w m n told told' same starts runs =
     map_answer (Runs before after script w n told told') (IsAnswered (λ given writes. ModuleAnswer before after w given writes script n) before after told told') result
@@ -115,26 +122,26 @@ valid_told result before after script w m n told told' same starts runs =
 -- ---- as the code comes to them
 
 -- a new instance was made, and the invocations were run on it
-pub ready_told : (result : Result Outcome WantOfMemory) (before after : List DeviceState) (script : Option (List Reply)) (w : RunWords) (m : Module) (s : State) (h0 h1 : HostsState) (told told' : Option Contents)
-    → IsModule m → Valid m → HasBegun (λ i type. serves h0 i) m (map invocation_of w.invocations) (Ready s)
+pub ready_told : (deliver : List CollectorCall → Delivery) → IsDelivery deliver → (result : Result Outcome WantOfMemory) (before after : List DeviceState) (script : Option (List Reply)) (w : RunWords) (m : Module) (s : State) (h0 h1 : HostsState) (told told' : Option Contents)
+    → IsModule m → Valid m → HasBegun (serving_of w.collect (λ i type. serves h0 i)) m (map invocation_of w.invocations) (Ready s)
     → Began m.imports before script h0 → origin_of h1 ≡ origin_of h0 → GaveBack h1 after
-    → ((p : Program) → IsOf s p → OnAnswer (λ o. RanAll p (engine p false w.depth) w.dump w.name (is_used_up h1) (count_of h0.devices) (count_of h1.devices) (point_of s (map invocation_of w.invocations) w.fuel) (calls_of h0) (calls_of h1) told told' o) result)
+    → ((p : Program) → IsOf s p → OnAnswer (RanSo deliver p w s h0 h1 told told') result)
     → OnAnswer (IsAnswered (λ given writes. ModuleAnswer before after w given writes script m) before after told told') result
-ready_told result before after script w m s h0 h1 told told' whole valid (starts, segments, new) began same back ran =
+ready_told deliver delivers result before after script w m s h0 h1 told told' whole valid (starts, segments, new) began same back ran =
     let is = map invocation_of w.invocations in
     let at = sym new.module_is in
-    valid_told result before after script w s.module_ m told told' new.module_is (sym (starts_alike m h0 before script valid began.devices_are began.script_is is) ∙ starts)
-    (hosted_told result before after script w s h0 h1 told told' (subst IsModule at whole) (subst (λ (x : Module). IsNew x s) at new)
-    (ap (λ (x : Module). entries_text x is) new.module_is ∙ (none_starts (λ i type. serves h0 i) m is starts).0) (ap (λ (x : Module). cause_of_segments x) new.module_is ∙ segments)
+    valid_told result before after script w s.module_ m told told' new.module_is (sym (starts_alike m h0 before script w.collect valid began.devices_are began.script_is is) ∙ starts)
+    (hosted_told deliver delivers result before after script w s h0 h1 told told' (subst IsModule at whole) (subst (λ (x : Module). IsNew x s) at new)
+    (ap (λ (x : Module). entries_text x is) new.module_is ∙ (none_starts (serving_of w.collect (λ i type. serves h0 i)) m is starts).0) (ap (λ (x : Module). cause_of_segments x) new.module_is ∙ segments)
     (subst (λ (x : Module). Began x.imports before script h0) at began) same back ran)
 
 -- nothing was run, and the devices were given back
 pub refused_back : (result : Result Outcome WantOfMemory) (before after : List DeviceState) (script : Option (List Reply)) (w : RunWords) (m : Module) (h : HostsState) (told : Option Contents) (o : Outcome)
-    → Valid m → Began m.imports before script h → after ≡ h.devices → HasBegun (λ i type. serves h i) m (map invocation_of w.invocations) (Refused o) → result ≡ Ok o
+    → Valid m → Began m.imports before script h → after ≡ h.devices → HasBegun (serving_of w.collect (λ i type. serves h i)) m (map invocation_of w.invocations) (Refused o) → result ≡ Ok o
     → OnAnswer (IsAnswered (λ given writes. ModuleAnswer before after w given writes script m) before after told told) result
 refused_back result before after script w m h told o valid began back (cause, starts, is) same =
     subst (λ ds. OnAnswer (IsAnswered (λ given writes. ModuleAnswer before ds w given writes script m) before ds told told) result) (sym (back ∙ began.devices_are))
-    (refused_told result before script w m told cause (sym (starts_alike m h before script valid began.devices_are began.script_is (map invocation_of w.invocations)) ∙ starts)
+    (refused_told result before script w m told cause (sym (starts_alike m h before script w.collect valid began.devices_are began.script_is (map invocation_of w.invocations)) ∙ starts)
     (subst (λ r. IfOk r (λ x. x ≡ not_started_with cause)) (sym same) is))
 
 -- ---- faults

@@ -10,9 +10,10 @@ use Rattle.host_set.specs.Sets.{is_named}
 use Rattle.command_answers.specs.Texts.{ended}
 use Rattle.command_answers.specs.declared.outcome.Outcome.{Outcome}
 use Rattle.command_answers.specs.declared.status.Status.TheVariants as status
-use Rattle.run_session.specs.RunText.{invocation_text, traps_in, last_of, fitted, not_invoked_text}
+use Rattle.run_session.specs.Telling.{Tells, told, torn_in}
+use Rattle.run_session.specs.RunText.{invocation_text, traps_in, last_of, fitted, torn_text, not_invoked_text}
 use Rattle.run_session.specs.Given.{module_of}
-use Rattle.run_session.specs.Ending.{host_stopped, end_status}
+use Rattle.run_session.specs.Ending.{host_stopped, told_status}
 
 module _ (names : List (List ℕ)) (imports : List Import) where
   -- the device that failed, or the number of the call that the script has no reply for
@@ -31,14 +32,19 @@ module _ (names : List (List ℕ)) (imports : List Import) where
   end_text n due (not_started cause) = []
   end_text n due got_stuck = []
 
-  -- all lines of what was run, of so many invocations that were asked for
-  abbrev pub text_to : ℕ → List Ran → Ran → List ℕ
-  text_to asked rans r = flat_map invocation_text rans ++ end_text (fitted rans) (asked - length rans) r.outcome
+  -- torn calls are told before all else
+  abbrev pub told_end : ℕ → ℕ → (torn : Option ℕ) → RunOutcome → List ℕ
+  told_end n due None o = end_text n due o
+  told_end n due (Some at) o = torn_text at
 
-abbrev pub ran_to_end : List (List ℕ) → List Import → ℕ → List Ran → Option Ran → Outcome
-ran_to_end names imports asked rans None = ended status.Done []
-ran_to_end names imports asked rans (Some r) = ended (end_status (traps_in rans) r.outcome) (text_to names imports asked rans r)
+  -- all lines of what was run, of so many invocations that were asked for
+  abbrev pub text_to : Tells → ℕ → List Ran → Ran → List ℕ
+  text_to tell asked rans r = flat_map (invocation_text tell) rans ++ told_end (fitted rans) (asked - length rans) (torn_in (told tell r)) r.outcome
+
+abbrev pub ran_to_end : Tells → List (List ℕ) → List Import → ℕ → List Ran → Option Ran → Outcome
+ran_to_end tell names imports asked rans None = ended status.Done []
+ran_to_end tell names imports asked rans (Some r) = ended (told_status (traps_in tell rans) (torn_in (told tell r)) r.outcome) (text_to names imports tell asked rans r)
 
 -- where devices of these names serve these imports
-abbrev pub all_ran : List (List ℕ) → List Import → ℕ → List Ran → Outcome
-all_ran names imports asked rans = ran_to_end names imports asked rans (last_of rans)
+abbrev pub all_ran : Tells → List (List ℕ) → List Import → ℕ → List Ran → Outcome
+all_ran tell names imports asked rans = ran_to_end tell names imports asked rans (last_of rans)

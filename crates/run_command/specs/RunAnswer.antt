@@ -1,11 +1,12 @@
 -- What `run` answers, and what it writes.
-use Rattle.std.specs.Prelude.{◌≡◌, ℕ, ◌⊎◌, true, false, List, [], ◌∷◌, ◌++◌, map, length, Option, Some, None, Result, Ok, Err, codes}
+use Rattle.std.specs.Prelude.{◌≡◌, ℕ, ◌⊎◌, Bool, true, false, List, [], ◌++◌, map, length, Option, Some, None, Result, Ok, Err, codes}
 use Rattle.std.specs.Fmt.{decimal}
 use Rattle.causes.specs.Counts.{Rose}
 use Rattle.pm_outside.specs.Contents.{Contents}
 use Rattle.wasm_syntax.specs.declared.quantity.Quantity.TheVariants.{ModuleBytes, RepliesBytes}
 use Rattle.wasm_syntax.specs.declared.host.Reply.{Reply}
 use Rattle.wasm_syntax.specs.declared.host.Served.{Served}
+use Rattle.wasm_syntax.specs.declared.host.CollectorCall.{CollectorCall}
 use Rattle.wasm_syntax.specs.declared.module.ModuleParts.{ModuleParts as Module}
 use Rattle.wasm_syntax.specs.Module.{Program, IsProgram}
 use Rattle.wasm_syntax.specs.Run.{Outcome as RunOutcome, not_started, finished, trapped, lacks_reply, misfits, running, got_stuck, Ran, run}
@@ -20,12 +21,14 @@ use Rattle.command_answers.specs.declared.outcome.Outcome.{Outcome}
 use Rattle.command_answers.specs.declared.status.Status.{Status}
 use Rattle.command_answers.specs.declared.status.Status.TheVariants as status
 use Rattle.run_words.specs.declared.words.RunWords.{RunWords}
-use Rattle.run_session.specs.RunText.{dumps_from, last_of}
+use Rattle.run_collected.specs.Delivery.{Delivery, IsDelivery}
+use Rattle.run_session.specs.Telling.{tells}
+use Rattle.run_session.specs.RunText.{up_to_torn, dumps_from, last_of}
 use Rattle.host_devices.specs.Given.{replies_of}
 use Rattle.host_set.specs.Sets.{DeviceState, names, count_of, log_of, is_named}
 use Rattle.run_session.specs.Given.{given_in, module_of, from_module}
 use Rattle.run_session.specs.Written.{Writes, HoldThen}
-use Rattle.run_session.specs.Invocations.{invocation_of}
+use Rattle.run_session.specs.Invocations.{invocation_of, depth_of}
 use Rattle.run_command.specs.Starting.{not_started_with}
 use Rattle.run_command.specs.Hosting.{Hosting, scripted, start_text}
 use Rattle.run_command.specs.AllRan.{all_ran}
@@ -70,23 +73,27 @@ pub record Logs (m : Module) (given : List Served) (before after : List DeviceSt
   pub devices : names after ≡ names before
   pub logs : (name : List ℕ) → is_named (names before) name ≡ true → log_of after name ≡ log_of before name ++ from_module m.imports name given
 
-abbrev pub hosting : List DeviceState → Option (List Reply) → Hosting
-hosting devices script = record { names = names devices; script = script }
+abbrev pub hosting : List DeviceState → Option (List Reply) → (collects : Bool) → Hosting
+hosting devices script collects = record { names = names devices; script = script; collects = collects }
 
 -- what the invocations come to on the replies that were given, those of the script being its first ones; a device that gives none has failed
 pub record RunsTo (before after : List DeviceState) (script : Option (List Reply)) (w : RunWords) (m : Module) (given : List Served) (o : Outcome) (writes : Writes) : Type 0 where
   pub program : Program
   pub of_module : program.module_ ≡ m
   pub writes_out : IsProgram program
+  -- what calls of the collector hand over, which are looked at where one is asked for
+  pub deliver : List CollectorCall → Delivery
+  pub delivers : IsDelivery deliver
+  -- the run, up to an invocation whose calls are torn
   pub rans : List Ran
-  pub runs : rans ≡ run program false (map invocation_of w.invocations) (replies_of given) w.depth w.fuel
+  pub runs : rans ≡ up_to_torn (tells w.collect deliver) (run program w.collect (map invocation_of w.invocations) (replies_of given) (depth_of w) w.fuel)
   pub all_given : given ≡ given_in rans
   pub left : List Reply
   pub by_script : script_replies script ≡ replies_of (scripted (names before) m.imports given) ++ left
-  pub used_up : EndUsesUp (hosting before script) m left (last_of rans)
+  pub used_up : EndUsesUp (hosting before script w.collect) m left (last_of rans)
   pub failed : EndHasFailed before after m (last_of rans)
-  pub answer : o ≡ all_ran (names before) m.imports (length w.invocations) rans
-  pub dumps : writes ≡ dumps_from w.dump w.name 0 rans
+  pub answer : o ≡ all_ran (tells w.collect deliver) (names before) m.imports (length w.invocations) rans
+  pub dumps : writes ≡ dumps_from (tells w.collect deliver) w.dump w.name 0 rans
 
 abbrev pub StartsOr : Option (List ℕ) → Type 0 → Outcome → Type 0
 StartsOr (Some cause) P o = o ≡ not_started_with cause
@@ -94,7 +101,7 @@ StartsOr None P o = P
 
 abbrev pub ModuleAnswer : (before after : List DeviceState) → RunWords → List Served → Writes → Option (List Reply) → Module → Outcome → Type 0
 ModuleAnswer before after w given writes script m o =
-    StartsOr (start_text (hosting before script) m (map invocation_of w.invocations)) (RunsTo before after script w m given o writes × Logs m given before after) o
+    StartsOr (start_text (hosting before script w.collect) m (map invocation_of w.invocations)) (RunsTo before after script w m given o writes × Logs m given before after) o
 
 -- the bytes of the file of replies, where one is asked for
 abbrev pub replies_input : Option (List ℕ) → Contents → Result (Option (List ℕ)) Outcome
@@ -124,6 +131,7 @@ IfRefusal status.Done P = Unit {0}
 IfRefusal status.Trapped P = Unit {0}
 IfRefusal status.HostStopped P = Unit {0}
 IfRefusal status.FuelSpent P = Unit {0}
+IfRefusal status.TornCalls P = Unit {0}
 IfRefusal status.FileFault P = Unit {0}
 IfRefusal status.NoMemory P = P
 IfRefusal status.Usage P = P
@@ -136,7 +144,6 @@ IfRefusal status.BadDump P = P
 IfRefusal status.Mismatch P = P
 IfRefusal status.Limit P = P
 IfRefusal status.Collision P = P
-IfRefusal status.TornCalls P = P
 IfRefusal status.BadReplies P = P
 
 -- The answer to `run`, where the devices are these before and then, files hold this when the module is read and that when the replies are,

@@ -1,9 +1,10 @@
 -- What is left where memory is wanting, or where a file fails.
-use Rattle.std.specs.Prelude.{◌≡◌, ℕ, ◌≤◌, ◌⊎◌, List, ◌++◌, map, take, false, Option, None, Result, Ok}
+use Rattle.std.specs.Prelude.{◌≡◌, ℕ, ◌≤◌, ◌⊎◌, List, ◌++◌, map, take, Option, None, Result, Ok}
 use Rattle.pm_outside.specs.Contents.{Contents}
 use Rattle.wasm_syntax.specs.declared.quantity.Quantity.TheVariants.{ModuleBytes}
 use Rattle.wasm_syntax.specs.declared.host.Reply.{Reply}
 use Rattle.wasm_syntax.specs.declared.host.Served.{Served}
+use Rattle.wasm_syntax.specs.declared.host.CollectorCall.{CollectorCall}
 use Rattle.wasm_syntax.specs.declared.module.ModuleParts.{ModuleParts as Module}
 use Rattle.wasm_syntax.specs.Module.{Program, IsProgram}
 use Rattle.wasm_syntax.specs.Valid.{Valid}
@@ -18,10 +19,12 @@ use Rattle.command_answers.specs.Told.{OnContents}
 use Rattle.command_answers.specs.declared.outcome.Outcome.{Outcome}
 use Rattle.run_words.specs.declared.words.RunWords.{RunWords}
 use Rattle.run_session.specs.Stop.{Stop, no_memory, file_failed, EndsAtDump}
-use Rattle.run_session.specs.RunText.{dumps_from}
+use Rattle.run_collected.specs.Delivery.{Delivery, IsDelivery}
+use Rattle.run_session.specs.Telling.{tells}
+use Rattle.run_session.specs.RunText.{up_to_torn, dumps_from}
 use Rattle.run_session.specs.Given.{given_in}
 use Rattle.run_session.specs.Written.{HoldPart}
-use Rattle.run_session.specs.Invocations.{invocation_of}
+use Rattle.run_session.specs.Invocations.{invocation_of, depth_of}
 use Rattle.run_command.specs.Hosting.{scripted, start_text}
 use Rattle.run_command.specs.RunAnswer.{Logs, IsReadBy, hosting, script_replies, replies_input, script_of}
 
@@ -29,24 +32,25 @@ use Rattle.run_command.specs.RunAnswer.{Logs, IsReadBy, hosting, script_replies,
 
 -- What these invocations come to within so many steps, on the replies that were given, those of the script being its first ones. The dumps of
 -- their traps are written, but the last one may be there in part.
-pub record RunsFor (w : RunWords) (m : Module) (script : Option (List Reply)) (is : List Invocation) (fuel : ℕ) (rans : List Ran) (before after : List DeviceState) (old new : Option Contents) : Type 0 where
+pub record RunsFor (deliver : List CollectorCall → Delivery) (w : RunWords) (m : Module) (script : Option (List Reply)) (is : List Invocation) (fuel : ℕ) (rans : List Ran) (before after : List DeviceState) (old new : Option Contents) : Type 0 where
   pub program : Program
   pub of_module : program.module_ ≡ m
   pub writes_out : IsProgram program
   pub given : List Served
-  pub runs : rans ≡ run program false is (replies_of given) w.depth fuel
+  pub delivers : IsDelivery deliver
+  pub runs : rans ≡ up_to_torn (tells w.collect deliver) (run program w.collect is (replies_of given) (depth_of w) fuel)
   pub all_given : given ≡ given_in rans
   pub left : List Reply
   pub by_script : script_replies script ≡ replies_of (scripted (names before) m.imports given) ++ left
   pub logs : Logs m given before after
-  pub files : OnTold (HoldPart (dumps_from w.dump w.name 0 rans)) old new
+  pub files : OnTold (HoldPart (dumps_from (tells w.collect deliver) w.dump w.name 0 rans)) old new
 
 -- all invocations, for some number of steps up to the fuel; or the invocations up to one that trapped, the file of whose dump failed
 abbrev pub StopsRun : Stop → RunWords → Module → Option (List Reply) → (before after : List DeviceState) → (old new : Option Contents) → Type 0
 StopsRun no_memory w m script before after old new =
-    (fuel : ℕ) × (fuel ≤ w.fuel) × (rans : List Ran) × RunsFor w m script (map invocation_of w.invocations) fuel rans before after old new
+    (deliver : List CollectorCall → Delivery) × (fuel : ℕ) × (fuel ≤ w.fuel) × (rans : List Ran) × RunsFor deliver w m script (map invocation_of w.invocations) fuel rans before after old new
 StopsRun (file_failed file) w m script before after old new =
-    (made : ℕ) × (rans : List Ran) × EndsAtDump w.dump 0 rans file × RunsFor w m script (take made (map invocation_of w.invocations)) w.fuel rans before after old new
+    (deliver : List CollectorCall → Delivery) × (made : ℕ) × (rans : List Ran) × EndsAtDump (tells w.collect deliver) w.dump 0 rans file × RunsFor deliver w m script (take made (map invocation_of w.invocations)) w.fuel rans before after old new
 
 -- ---- the steps of the command, from the last to the first
 
@@ -64,7 +68,7 @@ pub record NothingDone (stop : Stop) (IsRead : List ℕ → Type 0) (before afte
 -- nothing hinders the start of this module with this script
 abbrev pub ModuleStops : Stop → RunWords → Module → Option (List Reply) → (before after : List DeviceState) → (old new : Option Contents) → Type 0
 ModuleStops stop w m script before after old new =
-    (start_text (hosting before script) m (map invocation_of w.invocations) ≡ None) × StopsRun stop w m script before after old new
+    (start_text (hosting before script w.collect) m (map invocation_of w.invocations) ≡ None) × StopsRun stop w m script before after old new
 
 abbrev pub ScriptStops : Stop → RunWords → Module → Result (Option (List Reply)) Outcome → (before after : List DeviceState) → (old new : Option Contents) → Type 0
 ScriptStops stop w m script before after old new = (replies : Option (List Reply)) × (script ≡ Ok replies) × ModuleStops stop w m replies before after old new

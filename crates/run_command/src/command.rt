@@ -32,6 +32,7 @@ fn run_scripted<F: Files, D: Devices>(
 ) -> Result<Outcome, NoMemory>
     requires distinct { AreDistinct (names (D.shown devices.old)) }
     requires some { 0 < length words.now.invocations }
+    requires depth { words.now.depth ≤ 10000 }
     ensures told { IfOk result (λ o. UnlessFault o.status (IsAnswered
         (λ given writes. ScriptAnswer (D.shown devices.old) (D.shown devices.new)
         words.now given writes (script_result script) source.now)
@@ -66,6 +67,7 @@ fn run_bytes<F: Files, D: Devices>(
 ) -> Result<Outcome, NoMemory>
     requires distinct { AreDistinct (names (D.shown devices.old)) }
     requires some { 0 < length words.now.invocations }
+    requires depth { words.now.depth ≤ 10000 }
     ensures told { IfOk result (λ o. UnlessFault o.status (IsAnswered
         (λ given writes. BytesAnswer (D.shown devices.old) (D.shown devices.new)
         words.now given writes (script_result script) bytes.now)
@@ -100,6 +102,7 @@ fn run_source<F: Files, D: Devices>(
 ) -> Result<Outcome, NoMemory>
     requires distinct { AreDistinct (names (D.shown devices.old)) }
     requires some { 0 < length words.now.invocations }
+    requires depth { words.now.depth ≤ 10000 }
     ensures told { IfOk result (λ o. UnlessFault o.status (OnContents (F.told files.old) (λ later.
         IsAnswered (λ given writes. SourceAnswer (D.shown devices.old) (D.shown devices.new)
         words.now later given writes bytes.now)
@@ -139,6 +142,7 @@ pub fn run_file<F: Files, D: Devices>(
 ) -> Result<Outcome, NoMemory>
     requires distinct { AreDistinct (names (D.shown devices.old)) }
     requires some { 0 < length words.now.invocations }
+    requires depth { words.now.depth ≤ 10000 }
     ensures told { IfOk result (λ o. UnlessFault o.status (AnsweredOn
         (RunAnswer (D.shown devices.old) (D.shown devices.new) words.now)
         (F.told files.old) (F.told files.new) o)) }

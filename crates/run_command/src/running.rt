@@ -5,6 +5,7 @@ ghost use Rattle.causes.specs.Counts.{Rose};
 ghost use Rattle.host_set.specs.Sets.{AreDistinct, names};
 ghost use Rattle.command_answers.specs.Told.{UnlessFault};
 ghost use Rattle.run_session.specs.Invocations.{invocation_of};
+ghost use Rattle.run_session.specs.inner.Collecting.{serving_of};
 ghost use Rattle.run_session.specs.Stop.{OnStop};
 ghost use Rattle.run_command.specs.Starting.{cause_text, segment_of};
 ghost use Rattle.run_command.specs.RunAnswer.{ModuleAnswer, IsReadBy};
@@ -15,6 +16,7 @@ ghost use Rattle.run_command.specs.Stops.{NothingDone, ModuleStops};
 use crate::starting::{early_cause, not_started};
 use causes::NoMemory;
 use command_answers::{Outcome, Status};
+use host_collector::Collecting;
 use host_devices::HostSide;
 use host_set::{Devices, Hosts};
 use pm_outside::Files;
@@ -73,6 +75,29 @@ fn begin<'a, H: HostSide>(
     }
 }
 
+/// A new instance, where all invocations that the words name may begin, with a collector in front of the host side where
+/// the words ask for one; or the answer that says why not. The host side comes back.
+fn begin_with<'a, H: HostSide>(
+    alloc: Global,
+    source: &'a Validated,
+    words: &RunWords,
+    hosts: H,
+) -> (Result<Begun<'a>, NoMemory>, H)
+    requires { 0 < length words.now.invocations }
+    ensures begun { IfOk result.0 (HasBegun (serving_of words.now.collect (H.serving result.1)) source.now (map invocation_of words.now.invocations)) }
+    ensures same { result.1 ≡ hosts }
+{
+    let invocations = words.invocations.as_slice();
+    if words.collect {
+        let collecting = Collecting::new(alloc, hosts);
+        let begun = begin(alloc, source, invocations, &collecting);
+        (begun, collecting.into_inner())
+    } else {
+        let begun_there = begin(alloc, source, invocations, &hosts);
+        (begun_there, hosts)
+    }
+}
+
 /// Runs the invocations on a valid module, and gives the devices back.
 pub(crate) fn run_valid<F: Files, D: Devices>(
     alloc: Global,
@@ -84,6 +109,7 @@ pub(crate) fn run_valid<F: Files, D: Devices>(
 ) -> Result<Outcome, NoMemory>
     requires distinct { AreDistinct (names (D.shown devices.old)) }
     requires some { 0 < length words.now.invocations }
+    requires depth { words.now.depth ≤ 10000 }
     ensures told { IfOk result (λ o. UnlessFault o.status (IsAnswered
         (λ given writes. ModuleAnswer (D.shown devices.old) (D.shown devices.new)
         words.now given writes script source.now)
@@ -103,20 +129,21 @@ pub(crate) fn run_valid<F: Files, D: Devices>(
 {
     let set = mem::replace(devices, D::empty(alloc));
     let imports = source.module().parts().imports.as_slice();
-    let mut hosts = Hosts::new(alloc, set, script, imports);
-    match begin(alloc, source, words.invocations.as_slice(), &hosts) {
-        Ok(Begun::Ready(mut instance)) => {
-            let outcome = run_all(alloc, files, words, &mut instance, &mut hosts);
+    let hosts = Hosts::new(alloc, set, script, imports);
+    let (begun, hosts) = begin_with(alloc, source, words, hosts);
+    let Ok(begun) = begun else {
+        *devices = hosts.into_devices();
+        return Err(NoMemory);
+    };
+    match begun {
+        Begun::Ready(mut instance) => {
+            let (outcome, hosts) = run_all(alloc, files, words, &mut instance, hosts);
             *devices = hosts.into_devices();
             outcome
         }
-        Ok(Begun::Refused(refusal)) => {
+        Begun::Refused(refusal) => {
             *devices = hosts.into_devices();
             Ok(refusal)
-        }
-        Err(NoMemory) => {
-            *devices = hosts.into_devices();
-            Err(NoMemory)
         }
     }
 }

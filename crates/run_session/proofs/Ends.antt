@@ -1,15 +1,15 @@
 -- How a list of invocations has ended.
-use Rattle.std.proofs.Common.{◌≡◌, ℕ, suc, ◌+◌, ◌<◌, Bool, true, false, List, [], ◌∷◌, ◌++◌, length, refl, sym, ap, ◌∙◌, inl, inr, arith, Option, Some, None, subst}
+use Rattle.std.proofs.Common.{◌≡◌, ℕ, ◌+◌, ◌<◌, Bool, true, false, List, [], ◌∷◌, ◌++◌, length, refl, sym, ap, ◌∙◌, inl, inr, arith, Option, Some, None, subst}
 use Rattle.std.specs.Prelude.{IfSome, is_some, nat_lt, if◌then◌else◌}
 use Rattle.std.proofs.Math.Nat.{le_refl}
 use Rattle.std.proofs.lemmas.Bool.{lt-ltb}
 use Rattle.std.proofs.lemmas.List.{append-nil}
 use Rattle.pm_outside.specs.Contents.{Contents}
 use Rattle.wasm_syntax.specs.declared.parts.Import.{Import}
+use Rattle.wasm_syntax.specs.declared.host.Served.{Served}
 use Rattle.wasm_syntax.specs.Machine.{Config, Engine}
 use Rattle.wasm_syntax.specs.Module.{Program}
 use Rattle.wasm_syntax.specs.Run.{Invocation, Outcome as RunOutcome, not_started, finished, trapped, lacks_reply, misfits, running, got_stuck, Ran, goes_on}
-use Rattle.host_devices.specs.HostSides.{Calls}
 use Rattle.host_devices.specs.Given.{replies_of}
 use Rattle.machine_hosted.specs.declared.answer.RunEnd.{RunEnd}
 use Rattle.machine_hosted.specs.declared.answer.RunEnd.TheVariants.{Finished, Trapped, NoReply, BadReply, DeviceFault, FuelSpent, NoMemory}
@@ -20,14 +20,16 @@ use Rattle.wasm_machine.specs.Instances.{State}
 use Rattle.command_answers.specs.Texts.{ended}
 use Rattle.command_answers.specs.declared.outcome.Outcome.{Outcome}
 use Rattle.command_answers.specs.declared.status.Status.TheVariants as status
-use Rattle.run_session.specs.RunText.{traps_in, last_of, if_trapped, fitted, not_invoked_text}
+use Rattle.run_session.specs.Telling.{Telling, nothing, finish, trap, bare_trap, torn, Tells, told, torn_in}
+use Rattle.run_session.specs.RunText.{traps_in, with_trap, last_of, fitted, up_to_torn, torn_text, not_invoked_text}
 use Rattle.run_session.specs.inner.Answers.{answer_line, answer_status}
-use Rattle.run_session.specs.Ending.{trapped_or_done, end_status}
-use Rattle.run_session.specs.inner.Progress.{Point, session_from, WentOn}
-use Rattle.run_session.specs.inner.Sessions.{point_of, EndsIn, RanAll, SoFar}
+use Rattle.run_session.specs.Ending.{trapped_or_done, end_status, told_status}
+use Rattle.run_session.specs.inner.Progress.{Point, session_from, WentOn, NoneTorn}
+use Rattle.run_session.specs.inner.Sessions.{point_of, EndsIn, ToldEndsIn, RanAll, SoFar}
 use Rattle.run_session.specs.declared.turns.Lines.{Lines}
-use Rattle.run_session.proofs.Sessions.{EndedWith}
-use Rattle.run_session.proofs.Turning.{trapped_traps}
+use Rattle.run_session.proofs.Tellings.{Behaves}
+use Rattle.run_session.proofs.Lists.{none_torn_first}
+use Rattle.run_session.proofs.Sessions.{EndedWith, EndsSo, TornAt}
 
 -- ---- the last line and the status by the answer
 
@@ -83,26 +85,45 @@ done_no_want traps = (of_traps traps).1
 
 -- ---- the whole list
 
-pub ended_so : (p : Program) (M : Engine) (base name : List ℕ) (used_up : Import → Bool) (counts now : List ℕ → ℕ) (first : Point) (lines : Lines) (before after : Calls) (told_before told_after : Option Contents) (a : RunEnd) (due count : ℕ) (o : Outcome)
-    → before.served ≡ [] → count ≡ length after.served → (a ≡ NoMemory → ⊥) → HasCause a counts now → o ≡ ended (answer_status a lines.traps) (lines.text ++ answer_line a count due)
-    → EndedWith p M base name used_up first lines before after told_before told_after a due
-    → RanAll p M base name used_up counts now first before after told_before told_after o
-ended_so p M base name used_up counts now first lines before after told_before told_after a due count o none counted some cause is e = record {
-  given = e.given;
-  grew = e.grew;
-  writes = e.writes;
-  files = e.files;
-  lines = lines;
-  due = due;
-  last = e.last;
-  has_ended = e.has_ended;
-  line = answer_line a count due;
-  ends = subst (λ n. EndsIn p used_up counts now n due e.last.outcome (answer_line a count due)) all (line_ends p used_up counts now count due a e.last.outcome e.outcome some cause);
-  answer = is ∙ ap (λ s. ended s (lines.text ++ answer_line a count due)) (status_ends p used_up lines.traps a e.last.outcome e.outcome some);
-}
-  where
-    all : count ≡ length e.given
-    all = counted ∙ ap (λ l. length l) (e.grew ∙ ap (λ l. l ++ e.given) none)
+module _ (tell : Tells) (p : Program) (M : Engine) (base name : List ℕ) (used_up : Import → Bool) (counts now : List ℕ → ℕ) (first : Point) (lines : Lines) (before after : List Served) (told_before told_after : Option Contents) (due : ℕ) (none : before ≡ []) where
+  abbrev pub RanSo : Outcome → Type 0
+  RanSo o = RanAll tell p M base name used_up counts now first before after told_before told_after o
+
+  abbrev pub EndedSo : (Ran → Type 0) → Type 0
+  EndedSo known_of = EndedWith tell M base name first lines before after told_before told_after known_of due
+
+  ran_so : (known_of : Ran → Type 0) (e : EndedSo known_of) (line : List ℕ) (o : Outcome) → ToldEndsIn p used_up counts now (length e.given) due (torn_in (told tell e.last)) e.last.outcome line
+      → o ≡ ended (told_status lines.traps (torn_in (told tell e.last)) e.last.outcome) (lines.text ++ line) → RanSo o
+  ran_so known_of e line o ends is = record {
+    given = e.given;
+    grew = e.grew;
+    writes = e.writes;
+    files = e.files;
+    lines = lines;
+    due = due;
+    last = e.last;
+    has_ended = e.has_ended;
+    line = line;
+    ends = ends;
+    answer = is;
+  }
+
+  pub ended_so : (a : RunEnd) (count : ℕ) (o : Outcome) → count ≡ length after → (a ≡ NoMemory → ⊥) → HasCause a counts now → o ≡ ended (answer_status a lines.traps) (lines.text ++ answer_line a count due)
+      → EndedSo (EndsSo tell p used_up a) → RanSo o
+  ended_so a count o counted some cause is e =
+      let line = answer_line a count due in
+      ran_so (EndsSo tell p used_up a) e line o
+      (subst (λ t. ToldEndsIn p used_up counts now (length e.given) due t e.last.outcome line) (sym e.known.1)
+      (subst (λ n. EndsIn p used_up counts now n due e.last.outcome line) all (line_ends p used_up counts now count due a e.last.outcome e.known.0 some cause)))
+      (is ∙ ap (λ s. ended s (lines.text ++ line)) (status_ends p used_up lines.traps a e.last.outcome e.known.0 some ∙ ap (λ t. told_status lines.traps t e.last.outcome) (sym e.known.1)))
+    where
+      all : count ≡ length e.given
+      all = counted ∙ ap (λ l. length l) (e.grew ∙ ap (λ l. l ++ e.given) none)
+
+  pub torn_so : (at : ℕ) (o : Outcome) → o ≡ ended status.TornCalls (lines.text ++ torn_text at) → EndedSo (TornAt tell at) → RanSo o
+  torn_so at o is e =
+      ran_so (TornAt tell at) e (torn_text at) o (subst (λ t. ToldEndsIn p used_up counts now (length e.given) due t e.last.outcome (torn_text at)) (sym e.known) refl)
+      (is ∙ ap (λ t. ended (told_status lines.traps t e.last.outcome) (lines.text ++ torn_text at)) (sym e.known))
 
 -- all invocations were made: the last one went on
 
@@ -116,27 +137,28 @@ last_went [] some went = absurd (omega arith)
 last_went (r ∷ []) some went = record { last = r; is_last = refl; went = went }
 last_went (r ∷ q ∷ rans) some went = let more = last_went (q ∷ rans) (omega arith) went in record { last = more.last; is_last = more.is_last; went = more.went }
 
-some_of : (n : ℕ) → n ≡ 1 → 0 < n
-some_of n e = omega (arith, e)
+-- its calls are not torn
+last_whole : (tell : Tells) (rans : List Ran) (r : Ran) → last_of rans ≡ Some r → NoneTorn tell rans → torn_in (told tell r) ≡ None
+last_whole tell [] r is none = absurd cc
+last_whole tell (q ∷ []) r is (first, none) =
+    let same : q ≡ r = ap (λ (o : Option Ran). elim o [ None ↦ q | Some x ↦ x ]) is in
+    ap (λ (x : Ran). torn_in (told tell x)) (sym same) ∙ first
+last_whole tell (q ∷ p ∷ rans) r is (first, none) = last_whole tell (p ∷ rans) r is none
 
 -- its status is that of all traps
-last_trap : (rans : List Ran) (r : Ran) (kind : ℕ) (c : Config) → last_of rans ≡ Some r → r.outcome ≡ trapped kind → r.last ≡ Some c → 0 < traps_in rans
-last_trap [] r kind c is trap last = absurd cc
-last_trap (q ∷ []) r kind c is trap last =
+more_traps : (t : Telling) (n : ℕ) → 0 < n → 0 < with_trap t n
+more_traps nothing n lt = lt
+more_traps (finish v) n lt = lt
+more_traps (trap kind place dump) n lt = omega arith
+more_traps (bare_trap kind) n lt = omega arith
+more_traps (torn at) n lt = lt
+
+last_trap : (tell : Tells) (rans : List Ran) (r : Ran) → last_of rans ≡ Some r → 0 < with_trap (told tell r) 0 → 0 < traps_in tell rans
+last_trap tell [] r is lt = absurd cc
+last_trap tell (q ∷ []) r is lt =
     let same : q ≡ r = ap (λ (o : Option Ran). elim o [ None ↦ q | Some x ↦ x ]) is in
-    some_of (traps_in (q ∷ [])) (ap (λ (x : Ran). traps_in (x ∷ [])) same ∙ trapped_traps r kind c trap last)
-last_trap (q ∷ p ∷ rans) r kind c is trap last =
-    more q.outcome q.last (last_trap (p ∷ rans) r kind c is trap last)
-  where
-    more : (o : RunOutcome) (l : Option Config) → 0 < traps_in (p ∷ rans) → 0 < if_trapped o l (λ c. suc (traps_in (p ∷ rans))) (traps_in (p ∷ rans))
-    more (trapped k) (Some c) lt = omega arith
-    more (trapped k) None lt = lt
-    more (finished v) l lt = lt
-    more (not_started cause) l lt = lt
-    more (lacks_reply call) l lt = lt
-    more (misfits call reply) l lt = lt
-    more running l lt = lt
-    more got_stuck l lt = lt
+    subst (λ (x : Ran). 0 < with_trap (told tell x) 0) (sym same) lt
+last_trap tell (q ∷ p ∷ rans) r is lt = more_traps (told tell q) (traps_in tell (p ∷ rans)) (last_trap tell (p ∷ rans) r is lt)
 
 some_traps : (n : ℕ) → 0 < n → trapped_or_done n ≡ status.Trapped
 some_traps n lt = ap (λ b. if b then status.Trapped else status.Done) (lt-ltb 0 n lt)
@@ -145,15 +167,21 @@ record EndsQuietly (p : Program) (used_up : Import → Bool) (counts now : List 
   pub ends : EndsIn p used_up counts now given 0 o []
   pub status_is : trapped_or_done traps ≡ end_status traps o
 
-ends_quietly : (p : Program) (used_up : Import → Bool) (counts now : List ℕ → ℕ) (given : ℕ) (rans : List Ran) (r : Ran) (o : RunOutcome) (l : Option Config) → r.outcome ≡ o → r.last ≡ l → last_of rans ≡ Some r → goes_on o r.entered ≡ true → is_some l ≡ true → EndsQuietly p used_up counts now given (traps_in rans) o
-ends_quietly p used_up counts now given rans r (finished v) l is at last on some = record { ends = refl; status_is = refl }
-ends_quietly p used_up counts now given rans r (trapped kind) (Some c) is at last on some = record { ends = refl; status_is = some_traps (traps_in rans) (last_trap rans r kind c last is at) }
-ends_quietly p used_up counts now given rans r (trapped kind) None is at last on some = absurd cc
-ends_quietly p used_up counts now given rans r (not_started cause) l is at last on some = absurd cc
-ends_quietly p used_up counts now given rans r (lacks_reply call) l is at last on some = absurd cc
-ends_quietly p used_up counts now given rans r (misfits call reply) l is at last on some = absurd cc
-ends_quietly p used_up counts now given rans r running l is at last on some = absurd cc
-ends_quietly p used_up counts now given rans r got_stuck l is at last on some = absurd cc
+ends_quietly : (tell : Tells) → Behaves tell → (p : Program) (used_up : Import → Bool) (counts now : List ℕ → ℕ) (given : ℕ) (rans : List Ran) (r : Ran) (o : RunOutcome) (l : Option Config) → r.outcome ≡ o → r.last ≡ l → last_of rans ≡ Some r → torn_in (told tell r) ≡ None → goes_on o r.entered ≡ true → is_some l ≡ true
+    → EndsQuietly p used_up counts now given (traps_in tell rans) o
+ends_quietly tell b p used_up counts now given rans r (finished v) l is at last whole on some = record { ends = refl; status_is = refl }
+ends_quietly tell b p used_up counts now given rans r (trapped kind) (Some c) is at last whole on some =
+    let same : told tell r ≡ tell (trapped kind) r.collected (Some c) = ap (λ x. tell x r.collected r.last) is ∙ ap (λ x. tell (trapped kind) r.collected x) at in
+    record {
+      ends = refl;
+      status_is = some_traps (traps_in tell rans) (last_trap tell rans r last (subst (λ t. 0 < with_trap t 0) (sym same) (b.traps kind r.collected c (ap torn_in (sym same) ∙ whole))));
+    }
+ends_quietly tell b p used_up counts now given rans r (trapped kind) None is at last whole on some = absurd cc
+ends_quietly tell b p used_up counts now given rans r (not_started cause) l is at last whole on some = absurd cc
+ends_quietly tell b p used_up counts now given rans r (lacks_reply call) l is at last whole on some = absurd cc
+ends_quietly tell b p used_up counts now given rans r (misfits call reply) l is at last whole on some = absurd cc
+ends_quietly tell b p used_up counts now given rans r running l is at last whole on some = absurd cc
+ends_quietly tell b p used_up counts now given rans r got_stuck l is at last whole on some = absurd cc
 
 none_unfits : (o : RunOutcome) (entered : Bool) → goes_on o entered ≡ true → unfitting o ≡ []
 none_unfits (finished v) entered e = refl
@@ -164,15 +192,16 @@ none_unfits (misfits call reply) entered e = absurd cc
 none_unfits running entered e = absurd cc
 none_unfits got_stuck entered e = absurd cc
 
-pub all_made_so : (p : Program) (M : Engine) (base name : List ℕ) (used_up : Import → Bool) (counts now : List ℕ → ℕ) (first s : State) (done : List Invocation) (fuel : ℕ) (lines : Lines) (before after : Calls) (told_before told_after : Option Contents) (o : Outcome)
+pub all_made_so : (tell : Tells) → Behaves tell → (p : Program) (M : Engine) (base name : List ℕ) (used_up : Import → Bool) (counts now : List ℕ → ℕ) (first s : State) (done : List Invocation) (fuel : ℕ) (lines : Lines) (before after : List Served) (told_before told_after : Option Contents) (o : Outcome)
     → 0 < length (done ++ []) → o ≡ ended (trapped_or_done lines.traps) lines.text
-    → SoFar M base name first s done fuel lines before after told_before told_after
-    → RanAll p M base name used_up counts now (point_of first (done ++ []) fuel) before after told_before told_after o
-all_made_so p M base name used_up counts now first s done fuel lines before after told_before told_after o some is so_far =
+    → SoFar tell M base name first s done fuel lines before after told_before told_after
+    → RanAll tell p M base name used_up counts now (point_of first (done ++ []) fuel) before after told_before told_after o
+all_made_so tell b p M base name used_up counts now first s done fuel lines before after told_before told_after o some is so_far =
     let come = so_far.come [] fuel so_far.within (le_refl fuel) [] in
     let counted : length (done ++ []) ≡ length come.rans + 0 = come.counted in
     let went = last_went come.rans (omega (arith, some, counted)) come.went_on in
-    let quiet = ends_quietly p used_up counts now (length so_far.given) come.rans went.last went.last.outcome went.last.last refl refl went.is_last went.went.0 went.went.1 in
+    let whole = last_whole tell come.rans went.last went.is_last come.none_torn in
+    let quiet = ends_quietly tell b p used_up counts now (length so_far.given) come.rans went.last went.last.outcome went.last.last refl refl went.is_last whole went.went.0 went.went.1 in
     record {
       given = so_far.given;
       grew = so_far.grew;
@@ -183,15 +212,17 @@ all_made_so p M base name used_up counts now first s done fuel lines before afte
       last = went.last;
       has_ended = record {
         rans = come.rans;
-        is = ap (λ l. session_from M (point_of first (done ++ []) fuel) l) (sym (append-nil (replies_of so_far.given))) ∙ come.is ∙ append-nil come.rans;
+        is = ap (λ l. up_to_torn tell l) (ap (λ l. session_from M (point_of first (done ++ []) fuel) l) (sym (append-nil (replies_of so_far.given))) ∙ come.is)
+            ∙ none_torn_first tell come.rans [] come.none_torn ∙ append-nil come.rans;
         counted = counted;
         came_of = come.came_of;
         fit = come.fit ∙ plus_none (fitted come.rans) ∙ ap (λ l. fitted come.rans + length l) (sym (none_unfits went.last.outcome went.last.entered went.went.0));
         last = went.is_last;
       };
       line = [];
-      ends = quiet.ends;
-      answer = is ∙ ap (λ t. ended (trapped_or_done lines.traps) t) (sym (append-nil lines.text)) ∙ ap (λ s. ended s (lines.text ++ [])) (ap (λ n. trapped_or_done n) come.came_of.traps ∙ quiet.status_is ∙ ap (λ n. end_status n went.last.outcome) (sym come.came_of.traps));
+      ends = subst (λ t. ToldEndsIn p used_up counts now (length so_far.given) 0 t went.last.outcome []) (sym whole) quiet.ends;
+      answer = is ∙ ap (λ t. ended (trapped_or_done lines.traps) t) (sym (append-nil lines.text))
+          ∙ ap (λ s. ended s (lines.text ++ [])) (ap (λ n. trapped_or_done n) come.came_of.traps ∙ quiet.status_is ∙ ap (λ n. end_status n went.last.outcome) (sym come.came_of.traps) ∙ ap (λ t. told_status lines.traps t went.last.outcome) (sym whole));
     }
   where
     plus_none : (n : ℕ) → n ≡ n + 0

@@ -8,7 +8,7 @@ use Rattle.pm_outside.specs.declared.answers.WriteAnswer.{WriteAnswer}
 use Rattle.pm_outside.specs.declared.answers.WriteAnswer.TheVariants as write
 use Rattle.dump_write.specs.Written.{OnTold, HasFile, HoldsFront, HasFront, Writes as Leaves}
 use Rattle.run_session.specs.Written.{Writes, held_then, HoldThen, HoldsPart, HoldPart}
-use Rattle.run_session.proofs.Told.{then_told, same_told}
+use Rattle.run_session.proofs.ToldFiles.{then_told, same_told}
 
 -- writes behind others
 held_more : (ws also : Writes) (files : Contents) → held_then (ws ++ also) files ≡ held_then also (held_then ws files)

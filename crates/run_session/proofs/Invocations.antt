@@ -10,12 +10,11 @@ use Rattle.wasm_syntax.specs.declared.parts.Import.{Import}
 use Rattle.wasm_syntax.specs.declared.value.Value.{Value}
 use Rattle.wasm_syntax.specs.declared.host.Reply.{Reply}
 use Rattle.wasm_syntax.specs.declared.host.Served.{Served}
+use Rattle.wasm_syntax.specs.declared.host.CollectorCall.{CollectorCall}
 use Rattle.wasm_syntax.specs.Host.{World}
 use Rattle.wasm_syntax.specs.Machine.{Config, Engine}
 use Rattle.wasm_syntax.specs.Module.{Program, function_export}
 use Rattle.wasm_syntax.specs.Run.{Invocation, Outcome, not_started, finished, trapped, lacks_reply, misfits, running, got_stuck, Ran, goes_on, fresh, session, invoked, engine}
-use Rattle.machine_basics.specs.declared.answer.TrapKind.{TrapKind}
-use Rattle.machine_basics.specs.Traps.{trap_code}
 use Rattle.machine_code.specs.declared.code.Code.{Code}
 use Rattle.machine_steps.specs.declared.machine.Machine.{Machine}
 use Rattle.machine_steps.specs.declared.machine.Prepared.{Prepared}
@@ -31,18 +30,20 @@ use Rattle.machine_hosted.specs.Invocations.{HasOutcome, may_follow, InvocationC
 use Rattle.host_devices.specs.Given.{unfitting}
 use Rattle.wasm_machine.specs.Instances.{State, IsOf, Invoked}
 use Rattle.run_session.specs.inner.Progress.{session_from}
-use Rattle.run_session.specs.RunText.{dump_name, dumps_from}
+use Rattle.run_session.specs.Telling.{Tells, told, torn_in, HasDump}
+use Rattle.run_session.specs.RunText.{dump_name, dumps_from, up_to_torn, unless_torn}
 use Rattle.run_session.specs.Given.{given_to}
 use Rattle.run_session.specs.Written.{HoldPart}
 use Rattle.run_session.specs.Stop.{no_memory, file_failed}
-use Rattle.run_session.specs.inner.Turns.{Answered, UnlessRefused, Added, LeavesPart, HasTrapped}
+use Rattle.run_session.specs.inner.Turns.{CameTo, Answered, UnlessRefused, Added, LeavesPart, Dumps}
 use Rattle.run_session.specs.inner.Sessions.{point_of, MadeOne, StopsIn}
 use Rattle.run_session.specs.declared.turns.Lines.{Lines}
 use Rattle.run_session.specs.declared.turns.Turn.{Turn}
-use Rattle.run_session.specs.declared.turns.Turn.TheVariants.{GoesOn, Ends, Refused}
-use Rattle.run_session.proofs.Lists.{dumps_only, one_trap}
+use Rattle.run_session.specs.declared.turns.Turn.TheVariants.{GoesOn, Ends, Torn, Refused}
+use Rattle.run_session.proofs.Tellings.{Behaves, one_trap}
+use Rattle.run_session.proofs.Lists.{dumps_only, only_one}
 use Rattle.run_session.proofs.Sessions.{no_replies}
-use Rattle.run_session.proofs.Stopped.{Nothing, none_left, choice_left}
+use Rattle.run_session.proofs.Stopped.{Nothing, none_left, choice_left, unless_left}
 use Rattle.run_session.proofs.Fewer.{with_left, fewer_steps}
 
 -- ---- an answer behind which the list goes on
@@ -199,6 +200,14 @@ module _ (M : Engine) (s new : State) (i : Invocation) (rest : List Invocation) 
       opens total more r gives left few (up_to total some many)
       ∙ ap (λ b. with_left r (total - new.steps) ∷ (if b then session M rest None (fresh r.last w) (total - new.steps) else [])) off
 
+  -- whatever comes behind it
+  pub begins_with : (total : ℕ) (r : Ran) → (a ≡ NoMemory → ⊥) → new.steps ≤ total → total ≤ fuel
+      → invoking M s.due f i.args (world_of s.machine []) (replies_of given ++ []) (given_steps a (fuel - s.steps) steps) ≡ r → r.left ≡ given_steps a (fuel - s.steps) steps - steps
+      → (later : List Ran) × (session_from M (point_of s (i ∷ rest) total) (replies_of given ++ []) ≡ with_left r (total - new.steps) ∷ later)
+  begins_with total r some few many gives left =
+      let w = world_of s.machine (replies_of given ++ []) in
+      ((if goes_on r.outcome r.entered then session M rest None (fresh r.last w) (total - new.steps) else []), opens total [] r gives left few (up_to total some many))
+
   -- the steps that were made are all
   pub stops_at : (more : List Reply) (r : Ran) → steps ≤ fuel - s.steps
       → invoking M s.due f i.args (world_of s.machine []) (replies_of given ++ more) (given_steps a (fuel - s.steps) steps) ≡ r → r.left ≡ given_steps a (fuel - s.steps) steps - steps
@@ -236,156 +245,173 @@ onward x k y e = omega arith
 within : (n x k y : ℕ) → k ≡ x + y → y ≤ n - x → x ≤ n → k ≤ n
 within n x k y e le few = omega arith
 
-pub made_one : (p : Program) (collecting : Bool) (depth : ℕ) (base name : List ℕ) (used_up : Import → Bool) (s new : State) (i : Invocation) (f fuel calls before_count after_count : ℕ) (a : RunEnd)
-    (lines later : Lines) (before after : Calls) (told_before told_after : Option Contents) (turn : Turn)
-    → IsOf new p → new.prepared ≡ s.prepared → (a ≡ NoMemory → ⊥) → function_export p.module_ i.name ≡ Some f → new.due ≡ None
-    → before_count ≡ length before.served → after_count ≡ length after.served → calls ≡ after_count - before_count
-    → Invoked p collecting depth used_up f i.args (fuel - s.steps) s new a before after
-    → UnlessRefused turn (Added base name new a calls lines later told_before told_after turn)
-    → UnlessRefused turn (MadeOne p (engine p collecting depth) base name used_up s new i fuel lines later before after told_before told_after turn)
-made_one p collecting depth base name used_up s new i f fuel calls before_count after_count a lines later before after told_before told_after (Refused o) is_of same some entry due one other counted invoked added = tt
-made_one p collecting depth base name used_up s new i f fuel calls before_count after_count a lines later before after told_before told_after GoesOn is_of same some entry due one other counted was added =
-    let M = engine p collecting depth in
-    let given = was.came.asked.given in
-    let count = counts before.served after.served given calls before_count after_count was.came.grew.served one other counted in
-    let known : (more : List Reply) (came : InvocationCame p s.prepared.codes.items used_up (invoking M s.due f i.args (world_of s.machine [])) (fuel - s.steps) was.came.asked a was.made new.ready new.entered new.machine more) (left : ℕ) → Answered p used_up a new calls (with_left came.ran left) =
-    λ more came left. record {
-      outcome = came.outcome;
-      follows = came.follows ∙ same_follow a came.ran left;
+-- what was collected, where it is looked at
+same_collected : (collect : Bool) (told_calls collected before after there : List CollectorCall) → told_calls ≡ collected → after ≡ before ++ told_calls → (collect ≡ true → before ≡ []) → there ≡ after → collect ≡ true → collected ≡ there
+same_collected collect told_calls collected before after there came grew none are looked = sym came ∙ sym (are ∙ grew ∙ ap (λ l. l ++ told_calls) (none looked))
+
+module _ (tell : Tells) (p : Program) (collect : Bool) (depth : ℕ) (base name : List ℕ) (used_up : Import → Bool) (s new : State) (i : Invocation) (f fuel : ℕ) (a : RunEnd) (handed : List CollectorCall) (before after : Calls) (told_before told_after : Option Contents)
+    (is_of : IsOf new p) (same : new.prepared ≡ s.prepared) (entry : function_export p.module_ i.name ≡ Some f)
+    (none : collect ≡ true → before.collected ≡ []) (are : handed ≡ after.collected)
+    (was : Invoked p collect depth used_up f i.args (fuel - s.steps) s new a before after) where
+  abbrev came_with : List Reply → Type 0
+  came_with more = InvocationCame p s.prepared.codes.items used_up (invoking (engine p collect depth) s.due f i.args (world_of s.machine [])) (fuel - s.steps) was.came.asked a was.made new.ready new.entered new.machine more
+
+  begin : came_with []
+  begin = was.came.came [] (no_replies a)
+
+  came_to : (more : List Reply) (came : came_with more) → CameTo p used_up a new came.ran.outcome came.last
+  came_to more came = record { is_of = is_of; outcome = came.outcome; keeps = subst (λ (q : Prepared). KeepsThen p q.codes.items a new.machine came.last) (sym same) came.keeps }
+
+  collected_is : (more : List Reply) (came : came_with more) → collect ≡ true → came.ran.collected ≡ handed
+  collected_is more came = same_collected collect was.came.asked.told came.ran.collected before.collected after.collected handed came.collected was.came.grew.collected none are
+
+  -- ---- an invocation that was made
+
+  module _ (calls before_count after_count : ℕ) (lines later : Lines) (some : a ≡ NoMemory → ⊥) (due : new.due ≡ None)
+      (one : before_count ≡ length before.served) (other : after_count ≡ length after.served) (counted : calls ≡ after_count - before_count) where
+    known : (more : List Reply) (came : came_with more) (left : ℕ) → Answered p used_up collect a new calls handed (with_left came.ran left)
+    known more came left = record {
       last = came.last;
       last_is = came.last_is;
-      keeps = subst (λ (q : Prepared). KeepsThen p q.codes.items a new.machine came.last) (sym same) came.keeps;
-      counted = count ∙ ap (λ l. length l) came.served;
-    } in
-    let begin = was.came.came [] (no_replies a) in
-    let on = on_answer p used_up a begin.ran.outcome begin.ran.entered begin.outcome (added.turns p used_up (with_left begin.ran 0) is_of (known [] begin 0)).0 some in
-    record {
+      came = came_to more came;
+      follows = came.follows ∙ same_follow a came.ran left;
+      counted = counts before.served after.served was.came.asked.given calls before_count after_count was.came.grew.served one other counted ∙ ap (λ l. length l) came.served;
+      handed = collected_is more came;
+    }
+
+    pub made_one : (turn : Turn) → UnlessRefused turn (Added tell collect base name new a calls handed lines later told_before told_after turn)
+        → UnlessRefused turn (MadeOne tell p (engine p collect depth) base name used_up s new i fuel lines later before.served after.served told_before told_after turn)
+    made_one (Refused o) added = tt
+    made_one GoesOn added =
+        let on = on_answer p used_up a begin.ran.outcome begin.ran.entered begin.outcome (added.turns p used_up (with_left begin.ran 0) (known [] begin 0)).0 some in
+        record {
+          answer = a;
+          given = was.came.asked.given;
+          grew = was.came.grew.served;
+          writes = added.writes;
+          files = added.files;
+          onward = onward s.steps new.steps was.made was.steps;
+          within = within fuel s.steps new.steps was.made was.steps begin.within;
+          ran = λ rest total few many more admits.
+              let came = was.came.came more (admits_on a on more) in
+              let ran = with_left came.ran (total - new.steps) in
+              let turns = added.turns p used_up ran (known more came (total - new.steps)) in
+              record {
+                ran = ran;
+                given_is = came.served;
+                turns = turns;
+                session_turns = goes_on_from (engine p collect depth) s new i rest f fuel was.made was.came.asked.given a entry was.steps total more came.ran came.last some due few many came.gives came.left came.last_is turns.0 (shares_on p s.prepared.codes.items a new.machine came.last on came.keeps) came.replies;
+                outcome = tt;
+              };
+        }
+    made_one (Ends b) added =
+        let is : b ≡ a = (added.turns p used_up (with_left begin.ran 0) (known [] begin 0)).0 in
+        record {
+          answer = a;
+          given = was.came.asked.given;
+          grew = was.came.grew.served;
+          writes = added.writes;
+          files = added.files;
+          onward = onward s.steps new.steps was.made was.steps;
+          within = within fuel s.steps new.steps was.made was.steps begin.within;
+          ran = λ rest total few many more admits.
+              let came = was.came.came more (subst (λ x. AdmitsReplies x more) is admits) in
+              let ran = with_left came.ran (total - new.steps) in
+              let turns = added.turns p used_up ran (known more came (total - new.steps)) in
+              record {
+                ran = ran;
+                given_is = came.served;
+                turns = turns;
+                session_turns = ends_at (engine p collect depth) s new i rest f fuel was.made was.came.asked.given a entry was.steps total more came.ran some few many came.gives came.left turns.1;
+                outcome = subst (λ x. HasOutcome p used_up x came.ran.outcome) (sym is) came.outcome;
+              };
+        }
+    made_one (Torn at) added = record {
       answer = a;
-      given = given;
+      given = was.came.asked.given;
       grew = was.came.grew.served;
       writes = added.writes;
       files = added.files;
       onward = onward s.steps new.steps was.made was.steps;
       within = within fuel s.steps new.steps was.made was.steps begin.within;
       ran = λ rest total few many more admits.
-          let came = was.came.came more (admits_on a on more) in
-          let ran = with_left came.ran (total - new.steps) in
-          let turns = added.turns p used_up ran is_of (known more came (total - new.steps)) in
+          let ran = with_left begin.ran (total - new.steps) in
+          let begun = begins_with (engine p collect depth) s new i rest f fuel was.made was.came.asked.given a entry was.steps total begin.ran some few many begin.gives begin.left in
           record {
             ran = ran;
-            given_is = came.served;
-            turns = turns;
-            session_turns = goes_on_from M s new i rest f fuel was.made given a entry was.steps total more came.ran came.last some due few many came.gives came.left came.last_is turns.0 (shares_on p s.prepared.codes.items a new.machine came.last on came.keeps) came.replies;
+            given_is = begin.served;
+            turns = added.turns p used_up ran (known [] begin (total - new.steps));
+            session_turns = (begun.0, ap (λ l. session_from (engine p collect depth) (point_of s (i ∷ rest) total) (replies_of was.came.asked.given ++ l)) admits ∙ begun.1);
             outcome = tt;
           };
     }
-made_one p collecting depth base name used_up s new i f fuel calls before_count after_count a lines later before after told_before told_after (Ends b) is_of same some entry due one other counted was added =
-    let M = engine p collecting depth in
-    let given = was.came.asked.given in
-    let count = counts before.served after.served given calls before_count after_count was.came.grew.served one other counted in
-    let known : (more : List Reply) (came : InvocationCame p s.prepared.codes.items used_up (invoking M s.due f i.args (world_of s.machine [])) (fuel - s.steps) was.came.asked a was.made new.ready new.entered new.machine more) (left : ℕ) → Answered p used_up a new calls (with_left came.ran left) =
-    λ more came left. record {
-      outcome = came.outcome;
-      follows = came.follows ∙ same_follow a came.ran left;
-      last = came.last;
-      last_is = came.last_is;
-      keeps = subst (λ (q : Prepared). KeepsThen p q.codes.items a new.machine came.last) (sym same) came.keeps;
-      counted = count ∙ ap (λ l. length l) came.served;
-    } in
-    let begin = was.came.came [] (no_replies a) in
-    let is : b ≡ a = (added.turns p used_up (with_left begin.ran 0) is_of (known [] begin 0)).0 in
-    record {
-      answer = a;
-      given = given;
-      grew = was.came.grew.served;
-      writes = added.writes;
-      files = added.files;
-      onward = onward s.steps new.steps was.made was.steps;
-      within = within fuel s.steps new.steps was.made was.steps begin.within;
-      ran = λ rest total few many more admits.
-          let came = was.came.came more (subst (λ x. AdmitsReplies x more) is admits) in
-          let ran = with_left came.ran (total - new.steps) in
-          let turns = added.turns p used_up ran is_of (known more came (total - new.steps)) in
+
+  -- ---- an invocation that was stopped
+
+  module _ (rest : List Invocation) (traps : ℕ) (b : Behaves tell) (begun : s.steps ≤ fuel) (part : LeavesPart tell collect base name new a handed traps told_before told_after) where
+    dumped : (left : ℕ) → OnTold (HoldPart (dumps_from tell base name traps (with_left begin.ran left ∷ []))) told_before told_after
+    dumped left = part p used_up (with_left begin.ran left) begin.last (came_to [] begin) (collected_is [] begin) begin.last_is
+
+    no_more : session_from (engine p collect depth) (point_of s (i ∷ rest) new.steps) (replies_of was.came.asked.given ++ []) ≡ session_from (engine p collect depth) (point_of s (i ∷ rest) new.steps) (replies_of was.came.asked.given)
+    no_more = ap (λ l. session_from (engine p collect depth) (point_of s (i ∷ rest) new.steps) l) (append-nil (replies_of was.came.asked.given))
+
+    fresh_served : (l : Option Config) (c : Config) (w : World) → l ≡ Some c → (fresh l w).served ≡ []
+    fresh_served l c w is = ap (λ k. (fresh k w).served) is
+
+    pub stopped_in : StopsIn tell no_memory (engine p collect depth) base name traps s (i ∷ rest) fuel before.served after.served told_before told_after
+    stopped_in =
+        let M = engine p collect depth in
+        let given = was.came.asked.given in
+        let w = world_of s.machine (replies_of given ++ []) in
+        let r = with_left begin.ran 0 in
+        let others = if goes_on r.outcome r.entered then session M rest None (fresh r.last w) 0 else [] in
+        let behind_it = unless_torn (torn_in (told tell r)) (up_to_torn tell others) in
+        let nothing_there : Nothing tell base name behind_it = unless_left tell base name (torn_in (told tell r)) (up_to_torn tell others)
+        (choice_left tell base name (goes_on r.outcome r.entered) (session M rest None (fresh r.last w) 0) (none_left tell b base name M rest (fresh r.last w) (fresh_served r.last begin.last w begin.last_is))) in (
+          new.steps,
+          onward s.steps new.steps was.made was.steps,
+          within fuel s.steps new.steps was.made was.steps begin.within begun,
+          r ∷ behind_it,
           record {
-            ran = ran;
-            given_is = came.served;
-            turns = turns;
-            session_turns = ends_at M s new i rest f fuel was.made given a entry was.steps total more came.ran some few many came.gives came.left turns.1;
-            outcome = subst (λ x. HasOutcome p used_up x came.ran.outcome) (sym is) came.outcome;
-          };
-    }
+            given = given;
+            grew = was.came.grew.served;
+            is = ap (λ l. up_to_torn tell l) (sym no_more ∙ stops_at M s new i rest f fuel was.made given a entry was.steps [] begin.ran begin.within begin.gives begin.left);
+            all_given = begin.served ∙ sym (append-nil (given_to r)) ∙ ap (λ l. given_to r ++ l) (sym nothing_there.given);
+            files = subst (λ ws. OnTold (HoldPart ws) told_before told_after) (sym (dumps_only tell base name traps r behind_it nothing_there.dumps)) (dumped 0);
+          },
+        )
 
--- ---- an invocation that was stopped
-
-module _ (p : Program) (collecting : Bool) (depth : ℕ) (base name : List ℕ) (used_up : Import → Bool) (s new : State) (i : Invocation) (rest : List Invocation) (f fuel traps : ℕ) (a : RunEnd) (before after : Calls) (told_before told_after : Option Contents)
-    (is_of : IsOf new p) (same : new.prepared ≡ s.prepared) (entry : function_export p.module_ i.name ≡ Some f) (begun : s.steps ≤ fuel)
-    (was : Invoked p collecting depth used_up f i.args (fuel - s.steps) s new a before after) (part : LeavesPart base name new a traps told_before told_after) where
-  came : InvocationCame p s.prepared.codes.items used_up (invoking (engine p collecting depth) s.due f i.args (world_of s.machine [])) (fuel - s.steps) was.came.asked a was.made new.ready new.entered new.machine []
-  came = was.came.came [] (no_replies a)
-
-  dumped : (left : ℕ) → OnTold (HoldPart (dumps_from base name traps (with_left came.ran left ∷ []))) told_before told_after
-  dumped left = part p used_up (with_left came.ran left) came.last is_of came.outcome came.last_is (subst (λ (q : Prepared). KeepsThen p q.codes.items a new.machine came.last) (sym same) came.keeps)
-
-  no_more : session_from (engine p collecting depth) (point_of s (i ∷ rest) new.steps) (replies_of was.came.asked.given ++ []) ≡ session_from (engine p collecting depth) (point_of s (i ∷ rest) new.steps) (replies_of was.came.asked.given)
-  no_more = ap (λ l. session_from (engine p collecting depth) (point_of s (i ∷ rest) new.steps) l) (append-nil (replies_of was.came.asked.given))
-
-  fresh_served : (l : Option Config) (c : Config) (w : World) → l ≡ Some c → (fresh l w).served ≡ []
-  fresh_served l c w is = ap (λ k. (fresh k w).served) is
-
-  pub stopped_in : StopsIn no_memory (engine p collecting depth) base name traps s (i ∷ rest) fuel before after told_before told_after
-  stopped_in =
-      let M = engine p collecting depth in
-      let given = was.came.asked.given in
-      let w = world_of s.machine (replies_of given ++ []) in
-      let r = with_left came.ran 0 in
-      let others = if goes_on r.outcome r.entered then session M rest None (fresh r.last w) 0 else [] in
-      let none : Nothing base name others = choice_left base name (goes_on r.outcome r.entered) (session M rest None (fresh r.last w) 0) (none_left base name M rest (fresh r.last w) (fresh_served r.last came.last w came.last_is)) in (
-        new.steps,
-        onward s.steps new.steps was.made was.steps,
-        within fuel s.steps new.steps was.made was.steps came.within begun,
-        r ∷ others,
-        record {
-          given = given;
-          grew = was.came.grew.served;
-          is = sym no_more ∙ stops_at M s new i rest f fuel was.made given a entry was.steps [] came.ran came.within came.gives came.left;
-          all_given = came.served ∙ sym (append-nil (given_to r)) ∙ ap (λ l. given_to r ++ l) (sym none.given);
-          files = subst (λ ws. OnTold (HoldPart ws) told_before told_after) (sym (dumps_only base name traps r others none.dumps)) (dumped 0);
-        },
-      )
-
-  pub failed_in : HasTrapped a → StopsIn (file_failed (dump_name base traps)) (engine p collecting depth) base name traps s (i ∷ rest) fuel before after told_before told_after
-  failed_in (kind, is) =
-      let M = engine p collecting depth in
-      let given = was.came.asked.given in
-      let w = world_of s.machine (replies_of given ++ []) in
-      let r = with_left came.ran (fuel - new.steps) in
-      let trap : came.ran.outcome ≡ trapped (trap_code kind) = subst (λ x. HasOutcome p used_up x came.ran.outcome) is came.outcome in
-      let some : a ≡ NoMemory → ⊥ = λ e. no_trap kind (sym is ∙ e) in (
-        1,
-        r ∷ [],
-        record {
-          ran = r;
-          kind = trap_code kind;
-          last = refl;
-          has_trapped = trap;
-          trap = traps;
-          counted = ap (λ n. traps + n) (one_trap r (trap_code kind) came.last trap came.last_is) ∙ add-one traps;
-          file_is = refl;
-        },
-        record {
-          given = given;
-          grew = was.came.grew.served;
-          is = ap (λ l. session_from M (point_of s (i ∷ []) fuel) l) (sym (append-nil (replies_of given)))
-              ∙ opens M s new i [] f fuel was.made given a entry was.steps fuel [] came.ran came.gives came.left (within fuel s.steps new.steps was.made was.steps came.within begun) (up_to M s new i [] f fuel was.made given a entry was.steps fuel some (le_refl fuel))
-              ∙ either (goes_on r.outcome r.entered) r;
-          all_given = came.served ∙ sym (append-nil (given_to r));
-          files = dumped (fuel - new.steps);
-        },
-      )
-    where
-      no_trap : (kind : TrapKind) → Trapped kind ≡ NoMemory → ⊥
-      no_trap kind e = absurd cc
-
-      either : (b : Bool) (r : Ran) → r ∷ (if b then [] else []) ≡ r ∷ []
-      either true r = refl
-      either false r = refl
+    pub failed_in : (a ≡ NoMemory → ⊥) → Dumps tell collect a new handed → StopsIn tell (file_failed (dump_name base traps)) (engine p collect depth) base name traps s (i ∷ rest) fuel before.served after.served told_before told_after
+    failed_in some dumps =
+        let M = engine p collect depth in
+        let given = was.came.asked.given in
+        let r = with_left begin.ran (fuel - new.steps) in
+        let has : HasDump (told tell r) = subst (λ l. HasDump (tell r.outcome r.collected l)) (sym begin.last_is) (dumps p used_up begin.ran.outcome begin.last begin.ran.collected (came_to [] begin) (collected_is [] begin)) in
+        let trap = b.dumped r.outcome r.collected r.last has in (
+          1,
+          r ∷ [],
+          record {
+            ran = r;
+            kind = trap.0;
+            last = refl;
+            has_trapped = trap.1;
+            has_dump = has;
+            trap = traps;
+            counted = ap (λ n. traps + n) (one_trap (told tell r) has) ∙ add-one traps;
+            file_is = refl;
+          },
+          record {
+            given = given;
+            grew = was.came.grew.served;
+            is = ap (λ l. up_to_torn tell l)
+                (ap (λ l. session_from M (point_of s (i ∷ []) fuel) l) (sym (append-nil (replies_of given)))
+                ∙ opens M s new i [] f fuel was.made given a entry was.steps fuel [] begin.ran begin.gives begin.left (within fuel s.steps new.steps was.made was.steps begin.within begun) (up_to M s new i [] f fuel was.made given a entry was.steps fuel some (le_refl fuel))
+                ∙ either (goes_on r.outcome r.entered) r) ∙ only_one tell r;
+            all_given = begin.served ∙ sym (append-nil (given_to r));
+            files = dumped (fuel - new.steps);
+          },
+        )
+      where
+        either : (b : Bool) (r : Ran) → r ∷ (if b then [] else []) ≡ r ∷ []
+        either true r = refl
+        either false r = refl

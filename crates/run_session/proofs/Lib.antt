@@ -1,8 +1,10 @@
 pub mod Unless
 mod Lists
 mod Steps
-mod Told
+mod ToldFiles
 mod Held
+pub mod Tellings
+mod Handing
 mod Turning
 mod Sessions
 mod Stopped
@@ -10,4 +12,5 @@ mod Fewer
 mod Ends
 mod Invocations
 mod Ones
+mod Nexts
 mod Whole

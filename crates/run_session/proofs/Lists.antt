@@ -1,37 +1,17 @@
 -- Lists of invocations that were made, with one more.
-use Rattle.std.proofs.Common.{◌≡◌, ℕ, suc, ◌+◌, List, [], ◌∷◌, ◌++◌, length, refl, sym, ap, ◌∙◌, arith, Option, Some, None}
+use Rattle.std.proofs.Common.{◌≡◌, ℕ, suc, ◌+◌, List, [], ◌∷◌, ◌++◌, length, refl, ap, ◌∙◌, arith, Option, Some, None}
 use Rattle.std.proofs.lemmas.List.{append-nil}
 use Rattle.std.specs.List.{flat_map}
 use Rattle.std.proofs.lemmas.Grind.{flat_map-append}
-use Rattle.wasm_syntax.specs.Machine.{Config}
-use Rattle.wasm_syntax.specs.Run.{Outcome, not_started, finished, trapped, lacks_reply, misfits, running, got_stuck, Ran}
-use Rattle.dump_write.specs.Image.{image}
+use Rattle.wasm_syntax.specs.Run.{Ran}
 use Rattle.dump_write.specs.ImageBytes.{bytes_of}
-use Rattle.run_session.specs.RunText.{dumps_from, traps_in, last_of, fitted, if_trapped, dump_name}
+use Rattle.run_session.specs.Telling.{Telling, nothing, finish, trap, bare_trap, torn, Tells, told, torn_in}
+use Rattle.run_session.specs.RunText.{dumps_from, traps_in, last_of, fitted, with_dump, with_trap, dump_name, up_to_torn, unless_torn}
+use Rattle.run_session.specs.Written.{Writes}
+use Rattle.run_session.specs.inner.Progress.{NoneTorn}
 
 pub one_of : {A B : Type 0} (f : A → List B) (xs : List A) (x : A) → flat_map f (xs ++ x ∷ []) ≡ flat_map f xs ++ f x
 one_of f xs x = flat_map-append f xs (x ∷ []) ∙ ap (λ l. flat_map f xs ++ l) (append-nil (f x))
-
--- a choice by the outcome, under a function
-under_choice : {A B : Type 0} (g : A → B) (o : Outcome) (last : Option Config) (at_last : Config → A) (none : A) → g (if_trapped o last at_last none) ≡ if_trapped o last (λ c. g (at_last c)) (g none)
-under_choice g (trapped kind) (Some c) at_last none = refl
-under_choice g (trapped kind) None at_last none = refl
-under_choice g (finished v) last at_last none = refl
-under_choice g (not_started cause) last at_last none = refl
-under_choice g (lacks_reply call) last at_last none = refl
-under_choice g (misfits call reply) last at_last none = refl
-under_choice g running last at_last none = refl
-under_choice g got_stuck last at_last none = refl
-
-same_choice : {A : Type 0} (o : Outcome) (last : Option Config) (at_last also : Config → A) (none rest : A) → ((c : Config) → at_last c ≡ also c) → none ≡ rest → if_trapped o last at_last none ≡ if_trapped o last also rest
-same_choice (trapped kind) (Some c) at_last also none rest one two = one c
-same_choice (trapped kind) None at_last also none rest one two = two
-same_choice (finished v) last at_last also none rest one two = two
-same_choice (not_started cause) last at_last also none rest one two = two
-same_choice (lacks_reply call) last at_last also none rest one two = two
-same_choice (misfits call reply) last at_last also none rest one two = two
-same_choice running last at_last also none rest one two = two
-same_choice got_stuck last at_last also none rest one two = two
 
 pub zero_plus : (n : ℕ) → n ≡ 0 + n
 zero_plus n = omega arith
@@ -45,52 +25,79 @@ one_more a b k e = omega arith
 next_place : (j n : ℕ) → suc j + n ≡ j + suc n
 next_place j n = omega arith
 
-pub traps_behind : (rans rs : List Ran) → traps_in (rans ++ rs) ≡ traps_in rans + traps_in rs
-traps_behind [] rs = zero_plus (traps_in rs)
-traps_behind (q ∷ rans) rs =
-    same_choice q.outcome q.last (λ c. suc (traps_in (rans ++ rs))) (λ c. suc (traps_in rans) + traps_in rs) (traps_in (rans ++ rs)) (traps_in rans + traps_in rs) (λ c. one_more (traps_in (rans ++ rs)) (traps_in rans) (traps_in rs) (traps_behind rans rs)) (traps_behind rans rs)
-    ∙ sym (under_choice (λ n. n + traps_in rs) q.outcome q.last (λ c. suc (traps_in rans)) (traps_in rans))
+-- ---- traps
 
-pub traps_more : (rans : List Ran) (r : Ran) → traps_in (rans ++ r ∷ []) ≡ traps_in rans + traps_in (r ∷ [])
-traps_more rans r = traps_behind rans (r ∷ [])
+trap_and_more : (t : Telling) (a b c : ℕ) → c ≡ a + b → with_trap t c ≡ with_trap t a + b
+trap_and_more nothing a b c e = e
+trap_and_more (finish v) a b c e = e
+trap_and_more (trap kind place dump) a b c e = one_more c a b e
+trap_and_more (bare_trap kind) a b c e = one_more c a b e
+trap_and_more (torn at) a b c e = e
 
--- one that trapped
-pub one_trap : (r : Ran) (kind : ℕ) (c : Config) → r.outcome ≡ trapped kind → r.last ≡ Some c → traps_in (r ∷ []) ≡ 1
-one_trap r kind c is last = ap (λ o. if_trapped o r.last (λ c. 1) 0) is ∙ ap (λ l. if_trapped (trapped kind) l (λ c. 1) 0) last
+pub traps_behind : (tell : Tells) (rans rs : List Ran) → traps_in tell (rans ++ rs) ≡ traps_in tell rans + traps_in tell rs
+traps_behind tell [] rs = zero_plus (traps_in tell rs)
+traps_behind tell (q ∷ rans) rs = trap_and_more (told tell q) (traps_in tell rans) (traps_in tell rs) (traps_in tell (rans ++ rs)) (traps_behind tell rans rs)
+
+pub traps_more : (tell : Tells) (rans : List Ran) (r : Ran) → traps_in tell (rans ++ r ∷ []) ≡ traps_in tell rans + traps_in tell (r ∷ [])
+traps_more tell rans r = traps_behind tell rans (r ∷ [])
+
+-- ---- dumps
+
+-- the dumps of the later ones come behind its own
+own_and_more : (base name : List ℕ) (j n : ℕ) (t : Telling) (all front back : ℕ → Writes) → ((k : ℕ) → all k ≡ front k ++ back (k + n)) → with_dump base name j t all ≡ with_dump base name j t front ++ back (j + with_trap t n)
+own_and_more base name j n nothing all front back e = e j
+own_and_more base name j n (finish v) all front back e = e j
+own_and_more base name j n (trap kind place dump) all front back e = ap (λ l. (dump_name base j, bytes_of (dump name)) ∷ l) (e (suc j) ∙ ap (λ k. front (suc j) ++ back k) (next_place j n))
+own_and_more base name j n (bare_trap kind) all front back e = e (suc j) ∙ ap (λ k. front (suc j) ++ back k) (next_place j n)
+own_and_more base name j n (torn at) all front back e = e j
 
 -- the dumps of more of them
-pub dumps_behind : (base name : List ℕ) (j : ℕ) (rans rs : List Ran) → dumps_from base name j (rans ++ rs) ≡ dumps_from base name j rans ++ dumps_from base name (j + traps_in rans) rs
+pub dumps_behind : (tell : Tells) (base name : List ℕ) (j : ℕ) (rans rs : List Ran) → dumps_from tell base name j (rans ++ rs) ≡ dumps_from tell base name j rans ++ dumps_from tell base name (j + traps_in tell rans) rs
 unfolding dumps_from
-dumps_behind base name j [] rs = ap (λ n. dumps_from base name n rs) (plus_zero j)
-dumps_behind base name j (q ∷ rans) rs =
-    same_choice q.outcome q.last (λ c. (dump_name base j, bytes_of (image c name)) ∷ dumps_from base name (suc j) (rans ++ rs))
-    (λ c. (dump_name base j, bytes_of (image c name)) ∷ (dumps_from base name (suc j) rans ++ dumps_from base name (suc j + traps_in rans) rs))
-    (dumps_from base name j (rans ++ rs))
-    (dumps_from base name j rans ++ dumps_from base name (j + traps_in rans) rs)
-    (λ c. ap (λ l. (dump_name base j, bytes_of (image c name)) ∷ l) (dumps_behind base name (suc j) rans rs)) (dumps_behind base name j rans rs)
-    ∙ all q.outcome q.last
-  where
-    all : (o : Outcome) (last : Option Config)
-        → if_trapped o last (λ c. (dump_name base j, bytes_of (image c name)) ∷ (dumps_from base name (suc j) rans ++ dumps_from base name (suc j + traps_in rans) rs)) (dumps_from base name j rans ++ dumps_from base name (j + traps_in rans) rs)
-        ≡ if_trapped o last (λ c. (dump_name base j, bytes_of (image c name)) ∷ dumps_from base name (suc j) rans) (dumps_from base name j rans) ++ dumps_from base name (j + if_trapped o last (λ c. suc (traps_in rans)) (traps_in rans)) rs
-    all (trapped kind) (Some c) = ap (λ n. (dump_name base j, bytes_of (image c name)) ∷ (dumps_from base name (suc j) rans ++ dumps_from base name n rs)) (next_place j (traps_in rans))
-    all (trapped kind) None = refl
-    all (finished v) last = refl
-    all (not_started cause) last = refl
-    all (lacks_reply call) last = refl
-    all (misfits call reply) last = refl
-    all running last = refl
-    all got_stuck last = refl
+dumps_behind tell base name j [] rs = ap (λ n. dumps_from tell base name n rs) (plus_zero j)
+dumps_behind tell base name j (q ∷ rans) rs =
+    own_and_more base name j (traps_in tell rans) (told tell q) (λ k. dumps_from tell base name k (rans ++ rs)) (λ k. dumps_from tell base name k rans) (λ k. dumps_from tell base name k rs)
+    (λ k. dumps_behind tell base name k rans rs)
 
-pub dumps_more : (base name : List ℕ) (j : ℕ) (rans : List Ran) (r : Ran) → dumps_from base name j (rans ++ r ∷ []) ≡ dumps_from base name j rans ++ dumps_from base name (j + traps_in rans) (r ∷ [])
-dumps_more base name j rans r = dumps_behind base name j rans (r ∷ [])
+pub dumps_more : (tell : Tells) (base name : List ℕ) (j : ℕ) (rans : List Ran) (r : Ran) → dumps_from tell base name j (rans ++ r ∷ []) ≡ dumps_from tell base name j rans ++ dumps_from tell base name (j + traps_in tell rans) (r ∷ [])
+dumps_more tell base name j rans r = dumps_behind tell base name j rans (r ∷ [])
+
+same_later : (base name : List ℕ) (j : ℕ) (t : Telling) (a b : ℕ → Writes) → ((k : ℕ) → a k ≡ b k) → with_dump base name j t a ≡ with_dump base name j t b
+same_later base name j nothing a b e = e j
+same_later base name j (finish v) a b e = e j
+same_later base name j (trap kind place dump) a b e = ap (λ l. (dump_name base j, bytes_of (dump name)) ∷ l) (e (suc j))
+same_later base name j (bare_trap kind) a b e = e (suc j)
+same_later base name j (torn at) a b e = e j
 
 -- those that have no dumps add none
-pub dumps_only : (base name : List ℕ) (j : ℕ) (r : Ran) (rs : List Ran) → ((k : ℕ) → dumps_from base name k rs ≡ []) → dumps_from base name j (r ∷ rs) ≡ dumps_from base name j (r ∷ [])
+pub dumps_only : (tell : Tells) (base name : List ℕ) (j : ℕ) (r : Ran) (rs : List Ran) → ((k : ℕ) → dumps_from tell base name k rs ≡ []) → dumps_from tell base name j (r ∷ rs) ≡ dumps_from tell base name j (r ∷ [])
 unfolding dumps_from
-dumps_only base name j r rs none =
-    same_choice r.outcome r.last (λ c. (dump_name base j, bytes_of (image c name)) ∷ dumps_from base name (suc j) rs) (λ c. (dump_name base j, bytes_of (image c name)) ∷ []) (dumps_from base name j rs) []
-    (λ c. ap (λ l. (dump_name base j, bytes_of (image c name)) ∷ l) (none (suc j))) (none j)
+dumps_only tell base name j r rs none = same_later base name j (told tell r) (λ k. dumps_from tell base name k rs) (λ k. []) none
+
+-- ---- torn calls
+
+-- one that is the last of all
+pub only_one : (tell : Tells) (r : Ran) → up_to_torn tell (r ∷ []) ≡ r ∷ []
+only_one tell r = by_calls (torn_in (told tell r))
+  where
+    by_calls : (t : Option ℕ) → r ∷ unless_torn t [] ≡ r ∷ []
+    by_calls None = refl
+    by_calls (Some at) = refl
+
+-- behind torn calls there is none
+pub none_behind : (tell : Tells) (r : Ran) (at : ℕ) (rs : List Ran) → torn_in (told tell r) ≡ Some at → up_to_torn tell (r ∷ rs) ≡ r ∷ []
+none_behind tell r at rs is = ap (λ t. r ∷ unless_torn t (up_to_torn tell rs)) is
+
+-- where the calls of none are torn
+pub none_torn_first : (tell : Tells) (rans rs : List Ran) → NoneTorn tell rans → up_to_torn tell (rans ++ rs) ≡ rans ++ up_to_torn tell rs
+none_torn_first tell [] rs none = refl
+none_torn_first tell (q ∷ rans) rs (first, none) = ap (λ t. q ∷ unless_torn t (up_to_torn tell (rans ++ rs))) first ∙ ap (λ l. q ∷ l) (none_torn_first tell rans rs none)
+
+pub none_torn_more : (tell : Tells) (rans : List Ran) (r : Ran) → NoneTorn tell rans → torn_in (told tell r) ≡ None → NoneTorn tell (rans ++ r ∷ [])
+none_torn_more tell [] r none last = (last, tt)
+none_torn_more tell (q ∷ rans) r (first, none) last = (first, none_torn_more tell rans r none last)
+
+-- ---- the last one
 
 pub last_behind : (rans rs : List Ran) (r : Ran) → last_of rs ≡ Some r → last_of (rans ++ rs) ≡ Some r
 last_behind [] rs r is = is

@@ -1,5 +1,5 @@
 -- One more invocation of a list.
-use Rattle.std.proofs.Common.{◌≡◌, ℕ, suc, ◌+◌, Bool, true, List, [], ◌∷◌, ◌++◌, length, refl, sym, ap, ◌∙◌, append_assoc, arith, subst}
+use Rattle.std.proofs.Common.{◌≡◌, ℕ, suc, ◌+◌, Bool, true, List, [], ◌∷◌, ◌++◌, length, refl, sym, ap, ◌∙◌, append_assoc, arith, subst, None}
 use Rattle.std.specs.Prelude.{IfSome}
 use Rattle.std.proofs.lemmas.List.{append-nil, map-append, length-append}
 use Rattle.wasm_syntax.specs.declared.host.Reply.{Reply}
@@ -8,25 +8,26 @@ use Rattle.wasm_syntax.specs.Machine.{Engine}
 use Rattle.wasm_syntax.specs.Run.{Invocation, Outcome, not_started, finished, trapped, lacks_reply, misfits, running, got_stuck, Ran, goes_on}
 use Rattle.host_devices.specs.Given.{replies_of}
 use Rattle.host_devices.specs.Given.{unfitting}
-use Rattle.run_session.specs.RunText.{invocation_text, dumps_from, traps_in, fitted}
+use Rattle.run_session.specs.Telling.{Tells, told, torn_in}
+use Rattle.run_session.specs.RunText.{invocation_text, dumps_from, traps_in, fitted, up_to_torn}
 use Rattle.run_session.specs.Given.{given_in, given_to}
 use Rattle.run_session.specs.inner.Progress.{Point, Made, session_from, CameOf, WentOn, HasCome, HasEnded}
-use Rattle.run_session.proofs.Lists.{one_of, traps_more, dumps_more, last_more, fitted_more, zero_plus}
+use Rattle.run_session.proofs.Lists.{one_of, traps_more, dumps_more, last_more, fitted_more, zero_plus, none_torn_first, none_torn_more}
 
 -- what is made with one invocation more
-abbrev pub with_ran : (base name : List ℕ) → Made → List Served → Ran → Made
-with_ran base name made given r = record {
-  text = made.text ++ invocation_text r;
-  writes = made.writes ++ dumps_from base name made.traps (r ∷ []);
-  traps = made.traps + traps_in (r ∷ []);
+abbrev pub with_ran : Tells → (base name : List ℕ) → Made → List Served → Ran → Made
+with_ran tell base name made given r = record {
+  text = made.text ++ invocation_text tell r;
+  writes = made.writes ++ dumps_from tell base name made.traps (r ∷ []);
+  traps = made.traps + traps_in tell (r ∷ []);
   given = made.given ++ given;
 }
 
-came_more : (base name : List ℕ) (rans : List Ran) (made : Made) (given : List Served) (r : Ran) → given ≡ given_to r → CameOf base name rans made → CameOf base name (rans ++ r ∷ []) (with_ran base name made given r)
-came_more base name rans made given r is came = record {
-  text = ap (λ t. t ++ invocation_text r) came.text ∙ sym (one_of invocation_text rans r);
-  writes = ap (λ ws. ws ++ dumps_from base name made.traps (r ∷ [])) came.writes ∙ ap (λ j. dumps_from base name 0 rans ++ dumps_from base name j (r ∷ [])) (came.traps ∙ zero_plus (traps_in rans)) ∙ sym (dumps_more base name 0 rans r);
-  traps = ap (λ n. n + traps_in (r ∷ [])) came.traps ∙ sym (traps_more rans r);
+came_more : (tell : Tells) (base name : List ℕ) (rans : List Ran) (made : Made) (given : List Served) (r : Ran) → given ≡ given_to r → CameOf tell base name rans made → CameOf tell base name (rans ++ r ∷ []) (with_ran tell base name made given r)
+came_more tell base name rans made given r is came = record {
+  text = ap (λ t. t ++ invocation_text tell r) came.text ∙ sym (one_of (invocation_text tell) rans r);
+  writes = ap (λ ws. ws ++ dumps_from tell base name made.traps (r ∷ [])) came.writes ∙ ap (λ j. dumps_from tell base name 0 rans ++ dumps_from tell base name j (r ∷ [])) (came.traps ∙ zero_plus (traps_in tell rans)) ∙ sym (dumps_more tell base name 0 rans r);
+  traps = ap (λ n. n + traps_in tell (r ∷ [])) came.traps ∙ sym (traps_more tell rans r);
   given = ap (λ l. l ++ given) came.given ∙ ap (λ l. given_in rans ++ l) is ∙ sym (one_of given_to rans r);
 }
 
@@ -56,34 +57,37 @@ counts : (all a b c : ℕ) → all ≡ a + suc b → c ≡ a + 1 → all ≡ c +
 counts all a b c e f = omega arith
 
 -- the list goes on behind an invocation
-pub goes_further : (M : Engine) (base name : List ℕ) (first there next : Point) (i : Invocation) (made : Made) (given : List Served) (r : Ran) (more : List Reply)
+pub goes_further : (tell : Tells) (M : Engine) (base name : List ℕ) (first there next : Point) (i : Invocation) (made : Made) (given : List Served) (r : Ran) (more : List Reply)
     → there.due ≡ i ∷ next.due → session_from M there (replies_of given ++ more) ≡ r ∷ session_from M next more
-    → given ≡ given_to r → WentOn r
-    → HasCome M base name first there made (replies_of given ++ more)
-    → HasCome M base name first next (with_ran base name made given r) more
-goes_further M base name first there next i made given r more due behind given_is on come = record {
+    → given ≡ given_to r → WentOn r → torn_in (told tell r) ≡ None
+    → HasCome tell M base name first there made (replies_of given ++ more)
+    → HasCome tell M base name first next (with_ran tell base name made given r) more
+goes_further tell M base name first there next i made given r more due behind given_is on whole come = record {
   rans = come.rans ++ r ∷ [];
   is = ap (λ l. session_from M first l) (split_replies made.given given more) ∙ come.is ∙ ap (λ l. come.rans ++ l) behind ∙ sym (append_assoc come.rans (r ∷ []) (session_from M next more));
   counted = counts (length first.due) (length come.rans) (length next.due) (length (come.rans ++ r ∷ [])) (come.counted ∙ ap (λ l. length come.rans + length l) due) (length-append come.rans (r ∷ []));
-  came_of = came_more base name come.rans made given r given_is come.came_of;
+  came_of = came_more tell base name come.rans made given r given_is come.came_of;
   fit = fit_more made.given given r.served (unfitting r.outcome) (fitted come.rans) come.fit given_is ∙ ap (λ l. (fitted come.rans + length r.served) + length l) (none_unfit r.outcome r.entered on.0) ∙ none (fitted come.rans + length r.served) ∙ sym (fitted_more come.rans r);
   went_on = subst (λ o. IfSome o WentOn) (sym (last_more come.rans r)) on;
+  none_torn = none_torn_more tell come.rans r come.none_torn whole;
 }
   where
     none : (n : ℕ) → n + 0 ≡ n
     none n = omega arith
 
--- the list ends behind an invocation
-pub ends_there : (M : Engine) (base name : List ℕ) (first there : Point) (i : Invocation) (is : List Invocation) (made : Made) (given : List Served) (r : Ran)
-    → there.due ≡ i ∷ is → session_from M there (replies_of given ++ []) ≡ r ∷ []
+-- the list ends behind an invocation, as its calls are torn or nothing comes behind it
+pub ends_there : (tell : Tells) (M : Engine) (base name : List ℕ) (first there : Point) (i : Invocation) (is : List Invocation) (made : Made) (given : List Served) (r : Ran) (later : List Ran)
+    → there.due ≡ i ∷ is → session_from M there (replies_of given ++ []) ≡ r ∷ later → up_to_torn tell (r ∷ later) ≡ r ∷ []
     → given ≡ given_to r
-    → HasCome M base name first there made (replies_of given ++ [])
-    → HasEnded M base name first (with_ran base name made given r) (length is) r
-ends_there M base name first there i is made given r due behind given_is come = record {
+    → HasCome tell M base name first there made (replies_of given ++ [])
+    → HasEnded tell M base name first (with_ran tell base name made given r) (length is) r
+ends_there tell M base name first there i is made given r later due behind last given_is come = record {
   rans = come.rans ++ r ∷ [];
-  is = ap (λ l. session_from M first l) (sym (append-nil (replies_of (made.given ++ given))) ∙ split_replies made.given given []) ∙ come.is ∙ ap (λ l. come.rans ++ l) behind;
+  is = ap (λ l. up_to_torn tell l)
+      (ap (λ l. session_from M first l) (sym (append-nil (replies_of (made.given ++ given))) ∙ split_replies made.given given []) ∙ come.is ∙ ap (λ l. come.rans ++ l) behind)
+      ∙ none_torn_first tell come.rans (r ∷ later) come.none_torn ∙ ap (λ l. come.rans ++ l) last;
   counted = counts (length first.due) (length come.rans) (length is) (length (come.rans ++ r ∷ [])) (come.counted ∙ ap (λ l. length come.rans + length l) due) (length-append come.rans (r ∷ []));
-  came_of = came_more base name come.rans made given r given_is come.came_of;
+  came_of = came_more tell base name come.rans made given r given_is come.came_of;
   fit = fit_more made.given given r.served (unfitting r.outcome) (fitted come.rans) come.fit given_is ∙ ap (λ k. k + length (unfitting r.outcome)) (sym (fitted_more come.rans r));
   last = last_more come.rans r;
 }

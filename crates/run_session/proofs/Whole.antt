@@ -1,25 +1,31 @@
 -- The whole list, from what its parts ensure.
-use Rattle.std.proofs.Common.{◌≡◌, ℕ, suc, ◌+◌, ◌-◌, ◌<◌, ◌≤◌, Bool, List, [], ◌∷◌, ◌++◌, map, length, take, drop, get_or, refl, sym, ap, ◌∙◌, subst, arith, Option, Result, Ok, Err, drop-cons}
-use Rattle.std.specs.Prelude.{IfOk}
+use Rattle.std.proofs.Common.{◌≡◌, ℕ, suc, ◌+◌, ◌-◌, ◌<◌, ◌≤◌, Bool, List, [], ◌∷◌, ◌++◌, map, length, take, drop, get_or, refl, sym, ap, ◌∙◌, subst, arith, Option, None, Result, Ok, Err, drop-cons}
+use Rattle.std.specs.Prelude.{All, IfOk}
+use Rattle.std.proofs.Math.Path.{fun_ext}
 use Rattle.std.proofs.Math.Seq.{take-suc}
 use Rattle.std.proofs.lemmas.List.{append-nil, drop_all, length-drop, map-append, take-append-drop}
 use Rattle.causes.specs.Counts.{Rose}
 use Rattle.causes.specs.declared.NoMemory.{NoMemory as WantOfMemory}
 use Rattle.pm_outside.specs.Contents.{Contents}
 use Rattle.wasm_syntax.specs.declared.parts.Import.{Import}
+use Rattle.wasm_syntax.specs.declared.parts.FuncType.{FuncType}
+use Rattle.wasm_syntax.specs.declared.module.ModuleParts.{ModuleParts as Module}
+use Rattle.wasm_syntax.specs.declared.host.Served.{Served}
 use Rattle.wasm_syntax.specs.Machine.{Engine}
 use Rattle.wasm_syntax.specs.Module.{Program}
-use Rattle.wasm_syntax.specs.Run.{Invocation, engine}
-use Rattle.host_devices.specs.HostSides.{Calls}
+use Rattle.wasm_syntax.specs.Run.{Invocation, Ran}
 use Rattle.machine_hosted.specs.declared.answer.RunEnd.{RunEnd}
 use Rattle.machine_hosted.specs.declared.answer.RunEnd.TheVariants.{Finished, Trapped, NoReply, BadReply, DeviceFault, FuelSpent, NoMemory}
 use Rattle.machine_hosted.specs.Answers.{HasCause}
+use Rattle.wasm_machine.specs.Entries.{entry_fault}
 use Rattle.wasm_machine.specs.Instances.{State}
 use Rattle.command_answers.specs.Texts.{ended}
 use Rattle.command_answers.specs.Told.{UnlessFault}
 use Rattle.command_answers.specs.declared.outcome.Outcome.{Outcome}
+use Rattle.command_answers.specs.declared.status.Status.TheVariants as status
 use Rattle.run_words.specs.declared.invocation.Invocation.{Invocation as InvocationWords}
-use Rattle.run_session.specs.RunText.{dumps_from}
+use Rattle.run_session.specs.Telling.{Tells}
+use Rattle.run_session.specs.RunText.{dumps_from, torn_text}
 use Rattle.run_session.specs.Invocations.{invocation_of}
 use Rattle.run_session.specs.inner.Answers.{answer_line, answer_status}
 use Rattle.run_session.specs.Ending.{trapped_or_done}
@@ -29,21 +35,22 @@ use Rattle.run_session.specs.Stop.{Stop, no_memory, file_failed, IsFileFault, On
 use Rattle.run_session.specs.inner.Sessions.{point_of, MadeOne, SoFar, RanAll, StopsIn, OnTurnStop}
 use Rattle.run_session.specs.declared.turns.Lines.{Lines}
 use Rattle.run_session.specs.declared.turns.Turn.{Turn}
-use Rattle.run_session.specs.declared.turns.Turn.TheVariants.{GoesOn, Ends, Refused}
+use Rattle.run_session.specs.declared.turns.Turn.TheVariants.{GoesOn, Ends, Torn, Refused}
+use Rattle.run_session.proofs.Tellings.{Behaves}
 use Rattle.run_session.proofs.Held.{none_held}
 use Rattle.run_session.proofs.Lists.{zero_plus}
-use Rattle.run_session.proofs.Sessions.{EndedWith, list_goes_on, list_ends}
+use Rattle.run_session.proofs.Sessions.{EndedWith, EndsSo, TornAt, list_goes_on, list_ends, list_torn}
 use Rattle.run_session.proofs.Unless.{on_all}
-use Rattle.run_session.proofs.Ends.{ended_so, all_made_so, no_file_fault}
+use Rattle.run_session.proofs.Ends.{ended_so, torn_so, all_made_so, no_file_fault}
 use Rattle.run_session.proofs.Stopped.{ended_stopped, stops_behind}
 
 -- ---- the begin
 
-pub begins : (M : Engine) (base name : List ℕ) (s : State) (done : List Invocation) (fuel : ℕ) (lines : Lines) (calls : Calls) (told : Option Contents) → [] ≡ done → s.steps ≡ 0 → lines.text ≡ [] → lines.traps ≡ 0 → SoFar M base name s s done fuel lines calls calls told told
+pub begins : (tell : Tells) (M : Engine) (base name : List ℕ) (s : State) (done : List Invocation) (fuel : ℕ) (lines : Lines) (calls : List Served) (told : Option Contents) → [] ≡ done → s.steps ≡ 0 → lines.text ≡ [] → lines.traps ≡ 0 → SoFar tell M base name s s done fuel lines calls calls told told
 unfolding dumps_from
-begins M base name s done fuel lines calls told none steps text traps = record {
+begins tell M base name s done fuel lines calls told none steps text traps = record {
   given = [];
-  grew = sym (append-nil calls.served);
+  grew = sym (append-nil calls);
   writes = [];
   files = none_held told;
   within = omega (arith, steps);
@@ -54,6 +61,7 @@ begins M base name s done fuel lines calls told none steps text traps = record {
     came_of = record { text = text; writes = refl; traps = traps; given = refl };
     fit = refl;
     went_on = tt;
+    none_torn = tt;
   };
 }
 
@@ -77,6 +85,13 @@ due_left xs k = map_length invocation_of (drop (k + 1) xs) ∙ length-drop (k + 
     less : (a b : ℕ) → a - (b + 1) ≡ a - b - 1
     less a b = omega arith
 
+pub of_ok : (result : Result Turn WantOfMemory) (turn : Turn) (P : Turn → Type 0) → result ≡ Ok turn → IfOk result P → P turn
+of_ok result turn P is x = subst (λ r. IfOk r P) is x
+
+pub of_want : (result : Result Turn WantOfMemory) (P : Stop → Type 0) → ((turn : Turn) → result ≡ Ok turn → ⊥) → OnTurnStop P result → P no_memory
+of_want (Err e) P none x = x
+of_want (Ok turn) P none x = absurd (none turn refl)
+
 pub of_goes : (turn : Turn) (P : Type 0) → turn ≡ GoesOn → IfGoesOn P turn → P
 of_goes turn P is x = subst (λ t. IfGoesOn P t) is x
 
@@ -85,6 +100,15 @@ of_refused turn o P is x = subst (λ t. IfTurnRefused P t) is x
 
 pub rose_since : (a b c : ℕ) → a ≤ b → Rose b c → Rose a c
 rose_since a b c le rose = omega (arith, le, rose)
+
+-- each of them may be begun, where what is served did not change
+pub entry_now : (old now : Import → FuncType → Bool) → ((i : Import) (type : FuncType) → now i type ≡ old i type) → (m n : Module) → n ≡ m → (all xs : List InvocationWords) → xs ≡ all → All (λ i. entry_fault old m i.entry i.args ≡ None) all
+    → (k : ℕ) (x other : InvocationWords) → k < length xs → x ≡ get_or xs k other → entry_fault now n x.entry x.args ≡ None
+entry_now old now same m n stays all xs are entries k x other lt is =
+    ap (λ s. entry_fault s n x.entry x.args) (fun_ext (λ i. fun_ext (λ type. same i type)))
+    ∙ ap (λ (q : Module). entry_fault old q x.entry x.args) stays
+    ∙ ap (λ (y : InvocationWords). entry_fault old m y.entry y.args) (is ∙ ap (λ l. get_or l k other) are)
+    ∙ entries k other (subst (λ l. k < length l) are lt)
 
 -- those that were made, with one more
 pub next_done : (xs : List InvocationWords) (k : ℕ) (x other : InvocationWords) → k < length xs → x ≡ get_or xs k other → map invocation_of (take k xs) ++ invocation_of x ∷ [] ≡ map invocation_of (take (k + 1) xs)
@@ -101,55 +125,77 @@ all_due xs k = sym (map-append invocation_of (take k xs) (drop k xs)) ∙ ap (λ
 pub one_due : (xs : List InvocationWords) (k : ℕ) (x other : InvocationWords) → k < length xs → x ≡ get_or xs k other → map invocation_of (take k xs) ++ invocation_of x ∷ map invocation_of (drop (k + 1) xs) ≡ map invocation_of xs
 one_due xs k x other lt is = ap (λ l. map invocation_of (take k xs) ++ l) (sym (next_due xs k x other lt is)) ∙ all_due xs k
 
-module _ (p : Program) (col also : Bool) (depth : ℕ) (base name : List ℕ) (used_up : Import → Bool) (first s new : State) (done rest : List Invocation) (i : Invocation) (fuel : ℕ) (old later : Lines) (before mid after : Calls) (told_before told_mid told_after : Option Contents)
-    (same : also ≡ col) (so_far : SoFar (engine p col depth) base name first s done fuel old before mid told_before told_mid) where
-  abbrev pub made_by : Turn → Bool → Type 0
-  made_by turn c = MadeOne p (engine p c depth) base name used_up s new i fuel old later mid after told_mid told_after turn
+module _ (tell : Tells) (p : Program) (M : Engine) (base name : List ℕ) (used_up : Import → Bool) (first s new : State) (done rest : List Invocation) (i : Invocation) (fuel : ℕ) (old later : Lines) (before mid after : List Served) (told_before told_mid told_after : Option Contents)
+    (so_far : SoFar tell M base name first s done fuel old before mid told_before told_mid) where
+  abbrev pub made_by : Turn → Type 0
+  made_by turn = MadeOne tell p M base name used_up s new i fuel old later mid after told_mid told_after turn
 
-  pub come_next : (turn : Turn) (more : List Invocation) → turn ≡ GoesOn → done ++ i ∷ [] ≡ more → UnlessRefused turn (made_by turn also) → SoFar (engine p col depth) base name first new more fuel later before after told_before told_after
+  pub come_next : (turn : Turn) (more : List Invocation) → turn ≡ GoesOn → done ++ i ∷ [] ≡ more → UnlessRefused turn (made_by turn) → SoFar tell M base name first new more fuel later before after told_before told_after
   come_next turn more is with_one made =
-      subst (λ l. SoFar (engine p col depth) base name first new l fuel later before after told_before told_after) with_one
-      (list_goes_on p (engine p col depth) base name used_up first s new done i fuel old later before mid after told_before told_mid told_after so_far
-      (subst (λ c. made_by GoesOn c) same (subst (λ t. UnlessRefused t (made_by t also)) is made)))
+      subst (λ l. SoFar tell M base name first new l fuel later before after told_before told_after) with_one
+      (list_goes_on tell p M base name used_up first s new done i fuel old later before mid after told_before told_mid told_after so_far (subst (λ t. UnlessRefused t (made_by t)) is made))
 
-  ends_with : (turn : Turn) (a : RunEnd) (all : List Invocation) → turn ≡ Ends a → done ++ i ∷ rest ≡ all → UnlessRefused turn (made_by turn also) → EndedWith p (engine p col depth) base name used_up (point_of first all fuel) later before after told_before told_after a (length rest)
+  abbrev ends_so : List Invocation → (Ran → Type 0) → Type 0
+  ends_so all known_of = EndedWith tell M base name (point_of first all fuel) later before after told_before told_after known_of (length rest)
+
+  ends_with : (turn : Turn) (a : RunEnd) (all : List Invocation) → turn ≡ Ends a → done ++ i ∷ rest ≡ all → UnlessRefused turn (made_by turn) → ends_so all (EndsSo tell p used_up a)
   ends_with turn a all is are made =
-      subst (λ l. EndedWith p (engine p col depth) base name used_up (point_of first l fuel) later before after told_before told_after a (length rest)) are
-      (list_ends p (engine p col depth) base name used_up first s new done i rest fuel old later before mid after told_before told_mid told_after a so_far
-      (subst (λ c. made_by (Ends a) c) same (subst (λ t. UnlessRefused t (made_by t also)) is made)))
+      subst (λ l. ends_so l (EndsSo tell p used_up a)) are
+      (list_ends tell p M base name used_up first s new done i rest fuel old later before mid after told_before told_mid told_after so_far a (subst (λ t. UnlessRefused t (made_by t)) is made))
 
-  pub ends_ran : (counts now : List ℕ → ℕ) (turn : Turn) (a : RunEnd) (result : Result Outcome WantOfMemory) (all : List Invocation) (left count : ℕ) → turn ≡ Ends a → done ++ i ∷ rest ≡ all → UnlessRefused turn (made_by turn also) → length rest ≡ left → before.served ≡ [] → count ≡ length after.served
+  torn_with : (turn : Turn) (at : ℕ) (all : List Invocation) → turn ≡ Torn at → done ++ i ∷ rest ≡ all → UnlessRefused turn (made_by turn) → ends_so all (TornAt tell at)
+  torn_with turn at all is are made =
+      subst (λ l. ends_so l (TornAt tell at)) are
+      (list_torn tell p M base name used_up first s new done i rest fuel old later before mid after told_before told_mid told_after so_far at (subst (λ t. UnlessRefused t (made_by t)) is made))
+
+  abbrev ran_so : (counts now : List ℕ → ℕ) → List Invocation → Outcome → Type 0
+  ran_so counts now all o = RanAll tell p M base name used_up counts now (point_of first all fuel) before after told_before told_after o
+
+  pub ends_ran : (counts now : List ℕ → ℕ) (turn : Turn) (a : RunEnd) (result : Result Outcome WantOfMemory) (all : List Invocation) (left count : ℕ) → turn ≡ Ends a → done ++ i ∷ rest ≡ all → UnlessRefused turn (made_by turn) → length rest ≡ left → before ≡ [] → count ≡ length after
       → (a ≡ NoMemory → ⊥) → HasCause a counts now → IfOk result (λ o. o ≡ ended (answer_status a later.traps) (later.text ++ answer_line a count left))
-      → IfOk result (λ o. UnlessFault o.status (RanAll p (engine p col depth) base name used_up counts now (point_of first all fuel) before after told_before told_after o))
+      → IfOk result (λ o. UnlessFault o.status (ran_so counts now all o))
   ends_ran counts now turn a (Err e) all left count is are made leaves none counted some cause answer = tt
   ends_ran counts now turn a (Ok o) all left count is are made leaves none counted some cause answer =
-      on_all o.status (RanAll p (engine p col depth) base name used_up counts now (point_of first all fuel) before after told_before told_after o)
-      (ended_so p (engine p col depth) base name used_up counts now (point_of first all fuel) later before after told_before told_after a (length rest) count o none counted some cause
+      on_all o.status (ran_so counts now all o)
+      (ended_so tell p M base name used_up counts now (point_of first all fuel) later before after told_before told_after (length rest) none a count o counted some cause
       (answer ∙ ap (λ n. ended (answer_status a later.traps) (later.text ++ answer_line a count n)) (sym leaves))
       (ends_with turn a all is are made))
 
+  pub torn_ran : (counts now : List ℕ → ℕ) (turn : Turn) (at : ℕ) (result : Result Outcome WantOfMemory) (all : List Invocation) → turn ≡ Torn at → done ++ i ∷ rest ≡ all → UnlessRefused turn (made_by turn) → before ≡ []
+      → IfOk result (λ o. o ≡ ended status.TornCalls (later.text ++ torn_text at)) → IfOk result (λ o. UnlessFault o.status (ran_so counts now all o))
+  torn_ran counts now turn at (Err e) all is are made none answer = tt
+  torn_ran counts now turn at (Ok o) all is are made none answer =
+      on_all o.status (ran_so counts now all o)
+      (torn_so tell p M base name used_up counts now (point_of first all fuel) later before after told_before told_after (length rest) none at o answer (torn_with turn at all is are made))
+
+  abbrev stopped_so : List Invocation → Stop → Type 0
+  stopped_so all stop = StopsIn tell stop M base name 0 first all fuel before after told_before told_after
+
   -- the line of its end can't be told
-  pub ends_stopped : (turn : Turn) (a : RunEnd) (result : Result Outcome WantOfMemory) (all : List Invocation) (left count : ℕ) → turn ≡ Ends a → done ++ i ∷ rest ≡ all → UnlessRefused turn (made_by turn also) → first.steps ≡ 0
+  pub ends_stopped : (turn : Turn) (a : RunEnd) (result : Result Outcome WantOfMemory) (all : List Invocation) (left count : ℕ) → turn ≡ Ends a → done ++ i ∷ rest ≡ all → UnlessRefused turn (made_by turn) → first.steps ≡ 0
       → IfOk result (λ o. o ≡ ended (answer_status a later.traps) (later.text ++ answer_line a count left))
-      → OnStop (λ stop. StopsIn stop (engine p col depth) base name 0 first all fuel before after told_before told_after) result
+      → OnStop (stopped_so all) result
   ends_stopped turn a (Err e) all left count is are made steps answer =
-      ended_stopped p (engine p col depth) base name used_up first all fuel later before after told_before told_after a (length rest) steps (ends_with turn a all is are made)
+      ended_stopped tell M base name first all fuel later before after told_before told_after (EndsSo tell p used_up a) (length rest) steps (ends_with turn a all is are made)
   ends_stopped turn a (Ok o) all left count is are made steps answer = λ faulted. absurd (no_file_fault a later.traps (sym (ap (λ (x : Outcome). x.status) answer) ∙ faulted))
 
-  -- the invocation was stopped
-  pub stopped_here : (stop : Stop) (all : List Invocation) → done ++ i ∷ rest ≡ all → first.steps ≡ 0
-      → StopsIn stop (engine p also depth) base name old.traps s (i ∷ rest) fuel mid after told_mid told_after
-      → StopsIn stop (engine p col depth) base name 0 first all fuel before after told_before told_after
-  stopped_here stop all are steps x =
-      subst (λ l. StopsIn stop (engine p col depth) base name 0 first l fuel before after told_before told_after) are
-      (stops_behind stop (engine p col depth) base name first s done (i ∷ rest) fuel old before mid after told_before told_mid told_after steps so_far
-      (subst (λ c. StopsIn stop (engine p c depth) base name old.traps s (i ∷ rest) fuel mid after told_mid told_after) same x))
+  pub torn_stopped : (turn : Turn) (at : ℕ) (result : Result Outcome WantOfMemory) (all : List Invocation) → turn ≡ Torn at → done ++ i ∷ rest ≡ all → UnlessRefused turn (made_by turn) → first.steps ≡ 0
+      → IfOk result (λ o. o ≡ ended status.TornCalls (later.text ++ torn_text at)) → OnStop (stopped_so all) result
+  torn_stopped turn at (Err e) all is are made steps answer =
+      ended_stopped tell M base name first all fuel later before after told_before told_after (TornAt tell at) (length rest) steps (torn_with turn at all is are made)
+  torn_stopped turn at (Ok o) all is are made steps answer = λ faulted. let clash : status.TornCalls ≡ status.FileFault = sym (ap (λ (x : Outcome). x.status) answer) ∙ faulted in absurd cc
 
   abbrev pub stops_here : Stop → Type 0
-  stops_here stop = StopsIn stop (engine p also depth) base name old.traps s (i ∷ rest) fuel mid after told_mid told_after
+  stops_here stop = StopsIn tell stop M base name old.traps s (i ∷ rest) fuel mid after told_mid told_after
+
+  -- the invocation was stopped
+  pub stopped_here : (stop : Stop) (all : List Invocation) → done ++ i ∷ rest ≡ all → first.steps ≡ 0 → stops_here stop → stopped_so all stop
+  stopped_here stop all are steps x =
+      subst (λ l. stopped_so l stop) are
+      (stops_behind tell stop M base name first s done (i ∷ rest) fuel old before mid after told_before told_mid told_after steps so_far x)
 
   pub stopped_refused : (turn : Turn) (o : Outcome) (all : List Invocation) → turn ≡ Refused o → done ++ i ∷ rest ≡ all → first.steps ≡ 0 → OnTurnStop stops_here (Ok turn)
-      → IsFileFault (λ stop. StopsIn stop (engine p col depth) base name 0 first all fuel before after told_before told_after) o
+      → IsFileFault (stopped_so all) o
   stopped_refused turn o all is are steps x =
       let k : IsFileFault stops_here o = subst (λ t. OnTurnStop stops_here (Ok t)) is x in
       record { file = k.file; named = k.named; failed = stopped_here (file_failed k.file) all are steps k.failed; memory = stopped_here no_memory all are steps k.memory }
@@ -159,14 +205,14 @@ module _ (p : Program) (col also : Bool) (depth : ℕ) (base name : List ℕ) (u
 some_due : (xs : List InvocationWords) → 0 < length xs → 0 < length (map invocation_of xs)
 some_due xs lt = subst (λ n. 0 < n) (sym (map_length invocation_of xs)) lt
 
-pub all_ran_so : (p : Program) (M : Engine) (base name : List ℕ) (used_up : Import → Bool) (counts now : List ℕ → ℕ) (first s : State) (all xs : List InvocationWords) (k fuel : ℕ) (lines : Lines) (before after : Calls) (told_before told_after : Option Contents) (o : Outcome)
+pub all_ran_so : (tell : Tells) → Behaves tell → (p : Program) (M : Engine) (base name : List ℕ) (used_up : Import → Bool) (counts now : List ℕ → ℕ) (first s : State) (all xs : List InvocationWords) (k fuel : ℕ) (lines : Lines) (before after : List Served) (told_before told_after : Option Contents) (o : Outcome)
     → length xs ≤ k → xs ≡ all → 0 < length all → o ≡ ended (trapped_or_done lines.traps) lines.text
-    → SoFar M base name first s (map invocation_of (take k xs)) fuel lines before after told_before told_after
-    → UnlessFault o.status (RanAll p M base name used_up counts now (point_of first (map invocation_of all) fuel) before after told_before told_after o)
-all_ran_so p M base name used_up counts now first s all xs k fuel lines before after told_before told_after o le same some answer so_far =
-    on_all o.status (RanAll p M base name used_up counts now (point_of first (map invocation_of all) fuel) before after told_before told_after o)
-    (subst (λ l. RanAll p M base name used_up counts now (point_of first l fuel) before after told_before told_after o) are
-    (all_made_so p M base name used_up counts now first s (map invocation_of (take k xs)) fuel lines before after told_before told_after o
+    → SoFar tell M base name first s (map invocation_of (take k xs)) fuel lines before after told_before told_after
+    → UnlessFault o.status (RanAll tell p M base name used_up counts now (point_of first (map invocation_of all) fuel) before after told_before told_after o)
+all_ran_so tell b p M base name used_up counts now first s all xs k fuel lines before after told_before told_after o le same some answer so_far =
+    on_all o.status (RanAll tell p M base name used_up counts now (point_of first (map invocation_of all) fuel) before after told_before told_after o)
+    (subst (λ l. RanAll tell p M base name used_up counts now (point_of first l fuel) before after told_before told_after o) are
+    (all_made_so tell b p M base name used_up counts now first s (map invocation_of (take k xs)) fuel lines before after told_before told_after o
     (subst (λ l. 0 < length l) (sym are) (some_due all some)) answer so_far))
   where
     are : map invocation_of (take k xs) ++ [] ≡ map invocation_of all

@@ -1,5 +1,5 @@
 -- The last line of a list of invocations, and its status.
-use Rattle.std.specs.Prelude.{ℕ, nat_lt, List, ◌++◌, if◌then◌else◌, codes}
+use Rattle.std.specs.Prelude.{ℕ, nat_lt, List, ◌++◌, Option, Some, None, if◌then◌else◌, codes}
 use Rattle.wasm_syntax.specs.Run.{Outcome, not_started, finished, trapped, lacks_reply, misfits, running, got_stuck}
 use Rattle.command_answers.specs.declared.status.Status.{Status}
 use Rattle.command_answers.specs.declared.status.Status.TheVariants as status
@@ -19,3 +19,8 @@ end_status traps (trapped kind) = status.Trapped
 end_status traps (finished v) = trapped_or_done traps
 end_status traps (not_started cause) = status.NotStarted
 end_status traps got_stuck = status.NotStarted
+
+-- torn calls decide before all else
+abbrev pub told_status : ℕ → (torn : Option ℕ) → Outcome → Status
+told_status traps None o = end_status traps o
+told_status traps (Some at) o = status.TornCalls

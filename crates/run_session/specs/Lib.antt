@@ -1,3 +1,4 @@
+pub mod Telling
 pub mod RunText
 pub mod Given
 pub mod Invocations

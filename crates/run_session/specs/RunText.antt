@@ -2,11 +2,11 @@
 use Rattle.std.specs.Prelude.{ℕ, zero, suc, ◌+◌, ◌==◌, List, [], ◌∷◌, ◌++◌, length, Option, Some, None, if◌then◌else◌, codes}
 use Rattle.std.specs.Fmt.{decimal}
 use Rattle.wasm_syntax.specs.declared.value.Value.{Value}
-use Rattle.wasm_syntax.specs.Machine.{Config, first}
-use Rattle.wasm_syntax.specs.Run.{Outcome, not_started, finished, trapped, lacks_reply, misfits, running, got_stuck, Ran}
-use Rattle.dump_write.specs.Image.{DumpFrame, frame_images, image}
+use Rattle.wasm_syntax.specs.Run.{Ran}
+use Rattle.dump_write.specs.Image.{DumpFrame}
 use Rattle.dump_write.specs.ImageBytes.{bytes_of}
 use Rattle.command_answers.specs.Values.{value_text}
+use Rattle.run_session.specs.Telling.{Telling, nothing, finish, trap, bare_trap, torn, Tells, told, torn_in}
 
 -- ---- the lines of one invocation
 
@@ -43,25 +43,34 @@ abbrev pub place_text : Option DumpFrame → List ℕ
 place_text None = []
 place_text (Some f) = place_line f.function f.offset
 
-abbrev pub innermost : Config → Option DumpFrame
-innermost c = first (frame_images c.frames)
-
 unfoldable pub trapped_text : ℕ → Option DumpFrame → ℕ → List ℕ
 trapped_text kind f n = kind_line kind ++ place_text f ++ calls_text n
 
--- an invocation that ended otherwise has no lines
-abbrev pub outcome_text : Outcome → Option Config → ℕ → List ℕ
-outcome_text (finished v) last n = finished_text v n
-outcome_text (trapped kind) (Some c) n = trapped_text kind (innermost c) n
-outcome_text (trapped kind) None n = []
-outcome_text (not_started cause) last n = []
-outcome_text (lacks_reply call) last n = []
-outcome_text (misfits call reply) last n = []
-outcome_text running last n = []
-outcome_text got_stuck last n = []
+unfoldable pub bare_text : ℕ → ℕ → List ℕ
+bare_text kind n = kind_line kind ++ codes "no dump collected\n" ++ calls_text n
 
-abbrev pub invocation_text : Ran → List ℕ
-invocation_text r = outcome_text r.outcome r.last (length r.served)
+-- an invocation that ended otherwise has no lines
+abbrev pub telling_text : Telling → ℕ → List ℕ
+telling_text nothing n = []
+telling_text (finish v) n = finished_text v n
+telling_text (trap kind place dump) n = trapped_text kind place n
+telling_text (bare_trap kind) n = bare_text kind n
+telling_text (torn at) n = []
+
+abbrev pub invocation_text : Tells → Ran → List ℕ
+invocation_text tell r = telling_text (told tell r) (length r.served)
+
+-- ---- the list
+
+-- a list goes on behind an invocation whose calls are not torn
+abbrev pub unless_torn : Option ℕ → List Ran → List Ran
+unless_torn None rans = rans
+unless_torn (Some at) rans = []
+
+-- the invocations up to the first one whose calls are torn, and with it
+abbrev pub up_to_torn : Tells → List Ran → List Ran
+up_to_torn tell [] = []
+up_to_torn tell (r ∷ rs) = r ∷ unless_torn (torn_in (told tell r)) (up_to_torn tell rs)
 
 -- ---- the dumps
 
@@ -70,25 +79,29 @@ abbrev pub dump_name : List ℕ → ℕ → List ℕ
 dump_name base zero = base
 dump_name base (suc j) = base ++ codes "." ++ decimal (suc j)
 
-abbrev pub if_trapped : {A : Type 0} → Outcome → Option Config → (Config → A) → A → A
-if_trapped (trapped kind) (Some c) at_last other = at_last c
-if_trapped (trapped kind) None at_last other = other
-if_trapped (finished v) last at_last other = other
-if_trapped (not_started cause) last at_last other = other
-if_trapped (lacks_reply call) last at_last other = other
-if_trapped (misfits call reply) last at_last other = other
-if_trapped running last at_last other = other
-if_trapped got_stuck last at_last other = other
+-- The dump of an invocation, before those of the later ones. A trap whose dump was not handed over is numbered like every other.
+abbrev pub with_dump : (base name : List ℕ) → ℕ → Telling → (later : ℕ → List (List ℕ × List ℕ)) → List (List ℕ × List ℕ)
+with_dump base name j nothing later = later j
+with_dump base name j (finish v) later = later j
+with_dump base name j (trap kind place dump) later = (dump_name base j, bytes_of (dump name)) ∷ later (suc j)
+with_dump base name j (bare_trap kind) later = later (suc j)
+with_dump base name j (torn at) later = later j
 
 -- the file names and the bytes of the dumps, the first one for the trap of this number
-unfoldable pub dumps_from : (base name : List ℕ) → ℕ → List Ran → List (List ℕ × List ℕ)
-dumps_from base name j [] = []
-dumps_from base name j (r ∷ rs) =
-    if_trapped r.outcome r.last (λ c. (dump_name base j, bytes_of (image c name)) ∷ dumps_from base name (suc j) rs) (dumps_from base name j rs)
+unfoldable pub dumps_from : Tells → (base name : List ℕ) → ℕ → List Ran → List (List ℕ × List ℕ)
+dumps_from tell base name j [] = []
+dumps_from tell base name j (r ∷ rs) = with_dump base name j (told tell r) (λ k. dumps_from tell base name k rs)
 
-abbrev pub traps_in : List Ran → ℕ
-traps_in [] = 0
-traps_in (r ∷ rs) = if_trapped r.outcome r.last (λ c. suc (traps_in rs)) (traps_in rs)
+abbrev pub with_trap : Telling → ℕ → ℕ
+with_trap nothing n = n
+with_trap (finish v) n = n
+with_trap (trap kind place dump) n = suc n
+with_trap (bare_trap kind) n = suc n
+with_trap (torn at) n = n
+
+abbrev pub traps_in : Tells → List Ran → ℕ
+traps_in tell [] = 0
+traps_in tell (r ∷ rs) = with_trap (told tell r) (traps_in tell rs)
 
 -- ---- how the list ended
 
@@ -101,6 +114,9 @@ last_of (r ∷ q ∷ rs) = last_of (q ∷ rs)
 abbrev pub fitted : List Ran → ℕ
 fitted [] = 0
 fitted (r ∷ rs) = length r.served + fitted rs
+
+unfoldable pub torn_text : ℕ → List ℕ
+torn_text at = codes "torn calls at " ++ decimal at ++ codes "\n"
 
 abbrev pub not_invoked_text : ℕ → List ℕ
 not_invoked_text zero = []

@@ -5,6 +5,7 @@ use Rattle.wasm_syntax.specs.Run.{trapped, Ran}
 use Rattle.command_answers.specs.Texts.{file_fault}
 use Rattle.command_answers.specs.declared.outcome.Outcome.{Outcome}
 use Rattle.command_answers.specs.declared.status.Status.TheVariants as status
+use Rattle.run_session.specs.Telling.{Tells, told, HasDump}
 use Rattle.run_session.specs.RunText.{dump_name, last_of, traps_in}
 
 -- why there is no answer: memory was wanting, or the file of this name failed
@@ -25,11 +26,12 @@ OnStop P (Err e) = P no_memory
 OnStop P (Ok o) = o.status ≡ status.FileFault → IsFileFault P o
 
 -- The last of these invocations trapped, and the file is that of its dump, where the first of their traps has this number.
-pub record EndsAtDump (base : List ℕ) (number : ℕ) (rans : List Ran) (file : List ℕ) : Type 0 where
+pub record EndsAtDump (tell : Tells) (base : List ℕ) (number : ℕ) (rans : List Ran) (file : List ℕ) : Type 0 where
   pub ran : Ran
   pub kind : ℕ
   pub last : last_of rans ≡ Some ran
   pub has_trapped : ran.outcome ≡ trapped kind
+  pub has_dump : HasDump (told tell ran)
   pub trap : ℕ
-  pub counted : number + traps_in rans ≡ suc trap
+  pub counted : number + traps_in tell rans ≡ suc trap
   pub file_is : file ≡ dump_name base trap

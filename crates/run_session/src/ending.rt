@@ -2,10 +2,11 @@
 
 ghost use Rattle.std.specs.Prelude.{◌≡◌, ◌++◌, IfOk};
 ghost use Rattle.command_answers.specs.Texts.{ended};
+ghost use Rattle.run_session.specs.RunText.{torn_text};
 ghost use Rattle.run_session.specs.Ending.{host_stopped, trapped_or_done};
 ghost use Rattle.run_session.specs.inner.Answers.{device_cause, misfit_cause, answer_line, answer_status};
 
-use crate::lines::{not_invoked, numbered};
+use crate::lines::{not_invoked, numbered, push_torn};
 use crate::turns::Lines;
 use causes::NoMemory;
 use command_answers::{Outcome, Status};
@@ -105,6 +106,18 @@ pub(crate) fn ended_with(
     let line = end_line(alloc, answer, given, due)?;
     text.push_str(line.as_str())?;
     Ok(Outcome { status, text })
+}
+
+/// What is answered where collector calls are torn at an index.
+pub(crate) fn torn_with(lines: Lines, at: usize) -> Result<Outcome, NoMemory>
+    ensures { IfOk result (λ o. o ≡ ended Status.TornCalls (lines.text ++ torn_text at)) }
+{
+    let mut text = lines.text;
+    push_torn(&mut text, at)?;
+    Ok(Outcome {
+        status: Status::TornCalls,
+        text,
+    })
 }
 
 /// What is answered where all invocations were made.

@@ -5,6 +5,7 @@ mod dumps;
 mod ending;
 mod lines;
 mod session;
+mod told;
 mod turns;
 
 pub use causes::NoMemory;

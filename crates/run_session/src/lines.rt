@@ -2,38 +2,39 @@
 
 ghost use Rattle.std.specs.Prelude.{◌≡◌, ◌++◌, IfOk, OnOk};
 ghost use Rattle.std.specs.Fmt.{decimal};
-ghost use Rattle.machine_basics.specs.Traps.{trap_code};
-ghost use Rattle.run_session.specs.RunText.{kind_text, kind_line, place_line, calls_text, result_text, finished_text, not_invoked_text};
+ghost use Rattle.run_session.specs.RunText.{kind_text, kind_line, place_line, calls_text, result_text, finished_text, bare_text, torn_text, not_invoked_text};
+ghost use Rattle.run_session.specs.inner.Dumping.{place_in, handed_text};
 
 use causes::NoMemory;
 use command_answers::{push_number, push_value};
-use machine_basics::TrapKind;
+use dump_format::Dump;
 use pm_text::Text;
 use std::alloc::Global;
 use wasm_syntax::Value;
 
-/// The name of a kind of trap.
-fn kind_name(kind: TrapKind) -> &'static str
-    ensures { result.now ≡ kind_text (trap_code kind) }
+/// The name of a kind of trap, by its number.
+fn kind_name(kind: u32) -> &'static str
+    ensures { result.now ≡ kind_text kind }
 {
     match kind {
-        TrapKind::Unreachable => "unreachable",
-        TrapKind::DivideByZero => "integer divide by zero",
-        TrapKind::Overflow => "integer overflow",
-        TrapKind::OutOfBounds => "out of bounds memory access",
-        TrapKind::UndefinedElement => "undefined element",
-        TrapKind::UninitializedElement => "uninitialized element",
-        TrapKind::TypeMismatch => "indirect call type mismatch",
-        TrapKind::StackExhausted => "call stack exhausted",
+        1 => "unreachable",
+        2 => "integer divide by zero",
+        3 => "integer overflow",
+        4 => "out of bounds memory access",
+        5 => "undefined element",
+        6 => "uninitialized element",
+        7 => "indirect call type mismatch",
+        8 => "call stack exhausted",
+        _ => "",
     }
 }
 
-/// Adds the line that names a kind of trap.
+/// Adds the line that names a kind of trap, by its number.
 #[tactic(auto, unfolding(crate::specs::RunText::kind_line))]
-pub(crate) fn push_kind(out: &mut Text, kind: TrapKind) -> Result<(), NoMemory>
-    ensures { OnOk result (out.new ≡ out.old ++ kind_line (trap_code kind)) }
+fn push_kind(out: &mut Text, kind: u32) -> Result<(), NoMemory>
+    ensures { OnOk result (out.new ≡ out.old ++ kind_line kind) }
 {
-    push_number(out, "trap ", u64::from(kind.code()))?;
+    push_number(out, "trap ", u64::from(kind))?;
     out.push_str(" ")?;
     out.push_str(kind_name(kind))?;
     out.push_str("\n")
@@ -41,7 +42,7 @@ pub(crate) fn push_kind(out: &mut Text, kind: TrapKind) -> Result<(), NoMemory>
 
 /// Adds the line that names the place of a frame.
 #[tactic(auto, unfolding(crate::specs::RunText::place_line))]
-pub(crate) fn push_place(out: &mut Text, function: u32, offset: u32) -> Result<(), NoMemory>
+fn push_place(out: &mut Text, function: u32, offset: u32) -> Result<(), NoMemory>
     ensures { OnOk result (out.new ≡ out.old ++ place_line function offset) }
 {
     push_number(out, "at function ", u64::from(function))?;
@@ -51,10 +52,54 @@ pub(crate) fn push_place(out: &mut Text, function: u32, offset: u32) -> Result<(
 
 /// Adds the line that counts the replies that an invocation was given.
 #[tactic(auto, unfolding(crate::specs::RunText::calls_text))]
-pub(crate) fn push_calls(out: &mut Text, count: u64) -> Result<(), NoMemory>
+fn push_calls(out: &mut Text, count: u64) -> Result<(), NoMemory>
     ensures { OnOk result (out.new ≡ out.old ++ calls_text count) }
 {
     push_number(out, "host calls ", count)?;
+    out.push_str("\n")
+}
+
+/// Adds the line that names the place of a dump's innermost frame, where it has frames.
+fn push_innermost(out: &mut Text, dump: &Dump<'_>) -> Result<(), NoMemory>
+    ensures { OnOk result (out.new ≡ out.old ++ place_in dump.now.frames) }
+{
+    match dump.frames.as_slice() {
+        [frame, ..] => push_place(out, frame.function, frame.offset),
+        [] => Ok(()),
+    }
+}
+
+/// Adds the lines of an invocation that trapped, with the number of the trap's kind.
+#[tactic(auto, unfolding(crate::specs::inner::Dumping::handed_text))]
+pub(crate) fn push_trapped(
+    out: &mut Text,
+    kind: u32,
+    dump: &Dump<'_>,
+    calls: u64,
+) -> Result<(), NoMemory>
+    ensures { OnOk result (out.new ≡ out.old ++ handed_text kind dump.now.frames calls) }
+{
+    push_kind(out, kind)?;
+    push_innermost(out, dump)?;
+    push_calls(out, calls)
+}
+
+/// Adds the lines of an invocation that trapped without handing a dump over.
+#[tactic(auto, unfolding(crate::specs::RunText::bare_text))]
+pub(crate) fn push_bare(out: &mut Text, kind: u32, calls: u64) -> Result<(), NoMemory>
+    ensures { OnOk result (out.new ≡ out.old ++ bare_text kind calls) }
+{
+    push_kind(out, kind)?;
+    out.push_str("no dump collected\n")?;
+    push_calls(out, calls)
+}
+
+/// Adds the line that names the first offending call.
+#[tactic(auto, unfolding(crate::specs::RunText::torn_text))]
+pub(crate) fn push_torn(out: &mut Text, at: usize) -> Result<(), NoMemory>
+    ensures { OnOk result (out.new ≡ out.old ++ torn_text at) }
+{
+    push_number(out, "torn calls at ", at as u64)?;
     out.push_str("\n")
 }
 

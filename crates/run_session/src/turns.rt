@@ -1,24 +1,30 @@
 //! One invocation of a list.
 
-ghost use Rattle.std.specs.Prelude.{◌≡◌, ◌≢◌, ◌<◌, ◌≤◌, ◌+◌, ◌-◌, ◌^◌, IfOk, is_some, true};
+ghost use Rattle.std.specs.Prelude.{◌≡◌, ◌≢◌, ◌<◌, ◌≤◌, ◌+◌, ◌-◌, ◌^◌, List, IfOk, is_some, true};
 ghost use Rattle.causes.specs.Counts.{Rose};
-ghost use Rattle.machine_basics.specs.Traps.{trap_code};
+ghost use Rattle.wasm_syntax.specs.declared.host.CollectorCall.{CollectorCall as Call};
+ghost use Rattle.dump_format.specs.Form.{pages_of};
+ghost use Rattle.dump_format.specs.Contained.{IsContained};
 ghost use Rattle.command_answers.specs.Texts.{file_fault};
+ghost use Rattle.run_collected.specs.Delivery.{Delivery, IsDelivery};
+ghost use Rattle.run_session.specs.Telling.{Telling, HasDump, tells};
 ghost use Rattle.run_session.specs.RunText.{dump_name};
-ghost use Rattle.run_session.specs.inner.Dumping.{LeavesFront, IfWritten, IfRefused};
-ghost use Rattle.run_session.specs.inner.Turns.{AddsTrap, turn_of, UnlessRefused, IfGoesOn, IfEnds, IfTurnRefused, Added, LeavesPart, HasTrapped};
+ghost use Rattle.run_session.specs.inner.Dumping.{IsTold, IfDump, AddsTold, LeavesDump, IfWritten, IfRefused};
+ghost use Rattle.run_session.specs.inner.Turns.{turn_of, UnlessRefused, IfGoesOn, IfEnds, IfTurnRefused, Added, LeavesPart, Dumps};
 
-use crate::dumps::{Written, dump_at_trap, push_trapped};
-use crate::lines::push_finished;
+use crate::dumps::{Written, dump_at_trap};
+use crate::lines::{push_bare, push_finished, push_trapped};
+use crate::told::{Told, tell};
 use causes::NoMemory;
 use command_answers::Outcome;
-use machine_basics::TrapKind;
+use dump_format::Dump;
 use machine_hosted::RunEnd;
 use pm_outside::Files;
 use pm_text::Text;
 use run_words::RunWords;
 use std::alloc::Global;
 use wasm_machine::Instance;
+use wasm_syntax::CollectorCall;
 
 /// The lines so far, and the number of the next trap, counted from 0.
 #[derive(Drop)]
@@ -33,16 +39,21 @@ pub(crate) enum Turn {
     GoesOn,
     /// The list ends with this answer.
     Ends(RunEnd),
+    /// The list ends because collector calls are torn at this index.
+    Torn(usize),
     /// The file of a dump failed.
     Refused(Outcome),
 }
 
-/// Whether the list goes on, or with which answer it ends.
-fn turn_after(instance: &Instance, answer: RunEnd) -> Turn
-    ensures turn { result ≡ turn_of instance.now.ready answer }
+/// Whether the list goes on, or how it ends.
+fn turn_after(instance: &Instance, torn: Option<usize>, answer: RunEnd) -> Turn
+    ensures turn { result ≡ turn_of torn instance.now.ready answer }
     ensures ready { IfGoesOn (instance.now.ready ≡ true) result }
     ensures ends { IfEnds (λ a. a ≡ answer) result }
 {
+    if let Some(at) = torn {
+        return Turn::Torn(at);
+    }
     if instance.ready() {
         Turn::GoesOn
     } else {
@@ -55,31 +66,26 @@ fn add_trap<F: Files>(
     alloc: Global,
     files: &mut F,
     words: &RunWords,
-    instance: &Instance,
-    kind: TrapKind,
+    kind: u32,
+    dump: &Dump<'_>,
     calls: u64,
     lines: &mut Lines,
 ) -> Result<Written, NoMemory>
-    requires { lines.old.traps < 2 ^ 64 - 1 }
-    ensures added { IfOk result (IfWritten (AddsTrap words.now.dump words.now.name instance.now (trap_code kind) calls lines.old lines.new (F.told files.old) (F.told files.new))) }
-    ensures front { LeavesFront words.now.name instance.now (dump_name words.now.dump lines.old.traps) (F.told files.old) (F.told files.new) }
+    requires traps { lines.old.traps < 2 ^ 64 - 1 }
+    requires contained { IsContained dump.now }
+    requires pages { pages_of dump.now.memory ≤ 4096 }
+    ensures added { IfOk result (IfWritten (AddsTold words.now.dump words.now.name (Told.Trap kind dump.now) calls lines.old lines.new (F.told files.old) (F.told files.new))) }
+    ensures front { LeavesDump words.now.dump words.now.name (Told.Trap kind dump.now) lines.old.traps (F.told files.old) (F.told files.new) }
     ensures refused { IfOk result (IfRefused (λ o. (o ≡ file_fault (dump_name words.now.dump lines.old.traps)) × Rose (F.faults files.old) (F.faults files.new))) }
     ensures one { lines.new.traps ≤ lines.old.traps + 1 }
     ensures telling { is_some (F.told files.new) ≡ is_some (F.told files.old) }
     ensures later { F.faults files.old ≤ F.faults files.new }
 {
     let number = lines.traps;
-    let written = dump_at_trap(
-        alloc,
-        files,
-        instance,
-        words.name.as_str(),
-        &words.dump,
-        number,
-    )?;
+    let written = dump_at_trap(alloc, files, dump, &words.dump, number)?;
     match written {
         Written::Whole => {
-            push_trapped(&mut lines.text, instance, kind, calls)?;
+            push_trapped(&mut lines.text, kind, dump, calls)?;
             lines.traps = number + 1;
             Ok(Written::Whole)
         }
@@ -87,20 +93,58 @@ fn add_trap<F: Files>(
     }
 }
 
-/// Adds the lines of an invocation with this answer, whose dump is written first where it trapped.
-pub(crate) fn add_lines<F: Files>(
+/// Adds the lines of an invocation of which this is told. The dump of a trap is written first.
+fn add_told<F: Files>(
+    alloc: Global,
+    files: &mut F,
+    words: &RunWords,
+    told: &Told<'_>,
+    calls: u64,
+    lines: &mut Lines,
+) -> Result<Written, NoMemory>
+    requires traps { lines.old.traps < 2 ^ 64 - 1 }
+    requires contained { IfDump (λ d. IsContained d) told.now }
+    requires pages { IfDump (λ d. pages_of d.memory ≤ 4096) told.now }
+    ensures added { IfOk result (IfWritten (AddsTold words.now.dump words.now.name told.now calls lines.old lines.new (F.told files.old) (F.told files.new))) }
+    ensures front { LeavesDump words.now.dump words.now.name told.now lines.old.traps (F.told files.old) (F.told files.new) }
+    ensures dumped { IfOk result (IfRefused (λ _. (t : Telling) → IsTold t words.now.name told.now → HasDump t)) }
+    ensures refused { IfOk result (IfRefused (λ o. (o ≡ file_fault (dump_name words.now.dump lines.old.traps)) × Rose (F.faults files.old) (F.faults files.new))) }
+    ensures one { lines.new.traps ≤ lines.old.traps + 1 }
+    ensures telling { is_some (F.told files.new) ≡ is_some (F.told files.old) }
+    ensures later { F.faults files.old ≤ F.faults files.new }
+{
+    match told {
+        Told::Nothing => Ok(Written::Whole),
+        Told::Finish(value) => {
+            push_finished(&mut lines.text, *value, calls)?;
+            Ok(Written::Whole)
+        }
+        Told::Trap { kind, dump } => add_trap(alloc, files, words, *kind, dump, calls, lines),
+        Told::BareTrap { kind } => {
+            push_bare(&mut lines.text, *kind, calls)?;
+            lines.traps += 1;
+            Ok(Written::Whole)
+        }
+        Told::Torn { .. } => Ok(Written::Whole),
+    }
+}
+
+/// Adds the lines of an invocation with this answer and these collector calls, which left the instance so and was given so
+/// many replies, and says how the list goes on.
+pub(crate) fn end_turn<F: Files>(
     alloc: Global,
     files: &mut F,
     words: &RunWords,
     instance: &Instance,
     answer: RunEnd,
+    collected: &[CollectorCall],
     calls: u64,
     lines: &mut Lines,
 ) -> Result<Turn, NoMemory>
     requires { lines.old.traps < 2 ^ 64 - 1 }
-    ensures added { IfOk result (λ turn. UnlessRefused turn (Added words.now.dump words.now.name instance.now answer calls lines.old lines.new (F.told files.old) (F.told files.new) turn)) }
-    ensures part { LeavesPart words.now.dump words.now.name instance.now answer lines.old.traps (F.told files.old) (F.told files.new) }
-    ensures trapped { IfOk result (IfTurnRefused (λ _. HasTrapped answer)) }
+    ensures added { (deliver : List Call → Delivery) → IsDelivery deliver → IfOk result (λ turn. UnlessRefused turn (Added (tells words.now.collect deliver) words.now.collect words.now.dump words.now.name instance.now answer calls collected.now lines.old lines.new (F.told files.old) (F.told files.new) turn)) }
+    ensures part { (deliver : List Call → Delivery) → IsDelivery deliver → LeavesPart (tells words.now.collect deliver) words.now.collect words.now.dump words.now.name instance.now answer collected.now lines.old.traps (F.told files.old) (F.told files.new) }
+    ensures dumped { (deliver : List Call → Delivery) → IsDelivery deliver → IfOk result (IfTurnRefused (λ _. Dumps (tells words.now.collect deliver) words.now.collect answer instance.now collected.now)) }
     ensures refused { IfOk result (IfTurnRefused (λ o. (o ≡ file_fault (dump_name words.now.dump lines.old.traps)) × Rose (F.faults files.old) (F.faults files.new))) }
     ensures memory { IfOk result (λ _. answer ≢ RunEnd.NoMemory) }
     ensures ready { IfOk result (IfGoesOn (instance.now.ready ≡ true)) }
@@ -109,19 +153,10 @@ pub(crate) fn add_lines<F: Files>(
     ensures telling { is_some (F.told files.new) ≡ is_some (F.told files.old) }
     ensures later { F.faults files.old ≤ F.faults files.new }
 {
-    match answer {
-        RunEnd::Finished { value } => {
-            push_finished(&mut lines.text, value, calls)?;
-            Ok(turn_after(instance, RunEnd::Finished { value }))
-        }
-        RunEnd::Trapped { kind } => {
-            let written = add_trap(alloc, files, words, instance, kind, calls, lines)?;
-            match written {
-                Written::Whole => Ok(turn_after(instance, RunEnd::Trapped { kind })),
-                Written::Refused(outcome) => Ok(Turn::Refused(outcome)),
-            }
-        }
-        RunEnd::NoMemory => Err(NoMemory),
-        stopped => Ok(Turn::Ends(stopped)),
+    let told = tell(alloc, words, instance, &answer, collected)?;
+    let written = add_told(alloc, files, words, &told, calls, lines)?;
+    match written {
+        Written::Whole => Ok(turn_after(instance, told.torn(), answer)),
+        Written::Refused(outcome) => Ok(Turn::Refused(outcome)),
     }
 }

@@ -1,14 +1,14 @@
 -- What the words behind `run` ask for: `M ENTRY [ARG ...]`, then any number of `+ ENTRY [ARG ...]`, and options.
-use Rattle.std.specs.Prelude.{ℕ, List, [], ◌∷◌, ◌&&◌, length, nat_le, Option, Some, None, if◌then◌else◌, codes, option_and_then, unwrap_or}
+use Rattle.std.specs.Prelude.{ℕ, Bool, is_some, List, [], ◌∷◌, ◌&&◌, length, nat_le, Option, Some, None, if◌then◌else◌, codes, option_and_then, unwrap_or}
 use Rattle.std.specs.Option.{option_map}
 use Rattle.pm_text.specs.Numbers.{decimal_value}
 use Rattle.command_words.specs.Reading.{Word, Allowed, Read, given_value, read_words}
 use Rattle.run_words.specs.Invocations.{invocations}
 use Rattle.run_words.specs.declared.words.RunWords.{RunWords}
 
--- each option takes a value
+-- each option but `--collect` takes a value
 abbrev pub run_options : Allowed
-run_options = record { valued = codes "--replies" ∷ codes "--fuel" ∷ codes "--depth" ∷ codes "--dump" ∷ codes "--name" ∷ []; flags = [] }
+run_options = record { valued = codes "--replies" ∷ codes "--fuel" ∷ codes "--depth" ∷ codes "--dump" ∷ codes "--name" ∷ []; flags = codes "--collect" ∷ [] }
 
 abbrev pub within : ℕ → ℕ → ℕ → Option ℕ
 within least greatest n = if nat_le least n && nat_le n greatest then Some n else None
@@ -41,13 +41,17 @@ dump r = unwrap_or (given_value (codes "--dump") r) (codes "core.wasm")
 abbrev pub replies : Read → Option Word
 replies r = given_value (codes "--replies") r
 
+-- whether the collector is asked for
+abbrev pub collect : Read → Bool
+collect r = is_some (given_value (codes "--collect") r)
+
 -- options, for this file of a module and these words behind it
 unfoldable pub asked : Word → List Word → Read → Option RunWords
 asked source behind r =
     option_and_then (λ called.
     option_and_then (λ steps.
     option_and_then (λ frames.
-    option_map (λ inside. record { source = source; invocations = called; replies = replies r; fuel = steps; depth = frames; dump = dump r; name = inside })
+    option_map (λ inside. record { source = source; invocations = called; replies = replies r; fuel = steps; depth = frames; dump = dump r; name = inside; collect = collect r })
     (name r)) (depth r)) (fuel r)) (invocations behind)
 
 -- the first plain word is the module's file

@@ -3,7 +3,7 @@
 ghost use Rattle.std.specs.Prelude.{◌≡◌, ◌<◌, ◌≤◌, length, map, Some, None, IfOk, IfSome, MatchOption, unwrap_or};
 ghost use Rattle.std.specs.String.{string_bytes};
 ghost use Rattle.command_words.specs.Reading.{given_value};
-ghost use Rattle.run_words.specs.RunWords.{run_options, number_or, fuel, depth, name, dump, replies, asked, run_words};
+ghost use Rattle.run_words.specs.RunWords.{run_options, number_or, fuel, depth, name, dump, replies, collect, asked, run_words};
 
 use crate::invocation::Invocations;
 use crate::invoking::invocations;
@@ -28,12 +28,17 @@ pub struct RunWords {
     pub dump: Text,
     /// The name that a dump has inside.
     pub name: Text,
+    /// Whether the collector takes the dumps that the module hands over.
+    pub collect: bool,
 }
 
 fn options() -> Options<'static>
     ensures { result ≡ run_options }
 {
-    Options::new(&["--replies", "--fuel", "--depth", "--dump", "--name"], &[])
+    Options::new(
+        &["--replies", "--fuel", "--depth", "--dump", "--name"],
+        &["--collect"],
+    )
 }
 
 /// The number that an option gives, from `least` to `greatest`, or the default where it is not given.
@@ -108,6 +113,13 @@ fn dump<'a>(reading: &Reading<'a>) -> &'a str
     text_or(reading, "--dump", "core.wasm")
 }
 
+/// Whether the collector is asked for.
+fn collect(reading: &Reading<'_>) -> bool
+    ensures { result ≡ collect reading.now }
+{
+    reading.value("--collect").is_some()
+}
+
 /// The file of replies, where one is asked for.
 fn replies(alloc: Global, reading: &Reading<'_>) -> Result<Option<Text>, NoMemory>
     ensures { IfOk result (λ t. t ≡ replies reading.now) }
@@ -152,12 +164,13 @@ fn asked(
         depth,
         dump: Text::from_str(alloc, dump)?,
         name: Text::from_str(alloc, name)?,
+        collect: collect(reading),
     })
 }
 
 /// What the words behind `run` ask for: `M ENTRY [ARG ...]`, then any number of `+ ENTRY [ARG ...]`, with the options
-/// `--replies FILE`, `--fuel N`, `--depth N`, `--dump FILE` and `--name TEXT` anywhere. Each plain word `+` behind the
-/// first plain word separates invocations, of which none is empty.
+/// `--replies FILE`, `--fuel N`, `--depth N`, `--dump FILE`, `--name TEXT` and `--collect` anywhere. Each plain word `+`
+/// behind the first plain word separates invocations, of which none is empty.
 #[tactic(auto, unfolding(crate::specs::RunWords::run_words))]
 pub fn run_words(alloc: Global, words: &[String]) -> Result<RunWords, WordsFault>
     ensures ok { IfOk result (λ r. run_words (map string_bytes words.now) ≡ Some r) }

@@ -1,5 +1,5 @@
 -- How far a list of invocations has come, whatever replies are left.
-use Rattle.std.specs.Prelude.{◌≡◌, ℕ, ◌+◌, true, List, ◌++◌, length, Option, Some, IfSome, is_some}
+use Rattle.std.specs.Prelude.{◌≡◌, ℕ, ◌+◌, true, List, [], ◌∷◌, ◌++◌, length, Option, Some, None, IfSome, is_some}
 use Rattle.std.specs.List.{flat_map}
 use Rattle.wasm_syntax.specs.declared.host.Reply.{Reply}
 use Rattle.wasm_syntax.specs.declared.host.Served.{Served}
@@ -9,7 +9,8 @@ use Rattle.machine_steps.specs.declared.machine.Machine.{Machine}
 use Rattle.host_devices.specs.Given.{replies_of}
 use Rattle.machine_hosted.specs.Settings.{world_of}
 use Rattle.host_devices.specs.Given.{unfitting}
-use Rattle.run_session.specs.RunText.{invocation_text, dumps_from, traps_in, last_of, fitted}
+use Rattle.run_session.specs.Telling.{Tells, told, torn_in}
+use Rattle.run_session.specs.RunText.{invocation_text, up_to_torn, dumps_from, traps_in, last_of, fitted}
 use Rattle.run_session.specs.Given.{given_in}
 use Rattle.run_session.specs.Written.{Writes}
 
@@ -33,30 +34,36 @@ abbrev pub session_from : Engine → Point → List Reply → List Ran
 session_from M p replies = session M p.due p.start (world_of p.machine replies) p.left
 
 -- all of this came of these invocations
-pub record CameOf (base name : List ℕ) (rans : List Ran) (made : Made) : Type 0 where
-  pub text : made.text ≡ flat_map invocation_text rans
-  pub writes : made.writes ≡ dumps_from base name 0 rans
-  pub traps : made.traps ≡ traps_in rans
+pub record CameOf (tell : Tells) (base name : List ℕ) (rans : List Ran) (made : Made) : Type 0 where
+  pub text : made.text ≡ flat_map (invocation_text tell) rans
+  pub writes : made.writes ≡ dumps_from tell base name 0 rans
+  pub traps : made.traps ≡ traps_in tell rans
   pub given : made.given ≡ given_in rans
 
 -- the list went on behind this invocation, which was begun
 abbrev pub WentOn : Ran → Type 0
 WentOn r = (goes_on r.outcome r.entered ≡ true) × (is_some r.last ≡ true)
 
+-- the calls of none of these are torn
+abbrev pub NoneTorn : Tells → List Ran → Type 0
+NoneTorn tell [] = Unit {0}
+NoneTorn tell (r ∷ rs) = (torn_in (told tell r) ≡ None) × NoneTorn tell rs
+
 -- The session has come to a point, and goes on as one that begins there.
-pub record HasCome (M : Engine) (base name : List ℕ) (first there : Point) (made : Made) (more : List Reply) : Type 0 where
+pub record HasCome (tell : Tells) (M : Engine) (base name : List ℕ) (first there : Point) (made : Made) (more : List Reply) : Type 0 where
   pub rans : List Ran
   pub is : session_from M first (replies_of made.given ++ more) ≡ rans ++ session_from M there more
   pub counted : length first.due ≡ length rans + length there.due
-  pub came_of : CameOf base name rans made
+  pub came_of : CameOf tell base name rans made
   pub fit : length made.given ≡ fitted rans
   pub went_on : IfSome (last_of rans) WentOn
+  pub none_torn : NoneTorn tell rans
 
--- The session has ended, with this invocation as its last one and so many that were not begun.
-pub record HasEnded (M : Engine) (base name : List ℕ) (first : Point) (made : Made) (due : ℕ) (r : Ran) : Type 0 where
+-- The session has ended, with this invocation as its last one and so many that were not begun. Torn calls end it too.
+pub record HasEnded (tell : Tells) (M : Engine) (base name : List ℕ) (first : Point) (made : Made) (due : ℕ) (r : Ran) : Type 0 where
   pub rans : List Ran
-  pub is : session_from M first (replies_of made.given) ≡ rans
+  pub is : up_to_torn tell (session_from M first (replies_of made.given)) ≡ rans
   pub counted : length first.due ≡ length rans + due
-  pub came_of : CameOf base name rans made
+  pub came_of : CameOf tell base name rans made
   pub fit : length made.given ≡ fitted rans + length (unfitting r.outcome)
   pub last : last_of rans ≡ Some r

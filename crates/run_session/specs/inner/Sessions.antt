@@ -1,5 +1,5 @@
 -- One invocation of a list, and the whole list, as the code makes them.
-use Rattle.std.specs.Prelude.{◌≡◌, ℕ, ◌-◌, ◌≤◌, ◌⊎◌, Bool, List, [], ◌∷◌, ◌++◌, length, take, Option, Result, Ok, Err, codes}
+use Rattle.std.specs.Prelude.{◌≡◌, ℕ, ◌-◌, ◌≤◌, ◌⊎◌, Bool, List, [], ◌∷◌, ◌++◌, length, take, Option, Some, None, Result, Ok, Err, codes}
 use Rattle.std.specs.Fmt.{decimal}
 use Rattle.causes.specs.Counts.{Rose}
 use Rattle.causes.specs.declared.NoMemory.{NoMemory as WantOfMemory}
@@ -11,7 +11,6 @@ use Rattle.wasm_syntax.specs.Machine.{Engine}
 use Rattle.wasm_syntax.specs.Module.{Program}
 use Rattle.wasm_syntax.specs.Run.{Invocation, Outcome as RunOutcome, not_started, finished, trapped, lacks_reply, misfits, running, got_stuck, Ran}
 use Rattle.dump_write.specs.Written.{OnTold}
-use Rattle.host_devices.specs.HostSides.{Calls}
 use Rattle.machine_hosted.specs.Hosted.{IsFaultOf, IsUsedUp}
 use Rattle.host_devices.specs.Given.{replies_of}
 use Rattle.machine_hosted.specs.declared.answer.RunEnd.{RunEnd}
@@ -21,16 +20,17 @@ use Rattle.wasm_machine.specs.Instances.{State}
 use Rattle.command_answers.specs.Texts.{ended, file_fault}
 use Rattle.command_answers.specs.declared.outcome.Outcome.{Outcome}
 use Rattle.run_session.specs.Given.{given_to, given_in}
-use Rattle.run_session.specs.RunText.{dump_name, dumps_from, not_invoked_text}
+use Rattle.run_session.specs.Telling.{Tells, told, torn_in}
+use Rattle.run_session.specs.RunText.{dump_name, dumps_from, up_to_torn, torn_text, not_invoked_text}
 use Rattle.run_session.specs.Written.{Writes, HoldThen, HoldPart}
 use Rattle.run_session.specs.inner.Progress.{Point, Made, session_from, HasCome, HasEnded}
 use Rattle.run_session.specs.inner.Turns.{TurnsTo}
 use Rattle.run_session.specs.inner.Answers.{device_cause, misfit_cause}
-use Rattle.run_session.specs.Ending.{host_stopped, end_status}
+use Rattle.run_session.specs.Ending.{host_stopped, told_status}
 use Rattle.run_session.specs.Stop.{Stop, no_memory, file_failed, IsFileFault, EndsAtDump}
 use Rattle.run_session.specs.declared.turns.Lines.{Lines}
 use Rattle.run_session.specs.declared.turns.Turn.{Turn}
-use Rattle.run_session.specs.declared.turns.Turn.TheVariants.{GoesOn, Ends, Refused}
+use Rattle.run_session.specs.declared.turns.Turn.TheVariants.{GoesOn, Ends, Torn, Refused}
 
 -- where an instance stands with these invocations still to be made and so many steps in all
 abbrev pub point_of : State → List Invocation → (steps : ℕ) → Point
@@ -42,38 +42,41 @@ point_of s is steps = record { due = is; start = s.due; machine = s.machine; lef
 abbrev pub AdmitsTurn : Turn → List Reply → Type 0
 AdmitsTurn GoesOn more = Unit {0}
 AdmitsTurn (Ends answer) more = AdmitsReplies answer more
+AdmitsTurn (Torn at) more = more ≡ []
 AdmitsTurn (Refused o) more = Unit {0}
 
 -- the session's next invocation, behind which it goes on from the new point, or which is its last
 abbrev pub SessionTurns : Engine → (there next : Point) → (given : List Served) → (more : List Reply) → Ran → Turn → Type 0
 SessionTurns M there next given more r GoesOn = session_from M there (replies_of given ++ more) ≡ r ∷ session_from M next more
 SessionTurns M there next given more r (Ends answer) = session_from M there (replies_of given ++ more) ≡ r ∷ []
+SessionTurns M there next given more r (Torn at) = (later : List Ran) × (session_from M there (replies_of given ++ more) ≡ r ∷ later)
 SessionTurns M there next given more r (Refused o) = Unit {0}
 
 abbrev pub HasTurnOutcome : Program → (Import → Bool) → Ran → Turn → Type 0
 HasTurnOutcome p used_up r GoesOn = Unit {0}
 HasTurnOutcome p used_up r (Ends answer) = HasOutcome p used_up answer r.outcome
+HasTurnOutcome p used_up r (Torn at) = Unit {0}
 HasTurnOutcome p used_up r (Refused o) = Unit {0}
 
-pub record OneRan (p : Program) (M : Engine) (base name : List ℕ) (used_up : Import → Bool) (there next : Point) (given : List Served) (writes : Writes) (answer : RunEnd) (old new : Lines) (turn : Turn) (more : List Reply) : Type 0 where
+pub record OneRan (tell : Tells) (p : Program) (M : Engine) (base name : List ℕ) (used_up : Import → Bool) (there next : Point) (given : List Served) (writes : Writes) (answer : RunEnd) (old new : Lines) (turn : Turn) (more : List Reply) : Type 0 where
   pub ran : Ran
   pub given_is : given ≡ given_to ran
-  pub turns : TurnsTo base name answer ran old new writes turn
+  pub turns : TurnsTo tell base name answer ran old new writes turn
   pub session_turns : SessionTurns M there next given more ran turn
   pub outcome : HasTurnOutcome p used_up ran turn
 
 -- One invocation was made. Whatever is to be made behind it, and for each number of steps from those that were made up to the fuel, it is the
 -- session's next one.
-pub record MadeOne (p : Program) (M : Engine) (base name : List ℕ) (used_up : Import → Bool) (s next : State) (i : Invocation) (fuel : ℕ) (old new : Lines) (before after : Calls) (told_before told_after : Option Contents) (turn : Turn) : Type 0 where
+pub record MadeOne (tell : Tells) (p : Program) (M : Engine) (base name : List ℕ) (used_up : Import → Bool) (s next : State) (i : Invocation) (fuel : ℕ) (old new : Lines) (before after : List Served) (told_before told_after : Option Contents) (turn : Turn) : Type 0 where
   pub answer : RunEnd
   pub given : List Served
-  pub grew : after.served ≡ before.served ++ given
+  pub grew : after ≡ before ++ given
   pub writes : Writes
   pub files : OnTold (HoldThen writes) told_before told_after
   pub onward : s.steps ≤ next.steps
   pub within : s.steps ≤ fuel → next.steps ≤ fuel
   pub ran : (rest : List Invocation) (total : ℕ) → next.steps ≤ total → total ≤ fuel → (more : List Reply) → AdmitsTurn turn more
-      → OneRan p M base name used_up (point_of s (i ∷ rest) total) (point_of next rest total) given writes answer old new turn more
+      → OneRan tell p M base name used_up (point_of s (i ∷ rest) total) (point_of next rest total) given writes answer old new turn more
 
 -- ---- the list
 
@@ -83,14 +86,14 @@ made_with lines given writes = record { text = lines.text; writes = writes; trap
 
 -- These invocations were made, and the list goes on from here, whatever is still to be made, and for each number of steps from those that were
 -- made up to the fuel.
-pub record SoFar (M : Engine) (base name : List ℕ) (first s : State) (done : List Invocation) (fuel : ℕ) (lines : Lines) (before after : Calls) (told_before told_after : Option Contents) : Type 0 where
+pub record SoFar (tell : Tells) (M : Engine) (base name : List ℕ) (first s : State) (done : List Invocation) (fuel : ℕ) (lines : Lines) (before after : List Served) (told_before told_after : Option Contents) : Type 0 where
   pub given : List Served
-  pub grew : after.served ≡ before.served ++ given
+  pub grew : after ≡ before ++ given
   pub writes : Writes
   pub files : OnTold (HoldThen writes) told_before told_after
   pub within : s.steps ≤ fuel
   pub come : (rest : List Invocation) (total : ℕ) → s.steps ≤ total → total ≤ fuel → (more : List Reply)
-      → HasCome M base name (point_of first (done ++ rest) total) (point_of s rest total) (made_with lines given writes) more
+      → HasCome tell M base name (point_of first (done ++ rest) total) (point_of s rest total) (made_with lines given writes) more
 
 -- the last line: it names the device that failed, whose count of faults rose, or the number of the call
 abbrev pub EndsIn : Program → (used_up : Import → Bool) → (counts now : List ℕ → ℕ) → (given due : ℕ) → RunOutcome → List ℕ → Type 0
@@ -104,19 +107,24 @@ EndsIn p used_up counts now given due (finished v) line = line ≡ []
 EndsIn p used_up counts now given due (not_started cause) line = ⊥
 EndsIn p used_up counts now given due got_stuck line = ⊥
 
+-- torn calls are told before all else
+abbrev pub ToldEndsIn : Program → (used_up : Import → Bool) → (counts now : List ℕ → ℕ) → (given due : ℕ) → (torn : Option ℕ) → RunOutcome → List ℕ → Type 0
+ToldEndsIn p used_up counts now given due None o line = EndsIn p used_up counts now given due o line
+ToldEndsIn p used_up counts now given due (Some at) o line = line ≡ torn_text at
+
 -- the list was made up to its end, and this is the answer
-pub record RanAll (p : Program) (M : Engine) (base name : List ℕ) (used_up : Import → Bool) (counts now : List ℕ → ℕ) (first : Point) (before after : Calls) (told_before told_after : Option Contents) (o : Outcome) : Type 0 where
+pub record RanAll (tell : Tells) (p : Program) (M : Engine) (base name : List ℕ) (used_up : Import → Bool) (counts now : List ℕ → ℕ) (first : Point) (before after : List Served) (told_before told_after : Option Contents) (o : Outcome) : Type 0 where
   pub given : List Served
-  pub grew : after.served ≡ before.served ++ given
+  pub grew : after ≡ before ++ given
   pub writes : Writes
   pub files : OnTold (HoldThen writes) told_before told_after
   pub lines : Lines
   pub due : ℕ
   pub last : Ran
-  pub has_ended : HasEnded M base name first (made_with lines given writes) due last
+  pub has_ended : HasEnded tell M base name first (made_with lines given writes) due last
   pub line : List ℕ
-  pub ends : EndsIn p used_up counts now (length given) due last.outcome line
-  pub answer : o ≡ ended (end_status lines.traps last.outcome) (lines.text ++ line)
+  pub ends : ToldEndsIn p used_up counts now (length given) due (torn_in (told tell last)) last.outcome line
+  pub answer : o ≡ ended (told_status lines.traps (torn_in (told tell last)) last.outcome) (lines.text ++ line)
 
 -- the file of a dump failed
 abbrev pub IsDumpFault : (base : List ℕ) → Outcome → Type 0
@@ -126,23 +134,24 @@ IsDumpFault base o = (j : ℕ) × (o ≡ file_fault (dump_name base j))
 
 -- A session has come to these invocations, on the replies that were given. The first of their dumps has this number; the last one may be there
 -- in part.
-pub record WasStopped (M : Engine) (base name : List ℕ) (number : ℕ) (there : Point) (rans : List Ran) (before after : Calls) (told_before told_after : Option Contents) : Type 0 where
+pub record WasStopped (tell : Tells) (M : Engine) (base name : List ℕ) (number : ℕ) (there : Point) (rans : List Ran) (before after : List Served) (told_before told_after : Option Contents) : Type 0 where
   pub given : List Served
-  pub grew : after.served ≡ before.served ++ given
-  pub is : session_from M there (replies_of given) ≡ rans
+  pub grew : after ≡ before ++ given
+  pub is : up_to_torn tell (session_from M there (replies_of given)) ≡ rans
   pub all_given : given ≡ given_in rans
-  pub files : OnTold (HoldPart (dumps_from base name number rans)) told_before told_after
+  pub files : OnTold (HoldPart (dumps_from tell base name number rans)) told_before told_after
 
 -- within some number of steps; or behind the invocation that trapped, whose dump failed
-abbrev pub StopsIn : Stop → Engine → (base name : List ℕ) → (number : ℕ) → State → List Invocation → (fuel : ℕ) → (before after : Calls) → (told_before told_after : Option Contents) → Type 0
-StopsIn no_memory M base name number s is fuel before after told_before told_after =
-    (total : ℕ) × (s.steps ≤ total) × (total ≤ fuel) × (rans : List Ran) × WasStopped M base name number (point_of s is total) rans before after told_before told_after
-StopsIn (file_failed file) M base name number s is fuel before after told_before told_after =
-    (made : ℕ) × (rans : List Ran) × EndsAtDump base number rans file × WasStopped M base name number (point_of s (take made is) fuel) rans before after told_before told_after
+abbrev pub StopsIn : Tells → Stop → Engine → (base name : List ℕ) → (number : ℕ) → State → List Invocation → (fuel : ℕ) → (before after : List Served) → (told_before told_after : Option Contents) → Type 0
+StopsIn tell no_memory M base name number s is fuel before after told_before told_after =
+    (total : ℕ) × (s.steps ≤ total) × (total ≤ fuel) × (rans : List Ran) × WasStopped tell M base name number (point_of s is total) rans before after told_before told_after
+StopsIn tell (file_failed file) M base name number s is fuel before after told_before told_after =
+    (made : ℕ) × (rans : List Ran) × EndsAtDump tell base number rans file × WasStopped tell M base name number (point_of s (take made is) fuel) rans before after told_before told_after
 
 -- a fact on each way in which an invocation has no answer
 abbrev pub OnTurnStop : (Stop → Type 0) → Result Turn WantOfMemory → Type 0
 OnTurnStop P (Err e) = P no_memory
 OnTurnStop P (Ok GoesOn) = Unit {0}
 OnTurnStop P (Ok (Ends answer)) = Unit {0}
+OnTurnStop P (Ok (Torn at)) = Unit {0}
 OnTurnStop P (Ok (Refused o)) = IsFileFault P o

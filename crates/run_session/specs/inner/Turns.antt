@@ -1,95 +1,112 @@
 -- How a list goes on, or ends, behind an invocation.
-use Rattle.std.specs.Prelude.{◌≡◌, ℕ, ◌+◌, Bool, true, false, List, [], ◌∷◌, ◌++◌, length, Option, Some, is_some}
+use Rattle.std.specs.Prelude.{◌≡◌, ℕ, ◌+◌, Bool, true, false, List, [], ◌∷◌, ◌++◌, length, Option, Some, None, is_some}
 use Rattle.pm_outside.specs.Contents.{Contents}
 use Rattle.wasm_syntax.specs.declared.parts.Import.{Import}
+use Rattle.wasm_syntax.specs.declared.host.CollectorCall.{CollectorCall}
 use Rattle.wasm_syntax.specs.Machine.{Config}
 use Rattle.wasm_syntax.specs.Module.{Program}
-use Rattle.wasm_syntax.specs.Run.{Ran, goes_on}
-use Rattle.dump_write.specs.Image.{image}
-use Rattle.dump_write.specs.ImageBytes.{bytes_of}
-use Rattle.dump_write.specs.Written.{OnTold, HasFile}
-use Rattle.machine_basics.specs.declared.answer.TrapKind.{TrapKind}
+use Rattle.wasm_syntax.specs.Run.{Outcome as RunOutcome, Ran, goes_on}
+use Rattle.dump_write.specs.Written.{OnTold}
 use Rattle.machine_hosted.specs.declared.answer.RunEnd.{RunEnd}
-use Rattle.machine_hosted.specs.declared.answer.RunEnd.TheVariants.{Trapped}
 use Rattle.machine_hosted.specs.Answers.{KeepsThen}
 use Rattle.machine_hosted.specs.Invocations.{HasOutcome, may_follow}
-use Rattle.wasm_machine.specs.Instances.{State, IsOf, StandsAt}
+use Rattle.wasm_machine.specs.Instances.{State, IsOf}
 use Rattle.command_answers.specs.declared.outcome.Outcome.{Outcome}
-use Rattle.run_session.specs.RunText.{invocation_text, trapped_text, innermost, dump_name, dumps_from, traps_in}
+use Rattle.run_session.specs.Telling.{Tells, told, torn_in, HasDump}
+use Rattle.run_session.specs.RunText.{invocation_text, dumps_from, traps_in}
 use Rattle.run_session.specs.Given.{given_to}
 use Rattle.run_session.specs.Written.{Writes, HoldThen, HoldPart}
+use Rattle.run_session.specs.inner.Dumping.{IsTold}
+use Rattle.run_session.specs.declared.told.Told.{Told}
 use Rattle.run_session.specs.declared.turns.Lines.{Lines}
 use Rattle.run_session.specs.declared.turns.Turn.{Turn}
-use Rattle.run_session.specs.declared.turns.Turn.TheVariants.{GoesOn, Ends, Refused}
+use Rattle.run_session.specs.declared.turns.Turn.TheVariants.{GoesOn, Ends, Torn, Refused}
 
--- ---- a trap
+-- ---- what an invocation came to
 
--- the lines of a trap were added, and its dump was written
-pub record AddsTrap (base name : List ℕ) (s : State) (kind calls : ℕ) (old new : Lines) (before after : Option Contents) : Type 0 where
-  pub bytes : List ℕ
-  pub files : OnTold (HasFile (dump_name base old.traps) bytes) before after
-  pub traps : new.traps ≡ old.traps + 1
-  pub shows : (p : Program) (c : Config) → StandsAt s p c
-      → (bytes ≡ bytes_of (image c name)) × (new.text ≡ old.text ++ trapped_text kind (innermost c) calls)
+-- an invocation with this answer came to this outcome, at this configuration, and left the instance so
+pub record CameTo (p : Program) (used_up : Import → Bool) (answer : RunEnd) (s : State) (o : RunOutcome) (c : Config) : Type 0 where
+  pub is_of : IsOf s p
+  pub outcome : HasOutcome p used_up answer o
+  pub keeps : KeepsThen p s.prepared.codes.items answer s.machine c
 
--- ---- an invocation
+-- what is known of each invocation that came to this, with these calls where they are looked at
+abbrev pub OnInvocation : (collect : Bool) → RunEnd → State → (calls : List CollectorCall) → (RunOutcome → List CollectorCall → Option Config → Type 0) → Type 0
+OnInvocation collect answer s calls P =
+    (p : Program) (used_up : Import → Bool) (o : RunOutcome) (c : Config) (others : List CollectorCall) → CameTo p used_up answer s o c → (collect ≡ true → others ≡ calls) → P o others (Some c)
+
+-- this is told of it
+abbrev pub TellsIt : Tells → (collect : Bool) → RunEnd → State → (calls : List CollectorCall) → (name : List ℕ) → Told → Type 0
+TellsIt tell collect answer s calls name told = OnInvocation collect answer s calls (λ o others last. IsTold (tell o others last) name told)
+
+-- it has a dump
+abbrev pub Dumps : Tells → (collect : Bool) → RunEnd → State → (calls : List CollectorCall) → Type 0
+Dumps tell collect answer s calls = OnInvocation collect answer s calls (λ o others last. HasDump (tell o others last))
 
 -- what is known of an invocation with this answer, which leaves the instance so
-pub record Answered (p : Program) (used_up : Import → Bool) (answer : RunEnd) (s : State) (calls : ℕ) (r : Ran) : Type 0 where
-  pub outcome : HasOutcome p used_up answer r.outcome
-  pub follows : s.ready ≡ may_follow answer r
+pub record Answered (p : Program) (used_up : Import → Bool) (collect : Bool) (answer : RunEnd) (s : State) (calls : ℕ) (collected : List CollectorCall) (r : Ran) : Type 0 where
   pub last : Config
   pub last_is : r.last ≡ Some last
-  pub keeps : KeepsThen p s.prepared.codes.items answer s.machine last
+  pub came : CameTo p used_up answer s r.outcome last
+  pub follows : s.ready ≡ may_follow answer r
   pub counted : calls ≡ length (given_to r)
+  pub handed : collect ≡ true → r.collected ≡ collected
+
+-- ---- the turn
 
 -- the lines of an invocation were added, and these files were written
-pub record Adds (base name : List ℕ) (r : Ran) (old new : Lines) (writes : Writes) : Type 0 where
-  pub text : new.text ≡ old.text ++ invocation_text r
-  pub traps : new.traps ≡ old.traps + traps_in (r ∷ [])
-  pub wrote : writes ≡ dumps_from base name old.traps (r ∷ [])
+pub record Adds (tell : Tells) (base name : List ℕ) (r : Ran) (old new : Lines) (writes : Writes) : Type 0 where
+  pub text : new.text ≡ old.text ++ invocation_text tell r
+  pub traps : new.traps ≡ old.traps + traps_in tell (r ∷ [])
+  pub wrote : writes ≡ dumps_from tell base name old.traps (r ∷ [])
   pub placed : is_some r.last ≡ true
 
-abbrev pub turn_of : (ready : Bool) → RunEnd → Turn
-turn_of true answer = GoesOn
-turn_of false answer = Ends answer
+abbrev pub turn_on : (ready : Bool) → RunEnd → Turn
+turn_on true answer = GoesOn
+turn_on false answer = Ends answer
 
-abbrev pub TurnsTo : (base name : List ℕ) → RunEnd → Ran → (old new : Lines) → Writes → Turn → Type 0
-TurnsTo base name answer r old new writes GoesOn = (goes_on r.outcome r.entered ≡ true) × Adds base name r old new writes
-TurnsTo base name answer r old new writes (Ends a) = (a ≡ answer) × (goes_on r.outcome r.entered ≡ false) × Adds base name r old new writes
-TurnsTo base name answer r old new writes (Refused o) = Unit {0}
+abbrev pub turn_of : (torn : Option ℕ) → (ready : Bool) → RunEnd → Turn
+turn_of None ready answer = turn_on ready answer
+turn_of (Some at) ready answer = Torn at
+
+abbrev pub TurnsTo : Tells → (base name : List ℕ) → RunEnd → Ran → (old new : Lines) → Writes → Turn → Type 0
+TurnsTo tell base name answer r old new writes GoesOn = (goes_on r.outcome r.entered ≡ true) × (torn_in (told tell r) ≡ None) × Adds tell base name r old new writes
+TurnsTo tell base name answer r old new writes (Ends a) = (a ≡ answer) × (goes_on r.outcome r.entered ≡ false) × (torn_in (told tell r) ≡ None) × Adds tell base name r old new writes
+TurnsTo tell base name answer r old new writes (Torn at) = (torn_in (told tell r) ≡ Some at) × Adds tell base name r old new writes
+TurnsTo tell base name answer r old new writes (Refused o) = Unit {0}
 
 abbrev pub UnlessRefused : Turn → Type 0 → Type 0
 UnlessRefused GoesOn P = P
 UnlessRefused (Ends a) P = P
+UnlessRefused (Torn at) P = P
 UnlessRefused (Refused o) P = Unit {0}
 
 abbrev pub IfGoesOn : Type 0 → Turn → Type 0
 IfGoesOn P GoesOn = P
 IfGoesOn P (Ends a) = Unit {0}
+IfGoesOn P (Torn at) = Unit {0}
 IfGoesOn P (Refused o) = Unit {0}
 
 abbrev pub IfEnds : (RunEnd → Type 0) → Turn → Type 0
 IfEnds P GoesOn = Unit {0}
 IfEnds P (Ends a) = P a
+IfEnds P (Torn at) = Unit {0}
 IfEnds P (Refused o) = Unit {0}
 
 abbrev pub IfTurnRefused : (Outcome → Type 0) → Turn → Type 0
 IfTurnRefused P GoesOn = Unit {0}
 IfTurnRefused P (Ends a) = Unit {0}
+IfTurnRefused P (Torn at) = Unit {0}
 IfTurnRefused P (Refused o) = P o
 
 -- an invocation with this answer was told and its dump written, and the list goes on or ends
-pub record Added (base name : List ℕ) (s : State) (answer : RunEnd) (calls : ℕ) (old new : Lines) (before after : Option Contents) (turn : Turn) : Type 0 where
+pub record Added (tell : Tells) (collect : Bool) (base name : List ℕ) (s : State) (answer : RunEnd) (calls : ℕ) (collected : List CollectorCall) (old new : Lines) (before after : Option Contents) (turn : Turn) : Type 0 where
   pub writes : Writes
   pub files : OnTold (HoldThen writes) before after
-  pub turns : (p : Program) (used_up : Import → Bool) (r : Ran) → IsOf s p → Answered p used_up answer s calls r → TurnsTo base name answer r old new writes turn
+  pub turns : (p : Program) (used_up : Import → Bool) (r : Ran) → Answered p used_up collect answer s calls collected r → TurnsTo tell base name answer r old new writes turn
 
 -- However it ends, an invocation with this answer leaves its dump in part.
-abbrev pub LeavesPart : (base name : List ℕ) → State → RunEnd → (traps : ℕ) → (before after : Option Contents) → Type 0
-LeavesPart base name s answer traps before after =
-    (p : Program) (used_up : Import → Bool) (r : Ran) (c : Config) → IsOf s p → HasOutcome p used_up answer r.outcome → r.last ≡ Some c → KeepsThen p s.prepared.codes.items answer s.machine c
-    → OnTold (HoldPart (dumps_from base name traps (r ∷ []))) before after
-
-abbrev pub HasTrapped : RunEnd → Type 0
-HasTrapped answer = (kind : TrapKind) × (answer ≡ Trapped kind)
+abbrev pub LeavesPart : Tells → (collect : Bool) → (base name : List ℕ) → State → RunEnd → (collected : List CollectorCall) → (traps : ℕ) → (before after : Option Contents) → Type 0
+LeavesPart tell collect base name s answer collected traps before after =
+    (p : Program) (used_up : Import → Bool) (r : Ran) (c : Config) → CameTo p used_up answer s r.outcome c → (collect ≡ true → r.collected ≡ collected) → r.last ≡ Some c
+    → OnTold (HoldPart (dumps_from tell base name traps (r ∷ []))) before after

@@ -1,9 +1,12 @@
-use Rattle.std.proofs.Common.{◌≡◌, ◌≤◌, map, take, true, is_some}
+use Rattle.std.proofs.Common.{◌≡◌, ◌≤◌, List, map, take, true, is_some}
+use Rattle.wasm_syntax.specs.declared.host.CollectorCall.{CollectorCall}
 use Rattle.wasm_syntax.specs.Module.{Program}
 use Rattle.wasm_syntax.specs.Run.{engine}
-use Rattle.machine_hosted.specs.Settings.{HostKept}
 use Rattle.wasm_machine.specs.Instances.{IsOf}
-use Rattle.run_session.specs.Invocations.{invocation_of}
+use Rattle.run_collected.specs.Delivery.{Delivery, IsDelivery}
+use Rattle.run_session.specs.Telling.{tells}
+use Rattle.run_session.specs.Invocations.{invocation_of, depth_of}
+use Rattle.run_session.specs.inner.Collecting.{KeptBehind}
 use Rattle.run_session.specs.inner.Sessions.{SoFar}
 use Rattle.run_session.proofs.session.run_all.Given as goal
 
@@ -11,9 +14,9 @@ abbrev pub invariant-loop-index : goal.invariant-loop-index
 invariant-loop-index g l = record {
   ready : l.instance.ready ≡ true;
   same : l.instance.module_ ≡ l.fn.instance.module_;
-  host : HostKept g.H.HostSide.origin g.H.HostSide.collecting g.H.HostSide.serving g.H.HostSide.fault_count l.fn.hosts l.hosts;
+  host : KeptBehind g.H.HostSide.origin g.H.HostSide.collecting g.H.HostSide.serving g.H.HostSide.fault_count l.fn.words.collect l.fn.hosts l.hosts;
   traps : l.lines.traps ≤ l.index;
   telling : is_some (g.F.Files.told l.files) ≡ is_some (g.F.Files.told l.fn.files);
   later : g.F.Files.faults l.fn.files ≤ g.F.Files.faults l.files;
-  come : ((p : Program) → IsOf l.fn.instance p → SoFar (engine p (g.H.HostSide.collecting l.fn.hosts) l.fn.words.depth) l.fn.words.dump l.fn.words.name l.fn.instance l.instance (map invocation_of (take l.index l.invocations)) l.fn.words.fuel l.lines (g.H.HostSide.calls l.fn.hosts) (g.H.HostSide.calls l.hosts) (g.F.Files.told l.fn.files) (g.F.Files.told l.files));
+  come : ((deliver : List CollectorCall → Delivery) → IsDelivery deliver → (p : Program) → IsOf l.fn.instance p → SoFar (tells l.fn.words.collect deliver) (engine p l.fn.words.collect (depth_of l.fn.words)) l.fn.words.dump l.fn.words.name l.fn.instance l.instance (map invocation_of (take l.index l.invocations)) l.fn.words.fuel l.lines (g.H.HostSide.calls l.fn.hosts).served (g.H.HostSide.calls l.hosts).served (g.F.Files.told l.fn.files) (g.F.Files.told l.files));
 }
