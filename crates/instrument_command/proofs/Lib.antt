@@ -1,0 +1,7 @@
+pub mod HeldFiles
+mod WrittenFile
+mod Answering
+pub mod Stopping
+mod Promises
+pub mod Done
+pub mod OneAnswer

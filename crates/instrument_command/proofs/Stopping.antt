@@ -1,0 +1,76 @@
+-- What each step of the command leaves where it has no answer, from what the next one leaves.
+use Rattle.std.proofs.Common.{◌≡◌, ℕ, List, refl, sym, subst, ap, ◌∙◌, inl, inr, Option, Result, Ok, Err}
+use Rattle.std.specs.Prelude.{◌⊎◌}
+use Rattle.std.specs.declared.vec.Vec.{Vec}
+use Rattle.std.specs.Global.{Global}
+use Rattle.causes.specs.declared.NoMemory.{NoMemory as WantOfMemory}
+use Rattle.pm_outside.specs.Contents.{Contents}
+use Rattle.wasm_syntax.specs.declared.module.ModuleParts.{ModuleParts as Module}
+use Rattle.wasm_syntax.specs.declared.quantity.Quantity.TheVariants.{ModuleBytes}
+use Rattle.wasm_syntax.specs.Valid.{Valid}
+use Rattle.wasm_decode.specs.Decode.{module_from}
+use Rattle.wasm_validate.specs.Heights.{AllLow}
+use Rattle.command_answers.specs.Input.{IsInput, IfRefused}
+use Rattle.command_answers.specs.Inputs.{input_of}
+use Rattle.command_answers.specs.Texts.{file_fault}
+use Rattle.command_answers.specs.Told.{OnContents}
+use Rattle.command_answers.specs.declared.input.Input.{Input}
+use Rattle.command_answers.specs.declared.input.Input.TheVariants.{Whole, Refused}
+use Rattle.command_answers.specs.declared.outcome.Outcome.{Outcome}
+use Rattle.command_answers.specs.declared.status.Status.TheVariants as status
+use Rattle.run_session.specs.Stop.{Stop, no_memory, file_failed, OnStop}
+use Rattle.instrument_command.specs.Stops.{IsFailed, LeftInPart, InstrumentStops}
+use Rattle.instrument_command.specs.inner.Steps.{IsWant, ModuleStops, BytesStops}
+
+pub map_stop : (P Q : Stop → Type 0) (result : Result Outcome WantOfMemory) → ((stop : Stop) → P stop → Q stop) → OnStop P result → OnStop Q result
+map_stop P Q (Err e) go x = go no_memory x
+map_stop P Q (Ok o) go x = λ faulted. let k = x faulted in record { file = k.file; named = k.named; failed = go (file_failed k.file) k.failed; memory = go no_memory k.memory }
+
+-- ---- bytes
+
+pub bytes_stop : (out bytes : List ℕ) (m : Module) (old new : Option Contents) (result : Result Outcome WantOfMemory) → module_from bytes ≡ Ok m → Valid m → AllLow m
+    → OnStop (λ stop. ModuleStops stop out m old new) result → OnStop (λ stop. BytesStops stop out bytes old new) result
+bytes_stop out bytes m old new result decoded valid low x = map_stop (λ stop. ModuleStops stop out m old new) (λ stop. BytesStops stop out bytes old new) result go x
+  where
+    go : (stop : Stop) → ModuleStops stop out m old new → BytesStops stop out bytes old new
+    go stop (inl k) = inl k
+    go stop (inr (file, part)) = inr (m, decoded, valid, low, file, part)
+
+-- ---- the file
+
+want_of : (stop : Stop) (file : List ℕ) → IsWant stop → IsFailed stop file
+want_of no_memory file w = tt
+want_of (file_failed failed) file w = absurd w
+
+pub file_stop : (source out : List ℕ) (old mid new : Option Contents) (input : Input) (bytes : Vec ℕ Global) (spelled : List ℕ) (result : Result Outcome WantOfMemory) → mid ≡ old
+    → OnContents old (λ held. IsInput input (input_of ModuleBytes source (held source))) → input ≡ Whole bytes → spelled ≡ bytes.items
+    → OnStop (λ stop. BytesStops stop out spelled mid new) result → OnStop (λ stop. InstrumentStops stop source out old new) result
+file_stop source out old mid new input bytes spelled result same told is spells x = map_stop (λ stop. BytesStops stop out spelled mid new) (λ stop. InstrumentStops stop source out old new) result go x
+  where
+    k : OnContents old (λ held. IsInput (Whole bytes) (input_of ModuleBytes source (held source)))
+    k = subst (λ i. OnContents old (λ held. IsInput i (input_of ModuleBytes source (held source)))) is told
+
+    go : (stop : Stop) → BytesStops stop out spelled mid new → InstrumentStops stop source out old new
+    go stop (inl (kept, want)) = inl (kept ∙ same, want_of stop source want)
+    go stop (inr (m, decoded, valid, low, file, part)) = inr record {
+      file = file;
+      held = k.files;
+      may = k.may;
+      bytes = spelled;
+      read = k.holds ∙ ap Ok (sym spells);
+      taken = m;
+      decoded = decoded;
+      valid = valid;
+      low = low;
+      left = subst (λ t. LeftInPart out m t new) same part;
+    }
+
+-- the file was not read
+pub unread_stop : (source out : List ℕ) (old mid : Option Contents) (input : Input) (o : Outcome) (R : Type 0) → mid ≡ old → input ≡ Refused o
+    → IfRefused (λ o. o.status ≡ status.FileFault → (o ≡ file_fault source) × R) input → OnStop (λ stop. InstrumentStops stop source out old mid) (Ok o)
+unread_stop source out old mid input o R same is fault = λ faulted. record {
+  file = source;
+  named = ((subst (IfRefused (λ o. o.status ≡ status.FileFault → (o ≡ file_fault source) × R)) is fault) faulted).0;
+  failed = inl (same, refl);
+  memory = inl (same, tt);
+}

@@ -1,0 +1,87 @@
+-- A file that is made and filled, and what it means for the answer.
+use Rattle.std.proofs.Common.{◌≡◌, ℕ, List, [], ◌∷◌, refl, sym, subst, ap, ◌∙◌, inl, inr, Option, Some, None, Result, Ok, Err}
+use Rattle.std.specs.Prelude.{IfOk}
+use Rattle.std.proofs.lemmas.List.{append-nil}
+use Rattle.causes.specs.declared.NoMemory.{NoMemory}
+use Rattle.pm_outside.specs.Contents.{Contents, SameBut}
+use Rattle.pm_outside.specs.Answers.{Appends}
+use Rattle.pm_outside.specs.declared.answers.WriteAnswer.{WriteAnswer}
+use Rattle.pm_outside.specs.declared.answers.WriteAnswer.TheVariants as write
+use Rattle.wasm_syntax.specs.declared.module.ModuleParts.{ModuleParts as Module}
+use Rattle.dump_write.specs.Written.{OnTold, HasFile, Writes as Leaves}
+use Rattle.dump_write.proofs.Files.{file_more, piece_refused, same_told}
+use Rattle.rewrite_modules.specs.Weight.{weight}
+use Rattle.rewrite_promise.specs.Admitted.{Admits}
+use Rattle.rewrite_promise.proofs.Heights.{one_weight}
+use Rattle.instrument.specs.Refusal.{refusal}
+use Rattle.command_answers.specs.Texts.{file_fault}
+use Rattle.command_answers.specs.Told.{UnlessFault}
+use Rattle.command_answers.specs.declared.outcome.Outcome.{Outcome}
+use Rattle.command_answers.specs.declared.status.Status.TheVariants as status
+use Rattle.command_answers.proofs.Unless.{OnAnswer, on_all}
+use Rattle.run_session.specs.Stop.{Stop, no_memory, file_failed, OnStop}
+use Rattle.instrument_command.proofs.HeldFiles.{one_held, front_left}
+use Rattle.instrument_command.specs.InstrumentAnswer.{instrumented, Decides, ModuleAnswer}
+use Rattle.instrument_command.specs.Stops.{LeftInPart}
+use Rattle.instrument_command.specs.inner.Steps.{Rewrites, Weighs, IsAnswered, ModuleStops}
+
+-- ---- a file
+
+failed_not_done : write.Failed ≡ write.Done → ⊥
+failed_not_done e = absurd cc
+
+want_not_done : write.NoMemory ≡ write.Done → ⊥
+want_not_done e = absurd cc
+
+-- the bytes were added to a new file
+pub filled : (answer : WriteAnswer) (name bytes : List ℕ) (o m n : Contents) → HasFile name [] o m → Appends name bytes answer m n → Leaves name bytes answer o n
+filled write.Done name bytes o m n file one = file_more name [] bytes o m n file one
+filled write.Failed name bytes o m n file one = piece_refused write.Failed name [] bytes [] bytes o m n failed_not_done (sym (append-nil bytes)) file one
+filled write.NoMemory name bytes o m n file one = piece_refused write.NoMemory name [] bytes [] bytes o m n want_not_done (sym (append-nil bytes)) file one
+
+-- ---- the answer
+
+module _ (out : List ℕ) (m other : Module) (bytes : List ℕ) (old new : Option Contents) (r : Rewrites m other) (admits : Admits m bytes) where
+  -- the file was written
+  pub written : (o : Outcome) (w : ℕ) → Weighs m w → o ≡ instrumented w → OnTold (HasFile out bytes) old new → UnlessFault o.status (IsAnswered (λ writes. ModuleAnswer out writes m) old new o)
+  written o w weighs is files = on_all o.status (IsAnswered (λ writes. ModuleAnswer out writes m) old new o) record {
+    writes = (out, bytes) ∷ [];
+    answer = record {
+      heights = r.heights;
+      heights_are = r.heights_are;
+      decides = subst (λ f. Decides f out m (weight m r.heights) ((out, bytes) ∷ []) o) (sym r.no_cause)
+          (is ∙ ap instrumented (weighs.is ∙ one_weight m r.valid weighs.heights r.heights weighs.heights_are r.heights_are), (bytes, admits, refl));
+    };
+    files = one_held out bytes old new files;
+    unwritten = λ ne. absurd (ne (ap (λ (x : Outcome). x.status) is));
+  }
+
+  -- whatever writing the file answered
+  pub left : (answer : WriteAnswer) → OnTold (Leaves out bytes answer) old new → LeftInPart out m old new
+  left answer files = record {
+    heights = r.heights;
+    heights_are = r.heights_are;
+    no_cause = r.no_cause;
+    bytes = bytes;
+    admitted = admits;
+    files = front_left out bytes answer old new files;
+  }
+
+-- a fault that the answer names
+pub fault_stops : (out : List ℕ) (m : Module) (old new : Option Contents) (result : Result Outcome NoMemory) → LeftInPart out m old new → IfOk result (λ o. o ≡ file_fault out) → OnStop (λ stop. ModuleStops stop out m old new) result
+fault_stops out m old new (Err e) part is = inr (tt, part)
+fault_stops out m old new (Ok o) part is = λ faulted. record { file = out; named = is; failed = inr (refl, part); memory = inr (tt, part) }
+
+pub fault_answers : (P : Outcome → Type 0) (out : List ℕ) (result : Result Outcome NoMemory) → IfOk result (λ o. o ≡ file_fault out) → OnAnswer P result
+fault_answers P out (Err e) is = tt
+fault_answers P out (Ok o) is = subst (λ (x : Outcome). UnlessFault x.status (P o)) (sym is) tt
+
+-- ---- other files
+
+pub others_kept : (name bytes : List ℕ) (answer : WriteAnswer) (old new : Option Contents) → OnTold (Leaves name bytes answer) old new → OnTold (SameBut name) old new
+others_kept name bytes answer old new x = same_told (Leaves name bytes answer) (SameBut name) old new (λ o n. of answer o n) x
+  where
+    of : (a : WriteAnswer) (o n : Contents) → Leaves name bytes a o n → SameBut name o n
+    of write.Done o n k = k.1
+    of write.Failed o n k = k.1
+    of write.NoMemory o n k = k.1

@@ -1,0 +1,4 @@
+pub mod InstrumentAnswer
+pub mod Headline
+pub mod Stops
+pub mod inner

@@ -1,0 +1,116 @@
+//! The command on the module in a file.
+
+ghost use Rattle.std.specs.Prelude.{◌≡◌, ◌≢◌, ◌≤◌, ◌⊎◌, IfOk, is_some};
+ghost use Rattle.causes.specs.Counts.{Rose};
+ghost use Rattle.pm_outside.specs.Contents.{SameBut};
+ghost use Rattle.pm_outside.specs.Created.{with_name};
+ghost use Rattle.command_answers.specs.Loading.{IfLoaded};
+ghost use Rattle.command_answers.specs.Told.{UnlessFault};
+ghost use Rattle.dump_write.specs.Written.{OnTold};
+ghost use Rattle.instrument_command.specs.InstrumentAnswer.{AnsweredOn, ModuleAnswer};
+ghost use Rattle.instrument_command.specs.Stops.{InstrumentStops};
+ghost use Rattle.instrument_command.specs.inner.Steps.{BytesStops, IsAnswered, ModuleStops};
+ghost use Rattle.rewrite_sizes.specs.Light.{SmallOffsets};
+ghost use Rattle.run_session.specs.Stop.{OnStop};
+ghost use Rattle.wasm_decode.specs.Decode.{module_from};
+ghost use Rattle.wasm_sizes.specs.Sized.{Sized};
+ghost use Rattle.wasm_syntax.specs.Valid.{Valid};
+
+use crate::rewriting::{Rewritten, rewrite};
+use crate::writing::write_rewritten;
+use causes::NoMemory;
+use command_answers::{Input, Loaded, Outcome, Status, load, read_input};
+use pm_outside::Files;
+use std::alloc::Global;
+use wasm_syntax::Quantity;
+use wasm_validate::Validated;
+
+/// Rewrites a valid module into a file, or refuses it.
+fn instrument_valid<F: Files>(
+    alloc: Global,
+    files: &mut F,
+    source: &Validated,
+    out: &str,
+) -> Result<Outcome, NoMemory>
+    requires valid { Valid source.now }
+    requires sized { Sized source.now }
+    requires small { SmallOffsets source.now }
+    ensures told { IfOk result (λ o. UnlessFault o.status (IsAnswered
+        (λ writes. ModuleAnswer out.now writes source.now) (F.told files.old) (F.told files.new) o)) }
+    ensures stops { OnStop (λ stop.
+        ModuleStops stop out.now source.now (F.told files.old) (F.told files.new)) result }
+    ensures fault { IfOk result (λ o. o.status ≡ Status.FileFault
+        → Rose (F.faults files.old) (F.faults files.new)) }
+    ensures memory { IfOk result (λ o. o.status ≢ Status.NoMemory) }
+    ensures telling { is_some (F.told files.new) ≡ is_some (F.told files.old) }
+    ensures others { OnTold (SameBut out.now) (F.told files.old) (F.told files.new) }
+    ensures names { (F.created files.new ≡ F.created files.old)
+        ⊎ (F.created files.new ≡ with_name (F.created files.old) out.now) }
+    ensures later { F.faults files.old ≤ F.faults files.new }
+{
+    let rewritten = rewrite(alloc, source)?;
+    match rewritten {
+        Rewritten::Whole(other) => write_rewritten(alloc, files, source, &other, out),
+        Rewritten::Refused(refusal) => Ok(refusal),
+    }
+}
+
+/// Rewrites the module that the bytes spell into a file.
+fn instrument_bytes<F: Files>(
+    alloc: Global,
+    files: &mut F,
+    bytes: &[u8],
+    out: &str,
+) -> Result<Outcome, NoMemory>
+    ensures told { IfOk result (λ o. UnlessFault o.status (IsAnswered
+        (λ writes. IfLoaded (ModuleAnswer out.now writes) (module_from bytes.now))
+        (F.told files.old) (F.told files.new) o)) }
+    ensures stops { OnStop (λ stop.
+        BytesStops stop out.now bytes.now (F.told files.old) (F.told files.new)) result }
+    ensures fault { IfOk result (λ o. o.status ≡ Status.FileFault
+        → Rose (F.faults files.old) (F.faults files.new)) }
+    ensures memory { IfOk result (λ o. o.status ≢ Status.NoMemory) }
+    ensures telling { is_some (F.told files.new) ≡ is_some (F.told files.old) }
+    ensures others { OnTold (SameBut out.now) (F.told files.old) (F.told files.new) }
+    ensures names { (F.created files.new ≡ F.created files.old)
+        ⊎ (F.created files.new ≡ with_name (F.created files.old) out.now) }
+    ensures later { F.faults files.old ≤ F.faults files.new }
+{
+    let loaded = load(alloc, bytes)?;
+    match loaded {
+        Loaded::Valid(source) => instrument_valid(alloc, files, &source, out),
+        Loaded::TurnedDown(refusal) => Ok(refusal),
+    }
+}
+
+/// Rewrites the module in the file `source`, and writes what it is rewritten to under the name `out`. A file that faults is named in the
+/// answer.
+///
+/// # Errors
+///
+/// `NoMemory` where memory runs out.
+pub fn instrument_file<F: Files>(
+    alloc: Global,
+    files: &mut F,
+    source: &str,
+    out: &str,
+) -> Result<Outcome, NoMemory>
+    ensures told { IfOk result (λ o. UnlessFault o.status
+        (AnsweredOn source.now out.now (F.told files.old) (F.told files.new) o)) }
+    ensures stops { OnStop (λ stop.
+        InstrumentStops stop source.now out.now (F.told files.old) (F.told files.new)) result }
+    ensures fault { IfOk result (λ o. o.status ≡ Status.FileFault
+        → Rose (F.faults files.old) (F.faults files.new)) }
+    ensures memory { IfOk result (λ o. o.status ≢ Status.NoMemory) }
+    ensures telling { is_some (F.told files.new) ≡ is_some (F.told files.old) }
+    ensures others { OnTold (SameBut out.now) (F.told files.old) (F.told files.new) }
+    ensures names { (F.created files.new ≡ F.created files.old)
+        ⊎ (F.created files.new ≡ with_name (F.created files.old) out.now) }
+    ensures later { F.faults files.old ≤ F.faults files.new }
+{
+    let input = read_input(alloc, files, source, Quantity::ModuleBytes)?;
+    match input {
+        Input::Whole(bytes) => instrument_bytes(alloc, files, &bytes, out),
+        Input::Refused(refusal) => Ok(refusal),
+    }
+}

@@ -1,0 +1,103 @@
+//! A module that is rewritten, or why it is not, and its weight.
+
+ghost use Rattle.std.specs.Prelude.{◌≡◌, ◌≢◌, ◌++◌, IfOk, codes, ℕ};
+ghost use Rattle.std.specs.Fmt.{decimal};
+ghost use Rattle.command_answers.specs.Texts.{ended};
+ghost use Rattle.instrument_command.specs.InstrumentAnswer.{instrumented, refused};
+ghost use Rattle.instrument_command.specs.inner.Steps.{IfRefused, IsRewritten, Weighs};
+ghost use Rattle.rewrite_sizes.specs.Light.{SmallOffsets};
+ghost use Rattle.wasm_sizes.specs.Sized.{Sized};
+ghost use Rattle.wasm_syntax.specs.Valid.{Valid};
+
+use causes::NoMemory;
+use command_answers::{Outcome, Status, over_limit, push_number};
+use index_map::IndexMap;
+use instrument::InstrFault;
+use module_rewrite::instrument;
+use pm_text::Text;
+use rewrite_limits::weight;
+use std::alloc::Global;
+use wasm_syntax::Module;
+use wasm_validate::Validated;
+
+/// What a module is rewritten to, or what is answered in its place.
+#[derive(Drop)]
+pub enum Rewritten {
+    Whole(Module),
+    Refused(Outcome),
+}
+
+/// A line that ends with a number.
+fn counted(alloc: Global, status: Status, words: &str, number: u64) -> Result<Outcome, NoMemory>
+    ensures { IfOk result (λ o. o ≡ ended status (words.now ++ decimal number ++ codes "\n")) }
+{
+    let mut text = Text::new(alloc);
+    push_number(&mut text, words, number)?;
+    text.push_str("\n")?;
+    Ok(Outcome { status, text })
+}
+
+/// Why a module is not rewritten.
+fn refused(alloc: Global, fault: InstrFault) -> Result<Outcome, NoMemory>
+    ensures value { IfOk result (λ o. o ≡ refused fault) }
+    ensures memory { IfOk result (λ o. o.status ≢ Status.NoMemory) }
+    ensures fault { IfOk result (λ o. o.status ≢ Status.FileFault) }
+{
+    match fault {
+        InstrFault::ImportCollision { index } => {
+            counted(
+                alloc,
+                Status::Collision,
+                "collision: import ",
+                u64::from(index),
+            )
+        }
+        InstrFault::ExportCollision { index } => {
+            counted(
+                alloc,
+                Status::Collision,
+                "collision: export ",
+                u64::from(index),
+            )
+        }
+        InstrFault::Limit { what, count } => over_limit(alloc, what, count),
+        InstrFault::NoMemory => Err(NoMemory),
+    }
+}
+
+/// Rewrites a valid module, or refuses it for the first cause. The module's lengths are those of a spelling, and the offsets of its accesses
+/// are numbers of 32 bits.
+pub fn rewrite(alloc: Global, source: &Validated) -> Result<Rewritten, NoMemory>
+    requires valid { Valid source.now }
+    requires sized { Sized source.now }
+    requires small { SmallOffsets source.now }
+    ensures told { IfOk result (IsRewritten source.now) }
+    ensures fault { IfOk result (IfRefused (λ o. o.status ≢ Status.FileFault)) }
+    ensures memory { IfOk result (IfRefused (λ o. o.status ≢ Status.NoMemory)) }
+{
+    match instrument(alloc, source) {
+        Ok(other) => Ok(Rewritten::Whole(other)),
+        Err(fault) => {
+            let refusal = refused(alloc, fault)?;
+            Ok(Rewritten::Refused(refusal))
+        }
+    }
+}
+
+/// The weight of a valid module, whose lengths are those of a spelling.
+fn weight_of(alloc: Global, source: &Validated) -> Result<u64, NoMemory>
+    requires { Sized source.now }
+    ensures { IfOk result (Weighs source.now) }
+{
+    let numbers = IndexMap::new(alloc, source.module())?;
+    Ok(weight(&numbers, source.heights()))
+}
+
+/// The line that tells the weight of a module that was rewritten.
+pub(crate) fn weighed(alloc: Global, source: &Validated) -> Result<Outcome, NoMemory>
+    requires { Sized source.now }
+    ensures { IfOk result (λ o. (w : ℕ) × Weighs source.now w × (o ≡ instrumented w)) }
+{
+    let number = weight_of(alloc, source)?;
+    counted(alloc, Status::Done, "instrumented weight ", number)
+}

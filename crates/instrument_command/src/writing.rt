@@ -1,0 +1,88 @@
+//! What a module is rewritten to, as a file.
+
+ghost use Rattle.std.specs.Prelude.{◌≡◌, ◌≢◌, ◌≤◌, ◌⊎◌, IfOk, is_some};
+ghost use Rattle.causes.specs.Counts.{Rose};
+ghost use Rattle.pm_outside.specs.Contents.{SameBut};
+ghost use Rattle.pm_outside.specs.Created.{with_name};
+ghost use Rattle.command_answers.specs.Told.{UnlessFault};
+ghost use Rattle.dump_write.specs.Written.{OnTold, Writes};
+ghost use Rattle.instrument_command.specs.InstrumentAnswer.{ModuleAnswer};
+ghost use Rattle.instrument_command.specs.inner.Steps.{IsAnswered, ModuleStops, Rewrites};
+ghost use Rattle.rewrite_promise.specs.Admitted.{Admits};
+ghost use Rattle.run_session.specs.Stop.{OnStop};
+ghost use Rattle.wasm_bytes.specs.Laws.{IsBytes};
+ghost use Rattle.wasm_sizes.specs.Sized.{Sized};
+
+use crate::rewriting::weighed;
+use causes::NoMemory;
+use command_answers::{Outcome, Status, about_file};
+use pm_outside::{Files, WriteAnswer};
+use std::alloc::Global;
+use wasm_encode::encode;
+use wasm_syntax::Module;
+use wasm_validate::Validated;
+
+/// Makes a file of these bytes.
+pub fn write_file<F: Files>(files: &mut F, name: &str, bytes: &[u8]) -> WriteAnswer
+    ensures content { OnTold (Writes name.now bytes.now result) (F.told files.old) (F.told files.new) }
+    ensures telling { is_some (F.told files.new) ≡ is_some (F.told files.old) }
+    ensures others { OnTold (SameBut name.now) (F.told files.old) (F.told files.new) }
+    ensures names { (F.created files.new ≡ F.created files.old)
+        ⊎ (F.created files.new ≡ with_name (F.created files.old) name.now) }
+    ensures later { F.faults files.old ≤ F.faults files.new }
+    ensures failed { result ≡ WriteAnswer.Failed → Rose (F.faults files.old) (F.faults files.new) }
+{
+    match files.create(name) {
+        WriteAnswer::Done => files.append(name, bytes),
+        refused => refused,
+    }
+}
+
+/// What a slice of bytes is.
+fn are_bytes(bytes: &[u8])
+    ensures { IsBytes bytes.now }
+{
+    let _ = bytes;
+}
+
+/// The bytes of what a module is rewritten to.
+pub fn admitted_bytes(alloc: Global, source: &Validated, other: &Module) -> Result<Vec<u8>, NoMemory>
+    requires { Rewrites source.now other.now }
+    ensures { IfOk result (λ bytes. Admits source.now bytes.items) }
+{
+    let bytes = encode(alloc, other)?;
+    are_bytes(&bytes);
+    Ok(bytes)
+}
+
+/// Writes what a module is rewritten to, and tells the weight of the module.
+pub(crate) fn write_rewritten<F: Files>(
+    alloc: Global,
+    files: &mut F,
+    source: &Validated,
+    other: &Module,
+    out: &str,
+) -> Result<Outcome, NoMemory>
+    requires sized { Sized source.now }
+    requires rewrites { Rewrites source.now other.now }
+    ensures told { IfOk result (λ o. UnlessFault o.status (IsAnswered
+        (λ writes. ModuleAnswer out.now writes source.now) (F.told files.old) (F.told files.new) o)) }
+    ensures stops { OnStop (λ stop.
+        ModuleStops stop out.now source.now (F.told files.old) (F.told files.new)) result }
+    ensures fault { IfOk result (λ o. o.status ≡ Status.FileFault
+        → Rose (F.faults files.old) (F.faults files.new)) }
+    ensures memory { IfOk result (λ o. o.status ≢ Status.NoMemory) }
+    ensures telling { is_some (F.told files.new) ≡ is_some (F.told files.old) }
+    ensures others { OnTold (SameBut out.now) (F.told files.old) (F.told files.new) }
+    ensures names { (F.created files.new ≡ F.created files.old)
+        ⊎ (F.created files.new ≡ with_name (F.created files.old) out.now) }
+    ensures later { F.faults files.old ≤ F.faults files.new }
+{
+    let done = weighed(alloc, source)?;
+    let bytes = admitted_bytes(alloc, source, other)?;
+    match write_file(files, out, &bytes) {
+        WriteAnswer::Done => Ok(done),
+        WriteAnswer::Failed => about_file(alloc, Status::FileFault, "file fault: ", out),
+        WriteAnswer::NoMemory => Err(NoMemory),
+    }
+}
