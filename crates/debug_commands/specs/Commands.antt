@@ -50,3 +50,11 @@ command_of (w ∷ x ∷ y ∷ z ∷ more) = Bad
 
 unfoldable pub read_command : List ℕ → Command
 read_command text = command_of (slice_split (λ b. b == 32) text)
+
+-- the second one of the words of a text
+abbrev pub second_of : List (List ℕ) → List ℕ
+second_of (w ∷ x ∷ more) = x
+second_of words = []
+
+unfoldable pub second_word : List ℕ → List ℕ
+second_word text = second_of (slice_split (λ b. b == 32) text)

@@ -5,4 +5,4 @@ mod command;
 mod reading;
 
 pub use command::Command;
-pub use reading::read_command;
+pub use reading::{read_command, second_word};

@@ -2,7 +2,7 @@
 
 ghost use Rattle.std.specs.Prelude.{◌≡◌, ◌∷◌, ◌==◌};
 ghost use Rattle.std.specs.List.{slice_split};
-ghost use Rattle.debug_commands.specs.Commands.{one_word as one_word_there, frame as frame_there, two_words as two_words_there, examine as examine_there, three_words as three_words_there, command_of, read_command as command_there};
+ghost use Rattle.debug_commands.specs.Commands.{one_word as one_word_there, frame as frame_there, two_words as two_words_there, examine as examine_there, three_words as three_words_there, command_of, read_command as command_there, second_word as second_there};
 ghost use Rattle.debug_commands.specs.inner.Words.{words_behind};
 
 use crate::command::Command;
@@ -114,5 +114,17 @@ pub fn read_command(text: &str) -> Command
     match rest {
         None => one_word(word),
         Some(rest) => with_second(word, rest),
+    }
+}
+
+/// The second word of a text, as the path of `print`; empty where there is none.
+#[tactic(auto, unfolding(crate::specs::Commands::second_word))]
+pub fn second_word(text: &str) -> &str
+    ensures { result.now ≡ second_there text.now }
+{
+    let (_, rest) = first_word(text);
+    match rest {
+        Some(rest) => first_word(rest).0,
+        None => "",
     }
 }

@@ -6,6 +6,14 @@ mod cases;
 #[cfg(test)]
 mod command_tests;
 #[cfg(test)]
+mod listing_tests;
+#[cfg(test)]
 mod match_tests;
 #[cfg(test)]
+mod session_tests;
+#[cfg(test)]
+mod sources;
+#[cfg(test)]
 mod stack_tests;
+#[cfg(test)]
+mod word_tests;

@@ -6,7 +6,7 @@ use crate::cases::{
     TABLE, TABLE_DUMP, valid,
 };
 use dump_format::decode_dump;
-use dump_match::{Mismatch, matches};
+use dump_match::{Mismatch, matches, matches_state};
 use std::alloc::Global;
 use wasm_validate::Validated;
 
@@ -38,9 +38,31 @@ fn is_judged(alloc: Global, m: &Validated, dump: &[u8], expected: Option<Mismatc
     }
 }
 
+fn is_judged_as_state(
+    alloc: Global,
+    m: &Validated,
+    dump: &[u8],
+    expected: Option<Mismatch>,
+) -> bool {
+    match decode_dump(alloc, dump) {
+        Ok(dump) => match matches_state(m, &dump) {
+            Ok(_) => expected.is_none(),
+            Err(found) => expected == Some(found),
+        },
+        Err(_) => false,
+    }
+}
+
 fn holds(alloc: Global, row: &Row<'_>) -> bool {
     match (valid(alloc, row.0), changed(alloc, row.1, row.2)) {
         (Some(m), Some(dump)) => is_judged(alloc, &m, dump.as_slice(), row.3),
+        _ => false,
+    }
+}
+
+fn holds_as_state(alloc: Global, row: &Row<'_>) -> bool {
+    match (valid(alloc, row.0), changed(alloc, row.1, row.2)) {
+        (Some(m), Some(dump)) => is_judged_as_state(alloc, &m, dump.as_slice(), row.3),
         _ => false,
     }
 }
@@ -227,6 +249,38 @@ const FRAMES: [Row<'static>; 26] = [
     ),
 ];
 
+/// The innermost frame may stand at an `else` or `end`, with any operands; the others may not.
+const STATES: [Row<'static>; 8] = [
+    (&DIVISION, &DIVISION_DUMP, &[], None),
+    (&DIVISION, &DIVISION_DUMP, &[(77, 6)], None),
+    (&DIVISION, &DIVISION_DUMP, &[(77, 6), (84, 0x7e)], None),
+    (
+        &DIVISION,
+        &DIVISION_DUMP,
+        &[(77, 6), (79, 0x7e)],
+        Some(Mismatch::Locals { frame: INNERMOST }),
+    ),
+    (
+        &DIVISION,
+        &DIVISION_DUMP,
+        &[(77, 4)],
+        Some(Mismatch::Offset { frame: INNERMOST }),
+    ),
+    (
+        &DIVISION,
+        &DIVISION_DUMP,
+        &[(77, 3)],
+        Some(Mismatch::Operands { frame: INNERMOST }),
+    ),
+    (&CALLS, &CALLS_DUMP, &[(77, 11)], None),
+    (
+        &CALLS,
+        &CALLS_DUMP,
+        &[(87, 11)],
+        Some(Mismatch::Offset { frame: CALLER }),
+    ),
+];
+
 #[test]
 fn instances_memories_and_globals(rt: HostRuntime) {
     assert!(rt; all_hold(rt.alloc(), &WHOLE));
@@ -235,4 +289,14 @@ fn instances_memories_and_globals(rt: HostRuntime) {
 #[test]
 fn frames(rt: HostRuntime) {
     assert!(rt; all_hold(rt.alloc(), &FRAMES));
+}
+
+#[test]
+fn states(rt: HostRuntime) {
+    let alloc = rt.alloc();
+    let mut all = true;
+    for row in &STATES {
+        all = all && holds_as_state(alloc, row);
+    }
+    assert!(rt; all);
 }

@@ -1,0 +1,5 @@
+pub mod Printed
+pub mod Answers
+pub mod Judged
+pub mod OneDebug
+pub mod Held

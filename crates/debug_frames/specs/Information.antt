@@ -1,0 +1,17 @@
+-- What the bytes of a module say of its source.
+use Rattle.std.specs.Prelude.{ℕ, List}
+use Rattle.wasm_syntax.specs.declared.parts.Custom.{Custom}
+use Rattle.wasm_decode.specs.Names.{Named, names_from}
+use Rattle.dwarf_info.specs.Sections.{SectionBytes5}
+use Rattle.dwarf5_info.specs.Version5.{units5}
+use Rattle.debug_frames.specs.declared.information.Information.{Information}
+use Rattle.debug_frames.specs.Sections.{sections_of}
+use Rattle.debug_frames.specs.Programs.{programs_of}
+
+-- what sections of debugging information say, beside names of functions
+abbrev pub said : SectionBytes5 → List Named → Information
+said s names = record { sections = s; units = units5 s; programs = programs_of s (units5 s); names = names }
+
+-- by its custom sections
+unfoldable pub information : List ℕ → List Custom → Information
+information bytes customs = said (sections_of bytes customs) (names_from bytes customs)

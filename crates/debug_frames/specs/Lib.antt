@@ -1,0 +1,6 @@
+pub mod Sections
+pub mod Programs
+pub mod Files
+pub mod Information
+pub mod Frames
+pub mod Unreadable

@@ -1,0 +1,184 @@
+//! The lines that show a frame.
+
+ghost use Rattle.std.specs.Prelude.{◌≡◌, ◌++◌, List, ℕ, None, OnOk, option_copied};
+ghost use Rattle.debug_frames.specs.Frames as definitions;
+
+use crate::address::address_of;
+use crate::information::Information;
+use crate::places::push_place_behind;
+use causes::NoMemory;
+use command_answers::push_number;
+use dump_format::Frame;
+use dwarf_entries::{Standing, name_of};
+use dwarf_scopes::{inlined_at, subprogram_at};
+use pm_text::Text;
+use std::alloc::Global;
+use wasm_syntax::ModuleParts;
+
+/// Adds a name, or `?` where there is none.
+fn push_name(out: &mut Text, name: Option<&[u8]>) -> Result<(), NoMemory>
+    ensures { OnOk result (out.new ≡ out.old ++ definitions.name_or_mark (option_copied name.entry)) }
+{
+    match name {
+        Some(name) => out.push_plain(name),
+        None => out.push_str("?"),
+    }
+}
+
+/// The name of the subprogram at an address.
+fn name_within<'r, 'a>(information: &'r Information<'a>, address: u32) -> Option<&'a [u8]>
+    ensures { option_copied result ≡ definitions.name_within information.now.units
+        (definitions.subprogram_there information.now address) }
+{
+    let subprogram = subprogram_at(&information.sections, information.units.as_slice(), address)?;
+    name_of(&information.units, subprogram.entry().attributes.as_slice())
+}
+
+/// The name of the function that stands at an address.
+fn name_at<'r, 'a>(
+    information: &'r Information<'a>,
+    address: u32,
+    function: u32,
+) -> Option<&'r [u8]>
+    ensures { option_copied result ≡ definitions.name_at information.now address function }
+{
+    if let Some(name) = name_within(information, address) {
+        return Some(name);
+    }
+    match information.names.get(function) {
+        Some(name) => Some(name.as_bytes()),
+        None => None,
+    }
+}
+
+#[tactic(auto, unfolding(crate::specs::Frames::function_text))]
+fn push_function(
+    out: &mut Text,
+    information: &Information<'_>,
+    address: u32,
+    frame: &Frame,
+) -> Result<(), NoMemory>
+    ensures { OnOk result (out.new
+        ≡ out.old ++ definitions.function_text information.now address frame.now) }
+{
+    push_name(out, name_at(information, address, frame.function))?;
+    push_number(out, " (function ", u64::from(frame.function))?;
+    push_number(out, " offset ", u64::from(frame.offset))?;
+    out.push_str(")")
+}
+
+#[tactic(auto, unfolding(crate::specs::Frames::inlined_text))]
+fn push_inlined(
+    out: &mut Text,
+    information: &Information<'_>,
+    standing: &Standing<'_, '_>,
+) -> Result<(), NoMemory>
+    ensures { OnOk result (out.new ≡ out.old ++ definitions.inlined_text information.now standing.now) }
+{
+    out.push_str("inlined ")?;
+    let attributes = standing.entry().attributes.as_slice();
+    push_name(out, name_of(&information.units, attributes))
+}
+
+/// Adds what each line of the frame of an index begins with.
+fn push_index(out: &mut Text, index: u64) -> Result<(), NoMemory>
+    ensures { OnOk result (out.new ≡ out.old ++ definitions.index_text index) }
+{
+    push_number(out, "#", index)?;
+    out.push_str(" ")
+}
+
+/// Adds the line of an inlined subroutine, behind that of another one, if there is one.
+#[tactic(auto, unfolding(crate::specs::Frames::line))]
+fn push_inlined_line(
+    out: &mut Text,
+    alloc: Global,
+    information: &Information<'_>,
+    index: u64,
+    address: u32,
+    before: Option<&Standing<'_, '_>>,
+    standing: &Standing<'_, '_>,
+) -> Result<(), NoMemory>
+    ensures { OnOk result (out.new ≡ out.old ++ definitions.line index
+        (definitions.inlined_text information.now standing.now)
+        (definitions.place_behind information.now address (option_copied before.entry))) }
+{
+    push_index(out, index)?;
+    push_inlined(out, information, standing)?;
+    push_place_behind(out, alloc, information, address, before)?;
+    out.push_str("\n")
+}
+
+/// Adds the line of the function, behind that of an inlined subroutine, if there is one.
+#[tactic(auto, unfolding(crate::specs::Frames::line))]
+fn push_function_line(
+    out: &mut Text,
+    alloc: Global,
+    information: &Information<'_>,
+    index: u64,
+    address: u32,
+    before: Option<&Standing<'_, '_>>,
+    frame: &Frame,
+) -> Result<(), NoMemory>
+    ensures { OnOk result (out.new ≡ out.old ++ definitions.line index
+        (definitions.function_text information.now address frame.now)
+        (definitions.place_behind information.now address (option_copied before.entry))) }
+{
+    push_index(out, index)?;
+    push_function(out, information, address, frame)?;
+    push_place_behind(out, alloc, information, address, before)?;
+    out.push_str("\n")
+}
+
+/// Adds the lines of the inlined subroutines that hold an address, and the line of the function behind them.
+fn push_lines(
+    out: &mut Text,
+    alloc: Global,
+    information: &Information<'_>,
+    index: u64,
+    address: u32,
+    frame: &Frame,
+    inlined: &[Standing<'_, '_>],
+) -> Result<(), NoMemory>
+    ensures { OnOk result (out.new ≡ out.old ++ definitions.lines_behind information.now index
+        address frame.now None inlined.now) }
+{
+    let mut before = None;
+    for standing in inlined {
+        push_inlined_line(out, alloc, information, index, address, before, standing)?;
+        before = Some(standing);
+    }
+    push_function_line(out, alloc, information, index, address, before, frame)
+}
+
+/// Adds the lines of a frame by its index: one for each inlined subroutine that holds its address, the innermost first, and one for its
+/// function, each with its place in the source where it is known.
+#[tactic(auto, unfolding(crate::specs::Frames::frame_text))]
+pub fn push_frame(
+    out: &mut Text,
+    alloc: Global,
+    information: &Information<'_>,
+    m: &ModuleParts,
+    index: u64,
+    frame: &Frame,
+) -> Result<(), NoMemory>
+    ensures { OnOk result (out.new
+        ≡ out.old ++ definitions.frame_text information.now m.now index frame.now) }
+{
+    let address = address_of(m, frame);
+    let inlined = inlined_at(
+        alloc,
+        &information.sections,
+        information.units.as_slice(),
+        address,
+    )?;
+    push_lines(
+        out,
+        alloc,
+        information,
+        index,
+        address,
+        frame,
+        inlined.as_slice(),
+    )
+}

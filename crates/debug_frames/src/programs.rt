@@ -1,0 +1,170 @@
+//! The line programs that units name (DWARF 4 and 5 section 6.2).
+
+ghost use Rattle.std.specs.Prelude.{◌≡◌, [], IfOk, OnOk, option_copied};
+ghost use Rattle.debug_frames.specs.Programs as definitions;
+
+use causes::NoMemory;
+use dwarf_bytes::ReadFault;
+use dwarf_entries::names::STMT_LIST;
+use dwarf_entries::offset;
+use dwarf_info::{Entry, Sections5, UnitAnswer};
+use dwarf_line::{Lines, Row};
+use dwarf5_line::read_lines5;
+use indexmap::IndexMap;
+use std::alloc::Global;
+use std::marker::Model;
+
+/// What stands at an offset of `.debug_line`.
+#[derive(Drop)]
+pub enum Program<'a> {
+    Read(Lines<'a>),
+    Unreadable,
+}
+
+/// A row, with the program whose files it counts.
+#[derive(Drop)]
+pub struct Located<'r, 'a> {
+    pub lines: &'r Lines<'a>,
+    pub row: Row,
+}
+
+impl<'r, 'a> Model for Located<'r, 'a> {
+    ghost use Rattle.dwarf_line.specs.Place.{Located};
+
+    ghost Value = { Located };
+
+    ghost view = { λ x. record { lines = x.lines.now; row = x.row } };
+}
+
+/// The line programs that units name, by their offsets in `.debug_line`. Contracts see them as pairs, each where it is named first.
+#[derive(Drop)]
+pub struct Programs<'a> {
+    programs: IndexMap<u32, Program<'a>>,
+}
+
+impl<'a> Model for Programs<'a> {
+    ghost use Rattle.std.specs.Prelude.{ℕ, List};
+    ghost use Rattle.debug_frames.specs.declared.programs.Program.{Program};
+
+    ghost Value = { List (ℕ × Program) };
+
+    ghost view = { λ p. p.programs.entries };
+}
+
+/// What stands at an offset of `.debug_line`.
+fn program_there<'a>(
+    alloc: Global,
+    sections: &Sections5<'a>,
+    at: u32,
+) -> Result<Program<'a>, NoMemory>
+    ensures { IfOk result (λ program. program ≡ definitions.program_there sections.now at) }
+{
+    match read_lines5(alloc, sections, at as usize) {
+        Ok(lines) => Ok(Program::Read(lines)),
+        Err(ReadFault::Unreadable { at: _ }) => Ok(Program::Unreadable),
+        Err(ReadFault::NoMemory) => Err(NoMemory),
+    }
+}
+
+/// The offset of the line program that the root of these entries names.
+pub fn named_by(entries: &[Entry<'_>]) -> Option<u32>
+    ensures { result ≡ definitions.named_by entries.now }
+{
+    match entries.first() {
+        Some(root) => offset(root.attributes.as_slice(), STMT_LIST),
+        None => None,
+    }
+}
+
+/// The offset of the line program that a unit names.
+pub fn named(answer: &UnitAnswer<'_>) -> Option<u32>
+    ensures { result ≡ definitions.named answer.now }
+{
+    match answer {
+        UnitAnswer::Tree(unit) => named_by(unit.entries.as_slice()),
+        UnitAnswer::Unreadable { section: _, at: _ } => None,
+    }
+}
+
+fn row_in<'r, 'a>(lines: &'r Lines<'a>, address: u32) -> Option<Located<'r, 'a>>
+    ensures { result ≡ definitions.located lines.now address }
+{
+    match lines.place(address) {
+        Some(row) => Some(Located { lines, row }),
+        None => None,
+    }
+}
+
+fn located_in<'r, 'a>(program: &'r Program<'a>, address: u32) -> Option<Located<'r, 'a>>
+    ensures { result ≡ definitions.located_in program.now address }
+{
+    match program {
+        Program::Read(lines) => row_in(lines, address),
+        Program::Unreadable => None,
+    }
+}
+
+impl<'a> Programs<'a> {
+    /// No programs.
+    fn new(alloc: Global) -> Self
+        ensures { result ≡ [] }
+    {
+        Programs {
+            programs: IndexMap::new(alloc),
+        }
+    }
+
+    /// Reads the program at an offset, where it was not read before.
+    fn add(
+        &mut self,
+        alloc: Global,
+        sections: &Sections5<'a>,
+        at: Option<u32>,
+    ) -> Result<(), NoMemory>
+        ensures { OnOk result (self.new ≡ definitions.with_program sections.now self.old at) }
+    {
+        let Some(at) = at else {
+            return Ok(());
+        };
+        if self.programs.get(&at).is_none() {
+            let program = program_there(alloc, sections, at)?;
+            self.programs.insert(at, program)?;
+        }
+        Ok(())
+    }
+
+    /// The line programs that units name.
+    #[tactic(auto, unfolding(crate::specs::Programs::programs_of))]
+    pub fn of(
+        alloc: Global,
+        sections: &Sections5<'a>,
+        units: &[UnitAnswer<'a>],
+    ) -> Result<Self, NoMemory>
+        ensures { IfOk result (λ programs. programs ≡ definitions.programs_of sections.now units.now) }
+    {
+        let mut programs = Programs::new(alloc);
+        for answer in units {
+            programs.add(alloc, sections, named(answer))?;
+        }
+        Ok(programs)
+    }
+
+    /// What stands at an offset that a unit names.
+    pub fn get(&self, at: u32) -> Option<&Program<'a>>
+        ensures { option_copied result ≡ definitions.program_at self.now at }
+    {
+        self.programs.get(&at)
+    }
+
+    /// The row of a code address: of the first program that has one.
+    pub fn located(&self, address: u32) -> Option<Located<'_, 'a>>
+        ensures { result ≡ definitions.located_at self.now address }
+    {
+        for (_, program) in self.programs.iter() {
+            if let Some(located) = located_in(program, address) {
+                return Some(located);
+            }
+        }
+        None
+    }
+}

@@ -1,0 +1,58 @@
+-- The sizes of what a session stands on.
+use Rattle.std.proofs.Common.{◌≡◌, ◌≢◌, ℕ, ◌<◌, ◌≤◌, Bool, true, false, List, [], ◌∷◌, length, Option, Some, None, Result, Ok, Err, refl, sym, ap, subst, ◌∙◌, arith}
+use Rattle.std.proofs.lemmas.Bool.{ltb-false}
+use Rattle.std.specs.Prelude.{nat_lt, min, unwrap_or, slice_get, option_map, IfSome, if◌then◌else◌}
+use Rattle.wasm_syntax.specs.declared.quantity.Quantity.TheVariants.{ModuleBytes}
+use Rattle.wasm_syntax.specs.declared.parts.Limits.{Limits}
+use Rattle.wasm_syntax.specs.declared.module.ModuleParts.{ModuleParts as Module}
+use Rattle.wasm_syntax.specs.Quantity.{greatest}
+use Rattle.wasm_bytes.specs.Reading.{whole}
+use Rattle.wasm_format.specs.Sections.{module_item}
+use Rattle.wasm_decode.specs.declared.fault.DecodeFault.{DecodeFault}
+use Rattle.wasm_decode.specs.declared.fault.DecodeFault.TheVariants.{Limit}
+use Rattle.wasm_decode.specs.Decode.{module_from, judged_read}
+use Rattle.dump_format.specs.declared.dump.Dump.{Dump}
+use Rattle.dump_format.specs.declared.dump.Instance.{Instance}
+use Rattle.dump_format.specs.Region.{Region}
+use Rattle.dump_match.specs.declared.mismatch.Mismatch.TheVariants as rows
+use Rattle.dump_match.specs.Matching.{Matches, MemoryFits}
+use Rattle.debug_recorded.specs.Recorded.{laid_memory, memory_in, memory_among, recorded_memory}
+use Rattle.debug_subject.specs.Subject.{Spells}
+
+-- ---- bytes that spell a module
+
+by_length : (most n : ℕ) (e : DecodeFault) (r : Result Module DecodeFault) (m : Module) (b : Bool) → nat_lt most n ≡ b → (if b then Err e else r) ≡ Ok m → n ≤ most
+by_length most n e r m true q is = absurd (cc)
+by_length most n e r m false q is = ltb-false most n q
+
+pub short_bytes : (bytes : List ℕ) (m : Module) → Spells bytes m → length bytes ≤ 134217728
+unfolding module_from
+short_bytes bytes m e = by_length (greatest ModuleBytes) (length bytes) (Limit ModuleBytes (length bytes)) (judged_read (whole module_item bytes)) m (nat_lt (greatest ModuleBytes) (length bytes)) refl e
+
+-- ---- the recorded memory
+
+small_laid : (segments : List Region) (o : Option ℕ) → ((pages : ℕ) → o ≡ Some pages → pages ≤ 4096) → IfSome (option_map (λ pages. laid_memory pages segments) o) (λ m. m.max ≤ 4096)
+small_laid segments None h = tt
+small_laid segments (Some pages) h = h pages refl
+
+some_is : {A : Type 0} {x y : A} → Some x ≡ Some y → x ≡ y
+some_is e = cc
+
+small_in : (m : Module) (dump : Dump) (one : Instance) (memories : List ℕ) → one.memories ≡ memories → MemoryFits m dump one → IfSome (memory_in dump memories) (λ m. m.max ≤ 4096)
+small_in m dump one [] e fits = tt
+small_in m dump one (i ∷ more) e fits = small_laid dump.segments dump.memory few
+  where
+    not_empty : one.memories ≡ [] → ⊥
+    not_empty none = let z : i ∷ more ≡ [] = sym e ∙ none in cc
+
+    few : (pages : ℕ) → dump.memory ≡ Some pages → pages ≤ 4096
+    few pages is =
+        let x = fits not_empty in
+        let same : x.1 ≡ pages = some_is (sym x.3 ∙ is) in
+        omega (arith, x.5, same)
+
+pub small_memory : (m : Module) (dump : Dump) → Matches m dump → IfSome (recorded_memory dump) (λ m. m.max ≤ 4096)
+unfolding recorded_memory
+small_memory m dump h =
+    let x = h rows.Memory in
+    subst (λ (is : List Instance). IfSome (memory_among dump is) (λ m. m.max ≤ 4096)) (sym x.1) (small_in m dump x.0 x.0.memories refl x.2)

@@ -1,0 +1,77 @@
+//! A session of commands.
+
+ghost use Rattle.std.specs.Prelude.{◌≡◌, IfOk, slice_get};
+ghost use Rattle.debug_subject.specs.Subject.{subject_of, Spells};
+ghost use Rattle.debugger.specs.Session.{chosen_of, chosen_behind};
+ghost use Rattle.debugger.specs.Sitting.{sitting, Answers};
+
+use crate::answers::answer;
+use causes::NoMemory;
+use debug_commands::{Command, read_command};
+use debug_subject::Subject;
+use dump_match::Matched;
+use pm_text::Text;
+use std::alloc::Global;
+use std::marker::Model;
+
+/// A session on a module and a dump that can be one of it. Frame 0 is chosen at first.
+#[derive(Drop)]
+pub struct Session<'a, 'm, 'd, 'b> {
+    subject: Subject<'a, 'm, 'd, 'b>,
+    chosen: u32,
+}
+
+impl<'a, 'm, 'd, 'b> Model for Session<'a, 'm, 'd, 'b> {
+    ghost use Rattle.debugger.specs.Sitting.{Sitting, sitting};
+
+    ghost Value = { Sitting };
+
+    ghost view = { λ s. sitting s.subject s.chosen };
+}
+
+/// The frame that is chosen behind a command.
+fn chosen_behind(subject: &Subject<'_, '_, '_, '_>, chosen: u32, command: Command) -> u32
+    ensures { result ≡ chosen_behind subject.now chosen command }
+{
+    match command {
+        Command::Frame { number } => chosen_of(subject, chosen, number),
+        _ => chosen,
+    }
+}
+
+/// The frame of a number, where it is there, else the one that was chosen.
+fn chosen_of(subject: &Subject<'_, '_, '_, '_>, chosen: u32, number: u64) -> u32
+    ensures { result ≡ chosen_of chosen number (slice_get subject.now.dump.frames number) }
+{
+    if number < subject.dump().frames.len() as u64 {
+        number as u32
+    } else {
+        chosen
+    }
+}
+
+impl<'a, 'm, 'd, 'b> Session<'a, 'm, 'd, 'b> {
+    /// A session on the module that these bytes spell, and a dump that can be one of it. Debugging information is read once,
+    /// here.
+    pub fn new(
+        alloc: Global,
+        bytes: &'a [u8],
+        matched: Matched<'m, 'd, 'b>,
+    ) -> Result<Self, NoMemory>
+        requires { Spells bytes.now matched.module_ }
+        ensures { IfOk result (λ s. s ≡ sitting (subject_of bytes.now matched.entry) 0) }
+    {
+        let subject = Subject::new(alloc, bytes, matched)?;
+        Ok(Session { subject, chosen: 0 })
+    }
+
+    /// The text that a command prints. Where memory runs out the session is unchanged.
+    pub fn command(&mut self, alloc: Global, text: &str) -> Result<Text, NoMemory>
+        ensures { Answers self.old text.now result self.new }
+    {
+        let command = read_command(text);
+        let printed = answer(alloc, &self.subject, self.chosen, text, command)?;
+        self.chosen = chosen_behind(&self.subject, self.chosen, command);
+        Ok(printed)
+    }
+}

@@ -1,0 +1,6 @@
+//! What commands answer where a dump is refused.
+#![tactic(auto)]
+
+mod refused;
+
+pub use refused::refused_dump;
