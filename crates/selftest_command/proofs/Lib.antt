@@ -1,0 +1,4 @@
+pub mod Imports
+pub mod Runs
+pub mod Files
+pub mod Steps

@@ -1,0 +1,289 @@
+-- What the run of a module comes to, from what its parts ensure.
+use Rattle.std.proofs.Common.{◌≡◌, ℕ, zero, suc, slice_get, is_some, inl, inr, ◌-◌, Bool, true, false, List, [], ◌∷◌, ◌++◌, length, map, take, refl, sym, ap, ap₂, subst, ◌∙◌, arith, Option, Some, None, Result, Ok, Err}
+use Rattle.std.specs.Prelude.{codes, IfOk, option_map, if◌then◌else◌, ◌⊎◌}
+use Rattle.linear_memory.specs.Paged.{Paged}
+use Rattle.wasm_syntax.specs.declared.value.Value.{Value}
+use Rattle.wasm_syntax.specs.declared.parts.FuncType.{FuncType}
+use Rattle.wasm_syntax.specs.declared.parts.Import.{Import}
+use Rattle.wasm_syntax.specs.declared.host.Reply.{Reply}
+use Rattle.wasm_syntax.specs.declared.host.Served.{Served}
+use Rattle.wasm_syntax.specs.declared.host.CollectorCall.{CollectorCall}
+use Rattle.wasm_syntax.specs.declared.module.ModuleParts.{ModuleParts as Module}
+use Rattle.wasm_syntax.specs.Module.{Program, IsModule, function_export, type_at, same_types}
+use Rattle.wasm_syntax.specs.Numbers.{types}
+use Rattle.wasm_syntax.specs.Machine.{Config, Engine}
+use Rattle.wasm_syntax.specs.Run.{first_false, Cause, no_export, bad_arguments, cause_of_segments, cause_of_entry, cause_of, or_else, if_fits, Ran, not_begun, session, start_world, unless, engine}
+use Rattle.machine_code.specs.declared.code.Code.{Code}
+use Rattle.machine_steps.specs.declared.machine.Machine.{Machine}
+use Rattle.machine_steps.specs.Meets.{Shares}
+use Rattle.host_devices.specs.HostSides.{Calls, Origin}
+use Rattle.host_devices.specs.Given.{replies_of}
+use Rattle.host_set.specs.Sets.{DeviceState, names, is_named}
+use Rattle.host_set.specs.Hosting.{HostsState, origin_of, calls_of, of_script, serves as hosts_serve, replies_of as script_replies}
+use Rattle.host_collector.specs.Collecting.{CollectingState, is_told, is_collected, serves}
+use Rattle.machine_hosted.specs.declared.answer.RunEnd.{RunEnd}
+use Rattle.machine_hosted.specs.declared.answer.RunEnd.TheVariants.{Finished, Trapped, NoReply, BadReply, DeviceFault, FuelSpent, NoMemory}
+use Rattle.machine_hosted.specs.Answers.{KeepsThen, AdmitsReplies, given_steps}
+use Rattle.machine_hosted.specs.Settings.{Knows, world_of}
+use Rattle.wasm_machine.specs.Entries.{fault_or, unserved, first_unserved, is_served, serves_type, entry_fault}
+use Rattle.wasm_machine.specs.Instances.{State, IsNew, IsOf, Invoked}
+use Rattle.wasm_machine.specs.Sessions.{HadMemory}
+use Rattle.wasm_machine.specs.declared.entries.EntryFault.{EntryFault}
+use Rattle.wasm_machine.specs.declared.entries.EntryFault.TheVariants.{NoExport, BadArguments}
+use Rattle.wasm_machine.proofs.SessionLaws.{goes_on_behind}
+use Rattle.dump_image.specs.Pictured.{bytes_in}
+use Rattle.command_answers.specs.declared.outcome.Outcome.{Outcome}
+use Rattle.run_collected.specs.Delivery.{Delivery, nothing, Delivers}
+use Rattle.run_collected.specs.Told.{IsHanded}
+use Rattle.run_collected.specs.declared.handed.Handed.{Handed}
+use Rattle.causes.specs.declared.NoMemory.{NoMemory as WantOfMemory}
+use Rattle.run_session.specs.Telling.{memory_in}
+use Rattle.selftest_command.specs.Summary.{main_on, fuel, depth, dumped, summary}
+use Rattle.selftest_command.specs.SelftestAnswer.{Runs}
+use Rattle.selftest_command.specs.inner.Steps.{collected_alone, IsCollected}
+
+-- ---- why nothing is run
+
+-- an entry has no cause that names a segment
+entry_causes : (m : Module) (args : List Value) (export : Option ℕ) → (cause_of_entry m export args ≡ None) ⊎ ((cause_of_entry m export args ≡ Some no_export) ⊎ (cause_of_entry m export args ≡ Some bad_arguments))
+entry_causes m args None = inr (inl refl)
+entry_causes m args (Some f) = by_test (option_map (λ (type : FuncType). same_types type.params (types args)) (type_at m f))
+  where
+    by_test : (o : Option Bool) → (if_fits o ≡ None) ⊎ ((if_fits o ≡ Some no_export) ⊎ (if_fits o ≡ Some bad_arguments))
+    by_test None = inr (inr refl)
+    by_test (Some true) = inl refl
+    by_test (Some false) = inr (inr refl)
+
+-- where all imports are served, a fault is a cause of the entry
+no_fault : (m : Module) (args : List Value) (export : Option ℕ) (o : Option EntryFault) → o ≡ fault_or (cause_of_entry m export args) (unserved None) → o ≡ None → cause_of_entry m export args ≡ None
+no_fault m args export o is none = by_cause (entry_causes m args export)
+  where
+    by_cause : (cause_of_entry m export args ≡ None) ⊎ ((cause_of_entry m export args ≡ Some no_export) ⊎ (cause_of_entry m export args ≡ Some bad_arguments)) → cause_of_entry m export args ≡ None
+    by_cause (inl e) = e
+    by_cause (inr (inl e)) = let clash : None ≡ Some NoExport = sym none ∙ is ∙ ap (λ c. fault_or c (unserved None)) e in absurd cc
+    by_cause (inr (inr e)) = let clash : None ≡ Some BadArguments = sym none ∙ is ∙ ap (λ c. fault_or c (unserved None)) e in absurd cc
+
+some_fault : (m : Module) (args : List Value) (export : Option ℕ) (fault : EntryFault) → Some fault ≡ fault_or (cause_of_entry m export args) (unserved None) → (cause : Cause) × (cause_of_entry m export args ≡ Some cause)
+some_fault m args export fault is = by_cause (entry_causes m args export)
+  where
+    by_cause : (cause_of_entry m export args ≡ None) ⊎ ((cause_of_entry m export args ≡ Some no_export) ⊎ (cause_of_entry m export args ≡ Some bad_arguments)) → (cause : Cause) × (cause_of_entry m export args ≡ Some cause)
+    by_cause (inl e) = let clash : Some fault ≡ None = is ∙ ap (λ c. fault_or c (unserved None)) e in absurd cc
+    by_cause (inr (inl e)) = (no_export, e)
+    by_cause (inr (inr e)) = (bad_arguments, e)
+
+-- ---- the host side
+
+-- a host side without devices and without a script serves nothing
+serves_none : (h : HostsState) → h.devices ≡ [] → h.script ≡ None → (i : Import) → hosts_serve h i ≡ false
+serves_none h devices script i = ap₂ (λ ds s. if is_named (names ds) i.«module» then true else is_some s) devices script
+
+serving_alone : (h : HostsState) (calls : List CollectorCall) → h.devices ≡ [] → h.script ≡ None → (i : Import) (type : FuncType) → serves (λ h i _. hosts_serve h i) (record { inner = h; calls = calls }) i type ≡ collected_alone i type
+serving_alone h calls devices script i type = ap (λ b. if is_told i then is_collected i type else b) (serves_none h devices script i)
+
+same_test : (a b : Import → FuncType → Bool) → ((i : Import) (type : FuncType) → a i type ≡ b i type) → (i : Import) (o : Option FuncType) → serves_type a i o ≡ serves_type b i o
+same_test a b same i None = refl
+same_test a b same i (Some type) = same i type
+
+same_tests : (a b : Import → FuncType → Bool) → ((i : Import) (type : FuncType) → a i type ≡ b i type) → (m : Module) (is : List Import) → map (is_served a m) is ≡ map (is_served b m) is
+same_tests a b same m [] = refl
+same_tests a b same m (i ∷ is) = ap₂ (λ x xs. x ∷ xs) (same_test a b same i (slice_get m.types i.ftype)) (same_tests a b same m is)
+
+pub all_served : (m : Module) (h : HostsState) (calls : List CollectorCall) → IsCollected m → h.devices ≡ [] → h.script ≡ None → first_unserved (λ i t. serves (λ h i _. hosts_serve h i) (record { inner = h; calls = calls }) i t) m ≡ None
+all_served m h calls collected devices script =
+    ap (first_false 0) (same_tests (λ i t. serves (λ h i _. hosts_serve h i) (record { inner = h; calls = calls }) i t) collected_alone (serving_alone h calls devices script) m m.imports) ∙ collected
+
+all_replies : (served : List (List ℕ × Served)) → length (of_script [] served) ≡ length served
+all_replies [] = refl
+all_replies (s ∷ ss) = ap suc (all_replies ss)
+
+pub none_served : (h : HostsState) → names h.devices ≡ [] → h.script ≡ None → of_script (names h.devices) h.served ≡ take h.given (script_replies h.script) → h.served ≡ []
+none_served h devices script scripted =
+    by_list h.served
+    (sym (all_replies h.served) ∙ ap (λ ns. length (of_script ns h.served)) (sym devices) ∙ ap length scripted ∙ ap (λ s. length (take h.given (script_replies s))) script ∙ taken h.given (script_replies None) refl)
+  where
+    taken : (k : ℕ) (rs : List Reply) → rs ≡ [] → length (take k rs) ≡ 0
+    taken zero rs e = refl
+    taken (suc k) [] e = refl
+    taken (suc k) (r ∷ rs) e = absurd cc
+
+    by_list : (xs : List (List ℕ × Served)) → length xs ≡ 0 → xs ≡ []
+    by_list [] e = refl
+    by_list (x ∷ xs) e = absurd (omega (arith, e))
+
+-- ---- where nothing is begun
+
+module _ (n : ℕ) (m : Module) (whole : IsModule m) where
+  abbrev program : Program
+  program = record { module_ = m; trees = whole.trees }
+
+  abbrev M : Engine
+  M = engine program true depth
+
+  not_begun_so : (cause : Cause) (o : Outcome) → cause_of m (main_on n ∷ []) ≡ Some cause → o ≡ summary n (record { kind = 0; frames = 0; bytes = [] }) 0 → Runs n m o
+  not_begun_so cause o is answer = record {
+    program = program;
+    of_module = refl;
+    writes_out = whole.write;
+    ran = not_begun cause fuel;
+    runs = ap (λ c. unless M c (main_on n ∷ []) [] fuel) is;
+    delivery = nothing;
+    delivers = refl;
+    answer = answer;
+  }
+
+  pub bad_segment : (cause : Cause) (o : Outcome) → cause_of_segments m ≡ Some cause → o ≡ summary n (record { kind = 0; frames = 0; bytes = [] }) 0 → Runs n m o
+  bad_segment cause o is answer = by_entry (cause_of_entry m (function_export m (codes "main")) (main_on n).args) refl
+    where
+      by_entry : (c : Option Cause) → cause_of_entry m (function_export m (codes "main")) (main_on n).args ≡ c → Runs n m o
+      by_entry None e = not_begun_so cause o (ap (λ x. or_else x (cause_of_segments m)) e ∙ is) answer
+      by_entry (Some other) e = not_begun_so other o (ap (λ x. or_else x (cause_of_segments m)) e) answer
+
+  pub bad_entry : (serving : Import → FuncType → Bool) (fault : EntryFault) (o : Outcome) → first_unserved serving m ≡ None → Some fault ≡ entry_fault serving m (codes "main") (main_on n).args → o ≡ summary n (record { kind = 0; frames = 0; bytes = [] }) 0 → Runs n m o
+  bad_entry serving fault o served is answer =
+      let k = some_fault m (main_on n).args (function_export m (codes "main")) fault (is ∙ ap (λ u. fault_or (cause_of_entry m (function_export m (codes "main")) (main_on n).args) (unserved u)) served) in
+      not_begun_so k.0 o (ap (λ x. or_else x (cause_of_segments m)) k.1) answer
+
+-- ---- where it is run
+
+no_replies : (a : RunEnd) → AdmitsReplies a []
+no_replies NoReply = refl
+no_replies (DeviceFault device) = refl
+no_replies (Finished v) = tt
+no_replies (Trapped kind) = tt
+no_replies (BadReply reply) = tt
+no_replies FuelSpent = tt
+no_replies NoMemory = tt
+
+had_memory : (a : RunEnd) → (a ≡ NoMemory → ⊥) → HadMemory a
+had_memory NoReply some = tt
+had_memory (DeviceFault device) some = tt
+had_memory (Finished v) some = tt
+had_memory (Trapped kind) some = tt
+had_memory (BadReply reply) some = tt
+had_memory FuelSpent some = tt
+had_memory NoMemory some = absurd (some refl)
+
+all_given : (a : RunEnd) (f k : ℕ) → (a ≡ NoMemory → ⊥) → given_steps a f k ≡ f
+all_given NoReply f k some = refl
+all_given (DeviceFault device) f k some = refl
+all_given (Finished v) f k some = refl
+all_given (Trapped kind) f k some = refl
+all_given (BadReply reply) f k some = refl
+all_given FuelSpent f k some = refl
+all_given NoMemory f k some = absurd (some refl)
+
+shares_of : (p : Program) (codes : List Code) (a : RunEnd) (m : Machine) (c : Config) → (a ≡ NoMemory → ⊥) → KeepsThen p codes a m c → Shares m c.world
+shares_of p codes (Finished v) m c some keeps = keeps.shares
+shares_of p codes (Trapped kind) m c some keeps = keeps.shares
+shares_of p codes NoReply m c some keeps = keeps.shares
+shares_of p codes (DeviceFault device) m c some keeps = keeps.shares
+shares_of p codes (BadReply reply) m c some keeps = keeps.shares
+shares_of p codes FuelSpent m c some keeps = keeps.shares
+shares_of p codes NoMemory m c some keeps = absurd (some refl)
+
+of_pages : (memory : Option Paged) → bytes_in memory ≡ option_map (λ m. m.bytes) (option_map (λ m. m.memory) memory)
+of_pages None = refl
+of_pages (Some m) = refl
+
+same_memory : (m : Machine) (c : Config) → Shares m c.world → bytes_in m.shared.memory ≡ memory_in (Some c)
+same_memory m c shares = of_pages m.shared.memory ∙ ap (λ o. option_map (λ m. m.bytes) o) (sym shares.holds.memory)
+
+one_behind : (ready : Bool) (r : Ran) → (r ∷ (if ready then [] else [])) ≡ r ∷ []
+one_behind true r = refl
+one_behind false r = refl
+
+none_grown : (old given : List Served) → [] ≡ old ++ given → given ≡ []
+none_grown [] given e = sym e
+none_grown (x ∷ xs) given e = absurd cc
+
+pub came_so : (n f : ℕ) (m : Module) (whole : IsModule m) (s later : State) (end : RunEnd) (used_up : Import → Bool) (old new : Calls) (o : Outcome) (delivery : Delivery)
+    → IsNew m s → cause_of_segments m ≡ None → cause_of_entry m (function_export m (codes "main")) (main_on n).args ≡ None → function_export m (codes "main") ≡ Some f
+    → (end ≡ NoMemory → ⊥) → new.served ≡ [] → old.collected ≡ []
+    → ((p : Program) → IsOf s p → Invoked p true depth used_up f (main_on n).args fuel s later end old new)
+    → Delivers new.collected delivery → o ≡ summary n (dumped delivery (bytes_in later.machine.shared.memory)) later.steps
+    → Runs n m o
+came_so n f m whole s later end used_up old new o delivery is_new segments entry export some no_served no_calls invoked delivers answer =
+    let p : Program = record { module_ = m; trees = whole.trees } in
+    let M : Engine = engine p true depth in
+    let is = main_on n ∷ [] in
+    let inv = invoked p (record { of_module = sym is_new.module_is; writes_out = whole.write }) in
+    let came = inv.came.came [] (no_replies end) in
+    let given : inv.came.asked.given ≡ [] = none_grown old.served inv.came.asked.given (sym no_served ∙ inv.came.grew.served) in
+    let none : replies_of inv.came.asked.given ++ [] ≡ [] = ap (λ l. replies_of l ++ []) given in
+    let listed = goes_on_behind M s.prepared.codes.items used_up (main_on n) [] f s.due s.machine later.machine fuel inv.came.asked end inv.made later.ready later.entered [] export (had_memory end some) came in
+    let world : start_world m [] ≡ world_of s.machine (replies_of inv.came.asked.given ++ []) = sym (is_new.world []) ∙ ap (λ rs. world_of s.machine rs) (sym none) in
+    let steps : fuel - came.ran.left ≡ later.steps = omega (arith, came.left, all_given end fuel inv.made some, came.within, inv.steps, is_new.steps) in
+    let memory : bytes_in later.machine.shared.memory ≡ memory_in came.ran.last =
+    same_memory later.machine came.last (shares_of p s.prepared.codes.items end later.machine came.last some came.keeps) ∙ ap memory_in (sym came.last_is)
+    in
+    record {
+      program = p;
+      of_module = refl;
+      writes_out = whole.write;
+      ran = came.ran;
+      runs = ap (λ c. unless M c is [] fuel) (ap (λ c. or_else c (cause_of_segments m)) entry ∙ segments)
+          ∙ ap₂ (λ d w. session M is d w fuel) (sym is_new.due) world
+          ∙ listed
+          ∙ one_behind later.ready came.ran;
+      delivery = delivery;
+      delivers = subst (λ cs. Delivers cs delivery) (inv.came.grew.collected ∙ ap (λ l. l ++ inv.came.asked.told) no_calls ∙ came.collected) delivers;
+      answer = answer ∙ ap (λ b. summary n (dumped delivery b) later.steps) memory ∙ ap (λ k. summary n (dumped delivery (memory_in came.ran.last)) k) (sym steps);
+    }
+
+-- ---- what is told
+
+pub shown_line : (n : ℕ) (calls : List CollectorCall) (memory : Option (List ℕ)) (steps there : ℕ) (handed : Handed) (result : Result Outcome WantOfMemory)
+    → (delivery : Delivery) × Delivers calls delivery × IsHanded delivery memory (codes "module") handed
+    → ((delivery : Delivery) (memory : Option (List ℕ)) → IsHanded delivery memory (codes "module") handed → IfOk result (λ o. o ≡ summary n (dumped delivery memory) there)) → there ≡ steps
+    → IfOk result (λ o. (delivery : Delivery) × Delivers calls delivery × (o ≡ summary n (dumped delivery memory) steps))
+shown_line n calls memory steps there handed (Err e) k line same = tt
+shown_line n calls memory steps there handed (Ok o) (delivery, delivers, is) line same = (delivery, delivers, line delivery memory is ∙ ap (summary n (dumped delivery memory)) same)
+
+pub none_begun : (n : ℕ) (m : Module) (whole : IsModule m) (cause : Cause) (result : Result Outcome WantOfMemory) → cause_of_segments m ≡ Some cause → IfOk result (λ o. o ≡ summary n (record { kind = 0; frames = 0; bytes = [] }) 0) → IfOk result (Runs n m)
+none_begun n m whole cause (Err e) is answer = tt
+none_begun n m whole cause (Ok o) is answer = bad_segment n m whole cause o is answer
+
+pub no_entry : (n : ℕ) (m : Module) (whole : IsModule m) (serving : Import → FuncType → Bool) (fault : EntryFault) (result : Result Outcome WantOfMemory) → first_unserved serving m ≡ None → Some fault ≡ entry_fault serving m (codes "main") (main_on n).args
+    → IfOk result (λ o. o ≡ summary n (record { kind = 0; frames = 0; bytes = [] }) 0) → IfOk result (Runs n m)
+no_entry n m whole serving fault (Err e) served is answer = tt
+no_entry n m whole serving fault (Ok o) served is answer = bad_entry n m whole serving fault o served is answer
+
+-- the line of what was run, from what its parts ensure
+pub ran_line : (n f : ℕ) (m : Module) (whole : IsModule m) (s later : State) (h0 : HostsState) (first last : CollectingState HostsState) (calls : List CollectorCall) (end : RunEnd) (used_up : Import → Bool) (result : Result Outcome WantOfMemory)
+    → IsNew m s → IsCollected m → cause_of_segments m ≡ None → first ≡ record { inner = h0; calls = [] } → h0.devices ≡ [] → h0.script ≡ None
+    → None ≡ entry_fault (λ i t. serves (λ h i _. hosts_serve h i) first i t) s.module_ (codes "main") (main_on n).args → function_export s.module_ (codes "main") ≡ Some f
+    → ((p : Program) → IsOf s p → Invoked p true depth used_up f (main_on n).args fuel s later end (record { served = (calls_of first.inner).served; collected = first.calls }) (record { served = (calls_of last.inner).served; collected = last.calls }))
+    → last.inner.served ≡ [] → calls ≡ last.calls
+    → IfOk result (λ o. (end ≡ NoMemory → ⊥) × ((delivery : Delivery) × Delivers calls delivery × (o ≡ summary n (dumped delivery (bytes_in later.machine.shared.memory)) later.steps)))
+    → IfOk result (Runs n m)
+ran_line n f m whole s later h0 first last calls end used_up (Err e) is_new collected segments begun devices script entry export invoked none are line = tt
+ran_line n f m whole s later h0 first last calls end used_up (Ok o) is_new collected segments begun devices script entry export invoked none are (some, (delivery, delivers, answer)) =
+    let serving : Import → FuncType → Bool = λ i t. serves (λ h i _. hosts_serve h i) first i t in
+    let served : first_unserved serving m ≡ None = subst (λ x. first_unserved (λ i t. serves (λ h i _. hosts_serve h i) x i t) m ≡ None) (sym begun) (all_served m h0 [] collected devices script) in
+    let here : None ≡ fault_or (cause_of_entry m (function_export m (codes "main")) (main_on n).args) (unserved None) =
+    entry ∙ ap (λ x. entry_fault serving x (codes "main") (main_on n).args) is_new.module_is ∙ ap (λ u. fault_or (cause_of_entry m (function_export m (codes "main")) (main_on n).args) (unserved u)) served
+    in
+    came_so n f m whole s later end used_up (record { served = (calls_of first.inner).served; collected = first.calls }) (record { served = (calls_of last.inner).served; collected = last.calls }) o delivery is_new segments
+    (no_fault m (main_on n).args (function_export m (codes "main")) None here refl) (sym (ap (λ x. function_export x (codes "main")) is_new.module_is) ∙ export) some
+    (ap (λ l. map (λ (x : List ℕ × Served). x.1) l) none) (ap (λ x. x.calls) begun) invoked (subst (λ l. Delivers l delivery) are delivers) answer
+
+pub knows_all : (m : Module) (s : State) (first : CollectingState HostsState) (h0 : HostsState) (lent : List Import) → IsNew m s → first ≡ record { inner = h0; calls = [] } → h0.imports ≡ lent → lent ≡ m.imports → Knows (origin_of first.inner) s.module_
+knows_all m s first h0 lent is_new begun are same f i e =
+    ap (λ (x : CollectingState HostsState). slice_get x.inner.imports f) begun ∙ ap (λ is. slice_get is f) (are ∙ same) ∙ ap (λ (x : Module). slice_get x.imports f) (sym is_new.module_is) ∙ e
+
+pub none_named : (first last : CollectingState HostsState) (back h0 : HostsState) (set : List DeviceState) → back ≡ last.inner → origin_of last.inner ≡ origin_of first.inner → first ≡ record { inner = h0; calls = [] } → h0.devices ≡ set → set ≡ [] → names back.devices ≡ []
+none_named first last back h0 set backed same begun devices none =
+    ap (λ (h : HostsState). names h.devices) backed ∙ ap (λ (o : Origin). o.names) same ∙ ap (λ (x : CollectingState HostsState). names x.inner.devices) begun ∙ ap names (devices ∙ none)
+
+pub no_script : (first last : CollectingState HostsState) (back h0 : HostsState) → back ≡ last.inner → origin_of last.inner ≡ origin_of first.inner → first ≡ record { inner = h0; calls = [] } → h0.script ≡ None → back.script ≡ None
+no_script first last back h0 backed same begun script =
+    ap (λ (h : HostsState). h.script) backed ∙ ap (λ (o : Origin). o.script) same ∙ ap (λ (x : CollectingState HostsState). x.inner.script) begun ∙ script
+
+pub refused_line : (n : ℕ) (m : Module) (whole : IsModule m) (s : State) (h0 : HostsState) (first : CollectingState HostsState) (fault : EntryFault) (result : Result Outcome WantOfMemory)
+    → IsNew m s → IsCollected m → first ≡ record { inner = h0; calls = [] } → h0.devices ≡ [] → h0.script ≡ None
+    → Some fault ≡ entry_fault (λ i t. serves (λ h i _. hosts_serve h i) first i t) s.module_ (codes "main") (main_on n).args
+    → IfOk result (λ o. o ≡ summary n (record { kind = 0; frames = 0; bytes = [] }) 0) → IfOk result (Runs n m)
+refused_line n m whole s h0 first fault result is_new collected begun devices script is answer =
+    let serving : Import → FuncType → Bool = λ i t. serves (λ h i _. hosts_serve h i) first i t in
+    let served : first_unserved serving m ≡ None = subst (λ x. first_unserved (λ i t. serves (λ h i _. hosts_serve h i) x i t) m ≡ None) (sym begun) (all_served m h0 [] collected devices script) in
+    no_entry n m whole serving fault result served (is ∙ ap (λ x. entry_fault serving x (codes "main") (main_on n).args) is_new.module_is) answer

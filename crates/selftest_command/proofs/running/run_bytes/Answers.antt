@@ -1,0 +1,21 @@
+use Rattle.std.proofs.Common.{subst}
+use Rattle.wasm_decode.specs.Decode.{module_from}
+use Rattle.command_answers.specs.Loaded.{IsLoaded}
+use Rattle.selftest_command.specs.inner.Steps.{IsCollected}
+use Rattle.selftest_command.proofs.Steps.{ok_is, not_turned, run_told}
+use Rattle.selftest_command.proofs.running.run_bytes.Goals as goal
+
+pub run_module-requires : goal.run_module-requires
+run_module-requires g c =
+    let known = subst (λ l. IsLoaded l (module_from c.args.bytes.now)) c.in-Valid.is c.in_ok-loaded.ensures.told in
+    subst IsCollected (ok_is (module_from c.args.bytes.now) c.requires.decoded c.in-Valid.source c.requires.is known.0) c.requires.collected
+
+pub returns-in-Valid : goal.returns-in-Valid
+returns-in-Valid g c =
+    let known = subst (λ l. IsLoaded l (module_from c.args.bytes.now)) c.in-Valid.is c.in_ok-loaded.ensures.told in
+    run_told c.args.count c.args.bytes.now c.in-Valid.source c.run_module.result known.0 c.run_module.ensures
+
+pub returns-in-TurnedDown : goal.returns-in-TurnedDown
+returns-in-TurnedDown g c =
+    let known = subst (λ l. IsLoaded l (module_from c.args.bytes.now)) c.in-TurnedDown.is c.in_ok-loaded.ensures.told in
+    absurd (not_turned c.args.bytes.now c.in-TurnedDown.refusal c.requires known)

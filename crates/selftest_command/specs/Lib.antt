@@ -1,0 +1,5 @@
+pub mod Words
+pub mod Summary
+pub mod SelftestAnswer
+pub mod Stops
+pub mod inner

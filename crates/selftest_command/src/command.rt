@@ -1,0 +1,156 @@
+//! The command.
+
+ghost use Rattle.std.specs.Prelude.{◌≡◌, ◌≢◌, ◌≤◌, IfOk, is_some};
+ghost use Rattle.causes.specs.Counts.{Rose};
+ghost use Rattle.command_answers.specs.Told.{UnlessFault};
+ghost use Rattle.dump_write.specs.Written.{OnTold};
+ghost use Rattle.instrument_command.specs.inner.Steps.{IsAnswered, Rewrites};
+ghost use Rattle.rewrite_sizes.specs.Light.{SmallOffsets};
+ghost use Rattle.run_session.specs.Stop.{OnStop};
+ghost use Rattle.selftest_command.specs.SelftestAnswer.{AnsweredOn, ModuleAnswer, module_bytes, module_file, rewritten_file};
+ghost use Rattle.selftest_command.specs.Stops.{CreatedBoth, SameButBoth, SelftestStops};
+ghost use Rattle.selftest_command.specs.inner.Steps.{IsSelftest};
+ghost use Rattle.selftest_module.specs.Selftest.{selftest};
+ghost use Rattle.wasm_format_laws.specs.Laws.{DecodesSame};
+ghost use Rattle.wasm_sizes.specs.Sized.{Sized};
+ghost use Rattle.wasm_syntax.specs.Valid.{Valid};
+
+use crate::running::run_bytes;
+use crate::writing::write_both;
+use causes::NoMemory;
+use command_answers::{Loaded, Outcome, Status, load};
+use host_set::Devices;
+use instrument_command::{Rewritten, admitted_bytes, rewrite};
+use pm_outside::Files;
+use selftest_module::selftest_bytes;
+use std::alloc::Global;
+use wasm_syntax::Module;
+use wasm_validate::Validated;
+
+/// Runs what the module is rewritten to, and writes both.
+fn test_rewritten<F: Files, D: Devices>(
+    alloc: Global,
+    files: &mut F,
+    bytes: &[u8],
+    source: &Validated,
+    other: &Module,
+    count: u32,
+) -> Result<Outcome, NoMemory>
+    requires selftest { IsSelftest count source.now }
+    requires rewrites { Rewrites source.now other.now }
+    requires bytes { bytes.now ≡ module_bytes count }
+    ensures told { IfOk result (λ o. UnlessFault o.status (IsAnswered
+        (λ writes. ModuleAnswer count writes source.now) (F.told files.old) (F.told files.new) o)) }
+    ensures stops { OnStop (λ stop.
+        SelftestStops stop count (F.told files.old) (F.told files.new)) result }
+    ensures fault { IfOk result (λ o. o.status ≡ Status.FileFault
+        → Rose (F.faults files.old) (F.faults files.new)) }
+    ensures memory { IfOk result (λ o. o.status ≢ Status.NoMemory) }
+    ensures telling { is_some (F.told files.new) ≡ is_some (F.told files.old) }
+    ensures others { OnTold (SameButBoth module_file rewritten_file)
+        (F.told files.old) (F.told files.new) }
+    ensures names { CreatedBoth module_file rewritten_file
+        (F.created files.old) (F.created files.new) }
+    ensures later { F.faults files.old ≤ F.faults files.new }
+{
+    let rewritten = admitted_bytes(alloc, source, other)?;
+    let done = run_bytes::<D>(alloc, &rewritten, count)?;
+    write_both(alloc, files, bytes, &rewritten, done)
+}
+
+/// Tests the rewriting of the module, which is that of the self-test, or tells why it is not rewritten.
+fn test_module<F: Files, D: Devices>(
+    alloc: Global,
+    files: &mut F,
+    bytes: &[u8],
+    source: &Validated,
+    count: u32,
+) -> Result<Outcome, NoMemory>
+    requires selftest { IsSelftest count source.now }
+    requires sized { Sized source.now }
+    requires small { SmallOffsets source.now }
+    requires bytes { bytes.now ≡ module_bytes count }
+    ensures told { IfOk result (λ o. UnlessFault o.status (IsAnswered
+        (λ writes. ModuleAnswer count writes source.now) (F.told files.old) (F.told files.new) o)) }
+    ensures stops { OnStop (λ stop.
+        SelftestStops stop count (F.told files.old) (F.told files.new)) result }
+    ensures fault { IfOk result (λ o. o.status ≡ Status.FileFault
+        → Rose (F.faults files.old) (F.faults files.new)) }
+    ensures memory { IfOk result (λ o. o.status ≢ Status.NoMemory) }
+    ensures telling { is_some (F.told files.new) ≡ is_some (F.told files.old) }
+    ensures others { OnTold (SameButBoth module_file rewritten_file)
+        (F.told files.old) (F.told files.new) }
+    ensures names { CreatedBoth module_file rewritten_file
+        (F.created files.old) (F.created files.new) }
+    ensures later { F.faults files.old ≤ F.faults files.new }
+{
+    let rewritten = rewrite(alloc, source)?;
+    match rewritten {
+        Rewritten::Whole(other) => {
+            test_rewritten::<F, D>(alloc, files, bytes, source, &other, count)
+        },
+        Rewritten::Refused(refusal) => Ok(refusal),
+    }
+}
+
+/// Tests the module that the bytes spell, which is that of the self-test.
+fn test_bytes<F: Files, D: Devices>(
+    alloc: Global,
+    files: &mut F,
+    bytes: &[u8],
+    count: u32,
+) -> Result<Outcome, NoMemory>
+    requires bytes { bytes.now ≡ module_bytes count }
+    requires same { DecodesSame (selftest count) (module_bytes count) }
+    ensures told { IfOk result (λ o. UnlessFault o.status
+        (AnsweredOn count (F.told files.old) (F.told files.new) o)) }
+    ensures stops { OnStop (λ stop.
+        SelftestStops stop count (F.told files.old) (F.told files.new)) result }
+    ensures fault { IfOk result (λ o. o.status ≡ Status.FileFault
+        → Rose (F.faults files.old) (F.faults files.new)) }
+    ensures memory { IfOk result (λ o. o.status ≢ Status.NoMemory) }
+    ensures telling { is_some (F.told files.new) ≡ is_some (F.told files.old) }
+    ensures others { OnTold (SameButBoth module_file rewritten_file)
+        (F.told files.old) (F.told files.new) }
+    ensures names { CreatedBoth module_file rewritten_file
+        (F.created files.old) (F.created files.new) }
+    ensures later { F.faults files.old ≤ F.faults files.new }
+{
+    let loaded = load(alloc, bytes)?;
+    match loaded {
+        Loaded::Valid(source) => test_module::<F, D>(alloc, files, bytes, &source, count),
+        Loaded::TurnedDown(refusal) => Ok(refusal),
+    }
+}
+
+/// Makes the module of a self-test of so many functions, writes it as `selftest.wasm` and what it is rewritten to as
+/// `selftest.inst.wasm`, and answers with a line on the dump that the rewritten module hands over, and on the steps that it
+/// made. A file that faults is named in the answer. The host side that runs it has no devices, of any kind.
+///
+/// # Errors
+///
+/// `NoMemory` where memory runs out.
+pub fn selftest_files<F: Files, D: Devices>(
+    alloc: Global,
+    files: &mut F,
+    count: u32,
+) -> Result<Outcome, NoMemory>
+    requires least { 1 ≤ count }
+    requires most { count ≤ 900 }
+    ensures told { IfOk result (λ o. UnlessFault o.status
+        (AnsweredOn count (F.told files.old) (F.told files.new) o)) }
+    ensures stops { OnStop (λ stop.
+        SelftestStops stop count (F.told files.old) (F.told files.new)) result }
+    ensures fault { IfOk result (λ o. o.status ≡ Status.FileFault
+        → Rose (F.faults files.old) (F.faults files.new)) }
+    ensures memory { IfOk result (λ o. o.status ≢ Status.NoMemory) }
+    ensures telling { is_some (F.told files.new) ≡ is_some (F.told files.old) }
+    ensures others { OnTold (SameButBoth module_file rewritten_file)
+        (F.told files.old) (F.told files.new) }
+    ensures names { CreatedBoth module_file rewritten_file
+        (F.created files.old) (F.created files.new) }
+    ensures later { F.faults files.old ≤ F.faults files.new }
+{
+    let bytes = selftest_bytes(alloc, count)?;
+    test_bytes::<F, D>(alloc, files, &bytes, count)
+}

@@ -1,0 +1,148 @@
+//! The run of a module that hands over its own dump.
+
+ghost use Rattle.std.specs.Prelude.{◌≡◌, ◌≢◌, [], Err, None, IfOk};
+ghost use Rattle.dump_image.specs.Pictured.{bytes_in};
+ghost use Rattle.host_set.specs.Sets.{names};
+ghost use Rattle.run_collected.specs.Delivery.{Delivery, Delivers};
+ghost use Rattle.selftest_command.specs.SelftestAnswer.{Runs, RunsBytes};
+ghost use Rattle.selftest_command.specs.Summary.{dumped, summary};
+ghost use Rattle.selftest_command.specs.inner.Steps.{IsCollected, IsTaken};
+ghost use Rattle.wasm_machine.specs.Instances.{Begins, IsNew};
+ghost use Rattle.wasm_syntax.specs.declared.module.ModuleParts.{ModuleParts as Parts};
+ghost use Rattle.wasm_syntax.specs.Module.{IsModule};
+ghost use Rattle.wasm_syntax.specs.Run.{cause_of_segments};
+
+use crate::summary::{handed_summary, summary};
+use causes::NoMemory;
+use command_answers::{Loaded, Outcome, load};
+use host_collector::Collecting;
+use host_set::{Devices, Hosts};
+use run_collected::handed_over;
+use std::alloc::Global;
+use wasm_machine::{Instance, RunEnd, StartFault};
+use wasm_syntax::{CollectorCall, Value};
+use wasm_validate::Validated;
+
+/// How many frames may stand: the default number, and two more for the wrapper of an export and the helper of an indirect call.
+const DEPTH: u32 = 1_002;
+
+/// How many steps may be made: the default number.
+const FUEL: u64 = 100_000_000;
+
+/// A host side without devices and without a script serves nothing.
+fn drop_hosts<D: Devices>(hosts: Hosts<'_, D>)
+    requires devices { names hosts.devices ≡ [] }
+    requires script { hosts.script ≡ None }
+    ensures { hosts.entry.served ≡ [] }
+{
+    let _devices = hosts.into_devices();
+}
+
+/// The line of an instance that was run, and made these calls of the collector.
+fn shown(
+    alloc: Global,
+    instance: &Instance<'_>,
+    calls: &[CollectorCall],
+    count: u32,
+) -> Result<Outcome, NoMemory>
+    ensures { IfOk result (λ o. (delivery : Delivery) × Delivers calls.now delivery
+        × (o ≡ summary count (dumped delivery (bytes_in instance.now.machine.shared.memory)) instance.now.steps)) }
+{
+    let handed = handed_over(alloc, calls, instance.memory(), "module")?;
+    handed_summary(alloc, count, &handed, instance.steps())
+}
+
+/// The line of an instance that was run up to this end.
+fn ended(
+    alloc: Global,
+    instance: &Instance<'_>,
+    end: &RunEnd,
+    calls: &[CollectorCall],
+    count: u32,
+) -> Result<Outcome, NoMemory>
+    ensures { IfOk result (λ o. (end.now ≢ RunEnd.NoMemory) × ((delivery : Delivery) × Delivers calls.now delivery
+        × (o ≡ summary count (dumped delivery (bytes_in instance.now.machine.shared.memory)) instance.now.steps))) }
+{
+    match end {
+        RunEnd::NoMemory => Err(NoMemory),
+        _ => shown(alloc, instance, calls, count),
+    }
+}
+
+/// The line where nothing was run.
+fn nothing_run(alloc: Global, count: u32) -> Result<Outcome, NoMemory>
+    ensures { IfOk result (λ o. o ≡ summary count (record { kind = 0; frames = 0; bytes = [] }) 0) }
+{
+    summary(alloc, count, 0, 0, &[], 0)
+}
+
+/// The line where no instance was made.
+fn not_begun(alloc: Global, fault: StartFault, count: u32) -> Result<Outcome, NoMemory>
+    ensures { (m : Parts) → IsModule m → Begins (Err fault) m → IfOk result (Runs count m) }
+{
+    match fault {
+        StartFault::ElementOut { .. } => nothing_run(alloc, count),
+        StartFault::DataOut { .. } => nothing_run(alloc, count),
+        StartFault::NoMemory => Err(NoMemory),
+    }
+}
+
+/// Runs `main` on a new instance.
+fn run_instance<D: Devices>(
+    alloc: Global,
+    source: &Validated,
+    instance: Instance<'_>,
+    count: u32,
+) -> Result<Outcome, NoMemory>
+    requires collected { IsCollected source.now }
+    requires segments { cause_of_segments source.now ≡ None }
+    requires new { IsNew source.now instance }
+    ensures { IfOk result (Runs count source.now) }
+{
+    let mut instance = instance;
+    let imports = source.module().parts().imports.as_slice();
+    let hosts = Hosts::new(alloc, D::empty(alloc), None, imports);
+    let mut collecting = Collecting::new(alloc, hosts);
+    let args = [Value::I32(count), Value::I32(1)];
+    let answer = instance.invoke("main", &args, DEPTH, FUEL, &mut collecting);
+    match answer {
+        Ok(end) => {
+            let outcome = ended(alloc, &instance, &end, collecting.calls(), count);
+            drop_hosts(collecting.into_inner());
+            outcome
+        }
+        Err(_) => nothing_run(alloc, count),
+    }
+}
+
+/// Runs a module that imports nothing but from the collector.
+fn run_module<D: Devices>(
+    alloc: Global,
+    source: &Validated,
+    count: u32,
+) -> Result<Outcome, NoMemory>
+    requires { IsCollected source.now }
+    ensures { IfOk result (Runs count source.now) }
+{
+    let _ = source.module().parts();
+    match Instance::new(alloc, source) {
+        Ok(instance) => run_instance::<D>(alloc, source, instance, count),
+        Err(fault) => not_begun(alloc, fault, count),
+    }
+}
+
+/// Runs the module that the bytes spell. They are admitted as what a module is rewritten to that imports nothing.
+pub(crate) fn run_bytes<D: Devices>(
+    alloc: Global,
+    bytes: &[u8],
+    count: u32,
+) -> Result<Outcome, NoMemory>
+    requires { IsTaken bytes.now }
+    ensures { IfOk result (RunsBytes count bytes.now) }
+{
+    let loaded = load(alloc, bytes)?;
+    match loaded {
+        Loaded::Valid(source) => run_module::<D>(alloc, &source, count),
+        Loaded::TurnedDown(refusal) => Ok(refusal),
+    }
+}

@@ -1,0 +1,81 @@
+//! The two files of a self-test, which are written one after the other.
+
+ghost use Rattle.std.specs.Prelude.{◌≡◌, ◌≢◌, ◌≤◌, ◌⊎◌, ◌∷◌, [], IfOk, is_some};
+ghost use Rattle.causes.specs.Counts.{Rose};
+ghost use Rattle.pm_outside.specs.Contents.{SameBut};
+ghost use Rattle.pm_outside.specs.Created.{with_name};
+ghost use Rattle.command_answers.specs.Told.{UnlessFault};
+ghost use Rattle.dump_write.specs.Written.{HasFile, HasFront, OnTold};
+ghost use Rattle.instrument_command.specs.Stops.{IsFailed};
+ghost use Rattle.run_session.specs.Stop.{OnStop};
+ghost use Rattle.run_session.specs.Written.{HoldThen};
+ghost use Rattle.selftest_command.specs.SelftestAnswer.{module_file, rewritten_file};
+ghost use Rattle.selftest_command.specs.Stops.{CreatedBoth, Left, SameButBoth};
+
+use causes::NoMemory;
+use command_answers::{Outcome, Status, about_file};
+use instrument_command::write_file;
+use pm_outside::{Files, WriteAnswer};
+use std::alloc::Global;
+
+/// Writes a file, behind which this is answered.
+fn write_last<F: Files>(
+    alloc: Global,
+    files: &mut F,
+    name: &str,
+    bytes: &[u8],
+    done: Outcome,
+) -> Result<Outcome, NoMemory>
+    requires { done.status ≡ Status.Done }
+    ensures told { IfOk result (λ o. UnlessFault o.status ((o ≡ done)
+        × OnTold (HasFile name.now bytes.now) (F.told files.old) (F.told files.new))) }
+    ensures stops { OnStop (λ stop. IsFailed stop name.now
+        × OnTold (HasFront name.now bytes.now) (F.told files.old) (F.told files.new)) result }
+    ensures fault { IfOk result (λ o. o.status ≡ Status.FileFault
+        → Rose (F.faults files.old) (F.faults files.new)) }
+    ensures memory { IfOk result (λ o. o.status ≢ Status.NoMemory) }
+    ensures telling { is_some (F.told files.new) ≡ is_some (F.told files.old) }
+    ensures others { OnTold (SameBut name.now) (F.told files.old) (F.told files.new) }
+    ensures names { (F.created files.new ≡ F.created files.old)
+        ⊎ (F.created files.new ≡ with_name (F.created files.old) name.now) }
+    ensures later { F.faults files.old ≤ F.faults files.new }
+{
+    match write_file(files, name, bytes) {
+        WriteAnswer::Done => Ok(done),
+        WriteAnswer::Failed => about_file(alloc, Status::FileFault, "file fault: ", name),
+        WriteAnswer::NoMemory => Err(NoMemory),
+    }
+}
+
+/// Writes the module and its rewriting, behind which this is answered.
+pub(crate) fn write_both<F: Files>(
+    alloc: Global,
+    files: &mut F,
+    bytes: &[u8],
+    rewritten: &[u8],
+    done: Outcome,
+) -> Result<Outcome, NoMemory>
+    requires { done.status ≡ Status.Done }
+    ensures told { IfOk result (λ o. UnlessFault o.status ((o ≡ done)
+        × OnTold (HoldThen ((module_file, bytes.now) ∷ (rewritten_file, rewritten.now) ∷ []))
+        (F.told files.old) (F.told files.new))) }
+    ensures stops { OnStop (λ stop. Left stop module_file bytes.now rewritten_file rewritten.now
+        (F.told files.old) (F.told files.new)) result }
+    ensures fault { IfOk result (λ o. o.status ≡ Status.FileFault
+        → Rose (F.faults files.old) (F.faults files.new)) }
+    ensures memory { IfOk result (λ o. o.status ≢ Status.NoMemory) }
+    ensures telling { is_some (F.told files.new) ≡ is_some (F.told files.old) }
+    ensures others { OnTold (SameButBoth module_file rewritten_file)
+        (F.told files.old) (F.told files.new) }
+    ensures names { CreatedBoth module_file rewritten_file
+        (F.created files.old) (F.created files.new) }
+    ensures later { F.faults files.old ≤ F.faults files.new }
+{
+    match write_file(files, "selftest.wasm", bytes) {
+        WriteAnswer::Done => write_last(alloc, files, "selftest.inst.wasm", rewritten, done),
+        WriteAnswer::Failed => {
+            about_file(alloc, Status::FileFault, "file fault: ", "selftest.wasm")
+        }
+        WriteAnswer::NoMemory => Err(NoMemory),
+    }
+}

@@ -1,0 +1,9 @@
+pub mod Straight
+pub mod Running
+pub mod Programs
+pub mod Trapped
+pub mod Bodies
+pub mod Light
+pub mod Plain
+pub mod Handed
+pub mod Taken

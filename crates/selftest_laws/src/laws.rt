@@ -1,0 +1,21 @@
+//! Laws of self-tests.
+
+ghost use Rattle.std.specs.Prelude.{◌≡◌, ◌≤◌, ℕ, List};
+ghost use Rattle.wasm_syntax.specs.declared.module.ModuleParts.{ModuleParts as Parts};
+ghost use Rattle.wasm_syntax.specs.Module.{Program, IsProgram};
+ghost use Rattle.wasm_bytes.specs.Laws.{IsBytes};
+ghost use Rattle.wasm_encode.specs.Encoding.{encoding};
+ghost use Rattle.rewrite_promise.specs.Admitted.{Admits};
+ghost use Rattle.selftest_module.specs.Selftest.{selftest};
+ghost use Rattle.selftest_laws.specs.Handing.{HandsAllOver, IsAccepted, IsDecoded};
+
+/// What the encoding of a self-test is decoded as is valid, and nothing hinders its rewriting.
+pub fn selftests_are_accepted()
+    ensures { (n : ℕ) (m : Parts) → 1 ≤ n → n ≤ 900 → IsBytes (encoding (selftest n)) → IsDecoded n m → IsAccepted m }
+{}
+
+/// Whatever bytes are admitted as what it is rewritten to, the module that they spell hands over a dump with all frames, of a division by
+/// zero, within the default number of steps.
+pub fn rewritings_hand_over()
+    ensures { (n : ℕ) (m : Parts) (bytes : List ℕ) (a : Admits m bytes) (p : Program) → 1 ≤ n → n ≤ 900 → IsBytes (encoding (selftest n)) → IsDecoded n m → p.module_ ≡ a.decoded → IsProgram p → HandsAllOver n p }
+{}
