@@ -5,6 +5,8 @@
 #[cfg(test)]
 mod check_tests;
 #[cfg(test)]
+mod list_tests;
+#[cfg(test)]
 mod option_tests;
 #[cfg(test)]
 mod output_tests;

@@ -40,12 +40,13 @@ fn options_have_defaults(rt: HostRuntime) -> Result<(), Fail> {
     assert_eq!(rt; words.depth, 1_000);
     assert_eq!(rt; words.dump.as_str(), "core.wasm");
     assert_eq!(rt; words.name.as_str(), "module");
+    assert!(rt; !words.collect);
     Ok(())
 }
 
 #[test]
 fn options_stand_anywhere(rt: HostRuntime) -> Result<(), Fail> {
-    let line = "--fuel 4 m --name= f --dump=a.core i32:3 --replies r + f i32:2 --depth 3";
+    let line = "--fuel 4 m --name= f --dump=a.core i32:3 --collect --replies r + f i32:2 --depth 3";
     let Ok(words) = read(rt.alloc(), line) else {
         return Err(Fail::from("refused"));
     };
@@ -61,6 +62,7 @@ fn options_stand_anywhere(rt: HostRuntime) -> Result<(), Fail> {
     assert_eq!(rt; words.depth, 3);
     assert_eq!(rt; words.dump.as_str(), "a.core");
     assert_eq!(rt; words.name.as_str(), "");
+    assert!(rt; words.collect);
     Ok(())
 }
 
@@ -116,12 +118,14 @@ fn options_have_bounds(rt: HostRuntime) {
         ("--fuel=+4 m f", false),
         ("--fuel= m f", false),
         ("--fuel 4 --fuel 4 m f", false),
+        ("--collect m f", true),
+        ("--collect=1 m f", false),
+        ("--collect m --collect f", false),
         ("--depth=1 m f", true),
         ("--depth=00010000 m f", true),
         ("--depth 0 m f", false),
         ("--depth 10001 m f", false),
         ("--depth 18446744073709551616 m f", false),
-        ("--collect m f", false),
         ("m f --help", false),
         ("m f -1", false),
         ("m f -- -1", false),

@@ -81,3 +81,28 @@ fn reads_checks(rt: HostRuntime) -> Result<(), Fail> {
     }
     Ok(())
 }
+
+#[test]
+fn reads_rewritings(rt: HostRuntime) -> Result<(), Fail> {
+    let cases = [
+        ("instrument a b", Some(("a", "b"))),
+        ("instrument a a", Some(("a", "a"))),
+        ("instrument -- -a -b", Some(("-a", "-b"))),
+        ("instrument a -- b", Some(("a", "b"))),
+        ("instrument", None),
+        ("instrument a", None),
+        ("instrument a b c", None),
+        ("instrument a --fuel=1 b", None),
+        ("instrument a -b", None),
+    ];
+    for (line, wanted) in cases {
+        let words = words_of(rt.alloc(), line)?;
+        match parse_words(rt.alloc(), words.as_slice()) {
+            Ok(Command::Instrument { module, out }) => {
+                assert!(rt; wanted == Some((module.as_str(), out.as_str())));
+            }
+            other => assert!(rt; wanted.is_none() && matches!(other, Err(WordsFault::Usage))),
+        }
+    }
+    Ok(())
+}

@@ -4,3 +4,4 @@ mod OneRun
 mod Respond
 mod Taken
 mod Stopping
+mod Headline

@@ -10,10 +10,12 @@ use Rattle.command_answers.specs.Loading.{IfLoaded}
 use Rattle.command_answers.specs.declared.outcome.Outcome.{Outcome}
 use Rattle.command_answers.proofs.OneOutcome.{Agree, agree_then, agree_if_loaded}
 use Rattle.run_session.specs.Written.{Writes}
-use Rattle.pm_cli.specs.Answer.{AnswersTo, IsAnswer, CheckAnswer, ShowAnswer, checked}
+use Rattle.instrument_command.proofs.OneAnswer.{one_instrument_answer, same_names}
+use Rattle.pm_cli.specs.Answer.{AnswersTo, IsAnswer, SameWrites, CheckAnswer, ShowAnswer, checked}
 use Rattle.pm_cli.specs.Words.{command}
 use Rattle.pm_cli.specs.declared.words.Command.{Command}
-use Rattle.pm_cli.specs.declared.words.Command.TheVariants.{Check, Run, Show}
+use Rattle.pm_cli.specs.declared.words.Command.TheVariants.{Check, Run, Instrument, Show, Debug}
+use Rattle.debug_command.proofs.OneDebug.{one_debug}
 use Rattle.pm_cli.proofs.OneRun.{one_run_answer, one_run_written}
 
 one_check : (m : List ℕ) (content : Option (List ℕ)) → Agree (CheckAnswer m content) (CheckAnswer m content)
@@ -25,15 +27,19 @@ one_show dump content = agree_then (input_of DumpBytes dump content) _ _ (λ byt
 one_to : (before after : List DeviceState) (c : Option Command) (first later : Contents) (given : List Served) (x y : Writes) → Agree (AnswersTo before after c first later given x) (AnswersTo before after c first later given y)
 one_to before after (Some (Check m)) first later given x y a b pa qb = one_check m (first m) a b pa.0 qb.0
 one_to before after (Some (Run w)) first later given x y a b pa qb = one_run_answer before after w first later given x y a b pa qb
+one_to before after (Some (Instrument m out)) first later given x y a b pa qb = one_instrument_answer m out first x y a b pa.0 qb.0
 one_to before after (Some (Show dump)) first later given x y a b pa qb = one_show dump (first dump) a b pa.0 qb.0
+one_to before after (Some (Debug w)) first later given x y a b pa qb = one_debug w first later a b pa.0 qb.0
 one_to before after None first later given x y a b pa qb = pa.0 ∙ sym qb.0
 
-one_written : (before after : List DeviceState) (c : Option Command) (first later : Contents) (given : List Served) (x y : Writes) (a b : Outcome) → AnswersTo before after c first later given x a → AnswersTo before after c first later given y b → x ≡ y
+one_written : (before after : List DeviceState) (c : Option Command) (first later : Contents) (given : List Served) (x y : Writes) (a b : Outcome) → AnswersTo before after c first later given x a → AnswersTo before after c first later given y b → SameWrites c x y
 one_written before after (Some (Check m)) first later given x y a b pa qb = pa.1.writes_none ∙ sym qb.1.writes_none
 one_written before after (Some (Run w)) first later given x y a b pa qb = one_run_written before after w first later given x y a b pa qb
+one_written before after (Some (Instrument m out)) first later given x y a b pa qb = same_names m out first x y a b pa.0 qb.0
 one_written before after (Some (Show dump)) first later given x y a b pa qb = pa.1.writes_none ∙ sym qb.1.writes_none
+one_written before after (Some (Debug w)) first later given x y a b pa qb = pa.1.writes_none ∙ sym qb.1.writes_none
 one_written before after None first later given x y a b pa qb = pa.1.writes_none ∙ sym qb.1.writes_none
 
-pub one_answer : (before after : List DeviceState) (words : List (List ℕ)) (first later : Contents) (given : List Served) (x y : Writes) (a b : Outcome) → IsAnswer before after words first later given x a → IsAnswer before after words first later given y b → (a ≡ b) × (x ≡ y)
+pub one_answer : (before after : List DeviceState) (words : List (List ℕ)) (first later : Contents) (given : List Served) (x y : Writes) (a b : Outcome) → IsAnswer before after words first later given x a → IsAnswer before after words first later given y b → (a ≡ b) × SameWrites (command words) x y
 unfolding IsAnswer
 one_answer before after words first later given x y a b pa qb = (one_to before after (command words) first later given x y a b pa qb, one_written before after (command words) first later given x y a b pa qb)

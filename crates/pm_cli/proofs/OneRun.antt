@@ -1,10 +1,12 @@
 -- `run` has at most one answer, and one list of written files, where the same replies were given.
 use Rattle.std.proofs.Common.{◌≡◌, ℕ, List, [], ◌∷◌, map, length, Option, Some, None, false, refl, sym, ap, subst, ◌∙◌}
+use Rattle.std.proofs.Math.Path.{fun_ext}
 use Rattle.pm_outside.specs.Contents.{Contents}
 use Rattle.wasm_syntax.specs.declared.quantity.Quantity.TheVariants.{ModuleBytes}
 use Rattle.wasm_syntax.specs.declared.parts.Body.{Body}
 use Rattle.wasm_syntax.specs.declared.host.Reply.{Reply}
 use Rattle.wasm_syntax.specs.declared.host.Served.{Served}
+use Rattle.wasm_syntax.specs.declared.host.CollectorCall.{CollectorCall}
 use Rattle.wasm_syntax.specs.declared.module.ModuleParts.{ModuleParts as Module}
 use Rattle.wasm_syntax.specs.Tree.{Tree, code_of}
 use Rattle.wasm_syntax.specs.Module.{Program, IsProgram, AllWrite}
@@ -19,8 +21,11 @@ use Rattle.command_answers.specs.declared.outcome.Outcome.{Outcome}
 use Rattle.command_answers.proofs.OneOutcome.{Agree, agree_then, agree_if_loaded}
 use Rattle.run_words.specs.declared.words.RunWords.{RunWords}
 use Rattle.run_session.specs.Written.{Writes}
-use Rattle.run_session.specs.Invocations.{invocation_of}
-use Rattle.run_session.specs.RunText.{dumps_from}
+use Rattle.run_collected.specs.Delivery.{Delivery, IsDelivery}
+use Rattle.run_collected.proofs.Deliveries.{one}
+use Rattle.run_session.specs.Invocations.{invocation_of, depth_of}
+use Rattle.run_session.specs.Telling.{tells}
+use Rattle.run_session.specs.RunText.{up_to_torn, dumps_from}
 use Rattle.run_command.specs.Hosting.{start_text}
 use Rattle.run_command.specs.AllRan.{all_ran}
 use Rattle.run_command.specs.RunAnswer.{RunAnswer, RunsTo, StartsOr, ModuleAnswer, IfRefusal, IsUntouched, hosting, replies_input, script_of}
@@ -42,17 +47,30 @@ same_program m p q ep eq wp wq =
     let trees = same_trees m.bodies p.trees q.trees (subst (λ k. AllWrite k.bodies p.trees) ep wp) (subst (λ k. AllWrite k.bodies q.trees) eq wq) in
     ap (λ k. record { module_ = k; trees = p.trees }) (ep ∙ sym eq) ∙ ap (λ ts. record { module_ = q.module_; trees = ts }) trees
 
-one_list : (before after : List DeviceState) (script : Option (List Reply)) (w : RunWords) (m : Module) (given : List Served) (x y : Writes) (a b : Outcome) → (r : RunsTo before after script w m given a x) → (s : RunsTo before after script w m given b y) → r.rans ≡ s.rans
-one_list before after script w m given x y a b r s =
-    r.runs ∙ ap (λ k. run k false (map invocation_of w.invocations) (replies_of given) w.depth w.fuel) (same_program m r.program s.program r.of_module s.of_module r.writes_out s.writes_out) ∙ sym s.runs
+-- calls hand over one thing
+same_delivery : (a b : List CollectorCall → Delivery) → IsDelivery a → IsDelivery b → a ≡ b
+same_delivery a b x y = fun_ext (λ calls. one calls (a calls) (b calls) (x calls) (y calls))
 
-one_run : (before after : List DeviceState) (script : Option (List Reply)) (w : RunWords) (m : Module) (given : List Served) (x y : Writes) (a b : Outcome) → RunsTo before after script w m given a x → RunsTo before after script w m given b y → a ≡ b
-one_run before after script w m given x y a b r s =
-    r.answer ∙ ap (λ k. all_ran (names before) m.imports (length w.invocations) k) (one_list before after script w m given x y a b r s) ∙ sym s.answer
+module _ (before after : List DeviceState) (script : Option (List Reply)) (w : RunWords) (m : Module) (given : List Served) (x y : Writes) (a b : Outcome) (r : RunsTo before after script w m given a x) (s : RunsTo before after script w m given b y) where
+  handed : r.deliver ≡ s.deliver
+  handed = same_delivery r.deliver s.deliver r.delivers s.delivers
 
-same_dumps : (before after : List DeviceState) (script : Option (List Reply)) (w : RunWords) (m : Module) (given : List Served) (x y : Writes) (a b : Outcome) → RunsTo before after script w m given a x → RunsTo before after script w m given b y → x ≡ y
-same_dumps before after script w m given x y a b r s =
-    r.dumps ∙ ap (λ k. dumps_from w.dump w.name 0 k) (one_list before after script w m given x y a b r s) ∙ sym s.dumps
+  one_list : r.rans ≡ s.rans
+  one_list =
+      r.runs
+      ∙ ap (λ k. up_to_torn (tells w.collect r.deliver) (run k w.collect (map invocation_of w.invocations) (replies_of given) (depth_of w) w.fuel)) (same_program m r.program s.program r.of_module s.of_module r.writes_out s.writes_out)
+      ∙ ap (λ d. up_to_torn (tells w.collect d) (run s.program w.collect (map invocation_of w.invocations) (replies_of given) (depth_of w) w.fuel)) handed
+      ∙ sym s.runs
+
+  one_run : a ≡ b
+  one_run =
+      r.answer ∙ ap (λ k. all_ran (tells w.collect r.deliver) (names before) m.imports (length w.invocations) k) one_list
+      ∙ ap (λ d. all_ran (tells w.collect d) (names before) m.imports (length w.invocations) s.rans) handed ∙ sym s.answer
+
+  same_dumps : x ≡ y
+  same_dumps =
+      r.dumps ∙ ap (λ k. dumps_from (tells w.collect r.deliver) w.dump w.name 0 k) one_list
+      ∙ ap (λ d. dumps_from (tells w.collect d) w.dump w.name 0 s.rans) handed ∙ sym s.dumps
 
 agree_starts : (cause : Option (List ℕ)) (P Q : Type 0) (a b : Outcome) → (P → Q → a ≡ b) → StartsOr cause P a → StartsOr cause Q b → a ≡ b
 agree_starts (Some cause) P Q a b agree pa qb = pa ∙ sym qb
@@ -60,7 +78,7 @@ agree_starts None P Q a b agree pa qb = agree pa qb
 
 agree_module : (before after : List DeviceState) (w : RunWords) (given : List Served) (x y : Writes) (script : Option (List Reply)) (m : Module) → Agree (ModuleAnswer before after w given x script m) (ModuleAnswer before after w given y script m)
 agree_module before after w given x y script m a b pa qb =
-    agree_starts (start_text (hosting before script) m (map invocation_of w.invocations)) _ _ a b (λ r s. one_run before after script w m given x y a b r.0 s.0) pa qb
+    agree_starts (start_text (hosting before script w.collect) m (map invocation_of w.invocations)) _ _ a b (λ r s. one_run before after script w m given x y a b r.0 s.0) pa qb
 
 -- whatever is said to be written
 pub one_run_answer : (before after : List DeviceState) (w : RunWords) (first later : Contents) (given : List Served) (x y : Writes) → Agree (RunAnswer before after w first later given x) (RunAnswer before after w first later given y)
@@ -73,7 +91,7 @@ one_run_answer before after w first later given x y a b pa qb =
 
 agree_writes : (before after : List DeviceState) (w : RunWords) (given : List Served) (x y : Writes) (script : Option (List Reply)) (m : Module) → Gives (x ≡ y) (ModuleAnswer before after w given x script m) (ModuleAnswer before after w given y script m)
 agree_writes before after w given x y script m a b at_a at_b pa qb =
-    gives_starts (x ≡ y) (start_text (hosting before script) m (map invocation_of w.invocations)) _ _ (λ r s. same_dumps before after script w m given x y a b r.0 s.0) a b at_a at_b pa qb
+    gives_starts (x ≡ y) (start_text (hosting before script w.collect) m (map invocation_of w.invocations)) _ _ (λ r s. same_dumps before after script w m given x y a b r.0 s.0) a b at_a at_b pa qb
 
 written : (before after : List DeviceState) (w : RunWords) (first later : Contents) (given : List Served) (x y : Writes) (a b : Outcome) → IfRefusal a.status (x ≡ y) → IfRefusal b.status (x ≡ y) → RunAnswer before after w first later given x a → RunAnswer before after w first later given y b → x ≡ y
 written before after w first later given x y a b at_a at_b pa qb =

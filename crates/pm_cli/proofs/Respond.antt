@@ -11,10 +11,13 @@ use Rattle.command_answers.proofs.Unless.{OnAnswer, map_answer, all_answers}
 use Rattle.run_words.specs.declared.words.RunWords.{RunWords}
 use Rattle.run_session.specs.Written.{HoldThen}
 use Rattle.run_command.specs.RunAnswer.{RunAnswer, AnsweredOn}
+use Rattle.instrument_command.specs.InstrumentAnswer.{AnsweredOn as InstrumentedOn}
+use Rattle.debug_command.specs.declared.words.DebugWords.{DebugWords}
+use Rattle.debug_command.specs.Answer.{DebugAnswer}
 use Rattle.pm_cli.specs.Answer.{AnswersTo, IsAnswer, Answered, CheckAnswer, ShowAnswer}
 use Rattle.pm_cli.specs.Words.{command}
 use Rattle.pm_cli.specs.declared.words.Command.{Command}
-use Rattle.pm_cli.specs.declared.words.Command.TheVariants.{Check, Run, Show}
+use Rattle.pm_cli.specs.declared.words.Command.TheVariants.{Check, Run, Instrument, Show, Debug}
 
 -- ---- commands that write nothing and call no device
 
@@ -86,3 +89,44 @@ run_answer before after words w told told' o asked a = record {
 pub run_answered : {E : Type 0} (before after : List DeviceState) (words : List (List ℕ)) (w : RunWords) (told told' : Option Contents) (r : Result Outcome E) → command words ≡ Some (Run w)
     → OnAnswer (AnsweredOn (RunAnswer before after w) told told') r → OnAnswer (Answered before after words told told') r
 run_answered before after words w told told' r asked x = map_answer (AnsweredOn (RunAnswer before after w) told told') (Answered before after words told told') r (λ o a. run_answer before after words w told told' o asked a) x
+
+-- ---- `instrument`
+
+instrument_answer : (devices : List DeviceState) (words : List (List ℕ)) (m out : List ℕ) (told told' : Option Contents) (o : Outcome) → command words ≡ Some (Instrument m out) → InstrumentedOn m out told told' o → Answered devices devices words told told' o
+unfolding IsAnswer
+instrument_answer devices words m out told told' o asked a = record {
+  first = a.held;
+  may_first = a.may;
+  later = a.held;
+  may_later = a.may;
+  given = [];
+  writes = a.writes;
+  answer = subst (λ k. AnswersTo devices devices k a.held a.held [] a.writes o) (sym asked) (a.answer, (refl, refl));
+  files = a.files;
+}
+
+pub instrument_answered : {E : Type 0} (devices : List DeviceState) (words : List (List ℕ)) (m out source file : List ℕ) (told told' : Option Contents) (r : Result Outcome E) → command words ≡ Some (Instrument m out) → source ≡ m → file ≡ out
+    → OnAnswer (InstrumentedOn source file told told') r → OnAnswer (Answered devices devices words told told') r
+instrument_answered devices words m out source file told told' r asked named written x = map_answer (InstrumentedOn source file told told') (Answered devices devices words told told') r
+    (λ o a. instrument_answer devices words m out told told' o asked (subst (λ f. InstrumentedOn m f told told' o) written (subst (λ s. InstrumentedOn s file told told' o) named a))) x
+
+-- ---- `debug`
+
+debug_answer : (devices : List DeviceState) (words : List (List ℕ)) (w : DebugWords) (told told' : Option Contents) (o : Outcome) → command words ≡ Some (Debug w) → told' ≡ told
+    → OnContents told (λ first. OnContents told (λ later. DebugAnswer w first later o)) → Answered devices devices words told told' o
+unfolding IsAnswer
+debug_answer devices words w told told' o asked same a = record {
+  first = a.files;
+  may_first = a.may;
+  later = a.holds.files;
+  may_later = a.holds.may;
+  given = [];
+  writes = [];
+  answer = subst (λ k. AnswersTo devices devices k a.files a.holds.files [] [] o) (sym asked) (a.holds.holds, record { devices = refl; given_none = refl; writes_none = refl });
+  files = untold told told' same;
+}
+
+pub debug_answered : {E : Type 0} (devices : List DeviceState) (words : List (List ℕ)) (w : DebugWords) (told told' : Option Contents) (r : Result Outcome E) → command words ≡ Some (Debug w) → told' ≡ told
+    → OnAnswer (λ o. OnContents told (λ first. OnContents told (λ later. DebugAnswer w first later o))) r → OnAnswer (Answered devices devices words told told') r
+debug_answered devices words w told told' r asked same x = map_answer (λ o. OnContents told (λ first. OnContents told (λ later. DebugAnswer w first later o))) (Answered devices devices words told told') r
+    (λ o a. debug_answer devices words w told told' o asked same a) x

@@ -13,10 +13,15 @@ use Rattle.command_answers.specs.declared.status.Status.TheVariants as status
 use Rattle.run_words.specs.declared.words.RunWords.{RunWords}
 use Rattle.run_session.specs.Stop.{Stop, no_memory, file_failed, IsFileFault, OnStop}
 use Rattle.run_command.specs.Stops.{NothingDone, RunStops}
-use Rattle.pm_cli.specs.Stops.{UnlessRun, CommandStops, WordsStop}
+use Rattle.debug_command.specs.declared.words.DebugWords.{DebugWords}
+use Rattle.debug_command.specs.Answer.{IsReadBy}
+use Rattle.instrument_command.specs.Stops.{InstrumentStops}
+use Rattle.instrument_command.proofs.Stopping.{map_stop}
+use Rattle.instrument_command.proofs.HeldFiles.{all_kept}
+use Rattle.pm_cli.specs.Stops.{UnlessRun, IsQuietBut, CommandStops, WordsStop}
 use Rattle.pm_cli.specs.Words.{command}
 use Rattle.pm_cli.specs.declared.words.Command.{Command}
-use Rattle.pm_cli.specs.declared.words.Command.TheVariants.{Check, Run, Show}
+use Rattle.pm_cli.specs.declared.words.Command.TheVariants.{Check, Run, Instrument, Show, Debug}
 
 -- ---- commands that run nothing
 
@@ -45,6 +50,15 @@ module _ (devices : List DeviceState) (words : List (List ℕ)) (told told' : Op
     memory = of_command words (Some (Show dump)) devices devices no_memory told told' asked record { devices = refl; files = same; file = tt };
   }
 
+  pub debug_stops : (result : Result Outcome NoMemory) (w : DebugWords) → command words ≡ Some (Debug w) → IfOk result (λ o. o.status ≡ status.FileFault → ((file : List ℕ) × IsReadBy w file × (o ≡ file_fault file)) × R) → OnStop Leaves result
+  debug_stops (Err e) w asked fault = of_command words (Some (Debug w)) devices devices no_memory told told' asked record { devices = refl; files = same; file = tt }
+  debug_stops (Ok o) w asked fault = λ faulted. record {
+    file = (fault faulted).0.0;
+    named = (fault faulted).0.2;
+    failed = of_command words (Some (Debug w)) devices devices (file_failed (fault faulted).0.0) told told' asked record { devices = refl; files = same; file = (fault faulted).0.1 };
+    memory = of_command words (Some (Debug w)) devices devices no_memory told told' asked record { devices = refl; files = same; file = tt };
+  }
+
 -- no words that are wrong fail a file
 no_usage_fault : (o : Outcome) → o ≡ usage → o.status ≡ status.FileFault → ⊥
 no_usage_fault o e is = let clash : status.Usage ≡ status.FileFault = sym (ap (λ (x : Outcome). x.status) e) ∙ is in absurd cc
@@ -53,7 +67,9 @@ no_usage_fault o e is = let clash : status.Usage ≡ status.FileFault = sym (ap 
 unread : (c : Option Command) (devices : List DeviceState) (told : Option Contents) → CommandStops no_memory c devices devices told told
 unread (Some (Check m)) devices told = record { devices = refl; files = refl; file = tt }
 unread (Some (Run w)) devices told = inl record { devices = refl; files = refl; file = tt }
+unread (Some (Instrument m out)) devices told = (refl, inl (refl, tt))
 unread (Some (Show dump)) devices told = record { devices = refl; files = refl; file = tt }
+unread (Some (Debug w)) devices told = record { devices = refl; files = refl; file = tt }
 unread None devices told = record { devices = refl; files = refl; file = tt }
 
 pub unread_stops : (devices : List DeviceState) (words : List (List ℕ)) (told : Option Contents) → WordsStop no_memory words devices devices told told
@@ -67,15 +83,35 @@ pub run_stops : (before after : List DeviceState) (words : List (List ℕ)) (tol
     → OnStop (λ stop. RunStops stop w before after told told') result → OnStop (λ stop. WordsStop stop words before after told told') result
 run_stops before after words told told' result w asked x = subst (λ c. OnStop (λ stop. CommandStops stop c before after told told') result) (sym asked) x
 
--- however it ends
-pub quiet_all : (c : Option Command) (P : Type 0) → P → UnlessRun c P
-quiet_all (Some (Check m)) P x = x
-quiet_all (Some (Run w)) P x = tt
-quiet_all (Some (Show dump)) P x = x
-quiet_all None P x = x
+pub instrument_stops : (devices : List DeviceState) (words : List (List ℕ)) (told told' : Option Contents) (result : Result Outcome NoMemory) (m out source file : List ℕ) → command words ≡ Some (Instrument m out) → source ≡ m → file ≡ out
+    → OnStop (λ stop. InstrumentStops stop source file told told') result → OnStop (λ stop. WordsStop stop words devices devices told told') result
+instrument_stops devices words told told' result m out source file asked named written x =
+    map_stop (λ stop. InstrumentStops stop source file told told') (λ stop. WordsStop stop words devices devices told told') result
+    (λ stop k. of_command words (Some (Instrument m out)) devices devices stop told told' asked
+    (refl, subst (λ f. InstrumentStops stop m f told told') written (subst (λ s. InstrumentStops stop s file told told') named k))) x
 
-pub quiet_run : (c : Option Command) (w : RunWords) (P : Type 0) → c ≡ Some (Run w) → UnlessRun c P
-quiet_run c w P same = subst (λ k. UnlessRun k P) (sym same) tt
+-- however it ends
+module _ (c : Option Command) (P : Type 0) (Q : List ℕ → Type 0) where
+  pub quiet_all : P → ((out : List ℕ) → Q out) → UnlessRun c P Q
+  quiet_all x also = of c
+    where
+      of : (c : Option Command) → UnlessRun c P Q
+      of (Some (Check m)) = x
+      of (Some (Run w)) = tt
+      of (Some (Instrument m out)) = also out
+      of (Some (Show dump)) = x
+      of (Some (Debug w)) = x
+      of None = x
+
+  pub quiet_run : (w : RunWords) → c ≡ Some (Run w) → UnlessRun c P Q
+  quiet_run w same = subst (λ k. UnlessRun k P Q) (sym same) tt
+
+  pub quiet_instrument : (m out file : List ℕ) → c ≡ Some (Instrument m out) → file ≡ out → Q file → UnlessRun c P Q
+  quiet_instrument m out file same written x = subst (λ k. UnlessRun k P Q) (sym same) (subst Q written x)
+
+-- all is as before
+pub untouched : (devices : List DeviceState) (told told' : Option Contents) (created created' : List (List ℕ)) → told' ≡ told → created' ≡ created → (out : List ℕ) → IsQuietBut out devices devices told told' created created'
+untouched devices told told' created created' same names out = record { devices = refl; files = all_kept out told told' same; names = inl names }
 
 -- ---- the top call
 

@@ -1,40 +1,33 @@
 -- The status and the text that a list of words gets, where files are told.
-use Rattle.std.specs.Prelude.{◌≡◌, ℕ, List, ◌++◌, [], Option, Some, None, Result, Ok, Err, codes}
-use Rattle.std.specs.Fmt.{decimal}
+use Rattle.std.specs.Prelude.{◌≡◌, ℕ, List, [], ◌++◌, map, Option, Some, None, IfSome, Result, Ok, Err}
 use Rattle.pm_outside.specs.Contents.{Contents}
 use Rattle.wasm_syntax.specs.declared.quantity.Quantity.TheVariants.{ModuleBytes, DumpBytes}
 use Rattle.dump_format.specs.declared.dump.Dump.{Dump}
 use Rattle.dump_format.specs.declared.fault.DumpFault.{DumpFault}
-use Rattle.dump_format.specs.declared.fault.DumpFault.TheVariants.{NoMemory, Malformed, FloatValue, Several, Limit}
 use Rattle.dump_format.specs.Decode.{dump_from}
-use Rattle.dump_format.specs.Part.{part_name}
 use Rattle.wasm_syntax.specs.declared.module.ModuleParts.{ModuleParts as Module}
 use Rattle.wasm_decode.specs.Decode.{module_from}
 use Rattle.wasm_syntax.specs.declared.host.Served.{Served}
 use Rattle.host_set.specs.Sets.{DeviceState}
 use Rattle.run_session.specs.Written.{Writes}
 use Rattle.run_command.specs.RunAnswer.{RunAnswer, IsUntouched, AnsweredOn}
+use Rattle.instrument_command.specs.InstrumentAnswer.{InstrumentAnswer}
+use Rattle.instrument_command.specs.Headline.{HoldsRewriting}
+use Rattle.dump_write.specs.Written.{OnTold}
+use Rattle.dump_answers.specs.Refused.{refused}
+use Rattle.debug_command.specs.Answer.{DebugAnswer}
+use Rattle.debug_command.specs.Headline.{IsDebugged}
 use Rattle.pm_cli.specs.Check.{counted}
 use Rattle.command_answers.specs.Loading.{IfLoaded}
 use Rattle.command_answers.specs.Inputs.{input_of, Then}
 use Rattle.pm_cli.specs.Show.{show_text}
-use Rattle.command_answers.specs.Texts.{ended, usage, over_limit}
+use Rattle.command_answers.specs.Texts.{ended, usage}
 use Rattle.pm_cli.specs.Words.{command}
 use Rattle.command_answers.specs.declared.outcome.Outcome.{Outcome}
+use Rattle.command_answers.specs.declared.status.Status.{Status}
 use Rattle.command_answers.specs.declared.status.Status.TheVariants as status
 use Rattle.pm_cli.specs.declared.words.Command.{Command}
-use Rattle.pm_cli.specs.declared.words.Command.TheVariants.{Check, Run, Show}
-
-abbrev pub bad_dump : List ℕ → Outcome
-bad_dump cause = ended status.BadDump (codes "bad dump: " ++ cause ++ codes "\n")
-
--- why a dump is refused
-abbrev pub refused : DumpFault → Outcome
-refused (Malformed at) = bad_dump (codes "malformed at " ++ decimal at)
-refused (FloatValue at) = bad_dump (codes "float value at " ++ decimal at)
-refused (Several part) = bad_dump (codes "several " ++ part_name part)
-refused (Limit what count) = over_limit what count
-refused NoMemory = ended status.NoMemory []
+use Rattle.pm_cli.specs.declared.words.Command.TheVariants.{Check, Run, Instrument, Show, Debug}
 
 abbrev pub shown : Result Dump DumpFault → Outcome
 shown (Ok dump) = ended status.Done (show_text dump)
@@ -51,12 +44,18 @@ checked m o = o ≡ counted m
 abbrev pub CheckAnswer : List ℕ → Option (List ℕ) → Outcome → Type 0
 CheckAnswer file content o = Then (input_of ModuleBytes file content) (λ bytes. IfLoaded checked (module_from bytes)) o
 
+-- no device was called
+abbrev pub IsUncalled : (before after : List DeviceState) → List Served → Type 0
+IsUncalled before after given = (after ≡ before) × (given ≡ [])
+
 -- The answer to a command, where the devices were so before and after, files hold this when the first one is read and that when the second one
 -- is, these replies were given, and these files written.
 abbrev pub AnswersTo : (before after : List DeviceState) → Option Command → (first later : Contents) → List Served → Writes → Outcome → Type 0
 AnswersTo before after (Some (Check m)) first later given writes o = CheckAnswer m (first m) o × IsUntouched before after given writes
 AnswersTo before after (Some (Run w)) first later given writes o = RunAnswer before after w first later given writes o
+AnswersTo before after (Some (Instrument m out)) first later given writes o = InstrumentAnswer m out first writes o × IsUncalled before after given
 AnswersTo before after (Some (Show dump)) first later given writes o = ShowAnswer dump (first dump) o × IsUntouched before after given writes
+AnswersTo before after (Some (Debug w)) first later given writes o = DebugAnswer w first later o × IsUntouched before after given writes
 AnswersTo before after None first later given writes o = (o ≡ usage) × IsUntouched before after given writes
 
 -- this is the answer to a list of words
@@ -66,3 +65,31 @@ IsAnswer before after words first later given writes o = AnswersTo before after 
 -- The words are answered, where files tell this before and then. Where they tell nothing there are contents on which this is the answer.
 abbrev pub Answered : (before after : List DeviceState) → List (List ℕ) → (old new : Option Contents) → Outcome → Type 0
 Answered before after words old new o = AnsweredOn (IsAnswer before after words) old new o
+
+-- what files hold before and then where `instrument` is done, where they tell it
+abbrev pub IfRewritten : Option Command → (old new : Option Contents) → Type 0
+IfRewritten (Some (Check m)) old new = Unit {0}
+IfRewritten (Some (Run w)) old new = Unit {0}
+IfRewritten (Some (Instrument m out)) old new = OnTold (HoldsRewriting m out) old new
+IfRewritten (Some (Show dump)) old new = Unit {0}
+IfRewritten (Some (Debug w)) old new = Unit {0}
+IfRewritten None old new = Unit {0}
+
+-- What files hold where `debug` is done, and where it answers a mismatch, with the text that the output takes, where they tell it.
+abbrev pub IfDebugged : Option Command → Status → Option Contents → (before after : Option (List ℕ)) → Type 0
+IfDebugged (Some (Check m)) s told before after = Unit {0}
+IfDebugged (Some (Run w)) s told before after = Unit {0}
+IfDebugged (Some (Instrument m out)) s told before after = Unit {0}
+IfDebugged (Some (Show dump)) s told before after = Unit {0}
+IfDebugged (Some (Debug w)) s told before after =
+    IfSome told (λ held. (text : List ℕ) × IsDebugged w held s text × IfSome before (λ old. after ≡ Some (old ++ text)))
+IfDebugged None s told before after = Unit {0}
+
+-- The same files are written with the same bytes; of the file that `instrument` writes the name is the same.
+abbrev pub SameWrites : Option Command → (one other : Writes) → Type 0
+SameWrites (Some (Check m)) one other = one ≡ other
+SameWrites (Some (Run w)) one other = one ≡ other
+SameWrites (Some (Instrument m out)) one other = map (λ w. w.0) one ≡ map (λ w. w.0) other
+SameWrites (Some (Show dump)) one other = one ≡ other
+SameWrites (Some (Debug w)) one other = one ≡ other
+SameWrites None one other = one ≡ other

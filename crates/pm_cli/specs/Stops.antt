@@ -1,26 +1,40 @@
 -- What a list of words leaves where it has no answer.
-use Rattle.std.specs.Prelude.{◌≡◌, ℕ, List, Option, Some, None}
-use Rattle.pm_outside.specs.Contents.{Contents}
+use Rattle.std.specs.Prelude.{◌≡◌, ◌⊎◌, ℕ, List, Option, Some, None}
+use Rattle.pm_outside.specs.Contents.{Contents, SameBut}
+use Rattle.pm_outside.specs.Created.{with_name}
+use Rattle.dump_write.specs.Written.{OnTold}
 use Rattle.host_set.specs.Sets.{DeviceState}
 use Rattle.run_session.specs.Stop.{Stop}
 use Rattle.run_command.specs.Stops.{NothingDone, RunStops}
+use Rattle.debug_command.specs.Answer.{IsReadBy}
+use Rattle.instrument_command.specs.Stops.{InstrumentStops}
 use Rattle.pm_cli.specs.Words.{command}
 use Rattle.pm_cli.specs.declared.words.Command.{Command}
-use Rattle.pm_cli.specs.declared.words.Command.TheVariants.{Check, Run, Show}
+use Rattle.pm_cli.specs.declared.words.Command.TheVariants.{Check, Run, Instrument, Show, Debug}
 
--- a fact on commands that run nothing, and on wrong words
-abbrev pub UnlessRun : Option Command → Type 0 → Type 0
-UnlessRun (Some (Check m)) P = P
-UnlessRun (Some (Run w)) P = Unit {0}
-UnlessRun (Some (Show dump)) P = P
-UnlessRun None P = P
+-- a fact on commands that run nothing, and on wrong words; one on the file that is written in its place, where the command writes one
+abbrev pub UnlessRun : Option Command → Type 0 → (List ℕ → Type 0) → Type 0
+UnlessRun (Some (Check m)) P Q = P
+UnlessRun (Some (Run w)) P Q = Unit {0}
+UnlessRun (Some (Instrument m out)) P Q = Q out
+UnlessRun (Some (Show dump)) P Q = P
+UnlessRun (Some (Debug w)) P Q = P
+UnlessRun None P Q = P
+
+-- However it ends, at most this file was written.
+pub record IsQuietBut (out : List ℕ) (before after : List DeviceState) (old new : Option Contents) (created created' : List (List ℕ)) : Type 0 where
+  pub devices : after ≡ before
+  pub files : OnTold (SameBut out) old new
+  pub names : (created' ≡ created) ⊎ (created' ≡ with_name created out)
 
 -- Where the devices were so before and after, and files tell this before and then. Of the commands that run nothing a file that failed is the
 -- one that is read.
 abbrev pub CommandStops : Stop → Option Command → (before after : List DeviceState) → (old new : Option Contents) → Type 0
 CommandStops stop (Some (Check m)) before after old new = NothingDone stop (λ file. file ≡ m) before after old new
 CommandStops stop (Some (Run w)) before after old new = RunStops stop w before after old new
+CommandStops stop (Some (Instrument m out)) before after old new = (after ≡ before) × InstrumentStops stop m out old new
 CommandStops stop (Some (Show dump)) before after old new = NothingDone stop (λ file. file ≡ dump) before after old new
+CommandStops stop (Some (Debug w)) before after old new = NothingDone stop (IsReadBy w) before after old new
 CommandStops stop None before after old new = NothingDone stop (λ file. ⊥) before after old new
 
 -- the same of the command that the words ask for

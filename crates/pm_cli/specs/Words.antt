@@ -1,11 +1,12 @@
 -- What a list of words asks for.
-use Rattle.std.specs.Prelude.{◌<◌, List, length, [], ◌∷◌, Option, Some, None, if◌then◌else◌, codes, option_and_then}
+use Rattle.std.specs.Prelude.{◌<◌, ◌≤◌, List, length, [], ◌∷◌, Option, Some, None, if◌then◌else◌, codes, option_and_then}
 use Rattle.std.specs.Option.{option_map}
 use Rattle.std.specs.Str.{bytes_eq}
 use Rattle.command_words.specs.Reading.{Word, no_options, read_words}
 use Rattle.pm_cli.specs.declared.words.Command.{Command}
 use Rattle.run_words.specs.RunWords.{run_words}
-use Rattle.pm_cli.specs.declared.words.Command.TheVariants.{Check, Run, Show}
+use Rattle.debug_command.specs.Words.{debug_words}
+use Rattle.pm_cli.specs.declared.words.Command.TheVariants.{Check, Run, Instrument, Show, Debug}
 
 abbrev pub only : List Word → Option Word
 only (word ∷ []) = Some word
@@ -16,17 +17,40 @@ only (word ∷ other ∷ words) = None
 unfoldable pub one_word : List Word → Option Word
 one_word words = option_and_then (λ r. only r.plain) (read_words no_options words)
 
--- the first word is the command: `check M`, `run M ENTRY ..`, `show DUMP`
+-- the file that is read and the one that is written
+abbrev pub both : List Word → Option Command
+both (source ∷ out ∷ []) = Some (Instrument source out)
+both [] = None
+both (word ∷ []) = None
+both (word ∷ other ∷ more ∷ words) = None
+
+-- the two plain words behind `instrument`, which has no options
+unfoldable pub instrument_words : List Word → Option Command
+instrument_words words = option_and_then (λ r. both r.plain) (read_words no_options words)
+
+-- the first word is the command: `check M`, `run M ENTRY ..`, `instrument M OUT`, `show DUMP`, `debug M DUMP COMMAND ..`
 unfoldable pub command : List Word → Option Command
 command [] = None
 command (name ∷ words) =
     if bytes_eq name (codes "check") then option_map Check (one_word words)
     else (if bytes_eq name (codes "run") then option_map Run (run_words words)
+    else (if bytes_eq name (codes "instrument") then instrument_words words
     else (if bytes_eq name (codes "show") then option_map Show (one_word words)
-    else None))
+    else (if bytes_eq name (codes "debug") then option_map Debug (debug_words words)
+    else None))))
 
 -- a run has at least one invocation
 abbrev pub HasInvocations : Command → Type 0
 HasInvocations (Check m) = Unit {0}
 HasInvocations (Run w) = 0 < length w.invocations
+HasInvocations (Instrument m out) = Unit {0}
 HasInvocations (Show dump) = Unit {0}
+HasInvocations (Debug w) = Unit {0}
+
+-- the depth that it is given has an end
+abbrev pub HasDepth : Command → Type 0
+HasDepth (Run w) = w.depth ≤ 10000
+HasDepth (Check m) = Unit {0}
+HasDepth (Instrument m out) = Unit {0}
+HasDepth (Show dump) = Unit {0}
+HasDepth (Debug w) = Unit {0}

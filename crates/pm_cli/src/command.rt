@@ -6,7 +6,7 @@ ghost use Rattle.causes.specs.Counts.{Rose};
 ghost use Rattle.host_set.specs.Sets.{AreDistinct, names};
 ghost use Rattle.pm_cli.specs.Answer.{IsAnswer, Answered};
 ghost use Rattle.command_answers.specs.Told.{UnlessFault};
-ghost use Rattle.pm_cli.specs.Stops.{UnlessRun, WordsStop};
+ghost use Rattle.pm_cli.specs.Stops.{UnlessRun, IsQuietBut, WordsStop};
 ghost use Rattle.pm_cli.specs.Words.{command};
 ghost use Rattle.run_session.specs.Stop.{OnStop};
 
@@ -16,7 +16,9 @@ use crate::words::{Command, parse_words};
 use causes::NoMemory;
 use command_answers::{Outcome, Status, plain};
 use command_words::WordsFault;
+use debug_command::debug_file;
 use host_set::Devices;
+use instrument_command::instrument_file;
 use pm_outside::Files;
 use run_command::run_file;
 use std::alloc::Global;
@@ -35,7 +37,9 @@ pub fn respond<F: Files, D: Devices>(
     ensures stops { OnStop (λ stop. WordsStop stop (map string_bytes words.now)
         (D.shown devices.old) (D.shown devices.new) (F.told files.old) (F.told files.new)) result }
     ensures quiet { UnlessRun (command (map string_bytes words.now))
-        ((D.shown devices.new ≡ D.shown devices.old) × (F.told files.new ≡ F.told files.old) × (F.created files.new ≡ F.created files.old)) }
+        ((D.shown devices.new ≡ D.shown devices.old) × (F.told files.new ≡ F.told files.old) × (F.created files.new ≡ F.created files.old))
+        (λ out. IsQuietBut out (D.shown devices.old) (D.shown devices.new)
+        (F.told files.old) (F.told files.new) (F.created files.old) (F.created files.new)) }
     ensures distinct { AreDistinct (names (D.shown devices.new)) }
     ensures telling { is_some (F.told files.new) ≡ is_some (F.told files.old) }
     ensures fault { IfOk result (λ o. o.status ≡ Status.FileFault
@@ -46,7 +50,11 @@ pub fn respond<F: Files, D: Devices>(
     match parse_words(alloc, words) {
         Ok(Command::Check { module }) => check_file(alloc, files, module.as_str()),
         Ok(Command::Run(words)) => run_file(alloc, files, &words, devices),
+        Ok(Command::Instrument { module, out }) => {
+            instrument_file(alloc, files, module.as_str(), out.as_str())
+        }
         Ok(Command::Show { dump }) => show_file(alloc, files, dump.as_str()),
+        Ok(Command::Debug(words)) => debug_file(alloc, files, &words),
         Err(WordsFault::Usage) => plain(
             alloc,
             Status::Usage,

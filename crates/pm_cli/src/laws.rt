@@ -5,10 +5,12 @@ ghost use Rattle.pm_outside.specs.Contents.{Contents};
 ghost use Rattle.wasm_syntax.specs.declared.host.Served.{Served};
 ghost use Rattle.host_set.specs.Sets.{DeviceState};
 ghost use Rattle.run_session.specs.Written.{Writes};
-ghost use Rattle.pm_cli.specs.Answer.{IsAnswer};
+ghost use Rattle.pm_cli.specs.Answer.{IsAnswer, SameWrites};
+ghost use Rattle.pm_cli.specs.Words.{command};
 ghost use Rattle.command_answers.specs.declared.outcome.Outcome.{Outcome};
 
-/// A list of words has at most one status and text, and writes the same files, where the same replies were given.
+/// A list of words has at most one status and text, and writes the same files, where the same replies were given. The bytes that `instrument`
+/// writes are all those that are admitted.
 pub fn one_answer()
-    ensures { (before after : List DeviceState) (words : List (List ℕ)) (first later : Contents) (given : List Served) (x y : Writes) (a b : Outcome) → IsAnswer before after words first later given x a → IsAnswer before after words first later given y b → (a ≡ b) × (x ≡ y) }
+    ensures { (before after : List DeviceState) (words : List (List ℕ)) (first later : Contents) (given : List Served) (x y : Writes) (a b : Outcome) → IsAnswer before after words first later given x a → IsAnswer before after words first later given y b → (a ≡ b) × SameWrites (command words) x y }
 {}

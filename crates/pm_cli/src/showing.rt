@@ -1,47 +1,20 @@
 //! `show`.
 
-ghost use Rattle.std.specs.Prelude.{◌≡◌, ◌≢◌, ◌≤◌, ◌++◌, IfOk, OnOk, codes};
-ghost use Rattle.std.specs.Fmt.{decimal};
+ghost use Rattle.std.specs.Prelude.{◌≡◌, ◌≢◌, ◌≤◌, IfOk};
 ghost use Rattle.causes.specs.Counts.{Rose};
 ghost use Rattle.dump_format.specs.Decode.{dump_from};
-ghost use Rattle.pm_cli.specs.Answer.{ShowAnswer, bad_dump, refused, shown};
+ghost use Rattle.pm_cli.specs.Answer.{ShowAnswer, shown};
 ghost use Rattle.command_answers.specs.Texts.{file_fault};
 ghost use Rattle.command_answers.specs.Told.{UnlessFault, OnContents};
 
 use crate::dump_text::show;
 use causes::NoMemory;
-use command_answers::{Input, Outcome, Status, over_limit, push_number, read_input};
-use dump_format::{DumpFault, DumpPart, decode_dump};
+use command_answers::{Input, Outcome, Status, read_input};
+use dump_answers::refused_dump;
+use dump_format::decode_dump;
 use pm_outside::Files;
-use pm_text::Text;
 use std::alloc::Global;
 use wasm_syntax::Quantity;
-
-/// A dump that is refused for what stands at an offset.
-fn bad_at(alloc: Global, cause: &str, at: usize) -> Result<Outcome, NoMemory>
-    ensures { IfOk result (λ o. o ≡ bad_dump (cause.now ++ decimal at)) }
-{
-    let mut text = Text::from_str(alloc, "bad dump: ")?;
-    push_number(&mut text, cause, at as u64)?;
-    text.push_str("\n")?;
-    Ok(Outcome {
-        status: Status::BadDump,
-        text,
-    })
-}
-
-/// A dump that has a part twice.
-fn bad_part(alloc: Global, part: DumpPart) -> Result<Outcome, NoMemory>
-    ensures { IfOk result (λ o. o ≡ refused (DumpFault.Several part)) }
-{
-    let mut text = Text::from_str(alloc, "bad dump: several ")?;
-    text.push_str(part.text())?;
-    text.push_str("\n")?;
-    Ok(Outcome {
-        status: Status::BadDump,
-        text,
-    })
-}
 
 /// What the bytes of a dump show.
 fn show_bytes(alloc: Global, bytes: &[u8]) -> Result<Outcome, NoMemory>
@@ -54,11 +27,7 @@ fn show_bytes(alloc: Global, bytes: &[u8]) -> Result<Outcome, NoMemory>
             status: Status::Done,
             text: show(alloc, &dump)?,
         }),
-        Err(DumpFault::Malformed { at }) => bad_at(alloc, "malformed at ", at),
-        Err(DumpFault::FloatValue { at }) => bad_at(alloc, "float value at ", at),
-        Err(DumpFault::Several { part }) => bad_part(alloc, part),
-        Err(DumpFault::Limit { what, count }) => over_limit(alloc, what, count),
-        Err(DumpFault::NoMemory) => Err(NoMemory),
+        Err(fault) => refused_dump(alloc, fault),
     }
 }
 

@@ -4,11 +4,11 @@ ghost use Rattle.std.specs.Prelude.{◌≡◌, ◌≤◌, ◌⊎◌, List, ℕ, 
 ghost use Rattle.std.specs.String.{string_bytes};
 ghost use Rattle.causes.specs.Counts.{Rose};
 ghost use Rattle.host_set.specs.Sets.{AreDistinct, names};
-ghost use Rattle.pm_cli.specs.Answer.{Answered};
+ghost use Rattle.pm_cli.specs.Answer.{Answered, IfRewritten, IfDebugged};
 ghost use Rattle.command_answers.specs.declared.outcome.Outcome.{Outcome as OutcomeThere};
 ghost use Rattle.command_answers.specs.Told.{UnlessFault, Takes, HasTakenFront};
 ghost use Rattle.command_answers.specs.Texts.{file_fault};
-ghost use Rattle.pm_cli.specs.Stops.{UnlessRun, WordsStop};
+ghost use Rattle.pm_cli.specs.Stops.{UnlessRun, IsQuietBut, WordsStop};
 ghost use Rattle.pm_cli.specs.Words.{command};
 ghost use Rattle.run_session.specs.Stop.{no_memory, file_failed};
 
@@ -56,6 +56,16 @@ pub fn post_mortem<F: Files, O: Sink, D: Devices>(
         (F.told files.old) (F.told files.new) o
         × Takes result (O.taken out.old) (O.taken out.new) o) }
 
+    // Where `instrument` is done, the module that it wrote does what the one that it read does, on equal replies of its host, and hands over
+    // the dump of each trap.
+    ensures instrumented { result ≡ Status.Done → IfRewritten (command (map string_bytes words.now))
+        (F.told files.old) (F.told files.new) }
+
+    // Where `debug` is done, it has read a valid module and a dump that can be one of it, and its text is what the commands print on both;
+    // where it answers a mismatch, it has read such a module and a dump that can't be one of it.
+    ensures debugged { UnlessFault result (IfDebugged (command (map string_bytes words.now)) result
+        (F.told files.old) (O.taken out.old) (O.taken out.new)) }
+
     // Where memory runs out, the command was stopped, or its whole answer stands but for what the output has taken.
     ensures memory { result ≡ Status.NoMemory
         → WordsStop no_memory (map string_bytes words.now)
@@ -72,9 +82,12 @@ pub fn post_mortem<F: Files, O: Sink, D: Devices>(
         × Answered (D.shown devices.old) (D.shown devices.new) (map string_bytes words.now)
         (F.told files.old) (F.told files.new) o) }
 
-    // However it ends, commands other than `run`, and wrong words, call no device and leave the files as they are.
+    // However it ends, commands other than `run`, and wrong words, call no device; `instrument` leaves all files as they are but the one
+    // that it writes, and the others leave all.
     ensures quiet { UnlessRun (command (map string_bytes words.now))
-        ((D.shown devices.new ≡ D.shown devices.old) × (F.told files.new ≡ F.told files.old) × (F.created files.new ≡ F.created files.old)) }
+        ((D.shown devices.new ≡ D.shown devices.old) × (F.told files.new ≡ F.told files.old) × (F.created files.new ≡ F.created files.old))
+        (λ out. IsQuietBut out (D.shown devices.old) (D.shown devices.new)
+        (F.told files.old) (F.told files.new) (F.created files.old) (F.created files.new)) }
 
     // A fault is answered only where a count rose.
     ensures fault { result ≡ Status.FileFault

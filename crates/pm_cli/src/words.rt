@@ -2,9 +2,10 @@
 
 ghost use Rattle.std.specs.Prelude.{◌≡◌, map, None, Some, IfOk};
 ghost use Rattle.std.specs.String.{string_bytes};
-ghost use Rattle.pm_cli.specs.Words.{one_word, command, HasInvocations};
+ghost use Rattle.pm_cli.specs.Words.{one_word, instrument_words, command, HasInvocations, HasDepth};
 
 use command_words::{Options, WordsFault, read_words};
+use debug_command::{DebugWords, debug_words};
 use pm_text::Text;
 use run_words::{RunWords, run_words};
 use std::alloc::Global;
@@ -16,8 +17,12 @@ pub enum Command {
     Check { module: Text },
     /// `run M ENTRY [ARG ...] [+ ENTRY [ARG ...]] ...`
     Run(RunWords),
+    /// `instrument M OUT`
+    Instrument { module: Text, out: Text },
     /// `show DUMP`
     Show { dump: Text },
+    /// `debug M DUMP [COMMAND ...]`
+    Debug(DebugWords),
 }
 
 /// The one plain word behind a command without options.
@@ -35,12 +40,33 @@ fn one_word(alloc: Global, words: &[String]) -> Result<Text, WordsFault>
     }
 }
 
+/// The file that is read and the one that is written, behind `instrument`.
+#[tactic(auto, unfolding(crate::specs::Words::instrument_words))]
+fn instrument_words(alloc: Global, words: &[String]) -> Result<Command, WordsFault>
+    ensures ok { IfOk result (λ c. instrument_words (map string_bytes words.now) ≡ Some c) }
+    ensures usage { result ≡ Err WordsFault.Usage → instrument_words (map string_bytes words.now) ≡ None }
+    ensures some { IfOk result HasInvocations }
+    ensures depth { IfOk result HasDepth }
+{
+    let Some(reading) = read_words(alloc, words, &Options::none())? else {
+        return Err(WordsFault::Usage);
+    };
+    match reading.plain() {
+        [module, out] => Ok(Command::Instrument {
+            module: Text::from_str(alloc, module)?,
+            out: Text::from_str(alloc, out)?,
+        }),
+        _ => Err(WordsFault::Usage),
+    }
+}
+
 /// The command that the words behind the program's name ask for.
 #[tactic(auto, unfolding(crate::specs::Words::command))]
 pub fn parse_words(alloc: Global, words: &[String]) -> Result<Command, WordsFault>
     ensures ok { IfOk result (λ c. command (map string_bytes words.now) ≡ Some c) }
     ensures usage { result ≡ Err WordsFault.Usage → command (map string_bytes words.now) ≡ None }
     ensures some { IfOk result HasInvocations }
+    ensures depth { IfOk result HasDepth }
 {
     let Some((name, words)) = words.split_first() else {
         return Err(WordsFault::Usage);
@@ -50,9 +76,11 @@ pub fn parse_words(alloc: Global, words: &[String]) -> Result<Command, WordsFaul
             module: one_word(alloc, words)?,
         }),
         "run" => Ok(Command::Run(run_words(alloc, words)?)),
+        "instrument" => instrument_words(alloc, words),
         "show" => Ok(Command::Show {
             dump: one_word(alloc, words)?,
         }),
+        "debug" => Ok(Command::Debug(debug_words(alloc, words)?)),
         _ => Err(WordsFault::Usage),
     }
 }

@@ -5,11 +5,19 @@ use Rattle.command_answers.specs.Told.{Takes}
 use Rattle.pm_cli.specs.Answer.{Answered}
 use Rattle.pm_cli.specs.Stops.{WordsStop}
 use Rattle.pm_cli.proofs.Taken.{with_outcome}
+use Rattle.pm_cli.proofs.Headline.{delivered_rewriting, want_not_done, delivered_debugging}
 use Rattle.pm_cli.proofs.Stopping.{stopped_or_answered, failed_or_answered, fronts, named_fault, untaken, no_fault}
 use Rattle.pm_cli.proofs.top.post_mortem.Goals as goal
 
 pub returns-in-Ok-clause-answer : goal.returns-in-Ok-clause-answer
 returns-in-Ok-clause-answer g c = with_outcome c.deliver.result c.in-Ok.outcome (Answered (g.D.Devices.shown c.args.devices.now) (g.D.Devices.shown c.respond.new.devices) (map string_bytes c.args.words.now) (g.F.Files.told c.args.files.now) (g.F.Files.told c.respond.new.files)) (λ o. Takes c.deliver.result (g.O.Sink.taken c.args.out.now) (g.O.Sink.taken c.deliver.new.out) o) (λ takes. takes.0) c.in-Ok.ensures.told c.deliver.ensures.taken
+
+pub returns-in-Ok-clause-instrumented : goal.returns-in-Ok-clause-instrumented
+returns-in-Ok-clause-instrumented g c = delivered_rewriting (g.D.Devices.shown c.args.devices.now) (g.D.Devices.shown c.respond.new.devices) (map string_bytes c.args.words.now) (g.F.Files.told c.args.files.now) (g.F.Files.told c.respond.new.files) c.in-Ok.outcome c.deliver.result
+    (Takes c.deliver.result (g.O.Sink.taken c.args.out.now) (g.O.Sink.taken c.deliver.new.out) c.in-Ok.outcome) (λ takes. takes.0) c.in-Ok.ensures.told c.deliver.ensures.taken
+
+pub returns-in-Ok-clause-debugged : goal.returns-in-Ok-clause-debugged
+returns-in-Ok-clause-debugged g c = delivered_debugging (g.D.Devices.shown c.args.devices.now) (g.D.Devices.shown c.respond.new.devices) (map string_bytes c.args.words.now) (g.F.Files.told c.args.files.now) (g.F.Files.told c.respond.new.files) c.deliver.result (g.O.Sink.taken c.args.out.now) (g.O.Sink.taken c.deliver.new.out) (returns-in-Ok-clause-answer g c)
 
 pub returns-in-Ok-clause-memory : goal.returns-in-Ok-clause-memory
 returns-in-Ok-clause-memory g c = λ so. stopped_or_answered c.in-Ok.outcome (Answered (g.D.Devices.shown c.args.devices.now) (g.D.Devices.shown c.respond.new.devices) (map string_bytes c.args.words.now) (g.F.Files.told c.args.files.now) (g.F.Files.told c.respond.new.files)) (λ stop. WordsStop stop (map string_bytes c.args.words.now) (g.D.Devices.shown c.args.devices.now) (g.D.Devices.shown c.respond.new.devices) (g.F.Files.told c.args.files.now) (g.F.Files.told c.respond.new.files)) c.in-Ok.ensures.memory c.in-Ok.ensures.told c.in-Ok.ensures.stops
@@ -25,6 +33,9 @@ returns-in-Ok-clause-named g c = named_fault c.in-Ok.outcome (Answered (g.D.Devi
 pub returns-in-Ok-clause-front : goal.returns-in-Ok-clause-front
 returns-in-Ok-clause-front g c = fronts c.in-Ok.outcome (Answered (g.D.Devices.shown c.args.devices.now) (g.D.Devices.shown c.respond.new.devices) (map string_bytes c.args.words.now) (g.F.Files.told c.args.files.now) (g.F.Files.told c.respond.new.files)) (λ stop. WordsStop stop (map string_bytes c.args.words.now) (g.D.Devices.shown c.args.devices.now) (g.D.Devices.shown c.respond.new.devices) (g.F.Files.told c.args.files.now) (g.F.Files.told c.respond.new.files)) c.in-Ok.ensures.memory c.in-Ok.ensures.told c.in-Ok.ensures.stops
     (g.O.Sink.taken c.args.out.now) (g.O.Sink.taken c.deliver.new.out) (Rose (g.F.Files.faults c.args.files.now) (g.F.Files.faults c.respond.new.files)) c.in-Ok.ensures.fault c.deliver.ensures.front
+
+pub returns-in-Err-clause-instrumented : goal.returns-in-Err-clause-instrumented
+returns-in-Err-clause-instrumented g c = λ done. absurd (want_not_done done)
 
 pub returns-in-Err-clause-memory : goal.returns-in-Err-clause-memory
 returns-in-Err-clause-memory g c = λ so. inl c.in-Err.ensures.stops
