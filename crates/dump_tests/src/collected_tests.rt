@@ -7,7 +7,7 @@ ghost use Rattle.dump_format.specs.Contained.{IsContained};
 use crate::trap::TRAP;
 use dump_format::Dump;
 use dump_write::dump_bytes;
-use host_collector::{CloseFault, close};
+use host_collector::{CloseFault, Collecting, close};
 use std::alloc::{AllocError, Global};
 use wasm_syntax::CollectorCall;
 
@@ -106,4 +106,9 @@ fn the_first_offending_call_is_named(rt: HostRuntime) {
 #[test]
 fn the_calls_of_a_division_by_zero_have_these_bytes(rt: HostRuntime) {
     assert!(rt; are_closed(rt.alloc(), &DIVISION, 2, &TRAP));
+}
+
+#[test]
+fn a_collector_hands_back_the_other_host_side(rt: HostRuntime) {
+    assert!(rt; Collecting::new(rt.alloc(), 7).into_inner() == 7);
 }

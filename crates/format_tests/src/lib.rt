@@ -5,3 +5,5 @@
 mod dump_tests;
 #[cfg(test)]
 mod instruction_tests;
+#[cfg(test)]
+mod reader_tests;

@@ -116,6 +116,23 @@ fn answers<S: Devices>(
     [first, second, third]
 }
 
+/// The value of the first reply that was served, to a call of the first import.
+fn first_served<S: Devices>(
+    alloc: Global,
+    devices: S,
+    script: Option<Items<Reply>>,
+    imports: &[Import],
+) -> Option<Value>
+    requires { AreDistinct (names (S.shown devices)) }
+{
+    let mut hosts = Hosts::new(alloc, devices, script, imports);
+    answer(alloc, &mut hosts, imports, 0);
+    if hosts.given() == 0 {
+        return None;
+    }
+    hosts.reply(0).value
+}
+
 /// The answers to three calls of the imports of `env` and `counter`, by a set of devices and the replies 5 and 6.
 fn scripted(
     alloc: Global,
@@ -268,6 +285,27 @@ fn a_script_ends(rt: HostRuntime) -> Result<(), Fail> {
     assert!(rt; is_value(&answers[0], 5));
     assert!(rt; is_value(&answers[1], 6));
     assert!(rt; is_word(&answers[2], "(no reply)"));
+    Ok(())
+}
+
+#[test]
+fn a_reply_of_the_script_is_kept(rt: HostRuntime) -> Result<(), Fail> {
+    let alloc = rt.alloc();
+    let imports = imports(alloc, ["env", "counter"])?;
+    let script = Some(replies(alloc, [5, 6])?);
+    let found = first_served(alloc, DeviceSet::new(alloc), script, imports.as_slice());
+    assert!(rt; found == Some(Value::I32(5)));
+    Ok(())
+}
+
+#[test]
+fn a_reply_of_a_device_is_kept(rt: HostRuntime) -> Result<(), Fail> {
+    let alloc = rt.alloc();
+    let mut devices = DeviceSet::new(alloc);
+    attach(&mut devices, Box::new(alloc, called(alloc)?)?)?;
+    let imports = imports(alloc, ["counter", "env"])?;
+    let found = first_served(alloc, devices, None, imports.as_slice());
+    assert!(rt; found == Some(Value::I32(1)));
     Ok(())
 }
 

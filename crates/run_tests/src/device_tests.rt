@@ -2,7 +2,6 @@
 
 ghost use Rattle.std.specs.Prelude.{◌≡◌, codes, []};
 
-use crate::run_modules::{FAR_STORES_LENT, LENDING, PRINTING, TWICE_NEXT};
 use crate::run_trial::{runs, with_module};
 use host_devices::{Console, Counter, Device, DeviceAnswer, copy_call};
 use host_set::DeviceSet;
@@ -14,6 +13,7 @@ use std::marker::Model;
 use std::process::Abort;
 use std::rc::Rc;
 use std::test::Fail;
+use test_modules::{FAR_STORES_LENT, LENDING, PRINTING, TWICE_NEXT};
 use wasm_syntax::{HostCall, Reply, Served, Value};
 
 /// The device `memory`. To a call with an address it replies the byte that stands there, and to one without arguments how many pages are

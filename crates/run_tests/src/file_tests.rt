@@ -1,12 +1,12 @@
 //! `run` over long files, and over files whose calls fail.
 
-use crate::run_modules::{FAR_STORES, READING};
 use crate::run_trial::{runs, with_module};
 use host_set::DeviceSet;
 use pm_outside::{MemFiles, Part};
 use std::alloc::{AllocError, Global};
 use std::process::Abort;
 use std::test::Fail;
+use test_modules::{FAR_STORES, READING};
 
 /// A comment of so many bytes, without an end of its line.
 fn comment(alloc: Global, size: usize) -> Result<Vec<u8>, AllocError> {

@@ -2,7 +2,6 @@
 
 ghost use Rattle.host_set.specs.Sets.{AreDistinct, names};
 
-use crate::run_modules::*;
 use host_devices::{Console, Counter, Device};
 use host_set::{DeviceSet, Devices};
 use pm_cli::post_mortem;
@@ -10,6 +9,7 @@ use pm_outside::{MemFiles, MemSink};
 use std::alloc::Global;
 use std::process::Abort;
 use std::test::Fail;
+use test_modules::*;
 use wasm_syntax::Value;
 
 /// A module in the file `m`, replies in the file `r`, the words behind `run m`, the status and the text, and what `show core.wasm` prints

@@ -9,6 +9,4 @@ mod file_tests;
 #[cfg(test)]
 mod invocation_tests;
 #[cfg(test)]
-mod run_modules;
-#[cfg(test)]
 mod run_trial;

@@ -1,0 +1,12 @@
+//! The commands `instrument` and `run --collect`, tested over files in memory. The tests stand apart from `pm_cli`, so that it is not proved a
+//! second time with them.
+#![tactic(auto)]
+
+#[cfg(test)]
+mod collected_tests;
+#[cfg(test)]
+mod handed_tests;
+#[cfg(test)]
+mod trial;
+#[cfg(test)]
+mod written_tests;

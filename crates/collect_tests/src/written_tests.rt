@@ -1,0 +1,161 @@
+//! What `instrument` says of modules and what it writes. Weights are sums of parts by hand.
+
+use crate::trial::{answers, begins, files_of};
+use pm_outside::{MemFiles, Part};
+use std::alloc::Global;
+use test_modules::{DIVISION, EMPTY, NESTED, TAKEN_NAME};
+use wasm_decode::decode;
+use wasm_syntax::{Basic, Body, Instr, Jump, Module};
+
+/// A module, its weight as it is told, and what `check` counts in its rewriting.
+type Row = (&'static [u8], &'static str, &'static str);
+
+const WEIGHTS: [Row; 2] = [
+    (
+        &EMPTY,
+        "instrumented weight 576\n",
+        "valid types 4 imports 3 functions 0 exports 0 custom 0\n",
+    ),
+    (
+        &DIVISION,
+        "instrumented weight 2104\n",
+        "valid types 5 imports 3 functions 2 exports 1 custom 0\n",
+    ),
+];
+
+/// Whether the module in `m` is rewritten so, and not a second time.
+fn is_weighed(alloc: Global, files: &mut MemFiles, row: &Row) -> bool {
+    answers(alloc, ["instrument m", "i"], files, (0, row.1))
+        && answers(alloc, ["check", "i"], files, (0, row.2))
+        && answers(
+            alloc,
+            ["instrument i", "j"],
+            files,
+            (14, "collision: import 0\n"),
+        )
+        && files.get("j").is_none()
+}
+
+fn weighs(alloc: Global, row: &Row) -> bool {
+    match files_of(alloc, row.0, "") {
+        Ok(mut files) => is_weighed(alloc, &mut files, row),
+        Err(_) => false,
+    }
+}
+
+#[test]
+fn weights_are_told(rt: HostRuntime) {
+    for row in &WEIGHTS {
+        assert!(rt; weighs(rt.alloc(), row), "{}", row.1);
+    }
+}
+
+fn is_refused(alloc: Global) -> bool {
+    let wanted = (14, "collision: export 0\n");
+    match files_of(alloc, &TAKEN_NAME, "") {
+        Ok(mut files) => {
+            answers(alloc, ["instrument m", "i"], &mut files, wanted) && files.get("i").is_none()
+        }
+        Err(_) => false,
+    }
+}
+
+#[test]
+fn the_name_of_the_memory_is_taken(rt: HostRuntime) {
+    assert!(rt; is_refused(rt.alloc()));
+}
+
+/// The call of `Files` that fails, the file that is named, and how many bytes of the written file are there. The module is read in two calls; then the file is
+/// made, and its bytes are added at once, of which ten are taken.
+const FAULTS: [(u64, &str, Option<usize>); 4] = [
+    (0, "file fault: \"m\"\n", None),
+    (1, "file fault: \"m\"\n", None),
+    (2, "file fault: \"i\"\n", None),
+    (3, "file fault: \"i\"\n", Some(10)),
+];
+
+/// Files with a module in `m`, of whose calls one fails.
+fn failing(alloc: Global, call: u64) -> Option<MemFiles> {
+    let fails = Vec::from_slice(alloc, &[call]).ok()?;
+    let parts = Vec::from_slice(alloc, &[Part { call: 3, bytes: 10 }]).ok()?;
+    let mut files = MemFiles::new(alloc, fails);
+    files.take_parts(parts);
+    files.add("m", &DIVISION).ok()?;
+    Some(files)
+}
+
+fn length(bytes: Option<&[u8]>) -> Option<usize> {
+    match bytes {
+        Some(bytes) => Some(bytes.len()),
+        None => None,
+    }
+}
+
+fn is_named(alloc: Global, call: u64, text: &str, left: Option<usize>) -> bool {
+    match failing(alloc, call) {
+        Some(mut files) => {
+            answers(alloc, ["instrument m", "i"], &mut files, (4, text))
+                && length(files.get("i")) == left
+        }
+        None => false,
+    }
+}
+
+#[test]
+fn a_failing_file_is_named(rt: HostRuntime) {
+    for (call, text, left) in FAULTS {
+        assert!(rt; is_named(rt.alloc(), call, text, left), "{call}");
+    }
+}
+
+/// Whether a body without locals of its own sets none of eight slots in front of its first call.
+fn keeps_slots(body: &Body) -> bool {
+    for op in body.ops.as_slice() {
+        match op.code {
+            Instr::Jump(Jump::Call(_)) => return true,
+            Instr::Basic(Basic::LocalSet(slot) | Basic::LocalTee(slot)) => {
+                if slot < 8 {
+                    return false;
+                }
+            }
+            _ => {}
+        }
+    }
+    false
+}
+
+/// Whether the first function of a module is so.
+fn first_keeps_slots(module: &Module) -> bool {
+    match module.parts().bodies.get(0) {
+        Some(body) => keeps_slots(body),
+        None => false,
+    }
+}
+
+fn is_kept(alloc: Global, bytes: Option<&[u8]>) -> bool {
+    let Some(bytes) = bytes else { return false };
+    match decode(alloc, bytes) {
+        Ok(module) => first_keeps_slots(&module),
+        Err(_) => false,
+    }
+}
+
+fn constants_are_not_stored(alloc: Global) -> bool {
+    match files_of(alloc, &NESTED, "") {
+        Ok(mut files) => {
+            begins(
+                alloc,
+                ["instrument m", "i"],
+                &mut files,
+                "instrumented weight ",
+            ) && is_kept(alloc, files.get("i"))
+        }
+        Err(_) => false,
+    }
+}
+
+// The operands of the nested blocks are constants, which are handed over as they are.
+#[test]
+fn no_operand_is_stored_in_front_of_the_first_call(rt: HostRuntime) {
+    assert!(rt; constants_are_not_stored(rt.alloc()));
+}
