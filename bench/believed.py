@@ -616,7 +616,7 @@ class Repository:
 
 PAGE = Path('docs/DEFINITIONS.md')
 ROW = re.compile(r'\| `(\w+/specs/[\w/]+)` \| (\d+) \| (.+) \|')
-MOST = 5000
+MOST = 7000
 
 
 def compared(repository, by_file):

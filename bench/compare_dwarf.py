@@ -1,9 +1,12 @@
 """Helps bench/dwarf.sh with DWARF in modules.
 
     compare_dwarf.py sections MODULE FOLDER       writes each section of debugging information to a file of its name
-    compare_dwarf.py compare TEXT INFO LINE       compares what the readers print with what llvm-dwarfdump prints of units (verbosely)
-                                                  and of line programs
+    compare_dwarf.py compare TEXT INFO LINE       compares what the readers print with what llvm-dwarfdump prints of units (verbosely),
+                                                  with the lists that they refer to, and of line programs
     compare_dwarf.py repeat FOLDER BYTES OUT      the sections of FOLDER with the units repeated up to so many bytes, and a module of them
+    compare_dwarf.py lines FOLDER BYTES OUT       one unit whose line program has the sequences of the first program of FOLDER, one behind
+                                                  the other, up to so many bytes; a module of it, and addresses in it
+    compare_dwarf.py looked-up TEXT SYMBOLS       compares the lines of addresses with those that llvm-symbolizer gives
 
 What llvm-dwarfdump shows as a name alone (a source file, some encodings) and operators that the table below has not are
 counted and not compared.
@@ -74,7 +77,7 @@ def leb(data, at, signed=False):
 
 OPERATORS = {0x06: "deref", 0x12: "dup", 0x13: "drop", 0x1A: "and", 0x1B: "div", 0x1C: "minus", 0x1D: "mod", 0x1E: "mul", 0x1F: "neg",
              0x20: "not", 0x21: "or", 0x22: "plus", 0x24: "shl", 0x25: "shr", 0x26: "shra", 0x27: "xor", 0x96: "nop", 0x9F: "stack_value"}
-UNSIGNED = {0x10: "constu", 0x23: "plus_uconst", 0x93: "piece", 0xA1: "addrx"}
+UNSIGNED = {0x10: "constu", 0x23: "plus_uconst", 0x93: "piece", 0xA1: "addrx", 0xA8: "convert"}
 SIGNED = {0x11: "consts", 0x91: "fbreg"}
 
 
@@ -118,6 +121,11 @@ def number(shown):
     return SYMBOLS.get(found.group(1)) if found else None
 
 
+def converted(shown):
+    """With the offset of the type of a conversion alone, without its name."""
+    return re.sub(r'convert \((0x[0-9a-f]+) -> 0x[0-9a-f]+\) "\w+"', lambda found: "convert %#x" % int(found.group(1), 16), shown)
+
+
 def wanted(kind, form, shown):
     """What llvm-dwarfdump shows of a value; None where that is not comparable."""
     if kind == "address":
@@ -135,18 +143,19 @@ def wanted(kind, form, shown):
         found = re.search(r"(?:loclist|rangelist) = 0x([0-9a-f]+)", shown)
         return int(found.group(1), 16) if found else number(shown)
     if kind == "block":
-        return shown.strip()[1:-1] if form == "exprloc" else None
+        return converted(shown.strip()[1:-1]) if form == "exprloc" else None
     return None
 
 
 def dumped_units(path):
-    """Units of llvm-dwarfdump: (offset, version, entries), an entry (offset, depth, tag, attributes), an attribute (name, class, value)."""
+    """Units of llvm-dwarfdump: (offset, version, entries), an entry (offset, depth, tag, attributes), an attribute (name, class, value, list)."""
     units, entry = [], None
     for line in open(path, encoding="latin-1"):
         line = line.rstrip("\n")
         head = re.match(r"(0x[0-9a-f]+): Compile Unit: .*version = (0x[0-9a-f]+)", line)
         at = re.match(r"(0x[0-9a-f]+):( +)(DW_TAG_(\w+)|NULL)", line)
         found = re.match(r" +DW_AT_(\w+) \[DW_FORM_(\w+)\]\t(.*)", line)
+        listed = re.match(r" +\[(0x[0-9a-f]+), (0x[0-9a-f]+)\)(?:: (.*?))?\)?$", line)
         if head:
             units.append((int(head.group(1), 16), int(head.group(2), 16), []))
         elif at:
@@ -157,8 +166,24 @@ def dumped_units(path):
         elif found and entry:
             name, form, shown = found.groups()
             kind = form_class(form)
-            entry[3].append((NAMES.get(name, name), kind, wanted(kind, form, shown)))
+            entry[3].append((NAMES.get(name, name), kind, wanted(kind, form, shown), []))
+        elif listed and entry and entry[3]:
+            entry[3][-1][3].append((int(listed.group(1), 16), int(listed.group(2), 16), converted(listed.group(3) or "")))
     return units
+
+
+def runs_of(entries):
+    """From which addresses on which expression counts, where the first entry that holds an address counts."""
+    bounds = sorted({bound for entry in entries for bound in entry[:2]})
+    runs, before = [], None
+    for address in bounds:
+        here = next((number for number, entry in enumerate(entries) if entry[0] <= address < entry[1]), None)
+        if here is not None and before is not None and not entries[here][2]:
+            continue
+        if here != before:
+            runs.append((address, entries[here][2] if here is not None else None))
+        before = here
+    return runs
 
 
 def dumped_lines(path):
@@ -205,7 +230,12 @@ def read_text(path):
             value = rest[2] if len(rest) > 2 else ""
             if rest[1] in ("address", "constant", "signed", "reference", "offset"):
                 value = int(value)
-            units[-1][2][-1][3].append((int(rest[0]), rest[1], value))
+            units[-1][2][-1][3].append((int(rest[0]), rest[1], value, []))
+        elif kind == "from":
+            held = None if rest[1] == "nothing" else rest[2] if len(rest) > 2 else ""
+            units[-1][2][-1][3][-1][3].append((int(rest[0]), held))
+        elif kind == "list":
+            pass
         elif kind == "lines":
             program = ([], [], [[]])
             programs[int(rest[0])] = program
@@ -227,7 +257,7 @@ def read_text(path):
 
 class Counts:
     def __init__(self):
-        self.entries = self.values = self.unseen = self.rows = self.differences = 0
+        self.entries = self.values = self.unseen = self.lists = self.changes = self.rows = self.differences = 0
 
     def same(self, ours, theirs, where):
         if ours != theirs:
@@ -244,6 +274,20 @@ class Counts:
         else:
             self.values += 1
             self.same(value, theirs[2], where)
+        self.list(ours[3], runs_of(theirs[3]), "the list of " + where)
+
+    def list(self, ours, theirs, where):
+        """From which addresses on which expression counts. An expression with an operator that is not compared counts as seen by class."""
+        if ours or theirs:
+            self.lists += 1
+        self.same([run[0] for run in ours], [run[0] for run in theirs], where)
+        for run, other in zip(ours, theirs):
+            self.changes += 1
+            value = run[1] and expression(bytes.fromhex(run[1]))
+            if run[1] and value is None:
+                self.unseen += 1
+            else:
+                self.same(value, other[1], where)
 
     def units(self, ours, theirs):
         self.same([unit[:2] for unit in ours], [unit[:2] for unit in theirs], "the units")
@@ -268,8 +312,8 @@ def compare(text, info, line):
     counts = Counts()
     counts.units(units, dumped_units(info))
     counts.programs(programs, dumped_lines(line))
-    print("  %d units, %d entries, %d values, %d rows; %d values seen by class alone; %d differences"
-          % (len(units), counts.entries, counts.values, counts.rows, counts.unseen, counts.differences))
+    print("  %d units, %d entries, %d values, %d lists with %d changes, %d rows; %d values seen by class alone; %d differences"
+          % (len(units), counts.entries, counts.values, counts.lists, counts.changes, counts.rows, counts.unseen, counts.differences))
     return 1 if counts.differences else 0
 
 
@@ -304,9 +348,11 @@ def spelled(value):
         out += bytes([byte | 0x80])
 
 
-def repeat(folder, size, out):
-    found = {".debug_" + name: open(os.path.join(folder, "debug_" + name), "rb").read() for name in SECTIONS}
-    found[".debug_info"] *= 1 + int(size) // len(found[".debug_info"])
+def read_sections(folder):
+    return {".debug_" + name: open(os.path.join(folder, "debug_" + name), "rb").read() for name in SECTIONS}
+
+
+def write_module(found, out):
     write_sections(found, out)
     module = b"\0asm\1\0\0\0"
     for name, data in found.items():
@@ -314,9 +360,76 @@ def repeat(folder, size, out):
         module += b"\0" + spelled(len(contents)) + contents
     with open(os.path.join(out, "module.wasm"), "wb") as file:
         file.write(module)
+
+
+def repeat(folder, size, out):
+    found = read_sections(folder)
+    found[".debug_info"] *= 1 + int(size) // len(found[".debug_info"])
+    write_module(found, out)
     print("  %d bytes of units, each with its line program of %d bytes" % (len(found[".debug_info"]), len(found[".debug_line"])))
     return 0
 
 
+def sequences(program, at):
+    """The sequences of a program whose opcodes begin at an offset: the bytes before and behind the opcode that sets its address."""
+    found, begin = [], at
+    while at < len(program):
+        op, here = program[at], at
+        at += 1
+        if op == 0:
+            length, at = leb(program, at)
+            if program[at] == 2:
+                before, behind = program[begin:here], at + length
+            at += length
+            if length == 1 and program[at - 1] == 1:
+                found.append((before, program[behind:at]))
+                begin = at
+        elif op == 9:
+            at += 2
+        elif op in (2, 3, 4, 5, 12):
+            at = leb(program, at)[1]
+    return found
+
+
+def lines(folder, size, out):
+    """Each sequence gets 512 addresses of its own. The unit has the name, the directory, the addresses and the program alone."""
+    program = read_sections(folder)[".debug_line"]
+    version = program[4]
+    at = 12 if version == 5 else 10
+    begin = at + int.from_bytes(program[at - 4:at], "little")
+    parts, address, count = [], 16, 0
+    pieces = sequences(program, begin)
+    while count < int(size):
+        for before, behind in pieces:
+            part = before + b"\0\5\2" + address.to_bytes(4, "little") + behind
+            parts.append(part)
+            count += len(part)
+            address += 512
+    contents = program[4:begin] + b"".join(parts)
+    attributes = bytes.fromhex("03 08 10 17 11 01 12 06 00 00")
+    root = b"\1t.c\0" + bytes(4) + bytes(4) + address.to_bytes(4, "little")
+    head = b"\5\0\1\4" + bytes(4) if version == 5 else b"\4\0" + bytes(4) + b"\4"
+    found = {".debug_" + name: b"" for name in SECTIONS}
+    found[".debug_abbrev"] = b"\1\x11\0" + attributes + b"\0"
+    found[".debug_info"] = (len(head) + len(root)).to_bytes(4, "little") + head + root
+    found[".debug_line"] = len(contents).to_bytes(4, "little") + contents
+    found[".debug_line_str"] = read_sections(folder)[".debug_line_str"]
+    found[".debug_str"] = read_sections(folder)[".debug_str"]
+    write_module(found, out)
+    with open(os.path.join(out, "addresses"), "w") as file:
+        for number in range(20000):
+            file.write("0x%x\n" % (16 + 409 * number))
+    print("  %d bytes of one line program, %d sequences" % (len(found[".debug_line"]), len(parts)))
+    return 0
+
+
+def looked_up(text, symbols):
+    ours = [int(line.split()[1]) for line in open(text) if line[0].isdigit()]
+    theirs = [int(line.rsplit(":", 2)[1]) for line in open(symbols) if re.search(r":\d+:\d+$", line)]
+    differences = sum(a != b for a, b in zip(ours, theirs)) + abs(len(ours) - len(theirs))
+    print("  %d addresses, %d with a line; %d differences" % (len(ours), sum(line > 0 for line in ours), differences))
+    return 1 if differences else 0
+
+
 if __name__ == "__main__":
-    sys.exit({"sections": sections, "compare": compare, "repeat": repeat}[sys.argv[1]](*sys.argv[2:]))
+    sys.exit({"sections": sections, "compare": compare, "repeat": repeat, "lines": lines, "looked-up": looked_up}[sys.argv[1]](*sys.argv[2:]))

@@ -1,8 +1,9 @@
 #!/bin/sh
-# Units and line programs of real modules, as the readers give them beside llvm-dwarfdump, entry by entry and row by row: C programs
-# that clang 14 and clang 19 make, of versions 4 and 5, plain and optimized, and one module with units of both versions. Then
-# the milliseconds for 10 MB of units and their line programs, beside llvm-dwarfdump. Needs clang and lld of both versions,
-# llvm-dwarfdump and python3. The program that prints is made in a folder of its own, from the crates of this checkout.
+# Units, lists and line programs of real modules, as the readers give them beside llvm-dwarfdump, entry by entry, address by address
+# and row by row: C programs that clang 14 and clang 19 make, of versions 4 and 5, plain and optimized, and one module with units
+# of both versions. Then the milliseconds for 10 MB of units and their line programs, beside llvm-dwarfdump, and for 5 MB of a line
+# program and the lines of 20,000 addresses in it, beside llvm-dwarfdump and llvm-symbolizer. Needs clang and lld of both versions,
+# llvm-dwarfdump, llvm-symbolizer and python3. The program that prints is made in a folder of its own, from the crates of this checkout.
 set -eu
 top=$(cd "$(dirname "$0")/.." && pwd)
 work=$(mktemp -d)
@@ -25,8 +26,10 @@ ghost use Rattle.std.specs.Prelude.{◌≤◌, vec_len, IfOk};
 ghost use Rattle.dwarf_info.specs.Sections.{IsReadable5};
 
 use dwarf_info::{AttrValue, Attribute, Entry, Sections, Sections5, Unit, UnitAnswer, Units};
+use dwarf_bytes::ReadFault;
 use dwarf_line::Lines;
-use dwarf5_info::read_units5;
+use dwarf_loc::Span;
+use dwarf5_info::{list_base, location5_at, range5_holds, read_units5};
 use dwarf5_line::read_lines5;
 use std::alloc::Global;
 use std::{env, fs};
@@ -34,6 +37,12 @@ use std::io::{self, BufWriter, Write};
 use std::time::Instant;
 
 const LONGEST: usize = 134_217_728;
+
+// Lists are looked at from 0 up to here.
+const ADDRESSES: u32 = 16_384;
+
+// How many addresses are looked up in a line program, from 16 on.
+const LOOK_UPS: u32 = 20_000;
 
 /// The bytes of a section, which are those of a file of its name.
 fn section(rt: &HostRuntime, folder: &str, name: &str) -> io::Result<Vec<u8>>
@@ -71,23 +80,119 @@ fn print_attribute<W: Write>(out: &mut W, attribute: &Attribute<'_>) -> io::Resu
     }
 }
 
-fn print_entry<W: Write>(out: &mut W, entry: &Entry<'_>) -> io::Result<()> {
+fn location_in(
+    sections: &Sections5<'_>,
+    unit: &Unit<'_>,
+    at: usize,
+    address: u32,
+) -> Result<Option<Span>, ReadFault> {
+    if unit.version == 5 {
+        location5_at(sections, unit, at, address)
+    } else {
+        dwarf_loc::location_at(sections.base.loc, at, list_base(unit), address)
+    }
+}
+
+fn range_in(
+    sections: &Sections5<'_>,
+    unit: &Unit<'_>,
+    at: usize,
+    address: u32,
+) -> Result<bool, ReadFault> {
+    if unit.version == 5 {
+        range5_holds(sections, unit, at, address)
+    } else {
+        dwarf_loc::range_holds(sections.base.ranges, at, list_base(unit), address)
+    }
+}
+
+/// What a list says of an address: nothing, or the bytes that count, which are none in a range list.
+fn said<'a>(
+    sections: &Sections5<'a>,
+    unit: &Unit<'_>,
+    is_location: bool,
+    at: usize,
+    address: u32,
+) -> Result<Option<&'a [u8]>, ReadFault> {
+    if !is_location {
+        let is_held = range_in(sections, unit, at, address)?;
+        return Ok(if is_held { Some(&[]) } else { None });
+    }
+    let section = if unit.version == 5 { sections.loclists } else { sections.base.loc };
+    match location_in(sections, unit, at, address)? {
+        Some(span) => Ok(section.get(span.at..span.at.saturating_add(span.len))),
+        None => Ok(None),
+    }
+}
+
+/// A line for each address at which what the list says is not what it said of the address before.
+fn print_list<W: Write>(
+    out: &mut W,
+    sections: &Sections5<'_>,
+    unit: &Unit<'_>,
+    is_location: bool,
+    at: usize,
+) -> io::Result<()> {
+    writeln!(out, "list")?;
+    let mut before: Option<&[u8]> = None;
+    for address in 0..ADDRESSES {
+        let Ok(here) = said(sections, unit, is_location, at, address) else {
+            return writeln!(out, "unreadable list {at}");
+        };
+        if here == before {
+            continue;
+        }
+        write!(out, "from {address} ")?;
+        match here {
+            Some(bytes) => print_bytes(out, "held", bytes)?,
+            None => writeln!(out, "nothing")?,
+        }
+        before = here;
+    }
+    Ok(())
+}
+
+/// The list that an attribute refers to: a location or a frame base, or ranges.
+fn print_list_of<W: Write>(
+    out: &mut W,
+    sections: &Sections5<'_>,
+    unit: &Unit<'_>,
+    attribute: &Attribute<'_>,
+) -> io::Result<()> {
+    match (attribute.name, &attribute.value) {
+        (0x02 | 0x40, AttrValue::Offset(at)) => print_list(out, sections, unit, true, *at as usize),
+        (0x55, AttrValue::Offset(at)) => print_list(out, sections, unit, false, *at as usize),
+        _ => Ok(()),
+    }
+}
+
+fn print_entry<W: Write>(
+    out: &mut W,
+    sections: &Sections5<'_>,
+    unit: &Unit<'_>,
+    entry: &Entry<'_>,
+) -> io::Result<()> {
     let at = entry.at;
     let depth = entry.depth;
     let tag = entry.tag;
     writeln!(out, "entry {at} {depth} {tag}")?;
     for attribute in entry.attributes.as_slice() {
         print_attribute(out, attribute)?;
+        print_list_of(out, sections, unit, attribute)?;
     }
     Ok(())
 }
 
-fn print_unit<W: Write>(out: &mut W, unit: &Unit<'_>) -> io::Result<()> {
+fn print_unit<W: Write>(
+    out: &mut W,
+    sections: &Sections5<'_>,
+    unit: &Unit<'_>,
+) -> io::Result<()> {
     let at = unit.at;
     let version = unit.version;
     writeln!(out, "unit {at} {version}")?;
     for entry in unit.entries.as_slice() {
-        print_entry(out, entry)?;
+        print_entry(out, sections, unit, entry)?;
     }
     Ok(())
 }
@@ -165,13 +270,35 @@ fn print_all<W: Write>(
     for answer in units.as_slice() {
         match answer {
             UnitAnswer::Tree(unit) => {
-                print_unit(out, unit)?;
+                print_unit(out, sections, unit)?;
                 print_program(out, alloc, sections, unit)?;
             }
             UnitAnswer::Unreadable { section: _, at } => writeln!(out, "unreadable unit {at}")?,
         }
     }
     Ok(())
+}
+
+/// The line of each of many addresses, and 0 where it has none.
+fn print_look_ups(rt: &HostRuntime, sections: &Sections5<'_>) -> io::Result<()> {
+    let start = Instant::now(rt)?;
+    let Ok(lines) = read_lines5(rt.alloc(), sections, 0) else {
+        return Err(io::ErrorKind::InvalidData.into());
+    };
+    let read = start.elapsed(rt)?.as_millis();
+    let mut out = BufWriter::new(rt.alloc(), io::writer(rt))?;
+    let start = Instant::now(rt)?;
+    for number in 0..LOOK_UPS {
+        let address = 16 + 409 * number;
+        let line = match lines.place(address) {
+            Some(row) => row.line,
+            None => 0,
+        };
+        writeln!(out, "{address} {line}")?;
+    }
+    let placed = start.elapsed(rt)?.as_millis();
+    writeln!(out, "read {read} ms, looked up {placed} ms")?;
+    out.flush()
 }
 
 /// Reads all units and their line programs, and prints them, or how many milliseconds the reading took.
@@ -195,7 +322,7 @@ fn read_and_print(rt: &HostRuntime, sections: &Sections5<'_>, prints: bool) -> i
     out.flush()
 }
 
-fn run(rt: &HostRuntime, folder: &str, prints: bool) -> io::Result<()> {
+fn run(rt: &HostRuntime, folder: &str, mode: &str) -> io::Result<()> {
     let info = section(rt, folder, "debug_info")?;
     let abbrev = section(rt, folder, "debug_abbrev")?;
     let line = section(rt, folder, "debug_line")?;
@@ -222,16 +349,19 @@ fn run(rt: &HostRuntime, folder: &str, prints: bool) -> io::Result<()> {
         loclists: loclists.as_slice(),
         rnglists: rnglists.as_slice(),
     };
-    read_and_print(rt, &sections, prints)
+    match mode {
+        "look-ups" => print_look_ups(rt, &sections),
+        _ => read_and_print(rt, &sections, mode == "print"),
+    }
 }
 
-/// The words are a folder of sections and `print` or `time`.
+/// The words are a folder of sections and `print`, `time` or `look-ups`.
 fn main(rt: HostRuntime) -> io::Result<()> {
     let mut words = env::args(&rt)?.skip(1);
     let (Some(folder), Some(mode)) = (words.next(), words.next()) else {
         return Err(io::ErrorKind::InvalidInput.into());
     };
-    run(&rt, folder.as_str(), mode.as_str() == "print")
+    run(&rt, folder.as_str(), mode.as_str())
 }
 PROGRAM
 cat > "$work/shapes.c" <<'PROGRAM'
@@ -321,5 +451,19 @@ for dwarf in 4 5; do
     /usr/bin/time -f '  %e s, %M KiB at most' "$print" large time
     /usr/bin/time -f '  llvm-dwarfdump, which prints them: %e s, %M KiB at most' llvm-dwarfdump-19 --debug-info large/module.wasm > /dev/null
   done
+done
+for dwarf in 4 5; do
+  clang-19 --target=wasm32 -nostdlib -g "-gdwarf-$dwarf" -O2 -c -o large.o calls.c
+  wasm-ld-19 --no-entry --export-all -o module.wasm large.o
+  python3 "$helper" sections module.wasm sections
+  printf 'version %s:\n' "$dwarf"
+  python3 "$helper" lines sections 5000000 many
+  for round in 1 2 3; do
+    /usr/bin/time -f '  %e s, %M KiB at most' "$print" many look-ups > looked-up
+    tail -n 1 looked-up | sed 's/^/  /'
+    /usr/bin/time -f '  llvm-symbolizer, the same addresses: %e s, %M KiB at most' llvm-symbolizer-19 --obj=many/module.wasm < many/addresses > symbolized
+    /usr/bin/time -f '  llvm-dwarfdump, which prints the rows: %e s, %M KiB at most' llvm-dwarfdump-19 --debug-line many/module.wasm > /dev/null
+  done
+  python3 "$helper" looked-up looked-up symbolized || status=1
 done
 exit "$status"

@@ -1,0 +1,90 @@
+#!/bin/sh
+# `pm debug` on traps of C programs that clang makes: `bt` beside llvm-symbolizer, frame by frame, by function, file and line; and, of plain
+# programs, `vars` and `print` beside what the program itself wrote of its variables before it trapped. clang 14 makes version 4 of the
+# debugging information, clang 19 versions 4 and 5, plain and optimized. Then the time and the memory of `bt`, beside llvm-symbolizer on the
+# same addresses, in rounds of three, also of a module with 10 MB of debugging information. Needs the program
+# (crates/pm_main/out/pm_main), python3, clang and lld of a version, and llvm-symbolizer; it passes over a version of clang that is missing.
+set -eu
+top=$(cd "$(dirname "$0")/.." && pwd)
+pm="$top/crates/pm_main/out/pm_main"
+helper="$top/bench/compare_debug.py"
+work=$(mktemp -d)
+trap 'rm -rf "$work"' EXIT
+cd "$work"
+status=0
+
+if ! command -v llvm-symbolizer > /dev/null; then echo 'llvm-symbolizer is missing'; exit 1; fi
+
+# make CLANG FLAGS PROGRAM: the module of a program, in which a fault was planted where it does not trap by itself. It is linked by hand: clang
+# calls binaryen's wasm-opt behind the linker where it is there, and that one moves code, loses the lines and does not read version 5.
+make() {
+  file=$(basename "$3")
+  python3 "$helper" plant "$3" "planted-$file"
+  mv "planted-$file" "$file"
+  "clang-$1" --target=wasm32 $2 -fno-builtin -c -o module.o "$file"
+  "wasm-ld-$1" --no-entry -o module.wasm module.o
+}
+
+# die ARGUMENTS: runs it up to its trap.
+die() {
+  code=0
+  "$pm" run module.wasm run $1 --fuel 1000000000 --dump core.wasm > text || code=$?
+  test $code = 1
+  "$pm" show core.wasm > shown
+  python3 "$helper" addresses module.wasm shown > addresses
+}
+
+# rows CLANG FLAGS: the programs, each on its arguments.
+rows() {
+  for row in 'traps/tree i32:7 i32:0' 'traps/parser i32:50 i32:0' 'traps/states i32:2 i32:0' 'traps/states i32:3 i32:0' \
+      'traps/states i32:4 i32:0' 'traps/states i32:5 i32:0' 'traps/states i32:6 i32:0' 'traps/values i32:12 i32:3' sort compress hash bignum; do
+    program=${row%% *}
+    arguments=$(echo "$row" | cut -s -d ' ' -f 2-)
+    make "$1" "$2" "$top/bench/programs/$program.c"
+    die "$arguments"
+    echo "clang $1 $2, $program.c: $(head -n 1 text)"
+    "$pm" debug module.wasm core.wasm bt > printed
+    llvm-symbolizer --functions=short --obj=module.wasm < addresses > symbols
+    python3 "$helper" frames printed symbols || status=1
+    case "$2 $program" in
+    *-O0*traps/values)
+      "$pm" debug module.wasm core.wasm vars 'print *second' 'print list->next->pair->b[1]' 'print (*list).both.bytes[2]' \
+        'print grid[1][2]' 'print *nowhere' > printed
+      python3 "$helper" told printed core.wasm || status=1 ;;
+    esac
+  done
+}
+
+for level in -O0 -O2; do
+  if command -v clang-14 > /dev/null; then rows 14 "-gdwarf-4 -glldb $level"; else echo 'clang 14 is missing'; fi
+  if command -v clang-19 > /dev/null; then
+    rows 19 "-g $level"
+    rows 19 "-gdwarf-5 $level"
+  else
+    echo 'clang 19 is missing'
+  fi
+done
+
+# timed NAME: `bt` and llvm-symbolizer on the same frames.
+timed() {
+  echo "$1, $(wc -c < module.wasm) bytes, $(grep -c instance shown) frames"
+  for round in 1 2 3; do
+    /usr/bin/time -f '  pm debug bt: %e s, %M KiB at most' "$pm" debug module.wasm core.wasm bt > printed
+    /usr/bin/time -f '  llvm-symbolizer: %e s, %M KiB at most' llvm-symbolizer --functions=short --obj=module.wasm < addresses > symbols
+  done
+  python3 "$helper" frames printed symbols || status=1
+}
+
+newest=$(command -v clang-19 > /dev/null && echo 19 || echo 14)
+make "$newest" '-g -O0' "$top/bench/programs/traps/parser.c"
+die 'i32:900 i32:0'
+timed 'parser.c on 900 brackets'
+# The linker leaves out the functions that are not called, but none of their debugging information.
+mkdir made
+python3 "$top/bench/make_c.py" 17000 made/large.c
+for flags in '-gdwarf-4 -O0' '-gdwarf-5 -O0'; do
+  make "$newest" "$flags" made/large.c
+  die 'i32:1 i32:2'
+  timed "made by make_c.py, $flags"
+done
+exit "$status"
