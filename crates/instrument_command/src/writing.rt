@@ -46,7 +46,11 @@ fn are_bytes(bytes: &[u8])
 }
 
 /// The bytes of what a module is rewritten to.
-pub fn admitted_bytes(alloc: Global, source: &Validated, other: &Module) -> Result<Vec<u8>, NoMemory>
+pub fn admitted_bytes(
+    alloc: Global,
+    source: &Validated,
+    other: &Module,
+) -> Result<Vec<u8>, NoMemory>
     requires { Rewrites source.now other.now }
     ensures { IfOk result (λ bytes. Admits source.now bytes.items) }
 {
