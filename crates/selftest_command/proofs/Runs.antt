@@ -38,9 +38,9 @@ use Rattle.run_collected.specs.Told.{IsHanded}
 use Rattle.run_collected.specs.declared.handed.Handed.{Handed}
 use Rattle.causes.specs.declared.NoMemory.{NoMemory as WantOfMemory}
 use Rattle.run_session.specs.Telling.{memory_in}
-use Rattle.selftest_command.specs.Summary.{main_on, fuel, depth, dumped, summary}
-use Rattle.selftest_command.specs.SelftestAnswer.{Runs}
-use Rattle.selftest_command.specs.inner.Steps.{collected_alone, IsCollected}
+use Rattle.selftest_laws.specs.Handing.{main_on, fuel, depth}
+use Rattle.selftest_command.specs.Summary.{summary}
+use Rattle.selftest_command.specs.inner.Steps.{collected_alone, IsCollected, dumped, Runs}
 
 -- ---- why nothing is run
 
@@ -117,15 +117,17 @@ module _ (n : ℕ) (m : Module) (whole : IsModule m) where
   program = record { module_ = m; trees = whole.trees }
 
   abbrev M : Engine
-  M = engine program true depth
+  M = engine program true (depth true)
 
   not_begun_so : (cause : Cause) (o : Outcome) → cause_of m (main_on n ∷ []) ≡ Some cause → o ≡ summary n (record { kind = 0; frames = 0; bytes = [] }) 0 → Runs n m o
   not_begun_so cause o is answer = record {
-    program = program;
-    of_module = refl;
-    writes_out = whole.write;
-    ran = not_begun cause fuel;
-    runs = ap (λ c. unless M c (main_on n ∷ []) [] fuel) is;
+    run = record {
+      program = program;
+      of_module = refl;
+      writes_out = whole.write;
+      ran = not_begun cause fuel;
+      runs = ap (λ c. unless M c (main_on n ∷ []) [] fuel) is;
+    };
     delivery = nothing;
     delivers = refl;
     answer = answer;
@@ -199,12 +201,12 @@ none_grown (x ∷ xs) given e = absurd cc
 pub came_so : (n f : ℕ) (m : Module) (whole : IsModule m) (s later : State) (end : RunEnd) (used_up : Import → Bool) (old new : Calls) (o : Outcome) (delivery : Delivery)
     → IsNew m s → cause_of_segments m ≡ None → cause_of_entry m (function_export m (codes "main")) (main_on n).args ≡ None → function_export m (codes "main") ≡ Some f
     → (end ≡ NoMemory → ⊥) → new.served ≡ [] → old.collected ≡ []
-    → ((p : Program) → IsOf s p → Invoked p true depth used_up f (main_on n).args fuel s later end old new)
+    → ((p : Program) → IsOf s p → Invoked p true (depth true) used_up f (main_on n).args fuel s later end old new)
     → Delivers new.collected delivery → o ≡ summary n (dumped delivery (bytes_in later.machine.shared.memory)) later.steps
     → Runs n m o
 came_so n f m whole s later end used_up old new o delivery is_new segments entry export some no_served no_calls invoked delivers answer =
     let p : Program = record { module_ = m; trees = whole.trees } in
-    let M : Engine = engine p true depth in
+    let M : Engine = engine p true (depth true) in
     let is = main_on n ∷ [] in
     let inv = invoked p (record { of_module = sym is_new.module_is; writes_out = whole.write }) in
     let came = inv.came.came [] (no_replies end) in
@@ -217,14 +219,16 @@ came_so n f m whole s later end used_up old new o delivery is_new segments entry
     same_memory later.machine came.last (shares_of p s.prepared.codes.items end later.machine came.last some came.keeps) ∙ ap memory_in (sym came.last_is)
     in
     record {
-      program = p;
-      of_module = refl;
-      writes_out = whole.write;
-      ran = came.ran;
-      runs = ap (λ c. unless M c is [] fuel) (ap (λ c. or_else c (cause_of_segments m)) entry ∙ segments)
-          ∙ ap₂ (λ d w. session M is d w fuel) (sym is_new.due) world
-          ∙ listed
-          ∙ one_behind later.ready came.ran;
+      run = record {
+        program = p;
+        of_module = refl;
+        writes_out = whole.write;
+        ran = came.ran;
+        runs = ap (λ c. unless M c is [] fuel) (ap (λ c. or_else c (cause_of_segments m)) entry ∙ segments)
+            ∙ ap₂ (λ d w. session M is d w fuel) (sym is_new.due) world
+            ∙ listed
+            ∙ one_behind later.ready came.ran;
+      };
       delivery = delivery;
       delivers = subst (λ cs. Delivers cs delivery) (inv.came.grew.collected ∙ ap (λ l. l ++ inv.came.asked.told) no_calls ∙ came.collected) delivers;
       answer = answer ∙ ap (λ b. summary n (dumped delivery b) later.steps) memory ∙ ap (λ k. summary n (dumped delivery (memory_in came.ran.last)) k) (sym steps);
@@ -252,7 +256,7 @@ no_entry n m whole serving fault (Ok o) served is answer = bad_entry n m whole s
 pub ran_line : (n f : ℕ) (m : Module) (whole : IsModule m) (s later : State) (h0 : HostsState) (first last : CollectingState HostsState) (calls : List CollectorCall) (end : RunEnd) (used_up : Import → Bool) (result : Result Outcome WantOfMemory)
     → IsNew m s → IsCollected m → cause_of_segments m ≡ None → first ≡ record { inner = h0; calls = [] } → h0.devices ≡ [] → h0.script ≡ None
     → None ≡ entry_fault (λ i t. serves (λ h i _. hosts_serve h i) first i t) s.module_ (codes "main") (main_on n).args → function_export s.module_ (codes "main") ≡ Some f
-    → ((p : Program) → IsOf s p → Invoked p true depth used_up f (main_on n).args fuel s later end (record { served = (calls_of first.inner).served; collected = first.calls }) (record { served = (calls_of last.inner).served; collected = last.calls }))
+    → ((p : Program) → IsOf s p → Invoked p true (depth true) used_up f (main_on n).args fuel s later end (record { served = (calls_of first.inner).served; collected = first.calls }) (record { served = (calls_of last.inner).served; collected = last.calls }))
     → last.inner.served ≡ [] → calls ≡ last.calls
     → IfOk result (λ o. (end ≡ NoMemory → ⊥) × ((delivery : Delivery) × Delivers calls delivery × (o ≡ summary n (dumped delivery (bytes_in later.machine.shared.memory)) later.steps)))
     → IfOk result (Runs n m)

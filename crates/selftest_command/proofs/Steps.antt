@@ -1,120 +1,140 @@
 -- The steps of the command, from what the next ones answer.
-use Rattle.std.proofs.Common.{◌≡◌, ℕ, List, [], ◌∷◌, refl, sym, ap, subst, ◌∙◌, inl, inr, Option, Result, Ok, Err}
-use Rattle.std.specs.Prelude.{IfOk}
+use Rattle.std.proofs.Common.{◌≡◌, ℕ, ◌≤◌, ◌-◌, List, [], ◌∷◌, length, refl, sym, ap, subst, ◌∙◌, arith, inl, inr, Option, Some, None, Result, Ok, Err}
+use Rattle.std.specs.Prelude.{IfOk, codes}
 use Rattle.causes.specs.declared.NoMemory.{NoMemory as WantOfMemory}
 use Rattle.pm_outside.specs.Contents.{Contents}
 use Rattle.wasm_syntax.specs.declared.module.ModuleParts.{ModuleParts as Module}
 use Rattle.wasm_syntax.specs.SameCode.{code_alone}
 use Rattle.wasm_syntax.specs.Valid.{Valid}
+use Rattle.wasm_bytes.specs.Laws.{IsBytes}
 use Rattle.wasm_decode.specs.Decode.{module_from}
 use Rattle.wasm_decode.specs.declared.fault.DecodeFault.{DecodeFault}
 use Rattle.wasm_validate.specs.Heights.{AllLow}
-use Rattle.wasm_format_laws.specs.Laws.{DecodesSame}
-use Rattle.dump_write.specs.Written.{OnTold}
-use Rattle.rewrite_promise.specs.Admitted.{Admits}
-use Rattle.command_answers.specs.Loading.{IfLoaded, IsTurnedDown}
-use Rattle.command_answers.specs.Refusal.{IsRefusal}
-use Rattle.command_answers.specs.Told.{UnlessFault}
-use Rattle.command_answers.specs.declared.outcome.Outcome.{Outcome}
-use Rattle.command_answers.specs.declared.status.Status.TheVariants as status
-use Rattle.command_answers.proofs.Unless.{OnAnswer, on_all, map_answer}
-use Rattle.run_session.specs.Stop.{OnStop}
-use Rattle.run_session.specs.Written.{HoldThen}
-use Rattle.instrument_command.specs.inner.Steps.{Rewrites, Refuses, IsAnswered}
-use Rattle.instrument_command.proofs.HeldFiles.{none_held}
-use Rattle.instrument_command.proofs.Stopping.{map_stop}
 use Rattle.wasm_validate.proofs.Once.{valid_not_invalid, low_not_high}
+use Rattle.wasm_format_laws.specs.Laws.{DecodesSame}
+use Rattle.dump_write.specs.Image.{Dump, image}
+use Rattle.dump_write.specs.ImageBytes.{bytes_of}
+use Rattle.dump_write.specs.Written.{OnTold}
+use Rattle.rewrite_modules.specs.Simulates.{memory_of}
+use Rattle.rewrite_promise.specs.Admitted.{Admits}
+use Rattle.instrument.specs.declared.refusal.InstrFault.{InstrFault}
+use Rattle.command_answers.specs.Loading.{IsTurnedDown}
+use Rattle.command_answers.specs.Refusal.{IsRefusal}
+use Rattle.command_answers.specs.declared.outcome.Outcome.{Outcome}
+use Rattle.command_answers.proofs.Unless.{OnAnswer, map_answer}
+use Rattle.run_collected.specs.Delivery.{whole, handed_by, dump_of}
+use Rattle.run_collected.proofs.Deliveries.{one}
+use Rattle.run_session.specs.Stop.{OnStop}
+use Rattle.run_session.specs.Telling.{memory_in}
+use Rattle.run_session.specs.Written.{HoldThen}
+use Rattle.instrument_command.specs.inner.Steps.{Refuses}
+use Rattle.instrument_command.proofs.Stopping.{map_stop}
 use Rattle.selftest_module.specs.Selftest.{selftest}
-use Rattle.selftest_command.specs.SelftestAnswer.{module_file, rewritten_file, module_bytes, both_files, RunsBytes, Runs, Decides, ModuleAnswer, AnsweredOn}
+use Rattle.selftest_laws.specs.Handing.{fuel, HandsAllOver}
+use Rattle.selftest_laws.proofs.Handed.{length_images}
+use Rattle.selftest_laws.proofs.Taken.{accepted, all_handed}
+use Rattle.selftest_command.specs.Summary.{summary}
+use Rattle.selftest_command.specs.SelftestAnswer.{module_file, rewritten_file, module_bytes, both_files, IsRewritten, division, SelftestAnswer, AnsweredOn}
 use Rattle.selftest_command.specs.Stops.{Left, SelftestStops}
-use Rattle.selftest_command.specs.inner.Steps.{IsTaken, IsSelftest}
+use Rattle.selftest_command.specs.inner.Steps.{IsTaken, IsSelftest, dumped, Runs, RunsBytes}
 
 -- ---- the run
 
 pub ok_is : (r : Result Module DecodeFault) (x y : Module) → r ≡ Ok x → r ≡ Ok y → x ≡ y
 ok_is r x y a b = ap (λ q. elim q [ Ok z ↦ z | Err f ↦ x ]) (sym a ∙ b)
 
+-- a valid module with few operands is not refused
+pub not_refused : (m : Module) (o : Outcome) → Valid m → AllLow m → IsRefusal m o → ⊥
+not_refused m o valid low (inl (place, first, is)) = valid_not_invalid m place valid first
+not_refused m o valid low (inr (also, (count, high, is))) = low_not_high m count low high
+
 -- what is taken is not turned down
 pub not_turned : (bytes : List ℕ) (o : Outcome) → IsTaken bytes → IsTurnedDown (module_from bytes) o → ⊥
-not_turned bytes o t down = of (subst (λ d. IsTurnedDown d o) t.is down)
-  where
-    of : IsRefusal t.decoded o → ⊥
-    of (inl (place, first, is)) = valid_not_invalid t.decoded place t.valid first
-    of (inr (valid, (count, high, is))) = low_not_high t.decoded count t.low high
+not_turned bytes o t down = not_refused t.decoded o t.valid t.low (subst (λ d. IsTurnedDown d o) t.is down)
 
 pub run_taken : (n : ℕ) (bytes : List ℕ) (m : Module) (o : Outcome) → module_from bytes ≡ Ok m → Runs n m o → RunsBytes n bytes o
 run_taken n bytes m o is runs = record { decoded = m; is = is; runs = runs }
 
-pub is_done : (n : ℕ) (bytes : List ℕ) (o : Outcome) → RunsBytes n bytes o → o.status ≡ status.Done
-is_done n bytes o r = ap (λ (x : Outcome). x.status) r.runs.answer
+-- ---- what is handed over
+
+-- the line of a run tells of the division by zero that it hands over
+line_of : (n : ℕ) (m other : Module) (o : Outcome) (all : HandsAllOver n m other) (r : Runs n other o) → o ≡ summary n (division n (bytes_of (image all.divides.at (codes "module")))) (fuel - r.run.ran.left)
+line_of n m other o all r =
+    let h = all.hands r.run in
+    let w = h.shows.whole in
+    let ran = r.run.ran in
+    let short : length (codes "module") ≤ 4096 = omega arith in
+    let name = codes "module" in
+    let told : r.delivery ≡ whole (handed_by w) = one ran.collected r.delivery (whole (handed_by w)) r.delivers (w, refl) in
+    let memory : memory_in ran.last ≡ memory_of h.there = ap memory_in h.last in
+    let frames : length (handed_by w).frames ≡ n = ap (λ (d : Dump). length d.frames) (h.shows.dump name short) ∙ length_images all.divides.at.frames ∙ all.divides.frames in
+    let bytes : bytes_of (dump_of (handed_by w) (memory_in ran.last) name) ≡ bytes_of (image all.divides.at name) = ap (λ b. bytes_of (dump_of (handed_by w) b name)) memory ∙ h.shows.bytes name short in
+    let is : dumped (whole (handed_by w)) (memory_in ran.last) ≡ division n (bytes_of (image all.divides.at name)) = λ i. record { kind = h.shows.kind i; frames = frames i; bytes = bytes i } in
+    r.answer ∙ ap (λ d. summary n (dumped d (memory_in ran.last)) (fuel - ran.left)) told ∙ ap (λ d. summary n d (fuel - ran.left)) is
 
 -- ---- a module that is rewritten
 
-module _ (n : ℕ) (m other : Module) (rewritten : List ℕ) (s : IsSelftest n m) (r : Rewrites m other) (admits : Admits m rewritten) (old new : Option Contents) where
+module _ (n : ℕ) (m : Module) (rewritten : List ℕ) (s : IsSelftest n m) (admits : Admits m rewritten) (old new : Option Contents) where
+  abbrev modules : IsRewritten n rewritten
+  modules = record { taken = m; decoded = s.decoded; valid = s.valid; admitted = admits }
+
+  all_told : (done : Outcome) → RunsBytes n rewritten done → SelftestAnswer n (both_files n rewritten) done
+  all_told done runs =
+      let all = all_handed n m rewritten admits s.least s.most s.are_bytes (record { is = s.decoded; same = s.same }) in
+      let ran : Runs n admits.decoded done = subst (λ x. Runs n x done) (ok_is (module_from rewritten) runs.decoded admits.decoded runs.is admits.is) runs.runs in
+      record {
+        rewritten = rewritten;
+        both = refl;
+        modules = modules;
+        one = all.one;
+        divides = all.divides;
+        other = ran.run;
+        hands = all.hands ran.run;
+        answer = line_of n m admits.decoded done all ran;
+      }
+
   pub rewritten_told : (done : Outcome) (result : Result Outcome WantOfMemory) → RunsBytes n rewritten done
-      → OnAnswer (λ o. (o ≡ done) × OnTold (HoldThen (both_files n rewritten)) old new) result → OnAnswer (IsAnswered (λ writes. ModuleAnswer n writes m) old new) result
+      → OnAnswer (λ o. (o ≡ done) × OnTold (HoldThen (both_files n rewritten)) old new) result → OnAnswer (AnsweredOn n old new) result
   rewritten_told done result runs x =
-      map_answer (λ o. (o ≡ done) × OnTold (HoldThen (both_files n rewritten)) old new) (IsAnswered (λ writes. ModuleAnswer n writes m) old new) result
+      map_answer (λ o. (o ≡ done) × OnTold (HoldThen (both_files n rewritten)) old new) (AnsweredOn n old new) result
       (λ o k. record {
         writes = both_files n rewritten;
-        answer = record {
-          heights = r.heights;
-          heights_are = r.heights_are;
-          decides = subst (λ f. Decides f n m (both_files n rewritten) o) (sym r.no_cause) (rewritten, admits, refl, subst (RunsBytes n rewritten) (sym k.0) runs);
-        };
+        answer = subst (λ p. SelftestAnswer n (both_files n rewritten) p) (sym k.0) (all_told done runs);
         files = k.1;
-        unwritten = λ ne. absurd (ne (ap (λ (x : Outcome). x.status) k.0 ∙ is_done n rewritten done runs));
       }) x
 
   pub rewritten_stops : (result : Result Outcome WantOfMemory) → OnStop (λ stop. Left stop module_file (module_bytes n) rewritten_file rewritten old new) result → OnStop (λ stop. SelftestStops stop n old new) result
   rewritten_stops result x =
       map_stop (λ stop. Left stop module_file (module_bytes n) rewritten_file rewritten old new) (λ stop. SelftestStops stop n old new) result
-      (λ stop k. inr (
-        rewritten,
-        record { taken = m; decoded = s.decoded; valid = s.valid; heights = r.heights; heights_are = r.heights_are; no_cause = r.no_cause; admitted = admits },
-        k,
-      )) x
+      (λ stop k. inr (rewritten, modules, k)) x
 
--- ---- refusals
-
-pub refused_answer : (n : ℕ) (m : Module) (told : Option Contents) (o : Outcome) → Refuses m o → UnlessFault o.status (IsAnswered (λ writes. ModuleAnswer n writes m) told told o)
-refused_answer n m told o r = on_all o.status (IsAnswered (λ writes. ModuleAnswer n writes m) told told o) record {
-  writes = [];
-  answer = record {
-    heights = r.heights;
-    heights_are = r.heights_are;
-    decides = subst (λ f. Decides f n m [] o) (sym r.first) (r.told, refl);
-  };
-  files = none_held told;
-  unwritten = λ ne. refl;
-}
+-- it is not refused
+pub never_refused : (n : ℕ) (m : Module) (o : Outcome) → IsSelftest n m → Refuses m o → ⊥
+never_refused n m o s r =
+    let ok = accepted n m s.least s.most s.are_bytes (record { is = s.decoded; same = s.same }) in
+    let clash : Some r.fault ≡ None = sym r.first ∙ ok.no_cause r.heights r.heights_are in
+    absurd cc
 
 -- ---- the module that the bytes spell
 
-pub selftest_is : (n : ℕ) (bytes : List ℕ) (m : Module) → bytes ≡ module_bytes n → DecodesSame (selftest n) (module_bytes n) → module_from bytes ≡ Ok m → Valid m → AllLow m → IsSelftest n m
-selftest_is n bytes m spells same decoded valid low =
+pub selftest_is : (n : ℕ) (bytes : List ℕ) (m : Module) → 1 ≤ n → n ≤ 900 → IsBytes bytes → bytes ≡ module_bytes n → DecodesSame (selftest n) (module_bytes n) → module_from bytes ≡ Ok m → Valid m → AllLow m → IsSelftest n m
+selftest_is n bytes m least most are spells same decoded valid low =
     let is : module_from (module_bytes n) ≡ Ok m = ap module_from (sym spells) ∙ decoded in
-    record { decoded = is; valid = valid; low = low; same = subst (λ x. code_alone x ≡ code_alone (selftest n)) (ok_is (module_from (module_bytes n)) same.decoded m same.is is) same.code }
+    record {
+      least = least;
+      most = most;
+      are_bytes = subst IsBytes spells are;
+      decoded = is;
+      valid = valid;
+      low = low;
+      same = subst (λ x. code_alone x ≡ code_alone (selftest n)) (ok_is (module_from (module_bytes n)) same.decoded m same.is is) same.code;
+    }
 
-pub valid_told : (n : ℕ) (m : Module) (old new : Option Contents) (result : Result Outcome WantOfMemory) → IsSelftest n m → OnAnswer (IsAnswered (λ writes. ModuleAnswer n writes m) old new) result → OnAnswer (AnsweredOn n old new) result
-valid_told n m old new result s x =
-    map_answer (IsAnswered (λ writes. ModuleAnswer n writes m) old new) (AnsweredOn n old new) result
-    (λ o a. record {
-      writes = a.writes;
-      answer = record { answer = subst (λ d. IfLoaded (ModuleAnswer n a.writes) d o) (sym s.decoded) (inr (s.valid, s.low, a.answer)); unwritten = a.unwritten };
-      files = a.files;
-    }) x
-
-pub turned_told : (n : ℕ) (bytes : List ℕ) (told : Option Contents) (o : Outcome) → bytes ≡ module_bytes n → IsTurnedDown (module_from bytes) o → UnlessFault o.status (AnsweredOn n told told o)
-turned_told n bytes told o spells down = on_all o.status (AnsweredOn n told told o) record {
-  writes = [];
-  answer = record { answer = of (module_from (module_bytes n)) (subst (λ b. IsTurnedDown (module_from b) o) spells down); unwritten = λ ne. refl };
-  files = none_held told;
-}
-  where
-    of : (decoded : Result Module DecodeFault) → IsTurnedDown decoded o → IfLoaded (ModuleAnswer n []) decoded o
-    of (Err fault) x = x
-    of (Ok m) x = inl x
+-- they are not turned down
+pub never_turned : (n : ℕ) (bytes : List ℕ) (o : Outcome) → 1 ≤ n → n ≤ 900 → IsBytes bytes → bytes ≡ module_bytes n → DecodesSame (selftest n) (module_bytes n) → IsTurnedDown (module_from bytes) o → ⊥
+never_turned n bytes o least most are spells same down =
+    let ok = accepted n same.decoded least most (subst IsBytes spells are) (record { is = same.is; same = same.code }) in
+    not_refused same.decoded o ok.valid ok.low (subst (λ d. IsTurnedDown d o) (ap module_from spells ∙ same.is) down)
 
 pub run_told : (n : ℕ) (bytes : List ℕ) (m : Module) (result : Result Outcome WantOfMemory) → module_from bytes ≡ Ok m → IfOk result (Runs n m) → IfOk result (RunsBytes n bytes)
 run_told n bytes m (Err e) is x = tt

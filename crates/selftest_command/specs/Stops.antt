@@ -1,17 +1,11 @@
 -- What is left where memory is wanting, or where a file fails.
-use Rattle.std.specs.Prelude.{◌≡◌, ◌≢◌, ◌⊎◌, ℕ, List, Option, None, Ok}
+use Rattle.std.specs.Prelude.{◌≡◌, ◌≢◌, ◌⊎◌, ℕ, List, Option}
 use Rattle.pm_outside.specs.Contents.{Contents}
 use Rattle.pm_outside.specs.Created.{with_name}
-use Rattle.wasm_syntax.specs.declared.module.ModuleParts.{ModuleParts as Module}
-use Rattle.wasm_syntax.specs.Valid.{Valid}
-use Rattle.wasm_decode.specs.Decode.{module_from}
 use Rattle.dump_write.specs.Written.{OnTold, HasFile, HasFront}
-use Rattle.rewrite_modules.specs.Weight.{AreHeights}
-use Rattle.rewrite_promise.specs.Admitted.{Admits}
-use Rattle.instrument.specs.Refusal.{refusal}
 use Rattle.run_session.specs.Stop.{Stop, no_memory}
 use Rattle.instrument_command.specs.Stops.{IsFailed}
-use Rattle.selftest_command.specs.SelftestAnswer.{module_file, rewritten_file, module_bytes}
+use Rattle.selftest_command.specs.SelftestAnswer.{module_file, rewritten_file, module_bytes, IsRewritten}
 
 -- ---- what is written
 
@@ -35,16 +29,6 @@ CreatedBoth file other old new =
     (between : List (List ℕ)) × ((between ≡ old) ⊎ (between ≡ with_name old file)) × ((new ≡ between) ⊎ (new ≡ with_name between other))
 
 -- ---- the command
-
--- There is no cause to refuse the module, and these bytes are admitted as what it is rewritten to.
-pub record IsRewritten (n : ℕ) (rewritten : List ℕ) : Type 0 where
-  pub taken : Module
-  pub decoded : module_from (module_bytes n) ≡ Ok taken
-  pub valid : Valid taken
-  pub heights : List (List ℕ)
-  pub heights_are : AreHeights taken heights
-  pub no_cause : refusal taken heights ≡ None
-  pub admitted : Admits taken rewritten
 
 -- No file has failed and nothing was written, or the files were written in part.
 abbrev pub SelftestStops : Stop → ℕ → (old new : Option Contents) → Type 0

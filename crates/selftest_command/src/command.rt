@@ -4,10 +4,10 @@ ghost use Rattle.std.specs.Prelude.{◌≡◌, ◌≢◌, ◌≤◌, IfOk, is_so
 ghost use Rattle.causes.specs.Counts.{Rose};
 ghost use Rattle.command_answers.specs.Told.{UnlessFault};
 ghost use Rattle.dump_write.specs.Written.{OnTold};
-ghost use Rattle.instrument_command.specs.inner.Steps.{IsAnswered, Rewrites};
+ghost use Rattle.instrument_command.specs.inner.Steps.{Rewrites};
 ghost use Rattle.rewrite_sizes.specs.Light.{SmallOffsets};
 ghost use Rattle.run_session.specs.Stop.{OnStop};
-ghost use Rattle.selftest_command.specs.SelftestAnswer.{AnsweredOn, ModuleAnswer, module_bytes, module_file, rewritten_file};
+ghost use Rattle.selftest_command.specs.SelftestAnswer.{AnsweredOn, module_bytes, module_file, rewritten_file};
 ghost use Rattle.selftest_command.specs.Stops.{CreatedBoth, SameButBoth, SelftestStops};
 ghost use Rattle.selftest_command.specs.inner.Steps.{IsSelftest};
 ghost use Rattle.selftest_module.specs.Selftest.{selftest};
@@ -39,8 +39,8 @@ fn test_rewritten<F: Files, D: Devices>(
     requires selftest { IsSelftest count source.now }
     requires rewrites { Rewrites source.now other.now }
     requires bytes { bytes.now ≡ module_bytes count }
-    ensures told { IfOk result (λ o. UnlessFault o.status (IsAnswered
-        (λ writes. ModuleAnswer count writes source.now) (F.told files.old) (F.told files.new) o)) }
+    ensures told { IfOk result (λ o. UnlessFault o.status
+        (AnsweredOn count (F.told files.old) (F.told files.new) o)) }
     ensures stops { OnStop (λ stop.
         SelftestStops stop count (F.told files.old) (F.told files.new)) result }
     ensures fault { IfOk result (λ o. o.status ≡ Status.FileFault
@@ -70,8 +70,8 @@ fn test_module<F: Files, D: Devices>(
     requires sized { Sized source.now }
     requires small { SmallOffsets source.now }
     requires bytes { bytes.now ≡ module_bytes count }
-    ensures told { IfOk result (λ o. UnlessFault o.status (IsAnswered
-        (λ writes. ModuleAnswer count writes source.now) (F.told files.old) (F.told files.new) o)) }
+    ensures told { IfOk result (λ o. UnlessFault o.status
+        (AnsweredOn count (F.told files.old) (F.told files.new) o)) }
     ensures stops { OnStop (λ stop.
         SelftestStops stop count (F.told files.old) (F.told files.new)) result }
     ensures fault { IfOk result (λ o. o.status ≡ Status.FileFault
@@ -100,6 +100,8 @@ fn test_bytes<F: Files, D: Devices>(
     bytes: &[u8],
     count: u32,
 ) -> Result<Outcome, NoMemory>
+    requires least { 1 ≤ count }
+    requires most { count ≤ 900 }
     requires bytes { bytes.now ≡ module_bytes count }
     requires same { DecodesSame (selftest count) (module_bytes count) }
     ensures told { IfOk result (λ o. UnlessFault o.status

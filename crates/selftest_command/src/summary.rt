@@ -5,7 +5,8 @@ ghost use Rattle.dump_format.specs.Form.{pages_of};
 ghost use Rattle.dump_format.specs.Contained.{IsContained};
 ghost use Rattle.run_collected.specs.Delivery.{Delivery};
 ghost use Rattle.run_collected.specs.Told.{IfHanded, IsHanded};
-ghost use Rattle.selftest_command.specs.Summary.{dumped, sum_text, summary, trap_text};
+ghost use Rattle.selftest_command.specs.Summary.{sum_text, summary, trap_text};
+ghost use Rattle.selftest_command.specs.inner.Steps.{dumped};
 
 use causes::NoMemory;
 use command_answers::{Outcome, Status, push_number};

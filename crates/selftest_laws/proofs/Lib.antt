@@ -5,5 +5,6 @@ pub mod Trapped
 pub mod Bodies
 pub mod Light
 pub mod Plain
+pub mod OneProgram
 pub mod Handed
 pub mod Taken

@@ -14,7 +14,6 @@ use Rattle.rewrite_modules.proofs.BareValid.{same_valid}
 use Rattle.rewrite_promise.proofs.Decoded.{whole}
 use Rattle.rewrite_promise.proofs.Low.{all_low}
 use Rattle.instrument.specs.Refusal.{refusal}
-use Rattle.wasm_syntax.specs.Module.{Program, IsProgram}
 use Rattle.wasm_encode.specs.Encoding.{encoding}
 use Rattle.rewrite_promise.specs.Admitted.{Admits}
 use Rattle.selftest_module.specs.Selftest.{bodies, selftest}
@@ -49,6 +48,5 @@ accepted n m some most are d =
       no_cause = λ heights heights_are. taken n (encoding (selftest n)) m heights most are d.is d.same ok heights_are (omega (arith, few_bytes n most));
     }
 
-pub all_handed : (n : ℕ) (m : Module) (bytes : List ℕ) (a : Admits m bytes) (p : Program) → 1 ≤ n → n ≤ 900 → IsBytes (encoding (selftest n)) → IsDecoded n m → p.module_ ≡ a.decoded → IsProgram p → HandsAllOver n p
-all_handed n m bytes a p some most are d of_module writes_out r runs =
-    hands_over n m bytes a some most (valid n (encoding (selftest n)) m some are d.is d.same) d.same p of_module writes_out r runs
+pub all_handed : (n : ℕ) (m : Module) (bytes : List ℕ) (a : Admits m bytes) → 1 ≤ n → n ≤ 900 → IsBytes (encoding (selftest n)) → IsDecoded n m → HandsAllOver n m a.decoded
+all_handed n m bytes a some most are d = hands_over n m bytes a some most (valid n (encoding (selftest n)) m some are d.is d.same) d.same

@@ -1,30 +1,21 @@
 -- What the module of a self-test and its rewriting come to.
-use Rattle.std.specs.Prelude.{◌≡◌, ℕ, true, List, [], ◌∷◌, length, codes, None, Ok}
+use Rattle.std.specs.Prelude.{◌≡◌, ℕ, Bool, true, false, List, [], ◌∷◌, length, codes, Option, Some, None, Ok}
 use Rattle.wasm_syntax.specs.declared.value.Value.TheVariants as values
-use Rattle.wasm_syntax.specs.declared.host.CollectorCall.{CollectorCall}
 use Rattle.wasm_syntax.specs.declared.module.ModuleParts.{ModuleParts as Module}
 use Rattle.wasm_syntax.specs.SameCode.{code_alone}
-use Rattle.wasm_syntax.specs.Module.{Program}
-use Rattle.wasm_syntax.specs.Run.{Invocation, Ran, run}
+use Rattle.wasm_syntax.specs.Module.{Program, IsProgram}
+use Rattle.wasm_syntax.specs.Machine.{Config}
+use Rattle.wasm_syntax.specs.Run.{Invocation, trapped, Ran, run}
 use Rattle.wasm_syntax.specs.Valid.{Valid}
 use Rattle.wasm_decode.specs.Decode.{module_from}
 use Rattle.wasm_validate.specs.Heights.{AllLow}
 use Rattle.wasm_encode.specs.Encoding.{encoding}
-use Rattle.dump_write.specs.Collected.{Whole}
+use Rattle.rewrite_modules.specs.Simulates.{Shows}
 use Rattle.rewrite_modules.specs.Weight.{AreHeights}
 use Rattle.instrument.specs.Refusal.{refusal}
 use Rattle.selftest_module.specs.Selftest.{selftest}
 
--- `main` on the number of functions and 1
-abbrev pub main_on : ℕ → Invocation
-main_on n = record { name = codes "main"; args = values.I32 n ∷ values.I32 1 ∷ [] }
-
--- the default number of steps, and the default number of frames with two more
-abbrev pub fuel : ℕ
-fuel = 100000000
-
-abbrev pub depth : ℕ
-depth = 1002
+-- ---- what is accepted
 
 -- The module is what the encoding of a self-test's module is decoded as, and has the same code.
 pub record IsDecoded (n : ℕ) (m : Module) : Type 0 where
@@ -37,12 +28,44 @@ pub record IsAccepted (m : Module) : Type 0 where
   pub low : AllLow m
   pub no_cause : (heights : List (List ℕ)) → AreHeights m heights → refusal m heights ≡ None
 
--- The calls are whole: they show a division by zero, with as many frames as there are functions.
-pub record HandsOver (n : ℕ) (calls : List CollectorCall) : Type 0 where
-  pub whole : Whole calls
-  pub kind : whole.kind ≡ 2
-  pub frames : length whole.entries ≡ n
+-- ---- the runs
 
--- Each run of this program with a collector and without replies hands them over.
-abbrev pub HandsAllOver : ℕ → Program → Type 0
-HandsAllOver n p = (r : Ran) → run p true (main_on n ∷ []) [] depth fuel ≡ r ∷ [] → HandsOver n r.collected
+-- `main` on the number of functions and 1
+abbrev pub main_on : ℕ → Invocation
+main_on n = record { name = codes "main"; args = values.I32 n ∷ values.I32 1 ∷ [] }
+
+-- the default number of steps
+abbrev pub fuel : ℕ
+fuel = 100000000
+
+-- the default number of frames, and two more with a collector
+abbrev pub depth : (collecting : Bool) → ℕ
+depth false = 1000
+depth true = 1002
+
+-- the module is run once, without replies
+pub record RunsOnce (collecting : Bool) (n : ℕ) (m : Module) : Type 0 where
+  pub program : Program
+  pub of_module : program.module_ ≡ m
+  pub writes_out : IsProgram program
+  pub ran : Ran
+  pub runs : run program collecting (main_on n ∷ []) [] (depth collecting) fuel ≡ ran ∷ []
+
+-- it divides by zero at this configuration, with so many frames
+pub record Divides (n : ℕ) (r : Ran) : Type 0 where
+  pub outcome : r.outcome ≡ trapped 2
+  pub at : Config
+  pub last : r.last ≡ Some at
+  pub frames : length at.frames ≡ n
+
+-- its collector calls and its memory show this configuration, in which another module divides by zero
+pub record HandsOver (at : Config) (r : Ran) : Type 0 where
+  pub there : Config
+  pub last : r.last ≡ Some there
+  pub shows : Shows 2 at there r
+
+-- The module divides by zero, and each run of the other one with a collector hands that over.
+pub record HandsAllOver (n : ℕ) (m other : Module) : Type 0 where
+  pub one : RunsOnce false n m
+  pub divides : Divides n one.ran
+  pub hands : (r : RunsOnce true n other) → HandsOver divides.at r.ran

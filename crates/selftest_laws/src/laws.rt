@@ -2,7 +2,6 @@
 
 ghost use Rattle.std.specs.Prelude.{◌≡◌, ◌≤◌, ℕ, List};
 ghost use Rattle.wasm_syntax.specs.declared.module.ModuleParts.{ModuleParts as Parts};
-ghost use Rattle.wasm_syntax.specs.Module.{Program, IsProgram};
 ghost use Rattle.wasm_bytes.specs.Laws.{IsBytes};
 ghost use Rattle.wasm_encode.specs.Encoding.{encoding};
 ghost use Rattle.rewrite_promise.specs.Admitted.{Admits};
@@ -14,8 +13,8 @@ pub fn selftests_are_accepted()
     ensures { (n : ℕ) (m : Parts) → 1 ≤ n → n ≤ 900 → IsBytes (encoding (selftest n)) → IsDecoded n m → IsAccepted m }
 {}
 
-/// Whatever bytes are admitted as what it is rewritten to, the module that they spell hands over a dump with all frames, of a division by
-/// zero, within the default number of steps.
+/// The module that it is decoded as divides by zero under as many frames as there are functions. Whatever bytes are admitted as what it is
+/// rewritten to, the module that they spell hands over the dump of that, within the default number of steps.
 pub fn rewritings_hand_over()
-    ensures { (n : ℕ) (m : Parts) (bytes : List ℕ) (a : Admits m bytes) (p : Program) → 1 ≤ n → n ≤ 900 → IsBytes (encoding (selftest n)) → IsDecoded n m → p.module_ ≡ a.decoded → IsProgram p → HandsAllOver n p }
+    ensures { (n : ℕ) (m : Parts) (bytes : List ℕ) (a : Admits m bytes) → 1 ≤ n → n ≤ 900 → IsBytes (encoding (selftest n)) → IsDecoded n m → HandsAllOver n m a.decoded }
 {}

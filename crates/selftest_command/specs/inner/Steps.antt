@@ -1,5 +1,5 @@
 -- The steps of the command.
-use Rattle.std.specs.Prelude.{◌≡◌, ℕ, false, Bool, List, None, Ok, if◌then◌else◌}
+use Rattle.std.specs.Prelude.{◌≡◌, ℕ, ◌≤◌, ◌-◌, true, false, Bool, List, [], length, Option, None, Ok, if◌then◌else◌, codes}
 use Rattle.wasm_syntax.specs.declared.parts.FuncType.{FuncType}
 use Rattle.wasm_syntax.specs.declared.parts.Import.{Import}
 use Rattle.wasm_syntax.specs.declared.module.ModuleParts.{ModuleParts as Module}
@@ -7,9 +7,16 @@ use Rattle.wasm_syntax.specs.SameCode.{code_alone}
 use Rattle.wasm_syntax.specs.Valid.{Valid}
 use Rattle.wasm_decode.specs.Decode.{module_from}
 use Rattle.wasm_validate.specs.Heights.{AllLow}
+use Rattle.wasm_bytes.specs.Laws.{IsBytes}
+use Rattle.dump_write.specs.ImageBytes.{bytes_of}
 use Rattle.host_collector.specs.Collecting.{is_told, is_collected}
 use Rattle.wasm_machine.specs.Entries.{first_unserved}
+use Rattle.command_answers.specs.declared.outcome.Outcome.{Outcome}
+use Rattle.run_collected.specs.Delivery.{Delivery, nothing, whole, torn, Delivers, dump_of}
+use Rattle.run_session.specs.Telling.{memory_in}
 use Rattle.selftest_module.specs.Selftest.{selftest}
+use Rattle.selftest_laws.specs.Handing.{fuel, RunsOnce}
+use Rattle.selftest_command.specs.Summary.{Dumped, summary}
 use Rattle.selftest_command.specs.SelftestAnswer.{module_bytes}
 
 -- the collector's imports are served, and no others
@@ -28,8 +35,34 @@ pub record IsTaken (bytes : List ℕ) : Type 0 where
   pub low : AllLow decoded
   pub collected : IsCollected decoded
 
+-- ---- the run
+
+-- what was handed over, with these bytes of a memory; where that is no whole dump there is nothing to count
+abbrev pub dumped : Delivery → Option (List ℕ) → Dumped
+dumped (whole d) memory = record { kind = d.kind; frames = length d.frames; bytes = bytes_of (dump_of d memory (codes "module")) }
+dumped nothing memory = record { kind = 0; frames = 0; bytes = [] }
+dumped (torn at) memory = record { kind = 0; frames = 0; bytes = [] }
+
+-- The line of a module that was run with a collector: the dump that it handed over, and the steps that it made until it ended, or all of them.
+pub record Runs (n : ℕ) (m : Module) (o : Outcome) : Type 0 where
+  pub run : RunsOnce true n m
+  pub delivery : Delivery
+  pub delivers : Delivers run.ran.collected delivery
+  pub answer : o ≡ summary n (dumped delivery (memory_in run.ran.last)) (fuel - run.ran.left)
+
+-- of the module that these bytes spell
+pub record RunsBytes (n : ℕ) (bytes : List ℕ) (o : Outcome) : Type 0 where
+  pub decoded : Module
+  pub is : module_from bytes ≡ Ok decoded
+  pub runs : Runs n decoded o
+
+-- ---- the module
+
 -- The module is what the encoding of the self-test's module spells, and is taken.
 pub record IsSelftest (n : ℕ) (m : Module) : Type 0 where
+  pub least : 1 ≤ n
+  pub most : n ≤ 900
+  pub are_bytes : IsBytes (module_bytes n)
   pub decoded : module_from (module_bytes n) ≡ Ok m
   pub valid : Valid m
   pub low : AllLow m

@@ -4,7 +4,7 @@ use Rattle.wasm_decode.specs.Decode.{module_from}
 use Rattle.wasm_sizes.proofs.Whole.{decoded}
 use Rattle.rewrite_sizes.proofs.Spelled.{decoded as decoded_small}
 use Rattle.command_answers.specs.Loaded.{IsLoaded}
-use Rattle.selftest_command.proofs.Steps.{selftest_is, valid_told, turned_told}
+use Rattle.selftest_command.proofs.Steps.{selftest_is, never_turned}
 use Rattle.selftest_command.proofs.command.test_bytes.Goals as goal
 
 pub returns-in_err-loaded-clause-names : goal.returns-in_err-loaded-clause-names
@@ -22,16 +22,17 @@ test_module-requires-clause-small g c =
     let are : IsBytes c.args.bytes.now = λ i. omega (arith, c.type_inv.bytes i) in
     decoded_small c.args.bytes.now c.in-Valid.source are known.0
 
-pub returns-in-Valid-clause-told : goal.returns-in-Valid-clause-told
-returns-in-Valid-clause-told g c =
+pub test_module-requires-clause-selftest : goal.test_module-requires-clause-selftest
+test_module-requires-clause-selftest g c =
     let known = subst (λ l. IsLoaded l (module_from c.args.bytes.now)) c.in-Valid.is c.in_ok-loaded.ensures.told in
-    valid_told c.args.count c.in-Valid.source (g.F.Files.told c.args.files.now) (g.F.Files.told c.test_module.new.files) c.test_module.result
-    (selftest_is c.args.count c.args.bytes.now c.in-Valid.source c.requires.bytes c.requires.same known.0 known.1 known.2) c.test_module.ensures.told
+    let are : IsBytes c.args.bytes.now = λ i. omega (arith, c.type_inv.bytes i) in
+    selftest_is c.args.count c.args.bytes.now c.in-Valid.source c.requires.least c.requires.most are c.requires.bytes c.requires.same known.0 known.1 known.2
 
 pub returns-in-TurnedDown-clause-told : goal.returns-in-TurnedDown-clause-told
 returns-in-TurnedDown-clause-told g c =
     let known = subst (λ l. IsLoaded l (module_from c.args.bytes.now)) c.in-TurnedDown.is c.in_ok-loaded.ensures.told in
-    turned_told c.args.count c.args.bytes.now (g.F.Files.told c.args.files.now) c.in-TurnedDown.refusal c.requires.bytes known
+    let are : IsBytes c.args.bytes.now = λ i. omega (arith, c.type_inv.bytes i) in
+    absurd (never_turned c.args.count c.args.bytes.now c.in-TurnedDown.refusal c.requires.least c.requires.most are c.requires.bytes c.requires.same known)
 
 pub returns-in-TurnedDown-clause-names : goal.returns-in-TurnedDown-clause-names
 returns-in-TurnedDown-clause-names g c = (g.F.Files.created c.args.files.now, inl refl, inl refl)

@@ -1,6 +1,5 @@
 use Rattle.std.proofs.Common.{refl, inl, sym, subst}
-use Rattle.selftest_command.specs.SelftestAnswer.{RunsBytes}
-use Rattle.selftest_command.specs.inner.Steps.{IsTaken}
+use Rattle.selftest_command.specs.inner.Steps.{IsTaken, RunsBytes}
 use Rattle.selftest_command.proofs.Imports.{taken}
 use Rattle.selftest_command.proofs.Steps.{rewritten_told, rewritten_stops, told_spelled, stops_spelled}
 use Rattle.selftest_command.proofs.command.test_rewritten.Goals as goal
@@ -16,11 +15,11 @@ returns-in_err-done-clause-names g c = (g.F.Files.created c.args.files.now, inl 
 
 pub returns-clause-told : goal.returns-clause-told
 returns-clause-told g c =
-    rewritten_told c.args.count c.args.source.now c.args.other.now c.in_ok-rewritten.rewritten.items c.requires.selftest c.requires.rewrites c.in_ok-rewritten.ensures (g.F.Files.told c.args.files.now) (g.F.Files.told c.write_both.new.files)
+    rewritten_told c.args.count c.args.source.now c.in_ok-rewritten.rewritten.items c.requires.selftest c.in_ok-rewritten.ensures (g.F.Files.told c.args.files.now) (g.F.Files.told c.write_both.new.files)
     c.in_ok-done.done c.write_both.result (subst (λ b. RunsBytes c.args.count b c.in_ok-done.done) c.deref.ensures.value c.in_ok-done.ensures)
     (told_spelled c.args.count c.args.bytes.now c.deref-2.result.now c.in_ok-rewritten.rewritten.items (g.F.Files.told c.args.files.now) (g.F.Files.told c.write_both.new.files) c.in_ok-done.done c.write_both.result c.requires.bytes c.deref-2.ensures.value c.write_both.ensures.told)
 
 pub returns-clause-stops : goal.returns-clause-stops
 returns-clause-stops g c =
-    rewritten_stops c.args.count c.args.source.now c.args.other.now c.in_ok-rewritten.rewritten.items c.requires.selftest c.requires.rewrites c.in_ok-rewritten.ensures (g.F.Files.told c.args.files.now) (g.F.Files.told c.write_both.new.files) c.write_both.result
+    rewritten_stops c.args.count c.args.source.now c.in_ok-rewritten.rewritten.items c.requires.selftest c.in_ok-rewritten.ensures (g.F.Files.told c.args.files.now) (g.F.Files.told c.write_both.new.files) c.write_both.result
     (stops_spelled c.args.count c.args.bytes.now c.deref-2.result.now c.in_ok-rewritten.rewritten.items (g.F.Files.told c.args.files.now) (g.F.Files.told c.write_both.new.files) c.write_both.result c.requires.bytes c.deref-2.ensures.value c.write_both.ensures.stops)
