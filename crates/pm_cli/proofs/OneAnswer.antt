@@ -11,10 +11,11 @@ use Rattle.command_answers.specs.declared.outcome.Outcome.{Outcome}
 use Rattle.command_answers.proofs.OneOutcome.{Agree, agree_then, agree_if_loaded}
 use Rattle.run_session.specs.Written.{Writes}
 use Rattle.instrument_command.proofs.OneAnswer.{one_instrument_answer, same_names}
-use Rattle.pm_cli.specs.Answer.{AnswersTo, IsAnswer, SameWrites, CheckAnswer, ShowAnswer, checked}
+use Rattle.selftest_command.proofs.OneSelftest.{one_dump, same_files}
+use Rattle.pm_cli.specs.Answer.{AnswersTo, IsAnswer, SameAnswer, SameWrites, CheckAnswer, ShowAnswer, checked}
 use Rattle.pm_cli.specs.Words.{command}
 use Rattle.pm_cli.specs.declared.words.Command.{Command}
-use Rattle.pm_cli.specs.declared.words.Command.TheVariants.{Check, Run, Instrument, Show, Debug}
+use Rattle.pm_cli.specs.declared.words.Command.TheVariants.{Check, Run, Instrument, Show, Debug, Selftest}
 use Rattle.debug_command.proofs.OneDebug.{one_debug}
 use Rattle.pm_cli.proofs.OneRun.{one_run_answer, one_run_written}
 
@@ -24,12 +25,13 @@ one_check m content = agree_then (input_of ModuleBytes m content) _ _ (λ bytes.
 one_show : (dump : List ℕ) (content : Option (List ℕ)) → Agree (ShowAnswer dump content) (ShowAnswer dump content)
 one_show dump content = agree_then (input_of DumpBytes dump content) _ _ (λ bytes a b pa qb. pa ∙ sym qb)
 
-one_to : (before after : List DeviceState) (c : Option Command) (first later : Contents) (given : List Served) (x y : Writes) → Agree (AnswersTo before after c first later given x) (AnswersTo before after c first later given y)
+one_to : (before after : List DeviceState) (c : Option Command) (first later : Contents) (given : List Served) (x y : Writes) (a b : Outcome) → AnswersTo before after c first later given x a → AnswersTo before after c first later given y b → SameAnswer c x y a b
 one_to before after (Some (Check m)) first later given x y a b pa qb = one_check m (first m) a b pa.0 qb.0
 one_to before after (Some (Run w)) first later given x y a b pa qb = one_run_answer before after w first later given x y a b pa qb
 one_to before after (Some (Instrument m out)) first later given x y a b pa qb = one_instrument_answer m out first x y a b pa.0 qb.0
 one_to before after (Some (Show dump)) first later given x y a b pa qb = one_show dump (first dump) a b pa.0 qb.0
 one_to before after (Some (Debug w)) first later given x y a b pa qb = one_debug w first later a b pa.0 qb.0
+one_to before after (Some (Selftest n)) first later given x y a b pa qb = one_dump n x y a b pa.0 qb.0
 one_to before after None first later given x y a b pa qb = pa.0 ∙ sym qb.0
 
 one_written : (before after : List DeviceState) (c : Option Command) (first later : Contents) (given : List Served) (x y : Writes) (a b : Outcome) → AnswersTo before after c first later given x a → AnswersTo before after c first later given y b → SameWrites c x y
@@ -38,8 +40,9 @@ one_written before after (Some (Run w)) first later given x y a b pa qb = one_ru
 one_written before after (Some (Instrument m out)) first later given x y a b pa qb = same_names m out first x y a b pa.0 qb.0
 one_written before after (Some (Show dump)) first later given x y a b pa qb = pa.1.writes_none ∙ sym qb.1.writes_none
 one_written before after (Some (Debug w)) first later given x y a b pa qb = pa.1.writes_none ∙ sym qb.1.writes_none
+one_written before after (Some (Selftest n)) first later given x y a b pa qb = same_files n x y a b pa.0 qb.0
 one_written before after None first later given x y a b pa qb = pa.1.writes_none ∙ sym qb.1.writes_none
 
-pub one_answer : (before after : List DeviceState) (words : List (List ℕ)) (first later : Contents) (given : List Served) (x y : Writes) (a b : Outcome) → IsAnswer before after words first later given x a → IsAnswer before after words first later given y b → (a ≡ b) × SameWrites (command words) x y
+pub one_answer : (before after : List DeviceState) (words : List (List ℕ)) (first later : Contents) (given : List Served) (x y : Writes) (a b : Outcome) → IsAnswer before after words first later given x a → IsAnswer before after words first later given y b → SameAnswer (command words) x y a b × SameWrites (command words) x y
 unfolding IsAnswer
 one_answer before after words first later given x y a b pa qb = (one_to before after (command words) first later given x y a b pa qb, one_written before after (command words) first later given x y a b pa qb)

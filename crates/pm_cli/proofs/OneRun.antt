@@ -1,17 +1,14 @@
 -- `run` has at most one answer, and one list of written files, where the same replies were given.
-use Rattle.std.proofs.Common.{◌≡◌, ℕ, List, [], ◌∷◌, map, length, Option, Some, None, false, refl, sym, ap, subst, ◌∙◌}
+use Rattle.std.proofs.Common.{◌≡◌, ℕ, List, map, length, Option, Some, None, false, refl, sym, ap, subst, ◌∙◌}
 use Rattle.std.proofs.Math.Path.{fun_ext}
 use Rattle.pm_outside.specs.Contents.{Contents}
 use Rattle.wasm_syntax.specs.declared.quantity.Quantity.TheVariants.{ModuleBytes}
-use Rattle.wasm_syntax.specs.declared.parts.Body.{Body}
 use Rattle.wasm_syntax.specs.declared.host.Reply.{Reply}
 use Rattle.wasm_syntax.specs.declared.host.Served.{Served}
 use Rattle.wasm_syntax.specs.declared.host.CollectorCall.{CollectorCall}
 use Rattle.wasm_syntax.specs.declared.module.ModuleParts.{ModuleParts as Module}
-use Rattle.wasm_syntax.specs.Tree.{Tree, code_of}
-use Rattle.wasm_syntax.specs.Module.{Program, IsProgram, AllWrite}
+use Rattle.wasm_syntax.specs.Module.{Program}
 use Rattle.wasm_syntax.specs.Run.{Ran, run}
-use Rattle.wasm_laws.proofs.Unique.{one_tree}
 use Rattle.wasm_decode.specs.Decode.{module_from}
 use Rattle.host_devices.specs.Given.{replies_of}
 use Rattle.host_set.specs.Sets.{DeviceState, names}
@@ -29,23 +26,8 @@ use Rattle.run_session.specs.RunText.{up_to_torn, dumps_from}
 use Rattle.run_command.specs.Hosting.{start_text}
 use Rattle.run_command.specs.AllRan.{all_ran}
 use Rattle.run_command.specs.RunAnswer.{RunAnswer, RunsTo, StartsOr, ModuleAnswer, IfRefusal, IsUntouched, hosting, replies_input, script_of}
+use Rattle.selftest_laws.proofs.OneProgram.{same_program}
 use Rattle.run_command.proofs.OneWritten.{Gives, at_refusal, gives_then, gives_starts, gives_if_loaded, input_refuses, replies_refuse, script_refuses}
-
--- flat bodies write out at most one list of trees
-same_trees : (bodies : List Body) (a b : List Tree) → AllWrite bodies a → AllWrite bodies b → a ≡ b
-same_trees [] [] [] x y = refl
-same_trees [] [] (t ∷ ts) x y = absurd y
-same_trees [] (t ∷ ts) b x y = absurd x
-same_trees (body ∷ bodies) [] b x y = absurd x
-same_trees (body ∷ bodies) (t ∷ ts) [] x y = absurd y
-same_trees (body ∷ bodies) (t ∷ ts) (u ∷ us) (w, ws) (v, vs) =
-    ap (λ x. x ∷ ts) (one_tree (code_of body.targets body.ops) t u w v) ∙ ap (λ xs. u ∷ xs) (same_trees bodies ts us ws vs)
-
--- a module is that of at most one program
-same_program : (m : Module) (p q : Program) → p.module_ ≡ m → q.module_ ≡ m → IsProgram p → IsProgram q → p ≡ q
-same_program m p q ep eq wp wq =
-    let trees = same_trees m.bodies p.trees q.trees (subst (λ k. AllWrite k.bodies p.trees) ep wp) (subst (λ k. AllWrite k.bodies q.trees) eq wq) in
-    ap (λ k. record { module_ = k; trees = p.trees }) (ep ∙ sym eq) ∙ ap (λ ts. record { module_ = q.module_; trees = ts }) trees
 
 -- calls hand over one thing
 same_delivery : (a b : List CollectorCall → Delivery) → IsDelivery a → IsDelivery b → a ≡ b

@@ -5,7 +5,7 @@ use Rattle.pm_outside.specs.Contents.{Contents}
 use Rattle.dump_write.specs.Written.{OnTold}
 use Rattle.host_set.specs.Sets.{DeviceState}
 use Rattle.command_answers.specs.Texts.{usage}
-use Rattle.command_answers.specs.Told.{OnContents}
+use Rattle.command_answers.specs.Told.{MayHold, OnContents}
 use Rattle.command_answers.specs.declared.outcome.Outcome.{Outcome}
 use Rattle.command_answers.proofs.Unless.{OnAnswer, map_answer, all_answers}
 use Rattle.run_words.specs.declared.words.RunWords.{RunWords}
@@ -14,10 +14,11 @@ use Rattle.run_command.specs.RunAnswer.{RunAnswer, AnsweredOn}
 use Rattle.instrument_command.specs.InstrumentAnswer.{AnsweredOn as InstrumentedOn}
 use Rattle.debug_command.specs.declared.words.DebugWords.{DebugWords}
 use Rattle.debug_command.specs.Answer.{DebugAnswer}
+use Rattle.selftest_command.specs.SelftestAnswer.{AnsweredOn as TestedOn}
 use Rattle.pm_cli.specs.Answer.{AnswersTo, IsAnswer, Answered, CheckAnswer, ShowAnswer}
 use Rattle.pm_cli.specs.Words.{command}
 use Rattle.pm_cli.specs.declared.words.Command.{Command}
-use Rattle.pm_cli.specs.declared.words.Command.TheVariants.{Check, Run, Instrument, Show, Debug}
+use Rattle.pm_cli.specs.declared.words.Command.TheVariants.{Check, Run, Instrument, Show, Debug, Selftest}
 
 -- ---- commands that write nothing and call no device
 
@@ -130,3 +131,29 @@ pub debug_answered : {E : Type 0} (devices : List DeviceState) (words : List (Li
     → OnAnswer (λ o. OnContents told (λ first. OnContents told (λ later. DebugAnswer w first later o))) r → OnAnswer (Answered devices devices words told told') r
 debug_answered devices words w told told' r asked same x = map_answer (λ o. OnContents told (λ first. OnContents told (λ later. DebugAnswer w first later o))) (Answered devices devices words told told') r
     (λ o a. debug_answer devices words w told told' o asked same a) x
+
+-- ---- `selftest`
+
+-- it reads no file: any contents that may be held do
+held : (told : Option Contents) → (files : Contents) × MayHold told files
+held None = (λ name. None, tt)
+held (Some files) = (files, refl)
+
+selftest_answer : (devices : List DeviceState) (words : List (List ℕ)) (n : ℕ) (told told' : Option Contents) (o : Outcome) → command words ≡ Some (Selftest n) → TestedOn n told told' o → Answered devices devices words told told' o
+unfolding IsAnswer
+selftest_answer devices words n told told' o asked a =
+    let h = held told in
+    record {
+      first = h.0;
+      may_first = h.1;
+      later = h.0;
+      may_later = h.1;
+      given = [];
+      writes = a.writes;
+      answer = subst (λ k. AnswersTo devices devices k h.0 h.0 [] a.writes o) (sym asked) (a.answer, (refl, refl));
+      files = a.files;
+    }
+
+pub selftest_answered : {E : Type 0} (devices : List DeviceState) (words : List (List ℕ)) (n : ℕ) (told told' : Option Contents) (r : Result Outcome E) → command words ≡ Some (Selftest n)
+    → OnAnswer (TestedOn n told told') r → OnAnswer (Answered devices devices words told told') r
+selftest_answered devices words n told told' r asked x = map_answer (TestedOn n told told') (Answered devices devices words told told') r (λ o a. selftest_answer devices words n told told' o asked a) x

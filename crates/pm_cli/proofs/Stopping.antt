@@ -18,10 +18,13 @@ use Rattle.debug_command.specs.Answer.{IsReadBy}
 use Rattle.instrument_command.specs.Stops.{InstrumentStops}
 use Rattle.instrument_command.proofs.Stopping.{map_stop}
 use Rattle.instrument_command.proofs.HeldFiles.{all_kept}
-use Rattle.pm_cli.specs.Stops.{UnlessRun, IsQuietBut, CommandStops, WordsStop}
+use Rattle.selftest_command.specs.SelftestAnswer.{module_file, rewritten_file}
+use Rattle.selftest_command.specs.Stops.{SelftestStops}
+use Rattle.selftest_command.proofs.Files.{none_kept}
+use Rattle.pm_cli.specs.Stops.{UnlessRun, IsQuietBut, IsQuietButBoth, CommandStops, WordsStop}
 use Rattle.pm_cli.specs.Words.{command}
 use Rattle.pm_cli.specs.declared.words.Command.{Command}
-use Rattle.pm_cli.specs.declared.words.Command.TheVariants.{Check, Run, Instrument, Show, Debug}
+use Rattle.pm_cli.specs.declared.words.Command.TheVariants.{Check, Run, Instrument, Show, Debug, Selftest}
 
 -- ---- commands that run nothing
 
@@ -70,6 +73,7 @@ unread (Some (Run w)) devices told = inl record { devices = refl; files = refl; 
 unread (Some (Instrument m out)) devices told = (refl, inl (refl, tt))
 unread (Some (Show dump)) devices told = record { devices = refl; files = refl; file = tt }
 unread (Some (Debug w)) devices told = record { devices = refl; files = refl; file = tt }
+unread (Some (Selftest n)) devices told = (refl, inl (refl, refl))
 unread None devices told = record { devices = refl; files = refl; file = tt }
 
 pub unread_stops : (devices : List DeviceState) (words : List (List ℕ)) (told : Option Contents) → WordsStop no_memory words devices devices told told
@@ -90,28 +94,41 @@ instrument_stops devices words told told' result m out source file asked named w
     (λ stop k. of_command words (Some (Instrument m out)) devices devices stop told told' asked
     (refl, subst (λ f. InstrumentStops stop m f told told') written (subst (λ s. InstrumentStops stop s file told told') named k))) x
 
--- however it ends
-module _ (c : Option Command) (P : Type 0) (Q : List ℕ → Type 0) where
-  pub quiet_all : P → ((out : List ℕ) → Q out) → UnlessRun c P Q
-  quiet_all x also = of c
-    where
-      of : (c : Option Command) → UnlessRun c P Q
-      of (Some (Check m)) = x
-      of (Some (Run w)) = tt
-      of (Some (Instrument m out)) = also out
-      of (Some (Show dump)) = x
-      of (Some (Debug w)) = x
-      of None = x
+pub selftest_stops : (devices : List DeviceState) (words : List (List ℕ)) (told told' : Option Contents) (result : Result Outcome NoMemory) (n : ℕ) → command words ≡ Some (Selftest n)
+    → OnStop (λ stop. SelftestStops stop n told told') result → OnStop (λ stop. WordsStop stop words devices devices told told') result
+selftest_stops devices words told told' result n asked x =
+    map_stop (λ stop. SelftestStops stop n told told') (λ stop. WordsStop stop words devices devices told told') result
+    (λ stop k. of_command words (Some (Selftest n)) devices devices stop told told' asked (refl, k)) x
 
-  pub quiet_run : (w : RunWords) → c ≡ Some (Run w) → UnlessRun c P Q
-  quiet_run w same = subst (λ k. UnlessRun k P Q) (sym same) tt
+-- ---- however it ends
 
-  pub quiet_instrument : (m out file : List ℕ) → c ≡ Some (Instrument m out) → file ≡ out → Q file → UnlessRun c P Q
-  quiet_instrument m out file same written x = subst (λ k. UnlessRun k P Q) (sym same) (subst Q written x)
+abbrev pub Quiet : Option Command → (before after : List DeviceState) → (old new : Option Contents) → (created created' : List (List ℕ)) → Type 0
+Quiet c before after old new created created' =
+    UnlessRun c ((after ≡ before) × (new ≡ old) × (created' ≡ created)) (λ out. IsQuietBut out before after old new created created') (IsQuietButBoth before after old new created created')
 
--- all is as before
-pub untouched : (devices : List DeviceState) (told told' : Option Contents) (created created' : List (List ℕ)) → told' ≡ told → created' ≡ created → (out : List ℕ) → IsQuietBut out devices devices told told' created created'
-untouched devices told told' created created' same names out = record { devices = refl; files = all_kept out told told' same; names = inl names }
+-- all is as before, whatever the words ask for
+pub quiet_all : (c : Option Command) (devices : List DeviceState) (told told' : Option Contents) (created created' : List (List ℕ)) → told' ≡ told → created' ≡ created → Quiet c devices devices told told' created created'
+quiet_all c devices told told' created created' same names = of c
+  where
+    of : (c : Option Command) → Quiet c devices devices told told' created created'
+    of (Some (Check m)) = (refl, same, names)
+    of (Some (Run w)) = tt
+    of (Some (Instrument m out)) = record { devices = refl; files = all_kept out told told' same; names = inl names }
+    of (Some (Show dump)) = (refl, same, names)
+    of (Some (Debug w)) = (refl, same, names)
+    of (Some (Selftest n)) = record { devices = refl; files = none_kept module_file rewritten_file told told' same; names = (created, inl refl, inl names) }
+    of None = (refl, same, names)
+
+module _ (c : Option Command) (before after : List DeviceState) (told told' : Option Contents) (created created' : List (List ℕ)) where
+  pub quiet_run : (w : RunWords) → c ≡ Some (Run w) → Quiet c before after told told' created created'
+  quiet_run w same = subst (λ k. Quiet k before after told told' created created') (sym same) tt
+
+  pub quiet_instrument : (m out file : List ℕ) → c ≡ Some (Instrument m out) → file ≡ out → IsQuietBut file before after told told' created created' → Quiet c before after told told' created created'
+  quiet_instrument m out file same written x =
+      subst (λ k. Quiet k before after told told' created created') (sym same) (subst (λ f. IsQuietBut f before after told told' created created') written x)
+
+  pub quiet_selftest : (n : ℕ) → c ≡ Some (Selftest n) → IsQuietButBoth before after told told' created created' → Quiet c before after told told' created created'
+  quiet_selftest n same x = subst (λ k. Quiet k before after told told' created created') (sym same) x
 
 -- ---- the top call
 

@@ -6,7 +6,7 @@ ghost use Rattle.causes.specs.Counts.{Rose};
 ghost use Rattle.host_set.specs.Sets.{AreDistinct, names};
 ghost use Rattle.pm_cli.specs.Answer.{IsAnswer, Answered};
 ghost use Rattle.command_answers.specs.Told.{UnlessFault};
-ghost use Rattle.pm_cli.specs.Stops.{UnlessRun, IsQuietBut, WordsStop};
+ghost use Rattle.pm_cli.specs.Stops.{UnlessRun, IsQuietBut, IsQuietButBoth, WordsStop};
 ghost use Rattle.pm_cli.specs.Words.{command};
 ghost use Rattle.run_session.specs.Stop.{OnStop};
 
@@ -21,6 +21,7 @@ use host_set::Devices;
 use instrument_command::instrument_file;
 use pm_outside::Files;
 use run_command::run_file;
+use selftest_command::selftest_files;
 use std::alloc::Global;
 
 /// What the words get.
@@ -39,6 +40,8 @@ pub fn respond<F: Files, D: Devices>(
     ensures quiet { UnlessRun (command (map string_bytes words.now))
         ((D.shown devices.new ≡ D.shown devices.old) × (F.told files.new ≡ F.told files.old) × (F.created files.new ≡ F.created files.old))
         (λ out. IsQuietBut out (D.shown devices.old) (D.shown devices.new)
+        (F.told files.old) (F.told files.new) (F.created files.old) (F.created files.new))
+        (IsQuietButBoth (D.shown devices.old) (D.shown devices.new)
         (F.told files.old) (F.told files.new) (F.created files.old) (F.created files.new)) }
     ensures distinct { AreDistinct (names (D.shown devices.new)) }
     ensures telling { is_some (F.told files.new) ≡ is_some (F.told files.old) }
@@ -55,6 +58,7 @@ pub fn respond<F: Files, D: Devices>(
         }
         Ok(Command::Show { dump }) => show_file(alloc, files, dump.as_str()),
         Ok(Command::Debug(words)) => debug_file(alloc, files, &words),
+        Ok(Command::Selftest { count }) => selftest_files::<F, D>(alloc, files, count),
         Err(WordsFault::Usage) => plain(
             alloc,
             Status::Usage,

@@ -2,12 +2,13 @@
 
 ghost use Rattle.std.specs.Prelude.{◌≡◌, map, None, Some, IfOk};
 ghost use Rattle.std.specs.String.{string_bytes};
-ghost use Rattle.pm_cli.specs.Words.{one_word, instrument_words, command, HasInvocations, HasDepth};
+ghost use Rattle.pm_cli.specs.Words.{one_word, instrument_words, command, HasInvocations, HasDepth, HasCount};
 
 use command_words::{Options, WordsFault, read_words};
 use debug_command::{DebugWords, debug_words};
 use pm_text::Text;
 use run_words::{RunWords, run_words};
+use selftest_command::selftest_words;
 use std::alloc::Global;
 
 /// A command with its words.
@@ -23,6 +24,8 @@ pub enum Command {
     Show { dump: Text },
     /// `debug M DUMP [COMMAND ...]`
     Debug(DebugWords),
+    /// `selftest N`
+    Selftest { count: u32 },
 }
 
 /// The one plain word behind a command without options.
@@ -47,6 +50,7 @@ fn instrument_words(alloc: Global, words: &[String]) -> Result<Command, WordsFau
     ensures usage { result ≡ Err WordsFault.Usage → instrument_words (map string_bytes words.now) ≡ None }
     ensures some { IfOk result HasInvocations }
     ensures depth { IfOk result HasDepth }
+    ensures count { IfOk result HasCount }
 {
     let Some(reading) = read_words(alloc, words, &Options::none())? else {
         return Err(WordsFault::Usage);
@@ -67,6 +71,7 @@ pub fn parse_words(alloc: Global, words: &[String]) -> Result<Command, WordsFaul
     ensures usage { result ≡ Err WordsFault.Usage → command (map string_bytes words.now) ≡ None }
     ensures some { IfOk result HasInvocations }
     ensures depth { IfOk result HasDepth }
+    ensures count { IfOk result HasCount }
 {
     let Some((name, words)) = words.split_first() else {
         return Err(WordsFault::Usage);
@@ -81,6 +86,9 @@ pub fn parse_words(alloc: Global, words: &[String]) -> Result<Command, WordsFaul
             dump: one_word(alloc, words)?,
         }),
         "debug" => Ok(Command::Debug(debug_words(alloc, words)?)),
+        "selftest" => Ok(Command::Selftest {
+            count: selftest_words(alloc, words)?,
+        }),
         _ => Err(WordsFault::Usage),
     }
 }

@@ -1,10 +1,9 @@
 use Rattle.std.proofs.Common.{◌≡◌, map, refl, ap, ◌∙◌, Some, Err}
 use Rattle.std.specs.String.{string_bytes}
 use Rattle.causes.specs.Counts.{Rose}
-use Rattle.pm_cli.proofs.Respond.{check_answered, show_answered, usage_answered, run_answered, debug_answered, instrument_answered}
-use Rattle.pm_cli.specs.Stops.{IsQuietBut}
+use Rattle.pm_cli.proofs.Respond.{check_answered, show_answered, usage_answered, run_answered, debug_answered, instrument_answered, selftest_answered}
 use Rattle.pm_cli.specs.Words.{command}
-use Rattle.pm_cli.proofs.Stopping.{check_stops, show_stops, usage_stops, unread_stops, run_stops, debug_stops, instrument_stops, quiet_all, quiet_run, quiet_instrument, untouched}
+use Rattle.pm_cli.proofs.Stopping.{check_stops, show_stops, usage_stops, unread_stops, run_stops, debug_stops, instrument_stops, selftest_stops, quiet_all, quiet_run, quiet_instrument, quiet_selftest}
 use Rattle.pm_cli.proofs.command.respond.Goals as goal
 
 pub returns-in-Ok-Check-clause-told : goal.returns-in-Ok-Check-clause-told
@@ -40,32 +39,44 @@ returns-in-Ok-Instrument-clause-told g c = instrument_answered (g.D.Devices.show
 pub returns-in-Ok-Instrument-clause-stops : goal.returns-in-Ok-Instrument-clause-stops
 returns-in-Ok-Instrument-clause-stops g c = instrument_stops (g.D.Devices.shown c.args.devices.now) (map string_bytes c.args.words.now) (g.F.Files.told c.args.files.now) (g.F.Files.told c.instrument_file.new.files) c.instrument_file.result _ _ c.as_str-in-Ok-Instrument.result.now c.as_str-in-Ok-Instrument-2.result.now (c.in-Ok-Instrument.ensures.ok ∙ ap Some c.in-Ok-Instrument.field-0-is) c.as_str-in-Ok-Instrument.ensures.value c.as_str-in-Ok-Instrument-2.ensures.value c.instrument_file.ensures.stops
 
--- however it ends
-
-pub returns-in-Ok-Check-clause-quiet : goal.returns-in-Ok-Check-clause-quiet
-returns-in-Ok-Check-clause-quiet g c = quiet_all (command (map string_bytes c.args.words.now)) ((g.D.Devices.shown c.args.devices.now ≡ g.D.Devices.shown c.args.devices.now) × (g.F.Files.told c.check_file.new.files ≡ g.F.Files.told c.args.files.now) × (g.F.Files.created c.check_file.new.files ≡ g.F.Files.created c.args.files.now)) (λ out. IsQuietBut out (g.D.Devices.shown c.args.devices.now) (g.D.Devices.shown c.args.devices.now) (g.F.Files.told c.args.files.now) (g.F.Files.told c.check_file.new.files) (g.F.Files.created c.args.files.now) (g.F.Files.created c.check_file.new.files)) (refl, c.check_file.ensures.same, c.check_file.ensures.names) (untouched (g.D.Devices.shown c.args.devices.now) (g.F.Files.told c.args.files.now) (g.F.Files.told c.check_file.new.files) (g.F.Files.created c.args.files.now) (g.F.Files.created c.check_file.new.files) c.check_file.ensures.same c.check_file.ensures.names)
-
-pub returns-in-Ok-Run-clause-quiet : goal.returns-in-Ok-Run-clause-quiet
-returns-in-Ok-Run-clause-quiet g c = quiet_run (command (map string_bytes c.args.words.now)) ((g.D.Devices.shown c.run_file.new.devices ≡ g.D.Devices.shown c.args.devices.now) × (g.F.Files.told c.run_file.new.files ≡ g.F.Files.told c.args.files.now) × (g.F.Files.created c.run_file.new.files ≡ g.F.Files.created c.args.files.now)) (λ out. IsQuietBut out (g.D.Devices.shown c.args.devices.now) (g.D.Devices.shown c.run_file.new.devices) (g.F.Files.told c.args.files.now) (g.F.Files.told c.run_file.new.files) (g.F.Files.created c.args.files.now) (g.F.Files.created c.run_file.new.files)) _ (c.in-Ok-Run.ensures.ok ∙ ap Some c.in-Ok-Run.field-0-is)
-
-pub returns-in-Ok-Instrument-clause-quiet : goal.returns-in-Ok-Instrument-clause-quiet
-returns-in-Ok-Instrument-clause-quiet g c = quiet_instrument (command (map string_bytes c.args.words.now)) ((g.D.Devices.shown c.args.devices.now ≡ g.D.Devices.shown c.args.devices.now) × (g.F.Files.told c.instrument_file.new.files ≡ g.F.Files.told c.args.files.now) × (g.F.Files.created c.instrument_file.new.files ≡ g.F.Files.created c.args.files.now)) (λ out. IsQuietBut out (g.D.Devices.shown c.args.devices.now) (g.D.Devices.shown c.args.devices.now) (g.F.Files.told c.args.files.now) (g.F.Files.told c.instrument_file.new.files) (g.F.Files.created c.args.files.now) (g.F.Files.created c.instrument_file.new.files)) _ _ c.as_str-in-Ok-Instrument-2.result.now (c.in-Ok-Instrument.ensures.ok ∙ ap Some c.in-Ok-Instrument.field-0-is) c.as_str-in-Ok-Instrument-2.ensures.value
-    record { devices = refl; files = c.instrument_file.ensures.others; names = c.instrument_file.ensures.names }
-
-pub returns-in-Ok-Show-clause-quiet : goal.returns-in-Ok-Show-clause-quiet
-returns-in-Ok-Show-clause-quiet g c = quiet_all (command (map string_bytes c.args.words.now)) ((g.D.Devices.shown c.args.devices.now ≡ g.D.Devices.shown c.args.devices.now) × (g.F.Files.told c.show_file.new.files ≡ g.F.Files.told c.args.files.now) × (g.F.Files.created c.show_file.new.files ≡ g.F.Files.created c.args.files.now)) (λ out. IsQuietBut out (g.D.Devices.shown c.args.devices.now) (g.D.Devices.shown c.args.devices.now) (g.F.Files.told c.args.files.now) (g.F.Files.told c.show_file.new.files) (g.F.Files.created c.args.files.now) (g.F.Files.created c.show_file.new.files)) (refl, c.show_file.ensures.same, c.show_file.ensures.names) (untouched (g.D.Devices.shown c.args.devices.now) (g.F.Files.told c.args.files.now) (g.F.Files.told c.show_file.new.files) (g.F.Files.created c.args.files.now) (g.F.Files.created c.show_file.new.files) c.show_file.ensures.same c.show_file.ensures.names)
-
-pub returns-in-Err-Usage-clause-quiet : goal.returns-in-Err-Usage-clause-quiet
-returns-in-Err-Usage-clause-quiet g c = quiet_all (command (map string_bytes c.args.words.now)) ((g.D.Devices.shown c.args.devices.now ≡ g.D.Devices.shown c.args.devices.now) × (g.F.Files.told c.args.files.now ≡ g.F.Files.told c.args.files.now) × (g.F.Files.created c.args.files.now ≡ g.F.Files.created c.args.files.now)) (λ out. IsQuietBut out (g.D.Devices.shown c.args.devices.now) (g.D.Devices.shown c.args.devices.now) (g.F.Files.told c.args.files.now) (g.F.Files.told c.args.files.now) (g.F.Files.created c.args.files.now) (g.F.Files.created c.args.files.now)) (refl, refl, refl) (untouched (g.D.Devices.shown c.args.devices.now) (g.F.Files.told c.args.files.now) (g.F.Files.told c.args.files.now) (g.F.Files.created c.args.files.now) (g.F.Files.created c.args.files.now) refl refl)
-
-pub returns-in-Err-NoMemory-clause-quiet : goal.returns-in-Err-NoMemory-clause-quiet
-returns-in-Err-NoMemory-clause-quiet g c = quiet_all (command (map string_bytes c.args.words.now)) ((g.D.Devices.shown c.args.devices.now ≡ g.D.Devices.shown c.args.devices.now) × (g.F.Files.told c.args.files.now ≡ g.F.Files.told c.args.files.now) × (g.F.Files.created c.args.files.now ≡ g.F.Files.created c.args.files.now)) (λ out. IsQuietBut out (g.D.Devices.shown c.args.devices.now) (g.D.Devices.shown c.args.devices.now) (g.F.Files.told c.args.files.now) (g.F.Files.told c.args.files.now) (g.F.Files.created c.args.files.now) (g.F.Files.created c.args.files.now)) (refl, refl, refl) (untouched (g.D.Devices.shown c.args.devices.now) (g.F.Files.told c.args.files.now) (g.F.Files.told c.args.files.now) (g.F.Files.created c.args.files.now) (g.F.Files.created c.args.files.now) refl refl)
-
 pub returns-in-Ok-Debug-clause-told : goal.returns-in-Ok-Debug-clause-told
 returns-in-Ok-Debug-clause-told g c = debug_answered (g.D.Devices.shown c.args.devices.now) (map string_bytes c.args.words.now) _ (g.F.Files.told c.args.files.now) (g.F.Files.told c.debug_file.new.files) c.debug_file.result (c.in-Ok-Debug.ensures.ok ∙ ap Some c.in-Ok-Debug.field-0-is) c.debug_file.ensures.same c.debug_file.ensures.told
 
 pub returns-in-Ok-Debug-clause-stops : goal.returns-in-Ok-Debug-clause-stops
 returns-in-Ok-Debug-clause-stops g c = debug_stops (g.D.Devices.shown c.args.devices.now) (map string_bytes c.args.words.now) (g.F.Files.told c.args.files.now) (g.F.Files.told c.debug_file.new.files) c.debug_file.ensures.same (Rose (g.F.Files.faults c.args.files.now) (g.F.Files.faults c.debug_file.new.files)) c.debug_file.result _ (c.in-Ok-Debug.ensures.ok ∙ ap Some c.in-Ok-Debug.field-0-is) c.debug_file.ensures.fault
 
+pub returns-in-Ok-Selftest-clause-told : goal.returns-in-Ok-Selftest-clause-told
+returns-in-Ok-Selftest-clause-told g c = selftest_answered (g.D.Devices.shown c.args.devices.now) (map string_bytes c.args.words.now) _ (g.F.Files.told c.args.files.now) (g.F.Files.told c.selftest_files.new.files) c.selftest_files.result (c.in-Ok-Selftest.ensures.ok ∙ ap Some c.in-Ok-Selftest.field-0-is) c.selftest_files.ensures.told
+
+pub returns-in-Ok-Selftest-clause-stops : goal.returns-in-Ok-Selftest-clause-stops
+returns-in-Ok-Selftest-clause-stops g c = selftest_stops (g.D.Devices.shown c.args.devices.now) (map string_bytes c.args.words.now) (g.F.Files.told c.args.files.now) (g.F.Files.told c.selftest_files.new.files) c.selftest_files.result _ (c.in-Ok-Selftest.ensures.ok ∙ ap Some c.in-Ok-Selftest.field-0-is) c.selftest_files.ensures.stops
+
+-- ---- however it ends
+
+pub returns-in-Ok-Check-clause-quiet : goal.returns-in-Ok-Check-clause-quiet
+returns-in-Ok-Check-clause-quiet g c = quiet_all (command (map string_bytes c.args.words.now)) (g.D.Devices.shown c.args.devices.now) (g.F.Files.told c.args.files.now) (g.F.Files.told c.check_file.new.files) (g.F.Files.created c.args.files.now) (g.F.Files.created c.check_file.new.files) c.check_file.ensures.same c.check_file.ensures.names
+
+pub returns-in-Ok-Show-clause-quiet : goal.returns-in-Ok-Show-clause-quiet
+returns-in-Ok-Show-clause-quiet g c = quiet_all (command (map string_bytes c.args.words.now)) (g.D.Devices.shown c.args.devices.now) (g.F.Files.told c.args.files.now) (g.F.Files.told c.show_file.new.files) (g.F.Files.created c.args.files.now) (g.F.Files.created c.show_file.new.files) c.show_file.ensures.same c.show_file.ensures.names
+
 pub returns-in-Ok-Debug-clause-quiet : goal.returns-in-Ok-Debug-clause-quiet
-returns-in-Ok-Debug-clause-quiet g c = quiet_all (command (map string_bytes c.args.words.now)) ((g.D.Devices.shown c.args.devices.now ≡ g.D.Devices.shown c.args.devices.now) × (g.F.Files.told c.debug_file.new.files ≡ g.F.Files.told c.args.files.now) × (g.F.Files.created c.debug_file.new.files ≡ g.F.Files.created c.args.files.now)) (λ out. IsQuietBut out (g.D.Devices.shown c.args.devices.now) (g.D.Devices.shown c.args.devices.now) (g.F.Files.told c.args.files.now) (g.F.Files.told c.debug_file.new.files) (g.F.Files.created c.args.files.now) (g.F.Files.created c.debug_file.new.files)) (refl, c.debug_file.ensures.same, c.debug_file.ensures.names) (untouched (g.D.Devices.shown c.args.devices.now) (g.F.Files.told c.args.files.now) (g.F.Files.told c.debug_file.new.files) (g.F.Files.created c.args.files.now) (g.F.Files.created c.debug_file.new.files) c.debug_file.ensures.same c.debug_file.ensures.names)
+returns-in-Ok-Debug-clause-quiet g c = quiet_all (command (map string_bytes c.args.words.now)) (g.D.Devices.shown c.args.devices.now) (g.F.Files.told c.args.files.now) (g.F.Files.told c.debug_file.new.files) (g.F.Files.created c.args.files.now) (g.F.Files.created c.debug_file.new.files) c.debug_file.ensures.same c.debug_file.ensures.names
+
+pub returns-in-Err-Usage-clause-quiet : goal.returns-in-Err-Usage-clause-quiet
+returns-in-Err-Usage-clause-quiet g c = quiet_all (command (map string_bytes c.args.words.now)) (g.D.Devices.shown c.args.devices.now) (g.F.Files.told c.args.files.now) (g.F.Files.told c.args.files.now) (g.F.Files.created c.args.files.now) (g.F.Files.created c.args.files.now) refl refl
+
+pub returns-in-Err-NoMemory-clause-quiet : goal.returns-in-Err-NoMemory-clause-quiet
+returns-in-Err-NoMemory-clause-quiet g c = quiet_all (command (map string_bytes c.args.words.now)) (g.D.Devices.shown c.args.devices.now) (g.F.Files.told c.args.files.now) (g.F.Files.told c.args.files.now) (g.F.Files.created c.args.files.now) (g.F.Files.created c.args.files.now) refl refl
+
+pub returns-in-Ok-Run-clause-quiet : goal.returns-in-Ok-Run-clause-quiet
+returns-in-Ok-Run-clause-quiet g c = quiet_run (command (map string_bytes c.args.words.now)) (g.D.Devices.shown c.args.devices.now) (g.D.Devices.shown c.run_file.new.devices) (g.F.Files.told c.args.files.now) (g.F.Files.told c.run_file.new.files) (g.F.Files.created c.args.files.now) (g.F.Files.created c.run_file.new.files) _ (c.in-Ok-Run.ensures.ok ∙ ap Some c.in-Ok-Run.field-0-is)
+
+pub returns-in-Ok-Instrument-clause-quiet : goal.returns-in-Ok-Instrument-clause-quiet
+returns-in-Ok-Instrument-clause-quiet g c =
+    quiet_instrument (command (map string_bytes c.args.words.now)) (g.D.Devices.shown c.args.devices.now) (g.D.Devices.shown c.args.devices.now) (g.F.Files.told c.args.files.now) (g.F.Files.told c.instrument_file.new.files) (g.F.Files.created c.args.files.now) (g.F.Files.created c.instrument_file.new.files) _ _ c.as_str-in-Ok-Instrument-2.result.now (c.in-Ok-Instrument.ensures.ok ∙ ap Some c.in-Ok-Instrument.field-0-is) c.as_str-in-Ok-Instrument-2.ensures.value
+    record { devices = refl; files = c.instrument_file.ensures.others; names = c.instrument_file.ensures.names }
+
+pub returns-in-Ok-Selftest-clause-quiet : goal.returns-in-Ok-Selftest-clause-quiet
+returns-in-Ok-Selftest-clause-quiet g c =
+    quiet_selftest (command (map string_bytes c.args.words.now)) (g.D.Devices.shown c.args.devices.now) (g.D.Devices.shown c.args.devices.now) (g.F.Files.told c.args.files.now) (g.F.Files.told c.selftest_files.new.files) (g.F.Files.created c.args.files.now) (g.F.Files.created c.selftest_files.new.files) _ (c.in-Ok-Selftest.ensures.ok ∙ ap Some c.in-Ok-Selftest.field-0-is)
+    record { devices = refl; files = c.selftest_files.ensures.others; names = c.selftest_files.ensures.names }
