@@ -6,12 +6,12 @@ use Rattle.wasm_syntax.specs.declared.value.Value.{Value}
 use Rattle.wasm_syntax.specs.declared.parts.FuncType.{FuncType}
 use Rattle.wasm_syntax.specs.declared.host.CollectorCall.{CollectorCall}
 use Rattle.wasm_syntax.specs.Tree.{Nodes}
-use Rattle.wasm_syntax.specs.Module.{type_at, function_at, same_functype}
+use Rattle.wasm_syntax.specs.Module.{type_at, same_functype}
 use Rattle.wasm_syntax.specs.Host.{World}
-use Rattle.wasm_syntax.specs.Machine.{Engine, Label, Frame, Stepped, stuck, calls, calls_typed, calls_entry, calls_if, fits_entry, trapped}
+use Rattle.wasm_syntax.specs.Machine.{Engine, Label, Frame, Stepped, stuck, calls_typed, calls_entry, calls_if, fits_entry}
 use Rattle.machine_basics.specs.declared.answer.TrapKind.TheVariants.{UndefinedElement, UninitializedElement, TypeMismatch}
 use Rattle.machine_steps.specs.declared.indirect.Entry.TheVariants as entries
-use Rattle.machine_steps.specs.Prepares.{HasNumber, TypeNumber, Numbered}
+use Rattle.machine_steps.specs.Prepares.{Numbered}
 use Rattle.machine_steps.specs.inner.Entries.{Is, EntryFits}
 
 module _ (M : Engine) (w : World) (t n : ℕ) where

@@ -1,5 +1,5 @@
 -- A call of an import.
-use Rattle.std.proofs.Common.{◌≡◌, ℕ, zero, suc, ◌+◌, ◌-◌, ◌<◌, List, [], ◌∷◌, length, reverse, refl, sym, ap, subst, ◌∙◌, inl, inr, ⊎_elim, arith}
+use Rattle.std.proofs.Common.{◌≡◌, ℕ, suc, ◌-◌, ◌<◌, List, [], ◌∷◌, length, reverse, refl, sym, ap, subst, ◌∙◌, ⊎_elim, arith}
 use Rattle.std.proofs.lemmas.Bool.Decides.{nat_tests}
 use Rattle.std.specs.Prelude.{◌⊎◌, Bool, true, false, nat_lt, if◌then◌else◌, Option, Some, None, slice_get, option_map}
 use Rattle.wasm_syntax.specs.declared.value.Value.{Value}
@@ -8,7 +8,7 @@ use Rattle.wasm_syntax.specs.declared.parts.Import.{Import as Imported}
 use Rattle.wasm_syntax.specs.declared.parts.FuncType.{FuncType}
 use Rattle.wasm_syntax.specs.Numbers.{types}
 use Rattle.wasm_syntax.specs.Tree.{Jump, CallIndirect, Nodes, jump, Goes}
-use Rattle.wasm_syntax.specs.Module.{Program, Function, imported, defined, function_at, imported_at, defined_at, same_types, option_then}
+use Rattle.wasm_syntax.specs.Module.{Program, Function, imported, function_at, imported_at, defined_at, same_types, option_then}
 use Rattle.wasm_syntax.specs.Host.{Answer, replied, told, silent, misfit, answer}
 use Rattle.wasm_syntax.specs.Machine as steps
 use Rattle.wasm_syntax.specs.Machine.{Cut, short, parts, cut, host_call}
@@ -19,14 +19,13 @@ use Rattle.machine_frames.proofs.JumpLaws.{IsJump, jump_at, step_jumps}
 use Rattle.machine_steps.specs.declared.machine.Machine.{Machine}
 use Rattle.machine_steps.specs.declared.machine.ImportCall.{ImportCall}
 use Rattle.machine_steps.specs.declared.machine.Outcome.{Outcome}
-use Rattle.machine_steps.specs.declared.machine.Outcome.TheVariants.{Next, Ended, Trap, Import, NoMemory, Stuck}
+use Rattle.machine_steps.specs.declared.machine.Outcome.TheVariants.{Trap, Import}
 use Rattle.machine_steps.specs.declared.indirect.Entry.{Entry}
 use Rattle.machine_steps.specs.declared.indirect.Entry.TheVariants as entries
 use Rattle.machine_basics.specs.Traps.{trap_code}
 use Rattle.machine_steps.specs.Meets.{UnderIndex, CallsImport, MeetsAt, Here, config_at}
 use Rattle.machine_steps.specs.inner.Entries.{EntryFits}
 use Rattle.machine_steps.proofs.StepLaws.{stuck_meets, stands_here, traps_here}
-use Rattle.machine_basics.specs.declared.answer.TrapKind.{TrapKind}
 
 -- an import, by its index
 below : (p : Program) (g : ℕ) → g < length p.module_.imports → function_at p g ≡ imported_at p.module_ g

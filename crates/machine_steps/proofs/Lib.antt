@@ -3,3 +3,6 @@ pub mod StepLaws
 pub mod EntryLaws
 pub mod ImportLaws
 pub mod TurnLaws
+pub mod PlaceLaws
+pub mod MadeLaws
+pub mod WatchLaws

@@ -1,6 +1,6 @@
 -- Steps of a machine from steps of its frames, of its values and of what frames share.
-use Rattle.std.proofs.Common.{◌≡◌, ℕ, zero, suc, ◌+◌, List, [], ◌∷◌, ◌++◌, length, reverse, refl, sym, ap, subst, ◌∙◌, inl, inr, ⊎_elim, append_assoc}
-use Rattle.std.specs.Prelude.{◌⊎◌, Option, Some, None, slice_get}
+use Rattle.std.proofs.Common.{◌≡◌, ℕ, zero, suc, ◌+◌, List, [], ◌∷◌, ◌++◌, length, reverse, refl, sym, ap, subst, ◌∙◌, ⊎_elim, append_assoc}
+use Rattle.std.specs.Prelude.{Some, None, slice_get}
 use Rattle.wasm_syntax.specs.declared.value.Value.{Value}
 use Rattle.wasm_syntax.specs.declared.instruction.Basic.{Basic}
 use Rattle.wasm_syntax.specs.declared.instruction.Op.{Op}
@@ -17,13 +17,11 @@ use Rattle.machine_basics.specs.declared.shared.Shared.{Shared}
 use Rattle.machine_basics.specs.Traps.{trap_code}
 use Rattle.machine_basics.specs.Performs.{Holds, Did, on_operands, on_cut, above, laid_out}
 use Rattle.machine_code.specs.declared.code.Code.{Code}
-use Rattle.machine_code.specs.Flat.{Is}
 use Rattle.machine_code.specs.Code.{items, Prepares}
 use Rattle.machine_frames.specs.declared.layout.CallFrame.{CallFrame}
 use Rattle.machine_frames.specs.declared.layout.CallStack.{CallStack}
 use Rattle.machine_frames.specs.declared.layout.Stepped.{Stepped}
 use Rattle.machine_frames.specs.declared.layout.Stepped.TheVariants as stepped
-use Rattle.machine_frames.specs.Layout as layout
 use Rattle.machine_frames.specs.Layout.{Level, Frames, Labels}
 use Rattle.machine_frames.specs.Meets as moved
 use Rattle.machine_frames.specs.Meets.{Point, with_labels, step_at, Inner, Reads}
@@ -32,7 +30,7 @@ use Rattle.machine_frames.proofs.Points.{floor_at, LabelsAt, labels_are, first_a
 use Rattle.machine_steps.specs.declared.machine.Machine.{Machine}
 use Rattle.machine_steps.specs.declared.machine.Outcome.{Outcome}
 use Rattle.machine_steps.specs.declared.machine.Outcome.TheVariants.{Next, Ended, Trap, Import, NoMemory, Stuck}
-use Rattle.machine_steps.specs.Meets.{outcome_of, Shares, StandsFor, SameHost, Then, Left, Meets, MeetsAt, Here, config_at}
+use Rattle.machine_steps.specs.Meets.{outcome_of, Shares, StandsFor, Then, Meets, MeetsAt, Here, config_at}
 use Rattle.machine_basics.specs.inner.Keeps.{Keeps, EffectKeeps}
 use Rattle.machine_basics.proofs.Keeping.{operands_keep}
 use Rattle.machine_steps.proofs.CutLaws.{cut_more}

@@ -1,19 +1,18 @@
 -- The turns of a run.
-use Rattle.std.proofs.Common.{◌≡◌, ℕ, zero, suc, ◌+◌, ◌<◌, ◌≤◌, List, refl, sym, ap, subst, ◌∙◌, arith}
+use Rattle.std.proofs.Common.{◌≡◌, ℕ, suc, ◌+◌, ◌<◌, List, refl, sym, ap, subst, ◌∙◌, arith}
 use Rattle.std.specs.Prelude.{◌≢◌}
 use Rattle.wasm_syntax.specs.declared.host.CollectorCall.{CollectorCall}
 use Rattle.wasm_syntax.specs.Host.{World}
 use Rattle.wasm_syntax.specs.Machine as steps
 use Rattle.wasm_syntax.specs.Machine.{Engine, Config, step}
 use Rattle.wasm_syntax.specs.Run.{Ended as Result, run_steps, run_on, ended}
-use Rattle.machine_basics.specs.Traps.{trap_code}
 use Rattle.machine_code.specs.declared.code.Code.{Code}
 use Rattle.machine_steps.specs.declared.machine.Machine.{Machine}
 use Rattle.machine_steps.specs.declared.machine.ImportCall.{ImportCall}
 use Rattle.machine_steps.specs.declared.machine.Outcome.{Outcome}
 use Rattle.machine_steps.specs.declared.machine.Outcome.TheVariants.{Next, Ended, Trap, Import, NoMemory, Stuck}
-use Rattle.machine_steps.specs.Meets.{Shares, StandsFor, SameHost, Then, Left, CallsImport, Meets}
-use Rattle.machine_steps.specs.inner.Runs.{Leads, Stops, Reached, Came}
+use Rattle.machine_steps.specs.Meets.{StandsFor, SameHost, Then, CallsImport, Meets}
+use Rattle.machine_steps.specs.inner.Runs.{Reached, Came}
 
 same_after : (w v u : World) (co do_ eo : List CollectorCall) → SameHost w co v do_ → SameHost v do_ u eo → SameHost w co u eo
 same_after w v u co do_ eo a b = record { replies = b.replies ∙ a.replies; served = b.served ∙ a.served; collected = b.collected ∙ a.collected }

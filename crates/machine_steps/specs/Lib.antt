@@ -1,3 +1,5 @@
 pub mod Prepares
 pub mod Meets
+pub mod Places
+pub mod Watches
 pub mod inner

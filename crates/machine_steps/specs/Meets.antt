@@ -1,5 +1,5 @@
 -- What a step of a machine has to come to.
-use Rattle.std.specs.Prelude.{◌≡◌, ℕ, suc, Bool, true, false, List, [], ◌∷◌, Option, Some}
+use Rattle.std.specs.Prelude.{◌≡◌, ℕ, suc, Bool, true, false, List, [], ◌∷◌, Some}
 use Rattle.wasm_syntax.specs.declared.value.Value.{Value}
 use Rattle.wasm_syntax.specs.declared.value.Value.TheVariants as values
 use Rattle.wasm_syntax.specs.declared.parts.Import.{Import as Imported}
@@ -16,7 +16,7 @@ use Rattle.machine_code.specs.declared.code.Code.{Code}
 use Rattle.machine_frames.specs.declared.layout.Stepped.{Stepped}
 use Rattle.machine_frames.specs.declared.layout.Stepped.TheVariants as stepped
 use Rattle.machine_frames.specs.Layout as layout
-use Rattle.machine_frames.specs.Meets.{Point, with_labels, call_at, Inner}
+use Rattle.machine_frames.specs.Meets.{Point, with_labels, Inner}
 use Rattle.machine_steps.specs.declared.machine.Machine.{Machine}
 use Rattle.machine_steps.specs.declared.machine.ImportCall.{ImportCall}
 use Rattle.machine_steps.specs.declared.machine.Outcome.{Outcome}

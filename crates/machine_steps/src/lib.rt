@@ -5,7 +5,9 @@ mod indirect;
 mod machine;
 mod runs;
 mod steps;
+mod watch;
 
 pub use machine::{ImportCall, Machine, Outcome, Prepared};
-pub use runs::{Ended, run};
+pub use runs::{Ended, run, run_watched};
 pub use steps::step;
+pub use watch::{Position, Unwatched, Watch};

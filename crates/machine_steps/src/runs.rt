@@ -3,9 +3,11 @@
 ghost use Rattle.std.specs.Prelude.{◌≡◌};
 ghost use Rattle.wasm_syntax.specs.Machine.{Engine, Config};
 ghost use Rattle.machine_steps.specs.inner.Runs.{Begins, Came};
+ghost use Rattle.machine_steps.specs.inner.Watched.{Watched};
 
 use crate::machine::{Machine, Outcome, Prepared};
 use crate::steps::step;
+use crate::watch::{Unwatched, Watch, standing};
 
 /// What a run came to, and the number of steps that it made. The step that traps counts; a call of an import is not made yet.
 #[derive(Clone, Copy)]
@@ -18,7 +20,22 @@ pub struct Ended {
 pub fn run(m: &mut Machine, prepared: &Prepared, depth: usize, fuel: u64) -> Ended
     ensures { (engine : Engine) (c : Config) → Begins engine prepared.now depth c m.old → Came engine prepared.now.codes.items c fuel result.outcome result.steps m.new }
 {
+    run_watched(m, prepared, depth, fuel, &mut Unwatched {})
+}
+
+/// The same, and a watch sees each step, also that of the call of an import.
+pub fn run_watched<W: Watch>(
+    m: &mut Machine,
+    prepared: &Prepared,
+    depth: usize,
+    fuel: u64,
+    watch: &mut W,
+) -> Ended
+    ensures came { (engine : Engine) (c : Config) → Begins engine prepared.now depth c m.old → Came engine prepared.now.codes.items c fuel result.outcome result.steps m.new }
+    ensures watched { Watched W.Saw prepared.now depth fuel m.old result.outcome result.steps watch.old watch.new }
+{
     for i in 0..fuel {
+        watch.see(standing(m));
         match step(m, prepared, depth) {
             Outcome::Next => {}
             Outcome::Import(call) => {

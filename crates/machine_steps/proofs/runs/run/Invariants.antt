@@ -1,6 +1,0 @@
-use Rattle.wasm_syntax.specs.Machine.{Engine, Config}
-use Rattle.machine_steps.specs.inner.Runs.{Begins, Reached}
-use Rattle.machine_steps.proofs.runs.run.Given as goal
-
-abbrev pub invariant-loop-i : goal.invariant-loop-i
-invariant-loop-i l = (engine : Engine) (c : Config) → Begins engine l.prepared l.depth c l.initial.m → Reached engine l.prepared.codes.items c l.i l.m

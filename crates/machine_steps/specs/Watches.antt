@@ -1,0 +1,9 @@
+-- The places at which a machine stands.
+use Rattle.std.specs.Prelude.{Option, Some, None}
+use Rattle.wasm_syntax.specs.declared.module.ModuleParts.{ModuleParts as Module}
+use Rattle.machine_steps.specs.declared.watch.Position.{Position}
+use Rattle.machine_steps.specs.Places.{Place, flat_place}
+
+abbrev pub place_at : Module → Option Position → Option Place
+place_at m None = None
+place_at m (Some at) = flat_place m at.function at.index

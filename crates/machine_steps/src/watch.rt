@@ -1,0 +1,51 @@
+//! Who watches a run: told before each step where the machine stands.
+
+ghost use Rattle.std.specs.Prelude.{◌≡◌, ◌++◌, ◌∷◌, [], List, Option};
+ghost use Rattle.wasm_syntax.specs.declared.module.ModuleParts.{ModuleParts as Module};
+ghost use Rattle.machine_steps.specs.Places.{Place};
+ghost use Rattle.machine_steps.specs.Watches.{place_at};
+ghost use Rattle.machine_steps.specs.inner.Watched.{position_of};
+
+use crate::machine::Machine;
+
+/// Where a machine stands: the index of a function among those that the module defines, and of an instruction in its flat body.
+#[derive(Clone, Copy)]
+pub struct Position {
+    pub function: usize,
+    pub index: usize,
+}
+
+/// Watches runs of one module.
+pub trait Watch {
+    // What it was told of runs of a module: where the steps were made, in their order.
+    ghost Saw: { Module → Self → List (Option Place) → Type 0 };
+
+    /// A step is about to be made from a position, or with no frame.
+    fn see(&mut self, at: Option<Position>)
+        ensures saw { (m : Module) (seen : List (Option Place)) → Saw m self.old seen → Saw m self.new (seen ++ place_at m at ∷ []) };
+}
+
+/// Nobody watches.
+#[derive(Clone, Copy)]
+pub struct Unwatched {}
+
+impl Watch for Unwatched {
+    ghost Saw = { λ _ _ _. Unit {0} };
+
+    #[inline(always)]
+    fn see(&mut self, at: Option<Position>) {}
+}
+
+/// Where the innermost frame stands.
+#[inline(always)]
+pub(crate) fn standing(m: &Machine) -> Option<Position>
+    ensures { result ≡ position_of m.now }
+{
+    match m.stack.frames.peek(0) {
+        Some(frame) => Some(Position {
+            function: frame.function,
+            index: m.stack.position,
+        }),
+        None => None,
+    }
+}
