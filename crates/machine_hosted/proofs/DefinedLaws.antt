@@ -1,7 +1,7 @@
 -- A defined function is run from its begin.
 use Rattle.std.proofs.Common.{◌≡◌, ℕ, ◌+◌, List, [], ◌∷◌, length, refl, sym, ap, subst, ◌∙◌, arith}
 use Rattle.std.proofs.lemmas.List.{append-nil}
-use Rattle.std.specs.Prelude.{Bool, Some, slice_get}
+use Rattle.std.specs.Prelude.{Bool, Option, Some, slice_get}
 use Rattle.wasm_syntax.specs.declared.value.Value.{Value}
 use Rattle.wasm_syntax.specs.declared.parts.Import.{Import}
 use Rattle.wasm_syntax.specs.declared.parts.FuncType.{FuncType}
@@ -18,6 +18,7 @@ use Rattle.wasm_syntax.specs.Run.{engine, run_function}
 use Rattle.machine_code.specs.declared.code.Code.{Code}
 use Rattle.machine_steps.specs.declared.machine.Machine.{Machine}
 use Rattle.machine_steps.specs.declared.machine.Prepared.{Prepared}
+use Rattle.machine_steps.specs.Places.{Place, alone_places, function_places}
 use Rattle.machine_steps.specs.Prepares.{IsPrepared}
 use Rattle.machine_steps.specs.Meets.{Shares}
 use Rattle.machine_steps.specs.inner.Runs.{Begins}
@@ -32,6 +33,9 @@ use Rattle.machine_hosted.specs.declared.answer.RunEnd.TheVariants.{NoMemory}
 use Rattle.machine_hosted.specs.Settings.{Sound, MachineFits, Takes, ServesAll}
 use Rattle.machine_hosted.specs.inner.Alone.{alone}
 use Rattle.machine_hosted.specs.Answers.{FunctionCameWith, function_going}
+use Rattle.machine_hosted.specs.Watching.{Watched, function_placing}
+use Rattle.machine_hosted.specs.inner.Watches.{frames_placing}
+use Rattle.machine_hosted.proofs.WatchLaws.{by_same_places, unseen}
 use Rattle.machine_hosted.proofs.WorldLaws.{shares_replying, fits_replying, each_fits}
 use Rattle.machine_hosted.proofs.ModuleLaws.{valid_program, IsDefined, is_defined, function_imported}
 use Rattle.machine_hosted.proofs.FrameLaws.{by_frames}
@@ -48,6 +52,10 @@ by_same p codes used_up go other w co fuel answer steps m old new same h = recor
 }
 
 -- an imported function
+pub same_alone_places : (p : Program) (collecting : Bool) (depth f : ℕ) (i : Import) (type : FuncType) (args : List Value) (w : World) (co : List CollectorCall) → slice_get p.module_.imports f ≡ Some i → type_at p.module_ f ≡ Some type →
+    (replies : List Reply) (n : ℕ) → alone_places n ≡ function_placing (engine p collecting depth) f args w co replies n
+same_alone_places p collecting depth f i type args w co at t replies n = sym (ap (λ o. function_places (engine p collecting depth) f o n args (replying w replies) co) (function_imported p f i type at t))
+
 pub same_alone : (p : Program) (collecting : Bool) (depth f : ℕ) (i : Import) (type : FuncType) (args : List Value) (w : World) (co : List CollectorCall) → slice_get p.module_.imports f ≡ Some i → type_at p.module_ f ≡ Some type →
     (replies : List Reply) (n : ℕ) → function_going (engine p collecting depth) f args w co replies n ≡ alone (engine p collecting depth) (host_call f i type args) w co replies n
 same_alone p collecting depth f i type args w co at t replies n = ap (λ o. run_function (engine p collecting depth) n f o args (replying w replies) co) (function_imported p f i type at t)
@@ -97,6 +105,21 @@ module _ (m : Module) (prepared : Prepared) (function : ℕ) (args : List Value)
       by_frames p prepared.codes.items used_up M frames w co go same
       (λ replies n. entered_fits M (length p.module_.imports + function) d.body d.tree takes.0 args (replying w replies) co n v d.function takes.2 (fits_replying p.module_ w replies world_fits))
       fuel answer steps later old new h
+
+  -- ---- what is seen of it
+
+  same_places : (replies : List Reply) (n : ℕ) → frames_placing M frames w co replies n ≡ function_placing M (length m.imports + function) args w co replies n
+  same_places replies n = sym (
+      ap (λ k. function_places M k (function_at p k) n args (replying w replies) co) index_is
+      ∙ ap (λ o. function_places M (length p.module_.imports + function) o n args (replying w replies) co) d.function)
+
+  pub watched : {W : Type 0} (saw : Module → W → List (Option Place) → Type 0) (fuel : ℕ) (answer : RunEnd) (steps : ℕ) (unseen seen : W) (old new : Calls) → Watched saw p.module_ (frames_placing M frames w co) fuel answer steps unseen seen old new
+      → Watched saw p.module_ (function_placing M (length m.imports + function) args w co) fuel answer steps unseen seen old new
+  watched saw fuel answer steps unseen seen old new h =
+      by_same_places saw p.module_ (frames_placing M frames w co) (function_placing M (length m.imports + function) args w co) fuel answer steps unseen seen old new same_places h
+
+  pub unwatched : {W : Type 0} (saw : Module → W → List (Option Place) → Type 0) (fuel : ℕ) (unseen : W) (calls : Calls) → Watched saw p.module_ (function_placing M (length m.imports + function) args w co) fuel NoMemory 0 unseen unseen calls calls
+  unwatched saw fuel none calls = unseen saw p.module_ (function_placing M (length m.imports + function) args w co) fuel none calls (λ replies. sym (same_places replies 0))
 
   pub no_memory : (used_up : Import → Bool) (fuel : ℕ) (later : Machine) (calls : Calls) → FunctionCameWith p prepared.codes.items used_up go w co fuel NoMemory 0 later calls calls
   no_memory used_up fuel later calls = record {

@@ -78,14 +78,14 @@ module _ (M : Engine) where
     always = λ k. let j : suc 0 + k ≡ suc k = omega arith in ap (λ i. run_alone M i call u uo) j ∙ ap (λ s. ended s k) (what_of e);
   }
 
-  function_ends : (n f : ℕ) (fn : Option Function) (args : List Value) (u : World) (uo : List CollectorCall) (w : World) (vs : List Value) (co : List CollectorCall) (l : ℕ) → run_function M n f fn args u uo ≡ ended (ends w vs co) l → EndsAfter n l (λ k. run_function M k f fn args u uo) w vs co
+  pub function_ends : (n f : ℕ) (fn : Option Function) (args : List Value) (u : World) (uo : List CollectorCall) (w : World) (vs : List Value) (co : List CollectorCall) (l : ℕ) → run_function M n f fn args u uo ≡ ended (ends w vs co) l → EndsAfter n l (λ k. run_function M k f fn args u uo) w vs co
   function_ends n f None args u uo w vs co l e = let q : stuck ≡ ends w vs co = what_of e in absurd (cc)
   function_ends n f (Some (imported i type)) args u uo w vs co l e = alone_ends n (host_call f i type args) u uo w vs co l e
   function_ends n f (Some (defined body tree type)) args u uo w vs co l e = steps_end n (config (entered f body tree type args ∷ []) u uo) w vs co l e
 
 -- ---- the last part of an invocation
 
-left_is : (q : Bool) (s : Stepped) (left : ℕ) → (ran_to q s left).left ≡ left
+pub left_is : (q : Bool) (s : Stepped) (left : ℕ) → (ran_to q s left).left ≡ left
 left_is q (next c) left = refl
 left_is q (ends w vs co) left = refl
 left_is q (traps k c) left = refl

@@ -15,3 +15,6 @@ pub mod AloneLaws
 pub mod FrameLaws
 pub mod DefinedLaws
 pub mod JoinLaws
+pub mod WatchLaws
+pub mod WatchJoins
+pub mod MadeJoins

@@ -1,6 +1,6 @@
 -- A run as a family over the replies that are left: how far it has come, whatever these are.
 use Rattle.std.proofs.Common.{◌≡◌, ◌≢◌, ℕ, suc, ◌+◌, ◌-◌, ◌≤◌, ◌<◌, List, [], ◌∷◌, ◌++◌, reverse, refl, sym, ap, subst, ◌∙◌, append_assoc, arith}
-use Rattle.std.proofs.lemmas.List.{reverse-append, map-append}
+use Rattle.std.proofs.lemmas.List.{append-nil, reverse-append, map-append}
 use Rattle.std.specs.Prelude.{Bool, slice_get}
 use Rattle.wasm_syntax.specs.declared.value.Value.{Value}
 use Rattle.wasm_syntax.specs.declared.parts.Import.{Import}
@@ -46,7 +46,7 @@ grew_on a b old mid new g h = record {
   collected = h.collected ∙ ap (λ l. l ++ b.told) g.collected ∙ append_assoc old.collected a.told b.told;
 }
 
-replies_on : (gs hs : List Given) (more : List Reply) → replies_of (gs ++ hs) ++ more ≡ replies_of gs ++ (replies_of hs ++ more)
+pub replies_on : (gs hs : List Given) (more : List Reply) → replies_of (gs ++ hs) ++ more ≡ replies_of gs ++ (replies_of hs ++ more)
 replies_on gs hs more = ap (λ l. l ++ more) (map-append (λ (s : Given). s.reply) gs hs) ∙ append_assoc (replies_of gs) (replies_of hs) more
 
 turned_round : {A : Type 0} → (xs ys rest : List A) → reverse ys ++ (reverse xs ++ rest) ≡ reverse (xs ++ ys) ++ rest
@@ -78,7 +78,7 @@ module _ (M : Engine) (codes : List Code) where
   leads_in_one : (c c' : Config) → step M c ≡ next c' → Leads M codes c 1 c'
   leads_in_one c c' e k = let n : 1 + k ≡ suc k = omega arith in ap (λ j. run_steps M j c) n ∙ ap (run_on M (run_steps M k) k) e
 
-  leads_on : (c c' c'' : Config) (n k : ℕ) → Leads M codes c n c' → Leads M codes c' k c'' → Leads M codes c (n + k) c''
+  pub leads_on : (c c' c'' : Config) (n k : ℕ) → Leads M codes c n c' → Leads M codes c' k c'' → Leads M codes c (n + k) c''
   leads_on c c' c'' n k a b j = let e : n + k + j ≡ n + (k + j) = omega arith in ap (λ i. run_steps M i c) e ∙ a (k + j) ∙ b j
 
   stops_on : (c c' : Config) (s : Stepped) (n k : ℕ) → Leads M codes c n c' → Stops M codes c' k s → Stops M codes c (n + k) s
@@ -135,10 +135,10 @@ module _ (M : Engine) (codes : List Code) (fs : List Frame) (w : World) (co : Li
   abbrev pub ComesWith : (used_up : Import → Bool) (fuel : ℕ) → RunEnd → ℕ → Machine → Calls → Calls → Type 0
   ComesWith used_up fuel answer steps m old new = CameWith M.program codes used_up (going M fs w co) w co fuel answer steps m old new
 
-  pub at_first : (m : Machine) (calls : Calls) → ((replies : List Reply) → StandsFor M.program codes m (config fs (replying w replies) co)) → SoFar 0 m calls calls
+  abbrev pub at_first : (m : Machine) (calls : Calls) → ((replies : List Reply) → StandsFor M.program codes m (config fs (replying w replies) co)) → SoFar 0 m calls calls
   at_first m calls stands = record {
     asked = nothing;
-    grew = record { served = sym (nil calls.served); collected = sym (nil calls.collected) };
+    grew = record { served = sym (append-nil calls.served); collected = sym (append-nil calls.collected) };
     reaches = λ more. record {
       there = config fs (replying w more) co;
       leads = λ k. let e : 0 + k ≡ k = omega arith in ap (λ j. run_steps M j (config fs (replying w more) co)) e;
@@ -148,10 +148,6 @@ module _ (M : Engine) (codes : List Code) (fs : List Frame) (w : World) (co : Li
       collected = refl;
     };
   }
-    where
-      nil : {A : Type 0} → (l : List A) → l ++ [] ≡ l
-      nil [] = refl
-      nil (x ∷ xs) = ap (λ l. x ∷ l) (nil xs)
 
   -- ---- ends between steps
 
@@ -246,7 +242,7 @@ module _ (M : Engine) (codes : List Code) (fs : List Frame) (w : World) (co : Li
     }
 
     -- the run comes to a call of an import
-    pub run_calls : (call : ImportCall) (fuel k : ℕ) (m' : Machine) → ((more : List Reply) → runs.Came M codes (s.reaches more).there fuel (outcomes.Import call) k m') → CallsThere call (n + k) m' old mid
+    abbrev pub run_calls : (call : ImportCall) (fuel k : ℕ) (m' : Machine) → ((more : List Reply) → runs.Came M codes (s.reaches more).there fuel (outcomes.Import call) k m') → CallsThere call (n + k) m' old mid
     run_calls call fuel k m' t = record {
       so_far = record {
         asked = s.asked;
@@ -265,7 +261,7 @@ module _ (M : Engine) (codes : List Code) (fs : List Frame) (w : World) (co : Li
 
     -- ---- on by a turn
 
-    turn_reaches : (used_up : Import → Bool) (m' : Machine) (asked : Asked) (more : List Reply) → Turned M codes used_up asked Goes (s.reaches (replies_of asked.given ++ more)).there m' more → Reaches (joined s.asked asked) (n + 1) m' more
+    pub turn_reaches : (used_up : Import → Bool) (m' : Machine) (asked : Asked) (more : List Reply) → Turned M codes used_up asked Goes (s.reaches (replies_of asked.given ++ more)).there m' more → Reaches (joined s.asked asked) (n + 1) m' more
     turn_reaches used_up m' asked more t = by_cases t.what t.is t.tells t.served
       where
         by_cases : (what : Stepped) → step M (s.reaches (replies_of asked.given ++ more)).there ≡ what → Tells M.program codes used_up answers.FuelSpent what m' →
@@ -285,7 +281,7 @@ module _ (M : Engine) (codes : List Code) (fs : List Frame) (w : World) (co : Li
         by_cases (bad_reply call reply c) e tells served = absurd tells
         by_cases stuck e tells served = absurd tells
 
-    pub turn_goes : (used_up : Import → Bool) (m' : Machine) (new : Calls) → TurnedWith M codes used_up Goes (λ more. (s.reaches more).there) m' mid new → SoFar (n + 1) m' old new
+    abbrev pub turn_goes : (used_up : Import → Bool) (m' : Machine) (new : Calls) → TurnedWith M codes used_up Goes (λ more. (s.reaches more).there) m' mid new → SoFar (n + 1) m' old new
     turn_goes used_up m' new t = record {
       asked = joined s.asked t.asked;
       grew = grew_on s.asked t.asked old mid new s.grew t.grew;

@@ -3,4 +3,5 @@ pub mod Hosted
 pub mod Settings
 pub mod Answers
 pub mod Invocations
+pub mod Watching
 pub mod inner

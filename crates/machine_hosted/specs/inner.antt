@@ -4,4 +4,5 @@ pub mod FrameRuns
 pub mod Meets
 pub mod Replies
 pub mod Turns
+pub mod Watches
 pub mod Writes

@@ -1,6 +1,6 @@
 //! One function, imported or defined.
 
-ghost use Rattle.std.specs.Prelude.{◌≡◌, ◌≤◌, ◌+◌, List, length};
+ghost use Rattle.std.specs.Prelude.{◌≡◌, ◌≤◌, List};
 ghost use Rattle.wasm_syntax.specs.declared.host.CollectorCall.{CollectorCall as Collected};
 ghost use Rattle.wasm_syntax.specs.Module.{Program, IsProgram};
 ghost use Rattle.wasm_syntax.specs.Host.{World};
@@ -9,43 +9,12 @@ ghost use Rattle.machine_steps.specs.Meets.{Shares};
 ghost use Rattle.machine_hosted.specs.Settings.{Sound, MachineFits, HostServes, HostKept, Takes};
 ghost use Rattle.machine_hosted.specs.Answers.{FunctionCameWith, function_going, FitsThen, HasCause};
 
-use crate::alone::call_alone;
-use crate::answer::{FunctionRun, RunEnd};
-use crate::begin::begin_function;
-use crate::run::run_frames;
+use crate::answer::FunctionRun;
 use crate::runner::Runner;
-use causes::NoMemory;
+use crate::watched_function::watch_function;
 use host_devices::HostSide;
-use machine_steps::Machine;
+use machine_steps::{Machine, Unwatched};
 use wasm_syntax::Value;
-
-/// Runs a defined function, by its index among these.
-fn run_defined<H: HostSide>(
-    runner: &Runner<'_, '_>,
-    m: &mut Machine,
-    function: usize,
-    args: &[Value],
-    fuel: u64,
-    hosts: &mut H,
-) -> FunctionRun
-    requires sound { Sound runner.now.source.now runner.now.prepared.now }
-    requires fits { MachineFits runner.now.source.now m.old }
-    requires args { Takes runner.now.source.now (length runner.now.source.now.imports + function) args.now }
-    requires host { HostServes (H.origin hosts.old) (H.serving hosts.old) runner.now.source.now }
-    ensures came { (p : Program) (w : World) (co : List Collected) → p.module_ ≡ runner.now.source.now → IsProgram p → Shares m.old w → FunctionCameWith p runner.now.prepared.now.codes.items (H.used_up hosts.new) (function_going (engine p (H.collecting hosts.old) runner.now.depth) (length runner.now.source.now.imports + function) args.now w co) w co fuel result.answer result.steps m.new (H.calls hosts.old) (H.calls hosts.new) }
-    ensures within { result.steps ≤ fuel }
-    ensures fits { FitsThen runner.now.source.now result.answer m.new }
-    ensures cause { HasCause result.answer (H.fault_count hosts.old) (H.fault_count hosts.new) }
-    ensures host { HostKept H.origin H.collecting H.serving H.fault_count hosts.old hosts.new }
-{
-    match begin_function(m, runner.prepared, function, args) {
-        Ok(()) => run_frames(runner, m, fuel, hosts),
-        Err(NoMemory) => FunctionRun {
-            answer: RunEnd::NoMemory,
-            steps: 0,
-        },
-    }
-}
 
 /// Runs a function of a valid module, the imported ones first, on arguments in the parameters' order, for at most so many steps. All frames
 /// are left before. A host side serves the imports.
@@ -67,17 +36,5 @@ pub(crate) fn run_function<H: HostSide>(
     ensures cause { HasCause result.answer (H.fault_count hosts.old) (H.fault_count hosts.new) }
     ensures host { HostKept H.origin H.collecting H.serving H.fault_count hosts.old hosts.new }
 {
-    let source = runner.source;
-    let index = function as usize;
-    let imported = source.imports.len();
-    if index >= imported {
-        let defined = index - imported;
-        return run_defined(runner, m, defined, args, fuel, hosts);
-    }
-    match (source.imports.get(index), source.type_of(index)) {
-        (Some(import), Some(ftype)) => {
-            call_alone(runner.alloc, m, function, import, ftype, args, fuel, hosts)
-        }
-        _ => unreachable!(),
-    }
+    watch_function(runner, m, function, args, fuel, hosts, &mut Unwatched {})
 }

@@ -9,11 +9,11 @@ ghost use Rattle.machine_hosted.specs.Answers.{HasCause};
 ghost use Rattle.machine_hosted.specs.Invocations.{InvocationCameWith, invoking, follows_behind, finishes};
 
 use crate::answer::{EntryRun, RunEnd};
-use crate::function::run_function;
 use crate::runner::Runner;
+use crate::watched_invocation::watch_invocation;
 use host_devices::HostSide;
 use machine_basics::TrapKind;
-use machine_steps::Machine;
+use machine_steps::{Machine, Unwatched};
 use wasm_syntax::Value;
 
 /// Whether a trap of this kind leaves room for a call.
@@ -47,7 +47,7 @@ fn may_follow(answer: &RunEnd, entered: bool) -> bool
     }
 }
 
-fn is_finished(answer: &RunEnd) -> bool
+pub(crate) fn is_finished(answer: &RunEnd) -> bool
     ensures { result ≡ finishes answer.now }
 {
     match answer {
@@ -61,7 +61,7 @@ fn is_finished(answer: &RunEnd) -> bool
     }
 }
 
-fn ended(answer: RunEnd, steps: u64, entered: bool) -> EntryRun
+pub(crate) fn ended(answer: RunEnd, steps: u64, entered: bool) -> EntryRun
     ensures { result ≡ record { answer = answer; steps = steps; ready = follows_behind answer entered; entered = entered } }
 {
     let ready = may_follow(&answer, entered);
@@ -71,36 +71,6 @@ fn ended(answer: RunEnd, steps: u64, entered: bool) -> EntryRun
         ready,
         entered,
     }
-}
-
-/// Runs the start function of this index, and then the entry where it ended.
-fn run_with_start<H: HostSide>(
-    runner: &Runner<'_, '_>,
-    m: &mut Machine,
-    start: u32,
-    entry: u32,
-    args: &[Value],
-    fuel: u64,
-    hosts: &mut H,
-) -> EntryRun
-    requires sound { Sound runner.now.source.now runner.now.prepared.now }
-    requires fits { MachineFits runner.now.source.now m.old }
-    requires start { Takes runner.now.source.now start [] }
-    requires entry { Takes runner.now.source.now entry args.now }
-    requires host { HostServes (H.origin hosts.old) (H.serving hosts.old) runner.now.source.now }
-    ensures came { (p : Program) → p.module_ ≡ runner.now.source.now → IsProgram p → InvocationCameWith p runner.now.prepared.now.codes.items (H.used_up hosts.new) (invoking (engine p (H.collecting hosts.old) runner.now.depth) (Some start) entry args.now (world_of m.old [])) fuel result.answer result.steps result.ready result.entered m.new (H.calls hosts.old) (H.calls hosts.new) }
-    ensures within { result.steps ≤ fuel }
-    ensures fits { result.ready ≡ true → MachineFits runner.now.source.now m.new }
-    ensures cause { HasCause result.answer (H.fault_count hosts.old) (H.fault_count hosts.new) }
-    ensures host { HostKept H.origin H.collecting H.serving H.fault_count hosts.old hosts.new }
-{
-    let first = run_function(runner, m, start, &[], fuel, hosts);
-    if !is_finished(&first.answer) {
-        return ended(first.answer, first.steps, false);
-    }
-    let left = fuel - first.steps;
-    let then = run_function(runner, m, entry, args, left, hosts);
-    ended(then.answer, first.steps + then.steps, true)
 }
 
 /// Runs the start function, where it is due, and then the entry on its arguments in the parameters' order, for at most so many steps in all.
@@ -125,11 +95,14 @@ pub fn run_invocation<H: HostSide>(
     ensures cause { HasCause result.answer (H.fault_count hosts.old) (H.fault_count hosts.new) }
     ensures host { HostKept H.origin H.collecting H.serving H.fault_count hosts.old hosts.new }
 {
-    match start {
-        Some(function) => run_with_start(runner, m, function, entry, args, fuel, hosts),
-        None => {
-            let run = run_function(runner, m, entry, args, fuel, hosts);
-            ended(run.answer, run.steps, true)
-        }
-    }
+    watch_invocation(
+        runner,
+        m,
+        start,
+        entry,
+        args,
+        fuel,
+        hosts,
+        &mut Unwatched {},
+    )
 }

@@ -17,8 +17,12 @@ mod run;
 mod runner;
 mod taken;
 mod turn;
+mod watched_function;
+mod watched_invocation;
+mod watched_run;
 mod writes;
 
 pub use answer::{EntryRun, RunEnd};
 pub use invocation::run_invocation;
 pub use runner::Runner;
+pub use watched_invocation::watch_invocation;

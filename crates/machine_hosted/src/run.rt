@@ -6,11 +6,11 @@ ghost use Rattle.machine_hosted.specs.Settings.{HostKept, Knows};
 ghost use Rattle.machine_hosted.specs.inner.FrameRuns.{CameWith};
 ghost use Rattle.machine_hosted.specs.inner.Turns.{Ready, going};
 
-use crate::answer::{FunctionRun, RunEnd, ran};
+use crate::answer::FunctionRun;
 use crate::runner::Runner;
-use crate::turn::{Turn, serve_import};
+use crate::watched_run::watch_frames;
 use host_devices::HostSide;
-use machine_steps::{Machine, Outcome, run};
+use machine_steps::{Machine, Unwatched};
 
 /// Runs a function of a valid module, begun with `crate::begin_function`, for at most so many steps. The host side serves its imports.
 /// After want of memory the machine is of no use.
@@ -26,26 +26,5 @@ pub(crate) fn run_frames<H: HostSide>(
     ensures cause { HasCause result.answer (H.fault_count hosts.old) (H.fault_count hosts.new) }
     ensures host { HostKept H.origin H.collecting H.serving H.fault_count hosts.old hosts.new }
 {
-    let mut made = 0;
-    while made < fuel {
-        let ended = run(m, runner.prepared, runner.depth, fuel - made);
-        match ended.outcome {
-            Outcome::Import(call) => {
-                made += ended.steps;
-                match serve_import(runner, m, call, hosts) {
-                    Turn::Goes => made += 1,
-                    Turn::Ends(answer) => return ran(answer, made + 1),
-                    Turn::Lacking => return ran(RunEnd::NoMemory, made),
-                }
-            }
-            Outcome::Next => return ran(RunEnd::FuelSpent, fuel),
-            Outcome::Ended => {
-                let value = m.stack.values.peek(0);
-                return ran(RunEnd::Finished { value }, made + ended.steps);
-            }
-            Outcome::Trap(kind) => return ran(RunEnd::Trapped { kind }, made + ended.steps),
-            Outcome::NoMemory | Outcome::Stuck => return ran(RunEnd::NoMemory, made),
-        }
-    }
-    ran(RunEnd::FuelSpent, fuel)
+    watch_frames(runner, m, fuel, hosts, &mut Unwatched {})
 }

@@ -8,11 +8,13 @@ use Rattle.machine_hosted.specs.Safe.{WorldFits}
 use Rattle.machine_hosted.specs.Settings.{world_of}
 use Rattle.machine_hosted.specs.inner.Alone.{alone}
 use Rattle.machine_hosted.specs.Answers.{function_going}
+use Rattle.machine_hosted.specs.Watching.{function_placing}
+use Rattle.machine_hosted.proofs.WatchLaws.{alone_watched}
 use Rattle.machine_hosted.proofs.WorldLaws.{shares_own, each_fits}
 use Rattle.machine_hosted.proofs.ModuleLaws.{program_of, valid_program, few_results}
 use Rattle.machine_hosted.proofs.FrameLaws.{within_fuel, fits_then}
-use Rattle.machine_hosted.proofs.DefinedLaws.{by_same, same_alone}
-use Rattle.machine_hosted.proofs.function.run_function.Goals as goal
+use Rattle.machine_hosted.proofs.DefinedLaws.{by_same, same_alone, same_alone_places}
+use Rattle.machine_hosted.proofs.watched_function.watch_function.Goals as goal
 
 pub call_alone-requires-clause-there : goal.call_alone-requires-clause-there
 call_alone-requires-clause-there g c = c.requires.host.knows _ _ (sym c.in-Some-Some.ensures.value)
@@ -43,3 +45,14 @@ returns-clause-fits g c =
     let w = world_of c.args.m.now [] in
     fits_then p c.args.runner.now.prepared.now.codes.items (g.H.HostSide.used_up c.call_alone.new.hosts) (function_going (engine p (g.H.HostSide.collecting c.args.hosts.now) c.args.runner.now.depth) c.args.function c.args.args.now w []) w [] c.args.fuel c.call_alone.result.steps c.call_alone.new.m (g.H.HostSide.calls c.args.hosts.now) (g.H.HostSide.calls c.call_alone.new.hosts) c.call_alone.result.answer
     (returns-clause-came g c p w [] refl c.requires.sound.whole.write (shares_own c.args.m.now []))
+
+pub returns-clause-watched : goal.returns-clause-watched
+returns-clause-watched g c = λ p w co e is s.
+    let at : slice_get p.module_.imports c.args.function ≡ Some c.in-Some-Some.import.now = ap (λ (x : Module). slice_get x.imports c.args.function) e ∙ sym c.in-Some-Some.ensures.value in
+    let typed : type_at p.module_ c.args.function ≡ Some c.in-Some-Some.ftype.now = ap (λ (x : Module). type_at x c.args.function) e ∙ sym c.in-Some-Some.ensures' in
+    let M = engine p (g.H.HostSide.collecting c.args.hosts.now) c.args.runner.now.depth in
+    let call = host_call c.args.function c.in-Some-Some.import.now c.in-Some-Some.ftype.now c.args.args.now in
+    alone_watched g.W.Watch.Saw p.module_ (function_placing M c.args.function c.args.args.now w co) p c.args.runner.now.prepared.now.codes.items (g.H.HostSide.used_up c.call_alone.new.hosts) M call w co c.args.fuel c.call_alone.result.answer c.call_alone.result.steps c.call_alone.new.m (g.H.HostSide.calls c.args.hosts.now) (g.H.HostSide.calls c.call_alone.new.hosts) c.args.watch.now c.see_alone.new.watch
+    (same_alone_places p (g.H.HostSide.collecting c.args.hosts.now) c.args.runner.now.depth c.args.function c.in-Some-Some.import.now c.in-Some-Some.ftype.now c.args.args.now w co at typed)
+    (λ seen. c.see_alone.ensures p.module_ seen)
+    (c.call_alone.ensures.came p c.args.runner.now.prepared.now.codes.items c.args.runner.now.depth w co at s (subst (λ (x : Module). WorldFits x w) (sym e) (each_fits c.args.runner.now.source.now c.args.m.now w s c.requires.fits)))
