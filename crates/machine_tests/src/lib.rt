@@ -7,4 +7,6 @@ mod basic_tests;
 #[cfg(test)]
 mod instance_tests;
 #[cfg(test)]
+mod script_tests;
+#[cfg(test)]
 mod tests;
