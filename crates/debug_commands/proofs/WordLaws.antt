@@ -23,7 +23,7 @@ pub one_alone : (text : List ℕ) → IsSplitOnceResult 32 text None → slice_s
 one_alone text h = none_split (λ b. eqb b 32) text (split_once_first 32 text None h (omega arith))
 
 -- there is a first word
-split_some : (p : ℕ → Bool) (xs : List ℕ) → (word : List ℕ) × (more : List (List ℕ)) × (slice_split p xs ≡ word ∷ more)
+pub split_some : (p : ℕ → Bool) (xs : List ℕ) → (word : List ℕ) × (more : List (List ℕ)) × (slice_split p xs ≡ word ∷ more)
 split_some p [] = ([], [], refl)
 split_some p (x ∷ xs) = by_test (p x) refl (split_some p xs)
   where

@@ -31,7 +31,8 @@ fn argument(word: &str) -> Option<Value>
     Some(typed(number))
 }
 
-fn arguments(alloc: Global, words: &[&str]) -> Result<Values, WordsFault>
+/// The arguments that words write.
+pub fn arguments(alloc: Global, words: &[&str]) -> Result<Values, WordsFault>
     ensures ok { IfOk result (λ vs. each argument (map (λ w. w.now) words.now) ≡ Some vs) }
     ensures usage { result ≡ Err WordsFault.Usage → each argument (map (λ w. w.now) words.now) ≡ None }
 {

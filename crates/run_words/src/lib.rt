@@ -7,4 +7,5 @@ mod words;
 
 pub use causes::NoMemory;
 pub use invocation::{Invocation, Invocations};
-pub use words::{RunWords, run_words};
+pub use invoking::arguments;
+pub use words::{RunWords, depth, fuel, number_or, run_words};

@@ -42,7 +42,7 @@ fn options() -> Options<'static>
 }
 
 /// The number that an option gives, from `least` to `greatest`, or the default where it is not given.
-fn number_or(
+pub fn number_or(
     reading: &Reading<'_>,
     option: &str,
     least: u64,
@@ -65,16 +65,18 @@ fn number_or(
     }
 }
 
+/// How many steps may be made.
 #[tactic(auto, unfolding(crate::specs::RunWords::fuel))]
-fn fuel(reading: &Reading<'_>) -> Option<u64>
+pub fn fuel(reading: &Reading<'_>) -> Option<u64>
     ensures value { result ≡ fuel reading.now }
     ensures bound { IfSome result (λ n. n ≤ 1000000000000) }
 {
     number_or(reading, "--fuel", 0, 1_000_000_000_000, 100_000_000)
 }
 
+/// How many frames may stand.
 #[tactic(auto, unfolding(crate::specs::RunWords::depth))]
-fn depth(reading: &Reading<'_>) -> Option<u32>
+pub fn depth(reading: &Reading<'_>) -> Option<u32>
     ensures value { result ≡ depth reading.now }
     ensures bounds { IfSome result (λ n. (1 ≤ n) × (n ≤ 10000)) }
 {
