@@ -1,4 +1,4 @@
-//! The commands `instrument` and `run --collect`, tested over files in memory. The tests stand apart from `pm_cli`, so that it is not proved a
+//! The commands `instrument`, `run --collect` and `selftest`, tested over files in memory. The tests stand apart from `pm_cli`, so that it is not proved a
 //! second time with them.
 #![tactic(auto)]
 
@@ -6,6 +6,8 @@
 mod collected_tests;
 #[cfg(test)]
 mod handed_tests;
+#[cfg(test)]
+mod selftest_tests;
 #[cfg(test)]
 mod trial;
 #[cfg(test)]

@@ -4,6 +4,7 @@ use causes::NoMemory;
 use host_set::DeviceSet;
 use pm_cli::post_mortem;
 use pm_outside::{MemFiles, MemSink};
+use pm_text::read_decimal;
 use std::alloc::{AllocError, Global};
 
 /// The words of two pieces of a line.
@@ -50,6 +51,35 @@ pub fn answers(alloc: Global, pieces: [&str; 2], files: &mut MemFiles, wanted: (
 /// Whether the words of a line get status 0, and a text that begins so.
 pub fn begins(alloc: Global, pieces: [&str; 2], files: &mut MemFiles, wanted: &str) -> bool {
     gets(alloc, pieces, files, (0, wanted), false)
+}
+
+/// The number between this front and the end of a line.
+fn number_behind(text: &[u8], front: &str) -> Option<u64> {
+    let line = str::from_utf8(text).ok()?;
+    read_decimal(line.strip_prefix(front)?.strip_suffix('\n')?)
+}
+
+/// The number at the end of the text that the words of a line get, with status 0 and this front.
+pub fn number_told(
+    alloc: Global,
+    pieces: [&str; 2],
+    files: &mut MemFiles,
+    front: &str,
+) -> Option<u64> {
+    let words = words_of(alloc, pieces).ok()?;
+    let mut out = MemSink::new(alloc, Vec::new(alloc));
+    match status(alloc, &words, files, &mut out) {
+        0 => number_behind(out.bytes(), front),
+        _ => None,
+    }
+}
+
+/// How many bytes there are.
+pub fn length(bytes: Option<&[u8]>) -> Option<usize> {
+    match bytes {
+        Some(bytes) => Some(bytes.len()),
+        None => None,
+    }
 }
 
 /// Files with a module in `m` and replies in `r`.

@@ -1,6 +1,6 @@
 //! What `instrument` says of modules and what it writes. Weights are sums of parts by hand.
 
-use crate::trial::{answers, begins, files_of};
+use crate::trial::{answers, begins, files_of, length};
 use pm_outside::{MemFiles, Part};
 use std::alloc::Global;
 use test_modules::{DIVISION, EMPTY, NESTED, TAKEN_NAME};
@@ -82,13 +82,6 @@ fn failing(alloc: Global, call: u64) -> Option<MemFiles> {
     files.take_parts(parts);
     files.add("m", &DIVISION).ok()?;
     Some(files)
-}
-
-fn length(bytes: Option<&[u8]>) -> Option<usize> {
-    match bytes {
-        Some(bytes) => Some(bytes.len()),
-        None => None,
-    }
 }
 
 fn is_named(alloc: Global, call: u64, text: &str, left: Option<usize>) -> bool {
