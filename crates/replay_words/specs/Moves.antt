@@ -1,6 +1,5 @@
 -- Moves between the steps of a run: words with exactly one space between them.
 use Rattle.std.specs.Prelude.{ℕ, ◌+◌, ◌^◌, ◌==◌, nat_lt, List, [], ◌∷◌, take, drop, position, Option, Some, None, option_and_then, if◌then◌else◌, codes, bytes_eq}
-use Rattle.std.specs.Option.{option_map}
 use Rattle.std.specs.List.{slice_split}
 use Rattle.pm_text.specs.Numbers.{decimal_value}
 use Rattle.replay_words.specs.declared.moves.Move.{Move}
