@@ -14,7 +14,8 @@ use Rattle.dump_format.specs.declared.fault.DumpFault.{DumpFault}
 use Rattle.dump_format.specs.Decode.{dump_from}
 use Rattle.dump_match.specs.declared.mismatch.Mismatch.{Mismatch}
 use Rattle.dump_match.specs.declared.mismatch.Mismatch.TheVariants as rows
-use Rattle.dump_match.specs.Frames.{IsOf, OperandCount}
+use Rattle.dump_match.specs.Frames.{IsOf, OffsetFits, OperandCount}
+use Rattle.dump_match.specs.States.{StateOperandCount}
 use Rattle.dump_match.specs.Matching.{FirstMismatch, Before, group, place}
 use Rattle.command_answers.specs.Inputs.{input_of}
 use Rattle.command_answers.specs.Texts.{ended}
@@ -45,9 +46,19 @@ one_count m i f a b x y =
     let live : LiveAt m y.0 y.1 f.offset s = subst (λ (b : Body). LiveAt m y.0 b f.offset s) body (subst (λ (t : FuncType). LiveAt m t x.1 f.offset s) type x.3.0.1) in
     x.3.1 s x.3.0.1 ∙ sym (y.3.1 s live)
 
+-- before a counted frame a live instruction begins
+fits_there : (m : Module) (i : ℕ) (f : Frame) (n : ℕ) → OperandCount m i f n → OffsetFits m f
+fits_there m i f n x = (x.0, x.1, x.2, (x.3.0.0, x.3.0.1, tt))
+
+one_shown : (m : Module) (i : ℕ) (f : Frame) (a b : ℕ) → StateOperandCount m i f a → StateOperandCount m i f b → a ≡ b
+one_shown m i f a b (inl x) (inl y) = one_count m i f a b x y
+one_shown m i f a b (inl x) (inr y) = absurd (y.0 (fits_there m i f a x))
+one_shown m i f a b (inr x) (inl y) = absurd (x.0 (fits_there m i f b y))
+one_shown m i f a b (inr x) (inr y) = x.1 ∙ sym y.1
+
 one_operands_text : (s : Subject) (i : ℕ) (f : Frame) (a b : List ℕ) → IsOperandsText s i f a → IsOperandsText s i f b → a ≡ b
 unfolding IsOperandsText
-one_operands_text s i f a b x y = x.2 ∙ ap (λ (n : ℕ). listing (codes "operand") (recorded_or n f.operands)) (one_count s.module_ i f x.0 y.0 x.1 y.1) ∙ sym y.2
+one_operands_text s i f a b x y = x.2 ∙ ap (λ (n : ℕ). listing (codes "operand") (recorded_or n f.operands)) (one_shown s.module_ i f x.0 y.0 x.1 y.1) ∙ sym y.2
 
 one_of_frame : (s : Subject) (i : ℕ) (f : Option Frame) (a b : List ℕ) → AreOperands s i f a → AreOperands s i f b → a ≡ b
 one_of_frame s i (Some f) a b x y = one_operands_text s i f a b x y

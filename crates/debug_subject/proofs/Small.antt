@@ -15,7 +15,8 @@ use Rattle.dump_format.specs.declared.dump.Dump.{Dump}
 use Rattle.dump_format.specs.declared.dump.Instance.{Instance}
 use Rattle.dump_format.specs.Region.{Region}
 use Rattle.dump_match.specs.declared.mismatch.Mismatch.TheVariants as rows
-use Rattle.dump_match.specs.Matching.{Matches, MemoryFits}
+use Rattle.dump_match.specs.Matching.{MemoryFits}
+use Rattle.dump_match.specs.States.{MatchesState}
 use Rattle.debug_recorded.specs.Recorded.{laid_memory, memory_in, memory_among, recorded_memory}
 use Rattle.debug_subject.specs.Subject.{Spells}
 
@@ -51,7 +52,7 @@ small_in m dump one (i ∷ more) e fits = small_laid dump.segments dump.memory f
         let same : x.1 ≡ pages = some_is (sym x.3 ∙ is) in
         omega (arith, x.5, same)
 
-pub small_memory : (m : Module) (dump : Dump) → Matches m dump → IfSome (recorded_memory dump) (λ m. m.max ≤ 4096)
+pub small_memory : (m : Module) (dump : Dump) → MatchesState m dump → IfSome (recorded_memory dump) (λ m. m.max ≤ 4096)
 unfolding recorded_memory
 small_memory m dump h =
     let x = h rows.Memory in

@@ -1,4 +1,4 @@
--- What a session looks at: what the bytes of a module say, the module, and a dump that can be one of it.
+-- What a session looks at: what the bytes of a module say, the module, and a dump that can show a state of it.
 use Rattle.std.specs.Prelude.{◌≡◌, ℕ, List, Ok}
 use Rattle.wasm_syntax.specs.declared.module.ModuleParts.{ModuleParts as Module}
 use Rattle.wasm_decode.specs.Decode.{module_from}

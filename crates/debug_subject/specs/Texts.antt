@@ -8,7 +8,7 @@ use Rattle.wasm_syntax.specs.Module.{type_at}
 use Rattle.wasm_syntax.specs.Sizes.{local_count}
 use Rattle.wasm_validate.specs.Heights.{body_of}
 use Rattle.dump_format.specs.declared.dump.Frame.{Frame}
-use Rattle.dump_match.specs.Frames.{OperandCount}
+use Rattle.dump_match.specs.States.{StateOperandCount}
 use Rattle.debug_listings.specs.Listings.{numbered, listing, recorded_or}
 use Rattle.debug_recorded.specs.Recorded.{recorded_globals, recorded_memory}
 use Rattle.debug_recorded.specs.Examined.{examined_text}
@@ -46,9 +46,9 @@ frame_locals m f = count_of (type_at m f.function) (body_of m f.function)
 unfoldable pub locals_text : Subject → Frame → List ℕ
 locals_text s f = listing (codes "local") (recorded_or (frame_locals s.module_ f) f.locals)
 
--- the operands of the frame of an index, of which so many are shown by the module
+-- the operands of the frame of an index, of which so many are shown by the module; at an `else` or `end` those that are recorded
 unfoldable pub IsOperandsText : Subject → ℕ → Frame → List ℕ → Type 0
-IsOperandsText s i f text = (n : ℕ) × OperandCount s.module_ i f n × (text ≡ listing (codes "operand") (recorded_or n f.operands))
+IsOperandsText s i f text = (n : ℕ) × StateOperandCount s.module_ i f n × (text ≡ listing (codes "operand") (recorded_or n f.operands))
 
 unfoldable pub globals_text : Subject → List ℕ
 globals_text s = listing (codes "global") (recorded_or (length s.module_.globals) (recorded_globals s.dump))

@@ -6,7 +6,8 @@ mod subject;
 mod texts;
 
 pub use causes::NoMemory;
-pub use subject::Subject;
+pub use debug_frames::Information;
+pub use subject::{Subject, information_of};
 pub use texts::{
     push_backtrace, push_frame_at, push_globals, push_locals, push_memory, push_no_frame,
     push_operands, push_unread,

@@ -4,27 +4,29 @@ ghost use Rattle.std.specs.Prelude.{◌≡◌, ◌<◌, ◌≤◌, ◌^◌, IfOk
 ghost use Rattle.wasm_syntax.specs.Sizes.{WithinLimits};
 ghost use Rattle.wasm_syntax.specs.Valid.{There};
 ghost use Rattle.dwarf_info.specs.Sections.{greatest_section};
-ghost use Rattle.dump_match.specs.Frames.{OperandCount};
+ghost use Rattle.dump_match.specs.States.{StateOperandCount};
 ghost use Rattle.debug_recorded.specs.Recorded as recorded;
-ghost use Rattle.debug_subject.specs.Subject.{subject_of, Spells};
+ghost use Rattle.debug_frames.specs.Information.{information};
+ghost use Rattle.debug_subject.specs.Subject.{Spells};
 
 use causes::NoMemory;
 use debug_frames::Information;
 use debug_recorded::{recorded_globals, recorded_memory};
 use dump_format::Dump;
-use dump_match::Matched;
+use dump_match::StateMatched;
 use linear_memory::Memory;
 use pm_text::Items;
 use std::alloc::Global;
 use std::marker::Model;
 use wasm_syntax::{ModuleParts, Seen};
+use wasm_validate::Validated;
 
-/// What the bytes of a module say, the module, and a dump that can be one of it, with the globals and the memory that it records.
+/// What the bytes of a module say, the module, and a dump that can show a state of it, with the globals and the memory that it records.
 /// Contracts see the first three.
 #[derive(Drop)]
 pub struct Subject<'a, 'm, 'd, 'b> {
     information: Information<'a>,
-    matched: Matched<'m, 'd, 'b>,
+    matched: StateMatched<'m, 'd, 'b>,
     globals: Items<Seen>,
     memory: Option<Memory>,
 }
@@ -43,43 +45,41 @@ impl<'a, 'm, 'd, 'b> Model for Subject<'a, 'm, 'd, 'b> {
 }
 
 /// The globals that a dump records.
-fn globals_of(alloc: Global, matched: &Matched<'_, '_, '_>) -> Result<Items<Seen>, NoMemory>
+fn globals_of(alloc: Global, matched: &StateMatched<'_, '_, '_>) -> Result<Items<Seen>, NoMemory>
     ensures { IfOk result (λ seens. seens ≡ recorded.recorded_globals matched.now.dump) }
 {
     recorded_globals(alloc, matched.dump())
 }
 
 /// The memory that a dump records.
-fn memory_of(alloc: Global, matched: &Matched<'_, '_, '_>) -> Result<Option<Memory>, NoMemory>
+fn memory_of(alloc: Global, matched: &StateMatched<'_, '_, '_>) -> Result<Option<Memory>, NoMemory>
     ensures { IfOk result (λ memory. option_map (λ m. m.memory) memory
         ≡ recorded.recorded_memory matched.now.dump) }
 {
     recorded_memory(alloc, matched.dump())
 }
 
-/// What the bytes of a module say.
-fn information_of<'a>(
+/// What the bytes of a module say, which are those that it was decoded from.
+pub fn information_of<'a>(
     alloc: Global,
     bytes: &'a [u8],
-    matched: &Matched<'_, '_, '_>,
+    module_: &Validated,
 ) -> Result<Information<'a>, NoMemory>
-    requires { Spells bytes.now matched.now.module_ }
-    ensures { IfOk result (λ x. x ≡ (subject_of bytes.now matched.now).information) }
+    requires { Spells bytes.now module_.now }
+    ensures { IfOk result (λ x. x ≡ information bytes.now module_.now.customs) }
 {
-    Information::of(alloc, bytes, matched.module().module())
+    Information::of(alloc, bytes, module_.module())
 }
 
 impl<'a, 'm, 'd, 'b> Subject<'a, 'm, 'd, 'b> {
-    /// The bytes are those that the module was decoded from.
+    /// The information is what the bytes of the module say.
     pub fn new(
         alloc: Global,
-        bytes: &'a [u8],
-        matched: Matched<'m, 'd, 'b>,
+        information: Information<'a>,
+        matched: StateMatched<'m, 'd, 'b>,
     ) -> Result<Self, NoMemory>
-        requires { Spells bytes.now matched.module_ }
-        ensures { IfOk result (λ s. s ≡ subject_of bytes.now matched.entry) }
+        ensures { IfOk result (λ s. s ≡ record { information = information.entry; module_ = matched.entry.module_; dump = matched.entry.dump }) }
     {
-        let information = information_of(alloc, bytes, &matched)?;
         let globals = globals_of(alloc, &matched)?;
         let memory = memory_of(alloc, &matched)?;
         Ok(Subject {
@@ -94,6 +94,13 @@ impl<'a, 'm, 'd, 'b> Subject<'a, 'm, 'd, 'b> {
         ensures { result.now ≡ self.now.information }
     {
         &self.information
+    }
+
+    /// What the bytes of the module say, for another subject.
+    pub fn into_information(self) -> Information<'a>
+        ensures { result ≡ self.entry.information }
+    {
+        self.information
     }
 
     pub fn parts(&self) -> &ModuleParts
@@ -130,7 +137,7 @@ impl<'a, 'm, 'd, 'b> Subject<'a, 'm, 'd, 'b> {
     /// How many operands the frame of an index shows, also where they are not recorded.
     pub fn operand_count(&self, index: u32) -> u32
         requires { index < length self.now.dump.frames }
-        ensures { There self.now.dump.frames index (λ f. OperandCount self.now.module_ index f result) }
+        ensures { There self.now.dump.frames index (λ f. StateOperandCount self.now.module_ index f result) }
     {
         self.matched.operand_count(index)
     }

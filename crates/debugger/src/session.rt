@@ -8,8 +8,8 @@ ghost use Rattle.debugger.specs.Sitting.{sitting, Answers};
 use crate::answers::answer;
 use causes::NoMemory;
 use debug_commands::{Command, read_command};
-use debug_subject::Subject;
-use dump_match::Matched;
+use debug_subject::{Information, Subject, information_of};
+use dump_match::{Matched, StateMatched};
 use pm_text::Text;
 use std::alloc::Global;
 use std::marker::Model;
@@ -51,6 +51,19 @@ fn chosen_of(subject: &Subject<'_, '_, '_, '_>, chosen: u32, number: u64) -> u32
 }
 
 impl<'a, 'm, 'd, 'b> Session<'a, 'm, 'd, 'b> {
+    /// A session on a module, with what its bytes say, and a dump that shows a state of it. This frame is chosen.
+    pub fn on_state(
+        alloc: Global,
+        information: Information<'a>,
+        matched: StateMatched<'m, 'd, 'b>,
+        chosen: u32,
+    ) -> Result<Self, NoMemory>
+        ensures { IfOk result (λ s. s ≡ sitting (record { information = information.entry; module_ = matched.entry.module_; dump = matched.entry.dump }) chosen) }
+    {
+        let subject = Subject::new(alloc, information, matched)?;
+        Ok(Session { subject, chosen })
+    }
+
     /// A session on the module that these bytes spell, and a dump that can be one of it. Debugging information is read once,
     /// here.
     pub fn new(
@@ -61,8 +74,22 @@ impl<'a, 'm, 'd, 'b> Session<'a, 'm, 'd, 'b> {
         requires { Spells bytes.now matched.module_ }
         ensures { IfOk result (λ s. s ≡ sitting (subject_of bytes.now matched.entry) 0) }
     {
-        let subject = Subject::new(alloc, bytes, matched)?;
-        Ok(Session { subject, chosen: 0 })
+        let information = information_of(alloc, bytes, matched.module())?;
+        Session::on_state(alloc, information, StateMatched::of_dump(matched), 0)
+    }
+
+    /// The chosen frame.
+    pub fn chosen(&self) -> u32
+        ensures { result ≡ self.now.chosen }
+    {
+        self.chosen
+    }
+
+    /// What the bytes of the module say, for another session.
+    pub fn into_information(self) -> Information<'a>
+        ensures { result ≡ self.entry.subject.information }
+    {
+        self.subject.into_information()
     }
 
     /// The text that a command prints. Where memory runs out the session is unchanged.

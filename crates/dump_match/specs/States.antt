@@ -10,7 +10,7 @@ use Rattle.dump_format.specs.declared.dump.Frame.{Frame}
 use Rattle.dump_format.specs.Contained.{IsContained}
 use Rattle.dump_match.specs.declared.mismatch.Mismatch.{Mismatch}
 use Rattle.dump_match.specs.declared.mismatch.Mismatch.TheVariants as rows
-use Rattle.dump_match.specs.Frames.{OfFunction, OffsetFits, OperandsFit}
+use Rattle.dump_match.specs.Frames.{OfFunction, OffsetFits, OperandsFit, OperandCount}
 use Rattle.dump_match.specs.Matching.{Passes, Before}
 use Rattle.dump_match.specs.Judged.{Match}
 
@@ -24,6 +24,11 @@ SomeClosesAt ops at = (n : ℕ) × ClosesAt ops n at
 -- an `else` or `end` of the frame's function begins at the frame's offset
 abbrev pub AtClose : Module → Frame → Type 0
 AtClose m f = OfFunction m f (λ type body. SomeClosesAt body.ops f.offset)
+
+-- How many operands the frame of an index shows by the module. Where no live instruction begins at its offset, as at an `else` or `end`, the
+-- module tells none, and it shows those that it records.
+abbrev pub StateOperandCount : Module → ℕ → Frame → ℕ → Type 0
+StateOperandCount m i f n = OperandCount m i f n ⊎ ((OffsetFits m f → ⊥) × (n ≡ 0))
 
 -- the test of a row
 abbrev pub PassesInState : Module → Dump → Mismatch → Type 0

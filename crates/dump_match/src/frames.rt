@@ -5,7 +5,8 @@ ghost use Rattle.wasm_syntax.specs.declared.module.ModuleParts.{ModuleParts as M
 ghost use Rattle.wasm_syntax.specs.Sizes.{WithinLimits};
 ghost use Rattle.wasm_syntax.specs.Tree.{item_of};
 ghost use Rattle.dump_format.specs.declared.dump.Frame.{Frame as ShownFrame};
-ghost use Rattle.dump_match.specs.Frames.{FunctionFits, OffsetFits, OperandCount, LocalsFit, OperandsFit, CallFits, CalleeFits};
+ghost use Rattle.dump_match.specs.Frames.{FunctionFits, LocalsFit, OperandsFit, CallFits, CalleeFits};
+ghost use Rattle.dump_match.specs.States.{StateOperandCount};
 ghost use Rattle.dump_match.specs.inner.Decides.{Decides, FrameJudged, FramesJudged};
 ghost use Rattle.dump_match.specs.inner.Stands.{Stands, OperandsAre, count_shown};
 
@@ -80,10 +81,9 @@ fn shown_count(m: &ModuleParts, stand: Stand, i: u32) -> u32
     (stand.height as usize).saturating_sub(count) as u32
 }
 
-/// How many operands a frame shows that stands before a live instruction.
+/// How many operands a frame shows by the module: none where it stands before no live instruction.
 pub fn operand_count(m: &Validated, frame: &Frame, i: u32) -> u32
-    requires { OffsetFits m.now frame.now }
-    ensures { OperandCount m.now i frame.now result }
+    ensures { StateOperandCount m.now i frame.now result }
 {
     match stand_of(m, frame) {
         Some(stand) => shown_count(m.module().parts(), stand, i),

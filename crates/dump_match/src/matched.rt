@@ -3,9 +3,8 @@
 ghost use Rattle.std.specs.Prelude.{◌≡◌, ◌<◌, ◌^◌, length};
 ghost use Rattle.dump_format.specs.Contained.{IsContained};
 ghost use Rattle.wasm_syntax.specs.Valid.{There};
-ghost use Rattle.dump_match.specs.Frames.{OperandCount};
 ghost use Rattle.dump_match.specs.Matching.{Matches};
-ghost use Rattle.dump_match.specs.States.{MatchesState};
+ghost use Rattle.dump_match.specs.States.{MatchesState, StateOperandCount};
 
 use crate::frames::operand_count;
 use dump_format::Dump;
@@ -31,9 +30,8 @@ impl<'m, 'd, 'b> Model for Matched<'m, 'd, 'b> {
 
 /// How many operands the frame of an index shows.
 fn frame_operands(m: &Validated, dump: &Dump<'_>, index: u32) -> u32
-    requires there { index < length dump.now.frames }
-    requires matches { Matches m.now dump.now }
-    ensures { There dump.now.frames index (λ f. OperandCount m.now index f result) }
+    requires { index < length dump.now.frames }
+    ensures { There dump.now.frames index (λ f. StateOperandCount m.now index f result) }
 {
     let frames = dump.frames.as_slice();
     let frame = &frames[index as usize];
@@ -62,14 +60,6 @@ impl<'m, 'd, 'b> Matched<'m, 'd, 'b> {
         ensures matches { Matches result.now self.now.dump }
     {
         self.module
-    }
-
-    /// How many operands a frame shows, by its index from the innermost frame on, also where they are not recorded.
-    pub fn operand_count(&self, index: u32) -> u32
-        requires { index < length self.now.dump.frames }
-        ensures { There self.now.dump.frames index (λ f. OperandCount self.now.module_ index f result) }
-    {
-        frame_operands(self.module, self.dump, index)
     }
 
     /// The dump.
@@ -116,6 +106,23 @@ impl<'m, 'd, 'b> StateMatched<'m, 'd, 'b> {
             module: module_,
             dump,
         }
+    }
+
+    /// A dump that can be one of a module can show a state of it.
+    pub fn of_dump(matched: Matched<'m, 'd, 'b>) -> Self
+        ensures module_ { result.module_ ≡ matched.entry.module_ }
+        ensures dump { result.dump ≡ matched.entry.dump }
+    {
+        StateMatched::new(matched.module, matched.dump)
+    }
+
+    /// How many operands a frame shows, by its index from the innermost frame on, also where they are not recorded. Where the innermost frame
+    /// stands at an `else` or `end` the module tells none.
+    pub fn operand_count(&self, index: u32) -> u32
+        requires { index < length self.now.dump.frames }
+        ensures { There self.now.dump.frames index (λ f. StateOperandCount self.now.module_ index f result) }
+    {
+        frame_operands(self.module, self.dump, index)
     }
 
     /// The module.

@@ -1,4 +1,4 @@
-use Rattle.std.proofs.Common.{◌≡◌, ◌∙◌, ap}
+use Rattle.std.proofs.Common.{◌∙◌, ap, inl, inr, refl}
 use Rattle.wasm_syntax.specs.Tree.{item_of}
 use Rattle.dump_match.specs.inner.Stands.{Stands, count_shown}
 use Rattle.dump_match.proofs.Spots.{shown_count}
@@ -12,7 +12,7 @@ returns-in-Some c =
     let st : Stands m f x = c.in-Some.ensures in
     let same = c.parts.ensures.value ∙ c.module.ensures.value in
     let n = c.shown_count.ensures.count st.body.targets ∙ ap (λ y. count_shown y (item_of st.body.targets x.code) c.args.i x.height) same in
-    shown_count m f x st c.args.i c.shown_count.result n c.shown_count.ensures.most
+    inl (shown_count m f x st c.args.i c.shown_count.result n c.shown_count.ensures.most)
 
 pub returns-in-None : goal.returns-in-None
-returns-in-None c = absurd (c.in-None.ensures c.requires)
+returns-in-None c = inr (c.in-None.ensures, refl)
