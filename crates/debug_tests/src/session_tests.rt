@@ -4,8 +4,8 @@ use crate::cases::{
     CALLS, CALLS_DUMP, CHAIN, CHAIN_DUMP, CONSTANT, DIVISION, DIVISION_DUMP, LOAD, PARTLY_DUMP,
 };
 use crate::sources::{
-    CUT_DUMP, INLINED, NAMED, NO_FRAMES, OTHER_GLOBAL, OTHER_LOCAL, OTHER_OFFSET, SOURCE,
-    SOURCE_DUMP, SOURCE5, UNLISTED_DUMP, UNPLACED, UNREADABLE,
+    CUT_DUMP, INLINED, NAMED, NO_FRAMES, OTHER_GLOBAL, OTHER_LOCAL, OTHER_OFFSET, SOURCE_DUMP,
+    SOURCE5, UNLISTED_DUMP, UNPLACED, UNREADABLE,
 };
 use causes::NoMemory;
 use debug_command::{DebugWords, debug_file};
@@ -13,6 +13,7 @@ use pm_outside::MemFiles;
 use pm_text::{Text, Texts};
 use std::alloc::Global;
 use std::test::Fail;
+use test_modules::SOURCE;
 
 /// A module, a dump, commands between semicolons, the status, and the text.
 type Row<'a> = (&'a [u8], &'a [u8], &'a str, u8, &'a str);
