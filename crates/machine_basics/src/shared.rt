@@ -1,8 +1,10 @@
 //! What the frames of an instance share, as far as instructions change it.
 
-ghost use Rattle.std.specs.Prelude.{◌≡◌, slice_get, slice_set};
+ghost use Rattle.std.specs.Prelude.{◌≡◌, slice_get, slice_set, IfOk};
 
+use causes::NoMemory;
 use linear_memory::Memory;
+use std::alloc::Global;
 use std::marker::Model;
 use wasm_syntax::Value;
 
@@ -27,6 +29,14 @@ impl Globals {
         ensures { result ≡ items.items }
     {
         Globals { items }
+    }
+
+    /// Values of their own, which are the same.
+    pub fn copy_of(&self, alloc: Global) -> Result<Globals, NoMemory>
+        ensures { IfOk result (λ copy. copy ≡ self.now) }
+    {
+        let items = Vec::from_slice(alloc, self.items.as_slice())?;
+        Ok(Globals { items })
     }
 
     /// The values, by their indices.
@@ -60,4 +70,25 @@ impl Globals {
 pub struct Shared {
     pub globals: Globals,
     pub memory: Option<Memory>,
+}
+
+/// A memory of its own that is the same, where there is one.
+fn memory_of(memory: &Option<Memory>) -> Result<Option<Memory>, NoMemory>
+    ensures { IfOk result (λ copy. copy ≡ memory.now) }
+{
+    match memory {
+        Some(memory) => Ok(Some(memory.copy_of()?)),
+        None => Ok(None),
+    }
+}
+
+impl Shared {
+    /// Globals and a memory of their own, which are the same.
+    pub fn copy_of(&self, alloc: Global) -> Result<Shared, NoMemory>
+        ensures { IfOk result (λ copy. copy ≡ self.now) }
+    {
+        let globals = self.globals.copy_of(alloc)?;
+        let memory = memory_of(&self.memory)?;
+        Ok(Shared { globals, memory })
+    }
 }

@@ -31,6 +31,14 @@ impl<T: Copy + Drop> Stack<T> {
         }
     }
 
+    /// A stack of its own with the same elements.
+    pub fn copy_of(&self, alloc: Global) -> Result<Self, NoMemory>
+        ensures { IfOk result (λ copy. copy ≡ self.now) }
+    {
+        let items = Vec::from_slice(alloc, self.items.as_slice())?;
+        Ok(Stack { items })
+    }
+
     /// The number of elements.
     #[inline(always)]
     pub fn len(&self) -> usize

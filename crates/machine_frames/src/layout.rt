@@ -1,6 +1,9 @@
 //! What a run keeps, and what a step comes to.
 
-use machine_basics::{Stack, TrapKind};
+ghost use Rattle.std.specs.Prelude.{◌≡◌, IfOk};
+
+use machine_basics::{NoMemory, Stack, TrapKind};
+use std::alloc::Global;
 use wasm_syntax::Value;
 
 /// An open block.
@@ -37,6 +40,23 @@ pub struct CallStack {
     pub controls: Stack<Control>,
     pub frames: Stack<CallFrame>,
     pub position: usize,
+}
+
+impl CallStack {
+    /// Frames of their own, which are the same.
+    pub fn copy_of(&self, alloc: Global) -> Result<CallStack, NoMemory>
+        ensures { IfOk result (λ copy. copy ≡ self.now) }
+    {
+        let values = self.values.copy_of(alloc)?;
+        let controls = self.controls.copy_of(alloc)?;
+        let frames = self.frames.copy_of(alloc)?;
+        Ok(CallStack {
+            values,
+            controls,
+            frames,
+            position: self.position,
+        })
+    }
 }
 
 /// What a step came to.

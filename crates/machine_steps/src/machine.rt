@@ -1,11 +1,12 @@
 //! What a machine keeps, what a module is prepared to, and what a step comes to.
 
-ghost use Rattle.std.specs.Prelude.{◌≡◌};
+ghost use Rattle.std.specs.Prelude.{◌≡◌, IfOk};
 ghost use Rattle.machine_steps.specs.Meets.{outcome_of};
 
-use machine_basics::{Shared, TrapKind};
+use machine_basics::{NoMemory, Shared, TrapKind};
 use machine_code::Code;
 use machine_frames::{CallStack, Stepped};
+use std::alloc::Global;
 use wasm_syntax::Items;
 
 /// What the functions and types of a module are prepared to.
@@ -28,6 +29,22 @@ pub struct Machine {
     pub shared: Shared,
     /// The functions in the table, if it is there.
     pub table: Items<Option<u32>>,
+}
+
+impl Machine {
+    /// A machine of its own that keeps the same.
+    pub fn copy_of(&self, alloc: Global) -> Result<Machine, NoMemory>
+        ensures { IfOk result (λ copy. copy ≡ self.now) }
+    {
+        let stack = self.stack.copy_of(alloc)?;
+        let shared = self.shared.copy_of(alloc)?;
+        let table = Items::from_slice(alloc, self.table.as_slice())?;
+        Ok(Machine {
+            stack,
+            shared,
+            table,
+        })
+    }
 }
 
 /// A call of an import, whose arguments are on top, or under the index of a table's entry.
