@@ -125,6 +125,15 @@ replies_are q (no_reply call k) left c e = ap (λ (c : Config). c.world.replies)
 replies_are q (bad_reply call r k) left c e = ap (λ (c : Config). drop 1 c.world.replies) (sym (some_is e))
 replies_are q stuck left c e = absurd (cc)
 
+-- whether the entry was begun
+pub begun_in : (q : Bool) (s : Stepped) (left : ℕ) → q ≡ (ran_to q s left).entered
+begun_in q (next c) left = refl
+begun_in q (ends w vs co) left = refl
+begun_in q (traps k c) left = refl
+begun_in q (no_reply call c) left = refl
+begun_in q (bad_reply call r c) left = refl
+begun_in q stuck left = refl
+
 there_is : (m : Module) (s : Stepped) → RunFits m s → (c : Config) × (last_in s ≡ Some c)
 there_is m (next c) h = (c, refl)
 there_is m (ends w vs co) h = (config [] w co, refl)
@@ -152,16 +161,7 @@ module _ (p : Program) (codes : List Code) (used_up : Import → Bool) where
   follows_is FuelSpent q s left a = ap (λ s. goes_on (ran_to q s left).outcome (ran_to q s left).entered) (sym a.1)
   follows_is NoMemory q s left a = refl
 
-  -- whether the entry was begun
-  begun_in : (q : Bool) (s : Stepped) (left : ℕ) → q ≡ (ran_to q s left).entered
-  begun_in q (next c) left = refl
-  begun_in q (ends w vs co) left = refl
-  begun_in q (traps k c) left = refl
-  begun_in q (no_reply call c) left = refl
-  begun_in q (bad_reply call r c) left = refl
-  begun_in q stuck left = refl
-
-  begun_is : (answer : RunEnd) (q : Bool) (s : Stepped) (left : ℕ) → IsEntered answer q (ran_to q s left)
+  pub begun_is : (answer : RunEnd) (q : Bool) (s : Stepped) (left : ℕ) → IsEntered answer q (ran_to q s left)
   begun_is (Finished v) q s left = begun_in q s left
   begun_is (Trapped kind) q s left = begun_in q s left
   begun_is NoReply q s left = begun_in q s left
@@ -170,7 +170,7 @@ module _ (p : Program) (codes : List Code) (used_up : Import → Bool) where
   begun_is FuelSpent q s left = begun_in q s left
   begun_is NoMemory q s left = tt
 
-  ran_came : (q begun : Bool) (go : Invoking) (fuel : ℕ) (asked : Asked) (answer : RunEnd) (steps : ℕ) (m : Machine) (more : List Reply) (s : Stepped) (left : ℕ) →
+  pub ran_came : (q begun : Bool) (go : Invoking) (fuel : ℕ) (asked : Asked) (answer : RunEnd) (steps : ℕ) (m : Machine) (more : List Reply) (s : Stepped) (left : ℕ) →
       steps ≤ fuel → go (replies_of asked.given ++ more) (given_steps answer fuel steps) ≡ ran_to q s left → left ≡ given_steps answer fuel steps - steps →
       AnswersTo p used_up answer s → ((c : Config) → last_in s ≡ Some c → KeepsThen p codes answer m c) →
       served_in s ≡ reverse asked.given → told_in s ≡ reverse asked.told → left_in s ≡ more → RunFits p.module_ s → IsEntered answer begun (ran_to q s left) →

@@ -1,5 +1,6 @@
 pub mod HostLaws
 pub mod ReplyLaws
+pub mod ResumeLaws
 pub mod WriteLaws
 pub mod MeetLaws
 pub mod SafeLaws
@@ -18,3 +19,6 @@ pub mod JoinLaws
 pub mod WatchLaws
 pub mod WatchJoins
 pub mod MadeJoins
+pub mod WaitLaws
+pub mod CourseLaws
+pub mod WentLaws

@@ -1,7 +1,7 @@
 -- Functions of valid modules.
-use Rattle.std.proofs.Common.{◌≡◌, ℕ, ◌+◌, ◌-◌, ◌<◌, ◌≤◌, List, map, length, sym, ap, subst, ◌∙◌, arith}
+use Rattle.std.proofs.Common.{◌≡◌, ℕ, ◌+◌, ◌-◌, ◌<◌, ◌≤◌, List, [], map, length, refl, sym, ap, subst, ◌∙◌, arith}
 use Rattle.std.proofs.lemmas.Bool.Decides.{nat_tests}
-use Rattle.std.specs.Prelude.{true, false, nat_lt, if◌then◌else◌, Option, Some, None, option_map, slice_get}
+use Rattle.std.specs.Prelude.{true, false, nat_lt, if◌then◌else◌, Option, Some, None, IfSome, option_map, slice_get}
 use Rattle.wasm_syntax.specs.declared.value.Value.{Value}
 use Rattle.wasm_syntax.specs.declared.parts.FuncType.{FuncType}
 use Rattle.wasm_syntax.specs.declared.parts.Import.{Import}
@@ -9,7 +9,8 @@ use Rattle.wasm_syntax.specs.declared.parts.Body.{Body}
 use Rattle.wasm_syntax.specs.declared.module.ModuleParts.{ModuleParts as Module}
 use Rattle.wasm_syntax.specs.Tree.{Tree}
 use Rattle.wasm_syntax.specs.Module.{Program, IsProgram, Function, imported, defined, imported_at, defined_at, function_at, type_at, option_then}
-use Rattle.wasm_syntax.specs.Valid.{Valid}
+use Rattle.wasm_syntax.specs.declared.place.Place.TheVariants as places
+use Rattle.wasm_syntax.specs.Valid.{Valid, StartFine}
 use Rattle.wasm_syntax.specs.Machine.{function_type}
 use Rattle.machine_steps.specs.declared.machine.Prepared.{Prepared}
 use Rattle.wasm_laws.proofs.Lists.{get_inside, get_front, get_map}
@@ -63,7 +64,7 @@ pub record IsDefined (p : Program) (i : ℕ) (type : FuncType) : Type 0 where
   pub at : defined_at p i ≡ Some (defined body tree type)
   pub function : function_at p (length p.module_.imports + i) ≡ Some (defined body tree type)
 
-not_imported : (p : Program) (i : ℕ) (x : Import) (type : FuncType) → defined_at p i ≡ Some (imported x type) → ⊥
+pub not_imported : (p : Program) (i : ℕ) (x : Import) (type : FuncType) → defined_at p i ≡ Some (imported x type) → ⊥
 not_imported p i x type e = by_index (slice_get p.module_.functions i) e
   where
     by_tree : (body : Body) (u : FuncType) (o : Option Tree) → option_map (λ tree. defined body tree u) o ≡ Some (imported x type) → ⊥
@@ -101,3 +102,10 @@ pub few_results : (p : Program) (f : ℕ) (type : FuncType) → ValidProgram p �
 few_results p f type v t =
     let fn = (typed_of p v).functions f type t in
     subst (λ (x : FuncType). length x.results ≤ 1) fn.2 ((typed_of p v).few f fn.0 fn.1)
+
+-- ---- the start function
+
+-- the start function of a valid module takes no arguments
+pub takes_start : (m : Module) (due : Option ℕ) → Valid m → ((f : ℕ) → due ≡ Some f → m.start ≡ Some f) → IfSome due (λ f. Takes m f [])
+takes_start m None v h = tt
+takes_start m (Some f) v h = (record { params = []; results = [] }, subst (λ o. IfSome o (StartFine m)) (h f refl) (v places.Start), refl)

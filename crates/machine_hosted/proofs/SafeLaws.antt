@@ -40,10 +40,10 @@ memory_fits [] o h = h
 memory_fits (l ∷ ls) None h = absurd h
 memory_fits (l ∷ ls) (Some m) h = tt
 
-world_fine : (m : Module) (w : World) → WorldFits m w → WorldFine m w
+pub world_fine : (m : Module) (w : World) → WorldFits m w → WorldFine m w
 world_fine m w h = record { globals = h.globals; memory = memory_fine m.memories w.memory h.memory; table = h.table }
 
-world_fits : (m : Module) (w : World) → WorldFine m w → WorldFits m w
+pub world_fits : (m : Module) (w : World) → WorldFine m w → WorldFits m w
 world_fits m w h = record { globals = h.globals; memory = memory_fits m.memories w.memory h.memory; table = h.table }
 
 pub start_fits : (p : Program) (replies : List Reply) → ValidProgram p → WorldFits p.module_ (start_world p.module_ replies)
@@ -60,11 +60,11 @@ module _ (M : Engine) (typed : Typed M.program) where
   by_step n (bad_reply call r c) h ih = tt
   by_step n stuck h ih = h
 
-  run_fits : (n : ℕ) (c : Config) → WorldFine M.program.module_ c.world → FramesFine M.program c.frames → RunFits M.program.module_ (run_steps M n c).what
+  pub run_fits : (n : ℕ) (c : Config) → WorldFine M.program.module_ c.world → FramesFine M.program c.frames → RunFits M.program.module_ (run_steps M n c).what
   run_fits zero c wf ff = tt
   run_fits (suc n) c wf ff = by_step n (step M c) (step_fine M typed c wf ff) (run_fits n)
 
-  entered_fine : (f : ℕ) (b : Body) (tree : Tree) (type : FuncType) (args : List Value) → function_at M.program f ≡ Some (defined b tree type) → types args ≡ type.params → FramesFine M.program (entered f b tree type args ∷ [])
+  pub entered_fine : (f : ℕ) (b : Body) (tree : Tree) (type : FuncType) (args : List Value) → function_at M.program f ≡ Some (defined b tree type) → types args ≡ type.params → FramesFine M.program (entered f b tree type args ∷ [])
   entered_fine f b tree type args at ty =
       let one = one_result type.results (typed.few f (defined b tree type) at) in
       let ls : types (args ++ zeros (declared_locals b.groups)) ≡ type.params ++ declared_locals b.groups = types_append args (zeros (declared_locals b.groups)) ∙ ap₂ (λ a c. a ++ c) ty (zero_types (declared_locals b.groups)) in

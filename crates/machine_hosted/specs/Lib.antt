@@ -4,4 +4,5 @@ pub mod Settings
 pub mod Answers
 pub mod Invocations
 pub mod Watching
+pub mod Courses
 pub mod inner

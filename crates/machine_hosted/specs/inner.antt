@@ -3,6 +3,7 @@ pub mod Alone
 pub mod FrameRuns
 pub mod Meets
 pub mod Replies
+pub mod Resumes
 pub mod Turns
 pub mod Watches
 pub mod Writes

@@ -13,6 +13,7 @@ mod invocation;
 pub mod laws;
 mod replies;
 mod reply;
+mod resume;
 mod run;
 mod runner;
 mod taken;
@@ -24,5 +25,6 @@ mod writes;
 
 pub use answer::{EntryRun, RunEnd};
 pub use invocation::run_invocation;
+pub use resume::resume_invocation;
 pub use runner::Runner;
 pub use watched_invocation::watch_invocation;
