@@ -1,11 +1,10 @@
 -- What is known of instances.
 use Rattle.std.proofs.Common.{◌≡◌, ℕ, ◌+◌, ◌<◌, ◌^◌, List, [], length, refl, sym, ap, subst, ◌∙◌}
-use Rattle.std.specs.Prelude.{Option, Some, None, IfSome, option_map}
+use Rattle.std.specs.Prelude.{option_map}
 use Rattle.wasm_syntax.specs.declared.module.ModuleParts.{ModuleParts as Module}
 use Rattle.wasm_syntax.specs.declared.host.Reply.{Reply}
-use Rattle.wasm_syntax.specs.declared.place.Place.TheVariants as places
 use Rattle.wasm_syntax.specs.Module.{Program, IsProgram, IsModule}
-use Rattle.wasm_syntax.specs.Valid.{Valid, StartFine}
+use Rattle.wasm_syntax.specs.Valid.{Valid}
 use Rattle.wasm_syntax.specs.Run.{start_world}
 use Rattle.machine_steps.specs.declared.machine.Machine.{Machine}
 use Rattle.machine_steps.specs.declared.machine.Prepared.{Prepared}
@@ -14,15 +13,8 @@ use Rattle.machine_hosted.specs.Safe.{WorldFits}
 use Rattle.machine_hosted.proofs.SafeLaws.{start_fits}
 use Rattle.machine_start.specs.declared.started.Started.{Started}
 use Rattle.machine_start.specs.Starts as starts
-use Rattle.machine_hosted.specs.Settings.{Sound, world_of, MachineFits, Takes}
+use Rattle.machine_hosted.specs.Settings.{Sound, world_of, MachineFits}
 use Rattle.machine_hosted.proofs.WorldLaws.{same_world}
-
--- ---- the start function
-
--- the start function of a valid module takes no arguments
-pub takes_start : (m : Module) (due : Option ℕ) → Valid m → ((f : ℕ) → due ≡ Some f → m.start ≡ Some f) → IfSome due (λ f. Takes m f [])
-takes_start m None v h = tt
-takes_start m (Some f) v h = (record { params = []; results = [] }, subst (λ o. IfSome o (StartFine m)) (h f refl) (v places.Start), refl)
 
 -- ---- a new instance
 

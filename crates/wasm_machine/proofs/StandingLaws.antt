@@ -1,16 +1,18 @@
 -- Instances and the configurations at which they stand.
-use Rattle.std.proofs.Common.{◌≡◌, ◌+◌, ◌<◌, ◌^◌, List, [], ◌∷◌, length, sym, subst, ◌∙◌}
-use Rattle.std.specs.Prelude.{option_map}
+use Rattle.std.proofs.Common.{◌≡◌, ℕ, ◌+◌, ◌<◌, ◌^◌, List, [], ◌∷◌, length, sym, subst, ◌∙◌, arith}
+use Rattle.std.specs.Prelude.{Bool, Option, option_map}
 use Rattle.wasm_syntax.specs.declared.module.ModuleParts.{ModuleParts as Module}
 use Rattle.wasm_syntax.specs.Module.{Program}
 use Rattle.wasm_syntax.specs.Machine.{Frame, Config}
 use Rattle.machine_code.specs.declared.code.Code.{Code}
 use Rattle.machine_frames.specs.Layout as layout
 use Rattle.machine_steps.specs.declared.machine.Machine.{Machine}
+use Rattle.machine_steps.specs.declared.machine.Prepared.{Prepared}
 use Rattle.machine_steps.specs.Meets.{StandsFor}
 use Rattle.machine_hosted.specs.Answers.{KeepsFrames}
 use Rattle.dump_write.specs.Image.{frame_images}
-use Rattle.wasm_machine.specs.Instances.{State, SoundState, IsOf, StandsAt}
+use Rattle.wasm_machine.specs.declared.invocation.LastInvocation.{LastInvocation}
+use Rattle.wasm_machine.specs.Instances.{State, state, copied, SoundState, IsOf, StandsAt}
 use Rattle.wasm_machine.specs.inner.Shown.{all_shown}
 use Rattle.wasm_machine.proofs.Layouts.{frames_kept, count_kept}
 
@@ -42,3 +44,18 @@ globals_at s p c at = sym at.keeps.shares.holds.globals
 
 pub memory_at : (s : State) (p : Program) (c : Config) → StandsAt s p c → option_map (λ m. m.memory) s.machine.shared.memory ≡ c.world.memory
 memory_at s p c at = sym at.keeps.shares.holds.memory
+
+-- ---- copies
+
+pub copied_sound : (s : State) → SoundState s → SoundState (copied s)
+copied_sound s h = record {
+  sound = h.sound;
+  start = h.start;
+  fits = h.fits;
+  since_copy = omega arith;
+  stopped = λ l there p is. h.stopped l there p (record { of_module = is.of_module; writes_out = is.writes_out });
+}
+
+pub copy_is : (m : Module) (prepared prepared' : Prepared) (machine machine' : Machine) (due : Option ℕ) (ready entered : Bool) (steps since_copy : ℕ) (last last' : Option LastInvocation) → prepared' ≡ prepared → machine' ≡ machine → last' ≡ last
+    → state m prepared' machine' due ready entered steps 0 last' ≡ copied (state m prepared machine due ready entered steps since_copy last)
+copy_is m prepared prepared' machine machine' due ready entered steps since_copy last last' p q l = λ i. state m (p i) (q i) due ready entered steps 0 (l i)

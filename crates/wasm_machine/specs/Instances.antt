@@ -1,5 +1,5 @@
 -- Instances (Core 4.2.5) and what they are known to be.
-use Rattle.std.specs.Prelude.{◌≡◌, ℕ, ◌+◌, Bool, true, false, List, [], Option, Some, None, option_map, Result, Ok, Err}
+use Rattle.std.specs.Prelude.{◌≡◌, ℕ, ◌+◌, ◌≤◌, Bool, true, false, List, [], Option, Some, None, option_map, Result, Ok, Err}
 use Rattle.wasm_syntax.specs.declared.value.Value.{Value}
 use Rattle.wasm_syntax.specs.declared.parts.Import.{Import}
 use Rattle.wasm_syntax.specs.declared.module.ModuleParts.{ModuleParts as Module}
@@ -14,10 +14,11 @@ use Rattle.machine_start.specs.declared.started.StartFault.{StartFault}
 use Rattle.machine_start.specs.declared.started.StartFault.TheVariants.{ElementOut, DataOut, NoMemory}
 use Rattle.machine_hosted.specs.declared.answer.RunEnd.{RunEnd}
 use Rattle.machine_hosted.specs.declared.answer.RunEnd.TheVariants as answers
-use Rattle.machine_hosted.specs.Settings.{Sound, world_of, MachineFits, Takes}
-use Rattle.machine_hosted.specs.Hosted.{Asked}
-use Rattle.machine_hosted.specs.Answers.{Keeps, AdmitsReplies}
-use Rattle.machine_hosted.specs.Invocations.{InvocationCame, InvocationCameWith, invoking}
+use Rattle.machine_hosted.specs.Settings.{Sound, world_of, MachineFits}
+use Rattle.machine_hosted.specs.Hosted.{Asked, Grew}
+use Rattle.machine_hosted.specs.Answers.{Keeps}
+use Rattle.machine_hosted.specs.Invocations.{InvocationCameWith, invoking}
+use Rattle.machine_hosted.specs.Courses.{Course, longer, CameBy, Followed}
 use Rattle.wasm_machine.specs.declared.invocation.End.{End}
 use Rattle.wasm_machine.specs.declared.invocation.End.TheVariants as ends
 use Rattle.wasm_machine.specs.declared.invocation.LastInvocation.{LastInvocation}
@@ -43,7 +44,8 @@ last_of entry args depth collecting answer =
 -- ---- instances
 
 -- an instance: its module, and that prepared; its globals, memory, table and frames; the start function where it is due; whether it may be
--- invoked; whether the function of its last invocation was begun, behind the start function; how many steps it has made; and what it keeps of its last invocation
+-- invoked; whether the function of its last invocation was begun, behind the start function; how many steps it has made, with those of the
+-- instance that it is a copy of, and without them; and what it keeps of its last invocation
 pub record State : Type 0 where
   pub module_ : Module
   pub prepared : Prepared
@@ -52,38 +54,44 @@ pub record State : Type 0 where
   pub ready : Bool
   pub entered : Bool
   pub steps : ℕ
+  pub since_copy : ℕ
   pub last : Option LastInvocation
 
-abbrev pub state : Module → Prepared → Machine → Option ℕ → (ready entered : Bool) → ℕ → Option LastInvocation → State
-state m prepared machine due ready entered steps last = record { module_ = m; prepared = prepared; machine = machine; due = due; ready = ready; entered = entered; steps = steps; last = last }
+abbrev pub state : Module → Prepared → Machine → Option ℕ → (ready entered : Bool) → (steps since_copy : ℕ) → Option LastInvocation → State
+state m prepared machine due ready entered steps since_copy last =
+    record { module_ = m; prepared = prepared; machine = machine; due = due; ready = ready; entered = entered; steps = steps; since_copy = since_copy; last = last }
+
+-- a copy, which has made no step itself
+abbrev pub copied : State → State
+copied s = record s { since_copy = 0 }
 
 -- the program is that of the instance's module
 pub record IsOf (s : State) (p : Program) : Type 0 where
   pub of_module : p.module_ ≡ s.module_
   pub writes_out : IsProgram p
 
--- The last invocation came to where the instance stands, whatever replies are left, if memory sufficed: the start function where it was due,
--- and the function that is kept, from what the instance held before.
-pub record Stopped (s : State) (l : LastInvocation) (p : Program) : Type 0 where
-  pub start : Option ℕ
-  pub due : (f : ℕ) → start ≡ Some f → s.module_.start ≡ Some f
-  pub before : Machine
-  pub fits : MachineFits s.module_ before
-  pub takes : Takes s.module_ l.entry l.args
-  pub used_up : Import → Bool
-  pub fuel : ℕ
-  pub steps : ℕ
-  pub asked : Asked
-  pub answer : RunEnd
-  pub ends : kept_end answer ≡ Some l.end
-  pub came : (more : List Reply) → AdmitsReplies answer more → InvocationCame p s.prepared.codes.items used_up (invoking (engine p l.collecting l.depth) start l.entry l.args (world_of before [])) fuel asked answer steps s.ready s.entered s.machine more
+-- On this course the last invocation came to where the instance stands, whatever replies are left, if memory sufficed: the start function
+-- where it was due, and the function that is kept, from what the instance held before.
+abbrev pub StoppedBy : State → LastInvocation → Program → Course → Type 0
+StoppedBy s l p course =
+    (answer : RunEnd) × (kept_end answer ≡ Some l.end) × Followed p s.prepared.codes.items l.collecting l.depth l.entry l.args s.module_ course answer s.ready s.entered s.machine
 
--- Only the module's start function is ever due, what is outside the frames fits the module while the instance is ready, and where an
--- invocation is kept, the instance stands where that stopped.
+abbrev pub Stopped : State → LastInvocation → Program → Type 0
+Stopped s l p = (course : Course) × StoppedBy s l p course
+
+-- the steps of its last invocation were used up, with so many frames at most and a host side that collects or does not
+pub record IsSpent (s : State) (depth : ℕ) (collecting : Bool) : Type 0 where
+  pub entry : ℕ
+  pub args : List Value
+  pub last_is : s.last ≡ last_of entry args depth collecting answers.FuelSpent
+
+-- Only the module's start function is ever due, what is outside the frames fits the module while the instance is ready, a copy has made no
+-- more steps than all that there were, and where an invocation is kept, the instance stands where that stopped.
 pub record SoundState (s : State) : Type 0 where
   pub sound : Sound s.module_ s.prepared
   pub start : (f : ℕ) → s.due ≡ Some f → s.module_.start ≡ Some f
   pub fits : s.ready ≡ true → MachineFits s.module_ s.machine
+  pub since_copy : s.since_copy ≤ s.steps
   pub stopped : (l : LastInvocation) → s.last ≡ Some l → (p : Program) → IsOf s p → Stopped s l p
 
 -- an instance of a module that was not invoked
@@ -94,6 +102,7 @@ pub record IsNew (m : Module) (s : State) : Type 0 where
   pub ready : s.ready ≡ true
   pub entered : s.entered ≡ false
   pub steps : s.steps ≡ 0
+  pub since_copy : s.since_copy ≡ 0
   pub last : s.last ≡ None
 
 -- the instance stands at a configuration of the program of its module
@@ -108,8 +117,25 @@ Begins (Err (ElementOut index)) m = cause_of_segments m ≡ Some (element_out in
 Begins (Err (DataOut index)) m = cause_of_segments m ≡ Some (data_out index)
 Begins (Err NoMemory) m = Unit {0}
 
+-- how the first steps of an invocation go from what the instance holds
+abbrev pub course_from : State → (fuel made : ℕ) → Asked → Course
+course_from s fuel made asked = record { start = s.due; before = s.machine; fuel = fuel; steps = made; asked = asked }
+
 -- So many steps were made, and the invocation came to the answer (Core 4.5.5).
 pub record Invoked (p : Program) (collecting : Bool) (depth : ℕ) (used_up : Import → Bool) (entry : ℕ) (args : List Value) (fuel : ℕ) (before now : State) (answer : RunEnd) (old new : Calls) : Type 0 where
   pub made : ℕ
   pub steps : now.steps ≡ before.steps + made
+  pub since_copy : now.since_copy ≡ before.since_copy + made
   pub came : InvocationCameWith p before.prepared.codes.items used_up (invoking (engine p collecting depth) before.due entry args (world_of before.machine [])) fuel answer made now.ready now.entered now.machine old new
+  pub stopped : (l : LastInvocation) → now.last ≡ Some l → StoppedBy now l p (course_from before fuel made came.asked)
+
+-- So many steps more were made, and with them the invocation on this course came to the answer: on the replies that were given since it
+-- began, in order.
+pub record Resumed (p : Program) (used_up : Import → Bool) (l : LastInvocation) (course : Course) (fuel : ℕ) (before now : State) (answer : RunEnd) (old new : Calls) : Type 0 where
+  pub made : ℕ
+  pub steps : now.steps ≡ before.steps + made
+  pub since_copy : now.since_copy ≡ before.since_copy + made
+  pub asked : Asked
+  pub grew : Grew asked old new
+  pub came : CameBy p before.prepared.codes.items l.collecting l.depth l.entry l.args used_up (longer course fuel made asked) answer now.ready now.entered now.machine
+  pub stopped : (k : LastInvocation) → now.last ≡ Some k → StoppedBy now k p (longer course fuel made asked)

@@ -10,18 +10,19 @@ ghost use Rattle.machine_hosted.specs.Settings.{HostKept, HostServes, Knows, Tak
 ghost use Rattle.machine_hosted.specs.Answers.{HasCause};
 ghost use Rattle.wasm_machine.specs.Entries.{entry_fault};
 ghost use Rattle.wasm_machine.specs.Answers.{fault_in};
-ghost use Rattle.wasm_machine.specs.Instances.{Begins, IsOf, StandsAt, Invoked, Stopped, last_of};
+ghost use Rattle.machine_hosted.specs.Courses.{Course};
+ghost use Rattle.wasm_machine.specs.Instances.{Begins, IsOf, IsSpent, StandsAt, Invoked, Resumed, Stopped, StoppedBy, copied, last_of};
 ghost use Rattle.wasm_machine.specs.declared.invocation.LastInvocation.{LastInvocation as Kept};
 
 use crate::entries::callee;
 use crate::frames::{FrameRef, frame_at};
-use crate::invocation::{LastInvocation, RunAnswer, kept};
+use crate::invocation::{LastInvocation, RunAnswer, copy_of_last, kept};
 use causes::NoMemory;
 use host_devices::HostSide;
 use linear_memory::Memory;
 use machine_basics::Stack;
 use machine_frames::CallStack;
-use machine_hosted::{RunEnd, Runner, run_invocation};
+use machine_hosted::{RunEnd, Runner, resume_invocation, run_invocation};
 use machine_prepared::prepare;
 use machine_start::{StartFault, Started, start};
 use machine_steps::{Machine, Prepared};
@@ -46,6 +47,7 @@ pub struct Instance<'a> {
     ready: bool,
     entered: bool,
     steps: u64,
+    since_copy: u64,
     last: Option<LastInvocation>,
 }
 
@@ -54,9 +56,9 @@ impl<'a> Model for Instance<'a> {
 
     ghost Value = { State };
 
-    ghost view = { λ i. state i.source.now i.prepared.value i.machine i.due i.ready i.entered i.steps i.last };
+    ghost view = { λ i. state i.source.now i.prepared.value i.machine i.due i.ready i.entered i.steps i.since_copy i.last };
 
-    ghost invariant = { λ i. SoundState (state i.source.now i.prepared.value i.machine i.due i.ready i.entered i.steps i.last) };
+    ghost invariant = { λ i. SoundState (state i.source.now i.prepared.value i.machine i.due i.ready i.entered i.steps i.since_copy i.last) };
 }
 
 /// A machine without frames.
@@ -107,6 +109,7 @@ impl<'a> Instance<'a> {
             ready: true,
             entered: false,
             steps: 0,
+            since_copy: 0,
             last: None,
         })
     }
@@ -130,6 +133,8 @@ impl<'a> Instance<'a> {
         ensures unchanged { OnErr result ((self.new ≡ self.old) × (hosts.new ≡ hosts.old)) }
         ensures came { IfOk result (λ end. (f : ℕ) × (function_export self.old.module_ entry.now ≡ Some f) × ((p : Program) → IsOf self.old p → Invoked p (H.collecting hosts.old) depth (H.used_up hosts.new) f args.now fuel self.old self.new end (H.calls hosts.old) (H.calls hosts.new)) × (self.new.last ≡ last_of f args.now depth (H.collecting hosts.old) end)) }
         ensures cause { IfOk result (λ end. HasCause end (H.fault_count hosts.old) (H.fault_count hosts.new)) }
+        ensures spent { IfOk result (λ end. end ≡ RunEnd.FuelSpent → IsSpent self.new depth (H.collecting hosts.new)) }
+        ensures serves { OnOk result (HostServes (H.origin hosts.new) (H.serving hosts.new) self.old.module_) }
         ensures due { OnOk result (self.new.due ≡ None) }
         ensures module_ { self.new.module_ ≡ self.old.module_ }
         ensures prepared { self.new.prepared ≡ self.old.prepared }
@@ -157,6 +162,8 @@ impl<'a> Instance<'a> {
         requires steps { self.old.steps + fuel < 2 ^ 64 }
         ensures came { (p : Program) → IsOf self.old p → Invoked p (H.collecting hosts.old) depth (H.used_up hosts.new) function args.now fuel self.old self.new result (H.calls hosts.old) (H.calls hosts.new) }
         ensures last { self.new.last ≡ last_of function args.now depth (H.collecting hosts.old) result }
+        ensures spent { result ≡ RunEnd.FuelSpent → IsSpent self.new depth (H.collecting hosts.new) }
+        ensures serves { HostServes (H.origin hosts.new) (H.serving hosts.new) self.old.module_ }
         ensures cause { HasCause result (H.fault_count hosts.old) (H.fault_count hosts.new) }
         ensures due { self.new.due ≡ None }
         ensures module_ { self.new.module_ ≡ self.old.module_ }
@@ -185,8 +192,78 @@ impl<'a> Instance<'a> {
         self.ready = run.ready;
         self.entered = run.entered;
         self.steps += run.steps;
+        self.since_copy += run.steps;
         self.last = kept(function, copy, depth, collecting, &run.answer);
         run.answer
+    }
+
+    /// Goes on with its last invocation, whose steps were used up, for at most so many steps more. The number of frames that there may be is
+    /// the same, and so is whether the host side collects; it is asked behind the replies that were given so far. It answers as the whole
+    /// invocation does with all these steps. The steps count on, and whether it may be invoked is as behind `invoke`; behind want of memory
+    /// nothing is kept.
+    pub fn resume<H: HostSide>(&mut self, depth: u32, fuel: u64, hosts: &mut H) -> RunEnd
+        requires spent { IsSpent self.old depth (H.collecting hosts.old) }
+        requires host { HostServes (H.origin hosts.old) (H.serving hosts.old) self.old.module_ }
+        requires steps { self.old.steps + fuel < 2 ^ 64 }
+        ensures came { (p : Program) (l : Kept) (course : Course) → IsOf self.old p → self.old.last ≡ Some l → StoppedBy self.old l p course → Resumed p (H.used_up hosts.new) l course fuel self.old self.new result (H.calls hosts.old) (H.calls hosts.new) }
+        ensures last { (l : Kept) → self.old.last ≡ Some l → self.new.last ≡ last_of l.entry l.args depth (H.collecting hosts.old) result }
+        ensures spent { result ≡ RunEnd.FuelSpent → IsSpent self.new depth (H.collecting hosts.new) }
+        ensures serves { HostServes (H.origin hosts.new) (H.serving hosts.new) self.old.module_ }
+        ensures cause { HasCause result (H.fault_count hosts.old) (H.fault_count hosts.new) }
+        ensures due { self.new.due ≡ self.old.due }
+        ensures module_ { self.new.module_ ≡ self.old.module_ }
+        ensures prepared { self.new.prepared ≡ self.old.prepared }
+        ensures host { HostKept H.origin H.collecting H.serving H.fault_count hosts.old hosts.new }
+    {
+        let Some(last) = self.last.take() else {
+            unreachable!()
+        };
+        let prepared: &Prepared = &self.prepared;
+        let runner = Runner {
+            alloc: self.alloc,
+            source: self.source,
+            prepared,
+            depth: depth as usize,
+        };
+        let machine = &mut self.machine;
+        let args = last.args.as_slice();
+        let rest = resume_invocation(
+            &runner,
+            machine,
+            self.entered,
+            last.entry,
+            args,
+            fuel,
+            hosts,
+        );
+        self.ready = rest.ready;
+        self.entered = rest.entered;
+        self.steps += rest.steps;
+        self.since_copy += rest.steps;
+        self.last = kept(last.entry, last.args, depth, last.collecting, &rest.answer);
+        rest.answer
+    }
+
+    /// An instance of its own that is the same: at the same place of the same invocation, with globals, memory and table of its own. Both go on
+    /// by themselves.
+    pub fn copy_of(&self) -> Result<Instance<'a>, NoMemory>
+        ensures { IfOk result (λ copy. copy ≡ copied self.now) }
+    {
+        let prepared = self.prepared.clone()?;
+        let machine = self.machine.copy_of(self.alloc)?;
+        let last = copy_of_last(self.alloc, &self.last)?;
+        Ok(Instance {
+            alloc: self.alloc,
+            source: self.source,
+            prepared,
+            machine,
+            due: self.due,
+            ready: self.ready,
+            entered: self.entered,
+            steps: self.steps,
+            since_copy: 0,
+            last,
+        })
     }
 
     /// Whether it may be invoked.
@@ -209,6 +286,13 @@ impl<'a> Instance<'a> {
         ensures { result ≡ self.now.steps }
     {
         self.steps
+    }
+
+    /// The number of steps that it has made since it was made by `new` or `copy_of`.
+    pub fn since_copy(&self) -> u64
+        ensures { result ≡ self.now.since_copy }
+    {
+        self.since_copy
     }
 
     /// What was invoked last, and how that ended. None where nothing was invoked, or memory was wanting. The instance stands where that

@@ -1,11 +1,13 @@
 //! What an invocation comes to, and what an instance keeps of it.
 
-ghost use Rattle.std.specs.Prelude.{◌≡◌};
+ghost use Rattle.std.specs.Prelude.{◌≡◌, IfOk};
 ghost use Rattle.wasm_machine.specs.Instances.{kept_end, last_of};
 
 use crate::entries::EntryFault;
+use causes::NoMemory;
 use machine_basics::TrapKind;
 use machine_hosted::RunEnd;
+use std::alloc::Global;
 use wasm_syntax::{Value, Values};
 
 /// What an invocation came to, or why nothing was run.
@@ -75,5 +77,32 @@ pub(crate) fn kept(
             end,
         }),
         None => None,
+    }
+}
+
+/// The same, with arguments of its own.
+fn copy_of_one(alloc: Global, last: &LastInvocation) -> Result<LastInvocation, NoMemory>
+    ensures { IfOk result (λ copy. copy ≡ last.now) }
+{
+    let args = Values::from_slice(alloc, last.args.as_slice())?;
+    Ok(LastInvocation {
+        entry: last.entry,
+        args,
+        depth: last.depth,
+        collecting: last.collecting,
+        end: last.end,
+    })
+}
+
+/// What is kept, if anything is, once more.
+pub(crate) fn copy_of_last(
+    alloc: Global,
+    last: &Option<LastInvocation>,
+) -> Result<Option<LastInvocation>, NoMemory>
+    ensures { IfOk result (λ copy. copy ≡ last.now) }
+{
+    match last {
+        Some(last) => Ok(Some(copy_of_one(alloc, last)?)),
+        None => Ok(None),
     }
 }

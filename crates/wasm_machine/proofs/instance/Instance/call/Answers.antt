@@ -4,10 +4,9 @@ use Rattle.wasm_syntax.specs.Run.{engine}
 use Rattle.machine_steps.specs.declared.machine.Prepared.{Prepared}
 use Rattle.machine_hosted.specs.Settings.{HostServes, Takes, world_of}
 use Rattle.machine_hosted.specs.Invocations.{InvocationCameWith, invoking}
-use Rattle.wasm_machine.specs.Instances.{State, state, Invoked, last_of}
+use Rattle.wasm_machine.specs.Instances.{State, state, Invoked, course_from, last_of}
 use Rattle.machine_hosted.specs.declared.answer.RunEnd.TheVariants.{NoMemory}
-use Rattle.machine_hosted.proofs.ModuleLaws.{function_there}
-use Rattle.wasm_machine.proofs.InstanceLaws.{takes_start}
+use Rattle.machine_hosted.proofs.ModuleLaws.{function_there, takes_start}
 use Rattle.wasm_machine.proofs.StoppedLaws.{stops}
 use Rattle.wasm_machine.proofs.WantLaws.{not_begun, start_there}
 use Rattle.wasm_machine.proofs.instance.Instance.call.Goals as goal
@@ -35,10 +34,12 @@ returns-in-Err-clause-came g c = λ p is.
     let sound = c.self.invariant.sound in
     let same : p.module_ ≡ m = is.of_module ∙ ap (λ (s : State). s.module_) (sym c.self.view_is) in
     let takes = subst (λ (s : State). Takes s.module_ c.args.function c.args.args.now) (sym c.self.view_is) c.requires.takes in
-    subst (λ (s : State). Invoked p collecting c.args.depth up c.args.function c.args.args.now c.args.fuel s (state m i.prepared.value i.machine None false c.is_none-self-inside.result i.steps None) NoMemory calls calls) c.self.view_is
+    subst (λ (s : State). Invoked p collecting c.args.depth up c.args.function c.args.args.now c.args.fuel s (state m i.prepared.value i.machine None false c.is_none-self-inside.result i.steps i.since_copy None) NoMemory calls calls) c.self.view_is
     (record {
       made = 0;
       steps = omega arith;
+      since_copy = omega arith;
+      stopped = λ l there. absurd cc;
       came = not_begun p i.prepared.value.codes.items up i.machine c.args.fuel c.is_none-self-inside.result (engine p collecting c.args.depth) c.args.function c.args.args.now i.due
           (start_there p m i.prepared.value i.due sound same is.writes_out (takes_start m i.due sound.valid c.self.invariant.start))
           (function_there p m i.prepared.value c.args.function c.args.args.now sound same is.writes_out takes) calls;
@@ -47,17 +48,25 @@ returns-in-Err-clause-came g c = λ p is.
 pub returns-clause-came : goal.returns-clause-came
 returns-clause-came g c = λ p is.
     let i = c.self.inside in
+    let m = i.source.now in
     let r = c.run_invocation-run.result in
+    let after = c.run_invocation-run.new.m in
     let collecting = g.H.HostSide.collecting c.args.hosts.now in
     let up = g.H.HostSide.used_up c.run_invocation-run.new.hosts in
     let old = g.H.HostSide.calls c.args.hosts.now in
     let new = g.H.HostSide.calls c.run_invocation-run.new.hosts in
-    subst (λ (s : State). Invoked p collecting c.args.depth up c.args.function c.args.args.now c.args.fuel s (state i.source.now i.prepared.value c.run_invocation-run.new.m None r.ready r.entered (i.steps + r.steps) c.kept.result) r.answer old new) c.self.view_is
+    let kept = c.kept.ensures ∙ ap (λ (b : Bool). last_of c.args.function c.in-Ok.copy c.args.depth b r.answer) c.collects-collecting.ensures in
+    let came = subst (λ (q : Prepared). InvocationCameWith p q.codes.items up (invoking (engine p collecting c.args.depth) i.due c.args.function c.args.args.now (world_of i.machine [])) c.args.fuel r.answer r.steps r.ready r.entered after old new) c.deref-prepared.ensures
+    (c.run_invocation-run.ensures.came p (is.of_module ∙ ap (λ (s : State). s.module_) (sym c.self.view_is)) is.writes_out) in
+    subst (λ (s : State). Invoked p collecting c.args.depth up c.args.function c.args.args.now c.args.fuel s (state m i.prepared.value after None r.ready r.entered (i.steps + r.steps) (i.since_copy + r.steps) c.kept.result) r.answer old new) c.self.view_is
     (record {
       made = r.steps;
       steps = refl;
-      came = subst (λ (q : Prepared). InvocationCameWith p q.codes.items up (invoking (engine p collecting c.args.depth) i.due c.args.function c.args.args.now (world_of i.machine [])) c.args.fuel r.answer r.steps r.ready r.entered c.run_invocation-run.new.m old new) c.deref-prepared.ensures
-          (c.run_invocation-run.ensures.came p (is.of_module ∙ ap (λ (s : State). s.module_) (sym c.self.view_is)) is.writes_out);
+      since_copy = refl;
+      came = came;
+      stopped = stops p i.prepared.value.codes.items m c.args.function c.args.args.now c.args.depth collecting (course_from (state m i.prepared.value i.machine i.due i.ready i.entered i.steps i.since_copy i.last) c.args.fuel r.steps came.asked) r.ready r.entered after
+          up c.in-Ok.copy r.answer c.kept.result c.self.invariant.start (c.self.invariant.fits (ap (λ (s : State). s.ready) c.self.view_is ∙ c.requires.ready))
+          (subst (λ (s : State). Takes s.module_ c.args.function c.args.args.now) (sym c.self.view_is) c.requires.takes) c.in-Ok.ensures kept came.came;
     })
 
 pub invariant_of-self-2 : goal.invariant_of-self-2
@@ -65,6 +74,7 @@ invariant_of-self-2 g c =
     let i = c.self.inside in
     let m = i.source.now in
     let r = c.run_invocation-run.result in
+    let after = c.run_invocation-run.new.m in
     let collecting = g.H.HostSide.collecting c.args.hosts.now in
     let up = g.H.HostSide.used_up c.run_invocation-run.new.hosts in
     let old = g.H.HostSide.calls c.args.hosts.now in
@@ -74,11 +84,14 @@ invariant_of-self-2 g c =
       sound = c.self.invariant.sound;
       start = λ f e. absurd cc;
       fits = c.run_invocation-run.ensures.fits;
+      since_copy = let few = c.self.invariant.since_copy in omega (arith, few);
       stopped = λ l there p is.
-          stops m i.prepared.value i.machine c.run_invocation-run.new.m i.due None r.ready r.entered r.steps (i.steps + r.steps) c.args.fuel up c.args.function c.args.args.now c.in-Ok.copy c.args.depth collecting r.answer c.kept.result old new
-          c.self.invariant.start (c.self.invariant.fits (ap (λ (s : State). s.ready) c.self.view_is ∙ c.requires.ready))
-          (subst (λ (s : State). Takes s.module_ c.args.function c.args.args.now) (sym c.self.view_is) c.requires.takes) c.in-Ok.ensures kept p
-          (subst (λ (q : Prepared). InvocationCameWith p q.codes.items up (invoking (engine p collecting c.args.depth) i.due c.args.function c.args.args.now (world_of i.machine [])) c.args.fuel r.answer r.steps r.ready r.entered c.run_invocation-run.new.m old new) c.deref-prepared.ensures
-          (c.run_invocation-run.ensures.came p is.of_module is.writes_out))
-          l there;
+          let came = subst (λ (q : Prepared). InvocationCameWith p q.codes.items up (invoking (engine p collecting c.args.depth) i.due c.args.function c.args.args.now (world_of i.machine [])) c.args.fuel r.answer r.steps r.ready r.entered after old new) c.deref-prepared.ensures
+          (c.run_invocation-run.ensures.came p is.of_module is.writes_out) in
+          let course = course_from (state m i.prepared.value i.machine i.due i.ready i.entered i.steps i.since_copy i.last) c.args.fuel r.steps came.asked in (
+            course,
+            stops p i.prepared.value.codes.items m c.args.function c.args.args.now c.args.depth collecting course r.ready r.entered after
+                up c.in-Ok.copy r.answer c.kept.result c.self.invariant.start (c.self.invariant.fits (ap (λ (s : State). s.ready) c.self.view_is ∙ c.requires.ready))
+                (subst (λ (s : State). Takes s.module_ c.args.function c.args.args.now) (sym c.self.view_is) c.requires.takes) c.in-Ok.ensures kept came.came l there,
+          );
     }

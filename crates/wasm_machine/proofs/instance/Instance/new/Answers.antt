@@ -1,4 +1,4 @@
-use Rattle.std.proofs.Common.{◌≡◌, ◌∙◌, refl, sym, ap, subst}
+use Rattle.std.proofs.Common.{◌≡◌, ◌∙◌, refl, sym, ap, subst, arith}
 use Rattle.std.specs.Prelude.{None}
 use Rattle.wasm_syntax.specs.declared.module.ModuleParts.{ModuleParts as Module}
 use Rattle.wasm_syntax.specs.Module.{Program, IsProgram}
@@ -22,6 +22,7 @@ invariant_of-result c =
       sound = sound;
       start = λ f e. e;
       fits = λ e. new_fits m prepared c.machine_of.result sound (new_world m c.in_ok-started.started c.machine_of.result c.in_ok-started.ensures.1 c.machine_of.ensures.shared c.machine_of.ensures.table);
+      since_copy = omega arith;
       stopped = λ l e. absurd cc;
     }
 
@@ -37,6 +38,7 @@ returns c =
         ready = refl;
         entered = refl;
         steps = refl;
+        since_copy = refl;
         last = refl;
       },
     )
