@@ -19,6 +19,7 @@ use Rattle.machine_frames.specs.declared.layout.CallFrame.{CallFrame}
 use Rattle.machine_frames.specs.declared.layout.CallStack.{CallStack}
 use Rattle.machine_frames.specs.Layout.{Under, Labels, Level, Waiting, Frames}
 use Rattle.machine_frames.proofs.Labels.{some_is, closed, under_place}
+use Rattle.machine_steps.proofs.PlaceLaws.{labels_at}
 use Rattle.machine_steps.specs.declared.machine.Machine.{Machine}
 use Rattle.machine_steps.specs.declared.machine.Prepared.{Prepared}
 use Rattle.machine_steps.specs.Prepares.{IsPrepared}
@@ -54,22 +55,6 @@ offset_shown : (codes : List Code) (f at offset : ℕ) (code : Code) (item : Ite
 offset_shown codes f at offset code item is there =
     ap (λ (o : Option Code). unwrap_or (option_then o (λ (c : Code). option_map (λ o. o.at) (slice_get c.body.now.ops at))) 0) is
     ∙ offset_some (slice_get code.body.now.ops at) code.body.now.targets offset item (sym (slice_get-map (λ (o : Op). placed o.at (item_of code.body.now.targets o.code)) code.body.now.ops at) ∙ there)
-
--- the first node stands there, or what closes the label
-stands_at : (code : List Placed) (sides : List Side) (result : Option ValType) (floor : ℕ) (ns : Nodes) (l : Label) (ls : List Label) (pc : ℕ) (ks : List Control)
-    → At code sides ns pc → Under code sides result floor l.kind ls (pc + size ns) l.end ks → (item : Item) × Is code sides pc (offset_in ns l.end) item
-stands_at code sides result floor stop l ls pc ks h u =
-    let e : pc + 0 ≡ pc = omega arith in
-    ⊎_elim (λ c. (End, c)) (λ c. (Else, c)) (closed code sides result floor l.kind ls pc l.end ks (under_place code sides result floor l.kind ls _ pc l.end ks e u))
-stands_at code sides result floor (basic o b rest) l ls pc ks h u = (Plain b, h.0)
-stands_at code sides result floor (jump o j rest) l ls pc ks h u = (Goes j, h.0)
-stands_at code sides result floor (block o t body end rest) l ls pc ks h u = (Opens t, h.0)
-stands_at code sides result floor (loop o t body end rest) l ls pc ks h u = (OpensLoop t, h.0)
-stands_at code sides result floor (choose o t a ea b end rest) l ls pc ks h u = (OpensIf t, h.0)
-
-labels_at : (code : List Placed) (sides : List Side) (result : Option ValType) (floor : ℕ) (labels : List Label) (pc : ℕ) (ks : List Control) → Labels code sides result floor labels pc ks → (item : Item) × Is code sides pc (offset_of labels) item
-labels_at code sides result floor [] pc ks h = absurd h
-labels_at code sides result floor (l ∷ ls) pc ks h = stands_at code sides result floor l.nodes l ls pc ks h.0 h.1
 
 -- ---- the index of a function
 

@@ -12,6 +12,7 @@ ghost use Rattle.wasm_machine.specs.Entries.{entry_fault};
 ghost use Rattle.wasm_machine.specs.Answers.{fault_in};
 ghost use Rattle.machine_hosted.specs.Courses.{Course};
 ghost use Rattle.wasm_machine.specs.Instances.{Begins, IsOf, IsSpent, StandsAt, Invoked, Resumed, Stopped, StoppedBy, copied, last_of};
+ghost use Rattle.wasm_machine.specs.Watching.{Seen};
 ghost use Rattle.wasm_machine.specs.declared.invocation.LastInvocation.{LastInvocation as Kept};
 
 use crate::entries::callee;
@@ -22,10 +23,10 @@ use host_devices::HostSide;
 use linear_memory::Memory;
 use machine_basics::Stack;
 use machine_frames::CallStack;
-use machine_hosted::{RunEnd, Runner, resume_invocation, run_invocation};
+use machine_hosted::{RunEnd, Runner, resume_invocation, watch_invocation};
 use machine_prepared::prepare;
 use machine_start::{StartFault, Started, start};
-use machine_steps::{Machine, Prepared};
+use machine_steps::{Machine, Prepared, Unwatched, Watch};
 use std::alloc::Global;
 use std::marker::Model;
 use std::rc::Rc;
@@ -140,21 +141,52 @@ impl<'a> Instance<'a> {
         ensures prepared { self.new.prepared ≡ self.old.prepared }
         ensures host { HostKept H.origin H.collecting H.serving H.fault_count hosts.old hosts.new }
     {
+        self.invoke_watched(entry, args, depth, fuel, hosts, &mut Unwatched {})
+    }
+
+    /// The same, and a watch sees each step: that of the start function and of the entry, the one that traps, and calls of imports. Where memory
+    /// was wanting it saw some number of steps. It sees nothing where nothing is run.
+    pub fn invoke_watched<H: HostSide, W: Watch>(
+        &mut self,
+        entry: &str,
+        args: &[Value],
+        depth: u32,
+        fuel: u64,
+        hosts: &mut H,
+        watch: &mut W,
+    ) -> RunAnswer
+        requires ready { self.old.ready ≡ true }
+        requires knows { Knows (H.origin hosts.old) self.old.module_ }
+        requires steps { self.old.steps + fuel < 2 ^ 64 }
+        ensures refused { fault_in result ≡ entry_fault (H.serving hosts.old) self.old.module_ entry.now args.now }
+        ensures unchanged { OnErr result ((self.new ≡ self.old) × (hosts.new ≡ hosts.old)) }
+        ensures came { IfOk result (λ end. (f : ℕ) × (function_export self.old.module_ entry.now ≡ Some f) × ((p : Program) → IsOf self.old p → Invoked p (H.collecting hosts.old) depth (H.used_up hosts.new) f args.now fuel self.old self.new end (H.calls hosts.old) (H.calls hosts.new)) × (self.new.last ≡ last_of f args.now depth (H.collecting hosts.old) end)) }
+        ensures cause { IfOk result (λ end. HasCause end (H.fault_count hosts.old) (H.fault_count hosts.new)) }
+        ensures spent { IfOk result (λ end. end ≡ RunEnd.FuelSpent → IsSpent self.new depth (H.collecting hosts.new)) }
+        ensures serves { OnOk result (HostServes (H.origin hosts.new) (H.serving hosts.new) self.old.module_) }
+        ensures due { OnOk result (self.new.due ≡ None) }
+        ensures module_ { self.new.module_ ≡ self.old.module_ }
+        ensures prepared { self.new.prepared ≡ self.old.prepared }
+        ensures host { HostKept H.origin H.collecting H.serving H.fault_count hosts.old hosts.new }
+        ensures unseen { OnErr result (watch.new ≡ watch.old) }
+        ensures watched { IfOk result (λ end. (f : ℕ) × (function_export self.old.module_ entry.now ≡ Some f) × ((p : Program) → IsOf self.old p → Seen W.Saw p (H.collecting hosts.old) depth f args.now fuel self.old self.new end watch.old watch.new (H.calls hosts.old) (H.calls hosts.new))) }
+    {
         match callee(self.source, entry, args, hosts) {
-            Ok(function) => Ok(self.call(function, args, depth, fuel, hosts)),
+            Ok(function) => Ok(self.call(function, args, depth, fuel, hosts, watch)),
             Err(fault) => Err(fault),
         }
     }
 
     /// Runs the start function, where it was not run yet, and then the function of this index on its arguments. Both are there, and all imports
-    /// are served.
-    fn call<H: HostSide>(
+    /// are served. The watch sees each step.
+    fn call<H: HostSide, W: Watch>(
         &mut self,
         function: u32,
         args: &[Value],
         depth: u32,
         fuel: u64,
         hosts: &mut H,
+        watch: &mut W,
     ) -> RunEnd
         requires ready { self.old.ready ≡ true }
         requires takes { Takes self.old.module_ function args.now }
@@ -169,6 +201,7 @@ impl<'a> Instance<'a> {
         ensures module_ { self.new.module_ ≡ self.old.module_ }
         ensures prepared { self.new.prepared ≡ self.old.prepared }
         ensures host { HostKept H.origin H.collecting H.serving H.fault_count hosts.old hosts.new }
+        ensures watched { (p : Program) → IsOf self.old p → Seen W.Saw p (H.collecting hosts.old) depth function args.now fuel self.old self.new result watch.old watch.new (H.calls hosts.old) (H.calls hosts.new) }
     {
         let start = self.due;
         self.due = None;
@@ -188,7 +221,7 @@ impl<'a> Instance<'a> {
             depth: depth as usize,
         };
         let machine = &mut self.machine;
-        let run = run_invocation(&runner, machine, start, function, args, fuel, hosts);
+        let run = watch_invocation(&runner, machine, start, function, args, fuel, hosts, watch);
         self.ready = run.ready;
         self.entered = run.entered;
         self.steps += run.steps;

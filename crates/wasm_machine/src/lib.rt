@@ -13,3 +13,4 @@ pub use instance::Instance;
 pub use invocation::{End, LastInvocation, RunAnswer};
 pub use machine_hosted::RunEnd;
 pub use machine_start::StartFault;
+pub use machine_steps::{Position, Unwatched, Watch};

@@ -3,7 +3,7 @@ use Rattle.machine_hosted.specs.Settings.{Takes, ServesAll}
 use Rattle.wasm_machine.specs.Instances.{State}
 use Rattle.machine_hosted.proofs.HostLaws.{kept_same}
 use Rattle.wasm_machine.proofs.EntryLaws.{without_fault}
-use Rattle.wasm_machine.proofs.instance.Instance.invoke.Goals as goal
+use Rattle.wasm_machine.proofs.instance.Instance.invoke_watched.Goals as goal
 
 pub call-requires-clause-takes : goal.call-requires-clause-takes
 call-requires-clause-takes g c =
