@@ -6,3 +6,4 @@ pub mod TurnLaws
 pub mod PlaceLaws
 pub mod MadeLaws
 pub mod WatchLaws
+pub mod TallyLaws

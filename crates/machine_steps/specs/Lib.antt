@@ -2,4 +2,5 @@ pub mod Prepares
 pub mod Meets
 pub mod Places
 pub mod Watches
+pub mod Tallies
 pub mod inner

@@ -2,3 +2,4 @@
 pub mod Entries
 pub mod Runs
 pub mod Watched
+pub mod Cells

@@ -5,9 +5,11 @@ mod indirect;
 mod machine;
 mod runs;
 mod steps;
+mod tally;
 mod watch;
 
 pub use machine::{ImportCall, Machine, Outcome, Prepared};
 pub use runs::{Ended, run, run_watched};
 pub use steps::step;
+pub use tally::Tally;
 pub use watch::{Position, Unwatched, Watch};
