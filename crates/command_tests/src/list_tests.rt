@@ -144,8 +144,8 @@ const OTHERS: [List; 19] = [
     ("-h", "usage"),
     ("help", "usage"),
     ("selftest", "usage"),
-    ("selftest 1", "usage"),
-    ("selftest 900", "usage"),
+    ("selftest 1", "selftest"),
+    ("selftest 900", "selftest"),
     ("replay m l f", "usage"),
     ("cover m f", "usage"),
     ("checks m", "usage"),
@@ -369,6 +369,7 @@ fn command_of(alloc: Global, words: &[String]) -> &'static str {
         Ok(Command::Instrument { .. }) => "instrument",
         Ok(Command::Show { .. }) => "show",
         Ok(Command::Debug(_)) => "debug",
+        Ok(Command::Selftest { .. }) => "selftest",
         Err(WordsFault::Usage) => "usage",
         Err(WordsFault::NoMemory) => "no memory",
     }

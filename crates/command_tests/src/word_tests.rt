@@ -106,3 +106,46 @@ fn reads_rewritings(rt: HostRuntime) -> Result<(), Fail> {
     }
     Ok(())
 }
+
+/// Words, and the number of functions that they ask for, or nothing where they are no command.
+const SELF_TESTS: [(&str, Option<u32>); 20] = [
+    ("selftest 1", Some(1)),
+    ("selftest 900", Some(900)),
+    ("selftest 003", Some(3)),
+    ("selftest 00000000000000000003", Some(3)),
+    ("selftest -- 3", Some(3)),
+    ("selftest 3 --", Some(3)),
+    ("selftest", None),
+    ("selftest ", None),
+    ("selftest 0", None),
+    ("selftest 901", None),
+    ("selftest 000000000000000000003", None),
+    ("selftest 4294967299", None),
+    ("selftest +3", None),
+    ("selftest -3", None),
+    ("selftest -- -3", None),
+    ("selftest 3a", None),
+    ("selftest 0x3", None),
+    ("selftest 3 4", None),
+    ("selftest 3 --fuel=1", None),
+    ("Selftest 3", None),
+];
+
+/// Whether words ask for a self-test of so many functions, or are no command.
+fn asks_for(alloc: Global, line: &str, wanted: Option<u32>) -> bool {
+    let Ok(words) = words_of(alloc, line) else {
+        return false;
+    };
+    match parse_words(alloc, words.as_slice()) {
+        Ok(Command::Selftest { count }) => wanted == Some(count),
+        Err(WordsFault::Usage) => wanted.is_none(),
+        _ => false,
+    }
+}
+
+#[test]
+fn reads_self_tests(rt: HostRuntime) {
+    for (line, wanted) in SELF_TESTS {
+        assert!(rt; asks_for(rt.alloc(), line, wanted), "{line}");
+    }
+}
