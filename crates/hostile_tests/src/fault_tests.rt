@@ -158,6 +158,20 @@ const DEBUGGED: [Row; 2] = [
     },
 ];
 
+const TESTED: [Row; 1] = [Row {
+    source: &DIVISION,
+    replies: "",
+    before: &[],
+    line: "selftest;3",
+    status: 0,
+    calls: &[
+        ("selftest.wasm", Act::Create),
+        ("selftest.wasm", WHOLE),
+        ("selftest.inst.wasm", Act::Create),
+        ("selftest.inst.wasm", WHOLE),
+    ],
+}];
+
 /// The length of a file that was not there, behind these calls, of which the last one fails behind a part of its piece; nothing where it is not made.
 fn length_left(calls: &[Call], part: usize, name: &str) -> Option<usize> {
     let mut length = None;
@@ -377,6 +391,14 @@ fn faults_with_a_memory(rt: HostRuntime) -> Result<(), Fail> {
 #[test]
 fn faults_of_a_debugger(rt: HostRuntime) -> Result<(), Fail> {
     for row in &DEBUGGED {
+        assert!(rt; holds(rt.alloc(), row)?, "{}", row.line);
+    }
+    Ok(())
+}
+
+#[test]
+fn faults_of_a_self_test(rt: HostRuntime) -> Result<(), Fail> {
+    for row in &TESTED {
         assert!(rt; holds(rt.alloc(), row)?, "{}", row.line);
     }
     Ok(())
