@@ -12,7 +12,7 @@ use wasm_syntax::{FuncType, HostCall, Import, Value};
 use wasm_validate::{Validated, validate};
 
 /// One function, exported as `f`, with an i32 parameter. It ends at once on 0, and never on another value.
-const ROUND: [u8; 39] = [
+pub(crate) const ROUND: [u8; 39] = [
     0x00, 0x61, 0x73, 0x6d, 0x01, 0x00, 0x00, 0x00, 0x01, 0x05, 0x01, 0x60, 0x01, 0x7f, 0x00, 0x03,
     0x02, 0x01, 0x00, 0x07, 0x05, 0x01, 0x01, 0x66, 0x00, 0x00, 0x0a, 0x0b, 0x01, 0x09, 0x00, 0x03,
     0x40, 0x20, 0x00, 0x0d, 0x00, 0x0b, 0x0b,
@@ -27,8 +27,8 @@ const SETTER: [u8; 44] = [
 
 /// A host side without replies for these imports.
 #[derive(Drop)]
-struct Silent<'a> {
-    imports: &'a [Import],
+pub(crate) struct Silent<'a> {
+    pub(crate) imports: &'a [Import],
 }
 
 impl<'a> HostSide for Silent<'a> {
@@ -57,7 +57,7 @@ impl<'a> HostSide for Silent<'a> {
     }
 }
 
-fn valid(alloc: Global, bytes: &[u8]) -> Option<Validated> {
+pub(crate) fn valid(alloc: Global, bytes: &[u8]) -> Option<Validated> {
     match decode(alloc, bytes) {
         Ok(m) => validate(alloc, m).ok(),
         Err(_) => None,

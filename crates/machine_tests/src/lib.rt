@@ -7,6 +7,10 @@ mod basic_tests;
 #[cfg(test)]
 mod instance_tests;
 #[cfg(test)]
+mod resume_tests;
+#[cfg(test)]
 mod script_tests;
 #[cfg(test)]
 mod tests;
+#[cfg(test)]
+mod watch_tests;
