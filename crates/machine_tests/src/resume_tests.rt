@@ -155,8 +155,8 @@ fn run_parts(
     }
 }
 
-/// Invokes a function of a new instance for so many steps, and goes on with a copy for so many more. The copy, where the steps of the first
-/// part were used up.
+/// Invokes a function of a new instance for so many steps, and goes on for so many more. A copy that was made between the two parts, where
+/// the steps of the first part were used up.
 fn run_copy<'a>(
     alloc: Global,
     instance: &mut Instance<'a>,
@@ -174,8 +174,8 @@ fn run_copy<'a>(
     let mut hosts = ScriptHosts::new(alloc, imports, replies, 0);
     match instance.invoke(case.entry, case.args, 8, u64::from(first), &mut hosts) {
         Ok(RunEnd::FuelSpent) => {
-            let mut copy = instance.copy_of().ok()?;
-            go_on(alloc, &mut copy, imports, replies, hosts.next(), more);
+            let copy = instance.copy_of().ok()?;
+            go_on(alloc, instance, imports, replies, hosts.next(), more);
             Some(copy)
         }
         _ => None,
@@ -210,7 +210,7 @@ fn parts_agree(alloc: Global, case: Case<'_>, total: u32) -> bool {
     whole.is_some()
 }
 
-/// What an instance shows and its copy, where the copy alone goes on, and how many steps each has made itself.
+/// What an instance shows that goes on and its copy, which stays, and how many steps each has made itself.
 fn shown_copied(alloc: Global, case: Case<'_>, fuel: [u32; 2]) -> Option<[(Picture, u64); 2]> {
     let source = valid(alloc, case.module)?;
     let script = script(alloc).ok()?;
@@ -346,21 +346,29 @@ fn an_import_is_called_when_it_goes_on(rt: HostRuntime) {
     );
 }
 
-/// Whether the original stands at its step, and the copy where the whole run would be.
+fn is_shown(picture: Picture, wanted: Option<Picture>) -> bool {
+    wanted == Some(picture)
+}
+
+/// Whether the original stands where the whole run does, and the copy where it was made.
 fn is_apart(alloc: Global, case: Case<'_>, fuel: [u32; 2]) -> bool {
     let [first, more] = fuel;
+    let Some(all) = first.checked_add(more) else {
+        return false;
+    };
     let stopped = shown_of(alloc, case, [first, 0]);
-    let whole = shown_of(alloc, case, [first + more, 0]);
-    match (shown_copied(alloc, case, fuel), stopped, whole) {
-        (Some([original, copy]), Some(stopped), Some(whole)) => {
-            original == (stopped, u64::from(first)) && copy == (whole, u64::from(more))
-        }
-        _ => false,
-    }
+    let whole = shown_of(alloc, case, [all, 0]);
+    let Some(pair) = shown_copied(alloc, case, fuel) else {
+        return false;
+    };
+    let [original, copy] = pair;
+    let (went, made) = original;
+    let (stayed, made_none) = copy;
+    made == u64::from(all) && made_none == 0 && is_shown(went, whole) && is_shown(stayed, stopped)
 }
 
 #[test]
-fn a_copy_goes_on_by_itself(rt: HostRuntime) {
+fn a_copy_stays_where_it_was_made(rt: HostRuntime) {
     assert!(rt; is_apart(rt.alloc(), reading(), [1, 2]));
     assert!(rt; is_apart(rt.alloc(), started(), [5, 3]));
 }
