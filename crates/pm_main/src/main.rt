@@ -11,12 +11,13 @@ use std::{env, io};
 
 /// The program's words without its name. Arguments that are no text are outside the rules of words, as no words are.
 fn words(rt: &HostRuntime) -> Result<Vec<String>, NoMemory> {
-    let Ok(args) = env::args(rt) else {
-        return Ok(Vec::new(rt.alloc()));
-    };
-    match args.skip(1).collect(rt.alloc()) {
-        Ok(words) => Ok(words),
-        Err(_) => Err(NoMemory),
+    match env::args(rt) {
+        Ok(args) => match args.skip(1).collect(rt.alloc()) {
+            Ok(words) => Ok(words),
+            Err(_) => Err(NoMemory),
+        },
+        Err(error) if error.kind() == io::ErrorKind::OutOfMemory => Err(NoMemory),
+        Err(_) => Ok(Vec::new(rt.alloc())),
     }
 }
 
