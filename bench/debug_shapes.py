@@ -84,22 +84,22 @@ class Entries:
         return unit(bytes(self.bytes) + b"\0\0")
 
 
-def program(info, sections=(), abbreviations=ABBREVIATIONS, customs=()):
+def program(info, sections=(), abbreviations=ABBREVIATIONS, customs=(), code=CODE):
     """The module with these sections of debugging information."""
-    plain = [(1, [b"\x60\0\0"]), (3, [b"\0"]), (5, [b"\0\1"]), (7, [name(b"f") + b"\0\0"]), (10, [name(CODE)])]
+    plain = [(1, [b"\x60\0\0"]), (3, [b"\0"]), (5, [b"\0\1"]), (7, [name(b"f") + b"\0\0"]), (10, [name(code)])]
     told = [(b".debug_abbrev", abbreviations), (b".debug_info", info), *sections]
     parts = [section(number, vector(items)) for number, items in plain]
     return HEADER + b"".join(parts + [custom(title, contents) for title, contents in told] + list(customs))
 
 
-def stopped(count=1):
-    """A dump of the trap under so many frames."""
+def stopped(calls):
+    """A dump of the trap under frames that call at these offsets."""
     memory = section(5, vector([b"\0\1"]))
-    return dump(b"d", [0], [], [frame(0, 5, [], [])] + [frame(0, 7, [], [])] * (count - 1)) + memory
+    return dump(b"d", [0], [], [frame(0, 5, [], [])] + [frame(0, at, [], []) for at in calls]) + memory
 
 
-def debugged(info, *commands, count=1, **rest):
-    return {"m": program(info, **rest), "d": stopped(count)}, ["debug", "m", "d", *commands]
+def debugged(info, *commands, count=1, calls=None, **rest):
+    return {"m": program(info, **rest), "d": stopped(calls or [7] * (count - 1))}, ["debug", "m", "d", *commands]
 
 
 def typed(make):
@@ -212,18 +212,23 @@ def units_in_turn(n):
     return debugged(b"".join(pair) * (n // 2), "bt", abbreviations=table + table)
 
 
-def functions(n, count=1):
+def functions(n, **rest):
     """Functions in front of the one that holds the addresses of the frames."""
     entries = Entries()
     for i in range(n):
         entries.add("function", b"f%d\0" % i + NONE)
         entries.close()
     entries.function()
-    return debugged(entries.done(), "bt", count=count)
+    return debugged(entries.done(), "bt", **rest)
 
 
 def functions_and_frames(n):
-    return functions(n, n)
+    return functions(n, count=n)
+
+
+def functions_and_addresses(n):
+    """Frames of as many calls as there are functions."""
+    return functions(n, calls=[7 + 2 * i for i in range(n)], code=CODE[:-3] + b"\x10\0" * n + b"\x0b")
 
 
 def strings(n):
@@ -318,8 +323,7 @@ def commands(n):
     return debugged(b"", *["x 0 1"] * n)
 
 
-# Those with a 2 take time by the product of two counts: of frames and functions, of blocks and the entries in each, of units and the abbreviations that
-# each has read anew, of names and the bytes of the string that they share, of blocks and the ranges that they share.
+# Those with a 2 take time by the product of two counts: of different addresses and functions, of names and the bytes of the string that they share.
 SHAPES = [
     ("debug: a cycle of typedefs", typed(cycle), 200_000, 800_000),
     ("debug: an array of many subranges", typed(subranges), 200_000, 800_000),
@@ -328,15 +332,16 @@ SHAPES = [
     ("debug: an enumeration of many values", typed(enumerators), 200_000, 800_000),
     ("debug: many variables", variables, 50_000, 200_000),
     ("debug: many variables of one enumeration", enumerated_variables, 2_000, 8_000),
-    ("debug: nested blocks", blocks, 5_000, 20_000, 2),
+    ("debug: nested blocks", blocks, 5_000, 20_000),
     ("debug: nested inlined subroutines", inlined, 20_000, 80_000),
     ("debug: many units of one table of abbreviations", units, 20_000, 80_000),
-    ("debug: units of two tables of abbreviations in turn", units_in_turn, 1_000, 4_000, 2),
+    ("debug: units of two tables of abbreviations in turn", units_in_turn, 1_000, 4_000),
     ("debug: many functions", functions, 100_000, 400_000),
-    ("debug: many frames over many functions", functions_and_frames, 2_000, 8_000, 2),
+    ("debug: many frames over many functions", functions_and_frames, 2_000, 8_000),
+    ("debug: many addresses over many functions", functions_and_addresses, 2_000, 8_000, 2),
     ("debug: many names in one string", strings, 2_000, 8_000, 2),
     ("debug: a long location list", listed, 100_000, 400_000),
-    ("debug: many blocks of one list of ranges", ranged, 2_000, 8_000, 2),
+    ("debug: many blocks of one list of ranges", ranged, 2_000, 8_000),
     ("debug: a cycle of specifications", specified, 10_000, 40_000),
     ("debug: many rows", rows, 200_000, 800_000),
     ("debug: many sequences", sequences, 50_000, 200_000),

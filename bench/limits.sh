@@ -65,7 +65,7 @@ shown() {
 }
 
 echo 'the program without words'
-measured 'no words' 2 'usage: check, run, instrument, show, debug or selftest'
+measured 'no words' 2 'usage: check, run, instrument, show, debug, selftest, replay or cover'
 printf '10,000 frames: %s KiB of values and %s KiB of records\n' $((10000 * 10 * 16 / 1024)) $((10000 * 40 / 1024))
 measured 'depth of 10,000' 1 'trap 1 unreachable' run "$work/depth.wasm" f i32:9999 --depth 10000 --dump "$work/core"
 shown 'dump "module" frames 10000'

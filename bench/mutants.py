@@ -27,7 +27,7 @@ COMMANDS = ["bt", "vars", "globals", "locals", "operands", "frame 1", "vars", "l
 
 # The texts of each status, but for 0 and 1.
 REFUSALS = {
-    2: r"usage: check, run, instrument, show, debug or selftest",
+    2: r"usage: check, run, instrument, show, debug, selftest, replay or cover",
     3: r'no file: ".*"',
     4: r'file fault: ".*"',
     5: r"malformed module at \d+",

@@ -60,7 +60,7 @@ long=$(printf '%0300d' 0)
 ends 4 "file fault: \"$long\"" check "$long"
 ends 3 'no file: "a\0ab"' check 'a
 b'
-ends 2 'usage: check, run, instrument, show, debug or selftest' check "$(printf 'a\377')"
+ends 2 'usage: check, run, instrument, show, debug, selftest, replay or cover' check "$(printf 'a\377')"
 
 echo 'folders'
 mkdir folder

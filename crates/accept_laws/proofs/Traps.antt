@@ -20,7 +20,7 @@ use Rattle.match_laws.proofs.TrapRuns.{traps_match}
 use Rattle.accept_laws.specs.Ranges.{InRanges}
 use Rattle.accept_laws.specs.Accepted.{TrapAccepted, TrapsAccepted, IsAcceptedIfFew}
 use Rattle.match_laws.proofs.RunStates.{LastHas}
-use Rattle.accept_laws.proofs.Few.{Few, run_few}
+use Rattle.match_laws.proofs.Few.{Few, run_few}
 use Rattle.accept_laws.proofs.Accepting.{accepted}
 
 count_images : (fs : List Frame) → length (frame_images fs) ≡ length fs

@@ -1,11 +1,17 @@
-//! The commands `instrument`, `run --collect` and `selftest`, tested over files in memory. The tests stand apart from `pm_cli`, so that it is not proved a
-//! second time with them.
+//! The commands `instrument`, `run --collect`, `selftest`, `replay` and `cover`, tested over files in memory. The tests stand apart from `pm_cli`, so that
+//! it is not proved a second time with them.
 #![tactic(auto)]
 
 #[cfg(test)]
 mod collected_tests;
 #[cfg(test)]
+mod cover_tests;
+#[cfg(test)]
 mod handed_tests;
+#[cfg(test)]
+mod recorded_tests;
+#[cfg(test)]
+mod replay_tests;
 #[cfg(test)]
 mod selftest_tests;
 #[cfg(test)]

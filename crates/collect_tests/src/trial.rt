@@ -18,6 +18,16 @@ fn words_of(alloc: Global, pieces: [&str; 2]) -> Result<Vec<String>, AllocError>
     Ok(words)
 }
 
+/// The words of a line, and behind them a last one.
+fn words_and(alloc: Global, line: &str, last: &str) -> Result<Vec<String>, AllocError> {
+    let mut words = Vec::new(alloc);
+    for word in line.split(' ') {
+        words.push(String::from_str(alloc, word)?)?;
+    }
+    words.push(String::from_str(alloc, last)?)?;
+    Ok(words)
+}
+
 /// The status of a command without devices.
 fn status(alloc: Global, words: &[String], files: &mut MemFiles, out: &mut MemSink) -> u8 {
     let mut devices = DeviceSet::new(alloc);
@@ -46,6 +56,21 @@ fn gets(
 /// Whether the words of a line get this status and text.
 pub fn answers(alloc: Global, pieces: [&str; 2], files: &mut MemFiles, wanted: (u8, &str)) -> bool {
     gets(alloc, pieces, files, wanted, true)
+}
+
+/// Whether the words of a line, and behind them a last one, get this status and text.
+pub fn answers_with(
+    alloc: Global,
+    line: &str,
+    last: &str,
+    files: &mut MemFiles,
+    wanted: (u8, &str),
+) -> bool {
+    let Ok(words) = words_and(alloc, line, last) else {
+        return false;
+    };
+    let mut out = MemSink::new(alloc, Vec::new(alloc));
+    status(alloc, &words, files, &mut out) == wanted.0 && out.bytes() == wanted.1.as_bytes()
 }
 
 /// Whether the words of a line get status 0, and a text that begins so.

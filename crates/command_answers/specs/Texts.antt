@@ -12,7 +12,7 @@ abbrev pub ended : Status → List ℕ → Outcome
 ended s text = record { status = s; text = text }
 
 abbrev pub usage : Outcome
-usage = ended status.Usage (codes "usage: check, run, instrument, show, debug or selftest\n")
+usage = ended status.Usage (codes "usage: check, run, instrument, show, debug, selftest, replay or cover\n")
 
 -- a line that ends with the name of a file
 abbrev pub file_line : List ℕ → List ℕ → List ℕ

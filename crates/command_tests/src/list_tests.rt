@@ -1,4 +1,4 @@
-//! 300 lists of words for all commands, with the command that the rules of words read of each: repeated options, options with values of
+//! 354 lists of words for all commands, with the command that the rules of words read of each: repeated options, options with values of
 //! either form, values outside their bounds, `--`, `-`, `--help`, arguments of `run`. A second reading of the rules gave the answers.
 
 use command_words::WordsFault;
@@ -146,8 +146,8 @@ const OTHERS: [List; 19] = [
     ("selftest", "usage"),
     ("selftest 1", "selftest"),
     ("selftest 900", "selftest"),
-    ("replay m l f", "usage"),
-    ("cover m f", "usage"),
+    ("replay m l f", "replay"),
+    ("cover m f", "cover"),
     ("checks m", "usage"),
     (" check m", "usage"),
     ("runs m f", "usage"),
@@ -351,6 +351,66 @@ const ENDINGS: [List; 30] = [
     ),
 ];
 
+const REPLAYS: [List; 27] = [
+    ("replay m l f", "replay"),
+    ("replay m l", "usage"),
+    ("replay", "usage"),
+    ("replay m l f i32:1 i64:-2", "replay"),
+    ("replay m l f i32", "usage"),
+    ("replay m l f + g", "usage"),
+    ("replay m l +", "replay"),
+    ("replay + + +", "replay"),
+    ("replay m l f +", "usage"),
+    ("replay -- m l f", "replay"),
+    ("replay m -- -l -f", "replay"),
+    ("replay m l f -- --every=1", "usage"),
+    ("replay - - -", "replay"),
+    ("replay m l f --every=1", "replay"),
+    ("replay m l f --every=0", "usage"),
+    ("replay m l f --every=1000000", "replay"),
+    ("replay m l f --every=1000001", "usage"),
+    ("replay m l f --every 5 --every=5", "usage"),
+    ("replay m l f --every", "usage"),
+    ("replay m l f --every=-1", "usage"),
+    ("replay m l f --every=1e3", "usage"),
+    ("replay m l f --do=bt", "replay"),
+    ("replay m l f --do", "usage"),
+    ("replay m l f --do=", "replay"),
+    ("replay --do goto m l f", "replay"),
+    ("replay m l f --do -x", "usage"),
+    ("replay m l f --do=-x", "replay"),
+];
+
+const COVERS: [List; 27] = [
+    ("cover m f", "cover"),
+    ("cover m", "usage"),
+    ("cover", "usage"),
+    ("cover m f i32:1 i64:-2", "cover"),
+    ("cover m f i32", "usage"),
+    ("cover m f + g", "usage"),
+    ("cover m +", "cover"),
+    ("cover + +", "cover"),
+    ("cover m f +", "usage"),
+    ("cover -- m f", "cover"),
+    ("cover m -- -f", "cover"),
+    ("cover -- -m -f", "cover"),
+    ("cover - -", "cover"),
+    ("cover m f -- --fuel=1", "usage"),
+    ("cover m f --replies=r", "cover"),
+    ("cover m f --replies r", "cover"),
+    ("cover m f --replies", "usage"),
+    ("cover m f --replies r --replies=r", "usage"),
+    ("cover m f --replies=", "cover"),
+    ("cover m f --replies -", "cover"),
+    ("cover --replies r m f", "cover"),
+    ("cover m f --replies --fuel=1", "usage"),
+    ("cover --fuel 9 m f", "cover"),
+    ("cover m f --fuel=0", "cover"),
+    ("cover m f --fuel=1000000000000", "cover"),
+    ("cover m f --fuel=1000000000001", "usage"),
+    ("cover m f --fuel=x", "usage"),
+];
+
 fn words_of(alloc: Global, line: &str) -> Result<Vec<String>, AllocError> {
     let mut words = Vec::new(alloc);
     if line.is_empty() {
@@ -370,6 +430,8 @@ fn command_of(alloc: Global, words: &[String]) -> &'static str {
         Ok(Command::Show { .. }) => "show",
         Ok(Command::Debug(_)) => "debug",
         Ok(Command::Selftest { .. }) => "selftest",
+        Ok(Command::Replay(_)) => "replay",
+        Ok(Command::Cover(_)) => "cover",
         Err(WordsFault::Usage) => "usage",
         Err(WordsFault::NoMemory) => "no memory",
     }
@@ -443,5 +505,17 @@ fn mixed_words_of_run(rt: HostRuntime) -> Result<(), Fail> {
 #[test]
 fn more_words_of_run(rt: HostRuntime) -> Result<(), Fail> {
     assert_eq!(rt; first_wrong(rt.alloc(), &ENDINGS)?, 30);
+    Ok(())
+}
+
+#[test]
+fn words_of_replay(rt: HostRuntime) -> Result<(), Fail> {
+    assert_eq!(rt; first_wrong(rt.alloc(), &REPLAYS)?, 27);
+    Ok(())
+}
+
+#[test]
+fn words_of_cover(rt: HostRuntime) -> Result<(), Fail> {
+    assert_eq!(rt; first_wrong(rt.alloc(), &COVERS)?, 27);
     Ok(())
 }

@@ -36,6 +36,7 @@ fn options_have_defaults(rt: HostRuntime) -> Result<(), Fail> {
         [Value::I32(7), Value::I32(0)].as_slice()
     );
     assert!(rt; words.replies.is_none());
+    assert!(rt; words.log_to.is_none());
     assert_eq!(rt; words.fuel, 100_000_000);
     assert_eq!(rt; words.depth, 1_000);
     assert_eq!(rt; words.dump.as_str(), "core.wasm");
@@ -129,6 +130,19 @@ fn options_have_bounds(rt: HostRuntime) {
         ("m f --help", false),
         ("m f -1", false),
         ("m f -- -1", false),
+        ("--record log m f", true),
+        ("--record log --record log m f", false),
+        ("--record core.wasm m f", false),
+        ("--record core.wasm.0 m f", false),
+        ("--record core.wasm.12 m f", false),
+        ("--record core.wasm. m f", true),
+        ("--record core.wasm.1x m f", true),
+        ("--record core.wasm2 m f", true),
+        ("--record core m f", true),
+        ("--dump d --record core.wasm m f", true),
+        ("--dump d m f --record=d.3", false),
+        ("--dump= --record= m f", false),
+        ("--dump= --record=.7 m f", false),
     ];
     for (line, taken) in rows {
         assert_eq!(rt; read(rt.alloc(), line).is_ok(), taken, "{line}");

@@ -7,7 +7,7 @@ use std::alloc::Global;
 use std::process::Abort;
 use std::test::Fail;
 
-pub const USAGE: &str = "usage: check, run, instrument, show, debug or selftest\n";
+pub const USAGE: &str = "usage: check, run, instrument, show, debug, selftest, replay or cover\n";
 
 /// The status and the text that the words get, where a file named `d` holds these pieces and these calls on files and
 /// on the output fail.

@@ -66,7 +66,7 @@ one_of_frame s i None a b x y = x ∙ sym y
 
 -- ---- what commands print
 
-one_printed : (s : Subject) (i : ℕ) (given : List ℕ) (c : Command) (a b : List ℕ) → Prints s i given c a → Prints s i given c b → a ≡ b
+pub one_printed : (s : Subject) (i : ℕ) (given : List ℕ) (c : Command) (a b : List ℕ) → Prints s i given c a → Prints s i given c b → a ≡ b
 one_printed s i given commands.Backtrace a b x y = x ∙ sym y
 one_printed s i given (commands.Frame n) a b x y = x ∙ sym y
 one_printed s i given commands.Locals a b x y = x ∙ sym y

@@ -4,3 +4,4 @@ pub mod Files
 pub mod Information
 pub mod Frames
 pub mod Unreadable
+pub mod inner

@@ -1,5 +1,5 @@
 -- The line programs that units name (DWARF 4 and 5, 3.1.1 and 6.2), and the row of an address among them.
-use Rattle.std.specs.Prelude.{ℕ, List, [], ◌∷◌, ◌++◌, fold, Option, Some, None, option_map, is_some, nat_eq, if◌then◌else◌}
+use Rattle.std.specs.Prelude.{ℕ, List, [], ◌∷◌, ◌++◌, fold, flat_map, Option, Some, None, option_map, is_some, nat_eq, if◌then◌else◌}
 use Rattle.std.specs.Option.{option_or}
 use Rattle.std.specs.Map.{lookup}
 use Rattle.dwarf_info.specs.declared.entry.Entry.{Entry}
@@ -44,6 +44,16 @@ with_program s programs (Some at) = if is_some (program_at programs at) then pro
 -- those that the units name, each where it is named first
 unfoldable pub programs_of : SectionBytes5 → List UnitAnswer → List (ℕ × Program)
 programs_of s units = fold (λ programs u. with_program s programs (named u)) [] units
+
+-- ---- those that could be read
+
+abbrev pub read_in : Program → List Lines
+read_in (Read lines) = lines ∷ []
+read_in Unreadable = []
+
+-- in the order in which units name them
+abbrev pub readable : List (ℕ × Program) → List Lines
+readable programs = flat_map (λ p. read_in p.1) programs
 
 -- ---- rows
 

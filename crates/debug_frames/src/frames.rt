@@ -1,16 +1,19 @@
 //! The lines that show a frame.
 
 ghost use Rattle.std.specs.Prelude.{◌≡◌, ◌++◌, List, ℕ, None, OnOk, option_copied};
+ghost use Rattle.std.specs.Option.{option_or};
+ghost use Rattle.wasm_decode.specs.Names.{name_of as function_name};
 ghost use Rattle.debug_frames.specs.Frames as definitions;
+ghost use Rattle.debug_frames.specs.inner.Resolving.{resolved_at};
 
 use crate::address::address_of;
 use crate::information::Information;
 use crate::places::push_place_behind;
+use crate::symbolizer::{Resolved, Symbolizer};
 use causes::NoMemory;
 use command_answers::push_number;
 use dump_format::Frame;
 use dwarf_entries::{Standing, name_of};
-use dwarf_scopes::{inlined_at, subprogram_at};
 use pm_text::Text;
 use std::alloc::Global;
 use wasm_syntax::ModuleParts;
@@ -25,24 +28,16 @@ fn push_name(out: &mut Text, name: Option<&[u8]>) -> Result<(), NoMemory>
     }
 }
 
-/// The name of the subprogram at an address.
-fn name_within<'r, 'a>(information: &'r Information<'a>, address: u32) -> Option<&'a [u8]>
-    ensures { option_copied result ≡ definitions.name_within information.now.units
-        (definitions.subprogram_there information.now address) }
-{
-    let subprogram = subprogram_at(&information.sections, information.units.as_slice(), address)?;
-    name_of(&information.units, subprogram.entry().attributes.as_slice())
-}
-
-/// The name of the function that stands at an address.
+/// The name of the function that stands at an address, of which this is known.
 fn name_at<'r, 'a>(
     information: &'r Information<'a>,
-    address: u32,
+    resolved: &'r Resolved<'r, 'a>,
     function: u32,
 ) -> Option<&'r [u8]>
-    ensures { option_copied result ≡ definitions.name_at information.now address function }
+    ensures { option_copied result
+        ≡ option_or resolved.now.name (function_name information.now.names function) }
 {
-    if let Some(name) = name_within(information, address) {
+    if let Some(name) = resolved.name {
         return Some(name);
     }
     match information.names.get(function) {
@@ -55,13 +50,14 @@ fn name_at<'r, 'a>(
 fn push_function(
     out: &mut Text,
     information: &Information<'_>,
-    address: u32,
+    resolved: &Resolved<'_, '_>,
     frame: &Frame,
 ) -> Result<(), NoMemory>
+    requires { resolved.now ≡ resolved_at information.now resolved.now.address }
     ensures { OnOk result (out.new
-        ≡ out.old ++ definitions.function_text information.now address frame.now) }
+        ≡ out.old ++ definitions.function_text information.now resolved.now.address frame.now) }
 {
-    push_name(out, name_at(information, address, frame.function))?;
+    push_name(out, name_at(information, resolved, frame.function))?;
     push_number(out, " (function ", u64::from(frame.function))?;
     push_number(out, " offset ", u64::from(frame.offset))?;
     out.push_str(")")
@@ -95,17 +91,18 @@ fn push_inlined_line(
     alloc: Global,
     information: &Information<'_>,
     index: u64,
-    address: u32,
+    resolved: &Resolved<'_, '_>,
     before: Option<&Standing<'_, '_>>,
     standing: &Standing<'_, '_>,
 ) -> Result<(), NoMemory>
+    requires { resolved.now ≡ resolved_at information.now resolved.now.address }
     ensures { OnOk result (out.new ≡ out.old ++ definitions.line index
         (definitions.inlined_text information.now standing.now)
-        (definitions.place_behind information.now address (option_copied before.entry))) }
+        (definitions.place_behind information.now resolved.now.address (option_copied before.entry))) }
 {
     push_index(out, index)?;
     push_inlined(out, information, standing)?;
-    push_place_behind(out, alloc, information, address, before)?;
+    push_place_behind(out, alloc, information, resolved, before)?;
     out.push_str("\n")
 }
 
@@ -116,17 +113,18 @@ fn push_function_line(
     alloc: Global,
     information: &Information<'_>,
     index: u64,
-    address: u32,
+    resolved: &Resolved<'_, '_>,
     before: Option<&Standing<'_, '_>>,
     frame: &Frame,
 ) -> Result<(), NoMemory>
+    requires { resolved.now ≡ resolved_at information.now resolved.now.address }
     ensures { OnOk result (out.new ≡ out.old ++ definitions.line index
-        (definitions.function_text information.now address frame.now)
-        (definitions.place_behind information.now address (option_copied before.entry))) }
+        (definitions.function_text information.now resolved.now.address frame.now)
+        (definitions.place_behind information.now resolved.now.address (option_copied before.entry))) }
 {
     push_index(out, index)?;
-    push_function(out, information, address, frame)?;
-    push_place_behind(out, alloc, information, address, before)?;
+    push_function(out, information, resolved, frame)?;
+    push_place_behind(out, alloc, information, resolved, before)?;
     out.push_str("\n")
 }
 
@@ -136,19 +134,36 @@ fn push_lines(
     alloc: Global,
     information: &Information<'_>,
     index: u64,
-    address: u32,
+    resolved: &Resolved<'_, '_>,
     frame: &Frame,
-    inlined: &[Standing<'_, '_>],
 ) -> Result<(), NoMemory>
+    requires { resolved.now ≡ resolved_at information.now resolved.now.address }
     ensures { OnOk result (out.new ≡ out.old ++ definitions.lines_behind information.now index
-        address frame.now None inlined.now) }
+        resolved.now.address frame.now None resolved.now.inlined) }
 {
     let mut before = None;
-    for standing in inlined {
-        push_inlined_line(out, alloc, information, index, address, before, standing)?;
+    for standing in resolved.inlined.as_slice() {
+        push_inlined_line(out, alloc, information, index, resolved, before, standing)?;
         before = Some(standing);
     }
-    push_function_line(out, alloc, information, index, address, before, frame)
+    push_function_line(out, alloc, information, index, resolved, before, frame)
+}
+
+/// Adds the lines of a frame at an address, of which this is known.
+#[tactic(auto, unfolding(crate::specs::Frames::frame_text))]
+fn push_resolved(
+    out: &mut Text,
+    alloc: Global,
+    information: &Information<'_>,
+    index: u64,
+    resolved: &Resolved<'_, '_>,
+    frame: &Frame,
+) -> Result<(), NoMemory>
+    requires { resolved.now ≡ resolved_at information.now resolved.now.address }
+    ensures { OnOk result (out.new
+        ≡ out.old ++ definitions.lines_at information.now resolved.now.address index frame.now) }
+{
+    push_lines(out, alloc, information, index, resolved, frame)
 }
 
 /// Adds the lines of a frame by its index: one for each inlined subroutine that holds its address, the innermost first, and one for its
@@ -157,28 +172,21 @@ fn push_lines(
 pub fn push_frame(
     out: &mut Text,
     alloc: Global,
-    information: &Information<'_>,
+    symbolizer: &mut Symbolizer<'_, '_>,
     m: &ModuleParts,
     index: u64,
     frame: &Frame,
 ) -> Result<(), NoMemory>
-    ensures { OnOk result (out.new
-        ≡ out.old ++ definitions.frame_text information.now m.now index frame.now) }
+    ensures text { OnOk result (out.new
+        ≡ out.old ++ definitions.frame_text symbolizer.old m.now index frame.now) }
+    ensures same { symbolizer.new ≡ symbolizer.old }
 {
     let address = address_of(m, frame);
-    let inlined = inlined_at(
-        alloc,
-        &information.sections,
-        information.units.as_slice(),
-        address,
-    )?;
-    push_lines(
-        out,
-        alloc,
-        information,
-        index,
-        address,
-        frame,
-        inlined.as_slice(),
-    )
+    let information = symbolizer.information();
+    if let Some(resolved) = symbolizer.get(address) {
+        return push_resolved(out, alloc, information, index, resolved, frame);
+    }
+    let resolved = symbolizer.resolve(alloc, address)?;
+    push_resolved(out, alloc, information, index, &resolved, frame)?;
+    symbolizer.keep(resolved)
 }

@@ -8,11 +8,14 @@ mod information;
 mod places;
 mod programs;
 mod sections;
+mod symbolizer;
 mod unreadable;
 
 pub use address::address_of;
 pub use causes::NoMemory;
+pub use files::push_file;
 pub use frames::push_frame;
 pub use information::Information;
 pub use programs::{Program, Programs};
+pub use symbolizer::Symbolizer;
 pub use unreadable::push_unreadable;

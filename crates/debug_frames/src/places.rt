@@ -1,12 +1,13 @@
 //! The places in source that stand in the lines of frames.
 
 ghost use Rattle.std.specs.Prelude.{◌≡◌, ◌++◌, OnOk, option_copied};
-ghost use Rattle.debug_frames.specs.Programs.{located_at};
 ghost use Rattle.debug_frames.specs.Frames as definitions;
+ghost use Rattle.debug_frames.specs.inner.Resolving.{resolved_at};
 
 use crate::files::push_file;
 use crate::information::Information;
 use crate::programs::{Located, Program, named_by};
+use crate::symbolizer::Resolved;
 use causes::NoMemory;
 use dwarf_entries::{Standing, natural, number};
 use pm_text::Text;
@@ -76,16 +77,11 @@ fn push_call(
 }
 
 /// Adds the place of the row of an address, where there is one.
-fn push_place(
-    out: &mut Text,
-    alloc: Global,
-    information: &Information<'_>,
-    address: u32,
-) -> Result<(), NoMemory>
-    ensures { OnOk result (out.new ≡ out.old ++ definitions.row_site (located_at information.now.programs address)) }
+fn push_place(out: &mut Text, alloc: Global, resolved: &Resolved<'_, '_>) -> Result<(), NoMemory>
+    ensures { OnOk result (out.new ≡ out.old ++ definitions.row_site resolved.now.located) }
 {
-    match information.programs.located(address) {
-        Some(located) => push_row(out, alloc, &located),
+    match &resolved.located {
+        Some(located) => push_row(out, alloc, located),
         None => Ok(()),
     }
 }
@@ -96,14 +92,15 @@ pub fn push_place_behind(
     out: &mut Text,
     alloc: Global,
     information: &Information<'_>,
-    address: u32,
+    resolved: &Resolved<'_, '_>,
     before: Option<&Standing<'_, '_>>,
 ) -> Result<(), NoMemory>
+    requires { resolved.now ≡ resolved_at information.now resolved.now.address }
     ensures { OnOk result (out.new
-        ≡ out.old ++ definitions.place_behind information.now address (option_copied before.entry)) }
+        ≡ out.old ++ definitions.place_behind information.now resolved.now.address (option_copied before.entry)) }
 {
     match before {
         Some(standing) => push_call(out, alloc, information, standing),
-        None => push_place(out, alloc, information, address),
+        None => push_place(out, alloc, resolved),
     }
 }

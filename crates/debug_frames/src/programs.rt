@@ -1,6 +1,6 @@
 //! The line programs that units name (DWARF 4 and 5 section 6.2).
 
-ghost use Rattle.std.specs.Prelude.{◌≡◌, [], IfOk, OnOk, option_copied};
+ghost use Rattle.std.specs.Prelude.{◌≡◌, [], map, IfOk, OnOk, option_copied};
 ghost use Rattle.debug_frames.specs.Programs as definitions;
 
 use causes::NoMemory;
@@ -147,6 +147,23 @@ impl<'a> Programs<'a> {
             programs.add(alloc, sections, named(answer))?;
         }
         Ok(programs)
+    }
+
+    /// Those that could be read, in the order in which units name them.
+    ///
+    /// # Errors
+    ///
+    /// `NoMemory` where memory runs out.
+    pub fn lines(&self, alloc: Global) -> Result<Vec<&Lines<'a>>, NoMemory>
+        ensures { IfOk result (λ lines. map (λ l. l.now) lines.items ≡ definitions.readable self.now) }
+    {
+        let mut lines = Vec::new(alloc);
+        for (_, program) in self.programs.iter() {
+            if let Program::Read(read) = program {
+                lines.push(read)?;
+            }
+        }
+        Ok(lines)
     }
 
     /// What stands at an offset that a unit names.

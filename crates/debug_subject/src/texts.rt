@@ -10,7 +10,7 @@ use crate::counts::frame_locals;
 use crate::subject::Subject;
 use causes::NoMemory;
 use command_answers::push_number;
-use debug_frames::{push_frame, push_unreadable};
+use debug_frames::{Symbolizer, push_frame, push_unreadable};
 use debug_listings::push_listing;
 use debug_recorded::push_examined;
 use dump_format::Frame;
@@ -29,21 +29,17 @@ pub fn push_no_frame(out: &mut Text, number: u64) -> Result<(), NoMemory>
 fn push_one(
     out: &mut Text,
     alloc: Global,
+    symbolizer: &mut Symbolizer<'_, '_>,
     subject: &Subject<'_, '_, '_, '_>,
     index: u64,
     frame: &Frame,
 ) -> Result<(), NoMemory>
-    ensures { OnOk result (out.new
+    requires { symbolizer.old ≡ subject.now.information }
+    ensures text { OnOk result (out.new
         ≡ out.old ++ frame_text subject.now.information subject.now.module_ index frame.now) }
+    ensures same { symbolizer.new ≡ subject.now.information }
 {
-    push_frame(
-        out,
-        alloc,
-        subject.information(),
-        subject.parts(),
-        index,
-        frame,
-    )
+    push_frame(out, alloc, symbolizer, subject.parts(), index, frame)
 }
 
 fn push_frames(
@@ -55,8 +51,9 @@ fn push_frames(
     ensures { OnOk result (out.new
         ≡ out.old ++ numbered (frame_text subject.now.information subject.now.module_) 0 frames.now) }
 {
+    let mut symbolizer = Symbolizer::new(alloc, subject.information())?;
     for (i, frame) in frames.iter().enumerate() {
-        push_one(out, alloc, subject, i as u64, frame)?;
+        push_one(out, alloc, &mut symbolizer, subject, i as u64, frame)?;
     }
     Ok(())
 }
@@ -92,7 +89,10 @@ pub fn push_frame_at(
     ensures { OnOk result (out.new ≡ out.old ++ definitions.frame_text_at subject.now number) }
 {
     match subject.dump().frames.get(number as usize) {
-        Some(frame) => push_one(out, alloc, subject, number, frame),
+        Some(frame) => {
+            let mut symbolizer = Symbolizer::new(alloc, subject.information())?;
+            push_one(out, alloc, &mut symbolizer, subject, number, frame)
+        }
         None => push_no_frame(out, number),
     }
 }

@@ -105,18 +105,12 @@ pub struct UpToFive {
 
 impl UpToFive {
     /// No table of abbreviations is read yet.
-    pub fn new() -> Self
+    pub fn new(alloc: Global) -> Self
         ensures { (s : SectionBytes5) → Keeps version4 s result.four × Keeps version5 s result.five }
     {
         UpToFive {
-            four: Tables {
-                at: None,
-                table: None,
-            },
-            five: Tables {
-                at: None,
-                table: None,
-            },
+            four: Tables::new(alloc),
+            five: Tables::new(alloc),
         }
     }
 }

@@ -46,6 +46,17 @@ impl<'r, 'a> Standing<'r, 'a> {
         }
     }
 
+    /// The same entry again.
+    pub fn copied(&self) -> Self
+        ensures { result ≡ self.now }
+    {
+        Standing {
+            unit: self.unit,
+            entry: self.entry,
+            behind: self.behind,
+        }
+    }
+
     pub fn unit(&self) -> &'r Unit<'a>
         ensures { result.now ≡ self.now.unit }
     {

@@ -1,8 +1,11 @@
-//! The table of abbreviations that was read last, which units share.
+//! The tables of abbreviations that were read, which units share.
 
-ghost use Rattle.std.specs.Prelude.{◌≡◌, IfOk, OnOk};
+ghost use Rattle.std.specs.Prelude.{◌≡◌, IfOk, OnOk, option_copied};
+ghost use Rattle.std.specs.Option.{is_some};
 ghost use Rattle.dwarf_bytes.specs.Items.{read_at};
-ghost use Rattle.dwarf_info.specs.inner.Keeping.{Keeps, is_kept_at};
+ghost use Rattle.dwarf_info.specs.Sections.{SectionBytes5};
+ghost use Rattle.dwarf_info.specs.Units.{Version};
+ghost use Rattle.dwarf_info.specs.inner.Keeping.{Keeps, KeepsIf, kept_at, table_at as table_there};
 
 use crate::form::Shape;
 use crate::sections::Sections5;
@@ -10,14 +13,15 @@ use crate::version::UnitVersion;
 use causes::NoMemory;
 use dwarf_abbrev::Table;
 use std::alloc::Global;
+use std::collections::BTreeMap;
 
-/// The table of abbreviations that was read last.
+/// The tables of abbreviations that were read.
 #[derive(Drop)]
 pub struct Tables {
-    /// Where it was looked for, if one was.
-    pub at: Option<u64>,
-    /// None where no table stands there.
-    pub table: Option<Table<Shape>>,
+    /// By where they were looked for; None where no table stands there.
+    pub read: BTreeMap<u64, Option<Table<Shape>>>,
+    /// How many abbreviations and attributes they have, with one for each of them.
+    pub size: usize,
 }
 
 /// The table at an offset of a section of abbreviations, if one stands there.
@@ -34,16 +38,83 @@ fn table_at<'a, V: UnitVersion<'a>>(
     }
 }
 
-fn is_at(tables: &Tables, at: u64) -> bool
-    ensures { result ≡ is_kept_at at tables.now }
-{
-    match tables.at {
-        Some(kept) => kept == at,
-        None => false,
+/// How many abbreviations and attributes these are.
+fn size_of(shapes: &[Shape]) -> usize {
+    let mut size: usize = 1;
+    for shape in shapes {
+        size = size.saturating_add(shape.slots.len()).saturating_add(1);
+    }
+    size
+}
+
+fn size_of_read(table: &Option<Table<Shape>>) -> usize {
+    match table {
+        Some(table) => size_of(table.as_slice()),
+        None => 1,
     }
 }
 
-/// Reads the table at an offset, where it is another one than before.
+impl Tables {
+    /// No table is read yet.
+    pub fn new(alloc: Global) -> Self
+        ensures { (v : Version) (s : SectionBytes5) → Keeps v s result }
+    {
+        Tables {
+            read: BTreeMap::new(alloc),
+            size: 0,
+        }
+    }
+
+    fn contains(&self, at: u64) -> bool
+        ensures { result ≡ is_some (kept_at self.now at) }
+    {
+        self.read.contains_key(&at)
+    }
+
+    /// Lets all tables go where those of more than a section would be kept: they overlap there.
+    fn make_room(&mut self, alloc: Global, size: usize, most: usize)
+        ensures { KeepsIf self.old self.new }
+    {
+        let all = self.size.saturating_add(size);
+        if all > most {
+            self.read = BTreeMap::new(alloc);
+            self.size = size;
+        } else {
+            self.size = all;
+        }
+    }
+
+    /// The table at an offset, where it was read and stands there.
+    pub fn get(&self, at: u64) -> Option<&Table<Shape>>
+        ensures { option_copied result ≡ table_there self.now at }
+    {
+        match self.read.get(&at) {
+            Some(Some(table)) => Some(table),
+            Some(None) => None,
+            None => None,
+        }
+    }
+}
+
+/// Reads the table at an offset.
+fn read_table<'a, V: UnitVersion<'a>>(
+    alloc: Global,
+    sections: &Sections5<'a>,
+    tables: &mut Tables,
+    at: u64,
+) -> Result<(), NoMemory>
+    requires kept { Keeps V.version sections.now tables.old }
+    ensures table { OnOk result
+        (table_there tables.new at ≡ read_at V.version.shapes sections.now.base.abbreviations at) }
+    ensures kept { Keeps V.version sections.now tables.new }
+{
+    let table = table_at::<V>(alloc, sections.base.abbrev, at)?;
+    tables.make_room(alloc, size_of_read(&table), sections.base.abbrev.len());
+    tables.read.insert(at, table)?;
+    Ok(())
+}
+
+/// Reads the table at an offset, where it was not read before.
 pub fn select<'a, V: UnitVersion<'a>>(
     alloc: Global,
     sections: &Sections5<'a>,
@@ -52,14 +123,11 @@ pub fn select<'a, V: UnitVersion<'a>>(
 ) -> Result<(), NoMemory>
     requires kept { Keeps V.version sections.now tables.old }
     ensures table { OnOk result
-        (tables.new.table ≡ read_at V.version.shapes sections.now.base.abbreviations at) }
+        (table_there tables.new at ≡ read_at V.version.shapes sections.now.base.abbreviations at) }
     ensures kept { Keeps V.version sections.now tables.new }
 {
-    if is_at(tables, at) {
+    if tables.contains(at) {
         return Ok(());
     }
-    tables.at = None;
-    tables.table = table_at::<V>(alloc, sections.base.abbrev, at)?;
-    tables.at = Some(at);
-    Ok(())
+    read_table::<V>(alloc, sections, tables, at)
 }

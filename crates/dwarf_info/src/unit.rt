@@ -97,7 +97,7 @@ pub fn read_body<'a, V: UnitVersion<'a>>(
 {
     let offset = V::header(reader)?;
     select::<V>(alloc, sections, tables, offset)?;
-    match &tables.table {
+    match tables.get(offset) {
         Some(table) => {
             let entries = read_rooted::<V>(alloc, sections, origin, table, reader)?;
             Ok(Unit {

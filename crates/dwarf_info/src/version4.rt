@@ -174,14 +174,11 @@ pub struct OnlyFour {
 
 impl OnlyFour {
     /// No table of abbreviations is read yet.
-    pub fn new() -> Self
+    pub fn new(alloc: Global) -> Self
         ensures { (s : SectionBytes5) → Keeps version4 s result.tables }
     {
         OnlyFour {
-            tables: Tables {
-                at: None,
-                table: None,
-            },
+            tables: Tables::new(alloc),
         }
     }
 }

@@ -1,11 +1,17 @@
 -- Tests one after the other, and what is found in the parts of a list.
-use Rattle.std.proofs.Common.{◌≡◌, suc, Bool, true, false, List, [], ◌∷◌, ◌++◌, refl, sym}
-use Rattle.std.specs.Prelude.{filter, reverse, ◌&&◌, ◌==◌, if◌then◌else◌}
+use Rattle.std.proofs.Common.{◌≡◌, ℕ, suc, Bool, true, false, List, [], ◌∷◌, ◌++◌, Option, Some, refl, sym, ap, ◌∙◌}
+use Rattle.std.specs.Option.{option_or}
+use Rattle.std.specs.Prelude.{filter, find, reverse, not, ◌&&◌, ◌==◌, if◌then◌else◌}
 use Rattle.std.proofs.lemmas.List.{reverse-append}
 use Rattle.std.proofs.lemmas.List.Elements.{filter-append}
-use Rattle.dwarf_entries.specs.Standing.{Standing, inside}
-use Rattle.dwarf_scopes.specs.Scopes.{declares, variables_of}
-use Rattle.dwarf_scopes.specs.inner.Picks.{is_variable_of}
+use Rattle.std.proofs.lemmas.List.Folds.{find-append}
+use Rattle.dwarf_info.specs.declared.entry.UnitAnswer.{UnitAnswer}
+use Rattle.dwarf_info.specs.Sections.{SectionBytes5}
+use Rattle.dwarf_entries.specs.Standing.{Standing, standing, of_unit, inside}
+use Rattle.dwarf_entries.specs.Tags.{tag_subprogram}
+use Rattle.dwarf_scopes.specs.Ranges.{holds}
+use Rattle.dwarf_scopes.specs.Scopes.{declares, is_removed, variables_of, is_subprogram_at, subprogram_at}
+use Rattle.dwarf_scopes.specs.inner.Picks.{is_variable_of, is_kept, kept_of, kept}
 
 both_step : {A : Type 0} (f g : A → Bool) (x : A) (xs : List A) (b : Bool) → filter f (filter g xs) ≡ filter (λ y. g y && f y) xs
     → filter f (if b then (x ∷ filter g xs) else filter g xs) ≡ (if b && f x then (x ∷ filter (λ y. g y && f y) xs) else filter (λ y. g y && f y) xs)
@@ -24,3 +30,37 @@ variables_are x = sym (filter_both declares (λ t. t.entry.depth == suc x.entry.
 
 pub last_first : {A : Type 0} (f : A → Bool) (xs : List A) (x : A) → reverse (filter f (xs ++ x ∷ [])) ≡ reverse (filter f (x ∷ [])) ++ reverse (filter f xs)
 last_first f xs x = rw (filter-append f xs (x ∷ [])) (reverse-append (filter f xs) (filter f (x ∷ [])))
+
+-- ---- subprograms that were gathered
+
+parts : (p q r b : Bool) → p && q ≡ b → p && q && r ≡ b && r
+parts true q r b e = ap (λ (t : Bool). t && r) e
+parts false q r b e = ap (λ (t : Bool). t && r) e
+
+tested : (s : SectionBytes5) (a : ℕ) (x : Standing) (b : Bool) → is_kept x ≡ b → is_subprogram_at s a x ≡ b && holds s a x
+tested s a x b e = parts (x.entry.tag == tag_subprogram) (not (is_removed x)) (holds s a x) b e
+
+found_by : (s : SectionBytes5) (a : ℕ) (x : Standing) (xs : List Standing) (b : Bool) → is_kept x ≡ b → find (is_subprogram_at s a) xs ≡ find (holds s a) (filter is_kept xs)
+    → find (is_subprogram_at s a) (x ∷ xs) ≡ find (holds s a) (filter is_kept (x ∷ xs))
+found_by s a x xs true e h =
+    let same : is_subprogram_at s a x ≡ holds s a x = tested s a x true e in
+    rw (same, e) (ap (λ (o : Option Standing). if holds s a x then Some x else o) h)
+found_by s a x xs false e h =
+    let same : is_subprogram_at s a x ≡ false = tested s a x false e in
+    rw (same, e) h
+
+found_in : (s : SectionBytes5) (a : ℕ) (xs : List Standing) → find (is_subprogram_at s a) xs ≡ find (holds s a) (filter is_kept xs)
+found_in s a [] = refl
+found_in s a (x ∷ xs) = found_by s a x xs (is_kept x) refl (found_in s a xs)
+
+found_in_units : (s : SectionBytes5) (a : ℕ) (units : List UnitAnswer) → find (is_subprogram_at s a) (standing units) ≡ find (holds s a) (kept units)
+found_in_units s a [] = refl
+found_in_units s a (u ∷ units) =
+    find-append (is_subprogram_at s a) (of_unit u) (standing units)
+    ∙ ap (λ (o : Option Standing). option_or o (find (is_subprogram_at s a) (standing units))) (found_in s a (of_unit u))
+    ∙ ap (λ (o : Option Standing). option_or (find (holds s a) (kept_of u)) o) (found_in_units s a units)
+    ∙ sym (find-append (holds s a) (kept_of u) (kept units))
+
+pub found_kept : (s : SectionBytes5) (a : ℕ) (units : List UnitAnswer) → subprogram_at s units a ≡ find (holds s a) (kept units)
+unfolding subprogram_at
+found_kept s a units = found_in_units s a units

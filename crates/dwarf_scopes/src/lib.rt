@@ -1,10 +1,16 @@
 //! Addresses of entries: what holds an address, and the scopes and variables that are visible there.
 #![tactic(auto)]
 
+mod insides;
+mod known;
 mod lists;
 mod ranges;
 mod scopes;
+mod subprograms;
+mod variables;
 
 pub use lists::{location_in, range_in};
 pub use ranges::holds;
-pub use scopes::{inlined_at, scopes_at, subprogram_at, variables_at};
+pub use scopes::{inlined_at, scopes_at, subprogram_at};
+pub use subprograms::{Found, Subprograms};
+pub use variables::variables_at;

@@ -1,9 +1,12 @@
 //! Whether an entry holds an address (DWARF 4 section 2.17).
 
-ghost use Rattle.std.specs.Prelude.{ℕ, ◌≡◌};
+ghost use Rattle.std.specs.Prelude.{ℕ, ◌≡◌, IfOk};
 ghost use Rattle.dwarf_scopes.specs.Ranges as ranges;
+ghost use Rattle.dwarf_scopes.specs.inner.Knowing.{AreRight};
 
+use crate::known::{KnownLists, in_list_if};
 use crate::lists::range_in;
+use causes::NoMemory;
 use dwarf_entries::names::{HIGH_PC, LOW_PC, RANGES};
 use dwarf_entries::{Standing, address, attribute, offset};
 use dwarf_info::{AttrValue, Entry, Sections5, Unit};
@@ -36,12 +39,33 @@ fn bounds(entry: &Entry<'_>) -> Option<(u32, i128)>
 }
 
 /// A list that can't be read holds no address.
-fn in_list(sections: &Sections5<'_>, unit: &Unit<'_>, address: u32, at: Option<u32>) -> bool
+pub fn in_list(sections: &Sections5<'_>, unit: &Unit<'_>, address: u32, at: Option<u32>) -> bool
     ensures { result ≡ ranges.in_list sections.now unit.now address at }
 {
     match at {
         Some(at) => range_in(sections, unit, at as usize, address).unwrap_or(false),
         None => false,
+    }
+}
+
+/// The same as `holds`, where lists of the unit were asked before.
+pub fn holds_by_known(
+    sections: &Sections5<'_>,
+    address: u32,
+    standing: &Standing<'_, '_>,
+    lists: &mut KnownLists,
+) -> Result<bool, NoMemory>
+    requires right { AreRight sections.now standing.now.unit address lists.old }
+    ensures is { IfOk result (λ held. held ≡ ranges.holds sections.now address standing.now) }
+    ensures right { AreRight sections.now standing.now.unit address lists.new }
+{
+    let entry = standing.entry();
+    match bounds(entry) {
+        Some((low, high)) => Ok(low <= address && i128::from(address) < high),
+        None => {
+            let at = offset(entry.attributes.as_slice(), RANGES);
+            in_list_if(sections, standing.unit(), address, at, lists)
+        }
     }
 }
 

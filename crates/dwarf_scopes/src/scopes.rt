@@ -1,23 +1,23 @@
 //! The subprogram at an address, and the scopes and variables that are visible there (DWARF 4 sections 3.3 to 3.5 and 4.1).
 
-ghost use Rattle.std.specs.Prelude.{ℕ, ◌≡◌, ◌++◌, OnOk, IfOk};
-ghost use Rattle.dwarf_entries.specs.Standing.{Standing as Stands};
+ghost use Rattle.std.specs.Prelude.{ℕ, ◌≡◌, ◌++◌, OnOk, IfOk, filter, reverse};
+ghost use Rattle.dwarf_entries.specs.Standing.{Standing as Stands, standing_in};
 ghost use Rattle.dwarf_scopes.specs.Scopes as scopes;
-ghost use Rattle.dwarf_scopes.specs.inner.Picks.{is_variable_of};
+ghost use Rattle.dwarf_scopes.specs.inner.Knowing.{AreRight};
+ghost use Rattle.dwarf_scopes.specs.inner.Picks.{is_scope, is_inlined};
 
-use crate::ranges::holds;
+use crate::known::KnownLists;
+use crate::ranges::{holds, holds_by_known};
 use causes::NoMemory;
 use dwarf_entries::names::LOW_PC;
-use dwarf_entries::tags::{
-    FORMAL_PARAMETER, INLINED_SUBROUTINE, LEXICAL_BLOCK, SUBPROGRAM, VARIABLE,
-};
-use dwarf_entries::{Pick, Standing, address as address_of, first_in_units, push_picked};
-use dwarf_info::{Sections5, UnitAnswer};
+use dwarf_entries::tags::{INLINED_SUBROUTINE, LEXICAL_BLOCK, SUBPROGRAM};
+use dwarf_entries::{Pick, Standing, address as address_of, first_in_units};
+use dwarf_info::{Entry, Sections5, Unit, UnitAnswer};
 use pm_text::Items;
 use std::alloc::Global;
 
 /// Linkers mark removed code by a low_pc of 0.
-fn is_removed(standing: &Standing<'_, '_>) -> bool
+pub fn is_removed(standing: &Standing<'_, '_>) -> bool
     ensures { result ≡ scopes.is_removed standing.now }
 {
     address_of(standing.entry().attributes.as_slice(), LOW_PC) == Some(0)
@@ -42,33 +42,35 @@ impl<'s, 'a> Pick for SubprogramAt<'s, 'a> {
 
 /// The lexical blocks and inlined subroutines that hold an address.
 #[derive(Drop)]
-struct ScopeAt<'s, 'a> {
-    sections: &'s Sections5<'a>,
-    address: u32,
+pub struct ScopeAt<'s, 'a> {
+    pub sections: &'s Sections5<'a>,
+    pub address: u32,
 }
 
-impl<'s, 'a> Pick for ScopeAt<'s, 'a> {
-    ghost picks = { λ p. scopes.is_scope_at p.sections.now p.address };
-
-    fn picks(&self, standing: &Standing<'_, '_>) -> bool {
-        (standing.entry().tag == LEXICAL_BLOCK || standing.entry().tag == INLINED_SUBROUTINE)
-            && holds(self.sections, self.address, standing)
-    }
+fn is_scope(standing: &Standing<'_, '_>) -> bool
+    ensures { result ≡ is_scope standing.now }
+{
+    let tag = standing.entry().tag;
+    tag == LEXICAL_BLOCK || tag == INLINED_SUBROUTINE
 }
 
-/// The formal parameters and variables that are children of an entry of this depth.
-#[derive(Drop)]
-struct VariableOf {
-    depth: u32,
-}
-
-impl Pick for VariableOf {
-    ghost picks = { λ p. is_variable_of p.depth };
-
-    fn picks(&self, standing: &Standing<'_, '_>) -> bool {
-        let entry = standing.entry();
-        u64::from(entry.depth) == u64::from(self.depth) + 1
-            && (entry.tag == FORMAL_PARAMETER || entry.tag == VARIABLE)
+impl<'s, 'a> ScopeAt<'s, 'a> {
+    /// Whether an entry is one of them, where lists of its unit were asked before.
+    pub fn picks(
+        &self,
+        standing: &Standing<'_, '_>,
+        lists: &mut KnownLists,
+    ) -> Result<bool, NoMemory>
+        requires right { AreRight self.now.sections.now standing.now.unit self.now.address lists.old }
+        ensures is { IfOk result (λ picked. picked
+            ≡ scopes.is_scope_at self.now.sections.now self.now.address standing.now) }
+        ensures right { AreRight self.now.sections.now standing.now.unit self.now.address lists.new }
+    {
+        if is_scope(standing) {
+            holds_by_known(self.sections, self.address, standing, lists)
+        } else {
+            Ok(false)
+        }
     }
 }
 
@@ -84,8 +86,31 @@ pub fn subprogram_at<'r, 'a>(
     first_in_units(&SubprogramAt { sections, address }, units)
 }
 
+/// Appends the scopes among these entries.
+fn push_scopes<'r, 'a>(
+    pick: &ScopeAt<'_, 'a>,
+    unit: &'r Unit<'a>,
+    entries: &'r [Entry<'a>],
+    lists: &mut KnownLists,
+    found: &mut Items<Standing<'r, 'a>>,
+) -> Result<(), NoMemory>
+    requires { AreRight pick.now.sections.now unit.now pick.now.address lists.old }
+    ensures { OnOk result (found.new ≡ found.old
+        ++ filter (scopes.is_scope_at pick.now.sections.now pick.now.address) (standing_in unit.now entries.now)) }
+{
+    let mut left = entries;
+    'entries: while let [entry, behind @ ..] = left {
+        let standing = Standing::new(unit, entry, behind);
+        if pick.picks(&standing, lists)? {
+            found.push(standing)?;
+        }
+        left = behind;
+    }
+    Ok(())
+}
+
 /// A subprogram, and the scopes in it that hold an address.
-fn scopes_in<'r, 'a>(
+pub fn scopes_in<'r, 'a>(
     alloc: Global,
     sections: &Sections5<'a>,
     address: u32,
@@ -97,7 +122,13 @@ fn scopes_in<'r, 'a>(
     let inside = subprogram.inside();
     let mut scopes = Items::new(alloc);
     scopes.push(subprogram)?;
-    push_picked(&ScopeAt { sections, address }, unit, inside, &mut scopes)?;
+    push_scopes(
+        &ScopeAt { sections, address },
+        unit,
+        inside,
+        &mut KnownLists::new(alloc),
+        &mut scopes,
+    )?;
     Ok(scopes)
 }
 
@@ -118,36 +149,21 @@ pub fn scopes_at<'r, 'a>(
     }
 }
 
-/// Appends the formal parameters and variables of a scope.
-#[tactic(auto, using(crate::proofs::Filters::variables_are), unfolding(crate::specs::Scopes::variables_of))]
-fn push_variables<'r, 'a>(
-    scope: &Standing<'r, 'a>,
-    variables: &mut Items<Standing<'r, 'a>>,
-) -> Result<(), NoMemory>
-    ensures { OnOk result (variables.new ≡ variables.old ++ scopes.variables_of scope.now) }
-{
-    let pick = VariableOf {
-        depth: scope.entry().depth,
-    };
-    push_picked(&pick, scope.unit(), scope.inside(), variables)
-}
-
-/// The variables that are visible at an address, those of outer scopes first.
-#[tactic(auto, unfolding(crate::specs::Scopes::variables_at))]
-pub fn variables_at<'r, 'a>(
+/// The inlined subroutines among scopes, the last first.
+pub fn inlined_of<'r, 'a>(
     alloc: Global,
-    sections: &Sections5<'a>,
-    units: &'r [UnitAnswer<'a>],
-    address: u32,
+    scopes: Items<Standing<'r, 'a>>,
 ) -> Result<Items<Standing<'r, 'a>>, NoMemory>
-    ensures { IfOk result (λ xs. xs ≡ scopes.variables_at sections.now units.now address) }
+    ensures { IfOk result (λ xs. xs ≡ reverse (filter is_inlined scopes.entry)) }
 {
-    let visible = scopes_at(alloc, sections, units, address)?;
-    let mut variables = Items::new(alloc);
-    for scope in visible.as_slice() {
-        push_variables(scope, &mut variables)?;
+    let mut outer = scopes;
+    let mut inlined = Items::new(alloc);
+    'scopes: while let Some(scope) = outer.pop() {
+        if scope.entry().tag == INLINED_SUBROUTINE {
+            inlined.push(scope)?;
+        }
     }
-    Ok(variables)
+    Ok(inlined)
 }
 
 /// The inlined subroutines that hold an address, the innermost first.
@@ -160,12 +176,6 @@ pub fn inlined_at<'r, 'a>(
 ) -> Result<Items<Standing<'r, 'a>>, NoMemory>
     ensures { IfOk result (λ xs. xs ≡ scopes.inlined_at sections.now units.now address) }
 {
-    let mut outer = scopes_at(alloc, sections, units, address)?;
-    let mut inlined = Items::new(alloc);
-    'scopes: while let Some(scope) = outer.pop() {
-        if scope.entry().tag == INLINED_SUBROUTINE {
-            inlined.push(scope)?;
-        }
-    }
-    Ok(inlined)
+    let scopes = scopes_at(alloc, sections, units, address)?;
+    inlined_of(alloc, scopes)
 }

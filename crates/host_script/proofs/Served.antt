@@ -1,5 +1,5 @@
 -- Calls with their replies, one after another.
-use Rattle.std.proofs.Common.{◌≡◌, ℕ, zero, suc, ◌+◌, false, List, [], ◌∷◌, ◌++◌, Some, length, take, drop, slice_get, refl, sym, ap, ◌∙◌, arith}
+use Rattle.std.proofs.Common.{◌≡◌, ℕ, zero, suc, ◌+◌, ◌≤◌, false, List, [], ◌∷◌, ◌++◌, Some, length, take, drop, slice_get, refl, sym, ap, ◌∙◌, arith}
 use Rattle.std.specs.Option.{is_none}
 use Rattle.wasm_syntax.specs.declared.host.HostCall.{HostCall}
 use Rattle.wasm_syntax.specs.declared.host.Reply.{Reply}
@@ -19,6 +19,12 @@ pub given_so_far : (calls : List HostCall) (replies : List Reply) → replies_of
 given_so_far [] replies = refl
 given_so_far (c ∷ cs) [] = refl
 given_so_far (c ∷ cs) (r ∷ rs) = ap (λ (xs : List Reply). r ∷ xs) (given_so_far cs rs)
+
+-- each call was given one, where there are as many
+pub all_served : (calls : List HostCall) (replies : List Reply) → length calls ≤ length replies → length (with_replies calls replies) ≡ length calls
+all_served [] replies le = refl
+all_served (c ∷ cs) [] le = absurd (omega (arith, le))
+all_served (c ∷ cs) (r ∷ rs) le = ap (λ (n : ℕ). suc n) (all_served cs rs (omega (arith, le)))
 
 -- a reply behind the first ones
 pub reply_behind : (replies : List Reply) (first k : ℕ) → slice_get (drop first replies) k ≡ slice_get replies (first + k)

@@ -1,6 +1,7 @@
 //! What serves all imports of a module in a run: replies that are there beforehand.
 
-ghost use Rattle.std.specs.Prelude.{◌≡◌, ◌≤◌, ℕ, List, [], None, drop, false, length, take, true};
+ghost use Rattle.std.specs.Prelude.{◌≡◌, ◌≤◌, ℕ, List, [], None, drop, false, length, slice_get, take, true};
+ghost use Rattle.std.specs.Option.{is_none};
 ghost use Rattle.host_devices.specs.Given.{replies_of};
 ghost use Rattle.host_devices.specs.HostSides.{Answers, HasCause, IsExhausted, KeepsUse};
 ghost use Rattle.host_script.specs.Scripting.{GivesNext, calls_of, is_used_up, next_of, origin_of};
@@ -62,6 +63,15 @@ impl<'m, 'r> ScriptHosts<'m, 'r> {
         ensures given { replies_of (calls_of self.now).served ≡ take (length self.now.calls) (drop self.now.first self.now.replies) }
     {
         self.next as u64
+    }
+
+    /// How many replies it gave: those from the first one on. It is used up exactly where there is no other one.
+    pub fn given(&self) -> u64
+        ensures count { result ≡ length (calls_of self.now).served }
+        ensures given { replies_of (calls_of self.now).served ≡ take result (drop self.now.first self.now.replies) }
+        ensures left { is_used_up self.now ≡ is_none (slice_get (drop self.now.first self.now.replies) result) }
+    {
+        (self.next - self.first) as u64
     }
 }
 

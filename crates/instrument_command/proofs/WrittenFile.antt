@@ -1,15 +1,11 @@
--- A file that is made and filled, and what it means for the answer.
+-- What a file that is written means for the answer.
 use Rattle.std.proofs.Common.{◌≡◌, ℕ, List, [], ◌∷◌, refl, sym, subst, ap, ◌∙◌, inl, inr, Option, Some, None, Result, Ok, Err}
 use Rattle.std.specs.Prelude.{IfOk}
-use Rattle.std.proofs.lemmas.List.{append-nil}
 use Rattle.causes.specs.declared.NoMemory.{NoMemory}
-use Rattle.pm_outside.specs.Contents.{Contents, SameBut}
-use Rattle.pm_outside.specs.Answers.{Appends}
+use Rattle.pm_outside.specs.Contents.{Contents}
 use Rattle.pm_outside.specs.declared.answers.WriteAnswer.{WriteAnswer}
-use Rattle.pm_outside.specs.declared.answers.WriteAnswer.TheVariants as write
 use Rattle.wasm_syntax.specs.declared.module.ModuleParts.{ModuleParts as Module}
 use Rattle.dump_write.specs.Written.{OnTold, HasFile, Writes as Leaves}
-use Rattle.dump_write.proofs.Files.{file_more, piece_refused, same_told}
 use Rattle.rewrite_modules.specs.Weight.{weight}
 use Rattle.rewrite_promise.specs.Admitted.{Admits}
 use Rattle.rewrite_promise.proofs.Heights.{one_weight}
@@ -24,20 +20,6 @@ use Rattle.instrument_command.proofs.HeldFiles.{one_held, front_left}
 use Rattle.instrument_command.specs.InstrumentAnswer.{instrumented, Decides, ModuleAnswer}
 use Rattle.instrument_command.specs.Stops.{LeftInPart}
 use Rattle.instrument_command.specs.inner.Steps.{Rewrites, Weighs, IsAnswered, ModuleStops}
-
--- ---- a file
-
-failed_not_done : write.Failed ≡ write.Done → ⊥
-failed_not_done e = absurd cc
-
-want_not_done : write.NoMemory ≡ write.Done → ⊥
-want_not_done e = absurd cc
-
--- the bytes were added to a new file
-pub filled : (answer : WriteAnswer) (name bytes : List ℕ) (o m n : Contents) → HasFile name [] o m → Appends name bytes answer m n → Leaves name bytes answer o n
-filled write.Done name bytes o m n file one = file_more name [] bytes o m n file one
-filled write.Failed name bytes o m n file one = piece_refused write.Failed name [] bytes [] bytes o m n failed_not_done (sym (append-nil bytes)) file one
-filled write.NoMemory name bytes o m n file one = piece_refused write.NoMemory name [] bytes [] bytes o m n want_not_done (sym (append-nil bytes)) file one
 
 -- ---- the answer
 
@@ -75,13 +57,3 @@ fault_stops out m old new (Ok o) part is = λ faulted. record { file = out; name
 pub fault_answers : (P : Outcome → Type 0) (out : List ℕ) (result : Result Outcome NoMemory) → IfOk result (λ o. o ≡ file_fault out) → OnAnswer P result
 fault_answers P out (Err e) is = tt
 fault_answers P out (Ok o) is = subst (λ (x : Outcome). UnlessFault x.status (P o)) (sym is) tt
-
--- ---- other files
-
-pub others_kept : (name bytes : List ℕ) (answer : WriteAnswer) (old new : Option Contents) → OnTold (Leaves name bytes answer) old new → OnTold (SameBut name) old new
-others_kept name bytes answer old new x = same_told (Leaves name bytes answer) (SameBut name) old new (λ o n. of answer o n) x
-  where
-    of : (a : WriteAnswer) (o n : Contents) → Leaves name bytes a o n → SameBut name o n
-    of write.Done o n k = k.1
-    of write.Failed o n k = k.1
-    of write.NoMemory o n k = k.1

@@ -8,4 +8,4 @@ mod writing;
 pub use causes::NoMemory;
 pub use command::instrument_file;
 pub use rewriting::{Rewritten, rewrite};
-pub use writing::{admitted_bytes, write_file};
+pub use writing::admitted_bytes;

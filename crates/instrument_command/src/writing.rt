@@ -5,7 +5,7 @@ ghost use Rattle.causes.specs.Counts.{Rose};
 ghost use Rattle.pm_outside.specs.Contents.{SameBut};
 ghost use Rattle.pm_outside.specs.Created.{with_name};
 ghost use Rattle.command_answers.specs.Told.{UnlessFault};
-ghost use Rattle.dump_write.specs.Written.{OnTold, Writes};
+ghost use Rattle.dump_write.specs.Written.{OnTold};
 ghost use Rattle.instrument_command.specs.InstrumentAnswer.{ModuleAnswer};
 ghost use Rattle.instrument_command.specs.inner.Steps.{IsAnswered, ModuleStops, Rewrites};
 ghost use Rattle.rewrite_promise.specs.Admitted.{Admits};
@@ -17,26 +17,11 @@ use crate::rewriting::weighed;
 use causes::NoMemory;
 use command_answers::{Outcome, Status, about_file};
 use pm_outside::{Files, WriteAnswer};
+use run_session::write_file;
 use std::alloc::Global;
 use wasm_encode::encode;
 use wasm_syntax::Module;
 use wasm_validate::Validated;
-
-/// Makes a file of these bytes.
-pub fn write_file<F: Files>(files: &mut F, name: &str, bytes: &[u8]) -> WriteAnswer
-    ensures content { OnTold (Writes name.now bytes.now result) (F.told files.old) (F.told files.new) }
-    ensures telling { is_some (F.told files.new) ≡ is_some (F.told files.old) }
-    ensures others { OnTold (SameBut name.now) (F.told files.old) (F.told files.new) }
-    ensures names { (F.created files.new ≡ F.created files.old)
-        ⊎ (F.created files.new ≡ with_name (F.created files.old) name.now) }
-    ensures later { F.faults files.old ≤ F.faults files.new }
-    ensures failed { result ≡ WriteAnswer.Failed → Rose (F.faults files.old) (F.faults files.new) }
-{
-    match files.create(name) {
-        WriteAnswer::Done => files.append(name, bytes),
-        refused => refused,
-    }
-}
 
 /// What a slice of bytes is.
 fn are_bytes(bytes: &[u8])

@@ -7,5 +7,6 @@ pub mod Images
 pub mod TrapRuns
 pub mod LeftLaws
 pub mod RunStates
+pub mod Few
 pub mod Closings
 pub mod StateImages

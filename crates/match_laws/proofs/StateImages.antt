@@ -135,16 +135,25 @@ module _ (p : Program) (is_program : IsProgram p) where
   by_frames d [] w is wf ff c = no_frames d w is wf
   by_frames d (f ∷ fs) w is wf ff c = by_labels d f fs w f.labels refl is wf ff c.0
 
-  state_matches : (c : Config) (name : List ℕ) → StateAt p c → FramesClose ClosesIn c.frames → MatchesState m (dump_at c name)
-  state_matches c name h k =
-      let is = is_image c name in
-      by_frames (dump_at c name) c.frames c.world (record { instances = is.instances; modules = is.modules; memory = is.memory; globals = is.globals; frames = is.frames }) h.0 h.1 k
+  image_matches : (d : Dump) (c : Config) → IsImage d c → StateAt p c → FramesClose ClosesIn c.frames → MatchesState m d
+  image_matches d c is h k = by_frames d c.frames c.world (record { instances = is.instances; modules = is.modules; memory = is.memory; globals = is.globals; frames = is.frames }) h.0 h.1 k
 
-  all_match : (rans : List Ran) → AllByRecursion (λ r. (c : Config) → r.last ≡ Some c → StateAt p c) rans → AllByRecursion (LastHas (FramesClose ClosesIn)) rans → StatesMatch m rans
+  all_match : (rans : List Ran) → AllByRecursion (λ r. (c : Config) → r.last ≡ Some c → StateAt p c) rans → AllByRecursion (LastHas (FramesClose ClosesIn)) rans
+      → AllByRecursion (λ r. (c : Config) → r.last ≡ Some c → (d : Dump) → IsImage d c → MatchesState m d) rans
   all_match [] h k = tt
-  all_match (r ∷ rs) h k = (λ c e name. state_matches c name (h.0 c e) (k.0 c e), all_match rs h.1 k.1)
+  all_match (r ∷ rs) h k = (λ c e d is. image_matches d c is (h.0 c e) (k.0 c e), all_match rs h.1 k.1)
+
+  dumps_match : (rans : List Ran) → AllByRecursion (λ r. (c : Config) → r.last ≡ Some c → (d : Dump) → IsImage d c → MatchesState m d) rans → StatesMatch m rans
+  dumps_match [] h = tt
+  dumps_match (r ∷ rs) h = (λ c e name. h.0 c e (dump_at c name) (is_image c name), dumps_match rs h.1)
+
+-- each image of a state can be that of a state of the module
+pub images_match : (p : Program) → IsProgram p → length p.module_.bodies ≡ length p.module_.functions → Valid p.module_ → WithinLimits p.module_ → (collecting : Bool) (is : List Invocation) (replies : List Reply) (d n : ℕ)
+    → AllByRecursion (λ r. (c : Config) → r.last ≡ Some c → (dump : Dump) → IsImage dump c → MatchesState p.module_ dump) (run p collecting is replies d n)
+images_match p is_program e valid limits collecting is replies d n =
+    all_match p is_program (run p collecting is replies d n) (states_stand p is_program e valid limits collecting is replies d n) (states_close p is_program collecting is replies d n)
 
 -- the dump of each state can be one of a state of the module
 pub states_match : (p : Program) → IsProgram p → length p.module_.bodies ≡ length p.module_.functions → Valid p.module_ → WithinLimits p.module_ → (collecting : Bool) (is : List Invocation) (replies : List Reply) (d n : ℕ) → StatesMatch p.module_ (run p collecting is replies d n)
 states_match p is_program e valid limits collecting is replies d n =
-    all_match p is_program (run p collecting is replies d n) (states_stand p is_program e valid limits collecting is replies d n) (states_close p is_program collecting is replies d n)
+    dumps_match p is_program (run p collecting is replies d n) (images_match p is_program e valid limits collecting is replies d n)

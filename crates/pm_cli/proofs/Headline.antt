@@ -21,7 +21,7 @@ use Rattle.command_answers.proofs.Unless.{unless}
 use Rattle.pm_cli.specs.Answer.{AnswersTo, IsAnswer, Answered, IfRewritten, IfDebugged}
 use Rattle.pm_cli.specs.Words.{command}
 use Rattle.pm_cli.specs.declared.words.Command.{Command}
-use Rattle.pm_cli.specs.declared.words.Command.TheVariants.{Check, Run, Instrument, Show, Debug, Selftest}
+use Rattle.pm_cli.specs.declared.words.Command.TheVariants.{Instrument, Debug}
 
 told_rewriting : (m out : List ℕ) (told told' : Option Contents) (first : Contents) (writes : Writes) (o : Outcome) → o.status ≡ status.Done → MayHold told first → InstrumentAnswer m out first writes o → OnTold (HoldThen writes) told told'
     → OnTold (HoldsRewriting m out) told told'
@@ -31,13 +31,8 @@ told_rewriting m out (Some old) (Some new) first writes o done may a files = hol
 
 by_command : (before after : List DeviceState) (c : Option Command) (told told' : Option Contents) (first later : Contents) (given : List Served) (writes : Writes) (o : Outcome) → o.status ≡ status.Done → MayHold told first
     → AnswersTo before after c first later given writes o → OnTold (HoldThen writes) told told' → IfRewritten c told told'
-by_command before after (Some (Check m)) told told' first later given writes o done may a files = tt
-by_command before after (Some (Run w)) told told' first later given writes o done may a files = tt
 by_command before after (Some (Instrument m out)) told told' first later given writes o done may a files = told_rewriting m out told told' first writes o done may a.0 files
-by_command before after (Some (Show dump)) told told' first later given writes o done may a files = tt
-by_command before after (Some (Debug w)) told told' first later given writes o done may a files = tt
-by_command before after (Some (Selftest n)) told told' first later given writes o done may a files = tt
-by_command before after None told told' first later given writes o done may a files = tt
+by_command before after _ told told' first later given writes o done may a files = tt
 
 rewritten : (before after : List DeviceState) (words : List (List ℕ)) (told told' : Option Contents) (o : Outcome) → o.status ≡ status.Done → Answered before after words told told' o → IfRewritten (command words) told told'
 unfolding IsAnswer
@@ -64,13 +59,8 @@ told_debugged w (Some held) first later o result old new may may_then a takes =
 
 of_command : (before after : List DeviceState) (c : Option Command) (told : Option Contents) (first later : Contents) (given : List Served) (writes : Writes) (o : Outcome) (result : Status) (old new : Option (List ℕ)) → MayHold told first → MayHold told later
     → AnswersTo before after c first later given writes o → Takes result old new o → IfDebugged c result told old new
-of_command before after (Some (Check m)) told first later given writes o result old new may may_then a takes = tt
-of_command before after (Some (Run w)) told first later given writes o result old new may may_then a takes = tt
-of_command before after (Some (Instrument m out)) told first later given writes o result old new may may_then a takes = tt
-of_command before after (Some (Show dump)) told first later given writes o result old new may may_then a takes = tt
 of_command before after (Some (Debug w)) told first later given writes o result old new may may_then a takes = told_debugged w told first later o result old new may may_then a.0 takes
-of_command before after (Some (Selftest n)) told first later given writes o result old new may may_then a takes = tt
-of_command before after None told first later given writes o result old new may may_then a takes = tt
+of_command before after _ told first later given writes o result old new may may_then a takes = tt
 
 of_answer : (before after : List DeviceState) (words : List (List ℕ)) (told told' : Option Contents) (o : Outcome) (result : Status) (old new : Option (List ℕ)) → Answered before after words told told' o → Takes result old new o → IfDebugged (command words) result told old new
 unfolding IsAnswer

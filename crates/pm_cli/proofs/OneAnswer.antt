@@ -11,13 +11,16 @@ use Rattle.command_answers.specs.declared.outcome.Outcome.{Outcome}
 use Rattle.command_answers.proofs.OneOutcome.{Agree, agree_then, agree_if_loaded}
 use Rattle.run_session.specs.Written.{Writes}
 use Rattle.instrument_command.proofs.OneAnswer.{one_instrument_answer, same_names}
+use Rattle.selftest_laws.proofs.OneProgram.{same_program}
 use Rattle.selftest_command.proofs.OneSelftest.{one_dump, same_files}
 use Rattle.pm_cli.specs.Answer.{AnswersTo, IsAnswer, SameAnswer, SameWrites, CheckAnswer, ShowAnswer, checked}
 use Rattle.pm_cli.specs.Words.{command}
 use Rattle.pm_cli.specs.declared.words.Command.{Command}
-use Rattle.pm_cli.specs.declared.words.Command.TheVariants.{Check, Run, Instrument, Show, Debug, Selftest}
+use Rattle.pm_cli.specs.declared.words.Command.TheVariants.{Check, Run, Instrument, Show, Debug, Selftest, Replay, Cover}
 use Rattle.debug_command.proofs.OneDebug.{one_debug}
 use Rattle.pm_cli.proofs.OneRun.{one_run_answer, one_run_written}
+use Rattle.replay_command.proofs.OneReplay.{one_replay}
+use Rattle.cover_command.proofs.OneCover.{one_cover_answer, one_cover_written}
 
 one_check : (m : List ℕ) (content : Option (List ℕ)) → Agree (CheckAnswer m content) (CheckAnswer m content)
 one_check m content = agree_then (input_of ModuleBytes m content) _ _ (λ bytes. agree_if_loaded checked checked (λ parts a b pa qb. pa ∙ sym qb) (module_from bytes))
@@ -32,6 +35,8 @@ one_to before after (Some (Instrument m out)) first later given x y a b pa qb = 
 one_to before after (Some (Show dump)) first later given x y a b pa qb = one_show dump (first dump) a b pa.0 qb.0
 one_to before after (Some (Debug w)) first later given x y a b pa qb = one_debug w first later a b pa.0 qb.0
 one_to before after (Some (Selftest n)) first later given x y a b pa qb = one_dump n x y a b pa.0 qb.0
+one_to before after (Some (Replay w)) first later given x y a b pa qb = one_replay w first later a b pa.0 qb.0
+one_to before after (Some (Cover w)) first later given x y a b pa qb = one_cover_answer same_program before after w first later given x y a b pa qb
 one_to before after None first later given x y a b pa qb = pa.0 ∙ sym qb.0
 
 one_written : (before after : List DeviceState) (c : Option Command) (first later : Contents) (given : List Served) (x y : Writes) (a b : Outcome) → AnswersTo before after c first later given x a → AnswersTo before after c first later given y b → SameWrites c x y
@@ -41,6 +46,8 @@ one_written before after (Some (Instrument m out)) first later given x y a b pa 
 one_written before after (Some (Show dump)) first later given x y a b pa qb = pa.1.writes_none ∙ sym qb.1.writes_none
 one_written before after (Some (Debug w)) first later given x y a b pa qb = pa.1.writes_none ∙ sym qb.1.writes_none
 one_written before after (Some (Selftest n)) first later given x y a b pa qb = same_files n x y a b pa.0 qb.0
+one_written before after (Some (Replay w)) first later given x y a b pa qb = pa.1.writes_none ∙ sym qb.1.writes_none
+one_written before after (Some (Cover w)) first later given x y a b pa qb = one_cover_written before after w first later given x y a b pa qb
 one_written before after None first later given x y a b pa qb = pa.1.writes_none ∙ sym qb.1.writes_none
 
 pub one_answer : (before after : List DeviceState) (words : List (List ℕ)) (first later : Contents) (given : List Served) (x y : Writes) (a b : Outcome) → IsAnswer before after words first later given x a → IsAnswer before after words first later given y b → SameAnswer (command words) x y a b × SameWrites (command words) x y

@@ -1,5 +1,5 @@
 -- `run` has at most one answer, and one list of written files, where the same replies were given.
-use Rattle.std.proofs.Common.{◌≡◌, ℕ, List, map, length, Option, Some, None, false, refl, sym, ap, subst, ◌∙◌}
+use Rattle.std.proofs.Common.{◌≡◌, ℕ, List, ◌++◌, map, length, Option, Some, None, false, refl, sym, ap, subst, ◌∙◌}
 use Rattle.std.proofs.Math.Path.{fun_ext}
 use Rattle.pm_outside.specs.Contents.{Contents}
 use Rattle.wasm_syntax.specs.declared.quantity.Quantity.TheVariants.{ModuleBytes}
@@ -25,6 +25,7 @@ use Rattle.run_session.specs.Telling.{tells}
 use Rattle.run_session.specs.RunText.{up_to_torn, dumps_from}
 use Rattle.run_command.specs.Hosting.{start_text}
 use Rattle.run_command.specs.AllRan.{all_ran}
+use Rattle.run_command.specs.Recorded.{recorded}
 use Rattle.run_command.specs.RunAnswer.{RunAnswer, RunsTo, StartsOr, ModuleAnswer, IfRefusal, IsUntouched, hosting, replies_input, script_of}
 use Rattle.selftest_laws.proofs.OneProgram.{same_program}
 use Rattle.run_command.proofs.OneWritten.{Gives, at_refusal, gives_then, gives_starts, gives_if_loaded, input_refuses, replies_refuse, script_refuses}
@@ -49,10 +50,10 @@ module _ (before after : List DeviceState) (script : Option (List Reply)) (w : R
       r.answer ∙ ap (λ k. all_ran (tells w.collect r.deliver) (names before) m.imports (length w.invocations) k) one_list
       ∙ ap (λ d. all_ran (tells w.collect d) (names before) m.imports (length w.invocations) s.rans) handed ∙ sym s.answer
 
-  same_dumps : x ≡ y
-  same_dumps =
-      r.dumps ∙ ap (λ k. dumps_from (tells w.collect r.deliver) w.dump w.name 0 k) one_list
-      ∙ ap (λ d. dumps_from (tells w.collect d) w.dump w.name 0 s.rans) handed ∙ sym s.dumps
+  same_writes : x ≡ y
+  same_writes =
+      r.wrote ∙ ap (λ k. dumps_from (tells w.collect r.deliver) w.dump w.name 0 k ++ recorded w.log_to k) one_list
+      ∙ ap (λ d. dumps_from (tells w.collect d) w.dump w.name 0 s.rans ++ recorded w.log_to s.rans) handed ∙ sym s.wrote
 
 agree_starts : (cause : Option (List ℕ)) (P Q : Type 0) (a b : Outcome) → (P → Q → a ≡ b) → StartsOr cause P a → StartsOr cause Q b → a ≡ b
 agree_starts (Some cause) P Q a b agree pa qb = pa ∙ sym qb
@@ -73,7 +74,7 @@ one_run_answer before after w first later given x y a b pa qb =
 
 agree_writes : (before after : List DeviceState) (w : RunWords) (given : List Served) (x y : Writes) (script : Option (List Reply)) (m : Module) → Gives (x ≡ y) (ModuleAnswer before after w given x script m) (ModuleAnswer before after w given y script m)
 agree_writes before after w given x y script m a b at_a at_b pa qb =
-    gives_starts (x ≡ y) (start_text (hosting before script w.collect) m (map invocation_of w.invocations)) _ _ (λ r s. same_dumps before after script w m given x y a b r.0 s.0) a b at_a at_b pa qb
+    gives_starts (x ≡ y) (start_text (hosting before script w.collect) m (map invocation_of w.invocations)) _ _ (λ r s. same_writes before after script w m given x y a b r.0 s.0) a b at_a at_b pa qb
 
 written : (before after : List DeviceState) (w : RunWords) (first later : Contents) (given : List Served) (x y : Writes) (a b : Outcome) → IfRefusal a.status (x ≡ y) → IfRefusal b.status (x ≡ y) → RunAnswer before after w first later given x a → RunAnswer before after w first later given y b → x ≡ y
 written before after w first later given x y a b at_a at_b pa qb =

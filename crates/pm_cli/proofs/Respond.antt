@@ -2,6 +2,7 @@
 use Rattle.std.proofs.Common.{◌≡◌, ℕ, List, [], Option, Some, None, Result, refl, sym, subst}
 use Rattle.std.specs.Prelude.{IfOk}
 use Rattle.pm_outside.specs.Contents.{Contents}
+use Rattle.wasm_syntax.specs.declared.host.Served.{Served}
 use Rattle.dump_write.specs.Written.{OnTold}
 use Rattle.host_set.specs.Sets.{DeviceState}
 use Rattle.command_answers.specs.Texts.{usage}
@@ -9,16 +10,20 @@ use Rattle.command_answers.specs.Told.{MayHold, OnContents}
 use Rattle.command_answers.specs.declared.outcome.Outcome.{Outcome}
 use Rattle.command_answers.proofs.Unless.{OnAnswer, map_answer, all_answers}
 use Rattle.run_words.specs.declared.words.RunWords.{RunWords}
-use Rattle.run_session.specs.Written.{HoldThen}
+use Rattle.run_session.specs.Written.{Writes, HoldThen}
 use Rattle.run_command.specs.RunAnswer.{RunAnswer, AnsweredOn}
 use Rattle.instrument_command.specs.InstrumentAnswer.{AnsweredOn as InstrumentedOn}
 use Rattle.debug_command.specs.declared.words.DebugWords.{DebugWords}
 use Rattle.debug_command.specs.Answer.{DebugAnswer}
 use Rattle.selftest_command.specs.SelftestAnswer.{AnsweredOn as TestedOn}
+use Rattle.replay_words.specs.declared.asking.ReplayWords.{ReplayWords}
+use Rattle.replay_command.specs.ReplayAnswer.{ReplayAnswer}
+use Rattle.run_words.specs.declared.cover.CoverWords.{CoverWords}
+use Rattle.cover_command.specs.CoverAnswer.{CoverAnswer}
 use Rattle.pm_cli.specs.Answer.{AnswersTo, IsAnswer, Answered, CheckAnswer, ShowAnswer}
 use Rattle.pm_cli.specs.Words.{command}
 use Rattle.pm_cli.specs.declared.words.Command.{Command}
-use Rattle.pm_cli.specs.declared.words.Command.TheVariants.{Check, Run, Instrument, Show, Debug, Selftest}
+use Rattle.pm_cli.specs.declared.words.Command.TheVariants.{Check, Run, Instrument, Show, Debug, Selftest, Replay, Cover}
 
 -- ---- commands that write nothing and call no device
 
@@ -72,24 +77,32 @@ module _ {E : Type 0} (devices : List DeviceState) (words : List (List ℕ)) (to
       by_telling None o e = record { files = λ name. None; may = tt; holds = known (λ name. None) o e }
       by_telling (Some held) o e = record { files = held; may = refl; holds = known held o e }
 
--- ---- `run`
+-- ---- commands that call devices
 
-run_answer : (before after : List DeviceState) (words : List (List ℕ)) (w : RunWords) (told told' : Option Contents) (o : Outcome) → command words ≡ Some (Run w) → AnsweredOn (RunAnswer before after w) told told' o → Answered before after words told told' o
+with_devices : (before after : List DeviceState) (words : List (List ℕ)) (c : Option Command) (A : (first later : Contents) → List Served → Writes → Outcome → Type 0) (told told' : Option Contents) (o : Outcome) → command words ≡ c
+    → ((first later : Contents) (given : List Served) (writes : Writes) → A first later given writes o → AnswersTo before after c first later given writes o)
+    → AnsweredOn A told told' o → Answered before after words told told' o
 unfolding IsAnswer
-run_answer before after words w told told' o asked a = record {
+with_devices before after words c A told told' o asked fits a = record {
   first = a.first;
   may_first = a.may_first;
   later = a.later;
   may_later = a.may_later;
   given = a.given;
   writes = a.writes;
-  answer = subst (λ k. AnswersTo before after k a.first a.later a.given a.writes o) (sym asked) a.answer;
+  answer = subst (λ k. AnswersTo before after k a.first a.later a.given a.writes o) (sym asked) (fits a.first a.later a.given a.writes a.answer);
   files = a.files;
 }
 
 pub run_answered : {E : Type 0} (before after : List DeviceState) (words : List (List ℕ)) (w : RunWords) (told told' : Option Contents) (r : Result Outcome E) → command words ≡ Some (Run w)
     → OnAnswer (AnsweredOn (RunAnswer before after w) told told') r → OnAnswer (Answered before after words told told') r
-run_answered before after words w told told' r asked x = map_answer (AnsweredOn (RunAnswer before after w) told told') (Answered before after words told told') r (λ o a. run_answer before after words w told told' o asked a) x
+run_answered before after words w told told' r asked x = map_answer (AnsweredOn (RunAnswer before after w) told told') (Answered before after words told told') r
+    (λ o a. with_devices before after words (Some (Run w)) (RunAnswer before after w) told told' o asked (λ first later given writes k. k) a) x
+
+pub cover_answered : {E : Type 0} (before after : List DeviceState) (words : List (List ℕ)) (w : CoverWords) (told told' : Option Contents) (r : Result Outcome E) → command words ≡ Some (Cover w)
+    → OnAnswer (AnsweredOn (CoverAnswer before after w) told told') r → OnAnswer (Answered before after words told told') r
+cover_answered before after words w told told' r asked x = map_answer (AnsweredOn (CoverAnswer before after w) told told') (Answered before after words told told') r
+    (λ o a. with_devices before after words (Some (Cover w)) (CoverAnswer before after w) told told' o asked (λ first later given writes k. k) a) x
 
 -- ---- `instrument`
 
@@ -111,26 +124,32 @@ pub instrument_answered : {E : Type 0} (devices : List DeviceState) (words : Lis
 instrument_answered devices words m out source file told told' r asked named written x = map_answer (InstrumentedOn source file told told') (Answered devices devices words told told') r
     (λ o a. instrument_answer devices words m out told told' o asked (subst (λ f. InstrumentedOn m f told told' o) written (subst (λ s. InstrumentedOn s file told told' o) named a))) x
 
--- ---- `debug`
+-- ---- commands that read two files
 
-debug_answer : (devices : List DeviceState) (words : List (List ℕ)) (w : DebugWords) (told told' : Option Contents) (o : Outcome) → command words ≡ Some (Debug w) → told' ≡ told
-    → OnContents told (λ first. OnContents told (λ later. DebugAnswer w first later o)) → Answered devices devices words told told' o
+two_read : (devices : List DeviceState) (words : List (List ℕ)) (c : Option Command) (A : (first later : Contents) → Outcome → Type 0) (told told' : Option Contents) (o : Outcome) → command words ≡ c → told' ≡ told
+    → ((first later : Contents) → A first later o → AnswersTo devices devices c first later [] [] o)
+    → OnContents told (λ first. OnContents told (λ later. A first later o)) → Answered devices devices words told told' o
 unfolding IsAnswer
-debug_answer devices words w told told' o asked same a = record {
+two_read devices words c A told told' o asked same fits a = record {
   first = a.files;
   may_first = a.may;
   later = a.holds.files;
   may_later = a.holds.may;
   given = [];
   writes = [];
-  answer = subst (λ k. AnswersTo devices devices k a.files a.holds.files [] [] o) (sym asked) (a.holds.holds, record { devices = refl; given_none = refl; writes_none = refl });
+  answer = subst (λ k. AnswersTo devices devices k a.files a.holds.files [] [] o) (sym asked) (fits a.files a.holds.files a.holds.holds);
   files = untold told told' same;
 }
 
 pub debug_answered : {E : Type 0} (devices : List DeviceState) (words : List (List ℕ)) (w : DebugWords) (told told' : Option Contents) (r : Result Outcome E) → command words ≡ Some (Debug w) → told' ≡ told
     → OnAnswer (λ o. OnContents told (λ first. OnContents told (λ later. DebugAnswer w first later o))) r → OnAnswer (Answered devices devices words told told') r
 debug_answered devices words w told told' r asked same x = map_answer (λ o. OnContents told (λ first. OnContents told (λ later. DebugAnswer w first later o))) (Answered devices devices words told told') r
-    (λ o a. debug_answer devices words w told told' o asked same a) x
+    (λ o a. two_read devices words (Some (Debug w)) (DebugAnswer w) told told' o asked same (λ first later d. (d, record { devices = refl; given_none = refl; writes_none = refl })) a) x
+
+pub replay_answered : {E : Type 0} (devices : List DeviceState) (words : List (List ℕ)) (w : ReplayWords) (told told' : Option Contents) (r : Result Outcome E) → command words ≡ Some (Replay w) → told' ≡ told
+    → OnAnswer (λ o. OnContents told (λ first. OnContents told (λ later. ReplayAnswer w first later o))) r → OnAnswer (Answered devices devices words told told') r
+replay_answered devices words w told told' r asked same x = map_answer (λ o. OnContents told (λ first. OnContents told (λ later. ReplayAnswer w first later o))) (Answered devices devices words told told') r
+    (λ o a. two_read devices words (Some (Replay w)) (ReplayAnswer w) told told' o asked same (λ first later d. (d, record { devices = refl; given_none = refl; writes_none = refl })) a) x
 
 -- ---- `selftest`
 

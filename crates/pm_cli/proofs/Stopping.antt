@@ -15,16 +15,20 @@ use Rattle.run_session.specs.Stop.{Stop, no_memory, file_failed, IsFileFault, On
 use Rattle.run_command.specs.Stops.{NothingDone, RunStops}
 use Rattle.debug_command.specs.declared.words.DebugWords.{DebugWords}
 use Rattle.debug_command.specs.Answer.{IsReadBy}
+use Rattle.replay_words.specs.declared.asking.ReplayWords.{ReplayWords}
+use Rattle.replay_command.specs.ReplayAnswer.{IsReadBy as IsReplayed}
+use Rattle.run_words.specs.declared.cover.CoverWords.{CoverWords}
+use Rattle.cover_command.specs.Stops.{CoverStops}
 use Rattle.instrument_command.specs.Stops.{InstrumentStops}
 use Rattle.instrument_command.proofs.Stopping.{map_stop}
 use Rattle.instrument_command.proofs.HeldFiles.{all_kept}
 use Rattle.selftest_command.specs.SelftestAnswer.{module_file, rewritten_file}
 use Rattle.selftest_command.specs.Stops.{SelftestStops}
 use Rattle.selftest_command.proofs.Files.{none_kept}
-use Rattle.pm_cli.specs.Stops.{UnlessRun, IsQuietBut, IsQuietButBoth, CommandStops, WordsStop}
+use Rattle.pm_cli.specs.Stops.{Quiet, IsQuietBut, IsQuietButBoth, CommandStops, WordsStop}
 use Rattle.pm_cli.specs.Words.{command}
 use Rattle.pm_cli.specs.declared.words.Command.{Command}
-use Rattle.pm_cli.specs.declared.words.Command.TheVariants.{Check, Run, Instrument, Show, Debug, Selftest}
+use Rattle.pm_cli.specs.declared.words.Command.TheVariants.{Check, Run, Instrument, Show, Debug, Selftest, Replay, Cover}
 
 -- ---- commands that run nothing
 
@@ -53,14 +57,22 @@ module _ (devices : List DeviceState) (words : List (List ℕ)) (told told' : Op
     memory = of_command words (Some (Show dump)) devices devices no_memory told told' asked record { devices = refl; files = same; file = tt };
   }
 
-  pub debug_stops : (result : Result Outcome NoMemory) (w : DebugWords) → command words ≡ Some (Debug w) → IfOk result (λ o. o.status ≡ status.FileFault → ((file : List ℕ) × IsReadBy w file × (o ≡ file_fault file)) × R) → OnStop Leaves result
-  debug_stops (Err e) w asked fault = of_command words (Some (Debug w)) devices devices no_memory told told' asked record { devices = refl; files = same; file = tt }
-  debug_stops (Ok o) w asked fault = λ faulted. record {
+  -- of a command that reads files, calls no device and writes nothing
+  read_stops : (result : Result Outcome NoMemory) (c : Option Command) (IsRead : List ℕ → Type 0) → command words ≡ c → ((stop : Stop) → NothingDone stop IsRead devices devices told told' → CommandStops stop c devices devices told told')
+      → IfOk result (λ o. o.status ≡ status.FileFault → ((file : List ℕ) × IsRead file × (o ≡ file_fault file)) × R) → OnStop Leaves result
+  read_stops (Err e) c IsRead asked fits fault = of_command words c devices devices no_memory told told' asked (fits no_memory record { devices = refl; files = same; file = tt })
+  read_stops (Ok o) c IsRead asked fits fault = λ faulted. record {
     file = (fault faulted).0.0;
     named = (fault faulted).0.2;
-    failed = of_command words (Some (Debug w)) devices devices (file_failed (fault faulted).0.0) told told' asked record { devices = refl; files = same; file = (fault faulted).0.1 };
-    memory = of_command words (Some (Debug w)) devices devices no_memory told told' asked record { devices = refl; files = same; file = tt };
+    failed = of_command words c devices devices (file_failed (fault faulted).0.0) told told' asked (fits (file_failed (fault faulted).0.0) record { devices = refl; files = same; file = (fault faulted).0.1 });
+    memory = of_command words c devices devices no_memory told told' asked (fits no_memory record { devices = refl; files = same; file = tt });
   }
+
+  pub debug_stops : (result : Result Outcome NoMemory) (w : DebugWords) → command words ≡ Some (Debug w) → IfOk result (λ o. o.status ≡ status.FileFault → ((file : List ℕ) × IsReadBy w file × (o ≡ file_fault file)) × R) → OnStop Leaves result
+  debug_stops result w asked fault = read_stops result (Some (Debug w)) (IsReadBy w) asked (λ stop k. k) fault
+
+  pub replay_stops : (result : Result Outcome NoMemory) (w : ReplayWords) → command words ≡ Some (Replay w) → IfOk result (λ o. o.status ≡ status.FileFault → ((file : List ℕ) × IsReplayed w file × (o ≡ file_fault file)) × R) → OnStop Leaves result
+  replay_stops result w asked fault = read_stops result (Some (Replay w)) (IsReplayed w) asked (λ stop k. k) fault
 
 -- no words that are wrong fail a file
 no_usage_fault : (o : Outcome) → o ≡ usage → o.status ≡ status.FileFault → ⊥
@@ -74,6 +86,8 @@ unread (Some (Instrument m out)) devices told = (refl, inl (refl, tt))
 unread (Some (Show dump)) devices told = record { devices = refl; files = refl; file = tt }
 unread (Some (Debug w)) devices told = record { devices = refl; files = refl; file = tt }
 unread (Some (Selftest n)) devices told = (refl, inl (refl, refl))
+unread (Some (Replay w)) devices told = record { devices = refl; files = refl; file = tt }
+unread (Some (Cover w)) devices told = inl record { devices = refl; files = refl; file = tt }
 unread None devices told = record { devices = refl; files = refl; file = tt }
 
 pub unread_stops : (devices : List DeviceState) (words : List (List ℕ)) (told : Option Contents) → WordsStop no_memory words devices devices told told
@@ -100,11 +114,11 @@ selftest_stops devices words told told' result n asked x =
     map_stop (λ stop. SelftestStops stop n told told') (λ stop. WordsStop stop words devices devices told told') result
     (λ stop k. of_command words (Some (Selftest n)) devices devices stop told told' asked (refl, k)) x
 
--- ---- however it ends
+pub cover_stops : (before after : List DeviceState) (words : List (List ℕ)) (told told' : Option Contents) (result : Result Outcome NoMemory) (w : CoverWords) → command words ≡ Some (Cover w)
+    → OnStop (λ stop. CoverStops stop w before after told told') result → OnStop (λ stop. WordsStop stop words before after told told') result
+cover_stops before after words told told' result w asked x = subst (λ c. OnStop (λ stop. CommandStops stop c before after told told') result) (sym asked) x
 
-abbrev pub Quiet : Option Command → (before after : List DeviceState) → (old new : Option Contents) → (created created' : List (List ℕ)) → Type 0
-Quiet c before after old new created created' =
-    UnlessRun c ((after ≡ before) × (new ≡ old) × (created' ≡ created)) (λ out. IsQuietBut out before after old new created created') (IsQuietButBoth before after old new created created')
+-- ---- however it ends
 
 -- all is as before, whatever the words ask for
 pub quiet_all : (c : Option Command) (devices : List DeviceState) (told told' : Option Contents) (created created' : List (List ℕ)) → told' ≡ told → created' ≡ created → Quiet c devices devices told told' created created'
@@ -116,12 +130,17 @@ quiet_all c devices told told' created created' same names = of c
     of (Some (Instrument m out)) = record { devices = refl; files = all_kept out told told' same; names = inl names }
     of (Some (Show dump)) = (refl, same, names)
     of (Some (Debug w)) = (refl, same, names)
+    of (Some (Replay w)) = (refl, same, names)
+    of (Some (Cover w)) = (same, names)
     of (Some (Selftest n)) = record { devices = refl; files = none_kept module_file rewritten_file told told' same; names = (created, inl refl, inl names) }
     of None = (refl, same, names)
 
 module _ (c : Option Command) (before after : List DeviceState) (told told' : Option Contents) (created created' : List (List ℕ)) where
   pub quiet_run : (w : RunWords) → c ≡ Some (Run w) → Quiet c before after told told' created created'
   quiet_run w same = subst (λ k. Quiet k before after told told' created created') (sym same) tt
+
+  pub quiet_cover : (w : CoverWords) → c ≡ Some (Cover w) → told' ≡ told → created' ≡ created → Quiet c before after told told' created created'
+  quiet_cover w asked same names = subst (λ k. Quiet k before after told told' created created') (sym asked) (same, names)
 
   pub quiet_instrument : (m out file : List ℕ) → c ≡ Some (Instrument m out) → file ≡ out → IsQuietBut file before after told told' created created' → Quiet c before after told told' created created'
   quiet_instrument m out file same written x =

@@ -18,6 +18,8 @@ use Rattle.dump_answers.specs.Refused.{refused}
 use Rattle.debug_command.specs.Answer.{DebugAnswer}
 use Rattle.debug_command.specs.Headline.{IsDebugged}
 use Rattle.selftest_command.specs.SelftestAnswer.{SelftestAnswer, OneDump}
+use Rattle.replay_command.specs.ReplayAnswer.{ReplayAnswer}
+use Rattle.cover_command.specs.CoverAnswer.{CoverAnswer}
 use Rattle.pm_cli.specs.Check.{counted}
 use Rattle.command_answers.specs.Loading.{IfLoaded}
 use Rattle.command_answers.specs.Inputs.{input_of, Then}
@@ -28,7 +30,7 @@ use Rattle.command_answers.specs.declared.outcome.Outcome.{Outcome}
 use Rattle.command_answers.specs.declared.status.Status.{Status}
 use Rattle.command_answers.specs.declared.status.Status.TheVariants as status
 use Rattle.pm_cli.specs.declared.words.Command.{Command}
-use Rattle.pm_cli.specs.declared.words.Command.TheVariants.{Check, Run, Instrument, Show, Debug, Selftest}
+use Rattle.pm_cli.specs.declared.words.Command.TheVariants.{Check, Run, Instrument, Show, Debug, Selftest, Replay, Cover}
 
 abbrev pub shown : Result Dump DumpFault → Outcome
 shown (Ok dump) = ended status.Done (show_text dump)
@@ -58,6 +60,8 @@ AnswersTo before after (Some (Instrument m out)) first later given writes o = In
 AnswersTo before after (Some (Show dump)) first later given writes o = ShowAnswer dump (first dump) o × IsUntouched before after given writes
 AnswersTo before after (Some (Debug w)) first later given writes o = DebugAnswer w first later o × IsUntouched before after given writes
 AnswersTo before after (Some (Selftest n)) first later given writes o = SelftestAnswer n writes o × IsUncalled before after given
+AnswersTo before after (Some (Replay w)) first later given writes o = ReplayAnswer w first later o × IsUntouched before after given writes
+AnswersTo before after (Some (Cover w)) first later given writes o = CoverAnswer before after w first later given writes o
 AnswersTo before after None first later given writes o = (o ≡ usage) × IsUntouched before after given writes
 
 -- this is the answer to a list of words
@@ -70,41 +74,22 @@ Answered before after words old new o = AnsweredOn (IsAnswer before after words)
 
 -- what files hold before and then where `instrument` is done, where they tell it
 abbrev pub IfRewritten : Option Command → (old new : Option Contents) → Type 0
-IfRewritten (Some (Check m)) old new = Unit {0}
-IfRewritten (Some (Run w)) old new = Unit {0}
 IfRewritten (Some (Instrument m out)) old new = OnTold (HoldsRewriting m out) old new
-IfRewritten (Some (Show dump)) old new = Unit {0}
-IfRewritten (Some (Debug w)) old new = Unit {0}
-IfRewritten (Some (Selftest n)) old new = Unit {0}
-IfRewritten None old new = Unit {0}
+IfRewritten _ old new = Unit {0}
 
 -- What files hold where `debug` is done, and where it answers a mismatch, with the text that the output takes, where they tell it.
 abbrev pub IfDebugged : Option Command → Status → Option Contents → (before after : Option (List ℕ)) → Type 0
-IfDebugged (Some (Check m)) s told before after = Unit {0}
-IfDebugged (Some (Run w)) s told before after = Unit {0}
-IfDebugged (Some (Instrument m out)) s told before after = Unit {0}
-IfDebugged (Some (Show dump)) s told before after = Unit {0}
 IfDebugged (Some (Debug w)) s told before after =
     IfSome told (λ held. (text : List ℕ) × IsDebugged w held s text × IfSome before (λ old. after ≡ Some (old ++ text)))
-IfDebugged (Some (Selftest n)) s told before after = Unit {0}
-IfDebugged None s told before after = Unit {0}
+IfDebugged _ s told before after = Unit {0}
 
 -- The answers are the same; those to `selftest` tell of the same dump, and of the same number of steps where the same is written.
 abbrev pub SameAnswer : Option Command → (x y : Writes) → (a b : Outcome) → Type 0
-SameAnswer (Some (Check m)) x y a b = a ≡ b
-SameAnswer (Some (Run w)) x y a b = a ≡ b
-SameAnswer (Some (Instrument m out)) x y a b = a ≡ b
-SameAnswer (Some (Show dump)) x y a b = a ≡ b
-SameAnswer (Some (Debug w)) x y a b = a ≡ b
 SameAnswer (Some (Selftest n)) x y a b = OneDump n x y a b
-SameAnswer None x y a b = a ≡ b
+SameAnswer _ x y a b = a ≡ b
 
 -- The same files are written with the same bytes; of the files that `instrument` and `selftest` write the names are the same.
 abbrev pub SameWrites : Option Command → (one other : Writes) → Type 0
-SameWrites (Some (Check m)) one other = one ≡ other
-SameWrites (Some (Run w)) one other = one ≡ other
 SameWrites (Some (Instrument m out)) one other = map (λ w. w.0) one ≡ map (λ w. w.0) other
-SameWrites (Some (Show dump)) one other = one ≡ other
-SameWrites (Some (Debug w)) one other = one ≡ other
 SameWrites (Some (Selftest n)) one other = map (λ w. w.0) one ≡ map (λ w. w.0) other
-SameWrites None one other = one ≡ other
+SameWrites _ one other = one ≡ other

@@ -7,7 +7,9 @@ use Rattle.pm_cli.specs.declared.words.Command.{Command}
 use Rattle.run_words.specs.RunWords.{run_words}
 use Rattle.debug_command.specs.Words.{debug_words}
 use Rattle.selftest_command.specs.Words.{selftest_words}
-use Rattle.pm_cli.specs.declared.words.Command.TheVariants.{Check, Run, Instrument, Show, Debug, Selftest}
+use Rattle.replay_words.specs.Words.{replay_words}
+use Rattle.run_words.specs.CoverWords.{cover_words}
+use Rattle.pm_cli.specs.declared.words.Command.TheVariants.{Check, Run, Instrument, Show, Debug, Selftest, Replay, Cover}
 
 abbrev pub only : List Word → Option Word
 only (word ∷ []) = Some word
@@ -29,7 +31,8 @@ both (word ∷ other ∷ more ∷ words) = None
 unfoldable pub instrument_words : List Word → Option Command
 instrument_words words = option_and_then (λ r. both r.plain) (read_words no_options words)
 
--- the first word is the command: `check M`, `run M ENTRY ..`, `instrument M OUT`, `show DUMP`, `debug M DUMP COMMAND ..`, `selftest N`
+-- The first word is the command: `check M`, `run M ENTRY ..`, `instrument M OUT`, `show DUMP`, `debug M DUMP COMMAND ..`, `selftest N`,
+-- `replay M LOG ENTRY ..`, `cover M ENTRY ..`.
 unfoldable pub command : List Word → Option Command
 command [] = None
 command (name ∷ words) =
@@ -39,31 +42,12 @@ command (name ∷ words) =
     else (if bytes_eq name (codes "show") then option_map Show (one_word words)
     else (if bytes_eq name (codes "debug") then option_map Debug (debug_words words)
     else (if bytes_eq name (codes "selftest") then option_map Selftest (selftest_words words)
-    else None)))))
+    else (if bytes_eq name (codes "replay") then option_map Replay (replay_words words)
+    else (if bytes_eq name (codes "cover") then option_map Cover (cover_words words)
+    else None)))))))
 
--- a run has at least one invocation
-abbrev pub HasInvocations : Command → Type 0
-HasInvocations (Check m) = Unit {0}
-HasInvocations (Run w) = 0 < length w.invocations
-HasInvocations (Instrument m out) = Unit {0}
-HasInvocations (Show dump) = Unit {0}
-HasInvocations (Debug w) = Unit {0}
-HasInvocations (Selftest n) = Unit {0}
-
--- the depth that it is given has an end
-abbrev pub HasDepth : Command → Type 0
-HasDepth (Run w) = w.depth ≤ 10000
-HasDepth (Check m) = Unit {0}
-HasDepth (Instrument m out) = Unit {0}
-HasDepth (Show dump) = Unit {0}
-HasDepth (Debug w) = Unit {0}
-HasDepth (Selftest n) = Unit {0}
-
--- a self-test has so many functions
-abbrev pub HasCount : Command → Type 0
-HasCount (Selftest n) = (1 ≤ n) × (n ≤ 900)
-HasCount (Check m) = Unit {0}
-HasCount (Run w) = Unit {0}
-HasCount (Instrument m out) = Unit {0}
-HasCount (Show dump) = Unit {0}
-HasCount (Debug w) = Unit {0}
+-- A run has at least one invocation, and its depth an end; a self-test has so many functions.
+abbrev pub HasBounds : Command → Type 0
+HasBounds (Run w) = (0 < length w.invocations) × (w.depth ≤ 10000)
+HasBounds (Selftest n) = (1 ≤ n) × (n ≤ 900)
+HasBounds _ = Unit {0}

@@ -6,7 +6,7 @@ ghost use Rattle.causes.specs.Counts.{Rose};
 ghost use Rattle.host_set.specs.Sets.{AreDistinct, names};
 ghost use Rattle.pm_cli.specs.Answer.{IsAnswer, Answered};
 ghost use Rattle.command_answers.specs.Told.{UnlessFault};
-ghost use Rattle.pm_cli.specs.Stops.{UnlessRun, IsQuietBut, IsQuietButBoth, WordsStop};
+ghost use Rattle.pm_cli.specs.Stops.{Quiet, WordsStop};
 ghost use Rattle.pm_cli.specs.Words.{command};
 ghost use Rattle.run_session.specs.Stop.{OnStop};
 
@@ -16,10 +16,12 @@ use crate::words::{Command, parse_words};
 use causes::NoMemory;
 use command_answers::{Outcome, Status, plain};
 use command_words::WordsFault;
+use cover_command::cover_file;
 use debug_command::debug_file;
 use host_set::Devices;
 use instrument_command::instrument_file;
 use pm_outside::Files;
+use replay_command::replay_file;
 use run_command::run_file;
 use selftest_command::selftest_files;
 use std::alloc::Global;
@@ -37,12 +39,8 @@ pub fn respond<F: Files, D: Devices>(
         (map string_bytes words.now) (F.told files.old) (F.told files.new) o)) }
     ensures stops { OnStop (λ stop. WordsStop stop (map string_bytes words.now)
         (D.shown devices.old) (D.shown devices.new) (F.told files.old) (F.told files.new)) result }
-    ensures quiet { UnlessRun (command (map string_bytes words.now))
-        ((D.shown devices.new ≡ D.shown devices.old) × (F.told files.new ≡ F.told files.old) × (F.created files.new ≡ F.created files.old))
-        (λ out. IsQuietBut out (D.shown devices.old) (D.shown devices.new)
-        (F.told files.old) (F.told files.new) (F.created files.old) (F.created files.new))
-        (IsQuietButBoth (D.shown devices.old) (D.shown devices.new)
-        (F.told files.old) (F.told files.new) (F.created files.old) (F.created files.new)) }
+    ensures quiet { Quiet (command (map string_bytes words.now)) (D.shown devices.old) (D.shown devices.new)
+        (F.told files.old) (F.told files.new) (F.created files.old) (F.created files.new) }
     ensures distinct { AreDistinct (names (D.shown devices.new)) }
     ensures telling { is_some (F.told files.new) ≡ is_some (F.told files.old) }
     ensures fault { IfOk result (λ o. o.status ≡ Status.FileFault
@@ -59,10 +57,12 @@ pub fn respond<F: Files, D: Devices>(
         Ok(Command::Show { dump }) => show_file(alloc, files, dump.as_str()),
         Ok(Command::Debug(words)) => debug_file(alloc, files, &words),
         Ok(Command::Selftest { count }) => selftest_files::<F, D>(alloc, files, count),
+        Ok(Command::Replay(words)) => replay_file(alloc, files, &words),
+        Ok(Command::Cover(words)) => cover_file(alloc, files, &words, devices),
         Err(WordsFault::Usage) => plain(
             alloc,
             Status::Usage,
-            "usage: check, run, instrument, show, debug or selftest\n",
+            "usage: check, run, instrument, show, debug, selftest, replay or cover\n",
         ),
         Err(WordsFault::NoMemory) => Err(NoMemory),
     }

@@ -8,7 +8,7 @@ ghost use Rattle.pm_cli.specs.Answer.{Answered, IfRewritten, IfDebugged};
 ghost use Rattle.command_answers.specs.declared.outcome.Outcome.{Outcome as OutcomeThere};
 ghost use Rattle.command_answers.specs.Told.{UnlessFault, Takes, HasTakenFront};
 ghost use Rattle.command_answers.specs.Texts.{file_fault};
-ghost use Rattle.pm_cli.specs.Stops.{UnlessRun, IsQuietBut, IsQuietButBoth, WordsStop};
+ghost use Rattle.pm_cli.specs.Stops.{Quiet, WordsStop};
 ghost use Rattle.pm_cli.specs.Words.{command};
 ghost use Rattle.run_session.specs.Stop.{no_memory, file_failed};
 
@@ -82,21 +82,17 @@ pub fn post_mortem<F: Files, O: Sink, D: Devices>(
         × Answered (D.shown devices.old) (D.shown devices.new) (map string_bytes words.now)
         (F.told files.old) (F.told files.new) o) }
 
-    // However it ends, commands other than `run`, and wrong words, call no device; `instrument` leaves all files as they are but the one
-    // that it writes, `selftest` all but the two that it writes, and the others leave all.
-    ensures quiet { UnlessRun (command (map string_bytes words.now))
-        ((D.shown devices.new ≡ D.shown devices.old) × (F.told files.new ≡ F.told files.old) × (F.created files.new ≡ F.created files.old))
-        (λ out. IsQuietBut out (D.shown devices.old) (D.shown devices.new)
-        (F.told files.old) (F.told files.new) (F.created files.old) (F.created files.new))
-        (IsQuietButBoth (D.shown devices.old) (D.shown devices.new)
-        (F.told files.old) (F.told files.new) (F.created files.old) (F.created files.new)) }
+    // However it ends, commands other than `run` and `cover`, and wrong words, call no device; `instrument` leaves all files as they are but
+    // the one that it writes, `selftest` all but the two that it writes, and the others but `run` leave all.
+    ensures quiet { Quiet (command (map string_bytes words.now)) (D.shown devices.old) (D.shown devices.new)
+        (F.told files.old) (F.told files.new) (F.created files.old) (F.created files.new) }
 
     // A fault is answered only where a count rose.
     ensures fault { result ≡ Status.FileFault
         → Rose (F.faults files.old) (F.faults files.new) ⊎ Rose (O.faults out.old) (O.faults out.new) }
 
     // Where the count of the output did not rise, a fault is that of a file that the command reads, or one that `instrument` or `selftest`
-    // writes, or the dump of a trap in this run, and the output has the whole text that names it.
+    // writes, or the dump of a trap in this run, or its record, and the output has the whole text that names it.
     ensures named { result ≡ Status.FileFault → (Rose (O.faults out.old) (O.faults out.new) → ⊥)
         → Rose (F.faults files.old) (F.faults files.new) × ((file : List ℕ)
         × WordsStop (file_failed file) (map string_bytes words.now)

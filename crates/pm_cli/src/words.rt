@@ -2,12 +2,13 @@
 
 ghost use Rattle.std.specs.Prelude.{◌≡◌, map, None, Some, IfOk};
 ghost use Rattle.std.specs.String.{string_bytes};
-ghost use Rattle.pm_cli.specs.Words.{one_word, instrument_words, command, HasInvocations, HasDepth, HasCount};
+ghost use Rattle.pm_cli.specs.Words.{one_word, instrument_words, command, HasBounds};
 
 use command_words::{Options, WordsFault, read_words};
 use debug_command::{DebugWords, debug_words};
 use pm_text::Text;
-use run_words::{RunWords, run_words};
+use replay_command::{ReplayWords, replay_words};
+use run_words::{CoverWords, RunWords, cover_words, run_words};
 use selftest_command::selftest_words;
 use std::alloc::Global;
 
@@ -26,6 +27,10 @@ pub enum Command {
     Debug(DebugWords),
     /// `selftest N`
     Selftest { count: u32 },
+    /// `replay M LOG ENTRY [ARG ...]`
+    Replay(ReplayWords),
+    /// `cover M ENTRY [ARG ...]`
+    Cover(CoverWords),
 }
 
 /// The one plain word behind a command without options.
@@ -48,9 +53,7 @@ fn one_word(alloc: Global, words: &[String]) -> Result<Text, WordsFault>
 fn instrument_words(alloc: Global, words: &[String]) -> Result<Command, WordsFault>
     ensures ok { IfOk result (λ c. instrument_words (map string_bytes words.now) ≡ Some c) }
     ensures usage { result ≡ Err WordsFault.Usage → instrument_words (map string_bytes words.now) ≡ None }
-    ensures some { IfOk result HasInvocations }
-    ensures depth { IfOk result HasDepth }
-    ensures count { IfOk result HasCount }
+    ensures bounds { IfOk result HasBounds }
 {
     let Some(reading) = read_words(alloc, words, &Options::none())? else {
         return Err(WordsFault::Usage);
@@ -69,9 +72,7 @@ fn instrument_words(alloc: Global, words: &[String]) -> Result<Command, WordsFau
 pub fn parse_words(alloc: Global, words: &[String]) -> Result<Command, WordsFault>
     ensures ok { IfOk result (λ c. command (map string_bytes words.now) ≡ Some c) }
     ensures usage { result ≡ Err WordsFault.Usage → command (map string_bytes words.now) ≡ None }
-    ensures some { IfOk result HasInvocations }
-    ensures depth { IfOk result HasDepth }
-    ensures count { IfOk result HasCount }
+    ensures bounds { IfOk result HasBounds }
 {
     let Some((name, words)) = words.split_first() else {
         return Err(WordsFault::Usage);
@@ -89,6 +90,8 @@ pub fn parse_words(alloc: Global, words: &[String]) -> Result<Command, WordsFaul
         "selftest" => Ok(Command::Selftest {
             count: selftest_words(alloc, words)?,
         }),
+        "replay" => Ok(Command::Replay(replay_words(alloc, words)?)),
+        "cover" => Ok(Command::Cover(cover_words(alloc, words)?)),
         _ => Err(WordsFault::Usage),
     }
 }

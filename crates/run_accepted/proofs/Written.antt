@@ -1,9 +1,7 @@
 -- What `run` answers, and the dumps that it writes.
-use Rattle.std.proofs.Common.{◌≡◌, ℕ, suc, ◌+◌, ◌≤◌, Bool, true, false, nat_lt, List, [], ◌∷◌, length, map, if◌then◌else◌, Option, Some, None, Result, Ok, Err, refl, sym, ap, subst, ◌∙◌, arith, inl, inr}
-use Rattle.std.specs.List.{AllByRecursion}
+use Rattle.std.proofs.Common.{◌≡◌, ℕ, suc, ◌+◌, Bool, true, false, nat_lt, List, [], ◌∷◌, length, map, if◌then◌else◌, Option, Some, None, Result, Ok, Err, refl, sym, ap, subst, ◌∙◌, arith, inl, inr}
 use Rattle.std.specs.Str.{IsUtf8}
 use Rattle.pm_outside.specs.Contents.{Contents}
-use Rattle.wasm_syntax.specs.declared.quantity.Quantity.{Quantity}
 use Rattle.wasm_syntax.specs.declared.quantity.Quantity.TheVariants.{ModuleBytes, RepliesBytes, Height}
 use Rattle.wasm_syntax.specs.declared.host.Reply.{Reply}
 use Rattle.wasm_syntax.specs.declared.host.Served.{Served}
@@ -11,7 +9,7 @@ use Rattle.wasm_syntax.specs.declared.host.CollectorCall.{CollectorCall}
 use Rattle.wasm_syntax.specs.declared.module.ModuleParts.{ModuleParts as Module}
 use Rattle.wasm_syntax.specs.Quantity.{greatest}
 use Rattle.wasm_syntax.specs.Machine.{Config}
-use Rattle.wasm_syntax.specs.Module.{Program, IsProgram}
+use Rattle.wasm_syntax.specs.Module.{Program}
 use Rattle.wasm_syntax.specs.Valid.{Valid}
 use Rattle.wasm_syntax.specs.Run.{Outcome as RunOutcome, not_started, finished, trapped, lacks_reply, misfits, running, got_stuck, Ran, run}
 use Rattle.wasm_laws.proofs.Lists.{some_is}
@@ -35,6 +33,7 @@ use Rattle.run_session.specs.Telling.{Tells, tells, told, torn_in, plain_telling
 use Rattle.run_session.specs.RunText.{unless_torn, up_to_torn, with_dump, dumps_from}
 use Rattle.run_session.specs.Written.{Writes}
 use Rattle.run_session.specs.Invocations.{invocation_of, depth_of}
+use Rattle.run_command.specs.Recorded.{served_in}
 use Rattle.run_command.specs.Starting.{not_started_with}
 use Rattle.run_command.specs.Hosting.{start_text}
 use Rattle.run_command.specs.RunAnswer.{hosting, RunsTo, Logs, StartsOr, ModuleAnswer, replies_input, bad_replies, script_of_bytes, script_of, IsUntouched, IfRefusal, RunAnswer}
@@ -106,7 +105,7 @@ module _ (before after : List DeviceState) (w : RunWords) (first later : Content
         let t' : TrapsAccepted m r.rans = subst (λ x. TrapsAccepted x r.rans) r.of_module (subst (TrapsAccepted p.module_) (sym r.runs) (front_of p r.deliver t)) in
         let files : AllAccepted m (dumps_from (tells w.collect r.deliver) w.dump w.name 0 r.rans) =
         subst (λ (collect : Bool). AllAccepted m (dumps_from (tells collect r.deliver) w.dump w.name 0 r.rans)) (sym plain) (files_accepted m w.dump w.name bounds.name r.deliver r.rans 0 t') in
-        inr (bytes, m, there, e, subst (AllAccepted m) (sym r.dumps) files)
+        inr (bytes, m, there, e, dumps_from (tells w.collect r.deliver) w.dump w.name 0 r.rans, replies_of (served_in r.rans), r.wrote, files)
 
     started : (script : Option (List Reply)) (m : Module) (cause : Option (List ℕ)) → module_from bytes ≡ Ok m → Valid m → StartsOr cause (RunsTo before after script w m given o writes × Logs m given before after) o → Goal
     started script m None e valid h = ran script m e valid h.0

@@ -34,6 +34,7 @@ use Rattle.run_session.specs.inner.Progress.{session_from}
 use Rattle.run_session.specs.inner.Sessions.{point_of, EndsIn, ToldEndsIn, RanAll}
 use Rattle.run_command.specs.Starting.{or_text, cause_text, entries_text}
 use Rattle.run_command.specs.Hosting.{Hosting, scripted}
+use Rattle.run_command.specs.Recorded.{recorded, served_in, IsReadBack}
 use Rattle.run_command.specs.AllRan.{end_text, told_end, ran_to_end}
 use Rattle.run_command.specs.RunAnswer.{hosting, script_replies, UsesUp, EndUsesUp, HasFailed, EndHasFailed, RunsTo}
 
@@ -68,7 +69,7 @@ same_count given n e = omega arith
 one_less : (given n : ℕ) → given ≡ n + 1 → given - 1 ≡ n
 one_less given n e = omega arith
 
-line_is : (names : List (List ℕ)) (p : Program) (imports : List Import) (used_up : Import → Bool) (left : List Reply) (counts now : List ℕ → ℕ) (given n due : ℕ) (o : RunOutcome) (line : List ℕ) → imports ≡ p.module_.imports → HostFacts names used_up left counts now → given ≡ n + length (unfitting o) → EndsIn p used_up counts now given due o line → line ≡ end_text names imports n due o
+pub line_is : (names : List (List ℕ)) (p : Program) (imports : List Import) (used_up : Import → Bool) (left : List Reply) (counts now : List ℕ → ℕ) (given n due : ℕ) (o : RunOutcome) (line : List ℕ) → imports ≡ p.module_.imports → HostFacts names used_up left counts now → given ≡ n + length (unfitting o) → EndsIn p used_up counts now given due o line → line ≡ end_text names imports n due o
 line_is names p imports used_up left counts now given n due (lacks_reply call) line is facts count (inl ((i, there, up), e)) =
     let named : is_named names (module_of imports call.import) ≡ false = ap (λ m. is_named names m) (ap (λ l. module_of l call.import) is ∙ module_is p.module_.imports call.import i there) ∙ (facts.used i up).0 in
     e ∙ ap (λ k. host_stopped (codes "no reply for call " ++ decimal k)) (same_count given n count)
@@ -86,7 +87,7 @@ line_is names p imports used_up left counts now given n due (not_started cause) 
 line_is names p imports used_up left counts now given n due got_stuck line is facts count e = absurd e
 
 -- no reply is left, where the script has none for a call
-uses_up : (h : Hosting) (p : Program) (m : Module) (used_up : Import → Bool) (left : List Reply) (counts now : List ℕ → ℕ) (given due : ℕ) (o : RunOutcome) (line : List ℕ) → p.module_ ≡ m → HostFacts h.names used_up left counts now → EndsIn p used_up counts now given due o line → UsesUp h m left o
+pub uses_up : (h : Hosting) (p : Program) (m : Module) (used_up : Import → Bool) (left : List Reply) (counts now : List ℕ → ℕ) (given due : ℕ) (o : RunOutcome) (line : List ℕ) → p.module_ ≡ m → HostFacts h.names used_up left counts now → EndsIn p used_up counts now given due o line → UsesUp h m left o
 uses_up h p m used_up left counts now given due (lacks_reply call) line is facts (inl ((i, there, up), e)) = λ none. (facts.used i up).1
 uses_up h p m used_up left counts now given due (lacks_reply call) line is facts (inr (device, (i, there, name, some_left), rose, e)) = λ none.
     let named : is_named h.names (module_of m.imports call.import) ≡ true = ap (λ n. is_named h.names n) (ap (λ (x : Module). module_of x.imports call.import) (sym is) ∙ module_is p.module_.imports call.import i there ∙ sym name) ∙ facts.failed device rose in
@@ -100,7 +101,7 @@ uses_up h p m used_up left counts now given due running line is facts ends = tt
 uses_up h p m used_up left counts now given due got_stuck line is facts ends = tt
 
 -- the device's count rose, where it has no reply for a call
-has_failed : (before after : List DeviceState) (p : Program) (m : Module) (used_up : Import → Bool) (left : List Reply) (counts now : List ℕ → ℕ) (given due : ℕ) (o : RunOutcome) (line : List ℕ) → p.module_ ≡ m → HostFacts (names before) used_up left counts now → ((device : List ℕ) → Rose (counts device) (now device) → Rose (count_of before device) (count_of after device)) → EndsIn p used_up counts now given due o line → HasFailed before after m o
+pub has_failed : (before after : List DeviceState) (p : Program) (m : Module) (used_up : Import → Bool) (left : List Reply) (counts now : List ℕ → ℕ) (given due : ℕ) (o : RunOutcome) (line : List ℕ) → p.module_ ≡ m → HostFacts (names before) used_up left counts now → ((device : List ℕ) → Rose (counts device) (now device) → Rose (count_of before device) (count_of after device)) → EndsIn p used_up counts now given due o line → HasFailed before after m o
 has_failed before after p m used_up left counts now given due (lacks_reply call) line is facts counted (inl ((i, there, up), e)) = λ some.
     let named : is_named (names before) (module_of m.imports call.import) ≡ false = ap (λ n. is_named (names before) n) (ap (λ (x : Module). module_of x.imports call.import) (sym is) ∙ module_is p.module_.imports call.import i there) ∙ (facts.used i up).0 in
     let clash : true ≡ false = sym some ∙ named in
@@ -181,14 +182,14 @@ is_run m p collect s is depth fuel given of_module new entries segments =
     ∙ ap (λ n. session M is p.module_.start (start_world p.module_ (replies_of given)) n) (ap (λ n. fuel - n) new.steps ∙ no_less fuel)
     ∙ sym (ap (λ c. unless M c is (replies_of given) fuel) cause)
 
-pub runs_to : (before after : List DeviceState) (script : Option (List Reply)) (w : RunWords) (m : Module) (p : Program) (used_up : Import → Bool) (counts now : List ℕ → ℕ) (left : List Reply) (s : State) (calls calls' : List Served) (told_before told_after : Option Contents) (o : Outcome)
+pub runs_to : (before after : List DeviceState) (script : Option (List Reply)) (w : RunWords) (m : Module) (p : Program) (used_up : Import → Bool) (counts now : List ℕ → ℕ) (bad : Bool) (left : List Reply) (s : State) (calls calls' : List Served) (told_before told_after : Option Contents) (o : Outcome)
     (deliver : List CollectorCall → Delivery) → IsDelivery deliver
     → p.module_ ≡ m → IsProgram p → IsNew m s → entries_text m (map invocation_of w.invocations) ≡ None → cause_of_segments m ≡ None → HostFacts (names before) used_up left counts now
     → ((device : List ℕ) → Rose (counts device) (now device) → Rose (count_of before device) (count_of after device))
-    → (r : RanAll (tells w.collect deliver) p (engine p w.collect (depth_of w)) w.dump w.name used_up counts now (point_of s (map invocation_of w.invocations) w.fuel) calls calls' told_before told_after o)
-    → script_replies script ≡ replies_of (scripted (names before) m.imports r.given) ++ left
-    → RunsTo before after script w m r.given o r.writes
-runs_to before after script w m p used_up counts now left s calls calls' told_before told_after o deliver delivers of_module writes_out new entries segments facts counted r of_script =
+    → (r : RanAll (tells w.collect deliver) p (engine p w.collect (depth_of w)) w.dump w.name used_up counts now bad (point_of s (map invocation_of w.invocations) w.fuel) calls calls' told_before told_after o)
+    → script_replies script ≡ replies_of (scripted (names before) m.imports r.given) ++ left → IsReadBack w.log_to (replies_of (served_in r.has_ended.rans))
+    → RunsTo before after script w m r.given o (r.writes ++ recorded w.log_to r.has_ended.rans)
+runs_to before after script w m p used_up counts now bad left s calls calls' told_before told_after o deliver delivers of_module writes_out new entries segments facts counted r of_script back =
     let is = map invocation_of w.invocations in
     let tell = tells w.collect deliver in
     let b = behaves w.collect deliver in
@@ -214,5 +215,6 @@ runs_to before after script w m p used_up counts now left s calls calls' told_be
           ∙ ap (λ t. ended (told_status (traps_in tell e.rans) torn r.last.outcome) (flat_map (invocation_text tell) e.rans ++ t)) (told_line (names before) p m.imports used_up left counts now (length r.given) (fitted e.rans) r.due torn r.last.outcome r.line (ap (λ (x : Module). x.imports) (sym of_module)) facts e.fit r.ends)
           ∙ ap (λ k. ended (told_status (traps_in tell e.rans) torn r.last.outcome) (flat_map (invocation_text tell) e.rans ++ told_end (names before) m.imports (fitted e.rans) k torn r.last.outcome)) (sym due)
           ∙ ap (λ l. ran_to_end tell (names before) m.imports (length w.invocations) e.rans l) (sym e.last);
-      dumps = e.came_of.writes;
+      wrote = ap (λ ws. ws ++ recorded w.log_to e.rans) e.came_of.writes;
+      read_back = back;
     }

@@ -7,7 +7,6 @@ use Rattle.causes.specs.Counts.{Rose}
 use Rattle.pm_outside.specs.Contents.{Contents}
 use Rattle.wasm_syntax.specs.declared.quantity.Quantity.TheVariants.{ModuleBytes, RepliesBytes}
 use Rattle.wasm_syntax.specs.declared.host.Reply.{Reply}
-use Rattle.wasm_syntax.specs.declared.host.Served.{Served}
 use Rattle.wasm_syntax.specs.declared.module.ModuleParts.{ModuleParts as Module}
 use Rattle.wasm_syntax.specs.Valid.{Valid}
 use Rattle.wasm_validate.specs.Heights.{AllLow}
@@ -28,15 +27,14 @@ use Rattle.command_answers.specs.declared.loading.Loaded.TheVariants.{Valid as I
 use Rattle.command_answers.specs.declared.input.Input.{Input}
 use Rattle.command_answers.specs.declared.input.Input.TheVariants as inputs
 use Rattle.command_answers.proofs.Unless.{OnAnswer, unless, on_all, map_answer, all_answers}
-use Rattle.command_answers.proofs.Reading.{map_contents, then_ok, then_err, whole_then, refused_then}
-use Rattle.run_session.specs.Written.{Writes}
+use Rattle.command_answers.proofs.Reading.{map_contents, then_ok, then_err}
 use Rattle.run_command.specs.declared.scripts.Script.{Script}
 use Rattle.run_command.specs.declared.scripts.Script.TheVariants.{Bad}
 use Rattle.run_command.specs.declared.scripts.Asked.{Asked}
 use Rattle.run_command.specs.declared.scripts.Asked.TheVariants.{Read, Refused}
 use Rattle.run_command.specs.inner.Steps.{IsAnswered}
-use Rattle.run_command.specs.RunAnswer.{ModuleAnswer, RunAnswer, AnsweredOn, IsReadBy, bad_replies, script_of, replies_input}
-use Rattle.run_command.specs.inner.Scripts.{script_result, IsAsked, ScriptAnswer, BytesAnswer, SourceAnswer, IsReadFault}
+use Rattle.run_command.specs.RunAnswer.{ModuleAnswer, RunAnswer, AnsweredOn, bad_replies, script_of, replies_input}
+use Rattle.run_command.specs.inner.Scripts.{script_result, IsAsked, ScriptAnswer, BytesAnswer, SourceAnswer, IsRepliesFault, IsReadFault}
 use Rattle.run_command.proofs.Refusals.{untouched, carried, all_carried}
 
 -- ---- modules
@@ -183,3 +181,7 @@ pub source_fault : (w : RunWords) (before now : ℕ) (name : List ℕ) (input : 
 source_fault w before now name input o is named x = λ faulted.
     let known : (o ≡ file_fault name) × Rose before now = subst (λ i. IfRefused (λ o. o.status ≡ status.FileFault → (o ≡ file_fault name) × Rose before now) i) is x faulted in
     ((name, inl named, known.0), known.1)
+
+-- the file of replies failed, which is read
+pub replies_fault : (w : RunWords) (before now : ℕ) (o : Outcome) → IsRepliesFault w.replies before now o → IsReadFault w before now o
+replies_fault w before now o x = λ faulted. let known = x faulted in ((known.0.0, inr known.0.1, known.0.2), known.1)

@@ -1,5 +1,5 @@
 -- What a host side of devices and a script has given in a run.
-use Rattle.std.proofs.Common.{◌≡◌, ℕ, ◌+◌, ◌<◌, Bool, true, false, List, [], ◌∷◌, ◌++◌, map, take, drop, refl, sym, ap, ap₂, ◌∙◌, subst, inl, inr, arith, Option, Some, None}
+use Rattle.std.proofs.Common.{◌≡◌, ℕ, ◌<◌, Bool, true, false, List, [], ◌∷◌, ◌++◌, map, take, drop, refl, sym, ap, ap₂, ◌∙◌, subst, inl, inr, arith, Option, Some, None}
 use Rattle.std.specs.Prelude.{◌≤◌, ◌⊎◌, length, get_or, not, cond, if◌then◌else◌, slice_get, is_none, bytes_eq}
 use Rattle.std.proofs.lemmas.List.{take-append-drop, drop_all}
 use Rattle.std.proofs.lemmas.Option.{slice_get_cases}
@@ -143,7 +143,7 @@ module _ (imports : List Import) (before : List DeviceState) (script : Option (L
   }
 
   module _ (after : List DeviceState) (back : GaveBack h1 after) (given : List Served) (grew : (calls_of h1).served ≡ (calls_of h0).served ++ given) where
-    given_is : (calls_of h1).served ≡ given
+    pub given_is : (calls_of h1).served ≡ given
     given_is = grew ∙ ap (λ l. map (λ (s : List ℕ × Served). s.1) l ++ given) began.none_served
 
     served_is : h1.served ≡ map (with_module imports) given

@@ -1,9 +1,10 @@
-mod Answering
-mod Hostings
+pub mod Answering
+pub mod Hostings
 mod Valid
-mod Beginning
+pub mod Beginning
 mod Entries
 pub mod OneWritten
 mod Refusals
 mod Commands
 mod Stopping
+mod Fitting

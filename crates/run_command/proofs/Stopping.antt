@@ -1,5 +1,5 @@
 -- What a command leaves where it has no answer, from what its parts leave.
-use Rattle.std.proofs.Common.{◌≡◌, ℕ, zero, suc, List, [], ◌∷◌, map, take, drop, refl, sym, ap, ◌∙◌, subst, inl, inr, Option, None, Result, Ok, Err}
+use Rattle.std.proofs.Common.{◌≡◌, ℕ, zero, suc, Bool, List, [], ◌∷◌, ◌++◌, map, take, drop, refl, sym, ap, ◌∙◌, subst, inl, inr, Option, None, Result, Ok, Err}
 use Rattle.std.specs.Prelude.{◌⊎◌, IfOk}
 use Rattle.causes.specs.declared.NoMemory.{NoMemory as WantOfMemory}
 use Rattle.std.specs.declared.vec.Vec.{Vec}
@@ -38,7 +38,7 @@ use Rattle.run_session.specs.inner.Sessions.{point_of, WasStopped, StopsIn}
 use Rattle.run_command.specs.Starting.{cause_text, entries_text, or_text}
 use Rattle.run_command.specs.RunAnswer.{IsReadBy, bad_replies, script_replies, replies_input, script_of}
 use Rattle.run_command.specs.inner.Scripts.{script_result, IsAsked, IsReadFault}
-use Rattle.run_command.specs.Stops.{RunsFor, StopsRun, NothingDone, ModuleStops, ScriptStops, BytesStops, SourceStops, FileStops, RunStops}
+use Rattle.run_command.specs.Stops.{RunsFor, dumps_of, StopsRecord, StopsRun, NothingDone, ModuleStops, ScriptStops, BytesStops, SourceStops, FileStops, RunStops}
 use Rattle.run_command.specs.declared.scripts.Script.{Script}
 use Rattle.run_command.specs.declared.scripts.Script.TheVariants.{Whole}
 use Rattle.run_command.specs.declared.scripts.Asked.{Asked}
@@ -47,6 +47,13 @@ use Rattle.run_command.proofs.Answering.{none_then, is_run}
 use Rattle.run_command.specs.inner.Begun.{HasBegun}
 use Rattle.run_command.specs.declared.running.Begun.TheVariants.{Ready}
 use Rattle.run_command.proofs.Beginning.{none_starts, starts_alike}
+use Rattle.run_command.specs.inner.Recording.{Records, fitting}
+use Rattle.run_command.proofs.Fitting.{recorded_stops}
+use Rattle.run_command.proofs.Valid.{RanSo, own_record, is_recorded}
+use Rattle.run_session.specs.Written.{HoldPart}
+use Rattle.run_session.proofs.Held.{part_also}
+use Rattle.dump_write.specs.Written.{OnTold}
+use Rattle.command_answers.proofs.Unless.{OnAnswer}
 use Rattle.run_command.proofs.Hostings.{Began, GaveBack, by_script, logs}
 
 -- ---- facts on results
@@ -79,7 +86,7 @@ module _ (before after : List DeviceState) (script : Option (List Reply)) (w : R
     (new : IsNew s.module_ s) (segments : cause_of_segments s.module_ ≡ None) (began : Began s.module_.imports before script h0) (same : origin_of h1 ≡ origin_of h0) (back : GaveBack h1 after) where
   runs_for : (deliver : List CollectorCall → Delivery) → IsDelivery deliver → (p : Program) (is : List Invocation) (fuel : ℕ) (rans : List Ran) → p.module_ ≡ s.module_ → IsProgram p → entries_text s.module_ is ≡ None
       → WasStopped (tells w.collect deliver) (engine p w.collect (depth_of w)) w.dump w.name 0 (point_of s is fuel) rans (calls_of h0).served (calls_of h1).served told told'
-      → RunsFor deliver w s.module_ script is fuel rans before after told told'
+      → RunsFor deliver w s.module_ script is fuel rans (dumps_of deliver w rans) before after told told'
   runs_for deliver delivers p is fuel rans of_module writes_out entries x = record {
     program = p;
     of_module = of_module;
@@ -97,23 +104,64 @@ module _ (before after : List DeviceState) (script : Option (List Reply)) (w : R
   runs_stop : (deliver : List CollectorCall → Delivery) → IsDelivery deliver → (p : Program) (stop : Stop) → p.module_ ≡ s.module_ → IsProgram p → entries_text s.module_ (map invocation_of w.invocations) ≡ None
       → StopsIn (tells w.collect deliver) stop (engine p w.collect (depth_of w)) w.dump w.name 0 s (map invocation_of w.invocations) w.fuel (calls_of h0).served (calls_of h1).served told told'
       → StopsRun stop w s.module_ script before after told told'
-  runs_stop deliver delivers p no_memory of_module writes_out entries (total, few, many, rans, x) = (deliver, total, many, rans, runs_for deliver delivers p (map invocation_of w.invocations) total rans of_module writes_out entries x)
+  runs_stop deliver delivers p no_memory of_module writes_out entries (total, few, many, rans, x) = inl (deliver, total, many, rans, runs_for deliver delivers p (map invocation_of w.invocations) total rans of_module writes_out entries x)
   runs_stop deliver delivers p (file_failed file) of_module writes_out entries (made, rans, dump, x) =
-      (deliver, made, rans, dump, runs_for deliver delivers p (take made (map invocation_of w.invocations)) w.fuel rans of_module writes_out (taken_entries s.module_ made (map invocation_of w.invocations) entries) x)
+      inl (deliver, made, rans, dump, runs_for deliver delivers p (take made (map invocation_of w.invocations)) w.fuel rans of_module writes_out (taken_entries s.module_ made (map invocation_of w.invocations) entries) x)
 
 abbrev StopsSo : (List CollectorCall → Delivery) → Program → RunWords → State → (h0 h1 : HostsState) → (told told' : Option Contents) → Stop → Type 0
 StopsSo deliver p w s h0 h1 told told' stop = StopsIn (tells w.collect deliver) stop (engine p w.collect (depth_of w)) w.dump w.name 0 s (map invocation_of w.invocations) w.fuel (calls_of h0).served (calls_of h1).served told told'
 
-pub hosted_stops : (deliver : List CollectorCall → Delivery) → IsDelivery deliver → (result : Result Outcome WantOfMemory) (before after : List DeviceState) (script : Option (List Reply)) (w : RunWords) (s : State) (h0 h1 : HostsState) (told told' : Option Contents)
+module _ (deliver : List CollectorCall → Delivery) (delivers : IsDelivery deliver) (p : Program) (before after : List DeviceState) (script : Option (List Reply)) (w : RunWords) (s : State) (bad : Bool) (h0 h1 : HostsState) (told mid new : Option Contents)
+    (of_module : p.module_ ≡ s.module_) (writes_out : IsProgram p) (is_new : IsNew s.module_ s) (entries : entries_text s.module_ (map invocation_of w.invocations) ≡ None) (segments : cause_of_segments s.module_ ≡ None)
+    (began : Began s.module_.imports before script h0) (same : origin_of h1 ≡ origin_of h0) (back : GaveBack h1 after) where
+  -- the record is written in part, behind the whole run
+  record_stops : (o : Outcome) → RanSo deliver p w s bad h0 h1 told mid o → OnTold (HoldPart (own_record w bad h1)) mid new → StopsRecord w s.module_ script before after told new
+  record_stops o r part =
+      let e = r.has_ended in (
+        deliver,
+        r.has_ended.rans,
+        record {
+          program = p;
+          of_module = of_module;
+          writes_out = writes_out;
+          given = r.given;
+          delivers = delivers;
+          runs = sym e.is ∙ ap (λ l. up_to_torn (tells w.collect deliver) l) (is_run s.module_ p w.collect s (map invocation_of w.invocations) (depth_of w) w.fuel r.given of_module is_new entries segments);
+          all_given = e.came_of.given;
+          left = drop h1.given (script_replies script);
+          by_script = by_script s.module_.imports before script h0 h1 began same after back r.given r.grew;
+          logs = logs s.module_ before after script h0 h1 began same back r.given r.grew;
+          files = subst (λ ws. OnTold (HoldPart ws) told new)
+              (ap (λ ws. ws ++ own_record w bad h1) e.came_of.writes
+              ∙ ap (λ ws. dumps_of deliver w r.has_ended.rans ++ ws) (is_recorded deliver delivers p before after script w s bad h0 h1 told mid new of_module writes_out is_new entries segments began same back o r))
+              (part_also r.writes (own_record w bad h1) told mid new r.files part);
+        },
+      )
+
+  recorded_in : (rose : Type 0) (ran result : Result Outcome WantOfMemory) → OnAnswer (RanSo deliver p w s bad h0 h1 told mid) ran → IfOk ran (λ o. o.status ≡ status.NoMemory → ⊥)
+      → OnStop (λ stop. StopsRun stop w s.module_ script before after told mid) ran → Records w.log_to (fitting bad h1.served) rose ran result mid new
+      → OnStop (λ stop. StopsRun stop w s.module_ script before after told new) result
+  recorded_in rose ran result x enough stops records =
+      recorded_stops w.log_to (fitting bad h1.served) rose mid new (λ stop. StopsRun stop w s.module_ script before after told mid) (λ stop. StopsRun stop w s.module_ script before after told new) (RanSo deliver p w s bad h0 h1 told mid) ran result
+      (λ stop unchanged y. subst (λ t. StopsRun stop w s.module_ script before after told t) (sym unchanged) y)
+      (λ o r part. (inr (record_stops o r part), λ file asked. inr (asked, record_stops o r part)))
+      x enough stops records
+
+pub hosted_stops : (deliver : List CollectorCall → Delivery) → IsDelivery deliver → (rose : Type 0) (ran result : Result Outcome WantOfMemory) (before after : List DeviceState) (script : Option (List Reply)) (w : RunWords) (s : State) (bad : Bool) (h0 h1 : HostsState) (told mid new : Option Contents)
     → IsModule s.module_ → IsNew s.module_ s → entries_text s.module_ (map invocation_of w.invocations) ≡ None → cause_of_segments s.module_ ≡ None
     → Began s.module_.imports before script h0 → origin_of h1 ≡ origin_of h0 → GaveBack h1 after
-    → ((p : Program) → IsOf s p → OnStop (StopsSo deliver p w s h0 h1 told told') result)
-    → OnStop (λ stop. StopsRun stop w s.module_ script before after told told') result
-hosted_stops deliver delivers result before after script w s h0 h1 told told' whole new entries segments began same back x =
+    → ((p : Program) → IsOf s p → OnAnswer (RanSo deliver p w s bad h0 h1 told mid) ran) → IfOk ran (λ o. o.status ≡ status.NoMemory → ⊥)
+    → ((p : Program) → IsOf s p → OnStop (StopsSo deliver p w s h0 h1 told mid) ran)
+    → Records w.log_to (fitting bad h1.served) rose ran result mid new
+    → OnStop (λ stop. StopsRun stop w s.module_ script before after told new) result
+hosted_stops deliver delivers rose ran result before after script w s bad h0 h1 told mid new whole is_new entries segments began same back x enough stops records =
     let p : Program = record { module_ = s.module_; trees = whole.trees } in
-    map_stop (StopsSo deliver p w s h0 h1 told told') (λ stop. StopsRun stop w s.module_ script before after told told') result
-    (λ stop y. runs_stop before after script w s h0 h1 told told' new segments began same back deliver delivers p stop refl whole.write entries y)
-    (x p (record { of_module = refl; writes_out = whole.write }))
+    let of : IsOf s p = record { of_module = refl; writes_out = whole.write } in
+    recorded_in deliver delivers p before after script w s bad h0 h1 told mid new refl whole.write is_new entries segments began same back rose ran result (x p of) enough
+    (map_stop (StopsSo deliver p w s h0 h1 told mid) (λ stop. StopsRun stop w s.module_ script before after told mid) ran
+    (λ stop y. runs_stop before after script w s h0 h1 told mid is_new segments began same back deliver delivers p stop refl whole.write entries y)
+    (stops p of))
+    records
 
 -- ---- the steps of the command, from the last to the first
 
@@ -146,19 +194,21 @@ module _ (devices : List DeviceState) (w : RunWords) (P : Stop → Option Conten
 
 module _ (before after : List DeviceState) (w : RunWords) (result : Result Outcome WantOfMemory) where
   -- a new instance was made, and the invocations were run on it
-  pub ready_stops : (deliver : List CollectorCall → Delivery) → IsDelivery deliver → (script : Option (List Reply)) (m : Module) (s : State) (h0 h1 : HostsState) (told told' : Option Contents)
+  pub ready_stops : (deliver : List CollectorCall → Delivery) → IsDelivery deliver → (rose : Type 0) (ran : Result Outcome WantOfMemory) (script : Option (List Reply)) (m : Module) (s : State) (bad : Bool) (h0 h1 : HostsState) (told mid told' : Option Contents)
       → IsModule m → Valid m → HasBegun (serving_of w.collect (λ i type. serves h0 i)) m (map invocation_of w.invocations) (Ready s)
       → Began m.imports before script h0 → origin_of h1 ≡ origin_of h0 → GaveBack h1 after
-      → ((p : Program) → IsOf s p → OnStop (StopsSo deliver p w s h0 h1 told told') result)
+      → ((p : Program) → IsOf s p → OnAnswer (RanSo deliver p w s bad h0 h1 told mid) ran) → IfOk ran (λ o. o.status ≡ status.NoMemory → ⊥)
+      → ((p : Program) → IsOf s p → OnStop (StopsSo deliver p w s h0 h1 told mid) ran)
+      → Records w.log_to (fitting bad h1.served) rose ran result mid told'
       → OnStop (StepStops before after w (λ stop old new. ModuleStops stop w m script before after old new) told told') result
-  ready_stops deliver delivers script m s h0 h1 told told' whole valid (starts, segments, new) began same back x =
+  ready_stops deliver delivers rose ran script m s bad h0 h1 told mid told' whole valid (starts, segments, new) began same back x enough stops records =
       let is = map invocation_of w.invocations in
       let at = sym new.module_is in
       map_stop (λ stop. StopsRun stop w s.module_ script before after told told') (StepStops before after w (λ stop old new. ModuleStops stop w m script before after old new) told told') result
       (λ stop y. inr (sym (starts_alike m h0 before script w.collect valid began.devices_are began.script_is is) ∙ starts, subst (λ (x : Module). StopsRun stop w x script before after told told') new.module_is y))
-      (hosted_stops deliver delivers result before after script w s h0 h1 told told' (subst IsModule at whole) (subst (λ (x : Module). IsNew x s) at new)
+      (hosted_stops deliver delivers rose ran result before after script w s bad h0 h1 told mid told' (subst IsModule at whole) (subst (λ (x : Module). IsNew x s) at new)
       (ap (λ (x : Module). entries_text x is) new.module_is ∙ (none_starts (serving_of w.collect (λ i type. serves h0 i)) m is starts).0) (ap (λ (x : Module). cause_of_segments x) new.module_is ∙ segments)
-      (subst (λ (x : Module). Began x.imports before script h0) at began) same back x)
+      (subst (λ (x : Module). Began x.imports before script h0) at began) same back x enough stops records)
 
   pub scripted_stops : (m : Module) (given : Script) (script : Option (List Reply)) (told told' : Option Contents) → given ≡ Whole script
       → OnStop (StepStops before after w (λ stop old new. ModuleStops stop w m script before after old new) told told') result

@@ -1,6 +1,7 @@
 pub mod Starting
 pub mod Hosting
 pub mod AllRan
+pub mod Recorded
 pub mod RunAnswer
 pub mod Stops
 pub mod inner

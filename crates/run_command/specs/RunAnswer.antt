@@ -32,6 +32,7 @@ use Rattle.run_session.specs.Invocations.{invocation_of, depth_of}
 use Rattle.run_command.specs.Starting.{not_started_with}
 use Rattle.run_command.specs.Hosting.{Hosting, scripted, start_text}
 use Rattle.run_command.specs.AllRan.{all_ran}
+use Rattle.run_command.specs.Recorded.{recorded, served_in, IsReadBack}
 
 abbrev pub script_replies : Option (List Reply) → List Reply
 script_replies None = []
@@ -93,7 +94,9 @@ pub record RunsTo (before after : List DeviceState) (script : Option (List Reply
   pub used_up : EndUsesUp (hosting before script w.collect) m left (last_of rans)
   pub failed : EndHasFailed before after m (last_of rans)
   pub answer : o ≡ all_ran (tells w.collect deliver) (names before) m.imports (length w.invocations) rans
-  pub dumps : writes ≡ dumps_from (tells w.collect deliver) w.dump w.name 0 rans
+  -- the dumps, and the record behind them
+  pub wrote : writes ≡ dumps_from (tells w.collect deliver) w.dump w.name 0 rans ++ recorded w.log_to rans
+  pub read_back : IsReadBack w.log_to (replies_of (served_in rans))
 
 abbrev pub StartsOr : Option (List ℕ) → Type 0 → Outcome → Type 0
 StartsOr (Some cause) P o = o ≡ not_started_with cause

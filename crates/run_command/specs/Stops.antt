@@ -1,5 +1,5 @@
 -- What is left where memory is wanting, or where a file fails.
-use Rattle.std.specs.Prelude.{◌≡◌, ℕ, ◌≤◌, ◌⊎◌, List, ◌++◌, map, take, Option, None, Result, Ok}
+use Rattle.std.specs.Prelude.{◌≡◌, ℕ, ◌≤◌, ◌⊎◌, List, ◌++◌, map, take, Option, Some, None, Result, Ok}
 use Rattle.pm_outside.specs.Contents.{Contents}
 use Rattle.wasm_syntax.specs.declared.quantity.Quantity.TheVariants.{ModuleBytes}
 use Rattle.wasm_syntax.specs.declared.host.Reply.{Reply}
@@ -23,16 +23,17 @@ use Rattle.run_collected.specs.Delivery.{Delivery, IsDelivery}
 use Rattle.run_session.specs.Telling.{tells}
 use Rattle.run_session.specs.RunText.{up_to_torn, dumps_from}
 use Rattle.run_session.specs.Given.{given_in}
-use Rattle.run_session.specs.Written.{HoldPart}
+use Rattle.run_session.specs.Written.{Writes, HoldPart}
 use Rattle.run_session.specs.Invocations.{invocation_of, depth_of}
 use Rattle.run_command.specs.Hosting.{scripted, start_text}
+use Rattle.run_command.specs.Recorded.{recorded}
 use Rattle.run_command.specs.RunAnswer.{Logs, IsReadBy, hosting, script_replies, replies_input, script_of}
 
 -- ---- what was run
 
--- What these invocations come to within so many steps, on the replies that were given, those of the script being its first ones. The dumps of
--- their traps are written, but the last one may be there in part.
-pub record RunsFor (deliver : List CollectorCall → Delivery) (w : RunWords) (m : Module) (script : Option (List Reply)) (is : List Invocation) (fuel : ℕ) (rans : List Ran) (before after : List DeviceState) (old new : Option Contents) : Type 0 where
+-- What these invocations come to within so many steps, on the replies that were given, those of the script being its first ones. These files
+-- are written, but the last one may be there in part.
+pub record RunsFor (deliver : List CollectorCall → Delivery) (w : RunWords) (m : Module) (script : Option (List Reply)) (is : List Invocation) (fuel : ℕ) (rans : List Ran) (writes : Writes) (before after : List DeviceState) (old new : Option Contents) : Type 0 where
   pub program : Program
   pub of_module : program.module_ ≡ m
   pub writes_out : IsProgram program
@@ -43,14 +44,28 @@ pub record RunsFor (deliver : List CollectorCall → Delivery) (w : RunWords) (m
   pub left : List Reply
   pub by_script : script_replies script ≡ replies_of (scripted (names before) m.imports given) ++ left
   pub logs : Logs m given before after
-  pub files : OnTold (HoldPart (dumps_from (tells w.collect deliver) w.dump w.name 0 rans)) old new
+  pub files : OnTold (HoldPart writes) old new
 
--- all invocations, for some number of steps up to the fuel; or the invocations up to one that trapped, the file of whose dump failed
+-- the dumps of the traps of these invocations
+abbrev pub dumps_of : (List CollectorCall → Delivery) → RunWords → List Ran → Writes
+dumps_of deliver w rans = dumps_from (tells w.collect deliver) w.dump w.name 0 rans
+
+-- the whole run, with its dumps; the record behind them may be there in part
+abbrev pub StopsRecord : RunWords → Module → Option (List Reply) → (before after : List DeviceState) → (old new : Option Contents) → Type 0
+StopsRecord w m script before after old new =
+    (deliver : List CollectorCall → Delivery) × (rans : List Ran)
+    × RunsFor deliver w m script (map invocation_of w.invocations) w.fuel rans (dumps_of deliver w rans ++ recorded w.log_to rans) before after old new
+
+-- all invocations, for some number of steps up to the fuel; or the invocations up to one that trapped, the file of whose dump failed; or the
+-- record was not written
 abbrev pub StopsRun : Stop → RunWords → Module → Option (List Reply) → (before after : List DeviceState) → (old new : Option Contents) → Type 0
 StopsRun no_memory w m script before after old new =
-    (deliver : List CollectorCall → Delivery) × (fuel : ℕ) × (fuel ≤ w.fuel) × (rans : List Ran) × RunsFor deliver w m script (map invocation_of w.invocations) fuel rans before after old new
+    ((deliver : List CollectorCall → Delivery) × (fuel : ℕ) × (fuel ≤ w.fuel) × (rans : List Ran) × RunsFor deliver w m script (map invocation_of w.invocations) fuel rans (dumps_of deliver w rans) before after old new)
+    ⊎ StopsRecord w m script before after old new
 StopsRun (file_failed file) w m script before after old new =
-    (deliver : List CollectorCall → Delivery) × (made : ℕ) × (rans : List Ran) × EndsAtDump (tells w.collect deliver) w.dump 0 rans file × RunsFor deliver w m script (take made (map invocation_of w.invocations)) w.fuel rans before after old new
+    ((deliver : List CollectorCall → Delivery) × (made : ℕ) × (rans : List Ran) × EndsAtDump (tells w.collect deliver) w.dump 0 rans file
+    × RunsFor deliver w m script (take made (map invocation_of w.invocations)) w.fuel rans (dumps_of deliver w rans) before after old new)
+    ⊎ ((w.log_to ≡ Some file) × StopsRecord w m script before after old new)
 
 -- ---- the steps of the command, from the last to the first
 

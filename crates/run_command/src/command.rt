@@ -120,7 +120,7 @@ fn run_source<F: Files, D: Devices>(
     ensures telling { is_some (F.told files.new) ≡ is_some (F.told files.old) }
     ensures later { F.faults files.old ≤ F.faults files.new }
 {
-    let asked = asked_script(alloc, files, words)?;
+    let asked = asked_script(alloc, files, &words.replies)?;
     match asked {
         Asked::Read(script) => run_bytes(alloc, files, words, bytes, script, devices),
         Asked::Refused(refusal) => Ok(refusal),

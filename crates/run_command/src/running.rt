@@ -13,6 +13,7 @@ ghost use Rattle.run_command.specs.inner.Begun.{HasBegun};
 ghost use Rattle.run_command.specs.inner.Steps.{IsAnswered};
 ghost use Rattle.run_command.specs.Stops.{NothingDone, ModuleStops};
 
+use crate::recording::recorded;
 use crate::starting::{early_cause, not_started};
 use causes::NoMemory;
 use command_answers::{Outcome, Status};
@@ -31,7 +32,7 @@ use wasm_validate::Validated;
 
 /// A new instance, or what is answered where nothing is run.
 #[derive(Drop)]
-pub(crate) enum Begun<'a> {
+pub enum Begun<'a> {
     Ready(Instance<'a>),
     Refused(Outcome),
 }
@@ -48,7 +49,11 @@ fn segment_cause(alloc: Global, fault: StartFault) -> Result<Text, NoMemory>
 }
 
 /// A new instance, where all of these invocations may begin with a host side, or the answer that says why not.
-fn begin<'a, H: HostSide>(
+///
+/// # Errors
+///
+/// `NoMemory` where memory runs out.
+pub fn begin<'a, H: HostSide>(
     alloc: Global,
     source: &'a Validated,
     invocations: &[Invocation],
@@ -137,7 +142,8 @@ pub(crate) fn run_valid<F: Files, D: Devices>(
     };
     match begun {
         Begun::Ready(mut instance) => {
-            let (outcome, hosts) = run_all(alloc, files, words, &mut instance, hosts);
+            let (ran, hosts) = run_all(alloc, files, words, &mut instance, hosts);
+            let outcome = recorded(alloc, files, &words.log_to, &instance, &hosts, ran);
             *devices = hosts.into_devices();
             outcome
         }

@@ -5,34 +5,37 @@ ghost use Rattle.causes.specs.Counts.{Rose};
 ghost use Rattle.command_answers.specs.Texts.{file_fault};
 ghost use Rattle.command_answers.specs.Told.{OnContents};
 ghost use Rattle.run_command.specs.RunAnswer.{replies_input, bad_replies, script_of};
-ghost use Rattle.run_command.specs.inner.Scripts.{script_result, IsAsked, IfAskedRefused, IsReadFault};
+ghost use Rattle.run_command.specs.inner.Scripts.{script_result, IsAsked, IfAskedRefused, IsRepliesFault};
 
 use causes::NoMemory;
 use command_answers::{Input, Outcome, Status, push_number, read_input};
 use host_replies::{ReplyFault, read_replies};
 use pm_outside::Files;
 use pm_text::{Items, Text};
-use run_words::RunWords;
 use std::alloc::Global;
 use wasm_syntax::{Quantity, Reply};
 
 /// The replies of a script, where there is one, or the first line that is no reply.
 #[derive(Drop)]
-pub(crate) enum Script {
+pub enum Script {
     Whole(Option<Items<Reply>>),
     /// The number of the line, counted from 1.
     Bad(u64),
 }
 
-/// A script that was read where the words ask for one, or what is answered in its place.
+/// A script that was read where one is asked for, or what is answered in its place.
 #[derive(Drop)]
-pub(crate) enum Asked {
+pub enum Asked {
     Read(Script),
     Refused(Outcome),
 }
 
 /// The answer where a line of the file of replies is no reply.
-pub(crate) fn bad_replies(alloc: Global, line: u64) -> Result<Outcome, NoMemory>
+///
+/// # Errors
+///
+/// `NoMemory` where memory runs out.
+pub fn bad_replies(alloc: Global, line: u64) -> Result<Outcome, NoMemory>
     ensures { IfOk result (λ o. o ≡ bad_replies line) }
 {
     let mut text = Text::new(alloc);
@@ -55,21 +58,26 @@ fn script_from(alloc: Global, bytes: &[u8]) -> Result<Script, NoMemory>
     }
 }
 
-/// Reads the script that the words ask for.
-pub(crate) fn asked_script<F: Files>(
+/// Reads the script in a file of replies, where one is asked for.
+///
+/// # Errors
+///
+/// `NoMemory` where memory runs out.
+pub fn asked_script<F: Files>(
     alloc: Global,
     files: &mut F,
-    words: &RunWords,
+    replies: &Option<Text>,
 ) -> Result<Asked, NoMemory>
     ensures told { IfOk result (λ asked. OnContents (F.told files.old) (λ held.
-        IsAsked asked (replies_input words.now.replies held))) }
+        IsAsked asked (replies_input replies.now held))) }
     ensures fault { IfOk result (IfAskedRefused
-        (IsReadFault words.now (F.faults files.old) (F.faults files.new))) }
+        (IsRepliesFault replies.now (F.faults files.old) (F.faults files.new))) }
     ensures memory { IfOk result (IfAskedRefused (λ o. o.status ≢ Status.NoMemory)) }
     ensures same { F.told files.new ≡ F.told files.old }
+    ensures names { F.created files.new ≡ F.created files.old }
     ensures later { F.faults files.old ≤ F.faults files.new }
 {
-    let Some(file) = &words.replies else {
+    let Some(file) = replies else {
         return Ok(Asked::Read(Script::Whole(None)));
     };
     let input = read_input(alloc, files, file.as_str(), Quantity::RepliesBytes)?;

@@ -25,11 +25,11 @@ use Rattle.run_session.specs.RunText.{traps_in, with_trap, last_of, fitted, up_t
 use Rattle.run_session.specs.inner.Answers.{answer_line, answer_status}
 use Rattle.run_session.specs.Ending.{trapped_or_done, end_status, told_status}
 use Rattle.run_session.specs.inner.Progress.{Point, session_from, WentOn, NoneTorn}
-use Rattle.run_session.specs.inner.Sessions.{point_of, EndsIn, ToldEndsIn, RanAll, SoFar}
+use Rattle.run_session.specs.inner.Sessions.{is_misfit, ends_badly, point_of, EndsIn, ToldEndsIn, RanAll, SoFar}
 use Rattle.run_session.specs.declared.turns.Lines.{Lines}
 use Rattle.run_session.proofs.Tellings.{Behaves}
 use Rattle.run_session.proofs.Lists.{none_torn_first}
-use Rattle.run_session.proofs.Sessions.{EndedWith, EndsSo, TornAt}
+use Rattle.run_session.proofs.Sessions.{EndedWith, EndsSo, TornAt, fits_on}
 
 -- ---- the last line and the status by the answer
 
@@ -85,16 +85,16 @@ done_no_want traps = (of_traps traps).1
 
 -- ---- the whole list
 
-module _ (tell : Tells) (p : Program) (M : Engine) (base name : List ℕ) (used_up : Import → Bool) (counts now : List ℕ → ℕ) (first : Point) (lines : Lines) (before after : List Served) (told_before told_after : Option Contents) (due : ℕ) (none : before ≡ []) where
+module _ (tell : Tells) (p : Program) (M : Engine) (base name : List ℕ) (used_up : Import → Bool) (counts now : List ℕ → ℕ) (bad : Bool) (first : Point) (lines : Lines) (before after : List Served) (told_before told_after : Option Contents) (due : ℕ) (none : before ≡ []) where
   abbrev pub RanSo : Outcome → Type 0
-  RanSo o = RanAll tell p M base name used_up counts now first before after told_before told_after o
+  RanSo o = RanAll tell p M base name used_up counts now bad first before after told_before told_after o
 
   abbrev pub EndedSo : (Ran → Type 0) → Type 0
   EndedSo known_of = EndedWith tell M base name first lines before after told_before told_after known_of due
 
   ran_so : (known_of : Ran → Type 0) (e : EndedSo known_of) (line : List ℕ) (o : Outcome) → ToldEndsIn p used_up counts now (length e.given) due (torn_in (told tell e.last)) e.last.outcome line
-      → o ≡ ended (told_status lines.traps (torn_in (told tell e.last)) e.last.outcome) (lines.text ++ line) → RanSo o
-  ran_so known_of e line o ends is = record {
+      → o ≡ ended (told_status lines.traps (torn_in (told tell e.last)) e.last.outcome) (lines.text ++ line) → is_misfit e.last.outcome ≡ bad → RanSo o
+  ran_so known_of e line o ends is misfit = record {
     given = e.given;
     grew = e.grew;
     writes = e.writes;
@@ -106,24 +106,25 @@ module _ (tell : Tells) (p : Program) (M : Engine) (base name : List ℕ) (used_
     line = line;
     ends = ends;
     answer = is;
+    misfit = misfit;
   }
 
   pub ended_so : (a : RunEnd) (count : ℕ) (o : Outcome) → count ≡ length after → (a ≡ NoMemory → ⊥) → HasCause a counts now → o ≡ ended (answer_status a lines.traps) (lines.text ++ answer_line a count due)
-      → EndedSo (EndsSo tell p used_up a) → RanSo o
+      → EndedSo (EndsSo tell p used_up a bad) → RanSo o
   ended_so a count o counted some cause is e =
       let line = answer_line a count due in
-      ran_so (EndsSo tell p used_up a) e line o
+      ran_so (EndsSo tell p used_up a bad) e line o
       (subst (λ t. ToldEndsIn p used_up counts now (length e.given) due t e.last.outcome line) (sym e.known.1)
       (subst (λ n. EndsIn p used_up counts now n due e.last.outcome line) all (line_ends p used_up counts now count due a e.last.outcome e.known.0 some cause)))
-      (is ∙ ap (λ s. ended s (lines.text ++ line)) (status_ends p used_up lines.traps a e.last.outcome e.known.0 some ∙ ap (λ t. told_status lines.traps t e.last.outcome) (sym e.known.1)))
+      (is ∙ ap (λ s. ended s (lines.text ++ line)) (status_ends p used_up lines.traps a e.last.outcome e.known.0 some ∙ ap (λ t. told_status lines.traps t e.last.outcome) (sym e.known.1))) e.known.2
     where
       all : count ≡ length e.given
       all = counted ∙ ap (λ l. length l) (e.grew ∙ ap (λ l. l ++ e.given) none)
 
-  pub torn_so : (at : ℕ) (o : Outcome) → o ≡ ended status.TornCalls (lines.text ++ torn_text at) → EndedSo (TornAt tell at) → RanSo o
+  pub torn_so : (at : ℕ) (o : Outcome) → o ≡ ended status.TornCalls (lines.text ++ torn_text at) → EndedSo (TornAt tell at bad) → RanSo o
   torn_so at o is e =
-      ran_so (TornAt tell at) e (torn_text at) o (subst (λ t. ToldEndsIn p used_up counts now (length e.given) due t e.last.outcome (torn_text at)) (sym e.known) refl)
-      (is ∙ ap (λ t. ended (told_status lines.traps t e.last.outcome) (lines.text ++ torn_text at)) (sym e.known))
+      ran_so (TornAt tell at bad) e (torn_text at) o (subst (λ t. ToldEndsIn p used_up counts now (length e.given) due t e.last.outcome (torn_text at)) (sym e.known.0) refl)
+      (is ∙ ap (λ t. ended (told_status lines.traps t e.last.outcome) (lines.text ++ torn_text at)) (sym e.known.0)) e.known.1
 
 -- all invocations were made: the last one went on
 
@@ -195,7 +196,7 @@ none_unfits got_stuck entered e = absurd cc
 pub all_made_so : (tell : Tells) → Behaves tell → (p : Program) (M : Engine) (base name : List ℕ) (used_up : Import → Bool) (counts now : List ℕ → ℕ) (first s : State) (done : List Invocation) (fuel : ℕ) (lines : Lines) (before after : List Served) (told_before told_after : Option Contents) (o : Outcome)
     → 0 < length (done ++ []) → o ≡ ended (trapped_or_done lines.traps) lines.text
     → SoFar tell M base name first s done fuel lines before after told_before told_after
-    → RanAll tell p M base name used_up counts now (point_of first (done ++ []) fuel) before after told_before told_after o
+    → RanAll tell p M base name used_up counts now (ends_badly s.last) (point_of first (done ++ []) fuel) before after told_before told_after o
 all_made_so tell b p M base name used_up counts now first s done fuel lines before after told_before told_after o some is so_far =
     let come = so_far.come [] fuel so_far.within (le_refl fuel) [] in
     let counted : length (done ++ []) ≡ length come.rans + 0 = come.counted in
@@ -223,6 +224,7 @@ all_made_so tell b p M base name used_up counts now first s done fuel lines befo
       ends = subst (λ t. ToldEndsIn p used_up counts now (length so_far.given) 0 t went.last.outcome []) (sym whole) quiet.ends;
       answer = is ∙ ap (λ t. ended (trapped_or_done lines.traps) t) (sym (append-nil lines.text))
           ∙ ap (λ s. ended s (lines.text ++ [])) (ap (λ n. trapped_or_done n) come.came_of.traps ∙ quiet.status_is ∙ ap (λ n. end_status n went.last.outcome) (sym come.came_of.traps) ∙ ap (λ t. told_status lines.traps t went.last.outcome) (sym whole));
+      misfit = fits_on went.last.outcome went.last.entered went.went.0 ∙ sym (so_far.fits (subst (λ l. 0 < length l) (append-nil done) some));
     }
   where
     plus_none : (n : ℕ) → n ≡ n + 0

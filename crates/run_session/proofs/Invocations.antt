@@ -28,7 +28,7 @@ use Rattle.machine_hosted.specs.Settings.{world_of}
 use Rattle.machine_hosted.specs.Answers.{AdmitsReplies, KeepsThen, given_steps}
 use Rattle.machine_hosted.specs.Invocations.{HasOutcome, may_follow, InvocationCame, invoking}
 use Rattle.host_devices.specs.Given.{unfitting}
-use Rattle.wasm_machine.specs.Instances.{State, IsOf, Invoked}
+use Rattle.wasm_machine.specs.Instances.{State, IsOf, Invoked, last_of}
 use Rattle.run_session.specs.inner.Progress.{session_from}
 use Rattle.run_session.specs.Telling.{Tells, told, torn_in, HasDump}
 use Rattle.run_session.specs.RunText.{dump_name, dumps_from, up_to_torn, unless_torn}
@@ -36,7 +36,7 @@ use Rattle.run_session.specs.Given.{given_to}
 use Rattle.run_session.specs.Written.{HoldPart}
 use Rattle.run_session.specs.Stop.{no_memory, file_failed}
 use Rattle.run_session.specs.inner.Turns.{CameTo, Answered, UnlessRefused, Added, LeavesPart, Dumps}
-use Rattle.run_session.specs.inner.Sessions.{point_of, MadeOne, StopsIn}
+use Rattle.run_session.specs.inner.Sessions.{is_misfit, ends_badly, point_of, MadeOne, StopsIn}
 use Rattle.run_session.specs.declared.turns.Lines.{Lines}
 use Rattle.run_session.specs.declared.turns.Turn.{Turn}
 use Rattle.run_session.specs.declared.turns.Turn.TheVariants.{GoesOn, Ends, Torn, Refused}
@@ -45,6 +45,35 @@ use Rattle.run_session.proofs.Lists.{dumps_only, only_one}
 use Rattle.run_session.proofs.Sessions.{no_replies}
 use Rattle.run_session.proofs.Stopped.{Nothing, none_left, choice_left, unless_left}
 use Rattle.run_session.proofs.Fewer.{with_left, fewer_steps}
+
+-- ---- an answer with a reply that does not fit
+
+abbrev pub is_bad : RunEnd → Bool
+is_bad (BadReply reply) = true
+is_bad (Finished v) = false
+is_bad (Trapped kind) = false
+is_bad NoReply = false
+is_bad (DeviceFault device) = false
+is_bad FuelSpent = false
+is_bad NoMemory = false
+
+pub kept_badly : (f : ℕ) (args : List Value) (depth : ℕ) (collecting : Bool) (a : RunEnd) → ends_badly (last_of f args depth collecting a) ≡ is_bad a
+kept_badly f args depth collecting (BadReply reply) = refl
+kept_badly f args depth collecting (Finished v) = refl
+kept_badly f args depth collecting (Trapped kind) = refl
+kept_badly f args depth collecting NoReply = refl
+kept_badly f args depth collecting (DeviceFault device) = refl
+kept_badly f args depth collecting FuelSpent = refl
+kept_badly f args depth collecting NoMemory = refl
+
+came_badly : (p : Program) (used_up : Import → Bool) (a : RunEnd) (o : Outcome) → HasOutcome p used_up a o → (a ≡ NoMemory → ⊥) → is_misfit o ≡ is_bad a
+came_badly p used_up (BadReply reply) o (call, is) some = ap is_misfit is
+came_badly p used_up (Finished v) o is some = ap is_misfit is
+came_badly p used_up (Trapped kind) o is some = ap is_misfit is
+came_badly p used_up NoReply o (call, is, up) some = ap is_misfit is
+came_badly p used_up (DeviceFault device) o (call, is, named) some = ap is_misfit is
+came_badly p used_up FuelSpent o is some = ap is_misfit is
+came_badly p used_up NoMemory o is some = absurd (some refl)
 
 -- ---- an answer behind which the list goes on
 
@@ -268,7 +297,7 @@ module _ (tell : Tells) (p : Program) (collect : Bool) (depth : ℕ) (base name 
   -- ---- an invocation that was made
 
   module _ (calls before_count after_count : ℕ) (lines later : Lines) (some : a ≡ NoMemory → ⊥) (due : new.due ≡ None)
-      (one : before_count ≡ length before.served) (other : after_count ≡ length after.served) (counted : calls ≡ after_count - before_count) where
+      (kept : ends_badly new.last ≡ is_bad a) (one : before_count ≡ length before.served) (other : after_count ≡ length after.served) (counted : calls ≡ after_count - before_count) where
     known : (more : List Reply) (came : came_with more) (left : ℕ) → Answered p used_up collect a new calls handed (with_left came.ran left)
     known more came left = record {
       last = came.last;
@@ -302,6 +331,7 @@ module _ (tell : Tells) (p : Program) (collect : Bool) (depth : ℕ) (base name 
                 turns = turns;
                 session_turns = goes_on_from (engine p collect depth) s new i rest f fuel was.made was.came.asked.given a entry was.steps total more came.ran came.last some due few many came.gives came.left came.last_is turns.0 (shares_on p s.prepared.codes.items a new.machine came.last on came.keeps) came.replies;
                 outcome = tt;
+                misfit = came_badly p used_up a came.ran.outcome came.outcome some ∙ sym kept;
               };
         }
     made_one (Ends b) added =
@@ -324,6 +354,7 @@ module _ (tell : Tells) (p : Program) (collect : Bool) (depth : ℕ) (base name 
                 turns = turns;
                 session_turns = ends_at (engine p collect depth) s new i rest f fuel was.made was.came.asked.given a entry was.steps total more came.ran some few many came.gives came.left turns.1;
                 outcome = subst (λ x. HasOutcome p used_up x came.ran.outcome) (sym is) came.outcome;
+                misfit = came_badly p used_up a came.ran.outcome came.outcome some ∙ sym kept;
               };
         }
     made_one (Torn at) added = record {
@@ -343,6 +374,7 @@ module _ (tell : Tells) (p : Program) (collect : Bool) (depth : ℕ) (base name 
             turns = added.turns p used_up ran (known [] begin (total - new.steps));
             session_turns = (begun.0, ap (λ l. session_from (engine p collect depth) (point_of s (i ∷ rest) total) (replies_of was.came.asked.given ++ l)) admits ∙ begun.1);
             outcome = tt;
+            misfit = came_badly p used_up a begin.ran.outcome begin.outcome some ∙ sym kept;
           };
     }
 

@@ -2,7 +2,7 @@ pub mod Unless
 mod Lists
 mod Steps
 mod ToldFiles
-mod Held
+pub mod Held
 pub mod Tellings
 mod Handing
 mod Turning
@@ -14,3 +14,4 @@ mod Invocations
 mod Ones
 mod Nexts
 mod Whole
+mod WrittenFile

@@ -16,13 +16,13 @@ use Rattle.command_answers.specs.Texts.{file_fault}
 use Rattle.run_session.specs.Telling.{Tells}
 use Rattle.run_session.specs.RunText.{dump_name}
 use Rattle.run_session.specs.inner.Turns.{UnlessRefused, IfEnds, IfTurnRefused, Added, LeavesPart, Dumps}
-use Rattle.run_session.specs.inner.Sessions.{MadeOne, StopsIn, OnTurnStop}
+use Rattle.run_session.specs.inner.Sessions.{ends_badly, MadeOne, StopsIn, OnTurnStop}
 use Rattle.run_session.specs.declared.turns.Lines.{Lines}
 use Rattle.run_session.specs.declared.turns.Turn.{Turn}
 use Rattle.run_session.specs.declared.turns.Turn.TheVariants.{GoesOn, Ends, Torn, Refused}
 use Rattle.run_session.proofs.Tellings.{Behaves}
 use Rattle.run_session.proofs.Stopped.{turn_stops}
-use Rattle.run_session.proofs.Invocations.{made_one, stopped_in, failed_in}
+use Rattle.run_session.proofs.Invocations.{is_bad, made_one, stopped_in, failed_in}
 
 -- two facts on what is answered in place of a turn
 of_refusal : (turn : Turn) (P Q : Type 0) → P → IfTurnRefused (λ _. Q) turn → IfTurnRefused (λ _. P × Q) turn
@@ -46,15 +46,15 @@ module _ (tell : Tells) (p : Program) (collect there : Bool) (depth frames : ℕ
       (subst (λ n. Invoked p there frames used_up f i.args n s new a before after) same_left
       (subst (λ vs. Invoked p there frames used_up f vs left s new a before after) same_args invoked)))
 
-  pub result_made : (result : Result Turn WantOfMemory) (calls before_count after_count : ℕ) (lines later : Lines) → new.due ≡ None
+  pub result_made : (result : Result Turn WantOfMemory) (calls before_count after_count : ℕ) (lines later : Lines) → new.due ≡ None → ends_badly new.last ≡ is_bad a
       → before_count ≡ length before.served → after_count ≡ length after.served → calls ≡ after_count - before_count
       → IfOk result (λ (turn : Turn). a ≡ NoMemory → ⊥)
       → IfOk result (λ turn. UnlessRefused turn (Added tell collect base name new a calls handed lines later told_before told_after turn))
       → IfOk result (λ turn. UnlessRefused turn (MadeOne tell p (engine p collect depth) base name used_up s new i fuel lines later before.served after.served told_before told_after turn))
-  result_made (Err e) calls before_count after_count lines later due one other counted some added = tt
-  result_made (Ok turn) calls before_count after_count lines later due one other counted some added =
+  result_made (Err e) calls before_count after_count lines later due kept one other counted some added = tt
+  result_made (Ok turn) calls before_count after_count lines later due kept one other counted some added =
       made_one tell p collect depth base name used_up s new i f fuel a handed before after told_before told_after is_of same_prepared entry none are was
-      calls before_count after_count lines later some due one other counted turn added
+      calls before_count after_count lines later some due kept one other counted turn added
 
   -- in it or behind it
   pub result_stopped : (result : Result Turn WantOfMemory) (R : Type 0) (rest : List Invocation) (traps : ℕ) → Behaves tell → s.steps ≤ fuel

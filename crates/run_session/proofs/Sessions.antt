@@ -1,12 +1,12 @@
 -- A list of invocations goes on, or ends.
-use Rattle.std.proofs.Common.{◌≡◌, ℕ, ◌+◌, Bool, List, [], ◌∷◌, ◌++◌, length, refl, sym, ap, ◌∙◌, append_assoc, subst, Option, Some, None}
+use Rattle.std.proofs.Common.{◌≡◌, ℕ, ◌+◌, Bool, true, false, List, [], ◌∷◌, ◌++◌, length, refl, sym, ap, ◌∙◌, append_assoc, subst, Option, Some, None}
 use Rattle.std.proofs.Math.Nat.{le_refl, le_trans}
 use Rattle.pm_outside.specs.Contents.{Contents}
 use Rattle.wasm_syntax.specs.declared.parts.Import.{Import}
 use Rattle.wasm_syntax.specs.declared.host.Served.{Served}
 use Rattle.wasm_syntax.specs.Machine.{Engine}
 use Rattle.wasm_syntax.specs.Module.{Program}
-use Rattle.wasm_syntax.specs.Run.{Invocation, Ran}
+use Rattle.wasm_syntax.specs.Run.{Invocation, Outcome, not_started, finished, trapped, lacks_reply, misfits, running, got_stuck, Ran, goes_on}
 use Rattle.dump_write.specs.Written.{OnTold}
 use Rattle.host_devices.specs.Given.{replies_of}
 use Rattle.machine_hosted.specs.declared.answer.RunEnd.{RunEnd}
@@ -20,7 +20,7 @@ use Rattle.run_session.specs.Given.{given_to}
 use Rattle.run_session.specs.Written.{Writes, HoldThen}
 use Rattle.run_session.specs.inner.Progress.{Point, Made, session_from, HasCome, HasEnded}
 use Rattle.run_session.specs.inner.Turns.{Adds}
-use Rattle.run_session.specs.inner.Sessions.{point_of, MadeOne, made_with, SoFar}
+use Rattle.run_session.specs.inner.Sessions.{is_misfit, ends_badly, point_of, MadeOne, made_with, SoFar}
 use Rattle.run_session.specs.declared.turns.Lines.{Lines}
 use Rattle.run_session.specs.declared.turns.Turn.{Turn}
 use Rattle.run_session.specs.declared.turns.Turn.TheVariants.{GoesOn, Ends, Torn}
@@ -41,6 +41,16 @@ same_made tell base name old new given also writes more r adds =
 pub grown : (a b c given also : List Served) → b ≡ a ++ given → c ≡ b ++ also → c ≡ a ++ (given ++ also)
 grown a b c given also one other = other ∙ ap (λ l. l ++ also) one ∙ append_assoc a given also
 
+-- all replies fit where the list goes on
+pub fits_on : (o : Outcome) (entered : Bool) → goes_on o entered ≡ true → is_misfit o ≡ false
+fits_on (finished v) entered e = refl
+fits_on (trapped kind) entered e = refl
+fits_on (not_started cause) entered e = refl
+fits_on (lacks_reply call) entered e = refl
+fits_on (misfits call reply) entered e = absurd cc
+fits_on running entered e = refl
+fits_on got_stuck entered e = refl
+
 pub list_goes_on : (tell : Tells) (p : Program) (M : Engine) (base name : List ℕ) (used_up : Import → Bool) (first s next : State) (done : List Invocation) (i : Invocation) (fuel : ℕ) (old new : Lines) (before mid after : List Served) (told_before told_mid told_after : Option Contents)
     → SoFar tell M base name first s done fuel old before mid told_before told_mid
     → MadeOne tell p M base name used_up s next i fuel old new mid after told_mid told_after GoesOn
@@ -51,6 +61,7 @@ list_goes_on tell p M base name used_up first s next done i fuel old new before 
   writes = so_far.writes ++ made.writes;
   files = held_also so_far.writes made.writes told_before told_mid told_after so_far.files made.files;
   within = made.within so_far.within;
+  fits = λ some. let one = made.ran [] fuel (made.within so_far.within) (le_refl fuel) [] tt in sym one.misfit ∙ fits_on one.ran.outcome one.ran.entered one.turns.0;
   come = λ rest total few many more.
       let one = made.ran rest total few many more tt in
       let new_made = made_with new (so_far.given ++ made.given) (so_far.writes ++ made.writes) in
@@ -71,11 +82,11 @@ pub record EndedWith (tell : Tells) (M : Engine) (base name : List ℕ) (first :
   pub known : known_of last
 
 -- with an answer, or with torn calls
-abbrev pub EndsSo : Tells → Program → (Import → Bool) → RunEnd → Ran → Type 0
-EndsSo tell p used_up answer r = HasOutcome p used_up answer r.outcome × (torn_in (told tell r) ≡ None)
+abbrev pub EndsSo : Tells → Program → (Import → Bool) → RunEnd → (bad : Bool) → Ran → Type 0
+EndsSo tell p used_up answer bad r = HasOutcome p used_up answer r.outcome × (torn_in (told tell r) ≡ None) × (is_misfit r.outcome ≡ bad)
 
-abbrev pub TornAt : Tells → ℕ → Ran → Type 0
-TornAt tell at r = torn_in (told tell r) ≡ Some at
+abbrev pub TornAt : Tells → ℕ → (bad : Bool) → Ran → Type 0
+TornAt tell at bad r = (torn_in (told tell r) ≡ Some at) × (is_misfit r.outcome ≡ bad)
 
 pub no_replies : (a : RunEnd) → AdmitsReplies a []
 no_replies NoReply = refl
@@ -106,12 +117,12 @@ module _ (tell : Tells) (p : Program) (M : Engine) (base name : List ℕ) (used_
     known = known;
   }
 
-  pub list_ends : (answer : RunEnd) → MadeOne tell p M base name used_up s next i fuel old new mid after told_mid told_after (Ends answer) → HasEndedSo (EndsSo tell p used_up answer)
+  pub list_ends : (answer : RunEnd) → MadeOne tell p M base name used_up s next i fuel old new mid after told_mid told_after (Ends answer) → HasEndedSo (EndsSo tell p used_up answer (ends_badly next.last))
   list_ends answer made =
       let one = made.ran rest fuel (made.within so_far.within) (le_refl fuel) [] (no_replies answer) in
-      ended_there (Ends answer) made one.ran [] (EndsSo tell p used_up answer) one.session_turns (only_one tell one.ran) one.given_is one.turns.3 (one.outcome, one.turns.2)
+      ended_there (Ends answer) made one.ran [] (EndsSo tell p used_up answer (ends_badly next.last)) one.session_turns (only_one tell one.ran) one.given_is one.turns.3 (one.outcome, one.turns.2, one.misfit)
 
-  pub list_torn : (at : ℕ) → MadeOne tell p M base name used_up s next i fuel old new mid after told_mid told_after (Torn at) → HasEndedSo (TornAt tell at)
+  pub list_torn : (at : ℕ) → MadeOne tell p M base name used_up s next i fuel old new mid after told_mid told_after (Torn at) → HasEndedSo (TornAt tell at (ends_badly next.last))
   list_torn at made =
       let one = made.ran rest fuel (made.within so_far.within) (le_refl fuel) [] refl in
-      ended_there (Torn at) made one.ran one.session_turns.0 (TornAt tell at) one.session_turns.1 (none_behind tell one.ran at one.session_turns.0 one.turns.0) one.given_is one.turns.1 one.turns.0
+      ended_there (Torn at) made one.ran one.session_turns.0 (TornAt tell at (ends_badly next.last)) one.session_turns.1 (none_behind tell one.ran at one.session_turns.0 one.turns.0) one.given_is one.turns.1 (one.turns.0, one.misfit)

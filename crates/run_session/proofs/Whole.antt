@@ -32,7 +32,7 @@ use Rattle.run_session.specs.Ending.{trapped_or_done}
 use Rattle.run_session.specs.inner.Progress.{session_from}
 use Rattle.run_session.specs.inner.Turns.{UnlessRefused, IfGoesOn, IfEnds, IfTurnRefused}
 use Rattle.run_session.specs.Stop.{Stop, no_memory, file_failed, IsFileFault, OnStop}
-use Rattle.run_session.specs.inner.Sessions.{point_of, MadeOne, SoFar, RanAll, StopsIn, OnTurnStop}
+use Rattle.run_session.specs.inner.Sessions.{ends_badly, point_of, MadeOne, SoFar, RanAll, StopsIn, OnTurnStop}
 use Rattle.run_session.specs.declared.turns.Lines.{Lines}
 use Rattle.run_session.specs.declared.turns.Turn.{Turn}
 use Rattle.run_session.specs.declared.turns.Turn.TheVariants.{GoesOn, Ends, Torn, Refused}
@@ -54,6 +54,7 @@ begins tell M base name s done fuel lines calls told none steps text traps = rec
   writes = [];
   files = none_held told;
   within = omega (arith, steps);
+  fits = λ some. absurd (omega (arith, some, ap length none));
   come = λ rest total few many more. record {
     rans = [];
     is = ap (λ l. session_from M (point_of s (l ++ rest) total) more) (sym none);
@@ -138,18 +139,18 @@ module _ (tell : Tells) (p : Program) (M : Engine) (base name : List ℕ) (used_
   abbrev ends_so : List Invocation → (Ran → Type 0) → Type 0
   ends_so all known_of = EndedWith tell M base name (point_of first all fuel) later before after told_before told_after known_of (length rest)
 
-  ends_with : (turn : Turn) (a : RunEnd) (all : List Invocation) → turn ≡ Ends a → done ++ i ∷ rest ≡ all → UnlessRefused turn (made_by turn) → ends_so all (EndsSo tell p used_up a)
+  ends_with : (turn : Turn) (a : RunEnd) (all : List Invocation) → turn ≡ Ends a → done ++ i ∷ rest ≡ all → UnlessRefused turn (made_by turn) → ends_so all (EndsSo tell p used_up a (ends_badly new.last))
   ends_with turn a all is are made =
-      subst (λ l. ends_so l (EndsSo tell p used_up a)) are
+      subst (λ l. ends_so l (EndsSo tell p used_up a (ends_badly new.last))) are
       (list_ends tell p M base name used_up first s new done i rest fuel old later before mid after told_before told_mid told_after so_far a (subst (λ t. UnlessRefused t (made_by t)) is made))
 
-  torn_with : (turn : Turn) (at : ℕ) (all : List Invocation) → turn ≡ Torn at → done ++ i ∷ rest ≡ all → UnlessRefused turn (made_by turn) → ends_so all (TornAt tell at)
+  torn_with : (turn : Turn) (at : ℕ) (all : List Invocation) → turn ≡ Torn at → done ++ i ∷ rest ≡ all → UnlessRefused turn (made_by turn) → ends_so all (TornAt tell at (ends_badly new.last))
   torn_with turn at all is are made =
-      subst (λ l. ends_so l (TornAt tell at)) are
+      subst (λ l. ends_so l (TornAt tell at (ends_badly new.last))) are
       (list_torn tell p M base name used_up first s new done i rest fuel old later before mid after told_before told_mid told_after so_far at (subst (λ t. UnlessRefused t (made_by t)) is made))
 
   abbrev ran_so : (counts now : List ℕ → ℕ) → List Invocation → Outcome → Type 0
-  ran_so counts now all o = RanAll tell p M base name used_up counts now (point_of first all fuel) before after told_before told_after o
+  ran_so counts now all o = RanAll tell p M base name used_up counts now (ends_badly new.last) (point_of first all fuel) before after told_before told_after o
 
   pub ends_ran : (counts now : List ℕ → ℕ) (turn : Turn) (a : RunEnd) (result : Result Outcome WantOfMemory) (all : List Invocation) (left count : ℕ) → turn ≡ Ends a → done ++ i ∷ rest ≡ all → UnlessRefused turn (made_by turn) → length rest ≡ left → before ≡ [] → count ≡ length after
       → (a ≡ NoMemory → ⊥) → HasCause a counts now → IfOk result (λ o. o ≡ ended (answer_status a later.traps) (later.text ++ answer_line a count left))
@@ -157,7 +158,7 @@ module _ (tell : Tells) (p : Program) (M : Engine) (base name : List ℕ) (used_
   ends_ran counts now turn a (Err e) all left count is are made leaves none counted some cause answer = tt
   ends_ran counts now turn a (Ok o) all left count is are made leaves none counted some cause answer =
       on_all o.status (ran_so counts now all o)
-      (ended_so tell p M base name used_up counts now (point_of first all fuel) later before after told_before told_after (length rest) none a count o counted some cause
+      (ended_so tell p M base name used_up counts now (ends_badly new.last) (point_of first all fuel) later before after told_before told_after (length rest) none a count o counted some cause
       (answer ∙ ap (λ n. ended (answer_status a later.traps) (later.text ++ answer_line a count n)) (sym leaves))
       (ends_with turn a all is are made))
 
@@ -166,7 +167,7 @@ module _ (tell : Tells) (p : Program) (M : Engine) (base name : List ℕ) (used_
   torn_ran counts now turn at (Err e) all is are made none answer = tt
   torn_ran counts now turn at (Ok o) all is are made none answer =
       on_all o.status (ran_so counts now all o)
-      (torn_so tell p M base name used_up counts now (point_of first all fuel) later before after told_before told_after (length rest) none at o answer (torn_with turn at all is are made))
+      (torn_so tell p M base name used_up counts now (ends_badly new.last) (point_of first all fuel) later before after told_before told_after (length rest) none at o answer (torn_with turn at all is are made))
 
   abbrev stopped_so : List Invocation → Stop → Type 0
   stopped_so all stop = StopsIn tell stop M base name 0 first all fuel before after told_before told_after
@@ -176,13 +177,13 @@ module _ (tell : Tells) (p : Program) (M : Engine) (base name : List ℕ) (used_
       → IfOk result (λ o. o ≡ ended (answer_status a later.traps) (later.text ++ answer_line a count left))
       → OnStop (stopped_so all) result
   ends_stopped turn a (Err e) all left count is are made steps answer =
-      ended_stopped tell M base name first all fuel later before after told_before told_after (EndsSo tell p used_up a) (length rest) steps (ends_with turn a all is are made)
+      ended_stopped tell M base name first all fuel later before after told_before told_after (EndsSo tell p used_up a (ends_badly new.last)) (length rest) steps (ends_with turn a all is are made)
   ends_stopped turn a (Ok o) all left count is are made steps answer = λ faulted. absurd (no_file_fault a later.traps (sym (ap (λ (x : Outcome). x.status) answer) ∙ faulted))
 
   pub torn_stopped : (turn : Turn) (at : ℕ) (result : Result Outcome WantOfMemory) (all : List Invocation) → turn ≡ Torn at → done ++ i ∷ rest ≡ all → UnlessRefused turn (made_by turn) → first.steps ≡ 0
       → IfOk result (λ o. o ≡ ended status.TornCalls (later.text ++ torn_text at)) → OnStop (stopped_so all) result
   torn_stopped turn at (Err e) all is are made steps answer =
-      ended_stopped tell M base name first all fuel later before after told_before told_after (TornAt tell at) (length rest) steps (torn_with turn at all is are made)
+      ended_stopped tell M base name first all fuel later before after told_before told_after (TornAt tell at (ends_badly new.last)) (length rest) steps (torn_with turn at all is are made)
   torn_stopped turn at (Ok o) all is are made steps answer = λ faulted. let clash : status.TornCalls ≡ status.FileFault = sym (ap (λ (x : Outcome). x.status) answer) ∙ faulted in absurd cc
 
   abbrev pub stops_here : Stop → Type 0
@@ -208,10 +209,10 @@ some_due xs lt = subst (λ n. 0 < n) (sym (map_length invocation_of xs)) lt
 pub all_ran_so : (tell : Tells) → Behaves tell → (p : Program) (M : Engine) (base name : List ℕ) (used_up : Import → Bool) (counts now : List ℕ → ℕ) (first s : State) (all xs : List InvocationWords) (k fuel : ℕ) (lines : Lines) (before after : List Served) (told_before told_after : Option Contents) (o : Outcome)
     → length xs ≤ k → xs ≡ all → 0 < length all → o ≡ ended (trapped_or_done lines.traps) lines.text
     → SoFar tell M base name first s (map invocation_of (take k xs)) fuel lines before after told_before told_after
-    → UnlessFault o.status (RanAll tell p M base name used_up counts now (point_of first (map invocation_of all) fuel) before after told_before told_after o)
+    → UnlessFault o.status (RanAll tell p M base name used_up counts now (ends_badly s.last) (point_of first (map invocation_of all) fuel) before after told_before told_after o)
 all_ran_so tell b p M base name used_up counts now first s all xs k fuel lines before after told_before told_after o le same some answer so_far =
-    on_all o.status (RanAll tell p M base name used_up counts now (point_of first (map invocation_of all) fuel) before after told_before told_after o)
-    (subst (λ l. RanAll tell p M base name used_up counts now (point_of first l fuel) before after told_before told_after o) are
+    on_all o.status (RanAll tell p M base name used_up counts now (ends_badly s.last) (point_of first (map invocation_of all) fuel) before after told_before told_after o)
+    (subst (λ l. RanAll tell p M base name used_up counts now (ends_badly s.last) (point_of first l fuel) before after told_before told_after o) are
     (all_made_so tell b p M base name used_up counts now first s (map invocation_of (take k xs)) fuel lines before after told_before told_after o
     (subst (λ l. 0 < length l) (sym are) (some_due all some)) answer so_far))
   where

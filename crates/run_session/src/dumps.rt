@@ -37,7 +37,7 @@ fn dump_file(alloc: Global, base: &Text, number: u64) -> Result<Text, NoMemory>
 }
 
 /// Writes a dump into a file.
-fn write_file<F: Files>(
+fn write_into<F: Files>(
     alloc: Global,
     files: &mut F,
     dump: &Dump<'_>,
@@ -78,5 +78,5 @@ pub(crate) fn dump_at_trap<F: Files>(
     ensures later { F.faults files.old ≤ F.faults files.new }
 {
     let file = dump_file(alloc, base, number)?;
-    write_file(alloc, files, dump, file.as_str())
+    write_into(alloc, files, dump, file.as_str())
 }

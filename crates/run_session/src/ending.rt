@@ -41,8 +41,12 @@ fn misfit_cause(alloc: Global, number: u64) -> Result<Text, NoMemory>
     Ok(text)
 }
 
-/// The last line, behind so many replies and with so many invocations that were not begun.
-fn end_line(alloc: Global, answer: &RunEnd, given: u64, due: usize) -> Result<Text, NoMemory>
+/// The last line, behind so many replies and with so many invocations that were not begun. Empty where there is none.
+///
+/// # Errors
+///
+/// `NoMemory` where memory runs out.
+pub fn end_line(alloc: Global, answer: &RunEnd, given: u64, due: usize) -> Result<Text, NoMemory>
     ensures { IfOk result (λ t. t ≡ answer_line answer.now given due) }
 {
     match answer {

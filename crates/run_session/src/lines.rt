@@ -13,7 +13,7 @@ use std::alloc::Global;
 use wasm_syntax::Value;
 
 /// The name of a kind of trap, by its number.
-fn kind_name(kind: u32) -> &'static str
+pub fn kind_name(kind: u32) -> &'static str
     ensures { result.now ≡ kind_text kind }
 {
     match kind {
@@ -30,8 +30,12 @@ fn kind_name(kind: u32) -> &'static str
 }
 
 /// Adds the line that names a kind of trap, by its number.
+///
+/// # Errors
+///
+/// `NoMemory` where memory runs out.
 #[tactic(auto, unfolding(crate::specs::RunText::kind_line))]
-fn push_kind(out: &mut Text, kind: u32) -> Result<(), NoMemory>
+pub fn push_kind(out: &mut Text, kind: u32) -> Result<(), NoMemory>
     ensures { OnOk result (out.new ≡ out.old ++ kind_line kind) }
 {
     push_number(out, "trap ", u64::from(kind))?;
@@ -103,8 +107,12 @@ pub(crate) fn push_torn(out: &mut Text, at: usize) -> Result<(), NoMemory>
     out.push_str("\n")
 }
 
-/// Adds the result of a function, where it has one.
-fn push_result(out: &mut Text, value: Option<Value>) -> Result<(), NoMemory>
+/// Adds the result of a function behind a space, where it has one.
+///
+/// # Errors
+///
+/// `NoMemory` where memory runs out.
+pub fn push_result(out: &mut Text, value: Option<Value>) -> Result<(), NoMemory>
     ensures { OnOk result (out.new ≡ out.old ++ result_text value) }
 {
     match value {

@@ -18,7 +18,7 @@ ghost use Rattle.run_session.specs.Invocations.{invocation_of, depth_of};
 ghost use Rattle.run_session.specs.inner.Collecting.{serving_of, used_up_of, collecting_of, KeptBehind};
 ghost use Rattle.run_session.specs.inner.Turns.{UnlessRefused, IfGoesOn, IfEnds, IfTurnRefused};
 ghost use Rattle.run_session.specs.Stop.{OnStop};
-ghost use Rattle.run_session.specs.inner.Sessions.{point_of, MadeOne, RanAll, IsDumpFault, StopsIn, OnTurnStop};
+ghost use Rattle.run_session.specs.inner.Sessions.{point_of, ends_badly, MadeOne, RanAll, IsDumpFault, StopsIn, OnTurnStop};
 
 use crate::ending::{all_made, ended_with, torn_with};
 use crate::turns::{Lines, Turn, end_turn};
@@ -200,7 +200,7 @@ pub fn run_all<F: Files, H: Counting>(
     requires imports { (H.origin hosts).imports ≡ instance.old.module_.imports }
     requires steps { instance.old.steps ≡ 0 }
     requires calls { (H.calls hosts).served ≡ [] }
-    ensures ran { (deliver : List Call → Delivery) → IsDelivery deliver → (p : Program) → IsOf instance.old p → IfOk result.0 (λ o. UnlessFault o.status (RanAll (tells words.now.collect deliver) p (engine p words.now.collect (depth_of words.now)) words.now.dump words.now.name (used_up_of words.now.collect (H.used_up result.1)) (H.fault_count hosts) (H.fault_count result.1) (point_of instance.old (map invocation_of words.now.invocations) words.now.fuel) (H.calls hosts).served (H.calls result.1).served (F.told files.old) (F.told files.new) o)) }
+    ensures ran { (deliver : List Call → Delivery) → IsDelivery deliver → (p : Program) → IsOf instance.old p → IfOk result.0 (λ o. UnlessFault o.status (RanAll (tells words.now.collect deliver) p (engine p words.now.collect (depth_of words.now)) words.now.dump words.now.name (used_up_of words.now.collect (H.used_up result.1)) (H.fault_count hosts) (H.fault_count result.1) (ends_badly instance.new.last) (point_of instance.old (map invocation_of words.now.invocations) words.now.fuel) (H.calls hosts).served (H.calls result.1).served (F.told files.old) (F.told files.new) o)) }
     ensures stops { (deliver : List Call → Delivery) → IsDelivery deliver → (p : Program) → IsOf instance.old p → OnStop (λ stop. StopsIn (tells words.now.collect deliver) stop (engine p words.now.collect (depth_of words.now)) words.now.dump words.now.name 0 instance.old (map invocation_of words.now.invocations) words.now.fuel (H.calls hosts).served (H.calls result.1).served (F.told files.old) (F.told files.new)) result.0 }
     ensures memory { IfOk result.0 (λ o. o.status ≢ Status.NoMemory) }
     ensures fault { IfOk result.0 (λ o. o.status ≡ Status.FileFault → IsDumpFault words.now.dump o × Rose (F.faults files.old) (F.faults files.new)) }

@@ -329,7 +329,7 @@ const FUELS_AND_CAUSES: [Row; 8] = [
         line: "--fuel=4x div i32:8 i32:2",
         replies: "",
         status: 2,
-        text: "usage: check, run, instrument, show, debug or selftest\n",
+        text: "usage: check, run, instrument, show, debug, selftest, replay or cover\n",
         shown: "",
     },
     Row {
@@ -337,7 +337,7 @@ const FUELS_AND_CAUSES: [Row; 8] = [
         line: "--depth 10001 div i32:8 i32:2",
         replies: "",
         status: 2,
-        text: "usage: check, run, instrument, show, debug or selftest\n",
+        text: "usage: check, run, instrument, show, debug, selftest, replay or cover\n",
         shown: "",
     },
     Row {
@@ -345,7 +345,7 @@ const FUELS_AND_CAUSES: [Row; 8] = [
         line: "--fuel 4 --fuel 4 div i32:8 i32:2",
         replies: "",
         status: 2,
-        text: "usage: check, run, instrument, show, debug or selftest\n",
+        text: "usage: check, run, instrument, show, debug, selftest, replay or cover\n",
         shown: "",
     },
     Row {

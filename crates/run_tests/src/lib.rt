@@ -9,4 +9,6 @@ mod file_tests;
 #[cfg(test)]
 mod invocation_tests;
 #[cfg(test)]
+mod record_tests;
+#[cfg(test)]
 mod run_trial;

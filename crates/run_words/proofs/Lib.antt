@@ -1,2 +1,3 @@
 mod EachLaws
 mod PartsLaws
+mod DumpNames

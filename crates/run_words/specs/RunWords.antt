@@ -1,6 +1,8 @@
 -- What the words behind `run` ask for: `M ENTRY [ARG ...]`, then any number of `+ ENTRY [ARG ...]`, and options.
-use Rattle.std.specs.Prelude.{ℕ, Bool, is_some, List, [], ◌∷◌, ◌&&◌, length, nat_le, Option, Some, None, if◌then◌else◌, codes, option_and_then, unwrap_or}
+use Rattle.std.specs.Prelude.{ℕ, ◌+◌, Bool, is_some, List, [], ◌∷◌, ◌++◌, ◌&&◌, ◌||◌, length, drop, nat_eq, nat_lt, nat_le, Option, Some, None, if◌then◌else◌, codes, option_and_then, unwrap_or}
+use Rattle.std.specs.List.{starts_with}
 use Rattle.std.specs.Option.{option_map}
+use Rattle.std.specs.Str.{all_ascii_digits, bytes_eq}
 use Rattle.pm_text.specs.Numbers.{decimal_value}
 use Rattle.command_words.specs.Reading.{Word, Allowed, Read, given_value, read_words}
 use Rattle.run_words.specs.Invocations.{invocations}
@@ -8,7 +10,7 @@ use Rattle.run_words.specs.declared.words.RunWords.{RunWords}
 
 -- each option but `--collect` takes a value
 abbrev pub run_options : Allowed
-run_options = record { valued = codes "--replies" ∷ codes "--fuel" ∷ codes "--depth" ∷ codes "--dump" ∷ codes "--name" ∷ []; flags = codes "--collect" ∷ [] }
+run_options = record { valued = codes "--replies" ∷ codes "--fuel" ∷ codes "--depth" ∷ codes "--dump" ∷ codes "--name" ∷ codes "--record" ∷ []; flags = codes "--collect" ∷ [] }
 
 abbrev pub within : ℕ → ℕ → ℕ → Option ℕ
 within least greatest n = if nat_le least n && nat_le n greatest then Some n else None
@@ -41,6 +43,22 @@ dump r = unwrap_or (given_value (codes "--dump") r) (codes "core.wasm")
 abbrev pub replies : Read → Option Word
 replies r = given_value (codes "--replies") r
 
+-- digits, at least one
+abbrev pub is_number : Word → Bool
+is_number word = nat_lt 0 (length word) && all_ascii_digits word
+
+-- a name of a file for dumps: that of the first one, or the same with `.` and digits behind it
+abbrev pub is_for_dumps : (first : Word) → Word → Bool
+is_for_dumps first file = bytes_eq file first || (starts_with nat_eq file (first ++ codes ".") && is_number (drop (length first + 1) file))
+
+abbrev pub unless_for_dumps : (first : Word) → Option Word → Option (Option Word)
+unless_for_dumps first None = Some None
+unless_for_dumps first (Some file) = if is_for_dumps first file then None else Some (Some file)
+
+-- the name of the file for the record, where one is asked for; it is none of those for dumps
+unfoldable pub log_to : Read → Option (Option Word)
+log_to r = unless_for_dumps (dump r) (given_value (codes "--record") r)
+
 -- whether the collector is asked for
 abbrev pub collect : Read → Bool
 collect r = is_some (given_value (codes "--collect") r)
@@ -51,8 +69,9 @@ asked source behind r =
     option_and_then (λ called.
     option_and_then (λ steps.
     option_and_then (λ frames.
-    option_map (λ inside. record { source = source; invocations = called; replies = replies r; fuel = steps; depth = frames; dump = dump r; name = inside; collect = collect r })
-    (name r)) (depth r)) (fuel r)) (invocations behind)
+    option_and_then (λ inside.
+    option_map (λ to. record { source = source; invocations = called; replies = replies r; fuel = steps; depth = frames; dump = dump r; name = inside; log_to = to; collect = collect r })
+    (log_to r)) (name r)) (depth r)) (fuel r)) (invocations behind)
 
 -- the first plain word is the module's file
 abbrev pub from_plain : List Word → Read → Option RunWords

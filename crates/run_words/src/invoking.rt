@@ -48,7 +48,7 @@ pub fn arguments(alloc: Global, words: &[&str]) -> Result<Values, WordsFault>
 
 /// The entry and its arguments.
 #[tactic(auto, unfolding(crate::specs::Invocations::invocation))]
-fn invocation(alloc: Global, words: &[&str]) -> Result<Invocation, WordsFault>
+pub(crate) fn invocation(alloc: Global, words: &[&str]) -> Result<Invocation, WordsFault>
     ensures ok { IfOk result (λ i. invocation (map (λ w. w.now) words.now) ≡ Some i) }
     ensures usage { result ≡ Err WordsFault.Usage → invocation (map (λ w. w.now) words.now) ≡ None }
 {

@@ -1,9 +1,11 @@
 //! The words behind `run`.
 
-ghost use Rattle.std.specs.Prelude.{◌≡◌, ◌<◌, ◌≤◌, length, map, Some, None, IfOk, IfSome, MatchOption, unwrap_or};
+ghost use Rattle.std.specs.Prelude.{◌≡◌, ◌<◌, ◌≤◌, ◌↔◌, true, false, IsTrue, drop, length, map, nat_eq, Some, None, IfOk, IfSome, MatchOption, unwrap_or};
+ghost use Rattle.std.specs.Char.{is_ascii_digit};
+ghost use Rattle.std.specs.List.{AllPass, starts_with};
 ghost use Rattle.std.specs.String.{string_bytes};
 ghost use Rattle.command_words.specs.Reading.{given_value};
-ghost use Rattle.run_words.specs.RunWords.{run_options, number_or, fuel, depth, name, dump, replies, collect, asked, run_words};
+ghost use Rattle.run_words.specs.RunWords.{run_options, number_or, fuel, depth, name, dump, replies, is_number, is_for_dumps, log_to, collect, asked, run_words};
 
 use crate::invocation::Invocations;
 use crate::invoking::invocations;
@@ -28,6 +30,8 @@ pub struct RunWords {
     pub dump: Text,
     /// The name that a dump has inside.
     pub name: Text,
+    /// The file for the record of the replies, none of those for dumps.
+    pub log_to: Option<Text>,
     /// Whether the collector takes the dumps that the module hands over.
     pub collect: bool,
 }
@@ -36,7 +40,14 @@ fn options() -> Options<'static>
     ensures { result ≡ run_options }
 {
     Options::new(
-        &["--replies", "--fuel", "--depth", "--dump", "--name"],
+        &[
+            "--replies",
+            "--fuel",
+            "--depth",
+            "--dump",
+            "--name",
+            "--record",
+        ],
         &["--collect"],
     )
 }
@@ -123,13 +134,67 @@ fn collect(reading: &Reading<'_>) -> bool
 }
 
 /// The file of replies, where one is asked for.
-fn replies(alloc: Global, reading: &Reading<'_>) -> Result<Option<Text>, NoMemory>
+pub(crate) fn replies(alloc: Global, reading: &Reading<'_>) -> Result<Option<Text>, NoMemory>
     ensures { IfOk result (λ t. t ≡ replies reading.now) }
 {
     match reading.value("--replies") {
         Some(file) => Ok(Some(Text::from_str(alloc, file)?)),
         None => Ok(None),
     }
+}
+
+fn are_digits(bytes: &[u8]) -> bool
+    ensures { IsTrue result ↔ AllPass is_ascii_digit bytes.now }
+{
+    bytes.iter().all(|b| b.is_ascii_digit())
+}
+
+/// Digits, at least one.
+fn is_number(word: &str) -> bool
+    ensures { result ≡ is_number word.now }
+{
+    !word.is_empty() && are_digits(word.as_bytes())
+}
+
+/// What stands behind this front in a text.
+#[tactic(auto, using(pm_text::proofs::NumberLaws::begins, pm_text::proofs::NumberLaws::begins_not))]
+fn behind<'a>(text: &'a str, front: &str) -> Option<&'a str>
+    ensures { MatchOption result (starts_with nat_eq text.now front.now ≡ false)
+        (λ x. (starts_with nat_eq text.now front.now ≡ true) × (x.now ≡ drop (length front.now) text.now)) }
+{
+    text.strip_prefix(front)
+}
+
+/// Whether a file is one of those for dumps, of which the first one has this name.
+fn is_for_dumps(first: &str, file: &str) -> bool
+    ensures { result ≡ is_for_dumps first.now file.now }
+{
+    if file == first {
+        return true;
+    }
+    let Some(rest) = behind(file, first) else {
+        return false;
+    };
+    match behind(rest, ".") {
+        Some(number) => is_number(number),
+        None => false,
+    }
+}
+
+/// The file for the record, where one is asked for.
+#[tactic(auto, unfolding(crate::specs::RunWords::log_to))]
+fn log_to(alloc: Global, reading: &Reading<'_>, first: &str) -> Result<Option<Text>, WordsFault>
+    requires { first.now ≡ dump reading.now }
+    ensures ok { IfOk result (λ t. log_to reading.now ≡ Some t) }
+    ensures usage { result ≡ Err WordsFault.Usage → log_to reading.now ≡ None }
+{
+    let Some(file) = reading.value("--record") else {
+        return Ok(None);
+    };
+    if is_for_dumps(first, file) {
+        return Err(WordsFault::Usage);
+    }
+    Ok(Some(Text::from_str(alloc, file)?))
 }
 
 /// What the options ask for, with this file of a module and these words behind it.
@@ -158,6 +223,7 @@ fn asked(
         return Err(WordsFault::Usage);
     };
     let dump = dump(reading);
+    let log_to = log_to(alloc, reading, dump)?;
     Ok(RunWords {
         source: Text::from_str(alloc, source)?,
         invocations,
@@ -166,13 +232,15 @@ fn asked(
         depth,
         dump: Text::from_str(alloc, dump)?,
         name: Text::from_str(alloc, name)?,
+        log_to,
         collect: collect(reading),
     })
 }
 
 /// What the words behind `run` ask for: `M ENTRY [ARG ...]`, then any number of `+ ENTRY [ARG ...]`, with the options
-/// `--replies FILE`, `--fuel N`, `--depth N`, `--dump FILE`, `--name TEXT` and `--collect` anywhere. Each plain word `+`
-/// behind the first plain word separates invocations, of which none is empty.
+/// `--replies FILE`, `--fuel N`, `--depth N`, `--dump FILE`, `--name TEXT`, `--record FILE` and `--collect` anywhere.
+/// Each plain word `+` behind the first plain word separates invocations, of which none is empty. The file for the
+/// record is none of those for dumps.
 #[tactic(auto, unfolding(crate::specs::RunWords::run_words))]
 pub fn run_words(alloc: Global, words: &[String]) -> Result<RunWords, WordsFault>
     ensures ok { IfOk result (λ r. run_words (map string_bytes words.now) ≡ Some r) }

@@ -14,8 +14,8 @@ ghost use Rattle.selftest_command.specs.Stops.{CreatedBoth, Left, SameButBoth};
 
 use causes::NoMemory;
 use command_answers::{Outcome, Status, about_file};
-use instrument_command::write_file;
 use pm_outside::{Files, WriteAnswer};
+use run_session::write_file;
 use std::alloc::Global;
 
 /// Writes a file, behind which this is answered.

@@ -1,5 +1,5 @@
 -- Files of replies that were read, and what comes behind them.
-use Rattle.std.specs.Prelude.{◌≡◌, ℕ, List, Option, Result, Ok, Err}
+use Rattle.std.specs.Prelude.{◌≡◌, ℕ, List, Option, Some, Result, Ok, Err}
 use Rattle.pm_outside.specs.Contents.{Contents}
 use Rattle.causes.specs.Counts.{Rose}
 use Rattle.wasm_syntax.specs.declared.host.Reply.{Reply}
@@ -34,6 +34,10 @@ IsAsked (Refused o) input = UnlessFault o.status (input ≡ Err o)
 abbrev pub IfAskedRefused : (Outcome → Type 0) → Asked → Type 0
 IfAskedRefused P (Read script) = Unit {0}
 IfAskedRefused P (Refused o) = P o
+
+-- a fault of the file of replies names it, and was counted
+abbrev pub IsRepliesFault : Option (List ℕ) → (before now : ℕ) → Outcome → Type 0
+IsRepliesFault replies before now o = o.status ≡ status.FileFault → ((file : List ℕ) × (replies ≡ Some file) × (o ≡ file_fault file)) × Rose before now
 
 -- a fault of a file that is read names it, and was counted
 abbrev pub IsReadFault : RunWords → (before now : ℕ) → Outcome → Type 0

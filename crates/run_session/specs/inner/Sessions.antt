@@ -1,5 +1,5 @@
 -- One invocation of a list, and the whole list, as the code makes them.
-use Rattle.std.specs.Prelude.{◌≡◌, ℕ, ◌-◌, ◌≤◌, ◌⊎◌, Bool, List, [], ◌∷◌, ◌++◌, length, take, Option, Some, None, Result, Ok, Err, codes}
+use Rattle.std.specs.Prelude.{◌≡◌, ℕ, ◌-◌, ◌<◌, ◌≤◌, ◌⊎◌, Bool, true, false, List, [], ◌∷◌, ◌++◌, length, take, Option, Some, None, Result, Ok, Err, codes}
 use Rattle.std.specs.Fmt.{decimal}
 use Rattle.causes.specs.Counts.{Rose}
 use Rattle.causes.specs.declared.NoMemory.{NoMemory as WantOfMemory}
@@ -17,6 +17,9 @@ use Rattle.machine_hosted.specs.declared.answer.RunEnd.{RunEnd}
 use Rattle.machine_hosted.specs.Answers.{AdmitsReplies}
 use Rattle.machine_hosted.specs.Invocations.{HasOutcome}
 use Rattle.wasm_machine.specs.Instances.{State}
+use Rattle.wasm_machine.specs.declared.invocation.End.{End}
+use Rattle.wasm_machine.specs.declared.invocation.End.TheVariants as ends
+use Rattle.wasm_machine.specs.declared.invocation.LastInvocation.{LastInvocation}
 use Rattle.command_answers.specs.Texts.{ended, file_fault}
 use Rattle.command_answers.specs.declared.outcome.Outcome.{Outcome}
 use Rattle.run_session.specs.Given.{given_to, given_in}
@@ -35,6 +38,30 @@ use Rattle.run_session.specs.declared.turns.Turn.TheVariants.{GoesOn, Ends, Torn
 -- where an instance stands with these invocations still to be made and so many steps in all
 abbrev pub point_of : State → List Invocation → (steps : ℕ) → Point
 point_of s is steps = record { due = is; start = s.due; machine = s.machine; left = steps - s.steps }
+
+-- ---- whether the last reply fits
+
+abbrev pub is_misfit : RunOutcome → Bool
+is_misfit (misfits call reply) = true
+is_misfit (not_started cause) = false
+is_misfit (finished v) = false
+is_misfit (trapped kind) = false
+is_misfit (lacks_reply call) = false
+is_misfit running = false
+is_misfit got_stuck = false
+
+abbrev pub is_bad_end : End → Bool
+is_bad_end ends.BadReply = true
+is_bad_end (ends.Finished v) = false
+is_bad_end (ends.Trapped kind) = false
+is_bad_end ends.NoReply = false
+is_bad_end ends.DeviceFault = false
+is_bad_end ends.FuelSpent = false
+
+-- by what an instance keeps of its last invocation
+abbrev pub ends_badly : Option LastInvocation → Bool
+ends_badly None = false
+ends_badly (Some l) = is_bad_end l.end
 
 -- ---- one invocation
 
@@ -58,12 +85,13 @@ HasTurnOutcome p used_up r (Ends answer) = HasOutcome p used_up answer r.outcome
 HasTurnOutcome p used_up r (Torn at) = Unit {0}
 HasTurnOutcome p used_up r (Refused o) = Unit {0}
 
-pub record OneRan (tell : Tells) (p : Program) (M : Engine) (base name : List ℕ) (used_up : Import → Bool) (there next : Point) (given : List Served) (writes : Writes) (answer : RunEnd) (old new : Lines) (turn : Turn) (more : List Reply) : Type 0 where
+pub record OneRan (tell : Tells) (p : Program) (M : Engine) (base name : List ℕ) (used_up : Import → Bool) (there next : Point) (bad : Bool) (given : List Served) (writes : Writes) (answer : RunEnd) (old new : Lines) (turn : Turn) (more : List Reply) : Type 0 where
   pub ran : Ran
   pub given_is : given ≡ given_to ran
   pub turns : TurnsTo tell base name answer ran old new writes turn
   pub session_turns : SessionTurns M there next given more ran turn
   pub outcome : HasTurnOutcome p used_up ran turn
+  pub misfit : is_misfit ran.outcome ≡ bad
 
 -- One invocation was made. Whatever is to be made behind it, and for each number of steps from those that were made up to the fuel, it is the
 -- session's next one.
@@ -76,7 +104,7 @@ pub record MadeOne (tell : Tells) (p : Program) (M : Engine) (base name : List �
   pub onward : s.steps ≤ next.steps
   pub within : s.steps ≤ fuel → next.steps ≤ fuel
   pub ran : (rest : List Invocation) (total : ℕ) → next.steps ≤ total → total ≤ fuel → (more : List Reply) → AdmitsTurn turn more
-      → OneRan tell p M base name used_up (point_of s (i ∷ rest) total) (point_of next rest total) given writes answer old new turn more
+      → OneRan tell p M base name used_up (point_of s (i ∷ rest) total) (point_of next rest total) (ends_badly next.last) given writes answer old new turn more
 
 -- ---- the list
 
@@ -92,6 +120,7 @@ pub record SoFar (tell : Tells) (M : Engine) (base name : List ℕ) (first s : S
   pub writes : Writes
   pub files : OnTold (HoldThen writes) told_before told_after
   pub within : s.steps ≤ fuel
+  pub fits : 0 < length done → ends_badly s.last ≡ false
   pub come : (rest : List Invocation) (total : ℕ) → s.steps ≤ total → total ≤ fuel → (more : List Reply)
       → HasCome tell M base name (point_of first (done ++ rest) total) (point_of s rest total) (made_with lines given writes) more
 
@@ -113,7 +142,7 @@ ToldEndsIn p used_up counts now given due None o line = EndsIn p used_up counts 
 ToldEndsIn p used_up counts now given due (Some at) o line = line ≡ torn_text at
 
 -- the list was made up to its end, and this is the answer
-pub record RanAll (tell : Tells) (p : Program) (M : Engine) (base name : List ℕ) (used_up : Import → Bool) (counts now : List ℕ → ℕ) (first : Point) (before after : List Served) (told_before told_after : Option Contents) (o : Outcome) : Type 0 where
+pub record RanAll (tell : Tells) (p : Program) (M : Engine) (base name : List ℕ) (used_up : Import → Bool) (counts now : List ℕ → ℕ) (bad : Bool) (first : Point) (before after : List Served) (told_before told_after : Option Contents) (o : Outcome) : Type 0 where
   pub given : List Served
   pub grew : after ≡ before ++ given
   pub writes : Writes
@@ -125,6 +154,8 @@ pub record RanAll (tell : Tells) (p : Program) (M : Engine) (base name : List �
   pub line : List ℕ
   pub ends : ToldEndsIn p used_up counts now (length given) due (torn_in (told tell last)) last.outcome line
   pub answer : o ≡ ended (told_status lines.traps (torn_in (told tell last)) last.outcome) (lines.text ++ line)
+  -- whether the last one ended because its last reply does not fit
+  pub misfit : is_misfit last.outcome ≡ bad
 
 -- the file of a dump failed
 abbrev pub IsDumpFault : (base : List ℕ) → Outcome → Type 0

@@ -4,4 +4,4 @@ use Rattle.debug_frames.specs.Frames.{lines_behind}
 use Rattle.debug_frames.proofs.frames.push_lines.Given as goal
 
 abbrev pub invariant-loop-standing : goal.invariant-loop-standing
-invariant-loop-standing l = l.out ++ lines_behind l.information l.index l.address l.frame (option_copied l.before) (drop l.standing-index l.inlined) ≡ l.fn.out ++ lines_behind l.information l.index l.address l.frame None l.inlined
+invariant-loop-standing l = l.out ++ lines_behind l.information l.index l.resolved.address l.frame (option_copied l.before) (drop l.standing-index l.resolved.inlined) ≡ l.fn.out ++ lines_behind l.information l.index l.resolved.address l.frame None l.resolved.inlined

@@ -1,9 +1,9 @@
 use Rattle.std.proofs.Common.{◌≡◌, map, refl, ap, ◌∙◌, Some, Err}
 use Rattle.std.specs.String.{string_bytes}
 use Rattle.causes.specs.Counts.{Rose}
-use Rattle.pm_cli.proofs.Respond.{check_answered, show_answered, usage_answered, run_answered, debug_answered, instrument_answered, selftest_answered}
+use Rattle.pm_cli.proofs.Respond.{check_answered, show_answered, usage_answered, run_answered, debug_answered, instrument_answered, selftest_answered, replay_answered, cover_answered}
 use Rattle.pm_cli.specs.Words.{command}
-use Rattle.pm_cli.proofs.Stopping.{check_stops, show_stops, usage_stops, unread_stops, run_stops, debug_stops, instrument_stops, selftest_stops, quiet_all, quiet_run, quiet_instrument, quiet_selftest}
+use Rattle.pm_cli.proofs.Stopping.{check_stops, show_stops, usage_stops, unread_stops, run_stops, debug_stops, instrument_stops, selftest_stops, replay_stops, cover_stops, quiet_all, quiet_run, quiet_cover, quiet_instrument, quiet_selftest}
 use Rattle.pm_cli.proofs.command.respond.Goals as goal
 
 pub returns-in-Ok-Check-clause-told : goal.returns-in-Ok-Check-clause-told
@@ -51,6 +51,18 @@ returns-in-Ok-Selftest-clause-told g c = selftest_answered (g.D.Devices.shown c.
 pub returns-in-Ok-Selftest-clause-stops : goal.returns-in-Ok-Selftest-clause-stops
 returns-in-Ok-Selftest-clause-stops g c = selftest_stops (g.D.Devices.shown c.args.devices.now) (map string_bytes c.args.words.now) (g.F.Files.told c.args.files.now) (g.F.Files.told c.selftest_files.new.files) c.selftest_files.result _ (c.in-Ok-Selftest.ensures.ok ∙ ap Some c.in-Ok-Selftest.field-0-is) c.selftest_files.ensures.stops
 
+pub returns-in-Ok-Replay-clause-told : goal.returns-in-Ok-Replay-clause-told
+returns-in-Ok-Replay-clause-told g c = replay_answered (g.D.Devices.shown c.args.devices.now) (map string_bytes c.args.words.now) _ (g.F.Files.told c.args.files.now) (g.F.Files.told c.replay_file.new.files) c.replay_file.result (c.in-Ok-Replay.ensures.ok ∙ ap Some c.in-Ok-Replay.field-0-is) c.replay_file.ensures.same c.replay_file.ensures.told
+
+pub returns-in-Ok-Replay-clause-stops : goal.returns-in-Ok-Replay-clause-stops
+returns-in-Ok-Replay-clause-stops g c = replay_stops (g.D.Devices.shown c.args.devices.now) (map string_bytes c.args.words.now) (g.F.Files.told c.args.files.now) (g.F.Files.told c.replay_file.new.files) c.replay_file.ensures.same (Rose (g.F.Files.faults c.args.files.now) (g.F.Files.faults c.replay_file.new.files)) c.replay_file.result _ (c.in-Ok-Replay.ensures.ok ∙ ap Some c.in-Ok-Replay.field-0-is) c.replay_file.ensures.fault
+
+pub returns-in-Ok-Cover-clause-told : goal.returns-in-Ok-Cover-clause-told
+returns-in-Ok-Cover-clause-told g c = cover_answered (g.D.Devices.shown c.args.devices.now) (g.D.Devices.shown c.cover_file.new.devices) (map string_bytes c.args.words.now) _ (g.F.Files.told c.args.files.now) (g.F.Files.told c.cover_file.new.files) c.cover_file.result (c.in-Ok-Cover.ensures.ok ∙ ap Some c.in-Ok-Cover.field-0-is) c.cover_file.ensures.told
+
+pub returns-in-Ok-Cover-clause-stops : goal.returns-in-Ok-Cover-clause-stops
+returns-in-Ok-Cover-clause-stops g c = cover_stops (g.D.Devices.shown c.args.devices.now) (g.D.Devices.shown c.cover_file.new.devices) (map string_bytes c.args.words.now) (g.F.Files.told c.args.files.now) (g.F.Files.told c.cover_file.new.files) c.cover_file.result _ (c.in-Ok-Cover.ensures.ok ∙ ap Some c.in-Ok-Cover.field-0-is) c.cover_file.ensures.stops
+
 -- ---- however it ends
 
 pub returns-in-Ok-Check-clause-quiet : goal.returns-in-Ok-Check-clause-quiet
@@ -80,3 +92,9 @@ pub returns-in-Ok-Selftest-clause-quiet : goal.returns-in-Ok-Selftest-clause-qui
 returns-in-Ok-Selftest-clause-quiet g c =
     quiet_selftest (command (map string_bytes c.args.words.now)) (g.D.Devices.shown c.args.devices.now) (g.D.Devices.shown c.args.devices.now) (g.F.Files.told c.args.files.now) (g.F.Files.told c.selftest_files.new.files) (g.F.Files.created c.args.files.now) (g.F.Files.created c.selftest_files.new.files) _ (c.in-Ok-Selftest.ensures.ok ∙ ap Some c.in-Ok-Selftest.field-0-is)
     record { devices = refl; files = c.selftest_files.ensures.others; names = c.selftest_files.ensures.names }
+
+pub returns-in-Ok-Replay-clause-quiet : goal.returns-in-Ok-Replay-clause-quiet
+returns-in-Ok-Replay-clause-quiet g c = quiet_all (command (map string_bytes c.args.words.now)) (g.D.Devices.shown c.args.devices.now) (g.F.Files.told c.args.files.now) (g.F.Files.told c.replay_file.new.files) (g.F.Files.created c.args.files.now) (g.F.Files.created c.replay_file.new.files) c.replay_file.ensures.same c.replay_file.ensures.names
+
+pub returns-in-Ok-Cover-clause-quiet : goal.returns-in-Ok-Cover-clause-quiet
+returns-in-Ok-Cover-clause-quiet g c = quiet_cover (command (map string_bytes c.args.words.now)) (g.D.Devices.shown c.args.devices.now) (g.D.Devices.shown c.cover_file.new.devices) (g.F.Files.told c.args.files.now) (g.F.Files.told c.cover_file.new.files) (g.F.Files.created c.args.files.now) (g.F.Files.created c.cover_file.new.files) _ (c.in-Ok-Cover.ensures.ok ∙ ap Some c.in-Ok-Cover.field-0-is) c.cover_file.ensures.same c.cover_file.ensures.names

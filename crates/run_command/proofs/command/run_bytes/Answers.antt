@@ -1,7 +1,6 @@
-use Rattle.std.proofs.Common.{refl, Ok}
+use Rattle.std.proofs.Common.{refl}
 use Rattle.run_command.specs.inner.Scripts.{script_result}
-use Rattle.run_command.specs.Stops.{BytesStops}
-use Rattle.run_command.proofs.Stopping.{not_reached, bytes_stop}
+use Rattle.run_command.proofs.Stopping.{bytes_stop}
 use Rattle.run_command.proofs.Commands.{with_module, module_refused}
 use Rattle.run_command.proofs.command.run_bytes.Goals as goal
 

@@ -1,8 +1,8 @@
 use Rattle.std.proofs.Common.{subst}
 use Rattle.run_command.specs.Stops.{SourceStops}
-use Rattle.run_command.specs.inner.Scripts.{IfAskedRefused, IsReadFault}
+use Rattle.run_command.specs.inner.Scripts.{IfAskedRefused, IsRepliesFault}
 use Rattle.run_command.proofs.Stopping.{read_failed, source_stops}
-use Rattle.run_command.proofs.Commands.{with_replies, replies_refused}
+use Rattle.run_command.proofs.Commands.{with_replies, replies_refused, replies_fault}
 use Rattle.run_command.proofs.command.run_source.Goals as goal
 
 pub returns-in-Read-clause-told : goal.returns-in-Read-clause-told
@@ -24,4 +24,5 @@ pub returns-in-Refused-clause-stops : goal.returns-in-Refused-clause-stops
 returns-in-Refused-clause-stops g c =
     read_failed (g.D.Devices.shown c.args.devices.now) c.args.words.now (λ stop old new. SourceStops stop c.args.words.now c.args.bytes.now (g.D.Devices.shown c.args.devices.now) (g.D.Devices.shown c.args.devices.now) old new)
     (g.F.Files.told c.args.files.now) (g.F.Files.told c.asked_script.new.files) c.in_ok-asked.ensures.same (g.F.Files.faults c.args.files.now) (g.F.Files.faults c.asked_script.new.files) c.in-Refused.refusal
-    (subst (λ a. IfAskedRefused (IsReadFault c.args.words.now (g.F.Files.faults c.args.files.now) (g.F.Files.faults c.asked_script.new.files)) a) c.in-Refused.is c.in_ok-asked.ensures.fault)
+    (replies_fault c.args.words.now (g.F.Files.faults c.args.files.now) (g.F.Files.faults c.asked_script.new.files) c.in-Refused.refusal
+    (subst (λ a. IfAskedRefused (IsRepliesFault c.args.words.now.replies (g.F.Files.faults c.args.files.now) (g.F.Files.faults c.asked_script.new.files)) a) c.in-Refused.is c.in_ok-asked.ensures.fault))

@@ -1,6 +1,6 @@
-use Rattle.std.proofs.Common.{◌≡◌, sym, ◌∙◌, map}
+use Rattle.std.proofs.Common.{sym, ◌∙◌, map}
 use Rattle.run_session.specs.Invocations.{invocation_of}
-use Rattle.run_command.proofs.Beginning.{early_starts, segments_start, segment_starts}
+use Rattle.run_command.proofs.Beginning.{segments_start, segment_starts}
 use Rattle.run_command.proofs.running.begin.Goals as goal
 
 pub returns-in-Ok : goal.returns-in-Ok

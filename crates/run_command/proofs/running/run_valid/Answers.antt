@@ -1,4 +1,6 @@
-use Rattle.std.proofs.Common.{List, map, refl, ap, ◌∙◌, subst, Ok}
+use Rattle.std.proofs.Common.{List, map, refl, ap, ◌∙◌, arith, subst, Ok}
+use Rattle.causes.specs.Counts.{Rose}
+use Rattle.run_session.specs.inner.Sessions.{ends_badly}
 use Rattle.wasm_syntax.specs.declared.module.ModuleParts.{ModuleParts as Module}
 use Rattle.wasm_syntax.specs.declared.host.CollectorCall.{CollectorCall}
 use Rattle.wasm_syntax.specs.Module.{IsModule}
@@ -11,7 +13,9 @@ use Rattle.run_command.specs.inner.Begun.{HasBegun}
 use Rattle.run_command.specs.declared.running.Begun.TheVariants.{Ready, Refused}
 use Rattle.run_command.proofs.Hostings.{began_behind}
 use Rattle.run_command.proofs.Beginning.{begun_begin, of_begun}
-use Rattle.run_command.proofs.Valid.{ready_told, refused_back, fault_rose}
+use Rattle.run_command.specs.inner.Recording.{fitting}
+use Rattle.run_command.proofs.Valid.{ready_told, refused_back, fault_since}
+use Rattle.run_command.proofs.Fitting.{recorded_fault}
 use Rattle.run_command.proofs.Stopping.{ready_stops}
 use Rattle.run_command.proofs.running.run_valid.Goals as goal
 
@@ -21,37 +25,44 @@ deliver calls = (delivery calls).0
 delivers : IsDelivery deliver
 delivers calls = (delivery calls).1
 
-pub run_all-outcome-requires-clause-entries : goal.run_all-outcome-requires-clause-entries
-run_all-outcome-requires-clause-entries g c =
+pub run_all-ran-requires-clause-entries : goal.run_all-ran-requires-clause-entries
+run_all-ran-requires-clause-entries g c =
     begun_begin (serving_of c.args.words.now.collect (λ i type. serves c.begin_with-begun.result.1 i)) c.args.source.now c.args.words.now.invocations c.in-Ready.instance
     (of_begun c.begin_with-begun.result.0 c.in-Ok.begun (Ready c.in-Ready.instance) (HasBegun (serving_of c.args.words.now.collect (λ i type. serves c.begin_with-begun.result.1 i)) c.args.source.now (map invocation_of c.args.words.now.invocations)) c.in-Ok.is c.in-Ready.is c.begin_with-begun.ensures.begun)
 
 pub returns-in-Ready-clause-told : goal.returns-in-Ready-clause-told
 returns-in-Ready-clause-told g c =
-    ready_told deliver delivers c.run_all-outcome.result.0 (g.D.Devices.shown c.args.devices.now) (g.D.Devices.shown c.into_devices-in-Ready.result) c.args.script c.args.words.now c.args.source.now c.in-Ready.instance c.begin_with-begun.result.1 c.run_all-outcome.result.1
-    (g.F.Files.told c.args.files.now) (g.F.Files.told c.run_all-outcome.new.files)
+    ready_told deliver delivers (Rose (g.F.Files.faults c.run_all-ran.new.files) (g.F.Files.faults c.recorded-outcome.new.files)) c.run_all-ran.result.0 c.recorded-outcome.result (g.D.Devices.shown c.args.devices.now) (g.D.Devices.shown c.into_devices-in-Ready.result) c.args.script c.args.words.now c.args.source.now c.in-Ready.instance
+    (ends_badly c.run_all-ran.new.instance.last) c.begin_with-begun.result.1 c.run_all-ran.result.1
+    (g.F.Files.told c.args.files.now) (g.F.Files.told c.run_all-ran.new.files) (g.F.Files.told c.recorded-outcome.new.files)
     (subst IsModule (c.parts.ensures.value ∙ c.module.ensures.value) c.parts.ensures.whole) c.module.ensures.valid
     (of_begun c.begin_with-begun.result.0 c.in-Ok.begun (Ready c.in-Ready.instance) (HasBegun (serving_of c.args.words.now.collect (λ i type. serves c.begin_with-begun.result.1 i)) c.args.source.now (map invocation_of c.args.words.now.invocations)) c.in-Ok.is c.in-Ready.is c.begin_with-begun.ensures.begun)
     (began_behind c.args.source.now.imports c.as_slice-imports.result.now (g.D.Devices.shown c.args.devices.now) (g.D.Devices.shown c.replace-set.result) c.args.script c.new-hosts.result c.begin_with-begun.result.1 c.begin_with-begun.ensures.same c.new-hosts.ensures.state c.new-hosts.ensures.logs
     (c.as_slice-imports.ensures ∙ ap (λ (m : Module). m.imports) (c.parts.ensures.value ∙ c.module.ensures.value)) (ap (λ d. g.D.Devices.shown d) c.replace-set.ensures.value))
-    c.run_all-outcome.ensures.origin
+    c.run_all-ran.ensures.origin
     (record { devices = c.into_devices-in-Ready.ensures.devices; logged = c.into_devices-in-Ready.ensures.logged; modules = c.into_devices-in-Ready.ensures.modules; scripted = c.into_devices-in-Ready.ensures.scripted })
-    (c.run_all-outcome.ensures.ran deliver delivers)
+    (c.run_all-ran.ensures.ran deliver delivers) c.recorded-outcome.ensures.records
 
 pub returns-in-Ready-clause-stops : goal.returns-in-Ready-clause-stops
 returns-in-Ready-clause-stops g c =
-    ready_stops (g.D.Devices.shown c.args.devices.now) (g.D.Devices.shown c.into_devices-in-Ready.result) c.args.words.now c.run_all-outcome.result.0 deliver delivers c.args.script c.args.source.now c.in-Ready.instance c.begin_with-begun.result.1 c.run_all-outcome.result.1
-    (g.F.Files.told c.args.files.now) (g.F.Files.told c.run_all-outcome.new.files)
+    ready_stops (g.D.Devices.shown c.args.devices.now) (g.D.Devices.shown c.into_devices-in-Ready.result) c.args.words.now c.recorded-outcome.result deliver delivers (Rose (g.F.Files.faults c.run_all-ran.new.files) (g.F.Files.faults c.recorded-outcome.new.files)) c.run_all-ran.result.0 c.args.script c.args.source.now c.in-Ready.instance
+    (ends_badly c.run_all-ran.new.instance.last) c.begin_with-begun.result.1 c.run_all-ran.result.1
+    (g.F.Files.told c.args.files.now) (g.F.Files.told c.run_all-ran.new.files) (g.F.Files.told c.recorded-outcome.new.files)
     (subst IsModule (c.parts.ensures.value ∙ c.module.ensures.value) c.parts.ensures.whole) c.module.ensures.valid
     (of_begun c.begin_with-begun.result.0 c.in-Ok.begun (Ready c.in-Ready.instance) (HasBegun (serving_of c.args.words.now.collect (λ i type. serves c.begin_with-begun.result.1 i)) c.args.source.now (map invocation_of c.args.words.now.invocations)) c.in-Ok.is c.in-Ready.is c.begin_with-begun.ensures.begun)
     (began_behind c.args.source.now.imports c.as_slice-imports.result.now (g.D.Devices.shown c.args.devices.now) (g.D.Devices.shown c.replace-set.result) c.args.script c.new-hosts.result c.begin_with-begun.result.1 c.begin_with-begun.ensures.same c.new-hosts.ensures.state c.new-hosts.ensures.logs
     (c.as_slice-imports.ensures ∙ ap (λ (m : Module). m.imports) (c.parts.ensures.value ∙ c.module.ensures.value)) (ap (λ d. g.D.Devices.shown d) c.replace-set.ensures.value))
-    c.run_all-outcome.ensures.origin
+    c.run_all-ran.ensures.origin
     (record { devices = c.into_devices-in-Ready.ensures.devices; logged = c.into_devices-in-Ready.ensures.logged; modules = c.into_devices-in-Ready.ensures.modules; scripted = c.into_devices-in-Ready.ensures.scripted })
-    (c.run_all-outcome.ensures.stops deliver delivers)
+    (c.run_all-ran.ensures.ran deliver delivers) c.run_all-ran.ensures.memory (c.run_all-ran.ensures.stops deliver delivers) c.recorded-outcome.ensures.records
 
 pub returns-in-Ready-clause-fault : goal.returns-in-Ready-clause-fault
-returns-in-Ready-clause-fault g c = fault_rose c.args.words.now.dump c.run_all-outcome.result.0 _ c.run_all-outcome.ensures.fault
+returns-in-Ready-clause-fault g c =
+    recorded_fault c.args.words.now.log_to (fitting (ends_badly c.run_all-ran.new.instance.last) c.run_all-ran.result.1.served) (Rose (g.F.Files.faults c.run_all-ran.new.files) (g.F.Files.faults c.recorded-outcome.new.files)) (g.F.Files.told c.run_all-ran.new.files) (g.F.Files.told c.recorded-outcome.new.files)
+    (Rose (g.F.Files.faults c.args.files.now) (g.F.Files.faults c.recorded-outcome.new.files)) c.run_all-ran.result.0 c.recorded-outcome.result
+    (λ rose. omega (arith, rose, c.run_all-ran.ensures.later))
+    (fault_since c.args.words.now.dump c.run_all-ran.result.0 (g.F.Files.faults c.args.files.now) (g.F.Files.faults c.run_all-ran.new.files) (g.F.Files.faults c.recorded-outcome.new.files) c.recorded-outcome.ensures.later c.run_all-ran.ensures.fault)
+    c.recorded-outcome.ensures.records
 
 pub returns-in-Refused-clause-told : goal.returns-in-Refused-clause-told
 returns-in-Refused-clause-told g c =

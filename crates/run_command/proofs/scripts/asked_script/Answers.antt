@@ -4,14 +4,14 @@ use Rattle.run_command.proofs.Commands.{asked_none, asked_whole, asked_refused}
 use Rattle.run_command.proofs.scripts.asked_script.Goals as goal
 
 pub returns-in_default-clause-told : goal.returns-in_default-clause-told
-returns-in_default-clause-told g c = asked_none (g.F.Files.told c.args.files.now) c.args.words.now.replies (Whole None) c.in_default.is refl
+returns-in_default-clause-told g c = asked_none (g.F.Files.told c.args.files.now) c.args.replies.now (Whole None) c.in_default.is refl
 
 pub returns-in_ok-script-in-Whole-clause-told : goal.returns-in_ok-script-in-Whole-clause-told
 returns-in_ok-script-in-Whole-clause-told g c =
-    asked_whole (g.F.Files.told c.args.files.now) c.args.words.now.replies _ c.as_str.result.now c.in_ok-input.input c.in-Whole.bytes c.deref.result.now c.in_ok-script-in-Whole.script
+    asked_whole (g.F.Files.told c.args.files.now) c.args.replies.now _ c.as_str.result.now c.in_ok-input.input c.in-Whole.bytes c.deref.result.now c.in_ok-script-in-Whole.script
     c.in-Some.is c.as_str.ensures.value c.deref.ensures.value c.in-Whole.is c.in_ok-input.ensures.told c.in_ok-script-in-Whole.ensures
 
 pub returns-in-Refused-clause-told : goal.returns-in-Refused-clause-told
 returns-in-Refused-clause-told g c =
-    asked_refused (g.F.Files.told c.args.files.now) c.args.words.now.replies _ c.as_str.result.now c.in_ok-input.input c.in-Refused.refusal
+    asked_refused (g.F.Files.told c.args.files.now) c.args.replies.now _ c.as_str.result.now c.in_ok-input.input c.in-Refused.refusal
     c.in-Some.is c.as_str.ensures.value c.in-Refused.is c.in_ok-input.ensures.told

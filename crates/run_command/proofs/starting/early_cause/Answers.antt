@@ -5,7 +5,7 @@ use Rattle.wasm_machine.specs.Entries.{first_unserved}
 use Rattle.run_command.specs.Starting.{or_text}
 use Rattle.run_command.specs.Hosting.{import_text}
 use Rattle.run_command.specs.inner.Begun.{fault_text, import_in}
-use Rattle.run_command.proofs.Entries.{texts, own_text, found, passed, all_passed}
+use Rattle.run_command.proofs.Entries.{own_text, found, passed, all_passed}
 use Rattle.run_command.proofs.Beginning.{own_fault, import_left}
 use Rattle.run_command.proofs.starting.early_cause.Goals as goal
 

@@ -8,7 +8,9 @@ use Rattle.machine_hosted.specs.declared.answer.RunEnd.TheVariants.{NoMemory}
 use Rattle.wasm_machine.proofs.StandingLaws.{of_same}
 use Rattle.run_session.specs.Telling.{tells}
 use Rattle.run_session.specs.Invocations.{invocation_of, depth_of}
+use Rattle.run_session.specs.inner.Sessions.{ends_badly}
 use Rattle.run_session.proofs.Tellings.{behaves}
+use Rattle.run_session.proofs.Invocations.{kept_badly}
 use Rattle.run_session.proofs.Ones.{result_made, result_stopped, ends_all, ends_some}
 use Rattle.run_session.proofs.session.run_one.Goals as goal
 
@@ -25,7 +27,7 @@ returns-clause-made g c = λ deliver is_delivery p is_of.
     (ap (λ (m : Module). function_export m c.args.invocation.now.entry) is_of.of_module ∙ ap (λ (n : List ℕ). function_export c.args.instance.now.module_ n) (sym c.as_str-entry.ensures.value) ∙ came.1)
     c.requires.collected c.collected.ensures (came.2 p is_of)
     c.end_turn.result c.saturating_sub-calls.result c.given-before.result c.given.result c.args.lines.now c.end_turn.new.lines
-    c.in-Ok.ensures.due c.given-before.ensures c.given.ensures c.saturating_sub-calls.ensures
+    c.in-Ok.ensures.due (ap ends_badly came.3 ∙ kept_badly came.0 c.as_slice-args.result.now c.depth_of.result (g.H.HostSide.collecting c.args.hosts.now) c.in-Ok.end) c.given-before.ensures c.given.ensures c.saturating_sub-calls.ensures
     c.end_turn.ensures.memory (c.end_turn.ensures.added deliver is_delivery)
 
 pub returns-clause-stops : goal.returns-clause-stops

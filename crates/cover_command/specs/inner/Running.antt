@@ -1,0 +1,47 @@
+-- The invocation and its end, as the code comes to them.
+use Rattle.std.specs.Prelude.{◌≡◌, ◌<◌, ◌^◌, ℕ, Bool, List, map, length, Option, Some, codes}
+use Rattle.wasm_syntax.specs.declared.parts.Import.{Import}
+use Rattle.wasm_syntax.specs.declared.module.ModuleParts.{ModuleParts as Module}
+use Rattle.wasm_syntax.specs.Module.{Program, function_export}
+use Rattle.machine_basics.specs.Traps.{trap_code}
+use Rattle.machine_steps.specs.Places.{Place}
+use Rattle.machine_steps.specs.Tallies.{Counts, Counted}
+use Rattle.host_devices.specs.HostSides.{Calls}
+use Rattle.machine_hosted.specs.declared.answer.RunEnd.{RunEnd}
+use Rattle.machine_hosted.specs.declared.answer.RunEnd.TheVariants.{Finished, Trapped, NoReply, BadReply, DeviceFault, FuelSpent, NoMemory}
+use Rattle.wasm_machine.specs.Instances.{State, IsOf, Invoked}
+use Rattle.wasm_machine.specs.Watching.{Seen}
+use Rattle.command_answers.specs.Texts.{ended}
+use Rattle.command_answers.specs.declared.outcome.Outcome.{Outcome}
+use Rattle.command_answers.specs.declared.status.Status.TheVariants as status
+use Rattle.run_words.specs.declared.cover.CoverWords.{CoverWords}
+use Rattle.run_session.specs.RunText.{kind_line}
+use Rattle.run_session.specs.inner.Answers.{answer_line}
+use Rattle.debug_frames.specs.declared.programs.Program.{Program as LineProgram}
+use Rattle.cover_command.specs.SourceLines.{source_line}
+use Rattle.cover_command.specs.CoverText.{CoverText}
+use Rattle.cover_command.specs.CoverAnswer.{finished_line}
+
+-- The invocation came to the answer, and all steps that were made were counted.
+abbrev pub Came : CoverWords → (collecting : Bool) → (Import → Bool) → (before now : State) → RunEnd → (uncounted counted : Counts) → (old new : Calls) → Type 0
+Came w collecting used_up before now answer uncounted counted old new =
+    (f : ℕ) × (function_export before.module_ w.called.entry ≡ Some f)
+    × ((p : Program) → IsOf before p
+    → Invoked p collecting w.depth used_up f w.called.args w.fuel before now answer old new
+    × Seen Counted p collecting w.depth f w.called.args w.fuel before now answer uncounted counted old new)
+
+-- these counts are told behind an ending, wherever the steps were made
+abbrev pub TellsCounts : List (ℕ × LineProgram) → Module → Counts → (ending : List ℕ) → Outcome → Type 0
+TellsCounts lines m t ending o =
+    (o.status ≡ status.Done)
+    × ((seen : List (Option Place)) → Counted m t seen → length seen < 2 ^ 64 → CoverText ending (map (source_line lines m) seen) o.text)
+
+-- what is answered where the invocation came to this, behind so many calls that were replied to
+abbrev pub AnswersEnd : List (ℕ × LineProgram) → Module → Counts → (given : ℕ) → RunEnd → Outcome → Type 0
+AnswersEnd lines m t given (Finished v) o = TellsCounts lines m t (finished_line v) o
+AnswersEnd lines m t given (Trapped kind) o = TellsCounts lines m t (kind_line (trap_code kind)) o
+AnswersEnd lines m t given FuelSpent o = TellsCounts lines m t (codes "fuel spent\n") o
+AnswersEnd lines m t given NoReply o = o ≡ ended status.HostStopped (answer_line NoReply given 0)
+AnswersEnd lines m t given (BadReply reply) o = o ≡ ended status.HostStopped (answer_line (BadReply reply) given 0)
+AnswersEnd lines m t given (DeviceFault device) o = o ≡ ended status.HostStopped (answer_line (DeviceFault device) given 0)
+AnswersEnd lines m t given NoMemory o = ⊥

@@ -1,0 +1,98 @@
+//! The invocation on a valid module, with its steps counted.
+
+ghost use Rattle.std.specs.Prelude.{◌≡◌, ◌≢◌, ◌<◌, ◌^◌, ◌⊎◌, Ok, None, true, IfOk, OnErr};
+ghost use Rattle.wasm_decode.specs.Decode.{module_from};
+ghost use Rattle.machine_hosted.specs.Answers.{HasCause};
+ghost use Rattle.host_set.specs.Sets.{AreDistinct, names};
+ghost use Rattle.wasm_machine.specs.Entries.{entry_fault};
+ghost use Rattle.cover_command.specs.CoverAnswer.{ModuleAnswer};
+ghost use Rattle.cover_command.specs.inner.Running.{Came};
+ghost use Rattle.cover_command.specs.inner.Steps.{IsAnswered, ModuleStops};
+
+use crate::ending::answer_to;
+use causes::NoMemory;
+use command_answers::{Outcome, Status};
+use host_devices::HostSide;
+use host_set::{Devices, Hosts};
+use machine_hosted::RunEnd;
+use machine_steps::Tally;
+use pm_text::Items;
+use run_command::{Begun, begin};
+use run_words::CoverWords;
+use std::alloc::Global;
+use std::{mem, slice};
+use wasm_machine::Instance;
+use wasm_syntax::Reply;
+use wasm_validate::Validated;
+
+/// Invokes the function that the words name on a new instance, with the steps that they allow. The tally counts these.
+fn invoke<H: HostSide>(
+    words: &CoverWords,
+    instance: &mut Instance<'_>,
+    hosts: &mut H,
+    tally: &mut Tally,
+) -> RunEnd
+    requires ready { instance.old.ready ≡ true }
+    requires entry { entry_fault (H.serving hosts.old) instance.old.module_
+        words.now.called.entry words.now.called.args ≡ None }
+    requires imports { (H.origin hosts.old).imports ≡ instance.old.module_.imports }
+    requires steps { instance.old.steps ≡ 0 }
+    ensures came { Came words.now (H.collecting hosts.old) (H.used_up hosts.new)
+        instance.old instance.new result tally.old tally.new
+        (H.calls hosts.old) (H.calls hosts.new) }
+    ensures cause { HasCause result (H.fault_count hosts.old) (H.fault_count hosts.new) }
+    ensures origin { H.origin hosts.new ≡ H.origin hosts.old }
+    ensures fuel { words.now.fuel < 2 ^ 64 }
+{
+    let entry = words.called.entry.as_str();
+    let args = words.called.args.as_slice();
+    let Ok(end) = instance.invoke_watched(entry, args, words.depth, words.fuel, hosts, tally) else {
+        unreachable!();
+    };
+    end
+}
+
+/// Invokes the function that the words name on a valid module, which these bytes spell, tells where its steps fell, and gives
+/// the devices back.
+pub(crate) fn cover_valid<D: Devices>(
+    alloc: Global,
+    words: &CoverWords,
+    bytes: &[u8],
+    source: &Validated,
+    script: Option<Items<Reply>>,
+    devices: &mut D,
+) -> Result<Outcome, NoMemory>
+    requires distinct { AreDistinct (names (D.shown devices.old)) }
+    requires spells { module_from bytes.now ≡ Ok source.now }
+    ensures told { IfOk result (IsAnswered
+        (λ given. ModuleAnswer (D.shown devices.old) (D.shown devices.new)
+        words.now given script bytes.now source.now)
+        (D.shown devices.old) (D.shown devices.new)) }
+    ensures stops { OnErr result ((D.shown devices.new ≡ D.shown devices.old)
+        ⊎ ModuleStops (D.shown devices.old) (D.shown devices.new) words.now source.now script) }
+    ensures fault { IfOk result (λ o. o.status ≢ Status.FileFault) }
+    ensures memory { IfOk result (λ o. o.status ≢ Status.NoMemory) }
+    ensures distinct { AreDistinct (names (D.shown devices.new)) }
+{
+    let parts = source.module().parts();
+    let mut tally = Tally::new(alloc, parts)?;
+    let set = mem::replace(devices, D::empty(alloc));
+    let mut hosts = Hosts::new(alloc, set, script, parts.imports.as_slice());
+    let begun = begin(alloc, source, slice::from_ref(&words.called), &hosts);
+    let Ok(begun) = begun else {
+        *devices = hosts.into_devices();
+        return Err(NoMemory);
+    };
+    match begun {
+        Begun::Ready(mut instance) => {
+            let end = invoke(words, &mut instance, &mut hosts, &mut tally);
+            let outcome = answer_to(alloc, bytes, source, &tally, &end, hosts.given());
+            *devices = hosts.into_devices();
+            outcome
+        }
+        Begun::Refused(refusal) => {
+            *devices = hosts.into_devices();
+            Ok(refusal)
+        }
+    }
+}

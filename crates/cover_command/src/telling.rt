@@ -1,0 +1,70 @@
+//! The text of counted steps.
+
+ghost use Rattle.std.specs.Prelude.{◌≡◌, ◌<◌, ◌^◌, ◌++◌, List, Option, map, length, IfOk, OnOk};
+ghost use Rattle.std.specs.List.{flat_map};
+ghost use Rattle.std.specs.BTreeMap.{IsOrdered};
+ghost use Rattle.machine_steps.specs.Places.{Place};
+ghost use Rattle.machine_steps.specs.Tallies.{Counted};
+ghost use Rattle.cover_command.specs.CoverText.{CoverText, count_text, sums_text};
+ghost use Rattle.cover_command.specs.SourceLines.{source_line};
+ghost use Rattle.cover_command.specs.inner.Merging.{file_line_cmp, seen_line, seen_counts};
+
+use crate::merging::{FileLine, merge};
+use causes::NoMemory;
+use command_answers::push_number;
+use debug_frames::Programs;
+use line_coverage::Coverage;
+use machine_steps::Tally;
+use pm_text::Text;
+use std::alloc::Global;
+use std::collections::BTreeMap;
+use wasm_syntax::ModuleParts;
+
+/// Adds the line that tells how many steps fell on a line of a file.
+#[tactic(auto, unfolding(crate::specs::CoverText::count_text))]
+fn push_count(out: &mut Text, line: &FileLine, steps: u64) -> Result<(), NoMemory>
+    ensures { OnOk result (out.new ≡ out.old ++ count_text (seen_line line.now, steps)) }
+{
+    out.push_str(line.file.as_str())?;
+    push_number(out, ":", u64::from(line.line))?;
+    push_number(out, " ", steps)?;
+    out.push_str("\n")
+}
+
+/// Adds the lines of all lines of files on which steps fell.
+fn push_counts(out: &mut Text, counts: &BTreeMap<FileLine, u64>) -> Result<(), NoMemory>
+    ensures text { OnOk result (out.new ≡ out.old ++ flat_map count_text (seen_counts counts.now.entries)) }
+    ensures ordered { IsOrdered file_line_cmp counts.now }
+{
+    for (line, steps) in counts.iter() {
+        push_count(out, line, *steps)?;
+    }
+    Ok(())
+}
+
+/// Adds the lines that tell how many steps fell on no line, and how many were made.
+#[tactic(auto, unfolding(crate::specs::CoverText::sums_text))]
+fn push_sums(out: &mut Text, unplaced: u64, steps: u64) -> Result<(), NoMemory>
+    ensures { OnOk result (out.new ≡ out.old ++ sums_text unplaced steps) }
+{
+    push_number(out, "unplaced ", unplaced)?;
+    push_number(out, "\nsteps ", steps)?;
+    out.push_str("\n")
+}
+
+/// Adds the lines that tell where the steps fell that were counted of runs of a module, by its line programs.
+pub(crate) fn push_covered(
+    out: &mut Text,
+    alloc: Global,
+    programs: &Programs<'_>,
+    source: &ModuleParts,
+    tally: &Tally,
+) -> Result<(), NoMemory>
+    ensures { OnOk result ((seen : List (Option Place)) → Counted source.now tally.now seen → length seen < 2 ^ 64 → CoverText out.old (map (source_line programs.now source.now) seen) out.new) }
+{
+    let tables = programs.lines(alloc)?;
+    let coverage = Coverage::of(alloc, &tables, source, tally)?;
+    let counts = merge(alloc, &tables, coverage.lines())?;
+    push_counts(out, &counts)?;
+    push_sums(out, coverage.unplaced(), coverage.steps())
+}

@@ -1,0 +1,136 @@
+//! What is known of the code addresses of frames.
+
+ghost use Rattle.std.specs.Prelude.{◌≡◌, IfOk, IfSome, option_copied};
+ghost use Rattle.debug_frames.specs.Frames as definitions;
+ghost use Rattle.debug_frames.specs.inner.Resolving.{resolved_at};
+
+use crate::information::Information;
+use crate::programs::Located;
+use causes::NoMemory;
+use dwarf_entries::{Standing, name_of};
+use dwarf_scopes::Subprograms;
+use pm_text::Items;
+use std::alloc::Global;
+use std::collections::BTreeMap;
+use std::marker::Model;
+
+/// What is known of a code address.
+#[derive(Drop)]
+pub struct Resolved<'r, 'a> {
+    pub address: u32,
+    /// The name of the subprogram there.
+    pub name: Option<&'a [u8]>,
+    /// The inlined subroutines that hold it, the innermost first.
+    pub inlined: Items<Standing<'r, 'a>>,
+    /// Its row.
+    pub located: Option<Located<'r, 'a>>,
+}
+
+impl<'r, 'a> Model for Resolved<'r, 'a> {
+    ghost use Rattle.std.specs.Prelude.{option_copied};
+    ghost use Rattle.debug_frames.specs.inner.Resolving.{Resolved};
+
+    ghost Value = { Resolved };
+
+    ghost view = { λ x. record { address = x.address; name = option_copied x.name; inlined = x.inlined; located = x.located } };
+}
+
+/// The name of a subprogram, if there is one.
+fn name_within<'r, 'a>(
+    information: &'r Information<'a>,
+    subprogram: &Option<Standing<'r, 'a>>,
+) -> Option<&'a [u8]>
+    ensures { option_copied result ≡ definitions.name_within information.now.units subprogram.now }
+{
+    match subprogram {
+        Some(subprogram) => name_of(&information.units, subprogram.entry().attributes.as_slice()),
+        None => None,
+    }
+}
+
+impl<'r, 'a> Resolved<'r, 'a> {
+    /// What is known of an address, by the subprograms of all units.
+    pub fn of(
+        alloc: Global,
+        information: &'r Information<'a>,
+        subprograms: &Subprograms<'r, 'a>,
+        address: u32,
+    ) -> Result<Self, NoMemory>
+        requires { subprograms.now ≡ information.now.units }
+        ensures { IfOk result (λ x. x ≡ resolved_at information.now address) }
+    {
+        let found = subprograms.find(alloc, &information.sections, address)?;
+        Ok(Resolved {
+            address,
+            name: name_within(information, &found.subprogram),
+            inlined: found.inlined,
+            located: information.programs.located(address),
+        })
+    }
+}
+
+/// What the bytes of a module say, with what was found of addresses before. Contracts see the first.
+#[derive(Drop)]
+pub struct Symbolizer<'r, 'a> {
+    information: &'r Information<'a>,
+    subprograms: Subprograms<'r, 'a>,
+    known: BTreeMap<u32, Resolved<'r, 'a>>,
+}
+
+impl<'r, 'a> Model for Symbolizer<'r, 'a> {
+    ghost use Rattle.std.specs.Prelude.{◌≡◌, ℕ, IfSome};
+    ghost use Rattle.std.specs.Ordering.{nat_cmp};
+    ghost use Rattle.std.specs.BTreeMap.{get};
+    ghost use Rattle.debug_frames.specs.declared.information.Information.{Information};
+    ghost use Rattle.debug_frames.specs.inner.Resolving.{resolved_at};
+
+    ghost Value = { Information };
+
+    ghost view = { λ s. s.information.now };
+
+    ghost invariant = { λ s. (s.subprograms ≡ s.information.now.units)
+        × ((q : ℕ) → IfSome (get nat_cmp s.known q) (λ x. x ≡ resolved_at s.information.now q)) };
+}
+
+impl<'r, 'a> Symbolizer<'r, 'a> {
+    /// Nothing is known yet.
+    pub fn new(alloc: Global, information: &'r Information<'a>) -> Result<Self, NoMemory>
+        ensures { IfOk result (λ s. s ≡ information.now) }
+    {
+        let subprograms = Subprograms::of(alloc, information.units.as_slice())?;
+        Ok(Symbolizer {
+            information,
+            subprograms,
+            known: BTreeMap::new(alloc),
+        })
+    }
+
+    pub(crate) fn information(&self) -> &'r Information<'a>
+        ensures { result.now ≡ self.now }
+    {
+        self.information
+    }
+
+    /// What is known of an address that was not asked for before.
+    pub(crate) fn resolve(&self, alloc: Global, address: u32) -> Result<Resolved<'r, 'a>, NoMemory>
+        ensures { IfOk result (λ x. x ≡ resolved_at self.now address) }
+    {
+        Resolved::of(alloc, self.information, &self.subprograms, address)
+    }
+
+    /// What is known of an address, where it was asked for before.
+    pub(crate) fn get(&self, address: u32) -> Option<&Resolved<'r, 'a>>
+        ensures { IfSome result (λ x. x.now ≡ resolved_at self.now address) }
+    {
+        self.known.get(&address)
+    }
+
+    /// Keeps what is known of an address.
+    pub(crate) fn keep(&mut self, resolved: Resolved<'r, 'a>) -> Result<(), NoMemory>
+        requires { resolved ≡ resolved_at self.old resolved.address }
+        ensures { self.new ≡ self.old }
+    {
+        self.known.insert(resolved.address, resolved)?;
+        Ok(())
+    }
+}

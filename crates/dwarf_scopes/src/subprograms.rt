@@ -1,0 +1,145 @@
+//! The subprograms of all units, gathered once where many addresses are looked up.
+
+ghost use Rattle.std.specs.Prelude.{◌≡◌, ◌++◌, OnOk, IfOk, find, flat_map, option_copied};
+ghost use Rattle.dwarf_entries.specs.Standing.{Standing as Stands};
+ghost use Rattle.dwarf_scopes.specs.Ranges as ranges;
+ghost use Rattle.dwarf_scopes.specs.Scopes as scopes;
+ghost use Rattle.dwarf_scopes.specs.inner.Picks.{is_kept, kept_of, kept};
+
+use crate::ranges::holds;
+use crate::scopes::{inlined_of, is_removed, scopes_in};
+use causes::NoMemory;
+use dwarf_entries::tags::SUBPROGRAM;
+use dwarf_entries::{Pick, Standing, push_picked};
+use dwarf_info::{Sections5, UnitAnswer};
+use pm_text::Items;
+use std::alloc::Global;
+use std::marker::Model;
+
+/// The subprograms that are not removed.
+#[derive(Drop)]
+struct Kept {}
+
+impl Pick for Kept {
+    ghost picks = { λ p. is_kept };
+
+    fn picks(&self, standing: &Standing<'_, '_>) -> bool {
+        standing.entry().tag == SUBPROGRAM && !is_removed(standing)
+    }
+}
+
+fn push_kept<'r, 'a>(
+    answer: &'r UnitAnswer<'a>,
+    found: &mut Items<Standing<'r, 'a>>,
+) -> Result<(), NoMemory>
+    ensures { OnOk result (found.new ≡ found.old ++ kept_of answer.now) }
+{
+    match answer {
+        UnitAnswer::Tree(unit) => push_picked(&Kept {}, unit, unit.entries.as_slice(), found),
+        UnitAnswer::Unreadable { section: _, at: _ } => Ok(()),
+    }
+}
+
+fn all_kept<'r, 'a>(
+    alloc: Global,
+    units: &'r [UnitAnswer<'a>],
+) -> Result<Items<Standing<'r, 'a>>, NoMemory>
+    ensures { IfOk result (λ xs. xs ≡ kept units.now) }
+{
+    let mut found = Items::new(alloc);
+    for answer in units {
+        push_kept(answer, &mut found)?;
+    }
+    Ok(found)
+}
+
+/// The first of these that holds an address.
+fn first_holding<'r, 'a>(
+    sections: &Sections5<'a>,
+    subprograms: &[Standing<'r, 'a>],
+    address: u32,
+) -> Option<Standing<'r, 'a>>
+    ensures { result ≡ find (ranges.holds sections.now address) subprograms.now }
+{
+    for subprogram in subprograms {
+        if holds(sections, address, subprogram) {
+            return Some(subprogram.copied());
+        }
+    }
+    None
+}
+
+/// What stands at an address.
+#[derive(Drop)]
+pub struct Found<'r, 'a> {
+    pub subprogram: Option<Standing<'r, 'a>>,
+    /// The inlined subroutines that hold the address, the innermost first.
+    pub inlined: Items<Standing<'r, 'a>>,
+}
+
+/// The subprograms of units. Contracts see the units.
+#[derive(Drop)]
+pub struct Subprograms<'r, 'a> {
+    units: &'r [UnitAnswer<'a>],
+    // Those that are not removed.
+    kept: Items<Standing<'r, 'a>>,
+}
+
+impl<'r, 'a> Model for Subprograms<'r, 'a> {
+    ghost use Rattle.std.specs.Prelude.{◌≡◌, List};
+    ghost use Rattle.dwarf_info.specs.declared.entry.UnitAnswer.{UnitAnswer};
+    ghost use Rattle.dwarf_scopes.specs.inner.Picks.{kept as kept_of_all};
+
+    ghost Value = { List UnitAnswer };
+
+    ghost view = { λ s. s.units.now };
+
+    ghost invariant = { λ s. s.kept ≡ kept_of_all s.units.now };
+}
+
+impl<'r, 'a> Subprograms<'r, 'a> {
+    /// The subprograms of these units.
+    pub fn of(alloc: Global, units: &'r [UnitAnswer<'a>]) -> Result<Self, NoMemory>
+        ensures { IfOk result (λ s. s ≡ units.now) }
+    {
+        let kept = all_kept(alloc, units)?;
+        Ok(Subprograms { units, kept })
+    }
+
+    /// The first one that holds an address.
+    #[tactic(auto, using(crate::proofs::Filters::found_kept))]
+    fn at(&self, sections: &Sections5<'a>, address: u32) -> Option<Standing<'r, 'a>>
+        ensures { result ≡ scopes.subprogram_at sections.now self.now address }
+    {
+        first_holding(sections, self.kept.as_slice(), address)
+    }
+
+    /// What stands at an address.
+    #[tactic(auto, unfolding(crate::specs::Scopes::scopes_at, crate::specs::Scopes::inlined_at))]
+    pub fn find(
+        &self,
+        alloc: Global,
+        sections: &Sections5<'a>,
+        address: u32,
+    ) -> Result<Found<'r, 'a>, NoMemory>
+        ensures subprogram { IfOk result (λ x. x.subprogram
+            ≡ scopes.subprogram_at sections.now self.now address) }
+        ensures inlined { IfOk result (λ x. x.inlined
+            ≡ scopes.inlined_at sections.now self.now address) }
+    {
+        match self.at(sections, address) {
+            Some(subprogram) => {
+                let scopes = scopes_in(alloc, sections, address, subprogram.copied())?;
+                let inlined = inlined_of(alloc, scopes)?;
+                Ok(Found {
+                    subprogram: Some(subprogram),
+                    inlined,
+                })
+            }
+            None => Ok(Found {
+                subprogram: None,
+                inlined: Items::new(alloc),
+            }),
+        }
+    }
+}

@@ -1,0 +1,10 @@
+pub mod SumLaws
+pub mod SpotLaws
+pub mod HeldLaws
+pub mod MoveLaws
+pub mod VisitLaws
+pub mod PlaceLaws
+pub mod FallLaws
+pub mod ListLaws
+pub mod CoverLaws
+pub mod RunLaws

@@ -1,0 +1,4 @@
+pub mod Spots
+pub mod Covers
+pub mod Runs
+pub mod inner

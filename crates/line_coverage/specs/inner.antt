@@ -1,0 +1,5 @@
+pub mod Sums
+pub mod Spans
+pub mod Placing
+pub mod Visits
+pub mod Order

@@ -1,0 +1,12 @@
+pub mod Answers
+pub mod Runs
+pub mod Fewer
+pub mod Going
+pub mod Ending
+pub mod Spent
+pub mod Advances
+pub mod Begins
+pub mod Starts
+pub mod Tracks
+pub mod Pieces
+pub mod Moving

@@ -1,0 +1,4 @@
+-- What only proofs and the contracts of inner functions speak of: no promise to those outside rests on it.
+pub mod Starting
+pub mod Reached
+pub mod Tracks

@@ -1,0 +1,15 @@
+//! Goes to any step of a recorded run.
+#![tactic(auto)]
+
+mod ahead;
+mod fault;
+mod passing;
+mod point;
+mod recorded;
+mod replayer;
+mod track;
+
+pub use causes::NoMemory;
+pub use fault::ReplayFault;
+pub use machine_hosted::RunEnd;
+pub use replayer::Replayer;

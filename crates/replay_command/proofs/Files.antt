@@ -1,0 +1,101 @@
+-- Both files were read, or one was refused.
+use Rattle.std.proofs.Common.{◌≡◌, ℕ, ◌≤◌, List, Option, Some, None, Result, Ok, Err, refl, subst, inl, inr, arith}
+use Rattle.std.specs.declared.vec.Vec.{Vec}
+use Rattle.std.specs.Global.{Global}
+use Rattle.std.specs.Prelude.{IfOk}
+use Rattle.causes.specs.Counts.{Rose}
+use Rattle.pm_outside.specs.Contents.{Contents}
+use Rattle.wasm_syntax.specs.declared.quantity.Quantity.TheVariants.{ModuleBytes, RepliesBytes}
+use Rattle.command_answers.specs.Input.{IsInput, IfRefused}
+use Rattle.command_answers.specs.Inputs.{input_of, Then}
+use Rattle.command_answers.specs.Texts.{file_fault}
+use Rattle.command_answers.specs.Told.{UnlessFault, OnContents}
+use Rattle.command_answers.specs.declared.input.Input.{Input}
+use Rattle.command_answers.specs.declared.input.Input.TheVariants.{Whole, Refused}
+use Rattle.command_answers.specs.declared.outcome.Outcome.{Outcome}
+use Rattle.command_answers.specs.declared.status.Status.TheVariants as status
+use Rattle.command_answers.proofs.Reading.{map_contents, whole_then, refused_then}
+use Rattle.command_answers.proofs.Unless.{OnAnswer, unless, map_answer}
+use Rattle.replay_words.specs.declared.asking.ReplayWords.{ReplayWords}
+use Rattle.replay_command.specs.ReplayAnswer.{BytesAnswer, ReplayAnswer, IsReadBy}
+
+-- ---- the replies
+
+abbrev pub LogThen : ReplayWords → List ℕ → Contents → Outcome → Type 0
+LogThen w bytes later o = Then (input_of RepliesBytes w.log (later w.log)) (BytesAnswer w bytes) o
+
+abbrev pub OnLog : Option Contents → ReplayWords → List ℕ → Outcome → Type 0
+OnLog told w bytes o = OnContents told (λ later. LogThen w bytes later o)
+
+pub log_whole : {E : Type 0} (told : Option Contents) (w : ReplayWords) (bytes file : List ℕ) (input : Input) (read : Vec ℕ Global) (spelled : List ℕ) (r : Result Outcome E)
+    → file ≡ w.log → input ≡ Whole read → spelled ≡ read.items → OnContents told (λ held. IsInput input (input_of RepliesBytes file (held file)))
+    → OnAnswer (BytesAnswer w bytes spelled) r → OnAnswer (OnLog told w bytes) r
+log_whole {E} told w bytes file input read spelled r named is spells x a =
+    let y = whole_then told RepliesBytes file input read spelled (BytesAnswer w bytes) r is spells x a in
+    subst (λ (f : List ℕ). OnAnswer {E = E} (λ o. OnContents told (λ held. Then (input_of RepliesBytes f (held f)) (BytesAnswer w bytes) o)) r) named y
+
+pub log_refused : (told : Option Contents) (w : ReplayWords) (bytes file : List ℕ) (input : Input) (o : Outcome) → file ≡ w.log → input ≡ Refused o → OnContents told (λ held. IsInput input (input_of RepliesBytes file (held file)))
+    → UnlessFault o.status (OnLog told w bytes o)
+log_refused told w bytes file input o named is x =
+    let y = refused_then told RepliesBytes file input o (BytesAnswer w bytes) is x in
+    subst (λ (f : List ℕ). UnlessFault o.status (OnContents told (λ held. Then (input_of RepliesBytes f (held f)) (BytesAnswer w bytes) o))) named y
+
+-- ---- the module, and then the replies
+
+any_contents : (told : Option Contents) (P : Contents → Type 0) → ((held : Contents) → P held) → OnContents told P
+any_contents None P h = record { files = λ name. None; may = tt; holds = h (λ name. None) }
+any_contents (Some held) P h = record { files = held; may = refl; holds = h held }
+
+-- what comes behind stands on other contents
+then_contents : {A : Type 0} (told : Option Contents) (r : Result A Outcome) (P : Contents → A → Outcome → Type 0) (o : Outcome) → Then r (λ x p. OnContents told (λ later. P later x p)) o → OnContents told (λ later. Then r (P later) o)
+then_contents told (Ok x) P o h = h
+then_contents told (Err refusal) P o h = any_contents told (λ later. o ≡ refusal) (λ later. h)
+
+abbrev pub OnBoth : Option Contents → ReplayWords → Outcome → Type 0
+OnBoth told w o = OnContents told (λ first. OnContents told (λ later. ReplayAnswer w first later o))
+
+both : (told : Option Contents) (w : ReplayWords) (o : Outcome) → OnContents told (λ held. Then (input_of ModuleBytes w.source (held w.source)) (OnLog told w) o) → OnBoth told w o
+both told w o x = map_contents told (λ held. Then (input_of ModuleBytes w.source (held w.source)) (OnLog told w) o) (λ first. OnContents told (λ later. ReplayAnswer w first later o))
+    (λ held h. then_contents told (input_of ModuleBytes w.source (held w.source)) (λ later bytes. LogThen w bytes later) o h) x
+
+pub module_whole : {E : Type 0} (told told' : Option Contents) (w : ReplayWords) (file : List ℕ) (input : Input) (read : Vec ℕ Global) (spelled : List ℕ) (r : Result Outcome E)
+    → told' ≡ told → file ≡ w.source → input ≡ Whole read → spelled ≡ read.items → OnContents told (λ held. IsInput input (input_of ModuleBytes file (held file)))
+    → OnAnswer (OnLog told' w spelled) r → OnAnswer (OnBoth told w) r
+module_whole {E} told told' w file input read spelled r same named is spells x a =
+    let b : OnAnswer (OnLog told w spelled) r = subst (λ (t : Option Contents). OnAnswer {E = E} (OnLog t w spelled) r) same a in
+    let y = whole_then told ModuleBytes file input read spelled (OnLog told w) r is spells x b in
+    let z : OnAnswer (λ o. OnContents told (λ held. Then (input_of ModuleBytes w.source (held w.source)) (OnLog told w) o)) r = subst (λ (f : List ℕ). OnAnswer {E = E} (λ o. OnContents told (λ held. Then (input_of ModuleBytes f (held f)) (OnLog told w) o)) r) named y in
+    map_answer (λ o. OnContents told (λ held. Then (input_of ModuleBytes w.source (held w.source)) (OnLog told w) o)) (OnBoth told w) r (both told w) z
+
+pub module_refused : (told : Option Contents) (w : ReplayWords) (file : List ℕ) (input : Input) (o : Outcome) → file ≡ w.source → input ≡ Refused o → OnContents told (λ held. IsInput input (input_of ModuleBytes file (held file)))
+    → UnlessFault o.status (OnBoth told w o)
+module_refused told w file input o named is x =
+    let y = refused_then told ModuleBytes file input o (OnLog told w) is x in
+    let z : UnlessFault o.status (OnContents told (λ held. Then (input_of ModuleBytes w.source (held w.source)) (OnLog told w) o)) = subst (λ (f : List ℕ). UnlessFault o.status (OnContents told (λ held. Then (input_of ModuleBytes f (held f)) (OnLog told w) o))) named y in
+    unless o.status (OnContents told (λ held. Then (input_of ModuleBytes w.source (held w.source)) (OnLog told w) o)) (OnBoth told w o) (both told w o) z
+
+-- ---- faults of files
+
+-- of a file with this name
+abbrev pub Faults : List ℕ → Type 0 → Outcome → Type 0
+Faults file rose o = o.status ≡ status.FileFault → (o ≡ file_fault file) × rose
+
+pub named_fault : (file name : List ℕ) (rose : Type 0) (o : Outcome) → file ≡ name → Faults file rose o → Faults name rose o
+named_fault file name rose o named x = subst (λ (f : List ℕ). Faults f rose o) named x
+
+abbrev pub SomeFaults : ReplayWords → Type 0 → Outcome → Type 0
+SomeFaults w rose o = o.status ≡ status.FileFault → ((file : List ℕ) × IsReadBy w file × (o ≡ file_fault file)) × rose
+
+pub source_fault : (w : ReplayWords) (rose : Type 0) (o : Outcome) → Faults w.source rose o → SomeFaults w rose o
+source_fault w rose o x = λ at. let y = x at in ((w.source, inl refl, y.0), y.1)
+
+pub log_fault : {E : Type 0} (w : ReplayWords) (rose rose' : Type 0) (r : Result Outcome E) → (rose → rose') → IfOk r (Faults w.log rose) → IfOk r (SomeFaults w rose')
+log_fault w rose rose' (Ok o) to x = λ at. let y = x at in ((w.log, inr refl, y.0), to y.1)
+log_fault w rose rose' (Err e) to x = tt
+
+pub read_fault : (file name : List ℕ) (rose : Type 0) (input : Input) (o : Outcome) → file ≡ name → input ≡ Refused o → IfRefused (Faults file rose) input → Faults name rose o
+read_fault file name rose input o named is x = named_fault file name rose o named (subst (λ (i : Input). IfRefused (Faults file rose) i) is x)
+
+-- a count that rose behind a call rose since before it
+pub rose_since : (a b c : ℕ) → a ≤ b → Rose b c → Rose a c
+rose_since a b c le x = omega (arith, le, x)

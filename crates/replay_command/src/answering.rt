@@ -1,0 +1,183 @@
+//! The answer on the contents of two files.
+
+ghost use Rattle.std.specs.Prelude.{◌≡◌, ◌≢◌, ◌≤◌, ◌<◌, ◌^◌, ◌++◌, IfOk, Some, codes};
+ghost use Rattle.pm_text.specs.Names.{quoted};
+ghost use Rattle.host_replies.specs.Replies.{file_replies};
+ghost use Rattle.debug_subject.specs.Subject.{Spells};
+ghost use Rattle.run_command.specs.RunAnswer.{bad_replies as bad_replies_at};
+ghost use Rattle.run_command.specs.Starting.{cause_text, not_started_with};
+ghost use Rattle.replay.specs.Moves.{IsFault};
+ghost use Rattle.replay.specs.Replays.{Recording, cause_in};
+ghost use Rattle.replay_command.specs.ReplayAnswer.{BytesAnswer, IfReplies, IsTold, ModuleAnswer};
+ghost use Rattle.replay_command.specs.inner.Told.{StandsAtStart, TellsFault};
+
+use crate::looking::Viewer;
+use crate::moving::replayed;
+use causes::NoMemory;
+use command_answers::{Loaded, Outcome, Status, load, push_number};
+use host_replies::{ReplyFault, read_replies};
+use pm_text::Text;
+use replay::{ReplayFault, Replayer};
+use replay_words::ReplayWords;
+use run_session::numbered;
+use std::alloc::Global;
+use wasm_syntax::Reply;
+use wasm_validate::Validated;
+
+/// The cause that names an export.
+fn no_export(alloc: Global, entry: &Text) -> Result<Text, NoMemory>
+    ensures { IfOk result (λ t. t ≡ codes "export " ++ quoted entry.now) }
+{
+    let mut text = Text::from_str(alloc, "export ")?;
+    text.push_quoted(entry.as_bytes())?;
+    Ok(text)
+}
+
+/// The cause that a fault is.
+fn cause_of(alloc: Global, entry: &Text, fault: ReplayFault) -> Result<Text, NoMemory>
+    ensures { IfOk result (λ t. (x : Recording) → IsFault fault x → cause_text entry.now (cause_in x) ≡ Some t) }
+{
+    match fault {
+        ReplayFault::NoExport => no_export(alloc, entry),
+        ReplayFault::BadArguments => Text::from_str(alloc, "arguments"),
+        ReplayFault::ElementOut { index } => numbered(alloc, "element ", u64::from(index)),
+        ReplayFault::DataOut { index } => numbered(alloc, "data ", u64::from(index)),
+        ReplayFault::NoMemory => Err(NoMemory),
+    }
+}
+
+/// The answer where the run does not start.
+fn not_started(alloc: Global, entry: &Text, fault: ReplayFault) -> Result<Outcome, NoMemory>
+    ensures value { IfOk result (TellsFault fault entry.now) }
+    ensures memory { IfOk result (λ o. o.status ≢ Status.NoMemory) }
+    ensures fault { IfOk result (λ o. o.status ≢ Status.FileFault) }
+{
+    let cause = cause_of(alloc, entry, fault)?;
+    let mut text = Text::from_str(alloc, "not started: ")?;
+    text.push_str(cause.as_str())?;
+    text.push_str("\n")?;
+    Ok(Outcome {
+        status: Status::NotStarted,
+        text,
+    })
+}
+
+/// The answer where a line of the file of replies is no reply.
+fn bad_replies(alloc: Global, line: u64) -> Result<Outcome, NoMemory>
+    ensures value { IfOk result (λ o. o ≡ bad_replies_at line) }
+    ensures memory { IfOk result (λ o. o.status ≢ Status.NoMemory) }
+    ensures fault { IfOk result (λ o. o.status ≢ Status.FileFault) }
+{
+    let mut text = Text::new(alloc);
+    push_number(&mut text, "bad replies at line ", line)?;
+    text.push_str("\n")?;
+    Ok(Outcome {
+        status: Status::BadReplies,
+        text,
+    })
+}
+
+/// The answer where the run starts.
+fn told(
+    alloc: Global,
+    bytes: &[u8],
+    source: &Validated,
+    mut replayer: Replayer<'_>,
+    commands: &str,
+) -> Result<Outcome, NoMemory>
+    requires spells { Spells bytes.now source.now }
+    requires starts { StandsAtStart source.now replayer }
+    ensures value { IfOk result (IsTold replayer.entry.recording bytes.now commands.now) }
+    ensures memory { IfOk result (λ o. o.status ≢ Status.NoMemory) }
+    ensures fault { IfOk result (λ o. o.status ≢ Status.FileFault) }
+{
+    let _parts = source.module().parts();
+    let mut viewer = Viewer::new(source, bytes);
+    let text = replayed(alloc, &mut replayer, &mut viewer, commands)?;
+    Ok(Outcome {
+        status: Status::Done,
+        text,
+    })
+}
+
+/// How many steps stand between two checkpoints at first, which are some.
+fn spacing(words: &ReplayWords) -> u64
+    ensures { 1 ≤ result }
+{
+    words.every.max(1)
+}
+
+/// How many frames may stand.
+fn depth_of(words: &ReplayWords) -> u32
+    ensures value { result ≡ words.now.depth }
+    ensures fits { result < 2 ^ 32 }
+{
+    words.depth
+}
+
+/// The answer on a valid module with replies.
+fn on_replies(
+    alloc: Global,
+    words: &ReplayWords,
+    bytes: &[u8],
+    source: &Validated,
+    replies: &[Reply],
+) -> Result<Outcome, NoMemory>
+    requires { Spells bytes.now source.now }
+    ensures value { IfOk result (ModuleAnswer words.now bytes.now source.now replies.now) }
+    ensures memory { IfOk result (λ o. o.status ≢ Status.NoMemory) }
+    ensures fault { IfOk result (λ o. o.status ≢ Status.FileFault) }
+{
+    let replayer = Replayer::new(
+        alloc,
+        source,
+        words.entry.as_str(),
+        words.args.as_slice(),
+        replies,
+        depth_of(words),
+        words.fuel,
+        spacing(words),
+    );
+    match replayer {
+        Ok(replayer) => told(alloc, bytes, source, replayer, words.commands.as_str()),
+        Err(fault) => not_started(alloc, &words.entry, fault),
+    }
+}
+
+/// The answer on a valid module and the bytes of a file of replies.
+fn on_log(
+    alloc: Global,
+    words: &ReplayWords,
+    bytes: &[u8],
+    source: &Validated,
+    log: &[u8],
+) -> Result<Outcome, NoMemory>
+    requires { Spells bytes.now source.now }
+    ensures value { IfOk result (IfReplies (ModuleAnswer words.now bytes.now source.now) (file_replies log.now)) }
+    ensures memory { IfOk result (λ o. o.status ≢ Status.NoMemory) }
+    ensures fault { IfOk result (λ o. o.status ≢ Status.FileFault) }
+{
+    match read_replies(alloc, log) {
+        Ok(replies) => on_replies(alloc, words, bytes, source, replies.as_slice()),
+        Err(ReplyFault::Line(line)) => bad_replies(alloc, line),
+        Err(ReplyFault::NoMemory) => Err(NoMemory),
+    }
+}
+
+/// The answer on the bytes of a module and of a file of replies.
+pub(crate) fn on_bytes(
+    alloc: Global,
+    words: &ReplayWords,
+    bytes: &[u8],
+    log: &[u8],
+) -> Result<Outcome, NoMemory>
+    ensures value { IfOk result (BytesAnswer words.now bytes.now log.now) }
+    ensures memory { IfOk result (λ o. o.status ≢ Status.NoMemory) }
+    ensures fault { IfOk result (λ o. o.status ≢ Status.FileFault) }
+{
+    let loaded = load(alloc, bytes)?;
+    match loaded {
+        Loaded::Valid(source) => on_log(alloc, words, bytes, &source, log),
+        Loaded::TurnedDown(refusal) => Ok(refusal),
+    }
+}

@@ -1,0 +1,68 @@
+//! The command on two files.
+
+ghost use Rattle.std.specs.Prelude.{◌≡◌, ◌≢◌, ◌≤◌, ℕ, List, IfOk};
+ghost use Rattle.causes.specs.Counts.{Rose};
+ghost use Rattle.wasm_syntax.specs.declared.quantity.Quantity.TheVariants.{RepliesBytes};
+ghost use Rattle.command_answers.specs.Inputs.{input_of, Then};
+ghost use Rattle.command_answers.specs.Told.{UnlessFault, OnContents};
+ghost use Rattle.command_answers.specs.Texts.{file_fault};
+ghost use Rattle.replay_command.specs.ReplayAnswer.{BytesAnswer, ReplayAnswer, IsReadBy};
+
+use crate::answering::on_bytes;
+use causes::NoMemory;
+use command_answers::{Input, Outcome, Status, read_input};
+use pm_outside::Files;
+use replay_words::ReplayWords;
+use std::alloc::Global;
+use wasm_syntax::Quantity;
+
+/// The answer on the bytes of a module and the replies in a file.
+fn replay_log<F: Files>(
+    alloc: Global,
+    files: &mut F,
+    words: &ReplayWords,
+    bytes: &[u8],
+) -> Result<Outcome, NoMemory>
+    ensures told { IfOk result (λ o. UnlessFault o.status (OnContents (F.told files.old) (λ later.
+        Then (input_of RepliesBytes words.now.log (later words.now.log))
+        (BytesAnswer words.now bytes.now) o))) }
+    ensures fault { IfOk result (λ o. o.status ≡ Status.FileFault
+        → (o ≡ file_fault words.now.log) × Rose (F.faults files.old) (F.faults files.new)) }
+    ensures memory { IfOk result (λ o. o.status ≢ Status.NoMemory) }
+    ensures later { F.faults files.old ≤ F.faults files.new }
+    ensures same { F.told files.new ≡ F.told files.old }
+    ensures names { F.created files.new ≡ F.created files.old }
+{
+    let input = read_input(alloc, files, words.log.as_str(), Quantity::RepliesBytes)?;
+    match input {
+        Input::Whole(log) => on_bytes(alloc, words, bytes, &log),
+        Input::Refused(refusal) => Ok(refusal),
+    }
+}
+
+/// What moves between the steps of a recorded run print, with commands of the debugger on its states: the module and the replies stand in two files.
+///
+/// # Errors
+///
+/// `NoMemory` where memory runs out.
+pub fn replay_file<F: Files>(
+    alloc: Global,
+    files: &mut F,
+    words: &ReplayWords,
+) -> Result<Outcome, NoMemory>
+    ensures told { IfOk result (λ o. UnlessFault o.status (OnContents (F.told files.old) (λ first.
+        OnContents (F.told files.old) (λ later. ReplayAnswer words.now first later o)))) }
+    ensures fault { IfOk result (λ o. o.status ≡ Status.FileFault
+        → ((file : List ℕ) × IsReadBy words.now file × (o ≡ file_fault file))
+        × Rose (F.faults files.old) (F.faults files.new)) }
+    ensures memory { IfOk result (λ o. o.status ≢ Status.NoMemory) }
+    ensures later { F.faults files.old ≤ F.faults files.new }
+    ensures same { F.told files.new ≡ F.told files.old }
+    ensures names { F.created files.new ≡ F.created files.old }
+{
+    let input = read_input(alloc, files, words.source.as_str(), Quantity::ModuleBytes)?;
+    match input {
+        Input::Whole(bytes) => replay_log(alloc, files, words, &bytes),
+        Input::Refused(refusal) => Ok(refusal),
+    }
+}

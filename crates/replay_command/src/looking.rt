@@ -1,0 +1,175 @@
+//! Commands of the debugger on the state that is shown.
+
+ghost use Rattle.std.specs.Prelude.{◌≡◌, ◌<◌, ◌^◌, IfOk, OnOk, codes};
+ghost use Rattle.debug_frames.specs.Information.{information};
+ghost use Rattle.debug_subject.specs.Subject.{Spells};
+ghost use Rattle.dump_match.specs.States.{KeptState};
+ghost use Rattle.replay.specs.Moves.{OfEach};
+ghost use Rattle.replay_command.specs.ReplayText.{ShowsStep, commands_in};
+ghost use Rattle.replay_command.specs.inner.Steps.{Adds, BeginsWithLook, IsShorter, LookedThrough, Took, choosing, left_in};
+
+use crate::reading::{begins_with_look, first_command};
+use causes::NoMemory;
+use debug_subject::{Information, information_of};
+use debugger::Session;
+use dump_format::Dump;
+use dump_match::{StateMatched, matches_state};
+use pm_text::Text;
+use replay::Replayer;
+use std::alloc::Global;
+use std::marker::Model;
+use trap_image::image;
+use wasm_validate::Validated;
+
+/// Looks at states of a module: what its bytes say, which is read at the first look, and the chosen frame.
+#[derive(Drop)]
+pub(crate) struct Viewer<'a> {
+    source: &'a Validated,
+    bytes: &'a [u8],
+    known: Option<Information<'a>>,
+    chosen: u32,
+}
+
+impl<'a> Model for Viewer<'a> {
+    ghost use Rattle.std.specs.Prelude.{◌≡◌, IfSome};
+    ghost use Rattle.debug_frames.specs.Information.{information};
+    ghost use Rattle.debug_subject.specs.Subject.{Spells};
+    ghost use Rattle.replay_command.specs.inner.Steps.{Seat};
+
+    ghost Value = { Seat };
+
+    ghost view = { λ v. record { module_ = v.source.now; bytes = v.bytes.now; chosen = v.chosen } };
+
+    ghost invariant = { λ v. Spells v.bytes.now v.source.now
+        × IfSome v.known (λ x. x ≡ information v.bytes.now v.source.now.customs) };
+}
+
+/// Adds what a command prints.
+fn push_command(
+    out: &mut Text,
+    alloc: Global,
+    session: &mut Session<'_, '_, '_, '_>,
+    command: &str,
+) -> Result<(), NoMemory>
+    ensures { OnOk result (Adds session.old out.old command.now session.new out.new) }
+{
+    let text = session.command(alloc, command)?;
+    out.push_str(text.as_str())
+}
+
+/// Adds what the commands before the first move print, and hands out the text that is left from there on.
+fn push_looks<'c>(
+    out: &mut Text,
+    alloc: Global,
+    session: &mut Session<'_, '_, '_, '_>,
+    commands: &'c str,
+) -> Result<Option<&'c str>, NoMemory>
+    requires { BeginsWithLook commands.now }
+    ensures looked { IfOk result (λ rest. LookedThrough session.old.subject session.old.chosen out.old
+        (commands_in commands.now) (left_in rest) session.new.chosen out.new) }
+    ensures shorter { IfOk result (λ rest. IsShorter rest commands.now) }
+    ensures subject { OnOk result (session.new.subject ≡ session.old.subject) }
+{
+    let mut rest = commands;
+    loop {
+        let (given, behind) = first_command(rest);
+        push_command(out, alloc, session, given)?;
+        let Some(behind) = behind else {
+            return Ok(None);
+        };
+        if !begins_with_look(behind) {
+            return Ok(Some(behind));
+        }
+        rest = behind;
+    }
+}
+
+/// A module with the dump of one of its states.
+fn matched<'m, 'd, 'b>(source: &'m Validated, dump: &'d Dump<'b>) -> StateMatched<'m, 'd, 'b>
+    requires { KeptState source.now dump.now }
+    ensures module_ { result.module_ ≡ source.now }
+    ensures dump { result.dump ≡ dump.now }
+{
+    match matches_state(source, dump) {
+        Ok(matched) => matched,
+        Err(_) => unreachable!(),
+    }
+}
+
+/// The dump of the state that is shown. Each state of a run can be shown by one.
+fn shown_dump<'i>(
+    alloc: Global,
+    source: &Validated,
+    replayer: &'i Replayer<'_>,
+) -> Result<Dump<'i>, NoMemory>
+    requires module_ { source.now ≡ replayer.now.recording.module_ }
+    requires depth { replayer.now.recording.depth < 2 ^ 32 }
+    ensures kept { IfOk result (KeptState source.now) }
+    ensures shows { IfOk result (λ d. OfEach replayer.now.recording (λ p.
+        ShowsStep p replayer.now.recording replayer.now.step d)) }
+{
+    let _parts = source.module().parts();
+    let dump = image(alloc, replayer.state(), "module")?;
+    Ok(dump)
+}
+
+impl<'a> Viewer<'a> {
+    /// Nothing is read yet, and frame 0 is chosen. The bytes are those that the module was decoded from.
+    pub(crate) fn new(source: &'a Validated, bytes: &'a [u8]) -> Self
+        requires { Spells bytes.now source.now }
+        ensures { result ≡ record { module_ = source.now; bytes = bytes.now; chosen = 0 } }
+    {
+        Viewer {
+            source,
+            bytes,
+            known: None,
+            chosen: 0,
+        }
+    }
+
+    /// The innermost frame is chosen.
+    pub(crate) fn choose_innermost(&mut self)
+        ensures { self.new ≡ choosing self.old 0 }
+    {
+        self.chosen = 0;
+    }
+
+    /// What the bytes of the module say, which is taken out where it was read before.
+    fn take_information(&mut self, alloc: Global) -> Result<Information<'a>, NoMemory>
+        ensures value { IfOk result (λ x. x ≡ information self.old.bytes self.old.module_.customs) }
+        ensures same { self.new ≡ self.old }
+    {
+        match self.known.take() {
+            Some(information) => Ok(information),
+            None => {
+                let information = information_of(alloc, self.bytes, self.source)?;
+                Ok(information)
+            }
+        }
+    }
+
+    /// Adds what the commands before the first move print on the state that is shown, and hands out the text that is left from there on.
+    pub(crate) fn look<'c>(
+        &mut self,
+        out: &mut Text,
+        alloc: Global,
+        replayer: &Replayer<'_>,
+        commands: &'c str,
+    ) -> Result<Option<&'c str>, NoMemory>
+        requires module_ { self.old.module_ ≡ replayer.now.recording.module_ }
+        requires depth { replayer.now.recording.depth < 2 ^ 32 }
+        requires look { BeginsWithLook commands.now }
+        ensures took { IfOk result (λ rest. Took replayer.now self.old out.old (commands_in commands.now)
+            (left_in rest) replayer.now self.new out.new) }
+        ensures shorter { IfOk result (λ rest. IsShorter rest commands.now) }
+    {
+        let dump = shown_dump(alloc, self.source, replayer)?;
+        let matched = matched(self.source, &dump);
+        let information = self.take_information(alloc)?;
+        let mut session = Session::on_state(alloc, information, matched, self.chosen)?;
+        let rest = push_looks(out, alloc, &mut session, commands)?;
+        self.chosen = session.chosen();
+        self.known = Some(session.into_information());
+        Ok(rest)
+    }
+}

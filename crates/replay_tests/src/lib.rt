@@ -1,0 +1,7 @@
+//! Tests of replays.
+#![tactic(auto)]
+
+#[cfg(test)]
+mod step_tests;
+#[cfg(test)]
+mod text_tests;

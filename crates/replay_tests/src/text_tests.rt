@@ -1,0 +1,280 @@
+//! Texts of replays over files in memory.
+
+use causes::NoMemory;
+use pm_outside::MemFiles;
+use pm_text::Text;
+use replay_command::{ReplayWords, replay_file};
+use std::alloc::Global;
+use std::test::Fail;
+use test_modules::{DIVISION, READING, RECURSIVE, STARTING};
+use wasm_syntax::{Value, Values};
+
+/// A module, replies, an entry with arguments, how many steps and how many frames there may be, commands between semicolons, the status, and the
+/// text.
+type Row<'a> = (
+    &'a [u8],
+    &'a [u8],
+    &'a str,
+    &'a [Value],
+    (u64, u32),
+    &'a str,
+    u8,
+    &'a str,
+);
+
+fn words(alloc: Global, row: &Row<'_>, every: u64) -> Result<ReplayWords, NoMemory> {
+    Ok(ReplayWords {
+        source: Text::from_str(alloc, "m")?,
+        log: Text::from_str(alloc, "log")?,
+        entry: Text::from_str(alloc, row.2)?,
+        args: Values::from_slice(alloc, row.3)?,
+        fuel: row.4.0,
+        depth: row.4.1,
+        every,
+        commands: Text::from_str(alloc, row.5)?,
+    })
+}
+
+fn is_printed(alloc: Global, row: &Row<'_>, every: u64) -> Result<bool, Fail> {
+    let mut files = MemFiles::new(alloc, Vec::new(alloc));
+    files.add("m", row.0)?;
+    files.add("log", row.1)?;
+    let words = words(alloc, row, every)?;
+    let outcome = replay_file(alloc, &mut files, &words)?;
+    Ok(outcome.status.code() == row.6 && outcome.text.as_str() == row.7)
+}
+
+/// The number of the first row that is not printed so, or how many rows there are. The text does not depend on how far checkpoints stand apart.
+fn first_wrong(alloc: Global, rows: &[Row<'_>]) -> Result<usize, Fail> {
+    for (i, row) in rows.iter().enumerate() {
+        if !is_printed(alloc, row, 1)? || !is_printed(alloc, row, 1_000)? {
+            return Ok(i);
+        }
+    }
+    Ok(rows.len())
+}
+
+const MOVES: [Row<'static>; 9] = [
+    (
+        &DIVISION,
+        b"",
+        "div",
+        &[Value::I32(8), Value::I32(2)],
+        (1_000, 100),
+        "goto 2;operands;back;operands;goto 9",
+        0,
+        "step 2 of 4\noperand 0 i32:8\noperand 1 i32:2\nstep 1 of 4\noperand 0 i32:8\nstep 4 of 4 finished i32:4\n",
+    ),
+    (
+        &DIVISION,
+        b"",
+        "div",
+        &[Value::I32(7), Value::I32(0)],
+        (1_000, 100),
+        "until 0:5;goto 3;until 0:1",
+        0,
+        "step 2 of 3\nstep 3 of 3 trap 2 integer divide by zero\nnot reached\n",
+    ),
+    (
+        &READING,
+        b"i32:9 16=01020304\n",
+        "f",
+        &[],
+        (1_000, 100),
+        "goto 2;operands;x 16 4",
+        0,
+        "step 2 of 3\noperand 0 i32:9\n00000010: 01 02 03 04\n",
+    ),
+    (
+        &READING,
+        b"",
+        "f",
+        &[],
+        (1_000, 100),
+        "goto 9;operands;back;operands;;",
+        0,
+        "step 2 of 2 no reply\noperand 0 i32:16\nstep 1 of 2\noperand 0 i32:16\nbad command\nbad command\n",
+    ),
+    (
+        &READING,
+        b"i64:9",
+        "f",
+        &[],
+        (1_000, 100),
+        "goto 9;back;back;back;back",
+        0,
+        "step 2 of 2 bad reply\nstep 1 of 2\nstep 0 of 2\nstep 0 of 2\nstep 0 of 2\n",
+    ),
+    (
+        &DIVISION,
+        b"",
+        "div",
+        &[Value::I32(8), Value::I32(2)],
+        (2, 100),
+        "goto 9;goto 1",
+        0,
+        "step 2 of 2 fuel spent\nstep 1 of 2\n",
+    ),
+    (
+        &DIVISION,
+        b"",
+        "div",
+        &[Value::I32(8), Value::I32(2)],
+        (0, 100),
+        "goto 1",
+        0,
+        "step 0 of 0 fuel spent\n",
+    ),
+    (
+        &RECURSIVE,
+        b"",
+        "f",
+        &[Value::I32(1)],
+        (1_000, 1),
+        "goto 9",
+        0,
+        "step 8 of 8 trap 8 call stack exhausted\n",
+    ),
+    (
+        &STARTING,
+        b"",
+        "f",
+        &[],
+        (1_000, 100),
+        "frame 0;goto 1;frame 0",
+        0,
+        "#0 ? (function 0 offset 1)\nstep 1 of 1 trap 1 unreachable\n#0 ? (function 0 offset 1)\n",
+    ),
+];
+
+#[test]
+fn moves_are_printed(rt: HostRuntime) -> Result<(), Fail> {
+    assert_eq!(rt; first_wrong(rt.alloc(), &MOVES)?, MOVES.len());
+    Ok(())
+}
+
+const LOOKS: [Row<'static>; 5] = [
+    (
+        &DIVISION,
+        b"",
+        "div",
+        &[Value::I32(8), Value::I32(2)],
+        (1_000, 100),
+        "goto 3;operands;frame 0;goto 4;operands;frame 0",
+        0,
+        "step 3 of 4\noperand 0 i32:4\n#0 ? (function 0 offset 6)\nstep 4 of 4 finished i32:4\nno frame 0\nno frame 0\n",
+    ),
+    (
+        &RECURSIVE,
+        b"",
+        "f",
+        &[Value::I32(1)],
+        (1_000, 100),
+        "goto 3;operands;frame 0",
+        0,
+        "step 3 of 13\nno operands\n#0 ? (function 0 offset 11)\n",
+    ),
+    (
+        &RECURSIVE,
+        b"",
+        "f",
+        &[Value::I32(1)],
+        (1_000, 100),
+        "until 0:1;until 0:1;goto 13",
+        0,
+        "step 8 of 13\nnot reached\nstep 13 of 13 trap 5 undefined element\n",
+    ),
+    (
+        &RECURSIVE,
+        b"",
+        "f",
+        &[Value::I32(1)],
+        (1_000, 100),
+        "goto 8;frame 1;locals;until 9:9;locals;goto 9;locals",
+        0,
+        "step 8 of 13\n#1 ? (function 0 offset 17)\nlocal 0 i32:1\nnot reached\nlocal 0 i32:1\nstep 9 of 13\nlocal 0 i32:0\n",
+    ),
+    (
+        &DIVISION,
+        b"",
+        "div",
+        &[Value::I32(8), Value::I32(2)],
+        (1_000, 100),
+        "",
+        0,
+        "bad command\n",
+    ),
+];
+
+#[test]
+fn looks_are_printed(rt: HostRuntime) -> Result<(), Fail> {
+    assert_eq!(rt; first_wrong(rt.alloc(), &LOOKS)?, LOOKS.len());
+    Ok(())
+}
+
+const REFUSALS: [Row<'static>; 4] = [
+    (
+        &DIVISION,
+        b"",
+        "mul",
+        &[],
+        (1_000, 100),
+        "goto 0",
+        8,
+        "not started: export \"mul\"\n",
+    ),
+    (
+        &DIVISION,
+        b"",
+        "div",
+        &[Value::I32(8)],
+        (1_000, 100),
+        "goto 0",
+        8,
+        "not started: arguments\n",
+    ),
+    (
+        &DIVISION,
+        b"none\nnon",
+        "div",
+        &[Value::I32(8)],
+        (1_000, 100),
+        "goto 0",
+        17,
+        "bad replies at line 2\n",
+    ),
+    (
+        b"\0asm",
+        b"non",
+        "div",
+        &[],
+        (1_000, 100),
+        "",
+        5,
+        "malformed module at 4\n",
+    ),
+];
+
+#[test]
+fn refusals_are_told(rt: HostRuntime) -> Result<(), Fail> {
+    assert_eq!(rt; first_wrong(rt.alloc(), &REFUSALS)?, REFUSALS.len());
+    Ok(())
+}
+
+/// Whether a file that is missing is told, where only these bytes of a module are there.
+fn misses(alloc: Global, source: Option<&[u8]>, text: &str) -> Result<bool, Fail> {
+    let mut files = MemFiles::new(alloc, Vec::new(alloc));
+    if let Some(bytes) = source {
+        files.add("m", bytes)?;
+    }
+    let words = words(alloc, &MOVES[0], 1)?;
+    let outcome = replay_file(alloc, &mut files, &words)?;
+    Ok(outcome.status.code() == 3 && outcome.text.as_str() == text)
+}
+
+#[test]
+fn files_are_read_before_they_are_judged(rt: HostRuntime) -> Result<(), Fail> {
+    assert!(rt; misses(rt.alloc(), None, "no file: \"m\"\n")?);
+    assert!(rt; misses(rt.alloc(), Some(b"\0asm"), "no file: \"log\"\n")?);
+    Ok(())
+}
