@@ -11,6 +11,8 @@ mod option_tests;
 #[cfg(test)]
 mod output_tests;
 #[cfg(test)]
+mod reading;
+#[cfg(test)]
 mod run_word_tests;
 #[cfg(test)]
 mod show_tests;

@@ -1,10 +1,8 @@
 //! 354 lists of words for all commands, with the command that the rules of words read of each: repeated options, options with values of
 //! either form, values outside their bounds, `--`, `-`, `--help`, arguments of `run`. A second reading of the rules gave the answers.
 
-use command_words::WordsFault;
-use pm_cli::{Command, parse_words};
-use std::alloc::{AllocError, Global};
-use std::test::Fail;
+use crate::reading::{Wanted, is_read};
+use std::alloc::Global;
 
 /// Words between single spaces, and their command, or `usage`.
 type List = (&'static str, &'static str);
@@ -411,111 +409,39 @@ const COVERS: [List; 27] = [
     ("cover m f --fuel=x", "usage"),
 ];
 
-fn words_of(alloc: Global, line: &str) -> Result<Vec<String>, AllocError> {
-    let mut words = Vec::new(alloc);
-    if line.is_empty() {
-        return Ok(words);
-    }
-    for word in line.split(' ') {
-        words.push(String::from_str(alloc, word)?)?;
-    }
-    Ok(words)
-}
+const TABLES: [&[List]; 12] = [
+    &CHECKS,
+    &SHOWS,
+    &REWRITINGS,
+    &DEBUGS,
+    &OTHERS,
+    &CALLS,
+    &FUELS,
+    &OPTIONS,
+    &MIXTURES,
+    &ENDINGS,
+    &REPLAYS,
+    &COVERS,
+];
 
-fn command_of(alloc: Global, words: &[String]) -> &'static str {
-    match parse_words(alloc, words) {
-        Ok(Command::Check { .. }) => "check",
-        Ok(Command::Run(_)) => "run",
-        Ok(Command::Instrument { .. }) => "instrument",
-        Ok(Command::Show { .. }) => "show",
-        Ok(Command::Debug(_)) => "debug",
-        Ok(Command::Selftest { .. }) => "selftest",
-        Ok(Command::Replay(_)) => "replay",
-        Ok(Command::Cover(_)) => "cover",
-        Err(WordsFault::Usage) => "usage",
-        Err(WordsFault::NoMemory) => "no memory",
-    }
-}
-
-/// The number of the first list that is read otherwise, or how many lists there are.
-fn first_wrong(alloc: Global, lists: &[List]) -> Result<usize, AllocError> {
-    for (i, (line, wanted)) in lists.iter().enumerate() {
-        let words = words_of(alloc, line)?;
-        if command_of(alloc, words.as_slice()) != *wanted {
-            return Ok(i);
+/// The first list that is read otherwise, if there is one.
+fn first_wrong(alloc: Global, lists: &[List]) -> Option<&'static str> {
+    for (line, name) in lists {
+        let wanted = Wanted {
+            name: *name,
+            files: None,
+            count: None,
+        };
+        if !is_read(alloc, line, &wanted) {
+            return Some(*line);
         }
     }
-    Ok(lists.len())
+    None
 }
 
 #[test]
-fn words_of_check(rt: HostRuntime) -> Result<(), Fail> {
-    assert_eq!(rt; first_wrong(rt.alloc(), &CHECKS)?, 32);
-    Ok(())
-}
-
-#[test]
-fn words_of_show(rt: HostRuntime) -> Result<(), Fail> {
-    assert_eq!(rt; first_wrong(rt.alloc(), &SHOWS)?, 26);
-    Ok(())
-}
-
-#[test]
-fn words_of_instrument(rt: HostRuntime) -> Result<(), Fail> {
-    assert_eq!(rt; first_wrong(rt.alloc(), &REWRITINGS)?, 22);
-    Ok(())
-}
-
-#[test]
-fn words_of_debug(rt: HostRuntime) -> Result<(), Fail> {
-    assert_eq!(rt; first_wrong(rt.alloc(), &DEBUGS)?, 35);
-    Ok(())
-}
-
-#[test]
-fn words_of_no_command(rt: HostRuntime) -> Result<(), Fail> {
-    assert_eq!(rt; first_wrong(rt.alloc(), &OTHERS)?, 19);
-    Ok(())
-}
-
-#[test]
-fn words_of_run(rt: HostRuntime) -> Result<(), Fail> {
-    assert_eq!(rt; first_wrong(rt.alloc(), &CALLS)?, 34);
-    Ok(())
-}
-
-#[test]
-fn numbers_of_run(rt: HostRuntime) -> Result<(), Fail> {
-    assert_eq!(rt; first_wrong(rt.alloc(), &FUELS)?, 34);
-    Ok(())
-}
-
-#[test]
-fn options_of_run(rt: HostRuntime) -> Result<(), Fail> {
-    assert_eq!(rt; first_wrong(rt.alloc(), &OPTIONS)?, 34);
-    Ok(())
-}
-
-#[test]
-fn mixed_words_of_run(rt: HostRuntime) -> Result<(), Fail> {
-    assert_eq!(rt; first_wrong(rt.alloc(), &MIXTURES)?, 34);
-    Ok(())
-}
-
-#[test]
-fn more_words_of_run(rt: HostRuntime) -> Result<(), Fail> {
-    assert_eq!(rt; first_wrong(rt.alloc(), &ENDINGS)?, 30);
-    Ok(())
-}
-
-#[test]
-fn words_of_replay(rt: HostRuntime) -> Result<(), Fail> {
-    assert_eq!(rt; first_wrong(rt.alloc(), &REPLAYS)?, 27);
-    Ok(())
-}
-
-#[test]
-fn words_of_cover(rt: HostRuntime) -> Result<(), Fail> {
-    assert_eq!(rt; first_wrong(rt.alloc(), &COVERS)?, 27);
-    Ok(())
+fn lists_are_read(rt: HostRuntime) {
+    for lists in TABLES {
+        assert_eq!(rt; first_wrong(rt.alloc(), lists), None);
+    }
 }

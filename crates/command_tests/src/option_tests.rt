@@ -1,21 +1,11 @@
 //! Plain words and options of lists of words.
 
+use crate::reading::words_of;
 use causes::NoMemory;
 use command_words::{Options, Reading, read_words};
 use pm_text::Text;
-use std::alloc::{AllocError, Global};
+use std::alloc::Global;
 use std::test::Fail;
-
-fn words_of(alloc: Global, line: &str) -> Result<Vec<String>, AllocError> {
-    let mut words = Vec::new(alloc);
-    if line.is_empty() {
-        return Ok(words);
-    }
-    for word in line.split(' ') {
-        words.push(String::from_str(alloc, word)?)?;
-    }
-    Ok(words)
-}
 
 /// The plain words and the options, each followed by a bar.
 fn spelled(alloc: Global, reading: &Reading<'_>) -> Result<Text, NoMemory> {
@@ -33,37 +23,43 @@ fn spelled(alloc: Global, reading: &Reading<'_>) -> Result<Text, NoMemory> {
     Ok(text)
 }
 
-#[test]
-fn reads_options(rt: HostRuntime) -> Result<(), Fail> {
-    let cases = [
-        (
-            "a --fuel=1 b --collect -- -c",
-            Some("a|b|-c|--fuel|1|--collect||"),
-        ),
-        ("--fuel 1 a", Some("a|--fuel|1|")),
-        ("--fuel - -", Some("-|--fuel|-|")),
-        ("--fuel= a", Some("a|--fuel||")),
-        ("--fuel=a=b", Some("--fuel|a=b|")),
-        ("-- --fuel", Some("--fuel|")),
-        ("--fuel", None),
-        ("--fuel -1", None),
-        ("--fuel -- 1", None),
-        ("--fuel 1 --fuel=2", None),
-        ("--collect --collect", None),
-        ("--collect=1", None),
-        ("--depth 1", None),
-        ("-fuel 1", None),
-    ];
+/// A line, and its plain words and options, or nothing where it is not read.
+const LINES: [(&str, Option<&str>); 14] = [
+    (
+        "a --fuel=1 b --collect -- -c",
+        Some("a|b|-c|--fuel|1|--collect||"),
+    ),
+    ("--fuel 1 a", Some("a|--fuel|1|")),
+    ("--fuel - -", Some("-|--fuel|-|")),
+    ("--fuel= a", Some("a|--fuel||")),
+    ("--fuel=a=b", Some("--fuel|a=b|")),
+    ("-- --fuel", Some("--fuel|")),
+    ("--fuel", None),
+    ("--fuel -1", None),
+    ("--fuel -- 1", None),
+    ("--fuel 1 --fuel=2", None),
+    ("--collect --collect", None),
+    ("--collect=1", None),
+    ("--depth 1", None),
+    ("-fuel 1", None),
+];
+
+fn is_read(alloc: Global, line: &str, wanted: Option<&str>) -> Result<bool, Fail> {
     let options = Options::new(&["--fuel"], &["--collect"]);
-    for (line, wanted) in cases {
-        let words = words_of(rt.alloc(), line)?;
-        match read_words(rt.alloc(), words.as_slice(), &options)? {
-            Some(reading) => {
-                let text = spelled(rt.alloc(), &reading)?;
-                assert_eq!(rt; Some(text.as_str()), wanted, "{line}");
-            }
-            None => assert!(rt; wanted.is_none(), "{line}"),
+    let words = words_of(alloc, line)?;
+    match read_words(alloc, words.as_slice(), &options)? {
+        Some(reading) => {
+            let text = spelled(alloc, &reading)?;
+            Ok(Some(text.as_str()) == wanted)
         }
+        None => Ok(wanted.is_none()),
+    }
+}
+
+#[test]
+fn options_are_read(rt: HostRuntime) -> Result<(), Fail> {
+    for (line, wanted) in LINES {
+        assert!(rt; is_read(rt.alloc(), line, wanted)?, "{line}");
     }
     Ok(())
 }

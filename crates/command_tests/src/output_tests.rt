@@ -1,8 +1,7 @@
 //! What the output takes of an answer: one piece, or a front of it where the output fails.
 
-use crate::trial::USAGE;
-use host_set::DeviceSet;
-use pm_cli::{Status, post_mortem};
+use crate::reading::words_of;
+use crate::trial::{USAGE, status_of};
 use pm_outside::{MemFiles, MemSink, Part, PutAnswer, Sink};
 use std::alloc::Global;
 use std::test::Fail;
@@ -14,22 +13,29 @@ const DIVISION: [u8; 41] = [
     0x01, 0x07, 0x00, 0x20, 0x00, 0x20, 0x01, 0x6D, 0x0B,
 ];
 
-/// How a command over the module in `d` ends, and its output, whose call with that number fails and takes so many bytes.
-fn ended(alloc: Global, line: &str, failing: Part) -> Result<(Status, MemSink), Fail> {
-    let mut words = Vec::new(alloc);
-    for word in line.split(' ') {
-        words.push(String::from_str(alloc, word)?)?;
-    }
+/// The status of a command over the module in `d`, with this output.
+fn ended(alloc: Global, line: &str, out: &mut MemSink) -> Result<u8, Fail> {
+    let words = words_of(alloc, line)?;
     let mut files = MemFiles::new(alloc, Vec::new(alloc));
     files.add("d", &DIVISION)?;
-    let mut out = MemSink::new(alloc, Vec::from_slice(alloc, &[failing.call])?);
-    out.take_parts(Vec::from_slice(alloc, &[failing])?);
-    let mut devices = DeviceSet::new(alloc);
-    let status = post_mortem(alloc, &words, &mut files, &mut out, &mut devices);
-    Ok((status, out))
+    Ok(status_of(alloc, &words, &mut files, out))
 }
 
-/// The second call of `put` fails: it is that of the test.
+/// An output whose call with that number fails and takes so many bytes.
+fn failing(alloc: Global, part: Part) -> Result<MemSink, Fail> {
+    let mut out = MemSink::new(alloc, Vec::from_slice(alloc, &[part.call])?);
+    out.take_parts(Vec::from_slice(alloc, &[part])?);
+    Ok(out)
+}
+
+/// Whether a command ends so and puts once: the second call of `put` fails, and is that of the test.
+fn puts_once(alloc: Global, line: &str, code: u8) -> Result<bool, Fail> {
+    let mut out = failing(alloc, Part { call: 1, bytes: 0 })?;
+    let status = ended(alloc, line, &mut out)?;
+    let second = out.put(b"x");
+    Ok(status == code && matches!(second, PutAnswer::Failed { written: 0 }))
+}
+
 #[test]
 fn a_text_is_put_at_once(rt: HostRuntime) -> Result<(), Fail> {
     let rows = [
@@ -41,24 +47,22 @@ fn a_text_is_put_at_once(rt: HostRuntime) -> Result<(), Fail> {
         ("run d div i32:8 i32:0", 1),
     ];
     for (line, code) in rows {
-        let (status, mut out) = ended(rt.alloc(), line, Part { call: 1, bytes: 0 })?;
-        assert_eq!(rt; status.code(), code);
-        let second = out.put(b"x");
-        assert!(rt;
-            matches!(second, PutAnswer::Failed { written: 0 }),
-            "{line}"
-        );
+        assert!(rt; puts_once(rt.alloc(), line, code)?, "{line}");
     }
     Ok(())
 }
 
+/// Whether an output that takes so many bytes has this front.
+fn takes(alloc: Global, bytes: usize, front: &str) -> Result<bool, Fail> {
+    let mut out = failing(alloc, Part { call: 0, bytes })?;
+    let status = ended(alloc, "none", &mut out)?;
+    Ok(status == 4 && out.bytes() == front.as_bytes())
+}
+
 #[test]
 fn a_failing_output_takes_a_front(rt: HostRuntime) -> Result<(), Fail> {
-    let rows = [(0, ""), (6, "usage:"), (99, USAGE)];
-    for (bytes, wanted) in rows {
-        let (status, out) = ended(rt.alloc(), "none", Part { call: 0, bytes })?;
-        assert_eq!(rt; status.code(), 4);
-        assert_eq!(rt; str::from_utf8(out.bytes())?, wanted);
+    for (bytes, front) in [(0, ""), (6, "usage:"), (99, USAGE)] {
+        assert!(rt; takes(rt.alloc(), bytes, front)?, "{front}");
     }
     Ok(())
 }

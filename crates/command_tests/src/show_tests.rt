@@ -1,20 +1,21 @@
 //! `show` over files in memory.
 
-use crate::trial::{USAGE, answers};
+use crate::trial::{Row, USAGE, first_wrong};
 use std::alloc::{AllocError, Global};
-use std::process::Abort;
 use std::test::Fail;
 
-/// A trap in a module of one function.
-const TRAP: [u8; 100] = [
+/// A trap in a module of one function, but for the last byte, which is 0.
+const TRAP: [u8; 99] = [
     0x00, 0x61, 0x73, 0x6D, 0x01, 0x00, 0x00, 0x00, 0x00, 0x0D, 0x04, 0x63, 0x6F, 0x72, 0x65, 0x00,
     0x06, 0x6D, 0x6F, 0x64, 0x75, 0x6C, 0x65, 0x00, 0x15, 0x0B, 0x63, 0x6F, 0x72, 0x65, 0x6D, 0x6F,
     0x64, 0x75, 0x6C, 0x65, 0x73, 0x01, 0x00, 0x06, 0x6D, 0x6F, 0x64, 0x75, 0x6C, 0x65, 0x00, 0x13,
     0x0D, 0x63, 0x6F, 0x72, 0x65, 0x69, 0x6E, 0x73, 0x74, 0x61, 0x6E, 0x63, 0x65, 0x73, 0x01, 0x00,
     0x00, 0x00, 0x00, 0x00, 0x1F, 0x09, 0x63, 0x6F, 0x72, 0x65, 0x73, 0x74, 0x61, 0x63, 0x6B, 0x00,
     0x04, 0x6D, 0x61, 0x69, 0x6E, 0x01, 0x00, 0x00, 0x00, 0x05, 0x02, 0x7F, 0x07, 0x7F, 0x00, 0x02,
-    0x7F, 0x07, 0x7F, 0x00,
+    0x7F, 0x07, 0x7F,
 ];
+
+const ZERO: [u8; 1] = [0x00];
 
 /// A dump with a foreign section, a memory of one page, three segments, and values that were not recorded.
 const SEGMENTS: [u8; 113] = [
@@ -29,10 +30,9 @@ const SEGMENTS: [u8; 113] = [
 ];
 
 /// The header, and a section `core` with the empty name.
-const CORE: [u8; 17] = [
-    0x00, 0x61, 0x73, 0x6D, 0x01, 0x00, 0x00, 0x00, 0x00, 0x07, 0x04, 0x63, 0x6F, 0x72, 0x65, 0x00,
-    0x00,
-];
+const HEADER: [u8; 8] = [0x00, 0x61, 0x73, 0x6D, 0x01, 0x00, 0x00, 0x00];
+
+const CORE: [u8; 9] = [0x00, 0x07, 0x04, 0x63, 0x6F, 0x72, 0x65, 0x00, 0x00];
 
 /// A stack with one frame: its one local is the float 1.0.
 const FLOAT_STACK: [u8; 30] = [
@@ -63,83 +63,70 @@ const GLOBALS: [u8; 14] = [
     0x06, 0x0C, 0x02, 0x7F, 0x00, 0x41, 0x7F, 0x0B, 0x7E, 0x01, 0x42, 0xC0, 0x00, 0x0B,
 ];
 
-/// `show d` over these pieces.
-fn shows(
-    rt: &impl Abort,
-    alloc: Global,
-    pieces: &[&[u8]],
-    status: u8,
-    text: &str,
-) -> Result<(), Fail> {
-    answers(
-        rt,
-        alloc,
-        &["show", "d"],
-        pieces,
-        (&[], &[]),
-        (status, text),
-    )
-}
+const SHOW: &[&str] = &["show", "d"];
+
+const NONE: (&[u64], &[u64]) = (&[], &[]);
+
+const SHOWN: [Row<'static>; 3] = [
+    (
+        SHOW,
+        &[&TRAP, &ZERO],
+        NONE,
+        0,
+        "dump \"module\" frames 1\n#0 instance 0 function 0 offset 5 locals i32:7 i32:0 operands i32:7 i32:0\n",
+    ),
+    (
+        SHOW,
+        &[&SEGMENTS],
+        NONE,
+        0,
+        "dump \"\" frames 1\n#0 instance 0 function 0 offset 3 locals - operands -\nmemory 1\n",
+    ),
+    (
+        SHOW,
+        &[&HEADER, &CORE, &MISSING_STACK, &GLOBALS],
+        NONE,
+        0,
+        "dump \"\" frames 1\n#0 instance 0 function 0 offset 5 locals ? i64:-2 operands -\nglobal 0 i32:-1\nglobal 1 i64:64\n",
+    ),
+];
 
 #[test]
 fn dumps_are_shown(rt: HostRuntime) -> Result<(), Fail> {
-    let alloc = rt.alloc();
-    shows(
-        &rt,
-        alloc,
-        &[&TRAP],
-        0,
-        "dump \"module\" frames 1\n#0 instance 0 function 0 offset 5 locals i32:7 i32:0 operands i32:7 i32:0\n",
-    )?;
-    shows(
-        &rt,
-        alloc,
-        &[&SEGMENTS],
-        0,
-        "dump \"\" frames 1\n#0 instance 0 function 0 offset 3 locals - operands -\nmemory 1\n",
-    )?;
-    shows(
-        &rt,
-        alloc,
-        &[&CORE, &MISSING_STACK, &GLOBALS],
-        0,
-        "dump \"\" frames 1\n#0 instance 0 function 0 offset 5 locals ? i64:-2 operands -\nglobal 0 i32:-1\nglobal 1 i64:64\n",
-    )
+    assert_eq!(rt; first_wrong(rt.alloc(), &SHOWN)?, SHOWN.len());
+    Ok(())
 }
+
+const REFUSED: [Row<'static>; 5] = [
+    (SHOW, &[&HEADER], NONE, 11, "bad dump: malformed at 8\n"),
+    (SHOW, &[&TRAP], NONE, 11, "bad dump: malformed at 68\n"),
+    (
+        SHOW,
+        &[&HEADER, &CORE, &FLOAT_STACK],
+        NONE,
+        11,
+        "bad dump: float value at 41\n",
+    ),
+    (
+        SHOW,
+        &[&HEADER, &CORE, &CORE],
+        NONE,
+        11,
+        "bad dump: several core\n",
+    ),
+    (
+        SHOW,
+        &[&HEADER, &CORE, &PAGES],
+        NONE,
+        13,
+        "limit: dump pages 4097 over 4096\n",
+    ),
+];
 
 #[test]
 fn bad_dumps_are_refused(rt: HostRuntime) -> Result<(), Fail> {
-    let alloc = rt.alloc();
-    let header = &CORE[..8];
-    shows(&rt, alloc, &[header], 11, "bad dump: malformed at 8\n")?;
-    shows(
-        &rt,
-        alloc,
-        &[&TRAP[..99]],
-        11,
-        "bad dump: malformed at 68\n",
-    )?;
-    shows(
-        &rt,
-        alloc,
-        &[&CORE, &FLOAT_STACK],
-        11,
-        "bad dump: float value at 41\n",
-    )?;
-    shows(
-        &rt,
-        alloc,
-        &[&CORE, &CORE[8..]],
-        11,
-        "bad dump: several core\n",
-    )?;
-    shows(
-        &rt,
-        alloc,
-        &[&CORE, &PAGES],
-        13,
-        "limit: dump pages 4097 over 4096\n",
-    )
+    assert_eq!(rt; first_wrong(rt.alloc(), &REFUSED)?, REFUSED.len());
+    Ok(())
 }
 
 /// `first`, and `count` times `piece` behind it.
@@ -156,45 +143,34 @@ fn repeated(
     Ok(bytes)
 }
 
-#[test]
-fn tall_and_long_dumps_are_refused(rt: HostRuntime) -> Result<(), Fail> {
-    let alloc = rt.alloc();
-    let tall = repeated(alloc, &TALL_STACK, &PLAIN_FRAME, 65_537)?;
-    shows(
-        &rt,
-        alloc,
-        &[&CORE, &tall],
-        13,
-        "limit: dump frames 65537 over 65536\n",
-    )?;
-    let page = [0; 4096];
-    let long = repeated(alloc, &CORE[..1], &page, 131_072)?;
-    shows(
-        &rt,
-        alloc,
-        &[&long],
-        13,
-        "limit: dump bytes 536870913 over 536870912\n",
-    )
+/// Whether `show` of these pieces is answered by this limit.
+fn is_over(alloc: Global, pieces: &[&[u8]], limit: &str) -> Result<bool, Fail> {
+    let wrong = first_wrong(alloc, &[(SHOW, pieces, NONE, 13, limit)])?;
+    Ok(wrong == 1)
 }
 
 #[test]
+fn tall_and_long_dumps_are_refused(rt: HostRuntime) -> Result<(), Fail> {
+    let tall = repeated(rt.alloc(), &TALL_STACK, &PLAIN_FRAME, 65_537)?;
+    let frames = "limit: dump frames 65537 over 65536\n";
+    assert!(rt; is_over(rt.alloc(), &[&HEADER, &CORE, &tall], frames)?);
+    let long = repeated(rt.alloc(), &ZERO, &[0; 4096], 131_072)?;
+    let bytes = "limit: dump bytes 536870913 over 536870912\n";
+    assert!(rt; is_over(rt.alloc(), &[&long], bytes)?);
+    Ok(())
+}
+
+const OTHERS: [Row<'static>; 6] = [
+    (&[], &[], NONE, 2, USAGE),
+    (&["show", "-d"], &[], NONE, 2, USAGE),
+    (&["run", "d"], &[], NONE, 2, USAGE),
+    (&["show", "a\"b"], &[], NONE, 3, "no file: \"a\\\"b\"\n"),
+    (SHOW, &[&TRAP, &ZERO], (&[0], &[]), 4, "file fault: \"d\"\n"),
+    (SHOW, &[&TRAP, &ZERO], (&[], &[0]), 4, ""),
+];
+
+#[test]
 fn other_answers(rt: HostRuntime) -> Result<(), Fail> {
-    let alloc = rt.alloc();
-    let none: (&[u64], &[u64]) = (&[], &[]);
-    answers(&rt, alloc, &[], &[], none, (2, USAGE))?;
-    answers(&rt, alloc, &["show", "-d"], &[], none, (2, USAGE))?;
-    answers(&rt, alloc, &["run", "d"], &[], none, (2, USAGE))?;
-    let missing = "no file: \"a\\\"b\"\n";
-    answers(&rt, alloc, &["show", "a\"b"], &[], none, (3, missing))?;
-    let fault = "file fault: \"d\"\n";
-    answers(
-        &rt,
-        alloc,
-        &["show", "d"],
-        &[&TRAP],
-        (&[0], &[]),
-        (4, fault),
-    )?;
-    answers(&rt, alloc, &["show", "d"], &[&TRAP], (&[], &[0]), (4, ""))
+    assert_eq!(rt; first_wrong(rt.alloc(), &OTHERS)?, OTHERS.len());
+    Ok(())
 }
