@@ -26,7 +26,8 @@ fn perform(
     taken: usize,
     gives: Option<ValType>,
 ) -> Result<(), NoMemory>
-    ensures { (C : CtxOf) → takes basic ≡ taken → result_type C walk.old.places basic ≡ gives → OnOk result (walk.new ≡ with_places walk.old (after_instr C walk.old.places basic)) }
+    ensures { (C : CtxOf) → takes basic ≡ taken → result_type C walk.old.places basic ≡ gives
+        → OnOk result (walk.new ≡ with_places walk.old (after_instr C walk.old.places basic)) }
 {
     match basic {
         Basic::Const(value) => walk.push_constant(value),
@@ -46,7 +47,8 @@ fn write_basic(
     requires source { parts.now ≡ context.now.source }
     requires shallow { length walk.old.opens + 2 < 2 ^ 32 }
     requires room { length walk.old.places ≤ context.now.slots }
-    ensures { IfOk result (Advances context.now offset (Plain basic) walk.old writer.old walk.new writer.new) }
+    ensures { IfOk result (Advances context.now offset (Plain basic) walk.old writer.old walk.new
+        writer.new) }
 {
     let taken = takes(basic);
     let gives = result_type(context.locals(), parts, walk.places(), basic);
@@ -71,7 +73,8 @@ fn write_block(
     walk: &mut Walk,
     gives: Option<ValType>,
 ) -> Result<Flow, NoMemory>
-    ensures { (C : CtxOf) (o : ℕ) → IfOk result (Advances C o (Opens gives) walk.old writer.old walk.new writer.new) }
+    ensures { (C : CtxOf) (o : ℕ)
+        → IfOk result (Advances C o (Opens gives) walk.old writer.old walk.new writer.new) }
 {
     writer.open_block(None)?;
     walk.open(Label::Block(gives))?;
@@ -84,7 +87,8 @@ fn write_loop(
     walk: &mut Walk,
     gives: Option<ValType>,
 ) -> Result<Flow, NoMemory>
-    ensures { (C : CtxOf) (o : ℕ) → IfOk result (Advances C o (OpensLoop gives) walk.old writer.old walk.new writer.new) }
+    ensures { (C : CtxOf) (o : ℕ)
+        → IfOk result (Advances C o (OpensLoop gives) walk.old writer.old walk.new writer.new) }
 {
     writer.open_loop(None)?;
     walk.open(Label::Loop(gives))?;
@@ -99,7 +103,8 @@ fn write_if(
     gives: Option<ValType>,
 ) -> Result<Flow, NoMemory>
     requires { length walk.old.places ≤ context.now.slots }
-    ensures { (o : ℕ) → IfOk result (Advances context.now o (OpensIf gives) walk.old writer.old walk.new writer.new) }
+    ensures { (o : ℕ) → IfOk result
+        (Advances context.now o (OpensIf gives) walk.old writer.old walk.new writer.new) }
 {
     let Some(condition) = walk.pop() else {
         return Ok(Flow::Leaves);
@@ -116,8 +121,10 @@ fn write_ending(
     walk: &Walk,
 ) -> Result<Flow, NoMemory>
     requires { length walk.now.places ≤ context.now.slots }
-    ensures before_end { (o : ℕ) → IfOk result (Advances context.now o EndOf walk.now writer.old walk.now writer.new) }
-    ensures before_else { (o : ℕ) → IfOk result (Advances context.now o ElseOf walk.now writer.old walk.now writer.new) }
+    ensures before_end { (o : ℕ) → IfOk result
+        (Advances context.now o EndOf walk.now writer.old walk.now writer.new) }
+    ensures before_else { (o : ℕ)
+        → IfOk result (Advances context.now o ElseOf walk.now writer.old walk.now writer.new) }
 {
     end_block(context, writer, walk.innermost().end_gives(), walk.places())?;
     Ok(Flow::Leaves)
@@ -137,7 +144,8 @@ pub(crate) fn write_live(
     requires helped { Helped context.now op.code }
     requires shallow { length walk.old.opens + 2 < 2 ^ 32 }
     requires room { length walk.old.places ≤ context.now.slots }
-    ensures { IfOk result (Advances context.now op.at (item_of targets.now op.code) walk.old writer.old walk.new writer.new) }
+    ensures { IfOk result (Advances context.now op.at (item_of targets.now op.code) walk.old
+        writer.old walk.new writer.new) }
 {
     match op.code {
         Instr::Basic(basic) => write_basic(context, writer, walk, parts, op.at, basic),
@@ -165,7 +173,8 @@ fn write_end(
     walk: &mut Walk,
 ) -> Result<(), NoMemory>
     requires open { 1 ≤ length walk.old.opens }
-    requires room { (block : OpenBlockOf) (others : List OpenBlockOf) → walk.old.opens ≡ block ∷ others → length block.saved ≤ context.now.slots }
+    requires room { (block : OpenBlockOf) (others : List OpenBlockOf)
+        → walk.old.opens ≡ block ∷ others → length block.saved ≤ context.now.slots }
     ensures { OnOk result (Resumes context.now EndOf walk.old writer.old walk.new writer.new) }
 {
     close_block(context, writer, walk.innermost().end_gives(), walk.below())?;
@@ -181,8 +190,10 @@ pub(crate) fn write_behind(
 ) -> Result<(), NoMemory>
     requires behind { IsBehind code }
     requires open { 1 ≤ length walk.old.opens }
-    requires room { (block : OpenBlockOf) (others : List OpenBlockOf) → walk.old.opens ≡ block ∷ others → length block.saved ≤ context.now.slots }
-    ensures { (targets : List ℕ) → OnOk result (Resumes context.now (item_of targets code) walk.old writer.old walk.new writer.new) }
+    requires room { (block : OpenBlockOf) (others : List OpenBlockOf)
+        → walk.old.opens ≡ block ∷ others → length block.saved ≤ context.now.slots }
+    ensures { (targets : List ℕ) → OnOk result
+        (Resumes context.now (item_of targets code) walk.old writer.old walk.new writer.new) }
 {
     match code {
         Instr::Else => write_else(writer, walk),

@@ -23,7 +23,8 @@ use wasm_syntax::{FuncType, Jump, ModuleParts, ValType};
 
 /// The label of a branch, where it is there.
 fn target(walk: &Walk, label: u32) -> Option<Target>
-    ensures label { option_map carries (slice_get (labels_of walk.now) label) ≡ option_map (λ t. t.carried) result }
+    ensures label { option_map carries (slice_get (labels_of walk.now) label)
+        ≡ option_map (λ t. t.carried) result }
     ensures inside { IfSome result (λ t. label ≤ length walk.now.opens) }
 {
     match walk.label(label) {
@@ -58,7 +59,8 @@ fn write_branch(
     label: u32,
 ) -> Result<Flow, NoMemory>
     requires { length walk.now.places ≤ context.now.slots }
-    ensures { (o : ℕ) → IfOk result (Advances context.now o (Goes (BrOf label)) walk.now writer.old walk.now writer.new) }
+    ensures { (o : ℕ) → IfOk result
+        (Advances context.now o (Goes (BrOf label)) walk.now writer.old walk.now writer.new) }
 {
     branch_to(context, writer, target(walk, label), walk.places(), label)?;
     Ok(Flow::Leaves)
@@ -73,7 +75,8 @@ fn write_branch_if(
 ) -> Result<Flow, NoMemory>
     requires shallow { length walk.old.opens + 2 < 2 ^ 32 }
     requires room { length walk.old.places ≤ context.now.slots }
-    ensures { (o : ℕ) → IfOk result (Advances context.now o (Goes (BrIfOf label)) walk.old writer.old walk.new writer.new) }
+    ensures { (o : ℕ) → IfOk result
+        (Advances context.now o (Goes (BrIfOf label)) walk.old writer.old walk.new writer.new) }
 {
     let Some(condition) = walk.pop() else {
         return Ok(Flow::Leaves);
@@ -92,7 +95,9 @@ fn write_branch_table(
     default_label: u32,
 ) -> Result<Flow, NoMemory>
     requires { length walk.old.places ≤ context.now.slots }
-    ensures { (o : ℕ) → IfOk result (Advances context.now o (Goes (BrTableOf targets.now default_label)) walk.old writer.old walk.new writer.new) }
+    ensures { (o : ℕ) → IfOk result
+        (Advances context.now o (Goes (BrTableOf targets.now default_label)) walk.old writer.old
+        walk.new writer.new) }
 {
     let Some(selector) = walk.pop() else {
         return Ok(Flow::Leaves);
@@ -118,7 +123,8 @@ fn write_return(
 ) -> Result<Flow, NoMemory>
     requires shallow { length walk.now.opens + 2 < 2 ^ 32 }
     requires room { length walk.now.places ≤ context.now.slots }
-    ensures { (o : ℕ) → IfOk result (Advances context.now o (Goes ReturnOf) walk.now writer.old walk.now writer.new) }
+    ensures { (o : ℕ) → IfOk result
+        (Advances context.now o (Goes ReturnOf) walk.now writer.old walk.now writer.new) }
 {
     return_from(context, writer, walk.depth() as u32, walk.places())?;
     Ok(Flow::Leaves)
@@ -133,7 +139,8 @@ fn write_trap(
 ) -> Result<Flow, NoMemory>
     requires shallow { length walk.now.opens + 2 < 2 ^ 32 }
     requires room { length walk.now.places ≤ context.now.slots }
-    ensures { IfOk result (Advances context.now offset (Goes UnreachableOf) walk.now writer.old walk.now writer.new) }
+    ensures { IfOk result (Advances context.now offset (Goes UnreachableOf) walk.now writer.old
+        walk.now writer.new) }
 {
     trap(context, writer, walk.depth() as u32, walk.places(), offset)?;
     Ok(Flow::Leaves)
@@ -151,7 +158,8 @@ fn write_call(
     requires source { parts.now ≡ context.now.source }
     requires shallow { length walk.old.opens + 2 < 2 ^ 32 }
     requires room { length walk.old.places ≤ context.now.slots }
-    ensures { IfOk result (Advances context.now offset (Goes (CallOf function)) walk.old writer.old walk.new writer.new) }
+    ensures { IfOk result (Advances context.now offset (Goes (CallOf function)) walk.old writer.old
+        walk.new writer.new) }
 {
     let Some(ftype) = parts.type_of(function as usize) else {
         return Ok(Flow::Leaves);
@@ -184,7 +192,8 @@ fn write_call_indirect(
     requires helped { is_in index (types_used context.now.source) ≡ true }
     requires shallow { length walk.old.opens + 2 < 2 ^ 32 }
     requires room { length walk.old.places ≤ context.now.slots }
-    ensures { IfOk result (Advances context.now offset (Goes (CallIndirectOf index)) walk.old writer.old walk.new writer.new) }
+    ensures { IfOk result (Advances context.now offset (Goes (CallIndirectOf index)) walk.old
+        writer.old walk.new writer.new) }
 {
     let Some(ftype) = parts.types.get(index as usize) else {
         return Ok(Flow::Leaves);
@@ -224,7 +233,8 @@ pub(crate) fn write_jump(
     requires helped { JumpHelped context.now jump }
     requires shallow { length walk.old.opens + 2 < 2 ^ 32 }
     requires room { length walk.old.places ≤ context.now.slots }
-    ensures { IfOk result (Advances context.now offset (Goes (jump_of targets.now jump)) walk.old writer.old walk.new writer.new) }
+    ensures { IfOk result (Advances context.now offset (Goes (jump_of targets.now jump)) walk.old
+        writer.old walk.new writer.new) }
 {
     match jump {
         Jump::Unreachable => write_trap(context, writer, walk, offset),

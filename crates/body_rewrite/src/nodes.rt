@@ -32,8 +32,11 @@ fn write_from_live(
     requires helped { AllHelped context.now body.now.ops }
     requires few { length body.now.ops + 1 < 2 ^ 32 }
     requires stood { Stood context.now (code_in body.now) walk.old writer.old (Live index) }
-    ensures goes_on { (start : Written) (whole : NodesOf) → Holds context.now (code_in body.now) start whole walk.old writer.old (Live index) → IfOk result (Holds context.now (code_in body.now) start whole walk.new writer.new) }
-    ensures less { IfOk result (λ p. left_of (length body.now.ops) p < left_of (length body.now.ops) (Live index)) }
+    ensures goes_on { (start : Written) (whole : NodesOf)
+        → Holds context.now (code_in body.now) start whole walk.old writer.old (Live index)
+        → IfOk result (Holds context.now (code_in body.now) start whole walk.new writer.new) }
+    ensures less { IfOk result (λ p. left_of (length body.now.ops) p
+        < left_of (length body.now.ops) (Live index)) }
 {
     let ops = body.ops.as_slice();
     let targets = body.targets.as_slice();
@@ -54,8 +57,11 @@ fn write_from_end(
 ) -> Result<Point, NoMemory>
     requires before_last { index + 1 < length body.now.ops }
     requires stood { Stood context.now (code_in body.now) walk.old writer.old (Ended index) }
-    ensures goes_on { (start : Written) (whole : NodesOf) → Holds context.now (code_in body.now) start whole walk.old writer.old (Ended index) → IfOk result (Holds context.now (code_in body.now) start whole walk.new writer.new) }
-    ensures less { IfOk result (λ p. left_of (length body.now.ops) p < left_of (length body.now.ops) (Ended index)) }
+    ensures goes_on { (start : Written) (whole : NodesOf)
+        → Holds context.now (code_in body.now) start whole walk.old writer.old (Ended index)
+        → IfOk result (Holds context.now (code_in body.now) start whole walk.new writer.new) }
+    ensures less { IfOk result (λ p. left_of (length body.now.ops) p
+        < left_of (length body.now.ops) (Ended index)) }
 {
     let op = body.ops.as_slice()[index];
     write_behind(context, writer, walk, op.code)?;
@@ -77,8 +83,11 @@ fn write_from(
     requires few { length body.now.ops + 1 < 2 ^ 32 }
     requires before_last { BeforeLast (length body.now.ops) point }
     requires stood { Stood context.now (code_in body.now) walk.old writer.old point }
-    ensures goes_on { (start : Written) (whole : NodesOf) → Holds context.now (code_in body.now) start whole walk.old writer.old point → IfOk result (Holds context.now (code_in body.now) start whole walk.new writer.new) }
-    ensures less { IfOk result (λ p. left_of (length body.now.ops) p < left_of (length body.now.ops) point) }
+    ensures goes_on { (start : Written) (whole : NodesOf)
+        → Holds context.now (code_in body.now) start whole walk.old writer.old point
+        → IfOk result (Holds context.now (code_in body.now) start whole walk.new writer.new) }
+    ensures less { IfOk result (λ p. left_of (length body.now.ops) p
+        < left_of (length body.now.ops) point) }
 {
     match point {
         Point::Live(index) => write_from_live(context, writer, walk, parts, body, index),
@@ -109,7 +118,10 @@ pub fn write_nodes(
     requires helped { AllHelped context.now body.now.ops }
     requires few { length body.now.ops + 1 < 2 ^ 32 }
     requires tree { CanBeWritten context.now body.now }
-    ensures { (tree : TreeOf) → Writes body.now.targets body.now.ops tree → Fine context.now [] tree.nodes → OnOk result (EmitsLast (rewrite context.now (in_body context.now.result ∷ []) [] tree.nodes) writer.old writer.new) }
+    ensures { (tree : TreeOf) → Writes body.now.targets body.now.ops tree
+        → Fine context.now [] tree.nodes
+        → OnOk result (EmitsLast (rewrite context.now (in_body context.now.result ∷ []) []
+        tree.nodes) writer.old writer.new) }
 {
     let mut walk = Walk::new(alloc, context.gives());
     let last = body.ops.len() - 1;

@@ -96,7 +96,8 @@ pub fn result_type(
     places: &OperandPlaces,
     instruction: Basic,
 ) -> Option<ValType>
-    ensures { (C : Ctx) → C.locals ≡ locals.now → C.source ≡ source.now → result ≡ result_type C places.now instruction }
+    ensures { (C : Ctx) → C.locals ≡ locals.now → C.source ≡ source.now
+        → result ≡ result_type C places.now instruction }
 {
     match instruction {
         Basic::Nop

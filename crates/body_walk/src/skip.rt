@@ -24,7 +24,9 @@ fn passed(depth: usize, code: Instr) -> Option<usize>
 pub fn end_of_list(ops: &[Op], from: usize) -> usize
     ensures forward { from ≤ result }
     ensures within { from ≤ length ops.now → result ≤ length ops.now }
-    ensures end { (targets : List ℕ) (nodes : Nodes) (dues : List Due) → drop from (code_of targets ops.now) ≡ write nodes (flat dues) → drop result (code_of targets ops.now) ≡ flat dues }
+    ensures end { (targets : List ℕ) (nodes : Nodes) (dues : List Due)
+        → drop from (code_of targets ops.now) ≡ write nodes (flat dues)
+        → drop result (code_of targets ops.now) ≡ flat dues }
 {
     let mut depth = 0;
     let mut i = from;

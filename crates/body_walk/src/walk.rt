@@ -107,7 +107,8 @@ impl Walk {
 
     /// How many operands lie below the innermost open block.
     pub fn below(&self) -> usize
-        ensures { (block : OpenBlockOf) (others : List OpenBlockOf) → self.now.opens ≡ block ∷ others → result ≡ length block.saved }
+        ensures { (block : OpenBlockOf) (others : List OpenBlockOf)
+            → self.now.opens ≡ block ∷ others → result ≡ length block.saved }
     {
         match self.opens.as_slice().last() {
             Some(block) => block.saved.len(),
@@ -117,7 +118,8 @@ impl Walk {
 
     /// The topmost operand is taken, if there is one.
     pub fn pop(&mut self) -> Option<OperandPlace>
-        ensures { MatchOption result ((self.old.places ≡ []) × (self.new ≡ self.old)) (λ p. self.old ≡ with_places self.new (place p ∷ self.new.places)) }
+        ensures { MatchOption result ((self.old.places ≡ []) × (self.new ≡ self.old))
+            (λ p. self.old ≡ with_places self.new (place p ∷ self.new.places)) }
     {
         self.places.pop()
     }
@@ -131,7 +133,8 @@ impl Walk {
 
     /// Another instruction behind which the next one is run: it takes so many operands and gives this.
     pub fn perform(&mut self, taken: usize, gives: Option<ValType>) -> Result<(), NoMemory>
-        ensures { OnOk result (self.new ≡ with_places self.old (grown gives (less taken self.old.places))) }
+        ensures { OnOk result (self.new
+            ≡ with_places self.old (grown gives (less taken self.old.places))) }
     {
         self.places.discard(taken);
         self.places.grow(gives)

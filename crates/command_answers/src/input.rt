@@ -41,7 +41,8 @@ pub fn read_input<F: Files>(
     file: &str,
     what: Quantity,
 ) -> Result<Input, NoMemory>
-    ensures told { IfOk result (λ input. OnContents (F.told files.old) (λ held. IsInput input (input_of what file.now (held file.now)))) }
+    ensures told { IfOk result (λ input. OnContents (F.told files.old)
+        (λ held. IsInput input (input_of what file.now (held file.now)))) }
     ensures fault { IfOk result (IfRefused (λ o. o.status ≡ Status.FileFault
         → (o ≡ file_fault file.now) × Rose (F.faults files.old) (F.faults files.new))) }
     ensures memory { IfOk result (IfRefused (λ o. o.status ≢ Status.NoMemory)) }

@@ -23,7 +23,10 @@ impl<'a> Model for Options<'a> {
 
     ghost Value = { Allowed };
 
-    ghost view = { λ o. record { valued = map (λ w. w.now) o.valued.now; flags = map (λ w. w.now) o.flags.now } };
+    ghost view = { λ o. record {
+      valued = map (λ w. w.now) o.valued.now;
+      flags = map (λ w. w.now) o.flags.now;
+    } };
 }
 
 impl<'a> Options<'a> {
@@ -59,7 +62,10 @@ impl<'a> Model for Reading<'a> {
 
     ghost Value = { Read };
 
-    ghost view = { λ r. record { plain = map (λ w. w.now) r.plain.items; given = map (λ g. (g.0.now, g.1.now)) r.given.items } };
+    ghost view = { λ r. record {
+      plain = map (λ w. w.now) r.plain.items;
+      given = map (λ g. (g.0.now, g.1.now)) r.given.items;
+    } };
 }
 
 /// What a word is, where it is no value and no `--` stands before it.
@@ -129,7 +135,8 @@ fn kind_of(options: &Options<'_>, word: &str) -> Kind
 }
 
 fn push_words<'a>(plain: &mut Vec<&'a str>, words: &'a [String]) -> Result<(), NoMemory>
-    ensures { OnOk result (map (λ w. w.now) plain.new.items ≡ map (λ w. w.now) plain.old.items ++ map string_bytes words.now) }
+    ensures { OnOk result (map (λ w. w.now) plain.new.items
+        ≡ map (λ w. w.now) plain.old.items ++ map string_bytes words.now) }
 {
     for word in words {
         plain.push(word.as_str())?;
@@ -202,7 +209,8 @@ impl<'a> Reading<'a> {
 
 /// The first word and those behind it.
 fn split_first_word(words: &[String]) -> Option<(&str, &[String])>
-    ensures words { MatchOption result (map string_bytes words.now ≡ []) (λ p. map string_bytes words.now ≡ p.0.now ∷ map string_bytes p.1.now) }
+    ensures words { MatchOption result (map string_bytes words.now ≡ [])
+        (λ p. map string_bytes words.now ≡ p.0.now ∷ map string_bytes p.1.now) }
     ensures shorter { IfSome result (λ p. length p.1.now < length words.now) }
 {
     let (word, behind) = words.split_first()?;
@@ -218,7 +226,9 @@ fn give_option<'a>(
     left: &'a [String],
 ) -> Result<Option<&'a [String]>, NoMemory>
     requires { is_distinct (names reading.old) ≡ true }
-    ensures answer { IfOk result (λ o. MatchOption o (is_among (names reading.old) name.now ≡ true) (λ l. (l.now ≡ left.now) × (reading.new ≡ given_also name.now value.now reading.old) × (is_distinct (names reading.new) ≡ true))) }
+    ensures answer { IfOk result (λ o. MatchOption o (is_among (names reading.old) name.now ≡ true)
+        (λ l. (l.now ≡ left.now) × (reading.new ≡ given_also name.now value.now reading.old)
+        × (is_distinct (names reading.new) ≡ true))) }
 {
     if reading.has(name) {
         return Ok(None);
@@ -236,7 +246,8 @@ fn read_word<'a>(
     behind: &'a [String],
 ) -> Result<Option<&'a [String]>, NoMemory>
     requires { is_distinct (names reading.old) ≡ true }
-    ensures answer { IfOk result (λ o. MatchOption o (outcome options.now reading.old (word.now ∷ map string_bytes behind.now) ≡ None)
+    ensures answer { IfOk result (λ o. MatchOption o
+        (outcome options.now reading.old (word.now ∷ map string_bytes behind.now) ≡ None)
         (λ l. (outcome options.now reading.new (map string_bytes l.now) ≡ outcome options.now reading.old (word.now ∷ map string_bytes behind.now)) × (is_distinct (names reading.new) ≡ true))) }
     ensures shorter { IfOk result (λ o. IfSome o (λ l. length l.now ≤ length behind.now)) }
 {

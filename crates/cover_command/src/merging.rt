@@ -33,7 +33,8 @@ fn file_of(alloc: Global, lines: &Lines<'_>, number: u32) -> Result<Text, NoMemo
 
 /// The text that names the file of a line of a line program.
 fn file_at(alloc: Global, tables: &Vec<&Lines<'_>>, spot: &Spot) -> Result<Text, NoMemory>
-    ensures { IfOk result (λ t. t ≡ file_at (slice_get (map (λ l. l.now) tables.now.items) spot.now.table) spot.now.file) }
+    ensures { IfOk result (λ t. t
+        ≡ file_at (slice_get (map (λ l. l.now) tables.now.items) spot.now.table) spot.now.file) }
 {
     if spot.table < tables.len() {
         file_of(alloc, tables[spot.table], spot.file)
@@ -44,7 +45,8 @@ fn file_at(alloc: Global, tables: &Vec<&Lines<'_>>, spot: &Spot) -> Result<Text,
 
 /// A line of a line program as one of a file.
 fn file_line(alloc: Global, tables: &Vec<&Lines<'_>>, spot: &Spot) -> Result<FileLine, NoMemory>
-    ensures { IfOk result (λ line. seen_line line ≡ spot_line (map (λ l. l.now) tables.now.items) spot.now) }
+    ensures { IfOk result (λ line. seen_line line
+        ≡ spot_line (map (λ l. l.now) tables.now.items) spot.now) }
 {
     let file = file_at(alloc, tables, spot)?;
     Ok(FileLine {
@@ -55,7 +57,10 @@ fn file_line(alloc: Global, tables: &Vec<&Lines<'_>>, spot: &Spot) -> Result<Fil
 
 /// So many more steps on a line.
 fn add(counts: &mut BTreeMap<FileLine, u64>, line: FileLine, steps: u64) -> Result<(), NoMemory>
-    ensures on { OnOk result ((q : SourceLine) → counted_on counts.old q + (if is_line q (seen_line line) then steps else 0) < 2 ^ 64 → counted_on counts.new q ≡ counted_on counts.old q + (if is_line q (seen_line line) then steps else 0)) }
+    ensures on { OnOk result ((q : SourceLine)
+        → counted_on counts.old q + (if is_line q (seen_line line) then steps else 0) < 2 ^ 64
+        → counted_on counts.new q ≡ counted_on counts.old q
+        + (if is_line q (seen_line line) then steps else 0)) }
     ensures some { OnOk result (0 < steps → HaveSteps counts.old → HaveSteps counts.new) }
 {
     let before = counts.get(&line).copied().unwrap_or(0);
@@ -69,8 +74,11 @@ pub(crate) fn merge(
     tables: &Vec<&Lines<'_>>,
     lines: &[LineCount],
 ) -> Result<BTreeMap<FileLine, u64>, NoMemory>
-    ensures merged { IfOk result (λ counts. (q : SourceLine) → merged (map (λ l. l.now) tables.now.items) lines.now q < 2 ^ 64 → counted_on counts q ≡ merged (map (λ l. l.now) tables.now.items) lines.now q) }
-    ensures some { IfOk result (λ counts. AllByRecursion (λ (l : Counted). 0 < l.steps) lines.now → HaveSteps counts) }
+    ensures merged { IfOk result (λ counts. (q : SourceLine)
+        → merged (map (λ l. l.now) tables.now.items) lines.now q < 2 ^ 64
+        → counted_on counts q ≡ merged (map (λ l. l.now) tables.now.items) lines.now q) }
+    ensures some { IfOk result (λ counts. AllByRecursion (λ (l : Counted). 0 < l.steps) lines.now
+        → HaveSteps counts) }
 {
     let mut counts = BTreeMap::new(alloc);
     for line in lines {

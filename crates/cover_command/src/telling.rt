@@ -33,7 +33,8 @@ fn push_count(out: &mut Text, line: &FileLine, steps: u64) -> Result<(), NoMemor
 
 /// Adds the lines of all lines of files on which steps fell.
 fn push_counts(out: &mut Text, counts: &BTreeMap<FileLine, u64>) -> Result<(), NoMemory>
-    ensures text { OnOk result (out.new ≡ out.old ++ flat_map count_text (seen_counts counts.now.entries)) }
+    ensures text { OnOk result (out.new
+        ≡ out.old ++ flat_map count_text (seen_counts counts.now.entries)) }
     ensures ordered { IsOrdered file_line_cmp counts.now }
 {
     for (line, steps) in counts.iter() {
@@ -60,7 +61,9 @@ pub(crate) fn push_covered(
     source: &ModuleParts,
     tally: &Tally,
 ) -> Result<(), NoMemory>
-    ensures { OnOk result ((seen : List (Option Place)) → Counted source.now tally.now seen → length seen < 2 ^ 64 → CoverText out.old (map (source_line programs.now source.now) seen) out.new) }
+    ensures { OnOk result ((seen : List (Option Place)) → Counted source.now tally.now seen
+        → length seen < 2 ^ 64 → CoverText out.old (map (source_line programs.now source.now) seen)
+        out.new) }
 {
     let tables = programs.lines(alloc)?;
     let coverage = Coverage::of(alloc, &tables, source, tally)?;

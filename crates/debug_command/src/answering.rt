@@ -58,7 +58,8 @@ fn told(
     commands: &[Text],
 ) -> Result<Outcome, NoMemory>
     requires { Spells bytes.now matched.module_ }
-    ensures value { IfOk result (answers.IsTold commands.now bytes.now matched.entry.module_ matched.entry.dump) }
+    ensures value { IfOk result (answers.IsTold commands.now bytes.now matched.entry.module_
+        matched.entry.dump) }
     ensures memory { IfOk result (λ o. o.status ≢ Status.NoMemory) }
     ensures fault { IfOk result (λ o. o.status ≢ Status.FileFault) }
 {

@@ -32,7 +32,11 @@ fn texts_of(alloc: Global, words: &[&str]) -> Result<Texts, NoMemory>
 
 /// Two words, and commands behind them.
 fn made(alloc: Global, source: &str, dump: &str, commands: &[&str]) -> Result<DebugWords, NoMemory>
-    ensures { IfOk result (λ w. w ≡ record { source = source.now; dump = dump.now; commands = map (λ c. c.now) commands.now }) }
+    ensures { IfOk result (λ w. w ≡ record {
+      source = source.now;
+      dump = dump.now;
+      commands = map (λ c. c.now) commands.now;
+    }) }
 {
     let source = Text::from_str(alloc, source)?;
     let dump = Text::from_str(alloc, dump)?;
@@ -48,7 +52,8 @@ fn made(alloc: Global, source: &str, dump: &str, commands: &[&str]) -> Result<De
 #[tactic(auto, unfolding(crate::specs::Words::debug_words))]
 pub fn debug_words(alloc: Global, words: &[String]) -> Result<DebugWords, WordsFault>
     ensures ok { IfOk result (λ w. debug_words (map string_bytes words.now) ≡ Some w) }
-    ensures usage { result ≡ Err WordsFault.Usage → debug_words (map string_bytes words.now) ≡ None }
+    ensures usage { result ≡ Err WordsFault.Usage
+        → debug_words (map string_bytes words.now) ≡ None }
 {
     let Some(reading) = read_words(alloc, words, &Options::none())? else {
         return Err(WordsFault::Usage);

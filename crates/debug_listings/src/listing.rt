@@ -42,7 +42,8 @@ fn push_lines(out: &mut Text, label: &str, values: &[Seen]) -> Result<(), NoMemo
 
 /// Lines of so many values that are not recorded.
 fn push_missing(out: &mut Text, label: &str, count: u32) -> Result<(), NoMemory>
-    ensures { OnOk result (out.new ≡ out.old ++ numbered (value_line label.now) 0 (replicate count Missing)) }
+    ensures { OnOk result (out.new
+        ≡ out.old ++ numbered (value_line label.now) 0 (replicate count Missing)) }
 {
     for i in 0..count {
         push_line(out, label, i as u64, Seen::Missing)?;

@@ -104,7 +104,8 @@ fn push_memory(
     at: u64,
     count: u64,
 ) -> Result<(), NoMemory>
-    ensures { OnOk result (out.new ≡ out.old ++ definitions.bytes_text memory.now.memory.bytes at count) }
+    ensures { OnOk result (out.new
+        ≡ out.old ++ definitions.bytes_text memory.now.memory.bytes at count) }
 {
     let length = u64::from(memory.size()) * 65536;
     if !is_inside(length, at, count) {

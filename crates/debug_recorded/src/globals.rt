@@ -29,7 +29,8 @@ fn listed(globals: &[Value], index: u32) -> Option<Seen>
 
 /// The globals of these indices.
 fn all_listed(alloc: Global, globals: &[Value], indices: &[u32]) -> Result<Items<Seen>, NoMemory>
-    ensures { IfOk result (λ seens. seens ≡ filter_map (definitions.listed globals.now) indices.now) }
+    ensures { IfOk result (λ seens. seens
+        ≡ filter_map (definitions.listed globals.now) indices.now) }
 {
     let mut seens = Items::new(alloc);
     for index in indices {

@@ -26,7 +26,8 @@ fn put(memory: &mut Memory, segment: &Segment<'_>) -> Result<(), NoMemory>
 /// Writes segments that are inside the memory, one after the other.
 fn lay(memory: &mut Memory, segments: &[Segment<'_>]) -> Result<(), NoMemory>
     requires { All (λ r. r.at + length r.bytes ≤ length memory.old.memory.bytes) segments.now }
-    ensures { OnOk result (memory.new.memory ≡ definitions.laid_over memory.old.memory segments.now) }
+    ensures { OnOk result (memory.new.memory
+        ≡ definitions.laid_over memory.old.memory segments.now) }
 {
     for segment in segments {
         put(memory, segment)?;

@@ -38,7 +38,11 @@ impl<'a, 'm, 'd, 'b> Model for Subject<'a, 'm, 'd, 'b> {
 
     ghost Value = { Subject };
 
-    ghost view = { λ s. record { information = s.information; module_ = s.matched.module_; dump = s.matched.dump } };
+    ghost view = { λ s. record {
+      information = s.information;
+      module_ = s.matched.module_;
+      dump = s.matched.dump;
+    } };
 
     ghost invariant = { λ s. (s.globals ≡ recorded_globals s.matched.dump)
         × (option_map (λ m. m.memory) s.memory ≡ recorded_memory s.matched.dump) };
@@ -78,7 +82,11 @@ impl<'a, 'm, 'd, 'b> Subject<'a, 'm, 'd, 'b> {
         information: Information<'a>,
         matched: StateMatched<'m, 'd, 'b>,
     ) -> Result<Self, NoMemory>
-        ensures { IfOk result (λ s. s ≡ record { information = information.entry; module_ = matched.entry.module_; dump = matched.entry.dump }) }
+        ensures { IfOk result (λ s. s ≡ record {
+          information = information.entry;
+          module_ = matched.entry.module_;
+          dump = matched.entry.dump;
+        }) }
     {
         let globals = globals_of(alloc, &matched)?;
         let memory = memory_of(alloc, &matched)?;
@@ -137,7 +145,8 @@ impl<'a, 'm, 'd, 'b> Subject<'a, 'm, 'd, 'b> {
     /// How many operands the frame of an index shows, also where they are not recorded.
     pub fn operand_count(&self, index: u32) -> u32
         requires { index < length self.now.dump.frames }
-        ensures { There self.now.dump.frames index (λ f. StateOperandCount self.now.module_ index f result) }
+        ensures { There self.now.dump.frames index
+            (λ f. StateOperandCount self.now.module_ index f result) }
     {
         self.matched.operand_count(index)
     }

@@ -49,7 +49,8 @@ fn push_frames(
     frames: &[Frame],
 ) -> Result<(), NoMemory>
     ensures { OnOk result (out.new
-        ≡ out.old ++ numbered (frame_text subject.now.information subject.now.module_) 0 frames.now) }
+        ≡ out.old ++ numbered (frame_text subject.now.information subject.now.module_) 0
+        frames.now) }
 {
     let mut symbolizer = Symbolizer::new(alloc, subject.information())?;
     for (i, frame) in frames.iter().enumerate() {

@@ -34,7 +34,8 @@ fn push_value_line(out: &mut Text, word: &str, text: &str) -> Result<(), NoMemor
 
 /// Adds the line of what is shown of a path to a variable of this name, spelled by this word.
 fn push_shown(out: &mut Text, name: &[u8], word: &str, shown: &Shown) -> Result<(), NoMemory>
-    ensures { OnOk result (out.new ≡ out.old ++ definitions.shown_line name.now word.now shown.now) }
+    ensures { OnOk result (out.new
+        ≡ out.old ++ definitions.shown_line name.now word.now shown.now) }
 {
     match shown {
         Shown::NoVariable => push_no_variable(out, name),

@@ -58,7 +58,11 @@ impl<'a, 'm, 'd, 'b> Session<'a, 'm, 'd, 'b> {
         matched: StateMatched<'m, 'd, 'b>,
         chosen: u32,
     ) -> Result<Self, NoMemory>
-        ensures { IfOk result (λ s. s ≡ sitting (record { information = information.entry; module_ = matched.entry.module_; dump = matched.entry.dump }) chosen) }
+        ensures { IfOk result (λ s. s ≡ sitting (record {
+          information = information.entry;
+          module_ = matched.entry.module_;
+          dump = matched.entry.dump;
+        }) chosen) }
     {
         let subject = Subject::new(alloc, information, matched)?;
         Ok(Session { subject, chosen })

@@ -49,8 +49,10 @@ pub fn decode_dump<'a>(alloc: Global, bytes: &'a [u8]) -> Result<Dump<'a>, DumpF
     ensures limited { IfOk result IsLimited }
     ensures malformed { (at : ℕ) → Exactly result (Err (Malformed at)) (BreaksAt bytes.now at) }
     ensures float { (at : ℕ) → Exactly result (Err (FloatValue at)) (HasFloatAt bytes.now at) }
-    ensures several { (part : DumpPart) → Exactly result (Err (Several part)) (HasSeveral bytes.now part) }
-    ensures limit { (what : Quantity) (count : ℕ) → Exactly result (Err (Limit what count)) (PassesLimit bytes.now what count) }
+    ensures several { (part : DumpPart)
+        → Exactly result (Err (Several part)) (HasSeveral bytes.now part) }
+    ensures limit { (what : Quantity) (count : ℕ)
+        → Exactly result (Err (Limit what count)) (PassesLimit bytes.now what count) }
 {
     decode(alloc, bytes)
 }

@@ -33,7 +33,8 @@ impl<'a> Gathered<'a> {
         name: &str,
         reader: &mut Reader<'a>,
     ) -> Result<(), ItemFault>
-        ensures item { Gives (with_state self.new result) reader.new (custom_gathering self.old name.now reader.old) }
+        ensures item { Gives (with_state self.new result) reader.new
+            (custom_gathering self.old name.now reader.old) }
     {
         if name == "core" {
             let name = module_name(alloc, reader)?;
@@ -57,7 +58,8 @@ impl<'a> Gathered<'a> {
     /// The contents of a section of this id.
     #[tactic(auto, unfolding(crate::specs::inner::Gathering::contents_gathering))]
     fn contents(&mut self, alloc: Global, id: u8, reader: &mut Reader<'a>) -> Result<(), ItemFault>
-        ensures item { Gives (with_state self.new result) reader.new (contents_gathering self.old id reader.old) }
+        ensures item { Gives (with_state self.new result) reader.new
+            (contents_gathering self.old id reader.old) }
     {
         match id {
             0 => {

@@ -49,7 +49,12 @@ pub fn recorded_frame(
     locals: &[Value],
     operands: &[Value],
 ) -> Result<Frame, NoMemory>
-    ensures { IfOk result (λ f. f ≡ frame_of (record { function = function; offset = offset; locals = locals.now; operands = operands.now })) }
+    ensures { IfOk result (λ f. f ≡ frame_of (record {
+      function = function;
+      offset = offset;
+      locals = locals.now;
+      operands = operands.now;
+    })) }
 {
     Ok(Frame {
         instance: 0,
@@ -73,7 +78,11 @@ fn indices(alloc: Global, count: u32) -> Result<Indices, NoMemory>
 
 /// The one instance, with its memory and all globals.
 fn instances(alloc: Global, memory: Option<u32>, globals: usize) -> Result<Instances, NoMemory>
-    ensures { IfOk result (λ v. v ≡ record { «module» = 0; memories = memory_indices memory; globals = range_with_len 0 (min globals (2 ^ 32 - 1)) } ∷ []) }
+    ensures { IfOk result (λ v. v ≡ record {
+      «module» = 0;
+      memories = memory_indices memory;
+      globals = range_with_len 0 (min globals (2 ^ 32 - 1));
+    } ∷ []) }
 {
     let count = u32::try_from(globals).unwrap_or(u32::MAX);
     let mut out = Items::new(alloc);
@@ -125,8 +134,22 @@ pub fn picture<'a>(
     globals: Values,
     memory: Option<&'a Memory>,
 ) -> Result<Dump<'a>, NoMemory>
-    ensures pictures { (held : Option Paged) (shown : List DumpFrame) → option_copied memory.entry ≡ held → frames ≡ map frame_of shown → IfOk result (λ d. Pictures (record { name = name.now; frames = shown; globals = globals; memory = bytes_in held }) d) }
-    ensures bytes { (held : Option Paged) (shown : List DumpFrame) → option_copied memory.entry ≡ held → frames ≡ map frame_of shown → IfOk result (λ d. canonical_bytes d ≡ bytes_of (record { name = name.now; frames = shown; globals = globals; memory = bytes_in held })) }
+    ensures pictures { (held : Option Paged) (shown : List DumpFrame)
+        → option_copied memory.entry ≡ held → frames ≡ map frame_of shown
+        → IfOk result (λ d. Pictures (record {
+          name = name.now;
+          frames = shown;
+          globals = globals;
+          memory = bytes_in held;
+        }) d) }
+    ensures bytes { (held : Option Paged) (shown : List DumpFrame)
+        → option_copied memory.entry ≡ held → frames ≡ map frame_of shown
+        → IfOk result (λ d. canonical_bytes d ≡ bytes_of (record {
+          name = name.now;
+          frames = shown;
+          globals = globals;
+          memory = bytes_in held;
+        })) }
     ensures contained { IfOk result (λ d. IsContained d) }
     ensures pages { IfOk result (λ d. pages_of d.memory ≤ 4096) }
 {

@@ -72,7 +72,8 @@ fn are_operands(m: &Validated, frame: &Frame, stand: Stand, count: u32) -> bool
 fn shown_count(m: &ModuleParts, stand: Stand, i: u32) -> u32
     requires { WithinLimits m.now }
     ensures most { result ≤ stand.height }
-    ensures count { (targets : List ℕ) → result ≡ count_shown m.now (item_of targets stand.code) i stand.height }
+    ensures count { (targets : List ℕ)
+        → result ≡ count_shown m.now (item_of targets stand.code) i stand.height }
 {
     if i == 0 {
         return stand.height;
@@ -110,7 +111,8 @@ fn call_fits(stand: Stand, i: u32) -> bool
 /// Whether a frame is the innermost one, or its call can have called the function of the frame before it.
 fn callee_fits(m: &ModuleParts, frames: &[Frame], stand: Stand, i: u32) -> bool
     requires { i < length frames.now }
-    ensures { (f : ShownFrame) → Stands m.now f stand → Decides result (CalleeFits m.now frames.now i f) }
+    ensures { (f : ShownFrame) → Stands m.now f stand
+        → Decides result (CalleeFits m.now frames.now i f) }
 {
     if i == 0 {
         return true;

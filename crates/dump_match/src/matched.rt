@@ -120,7 +120,8 @@ impl<'m, 'd, 'b> StateMatched<'m, 'd, 'b> {
     /// stands at an `else` or `end` the module tells none.
     pub fn operand_count(&self, index: u32) -> u32
         requires { index < length self.now.dump.frames }
-        ensures { There self.now.dump.frames index (λ f. StateOperandCount self.now.module_ index f result) }
+        ensures { There self.now.dump.frames index
+            (λ f. StateOperandCount self.now.module_ index f result) }
     {
         frame_operands(self.module, self.dump, index)
     }

@@ -59,7 +59,8 @@ fn one_instance<'a>(dump: &'a Dump<'_>) -> Option<&'a Instance>
 }
 
 fn size_fits(limits: Limits, pages: u32) -> bool
-    ensures { Decides result ((limits.min ≤ pages) × (pages ≤ min 4096 (unwrap_or limits.max 4096))) }
+    ensures { Decides result ((limits.min ≤ pages)
+        × (pages ≤ min 4096 (unwrap_or limits.max 4096))) }
 {
     let most = limits.max.unwrap_or(MOST_PAGES).min(MOST_PAGES);
     limits.min <= pages && pages <= most

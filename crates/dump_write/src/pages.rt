@@ -61,8 +61,10 @@ pub fn are_pages(segments: &[Segment<'_>]) -> bool
 /// the memory are zero.
 pub fn memory_segments<'a>(alloc: Global, memory: &'a Memory) -> Result<Segments<'a>, NoMemory>
     ensures paged { IfOk result (ArePages 0) }
-    ensures bytes { IfOk result (λ v. laid_on (replicate (page_size * pages memory.now.memory) 0) v ≡ memory.now.memory.bytes) }
-    ensures inside { IfOk result (λ v. All (λ r. r.at + length r.bytes ≤ page_size * pages memory.now.memory) v) }
+    ensures bytes { IfOk result (λ v. laid_on (replicate (page_size * pages memory.now.memory) 0) v
+        ≡ memory.now.memory.bytes) }
+    ensures inside { IfOk result (λ v. All
+        (λ r. r.at + length r.bytes ≤ page_size * pages memory.now.memory) v) }
 {
     let mut segments = Items::new(alloc);
     for index in 0..memory.size() {

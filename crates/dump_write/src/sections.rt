@@ -59,7 +59,8 @@ fn push_modules(alloc: Global, out: &mut Vec<u8>, name: &str) -> Result<(), NoMe
 /// A vector of the indices below a count.
 #[tactic(auto, unfolding(crate::specs::Spelled::vector_bytes))]
 fn push_indices(out: &mut Vec<u8>, count: u64) -> Result<(), NoMemory>
-    ensures { OnOk result (out.new.items ≡ out.old.items ++ vector_bytes unsigned_bytes (range_with_len 0 count)) }
+    ensures { OnOk result (out.new.items
+        ≡ out.old.items ++ vector_bytes unsigned_bytes (range_with_len 0 count)) }
 {
     write_u64(out, count)?;
     for index in 0..count {
@@ -91,7 +92,8 @@ fn push_instance(out: &mut Vec<u8>, dump: &Dump<'_>) -> Result<(), NoMemory>
 
 #[tactic(auto, using(crate::proofs::Vectors::instances_are))]
 fn push_instances(alloc: Global, out: &mut Vec<u8>, dump: &Dump<'_>) -> Result<(), NoMemory>
-    ensures { OnOk result (out.new.items ≡ out.old.items ++ instances_bytes (instance_of dump.now)) }
+    ensures { OnOk result (out.new.items
+        ≡ out.old.items ++ instances_bytes (instance_of dump.now)) }
 {
     let mut contents = titled(alloc, "coreinstances")?;
     write_u64(&mut contents, 1)?;

@@ -25,7 +25,8 @@ use std::alloc::Global;
 fn head(alloc: Global, dump: &Dump<'_>, segments: &[Segment<'_>]) -> Result<Vec<u8>, NoMemory>
     requires count { length segments.now ≤ 4096 }
     requires pages { All (λ r. length r.bytes ≤ 65536) segments.now }
-    ensures bytes { IfOk result (λ v. v.items ≡ sections_before_data dump.now ++ data_head segments.now) }
+    ensures bytes { IfOk result (λ v. v.items
+        ≡ sections_before_data dump.now ++ data_head segments.now) }
     ensures typed { IfOk result (λ _. IsTyped dump.now) }
 {
     let mut out = sections_before_data(alloc, dump)?;
@@ -73,7 +74,8 @@ fn append_segment<F: Files>(
     segment: &Segment<'_>,
 ) -> WriteAnswer
     requires { Contains (F.created files.old) name.now }
-    ensures content { OnTold (Appends name.now (segment_bytes segment.now) result) (F.told files.old) (F.told files.new) }
+    ensures content { OnTold (Appends name.now (segment_bytes segment.now) result)
+        (F.told files.old) (F.told files.new) }
     ensures telling { is_some (F.told files.new) ≡ is_some (F.told files.old) }
     ensures names { F.created files.new ≡ F.created files.old }
     ensures later { F.faults files.old ≤ F.faults files.new }
@@ -96,9 +98,11 @@ fn write_pieces<F: Files>(
     head: &[u8],
     segments: &[Segment<'_>],
 ) -> WriteAnswer
-    ensures content { OnTold (Writes name.now (head.now ++ pages_bytes segments.now) result) (F.told files.old) (F.told files.new) }
+    ensures content { OnTold (Writes name.now (head.now ++ pages_bytes segments.now) result)
+        (F.told files.old) (F.told files.new) }
     ensures telling { is_some (F.told files.new) ≡ is_some (F.told files.old) }
-    ensures names { (F.created files.new ≡ F.created files.old) ⊎ (F.created files.new ≡ with_name (F.created files.old) name.now) }
+    ensures names { (F.created files.new ≡ F.created files.old)
+        ⊎ (F.created files.new ≡ with_name (F.created files.old) name.now) }
     ensures later { F.faults files.old ≤ F.faults files.new }
     ensures failed { result ≡ WriteAnswer.Failed → Rose (F.faults files.old) (F.faults files.new) }
 {
@@ -129,9 +133,11 @@ fn write_with<F: Files>(
 ) -> WriteAnswer
     requires pages { pages_of dump.now.memory ≤ 4096 }
     requires used { filter is_used segments.now ≡ segments_of dump.now }
-    ensures content { OnTold (Writes name.now (canonical_bytes dump.now) result) (F.told files.old) (F.told files.new) }
+    ensures content { OnTold (Writes name.now (canonical_bytes dump.now) result) (F.told files.old)
+        (F.told files.new) }
     ensures telling { is_some (F.told files.new) ≡ is_some (F.told files.old) }
-    ensures names { (F.created files.new ≡ F.created files.old) ⊎ (F.created files.new ≡ with_name (F.created files.old) name.now) }
+    ensures names { (F.created files.new ≡ F.created files.old)
+        ⊎ (F.created files.new ≡ with_name (F.created files.old) name.now) }
     ensures later { F.faults files.old ≤ F.faults files.new }
     ensures failed { result ≡ WriteAnswer.Failed → Rose (F.faults files.old) (F.faults files.new) }
     ensures typed { result ≡ WriteAnswer.Done → IsTyped dump.now }
@@ -155,9 +161,11 @@ pub fn write_dump<F: Files>(
 ) -> WriteAnswer
     requires pages { pages_of dump.now.memory ≤ 4096 }
     requires contained { IsContained dump.now }
-    ensures content { OnTold (Writes name.now (canonical_bytes dump.now) result) (F.told files.old) (F.told files.new) }
+    ensures content { OnTold (Writes name.now (canonical_bytes dump.now) result) (F.told files.old)
+        (F.told files.new) }
     ensures telling { is_some (F.told files.new) ≡ is_some (F.told files.old) }
-    ensures names { (F.created files.new ≡ F.created files.old) ⊎ (F.created files.new ≡ with_name (F.created files.old) name.now) }
+    ensures names { (F.created files.new ≡ F.created files.old)
+        ⊎ (F.created files.new ≡ with_name (F.created files.old) name.now) }
     ensures later { F.faults files.old ≤ F.faults files.new }
     ensures failed { result ≡ WriteAnswer.Failed → Rose (F.faults files.old) (F.faults files.new) }
     ensures typed { result ≡ WriteAnswer.Done → IsTyped dump.now }

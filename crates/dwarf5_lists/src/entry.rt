@@ -48,7 +48,8 @@ fn startx_length<C: Contents>(
 }
 
 fn offset_pair<C: Contents>(reader: &mut Reader<'_>) -> Result<Entry<C>, Malformed>
-    ensures item { Reads result reader.new (mapped offsets_of (u64_item ⊗ u64_item ⊗ C.item) reader.old) }
+    ensures item { Reads result reader.new
+        (mapped offsets_of (u64_item ⊗ u64_item ⊗ C.item) reader.old) }
     ensures moves { OnOk result (Moves reader.old reader.new) }
 {
     let begin = reader.u64()?;
@@ -58,7 +59,8 @@ fn offset_pair<C: Contents>(reader: &mut Reader<'_>) -> Result<Entry<C>, Malform
 }
 
 fn start_end<C: Contents>(reader: &mut Reader<'_>) -> Result<Entry<C>, Malformed>
-    ensures item { Reads result reader.new (mapped between_of (number_item 4 ⊗ number_item 4 ⊗ C.item) reader.old) }
+    ensures item { Reads result reader.new
+        (mapped between_of (number_item 4 ⊗ number_item 4 ⊗ C.item) reader.old) }
     ensures moves { OnOk result (Moves reader.old reader.new) }
 {
     let begin = read_address(reader)?;
@@ -68,7 +70,8 @@ fn start_end<C: Contents>(reader: &mut Reader<'_>) -> Result<Entry<C>, Malformed
 }
 
 fn start_length<C: Contents>(reader: &mut Reader<'_>) -> Result<Entry<C>, Malformed>
-    ensures item { Reads result reader.new (mapped lasting_of (number_item 4 ⊗ u64_item ⊗ C.item) reader.old) }
+    ensures item { Reads result reader.new
+        (mapped lasting_of (number_item 4 ⊗ u64_item ⊗ C.item) reader.old) }
     ensures moves { OnOk result (Moves reader.old reader.new) }
 {
     let begin = read_address(reader)?;
@@ -88,7 +91,8 @@ pub fn behind<C: Contents>(
     addresses: &AddressTable<'_>,
     reader: &mut Reader<'_>,
 ) -> Result<Entry<C>, Malformed>
-    ensures item { Reads result reader.new (behind_kind (address_of addresses.now) C.item kind reader.old) }
+    ensures item { Reads result reader.new
+        (behind_kind (address_of addresses.now) C.item kind reader.old) }
     ensures stays { OnOk result (Stays reader.old reader.new) }
 {
     match kind {

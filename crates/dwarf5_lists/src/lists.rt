@@ -47,7 +47,8 @@ struct Locations<'r, 'a> {
 impl<'r, 'a> Entries for Locations<'r, 'a> {
     type What = Span;
 
-    ghost item = { λ lists. entry5_item location_kind (address_of lists.addresses.now) expression5_item };
+    ghost item = { λ lists. entry5_item location_kind (address_of lists.addresses.now)
+        expression5_item };
 
     #[tactic(auto, unfolding(crate::specs::Lists::entry5_item))]
     fn read(&self, reader: &mut Reader<'_>) -> Result<Option<ListEntry<Span>>, Malformed> {
@@ -88,7 +89,8 @@ fn expression_at(
     base: u32,
     address: u32,
 ) -> Result<Option<Span>, ReadFault>
-    ensures { result ≡ found_at at (location5 section.now (address_of addresses.now) at base address) }
+    ensures { result ≡ found_at at
+        (location5 section.now (address_of addresses.now) at base address) }
 {
     let lists = Locations { addresses };
     chosen_at(&lists, section, at, base, address)
@@ -107,11 +109,14 @@ pub fn location_at(
     base: u32,
     address: u32,
 ) -> Result<Option<Span>, ReadFault>
-    ensures exact { result ≡ found_at at (location5 section.now (address_of addresses.now) at base address) }
-    ensures spelled { (entries : List (Listed SpanOf)) → IsLocations5 section.now (address_of addresses.now) at entries
+    ensures exact { result ≡ found_at at
+        (location5 section.now (address_of addresses.now) at base address) }
+    ensures spelled { (entries : List (Listed SpanOf))
+        → IsLocations5 section.now (address_of addresses.now) at entries
         → result ≡ Ok (chosen base address entries) }
     ensures unreadable { (result ≡ Err (Unreadable at))
-        ↔ ((entries : List (Listed SpanOf)) → IsLocations5 section.now (address_of addresses.now) at entries → ⊥) }
+        ↔ ((entries : List (Listed SpanOf))
+        → IsLocations5 section.now (address_of addresses.now) at entries → ⊥) }
 {
     expression_at(section, addresses, at, base, address)
 }
@@ -143,11 +148,14 @@ pub fn range_holds(
     base: u32,
     address: u32,
 ) -> Result<bool, ReadFault>
-    ensures exact { result ≡ found_at at (range5 section.now (address_of addresses.now) at base address) }
-    ensures spelled { (entries : List (Listed (Unit {0}))) → IsRanges5 section.now (address_of addresses.now) at entries
+    ensures exact { result ≡ found_at at
+        (range5 section.now (address_of addresses.now) at base address) }
+    ensures spelled { (entries : List (Listed (Unit {0})))
+        → IsRanges5 section.now (address_of addresses.now) at entries
         → result ≡ Ok (is_some (chosen base address entries)) }
     ensures unreadable { (result ≡ Err (Unreadable at))
-        ↔ ((entries : List (Listed (Unit {0}))) → IsRanges5 section.now (address_of addresses.now) at entries → ⊥) }
+        ↔ ((entries : List (Listed (Unit {0})))
+        → IsRanges5 section.now (address_of addresses.now) at entries → ⊥) }
 {
     is_held(section, addresses, at, base, address)
 }

@@ -60,7 +60,8 @@ pub fn read_row<'a, R: Row<'a>>(
     alloc: Global,
     reader: &mut Reader<'a>,
 ) -> Result<Option<R>, ItemFault>
-    ensures item { Gives result reader.new ((u64_item ▷ behind_code R.made R.Pair.item) reader.old) }
+    ensures item { Gives result reader.new
+        ((u64_item ▷ behind_code R.made R.Pair.item) reader.old) }
     ensures moves { OnOk result (Moves reader.old reader.new) }
 {
     let code = reader.u64()?;

@@ -25,7 +25,12 @@ impl<'a> Model for FrameView<'a> {
 
     ghost Value = { View };
 
-    ghost view = { λ v. record { locals = v.locals.now; operands = v.operands.now; globals = v.globals.now; memory = option_map (λ m. m.now.memory) v.memory } };
+    ghost view = { λ v. record {
+      locals = v.locals.now;
+      operands = v.operands.now;
+      globals = v.globals.now;
+      memory = option_map (λ m. m.now.memory) v.memory;
+    } };
 }
 
 impl<'a> FrameView<'a> {

@@ -112,7 +112,8 @@ fn chosen<E: Entries>(
     base: u32,
     address: u32,
 ) -> Result<Option<E::What>, Malformed>
-    ensures item { Reads result reader.new (mapped (chosen base address) (ended_item (E.item entries.now)) reader.old) }
+    ensures item { Reads result reader.new
+        (mapped (chosen base address) (ended_item (E.item entries.now)) reader.old) }
 {
     let mut search = Search {
         address,
@@ -143,7 +144,9 @@ pub fn chosen_at<E: Entries>(
     base: u32,
     address: u32,
 ) -> Result<Option<E::What>, ReadFault>
-    ensures exact { result ≡ found_at at (option_map (chosen base address) (read_at (ended_item (E.item entries.now)) section.now at)) }
+    ensures exact { result ≡ found_at at
+        (option_map (chosen base address)
+        (read_at (ended_item (E.item entries.now)) section.now at)) }
 {
     if at > section.len() {
         return Err(ReadFault::Unreadable { at });

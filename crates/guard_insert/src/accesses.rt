@@ -85,7 +85,8 @@ pub(crate) fn guard_memory(
     count: u64,
 ) -> Result<(), NoMemory>
     requires { height ≤ context.now.slots }
-    ensures { OnOk result (Emits (guard_memory context.now (place address) height count) writer.old writer.new) }
+    ensures { OnOk result (Emits (guard_memory context.now (place address) height count) writer.old
+        writer.new) }
 {
     writer.const_value(Value::I32(4))?;
     writer.const_value(Value::I32(0))?;
@@ -101,7 +102,8 @@ fn range_test(
     count: (OperandPlace, usize),
 ) -> Result<(), NoMemory>
     requires { (address.1 ≤ context.now.slots) × (count.1 ≤ context.now.slots) }
-    ensures { OnOk result (Emits (range_test context.now (place address.0) address.1 (place count.0) count.1) writer.old writer.new) }
+    ensures { OnOk result (Emits (range_test context.now (place address.0) address.1 (place count.0)
+        count.1) writer.old writer.new) }
 {
     context.fetch(writer, address.0, address.1)?;
     writer.basic(Basic::Convert(Convert::ExtendU))?;
@@ -121,7 +123,8 @@ pub(crate) fn guard_copy(
     height: usize,
 ) -> Result<(), NoMemory>
     requires { height + 2 ≤ context.now.slots }
-    ensures { OnOk result (Emits (guard_copy context.now (place len) (place from) (place to) height) writer.old writer.new) }
+    ensures { OnOk result (Emits (guard_copy context.now (place len) (place from) (place to) height)
+        writer.old writer.new) }
 {
     let second = above(context, height, 1);
     let third = above(context, height, 2);
@@ -142,7 +145,8 @@ pub(crate) fn guard_fill(
     height: usize,
 ) -> Result<(), NoMemory>
     requires { height + 2 ≤ context.now.slots }
-    ensures { OnOk result (Emits (guard_fill context.now (place len) (place to) height) writer.old writer.new) }
+    ensures { OnOk result (Emits (guard_fill context.now (place len) (place to) height) writer.old
+        writer.new) }
 {
     let third = above(context, height, 2);
     writer.const_value(Value::I32(4))?;

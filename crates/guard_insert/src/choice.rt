@@ -52,7 +52,8 @@ fn guard_quotient(
     places: &OperandPlaces,
 ) -> Result<(), NoMemory>
     requires { length places.now ≤ context.now.slots }
-    ensures { OnOk result (Emits (guard context.now (BinaryOf t DivSOf) places.now) writer.old writer.new) }
+    ensures { OnOk result (Emits (guard context.now (BinaryOf t DivSOf) places.now) writer.old
+        writer.new) }
 {
     let Some(dividend) = places.peek(1) else {
         return no_kind(writer);
@@ -71,9 +72,12 @@ fn guard_divisor(
     places: &OperandPlaces,
 ) -> Result<(), NoMemory>
     requires { length places.now ≤ context.now.slots }
-    ensures quotient { OnOk result (Emits (guard context.now (BinaryOf t DivUOf) places.now) writer.old writer.new) }
-    ensures signed { OnOk result (Emits (guard context.now (BinaryOf t RemSOf) places.now) writer.old writer.new) }
-    ensures unsigned { OnOk result (Emits (guard context.now (BinaryOf t RemUOf) places.now) writer.old writer.new) }
+    ensures quotient { OnOk result
+        (Emits (guard context.now (BinaryOf t DivUOf) places.now) writer.old writer.new) }
+    ensures signed { OnOk result (Emits (guard context.now (BinaryOf t RemSOf) places.now)
+        writer.old writer.new) }
+    ensures unsigned { OnOk result
+        (Emits (guard context.now (BinaryOf t RemUOf) places.now) writer.old writer.new) }
 {
     let Some(_) = places.peek(1) else {
         return no_kind(writer);
@@ -93,7 +97,8 @@ fn guard_binary(
     places: &OperandPlaces,
 ) -> Result<(), NoMemory>
     requires { length places.now ≤ context.now.slots }
-    ensures { OnOk result (Emits (guard context.now (BinaryOf t operator) places.now) writer.old writer.new) }
+    ensures { OnOk result (Emits (guard context.now (BinaryOf t operator) places.now) writer.old
+        writer.new) }
 {
     match operator {
         Binary::DivS => guard_quotient(context, writer, t, places),
@@ -114,7 +119,8 @@ fn guard_load(
     places: &OperandPlaces,
 ) -> Result<(), NoMemory>
     requires { length places.now ≤ context.now.slots }
-    ensures { OnOk result (Emits (guard context.now (LoadOf load align offset) places.now) writer.old writer.new) }
+    ensures { OnOk result (Emits (guard context.now (LoadOf load align offset) places.now)
+        writer.old writer.new) }
 {
     let Some(address) = places.peek(0) else {
         return no_kind(writer);
@@ -133,7 +139,8 @@ fn guard_store(
     places: &OperandPlaces,
 ) -> Result<(), NoMemory>
     requires { length places.now ≤ context.now.slots }
-    ensures { OnOk result (Emits (guard context.now (StoreOf store align offset) places.now) writer.old writer.new) }
+    ensures { OnOk result (Emits (guard context.now (StoreOf store align offset) places.now)
+        writer.old writer.new) }
 {
     let Some(address) = places.peek(1) else {
         return no_kind(writer);
@@ -149,7 +156,8 @@ fn guard_copied(
     places: &OperandPlaces,
 ) -> Result<(), NoMemory>
     requires { length places.now ≤ context.now.slots }
-    ensures { OnOk result (Emits (guard context.now MemoryCopyOf places.now) writer.old writer.new) }
+    ensures { OnOk result (Emits (guard context.now MemoryCopyOf places.now) writer.old
+        writer.new) }
 {
     let Some(to) = places.peek(2) else {
         return no_kind(writer);
@@ -170,7 +178,8 @@ fn guard_filled(
     places: &OperandPlaces,
 ) -> Result<(), NoMemory>
     requires { length places.now ≤ context.now.slots }
-    ensures { OnOk result (Emits (guard context.now MemoryFillOf places.now) writer.old writer.new) }
+    ensures { OnOk result (Emits (guard context.now MemoryFillOf places.now) writer.old
+        writer.new) }
 {
     let Some(to) = places.peek(2) else {
         return no_kind(writer);
@@ -188,7 +197,8 @@ fn write_guard(
     places: &OperandPlaces,
 ) -> Result<(), NoMemory>
     requires { length places.now ≤ context.now.slots }
-    ensures { OnOk result (Emits (guard context.now instruction.now places.now) writer.old writer.new) }
+    ensures { OnOk result (Emits (guard context.now instruction.now places.now) writer.old
+        writer.new) }
 {
     match *instruction {
         Basic::Binary(t, operator) => guard_binary(context, writer, t, operator, places),
@@ -212,8 +222,11 @@ pub fn guard(
     places: &OperandPlaces,
 ) -> Result<(), NoMemory>
     requires { length places.now ≤ context.now.slots }
-    ensures emits { OnOk result (Emits (guard context.now instruction.now places.now) writer.old writer.new) }
-    ensures means { can_trap instruction.now ≡ true → OnOk result (Writes (IsGuard context.now instruction.now places.now) writer.old writer.new) }
+    ensures emits { OnOk result (Emits (guard context.now instruction.now places.now) writer.old
+        writer.new) }
+    ensures means { can_trap instruction.now ≡ true
+        → OnOk result (Writes (IsGuard context.now instruction.now places.now) writer.old
+        writer.new) }
 {
     write_guard(context, writer, instruction, places)
 }
@@ -229,7 +242,9 @@ pub fn guarded(
 ) -> Result<(), NoMemory>
     requires shallow { labels + 1 < 2 ^ 32 }
     requires room { length places.now ≤ context.now.slots }
-    ensures { (ls : List Info) → length ls ≡ labels → OnOk result (Emits (guarded (can_trap instruction.now) context.now ls places.now offset instruction.now) writer.old writer.new) }
+    ensures { (ls : List Info) → length ls ≡ labels
+        → OnOk result (Emits (guarded (can_trap instruction.now) context.now ls places.now offset
+        instruction.now) writer.old writer.new) }
 {
     if can_trap(instruction) {
         guard(context, writer, instruction, places)?;

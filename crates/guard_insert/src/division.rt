@@ -48,7 +48,8 @@ pub(crate) fn guard_zero(
     height: usize,
 ) -> Result<(), NoMemory>
     requires { height ≤ context.now.slots }
-    ensures { OnOk result (Emits (guard_zero context.now t (place divisor) height) writer.old writer.new) }
+    ensures { OnOk result (Emits (guard_zero context.now t (place divisor) height) writer.old
+        writer.new) }
 {
     writer.const_value(Value::I32(2))?;
     writer.const_value(Value::I32(0))?;
@@ -66,7 +67,8 @@ fn overflow_test(
     height: usize,
 ) -> Result<(), NoMemory>
     requires { height + 1 ≤ context.now.slots }
-    ensures { OnOk result (Emits (overflow_test context.now t (place divisor) (place dividend) height) writer.old writer.new) }
+    ensures { OnOk result (Emits (overflow_test context.now t (place divisor) (place dividend)
+        height) writer.old writer.new) }
 {
     let upper = above(context, height, 1);
     context.fetch(writer, dividend, height)?;
@@ -89,7 +91,8 @@ pub(crate) fn guard_signed(
     height: usize,
 ) -> Result<(), NoMemory>
     requires { height + 1 ≤ context.now.slots }
-    ensures { OnOk result (Emits (guard_signed context.now t (place divisor) (place dividend) height) writer.old writer.new) }
+    ensures { OnOk result (Emits (guard_signed context.now t (place divisor) (place dividend)
+        height) writer.old writer.new) }
 {
     let upper = above(context, height, 1);
     writer.const_value(Value::I32(2))?;

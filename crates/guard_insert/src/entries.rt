@@ -22,7 +22,8 @@ fn write_kind(writer: &mut CodeWriter, kind: u32) -> Result<(), NoMemory>
 /// The guard of `unreachable`, which leaves its kind.
 pub fn guard_unreachable(writer: &mut CodeWriter) -> Result<(), NoMemory>
     ensures emits { OnOk result (Emits (const (i32 1)) writer.old writer.new) }
-    ensures means { (C : Ctx) → OnOk result (Writes (IsGuardOfUnreachable C) writer.old writer.new) }
+    ensures means { (C : Ctx) → OnOk result
+        (Writes (IsGuardOfUnreachable C) writer.old writer.new) }
 {
     write_kind(writer, 1)
 }
@@ -35,7 +36,8 @@ fn write_entry(
     helper: u32,
 ) -> Result<(), NoMemory>
     requires { height ≤ context.now.slots }
-    ensures { OnOk result (Emits (λ k. fetch context.now (place entry) height (call helper k)) writer.old writer.new) }
+    ensures { OnOk result (Emits (λ k. fetch context.now (place entry) height (call helper k))
+        writer.old writer.new) }
 {
     context.fetch(writer, entry, height)?;
     writer.call(helper)
@@ -51,8 +53,11 @@ pub fn guard_entry(
     helper: u32,
 ) -> Result<(), NoMemory>
     requires { height ≤ context.now.slots }
-    ensures emits { OnOk result (Emits (λ k. fetch context.now (place entry) height (call helper k)) writer.old writer.new) }
-    ensures means { (ftype : ℕ) → OnOk result (Writes (IsGuardOfEntry context.now ftype helper (place entry) height) writer.old writer.new) }
+    ensures emits { OnOk result (Emits (λ k. fetch context.now (place entry) height (call helper k))
+        writer.old writer.new) }
+    ensures means { (ftype : ℕ) → OnOk result
+        (Writes (IsGuardOfEntry context.now ftype helper (place entry) height) writer.old
+        writer.new) }
 {
     write_entry(context, writer, entry, height, helper)
 }

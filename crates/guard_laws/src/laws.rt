@@ -9,7 +9,8 @@ ghost use Rattle.guard_laws.specs.Verdicts.{IsGuard, IsGuardOfUnreachable, IsGua
 
 /// The guard of an instruction that can trap, on operands that have their slots.
 pub fn guards_are_guards()
-    ensures { (C : Ctx) (i : Basic) (places : List Place) → can_trap i ≡ true → length places ≤ C.slots → IsGuard C i places (guard C i places) }
+    ensures { (C : Ctx) (i : Basic) (places : List Place) → can_trap i ≡ true
+        → length places ≤ C.slots → IsGuard C i places (guard C i places) }
 {}
 
 /// The guard of `unreachable` is its kind.
@@ -19,5 +20,6 @@ pub fn kind_one_guards_unreachable()
 
 /// The guard of `call_indirect` calls the helper of the type on the entry's number.
 pub fn helpers_guard_entries()
-    ensures { (C : Ctx) (ftype f : ℕ) (entry : Place) (height : ℕ) → height ≤ C.slots → IsGuardOfEntry C ftype f entry height (λ k. fetch C entry height (call f k)) }
+    ensures { (C : Ctx) (ftype f : ℕ) (entry : Place) (height : ℕ) → height ≤ C.slots
+        → IsGuardOfEntry C ftype f entry height (λ k. fetch C entry height (call f k)) }
 {}

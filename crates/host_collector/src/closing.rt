@@ -45,8 +45,12 @@ fn collected_dump<'a>(
     memory: Option<&'a Memory>,
     name: &str,
 ) -> Result<Dump<'a>, NoMemory>
-    ensures pictures { (held : Option Paged) (w : Whole calls.now) → option_copied memory.entry ≡ held → IfOk result (λ d. Pictures (collected_dump w (bytes_in held) name.now) d) }
-    ensures bytes { (held : Option Paged) (w : Whole calls.now) → option_copied memory.entry ≡ held → IfOk result (λ d. canonical_bytes d ≡ bytes_of (collected_dump w (bytes_in held) name.now)) }
+    ensures pictures { (held : Option Paged) (w : Whole calls.now)
+        → option_copied memory.entry ≡ held
+        → IfOk result (λ d. Pictures (collected_dump w (bytes_in held) name.now) d) }
+    ensures bytes { (held : Option Paged) (w : Whole calls.now) → option_copied memory.entry ≡ held
+        → IfOk result (λ d. canonical_bytes d
+        ≡ bytes_of (collected_dump w (bytes_in held) name.now)) }
     ensures contained { IfOk result (λ d. IsContained d) }
     ensures pages { IfOk result (λ d. pages_of d.memory ≤ 4096) }
 {
@@ -65,7 +69,8 @@ pub fn close<'a>(
     memory: Option<&'a Memory>,
     name: &str,
 ) -> Result<Collected<'a>, CloseFault>
-    ensures closed { (held : Option Paged) → option_copied memory.entry ≡ held → IfOk result (IsClosed calls.now (bytes_in held) name.now) }
+    ensures closed { (held : Option Paged) → option_copied memory.entry ≡ held
+        → IfOk result (IsClosed calls.now (bytes_in held) name.now) }
     ensures torn { (at : ℕ) → (result ≡ Err (CloseFault.Torn at)) ↔ IsFirstOffending calls.now at }
     ensures wanting { result ≡ Err CloseFault.NoMemory → Whole calls.now }
     ensures contained { IfOk result (λ c. IsContained c.dump) }
@@ -92,8 +97,10 @@ impl<H> Collecting<H> {
         memory: Option<&'a Memory>,
         name: &str,
     ) -> Result<Collected<'a>, CloseFault>
-        ensures closed { (held : Option Paged) → option_copied memory.entry ≡ held → IfOk result (IsClosed self.now.calls (bytes_in held) name.now) }
-        ensures torn { (at : ℕ) → (result ≡ Err (CloseFault.Torn at)) ↔ IsFirstOffending self.now.calls at }
+        ensures closed { (held : Option Paged) → option_copied memory.entry ≡ held
+            → IfOk result (IsClosed self.now.calls (bytes_in held) name.now) }
+        ensures torn { (at : ℕ) → (result ≡ Err (CloseFault.Torn at)) ↔ IsFirstOffending
+            self.now.calls at }
         ensures wanting { result ≡ Err CloseFault.NoMemory → Whole self.now.calls }
         ensures contained { IfOk result (λ c. IsContained c.dump) }
         ensures pages { IfOk result (λ c. pages_of c.dump.memory ≤ 4096) }

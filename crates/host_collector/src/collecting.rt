@@ -109,15 +109,22 @@ impl<H: HostSide> HostSide for Collecting<H> {
     }
 
     fn call(&mut self, import: &Import, call: &HostCall, memory: Option<&Memory>) -> HostAnswer
-        requires there { slice_get (H.origin self.old.inner).imports call.now.import ≡ Some import.now }
-        requires served { (ftype : TypeValue) × (serves H.serving self.old import.now ftype ≡ true) × IsOfType ftype call.now }
-        ensures calls { Answers (told true import.now call.now) call.now result (calls_of H.calls self.old) (calls_of H.calls self.new) }
+        requires there { slice_get (H.origin self.old.inner).imports call.now.import
+            ≡ Some import.now }
+        requires served { (ftype : TypeValue) × (serves H.serving self.old import.now ftype ≡ true)
+            × IsOfType ftype call.now }
+        ensures calls { Answers (told true import.now call.now) call.now result
+            (calls_of H.calls self.old) (calls_of H.calls self.new) }
         ensures untouched { is_told import.now ≡ true → self.new.inner ≡ self.old.inner }
         ensures exhausted { IsExhausted (is_used_up H.used_up self.old import.now) result }
-        ensures used { KeepsUse result (is_used_up H.used_up self.old) (is_used_up H.used_up self.new) }
-        ensures cause { HasCause import.now result (H.fault_count self.old.inner) (H.fault_count self.new.inner) }
-        ensures later { (name : List ℕ) → H.fault_count self.old.inner name ≤ H.fault_count self.new.inner name }
-        ensures serving { (i : ImportValue) (t : TypeValue) → serves H.serving self.new i t ≡ serves H.serving self.old i t }
+        ensures used { KeepsUse result (is_used_up H.used_up self.old)
+            (is_used_up H.used_up self.new) }
+        ensures cause { HasCause import.now result (H.fault_count self.old.inner)
+            (H.fault_count self.new.inner) }
+        ensures later { (name : List ℕ)
+            → H.fault_count self.old.inner name ≤ H.fault_count self.new.inner name }
+        ensures serving { (i : ImportValue) (t : TypeValue)
+            → serves H.serving self.new i t ≡ serves H.serving self.old i t }
         ensures origin { H.origin self.new.inner ≡ H.origin self.old.inner }
     {
         if !is_told(import) {

@@ -44,7 +44,10 @@ pub fn empty_reply(alloc: Global) -> Reply
 impl Console {
     /// A console with an empty log. The calls with these numbers, counted from 0, fail.
     pub fn new(alloc: Global, fail: Vec<u64>) -> Self
-        ensures { result ≡ record { log = []; plan = record { failing = fail.items; next = 0; count = 0 } } }
+        ensures { result ≡ record {
+          log = [];
+          plan = record { failing = fail.items; next = 0; count = 0 };
+        } }
     {
         Console {
             alloc,
@@ -77,10 +80,12 @@ impl Device for Console {
         ensures log { self.new.log ≡ log_after result call.now self.old.log }
         ensures counted { HasCounted self.old.plan self.new.plan }
         ensures fails { (result ≡ DeviceAnswer.Failed) ↔ IsToFail self.old.plan }
-        ensures silent { (reply : ReplyValue) → result ≡ DeviceAnswer.Replied reply → reply ≡ empty_reply }
+        ensures silent { (reply : ReplyValue) → result ≡ DeviceAnswer.Replied reply
+            → reply ≡ empty_reply }
         ensures counts { self.new.plan.count ≡ count_after result self.old.plan.count }
         ensures later { self.old.plan.count ≤ self.new.plan.count }
-        ensures failed { result ≡ DeviceAnswer.Failed → Rose self.old.plan.count self.new.plan.count }
+        ensures failed { result ≡ DeviceAnswer.Failed
+            → Rose self.old.plan.count self.new.plan.count }
     {
         if self.faults.next_fails() {
             return DeviceAnswer::Failed;

@@ -83,7 +83,8 @@ impl Device for Counter {
     fn call(&mut self, call: &HostCall, _memory: Option<&Memory>) -> DeviceAnswer
         ensures log { self.new ≡ log_after result call.now self.old }
         ensures never { result ≡ DeviceAnswer.Failed → ⊥ }
-        ensures counts { (reply : ReplyValue) → result ≡ DeviceAnswer.Replied reply → reply ≡ counted_reply call.now.result (length self.old) }
+        ensures counts { (reply : ReplyValue) → result ≡ DeviceAnswer.Replied reply
+            → reply ≡ counted_reply call.now.result (length self.old) }
     {
         let count = self.log.len() as u64;
         let Ok(copy) = copy_call(self.alloc, call) else {

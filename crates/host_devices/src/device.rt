@@ -46,5 +46,6 @@ pub trait Device: Drop {
         ensures name { title self.new ≡ title self.old }
         ensures log { served self.new ≡ log_after result call.now (served self.old) }
         ensures later { fault_count self.old ≤ fault_count self.new }
-        ensures failed { result ≡ DeviceAnswer.Failed → Rose (fault_count self.old) (fault_count self.new) };
+        ensures failed { result ≡ DeviceAnswer.Failed
+            → Rose (fault_count self.old) (fault_count self.new) };
 }

@@ -49,13 +49,16 @@ pub trait HostSide {
     /// Serves a call of an import. The memory is that of the run, where there is one.
     fn call(&mut self, import: &Import, call: &HostCall, memory: Option<&Memory>) -> HostAnswer
         requires there { slice_get (origin self.old).imports call.now.import ≡ Some import.now }
-        requires served { (ftype : TypeValue) × (serving self.old import.now ftype ≡ true) × IsOfType ftype call.now }
-        ensures calls { Answers (told (collecting self.old) import.now call.now) call.now result (calls self.old) (calls self.new) }
+        requires served { (ftype : TypeValue) × (serving self.old import.now ftype ≡ true)
+            × IsOfType ftype call.now }
+        ensures calls { Answers (told (collecting self.old) import.now call.now) call.now result
+            (calls self.old) (calls self.new) }
         ensures exhausted { IsExhausted (used_up self.old import.now) result }
         ensures used { KeepsUse result (used_up self.old) (used_up self.new) }
         ensures cause { HasCause import.now result (fault_count self.old) (fault_count self.new) }
         ensures later { (name : List ℕ) → fault_count self.old name ≤ fault_count self.new name }
-        ensures serving { (i : ImportValue) (t : TypeValue) → serving self.new i t ≡ serving self.old i t }
+        ensures serving { (i : ImportValue) (t : TypeValue)
+            → serving self.new i t ≡ serving self.old i t }
         ensures collecting { collecting self.new ≡ collecting self.old }
         ensures origin { origin self.new ≡ origin self.old };
 }

@@ -32,7 +32,12 @@ impl Model for Scripted {
 
     ghost Value = { ScriptState };
 
-    ghost view = { λ s. record { name = s.name; log = s.log; left = drop s.given s.replies; plan = s.faults } };
+    ghost view = { λ s. record {
+      name = s.name;
+      log = s.log;
+      left = drop s.given s.replies;
+      plan = s.faults;
+    } };
 
     ghost invariant = { λ s. s.given ≤ length s.replies };
 }
@@ -82,10 +87,12 @@ impl Device for Scripted {
         ensures log { self.new.log ≡ log_after result call.now self.old.log }
         ensures gives { GivesNext result self.old.left self.new.left }
         ensures counted { HasCounted self.old.plan self.new.plan }
-        ensures fails { (result ≡ DeviceAnswer.Failed) ↔ (IsToFail self.old.plan ⊎ (self.old.left ≡ [])) }
+        ensures fails { (result ≡ DeviceAnswer.Failed) ↔
+            (IsToFail self.old.plan ⊎ (self.old.left ≡ [])) }
         ensures counts { self.new.plan.count ≡ count_after result self.old.plan.count }
         ensures later { self.old.plan.count ≤ self.new.plan.count }
-        ensures failed { result ≡ DeviceAnswer.Failed → Rose self.old.plan.count self.new.plan.count }
+        ensures failed { result ≡ DeviceAnswer.Failed
+            → Rose self.old.plan.count self.new.plan.count }
     {
         if self.faults.next_fails() {
             return DeviceAnswer::Failed;

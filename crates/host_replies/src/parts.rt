@@ -14,7 +14,8 @@ pub fn offset_of(bytes: &[u8], separator: u8) -> Option<usize>
 
 /// The first part, and what stands behind the separator after it, where there is one.
 pub fn first_part(bytes: &[u8], separator: u8) -> (&[u8], Option<&[u8]>)
-    ensures parts { slice_split (λ b. b == separator) bytes.now ≡ result.0.now ∷ parts_behind separator result.1 }
+    ensures parts { slice_split (λ b. b == separator) bytes.now
+        ≡ result.0.now ∷ parts_behind separator result.1 }
     ensures inside { length result.0.now ≤ length bytes.now }
     ensures shorter { IfSome result.1 (λ rest. length rest.now + 1 ≤ length bytes.now) }
     ensures fits { length bytes.now < 2 ^ 64 }

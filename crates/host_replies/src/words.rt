@@ -32,7 +32,8 @@ impl From<causes::NoMemory> for LineFault {
 /// The text that a word is.
 #[tactic(auto, using(crate::proofs::Utf8::utf8_tests))]
 fn as_text(word: &[u8]) -> Option<&str>
-    ensures { MatchOption result (is_utf8 word.now ≡ false) (λ t. (is_utf8 word.now ≡ true) × (t.now ≡ word.now)) }
+    ensures { MatchOption result (is_utf8 word.now ≡ false)
+        (λ t. (is_utf8 word.now ≡ true) × (t.now ≡ word.now)) }
 {
     match str::from_utf8(word) {
         Ok(text) => Some(text),

@@ -34,16 +34,27 @@ impl<'m, 'r> Model for ScriptHosts<'m, 'r> {
 
     ghost Value = { ScriptState };
 
-    ghost view = { λ s. record { imports = s.imports.now; replies = s.replies.now; first = s.first; calls = s.calls } };
+    ghost view = { λ s. record {
+      imports = s.imports.now;
+      replies = s.replies.now;
+      first = s.first;
+      calls = s.calls;
+    } };
 
-    ghost invariant = { λ s. (s.next ≡ s.first + length s.calls) × (s.next ≤ length s.replies.now) };
+    ghost invariant = { λ s. (s.next ≡ s.first + length s.calls)
+        × (s.next ≤ length s.replies.now) };
 }
 
 impl<'m, 'r> ScriptHosts<'m, 'r> {
     /// A host side for the imports of a module. It gives the replies from the one of this number on, which counts from 0. It takes no memory.
     pub fn new(alloc: Global, imports: &'m [Import], replies: &'r [Reply], first: u64) -> Self
         requires { first ≤ length replies.now }
-        ensures { result ≡ record { imports = imports.now; replies = replies.now; first = first; calls = [] } }
+        ensures { result ≡ record {
+          imports = imports.now;
+          replies = replies.now;
+          first = first;
+          calls = [];
+        } }
     {
         ScriptHosts {
             alloc,
@@ -60,7 +71,8 @@ impl<'m, 'r> ScriptHosts<'m, 'r> {
     pub fn next(&self) -> u64
         ensures next { result ≡ next_of self.now }
         ensures within { next_of self.now ≤ length self.now.replies }
-        ensures given { replies_of (calls_of self.now).served ≡ take (length self.now.calls) (drop self.now.first self.now.replies) }
+        ensures given { replies_of (calls_of self.now).served
+            ≡ take (length self.now.calls) (drop self.now.first self.now.replies) }
     {
         self.next as u64
     }
@@ -68,8 +80,10 @@ impl<'m, 'r> ScriptHosts<'m, 'r> {
     /// How many replies it gave: those from the first one on. It is used up exactly where there is no other one.
     pub fn given(&self) -> u64
         ensures count { result ≡ length (calls_of self.now).served }
-        ensures given { replies_of (calls_of self.now).served ≡ take result (drop self.now.first self.now.replies) }
-        ensures left { is_used_up self.now ≡ is_none (slice_get (drop self.now.first self.now.replies) result) }
+        ensures given { replies_of (calls_of self.now).served
+            ≡ take result (drop self.now.first self.now.replies) }
+        ensures left { is_used_up self.now
+            ≡ is_none (slice_get (drop self.now.first self.now.replies) result) }
     {
         (self.next - self.first) as u64
     }

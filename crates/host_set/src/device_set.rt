@@ -54,15 +54,19 @@ fn ask(device: &mut Box<dyn Device>, call: &HostCall, memory: Option<&Memory>) -
     ensures name { title device.new ≡ title device.old }
     ensures log { served device.new ≡ log_after result call.now (served device.old) }
     ensures later { fault_count device.old ≤ fault_count device.new }
-    ensures failed { result ≡ DeviceAnswer.Failed → Rose (fault_count device.old) (fault_count device.new) }
+    ensures failed { result ≡ DeviceAnswer.Failed
+        → Rose (fault_count device.old) (fault_count device.new) }
 {
     device.call(call, memory)
 }
 
 fn lent(device: &Box<dyn Device>) -> &dyn Device
-    ensures name { (Device-dyn result.now).title result.now.1 ≡ (Device-box device.now).title device.now.value }
-    ensures log { (Device-dyn result.now).served result.now.1 ≡ (Device-box device.now).served device.now.value }
-    ensures count { (Device-dyn result.now).fault_count result.now.1 ≡ (Device-box device.now).fault_count device.now.value }
+    ensures name { (Device-dyn result.now).title result.now.1
+        ≡ (Device-box device.now).title device.now.value }
+    ensures log { (Device-dyn result.now).served result.now.1
+        ≡ (Device-box device.now).served device.now.value }
+    ensures count { (Device-dyn result.now).fault_count result.now.1
+        ≡ (Device-box device.now).fault_count device.now.value }
 {
     &**device
 }
@@ -115,13 +119,34 @@ impl DeviceSet {
         &mut self,
         device: Box<dyn Device>,
     ) -> Result<Option<Box<dyn Device>>, Box<dyn Device>>
-        ensures attached { OnOk result (⟦<DeviceSet as Devices>⟧.shown self.new ≡ attached (⟦<DeviceSet as Devices>⟧.shown self.old) (record { name = title device; log = served device; count = fault_count device })) }
-        ensures replaced { IfOk result (λ old. option_map (λ b. record { name = title b; log = served b; count = fault_count b }) old ≡ device_named (⟦<DeviceSet as Devices>⟧.shown self.old) (title device)) }
-        ensures unchanged { OnErr result (⟦<DeviceSet as Devices>⟧.shown self.new ≡ ⟦<DeviceSet as Devices>⟧.shown self.old) }
-        ensures refused { IfErr result (λ b. (title b ≡ title device) × (served b ≡ served device) × (fault_count b ≡ fault_count device)) }
-        ensures replacing { OnErr result (device_named (⟦<DeviceSet as Devices>⟧.shown self.old) (title device) ≡ None) }
-        ensures distinct { AreDistinct (names (⟦<DeviceSet as Devices>⟧.shown self.old)) → AreDistinct (names (⟦<DeviceSet as Devices>⟧.shown self.new)) }
-        ensures maps { OnOk result ((name : List ℕ) → device_named (⟦<DeviceSet as Devices>⟧.shown self.new) name ≡ if bytes_eq (title device) name then Some (record { name = title device; log = served device; count = fault_count device }) else device_named (⟦<DeviceSet as Devices>⟧.shown self.old) name) }
+        ensures attached { OnOk result
+            (⟦<DeviceSet as Devices>⟧.shown self.new
+            ≡ attached (⟦<DeviceSet as Devices>⟧.shown self.old) (record {
+              name = title device;
+              log = served device;
+              count = fault_count device;
+            })) }
+        ensures replaced { IfOk result (λ old. option_map (λ b. record {
+          name = title b;
+          log = served b;
+          count = fault_count b;
+        }) old ≡ device_named (⟦<DeviceSet as Devices>⟧.shown self.old) (title device)) }
+        ensures unchanged { OnErr result
+            (⟦<DeviceSet as Devices>⟧.shown self.new ≡ ⟦<DeviceSet as Devices>⟧.shown self.old) }
+        ensures refused { IfErr result
+            (λ b. (title b ≡ title device) × (served b ≡ served device)
+            × (fault_count b ≡ fault_count device)) }
+        ensures replacing { OnErr result
+            (device_named (⟦<DeviceSet as Devices>⟧.shown self.old) (title device) ≡ None) }
+        ensures distinct { AreDistinct (names (⟦<DeviceSet as Devices>⟧.shown self.old))
+            → AreDistinct (names (⟦<DeviceSet as Devices>⟧.shown self.new)) }
+        ensures maps { OnOk result ((name : List ℕ)
+            → device_named (⟦<DeviceSet as Devices>⟧.shown self.new) name
+            ≡ if bytes_eq (title device) name then Some (record {
+              name = title device;
+              log = served device;
+              count = fault_count device;
+            }) else device_named (⟦<DeviceSet as Devices>⟧.shown self.old) name) }
     {
         if let Some(place) = self.place(name_of(&device)) {
             return Ok(Some(mem::replace(&mut self.devices[place], device)));
@@ -134,10 +159,19 @@ impl DeviceSet {
 
     /// Takes the device of a name out of the set.
     pub fn release(&mut self, name: &str) -> Option<Box<dyn Device>>
-        ensures released { ⟦<DeviceSet as Devices>⟧.shown self.new ≡ released (⟦<DeviceSet as Devices>⟧.shown self.old) name.now }
-        ensures back { option_map (λ b. record { name = title b; log = served b; count = fault_count b }) result ≡ device_named (⟦<DeviceSet as Devices>⟧.shown self.old) name.now }
-        ensures distinct { AreDistinct (names (⟦<DeviceSet as Devices>⟧.shown self.old)) → AreDistinct (names (⟦<DeviceSet as Devices>⟧.shown self.new)) }
-        ensures maps { AreDistinct (names (⟦<DeviceSet as Devices>⟧.shown self.old)) → (other : List ℕ) → device_named (⟦<DeviceSet as Devices>⟧.shown self.new) other ≡ if bytes_eq name.now other then None else device_named (⟦<DeviceSet as Devices>⟧.shown self.old) other }
+        ensures released { ⟦<DeviceSet as Devices>⟧.shown self.new
+            ≡ released (⟦<DeviceSet as Devices>⟧.shown self.old) name.now }
+        ensures back { option_map (λ b. record {
+          name = title b;
+          log = served b;
+          count = fault_count b;
+        }) result ≡ device_named (⟦<DeviceSet as Devices>⟧.shown self.old) name.now }
+        ensures distinct { AreDistinct (names (⟦<DeviceSet as Devices>⟧.shown self.old))
+            → AreDistinct (names (⟦<DeviceSet as Devices>⟧.shown self.new)) }
+        ensures maps { AreDistinct (names (⟦<DeviceSet as Devices>⟧.shown self.old))
+            → (other : List ℕ) → device_named (⟦<DeviceSet as Devices>⟧.shown self.new) other
+            ≡ if bytes_eq name.now other then None else device_named
+            (⟦<DeviceSet as Devices>⟧.shown self.old) other }
     {
         match self.place(name) {
             Some(place) => Some(self.devices.remove(place)),
@@ -147,7 +181,11 @@ impl DeviceSet {
 
     /// The device of a name.
     pub fn get(&self, name: &str) -> Option<&dyn Device>
-        ensures { option_map (λ r. record { name = title r.now; log = served r.now; count = fault_count r.now }) result ≡ device_named (⟦<DeviceSet as Devices>⟧.shown self.now) name.now }
+        ensures { option_map (λ r. record {
+          name = title r.now;
+          log = served r.now;
+          count = fault_count r.now;
+        }) result ≡ device_named (⟦<DeviceSet as Devices>⟧.shown self.now) name.now }
     {
         match self.place(name) {
             Some(place) => Some(lent(&self.devices[place])),

@@ -21,7 +21,8 @@ pub trait Devices: Drop {
 
     /// The index of the device of a name.
     fn place(&self, name: &str) -> Option<usize>
-        ensures { MatchOption result (IsUnnamed (shown self.now) name.now) (λ i. IsPlace (shown self.now) name.now i) };
+        ensures { MatchOption result (IsUnnamed (shown self.now) name.now)
+            (λ i. IsPlace (shown self.now) name.now i) };
 
     /// The log of the device at an index.
     fn log(&self, place: usize) -> &[Served]
@@ -31,6 +32,8 @@ pub trait Devices: Drop {
     /// Calls the device at an index. The memory is that of the run, where there is one.
     fn call(&mut self, place: usize, call: &HostCall, memory: Option<&Memory>) -> DeviceAnswer
         requires { place < length (shown self.old) }
-        ensures others { shown self.new ≡ slice_set (shown self.old) place (slice_index_or (shown self.new) place no_device) }
-        ensures called { IsCalled result call.now (slice_index_or (shown self.old) place no_device) (slice_index_or (shown self.new) place no_device) };
+        ensures others { shown self.new
+            ≡ slice_set (shown self.old) place (slice_index_or (shown self.new) place no_device) }
+        ensures called { IsCalled result call.now (slice_index_or (shown self.old) place no_device)
+            (slice_index_or (shown self.new) place no_device) };
 }

@@ -81,9 +81,16 @@ impl<'a, S: Devices> Hosts<'a, S> {
         imports: &'a [Import],
     ) -> Self
         requires { AreDistinct (names (S.shown devices)) }
-        ensures state { result ≡ record { imports = imports.now; devices = S.shown devices; script = script; given = 0; served = [] } }
+        ensures state { result ≡ record {
+          imports = imports.now;
+          devices = S.shown devices;
+          script = script;
+          given = 0;
+          served = [];
+        } }
         ensures before { logs_before result ≡ logs (S.shown devices) }
-        ensures logs { (name : List ℕ) → log_named (logs_before result) name ≡ log_of (S.shown devices) name }
+        ensures logs { (name : List ℕ)
+            → log_named (logs_before result) name ≡ log_of (S.shown devices) name }
     {
         Hosts {
             alloc,
@@ -100,9 +107,13 @@ impl<'a, S: Devices> Hosts<'a, S> {
     pub fn into_devices(self) -> S
         ensures devices { S.shown result ≡ self.entry.devices }
         ensures distinct { AreDistinct (names self.entry.devices) }
-        ensures logged { (name : List ℕ) → is_named (names self.entry.devices) name ≡ true → log_of self.entry.devices name ≡ log_named (logs_before self.entry) name ++ of_module name self.entry.served }
-        ensures modules { self.entry.served ≡ map (with_module self.entry.imports) (calls_of self.entry).served }
-        ensures scripted { of_script (names self.entry.devices) self.entry.served ≡ take self.entry.given (replies_of self.entry.script) }
+        ensures logged { (name : List ℕ) → is_named (names self.entry.devices) name ≡ true
+            → log_of self.entry.devices name
+            ≡ log_named (logs_before self.entry) name ++ of_module name self.entry.served }
+        ensures modules { self.entry.served
+            ≡ map (with_module self.entry.imports) (calls_of self.entry).served }
+        ensures scripted { of_script (names self.entry.devices) self.entry.served
+            ≡ take self.entry.given (replies_of self.entry.script) }
         ensures given { self.entry.given ≤ length (replies_of self.entry.script) }
     {
         self.devices
@@ -210,11 +221,14 @@ impl<'a, S: Devices> HostSide for Hosts<'a, S> {
         ensures calls { Answers None call.now result (calls_of self.old) (calls_of self.new) }
         ensures exhausted { IsExhausted (is_used_up self.old import.now) result }
         ensures used { KeepsUse result (is_used_up self.old) (is_used_up self.new) }
-        ensures cause { HasCause import.now result (count_of self.old.devices) (count_of self.new.devices) }
-        ensures later { (name : List ℕ) → count_of self.old.devices name ≤ count_of self.new.devices name }
+        ensures cause { HasCause import.now result (count_of self.old.devices)
+            (count_of self.new.devices) }
+        ensures later { (name : List ℕ)
+            → count_of self.old.devices name ≤ count_of self.new.devices name }
         ensures names { names self.new.devices ≡ names self.old.devices }
         ensures script { self.new.script ≡ self.old.script }
-        ensures serving { (i : ImportValue) (t : TypeValue) → serves self.new i ≡ serves self.old i }
+        ensures serving { (i : ImportValue) (t : TypeValue)
+            → serves self.new i ≡ serves self.old i }
         ensures origin { origin_of self.new ≡ origin_of self.old }
         ensures served { ServesNext import.now call.now result self.old.served self.new.served }
     {

@@ -27,7 +27,8 @@ fn first_collector(imports: &[Import]) -> Option<usize>
 }
 
 fn first_memory_name(exports: &[Export]) -> Option<usize>
-    ensures { result ≡ position_from (λ e. bytes_eq e.name (codes "coredump.memory")) 0 exports.now }
+    ensures { result ≡ position_from (λ e. bytes_eq e.name (codes "coredump.memory")) 0
+        exports.now }
 {
     exports.iter().position(|export| is_memory_name(export))
 }
@@ -35,8 +36,10 @@ fn first_memory_name(exports: &[Export]) -> Option<usize>
 /// The first import from the collector's module.
 pub fn import_collision(source: &Module) -> Option<u32>
     requires { WithinLimits source.now }
-    ensures first { result ≡ position_from (λ i. bytes_eq i.«module» (codes "coredump")) 0 source.now.imports }
-    ensures none { result ≡ None → (f : ℕ) (i : Imported) → slice_get source.now.imports f ≡ Some i → bytes_eq i.«module» (codes "coredump") ≡ false }
+    ensures first { result ≡ position_from (λ i. bytes_eq i.«module» (codes "coredump")) 0
+        source.now.imports }
+    ensures none { result ≡ None → (f : ℕ) (i : Imported) → slice_get source.now.imports f ≡ Some i
+        → bytes_eq i.«module» (codes "coredump") ≡ false }
 {
     match first_collector(source.parts().imports.as_slice()) {
         Some(index) => Some(index as u32),
@@ -47,8 +50,10 @@ pub fn import_collision(source: &Module) -> Option<u32>
 /// The first export with the name under which the memory is exported.
 pub fn export_collision(source: &Module) -> Option<u32>
     requires { WithinLimits source.now }
-    ensures first { result ≡ position_from (λ e. bytes_eq e.name (codes "coredump.memory")) 0 source.now.exports }
-    ensures none { result ≡ None → AllByRecursion (λ e. bytes_eq e.name (codes "coredump.memory") ≡ false) source.now.exports }
+    ensures first { result ≡ position_from (λ e. bytes_eq e.name (codes "coredump.memory")) 0
+        source.now.exports }
+    ensures none { result ≡ None → AllByRecursion
+        (λ e. bytes_eq e.name (codes "coredump.memory") ≡ false) source.now.exports }
 {
     match first_memory_name(source.parts().exports.as_slice()) {
         Some(index) => Some(index as u32),

@@ -181,7 +181,8 @@ impl<'a> IndexMap<'a> {
     pub fn helper(&self, ftype: u32) -> u32
         requires { is_in ftype (types_used self.now) ≡ true }
         ensures flat { result ≡ helper_base self.now + place_in ftype (types_used self.now) }
-        ensures trees { (p : Program) → IsProgram p → p.module_ ≡ self.now → result ≡ helper_base self.now + place_in ftype (helped p) }
+        ensures trees { (p : Program) → IsProgram p → p.module_ ≡ self.now
+            → result ≡ helper_base self.now + place_in ftype (helped p) }
     {
         self.helper_base() + place_of(&self.places, self.helped.len(), ftype) as u32
     }

@@ -12,7 +12,9 @@ ghost use Rattle.index_map.specs.Wrapper.{HasWrapper, wrapper_of};
 
 /// A type that an instruction of the module uses has a helper, and the types that flat code uses are those of its trees.
 pub fn used_types_have_helpers()
-    ensures flat { (m : Parts) (i j t : ℕ) (body : Body) (o : Op) → slice_get m.bodies i ≡ Some body → slice_get body.ops j ≡ Some o → type_used o.code ≡ t ∷ [] → is_in t (types_used m) ≡ true }
+    ensures flat { (m : Parts) (i j t : ℕ) (body : Body) (o : Op) → slice_get m.bodies i ≡ Some body
+        → slice_get body.ops j ≡ Some o → type_used o.code ≡ t ∷ []
+        → is_in t (types_used m) ≡ true }
     ensures trees { (p : Program) → IsProgram p → helped p ≡ types_used p.module_ }
 {}
 
@@ -24,8 +26,13 @@ pub fn numbers_are_distinct()
     ensures value_no_frame { (m : Parts) (t : Sort) → value_import m t ≢ frame_import m }
     ensures function_no_value { (m : Parts) (f : ℕ) (t : Sort) → mapped m f ≢ value_import m t }
     ensures function_no_frame { (m : Parts) (f : ℕ) → mapped m f ≢ frame_import m }
-    ensures functions_before_wrappers { (m : Parts) (f : ℕ) → f < length (function_types m) → mapped m f < wrapper_base m }
-    ensures wrappers { (m : Parts) (i j : ℕ) → HasWrapper m i → HasWrapper m j → wrapper_of m i ≡ wrapper_of m j → i ≡ j }
-    ensures wrappers_before_helpers { (m : Parts) (i : ℕ) → HasWrapper m i → wrapper_of m i < helper_base m }
-    ensures helpers { (m : Parts) (t u : ℕ) → is_in t (types_used m) ≡ true → is_in u (types_used m) ≡ true → place_in t (types_used m) ≡ place_in u (types_used m) → t ≡ u }
+    ensures functions_before_wrappers { (m : Parts) (f : ℕ) → f < length (function_types m)
+        → mapped m f < wrapper_base m }
+    ensures wrappers { (m : Parts) (i j : ℕ) → HasWrapper m i → HasWrapper m j
+        → wrapper_of m i ≡ wrapper_of m j → i ≡ j }
+    ensures wrappers_before_helpers { (m : Parts) (i : ℕ) → HasWrapper m i
+        → wrapper_of m i < helper_base m }
+    ensures helpers { (m : Parts) (t u : ℕ) → is_in t (types_used m) ≡ true
+        → is_in u (types_used m) ≡ true → place_in t (types_used m) ≡ place_in u (types_used m)
+        → t ≡ u }
 {}

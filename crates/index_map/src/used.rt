@@ -20,7 +20,8 @@ pub(crate) struct UsedTypes {
 /// Meets a type.
 fn meet(met: &mut Vec<u32>, places: &mut [Option<usize>], t: u32) -> Result<(), NoMemory>
     requires { t < length places.old }
-    ensures { (us : List ℕ) → HasMet us met.old.items places.old → OnOk result (HasMet (t ∷ us) met.new.items places.new) }
+    ensures { (us : List ℕ) → HasMet us met.old.items places.old
+        → OnOk result (HasMet (t ∷ us) met.new.items places.new) }
 {
     match places[t as usize] {
         Some(_) => {}
@@ -35,7 +36,8 @@ fn meet(met: &mut Vec<u32>, places: &mut [Option<usize>], t: u32) -> Result<(), 
 /// Meets the type that an instruction uses.
 fn meet_instr(met: &mut Vec<u32>, places: &mut [Option<usize>], code: Instr) -> Result<(), NoMemory>
     requires { AllBelow (length places.old) (type_used code) }
-    ensures { (us : List ℕ) → HasMet us met.old.items places.old → OnOk result (HasMet (type_used code ++ us) met.new.items places.new) }
+    ensures { (us : List ℕ) → HasMet us met.old.items places.old
+        → OnOk result (HasMet (type_used code ++ us) met.new.items places.new) }
 {
     match code {
         Instr::Jump(Jump::CallIndirect(t)) => meet(met, places, t),
@@ -46,7 +48,8 @@ fn meet_instr(met: &mut Vec<u32>, places: &mut [Option<usize>], code: Instr) -> 
 /// Meets the types that flat code uses, from its end on.
 fn meet_code(met: &mut Vec<u32>, places: &mut [Option<usize>], ops: &[Op]) -> Result<(), NoMemory>
     requires { AllBelow (length places.old) (ops_used ops.now) }
-    ensures { (us : List ℕ) → HasMet us met.old.items places.old → OnOk result (HasMet (ops_used ops.now ++ us) met.new.items places.new) }
+    ensures { (us : List ℕ) → HasMet us met.old.items places.old
+        → OnOk result (HasMet (ops_used ops.now ++ us) met.new.items places.new) }
 {
     let mut i = ops.len();
     while i > 0 {
@@ -63,7 +66,8 @@ fn meet_bodies(
     bodies: &[Body],
 ) -> Result<(), NoMemory>
     requires { AllBelow (length places.old) (bodies_used bodies.now) }
-    ensures { (us : List ℕ) → HasMet us met.old.items places.old → OnOk result (HasMet (bodies_used bodies.now ++ us) met.new.items places.new) }
+    ensures { (us : List ℕ) → HasMet us met.old.items places.old
+        → OnOk result (HasMet (bodies_used bodies.now ++ us) met.new.items places.new) }
 {
     let mut i = bodies.len();
     while i > 0 {

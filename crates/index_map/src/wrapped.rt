@@ -12,7 +12,8 @@ use wasm_syntax::{Export, ExportKind, ModuleParts};
 
 /// Whether an export names a function that the module defines, behind so many imported ones.
 pub(crate) fn is_wrapped(imports: usize, export: &Export) -> bool
-    ensures { result ≡ (if is_function export.now.kind then not (nat_lt export.now.index imports) else false) }
+    ensures { result ≡ (if is_function export.now.kind then not (nat_lt export.now.index imports)
+        else false) }
 {
     match export.kind {
         ExportKind::Function => export.index as usize >= imports,
@@ -21,7 +22,8 @@ pub(crate) fn is_wrapped(imports: usize, export: &Export) -> bool
 }
 
 fn push_wrapped(out: &mut Vec<u32>, imports: usize, export: &Export) -> Result<(), NoMemory>
-    ensures { (m : Parts) → length m.imports ≡ imports → OnOk result (out.new.items ≡ out.old.items ++ wraps m export.now) }
+    ensures { (m : Parts) → length m.imports ≡ imports
+        → OnOk result (out.new.items ≡ out.old.items ++ wraps m export.now) }
 {
     if is_wrapped(imports, export) {
         out.push(export.index)?;
@@ -64,8 +66,11 @@ fn push_index(
     export: &Export,
 ) -> Result<usize, NoMemory>
     requires { next < 2 ^ 32 }
-    ensures index { (m : Parts) (k : ℕ) → length m.imports ≡ imports → next ≡ wrapper_base m + k → OnOk result (out.new.items ≡ out.old.items ++ new_index m k (wraps m export.now) export.now.index ∷ []) }
-    ensures next { (m : Parts) → length m.imports ≡ imports → IfOk result (λ behind. behind ≡ next + length (wraps m export.now)) }
+    ensures index { (m : Parts) (k : ℕ) → length m.imports ≡ imports → next ≡ wrapper_base m + k
+        → OnOk result (out.new.items
+        ≡ out.old.items ++ new_index m k (wraps m export.now) export.now.index ∷ []) }
+    ensures next { (m : Parts) → length m.imports ≡ imports
+        → IfOk result (λ behind. behind ≡ next + length (wraps m export.now)) }
 {
     if is_wrapped(imports, export) {
         out.push(next as u32)?;
@@ -80,7 +85,8 @@ fn push_index(
 pub(crate) fn indices(alloc: Global, parts: &ModuleParts, base: usize) -> Result<Vec<u32>, NoMemory>
     requires base { base ≡ wrapper_base parts.now }
     requires few { wrapper_base parts.now + length (export_wrapped parts.now) < 2 ^ 32 }
-    ensures { IfOk result (λ out. out.items ≡ map (λ e. e.index) (new_exports parts.now 0 parts.now.exports)) }
+    ensures { IfOk result (λ out. out.items
+        ≡ map (λ e. e.index) (new_exports parts.now 0 parts.now.exports)) }
 {
     let mut out = Vec::new(alloc);
     let imports = parts.imports.len();

@@ -54,7 +54,8 @@ fn collector_import(alloc: Global, name: &str, ftype: u32) -> Result<Import, NoM
 /// The imports of the module, and behind them those of the collector.
 pub(crate) fn new_imports(alloc: Global, parts: &ModuleParts) -> Result<Imports, NoMemory>
     requires { length parts.now.types + 3 < 2 ^ 32 }
-    ensures { IfOk result (λ imports. imports ≡ parts.now.imports ++ more_imports (length parts.now.types)) }
+    ensures { IfOk result (λ imports. imports
+        ≡ parts.now.imports ++ more_imports (length parts.now.types)) }
 {
     let types = parts.types.len() as u32;
     let mut imports = duplicates(alloc, &parts.imports)?;

@@ -30,7 +30,11 @@ fn renumbered(alloc: Global, exports: &[Export], indices: &[u32]) -> Result<Expo
 
 /// The export of the memory.
 fn memory_export(alloc: Global) -> Result<Export, NoMemory>
-    ensures { IfOk result (λ export. export ≡ record { name = codes "coredump.memory"; kind = Memory; index = 0 }) }
+    ensures { IfOk result (λ export. export ≡ record {
+      name = codes "coredump.memory";
+      kind = Memory;
+      index = 0;
+    }) }
 {
     Ok(Export {
         name: Text::from_str(alloc, "coredump.memory")?,
@@ -53,7 +57,8 @@ fn push_memory(alloc: Global, out: &mut Exports, memories: &LimitsList) -> Resul
 
 /// The exports of the module, those of functions that it defines with the indices of their wrappers, and behind them its memory.
 pub(crate) fn new_exports(alloc: Global, numbers: &IndexMap<'_>) -> Result<Exports, NoMemory>
-    ensures { IfOk result (λ exports. exports ≡ new_exports numbers.now 0 numbers.now.exports ++ memory_export numbers.now.memories) }
+    ensures { IfOk result (λ exports. exports
+        ≡ new_exports numbers.now 0 numbers.now.exports ++ memory_export numbers.now.memories) }
 {
     let parts = numbers.source();
     let mut exports = renumbered(alloc, parts.exports.as_slice(), numbers.exports())?;

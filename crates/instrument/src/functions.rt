@@ -49,7 +49,9 @@ fn push_helpers(out: &mut Indices, ftype: u32, helped: &[u32]) -> Result<(), NoM
 /// The types of the functions, and behind them those of wrappers and of helpers.
 pub(crate) fn new_functions(alloc: Global, numbers: &IndexMap<'_>) -> Result<Indices, NoMemory>
     requires { length numbers.now.types + 3 < 2 ^ 32 }
-    ensures { IfOk result (λ functions. functions ≡ numbers.now.functions ++ (map (wrapper_type numbers.now) (wrapped numbers.now) ++ map (λ u. length numbers.now.types + 3) (types_used numbers.now))) }
+    ensures { IfOk result (λ functions. functions
+        ≡ numbers.now.functions ++ (map (wrapper_type numbers.now) (wrapped numbers.now)
+        ++ map (λ u. length numbers.now.types + 3) (types_used numbers.now))) }
 {
     let parts = numbers.source();
     let mut functions = Items::from_slice(alloc, parts.functions.as_slice())?;

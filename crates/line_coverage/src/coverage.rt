@@ -52,7 +52,8 @@ impl Coverage {
         source: &ModuleParts,
         tally: &Tally,
     ) -> Result<Self, NoMemory>
-        ensures { IfOk result (CoversCounted (map (λ l. l.now) tables.now.items) source.now tally.now) }
+        ensures { IfOk result (CoversCounted (map (λ l. l.now) tables.now.items) source.now
+            tally.now) }
     {
         let mut visits = visits_of(alloc, source, tally)?;
         let spots = place_visits(alloc, tables, &mut visits)?;

@@ -67,7 +67,8 @@ impl Coverage {
             (entry_fault (H.serving hosts.old) source.now entry.now args.now) }
         ensures unchanged { (fault : Fault) → result ≡ Err (CoverFault.Entry fault)
             → (instance.new ≡ instance.old) × (hosts.new ≡ hosts.old) }
-        ensures covered { IfOk result (λ run. (f : ℕ) × (function_export source.now entry.now ≡ Some f)
+        ensures covered { IfOk result
+            (λ run. (f : ℕ) × (function_export source.now entry.now ≡ Some f)
             × ((p : Program) → IsOf instance.old p
             → CoversRun (map (λ l. l.now) tables.now.items) p (H.collecting hosts.old) depth
             (H.used_up hosts.new) f args.now fuel instance.old instance.new

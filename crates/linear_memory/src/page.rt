@@ -51,7 +51,8 @@ impl Page {
 
     #[inline(always)]
     pub(crate) fn bytes(&self) -> Option<&[u8]>
-        ensures { MatchOption result (self.now ≡ None) (λ bytes. (self.now ≡ Some bytes.now) × (length bytes.now ≡ 65536)) }
+        ensures { MatchOption result (self.now ≡ None)
+            (λ bytes. (self.now ≡ Some bytes.now) × (length bytes.now ≡ 65536)) }
     {
         match &self.raw {
             Some(raw) => Some(&raw.read()[..]),

@@ -31,9 +31,13 @@ impl Model for Memory {
 
     ghost Value = { Paged };
 
-    ghost view = { λ a. record { memory = record { bytes = contents a.pages.items; max = a.max }; made = map is_some a.pages.items } };
+    ghost view = { λ a. record {
+      memory = record { bytes = contents a.pages.items; max = a.max };
+      made = map is_some a.pages.items;
+    } };
 
-    ghost invariant = { λ a. AllWhole a.pages.items × (length a.pages.items ≤ a.max) × (a.max ≤ 4096) };
+    ghost invariant = { λ a. AllWhole a.pages.items × (length a.pages.items ≤ a.max)
+        × (a.max ≤ 4096) };
 }
 
 impl Memory {
@@ -121,11 +125,13 @@ impl Memory {
     #[tactic(auto, using(crate::proofs::Contents::length_of_contents))]
     #[inline(never)]
     pub fn write(&mut self, at: u64, bytes: &[u8]) -> Result<(), StoreFault>
-        ensures out { (result ≡ Err StoreFault.Out) ↔ (length self.old.memory.bytes < at + length bytes.now) }
+        ensures out { (result ≡ Err StoreFault.Out) ↔
+            (length self.old.memory.bytes < at + length bytes.now) }
         ensures memory { OnOk result (put self.old.memory at bytes.now ≡ Some self.new.memory) }
         ensures made { OnOk result (Makes self.old.made self.new.made at (length bytes.now)) }
         ensures refused { OnErr result (self.new ≡ self.old) }
-        ensures takes { AllMade self.old.made at (length bytes.now) → ¬ (result ≡ Err StoreFault.NoMemory) }
+        ensures takes { AllMade self.old.made at (length bytes.now)
+            → ¬ (result ≡ Err StoreFault.NoMemory) }
     {
         let end = 65536 * self.pages.len() as u64;
         let len = bytes.len() as u64;
@@ -162,7 +168,9 @@ impl Memory {
     /// Copies `len` bytes from `from` on, as they were before the call, to `to` (Core 2.0 4.4.7, `memory.copy`).
     #[tactic(auto, using(crate::proofs::Contents::length_of_contents))]
     pub fn copy(&mut self, to: u64, from: u64, len: u64) -> Result<(), StoreFault>
-        ensures out { (result ≡ Err StoreFault.Out) ↔ ((length self.old.memory.bytes < to + len) ⊎ (length self.old.memory.bytes < from + len)) }
+        ensures out { (result ≡ Err StoreFault.Out) ↔
+            ((length self.old.memory.bytes < to + len)
+            ⊎ (length self.old.memory.bytes < from + len)) }
         ensures memory { OnOk result (copy self.old.memory to from len ≡ Some self.new.memory) }
         ensures made { OnOk result (Makes self.old.made self.new.made to len) }
         ensures refused { OnErr result (self.new ≡ self.old) }
@@ -182,7 +190,8 @@ impl Memory {
     /// Adds pages of zeros, none of them made (Core 4.4.4, `memory.grow`).
     #[tactic(auto, using(crate::proofs::Contents::length_of_contents))]
     pub fn grow(&mut self, count: u32) -> GrowAnswer
-        ensures too_many { (result ≡ GrowAnswer.TooMany) ↔ (self.old.memory.max < pages self.old.memory + count) }
+        ensures too_many { (result ≡ GrowAnswer.TooMany) ↔
+            (self.old.memory.max < pages self.old.memory + count) }
         ensures growth { Grows result self.old self.new count }
     {
         let before = self.pages.len() as u32;
@@ -200,8 +209,10 @@ impl Memory {
     pub fn page(&self, index: u32) -> Option<&[u8]>
         requires { index < pages self.now.memory }
         ensures made { IsSome result ↔ IsMade self.now.made index }
-        ensures shown { IfSome result (λ bytes. bytes.now ≡ window self.now.memory.bytes (page_size * index) page_size) }
-        ensures absent { IfNone result (window self.now.memory.bytes (page_size * index) page_size ≡ replicate page_size 0) }
+        ensures shown { IfSome result
+            (λ bytes. bytes.now ≡ window self.now.memory.bytes (page_size * index) page_size) }
+        ensures absent { IfNone result
+            (window self.now.memory.bytes (page_size * index) page_size ≡ replicate page_size 0) }
     {
         bytes_at(&self.pages, index as usize)
     }

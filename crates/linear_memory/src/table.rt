@@ -12,7 +12,8 @@ use std::alloc::{AllocError, Global};
 // Adds `count` absent pages, or none where memory is wanting.
 fn push_absent(table: &mut Vec<Page>, count: usize) -> bool
     requires { count ≤ 4096 }
-    ensures { table.new.items ≡ (if result then table.old.items ++ replicate count None else table.old.items) }
+    ensures { table.new.items ≡ (if result then table.old.items
+        ++ replicate count None else table.old.items) }
 {
     let before = table.len();
     for _ in 0..count {
@@ -66,7 +67,8 @@ fn install(pages: &mut [Page], index: usize, page: Page)
     ensures whole { AllWhole pages.new }
     ensures stays { StaysMade (map is_some pages.old) (map is_some pages.new) }
     ensures made { IsMade (map is_some pages.new) index }
-    ensures only { (page : ℕ) → IsMade (map is_some pages.new) page → IsMade (map is_some pages.old) page ⊎ (page ≡ index) }
+    ensures only { (page : ℕ) → IsMade (map is_some pages.new) page
+        → IsMade (map is_some pages.old) page ⊎ (page ≡ index) }
 {
     if !pages[index].is_made() {
         pages[index] = page;
@@ -136,9 +138,11 @@ pub(crate) fn read_all(pages: &[Page], at: usize, into: &mut [u8])
 pub(crate) fn add_pages(table: &mut Vec<Page>, count: usize) -> bool
     requires whole { AllWhole table.old.items }
     requires small { count ≤ 4096 }
-    ensures contents { IsTrue result → contents table.new.items ≡ contents table.old.items ++ replicate (65536 * count) 0 }
+    ensures contents { IsTrue result
+        → contents table.new.items ≡ contents table.old.items ++ replicate (65536 * count) 0 }
     ensures whole { IsTrue result → AllWhole table.new.items }
-    ensures made { IsTrue result → map is_some table.new.items ≡ map is_some table.old.items ++ replicate count false }
+    ensures made { IsTrue result → map is_some table.new.items
+        ≡ map is_some table.old.items ++ replicate count false }
     ensures refused { (result ≡ false) → table.new.items ≡ table.old.items }
 {
     push_absent(table, count)
@@ -165,7 +169,10 @@ pub(crate) fn load_in(pages: &[Page], at: usize, width: usize) -> u64
 pub(crate) fn store_in(pages: &mut [Page], at: usize, width: usize, value: u64) -> bool
     requires whole { AllWhole pages.old }
     requires width { IsWidth width }
-    ensures stored { IsTrue result → (contents pages.new ≡ splice (contents pages.old) at (to_bytes width value)) × AllWhole pages.new × (map is_some pages.new ≡ map is_some pages.old) × AllMade (map is_some pages.new) at width × (at + width ≤ 65536 * length pages.old) }
+    ensures stored { IsTrue result
+        → (contents pages.new ≡ splice (contents pages.old) at (to_bytes width value))
+        × AllWhole pages.new × (map is_some pages.new ≡ map is_some pages.old)
+        × AllMade (map is_some pages.new) at width × (at + width ≤ 65536 * length pages.old) }
     ensures refused { (result ≡ false) → pages.new ≡ pages.old }
 {
     if at / 65536 < pages.len() && at % 65536 + width <= 65536 && pages[at / 65536].is_made() {
@@ -181,8 +188,10 @@ pub(crate) fn bytes_at(pages: &[Page], index: usize) -> Option<&[u8]>
     requires whole { AllWhole pages.now }
     requires inside { index < length pages.now }
     ensures made { IsSome result ↔ IsMade (map is_some pages.now) index }
-    ensures shown { IfSome result (λ bytes. bytes.now ≡ window (contents pages.now) (65536 * index) 65536) }
-    ensures absent { IfNone result (window (contents pages.now) (65536 * index) 65536 ≡ replicate 65536 0) }
+    ensures shown { IfSome result
+        (λ bytes. bytes.now ≡ window (contents pages.now) (65536 * index) 65536) }
+    ensures absent { IfNone result
+        (window (contents pages.now) (65536 * index) 65536 ≡ replicate 65536 0) }
 {
     match pages[index].bytes() {
         Some(bytes) => Some(bytes),
@@ -234,10 +243,12 @@ pub(crate) fn copy_table(pages: &[Page], alloc: Global) -> Result<Vec<Page>, All
 // Copies the `len` bytes from `from` on to `to`, as they were before, into pages that are made.
 pub(crate) fn move_all(pages: &mut [Page], to: usize, from: usize, len: usize)
     requires whole { AllWhole pages.old }
-    requires inside { (to + len ≤ 65536 * length pages.old) × (from + len ≤ 65536 * length pages.old) }
+    requires inside { (to + len ≤ 65536 * length pages.old)
+        × (from + len ≤ 65536 * length pages.old) }
     requires small { length pages.old ≤ 4096 }
     requires made { AllMade (map is_some pages.old) to len }
-    ensures contents { contents pages.new ≡ splice (contents pages.old) to (window (contents pages.old) from len) }
+    ensures contents { contents pages.new
+        ≡ splice (contents pages.old) to (window (contents pages.old) from len) }
     ensures whole { AllWhole pages.new }
     ensures made { map is_some pages.new ≡ map is_some pages.old }
 {
@@ -262,10 +273,12 @@ const PART: usize = 1024;
 // The same of a part, through a buffer. Returns its length.
 fn move_part(pages: &mut [Page], to: usize, from: usize, len: usize) -> usize
     requires whole { AllWhole pages.old }
-    requires inside { (to + len ≤ 65536 * length pages.old) × (from + len ≤ 65536 * length pages.old) }
+    requires inside { (to + len ≤ 65536 * length pages.old)
+        × (from + len ≤ 65536 * length pages.old) }
     requires small { (length pages.old ≤ 4096) × (len ≤ 1024) }
     requires made { AllMade (map is_some pages.old) to len }
-    ensures contents { contents pages.new ≡ splice (contents pages.old) to (window (contents pages.old) from len) }
+    ensures contents { contents pages.new
+        ≡ splice (contents pages.old) to (window (contents pages.old) from len) }
     ensures whole { AllWhole pages.new }
     ensures made { map is_some pages.new ≡ map is_some pages.old }
     ensures len { result ≡ len }

@@ -83,7 +83,8 @@ fn loaded_value(load: Load, n: u64) -> Value
 /// The value that a load finds at an address, or None past the end.
 #[inline(always)]
 pub(crate) fn load_at(memory: &Memory, load: Load, at: u64) -> Option<Value>
-    ensures { result ≡ option_map (λ n. value_of (load_type load) (loaded load n)) (load_of memory.now.memory at (load_bits load / 8)) }
+    ensures { result ≡ option_map (λ n. value_of (load_type load) (loaded load n))
+        (load_of memory.now.memory at (load_bits load / 8)) }
 {
     match memory.load(at, load_width(load)) {
         Some(n) => Some(loaded_value(load, n)),
@@ -127,7 +128,8 @@ pub(crate) fn stored_number(store: Store, v: Value) -> Option<u64>
 /// Writes the lowest bytes of a number at an address.
 #[inline(always)]
 pub(crate) fn store_at(memory: &mut Memory, store: Store, at: u64, n: u64) -> Performed
-    ensures { Writes (store_of memory.old.memory at (store_bits store / 8) n) result memory.old memory.new }
+    ensures { Writes (store_of memory.old.memory at (store_bits store / 8) n) result memory.old
+        memory.new }
 {
     match memory.store(at, store_width(store), n) {
         Ok(()) => Performed::Done,

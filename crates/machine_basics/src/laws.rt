@@ -9,5 +9,6 @@ ghost use Rattle.machine_basics.specs.Performs.{on_operands};
 
 /// No instruction changes the number of locals or globals, the table, the replies that are left or what was served.
 pub fn effects_keep()
-    ensures { (i : Instruction) (w : World) (locals operands : List Val) → EffectKeeps w locals (on_operands i w locals operands) }
+    ensures { (i : Instruction) (w : World) (locals operands : List Val)
+        → EffectKeeps w locals (on_operands i w locals operands) }
 {}

@@ -17,7 +17,9 @@ use wasm_syntax::{Load, Store, Value};
 
 #[inline(always)]
 pub(crate) fn load(values: &mut Stack<Value>, shared: &Shared, load: Load, offset: u32) -> Performed
-    ensures effect { (w : World) (ls : List Val) (align : ℕ) → Holds shared.now w → Acts (on_operands (basics.Load load align offset) w ls values.old) result w ls values.new }
+    ensures effect { (w : World) (ls : List Val) (align : ℕ) → Holds shared.now w
+        → Acts (on_operands (basics.Load load align offset) w ls values.old) result w ls
+        values.new }
     ensures room { result ≡ Performed.NoMemory → ⊥ }
     ensures same { UnlessDone result (values.new ≡ values.old) }
 {
@@ -58,7 +60,9 @@ pub(crate) fn store(
     store: Store,
     offset: u32,
 ) -> Performed
-    ensures effect { (w : World) (ls : List Val) (align : ℕ) → Holds shared.old w → Changes (on_operands (basics.Store store align offset) w ls values.old) result ls values.new shared.new }
+    ensures effect { (w : World) (ls : List Val) (align : ℕ) → Holds shared.old w
+        → Changes (on_operands (basics.Store store align offset) w ls values.old) result ls
+        values.new shared.new }
     ensures same { UnlessDone result ((values.new ≡ values.old) × (shared.new ≡ shared.old)) }
 {
     match (values.peek(0), values.peek(1)) {
@@ -75,7 +79,8 @@ pub(crate) fn store(
 
 #[inline(always)]
 pub(crate) fn size(values: &mut Stack<Value>, shared: &Shared) -> Performed
-    ensures effect { (w : World) (ls : List Val) → Holds shared.now w → Acts (on_operands basics.MemorySize w ls values.old) result w ls values.new }
+    ensures effect { (w : World) (ls : List Val) → Holds shared.now w
+        → Acts (on_operands basics.MemorySize w ls values.old) result w ls values.new }
     ensures same { UnlessDone result (values.new ≡ values.old) }
 {
     match &shared.memory {
@@ -96,7 +101,8 @@ fn grow_by(memory: &mut Memory, count: u32) -> Option<u32>
 }
 
 pub(crate) fn grow(values: &mut Stack<Value>, shared: &mut Shared) -> Performed
-    ensures effect { (w : World) (ls : List Val) → Holds shared.old w → Changes (on_operands basics.MemoryGrow w ls values.old) result ls values.new shared.new }
+    ensures effect { (w : World) (ls : List Val) → Holds shared.old w
+        → Changes (on_operands basics.MemoryGrow w ls values.old) result ls values.new shared.new }
     ensures same { UnlessDone result ((values.new ≡ values.old) × (shared.new ≡ shared.old)) }
 {
     match values.peek(0) {
@@ -125,7 +131,8 @@ fn top_three(values: &Stack<Value>) -> Option<(u32, u32, u32)>
 }
 
 pub(crate) fn copy(values: &mut Stack<Value>, shared: &mut Shared) -> Performed
-    ensures effect { (w : World) (ls : List Val) → Holds shared.old w → Changes (on_operands basics.MemoryCopy w ls values.old) result ls values.new shared.new }
+    ensures effect { (w : World) (ls : List Val) → Holds shared.old w
+        → Changes (on_operands basics.MemoryCopy w ls values.old) result ls values.new shared.new }
     ensures same { UnlessDone result ((values.new ≡ values.old) × (shared.new ≡ shared.old)) }
 {
     match top_three(values) {
@@ -138,7 +145,8 @@ pub(crate) fn copy(values: &mut Stack<Value>, shared: &mut Shared) -> Performed
 }
 
 pub(crate) fn fill(values: &mut Stack<Value>, shared: &mut Shared) -> Performed
-    ensures effect { (w : World) (ls : List Val) → Holds shared.old w → Changes (on_operands basics.MemoryFill w ls values.old) result ls values.new shared.new }
+    ensures effect { (w : World) (ls : List Val) → Holds shared.old w
+        → Changes (on_operands basics.MemoryFill w ls values.old) result ls values.new shared.new }
     ensures same { UnlessDone result ((values.new ≡ values.old) × (shared.new ≡ shared.old)) }
 {
     match top_three(values) {

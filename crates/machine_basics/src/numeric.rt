@@ -88,7 +88,8 @@ fn binary_64(op: Binary, a: u64, b: u64) -> Result<Value, ArithTrap>
 /// A conversion between the two types.
 #[inline(always)]
 pub(crate) fn convert(c: Convert, a: Value) -> Option<Value>
-    ensures { result ≡ option_map (λ n. value (convert_to c) (convert_of c n)) (number (convert_from c) a) }
+    ensures { result ≡ option_map (λ n. value (convert_to c) (convert_of c n))
+        (number (convert_from c) a) }
 {
     match (c, a) {
         (Convert::Wrap, Value::I64(n)) => Some(Value::I32(wrap(n))),

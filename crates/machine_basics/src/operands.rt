@@ -63,7 +63,8 @@ pub(crate) fn push(values: &mut Stack<Value>, v: Value) -> Performed
 
 #[inline(always)]
 pub(crate) fn drop_top(values: &mut Stack<Value>) -> Performed
-    ensures effect { (w : World) (ls : List Val) → Acts (on_operands basics.Drop w ls values.old) result w ls values.new }
+    ensures effect { (w : World) (ls : List Val)
+        → Acts (on_operands basics.Drop w ls values.old) result w ls values.new }
     ensures done { result ≡ Performed.Done }
 {
     values.discard(1);
@@ -73,7 +74,8 @@ pub(crate) fn drop_top(values: &mut Stack<Value>) -> Performed
 /// Leaves the deepest of three operands, or where the topmost one is 0, the one between.
 #[inline(always)]
 pub(crate) fn select(values: &mut Stack<Value>) -> Performed
-    ensures effect { (w : World) (ls : List Val) → Acts (on_operands basics.Select w ls values.old) result w ls values.new }
+    ensures effect { (w : World) (ls : List Val)
+        → Acts (on_operands basics.Select w ls values.old) result w ls values.new }
     ensures done { result ≡ Performed.Done }
 {
     match (values.peek(0), values.peek(1)) {
@@ -94,7 +96,8 @@ pub(crate) fn select(values: &mut Stack<Value>) -> Performed
 
 #[inline(always)]
 pub(crate) fn constant(values: &mut Stack<Value>, v: Value) -> Performed
-    ensures effect { (w : World) (ls : List Val) → Acts (on_operands (basics.Const v) w ls values.old) result w ls values.new }
+    ensures effect { (w : World) (ls : List Val)
+        → Acts (on_operands (basics.Const v) w ls values.old) result w ls values.new }
     ensures same { UnlessDone result (values.new ≡ values.old) }
 {
     push(values, v)
@@ -102,7 +105,8 @@ pub(crate) fn constant(values: &mut Stack<Value>, v: Value) -> Performed
 
 #[inline(always)]
 pub(crate) fn eqz(values: &mut Stack<Value>, t: ValType) -> Performed
-    ensures effect { (w : World) (ls : List Val) → Acts (on_operands (basics.Eqz t) w ls values.old) result w ls values.new }
+    ensures effect { (w : World) (ls : List Val)
+        → Acts (on_operands (basics.Eqz t) w ls values.old) result w ls values.new }
     ensures done { result ≡ Performed.Done }
 {
     match values.peek(0) {
@@ -113,7 +117,8 @@ pub(crate) fn eqz(values: &mut Stack<Value>, t: ValType) -> Performed
 
 #[inline(always)]
 pub(crate) fn unary(values: &mut Stack<Value>, t: ValType, op: Unary) -> Performed
-    ensures effect { (w : World) (ls : List Val) → Acts (on_operands (basics.Unary t op) w ls values.old) result w ls values.new }
+    ensures effect { (w : World) (ls : List Val)
+        → Acts (on_operands (basics.Unary t op) w ls values.old) result w ls values.new }
     ensures done { result ≡ Performed.Done }
 {
     match values.peek(0) {
@@ -124,7 +129,8 @@ pub(crate) fn unary(values: &mut Stack<Value>, t: ValType, op: Unary) -> Perform
 
 #[inline(always)]
 pub(crate) fn compare(values: &mut Stack<Value>, t: ValType, op: Compare) -> Performed
-    ensures effect { (w : World) (ls : List Val) → Acts (on_operands (basics.Compare t op) w ls values.old) result w ls values.new }
+    ensures effect { (w : World) (ls : List Val)
+        → Acts (on_operands (basics.Compare t op) w ls values.old) result w ls values.new }
     ensures done { result ≡ Performed.Done }
 {
     match values.peek(0) {
@@ -148,7 +154,8 @@ fn trap_of(trap: ArithTrap) -> TrapKind
 /// A division or a remainder may trap. The operands are then still there.
 #[inline(always)]
 pub(crate) fn binary(values: &mut Stack<Value>, t: ValType, op: Binary) -> Performed
-    ensures effect { (w : World) (ls : List Val) → Acts (on_operands (basics.Binary t op) w ls values.old) result w ls values.new }
+    ensures effect { (w : World) (ls : List Val)
+        → Acts (on_operands (basics.Binary t op) w ls values.old) result w ls values.new }
     ensures room { result ≡ Performed.NoMemory → ⊥ }
     ensures same { UnlessDone result (values.new ≡ values.old) }
 {
@@ -167,7 +174,8 @@ pub(crate) fn binary(values: &mut Stack<Value>, t: ValType, op: Binary) -> Perfo
 
 #[inline(always)]
 pub(crate) fn convert(values: &mut Stack<Value>, c: Convert) -> Performed
-    ensures effect { (w : World) (ls : List Val) → Acts (on_operands (basics.Convert c) w ls values.old) result w ls values.new }
+    ensures effect { (w : World) (ls : List Val)
+        → Acts (on_operands (basics.Convert c) w ls values.old) result w ls values.new }
     ensures done { result ≡ Performed.Done }
 {
     match values.peek(0) {
@@ -178,7 +186,8 @@ pub(crate) fn convert(values: &mut Stack<Value>, c: Convert) -> Performed
 
 #[inline(always)]
 pub(crate) fn extend_32(values: &mut Stack<Value>, bits: Narrow32) -> Performed
-    ensures effect { (w : World) (ls : List Val) → Acts (on_operands (basics.Extend32 bits) w ls values.old) result w ls values.new }
+    ensures effect { (w : World) (ls : List Val)
+        → Acts (on_operands (basics.Extend32 bits) w ls values.old) result w ls values.new }
     ensures done { result ≡ Performed.Done }
 {
     match values.peek(0) {
@@ -189,7 +198,8 @@ pub(crate) fn extend_32(values: &mut Stack<Value>, bits: Narrow32) -> Performed
 
 #[inline(always)]
 pub(crate) fn extend_64(values: &mut Stack<Value>, bits: Narrow64) -> Performed
-    ensures effect { (w : World) (ls : List Val) → Acts (on_operands (basics.Extend64 bits) w ls values.old) result w ls values.new }
+    ensures effect { (w : World) (ls : List Val)
+        → Acts (on_operands (basics.Extend64 bits) w ls values.old) result w ls values.new }
     ensures done { result ≡ Performed.Done }
 {
     match values.peek(0) {

@@ -68,7 +68,8 @@ impl<T: Copy + Drop> Stack<T> {
     /// Takes the topmost element away, if there is one.
     #[inline(always)]
     pub fn pop(&mut self) -> Option<T>
-        ensures { MatchOption result ((self.old ≡ []) × (self.new ≡ [])) (λ x. self.old ≡ x ∷ self.new) }
+        ensures { MatchOption result ((self.old ≡ []) × (self.new ≡ []))
+            (λ x. self.old ≡ x ∷ self.new) }
     {
         self.items.pop()
     }

@@ -19,7 +19,9 @@ pub fn perform(
     values: &mut Stack<Value>,
     shared: &mut Shared,
 ) -> Performed
-    ensures effect { (w : World) (operands locals below : List Val) → Holds shared.old w → values.old ≡ laid_out operands locals below → base ≡ length below → Did (on_operands instruction.now w locals operands) result below values.new shared.new }
+    ensures effect { (w : World) (operands locals below : List Val) → Holds shared.old w
+        → values.old ≡ laid_out operands locals below → base ≡ length below
+        → Did (on_operands instruction.now w locals operands) result below values.new shared.new }
     ensures same { UnlessDone result ((values.new ≡ values.old) × (shared.new ≡ shared.old)) }
     ensures room { result ≡ Performed.NoMemory → IsTrue (takes_memory instruction.now) }
 {

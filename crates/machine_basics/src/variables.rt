@@ -17,7 +17,9 @@ use wasm_syntax::Value;
 
 #[inline(always)]
 pub(crate) fn local_get(values: &mut Stack<Value>, base: usize, index: u32) -> Performed
-    ensures effect { (w : World) (operands locals below : List Val) → values.old ≡ laid_out operands locals below → base ≡ length below → Moves (on_operands (basics.LocalGet index) w locals operands) result w below values.new }
+    ensures effect { (w : World) (operands locals below : List Val)
+        → values.old ≡ laid_out operands locals below → base ≡ length below
+        → Moves (on_operands (basics.LocalGet index) w locals operands) result w below values.new }
     ensures same { UnlessDone result (values.new ≡ values.old) }
 {
     match values.at(base, index as usize) {
@@ -28,7 +30,9 @@ pub(crate) fn local_get(values: &mut Stack<Value>, base: usize, index: u32) -> P
 
 #[inline(always)]
 pub(crate) fn local_set(values: &mut Stack<Value>, base: usize, index: u32) -> Performed
-    ensures effect { (w : World) (operands locals below : List Val) → values.old ≡ laid_out operands locals below → base ≡ length below → Moves (on_operands (basics.LocalSet index) w locals operands) result w below values.new }
+    ensures effect { (w : World) (operands locals below : List Val)
+        → values.old ≡ laid_out operands locals below → base ≡ length below
+        → Moves (on_operands (basics.LocalSet index) w locals operands) result w below values.new }
     ensures done { result ≡ Performed.Done }
 {
     match values.pop() {
@@ -42,7 +46,9 @@ pub(crate) fn local_set(values: &mut Stack<Value>, base: usize, index: u32) -> P
 
 #[inline(always)]
 pub(crate) fn local_tee(values: &mut Stack<Value>, base: usize, index: u32) -> Performed
-    ensures effect { (w : World) (operands locals below : List Val) → values.old ≡ laid_out operands locals below → base ≡ length below → Moves (on_operands (basics.LocalTee index) w locals operands) result w below values.new }
+    ensures effect { (w : World) (operands locals below : List Val)
+        → values.old ≡ laid_out operands locals below → base ≡ length below
+        → Moves (on_operands (basics.LocalTee index) w locals operands) result w below values.new }
     ensures done { result ≡ Performed.Done }
 {
     match values.peek(0) {
@@ -58,7 +64,8 @@ pub(crate) fn local_tee(values: &mut Stack<Value>, base: usize, index: u32) -> P
 
 #[inline(always)]
 pub(crate) fn global_get(values: &mut Stack<Value>, shared: &Shared, index: u32) -> Performed
-    ensures effect { (w : World) (ls : List Val) → Holds shared.now w → Acts (on_operands (basics.GlobalGet index) w ls values.old) result w ls values.new }
+    ensures effect { (w : World) (ls : List Val) → Holds shared.now w
+        → Acts (on_operands (basics.GlobalGet index) w ls values.old) result w ls values.new }
     ensures same { UnlessDone result (values.new ≡ values.old) }
 {
     match shared.globals.get(index as usize) {
@@ -69,7 +76,9 @@ pub(crate) fn global_get(values: &mut Stack<Value>, shared: &Shared, index: u32)
 
 #[inline(always)]
 pub(crate) fn global_set(values: &mut Stack<Value>, shared: &mut Shared, index: u32) -> Performed
-    ensures effect { (w : World) (ls : List Val) → Holds shared.old w → Changes (on_operands (basics.GlobalSet index) w ls values.old) result ls values.new shared.new }
+    ensures effect { (w : World) (ls : List Val) → Holds shared.old w
+        → Changes (on_operands (basics.GlobalSet index) w ls values.old) result ls values.new
+        shared.new }
     ensures done { result ≡ Performed.Done }
 {
     match values.pop() {

@@ -31,7 +31,8 @@ fn has_first(results: &ValTypes) -> bool
 impl<'a> Code<'a> {
     /// The function with this body and this type.
     pub fn prepare(alloc: Global, body: &'a Body, ftype: &FuncType) -> Result<Code<'a>, NoMemory>
-        ensures { (tree : CodeTree) → Writes body.now.targets body.now.ops tree → IfOk result (λ code. (code.body.now ≡ body.now) × FitsCode tree ftype.now code) }
+        ensures { (tree : CodeTree) → Writes body.now.targets body.now.ops tree
+            → IfOk result (λ code. (code.body.now ≡ body.now) × FitsCode tree ftype.now code) }
     {
         let sides = side_table(alloc, body.ops.as_slice())?;
         Ok(Code {
@@ -59,7 +60,8 @@ impl<'a> Code<'a> {
     /// The label to which a `br_table` goes with an operand (Core 4.4.5).
     #[tactic(auto, using(crate::proofs::Targets::past))]
     pub fn target(&self, start: u32, count: u32, default: u32, operand: u32) -> u32
-        ensures { result ≡ pick (take count (drop start self.now.body.now.targets)) default operand }
+        ensures { result ≡ pick (take count (drop start self.now.body.now.targets)) default
+            operand }
     {
         if operand < count {
             let index = start as usize + operand as usize;

@@ -55,7 +55,11 @@ fn read_one(
     next: usize,
 ) -> Result<(), NoMemory>
     requires { next ≡ suc index }
-    ensures { (targets : List ℕ) → OnOk result (record { opens = opens.new; sides = reverse sides.new.items } ≡ scan_one index (item_of targets code) (record { opens = opens.old; sides = reverse sides.old.items })) }
+    ensures { (targets : List ℕ) → OnOk result (record {
+      opens = opens.new;
+      sides = reverse sides.new.items;
+    } ≡ scan_one index (item_of targets code)
+        (record { opens = opens.old; sides = reverse sides.old.items })) }
 {
     let side = match code {
         Instr::Block(_) | Instr::Loop(_) | Instr::If(_) => close(opens),
@@ -78,7 +82,8 @@ fn read_one(
 
 /// The table of a body, in one pass from its end to its start.
 pub fn side_table(alloc: Global, ops: &[Op]) -> Result<Items<Side>, NoMemory>
-    ensures { (targets : List ℕ) (tree : Tree) → WritesOut (code_of targets ops.now) tree → IfOk result (λ sides. Stands (code_of targets ops.now) sides tree) }
+    ensures { (targets : List ℕ) (tree : Tree) → WritesOut (code_of targets ops.now) tree
+        → IfOk result (λ sides. Stands (code_of targets ops.now) sides tree) }
 {
     let mut opens = Pile::new(alloc);
     let mut sides = Vec::new(alloc);

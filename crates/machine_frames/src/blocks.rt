@@ -20,7 +20,14 @@ fn carries(t: Option<ValType>) -> bool
 
 /// Opens a block, in which the instruction at `next` is run next.
 fn open(m: &mut CallStack, goes_to: usize, carries: bool, next: usize) -> Stepped
-    ensures { Becomes result m.new (record m.old { controls = record { goes_to = goes_to; height = length m.old.values; carries = carries } ∷ m.old.controls; position = next }) }
+    ensures { Becomes result m.new (record m.old {
+      controls = record {
+        goes_to = goes_to;
+        height = length m.old.values;
+        carries = carries;
+      } ∷ m.old.controls;
+      position = next;
+    }) }
 {
     let control = Control {
         goes_to,
@@ -39,7 +46,8 @@ fn open(m: &mut CallStack, goes_to: usize, carries: bool, next: usize) -> Steppe
 /// Opens a `block`.
 pub fn block(m: &mut CallStack, code: &Code, t: Option<ValType>, next: usize) -> Stepped
     requires { next ≡ m.old.position + 1 }
-    ensures { (x : Point) → Inner x m.old code.now → Reads m.old code.now (Opens t) → Meets x result (step_at x) m.new }
+    ensures { (x : Point) → Inner x m.old code.now → Reads m.old code.now (Opens t)
+        → Meets x result (step_at x) m.new }
 {
     match code.side(m.position) {
         Some(side) => open(m, side.end, carries(t), next),
@@ -50,7 +58,8 @@ pub fn block(m: &mut CallStack, code: &Code, t: Option<ValType>, next: usize) ->
 /// Opens a `loop`. A branch to it comes back to this instruction.
 pub fn loop_(m: &mut CallStack, next: usize) -> Stepped
     requires { next ≡ m.old.position + 1 }
-    ensures { (x : Point) (code : Prepared) (t : Option Sort) → Inner x m.old code → Reads m.old code (OpensLoop t) → Meets x result (step_at x) m.new }
+    ensures { (x : Point) (code : Prepared) (t : Option Sort) → Inner x m.old code
+        → Reads m.old code (OpensLoop t) → Meets x result (step_at x) m.new }
 {
     let here = m.position;
     open(m, here, false, next)
@@ -66,7 +75,8 @@ fn pick(n: u32, zero: usize, other: usize) -> usize
 /// Opens an arm of an `if`, by the condition on top.
 pub fn if_(m: &mut CallStack, code: &Code, t: Option<ValType>, next: usize) -> Stepped
     requires { next ≡ m.old.position + 1 }
-    ensures { (x : Point) → Inner x m.old code.now → Reads m.old code.now (OpensIf t) → Meets x result (step_at x) m.new }
+    ensures { (x : Point) → Inner x m.old code.now → Reads m.old code.now (OpensIf t)
+        → Meets x result (step_at x) m.new }
 {
     match code.side(m.position) {
         Some(side) => match m.values.pop() {

@@ -15,7 +15,11 @@ use wasm_syntax::Value;
 
 /// Goes where a branch to a block goes, with so many open blocks left.
 fn go(m: &mut CallStack, k: Control, left: usize) -> Stepped
-    ensures { (kept over below : List Val) (above ks : List Kept) → m.old.values ≡ kept ++ (over ++ below) → Carried k.carries kept → length below ≡ k.height → m.old.controls ≡ above ++ ks → length ks ≡ left → Becomes result m.new (record m.old { values = kept ++ below; controls = ks; position = k.goes_to }) }
+    ensures { (kept over below : List Val) (above ks : List Kept)
+        → m.old.values ≡ kept ++ (over ++ below) → Carried k.carries kept → length below ≡ k.height
+        → m.old.controls ≡ above ++ ks → length ks ≡ left
+        → Becomes result m.new (record m.old
+        { values = kept ++ below; controls = ks; position = k.goes_to }) }
 {
     match unwind(&mut m.values, k.carries, k.height) {
         Ok(()) => {
@@ -30,7 +34,8 @@ fn go(m: &mut CallStack, k: Control, left: usize) -> Stepped
 /// Goes on behind a block at its `end`, or leaves the function.
 pub fn end(m: &mut CallStack, gives: bool, next: usize) -> Stepped
     requires { next ≡ m.old.position + 1 }
-    ensures { (x : Point) (code : Prepared) → Inner x m.old code → gives ≡ code.gives → Reads m.old code End → Meets x result (step_at x) m.new }
+    ensures { (x : Point) (code : Prepared) → Inner x m.old code → gives ≡ code.gives
+        → Reads m.old code End → Meets x result (step_at x) m.new }
 {
     match m.frames.peek(0) {
         Some(frame) => {
@@ -48,7 +53,8 @@ pub fn end(m: &mut CallStack, gives: bool, next: usize) -> Stepped
 
 /// Goes on behind an `if` at the `else` behind its first arm.
 pub fn else_(m: &mut CallStack) -> Stepped
-    ensures { (x : Point) (code : Prepared) → Inner x m.old code → Reads m.old code Else → Meets x result (step_at x) m.new }
+    ensures { (x : Point) (code : Prepared) → Inner x m.old code → Reads m.old code Else
+        → Meets x result (step_at x) m.new }
 {
     match m.controls.pop() {
         Some(k) => {
@@ -61,7 +67,8 @@ pub fn else_(m: &mut CallStack) -> Stepped
 
 /// A branch to the block that has n others inside it, or out of the function.
 pub fn branch(m: &mut CallStack, gives: bool, n: usize) -> Stepped
-    ensures { (x : Point) (code : Prepared) → Inner x m.old code → gives ≡ code.gives → Meets x result (branch_at x n) m.new }
+    ensures { (x : Point) (code : Prepared) → Inner x m.old code → gives ≡ code.gives
+        → Meets x result (branch_at x n) m.new }
 {
     match m.frames.peek(0) {
         Some(frame) => {
@@ -83,7 +90,8 @@ pub fn branch(m: &mut CallStack, gives: bool, n: usize) -> Stepped
 /// A `br_if`.
 pub fn branch_if(m: &mut CallStack, gives: bool, n: u32, next: usize) -> Stepped
     requires { next ≡ m.old.position + 1 }
-    ensures { (x : Point) (code : Prepared) → Inner x m.old code → gives ≡ code.gives → Reads m.old code (Goes (BrIf n)) → Meets x result (step_at x) m.new }
+    ensures { (x : Point) (code : Prepared) → Inner x m.old code → gives ≡ code.gives
+        → Reads m.old code (Goes (BrIf n)) → Meets x result (step_at x) m.new }
 {
     match m.values.pop() {
         Some(Value::I32(c)) => {
@@ -101,7 +109,10 @@ pub fn branch_if(m: &mut CallStack, gives: bool, n: u32, next: usize) -> Stepped
 
 /// A `br_table`, whose targets are these of its body.
 pub fn branch_table(m: &mut CallStack, code: &Code, start: u32, count: u32, default: u32) -> Stepped
-    ensures { (x : Point) → Inner x m.old code.now → Reads m.old code.now (Goes (BrTable (take count (drop start code.now.body.now.targets)) default)) → Meets x result (step_at x) m.new }
+    ensures { (x : Point) → Inner x m.old code.now
+        → Reads m.old code.now (Goes
+        (BrTable (take count (drop start code.now.body.now.targets)) default))
+        → Meets x result (step_at x) m.new }
 {
     match m.values.pop() {
         Some(Value::I32(i)) => {

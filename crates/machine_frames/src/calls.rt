@@ -36,7 +36,8 @@ fn push_group(values: &mut Stack<Value>, group: LocalGroup) -> Result<(), NoMemo
 
 /// A zero for each local that a body declares, on top.
 fn push_locals(values: &mut Stack<Value>, groups: &[LocalGroup]) -> Result<(), NoMemory>
-    ensures { OnOk result (values.new ≡ reverse (zeros (declared_locals groups.now)) ++ values.old) }
+    ensures { OnOk result (values.new
+        ≡ reverse (zeros (declared_locals groups.now)) ++ values.old) }
 {
     for group in groups {
         push_group(values, *group)?;
@@ -84,7 +85,8 @@ fn is_full(m: &CallStack, depth: usize) -> bool
 }
 
 pub(crate) fn code_at<'a, 'b>(codes: &'b [Code<'a>], function: usize) -> Option<&'b Code<'a>>
-    ensures { MatchOption result (slice_get codes.now function ≡ None) (λ code. slice_get codes.now function ≡ Some code.now) }
+    ensures { MatchOption result (slice_get codes.now function ≡ None)
+        (λ code. slice_get codes.now function ≡ Some code.now) }
 {
     codes.get(function)
 }
@@ -98,7 +100,9 @@ pub fn call(
     next: usize,
 ) -> Stepped
     requires { next ≡ m.old.position + 1 }
-    ensures { (x : Point) (code : Prepared) (g : ℕ) → Inner x m.old code → x.codes ≡ codes.now → x.engine.depth ≡ depth → g ≡ length x.engine.program.module_.imports + function → Reads m.old code (Goes (Call g)) → Meets x result (step_at x) m.new }
+    ensures { (x : Point) (code : Prepared) (g : ℕ) → Inner x m.old code → x.codes ≡ codes.now
+        → x.engine.depth ≡ depth → g ≡ length x.engine.program.module_.imports + function
+        → Reads m.old code (Goes (Call g)) → Meets x result (step_at x) m.new }
 {
     match code_at(codes, function) {
         Some(callee) => {
@@ -121,7 +125,10 @@ pub fn call_under_index(
     next: usize,
 ) -> Stepped
     requires { next ≡ m.old.position + 1 }
-    ensures { (x : Point) (code : Prepared) (place : CallPlace x) → Inner x m.old code → x.codes ≡ codes.now → x.engine.depth ≡ depth → Meets x result (call_at x (length x.engine.program.module_.imports + function) place.operands place.at place.rest) m.new }
+    ensures { (x : Point) (code : Prepared) (place : CallPlace x) → Inner x m.old code
+        → x.codes ≡ codes.now → x.engine.depth ≡ depth
+        → Meets x result (call_at x (length x.engine.program.module_.imports + function)
+        place.operands place.at place.rest) m.new }
 {
     match code_at(codes, function) {
         Some(callee) => {

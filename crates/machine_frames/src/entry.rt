@@ -35,7 +35,10 @@ fn clear(m: &mut CallStack)
 
 /// Leaves all frames and begins a defined function, by its index among these, on arguments in the parameters' order.
 pub fn begin(m: &mut CallStack, codes: &[Code], function: usize, args: &[Value]) -> Stepped
-    ensures { (p : Program) (body : FunctionBody) (tree : CodeTree) (type : Signature) → Prepares p codes.now → defined_at p function ≡ Some (defined body tree type) → length args.now ≡ length type.params → Begun p codes.now function body tree type args.now result m.new }
+    ensures { (p : Program) (body : FunctionBody) (tree : CodeTree) (type : Signature)
+        → Prepares p codes.now → defined_at p function ≡ Some (defined body tree type)
+        → length args.now ≡ length type.params
+        → Begun p codes.now function body tree type args.now result m.new }
 {
     clear(m);
     match code_at(codes, function) {

@@ -18,7 +18,8 @@ pub(crate) fn unwind(
     carries: bool,
     height: usize,
 ) -> Result<(), NoMemory>
-    ensures { (kept over below : List Val) → values.old ≡ kept ++ (over ++ below) → Carried carries kept → length below ≡ height → OnOk result (values.new ≡ kept ++ below) }
+    ensures { (kept over below : List Val) → values.old ≡ kept ++ (over ++ below)
+        → Carried carries kept → length below ≡ height → OnOk result (values.new ≡ kept ++ below) }
 {
     if carries {
         match values.pop() {
@@ -36,7 +37,15 @@ pub(crate) fn unwind(
 
 /// Drops the innermost frame and leaves its result, if it gives one.
 fn drop_frame(m: &mut CallStack, gives: bool) -> Stepped
-    ensures { (kept over below : List Val) (above ks : List Kept) (e : Framed) (es : List Framed) → m.old.values ≡ kept ++ (over ++ below) → Carried gives kept → length below ≡ e.base → m.old.controls ≡ above ++ ks → length ks ≡ e.controls → m.old.frames ≡ e ∷ es → Leaves result es m.new (record { values = kept ++ below; controls = ks; frames = es; position = e.returns_to }) }
+    ensures { (kept over below : List Val) (above ks : List Kept) (e : Framed) (es : List Framed)
+        → m.old.values ≡ kept ++ (over ++ below) → Carried gives kept → length below ≡ e.base
+        → m.old.controls ≡ above ++ ks → length ks ≡ e.controls → m.old.frames ≡ e ∷ es
+        → Leaves result es m.new (record {
+          values = kept ++ below;
+          controls = ks;
+          frames = es;
+          position = e.returns_to;
+        }) }
 {
     match m.frames.pop() {
         Some(frame) => match unwind(&mut m.values, gives, frame.base) {
@@ -57,7 +66,8 @@ fn drop_frame(m: &mut CallStack, gives: bool) -> Stepped
 
 /// Leaves the function with its result on top, if it gives one.
 pub fn leave(m: &mut CallStack, gives: bool) -> Stepped
-    ensures { (x : Point) (code : Prepared) → Inner x m.old code → gives ≡ code.gives → Meets x result (return_at x) m.new }
+    ensures { (x : Point) (code : Prepared) → Inner x m.old code → gives ≡ code.gives
+        → Meets x result (return_at x) m.new }
 {
     drop_frame(m, gives)
 }

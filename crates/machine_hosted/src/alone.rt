@@ -66,10 +66,14 @@ fn ask<H: HostSide>(
     requires served { H.serving hosts.old import.now ftype.now ≡ true }
     requires args { types args.now ≡ ftype.now.params }
     requires one { length ftype.now.results ≤ 1 }
-    ensures calls { Answers (told (H.collecting hosts.old) import.now (host_call index import.now ftype.now args.now)) (host_call index import.now ftype.now args.now) result (H.calls hosts.old) (H.calls hosts.new) }
+    ensures calls { Answers (told (H.collecting hosts.old) import.now
+        (host_call index import.now ftype.now args.now))
+        (host_call index import.now ftype.now args.now) result (H.calls hosts.old)
+        (H.calls hosts.new) }
     ensures exhausted { IsExhausted (H.used_up hosts.old import.now) result }
     ensures used { KeepsUse result (H.used_up hosts.old) (H.used_up hosts.new) }
-    ensures cause { AnswerHasCause import.now result (H.fault_count hosts.old) (H.fault_count hosts.new) }
+    ensures cause { AnswerHasCause import.now result (H.fault_count hosts.old)
+        (H.fault_count hosts.new) }
     ensures host { HostKept H.origin H.collecting H.serving H.fault_count hosts.old hosts.new }
 {
     match Items::from_slice(alloc, args) {
@@ -96,7 +100,12 @@ pub(crate) fn call_alone<H: HostSide>(
     requires served { H.serving hosts.old import.now ftype.now ≡ true }
     requires args { types args.now ≡ ftype.now.params }
     requires one { length ftype.now.results ≤ 1 }
-    ensures came { (p : Program) (codes : List FlatCode) (depth : ℕ) (w : World) (co : List Collected) → slice_get p.module_.imports index ≡ Some import.now → Shares m.old w → WorldFits p.module_ w → FunctionCameWith p codes (H.used_up hosts.new) (alone (engine p (H.collecting hosts.old) depth) (host_call index import.now ftype.now args.now) w co) w co fuel result.answer result.steps m.new (H.calls hosts.old) (H.calls hosts.new) }
+    ensures came { (p : Program) (codes : List FlatCode) (depth : ℕ) (w : World)
+        (co : List Collected) → slice_get p.module_.imports index ≡ Some import.now → Shares m.old w
+        → WorldFits p.module_ w → FunctionCameWith p codes (H.used_up hosts.new)
+        (alone (engine p (H.collecting hosts.old) depth)
+        (host_call index import.now ftype.now args.now) w co) w co fuel result.answer result.steps
+        m.new (H.calls hosts.old) (H.calls hosts.new) }
     ensures cause { HasCause result.answer (H.fault_count hosts.old) (H.fault_count hosts.new) }
     ensures host { HostKept H.origin H.collecting H.serving H.fault_count hosts.old hosts.new }
 {

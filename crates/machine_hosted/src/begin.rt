@@ -27,7 +27,15 @@ pub(crate) fn begin_function(
     function: usize,
     args: &[Value],
 ) -> Result<(), NoMemory>
-    ensures { (engine : Engine) (body : FunctionBody) (tree : CodeTree) (type : Signature) (w : World) (co : List Collected) → ValidProgram engine.program → IsPrepared engine.program prepared.now → Shares m.old w → WorldFits engine.program.module_ w → defined_at engine.program function ≡ Some (defined body tree type) → types args.now ≡ type.params → OnOk result (Begins engine prepared.now engine.depth (config (entered (length engine.program.module_.imports + function) body tree type args.now ∷ []) w co) m.new) }
+    ensures { (engine : Engine) (body : FunctionBody) (tree : CodeTree) (type : Signature)
+        (w : World) (co : List Collected) → ValidProgram engine.program
+        → IsPrepared engine.program prepared.now → Shares m.old w
+        → WorldFits engine.program.module_ w
+        → defined_at engine.program function ≡ Some (defined body tree type)
+        → types args.now ≡ type.params
+        → OnOk result (Begins engine prepared.now engine.depth
+        (config (entered (length engine.program.module_.imports + function) body tree type args.now
+        ∷ []) w co) m.new) }
 {
     match begin(&mut m.stack, &prepared.codes, function, args) {
         Stepped::Next => Ok(()),

@@ -57,7 +57,8 @@ pub(crate) fn is_told(
     result_type: Option<ValType>,
     args: &[Value],
 ) -> bool
-    ensures { result ≡ is_some (if collects then if_none result_type (collector_call import.now args.now) else None) }
+    ensures { result ≡ is_some (if collects then if_none result_type
+        (collector_call import.now args.now) else None) }
 {
     collects && result_type.is_none() && takes(import, args)
 }

@@ -30,7 +30,11 @@ pub(crate) fn run_function<H: HostSide>(
     requires fits { MachineFits runner.now.source.now m.old }
     requires args { Takes runner.now.source.now function args.now }
     requires host { HostServes (H.origin hosts.old) (H.serving hosts.old) runner.now.source.now }
-    ensures came { (p : Program) (w : World) (co : List Collected) → p.module_ ≡ runner.now.source.now → IsProgram p → Shares m.old w → FunctionCameWith p runner.now.prepared.now.codes.items (H.used_up hosts.new) (function_going (engine p (H.collecting hosts.old) runner.now.depth) function args.now w co) w co fuel result.answer result.steps m.new (H.calls hosts.old) (H.calls hosts.new) }
+    ensures came { (p : Program) (w : World) (co : List Collected)
+        → p.module_ ≡ runner.now.source.now → IsProgram p → Shares m.old w
+        → FunctionCameWith p runner.now.prepared.now.codes.items (H.used_up hosts.new)
+        (function_going (engine p (H.collecting hosts.old) runner.now.depth) function args.now w co)
+        w co fuel result.answer result.steps m.new (H.calls hosts.old) (H.calls hosts.new) }
     ensures within { result.steps ≤ fuel }
     ensures fits { FitsThen runner.now.source.now result.answer m.new }
     ensures cause { HasCause result.answer (H.fault_count hosts.old) (H.fault_count hosts.new) }

@@ -60,11 +60,16 @@ pub(crate) fn call_host<H: HostSide>(
     requires served { H.serving hosts.old import.now ftype.now ≡ true }
     requires types { types args ≡ ftype.now.params }
     requires results { length ftype.now.results ≤ 1 }
-    ensures calls { Answers (told (H.collecting hosts.old) import.now (host_call function import.now ftype.now args)) (host_call function import.now ftype.now args) result.answer (H.calls hosts.old) (H.calls hosts.new) }
-    ensures told { result.told ≡ is_some (told (H.collecting hosts.old) import.now (host_call function import.now ftype.now args)) }
+    ensures calls { Answers (told (H.collecting hosts.old) import.now
+        (host_call function import.now ftype.now args))
+        (host_call function import.now ftype.now args) result.answer (H.calls hosts.old)
+        (H.calls hosts.new) }
+    ensures told { result.told ≡ is_some
+        (told (H.collecting hosts.old) import.now (host_call function import.now ftype.now args)) }
     ensures exhausted { IsExhausted (H.used_up hosts.old import.now) result.answer }
     ensures used { KeepsUse result.answer (H.used_up hosts.old) (H.used_up hosts.new) }
-    ensures cause { HasCause import.now result.answer (H.fault_count hosts.old) (H.fault_count hosts.new) }
+    ensures cause { HasCause import.now result.answer (H.fault_count hosts.old)
+        (H.fault_count hosts.new) }
     ensures host { HostKept H.origin H.collecting H.serving H.fault_count hosts.old hosts.new }
 {
     let told = is_told(

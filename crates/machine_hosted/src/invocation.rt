@@ -62,7 +62,12 @@ pub(crate) fn is_finished(answer: &RunEnd) -> bool
 }
 
 pub(crate) fn ended(answer: RunEnd, steps: u64, entered: bool) -> EntryRun
-    ensures { result ≡ record { answer = answer; steps = steps; ready = follows_behind answer entered; entered = entered } }
+    ensures { result ≡ record {
+      answer = answer;
+      steps = steps;
+      ready = follows_behind answer entered;
+      entered = entered;
+    } }
 {
     let ready = may_follow(&answer, entered);
     EntryRun {
@@ -89,7 +94,11 @@ pub fn run_invocation<H: HostSide>(
     requires start { IfSome start (λ f. Takes runner.now.source.now f []) }
     requires entry { Takes runner.now.source.now entry args.now }
     requires host { HostServes (H.origin hosts.old) (H.serving hosts.old) runner.now.source.now }
-    ensures came { (p : Program) → p.module_ ≡ runner.now.source.now → IsProgram p → InvocationCameWith p runner.now.prepared.now.codes.items (H.used_up hosts.new) (invoking (engine p (H.collecting hosts.old) runner.now.depth) start entry args.now (world_of m.old [])) fuel result.answer result.steps result.ready result.entered m.new (H.calls hosts.old) (H.calls hosts.new) }
+    ensures came { (p : Program) → p.module_ ≡ runner.now.source.now → IsProgram p
+        → InvocationCameWith p runner.now.prepared.now.codes.items (H.used_up hosts.new)
+        (invoking (engine p (H.collecting hosts.old) runner.now.depth) start entry args.now
+        (world_of m.old [])) fuel result.answer result.steps result.ready result.entered m.new
+        (H.calls hosts.old) (H.calls hosts.new) }
     ensures within { result.steps ≤ fuel }
     ensures fits { result.ready ≡ true → MachineFits runner.now.source.now m.new }
     ensures cause { HasCause result.answer (H.fault_count hosts.old) (H.fault_count hosts.new) }

@@ -24,7 +24,8 @@ fn take_under_index(values: &mut Stack<Value>, count: usize)
 
 /// Takes the arguments away, with the index of a table's entry above them, if there is one.
 fn take_arguments(values: &mut Stack<Value>, indirect: bool, count: usize)
-    ensures { (taken below : List Val) → Taken indirect count taken → values.old ≡ taken ++ below → values.new ≡ below }
+    ensures { (taken below : List Val) → Taken indirect count taken → values.old ≡ taken ++ below
+        → values.new ≡ below }
 {
     if indirect {
         take_under_index(values, count);
@@ -50,7 +51,12 @@ pub(crate) fn finish_call(
     count: usize,
     value: Option<Value>,
 ) -> Result<(), NoMemory>
-    ensures { (engine : Engine) (codes : List FlatCode) (c : Config) (s : Stepped) (before : Kept) (h : CallsImport engine codes c call s before) (then_world : World) (then_collected : List Collected) (args below : List Val) → m.old.stack ≡ before.stack → Shares m.old then_world → h.operands ≡ args ++ below → length args ≡ count → OnOk result (Finished engine codes c call s before h then_world then_collected value below m.new) }
+    ensures { (engine : Engine) (codes : List FlatCode) (c : Config) (s : Stepped) (before : Kept)
+        (h : CallsImport engine codes c call s before) (then_world : World)
+        (then_collected : List Collected) (args below : List Val) → m.old.stack ≡ before.stack
+        → Shares m.old then_world → h.operands ≡ args ++ below → length args ≡ count
+        → OnOk result (Finished engine codes c call s before h then_world then_collected value below
+        m.new) }
 {
     take_arguments(&mut m.stack.values, call.indirect, count);
     push_result(&mut m.stack.values, value)?;

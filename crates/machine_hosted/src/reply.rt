@@ -46,7 +46,11 @@ pub(crate) fn serve(
     wanted: Option<ValType>,
     reply: &Reply,
 ) -> Replied
-    ensures { (engine : Engine) (codes : List FlatCode) (c : Config) (s : Stepped) (left : List HostReply) (h : CallsImport engine codes c call s m.old) → length h.type.params ≡ count → result_of h.type ≡ wanted → c.world.replies ≡ reply.now ∷ left → NotCollected engine codes c call s m.old h → MeetsReply engine codes c call s m.old h reply.now left result s m.new }
+    ensures { (engine : Engine) (codes : List FlatCode) (c : Config) (s : Stepped)
+        (left : List HostReply) (h : CallsImport engine codes c call s m.old)
+        → length h.type.params ≡ count → result_of h.type ≡ wanted
+        → c.world.replies ≡ reply.now ∷ left → NotCollected engine codes c call s m.old h
+        → MeetsReply engine codes c call s m.old h reply.now left result s m.new }
 {
     if !fits_result(wanted, reply.value) {
         return Replied::Misfit;

@@ -30,9 +30,17 @@ fn resume_function<H: HostSide>(
 ) -> FunctionRun
     requires sound { Sound runner.now.source.now runner.now.prepared.now }
     requires args { Takes runner.now.source.now function args.now }
-    requires waits { (p : Program) → p.module_ ≡ runner.now.source.now → IsProgram p → (c : Config) × Waits (engine p (H.collecting hosts.old) runner.now.depth) function runner.now.prepared.now.codes.items m.old c }
+    requires waits { (p : Program) → p.module_ ≡ runner.now.source.now → IsProgram p
+        → (c : Config) × Waits (engine p (H.collecting hosts.old) runner.now.depth) function
+        runner.now.prepared.now.codes.items m.old c }
     requires host { HostServes (H.origin hosts.old) (H.serving hosts.old) runner.now.source.now }
-    ensures came { (p : Program) (c : Config) → p.module_ ≡ runner.now.source.now → IsProgram p → (w : Waits (engine p (H.collecting hosts.old) runner.now.depth) function runner.now.prepared.now.codes.items m.old c) → FunctionCameWith p runner.now.prepared.now.codes.items (H.used_up hosts.new) (resuming (engine p (H.collecting hosts.old) runner.now.depth) function w.fn args.now c) c.world c.collected fuel result.answer result.steps m.new (H.calls hosts.old) (H.calls hosts.new) }
+    ensures came { (p : Program) (c : Config) → p.module_ ≡ runner.now.source.now → IsProgram p
+        → (w : Waits (engine p (H.collecting hosts.old) runner.now.depth) function
+        runner.now.prepared.now.codes.items m.old c)
+        → FunctionCameWith p runner.now.prepared.now.codes.items (H.used_up hosts.new)
+        (resuming (engine p (H.collecting hosts.old) runner.now.depth) function w.fn args.now c)
+        c.world c.collected fuel result.answer result.steps m.new (H.calls hosts.old)
+        (H.calls hosts.new) }
     ensures within { result.steps ≤ fuel }
     ensures fits { FitsThen runner.now.source.now result.answer m.new }
     ensures cause { HasCause result.answer (H.fault_count hosts.old) (H.fault_count hosts.new) }
@@ -57,9 +65,18 @@ fn resume_start<H: HostSide>(
 ) -> EntryRun
     requires sound { Sound runner.now.source.now runner.now.prepared.now }
     requires start { runner.now.source.now.start ≡ Some start }
-    requires stopped { (p : Program) → p.module_ ≡ runner.now.source.now → IsProgram p → (course : Course) × (ready : Bool) × Followed p runner.now.prepared.now.codes.items (H.collecting hosts.old) runner.now.depth entry args.now runner.now.source.now course RunEnd.FuelSpent ready false m.old }
+    requires stopped { (p : Program) → p.module_ ≡ runner.now.source.now → IsProgram p
+        → (course : Course) × (ready : Bool)
+        × Followed p runner.now.prepared.now.codes.items (H.collecting hosts.old) runner.now.depth
+        entry args.now runner.now.source.now course RunEnd.FuelSpent ready false m.old }
     requires host { HostServes (H.origin hosts.old) (H.serving hosts.old) runner.now.source.now }
-    ensures came { (p : Program) (course : Course) (ready : Bool) → p.module_ ≡ runner.now.source.now → IsProgram p → Followed p runner.now.prepared.now.codes.items (H.collecting hosts.old) runner.now.depth entry args.now runner.now.source.now course RunEnd.FuelSpent ready false m.old → WentOn p runner.now.prepared.now.codes.items (H.collecting hosts.old) runner.now.depth entry args.now (H.used_up hosts.new) course fuel result m.new (H.calls hosts.old) (H.calls hosts.new) }
+    ensures came { (p : Program) (course : Course) (ready : Bool)
+        → p.module_ ≡ runner.now.source.now → IsProgram p
+        → Followed p runner.now.prepared.now.codes.items (H.collecting hosts.old) runner.now.depth
+        entry args.now runner.now.source.now course RunEnd.FuelSpent ready false m.old
+        → WentOn p runner.now.prepared.now.codes.items (H.collecting hosts.old) runner.now.depth
+        entry args.now (H.used_up hosts.new) course fuel result m.new (H.calls hosts.old)
+        (H.calls hosts.new) }
     ensures within { result.steps ≤ fuel }
     ensures fits { result.ready ≡ true → MachineFits runner.now.source.now m.new }
     ensures cause { HasCause result.answer (H.fault_count hosts.old) (H.fault_count hosts.new) }
@@ -86,9 +103,18 @@ pub fn resume_invocation<H: HostSide>(
     hosts: &mut H,
 ) -> EntryRun
     requires sound { Sound runner.now.source.now runner.now.prepared.now }
-    requires stopped { (p : Program) → p.module_ ≡ runner.now.source.now → IsProgram p → (course : Course) × (ready : Bool) × Followed p runner.now.prepared.now.codes.items (H.collecting hosts.old) runner.now.depth entry args.now runner.now.source.now course RunEnd.FuelSpent ready entered m.old }
+    requires stopped { (p : Program) → p.module_ ≡ runner.now.source.now → IsProgram p
+        → (course : Course) × (ready : Bool)
+        × Followed p runner.now.prepared.now.codes.items (H.collecting hosts.old) runner.now.depth
+        entry args.now runner.now.source.now course RunEnd.FuelSpent ready entered m.old }
     requires host { HostServes (H.origin hosts.old) (H.serving hosts.old) runner.now.source.now }
-    ensures came { (p : Program) (course : Course) (ready : Bool) → p.module_ ≡ runner.now.source.now → IsProgram p → Followed p runner.now.prepared.now.codes.items (H.collecting hosts.old) runner.now.depth entry args.now runner.now.source.now course RunEnd.FuelSpent ready entered m.old → WentOn p runner.now.prepared.now.codes.items (H.collecting hosts.old) runner.now.depth entry args.now (H.used_up hosts.new) course fuel result m.new (H.calls hosts.old) (H.calls hosts.new) }
+    ensures came { (p : Program) (course : Course) (ready : Bool)
+        → p.module_ ≡ runner.now.source.now → IsProgram p
+        → Followed p runner.now.prepared.now.codes.items (H.collecting hosts.old) runner.now.depth
+        entry args.now runner.now.source.now course RunEnd.FuelSpent ready entered m.old
+        → WentOn p runner.now.prepared.now.codes.items (H.collecting hosts.old) runner.now.depth
+        entry args.now (H.used_up hosts.new) course fuel result m.new (H.calls hosts.old)
+        (H.calls hosts.new) }
     ensures within { result.steps ≤ fuel }
     ensures fits { result.ready ≡ true → MachineFits runner.now.source.now m.new }
     ensures cause { HasCause result.answer (H.fault_count hosts.old) (H.fault_count hosts.new) }

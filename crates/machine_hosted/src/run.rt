@@ -20,9 +20,14 @@ pub(crate) fn run_frames<H: HostSide>(
     fuel: u64,
     hosts: &mut H,
 ) -> FunctionRun
-    requires ready { Ready runner.now.prepared.now runner.now.source.now runner.now.depth m.old (H.collecting hosts.old) (H.serving hosts.old) }
+    requires ready { Ready runner.now.prepared.now runner.now.source.now runner.now.depth m.old
+        (H.collecting hosts.old) (H.serving hosts.old) }
     requires knows { Knows (H.origin hosts.old) runner.now.source.now }
-    ensures came { (r : Ready runner.now.prepared.now runner.now.source.now runner.now.depth m.old (H.collecting hosts.old) (H.serving hosts.old)) → CameWith r.engine.program runner.now.prepared.now.codes.items (H.used_up hosts.new) (going r.engine r.frames r.world r.collected) r.world r.collected fuel result.answer result.steps m.new (H.calls hosts.old) (H.calls hosts.new) }
+    ensures came { (r : Ready runner.now.prepared.now runner.now.source.now runner.now.depth m.old
+        (H.collecting hosts.old) (H.serving hosts.old))
+        → CameWith r.engine.program runner.now.prepared.now.codes.items (H.used_up hosts.new)
+        (going r.engine r.frames r.world r.collected) r.world r.collected fuel result.answer
+        result.steps m.new (H.calls hosts.old) (H.calls hosts.new) }
     ensures cause { HasCause result.answer (H.fault_count hosts.old) (H.fault_count hosts.new) }
     ensures host { HostKept H.origin H.collecting H.serving H.fault_count hosts.old hosts.new }
 {

@@ -25,7 +25,10 @@ pub(crate) fn arguments(
     call: ImportCall,
     count: usize,
 ) -> Result<Values, NoMemory>
-    ensures { (engine : Engine) (codes : List FlatCode) (c : Config) (s : Stepped) (h : CallsImport engine codes c call s m.now) (args below : List Val) → h.operands ≡ reverse args ++ below → length args ≡ count → IfOk result (λ taken. taken ≡ args) }
+    ensures { (engine : Engine) (codes : List FlatCode) (c : Config) (s : Stepped)
+        (h : CallsImport engine codes c call s m.now) (args below : List Val)
+        → h.operands ≡ reverse args ++ below → length args ≡ count
+        → IfOk result (λ taken. taken ≡ args) }
 {
     let values = m.stack.values.as_slice();
     let top = values.len().saturating_sub(above(call.indirect));

@@ -35,7 +35,13 @@ pub(crate) enum Turn {
 /// Goes on behind a call with its reply, or stops at it where the reply does not fit.
 fn after_reply(m: &mut Machine, call: ImportCall, ftype: &FuncType, reply: Reply) -> Turn
     ensures replied { IsReplied (end_of result) }
-    ensures turned { (used_up : ImportValue → Bool) (engine : Engine) (codes : List FlatCode) (import : ImportValue) (args : List Val) (c : Config) (left : List HostReply) → AtCall engine codes call import ftype.now args m.old c → told_by engine (host_call call.function import ftype.now args) ≡ None → c.world.replies ≡ reply ∷ left → Turned engine codes used_up (one_reply (host_call call.function import ftype.now args) reply) result c m.new left }
+    ensures turned { (used_up : ImportValue → Bool) (engine : Engine) (codes : List FlatCode)
+        (import : ImportValue) (args : List Val) (c : Config) (left : List HostReply)
+        → AtCall engine codes call import ftype.now args m.old c
+        → told_by engine (host_call call.function import ftype.now args) ≡ None
+        → c.world.replies ≡ reply ∷ left
+        → Turned engine codes used_up
+        (one_reply (host_call call.function import ftype.now args) reply) result c m.new left }
 {
     let count = ftype.params.len();
     match serve(m, call, count, result_type(ftype), &reply) {
@@ -48,7 +54,11 @@ fn after_reply(m: &mut Machine, call: ImportCall, ftype: &FuncType, reply: Reply
 /// Goes on behind a call of the collector, which gives no value.
 fn after_told(m: &mut Machine, call: ImportCall, ftype: &FuncType) -> Turn
     ensures replied { IsReplied (end_of result) }
-    ensures turned { (used_up : ImportValue → Bool) (engine : Engine) (codes : List FlatCode) (import : ImportValue) (args : List Val) (c : Config) (k : Collected) → AtCall engine codes call import ftype.now args m.old c → told_by engine (host_call call.function import ftype.now args) ≡ Some k → Turned engine codes used_up (one_told k) result c m.new c.world.replies }
+    ensures turned { (used_up : ImportValue → Bool) (engine : Engine) (codes : List FlatCode)
+        (import : ImportValue) (args : List Val) (c : Config) (k : Collected)
+        → AtCall engine codes call import ftype.now args m.old c
+        → told_by engine (host_call call.function import ftype.now args) ≡ Some k
+        → Turned engine codes used_up (one_told k) result c m.new c.world.replies }
 {
     match finish_call(m, call, ftype.params.len(), None) {
         Ok(()) => Turn::Goes,
@@ -63,9 +73,12 @@ pub(crate) fn serve_import<H: HostSide>(
     call: ImportCall,
     hosts: &mut H,
 ) -> Turn
-    requires calling { Calling runner.now.source.now call m.old (H.collecting hosts.old) (H.serving hosts.old) }
+    requires calling { Calling runner.now.source.now call m.old (H.collecting hosts.old)
+        (H.serving hosts.old) }
     requires knows { Knows (H.origin hosts.old) runner.now.source.now }
-    ensures turned { (k : Calling runner.now.source.now call m.old (H.collecting hosts.old) (H.serving hosts.old)) → TurnMeets k.engine k.codes (H.used_up hosts.new) result k.there m.new (H.calls hosts.old) (H.calls hosts.new) }
+    ensures turned { (k : Calling runner.now.source.now call m.old (H.collecting hosts.old)
+        (H.serving hosts.old)) → TurnMeets k.engine k.codes (H.used_up hosts.new) result k.there
+        m.new (H.calls hosts.old) (H.calls hosts.new) }
     ensures cause { HasCause (end_of result) (H.fault_count hosts.old) (H.fault_count hosts.new) }
     ensures host { HostKept H.origin H.collecting H.serving H.fault_count hosts.old hosts.new }
 {

@@ -24,7 +24,8 @@ use wasm_syntax::Value;
 
 /// The one step of an import that is called with no frame is seen, where there is a step.
 fn see_alone<W: Watch>(fuel: u64, watch: &mut W)
-    ensures { (m : Module) (seen : List (Option Place)) → W.Saw m watch.old seen → W.Saw m watch.new (seen ++ alone_places fuel) }
+    ensures { (m : Module) (seen : List (Option Place)) → W.Saw m watch.old seen
+        → W.Saw m watch.new (seen ++ alone_places fuel) }
 {
     if fuel > 0 {
         watch.see(None);
@@ -43,14 +44,25 @@ fn watch_defined<H: HostSide, W: Watch>(
 ) -> FunctionRun
     requires sound { Sound runner.now.source.now runner.now.prepared.now }
     requires fits { MachineFits runner.now.source.now m.old }
-    requires args { Takes runner.now.source.now (length runner.now.source.now.imports + function) args.now }
+    requires args { Takes runner.now.source.now (length runner.now.source.now.imports + function)
+        args.now }
     requires host { HostServes (H.origin hosts.old) (H.serving hosts.old) runner.now.source.now }
-    ensures came { (p : Program) (w : World) (co : List Collected) → p.module_ ≡ runner.now.source.now → IsProgram p → Shares m.old w → FunctionCameWith p runner.now.prepared.now.codes.items (H.used_up hosts.new) (function_going (engine p (H.collecting hosts.old) runner.now.depth) (length runner.now.source.now.imports + function) args.now w co) w co fuel result.answer result.steps m.new (H.calls hosts.old) (H.calls hosts.new) }
+    ensures came { (p : Program) (w : World) (co : List Collected)
+        → p.module_ ≡ runner.now.source.now → IsProgram p → Shares m.old w
+        → FunctionCameWith p runner.now.prepared.now.codes.items (H.used_up hosts.new)
+        (function_going (engine p (H.collecting hosts.old) runner.now.depth)
+        (length runner.now.source.now.imports + function) args.now w co) w co fuel result.answer
+        result.steps m.new (H.calls hosts.old) (H.calls hosts.new) }
     ensures within { result.steps ≤ fuel }
     ensures fits { FitsThen runner.now.source.now result.answer m.new }
     ensures cause { HasCause result.answer (H.fault_count hosts.old) (H.fault_count hosts.new) }
     ensures host { HostKept H.origin H.collecting H.serving H.fault_count hosts.old hosts.new }
-    ensures watched { (p : Program) (w : World) (co : List Collected) → p.module_ ≡ runner.now.source.now → IsProgram p → Shares m.old w → Watched W.Saw p.module_ (function_placing (engine p (H.collecting hosts.old) runner.now.depth) (length runner.now.source.now.imports + function) args.now w co) fuel result.answer result.steps watch.old watch.new (H.calls hosts.old) (H.calls hosts.new) }
+    ensures watched { (p : Program) (w : World) (co : List Collected)
+        → p.module_ ≡ runner.now.source.now → IsProgram p → Shares m.old w
+        → Watched W.Saw p.module_ (function_placing
+        (engine p (H.collecting hosts.old) runner.now.depth)
+        (length runner.now.source.now.imports + function) args.now w co) fuel result.answer
+        result.steps watch.old watch.new (H.calls hosts.old) (H.calls hosts.new) }
 {
     match begin_function(m, runner.prepared, function, args) {
         Ok(()) => watch_frames(runner, m, fuel, hosts, watch),
@@ -76,12 +88,20 @@ pub(crate) fn watch_function<H: HostSide, W: Watch>(
     requires fits { MachineFits runner.now.source.now m.old }
     requires args { Takes runner.now.source.now function args.now }
     requires host { HostServes (H.origin hosts.old) (H.serving hosts.old) runner.now.source.now }
-    ensures came { (p : Program) (w : World) (co : List Collected) → p.module_ ≡ runner.now.source.now → IsProgram p → Shares m.old w → FunctionCameWith p runner.now.prepared.now.codes.items (H.used_up hosts.new) (function_going (engine p (H.collecting hosts.old) runner.now.depth) function args.now w co) w co fuel result.answer result.steps m.new (H.calls hosts.old) (H.calls hosts.new) }
+    ensures came { (p : Program) (w : World) (co : List Collected)
+        → p.module_ ≡ runner.now.source.now → IsProgram p → Shares m.old w
+        → FunctionCameWith p runner.now.prepared.now.codes.items (H.used_up hosts.new)
+        (function_going (engine p (H.collecting hosts.old) runner.now.depth) function args.now w co)
+        w co fuel result.answer result.steps m.new (H.calls hosts.old) (H.calls hosts.new) }
     ensures within { result.steps ≤ fuel }
     ensures fits { FitsThen runner.now.source.now result.answer m.new }
     ensures cause { HasCause result.answer (H.fault_count hosts.old) (H.fault_count hosts.new) }
     ensures host { HostKept H.origin H.collecting H.serving H.fault_count hosts.old hosts.new }
-    ensures watched { (p : Program) (w : World) (co : List Collected) → p.module_ ≡ runner.now.source.now → IsProgram p → Shares m.old w → Watched W.Saw p.module_ (function_placing (engine p (H.collecting hosts.old) runner.now.depth) function args.now w co) fuel result.answer result.steps watch.old watch.new (H.calls hosts.old) (H.calls hosts.new) }
+    ensures watched { (p : Program) (w : World) (co : List Collected)
+        → p.module_ ≡ runner.now.source.now → IsProgram p → Shares m.old w
+        → Watched W.Saw p.module_ (function_placing
+        (engine p (H.collecting hosts.old) runner.now.depth) function args.now w co) fuel
+        result.answer result.steps watch.old watch.new (H.calls hosts.old) (H.calls hosts.new) }
 {
     let source = runner.source;
     let index = function as usize;

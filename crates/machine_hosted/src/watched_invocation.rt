@@ -32,12 +32,20 @@ fn watch_with_start<H: HostSide, W: Watch>(
     requires start { Takes runner.now.source.now start [] }
     requires entry { Takes runner.now.source.now entry args.now }
     requires host { HostServes (H.origin hosts.old) (H.serving hosts.old) runner.now.source.now }
-    ensures came { (p : Program) → p.module_ ≡ runner.now.source.now → IsProgram p → InvocationCameWith p runner.now.prepared.now.codes.items (H.used_up hosts.new) (invoking (engine p (H.collecting hosts.old) runner.now.depth) (Some start) entry args.now (world_of m.old [])) fuel result.answer result.steps result.ready result.entered m.new (H.calls hosts.old) (H.calls hosts.new) }
+    ensures came { (p : Program) → p.module_ ≡ runner.now.source.now → IsProgram p
+        → InvocationCameWith p runner.now.prepared.now.codes.items (H.used_up hosts.new)
+        (invoking (engine p (H.collecting hosts.old) runner.now.depth) (Some start) entry args.now
+        (world_of m.old [])) fuel result.answer result.steps result.ready result.entered m.new
+        (H.calls hosts.old) (H.calls hosts.new) }
     ensures within { result.steps ≤ fuel }
     ensures fits { result.ready ≡ true → MachineFits runner.now.source.now m.new }
     ensures cause { HasCause result.answer (H.fault_count hosts.old) (H.fault_count hosts.new) }
     ensures host { HostKept H.origin H.collecting H.serving H.fault_count hosts.old hosts.new }
-    ensures watched { (p : Program) → p.module_ ≡ runner.now.source.now → IsProgram p → Watched W.Saw p.module_ (invocation_placing (engine p (H.collecting hosts.old) runner.now.depth) (Some start) entry args.now (world_of m.old [])) fuel result.answer result.steps watch.old watch.new (H.calls hosts.old) (H.calls hosts.new) }
+    ensures watched { (p : Program) → p.module_ ≡ runner.now.source.now → IsProgram p
+        → Watched W.Saw p.module_ (invocation_placing
+        (engine p (H.collecting hosts.old) runner.now.depth) (Some start) entry args.now
+        (world_of m.old [])) fuel result.answer result.steps watch.old watch.new (H.calls hosts.old)
+        (H.calls hosts.new) }
 {
     let first = watch_function(runner, m, start, &[], fuel, hosts, watch);
     if !is_finished(&first.answer) {
@@ -65,12 +73,20 @@ pub fn watch_invocation<H: HostSide, W: Watch>(
     requires start { IfSome start (λ f. Takes runner.now.source.now f []) }
     requires entry { Takes runner.now.source.now entry args.now }
     requires host { HostServes (H.origin hosts.old) (H.serving hosts.old) runner.now.source.now }
-    ensures came { (p : Program) → p.module_ ≡ runner.now.source.now → IsProgram p → InvocationCameWith p runner.now.prepared.now.codes.items (H.used_up hosts.new) (invoking (engine p (H.collecting hosts.old) runner.now.depth) start entry args.now (world_of m.old [])) fuel result.answer result.steps result.ready result.entered m.new (H.calls hosts.old) (H.calls hosts.new) }
+    ensures came { (p : Program) → p.module_ ≡ runner.now.source.now → IsProgram p
+        → InvocationCameWith p runner.now.prepared.now.codes.items (H.used_up hosts.new)
+        (invoking (engine p (H.collecting hosts.old) runner.now.depth) start entry args.now
+        (world_of m.old [])) fuel result.answer result.steps result.ready result.entered m.new
+        (H.calls hosts.old) (H.calls hosts.new) }
     ensures within { result.steps ≤ fuel }
     ensures fits { result.ready ≡ true → MachineFits runner.now.source.now m.new }
     ensures cause { HasCause result.answer (H.fault_count hosts.old) (H.fault_count hosts.new) }
     ensures host { HostKept H.origin H.collecting H.serving H.fault_count hosts.old hosts.new }
-    ensures watched { (p : Program) → p.module_ ≡ runner.now.source.now → IsProgram p → Watched W.Saw p.module_ (invocation_placing (engine p (H.collecting hosts.old) runner.now.depth) start entry args.now (world_of m.old [])) fuel result.answer result.steps watch.old watch.new (H.calls hosts.old) (H.calls hosts.new) }
+    ensures watched { (p : Program) → p.module_ ≡ runner.now.source.now → IsProgram p
+        → Watched W.Saw p.module_ (invocation_placing
+        (engine p (H.collecting hosts.old) runner.now.depth) start entry args.now
+        (world_of m.old [])) fuel result.answer result.steps watch.old watch.new (H.calls hosts.old)
+        (H.calls hosts.new) }
 {
     match start {
         Some(function) => watch_with_start(runner, m, function, entry, args, fuel, hosts, watch),

@@ -33,8 +33,10 @@ fn all_fit(memory: &Memory, writes: &[Write]) -> bool
 
 /// Makes the writes, up to the first one that does not lie inside.
 fn write_each(memory: &mut Memory, writes: &[Write]) -> Result<(), StoreFault>
-    ensures done { OnOk result (after_writes (Some memory.old.memory) writes.now ≡ Some (Some memory.new.memory)) }
-    ensures out { result ≡ Err StoreFault.Out → after_writes (Some memory.old.memory) writes.now ≡ None }
+    ensures done { OnOk result (after_writes (Some memory.old.memory) writes.now
+        ≡ Some (Some memory.new.memory)) }
+    ensures out { result ≡ Err StoreFault.Out
+        → after_writes (Some memory.old.memory) writes.now ≡ None }
 {
     for write in writes {
         let bytes = write.bytes.as_slice();

@@ -23,7 +23,8 @@ fn imported(
     imports: &[Import],
     numbers: &Items<usize>,
 ) -> Result<(), NoMemory>
-    ensures { OnOk result (out.new.items ≡ out.old.items ++ map (λ i. get_or numbers.now i.ftype 0) imports.now) }
+    ensures { OnOk result (out.new.items
+        ≡ out.old.items ++ map (λ i. get_or numbers.now i.ftype 0) imports.now) }
 {
     for import in imports {
         out.push(number_at(numbers, import.ftype))?;
@@ -33,7 +34,8 @@ fn imported(
 
 /// The numbers of the types at these indices.
 fn defined(out: &mut Vec<usize>, types: &[u32], numbers: &Items<usize>) -> Result<(), NoMemory>
-    ensures { OnOk result (out.new.items ≡ out.old.items ++ map (λ t. get_or numbers.now t 0) types.now) }
+    ensures { OnOk result (out.new.items
+        ≡ out.old.items ++ map (λ t. get_or numbers.now t 0) types.now) }
 {
     for t in types {
         out.push(number_at(numbers, *t))?;
@@ -47,7 +49,8 @@ pub(crate) fn function_numbers(
     parts: &ModuleParts,
     numbers: &Items<usize>,
 ) -> Result<Items<usize>, NoMemory>
-    ensures { IfOk result (λ fs. fs ≡ map (λ t. get_or numbers.now t 0) (function_types parts.now)) }
+    ensures { IfOk result (λ fs. fs
+        ≡ map (λ t. get_or numbers.now t 0) (function_types parts.now)) }
 {
     let mut out = Vec::new(alloc);
     imported(&mut out, parts.imports.as_slice(), numbers)?;

@@ -81,7 +81,8 @@ fn go(nodes: &mut Vec<Node>, at: usize, letter: Letter) -> Result<usize, NoMemor
     ensures tree { IsTree nodes.new.items }
     ensures extends { Extends nodes.old.items nodes.new.items }
     ensures there { IfOk result (λ to. to < length nodes.new.items) }
-    ensures goes { (w : List Symbol) → reaches nodes.old.items w ≡ Some at → IfOk result (λ to. reaches nodes.new.items (letter ∷ w) ≡ Some to) }
+    ensures goes { (w : List Symbol) → reaches nodes.old.items w ≡ Some at
+        → IfOk result (λ to. reaches nodes.new.items (letter ∷ w) ≡ Some to) }
 {
     let node = nodes[at];
     match edge(node, letter) {
@@ -102,7 +103,9 @@ fn go_all(nodes: &mut Vec<Node>, at: usize, types: &[ValType]) -> Result<usize, 
     ensures tree { IsTree nodes.new.items }
     ensures extends { Extends nodes.old.items nodes.new.items }
     ensures there { IfOk result (λ to. to < length nodes.new.items) }
-    ensures goes { (w : List Symbol) → reaches nodes.old.items w ≡ Some at → IfOk result (λ to. reaches nodes.new.items (reverse (map letter_of types.now) ++ w) ≡ Some to) }
+    ensures goes { (w : List Symbol) → reaches nodes.old.items w ≡ Some at
+        → IfOk result (λ to. reaches nodes.new.items (reverse (map letter_of types.now) ++ w)
+        ≡ Some to) }
 {
     let mut to = at;
     for t in types {

@@ -22,7 +22,9 @@ fn prepare_one<'a>(
     body: &'a Body,
     ftype: Option<&FuncType>,
 ) -> Result<Code<'a>, NoMemory>
-    ensures { (tree : CodeTree) (type : Signature) → option_copied ftype.entry ≡ Some type → Writes body.now.targets body.now.ops tree → IfOk result (λ code. (code.body.now ≡ body.now) × FitsCode tree type code) }
+    ensures { (tree : CodeTree) (type : Signature) → option_copied ftype.entry ≡ Some type
+        → Writes body.now.targets body.now.ops tree
+        → IfOk result (λ code. (code.body.now ≡ body.now) × FitsCode tree type code) }
 {
     match ftype {
         Some(ftype) => Code::prepare(alloc, body, ftype),
@@ -37,7 +39,8 @@ fn prepare_one<'a>(
 
 /// The type of a defined function.
 fn type_of(lists: &ModuleParts, i: usize) -> Option<&FuncType>
-    ensures { option_copied result ≡ option_then (slice_get lists.now.functions i) (slice_get lists.now.types) }
+    ensures { option_copied result
+        ≡ option_then (slice_get lists.now.functions i) (slice_get lists.now.types) }
 {
     match lists.functions.get(i).copied() {
         Some(t) => lists.types.get(t as usize),
@@ -52,7 +55,10 @@ fn push_code<'a>(
     ftype: Option<&FuncType>,
     codes: &mut Vec<Code<'a>>,
 ) -> Result<(), NoMemory>
-    ensures { (p : Program) (i : ℕ) → IsProgram p → PreparesUpTo p i codes.old.items → slice_get p.module_.bodies i ≡ Some body.now → option_copied ftype.entry ≡ option_then (slice_get p.module_.functions i) (slice_get p.module_.types) → OnOk result (PreparesUpTo p (i + 1) codes.new.items) }
+    ensures { (p : Program) (i : ℕ) → IsProgram p → PreparesUpTo p i codes.old.items
+        → slice_get p.module_.bodies i ≡ Some body.now
+        → option_copied ftype.entry ≡ option_then (slice_get p.module_.functions i)
+        (slice_get p.module_.types) → OnOk result (PreparesUpTo p (i + 1) codes.new.items) }
 {
     let code = prepare_one(alloc, body, ftype)?;
     codes.push(code)?;
@@ -61,7 +67,8 @@ fn push_code<'a>(
 
 /// The code of each function that the module defines.
 fn prepare_codes<'a>(alloc: Global, lists: &'a ModuleParts) -> Result<Vec<Code<'a>>, NoMemory>
-    ensures { (p : Program) → p.module_ ≡ lists.now → IsProgram p → IfOk result (λ codes. PreparesUpTo p (length lists.now.bodies) codes.items) }
+    ensures { (p : Program) → p.module_ ≡ lists.now → IsProgram p
+        → IfOk result (λ codes. PreparesUpTo p (length lists.now.bodies) codes.items) }
 {
     let mut codes = Vec::new(alloc);
     let mut i = 0;
@@ -74,7 +81,8 @@ fn prepare_codes<'a>(alloc: Global, lists: &'a ModuleParts) -> Result<Vec<Code<'
 
 /// The module with its functions and types prepared.
 pub fn prepare<'a>(alloc: Global, source: &'a Module) -> Result<Prepared<'a>, NoMemory>
-    ensures { (p : Program) → p.module_ ≡ source.now → IsProgram p → IfOk result (λ prepared. IsPrepared p prepared) }
+    ensures { (p : Program) → p.module_ ≡ source.now → IsProgram p
+        → IfOk result (λ prepared. IsPrepared p prepared) }
 {
     let lists = source.parts();
     let codes = prepare_codes(alloc, lists)?;

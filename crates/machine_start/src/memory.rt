@@ -24,7 +24,8 @@ fn greatest_size(limits: Limits) -> u32
 /// The memory that a module declares, of zeros.
 fn empty_memory(alloc: Global, m: &ModuleParts) -> Result<Option<Memory>, NoMemory>
     requires { AllByRecursion MayBegin m.now.memories }
-    ensures { IfOk result (λ memory. option_map (λ k. k.memory) memory ≡ memory_at_first m.now.memories) }
+    ensures { IfOk result (λ memory. option_map (λ k. k.memory) memory
+        ≡ memory_at_first m.now.memories) }
 {
     match m.memories.as_slice() {
         [] => Ok(None),
@@ -37,9 +38,11 @@ fn empty_memory(alloc: Global, m: &ModuleParts) -> Result<Option<Memory>, NoMemo
 
 /// Writes the bytes of all data segments into a memory, in the order of the segments.
 fn fill_memory(memory: &mut Memory, m: &ModuleParts) -> Result<(), NoMemory>
-    requires size { length memory.old.memory.bytes ≡ length (memory_bytes (memory_at_first m.now.memories)) }
+    requires size { length memory.old.memory.bytes
+        ≡ length (memory_bytes (memory_at_first m.now.memories)) }
     requires fits { first_false 0 (map (data_fits m.now) m.now.segments) ≡ None }
-    ensures { OnOk result (memory.new.memory ≡ fold (put_data m.now) memory.old.memory m.now.segments) }
+    ensures { OnOk result (memory.new.memory
+        ≡ fold (put_data m.now) memory.old.memory m.now.segments) }
 {
     let segments = m.segments.as_slice();
     for segment in segments {

@@ -26,7 +26,9 @@ fn element(table: &[Option<u32>], index: u32) -> Option<Option<u32>>
 
 /// The function in an entry of the table, where it has the type that is asked for.
 pub(crate) fn resolve(prepared: &Prepared, table: &[Option<u32>], t: usize, index: u32) -> Entry
-    ensures { (engine : Engine) (w : World) → Numbered engine.program.module_ prepared.now.type_numbers prepared.now.function_numbers → w.table ≡ table.now → EntryFits engine w t index result }
+    ensures { (engine : Engine) (w : World)
+        → Numbered engine.program.module_ prepared.now.type_numbers prepared.now.function_numbers
+        → w.table ≡ table.now → EntryFits engine w t index result }
 {
     match element(table, index) {
         None => Entry::Trap(TrapKind::UndefinedElement),
@@ -43,7 +45,9 @@ fn number_at(numbers: &Items<usize>, index: usize) -> Option<usize>
 
 /// The function, where its type is the one of this index.
 fn of_type(prepared: &Prepared, t: usize, function: usize) -> Entry
-    ensures { (engine : Engine) (w : World) (index : ℕ) → Numbered engine.program.module_ prepared.now.type_numbers prepared.now.function_numbers → slice_get w.table index ≡ Some (Some function) → EntryFits engine w t index result }
+    ensures { (engine : Engine) (w : World) (index : ℕ)
+        → Numbered engine.program.module_ prepared.now.type_numbers prepared.now.function_numbers
+        → slice_get w.table index ≡ Some (Some function) → EntryFits engine w t index result }
 {
     match number_at(&prepared.type_numbers, t) {
         Some(wanted) => match number_at(&prepared.function_numbers, function) {

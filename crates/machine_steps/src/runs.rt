@@ -18,7 +18,8 @@ pub struct Ended {
 
 /// At most so many steps, up to the first one that does not go on. `Next` says that the fuel is spent.
 pub fn run(m: &mut Machine, prepared: &Prepared, depth: usize, fuel: u64) -> Ended
-    ensures { (engine : Engine) (c : Config) → Begins engine prepared.now depth c m.old → Came engine prepared.now.codes.items c fuel result.outcome result.steps m.new }
+    ensures { (engine : Engine) (c : Config) → Begins engine prepared.now depth c m.old
+        → Came engine prepared.now.codes.items c fuel result.outcome result.steps m.new }
 {
     run_watched(m, prepared, depth, fuel, &mut Unwatched {})
 }
@@ -31,8 +32,10 @@ pub fn run_watched<W: Watch>(
     fuel: u64,
     watch: &mut W,
 ) -> Ended
-    ensures came { (engine : Engine) (c : Config) → Begins engine prepared.now depth c m.old → Came engine prepared.now.codes.items c fuel result.outcome result.steps m.new }
-    ensures watched { Watched W.Saw prepared.now depth fuel m.old result.outcome result.steps watch.old watch.new }
+    ensures came { (engine : Engine) (c : Config) → Begins engine prepared.now depth c m.old
+        → Came engine prepared.now.codes.items c fuel result.outcome result.steps m.new }
+    ensures watched { Watched W.Saw prepared.now depth fuel m.old result.outcome result.steps
+        watch.old watch.new }
 {
     for i in 0..fuel {
         watch.see(standing(m));

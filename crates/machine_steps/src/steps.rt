@@ -20,7 +20,8 @@ use wasm_syntax::{Basic, Instr, Jump, Op, Value};
 /// Performs an instruction behind which the next one is run.
 fn basic(m: &mut Machine, instruction: &Basic, next: usize) -> Outcome
     requires { next ≡ m.old.stack.position + 1 }
-    ensures { (x : Point) (code : FlatCode) → Here x m.old code → Reads m.old.stack code (Plain instruction.now) → MeetsAt x result (step_at x) m.new }
+    ensures { (x : Point) (code : FlatCode) → Here x m.old code
+        → Reads m.old.stack code (Plain instruction.now) → MeetsAt x result (step_at x) m.new }
 {
     match m.stack.frames.peek(0) {
         Some(frame) => {
@@ -46,7 +47,9 @@ fn direct(
     next: usize,
 ) -> Outcome
     requires { next ≡ m.old.stack.position + 1 }
-    ensures { (x : Point) (code : FlatCode) → Here x m.old code → x.codes ≡ prepared.now.codes.items → IsPrepared x.engine.program prepared.now → x.engine.depth ≡ depth → Reads m.old.stack code (Goes (Call function)) → MeetsAt x result (step_at x) m.new }
+    ensures { (x : Point) (code : FlatCode) → Here x m.old code → x.codes ≡ prepared.now.codes.items
+        → IsPrepared x.engine.program prepared.now → x.engine.depth ≡ depth
+        → Reads m.old.stack code (Goes (Call function)) → MeetsAt x result (step_at x) m.new }
 {
     if function < prepared.imports {
         Outcome::Import(ImportCall {
@@ -69,7 +72,10 @@ fn under_index(
     next: usize,
 ) -> Outcome
     requires { next ≡ m.old.stack.position + 1 }
-    ensures { (x : Point) (code : FlatCode) (place : CallPlace x) → Here x m.old code → x.codes ≡ prepared.now.codes.items → IsPrepared x.engine.program prepared.now → x.engine.depth ≡ depth → MeetsAt x result (call_at x function place.operands place.at place.rest) m.new }
+    ensures { (x : Point) (code : FlatCode) (place : CallPlace x) → Here x m.old code
+        → x.codes ≡ prepared.now.codes.items → IsPrepared x.engine.program prepared.now
+        → x.engine.depth ≡ depth → MeetsAt x result
+        (call_at x function place.operands place.at place.rest) m.new }
 {
     if function < prepared.imports {
         Outcome::Import(ImportCall {
@@ -86,7 +92,9 @@ fn under_index(
 /// Calls the function in the table that the topmost operand names, where it has this type.
 fn indirect(m: &mut Machine, prepared: &Prepared, t: usize, depth: usize, next: usize) -> Outcome
     requires { next ≡ m.old.stack.position + 1 }
-    ensures { (x : Point) (code : FlatCode) → Here x m.old code → x.codes ≡ prepared.now.codes.items → IsPrepared x.engine.program prepared.now → x.engine.depth ≡ depth → Reads m.old.stack code (Goes (CallIndirect t)) → MeetsAt x result (step_at x) m.new }
+    ensures { (x : Point) (code : FlatCode) → Here x m.old code → x.codes ≡ prepared.now.codes.items
+        → IsPrepared x.engine.program prepared.now → x.engine.depth ≡ depth
+        → Reads m.old.stack code (Goes (CallIndirect t)) → MeetsAt x result (step_at x) m.new }
 {
     match m.stack.values.peek(0) {
         Some(Value::I32(index)) => match resolve(prepared, m.table.as_slice(), t, index) {
@@ -109,7 +117,10 @@ fn jump(
     next: usize,
 ) -> Outcome
     requires { next ≡ m.old.stack.position + 1 }
-    ensures { (x : Point) → Here x m.old code.now → x.codes ≡ prepared.now.codes.items → IsPrepared x.engine.program prepared.now → x.engine.depth ≡ depth → Reads m.old.stack code.now (Goes (jump_of code.now.body.now.targets jump)) → MeetsAt x result (step_at x) m.new }
+    ensures { (x : Point) → Here x m.old code.now → x.codes ≡ prepared.now.codes.items
+        → IsPrepared x.engine.program prepared.now → x.engine.depth ≡ depth
+        → Reads m.old.stack code.now (Goes (jump_of code.now.body.now.targets jump))
+        → MeetsAt x result (step_at x) m.new }
 {
     match jump {
         Jump::Unreachable => Outcome::Trap(TrapKind::Unreachable),
@@ -134,7 +145,10 @@ fn run_op(
     next: usize,
 ) -> Outcome
     requires { next ≡ m.old.stack.position + 1 }
-    ensures { (x : Point) → Here x m.old code.now → x.codes ≡ prepared.now.codes.items → IsPrepared x.engine.program prepared.now → x.engine.depth ≡ depth → Reads m.old.stack code.now (item_of code.now.body.now.targets op.code) → MeetsAt x result (step_at x) m.new }
+    ensures { (x : Point) → Here x m.old code.now → x.codes ≡ prepared.now.codes.items
+        → IsPrepared x.engine.program prepared.now → x.engine.depth ≡ depth
+        → Reads m.old.stack code.now (item_of code.now.body.now.targets op.code)
+        → MeetsAt x result (step_at x) m.new }
 {
     match op.code {
         Instr::Basic(instruction) => basic(m, &instruction, next),
@@ -148,7 +162,8 @@ fn run_op(
 }
 
 fn code_at<'a, 'b>(codes: &'b [Code<'a>], function: usize) -> Option<&'b Code<'a>>
-    ensures { MatchOption result (slice_get codes.now function ≡ None) (λ code. slice_get codes.now function ≡ Some code.now) }
+    ensures { MatchOption result (slice_get codes.now function ≡ None)
+        (λ code. slice_get codes.now function ≡ Some code.now) }
 {
     codes.get(function)
 }
@@ -168,7 +183,9 @@ fn op_at(code: &Code, position: usize) -> Option<Op>
 
 /// One step of the machine is one step of each configuration that it stands for.
 pub fn step(m: &mut Machine, prepared: &Prepared, depth: usize) -> Outcome
-    ensures { (engine : Engine) (c : Config) → IsPrepared engine.program prepared.now → engine.depth ≡ depth → StandsFor engine.program prepared.now.codes.items m.old c → Meets engine prepared.now.codes.items c result (step engine c) m.new }
+    ensures { (engine : Engine) (c : Config) → IsPrepared engine.program prepared.now
+        → engine.depth ≡ depth → StandsFor engine.program prepared.now.codes.items m.old c
+        → Meets engine prepared.now.codes.items c result (step engine c) m.new }
 {
     match m.stack.frames.peek(0) {
         Some(frame) => match code_at(&prepared.codes, frame.function) {

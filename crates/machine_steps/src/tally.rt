@@ -26,7 +26,10 @@ impl Model for Tally {
 
     ghost Value = { parts.Counts };
 
-    ghost view = { λ t. record { cells = map (λ c. c.items) t.cells.items; elsewhere = t.elsewhere } };
+    ghost view = { λ t. record {
+      cells = map (λ c. c.items) t.cells.items;
+      elsewhere = t.elsewhere;
+    } };
 }
 
 /// One more in a cell, where there is one.
@@ -47,7 +50,8 @@ fn zeros(alloc: Global, body: &Body) -> Result<Vec<u64>, NoMemory>
 
 /// The cells of one function more, behind those of the functions before it.
 fn push_zeros(alloc: Global, body: &Body, cells: &mut Vec<Vec<u64>>) -> Result<(), NoMemory>
-    ensures { OnOk result (map (λ c. c.items) cells.new.items ≡ map (λ c. c.items) cells.old.items ++ replicate (length body.now.ops) 0 ∷ []) }
+    ensures { OnOk result (map (λ c. c.items) cells.new.items
+        ≡ map (λ c. c.items) cells.old.items ++ replicate (length body.now.ops) 0 ∷ []) }
 {
     let zeros = zeros(alloc, body)?;
     cells.push(zeros)?;
@@ -98,7 +102,10 @@ impl Tally {
     /// One more at an instruction, where there is one.
     #[inline(always)]
     fn count_at(&mut self, at: Position)
-        ensures { self.new ≡ record { cells = counts_more self.old.cells at.function at.index; elsewhere = self.old.elsewhere } }
+        ensures { self.new ≡ record {
+          cells = counts_more self.old.cells at.function at.index;
+          elsewhere = self.old.elsewhere;
+        } }
     {
         match self.cells.get_mut(at.function) {
             Some(cells) => count_in(cells.as_mut_slice(), at.index),
@@ -109,7 +116,10 @@ impl Tally {
     /// One more at none.
     #[inline(always)]
     fn count_elsewhere(&mut self)
-        ensures { self.new ≡ record { cells = self.old.cells; elsewhere = more self.old.elsewhere } }
+        ensures { self.new ≡ record {
+          cells = self.old.cells;
+          elsewhere = more self.old.elsewhere;
+        } }
     {
         self.elsewhere = self.elsewhere.saturating_add(1);
     }
@@ -117,7 +127,8 @@ impl Tally {
     /// One more at an instruction, or at none where there is no such instruction.
     #[inline(always)]
     fn count(&mut self, at: Position)
-        ensures { (m : Module) (seen : List (Option Place)) → Counted m self.old seen → Counted m self.new (seen ++ flat_place m at.function at.index ∷ []) }
+        ensures { (m : Module) (seen : List (Option Place)) → Counted m self.old seen
+            → Counted m self.new (seen ++ flat_place m at.function at.index ∷ []) }
     {
         if self.has(at) {
             self.count_at(at);

@@ -22,7 +22,8 @@ pub trait Watch {
 
     /// A step is about to be made from a position, or with no frame.
     fn see(&mut self, at: Option<Position>)
-        ensures saw { (m : Module) (seen : List (Option Place)) → Saw m self.old seen → Saw m self.new (seen ++ place_at m at ∷ []) };
+        ensures saw { (m : Module) (seen : List (Option Place)) → Saw m self.old seen
+            → Saw m self.new (seen ++ place_at m at ∷ []) };
 }
 
 /// Nobody watches.

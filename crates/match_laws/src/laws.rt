@@ -19,20 +19,32 @@ ghost use Rattle.match_laws.specs.TrapDumps.{TrapsMatch};
 /// The dump of each trap of a valid module within the limits of the decoder can be one of that module, whatever the invocations, their
 /// arguments, the replies, the depth and the number of steps.
 pub fn traps_match()
-    ensures { (p : Program) (collecting : Bool) (invocations : List Invocation) (replies : List HostReply) (depth n : ℕ) → IsProgram p → length p.module_.bodies ≡ length p.module_.functions → Valid p.module_ → WithinLimits p.module_ → TrapsMatch p.module_ (run p collecting invocations replies depth n) }
+    ensures { (p : Program) (collecting : Bool) (invocations : List Invocation)
+        (replies : List HostReply) (depth n : ℕ) → IsProgram p
+        → length p.module_.bodies ≡ length p.module_.functions → Valid p.module_
+        → WithinLimits p.module_ → TrapsMatch p.module_
+        (run p collecting invocations replies depth n) }
 {}
 
 /// The dump of the last configuration of each invocation, however it ended or was left, can be one of a state of that module.
 pub fn states_match()
-    ensures { (p : Program) (collecting : Bool) (invocations : List Invocation) (replies : List HostReply) (depth n : ℕ) → IsProgram p → length p.module_.bodies ≡ length p.module_.functions → Valid p.module_ → WithinLimits p.module_ → StatesMatch p.module_ (run p collecting invocations replies depth n) }
+    ensures { (p : Program) (collecting : Bool) (invocations : List Invocation)
+        (replies : List HostReply) (depth n : ℕ) → IsProgram p
+        → length p.module_.bodies ≡ length p.module_.functions → Valid p.module_
+        → WithinLimits p.module_ → StatesMatch p.module_
+        (run p collecting invocations replies depth n) }
 {}
 
 /// What a frame shows at a call, where it is not the innermost one, is what the call left.
 pub fn shown_at_a_call()
-    ensures { (m : Parts) (ftype : Signature) (body : FunctionBody) (offset : ℕ) (s : Spot) → IsBody m ftype body (code_of body.targets body.ops) → LiveAt m ftype body offset s → is_call (instruction s.nodes) ≡ true → Left m ftype body offset (shown m 1 s) }
+    ensures { (m : Parts) (ftype : Signature) (body : FunctionBody) (offset : ℕ) (s : Spot)
+        → IsBody m ftype body (code_of body.targets body.ops) → LiveAt m ftype body offset s
+        → is_call (instruction s.nodes) ≡ true → Left m ftype body offset (shown m 1 s) }
 {}
 
 /// At no call it shows all operands.
 pub fn shown_elsewhere()
-    ensures { (m : Parts) (ftype : Signature) (body : FunctionBody) (offset : ℕ) (s : Spot) → LiveAt m ftype body offset s → is_call (instruction s.nodes) ≡ false → Static m ftype body offset (shown m 1 s) }
+    ensures { (m : Parts) (ftype : Signature) (body : FunctionBody) (offset : ℕ) (s : Spot)
+        → LiveAt m ftype body offset s → is_call (instruction s.nodes) ≡ false
+        → Static m ftype body offset (shown m 1 s) }
 {}

@@ -43,7 +43,8 @@ fn push_functions(
 ) -> Result<(), NoMemory>
     requires accepted { Accepted source.now }
     requires numbers { numbers.now ≡ source.now }
-    ensures { (a : Accepted source.now) → OnOk result (Adds (new_bodies source.now a) out.old out.new) }
+    ensures { (a : Accepted source.now)
+        → OnOk result (Adds (new_bodies source.now a) out.old out.new) }
 {
     let parts = numbers.source();
     let first = parts.imports.len();

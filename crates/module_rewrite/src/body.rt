@@ -38,7 +38,11 @@ fn write_body(
     requires helped { AllHelped context.now body.now.ops }
     requires few { length body.now.ops + 1 < 2 ^ 32 }
     requires tree { CanBeWritten context.now body.now }
-    ensures code { (tree : TreeOf) → Writes body.now.targets body.now.ops tree → Fine context.now [] tree.nodes → IfOk result (λ out. bare_body out ≡ bare_body (body_of (body.now.groups ++ groups context.now.slots) (rewriting context.now tree.nodes))) }
+    ensures code { (tree : TreeOf) → Writes body.now.targets body.now.ops tree
+        → Fine context.now [] tree.nodes
+        → IfOk result (λ out. bare_body out
+        ≡ bare_body (body_of (body.now.groups ++ groups context.now.slots)
+        (rewriting context.now tree.nodes))) }
     ensures offsets { IfOk result (λ out. length out.ops ≤ 2 ^ 32 → Ascend 0 out.ops) }
 {
     let mut writer = CodeWriter::new(alloc);

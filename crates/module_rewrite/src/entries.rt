@@ -35,7 +35,8 @@ pub(crate) fn wrapper_body(
 ) -> Result<Body, NoMemory>
     requires there { function < length (function_types numbers.now) }
     requires few { parameter_count (type_at numbers.now function) < 2 ^ 32 }
-    ensures code { IfOk result (λ out. bare_body out ≡ bare_body (body_of [] (wrapper numbers.now function))) }
+    ensures code { IfOk result (λ out. bare_body out
+        ≡ bare_body (body_of [] (wrapper numbers.now function))) }
     ensures offsets { IfOk result Ascends }
 {
     let parts = numbers.source();
@@ -126,7 +127,8 @@ pub(crate) fn helper_body(
     table: &[Option<u32>],
 ) -> Result<Body, NoMemory>
     requires { table.now ≡ first_table parts.now }
-    ensures code { IfOk result (λ out. bare_body out ≡ bare_body (body_of [] (helper parts.now ftype))) }
+    ensures code { IfOk result (λ out. bare_body out
+        ≡ bare_body (body_of [] (helper parts.now ftype))) }
     ensures offsets { IfOk result Ascends }
 {
     let labels = entry_labels(alloc, parts, ftype, table)?;

@@ -144,7 +144,8 @@ impl<'m, 'a> FunctionContext<'m, 'a> {
 
     /// Reads the flag that says whether frames are being unwound.
     pub fn get_flag(&self, writer: &mut CodeWriter) -> Result<(), NoMemory>
-        ensures { OnOk result (Emits (basic 0 (GlobalGetOf (flag_of self.now.source))) writer.old writer.new) }
+        ensures { OnOk result (Emits (basic 0 (GlobalGetOf (flag_of self.now.source))) writer.old
+            writer.new) }
     {
         writer.basic(Basic::GlobalGet(self.map.flag()))
     }

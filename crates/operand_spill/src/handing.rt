@@ -22,7 +22,9 @@ impl<'m, 'a> FunctionContext<'m, 'a> {
         height: usize,
     ) -> Result<(), NoMemory>
         requires { height ≤ self.now.slots }
-        ensures { OnOk result (Emits (λ k. fetch self.now (place operand) height (hand_value self.now (place_type (place operand)) k)) writer.old writer.new) }
+        ensures { OnOk result (Emits
+            (λ k. fetch self.now (place operand) height
+            (hand_value self.now (place_type (place operand)) k)) writer.old writer.new) }
     {
         self.fetch(writer, operand, height)?;
         self.hand_value(writer, operand.value_type())
@@ -56,7 +58,8 @@ impl<'m, 'a> FunctionContext<'m, 'a> {
 
     /// All locals of the function, the first one first.
     pub fn hand_locals(&self, writer: &mut CodeWriter) -> Result<(), NoMemory>
-        ensures { OnOk result (Emits (hand_locals self.now 0 self.now.locals) writer.old writer.new) }
+        ensures { OnOk result (Emits (hand_locals self.now 0 self.now.locals) writer.old
+            writer.new) }
     {
         let types = self.locals();
         for x in 0..types.len() {

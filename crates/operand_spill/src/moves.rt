@@ -21,7 +21,8 @@ impl<'m, 'a> FunctionContext<'m, 'a> {
         height: usize,
     ) -> Result<(), NoMemory>
         requires { height ≤ self.now.slots }
-        ensures { OnOk result (Emits (fetch self.now (place operand) height) writer.old writer.new) }
+        ensures { OnOk result (Emits (fetch self.now (place operand) height) writer.old
+            writer.new) }
     {
         match operand {
             OperandPlace::Spilled(t) => self.get(writer, self.slot_at(t, height)),
@@ -55,7 +56,8 @@ impl<'m, 'a> FunctionContext<'m, 'a> {
         height: usize,
     ) -> Result<(), NoMemory>
         requires { height ≤ self.now.slots }
-        ensures { (places : List PlaceOf) → length places ≡ height → OnOk result (Emits (store self.now gives places) writer.old writer.new) }
+        ensures { (places : List PlaceOf) → length places ≡ height
+            → OnOk result (Emits (store self.now gives places) writer.old writer.new) }
     {
         match gives {
             Some(t) => self.set(writer, self.slot_at(t, height)),
@@ -72,7 +74,9 @@ impl<'m, 'a> FunctionContext<'m, 'a> {
         height: usize,
     ) -> Result<(), NoMemory>
         requires { height ≤ self.now.slots }
-        ensures { OnOk result (Emits (λ k. fetch self.now (place operand) height (set self.now (result_at self.now t) k)) writer.old writer.new) }
+        ensures { OnOk result (Emits
+            (λ k. fetch self.now (place operand) height (set self.now (result_at self.now t) k))
+            writer.old writer.new) }
     {
         self.fetch(writer, operand, height)?;
         self.set(writer, self.result_at(t))
@@ -105,7 +109,9 @@ impl<'m, 'a> FunctionContext<'m, 'a> {
         height: usize,
     ) -> Result<(), NoMemory>
         requires { height ≤ self.now.slots }
-        ensures { OnOk result (Emits (λ k. get self.now (result_at self.now t) (set self.now (slot t height) k)) writer.old writer.new) }
+        ensures { OnOk result (Emits
+            (λ k. get self.now (result_at self.now t) (set self.now (slot t height) k)) writer.old
+            writer.new) }
     {
         self.get(writer, self.result_at(t))?;
         self.set(writer, self.slot_at(t, height))
@@ -119,7 +125,8 @@ impl<'m, 'a> FunctionContext<'m, 'a> {
         height: usize,
     ) -> Result<(), NoMemory>
         requires { height ≤ self.now.slots }
-        ensures { (places : List PlaceOf) → length places ≡ height → OnOk result (Emits (from_result self.now gives places) writer.old writer.new) }
+        ensures { (places : List PlaceOf) → length places ≡ height
+            → OnOk result (Emits (from_result self.now gives places) writer.old writer.new) }
     {
         match gives {
             Some(t) => self.result_to_slot(writer, t, height),

@@ -122,7 +122,8 @@ impl OperandPlaces {
 
     /// Takes the topmost operand, if there is one.
     pub fn pop(&mut self) -> Option<OperandPlace>
-        ensures { MatchOption result ((self.old ≡ []) × (self.new ≡ [])) (λ p. self.old ≡ place p ∷ self.new) }
+        ensures { MatchOption result ((self.old ≡ []) × (self.new ≡ []))
+            (λ p. self.old ≡ place p ∷ self.new) }
     {
         self.items.pop()
     }

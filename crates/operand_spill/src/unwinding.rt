@@ -15,7 +15,8 @@ use wasm_syntax::Value;
 /// The branch to the exit, out of so many open labels.
 pub fn to_exit(writer: &mut CodeWriter, labels: u32) -> Result<(), NoMemory>
     requires { labels + 1 < 2 ^ 32 }
-    ensures { (ls : List Info) → length ls ≡ labels → OnOk result (EmitsLast (to_exit ls) writer.old writer.new) }
+    ensures { (ls : List Info) → length ls ≡ labels
+        → OnOk result (EmitsLast (to_exit ls) writer.old writer.new) }
 {
     writer.branch(labels + 1)
 }
@@ -31,7 +32,8 @@ impl<'m, 'a> FunctionContext<'m, 'a> {
     ) -> Result<(), NoMemory>
         requires shallow { labels + 1 < 2 ^ 32 }
         requires room { length places.now ≤ self.now.slots }
-        ensures { (ls : List Info) → length ls ≡ labels → OnOk result (EmitsLast (unwind self.now ls places.now offset) writer.old writer.new) }
+        ensures { (ls : List Info) → length ls ≡ labels
+            → OnOk result (EmitsLast (unwind self.now ls places.now offset) writer.old writer.new) }
     {
         writer.const_value(Value::I32(offset))?;
         self.set(writer, self.offset_at())?;
@@ -49,7 +51,10 @@ impl<'m, 'a> FunctionContext<'m, 'a> {
     ) -> Result<(), NoMemory>
         requires shallow { labels + 1 < 2 ^ 32 }
         requires room { length places.now ≤ self.now.slots }
-        ensures { (ls : List Info) → length ls ≡ labels → OnOk result (EmitsLast (const (i32 0) (set self.now (kind_at self.now) (unwind self.now ls places.now offset))) writer.old writer.new) }
+        ensures { (ls : List Info) → length ls ≡ labels
+            → OnOk result (EmitsLast (const (i32 0)
+            (set self.now (kind_at self.now) (unwind self.now ls places.now offset))) writer.old
+            writer.new) }
     {
         writer.const_value(Value::I32(0))?;
         self.set(writer, self.kind_at())?;
@@ -66,7 +71,8 @@ impl<'m, 'a> FunctionContext<'m, 'a> {
     ) -> Result<(), NoMemory>
         requires shallow { labels + 1 < 2 ^ 32 }
         requires room { length places.now ≤ self.now.slots }
-        ensures { (ls : List Info) → length ls ≡ labels → OnOk result (Emits (test_flag self.now ls places.now offset) writer.old writer.new) }
+        ensures { (ls : List Info) → length ls ≡ labels
+            → OnOk result (Emits (test_flag self.now ls places.now offset) writer.old writer.new) }
     {
         self.get_flag(writer)?;
         writer.open_if(None)?;
@@ -84,7 +90,8 @@ impl<'m, 'a> FunctionContext<'m, 'a> {
     ) -> Result<(), NoMemory>
         requires shallow { labels + 1 < 2 ^ 32 }
         requires room { length places.now ≤ self.now.slots }
-        ensures { (ls : List Info) → length ls ≡ labels → OnOk result (Emits (tested self.now ls places.now offset) writer.old writer.new) }
+        ensures { (ls : List Info) → length ls ≡ labels
+            → OnOk result (Emits (tested self.now ls places.now offset) writer.old writer.new) }
     {
         self.set(writer, self.kind_at())?;
         self.get(writer, self.kind_at())?;

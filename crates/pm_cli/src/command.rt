@@ -35,11 +35,13 @@ pub fn respond<F: Files, D: Devices>(
     devices: &mut D,
 ) -> Result<Outcome, NoMemory>
     requires distinct { AreDistinct (names (D.shown devices.old)) }
-    ensures told { IfOk result (λ o. UnlessFault o.status (Answered (D.shown devices.old) (D.shown devices.new)
+    ensures told { IfOk result (λ o. UnlessFault o.status
+        (Answered (D.shown devices.old) (D.shown devices.new)
         (map string_bytes words.now) (F.told files.old) (F.told files.new) o)) }
     ensures stops { OnStop (λ stop. WordsStop stop (map string_bytes words.now)
         (D.shown devices.old) (D.shown devices.new) (F.told files.old) (F.told files.new)) result }
-    ensures quiet { Quiet (command (map string_bytes words.now)) (D.shown devices.old) (D.shown devices.new)
+    ensures quiet { Quiet (command (map string_bytes words.now)) (D.shown devices.old)
+        (D.shown devices.new)
         (F.told files.old) (F.told files.new) (F.created files.old) (F.created files.new) }
     ensures distinct { AreDistinct (names (D.shown devices.new)) }
     ensures telling { is_some (F.told files.new) ≡ is_some (F.told files.old) }

@@ -13,5 +13,9 @@ ghost use Rattle.command_answers.specs.declared.outcome.Outcome.{Outcome};
 /// writes, and those of the second file of `selftest`, are all those that are admitted; on these the number of steps depends that
 /// `selftest` tells, and nothing else of its text.
 pub fn one_answer()
-    ensures { (before after : List DeviceState) (words : List (List ℕ)) (first later : Contents) (given : List Served) (x y : Writes) (a b : Outcome) → IsAnswer before after words first later given x a → IsAnswer before after words first later given y b → SameAnswer (command words) x y a b × SameWrites (command words) x y }
+    ensures { (before after : List DeviceState) (words : List (List ℕ)) (first later : Contents)
+        (given : List Served) (x y : Writes) (a b : Outcome)
+        → IsAnswer before after words first later given x a
+        → IsAnswer before after words first later given y b
+        → SameAnswer (command words) x y a b × SameWrites (command words) x y }
 {}

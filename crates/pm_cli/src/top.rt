@@ -84,12 +84,14 @@ pub fn post_mortem<F: Files, O: Sink, D: Devices>(
 
     // However it ends, commands other than `run` and `cover`, and wrong words, call no device; `instrument` leaves all files as they are but
     // the one that it writes, `selftest` all but the two that it writes, and the others but `run` leave all.
-    ensures quiet { Quiet (command (map string_bytes words.now)) (D.shown devices.old) (D.shown devices.new)
+    ensures quiet { Quiet (command (map string_bytes words.now)) (D.shown devices.old)
+        (D.shown devices.new)
         (F.told files.old) (F.told files.new) (F.created files.old) (F.created files.new) }
 
     // A fault is answered only where a count rose.
     ensures fault { result ≡ Status.FileFault
-        → Rose (F.faults files.old) (F.faults files.new) ⊎ Rose (O.faults out.old) (O.faults out.new) }
+        → Rose (F.faults files.old) (F.faults files.new)
+        ⊎ Rose (O.faults out.old) (O.faults out.new) }
 
     // Where the count of the output did not rise, a fault is that of a file that the command reads, or one that `instrument` or `selftest`
     // writes, or the dump of a trap in this run, or its record, and the output has the whole text that names it.

@@ -52,7 +52,8 @@ fn one_word(alloc: Global, words: &[String]) -> Result<Text, WordsFault>
 #[tactic(auto, unfolding(crate::specs::Words::instrument_words))]
 fn instrument_words(alloc: Global, words: &[String]) -> Result<Command, WordsFault>
     ensures ok { IfOk result (λ c. instrument_words (map string_bytes words.now) ≡ Some c) }
-    ensures usage { result ≡ Err WordsFault.Usage → instrument_words (map string_bytes words.now) ≡ None }
+    ensures usage { result ≡ Err WordsFault.Usage
+        → instrument_words (map string_bytes words.now) ≡ None }
     ensures bounds { IfOk result HasBounds }
 {
     let Some(reading) = read_words(alloc, words, &Options::none())? else {

@@ -60,7 +60,8 @@ impl Table {
 
     /// Adds bytes at the end of a file, which is made if it is not there.
     pub(crate) fn append(&mut self, name: &str, bytes: &[u8]) -> Result<(), NoMemory>
-        ensures more { OnOk result (held self.new name.now ≡ Some (unwrap_or (held self.old name.now) [] ++ bytes.now)) }
+        ensures more { OnOk result (held self.new name.now
+            ≡ Some (unwrap_or (held self.old name.now) [] ++ bytes.now)) }
         ensures others { SameBut name.now (held self.old) (held self.new) }
         ensures refused { OnErr result (held self.new name.now ≡ held self.old name.now) }
     {
@@ -81,7 +82,8 @@ impl Table {
         piece: &[u8],
         part: usize,
     ) -> Result<(), NoMemory>
-        ensures added { OnOk result (IsPartAdded part name.now piece.now (held self.old) (held self.new)) }
+        ensures added { OnOk result (IsPartAdded part name.now piece.now (held self.old)
+            (held self.new)) }
         ensures others { SameBut name.now (held self.old) (held self.new) }
         ensures refused { OnErr result (held self.new name.now ≡ held self.old name.now) }
         ensures some { OnErr result (part ≢ 0) }

@@ -48,9 +48,12 @@ pub fn read_file<F: Files>(
     limit: usize,
 ) -> Result<Vec<u8>, FileError>
     ensures limited { IfOk result (λ bytes. length bytes.items ≤ limit) }
-    ensures whole { IfSome (F.told files.old) (λ held. IfOk result (λ bytes. held name.now ≡ Some bytes.items)) }
-    ensures refused { IfSome (F.told files.old) (λ held. IfErr result (Refuses limit (held name.now))) }
-    ensures failed { IsErrOf result FileError.Failed → Rose (F.faults files.old) (F.faults files.new) }
+    ensures whole { IfSome (F.told files.old)
+        (λ held. IfOk result (λ bytes. held name.now ≡ Some bytes.items)) }
+    ensures refused { IfSome (F.told files.old)
+        (λ held. IfErr result (Refuses limit (held name.now))) }
+    ensures failed { IsErrOf result FileError.Failed
+        → Rose (F.faults files.old) (F.faults files.new) }
     ensures later { F.faults files.old ≤ F.faults files.new }
     ensures same { F.told files.new ≡ F.told files.old }
     ensures names { F.created files.new ≡ F.created files.old }

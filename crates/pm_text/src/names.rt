@@ -33,7 +33,8 @@ fn write_ascii(out: &mut String, marks: Marks, b: u8) -> Result<(), AllocError>
 
 #[tactic(auto, using(crate::proofs::NameLaws::char_ascii, crate::proofs::NameLaws::char_high))]
 fn write_char(out: &mut String, marks: Marks, c: char) -> Result<(), AllocError>
-    ensures ok { OnOk result (string_bytes out.new ≡ string_bytes out.old ++ flat_map (marked_byte marks) (encode_utf8 c)) }
+    ensures ok { OnOk result (string_bytes out.new
+        ≡ string_bytes out.old ++ flat_map (marked_byte marks) (encode_utf8 c)) }
     ensures extends { Extends (string_bytes out.old) (string_bytes out.new) }
 {
     if c.is_ascii() {
@@ -44,7 +45,8 @@ fn write_char(out: &mut String, marks: Marks, c: char) -> Result<(), AllocError>
 }
 
 fn write_byte(out: &mut String, marks: Marks, b: u8) -> Result<(), AllocError>
-    ensures ok { OnOk result (string_bytes out.new ≡ string_bytes out.old ++ outside_text (marked_byte marks) b) }
+    ensures ok { OnOk result (string_bytes out.new
+        ≡ string_bytes out.old ++ outside_text (marked_byte marks) b) }
     ensures extends { Extends (string_bytes out.old) (string_bytes out.new) }
 {
     match b {
@@ -54,7 +56,8 @@ fn write_byte(out: &mut String, marks: Marks, b: u8) -> Result<(), AllocError>
 }
 
 fn write_text(out: &mut String, marks: Marks, text: &str) -> Result<(), AllocError>
-    ensures ok { OnOk result (string_bytes out.new ≡ string_bytes out.old ++ flat_map (marked_byte marks) text.now) }
+    ensures ok { OnOk result (string_bytes out.new
+        ≡ string_bytes out.old ++ flat_map (marked_byte marks) text.now) }
     ensures extends { Extends (string_bytes out.old) (string_bytes out.new) }
 {
     for c in text.chars() {
@@ -64,7 +67,8 @@ fn write_text(out: &mut String, marks: Marks, text: &str) -> Result<(), AllocErr
 }
 
 fn write_bytes(out: &mut String, marks: Marks, bytes: &[u8]) -> Result<(), AllocError>
-    ensures ok { OnOk result (string_bytes out.new ≡ string_bytes out.old ++ flat_map (outside_text (marked_byte marks)) bytes.now) }
+    ensures ok { OnOk result (string_bytes out.new
+        ≡ string_bytes out.old ++ flat_map (outside_text (marked_byte marks)) bytes.now) }
     ensures extends { Extends (string_bytes out.old) (string_bytes out.new) }
 {
     for b in bytes {
@@ -75,7 +79,8 @@ fn write_bytes(out: &mut String, marks: Marks, bytes: &[u8]) -> Result<(), Alloc
 
 #[tactic(auto, using(crate::proofs::NameLaws::name_of_text, crate::proofs::NameLaws::name_of_bytes))]
 fn write_name(out: &mut String, marks: Marks, name: &[u8]) -> Result<(), AllocError>
-    ensures ok { OnOk result (string_bytes out.new ≡ string_bytes out.old ++ name_bytes (marked_byte marks) name.now) }
+    ensures ok { OnOk result (string_bytes out.new
+        ≡ string_bytes out.old ++ name_bytes (marked_byte marks) name.now) }
     ensures extends { Extends (string_bytes out.old) (string_bytes out.new) }
 {
     match str::from_utf8(name) {

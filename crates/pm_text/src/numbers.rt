@@ -27,7 +27,9 @@ pub fn read_decimal(s: &str) -> Option<u64>
 /// What stands behind this front in a text.
 #[tactic(auto, using(crate::proofs::NumberLaws::begins, crate::proofs::NumberLaws::begins_not))]
 fn behind<'a>(s: &'a str, front: &str) -> Option<&'a str>
-    ensures { MatchOption result (starts_with nat_eq s.now front.now ≡ false) (λ x. (starts_with nat_eq s.now front.now ≡ true) × (x.now ≡ drop (length front.now) s.now)) }
+    ensures { MatchOption result (starts_with nat_eq s.now front.now ≡ false)
+        (λ x. (starts_with nat_eq s.now front.now ≡ true)
+        × (x.now ≡ drop (length front.now) s.now)) }
 {
     s.strip_prefix(front)
 }

@@ -48,7 +48,8 @@ fn segment_fault(fault: StartFault) -> ReplayFault
 
 /// The first cause for which the entry may not be invoked.
 fn entry_cause(alloc: Global, recorded: &Recorded<'_>) -> Option<ReplayFault>
-    ensures none { result ≡ None → cause_of_entry recorded.now.module_ (function_export recorded.now.module_ recorded.now.entry) recorded.now.args ≡ None }
+    ensures none { result ≡ None → cause_of_entry recorded.now.module_
+        (function_export recorded.now.module_ recorded.now.entry) recorded.now.args ≡ None }
     ensures some { IfSome result (λ fault. IsFault fault recorded.now) }
 {
     let hosts = recorded.hosts(alloc, 0);
@@ -135,7 +136,8 @@ impl<'a> Point<'a> {
         steps: u64,
     ) -> Result<RunEnd, NoMemory>
         requires waits { (n : ℕ) × WaitsAt recorded.now n self.old × (n + steps < 2 ^ 64) }
-        ensures came { IfOk result (λ answer. (n : ℕ) → WaitsAt recorded.now n self.old → ReachedAt recorded.now (n + steps) answer self.new) }
+        ensures came { IfOk result (λ answer. (n : ℕ) → WaitsAt recorded.now n self.old
+            → ReachedAt recorded.now (n + steps) answer self.new) }
         ensures since { self.new.instance.since_copy ≤ self.old.instance.since_copy + steps }
     {
         let mut hosts = recorded.hosts(alloc, self.next);
@@ -146,7 +148,10 @@ impl<'a> Point<'a> {
 
     /// A copy, which goes on by itself.
     pub(crate) fn copy(&self) -> Result<Point<'a>, NoMemory>
-        ensures same { IfOk result (λ copy. copy ≡ record { next = self.now.next; instance = copied self.now.instance }) }
+        ensures same { IfOk result (λ copy. copy ≡ record {
+          next = self.now.next;
+          instance = copied self.now.instance;
+        }) }
     {
         let instance = self.instance.copy_of()?;
         Ok(Point {
@@ -157,7 +162,8 @@ impl<'a> Point<'a> {
 
     /// Whether the innermost frame is of this function, at this code offset.
     pub(crate) fn is_in(&self, function: u32, offset: u32) -> bool
-        ensures { (p : Program) (c : Config) → StandsAt self.now.instance p c → result ≡ is_in function offset c }
+        ensures { (p : Program) (c : Config) → StandsAt self.now.instance p c
+            → result ≡ is_in function offset c }
     {
         if self.instance.frame_count() == 0 {
             return false;

@@ -25,7 +25,14 @@ impl<'a> Model for Recorded<'a> {
 
     ghost Value = { Recording };
 
-    ghost view = { λ r. record { module_ = r.source.now; entry = r.entry.now; args = r.args.now; replies = r.replies.now; depth = r.depth; fuel = r.fuel } };
+    ghost view = { λ r. record {
+      module_ = r.source.now;
+      entry = r.entry.now;
+      args = r.args.now;
+      replies = r.replies.now;
+      depth = r.depth;
+      fuel = r.fuel;
+    } };
 }
 
 impl<'a> Recorded<'a> {
@@ -64,7 +71,12 @@ impl<'a> Recorded<'a> {
     /// A host side that gives the replies from one of them on.
     pub(crate) fn hosts(&self, alloc: Global, first: u64) -> ScriptHosts<'a, 'a>
         requires { first ≤ length self.now.replies }
-        ensures value { result ≡ record { imports = self.now.module_.imports; replies = self.now.replies; first = first; calls = [] } }
+        ensures value { result ≡ record {
+          imports = self.now.module_.imports;
+          replies = self.now.replies;
+          first = first;
+          calls = [];
+        } }
         ensures whole { IsModule self.now.module_ }
     {
         let imports = self.source.module().parts().imports.as_slice();

@@ -41,7 +41,15 @@ impl<'a> Model for Replayer<'a> {
 
     ghost Value = { Replay };
 
-    ghost view = { λ r. record { recording = r.recorded; every = r.every; end = r.end; outcome = r.outcome; checkpoints = length r.track.points.items; step = r.step; state = r.shown.instance } };
+    ghost view = { λ r. record {
+      recording = r.recorded;
+      every = r.every;
+      end = r.end;
+      outcome = r.outcome;
+      checkpoints = length r.track.points.items;
+      step = r.step;
+      state = r.shown.instance;
+    } };
 
     ghost invariant = { λ r. Kept r.recorded r.every r.end r.outcome r.track r.step r.shown };
 }
@@ -64,7 +72,14 @@ impl<'a> Replayer<'a> {
         every: u64,
     ) -> Result<Replayer<'a>, ReplayFault>
         requires { 1 ≤ every }
-        ensures { Starts result (record { module_ = source.now; entry = entry.now; args = args.now; replies = replies.now; depth = depth; fuel = fuel }) every }
+        ensures { Starts result (record {
+          module_ = source.now;
+          entry = entry.now;
+          args = args.now;
+          replies = replies.now;
+          depth = depth;
+          fuel = fuel;
+        }) every }
     {
         let recorded = Recorded {
             source,
@@ -160,7 +175,8 @@ impl<'a> Replayer<'a> {
     /// The state behind the step that is shown.
     pub fn state(&self) -> &Instance<'a>
         ensures state { result.now ≡ self.now.state }
-        ensures shows { OfEach self.now.recording (λ p. Shows p self.now.recording self.now.step result.now) }
+        ensures shows { OfEach self.now.recording
+            (λ p. Shows p self.now.recording self.now.step result.now) }
         ensures near { result.now.since_copy ≤ near self.now }
     {
         &self.shown.instance
@@ -169,7 +185,8 @@ impl<'a> Replayer<'a> {
     /// How the run ended at its last step, or `FuelSpent` where it goes on there.
     pub fn outcome(&self) -> &RunEnd
         ensures outcome { result.now ≡ self.now.outcome }
-        ensures is_outcome { OfEach self.now.recording (λ p. EndsWith p self.now.recording self.now.end result.now) }
+        ensures is_outcome { OfEach self.now.recording
+            (λ p. EndsWith p self.now.recording self.now.end result.now) }
     {
         &self.outcome
     }

@@ -55,7 +55,8 @@ impl<'a> Track<'a> {
     /// Drops every second one, and sets them twice as far apart, where there are as many as are kept.
     fn thin(&mut self, alloc: Global) -> Result<(), NoMemory>
         requires { length self.old.points.items * self.old.spacing < 2 ^ 64 }
-        ensures { (x : Recording) (every here : ℕ) → DueIn x every here self.old → OnOk result (DueIn x every here self.new × (length self.new.points.items < 16)) }
+        ensures { (x : Recording) (every here : ℕ) → DueIn x every here self.old
+            → OnOk result (DueIn x every here self.new × (length self.new.points.items < 16)) }
     {
         if self.points.len() < MOST {
             return Ok(());
@@ -70,7 +71,8 @@ impl<'a> Track<'a> {
     /// apart.
     pub(crate) fn keep(&mut self, alloc: Global, point: &Point<'a>) -> Result<(), NoMemory>
         requires { length self.old.points.items * self.old.spacing < 2 ^ 64 }
-        ensures { (x : Recording) (every here : ℕ) → DueIn x every here self.old → WaitsAt x here point.now → OnOk result (FreshIn x every here self.new) }
+        ensures { (x : Recording) (every here : ℕ) → DueIn x every here self.old
+            → WaitsAt x here point.now → OnOk result (FreshIn x every here self.new) }
     {
         self.thin(alloc)?;
         let copy = point.copy()?;
@@ -84,7 +86,8 @@ impl<'a> Track<'a> {
         requires apart { 1 ≤ self.now.spacing }
         ensures inside { result < length self.now.points.items }
         ensures below { result * self.now.spacing ≤ step }
-        ensures near { step ≤ length self.now.points.items * self.now.spacing → step ≤ result * self.now.spacing + self.now.spacing }
+        ensures near { step ≤ length self.now.points.items * self.now.spacing
+            → step ≤ result * self.now.spacing + self.now.spacing }
     {
         let last = self.points.len() - 1;
         let index = step / self.spacing;
@@ -102,8 +105,10 @@ impl<'a> Track<'a> {
         recorded: &Recorded<'a>,
         step: u64,
     ) -> Result<Point<'a>, NoMemory>
-        requires { (every : ℕ) × (end : ℕ) × CoversIn recorded.now every end self.now × (step ≤ end) }
-        ensures reached { IfOk result (λ q. (answer : Answer) × ReachedAt recorded.now step answer q) }
+        requires { (every : ℕ) × (end : ℕ) × CoversIn recorded.now every end self.now
+            × (step ≤ end) }
+        ensures reached { IfOk result
+            (λ q. (answer : Answer) × ReachedAt recorded.now step answer q) }
         ensures near { IfOk result (λ q. q.instance.since_copy ≤ self.now.spacing) }
     {
         let index = self.index(step);

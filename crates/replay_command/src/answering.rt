@@ -35,7 +35,8 @@ fn no_export(alloc: Global, entry: &Text) -> Result<Text, NoMemory>
 
 /// The cause that a fault is.
 fn cause_of(alloc: Global, entry: &Text, fault: ReplayFault) -> Result<Text, NoMemory>
-    ensures { IfOk result (λ t. (x : Recording) → IsFault fault x → cause_text entry.now (cause_in x) ≡ Some t) }
+    ensures { IfOk result (λ t. (x : Recording) → IsFault fault x
+        → cause_text entry.now (cause_in x) ≡ Some t) }
 {
     match fault {
         ReplayFault::NoExport => no_export(alloc, entry),
@@ -153,7 +154,8 @@ fn on_log(
     log: &[u8],
 ) -> Result<Outcome, NoMemory>
     requires { Spells bytes.now source.now }
-    ensures value { IfOk result (IfReplies (ModuleAnswer words.now bytes.now source.now) (file_replies log.now)) }
+    ensures value { IfOk result (IfReplies (ModuleAnswer words.now bytes.now source.now)
+        (file_replies log.now)) }
     ensures memory { IfOk result (λ o. o.status ≢ Status.NoMemory) }
     ensures fault { IfOk result (λ o. o.status ≢ Status.FileFault) }
 {

@@ -65,7 +65,8 @@ fn push_looks<'c>(
     commands: &'c str,
 ) -> Result<Option<&'c str>, NoMemory>
     requires { BeginsWithLook commands.now }
-    ensures looked { IfOk result (λ rest. LookedThrough session.old.subject session.old.chosen out.old
+    ensures looked { IfOk result (λ rest. LookedThrough session.old.subject session.old.chosen
+        out.old
         (commands_in commands.now) (left_in rest) session.new.chosen out.new) }
     ensures shorter { IfOk result (λ rest. IsShorter rest commands.now) }
     ensures subject { OnOk result (session.new.subject ≡ session.old.subject) }
@@ -159,7 +160,8 @@ impl<'a> Viewer<'a> {
         requires module_ { self.old.module_ ≡ replayer.now.recording.module_ }
         requires depth { replayer.now.recording.depth < 2 ^ 32 }
         requires look { BeginsWithLook commands.now }
-        ensures took { IfOk result (λ rest. Took replayer.now self.old out.old (commands_in commands.now)
+        ensures took { IfOk result (λ rest. Took replayer.now self.old out.old
+            (commands_in commands.now)
             (left_in rest) replayer.now self.new out.new) }
         ensures shorter { IfOk result (λ rest. IsShorter rest commands.now) }
     {

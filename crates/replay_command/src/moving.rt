@@ -19,7 +19,8 @@ use std::alloc::Global;
 
 /// Adds the line of the step that is shown.
 fn push_shown(out: &mut Text, replayer: &Replayer<'_>) -> Result<(), NoMemory>
-    ensures { (o : RunOutcome) → IsOutcome replayer.now.outcome o → OnOk result (out.new ≡ out.old ++ step_text replayer.now.step replayer.now.end o) }
+    ensures { (o : RunOutcome) → IsOutcome replayer.now.outcome o
+        → OnOk result (out.new ≡ out.old ++ step_text replayer.now.step replayer.now.end o) }
 {
     push_step(out, replayer.step(), replayer.end(), replayer.outcome())
 }
@@ -31,7 +32,8 @@ fn go(
     viewer: &mut Viewer<'_>,
     step: u64,
 ) -> Result<(), NoMemory>
-    ensures { OnOk result (Moves replayer.old viewer.old out.old (moves.Goto step) replayer.new viewer.new out.new) }
+    ensures { OnOk result (Moves replayer.old viewer.old out.old (moves.Goto step) replayer.new
+        viewer.new out.new) }
 {
     replayer.goto(step)?;
     viewer.choose_innermost();
@@ -44,7 +46,8 @@ fn go_back(
     replayer: &mut Replayer<'_>,
     viewer: &mut Viewer<'_>,
 ) -> Result<(), NoMemory>
-    ensures { OnOk result (Moves replayer.old viewer.old out.old moves.Back replayer.new viewer.new out.new) }
+    ensures { OnOk result (Moves replayer.old viewer.old out.old moves.Back replayer.new viewer.new
+        out.new) }
 {
     let step = replayer.step().saturating_sub(1);
     go(out, replayer, viewer, step)
@@ -58,7 +61,8 @@ fn go_until(
     function: u32,
     offset: u32,
 ) -> Result<(), NoMemory>
-    ensures { OnOk result (Moves replayer.old viewer.old out.old (moves.Until function offset) replayer.new viewer.new out.new) }
+    ensures { OnOk result (Moves replayer.old viewer.old out.old (moves.Until function offset)
+        replayer.new viewer.new out.new) }
 {
     let found = replayer.until(function, offset)?;
     if found {
@@ -79,7 +83,8 @@ fn take_turn<'c>(
 ) -> Result<Option<&'c str>, NoMemory>
     requires module_ { viewer.old.module_ ≡ replayer.old.recording.module_ }
     requires depth { replayer.old.recording.depth < 2 ^ 32 }
-    ensures took { IfOk result (λ rest. Took replayer.old viewer.old out.old (commands_in commands.now)
+    ensures took { IfOk result (λ rest. Took replayer.old viewer.old out.old
+        (commands_in commands.now)
         (left_in rest) replayer.new viewer.new out.new) }
     ensures shorter { IfOk result (λ rest. IsShorter rest commands.now) }
 {
@@ -123,7 +128,8 @@ pub(crate) fn replayed(
     requires depth { replayer.old.recording.depth < 2 ^ 32 }
     requires step { replayer.old.step ≡ 0 }
     requires chosen { viewer.old.chosen ≡ 0 }
-    ensures { IfOk result (λ text. OfEach replayer.old.recording (λ _. ReplayText replayer.old.recording viewer.old.bytes commands.now text)) }
+    ensures { IfOk result (λ text. OfEach replayer.old.recording
+        (λ _. ReplayText replayer.old.recording viewer.old.bytes commands.now text)) }
 {
     know_end(replayer);
     let mut out = Text::new(alloc);

@@ -24,7 +24,9 @@ fn push_finished(out: &mut Text, value: Option<Value>) -> Result<(), NoMemory>
 }
 
 fn push_trapped(out: &mut Text, kind: TrapKind) -> Result<(), NoMemory>
-    ensures { OnOk result (out.new ≡ out.old ++ codes " trap " ++ decimal (trap_code kind) ++ codes " " ++ kind_text (trap_code kind)) }
+    ensures { OnOk result (out.new
+        ≡ out.old ++ codes " trap " ++ decimal (trap_code kind) ++ codes " "
+        ++ kind_text (trap_code kind)) }
 {
     push_number(out, " trap ", u64::from(kind.code()))?;
     out.push_str(" ")?;
@@ -33,7 +35,8 @@ fn push_trapped(out: &mut Text, kind: TrapKind) -> Result<(), NoMemory>
 
 /// Adds how a run ended, behind its last step. There are no devices, and memory sufficed.
 fn push_ending(out: &mut Text, answer: &RunEnd) -> Result<(), NoMemory>
-    ensures { (o : RunOutcome) → IsOutcome answer.now o → OnOk result (out.new ≡ out.old ++ ending_text o) }
+    ensures { (o : RunOutcome) → IsOutcome answer.now o
+        → OnOk result (out.new ≡ out.old ++ ending_text o) }
 {
     match answer {
         RunEnd::Finished { value } => push_finished(out, *value),
@@ -48,7 +51,8 @@ fn push_ending(out: &mut Text, answer: &RunEnd) -> Result<(), NoMemory>
 
 /// Adds how a run ended, where the step is its last one.
 fn push_ending_at(out: &mut Text, step: u64, end: u64, answer: &RunEnd) -> Result<(), NoMemory>
-    ensures { (o : RunOutcome) → IsOutcome answer.now o → OnOk result (out.new ≡ out.old ++ ending_at step end o) }
+    ensures { (o : RunOutcome) → IsOutcome answer.now o
+        → OnOk result (out.new ≡ out.old ++ ending_at step end o) }
 {
     if step == end {
         push_ending(out, answer)
@@ -64,7 +68,8 @@ pub(crate) fn push_step(
     end: u64,
     answer: &RunEnd,
 ) -> Result<(), NoMemory>
-    ensures { (o : RunOutcome) → IsOutcome answer.now o → OnOk result (out.new ≡ out.old ++ step_text step end o) }
+    ensures { (o : RunOutcome) → IsOutcome answer.now o
+        → OnOk result (out.new ≡ out.old ++ step_text step end o) }
 {
     push_number(out, "step ", step)?;
     push_number(out, " of ", end)?;

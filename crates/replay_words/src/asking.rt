@@ -65,8 +65,10 @@ fn asked(
     behind: &[&str],
     reading: &Reading<'_>,
 ) -> Result<ReplayWords, WordsFault>
-    ensures ok { IfOk result (λ r. asked source.now log.now entry.now (map (λ w. w.now) behind.now) reading.now ≡ Some r) }
-    ensures usage { result ≡ Err WordsFault.Usage → asked source.now log.now entry.now (map (λ w. w.now) behind.now) reading.now ≡ None }
+    ensures ok { IfOk result (λ r. asked source.now log.now entry.now (map (λ w. w.now) behind.now)
+        reading.now ≡ Some r) }
+    ensures usage { result ≡ Err WordsFault.Usage
+        → asked source.now log.now entry.now (map (λ w. w.now) behind.now) reading.now ≡ None }
     ensures fuel { IfOk result (λ r. r.fuel ≤ 1000000000000) }
     ensures depth { IfOk result (λ r. (1 ≤ r.depth) × (r.depth ≤ 10000)) }
     ensures every { IfOk result (λ r. (1 ≤ r.every) × (r.every ≤ 1000000)) }
@@ -99,7 +101,8 @@ fn asked(
 #[tactic(auto, unfolding(crate::specs::Words::replay_words))]
 pub fn replay_words(alloc: Global, words: &[String]) -> Result<ReplayWords, WordsFault>
     ensures ok { IfOk result (λ r. replay_words (map string_bytes words.now) ≡ Some r) }
-    ensures usage { result ≡ Err WordsFault.Usage → replay_words (map string_bytes words.now) ≡ None }
+    ensures usage { result ≡ Err WordsFault.Usage
+        → replay_words (map string_bytes words.now) ≡ None }
     ensures fuel { IfOk result (λ r. r.fuel ≤ 1000000000000) }
     ensures depth { IfOk result (λ r. (1 ≤ r.depth) × (r.depth ≤ 10000)) }
     ensures every { IfOk result (λ r. (1 ≤ r.every) × (r.every ≤ 1000000)) }

@@ -108,7 +108,8 @@ impl CodeWriter {
     /// `br_table`, with its targets.
     pub fn branch_table(&mut self, targets: &[u32], default_label: u32) -> Result<(), NoMemory>
         requires { length self.old.targets + length targets.now < 2 ^ 32 }
-        ensures { OnOk result (Emits (jump 0 (BrTable targets.now default_label)) self.old self.new) }
+        ensures { OnOk result (Emits (jump 0 (BrTable targets.now default_label)) self.old
+            self.new) }
     {
         let start = self.targets.len() as u32;
         let count = targets.len() as u32;
@@ -153,7 +154,8 @@ impl CodeWriter {
 
     /// The beginning of an `if`.
     pub fn open_if(&mut self, gives: Option<ValType>) -> Result<(), NoMemory>
-        ensures one_arm { OnOk result (Opens (λ arm k. choose 0 gives arm None stop 0 k) self.old self.new) }
+        ensures one_arm { OnOk result
+            (Opens (λ arm k. choose 0 gives arm None stop 0 k) self.old self.new) }
         ensures two_arms { OnOk result (OpensArms gives self.old self.new) }
     {
         self.push(Instr::If(gives))
@@ -175,7 +177,8 @@ impl CodeWriter {
 
     /// The body with these groups of locals, and with its last `end`. Its instructions stand at ascending offsets, where 32 bits count them.
     pub fn finish(mut self, groups: LocalGroups) -> Result<Body, NoMemory>
-        ensures code { (nodes : Nodes) → EmitsLast nodes nothing self → IfOk result (λ body. bare_body body ≡ bare_body (body_of groups nodes)) }
+        ensures code { (nodes : Nodes) → EmitsLast nodes nothing self
+            → IfOk result (λ body. bare_body body ≡ bare_body (body_of groups nodes)) }
         ensures offsets { IfOk result (λ body. length body.ops ≤ 2 ^ 32 → Ascend 0 body.ops) }
     {
         self.push(Instr::End)?;

@@ -13,10 +13,12 @@ ghost use Rattle.rewrite_limits.specs.Limits.{first_excess};
 
 /// A valid module in which no quantity passes is within the limits of the rewriting.
 pub fn limits_are_kept()
-    ensures { (m : Parts) (heights : List (List ℕ)) → Valid m → AreHeights m heights → length heights ≤ length m.bodies → first_excess m heights ≡ None → LightEnough m }
+    ensures { (m : Parts) (heights : List (List ℕ)) → Valid m → AreHeights m heights
+        → length heights ≤ length m.bodies → first_excess m heights ≡ None → LightEnough m }
 {}
 
 /// The weight is a number of 64 bits.
 pub fn weights_fit()
-    ensures { (m : Parts) (heights : List (List ℕ)) → Sized m → WithinLimits m → ((i op : ℕ) → height_at heights i op ≤ greatest Height) → weight m heights < 2 ^ 64 }
+    ensures { (m : Parts) (heights : List (List ℕ)) → Sized m → WithinLimits m
+        → ((i op : ℕ) → height_at heights i op ≤ greatest Height) → weight m heights < 2 ^ 64 }
 {}

@@ -75,7 +75,9 @@ fn first_over<T: Counted>(what: Quantity, items: &Items<T>) -> Option<Excess>
 /// The first function that has too many locals.
 fn locals_over(parts: &ModuleParts) -> Option<Excess>
     requires few { length parts.now.imports + length parts.now.bodies < 2 ^ 64 }
-    requires locals { AtIndex parts.now.bodies (λ i body. local_count (type_at parts.now (length parts.now.imports + i)) body ≤ greatest Locals) }
+    requires locals { AtIndex parts.now.bodies
+        (λ i body. local_count (type_at parts.now (length parts.now.imports + i)) body
+        ≤ greatest Locals) }
     ensures { result ≡ first_over InstrumentLocals (function_locals parts.now 0 parts.now.bodies) }
 {
     let what = Quantity::InstrumentLocals;

@@ -49,8 +49,10 @@ fn ops_weight(ops: &[Op], heights: &[u32]) -> u64
 /// The weight of a function of this type.
 fn body_weight(ftype: Option<&FuncType>, body: &Body, heights: &[u32]) -> u64
     requires locals { local_count (option_copied ftype) body.now ≤ greatest Locals }
-    requires fits { 192 + 16 * local_count (option_copied ftype) body.now + ops_weight (λ j. unwrap_or (slice_get heights.now j) 0) 0 body.now.ops < 2 ^ 64 }
-    ensures { result ≡ 192 + 16 * local_count (option_copied ftype.entry) body.now + ops_weight (λ j. unwrap_or (slice_get heights.now j) 0) 0 body.now.ops }
+    requires fits { 192 + 16 * local_count (option_copied ftype) body.now
+        + ops_weight (λ j. unwrap_or (slice_get heights.now j) 0) 0 body.now.ops < 2 ^ 64 }
+    ensures { result ≡ 192 + 16 * local_count (option_copied ftype.entry) body.now
+        + ops_weight (λ j. unwrap_or (slice_get heights.now j) 0) 0 body.now.ops }
 {
     192 + 16 * locals_of(ftype, body) + ops_weight(body.ops.as_slice(), heights)
 }
@@ -58,7 +60,9 @@ fn body_weight(ftype: Option<&FuncType>, body: &Body, heights: &[u32]) -> u64
 /// The weight of all functions that the module defines.
 fn bodies_weight(parts: &ModuleParts, heights: &Heights) -> u64
     requires few { length parts.now.imports + length parts.now.bodies < 2 ^ 64 }
-    requires locals { AtIndex parts.now.bodies (λ i body. local_count (type_at parts.now (length parts.now.imports + i)) body ≤ greatest Locals) }
+    requires locals { AtIndex parts.now.bodies
+        (λ i body. local_count (type_at parts.now (length parts.now.imports + i)) body
+        ≤ greatest Locals) }
     requires fits { bodies_weight parts.now heights.now 0 parts.now.bodies < 2 ^ 64 }
     ensures { result ≡ bodies_weight parts.now heights.now 0 parts.now.bodies }
 {
@@ -82,8 +86,10 @@ fn entry_weight(parts: &ModuleParts, function: u32) -> u64
 
 /// The weight of an export: none, where it names no function.
 fn export_weight(parts: &ModuleParts, export: &Export) -> u64
-    requires { (if is_function export.now.kind then entry_weight parts.now export.now.index else 0) < 2 ^ 64 }
-    ensures { result ≡ (if is_function export.now.kind then entry_weight parts.now export.now.index else 0) }
+    requires { (if is_function export.now.kind then entry_weight parts.now export.now.index else 0)
+        < 2 ^ 64 }
+    ensures { result ≡ (if is_function export.now.kind then entry_weight parts.now export.now.index
+        else 0) }
 {
     match export.kind {
         ExportKind::Function => entry_weight(parts, export.index),
@@ -143,9 +149,17 @@ fn least_size(tables: &LimitsList) -> u64
 /// The sum of the parts, where so many types are used to call functions through a table.
 fn total(parts: &ModuleParts, heights: &Heights, types: usize) -> u64
     requires few { length parts.now.imports + length parts.now.bodies < 2 ^ 64 }
-    requires locals { AtIndex parts.now.bodies (λ i body. local_count (type_at parts.now (length parts.now.imports + i)) body ≤ greatest Locals) }
-    requires fits { 512 + 8 * parts.now.plain_bytes + bodies_weight parts.now heights.now 0 parts.now.bodies + types * (128 + 5 * table_min parts.now.tables) + exports_weight parts.now parts.now.exports + start_weight parts.now parts.now.start < 2 ^ 64 }
-    ensures { result ≡ 512 + 8 * parts.now.plain_bytes + bodies_weight parts.now heights.now 0 parts.now.bodies + types * (128 + 5 * table_min parts.now.tables) + exports_weight parts.now parts.now.exports + start_weight parts.now parts.now.start }
+    requires locals { AtIndex parts.now.bodies
+        (λ i body. local_count (type_at parts.now (length parts.now.imports + i)) body
+        ≤ greatest Locals) }
+    requires fits { 512 + 8 * parts.now.plain_bytes
+        + bodies_weight parts.now heights.now 0 parts.now.bodies + types
+        * (128 + 5 * table_min parts.now.tables) + exports_weight parts.now parts.now.exports
+        + start_weight parts.now parts.now.start < 2 ^ 64 }
+    ensures { result ≡ 512 + 8 * parts.now.plain_bytes
+        + bodies_weight parts.now heights.now 0 parts.now.bodies + types
+        * (128 + 5 * table_min parts.now.tables) + exports_weight parts.now parts.now.exports
+        + start_weight parts.now parts.now.start }
 {
     512 + 8 * u64::from(parts.plain_bytes)
         + bodies_weight(parts, heights)

@@ -27,12 +27,15 @@ ghost use Rattle.wasm_syntax.specs.Valid.{Valid};
 /// makes the same host calls and each invocation comes to the same end. Where one traps, its collector calls hand over the dump of the
 /// original at that trap. It takes at least as many steps as the original, and at most the stated multiple.
 pub fn instrumented_module_simulates()
-    ensures { (p : Program) → Given p → (heights : List (List ℕ)) → AreHeights p.module_ heights → Simulates (multiple p.module_ heights) p (instrument p) }
+    ensures { (p : Program) → Given p → (heights : List (List ℕ)) → AreHeights p.module_ heights
+        → Simulates (multiple p.module_ heights) p (instrument p) }
 {}
 
 /// So does each program whose module is the rewritten one but for offsets, lengths and custom sections.
 pub fn rewritten_programs_simulate()
-    ensures { (p other : Program) → Given p → IsProgram other → bare_module other.module_ ≡ bare_module (new_module p) → (heights : List (List ℕ)) → AreHeights p.module_ heights → Simulates (multiple p.module_ heights) p other }
+    ensures { (p other : Program) → Given p → IsProgram other
+        → bare_module other.module_ ≡ bare_module (new_module p) → (heights : List (List ℕ))
+        → AreHeights p.module_ heights → Simulates (multiple p.module_ heights) p other }
 {}
 
 /// Each body of the rewritten module writes out its tree, but for offsets: the flat code is that of the trees.
@@ -47,12 +50,18 @@ pub fn instrumentable_modules_are_given()
 
 /// All together, for modules alone: a module that is the rewritten one but for offsets, lengths and custom sections does what the original does.
 pub fn rewritten_modules_simulate()
-    ensures { (m other : Parts) (these : Instrumentable m) (whole : IsModule other) → bare_module other ≡ bare_module (new_module (program_of m these.whole)) → (heights : List (List ℕ)) → AreHeights m heights → Simulates (multiple m heights) (program_of m these.whole) (program_of other whole) }
+    ensures { (m other : Parts) (these : Instrumentable m) (whole : IsModule other)
+        → bare_module other ≡ bare_module (new_module (program_of m these.whole))
+        → (heights : List (List ℕ)) → AreHeights m heights
+        → Simulates (multiple m heights) (program_of m these.whole) (program_of other whole) }
 {}
 
 /// Offsets, lengths and custom sections change no run: they are only shown.
 pub fn offsets_change_no_run()
-    ensures { (p other : Program) (collecting : Bool) (invocations : List Invocation) (replies : List HostReply) (depth n : ℕ) → bare p ≡ bare other → map bare_ran (run p collecting invocations replies depth n) ≡ map bare_ran (run other collecting invocations replies depth n) }
+    ensures { (p other : Program) (collecting : Bool) (invocations : List Invocation)
+        (replies : List HostReply) (depth n : ℕ) → bare p ≡ bare other
+        → map bare_ran (run p collecting invocations replies depth n)
+        ≡ map bare_ran (run other collecting invocations replies depth n) }
 {}
 
 /// The imports are those of the module and then the collector's three, and the exports those of the module and then its memory.
@@ -62,32 +71,47 @@ pub fn interface_is_kept()
 
 /// The rewritten module is valid, and so is each one that is the same but for offsets, lengths and custom sections.
 pub fn rewritten_modules_are_valid()
-    ensures { (m other : Parts) (these : Instrumentable m) (whole : IsModule other) → bare_module (new_module (program_of m these.whole)) ≡ bare_module other → Valid other }
+    ensures { (m other : Parts) (these : Instrumentable m) (whole : IsModule other)
+        → bare_module (new_module (program_of m these.whole)) ≡ bare_module other → Valid other }
 {}
 
 /// They are within the limits of the decoder, but for its bytes: locals, nesting, table and memory.
 pub fn rewritten_modules_are_within_limits()
-    ensures { (m other : Parts) (these : Instrumentable m) → bare_module (new_module (program_of m these.whole)) ≡ bare_module other → LowSizes other }
+    ensures { (m other : Parts) (these : Instrumentable m)
+        → bare_module (new_module (program_of m these.whole)) ≡ bare_module other → LowSizes other }
 {}
 
 /// From each configuration that agrees with one of the original, frames hand over their values where the original traps, and the wrapper
 /// ends in a trap: each frame in at most half of the bound on the steps, and the wrapper too. Worlds at the start agree, and wrappers lead to
 /// configurations that do.
 pub fn traps_unwind()
-    ensures { (m : Parts) (these : Instrumentable m) (heights : List (List ℕ)) → AreHeights m heights → (depth : ℕ) → Unwinds (program_of m these.whole) (half m heights) depth }
+    ensures { (m : Parts) (these : Instrumentable m) (heights : List (List ℕ))
+        → AreHeights m heights → (depth : ℕ)
+        → Unwinds (program_of m these.whole) (half m heights) depth }
 {}
 
 /// No function of them has more operands than validation admits: at most as many as the parameters of a function, and a few.
 pub fn rewritten_modules_have_low_heights()
-    ensures { (m other : Parts) (these : Instrumentable m) (whole : IsModule other) → bare_module (new_module (program_of m these.whole)) ≡ bare_module other → LowHeights other }
+    ensures { (m other : Parts) (these : Instrumentable m) (whole : IsModule other)
+        → bare_module (new_module (program_of m these.whole)) ≡ bare_module other
+        → LowHeights other }
 {}
 
 /// Each function has as many slots as its greatest operand height in live code, so the bound on the steps is that of locals, heights and
 /// globals.
 pub fn slots_are_heights()
-    ensures greatest { (m : Parts) (these : Instrumentable m) (heights : List (List ℕ)) → AreHeights m heights → (greatest (program_of m these.whole)).1 ≡ most_operands heights 0 m.bodies }
-    ensures locals { (m : Parts) (these : Instrumentable m) (heights : List (List ℕ)) → AreHeights m heights → (greatest (program_of m these.whole)).0 ≡ most_locals m 0 m.bodies }
-    ensures each { (m : Parts) (these : Instrumentable m) (heights : List (List ℕ)) → AreHeights m heights → (i : ℕ) (body : FunctionBody) (tree : Tree) (ftype : Signature) → function_at (program_of m these.whole) (import_count m + i) ≡ Some (defined body tree ftype) → slots_of (program_of m these.whole) (import_count m + i) body tree ftype ≡ highest (height_at heights i) 0 body.ops }
+    ensures greatest { (m : Parts) (these : Instrumentable m) (heights : List (List ℕ))
+        → AreHeights m heights → (greatest (program_of m these.whole)).1
+        ≡ most_operands heights 0 m.bodies }
+    ensures locals { (m : Parts) (these : Instrumentable m) (heights : List (List ℕ))
+        → AreHeights m heights → (greatest (program_of m these.whole)).0
+        ≡ most_locals m 0 m.bodies }
+    ensures each { (m : Parts) (these : Instrumentable m) (heights : List (List ℕ))
+        → AreHeights m heights → (i : ℕ) (body : FunctionBody) (tree : Tree) (ftype : Signature)
+        → function_at (program_of m these.whole) (import_count m + i)
+        ≡ Some (defined body tree ftype)
+        → slots_of (program_of m these.whole) (import_count m + i) body tree ftype
+        ≡ highest (height_at heights i) 0 body.ops }
 {}
 
 /// The module of the example weighs what the sum of its parts is by hand, and so is the bound on the steps.

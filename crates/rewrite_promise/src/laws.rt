@@ -25,24 +25,29 @@ ghost use Rattle.rewrite_promise.specs.Admitted.{Admits};
 /// sections: its imports are those of the module and then the collector's three, its exports those of the module and then its memory. Types,
 /// tables, memories and segments are the module's, and its globals come first.
 pub fn interface_is_kept()
-    ensures { (p : Program) (other : Parts) → bare_module (new_module p) ≡ bare_module other → KeepsOutside p.module_ other }
+    ensures { (p : Program) (other : Parts) → bare_module (new_module p) ≡ bare_module other
+        → KeepsOutside p.module_ other }
 {}
 
 /// A valid module has one weight: operand heights are what they are.
 pub fn heights_give_one_weight()
-    ensures { (m : Parts) (one other : List (List ℕ)) → Valid m → AreHeights m one → AreHeights m other → weight m one ≡ weight m other }
+    ensures { (m : Parts) (one other : List (List ℕ)) → Valid m → AreHeights m one
+        → AreHeights m other → weight m one ≡ weight m other }
 {}
 
 /// And one bound on the steps.
 pub fn heights_give_one_multiple()
-    ensures { (m : Parts) (one other : List (List ℕ)) → Valid m → AreHeights m one → AreHeights m other → multiple m one ≡ multiple m other }
+    ensures { (m : Parts) (one other : List (List ℕ)) → Valid m → AreHeights m one
+        → AreHeights m other → multiple m one ≡ multiple m other }
 {}
 
 /// What decoding gives has what the type of a module keeps, and is within the limits of the decoder. Where the bytes are accepted, the module
 /// is.
 pub fn decoded_modules_are_accepted()
-    ensures whole { (bytes : List ℕ) (m : Parts) → IsBytes bytes → module_from bytes ≡ Ok m → IsModule m }
-    ensures limits { (bytes : List ℕ) (m : Parts) → IsBytes bytes → module_from bytes ≡ Ok m → WithinLimits m }
+    ensures whole { (bytes : List ℕ) (m : Parts) → IsBytes bytes → module_from bytes ≡ Ok m
+        → IsModule m }
+    ensures limits { (bytes : List ℕ) (m : Parts) → IsBytes bytes → module_from bytes ≡ Ok m
+        → WithinLimits m }
     ensures accepted { (bytes : List ℕ) (m : Parts) → AcceptedBytes bytes m → Accepted m }
 {}
 
@@ -50,7 +55,8 @@ pub fn decoded_modules_are_accepted()
 /// all promises; so does each rewriting of what accepted bytes are decoded as.
 pub fn rewriting_promises()
     ensures modules { (m other : Parts) → Accepted m → IsRewriting m other → Promised m other }
-    ensures bytes { (bytes : List ℕ) (m other : Parts) → AcceptedBytes bytes m → IsRewriting m other → Promised m other }
+    ensures bytes { (bytes : List ℕ) (m other : Parts) → AcceptedBytes bytes m → IsRewriting m other
+        → Promised m other }
 {}
 
 /// Each accepted module has such a rewriting: a module whose code is that of the rewritten one, at ascending offsets.
@@ -61,14 +67,19 @@ pub fn rewritings_are_there()
 /// What is written of a rewriting is decoded as a rewriting, so that it keeps all promises, and takes at most the weight of the module. The
 /// numbers of a value of `Module` always fit their types, what is written of it is bytes, and encoding gives bytes that spell the same.
 pub fn written_rewritings_are_decoded()
-    ensures encoded { (m other : Parts) → Accepted m → IsRewriting m other → FitsModule other → IsBytes (encoding other) → DecodesAsRewriting m (encoding other) }
-    ensures spelled { (m other : Parts) → Accepted m → IsRewriting m other → SpellsSame other (encoding other) → IsBytes (encoding other) → DecodesAsRewriting m (encoding other) }
+    ensures encoded { (m other : Parts) → Accepted m → IsRewriting m other → FitsModule other
+        → IsBytes (encoding other) → DecodesAsRewriting m (encoding other) }
+    ensures spelled { (m other : Parts) → Accepted m → IsRewriting m other
+        → SpellsSame other (encoding other) → IsBytes (encoding other)
+        → DecodesAsRewriting m (encoding other) }
 {}
 
 /// What is written of a promised module is admitted: so a promised module is all that the writer of a file has to be given.
 pub fn written_promises_are_admitted()
-    ensures encoded { (m other : Parts) → LightEnough m → Promised m other → FitsModule other → IsBytes (encoding other) → Admits m (encoding other) }
-    ensures spelled { (m other : Parts) → LightEnough m → Promised m other → SpellsSame other (encoding other) → IsBytes (encoding other) → Admits m (encoding other) }
+    ensures encoded { (m other : Parts) → LightEnough m → Promised m other → FitsModule other
+        → IsBytes (encoding other) → Admits m (encoding other) }
+    ensures spelled { (m other : Parts) → LightEnough m → Promised m other
+        → SpellsSame other (encoding other) → IsBytes (encoding other) → Admits m (encoding other) }
 {}
 
 /// The premises can be met: the bytes of the example are decoded as it, and accepted.

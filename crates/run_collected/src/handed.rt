@@ -38,7 +38,8 @@ pub fn handed_over<'a>(
     name: &str,
 ) -> Result<Handed<'a>, NoMemory>
     ensures handed { (held : Option Paged) → option_copied memory.entry ≡ held → IfOk result (λ h.
-        (delivery : Delivery) × Delivers calls.now delivery × IsHanded delivery (bytes_in held) name.now h) }
+        (delivery : Delivery) × Delivers calls.now delivery
+        × IsHanded delivery (bytes_in held) name.now h) }
     ensures contained { IfOk result (IfHanded (λ c. IsContained c.dump)) }
     ensures pages { IfOk result (IfHanded (λ c. pages_of c.dump.memory ≤ 4096)) }
 {

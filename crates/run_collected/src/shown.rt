@@ -32,7 +32,8 @@ pub enum Shown<'a> {
 }
 
 fn at_end<'a>(handed: Handed<'a>) -> Shown<'a>
-    ensures shown { (v : Option Value) (delivery : Delivery) (memory : Option (List ℕ)) (name : List ℕ)
+    ensures shown { (v : Option Value) (delivery : Delivery) (memory : Option (List ℕ))
+        (name : List ℕ)
         → IsHanded delivery memory name handed.entry
         → IsShown (showing (finished v) delivery) memory name result }
     ensures contained { IfCollected (λ c. IsContained c.dump) result }

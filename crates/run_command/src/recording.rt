@@ -41,8 +41,10 @@ fn fitting_count<D: Devices>(instance: &Instance<'_>, hosts: &Hosts<'_, D>) -> u
 /// The record of the first replies of a run.
 fn record_of<D: Devices>(alloc: Global, hosts: &Hosts<'_, D>, count: u64) -> Result<Text, NoMemory>
     requires { count ≤ length hosts.now.served }
-    ensures text { IfOk result (λ t. t ≡ record_text (map (λ s. s.1.reply) (take count hosts.now.served))) }
-    ensures typed { OnOk result (All IsReplyTyped (map (λ s. s.1.reply) (take count hosts.now.served))) }
+    ensures text { IfOk result (λ t. t
+        ≡ record_text (map (λ s. s.1.reply) (take count hosts.now.served))) }
+    ensures typed { OnOk result (All IsReplyTyped
+        (map (λ s. s.1.reply) (take count hosts.now.served))) }
 {
     let mut text = Text::new(alloc);
     for index in 0..count {
@@ -60,9 +62,11 @@ fn write_record<F: Files, D: Devices>(
     hosts: &Hosts<'_, D>,
     outcome: Outcome,
 ) -> Result<Outcome, NoMemory>
-    ensures behind { Behind (Some file.now) (fitting (ends_badly instance.now.last) hosts.now.served)
+    ensures behind { Behind (Some file.now)
+        (fitting (ends_badly instance.now.last) hosts.now.served)
         (Rose (F.faults files.old) (F.faults files.new)) outcome result (F.told files.old) (F.told files.new) }
-    ensures memory { outcome.status ≢ Status.NoMemory → IfOk result (λ o. o.status ≢ Status.NoMemory) }
+    ensures memory { outcome.status ≢ Status.NoMemory
+        → IfOk result (λ o. o.status ≢ Status.NoMemory) }
     ensures telling { is_some (F.told files.new) ≡ is_some (F.told files.old) }
     ensures later { F.faults files.old ≤ F.faults files.new }
 {
@@ -87,7 +91,8 @@ pub(crate) fn recorded<F: Files, D: Devices>(
 ) -> Result<Outcome, NoMemory>
     ensures records { Records log_to.now (fitting (ends_badly instance.now.last) hosts.now.served)
         (Rose (F.faults files.old) (F.faults files.new)) outcome result (F.told files.old) (F.told files.new) }
-    ensures memory { IfOk outcome (λ o. o.status ≢ Status.NoMemory) → IfOk result (λ o. o.status ≢ Status.NoMemory) }
+    ensures memory { IfOk outcome (λ o. o.status ≢ Status.NoMemory)
+        → IfOk result (λ o. o.status ≢ Status.NoMemory) }
     ensures telling { is_some (F.told files.new) ≡ is_some (F.told files.old) }
     ensures later { F.faults files.old ≤ F.faults files.new }
 {

@@ -60,7 +60,8 @@ pub fn begin<'a, H: HostSide>(
     hosts: &H,
 ) -> Result<Begun<'a>, NoMemory>
     requires { 0 < length invocations.now }
-    ensures { IfOk result (HasBegun (H.serving hosts.now) source.now (map invocation_of invocations.now)) }
+    ensures { IfOk result (HasBegun (H.serving hosts.now) source.now
+        (map invocation_of invocations.now)) }
 {
     let cause = early_cause(alloc, source, invocations, hosts)?;
     match cause {
@@ -89,7 +90,9 @@ fn begin_with<'a, H: HostSide>(
     hosts: H,
 ) -> (Result<Begun<'a>, NoMemory>, H)
     requires { 0 < length words.now.invocations }
-    ensures begun { IfOk result.0 (HasBegun (serving_of words.now.collect (H.serving result.1)) source.now (map invocation_of words.now.invocations)) }
+    ensures begun { IfOk result.0
+        (HasBegun (serving_of words.now.collect (H.serving result.1)) source.now
+        (map invocation_of words.now.invocations)) }
     ensures same { result.1 ≡ hosts }
 {
     let invocations = words.invocations.as_slice();

@@ -33,7 +33,8 @@ fn fault_of<H: HostSide>(
     invocation: &Invocation,
     hosts: &H,
 ) -> Option<EntryFault>
-    ensures { result ≡ entry_fault (H.serving hosts.now) source.now invocation.now.entry invocation.now.args }
+    ensures { result ≡ entry_fault (H.serving hosts.now) source.now invocation.now.entry
+        invocation.now.args }
 {
     let entry = invocation.entry.as_str();
     entry_fault(source, entry, invocation.args.as_slice(), hosts)
@@ -94,7 +95,9 @@ pub(crate) fn early_cause<H: HostSide>(
     hosts: &H,
 ) -> Result<Option<Text>, NoMemory>
     requires { 0 < length invocations.now }
-    ensures { IfOk result (λ t. t ≡ or_text (entries_text source.now (map invocation_of invocations.now)) (import_text (first_unserved (H.serving hosts.now) source.now))) }
+    ensures { IfOk result (λ t. t
+        ≡ or_text (entries_text source.now (map invocation_of invocations.now))
+        (import_text (first_unserved (H.serving hosts.now) source.now))) }
 {
     let mut import = None;
     for invocation in invocations {

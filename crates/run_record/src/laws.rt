@@ -7,5 +7,6 @@ ghost use Rattle.run_record.specs.Record.{IsReplyTyped, record_text, without_emp
 
 /// A record is read as the replies that it is of, without their writes of no bytes.
 pub fn records_read_back()
-    ensures { (replies : List ReplyValue) → All IsReplyTyped replies → file_replies (record_text replies) ≡ Ok (map without_empty replies) }
+    ensures { (replies : List ReplyValue) → All IsReplyTyped replies
+        → file_replies (record_text replies) ≡ Ok (map without_empty replies) }
 {}

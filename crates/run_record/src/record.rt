@@ -81,7 +81,8 @@ pub fn push_reply(alloc: Global, out: &mut Text, reply: &Reply) -> Result<(), No
 pub fn push_record(alloc: Global, out: &mut Text, replies: &[Reply]) -> Result<(), NoMemory>
     ensures text { OnOk result (out.new ≡ out.old ++ record_text replies.now) }
     ensures typed { OnOk result (All IsReplyTyped replies.now) }
-    ensures read { OnOk result (file_replies (record_text replies.now) ≡ Ok (map without_empty replies.now)) }
+    ensures read { OnOk result (file_replies (record_text replies.now)
+        ≡ Ok (map without_empty replies.now)) }
 {
     for reply in replies {
         push_reply(alloc, out, reply)?;

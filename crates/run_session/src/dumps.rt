@@ -45,9 +45,14 @@ fn write_into<F: Files>(
 ) -> Result<Written, NoMemory>
     requires contained { IsContained dump.now }
     requires pages { pages_of dump.now.memory ≤ 4096 }
-    ensures written { IfOk result (IfWritten (OnTold (HasFile file.now (canonical_bytes dump.now)) (F.told files.old) (F.told files.new))) }
-    ensures front { OnTold (HasFront file.now (canonical_bytes dump.now)) (F.told files.old) (F.told files.new) }
-    ensures refused { IfOk result (IfRefused (λ o. (o ≡ file_fault file.now) × Rose (F.faults files.old) (F.faults files.new))) }
+    ensures written { IfOk result
+        (IfWritten (OnTold (HasFile file.now (canonical_bytes dump.now)) (F.told files.old)
+        (F.told files.new))) }
+    ensures front { OnTold (HasFront file.now (canonical_bytes dump.now)) (F.told files.old)
+        (F.told files.new) }
+    ensures refused { IfOk result
+        (IfRefused (λ o. (o ≡ file_fault file.now)
+        × Rose (F.faults files.old) (F.faults files.new))) }
     ensures telling { is_some (F.told files.new) ≡ is_some (F.told files.old) }
     ensures later { F.faults files.old ≤ F.faults files.new }
 {
@@ -71,9 +76,14 @@ pub(crate) fn dump_at_trap<F: Files>(
 ) -> Result<Written, NoMemory>
     requires contained { IsContained dump.now }
     requires pages { pages_of dump.now.memory ≤ 4096 }
-    ensures written { IfOk result (IfWritten (OnTold (HasFile (dump_name base.now number) (canonical_bytes dump.now)) (F.told files.old) (F.told files.new))) }
-    ensures front { OnTold (HasFront (dump_name base.now number) (canonical_bytes dump.now)) (F.told files.old) (F.told files.new) }
-    ensures refused { IfOk result (IfRefused (λ o. (o ≡ file_fault (dump_name base.now number)) × Rose (F.faults files.old) (F.faults files.new))) }
+    ensures written { IfOk result
+        (IfWritten (OnTold (HasFile (dump_name base.now number) (canonical_bytes dump.now))
+        (F.told files.old) (F.told files.new))) }
+    ensures front { OnTold (HasFront (dump_name base.now number) (canonical_bytes dump.now))
+        (F.told files.old) (F.told files.new) }
+    ensures refused { IfOk result
+        (IfRefused (λ o. (o ≡ file_fault (dump_name base.now number))
+        × Rose (F.faults files.old) (F.faults files.new))) }
     ensures telling { is_some (F.told files.new) ≡ is_some (F.told files.old) }
     ensures later { F.faults files.old ≤ F.faults files.new }
 {

@@ -103,7 +103,9 @@ pub(crate) fn ended_with(
     given: u64,
     due: usize,
 ) -> Result<Outcome, NoMemory>
-    ensures { IfOk result (λ o. o ≡ ended (answer_status answer.now lines.traps) (lines.text ++ answer_line answer.now given due)) }
+    ensures { IfOk result (λ o. o
+        ≡ ended (answer_status answer.now lines.traps)
+        (lines.text ++ answer_line answer.now given due)) }
 {
     let status = answer_status(answer, lines.traps);
     let mut text = lines.text;

@@ -10,7 +10,8 @@ use pm_outside::{Files, WriteAnswer};
 
 /// Makes a file of these bytes.
 pub fn write_file<F: Files>(files: &mut F, name: &str, bytes: &[u8]) -> WriteAnswer
-    ensures content { OnTold (Writes name.now bytes.now result) (F.told files.old) (F.told files.new) }
+    ensures content { OnTold (Writes name.now bytes.now result) (F.told files.old)
+        (F.told files.new) }
     ensures telling { is_some (F.told files.new) ≡ is_some (F.told files.old) }
     ensures others { OnTold (SameBut name.now) (F.told files.old) (F.told files.new) }
     ensures names { (F.created files.new ≡ F.created files.old)

@@ -93,18 +93,35 @@ pub(crate) fn run_one<F: Files, H: Counting>(
     requires collecting { H.collecting hosts.old ≡ words.now.collect }
     requires collected { words.now.collect ≡ true → (H.calls hosts.old).collected ≡ [] }
     requires ready { instance.old.ready ≡ true }
-    requires entry { entry_fault (H.serving hosts.old) instance.old.module_ invocation.now.entry invocation.now.args ≡ None }
+    requires entry { entry_fault (H.serving hosts.old) instance.old.module_ invocation.now.entry
+        invocation.now.args ≡ None }
     requires imports { (H.origin hosts.old).imports ≡ instance.old.module_.imports }
     requires traps { lines.old.traps < 2 ^ 64 - 1 }
-    ensures made { (deliver : List Call → Delivery) → IsDelivery deliver → (p : Program) → IsOf instance.old p → IfOk result (λ turn. UnlessRefused turn (MadeOne (tells words.now.collect deliver) p (engine p words.now.collect (depth_of words.now)) words.now.dump words.now.name (H.used_up hosts.new) instance.old instance.new (invocation_of invocation.now) words.now.fuel lines.old lines.new (H.calls hosts.old).served (H.calls hosts.new).served (F.told files.old) (F.told files.new) turn)) }
-    ensures stops { (deliver : List Call → Delivery) → IsDelivery deliver → (p : Program) (rest : List Invoking) → IsOf instance.old p → instance.old.steps ≤ words.now.fuel → OnTurnStop (λ stop. StopsIn (tells words.now.collect deliver) stop (engine p words.now.collect (depth_of words.now)) words.now.dump words.now.name lines.old.traps instance.old (invocation_of invocation.now ∷ rest) words.now.fuel (H.calls hosts.old).served (H.calls hosts.new).served (F.told files.old) (F.told files.new)) result }
+    ensures made { (deliver : List Call → Delivery) → IsDelivery deliver → (p : Program)
+        → IsOf instance.old p → IfOk result
+        (λ turn. UnlessRefused turn (MadeOne (tells words.now.collect deliver) p
+        (engine p words.now.collect (depth_of words.now)) words.now.dump words.now.name
+        (H.used_up hosts.new) instance.old instance.new (invocation_of invocation.now)
+        words.now.fuel lines.old lines.new (H.calls hosts.old).served (H.calls hosts.new).served
+        (F.told files.old) (F.told files.new) turn)) }
+    ensures stops { (deliver : List Call → Delivery) → IsDelivery deliver
+        → (p : Program) (rest : List Invoking) → IsOf instance.old p
+        → instance.old.steps ≤ words.now.fuel
+        → OnTurnStop (λ stop. StopsIn (tells words.now.collect deliver) stop
+        (engine p words.now.collect (depth_of words.now)) words.now.dump words.now.name
+        lines.old.traps instance.old (invocation_of invocation.now ∷ rest) words.now.fuel
+        (H.calls hosts.old).served (H.calls hosts.new).served (F.told files.old) (F.told files.new))
+        result }
     ensures ready { IfOk result (IfGoesOn (instance.new.ready ≡ true)) }
     ensures same { instance.new.module_ ≡ instance.old.module_ }
     ensures host { HostKept H.origin H.collecting H.serving H.fault_count hosts.old hosts.new }
     ensures memory { IfOk result (IfEnds (λ answer. answer ≢ RunEnd.NoMemory)) }
-    ensures cause { IfOk result (IfEnds (λ answer. HasCause answer (H.fault_count hosts.old) (H.fault_count hosts.new))) }
+    ensures cause { IfOk result (IfEnds
+        (λ answer. HasCause answer (H.fault_count hosts.old) (H.fault_count hosts.new))) }
     ensures one { lines.new.traps ≤ lines.old.traps + 1 }
-    ensures refused { IfOk result (IfTurnRefused (λ o. (o ≡ file_fault (dump_name words.now.dump lines.old.traps)) × Rose (F.faults files.old) (F.faults files.new))) }
+    ensures refused { IfOk result
+        (IfTurnRefused (λ o. (o ≡ file_fault (dump_name words.now.dump lines.old.traps))
+        × Rose (F.faults files.old) (F.faults files.new))) }
     ensures telling { is_some (F.told files.new) ≡ is_some (F.told files.old) }
     ensures later { F.faults files.old ≤ F.faults files.new }
 {
@@ -141,18 +158,36 @@ fn run_next<F: Files, H: Counting>(
     requires depth { words.now.depth ≤ 10000 }
     requires plain { collecting_of words.now.collect (H.collecting hosts) ≡ words.now.collect }
     requires ready { instance.old.ready ≡ true }
-    requires entry { entry_fault (serving_of words.now.collect (H.serving hosts)) instance.old.module_ invocation.now.entry invocation.now.args ≡ None }
+    requires entry { entry_fault (serving_of words.now.collect (H.serving hosts))
+        instance.old.module_ invocation.now.entry invocation.now.args ≡ None }
     requires imports { (H.origin hosts).imports ≡ instance.old.module_.imports }
     requires traps { lines.old.traps < 2 ^ 64 - 1 }
-    ensures made { (deliver : List Call → Delivery) → IsDelivery deliver → (p : Program) → IsOf instance.old p → IfOk result.0 (λ turn. UnlessRefused turn (MadeOne (tells words.now.collect deliver) p (engine p words.now.collect (depth_of words.now)) words.now.dump words.now.name (used_up_of words.now.collect (H.used_up result.1)) instance.old instance.new (invocation_of invocation.now) words.now.fuel lines.old lines.new (H.calls hosts).served (H.calls result.1).served (F.told files.old) (F.told files.new) turn)) }
-    ensures stops { (deliver : List Call → Delivery) → IsDelivery deliver → (p : Program) (rest : List Invoking) → IsOf instance.old p → instance.old.steps ≤ words.now.fuel → OnTurnStop (λ stop. StopsIn (tells words.now.collect deliver) stop (engine p words.now.collect (depth_of words.now)) words.now.dump words.now.name lines.old.traps instance.old (invocation_of invocation.now ∷ rest) words.now.fuel (H.calls hosts).served (H.calls result.1).served (F.told files.old) (F.told files.new)) result.0 }
+    ensures made { (deliver : List Call → Delivery) → IsDelivery deliver → (p : Program)
+        → IsOf instance.old p → IfOk result.0
+        (λ turn. UnlessRefused turn (MadeOne (tells words.now.collect deliver) p
+        (engine p words.now.collect (depth_of words.now)) words.now.dump words.now.name
+        (used_up_of words.now.collect (H.used_up result.1)) instance.old instance.new
+        (invocation_of invocation.now) words.now.fuel lines.old lines.new (H.calls hosts).served
+        (H.calls result.1).served (F.told files.old) (F.told files.new) turn)) }
+    ensures stops { (deliver : List Call → Delivery) → IsDelivery deliver
+        → (p : Program) (rest : List Invoking) → IsOf instance.old p
+        → instance.old.steps ≤ words.now.fuel
+        → OnTurnStop (λ stop. StopsIn (tells words.now.collect deliver) stop
+        (engine p words.now.collect (depth_of words.now)) words.now.dump words.now.name
+        lines.old.traps instance.old (invocation_of invocation.now ∷ rest) words.now.fuel
+        (H.calls hosts).served (H.calls result.1).served (F.told files.old) (F.told files.new))
+        result.0 }
     ensures ready { IfOk result.0 (IfGoesOn (instance.new.ready ≡ true)) }
     ensures same { instance.new.module_ ≡ instance.old.module_ }
-    ensures host { KeptBehind H.origin H.collecting H.serving H.fault_count words.now.collect hosts result.1 }
+    ensures host { KeptBehind H.origin H.collecting H.serving H.fault_count words.now.collect hosts
+        result.1 }
     ensures memory { IfOk result.0 (IfEnds (λ answer. answer ≢ RunEnd.NoMemory)) }
-    ensures cause { IfOk result.0 (IfEnds (λ answer. HasCause answer (H.fault_count hosts) (H.fault_count result.1))) }
+    ensures cause { IfOk result.0
+        (IfEnds (λ answer. HasCause answer (H.fault_count hosts) (H.fault_count result.1))) }
     ensures one { lines.new.traps ≤ lines.old.traps + 1 }
-    ensures refused { IfOk result.0 (IfTurnRefused (λ o. (o ≡ file_fault (dump_name words.now.dump lines.old.traps)) × Rose (F.faults files.old) (F.faults files.new))) }
+    ensures refused { IfOk result.0
+        (IfTurnRefused (λ o. (o ≡ file_fault (dump_name words.now.dump lines.old.traps))
+        × Rose (F.faults files.old) (F.faults files.new))) }
     ensures telling { is_some (F.told files.new) ≡ is_some (F.told files.old) }
     ensures later { F.faults files.old ≤ F.faults files.new }
 {
@@ -195,15 +230,30 @@ pub fn run_all<F: Files, H: Counting>(
     requires depth { words.now.depth ≤ 10000 }
     requires plain { H.collecting hosts ≡ false }
     requires ready { instance.old.ready ≡ true }
-    requires entries { All (λ i. entry_fault (serving_of words.now.collect (H.serving hosts)) instance.old.module_ i.entry i.args ≡ None) words.now.invocations }
+    requires entries { All (λ i. entry_fault (serving_of words.now.collect (H.serving hosts))
+        instance.old.module_ i.entry i.args ≡ None) words.now.invocations }
     requires some { 0 < length words.now.invocations }
     requires imports { (H.origin hosts).imports ≡ instance.old.module_.imports }
     requires steps { instance.old.steps ≡ 0 }
     requires calls { (H.calls hosts).served ≡ [] }
-    ensures ran { (deliver : List Call → Delivery) → IsDelivery deliver → (p : Program) → IsOf instance.old p → IfOk result.0 (λ o. UnlessFault o.status (RanAll (tells words.now.collect deliver) p (engine p words.now.collect (depth_of words.now)) words.now.dump words.now.name (used_up_of words.now.collect (H.used_up result.1)) (H.fault_count hosts) (H.fault_count result.1) (ends_badly instance.new.last) (point_of instance.old (map invocation_of words.now.invocations) words.now.fuel) (H.calls hosts).served (H.calls result.1).served (F.told files.old) (F.told files.new) o)) }
-    ensures stops { (deliver : List Call → Delivery) → IsDelivery deliver → (p : Program) → IsOf instance.old p → OnStop (λ stop. StopsIn (tells words.now.collect deliver) stop (engine p words.now.collect (depth_of words.now)) words.now.dump words.now.name 0 instance.old (map invocation_of words.now.invocations) words.now.fuel (H.calls hosts).served (H.calls result.1).served (F.told files.old) (F.told files.new)) result.0 }
+    ensures ran { (deliver : List Call → Delivery) → IsDelivery deliver → (p : Program)
+        → IsOf instance.old p → IfOk result.0
+        (λ o. UnlessFault o.status (RanAll (tells words.now.collect deliver) p
+        (engine p words.now.collect (depth_of words.now)) words.now.dump words.now.name
+        (used_up_of words.now.collect (H.used_up result.1)) (H.fault_count hosts)
+        (H.fault_count result.1) (ends_badly instance.new.last)
+        (point_of instance.old (map invocation_of words.now.invocations) words.now.fuel)
+        (H.calls hosts).served (H.calls result.1).served (F.told files.old) (F.told files.new) o)) }
+    ensures stops { (deliver : List Call → Delivery) → IsDelivery deliver → (p : Program)
+        → IsOf instance.old p → OnStop
+        (λ stop. StopsIn (tells words.now.collect deliver) stop
+        (engine p words.now.collect (depth_of words.now)) words.now.dump words.now.name 0
+        instance.old (map invocation_of words.now.invocations) words.now.fuel (H.calls hosts).served
+        (H.calls result.1).served (F.told files.old) (F.told files.new)) result.0 }
     ensures memory { IfOk result.0 (λ o. o.status ≢ Status.NoMemory) }
-    ensures fault { IfOk result.0 (λ o. o.status ≡ Status.FileFault → IsDumpFault words.now.dump o × Rose (F.faults files.old) (F.faults files.new)) }
+    ensures fault { IfOk result.0
+        (λ o. o.status ≡ Status.FileFault
+        → IsDumpFault words.now.dump o × Rose (F.faults files.old) (F.faults files.new)) }
     ensures origin { H.origin result.1 ≡ H.origin hosts }
     ensures telling { is_some (F.told files.new) ≡ is_some (F.told files.old) }
     ensures later { F.faults files.old ≤ F.faults files.new }

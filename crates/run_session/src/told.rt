@@ -118,7 +118,8 @@ pub(crate) fn tell<'a>(
     calls: &[CollectorCall],
 ) -> Result<Told<'a>, NoMemory>
     ensures told { (deliver : List Call → Delivery) → IsDelivery deliver
-        → IfOk result (TellsIt (tells words.now.collect deliver) words.now.collect answer.now instance.now calls.now words.now.name) }
+        → IfOk result (TellsIt (tells words.now.collect deliver) words.now.collect answer.now
+        instance.now calls.now words.now.name) }
     ensures contained { IfOk result (IfDump (λ d. IsContained d)) }
     ensures pages { IfOk result (IfDump (λ d. pages_of d.memory ≤ 4096)) }
     ensures memory { IfOk result (λ _. answer.now ≢ RunEnd.NoMemory) }

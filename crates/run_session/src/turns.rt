@@ -74,9 +74,14 @@ fn add_trap<F: Files>(
     requires traps { lines.old.traps < 2 ^ 64 - 1 }
     requires contained { IsContained dump.now }
     requires pages { pages_of dump.now.memory ≤ 4096 }
-    ensures added { IfOk result (IfWritten (AddsTold words.now.dump words.now.name (Told.Trap kind dump.now) calls lines.old lines.new (F.told files.old) (F.told files.new))) }
-    ensures front { LeavesDump words.now.dump words.now.name (Told.Trap kind dump.now) lines.old.traps (F.told files.old) (F.told files.new) }
-    ensures refused { IfOk result (IfRefused (λ o. (o ≡ file_fault (dump_name words.now.dump lines.old.traps)) × Rose (F.faults files.old) (F.faults files.new))) }
+    ensures added { IfOk result (IfWritten
+        (AddsTold words.now.dump words.now.name (Told.Trap kind dump.now) calls lines.old lines.new
+        (F.told files.old) (F.told files.new))) }
+    ensures front { LeavesDump words.now.dump words.now.name (Told.Trap kind dump.now)
+        lines.old.traps (F.told files.old) (F.told files.new) }
+    ensures refused { IfOk result
+        (IfRefused (λ o. (o ≡ file_fault (dump_name words.now.dump lines.old.traps))
+        × Rose (F.faults files.old) (F.faults files.new))) }
     ensures one { lines.new.traps ≤ lines.old.traps + 1 }
     ensures telling { is_some (F.told files.new) ≡ is_some (F.told files.old) }
     ensures later { F.faults files.old ≤ F.faults files.new }
@@ -105,10 +110,16 @@ fn add_told<F: Files>(
     requires traps { lines.old.traps < 2 ^ 64 - 1 }
     requires contained { IfDump (λ d. IsContained d) told.now }
     requires pages { IfDump (λ d. pages_of d.memory ≤ 4096) told.now }
-    ensures added { IfOk result (IfWritten (AddsTold words.now.dump words.now.name told.now calls lines.old lines.new (F.told files.old) (F.told files.new))) }
-    ensures front { LeavesDump words.now.dump words.now.name told.now lines.old.traps (F.told files.old) (F.told files.new) }
-    ensures dumped { IfOk result (IfRefused (λ _. (t : Telling) → IsTold t words.now.name told.now → HasDump t)) }
-    ensures refused { IfOk result (IfRefused (λ o. (o ≡ file_fault (dump_name words.now.dump lines.old.traps)) × Rose (F.faults files.old) (F.faults files.new))) }
+    ensures added { IfOk result (IfWritten
+        (AddsTold words.now.dump words.now.name told.now calls lines.old lines.new
+        (F.told files.old) (F.told files.new))) }
+    ensures front { LeavesDump words.now.dump words.now.name told.now lines.old.traps
+        (F.told files.old) (F.told files.new) }
+    ensures dumped { IfOk result (IfRefused
+        (λ _. (t : Telling) → IsTold t words.now.name told.now → HasDump t)) }
+    ensures refused { IfOk result
+        (IfRefused (λ o. (o ≡ file_fault (dump_name words.now.dump lines.old.traps))
+        × Rose (F.faults files.old) (F.faults files.new))) }
     ensures one { lines.new.traps ≤ lines.old.traps + 1 }
     ensures telling { is_some (F.told files.new) ≡ is_some (F.told files.old) }
     ensures later { F.faults files.old ≤ F.faults files.new }
@@ -142,10 +153,22 @@ pub(crate) fn end_turn<F: Files>(
     lines: &mut Lines,
 ) -> Result<Turn, NoMemory>
     requires { lines.old.traps < 2 ^ 64 - 1 }
-    ensures added { (deliver : List Call → Delivery) → IsDelivery deliver → IfOk result (λ turn. UnlessRefused turn (Added (tells words.now.collect deliver) words.now.collect words.now.dump words.now.name instance.now answer calls collected.now lines.old lines.new (F.told files.old) (F.told files.new) turn)) }
-    ensures part { (deliver : List Call → Delivery) → IsDelivery deliver → LeavesPart (tells words.now.collect deliver) words.now.collect words.now.dump words.now.name instance.now answer collected.now lines.old.traps (F.told files.old) (F.told files.new) }
-    ensures dumped { (deliver : List Call → Delivery) → IsDelivery deliver → IfOk result (IfTurnRefused (λ _. Dumps (tells words.now.collect deliver) words.now.collect answer instance.now collected.now)) }
-    ensures refused { IfOk result (IfTurnRefused (λ o. (o ≡ file_fault (dump_name words.now.dump lines.old.traps)) × Rose (F.faults files.old) (F.faults files.new))) }
+    ensures added { (deliver : List Call → Delivery) → IsDelivery deliver
+        → IfOk result (λ turn. UnlessRefused turn
+        (Added (tells words.now.collect deliver) words.now.collect words.now.dump words.now.name
+        instance.now answer calls collected.now lines.old lines.new (F.told files.old)
+        (F.told files.new) turn)) }
+    ensures part { (deliver : List Call → Delivery) → IsDelivery deliver
+        → LeavesPart (tells words.now.collect deliver) words.now.collect words.now.dump
+        words.now.name instance.now answer collected.now lines.old.traps (F.told files.old)
+        (F.told files.new) }
+    ensures dumped { (deliver : List Call → Delivery) → IsDelivery deliver
+        → IfOk result (IfTurnRefused
+        (λ _. Dumps (tells words.now.collect deliver) words.now.collect answer instance.now
+        collected.now)) }
+    ensures refused { IfOk result
+        (IfTurnRefused (λ o. (o ≡ file_fault (dump_name words.now.dump lines.old.traps))
+        × Rose (F.faults files.old) (F.faults files.new))) }
     ensures memory { IfOk result (λ _. answer ≢ RunEnd.NoMemory) }
     ensures ready { IfOk result (IfGoesOn (instance.now.ready ≡ true)) }
     ensures ends { IfOk result (IfEnds (λ a. a ≡ answer)) }

@@ -39,8 +39,10 @@ fn asked(
     behind: &[&str],
     reading: &Reading<'_>,
 ) -> Result<CoverWords, WordsFault>
-    ensures ok { IfOk result (λ r. cover_asked source.now (map (λ w. w.now) behind.now) reading.now ≡ Some r) }
-    ensures usage { result ≡ Err WordsFault.Usage → cover_asked source.now (map (λ w. w.now) behind.now) reading.now ≡ None }
+    ensures ok { IfOk result (λ r. cover_asked source.now (map (λ w. w.now) behind.now) reading.now
+        ≡ Some r) }
+    ensures usage { result ≡ Err WordsFault.Usage
+        → cover_asked source.now (map (λ w. w.now) behind.now) reading.now ≡ None }
     ensures fuel { IfOk result (λ r. r.fuel ≤ 1000000000000) }
     ensures depth { IfOk result (λ r. (1 ≤ r.depth) × (r.depth ≤ 10000)) }
 {
@@ -64,7 +66,8 @@ fn asked(
 #[tactic(auto, unfolding(crate::specs::CoverWords::cover_words))]
 pub fn cover_words(alloc: Global, words: &[String]) -> Result<CoverWords, WordsFault>
     ensures ok { IfOk result (λ r. cover_words (map string_bytes words.now) ≡ Some r) }
-    ensures usage { result ≡ Err WordsFault.Usage → cover_words (map string_bytes words.now) ≡ None }
+    ensures usage { result ≡ Err WordsFault.Usage
+        → cover_words (map string_bytes words.now) ≡ None }
     ensures fuel { IfOk result (λ r. r.fuel ≤ 1000000000000) }
     ensures depth { IfOk result (λ r. (1 ≤ r.depth) × (r.depth ≤ 10000)) }
 {

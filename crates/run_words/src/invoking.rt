@@ -34,7 +34,8 @@ fn argument(word: &str) -> Option<Value>
 /// The arguments that words write.
 pub fn arguments(alloc: Global, words: &[&str]) -> Result<Values, WordsFault>
     ensures ok { IfOk result (λ vs. each argument (map (λ w. w.now) words.now) ≡ Some vs) }
-    ensures usage { result ≡ Err WordsFault.Usage → each argument (map (λ w. w.now) words.now) ≡ None }
+    ensures usage { result ≡ Err WordsFault.Usage
+        → each argument (map (λ w. w.now) words.now) ≡ None }
 {
     let mut values = Items::new(alloc);
     for word in words {
@@ -62,7 +63,8 @@ pub(crate) fn invocation(alloc: Global, words: &[&str]) -> Result<Invocation, Wo
 
 /// The words between the words `+`.
 fn parts<'w, 'a>(alloc: Global, words: &'w [&'a str]) -> Result<Vec<&'w [&'a str]>, NoMemory>
-    ensures { IfOk result (λ ps. map (λ p. map (λ w. w.now) p.now) ps.items ≡ slice_split is_plus (map (λ w. w.now) words.now)) }
+    ensures { IfOk result (λ ps. map (λ p. map (λ w. w.now) p.now) ps.items
+        ≡ slice_split is_plus (map (λ w. w.now) words.now)) }
 {
     let parts: Vec<&[&str]> = words.split(|w| *w == "+").collect(alloc)?;
     Ok(parts)
@@ -72,7 +74,8 @@ fn parts<'w, 'a>(alloc: Global, words: &'w [&'a str]) -> Result<Vec<&'w [&'a str
 #[tactic(auto, unfolding(crate::specs::Invocations::invocations))]
 pub fn invocations(alloc: Global, words: &[&str]) -> Result<Invocations, WordsFault>
     ensures ok { IfOk result (λ is. invocations (map (λ w. w.now) words.now) ≡ Some is) }
-    ensures usage { result ≡ Err WordsFault.Usage → invocations (map (λ w. w.now) words.now) ≡ None }
+    ensures usage { result ≡ Err WordsFault.Usage
+        → invocations (map (λ w. w.now) words.now) ≡ None }
     ensures some { IfOk result (λ is. 0 < length is) }
 {
     let parts = parts(alloc, words)?;

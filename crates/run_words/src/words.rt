@@ -108,7 +108,8 @@ fn text_or<'a>(reading: &Reading<'a>, option: &str, default: &'a str) -> &'a str
 /// The name that a dump has inside, of at most 4,096 bytes.
 #[tactic(auto, unfolding(crate::specs::RunWords::name))]
 fn name<'a>(reading: &Reading<'a>) -> Option<&'a str>
-    ensures value { MatchOption result (name reading.now ≡ None) (λ t. name reading.now ≡ Some t.now) }
+    ensures value { MatchOption result (name reading.now ≡ None)
+        (λ t. name reading.now ≡ Some t.now) }
     ensures bound { IfSome result (λ t. length t.now ≤ 4096) }
 {
     let name = text_or(reading, "--name", "module");
@@ -205,8 +206,10 @@ fn asked(
     behind: &[&str],
     reading: &Reading<'_>,
 ) -> Result<RunWords, WordsFault>
-    ensures ok { IfOk result (λ r. asked source.now (map (λ w. w.now) behind.now) reading.now ≡ Some r) }
-    ensures usage { result ≡ Err WordsFault.Usage → asked source.now (map (λ w. w.now) behind.now) reading.now ≡ None }
+    ensures ok { IfOk result (λ r. asked source.now (map (λ w. w.now) behind.now) reading.now
+        ≡ Some r) }
+    ensures usage { result ≡ Err WordsFault.Usage
+        → asked source.now (map (λ w. w.now) behind.now) reading.now ≡ None }
     ensures some { IfOk result (λ r. 0 < length r.invocations) }
     ensures fuel { IfOk result (λ r. r.fuel ≤ 1000000000000) }
     ensures depth { IfOk result (λ r. (1 ≤ r.depth) × (r.depth ≤ 10000)) }

@@ -45,7 +45,8 @@ fn shown(
     count: u32,
 ) -> Result<Outcome, NoMemory>
     ensures { IfOk result (λ o. (delivery : Delivery) × Delivers calls.now delivery
-        × (o ≡ summary count (dumped delivery (bytes_in instance.now.machine.shared.memory)) instance.now.steps)) }
+        × (o ≡ summary count (dumped delivery (bytes_in instance.now.machine.shared.memory))
+        instance.now.steps)) }
 {
     let handed = handed_over(alloc, calls, instance.memory(), "module")?;
     handed_summary(alloc, count, &handed, instance.steps())
@@ -59,8 +60,10 @@ fn ended(
     calls: &[CollectorCall],
     count: u32,
 ) -> Result<Outcome, NoMemory>
-    ensures { IfOk result (λ o. (end.now ≢ RunEnd.NoMemory) × ((delivery : Delivery) × Delivers calls.now delivery
-        × (o ≡ summary count (dumped delivery (bytes_in instance.now.machine.shared.memory)) instance.now.steps))) }
+    ensures { IfOk result (λ o. (end.now ≢ RunEnd.NoMemory)
+        × ((delivery : Delivery) × Delivers calls.now delivery
+        × (o ≡ summary count (dumped delivery (bytes_in instance.now.machine.shared.memory))
+        instance.now.steps))) }
 {
     match end {
         RunEnd::NoMemory => Err(NoMemory),

@@ -30,7 +30,11 @@ fn sum_of(bytes: &[u8]) -> u128
 /// Adds the kind of a trap and how many frames its dump has.
 #[tactic(auto, unfolding(crate::specs::Summary::trap_text))]
 fn push_trap(out: &mut Text, count: u32, kind: u32, frames: usize) -> Result<(), NoMemory>
-    ensures { OnOk result ((bytes : List ℕ) → out.new ≡ out.old ++ trap_text count (record { kind = kind; frames = frames; bytes = bytes })) }
+    ensures { OnOk result ((bytes : List ℕ) → out.new ≡ out.old ++ trap_text count (record {
+      kind = kind;
+      frames = frames;
+      bytes = bytes;
+    })) }
 {
     push_number(out, "selftest ", u64::from(count))?;
     push_number(out, " kind ", u64::from(kind))?;
@@ -40,7 +44,11 @@ fn push_trap(out: &mut Text, count: u32, kind: u32, frames: usize) -> Result<(),
 /// Adds how many bytes a dump has, their sum, and how many steps were made.
 #[tactic(auto, unfolding(crate::specs::Summary::sum_text))]
 fn push_sum(out: &mut Text, bytes: &[u8], steps: u64) -> Result<(), NoMemory>
-    ensures { OnOk result ((kind frames : ℕ) → out.new ≡ out.old ++ sum_text (record { kind = kind; frames = frames; bytes = bytes.now }) steps) }
+    ensures { OnOk result ((kind frames : ℕ) → out.new ≡ out.old ++ sum_text (record {
+      kind = kind;
+      frames = frames;
+      bytes = bytes.now;
+    }) steps) }
 {
     push_number(out, " bytes ", bytes.len() as u64)?;
     out.push_str(" sum ")?;
@@ -58,7 +66,11 @@ pub(crate) fn summary(
     bytes: &[u8],
     steps: u64,
 ) -> Result<Outcome, NoMemory>
-    ensures { IfOk result (λ o. o ≡ summary count (record { kind = kind; frames = frames; bytes = bytes.now }) steps) }
+    ensures { IfOk result (λ o. o ≡ summary count (record {
+      kind = kind;
+      frames = frames;
+      bytes = bytes.now;
+    }) steps) }
 {
     let mut text = Text::new(alloc);
     push_trap(&mut text, count, kind, frames)?;
@@ -78,7 +90,9 @@ pub(crate) fn handed_summary(
 ) -> Result<Outcome, NoMemory>
     requires contained { IfHanded (λ c. IsContained c.dump) handed.now }
     requires pages { IfHanded (λ c. pages_of c.dump.memory ≤ 4096) handed.now }
-    ensures { (delivery : Delivery) (memory : Option (List ℕ)) → IsHanded delivery memory (codes "module") handed.now → IfOk result (λ o. o ≡ summary count (dumped delivery memory) steps) }
+    ensures { (delivery : Delivery) (memory : Option (List ℕ))
+        → IsHanded delivery memory (codes "module") handed.now
+        → IfOk result (λ o. o ≡ summary count (dumped delivery memory) steps) }
 {
     match handed {
         Handed::Whole(collected) => {

@@ -29,7 +29,8 @@ fn count(digits: &str) -> Option<u32>
 #[tactic(auto, unfolding(crate::specs::Words::selftest_words))]
 pub fn selftest_words(alloc: Global, words: &[String]) -> Result<u32, WordsFault>
     ensures ok { IfOk result (λ n. selftest_words (map string_bytes words.now) ≡ Some n) }
-    ensures usage { result ≡ Err WordsFault.Usage → selftest_words (map string_bytes words.now) ≡ None }
+    ensures usage { result ≡ Err WordsFault.Usage
+        → selftest_words (map string_bytes words.now) ≡ None }
     ensures bounds { IfOk result (λ n. (1 ≤ n) × (n ≤ 900)) }
 {
     let Some(reading) = read_words(alloc, words, &Options::none())? else {

@@ -68,7 +68,9 @@ fn push_mixed(code: &mut Code, r: u32) -> Result<(), NoMemory>
 
 /// Sixteen numbers are mixed in, which come behind `before`. The last of them is given.
 fn push_mixing(code: &mut Code, before: u32) -> Result<u32, NoMemory>
-    ensures { (n k : ℕ) → before ≡ number n k → IfOk result (λ r. (code.new ≡ code.old ++ mixing_there n (k + 1)) × (r ≡ number n (k + 16))) }
+    ensures { (n k : ℕ) → before ≡ number n k
+        → IfOk result (λ r. (code.new ≡ code.old ++ mixing_there n (k + 1))
+        × (r ≡ number n (k + 16))) }
 {
     let mut r = before;
     for made in 0..16u32 {
@@ -101,7 +103,9 @@ pub fn function_code(
     before: u32,
 ) -> Result<(Items<Instr>, u32), NoMemory>
     requires { i < 1000 }
-    ensures { before ≡ number count (16 * i) → IfOk result (λ x. (x.0 ≡ function_code_there count i) × (x.1 ≡ number count (16 * (i + 1)))) }
+    ensures { before ≡ number count (16 * i)
+        → IfOk result (λ x. (x.0 ≡ function_code_there count i)
+        × (x.1 ≡ number count (16 * (i + 1)))) }
 {
     let mut code = Items::new(alloc);
     push_beginning(&mut code, i)?;

@@ -35,7 +35,11 @@ fn functions(alloc: Global, count: u32) -> Result<Items<u32>, NoMemory>
 }
 
 fn main_export(alloc: Global) -> Result<Export, NoMemory>
-    ensures { IfOk result (λ e. e ≡ record { name = codes "main"; kind = kinds.Function; index = 0 }) }
+    ensures { IfOk result (λ e. e ≡ record {
+      name = codes "main";
+      kind = kinds.Function;
+      index = 0;
+    }) }
 {
     Ok(Export {
         name: Text::from_str(alloc, "main")?,

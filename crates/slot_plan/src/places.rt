@@ -28,7 +28,9 @@ pub(crate) enum Flow {
 
 /// The value that an instruction pushes, where it is a constant instruction.
 fn constant(instruction: Basic) -> Option<Value>
-    ensures { MatchOption result ((C : Ctx) (es : List Place) → after_instr C es instruction ≡ after_plain C es instruction) (λ v. instruction ≡ Const v) }
+    ensures { MatchOption result ((C : Ctx) (es : List Place)
+        → after_instr C es instruction ≡ after_plain C es instruction)
+        (λ v. instruction ≡ Const v) }
 {
     match instruction {
         Basic::Const(value) => Some(value),
@@ -63,7 +65,9 @@ fn basic(
     source: &ModuleParts,
     instruction: Basic,
 ) -> Result<(), NoMemory>
-    ensures { (C : Ctx) → C.locals ≡ locals.now → C.source ≡ source.now → OnOk result (walk.new ≡ with_places walk.old (after_instr C walk.old.places instruction)) }
+    ensures { (C : Ctx) → C.locals ≡ locals.now → C.source ≡ source.now
+        → OnOk result (walk.new ≡ with_places walk.old
+        (after_instr C walk.old.places instruction)) }
 {
     match constant(instruction) {
         Some(value) => walk.push_constant(value),
@@ -83,14 +87,17 @@ fn given(ftype: &FuncType) -> Option<ValType>
 
 /// A call of a function of this type.
 fn call(walk: &mut Walk, ftype: &FuncType) -> Result<(), NoMemory>
-    ensures { OnOk result (walk.new ≡ with_places walk.old (grown (result_of ftype.now) (less (length ftype.now.params) walk.old.places))) }
+    ensures { OnOk result (walk.new
+        ≡ with_places walk.old (grown (result_of ftype.now)
+        (less (length ftype.now.params) walk.old.places))) }
 {
     walk.perform(ftype.params.len(), given(ftype))
 }
 
 /// A call of a function.
 fn call_direct(walk: &mut Walk, source: &ModuleParts, function: u32) -> Result<Flow, NoMemory>
-    ensures { (C : Ctx) → C.source ≡ source.now → IfOk result (λ flow. Jumped flow C (Call function) walk.old walk.new) }
+    ensures { (C : Ctx) → C.source ≡ source.now
+        → IfOk result (λ flow. Jumped flow C (Call function) walk.old walk.new) }
 {
     match source.type_of(function as usize) {
         Some(ftype) => {
@@ -103,7 +110,8 @@ fn call_direct(walk: &mut Walk, source: &ModuleParts, function: u32) -> Result<F
 
 /// A call through the table of a function of the type with this index.
 fn call_indirect(walk: &mut Walk, source: &ModuleParts, index: u32) -> Result<Flow, NoMemory>
-    ensures { (C : Ctx) → C.source ≡ source.now → IfOk result (λ flow. Jumped flow C (CallIndirect index) walk.old walk.new) }
+    ensures { (C : Ctx) → C.source ≡ source.now
+        → IfOk result (λ flow. Jumped flow C (CallIndirect index) walk.old walk.new) }
 {
     walk.perform(1, None)?;
     match source.types.get(index as usize) {
@@ -116,7 +124,8 @@ fn call_indirect(walk: &mut Walk, source: &ModuleParts, index: u32) -> Result<Fl
 }
 
 fn jump(walk: &mut Walk, source: &ModuleParts, code: Jump) -> Result<Flow, NoMemory>
-    ensures { (C : Ctx) (targets : List ℕ) → C.source ≡ source.now → IfOk result (λ flow. Jumped flow C (jump_of targets code) walk.old walk.new) }
+    ensures { (C : Ctx) (targets : List ℕ) → C.source ≡ source.now
+        → IfOk result (λ flow. Jumped flow C (jump_of targets code) walk.old walk.new) }
 {
     match code {
         Jump::Unreachable | Jump::Br(_) | Jump::BrTable(_, _, _) | Jump::Return => Ok(Flow::Ends),
@@ -137,7 +146,9 @@ fn is_else(code: Instr) -> bool
 
 /// The `else` or the `end` behind a list.
 fn cross(walk: &mut Walk, code: Instr) -> Result<(), NoMemory>
-    ensures { (C : Ctx) (targets : List ℕ) (items : List Placed) (whole : Places) (pc at : ℕ) → Over C items whole pc walk.old → Starts items pc at (item_of targets code) → OnOk result (Proceeds C items whole (suc pc) walk.new) }
+    ensures { (C : Ctx) (targets : List ℕ) (items : List Placed) (whole : Places) (pc at : ℕ)
+        → Over C items whole pc walk.old → Starts items pc at (item_of targets code)
+        → OnOk result (Proceeds C items whole (suc pc) walk.new) }
 {
     if is_else(code) {
         walk.alternate()
@@ -148,21 +159,27 @@ fn cross(walk: &mut Walk, code: Instr) -> Result<(), NoMemory>
 
 /// The beginning of a block.
 fn open_block(walk: &mut Walk, gives: Option<ValType>) -> Result<(), NoMemory>
-    ensures { (C : Ctx) (items : List Placed) (whole : Places) (pc at : ℕ) → Knows C items whole pc walk.old → Starts items pc at (Opens gives) → OnOk result (Proceeds C items whole (suc pc) walk.new) }
+    ensures { (C : Ctx) (items : List Placed) (whole : Places) (pc at : ℕ)
+        → Knows C items whole pc walk.old → Starts items pc at (Opens gives)
+        → OnOk result (Proceeds C items whole (suc pc) walk.new) }
 {
     walk.open(Label::Block(gives))
 }
 
 /// The beginning of a loop.
 fn open_loop(walk: &mut Walk, gives: Option<ValType>) -> Result<(), NoMemory>
-    ensures { (C : Ctx) (items : List Placed) (whole : Places) (pc at : ℕ) → Knows C items whole pc walk.old → Starts items pc at (OpensLoop gives) → OnOk result (Proceeds C items whole (suc pc) walk.new) }
+    ensures { (C : Ctx) (items : List Placed) (whole : Places) (pc at : ℕ)
+        → Knows C items whole pc walk.old → Starts items pc at (OpensLoop gives)
+        → OnOk result (Proceeds C items whole (suc pc) walk.new) }
 {
     walk.open(Label::Loop(gives))
 }
 
 /// The beginning of an `if`, which takes its condition.
 fn open_if(walk: &mut Walk, gives: Option<ValType>) -> Result<(), NoMemory>
-    ensures { (C : Ctx) (items : List Placed) (whole : Places) (pc at : ℕ) → Knows C items whole pc walk.old → Starts items pc at (OpensIf gives) → OnOk result (Proceeds C items whole (suc pc) walk.new) }
+    ensures { (C : Ctx) (items : List Placed) (whole : Places) (pc at : ℕ)
+        → Knows C items whole pc walk.old → Starts items pc at (OpensIf gives)
+        → OnOk result (Proceeds C items whole (suc pc) walk.new) }
 {
     walk.perform(1, None)?;
     walk.open(Label::Block(gives))
@@ -175,7 +192,10 @@ fn pass(
     source: &ModuleParts,
     code: Instr,
 ) -> Result<Flow, NoMemory>
-    ensures { (C : Ctx) (targets : List ℕ) (items : List Placed) (whole : Places) (pc at : ℕ) → C.locals ≡ locals.now → C.source ≡ source.now → Knows C items whole pc walk.old → Starts items pc at (item_of targets code) → IfOk result (λ flow. Flowed flow C items whole (suc pc) walk.new) }
+    ensures { (C : Ctx) (targets : List ℕ) (items : List Placed) (whole : Places) (pc at : ℕ)
+        → C.locals ≡ locals.now → C.source ≡ source.now → Knows C items whole pc walk.old
+        → Starts items pc at (item_of targets code)
+        → IfOk result (λ flow. Flowed flow C items whole (suc pc) walk.new) }
 {
     match code {
         Instr::Jump(code) => jump(walk, source, code),
@@ -238,7 +258,10 @@ fn leave(
 ) -> Result<usize, NoMemory>
     requires { from ≤ length ops.now }
     ensures forward { IfOk result (λ next. from < next) }
-    ensures stays { (C : Ctx) (targets : List ℕ) (whole : Places) → Ended C (code_of targets ops.now) whole from walk.old → Kept whole kept.old from → IfOk result (λ next. Kept whole kept.new next × Proceeds C (code_of targets ops.now) whole next walk.new) }
+    ensures stays { (C : Ctx) (targets : List ℕ) (whole : Places)
+        → Ended C (code_of targets ops.now) whole from walk.old → Kept whole kept.old from
+        → IfOk result (λ next. Kept whole kept.new next
+        × Proceeds C (code_of targets ops.now) whole next walk.new) }
 {
     let end = end_of_list(ops, from);
     let next = end + 1;
@@ -264,7 +287,11 @@ fn advance(
 ) -> Result<usize, NoMemory>
     requires { pc < length ops.now }
     ensures forward { IfOk result (λ next. pc < next) }
-    ensures stays { (C : Ctx) (targets : List ℕ) (whole : Places) → C.locals ≡ locals.now → C.source ≡ source.now → Proceeds C (code_of targets ops.now) whole pc walk.old → Kept whole kept.old pc → IfOk result (λ next. Kept whole kept.new next × Proceeds C (code_of targets ops.now) whole next walk.new) }
+    ensures stays { (C : Ctx) (targets : List ℕ) (whole : Places) → C.locals ≡ locals.now
+        → C.source ≡ source.now → Proceeds C (code_of targets ops.now) whole pc walk.old
+        → Kept whole kept.old pc → IfOk result
+        (λ next. Kept whole kept.new next
+        × Proceeds C (code_of targets ops.now) whole next walk.new) }
 {
     let here = copy_of(alloc, walk.places())?;
     kept.push(Some(here))?;
@@ -283,7 +310,9 @@ pub(crate) fn places_before(
     source: &ModuleParts,
     ops: &[Op],
 ) -> Result<PlacesBefore, NoMemory>
-    ensures { (C : Ctx) (targets : List ℕ) (tree : Tree) → C.locals ≡ locals.now → C.source ≡ source.now → Writes targets ops.now tree → IfOk result (λ kept. (op : ℕ) → kept_at kept op ≡ before C tree.nodes op) }
+    ensures { (C : Ctx) (targets : List ℕ) (tree : Tree) → C.locals ≡ locals.now
+        → C.source ≡ source.now → Writes targets ops.now tree
+        → IfOk result (λ kept. (op : ℕ) → kept_at kept op ≡ before C tree.nodes op) }
 {
     let mut kept = Items::new(alloc);
     let mut walk = Walk::new(alloc, None);

@@ -64,7 +64,9 @@ fn own_types(
 /// The plan of a function that the module defines.
 pub fn plan(alloc: Global, source: &Validated, func: u32) -> Result<SlotPlan, NoMemory>
     requires { IsDefined source.now func }
-    ensures { (p : Program) (body : BodyOf) (tree : Tree) (ftype : TypeOf) → IsProgram p → p.module_ ≡ source.now → function_at p func ≡ Some (defined body tree ftype) → IfOk result (λ plan. IsPlan p func body tree ftype plan) }
+    ensures { (p : Program) (body : BodyOf) (tree : Tree) (ftype : TypeOf) → IsProgram p
+        → p.module_ ≡ source.now → function_at p func ≡ Some (defined body tree ftype)
+        → IfOk result (λ plan. IsPlan p func body tree ftype plan) }
 {
     let parts = source.module().parts();
     let body = body_at(parts, func);

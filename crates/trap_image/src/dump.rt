@@ -33,7 +33,8 @@ fn owned_frame(alloc: Global, frame: &FrameRef) -> Result<Frame, NoMemory>
 
 /// All frames, innermost first.
 fn all_frames(alloc: Global, instance: &Instance) -> Result<Frames, NoMemory>
-    ensures { (p : Program) (c : Config) → StandsAt instance.now p c → IfOk result (λ v. v ≡ map frame_of (frame_images c.frames)) }
+    ensures { (p : Program) (c : Config) → StandsAt instance.now p c
+        → IfOk result (λ v. v ≡ map frame_of (frame_images c.frames)) }
 {
     let mut frames = Items::new(alloc);
     for index in 0..instance.frame_count() {
@@ -45,8 +46,10 @@ fn all_frames(alloc: Global, instance: &Instance) -> Result<Frames, NoMemory>
 /// The dump of an instance where it stands, with one module and one instance of this name. Its segments are the memory's pages that are made,
 /// and borrow their bytes.
 pub fn image<'a>(alloc: Global, instance: &'a Instance, name: &str) -> Result<Dump<'a>, NoMemory>
-    ensures image { (p : Program) (c : Config) → StandsAt instance.now p c → IfOk result (λ d. Pictures (image_of c name.now) d) }
-    ensures bytes { (p : Program) (c : Config) → StandsAt instance.now p c → IfOk result (λ d. canonical_bytes d ≡ bytes_of (image_of c name.now)) }
+    ensures image { (p : Program) (c : Config) → StandsAt instance.now p c
+        → IfOk result (λ d. Pictures (image_of c name.now) d) }
+    ensures bytes { (p : Program) (c : Config) → StandsAt instance.now p c
+        → IfOk result (λ d. canonical_bytes d ≡ bytes_of (image_of c name.now)) }
     ensures contained { IfOk result (λ d. IsContained d) }
     ensures pages { IfOk result (λ d. pages_of d.memory ≤ 4096) }
 {

@@ -29,8 +29,12 @@ pub fn open_if(
     height: usize,
 ) -> Result<(), NoMemory>
     requires { height ≤ context.now.slots }
-    ensures one_arm { OnOk result (Opens (λ arm k. fetch context.now (place condition) height (choose 0 None arm None stop 0 k)) writer.old writer.new) }
-    ensures two_arms { OnOk result (OpensBoth (λ arm other k. fetch context.now (place condition) height (choose 0 None arm (Some 0) other 0 k)) writer.old writer.new) }
+    ensures one_arm { OnOk result
+        (Opens (λ arm k. fetch context.now (place condition) height
+        (choose 0 None arm None stop 0 k)) writer.old writer.new) }
+    ensures two_arms { OnOk result
+        (OpensBoth (λ arm other k. fetch context.now (place condition) height
+        (choose 0 None arm (Some 0) other 0 k)) writer.old writer.new) }
 {
     context.fetch(writer, condition, height)?;
     writer.open_if(None)
@@ -44,7 +48,8 @@ pub fn close_block(
     height: usize,
 ) -> Result<(), NoMemory>
     requires { height ≤ context.now.slots }
-    ensures { (places : List PlaceOf) → length places ≡ height → OnOk result (ClosesBefore (from_result context.now gives places) writer.old writer.new) }
+    ensures { (places : List PlaceOf) → length places ≡ height
+        → OnOk result (ClosesBefore (from_result context.now gives places) writer.old writer.new) }
 {
     writer.close()?;
     context.from_result(writer, gives, height)

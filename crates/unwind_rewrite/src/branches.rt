@@ -29,7 +29,8 @@ fn go_to(
     label: u32,
 ) -> Result<(), NoMemory>
     requires { length places.now ≤ context.now.slots }
-    ensures { (q : OptionOf Info) → option_map carries q ≡ Some target.carried → OnOk result (EmitsLast (branch_to context.now q places.now label) writer.old writer.new) }
+    ensures { (q : OptionOf Info) → option_map carries q ≡ Some target.carried
+        → OnOk result (EmitsLast (branch_to context.now q places.now label) writer.old writer.new) }
 {
     context.to_result(writer, target.carried, places)?;
     writer.branch(label)
@@ -44,7 +45,8 @@ pub fn branch_to(
     label: u32,
 ) -> Result<(), NoMemory>
     requires { length places.now ≤ context.now.slots }
-    ensures { (q : OptionOf Info) → option_map carries q ≡ option_map (λ t. t.carried) target → OnOk result (EmitsLast (branch_to context.now q places.now label) writer.old writer.new) }
+    ensures { (q : OptionOf Info) → option_map carries q ≡ option_map (λ t. t.carried) target
+        → OnOk result (EmitsLast (branch_to context.now q places.now label) writer.old writer.new) }
 {
     match target {
         Some(target) => go_to(context, writer, target, places, label),
@@ -62,7 +64,9 @@ fn branch_out(
 ) -> Result<(), NoMemory>
     requires number { IfSome target (λ t. label + 1 < 2 ^ 32) }
     requires room { length places.now ≤ context.now.slots }
-    ensures { (q : OptionOf Info) → option_map carries q ≡ option_map (λ t. t.carried) target → OnOk result (EmitsLast (branch_to context.now q places.now (suc label)) writer.old writer.new) }
+    ensures { (q : OptionOf Info) → option_map carries q ≡ option_map (λ t. t.carried) target
+        → OnOk result (EmitsLast (branch_to context.now q places.now (suc label)) writer.old
+        writer.new) }
 {
     match target {
         Some(target) => go_to(context, writer, target, places, label + 1),
@@ -81,7 +85,10 @@ pub fn branch_if(
 ) -> Result<(), NoMemory>
     requires number { IfSome target (λ t. label + 1 < 2 ^ 32) }
     requires room { length places.now ≤ context.now.slots }
-    ensures { (ls : List Info) → option_map carries (slice_get ls label) ≡ option_map (λ t. t.carried) target → OnOk result (Emits (λ k. branch_if context.now ls (place condition ∷ places.now) label (λ es. k)) writer.old writer.new) }
+    ensures { (ls : List Info) → option_map carries (slice_get ls label)
+        ≡ option_map (λ t. t.carried) target
+        → OnOk result (Emits (λ k. branch_if context.now ls (place condition ∷ places.now) label
+        (λ es. k)) writer.old writer.new) }
 {
     context.fetch(writer, condition, places.len())?;
     writer.open_if(None)?;
@@ -99,7 +106,9 @@ fn select(
     default_label: u32,
 ) -> Result<(), NoMemory>
     requires { height ≤ context.now.slots }
-    ensures { OnOk result (EmitsLast (fetch context.now (place selector) height (jump 0 (BrTable targets.now default_label) stop)) writer.old writer.new) }
+    ensures { OnOk result (EmitsLast
+        (fetch context.now (place selector) height
+        (jump 0 (BrTable targets.now default_label) stop)) writer.old writer.new) }
 {
     context.fetch(writer, selector, height)?;
     if writer.has_room(targets.len()) {
@@ -121,7 +130,10 @@ pub fn branch_table(
     default_label: u32,
 ) -> Result<(), NoMemory>
     requires { length places.now ≤ context.now.slots }
-    ensures { (ls : List Info) → option_map carries (slice_get ls default_label) ≡ option_map (λ t. t.carried) target → OnOk result (EmitsLast (table context.now ls (place selector ∷ places.now) targets.now default_label) writer.old writer.new) }
+    ensures { (ls : List Info) → option_map carries (slice_get ls default_label)
+        ≡ option_map (λ t. t.carried) target
+        → OnOk result (EmitsLast (table context.now ls (place selector ∷ places.now) targets.now
+        default_label) writer.old writer.new) }
 {
     match target {
         Some(target) => {
@@ -147,7 +159,9 @@ pub fn end_block(
     places: &OperandPlaces,
 ) -> Result<(), NoMemory>
     requires { length places.now ≤ context.now.slots }
-    ensures { (innermost : Info) (ls : List Info) → end_gives innermost ≡ gives → OnOk result (EmitsLast (ending context.now (innermost ∷ ls) places.now) writer.old writer.new) }
+    ensures { (innermost : Info) (ls : List Info) → end_gives innermost ≡ gives
+        → OnOk result (EmitsLast (ending context.now (innermost ∷ ls) places.now) writer.old
+        writer.new) }
 {
     context.to_result(writer, gives, places)
 }
@@ -161,7 +175,9 @@ pub fn return_from(
 ) -> Result<(), NoMemory>
     requires inside { 1 ≤ labels }
     requires room { length places.now ≤ context.now.slots }
-    ensures { (ls : List Info) (o : ℕ) (go : List PlaceOf → Nodes) → length ls ≡ labels → OnOk result (EmitsLast (control context.now ls places.now o Return go) writer.old writer.new) }
+    ensures { (ls : List Info) (o : ℕ) (go : List PlaceOf → Nodes) → length ls ≡ labels
+        → OnOk result (EmitsLast (control context.now ls places.now o Return go) writer.old
+        writer.new) }
 {
     context.to_result(writer, context.gives(), places)?;
     writer.branch(labels - 1)
@@ -177,7 +193,9 @@ pub fn trap(
 ) -> Result<(), NoMemory>
     requires shallow { labels + 1 < 2 ^ 32 }
     requires room { length places.now ≤ context.now.slots }
-    ensures { (ls : List Info) (go : List PlaceOf → Nodes) → length ls ≡ labels → OnOk result (EmitsLast (control context.now ls places.now offset Unreachable go) writer.old writer.new) }
+    ensures { (ls : List Info) (go : List PlaceOf → Nodes) → length ls ≡ labels
+        → OnOk result (EmitsLast (control context.now ls places.now offset Unreachable go)
+        writer.old writer.new) }
 {
     guard_unreachable(writer)?;
     context.tested(writer, labels, places, offset)?;

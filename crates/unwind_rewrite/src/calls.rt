@@ -53,7 +53,9 @@ fn after_call(
 ) -> Result<(), NoMemory>
     requires shallow { labels + 1 < 2 ^ 32 }
     requires room { length places.now ≤ context.now.slots }
-    ensures { (ls : List Info) → length ls ≡ labels → OnOk result (Emits (λ k. after_call context.now ls gives (less count places.now) offset (λ es. k)) writer.old writer.new) }
+    ensures { (ls : List Info) → length ls ≡ labels
+        → OnOk result (Emits (λ k. after_call context.now ls gives (less count places.now) offset
+        (λ es. k)) writer.old writer.new) }
 {
     store_left(context, writer, gives, places, count)?;
     test_flag(context, writer, labels, places, count, offset)
@@ -71,7 +73,10 @@ fn after_direct(
 ) -> Result<(), NoMemory>
     requires shallow { labels + 1 < 2 ^ 32 }
     requires room { length places.now ≤ context.now.slots }
-    ensures { (ls : List Info) → length ls ≡ labels → OnOk result (Emits (λ k. after_direct (nat_lt function (import_count context.now.source)) context.now ls (result_of ftype.now) (less (length ftype.now.params) places.now) offset (λ es. k)) writer.old writer.new) }
+    ensures { (ls : List Info) → length ls ≡ labels
+        → OnOk result (Emits (λ k. after_direct (nat_lt function (import_count context.now.source))
+        context.now ls (result_of ftype.now) (less (length ftype.now.params) places.now) offset
+        (λ es. k)) writer.old writer.new) }
 {
     let count = ftype.params.len();
     let gives = result_type(ftype);
@@ -92,7 +97,8 @@ fn call_with(
 ) -> Result<(), NoMemory>
     requires there { function < length (function_types context.now.source) }
     requires room { length places.now ≤ context.now.slots }
-    ensures { OnOk result (Emits (λ k. load context.now count places.now (call (mapped context.now.source function) k)) writer.old writer.new) }
+    ensures { OnOk result (Emits (λ k. load context.now count places.now
+        (call (mapped context.now.source function) k)) writer.old writer.new) }
 {
     context.load(writer, count, places)?;
     writer.call(context.map().function(function))
@@ -111,7 +117,9 @@ pub fn call_function(
     requires there { function < length (function_types context.now.source) }
     requires shallow { labels + 1 < 2 ^ 32 }
     requires room { length places.now ≤ context.now.slots }
-    ensures { (ls : List Info) → length ls ≡ labels → OnOk result (Emits (λ k. call_code context.now ls places.now offset function (Some ftype.now) (λ es. k)) writer.old writer.new) }
+    ensures { (ls : List Info) → length ls ≡ labels
+        → OnOk result (Emits (λ k. call_code context.now ls places.now offset function
+        (Some ftype.now) (λ es. k)) writer.old writer.new) }
 {
     call_with(context, writer, places, function, ftype.params.len())?;
     after_direct(context, writer, labels, places, offset, function, ftype)
@@ -126,7 +134,10 @@ fn keep_verdict(
     helper: u32,
 ) -> Result<(), NoMemory>
     requires { height ≤ context.now.slots }
-    ensures { OnOk result (Emits (λ k. fetch context.now (place entry) height (call helper (set context.now (kind_at context.now) (get context.now (kind_at context.now) (basic 0 (EqzOf I32Of) k))))) writer.old writer.new) }
+    ensures { OnOk result (Emits (λ k. fetch context.now (place entry) height
+        (call helper (set context.now (kind_at context.now)
+        (get context.now (kind_at context.now) (basic 0 (EqzOf I32Of) k))))) writer.old
+        writer.new) }
 {
     guard_entry(context, writer, entry, height, helper)?;
     context.set(writer, context.kind_at())?;
@@ -144,7 +155,10 @@ fn call_entry(
     gives: Option<ValType>,
 ) -> Result<(), NoMemory>
     requires { length places.now ≤ context.now.slots }
-    ensures { OnOk result (EmitsLast (load context.now count places.now (jump 0 (CallIndirect type_index) (store context.now gives (less count places.now) stop))) writer.old writer.new) }
+    ensures { OnOk result (EmitsLast
+        (load context.now count places.now
+        (jump 0 (CallIndirect type_index) (store context.now gives (less count places.now) stop)))
+        writer.old writer.new) }
 {
     context.load(writer, count, places)?;
     writer.call_indirect(type_index)?;
@@ -163,7 +177,10 @@ pub fn call_through_table(
 ) -> Result<(), NoMemory>
     requires shallow { labels + 1 < 2 ^ 32 }
     requires room { length places.now ≤ context.now.slots }
-    ensures { (ls : List Info) (e : PlaceOf) (es : List PlaceOf) → length ls ≡ labels → numbers.helper ≡ helper_of context.now numbers.index → places.now ≡ e ∷ es → OnOk result (Emits (λ k. indirect_code context.now ls places.now offset numbers.index (Some ftype.now) (λ es. k)) writer.old writer.new) }
+    ensures { (ls : List Info) (e : PlaceOf) (es : List PlaceOf) → length ls ≡ labels
+        → numbers.helper ≡ helper_of context.now numbers.index → places.now ≡ e ∷ es
+        → OnOk result (Emits (λ k. indirect_code context.now ls places.now offset numbers.index
+        (Some ftype.now) (λ es. k)) writer.old writer.new) }
 {
     let Some(entry) = places.peek(0) else {
         return Ok(());

@@ -77,7 +77,11 @@ fn local_count(context: &FunctionContext<'_, '_>) -> u32
 
 /// The end of the frame: the kind, the function, the code offset and the number of its locals.
 fn end_frame(context: &FunctionContext<'_, '_>, writer: &mut CodeWriter) -> Result<(), NoMemory>
-    ensures { OnOk result (Emits (λ k. get context.now (kind_at context.now) (const (i32 context.now.index) (get context.now (offset_at context.now) (const (i32 (length context.now.locals)) (call (frame_import context.now.source) k))))) writer.old writer.new) }
+    ensures { OnOk result (Emits (λ k. get context.now (kind_at context.now)
+        (const (i32 context.now.index)
+        (get context.now (offset_at context.now)
+        (const (i32 (length context.now.locals)) (call (frame_import context.now.source) k)))))
+        writer.old writer.new) }
 {
     let function = context.index();
     let count = local_count(context);
@@ -111,7 +115,9 @@ pub fn close_body(
     context: &FunctionContext<'_, '_>,
     writer: &mut CodeWriter,
 ) -> Result<(), NoMemory>
-    ensures { (nodes : Nodes) (start inside : Written) → OpensTwo start inside → EmitsLast (rewrite context.now (in_body context.now.result ∷ []) [] nodes) inside writer.old → OnOk result (EmitsLast (body context.now nodes) start writer.new) }
+    ensures { (nodes : Nodes) (start inside : Written) → OpensTwo start inside
+        → EmitsLast (rewrite context.now (in_body context.now.result ∷ []) [] nodes) inside
+        writer.old → OnOk result (EmitsLast (body context.now nodes) start writer.new) }
 {
     writer.close()?;
     finish(context, writer)?;

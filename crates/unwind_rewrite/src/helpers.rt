@@ -31,7 +31,8 @@ fn close_says(writer: &mut CodeWriter, kind: u32) -> Result<(), NoMemory>
 
 /// The label of the entry, or that of an entry past the end of the table, where so many can be counted.
 fn select(writer: &mut CodeWriter, labels: &[u32]) -> Result<(), NoMemory>
-    ensures { OnOk result (EmitsLast (basic 0 (LocalGetOf 0) (jump 0 (BrTable labels.now 1) stop)) writer.old writer.new) }
+    ensures { OnOk result (EmitsLast (basic 0 (LocalGetOf 0) (jump 0 (BrTable labels.now 1) stop))
+        writer.old writer.new) }
 {
     writer.basic(Basic::LocalGet(0))?;
     if writer.has_room(labels.len()) {
@@ -43,7 +44,8 @@ fn select(writer: &mut CodeWriter, labels: &[u32]) -> Result<(), NoMemory>
 
 /// The nodes of the helper of a type, by the label of each entry of the table where an instance starts.
 pub fn helper(writer: &mut CodeWriter, labels: &[u32]) -> Result<(), NoMemory>
-    ensures { (m : Module) (t : ℕ) → labels.now ≡ map (entry_label m t) (first_table m) → OnOk result (EmitsLast (helper m t) writer.old writer.new) }
+    ensures { (m : Module) (t : ℕ) → labels.now ≡ map (entry_label m t) (first_table m)
+        → OnOk result (EmitsLast (helper m t) writer.old writer.new) }
 {
     open_two(writer)?;
     open_two(writer)?;

@@ -22,7 +22,8 @@ pub(crate) fn store_left(
     count: usize,
 ) -> Result<(), NoMemory>
     requires { length places.now ≤ context.now.slots }
-    ensures { OnOk result (Emits (store context.now gives (less count places.now)) writer.old writer.new) }
+    ensures { OnOk result (Emits (store context.now gives (less count places.now)) writer.old
+        writer.new) }
 {
     context.store(writer, gives, places.len().saturating_sub(count))
 }
@@ -35,7 +36,8 @@ fn hand_one(
     height: usize,
 ) -> Result<(), NoMemory>
     requires { height ≤ context.now.slots }
-    ensures { OnOk result (Emits (λ k. fetch context.now (place operand) height (hand_value context.now (place_type (place operand)) k)) writer.old writer.new) }
+    ensures { OnOk result (Emits (λ k. fetch context.now (place operand) height
+        (hand_value context.now (place_type (place operand)) k)) writer.old writer.new) }
 {
     context.fetch(writer, operand, height)?;
     context.hand_value(writer, operand.value_type())
@@ -65,7 +67,8 @@ fn set_offset(
     writer: &mut CodeWriter,
     offset: u32,
 ) -> Result<(), NoMemory>
-    ensures { OnOk result (Emits (λ k. const (i32 offset) (set context.now (offset_at context.now) k)) writer.old writer.new) }
+    ensures { OnOk result (Emits (λ k. const (i32 offset)
+        (set context.now (offset_at context.now) k)) writer.old writer.new) }
 {
     writer.const_value(Value::I32(offset))?;
     context.set(writer, context.offset_at())
@@ -73,7 +76,8 @@ fn set_offset(
 
 /// The kind of a trap in another frame is kept.
 fn set_no_kind(context: &FunctionContext<'_, '_>, writer: &mut CodeWriter) -> Result<(), NoMemory>
-    ensures { OnOk result (Emits (λ k. const (i32 0) (set context.now (kind_at context.now) k)) writer.old writer.new) }
+    ensures { OnOk result (Emits (λ k. const (i32 0) (set context.now (kind_at context.now) k))
+        writer.old writer.new) }
 {
     writer.const_value(Value::I32(0))?;
     context.set(writer, context.kind_at())
@@ -90,7 +94,10 @@ fn unwind_caller(
 ) -> Result<(), NoMemory>
     requires shallow { labels + 1 < 2 ^ 32 }
     requires room { length places.now ≤ context.now.slots }
-    ensures { (ls : List Info) → length ls ≡ labels → OnOk result (EmitsLast (const (i32 0) (set context.now (kind_at context.now) (unwind context.now ls (less count places.now) offset))) writer.old writer.new) }
+    ensures { (ls : List Info) → length ls ≡ labels
+        → OnOk result (EmitsLast (const (i32 0)
+        (set context.now (kind_at context.now)
+        (unwind context.now ls (less count places.now) offset))) writer.old writer.new) }
 {
     set_no_kind(context, writer)?;
     set_offset(context, writer, offset)?;
@@ -109,7 +116,9 @@ pub(crate) fn test_flag(
 ) -> Result<(), NoMemory>
     requires shallow { labels + 1 < 2 ^ 32 }
     requires room { length places.now ≤ context.now.slots }
-    ensures { (ls : List Info) → length ls ≡ labels → OnOk result (Emits (test_flag context.now ls (less count places.now) offset) writer.old writer.new) }
+    ensures { (ls : List Info) → length ls ≡ labels
+        → OnOk result (Emits (test_flag context.now ls (less count places.now) offset) writer.old
+        writer.new) }
 {
     context.get_flag(writer)?;
     writer.open_if(None)?;
@@ -127,7 +136,9 @@ fn hand_left(
 ) -> Result<(), NoMemory>
     requires shallow { labels + 1 < 2 ^ 32 }
     requires room { length places.now ≤ context.now.slots }
-    ensures { (ls : List Info) → length ls ≡ labels → OnOk result (EmitsLast (hand_left context.now ls (less count places.now) (hand_top context.now count places.now stop)) writer.old writer.new) }
+    ensures { (ls : List Info) → length ls ≡ labels
+        → OnOk result (EmitsLast (hand_left context.now ls (less count places.now)
+        (hand_top context.now count places.now stop)) writer.old writer.new) }
 {
     hand_under(context, writer, places, count)?;
     context.get(writer, context.kind_at())?;
@@ -148,7 +159,11 @@ fn unwind_both(
 ) -> Result<(), NoMemory>
     requires shallow { labels + 1 < 2 ^ 32 }
     requires room { length places.now ≤ context.now.slots }
-    ensures { (ls : List Info) → length ls ≡ labels → OnOk result (EmitsLast (const (i32 offset) (set context.now (offset_at context.now) (hand_left context.now ls (less count places.now) (hand_top context.now count places.now stop)))) writer.old writer.new) }
+    ensures { (ls : List Info) → length ls ≡ labels
+        → OnOk result (EmitsLast (const (i32 offset)
+        (set context.now (offset_at context.now)
+        (hand_left context.now ls (less count places.now)
+        (hand_top context.now count places.now stop)))) writer.old writer.new) }
 {
     set_offset(context, writer, offset)?;
     hand_left(context, writer, labels, places, count)
@@ -165,7 +180,9 @@ pub(crate) fn test_both(
 ) -> Result<(), NoMemory>
     requires shallow { labels + 1 < 2 ^ 32 }
     requires room { length places.now ≤ context.now.slots }
-    ensures { (ls : List Info) → length ls ≡ labels → OnOk result (Emits (test_both context.now ls (less count places.now) offset (hand_top context.now count places.now stop)) writer.old writer.new) }
+    ensures { (ls : List Info) → length ls ≡ labels
+        → OnOk result (Emits (test_both context.now ls (less count places.now) offset
+        (hand_top context.now count places.now stop)) writer.old writer.new) }
 {
     context.get(writer, context.kind_at())?;
     context.get_flag(writer)?;

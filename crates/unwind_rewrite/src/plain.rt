@@ -25,7 +25,9 @@ fn on_operands(
     gives: Option<ValType>,
 ) -> Result<(), NoMemory>
     requires { length places.now ≤ context.now.slots }
-    ensures { OnOk result (Emits (λ k. load context.now taken places.now (basic 0 instruction (store context.now gives (less taken places.now) k))) writer.old writer.new) }
+    ensures { OnOk result (Emits (λ k. load context.now taken places.now
+        (basic 0 instruction (store context.now gives (less taken places.now) k))) writer.old
+        writer.new) }
 {
     context.load(writer, taken, places)?;
     writer.basic(instruction)?;
@@ -45,7 +47,10 @@ fn plain(
 ) -> Result<(), NoMemory>
     requires shallow { labels + 1 < 2 ^ 32 }
     requires room { length places.now ≤ context.now.slots }
-    ensures { (ls : List Info) → length ls ≡ labels → takes instruction ≡ taken → result_type context.now places.now instruction ≡ gives → OnOk result (Emits (λ k. plain context.now ls places.now offset instruction (λ es. k)) writer.old writer.new) }
+    ensures { (ls : List Info) → length ls ≡ labels → takes instruction ≡ taken
+        → result_type context.now places.now instruction ≡ gives
+        → OnOk result (Emits (λ k. plain context.now ls places.now offset instruction (λ es. k))
+        writer.old writer.new) }
 {
     guarded(context, writer, labels, places, offset, &instruction)?;
     on_operands(context, writer, places, instruction, taken, gives)
@@ -64,7 +69,10 @@ pub fn instruction(
 ) -> Result<(), NoMemory>
     requires shallow { labels + 1 < 2 ^ 32 }
     requires room { length places.now ≤ context.now.slots }
-    ensures { (ls : List Info) → length ls ≡ labels → takes instruction ≡ taken → result_type context.now places.now instruction ≡ gives → OnOk result (Emits (λ k. instr context.now ls places.now offset instruction (λ es. k)) writer.old writer.new) }
+    ensures { (ls : List Info) → length ls ≡ labels → takes instruction ≡ taken
+        → result_type context.now places.now instruction ≡ gives
+        → OnOk result (Emits (λ k. instr context.now ls places.now offset instruction (λ es. k))
+        writer.old writer.new) }
 {
     match instruction {
         Basic::Const(_) => writer.basic(Basic::Nop),

@@ -31,7 +31,8 @@ fn tell_global(
     index: u32,
     t: ValType,
 ) -> Result<(), NoMemory>
-    ensures { OnOk result (Emits (λ k. basic 0 (GlobalGetOf index) (call (value_import map.now t) k)) writer.old writer.new) }
+    ensures { OnOk result (Emits (λ k. basic 0 (GlobalGetOf index)
+        (call (value_import map.now t) k)) writer.old writer.new) }
 {
     writer.basic(Basic::GlobalGet(index))?;
     writer.call(map.value_import(t))
@@ -44,7 +45,8 @@ fn tell_globals(
     globals: &[Global],
 ) -> Result<(), NoMemory>
     requires { globals.now ≡ map.now.globals }
-    ensures { OnOk result (Emits (tell_globals map.now 0 (global_types map.now)) writer.old writer.new) }
+    ensures { OnOk result (Emits (tell_globals map.now 0 (global_types map.now)) writer.old
+        writer.new) }
 {
     let count = map.flag();
     for x in 0..count {
@@ -55,7 +57,10 @@ fn tell_globals(
 
 /// The end of the dump: its kind, function and offset say that it is one, and it counts the globals.
 fn end_dump(map: &IndexMap<'_>, writer: &mut CodeWriter) -> Result<(), NoMemory>
-    ensures { OnOk result (EmitsLast (const (i32 255) (const (i32 0) (const (i32 0) (const (i32 (length map.now.globals)) (call (frame_import map.now) (jump 0 Unreachable stop)))))) writer.old writer.new) }
+    ensures { OnOk result (EmitsLast
+        (const (i32 255) (const (i32 0)
+        (const (i32 0) (const (i32 (length map.now.globals))
+        (call (frame_import map.now) (jump 0 Unreachable stop)))))) writer.old writer.new) }
 {
     writer.const_value(Value::I32(255))?;
     writer.const_value(Value::I32(0))?;
@@ -104,7 +109,8 @@ pub fn wrapper(
 ) -> Result<(), NoMemory>
     requires globals { globals.now ≡ map.now.globals }
     requires there { function < length (function_types map.now) }
-    ensures { OnOk result (EmitsLast (wrapper_nodes map.now function parameters) writer.old writer.new) }
+    ensures { OnOk result (EmitsLast (wrapper_nodes map.now function parameters) writer.old
+        writer.new) }
 {
     writer.const_value(Value::I32(0))?;
     writer.basic(Basic::GlobalSet(map.flag()))?;

@@ -38,7 +38,8 @@ pub fn pop_two(
     first: Option<ValType>,
     second: Option<ValType>,
 ) -> Result<(), StackFault>
-    ensures { Did result (pops stack.old (option_to_list first ++ option_to_list second)) stack.new }
+    ensures { Did result (pops stack.old (option_to_list first ++ option_to_list second))
+        stack.new }
 {
     pop_option(stack, first)?;
     pop_option(stack, second)
@@ -51,7 +52,8 @@ fn pop_three(
     second: Option<ValType>,
     third: Option<ValType>,
 ) -> Result<(), StackFault>
-    ensures { Did result (pops stack.old (option_to_list first ++ option_to_list second ++ option_to_list third)) stack.new }
+    ensures { Did result (pops stack.old
+        (option_to_list first ++ option_to_list second ++ option_to_list third)) stack.new }
 {
     pop_option(stack, first)?;
     pop_two(stack, second, third)
@@ -129,7 +131,8 @@ pub fn push_all(stack: &mut TypeStack, types: &[ValType]) -> Result<(), StackFau
 
 /// A call.
 pub fn call(stack: &mut TypeStack, t: &FuncType) -> Result<(), StackFault>
-    ensures { Did result (apply_arrow stack.old (reverse t.now.params ⇒ reverse t.now.results)) stack.new }
+    ensures { Did result (apply_arrow stack.old (reverse t.now.params ⇒ reverse t.now.results))
+        stack.new }
 {
     pop_all(stack, t.params.as_slice())?;
     push_all(stack, t.results.as_slice())
@@ -137,7 +140,8 @@ pub fn call(stack: &mut TypeStack, t: &FuncType) -> Result<(), StackFault>
 
 /// A call, with the index on top.
 pub fn call_indirect(stack: &mut TypeStack, t: &FuncType) -> Result<(), StackFault>
-    ensures { Did result (apply_arrow stack.old (types.I32 ∷ reverse t.now.params ⇒ reverse t.now.results)) stack.new }
+    ensures { Did result (apply_arrow stack.old
+        (types.I32 ∷ reverse t.now.params ⇒ reverse t.now.results)) stack.new }
 {
     stack.pop(ValType::I32)?;
     call(stack, t)

@@ -124,7 +124,9 @@ fn with_memory(m: &ModuleParts, shape: Shape) -> Option<Shape>
 
 /// What an instruction takes and gives, where it has one arrow.
 pub fn shape_of(m: &ModuleParts, locals: &Locals, i: Basic) -> Option<Shape>
-    ensures { (results : List _) → HasShape i → option_map (λ s. arrow_of s) result ≡ arrow (context_of m.now locals.now results) types.I32 i }
+    ensures { (results : List _) → HasShape i
+        → option_map (λ s. arrow_of s) result
+        ≡ arrow (context_of m.now locals.now results) types.I32 i }
 {
     let i32 = Some(ValType::I32);
     match i {

@@ -26,7 +26,9 @@ fn with_shape(
     i: Basic,
 ) -> Result<(), StackFault>
     requires { HasShape i }
-    ensures { (results : List _) → Did result (option_then (arrow (context_of m.now locals.now results) types.I32 i) (apply_arrow stack.old)) stack.new }
+    ensures { (results : List _) → Did result
+        (option_then (arrow (context_of m.now locals.now results) types.I32 i)
+        (apply_arrow stack.old)) stack.new }
 {
     match shape_of(m, locals, i) {
         Some(shape) => apply(stack, shape),
@@ -40,7 +42,8 @@ pub fn basic(
     locals: &Locals,
     i: Basic,
 ) -> Result<(), StackFault>
-    ensures { (results : List _) → Did result (step_basic (context_of m.now locals.now results) stack.old i) stack.new }
+    ensures { (results : List _) → Did result
+        (step_basic (context_of m.now locals.now results) stack.old i) stack.new }
 {
     match i {
         Basic::Drop => drop_top(stack),
@@ -50,7 +53,8 @@ pub fn basic(
 }
 
 pub fn branch(stack: &mut TypeStack, n: u32) -> Result<(), StackFault>
-    ensures { Did result (option_then (label stack.old n) (λ t. option_map forget (pops stack.old (option_to_list t)))) stack.new }
+    ensures { Did result (option_then (label stack.old n)
+        (λ t. option_map forget (pops stack.old (option_to_list t)))) stack.new }
 {
     match stack.label(n as usize) {
         Some(t) => {
@@ -62,7 +66,8 @@ pub fn branch(stack: &mut TypeStack, n: u32) -> Result<(), StackFault>
 }
 
 pub fn branch_if(stack: &mut TypeStack, n: u32) -> Result<(), StackFault>
-    ensures { Did result (option_then (label stack.old n) (λ t. apply_arrow stack.old (types.I32 ∷ option_to_list t ⇒ option_to_list t))) stack.new }
+    ensures { Did result (option_then (label stack.old n)
+        (λ t. apply_arrow stack.old (types.I32 ∷ option_to_list t ⇒ option_to_list t))) stack.new }
 {
     match stack.label(n as usize) {
         Some(t) => apply(
@@ -132,7 +137,9 @@ pub fn branch_table(
     count: u32,
     default: u32,
 ) -> Result<(), StackFault>
-    ensures { Did result (option_then (label stack.old default) (λ t. only_if (targets_do_fit stack.old t (take count (drop start targets.now))) (option_map forget (pops stack.old (types.I32 ∷ option_to_list t))))) stack.new }
+    ensures { Did result (option_then (label stack.old default)
+        (λ t. only_if (targets_do_fit stack.old t (take count (drop start targets.now)))
+        (option_map forget (pops stack.old (types.I32 ∷ option_to_list t))))) stack.new }
 {
     match stack.label(default as usize) {
         Some(t) => {
@@ -169,7 +176,9 @@ pub fn jump(
     targets: &[u32],
     j: Jump,
 ) -> Result<(), StackFault>
-    ensures { (locals : List _) → Did result (step_jump (context_of m.now locals results.now) stack.old (jump_of targets.now j)) stack.new }
+    ensures { (locals : List _) → Did result
+        (step_jump (context_of m.now locals results.now) stack.old (jump_of targets.now j))
+        stack.new }
 {
     match j {
         Jump::Unreachable => stack.forget(),
@@ -208,7 +217,8 @@ fn may_end(kind: BlockKind, t: Option<ValType>) -> bool
 }
 
 pub fn second_arm(stack: &mut TypeStack) -> Result<(), StackFault>
-    ensures { Did result (option_then (closed stack.old) (λ p. at_else p.0 p.1 p.0.kind)) stack.new }
+    ensures { Did result (option_then (closed stack.old) (λ p. at_else p.0 p.1 p.0.kind))
+        stack.new }
 {
     let control = close(stack)?;
     match control.kind {
@@ -236,7 +246,8 @@ pub fn step(
     targets: &[u32],
     code: Instr,
 ) -> Result<(), StackFault>
-    ensures { Did result (step_frames (context_of m.now locals.now results.now) stack.old (item_of targets.now code)) stack.new }
+    ensures { Did result (step_frames (context_of m.now locals.now results.now) stack.old
+        (item_of targets.now code)) stack.new }
 {
     if stack.is_empty() {
         return Err(StackFault::Wrong);
@@ -252,7 +263,8 @@ fn step_open(
     targets: &[u32],
     code: Instr,
 ) -> Result<(), StackFault>
-    ensures { Did result (step_inside (context_of m.now locals.now results.now) stack.old (item_of targets.now code)) stack.new }
+    ensures { Did result (step_inside (context_of m.now locals.now results.now) stack.old
+        (item_of targets.now code)) stack.new }
 {
     match code {
         Instr::Basic(i) => basic(stack, m, locals, i),

@@ -48,7 +48,8 @@ fn open_next(blocks: &mut Pile<BlockKind>, code: Instr) -> Result<bool, NoMemory
 
 /// Whether blocks nest.
 fn nests(alloc: Global, ops: &[Op]) -> Result<bool, NoMemory>
-    ensures { IfOk result (λ b. b ≡ true → (targets : List ℕ) → (tree : Tree) × Writes targets ops.now tree) }
+    ensures { IfOk result (λ b. b ≡ true → (targets : List ℕ)
+        → (tree : Tree) × Writes targets ops.now tree) }
 {
     let mut blocks = Pile::new(alloc);
     blocks.push(BlockKind::Plain)?;

@@ -52,7 +52,8 @@ fn without_innermost(unclosed: &[u8]) -> Option<&[u8]>
 /// A closing parenthesis: appends the steps of the stars behind the innermost opening one, and gives what is open around that.
 fn close<'f, 't>(unclosed: &'f [u8], steps: &mut Steps<'t>) -> Result<Option<&'f [u8]>, NoMemory>
     ensures steps { OnOk result (steps.new ≡ steps.old ++ reading.derefs (reverse unclosed.now)) }
-    ensures outer { IfOk result (λ o. MatchOption o (reading.behind_stars (reverse unclosed.now) ≡ [])
+    ensures outer { IfOk result (λ o. MatchOption o
+        (reading.behind_stars (reverse unclosed.now) ≡ [])
         (λ outer. (b : ℕ) × (reading.behind_stars (reverse unclosed.now) ≡ b ∷ reverse outer.now))) }
 {
     let inner = push_derefs(unclosed, steps)?;

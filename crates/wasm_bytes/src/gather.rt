@@ -34,7 +34,8 @@ pub fn gather_count<'a, S: Gather<'a>>(
     state: &mut S,
     reader: &mut Reader<'a>,
 ) -> Result<(), ItemFault>
-    ensures item { Gives (with_state state.new result) reader.new (steps_from S.step count state.old reader.old) }
+    ensures item { Gives (with_state state.new result) reader.new
+        (steps_from S.step count state.old reader.old) }
     ensures stays { OnOk result (Stays reader.old reader.new) }
 {
     for _ in 0..count {
@@ -65,7 +66,8 @@ pub fn gather_to_end<'a, S: Gather<'a>>(
     state: &mut S,
     reader: &mut Reader<'a>,
 ) -> Result<(), ItemFault>
-    ensures item { Gives (with_state state.new result) reader.new (steps_to_end S.step state.old reader.old) }
+    ensures item { Gives (with_state state.new result) reader.new
+        (steps_to_end S.step state.old reader.old) }
     ensures stays { OnOk result (Stays reader.old reader.new) }
 {
     gather_left(alloc, state, reader)
@@ -78,7 +80,8 @@ pub fn gather_until_done<'a, S: GatherUntilDone<'a>>(
     state: &mut S,
     reader: &mut Reader<'a>,
 ) -> Result<(), ItemFault>
-    ensures item { Gives (with_state state.new result) reader.new (steps_until_done S.done S.step state.old reader.old) }
+    ensures item { Gives (with_state state.new result) reader.new
+        (steps_until_done S.done S.step state.old reader.old) }
     ensures stays { OnOk result (Stays reader.old reader.new) }
 {
     'elements: while !state.is_done() {

@@ -78,7 +78,8 @@ fn items_left<'a, T: Item<'a>>(
     alloc: Global,
     reader: &mut Reader<'a>,
 ) -> Result<Items<T>, ItemFault>
-    ensures item { Gives result reader.new (until_end T.item (length reader.old.block - reader.old.at) reader.old) }
+    ensures item { Gives result reader.new
+        (until_end T.item (length reader.old.block - reader.old.at) reader.old) }
     ensures stays { OnOk result (Stays reader.old reader.new) }
 {
     let mut items = Vec::new(alloc);

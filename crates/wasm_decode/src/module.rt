@@ -104,8 +104,10 @@ pub fn decode(alloc: Global, bytes: &[u8]) -> Result<Module, DecodeFault>
     ensures limited { IfOk result WithinLimits }
     ensures malformed { (at : ℕ) → Exactly result (Err (Malformed at)) (BreaksAt bytes.now at) }
     ensures float { (at : ℕ) → Exactly result (Err (Float at)) (HasFloatAt bytes.now at) }
-    ensures import_kind { (index : ℕ) → Exactly result (Err (ImportKind index)) (HasOtherImport bytes.now index) }
-    ensures limit { (what : Counted) (count : ℕ) → Exactly result (Err (Limit what count)) (PassesLimit bytes.now what count) }
+    ensures import_kind { (index : ℕ)
+        → Exactly result (Err (ImportKind index)) (HasOtherImport bytes.now index) }
+    ensures limit { (what : Counted) (count : ℕ)
+        → Exactly result (Err (Limit what count)) (PassesLimit bytes.now what count) }
 {
     decoded(alloc, bytes)
 }

@@ -101,7 +101,8 @@ fn subsection(
     found: &mut Option<Names>,
     input: &mut Input<'_>,
 ) -> Result<(), ItemFault>
-    ensures item { Gives (with_state found.new result) input.new (subsection_step found.old input.old) }
+    ensures item { Gives (with_state found.new result) input.new
+        (subsection_step found.old input.old) }
     ensures moves { OnOk result (Moves input.old input.new) }
 {
     let id = input.byte()?;
@@ -122,7 +123,8 @@ fn subsections(
     found: &mut Option<Names>,
     input: &mut Input<'_>,
 ) -> Result<(), ItemFault>
-    ensures item { Gives (with_state found.new result) input.new (steps_to_end subsection_step found.old input.old) }
+    ensures item { Gives (with_state found.new result) input.new
+        (steps_to_end subsection_step found.old input.old) }
     ensures stays { OnOk result (Stays input.old input.new) }
 {
     'subsections: while input.left() > 0 {
@@ -179,7 +181,8 @@ pub fn function_names(alloc: Global, bytes: &[u8], module: &Module) -> Result<Na
     requires { length bytes.now < 2 ^ 32 }
     ensures exact { IfOk result (λ names. names ≡ names_from bytes.now «module».now.customs) }
     ensures spelled { IfOk result (AreNamesOf bytes.now «module».now.customs) }
-    ensures only { (names : List Named) → AreNamesOf bytes.now «module».now.customs names → IfOk result (λ found. found ≡ names) }
+    ensures only { (names : List Named) → AreNamesOf bytes.now «module».now.customs names
+        → IfOk result (λ found. found ≡ names) }
 {
     names_of(alloc, bytes, module)
 }

@@ -61,7 +61,8 @@ fn encode_parts(alloc: Global, m: &ModuleParts) -> Result<Vec<u8>, NoMemory>
 pub fn encode(alloc: Global, module: &Module) -> Result<Vec<u8>, NoMemory>
     requires { length (encoding «module».now) ≤ 134_217_728 }
     ensures exact { IfOk result (λ bytes. bytes.items ≡ encoding «module».now) }
-    ensures spelled { IfOk result (λ bytes. WithinLimits «module».now → SpellsSame «module».now bytes.items) }
+    ensures spelled { IfOk result
+        (λ bytes. WithinLimits «module».now → SpellsSame «module».now bytes.items) }
 {
     let bytes = encode_parts(alloc, module.parts())?;
     Ok(bytes)

@@ -27,7 +27,8 @@ pub fn write_vector_section<T: Item>(
     items: &[T],
 ) -> Result<(), NoMemory>
     requires complete { AllByRecursion T.complete items.now }
-    ensures exact { OnOk result (out.new.items ≡ out.old.items ++ vector_section id T.bytes items.now) }
+    ensures exact { OnOk result (out.new.items
+        ≡ out.old.items ++ vector_section id T.bytes items.now) }
     ensures fits { OnOk result (AllByRecursion T.fits items.now) }
 {
     if items.is_empty() {
@@ -41,7 +42,8 @@ pub fn write_vector_section<T: Item>(
 /// Appends a vector of table types (Core 5.3.5).
 #[tactic(auto, unfolding(crate::specs::Encoding::table_bytes))]
 fn write_tables(alloc: Global, out: &mut Vec<u8>, tables: &[Limits]) -> Result<(), NoMemory>
-    ensures exact { OnOk result (out.new.items ≡ out.old.items ++ vector_bytes table_bytes tables.now) }
+    ensures exact { OnOk result (out.new.items
+        ≡ out.old.items ++ vector_bytes table_bytes tables.now) }
     ensures fits { OnOk result (AllByRecursion FitsLimits tables.now) }
 {
     write_len(out, tables.len())?;
@@ -58,7 +60,8 @@ pub fn write_table_section(
     out: &mut Vec<u8>,
     tables: &[Limits],
 ) -> Result<(), NoMemory>
-    ensures exact { OnOk result (out.new.items ≡ out.old.items ++ vector_section 4 table_bytes tables.now) }
+    ensures exact { OnOk result (out.new.items
+        ≡ out.old.items ++ vector_section 4 table_bytes tables.now) }
     ensures fits { OnOk result (AllByRecursion FitsLimits tables.now) }
 {
     if tables.is_empty() {

@@ -53,7 +53,8 @@ fn indirect(reader: &mut Reader<'_>) -> Result<Code, Malformed>
 /// A control instruction that is no `br_table`, behind its opcode, which stood at that offset.
 pub fn read_control(opcode: u8, at: usize, reader: &mut Reader<'_>) -> Result<Code, Malformed>
     requires { opcode ≢ 0x0e }
-    ensures item { (base : ℕ) → Reads (made result) reader.new (row_item base at control opcode reader.old) }
+    ensures item { (base : ℕ) → Reads (made result) reader.new
+        (row_item base at control opcode reader.old) }
     ensures stays { OnOk result (Stays reader.old reader.new) }
 {
     let code = match opcode {

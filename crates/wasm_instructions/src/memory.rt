@@ -32,7 +32,8 @@ fn float_access(at: usize, reader: &mut Reader<'_>) -> Result<Code, Malformed>
 }
 
 fn load(load: Load, reader: &mut Reader<'_>) -> Result<Code, Malformed>
-    ensures item { Reads (made result) reader.new (access_item (λ a o. Instr.Basic (Basic.Load load a o)) reader.old) }
+    ensures item { Reads (made result) reader.new
+        (access_item (λ a o. Instr.Basic (Basic.Load load a o)) reader.old) }
     ensures stays { OnOk result (Stays reader.old reader.new) }
 {
     let (align, offset) = access(reader)?;
@@ -40,7 +41,8 @@ fn load(load: Load, reader: &mut Reader<'_>) -> Result<Code, Malformed>
 }
 
 fn store(store: Store, reader: &mut Reader<'_>) -> Result<Code, Malformed>
-    ensures item { Reads (made result) reader.new (access_item (λ a o. Instr.Basic (Basic.Store store a o)) reader.old) }
+    ensures item { Reads (made result) reader.new
+        (access_item (λ a o. Instr.Basic (Basic.Store store a o)) reader.old) }
     ensures stays { OnOk result (Stays reader.old reader.new) }
 {
     let (align, offset) = access(reader)?;
@@ -49,7 +51,8 @@ fn store(store: Store, reader: &mut Reader<'_>) -> Result<Code, Malformed>
 
 /// A load, behind its opcode, which stood at that offset.
 pub fn read_load(opcode: u8, at: usize, reader: &mut Reader<'_>) -> Result<Code, Malformed>
-    ensures item { (base : ℕ) → Reads (made result) reader.new (row_item base at load_rows opcode reader.old) }
+    ensures item { (base : ℕ) → Reads (made result) reader.new
+        (row_item base at load_rows opcode reader.old) }
     ensures stays { OnOk result (Stays reader.old reader.new) }
 {
     match opcode {
@@ -72,7 +75,8 @@ pub fn read_load(opcode: u8, at: usize, reader: &mut Reader<'_>) -> Result<Code,
 
 /// A store, behind its opcode, which stood at that offset.
 pub fn read_store(opcode: u8, at: usize, reader: &mut Reader<'_>) -> Result<Code, Malformed>
-    ensures item { (base : ℕ) → Reads (made result) reader.new (row_item base at store_rows opcode reader.old) }
+    ensures item { (base : ℕ) → Reads (made result) reader.new
+        (row_item base at store_rows opcode reader.old) }
     ensures stays { OnOk result (Stays reader.old reader.new) }
 {
     match opcode {
@@ -94,7 +98,8 @@ pub fn read_size_or_constant(
     at: usize,
     reader: &mut Reader<'_>,
 ) -> Result<Code, Malformed>
-    ensures item { (base : ℕ) → Reads (made result) reader.new (row_item base at sizes_and_constants opcode reader.old) }
+    ensures item { (base : ℕ) → Reads (made result) reader.new
+        (row_item base at sizes_and_constants opcode reader.old) }
     ensures stays { OnOk result (Stays reader.old reader.new) }
 {
     let basic = match opcode {

@@ -82,7 +82,8 @@ fn numeric(opcode: u8) -> Option<Basic>
 /// A numeric instruction without immediates, by its opcode, which stood at that offset.
 pub fn read_numeric(opcode: u8, at: usize) -> Code
     requires { (0x45 ≤ opcode) × (opcode ≤ 0xc4) }
-    ensures { (base : ℕ) → item_behind base at (lookup opcode numeric) ≡ Some (done_item (made_of result)) }
+    ensures { (base : ℕ) → item_behind base at (lookup opcode numeric)
+        ≡ Some (done_item (made_of result)) }
 {
     match numeric(opcode) {
         Some(basic) => Code::Known(Instr::Basic(basic)),

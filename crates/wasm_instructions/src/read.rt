@@ -21,7 +21,8 @@ use wasm_syntax::{Instr, Items, Jump, Labels};
 #[tactic(auto, unfolding(crate::specs::Table::form_of))]
 fn read_plain(opcode: u8, at: usize, reader: &mut Reader<'_>) -> Result<Code, Malformed>
     requires { opcode ≢ 0x0e }
-    ensures item { (base : ℕ) → Reads (made result) reader.new (opcode_item base at opcode reader.old) }
+    ensures item { (base : ℕ) → Reads (made result) reader.new
+        (opcode_item base at opcode reader.old) }
     ensures stays { OnOk result (Stays reader.old reader.new) }
 {
     match opcode {
@@ -39,7 +40,8 @@ fn read_plain(opcode: u8, at: usize, reader: &mut Reader<'_>) -> Result<Code, Ma
 
 /// Targets of a `br_table`, which are added to those before them.
 fn read_targets(count: u32, targets: &mut Labels, reader: &mut Reader<'_>) -> Result<(), ItemFault>
-    ensures item { Gives (with_state targets.new result) reader.new (more_targets targets.old count reader.old) }
+    ensures item { Gives (with_state targets.new result) reader.new
+        (more_targets targets.old count reader.old) }
     ensures stays { OnOk result (Stays reader.old reader.new) }
     ensures counted { OnOk result (length targets.new ≡ length targets.old + count) }
     ensures bounded { OnOk result (count + reader.old.at ≤ reader.new.at) }
@@ -54,9 +56,11 @@ fn read_targets(count: u32, targets: &mut Labels, reader: &mut Reader<'_>) -> Re
 #[tactic(auto, unfolding(wasm_bytes::specs::Reading::vector_item))]
 fn read_labels(targets: &mut Labels, reader: &mut Reader<'_>) -> Result<Code, ItemFault>
     requires { length targets.old < 2 ^ 32 }
-    ensures item { Gives (beside targets.new result) reader.new (labels_code targets.old reader.old) }
+    ensures item { Gives (beside targets.new result) reader.new
+        (labels_code targets.old reader.old) }
     ensures stays { OnOk result (Stays reader.old reader.new) }
-    ensures bounded { OnOk result (length targets.new + reader.old.at ≤ length targets.old + reader.new.at) }
+    ensures bounded { OnOk result
+        (length targets.new + reader.old.at ≤ length targets.old + reader.new.at) }
 {
     let first = targets.len() as u32;
     let count = reader.u32()?;
@@ -71,7 +75,8 @@ pub fn read_code(targets: &mut Labels, reader: &mut Reader<'_>) -> Result<Code, 
     requires { length targets.old < 2 ^ 32 }
     ensures item { Gives (beside targets.new result) reader.new (code_item targets.old reader.old) }
     ensures moves { OnOk result (Moves reader.old reader.new) }
-    ensures bounded { OnOk result (length targets.new + reader.old.at ≤ length targets.old + reader.new.at) }
+    ensures bounded { OnOk result
+        (length targets.new + reader.old.at ≤ length targets.old + reader.new.at) }
 {
     let at = reader.at();
     let opcode = reader.byte()?;

@@ -12,7 +12,8 @@ use wasm_syntax::{Basic, Instr};
 
 /// An instruction that takes values away, by its opcode.
 pub fn read_parametric(opcode: u8, at: usize, reader: &mut Reader<'_>) -> Result<Code, Malformed>
-    ensures item { (base : ℕ) → Reads (made result) reader.new (row_item base at parametric opcode reader.old) }
+    ensures item { (base : ℕ) → Reads (made result) reader.new
+        (row_item base at parametric opcode reader.old) }
     ensures stays { OnOk result (Stays reader.old reader.new) }
 {
     let _reader = reader;
@@ -26,7 +27,8 @@ pub fn read_parametric(opcode: u8, at: usize, reader: &mut Reader<'_>) -> Result
 
 /// An instruction on a local or a global, behind its opcode, which stood at that offset.
 pub fn read_variable(opcode: u8, at: usize, reader: &mut Reader<'_>) -> Result<Code, Malformed>
-    ensures item { (base : ℕ) → Reads (made result) reader.new (row_item base at variable opcode reader.old) }
+    ensures item { (base : ℕ) → Reads (made result) reader.new
+        (row_item base at variable opcode reader.old) }
     ensures stays { OnOk result (Stays reader.old reader.new) }
 {
     let basic = match opcode {

@@ -180,7 +180,8 @@ fn push_indexed(out: &mut Vec<u8>, opcode: u8, number: u32) -> Result<(), NoMemo
 
 /// Appends an opcode, the exponent of an alignment, and an offset.
 fn push_access(out: &mut Vec<u8>, opcode: u8, align: u32, offset: u32) -> Result<(), NoMemory>
-    ensures exact { OnOk result (out.new.items ≡ out.old.items ++ opcode ∷ two_numbers align offset) }
+    ensures exact { OnOk result (out.new.items
+        ≡ out.old.items ++ opcode ∷ two_numbers align offset) }
     ensures front { take (length out.old.items) out.new.items ≡ out.old.items }
 {
     out.push(opcode)?;
@@ -207,7 +208,8 @@ fn push_constant(out: &mut Vec<u8>, value: Value) -> Result<(), NoMemory>
 
 /// Appends a call through the table.
 fn push_indirect(out: &mut Vec<u8>, ftype: u32) -> Result<(), NoMemory>
-    ensures exact { OnOk result (out.new.items ≡ out.old.items ++ (0x11 ∷ unsigned_bytes ftype ++ 0x00 ∷ [])) }
+    ensures exact { OnOk result (out.new.items
+        ≡ out.old.items ++ (0x11 ∷ unsigned_bytes ftype ++ 0x00 ∷ [])) }
     ensures front { take (length out.old.items) out.new.items ≡ out.old.items }
 {
     out.push(0x11)?;
@@ -217,7 +219,8 @@ fn push_indirect(out: &mut Vec<u8>, ftype: u32) -> Result<(), NoMemory>
 }
 
 fn push_numbers(out: &mut Vec<u8>, numbers: &[u32]) -> Result<(), NoMemory>
-    ensures exact { OnOk result (out.new.items ≡ out.old.items ++ flat_map unsigned_bytes numbers.now) }
+    ensures exact { OnOk result (out.new.items
+        ≡ out.old.items ++ flat_map unsigned_bytes numbers.now) }
     ensures front { take (length out.old.items) out.new.items ≡ out.old.items }
 {
     for number in numbers {
@@ -228,7 +231,8 @@ fn push_numbers(out: &mut Vec<u8>, numbers: &[u32]) -> Result<(), NoMemory>
 
 /// Appends a `br_table` with these targets.
 fn push_labels(out: &mut Vec<u8>, count: u32, targets: &[u32], default: u32) -> Result<(), NoMemory>
-    ensures exact { OnOk result (out.new.items ≡ out.old.items ++ labels_bytes count targets.now default) }
+    ensures exact { OnOk result (out.new.items
+        ≡ out.old.items ++ labels_bytes count targets.now default) }
     ensures words { AllWords targets.now }
     ensures front { take (length out.old.items) out.new.items ≡ out.old.items }
 {
@@ -335,8 +339,11 @@ pub fn write_instr(out: &mut Vec<u8>, code: &Instr, targets: &Labels) -> Result<
     ensures exact { OnOk result (out.new.items ≡ out.old.items ++ encoding targets.now code.now) }
     ensures code { IsCode targets.now code.now }
     ensures kept { OnErr result (out.new.items ≡ out.old.items) }
-    ensures spelled { (base at : ℕ) → BeginsAt base code.now → instruction base (spelled_of targets.now code.now) at (encoding targets.now code.now) }
-    ensures shortest { (base at : ℕ) (bytes : List ℕ) → instruction base (spelled_of targets.now code.now) at bytes → length (encoding targets.now code.now) ≤ length bytes }
+    ensures spelled { (base at : ℕ) → BeginsAt base code.now
+        → instruction base (spelled_of targets.now code.now) at (encoding targets.now code.now) }
+    ensures shortest { (base at : ℕ) (bytes : List ℕ)
+        → instruction base (spelled_of targets.now code.now) at bytes
+        → length (encoding targets.now code.now) ≤ length bytes }
 {
     append_instr(out, code, targets)
 }

@@ -25,7 +25,12 @@ impl<'a> Model for FrameRef<'a> {
 
     ghost Value = { DumpFrame };
 
-    ghost view = { λ s. record { function = s.function; offset = s.offset; locals = s.locals.now; operands = s.operands.now } };
+    ghost view = { λ s. record {
+      function = s.function;
+      offset = s.offset;
+      locals = s.locals.now;
+      operands = s.operands.now;
+    } };
 }
 
 /// Up to where the values of a frame go, and the index of the instruction at which it stands.
@@ -66,7 +71,10 @@ fn numbered(imports: usize, function: usize) -> u32
 /// The innermost frame goes up to the topmost value and stands at its next instruction. Each other frame goes up to the one above it and
 /// stands at its call.
 fn extent_at(stack: &CallStack, index: usize) -> Extent
-    ensures first { index ≡ 0 → result ≡ record { top = length stack.now.values; at = stack.now.position } }
+    ensures first { index ≡ 0 → result ≡ record {
+      top = length stack.now.values;
+      at = stack.now.position;
+    } }
     ensures others { 0 < index → result ≡ extent_under (slice_get stack.now.frames (index - 1)) }
 {
     if index == 0 {
@@ -86,7 +94,8 @@ fn extent_at(stack: &CallStack, index: usize) -> Extent
 
 /// A frame that goes so far.
 fn shown<'a>(m: &'a Machine, prepared: &Prepared, frame: CallFrame, extent: Extent) -> FrameRef<'a>
-    ensures { result ≡ frame_shown prepared.now.imports prepared.now.codes.items (reverse m.now.stack.values) frame extent.top extent.at }
+    ensures { result ≡ frame_shown prepared.now.imports prepared.now.codes.items
+        (reverse m.now.stack.values) frame extent.top extent.at }
 {
     let values = m.stack.values.as_slice();
     FrameRef {

@@ -57,9 +57,12 @@ impl<'a> Model for Instance<'a> {
 
     ghost Value = { State };
 
-    ghost view = { λ i. state i.source.now i.prepared.value i.machine i.due i.ready i.entered i.steps i.since_copy i.last };
+    ghost view = { λ i. state i.source.now i.prepared.value i.machine i.due i.ready i.entered
+        i.steps i.since_copy i.last };
 
-    ghost invariant = { λ i. SoundState (state i.source.now i.prepared.value i.machine i.due i.ready i.entered i.steps i.since_copy i.last) };
+    ghost invariant = { λ i. SoundState
+        (state i.source.now i.prepared.value i.machine i.due i.ready i.entered i.steps i.since_copy
+        i.last) };
 }
 
 /// A machine without frames.
@@ -130,12 +133,21 @@ impl<'a> Instance<'a> {
         requires ready { self.old.ready ≡ true }
         requires knows { Knows (H.origin hosts.old) self.old.module_ }
         requires steps { self.old.steps + fuel < 2 ^ 64 }
-        ensures refused { fault_in result ≡ entry_fault (H.serving hosts.old) self.old.module_ entry.now args.now }
+        ensures refused { fault_in result
+            ≡ entry_fault (H.serving hosts.old) self.old.module_ entry.now args.now }
         ensures unchanged { OnErr result ((self.new ≡ self.old) × (hosts.new ≡ hosts.old)) }
-        ensures came { IfOk result (λ end. (f : ℕ) × (function_export self.old.module_ entry.now ≡ Some f) × ((p : Program) → IsOf self.old p → Invoked p (H.collecting hosts.old) depth (H.used_up hosts.new) f args.now fuel self.old self.new end (H.calls hosts.old) (H.calls hosts.new)) × (self.new.last ≡ last_of f args.now depth (H.collecting hosts.old) end)) }
-        ensures cause { IfOk result (λ end. HasCause end (H.fault_count hosts.old) (H.fault_count hosts.new)) }
-        ensures spent { IfOk result (λ end. end ≡ RunEnd.FuelSpent → IsSpent self.new depth (H.collecting hosts.new)) }
-        ensures serves { OnOk result (HostServes (H.origin hosts.new) (H.serving hosts.new) self.old.module_) }
+        ensures came { IfOk result (λ end. (f : ℕ)
+            × (function_export self.old.module_ entry.now ≡ Some f)
+            × ((p : Program) → IsOf self.old p
+            → Invoked p (H.collecting hosts.old) depth (H.used_up hosts.new) f args.now fuel
+            self.old self.new end (H.calls hosts.old) (H.calls hosts.new))
+            × (self.new.last ≡ last_of f args.now depth (H.collecting hosts.old) end)) }
+        ensures cause { IfOk result (λ end. HasCause end (H.fault_count hosts.old)
+            (H.fault_count hosts.new)) }
+        ensures spent { IfOk result (λ end. end ≡ RunEnd.FuelSpent
+            → IsSpent self.new depth (H.collecting hosts.new)) }
+        ensures serves { OnOk result
+            (HostServes (H.origin hosts.new) (H.serving hosts.new) self.old.module_) }
         ensures due { OnOk result (self.new.due ≡ None) }
         ensures module_ { self.new.module_ ≡ self.old.module_ }
         ensures prepared { self.new.prepared ≡ self.old.prepared }
@@ -158,18 +170,31 @@ impl<'a> Instance<'a> {
         requires ready { self.old.ready ≡ true }
         requires knows { Knows (H.origin hosts.old) self.old.module_ }
         requires steps { self.old.steps + fuel < 2 ^ 64 }
-        ensures refused { fault_in result ≡ entry_fault (H.serving hosts.old) self.old.module_ entry.now args.now }
+        ensures refused { fault_in result
+            ≡ entry_fault (H.serving hosts.old) self.old.module_ entry.now args.now }
         ensures unchanged { OnErr result ((self.new ≡ self.old) × (hosts.new ≡ hosts.old)) }
-        ensures came { IfOk result (λ end. (f : ℕ) × (function_export self.old.module_ entry.now ≡ Some f) × ((p : Program) → IsOf self.old p → Invoked p (H.collecting hosts.old) depth (H.used_up hosts.new) f args.now fuel self.old self.new end (H.calls hosts.old) (H.calls hosts.new)) × (self.new.last ≡ last_of f args.now depth (H.collecting hosts.old) end)) }
-        ensures cause { IfOk result (λ end. HasCause end (H.fault_count hosts.old) (H.fault_count hosts.new)) }
-        ensures spent { IfOk result (λ end. end ≡ RunEnd.FuelSpent → IsSpent self.new depth (H.collecting hosts.new)) }
-        ensures serves { OnOk result (HostServes (H.origin hosts.new) (H.serving hosts.new) self.old.module_) }
+        ensures came { IfOk result (λ end. (f : ℕ)
+            × (function_export self.old.module_ entry.now ≡ Some f)
+            × ((p : Program) → IsOf self.old p
+            → Invoked p (H.collecting hosts.old) depth (H.used_up hosts.new) f args.now fuel
+            self.old self.new end (H.calls hosts.old) (H.calls hosts.new))
+            × (self.new.last ≡ last_of f args.now depth (H.collecting hosts.old) end)) }
+        ensures cause { IfOk result (λ end. HasCause end (H.fault_count hosts.old)
+            (H.fault_count hosts.new)) }
+        ensures spent { IfOk result (λ end. end ≡ RunEnd.FuelSpent
+            → IsSpent self.new depth (H.collecting hosts.new)) }
+        ensures serves { OnOk result
+            (HostServes (H.origin hosts.new) (H.serving hosts.new) self.old.module_) }
         ensures due { OnOk result (self.new.due ≡ None) }
         ensures module_ { self.new.module_ ≡ self.old.module_ }
         ensures prepared { self.new.prepared ≡ self.old.prepared }
         ensures host { HostKept H.origin H.collecting H.serving H.fault_count hosts.old hosts.new }
         ensures unseen { OnErr result (watch.new ≡ watch.old) }
-        ensures watched { IfOk result (λ end. (f : ℕ) × (function_export self.old.module_ entry.now ≡ Some f) × ((p : Program) → IsOf self.old p → Seen W.Saw p (H.collecting hosts.old) depth f args.now fuel self.old self.new end watch.old watch.new (H.calls hosts.old) (H.calls hosts.new))) }
+        ensures watched { IfOk result
+            (λ end. (f : ℕ) × (function_export self.old.module_ entry.now ≡ Some f)
+            × ((p : Program) → IsOf self.old p
+            → Seen W.Saw p (H.collecting hosts.old) depth f args.now fuel self.old self.new end
+            watch.old watch.new (H.calls hosts.old) (H.calls hosts.new))) }
     {
         match callee(self.source, entry, args, hosts) {
             Ok(function) => Ok(self.call(function, args, depth, fuel, hosts, watch)),
@@ -192,16 +217,22 @@ impl<'a> Instance<'a> {
         requires takes { Takes self.old.module_ function args.now }
         requires host { HostServes (H.origin hosts.old) (H.serving hosts.old) self.old.module_ }
         requires steps { self.old.steps + fuel < 2 ^ 64 }
-        ensures came { (p : Program) → IsOf self.old p → Invoked p (H.collecting hosts.old) depth (H.used_up hosts.new) function args.now fuel self.old self.new result (H.calls hosts.old) (H.calls hosts.new) }
-        ensures last { self.new.last ≡ last_of function args.now depth (H.collecting hosts.old) result }
-        ensures spent { result ≡ RunEnd.FuelSpent → IsSpent self.new depth (H.collecting hosts.new) }
+        ensures came { (p : Program) → IsOf self.old p
+            → Invoked p (H.collecting hosts.old) depth (H.used_up hosts.new) function args.now fuel
+            self.old self.new result (H.calls hosts.old) (H.calls hosts.new) }
+        ensures last { self.new.last
+            ≡ last_of function args.now depth (H.collecting hosts.old) result }
+        ensures spent { result ≡ RunEnd.FuelSpent
+            → IsSpent self.new depth (H.collecting hosts.new) }
         ensures serves { HostServes (H.origin hosts.new) (H.serving hosts.new) self.old.module_ }
         ensures cause { HasCause result (H.fault_count hosts.old) (H.fault_count hosts.new) }
         ensures due { self.new.due ≡ None }
         ensures module_ { self.new.module_ ≡ self.old.module_ }
         ensures prepared { self.new.prepared ≡ self.old.prepared }
         ensures host { HostKept H.origin H.collecting H.serving H.fault_count hosts.old hosts.new }
-        ensures watched { (p : Program) → IsOf self.old p → Seen W.Saw p (H.collecting hosts.old) depth function args.now fuel self.old self.new result watch.old watch.new (H.calls hosts.old) (H.calls hosts.new) }
+        ensures watched { (p : Program) → IsOf self.old p
+            → Seen W.Saw p (H.collecting hosts.old) depth function args.now fuel self.old self.new
+            result watch.old watch.new (H.calls hosts.old) (H.calls hosts.new) }
     {
         let start = self.due;
         self.due = None;
@@ -238,9 +269,14 @@ impl<'a> Instance<'a> {
         requires spent { IsSpent self.old depth (H.collecting hosts.old) }
         requires host { HostServes (H.origin hosts.old) (H.serving hosts.old) self.old.module_ }
         requires steps { self.old.steps + fuel < 2 ^ 64 }
-        ensures came { (p : Program) (l : Kept) (course : Course) → IsOf self.old p → self.old.last ≡ Some l → StoppedBy self.old l p course → Resumed p (H.used_up hosts.new) l course fuel self.old self.new result (H.calls hosts.old) (H.calls hosts.new) }
-        ensures last { (l : Kept) → self.old.last ≡ Some l → self.new.last ≡ last_of l.entry l.args depth (H.collecting hosts.old) result }
-        ensures spent { result ≡ RunEnd.FuelSpent → IsSpent self.new depth (H.collecting hosts.new) }
+        ensures came { (p : Program) (l : Kept) (course : Course) → IsOf self.old p
+            → self.old.last ≡ Some l → StoppedBy self.old l p course
+            → Resumed p (H.used_up hosts.new) l course fuel self.old self.new result
+            (H.calls hosts.old) (H.calls hosts.new) }
+        ensures last { (l : Kept) → self.old.last ≡ Some l
+            → self.new.last ≡ last_of l.entry l.args depth (H.collecting hosts.old) result }
+        ensures spent { result ≡ RunEnd.FuelSpent
+            → IsSpent self.new depth (H.collecting hosts.new) }
         ensures serves { HostServes (H.origin hosts.new) (H.serving hosts.new) self.old.module_ }
         ensures cause { HasCause result (H.fault_count hosts.old) (H.fault_count hosts.new) }
         ensures due { self.new.due ≡ self.old.due }
@@ -332,7 +368,8 @@ impl<'a> Instance<'a> {
     /// stopped.
     pub fn last(&self) -> Option<&LastInvocation>
         ensures last { option_copied result ≡ self.now.last }
-        ensures stopped { (l : Kept) (p : Program) → self.now.last ≡ Some l → IsOf self.now p → Stopped self.now l p }
+        ensures stopped { (l : Kept) (p : Program) → self.now.last ≡ Some l → IsOf self.now p
+            → Stopped self.now l p }
     {
         self.last.as_ref()
     }
@@ -340,7 +377,8 @@ impl<'a> Instance<'a> {
     /// The number of frames of its last invocation.
     pub fn frame_count(&self) -> usize
         ensures count { result ≡ length self.now.machine.stack.frames }
-        ensures stands { (p : Program) (c : Config) → StandsAt self.now p c → result ≡ length c.frames }
+        ensures stands { (p : Program) (c : Config) → StandsAt self.now p c
+            → result ≡ length c.frames }
     {
         self.machine.stack.frames.len()
     }
@@ -348,7 +386,8 @@ impl<'a> Instance<'a> {
     /// The frame under so many others.
     pub fn frame(&self, index: usize) -> FrameRef
         requires { index < length self.now.machine.stack.frames }
-        ensures { (p : Program) (c : Config) → StandsAt self.now p c → slice_get (frame_images c.frames) index ≡ Some result }
+        ensures { (p : Program) (c : Config) → StandsAt self.now p c
+            → slice_get (frame_images c.frames) index ≡ Some result }
     {
         let prepared: &Prepared = &self.prepared;
         frame_at(&self.machine, prepared, index)
@@ -357,7 +396,8 @@ impl<'a> Instance<'a> {
     /// Its globals, in the module's order.
     pub fn globals(&self) -> &[Value]
         ensures globals { result.now ≡ self.now.machine.shared.globals }
-        ensures stands { (p : Program) (c : Config) → StandsAt self.now p c → result.now ≡ c.world.globals }
+        ensures stands { (p : Program) (c : Config) → StandsAt self.now p c
+            → result.now ≡ c.world.globals }
     {
         self.machine.shared.globals.as_slice()
     }
@@ -365,7 +405,8 @@ impl<'a> Instance<'a> {
     /// The global of an index, which the module has.
     pub fn global(&self, index: u32) -> Value
         requires { index < length self.now.module_.globals }
-        ensures { (p : Program) (c : Config) (value : Val) → StandsAt self.now p c → slice_get c.world.globals index ≡ Some value → result ≡ value }
+        ensures { (p : Program) (c : Config) (value : Val) → StandsAt self.now p c
+            → slice_get c.world.globals index ≡ Some value → result ≡ value }
     {
         match self.globals().get(index as usize) {
             Some(value) => *value,
@@ -376,7 +417,8 @@ impl<'a> Instance<'a> {
     /// Its memory, where the module has one.
     pub fn memory(&self) -> Option<&Memory>
         ensures memory { option_copied result ≡ self.now.machine.shared.memory }
-        ensures stands { (p : Program) (c : Config) → StandsAt self.now p c → option_map (λ m. m.memory) (option_copied result) ≡ c.world.memory }
+        ensures stands { (p : Program) (c : Config) → StandsAt self.now p c
+            → option_map (λ m. m.memory) (option_copied result) ≡ c.world.memory }
     {
         self.machine.shared.memory.as_ref()
     }

@@ -67,7 +67,8 @@ pub fn collect_count<'a, S: Collect<'a>>(
     state: &mut S,
     input: &mut Input<'a>,
 ) -> Result<(), ItemFault>
-    ensures item { Gives (with_state state.new result) input.new (steps_from S.step count state.old input.old) }
+    ensures item { Gives (with_state state.new result) input.new
+        (steps_from S.step count state.old input.old) }
     ensures stays { OnOk result (Stays input.old input.new) }
 {
     for _ in 0..count {

@@ -84,7 +84,8 @@ fn go_behind(blocks: &mut Pile<BlockKind>, instr: &Instr) -> Result<(), NoMemory
 /// One more instruction. There are no more targets than bytes before it.
 fn take_instr(expression: &mut Expression, input: &mut Input<'_>) -> Result<(), ItemFault>
     requires { length expression.old.targets ≤ input.old.at }
-    ensures item { Gives (with_state expression.new result) input.new (instr_step expression.old input.old) }
+    ensures item { Gives (with_state expression.new result) input.new
+        (instr_step expression.old input.old) }
     ensures moves { OnOk result (Moves input.old input.new) }
     ensures few { OnOk result (length expression.new.targets ≤ input.new.at) }
 {
@@ -107,7 +108,8 @@ fn take_instr(expression: &mut Expression, input: &mut Input<'_>) -> Result<(), 
 
 fn take_instrs(expression: &mut Expression, input: &mut Input<'_>) -> Result<(), ItemFault>
     requires { length expression.old.targets ≤ input.old.at }
-    ensures item { Gives (with_state expression.new result) input.new (instr_steps expression.old input.old) }
+    ensures item { Gives (with_state expression.new result) input.new
+        (instr_steps expression.old input.old) }
     ensures stays { OnOk result (Stays input.old input.new) }
 {
     'instrs: while expression.blocks.len() > 0 {

@@ -195,7 +195,8 @@ impl<'a> Input<'a> {
         requires { length targets.old < 2 ^ 32 }
         ensures item { Gives (beside targets.new result) self.new (code_item targets.old self.old) }
         ensures moves { OnOk result (Moves self.old self.new) }
-        ensures bounded { OnOk result (length targets.new + self.old.at ≤ length targets.old + self.new.at) }
+        ensures bounded { OnOk result
+            (length targets.new + self.old.at ≤ length targets.old + self.new.at) }
     {
         let mut reader = self.reader();
         let code = read_code(targets, &mut reader)?;

@@ -24,7 +24,8 @@ use wasm_syntax::{Custom, ModuleParts};
 const HEADER: [u8; 8] = [0x00, 0x61, 0x73, 0x6d, 0x01, 0x00, 0x00, 0x00];
 
 fn types(alloc: Global, spelled: &mut SpelledModule, input: &mut Input<'_>) -> Result<(), ItemFault>
-    ensures item { Gives (with_state spelled.new result) input.new (mapped (with_types spelled.old) (noted_vector_item functype_item) input.old) }
+    ensures item { Gives (with_state spelled.new result) input.new
+        (mapped (with_types spelled.old) (noted_vector_item functype_item) input.old) }
     ensures kept { OnOk result (spelled.new.parts.plain_bytes ≡ spelled.old.parts.plain_bytes) }
 {
     let types = noted_vector(alloc, input)?;
@@ -39,7 +40,8 @@ fn imports(
     spelled: &mut SpelledModule,
     input: &mut Input<'_>,
 ) -> Result<(), ItemFault>
-    ensures item { Gives (with_state spelled.new result) input.new (mapped (with_imports spelled.old) (noted_vector_item import_item) input.old) }
+    ensures item { Gives (with_state spelled.new result) input.new
+        (mapped (with_imports spelled.old) (noted_vector_item import_item) input.old) }
     ensures kept { OnOk result (spelled.new.parts.plain_bytes ≡ spelled.old.parts.plain_bytes) }
 {
     let imports = noted_vector(alloc, input)?;
@@ -54,7 +56,8 @@ fn functions(
     spelled: &mut SpelledModule,
     input: &mut Input<'_>,
 ) -> Result<(), ItemFault>
-    ensures item { Gives (with_state spelled.new result) input.new (mapped (with_functions spelled.old) (vector_item u32_item) input.old) }
+    ensures item { Gives (with_state spelled.new result) input.new
+        (mapped (with_functions spelled.old) (vector_item u32_item) input.old) }
     ensures kept { OnOk result (spelled.new.parts.plain_bytes ≡ spelled.old.parts.plain_bytes) }
 {
     spelled.parts.functions = input.item(alloc)?;
@@ -67,7 +70,8 @@ fn tables(
     spelled: &mut SpelledModule,
     input: &mut Input<'_>,
 ) -> Result<(), ItemFault>
-    ensures item { Gives (with_state spelled.new result) input.new (mapped (with_tables spelled.old) (vector_item table_item) input.old) }
+    ensures item { Gives (with_state spelled.new result) input.new
+        (mapped (with_tables spelled.old) (vector_item table_item) input.old) }
     ensures kept { OnOk result (spelled.new.parts.plain_bytes ≡ spelled.old.parts.plain_bytes) }
 {
     spelled.parts.tables = vector::<TableTypes>(alloc, input)?;
@@ -80,7 +84,8 @@ fn memories(
     spelled: &mut SpelledModule,
     input: &mut Input<'_>,
 ) -> Result<(), ItemFault>
-    ensures item { Gives (with_state spelled.new result) input.new (mapped (with_memories spelled.old) (vector_item limits_item) input.old) }
+    ensures item { Gives (with_state spelled.new result) input.new
+        (mapped (with_memories spelled.old) (vector_item limits_item) input.old) }
     ensures kept { OnOk result (spelled.new.parts.plain_bytes ≡ spelled.old.parts.plain_bytes) }
 {
     spelled.parts.memories = vector::<MemoryTypes>(alloc, input)?;
@@ -93,7 +98,8 @@ fn globals(
     spelled: &mut SpelledModule,
     input: &mut Input<'_>,
 ) -> Result<(), ItemFault>
-    ensures item { Gives (with_state spelled.new result) input.new (mapped (with_globals spelled.old) (noted_vector_item global_item) input.old) }
+    ensures item { Gives (with_state spelled.new result) input.new
+        (mapped (with_globals spelled.old) (noted_vector_item global_item) input.old) }
     ensures kept { OnOk result (spelled.new.parts.plain_bytes ≡ spelled.old.parts.plain_bytes) }
 {
     let globals = noted_vector(alloc, input)?;
@@ -108,7 +114,8 @@ fn exports(
     spelled: &mut SpelledModule,
     input: &mut Input<'_>,
 ) -> Result<(), ItemFault>
-    ensures item { Gives (with_state spelled.new result) input.new (mapped (with_exports spelled.old) (vector_item export_item) input.old) }
+    ensures item { Gives (with_state spelled.new result) input.new
+        (mapped (with_exports spelled.old) (vector_item export_item) input.old) }
     ensures kept { OnOk result (spelled.new.parts.plain_bytes ≡ spelled.old.parts.plain_bytes) }
 {
     spelled.parts.exports = vector::<ExportEntries>(alloc, input)?;
@@ -117,7 +124,8 @@ fn exports(
 }
 
 fn start(alloc: Global, spelled: &mut SpelledModule, input: &mut Input<'_>) -> Result<(), ItemFault>
-    ensures item { Gives (with_state spelled.new result) input.new (mapped (with_start spelled.old) (u32_item) input.old) }
+    ensures item { Gives (with_state spelled.new result) input.new
+        (mapped (with_start spelled.old) (u32_item) input.old) }
     ensures kept { OnOk result (spelled.new.parts.plain_bytes ≡ spelled.old.parts.plain_bytes) }
 {
     let _alloc = alloc;
@@ -131,7 +139,8 @@ fn elements(
     spelled: &mut SpelledModule,
     input: &mut Input<'_>,
 ) -> Result<(), ItemFault>
-    ensures item { Gives (with_state spelled.new result) input.new (mapped (with_elements spelled.old) (noted_vector_item element_item) input.old) }
+    ensures item { Gives (with_state spelled.new result) input.new
+        (mapped (with_elements spelled.old) (noted_vector_item element_item) input.old) }
     ensures kept { OnOk result (spelled.new.parts.plain_bytes ≡ spelled.old.parts.plain_bytes) }
 {
     let elements = noted_vector(alloc, input)?;
@@ -142,7 +151,9 @@ fn elements(
 }
 
 fn code(alloc: Global, spelled: &mut SpelledModule, input: &mut Input<'_>) -> Result<(), ItemFault>
-    ensures item { Gives (with_state spelled.new result) input.new (mapped (with_bodies spelled.old) (bodies_item (length spelled.old.parts.functions)) input.old) }
+    ensures item { Gives (with_state spelled.new result) input.new
+        (mapped (with_bodies spelled.old) (bodies_item (length spelled.old.parts.functions))
+        input.old) }
     ensures kept { OnOk result (spelled.new.parts.plain_bytes ≡ spelled.old.parts.plain_bytes) }
 {
     let bodies = bodies(alloc, spelled.parts.functions.len(), input)?;
@@ -157,7 +168,8 @@ fn segments(
     spelled: &mut SpelledModule,
     input: &mut Input<'_>,
 ) -> Result<(), ItemFault>
-    ensures item { Gives (with_state spelled.new result) input.new (mapped (with_segments spelled.old) (noted_vector_item segment_item) input.old) }
+    ensures item { Gives (with_state spelled.new result) input.new
+        (mapped (with_segments spelled.old) (noted_vector_item segment_item) input.old) }
     ensures kept { OnOk result (spelled.new.parts.plain_bytes ≡ spelled.old.parts.plain_bytes) }
 {
     let segments = noted_vector(alloc, input)?;
@@ -175,7 +187,8 @@ fn contents(
     spelled: &mut SpelledModule,
     input: &mut Input<'_>,
 ) -> Result<(), ItemFault>
-    ensures item { Gives (with_state spelled.new result) input.new (contents_item spelled.old id input.old) }
+    ensures item { Gives (with_state spelled.new result) input.new
+        (contents_item spelled.old id input.old) }
     ensures kept { OnOk result (spelled.new.parts.plain_bytes ≡ spelled.old.parts.plain_bytes) }
 {
     match id {
@@ -200,7 +213,8 @@ fn custom(
     spelled: &mut SpelledModule,
     input: &mut Input<'_>,
 ) -> Result<(), ItemFault>
-    ensures item { Gives (with_state spelled.new result) input.new (custom_item spelled.old input.old) }
+    ensures item { Gives (with_state spelled.new result) input.new
+        (custom_item spelled.old input.old) }
     ensures kept { OnOk result (spelled.new.parts.plain_bytes ≡ spelled.old.parts.plain_bytes) }
 {
     let name: Text = input.item(alloc)?;
@@ -218,7 +232,8 @@ fn section(
     input: &mut Input<'_>,
 ) -> Result<(), ItemFault>
     requires { spelled.old.parts.plain_bytes ≤ input.old.at }
-    ensures item { Gives (with_state spelled.new result) input.new (section_step spelled.old input.old) }
+    ensures item { Gives (with_state spelled.new result) input.new
+        (section_step spelled.old input.old) }
     ensures moves { OnOk result (Moves input.old input.new) }
     ensures counted { OnOk result (spelled.new.parts.plain_bytes ≤ input.new.at) }
 {
@@ -246,7 +261,8 @@ fn sections(
     input: &mut Input<'_>,
 ) -> Result<(), ItemFault>
     requires { spelled.old.parts.plain_bytes ≤ input.old.at }
-    ensures item { Gives (with_state spelled.new result) input.new (steps_to_end section_step spelled.old input.old) }
+    ensures item { Gives (with_state spelled.new result) input.new
+        (steps_to_end section_step spelled.old input.old) }
     ensures stays { OnOk result (Stays input.old input.new) }
 {
     'sections: while input.left() > 0 {

@@ -311,7 +311,8 @@ fn same_exports(a: &Items<Export>, b: &Items<Export>) -> bool
 
 /// Whether two modules have the same functions and types.
 fn same_functions(a: &ModuleParts, b: &ModuleParts) -> bool
-    ensures { IsTrue result ↔ ((a.now.types ≡ b.now.types) × (a.now.imports ≡ b.now.imports) × (a.now.functions ≡ b.now.functions)) }
+    ensures { IsTrue result ↔ ((a.now.types ≡ b.now.types) × (a.now.imports ≡ b.now.imports)
+        × (a.now.functions ≡ b.now.functions)) }
 {
     same_func_types(&a.types, &b.types)
         && same_imports(&a.imports, &b.imports)
@@ -320,7 +321,8 @@ fn same_functions(a: &ModuleParts, b: &ModuleParts) -> bool
 
 /// Whether two modules have the same tables, memories, exports and start function.
 fn same_outside(a: &ModuleParts, b: &ModuleParts) -> bool
-    ensures { IsTrue result ↔ ((a.now.tables ≡ b.now.tables) × (a.now.memories ≡ b.now.memories) × (a.now.exports ≡ b.now.exports) × (a.now.start ≡ b.now.start)) }
+    ensures { IsTrue result ↔ ((a.now.tables ≡ b.now.tables) × (a.now.memories ≡ b.now.memories)
+        × (a.now.exports ≡ b.now.exports) × (a.now.start ≡ b.now.start)) }
 {
     same_limits(&a.tables, &b.tables)
         && same_limits(&a.memories, &b.memories)
@@ -330,7 +332,10 @@ fn same_outside(a: &ModuleParts, b: &ModuleParts) -> bool
 
 /// Whether the bodies and expressions of two modules are the same code.
 fn same_bodies(a: &ModuleParts, b: &ModuleParts) -> bool
-    ensures { IsTrue result ↔ ((map global_code a.now.globals ≡ map global_code b.now.globals) × (map element_code a.now.elements ≡ map element_code b.now.elements) × (map segment_code a.now.segments ≡ map segment_code b.now.segments) × (map body_code a.now.bodies ≡ map body_code b.now.bodies)) }
+    ensures { IsTrue result ↔ ((map global_code a.now.globals ≡ map global_code b.now.globals)
+        × (map element_code a.now.elements ≡ map element_code b.now.elements)
+        × (map segment_code a.now.segments ≡ map segment_code b.now.segments)
+        × (map body_code a.now.bodies ≡ map body_code b.now.bodies)) }
 {
     a.globals.same(&b.globals)
         && a.elements.same(&b.elements)

@@ -31,5 +31,6 @@ pub fn low_is_not_high()
 
 /// Two answers to one module are the same, want of memory aside.
 pub fn one_answer()
-    ensures { (m : Parts) (a b : Result Parts Fault) → Answered a m → Answered b m → (a ≡ Err want_of_memory → ⊥) → (b ≡ Err want_of_memory → ⊥) → a ≡ b }
+    ensures { (m : Parts) (a b : Result Parts Fault) → Answered a m → Answered b m
+        → (a ≡ Err want_of_memory → ⊥) → (b ≡ Err want_of_memory → ⊥) → a ≡ b }
 {}

@@ -17,7 +17,8 @@ pub type Rows = Items<Items<u32>>;
 /// Adds rows without instructions, so that there is one for a height.
 fn reach(alloc: Global, rows: &mut Vec<Items<u32>>, height: usize) -> Result<(), NoMemory>
     ensures reached { OnOk result (height < length rows.new.items) }
-    ensures same { (marks : List _) (n : ℕ) → AreRows rows.old.items marks n → OnOk result (AreRows rows.new.items marks n) }
+    ensures same { (marks : List _) (n : ℕ) → AreRows rows.old.items marks n
+        → OnOk result (AreRows rows.new.items marks n) }
 {
     while rows.len() <= height {
         rows.push(Items::new(alloc))?;
@@ -28,7 +29,8 @@ fn reach(alloc: Global, rows: &mut Vec<Items<u32>>, height: usize) -> Result<(),
 /// Adds an instruction to a row.
 fn add(rows: &mut Vec<Items<u32>>, height: usize, op: u32) -> Result<(), NoMemory>
     requires { height < length rows.old.items }
-    ensures { (row : List ℕ) → slice_get rows.old.items height ≡ Some row → OnOk result (rows.new.items ≡ slice_set rows.old.items height (row ++ op ∷ [])) }
+    ensures { (row : List ℕ) → slice_get rows.old.items height ≡ Some row
+        → OnOk result (rows.new.items ≡ slice_set rows.old.items height (row ++ op ∷ [])) }
 {
     rows[height].push(op)?;
     Ok(())
@@ -41,7 +43,8 @@ fn enter(
     mark: Option<Mark>,
     op: u32,
 ) -> Result<(), NoMemory>
-    ensures { (marks : List _) → slice_get marks op ≡ Some mark → AreRows rows.old.items marks op → OnOk result (AreRows rows.new.items marks (op + 1)) }
+    ensures { (marks : List _) → slice_get marks op ≡ Some mark → AreRows rows.old.items marks op
+        → OnOk result (AreRows rows.new.items marks (op + 1)) }
 {
     match mark {
         Some(mark) => {
@@ -106,7 +109,8 @@ fn top_in(marks: &[Option<Mark>], i: u32) -> Option<ValType>
 pub fn last_top(marks: &[Option<Mark>], rows: &Rows, op: u32, height: usize) -> Option<ValType>
     requires rows { AreRows rows.now marks.now (length marks.now) }
     requires there { op < length marks.now }
-    ensures { (last : ℕ) (mark : MarkThere) → LastOf marks.now op height last mark → result ≡ mark.top }
+    ensures { (last : ℕ) (mark : MarkThere) → LastOf marks.now op height last mark
+        → result ≡ mark.top }
 {
     match rows.get(height) {
         Some(row) => match last_in(row.as_slice(), op) {

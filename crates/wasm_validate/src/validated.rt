@@ -106,7 +106,8 @@ fn marked(alloc: Global, m: Module, marks: Items<Marks>) -> Result<Validated, Va
 
 /// The mark of an instruction of a function, where it is there.
 fn mark_at(all: &Items<Marks>, i: usize, op: usize) -> Option<Mark>
-    ensures { (k : Option MarkThere) → option_then (slice_get all.now i) (λ marks. slice_get marks op) ≡ Some k → result ≡ k }
+    ensures { (k : Option MarkThere)
+        → option_then (slice_get all.now i) (λ marks. slice_get marks op) ≡ Some k → result ≡ k }
 {
     match all.get(i) {
         Some(marks) => match marks.get(op).copied() {
@@ -126,7 +127,9 @@ fn top_at(
     height: usize,
 ) -> Option<ValType>
     requires rows { RowsUpTo every.now all.now (length all.now) }
-    ensures { (marks : List (Option MarkThere)) (last : ℕ) (mark : MarkThere) → slice_get all.now i ≡ Some marks → op < length marks → LastOf marks op height last mark → result ≡ mark.top }
+    ensures { (marks : List (Option MarkThere)) (last : ℕ) (mark : MarkThere)
+        → slice_get all.now i ≡ Some marks → op < length marks → LastOf marks op height last mark
+        → result ≡ mark.top }
 {
     match (all.get(i), every.get(i)) {
         (Some(marks), Some(rows)) => {
@@ -177,7 +180,8 @@ impl Validated {
         requires there { HasOp self.now func op }
         requires below { HasOperand self.now func op from_bottom }
         ensures typed { OperandIs result self.now func op from_bottom }
-        ensures fixed { (types : List Sort) → StaticAt self.now func op types → slice_get types from_bottom ≡ Some result }
+        ensures fixed { (types : List Sort) → StaticAt self.now func op types
+            → slice_get types from_bottom ≡ Some result }
     {
         let i = func as usize - self.module.parts().imports.len();
         let height = from_bottom as usize + 1;
