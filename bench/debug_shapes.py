@@ -323,7 +323,7 @@ def commands(n):
     return debugged(b"", *["x 0 1"] * n)
 
 
-# Those with a 2 take time by the product of two counts: of different addresses and functions, of names and the bytes of the string that they share.
+# Those with a 2 take time by the product of two counts: of different addresses and functions.
 SHAPES = [
     ("debug: a cycle of typedefs", typed(cycle), 200_000, 800_000),
     ("debug: an array of many subranges", typed(subranges), 200_000, 800_000),
@@ -339,7 +339,7 @@ SHAPES = [
     ("debug: many functions", functions, 100_000, 400_000),
     ("debug: many frames over many functions", functions_and_frames, 2_000, 8_000),
     ("debug: many addresses over many functions", functions_and_addresses, 2_000, 8_000, 2),
-    ("debug: many names in one string", strings, 2_000, 8_000, 2),
+    ("debug: many names in one string", strings, 2_000, 8_000),
     ("debug: a long location list", listed, 100_000, 400_000),
     ("debug: many blocks of one list of ranges", ranged, 2_000, 8_000),
     ("debug: a cycle of specifications", specified, 10_000, 40_000),

@@ -20,6 +20,6 @@ pub bases_are : (b : Bases) (root : List Attribute) → b.texts ≡ base_of root
     → b.location_lists ≡ base_of root LocationLists → b.range_lists ≡ base_of root RangeLists → base_in b ≡ base_of root
 bases_are b root texts addresses locations ranges = λ i table. each_base b root texts addresses locations ranges table i
 
-pub looked_up_is : (kept s : SectionBytes5) (bases : IndexTable → Option ℕ) (root : List Attribute) → kept ≡ s → bases ≡ base_of root
-    → (λ table i. option_and_then (from_table kept table i) (bases table)) ≡ index5 s root
-looked_up_is kept s bases root same bases_same = λ i table n. option_and_then (from_table (same i) table n) (bases_same i table)
+pub looked_up_is : (s : SectionBytes5) (bases : IndexTable → Option ℕ) (root : List Attribute) → bases ≡ base_of root
+    → (λ table i. option_and_then (from_table s table i) (bases table)) ≡ index5 s root
+looked_up_is s bases root same = λ i table n. option_and_then (from_table s table n) (same i table)

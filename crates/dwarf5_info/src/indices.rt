@@ -2,49 +2,22 @@
 
 ghost use Rattle.std.specs.Prelude.{◌≡◌, ◌+◌, ◌*◌};
 ghost use Rattle.dwarf_bytes.specs.Items.{number_item, read_at};
+ghost use Rattle.dwarf_info.specs.Sections.{SectionBytes5};
 ghost use Rattle.dwarf5_info.specs.Indices.{table_section, base_of, list_offset, entry_means, index5};
 ghost use Rattle.dwarf5_info.specs.inner.Bases.{base_in, looked_up};
 
-use dwarf_bytes::text_at;
 use dwarf_entries::names::{ADDR_BASE, LOCLISTS_BASE, RNGLISTS_BASE, STR_OFFSETS_BASE};
 use dwarf_entries::offset;
-use dwarf_info::{AttrValue, Attribute, IndexTable, Sections, Sections5};
+use dwarf_info::{AttrValue, Attribute, IndexTable, PreparedSections, TextSection};
 use dwarf5_lists::AddressTable;
 
-/// Where the tables of a unit begin, as far as its root says.
+/// Where the tables of a unit begin, as far as its root says. Its indices are looked up by that.
 #[derive(Clone, Copy)]
 pub struct Bases {
     pub texts: Option<u32>,
     pub addresses: Option<u32>,
     pub location_lists: Option<u32>,
     pub range_lists: Option<u32>,
-}
-
-/// What the indices of a unit are looked up by.
-#[derive(Drop)]
-pub struct Indices<'a> {
-    pub sections: Sections5<'a>,
-    pub bases: Bases,
-}
-
-fn borrowed<'a>(sections: &Sections5<'a>) -> Sections5<'a>
-    ensures { result ≡ sections.now }
-{
-    Sections5 {
-        base: Sections {
-            info: sections.base.info,
-            abbrev: sections.base.abbrev,
-            line: sections.base.line,
-            str: sections.base.str,
-            loc: sections.base.loc,
-            ranges: sections.base.ranges,
-        },
-        line_str: sections.line_str,
-        str_offsets: sections.str_offsets,
-        addr: sections.addr,
-        loclists: sections.loclists,
-        rnglists: sections.rnglists,
-    }
 }
 
 /// The bases of the tables, which are attributes of the root.
@@ -74,9 +47,10 @@ fn table_base(bases: &Bases, table: IndexTable) -> Option<u32>
     }
 }
 
-fn section<'a>(sections: &Sections5<'a>, table: IndexTable) -> &'a [u8]
+fn section<'a>(sections: &PreparedSections<'a>, table: IndexTable) -> &'a [u8]
     ensures { result.now ≡ table_section sections.now table }
 {
+    let sections = sections.sections();
     match table {
         IndexTable::Texts => sections.str_offsets,
         IndexTable::Addresses => sections.addr,
@@ -101,7 +75,7 @@ fn list_offset<'a>(base: u32, entry: u32) -> AttrValue<'a>
 
 /// What an entry of a table with that base stands for.
 fn meaning<'a>(
-    sections: &Sections5<'a>,
+    sections: &PreparedSections<'a>,
     base: u32,
     table: IndexTable,
     entry: u32,
@@ -110,7 +84,7 @@ fn meaning<'a>(
 {
     match table {
         IndexTable::Texts => {
-            let text = text_at(sections.base.str, u64::from(entry))?;
+            let text = sections.text_at(TextSection::Str, u64::from(entry))?;
             Some(AttrValue::Text(text))
         }
         IndexTable::Addresses => Some(AttrValue::Address(entry)),
@@ -119,23 +93,25 @@ fn meaning<'a>(
     }
 }
 
-impl<'a> Indices<'a> {
-    /// The tables of a unit whose root has these attributes.
-    pub fn of(sections: &Sections5<'a>, root: &[Attribute<'a>]) -> Self
-        ensures { looked_up result ≡ index5 sections.now root.now }
+impl Bases {
+    /// Those of a unit whose root has these attributes.
+    pub fn of(root: &[Attribute<'_>]) -> Self
+        ensures { (s : SectionBytes5) → looked_up s result ≡ index5 s root.now }
     {
-        Indices {
-            sections: borrowed(sections),
-            bases: root_bases(root),
-        }
+        root_bases(root)
     }
 
     /// What an index of a table stands for.
-    pub fn value(&self, table: IndexTable, index: u64) -> Option<AttrValue<'a>>
-        ensures { result ≡ looked_up self.now table index }
+    pub fn value<'a>(
+        &self,
+        sections: &PreparedSections<'a>,
+        table: IndexTable,
+        index: u64,
+    ) -> Option<AttrValue<'a>>
+        ensures { result ≡ looked_up sections.now self.now table index }
     {
-        let base = table_base(&self.bases, table)?;
-        let entry = entry(section(&self.sections, table), base, index)?;
-        meaning(&self.sections, base, table, entry)
+        let base = table_base(self, table)?;
+        let entry = entry(section(sections, table), base, index)?;
+        meaning(sections, base, table, entry)
     }
 }

@@ -17,12 +17,12 @@ ghost use Rattle.dwarf5_info.specs.inner.Bases.{looked_up};
 
 use crate::abbreviations::shapes5_at;
 use crate::forms::form5;
-use crate::indices::Indices;
+use crate::indices::Bases;
 use causes::NoMemory;
 use dwarf_bytes::number;
 use dwarf_info::{
-    AttrValue, Attribute, Form, Four, IndexTable, Sections5, Shape, Tables, Unit, UnitVersion,
-    UnitVersions, read_body,
+    AttrValue, Attribute, Form, Four, IndexTable, PreparedSections, Shape, Tables, Unit,
+    UnitVersion, UnitVersions, read_body,
 };
 use pm_text::Items;
 use std::alloc::Global;
@@ -40,7 +40,7 @@ fn is_unit_type(unit_type: u64) -> bool
 pub struct Five {}
 
 impl<'a> UnitVersion<'a> for Five {
-    type Index = Indices<'a>;
+    type Index = Bases;
 
     ghost version = { version5 };
 
@@ -83,16 +83,21 @@ impl<'a> UnitVersion<'a> for Five {
         shapes5_at(alloc, section, at)
     }
 
-    fn index(sections: &Sections5<'a>, root: &[Attribute<'a>]) -> Indices<'a>
-        ensures { looked_up result ≡ index5 sections.now root.now }
+    fn index(root: &[Attribute<'a>]) -> Bases
+        ensures { (s : SectionBytes5) → looked_up s result ≡ index5 s root.now }
     {
-        Indices::of(sections, root)
+        Bases::of(root)
     }
 
-    fn value(index: &Indices<'a>, table: IndexTable, number: u64) -> Option<AttrValue<'a>>
-        ensures { result ≡ looked_up index.now table number }
+    fn value(
+        sections: &PreparedSections<'a>,
+        index: &Bases,
+        table: IndexTable,
+        number: u64,
+    ) -> Option<AttrValue<'a>>
+        ensures { result ≡ looked_up sections.now index.now table number }
     {
-        index.value(table, number)
+        index.value(sections, table, number)
     }
 }
 
@@ -123,7 +128,7 @@ impl<'a> UnitVersions<'a> for UpToFive {
     fn read_body(
         &mut self,
         alloc: Global,
-        sections: &Sections5<'a>,
+        sections: &PreparedSections<'a>,
         origin: u32,
         version: u32,
         reader: &mut Reader<'a>,

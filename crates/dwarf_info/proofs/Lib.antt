@@ -10,3 +10,4 @@ pub mod FindLaws
 pub mod ReadLaws
 pub mod FormLaws
 pub mod PlaceLaws
+pub mod TextLaws

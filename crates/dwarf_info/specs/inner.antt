@@ -4,3 +4,4 @@ pub mod Keeping
 pub mod Settling
 pub mod Finding
 pub mod Ascending
+pub mod Zeros

@@ -8,7 +8,7 @@ ghost use Rattle.dwarf_info.specs.Sections.{greatest_section};
 ghost use Rattle.dwarf_info.specs.Units.{answer_item, answers_of};
 
 use crate::entry::UnitAnswer;
-use crate::sections::Sections5;
+use crate::prepared::PreparedSections;
 use crate::unit::read_whole;
 use crate::version::UnitVersions;
 use causes::NoMemory;
@@ -28,7 +28,7 @@ fn unreadable<'a>(alloc: Global, at: usize) -> Result<UnitAnswer<'a>, NoMemory>
 #[tactic(auto, unfolding(crate::specs::Units::answer_item, wasm_bytes::specs::Reading::rest_item))]
 fn read_answer<'a, W: UnitVersions<'a>>(
     alloc: Global,
-    sections: &Sections5<'a>,
+    sections: &PreparedSections<'a>,
     versions: &mut W,
     reader: &mut Reader<'a>,
 ) -> Result<UnitAnswer<'a>, NoMemory>
@@ -56,7 +56,7 @@ fn read_answer<'a, W: UnitVersions<'a>>(
 
 fn answers_left<'a, W: UnitVersions<'a>>(
     alloc: Global,
-    sections: &Sections5<'a>,
+    sections: &PreparedSections<'a>,
     versions: &mut W,
     reader: &mut Reader<'a>,
 ) -> Result<Items<UnitAnswer<'a>>, NoMemory>
@@ -76,7 +76,7 @@ fn answers_left<'a, W: UnitVersions<'a>>(
 #[tactic(auto, unfolding(crate::specs::Units::answers_of, wasm_bytes::specs::Reading::to_end_item))]
 pub fn read_answers<'a, W: UnitVersions<'a>>(
     alloc: Global,
-    sections: &Sections5<'a>,
+    sections: &PreparedSections<'a>,
     versions: &mut W,
 ) -> Result<Items<UnitAnswer<'a>>, NoMemory>
     requires ready { W.is_ready sections.now versions.old }
@@ -87,6 +87,6 @@ pub fn read_answers<'a, W: UnitVersions<'a>>(
         alloc,
         sections,
         versions,
-        &mut Reader::new(sections.base.info),
+        &mut Reader::new(sections.sections().base.info),
     )
 }

@@ -1,13 +1,13 @@
 //! What the entries of a unit are read by.
 
 use crate::form::Shape;
-use crate::sections::Sections5;
+use crate::prepared::PreparedSections;
 use dwarf_abbrev::Table;
 
 /// What the entries of a unit are read by.
 #[derive(Drop)]
 pub struct UnitContext<'c, 'a, I> {
-    pub sections: &'c Sections5<'a>,
+    pub sections: &'c PreparedSections<'a>,
     /// The offset of the unit, from which its references count.
     pub origin: u32,
     pub table: &'c Table<Shape>,

@@ -8,6 +8,7 @@ ghost use Rattle.dwarf_info.specs.Grammar4.{IsUnits4};
 
 use crate::answers::read_answers;
 use crate::places::Places;
+use crate::prepared::PreparedSections;
 use crate::sections::{Sections, Sections5};
 use crate::settle::settled_answers;
 use crate::units::Units;
@@ -16,11 +17,10 @@ use crate::version4::OnlyFour;
 use causes::NoMemory;
 use std::alloc::Global;
 
-/// The units of `.debug_info`, in order. Those of the given versions are read.
 #[tactic(auto, unfolding(crate::specs::Units::units_of))]
-pub fn read_all<'a, W: UnitVersions<'a>>(
+fn read_prepared<'a, W: UnitVersions<'a>>(
     alloc: Global,
-    sections: &Sections5<'a>,
+    sections: &PreparedSections<'a>,
     versions: &mut W,
 ) -> Result<Units<'a>, NoMemory>
     requires ready { W.is_ready sections.now versions.old }
@@ -31,6 +31,20 @@ pub fn read_all<'a, W: UnitVersions<'a>>(
     let places = Places::of(alloc, answers.as_slice())?;
     let settled = settled_answers(alloc, &places, answers)?;
     Ok(Units::new(settled, places))
+}
+
+/// The units of `.debug_info`, in order. Those of the given versions are read.
+pub fn read_all<'a, W: UnitVersions<'a>>(
+    alloc: Global,
+    sections: &Sections5<'a>,
+    versions: &mut W,
+) -> Result<Units<'a>, NoMemory>
+    requires ready { W.is_ready sections.now versions.old }
+    requires short { length sections.now.base.info ≤ greatest_section }
+    ensures { IfOk result (λ units. units ≡ units_of sections.now W.versions) }
+{
+    let prepared = PreparedSections::new(alloc, sections)?;
+    read_prepared(alloc, &prepared, versions)
 }
 
 /// The units of `.debug_info`, in order (DWARF 4 section 7.5.1). Those of version 4 are read; in place of each other one

@@ -88,4 +88,25 @@ impl<'a> Sections5<'a> {
             rnglists: &[],
         }
     }
+
+    /// The same sections once more.
+    pub fn borrowed(&self) -> Self
+        ensures { result ≡ self.now }
+    {
+        Sections5 {
+            base: Sections {
+                info: self.base.info,
+                abbrev: self.base.abbrev,
+                line: self.base.line,
+                str: self.base.str,
+                loc: self.base.loc,
+                ranges: self.base.ranges,
+            },
+            line_str: self.line_str,
+            str_offsets: self.str_offsets,
+            addr: self.addr,
+            loclists: self.loclists,
+            rnglists: self.rnglists,
+        }
+    }
 }

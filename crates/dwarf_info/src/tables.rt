@@ -8,7 +8,7 @@ ghost use Rattle.dwarf_info.specs.Units.{Version};
 ghost use Rattle.dwarf_info.specs.inner.Keeping.{Keeps, KeepsIf, kept_at, table_at as table_there};
 
 use crate::form::Shape;
-use crate::sections::Sections5;
+use crate::prepared::PreparedSections;
 use crate::version::UnitVersion;
 use causes::NoMemory;
 use dwarf_abbrev::Table;
@@ -99,7 +99,7 @@ impl Tables {
 /// Reads the table at an offset.
 fn read_table<'a, V: UnitVersion<'a>>(
     alloc: Global,
-    sections: &Sections5<'a>,
+    sections: &PreparedSections<'a>,
     tables: &mut Tables,
     at: u64,
 ) -> Result<(), NoMemory>
@@ -108,8 +108,9 @@ fn read_table<'a, V: UnitVersion<'a>>(
         (table_there tables.new at ≡ read_at V.version.shapes sections.now.base.abbreviations at) }
     ensures kept { Keeps V.version sections.now tables.new }
 {
-    let table = table_at::<V>(alloc, sections.base.abbrev, at)?;
-    tables.make_room(alloc, size_of_read(&table), sections.base.abbrev.len());
+    let section = sections.sections().base.abbrev;
+    let table = table_at::<V>(alloc, section, at)?;
+    tables.make_room(alloc, size_of_read(&table), section.len());
     tables.read.insert(at, table)?;
     Ok(())
 }
@@ -117,7 +118,7 @@ fn read_table<'a, V: UnitVersion<'a>>(
 /// Reads the table at an offset, where it was not read before.
 pub fn select<'a, V: UnitVersion<'a>>(
     alloc: Global,
-    sections: &Sections5<'a>,
+    sections: &PreparedSections<'a>,
     tables: &mut Tables,
     at: u64,
 ) -> Result<(), NoMemory>

@@ -16,7 +16,7 @@ use crate::entries::{read_entries, step};
 use crate::entry::{Attribute, Entries, Unit};
 use crate::form::Shape;
 use crate::growing::Growing;
-use crate::sections::Sections5;
+use crate::prepared::PreparedSections;
 use crate::tables::{Tables, select};
 use crate::version::{UnitVersion, UnitVersions};
 use dwarf_abbrev::Table;
@@ -37,7 +37,7 @@ fn root<'e, 'a>(entries: &'e Entries<'a>) -> &'e [Attribute<'a>]
 /// What the indices of a unit are looked up by: attributes of its root, which may stand behind the first use.
 fn read_index<'a, V: UnitVersion<'a>>(
     alloc: Global,
-    sections: &Sections5<'a>,
+    sections: &PreparedSections<'a>,
     origin: u32,
     table: &Table<Shape>,
     reader: &Reader<'a>,
@@ -53,13 +53,13 @@ fn read_index<'a, V: UnitVersion<'a>>(
     };
     let mut growing: Growing<'a> = Growing::new(alloc);
     step::<V>(alloc, &context, &mut growing, &mut reader.fork())?;
-    Ok(V::index(sections, root(&growing.entries)))
+    Ok(V::index(root(&growing.entries)))
 }
 
 /// The entries of a unit, by a table of abbreviations.
 fn read_rooted<'a, V: UnitVersion<'a>>(
     alloc: Global,
-    sections: &Sections5<'a>,
+    sections: &PreparedSections<'a>,
     origin: u32,
     table: &Table<Shape>,
     reader: &mut Reader<'a>,
@@ -82,7 +82,7 @@ fn read_rooted<'a, V: UnitVersion<'a>>(
 /// What stands behind the version of a unit.
 pub fn read_body<'a, V: UnitVersion<'a>>(
     alloc: Global,
-    sections: &Sections5<'a>,
+    sections: &PreparedSections<'a>,
     tables: &mut Tables,
     origin: u32,
     version: u32,
@@ -134,7 +134,7 @@ fn read_padding<'a>(reader: &mut Reader<'a>) -> Result<&'a [u8], Malformed>
 #[tactic(auto, unfolding(crate::specs::Units::unit_item))]
 fn read_unit<'a, W: UnitVersions<'a>>(
     alloc: Global,
-    sections: &Sections5<'a>,
+    sections: &PreparedSections<'a>,
     versions: &mut W,
     origin: u32,
     reader: &mut Reader<'a>,
@@ -153,7 +153,7 @@ fn read_unit<'a, W: UnitVersions<'a>>(
 #[tactic(auto, unfolding(crate::specs::Units::whole_unit))]
 pub fn read_whole<'a, W: UnitVersions<'a>>(
     alloc: Global,
-    sections: &Sections5<'a>,
+    sections: &PreparedSections<'a>,
     versions: &mut W,
     origin: u32,
     reader: &mut Reader<'a>,

@@ -5,27 +5,16 @@ ghost use Rattle.wasm_bytes.specs.Place.{Stays};
 ghost use Rattle.wasm_bytes.specs.Reading.{◌▷◌, run_item};
 ghost use Rattle.wasm_bytes.specs.Answers.{Reads};
 ghost use Rattle.dwarf_bytes.specs.Items.{meaning_item};
-ghost use Rattle.dwarf_info.specs.Values.{text_at, refers_to, meant, width_item, plain_item, named_item, value_item, slot_item};
+ghost use Rattle.dwarf_info.specs.Values.{refers_to, meant, width_item, plain_item, named_item, value_item, slot_item};
 ghost use Rattle.dwarf_info.specs.inner.Contexts.{seen};
 ghost use Rattle.dwarf_info.specs.inner.Sizes.{IsWidth, IsNumber, IsSized, Fits};
 
 use crate::context::UnitContext;
 use crate::entry::{AttrValue, Attribute};
-use crate::form::{Form, Meaning, NumberForm, Slot, TextSection};
-use crate::sections::Sections5;
+use crate::form::{Form, Meaning, NumberForm, Slot};
 use crate::version::UnitVersion;
-use dwarf_bytes::{number, text, text_at as text_in};
+use dwarf_bytes::{number, text};
 use wasm_bytes::{Malformed, Reader, Run};
-
-/// The text at an offset of a section of texts.
-fn text_at<'a>(sections: &Sections5<'a>, section: TextSection, at: u64) -> Option<Run<'a>>
-    ensures { result ≡ text_at sections.now section at }
-{
-    match section {
-        TextSection::Str => text_in(sections.base.str, at),
-        TextSection::LineStr => text_in(sections.line_str, at),
-    }
-}
 
 /// A reference to the entry at a distance from an offset. Offsets have 32 bits.
 fn refers_to<'a>(origin: u32, distance: u64) -> AttrValue<'a>
@@ -52,13 +41,13 @@ fn meant<'c, 'a, V: UnitVersion<'a>>(
         Meaning::Flag => Some(AttrValue::Flag(number != 0)),
         Meaning::Offset => Some(AttrValue::Offset(number as u32)),
         Meaning::TextIn(section) => {
-            let text = text_at(context.sections, section, number)?;
+            let text = context.sections.text_at(section, number)?;
             Some(AttrValue::Text(text))
         }
         Meaning::InUnit => Some(refers_to(context.origin, number)),
         Meaning::InSection => Some(refers_to(0, number)),
         Meaning::IndexOf(table) => match &context.index {
-            Some(index) => V::value(index, table, number),
+            Some(index) => V::value(context.sections, index, table, number),
             None => Some(AttrValue::Other),
         },
     }

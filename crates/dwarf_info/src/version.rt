@@ -13,7 +13,7 @@ ghost use Rattle.dwarf_info.specs.inner.Sizes.{IsSized};
 
 use crate::entry::{AttrValue, Attribute, Unit};
 use crate::form::{Form, IndexTable, Shape};
-use crate::sections::Sections5;
+use crate::prepared::PreparedSections;
 use causes::NoMemory;
 use pm_text::Items;
 use std::alloc::Global;
@@ -27,7 +27,7 @@ pub trait UnitVersion<'a>: Drop {
     ghost version: { Version };
 
     /// What an index of a table stands for.
-    ghost looked: { Self.Index → IndexTable → ℕ → Option AttrValue };
+    ghost looked: { SectionBytes5 → Self.Index → IndexTable → ℕ → Option AttrValue };
 
     /// The form of a code.
     fn form(code: u64) -> Option<Form>
@@ -48,12 +48,17 @@ pub trait UnitVersion<'a>: Drop {
         ensures { IfOk result (λ shapes. shapes ≡ read_at version.shapes section.now at) };
 
     /// What indices are looked up by, in a unit whose root has these attributes.
-    fn index(sections: &Sections5<'a>, root: &[Attribute<'a>]) -> Self::Index
-        ensures { looked result ≡ version.index sections.now root.now };
+    fn index(root: &[Attribute<'a>]) -> Self::Index
+        ensures { (s : SectionBytes5) → looked s result ≡ version.index s root.now };
 
     /// What an index of a table stands for.
-    fn value(index: &Self::Index, table: IndexTable, number: u64) -> Option<AttrValue<'a>>
-        ensures { result ≡ looked index.now table number };
+    fn value(
+        sections: &PreparedSections<'a>,
+        index: &Self::Index,
+        table: IndexTable,
+        number: u64,
+    ) -> Option<AttrValue<'a>>
+        ensures { result ≡ looked sections.now index.now table number };
 }
 
 /// The versions that are read.
@@ -67,7 +72,7 @@ pub trait UnitVersions<'a>: Drop {
     fn read_body(
         &mut self,
         alloc: Global,
-        sections: &Sections5<'a>,
+        sections: &PreparedSections<'a>,
         origin: u32,
         version: u32,
         reader: &mut Reader<'a>,

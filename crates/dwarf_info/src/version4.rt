@@ -13,7 +13,7 @@ use crate::entry::{AttrValue, Attribute, Unit};
 use crate::form::{
     Form, IndexTable, Meaning, NumberForm, Shape, SizedForm, Slot, Slots, TextSection,
 };
-use crate::sections::Sections5;
+use crate::prepared::PreparedSections;
 use crate::tables::Tables;
 use crate::unit::read_body;
 use crate::version::{UnitVersion, UnitVersions};
@@ -127,7 +127,7 @@ impl<'a> UnitVersion<'a> for Four {
 
     ghost version = { version4 };
 
-    ghost looked = { λ _. no_index };
+    ghost looked = { λ _ _. no_index };
 
     fn form(code: u64) -> Option<Form> {
         form4(code)
@@ -152,13 +152,18 @@ impl<'a> UnitVersion<'a> for Four {
         shapes4_at(alloc, section, at)
     }
 
-    fn index(sections: &Sections5<'a>, root: &[Attribute<'a>])
-        ensures { no_index ≡ version4.index sections.now root.now }
+    fn index(root: &[Attribute<'a>])
+        ensures { (s : SectionBytes5) → no_index ≡ version4.index s root.now }
     {
-        let _unused = (sections.addr.len(), root.len());
+        let _unused = root.len();
     }
 
-    fn value(_index: &(), table: IndexTable, number: u64) -> Option<AttrValue<'a>>
+    fn value(
+        _sections: &PreparedSections<'a>,
+        _index: &(),
+        table: IndexTable,
+        number: u64,
+    ) -> Option<AttrValue<'a>>
         ensures { result ≡ no_index table number }
     {
         let _unused = (table, number);
@@ -191,7 +196,7 @@ impl<'a> UnitVersions<'a> for OnlyFour {
     fn read_body(
         &mut self,
         alloc: Global,
-        sections: &Sections5<'a>,
+        sections: &PreparedSections<'a>,
         origin: u32,
         version: u32,
         reader: &mut Reader<'a>,

@@ -3,8 +3,8 @@ use Rattle.std.specs.Prelude.{ℕ, Option, option_and_then}
 use Rattle.dwarf_info.specs.declared.form.IndexTable.{IndexTable}
 use Rattle.dwarf_info.specs.declared.form.IndexTable.TheVariants.{Texts, Addresses, LocationLists, RangeLists}
 use Rattle.dwarf_info.specs.declared.entry.AttrValue.{AttrValue}
+use Rattle.dwarf_info.specs.Sections.{SectionBytes5}
 use Rattle.dwarf5_info.specs.declared.indices.Bases.{Bases}
-use Rattle.dwarf5_info.specs.declared.indices.Indices.{Indices}
 use Rattle.dwarf5_info.specs.Indices.{from_table}
 
 abbrev pub base_in : Bases → IndexTable → Option ℕ
@@ -14,5 +14,5 @@ base_in bases LocationLists = bases.location_lists
 base_in bases RangeLists = bases.range_lists
 
 -- what an index stands for
-abbrev pub looked_up : Indices → IndexTable → ℕ → Option AttrValue
-looked_up indices table i = option_and_then (from_table indices.sections table i) (base_in indices.bases table)
+abbrev pub looked_up : SectionBytes5 → Bases → IndexTable → ℕ → Option AttrValue
+looked_up s bases table i = option_and_then (from_table s table i) (base_in bases table)

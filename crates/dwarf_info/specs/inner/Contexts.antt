@@ -22,10 +22,10 @@ looked_up look None = unsettled
 looked_up look (Some index) = look index
 
 -- What the indices of a unit are looked up by is found where its root is read with indices not looked up.
-abbrev pub IsIndex : {I : Type 0} → Version → (I → IndexTable → ℕ → Option AttrValue) → SectionBytes5 → ℕ → List Shape → Place → Result I ItemFault → Type 0
-IsIndex v look s origin table p (Ok index) = (root : Growing) × (q : Place) × (step_item (context s v origin table unsettled) seed p ≡ Ok (root, q)) × (look index ≡ v.index s (root_attributes root.entries))
+abbrev pub IsIndex : {I : Type 0} → Version → (SectionBytes5 → I → IndexTable → ℕ → Option AttrValue) → SectionBytes5 → ℕ → List Shape → Place → Result I ItemFault → Type 0
+IsIndex v look s origin table p (Ok index) = (root : Growing) × (q : Place) × (step_item (context s v origin table unsettled) seed p ≡ Ok (root, q)) × (look s index ≡ v.index s (root_attributes root.entries))
 IsIndex v look s origin table p (Err e) = Fails e (step_item (context s v origin table unsettled) seed p)
 
 -- what entries are read by, as the definitions have it
-abbrev pub seen : {I : Type 0} → Version → (I → IndexTable → ℕ → Option AttrValue) → UnitContext I → Context
-seen v look c = context c.sections.now v c.origin c.table.now (looked_up look c.index)
+abbrev pub seen : {I : Type 0} → Version → (SectionBytes5 → I → IndexTable → ℕ → Option AttrValue) → UnitContext I → Context
+seen v look c = context c.sections.now v c.origin c.table.now (looked_up (look c.sections.now) c.index)

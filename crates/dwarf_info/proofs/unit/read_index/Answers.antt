@@ -10,4 +10,4 @@ returns g c =
     let v = g.V.UnitVersion.version in
     let ctx = context c.args.sections.now v c.args.origin c.args.table.now unsettled in
     let here = ap (λ (w : Growing). step_item ctx w c.args.reader.now) (sym c.new-growing.ensures) ∙ ap (λ (p : Place). step_item ctx c.new-growing.result p) (sym c.fork.ensures) in
-    record { item = (c.step.new.growing, c.step.new.reader, here ∙ c.in_ok-step.ensures.item, c.index.ensures ∙ ap (v.index c.args.sections.now) c.root.ensures) }
+    record { item = (c.step.new.growing, c.step.new.reader, here ∙ c.in_ok-step.ensures.item, c.index.ensures c.args.sections.now ∙ ap (v.index c.args.sections.now) c.root.ensures) }

@@ -7,7 +7,7 @@ use Rattle.dwarf_info.specs.inner.Settling.{placed, meets, any_at}
 use Rattle.dwarf_info.specs.EntryPlaces.{place_among}
 use Rattle.dwarf_info.proofs.FindLaws.{among_any, settled_among}
 use Rattle.dwarf_info.proofs.ReadLaws.{settled_units}
-use Rattle.dwarf_info.proofs.read.read_all.Goals as goal
+use Rattle.dwarf_info.proofs.read.read_prepared.Goals as goal
 
 pub returns : goal.returns
 returns g c =
