@@ -6,3 +6,4 @@ pub mod Skips
 pub mod Standing
 pub mod HalvingLaws
 pub mod StartLaws
+pub mod HeldLaws

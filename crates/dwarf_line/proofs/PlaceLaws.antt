@@ -195,7 +195,7 @@ place_or_none a sequences = by (held a sequences) where
   by (inl f) = let n = reached_in a f.0.rows f.0.«end» f.1.is (nearest_found a f.0.rows) in inl (n.0, (f.0, f.1, n.1))
   by (inr none) = inr none
 
-none_found : (a : ℕ) (sequences : List Sequence) → AllByRecursion (λ (s : Sequence). Holds a s → ⊥) sequences → find (holds a) sequences ≡ None
+pub none_found : (a : ℕ) (sequences : List Sequence) → AllByRecursion (λ (s : Sequence). Holds a s → ⊥) sequences → find (holds a) sequences ≡ None
 none_found a [] h = refl
 none_found a (s ∷ more) h = first_later (holds a) s more (not_held a s (holds a s) refl h.0) ∙ none_found a more h.1
 

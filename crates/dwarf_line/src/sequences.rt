@@ -5,6 +5,7 @@ ghost use Rattle.std.specs.Option.{option_copied, option_to_list};
 ghost use Rattle.dwarf_line.specs.declared.sequences.Start.{Start};
 ghost use Rattle.dwarf_line.specs.Holding.{holds};
 ghost use Rattle.dwarf_line.specs.inner.Halving.{last_reached, ascends_from};
+ghost use Rattle.dwarf_line.specs.inner.Held.{held};
 ghost use Rattle.dwarf_line.specs.inner.Starts.{start_of, starts_from, apart_from, sought};
 
 use crate::lines::Sequence;
@@ -44,17 +45,28 @@ impl Model for Sequences {
     ghost invariant = { λ s. AreStarts s.apart s.starts.items s.sequences };
 }
 
-/// The sequence holds the address. What linkers make of removed code holds none.
+impl Sequence {
+    /// The addresses that it holds: from the first one up to but not including the second. What linkers make of removed code
+    /// holds none.
+    pub fn held(&self) -> Option<(u32, u32)>
+        ensures { result ≡ held self.now }
+    {
+        let first = self.rows.first()?.address;
+        if first != 0 && first < 0xffff_fffe {
+            Some((first, self.end))
+        } else {
+            None
+        }
+    }
+}
+
+/// The sequence holds the address.
+#[tactic(auto, using(crate::proofs::HeldLaws::holds_held))]
 fn holds(address: u32, s: &Sequence) -> bool
     ensures { result ≡ holds address s.now }
 {
-    match s.rows.first() {
-        Some(first) => {
-            first.address != 0
-                && first.address < 0xffff_fffe
-                && first.address <= address
-                && address < s.end
-        }
+    match s.held() {
+        Some((first, end)) => first <= address && address < end,
         None => false,
     }
 }
