@@ -1,2 +1,4 @@
 pub mod Filters
 pub mod Counts
+pub mod StepLaws
+pub mod NumberLaws

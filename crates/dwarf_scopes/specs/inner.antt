@@ -1,3 +1,5 @@
 pub mod Picks
 pub mod Insides
 pub mod Knowing
+pub mod Steps
+pub mod Numbered

@@ -6,11 +6,13 @@ mod known;
 mod lists;
 mod ranges;
 mod scopes;
+mod steps;
 mod subprograms;
 mod variables;
 
 pub use lists::{location_in, range_in};
 pub use ranges::holds;
 pub use scopes::{inlined_at, scopes_at, subprogram_at};
+pub use steps::{Range, Steps};
 pub use subprograms::{Found, Subprograms};
 pub use variables::variables_at;
