@@ -2,3 +2,4 @@ pub mod Filters
 pub mod Counts
 pub mod StepLaws
 pub mod NumberLaws
+pub mod HolderLaws

@@ -3,3 +3,4 @@ pub mod Insides
 pub mod Knowing
 pub mod Steps
 pub mod Numbered
+pub mod Holding

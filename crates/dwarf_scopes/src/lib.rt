@@ -1,6 +1,7 @@
 //! Addresses of entries: what holds an address, and the scopes and variables that are visible there.
 #![tactic(auto)]
 
+mod holders;
 mod insides;
 mod known;
 mod lists;

@@ -31,7 +31,7 @@ fn bounds_from(entry: &Entry<'_>, low: u32) -> Option<(u32, i128)>
 }
 
 /// Where the addresses of an entry begin and end, where it says both.
-fn bounds(entry: &Entry<'_>) -> Option<(u32, i128)>
+pub fn bounds(entry: &Entry<'_>) -> Option<(u32, i128)>
     ensures { result ≡ ranges.bounds_of entry.now }
 {
     let low = address(entry.attributes.as_slice(), LOW_PC)?;

@@ -1,12 +1,11 @@
 //! The subprograms of all units, gathered once where many addresses are looked up.
 
-ghost use Rattle.std.specs.Prelude.{◌≡◌, ◌++◌, OnOk, IfOk, find, flat_map, option_copied};
+ghost use Rattle.std.specs.Prelude.{◌≡◌, ◌++◌, OnOk, IfOk, flat_map};
 ghost use Rattle.dwarf_entries.specs.Standing.{Standing as Stands};
-ghost use Rattle.dwarf_scopes.specs.Ranges as ranges;
 ghost use Rattle.dwarf_scopes.specs.Scopes as scopes;
 ghost use Rattle.dwarf_scopes.specs.inner.Picks.{is_kept, kept_of, kept};
 
-use crate::ranges::holds;
+use crate::holders::Holders;
 use crate::scopes::{inlined_of, is_removed, scopes_in};
 use causes::NoMemory;
 use dwarf_entries::tags::SUBPROGRAM;
@@ -53,22 +52,6 @@ fn all_kept<'r, 'a>(
     Ok(found)
 }
 
-/// The first of these that holds an address.
-fn first_holding<'r, 'a>(
-    sections: &Sections5<'a>,
-    subprograms: &[Standing<'r, 'a>],
-    address: u32,
-) -> Option<Standing<'r, 'a>>
-    ensures { result ≡ find (ranges.holds sections.now address) subprograms.now }
-{
-    for subprogram in subprograms {
-        if holds(sections, address, subprogram) {
-            return Some(subprogram.copied());
-        }
-    }
-    None
-}
-
 /// What stands at an address.
 #[derive(Drop)]
 pub struct Found<'r, 'a> {
@@ -83,18 +66,20 @@ pub struct Subprograms<'r, 'a> {
     units: &'r [UnitAnswer<'a>],
     // Those that are not removed.
     kept: Items<Standing<'r, 'a>>,
+    holders: Holders,
 }
 
 impl<'r, 'a> Model for Subprograms<'r, 'a> {
     ghost use Rattle.std.specs.Prelude.{◌≡◌, List};
     ghost use Rattle.dwarf_info.specs.declared.entry.UnitAnswer.{UnitAnswer};
     ghost use Rattle.dwarf_scopes.specs.inner.Picks.{kept as kept_of_all};
+    ghost use Rattle.dwarf_scopes.specs.inner.Holding.{AreHolders};
 
     ghost Value = { List UnitAnswer };
 
     ghost view = { λ s. s.units.now };
 
-    ghost invariant = { λ s. s.kept ≡ kept_of_all s.units.now };
+    ghost invariant = { λ s. (s.kept ≡ kept_of_all s.units.now) × AreHolders s.kept s.holders };
 }
 
 impl<'r, 'a> Subprograms<'r, 'a> {
@@ -103,7 +88,12 @@ impl<'r, 'a> Subprograms<'r, 'a> {
         ensures { IfOk result (λ s. s ≡ units.now) }
     {
         let kept = all_kept(alloc, units)?;
-        Ok(Subprograms { units, kept })
+        let holders = Holders::of(alloc, kept.as_slice())?;
+        Ok(Subprograms {
+            units,
+            kept,
+            holders,
+        })
     }
 
     /// The first one that holds an address.
@@ -111,7 +101,7 @@ impl<'r, 'a> Subprograms<'r, 'a> {
     fn at(&self, sections: &Sections5<'a>, address: u32) -> Option<Standing<'r, 'a>>
         ensures { result ≡ scopes.subprogram_at sections.now self.now address }
     {
-        first_holding(sections, self.kept.as_slice(), address)
+        self.holders.first(sections, self.kept.as_slice(), address)
     }
 
     /// What stands at an address.

@@ -1,0 +1,18 @@
+-- What finds the first entry that holds an address.
+use Rattle.std.specs.Prelude.{◌≡◌, ℕ, ℤ, List, Bool}
+use Rattle.std.specs.Option.{option_to_list, is_none}
+use Rattle.dwarf_entries.specs.Standing.{Standing}
+use Rattle.dwarf_scopes.specs.Ranges.{bounds_of}
+use Rattle.dwarf_scopes.specs.declared.holders.Holders.{Holders}
+use Rattle.dwarf_scopes.specs.inner.Numbered.{ranges_from, numbers_from}
+use Rattle.dwarf_scopes.specs.inner.Steps.{Answer}
+
+abbrev pub bounds_in : Standing → List (ℕ × ℤ)
+bounds_in x = option_to_list (bounds_of x.entry)
+
+-- It says not both, and may have a list.
+abbrev pub is_listed : Standing → Bool
+is_listed x = is_none (bounds_of x.entry)
+
+abbrev pub AreHolders : List Standing → Holders → Type 0
+AreHolders xs h = Answer (ranges_from bounds_in 0 xs) h.bounded × (h.listed ≡ numbers_from is_listed 0 xs)

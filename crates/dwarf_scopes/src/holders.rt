@@ -1,0 +1,129 @@
+//! Which of many entries holds an address first.
+
+ghost use Rattle.std.specs.Prelude.{◌≡◌, IfOk, find, slice_get, option_and_then};
+ghost use Rattle.dwarf_scopes.specs.Ranges as ranges;
+ghost use Rattle.dwarf_scopes.specs.inner.Holding.{bounds_in, is_listed, AreHolders};
+ghost use Rattle.dwarf_scopes.specs.inner.Numbered.{ranges_from, numbers_from, passes, is_before, first_or};
+
+use crate::ranges::{bounds, holds};
+use crate::steps::{Range, Steps};
+use causes::NoMemory;
+use dwarf_entries::Standing;
+use dwarf_info::Sections5;
+use pm_text::Items;
+use std::alloc::Global;
+
+/// What finds the first of many entries that holds an address: by halving among those that say where they begin and end. The
+/// others, which may have a list, are asked one after the other.
+#[derive(Drop)]
+pub struct Holders {
+    bounded: Steps,
+    // The numbers of the others.
+    listed: Items<usize>,
+}
+
+/// Those that say where they begin and end, as ranges with their numbers.
+fn ranges_of(alloc: Global, entries: &[Standing<'_, '_>]) -> Result<Vec<Range>, NoMemory>
+    ensures { IfOk result (λ ranges. ranges.items ≡ ranges_from bounds_in 0 entries.now) }
+{
+    let mut ranges = Vec::new(alloc);
+    'entries: for (index, standing) in entries.iter().enumerate() {
+        if let Some((first, end)) = bounds(standing.entry()) {
+            ranges.push(Range { first, end, index })?;
+        }
+    }
+    Ok(ranges)
+}
+
+/// The numbers of the others.
+fn listed_of(alloc: Global, entries: &[Standing<'_, '_>]) -> Result<Items<usize>, NoMemory>
+    ensures { IfOk result (λ numbers. numbers ≡ numbers_from is_listed 0 entries.now) }
+{
+    let mut numbers = Items::new(alloc);
+    'entries: for (index, standing) in entries.iter().enumerate() {
+        if bounds(standing.entry()).is_none() {
+            numbers.push(index)?;
+        }
+    }
+    Ok(numbers)
+}
+
+/// Whether an entry is there, and holds an address.
+fn holds_at(
+    sections: &Sections5<'_>,
+    entries: &[Standing<'_, '_>],
+    index: usize,
+    address: u32,
+) -> bool
+    ensures { result ≡ passes (ranges.holds sections.now address) (slice_get entries.now index) }
+{
+    match entries.get(index) {
+        Some(standing) => holds(sections, address, standing),
+        None => false,
+    }
+}
+
+fn is_before(named: Option<usize>, index: usize) -> bool
+    ensures { result ≡ is_before named index }
+{
+    match named {
+        Some(named) => named < index,
+        None => false,
+    }
+}
+
+/// The first of the entries with these numbers that holds an address, or the one that is named, if that stands before it.
+fn first_or(
+    sections: &Sections5<'_>,
+    entries: &[Standing<'_, '_>],
+    address: u32,
+    named: Option<usize>,
+    numbers: &[usize],
+) -> Option<usize>
+    ensures { result ≡ first_or
+        (λ index. passes (ranges.holds sections.now address) (slice_get entries.now index))
+        named numbers.now }
+{
+    for index in numbers {
+        if is_before(named, *index) {
+            return named;
+        }
+        if holds_at(sections, entries, *index, address) {
+            return Some(*index);
+        }
+    }
+    named
+}
+
+fn entry_of<'r, 'a>(entries: &[Standing<'r, 'a>], number: Option<usize>) -> Option<Standing<'r, 'a>>
+    ensures { result ≡ option_and_then (slice_get entries.now) number }
+{
+    Some(entries.get(number?)?.copied())
+}
+
+impl Holders {
+    /// Those of these entries, in their order.
+    pub fn of(alloc: Global, entries: &[Standing<'_, '_>]) -> Result<Self, NoMemory>
+        ensures { IfOk result (λ holders. AreHolders entries.now holders) }
+    {
+        let ranges = ranges_of(alloc, entries)?;
+        let bounded = Steps::of(alloc, ranges.as_slice())?;
+        let listed = listed_of(alloc, entries)?;
+        Ok(Holders { bounded, listed })
+    }
+
+    /// The first of the entries that holds an address.
+    pub fn first<'r, 'a>(
+        &self,
+        sections: &Sections5<'a>,
+        entries: &[Standing<'r, 'a>],
+        address: u32,
+    ) -> Option<Standing<'r, 'a>>
+        requires { AreHolders entries.now self.now }
+        ensures { result ≡ find (ranges.holds sections.now address) entries.now }
+    {
+        let named = self.bounded.at(address);
+        let number = first_or(sections, entries, address, named, self.listed.as_slice());
+        entry_of(entries, number)
+    }
+}
