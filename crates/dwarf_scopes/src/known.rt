@@ -38,7 +38,8 @@ fn read_list(
     lists: &mut KnownLists,
 ) -> Result<bool, NoMemory>
     requires right { AreRight sections.now unit.now address lists.old }
-    ensures is { IfOk result (λ held. held ≡ ranges.in_list sections.now unit.now address (Some at)) }
+    ensures is { IfOk result (λ held. held
+        ≡ ranges.in_list sections.now unit.now address (Some at)) }
     ensures right { AreRight sections.now unit.now address lists.new }
 {
     let held = in_list(sections, unit, address, Some(at));
@@ -55,7 +56,8 @@ fn in_known_list(
     lists: &mut KnownLists,
 ) -> Result<bool, NoMemory>
     requires right { AreRight sections.now unit.now address lists.old }
-    ensures is { IfOk result (λ held. held ≡ ranges.in_list sections.now unit.now address (Some at)) }
+    ensures is { IfOk result (λ held. held
+        ≡ ranges.in_list sections.now unit.now address (Some at)) }
     ensures right { AreRight sections.now unit.now address lists.new }
 {
     if let Some(held) = lists.known.get(&at) {

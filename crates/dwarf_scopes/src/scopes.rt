@@ -61,10 +61,12 @@ impl<'s, 'a> ScopeAt<'s, 'a> {
         standing: &Standing<'_, '_>,
         lists: &mut KnownLists,
     ) -> Result<bool, NoMemory>
-        requires right { AreRight self.now.sections.now standing.now.unit self.now.address lists.old }
+        requires right { AreRight self.now.sections.now standing.now.unit self.now.address
+            lists.old }
         ensures is { IfOk result (λ picked. picked
             ≡ scopes.is_scope_at self.now.sections.now self.now.address standing.now) }
-        ensures right { AreRight self.now.sections.now standing.now.unit self.now.address lists.new }
+        ensures right { AreRight self.now.sections.now standing.now.unit self.now.address
+            lists.new }
     {
         if is_scope(standing) {
             holds_by_known(self.sections, self.address, standing, lists)
@@ -96,7 +98,8 @@ fn push_scopes<'r, 'a>(
 ) -> Result<(), NoMemory>
     requires { AreRight pick.now.sections.now unit.now pick.now.address lists.old }
     ensures { OnOk result (found.new ≡ found.old
-        ++ filter (scopes.is_scope_at pick.now.sections.now pick.now.address) (standing_in unit.now entries.now)) }
+        ++ filter (scopes.is_scope_at pick.now.sections.now pick.now.address)
+        (standing_in unit.now entries.now)) }
 {
     let mut left = entries;
     'entries: while let [entry, behind @ ..] = left {

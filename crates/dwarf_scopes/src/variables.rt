@@ -144,7 +144,8 @@ fn push_if_scope<'r, 'a>(
     requires counts { counts.now ≡ insides behind.now }
     ensures right { AreRight pick.now.sections.now unit.now pick.now.address lists.new }
     ensures variables { OnOk result (variables.new ≡ variables.old ++ flat_map scopes.variables_of
-        (filter (scopes.is_scope_at pick.now.sections.now pick.now.address) (stands unit.now entry.now behind.now ∷ []))) }
+        (filter (scopes.is_scope_at pick.now.sections.now pick.now.address)
+        (stands unit.now entry.now behind.now ∷ []))) }
 {
     if pick.picks(&Standing::new(unit, entry, behind), lists)? {
         return push_variables(unit, entry, behind, inside, counts, variables);
@@ -164,7 +165,8 @@ fn push_scopes<'r, 'a>(
     requires right { AreRight pick.now.sections.now unit.now pick.now.address lists.old }
     requires counts { counts.now ≡ insides entries.now }
     ensures { OnOk result (variables.new ≡ variables.old ++ flat_map scopes.variables_of
-        (filter (scopes.is_scope_at pick.now.sections.now pick.now.address) (standing_in unit.now entries.now))) }
+        (filter (scopes.is_scope_at pick.now.sections.now pick.now.address)
+        (standing_in unit.now entries.now))) }
 {
     let mut at = 0;
     'entries: while at < entries.len() {

@@ -1,6 +1,5 @@
-use Rattle.std.proofs.Common.{◌≡◌, ◌+◌, ◌<◌, ◌≤◌, length, refl, sym, ap, subst, ◌∙◌, arith}
+use Rattle.std.proofs.Common.{◌≡◌, ◌<◌, length, refl, sym, ap, subst, ◌∙◌, arith}
 use Rattle.dwarf_info.specs.declared.entry.Entry.{Entry}
-use Rattle.dwarf_scopes.specs.inner.Insides.{insides}
 use Rattle.dwarf_scopes.proofs.Counts.{insides_length, fits, steps}
 use Rattle.dwarf_scopes.proofs.insides.deeper.Goals as goal
 

@@ -1,5 +1,4 @@
 use Rattle.std.proofs.Common.{◌≡◌, length, refl, ap, ◌∙◌, arith}
-use Rattle.std.specs.Prelude.{nat_eq}
 use Rattle.dwarf_scopes.proofs.Counts.{insides_length, fits, step_fits, child_step}
 use Rattle.dwarf_scopes.proofs.variables.push_children.Goals as goal
 

@@ -1,5 +1,4 @@
-use Rattle.std.proofs.Common.{◌≡◌, ◌+◌, ◌<◌, List, length, drop, sym, ap, ◌∙◌, arith}
-use Rattle.dwarf_info.specs.declared.entry.Entry.{Entry}
+use Rattle.std.proofs.Common.{◌≡◌, ◌+◌, length, drop, sym, ap, ◌∙◌, arith}
 use Rattle.dwarf_scopes.specs.Scopes.{is_scope_at}
 use Rattle.dwarf_scopes.specs.inner.Insides.{deeper, insides}
 use Rattle.dwarf_scopes.proofs.Counts.{insides_length, insides_drop, counted_at, scope_step}
