@@ -55,10 +55,12 @@ pub fn location5_at(
 ) -> Result<Option<Span>, ReadFault>
     ensures exact { result ≡ found_at at (lists.location5_of sections.now unit.now at address) }
     ensures spelled { (entries : List (Listed SpanOf))
-        → IsLocations5 sections.now.loclists (address_of (lists.addresses_of sections.now unit.now)) at entries
+        → IsLocations5 sections.now.loclists (address_of (lists.addresses_of sections.now unit.now))
+        at entries
         → result ≡ Ok (chosen (lists.list_base unit.now) address entries) }
     ensures unreadable { (result ≡ Err (Unreadable at)) ↔ ((entries : List (Listed SpanOf))
-        → IsLocations5 sections.now.loclists (address_of (lists.addresses_of sections.now unit.now)) at entries → ⊥) }
+        → IsLocations5 sections.now.loclists (address_of (lists.addresses_of sections.now unit.now))
+        at entries → ⊥) }
 {
     let addresses = address_table(sections, unit);
     dwarf5_lists::location_at(sections.loclists, &addresses, at, list_base(unit), address)
@@ -77,10 +79,12 @@ pub fn range5_holds(
 ) -> Result<bool, ReadFault>
     ensures exact { result ≡ found_at at (lists.range5_of sections.now unit.now at address) }
     ensures spelled { (entries : List (Listed (Prim.Unit {0})))
-        → IsRanges5 sections.now.rnglists (address_of (lists.addresses_of sections.now unit.now)) at entries
+        → IsRanges5 sections.now.rnglists (address_of (lists.addresses_of sections.now unit.now)) at
+        entries
         → result ≡ Ok (is_some (chosen (lists.list_base unit.now) address entries)) }
     ensures unreadable { (result ≡ Err (Unreadable at)) ↔ ((entries : List (Listed (Prim.Unit {0})))
-        → IsRanges5 sections.now.rnglists (address_of (lists.addresses_of sections.now unit.now)) at entries → ⊥) }
+        → IsRanges5 sections.now.rnglists (address_of (lists.addresses_of sections.now unit.now)) at
+        entries → ⊥) }
 {
     let addresses = address_table(sections, unit);
     dwarf5_lists::range_holds(sections.rnglists, &addresses, at, list_base(unit), address)

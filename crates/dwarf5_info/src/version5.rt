@@ -111,7 +111,8 @@ pub struct UpToFive {
 impl UpToFive {
     /// No table of abbreviations is read yet.
     pub fn new(alloc: Global) -> Self
-        ensures { (s : SectionBytes5) → Keeps version4 s result.four × Keeps version5 s result.five }
+        ensures { (s : SectionBytes5)
+            → Keeps version4 s result.four × Keeps version5 s result.five }
     {
         UpToFive {
             four: Tables::new(alloc),

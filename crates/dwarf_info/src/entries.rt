@@ -45,7 +45,8 @@ pub fn read_attributes<'c, 'a, V: UnitVersion<'a>>(
     slots: &[Slot],
     reader: &mut Reader<'a>,
 ) -> Result<Attributes<'a>, ItemFault>
-    ensures item { Gives result reader.new (attributes_item (seen V.version V.looked context.now) slots.now reader.old) }
+    ensures item { Gives result reader.new
+        (attributes_item (seen V.version V.looked context.now) slots.now reader.old) }
     ensures stays { OnOk result (Stays reader.old reader.new) }
 {
     let mut attributes = Vec::with_capacity(alloc, slots.len())?;
@@ -151,7 +152,8 @@ pub fn read_entries<'c, 'a, V: UnitVersion<'a>>(
     reader: &mut Reader<'a>,
 ) -> Result<Entries<'a>, ItemFault>
     requires short { length reader.old.block ≤ greatest_section }
-    ensures item { Gives result reader.new (entries_item (seen V.version V.looked context.now) reader.old) }
+    ensures item { Gives result reader.new
+        (entries_item (seen V.version V.looked context.now) reader.old) }
     ensures stays { OnOk result (Stays reader.old reader.new) }
 {
     let mut growing: Growing<'a> = Growing::new(alloc);

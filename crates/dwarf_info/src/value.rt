@@ -115,7 +115,8 @@ fn read_plain<'c, 'a, V: UnitVersion<'a>>(
     reader: &mut Reader<'a>,
 ) -> Result<AttrValue<'a>, Malformed>
     requires sized { IsSized form }
-    ensures item { Reads result reader.new (plain_item (seen V.version V.looked context.now) form reader.old) }
+    ensures item { Reads result reader.new
+        (plain_item (seen V.version V.looked context.now) form reader.old) }
     ensures stays { OnOk result (Stays reader.old reader.new) }
 {
     match form {
@@ -139,7 +140,8 @@ fn read_named<'c, 'a, V: UnitVersion<'a>>(
     context: &UnitContext<'c, 'a, V::Index>,
     reader: &mut Reader<'a>,
 ) -> Result<AttrValue<'a>, Malformed>
-    ensures item { Reads result reader.new (named_item (seen V.version V.looked context.now) reader.old) }
+    ensures item { Reads result reader.new
+        (named_item (seen V.version V.looked context.now) reader.old) }
     ensures stays { OnOk result (Stays reader.old reader.new) }
 {
     let code = reader.u64()?;
@@ -155,7 +157,8 @@ fn read_value<'c, 'a, V: UnitVersion<'a>>(
     reader: &mut Reader<'a>,
 ) -> Result<AttrValue<'a>, Malformed>
     requires sized { IsSized form }
-    ensures item { Reads result reader.new (value_item (seen V.version V.looked context.now) form reader.old) }
+    ensures item { Reads result reader.new
+        (value_item (seen V.version V.looked context.now) form reader.old) }
     ensures stays { OnOk result (Stays reader.old reader.new) }
 {
     match form {
@@ -171,7 +174,8 @@ pub fn read_attribute<'c, 'a, V: UnitVersion<'a>>(
     slot: &Slot,
     reader: &mut Reader<'a>,
 ) -> Result<Attribute<'a>, Malformed>
-    ensures item { Reads result reader.new (slot_item (seen V.version V.looked context.now) slot.now reader.old) }
+    ensures item { Reads result reader.new
+        (slot_item (seen V.version V.looked context.now) slot.now reader.old) }
     ensures stays { OnOk result (Stays reader.old reader.new) }
 {
     match &slot.form {

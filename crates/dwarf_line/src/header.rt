@@ -39,7 +39,8 @@ pub trait Versions<'a> {
         version: u16,
         reader: &mut Reader<'a>,
     ) -> Result<Header<'a>, ItemFault>
-        ensures item { Gives result reader.new (header_or_none (layouts self.now version) reader.old) }
+        ensures item { Gives result reader.new
+            (header_or_none (layouts self.now version) reader.old) }
         ensures stays { OnOk result (Stays reader.old reader.new) };
 }
 

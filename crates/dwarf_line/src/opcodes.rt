@@ -84,7 +84,8 @@ fn in_extended<'a>(length: usize, reader: &mut Reader<'a>) -> Result<Opcode<'a>,
 /// An extended opcode behind its zero byte: a length, and as many bytes (DWARF 4 section 6.2.5.3).
 #[tactic(auto, unfolding(dwarf_bytes::specs::Format::read))]
 fn extended<'a>(reader: &mut Reader<'a>) -> Result<Opcode<'a>, Malformed>
-    ensures item { Reads result reader.new (read (sized (λ length. number 1 (extended length))) reader.old) }
+    ensures item { Reads result reader.new
+        (read (sized (λ length. number 1 (extended length))) reader.old) }
     ensures moves { OnOk result (Moves reader.old reader.new) }
 {
     let mut inner = open_long(reader)?;

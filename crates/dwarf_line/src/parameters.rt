@@ -88,7 +88,8 @@ pub fn read_parameters<'a>(
     has_operations: bool,
     reader: &mut Reader<'a>,
 ) -> Result<Parameters<'a>, Malformed>
-    ensures item { Reads result reader.new (read (parameters (if has_operations then 1 ∷ [] else [])) reader.old) }
+    ensures item { Reads result reader.new
+        (read (parameters (if has_operations then 1 ∷ [] else [])) reader.old) }
     ensures moves { OnOk result (Moves reader.old reader.new) }
 {
     let minimum_instruction_length = byte(reader)?;

@@ -87,7 +87,8 @@ fn start_of(index: usize, s: &Sequence) -> Option<Start>
 }
 
 fn add_start(starts: &mut Vec<Start>, index: usize, s: &Sequence) -> Result<(), NoMemory>
-    ensures { OnOk result (starts.new.items ≡ starts.old.items ++ option_to_list (start_of index s.now)) }
+    ensures { OnOk result (starts.new.items
+        ≡ starts.old.items ++ option_to_list (start_of index s.now)) }
 {
     if let Some(start) = start_of(index, s) {
         starts.push(start)?;
