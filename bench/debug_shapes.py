@@ -8,12 +8,15 @@ CODE = b"\0\x41\0\x04\x40\0\x0b\x10\0\x0b"
 # Addresses from 1 on: a function at 0 is one that the linker removed.
 ALL = struct.pack("<II", 1, 0x7FFFFFFE)
 NONE = struct.pack("<II", 0x7FFFFFF0, 1)
+# What stands in front of the directories of a line program.
+PARAMETERS = bytes([1, 1, 1, 0xFB, 14, 13]) + bytes([0, 1, 1, 1, 1, 0, 0, 0, 1, 0, 0, 1])
 
 # Attributes and forms of DWARF 4, by their names there.
 NAME, SIZE, STATEMENTS, LOW, HIGH, VALUE = 0x03, 0x0B, 0x10, 0x11, 0x12, 0x1C
 COUNT, MEMBER_AT, ENCODING, SPECIFICATION, TYPE, RANGES = 0x37, 0x38, 0x3E, 0x47, 0x49, 0x55
 CALL_FILE, CALL_LINE, LOCATION = 0x58, 0x59, 0x02
 ADDR, DATA4, STRING, DATA8, DATA1, STRP, REF4, OFFSET, EXPRESSION = 0x01, 0x06, 0x08, 0x07, 0x0B, 0x0E, 0x13, 0x17, 0x18
+LINE_STRP = 0x1F
 
 # Each kind of entry: its tag, whether it has children, and its attributes with their forms.
 KINDS = {
@@ -276,16 +279,23 @@ def specified(n):
 
 
 def line_program(files, code):
-    tables = b"\0" + b"".join(files) + b"\0"
-    head = bytes([1, 1, 1, 0xFB, 14, 13]) + bytes([0, 1, 1, 1, 1, 0, 0, 0, 1, 0, 0, 1]) + tables
+    head = PARAMETERS + b"\0" + b"".join(files) + b"\0"
     rest = struct.pack("<HI", 4, len(head)) + head + code
     return struct.pack("<I", len(rest)) + rest
 
 
-def with_lines(lines, *commands):
+def line_program_5(offsets, code):
+    """The names of files stand at these offsets of .debug_line_str."""
+    table = b"\1\1" + u32(LINE_STRP)
+    head = PARAMETERS + table + u32(1) + bytes(4) + table + u32(len(offsets)) + struct.pack("<%dI" % len(offsets), *offsets)
+    rest = struct.pack("<HBBI", 5, 4, 0, len(head)) + head + code
+    return struct.pack("<I", len(rest)) + rest
+
+
+def with_lines(lines, *commands, sections=()):
     entries = Entries(lines=True)
     entries.function()
-    return debugged(entries.done(), *commands, sections=[(b".debug_line", lines)])
+    return debugged(entries.done(), *commands, sections=[(b".debug_line", lines), *sections])
 
 
 def rows(n):
@@ -299,6 +309,12 @@ def sequences(n):
 
 def files(n):
     return with_lines(line_program([b"f%d.c\0\0\0\0" % i for i in range(n)], b"\1\x02\xff\x7f\0\1\1"), "bt")
+
+
+def files_of_one_string(n):
+    """Files whose names all stand at the start of one long string."""
+    lines = line_program_5([0] * n, b"\0\5\2" + struct.pack("<I", 1) + b"\1\x02\xff\x7f\0\1\1")
+    return with_lines(lines, "bt", sections=[(b".debug_line_str", b"x" * (10 * n) + b"\0")])
 
 
 def shared_lines(n):
@@ -346,6 +362,7 @@ SHAPES = [
     ("debug: many rows", rows, 200_000, 800_000),
     ("debug: many sequences", sequences, 50_000, 200_000),
     ("debug: many files", files, 100_000, 400_000),
+    ("debug: many files in one string", files_of_one_string, 2_000, 8_000),
     ("debug: many units of one line program", shared_lines, 10_000, 40_000),
     ("debug: long names of functions", function_names, 50_000, 200_000),
     ("debug: many frames", deep_frames, 16_000, 64_000),

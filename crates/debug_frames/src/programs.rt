@@ -7,7 +7,7 @@ use causes::NoMemory;
 use dwarf_bytes::ReadFault;
 use dwarf_entries::names::STMT_LIST;
 use dwarf_entries::offset;
-use dwarf_info::{Entry, Sections5, UnitAnswer};
+use dwarf_info::{Entry, PreparedSections, Sections5, UnitAnswer};
 use dwarf_line::{Lines, Row};
 use dwarf5_line::read_lines5;
 use indexmap::IndexMap;
@@ -54,7 +54,7 @@ impl<'a> Model for Programs<'a> {
 /// What stands at an offset of `.debug_line`.
 fn program_there<'a>(
     alloc: Global,
-    sections: &Sections5<'a>,
+    sections: &PreparedSections<'a>,
     at: u32,
 ) -> Result<Program<'a>, NoMemory>
     ensures { IfOk result (λ program. program ≡ definitions.program_there sections.now at) }
@@ -118,7 +118,7 @@ impl<'a> Programs<'a> {
     fn add(
         &mut self,
         alloc: Global,
-        sections: &Sections5<'a>,
+        sections: &PreparedSections<'a>,
         at: Option<u32>,
     ) -> Result<(), NoMemory>
         ensures { OnOk result (self.new ≡ definitions.with_program sections.now self.old at) }
@@ -133,11 +133,10 @@ impl<'a> Programs<'a> {
         Ok(())
     }
 
-    /// The line programs that units name.
     #[tactic(auto, unfolding(crate::specs::Programs::programs_of))]
-    pub fn of(
+    fn read(
         alloc: Global,
-        sections: &Sections5<'a>,
+        sections: &PreparedSections<'a>,
         units: &[UnitAnswer<'a>],
     ) -> Result<Self, NoMemory>
         ensures { IfOk result (λ programs. programs ≡ definitions.programs_of sections.now units.now) }
@@ -147,6 +146,18 @@ impl<'a> Programs<'a> {
             programs.add(alloc, sections, named(answer))?;
         }
         Ok(programs)
+    }
+
+    /// The line programs that units name.
+    pub fn of(
+        alloc: Global,
+        sections: &Sections5<'a>,
+        units: &[UnitAnswer<'a>],
+    ) -> Result<Self, NoMemory>
+        ensures { IfOk result (λ programs. programs ≡ definitions.programs_of sections.now units.now) }
+    {
+        let prepared = PreparedSections::new(alloc, sections)?;
+        Programs::read(alloc, &prepared, units)
     }
 
     /// Those that could be read, in the order in which units name them.

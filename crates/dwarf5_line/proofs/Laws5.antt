@@ -16,10 +16,9 @@ use Rattle.dwarf_bytes.proofs.Formats.{format_exact}
 use Rattle.dwarf_line.specs.Header.{Layout, layout}
 use Rattle.dwarf_line.specs.Program.{lines_item}
 use Rattle.dwarf_line.proofs.Laws.{AreTablesExact, line_program_exact, old_tables}
-use Rattle.dwarf5_line.specs.declared.entries.Texts.{Texts}
 use Rattle.dwarf5_line.specs.declared.entries.Pair.{Pair}
 use Rattle.dwarf5_line.specs.Entries as entries
-use Rattle.dwarf5_line.specs.Entries.{describes, content, described_item, file_of, entry_item, may_count, counted_item, pairs_item, entries_item, tables_of, tables_item}
+use Rattle.dwarf5_line.specs.Entries.{Texts, describes, content, described_item, file_of, entry_item, may_count, counted_item, pairs_item, entries_item, tables_of, tables_item}
 use Rattle.dwarf5_line.specs.Layout5.{new_layout, layout5, described, entry, counted_entries, pairs, entry_table, tables5, tables_if, tables, lines5}
 
 entry_exact : (t : Texts) (ps : List Pair) → IsExact (entry t ps) (entry_item t ps)

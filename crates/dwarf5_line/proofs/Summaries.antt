@@ -8,11 +8,10 @@ use Rattle.wasm_bytes.specs.Laws.{got, failed}
 use Rattle.wasm_bytes.proofs.Places.{got_is, bind_ok}
 use Rattle.dwarf_bytes.specs.Items.{each_item}
 use Rattle.dwarf_bytes.specs.Format.{read}
-use Rattle.dwarf5_line.specs.declared.entries.Texts.{Texts}
 use Rattle.dwarf5_line.specs.declared.entries.Pair.{Pair}
 use Rattle.dwarf5_line.specs.declared.entries.Content.{Content}
 use Rattle.dwarf5_line.specs.declared.entries.Summary.{Summary}
-use Rattle.dwarf5_line.specs.Entries.{Described, describes, content, described_item}
+use Rattle.dwarf5_line.specs.Entries.{Texts, Described, describes, content, described_item}
 use Rattle.dwarf5_line.specs.inner.Summary.{summary_of, summary_item, with_first}
 
 first_content : (b : Bool) (x : Described) (more : Option Described) → option_map (λ (y : Described). y.content) (cond b (Some x) more) ≡ cond b (Some x.content) (option_map (λ (y : Described). y.content) more)

@@ -6,10 +6,14 @@ use Rattle.dwarf_bytes.specs.Items.{number_item, text_item, each_item, read_at}
 use Rattle.dwarf_bytes.specs.Format.{Format, made, unread, unsigned, number, run, text, read}
 use Rattle.dwarf_line.specs.declared.lines.LineFile.{LineFile}
 use Rattle.dwarf_line.specs.declared.header.Tables.{Tables}
-use Rattle.dwarf5_line.specs.declared.entries.Texts.{Texts}
 use Rattle.dwarf5_line.specs.declared.entries.Pair.{Pair}
 use Rattle.dwarf5_line.specs.declared.entries.Content.{Content}
 use Rattle.dwarf5_line.specs.declared.entries.Content.TheVariants.{Number, Text, Unused}
+
+-- the sections that texts of a line header stand in
+pub record Texts : Type 0 where
+  pub str : List ℕ
+  pub line_str : List ℕ
 
 -- a text, if there is one
 abbrev pub text_or_unread : Option (List ℕ) → Format Content

@@ -10,10 +10,9 @@ use Rattle.dwarf_line.specs.declared.header.Tables.{Tables}
 use Rattle.dwarf_line.specs.Grammar as old
 use Rattle.dwarf_line.specs.Grammar.{line_program}
 use Rattle.dwarf_line.specs.Header.{Layout, layout}
-use Rattle.dwarf5_line.specs.declared.entries.Texts.{Texts}
 use Rattle.dwarf5_line.specs.declared.entries.Pair.{Pair}
 use Rattle.dwarf5_line.specs.Entries as entries
-use Rattle.dwarf5_line.specs.Entries.{Described, content, describes, file_of, may_count, tables_of, tables_item}
+use Rattle.dwarf5_line.specs.Entries.{Texts, Described, content, describes, file_of, may_count, tables_of, tables_item}
 
 -- the sections that names of directories and files may stand in
 abbrev pub texts_of : SectionBytes5 → Texts

@@ -5,24 +5,18 @@ ghost use Rattle.wasm_bytes.specs.Place.{Stays};
 ghost use Rattle.wasm_bytes.specs.Reading.{forgotten, run_item, items_from};
 ghost use Rattle.wasm_bytes.specs.Answers.{Reads, Gives};
 ghost use Rattle.dwarf_bytes.specs.Format.{read};
+ghost use Rattle.dwarf_info.specs.Values.{texts};
 ghost use Rattle.dwarf5_line.specs.Entries.{text_in, content, pair, describes, path_of, directory_of, entry_item, counted_item, pairs_item, entries_item, name_of, tables_item};
+ghost use Rattle.dwarf5_line.specs.Layout5.{texts_of};
 ghost use Rattle.dwarf5_line.specs.inner.Summary.{summary_item, with_first};
 
 use causes::NoMemory;
-use dwarf_bytes::{byte, number, text, text_at};
+use dwarf_bytes::{byte, number, text};
+use dwarf_info::{PreparedSections, TextSection};
 use dwarf_line::{Directories, LineFile, LineFiles, Tables};
 use pm_text::Items;
 use std::alloc::Global;
 use wasm_bytes::{ItemFault, Malformed, Reader, Run};
-
-/// The sections that texts of a line header stand in.
-#[derive(Drop)]
-pub struct Texts<'a> {
-    /// `.debug_str`
-    pub str: Run<'a>,
-    /// `.debug_line_str`
-    pub line_str: Run<'a>,
-}
 
 /// A content type and its form.
 #[derive(Clone, Copy, Debug, PartialEq, Eq)]
@@ -49,12 +43,17 @@ pub struct Summary<'a> {
 
 /// The text at the offset that stands here.
 #[tactic(auto, unfolding(dwarf_bytes::specs::Format::read))]
-fn text_in<'a>(section: &Run<'a>, reader: &mut Reader<'a>) -> Result<Content<'a>, Malformed>
-    ensures item { Reads result reader.new (read (text_in section.now) reader.old) }
+fn text_in<'a>(
+    sections: &PreparedSections<'a>,
+    section: TextSection,
+    reader: &mut Reader<'a>,
+) -> Result<Content<'a>, Malformed>
+    ensures item { Reads result reader.new
+        (read (text_in (texts sections.now section)) reader.old) }
     ensures stays { OnOk result (Stays reader.old reader.new) }
 {
     let at = number(reader, 4)?;
-    match text_at(section.as_slice(), at) {
+    match sections.text_at(section, at) {
         Some(text) => Ok(Content::Text(text)),
         None => Err(Malformed { at: reader.at() }),
     }
@@ -63,11 +62,12 @@ fn text_in<'a>(section: &Run<'a>, reader: &mut Reader<'a>) -> Result<Content<'a>
 /// What stands here, in a form (DWARF 5 section 7.5.6).
 #[tactic(auto, unfolding(dwarf_bytes::specs::Format::read))]
 fn read_content<'a>(
-    texts: &Texts<'a>,
+    sections: &PreparedSections<'a>,
     form: u64,
     reader: &mut Reader<'a>,
 ) -> Result<Content<'a>, Malformed>
-    ensures item { Reads result reader.new (read (content texts.now form) reader.old) }
+    ensures item { Reads result reader.new
+        (read (content (texts_of sections.now) form) reader.old) }
     ensures stays { OnOk result (Stays reader.old reader.new) }
 {
     match form {
@@ -81,13 +81,13 @@ fn read_content<'a>(
             Ok(Content::Unused)
         }
         0x0b => Ok(Content::Number(number(reader, 1)?)),
-        0x0e => text_in(&texts.str, reader),
+        0x0e => text_in(sections, TextSection::Str, reader),
         0x0f => Ok(Content::Number(reader.u64()?)),
         0x1e => {
             reader.run(16)?;
             Ok(Content::Unused)
         }
-        0x1f => text_in(&texts.line_str, reader),
+        0x1f => text_in(sections, TextSection::LineStr, reader),
         _ => Err(Malformed { at: reader.at() }),
     }
 }
@@ -120,11 +120,12 @@ impl<'a> Summary<'a> {
 
 /// One value for each pair, in order. Of a content type twice, the first counts.
 fn read_summary<'a>(
-    texts: &Texts<'a>,
+    sections: &PreparedSections<'a>,
     pairs: &[Pair],
     reader: &mut Reader<'a>,
 ) -> Result<Summary<'a>, Malformed>
-    ensures item { Reads result reader.new (summary_item texts.now pairs.now reader.old) }
+    ensures item { Reads result reader.new
+        (summary_item (texts_of sections.now) pairs.now reader.old) }
     ensures stays { OnOk result (Stays reader.old reader.new) }
 {
     let [pair, others @ ..] = pairs else {
@@ -133,8 +134,8 @@ fn read_summary<'a>(
             directory: None,
         });
     };
-    let first = read_content(texts, pair.form, reader)?;
-    let mut summary = read_summary(texts, others, reader)?;
+    let first = read_content(sections, pair.form, reader)?;
+    let mut summary = read_summary(sections, others, reader)?;
     summary.add(pair.kind, first);
     Ok(summary)
 }
@@ -160,14 +161,15 @@ fn directory_of(content: Option<Content<'_>>) -> u64
 /// A directory or a file (DWARF 5 section 6.2.4.1).
 #[tactic(auto, unfolding(crate::specs::Entries::entry_item))]
 fn entry<'a>(
-    texts: &Texts<'a>,
+    sections: &PreparedSections<'a>,
     pairs: &[Pair],
     reader: &mut Reader<'a>,
 ) -> Result<LineFile<'a>, Malformed>
-    ensures item { Reads result reader.new (entry_item texts.now pairs.now reader.old) }
+    ensures item { Reads result reader.new
+        (entry_item (texts_of sections.now) pairs.now reader.old) }
     ensures stays { OnOk result (Stays reader.old reader.new) }
 {
-    let summary = read_summary(texts, pairs, reader)?;
+    let summary = read_summary(sections, pairs, reader)?;
     Ok(LineFile {
         name: path_of(summary.path),
         directory: directory_of(summary.directory),
@@ -177,17 +179,18 @@ fn entry<'a>(
 /// So many directories or files.
 fn entries_of<'a>(
     alloc: Global,
-    texts: &Texts<'a>,
+    sections: &PreparedSections<'a>,
     pairs: &[Pair],
     count: u64,
     reader: &mut Reader<'a>,
 ) -> Result<LineFiles<'a>, ItemFault>
-    ensures item { Gives result reader.new (items_from (entry_item texts.now pairs.now) count reader.old) }
+    ensures item { Gives result reader.new
+        (items_from (entry_item (texts_of sections.now) pairs.now) count reader.old) }
     ensures stays { OnOk result (Stays reader.old reader.new) }
 {
     let mut files = Items::new(alloc);
     for _ in 0..count {
-        files.push(entry(texts, pairs, reader)?)?;
+        files.push(entry(sections, pairs, reader)?)?;
     }
     Ok(files)
 }
@@ -227,11 +230,12 @@ fn pairs(alloc: Global, reader: &mut Reader<'_>) -> Result<Items<Pair>, ItemFaul
 #[tactic(auto, unfolding(crate::specs::Entries::counted_item))]
 fn counted<'a>(
     alloc: Global,
-    texts: &Texts<'a>,
+    sections: &PreparedSections<'a>,
     pairs: &[Pair],
     reader: &mut Reader<'a>,
 ) -> Result<LineFiles<'a>, ItemFault>
-    ensures item { Gives result reader.new (counted_item texts.now pairs.now reader.old) }
+    ensures item { Gives result reader.new
+        (counted_item (texts_of sections.now) pairs.now reader.old) }
     ensures stays { OnOk result (Stays reader.old reader.new) }
 {
     let at = reader.at();
@@ -239,21 +243,21 @@ fn counted<'a>(
     if pairs.is_empty() && count != 0 {
         return Err(ItemFault::At(at));
     }
-    entries_of(alloc, texts, pairs, count, reader)
+    entries_of(alloc, sections, pairs, count, reader)
 }
 
 /// The directories or the files.
 #[tactic(auto, unfolding(crate::specs::Entries::entries_item))]
 fn entries<'a>(
     alloc: Global,
-    texts: &Texts<'a>,
+    sections: &PreparedSections<'a>,
     reader: &mut Reader<'a>,
 ) -> Result<LineFiles<'a>, ItemFault>
-    ensures item { Gives result reader.new (entries_item texts.now reader.old) }
+    ensures item { Gives result reader.new (entries_item (texts_of sections.now) reader.old) }
     ensures stays { OnOk result (Stays reader.old reader.new) }
 {
     let pairs = pairs(alloc, reader)?;
-    counted(alloc, texts, pairs.as_slice(), reader)
+    counted(alloc, sections, pairs.as_slice(), reader)
 }
 
 fn names<'a>(alloc: Global, files: &[LineFile<'a>]) -> Result<Directories<'a>, NoMemory>
@@ -270,14 +274,14 @@ fn names<'a>(alloc: Global, files: &[LineFile<'a>]) -> Result<Directories<'a>, N
 #[tactic(auto, unfolding(crate::specs::Entries::tables_item))]
 pub fn read_tables<'a>(
     alloc: Global,
-    texts: &Texts<'a>,
+    sections: &PreparedSections<'a>,
     reader: &mut Reader<'a>,
 ) -> Result<Tables<'a>, ItemFault>
-    ensures item { Gives result reader.new (tables_item texts.now reader.old) }
+    ensures item { Gives result reader.new (tables_item (texts_of sections.now) reader.old) }
     ensures stays { OnOk result (Stays reader.old reader.new) }
 {
-    let directories = entries(alloc, texts, reader)?;
-    let files = entries(alloc, texts, reader)?;
+    let directories = entries(alloc, sections, reader)?;
+    let files = entries(alloc, sections, reader)?;
     Ok(Tables {
         directories: names(alloc, directories.as_slice())?,
         files,

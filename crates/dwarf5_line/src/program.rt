@@ -9,21 +9,22 @@ ghost use Rattle.dwarf_line.specs.Program.{lines_at};
 ghost use Rattle.dwarf_line.specs.Standing.{IsWhatStands};
 ghost use Rattle.dwarf5_line.specs.Layout5.{texts_of, new_layout, layout5, lines5};
 
-use crate::entries::{Texts, read_tables};
+use crate::entries::read_tables;
 use dwarf_bytes::{ReadFault, byte, open_counted};
-use dwarf_info::Sections5;
+use dwarf_info::PreparedSections;
 use dwarf_line::{Header, Lines, Versions, old_header, read_parameters, read_program};
 use std::alloc::Global;
-use wasm_bytes::{ItemFault, Reader, Run};
+use wasm_bytes::{ItemFault, Reader};
 
 /// The header of a program of version 5, behind its version.
 #[tactic(auto, unfolding(dwarf_bytes::specs::Format::read, dwarf_line::specs::Header::header_item))]
 fn new_header<'a>(
     alloc: Global,
-    texts: &Texts<'a>,
+    sections: &PreparedSections<'a>,
     reader: &mut Reader<'a>,
 ) -> Result<Header<'a>, ItemFault>
-    ensures item { Gives result reader.new (header_item (new_layout texts.now) reader.old) }
+    ensures item { Gives result reader.new
+        (header_item (new_layout (texts_of sections.now)) reader.old) }
     ensures stays { OnOk result (Stays reader.old reader.new) }
 {
     let address_size = byte(reader)?;
@@ -36,7 +37,7 @@ fn new_header<'a>(
     }
     let mut inner = open_counted(reader)?;
     let parameters = read_parameters(true, &mut inner)?;
-    let tables = read_tables(alloc, texts, &mut inner)?;
+    let tables = read_tables(alloc, sections, &mut inner)?;
     Ok(Header {
         first: 0,
         parameters,
@@ -44,8 +45,14 @@ fn new_header<'a>(
     })
 }
 
-impl<'a> Versions<'a> for Texts<'a> {
-    ghost layouts = { layout5 };
+/// The headers of versions 2 to 5, whose names may stand in these sections.
+#[derive(Drop)]
+struct UpToFive<'s, 'a> {
+    sections: &'s PreparedSections<'a>,
+}
+
+impl<'s, 'a> Versions<'a> for UpToFive<'s, 'a> {
+    ghost layouts = { λ v. layout5 (texts_of v.sections.now) };
 
     #[tactic(auto, unfolding(crate::specs::Layout5::layout5))]
     fn header(
@@ -55,41 +62,31 @@ impl<'a> Versions<'a> for Texts<'a> {
         reader: &mut Reader<'a>,
     ) -> Result<Header<'a>, ItemFault> {
         if version == 5 {
-            new_header(alloc, self, reader)
+            new_header(alloc, self.sections, reader)
         } else {
             old_header(alloc, version, reader)
         }
     }
 }
 
-/// The sections that names of directories and files may stand in.
-fn texts_of<'a>(sections: &Sections5<'a>) -> Texts<'a>
-    ensures { result ≡ texts_of sections.now }
-{
-    Texts {
-        str: Run::new(sections.base.str),
-        line_str: Run::new(sections.line_str),
-    }
-}
-
 /// `.debug_line`
-fn programs<'a>(sections: &Sections5<'a>) -> &'a [u8]
+fn programs<'a>(sections: &PreparedSections<'a>) -> &'a [u8]
     ensures { result.now ≡ sections.now.base.line }
 {
-    sections.base.line
+    sections.sections().base.line
 }
 
 /// The program at an offset of a section, whose names may stand in others.
 fn read_at<'a>(
     alloc: Global,
-    texts: &Texts<'a>,
+    sections: &PreparedSections<'a>,
     section: &'a [u8],
     at: usize,
 ) -> Result<Lines<'a>, ReadFault>
-    ensures there { ReadsThere at result (lines_at (layout5 texts.now) section.now at) }
-    ensures spelled { IsWhatStands (lines5 texts.now) section.now at result }
+    ensures there { ReadsThere at result (lines_at (layout5 (texts_of sections.now)) section.now at) }
+    ensures spelled { IsWhatStands (lines5 (texts_of sections.now)) section.now at result }
 {
-    read_program(alloc, texts, section, at)
+    read_program(alloc, &UpToFive { sections }, section, at)
 }
 
 /// What the line program of version 2, 3, 4 or 5 at an offset of `.debug_line` says.
@@ -99,13 +96,12 @@ fn read_at<'a>(
 /// `Unreadable` where no program that has a reading stands there, with the offset that is given.
 pub fn read_lines5<'a>(
     alloc: Global,
-    sections: &Sections5<'a>,
+    sections: &PreparedSections<'a>,
     at: usize,
 ) -> Result<Lines<'a>, ReadFault>
     ensures there { ReadsThere at result (lines_at (layout5 (texts_of sections.now)) sections.now.base.line at) }
     ensures spelled { IsWhatStands (lines5 (texts_of sections.now)) sections.now.base.line at result }
 {
-    let texts = texts_of(sections);
     let section = programs(sections);
-    read_at(alloc, &texts, section, at)
+    read_at(alloc, sections, section, at)
 }

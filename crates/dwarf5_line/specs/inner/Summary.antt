@@ -3,10 +3,9 @@ use Rattle.std.specs.Prelude.{List, ◌==◌, if◌then◌else◌, Some}
 use Rattle.wasm_bytes.specs.Place.{Place, Read}
 use Rattle.wasm_bytes.specs.Reading.{mapped}
 use Rattle.dwarf_bytes.specs.Items.{each_item}
-use Rattle.dwarf5_line.specs.declared.entries.Texts.{Texts}
 use Rattle.dwarf5_line.specs.declared.entries.Pair.{Pair}
 use Rattle.dwarf5_line.specs.declared.entries.Summary.{Summary}
-use Rattle.dwarf5_line.specs.Entries.{Described, described_item, content_of}
+use Rattle.dwarf5_line.specs.Entries.{Texts, Described, described_item, content_of}
 
 abbrev pub summary_of : List Described → Summary
 summary_of xs = record { path = content_of 1 xs; directory = content_of 2 xs }
