@@ -1,14 +1,17 @@
 //! The line programs that units name (DWARF 4 and 5 section 6.2).
 
-ghost use Rattle.std.specs.Prelude.{◌≡◌, [], map, IfOk, OnOk, option_copied};
+ghost use Rattle.std.specs.Prelude.{◌≡◌, ◌++◌, [], map, flat_map, IfOk, OnOk, slice_get, option_copied, option_map};
+ghost use Rattle.dwarf_scopes.specs.inner.Numbered.{ranges_from, with_number};
 ghost use Rattle.debug_frames.specs.Programs as definitions;
+ghost use Rattle.debug_frames.specs.inner.Placing.{held_by, held_in};
 
 use causes::NoMemory;
 use dwarf_bytes::ReadFault;
 use dwarf_entries::names::STMT_LIST;
 use dwarf_entries::offset;
 use dwarf_info::{Entry, PreparedSections, Sections5, UnitAnswer};
-use dwarf_line::{Lines, Row};
+use dwarf_line::{Lines, Row, Sequence};
+use dwarf_scopes::{Range, Steps};
 use dwarf5_line::read_lines5;
 use indexmap::IndexMap;
 use std::alloc::Global;
@@ -104,6 +107,31 @@ fn located_in<'r, 'a>(program: &'r Program<'a>, address: u32) -> Option<Located<
     }
 }
 
+/// Adds the addresses that a sequence holds, with the number of its program.
+fn push_held(sequence: &Sequence, number: usize, ranges: &mut Vec<Range>) -> Result<(), NoMemory>
+    ensures { OnOk result (ranges.new.items
+        ≡ ranges.old.items ++ with_number number (held_by sequence.now)) }
+{
+    if let Some((first, end)) = sequence.held() {
+        ranges.push(Range {
+            first,
+            end: i128::from(end),
+            index: number,
+        })?;
+    }
+    Ok(())
+}
+
+fn push_ranges(lines: &Lines<'_>, number: usize, ranges: &mut Vec<Range>) -> Result<(), NoMemory>
+    ensures { OnOk result (ranges.new.items
+        ≡ ranges.old.items ++ with_number number (flat_map held_by lines.now.sequences)) }
+{
+    for sequence in lines.sequences.as_slice() {
+        push_held(sequence, number, ranges)?;
+    }
+    Ok(())
+}
+
 impl<'a> Programs<'a> {
     /// No programs.
     fn new(alloc: Global) -> Self
@@ -139,7 +167,8 @@ impl<'a> Programs<'a> {
         sections: &PreparedSections<'a>,
         units: &[UnitAnswer<'a>],
     ) -> Result<Self, NoMemory>
-        ensures { IfOk result (λ programs. programs ≡ definitions.programs_of sections.now units.now) }
+        ensures { IfOk result (λ programs. programs
+            ≡ definitions.programs_of sections.now units.now) }
     {
         let mut programs = Programs::new(alloc);
         for answer in units {
@@ -154,7 +183,8 @@ impl<'a> Programs<'a> {
         sections: &Sections5<'a>,
         units: &[UnitAnswer<'a>],
     ) -> Result<Self, NoMemory>
-        ensures { IfOk result (λ programs. programs ≡ definitions.programs_of sections.now units.now) }
+        ensures { IfOk result (λ programs. programs
+            ≡ definitions.programs_of sections.now units.now) }
     {
         let prepared = PreparedSections::new(alloc, sections)?;
         Programs::read(alloc, &prepared, units)
@@ -166,7 +196,8 @@ impl<'a> Programs<'a> {
     ///
     /// `NoMemory` where memory runs out.
     pub fn lines(&self, alloc: Global) -> Result<Vec<&Lines<'a>>, NoMemory>
-        ensures { IfOk result (λ lines. map (λ l. l.now) lines.items ≡ definitions.readable self.now) }
+        ensures { IfOk result (λ lines. map (λ l. l.now) lines.items
+            ≡ definitions.readable self.now) }
     {
         let mut lines = Vec::new(alloc);
         for (_, program) in self.programs.iter() {
@@ -184,15 +215,67 @@ impl<'a> Programs<'a> {
         self.programs.get(&at)
     }
 
-    /// The row of a code address: of the first program that has one.
-    pub fn located(&self, address: u32) -> Option<Located<'_, 'a>>
-        ensures { result ≡ definitions.located_at self.now address }
+    /// The program of a number, from 0.
+    fn nth(&self, number: usize) -> Option<&Program<'a>>
+        ensures { option_copied result ≡ option_map (λ p. p.1) (slice_get self.now number) }
     {
-        for (_, program) in self.programs.iter() {
-            if let Some(located) = located_in(program, address) {
-                return Some(located);
+        match self.programs.get_index(number) {
+            Some((_, program)) => Some(program),
+            None => None,
+        }
+    }
+
+    /// The addresses that sequences of theirs hold, with the numbers of the programs.
+    fn ranges(&self, alloc: Global) -> Result<Vec<Range>, NoMemory>
+        ensures { IfOk result (λ ranges. ranges.items ≡ ranges_from held_in 0 self.now) }
+    {
+        let mut ranges = Vec::new(alloc);
+        'programs: for (number, (_, program)) in self.programs.iter().enumerate() {
+            if let Program::Read(lines) = program {
+                push_ranges(lines, number, &mut ranges)?;
             }
         }
-        None
+        Ok(ranges)
+    }
+}
+
+/// Line programs, with what finds the one that holds an address. Contracts see the programs.
+#[derive(Drop)]
+pub struct ProgramTable<'r, 'a> {
+    programs: &'r Programs<'a>,
+    // Which of them holds an address first.
+    held: Steps,
+}
+
+impl<'r, 'a> Model for ProgramTable<'r, 'a> {
+    ghost use Rattle.std.specs.Prelude.{ℕ, List};
+    ghost use Rattle.dwarf_scopes.specs.inner.Numbered.{ranges_from};
+    ghost use Rattle.dwarf_scopes.specs.inner.Steps.{Answer};
+    ghost use Rattle.debug_frames.specs.declared.programs.Program.{Program};
+    ghost use Rattle.debug_frames.specs.inner.Placing.{held_in};
+
+    ghost Value = { List (ℕ × Program) };
+
+    ghost view = { λ t. t.programs.now };
+
+    ghost invariant = { λ t. Answer (ranges_from held_in 0 t.programs.now) t.held };
+}
+
+impl<'r, 'a> ProgramTable<'r, 'a> {
+    /// The table of these programs.
+    pub fn of(alloc: Global, programs: &'r Programs<'a>) -> Result<Self, NoMemory>
+        ensures { IfOk result (λ table. table ≡ programs.now) }
+    {
+        let ranges = programs.ranges(alloc)?;
+        let held = Steps::of(alloc, ranges.as_slice())?;
+        Ok(ProgramTable { programs, held })
+    }
+
+    /// The row of a code address: of the first program that has one.
+    pub fn located(&self, address: u32) -> Option<Located<'r, 'a>>
+        ensures { result ≡ definitions.located_at self.now address }
+    {
+        let program = self.programs.nth(self.held.at(address)?)?;
+        located_in(program, address)
     }
 }

@@ -5,7 +5,7 @@ ghost use Rattle.debug_frames.specs.Frames as definitions;
 ghost use Rattle.debug_frames.specs.inner.Resolving.{resolved_at};
 
 use crate::information::Information;
-use crate::programs::Located;
+use crate::programs::{Located, ProgramTable};
 use causes::NoMemory;
 use dwarf_entries::{Standing, name_of};
 use dwarf_scopes::Subprograms;
@@ -32,7 +32,12 @@ impl<'r, 'a> Model for Resolved<'r, 'a> {
 
     ghost Value = { Resolved };
 
-    ghost view = { λ x. record { address = x.address; name = option_copied x.name; inlined = x.inlined; located = x.located } };
+    ghost view = { λ x. record {
+      address = x.address;
+      name = option_copied x.name;
+      inlined = x.inlined;
+      located = x.located;
+    } };
 }
 
 /// The name of a subprogram, if there is one.
@@ -49,14 +54,16 @@ fn name_within<'r, 'a>(
 }
 
 impl<'r, 'a> Resolved<'r, 'a> {
-    /// What is known of an address, by the subprograms of all units.
+    /// What is known of an address, by the subprograms and the line programs of all units.
     pub fn of(
         alloc: Global,
         information: &'r Information<'a>,
         subprograms: &Subprograms<'r, 'a>,
+        programs: &ProgramTable<'r, 'a>,
         address: u32,
     ) -> Result<Self, NoMemory>
-        requires { subprograms.now ≡ information.now.units }
+        requires subprograms { subprograms.now ≡ information.now.units }
+        requires programs { programs.now ≡ information.now.programs }
         ensures { IfOk result (λ x. x ≡ resolved_at information.now address) }
     {
         let found = subprograms.find(alloc, &information.sections, address)?;
@@ -64,7 +71,7 @@ impl<'r, 'a> Resolved<'r, 'a> {
             address,
             name: name_within(information, &found.subprogram),
             inlined: found.inlined,
-            located: information.programs.located(address),
+            located: programs.located(address),
         })
     }
 }
@@ -74,6 +81,7 @@ impl<'r, 'a> Resolved<'r, 'a> {
 pub struct Symbolizer<'r, 'a> {
     information: &'r Information<'a>,
     subprograms: Subprograms<'r, 'a>,
+    programs: ProgramTable<'r, 'a>,
     known: BTreeMap<u32, Resolved<'r, 'a>>,
 }
 
@@ -89,6 +97,7 @@ impl<'r, 'a> Model for Symbolizer<'r, 'a> {
     ghost view = { λ s. s.information.now };
 
     ghost invariant = { λ s. (s.subprograms ≡ s.information.now.units)
+        × (s.programs ≡ s.information.now.programs)
         × ((q : ℕ) → IfSome (get nat_cmp s.known q) (λ x. x ≡ resolved_at s.information.now q)) };
 }
 
@@ -98,9 +107,11 @@ impl<'r, 'a> Symbolizer<'r, 'a> {
         ensures { IfOk result (λ s. s ≡ information.now) }
     {
         let subprograms = Subprograms::of(alloc, information.units.as_slice())?;
+        let programs = ProgramTable::of(alloc, &information.programs)?;
         Ok(Symbolizer {
             information,
             subprograms,
+            programs,
             known: BTreeMap::new(alloc),
         })
     }
@@ -115,7 +126,13 @@ impl<'r, 'a> Symbolizer<'r, 'a> {
     pub(crate) fn resolve(&self, alloc: Global, address: u32) -> Result<Resolved<'r, 'a>, NoMemory>
         ensures { IfOk result (λ x. x ≡ resolved_at self.now address) }
     {
-        Resolved::of(alloc, self.information, &self.subprograms, address)
+        Resolved::of(
+            alloc,
+            self.information,
+            &self.subprograms,
+            &self.programs,
+            address,
+        )
     }
 
     /// What is known of an address, where it was asked for before.
