@@ -229,9 +229,14 @@ def functions_and_frames(n):
     return functions(n, count=n)
 
 
+def many_calls(n):
+    """The offsets of calls, and the code that makes them."""
+    return {"calls": [7 + 2 * i for i in range(n)], "code": CODE[:-3] + b"\x10\0" * n + b"\x0b"}
+
+
 def functions_and_addresses(n):
     """Frames of as many calls as there are functions."""
-    return functions(n, calls=[7 + 2 * i for i in range(n)], code=CODE[:-3] + b"\x10\0" * n + b"\x0b")
+    return functions(n, **many_calls(n))
 
 
 def strings(n):
@@ -326,6 +331,19 @@ def shared_lines(n):
     return debugged(one * n + entries.done(), "bt", sections=[(b".debug_line", lines)])
 
 
+def programs_and_addresses(n):
+    """Units of which each has a line program that holds the address of one frame."""
+    made = many_calls(n)
+    start = 1 + len(u32(len(made["code"])))
+    units, lines = bytearray(), bytearray()
+    for offset in made["calls"]:
+        units += unit(CODES["unit with lines"] + ALL + struct.pack("<I", len(lines)) + b"\0")
+        lines += line_program([b"a.c\0\0\0\0"], b"\0\5\2" + struct.pack("<I", start + offset) + b"\1\x02\x02\0\1\1")
+    entries = Entries()
+    entries.function()
+    return debugged(bytes(units) + entries.done(), "bt", sections=[(b".debug_line", bytes(lines))], **made)
+
+
 def function_names(n):
     entries = vector([u32(i) + name(b"n%099d" % i) for i in range(n)])
     return debugged(b"", "bt", customs=[custom(b"name", section(1, entries))])
@@ -339,7 +357,6 @@ def commands(n):
     return debugged(b"", *["x 0 1"] * n)
 
 
-# Those with a 2 take time by the product of two counts: of different addresses and functions.
 SHAPES = [
     ("debug: a cycle of typedefs", typed(cycle), 200_000, 800_000),
     ("debug: an array of many subranges", typed(subranges), 200_000, 800_000),
@@ -354,7 +371,8 @@ SHAPES = [
     ("debug: units of two tables of abbreviations in turn", units_in_turn, 1_000, 4_000),
     ("debug: many functions", functions, 100_000, 400_000),
     ("debug: many frames over many functions", functions_and_frames, 2_000, 8_000),
-    ("debug: many addresses over many functions", functions_and_addresses, 2_000, 8_000, 2),
+    ("debug: many addresses over many functions", functions_and_addresses, 2_000, 8_000),
+    ("debug: many addresses over many line programs", programs_and_addresses, 2_000, 8_000),
     ("debug: many names in one string", strings, 2_000, 8_000),
     ("debug: a long location list", listed, 100_000, 400_000),
     ("debug: many blocks of one list of ranges", ranged, 2_000, 8_000),
