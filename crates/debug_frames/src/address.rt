@@ -10,7 +10,8 @@ use wasm_syntax::{Body, ModuleParts};
 
 /// The body of a function that the module defines.
 fn body_of(m: &ModuleParts, function: u32) -> Option<&Body>
-    ensures { option_copied result ≡ option_then (defined_index m.now function) (slice_get m.now.bodies) }
+    ensures { option_copied result
+        ≡ option_then (defined_index m.now function) (slice_get m.now.bodies) }
 {
     let imported = m.imports.len();
     let f = function as usize;

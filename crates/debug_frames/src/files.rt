@@ -18,7 +18,8 @@ fn file_of<'r, 'a>(lines: &'r Lines<'a>, number: u64) -> Option<&'r LineFile<'a>
 }
 
 fn directory_of<'r, 'a>(lines: &'r Lines<'a>, number: u64) -> Option<&'r [u8]>
-    ensures { option_copied result ≡ definitions.numbered lines.now.first lines.now.directories number }
+    ensures { option_copied result
+        ≡ definitions.numbered lines.now.first lines.now.directories number }
 {
     if number < u64::from(lines.first) {
         return None;

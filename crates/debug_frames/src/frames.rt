@@ -20,7 +20,8 @@ use wasm_syntax::ModuleParts;
 
 /// Adds a name, or `?` where there is none.
 fn push_name(out: &mut Text, name: Option<&[u8]>) -> Result<(), NoMemory>
-    ensures { OnOk result (out.new ≡ out.old ++ definitions.name_or_mark (option_copied name.entry)) }
+    ensures { OnOk result (out.new
+        ≡ out.old ++ definitions.name_or_mark (option_copied name.entry)) }
 {
     match name {
         Some(name) => out.push_plain(name),
@@ -69,7 +70,8 @@ fn push_inlined(
     information: &Information<'_>,
     standing: &Standing<'_, '_>,
 ) -> Result<(), NoMemory>
-    ensures { OnOk result (out.new ≡ out.old ++ definitions.inlined_text information.now standing.now) }
+    ensures { OnOk result (out.new
+        ≡ out.old ++ definitions.inlined_text information.now standing.now) }
 {
     out.push_str("inlined ")?;
     let attributes = standing.entry().attributes.as_slice();

@@ -34,7 +34,8 @@ fn program_of_unit<'r, 'a>(
     information: &'r Information<'a>,
     standing: &Standing<'_, 'a>,
 ) -> Option<&'r Program<'a>>
-    ensures { option_copied result ≡ definitions.program_of_unit information.now.programs standing.now }
+    ensures { option_copied result
+        ≡ definitions.program_of_unit information.now.programs standing.now }
 {
     let at = named_by(standing.unit().entries.as_slice())?;
     information.programs.get(at)
@@ -47,7 +48,8 @@ fn push_call_file(
     information: &Information<'_>,
     standing: &Standing<'_, '_>,
 ) -> Result<(), NoMemory>
-    ensures { OnOk result (out.new ≡ out.old ++ definitions.call_file_text information.now standing.now) }
+    ensures { OnOk result (out.new
+        ≡ out.old ++ definitions.call_file_text information.now standing.now) }
 {
     let number = natural(standing.entry().attributes.as_slice(), CALL_FILE);
     match program_of_unit(information, standing) {
@@ -65,7 +67,8 @@ fn push_call(
     information: &Information<'_>,
     standing: &Standing<'_, '_>,
 ) -> Result<(), NoMemory>
-    ensures { OnOk result (out.new ≡ out.old ++ definitions.call_site information.now standing.now) }
+    ensures { OnOk result (out.new
+        ≡ out.old ++ definitions.call_site information.now standing.now) }
 {
     let Some(line) = number(standing.entry().attributes.as_slice(), CALL_LINE) else {
         return Ok(());
@@ -97,7 +100,8 @@ pub fn push_place_behind(
 ) -> Result<(), NoMemory>
     requires { resolved.now ≡ resolved_at information.now resolved.now.address }
     ensures { OnOk result (out.new
-        ≡ out.old ++ definitions.place_behind information.now resolved.now.address (option_copied before.entry)) }
+        ≡ out.old ++ definitions.place_behind information.now resolved.now.address
+        (option_copied before.entry)) }
 {
     match before {
         Some(standing) => push_call(out, alloc, information, standing),

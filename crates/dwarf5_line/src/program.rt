@@ -83,7 +83,8 @@ fn read_at<'a>(
     section: &'a [u8],
     at: usize,
 ) -> Result<Lines<'a>, ReadFault>
-    ensures there { ReadsThere at result (lines_at (layout5 (texts_of sections.now)) section.now at) }
+    ensures there { ReadsThere at result
+        (lines_at (layout5 (texts_of sections.now)) section.now at) }
     ensures spelled { IsWhatStands (lines5 (texts_of sections.now)) section.now at result }
 {
     read_program(alloc, &UpToFive { sections }, section, at)
@@ -99,8 +100,10 @@ pub fn read_lines5<'a>(
     sections: &PreparedSections<'a>,
     at: usize,
 ) -> Result<Lines<'a>, ReadFault>
-    ensures there { ReadsThere at result (lines_at (layout5 (texts_of sections.now)) sections.now.base.line at) }
-    ensures spelled { IsWhatStands (lines5 (texts_of sections.now)) sections.now.base.line at result }
+    ensures there { ReadsThere at result
+        (lines_at (layout5 (texts_of sections.now)) sections.now.base.line at) }
+    ensures spelled { IsWhatStands (lines5 (texts_of sections.now)) sections.now.base.line at
+        result }
 {
     let section = programs(sections);
     read_at(alloc, sections, section, at)
