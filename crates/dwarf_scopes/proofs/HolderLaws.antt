@@ -1,11 +1,12 @@
 -- The first entry that holds an address, by the tables.
 use Rattle.std.proofs.Common.{◌≡◌, ℕ, ◌<◌, ◌^◌, ℤ, Bool, true, false, List, Option, Some, None, refl, sym, ap, ◌∙◌}
-use Rattle.std.specs.Prelude.{find, slice_get, option_and_then, ◌||◌}
+use Rattle.std.specs.Prelude.{find, slice_get, option_and_then, is_some, ◌&&◌, ◌||◌}
 use Rattle.std.specs.Option.{option_to_list, is_none}
 use Rattle.std.specs.List.{position_from, list_any}
+use Rattle.dwarf_info.specs.Attributes.{valued, as_offset, ranges}
 use Rattle.dwarf_info.specs.Sections.{SectionBytes5}
 use Rattle.dwarf_entries.specs.Standing.{Standing}
-use Rattle.dwarf_scopes.specs.Ranges.{bounds_of, is_between, holds, holds_by}
+use Rattle.dwarf_scopes.specs.Ranges.{bounds_of, is_between, in_list, holds, holds_by}
 use Rattle.dwarf_scopes.specs.declared.holders.Holders.{Holders}
 use Rattle.dwarf_scopes.specs.inner.Steps.{answer}
 use Rattle.dwarf_scopes.specs.inner.Numbered.{is_within, passes, first_or}
@@ -16,13 +17,15 @@ or_false : (b : Bool) → b || false ≡ b
 or_false true = refl
 or_false false = refl
 
-bounded_by : (s : SectionBytes5) (a : ℕ) (x : Standing) (o : Option (ℕ × ℤ)) → is_none o ≡ false → holds_by s x a o ≡ list_any (λ (b : ℕ × ℤ). is_between b a) (option_to_list o)
-bounded_by s a x (Some b) e = sym (or_false (is_between b a))
-bounded_by s a x None e = absurd cc
+bounded_by : (s : SectionBytes5) (a : ℕ) (x : Standing) (o : Option (ℕ × ℤ)) (list : Option ℕ) → valued as_offset ranges x.entry.attributes ≡ list → is_none o && is_some list ≡ false
+    → holds_by s x a o ≡ list_any (λ (b : ℕ × ℤ). is_between b a) (option_to_list o)
+bounded_by s a x (Some b) list is e = sym (or_false (is_between b a))
+bounded_by s a x None (Some at) is e = absurd cc
+bounded_by s a x None None is e = ap (in_list s x.unit a) is
 
-listed_by : (a : ℕ) (o : Option (ℕ × ℤ)) → is_none o ≡ true → list_any (λ (b : ℕ × ℤ). is_between b a) (option_to_list o) ≡ false
-listed_by a (Some b) e = absurd cc
-listed_by a None e = refl
+listed_by : (a : ℕ) (o : Option (ℕ × ℤ)) (has_list : Bool) → is_none o && has_list ≡ true → list_any (λ (b : ℕ × ℤ). is_between b a) (option_to_list o) ≡ false
+listed_by a (Some b) has_list e = absurd cc
+listed_by a None has_list e = refl
 
 pub first_is : (s : SectionBytes5) (a : ℕ) (xs : List Standing) (h : Holders) → a < 2 ^ 32 → AreHolders xs h
     → option_and_then (slice_get xs) (first_or (λ i. passes (holds s a) (slice_get xs i)) (answer h.bounded a) h.listed) ≡ find (holds s a) xs
@@ -30,4 +33,5 @@ first_is s a xs h small holders =
     let named : answer h.bounded a ≡ position_from (is_within bounds_in a) 0 xs = holders.0 a small ∙ first_numbered bounds_in a 0 xs in
     ap (λ (o : Option ℕ). option_and_then (slice_get xs) (first_or (λ i. passes (holds s a) (slice_get xs i)) o h.listed)) named
     ∙ ap (λ (l : List ℕ). option_and_then (slice_get xs) (first_or (λ i. passes (holds s a) (slice_get xs i)) (position_from (is_within bounds_in a) 0 xs) l)) holders.1
-    ∙ found_first (holds s a) (is_within bounds_in a) is_listed xs (λ y e. bounded_by s a y (bounds_of y.entry) e) (λ y e. listed_by a (bounds_of y.entry) e)
+    ∙ found_first (holds s a) (is_within bounds_in a) is_listed xs
+    (λ y e. bounded_by s a y (bounds_of y.entry) (valued as_offset ranges y.entry.attributes) refl e) (λ y e. listed_by a (bounds_of y.entry) (is_some (valued as_offset ranges y.entry.attributes)) e)

@@ -8,17 +8,18 @@ ghost use Rattle.dwarf_scopes.specs.inner.Numbered.{ranges_from, numbers_from, p
 use crate::ranges::{bounds, holds};
 use crate::steps::{Range, Steps};
 use causes::NoMemory;
-use dwarf_entries::Standing;
+use dwarf_entries::names::RANGES;
+use dwarf_entries::{Standing, offset};
 use dwarf_info::Sections5;
 use pm_text::Items;
 use std::alloc::Global;
 
-/// What finds the first of many entries that holds an address: by halving among those that say where they begin and end. The
-/// others, which may have a list, are asked one after the other.
+/// What finds the first of many entries that holds an address: by halving among those that say where they begin and end. Those
+/// that have a list instead are asked one after the other.
 #[derive(Drop)]
 pub struct Holders {
     bounded: Steps,
-    // The numbers of the others.
+    // The numbers of those that have a list instead.
     listed: Items<usize>,
 }
 
@@ -35,13 +36,21 @@ fn ranges_of(alloc: Global, entries: &[Standing<'_, '_>]) -> Result<Vec<Range>, 
     Ok(ranges)
 }
 
-/// The numbers of the others.
+/// Whether the list of an entry says what it holds.
+fn is_listed(standing: &Standing<'_, '_>) -> bool
+    ensures { result ≡ is_listed standing.now }
+{
+    let entry = standing.entry();
+    bounds(entry).is_none() && offset(entry.attributes.as_slice(), RANGES).is_some()
+}
+
+/// The numbers of those that have a list instead.
 fn listed_of(alloc: Global, entries: &[Standing<'_, '_>]) -> Result<Items<usize>, NoMemory>
     ensures { IfOk result (λ numbers. numbers ≡ numbers_from is_listed 0 entries.now) }
 {
     let mut numbers = Items::new(alloc);
     'entries: for (index, standing) in entries.iter().enumerate() {
-        if bounds(standing.entry()).is_none() {
+        if is_listed(standing) {
             numbers.push(index)?;
         }
     }
