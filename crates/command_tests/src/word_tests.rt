@@ -19,7 +19,7 @@ const FILES: [(&str, &str, (&str, &str)); 12] = [
     ("instrument a -- b", "instrument", ("a", "b")),
 ];
 
-fn names(alloc: Global, line: &str, name: &str, files: (&str, &str)) -> bool {
+fn names<'a>(alloc: Global, line: &str, name: &'a str, files: (&'a str, &'a str)) -> bool {
     let command = Wanted {
         name,
         files: None,
