@@ -12,7 +12,7 @@ use dwarf_entries::offset;
 use dwarf_info::{Entry, PreparedSections, Sections5, UnitAnswer};
 use dwarf_line::{Lines, Row, Sequence};
 use dwarf_scopes::{Range, Steps};
-use dwarf5_line::read_lines5;
+use dwarf5_line::read_prepared_lines5;
 use indexmap::IndexMap;
 use std::alloc::Global;
 use std::marker::Model;
@@ -62,7 +62,7 @@ fn program_there<'a>(
 ) -> Result<Program<'a>, NoMemory>
     ensures { IfOk result (λ program. program ≡ definitions.program_there sections.now at) }
 {
-    match read_lines5(alloc, sections, at as usize) {
+    match read_prepared_lines5(alloc, sections, at as usize) {
         Ok(lines) => Ok(Program::Read(lines)),
         Err(ReadFault::Unreadable { at: _ }) => Ok(Program::Unreadable),
         Err(ReadFault::NoMemory) => Err(NoMemory),

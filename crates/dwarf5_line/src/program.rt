@@ -11,7 +11,7 @@ ghost use Rattle.dwarf5_line.specs.Layout5.{texts_of, new_layout, layout5, lines
 
 use crate::entries::read_tables;
 use dwarf_bytes::{ReadFault, byte, open_counted};
-use dwarf_info::PreparedSections;
+use dwarf_info::{PreparedSections, Sections5};
 use dwarf_line::{Header, Lines, Versions, old_header, read_parameters, read_program};
 use std::alloc::Global;
 use wasm_bytes::{ItemFault, Reader};
@@ -90,12 +90,12 @@ fn read_at<'a>(
     read_program(alloc, &UpToFive { sections }, section, at)
 }
 
-/// What the line program of version 2, 3, 4 or 5 at an offset of `.debug_line` says.
+/// The same as `read_lines5`, where many programs of the sections are read.
 ///
 /// # Errors
 ///
 /// `Unreadable` where no program that has a reading stands there, with the offset that is given.
-pub fn read_lines5<'a>(
+pub fn read_prepared_lines5<'a>(
     alloc: Global,
     sections: &PreparedSections<'a>,
     at: usize,
@@ -107,4 +107,23 @@ pub fn read_lines5<'a>(
 {
     let section = programs(sections);
     read_at(alloc, sections, section, at)
+}
+
+/// What the line program of version 2, 3, 4 or 5 at an offset of `.debug_line` says.
+///
+/// # Errors
+///
+/// `Unreadable` where no program that has a reading stands there, with the offset that is given.
+pub fn read_lines5<'a>(
+    alloc: Global,
+    sections: &Sections5<'a>,
+    at: usize,
+) -> Result<Lines<'a>, ReadFault>
+    ensures there { ReadsThere at result
+        (lines_at (layout5 (texts_of sections.now)) sections.now.base.line at) }
+    ensures spelled { IsWhatStands (lines5 (texts_of sections.now)) sections.now.base.line at
+        result }
+{
+    let prepared = PreparedSections::new(alloc, sections)?;
+    read_prepared_lines5(alloc, &prepared, at)
 }

@@ -3,7 +3,7 @@
 //! directory which stands twice it takes the last.
 
 use dwarf_bytes::ReadFault;
-use dwarf_info::{PreparedSections, Sections, Sections5};
+use dwarf_info::{Sections, Sections5};
 use dwarf_line::{LineFile, Lines, Row};
 use dwarf5_line::read_lines5;
 use std::alloc::Global;
@@ -77,11 +77,8 @@ fn sections<'a>(line: &'a [u8], str: &'a [u8], line_str: &'a [u8]) -> Sections5<
 }
 
 fn program<'a>(alloc: Global, sections: &Sections5<'a>) -> Result<Lines<'a>, Fail> {
-    let prepared = PreparedSections::new(alloc, sections)
-        .ok()
-        .ok_or("memory suffices")?;
     Ok(
-        read_lines5(alloc, &prepared, 0)
+        read_lines5(alloc, sections, 0)
             .ok()
             .ok_or("the program has a reading")?,
     )
@@ -134,11 +131,8 @@ fn forms_are_read(rt: HostRuntime) -> Result<(), Fail> {
 }
 
 fn is_unreadable(alloc: Global, line: &[u8], line_str: &[u8]) -> bool {
-    let Ok(prepared) = PreparedSections::new(alloc, &sections(line, &[], line_str)) else {
-        return false;
-    };
     matches!(
-        read_lines5(alloc, &prepared, 0),
+        read_lines5(alloc, &sections(line, &[], line_str), 0),
         Err(ReadFault::Unreadable { at: 0 })
     )
 }

@@ -3,7 +3,7 @@ use Rattle.dwarf_bytes.specs.Answers.{ReadsThere}
 use Rattle.dwarf_line.specs.Program.{lines_at}
 use Rattle.dwarf_line.specs.Standing.{IsWhatStands}
 use Rattle.dwarf5_line.specs.Layout5.{texts_of, layout5, lines5}
-use Rattle.dwarf5_line.proofs.program.read_lines5.Goals as goal
+use Rattle.dwarf5_line.proofs.program.read_prepared_lines5.Goals as goal
 
 pub returns-clause-there : goal.returns-clause-there
 returns-clause-there c =
