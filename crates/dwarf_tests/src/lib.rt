@@ -6,17 +6,19 @@ mod expression_tests;
 #[cfg(test)]
 mod form_tests;
 #[cfg(test)]
+mod frames;
+#[cfg(test)]
 mod line5_tests;
 #[cfg(test)]
 mod list5_tests;
 #[cfg(test)]
 mod path_tests;
 #[cfg(test)]
-mod print_tests;
+mod reading;
+#[cfg(test)]
+mod samples;
 #[cfg(test)]
 mod scope_tests;
-#[cfg(test)]
-mod seen;
 #[cfg(test)]
 mod shown_tests;
 #[cfg(test)]

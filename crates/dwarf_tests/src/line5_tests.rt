@@ -4,10 +4,9 @@
 
 use dwarf_bytes::ReadFault;
 use dwarf_info::{Sections, Sections5};
-use dwarf_line::{LineFile, Lines, Row};
+use dwarf_line::{Directories, LineFile, Lines, Row};
 use dwarf5_line::read_lines5;
 use std::alloc::Global;
-use std::test::Fail;
 
 // A directory and two files, by strings. Rows at 2, 14, 21 and 43, end 49.
 const SMALL: [u8; 70] = [
@@ -58,6 +57,64 @@ const BROKEN: [(usize, u8); 8] = [
     (0, 0x43),
 ];
 
+// A program with its texts, and what it says.
+struct Program {
+    line: &'static [u8],
+    str: &'static [u8],
+    line_str: &'static [u8],
+    directories: &'static [&'static [u8]],
+    // Names, with the numbers of their directories.
+    files: &'static [(&'static [u8], u64)],
+    // Addresses, and the rows that hold them.
+    places: &'static [(u32, Option<Row>)],
+}
+
+const PROGRAMS: [Program; 3] = [
+    Program {
+        line: &SMALL,
+        str: &[],
+        line_str: &[],
+        directories: &[b"/"],
+        files: &[(b"t.c", 0), (b"t.c", 0)],
+        places: &[
+            (
+                45,
+                Some(Row {
+                    address: 43,
+                    file: 1,
+                    line: 5,
+                    column: 0,
+                }),
+            ),
+            (49, None),
+        ],
+    },
+    Program {
+        line: &ASSEMBLED,
+        str: &[],
+        line_str: &ASSEMBLED_NAMES,
+        directories: &[b"/s", b"inc"],
+        files: &[(b"a.c", 0), (b"a.c", 0), (b"b.h", 1)],
+        places: &[(
+            347,
+            Some(Row {
+                address: 44,
+                file: 2,
+                line: 9,
+                column: 1,
+            }),
+        )],
+    },
+    Program {
+        line: &FORMS,
+        str: &FORMS_NAMES,
+        line_str: &[],
+        directories: &[b"/d"],
+        files: &[(b"a", 2)],
+        places: &[],
+    },
+];
+
 fn sections<'a>(line: &'a [u8], str: &'a [u8], line_str: &'a [u8]) -> Sections5<'a> {
     Sections5 {
         base: Sections {
@@ -76,58 +133,61 @@ fn sections<'a>(line: &'a [u8], str: &'a [u8], line_str: &'a [u8]) -> Sections5<
     }
 }
 
-fn program<'a>(alloc: Global, sections: &Sections5<'a>) -> Result<Lines<'a>, Fail> {
-    Ok(
-        read_lines5(alloc, sections, 0)
-            .ok()
-            .ok_or("the program has a reading")?,
-    )
+fn are_names(directories: &Directories<'_>, names: &[&[u8]]) -> bool {
+    if directories.len() != names.len() {
+        return false;
+    }
+    for (directory, name) in directories.as_slice().iter().zip(names) {
+        if directory.as_slice() != *name {
+            return false;
+        }
+    }
+    true
 }
 
-fn is_file(file: &LineFile<'_>, name: &[u8], directory: u64) -> bool {
-    file.name.as_slice() == name && file.directory == directory
+fn are_files(files: &[LineFile<'_>], rows: &[(&[u8], u64)]) -> bool {
+    if files.len() != rows.len() {
+        return false;
+    }
+    for (file, row) in files.iter().zip(rows) {
+        if file.name.as_slice() != row.0 || file.directory != row.1 {
+            return false;
+        }
+    }
+    true
+}
+
+fn has_places(lines: &Lines<'_>, places: &[(u32, Option<Row>)]) -> bool {
+    for (address, row) in places {
+        if lines.place(*address) != *row {
+            return false;
+        }
+    }
+    true
+}
+
+fn is_read(alloc: Global, program: &Program) -> bool {
+    let sections = sections(program.line, program.str, program.line_str);
+    match read_lines5(alloc, &sections, 0) {
+        Ok(lines) => {
+            lines.first == 0
+                && are_names(&lines.directories, program.directories)
+                && are_files(lines.files.as_slice(), program.files)
+                && has_places(&lines, program.places)
+        }
+        Err(_) => false,
+    }
 }
 
 #[test]
-fn programs_are_read(rt: HostRuntime) -> Result<(), Fail> {
-    let small = program(rt.alloc(), &sections(&SMALL, &[], &[]))?;
-    assert!(rt; small.first == 0 && small.directories.len() == 1);
-    assert!(rt; matches!(small.files.as_slice(), [_, file] if is_file(file, b"t.c", 0)));
-    assert!(rt;
-        small.place(45)
-            == Some(Row {
-                address: 43,
-                file: 1,
-                line: 5,
-                column: 0
-            })
-    );
-    assert!(rt; small.place(49).is_none());
-    let assembled = program(rt.alloc(), &sections(&ASSEMBLED, &[], &ASSEMBLED_NAMES))?;
-    assert!(rt;
-        matches!(assembled.directories.as_slice(), [_, name] if name.as_slice() == b"inc".as_slice())
-    );
-    assert!(rt; matches!(assembled.files.as_slice(), [_, _, file] if is_file(file, b"b.h", 1)));
-    assert!(rt;
-        assembled.place(347)
-            == Some(Row {
-                address: 44,
-                file: 2,
-                line: 9,
-                column: 1
-            })
-    );
-    Ok(())
-}
-
-#[test]
-fn forms_are_read(rt: HostRuntime) -> Result<(), Fail> {
-    let forms = program(rt.alloc(), &sections(&FORMS, &FORMS_NAMES, &[]))?;
-    assert!(rt;
-        matches!(forms.directories.as_slice(), [name] if name.as_slice() == b"/d".as_slice())
-    );
-    assert!(rt; matches!(forms.files.as_slice(), [file] if is_file(file, b"a", 2)));
-    Ok(())
+fn programs_are_read(rt: HostRuntime) {
+    for program in &PROGRAMS {
+        assert!(rt;
+            is_read(rt.alloc(), program),
+            "{} bytes",
+            program.line.len()
+        );
+    }
 }
 
 fn is_unreadable(alloc: Global, line: &[u8], line_str: &[u8]) -> bool {
@@ -137,15 +197,23 @@ fn is_unreadable(alloc: Global, line: &[u8], line_str: &[u8]) -> bool {
     )
 }
 
+/// SMALL is unreadable with this byte.
+fn is_broken_by(alloc: Global, index: usize, byte: u8) -> bool {
+    let mut bytes = SMALL;
+    if index >= bytes.len() {
+        return false;
+    }
+    bytes[index] = byte;
+    is_unreadable(alloc, &bytes, &[])
+}
+
 #[test]
 fn broken_programs_are_refused(rt: HostRuntime) {
     for len in 0..70 {
-        assert!(rt; is_unreadable(rt.alloc(), &SMALL[..len], &[]));
+        assert!(rt; is_unreadable(rt.alloc(), &SMALL[..len], &[]), "{len}");
     }
     for (index, byte) in &BROKEN {
-        let mut bytes = SMALL;
-        bytes[*index] = *byte;
-        assert!(rt; is_unreadable(rt.alloc(), &bytes, &[]));
+        assert!(rt; is_broken_by(rt.alloc(), *index, *byte), "{index}");
     }
     // The last name does not end, or does not begin.
     assert!(rt; is_unreadable(rt.alloc(), &ASSEMBLED, &ASSEMBLED_NAMES[..14]));

@@ -3,13 +3,13 @@
 ghost use Rattle.dwarf_info.specs.Sections.{IsReadable5};
 
 use dwarf_bytes::ReadFault;
-use dwarf_info::{Sections, Sections5, Unit, UnitAnswer};
+use dwarf_info::{Sections, Sections5, Unit, UnitAnswer, Units};
 use dwarf_loc::Span;
 use dwarf_scopes::{location_in, range_in};
 use dwarf5_expr::{plain_expr, with_addresses};
 use dwarf5_info::read_units5;
 use dwarf5_lists::AddressTable;
-use std::test::Fail;
+use std::alloc::Global;
 
 // A unit of version 5 and one of version 4, whose roots have the low_pc 100 and the base 4 of addresses.
 const INFO: [u8; 41] = [
@@ -59,92 +59,111 @@ fn sections<'a>() -> Sections5<'a>
     }
 }
 
-// The offset of a list, an address, and the offset of the expression that counts.
-const LOCATIONS: [(usize, u32, Result<Option<usize>, usize>); 9] = [
-    (0, 104, Ok(Some(7))),
-    (0, 105, Ok(Some(4))),
-    (0, 107, Ok(Some(4))),
-    (0, 108, Ok(Some(7))),
-    (8, 105, Ok(None)),
-    (9, 0xFFFF_FFF1, Ok(Some(13))),
-    (9, 0xFFFF_FFF2, Ok(None)),
-    (15, 0, Err(15)),
-    (21, 0, Err(21)),
+/// The units, the first of which is number 0.
+fn units(alloc: Global) -> Option<Units<'static>> {
+    read_units5(alloc, &sections()).ok()
+}
+
+/// The unit of that number, where it is read.
+fn unit_of<'r, 'a>(units: &'r Option<Units<'a>>, number: usize) -> Option<&'r Unit<'a>> {
+    match units.as_ref()?.as_slice().get(number)? {
+        UnitAnswer::Tree(unit) => Some(unit),
+        UnitAnswer::Unreadable { .. } => None,
+    }
+}
+
+// The number of a unit, the offset of a list, an address, and the expression that counts.
+type LocationRow = (usize, usize, u32, Result<Option<Span>, ReadFault>);
+
+const LOCATIONS: [LocationRow; 10] = [
+    (0, 0, 104, Ok(Some(Span { at: 7, len: 1 }))),
+    (0, 0, 105, Ok(Some(Span { at: 4, len: 1 }))),
+    (0, 0, 107, Ok(Some(Span { at: 4, len: 1 }))),
+    (0, 0, 108, Ok(Some(Span { at: 7, len: 1 }))),
+    (0, 8, 105, Ok(None)),
+    (0, 9, 0xFFFF_FFF1, Ok(Some(Span { at: 13, len: 1 }))),
+    (0, 9, 0xFFFF_FFF2, Ok(None)),
+    (0, 15, 0, Err(ReadFault::Unreadable { at: 15 })),
+    (0, 21, 0, Err(ReadFault::Unreadable { at: 21 })),
+    (1, 0, 103, Ok(Some(Span { at: 10, len: 1 }))),
 ];
 
-fn is_location(
-    found: &Result<Option<Span>, ReadFault>,
-    wanted: Result<Option<usize>, usize>,
-) -> bool {
-    match (found, wanted) {
-        (Ok(None), Ok(None)) => true,
-        (Ok(Some(span)), Ok(Some(at))) => span.at == at && span.len == 1,
-        (Err(ReadFault::Unreadable { at }), Err(wanted)) => *at == wanted,
-        _ => false,
+fn is_location(units: &Option<Units<'_>>, row: &LocationRow) -> bool {
+    match unit_of(units, row.0) {
+        Some(unit) => location_in(&sections(), unit, row.1, row.2) == row.3,
+        None => false,
     }
 }
 
-fn locations_are_found(sections: &Sections5<'_>, unit: &Unit<'_>) -> bool {
-    for (list, address, wanted) in LOCATIONS {
-        if !is_location(&location_in(sections, unit, list, address), wanted) {
-            return false;
+/// The number of the first row where another expression counts, or how many rows there are.
+fn first_other_location(units: &Option<Units<'_>>) -> usize {
+    for (i, row) in LOCATIONS.iter().enumerate() {
+        if !is_location(units, row) {
+            return i;
         }
     }
-    true
+    LOCATIONS.len()
 }
 
-const RANGES: [(usize, u32, Result<bool, usize>); 7] = [
+#[test]
+fn locations_of_a_unit_are_found(rt: HostRuntime) {
+    let wrong = first_other_location(&units(rt.alloc()));
+    assert_eq!(rt; wrong, LOCATIONS.len());
+}
+
+// The offset of a list of the first unit, an address, and whether the list holds it.
+type RangeRow = (usize, u32, Result<bool, ReadFault>);
+
+const RANGES: [RangeRow; 7] = [
     (0, 104, Ok(false)),
     (0, 105, Ok(true)),
     (0, 108, Ok(false)),
     (4, 0x10, Ok(true)),
     (4, 0x15, Ok(false)),
-    (8, 0, Err(8)),
-    (12, 0, Err(12)),
+    (8, 0, Err(ReadFault::Unreadable { at: 8 })),
+    (12, 0, Err(ReadFault::Unreadable { at: 12 })),
 ];
 
-fn is_held(found: &Result<bool, ReadFault>, wanted: Result<bool, usize>) -> bool {
-    match (found, wanted) {
-        (Ok(held), Ok(wanted)) => *held == wanted,
-        (Err(ReadFault::Unreadable { at }), Err(wanted)) => *at == wanted,
-        _ => false,
+fn is_range(units: &Option<Units<'_>>, row: &RangeRow) -> bool {
+    match unit_of(units, 0) {
+        Some(unit) => range_in(&sections(), unit, row.0, row.1) == row.2,
+        None => false,
     }
 }
 
-fn ranges_are_held(sections: &Sections5<'_>, unit: &Unit<'_>) -> bool {
-    for (list, address, wanted) in RANGES {
-        if !is_held(&range_in(sections, unit, list, address), wanted) {
-            return false;
+/// The number of the first row where the list says something else, or how many rows there are.
+fn first_other_range(units: &Option<Units<'_>>) -> usize {
+    for (i, row) in RANGES.iter().enumerate() {
+        if !is_range(units, row) {
+            return i;
         }
     }
-    true
+    RANGES.len()
 }
 
 #[test]
-fn lists_of_a_unit_are_read(rt: HostRuntime) -> Result<(), Fail> {
-    let sections = sections();
-    let Ok(units) = read_units5(rt.alloc(), &sections) else {
-        return Err("there is memory".into());
+fn ranges_of_a_unit_hold_addresses(rt: HostRuntime) {
+    let wrong = first_other_range(&units(rt.alloc()));
+    assert_eq!(rt; wrong, RANGES.len());
+}
+
+/// The expression is this one in the unit of that number, with addresses in place of indices.
+fn is_plain_in(alloc: Global, number: usize, expr: &[u8], expected: &[u8]) -> bool {
+    let units = units(alloc);
+    let Some(unit) = unit_of(&units, number) else {
+        return false;
     };
-    let [first, second] = units.as_slice() else {
-        return Err("there are two units".into());
-    };
-    let UnitAnswer::Tree(five) = first else {
-        return Err("the first is read".into());
-    };
-    let UnitAnswer::Tree(four) = second else {
-        return Err("the second is read".into());
-    };
-    assert!(rt; locations_are_found(&sections, five));
-    assert!(rt; is_location(&location_in(&sections, four, 0, 103), Ok(Some(10))));
-    assert!(rt; ranges_are_held(&sections, five));
-    let plain = plain_expr(rt.alloc(), &sections, five, &[0xA1, 0x00]);
-    let plain = plain.ok().ok_or("there is memory")?;
-    assert!(rt; matches!(plain.as_slice(), [0x03, 0x10, 0x00, 0x00, 0x00]));
-    let plain = plain_expr(rt.alloc(), &sections, four, &[0xA1, 0x00]);
-    let plain = plain.ok().ok_or("there is memory")?;
-    assert!(rt; matches!(plain.as_slice(), [0xA1, 0x00]));
-    Ok(())
+    match plain_expr(alloc, &sections(), unit, expr) {
+        Ok(plain) => plain.as_slice() == expected,
+        Err(_) => false,
+    }
+}
+
+#[test]
+fn expressions_of_a_unit_have_addresses(rt: HostRuntime) {
+    let expr = [0xA1, 0x00];
+    assert!(rt; is_plain_in(rt.alloc(), 0, &expr, &[0x03, 0x10, 0x00, 0x00, 0x00]));
+    assert!(rt; is_plain_in(rt.alloc(), 1, &expr, &expr));
 }
 
 // An expression, and the same without addrx: replaced; between others; an index of two bytes; without an entry, and then
@@ -172,17 +191,22 @@ const EXPRESSIONS: [(&[u8], &[u8]); 10] = [
     (&[], &[]),
 ];
 
-#[test]
-fn addresses_stand_in_place_of_indices(rt: HostRuntime) -> Result<(), Fail> {
-    let addresses = AddressTable::new(&ADDRESSES, Some(4));
-    for (expr, expected) in EXPRESSIONS {
-        let plain = with_addresses(rt.alloc(), &addresses, expr);
-        let plain = plain.ok().ok_or("there is memory")?;
-        assert!(rt; plain.as_slice() == expected);
+fn is_plain(alloc: Global, base: Option<u32>, expr: &[u8], expected: &[u8]) -> bool {
+    match with_addresses(alloc, &AddressTable::new(&ADDRESSES, base), expr) {
+        Ok(plain) => plain.as_slice() == expected,
+        Err(_) => false,
     }
-    let none = AddressTable::new(&ADDRESSES, None);
-    let plain = with_addresses(rt.alloc(), &none, &[0x31, 0xA1, 0x01]);
-    let plain = plain.ok().ok_or("there is memory")?;
-    assert!(rt; matches!(plain.as_slice(), [0x31, 0xA1, 0x01]));
-    Ok(())
+}
+
+#[test]
+fn addresses_stand_in_place_of_indices(rt: HostRuntime) {
+    for (expr, expected) in &EXPRESSIONS {
+        assert!(rt;
+            is_plain(rt.alloc(), Some(4), expr, expected),
+            "{} bytes",
+            expr.len()
+        );
+    }
+    let expr = [0x31, 0xA1, 0x01];
+    assert!(rt; is_plain(rt.alloc(), None, &expr, &expr));
 }

@@ -1,18 +1,39 @@
 //! Paths: texts that are paths, with their steps, and texts that are none.
 
-use std::test::Fail;
+use std::alloc::Global;
 use var_path::{Step, parse_path};
 
-// A text, the variable, and its steps: `.` and `>` with a name, `*`, and `[` with a number.
-const PATHS: [(&str, &[u8], &str); 8] = [
-    ("x", b"x", ""),
-    ("_x9.y", b"_x9", ".y "),
-    ("s.b[1]", b"s", ".b [1 "),
-    ("*(*p->q).r[007]", b"p", ">q * .r [7 * "),
-    ("((**(x)))", b"x", "* * "),
-    ("*a[2147483647]", b"a", "[2147483647 * "),
-    ("(*a)[0][1]", b"a", "* [0 [1 "),
-    ("p->q->r", b"p", ">q >r "),
+// A step: `.` and `>` with a name, `*`, and `[` with a number.
+type StepRow = (&'static str, &'static [u8], u32);
+
+// A text, the variable, and its steps.
+const PATHS: [(&str, &[u8], &[StepRow]); 8] = [
+    ("x", b"x", &[]),
+    ("_x9.y", b"_x9", &[(".", b"y", 0)]),
+    ("s.b[1]", b"s", &[(".", b"b", 0), ("[", b"", 1)]),
+    (
+        "*(*p->q).r[007]",
+        b"p",
+        &[
+            (">", b"q", 0),
+            ("*", b"", 0),
+            (".", b"r", 0),
+            ("[", b"", 7),
+            ("*", b"", 0),
+        ],
+    ),
+    ("((**(x)))", b"x", &[("*", b"", 0), ("*", b"", 0)]),
+    (
+        "*a[2147483647]",
+        b"a",
+        &[("[", b"", 2147483647), ("*", b"", 0)],
+    ),
+    (
+        "(*a)[0][1]",
+        b"a",
+        &[("*", b"", 0), ("[", b"", 0), ("[", b"", 1)],
+    ),
+    ("p->q->r", b"p", &[(">", b"q", 0), (">", b"r", 0)]),
 ];
 
 const NONE: [&str; 22] = [
@@ -40,43 +61,48 @@ const NONE: [&str; 22] = [
     "x(y)",
 ];
 
-fn described(alloc: std::alloc::Global, steps: &[Step<'_>]) -> Result<String, Fail> {
-    let mut text = String::new(alloc);
-    for step in steps {
-        match step {
-            Step::Member(name) => {
-                text.push('.')?;
-                text.push_str(std::str::from_utf8(name.as_slice())?)?;
-            }
-            Step::Arrow(name) => {
-                text.push('>')?;
-                text.push_str(std::str::from_utf8(name.as_slice())?)?;
-            }
-            Step::Index(index) => text.push_str(&format!(in alloc; "[{index}")?)?,
-            Step::Deref => text.push('*')?,
+fn is_step(step: &Step<'_>, row: &StepRow) -> bool {
+    match step {
+        Step::Member(name) => row.0 == "." && name.as_slice() == row.1,
+        Step::Arrow(name) => row.0 == ">" && name.as_slice() == row.1,
+        Step::Index(index) => row.0 == "[" && *index == row.2,
+        Step::Deref => row.0 == "*",
+    }
+}
+
+fn are_steps(steps: &[Step<'_>], rows: &[StepRow]) -> bool {
+    if steps.len() != rows.len() {
+        return false;
+    }
+    for (step, row) in steps.iter().zip(rows) {
+        if !is_step(step, row) {
+            return false;
         }
-        text.push(' ')?;
     }
-    Ok(text)
+    true
+}
+
+fn is_path(alloc: Global, text: &str, name: &[u8], rows: &[StepRow]) -> bool {
+    match parse_path(alloc, text) {
+        Ok(Some(path)) => path.name.as_slice() == name && are_steps(path.steps.as_slice(), rows),
+        _ => false,
+    }
 }
 
 #[test]
-fn paths_are_read(rt: HostRuntime) -> Result<(), Fail> {
-    for (text, name, steps) in PATHS {
-        let path = parse_path(rt.alloc(), text)?.ok_or("it is a path")?;
-        let found = described(rt.alloc(), path.steps.as_slice())?;
-        assert!(rt;
-            path.name.as_slice() == name && found.as_str() == steps,
-            "{text}"
-        );
+fn paths_are_read(rt: HostRuntime) {
+    for (text, name, rows) in &PATHS {
+        assert!(rt; is_path(rt.alloc(), text, name, rows), "{text}");
     }
-    Ok(())
+}
+
+fn is_none(alloc: Global, text: &str) -> bool {
+    matches!(parse_path(alloc, text), Ok(None))
 }
 
 #[test]
-fn other_texts_are_none(rt: HostRuntime) -> Result<(), Fail> {
+fn other_texts_are_none(rt: HostRuntime) {
     for text in NONE {
-        assert!(rt; parse_path(rt.alloc(), text)?.is_none(), "{text}");
+        assert!(rt; is_none(rt.alloc(), text), "{text}");
     }
-    Ok(())
 }

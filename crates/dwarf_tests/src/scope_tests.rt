@@ -1,9 +1,10 @@
 //! Units by hand, as llvm-dwarfdump lists them, with addresses and what stands there.
 
+use crate::reading::{sections4, units4};
 use dwarf_entries::Standing;
-use dwarf_info::{Sections, Sections5, read_units};
+use dwarf_info::{Sections5, Units};
 use dwarf_scopes::{inlined_at, scopes_at, variables_at};
-use std::test::Fail;
+use std::alloc::Global;
 
 const ABBREV: [u8; 102] = [
     1, 17, 1, 17, 1, 0, 0, 2, 52, 0, 0, 0, 3, 46, 0, 17, 1, 18, 6, 0, 0, 4, 46, 0, 18, 1, 0, 0, 5,
@@ -28,7 +29,9 @@ const RANGES: [u8; 28] = [
 ];
 
 // An address, the scopes there, the variables, and the inlined subroutines, by their offsets.
-const ROWS: [(u32, &[u32], &[u32], &[u32]); 7] = [
+type Row = (u32, &'static [u32], &'static [u32], &'static [u32]);
+
+const ROWS: [Row; 7] = [
     (115, &[31, 41], &[40, 72, 47], &[]),
     (133, &[31, 48, 55], &[40, 72, 54, 61], &[55, 48]),
     (141, &[31, 65], &[40, 72, 70], &[]),
@@ -50,25 +53,51 @@ fn stand_at(standing: &[Standing<'_, '_>], offsets: &[u32]) -> bool {
     true
 }
 
-#[test]
-fn scopes_are_found(rt: HostRuntime) -> Result<(), Fail> {
-    let sections = Sections {
-        info: &INFO,
-        abbrev: &ABBREV,
-        line: &[],
-        str: &[],
-        loc: &[],
-        ranges: &RANGES,
-    };
-    let units = read_units(rt.alloc(), &sections)?;
-    let sections = Sections5::without5(&sections);
-    for (address, scopes, variables, inlined) in ROWS {
-        let found = scopes_at(rt.alloc(), &sections, units.as_slice(), address)?;
-        assert!(rt; stand_at(found.as_slice(), scopes), "{address}");
-        let found = variables_at(rt.alloc(), &sections, units.as_slice(), address)?;
-        assert!(rt; stand_at(found.as_slice(), variables), "{address}");
-        let found = inlined_at(rt.alloc(), &sections, units.as_slice(), address)?;
-        assert!(rt; stand_at(found.as_slice(), inlined), "{address}");
+fn has_scopes<'a>(alloc: Global, sections: &Sections5<'a>, units: &Units<'a>, row: &Row) -> bool {
+    match scopes_at(alloc, sections, units.as_slice(), row.0) {
+        Ok(found) => stand_at(found.as_slice(), row.1),
+        Err(_) => false,
     }
-    Ok(())
+}
+
+fn has_variables<'a>(
+    alloc: Global,
+    sections: &Sections5<'a>,
+    units: &Units<'a>,
+    row: &Row,
+) -> bool {
+    match variables_at(alloc, sections, units.as_slice(), row.0) {
+        Ok(found) => stand_at(found.as_slice(), row.2),
+        Err(_) => false,
+    }
+}
+
+fn has_inlined<'a>(alloc: Global, sections: &Sections5<'a>, units: &Units<'a>, row: &Row) -> bool {
+    match inlined_at(alloc, sections, units.as_slice(), row.0) {
+        Ok(found) => stand_at(found.as_slice(), row.3),
+        Err(_) => false,
+    }
+}
+
+/// The number of the first row where something else is found, or how many rows there are.
+fn first_wrong(alloc: Global, units: &Option<Units<'_>>) -> usize {
+    let Some(units) = units else {
+        return 0;
+    };
+    let sections = sections4(&INFO, &ABBREV, &[], &RANGES);
+    for (i, row) in ROWS.iter().enumerate() {
+        if !has_scopes(alloc, &sections, units, row)
+            || !has_variables(alloc, &sections, units, row)
+            || !has_inlined(alloc, &sections, units, row)
+        {
+            return i;
+        }
+    }
+    ROWS.len()
+}
+
+#[test]
+fn scopes_are_found(rt: HostRuntime) {
+    let wrong = first_wrong(rt.alloc(), &units4(rt.alloc(), &INFO, &ABBREV, &[]));
+    assert_eq!(rt; wrong, ROWS.len());
 }

@@ -1,14 +1,162 @@
-//! What is shown of variables: where they are, the constants that they are, and the marks in their places. The expected texts are
-//! from the standard's rules by hand.
+//! What is shown of variables: behind paths in a compiled module and as a listing has them, by where they are, by the constants that
+//! they are, and the marks in their places. The expected texts are from the standard's rules by hand.
 
-use crate::unit_tests::units_of;
+use crate::frames::memory_with;
+use crate::reading::{sections4, units4};
+use crate::samples::{self, STACK};
+use causes::NoMemory;
+use dwarf_entries::standing_at;
 use dwarf_expr::FrameView;
-use dwarf_info::{Sections, Sections5, Units};
+use dwarf_info::Units;
 use linear_memory::Memory;
+use pm_text::Text;
 use std::alloc::Global;
-use std::test::Fail;
-use var_eval::{Frame, Shown, value_at};
+use var_eval::{Frame, Shown, push_variable, value_at};
+use var_path::parse_path;
+use var_shown::value_of;
 use wasm_syntax::Seen;
+
+// A module, and what is recorded of a frame in it.
+struct Scene {
+    info: &'static [u8],
+    abbrev: &'static [u8],
+    loc: &'static [u8],
+    address: u32,
+    locals: &'static [Seen],
+    operands: &'static [Seen],
+    globals: &'static [Seen],
+    // Bytes at an address of memory.
+    contents: (u64, &'static [u8]),
+}
+
+// What is asked for: the value behind a path, a variable as a listing has it, and the value of a variable by the offset of its entry.
+#[derive(Clone, Copy)]
+enum Asked {
+    Path(&'static str),
+    Listed(u32),
+    Entry(u32),
+}
+
+type Row = (Asked, &'static str);
+
+fn by_path(
+    alloc: Global,
+    frame: &Frame<'_, '_, '_, '_, '_>,
+    path: &str,
+) -> Result<Shown, NoMemory> {
+    match parse_path(alloc, path)? {
+        Some(path) => value_of(alloc, frame, &path),
+        None => Err(NoMemory),
+    }
+}
+
+fn listed(alloc: Global, frame: &Frame<'_, '_, '_, '_, '_>, at: u32) -> Result<Shown, NoMemory> {
+    let Some(variable) = standing_at(frame.units(), at) else {
+        return Ok(Shown::NoVariable);
+    };
+    let mut text = Text::new(alloc);
+    push_variable(alloc, &mut text, frame, &variable)?;
+    Ok(Shown::Text(text))
+}
+
+fn shown(
+    alloc: Global,
+    frame: &Frame<'_, '_, '_, '_, '_>,
+    asked: Asked,
+) -> Result<Shown, NoMemory> {
+    match asked {
+        Asked::Path(path) => by_path(alloc, frame, path),
+        Asked::Listed(at) => listed(alloc, frame, at),
+        Asked::Entry(at) => value_at(alloc, frame, at),
+    }
+}
+
+/// The text that is shown, which may be that of a mark.
+fn has_text(shown: &Result<Shown, NoMemory>, text: &str) -> bool {
+    match shown {
+        Ok(Shown::NoVariable) => text == "no variable",
+        Ok(Shown::Marked(mark)) => text == mark.text(),
+        Ok(Shown::Text(found)) => text == found.as_str(),
+        Err(_) => false,
+    }
+}
+
+fn first_wrong_in(alloc: Global, frame: &Frame<'_, '_, '_, '_, '_>, rows: &[Row]) -> usize {
+    for (i, (asked, text)) in rows.iter().enumerate() {
+        if !has_text(&shown(alloc, frame, *asked), text) {
+            return i;
+        }
+    }
+    rows.len()
+}
+
+fn first_wrong_of(
+    alloc: Global,
+    scene: &Scene,
+    units: &Units<'_>,
+    memory: &Option<Memory>,
+    rows: &[Row],
+) -> usize {
+    let sections = sections4(scene.info, scene.abbrev, scene.loc, &[]);
+    let view = FrameView {
+        locals: scene.locals,
+        operands: scene.operands,
+        globals: scene.globals,
+        memory: memory.as_ref(),
+    };
+    match Frame::new(alloc, &sections, units, scene.address, &view) {
+        Ok(frame) => first_wrong_in(alloc, &frame, rows),
+        Err(_) => 0,
+    }
+}
+
+/// The number of the first row where something else is shown, or how many rows there are.
+fn first_wrong(alloc: Global, scene: &Scene, rows: &[Row]) -> usize {
+    let memory = memory_with(alloc, &[scene.contents]);
+    match units4(alloc, scene.info, scene.abbrev, &[]) {
+        Some(units) => first_wrong_of(alloc, scene, &units, &memory, rows),
+        None => 0,
+    }
+}
+
+// The compiled module, in which `p` points behind the memory.
+const COMPILED: Scene = Scene {
+    info: &samples::INFO,
+    abbrev: &samples::ABBREV,
+    loc: &[],
+    address: 45,
+    locals: &[Seen::I32(65_536), Seen::I32(0), Seen::I32(992)],
+    operands: &[Seen::I32(65_536)],
+    globals: &[Seen::I32(992)],
+    contents: STACK,
+};
+
+const PRINTED: [Row; 19] = [
+    (Asked::Path("p"), "0x00010000"),
+    (Asked::Path("x"), "7"),
+    (Asked::Path("s"), "{a = 3, b = {0, 66 'B', 0, 0}}"),
+    (Asked::Path("s.a"), "3"),
+    (Asked::Path("s.b"), "{0, 66 'B', 0, 0}"),
+    (Asked::Path("s.b[1]"), "66 'B'"),
+    (Asked::Path("(s.b)[3]"), "0"),
+    (Asked::Path("s.b[4]"), "<outside array>"),
+    (Asked::Path("s.b[2147483647]"), "<outside memory>"),
+    (Asked::Path("*p"), "<outside memory>"),
+    (Asked::Path("p[2147483647]"), "0"),
+    (Asked::Path("**p"), "<unsupported type>"),
+    (Asked::Path("p.a"), "<unsupported type>"),
+    (Asked::Path("s->a"), "<unsupported type>"),
+    (Asked::Path("s.c"), "<unsupported type>"),
+    (Asked::Path("q"), "no variable"),
+    (Asked::Listed(48), "0x00010000"),
+    (Asked::Listed(58), "7"),
+    (Asked::Listed(68), "{a = 3, b = {0, 66 'B', 0, 0}}"),
+];
+
+#[test]
+fn variables_are_printed(rt: HostRuntime) {
+    assert_eq!(rt; first_wrong(rt.alloc(), &COMPILED, &PRINTED), PRINTED.len());
+}
 
 const ABBREV: [u8; 78] = [
     1, 17, 1, 17, 1, 0, 0, 2, 36, 0, 62, 11, 11, 11, 0, 0, 3, 46, 1, 17, 1, 18, 11, 64, 24, 0, 0,
@@ -37,72 +185,40 @@ const LOC: [u8; 39] = [
     48, 0, 0, 0, 0, 0, 0, 0, 0,
 ];
 
-// The offset of a variable and its text.
-const ROWS: [(u32, &str); 19] = [
-    (30, "<optimised out>"),
-    (32, "-2"),
-    (35, "<optimised out>"),
-    (40, "<optimised out>"),
-    (43, "4660"),
-    (48, "40"),
-    (54, "<not recorded>"),
-    (60, "<unsupported expression>"),
-    (64, "<bad expression>"),
-    (70, "<expression too deep>"),
-    (138, "<outside memory>"),
-    (147, "<optimised out>"),
-    (156, "261"),
-    (167, "7"),
-    (173, "<optimised out>"),
-    (179, "<bad expression>"),
-    (185, "<unsupported type>"),
-    (189, "<outside memory>"),
-    (31, "none"),
+const LOCATED: Scene = Scene {
+    info: &INFO,
+    abbrev: &ABBREV,
+    loc: &LOC,
+    address: 110,
+    locals: &[Seen::I32(40)],
+    operands: &[],
+    globals: &[],
+    contents: (44, &[0x34, 0x12]),
+};
+
+const SHOWN: [Row; 19] = [
+    (Asked::Entry(30), "<optimised out>"),
+    (Asked::Entry(32), "-2"),
+    (Asked::Entry(35), "<optimised out>"),
+    (Asked::Entry(40), "<optimised out>"),
+    (Asked::Entry(43), "4660"),
+    (Asked::Entry(48), "40"),
+    (Asked::Entry(54), "<not recorded>"),
+    (Asked::Entry(60), "<unsupported expression>"),
+    (Asked::Entry(64), "<bad expression>"),
+    (Asked::Entry(70), "<expression too deep>"),
+    (Asked::Entry(138), "<outside memory>"),
+    (Asked::Entry(147), "<optimised out>"),
+    (Asked::Entry(156), "261"),
+    (Asked::Entry(167), "7"),
+    (Asked::Entry(173), "<optimised out>"),
+    (Asked::Entry(179), "<bad expression>"),
+    (Asked::Entry(185), "<unsupported type>"),
+    (Asked::Entry(189), "<outside memory>"),
+    (Asked::Entry(31), "no variable"),
 ];
 
-fn memory_of(alloc: Global) -> Result<Memory, Fail> {
-    let mut memory = Memory::new(alloc, 1, 1)?;
-    match memory.write(44, &[0x34, 0x12]) {
-        Ok(()) => Ok(memory),
-        Err(_) => Err("there is room".into()),
-    }
-}
-
-fn is_shown(
-    alloc: Global,
-    units: &Units<'_>,
-    memory: &Memory,
-    row: (u32, &str),
-) -> Result<bool, Fail> {
-    let sections = Sections5::without5(&Sections {
-        info: &INFO,
-        abbrev: &ABBREV,
-        line: &[],
-        str: &[],
-        loc: &LOC,
-        ranges: &[],
-    });
-    let view = FrameView {
-        locals: &[Seen::I32(40)],
-        operands: &[],
-        globals: &[],
-        memory: Some(memory),
-    };
-    let (entry, expected) = row;
-    let frame = Frame::new(alloc, &sections, units, 110, &view)?;
-    match value_at(alloc, &frame, entry)? {
-        Shown::NoVariable => Ok(expected == "none"),
-        Shown::Marked(mark) => Ok(mark.text() == expected),
-        Shown::Text(text) => Ok(text.as_bytes() == expected.as_bytes()),
-    }
-}
-
 #[test]
-fn variables_are_shown(rt: HostRuntime) -> Result<(), Fail> {
-    let units = units_of(&rt, rt.alloc(), &INFO, &ABBREV, &[])?;
-    let memory = memory_of(rt.alloc())?;
-    for row in ROWS {
-        assert!(rt; is_shown(rt.alloc(), &units, &memory, row)?, "{}", row.0);
-    }
-    Ok(())
+fn variables_are_shown(rt: HostRuntime) {
+    assert_eq!(rt; first_wrong(rt.alloc(), &LOCATED, &SHOWN), SHOWN.len());
 }

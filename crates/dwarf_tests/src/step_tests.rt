@@ -1,125 +1,123 @@
 //! Steps from variables, and the variable that a name means. The expected values are from the standard's rules by hand.
 
-use crate::type_tests::{CHAIN, CHAIN_ABBREV};
-use crate::unit_tests::{ABBREV, INFO, units_of};
+use crate::frames::memory_with;
+use crate::reading::{sections4, units4};
+use crate::samples::{ABBREV, CHAIN, CHAIN_ABBREV, INFO, STACK};
 use dwarf_expr::{FrameView, PiecePlace};
-use dwarf_info::{Sections, Sections5, Units};
+use dwarf_info::Units;
 use dwarf_types::type_at;
 use linear_memory::Memory;
 use std::alloc::Global;
-use std::process::Abort;
-use std::test::Fail;
-use var_path::parse_path;
+use var_path::{Path, parse_path};
 use var_steps::{Part, chosen, walk};
-use var_texts::Bits;
 use var_values::{Mark, Source};
 
-// The offset of a type, the address of a value of it, and a path from there.
-type Row = (u32, u32, &'static str);
+// Where a path leads.
+#[derive(Clone, Copy, PartialEq, Eq)]
+enum Reached {
+    // So many bytes behind an address.
+    At(u32, i128),
+    // The same, behind the end of an array.
+    Past(u32, i128),
+    // The number of the first bit, and how many bits.
+    Bits(u64, u64),
+    // A part that has no place.
+    Lost(Mark),
+    // A step does not fit.
+    Unfit(Mark),
+    // Something else.
+    Other,
+}
 
-fn reached<'r, 'a>(
-    alloc: Global,
-    units: &'r Units<'a>,
-    memory: &Memory,
-    row: Row,
-) -> Result<Result<Part<'r, 'a>, Mark>, Fail> {
+// The offset of a type, the address of a value of it, a path from there, and where it leads.
+type Row = (u32, u32, &'static str, Reached);
+
+fn place_of(part: &Part<'_, '_>) -> Reached {
+    let place = part.place();
+    match place.source {
+        Source::Single(PiecePlace::Address(address)) => match place.bits {
+            Some(bits) => Reached::Bits(bits.first, bits.count),
+            None if part.is_past() => Reached::Past(*address, place.offset),
+            None => Reached::At(*address, place.offset),
+        },
+        Source::Lost(mark) => Reached::Lost(*mark),
+        _ => Reached::Other,
+    }
+}
+
+fn walked(units: &Units<'_>, memory: &Option<Memory>, row: &Row, path: &Path<'_>) -> Reached {
     let view = FrameView {
         locals: &[],
         operands: &[],
         globals: &[],
-        memory: Some(memory),
+        memory: memory.as_ref(),
     };
-    let (at, address, path) = row;
-    let path = parse_path(alloc, path)?.ok_or("it is a path")?;
-    let source = Source::Single(PiecePlace::Address(address));
-    let typed = type_at(units, at);
-    let part = walk(units, &view, path.steps.as_slice(), typed, source)?;
-    Ok(part)
-}
-
-/// The address and the offset where a part stands, and whether it is behind the end of an array.
-fn spot_of(part: &Part<'_, '_>) -> Option<(u32, i128, bool)> {
-    let place = part.place();
-    match place.source {
-        Source::Single(PiecePlace::Address(address)) => {
-            Some((*address, place.offset, part.is_past()))
-        }
-        _ => None,
+    let typed = type_at(units, row.0);
+    let source = Source::Single(PiecePlace::Address(row.1));
+    match walk(units, &view, path.steps.as_slice(), typed, source) {
+        Ok(Ok(part)) => place_of(&part),
+        Ok(Err(mark)) => Reached::Unfit(mark),
+        Err(_) => Reached::Other,
     }
 }
 
-/// A page with the bytes at 1000 that the module's frame has there.
-pub(crate) fn frame_memory(alloc: Global) -> Result<Memory, Fail> {
-    let mut memory = Memory::new(alloc, 1, 1)?;
-    match memory.write(1000, &[0, 0, 1, 0, 7, 0, 0, 0, 3, 0, 0, 0, 0, 66, 0, 0]) {
-        Ok(()) => Ok(memory),
-        Err(_) => Err("there is room".into()),
+fn reaches(alloc: Global, units: &Units<'_>, memory: &Option<Memory>, row: &Row) -> bool {
+    match parse_path(alloc, row.2) {
+        Ok(Some(path)) => walked(units, memory, row, &path) == row.3,
+        _ => false,
     }
 }
 
-fn lead_there(
-    rt: &impl Abort,
+fn first_wrong_of(
     alloc: Global,
     units: &Units<'_>,
-    rows: &[(Row, (u32, i128, bool))],
-) -> Result<(), Fail> {
-    let memory = frame_memory(alloc)?;
-    for (row, expected) in rows {
-        match reached(alloc, units, &memory, *row)? {
-            Ok(part) => assert!(rt; spot_of(&part) == Some(*expected), "{}", row.2),
-            Err(_) => return Err("the steps fit".into()),
-        }
-    }
-    Ok(())
-}
-
-fn do_not_fit(
-    rt: &impl Abort,
-    alloc: Global,
-    units: &Units<'_>,
+    memory: &Option<Memory>,
     rows: &[Row],
-    mark: Mark,
-) -> Result<(), Fail> {
-    let memory = frame_memory(alloc)?;
-    for row in rows {
-        match reached(alloc, units, &memory, *row)? {
-            Ok(_) => return Err("a step does not fit".into()),
-            Err(found) => assert!(rt; found == mark, "{}", row.2),
+) -> usize {
+    for (i, row) in rows.iter().enumerate() {
+        if !reaches(alloc, units, memory, row) {
+            return i;
         }
     }
-    Ok(())
+    rows.len()
 }
 
-// A path, the address and the offset of what it names, and whether that is behind the end of an array.
-const PARTS: [(Row, (u32, i128, bool)); 9] = [
-    ((99, 1008, "s"), (1008, 0, false)),
-    ((99, 1008, "s.a"), (1008, 0, false)),
-    ((99, 1008, "s.b"), (1008, 4, false)),
-    ((99, 1008, "s.b[1]"), (1008, 5, false)),
-    ((99, 1008, "s.b[3]"), (1008, 7, false)),
-    ((99, 1008, "s.b[4]"), (1008, 8, true)),
-    ((94, 1000, "*p"), (65_536, 0, false)),
-    ((94, 1000, "p[2]"), (65_544, 0, false)),
-    ((94, 1000, "p[2147483647]"), (65_532, 0, false)),
-];
+/// The number of the first row that leads elsewhere, over the memory of the compiled module; or how many rows there are.
+fn first_wrong(alloc: Global, info: &[u8], abbrev: &[u8], rows: &[Row]) -> usize {
+    let memory = memory_with(alloc, &[STACK]);
+    match units4(alloc, info, abbrev, &[]) {
+        Some(units) => first_wrong_of(alloc, &units, &memory, rows),
+        None => 0,
+    }
+}
 
-const UNFIT: [Row; 9] = [
-    (94, 1000, "p.a"),
-    (94, 1000, "p->a"),
-    (94, 1000, "**p"),
-    (99, 1008, "s->a"),
-    (99, 1008, "s.c"),
-    (99, 1008, "*s"),
-    (99, 1008, "s[0]"),
-    (99, 1008, "*s.b"),
-    (79, 1004, "x[0]"),
+const UNFIT: Reached = Reached::Unfit(Mark::UnsupportedType);
+
+const COMPILED: [Row; 18] = [
+    (99, 1008, "s", Reached::At(1008, 0)),
+    (99, 1008, "s.a", Reached::At(1008, 0)),
+    (99, 1008, "s.b", Reached::At(1008, 4)),
+    (99, 1008, "s.b[1]", Reached::At(1008, 5)),
+    (99, 1008, "s.b[3]", Reached::At(1008, 7)),
+    (99, 1008, "s.b[4]", Reached::Past(1008, 8)),
+    (94, 1000, "*p", Reached::At(65_536, 0)),
+    (94, 1000, "p[2]", Reached::At(65_544, 0)),
+    (94, 1000, "p[2147483647]", Reached::At(65_532, 0)),
+    (94, 1000, "p.a", UNFIT),
+    (94, 1000, "p->a", UNFIT),
+    (94, 1000, "**p", UNFIT),
+    (99, 1008, "s->a", UNFIT),
+    (99, 1008, "s.c", UNFIT),
+    (99, 1008, "*s", UNFIT),
+    (99, 1008, "s[0]", UNFIT),
+    (99, 1008, "*s.b", UNFIT),
+    (79, 1004, "x[0]", UNFIT),
 ];
 
 #[test]
-fn steps_in_a_compiled_module(rt: HostRuntime) -> Result<(), Fail> {
-    let units = units_of(&rt, rt.alloc(), &INFO, &ABBREV, &[])?;
-    lead_there(&rt, rt.alloc(), &units, &PARTS)?;
-    do_not_fit(&rt, rt.alloc(), &units, &UNFIT, Mark::UnsupportedType)
+fn steps_in_a_compiled_module(rt: HostRuntime) {
+    let wrong = first_wrong(rt.alloc(), &INFO, &ABBREV, &COMPILED);
+    assert_eq!(rt; wrong, COMPILED.len());
 }
 
 const SHAPES_ABBREV: [u8; 109] = [
@@ -139,88 +137,65 @@ const SHAPES: [u8; 82] = [
     67, 8, 2, 0, 0,
 ];
 
-const SHAPED: [(Row, (u32, i128, bool)); 19] = [
-    ((15, 1000, "s.m"), (1000, -4, false)),
+const SHAPED: [Row; 30] = [
+    (15, 1000, "s.m", Reached::At(1000, -4)),
     (
-        (15, 1000, "s.n[1]"),
-        (1000, 18_446_744_073_709_551_631, false),
+        15,
+        1000,
+        "s.n[1]",
+        Reached::At(1000, 18_446_744_073_709_551_631),
     ),
-    ((15, 1000, "s.n[0].n[0].m"), (1000, 28, false)),
+    (15, 1000, "s.n[0].n[0].m", Reached::At(1000, 28)),
     (
-        (15, 1000, "s.n[2147483647].m"),
-        (1000, 39_614_081_238_685_424_720_914_939_917, false),
+        15,
+        1000,
+        "s.n[2147483647].m",
+        Reached::At(1000, 39_614_081_238_685_424_720_914_939_917),
     ),
-    ((15, 1000, "s.t.m"), (1000, -4, false)),
-    ((63, 1000, "t.t.n"), (1000, 16, false)),
-    ((56, 1000, "a[1]"), (1000, 12, false)),
-    ((56, 1000, "a[2]"), (1000, 24, true)),
-    ((56, 1000, "a[1][2]"), (1000, 20, false)),
-    ((56, 1000, "a[0][3]"), (1000, 12, true)),
-    ((56, 1000, "a[2][0]"), (1000, 24, true)),
-    ((65, 1000, "r->m"), (65_536, -4, false)),
-    ((65, 1000, "(*r).m"), (65_536, -4, false)),
-    ((67, 1000, "p[1].m"), (65_535, -4, false)),
-    ((69, 1000, "v->m"), (65_536, -4, false)),
-    ((71, 1000, "p[1]"), (65_560, 0, false)),
-    ((71, 1000, "(*p)[1][1]"), (65_536, 16, false)),
-    ((74, 1000, "r->m"), (65_536, -4, false)),
-    ((76, 1000, "q[1]->m"), (7, -4, false)),
+    (15, 1000, "s.t.m", Reached::At(1000, -4)),
+    (63, 1000, "t.t.n", Reached::At(1000, 16)),
+    (56, 1000, "a[1]", Reached::At(1000, 12)),
+    (56, 1000, "a[2]", Reached::Past(1000, 24)),
+    (56, 1000, "a[1][2]", Reached::At(1000, 20)),
+    (56, 1000, "a[0][3]", Reached::Past(1000, 12)),
+    (56, 1000, "a[2][0]", Reached::Past(1000, 24)),
+    (65, 1000, "r->m", Reached::At(65_536, -4)),
+    (65, 1000, "(*r).m", Reached::At(65_536, -4)),
+    (67, 1000, "p[1].m", Reached::At(65_535, -4)),
+    (69, 1000, "v->m", Reached::At(65_536, -4)),
+    (71, 1000, "p[1]", Reached::At(65_560, 0)),
+    (71, 1000, "(*p)[1][1]", Reached::At(65_536, 16)),
+    (74, 1000, "r->m", Reached::At(65_536, -4)),
+    (76, 1000, "q[1]->m", Reached::At(7, -4)),
+    (15, 1000, "s.o", UNFIT),
+    (15, 1000, "s.b.m", UNFIT),
+    (15, 1000, "s.b[0]", UNFIT),
+    (15, 1000, "*s.b", UNFIT),
+    (56, 1000, "a[0][0][0]", UNFIT),
+    (65, 1000, "r[0]", UNFIT),
+    (65, 1000, "r.m", UNFIT),
+    (73, 1000, "p[0]", UNFIT),
+    (15, 1000, "s.b", Reached::Bits(5, 3)),
+    (76, 1000, "q[2]->m", Reached::Lost(Mark::OutsideArray)),
+    (67, 65_533, "p->m", Reached::Lost(Mark::OutsideMemory)),
 ];
 
-const MISSHAPED: [Row; 8] = [
-    (15, 1000, "s.o"),
-    (15, 1000, "s.b.m"),
-    (15, 1000, "s.b[0]"),
-    (15, 1000, "*s.b"),
-    (56, 1000, "a[0][0][0]"),
-    (65, 1000, "r[0]"),
-    (65, 1000, "r.m"),
-    (73, 1000, "p[0]"),
+#[test]
+fn steps_by_all_shapes_of_types(rt: HostRuntime) {
+    let wrong = first_wrong(rt.alloc(), &SHAPES, &SHAPES_ABBREV, &SHAPED);
+    assert_eq!(rt; wrong, SHAPED.len());
+}
+
+// A step meets 16 entries.
+const CHAINED: [Row; 2] = [
+    (12, 0, "x[0]", Reached::Unfit(Mark::TypeTooDeep)),
+    (14, 0, "x[0]", UNFIT),
 ];
 
 #[test]
-fn steps_by_all_shapes_of_types(rt: HostRuntime) -> Result<(), Fail> {
-    let units = units_of(&rt, rt.alloc(), &SHAPES, &SHAPES_ABBREV, &[])?;
-    lead_there(&rt, rt.alloc(), &units, &SHAPED)?;
-    do_not_fit(&rt, rt.alloc(), &units, &MISSHAPED, Mark::UnsupportedType)
-}
-
-#[test]
-fn bits_and_lost_addresses_are_kept(rt: HostRuntime) -> Result<(), Fail> {
-    let memory = frame_memory(rt.alloc())?;
-    let units = units_of(&rt, rt.alloc(), &SHAPES, &SHAPES_ABBREV, &[])?;
-    let Ok(bits) = reached(rt.alloc(), &units, &memory, (15, 1000, "s.b"))? else {
-        return Err("the step fits".into());
-    };
-    assert!(rt; bits.place().bits == Some(Bits { first: 5, count: 3 }));
-    let Ok(past) = reached(rt.alloc(), &units, &memory, (76, 1000, "q[2]->m"))? else {
-        return Err("the steps fit".into());
-    };
-    assert!(rt; matches!(past.place().source, Source::Lost(Mark::OutsideArray)));
-    let Ok(outside) = reached(rt.alloc(), &units, &memory, (67, 65_533, "p->m"))? else {
-        return Err("the steps fit".into());
-    };
-    assert!(rt; matches!(outside.place().source, Source::Lost(Mark::OutsideMemory)));
-    Ok(())
-}
-
-#[test]
-fn a_step_meets_sixteen_entries(rt: HostRuntime) -> Result<(), Fail> {
-    let units = units_of(&rt, rt.alloc(), &CHAIN, &CHAIN_ABBREV, &[])?;
-    do_not_fit(
-        &rt,
-        rt.alloc(),
-        &units,
-        &[(12, 0, "x[0]")],
-        Mark::TypeTooDeep,
-    )?;
-    do_not_fit(
-        &rt,
-        rt.alloc(),
-        &units,
-        &[(14, 0, "x[0]")],
-        Mark::UnsupportedType,
-    )
+fn a_step_meets_sixteen_entries(rt: HostRuntime) {
+    let wrong = first_wrong(rt.alloc(), &CHAIN, &CHAIN_ABBREV, &CHAINED);
+    assert_eq!(rt; wrong, CHAINED.len());
 }
 
 const NAMES_ABBREV: [u8; 31] = [
@@ -236,7 +211,9 @@ const NAMES: [u8; 48] = [
 ];
 
 // An address, a name, and the offset of the entry of the variable that it means.
-const MEANT: [(u32, &[u8], Option<u32>); 9] = [
+type MeantRow = (u32, &'static [u8], Option<u32>);
+
+const MEANT: [MeantRow; 9] = [
     (13, b"x", Some(36)),
     (13, b"y", Some(27)),
     (20, b"x", Some(24)),
@@ -248,24 +225,30 @@ const MEANT: [(u32, &[u8], Option<u32>); 9] = [
     (9, b"x", None),
 ];
 
-#[test]
-fn names_mean_variables(rt: HostRuntime) -> Result<(), Fail> {
-    let units = units_of(&rt, rt.alloc(), &NAMES, &NAMES_ABBREV, &[])?;
-    let sections = Sections5::without5(&Sections {
-        info: &NAMES,
-        abbrev: &NAMES_ABBREV,
-        line: &[],
-        str: &[],
-        loc: &[],
-        ranges: &[],
-    });
-    for (address, name, expected) in MEANT {
-        let variable = chosen(rt.alloc(), &sections, &units, address, name)?;
-        let found = match variable {
-            Some(standing) => Some(standing.entry().at),
-            None => None,
-        };
-        assert!(rt; found == expected, "{address}");
+fn is_meant(alloc: Global, units: &Units<'_>, row: &MeantRow) -> bool {
+    let sections = sections4(&NAMES, &NAMES_ABBREV, &[], &[]);
+    match chosen(alloc, &sections, units, row.0, row.1) {
+        Ok(Some(standing)) => row.2 == Some(standing.entry().at),
+        Ok(None) => row.2.is_none(),
+        Err(_) => false,
     }
-    Ok(())
+}
+
+/// The number of the first row that means something else, or how many rows there are.
+fn first_other_meant(alloc: Global, units: &Option<Units<'_>>) -> usize {
+    let Some(units) = units else {
+        return 0;
+    };
+    for (i, row) in MEANT.iter().enumerate() {
+        if !is_meant(alloc, units, row) {
+            return i;
+        }
+    }
+    MEANT.len()
+}
+
+#[test]
+fn names_mean_variables(rt: HostRuntime) {
+    let wrong = first_other_meant(rt.alloc(), &units4(rt.alloc(), &NAMES, &NAMES_ABBREV, &[]));
+    assert_eq!(rt; wrong, MEANT.len());
 }

@@ -1,15 +1,14 @@
 //! Texts of values by types of each class, and the marks in them. The expected texts are from the standard's rules by hand.
 
-use crate::unit_tests::units_of;
-use dwarf_expr::{FrameView, PiecePlace};
+use crate::frames::{Origin, memory_with, source_of};
+use crate::reading::units4;
+use dwarf_expr::FrameView;
 use dwarf_info::Units;
 use dwarf_types::type_at;
 use linear_memory::Memory;
 use pm_text::Text;
 use std::alloc::Global;
-use std::test::Fail;
 use var_texts::{Place, push_value};
-use var_values::{Mark, Source};
 
 const ABBREV: [u8; 180] = [
     1, 17, 1, 0, 0, 2, 36, 0, 62, 11, 11, 11, 0, 0, 3, 19, 1, 11, 11, 0, 0, 4, 13, 0, 3, 8, 73, 17,
@@ -39,124 +38,130 @@ const INFO: [u8; 210] = [
     106, 0, 18, 12, 0, 0,
 ];
 
-const VALUE: u32 = 0;
+// The offset of a type, where a value comes from, and its text.
+type Row = (u32, Origin, &'static str);
 
-const ADDRESS: u32 = 1;
-
-const LOST: u32 = 2;
-
-// The offset of a type, a source, its number, and the text.
-const ROWS: [(u32, u32, u64, &str); 26] = [
+const ROWS: [Row; 26] = [
     (
         27,
-        VALUE,
-        0xe0,
+        Origin::Number(0xe0),
         "{a = -1, b = <optimised out>, c = <unsupported type>, d = <unsupported type>, e = <unsupported type>, f = <unsupported type>, g = 0}",
     ),
     (
         27,
-        ADDRESS,
-        65_536,
+        Origin::Address(65_536),
         "{a = <outside memory>, b = 5, c = <unsupported type>, d = <unsupported type>, e = <unsupported type>, f = <unsupported type>, g = 0}",
     ),
-    (27, LOST, 0, "<bad expression>"),
-    (68, VALUE, 0xfffe_0003_0002_00ff, "{{255, 2}, {3, -2}}"),
-    (75, VALUE, 0, "<unsupported type>"),
-    (78, VALUE, 0, "{}"),
-    (83, ADDRESS, 0, "<unsupported type>"),
-    (100, VALUE, 0, "{{}, {}}"),
-    (112, VALUE, 0x1ff, "neg"),
-    (112, VALUE, 2, "two"),
-    (112, VALUE, 254, "254"),
-    (127, VALUE, 254, "-2"),
-    (127, VALUE, 2, "two"),
-    (137, VALUE, 2, "<unsupported type>"),
-    (139, ADDRESS, 16, "{w = 0xaffeeddccbbaa9988776655443322110}"),
-    (139, VALUE, 0, "<unsupported type>"),
-    (149, VALUE, 65_536, "0x00010000"),
-    (151, VALUE, 5, "{next = 0x00000005, p = <unsupported type>}"),
+    (27, Origin::BadExpression, "<bad expression>"),
+    (
+        68,
+        Origin::Number(0xfffe_0003_0002_00ff),
+        "{{255, 2}, {3, -2}}",
+    ),
+    (75, Origin::Number(0), "<unsupported type>"),
+    (78, Origin::Number(0), "{}"),
+    (83, Origin::Address(0), "<unsupported type>"),
+    (100, Origin::Number(0), "{{}, {}}"),
+    (112, Origin::Number(0x1ff), "neg"),
+    (112, Origin::Number(2), "two"),
+    (112, Origin::Number(254), "254"),
+    (127, Origin::Number(254), "-2"),
+    (127, Origin::Number(2), "two"),
+    (137, Origin::Number(2), "<unsupported type>"),
+    (
+        139,
+        Origin::Address(16),
+        "{w = 0xaffeeddccbbaa9988776655443322110}",
+    ),
+    (139, Origin::Number(0), "<unsupported type>"),
+    (149, Origin::Number(65_536), "0x00010000"),
+    (
+        151,
+        Origin::Number(5),
+        "{next = 0x00000005, p = <unsupported type>}",
+    ),
     (
         168,
-        VALUE,
-        0,
+        Origin::Number(0),
         "{r = {r = {r = {r = {r = {r = {r = {r = {r = {r = {r = {r = {r = {r = {r = {r = <type too deep>}}}}}}}}}}}}}}}}",
     ),
-    (175, VALUE, 0xfffe_0001, "{i = -131071, s = -2}"),
+    (175, Origin::Number(0xfffe_0001), "{i = -131071, s = -2}"),
     (
         187,
-        ADDRESS,
-        65_532,
+        Origin::Address(65_532),
         "{5, <outside memory>, <outside memory>}",
     ),
-    (192, VALUE, 0, "{}"),
-    (195, VALUE, 0, "<unsupported type>"),
-    (196, VALUE, 0, "<unsupported type>"),
-    (196, ADDRESS, 65_528, "{i = 0, j = <outside memory>}"),
+    (192, Origin::Number(0), "{}"),
+    (195, Origin::Number(0), "<unsupported type>"),
+    (196, Origin::Number(0), "<unsupported type>"),
+    (
+        196,
+        Origin::Address(65_528),
+        "{i = 0, j = <outside memory>}",
+    ),
     (
         107,
-        ADDRESS,
-        32,
+        Origin::Address(32),
         "{10, 0, 0, 0, 0, 0, 0, 0, 0, 0, 0, 0, 0, 0, 0, 0, 0, 0, 0, 0, 0, 0, 0, 0, 0, 0, 0, 0, 0, 0, 0, 0, 0, 0, 0, 0, 0, 0, 0, 0, 0, 0, 0, 0, 0, 0, 0, 0, 0, 0, 0, 0, 0, 0, 0, 0, 0, 0, 0, 0, 0, 0, 0, 0, ...}",
     ),
 ];
 
-/// A page with 17 bytes at 16 and a number at its end.
-fn memory_of(alloc: Global) -> Result<Memory, Fail> {
-    let mut memory = Memory::new(alloc, 1, 1)?;
-    let bytes = [
-        0x00, 0x11, 0x22, 0x33, 0x44, 0x55, 0x66, 0x77, 0x88, 0x99, 0xaa, 0xbb, 0xcc, 0xdd, 0xee,
-        0xff, 0x0a,
-    ];
-    match memory.write(16, &bytes) {
-        Ok(()) => {}
-        Err(_) => return Err("there is room".into()),
-    }
-    match memory.write(65_532, &[5]) {
-        Ok(()) => Ok(memory),
-        Err(_) => Err("there is room".into()),
-    }
-}
+// 17 bytes at 16, and a number at the end of the page.
+const CONTENTS: [(u64, &[u8]); 2] = [
+    (
+        16,
+        &[
+            0x00, 0x11, 0x22, 0x33, 0x44, 0x55, 0x66, 0x77, 0x88, 0x99, 0xaa, 0xbb, 0xcc, 0xdd,
+            0xee, 0xff, 0x0a,
+        ],
+    ),
+    (65_532, &[5]),
+];
 
-fn source_of(source: u32, number: u64) -> Source {
-    match source {
-        VALUE => Source::Single(PiecePlace::Value(number)),
-        ADDRESS => Source::Single(PiecePlace::Address((number % 0x1_0000_0000) as u32)),
-        _ => Source::Lost(Mark::BadExpression),
-    }
-}
-
-fn has_text(
-    alloc: Global,
-    units: &Units<'_>,
-    memory: &Memory,
-    row: (u32, u32, u64, &str),
-) -> Result<bool, Fail> {
-    let (at, source, number, expected) = row;
+fn has_text(alloc: Global, units: &Units<'_>, memory: &Option<Memory>, row: &Row) -> bool {
     let view = FrameView {
         locals: &[],
         operands: &[],
         globals: &[],
-        memory: Some(memory),
+        memory: memory.as_ref(),
     };
-    let source = source_of(source, number);
+    let source = source_of(row.1);
     let place = Place {
         source: &source,
         offset: 0,
         bits: None,
     };
     let mut text = Text::new(alloc);
-    match push_value(alloc, &mut text, units, &view, &type_at(units, at), &place)? {
-        Some(mark) => Ok(text.as_bytes().is_empty() && mark.text() == expected),
-        None => Ok(text.as_bytes() == expected.as_bytes()),
+    match push_value(
+        alloc,
+        &mut text,
+        units,
+        &view,
+        &type_at(units, row.0),
+        &place,
+    ) {
+        Ok(Some(mark)) => text.is_empty() && mark.text() == row.2,
+        Ok(None) => text.as_str() == row.2,
+        Err(_) => false,
     }
 }
 
-#[test]
-fn values_have_texts(rt: HostRuntime) -> Result<(), Fail> {
-    let units = units_of(&rt, rt.alloc(), &INFO, &ABBREV, &[])?;
-    let memory = memory_of(rt.alloc())?;
-    for row in ROWS {
-        assert!(rt; has_text(rt.alloc(), &units, &memory, row)?, "{}", row.0);
+/// The number of the first row with another text, or how many rows there are.
+fn first_wrong(alloc: Global, units: &Option<Units<'_>>) -> usize {
+    let Some(units) = units else {
+        return 0;
+    };
+    let memory = memory_with(alloc, &CONTENTS);
+    for (i, row) in ROWS.iter().enumerate() {
+        if !has_text(alloc, units, &memory, row) {
+            return i;
+        }
     }
-    Ok(())
+    ROWS.len()
+}
+
+#[test]
+fn values_have_texts(rt: HostRuntime) {
+    let wrong = first_wrong(rt.alloc(), &units4(rt.alloc(), &INFO, &ABBREV, &[]));
+    assert_eq!(rt; wrong, ROWS.len());
 }

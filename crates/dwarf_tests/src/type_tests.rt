@@ -1,12 +1,15 @@
 //! Kinds and sizes of types: those of a compiled module, chains of other names, and arrays by their counts. The expected values are
 //! from the standard's rules by hand.
 
-use crate::unit_tests::{ABBREV, INFO, units_of};
+use crate::reading::units4;
+use crate::samples::{ABBREV, CHAIN, CHAIN_ABBREV, INFO};
+use dwarf_info::Units;
 use dwarf_types::{Kind, kind_of, size_of};
-use std::test::Fail;
 
 // An offset, the kind of the type there, and its size.
-const COMPILED: [(u32, Kind, Option<u64>); 6] = [
+type Row = (u32, Kind, Option<u64>);
+
+const COMPILED: [Row; 6] = [
     (79, Kind::Base { encoding: 5 }, Some(4)),
     (86, Kind::Base { encoding: 6 }, Some(1)),
     (94, Kind::Pointer { to: Some(79) }, Some(4)),
@@ -22,36 +25,35 @@ const COMPILED: [(u32, Kind, Option<u64>); 6] = [
     (96, Kind::Unsupported, None),
 ];
 
-#[test]
-fn types_of_a_module_are_known(rt: HostRuntime) -> Result<(), Fail> {
-    let units = units_of(&rt, rt.alloc(), &INFO, &ABBREV, &[])?;
-    for (at, kind, size) in COMPILED {
-        assert!(rt;
-            kind_of(&units, at) == kind && size_of(&units, at) == size,
-            "{at}"
-        );
+// The first of 17 entries and the second.
+const CHAINED: [Row; 2] = [
+    (12, Kind::TooDeep, None),
+    (14, Kind::Base { encoding: 5 }, Some(4)),
+];
+
+/// The number of the first row with another kind or size, or how many rows there are.
+fn first_other_type(units: &Option<Units<'_>>, rows: &[Row]) -> usize {
+    let Some(units) = units else {
+        return 0;
+    };
+    for (i, (at, kind, size)) in rows.iter().enumerate() {
+        if kind_of(units, *at) != *kind || size_of(units, *at) != *size {
+            return i;
+        }
     }
-    Ok(())
+    rows.len()
 }
 
-pub(crate) const CHAIN_ABBREV: [u8; 22] = [
-    1, 17, 1, 0, 0, 2, 36, 0, 62, 11, 11, 11, 0, 0, 3, 22, 0, 73, 17, 0, 0, 0,
-];
-
-// 16 typedefs from offset 12 on, each of the next one, and `int` behind them.
-pub(crate) const CHAIN: [u8; 48] = [
-    44, 0, 0, 0, 4, 0, 0, 0, 0, 0, 4, 1, 3, 14, 3, 16, 3, 18, 3, 20, 3, 22, 3, 24, 3, 26, 3, 28, 3,
-    30, 3, 32, 3, 34, 3, 36, 3, 38, 3, 40, 3, 42, 3, 44, 2, 5, 4, 0,
-];
+#[test]
+fn types_of_a_module_are_known(rt: HostRuntime) {
+    let wrong = first_other_type(&units4(rt.alloc(), &INFO, &ABBREV, &[]), &COMPILED);
+    assert_eq!(rt; wrong, COMPILED.len());
+}
 
 #[test]
-fn chains_have_sixteen_entries(rt: HostRuntime) -> Result<(), Fail> {
-    let units = units_of(&rt, rt.alloc(), &CHAIN, &CHAIN_ABBREV, &[])?;
-    assert!(rt; kind_of(&units, 12) == Kind::TooDeep && size_of(&units, 12).is_none());
-    assert!(rt;
-        kind_of(&units, 14) == (Kind::Base { encoding: 5 }) && size_of(&units, 14) == Some(4)
-    );
-    Ok(())
+fn chains_have_sixteen_entries(rt: HostRuntime) {
+    let wrong = first_other_type(&units4(rt.alloc(), &CHAIN, &CHAIN_ABBREV, &[]), &CHAINED);
+    assert_eq!(rt; wrong, CHAINED.len());
 }
 
 const ARRAY_ABBREV: [u8; 60] = [
@@ -87,11 +89,21 @@ const SIZES: [(u32, Option<u64>); 14] = [
     (116, None),
 ];
 
-#[test]
-fn sizes_are_products(rt: HostRuntime) -> Result<(), Fail> {
-    let units = units_of(&rt, rt.alloc(), &ARRAYS, &ARRAY_ABBREV, &[])?;
-    for (at, size) in SIZES {
-        assert!(rt; size_of(&units, at) == size, "{at}");
+/// The number of the first row with another size, or how many rows there are.
+fn first_other_size(units: &Option<Units<'_>>) -> usize {
+    let Some(units) = units else {
+        return 0;
+    };
+    for (i, (at, size)) in SIZES.iter().enumerate() {
+        if size_of(units, *at) != *size {
+            return i;
+        }
     }
-    Ok(())
+    SIZES.len()
+}
+
+#[test]
+fn sizes_are_products(rt: HostRuntime) {
+    let wrong = first_other_size(&units4(rt.alloc(), &ARRAYS, &ARRAY_ABBREV, &[]));
+    assert_eq!(rt; wrong, SIZES.len());
 }

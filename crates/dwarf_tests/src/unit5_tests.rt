@@ -1,56 +1,9 @@
 //! Units by hand and the unit of a compiled module, with what another reader finds in them.
 
-use crate::seen::{has, is_entry, seen};
-use dwarf_info::{Entry, Sections, Sections5, Unit, UnitAnswer, Units};
-use dwarf5_info::read_units5;
-use std::alloc::Global;
-use std::process::Abort;
-use std::test::Fail;
-
-const LINE_TEXTS: [u8; 5] = [0x61, 0x00, 0x62, 0x63, 0x00];
+use crate::reading::{EntryRow, Sample, is_read5, is_unreadable5};
+use crate::samples::{ABBREV as COMPILED_ABBREV, NAMED};
 
 const TEXTS: [u8; 5] = [0x78, 0x00, 0x79, 0x7A, 0x00];
-
-const TEXT_OFFSETS: [u8; 10] = [0x00, 0x00, 0x02, 0x00, 0x00, 0x00, 0x00, 0x00, 0x00, 0x00];
-
-const ADDRESSES: [u8; 9] = [0x00, 0x07, 0x00, 0x00, 0x00, 0x09, 0x00, 0x00, 0x00];
-
-const LOCATION_LISTS: [u8; 11] = [
-    0x00, 0x00, 0x00, 0x14, 0x00, 0x00, 0x00, 0x1E, 0x00, 0x00, 0x00,
-];
-
-const RANGE_LISTS: [u8; 12] = [
-    0x00, 0x00, 0x00, 0x00, 0x28, 0x00, 0x00, 0x00, 0x32, 0x00, 0x00, 0x00,
-];
-
-/// The units of these sections, each of which is short, beside the texts and tables above.
-fn units_of<'a>(
-    rt: &impl Abort,
-    alloc: Global,
-    info: &'a [u8],
-    abbrev: &'a [u8],
-) -> Result<Units<'a>, Fail> {
-    assert!(rt; info.len() <= 1000 && abbrev.len() <= 1000);
-    let sections = Sections5 {
-        base: Sections {
-            info,
-            abbrev,
-            line: &[],
-            str: &TEXTS,
-            loc: &[],
-            ranges: &[],
-        },
-        line_str: &LINE_TEXTS,
-        str_offsets: &TEXT_OFFSETS,
-        addr: &ADDRESSES,
-        loclists: &LOCATION_LISTS,
-        rnglists: &RANGE_LISTS,
-    };
-    match read_units5(alloc, &sections) {
-        Ok(units) => Ok(units),
-        Err(_) => Err("there is memory".into()),
-    }
-}
 
 // An entry with each form of an index, in front of the bases, and a child with two of them.
 const INFO: [u8; 57] = [
@@ -66,92 +19,148 @@ const ABBREV: [u8; 48] = [
     0x17, 0x8C, 0x01, 0x17, 0x00, 0x00, 0x02, 0x34, 0x00, 0x03, 0x25, 0x02, 0x22, 0x00, 0x00, 0x00,
 ];
 
-const ROOT: [(u32, u64); 16] = [
-    (5, 0x78),
-    (1, 7),
-    (8, 33),
-    (8, 44),
-    (5, 0x79),
-    (5, 0x78),
-    (5, 0x79),
-    (5, 0x78),
-    (1, 9),
-    (1, 7),
-    (1, 9),
-    (1, 7),
-    (8, 2),
-    (8, 1),
-    (8, 4),
-    (8, 3),
+const INDEXED: [EntryRow<'static>; 2] = [
+    (
+        12,
+        0,
+        0x11,
+        &[
+            (5, 0x78),
+            (1, 7),
+            (8, 33),
+            (8, 44),
+            (5, 0x797A),
+            (5, 0x78),
+            (5, 0x797A),
+            (5, 0x78),
+            (1, 9),
+            (1, 7),
+            (1, 9),
+            (1, 7),
+            (8, 2),
+            (8, 1),
+            (8, 4),
+            (8, 3),
+        ],
+    ),
+    (53, 1, 0x34, &[(5, 0x797A), (8, 33)]),
 ];
 
-#[test]
-fn indices_are_looked_up(rt: HostRuntime) -> Result<(), Fail> {
-    let units = units_of(&rt, rt.alloc(), &INFO, &ABBREV)?;
-    let [answer] = units.as_slice() else {
-        return Err("there is one unit".into());
-    };
-    let UnitAnswer::Tree(unit) = answer else {
-        return Err("it is read".into());
-    };
-    let [root, child] = unit.entries.as_slice() else {
-        return Err("there are two entries".into());
-    };
-    assert!(rt; unit.version == 5 && root.at == 12 && has(root, &ROOT));
-    assert!(rt; child.at == 53 && child.depth == 1 && has(child, &[(5, 0x79), (8, 33)]));
-    Ok(())
-}
+// The unit of a compiled module, with references from the section of version 5.
+const COMPILED: [u8; 130] = [
+    0x7E, 0x00, 0x00, 0x00, 0x05, 0x00, 0x01, 0x04, 0x00, 0x00, 0x00, 0x00, 0x01, 0x74, 0x2E, 0x63,
+    0x00, 0x00, 0x00, 0x00, 0x00, 0x02, 0x00, 0x00, 0x00, 0x2F, 0x00, 0x00, 0x00, 0x02, 0x66, 0x00,
+    0x02, 0x00, 0x00, 0x00, 0x2F, 0x00, 0x00, 0x00, 0x04, 0xED, 0x00, 0x02, 0x9F, 0x50, 0x00, 0x00,
+    0x00, 0x03, 0x70, 0x00, 0x02, 0x91, 0x08, 0x5F, 0x00, 0x00, 0x00, 0x04, 0x78, 0x00, 0x02, 0x91,
+    0x0C, 0x50, 0x00, 0x00, 0x00, 0x04, 0x73, 0x00, 0x02, 0x91, 0x10, 0x64, 0x00, 0x00, 0x00, 0x00,
+    0x05, 0x69, 0x6E, 0x74, 0x00, 0x05, 0x04, 0x05, 0x63, 0x68, 0x61, 0x72, 0x00, 0x06, 0x01, 0x06,
+    0x50, 0x00, 0x00, 0x00, 0x07, 0x53, 0x00, 0x08, 0x08, 0x61, 0x00, 0x50, 0x00, 0x00, 0x00, 0x00,
+    0x08, 0x62, 0x00, 0x79, 0x00, 0x00, 0x00, 0x04, 0x00, 0x09, 0x57, 0x00, 0x00, 0x00, 0x0A, 0x04,
+    0x00, 0x00,
+];
 
-// The unit, its abbreviations, and the attributes of its only entry: an implicit value; data16 and line_strp; a partial unit.
-const SMALL: [(&[u8], &[u8], &[(u32, u64)]); 3] = [
+const ENTRIES: [EntryRow<'static>; 13] = [
+    (12, 0, 0x11, &[(5, 0x74_2E63), (8, 0), (1, 2), (2, 47)]),
     (
-        &[
+        29,
+        1,
+        0x2E,
+        &[(5, 0x66), (1, 2), (2, 47), (4, 0xED00_029F), (7, 80)],
+    ),
+    (49, 2, 0x05, &[(5, 0x70), (4, 0x9108), (7, 95)]),
+    (59, 2, 0x34, &[(5, 0x78), (4, 0x910C), (7, 80)]),
+    (69, 2, 0x34, &[(5, 0x73), (4, 0x9110), (7, 100)]),
+    (80, 1, 0x24, &[(5, 0x69_6E74), (2, 5), (2, 4)]),
+    (87, 1, 0x24, &[(5, 0x6368_6172), (2, 6), (2, 1)]),
+    (95, 1, 0x0F, &[(7, 80)]),
+    (100, 1, 0x13, &[(5, 0x53), (2, 8)]),
+    (104, 2, 0x0D, &[(5, 0x61), (7, 80), (2, 0)]),
+    (112, 2, 0x0D, &[(5, 0x62), (7, 121), (2, 4)]),
+    (121, 1, 0x01, &[(7, 87)]),
+    (126, 2, 0x21, &[(2, 4)]),
+];
+
+// A unit of version 5, and behind it one of version 4.
+const MIXED: [u8; 29] = [
+    0x0B, 0x00, 0x00, 0x00, 0x05, 0x00, 0x01, 0x04, 0x00, 0x00, 0x00, 0x00, 0x01, 0x61, 0x00, 0x0A,
+    0x00, 0x00, 0x00, 0x04, 0x00, 0x00, 0x00, 0x00, 0x00, 0x04, 0x01, 0x62, 0x00,
+];
+
+// The entry of the first one.
+const FIRST: &[EntryRow<'static>] = &[(12, 0, 0x11, &[(5, 0x61)])];
+
+const SAMPLES: [Sample<'static>; 6] = [
+    // Indices are looked up.
+    Sample {
+        info: &INFO,
+        abbrev: &ABBREV,
+        str: &TEXTS,
+        units: &[(0, Some(5))],
+        entries: &INDEXED,
+    },
+    // An implicit value.
+    Sample {
+        info: &[
             0x0B, 0x00, 0x00, 0x00, 0x05, 0x00, 0x01, 0x04, 0x00, 0x00, 0x00, 0x00, 0x01, 0x61,
             0x00,
         ],
-        &[
+        abbrev: &[
             0x01, 0x11, 0x00, 0x0B, 0x21, 0x7F, 0x03, 0x08, 0x00, 0x00, 0x00,
         ],
-        &[(3, 0xFFFF_FFFF_FFFF_FFFF), (5, 0x61)],
-    ),
-    (
-        &[
+        str: &[],
+        units: &[(0, Some(5))],
+        entries: &[(12, 0, 0x11, &[(3, 0xFFFF_FFFF_FFFF_FFFF), (5, 0x61)])],
+    },
+    // data16 and line_strp.
+    Sample {
+        info: &[
             0x1D, 0x00, 0x00, 0x00, 0x05, 0x00, 0x01, 0x04, 0x00, 0x00, 0x00, 0x00, 0x01, 0x00,
             0x00, 0x00, 0x00, 0x00, 0x00, 0x00, 0x00, 0x00, 0x00, 0x00, 0x00, 0x00, 0x00, 0x00,
             0x00, 0x02, 0x00, 0x00, 0x00,
         ],
-        &[0x01, 0x11, 0x00, 0x0B, 0x1E, 0x03, 0x1F, 0x00, 0x00, 0x00],
-        &[(9, 0), (5, 0x62)],
-    ),
-    (
-        &[
+        abbrev: &[0x01, 0x11, 0x00, 0x0B, 0x1E, 0x03, 0x1F, 0x00, 0x00, 0x00],
+        str: &[],
+        units: &[(0, Some(5))],
+        entries: &[(12, 0, 0x11, &[(9, 0), (5, 0x6263)])],
+    },
+    // A partial unit.
+    Sample {
+        info: &[
             0x0B, 0x00, 0x00, 0x00, 0x05, 0x00, 0x03, 0x04, 0x00, 0x00, 0x00, 0x00, 0x01, 0x61,
             0x00,
         ],
-        &[0x01, 0x11, 0x00, 0x03, 0x08, 0x00, 0x00, 0x00],
-        &[(5, 0x61)],
-    ),
+        abbrev: &[0x01, 0x11, 0x00, 0x03, 0x08, 0x00, 0x00, 0x00],
+        str: &[],
+        units: &[(0, Some(5))],
+        entries: &[(12, 0, 0x11, &[(5, 0x61)])],
+    },
+    // The compiled module.
+    Sample {
+        info: &COMPILED,
+        abbrev: &COMPILED_ABBREV,
+        str: &[],
+        units: &[(0, Some(5))],
+        entries: &ENTRIES,
+    },
+    // Versions are mixed.
+    Sample {
+        info: &MIXED,
+        abbrev: &NAMED,
+        str: &[],
+        units: &[(0, Some(5)), (15, Some(4))],
+        entries: FIRST,
+    },
 ];
 
 #[test]
-fn small_units_are_read(rt: HostRuntime) -> Result<(), Fail> {
-    for (info, abbrev, rows) in SMALL {
-        let units = units_of(&rt, rt.alloc(), info, abbrev)?;
-        let [answer] = units.as_slice() else {
-            return Err("there is one unit".into());
-        };
-        let UnitAnswer::Tree(unit) = answer else {
-            return Err("it is read".into());
-        };
-        let [root] = unit.entries.as_slice() else {
-            return Err("there is one entry".into());
-        };
-        assert!(rt; has(root, rows));
+fn units_are_read(rt: HostRuntime) {
+    for sample in &SAMPLES {
+        assert!(rt; is_read5(rt.alloc(), sample), "{} bytes", sample.info.len());
     }
-    Ok(())
 }
 
-// Units without a reading: a type unit, an implicit value in version 4, one behind indirect, no form, an index without its base, a base of a child, a base of another class, an index in version 4.
+// Units without a reading: a type unit, an implicit value in version 4, one behind indirect, no form, an index without its base,
+// a base of a child, a base of another class, an index in version 4.
 const REFUSED: [(&[u8], &[u8]); 8] = [
     (
         &[
@@ -214,187 +223,44 @@ const REFUSED: [(&[u8], &[u8]); 8] = [
 ];
 
 #[test]
-fn other_units_are_refused(rt: HostRuntime) -> Result<(), Fail> {
-    for (info, abbrev) in REFUSED {
-        let units = units_of(&rt, rt.alloc(), info, abbrev)?;
+fn other_units_are_refused(rt: HostRuntime) {
+    for (info, abbrev) in &REFUSED {
         assert!(rt;
-            matches!(
-                units.as_slice(),
-                [UnitAnswer::Unreadable { section: _, at: 0 }]
-            )
+            is_unreadable5(rt.alloc(), info, abbrev, &TEXTS),
+            "{} bytes",
+            info.len()
         );
     }
-    Ok(())
 }
 
-// A unit of version 5, and behind it one of version 4.
-const MIXED: [u8; 29] = [
-    0x0B, 0x00, 0x00, 0x00, 0x05, 0x00, 0x01, 0x04, 0x00, 0x00, 0x00, 0x00, 0x01, 0x61, 0x00, 0x0A,
-    0x00, 0x00, 0x00, 0x04, 0x00, 0x00, 0x00, 0x00, 0x00, 0x04, 0x01, 0x62, 0x00,
-];
+// How many bytes are left of MIXED, where the first unit is cut.
+const CUT_FIRST: [usize; 6] = [1, 3, 4, 6, 12, 14];
 
-const NAMED: [u8; 8] = [0x01, 0x11, 0x00, 0x03, 0x08, 0x00, 0x00, 0x00];
+// The same, where the second one is.
+const CUT_SECOND: [usize; 6] = [16, 18, 19, 21, 26, 28];
 
-// How many bytes are left of MIXED, and where the first unit stands that is then cut.
-const CUT: [(usize, usize); 12] = [
-    (1, 0),
-    (3, 0),
-    (4, 0),
-    (6, 0),
-    (12, 0),
-    (14, 0),
-    (16, 15),
-    (18, 15),
-    (19, 15),
-    (21, 15),
-    (26, 15),
-    (28, 15),
-];
-
-// The unit of a compiled module, with references from the section of version 5.
-const COMPILED: [u8; 130] = [
-    0x7E, 0x00, 0x00, 0x00, 0x05, 0x00, 0x01, 0x04, 0x00, 0x00, 0x00, 0x00, 0x01, 0x74, 0x2E, 0x63,
-    0x00, 0x00, 0x00, 0x00, 0x00, 0x02, 0x00, 0x00, 0x00, 0x2F, 0x00, 0x00, 0x00, 0x02, 0x66, 0x00,
-    0x02, 0x00, 0x00, 0x00, 0x2F, 0x00, 0x00, 0x00, 0x04, 0xED, 0x00, 0x02, 0x9F, 0x50, 0x00, 0x00,
-    0x00, 0x03, 0x70, 0x00, 0x02, 0x91, 0x08, 0x5F, 0x00, 0x00, 0x00, 0x04, 0x78, 0x00, 0x02, 0x91,
-    0x0C, 0x50, 0x00, 0x00, 0x00, 0x04, 0x73, 0x00, 0x02, 0x91, 0x10, 0x64, 0x00, 0x00, 0x00, 0x00,
-    0x05, 0x69, 0x6E, 0x74, 0x00, 0x05, 0x04, 0x05, 0x63, 0x68, 0x61, 0x72, 0x00, 0x06, 0x01, 0x06,
-    0x50, 0x00, 0x00, 0x00, 0x07, 0x53, 0x00, 0x08, 0x08, 0x61, 0x00, 0x50, 0x00, 0x00, 0x00, 0x00,
-    0x08, 0x62, 0x00, 0x79, 0x00, 0x00, 0x00, 0x04, 0x00, 0x09, 0x57, 0x00, 0x00, 0x00, 0x0A, 0x04,
-    0x00, 0x00,
-];
-
-const COMPILED_ABBREV: [u8; 103] = [
-    0x01, 0x11, 0x01, 0x03, 0x08, 0x10, 0x17, 0x11, 0x01, 0x12, 0x06, 0x00, 0x00, 0x02, 0x2E, 0x01,
-    0x03, 0x08, 0x11, 0x01, 0x12, 0x06, 0x40, 0x18, 0x49, 0x13, 0x00, 0x00, 0x03, 0x05, 0x00, 0x03,
-    0x08, 0x02, 0x18, 0x49, 0x13, 0x00, 0x00, 0x04, 0x34, 0x00, 0x03, 0x08, 0x02, 0x18, 0x49, 0x13,
-    0x00, 0x00, 0x05, 0x24, 0x00, 0x03, 0x08, 0x3E, 0x0B, 0x0B, 0x0B, 0x00, 0x00, 0x06, 0x0F, 0x00,
-    0x49, 0x13, 0x00, 0x00, 0x07, 0x13, 0x01, 0x03, 0x08, 0x0B, 0x0B, 0x00, 0x00, 0x08, 0x0D, 0x00,
-    0x03, 0x08, 0x49, 0x13, 0x38, 0x0B, 0x00, 0x00, 0x09, 0x01, 0x01, 0x49, 0x13, 0x00, 0x00, 0x0A,
-    0x21, 0x00, 0x37, 0x0B, 0x00, 0x00, 0x00,
-];
-
-// Offset, depth, tag and number of attributes.
-const ENTRIES: [(u32, u32, u64, usize); 13] = [
-    (12, 0, 0x11, 4),
-    (29, 1, 0x2E, 5),
-    (49, 2, 0x05, 3),
-    (59, 2, 0x34, 3),
-    (69, 2, 0x34, 3),
-    (80, 1, 0x24, 3),
-    (87, 1, 0x24, 3),
-    (95, 1, 0x0F, 1),
-    (100, 1, 0x13, 2),
-    (104, 2, 0x0D, 3),
-    (112, 2, 0x0D, 3),
-    (121, 1, 0x01, 1),
-    (126, 2, 0x21, 1),
-];
-
-// What entries refer to, in order.
-const REFERENCES: [(u32, u64); 8] = [
-    (7, 80),
-    (7, 95),
-    (7, 80),
-    (7, 100),
-    (7, 80),
-    (7, 80),
-    (7, 121),
-    (7, 87),
-];
-
-// The entries of the unit are those of the table.
-fn has_entries(unit: &Unit) -> bool {
-    let mut left = ENTRIES.iter();
-    for entry in unit.entries.as_slice() {
-        match left.next() {
-            Some(row) => {
-                if !is_entry(entry, *row) {
-                    return false;
-                }
-            }
-            None => return false,
-        }
-    }
-    left.next().is_none()
-}
-
-// What the first attribute `type` of the entry is.
-fn type_of(entry: &Entry) -> Option<(u32, u64)> {
-    for attribute in entry.attributes.as_slice() {
-        if attribute.name == 0x49 {
-            return Some(seen(&attribute.value));
-        }
-    }
-    None
-}
-
-// The references of the unit are those of the table.
-fn has_references(unit: &Unit) -> bool {
-    let mut left = REFERENCES.iter();
-    for entry in unit.entries.as_slice() {
-        let Some(found) = type_of(entry) else {
-            continue;
-        };
-        match left.next() {
-            Some(row) => {
-                if found != *row {
-                    return false;
-                }
-            }
-            None => return false,
-        }
-    }
-    left.next().is_none()
-}
-
-fn is_cut(answer: &UnitAnswer, wanted: usize) -> bool {
-    match answer {
-        UnitAnswer::Unreadable { section, at } => {
-            *at == wanted && section.as_str() == ".debug_info"
-        }
-        UnitAnswer::Tree(_) => false,
+fn cut_second(info: &[u8]) -> Sample<'_> {
+    Sample {
+        info,
+        abbrev: &NAMED,
+        str: &[],
+        units: &[(0, Some(5)), (15, None)],
+        entries: FIRST,
     }
 }
 
 #[test]
-fn a_unit_that_is_cut_is_unreadable_where_it_stands(rt: HostRuntime) -> Result<(), Fail> {
-    for (len, at) in CUT {
-        assert!(rt; len <= MIXED.len());
-        let units = units_of(&rt, rt.alloc(), &MIXED[..len], &NAMED)?;
-        let [.., last] = units.as_slice() else {
-            return Err("there is a unit".into());
-        };
-        assert!(rt; units.as_slice().len() == if at == 0 { 1 } else { 2 } && is_cut(last, at));
+fn a_unit_that_is_cut_is_unreadable_where_it_stands(rt: HostRuntime) {
+    for len in CUT_FIRST {
+        assert!(rt;
+            len <= MIXED.len() && is_unreadable5(rt.alloc(), &MIXED[..len], &NAMED, &[]),
+            "{len}"
+        );
     }
-    Ok(())
-}
-
-#[test]
-fn a_compiled_unit_is_read(rt: HostRuntime) -> Result<(), Fail> {
-    let units = units_of(&rt, rt.alloc(), &COMPILED, &COMPILED_ABBREV)?;
-    let [answer] = units.as_slice() else {
-        return Err("there is one unit".into());
-    };
-    let UnitAnswer::Tree(unit) = answer else {
-        return Err("it is read".into());
-    };
-    assert!(rt; unit.at == 0 && has_entries(unit) && has_references(unit));
-    Ok(())
-}
-
-#[test]
-fn versions_are_mixed(rt: HostRuntime) -> Result<(), Fail> {
-    let units = units_of(&rt, rt.alloc(), &MIXED, &NAMED)?;
-    let [first, second] = units.as_slice() else {
-        return Err("there are two units".into());
-    };
-    let UnitAnswer::Tree(five) = first else {
-        return Err("the first is read".into());
-    };
-    let UnitAnswer::Tree(four) = second else {
-        return Err("the second is read".into());
-    };
-    assert!(rt; five.at == 0 && five.version == 5 && four.at == 15 && four.version == 4);
-    Ok(())
+    for len in CUT_SECOND {
+        assert!(rt;
+            len <= MIXED.len() && is_read5(rt.alloc(), &cut_second(&MIXED[..len])),
+            "{len}"
+        );
+    }
 }

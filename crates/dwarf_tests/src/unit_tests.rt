@@ -1,174 +1,11 @@
 //! The units of a module as a C compiler writes them, the same cut short, and each form once. The expected values are from
 //! the standard's tables and another reader.
 
-use crate::seen::{has, is_entry};
-use dwarf_info::{AttrValue, EntryPlace, Sections, UnitAnswer, Units, read_units};
-use std::alloc::Global;
-use std::process::Abort;
-use std::test::Fail;
+use crate::reading::{EntryRow, Sample, is_read4, units4};
+use crate::samples::{ABBREV, ENTRIES, FORMS, INFO, NAMED, TEXTS};
+use dwarf_info::{EntryPlace, Units};
 
-pub(crate) const ABBREV: [u8; 103] = [
-    0x01, 0x11, 0x01, 0x03, 0x08, 0x10, 0x17, 0x11, 0x01, 0x12, 0x06, 0x00, 0x00, 0x02, 0x2E, 0x01,
-    0x03, 0x08, 0x11, 0x01, 0x12, 0x06, 0x40, 0x18, 0x49, 0x13, 0x00, 0x00, 0x03, 0x05, 0x00, 0x03,
-    0x08, 0x02, 0x18, 0x49, 0x13, 0x00, 0x00, 0x04, 0x34, 0x00, 0x03, 0x08, 0x02, 0x18, 0x49, 0x13,
-    0x00, 0x00, 0x05, 0x24, 0x00, 0x03, 0x08, 0x3E, 0x0B, 0x0B, 0x0B, 0x00, 0x00, 0x06, 0x0F, 0x00,
-    0x49, 0x13, 0x00, 0x00, 0x07, 0x13, 0x01, 0x03, 0x08, 0x0B, 0x0B, 0x00, 0x00, 0x08, 0x0D, 0x00,
-    0x03, 0x08, 0x49, 0x13, 0x38, 0x0B, 0x00, 0x00, 0x09, 0x01, 0x01, 0x49, 0x13, 0x00, 0x00, 0x0A,
-    0x21, 0x00, 0x37, 0x0B, 0x00, 0x00, 0x00,
-];
-
-pub(crate) const INFO: [u8; 129] = [
-    0x7D, 0x00, 0x00, 0x00, 0x04, 0x00, 0x00, 0x00, 0x00, 0x00, 0x04, 0x01, 0x74, 0x2E, 0x63, 0x00,
-    0x00, 0x00, 0x00, 0x00, 0x02, 0x00, 0x00, 0x00, 0x2F, 0x00, 0x00, 0x00, 0x02, 0x66, 0x00, 0x02,
-    0x00, 0x00, 0x00, 0x2F, 0x00, 0x00, 0x00, 0x04, 0xED, 0x00, 0x02, 0x9F, 0x4F, 0x00, 0x00, 0x00,
-    0x03, 0x70, 0x00, 0x02, 0x91, 0x08, 0x5E, 0x00, 0x00, 0x00, 0x04, 0x78, 0x00, 0x02, 0x91, 0x0C,
-    0x4F, 0x00, 0x00, 0x00, 0x04, 0x73, 0x00, 0x02, 0x91, 0x10, 0x63, 0x00, 0x00, 0x00, 0x00, 0x05,
-    0x69, 0x6E, 0x74, 0x00, 0x05, 0x04, 0x05, 0x63, 0x68, 0x61, 0x72, 0x00, 0x06, 0x01, 0x06, 0x4F,
-    0x00, 0x00, 0x00, 0x07, 0x53, 0x00, 0x08, 0x08, 0x61, 0x00, 0x4F, 0x00, 0x00, 0x00, 0x00, 0x08,
-    0x62, 0x00, 0x78, 0x00, 0x00, 0x00, 0x04, 0x00, 0x09, 0x56, 0x00, 0x00, 0x00, 0x0A, 0x04, 0x00,
-    0x00,
-];
-
-/// The units of these sections, each of which is short.
-pub(crate) fn units_of<'a>(
-    rt: &impl Abort,
-    alloc: Global,
-    info: &'a [u8],
-    abbrev: &'a [u8],
-    str: &'a [u8],
-) -> Result<Units<'a>, Fail> {
-    assert!(rt; info.len() <= 1000 && abbrev.len() <= 1000 && str.len() <= 1000);
-    let sections = Sections {
-        info,
-        abbrev,
-        line: &[],
-        str,
-        loc: &[],
-        ranges: &[],
-    };
-    match read_units(alloc, &sections) {
-        Ok(units) => Ok(units),
-        Err(_) => Err("there is memory".into()),
-    }
-}
-
-// Offset, depth, tag and number of attributes.
-const ENTRIES: [(u32, u32, u64, usize); 13] = [
-    (11, 0, 0x11, 4),
-    (28, 1, 0x2E, 5),
-    (48, 2, 0x05, 3),
-    (58, 2, 0x34, 3),
-    (68, 2, 0x34, 3),
-    (79, 1, 0x24, 3),
-    (86, 1, 0x24, 3),
-    (94, 1, 0x0F, 1),
-    (99, 1, 0x13, 2),
-    (103, 2, 0x0D, 3),
-    (111, 2, 0x0D, 3),
-    (120, 1, 0x01, 1),
-    (125, 2, 0x21, 1),
-];
-
-#[test]
-fn a_unit_is_read(rt: HostRuntime) -> Result<(), Fail> {
-    let units = units_of(&rt, rt.alloc(), &INFO, &ABBREV, &[])?;
-    let [answer] = units.as_slice() else {
-        return Err("there is one unit".into());
-    };
-    let UnitAnswer::Tree(unit) = answer else {
-        return Err("it is read".into());
-    };
-    assert!(rt; unit.at == 0 && unit.version == 4 && unit.entries.len() == ENTRIES.len());
-    let mut rows = ENTRIES.iter();
-    for entry in unit.entries.as_slice() {
-        let row = rows.next().ok_or("there are as many rows")?;
-        assert!(rt; is_entry(entry, *row));
-    }
-    let function = unit.entries.get(1).ok_or("the function is there")?;
-    let [name, low, high, base, declared] = function.attributes.as_slice() else {
-        return Err("the function has five attributes".into());
-    };
-    assert!(rt; matches!(&low.value, AttrValue::Address(2)));
-    assert!(rt; matches!(&high.value, AttrValue::Constant(47)));
-    assert!(rt; matches!(&declared.value, AttrValue::Reference(79)));
-    let AttrValue::Block(block) = &base.value else {
-        return Err("the frame base is a block".into());
-    };
-    assert!(rt; matches!(block.as_slice(), [0xED, 0x00, 0x02, 0x9F]));
-    let AttrValue::Text(text) = &name.value else {
-        return Err("the name is a text".into());
-    };
-    assert!(rt; matches!(text.as_slice(), [0x66]));
-    Ok(())
-}
-
-// An offset of the section, and the number of the entry there.
-const PLACES: [(u32, Option<usize>); 6] = [
-    (11, Some(0)),
-    (79, Some(5)),
-    (125, Some(12)),
-    (0, None),
-    (80, None),
-    (128, None),
-];
-
-#[test]
-fn entries_are_found_by_their_offsets(rt: HostRuntime) -> Result<(), Fail> {
-    let units = units_of(&rt, rt.alloc(), &INFO, &ABBREV, &[])?;
-    for (at, entry) in PLACES {
-        assert!(rt; units.place_of(at) == entry.map(|entry| EntryPlace { unit: 0, entry }));
-    }
-    Ok(())
-}
-
-// Two units, each with one entry, at 11 and at 26; the first is unreadable, as its padding is not zero.
-const TWO: [u8; 29] = [
-    0x0B, 0x00, 0x00, 0x00, 0x04, 0x00, 0x00, 0x00, 0x00, 0x00, 0x04, 0x01, 0x61, 0x00, 0x01, 0x0A,
-    0x00, 0x00, 0x00, 0x04, 0x00, 0x00, 0x00, 0x00, 0x00, 0x04, 0x01, 0x62, 0x00,
-];
-
-const NAMED: [u8; 8] = [0x01, 0x11, 0x00, 0x03, 0x08, 0x00, 0x00, 0x00];
-
-#[test]
-fn an_unreadable_unit_has_no_entries(rt: HostRuntime) -> Result<(), Fail> {
-    let units = units_of(&rt, rt.alloc(), &TWO, &NAMED, &[])?;
-    assert!(rt; units.place_of(11).is_none());
-    assert!(rt; units.place_of(26) == Some(EntryPlace { unit: 1, entry: 0 }));
-    Ok(())
-}
-
-// How many bytes are left of the section.
-const CUT: [usize; 8] = [1, 3, 4, 10, 11, 60, 125, 128];
-
-fn is_unreadable(answer: &UnitAnswer) -> bool {
-    match answer {
-        UnitAnswer::Unreadable { at, .. } => *at == 0,
-        UnitAnswer::Tree(_) => false,
-    }
-}
-
-#[test]
-fn a_unit_that_is_cut_is_unreadable(rt: HostRuntime) -> Result<(), Fail> {
-    for len in CUT {
-        assert!(rt; len <= INFO.len());
-        let units = units_of(&rt, rt.alloc(), &INFO[..len], &ABBREV, &[])?;
-        let [answer] = units.as_slice() else {
-            return Err("there is one unit".into());
-        };
-        assert!(rt; is_unreadable(answer));
-    }
-    Ok(())
-}
-
-// One entry with an attribute of each form, whose attribute has the number of the form.
-const FORMS: [u8; 56] = [
-    0x01, 0x11, 0x00, 0x01, 0x01, 0x03, 0x03, 0x04, 0x04, 0x05, 0x05, 0x06, 0x06, 0x07, 0x07, 0x08,
-    0x08, 0x09, 0x09, 0x0A, 0x0A, 0x0B, 0x0B, 0x0C, 0x0C, 0x0D, 0x0D, 0x0E, 0x0E, 0x0F, 0x0F, 0x10,
-    0x10, 0x11, 0x11, 0x12, 0x12, 0x13, 0x13, 0x14, 0x14, 0x15, 0x15, 0x16, 0x16, 0x17, 0x17, 0x18,
-    0x18, 0x19, 0x19, 0x20, 0x20, 0x00, 0x00, 0x00,
-];
-
-// The values in the same order, and two bytes of padding.
+// The values of all forms in the same order, and two bytes of padding.
 const VALUES: [u8; 92] = [
     0x58, 0x00, 0x00, 0x00, 0x04, 0x00, 0x00, 0x00, 0x00, 0x00, 0x04, 0x01, 0x78, 0x56, 0x34, 0x12,
     0x01, 0x00, 0xAA, 0x01, 0x00, 0x00, 0x00, 0xBB, 0x34, 0x12, 0x78, 0x56, 0x34, 0x12, 0xF0, 0xDE,
@@ -178,47 +15,133 @@ const VALUES: [u8; 92] = [
     0xEE, 0xFF, 0x01, 0x02, 0x03, 0x04, 0x05, 0x06, 0x07, 0x08, 0x00, 0x00,
 ];
 
-// The text "xyz", whose end "z" is a text too.
-const TEXTS: [u8; 4] = [0x78, 0x79, 0x7A, 0x00];
+const ALL_FORMS: EntryRow<'static> = (
+    11,
+    0,
+    0x11,
+    &[
+        (1, 0x1234_5678),
+        (4, 0xAA),
+        (4, 0xBB),
+        (2, 0x1234),
+        (2, 0x1234_5678),
+        (2, 0x1234_5678_9ABC_DEF0),
+        (5, 0x61),
+        (4, 0xCC),
+        (4, 0xDD),
+        (2, 0xFF),
+        (6, 1),
+        (3, 0xFFFF_FFFF_FFFF_FFFF),
+        (5, 0x7A),
+        (2, 0x80),
+        (7, 11),
+        (7, 11),
+        (9, 0),
+        (7, 11),
+        (7, 11),
+        (9, 0),
+        (3, 0xFFFF_FFFF_FFFF_FFFE),
+        (8, 0x0102_0304),
+        (4, 0xEEFF),
+        (6, 1),
+        (9, 0),
+    ],
+);
 
-const SEEN: [(u32, u64); 25] = [
-    (1, 0x1234_5678),
-    (4, 0xAA),
-    (4, 0xBB),
-    (2, 0x1234),
-    (2, 0x1234_5678),
-    (2, 0x1234_5678_9ABC_DEF0),
-    (5, 0x61),
-    (4, 0xCC),
-    (4, 0xDD),
-    (2, 0xFF),
-    (6, 1),
-    (3, 0xFFFF_FFFF_FFFF_FFFF),
-    (5, 0x7A),
-    (2, 0x80),
-    (7, 11),
-    (7, 11),
-    (9, 0),
-    (7, 11),
-    (7, 11),
-    (9, 0),
-    (3, 0xFFFF_FFFF_FFFF_FFFE),
-    (8, 0x0102_0304),
-    (4, 0xEE),
-    (6, 1),
-    (9, 0),
+// Two units, each with one entry, at 11 and at 26; the first is unreadable, as its padding is not zero.
+const TWO: [u8; 29] = [
+    0x0B, 0x00, 0x00, 0x00, 0x04, 0x00, 0x00, 0x00, 0x00, 0x00, 0x04, 0x01, 0x61, 0x00, 0x01, 0x0A,
+    0x00, 0x00, 0x00, 0x04, 0x00, 0x00, 0x00, 0x00, 0x00, 0x04, 0x01, 0x62, 0x00,
+];
+
+// The compiled module, each form once, and a unit behind an unreadable one.
+const SAMPLES: [Sample<'static>; 3] = [
+    Sample {
+        info: &INFO,
+        abbrev: &ABBREV,
+        str: &[],
+        units: &[(0, Some(4))],
+        entries: &ENTRIES,
+    },
+    Sample {
+        info: &VALUES,
+        abbrev: &FORMS,
+        str: &TEXTS,
+        units: &[(0, Some(4))],
+        entries: &[ALL_FORMS],
+    },
+    Sample {
+        info: &TWO,
+        abbrev: &NAMED,
+        str: &[],
+        units: &[(0, None), (15, Some(4))],
+        entries: &[],
+    },
 ];
 
 #[test]
-fn each_form_is_read(rt: HostRuntime) -> Result<(), Fail> {
-    let units = units_of(&rt, rt.alloc(), &VALUES, &FORMS, &TEXTS)?;
-    let [answer] = units.as_slice() else {
-        return Err("there is one unit".into());
+fn units_are_read(rt: HostRuntime) {
+    for sample in &SAMPLES {
+        assert!(rt; is_read4(rt.alloc(), sample), "{} bytes", sample.info.len());
+    }
+}
+
+// How many bytes are left of the section.
+const CUT: [usize; 8] = [1, 3, 4, 10, 11, 60, 125, 128];
+
+fn is_cut(info: &[u8]) -> Sample<'_> {
+    Sample {
+        info,
+        abbrev: &ABBREV,
+        str: &[],
+        units: &[(0, None)],
+        entries: &[],
+    }
+}
+
+#[test]
+fn a_unit_that_is_cut_is_unreadable(rt: HostRuntime) {
+    for len in CUT {
+        assert!(rt;
+            len <= INFO.len() && is_read4(rt.alloc(), &is_cut(&INFO[..len])),
+            "{len}"
+        );
+    }
+}
+
+// An offset of the section, and the place of the entry there.
+const PLACES: [(u32, Option<EntryPlace>); 6] = [
+    (11, Some(EntryPlace { unit: 0, entry: 0 })),
+    (79, Some(EntryPlace { unit: 0, entry: 5 })),
+    (125, Some(EntryPlace { unit: 0, entry: 12 })),
+    (0, None),
+    (80, None),
+    (128, None),
+];
+
+// An unreadable unit has no entries.
+const PLACES_OF_TWO: [(u32, Option<EntryPlace>); 2] = [
+    (11, None),
+    (26, Some(EntryPlace { unit: 1, entry: 0 })),
+];
+
+/// The number of the first row whose entry stands elsewhere, or how many rows there are.
+fn first_misplaced(units: &Option<Units<'_>>, rows: &[(u32, Option<EntryPlace>)]) -> usize {
+    let Some(units) = units else {
+        return 0;
     };
-    let UnitAnswer::Tree(unit) = answer else {
-        return Err("it is read".into());
-    };
-    let root = unit.entries.get(0).ok_or("the root is there")?;
-    assert!(rt; has(root, &SEEN));
-    Ok(())
+    for (i, (at, place)) in rows.iter().enumerate() {
+        if units.place_of(*at) != *place {
+            return i;
+        }
+    }
+    rows.len()
+}
+
+#[test]
+fn entries_are_found_by_their_offsets(rt: HostRuntime) {
+    let wrong = first_misplaced(&units4(rt.alloc(), &INFO, &ABBREV, &[]), &PLACES);
+    assert_eq!(rt; wrong, PLACES.len());
+    let wrong = first_misplaced(&units4(rt.alloc(), &TWO, &NAMED, &[]), &PLACES_OF_TWO);
+    assert_eq!(rt; wrong, PLACES_OF_TWO.len());
 }

@@ -1,38 +1,55 @@
 //! Visible variables of a compiled module, bytes of values, and texts of base types. The expected values are by hand.
 
-use crate::unit_tests::{ABBREV, INFO, units_of};
+use crate::frames::{Origin, source_of};
+use crate::reading::{sections4, units4};
+use crate::samples::{ABBREV, INFO};
 use dwarf_entries::standing_at;
-use dwarf_expr::{FrameView, PiecePlace};
-use dwarf_info::{Sections, Sections5};
+use dwarf_expr::FrameView;
+use dwarf_info::Units;
 use pm_text::Text;
-use std::test::Fail;
-use var_eval::visible_at;
-use var_values::{Mark, Source, number_at, push_base, push_enumeration};
+use std::alloc::Global;
+use var_eval::{Variable, visible_at};
+use var_values::{Mark, number_at, push_base, push_enumeration};
+
+// An address, and the names of the variables there with the offsets of their entries.
+const VISIBLE: [(u32, &[(&[u8], u32)]); 2] = [
+    (45, &[(b"p", 48), (b"x", 58), (b"s", 68)]),
+    (49, &[]),
+];
+
+fn are_variables(variables: &[Variable<'_>], rows: &[(&[u8], u32)]) -> bool {
+    if variables.len() != rows.len() {
+        return false;
+    }
+    for (variable, row) in variables.iter().zip(rows) {
+        if variable.name.as_slice() != row.0 || variable.entry != row.1 {
+            return false;
+        }
+    }
+    true
+}
+
+fn are_visible(alloc: Global, address: u32, rows: &[(&[u8], u32)]) -> bool {
+    let Some(units) = units4(alloc, &INFO, &ABBREV, &[]) else {
+        return false;
+    };
+    match visible_at(alloc, &sections4(&INFO, &ABBREV, &[], &[]), &units, address) {
+        Ok(variables) => are_variables(variables.as_slice(), rows),
+        Err(_) => false,
+    }
+}
 
 #[test]
-fn parameters_and_variables_are_visible(rt: HostRuntime) -> Result<(), Fail> {
-    let units = units_of(&rt, rt.alloc(), &INFO, &ABBREV, &[])?;
-    let sections = Sections5::without5(&Sections {
-        info: &INFO,
-        abbrev: &ABBREV,
-        line: &[],
-        str: &[],
-        loc: &[],
-        ranges: &[],
-    });
-    let variables = visible_at(rt.alloc(), &sections, &units, 45)?;
-    let [p, x, s] = variables.as_slice() else {
-        return Err("there are three".into());
-    };
-    assert!(rt; p.name.as_slice() == b"p".as_slice() && p.entry == 48);
-    assert!(rt; x.name.as_slice() == b"x".as_slice() && x.entry == 58);
-    assert!(rt; s.name.as_slice() == b"s".as_slice() && s.entry == 68);
-    assert!(rt; visible_at(rt.alloc(), &sections, &units, 49)?.is_empty());
-    Ok(())
+fn parameters_and_variables_are_visible(rt: HostRuntime) {
+    for (address, rows) in &VISIBLE {
+        assert!(rt; are_visible(rt.alloc(), *address, rows), "{address}");
+    }
 }
 
 // An encoding, a size, the bits, the number that they are, and the text.
-const TEXTS: [(u64, u64, u128, i128, &str); 12] = [
+type TextRow = (u64, u64, u128, i128, &'static str);
+
+const TEXTS: [TextRow; 12] = [
     (5, 4, 7, 7, "7"),
     (5, 1, 255, -1, "-1"),
     (
@@ -53,16 +70,18 @@ const TEXTS: [(u64, u64, u128, i128, &str); 12] = [
     (1, 4, 65_536, 65_536, "0x00010000"),
 ];
 
+fn has_text(alloc: Global, row: &TextRow) -> bool {
+    let mut text = Text::new(alloc);
+    row.2 < 0x1_0000_0000_0000_0000
+        && push_base(&mut text, row.0, row.1, row.2, row.3).is_ok()
+        && text.as_str() == row.4
+}
+
 #[test]
-fn base_types_have_texts(rt: HostRuntime) -> Result<(), Fail> {
-    for (encoding, size, word, number, expected) in TEXTS {
-        let mut text = Text::new(rt.alloc());
-        if encoding != 1 || word < 0x1_0000_0000 {
-            push_base(&mut text, encoding, size, word, number)?;
-        }
-        assert!(rt; text.as_bytes() == expected.as_bytes());
+fn base_types_have_texts(rt: HostRuntime) {
+    for row in &TEXTS {
+        assert!(rt; has_text(rt.alloc(), row), "{}", row.4);
     }
-    Ok(())
 }
 
 const ENUMERATION_ABBREV: [u8; 22] = [
@@ -74,35 +93,53 @@ const ENUMERATION: [u8; 28] = [
     24, 0, 0, 0, 4, 0, 0, 0, 0, 0, 4, 1, 2, 4, 3, 97, 0, 1, 3, 98, 0, 0x7f, 3, 99, 0, 1, 0, 0,
 ];
 
-#[test]
-fn enumerators_have_names(rt: HostRuntime) -> Result<(), Fail> {
-    let units = units_of(&rt, rt.alloc(), &ENUMERATION, &ENUMERATION_ABBREV, &[])?;
-    let standing = standing_at(&units, 12).ok_or("the enumeration is there")?;
-    let mut text = Text::new(rt.alloc());
-    for value in [1, -1, 7] {
-        push_enumeration(&mut text, &units, &standing, 4, value)?;
-    }
-    text.push_str(Mark::OutsideMemory.text())?;
-    assert!(rt; text.as_bytes() == b"ab7<outside memory>".as_slice());
-    Ok(())
+fn has_name(alloc: Global, units: &Option<Units<'_>>, value: i128, name: &str) -> bool {
+    let Some(units) = units else {
+        return false;
+    };
+    let Some(standing) = standing_at(units, 12) else {
+        return false;
+    };
+    let mut text = Text::new(alloc);
+    push_enumeration(&mut text, units, &standing, 4, value).is_ok() && text.as_str() == name
 }
 
 #[test]
-fn bytes_of_values_have_marks(rt: HostRuntime) {
+fn enumerators_have_names(rt: HostRuntime) {
+    for (value, name) in [(1, "a"), (-1, "b"), (7, "7")] {
+        let units = units4(rt.alloc(), &ENUMERATION, &ENUMERATION_ABBREV, &[]);
+        assert!(rt; has_name(rt.alloc(), &units, value, name), "{name}");
+    }
+}
+
+// Where a value comes from, the number of its first byte, how many bytes, and the number that they spell.
+type NumberRow = (Origin, i128, u32, Result<u128, Mark>);
+
+const WORD: Origin = Origin::Number(0x1122_3344_5566_7788);
+
+const NUMBERS: [NumberRow; 6] = [
+    (WORD, 0, 2, Ok(0x7788)),
+    (WORD, 4, 4, Ok(0x1122_3344)),
+    (WORD, 7, 2, Err(Mark::OptimisedOut)),
+    (WORD, -1, 1, Err(Mark::OptimisedOut)),
+    (Origin::Address(8), 0, 4, Err(Mark::NotRecorded)),
+    (Origin::BadExpression, 0, 1, Err(Mark::BadExpression)),
+];
+
+fn is_number(row: &NumberRow) -> bool {
     let view = FrameView {
         locals: &[],
         operands: &[],
         globals: &[],
         memory: None,
     };
-    let value = Source::Single(PiecePlace::Value(0x1122_3344_5566_7788));
-    assert!(rt; number_at(&view, &value, 0, 2) == Ok(0x7788));
-    assert!(rt; number_at(&view, &value, 4, 4) == Ok(0x1122_3344));
-    assert!(rt; number_at(&view, &value, 7, 2) == Err(Mark::OptimisedOut));
-    assert!(rt; number_at(&view, &value, -1, 1) == Err(Mark::OptimisedOut));
-    let address = Source::Single(PiecePlace::Address(8));
-    assert!(rt; number_at(&view, &address, 0, 4) == Err(Mark::NotRecorded));
-    assert!(rt;
-        number_at(&view, &Source::Lost(Mark::BadExpression), 0, 1) == Err(Mark::BadExpression)
-    );
+    row.1 <= 8 && row.2 <= 8 && number_at(&view, &source_of(row.0), row.1, row.2) == row.3
+}
+
+#[test]
+fn bytes_of_values_have_marks(rt: HostRuntime) {
+    for row in &NUMBERS {
+        assert!(rt; is_number(row), "{} {}", row.1, row.2);
+    }
+    assert!(rt; Mark::OutsideMemory.text() == "<outside memory>");
 }
