@@ -6,46 +6,63 @@ use causes::NoMemory;
 use linear_memory::Memory;
 use machine_basics::{Globals, Performed, Shared, Stack, TrapKind, perform};
 use std::alloc::Global;
-use std::process::Abort;
 use std::test::Fail;
 use wasm_syntax::{
     Basic, Binary, Compare, Convert, Load, Narrow32, Narrow64, Sign, Store, Unary, ValType, Value,
 };
 
+/// An instruction, its operands, the deepest first, and its result or the cause of its trap.
 type Row<'a> = (Basic, &'a [Value], Result<Option<Value>, TrapKind>);
 
-// The result of an instruction on these operands, the deepest first. After a trap they are still there.
-fn check(rt: &impl Abort, alloc: Global, shared: &mut Shared, row: &Row) -> Result<(), NoMemory> {
-    let (instruction, operands, expected) = row;
-    let mut values = Stack::new(alloc);
-    for v in *operands {
-        values.push(*v)?;
+/// A stack of these items, the last one on top.
+fn stack_of<T: Copy + Drop>(alloc: Global, items: &[T]) -> Result<Stack<T>, NoMemory> {
+    let mut stack = Stack::new(alloc);
+    for item in items {
+        stack.push(*item)?;
     }
-    match perform(instruction, 0, &mut values, shared) {
-        Performed::Done => {
-            assert!(rt; *expected == Ok(values.peek(0)));
-            assert!(rt; values.len() <= 1);
-            Ok(())
-        }
-        Performed::Trap(kind) => {
-            assert!(rt; *expected == Err(kind));
-            assert!(rt; values.as_slice() == *operands);
-            Ok(())
-        }
-        Performed::NoMemory => Err(NoMemory),
-    }
+    Ok(stack)
 }
 
+/// Two globals, which are 7 and 8, and a memory of so many pages.
 fn shared(alloc: Global, pages: u32, max: u32) -> Result<Shared, NoMemory>
     requires { (pages ≤ max) × (max ≤ 4096) }
 {
-    let mut globals = Vec::new(alloc);
-    globals.push(Value::I32(7))?;
-    globals.push(Value::I64(8))?;
+    let memory = Memory::new(alloc, pages, max)?;
+    let globals = Vec::from_slice(alloc, &[Value::I32(7), Value::I64(8)])?;
     Ok(Shared {
         globals: Globals::from_vec(globals),
-        memory: Some(Memory::new(alloc, pages, max)?),
+        memory: Some(memory),
     })
+}
+
+/// Whether an instruction comes to what its row says. After a trap the operands are still there.
+fn is_wanted(performed: Performed, values: &Stack<Value>, row: &Row<'_>) -> bool {
+    let (_, operands, wanted) = row;
+    match (performed, wanted) {
+        (Performed::Done, Ok(value)) => *value == values.peek(0) && values.len() <= 1,
+        (Performed::Trap(kind), Err(cause)) => kind == *cause && values.as_slice() == *operands,
+        _ => false,
+    }
+}
+
+fn holds(alloc: Global, shared: &mut Shared, row: &Row<'_>) -> Result<bool, NoMemory> {
+    let mut values = stack_of(alloc, row.1)?;
+    let performed = perform(&row.0, 0, &mut values, shared);
+    Ok(is_wanted(performed, &values, row))
+}
+
+/// The number of the first row that does not hold behind those before it, if there is one.
+fn first_wrong(
+    alloc: Global,
+    shared: &mut Shared,
+    rows: &[Row<'_>],
+) -> Result<Option<usize>, NoMemory> {
+    for (i, row) in rows.iter().enumerate() {
+        if !holds(alloc, shared, row)? {
+            return Ok(Some(i));
+        }
+    }
+    Ok(None)
 }
 
 const NUMBERS: [Row; 41] = [
@@ -258,13 +275,11 @@ const NUMBERS: [Row; 41] = [
 #[test]
 fn numbers(rt: HostRuntime) -> Result<(), Fail> {
     let mut shared = shared(rt.alloc(), 0, 0)?;
-    for row in &NUMBERS {
-        check(&rt, rt.alloc(), &mut shared, row)?;
-    }
+    assert_eq!(rt; first_wrong(rt.alloc(), &mut shared, &NUMBERS)?, None);
     Ok(())
 }
 
-// One after another on a memory of one page, which may have two.
+/// One after another on a memory of one page, which may have two.
 const MEMORY: [Row; 57] = [
     (Basic::MemorySize, &[], Ok(Some(Value::I32(1)))),
     (
@@ -548,59 +563,73 @@ const MEMORY: [Row; 57] = [
 #[test]
 fn memory(rt: HostRuntime) -> Result<(), Fail> {
     let mut shared = shared(rt.alloc(), 1, 2)?;
-    for row in &MEMORY {
-        check(&rt, rt.alloc(), &mut shared, row)?;
-    }
+    assert_eq!(rt; first_wrong(rt.alloc(), &mut shared, &MEMORY)?, None);
     Ok(())
 }
 
-// Two locals over a value of the frame below, by hand from Core 4.4.3.
+/// Two locals over a value of the frame below, by hand from Core 4.4.3, and how all values stand behind these instructions.
+const LOCALS: [Value; 3] = [Value::I32(99), Value::I32(1), Value::I64(2)];
+
+const MOVES: [Basic; 9] = [
+    Basic::LocalGet(1),
+    Basic::GlobalGet(0),
+    Basic::LocalTee(0),
+    Basic::GlobalGet(1),
+    Basic::LocalSet(1),
+    Basic::GlobalSet(0),
+    Basic::GlobalSet(1),
+    Basic::Const(Value::I64(5)),
+    Basic::Nop,
+];
+
+const MOVED: [Value; 4] = [Value::I32(99), Value::I32(7), Value::I64(8), Value::I64(5)];
+
+const MOVED_GLOBALS: [Value; 2] = [Value::I32(7), Value::I64(2)];
+
+/// Whether each instruction is performed, on a frame whose locals stand over one value.
+fn all_done(values: &mut Stack<Value>, shared: &mut Shared, instructions: &[Basic]) -> bool {
+    for instruction in instructions {
+        if perform(instruction, 1, values, shared) != Performed::Done {
+            return false;
+        }
+    }
+    true
+}
+
+fn is_moved(values: &Stack<Value>, shared: &Shared) -> bool {
+    values.as_slice() == MOVED.as_slice() && shared.globals.as_slice() == MOVED_GLOBALS.as_slice()
+}
+
 #[test]
 fn variables(rt: HostRuntime) -> Result<(), Fail> {
     let mut shared = shared(rt.alloc(), 0, 0)?;
-    let mut values = Stack::new(rt.alloc());
-    for v in [Value::I32(99), Value::I32(1), Value::I64(2)] {
-        values.push(v)?;
-    }
-    for instruction in [
-        Basic::LocalGet(1),
-        Basic::GlobalGet(0),
-        Basic::LocalTee(0),
-        Basic::GlobalGet(1),
-        Basic::LocalSet(1),
-        Basic::GlobalSet(0),
-        Basic::GlobalSet(1),
-        Basic::Const(Value::I64(5)),
-        Basic::Nop,
-    ] {
-        assert!(rt; perform(&instruction, 1, &mut values, &mut shared) == Performed::Done);
-    }
-    assert!(rt;
-        matches!(
-            values.as_slice(),
-            [Value::I32(99), Value::I32(7), Value::I64(8), Value::I64(5)]
-        )
-    );
-    assert!(rt; matches!(shared.globals.as_slice(), [Value::I32(7), Value::I64(2)]));
+    let mut values = stack_of(rt.alloc(), &LOCALS)?;
+    let done = all_done(&mut values, &mut shared, &MOVES);
+    assert!(rt; done && is_moved(&values, &shared));
     Ok(())
+}
+
+/// Whether a stack of 1 to 5 is written over and looked at by places.
+fn is_changed(stack: &mut Stack<u32>) -> bool {
+    stack.discard(1);
+    stack.set_top(7);
+    stack.set_at(1, 0, 8);
+    stack.as_slice() == [1, 8, 3, 7].as_slice()
+        && stack.at(1, 1) == Some(3)
+        && stack.at(1, 3).is_none()
+        && stack.peek(3) == Some(1)
+        && stack.peek(4).is_none()
+}
+
+/// Whether it keeps its two lowest elements then, and the upper one is taken.
+fn is_cut(stack: &mut Stack<u32>) -> bool {
+    stack.keep(2);
+    stack.pop() == Some(8) && stack.len() == 1
 }
 
 #[test]
 fn stack(rt: HostRuntime) -> Result<(), Fail> {
-    let mut stack = Stack::new(rt.alloc());
-    for n in [1u32, 2, 3, 4, 5] {
-        stack.push(n)?;
-    }
-    stack.discard(1);
-    stack.set_top(7);
-    stack.set_at(1, 0, 8);
-    assert!(rt; matches!(stack.as_slice(), [1, 8, 3, 7]));
-    assert_eq!(rt; stack.at(1, 1), Some(3));
-    assert_eq!(rt; stack.at(1, 3), None);
-    assert_eq!(rt; stack.peek(3), Some(1));
-    assert_eq!(rt; stack.peek(4), None);
-    stack.keep(2);
-    assert_eq!(rt; stack.pop(), Some(8));
-    assert_eq!(rt; stack.len(), 1);
+    let mut stack = stack_of(rt.alloc(), &[1u32, 2, 3, 4, 5])?;
+    assert!(rt; is_changed(&mut stack) && is_cut(&mut stack));
     Ok(())
 }

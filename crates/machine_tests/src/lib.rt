@@ -7,10 +7,12 @@ mod basic_tests;
 #[cfg(test)]
 mod instance_tests;
 #[cfg(test)]
+mod modules;
+#[cfg(test)]
 mod resume_tests;
 #[cfg(test)]
-mod script_tests;
+mod running;
 #[cfg(test)]
-mod tests;
+mod start_tests;
 #[cfg(test)]
 mod watch_tests;

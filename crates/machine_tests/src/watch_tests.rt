@@ -2,85 +2,91 @@
 
 ghost use Rattle.std.specs.Prelude.{◌≡◌};
 
-use crate::instance_tests::{ROUND, Silent, valid};
+use crate::modules::{ROUND, STRAIGHT, valid};
+use host_script::ScriptHosts;
 use machine_steps::Tally;
 use std::alloc::Global;
 use wasm_machine::Instance;
-use wasm_syntax::{Import, Value};
+use wasm_syntax::{Import, ModuleParts, Value};
 use wasm_validate::Validated;
 
-/// A function, exported as `f`, as a C compiler lays it out. Its body has 20 instructions without a branch, of which the last but one is a
-/// load from where its argument points.
-const STRAIGHT: [u8; 92] = [
-    0x00, 0x61, 0x73, 0x6d, 0x01, 0x00, 0x00, 0x00, 0x01, 0x06, 0x01, 0x60, 0x01, 0x7f, 0x01, 0x7f,
-    0x03, 0x02, 0x01, 0x00, 0x05, 0x03, 0x01, 0x00, 0x01, 0x06, 0x07, 0x01, 0x7f, 0x01, 0x41, 0x80,
-    0x08, 0x0b, 0x07, 0x05, 0x01, 0x01, 0x66, 0x00, 0x00, 0x0a, 0x31, 0x01, 0x2f, 0x01, 0x02, 0x7f,
-    0x23, 0x00, 0x41, 0x20, 0x6b, 0x22, 0x02, 0x24, 0x00, 0x20, 0x02, 0x41, 0x07, 0x36, 0x02, 0x0c,
-    0x20, 0x02, 0x41, 0x03, 0x36, 0x02, 0x10, 0x20, 0x02, 0x41, 0xc2, 0x00, 0x3a, 0x00, 0x15, 0x20,
-    0x02, 0x20, 0x00, 0x36, 0x02, 0x08, 0x20, 0x00, 0x28, 0x02, 0x00, 0x0b,
+/// A module with one function, its argument, the steps that it may make, and how many it makes at each of its instructions.
+type Row<'a> = (&'a [u8], u32, u32, &'a [u64]);
+
+const WHOLE: [Row<'static>; 1] = [(&STRAIGHT, 0, 1000, &[1; 20])];
+
+/// The last but one instruction traps.
+const TRAPPED: [Row<'static>; 1] = [(
+    &STRAIGHT,
+    65536,
+    1000,
+    &[1, 1, 1, 1, 1, 1, 1, 1, 1, 1, 1, 1, 1, 1, 1, 1, 1, 1, 1, 0],
+)];
+
+const SPENT: [Row<'static>; 3] = [
+    (&ROUND, 0, 2, &[1, 1, 0, 0, 0]),
+    (&ROUND, 0, 1000, &[1, 1, 1, 1, 1]),
+    (&ROUND, 7, 1000, &[334, 333, 333, 0, 0]),
 ];
 
 /// Invokes the function of a new instance with at most eight frames.
 fn watch(
+    alloc: Global,
     instance: &mut Instance<'_>,
     imports: &[Import],
-    argument: u32,
-    fuel: u64,
+    row: &Row<'_>,
     tally: &mut Tally,
 )
     requires { imports.now ≡ instance.old.module_.imports }
 {
     if instance.ready() && instance.steps() == 0 {
-        let mut hosts = Silent { imports };
-        let _ = instance.invoke_watched("f", &[Value::I32(argument)], 8, fuel, &mut hosts, tally);
+        let mut hosts = ScriptHosts::new(alloc, imports, &[], 0);
+        let args = [Value::I32(row.1)];
+        let _ = instance.invoke_watched("f", &args, 8, u64::from(row.2), &mut hosts, tally);
     }
 }
 
-/// The counts of a new instance's first invocation on this argument.
-fn tally_of(alloc: Global, source: &Validated, argument: u32, fuel: u64) -> Option<Tally> {
-    let parts = source.module().parts();
-    match (Instance::new(alloc, source), Tally::new(alloc, parts)) {
-        (Ok(mut instance), Ok(mut tally)) => {
-            watch(
-                &mut instance,
-                parts.imports.as_slice(),
-                argument,
-                fuel,
-                &mut tally,
-            );
-            Some(tally)
+/// Counts the steps of a new instance's first invocation.
+fn count(alloc: Global, source: &Validated, row: &Row<'_>, tally: &mut Tally) {
+    let imports = source.module().parts().imports.as_slice();
+    if let Ok(mut instance) = Instance::new(alloc, source) {
+        watch(alloc, &mut instance, imports, row, tally);
+    }
+}
+
+fn counts(alloc: Global, source: &Validated, row: &Row<'_>) -> bool {
+    match Tally::new(alloc, source.module().parts()) {
+        Ok(mut tally) => {
+            count(alloc, source, row, &mut tally);
+            tally.of_function(0) == row.3 && tally.elsewhere() == 0
         }
-        _ => None,
+        Err(_) => false,
     }
 }
 
-/// Whether these are the counts of the only function of a module in bytes.
-fn counts(alloc: Global, bytes: &[u8], argument: u32, fuel: u64, expected: &[u64]) -> bool {
-    match valid(alloc, bytes) {
-        Some(source) => match tally_of(alloc, &source, argument, fuel) {
-            Some(tally) => tally.of_function(0) == expected && tally.elsewhere() == 0,
-            None => false,
-        },
+fn holds(alloc: Global, row: &Row<'_>) -> bool {
+    match valid(alloc, row.0) {
+        Some(source) => counts(alloc, &source, row),
         None => false,
     }
 }
 
+/// The number of the first row that does not hold, if there is one.
+fn first_wrong(alloc: Global, rows: &[Row<'_>]) -> Option<usize> {
+    rows.iter().position(|row| !holds(alloc, row))
+}
+
 #[test]
 fn each_step_is_counted_where_it_is_made(rt: HostRuntime) {
-    let whole = [1u64; 20];
-    assert!(rt; counts(rt.alloc(), &STRAIGHT, 0, 1000, &whole));
+    assert_eq!(rt; first_wrong(rt.alloc(), &WHOLE), None);
 }
 
 #[test]
 fn a_step_that_traps_is_counted(rt: HostRuntime) {
-    let mut trapped = [1u64; 20];
-    trapped[19] = 0;
-    assert!(rt; counts(rt.alloc(), &STRAIGHT, 65536, 1000, &trapped));
+    assert_eq!(rt; first_wrong(rt.alloc(), &TRAPPED), None);
 }
 
 #[test]
 fn no_step_is_counted_behind_the_fuel(rt: HostRuntime) {
-    assert!(rt; counts(rt.alloc(), &ROUND, 0, 2, &[1, 1, 0, 0, 0]));
-    assert!(rt; counts(rt.alloc(), &ROUND, 0, 1000, &[1, 1, 1, 1, 1]));
-    assert!(rt; counts(rt.alloc(), &ROUND, 7, 1000, &[334, 333, 333, 0, 0]));
+    assert_eq!(rt; first_wrong(rt.alloc(), &SPENT), None);
 }
