@@ -1,6 +1,7 @@
 //! Listings of recorded values, and the dump of a match.
 
 use crate::cases::{DIVISION, DIVISION_DUMP, valid};
+use causes::NoMemory;
 use debug_listings::push_listing;
 use dump_format::decode_dump;
 use dump_match::matches;
@@ -11,7 +12,9 @@ use wasm_syntax::Seen;
 use wasm_validate::Validated;
 
 /// Recorded values, how many there are where none is recorded, and the lines.
-const ROWS: [(&[Seen], u32, &str); 4] = [
+type Row<'a> = (&'a [Seen], u32, &'a str);
+
+const ROWS: [Row<'static>; 4] = [
     (
         &[Seen::I32(4_294_967_289), Seen::Missing, Seen::I64(5)],
         3,
@@ -22,18 +25,30 @@ const ROWS: [(&[Seen], u32, &str); 4] = [
     (&[Seen::I32(0)], 0, "local 0 i32:0\n"),
 ];
 
+fn is_listed(alloc: Global, row: &Row<'_>) -> Result<bool, NoMemory> {
+    let mut text = Text::new(alloc);
+    push_listing(&mut text, "local", row.0, row.1)?;
+    Ok(text.as_str() == row.2)
+}
+
+/// The number of the first row that is listed otherwise, or how many rows there are.
+fn first_wrong(alloc: Global, rows: &[Row<'_>]) -> Result<usize, NoMemory> {
+    for (i, row) in rows.iter().enumerate() {
+        if !is_listed(alloc, row)? {
+            return Ok(i);
+        }
+    }
+    Ok(rows.len())
+}
+
 #[test]
 fn values_are_listed(rt: HostRuntime) -> Result<(), Fail> {
-    for (values, count, expected) in ROWS {
-        let mut text = Text::new(rt.alloc());
-        push_listing(&mut text, "local", values, count)?;
-        assert!(rt; text.as_str() == expected);
-    }
+    assert_eq!(rt; first_wrong(rt.alloc(), &ROWS)?, ROWS.len());
     Ok(())
 }
 
 /// How many frames the dump has that matches a module.
-fn frames(alloc: Global, m: &Validated, dump: &[u8]) -> Option<usize> {
+fn frames_of(alloc: Global, m: &Validated, dump: &[u8]) -> Option<usize> {
     match decode_dump(alloc, dump) {
         Ok(dump) => match matches(m, &dump) {
             Ok(matched) => Some(matched.dump().frames.len()),
@@ -43,10 +58,14 @@ fn frames(alloc: Global, m: &Validated, dump: &[u8]) -> Option<usize> {
     }
 }
 
+fn frames(alloc: Global, module_bytes: &[u8], dump: &[u8]) -> Option<usize> {
+    match valid(alloc, module_bytes) {
+        Some(m) => frames_of(alloc, &m, dump),
+        None => None,
+    }
+}
+
 #[test]
 fn a_match_has_its_dump(rt: HostRuntime) {
-    match valid(rt.alloc(), &DIVISION) {
-        Some(m) => assert!(rt; frames(rt.alloc(), &m, &DIVISION_DUMP) == Some(1)),
-        None => assert!(rt; false),
-    }
+    assert_eq!(rt; frames(rt.alloc(), &DIVISION, &DIVISION_DUMP), Some(1));
 }

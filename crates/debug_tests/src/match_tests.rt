@@ -22,58 +22,57 @@ const CALLER: u32 = 1;
 
 fn changed(alloc: Global, dump: &[u8], changes: &[Change]) -> Option<Vec<u8>> {
     let mut bytes = Vec::from_slice(alloc, dump).ok()?;
-    for change in changes {
-        *bytes.get_mut(change.0)? = change.1;
+    for (at, byte) in changes {
+        *bytes.get_mut(*at)? = *byte;
     }
     Some(bytes)
 }
 
-fn is_judged(alloc: Global, m: &Validated, dump: &[u8], expected: Option<Mismatch>) -> bool {
-    match decode_dump(alloc, dump) {
-        Ok(dump) => match matches(m, &dump) {
-            Ok(_) => expected.is_none(),
-            Err(found) => expected == Some(found),
-        },
-        Err(_) => false,
-    }
+/// Whether a dump is judged as one of a trap, or as one of some state.
+#[derive(Clone, Copy)]
+enum Judge {
+    Trap,
+    State,
 }
 
-fn is_judged_as_state(
+fn is_judged(
     alloc: Global,
     m: &Validated,
     dump: &[u8],
-    expected: Option<Mismatch>,
+    judge: Judge,
+    wanted: Option<Mismatch>,
 ) -> bool {
     match decode_dump(alloc, dump) {
-        Ok(dump) => match matches_state(m, &dump) {
-            Ok(_) => expected.is_none(),
-            Err(found) => expected == Some(found),
+        Ok(dump) => match judge {
+            Judge::Trap => matches(m, &dump).err() == wanted,
+            Judge::State => matches_state(m, &dump).err() == wanted,
         },
         Err(_) => false,
     }
 }
 
-fn holds(alloc: Global, row: &Row<'_>) -> bool {
-    match (valid(alloc, row.0), changed(alloc, row.1, row.2)) {
-        (Some(m), Some(dump)) => is_judged(alloc, &m, dump.as_slice(), row.3),
-        _ => false,
+fn holds_of(alloc: Global, m: &Validated, judge: Judge, row: &Row<'_>) -> bool {
+    match changed(alloc, row.1, row.2) {
+        Some(dump) => is_judged(alloc, m, dump.as_slice(), judge, row.3),
+        None => false,
     }
 }
 
-fn holds_as_state(alloc: Global, row: &Row<'_>) -> bool {
-    match (valid(alloc, row.0), changed(alloc, row.1, row.2)) {
-        (Some(m), Some(dump)) => is_judged_as_state(alloc, &m, dump.as_slice(), row.3),
-        _ => false,
+fn holds(alloc: Global, judge: Judge, row: &Row<'_>) -> bool {
+    match valid(alloc, row.0) {
+        Some(m) => holds_of(alloc, &m, judge, row),
+        None => false,
     }
 }
 
-fn all_hold(alloc: Global, rows: &[Row<'_>]) -> bool {
-    for row in rows {
-        if !holds(alloc, row) {
-            return false;
+/// The number of the first row that does not hold, or how many rows there are.
+fn first_wrong(alloc: Global, judge: Judge, rows: &[Row<'_>]) -> usize {
+    for (i, row) in rows.iter().enumerate() {
+        if !holds(alloc, judge, row) {
+            return i;
         }
     }
-    true
+    rows.len()
 }
 
 const WHOLE: [Row<'static>; 16] = [
@@ -283,20 +282,18 @@ const STATES: [Row<'static>; 8] = [
 
 #[test]
 fn instances_memories_and_globals(rt: HostRuntime) {
-    assert!(rt; all_hold(rt.alloc(), &WHOLE));
+    assert_eq!(rt; first_wrong(rt.alloc(), Judge::Trap, &WHOLE), WHOLE.len());
 }
 
 #[test]
 fn frames(rt: HostRuntime) {
-    assert!(rt; all_hold(rt.alloc(), &FRAMES));
+    assert_eq!(rt; first_wrong(rt.alloc(), Judge::Trap, &FRAMES), FRAMES.len());
 }
 
 #[test]
 fn states(rt: HostRuntime) {
-    let alloc = rt.alloc();
-    let mut all = true;
-    for row in &STATES {
-        all = all && holds_as_state(alloc, row);
-    }
-    assert!(rt; all);
+    assert_eq!(rt;
+        first_wrong(rt.alloc(), Judge::State, &STATES),
+        STATES.len()
+    );
 }

@@ -18,36 +18,51 @@ use test_modules::SOURCE;
 /// A module, a dump, commands between semicolons, the status, and the text.
 type Row<'a> = (&'a [u8], &'a [u8], &'a str, u8, &'a str);
 
-fn words(alloc: Global, line: &str) -> Result<DebugWords, NoMemory> {
+fn commands(alloc: Global, line: &str) -> Result<Texts, NoMemory> {
     let mut commands = Texts::new(alloc);
     for command in line.split(';') {
         commands.push(Text::from_str(alloc, command)?)?;
     }
+    Ok(commands)
+}
+
+fn words(alloc: Global, line: &str) -> Result<DebugWords, NoMemory> {
+    let commands = commands(alloc, line)?;
+    let source = Text::from_str(alloc, "m")?;
+    let dump = Text::from_str(alloc, "d")?;
     Ok(DebugWords {
-        source: Text::from_str(alloc, "m")?,
-        dump: Text::from_str(alloc, "d")?,
+        source,
+        dump,
         commands,
     })
 }
 
-fn files(alloc: Global, row: &Row<'_>) -> Result<MemFiles, Fail> {
-    let mut files = MemFiles::new(alloc, Vec::new(alloc));
+/// The files of a module and of a dump, where the calls of these numbers fail.
+fn files(alloc: Global, row: &Row<'_>, fails: &[u64]) -> Result<MemFiles, NoMemory> {
+    let mut files = MemFiles::new(alloc, Vec::from_slice(alloc, fails)?);
     files.add("m", row.0)?;
     files.add("d", row.1)?;
     Ok(files)
 }
 
-fn is_printed(alloc: Global, row: &Row<'_>) -> Result<bool, Fail> {
-    let mut files = files(alloc, row)?;
-    let words = words(alloc, row.2)?;
-    let outcome = debug_file(alloc, &mut files, &words)?;
-    Ok(outcome.status.code() == row.3 && outcome.text.as_str() == row.4)
+fn is_answered(alloc: Global, files: &mut MemFiles, words: &DebugWords, row: &Row<'_>) -> bool {
+    match debug_file(alloc, files, words) {
+        Ok(outcome) => outcome.status.code() == row.3 && outcome.text.as_str() == row.4,
+        Err(NoMemory) => false,
+    }
 }
 
-/// The number of the first row that is not printed so, or how many rows there are.
-fn first_wrong(alloc: Global, rows: &[Row<'_>]) -> Result<usize, Fail> {
+/// Whether the commands of a row are answered so.
+fn holds(alloc: Global, row: &Row<'_>, fails: &[u64]) -> Result<bool, NoMemory> {
+    let words = words(alloc, row.2)?;
+    let mut files = files(alloc, row, fails)?;
+    Ok(is_answered(alloc, &mut files, &words, row))
+}
+
+/// The number of the first row that does not hold, or how many rows there are.
+fn first_wrong(alloc: Global, rows: &[Row<'_>]) -> Result<usize, NoMemory> {
     for (i, row) in rows.iter().enumerate() {
-        if !is_printed(alloc, row)? {
+        if !holds(alloc, row, &[])? {
             return Ok(i);
         }
     }
@@ -222,26 +237,33 @@ fn order_of_refusals(rt: HostRuntime) -> Result<(), Fail> {
     Ok(())
 }
 
-/// Whether a command is answered with this text where the call of that number fails.
-fn is_refused_at(alloc: Global, failing: u64, text: &str) -> Result<bool, Fail> {
-    let mut files = MemFiles::new(alloc, Vec::from_slice(alloc, &[failing])?);
-    files.add("m", &DIVISION)?;
-    files.add("d", &DIVISION_DUMP)?;
-    let words = words(alloc, "bt")?;
-    let outcome = debug_file(alloc, &mut files, &words)?;
-    Ok(outcome.text.as_str() == text)
+/// What is answered where the call of each number fails. Each file is read in two calls, the module first.
+const FAULTS: [Row<'static>; 5] = [
+    (&DIVISION, &DIVISION_DUMP, "bt", 4, "file fault: \"m\"\n"),
+    (&DIVISION, &DIVISION_DUMP, "bt", 4, "file fault: \"m\"\n"),
+    (&DIVISION, &DIVISION_DUMP, "bt", 4, "file fault: \"d\"\n"),
+    (&DIVISION, &DIVISION_DUMP, "bt", 4, "file fault: \"d\"\n"),
+    (
+        &DIVISION,
+        &DIVISION_DUMP,
+        "bt",
+        0,
+        "#0 ? (function 0 offset 5)\n",
+    ),
+];
+
+fn first_wrong_fault(alloc: Global, rows: &[Row<'_>]) -> Result<usize, NoMemory> {
+    for (i, row) in rows.iter().enumerate() {
+        if !holds(alloc, row, &[i as u64])? {
+            return Ok(i);
+        }
+    }
+    Ok(rows.len())
 }
 
-/// Each file is read in two calls, the module first.
 #[test]
 fn faults_of_files(rt: HostRuntime) -> Result<(), Fail> {
-    for failing in 0..2 {
-        assert!(rt; is_refused_at(rt.alloc(), failing, "file fault: \"m\"\n")?);
-    }
-    for failing in 2..4 {
-        assert!(rt; is_refused_at(rt.alloc(), failing, "file fault: \"d\"\n")?);
-    }
-    assert!(rt; is_refused_at(rt.alloc(), 4, "#0 ? (function 0 offset 5)\n")?);
+    assert_eq!(rt; first_wrong_fault(rt.alloc(), &FAULTS)?, FAULTS.len());
     Ok(())
 }
 

@@ -4,7 +4,6 @@ ghost use Rattle.wasm_validate.specs.Heights.{HasOp, HeightIs};
 
 use crate::cases::valid;
 use std::alloc::Global;
-use std::test::Fail;
 use wasm_syntax::ValType::{self, I32, I64};
 use wasm_validate::Validated;
 
@@ -89,6 +88,14 @@ fn stands(m: &Validated, at: u32, types: Option<&[ValType]>) -> bool {
     }
 }
 
+fn has_types_everywhere(m: &Validated) -> bool {
+    TYPES.iter().all(|row| stands(m, row.0, row.1))
+}
+
+fn has_numbers(m: &Validated) -> bool {
+    NUMBERS.iter().all(|row| m.op_at(row.0, row.1) == row.2)
+}
+
 fn has_heights(m: &Validated) -> bool {
     match m.heights().as_slice() {
         [one, two] => one.as_slice() == HEIGHTS.as_slice() && two.as_slice() == [0, 0].as_slice(),
@@ -96,26 +103,36 @@ fn has_heights(m: &Validated) -> bool {
     }
 }
 
+/// What is asked of [`BRANCHES`].
+#[derive(Clone, Copy)]
+enum Asked {
+    Numbers,
+    Types,
+    Heights,
+}
+
+fn holds(alloc: Global, asked: Asked) -> bool {
+    match valid(alloc, &BRANCHES) {
+        Some(m) => match asked {
+            Asked::Numbers => has_numbers(&m),
+            Asked::Types => has_types_everywhere(&m),
+            Asked::Heights => has_heights(&m),
+        },
+        None => false,
+    }
+}
+
 #[test]
 fn instructions_are_found_by_their_offsets(rt: HostRuntime) {
-    match valid(rt.alloc(), &BRANCHES) {
-        Some(m) => assert!(rt; NUMBERS.iter().all(|row| m.op_at(row.0, row.1) == row.2)),
-        None => assert!(rt; false),
-    }
+    assert!(rt; holds(rt.alloc(), Asked::Numbers));
 }
 
 #[test]
 fn operands_before_instructions(rt: HostRuntime) {
-    match valid(rt.alloc(), &BRANCHES) {
-        Some(m) => assert!(rt; TYPES.iter().all(|row| stands(&m, row.0, row.1))),
-        None => assert!(rt; false),
-    }
+    assert!(rt; holds(rt.alloc(), Asked::Types));
 }
 
 #[test]
 fn heights_of_a_module(rt: HostRuntime) {
-    match valid(rt.alloc(), &BRANCHES) {
-        Some(m) => assert!(rt; has_heights(&m)),
-        None => assert!(rt; false),
-    }
+    assert!(rt; holds(rt.alloc(), Asked::Heights));
 }

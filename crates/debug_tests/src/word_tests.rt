@@ -17,30 +17,19 @@ fn words_of(alloc: Global, line: &str) -> Result<Vec<String>, AllocError> {
     Ok(words)
 }
 
-/// The module, the dump and the commands, each behind a bar.
-fn joined(alloc: Global, words: &DebugWords) -> Result<Text, Fail> {
-    let mut text = Text::new(alloc);
-    text.push_str(words.source.as_str())?;
-    text.push_str("|")?;
-    text.push_str(words.dump.as_str())?;
-    for command in words.commands.as_slice() {
-        text.push_str("|")?;
-        text.push_str(command.as_str())?;
-    }
-    Ok(text)
-}
+/// Words, and what they ask for, where they are within the rules: the module, the dump and the commands.
+type Row<'a> = (&'a str, Option<&'a [&'a str]>);
 
-/// Words, and what they ask for, where they are within the rules.
-const ROWS: [(&str, Option<&str>); 15] = [
-    ("m d", Some("m|d")),
-    ("m d bt bt vars", Some("m|d|bt|bt|vars")),
-    ("m m m", Some("m|m|m")),
-    ("m d x 0 1", Some("m|d|x|0|1")),
-    ("m d -", Some("m|d|-")),
-    ("m d ", Some("m|d|")),
-    ("-- -m d bt", Some("-m|d|bt")),
-    ("m -- d", Some("m|d")),
-    ("m d -- --help --", Some("m|d|--help|--")),
+const ROWS: [Row<'static>; 15] = [
+    ("m d", Some(&["m", "d"])),
+    ("m d bt bt vars", Some(&["m", "d", "bt", "bt", "vars"])),
+    ("m m m", Some(&["m", "m", "m"])),
+    ("m d x 0 1", Some(&["m", "d", "x", "0", "1"])),
+    ("m d -", Some(&["m", "d", "-"])),
+    ("m d ", Some(&["m", "d", ""])),
+    ("-- -m d bt", Some(&["-m", "d", "bt"])),
+    ("m -- d", Some(&["m", "d"])),
+    ("m d -- --help --", Some(&["m", "d", "--help", "--"])),
     ("", None),
     ("m", None),
     ("m --", None),
@@ -49,19 +38,54 @@ const ROWS: [(&str, Option<&str>); 15] = [
     ("m d bt --help", None),
 ];
 
-fn is_read(alloc: Global, line: &str, wanted: Option<&str>) -> Result<bool, Fail> {
-    let words = words_of(alloc, line)?;
-    match debug_words(alloc, words.as_slice()) {
-        Ok(read) => Ok(wanted == Some(joined(alloc, &read)?.as_str())),
-        Err(WordsFault::Usage) => Ok(wanted.is_none()),
-        Err(WordsFault::NoMemory) => Ok(false),
+fn are_texts(texts: &[Text], wanted: &[&str]) -> bool {
+    if texts.len() != wanted.len() {
+        return false;
     }
+    for (text, word) in texts.iter().zip(wanted) {
+        if text.as_str() != *word {
+            return false;
+        }
+    }
+    true
+}
+
+fn asks_for(words: &DebugWords, wanted: &[&str]) -> bool {
+    match wanted {
+        [source, dump, commands @ ..] => {
+            words.source.as_str() == *source
+                && words.dump.as_str() == *dump
+                && are_texts(words.commands.as_slice(), commands)
+        }
+        _ => false,
+    }
+}
+
+fn is_wanted(read: &Result<DebugWords, WordsFault>, wanted: Option<&[&str]>) -> bool {
+    match (read, wanted) {
+        (Ok(words), Some(wanted)) => asks_for(words, wanted),
+        (Err(WordsFault::Usage), None) => true,
+        _ => false,
+    }
+}
+
+fn is_read(alloc: Global, row: &Row<'_>) -> Result<bool, AllocError> {
+    let words = words_of(alloc, row.0)?;
+    Ok(is_wanted(&debug_words(alloc, words.as_slice()), row.1))
+}
+
+/// The number of the first row that is read otherwise, or how many rows there are.
+fn first_wrong(alloc: Global, rows: &[Row<'_>]) -> Result<usize, AllocError> {
+    for (i, row) in rows.iter().enumerate() {
+        if !is_read(alloc, row)? {
+            return Ok(i);
+        }
+    }
+    Ok(rows.len())
 }
 
 #[test]
 fn words_behind_debug(rt: HostRuntime) -> Result<(), Fail> {
-    for (line, wanted) in ROWS {
-        assert!(rt; is_read(rt.alloc(), line, wanted)?, "{line}");
-    }
+    assert_eq!(rt; first_wrong(rt.alloc(), &ROWS)?, ROWS.len());
     Ok(())
 }
