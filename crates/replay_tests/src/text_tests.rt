@@ -212,87 +212,226 @@ fn looks_are_printed(rt: HostRuntime) -> Result<(), Fail> {
     Ok(())
 }
 
-/// Every step of the three ways that a branch by a table goes.
-const BRANCHES: [Row<'static>; 3] = [
+/// Each step of the three ways that a branch by a table goes: the argument, the step, and the text of `goto`, of the frame and of its operands.
+const STEPS: [(u32, &str, &str); 39] = [
     (
-        &TABLE_BRANCH,
-        b"",
-        "f",
-        &[Value::I32(0)],
-        (1_000, 100),
-        "goto 0;frame 0;operands;goto 1;frame 0;operands;goto 2;frame 0;operands;goto 3;frame 0;operands;\
-         goto 4;frame 0;operands;goto 5;frame 0;operands;goto 6;frame 0;operands;goto 7;frame 0;operands;\
-         goto 8;frame 0;operands;goto 9;frame 0;operands;goto 10;frame 0;operands;goto 11;frame 0;operands;\
-         goto 12;frame 0;operands;goto 13;frame 0;operands;goto 14;frame 0;operands",
         0,
-        "step 0 of 14\n#0 ? (function 0 offset 1)\nno operands\n\
-         step 1 of 14\n#0 ? (function 0 offset 3)\noperand 0 i32:10\n\
-         step 2 of 14\n#0 ? (function 0 offset 5)\noperand 0 i32:10\n\
-         step 3 of 14\n#0 ? (function 0 offset 7)\noperand 0 i32:10\noperand 1 i32:20\n\
-         step 4 of 14\n#0 ? (function 0 offset 9)\noperand 0 i32:10\noperand 1 i32:20\n\
-         step 5 of 14\n#0 ? (function 0 offset 11)\noperand 0 i32:10\noperand 1 i32:20\noperand 2 i32:30\n\
-         step 6 of 14\n#0 ? (function 0 offset 13)\noperand 0 i32:10\noperand 1 i32:20\noperand 2 i32:30\n\
-         step 7 of 14\n#0 ? (function 0 offset 15)\noperand 0 i32:10\noperand 1 i32:20\noperand 2 i32:30\noperand 3 i32:7\n\
-         step 8 of 14\n#0 ? (function 0 offset 17)\noperand 0 i32:10\noperand 1 i32:20\noperand 2 i32:30\noperand 3 i32:7\noperand 4 i32:0\n\
-         step 9 of 14\n#0 ? (function 0 offset 23)\noperand 0 i32:10\noperand 1 i32:20\noperand 2 i32:30\noperand 3 i32:7\n\
-         step 10 of 14\n#0 ? (function 0 offset 24)\noperand 0 i32:10\noperand 1 i32:20\noperand 2 i32:37\n\
-         step 11 of 14\n#0 ? (function 0 offset 25)\noperand 0 i32:10\noperand 1 i32:20\noperand 2 i32:37\n\
-         step 12 of 14\n#0 ? (function 0 offset 26)\noperand 0 i32:10\noperand 1 i32:57\n\
-         step 13 of 14\n#0 ? (function 0 offset 27)\noperand 0 i32:10\noperand 1 i32:57\n\
-         step 14 of 14 trap 1 unreachable\n#0 ? (function 0 offset 27)\noperand 0 i32:10\noperand 1 i32:57\n",
+        "goto 0;frame 0;operands",
+        "step 0 of 14\n#0 ? (function 0 offset 1)\nno operands\n",
     ),
     (
-        &TABLE_BRANCH,
-        b"",
-        "f",
-        &[Value::I32(1)],
-        (1_000, 100),
-        "goto 0;frame 0;operands;goto 1;frame 0;operands;goto 2;frame 0;operands;goto 3;frame 0;operands;\
-         goto 4;frame 0;operands;goto 5;frame 0;operands;goto 6;frame 0;operands;goto 7;frame 0;operands;\
-         goto 8;frame 0;operands;goto 9;frame 0;operands;goto 10;frame 0;operands;goto 11;frame 0;operands;\
-         goto 12;frame 0;operands",
         0,
-        "step 0 of 12\n#0 ? (function 0 offset 1)\nno operands\n\
-         step 1 of 12\n#0 ? (function 0 offset 3)\noperand 0 i32:10\n\
-         step 2 of 12\n#0 ? (function 0 offset 5)\noperand 0 i32:10\n\
-         step 3 of 12\n#0 ? (function 0 offset 7)\noperand 0 i32:10\noperand 1 i32:20\n\
-         step 4 of 12\n#0 ? (function 0 offset 9)\noperand 0 i32:10\noperand 1 i32:20\n\
-         step 5 of 12\n#0 ? (function 0 offset 11)\noperand 0 i32:10\noperand 1 i32:20\noperand 2 i32:30\n\
-         step 6 of 12\n#0 ? (function 0 offset 13)\noperand 0 i32:10\noperand 1 i32:20\noperand 2 i32:30\n\
-         step 7 of 12\n#0 ? (function 0 offset 15)\noperand 0 i32:10\noperand 1 i32:20\noperand 2 i32:30\noperand 3 i32:7\n\
-         step 8 of 12\n#0 ? (function 0 offset 17)\noperand 0 i32:10\noperand 1 i32:20\noperand 2 i32:30\noperand 3 i32:7\noperand 4 i32:1\n\
-         step 9 of 12\n#0 ? (function 0 offset 25)\noperand 0 i32:10\noperand 1 i32:20\noperand 2 i32:7\n\
-         step 10 of 12\n#0 ? (function 0 offset 26)\noperand 0 i32:10\noperand 1 i32:27\n\
-         step 11 of 12\n#0 ? (function 0 offset 27)\noperand 0 i32:10\noperand 1 i32:27\n\
-         step 12 of 12 trap 1 unreachable\n#0 ? (function 0 offset 27)\noperand 0 i32:10\noperand 1 i32:27\n",
+        "goto 1;frame 0;operands",
+        "step 1 of 14\n#0 ? (function 0 offset 3)\noperand 0 i32:10\n",
     ),
     (
-        &TABLE_BRANCH,
-        b"",
-        "f",
-        &[Value::I32(5)],
-        (1_000, 100),
-        "goto 0;frame 0;operands;goto 1;frame 0;operands;goto 2;frame 0;operands;goto 3;frame 0;operands;\
-         goto 4;frame 0;operands;goto 5;frame 0;operands;goto 6;frame 0;operands;goto 7;frame 0;operands;\
-         goto 8;frame 0;operands;goto 9;frame 0;operands;goto 10;frame 0;operands",
         0,
-        "step 0 of 10\n#0 ? (function 0 offset 1)\nno operands\n\
-         step 1 of 10\n#0 ? (function 0 offset 3)\noperand 0 i32:10\n\
-         step 2 of 10\n#0 ? (function 0 offset 5)\noperand 0 i32:10\n\
-         step 3 of 10\n#0 ? (function 0 offset 7)\noperand 0 i32:10\noperand 1 i32:20\n\
-         step 4 of 10\n#0 ? (function 0 offset 9)\noperand 0 i32:10\noperand 1 i32:20\n\
-         step 5 of 10\n#0 ? (function 0 offset 11)\noperand 0 i32:10\noperand 1 i32:20\noperand 2 i32:30\n\
-         step 6 of 10\n#0 ? (function 0 offset 13)\noperand 0 i32:10\noperand 1 i32:20\noperand 2 i32:30\n\
-         step 7 of 10\n#0 ? (function 0 offset 15)\noperand 0 i32:10\noperand 1 i32:20\noperand 2 i32:30\noperand 3 i32:7\n\
-         step 8 of 10\n#0 ? (function 0 offset 17)\noperand 0 i32:10\noperand 1 i32:20\noperand 2 i32:30\noperand 3 i32:7\noperand 4 i32:5\n\
-         step 9 of 10\n#0 ? (function 0 offset 27)\noperand 0 i32:10\noperand 1 i32:7\n\
-         step 10 of 10 trap 1 unreachable\n#0 ? (function 0 offset 27)\noperand 0 i32:10\noperand 1 i32:7\n",
+        "goto 2;frame 0;operands",
+        "step 2 of 14\n#0 ? (function 0 offset 5)\noperand 0 i32:10\n",
+    ),
+    (
+        0,
+        "goto 3;frame 0;operands",
+        "step 3 of 14\n#0 ? (function 0 offset 7)\noperand 0 i32:10\noperand 1 i32:20\n",
+    ),
+    (
+        0,
+        "goto 4;frame 0;operands",
+        "step 4 of 14\n#0 ? (function 0 offset 9)\noperand 0 i32:10\noperand 1 i32:20\n",
+    ),
+    (
+        0,
+        "goto 5;frame 0;operands",
+        "step 5 of 14\n#0 ? (function 0 offset 11)\noperand 0 i32:10\noperand 1 i32:20\noperand 2 i32:30\n",
+    ),
+    (
+        0,
+        "goto 6;frame 0;operands",
+        "step 6 of 14\n#0 ? (function 0 offset 13)\noperand 0 i32:10\noperand 1 i32:20\noperand 2 i32:30\n",
+    ),
+    (
+        0,
+        "goto 7;frame 0;operands",
+        "step 7 of 14\n#0 ? (function 0 offset 15)\noperand 0 i32:10\noperand 1 i32:20\noperand 2 i32:30\noperand 3 i32:7\n",
+    ),
+    (
+        0,
+        "goto 8;frame 0;operands",
+        "step 8 of 14\n#0 ? (function 0 offset 17)\noperand 0 i32:10\noperand 1 i32:20\noperand 2 i32:30\noperand 3 i32:7\noperand 4 i32:0\n",
+    ),
+    (
+        0,
+        "goto 9;frame 0;operands",
+        "step 9 of 14\n#0 ? (function 0 offset 23)\noperand 0 i32:10\noperand 1 i32:20\noperand 2 i32:30\noperand 3 i32:7\n",
+    ),
+    (
+        0,
+        "goto 10;frame 0;operands",
+        "step 10 of 14\n#0 ? (function 0 offset 24)\noperand 0 i32:10\noperand 1 i32:20\noperand 2 i32:37\n",
+    ),
+    (
+        0,
+        "goto 11;frame 0;operands",
+        "step 11 of 14\n#0 ? (function 0 offset 25)\noperand 0 i32:10\noperand 1 i32:20\noperand 2 i32:37\n",
+    ),
+    (
+        0,
+        "goto 12;frame 0;operands",
+        "step 12 of 14\n#0 ? (function 0 offset 26)\noperand 0 i32:10\noperand 1 i32:57\n",
+    ),
+    (
+        0,
+        "goto 13;frame 0;operands",
+        "step 13 of 14\n#0 ? (function 0 offset 27)\noperand 0 i32:10\noperand 1 i32:57\n",
+    ),
+    (
+        0,
+        "goto 14;frame 0;operands",
+        "step 14 of 14 trap 1 unreachable\n#0 ? (function 0 offset 27)\noperand 0 i32:10\noperand 1 i32:57\n",
+    ),
+    (
+        1,
+        "goto 0;frame 0;operands",
+        "step 0 of 12\n#0 ? (function 0 offset 1)\nno operands\n",
+    ),
+    (
+        1,
+        "goto 1;frame 0;operands",
+        "step 1 of 12\n#0 ? (function 0 offset 3)\noperand 0 i32:10\n",
+    ),
+    (
+        1,
+        "goto 2;frame 0;operands",
+        "step 2 of 12\n#0 ? (function 0 offset 5)\noperand 0 i32:10\n",
+    ),
+    (
+        1,
+        "goto 3;frame 0;operands",
+        "step 3 of 12\n#0 ? (function 0 offset 7)\noperand 0 i32:10\noperand 1 i32:20\n",
+    ),
+    (
+        1,
+        "goto 4;frame 0;operands",
+        "step 4 of 12\n#0 ? (function 0 offset 9)\noperand 0 i32:10\noperand 1 i32:20\n",
+    ),
+    (
+        1,
+        "goto 5;frame 0;operands",
+        "step 5 of 12\n#0 ? (function 0 offset 11)\noperand 0 i32:10\noperand 1 i32:20\noperand 2 i32:30\n",
+    ),
+    (
+        1,
+        "goto 6;frame 0;operands",
+        "step 6 of 12\n#0 ? (function 0 offset 13)\noperand 0 i32:10\noperand 1 i32:20\noperand 2 i32:30\n",
+    ),
+    (
+        1,
+        "goto 7;frame 0;operands",
+        "step 7 of 12\n#0 ? (function 0 offset 15)\noperand 0 i32:10\noperand 1 i32:20\noperand 2 i32:30\noperand 3 i32:7\n",
+    ),
+    (
+        1,
+        "goto 8;frame 0;operands",
+        "step 8 of 12\n#0 ? (function 0 offset 17)\noperand 0 i32:10\noperand 1 i32:20\noperand 2 i32:30\noperand 3 i32:7\noperand 4 i32:1\n",
+    ),
+    (
+        1,
+        "goto 9;frame 0;operands",
+        "step 9 of 12\n#0 ? (function 0 offset 25)\noperand 0 i32:10\noperand 1 i32:20\noperand 2 i32:7\n",
+    ),
+    (
+        1,
+        "goto 10;frame 0;operands",
+        "step 10 of 12\n#0 ? (function 0 offset 26)\noperand 0 i32:10\noperand 1 i32:27\n",
+    ),
+    (
+        1,
+        "goto 11;frame 0;operands",
+        "step 11 of 12\n#0 ? (function 0 offset 27)\noperand 0 i32:10\noperand 1 i32:27\n",
+    ),
+    (
+        1,
+        "goto 12;frame 0;operands",
+        "step 12 of 12 trap 1 unreachable\n#0 ? (function 0 offset 27)\noperand 0 i32:10\noperand 1 i32:27\n",
+    ),
+    (
+        5,
+        "goto 0;frame 0;operands",
+        "step 0 of 10\n#0 ? (function 0 offset 1)\nno operands\n",
+    ),
+    (
+        5,
+        "goto 1;frame 0;operands",
+        "step 1 of 10\n#0 ? (function 0 offset 3)\noperand 0 i32:10\n",
+    ),
+    (
+        5,
+        "goto 2;frame 0;operands",
+        "step 2 of 10\n#0 ? (function 0 offset 5)\noperand 0 i32:10\n",
+    ),
+    (
+        5,
+        "goto 3;frame 0;operands",
+        "step 3 of 10\n#0 ? (function 0 offset 7)\noperand 0 i32:10\noperand 1 i32:20\n",
+    ),
+    (
+        5,
+        "goto 4;frame 0;operands",
+        "step 4 of 10\n#0 ? (function 0 offset 9)\noperand 0 i32:10\noperand 1 i32:20\n",
+    ),
+    (
+        5,
+        "goto 5;frame 0;operands",
+        "step 5 of 10\n#0 ? (function 0 offset 11)\noperand 0 i32:10\noperand 1 i32:20\noperand 2 i32:30\n",
+    ),
+    (
+        5,
+        "goto 6;frame 0;operands",
+        "step 6 of 10\n#0 ? (function 0 offset 13)\noperand 0 i32:10\noperand 1 i32:20\noperand 2 i32:30\n",
+    ),
+    (
+        5,
+        "goto 7;frame 0;operands",
+        "step 7 of 10\n#0 ? (function 0 offset 15)\noperand 0 i32:10\noperand 1 i32:20\noperand 2 i32:30\noperand 3 i32:7\n",
+    ),
+    (
+        5,
+        "goto 8;frame 0;operands",
+        "step 8 of 10\n#0 ? (function 0 offset 17)\noperand 0 i32:10\noperand 1 i32:20\noperand 2 i32:30\noperand 3 i32:7\noperand 4 i32:5\n",
+    ),
+    (
+        5,
+        "goto 9;frame 0;operands",
+        "step 9 of 10\n#0 ? (function 0 offset 27)\noperand 0 i32:10\noperand 1 i32:7\n",
+    ),
+    (
+        5,
+        "goto 10;frame 0;operands",
+        "step 10 of 10 trap 1 unreachable\n#0 ? (function 0 offset 27)\noperand 0 i32:10\noperand 1 i32:7\n",
     ),
 ];
 
+/// Whether a step is printed so, however far checkpoints stand apart.
+fn is_step(alloc: Global, argument: u32, commands: &str, text: &str) -> Result<bool, Fail> {
+    let args = [Value::I32(argument)];
+    let row = (
+        TABLE_BRANCH.as_slice(),
+        b"".as_slice(),
+        "f",
+        args.as_slice(),
+        (1_000, 100),
+        commands,
+        0,
+        text,
+    );
+    Ok(is_printed(alloc, &row, 1)? && is_printed(alloc, &row, 1_000)?)
+}
+
 #[test]
 fn each_step_of_a_branch_is_printed(rt: HostRuntime) -> Result<(), Fail> {
-    assert_eq!(rt; first_wrong(rt.alloc(), &BRANCHES)?, BRANCHES.len());
+    for (argument, commands, text) in STEPS {
+        assert!(rt; is_step(rt.alloc(), argument, commands, text)?, "{text}");
+    }
     Ok(())
 }
 
