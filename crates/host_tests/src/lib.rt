@@ -9,3 +9,5 @@ mod record_tests;
 mod reply_tests;
 #[cfg(test)]
 mod set_tests;
+#[cfg(test)]
+mod told;
