@@ -1,17 +1,13 @@
 //! Each device through its trait.
 
-use causes::NoMemory;
 use host_devices::{Console, Counter, Device, DeviceAnswer};
 use pm_text::{Items, Text};
-use std::alloc::{AllocError, Global};
+use std::alloc::Global;
+use std::test::Fail;
 use wasm_syntax::{HostCall, ValType, Value};
 
 /// A call of one argument.
-fn call(
-    alloc: Global,
-    argument: Value,
-    result_type: Option<ValType>,
-) -> Result<HostCall, NoMemory> {
+fn call(alloc: Global, argument: Value, result_type: Option<ValType>) -> Result<HostCall, Fail> {
     Ok(HostCall {
         import: 0,
         name: Text::from_str(alloc, "next")?,
@@ -20,56 +16,38 @@ fn call(
     })
 }
 
-/// The argument of a call, the type of its result, and the value that a device replies; nothing where it fails.
-type Row = (u32, Option<ValType>, Option<Option<Value>>);
-
-/// Whether a device answers a call so.
-fn answers<D: Device>(alloc: Global, device: &mut D, row: Row) -> bool {
-    let Ok(call) = call(alloc, Value::I32(row.0), row.1) else {
-        return false;
-    };
-    match device.call(&call, None) {
-        DeviceAnswer::Replied(reply) => row.2 == Some(reply.value),
-        DeviceAnswer::Failed => row.2.is_none(),
-        DeviceAnswer::NoMemory => false,
+/// The value that a device replies, or an error where it does not.
+fn replied<D: Device>(device: &mut D, call: &HostCall) -> Result<Option<Value>, &'static str> {
+    match device.call(call, None) {
+        DeviceAnswer::Replied(reply) => Ok(reply.value),
+        DeviceAnswer::Failed => Err("failed"),
+        DeviceAnswer::NoMemory => Err("no memory"),
     }
 }
 
-const NARROW: Row = (7, Some(ValType::I32), Some(Some(Value::I32(0))));
-
-const WIDE: Row = (8, Some(ValType::I64), Some(Some(Value::I64(1))));
-
-const SILENT: Row = (9, None, Some(None));
-
-const FAILED: Row = (1, None, None);
-
-fn counts_replies(alloc: Global) -> bool {
-    let mut counter = Counter::new(alloc);
-    counter.name() == "counter"
-        && answers(alloc, &mut counter, NARROW)
-        && answers(alloc, &mut counter, WIDE)
-        && answers(alloc, &mut counter, SILENT)
-        && counter.log().len() == 3
-        && counter.faults() == 0
+#[test]
+fn a_counter_counts_its_replies(rt: HostRuntime) -> Result<(), Fail> {
+    let mut counter = Counter::new(rt.alloc());
+    let narrow = call(rt.alloc(), Value::I32(7), Some(ValType::I32))?;
+    let wide = call(rt.alloc(), Value::I32(8), Some(ValType::I64))?;
+    let silent = call(rt.alloc(), Value::I32(9), None)?;
+    assert_eq!(rt; counter.name(), "counter");
+    assert_eq!(rt; replied(&mut counter, &narrow)?, Some(Value::I32(0)));
+    assert_eq!(rt; replied(&mut counter, &wide)?, Some(Value::I64(1)));
+    assert_eq!(rt; replied(&mut counter, &silent)?, None);
+    assert_eq!(rt; counter.log().len(), 3);
+    assert_eq!(rt; counter.faults(), 0);
+    Ok(())
 }
 
 #[test]
-fn a_counter_counts_its_replies(rt: HostRuntime) {
-    assert!(rt; counts_replies(rt.alloc()));
-}
-
-fn fails_at_its_second_call(alloc: Global) -> Result<bool, AllocError> {
-    let mut console = Console::new(alloc, vec![in alloc; 1]?);
-    Ok(
-        console.name() == "console"
-            && answers(alloc, &mut console, SILENT)
-            && answers(alloc, &mut console, FAILED)
-            && console.log().len() == 1
-            && console.faults() == 1,
-    )
-}
-
-#[test]
-fn a_console_fails_where_it_is_told_to(rt: HostRuntime) {
-    assert!(rt; matches!(fails_at_its_second_call(rt.alloc()), Ok(true)));
+fn a_console_fails_where_it_is_told_to(rt: HostRuntime) -> Result<(), Fail> {
+    let mut console = Console::new(rt.alloc(), vec![in rt.alloc(); 1]?);
+    let put = call(rt.alloc(), Value::I32(1), None)?;
+    assert_eq!(rt; console.name(), "console");
+    assert_eq!(rt; replied(&mut console, &put)?, None);
+    assert_eq!(rt; replied(&mut console, &put), Err("failed"));
+    assert_eq!(rt; console.log().len(), 1);
+    assert_eq!(rt; console.faults(), 1);
+    Ok(())
 }

@@ -9,5 +9,3 @@ mod record_tests;
 mod reply_tests;
 #[cfg(test)]
 mod set_tests;
-#[cfg(test)]
-mod told;

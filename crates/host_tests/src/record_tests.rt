@@ -1,116 +1,124 @@
 //! Records of replies.
 
-use crate::told::{Told, are_told, replies_of};
+use causes::NoMemory;
 use host_replies::read_replies;
-use pm_text::Text;
+use pm_text::{Bytes, Items, Text};
 use run_record::push_record;
 use std::alloc::Global;
-use wasm_syntax::{Reply, Value};
+use std::test::Fail;
+use wasm_syntax::{Reply, Value, Write};
 
-const NINE: Option<Value> = Some(Value::I32(9));
-
-/// Replies, and their record.
-type Row = (&'static [Told], &'static str);
-
-/// Values are recorded signed.
-const VALUES: [Row; 9] = [
-    (&[(None, &[])], "none\n"),
-    (&[(Some(Value::I32(0)), &[])], "i32:0\n"),
-    (&[(Some(Value::I32(0x7fff_ffff)), &[])], "i32:2147483647\n"),
-    (&[(Some(Value::I32(0x8000_0000)), &[])], "i32:-2147483648\n"),
-    (&[(Some(Value::I32(0xffff_ffff)), &[])], "i32:-1\n"),
-    (&[(Some(Value::I64(0xffff_ffff)), &[])], "i64:4294967295\n"),
-    (
-        &[(Some(Value::I64(0x7fff_ffff_ffff_ffff)), &[])],
-        "i64:9223372036854775807\n",
-    ),
-    (
-        &[(Some(Value::I64(0x8000_0000_0000_0000)), &[])],
-        "i64:-9223372036854775808\n",
-    ),
-    (&[(Some(Value::I64(u64::MAX)), &[])], "i64:-1\n"),
-];
-
-/// Writes of no bytes are left out.
-const WRITES: [Row; 5] = [
-    (&[(NINE, &[(16, &[1, 2, 3, 4])])], "i32:9 16=01020304\n"),
-    (&[(NINE, &[(16, &[])])], "i32:9\n"),
-    (
-        &[(NINE, &[(0, &[]), (7, &[0xff]), (8, &[])])],
-        "i32:9 7=ff\n",
-    ),
-    (
-        &[(NINE, &[(0, &[0xab]), (0, &[0xcd])])],
-        "i32:9 0=ab 0=cd\n",
-    ),
-    (
-        &[(NINE, &[(0xffff_ffff, &[0x0a, 0x0d, 0x20])])],
-        "i32:9 4294967295=0a0d20\n",
-    ),
-];
+/// Adds a reply with this value and these writes.
+fn add(
+    alloc: Global,
+    replies: &mut Items<Reply>,
+    value: Option<Value>,
+    writes: &[(u32, &[u8])],
+) -> Result<(), NoMemory> {
+    let mut made = Items::new(alloc);
+    for (at, bytes) in writes {
+        made.push(Write {
+            at: *at,
+            bytes: Bytes::from_slice(alloc, bytes)?,
+        })?;
+    }
+    replies.push(Reply {
+        value,
+        writes: made,
+    })
+}
 
 /// Whether replies are recorded as this text.
-fn are_recorded(alloc: Global, replies: &[Reply], text: &str) -> bool {
+fn is_recorded(alloc: Global, replies: &[Reply], text: &str) -> bool {
     let mut out = Text::new(alloc);
     push_record(alloc, &mut out, replies).is_ok() && out.as_str() == text
 }
 
-/// Whether a row holds.
-fn holds(alloc: Global, row: Row) -> bool {
-    match replies_of(alloc, row.0) {
-        Ok(replies) => are_recorded(alloc, replies.as_slice(), row.1),
-        Err(_) => false,
-    }
-}
-
-/// The record of the first row that does not hold.
-fn first_wrong(alloc: Global, rows: &[Row]) -> Option<&'static str> {
-    for row in rows {
-        if !holds(alloc, *row) {
-            return Some(row.1);
-        }
-    }
-    None
+/// Whether the record of one reply is this text.
+fn one_is(alloc: Global, value: Option<Value>, writes: &[(u32, &[u8])], text: &str) -> bool {
+    let mut replies = Items::new(alloc);
+    add(alloc, &mut replies, value, writes).is_ok() && is_recorded(alloc, replies.as_slice(), text)
 }
 
 #[test]
 fn values_are_recorded_signed(rt: HostRuntime) {
-    assert_eq!(rt; first_wrong(rt.alloc(), &VALUES), None);
-}
-
-#[test]
-fn writes_of_no_bytes_are_left_out(rt: HostRuntime) {
-    assert_eq!(rt; first_wrong(rt.alloc(), &WRITES), None);
-}
-
-const LEAST: Option<Value> = Some(Value::I64(u64::MAX - 1));
-
-/// Three replies, with writes of no bytes among them.
-const THREE: Row = (
-    &[
-        (None, &[(5, &[])]),
-        (NINE, &[(16, &[1, 2]), (3, &[]), (0, &[0xfe])]),
-        (LEAST, &[(u32::MAX, &[0])]),
-    ],
-    "none\ni32:9 16=0102 0=fe\ni64:-2 4294967295=00\n",
-);
-
-/// What is read of their record.
-const READ: [Told; 3] = [
-    (None, &[]),
-    (NINE, &[(16, &[1, 2]), (0, &[0xfe])]),
-    (LEAST, &[(u32::MAX, &[0])]),
-];
-
-/// Whether a record is read as these replies.
-fn is_read(alloc: Global, record: &str, told: &[Told]) -> bool {
-    match read_replies(alloc, record.as_bytes()) {
-        Ok(replies) => are_told(replies.as_slice(), told),
-        Err(_) => false,
+    let rows: [(Option<Value>, &str); 9] = [
+        (None, "none\n"),
+        (Some(Value::I32(0)), "i32:0\n"),
+        (Some(Value::I32(0x7fff_ffff)), "i32:2147483647\n"),
+        (Some(Value::I32(0x8000_0000)), "i32:-2147483648\n"),
+        (Some(Value::I32(0xffff_ffff)), "i32:-1\n"),
+        (Some(Value::I64(0xffff_ffff)), "i64:4294967295\n"),
+        (
+            Some(Value::I64(i64::MAX as u64)),
+            "i64:9223372036854775807\n",
+        ),
+        (Some(Value::I64(1 << 63)), "i64:-9223372036854775808\n"),
+        (Some(Value::I64(u64::MAX)), "i64:-1\n"),
+    ];
+    for (value, text) in rows.iter() {
+        assert!(rt; one_is(rt.alloc(), *value, &[], text));
     }
 }
 
 #[test]
-fn a_record_is_read_back(rt: HostRuntime) {
-    assert!(rt; holds(rt.alloc(), THREE) && is_read(rt.alloc(), THREE.1, &READ));
+fn writes_of_no_bytes_are_left_out(rt: HostRuntime) {
+    let rows: [(&[(u32, &[u8])], &str); 5] = [
+        (&[(16, &[1, 2, 3, 4])], "i32:9 16=01020304\n"),
+        (&[(16, &[])], "i32:9\n"),
+        (&[(0, &[]), (7, &[0xff]), (8, &[])], "i32:9 7=ff\n"),
+        (&[(0, &[0xab]), (0, &[0xcd])], "i32:9 0=ab 0=cd\n"),
+        (
+            &[(0xffff_ffff, &[0x0a, 0x0d, 0x20])],
+            "i32:9 4294967295=0a0d20\n",
+        ),
+    ];
+    for (writes, text) in rows.iter() {
+        assert!(rt; one_is(rt.alloc(), Some(Value::I32(9)), writes, text));
+    }
+}
+
+/// Whether a write is this one.
+fn is_write(write: &Write, at: u32, bytes: &[u8]) -> bool {
+    write.at == at && write.bytes.as_slice() == bytes
+}
+
+/// Whether a file of replies has these three: none, one with two writes, and a negative one with one.
+fn are_three(replies: &[Reply]) -> bool {
+    let [first, second, third] = replies else {
+        return false;
+    };
+    first.value.is_none()
+        && first.writes.is_empty()
+        && second.value == Some(Value::I32(9))
+        && matches!(second.writes.as_slice(), [a, b] if is_write(a, 16, &[1, 2]) && is_write(b, 0, &[0xfe]))
+        && third.value == Some(Value::I64(u64::MAX - 1))
+        && matches!(third.writes.as_slice(), [a] if is_write(a, u32::MAX, &[0]))
+}
+
+/// Three replies, with writes of no bytes among them.
+fn three(alloc: Global) -> Result<Items<Reply>, NoMemory> {
+    let mut replies = Items::new(alloc);
+    add(alloc, &mut replies, None, &[(5, &[])])?;
+    let nine = Some(Value::I32(9));
+    add(
+        alloc,
+        &mut replies,
+        nine,
+        &[(16, &[1, 2]), (3, &[]), (0, &[0xfe])],
+    )?;
+    let least = Some(Value::I64(u64::MAX - 1));
+    add(alloc, &mut replies, least, &[(u32::MAX, &[0])])?;
+    Ok(replies)
+}
+
+#[test]
+fn a_record_is_read_back(rt: HostRuntime) -> Result<(), Fail> {
+    let replies = three(rt.alloc())?;
+    let mut text = Text::new(rt.alloc());
+    push_record(rt.alloc(), &mut text, replies.as_slice())?;
+    assert!(rt; text.as_str() == "none\ni32:9 16=0102 0=fe\ni64:-2 4294967295=00\n");
+    let read = read_replies(rt.alloc(), text.as_bytes())?;
+    assert!(rt; are_three(read.as_slice()));
+    Ok(())
 }

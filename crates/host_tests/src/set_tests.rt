@@ -3,18 +3,26 @@
 ghost use Rattle.std.specs.Prelude.{◌≡◌, [], IfOk};
 ghost use Rattle.host_set.specs.Sets.{AreDistinct, names};
 
-use crate::told::{Told, replies_of};
 use causes::NoMemory;
 use host_devices::{Console, Counter, Device, DeviceAnswer, HostAnswer, HostSide, Scripted};
 use host_set::{DeviceSet, Devices, Hosts};
 use linear_memory::Memory;
 use pm_text::{Items, Text};
-use std::alloc::{AllocError, Global};
+use std::alloc::Global;
 use std::cell::Cell;
 use std::mem;
 use std::rc::Rc;
 use std::test::Fail;
 use wasm_syntax::{HostCall, Import, Reply, Served, ValType, Value};
+
+/// An import of each of these modules.
+fn imports(alloc: Global, modules: [&str; 2]) -> Result<Items<Import>, NoMemory> {
+    let [first, second] = modules;
+    let mut imports = Items::new(alloc);
+    imports.push(import(alloc, first)?)?;
+    imports.push(import(alloc, second)?)?;
+    Ok(imports)
+}
 
 fn import(alloc: Global, module: &str) -> Result<Import, NoMemory> {
     Ok(Import {
@@ -22,15 +30,6 @@ fn import(alloc: Global, module: &str) -> Result<Import, NoMemory> {
         name: Text::from_str(alloc, "next")?,
         ftype: 0,
     })
-}
-
-/// An import of each of these modules.
-fn imports(alloc: Global, modules: [&str; 2]) -> Result<Items<Import>, NoMemory> {
-    let mut imports = Items::new(alloc);
-    for module in modules {
-        imports.push(import(alloc, module)?)?;
-    }
-    Ok(imports)
 }
 
 fn call_of(alloc: Global, import: u32) -> Result<HostCall, NoMemory>
@@ -44,48 +43,146 @@ fn call_of(alloc: Global, import: u32) -> Result<HostCall, NoMemory>
     })
 }
 
-/// The replies 5 and 6.
-const SCRIPT: [Told; 2] = [(Some(Value::I32(5)), &[]), (Some(Value::I32(6)), &[])];
-
-/// A counter that was called once.
-fn called(alloc: Global) -> Result<Counter, NoMemory> {
-    let mut counter = Counter::new(alloc);
-    counter.call(&call_of(alloc, 0)?, None);
-    Ok(counter)
+/// Replies with these values.
+fn replies(alloc: Global, values: [u32; 2]) -> Result<Items<Reply>, NoMemory> {
+    let [first, second] = values;
+    let mut replies = Items::new(alloc);
+    replies.push(reply(alloc, first))?;
+    replies.push(reply(alloc, second))?;
+    Ok(replies)
 }
 
-/// A device for `env` that replies 5 and 6, and fails at once.
-fn failing(alloc: Global) -> Result<Scripted, NoMemory> {
-    let name = Text::from_str(alloc, "env")?;
-    let replies = replies_of(alloc, &SCRIPT)?;
-    Ok(Scripted::new(alloc, name, replies, vec![in alloc; 0]?))
+fn reply(alloc: Global, value: u32) -> Reply {
+    Reply {
+        value: Some(Value::I32(value)),
+        writes: Items::new(alloc),
+    }
 }
 
-/// A kind of device.
-#[derive(Clone, Copy)]
-enum Kind {
-    Counter,
-    /// A counter that was called once.
-    Called,
-    Console,
-    /// A device for `env` that replies 5 and 6, and fails at once.
-    Failing,
+/// The value of a reply, or else the name of the device that failed, or a word.
+fn value(answer: &HostAnswer) -> Result<Option<Value>, &str> {
+    match answer {
+        HostAnswer::Replied(reply) => Ok(reply.value),
+        HostAnswer::Failed(name) => Err(name.as_str()),
+        HostAnswer::NoReply => Err("(no reply)"),
+        HostAnswer::NoMemory => Err("(no memory)"),
+    }
 }
 
-/// Attaches a new device. The answer is how many calls the one that it replaces has replied to.
-fn attach(alloc: Global, devices: &mut DeviceSet, kind: Kind) -> Result<Option<usize>, NoMemory>
+fn is_value(answer: &HostAnswer, wanted: u32) -> bool {
+    value(answer) == Ok(Some(Value::I32(wanted)))
+}
+
+fn is_word(answer: &HostAnswer, wanted: &str) -> bool {
+    value(answer) == Err(wanted)
+}
+
+/// The answer to a call of the import of a number.
+fn answer<S: Devices>(
+    alloc: Global,
+    hosts: &mut Hosts<'_, S>,
+    imports: &[Import],
+    number: u32,
+) -> HostAnswer
+    requires { hosts.old.imports ≡ imports.now }
+    ensures { hosts.new.imports ≡ imports.now }
+{
+    let Some(import) = imports.get(number as usize) else {
+        return HostAnswer::NoMemory;
+    };
+    match call_of(alloc, number) {
+        Ok(call) => hosts.call(import, &call, None),
+        Err(_) => HostAnswer::NoMemory,
+    }
+}
+
+/// The answers to three calls, of the imports of these numbers, by a set of devices and a script.
+fn answers<S: Devices>(
+    alloc: Global,
+    devices: &mut S,
+    script: Option<Items<Reply>>,
+    imports: &[Import],
+    numbers: [u32; 3],
+) -> [HostAnswer; 3]
+    requires { AreDistinct (names (S.shown devices.old)) }
+{
+    let [first, second, third] = numbers;
+    let empty = S::empty(alloc);
+    let mut hosts = Hosts::new(alloc, mem::replace(devices, empty), script, imports);
+    let first = answer(alloc, &mut hosts, imports, first);
+    let second = answer(alloc, &mut hosts, imports, second);
+    let third = answer(alloc, &mut hosts, imports, third);
+    *devices = hosts.into_devices();
+    [first, second, third]
+}
+
+/// The value of the first reply that was served, to a call of the first import.
+fn first_served<S: Devices>(
+    alloc: Global,
+    devices: S,
+    script: Option<Items<Reply>>,
+    imports: &[Import],
+) -> Option<Value>
+    requires { AreDistinct (names (S.shown devices)) }
+{
+    let mut hosts = Hosts::new(alloc, devices, script, imports);
+    answer(alloc, &mut hosts, imports, 0);
+    if hosts.given() == 0 {
+        return None;
+    }
+    hosts.reply(0).value
+}
+
+/// The answers to three calls of the imports of `env` and `counter`, by a set of devices and the replies 5 and 6.
+fn scripted(
+    alloc: Global,
+    devices: &mut DeviceSet,
+    numbers: [u32; 3],
+) -> Result<[HostAnswer; 3], NoMemory>
+    requires { AreDistinct (names (⟦<DeviceSet as Devices>⟧.shown devices.old)) }
+{
+    let imports = imports(alloc, ["env", "counter"])?;
+    let script = Some(replies(alloc, [5, 6])?);
+    Ok(answers(alloc, devices, script, imports.as_slice(), numbers))
+}
+
+/// The answers to three calls of the imports of `env` and `counter`, by a set of devices alone.
+fn unscripted(
+    alloc: Global,
+    devices: &mut DeviceSet,
+    numbers: [u32; 3],
+) -> Result<[HostAnswer; 3], NoMemory>
+    requires { AreDistinct (names (⟦<DeviceSet as Devices>⟧.shown devices.old)) }
+{
+    let imports = imports(alloc, ["env", "counter"])?;
+    Ok(answers(alloc, devices, None, imports.as_slice(), numbers))
+}
+
+/// Attaches a device. The answer is how many calls the one that it replaces has replied to.
+fn attach(devices: &mut DeviceSet, device: Box<dyn Device>) -> Result<Option<usize>, NoMemory>
     ensures { AreDistinct (names (⟦<DeviceSet as Devices>⟧.shown devices.old)) → AreDistinct (names (⟦<DeviceSet as Devices>⟧.shown devices.new)) }
 {
-    let attached = match kind {
-        Kind::Counter => devices.attach(Box::new(alloc, Counter::new(alloc))?),
-        Kind::Called => devices.attach(Box::new(alloc, called(alloc)?)?),
-        Kind::Console => devices.attach(Box::new(alloc, Console::new(alloc, Vec::new(alloc)))?),
-        Kind::Failing => devices.attach(Box::new(alloc, failing(alloc)?)?),
-    };
-    match attached {
+    match devices.attach(device) {
         Ok(replaced) => Ok(logged(&replaced)),
         Err(_) => Err(NoMemory),
     }
+}
+
+/// Releases a device. The answer is how many calls it has replied to.
+fn release(devices: &mut DeviceSet, name: &str) -> Option<usize> {
+    logged(&devices.release(name))
+}
+
+/// How many calls the device of a name has replied to, and how many failed.
+fn counts(devices: &DeviceSet, name: &str) -> Option<(usize, u64)> {
+    match devices.get(name) {
+        Some(device) => Some((device.log().len(), device.faults())),
+        None => None,
+    }
+}
+
+fn has_counts(devices: &DeviceSet, name: &str, wanted: (usize, u64)) -> bool {
+    counts(devices, name) == Some(wanted)
 }
 
 /// How many calls a device has replied to.
@@ -96,207 +193,27 @@ fn logged(device: &Option<Box<dyn Device>>) -> Option<usize> {
     }
 }
 
-/// Releases a device. The answer is how many calls it has replied to.
-fn release(devices: &mut DeviceSet, name: &str) -> Option<usize> {
-    logged(&devices.release(name))
-}
-
-/// The name of a device, how many calls it replied to, and how many failed.
-type Counts = (&'static str, usize, u64);
-
-/// Whether a device counts so.
-fn has_counts(devices: &DeviceSet, counts: Counts) -> bool {
-    let (name, replied, failed) = counts;
-    match devices.get(name) {
-        Some(device) => device.log().len() == replied && device.faults() == failed,
-        None => false,
-    }
-}
-
-/// Whether devices count so.
-fn have_counts(devices: &DeviceSet, all: &[Counts]) -> bool {
-    for counts in all {
-        if !has_counts(devices, *counts) {
-            return false;
-        }
-    }
-    true
-}
-
-fn is_handed_back(alloc: Global) -> Result<bool, NoMemory> {
-    let mut devices = DeviceSet::new(alloc);
-    Ok(
-        attach(alloc, &mut devices, Kind::Counter)?.is_none()
-            && attach(alloc, &mut devices, Kind::Console)?.is_none()
-            && attach(alloc, &mut devices, Kind::Called)? == Some(0)
-            && have_counts(&devices, &[("counter", 1, 0), ("console", 0, 0)])
-            && release(&mut devices, "counter") == Some(1)
-            && devices.get("counter").is_none()
-            && release(&mut devices, "counter").is_none(),
-    )
+/// A counter that was called once.
+fn called(alloc: Global) -> Result<Counter, NoMemory> {
+    let mut counter = Counter::new(alloc);
+    counter.call(&call_of(alloc, 0)?, None);
+    Ok(counter)
 }
 
 #[test]
-fn a_replaced_device_is_handed_back(rt: HostRuntime) {
-    assert!(rt; matches!(is_handed_back(rt.alloc()), Ok(true)));
-}
-
-/// The number of an import that is called, and the value that is replied, or else the name of the device that failed, or a word.
-type Call = (u32, Result<u32, &'static str>);
-
-/// What serves calls of two imports, by the names of their modules, and then three calls, the value of the first reply that is kept, and what devices
-/// count.
-struct Row {
-    devices: [Option<Kind>; 2],
-    script: Option<&'static [Told]>,
-    imports: [&'static str; 2],
-    calls: [Call; 3],
-    kept: u32,
-    counts: &'static [Counts],
-}
-
-const ROWS: [Row; 4] = [
-    // A script ends.
-    Row {
-        devices: [None, None],
-        script: Some(&SCRIPT),
-        imports: ["env", "counter"],
-        calls: [(0, Ok(5)), (1, Ok(6)), (0, Err("(no reply)"))],
-        kept: 5,
-        counts: &[],
-    },
-    // A device goes before the script.
-    Row {
-        devices: [Some(Kind::Counter), None],
-        script: Some(&SCRIPT),
-        imports: ["env", "counter"],
-        calls: [(1, Ok(0)), (0, Ok(5)), (1, Ok(1))],
-        kept: 0,
-        counts: &[("counter", 2, 0)],
-    },
-    // A device goes on from its earlier calls.
-    Row {
-        devices: [Some(Kind::Called), None],
-        script: None,
-        imports: ["counter", "env"],
-        calls: [(0, Ok(1)), (1, Err("(no reply)")), (0, Ok(2))],
-        kept: 1,
-        counts: &[("counter", 3, 0)],
-    },
-    // A fault names its device.
-    Row {
-        devices: [Some(Kind::Failing), Some(Kind::Counter)],
-        script: None,
-        imports: ["env", "counter"],
-        calls: [(0, Err("env")), (1, Ok(0)), (0, Ok(5))],
-        kept: 0,
-        counts: &[("env", 1, 1), ("counter", 1, 0)],
-    },
-];
-
-/// Whether an answer has this value, or else is this word.
-fn is_told(answer: &HostAnswer, wanted: Result<u32, &str>) -> bool {
-    match answer {
-        HostAnswer::Replied(reply) =>
-            matches!((reply.value, wanted), (Some(Value::I32(value)), Ok(told)) if value == told),
-        HostAnswer::Failed(name) => wanted == Err(name.as_str()),
-        HostAnswer::NoReply => wanted == Err("(no reply)"),
-        HostAnswer::NoMemory => false,
-    }
-}
-
-/// Whether a call is answered so.
-fn answers<S: Devices>(
-    alloc: Global,
-    hosts: &mut Hosts<'_, S>,
-    imports: &[Import],
-    call: Call,
-) -> bool
-    requires { hosts.old.imports ≡ imports.now }
-    ensures { hosts.new.imports ≡ imports.now }
-{
-    let Some(import) = imports.get(call.0 as usize) else {
-        return false;
-    };
-    match call_of(alloc, call.0) {
-        Ok(made) => is_told(&hosts.call(import, &made, None), call.1),
-        Err(_) => false,
-    }
-}
-
-/// Whether the first reply that is kept has this value.
-fn keeps<S: Devices>(hosts: &Hosts<'_, S>, value: u32) -> bool {
-    if hosts.given() == 0 {
-        return false;
-    }
-    hosts.reply(0).value == Some(Value::I32(value))
-}
-
-/// Whether the calls of a row are answered by these devices and this script.
-fn are_served<S: Devices>(
-    alloc: Global,
-    devices: &mut S,
-    script: Option<Items<Reply>>,
-    imports: &[Import],
-    row: &Row,
-) -> bool
-    requires { AreDistinct (names (S.shown devices.old)) }
-{
-    let empty = S::empty(alloc);
-    let mut hosts = Hosts::new(alloc, mem::replace(devices, empty), script, imports);
-    let are_told = answers(alloc, &mut hosts, imports, row.calls[0])
-        && answers(alloc, &mut hosts, imports, row.calls[1])
-        && answers(alloc, &mut hosts, imports, row.calls[2])
-        && keeps(&hosts, row.kept);
-    *devices = hosts.into_devices();
-    are_told
-}
-
-/// Attaches the devices of a row.
-fn attach_all(alloc: Global, devices: &mut DeviceSet, row: &Row) -> Result<(), NoMemory>
-    ensures { AreDistinct (names (⟦<DeviceSet as Devices>⟧.shown devices.old)) → AreDistinct (names (⟦<DeviceSet as Devices>⟧.shown devices.new)) }
-{
-    if let Some(kind) = row.devices[0] {
-        attach(alloc, devices, kind)?;
-    }
-    if let Some(kind) = row.devices[1] {
-        attach(alloc, devices, kind)?;
-    }
-    Ok(())
-}
-
-/// Whether these devices and the script of a row serve it.
-fn serve(alloc: Global, devices: &mut DeviceSet, row: &Row) -> Result<bool, NoMemory>
-    requires { AreDistinct (names (⟦<DeviceSet as Devices>⟧.shown devices.old)) }
-{
-    let imports = imports(alloc, row.imports)?;
-    let script = match row.script {
-        Some(told) => Some(replies_of(alloc, told)?),
-        None => None,
-    };
-    Ok(are_served(alloc, devices, script, imports.as_slice(), row))
-}
-
-/// Whether a row holds.
-fn holds(alloc: Global, row: &Row) -> Result<bool, NoMemory> {
+fn a_replaced_device_is_handed_back(rt: HostRuntime) -> Result<(), Fail> {
+    let alloc = rt.alloc();
     let mut devices = DeviceSet::new(alloc);
-    attach_all(alloc, &mut devices, row)?;
-    Ok(serve(alloc, &mut devices, row)? && have_counts(&devices, row.counts))
-}
-
-/// The number of the first row that does not hold.
-fn first_wrong(alloc: Global) -> Result<Option<usize>, NoMemory> {
-    for (i, row) in ROWS.iter().enumerate() {
-        if !holds(alloc, row)? {
-            return Ok(Some(i));
-        }
-    }
-    Ok(None)
-}
-
-#[test]
-fn calls_are_served_by_devices_and_scripts(rt: HostRuntime) -> Result<(), Fail> {
-    assert_eq!(rt; first_wrong(rt.alloc())?, None);
+    let first = attach(&mut devices, Box::new(alloc, Counter::new(alloc))?)?;
+    let console = Console::new(alloc, Vec::new(alloc));
+    let console = attach(&mut devices, Box::new(alloc, console)?)?;
+    let again = attach(&mut devices, Box::new(alloc, called(alloc)?)?)?;
+    assert!(rt; first.is_none() && console.is_none() && again == Some(0));
+    assert!(rt; has_counts(&devices, "counter", (1, 0)));
+    assert!(rt; has_counts(&devices, "console", (0, 0)));
+    assert!(rt; release(&mut devices, "counter") == Some(1));
+    assert!(rt; counts(&devices, "counter").is_none());
+    assert!(rt; release(&mut devices, "counter").is_none());
     Ok(())
 }
 
@@ -336,31 +253,93 @@ impl Device for Dropping {
     }
 }
 
-/// Attaches such a device, and drops the one that it replaces. The answers are the counts before and behind the drop.
-fn attach_dropping(
-    alloc: Global,
-    devices: &mut DeviceSet,
-    drops: &Rc<Cell<u64>>,
-) -> Result<(u64, u64), AllocError> {
-    let dropping = Dropping {
+fn counted(drops: &Rc<Cell<u64>>) -> Result<Dropping, Fail> {
+    Ok(Dropping {
         drops: drops.clone()?,
-    };
-    let replaced = devices.attach(Box::new(alloc, dropping)?);
-    let before = drops.get();
-    drop(replaced);
-    Ok((before, drops.get()))
-}
-
-fn are_dropped(alloc: Global) -> Result<bool, AllocError> {
-    let drops = Rc::new(alloc, Cell::new(0))?;
-    let mut devices = DeviceSet::new(alloc);
-    let is_left = attach_dropping(alloc, &mut devices, &drops)? == (0, 0)
-        && attach_dropping(alloc, &mut devices, &drops)? == (0, 1);
-    drop(devices);
-    Ok(is_left && drops.get() == 2)
+    })
 }
 
 #[test]
-fn devices_that_are_left_are_dropped_with_the_set(rt: HostRuntime) {
-    assert!(rt; matches!(are_dropped(rt.alloc()), Ok(true)));
+fn devices_that_are_left_are_dropped_with_the_set(rt: HostRuntime) -> Result<(), Fail> {
+    let alloc = rt.alloc();
+    let drops = Rc::new(alloc, Cell::new(0))?;
+    let mut devices = DeviceSet::new(alloc);
+    let first = devices.attach(Box::new(alloc, counted(&drops)?)?);
+    assert!(rt; drops.get() == 0);
+    let second = devices.attach(Box::new(alloc, counted(&drops)?)?);
+    assert!(rt; drops.get() == 0);
+    drop(first);
+    assert!(rt; drops.get() == 0);
+    drop(second);
+    assert!(rt; drops.get() == 1);
+    drop(devices);
+    assert!(rt; drops.get() == 2);
+    Ok(())
+}
+
+#[test]
+fn a_script_ends(rt: HostRuntime) -> Result<(), Fail> {
+    let alloc = rt.alloc();
+    let mut devices = DeviceSet::new(alloc);
+    let answers = scripted(alloc, &mut devices, [0, 1, 0])?;
+    assert!(rt; is_value(&answers[0], 5));
+    assert!(rt; is_value(&answers[1], 6));
+    assert!(rt; is_word(&answers[2], "(no reply)"));
+    Ok(())
+}
+
+#[test]
+fn a_reply_of_the_script_is_kept(rt: HostRuntime) -> Result<(), Fail> {
+    let alloc = rt.alloc();
+    let imports = imports(alloc, ["env", "counter"])?;
+    let script = Some(replies(alloc, [5, 6])?);
+    let found = first_served(alloc, DeviceSet::new(alloc), script, imports.as_slice());
+    assert!(rt; found == Some(Value::I32(5)));
+    Ok(())
+}
+
+#[test]
+fn a_reply_of_a_device_is_kept(rt: HostRuntime) -> Result<(), Fail> {
+    let alloc = rt.alloc();
+    let mut devices = DeviceSet::new(alloc);
+    attach(&mut devices, Box::new(alloc, called(alloc)?)?)?;
+    let imports = imports(alloc, ["counter", "env"])?;
+    let found = first_served(alloc, devices, None, imports.as_slice());
+    assert!(rt; found == Some(Value::I32(1)));
+    Ok(())
+}
+
+#[test]
+fn a_device_goes_before_the_script(rt: HostRuntime) -> Result<(), Fail> {
+    let alloc = rt.alloc();
+    let mut devices = DeviceSet::new(alloc);
+    attach(&mut devices, Box::new(alloc, Counter::new(alloc))?)?;
+    let answers = scripted(alloc, &mut devices, [1, 0, 1])?;
+    assert!(rt; is_value(&answers[0], 0));
+    assert!(rt; is_value(&answers[1], 5));
+    assert!(rt; is_value(&answers[2], 1));
+    assert!(rt; has_counts(&devices, "counter", (2, 0)));
+    Ok(())
+}
+
+/// A device for `env` that replies 5 and 6, and fails at once.
+fn failing(alloc: Global) -> Result<Scripted, Fail> {
+    let name = Text::from_str(alloc, "env")?;
+    let replies = replies(alloc, [5, 6])?;
+    Ok(Scripted::new(alloc, name, replies, vec![in alloc; 0]?))
+}
+
+#[test]
+fn a_fault_names_its_device(rt: HostRuntime) -> Result<(), Fail> {
+    let alloc = rt.alloc();
+    let mut devices = DeviceSet::new(alloc);
+    attach(&mut devices, Box::new(alloc, failing(alloc)?)?)?;
+    attach(&mut devices, Box::new(alloc, Counter::new(alloc))?)?;
+    let answers = unscripted(alloc, &mut devices, [0, 1, 0])?;
+    assert!(rt; is_word(&answers[0], "env"));
+    assert!(rt; is_value(&answers[1], 0));
+    assert!(rt; is_value(&answers[2], 5));
+    assert!(rt; has_counts(&devices, "env", (1, 1)));
+    assert!(rt; has_counts(&devices, "counter", (1, 0)));
+    Ok(())
 }

@@ -55,31 +55,15 @@ fn is_dump_of_script(alloc: Global, dump: Option<&[u8]>) -> bool {
         && files.get("core.wasm") == dump
 }
 
-/// Attaches a device that fails. The answer is whether it is attached.
-fn attach_failing(alloc: Global, devices: &mut DeviceSet) -> Result<bool, Fail>
-    ensures { AreDistinct (names (⟦<DeviceSet as Devices>⟧.shown devices.old)) → AreDistinct (names (⟦<DeviceSet as Devices>⟧.shown devices.new)) }
-{
-    let failing = Box::new(alloc, failing(alloc)?)?;
-    Ok(devices.attach(failing).is_ok())
-}
-
-/// Whether these devices stop a run, and serve the next one by their first reply.
-fn serve_again(alloc: Global, devices: &mut DeviceSet) -> bool
-    requires { AreDistinct (names (⟦<DeviceSet as Devices>⟧.shown devices.old)) }
-{
-    let Ok(mut files) = files_of(alloc, &READING, "") else {
-        return false;
-    };
-    runs(alloc, &mut files, devices, (9, STOPPED))
-        && files.get("core.wasm").is_none()
-        && runs(alloc, &mut files, devices, (1, TRAPPED))
-        && is_dump_of_script(alloc, files.get("core.wasm"))
-}
-
 #[test]
 fn a_device_that_failed_gives_its_first_reply(rt: HostRuntime) -> Result<(), Fail> {
-    let mut devices = DeviceSet::new(rt.alloc());
-    let is_attached = attach_failing(rt.alloc(), &mut devices)?;
-    assert!(rt; is_attached && serve_again(rt.alloc(), &mut devices));
+    let alloc = rt.alloc();
+    let mut devices = DeviceSet::new(alloc);
+    assert!(rt; devices.attach(Box::new(alloc, failing(alloc)?)?).is_ok());
+    let mut files = files_of(alloc, &READING, "")?;
+    assert!(rt; runs(alloc, &mut files, &mut devices, (9, STOPPED)));
+    assert!(rt; files.get("core.wasm").is_none());
+    assert!(rt; runs(alloc, &mut files, &mut devices, (1, TRAPPED)));
+    assert!(rt; is_dump_of_script(alloc, files.get("core.wasm")));
     Ok(())
 }

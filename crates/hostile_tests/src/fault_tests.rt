@@ -1,10 +1,11 @@
 //! Each call of the files, and the one of the output, fails in turn: before it takes a byte of its piece, behind the first one, and behind all.
 //! Lengths of dumps were added up by hand from their sections.
 
-use crate::trial::{answers, files_of, has_status, status_alone, words_of};
+use crate::trial::{answers, files_of, status_alone, words_of};
 use causes::NoMemory;
 use pm_outside::{MemFiles, MemSink, Part};
 use std::alloc::{AllocError, Global};
+use std::test::Fail;
 use test_modules::{DIVISION, DIVISION_DUMP, READING, SOURCE};
 
 /// What a call of `Files` does with its file.
@@ -341,71 +342,66 @@ fn output_may_fail(
     true
 }
 
-/// Whether these words get the status of a row again, and this text.
-fn is_repeated(alloc: Global, words: &[String], done: &MemFiles, row: &Row, text: &[u8]) -> bool {
-    let mut out = MemSink::new(alloc, Vec::new(alloc));
-    is_done(alloc, words, done, row, &mut out, row.status) && out.bytes() == text
-}
-
-/// Whether the line of a row gets its status, and each of its calls may fail.
-fn may_fail(alloc: Global, done: &mut MemFiles, row: &Row) -> bool {
-    let Ok(words) = words_of(alloc, row.line) else {
-        return false;
-    };
-    let mut whole = MemSink::new(alloc, Vec::new(alloc));
-    status_alone(alloc, &words, done, &mut whole) == row.status
-        && is_repeated(alloc, &words, done, row, whole.bytes())
-        && files_may_fail(alloc, &words, done, row)
-        && output_may_fail(alloc, &words, done, row, whole.bytes())
-}
-
-/// Whether lines get their statuses.
-fn have_statuses(alloc: Global, lines: &[(&str, u8)], files: &mut MemFiles) -> bool {
-    for (line, status) in lines {
-        if !has_status(alloc, line, files, *status) {
-            return false;
+/// The files behind the lines before.
+fn prepared(alloc: Global, row: &Row) -> Result<MemFiles, Fail> {
+    let mut files = files_of(alloc, row.source, row.replies)?;
+    for (line, status) in row.before {
+        let words = words_of(alloc, line)?;
+        let mut out = MemSink::new(alloc, Vec::new(alloc));
+        if status_alone(alloc, &words, &mut files, &mut out) != *status {
+            return Err(Fail::from("a line before has another status"));
         }
     }
-    true
+    Ok(files)
 }
 
 /// Whether a row holds.
-fn holds(alloc: Global, row: &Row) -> bool {
-    match files_of(alloc, row.source, row.replies) {
-        Ok(mut files) => have_statuses(alloc, row.before, &mut files)
-            && may_fail(alloc, &mut files, row),
-        Err(_) => false,
+fn holds(alloc: Global, row: &Row) -> Result<bool, Fail> {
+    let mut done = prepared(alloc, row)?;
+    let words = words_of(alloc, row.line)?;
+    let mut whole = MemSink::new(alloc, Vec::new(alloc));
+    if status_alone(alloc, &words, &mut done, &mut whole) != row.status {
+        return Ok(false);
     }
+    let mut out = MemSink::new(alloc, Vec::new(alloc));
+    Ok(
+        is_done(alloc, &words, &done, row, &mut out, row.status)
+            && out.bytes() == whole.bytes()
+            && files_may_fail(alloc, &words, &done, row)
+            && output_may_fail(alloc, &words, &done, row, whole.bytes()),
+    )
 }
 
-/// The line of the first row that does not hold.
-fn first_wrong(alloc: Global, rows: &[Row]) -> Option<&'static str> {
-    for row in rows {
-        if !holds(alloc, row) {
-            return Some(row.line);
-        }
+#[test]
+fn faults_of_a_division(rt: HostRuntime) -> Result<(), Fail> {
+    for row in &DIVIDING {
+        assert!(rt; holds(rt.alloc(), row)?, "{}", row.line);
     }
-    None
+    Ok(())
 }
 
 #[test]
-fn faults_of_a_division(rt: HostRuntime) {
-    assert_eq!(rt; first_wrong(rt.alloc(), &DIVIDING), None);
+fn faults_with_a_memory(rt: HostRuntime) -> Result<(), Fail> {
+    for row in &SERVED {
+        assert!(rt; holds(rt.alloc(), row)?, "{}", row.line);
+    }
+    Ok(())
 }
 
 #[test]
-fn faults_with_a_memory(rt: HostRuntime) {
-    assert_eq!(rt; first_wrong(rt.alloc(), &SERVED), None);
+fn faults_of_a_debugger(rt: HostRuntime) -> Result<(), Fail> {
+    for row in &DEBUGGED {
+        assert!(rt; holds(rt.alloc(), row)?, "{}", row.line);
+    }
+    Ok(())
 }
 
 #[test]
-fn faults_of_a_debugger(rt: HostRuntime) {
-    assert_eq!(rt; first_wrong(rt.alloc(), &DEBUGGED), None);
-}
-
-#[test]
-fn faults_of_a_self_test(rt: HostRuntime) {
-    assert_eq!(rt; first_wrong(rt.alloc(), &TESTED), None);
+fn faults_of_a_self_test(rt: HostRuntime) -> Result<(), Fail> {
+    for row in &TESTED {
+        assert!(rt; holds(rt.alloc(), row)?, "{}", row.line);
+    }
+    Ok(())
 }
 
 const TRAPPED: &str = "trap 2 integer divide by zero\nat function 0 offset 5\nhost calls 0\n";

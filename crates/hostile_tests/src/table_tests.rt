@@ -4,6 +4,7 @@
 use crate::trial::{answers, files_of, status_alone, words_of};
 use pm_outside::{MemFiles, MemSink};
 use std::alloc::{AllocError, Global};
+use std::test::Fail;
 use test_modules::{DIVISION, DIVISION_DUMP, SOURCE};
 
 /// The status of words over a file `m` of these bytes.
@@ -16,42 +17,46 @@ fn status_of(alloc: Global, words: &[String], bytes: &[u8]) -> Option<u8> {
     Some(status_alone(alloc, words, &mut files, &mut out))
 }
 
-/// A line, the bytes of its file, the lengths at which a front of them gets status 0, and the status of each other front.
-type Fronts = (&'static str, &'static [u8], &'static [usize], u8);
-
-/// There the header, the types, the code and each custom section end. Between the types and the code the bodies of a declared function are missing.
-const OF_MODULE: Fronts = ("check;m", &SOURCE, &[8, 16, 92, 211, 355, 424], 5);
-
-/// There the sections end, of which only the first one, `core`, has to be there.
-const OF_DUMP: Fronts = ("show;m", &DIVISION_DUMP, &[23, 46, 67, 100], 11);
-
-/// Whether each front, the empty one and the whole among them, gets its status.
-fn are_judged(alloc: Global, fronts: Fronts) -> bool {
-    let (line, bytes, lengths, refused) = fronts;
-    let Ok(words) = words_of(alloc, line) else {
-        return false;
-    };
+/// The length of the first front, the empty one and the whole among them, that does not get status 0 where its length is one of these, and else
+/// the other status.
+fn first_wrong_front(
+    alloc: Global,
+    words: &[String],
+    bytes: &[u8],
+    lengths: &[usize],
+    refused: u8,
+) -> Option<usize> {
     for length in 0..bytes.len() + 1 {
         let wanted = if lengths.contains(&length) {
             0
         } else {
             refused
         };
-        if status_of(alloc, &words, &bytes[..length]) != Some(wanted) {
-            return false;
+        if status_of(alloc, words, &bytes[..length]) != Some(wanted) {
+            return Some(length);
         }
     }
-    true
+    None
 }
 
+// There the header, the types, the code and each custom section end. Between the types and the code the bodies of a declared function are missing.
 #[test]
-fn fronts_of_a_module_are_checked(rt: HostRuntime) {
-    assert!(rt; are_judged(rt.alloc(), OF_MODULE));
+fn fronts_of_a_module_are_checked(rt: HostRuntime) -> Result<(), Fail> {
+    let words = words_of(rt.alloc(), "check;m")?;
+    let lengths = [8, 16, 92, 211, 355, 424];
+    let wrong = first_wrong_front(rt.alloc(), &words, &SOURCE, &lengths, 5);
+    assert!(rt; wrong.is_none(), "{wrong:?}");
+    Ok(())
 }
 
+// There the sections end, of which only the first one, `core`, has to be there.
 #[test]
-fn fronts_of_a_dump_are_shown(rt: HostRuntime) {
-    assert!(rt; are_judged(rt.alloc(), OF_DUMP));
+fn fronts_of_a_dump_are_shown(rt: HostRuntime) -> Result<(), Fail> {
+    let words = words_of(rt.alloc(), "show;m")?;
+    let lengths = [23, 46, 67, 100];
+    let wrong = first_wrong_front(rt.alloc(), &words, &DIVISION_DUMP, &lengths, 11);
+    assert!(rt; wrong.is_none(), "{wrong:?}");
+    Ok(())
 }
 
 /// The bytes with another one at a place.
@@ -91,50 +96,36 @@ fn valid_in_all(alloc: Global) -> Option<u32> {
 // Of these 10,496 modules `wasm-validate` accepts as many.
 #[test]
 fn each_byte_of_a_module_is_replaced(rt: HostRuntime) {
-    assert_eq!(rt; valid_in_all(rt.alloc()), Some(458));
+    let valid = valid_in_all(rt.alloc());
+    assert!(rt; valid == Some(458), "{valid:?}");
 }
 
 /// Where the contents of the section `.debug_info` of [`SOURCE`] stand.
 const INFO: (usize, usize) = (226, 355);
 
-/// Whether the commands are done on files in which such a byte of the module is replaced by 0xff.
-fn is_shown_without(alloc: Global, words: &[String], files: &mut MemFiles, at: usize) -> bool {
-    let Ok(copy) = replaced(alloc, &SOURCE, at, 0xFF) else {
-        return false;
-    };
-    if files.add("m", &copy).is_err() {
-        return false;
-    }
-    let mut out = MemSink::new(alloc, Vec::new(alloc));
-    status_alone(alloc, words, files, &mut out) == 0
-}
-
-/// Whether the commands are done whichever byte is replaced there.
-fn are_shown(alloc: Global, files: &mut MemFiles) -> bool {
-    let Ok(words) = words_of(alloc, "debug;m;core.wasm;bt;vars;print s.b[1];print *p") else {
-        return false;
-    };
+/// The first place there at which 0xff is refused.
+fn first_refused(alloc: Global, files: &mut MemFiles) -> Option<usize> {
+    let words = words_of(alloc, "debug;m;core.wasm;bt;vars;print s.b[1];print *p").ok()?;
     for at in INFO.0..INFO.1 {
-        if !is_shown_without(alloc, &words, files, at) {
-            return false;
+        let copy = replaced(alloc, &SOURCE, at, 0xFF).ok()?;
+        files.add("m", &copy).ok()?;
+        let mut out = MemSink::new(alloc, Vec::new(alloc));
+        if status_alone(alloc, &words, files, &mut out) != 0 {
+            return Some(at);
         }
     }
-    true
+    None
 }
 
 const DIED: &str = "trap 4 out of bounds memory access\nat function 0 offset 43\nhost calls 0\n";
 
-/// Whether a run leaves a dump that is shown whatever stands in the debugging information.
-fn is_always_shown(alloc: Global) -> bool {
-    match files_of(alloc, &SOURCE, "") {
-        Ok(mut files) => answers(alloc, "run;m;f;i32:65536", &mut files, (1, DIED))
-            && are_shown(alloc, &mut files),
-        Err(_) => false,
-    }
-}
-
 // What can't be read of debugging information is passed over, so that the commands are done whatever it holds.
 #[test]
-fn each_byte_of_debugging_information_is_replaced(rt: HostRuntime) {
-    assert!(rt; is_always_shown(rt.alloc()));
+fn each_byte_of_debugging_information_is_replaced(rt: HostRuntime) -> Result<(), Fail> {
+    let alloc = rt.alloc();
+    let mut files = files_of(alloc, &SOURCE, "")?;
+    assert!(rt; answers(alloc, "run;m;f;i32:65536", &mut files, (1, DIED)));
+    let refused = first_refused(alloc, &mut files);
+    assert!(rt; refused.is_none(), "{refused:?}");
+    Ok(())
 }

@@ -51,15 +51,6 @@ pub fn answers(alloc: Global, line: &str, files: &mut MemFiles, wanted: (u8, &st
     status_alone(alloc, &words, files, &mut out) == wanted.0 && out.bytes() == wanted.1.as_bytes()
 }
 
-/// Whether the words of a line get this status, without devices.
-pub fn has_status(alloc: Global, line: &str, files: &mut MemFiles, status: u8) -> bool {
-    let Ok(words) = words_of(alloc, line) else {
-        return false;
-    };
-    let mut out = MemSink::new(alloc, Vec::new(alloc));
-    status_alone(alloc, &words, files, &mut out) == status
-}
-
 /// Files with a module in `m` and replies in `r`.
 pub fn files_of(alloc: Global, source: &[u8], replies: &str) -> Result<MemFiles, NoMemory> {
     let mut files = MemFiles::new(alloc, Vec::new(alloc));

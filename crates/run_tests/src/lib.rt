@@ -5,12 +5,10 @@
 #[cfg(test)]
 mod device_tests;
 #[cfg(test)]
-mod devices;
-#[cfg(test)]
 mod file_tests;
 #[cfg(test)]
 mod invocation_tests;
 #[cfg(test)]
 mod record_tests;
 #[cfg(test)]
-mod trial;
+mod run_trial;
