@@ -357,6 +357,7 @@ def commands(n):
     return debugged(b"", *["x 0 1"] * n)
 
 
+# The one with a 2 takes time by the product of two counts: of the variables and the values of their enumeration.
 SHAPES = [
     ("debug: a cycle of typedefs", typed(cycle), 200_000, 800_000),
     ("debug: an array of many subranges", typed(subranges), 200_000, 800_000),
@@ -364,7 +365,7 @@ SHAPES = [
     ("debug: structures of structures", typed(doubled), 11, 13),
     ("debug: an enumeration of many values", typed(enumerators), 200_000, 800_000),
     ("debug: many variables", variables, 50_000, 200_000),
-    ("debug: many variables of one enumeration", enumerated_variables, 2_000, 8_000),
+    ("debug: many variables of one enumeration", enumerated_variables, 2_000, 8_000, 2),
     ("debug: nested blocks", blocks, 5_000, 20_000),
     ("debug: nested inlined subroutines", inlined, 20_000, 80_000),
     ("debug: many units of one table of abbreviations", units, 20_000, 80_000),
