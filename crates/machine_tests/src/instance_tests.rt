@@ -147,14 +147,23 @@ const SETTING: Case<'static> = Case {
     args: &[Value::I32(9)],
 };
 
-/// Whether the only global of a module is 5, and 9 behind an invocation; its function is begun by that alone.
+/// Whether this is the first global of an instance, and whether its function was begun.
+fn shows(instance: &Instance<'_>, global: Value, entered: bool) -> bool
+    requires { 0 < length instance.now.module_.globals }
+{
+    instance.global(0) == global && instance.entered() == entered
+}
+
+/// Whether the only global of a module is 5, and 9 behind an invocation.
 fn is_set(alloc: Global, instance: &mut Instance<'_>, imports: &[Import]) -> bool
     requires imports { imports.now ≡ instance.old.module_.imports }
     requires global { 0 < length instance.old.module_.globals }
 {
-    let before = instance.global(0) == Value::I32(5) && !instance.entered();
+    if !shows(instance, Value::I32(5), false) {
+        return false;
+    }
     let _ = invoke(alloc, instance, imports, &[], 0, SETTING, 1000);
-    before && instance.global(0) == Value::I32(9) && instance.entered()
+    shows(instance, Value::I32(9), true)
 }
 
 fn sets(alloc: Global, source: &Validated) -> bool {

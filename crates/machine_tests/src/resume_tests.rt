@@ -69,8 +69,9 @@ const AGREEING: [Row<'static>; 4] = [
     (IMPORTS, Asked::Agrees(1)),
 ];
 
-/// The operands are there behind the second step, and the quotient behind the last one.
-const GOING_ON: [Row<'static>; 2] = [
+/// The operands of the division are there behind the second step, and the quotient behind the last one; what a reply wrote stays; the entry
+/// comes behind the start function; and an import that is an entry is called when it goes on.
+const SHOWN: [Row<'static>; 5] = [
     (
         DIVIDING,
         Asked::Shows(
@@ -99,54 +100,50 @@ const GOING_ON: [Row<'static>; 2] = [
             },
         ),
     ),
+    (
+        READS,
+        Asked::Shows(
+            [2, 9],
+            Picture {
+                end: Some(End::Trapped {
+                    kind: TrapKind::Unreachable,
+                }),
+                steps: 3,
+                operands: [Some(Value::I32(9)), None],
+                global: None,
+                word: Some(0x0403_0201),
+            },
+        ),
+    ),
+    (
+        STARTS,
+        Asked::Shows(
+            [1, 9],
+            Picture {
+                end: Some(End::Finished { value: None }),
+                steps: 8,
+                operands: [None, None],
+                global: Some(Value::I32(12)),
+                word: None,
+            },
+        ),
+    ),
+    (
+        IMPORTS,
+        Asked::Shows(
+            [0, 1],
+            Picture {
+                end: Some(End::Finished {
+                    value: Some(Value::I32(9)),
+                }),
+                steps: 1,
+                operands: [None, None],
+                global: None,
+                word: Some(0x0403_0201),
+            },
+        ),
+    ),
 ];
-
-/// What the reply wrote is there.
-const WRITING: [Row<'static>; 1] = [(
-    READS,
-    Asked::Shows(
-        [2, 9],
-        Picture {
-            end: Some(End::Trapped {
-                kind: TrapKind::Unreachable,
-            }),
-            steps: 3,
-            operands: [Some(Value::I32(9)), None],
-            global: None,
-            word: Some(0x0403_0201),
-        },
-    ),
-)];
-
-const STARTING: [Row<'static>; 1] = [(
-    STARTS,
-    Asked::Shows(
-        [1, 9],
-        Picture {
-            end: Some(End::Finished { value: None }),
-            steps: 8,
-            operands: [None, None],
-            global: Some(Value::I32(12)),
-            word: None,
-        },
-    ),
-)];
-
-const CALLING: [Row<'static>; 1] = [(
-    IMPORTS,
-    Asked::Shows(
-        [0, 1],
-        Picture {
-            end: Some(End::Finished {
-                value: Some(Value::I32(9)),
-            }),
-            steps: 1,
-            operands: [None, None],
-            global: None,
-            word: Some(0x0403_0201),
-        },
-    ),
-)];
 
 const COPIED: [Row<'static>; 2] = [
     (READS, Asked::Stays([1, 2])),
@@ -233,7 +230,28 @@ fn run_parts(
     }
 }
 
-/// The same, with the copy that was made between the two parts, where the steps of the first part were used up.
+/// Goes on in the same way. A copy that was made before.
+fn copy_and_go_on<'a>(
+    alloc: Global,
+    instance: &mut Instance<'a>,
+    imports: &[Import],
+    replies: &[Reply],
+    given: u64,
+    more: u32,
+) -> Option<Instance<'a>>
+    requires spent { IsSpent instance.old 8 false }
+    requires imports { imports.now ≡ instance.old.module_.imports }
+{
+    match instance.copy_of() {
+        Ok(copy) => {
+            go_on(alloc, instance, imports, replies, given, more);
+            Some(copy)
+        }
+        Err(NoMemory) => None,
+    }
+}
+
+/// The same as `run_parts`, with the copy that was made between the two parts, where the steps of the first part were used up.
 fn run_copy<'a>(
     alloc: Global,
     instance: &mut Instance<'a>,
@@ -245,10 +263,10 @@ fn run_copy<'a>(
     requires { imports.now ≡ instance.old.module_.imports }
 {
     let [first, more] = fuel;
-    let next = invoke(alloc, instance, imports, replies, 0, case, first).err()?;
-    let copy = instance.copy_of().ok()?;
-    go_on(alloc, instance, imports, replies, next, more);
-    Some(copy)
+    match invoke(alloc, instance, imports, replies, 0, case, first) {
+        Err(next) => copy_and_go_on(alloc, instance, imports, replies, next, more),
+        Ok(_) => None,
+    }
 }
 
 /// What a new instance shows that is run in two parts.
@@ -354,25 +372,7 @@ fn two_parts_are_one(rt: HostRuntime) -> Result<(), Fail> {
 
 #[test]
 fn an_invocation_goes_on_where_it_stopped(rt: HostRuntime) -> Result<(), Fail> {
-    assert_eq!(rt; first_wrong(rt.alloc(), &GOING_ON)?, None);
-    Ok(())
-}
-
-#[test]
-fn what_a_reply_wrote_stays(rt: HostRuntime) -> Result<(), Fail> {
-    assert_eq!(rt; first_wrong(rt.alloc(), &WRITING)?, None);
-    Ok(())
-}
-
-#[test]
-fn the_entry_comes_behind_the_start_function(rt: HostRuntime) -> Result<(), Fail> {
-    assert_eq!(rt; first_wrong(rt.alloc(), &STARTING)?, None);
-    Ok(())
-}
-
-#[test]
-fn an_import_is_called_when_it_goes_on(rt: HostRuntime) -> Result<(), Fail> {
-    assert_eq!(rt; first_wrong(rt.alloc(), &CALLING)?, None);
+    assert_eq!(rt; first_wrong(rt.alloc(), &SHOWN)?, None);
     Ok(())
 }
 
