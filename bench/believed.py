@@ -3,6 +3,7 @@
 believed.py --list [ROOT..]  lists what must be believed for the contracts ROOT.. to say what they seem to say
 believed.py --inner [ROOT..] lists the files of specs/ of which they reach nothing: those may go to specs/inner/
 believed.py --names [ROOT..] lists the definitions too, each with what first led to it
+believed.py --commands       counts what must be believed of each command's answer
 
 Run it at the top of a clone. A ROOT is a function's name, FILE:NAME, or FILE for all its `pub` functions;
 the default is post_mortem and rewriting_promises.
@@ -616,7 +617,37 @@ class Repository:
 
 PAGE = Path('docs/DEFINITIONS.md')
 ROW = re.compile(r'\| `(\w+/specs/[\w/]+)` \| (\d+) \| (.+) \|')
-MOST = 7000
+COMMAND = re.compile(r'\| (`\w+`|[a-z][\w ,]+) \| (\d+) \|$')
+ANSWERS = {
+    'check': ('pm_cli.specs.Answer', 'CheckAnswer'),
+    'run': ('run_command.specs.RunAnswer', 'RunAnswer'),
+    'instrument': ('instrument_command.specs.InstrumentAnswer', 'InstrumentAnswer'),
+    'show': ('pm_cli.specs.Answer', 'ShowAnswer'),
+    'debug': ('debug_command.specs.Answer', 'DebugAnswer'),
+    'selftest': ('selftest_command.specs.SelftestAnswer', 'SelftestAnswer'),
+    'replay': ('replay_command.specs.ReplayAnswer', 'ReplayAnswer'),
+    'cover': ('cover_command.specs.CoverAnswer', 'CoverAnswer'),
+}
+# All files, and those that whoever relies on one command has to read.
+MOST, MOST_OF_ONE = 7000, 5000
+
+
+def lines_of(things):
+    return sum(t.lines for t in things if isinstance(t, Definition))
+
+
+def by_command(repository):
+    """The lines of each command's answer, of all of them together, and of what the program's clauses say beside them of every command."""
+    rows, answers = {}, {}
+    for command, (module, name) in ANSWERS.items():
+        (file,) = [f for m, f in repository.files.items() if m.endswith(module)]
+        one = repository.closure([file.defs[name]], command)
+        rows[f'`{command}`'] = lines_of(one)
+        answers.update(one)
+    rows['all answers'] = lines_of(answers)
+    ((_, things),) = repository.roots(['post_mortem'])
+    rows['words, files and want of memory'] = lines_of(t for t in repository.closure(things, 'post_mortem') if t not in answers)
+    return rows
 
 
 def compared(repository, by_file):
@@ -630,6 +661,12 @@ def compared(repository, by_file):
         if '.specs.inner' not in module:
             inner = {m for m, _ in file.names.values() if '.specs.inner' in m} | {m for m in file.aliases.values() if '.specs.inner' in m}
             wrong += [f'{file.path} stands on {m}' for m in sorted(inner)]
+    commands = by_command(repository)
+    told = {m[1]: int(m[2]) for m in map(COMMAND.match, PAGE.read_text().splitlines()) if m}
+    wrong += [f'{row}: {told.get(row)} lines on the page, {count} in the tree' for row, count in commands.items() if told.get(row) != count]
+    shared = commands['words, files and want of memory']
+    wrong += [f'{row}: {count + shared} lines, more than {MOST_OF_ONE}' for row, count in commands.items()
+              if row.startswith('`') and count + shared > MOST_OF_ONE]
     if sum(tree.values()) > MOST:
         wrong.append(f'{sum(tree.values())} lines must be believed, more than {MOST}')
     for line in wrong:
@@ -646,9 +683,13 @@ def shown(t):
 
 def main(args):
     flags = [a for a in args if a.startswith('-')]
-    if set(flags) - {'--inner', '--names', '--list'}:
+    if set(flags) - {'--inner', '--names', '--list', '--commands'}:
         sys.exit(__doc__)
     repository = Repository()
+    if '--commands' in flags:
+        for row, count in by_command(repository).items():
+            print(f'{count:6} {row}')
+        return 0
     roots = repository.roots([a for a in args if not a.startswith('-')] or DEFAULT)
     reached, per_root = {}, []
     for label, things in roots:
