@@ -1,5 +1,6 @@
 -- The replies that a run was given (Core 4.4.7, host functions).
-use Rattle.std.specs.Prelude.{List, [], ◌∷◌, map}
+use Rattle.std.specs.Prelude.{ℕ, List, [], ◌∷◌, map, Option, Some, None}
+use Rattle.wasm_syntax.specs.declared.parts.Import.{Import}
 use Rattle.wasm_syntax.specs.declared.host.Reply.{Reply}
 use Rattle.wasm_syntax.specs.declared.host.Served.{Served}
 use Rattle.wasm_syntax.specs.Run.{Outcome, not_started, finished, trapped, lacks_reply, misfits, running, got_stuck}
@@ -17,3 +18,10 @@ unfitting (trapped kind) = []
 unfitting (lacks_reply call) = []
 unfitting running = []
 unfitting got_stuck = []
+
+-- ---- who gave them
+
+-- the name of the module of an import, where there is one
+abbrev pub module_name : Option Import → List ℕ
+module_name None = []
+module_name (Some import) = import.«module»

@@ -10,6 +10,7 @@ use Rattle.wasm_syntax.specs.declared.host.Served.{Served}
 use Rattle.host_devices.specs.declared.host.HostAnswer.{HostAnswer}
 use Rattle.host_devices.specs.declared.host.HostAnswer.TheVariants.{Replied, NoReply, Failed, NoMemory}
 use Rattle.host_devices.specs.Devices.{empty_reply}
+use Rattle.host_devices.specs.Given.{module_name}
 use Rattle.host_devices.specs.HostSides.{Calls, Origin, Answers, IsExhausted, HasCause, KeepsUse}
 use Rattle.host_set.specs.declared.entry.Entry.{Entry}
 use Rattle.host_set.specs.declared.entry.Entry.TheVariants.{OfDevice, OfScript}
@@ -30,11 +31,6 @@ replies_of None = []
 replies_of (Some replies) = replies
 
 -- ---- what was served
-
--- the name of the module of an import, by its index
-abbrev pub module_name : Option Import → List ℕ
-module_name None = []
-module_name (Some i) = i.«module»
 
 -- what was served, with the name of its import's module
 abbrev pub with_module : List Import → Served → List ℕ × Served

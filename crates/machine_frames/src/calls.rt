@@ -50,7 +50,14 @@ pub(crate) fn enter(m: &mut CallStack, callee: &Code, function: usize, next: usi
     ensures { Becomes result m.new (record {
       values = reverse (zeros (declared_locals callee.now.body.now.groups)) ++ m.old.values;
       controls = m.old.controls;
-      frames = record { function = function; base = length m.old.values - callee.now.params; floor = length (reverse (zeros (declared_locals callee.now.body.now.groups)) ++ m.old.values); controls = length m.old.controls; returns_to = next } ∷ m.old.frames;
+      frames = record {
+        function = function;
+        base = length m.old.values - callee.now.params;
+        floor = length (reverse (zeros (declared_locals callee.now.body.now.groups))
+            ++ m.old.values);
+        controls = length m.old.controls;
+        returns_to = next;
+      } ∷ m.old.frames;
       position = 0;
     }) }
 {
@@ -84,7 +91,8 @@ fn is_full(m: &CallStack, depth: usize) -> bool
     m.frames.len() >= depth
 }
 
-pub(crate) fn code_at<'a, 'b>(codes: &'b [Code<'a>], function: usize) -> Option<&'b Code<'a>>
+/// The code of a function that the module defines, by its index among these.
+pub fn code_at<'a, 'b>(codes: &'b [Code<'a>], function: usize) -> Option<&'b Code<'a>>
     ensures { MatchOption result (slice_get codes.now function ≡ None)
         (λ code. slice_get codes.now function ≡ Some code.now) }
 {

@@ -11,7 +11,7 @@ mod returns;
 
 pub use blocks::{block, if_, loop_};
 pub use branches::{branch, branch_if, branch_table, else_, end};
-pub use calls::{call, call_under_index};
+pub use calls::{call, call_under_index, code_at};
 pub use entry::begin;
 pub use layout::{CallFrame, CallStack, Control, Stepped};
 pub use returns::leave;

@@ -1,6 +1,6 @@
 //! One step.
 
-ghost use Rattle.std.specs.Prelude.{◌≡◌, ◌+◌, ◌<◌, ◌^◌, IsSome, MatchOption, slice_get, Some, None};
+ghost use Rattle.std.specs.Prelude.{◌≡◌, ◌+◌, ◌<◌, ◌^◌, IsSome, slice_get};
 ghost use Rattle.wasm_syntax.specs.Tree.{Plain, Goes, Call, CallIndirect, item_of, jump_of};
 ghost use Rattle.wasm_syntax.specs.Machine.{Engine, Config, step};
 ghost use Rattle.machine_code.specs.declared.code.Code.{Code as FlatCode};
@@ -13,7 +13,8 @@ use crate::machine::{ImportCall, Machine, Outcome, Prepared, of_frames};
 use machine_basics::{Performed, TrapKind, perform};
 use machine_code::Code;
 use machine_frames::{
-    block, branch, branch_if, branch_table, call, call_under_index, else_, end, if_, leave, loop_,
+    block, branch, branch_if, branch_table, call, call_under_index, code_at, else_, end, if_,
+    leave, loop_,
 };
 use wasm_syntax::{Basic, Instr, Jump, Op, Value};
 
@@ -159,13 +160,6 @@ fn run_op(
         Instr::Else => of_frames(else_(&mut m.stack)),
         Instr::End => of_frames(end(&mut m.stack, code.gives, next)),
     }
-}
-
-fn code_at<'a, 'b>(codes: &'b [Code<'a>], function: usize) -> Option<&'b Code<'a>>
-    ensures { MatchOption result (slice_get codes.now function ≡ None)
-        (λ code. slice_get codes.now function ≡ Some code.now) }
-{
-    codes.get(function)
 }
 
 /// The instruction at a position, behind which there is another index.

@@ -4,11 +4,11 @@ use Rattle.std.proofs.lemmas.Option.{slice_get_within}
 use Rattle.wasm_syntax.specs.declared.parts.FuncType.{FuncType}
 use Rattle.wasm_syntax.specs.declared.module.ModuleParts.{ModuleParts as Module}
 use Rattle.wasm_syntax.specs.Module.{Program, function_types, type_at}
+use Rattle.wasm_syntax.specs.Sizes.{parameter_count}
 use Rattle.wasm_laws.proofs.Lists.{at_of}
 use Rattle.wasm_laws.proofs.Validity.{typed}
 use Rattle.validate_body.proofs.Options.{then_inv}
 use Rattle.rewrite_bodies.specs.Numbering.{wrapped}
-use Rattle.rewrite_modules.specs.Wrappers.{parameter_count}
 use Rattle.rewrite_modules.proofs.Modules.{module_given}
 use Rattle.rewrite_modules.proofs.Theorem.{ready_given}
 use Rattle.rewrite_modules.proofs.ValidModule.{wrapped_types}

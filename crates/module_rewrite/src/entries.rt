@@ -3,10 +3,11 @@
 ghost use Rattle.std.specs.Prelude.{◌≡◌, ◌<◌, ◌^◌, ◌++◌, [], map, length, IfOk};
 ghost use Rattle.wasm_syntax.specs.Numbers.{same_type as are_same};
 ghost use Rattle.wasm_syntax.specs.Module.{function_types, same_functype, same_types as lists_are_same, type_at};
+ghost use Rattle.wasm_syntax.specs.Sizes.{parameter_count};
 ghost use Rattle.rewrite_bodies.specs.Guards.{entry_label, first_table, helper};
 ghost use Rattle.rewrite_modules.specs.Bare.{bare_body};
 ghost use Rattle.rewrite_modules.specs.FlatCode.{body_of};
-ghost use Rattle.rewrite_modules.specs.Wrappers.{parameter_count, wrapper};
+ghost use Rattle.rewrite_modules.specs.Wrappers.{wrapper};
 ghost use Rattle.instrument.specs.Assembly.{Ascends};
 
 use causes::NoMemory;

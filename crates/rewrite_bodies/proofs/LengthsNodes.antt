@@ -14,14 +14,14 @@ use Rattle.wasm_syntax.specs.Effect.{takes}
 use Rattle.wasm_syntax.specs.Machine.{result_of, zero_of}
 use Rattle.wasm_syntax.specs.Typing.{◌⇒◌, BasicTypes, JumpTypes, Types}
 use Rattle.rewrite_bodies.specs.Numbering.{import_count, mapped, frame_import, flag_of}
-use Rattle.rewrite_bodies.specs.Slots.{Place, Known, place_type, Ctx, result_at, kind_at, offset_at, less, grown, result_type, after_plain}
+use Rattle.rewrite_bodies.specs.Slots.{Place, Known, place_type, Ctx, result_at, kind_at, offset_at, less, grown, result_type, after_plain, behind_call}
 use Rattle.rewrite_bodies.specs.Pieces.{get, set, const, i32, call, if_any, fetch, load, store, from_result}
 use Rattle.rewrite_bodies.specs.Guards.{can_trap}
 use Rattle.rewrite_bodies.specs.Rewrite.{Info, in_block, in_loop, in_body, carries, end_gives, result_back, body_at, guarded, plain, instr, ending, go_to, branch_to, branch_if, table, after_direct, call_code, helper_of, hand_top, test_flag, test_both, indirect_code, control, rewrite, hand_locals, zero_result, raise_flag, exit_code, body, tested}
 use Rattle.rewrite_bodies.specs.Agreement.{FitsIn, Room_call, Room}
 use Rattle.rewrite_bodies.specs.Offsets.{SmallOffset}
 use Rattle.rewrite_bodies.specs.Typed.{original}
-use Rattle.rewrite_bodies.specs.Length.{basic_length, jump_length, else_length, code_length, node_weight, weight_call, live_weight, FewNumbers, BodyShort}
+use Rattle.rewrite_bodies.specs.Length.{basic_length, jump_length, else_length, code_length, node_weight, live_weight, FewNumbers, BodyShort}
 use Rattle.rewrite_bodies.proofs.Sim.{grown-append, takes_three}
 use Rattle.rewrite_bodies.proofs.Unwind.{less_shorter}
 use Rattle.rewrite_bodies.proofs.TypedNodes.{cuts, grown_types, takes_of}
@@ -169,7 +169,7 @@ module _ (C : Ctx) (few : FewNumbers C) where
       let e = costs_most (take n es) in
       let g = length_parts n es in
       let all : code_length (call_code C ls es o f (Some type) (λ es'. rewrite C ls es' rest)) ≤ node_weight (jump_length (Call f)) (length es) + live_weight C (grown r left) rest + 11 * known own = omega (arith, x.1, x.2, a, b, d, e, g) in
-      subst (λ q. code_length (call_code C ls es o f q (λ es'. rewrite C ls es' rest)) ≤ node_weight (jump_length (Call f)) (length es) + weight_call q es (λ es'. live_weight C es' rest) + 11 * known own) (sym h.1) all
+      subst (λ q. code_length (call_code C ls es o f q (λ es'. rewrite C ls es' rest)) ≤ node_weight (jump_length (Call f)) (length es) + behind_call q es (λ es'. live_weight C es' rest) + 11 * known own) (sym h.1) all
 
   indirect_short : (ls : List Info) (t : ℕ) (own js : List Place) (o : ℕ) (rest : Nodes) (between : List ValType) → ((type : FuncType) → slice_get C.source.types t ≡ Some type → reverse type.results ≡ option_to_list (result_of type)) → JumpTypes (original C ls) (CallIndirect t) (map place_type own) between → Room C (own ++ js) (jump o (CallIndirect t) rest) → Rest ls js rest between → code_length (indirect_code C ls (own ++ js) o t (slice_get C.source.types t) (λ es'. rewrite C ls es' rest)) ≤ live_weight C (own ++ js) (jump o (CallIndirect t) rest) + 11 * known own
   indirect_short ls t [] js o rest between one h rm ih = absurd (let e : [] ≡ I32 ∷ (reverse h.0.params ++ h.3.below) = h.3.takes in cc)
@@ -203,7 +203,7 @@ module _ (C : Ctx) (few : FewNumbers C) where
       let a9 = costs_twice T in
       let g = length_parts (suc n) (p ∷ es) in
       let all : code_length (indirect_code C ls (p ∷ es) o t (Some type) (λ es'. rewrite C ls es' rest)) ≤ node_weight (jump_length (CallIndirect t)) (length (p ∷ es)) + live_weight C (grown r left) rest + 11 * known (p ∷ own) = omega (arith, x.1, x.2, a1, a2, a3, a4, a5, a6, a7, a8, a9, g) in
-      subst (λ q. code_length (indirect_code C ls (p ∷ es) o t q (λ es'. rewrite C ls es' rest)) ≤ node_weight (jump_length (CallIndirect t)) (length (p ∷ es)) + weight_call q es (λ es'. live_weight C es' rest) + 11 * known (p ∷ own)) (sym h.2) all
+      subst (λ q. code_length (indirect_code C ls (p ∷ es) o t q (λ es'. rewrite C ls es' rest)) ≤ node_weight (jump_length (CallIndirect t)) (length (p ∷ es)) + behind_call q es (λ es'. live_weight C es' rest) + 11 * known (p ∷ own)) (sym h.2) all
 
   module _ (one : (f : ℕ) (type : FuncType) → type_at C.source f ≡ Some type → reverse type.results ≡ option_to_list (result_of type)) (one_of : (t : ℕ) (type : FuncType) → slice_get C.source.types t ≡ Some type → reverse type.results ≡ option_to_list (result_of type)) where
     control_short : (i : Info) (ls : List Info) (j : Jump) (own js : List Place) (o : ℕ) (rest : Nodes) (between : List ValType) → JumpTypes (original C (i ∷ ls)) j (map place_type own) between → Room C (own ++ js) (jump o j rest) → Rest (i ∷ ls) js rest between → code_length (control C (i ∷ ls) (own ++ js) o j (λ es'. rewrite C (i ∷ ls) es' rest)) ≤ live_weight C (own ++ js) (jump o j rest) + 11 * known own

@@ -2,15 +2,13 @@
 use Rattle.std.specs.Prelude.{◌≡◌, ℕ, ◌+◌, ◌*◌, ◌^◌, ◌≤◌, List, [], ◌∷◌, length, slice_get, Option, Some, None, option_to_list}
 use Rattle.wasm_leb.specs.Writing.{unsigned_bytes}
 use Rattle.wasm_syntax.specs.declared.instruction.Basic.{Basic}
-use Rattle.wasm_syntax.specs.declared.instruction.Basic.TheVariants.{MemoryCopy, MemoryFill, Const}
+use Rattle.wasm_syntax.specs.declared.instruction.Basic.TheVariants.{MemoryCopy, MemoryFill}
 use Rattle.wasm_syntax.specs.declared.parts.FuncType.{FuncType}
 use Rattle.wasm_syntax.specs.Tree.{Jump, Unreachable, Br, BrIf, BrTable, Return, Call, CallIndirect, Nodes, stop, basic, jump, block, loop, choose, IsTree}
-use Rattle.wasm_syntax.specs.Module.{type_at}
-use Rattle.wasm_syntax.specs.Machine.{result_of}
 use Rattle.wasm_syntax.specs.Typing.{Types}
 use Rattle.wasm_instructions.specs.Encoding.{basic_bytes, labels_bytes}
 use Rattle.rewrite_bodies.specs.Numbering.{import_count}
-use Rattle.rewrite_bodies.specs.Slots.{Place, Known, Ctx, less, grown, after_plain}
+use Rattle.rewrite_bodies.specs.Slots.{Place, Ctx, less, grown, behind_instr, behind_jump}
 use Rattle.rewrite_bodies.specs.Rewrite.{in_body, body}
 use Rattle.rewrite_bodies.specs.Agreement.{Room}
 use Rattle.rewrite_bodies.specs.Typed.{original}
@@ -53,23 +51,6 @@ long_guard MemoryCopy = 128
 long_guard MemoryFill = 128
 long_guard i = 0
 
-abbrev pub weight_call : Option FuncType → List Place → (List Place → ℕ) → ℕ
-weight_call None es go = 0
-weight_call (Some type) es go = go (grown (result_of type) (less (length type.params) es))
-
-abbrev pub weight_instr : Ctx → Basic → List Place → (List Place → ℕ) → ℕ
-weight_instr C (Const v) es go = go (Known v ∷ es)
-weight_instr C i es go = go (after_plain C es i)
-
-abbrev pub weight_jump : Ctx → Jump → List Place → (List Place → ℕ) → ℕ
-weight_jump C Unreachable es go = 0
-weight_jump C (Br l) es go = 0
-weight_jump C (BrIf l) es go = go (less 1 es)
-weight_jump C (BrTable ts d) es go = 0
-weight_jump C Return es go = 0
-weight_jump C (Call f) es go = weight_call (type_at C.source f) es go
-weight_jump C (CallIndirect t) es go = weight_call (slice_get C.source.types t) (less 1 es) go
-
 -- an `if` without `else` has one `end`
 abbrev pub weight_else : Option ℕ → ℕ → ℕ
 weight_else None n = 0
@@ -78,8 +59,8 @@ weight_else (Some at) n = n
 -- to the live instructions of nodes, each with the `end` or `else` behind its sequence
 abbrev pub live_weight : Ctx → List Place → Nodes → ℕ
 live_weight C es stop = node_weight 1 (length es)
-live_weight C es (basic at i rest) = node_weight (basic_length i) (length es) + long_guard i + weight_instr C i es (λ es'. live_weight C es' rest)
-live_weight C es (jump at j rest) = node_weight (jump_length j) (length es) + weight_jump C j es (λ es'. live_weight C es' rest)
+live_weight C es (basic at i rest) = node_weight (basic_length i) (length es) + long_guard i + behind_instr C i es (λ es'. live_weight C es' rest)
+live_weight C es (jump at j rest) = node_weight (jump_length j) (length es) + behind_jump C j es (λ es'. live_weight C es' rest)
 live_weight C es (block at t inner end rest) = node_weight 2 (length es) + live_weight C es inner + live_weight C (grown t es) rest
 live_weight C es (loop at t inner end rest) = node_weight 2 (length es) + live_weight C es inner + live_weight C (grown t es) rest
 live_weight C es (choose at t a else_at b end rest) =

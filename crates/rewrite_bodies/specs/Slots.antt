@@ -112,30 +112,32 @@ result_type C es (Extend64 k) = Some I64
 abbrev pub after_plain : Ctx → List Place → Basic → List Place
 after_plain C es i = grown (result_type C es i) (less (takes i) es)
 
--- ---- the greatest height of operands in live code
+-- ---- what is counted behind a live instruction, by the places that it leaves; nothing where no code behind it is live
 
 -- behind a call of a function of this type
-abbrev pub peak_call : Option FuncType → List Place → (List Place → ℕ) → ℕ
-peak_call None es go = 0
-peak_call (Some type) es go = go (grown (result_of type) (less (length type.params) es))
+abbrev pub behind_call : Option FuncType → List Place → (List Place → ℕ) → ℕ
+behind_call None es go = 0
+behind_call (Some type) es go = go (grown (result_of type) (less (length type.params) es))
 
-abbrev pub peak_instr : Ctx → Basic → List Place → (List Place → ℕ) → ℕ
-peak_instr C (Const v) es go = go (Known v ∷ es)
-peak_instr C i es go = go (after_plain C es i)
+abbrev pub behind_instr : Ctx → Basic → List Place → (List Place → ℕ) → ℕ
+behind_instr C (Const v) es go = go (Known v ∷ es)
+behind_instr C i es go = go (after_plain C es i)
 
-abbrev pub peak_jump : Ctx → Jump → List Place → (List Place → ℕ) → ℕ
-peak_jump C Unreachable es go = 0
-peak_jump C (Br l) es go = 0
-peak_jump C (BrIf l) es go = go (less 1 es)
-peak_jump C (BrTable ts d) es go = 0
-peak_jump C Return es go = 0
-peak_jump C (Call f) es go = peak_call (type_at C.source f) es go
-peak_jump C (CallIndirect t) es go = peak_call (slice_get C.source.types t) (less 1 es) go
+abbrev pub behind_jump : Ctx → Jump → List Place → (List Place → ℕ) → ℕ
+behind_jump C Unreachable es go = 0
+behind_jump C (Br l) es go = 0
+behind_jump C (BrIf l) es go = go (less 1 es)
+behind_jump C (BrTable ts d) es go = 0
+behind_jump C Return es go = 0
+behind_jump C (Call f) es go = behind_call (type_at C.source f) es go
+behind_jump C (CallIndirect t) es go = behind_call (slice_get C.source.types t) (less 1 es) go
+
+-- ---- the greatest height of operands in live code
 
 abbrev pub peak : Ctx → List Place → Nodes → ℕ
 peak C es stop = length es
-peak C es (basic o i rest) = max (length es) (peak_instr C i es (λ es'. peak C es' rest))
-peak C es (jump o j rest) = max (length es) (peak_jump C j es (λ es'. peak C es' rest))
+peak C es (basic o i rest) = max (length es) (behind_instr C i es (λ es'. peak C es' rest))
+peak C es (jump o j rest) = max (length es) (behind_jump C j es (λ es'. peak C es' rest))
 peak C es (block o t inner end rest) = max (length es) (max (peak C es inner) (peak C (grown t es) rest))
 peak C es (loop o t inner end rest) = max (length es) (max (peak C es inner) (peak C (grown t es) rest))
 peak C es (choose o t a else_at b end rest) =

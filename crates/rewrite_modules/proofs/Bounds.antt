@@ -8,7 +8,7 @@ use Rattle.wasm_syntax.specs.Tree.{Unreachable, Br, BrIf, BrTable, Return, Call,
 use Rattle.wasm_syntax.specs.Module.{type_at}
 use Rattle.wasm_syntax.specs.Effect.{takes}
 use Rattle.wasm_syntax.specs.Machine.{result_of}
-use Rattle.rewrite_bodies.specs.Slots.{Place, Spilled, Known, Ctx, less, grown, result_type, after_plain, peak_call, peak_instr, peak}
+use Rattle.rewrite_bodies.specs.Slots.{Place, Spilled, Known, Ctx, less, grown, result_type, after_plain, behind_call, behind_instr, peak}
 use Rattle.rewrite_bodies.specs.Agreement.{FitsIn, Has, Room_call, Room_instr, Room}
 use Rattle.rewrite_bodies.proofs.Sim.{room_height}
 use Rattle.rewrite_bodies.specs.Offsets.{SmallOffset}
@@ -34,7 +34,7 @@ module _ (C : Ctx) (n : ℕ) where
   abbrev D : Ctx
   D = with_slots C n
 
-  room_call : (q : Option FuncType) (es : List Place) (rest : Nodes) → ((es' : List Place) → peak C es' rest ≤ n → Room D es' rest) → peak_call q es (λ es'. peak C es' rest) ≤ n → Room_call D q es (λ es'. Room D es' rest)
+  room_call : (q : Option FuncType) (es : List Place) (rest : Nodes) → ((es' : List Place) → peak C es' rest ≤ n → Room D es' rest) → behind_call q es (λ es'. peak C es' rest) ≤ n → Room_call D q es (λ es'. Room D es' rest)
   room_call None es rest ih h = tt
   room_call (Some type) es rest ih h = let r = ih (grown (result_of type) (less (length type.params) es)) h in (fits_of D (result_of type) (less (length type.params) es) rest r, r)
 
@@ -65,7 +65,7 @@ module _ (C : Ctx) (n : ℕ) where
   room_plain : (i : Basic) (es : List Place) (rest : Nodes) → ((es' : List Place) → peak C es' rest ≤ n → Room D es' rest) → SmallOffset i → peak C (after_plain C es i) rest ≤ n → SmallOffset i × FitsIn D (result_type D es i) (less (takes i) es) × Room D (after_plain D es i) rest
   room_plain i es rest ih so h = let r = ih (after_plain C es i) h in rw same_type_ (so, fits_of D (result_type C es i) (less (takes i) es) rest r, r)
 
-  room_instr : (i : Basic) (es : List Place) (rest : Nodes) → ((es' : List Place) → peak C es' rest ≤ n → Room D es' rest) → SmallOffset i → peak_instr C i es (λ es'. peak C es' rest) ≤ n → Room_instr D i es (λ es'. Room D es' rest)
+  room_instr : (i : Basic) (es : List Place) (rest : Nodes) → ((es' : List Place) → peak C es' rest ≤ n → Room D es' rest) → SmallOffset i → behind_instr C i es (λ es'. peak C es' rest) ≤ n → Room_instr D i es (λ es'. Room D es' rest)
   room_instr Nop es rest ih so h = room_plain Nop es rest ih so h
   room_instr Drop es rest ih so h = room_plain Drop es rest ih so h
   room_instr Select es rest ih so h = room_plain Select es rest ih so h

@@ -21,14 +21,14 @@ use Rattle.rewrite_bodies.specs.Slots.{Place, place_type, Ctx, result_at, kind_a
 use Rattle.rewrite_bodies.specs.Pieces.{get, set, const, i32, call, if_any, fetch, load, store, to_result, from_result}
 use Rattle.rewrite_bodies.specs.Guards.{least, minus_one, zero_test, guard_zero, guard_signed, past_end, out_test, guard_memory, range_test, guard, can_trap, helper}
 use Rattle.rewrite_bodies.specs.Rewrite.{Info, result_back, body_at, hand_value, hand, hand_top, to_exit, unwind, test_flag, test_both, tested, guarded, plain, instr, carries, end_gives, ending, go_to, branch_to, branch_if, table, after_call, after_direct, call_code, helper_of, indirect_code, control, rewrite, hand_locals, zero_result, raise_flag, exit_code, body, in_block, in_loop, in_body}
-use Rattle.rewrite_modules.specs.Wrappers.{get_all, tell_globals, after_wrapped, parameter_count, wrapper}
+use Rattle.rewrite_modules.specs.Wrappers.{get_all, tell_globals, after_wrapped, wrapper}
 use Rattle.wasm_syntax.specs.declared.instruction.Instr.{Instr}
 use Rattle.wasm_syntax.specs.declared.instruction.Instr.TheVariants as instrs
 use Rattle.wasm_syntax.specs.declared.instruction.Op.{Op}
 use Rattle.wasm_syntax.specs.declared.parts.Body.{Body}
 use Rattle.wasm_syntax.specs.declared.parts.LocalGroup.{LocalGroup}
 use Rattle.wasm_syntax.specs.Tree.{Tree}
-use Rattle.wasm_syntax.specs.Sizes.{depth_behind, deepest, nesting}
+use Rattle.wasm_syntax.specs.Sizes.{depth_behind, deepest, nesting, parameter_count}
 use Rattle.rewrite_modules.specs.FlatCode.{body_of}
 use Rattle.rewrite_modules.proofs.FlatOut.{body_out}
 

@@ -25,11 +25,12 @@ use Rattle.rewrite_bodies.proofs.Sim.{len_of}
 use Rattle.rewrite_bodies.specs.inner.Standing.{Stands}
 use Rattle.rewrite_bodies.proofs.Calls.{AnswerRel, served_rel}
 use Rattle.wasm_syntax.specs.Run.{Ended, ended, run_steps, run_function, run_alone, host_alone, engine, globals_at_start, start_memory, start_table, start_world, cause_of_segments, got_stuck, ran_to, run_entry, go_on, invoked}
-use Rattle.rewrite_modules.specs.Wrappers.{wrapper_nodes, wrapper, parameter_count}
+use Rattle.rewrite_modules.specs.Wrappers.{wrapper_nodes, wrapper}
 use Rattle.rewrite_modules.specs.FlatCode.{body_of}
 use Rattle.rewrite_modules.specs.Instrument.{new_module, instrument}
 use Rattle.rewrite_bodies.specs.Slots.{greatest}
 use Rattle.wasm_syntax.specs.Run as runs_
+use Rattle.wasm_syntax.specs.Sizes.{parameter_count}
 use Rattle.rewrite_modules.proofs.Links.{Ready, half, stands, wrapper_there, type_is_of, function_type_kept, sizes_fit, import_linked, is_defined, import_of}
 use Rattle.rewrite_modules.proofs.Shown.{whole_is, dump_is, few_calls}
 use Rattle.dump_write.specs.ImageBytes.{bytes_of}

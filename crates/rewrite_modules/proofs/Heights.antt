@@ -19,7 +19,7 @@ use Rattle.wasm_syntax.specs.Machine.{result_of}
 use Rattle.wasm_syntax.specs.Typing.{Context, arrow, BasicTypes, Types, body_context}
 use Rattle.wasm_syntax.specs.FlatTyping.{OpenBlock, opened, label_types, inside, FlatTypes, dead_behind, AllLive, all_types, TypesBefore}
 use Rattle.wasm_syntax.specs.Static.{Spot, spot, Live}
-use Rattle.rewrite_bodies.specs.Slots.{Place, Known, place_type, Ctx, less, grown, result_type, after_plain, peak_call, peak_instr, peak, ctx_of, slots_of, sizes, most, greatest}
+use Rattle.rewrite_bodies.specs.Slots.{Place, Known, place_type, Ctx, less, grown, result_type, after_plain, behind_call, behind_instr, peak, ctx_of, slots_of, sizes, most, greatest}
 use Rattle.rewrite_bodies.specs.Numbering.{import_count}
 use Rattle.rewrite_bodies.specs.Typed.{original}
 use Rattle.rewrite_bodies.proofs.Sim.{grown-append}
@@ -87,7 +87,7 @@ module _ (C : Ctx) (ret : List ValType) (labels : List (List ValType)) (P : ℕ 
       let t : h.above.below ≡ map place_type own = sym (e ∙ h.above.takes ∙ ap (λ q. q.takes ++ h.above.below) (sym z)) in
       ih (Known v ∷ own) (ap (λ q. type_of v ∷ q) (sym t) ∙ ap (λ q. q.gives ++ h.above.below) z ∙ sym h.above.gives)
 
-  pub instr_at : (before : List ValType) (i : Basic) (own js : List Place) (rest : Nodes) (between : List ValType) → map place_type own ≡ before → BasicTypes c0 i before between → Below js rest between → P (peak_instr C i (own ++ js) (λ es'. peak C es' rest))
+  pub instr_at : (before : List ValType) (i : Basic) (own js : List Place) (rest : Nodes) (between : List ValType) → map place_type own ≡ before → BasicTypes c0 i before between → Below js rest between → P (behind_instr C i (own ++ js) (λ es'. peak C es' rest))
   instr_at before (Const v) own js rest between e h ih = const_at before v own js rest between e h ih
   instr_at before Nop own js rest between e h ih = plain_at before Nop own js rest between e h ih
   instr_at before Drop own js rest between e h ih = plain_at before Drop own js rest between e h ih
@@ -194,7 +194,7 @@ module _ (C : Ctx) (ret : List ValType) (labs : List (List ValType)) (N : ℕ) (
       let type = ty.1.0 in
       let few1 : Few b1 bs ds (write rest end_) = λ ps more blocks s ft lv. few (placed at (Goes (Call f)) ∷ ps) more blocks (ap (λ z. placed at (Goes (Call f)) ∷ z) s) (b1 ∷ bs, (ty.0, ty.1, refl), ft) lv in
       let r0 = call_at C ret (inside_of b bs) Low type own js rest ty.0 ty.1.2.below (one f type ty.1.1) (e ∙ ty.1.2.takes) ty.1.2.gives (λ own' e'. peak_low rest b1 bs ds own' js after end_ it live ty.2 e' k few1) in
-      let r : peak_call (type_at C.source f) (own ++ js) (λ es'. peak C es' rest) ≤ N = subst (λ q. peak_call q (own ++ js) (λ es'. peak C es' rest) ≤ N) (sym ty.1.1) r0 in
+      let r : behind_call (type_at C.source f) (own ++ js) (λ es'. peak C es' rest) ≤ N = subst (λ q. behind_call q (own ++ js) (λ es'. peak C es' rest) ≤ N) (sym ty.1.1) r0 in
       omega (arith, low, r)
   peak_low (jump at (CallIndirect t) rest) b bs ds own js after end_ it live ty e k few =
       let low = here b bs ds _ own js live few e k in
@@ -204,7 +204,7 @@ module _ (C : Ctx) (ret : List ValType) (labs : List (List ValType)) (N : ℕ) (
       let o = one_less own js I32 (reverse type.params ++ ty.1.3.below) (e ∙ ty.1.3.takes) in
       let r0 = call_at C ret (inside_of b bs) Low type o.0 js rest ty.0 ty.1.3.below (one_of t type ty.1.2) o.2 ty.1.3.gives (λ own' e'. peak_low rest b1 bs ds own' js after end_ it live ty.2 e' k few1) in
       let r1 : peak C (grown (result_of type) (less (length type.params) (less 1 (own ++ js)))) rest ≤ N = subst (λ z. peak C (grown (result_of type) (less (length type.params) z)) rest ≤ N) (sym o.1) r0 in
-      let r : peak_call (slice_get C.source.types t) (less 1 (own ++ js)) (λ es'. peak C es' rest) ≤ N = subst (λ q. peak_call q (less 1 (own ++ js)) (λ es'. peak C es' rest) ≤ N) (sym ty.1.2) r1 in
+      let r : behind_call (slice_get C.source.types t) (less 1 (own ++ js)) (λ es'. peak C es' rest) ≤ N = subst (λ q. behind_call q (less 1 (own ++ js)) (λ es'. peak C es' rest) ≤ N) (sym ty.1.2) r1 in
       omega (arith, low, r)
   peak_low (block at t inner end rest) b bs ds own js after end_ it live ty e k few =
       let low = here b bs ds _ own js live few e k in
@@ -276,7 +276,7 @@ module _ (C : Ctx) (ret : List ValType) (one : (f : ℕ) (type : FuncType) → t
   spot_peak labels (basic o i rest) own js here outside s e k (inl q) = omega (arith, height_is own js here outside (basic o i rest) s e k q)
   spot_peak labels (basic o i rest) own js here outside s e k (inr l) =
       let n = length s.here + length s.outside in
-      let r : n ≤ peak_instr C i (own ++ js) (λ es'. peak C es' rest) = instr_at C ret labels (λ x. n ≤ x) here i own js rest l.0 e l.1 (λ own' e'. spot_peak labels rest own' js l.0 outside s e' k l.2) in
+      let r : n ≤ behind_instr C i (own ++ js) (λ es'. peak C es' rest) = instr_at C ret labels (λ x. n ≤ x) here i own js rest l.0 e l.1 (λ own' e'. spot_peak labels rest own' js l.0 outside s e' k l.2) in
       omega (arith, r)
   spot_peak labels (jump o j rest) own js here outside s e k (inl q) = omega (arith, height_is own js here outside (jump o j rest) s e k q)
   spot_peak labels (jump o Unreachable rest) own js here outside s e k (inr l) = absurd l.1
@@ -293,7 +293,7 @@ module _ (C : Ctx) (ret : List ValType) (one : (f : ℕ) (type : FuncType) → t
       let n = length s.here + length s.outside in
       let type = l.2.0 in
       let r0 : n ≤ peak C (grown (result_of type) (less (length type.params) (own ++ js))) rest = call_at C ret labels (λ x. n ≤ x) type own js rest l.0 l.2.2.below (one f type l.2.1) (e ∙ l.2.2.takes) l.2.2.gives (λ own' e'. spot_peak labels rest own' js l.0 outside s e' k l.3) in
-      let r : n ≤ peak_call (type_at C.source f) (own ++ js) (λ es'. peak C es' rest) = subst (λ q. n ≤ peak_call q (own ++ js) (λ es'. peak C es' rest)) (sym l.2.1) r0 in
+      let r : n ≤ behind_call (type_at C.source f) (own ++ js) (λ es'. peak C es' rest) = subst (λ q. n ≤ behind_call q (own ++ js) (λ es'. peak C es' rest)) (sym l.2.1) r0 in
       omega (arith, r)
   spot_peak labels (jump o (CallIndirect t) rest) own js here outside s e k (inr l) =
       let n = length s.here + length s.outside in
@@ -301,7 +301,7 @@ module _ (C : Ctx) (ret : List ValType) (one : (f : ℕ) (type : FuncType) → t
       let a = one_less own js I32 (reverse type.params ++ l.2.3.below) (e ∙ l.2.3.takes) in
       let r0 : n ≤ peak C (grown (result_of type) (less (length type.params) (a.0 ++ js))) rest = call_at C ret labels (λ x. n ≤ x) type a.0 js rest l.0 l.2.3.below (one_of t type l.2.2) a.2 l.2.3.gives (λ own' e'. spot_peak labels rest own' js l.0 outside s e' k l.3) in
       let r1 : n ≤ peak C (grown (result_of type) (less (length type.params) (less 1 (own ++ js)))) rest = subst (λ z. n ≤ peak C (grown (result_of type) (less (length type.params) z)) rest) (sym a.1) r0 in
-      let r : n ≤ peak_call (slice_get C.source.types t) (less 1 (own ++ js)) (λ es'. peak C es' rest) = subst (λ q. n ≤ peak_call q (less 1 (own ++ js)) (λ es'. peak C es' rest)) (sym l.2.2) r1 in
+      let r : n ≤ behind_call (slice_get C.source.types t) (less 1 (own ++ js)) (λ es'. peak C es' rest) = subst (λ q. n ≤ behind_call q (less 1 (own ++ js)) (λ es'. peak C es' rest)) (sym l.2.2) r1 in
       omega (arith, r)
   spot_peak labels (block o t inner end rest) own js here outside s e k (inl q) = omega (arith, height_is own js here outside (block o t inner end rest) s e k q)
   spot_peak labels (block o t inner end rest) own js here outside s e k (inr (inl l)) =

@@ -11,6 +11,7 @@ use Rattle.wasm_syntax.specs.Module.{Program, defined, function_at, declared_loc
 use Rattle.wasm_syntax.specs.Host.{World}
 use Rattle.wasm_syntax.specs.Machine.{Engine}
 use Rattle.wasm_syntax.specs.Run.{engine}
+use Rattle.wasm_syntax.specs.Sizes.{parameter_count}
 use Rattle.rewrite_bodies.specs.Numbering.{wrapped, wrapper_base, global_types}
 use Rattle.rewrite_bodies.specs.Pieces.{tree_of}
 use Rattle.rewrite_bodies.specs.Agreement.{WorldFits}
@@ -23,7 +24,7 @@ use Rattle.rewrite_modules.specs.Given.{Given}
 use Rattle.rewrite_modules.specs.Instrument.{instrument}
 use Rattle.rewrite_modules.specs.Multiple.{half}
 use Rattle.rewrite_modules.specs.Weight.{AreHeights}
-use Rattle.rewrite_modules.specs.Wrappers.{parameter_count, wrapper_nodes, wrapper}
+use Rattle.rewrite_modules.specs.Wrappers.{wrapper_nodes, wrapper}
 use Rattle.rewrite_modules.specs.inner.Unwinding.{Begins, Unwinds}
 use Rattle.rewrite_modules.proofs.Links.{Ready, is_defined, sizes_fit, type_is_of, wrapper_there, stands}
 use Rattle.rewrite_modules.proofs.Links as links

@@ -14,6 +14,7 @@ use Rattle.wasm_syntax.specs.Tree.{BrTable, Return, Nodes, stop, basic, jump, bl
 use Rattle.wasm_syntax.specs.Module.{Program, defined, function_at, type_at, declared_locals, option_then, same_functype}
 use Rattle.wasm_syntax.specs.Machine.{result_of}
 use Rattle.wasm_syntax.specs.Typing.{Context, ◌⇒◌, arrow, Types, IsBody, body_context}
+use Rattle.wasm_syntax.specs.Sizes.{parameter_count}
 use Rattle.rewrite_bodies.specs.Numbering.{mapped, value_import, frame_import, flag_of, value_type, frame_type}
 use Rattle.rewrite_bodies.specs.Slots.{Ctx, added, groups, ctx_of, slots_of}
 use Rattle.rewrite_bodies.specs.Pieces.{i32, call, tree_of}
@@ -26,7 +27,7 @@ use Rattle.wasm_laws.proofs.Safe.{Typed, one_result}
 use Rattle.rewrite_modules.specs.Bare.{bare_nodes, bare_tree}
 use Rattle.rewrite_modules.specs.Instrument.{zero_init, new_module, new_nodes, new_body}
 use Rattle.rewrite_modules.specs.FlatCode.{body_of}
-use Rattle.rewrite_modules.specs.Wrappers.{get_all, tell_globals, end_of_dump, after_wrapped, parameter_count, wrapper_nodes, wrapper}
+use Rattle.rewrite_modules.specs.Wrappers.{get_all, tell_globals, end_of_dump, after_wrapped, wrapper_nodes, wrapper}
 use Rattle.rewrite_modules.proofs.Arms.{ifs_typed, tree_body, tree_wrapper, tree_helper, tree_bare}
 use Rattle.rewrite_modules.proofs.Bounds.{room_of}
 use Rattle.rewrite_modules.proofs.FlatOut.{body_out}

@@ -1,11 +1,11 @@
 -- Wrappers: each lowers the flag, calls its function, and where the flag is up behind it, hands over the globals and ends in a trap.
-use Rattle.std.specs.Prelude.{ℕ, zero, suc, List, [], ◌∷◌, length, Option, Some, None}
+use Rattle.std.specs.Prelude.{ℕ, zero, suc, List, [], ◌∷◌, length}
 use Rattle.wasm_syntax.specs.declared.value.ValType.{ValType}
 use Rattle.wasm_syntax.specs.declared.instruction.Basic.TheVariants.{LocalGet, GlobalGet, GlobalSet}
-use Rattle.wasm_syntax.specs.declared.parts.FuncType.{FuncType}
 use Rattle.wasm_syntax.specs.declared.module.ModuleParts.{ModuleParts as Module}
 use Rattle.wasm_syntax.specs.Tree.{Unreachable, Nodes, stop, basic, jump}
 use Rattle.wasm_syntax.specs.Module.{type_at}
+use Rattle.wasm_syntax.specs.Sizes.{parameter_count}
 use Rattle.rewrite_bodies.specs.Numbering.{mapped, value_import, frame_import, flag_of, global_types}
 use Rattle.rewrite_bodies.specs.Pieces.{const, i32, call, if_any}
 
@@ -30,10 +30,6 @@ after_wrapped m = basic 0 (GlobalGet (flag_of m)) (if_any (end_of_dump m) stop)
 
 abbrev pub wrapper_nodes : Module → ℕ → ℕ → Nodes
 wrapper_nodes m f n = const (i32 0) (basic 0 (GlobalSet (flag_of m)) (get_all 0 n (call (mapped m f) (after_wrapped m))))
-
-abbrev pub parameter_count : Option FuncType → ℕ
-parameter_count None = 0
-parameter_count (Some type) = length type.params
 
 abbrev pub wrapper : Module → ℕ → Nodes
 wrapper m f = wrapper_nodes m f (parameter_count (type_at m f))

@@ -24,7 +24,7 @@ use Rattle.wasm_instructions.specs.Encoding.{labels_bytes, jump_bytes, encoding}
 use Rattle.wasm_encode.specs.Encoding.{expression_bytes}
 use Rattle.wasm_sizes.proofs.Measures.{number_rises}
 use Rattle.rewrite_bodies.specs.Numbering.{uses}
-use Rattle.rewrite_bodies.specs.Slots.{Place, Known, Ctx, less, grown, after_plain, result_type, peak_call, peak_instr, peak_jump, peak}
+use Rattle.rewrite_bodies.specs.Slots.{Place, Known, Ctx, less, grown, after_plain, result_type, behind_call, behind_instr, behind_jump, peak}
 use Rattle.wasm_syntax.specs.Effect.{takes}
 use Rattle.rewrite_bodies.specs.Length.{basic_length, jump_length, else_length, code_length}
 use Rattle.rewrite_modules.specs.FlatCode.{targets_in, op, else_op, ops_in, body_of}
@@ -298,7 +298,7 @@ module _ (C : Ctx) (r : ℕ) (go : List Place → ℕ) (h : (es : List Place) �
   plain_peak : (i : Basic) (es : List Place) → go (after_plain C es i) ≤ length es + 1 + r
   plain_peak i es = omega (arith, h (after_plain C es i), grown_longer (result_type C es i) (less (takes i) es), less_shorter (takes i) es)
 
-  instr_peak : (i : Basic) (es : List Place) → peak_instr C i es go ≤ length es + 1 + r
+  instr_peak : (i : Basic) (es : List Place) → behind_instr C i es go ≤ length es + 1 + r
   instr_peak (Const v) es = omega (arith, h (Known v ∷ es))
   instr_peak Nop es = plain_peak Nop es
   instr_peak Drop es = plain_peak Drop es
@@ -322,13 +322,13 @@ module _ (C : Ctx) (r : ℕ) (go : List Place → ℕ) (h : (es : List Place) �
   instr_peak (Extend32 k) es = plain_peak (Extend32 k) es
   instr_peak (Extend64 k) es = plain_peak (Extend64 k) es
 
-  call_peak : (q : Option FuncType) (es : List Place) → peak_call q es go ≤ length es + 1 + r
+  call_peak : (q : Option FuncType) (es : List Place) → behind_call q es go ≤ length es + 1 + r
   call_peak None es = omega arith
   call_peak (Some type) es =
       let left = less (length type.params) es in
       omega (arith, h (grown (result_of type) left), grown_longer (result_of type) left, less_shorter (length type.params) es)
 
-  jump_peak : (j : Jump) (es : List Place) → peak_jump C j es go ≤ length es + jump_length j + r
+  jump_peak : (j : Jump) (es : List Place) → behind_jump C j es go ≤ length es + jump_length j + r
   jump_peak Unreachable es = omega arith
   jump_peak (Br l) es = omega arith
   jump_peak (BrIf l) es = omega (arith, h (less 1 es), less_shorter 1 es)

@@ -12,7 +12,7 @@ use Rattle.wasm_syntax.specs.declared.module.ModuleParts.{ModuleParts as Module}
 use Rattle.wasm_syntax.specs.Tree.{Unreachable, BrTable, Return, Nodes, stop, basic, jump}
 use Rattle.wasm_syntax.specs.Module.{type_at, same_functype, option_then}
 use Rattle.wasm_syntax.specs.Run.{table_min, start_table}
-use Rattle.wasm_syntax.specs.Sizes as sizes_
+use Rattle.wasm_syntax.specs.Sizes.{parameter_count}
 use Rattle.wasm_encode.specs.Encoding.{vector_bytes, value_type_bytes, group_bytes, function_bytes, entry_bytes, expression_bytes}
 use Rattle.wasm_sizes.proofs.Measures.{sized_length}
 use Rattle.rewrite_bodies.specs.Numbering.{import_count, mapped, value_import, frame_import, flag_of, global_types}
@@ -22,7 +22,7 @@ use Rattle.rewrite_bodies.specs.Guards.{first_table, type_label, entry_label, sa
 use Rattle.rewrite_bodies.specs.Length.{code_length, jump_length}
 use Rattle.rewrite_bodies.proofs.Lengths.{ten_bytes, len_const, len_call, len_global_get, len_global_set}
 use Rattle.rewrite_modules.specs.FlatCode.{body_of}
-use Rattle.rewrite_modules.specs.Wrappers.{get_all, tell_globals, end_of_dump, after_wrapped, parameter_count, wrapper}
+use Rattle.rewrite_modules.specs.Wrappers.{get_all, tell_globals, end_of_dump, after_wrapped, wrapper}
 use Rattle.rewrite_sizes.proofs.Numbers.{some_bytes, few_bytes, single_byte, four_bytes}
 use Rattle.rewrite_sizes.proofs.Totals.{total, total-append, total_many, vector_total}
 use Rattle.rewrite_sizes.proofs.Items.{taken_most, labels_length, new_expression}
@@ -102,17 +102,12 @@ wrapper_short m f few =
     let g = dump_short m few in
     omega (arith, a, b, c, d, e, g)
 
-same_parameters : (o : Option FuncType) → parameter_count o ≡ sizes_.parameter_count o
-same_parameters None = refl
-same_parameters (Some type) = refl
-
 -- a wrapper's entry takes what the weight gives to an entry, but for 13 bytes
-pub wrapper_entry : (m : Module) (f : ℕ) → import_count m < 268435450 → 13 + length (entry_bytes (body_of [] (wrapper m f))) ≤ 128 + 16 * sizes_.parameter_count (type_at m f) + 16 * length m.globals
+pub wrapper_entry : (m : Module) (f : ℕ) → import_count m < 268435450 → 13 + length (entry_bytes (body_of [] (wrapper m f))) ≤ 128 + 16 * parameter_count (type_at m f) + 16 * length m.globals
 wrapper_entry m f few =
     let a = plain_entry (wrapper m f) in
     let b = wrapper_short m f few in
-    let c = same_parameters (type_at m f) in
-    omega (arith, a, b, c)
+    omega (arith, a, b)
 
 -- ---- helpers
 

@@ -22,10 +22,10 @@ use Rattle.wasm_syntax.specs.Machine.{result_of}
 use Rattle.wasm_syntax.specs.Typing.{Context, arrow, BasicTypes, Types, body_context}
 use Rattle.wasm_syntax.specs.FlatTyping.{OpenBlock, opened, label_types, inside, FlatTypes, dead_behind, AllLive, all_types, TypesBefore}
 use Rattle.wasm_instructions.specs.Encoding.{encoding}
-use Rattle.rewrite_bodies.specs.Slots.{Place, Known, place_type, Ctx, less, grown, result_type, after_plain, ctx_of, slots_of}
+use Rattle.rewrite_bodies.specs.Slots.{Place, Known, place_type, Ctx, less, grown, result_type, after_plain, ctx_of, slots_of, behind_call, behind_instr}
 use Rattle.rewrite_bodies.specs.Numbering.{import_count}
 use Rattle.rewrite_bodies.specs.Typed.{original}
-use Rattle.rewrite_bodies.specs.Length.{else_length, node_weight, long_guard, weight_call, weight_instr, live_weight}
+use Rattle.rewrite_bodies.specs.Length.{else_length, node_weight, long_guard, live_weight}
 use Rattle.rewrite_bodies.proofs.Sim.{grown-append}
 use Rattle.rewrite_bodies.proofs.TypedPieces.{at_labels}
 use Rattle.rewrite_bodies.proofs.TypedNodes.{cuts, grown_types, takes_of}
@@ -207,7 +207,7 @@ module _ (C : Ctx) (ret : List ValType) (labs : List (List ValType)) (h : ℕ �
       let t : h.above.below ≡ map place_type own = sym (e ∙ h.above.takes ∙ ap (λ q. q.takes ++ h.above.below) (sym z)) in
       ih (Known v ∷ own) (ap (λ q. type_of v ∷ q) (sym t) ∙ ap (λ q. q.gives ++ h.above.below) z ∙ sym h.above.gives)
 
-  instr_low : (b : OpenBlock) (bs : List OpenBlock) (A B : ℕ) (i : Basic) (own js : List Place) (rest : Nodes) (between : List ValType) → map place_type own ≡ b.types → BasicTypes (inside c (b ∷ bs)) i b.types between → Below js rest between A B → weight_instr C i (own ++ js) (λ es'. live_weight C es' rest) + A ≤ B
+  instr_low : (b : OpenBlock) (bs : List OpenBlock) (A B : ℕ) (i : Basic) (own js : List Place) (rest : Nodes) (between : List ValType) → map place_type own ≡ b.types → BasicTypes (inside c (b ∷ bs)) i b.types between → Below js rest between A B → behind_instr C i (own ++ js) (λ es'. live_weight C es' rest) + A ≤ B
   instr_low b bs A B Nop own js rest between e h ih = plain_low b bs A B Nop own js rest between e h ih
   instr_low b bs A B Drop own js rest between e h ih = plain_low b bs A B Drop own js rest between e h ih
   instr_low b bs A B Select own js rest between e h ih = plain_low b bs A B Select own js rest between e h ih
@@ -314,7 +314,7 @@ module _ (C : Ctx) (ret : List ValType) (labs : List (List ValType)) (h : ℕ �
       let type = ty.1.0 in
       let high1 : High b1 bs ds (suc j) (write rest (x0 ∷ end_)) = λ ps more blocks n d s ft lv. high (placed at (Goes (Call f)) ∷ ps) more blocks n (omega (arith, d)) (ap (λ z. placed at (Goes (Call f)) ∷ z) s) (b1 ∷ bs, (ty.0, ty.1, refl), ft) lv in
       let r0 = call_low A B type own js rest ty.0 ty.1.2.below (one f type ty.1.1) (e ∙ ty.1.2.takes) ty.1.2.gives (λ own' e'. weigh rest b1 bs ds own' js after x0 end_ (suc j) k u (omega (arith, ix)) it live ty.2 e' z high1) in
-      let r : weight_call (type_at C.source f) (own ++ js) (λ es'. live_weight C es' rest) + A ≤ B = subst (λ q. weight_call q (own ++ js) (λ es'. live_weight C es' rest) + A ≤ B) (sym ty.1.1) r0 in
+      let r : behind_call (type_at C.source f) (own ++ js) (λ es'. live_weight C es' rest) + A ≤ B = subst (λ q. behind_call q (own ++ js) (λ es'. live_weight C es' rest) + A ≤ B) (sym ty.1.1) r0 in
       omega (arith, low, r)
   weigh (jump at (CallIndirect t) rest) b bs ds own js after x0 end_ j k u ix it live ty e z high =
       let low = here b bs ds j _ own js live high e z in
@@ -326,7 +326,7 @@ module _ (C : Ctx) (ret : List ValType) (labs : List (List ValType)) (h : ℕ �
       let o = one_less own js I32 (reverse type.params ++ ty.1.3.below) (e ∙ ty.1.3.takes) in
       let r0 = call_low A B type o.0 js rest ty.0 ty.1.3.below (one_of t type ty.1.2) o.2 ty.1.3.gives (λ own' e'. weigh rest b1 bs ds own' js after x0 end_ (suc j) k u (omega (arith, ix)) it live ty.2 e' z high1) in
       let r1 : live_weight C (grown (result_of type) (less (length type.params) (less 1 (own ++ js)))) rest + A ≤ B = subst (λ z. live_weight C (grown (result_of type) (less (length type.params) z)) rest + A ≤ B) (sym o.1) r0 in
-      let r : weight_call (slice_get C.source.types t) (less 1 (own ++ js)) (λ es'. live_weight C es' rest) + A ≤ B = subst (λ q. weight_call q (less 1 (own ++ js)) (λ es'. live_weight C es' rest) + A ≤ B) (sym ty.1.2) r1 in
+      let r : behind_call (slice_get C.source.types t) (less 1 (own ++ js)) (λ es'. live_weight C es' rest) + A ≤ B = subst (λ q. behind_call q (less 1 (own ++ js)) (λ es'. live_weight C es' rest) + A ≤ B) (sym ty.1.2) r1 in
       omega (arith, low, r)
   weigh (block at t inner end rest) b bs ds own js after x0 end_ j k u ix it live ty e z high =
       let low = here b bs ds j _ own js live high e z in

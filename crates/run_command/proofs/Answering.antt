@@ -14,7 +14,7 @@ use Rattle.wasm_syntax.specs.declared.host.CollectorCall.{CollectorCall}
 use Rattle.wasm_syntax.specs.declared.module.ModuleParts.{ModuleParts as Module}
 use Rattle.wasm_syntax.specs.Module.{Program, IsProgram, function_export}
 use Rattle.wasm_syntax.specs.Run.{Cause, no_export, bad_arguments, element_out, data_out, cause_of_entry, cause_of_segments, cause_of, or_else, Invocation, Outcome as RunOutcome, not_started, finished, trapped, lacks_reply, misfits, running, got_stuck, Ran, session, start_world, unless, run, engine}
-use Rattle.host_devices.specs.Given.{replies_of}
+use Rattle.host_devices.specs.Given.{replies_of, module_name}
 use Rattle.machine_hosted.specs.Settings.{world_of}
 use Rattle.host_devices.specs.Given.{unfitting}
 use Rattle.host_set.specs.Sets.{DeviceState, names, count_of, is_named}
@@ -26,7 +26,7 @@ use Rattle.run_collected.specs.Delivery.{Delivery, IsDelivery}
 use Rattle.run_session.proofs.Tellings.{Behaves, behaves}
 use Rattle.run_session.specs.Telling.{Tells, tells, told, torn_in}
 use Rattle.run_session.specs.RunText.{invocation_text, traps_in, fitted, up_to_torn}
-use Rattle.run_session.specs.Given.{module_name, module_of}
+use Rattle.run_session.specs.Given.{module_of}
 use Rattle.run_session.specs.Invocations.{invocation_of, depth_of}
 use Rattle.run_session.specs.inner.Answers.{device_cause, misfit_cause}
 use Rattle.run_session.specs.Ending.{host_stopped, told_status}

@@ -11,9 +11,9 @@ use Rattle.wasm_syntax.specs.declared.module.ModuleParts.{ModuleParts as Module}
 use Rattle.host_devices.specs.HostSides.{Origin}
 use Rattle.host_devices.specs.Given.{replies_of}
 use Rattle.host_set.specs.Sets.{DeviceState, names, is_named, count_of, log_of}
-use Rattle.host_set.specs.Hosting.{HostsState, module_name as name_in, with_module, of_module, of_script, logs_before, log_named, origin_of, calls_of, is_used_up, replies_of as replies_in}
+use Rattle.host_set.specs.Hosting.{HostsState, with_module, of_module, of_script, logs_before, log_named, origin_of, calls_of, is_used_up, replies_of as replies_in}
 use Rattle.host_set.proofs.Names.{swapped, neither}
-use Rattle.run_session.specs.Given.{module_name, module_of, from_module}
+use Rattle.run_session.specs.Given.{module_of, from_module}
 use Rattle.host_collector.specs.Collecting.{is_told}
 use Rattle.run_session.specs.inner.Collecting.{used_up_of}
 use Rattle.run_command.specs.Hosting.{scripted}
@@ -22,14 +22,10 @@ use Rattle.run_command.proofs.Answering.{HostFacts}
 
 -- ---- the modules of what was served
 
-same_name : (o : Option Import) → name_in o ≡ module_name o
-same_name None = refl
-same_name (Some i) = refl
-
 of_module_is : (imports : List Import) (name : List ℕ) (given : List Served) → of_module name (map (with_module imports) given) ≡ from_module imports name given
 of_module_is imports name [] = refl
 of_module_is imports name (s ∷ ss) =
-    ap₂ (λ b l. cond b (s ∷ l) l) (ap (λ n. bytes_eq name n) (same_name (slice_get imports s.call.import)) ∙ swapped name (module_of imports s.call.import)) (of_module_is imports name ss)
+    ap₂ (λ b l. cond b (s ∷ l) l) (swapped name (module_of imports s.call.import)) (of_module_is imports name ss)
 
 by_choice : (b : Bool) (s : Served) (xs : List Reply) (ss : List Served) → xs ≡ replies_of ss → cond b xs (s.reply ∷ xs) ≡ replies_of (cond (not b) (s ∷ ss) ss)
 by_choice true s xs ss e = e
@@ -38,8 +34,7 @@ by_choice false s xs ss e = ap (λ l. s.reply ∷ l) e
 of_script_is : (names : List (List ℕ)) (imports : List Import) (given : List Served) → of_script names (map (with_module imports) given) ≡ replies_of (scripted names imports given)
 of_script_is names imports [] = refl
 of_script_is names imports (s ∷ ss) =
-    ap (λ n. cond (is_named names n) (of_script names (map (with_module imports) ss)) (s.reply ∷ of_script names (map (with_module imports) ss))) (same_name (slice_get imports s.call.import))
-    ∙ by_choice (is_named names (module_of imports s.call.import)) s (of_script names (map (with_module imports) ss)) (scripted names imports ss) (of_script_is names imports ss)
+    by_choice (is_named names (module_of imports s.call.import)) s (of_script names (map (with_module imports) ss)) (scripted names imports ss) (of_script_is names imports ss)
 
 same_replies : (o : Option (List Reply)) → replies_in o ≡ script_replies o
 same_replies None = refl

@@ -1,10 +1,10 @@
 -- The replies that the invocations of a list were given.
-use Rattle.std.specs.Prelude.{ℕ, List, [], ◌++◌, filter, slice_get, Option, Some, None, bytes_eq}
+use Rattle.std.specs.Prelude.{ℕ, List, ◌++◌, filter, slice_get, bytes_eq}
 use Rattle.std.specs.List.{flat_map}
 use Rattle.wasm_syntax.specs.declared.parts.Import.{Import}
 use Rattle.wasm_syntax.specs.declared.host.Served.{Served}
 use Rattle.wasm_syntax.specs.Run.{Ran}
-use Rattle.host_devices.specs.Given.{unfitting}
+use Rattle.host_devices.specs.Given.{unfitting, module_name}
 
 -- all calls of an invocation with their replies, in order; the last one may have a reply that does not fit
 abbrev pub given_to : Ran → List Served
@@ -15,10 +15,6 @@ abbrev pub given_in : List Ran → List Served
 given_in rans = flat_map given_to rans
 
 -- ---- who gave them
-
-abbrev pub module_name : Option Import → List ℕ
-module_name None = []
-module_name (Some import) = import.«module»
 
 -- the module from which the called function is imported
 abbrev pub module_of : List Import → ℕ → List ℕ
