@@ -24,7 +24,6 @@ mod watched_run;
 mod writes;
 
 pub use answer::{EntryRun, RunEnd};
-pub use invocation::run_invocation;
 pub use resume::resume_invocation;
 pub use runner::Runner;
 pub use watched_invocation::watch_invocation;

@@ -47,6 +47,8 @@ enum Asked {
     Writes,
     /// Whether the global is set by the start function, and then by the entry.
     Sets,
+    /// How many checkpoints are kept.
+    Checkpoints,
 }
 
 #[derive(Clone, Copy, PartialEq, Eq)]
@@ -224,6 +226,7 @@ fn answer(replayer: &mut Replayer<'_>, asked: Asked, every: u64) -> Told {
         Asked::Finds => Told::Held(finds_places(replayer)),
         Asked::Writes => Told::Held(writes(replayer)),
         Asked::Sets => Told::Held(sets(replayer)),
+        Asked::Checkpoints => Told::Number(replayer.checkpoints()),
     }
 }
 
@@ -320,6 +323,16 @@ fn call<'a>(module: &'a [u8], args: &'a [Value], log: &'a [u8]) -> Case<'a> {
     }
 }
 
+/// How many checkpoints a recursion so deep keeps.
+fn kept(alloc: Global, depth: u32, every: u64) -> Told {
+    let args = [Value::I32(depth)];
+    let case = Case {
+        every,
+        ..call(&RECURSIVE, &args, b"")
+    };
+    ask(alloc, case, Asked::Checkpoints)
+}
+
 const QUARTER: [Value; 2] = [Value::I32(8), Value::I32(2)];
 
 const BY_ZERO: [Value; 2] = [Value::I32(7), Value::I32(0)];
@@ -383,4 +396,15 @@ fn states_do_not_depend_on_checkpoints(rt: HostRuntime) {
     let read = same_states(alloc, call(&READING, &[], WRITING));
     let started = same_states(alloc, call(&STARTED, &five, b""));
     assert!(rt; divided && branched && deeper && read && started);
+}
+
+/// A recursion of depth n makes 8 n + 5 steps. At 16, 32, 64 and 128 steps there are 16 checkpoints, of which every second one goes.
+#[test]
+fn every_second_checkpoint_goes(rt: HostRuntime) {
+    let alloc = rt.alloc();
+    let short = kept(alloc, 1, 1) == Told::Number(13);
+    let longer = kept(alloc, 4, 1) == Told::Number(10);
+    let longest = kept(alloc, 30, 1) == Told::Number(16);
+    let far = kept(alloc, 30, 1_000) == Told::Number(1);
+    assert!(rt; short && longer && longest && far);
 }
