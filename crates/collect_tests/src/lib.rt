@@ -9,11 +9,15 @@ mod cover_tests;
 #[cfg(test)]
 mod handed_tests;
 #[cfg(test)]
+mod module_tests;
+#[cfg(test)]
 mod recorded_tests;
 #[cfg(test)]
 mod replay_tests;
 #[cfg(test)]
 mod selftest_tests;
+#[cfg(test)]
+mod shown_tests;
 #[cfg(test)]
 mod trial;
 #[cfg(test)]

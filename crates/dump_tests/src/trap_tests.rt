@@ -56,7 +56,12 @@ struct Silent<'a> {
 }
 
 impl<'a> HostSide for Silent<'a> {
-    ghost origin = { λ s. record { imports = s.imports.now; names = []; logs = λ _. []; script = None } };
+    ghost origin = { λ s. record {
+      imports = s.imports.now;
+      names = [];
+      logs = λ _. [];
+      script = None;
+    } };
 
     ghost calls = { λ _. record { served = []; collected = [] } };
 

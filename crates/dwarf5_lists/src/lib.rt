@@ -5,8 +5,6 @@ mod addresses;
 mod entry;
 mod kind;
 mod lists;
-#[cfg(test)]
-mod tests;
 
 pub use addresses::AddressTable;
 pub use kind::EntryKind;

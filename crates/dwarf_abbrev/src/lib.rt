@@ -4,8 +4,6 @@
 mod abbrev;
 mod read;
 mod table;
-#[cfg(test)]
-mod tests;
 
 pub use abbrev::{Abbrev, Abbrevs, Pair, Pairs};
 pub use read::{Row, abbrevs, read_abbrevs, read_row};

@@ -6,8 +6,6 @@ mod ended;
 mod faults;
 mod items;
 mod names;
-#[cfg(test)]
-mod tests;
 
 pub use bytes::{byte, open_counted};
 pub use causes::NoMemory;

@@ -19,6 +19,3 @@ pub use parameters::{Parameters, read_parameters};
 pub use program::{read_lines, read_program};
 pub use rows::Rows;
 pub use sequences::Sequences;
-
-#[cfg(test)]
-mod tests;

@@ -6,8 +6,6 @@ mod address;
 mod contents;
 mod entry;
 mod search;
-#[cfg(test)]
-mod tests;
 mod version4;
 
 pub use address::read_address;

@@ -2,15 +2,25 @@
 #![tactic(auto)]
 
 #[cfg(test)]
+mod abbrev_tests;
+#[cfg(test)]
+mod entry5_tests;
+#[cfg(test)]
 mod expression_tests;
 #[cfg(test)]
 mod form_tests;
 #[cfg(test)]
 mod frames;
 #[cfg(test)]
+mod item_tests;
+#[cfg(test)]
 mod line5_tests;
 #[cfg(test)]
+mod line_tests;
+#[cfg(test)]
 mod list5_tests;
+#[cfg(test)]
+mod list_tests;
 #[cfg(test)]
 mod path_tests;
 #[cfg(test)]

@@ -2,6 +2,8 @@
 #![tactic(auto)]
 
 #[cfg(test)]
+mod byte_tests;
+#[cfg(test)]
 mod dump_tests;
 #[cfg(test)]
 mod instruction_tests;

@@ -160,7 +160,8 @@ fn unscripted(
 
 /// Attaches a device. The answer is how many calls the one that it replaces has replied to.
 fn attach(devices: &mut DeviceSet, device: Box<dyn Device>) -> Result<Option<usize>, NoMemory>
-    ensures { AreDistinct (names (⟦<DeviceSet as Devices>⟧.shown devices.old)) → AreDistinct (names (⟦<DeviceSet as Devices>⟧.shown devices.new)) }
+    ensures { AreDistinct (names (⟦<DeviceSet as Devices>⟧.shown devices.old))
+        → AreDistinct (names (⟦<DeviceSet as Devices>⟧.shown devices.new)) }
 {
     match devices.attach(device) {
         Ok(replaced) => Ok(logged(&replaced)),

@@ -5,3 +5,5 @@
 mod step_tests;
 #[cfg(test)]
 mod text_tests;
+#[cfg(test)]
+mod word_tests;

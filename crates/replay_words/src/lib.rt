@@ -4,8 +4,6 @@
 mod asking;
 mod moves;
 mod reading;
-#[cfg(test)]
-mod tests;
 
 pub use asking::{ReplayWords, replay_words};
 pub use causes::NoMemory;

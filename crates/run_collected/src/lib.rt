@@ -4,8 +4,6 @@
 mod handed;
 pub mod laws;
 mod shown;
-#[cfg(test)]
-mod tests;
 
 pub use causes::NoMemory;
 pub use handed::{Handed, handed_over};

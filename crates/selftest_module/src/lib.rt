@@ -6,8 +6,6 @@ mod bytes;
 mod code;
 mod module;
 mod numbers;
-#[cfg(test)]
-mod tests;
 
 pub use bytes::selftest_bytes;
 pub use causes::NoMemory;

@@ -7,8 +7,6 @@ mod item;
 mod reader;
 mod runs;
 mod sections;
-#[cfg(test)]
-mod tests;
 
 pub use faults::{ItemFault, Malformed};
 pub use gather::{Gather, GatherUntilDone, gather_count, gather_to_end, gather_until_done};

@@ -2,7 +2,7 @@
 
 ghost use Rattle.std.specs.Prelude.{◌≤◌};
 
-use crate::bytes::selftest_bytes;
+use selftest_module::selftest_bytes;
 use std::alloc::Global;
 
 /// One function, which divides by zero.

@@ -1,7 +1,7 @@
 //! Lists by hand, read in the same way by llvm-dwarfdump, with addresses and what they say of them.
 
-use crate::{Span, location_at, range_holds};
 use dwarf_bytes::ReadFault;
+use dwarf_loc::{Span, location_at, range_holds};
 
 // At 0: from 2 up to 14 and from 14 up to 20, and from 4 up to 6. At 42: from 2 up to 4 counted from the base, then from 100, and from 2 up to 5
 // counted from 0. At 99: from 0 up to 4. At 118: from FFFFFFF0 up to FFFFFFFE. At 137 a list whose end mark is cut.

@@ -1,8 +1,8 @@
 //! Lists by hand, read in the same way by llvm-dwarfdump, with addresses and what they say of them.
 
-use crate::{AddressTable, location_at, range_holds};
 use dwarf_bytes::ReadFault;
 use dwarf_loc::Span;
+use dwarf5_lists::{AddressTable, location_at, range_holds};
 
 // Four bytes in front of a table of 10, 64 and FFFFFFF0.
 const ADDRESSES: [u8; 16] = [

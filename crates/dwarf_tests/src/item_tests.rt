@@ -3,8 +3,7 @@
 ghost use Rattle.std.specs.Prelude.{◌==◌, Some, None, if◌then◌else◌};
 ghost use Rattle.wasm_bytes.specs.Reading.{◌▷◌, u64_item, done_item};
 
-use crate::ended::{Ended, ended_items};
-use crate::items::{number, open_long, open_unit, text};
+use dwarf_bytes::{Ended, ended_items, number, open_long, open_unit, text};
 use pm_text::Items;
 use std::alloc::Global;
 use std::test::Fail;
@@ -16,15 +15,22 @@ const BYTES: [u8; 18] = [
     0x00, 0x06,
 ];
 
-impl<'a> Ended<'a> for u64 {
-    ghost item = { u64_item ▷ λ n. if n == 0 then done_item None else done_item (Some n) };
+/// A number of a list that ends with 0.
+#[derive(Clone, Copy)]
+struct Listed {
+    number: u64,
+}
 
-    fn read(_alloc: Global, reader: &mut Reader<'a>) -> Result<Option<u64>, ItemFault> {
+impl<'a> Ended<'a> for Listed {
+    ghost item = { u64_item ▷ λ n. if n == 0 then done_item None
+        else done_item (Some (record { number = n })) };
+
+    fn read(_alloc: Global, reader: &mut Reader<'a>) -> Result<Option<Listed>, ItemFault> {
         let number = reader.u64()?;
         if number == 0 {
             Ok(None)
         } else {
-            Ok(Some(number))
+            Ok(Some(Listed { number }))
         }
     }
 }
@@ -38,9 +44,12 @@ fn items_are_read(rt: HostRuntime) -> Result<(), Fail> {
     assert!(rt; block.at() == 6 && block.left() == 2);
     let unit = open_unit(&mut reader).ok().ok_or("the unit is there")?;
     assert!(rt; unit.at() == 12 && unit.left() == 1 && reader.at() == 13);
-    let list: Result<Items<u64>, ItemFault> = ended_items(rt.alloc(), &mut reader);
+    let list: Result<Items<Listed>, ItemFault> = ended_items(rt.alloc(), &mut reader);
     let list = list.ok().ok_or("the list is there")?;
-    assert!(rt; matches!(list.as_slice(), [5, 128]) && reader.at() == 17);
+    let [first, second] = list.as_slice() else {
+        return Err("there are two numbers".into());
+    };
+    assert!(rt; first.number == 5 && second.number == 128 && reader.at() == 17);
     Ok(())
 }
 

@@ -3,15 +3,13 @@
 ghost use Rattle.std.specs.Prelude.{[], ◌∷◌, ◌++◌, ◌==◌, length};
 ghost use Rattle.wasm_bytes.specs.Reading.{mapped, u32_item};
 
-use crate::faults::ItemFault;
-use crate::gather::{Gather, GatherUntilDone, gather_count, gather_to_end, gather_until_done};
-use crate::item::{Item, items_to_end, named_section};
-use crate::reader::Reader;
-use crate::runs::Run;
-use crate::sections::{SectionFrame, section_at};
 use pm_text::{Items, Text};
 use std::alloc::Global;
 use std::test::Fail;
+use wasm_bytes::{
+    Gather, GatherUntilDone, Item, ItemFault, Reader, Run, SectionFrame, gather_count,
+    gather_to_end, gather_until_done, items_to_end, named_section, section_at,
+};
 
 // A custom section "ab" that holds a vector of two vectors of numbers, then two numbers up to the end.
 const BYTES: [u8; 13] = [

@@ -1,9 +1,8 @@
 //! Programs and their rows. SMALL is written by hand, as a C compiler lays one out; ASSEMBLED was made by an assembler (GNU
 //! binutils 2.40), and EACH by hand with each opcode. The rows are those that llvm-dwarfdump 14 and readelf print.
 
-use crate::lines::{Lines, Row};
-use crate::program::read_lines;
 use dwarf_bytes::ReadFault;
+use dwarf_line::{Lines, Row, read_lines};
 use std::alloc::Global;
 use std::test::Fail;
 

@@ -1,9 +1,8 @@
 //! Endings and collector calls, row by row.
 
-use crate::handed::handed_over;
-use crate::shown::{Shown, shown_by};
 use machine_basics::TrapKind;
 use machine_hosted::RunEnd;
+use run_collected::{Shown, handed_over, shown_by};
 use std::alloc::Global;
 use wasm_syntax::CollectorCall;
 

@@ -1,7 +1,6 @@
 //! The abbreviations of a module as a C compiler writes them, and tables by hand.
 
-use crate::abbrev::Abbrev;
-use crate::read::read_abbrevs;
+use dwarf_abbrev::{Abbrev, read_abbrevs};
 use std::test::Fail;
 
 // The first four abbreviations of a unit, an end mark of ten bytes, and other bytes.

@@ -1,9 +1,7 @@
 //! Moves and words, with bounds and defaults.
 
-use crate::asking::{ReplayWords, replay_words};
-use crate::moves::Move;
-use crate::reading::read_move;
 use command_words::WordsFault;
+use replay_words::{Move, ReplayWords, read_move, replay_words};
 use std::alloc::{AllocError, Global};
 use std::test::Fail;
 use wasm_syntax::Value;
