@@ -29,20 +29,20 @@ use Rattle.command_answers.specs.declared.loading.Loaded.{Loaded}
 use Rattle.command_answers.specs.declared.loading.Loaded.TheVariants.{Valid as IsValid, TurnedDown}
 use Rattle.command_answers.specs.declared.input.Input.{Input}
 use Rattle.command_answers.specs.declared.input.Input.TheVariants as inputs
-use Rattle.command_answers.proofs.Unless.{OnAnswer, unless, map_answer, all_answers}
+use Rattle.command_answers.proofs.Unless.{unless, map_answer, all_answers}
 use Rattle.command_answers.proofs.Reading.{map_contents, then_ok, then_err}
 use Rattle.run_words.specs.declared.cover.CoverWords.{CoverWords}
 use Rattle.run_session.specs.Stop.{Stop, no_memory, file_failed, OnStop}
-use Rattle.run_session.specs.Written.{Writes, HoldThen}
+use Rattle.run_session.specs.Written.{HoldThen}
 use Rattle.run_command.specs.RunAnswer.{AnsweredOn, IfRefusal, IsUntouched, bad_replies, script_of, replies_input}
 use Rattle.run_command.specs.Stops.{NothingDone}
-use Rattle.run_command.specs.inner.Scripts.{script_result, IsAsked, IfAskedRefused, IsRepliesFault}
+use Rattle.run_command.specs.inner.Scripts.{script_result, IsAsked, IsRepliesFault}
 use Rattle.run_command.specs.declared.scripts.Script.{Script}
 use Rattle.run_command.specs.declared.scripts.Script.TheVariants.{Whole, Bad}
 use Rattle.run_command.specs.declared.scripts.Asked.{Asked}
 use Rattle.run_command.specs.declared.scripts.Asked.TheVariants.{Read, Refused}
 use Rattle.cover_command.specs.CoverAnswer.{ModuleAnswer, CoverAnswer, IsReadBy}
-use Rattle.cover_command.specs.Stops.{StopsRun, CoverStops}
+use Rattle.cover_command.specs.Stops.{CoverStops}
 use Rattle.cover_command.specs.inner.Steps.{IsAnswered, ScriptAnswer, BytesAnswer, SourceAnswer, ModuleStops, ScriptStops, BytesStops, SourceStops, StepStops}
 
 -- nothing was written

@@ -1,9 +1,8 @@
 -- The text of counted steps.
-use Rattle.std.proofs.Common.{◌≡◌, ℕ, zero, suc, ◌+◌, ◌<◌, ◌≤◌, ◌^◌, List, [], ◌∷◌, ◌++◌, map, length, drop, Bool, true, false, cond, Option, Some, None, Result, Ok, Err, refl, sym, ap, ap₂, subst, ◌∙◌, arith}
-use Rattle.std.specs.Prelude.{OnOk, fold, count_by, slice_get, is_none, unwrap_or, option_and_then, if◌then◌else◌}
+use Rattle.std.proofs.Common.{◌≡◌, ℕ, zero, suc, ◌+◌, ◌<◌, ◌≤◌, ◌^◌, List, [], ◌∷◌, ◌++◌, map, length, drop, Bool, cond, Option, Some, None, Result, Ok, Err, refl, sym, ap, ap₂, subst, ◌∙◌, arith}
+use Rattle.std.specs.Prelude.{OnOk, fold, count_by, slice_get, is_none, unwrap_or}
 use Rattle.std.specs.List.{flat_map, AllByRecursion}
 use Rattle.std.specs.Option.{option_or, option_map}
-use Rattle.std.specs.Map.{lookup}
 use Rattle.std.specs.BTreeMap.{BTreeMap, IsOrdered}
 use Rattle.std.proofs.lemmas.List.Sums.{count_by-le-length}
 use Rattle.cover_command.specs.declared.merging.FileLine.{FileLine}
@@ -14,14 +13,14 @@ use Rattle.dwarf_line.specs.declared.lines.Lines.{Lines}
 use Rattle.dwarf_line.specs.Place.{Located, place}
 use Rattle.debug_frames.specs.declared.programs.Program.{Program}
 use Rattle.debug_frames.specs.declared.programs.Program.TheVariants.{Read, Unreadable}
-use Rattle.debug_frames.specs.Programs.{located_in, located_at, readable, read_in}
+use Rattle.debug_frames.specs.Programs.{located_at, readable}
 use Rattle.line_coverage.specs.declared.spots.Spot.{Spot}
 use Rattle.line_coverage.specs.declared.spots.LineCount.{LineCount}
-use Rattle.line_coverage.specs.Spots.{spot, spot_of, spot_from, lines_sum}
-use Rattle.line_coverage.specs.Covers.{address_of, fallen, Covered, Covers, sum_where}
-use Rattle.cover_command.specs.SourceLines.{SourceLine, is_line, line_of, source_line, falls_on}
-use Rattle.cover_command.specs.CoverText.{AreCounts, CoverText, count_text, sums_text}
-use Rattle.cover_command.specs.inner.Merging.{file_line_cmp, seen_counts, at_line, counted_on, HaveSteps, file_at, spot_line, spot_falls_on, merged}
+use Rattle.line_coverage.specs.Spots.{spot, spot_of, spot_from}
+use Rattle.line_coverage.specs.Covers.{address_of, fallen, Covered, Covers}
+use Rattle.cover_command.specs.SourceLines.{SourceLine, line_of, source_line, falls_on}
+use Rattle.cover_command.specs.CoverText.{CoverText, count_text, sums_text}
+use Rattle.cover_command.specs.inner.Merging.{file_line_cmp, seen_counts, counted_on, HaveSteps, file_at, spot_line, spot_falls_on, merged}
 use Rattle.cover_command.proofs.Merges.{seen_sorted, seen_lookup}
 
 -- ---- where a step falls

@@ -1,9 +1,8 @@
 -- The answer on a valid module, from what its parts ensure.
-use Rattle.std.proofs.Common.{◌≡◌, ℕ, suc, ◌+◌, ◌-◌, ◌<◌, ◌≤◌, ◌^◌, Bool, true, false, List, [], ◌∷◌, ◌++◌, map, length, drop, refl, sym, ap, ap₂, ◌∙◌, subst, arith, Option, Some, None, Result, Ok, Err, inl, inr, length-append}
+use Rattle.std.proofs.Common.{◌≡◌, ℕ, suc, ◌+◌, ◌-◌, ◌<◌, ◌≤◌, ◌^◌, Bool, true, false, List, [], ◌∷◌, ◌++◌, map, length, drop, refl, sym, ap, ◌∙◌, subst, arith, Option, None, Result, Ok, Err, inl, inr, length-append}
 use Rattle.std.proofs.lemmas.Bool.{ltb-false}
-use Rattle.std.specs.Prelude.{◌⊎◌, IfOk, OnErr, nat_lt, if◌then◌else◌}
+use Rattle.std.specs.Prelude.{IfOk, nat_lt, if◌then◌else◌}
 use Rattle.std.proofs.lemmas.List.{append-nil}
-use Rattle.causes.specs.declared.NoMemory.{NoMemory as WantOfMemory}
 use Rattle.wasm_syntax.specs.declared.quantity.Quantity.TheVariants.{ModuleBytes}
 use Rattle.wasm_syntax.specs.Quantity.{greatest}
 use Rattle.wasm_bytes.specs.Reading.{whole}
@@ -15,14 +14,13 @@ use Rattle.wasm_syntax.specs.declared.parts.Import.{Import}
 use Rattle.wasm_syntax.specs.declared.host.Reply.{Reply}
 use Rattle.wasm_syntax.specs.declared.host.Served.{Served}
 use Rattle.wasm_syntax.specs.declared.module.ModuleParts.{ModuleParts as Module}
-use Rattle.wasm_syntax.specs.Module.{Program, IsProgram, IsModule, function_export}
+use Rattle.wasm_syntax.specs.Module.{Program, IsModule}
 use Rattle.wasm_syntax.specs.Valid.{Valid}
 use Rattle.wasm_syntax.specs.Machine.{Engine}
-use Rattle.wasm_syntax.specs.Run.{Outcome as RunOutcome, not_started, finished, trapped, lacks_reply, misfits, running, got_stuck, Ran, engine, invoked, start_world}
+use Rattle.wasm_syntax.specs.Run.{Outcome as RunOutcome, engine, invoked, start_world}
 use Rattle.machine_basics.specs.Traps.{trap_code}
 use Rattle.machine_steps.specs.Places.{Place, invocation_places}
 use Rattle.machine_steps.specs.Tallies.{Counts, Counted}
-use Rattle.host_devices.specs.HostSides.{Calls}
 use Rattle.host_devices.specs.Given.{replies_of, unfitting}
 use Rattle.machine_hosted.specs.Settings.{world_of}
 use Rattle.machine_hosted.specs.Answers.{HasCause, AdmitsReplies, given_steps}
@@ -36,14 +34,12 @@ use Rattle.host_set.specs.Sets.{DeviceState, names, count_of}
 use Rattle.host_set.specs.Hosting.{HostsState, origin_of, calls_of, is_used_up, serves}
 use Rattle.command_answers.specs.Texts.{ended}
 use Rattle.command_answers.specs.declared.outcome.Outcome.{Outcome}
-use Rattle.command_answers.specs.declared.status.Status.{Status}
 use Rattle.command_answers.specs.declared.status.Status.TheVariants as status
 use Rattle.run_words.specs.declared.cover.CoverWords.{CoverWords}
 use Rattle.run_session.specs.RunText.{kind_line, not_invoked_text}
 use Rattle.run_session.specs.Given.{given_to}
 use Rattle.run_session.specs.inner.Answers.{answer_line}
 use Rattle.run_session.specs.inner.Sessions.{EndsIn}
-use Rattle.run_command.specs.Starting.{not_started_with}
 use Rattle.run_command.specs.Hosting.{start_text}
 use Rattle.run_command.specs.AllRan.{end_text}
 use Rattle.run_command.specs.RunAnswer.{hosting, script_replies, Logs, StartsOr, IfRefusal}
@@ -55,7 +51,6 @@ use Rattle.run_command.proofs.Hostings.{Began, GaveBack, host_facts, by_script, 
 use Rattle.debug_frames.specs.Information.{information}
 use Rattle.debug_frames.specs.declared.programs.Program.{Program as LineProgram}
 use Rattle.cover_command.specs.SourceLines.{source_line}
-use Rattle.cover_command.specs.CoverText.{CoverText}
 use Rattle.cover_command.specs.CoverAnswer.{covered_run, covered_places, finished_line, Tells, EndsAs, CoversTo, ModuleAnswer, called}
 use Rattle.cover_command.specs.Stops.{CoversFor}
 use Rattle.cover_command.specs.inner.Running.{Came, TellsCounts, AnswersEnd}

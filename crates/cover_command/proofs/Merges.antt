@@ -1,21 +1,19 @@
 -- Numbers of steps in a map of lines.
-use Rattle.std.proofs.Common.{◌≡◌, ℕ, zero, suc, ◌+◌, ◌<◌, ◌^◌, List, [], ◌∷◌, Bool, true, false, cond, eqb, ltb, Option, Some, None, refl, sym, ap, ap₂, subst, ◌∙◌, arith, map, drop, length, get_or, drop-cons}
+use Rattle.std.proofs.Common.{◌≡◌, ℕ, zero, suc, ◌+◌, ◌<◌, ◌^◌, List, [], ◌∷◌, Bool, true, false, cond, Some, None, refl, sym, ap, ap₂, subst, ◌∙◌, arith, map, drop, length, get_or, drop-cons}
 use Rattle.std.proofs.lemmas.List.{drop_all}
 use Rattle.std.specs.Prelude.{◌≤◌, slice_get, unwrap_or, if◌then◌else◌, min, ◌-◌}
 use Rattle.std.specs.Map.{lookup, keys_of, IsKeyTest, AreApart, KeepsOthers}
 use Rattle.std.specs.List.{AllByRecursion}
 use Rattle.std.specs.List.Sorted.{IsStrictlySortedBy}
-use Rattle.std.specs.declared.cmp.Ordering.{Ordering}
-use Rattle.std.specs.declared.cmp.Ordering.TheVariants.{Less, Equal, Greater}
+use Rattle.std.specs.declared.cmp.Ordering.TheVariants.{Less}
 use Rattle.std.specs.Ordering.{is_eq, eq_by_cmp}
 use Rattle.std.specs.BTreeMap.{BTreeMap, Updates, get, is_at}
 use Rattle.dwarf_line.specs.declared.lines.Lines.{Lines}
 use Rattle.line_coverage.specs.declared.spots.LineCount.{LineCount}
-use Rattle.line_coverage.specs.Spots.{lines_sum}
 use Rattle.cover_command.specs.SourceLines.{SourceLine, line_cmp, is_line}
-use Rattle.cover_command.specs.inner.Merging.{file_line_cmp, seen_line, seen_counts, at_line, counted_on, HaveSteps, spot_line, spot_falls_on, merged}
+use Rattle.cover_command.specs.inner.Merging.{file_line_cmp, seen_line, seen_counts, at_line, counted_on, HaveSteps, spot_line, merged}
 use Rattle.cover_command.specs.declared.merging.FileLine.{FileLine}
-use Rattle.cover_command.proofs.Orders.{ties, same_line, itself, alike}
+use Rattle.cover_command.proofs.Orders.{ties, same_line, alike}
 
 -- ---- the order of the map is that of the lines
 

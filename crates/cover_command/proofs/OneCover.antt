@@ -8,14 +8,13 @@ use Rattle.wasm_syntax.specs.declared.quantity.Quantity.TheVariants.{ModuleBytes
 use Rattle.wasm_syntax.specs.declared.host.Reply.{Reply}
 use Rattle.wasm_syntax.specs.declared.host.Served.{Served}
 use Rattle.wasm_syntax.specs.declared.module.ModuleParts.{ModuleParts as Module}
-use Rattle.wasm_syntax.specs.Module.{Program, IsProgram, function_export}
+use Rattle.wasm_syntax.specs.Module.{Program, IsProgram}
 use Rattle.wasm_syntax.specs.Run.{Outcome as RunOutcome, not_started, finished, trapped, lacks_reply, misfits, running, got_stuck, Ran}
 use Rattle.wasm_decode.specs.Decode.{module_from}
 use Rattle.machine_steps.specs.Places.{Place}
 use Rattle.host_devices.specs.Given.{replies_of}
 use Rattle.host_set.specs.Sets.{DeviceState, names}
-use Rattle.command_answers.specs.Inputs.{input_of, Then}
-use Rattle.command_answers.specs.Loading.{IfLoaded}
+use Rattle.command_answers.specs.Inputs.{input_of}
 use Rattle.command_answers.specs.declared.outcome.Outcome.{Outcome}
 use Rattle.command_answers.proofs.OneOutcome.{Agree, agree_then, agree_if_loaded}
 use Rattle.run_words.specs.declared.cover.CoverWords.{CoverWords}

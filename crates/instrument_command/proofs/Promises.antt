@@ -1,5 +1,5 @@
 -- From what rewriting answers to what the command needs.
-use Rattle.std.proofs.Common.{◌≡◌, ℕ, List, length, refl, sym, subst, ap, arith, Option, Some, None}
+use Rattle.std.proofs.Common.{◌≡◌, ℕ, List, refl, sym, subst, arith, Option, Some, None}
 use Rattle.wasm_syntax.specs.declared.module.ModuleParts.{ModuleParts as Module}
 use Rattle.wasm_syntax.specs.Valid.{Valid}
 use Rattle.wasm_bytes.specs.Laws.{IsBytes}

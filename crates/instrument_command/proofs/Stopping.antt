@@ -1,6 +1,5 @@
 -- What each step of the command leaves where it has no answer, from what the next one leaves.
 use Rattle.std.proofs.Common.{◌≡◌, ℕ, List, refl, sym, subst, ap, ◌∙◌, inl, inr, Option, Result, Ok, Err}
-use Rattle.std.specs.Prelude.{◌⊎◌}
 use Rattle.std.specs.declared.vec.Vec.{Vec}
 use Rattle.std.specs.Global.{Global}
 use Rattle.causes.specs.declared.NoMemory.{NoMemory as WantOfMemory}

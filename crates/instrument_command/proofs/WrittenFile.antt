@@ -1,5 +1,5 @@
 -- What a file that is written means for the answer.
-use Rattle.std.proofs.Common.{◌≡◌, ℕ, List, [], ◌∷◌, refl, sym, subst, ap, ◌∙◌, inl, inr, Option, Some, None, Result, Ok, Err}
+use Rattle.std.proofs.Common.{◌≡◌, ℕ, List, [], ◌∷◌, refl, sym, subst, ap, ◌∙◌, inr, Option, Result, Ok, Err}
 use Rattle.std.specs.Prelude.{IfOk}
 use Rattle.causes.specs.declared.NoMemory.{NoMemory}
 use Rattle.pm_outside.specs.Contents.{Contents}
@@ -9,13 +9,12 @@ use Rattle.dump_write.specs.Written.{OnTold, HasFile, Writes as Leaves}
 use Rattle.rewrite_modules.specs.Weight.{weight}
 use Rattle.rewrite_promise.specs.Admitted.{Admits}
 use Rattle.rewrite_promise.proofs.Heights.{one_weight}
-use Rattle.instrument.specs.Refusal.{refusal}
 use Rattle.command_answers.specs.Texts.{file_fault}
 use Rattle.command_answers.specs.Told.{UnlessFault}
 use Rattle.command_answers.specs.declared.outcome.Outcome.{Outcome}
 use Rattle.command_answers.specs.declared.status.Status.TheVariants as status
 use Rattle.command_answers.proofs.Unless.{OnAnswer, on_all}
-use Rattle.run_session.specs.Stop.{Stop, no_memory, file_failed, OnStop}
+use Rattle.run_session.specs.Stop.{OnStop}
 use Rattle.instrument_command.proofs.HeldFiles.{one_held, front_left}
 use Rattle.instrument_command.specs.InstrumentAnswer.{instrumented, Decides, ModuleAnswer}
 use Rattle.instrument_command.specs.Stops.{LeftInPart}

@@ -1,12 +1,11 @@
 -- A list of words has at most one answer, and one list of written files.
-use Rattle.std.proofs.Common.{◌≡◌, ℕ, List, Option, Some, None, sym, ◌∙◌}
+use Rattle.std.proofs.Common.{ℕ, List, Option, Some, None, sym, ◌∙◌}
 use Rattle.wasm_syntax.specs.declared.quantity.Quantity.TheVariants.{ModuleBytes, DumpBytes}
 use Rattle.wasm_syntax.specs.declared.host.Served.{Served}
 use Rattle.pm_outside.specs.Contents.{Contents}
 use Rattle.wasm_decode.specs.Decode.{module_from}
 use Rattle.host_set.specs.Sets.{DeviceState}
 use Rattle.command_answers.specs.Inputs.{input_of}
-use Rattle.command_answers.specs.Loading.{IfLoaded}
 use Rattle.command_answers.specs.declared.outcome.Outcome.{Outcome}
 use Rattle.command_answers.proofs.OneOutcome.{Agree, agree_then, agree_if_loaded}
 use Rattle.run_session.specs.Written.{Writes}

@@ -1,7 +1,6 @@
 -- What is left where there is no answer, from what the commands leave.
 use Rattle.std.proofs.Common.{◌≡◌, ℕ, List, refl, sym, ap, ◌∙◌, subst, inl, inr, Option, Some, None, Result, Ok, Err}
 use Rattle.std.specs.Prelude.{◌⊎◌, IfSome, IfOk}
-use Rattle.causes.specs.Counts.{Rose}
 use Rattle.causes.specs.declared.NoMemory.{NoMemory}
 use Rattle.pm_outside.specs.Contents.{Contents}
 use Rattle.host_set.specs.Sets.{DeviceState}

@@ -1,9 +1,8 @@
 -- Two answers tell of one dump.
-use Rattle.std.proofs.Common.{◌≡◌, ℕ, ◌-◌, Bool, true, false, List, [], ◌∷◌, map, slice_get, refl, sym, ap, subst, ◌∙◌, Option, Some}
+use Rattle.std.proofs.Common.{◌≡◌, ℕ, ◌-◌, Bool, true, false, List, [], ◌∷◌, map, slice_get, sym, ap, ◌∙◌}
 use Rattle.std.specs.Prelude.{codes}
 use Rattle.wasm_syntax.specs.declared.module.ModuleParts.{ModuleParts as Module}
 use Rattle.wasm_syntax.specs.Machine.{Config}
-use Rattle.wasm_syntax.specs.Module.{Program}
 use Rattle.wasm_syntax.specs.Run.{Ran, run}
 use Rattle.wasm_laws.proofs.Lists.{some_is}
 use Rattle.wasm_decode.specs.Decode.{module_from}
@@ -14,7 +13,7 @@ use Rattle.run_session.specs.Written.{Writes}
 use Rattle.selftest_laws.specs.Handing.{main_on, fuel, depth, RunsOnce}
 use Rattle.selftest_laws.proofs.OneProgram.{same_program}
 use Rattle.selftest_command.specs.Summary.{summary}
-use Rattle.selftest_command.specs.SelftestAnswer.{module_bytes, both_files, division, SelftestAnswer, OneDump}
+use Rattle.selftest_command.specs.SelftestAnswer.{module_bytes, division, SelftestAnswer, OneDump}
 use Rattle.selftest_command.proofs.Steps.{ok_is}
 
 -- one module has one run

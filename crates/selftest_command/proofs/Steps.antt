@@ -17,7 +17,6 @@ use Rattle.dump_write.specs.ImageBytes.{bytes_of}
 use Rattle.dump_write.specs.Written.{OnTold}
 use Rattle.rewrite_modules.specs.Simulates.{memory_of}
 use Rattle.rewrite_promise.specs.Admitted.{Admits}
-use Rattle.instrument.specs.declared.refusal.InstrFault.{InstrFault}
 use Rattle.command_answers.specs.Loading.{IsTurnedDown}
 use Rattle.command_answers.specs.Refusal.{IsRefusal}
 use Rattle.command_answers.specs.declared.outcome.Outcome.{Outcome}

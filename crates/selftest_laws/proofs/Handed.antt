@@ -10,7 +10,7 @@ use Rattle.wasm_syntax.specs.Machine.{Frame, Config}
 use Rattle.wasm_syntax.specs.Run.{Outcome, not_started, finished, trapped, lacks_reply, misfits, running, got_stuck, Ran, ran, run}
 use Rattle.wasm_syntax.specs.Valid.{Valid}
 use Rattle.wasm_laws.specs.Runs.{with_more}
-use Rattle.wasm_laws.proofs.Lists.{some_is, get_map}
+use Rattle.wasm_laws.proofs.Lists.{some_is}
 use Rattle.wasm_laws.proofs.Longer.{longer_run}
 use Rattle.dump_write.specs.Image.{frame_images}
 use Rattle.rewrite_modules.specs.Bare.{bare_module, bare, bare_frame, bare_config, bare_ran}

@@ -1,5 +1,5 @@
 -- Numbers of steps by lines of files, as a map has them and as they are added up.
-use Rattle.std.specs.Prelude.{◌≡◌, ◌<◌, ℕ, Bool, false, List, [], map, option_and_then, Option, Some, None, slice_get, unwrap_or}
+use Rattle.std.specs.Prelude.{◌≡◌, ◌<◌, ℕ, Bool, false, List, [], map, Option, Some, None, slice_get, unwrap_or}
 use Rattle.std.specs.Map.{lookup}
 use Rattle.std.specs.String.{string_bytes}
 use Rattle.std.specs.declared.cmp.Ordering.{Ordering}
@@ -11,7 +11,7 @@ use Rattle.line_coverage.specs.declared.spots.LineCount.{LineCount}
 use Rattle.line_coverage.specs.Spots.{lines_sum}
 use Rattle.cover_command.specs.declared.merging.FileLine.{FileLine}
 use Rattle.cover_command.specs.contracts.merging.FileLineOrd.TheImpl as file_line_ord
-use Rattle.cover_command.specs.SourceLines.{SourceLine, is_line, falls_on}
+use Rattle.cover_command.specs.SourceLines.{SourceLine, is_line}
 
 -- the order of the map
 abbrev pub file_line_cmp : FileLine → FileLine → Ordering

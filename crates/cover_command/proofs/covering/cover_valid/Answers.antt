@@ -1,4 +1,4 @@
-use Rattle.std.proofs.Common.{◌≡◌, [], map, refl, ap, ◌∙◌, subst, inr}
+use Rattle.std.proofs.Common.{[], map, refl, ap, ◌∙◌, subst, inr}
 use Rattle.std.specs.Prelude.{IfOk}
 use Rattle.wasm_syntax.specs.declared.module.ModuleParts.{ModuleParts as Module}
 use Rattle.wasm_syntax.specs.Module.{IsModule}

@@ -1,4 +1,4 @@
-use Rattle.std.proofs.Common.{◌≡◌, ◌+◌, ◌^◌, ◌∙◌, ap}
+use Rattle.std.proofs.Common.{◌+◌, ◌^◌, ◌∙◌, ap}
 use Rattle.std.specs.Prelude.{unwrap_or, min, ◌-◌}
 use Rattle.cover_command.proofs.Merges.{added, still_some}
 use Rattle.cover_command.proofs.merging.add.Goals as goal

@@ -1,4 +1,4 @@
-use Rattle.std.proofs.Common.{◌≡◌, ap, sym, ◌∙◌}
+use Rattle.std.proofs.Common.{ap, sym, ◌∙◌}
 use Rattle.std.specs.Prelude.{slice_set}
 use Rattle.machine_steps.proofs.TallyLaws.{cells_set, cells_short}
 use Rattle.machine_steps.proofs.tally.count_in.Goals as goal

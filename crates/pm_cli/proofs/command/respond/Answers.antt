@@ -1,4 +1,4 @@
-use Rattle.std.proofs.Common.{◌≡◌, map, refl, ap, ◌∙◌, Some, Err}
+use Rattle.std.proofs.Common.{map, refl, ap, ◌∙◌, Some, Err}
 use Rattle.std.specs.String.{string_bytes}
 use Rattle.causes.specs.Counts.{Rose}
 use Rattle.pm_cli.proofs.Respond.{check_answered, show_answered, usage_answered, run_answered, debug_answered, instrument_answered, selftest_answered, replay_answered, cover_answered}

@@ -1,4 +1,4 @@
-use Rattle.std.proofs.Common.{◌≡◌, map, ap, ◌∙◌}
+use Rattle.std.proofs.Common.{map, ap, ◌∙◌}
 use Rattle.machine_steps.specs.inner.Cells.{no_cells}
 use Rattle.machine_steps.proofs.TallyLaws.{counted_new, cells_done}
 use Rattle.machine_steps.proofs.tally.Tally.new.Goals as goal
