@@ -248,7 +248,9 @@ fn read_word<'a>(
     requires { is_distinct (names reading.old) ≡ true }
     ensures answer { IfOk result (λ o. MatchOption o
         (outcome options.now reading.old (word.now ∷ map string_bytes behind.now) ≡ None)
-        (λ l. (outcome options.now reading.new (map string_bytes l.now) ≡ outcome options.now reading.old (word.now ∷ map string_bytes behind.now)) × (is_distinct (names reading.new) ≡ true))) }
+        (λ l. (outcome options.now reading.new (map string_bytes l.now)
+        ≡ outcome options.now reading.old (word.now ∷ map string_bytes behind.now))
+        × (is_distinct (names reading.new) ≡ true))) }
     ensures shorter { IfOk result (λ o. IfSome o (λ l. length l.now ≤ length behind.now)) }
 {
     match kind_of(options, word) {

@@ -100,7 +100,8 @@ fn push_inlined_line(
     requires { resolved.now ≡ resolved_at information.now resolved.now.address }
     ensures { OnOk result (out.new ≡ out.old ++ definitions.line index
         (definitions.inlined_text information.now standing.now)
-        (definitions.place_behind information.now resolved.now.address (option_copied before.entry))) }
+        (definitions.place_behind information.now resolved.now.address
+        (option_copied before.entry))) }
 {
     push_index(out, index)?;
     push_inlined(out, information, standing)?;
@@ -122,7 +123,8 @@ fn push_function_line(
     requires { resolved.now ≡ resolved_at information.now resolved.now.address }
     ensures { OnOk result (out.new ≡ out.old ++ definitions.line index
         (definitions.function_text information.now resolved.now.address frame.now)
-        (definitions.place_behind information.now resolved.now.address (option_copied before.entry))) }
+        (definitions.place_behind information.now resolved.now.address
+        (option_copied before.entry))) }
 {
     push_index(out, index)?;
     push_function(out, information, resolved, frame)?;

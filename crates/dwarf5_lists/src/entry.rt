@@ -20,7 +20,8 @@ fn startx_endx<C: Contents>(
     reader: &mut Reader<'_>,
 ) -> Result<Entry<C>, Malformed>
     ensures item { Reads result reader.new
-        (mapped between_of (indexed_item (address_of addresses.now) ⊗ indexed_item (address_of addresses.now) ⊗ C.item) reader.old) }
+        (mapped between_of (indexed_item (address_of addresses.now)
+        ⊗ indexed_item (address_of addresses.now) ⊗ C.item) reader.old) }
     ensures moves { OnOk result (Moves reader.old reader.new) }
 {
     let begin = indexed(addresses, reader)?;
@@ -34,7 +35,8 @@ fn startx_length<C: Contents>(
     reader: &mut Reader<'_>,
 ) -> Result<Entry<C>, Malformed>
     ensures item { Reads result reader.new
-        (mapped lasting_of (indexed_item (address_of addresses.now) ⊗ u64_item ⊗ C.item) reader.old) }
+        (mapped lasting_of (indexed_item (address_of addresses.now)
+        ⊗ u64_item ⊗ C.item) reader.old) }
     ensures moves { OnOk result (Moves reader.old reader.new) }
 {
     let begin = indexed(addresses, reader)?;

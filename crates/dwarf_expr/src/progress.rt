@@ -68,7 +68,8 @@ fn step(
     base: Base,
 ) -> Result<(), Eval>
     ensures { Leaves result stack.new
-        (begun_step view.now base placed.now.at placed.now.opcode placed.now.begun is_last stack.old) }
+        (begun_step view.now base placed.now.at placed.now.opcode placed.now.begun is_last
+        stack.old) }
 {
     let at = placed.at;
     match placed.begun {

@@ -89,7 +89,8 @@ fn read_meant<'c, 'a, V: UnitVersion<'a>>(
 ) -> Result<AttrValue<'a>, Malformed>
     requires sized { IsNumber width meaning }
     ensures item { Reads result reader.new
-        (meaning_item (meant (seen V.version V.looked context.now) meaning) (width_item width) reader.old) }
+        (meaning_item (meant (seen V.version V.looked context.now) meaning) (width_item width)
+        reader.old) }
     ensures stays { OnOk result (Stays reader.old reader.new) }
 {
     let at = reader.at();

@@ -36,7 +36,8 @@ fn instrument_valid<F: Files>(
     requires sized { Sized source.now }
     requires small { SmallOffsets source.now }
     ensures told { IfOk result (λ o. UnlessFault o.status (IsAnswered
-        (λ writes. ModuleAnswer out.now writes source.now) (F.told files.old) (F.told files.new) o)) }
+        (λ writes. ModuleAnswer out.now writes source.now)
+        (F.told files.old) (F.told files.new) o)) }
     ensures stops { OnStop (λ stop.
         ModuleStops stop out.now source.now (F.told files.old) (F.told files.new)) result }
     ensures fault { IfOk result (λ o. o.status ≡ Status.FileFault

@@ -64,7 +64,8 @@ fn write_record<F: Files, D: Devices>(
 ) -> Result<Outcome, NoMemory>
     ensures behind { Behind (Some file.now)
         (fitting (ends_badly instance.now.last) hosts.now.served)
-        (Rose (F.faults files.old) (F.faults files.new)) outcome result (F.told files.old) (F.told files.new) }
+        (Rose (F.faults files.old) (F.faults files.new)) outcome result
+        (F.told files.old) (F.told files.new) }
     ensures memory { outcome.status ≢ Status.NoMemory
         → IfOk result (λ o. o.status ≢ Status.NoMemory) }
     ensures telling { is_some (F.told files.new) ≡ is_some (F.told files.old) }
@@ -90,7 +91,8 @@ pub(crate) fn recorded<F: Files, D: Devices>(
     outcome: Result<Outcome, NoMemory>,
 ) -> Result<Outcome, NoMemory>
     ensures records { Records log_to.now (fitting (ends_badly instance.now.last) hosts.now.served)
-        (Rose (F.faults files.old) (F.faults files.new)) outcome result (F.told files.old) (F.told files.new) }
+        (Rose (F.faults files.old) (F.faults files.new)) outcome result
+        (F.told files.old) (F.told files.new) }
     ensures memory { IfOk outcome (λ o. o.status ≢ Status.NoMemory)
         → IfOk result (λ o. o.status ≢ Status.NoMemory) }
     ensures telling { is_some (F.told files.new) ≡ is_some (F.told files.old) }

@@ -161,7 +161,8 @@ fn is_number(word: &str) -> bool
 #[tactic(auto, using(pm_text::proofs::NumberLaws::begins, pm_text::proofs::NumberLaws::begins_not))]
 fn behind<'a>(text: &'a str, front: &str) -> Option<&'a str>
     ensures { MatchOption result (starts_with nat_eq text.now front.now ≡ false)
-        (λ x. (starts_with nat_eq text.now front.now ≡ true) × (x.now ≡ drop (length front.now) text.now)) }
+        (λ x. (starts_with nat_eq text.now front.now ≡ true)
+        × (x.now ≡ drop (length front.now) text.now)) }
 {
     text.strip_prefix(front)
 }

@@ -54,7 +54,8 @@ fn close<'f, 't>(unclosed: &'f [u8], steps: &mut Steps<'t>) -> Result<Option<&'f
     ensures steps { OnOk result (steps.new ≡ steps.old ++ reading.derefs (reverse unclosed.now)) }
     ensures outer { IfOk result (λ o. MatchOption o
         (reading.behind_stars (reverse unclosed.now) ≡ [])
-        (λ outer. (b : ℕ) × (reading.behind_stars (reverse unclosed.now) ≡ b ∷ reverse outer.now))) }
+        (λ outer. (b : ℕ)
+        × (reading.behind_stars (reverse unclosed.now) ≡ b ∷ reverse outer.now))) }
 {
     let inner = push_derefs(unclosed, steps)?;
     Ok(without_innermost(inner))
