@@ -74,7 +74,8 @@ def main():
     program, words = os.path.abspath(sys.argv[1]), sys.argv[2:]
     shapes = [s for s in module_shapes.SHAPES + debug_shapes.SHAPES if not words or any(word in s[0] for word in words)]
     wrong = [shape[0] for shape in shapes if not judged(program, shape)]
-    print(f"{len(shapes)} shapes, {len(wrong)} of them do not pass")
+    products = [shape[0] for shape in shapes if len(shape) > 4]
+    print(f"{len(shapes)} shapes, {len(wrong)} of them do not pass; allowed to grow by a product:", ", ".join(products) or "none")
     sys.exit(1 if wrong else 0)
 
 
