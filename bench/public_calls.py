@@ -15,7 +15,6 @@ FUNCTION = re.compile(r'^(\s*)(pub(?:\([^)]*\))?\s+)?(?:const\s+|unsafe\s+)*fn\s
 RECEIVER = re.compile(r"\(\s*(?:&\s*(?:'\w+\s+)?)?(?:mut\s+)?self\b")
 NAME = re.compile(r'[A-Za-z_]\w*')
 ELSEWHERE = {
-    ('Collecting', 'close'): 'run_session, through its turn',
     ('ScriptHosts', 'given'): 'replay, at each checkpoint',
     ('Found', 'add'): 'dump_format, for each part',
     ('Found', 'is_found'): 'dump_format, behind the sections',
@@ -26,7 +25,6 @@ ELSEWHERE = {
     ('Rows', 'nearest'): 'dwarf_line, for each address',
     ('IndexMap', 'helper'): 'body_rewrite, at a call_indirect',
     ('Globals', 'set'): 'machine_basics, at a global.set',
-    ('FunctionContext', 'test_flag'): 'unwind_rewrite, behind calls',
 }
 
 
