@@ -1,15 +1,18 @@
-//! Calls of the collector that were put together by hand, and what becomes of them.
+//! Calls of the collector, put together by hand or made by a module, and what becomes of them.
 
-ghost use Rattle.std.specs.Prelude.{◌≤◌};
+ghost use Rattle.std.specs.Prelude.{◌≡◌, ◌≤◌};
 ghost use Rattle.dump_format.specs.Form.{pages_of};
 ghost use Rattle.dump_format.specs.Contained.{IsContained};
 
+use crate::runs::{Silent, valid};
 use crate::trap::TRAP;
 use dump_format::Dump;
 use dump_write::dump_bytes;
 use host_collector::{CloseFault, Collecting, close};
 use std::alloc::{AllocError, Global};
-use wasm_syntax::CollectorCall;
+use wasm_machine::{Instance, RunEnd};
+use wasm_syntax::{CollectorCall, Import};
+use wasm_validate::Validated;
 
 /// The arguments of `frame`, in order, or of `value_i32`.
 type Told = &'static [u32];
@@ -33,6 +36,18 @@ const TORN: [(&[Told], usize); 14] = [
     (&[&[1, 0, 0, 0], &[255, 1, 0, 0]], 1),
     (&[&[1, 0, 0, 0], &[255, 0, 1, 0]], 1),
     (&[&[1, 0, 0, 0], &[255, 0, 0, 0], &[7]], 2),
+];
+
+/// `f` makes the calls of `DIVISION`, of imports `value_i32` and `frame` of module `coredump`.
+const CALLER: [u8; 120] = [
+    0x00, 0x61, 0x73, 0x6d, 0x01, 0x00, 0x00, 0x00, 0x01, 0x0f, 0x03, 0x60, 0x01, 0x7f, 0x00, 0x60,
+    0x04, 0x7f, 0x7f, 0x7f, 0x7f, 0x00, 0x60, 0x00, 0x00, 0x02, 0x27, 0x02, 0x08, 0x63, 0x6f, 0x72,
+    0x65, 0x64, 0x75, 0x6d, 0x70, 0x09, 0x76, 0x61, 0x6c, 0x75, 0x65, 0x5f, 0x69, 0x33, 0x32, 0x00,
+    0x00, 0x08, 0x63, 0x6f, 0x72, 0x65, 0x64, 0x75, 0x6d, 0x70, 0x05, 0x66, 0x72, 0x61, 0x6d, 0x65,
+    0x00, 0x01, 0x03, 0x02, 0x01, 0x02, 0x07, 0x05, 0x01, 0x01, 0x66, 0x00, 0x02, 0x0a, 0x29, 0x01,
+    0x27, 0x00, 0x41, 0x07, 0x10, 0x00, 0x41, 0x00, 0x10, 0x00, 0x41, 0x07, 0x10, 0x00, 0x41, 0x00,
+    0x10, 0x00, 0x41, 0x02, 0x41, 0x00, 0x41, 0x05, 0x41, 0x02, 0x10, 0x01, 0x41, 0xff, 0x01, 0x41,
+    0x00, 0x41, 0x00, 0x41, 0x00, 0x10, 0x01, 0x0b,
 ];
 
 fn call(told: &[u32]) -> CollectorCall {
@@ -111,4 +126,50 @@ fn the_calls_of_a_division_by_zero_have_these_bytes(rt: HostRuntime) {
 #[test]
 fn a_collector_hands_back_the_other_host_side(rt: HostRuntime) {
     assert!(rt; Collecting::new(rt.alloc(), 7).into_inner() == 7);
+}
+
+fn holds_the_division(alloc: Global, collecting: &Collecting<Silent<'_>>) -> bool {
+    match collecting.close(None, "module") {
+        Ok(collected) => collected.kind == 2 && has_bytes(alloc, &collected.dump, &TRAP),
+        Err(_) => false,
+    }
+}
+
+/// Whether an instance's `f` runs to its end, and the collector has its calls then.
+fn is_collected(alloc: Global, instance: &mut Instance<'_>, imports: &[Import]) -> bool
+    requires { imports.now ≡ instance.old.module_.imports }
+{
+    let mut collecting = Collecting::new(alloc, Silent { imports });
+    if !instance.ready() || instance.steps() != 0 {
+        return false;
+    }
+    match instance.invoke("f", &[], 3, 1000, &mut collecting) {
+        Ok(RunEnd::Finished { .. }) => holds_the_division(alloc, &collecting),
+        _ => false,
+    }
+}
+
+fn is_collected_of(alloc: Global, source: &Validated) -> bool {
+    match Instance::new(alloc, source) {
+        Ok(mut instance) => {
+            is_collected(
+                alloc,
+                &mut instance,
+                source.module().parts().imports.as_slice(),
+            )
+        }
+        Err(_) => false,
+    }
+}
+
+fn is_collected_in(alloc: Global, bytes: &[u8]) -> bool {
+    match valid(alloc, bytes) {
+        Some(source) => is_collected_of(alloc, &source),
+        None => false,
+    }
+}
+
+#[test]
+fn calls_that_a_module_makes_have_these_bytes(rt: HostRuntime) {
+    assert!(rt; is_collected_in(rt.alloc(), &CALLER));
 }

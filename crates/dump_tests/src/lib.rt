@@ -4,6 +4,8 @@
 #[cfg(test)]
 mod collected_tests;
 #[cfg(test)]
+mod runs;
+#[cfg(test)]
 mod trap;
 #[cfg(test)]
 mod trap_tests;

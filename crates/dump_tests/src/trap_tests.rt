@@ -1,21 +1,19 @@
 //! Dumps of instances that stand at a trap. The offsets, locals, operands and bytes were put together by hand from the encoded bodies.
 
-ghost use Rattle.std.specs.Prelude.{◌≡◌, ◌≤◌, true, false, [], None};
+ghost use Rattle.std.specs.Prelude.{◌≡◌, ◌≤◌};
 ghost use Rattle.dump_format.specs.Form.{pages_of};
 ghost use Rattle.dump_format.specs.Contained.{IsContained};
 
+use crate::runs::{Silent, valid};
 use crate::trap::TRAP;
 use dump_format::{Dump, Segment};
 use dump_write::dump_bytes;
-use host_devices::{HostAnswer, HostSide};
-use linear_memory::Memory;
 use machine_basics::TrapKind;
 use std::alloc::Global;
 use trap_image::image;
-use wasm_decode::decode;
 use wasm_machine::{Instance, RunEnd};
-use wasm_syntax::{FuncType, HostCall, Import, Value};
-use wasm_validate::{Validated, validate};
+use wasm_syntax::{Import, Value};
+use wasm_validate::Validated;
 
 /// `div` of two i32s: `local.get 0`, `local.get 1`, `i32.div_s`.
 const DIVISION: [u8; 41] = [
@@ -48,50 +46,6 @@ const CALLS: [u8; 59] = [
     0x66, 0x00, 0x00, 0x0a, 0x16, 0x01, 0x14, 0x00, 0x20, 0x00, 0x45, 0x04, 0x40, 0x41, 0x09, 0x11,
     0x01, 0x00, 0x0b, 0x20, 0x00, 0x41, 0x01, 0x6b, 0x10, 0x00, 0x0b,
 ];
-
-/// A host side without replies for these imports.
-#[derive(Drop)]
-struct Silent<'a> {
-    imports: &'a [Import],
-}
-
-impl<'a> HostSide for Silent<'a> {
-    ghost origin = { λ s. record {
-      imports = s.imports.now;
-      names = [];
-      logs = λ _. [];
-      script = None;
-    } };
-
-    ghost calls = { λ _. record { served = []; collected = [] } };
-
-    ghost collecting = { λ _. false };
-
-    ghost serving = { λ _ _ _. true };
-
-    ghost used_up = { λ _ _. true };
-
-    ghost fault_count = { λ _ _. 0 };
-
-    fn serves(&self, _import: &Import, _ftype: &FuncType) -> bool {
-        true
-    }
-
-    fn collects(&self) -> bool {
-        false
-    }
-
-    fn call(&mut self, _import: &Import, _call: &HostCall, _memory: Option<&Memory>) -> HostAnswer {
-        HostAnswer::NoReply
-    }
-}
-
-fn valid(alloc: Global, bytes: &[u8]) -> Option<Validated> {
-    match decode(alloc, bytes) {
-        Ok(m) => validate(alloc, m).ok(),
-        Err(_) => None,
-    }
-}
 
 /// Whether the first invocation of an instance comes to this trap with at most three frames.
 fn traps(

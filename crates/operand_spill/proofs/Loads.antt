@@ -165,11 +165,6 @@ pub unwound : (C : Ctx) (ls : List Info) (es : List Place) (o x : ℕ) {a b c d 
     EmitsLast (to_exit ls) d e → EmitsLast (unwind C ls es o) a e
 unwound C ls es o x {b = b} {c = c} at p q r s = emits_last p (emits_last (subst (λ y. Emits (set C y) b c) at q) (emits_last r s))
 
--- the kind is kept, and others go on
-pub kind_kept : (C : Ctx) (nodes : Nodes) (x : ℕ) {a b c d : Written} → x ≡ kind_at C → Emits (const (i32 0)) a b → Emits (set C x) b c → EmitsLast nodes c d →
-    EmitsLast (const (i32 0) (set C (kind_at C) nodes)) a d
-kind_kept C nodes x {b = b} {c = c} at p q r = emits_last p (emits_last (subst (λ y. Emits (set C y) b c) at q) r)
-
 pub flag_tested : (C : Ctx) (ls : List Info) (es : List Place) (o : ℕ) {a b c d e : Written} → Emits (basic 0 (GlobalGet (flag_of C.source))) a b → Opens (λ arm k. choose 0 None arm None stop 0 k) b c →
     EmitsLast (const (i32 0) (set C (kind_at C) (unwind C ls es o))) c d → Closes d e → Emits (test_flag C ls es o) a e
 flag_tested C ls es o p q r s = emits_then p (emits_within q r s)

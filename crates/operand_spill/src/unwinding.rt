@@ -1,9 +1,7 @@
-//! Code that goes to the exit of the function where an instruction traps, or where a call came back with the flag up.
+//! Code that goes to the exit of the function, where an instruction or a guard traps.
 
 ghost use Rattle.std.specs.Prelude.{◌≡◌, ◌+◌, ◌^◌, ◌<◌, ◌≤◌, List, length, OnOk};
-ghost use Rattle.rewrite_bodies.specs.Slots.{kind_at};
-ghost use Rattle.rewrite_bodies.specs.Pieces.{const, i32, set};
-ghost use Rattle.rewrite_bodies.specs.Rewrite.{Info, to_exit, unwind, test_flag, tested};
+ghost use Rattle.rewrite_bodies.specs.Rewrite.{Info, to_exit, unwind, tested};
 ghost use Rattle.rewrite_code.specs.Writing.{Emits, EmitsLast};
 
 use crate::context::FunctionContext;
@@ -39,45 +37,6 @@ impl<'m, 'a> FunctionContext<'m, 'a> {
         self.set(writer, self.offset_at())?;
         self.hand(writer, places)?;
         to_exit(writer, labels)
-    }
-
-    /// The kind of another frame's trap, and then the code unwinds.
-    fn unwind_caller(
-        &self,
-        writer: &mut CodeWriter,
-        labels: u32,
-        places: &OperandPlaces,
-        offset: u32,
-    ) -> Result<(), NoMemory>
-        requires shallow { labels + 1 < 2 ^ 32 }
-        requires room { length places.now ≤ self.now.slots }
-        ensures { (ls : List Info) → length ls ≡ labels
-            → OnOk result (EmitsLast (const (i32 0)
-            (set self.now (kind_at self.now) (unwind self.now ls places.now offset))) writer.old
-            writer.new) }
-    {
-        writer.const_value(Value::I32(0))?;
-        self.set(writer, self.kind_at())?;
-        self.unwind(writer, labels, places, offset)
-    }
-
-    /// Where the flag is up behind a call, the code unwinds.
-    pub fn test_flag(
-        &self,
-        writer: &mut CodeWriter,
-        labels: u32,
-        places: &OperandPlaces,
-        offset: u32,
-    ) -> Result<(), NoMemory>
-        requires shallow { labels + 1 < 2 ^ 32 }
-        requires room { length places.now ≤ self.now.slots }
-        ensures { (ls : List Info) → length ls ≡ labels
-            → OnOk result (Emits (test_flag self.now ls places.now offset) writer.old writer.new) }
-    {
-        self.get_flag(writer)?;
-        writer.open_if(None)?;
-        self.unwind_caller(writer, labels, places, offset)?;
-        writer.close()
     }
 
     /// The verdict of a guard on the stack is kept, and where it is a kind, the code unwinds.

@@ -1,7 +1,0 @@
-use Rattle.operand_spill.proofs.Loads.{when_ok, flag_tested}
-use Rattle.operand_spill.proofs.context.FunctionContext.test_flag.Goals as goal
-
-pub returns : goal.returns
-returns c = λ ls e.
-    when_ok (flag_tested c.args.self.now ls c.args.places.now c.args.offset c.in_ok-get_flag.ensures c.in_ok-open_if.ensures.one_arm (c.in_ok-unwind_caller.ensures ls e))
-    c.close.result c.close.ensures

@@ -1,8 +1,0 @@
-use Rattle.rewrite_bodies.specs.Rewrite.{unwind}
-use Rattle.operand_spill.proofs.Loads.{when_ok, kind_kept}
-use Rattle.operand_spill.proofs.context.FunctionContext.unwind_caller.Goals as goal
-
-pub returns : goal.returns
-returns c = λ ls e.
-    when_ok (kind_kept c.args.self.now (unwind c.args.self.now ls c.args.places.now c.args.offset) c.kind_at.result c.kind_at.ensures c.in_ok-const_value.ensures c.in_ok-set.ensures)
-    c.unwind.result (c.unwind.ensures ls e)
