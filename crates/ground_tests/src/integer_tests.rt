@@ -4,239 +4,261 @@ use int_ops::*;
 
 // The rows are those of the specification's own tests (i32.wast, i64.wast), and a few by hand.
 
+const TWO_I32: [(Binary, u32, u32, Result<u32, ArithTrap>); 35] = [
+    (Binary::Add, 0x7FFF_FFFF, 1, Ok(0x8000_0000)),
+    (Binary::Sub, 0x8000_0000, 1, Ok(0x7FFF_FFFF)),
+    (Binary::Mul, 0x0123_4567, 0x7654_3210, Ok(0x358E_7470)),
+    (Binary::DivS, 1, 0, Err(ArithTrap::DivideByZero)),
+    (
+        Binary::DivS,
+        0x8000_0000,
+        0xFFFF_FFFF,
+        Err(ArithTrap::Overflow),
+    ),
+    (Binary::DivS, 0x8000_0000, 0, Err(ArithTrap::DivideByZero)),
+    (Binary::DivS, 0x8000_0001, 1000, Ok(0xFFDF_3B65)),
+    (Binary::DivS, 0xFFFF_FFFB, 2, Ok(0xFFFF_FFFE)),
+    (Binary::DivU, 0x8FF0_0FF0, 0x0001_0001, Ok(0x8FEF)),
+    (Binary::DivU, 0xFFFF_FFFB, 2, Ok(0x7FFF_FFFD)),
+    (Binary::DivU, 1, 0, Err(ArithTrap::DivideByZero)),
+    (Binary::DivU, 0x8000_0000, 0xFFFF_FFFF, Ok(0)),
+    (Binary::RemS, 0x8000_0000, 0xFFFF_FFFF, Ok(0)),
+    (Binary::RemS, 0x8000_0001, 1000, Ok(0xFFFF_FD79)),
+    (Binary::RemS, 5, 0xFFFF_FFFE, Ok(1)),
+    (Binary::RemS, 1, 0, Err(ArithTrap::DivideByZero)),
+    (Binary::RemU, 0x8000_0001, 1000, Ok(649)),
+    (Binary::RemU, 0x8000_0000, 0xFFFF_FFFF, Ok(0x8000_0000)),
+    (Binary::RemU, 1, 0, Err(ArithTrap::DivideByZero)),
+    (Binary::And, 0xF0F0_FFFF, 0xFFFF_F0F0, Ok(0xF0F0_F0F0)),
+    (Binary::Or, 0xF0F0_FFFF, 0xFFFF_F0F0, Ok(0xFFFF_FFFF)),
+    (Binary::Xor, 0xF0F0_FFFF, 0xFFFF_F0F0, Ok(0x0F0F_0F0F)),
+    (Binary::Shl, 1, 33, Ok(2)),
+    (Binary::Shl, 1, 0x7FFF_FFFF, Ok(0x8000_0000)),
+    (Binary::ShrS, 0x8000_0000, 31, Ok(0xFFFF_FFFF)),
+    (Binary::ShrS, 0x8000_0000, 1, Ok(0xC000_0000)),
+    (Binary::ShrU, 0xFFFF_FFFF, 33, Ok(0x7FFF_FFFF)),
+    (Binary::ShrU, 0x8000_0000, 31, Ok(1)),
+    (Binary::Rotl, 0xABCD_9876, 1, Ok(0x579B_30ED)),
+    (Binary::Rotl, 0x8000, 37, Ok(0x0010_0000)),
+    (Binary::Rotl, 0x769A_BCDF, 0xFFFF_FFED, Ok(0x579B_EED3)),
+    (Binary::Rotl, 0xABCD_9876, 32, Ok(0xABCD_9876)),
+    (Binary::Rotr, 0xFF00_CC00, 1, Ok(0x7F80_6600)),
+    (Binary::Rotr, 0xB0C1_D2E3, 0x0000_FF05, Ok(0x1D86_0E97)),
+    (Binary::Rotr, 0x769A_BCDF, 0xFFFF_FFED, Ok(0xE6FB_B4D5)),
+];
+
 #[test]
 fn two_i32(rt: HostRuntime) {
-    let rows = [
-        (Binary::Add, 0x7FFF_FFFF, 1, Ok(0x8000_0000)),
-        (Binary::Sub, 0x8000_0000, 1, Ok(0x7FFF_FFFF)),
-        (Binary::Mul, 0x0123_4567, 0x7654_3210, Ok(0x358E_7470)),
-        (Binary::DivS, 1, 0, Err(ArithTrap::DivideByZero)),
-        (
-            Binary::DivS,
-            0x8000_0000,
-            0xFFFF_FFFF,
-            Err(ArithTrap::Overflow),
-        ),
-        (Binary::DivS, 0x8000_0000, 0, Err(ArithTrap::DivideByZero)),
-        (Binary::DivS, 0x8000_0001, 1000, Ok(0xFFDF_3B65)),
-        (Binary::DivS, 0xFFFF_FFFB, 2, Ok(0xFFFF_FFFE)),
-        (Binary::DivU, 0x8FF0_0FF0, 0x0001_0001, Ok(0x8FEF)),
-        (Binary::DivU, 0xFFFF_FFFB, 2, Ok(0x7FFF_FFFD)),
-        (Binary::DivU, 1, 0, Err(ArithTrap::DivideByZero)),
-        (Binary::DivU, 0x8000_0000, 0xFFFF_FFFF, Ok(0)),
-        (Binary::RemS, 0x8000_0000, 0xFFFF_FFFF, Ok(0)),
-        (Binary::RemS, 0x8000_0001, 1000, Ok(0xFFFF_FD79)),
-        (Binary::RemS, 5, 0xFFFF_FFFE, Ok(1)),
-        (Binary::RemS, 1, 0, Err(ArithTrap::DivideByZero)),
-        (Binary::RemU, 0x8000_0001, 1000, Ok(649)),
-        (Binary::RemU, 0x8000_0000, 0xFFFF_FFFF, Ok(0x8000_0000)),
-        (Binary::RemU, 1, 0, Err(ArithTrap::DivideByZero)),
-        (Binary::And, 0xF0F0_FFFF, 0xFFFF_F0F0, Ok(0xF0F0_F0F0)),
-        (Binary::Or, 0xF0F0_FFFF, 0xFFFF_F0F0, Ok(0xFFFF_FFFF)),
-        (Binary::Xor, 0xF0F0_FFFF, 0xFFFF_F0F0, Ok(0x0F0F_0F0F)),
-        (Binary::Shl, 1, 33, Ok(2)),
-        (Binary::Shl, 1, 0x7FFF_FFFF, Ok(0x8000_0000)),
-        (Binary::ShrS, 0x8000_0000, 31, Ok(0xFFFF_FFFF)),
-        (Binary::ShrS, 0x8000_0000, 1, Ok(0xC000_0000)),
-        (Binary::ShrU, 0xFFFF_FFFF, 33, Ok(0x7FFF_FFFF)),
-        (Binary::ShrU, 0x8000_0000, 31, Ok(1)),
-        (Binary::Rotl, 0xABCD_9876, 1, Ok(0x579B_30ED)),
-        (Binary::Rotl, 0x8000, 37, Ok(0x0010_0000)),
-        (Binary::Rotl, 0x769A_BCDF, 0xFFFF_FFED, Ok(0x579B_EED3)),
-        (Binary::Rotl, 0xABCD_9876, 32, Ok(0xABCD_9876)),
-        (Binary::Rotr, 0xFF00_CC00, 1, Ok(0x7F80_6600)),
-        (Binary::Rotr, 0xB0C1_D2E3, 0x0000_FF05, Ok(0x1D86_0E97)),
-        (Binary::Rotr, 0x769A_BCDF, 0xFFFF_FFED, Ok(0xE6FB_B4D5)),
-    ];
-    for (op, a, b, expected) in rows {
-        assert_eq!(rt; i32_binary(op, a, b), expected);
+    for (op, a, b, expected) in TWO_I32 {
+        assert!(rt; i32_binary(op, a, b) == expected);
     }
 }
 
+const TWO_I64: [(Binary, u64, u64, Result<u64, ArithTrap>); 23] = [
+    (
+        Binary::Add,
+        0x7FFF_FFFF_FFFF_FFFF,
+        1,
+        Ok(0x8000_0000_0000_0000),
+    ),
+    (
+        Binary::Sub,
+        0x8000_0000_0000_0000,
+        1,
+        Ok(0x7FFF_FFFF_FFFF_FFFF),
+    ),
+    (
+        Binary::Mul,
+        0x0123_4567_89AB_CDEF,
+        0xFEDC_BA98_7654_3210,
+        Ok(0x2236_D88F_E561_8CF0),
+    ),
+    (Binary::DivS, 1, 0, Err(ArithTrap::DivideByZero)),
+    (
+        Binary::DivS,
+        0x8000_0000_0000_0000,
+        0xFFFF_FFFF_FFFF_FFFF,
+        Err(ArithTrap::Overflow),
+    ),
+    (
+        Binary::DivS,
+        0x8000_0000_0000_0001,
+        1000,
+        Ok(0xFFDF_3B64_5A1C_AC09),
+    ),
+    (
+        Binary::DivU,
+        0x8FF0_0FF0_0FF0_0FF0,
+        0x0000_0001_0000_0001,
+        Ok(0x0000_0000_8FF0_0FEF),
+    ),
+    (Binary::DivU, 1, 0, Err(ArithTrap::DivideByZero)),
+    (
+        Binary::RemS,
+        0x8000_0000_0000_0000,
+        0xFFFF_FFFF_FFFF_FFFF,
+        Ok(0),
+    ),
+    (
+        Binary::RemS,
+        0x8000_0000_0000_0001,
+        1000,
+        Ok(0xFFFF_FFFF_FFFF_FCD9),
+    ),
+    (Binary::RemS, 1, 0, Err(ArithTrap::DivideByZero)),
+    (
+        Binary::RemU,
+        0x8FF0_0FF0_0FF0_0FF0,
+        0x0000_0001_0000_0001,
+        Ok(0x0000_0000_8000_0001),
+    ),
+    (Binary::RemU, 1, 0, Err(ArithTrap::DivideByZero)),
+    (
+        Binary::And,
+        0x0000_0000_F0F0_FFFF,
+        0x0000_0000_FFFF_F0F0,
+        Ok(0x0000_0000_F0F0_F0F0),
+    ),
+    (
+        Binary::Or,
+        0x0000_0000_F0F0_FFFF,
+        0x0000_0000_FFFF_F0F0,
+        Ok(0x0000_0000_FFFF_FFFF),
+    ),
+    (
+        Binary::Xor,
+        0x0000_0000_F0F0_FFFF,
+        0x0000_0000_FFFF_F0F0,
+        Ok(0x0000_0000_0F0F_0F0F),
+    ),
+    (Binary::Shl, 1, 65, Ok(2)),
+    (
+        Binary::ShrS,
+        0x8000_0000_0000_0000,
+        63,
+        Ok(0xFFFF_FFFF_FFFF_FFFF),
+    ),
+    (
+        Binary::ShrU,
+        0xFFFF_FFFF_FFFF_FFFF,
+        65,
+        Ok(0x7FFF_FFFF_FFFF_FFFF),
+    ),
+    (
+        Binary::Rotl,
+        0xABCD_9876_0246_8ACE,
+        1,
+        Ok(0x579B_30EC_048D_159D),
+    ),
+    (
+        Binary::Rotl,
+        0xABCD_1234_EF56_7809,
+        53,
+        Ok(0x0135_79A2_469D_EACF),
+    ),
+    (
+        Binary::Rotr,
+        0xABCD_9876_0246_8ACE,
+        1,
+        Ok(0x55E6_CC3B_0123_4567),
+    ),
+    (
+        Binary::Rotr,
+        0xABCD_9876_0246_8ACE,
+        64,
+        Ok(0xABCD_9876_0246_8ACE),
+    ),
+];
+
 #[test]
 fn two_i64(rt: HostRuntime) {
-    let rows = [
-        (
-            Binary::Add,
-            0x7FFF_FFFF_FFFF_FFFF,
-            1,
-            Ok(0x8000_0000_0000_0000),
-        ),
-        (
-            Binary::Sub,
-            0x8000_0000_0000_0000,
-            1,
-            Ok(0x7FFF_FFFF_FFFF_FFFF),
-        ),
-        (
-            Binary::Mul,
-            0x0123_4567_89AB_CDEF,
-            0xFEDC_BA98_7654_3210,
-            Ok(0x2236_D88F_E561_8CF0),
-        ),
-        (Binary::DivS, 1, 0, Err(ArithTrap::DivideByZero)),
-        (
-            Binary::DivS,
-            0x8000_0000_0000_0000,
-            0xFFFF_FFFF_FFFF_FFFF,
-            Err(ArithTrap::Overflow),
-        ),
-        (
-            Binary::DivS,
-            0x8000_0000_0000_0001,
-            1000,
-            Ok(0xFFDF_3B64_5A1C_AC09),
-        ),
-        (
-            Binary::DivU,
-            0x8FF0_0FF0_0FF0_0FF0,
-            0x0000_0001_0000_0001,
-            Ok(0x0000_0000_8FF0_0FEF),
-        ),
-        (Binary::DivU, 1, 0, Err(ArithTrap::DivideByZero)),
-        (
-            Binary::RemS,
-            0x8000_0000_0000_0000,
-            0xFFFF_FFFF_FFFF_FFFF,
-            Ok(0),
-        ),
-        (
-            Binary::RemS,
-            0x8000_0000_0000_0001,
-            1000,
-            Ok(0xFFFF_FFFF_FFFF_FCD9),
-        ),
-        (Binary::RemS, 1, 0, Err(ArithTrap::DivideByZero)),
-        (
-            Binary::RemU,
-            0x8FF0_0FF0_0FF0_0FF0,
-            0x0000_0001_0000_0001,
-            Ok(0x0000_0000_8000_0001),
-        ),
-        (Binary::RemU, 1, 0, Err(ArithTrap::DivideByZero)),
-        (
-            Binary::And,
-            0x0000_0000_F0F0_FFFF,
-            0x0000_0000_FFFF_F0F0,
-            Ok(0x0000_0000_F0F0_F0F0),
-        ),
-        (
-            Binary::Or,
-            0x0000_0000_F0F0_FFFF,
-            0x0000_0000_FFFF_F0F0,
-            Ok(0x0000_0000_FFFF_FFFF),
-        ),
-        (
-            Binary::Xor,
-            0x0000_0000_F0F0_FFFF,
-            0x0000_0000_FFFF_F0F0,
-            Ok(0x0000_0000_0F0F_0F0F),
-        ),
-        (Binary::Shl, 1, 65, Ok(2)),
-        (
-            Binary::ShrS,
-            0x8000_0000_0000_0000,
-            63,
-            Ok(0xFFFF_FFFF_FFFF_FFFF),
-        ),
-        (
-            Binary::ShrU,
-            0xFFFF_FFFF_FFFF_FFFF,
-            65,
-            Ok(0x7FFF_FFFF_FFFF_FFFF),
-        ),
-        (
-            Binary::Rotl,
-            0xABCD_9876_0246_8ACE,
-            1,
-            Ok(0x579B_30EC_048D_159D),
-        ),
-        (
-            Binary::Rotl,
-            0xABCD_1234_EF56_7809,
-            53,
-            Ok(0x0135_79A2_469D_EACF),
-        ),
-        (
-            Binary::Rotr,
-            0xABCD_9876_0246_8ACE,
-            1,
-            Ok(0x55E6_CC3B_0123_4567),
-        ),
-        (
-            Binary::Rotr,
-            0xABCD_9876_0246_8ACE,
-            64,
-            Ok(0xABCD_9876_0246_8ACE),
-        ),
-    ];
-    for (op, a, b, expected) in rows {
-        assert_eq!(rt; i64_binary(op, a, b), expected);
+    for (op, a, b, expected) in TWO_I64 {
+        assert!(rt; i64_binary(op, a, b) == expected);
     }
+}
+
+/// An integer; its leading zeros, its trailing zeros, and its ones.
+const ONE_I32: [(u32, u32, u32, u32); 4] = [
+    (0, 32, 32, 0),
+    (0x8000, 16, 15, 1),
+    (0xFF, 24, 0, 8),
+    (0xDEAD_BEEF, 0, 0, 24),
+];
+
+const ONE_I64: [(u64, u64, u64, u64); 4] = [
+    (0, 64, 64, 0),
+    (0x8000, 48, 15, 1),
+    (0xFF, 56, 0, 8),
+    (0xDEAD_BEEF_DEAD_BEEF, 0, 0, 48),
+];
+
+fn counts_32(a: u32) -> (u32, u32, u32, u32) {
+    let ones = i32_unary(Unary::Popcnt, a);
+    (a, i32_unary(Unary::Clz, a), i32_unary(Unary::Ctz, a), ones)
+}
+
+fn counts_64(a: u64) -> (u64, u64, u64, u64) {
+    let ones = i64_unary(Unary::Popcnt, a);
+    (a, i64_unary(Unary::Clz, a), i64_unary(Unary::Ctz, a), ones)
 }
 
 #[test]
 fn one_integer(rt: HostRuntime) {
-    for (a, clz, ctz, ones) in [
-        (0u32, 32, 32, 0),
-        (0x8000, 16, 15, 1),
-        (0xFF, 24, 0, 8),
-        (0xDEAD_BEEF, 0, 0, 24),
-    ] {
-        assert_eq!(rt; i32_unary(Unary::Clz, a), clz);
-        assert_eq!(rt; i32_unary(Unary::Ctz, a), ctz);
-        assert_eq!(rt; i32_unary(Unary::Popcnt, a), ones);
+    for row in ONE_I32 {
+        assert!(rt; counts_32(row.0) == row);
     }
-    for (a, clz, ctz, ones) in [
-        (0u64, 64, 64, 0),
-        (0x8000, 48, 15, 1),
-        (0xFF, 56, 0, 8),
-        (0xDEAD_BEEF_DEAD_BEEF, 0, 0, 48),
-    ] {
-        assert_eq!(rt; i64_unary(Unary::Clz, a), clz);
-        assert_eq!(rt; i64_unary(Unary::Ctz, a), ctz);
-        assert_eq!(rt; i64_unary(Unary::Popcnt, a), ones);
+    for row in ONE_I64 {
+        assert!(rt; counts_64(row.0) == row);
     }
 }
+
+/// Comparisons of the least signed number with the greatest, and what they give.
+const COMPARISONS: [(Compare, bool); 10] = [
+    (Compare::LtS, true),
+    (Compare::LeS, true),
+    (Compare::GtU, true),
+    (Compare::GeU, true),
+    (Compare::Ne, true),
+    (Compare::LtU, false),
+    (Compare::LeU, false),
+    (Compare::GtS, false),
+    (Compare::GeS, false),
+    (Compare::Eq, false),
+];
 
 #[test]
 fn comparisons(rt: HostRuntime) {
-    // the least signed number against the greatest
-    let signed = [
-        Compare::LtS,
-        Compare::LeS,
-        Compare::GtU,
-        Compare::GeU,
-        Compare::Ne,
-    ];
-    for op in signed {
-        assert!(rt; i32_compare(op, 0x8000_0000, 0x7FFF_FFFF));
-        assert!(rt; i64_compare(op, 0x8000_0000_0000_0000, 0x7FFF_FFFF_FFFF_FFFF));
-    }
-    for op in [
-        Compare::LtU,
-        Compare::LeU,
-        Compare::GtS,
-        Compare::GeS,
-        Compare::Eq,
-    ] {
-        assert!(rt; !i32_compare(op, 0x8000_0000, 0x7FFF_FFFF));
-        assert!(rt; !i64_compare(op, 0x8000_0000_0000_0000, 0x7FFF_FFFF_FFFF_FFFF));
+    for (op, holds) in COMPARISONS {
+        assert!(rt; i32_compare(op, 0x8000_0000, 0x7FFF_FFFF) == holds);
+        assert!(rt; i64_compare(op, 0x8000_0000_0000_0000, 0x7FFF_FFFF_FFFF_FFFF) == holds);
     }
 }
 
+const NARROW_32: [(Narrow32, u32, u32); 3] = [
+    (Narrow32::Eight, 0xFEDC_BA80, 0xFFFF_FF80),
+    (Narrow32::Eight, 0x0123_4500, 0),
+    (Narrow32::Sixteen, 0x8000, 0xFFFF_8000),
+];
+
+const NARROW_64: [(Narrow64, u64, u64); 3] = [
+    (Narrow64::Eight, 0xFF, 0xFFFF_FFFF_FFFF_FFFF),
+    (Narrow64::Sixteen, 0x1234_7FFF, 0x7FFF),
+    (
+        Narrow64::ThirtyTwo,
+        0xFEDC_BA98_8000_0000,
+        0xFFFF_FFFF_8000_0000,
+    ),
+];
+
 #[test]
 fn conversions(rt: HostRuntime) {
-    assert_eq!(rt; wrap(0xFFFF_FFFF_8000_0001), 0x8000_0001);
-    assert_eq!(rt; extend_s(0x8000_0000), 0xFFFF_FFFF_8000_0000);
-    assert_eq!(rt; extend_u(0x8000_0000), 0x8000_0000);
-    assert_eq!(rt; i32_narrow(Narrow32::Eight, 0xFEDC_BA80), 0xFFFF_FF80);
-    assert_eq!(rt; i32_narrow(Narrow32::Eight, 0x0123_4500), 0);
-    assert_eq!(rt; i32_narrow(Narrow32::Sixteen, 0x8000), 0xFFFF_8000);
-    assert_eq!(rt; i64_narrow(Narrow64::Eight, 0xFF), 0xFFFF_FFFF_FFFF_FFFF);
-    assert_eq!(rt; i64_narrow(Narrow64::Sixteen, 0x1234_7FFF), 0x7FFF);
-    assert_eq!(rt;
-        i64_narrow(Narrow64::ThirtyTwo, 0xFEDC_BA98_8000_0000),
-        0xFFFF_FFFF_8000_0000
-    );
+    assert!(rt; wrap(0xFFFF_FFFF_8000_0001) == 0x8000_0001);
+    assert!(rt; extend_s(0x8000_0000) == 0xFFFF_FFFF_8000_0000);
+    assert!(rt; extend_u(0x8000_0000) == 0x8000_0000);
+    for (width, a, expected) in NARROW_32 {
+        assert!(rt; i32_narrow(width, a) == expected);
+    }
+    for (width, a, expected) in NARROW_64 {
+        assert!(rt; i64_narrow(width, a) == expected);
+    }
 }

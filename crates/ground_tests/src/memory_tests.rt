@@ -129,48 +129,92 @@ fn the_answers_are_those_of_one_vector(rt: HostRuntime) -> Result<(), Fail> {
     Ok(())
 }
 
-#[test]
-fn pages_between_the_written_ones_are_absent(rt: HostRuntime) -> Result<(), Fail> {
-    let mut memory = Memory::new(rt.alloc(), 4096, 4096)?;
-    assert_eq!(rt; memory.store(0, 1, 1), Ok(()));
-    assert_eq!(rt; memory.store(268_435_455, 1, 2), Ok(()));
-    assert_eq!(rt; memory.store(4_294_967_295, 1, 2), Err(StoreFault::Out));
-    let size = memory.size();
+/// What is asked of a memory, and what it answers.
+#[derive(Clone, Copy)]
+enum Row {
+    Load(u64, Width, Option<u64>),
+    Store(u64, Width, u64, Result<(), StoreFault>),
+    Write(u64, &'static [u8], Result<(), StoreFault>),
+    Fill(u64, u8, u64, Result<(), StoreFault>),
+    Copy(u64, u64, u64, Result<(), StoreFault>),
+    Grow(u32, GrowAnswer),
+}
+
+fn is_answered(memory: &mut Memory, row: Row) -> bool {
+    match row {
+        Row::Load(at, width, wanted) => memory.load(at, width.bytes()) == wanted,
+        Row::Store(at, width, value, wanted) => memory.store(at, width.bytes(), value) == wanted,
+        Row::Write(at, bytes, wanted) => memory.write(at, bytes) == wanted,
+        Row::Fill(at, byte, len, wanted) => memory.fill(at, byte, len) == wanted,
+        Row::Copy(to, from, len, wanted) => memory.copy(to, from, len) == wanted,
+        Row::Grow(count, wanted) => memory.grow(count) == wanted,
+    }
+}
+
+/// The number of the first row that is answered otherwise.
+fn first_wrong(memory: &mut Memory, rows: &[Row]) -> Option<usize> {
+    for (i, row) in rows.iter().enumerate() {
+        if !is_answered(memory, *row) {
+            return Some(i);
+        }
+    }
+    None
+}
+
+const FAR: [Row; 5] = [
+    Row::Store(0, Width::One, 1, Ok(())),
+    Row::Store(268_435_455, Width::One, 2, Ok(())),
+    Row::Store(4_294_967_295, Width::One, 2, Err(StoreFault::Out)),
+    Row::Load(268_435_452, Width::Four, Some(33_554_432)),
+    Row::Load(268_435_453, Width::Four, None),
+];
+
+fn absent_pages(memory: &Memory) -> u32 {
     let mut absent = 0u32;
-    for index in 0..size {
+    for index in 0..memory.size() {
         if memory.page(index).is_none() {
             absent = absent.wrapping_add(1);
         }
     }
-    assert_eq!(rt; absent, 4094);
-    assert_eq!(rt; memory.load(268_435_452, 4), Some(33_554_432));
-    assert_eq!(rt; memory.load(268_435_453, 4), None);
+    absent
+}
+
+#[test]
+fn pages_between_the_written_ones_are_absent(rt: HostRuntime) -> Result<(), Fail> {
+    let mut memory = Memory::new(rt.alloc(), 4096, 4096)?;
+    assert_eq!(rt; first_wrong(&mut memory, &FAR), None);
+    assert_eq!(rt; absent_pages(&memory), 4094);
     Ok(())
 }
+
+const ROWS: [Row; 14] = [
+    Row::Fill(65_532, 7, 4, Ok(())),
+    Row::Load(65_532, Width::Four, Some(117_901_063)),
+    Row::Fill(65_533, 7, 4, Err(StoreFault::Out)),
+    Row::Fill(65_536, 7, 0, Ok(())),
+    Row::Fill(65_537, 7, 0, Err(StoreFault::Out)),
+    Row::Copy(65_537, 0, 0, Err(StoreFault::Out)),
+    Row::Copy(0, 18_446_744_073_709_551_615, 2, Err(StoreFault::Out)),
+    Row::Store(0, Width::Four, 67_305_985, Ok(())),
+    Row::Copy(1, 0, 4, Ok(())),
+    Row::Load(1, Width::Four, Some(67_305_985)),
+    Row::Grow(2, GrowAnswer::TooMany),
+    Row::Grow(1, GrowAnswer::Grown(1)),
+    Row::Store(65_534, Width::Four, 0x0102_0304, Ok(())),
+    Row::Write(131_071, &[1, 2], Err(StoreFault::Out)),
+];
+
+const COPIED: [Row; 2] = [
+    Row::Load(65_536, Width::Two, Some(0x0102)),
+    Row::Load(1, Width::One, Some(1)),
+];
 
 #[test]
 fn numbers_fills_and_copies(rt: HostRuntime) -> Result<(), Fail> {
     let mut memory = Memory::new(rt.alloc(), 1, 2)?;
-    assert_eq!(rt; memory.fill(65_532, 7, 4), Ok(()));
-    assert_eq!(rt; memory.load(65_532, 4), Some(117_901_063));
-    assert_eq!(rt; memory.fill(65_533, 7, 4), Err(StoreFault::Out));
-    assert_eq!(rt; memory.fill(65_536, 7, 0), Ok(()));
-    assert_eq!(rt; memory.fill(65_537, 7, 0), Err(StoreFault::Out));
-    assert_eq!(rt; memory.copy(65_537, 0, 0), Err(StoreFault::Out));
-    assert_eq!(rt;
-        memory.copy(0, 18_446_744_073_709_551_615, 2),
-        Err(StoreFault::Out)
-    );
-    assert_eq!(rt; memory.store(0, 4, 67_305_985), Ok(()));
-    assert_eq!(rt; memory.copy(1, 0, 4), Ok(()));
-    assert_eq!(rt; memory.load(1, 4), Some(67_305_985));
-    assert_eq!(rt; memory.grow(2), GrowAnswer::TooMany);
-    assert_eq!(rt; memory.grow(1), GrowAnswer::Grown(1));
-    assert_eq!(rt; memory.store(65_534, 4, 0x0102_0304), Ok(()));
-    assert_eq!(rt; memory.write(131_071, &[1, 2]), Err(StoreFault::Out));
-    assert_eq!(rt; memory.load(65_536, 2), Some(0x0102));
-    let copied = memory.copy_of()?;
-    assert_eq!(rt; memory.store(1, 1, 9), Ok(()));
-    assert_eq!(rt; copied.load(1, 1), Some(1));
+    assert_eq!(rt; first_wrong(&mut memory, &ROWS), None);
+    let mut copied = memory.copy_of()?;
+    assert_eq!(rt; memory.fill(0, 9, 131_072), Ok(()));
+    assert_eq!(rt; first_wrong(&mut copied, &COPIED), None);
     Ok(())
 }

@@ -1,190 +1,199 @@
-//! Devices that look at the memory, count, or count their drops, under `run`.
+//! Devices that look at the memory, count, fail, complain, or count their drops, under `run`.
 
-ghost use Rattle.std.specs.Prelude.{◌≡◌, codes, []};
+ghost use Rattle.std.specs.Prelude.{codes};
+ghost use Rattle.host_set.specs.Sets.{AreDistinct, names};
 
-use crate::run_trial::{runs, with_module};
-use host_devices::{Console, Counter, Device, DeviceAnswer, copy_call};
-use host_set::DeviceSet;
+use crate::devices::{Kind, device_of, set_of};
+use crate::trial::{are_served, files_of};
+use host_devices::{Console, Device, DeviceAnswer};
+use host_set::{DeviceSet, Devices};
 use linear_memory::Memory;
-use pm_text::Items;
-use std::alloc::Global;
+use std::alloc::{AllocError, Global};
 use std::cell::Cell;
-use std::marker::Model;
-use std::process::Abort;
 use std::rc::Rc;
-use std::test::Fail;
 use test_modules::{FAR_STORES_LENT, LENDING, PRINTING, TWICE_NEXT};
-use wasm_syntax::{HostCall, Reply, Served, Value};
+use wasm_syntax::{HostCall, Served, Value};
 
-/// The device `memory`. To a call with an address it replies the byte that stands there, and to one without arguments how many pages are
-/// made.
-#[derive(Drop)]
-struct Looking {
-    alloc: Global,
-    log: Items<Served>,
+/// A call that a device replied to: its name, its argument if it has one, and the value of the reply.
+type Logged = (&'static str, Option<Value>, Option<Value>);
+
+/// A device, a module, the words behind `run m`, the status and the text, and the log and the faults of the device then.
+struct Row {
+    device: Kind,
+    source: &'static [u8],
+    line: &'static str,
+    status: u8,
+    text: &'static str,
+    log: &'static [Logged],
+    faults: u64,
 }
 
-impl Model for Looking {
-    ghost use Rattle.std.specs.Prelude.{List};
-    ghost use Rattle.wasm_syntax.specs.declared.host.Served.{Served};
+const ROWS: [Row; 9] = [
+    // A device sees the memory, and no further.
+    Row {
+        device: Kind::Looking,
+        source: &LENDING,
+        line: "f i32:16",
+        status: 0,
+        text: "finished i32:7\nhost calls 1\n",
+        log: &[("at", Some(Value::I32(16)), Some(Value::I32(7)))],
+        faults: 0,
+    },
+    Row {
+        device: Kind::Looking,
+        source: &LENDING,
+        line: "f i32:17",
+        status: 0,
+        text: "finished i32:42\nhost calls 1\n",
+        log: &[("at", Some(Value::I32(17)), Some(Value::I32(42)))],
+        faults: 0,
+    },
+    Row {
+        device: Kind::Looking,
+        source: &LENDING,
+        line: "f i32:65536",
+        status: 9,
+        text: "host stopped: reply 0 does not fit\n",
+        log: &[("at", Some(Value::I32(65_536)), None)],
+        faults: 0,
+    },
+    // It sees what was stored, and nothing of an earlier invocation.
+    Row {
+        device: Kind::Looking,
+        source: &LENDING,
+        line: "g i32:17 + f i32:16 + f i32:17",
+        status: 0,
+        text: "finished i32:9\nhost calls 1\nfinished i32:7\nhost calls 1\nfinished i32:9\nhost calls 1\n",
+        log: &[
+            ("at", Some(Value::I32(17)), Some(Value::I32(9))),
+            ("at", Some(Value::I32(16)), Some(Value::I32(7))),
+            ("at", Some(Value::I32(17)), Some(Value::I32(9))),
+        ],
+        faults: 0,
+    },
+    // Pages between far stores are not made.
+    Row {
+        device: Kind::Looking,
+        source: &FAR_STORES_LENT,
+        line: "f",
+        status: 1,
+        text: "trap 1 unreachable\nat function 1 offset 21\nhost calls 1\n",
+        log: &[("made", None, Some(Value::I32(2)))],
+        faults: 0,
+    },
+    // The first value is 0, the second one 1.
+    Row {
+        device: Kind::Counter,
+        source: &TWICE_NEXT,
+        line: "f",
+        status: 0,
+        text: "finished i32:1\nhost calls 2\n",
+        log: &[
+            ("next", None, Some(Value::I32(0))),
+            ("next", None, Some(Value::I32(1))),
+        ],
+        faults: 0,
+    },
+    Row {
+        device: Kind::Console,
+        source: &PRINTING,
+        line: "f",
+        status: 0,
+        text: "finished\nhost calls 2\n",
+        log: &[
+            ("put", Some(Value::I32(1)), None),
+            ("put", Some(Value::I32(2)), None),
+        ],
+        faults: 0,
+    },
+    // A device that fails stops the run.
+    Row {
+        device: Kind::FailingConsole,
+        source: &PRINTING,
+        line: "f",
+        status: 9,
+        text: "host stopped: device \"console\"\n",
+        log: &[("put", Some(Value::I32(1)), None)],
+        faults: 1,
+    },
+    // A count of faults may rise at a reply.
+    Row {
+        device: Kind::Complaining,
+        source: &PRINTING,
+        line: "f",
+        status: 0,
+        text: "finished\nhost calls 2\n",
+        log: &[
+            ("put", Some(Value::I32(1)), None),
+            ("put", Some(Value::I32(2)), None),
+        ],
+        faults: 2,
+    },
+];
 
-    ghost Value = { List Served };
-
-    ghost view = { λ l. l.log };
+/// Whether a call was logged so.
+fn is_logged(served: &Served, wanted: &Logged) -> bool {
+    served.call.name.as_str() == wanted.0
+        && served.call.args.len() == usize::from(wanted.1.is_some())
+        && served.call.args.as_slice().first().copied() == wanted.1
+        && served.reply.value == wanted.2
 }
 
-fn byte_at(memory: &Memory, at: u32) -> Option<Value> {
-    match memory.load(u64::from(at), 1) {
-        Some(byte) => Some(Value::I32((byte % 0x100) as u32)),
-        None => None,
-    }
-}
-
-fn made_pages(memory: &Memory) -> u32 {
-    let mut made = 0u32;
-    for index in 0..memory.size() {
-        if memory.page(index).is_some() {
-            made = made.saturating_add(1);
+/// Whether a log holds these calls.
+fn are_logged(log: &[Served], wanted: &[Logged]) -> bool {
+    for (served, wanted) in log.iter().zip(wanted.iter()) {
+        if !is_logged(served, wanted) {
+            return false;
         }
     }
-    made
+    log.len() == wanted.len()
 }
 
-fn seen(call: &HostCall, memory: &Memory) -> Option<Value> {
-    match call.args.as_slice() {
-        [Value::I32(at)] => byte_at(memory, *at),
-        _ => Some(Value::I32(made_pages(memory))),
-    }
-}
-
-/// A reply without writes.
-fn reply_of(alloc: Global, value: Option<Value>) -> Reply
-    ensures { result ≡ record { value = value; writes = [] } }
-{
-    Reply {
-        value,
-        writes: Items::new(alloc),
+/// Whether the device of a row tells what it has to.
+fn tells(devices: &DeviceSet, row: &Row) -> bool {
+    match devices.get(row.device.name()) {
+        Some(device) => device.faults() == row.faults && are_logged(device.log(), row.log),
+        None => false,
     }
 }
 
-impl Device for Looking {
-    ghost title = { λ _. codes "memory" };
-
-    ghost served = { λ l. l };
-
-    ghost fault_count = { λ _. 0 };
-
-    fn name(&self) -> &str {
-        "memory"
-    }
-
-    fn log(&self) -> &[Served] {
-        self.log.as_slice()
-    }
-
-    fn faults(&self) -> u64 {
-        0
-    }
-
-    fn call(&mut self, call: &HostCall, memory: Option<&Memory>) -> DeviceAnswer {
-        let value = match memory {
-            Some(memory) => seen(call, memory),
-            None => None,
-        };
-        let Ok(copy) = copy_call(self.alloc, call) else {
-            return DeviceAnswer::NoMemory;
-        };
-        let entry = Served {
-            call: copy,
-            reply: reply_of(self.alloc, value),
-        };
-        match self.log.push(entry) {
-            Ok(()) => DeviceAnswer::Replied(reply_of(self.alloc, value)),
-            Err(_) => DeviceAnswer::NoMemory,
-        }
-    }
-}
-
-/// The calls of the module in `m` are answered by a device that looks at its memory.
-fn looks(
-    rt: &impl Abort,
+/// Whether a module gets this with these devices.
+fn runs(
     alloc: Global,
     source: &[u8],
     line: &str,
+    devices: &mut DeviceSet,
     wanted: (u8, &str),
-) -> Result<(), Fail> {
-    let mut devices = DeviceSet::new(alloc);
-    let looking = Looking {
-        alloc,
-        log: Items::new(alloc),
+) -> bool
+    requires { AreDistinct (names (⟦<DeviceSet as Devices>⟧.shown devices.old)) }
+{
+    match files_of(alloc, source, b"", &[]) {
+        Ok(mut files) => are_served(alloc, ["run m", line], &mut files, devices, wanted),
+        Err(_) => false,
+    }
+}
+
+/// Whether a row holds of a device of its kind.
+fn holds_of(alloc: Global, device: Box<dyn Device>, row: &Row) -> bool {
+    let Some(mut devices) = set_of(alloc, device) else {
+        return false;
     };
-    assert!(rt; devices.attach(Box::new(alloc, looking)?).is_ok());
-    let mut files = with_module(alloc, source, &[])?;
-    runs(rt, alloc, line, &mut files, &mut devices, wanted)
+    let wanted = (row.status, row.text);
+    runs(alloc, row.source, row.line, &mut devices, wanted) && tells(&devices, row)
+}
+
+fn holds(alloc: Global, row: &Row) -> bool {
+    match device_of(alloc, row.device) {
+        Ok(device) => holds_of(alloc, device, row),
+        Err(_) => false,
+    }
 }
 
 #[test]
-fn a_device_sees_the_memory(rt: HostRuntime) -> Result<(), Fail> {
-    let alloc = rt.alloc();
-    let first = "finished i32:7\nhost calls 1\n";
-    looks(&rt, alloc, &LENDING, "f i32:16", (0, first))?;
-    let second = "finished i32:42\nhost calls 1\n";
-    looks(&rt, alloc, &LENDING, "f i32:17", (0, second))?;
-    let outside = "host stopped: reply 0 does not fit\n";
-    looks(&rt, alloc, &LENDING, "f i32:65536", (9, outside))
-}
-
-#[test]
-fn a_device_sees_what_was_stored(rt: HostRuntime) -> Result<(), Fail> {
-    let text = "finished i32:9\nhost calls 1\n\
-                finished i32:7\nhost calls 1\n\
-                finished i32:9\nhost calls 1\n";
-    let line = "g i32:17 + f i32:16 + f i32:17";
-    looks(&rt, rt.alloc(), &LENDING, line, (0, text))
-}
-
-#[test]
-fn pages_between_far_stores_are_not_made(rt: HostRuntime) -> Result<(), Fail> {
-    let alloc = rt.alloc();
-    let mut devices = DeviceSet::new(alloc);
-    let looking = Looking {
-        alloc,
-        log: Items::new(alloc),
-    };
-    assert!(rt; devices.attach(Box::new(alloc, looking)?).is_ok());
-    let mut files = with_module(alloc, &FAR_STORES_LENT, &[])?;
-    let text = "trap 1 unreachable\nat function 1 offset 21\nhost calls 1\n";
-    runs(&rt, alloc, "f", &mut files, &mut devices, (1, text))?;
-    let two = match devices.get("memory") {
-        Some(looking) => {
-            matches!(looking.log(), [served] if matches!(served.reply.value, Some(Value::I32(2))))
-        }
-        None => false,
-    };
-    assert!(rt; two);
-    Ok(())
-}
-
-#[test]
-fn the_log_of_a_counter_holds_its_calls(rt: HostRuntime) -> Result<(), Fail> {
-    let alloc = rt.alloc();
-    let mut devices = DeviceSet::new(alloc);
-    let counter = Counter::new(alloc);
-    assert!(rt; devices.attach(Box::new(alloc, counter)?).is_ok());
-    let mut files = with_module(alloc, &TWICE_NEXT, &[])?;
-    let text = "finished i32:1\nhost calls 2\n";
-    runs(&rt, alloc, "f", &mut files, &mut devices, (0, text))?;
-    let Some(counter) = devices.get("counter") else {
-        return Err(Fail::from("the counter is gone"));
-    };
-    let [first, second] = counter.log() else {
-        return Err(Fail::from("not two calls"));
-    };
-    assert!(rt; first.call.name.as_str() == "next" && first.call.args.is_empty());
-    assert!(rt; matches!(first.reply.value, Some(Value::I32(0))));
-    assert!(rt; second.call.name.as_str() == "next" && second.call.args.is_empty());
-    assert!(rt; matches!(second.reply.value, Some(Value::I32(1))));
-    Ok(())
+fn devices_serve_runs(rt: HostRuntime) {
+    for row in &ROWS {
+        assert!(rt; holds(rt.alloc(), row), "{}", row.line);
+    }
 }
 
 /// A console that counts how many such devices are dropped.
@@ -225,92 +234,55 @@ impl Device for Dropping {
     }
 }
 
-/// After a run whose call with this number fails, the device is in its set, can be released and attached again, and is dropped with the set
-/// alone.
-fn is_dropped_once(
-    rt: &impl Abort,
+/// A console that counts its drops there, and whose call with this number fails.
+fn new_dropping(
     alloc: Global,
     failing: u64,
+    drops: &Rc<Cell<u64>>,
+) -> Result<Box<dyn Device>, AllocError> {
+    let console = Console::new(alloc, vec![in alloc; failing]?);
+    let drops = drops.clone()?;
+    Ok(Box::new(alloc, Dropping { console, drops })?)
+}
+
+/// Whether a set has a console, which can be released and attached again.
+fn is_attached_again(devices: &mut DeviceSet) -> bool {
+    let Some(console) = devices.release("console") else {
+        return false;
+    };
+    devices.get("console").is_none()
+        && matches!(devices.attach(console), Ok(None))
+        && devices.get("console").is_some()
+}
+
+/// Whether, behind a run that gets this, a console is in its set, and is dropped with the set alone.
+fn is_kept(
+    alloc: Global,
+    console: Box<dyn Device>,
+    drops: &Rc<Cell<u64>>,
     wanted: (u8, &str),
-) -> Result<(), Fail> {
+) -> bool {
+    let Some(mut devices) = set_of(alloc, console) else {
+        return false;
+    };
+    runs(alloc, &PRINTING, "f", &mut devices, wanted)
+        && is_attached_again(&mut devices)
+        && drops.get() == 0
+}
+
+fn is_dropped_once(alloc: Global, failing: u64, wanted: (u8, &str)) -> Result<bool, AllocError> {
     let drops = Rc::new(alloc, Cell::new(0))?;
-    let mut devices = DeviceSet::new(alloc);
-    let dropping = Dropping {
-        console: Console::new(alloc, vec![in alloc; failing]?),
-        drops: drops.clone()?,
-    };
-    assert!(rt; devices.attach(Box::new(alloc, dropping)?).is_ok());
-    let mut files = with_module(alloc, &PRINTING, &[])?;
-    runs(rt, alloc, "f", &mut files, &mut devices, wanted)?;
-    let Some(device) = devices.release("console") else {
-        return Err(Fail::from("the console is gone"));
-    };
-    assert!(rt; devices.get("console").is_none());
-    assert!(rt; matches!(devices.attach(device), Ok(None)));
-    assert!(rt; devices.get("console").is_some());
-    assert_eq!(rt; drops.get(), 0);
-    drop(devices);
-    assert_eq!(rt; drops.get(), 1);
-    Ok(())
+    let console = new_dropping(alloc, failing, &drops)?;
+    Ok(is_kept(alloc, console, &drops, wanted) && drops.get() == 1)
 }
+
+const DONE: (u8, &str) = (0, "finished\nhost calls 2\n");
+
+const STOPPED: (u8, &str) = (9, "host stopped: device \"console\"\n");
 
 #[test]
-fn a_device_is_dropped_once(rt: HostRuntime) -> Result<(), Fail> {
-    let alloc = rt.alloc();
-    let done = "finished\nhost calls 2\n";
-    is_dropped_once(&rt, alloc, 2, (0, done))?;
-    let stopped = "host stopped: device \"console\"\n";
-    is_dropped_once(&rt, alloc, 1, (9, stopped))
-}
-
-/// A console that counts a fault at each call, and replies all the same.
-#[derive(Drop)]
-struct Complaining {
-    console: Console,
-    faults: u64,
-}
-
-impl Device for Complaining {
-    ghost title = { λ _. codes "console" };
-
-    ghost served = { λ c. c.console.log };
-
-    ghost fault_count = { λ c. c.faults };
-
-    fn name(&self) -> &str {
-        self.console.name()
-    }
-
-    fn log(&self) -> &[Served] {
-        self.console.log()
-    }
-
-    fn faults(&self) -> u64 {
-        self.faults
-    }
-
-    fn call(&mut self, call: &HostCall, memory: Option<&Memory>) -> DeviceAnswer {
-        self.faults = self.faults.saturating_add(1);
-        self.console.call(call, memory)
-    }
-}
-
-#[test]
-fn a_count_may_rise_at_a_reply(rt: HostRuntime) -> Result<(), Fail> {
-    let alloc = rt.alloc();
-    let mut devices = DeviceSet::new(alloc);
-    let complaining = Complaining {
-        console: Console::new(alloc, Vec::new(alloc)),
-        faults: 0,
-    };
-    assert!(rt; devices.attach(Box::new(alloc, complaining)?).is_ok());
-    let mut files = with_module(alloc, &PRINTING, &[])?;
-    let done = (0, "finished\nhost calls 2\n");
-    runs(&rt, alloc, "f", &mut files, &mut devices, done)?;
-    let faults = match devices.get("console") {
-        Some(console) => console.faults(),
-        None => 0,
-    };
-    assert_eq!(rt; faults, 2);
+fn a_device_is_dropped_once(rt: HostRuntime) -> Result<(), AllocError> {
+    assert!(rt; is_dropped_once(rt.alloc(), 2, DONE)?);
+    assert!(rt; is_dropped_once(rt.alloc(), 1, STOPPED)?);
     Ok(())
 }

@@ -1,16 +1,9 @@
 //! `run` over files in memory. What is wanted was worked out by hand from Core 4.4 and 4.5.
 
-ghost use Rattle.host_set.specs.Sets.{AreDistinct, names};
-
-use host_devices::{Console, Counter, Device};
-use host_set::{DeviceSet, Devices};
-use pm_cli::post_mortem;
-use pm_outside::{MemFiles, MemSink};
+use crate::trial::{are_answered, files_of};
+use pm_outside::MemFiles;
 use std::alloc::Global;
-use std::process::Abort;
-use std::test::Fail;
 use test_modules::*;
-use wasm_syntax::Value;
 
 /// A module in the file `m`, replies in the file `r`, the words behind `run m`, the status and the text, and what `show core.wasm` prints
 /// then: nothing where no dump is written.
@@ -444,184 +437,117 @@ const LISTS: [Row; 4] = [
     },
 ];
 
-/// The words of a line behind these.
-fn words_of(alloc: Global, front: &[&str], line: &str) -> Result<Vec<String>, Fail> {
-    let mut words = Vec::new(alloc);
-    for word in front {
-        words.push(String::from_str(alloc, word)?)?;
+/// Whether `show` prints this of the dump, or, where it is nothing, there is none.
+fn is_shown(alloc: Global, files: &mut MemFiles, text: &str) -> bool {
+    if text.is_empty() {
+        return files.get("core.wasm").is_none();
     }
-    for word in line.split(' ') {
-        words.push(String::from_str(alloc, word)?)?;
-    }
-    Ok(words)
+    are_answered(alloc, ["show", "core.wasm"], files, (0, text))
 }
 
-/// The words are answered with this status and text.
-fn answers<D: Devices>(
-    rt: &impl Abort,
-    alloc: Global,
-    words: &[String],
-    files: &mut MemFiles,
-    devices: &mut D,
-    wanted: (u8, &str),
-) -> Result<(), Fail>
-    requires { AreDistinct (names (D.shown devices.old)) }
-{
-    let mut out = MemSink::new(alloc, Vec::new(alloc));
-    let status = post_mortem(alloc, words, files, &mut out, devices);
-    let text = str::from_utf8(out.bytes())?;
-    assert_eq!(rt; text, wanted.1);
-    assert_eq!(rt; status.code(), wanted.0);
-    Ok(())
-}
-
-/// The same without devices.
-fn answers_alone(
-    rt: &impl Abort,
-    alloc: Global,
-    words: &[String],
-    files: &mut MemFiles,
-    wanted: (u8, &str),
-) -> Result<(), Fail> {
-    let mut devices = DeviceSet::new(alloc);
-    answers(rt, alloc, words, files, &mut devices, wanted)
-}
-
-/// Files with a module in `m` and replies in `r`.
-fn files_of(alloc: Global, source: &[u8], replies: &str) -> Result<MemFiles, Fail> {
-    let mut files = MemFiles::new(alloc, Vec::new(alloc));
-    files.add("m", source)?;
-    files.add("r", replies.as_bytes())?;
-    Ok(files)
-}
-
-/// The row holds.
-fn runs(rt: &impl Abort, alloc: Global, row: &Row) -> Result<(), Fail> {
-    let mut files = files_of(alloc, row.source, row.replies)?;
-    let words = words_of(alloc, &["run", "m"], row.line)?;
-    answers_alone(rt, alloc, &words, &mut files, (row.status, row.text))?;
-    if row.shown.is_empty() {
-        assert!(rt; files.get("core.wasm").is_none());
-        return Ok(());
-    }
-    let words = words_of(alloc, &["show"], "core.wasm")?;
-    answers_alone(rt, alloc, &words, &mut files, (0, row.shown))
-}
-
-fn all_run(rt: &impl Abort, alloc: Global, rows: &[Row]) -> Result<(), Fail> {
-    for row in rows {
-        runs(rt, alloc, row)?;
-    }
-    Ok(())
-}
-
-#[test]
-fn numbers_run(rt: HostRuntime) -> Result<(), Fail> {
-    all_run(&rt, rt.alloc(), &NUMBERS)
-}
-
-#[test]
-fn memories_run(rt: HostRuntime) -> Result<(), Fail> {
-    all_run(&rt, rt.alloc(), &MEMORIES)
-}
-
-#[test]
-fn control_run(rt: HostRuntime) -> Result<(), Fail> {
-    all_run(&rt, rt.alloc(), &CONTROL)
-}
-
-#[test]
-fn calls_run(rt: HostRuntime) -> Result<(), Fail> {
-    all_run(&rt, rt.alloc(), &CALLS)
-}
-
-#[test]
-fn fuels_and_causes_run(rt: HostRuntime) -> Result<(), Fail> {
-    all_run(&rt, rt.alloc(), &FUELS_AND_CAUSES)
-}
-
-#[test]
-fn replies_run(rt: HostRuntime) -> Result<(), Fail> {
-    all_run(&rt, rt.alloc(), &REPLIES)
-}
-
-#[test]
-fn lists_run(rt: HostRuntime) -> Result<(), Fail> {
-    all_run(&rt, rt.alloc(), &LISTS)
-}
-
-#[test]
-fn a_dump_is_written_byte_by_byte(rt: HostRuntime) -> Result<(), Fail> {
-    let alloc = rt.alloc();
-    let mut files = files_of(alloc, &DIVISION, "")?;
-    let words = words_of(alloc, &["run", "m"], "--dump d div i32:7 i32:0")?;
-    let text = "trap 2 integer divide by zero\nat function 0 offset 5\nhost calls 0\n";
-    answers_alone(&rt, alloc, &words, &mut files, (1, text))?;
-    assert!(rt; files.get("d") == Some(DIVISION_DUMP.as_slice()));
-    assert!(rt; files.get("core.wasm").is_none());
-    Ok(())
-}
-
-#[test]
-fn each_trap_of_a_list_has_a_dump(rt: HostRuntime) -> Result<(), Fail> {
-    let alloc = rt.alloc();
-    let mut files = files_of(alloc, &COUNTING, "")?;
-    let words = words_of(alloc, &["run", "m"], "f + f")?;
-    let text = "trap 1 unreachable\nat function 0 offset 8\nhost calls 0\n\
-                trap 1 unreachable\nat function 0 offset 8\nhost calls 0\n";
-    answers_alone(&rt, alloc, &words, &mut files, (1, text))?;
-    let words = words_of(alloc, &["show"], "core.wasm.1")?;
-    let shown =
-        "dump \"module\" frames 1\n#0 instance 0 function 0 offset 8 locals - operands -\nglobal 0 i32:2\n";
-    answers_alone(&rt, alloc, &words, &mut files, (0, shown))?;
-    assert!(rt; files.get("core.wasm.2").is_none());
-    Ok(())
-}
-
-#[test]
-fn a_counter_counts(rt: HostRuntime) -> Result<(), Fail> {
-    let alloc = rt.alloc();
-    let mut devices = DeviceSet::new(alloc);
-    assert!(rt;
-        devices
-            .attach(Box::new(alloc, Counter::new(alloc))?)
-            .is_ok()
-    );
-    let mut files = files_of(alloc, &TWICE_NEXT, "")?;
-    let words = words_of(alloc, &["run", "m"], "f")?;
-    // The first value is 0, the second one 1.
-    let text = "finished i32:1\nhost calls 2\n";
-    answers(&rt, alloc, &words, &mut files, &mut devices, (0, text))
-}
-
-#[test]
-fn a_console_takes_calls(rt: HostRuntime) -> Result<(), Fail> {
-    let alloc = rt.alloc();
-    let mut devices = DeviceSet::new(alloc);
-    let console = Console::new(alloc, Vec::new(alloc));
-    assert!(rt; devices.attach(Box::new(alloc, console)?).is_ok());
-    let mut files = files_of(alloc, &PRINTING, "")?;
-    let words = words_of(alloc, &["run", "m"], "f")?;
-    let text = "finished\nhost calls 2\n";
-    answers(&rt, alloc, &words, &mut files, &mut devices, (0, text))
-}
-
-#[test]
-fn a_failing_device_stops_the_run(rt: HostRuntime) -> Result<(), Fail> {
-    let alloc = rt.alloc();
-    let mut devices = DeviceSet::new(alloc);
-    let console = Console::new(alloc, Vec::from_slice(alloc, &[1])?);
-    assert!(rt; devices.attach(Box::new(alloc, console)?).is_ok());
-    let mut files = files_of(alloc, &PRINTING, "")?;
-    let words = words_of(alloc, &["run", "m"], "f")?;
-    let text = "host stopped: device \"console\"\n";
-    answers(&rt, alloc, &words, &mut files, &mut devices, (9, text))?;
-    let logged = match devices.get("console") {
-        Some(console) => {
-            matches!(console.log(), [served] if matches!(served.call.args.as_slice(), [Value::I32(1)]))
+/// Whether a row holds.
+fn holds(alloc: Global, row: &Row) -> bool {
+    match files_of(alloc, row.source, row.replies.as_bytes(), &[]) {
+        Ok(mut files) => {
+            are_answered(
+                alloc,
+                ["run m", row.line],
+                &mut files,
+                (row.status, row.text),
+            ) && is_shown(alloc, &mut files, row.shown)
         }
-        None => false,
+        Err(_) => false,
+    }
+}
+
+/// The words of the first row that does not hold.
+fn first_wrong(alloc: Global, rows: &[Row]) -> Option<&'static str> {
+    for row in rows {
+        if !holds(alloc, row) {
+            return Some(row.line);
+        }
+    }
+    None
+}
+
+#[test]
+fn numbers_run(rt: HostRuntime) {
+    assert_eq!(rt; first_wrong(rt.alloc(), &NUMBERS), None);
+}
+
+#[test]
+fn memories_run(rt: HostRuntime) {
+    assert_eq!(rt; first_wrong(rt.alloc(), &MEMORIES), None);
+}
+
+#[test]
+fn control_run(rt: HostRuntime) {
+    assert_eq!(rt; first_wrong(rt.alloc(), &CONTROL), None);
+}
+
+#[test]
+fn calls_run(rt: HostRuntime) {
+    assert_eq!(rt; first_wrong(rt.alloc(), &CALLS), None);
+}
+
+#[test]
+fn fuels_and_causes_run(rt: HostRuntime) {
+    assert_eq!(rt; first_wrong(rt.alloc(), &FUELS_AND_CAUSES), None);
+}
+
+#[test]
+fn replies_run(rt: HostRuntime) {
+    assert_eq!(rt; first_wrong(rt.alloc(), &REPLIES), None);
+}
+
+#[test]
+fn lists_run(rt: HostRuntime) {
+    assert_eq!(rt; first_wrong(rt.alloc(), &LISTS), None);
+}
+
+const DIVIDED: (u8, &str) = (
+    1,
+    "trap 2 integer divide by zero\nat function 0 offset 5\nhost calls 0\n",
+);
+
+/// Whether a division writes its dump, byte by byte, into the file that it is told.
+fn is_dump_written(alloc: Global) -> bool {
+    let Ok(mut files) = files_of(alloc, &DIVISION, b"", &[]) else {
+        return false;
     };
-    assert!(rt; logged);
-    Ok(())
+    let line = ["run m", "--dump d div i32:7 i32:0"];
+    are_answered(alloc, line, &mut files, DIVIDED)
+        && files.get("d") == Some(DIVISION_DUMP.as_slice())
+        && files.get("core.wasm").is_none()
+}
+
+#[test]
+fn a_dump_is_written_byte_by_byte(rt: HostRuntime) {
+    assert!(rt; is_dump_written(rt.alloc()));
+}
+
+const COUNTED: (u8, &str) = (
+    1,
+    "trap 1 unreachable\nat function 0 offset 8\nhost calls 0\n\
+     trap 1 unreachable\nat function 0 offset 8\nhost calls 0\n",
+);
+
+const SECOND: (u8, &str) = (
+    0,
+    "dump \"module\" frames 1\n#0 instance 0 function 0 offset 8 locals - operands -\nglobal 0 i32:2\n",
+);
+
+/// Whether each of two traps has a dump.
+fn has_two_dumps(alloc: Global) -> bool {
+    let Ok(mut files) = files_of(alloc, &COUNTING, b"", &[]) else {
+        return false;
+    };
+    are_answered(alloc, ["run m", "f + f"], &mut files, COUNTED)
+        && are_answered(alloc, ["show", "core.wasm.1"], &mut files, SECOND)
+        && files.get("core.wasm.2").is_none()
+}
+
+#[test]
+fn each_trap_of_a_list_has_a_dump(rt: HostRuntime) {
+    assert!(rt; has_two_dumps(rt.alloc()));
 }

@@ -5,10 +5,12 @@
 #[cfg(test)]
 mod device_tests;
 #[cfg(test)]
+mod devices;
+#[cfg(test)]
 mod file_tests;
 #[cfg(test)]
 mod invocation_tests;
 #[cfg(test)]
 mod record_tests;
 #[cfg(test)]
-mod run_trial;
+mod trial;

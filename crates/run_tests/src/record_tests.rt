@@ -1,11 +1,10 @@
 //! The record of a run, as a file.
 
-use crate::run_trial::{runs, with_module};
-use host_devices::Counter;
-use host_set::DeviceSet;
+use crate::devices::{Kind, device_of, set_of};
+use crate::trial::{are_answered, are_served, files_of};
+use host_devices::Device;
 use pm_outside::MemFiles;
 use std::alloc::Global;
-use std::process::Abort;
 use std::test::Fail;
 use test_modules::{HANDING, READING, TWICE_NEXT};
 
@@ -88,76 +87,113 @@ fn holds(files: &MemFiles, name: &str, text: Option<&str>) -> bool {
     }
 }
 
-fn is_recorded(rt: &impl Abort, alloc: Global, row: &Row) -> Result<(), Fail> {
-    let mut files = with_module(alloc, &READING, &[])?;
-    files.add("r", row.replies.as_bytes())?;
-    let mut devices = DeviceSet::new(alloc);
-    let wanted = (row.status, row.text);
-    runs(rt, alloc, row.line, &mut files, &mut devices, wanted)?;
-    assert!(rt; holds(&files, "log", row.record));
-    Ok(())
+/// Whether a module gets this, and leaves this record.
+fn is_recorded(alloc: Global, source: &[u8], row: &Row) -> bool {
+    match files_of(alloc, source, row.replies.as_bytes(), &[]) {
+        Ok(mut files) => {
+            are_answered(
+                alloc,
+                ["run m", row.line],
+                &mut files,
+                (row.status, row.text),
+            ) && holds(&files, "log", row.record)
+        }
+        Err(_) => false,
+    }
+}
+
+/// The words of the first row that is recorded otherwise.
+fn first_wrong(alloc: Global) -> Option<&'static str> {
+    for row in &ROWS {
+        if !is_recorded(alloc, &READING, row) {
+            return Some(row.line);
+        }
+    }
+    None
 }
 
 #[test]
-fn replies_that_fit_are_recorded(rt: HostRuntime) -> Result<(), Fail> {
-    for row in ROWS.iter() {
-        is_recorded(&rt, rt.alloc(), row)?;
-    }
-    Ok(())
+fn replies_that_fit_are_recorded(rt: HostRuntime) {
+    assert_eq!(rt; first_wrong(rt.alloc()), None);
+}
+
+/// A run whose calls of the collector are torn.
+const TORN: Row = Row {
+    line: "--collect --record log g",
+    replies: "",
+    status: 16,
+    text: "torn calls at 0\n",
+    record: Some(""),
+};
+
+#[test]
+fn runs_with_torn_calls_are_recorded(rt: HostRuntime) {
+    assert!(rt; is_recorded(rt.alloc(), &HANDING, &TORN));
+}
+
+/// Whether what a device replies to two calls is recorded, in place of the module.
+fn is_served(alloc: Global, files: &mut MemFiles, device: Box<dyn Device>) -> bool {
+    let Some(mut devices) = set_of(alloc, device) else {
+        return false;
+    };
+    let line = ["run m", "--record m f"];
+    let wanted = (0, "finished i32:1\nhost calls 2\n");
+    are_served(alloc, line, files, &mut devices, wanted)
+        && holds(files, "m", Some("i32:0\ni32:1\n"))
+}
+
+fn is_counter_recorded(alloc: Global) -> Result<bool, Fail> {
+    let mut files = files_of(alloc, &TWICE_NEXT, b"", &[])?;
+    Ok(is_served(alloc, &mut files, device_of(alloc, Kind::Counter)?))
 }
 
 #[test]
 fn replies_of_devices_are_recorded(rt: HostRuntime) -> Result<(), Fail> {
-    let alloc = rt.alloc();
-    let mut devices = DeviceSet::new(alloc);
-    let counter = Box::new(alloc, Counter::new(alloc))?;
-    assert!(rt; devices.attach(counter).is_ok());
-    let mut files = with_module(alloc, &TWICE_NEXT, &[])?;
-    let wanted = (0, "finished i32:1\nhost calls 2\n");
-    runs(&rt, alloc, "--record m f", &mut files, &mut devices, wanted)?;
-    assert!(rt; holds(&files, "m", Some("i32:0\ni32:1\n")));
+    assert!(rt; is_counter_recorded(rt.alloc())?);
     Ok(())
 }
 
-#[test]
-fn runs_with_torn_calls_are_recorded(rt: HostRuntime) -> Result<(), Fail> {
-    let alloc = rt.alloc();
-    let mut files = with_module(alloc, &HANDING, &[])?;
-    let mut devices = DeviceSet::new(alloc);
-    let wanted = (16, "torn calls at 0\n");
-    let line = "--collect --record log g";
-    runs(&rt, alloc, line, &mut files, &mut devices, wanted)?;
-    assert!(rt; holds(&files, "log", Some("")));
-    Ok(())
-}
+const DUMP_FAULT: &str = "file fault: \"core.wasm\"\n";
 
-#[test]
-fn a_record_may_fault(rt: HostRuntime) -> Result<(), Fail> {
-    let alloc = rt.alloc();
-    let fault = (4, "file fault: \"log\"\n");
-    // The module is read in two calls and the replies in two; then the dump is made by two, and the record by two.
-    for failing in 6..8 {
-        let mut files = with_module(alloc, &READING, &[failing])?;
-        files.add("r", b"i32:9")?;
-        let mut devices = DeviceSet::new(alloc);
-        let line = "--replies r --record log f";
-        runs(&rt, alloc, line, &mut files, &mut devices, fault)?;
-        assert!(rt; files.get("core.wasm").is_some());
+const RECORD_FAULT: &str = "file fault: \"log\"\n";
+
+/// The call of `Files` that fails, the text, and whether a dump and a record are there then. The module is read in two calls and the replies in two; then
+/// the dump is made by two, and the record by two.
+const FAULTS: [(u64, &str, bool, bool); 4] = [
+    (4, DUMP_FAULT, false, false),
+    (5, DUMP_FAULT, true, false),
+    (6, RECORD_FAULT, true, false),
+    (7, RECORD_FAULT, true, true),
+];
+
+/// Whether a call fails so.
+fn may_fail(alloc: Global, row: (u64, &str, bool, bool)) -> bool {
+    let (call, text, has_dump, has_record) = row;
+    match files_of(alloc, &READING, b"i32:9", &[call]) {
+        Ok(mut files) => {
+            are_answered(
+                alloc,
+                ["run m", "--replies r --record log f"],
+                &mut files,
+                (4, text),
+            ) && files.get("core.wasm").is_some() == has_dump
+                && files.get("log").is_some() == has_record
+        }
+        Err(_) => false,
     }
-    Ok(())
+}
+
+/// The first call that fails otherwise.
+fn first_wrong_fault(alloc: Global) -> Option<u64> {
+    for row in FAULTS {
+        if !may_fail(alloc, row) {
+            return Some(row.0);
+        }
+    }
+    None
 }
 
 #[test]
-fn no_record_is_behind_a_dump_that_failed(rt: HostRuntime) -> Result<(), Fail> {
-    let alloc = rt.alloc();
-    let fault = (4, "file fault: \"core.wasm\"\n");
-    for failing in 4..6 {
-        let mut files = with_module(alloc, &READING, &[failing])?;
-        files.add("r", b"i32:9")?;
-        let mut devices = DeviceSet::new(alloc);
-        let line = "--replies r --record log f";
-        runs(&rt, alloc, line, &mut files, &mut devices, fault)?;
-        assert!(rt; files.get("log").is_none());
-    }
-    Ok(())
+fn a_record_is_made_behind_the_dump(rt: HostRuntime) {
+    assert_eq!(rt; first_wrong_fault(rt.alloc()), None);
 }

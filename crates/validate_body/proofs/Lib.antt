@@ -6,4 +6,3 @@ pub mod LocalsLaws
 pub mod Through
 pub mod Flags
 pub mod MarksLaws
-pub mod Nesting

@@ -2,5 +2,4 @@
 pub mod Algorithm
 pub mod Bodies
 pub mod Locals
-pub mod Nesting
 pub mod Steps

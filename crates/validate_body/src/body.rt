@@ -68,7 +68,7 @@ pub fn check_body(
 }
 
 /// The n-th instruction.
-pub fn op_at(ops: &[Op], n: usize) -> Op
+fn op_at(ops: &[Op], n: usize) -> Op
     requires { n < length ops.now }
     ensures { slice_get ops.now n ≡ Some result }
 {

@@ -2,15 +2,11 @@
 #![tactic(auto)]
 
 mod body;
-#[cfg(test)]
-mod cases;
 mod locals;
 mod marks;
 mod ops;
 mod shape;
 mod step;
-#[cfg(test)]
-mod tests;
 
 pub use body::{BodyFault, check_body};
 pub use marks::{Mark, Marks};

@@ -1,4 +1,3 @@
 pub mod Readings
 pub mod Limits
 pub mod Decoding
-pub mod SampleModules

@@ -1,7 +1,7 @@
 //! Modules byte by byte, with offsets that were worked out by hand from the binary format.
 
 ghost use Rattle.std.specs.Prelude.{◌≡◌, ◌∷◌, [], IfOk};
-ghost use Rattle.wasm_format_laws.specs.inner.Samples.{division};
+ghost use Rattle.format_tests.specs.inner.Samples.{division};
 
 use causes::NoMemory;
 use std::alloc::Global;

@@ -1,0 +1,197 @@
+//! Devices of the tests: one that looks at the memory, one that complains, and how each kind is attached.
+
+ghost use Rattle.std.specs.Prelude.{◌≡◌, codes, [], IfSome};
+ghost use Rattle.host_set.specs.Sets.{AreDistinct, names};
+
+use host_devices::{Console, Counter, Device, DeviceAnswer, copy_call};
+use host_set::{DeviceSet, Devices};
+use linear_memory::Memory;
+use pm_text::Items;
+use std::alloc::{AllocError, Global};
+use std::marker::Model;
+use wasm_syntax::{HostCall, Reply, Served, Value};
+
+/// The device `memory`. To a call with an address it replies the byte that stands there, and to one without arguments how many pages are
+/// made.
+#[derive(Drop)]
+struct Looking {
+    alloc: Global,
+    log: Items<Served>,
+}
+
+impl Model for Looking {
+    ghost use Rattle.std.specs.Prelude.{List};
+    ghost use Rattle.wasm_syntax.specs.declared.host.Served.{Served};
+
+    ghost Value = { List Served };
+
+    ghost view = { λ l. l.log };
+}
+
+fn byte_at(memory: &Memory, at: u32) -> Option<Value> {
+    match memory.load(u64::from(at), 1) {
+        Some(byte) => Some(Value::I32((byte % 0x100) as u32)),
+        None => None,
+    }
+}
+
+fn made_pages(memory: &Memory) -> u32 {
+    let mut made = 0u32;
+    for index in 0..memory.size() {
+        if memory.page(index).is_some() {
+            made = made.saturating_add(1);
+        }
+    }
+    made
+}
+
+fn seen(call: &HostCall, memory: &Memory) -> Option<Value> {
+    match call.args.as_slice() {
+        [Value::I32(at)] => byte_at(memory, *at),
+        _ => Some(Value::I32(made_pages(memory))),
+    }
+}
+
+/// A reply without writes.
+fn reply_of(alloc: Global, value: Option<Value>) -> Reply
+    ensures { result ≡ record { value = value; writes = [] } }
+{
+    Reply {
+        value,
+        writes: Items::new(alloc),
+    }
+}
+
+impl Device for Looking {
+    ghost title = { λ _. codes "memory" };
+
+    ghost served = { λ l. l };
+
+    ghost fault_count = { λ _. 0 };
+
+    fn name(&self) -> &str {
+        "memory"
+    }
+
+    fn log(&self) -> &[Served] {
+        self.log.as_slice()
+    }
+
+    fn faults(&self) -> u64 {
+        0
+    }
+
+    fn call(&mut self, call: &HostCall, memory: Option<&Memory>) -> DeviceAnswer {
+        let value = match memory {
+            Some(memory) => seen(call, memory),
+            None => None,
+        };
+        let Ok(copy) = copy_call(self.alloc, call) else {
+            return DeviceAnswer::NoMemory;
+        };
+        let entry = Served {
+            call: copy,
+            reply: reply_of(self.alloc, value),
+        };
+        match self.log.push(entry) {
+            Ok(()) => DeviceAnswer::Replied(reply_of(self.alloc, value)),
+            Err(_) => DeviceAnswer::NoMemory,
+        }
+    }
+}
+
+/// A console that counts a fault at each call, and replies all the same.
+#[derive(Drop)]
+struct Complaining {
+    console: Console,
+    faults: u64,
+}
+
+impl Device for Complaining {
+    ghost title = { λ _. codes "console" };
+
+    ghost served = { λ c. c.console.log };
+
+    ghost fault_count = { λ c. c.faults };
+
+    fn name(&self) -> &str {
+        self.console.name()
+    }
+
+    fn log(&self) -> &[Served] {
+        self.console.log()
+    }
+
+    fn faults(&self) -> u64 {
+        self.faults
+    }
+
+    fn call(&mut self, call: &HostCall, memory: Option<&Memory>) -> DeviceAnswer {
+        self.faults = self.faults.saturating_add(1);
+        self.console.call(call, memory)
+    }
+}
+
+/// A kind of device.
+#[derive(Clone, Copy)]
+pub enum Kind {
+    Looking,
+    Counter,
+    Console,
+    /// A console whose second call fails.
+    FailingConsole,
+    Complaining,
+}
+
+impl Kind {
+    /// The name of its devices.
+    pub fn name(self) -> &'static str {
+        match self {
+            Kind::Looking => "memory",
+            Kind::Counter => "counter",
+            Kind::Console | Kind::FailingConsole | Kind::Complaining => "console",
+        }
+    }
+}
+
+fn new_looking(alloc: Global) -> Result<Box<dyn Device>, AllocError> {
+    let log = Items::new(alloc);
+    Ok(Box::new(alloc, Looking { alloc, log })?)
+}
+
+fn new_counter(alloc: Global) -> Result<Box<dyn Device>, AllocError> {
+    Ok(Box::new(alloc, Counter::new(alloc))?)
+}
+
+/// A console whose calls with these numbers fail.
+fn new_console(alloc: Global, failing: Vec<u64>) -> Result<Box<dyn Device>, AllocError> {
+    Ok(Box::new(alloc, Console::new(alloc, failing))?)
+}
+
+fn new_complaining(alloc: Global) -> Result<Box<dyn Device>, AllocError> {
+    let console = Console::new(alloc, Vec::new(alloc));
+    Ok(Box::new(alloc, Complaining { console, faults: 0 })?)
+}
+
+/// A new device of a kind.
+pub fn device_of(alloc: Global, kind: Kind) -> Result<Box<dyn Device>, AllocError> {
+    match kind {
+        Kind::Looking => new_looking(alloc),
+        Kind::Counter => new_counter(alloc),
+        Kind::Console => new_console(alloc, Vec::new(alloc)),
+        Kind::FailingConsole => new_console(alloc, vec![in alloc; 1]?),
+        Kind::Complaining => new_complaining(alloc),
+    }
+}
+
+/// A set of one device.
+pub fn set_of(alloc: Global, device: Box<dyn Device>) -> Option<DeviceSet>
+    ensures { IfSome result
+        (λ set. AreDistinct (names (⟦<DeviceSet as Devices>⟧.shown set))) }
+{
+    let mut devices = DeviceSet::new(alloc);
+    match devices.attach(device) {
+        Ok(_) => Some(devices),
+        Err(_) => None,
+    }
+}

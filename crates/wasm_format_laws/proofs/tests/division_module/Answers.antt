@@ -1,5 +1,0 @@
-use Rattle.wasm_format_laws.proofs.SampleModules.{built_is}
-use Rattle.wasm_format_laws.proofs.tests.division_module.Goals as goal
-
-pub new-requires : goal.new-requires
-new-requires c = built_is c.in_ok-parts.parts c.in_ok-parts.ensures
