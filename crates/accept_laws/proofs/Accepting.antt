@@ -17,7 +17,6 @@ use Rattle.wasm_syntax.specs.Sizes.{WithinLimits}
 use Rattle.wasm_syntax.specs.Static.{LiveAt}
 use Rattle.wasm_syntax.specs.Valid.{Valid, defined_index}
 use Rattle.wasm_laws.proofs.Lists.{some_is, all_of, at_of, get_inside}
-use Rattle.validate_body.proofs.Options.{then_inv}
 use Rattle.dump_format.specs.declared.dump.Frame.{Frame}
 use Rattle.dump_format.specs.declared.dump.Dump.{Dump}
 use Rattle.dump_format.specs.declared.dump.Instance.{Instance}
@@ -35,6 +34,7 @@ use Rattle.accept_laws.specs.Accepted.{IsAccepted}
 use Rattle.accept_laws.proofs.Held.{held, held_seen, held_frame, held_dump, below_32, below_64}
 use Rattle.accept_laws.proofs.HeldBytes.{instance_same, bytes_same}
 use Rattle.accept_laws.proofs.HeldMatches.{Holds, matches_held}
+use Rattle.wasm_laws.proofs.Validity.{then_found}
 
 -- ---- values
 
@@ -74,7 +74,7 @@ module _ (m : Module) (whole : IsModule m) (valid : Valid m) (limits : WithinLim
   small_function : (f : Frame) → FunctionFits m f → f.function < 2 ^ 32
   small_function f h =
       let is_of : IsOf m f h.0 h.1 = h.2 in
-      let t = then_inv (slice_get (function_types m) f.function) (λ t. slice_get m.types t) h.0 is_of.type_is in
+      let t = then_found (slice_get (function_types m) f.function) (λ t. slice_get m.types t) h.0 is_of.type_is in
       let inside = get_inside (function_types m) f.function t.0 t.1 in
       omega (arith, inside, limits.short.functions, length-append (map (λ i. i.ftype) m.imports) m.functions, length-map m.imports (λ i. i.ftype))
 
@@ -83,7 +83,7 @@ module _ (m : Module) (whole : IsModule m) (valid : Valid m) (limits : WithinLim
       let is_of : IsOf m f h.0 h.1 = h.2 in
       let live : LiveAt m h.0 h.1 f.offset h.3.0 = h.3.1 in
       let x : OpThere h.1 f.offset (instruction h.3.0.nodes) = there m whole valid f.function h.0 h.1 is_of.type_is is_of.body_is f.offset h.3.0 live in
-      let i = then_inv (defined_index m f.function) (slice_get m.bodies) h.1 is_of.body_is in
+      let i = then_found (defined_index m f.function) (slice_get m.bodies) h.1 is_of.body_is in
       let ops = at_of (λ body. AllByRecursion (λ o. o.at < 2 ^ 32) body.ops) m.bodies i.0 h.1 ranges.offsets i.2 in
       subst (λ n. n < 2 ^ 32) x.at_is (at_of (λ o. o.at < 2 ^ 32) h.1.ops x.number x.op ops x.there)
 

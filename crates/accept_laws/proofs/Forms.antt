@@ -17,7 +17,6 @@ use Rattle.wasm_syntax.specs.declared.instruction.Basic.TheVariants as basics
 use Rattle.wasm_syntax.specs.declared.instruction.Instr.{Instr}
 use Rattle.wasm_syntax.specs.declared.instruction.Instr.TheVariants as instr
 use Rattle.wasm_syntax.specs.Numbers.{IsValue}
-use Rattle.wasm_bytes.proofs.Places.{chosen}
 use Rattle.wasm_instructions.specs.declared.code.Code.{Code}
 use Rattle.wasm_instructions.specs.declared.code.Code.TheVariants.{Known, Float}
 use Rattle.wasm_instructions.specs.Spelled.{Spelled, alone, float}
@@ -25,6 +24,8 @@ use Rattle.wasm_instructions.specs.Form.{Form, bare, indexed, access, typed, lab
 use Rattle.wasm_instructions.specs.Table.{Rows, lookup, control, parametric, variable, load_rows, store_rows, sizes_and_constants, comparisons, unaries, operations, basic, tests_of, operators_of, floats, numeric_forms, rows_from, numeric, rows_near, form_of}
 use Rattle.wasm_instructions.specs.Grammar.{immediates, behind_opcode, instruction}
 use Rattle.wasm_format.specs.Expressions.{stand_in, code_of}
+use Rattle.wasm_instructions.proofs.Shortest.{signed_within}
+use Rattle.wasm_leb.proofs.Tools.{chosen}
 
 -- a constant is a number of its type
 abbrev pub BasicFine : Basic → Type 0
@@ -35,11 +36,6 @@ abbrev pub InstrFine : Instr → Type 0
 InstrFine (instr.Basic i) = BasicFine i
 InstrFine i = Unit {0}
 
-signed_within : (bits : ℕ) (bytes : List ℕ) (z : ℤ) → 0 < bits → IsSigned bits bytes z → IsWithin bits z
-signed_within bits [] z some s = absurd s
-signed_within bits (b ∷ []) z some s = elim s [
-  | inl p ↦ (omega (arith, ints, p.2), omega (arith, ints, p.1, p.2))
-  | inr p ↦ (omega (arith, ints, p.1, p.2, p.3), omega (arith, ints, p.1, p.3))
 ]
 signed_within bits (b ∷ c ∷ bs) z some s =
     let high = signed_within (bits - 7) (c ∷ bs) s.3 (omega (arith, s.2)) s.5 in

@@ -128,13 +128,6 @@ called_through C o t type w w' es n count r {now} {next} same some depth is take
 
 -- ---- what calls ask
 
-pub type_there : (m : Module) (f : ℕ) (type : FuncType) → type_at m f ≡ Some type → f < length (function_types m)
-type_there m f type e = by (slice_get (function_types m) f) refl e
-  where
-    by : (q : Option ℕ) → slice_get (function_types m) f ≡ q → option_then q (λ t. slice_get m.types t) ≡ Some type → f < length (function_types m)
-    by None is e = absurd (let none : ◌≡◌ {A = Option FuncType} None (Some type) = e in cc)
-    by (Some t) is e = slice_get_within (function_types m) f t is
-
 pub empty : (es : List Place) → length es ≡ 0 → es ≡ []
 empty [] e = refl
 empty (p ∷ es) e = absurd (omega (arith, e))

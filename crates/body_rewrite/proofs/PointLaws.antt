@@ -25,9 +25,8 @@ use Rattle.body_rewrite.specs.declared.points.Point.{Point}
 use Rattle.body_rewrite.specs.declared.points.Point.TheVariants as points
 use Rattle.body_rewrite.specs.Numbers.{Helped, AllHelped}
 use Rattle.body_rewrite.specs.Points.{EndsAt, Advances, Resumes, IsBehind, Holds, BeforeLast, code_in, is_last}
-
-pub code_length : (targets : List ℕ) (ops : List Op) → length (code_of targets ops) ≡ length ops
-code_length targets ops = length-map ops (λ (o : Op). placed o.at (item_of targets o.code))
+use Rattle.rewrite_modules.proofs.Multiple.{code_length}
+use Rattle.rewrite_bodies.proofs.Control.{grown_longer}
 
 -- ---- at the end of a list
 
@@ -42,10 +41,6 @@ block_open C code start whole pc w now lt r = by w.opens r.dues r.leaves.code_is
         absurd (omega (arith, lt, length-drop pc code, ap length one))
     by [] (before_else at other end rest ∷ ds) e around = absurd around
     by (x ∷ xs) dues e around = omega arith
-
-grown_longer : (t : Option ValType) (es : List Place) → length es ≤ length (grown t es)
-grown_longer None es = omega arith
-grown_longer (Some t) es = omega arith
 
 -- the operands below an open block have slots
 pub saved_room : (C : Ctx) (code : List Placed) (start : Written) (whole : Nodes) (pc : ℕ) (w : Walking) (now : Written) → Left C code start whole pc w now → (x : OpenBlock) (others : List OpenBlock) → w.opens ≡ x ∷ others →

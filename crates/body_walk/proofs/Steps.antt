@@ -20,6 +20,7 @@ use Rattle.body_walk.specs.Labels.{info}
 use Rattle.body_walk.specs.Walking.{Walking, walking, with_places, opened, infos, at_start, opening, behind_block, alternating_in, alternating, closing_in, closing}
 use Rattle.body_walk.specs.Standing.{Due, before_end, before_else, flat, after_instr, Armed, labels_in, Fine, IsLast, Around, rest_of, due, Stands, Leaves, Comes, Rewrites, Left}
 use Rattle.body_walk.proofs.Shapes.{Begins, Shape, shape}
+use Rattle.rewrite_bodies.proofs.Control.{grown_longer}
 
 -- ---- lengths of written code
 
@@ -472,10 +473,6 @@ module _ (C : Ctx) (code : List Placed) (start : Written) (whole : Nodes) where
           absurd (omega (arith, one, ap length e, written_longer other (placed end End ∷ write rest (flat ds)), longer C rest xs ds around.2))
 
 -- ---- what lies below the innermost block
-
-grown_longer : (t : Option ValType) (es : List Place) → length es ≤ length (grown t es)
-grown_longer None es = omega arith
-grown_longer (Some t) es = omega arith
 
 -- has slots
 pub below_fits : (C : Ctx) (code : List Placed) (pc : ℕ) (w : Walking) (dues : List Due) (block_ : OpenBlock) (others : List OpenBlock) → Leaves C code pc w dues → w.opens ≡ block_ ∷ others →

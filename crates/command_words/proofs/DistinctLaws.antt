@@ -7,6 +7,7 @@ use Rattle.std.specs.Option.{option_map}
 use Rattle.std.specs.Prelude.{if◌then◌else◌}
 use Rattle.std.specs.Str.{bytes_eq}
 use Rattle.command_words.specs.Reading.{Word, is_among, is_distinct}
+use Rattle.std.proofs.lemmas.Bool.{and_parts, or_parts}
 
 same_turned : (v w : Word) → bytes_eq v w ≡ bytes_eq w v
 same_turned v w = nat_list_eq_equiv.symm v w
@@ -21,20 +22,12 @@ first_new true d s e f = e
 first_new false d true e f = absurd cc
 first_new false d false e f = e
 
-split_and : (a b : Bool) → (a && b) ≡ true → (a ≡ true) × (b ≡ true)
-split_and true b e = (refl, e)
-split_and false b e = absurd cc
-
-split_or : (a b : Bool) → (a || b) ≡ false → (a ≡ false) × (b ≡ false)
-split_or true b e = absurd cc
-split_or false b e = (refl, e)
-
 -- a new word may stand behind different ones
 pub distinct_more : (words : List Word) (w : Word) → is_distinct words ≡ true → is_among words w ≡ false → is_distinct (words ++ w ∷ []) ≡ true
 distinct_more [] w e new = refl
 distinct_more (v ∷ words) w e new =
-    let parts = split_and (not (is_among words v)) (is_distinct words) e in
-    let others = split_or (bytes_eq v w) (is_among words w) new in
+    let parts = and_parts (not (is_among words v)) (is_distinct words) e in
+    let others = or_parts (bytes_eq v w) (is_among words w) new in
     let later : is_distinct (words ++ w ∷ []) ≡ true = distinct_more words w parts.1 others.1 in
     let other : bytes_eq w v ≡ false = same_turned w v ∙ others.0 in
     rw (among_front words (w ∷ []) v, later) (first_new (is_among words v) true (bytes_eq w v) (rw parts.0 refl) other)

@@ -44,11 +44,7 @@ use Rattle.run_command.specs.declared.scripts.Asked.TheVariants.{Read, Refused}
 use Rattle.cover_command.specs.CoverAnswer.{ModuleAnswer, CoverAnswer, IsReadBy}
 use Rattle.cover_command.specs.Stops.{CoverStops}
 use Rattle.cover_command.specs.inner.Steps.{IsAnswered, ScriptAnswer, BytesAnswer, SourceAnswer, ModuleStops, ScriptStops, BytesStops, SourceStops, StepStops}
-
--- nothing was written
-none_held : (told : Option Contents) → OnTold (HoldThen []) told told
-none_held None = tt
-none_held (Some held) = λ name. refl
+use Rattle.run_session.proofs.Held.{none_held}
 
 -- ---- results
 

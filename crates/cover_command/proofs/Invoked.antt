@@ -55,17 +55,9 @@ use Rattle.cover_command.specs.CoverAnswer.{covered_run, covered_places, finishe
 use Rattle.cover_command.specs.Stops.{CoversFor}
 use Rattle.cover_command.specs.inner.Running.{Came, TellsCounts, AnswersEnd}
 use Rattle.cover_command.specs.inner.Steps.{IsAnswered, ModuleStops}
+use Rattle.machine_hosted.proofs.WatchLaws.{admits_none}
 
 -- ---- numbers of steps
-
-admits : (a : RunEnd) → AdmitsReplies a []
-admits (Finished v) = tt
-admits (Trapped kind) = tt
-admits NoReply = refl
-admits (BadReply reply) = tt
-admits (DeviceFault device) = refl
-admits FuelSpent = tt
-admits NoMemory = tt
 
 all_steps : (a : RunEnd) (fuel steps : ℕ) → (a ≡ NoMemory → ⊥) → given_steps a fuel steps ≡ fuel
 all_steps (Finished v) fuel steps some = refl
@@ -213,7 +205,7 @@ module _ (before after : List DeviceState) (script : Option (List Reply)) (w : C
   given = inv.came.asked.given
 
   r : InvocationCame p s.prepared.codes.items (is_used_up h1) (invoking (engine p false w.depth) s.due f w.called.args (world_of s.machine [])) w.fuel inv.came.asked a inv.made s'.ready s'.entered s'.machine []
-  r = inv.came.came [] (admits a)
+  r = inv.came.came [] (admits_none a)
 
   abbrev within_steps : ℕ
   within_steps = given_steps a w.fuel inv.made

@@ -14,6 +14,7 @@ use Rattle.cover_command.specs.SourceLines.{SourceLine, line_cmp, is_line}
 use Rattle.cover_command.specs.inner.Merging.{file_line_cmp, seen_line, seen_counts, at_line, counted_on, HaveSteps, spot_line, merged}
 use Rattle.cover_command.specs.declared.merging.FileLine.{FileLine}
 use Rattle.cover_command.proofs.Orders.{ties, same_line, alike}
+use Rattle.run_session.proofs.Tellings.{plus_none}
 
 -- ---- the order of the map is that of the lines
 
@@ -62,9 +63,6 @@ before_at m k q e = alike (at_line q) (is_at (file_line_cmp k)) (at_key q k e) m
 more_there : (was sum n : ℕ) → sum ≡ min (was + n) (2 ^ 64 - 1) → was + n < 2 ^ 64 → sum ≡ was + n
 more_there was sum n e room = omega (arith, e, room)
 
-none_more : (n : ℕ) → n ≡ n + 0
-none_more n = omega arith
-
 pub added : (m n : BTreeMap FileLine ℕ) (k : FileLine) (steps sum : ℕ) → Updates file_line_cmp m n k (Some sum) → sum ≡ min (unwrap_or (get file_line_cmp m k) 0 + steps) (2 ^ 64 - 1)
     → (q : SourceLine) → counted_on m q + (if is_line q (seen_line k) then steps else 0) < 2 ^ 64 → counted_on n q ≡ counted_on m q + (if is_line q (seen_line k) then steps else 0)
 added m n k steps sum up is q = by (at_line q k) refl where
@@ -76,7 +74,7 @@ added m n k steps sum up is q = by (at_line q k) refl where
       now ∙ more_there (counted_on m q) sum steps (is ∙ ap (λ x. min (x + steps) (2 ^ 64 - 1)) (sym there)) small ∙ sym (ap (λ b. counted_on m q + (if b then steps else 0)) e)
   by false e room =
       ap (λ o. unwrap_or o 0) (updated m n k sum up q ∙ ap (λ b. cond b (Some sum) (lookup (at_line q) m.entries)) e)
-      ∙ none_more (counted_on m q) ∙ sym (ap (λ b. counted_on m q + (if b then steps else 0)) e)
+      ∙ plus_none (counted_on m q) ∙ sym (ap (λ b. counted_on m q + (if b then steps else 0)) e)
 
 more_than : (was sum n : ℕ) → 0 < n → sum ≡ min (was + n) (2 ^ 64 - 1) → 0 < sum
 more_than was sum n some e = omega (arith, some, e)
@@ -137,7 +135,7 @@ adds_next tables lines at l k m n lt is seen on some so_far =
     }
 
 pub all_added : (tables : List Lines) (lines : List LineCount) (at : ℕ) (m : BTreeMap FileLine ℕ) → length lines ≤ at → AddsUp tables lines at m → (q : SourceLine) → merged tables lines q < 2 ^ 64 → counted_on m q ≡ merged tables lines q
-all_added tables lines at m le so_far q small = none_more (counted_on m q) ∙ ap (λ ls. counted_on m q + merged tables ls q) (sym (drop_all at lines le)) ∙ so_far.sums q small
+all_added tables lines at m le so_far q small = plus_none (counted_on m q) ∙ ap (λ ls. counted_on m q + merged tables ls q) (sym (drop_all at lines le)) ∙ so_far.sums q small
 
 -- ---- the line programs by their numbers
 

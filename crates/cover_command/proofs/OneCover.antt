@@ -27,6 +27,7 @@ use Rattle.cover_command.specs.SourceLines.{SourceLine, source_line}
 use Rattle.cover_command.specs.CoverText.{CoverText, count_text, sums_text}
 use Rattle.cover_command.specs.CoverAnswer.{covered_run, covered_places, Tells, EndsAs, CoversTo, ModuleAnswer, CoverAnswer, called}
 use Rattle.cover_command.proofs.Orders.{one_counts}
+use Rattle.wasm_laws.proofs.Lists.{some_is}
 
 -- a module is that of at most one program
 abbrev pub OneProgram : Type 0
@@ -55,9 +56,6 @@ one_end names imports fitted fell got_stuck a b x y = absurd x
 
 -- ---- the invocation
 
-some_is : {A : Type 0} {x y : A} → Some x ≡ Some y → x ≡ y
-some_is e = cc
-
 module _ (one : OneProgram) (before after : List DeviceState) (script : Option (List Reply)) (w : CoverWords) (lines : List (ℕ × LineProgram)) (m : Module) (given : List Served) (a b : Outcome)
     (x : CoversTo before after script w lines m given a) (y : CoversTo before after script w lines m given b) where
   same_program : x.program ≡ y.program
@@ -80,7 +78,7 @@ module _ (one : OneProgram) (before after : List DeviceState) (script : Option (
       (subst (λ (ps : List (Option Place)). EndsAs (names before) m.imports (length y.ran.served) (map (source_line lines m) ps) y.ran.outcome a) same_places
       (subst (λ (r : Ran). EndsAs (names before) m.imports (length r.served) (map (source_line lines m) x.places) r.outcome a) same_ran x.answer)) y.answer
 
-agree_starts : (cause : Option (List ℕ)) (P Q : Type 0) (a b : Outcome) → (P → Q → a ≡ b) → StartsOr cause P a → StartsOr cause Q b → a ≡ b
+pub agree_starts : (cause : Option (List ℕ)) (P Q : Type 0) (a b : Outcome) → (P → Q → a ≡ b) → StartsOr cause P a → StartsOr cause Q b → a ≡ b
 agree_starts (Some cause) P Q a b agree pa qb = pa ∙ sym qb
 agree_starts None P Q a b agree pa qb = agree pa qb
 

@@ -17,6 +17,8 @@ use Rattle.std.proofs.lemmas.Map.Keys.{IsDistinct-from_sorted, sorted_tail}
 use Rattle.std.proofs.lemmas.Cmp.{nat_cmp_total, nat_list_cmp_total, then_total, eq_by_cmp_equiv, tied_itself}
 use Rattle.std.proofs.lemmas.Slice.Eq.{bytes_eq-Decides}
 use Rattle.cover_command.specs.SourceLines.{SourceLine, line_cmp, is_line}
+use Rattle.wasm_laws.proofs.Lists.{some_is}
+use Rattle.dwarf_abbrev.proofs.Places.{is_eq_at}
 
 -- ---- the same line
 
@@ -25,16 +27,8 @@ then_eq Less r = refl
 then_eq Equal r = refl
 then_eq Greater r = refl
 
-number_eq : (x y : ℕ) → is_eq (nat_cmp x y) ≡ eqb x y
-number_eq x y = by (ltb x y) (eqb x y) refl refl where
-  by : (a b : Bool) → ltb x y ≡ a → eqb x y ≡ b → is_eq (cond (ltb x y) Less (cond (eqb x y) Equal Greater)) ≡ eqb x y
-  by true true e f = absurd (grind (arith, e, f))
-  by true false e f = rw (e, f) refl
-  by false true e f = rw (e, f) refl
-  by false false e f = rw (e, f) refl
-
 pub ties : (a b : SourceLine) → is_eq (line_cmp a b) ≡ is_line a b
-ties a b = then_eq (slice_cmp nat_cmp a.file b.file) (nat_cmp a.line b.line) ∙ ap₂ (λ x y. x && y) (is_eq-slice_cmp a.file b.file) (number_eq a.line b.line)
+ties a b = then_eq (slice_cmp nat_cmp a.file b.file) (nat_cmp a.line b.line) ∙ ap₂ (λ x y. x && y) (is_eq-slice_cmp a.file b.file) (is_eq_at a.line b.line)
 
 pub same_line : (a b : SourceLine) → is_line a b ≡ true → a ≡ b
 same_line a b e = by (bytes_eq a.file b.file) (eqb a.line b.line) (bytes_eq-Decides a.file b.file) refl e where
@@ -88,9 +82,6 @@ behind c d cs ds sc sd at same q = by (is_eq (line_cmp q c.0)) refl where
   by : (b : Bool) → is_eq (line_cmp q c.0) ≡ b → number_at q cs ≡ number_at q ds
   by true e = none_behind c cs sc q e ∙ sym (none_behind d ds sd q (ap (λ k. is_eq (line_cmp q k)) (sym at) ∙ e))
   by false e = sym (lookup_tail (is_at (line_cmp q)) c cs e) ∙ same q ∙ lookup_tail (is_at (line_cmp q)) d ds (ap (λ k. is_eq (line_cmp q k)) (sym at) ∙ e)
-
-some_is : {A : Type 0} {x y : A} → Some x ≡ Some y → x ≡ y
-some_is e = cc
 
 -- the same numbers make the same list
 one_list : (cs ds : Counts) → IsStrictlySortedBy line_cmp (keys_of cs) → IsStrictlySortedBy line_cmp (keys_of ds) → ((q : SourceLine) → number_at q cs ≡ number_at q ds) → cs ≡ ds

@@ -10,9 +10,7 @@ use Rattle.wasm_machine.specs.Instances.{State, IsOf, Invoked}
 use Rattle.wasm_machine.specs.Watching.{Seen}
 use Rattle.run_words.specs.declared.cover.CoverWords.{CoverWords}
 use Rattle.cover_command.specs.inner.Running.{Came}
-
-some_is : {A : Type 0} {x y : A} → Some x ≡ Some y → x ≡ y
-some_is e = cc
+use Rattle.wasm_laws.proofs.Lists.{some_is}
 
 -- what is known of the run and what is known of the counts are of the same function
 pub joined : (w : CoverWords) (collecting : Bool) (used_up : Import → Bool) (s s' : State) (a : RunEnd) (t t' : Counts) (old new : Calls) (entry : List ℕ) (args : List Value) (L : ℕ → Type 0)

@@ -43,12 +43,12 @@ dump_refused told w bytes file input o named is x =
 
 -- ---- the module, and then the dump
 
-any_contents : (told : Option Contents) (P : Contents → Type 0) → ((held : Contents) → P held) → OnContents told P
+pub any_contents : (told : Option Contents) (P : Contents → Type 0) → ((held : Contents) → P held) → OnContents told P
 any_contents None P h = record { files = λ name. None; may = tt; holds = h (λ name. None) }
 any_contents (Some held) P h = record { files = held; may = refl; holds = h held }
 
 -- what comes behind stands on other contents
-then_contents : {A : Type 0} (told : Option Contents) (r : Result A Outcome) (P : Contents → A → Outcome → Type 0) (o : Outcome) → Then r (λ x p. OnContents told (λ later. P later x p)) o → OnContents told (λ later. Then r (P later) o)
+pub then_contents : {A : Type 0} (told : Option Contents) (r : Result A Outcome) (P : Contents → A → Outcome → Type 0) (o : Outcome) → Then r (λ x p. OnContents told (λ later. P later x p)) o → OnContents told (λ later. Then r (P later) o)
 then_contents told (Ok x) P o h = h
 then_contents told (Err refusal) P o h = any_contents told (λ later. o ≡ refusal) (λ later. h)
 

@@ -30,9 +30,7 @@ use Rattle.debug_subject.specs.Texts.{IsOperandsText}
 use Rattle.debugger.specs.Session.{AreOperands, Prints, PrintsAll, chosen_behind}
 use Rattle.debug_command.specs.declared.words.DebugWords.{DebugWords}
 use Rattle.debug_command.specs.Answer.{mismatched, IsTold, DumpAnswer, IfDump, DebugAnswer}
-
-some_is : {A : Type 0} {x y : A} → Some x ≡ Some y → x ≡ y
-some_is e = cc
+use Rattle.wasm_laws.proofs.Lists.{some_is}
 
 -- ---- how many operands a frame shows
 

@@ -11,7 +11,7 @@ words_split text p h =
     let s = split_once_first 32 text (Some p) h (omega arith) in
     slice_split_first (λ b. eqb b 32) text 0 s.0 ∙ ap₂ (λ word rest. word ∷ slice_split (λ b. eqb b 32) rest) (sym s.1) (sym s.2)
 
-none_split : (p : ℕ → Bool) (xs : List ℕ) → position_or_len p xs ≡ length xs → slice_split p xs ≡ xs ∷ []
+pub none_split : (p : ℕ → Bool) (xs : List ℕ) → position_or_len p xs ≡ length xs → slice_split p xs ≡ xs ∷ []
 none_split p [] e = refl
 none_split p (x ∷ xs) e = by_test (p x) refl (λ e'. none_split p xs e')
   where

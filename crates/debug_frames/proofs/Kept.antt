@@ -6,6 +6,7 @@ use Rattle.indexmap.specs.IndexMap.{insert_entry}
 use Rattle.dwarf_info.specs.Sections.{SectionBytes5}
 use Rattle.debug_frames.specs.declared.programs.Program.{Program}
 use Rattle.debug_frames.specs.Programs.{program_at, program_there, with_program}
+use Rattle.wasm_decode.proofs.NameLaws.{copied_none}
 
 appended : (at : ℕ) (program : Program) (programs : List (ℕ × Program)) → program_at programs at ≡ None → insert_entry nat_eq programs at program ≡ programs ++ (at, program) ∷ []
 appended at program [] h = refl
@@ -13,10 +14,6 @@ appended at program (p ∷ programs) h = by (nat_eq at p.0) h (appended at progr
   by : (b : Bool) → cond b (Some p.1) (program_at programs at) ≡ None → (program_at programs at ≡ None → insert_entry nat_eq programs at program ≡ programs ++ (at, program) ∷ []) → (if b then (p.0, program) ∷ programs else p ∷ insert_entry nat_eq programs at program) ≡ p ∷ (programs ++ (at, program) ∷ [])
   by true h rest = absurd cc
   by false h rest = ap (λ (t : List (ℕ × Program)). p ∷ t) (rest h)
-
-copied_none : {A : Type 0} (o : Option (Bor A)) (none : Bool) → is_some o ≡ not none → none ≡ true → option_copied o ≡ None
-copied_none None none h t = refl
-copied_none (Some x) none h t = let both : true ≡ not true = h ∙ ap not t in absurd cc
 
 -- what an insertion leaves, where the map had no such offset
 pub kept_new : (s : SectionBytes5) (before after : List (ℕ × Program)) (at : ℕ) (program : Program) (o : Option (Bor Program)) (none : Bool) → option_copied o ≡ program_at before at → is_some o ≡ not none → none ≡ true → program ≡ program_there s at → after ≡ insert_entry nat_eq before at program

@@ -19,6 +19,7 @@ use Rattle.dump_match.specs.Matching.{MemoryFits}
 use Rattle.dump_match.specs.States.{MatchesState}
 use Rattle.debug_recorded.specs.Recorded.{laid_memory, memory_in, memory_among, recorded_memory}
 use Rattle.debug_subject.specs.Subject.{Spells}
+use Rattle.wasm_laws.proofs.Lists.{some_is}
 
 -- ---- bytes that spell a module
 
@@ -35,9 +36,6 @@ short_bytes bytes m e = by_length (greatest ModuleBytes) (length bytes) (Limit M
 small_laid : (segments : List Region) (o : Option ℕ) → ((pages : ℕ) → o ≡ Some pages → pages ≤ 4096) → IfSome (option_map (λ pages. laid_memory pages segments) o) (λ m. m.max ≤ 4096)
 small_laid segments None h = tt
 small_laid segments (Some pages) h = h pages refl
-
-some_is : {A : Type 0} {x y : A} → Some x ≡ Some y → x ≡ y
-some_is e = cc
 
 small_in : (m : Module) (dump : Dump) (one : Instance) (memories : List ℕ) → one.memories ≡ memories → MemoryFits m dump one → IfSome (memory_in dump memories) (λ m. m.max ≤ 4096)
 small_in m dump one [] e fits = tt

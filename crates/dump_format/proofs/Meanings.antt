@@ -8,7 +8,6 @@ use Rattle.wasm_syntax.specs.declared.quantity.Quantity.TheVariants.{DumpBytes, 
 use Rattle.wasm_syntax.specs.Quantity.{greatest}
 use Rattle.wasm_bytes.specs.Reading.{whole}
 use Rattle.wasm_bytes.specs.Laws.{IsBytes}
-use Rattle.wasm_bytes.proofs.Places.{chosen}
 use Rattle.dump_format.specs.declared.dump.Dump.{Dump}
 use Rattle.dump_format.specs.declared.fault.DumpPart.{DumpPart}
 use Rattle.dump_format.specs.declared.fault.DumpFault.{DumpFault}
@@ -20,6 +19,7 @@ use Rattle.dump_format.specs.Decode.{judged_parts, dump_from, Answers}
 use Rattle.dump_format.specs.Meaning.{IsSpelled, page_count, frame_count, IsDump, BreaksAt, HasFloatAt, HasSeveral, IsOver, PassesLimit, Exactly}
 use Rattle.dump_format.proofs.ExactSections.{parts_found, parts_read}
 use Rattle.dump_format.proofs.StopsSections.{parts_stop, parts_stopped}
+use Rattle.wasm_leb.proofs.Tools.{chosen}
 
 abbrev dumped : Dump → Result Dump DumpFault
 dumped d = Ok d

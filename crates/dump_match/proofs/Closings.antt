@@ -5,13 +5,13 @@ use Rattle.wasm_syntax.specs.declared.instruction.Op.{Op}
 use Rattle.wasm_syntax.specs.declared.parts.Body.{Body}
 use Rattle.wasm_syntax.specs.declared.module.ModuleParts.{ModuleParts as Module}
 use Rattle.wasm_syntax.specs.Valid.{Valid}
-use Rattle.wasm_laws.proofs.Progress.{some_is}
 use Rattle.wasm_validate.specs.Heights.{body_of}
 use Rattle.dump_format.specs.declared.dump.Frame.{Frame}
 use Rattle.dump_match.specs.Frames.{IsOf, FunctionFits}
 use Rattle.dump_match.specs.States.{AtClose, ClosesAt, SomeClosesAt}
 use Rattle.dump_match.specs.inner.Decides.{Decides}
 use Rattle.dump_match.proofs.Spots.{defined_fits}
+use Rattle.wasm_laws.proofs.Lists.{some_is}
 
 -- what was looked at so far, and one more
 pub one_more : (ops : List Op) (at i : ℕ) → ((k : ℕ) → k < i → ClosesAt ops k at → ⊥) → (ClosesAt ops i at → ⊥) → (k : ℕ) → k < i + 1 → ClosesAt ops k at → ⊥

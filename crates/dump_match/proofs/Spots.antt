@@ -20,14 +20,12 @@ use Rattle.wasm_syntax.specs.FlatTyping.{OpenBlock, opened, inside, BeginsNode, 
 use Rattle.wasm_syntax.specs.Machine.{offset_in}
 use Rattle.wasm_syntax.specs.Static.{Spot, Live, IsNode, LiveAt, Static}
 use Rattle.wasm_syntax.specs.Valid.{Valid, FuncTypeFine, BodyFine, There, defined_index}
-use Rattle.wasm_laws.proofs.Progress.{some_is}
-use Rattle.wasm_laws.proofs.Lists.{there_at, at_of as in_list}
+use Rattle.wasm_laws.proofs.Lists.{there_at, at_of as in_list, some_is}
 use Rattle.wasm_laws.proofs.Unique.{one_tree}
 use Rattle.wasm_laws.proofs.Live.{one_static}
 use Rattle.wasm_laws.proofs.FlatBodies.{Gives, inside_body}
 use Rattle.wasm_laws.proofs.FlatStatic.{live_front}
-use Rattle.wasm_laws.proofs.FlatOne.{to_tree}
-use Rattle.validate_body.proofs.Options.{then_inv}
+use Rattle.wasm_laws.proofs.FlatOne.{to_tree, get_front_end}
 use Rattle.validate_body.proofs.Through.{first_gives}
 use Rattle.wasm_validate.specs.Heights.{body_of, HeightIs, TypesAt}
 use Rattle.wasm_validate.specs.Instructions.{is_node, OpIs}
@@ -39,13 +37,10 @@ use Rattle.dump_match.specs.Frames.{IsOf, StandsAt, instruction, taken, shown, O
 use Rattle.dump_match.specs.inner.Decides.{Decides}
 use Rattle.dump_match.specs.inner.Stands.{CodeIs, Stands, count_shown}
 use Rattle.dump_match.proofs.ValueLaws.{take_reverse, take_all}
+use Rattle.wasm_laws.proofs.Validity.{then_found}
+use Rattle.wasm_validate.proofs.OffsetLaws.{least_at}
 
 -- ---- one instruction at each offset
-
-least_at : (least : ℕ) (ops : List Op) (k : ℕ) (b : Op) → Ascend least ops → slice_get ops k ≡ Some b → least ≤ b.at
-least_at least [] k b a e = absurd (cc)
-least_at least (o ∷ os) zero b a e = subst (λ x. least ≤ x.at) (some_is e) a.0
-least_at least (o ∷ os) (suc k) b a e = let r = least_at (suc o.at) os k b a.1 e in omega (arith, r, a.0)
 
 one_op : (least : ℕ) (ops : List Op) (j k : ℕ) (a b : Op) → Ascend least ops → slice_get ops j ≡ Some a → slice_get ops k ≡ Some b → a.at ≡ b.at → a ≡ b
 one_op least [] j k a b h e f q = absurd (cc)
@@ -92,10 +87,6 @@ item_node targets (instr.If t) e = tt
 item_node targets instr.Else e = absurd (cc)
 item_node targets instr.End e = absurd (cc)
 
-get_behind : (xs ys : List Placed) → slice_get (xs ++ ys) (length xs) ≡ slice_get ys zero
-get_behind [] ys = refl
-get_behind (x ∷ xs) ys = get_behind xs ys
-
 -- an item of the flat code is that of an instruction
 pub record OpThere (body : Body) (at : ℕ) (item : Item) : Type 0 where
   pub number : ℕ
@@ -137,7 +128,7 @@ module _ (m : Module) (type : FuncType) (body : Body) (result : Option ValType) 
       let live : Live (inside c (start ∷ [])) nodes [] [] s = subst (λ z. Live z nodes [] [] s) (sym context_is) (subst (λ t. Live c t.nodes [] [] s) tree h.live) in
       let f = live_front c nodes start [] (option_to_list result) (placed is_body.tree.end End ∷ []) [] s is_body.writes.arms tt typed live h.node in
       let split : code ≡ f.front ++ write s.nodes f.rest = is_body.writes.out ∙ f.splits in
-      let at_front : slice_get code (length f.front) ≡ Some (placed (offset_in s.nodes 0) (instruction s.nodes)) = ap (λ z. slice_get z (length f.front)) split ∙ get_behind f.front (write s.nodes f.rest) ∙ first_item s.nodes f.rest h.node in
+      let at_front : slice_get code (length f.front) ≡ Some (placed (offset_in s.nodes 0) (instruction s.nodes)) = ap (λ z. slice_get z (length f.front)) split ∙ get_front_end f.front (write s.nodes f.rest) ∙ first_item s.nodes f.rest h.node in
       let x = op_there body.targets body.ops (length f.front) (offset_in s.nodes 0) (instruction s.nodes) at_front in
       record { number = length f.front; op = x.0; there = x.1; at_is = x.2 ∙ h.at; item_is = x.3 }
 
@@ -158,15 +149,15 @@ module _ (m : Module) (type : FuncType) (body : Body) (result : Option ValType) 
 
 module _ (m : Module) (whole : IsModule m) (valid : Valid m) (f : ℕ) where
   gives_of : (type : FuncType) → type_at m f ≡ Some type → Gives type (slice_get type.results 0)
-  gives_of type e = let t = then_inv (slice_get (function_types m) f) (λ t. slice_get m.types t) type e in first_gives type.results (there_at FuncTypeFine m.types t.0 type (valid (TypeAt t.0)) t.2)
+  gives_of type e = let t = then_found (slice_get (function_types m) f) (λ t. slice_get m.types t) type e in first_gives type.results (there_at FuncTypeFine m.types t.0 type (valid (TypeAt t.0)) t.2)
 
   module _ (type : FuncType) (body : Body) (type_is : type_at m f ≡ Some type) (body_is : body_of m f ≡ Some body) where
     pub order_of : InOrder body
-    order_of = let i = then_inv (defined_index m f) (slice_get m.bodies) body body_is in in_list InOrder m.bodies i.0 body whole.in_order i.2
+    order_of = let i = then_found (defined_index m f) (slice_get m.bodies) body body_is in in_list InOrder m.bodies i.0 body whole.in_order i.2
 
     pub body_there : IsBody m type body (code_of body.targets body.ops)
     body_there =
-        let i = then_inv (defined_index m f) (slice_get m.bodies) body body_is in
+        let i = then_found (defined_index m f) (slice_get m.bodies) body body_is in
         let fine : BodyFine m f body = there_at (BodyFine m f) m.bodies i.0 body (subst (λ x. IfSome x (λ j. There m.bodies j (BodyFine m f))) i.1 (valid (Function f 0))) i.2 in
         let q : fine.0 ≡ type = some_is (sym fine.1 ∙ type_is) in
         subst (λ x. IsBody m x body (code_of body.targets body.ops)) q fine.2
@@ -300,7 +291,7 @@ module _ (m : Module) (f : Frame) (x : Stand) (st : Stands m f x) where
 
 pub defined_fits : (m : Module) (f : Frame) (body : Body) → Valid m → body_of m f.function ≡ Some body → FunctionFits m f
 defined_fits m f body valid e =
-    let i = then_inv (defined_index m f.function) (slice_get m.bodies) body e in
+    let i = then_found (defined_index m f.function) (slice_get m.bodies) body e in
     let fine : BodyFine m f.function body = there_at (BodyFine m f.function) m.bodies i.0 body (subst (λ x. IfSome x (λ j. There m.bodies j (BodyFine m f.function))) i.1 (valid (Function f.function 0))) i.2 in
     (fine.0, body, record { type_is = fine.1; body_is = e }, tt)
 

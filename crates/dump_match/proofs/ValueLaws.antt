@@ -7,24 +7,21 @@ use Rattle.wasm_syntax.specs.declared.value.Seen.{Seen}
 use Rattle.wasm_syntax.specs.Numbers.{same_type}
 use Rattle.wasm_syntax.specs.declared.parts.LocalGroup.{LocalGroup}
 use Rattle.wasm_syntax.specs.Module.{same_types, declared_locals}
-use Rattle.wasm_laws.proofs.Progress.{some_is}
 use Rattle.dump_match.specs.Values.{has_type, have_types, can_be}
-
-pub and_false : (b : Bool) → (b && false) ≡ false
-and_false true = refl
-and_false false = refl
+use Rattle.std.proofs.Math.Bool.{and-false}
+use Rattle.wasm_laws.proofs.Lists.{some_is}
 
 pub other_count : (ts us : List ValType) → length ts ≢ length us → same_types ts us ≡ false
 other_count [] [] h = absurd (h refl)
 other_count [] (u ∷ us) h = refl
 other_count (t ∷ ts) [] h = refl
-other_count (t ∷ ts) (u ∷ us) h = ap (λ z. same_type t u && z) (other_count ts us (λ e. h (ap suc e))) ∙ and_false (same_type t u)
+other_count (t ∷ ts) (u ∷ us) h = ap (λ z. same_type t u && z) (other_count ts us (λ e. h (ap suc e))) ∙ and-false (same_type t u)
 
 pub other_length : (ts : List ValType) (vs : List Seen) → length ts ≢ length vs → have_types ts vs ≡ false
 other_length [] [] h = absurd (h refl)
 other_length [] (v ∷ vs) h = refl
 other_length (t ∷ ts) [] h = refl
-other_length (t ∷ ts) (v ∷ vs) h = ap (λ z. has_type t v && z) (other_length ts vs (λ e. h (ap suc e))) ∙ and_false (has_type t v)
+other_length (t ∷ ts) (v ∷ vs) h = ap (λ z. has_type t v && z) (other_length ts vs (λ e. h (ap suc e))) ∙ and-false (has_type t v)
 
 and_assoc : (a b c : Bool) → ((a && b) && c) ≡ (a && (b && c))
 and_assoc true b c = refl
@@ -44,7 +41,7 @@ too_few [] us vs h = absurd (omega (arith, h))
 too_few (t ∷ ts) us [] h = refl
 too_few (t ∷ ts) us (v ∷ vs) h =
     let lt : length vs < length ts = omega (arith, h) in
-    ap (λ z. has_type t v && z) (too_few ts us vs lt) ∙ and_false (has_type t v)
+    ap (λ z. has_type t v && z) (too_few ts us vs lt) ∙ and-false (has_type t v)
 
 pub filled : (vs : List Seen) (ts : List ValType) → (length vs == 0) ≡ false → can_be ts vs ≡ have_types ts vs
 filled [] ts h = absurd (cc)

@@ -15,12 +15,12 @@ one_or_more : (b : Bool) (k : ℕ) (xs ys : List ℕ) → length xs ≤ k → le
 one_or_more true k xs ys one more = one
 one_or_more false k xs ys one more = more
 
-unsigned_long : (k n : ℕ) → length (unsigned_groups k n) ≤ suc k
+pub unsigned_long : (k n : ℕ) → length (unsigned_groups k n) ≤ suc k
 unfolding unsigned_groups
 unsigned_long zero n = omega arith
 unsigned_long (suc k) n = one_or_more (nat_lt n 128) (suc (suc k)) _ _ (omega arith) (omega (arith, unsigned_long k (n / 128)))
 
-signed_long : (k : ℕ) (z : ℤ) → length (signed_groups k z) ≤ suc k
+pub signed_long : (k : ℕ) (z : ℤ) → length (signed_groups k z) ≤ suc k
 unfolding signed_groups
 signed_long zero z = omega arith
 signed_long (suc k) z = one_or_more (fits_seven z) (suc (suc k)) _ _ (omega arith) (omega (arith, signed_long k (above_seven z)))

@@ -25,6 +25,7 @@ use Rattle.dump_format.specs.Grammar.{value_entry, module_entry, instance_entry,
 use Rattle.dump_write.specs.Spelled.{name_bytes, vector_bytes, module_bytes, seen_bytes, frame_bytes, global_bytes, segment_head, segment_bytes}
 use Rattle.dump_write.specs.Canonical.{instance_bytes}
 use Rattle.dump_write.specs.Typed.{IsSeenTyped, IsValueTyped, IsFrameTyped}
+use Rattle.wasm_syntax.proofs.Differ.{map_same}
 
 -- ---- numbers and names
 
@@ -66,10 +67,6 @@ vector_spelled S to f P one xs at all few = (
   items_spelled S to f P one xs (at + length (unsigned_bytes (length xs))) all,
   refl,
 )
-
-map_same : {A : Type 0} (xs : List A) → map (λ x. x) xs ≡ xs
-map_same [] = refl
-map_same (x ∷ xs) = ap (λ (ys : List _). x ∷ ys) (map_same xs)
 
 pub list_spelled : {A : Type 0} (S : A → Spellings) (f : A → List ℕ) (P : A → Type 0) → ((x : A) (at : ℕ) → P x → S x at (f x)) → (xs : List A) (at : ℕ) → All P xs → length xs < 2 ^ 32 → vector S xs at (vector_bytes f xs)
 list_spelled {A} S f P one xs at all few = subst (λ (ys : List A). vector S ys at (vector_bytes f xs)) (map_same xs) (vector_spelled S (λ x. x) f P one xs at all few)

@@ -17,15 +17,9 @@ use Rattle.dwarf_bytes.proofs.Lists.{ended_exact}
 use Rattle.dwarf_abbrev.specs.declared.abbrev.Pair.{Pair}
 use Rattle.dwarf_abbrev.specs.Reading.{pair_of, is_end, behind_pair, pair_item, is_flag, is_one, behind_code, table_item, abbrev_of, abbrevs_item, abbrevs_at}
 use Rattle.dwarf_abbrev.specs.Grammar.{codes, pair, flag, entry, table, abbrevs}
+use Rattle.wasm_bytes.proofs.Takes.{front_takes, unsigned_takes}
 
 -- ---- each takes a byte
-
-pub front_takes : (front rest bytes : List ℕ) → bytes ≡ front ++ rest → 0 < length front → 0 < length bytes
-front_takes front rest bytes e some = omega (arith, some, ap length e, length-append front rest)
-
-unsigned_takes : (bits n : ℕ) (front : List ℕ) → IsUnsigned bits front n → 0 < length front
-unsigned_takes bits n [] s = absurd s
-unsigned_takes bits n (b ∷ bs) s = omega arith
 
 pub u64_takes : TakesBytes u64
 u64_takes n at front s = unsigned_takes 64 n front s

@@ -7,7 +7,8 @@ use Rattle.wasm_bytes.specs.Place.{Place}
 use Rattle.wasm_bytes.specs.Reading.{if_inside, block_of}
 use Rattle.wasm_bytes.specs.Answers.{Reads}
 use Rattle.wasm_bytes.specs.Laws.{got}
-use Rattle.wasm_bytes.proofs.Places.{chosen, got_is}
+use Rattle.wasm_bytes.proofs.Places.{got_is}
+use Rattle.wasm_leb.proofs.Tools.{chosen}
 
 cut_inside : (at n : ℕ) (p inner outer : Place) → if_inside at (n, p) ≡ got inner outer → length inner.block ≤ length p.block
 cut_inside at n p inner outer e = elim (chosen (leb n (length p.block - p.at)) _ _ (got inner outer) e) [

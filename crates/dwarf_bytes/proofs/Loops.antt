@@ -24,7 +24,7 @@ ended_done f n p q h = rw h refl
 
 -- ---- one for each of a list
 
-next : {A : Type 0} (xs : List A) (i : ℕ) (x : A) → i < length xs → x ≡ get_or xs i x → drop i xs ≡ x ∷ drop (i + 1) xs
+pub next : {A : Type 0} (xs : List A) (i : ℕ) (x : A) → i < length xs → x ≡ get_or xs i x → drop i xs ≡ x ∷ drop (i + 1) xs
 next xs i x lt is = drop-cons xs i x lt ∙ ap (λ y. y ∷ drop (suc i) xs) (sym is) ∙ ap (λ (n : ℕ). x ∷ drop n xs) (sym (add-one i))
 
 pub each_on : {A B : Type 0} (f : A → Place → Read B) (xs : List A) (i : ℕ) (x : A) (p q : Place) (y : B) → i < length xs → x ≡ get_or xs i x → f x p ≡ got y q → each_item f (drop i xs) p ≡ (each_item f (drop (i + 1) xs) q >>= first y)

@@ -6,8 +6,9 @@ use Rattle.std.proofs.lemmas.List.{length-take-le, length-take}
 use Rattle.wasm_bytes.specs.Place.{Place, Read}
 use Rattle.wasm_bytes.specs.Reading.{run_item, rest_item}
 use Rattle.wasm_bytes.specs.Laws.{got, failed}
-use Rattle.wasm_bytes.proofs.Places.{chosen, got_is}
+use Rattle.wasm_bytes.proofs.Places.{got_is}
 use Rattle.dwarf_bytes.specs.Items.{is_zero, text_item}
+use Rattle.wasm_leb.proofs.Tools.{chosen}
 
 -- where the first zero byte is
 zero_found : (xs : List ℕ) (len : ℕ) → position is_zero xs ≡ Some len → (position_or_len is_zero xs ≡ len) × (len < length xs)

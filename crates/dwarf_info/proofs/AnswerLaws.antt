@@ -9,7 +9,7 @@ use Rattle.wasm_bytes.specs.Spelling.{passing, any}
 use Rattle.wasm_bytes.specs.Laws.{IsBytes, place, got, failed, IsExact}
 use Rattle.wasm_bytes.proofs.Places.{IsBytes-rest, IsBytes-front, place_is}
 use Rattle.wasm_bytes.proofs.Exact.{checked_exact}
-use Rattle.wasm_bytes.proofs.ExactLists.{more_left, at_end}
+use Rattle.wasm_bytes.proofs.ExactLists.{more_left, at_end, nil_place}
 use Rattle.wasm_bytes.proofs.Loops.{first, end_on, end_done}
 use Rattle.dwarf_bytes.specs.Items.{number_item, is_unit_length, unit_block_item, reading_of}
 use Rattle.dwarf_bytes.specs.Spelled.{number, unit_sized}
@@ -155,9 +155,6 @@ none_again s versions before after fits i =
     (λ inner outer read. (let t = sized_there before after inner outer fits read in i.1 t.0 t.1 t.2 t.3))
 
 -- ---- all answers
-
-nil_place : (before : List ℕ) → place before [] ≡ place (before ++ []) []
-nil_place before = place_is (before ++ []) ((before ++ []) ++ []) (length before) (length (before ++ [])) (sym (append-nil (before ++ []))) (ap length (sym (append-nil before)))
 
 past_place : (before after : List ℕ) → past (place before after) ≡ place (before ++ after) []
 past_place before after = place_is (before ++ after) ((before ++ after) ++ []) (length (before ++ after)) (length (before ++ after)) (sym (append-nil (before ++ after))) refl

@@ -11,7 +11,7 @@ use Rattle.wasm_bytes.proofs.UntilDone.{until_done_exact}
 use Rattle.wasm_bytes.proofs.ExactItems.{u64_exact}
 use Rattle.dwarf_bytes.specs.Items.{item_or_none}
 use Rattle.dwarf_bytes.specs.Spelled.{never, each}
-use Rattle.dwarf_abbrev.proofs.Exact.{u64_takes, front_takes}
+use Rattle.dwarf_abbrev.proofs.Exact.{u64_takes}
 use Rattle.dwarf_info.specs.declared.form.Shape.{Shape}
 use Rattle.dwarf_info.specs.declared.entry.Attribute.{Attribute}
 use Rattle.dwarf_info.specs.declared.entry.Entry.{Entry}
@@ -20,6 +20,7 @@ use Rattle.dwarf_info.specs.Values.{Context, attributes_item}
 use Rattle.dwarf_info.specs.Entries.{shape_of, seed, with_entry, shape_item, closing_item, code_item, step_item, is_whole}
 use Rattle.dwarf_info.specs.Grammar.{attribute}
 use Rattle.dwarf_info.proofs.ValueLaws.{never_exact, attributes_exact}
+use Rattle.wasm_bytes.proofs.Takes.{front_takes}
 
 -- the end of the innermost list of children
 pub record Closes (g h : Growing) (bytes : List ℕ) : Type 0 where

@@ -16,6 +16,7 @@ use Rattle.dwarf_info.specs.Entries.{seed, with_entry, step_item, is_whole, entr
 use Rattle.dwarf_info.specs.Trees.{Siblings, none, entry, Tree, written_at, written}
 use Rattle.dwarf_info.specs.Grammar.{children_if, entry_with, siblings, tree}
 use Rattle.dwarf_info.proofs.StepLaws.{Closes, Enters, step, steps_exact}
+use Rattle.std.proofs.Math.Bool.{and-false}
 
 -- the entries so far, in so many open lists of children
 abbrev state : List Entry → ℕ → Growing
@@ -57,14 +58,10 @@ one_run c s t at bytes due is = (1, (t, (bytes, [], (due, is), (refl, refl), sym
 
 -- ---- whether the tree is whole
 
-and_false : (b : Bool) → (b && false) ≡ false
-and_false true = refl
-and_false false = refl
-
 not_whole : (es : List Entry) (d : ℕ) → is_whole (state es (suc d)) ≡ false
 not_whole es d =
     let open_list : (suc d == 0) ≡ false = ne_eqb (suc d) 0 (λ e. omega (arith, e)) in
-    rw open_list (and_false (nat_lt 0 (length es)))
+    rw open_list (and-false (nat_lt 0 (length es)))
 
 now_whole : (e : Entry) (es : List Entry) → is_whole (state (e ∷ es) 0) ≡ true
 now_whole e es = rw (lt-ltb 0 (length (e ∷ es)) (omega arith)) refl

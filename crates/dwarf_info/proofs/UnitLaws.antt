@@ -22,14 +22,9 @@ use Rattle.dwarf_info.specs.Units.{Version, context, unsettled, rooted_item, pad
 use Rattle.dwarf_info.specs.Grammar.{tree, both, Grammars, body}
 use Rattle.dwarf_info.proofs.ValueLaws.{never_exact}
 use Rattle.dwarf_info.proofs.RootedLaws.{rooted, rooted_exact}
+use Rattle.dwarf_bytes.proofs.Standing.{read_ok, stands_read}
 
 -- ---- what stands at an offset of another section
-
-reading_ok : {A : Type 0} (r : Read A) (x : A) → reading_of r ≡ Some x → (q : Place) × (r ≡ got x q)
-reading_ok {A} (Ok y) x e =
-    let same : y.0 ≡ x = (let some : Some y.0 ≡ Some x = e in cc) in
-    (y.1, ap (λ (z : A). got z y.1) same)
-reading_ok (Err at) x e = absurd cc
 
 -- an offset inside a section, as a place between the bytes before and those behind it
 section_place : (section : List ℕ) (at : ℕ) → at ≤ length section → (let p : Place = record { block = section; at = at } in p ≡ place (take at section) (drop at section))
@@ -38,20 +33,12 @@ section_place section at inside =
 
 stands : {A : Type 0} (S : A → ℕ → List ℕ → Type 0) (f : Place → Read A) → IsExact S f → (section : List ℕ) (at : ℕ) → IsBytes section → at ≤ length section → (x : A) → read_at f section at ≡ Some x → StandsAt S x section at
 stands S f e section at fits inside x read =
-    let r = reading_ok (f (record { block = section; at = at })) x read in
+    let r = read_ok (f (record { block = section; at = at })) x read in
     let here : f (place (take at section) (drop at section)) ≡ got x r.0 = ap f (sym (section_place section at inside)) ∙ r.1 in
     let behind : IsBytes (drop at section) = IsBytes-rest (take at section) (drop at section) (subst IsBytes (sym (take-append-drop at section)) fits) in
     let t = e.sound (take at section) (drop at section) x r.0 behind here in
     let offset : length (take at section) ≡ at = omega (arith, inside, length-take at section) in
     (t.front, t.rest, inside, t.parts, subst (λ (n : ℕ). S x n t.front) offset t.is)
-
-pub read_there : {A : Type 0} (S : A → ℕ → List ℕ → Type 0) (f : Place → Read A) → IsExact S f → (section : List ℕ) (at : ℕ) (x : A) → StandsAt S x section at → read_at f section at ≡ Some x
-read_there S f e section at x s =
-    let offset : at ≡ length (take at section) = omega (arith, s.2, length-take at section) in
-    let one = e.again (take at section) s.0 s.1 x (subst (λ (n : ℕ). S x n s.0) offset s.4) in
-    ap (λ (p : Place). reading_of (f p)) (section_place section at s.2)
-    ∙ ap (λ (w : List ℕ). reading_of (f (place (take at section) w))) s.3
-    ∙ ap reading_of one
 
 -- A reader that has no reading past the end of a section reads at an offset what stands there.
 pub stands_there : {A : Type 0} (S : A → ℕ → List ℕ → Type 0) (f : Place → Read A) → IsExact S f → ((section : List ℕ) (at : ℕ) → length section < at → read_at f section at ≡ None)
@@ -255,7 +242,7 @@ contents_made s g h fits origin u at bytes p =
 padded_from : (s : SectionBytes5) (g : Grammars) → AreExact g → (u : UnitTree) (at : ℕ) (bytes : List ℕ) → Parts s g u.at u at bytes → padded s g u.at u at bytes
 padded_from s g h u at bytes p =
     let e = h u.version p.v p.is in
-    let read : read_at p.v.shapes s.base.abbreviations p.offset ≡ Some p.table = read_there (g.shapes u.version) p.v.shapes e.shapes_exact s.base.abbreviations p.offset p.table p.stands in
+    let read : read_at p.v.shapes s.base.abbreviations p.offset ≡ Some p.table = stands_read (g.shapes u.version) p.v.shapes e.shapes_exact s.base.abbreviations p.offset p.table p.stands in
     let o : ℕ = (at + length p.first) + length p.second in
     let entries : tabled s u.at u.version p.v (Some p.table) u o p.third = (u.entries, refl, (p.bare, p.full, p.entries, p.trees)) in
     let there : tabled s u.at u.version p.v (read_at p.v.shapes s.base.abbreviations p.offset) u o p.third =

@@ -8,6 +8,7 @@ use Rattle.dwarf_abbrev.specs.declared.abbrev.Abbrev.{Abbrev}
 use Rattle.dwarf_abbrev.specs.Reading.{abbrevs_item, abbrevs_at}
 use Rattle.dwarf_abbrev.specs.Grammar.{abbrevs}
 use Rattle.dwarf_abbrev.proofs.Exact.{abbrevs_exact, abbrevs_past}
+use Rattle.dwarf_loc.proofs.Standing.{none_read}
 
 table_read : (section : List ℕ) (at : ℕ) (table : List Abbrev) → StandsAt abbrevs table section at → abbrevs_at section at ≡ Some table
 table_read section at table s = stands_read abbrevs abbrevs_item abbrevs_exact section at table s
@@ -17,10 +18,6 @@ table_stands section at table fits read = elim (cases_lt (length section) at) [
   | inl past ↦ absurd (let none : None ≡ Some table = sym (abbrevs_past section at past) ∙ read in cc)
   | inr inside ↦ read_stands abbrevs abbrevs_item abbrevs_exact section at table fits inside read
 ]
-
-none_read : {A : Type 0} (o : Option A) → ((x : A) → o ≡ Some x → ⊥) → o ≡ None
-none_read None h = refl
-none_read (Some x) h = absurd (h x refl)
 
 none_is : {A : Type 0} (o : Option A) (x : A) → o ≡ None → o ≡ Some x → ⊥
 none_is o x none some = let no : None ≡ Some x = sym none ∙ some in absurd cc

@@ -8,18 +8,15 @@ use Rattle.dwarf_line.specs.declared.lines.Row.{Row}
 use Rattle.dwarf_line.specs.Place.{greater, nearest}
 use Rattle.dwarf_line.specs.inner.Halving.{ascends_from, last_reached}
 use Rattle.dwarf_line.proofs.PlaceLaws.{reached, filter_in, filter_out, greater_second, best_from, on_in, on_out}
-
-pub both_true : (a b : Bool) → (a && b) ≡ true → (a ≡ true) × (b ≡ true)
-both_true true b e = (refl, e)
-both_true false b e = absurd cc
+use Rattle.std.proofs.lemmas.Bool.{and_parts}
 
 -- ---- ascending values
 
 pub ascends_at : {X : Type 0} (n : X → ℕ) (xs : List X) (low : ℕ) → ascends_from n low xs ≡ true → (j : ℕ) (d : X) → j < length xs → low ≤ n (get_or xs j d)
 ascends_at n [] low e j d h = absurd (omega (arith, h))
-ascends_at n (x ∷ xs) low e zero d h = let two = both_true (leb low (n x)) (ascends_from n (n x) xs) e in grind (arith, two.0)
+ascends_at n (x ∷ xs) low e zero d h = let two = and_parts (leb low (n x)) (ascends_from n (n x) xs) e in grind (arith, two.0)
 ascends_at n (x ∷ xs) low e (suc j) d h =
-    let two = both_true (leb low (n x)) (ascends_from n (n x) xs) e in
+    let two = and_parts (leb low (n x)) (ascends_from n (n x) xs) e in
     let first : low ≤ n x = grind (arith, two.0) in
     let later : n x ≤ n (get_or xs j d) = ascends_at n xs (n x) two.1 j d (omega (arith, h)) in
     omega (arith, first, later)
@@ -27,9 +24,9 @@ ascends_at n (x ∷ xs) low e (suc j) d h =
 pub ascends_all : {X : Type 0} (n : X → ℕ) (xs : List X) (low : ℕ) → ascends_from n low xs ≡ true → IsNonDecreasingBy n xs
 ascends_all n [] low e i j d up h = absurd (omega (arith, h))
 ascends_all n (x ∷ xs) low e zero zero d up h = omega arith
-ascends_all n (x ∷ xs) low e zero (suc j) d up h = let two = both_true (leb low (n x)) (ascends_from n (n x) xs) e in ascends_at n xs (n x) two.1 j d (omega (arith, h))
+ascends_all n (x ∷ xs) low e zero (suc j) d up h = let two = and_parts (leb low (n x)) (ascends_from n (n x) xs) e in ascends_at n xs (n x) two.1 j d (omega (arith, h))
 ascends_all n (x ∷ xs) low e (suc i) zero d up h = absurd (omega (arith, up))
-ascends_all n (x ∷ xs) low e (suc i) (suc j) d up h = let two = both_true (leb low (n x)) (ascends_from n (n x) xs) e in ascends_all n xs (n x) two.1 i j d (omega (arith, up)) (omega (arith, h))
+ascends_all n (x ∷ xs) low e (suc i) (suc j) d up h = let two = and_parts (leb low (n x)) (ascends_from n (n x) xs) e in ascends_all n xs (n x) two.1 i j d (omega (arith, up)) (omega (arith, h))
 
 -- ---- the last one that is reached
 
@@ -71,7 +68,7 @@ address_of r = r.address
 none_later : (a : ℕ) (rows : List Row) (low : ℕ) → a < low → ascends_from address_of low rows ≡ true → filter (reached a) rows ≡ []
 none_later a [] low h e = refl
 none_later a (y ∷ ys) low h e =
-    let two = both_true (leb low y.address) (ascends_from address_of y.address ys) e in
+    let two = and_parts (leb low y.address) (ascends_from address_of y.address ys) e in
     let first : low ≤ y.address = grind (arith, two.0) in
     let past : leb y.address a ≡ false = grind (arith, first, h) in
     filter_out a y ys past ∙ none_later a ys y.address (omega (arith, first, h)) two.1
@@ -93,7 +90,7 @@ best_by a r y ys false e h up more =
 best_last : (a : ℕ) (r : Row) (rows : List Row) → ascends_from address_of r.address rows ≡ true → Some (best_from a r rows) ≡ option_or (last_reached address_of a rows) (Some r)
 best_last a r [] e = refl
 best_last a r (y ∷ ys) e =
-    let two = both_true (leb r.address y.address) (ascends_from address_of y.address ys) e in
+    let two = and_parts (leb r.address y.address) (ascends_from address_of y.address ys) e in
     best_by a r y ys (leb y.address a) refl (grind (arith, two.0)) two.1 (best_last a y ys two.1)
 
 nearest_by : (a : ℕ) (r : Row) (rows : List Row) (t : Bool) → leb r.address a ≡ t → ascends_from address_of r.address rows ≡ true → nearest a (r ∷ rows) ≡ last_reached address_of a (r ∷ rows)
@@ -105,4 +102,4 @@ nearest_by a r rows false e up =
 -- The nearest row is the last one that is reached.
 pub nearest_last : (a : ℕ) (rows : List Row) → ascends_from address_of 0 rows ≡ true → nearest a rows ≡ last_reached address_of a rows
 nearest_last a [] e = refl
-nearest_last a (r ∷ rows) e = let two = both_true (leb 0 r.address) (ascends_from address_of r.address rows) e in nearest_by a r rows (leb r.address a) refl two.1
+nearest_last a (r ∷ rows) e = let two = and_parts (leb 0 r.address) (ascends_from address_of r.address rows) e in nearest_by a r rows (leb r.address a) refl two.1

@@ -4,7 +4,6 @@ use Rattle.std.specs.Prelude.{◌&&◌}
 use Rattle.wasm_bytes.specs.Reading.{◌>>=◌, ◌⊗◌, ◌▷◌, checked}
 use Rattle.wasm_bytes.specs.Spelling.{Spellings, ◌&◌, pair, image, passing, items, any}
 use Rattle.wasm_bytes.specs.Laws.{IsExact, IsTail, TakesBytes}
-use Rattle.wasm_bytes.proofs.Places.{chosen}
 use Rattle.wasm_bytes.proofs.Exact.{image_exact, then_exact, mapped_exact, same_exact, leads_exact, checked_exact}
 use Rattle.wasm_bytes.proofs.ExactBlocks.{leads_tail, image_tail, closed_tail}
 use Rattle.wasm_bytes.proofs.ExactLists.{to_end_tail}
@@ -22,6 +21,7 @@ use Rattle.dwarf_line.specs.Opcodes.{opcode}
 use Rattle.dwarf_line.specs.Header.{Layout, header_of, in_header, header_item, header_or_none, file, file_of, tables_of, tables_item, old_layout, layout}
 use Rattle.dwarf_line.specs.Program.{said, opcodes_item, program_item, lines_item}
 use Rattle.dwarf_line.specs.Grammar.{header, opcodes, program, versioned, line_program, tables, lines}
+use Rattle.wasm_leb.proofs.Tools.{chosen}
 
 -- ---- the header
 

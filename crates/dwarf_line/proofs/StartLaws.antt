@@ -14,7 +14,8 @@ use Rattle.dwarf_line.specs.Place.{HoldsFrom, holds, holds_from}
 use Rattle.dwarf_line.specs.inner.Halving.{ascends_from, last_reached}
 use Rattle.dwarf_line.specs.inner.Starts.{start_by, start_of, starts_from, apart_from, if_held, sought, AreStarts}
 use Rattle.dwarf_line.proofs.PlaceLaws.{holds_from_true, holds_from_fact, first_here, first_later}
-use Rattle.dwarf_line.proofs.HalvingLaws.{both_true, reach_first, reach_none}
+use Rattle.dwarf_line.proofs.HalvingLaws.{reach_first, reach_none}
+use Rattle.std.proofs.lemmas.Bool.{and_parts}
 
 abbrev pub first_of : Start → ℕ
 first_of t = t.first
@@ -24,8 +25,8 @@ first_of t = t.first
 apart_ascends : (ts : List Start) (low reached : ℕ) → low ≤ reached → apart_from reached ts ≡ true → ascends_from first_of low ts ≡ true
 apart_ascends [] low reached h e = refl
 apart_ascends (t ∷ ts) low reached h e =
-    let two = both_true (leb reached t.first) (ltb t.first t.«end» && apart_from t.«end» ts) e in
-    let more = both_true (ltb t.first t.«end») (apart_from t.«end» ts) two.1 in
+    let two = and_parts (leb reached t.first) (ltb t.first t.«end» && apart_from t.«end» ts) e in
+    let more = and_parts (ltb t.first t.«end») (apart_from t.«end» ts) two.1 in
     let from : reached ≤ t.first = grind (arith, two.0) in
     let to : t.first < t.«end» = grind (arith, more.0) in
     let here : leb low t.first ≡ true = grind (arith, from, h) in
@@ -34,12 +35,12 @@ apart_ascends (t ∷ ts) low reached h e =
 from_reached : (ts : List Start) (reached k : ℕ) (t : Start) → apart_from reached ts ≡ true → slice_get ts k ≡ Some t → reached ≤ t.first
 from_reached [] reached k t e there = absurd cc
 from_reached (y ∷ ys) reached zero t e there =
-    let two = both_true (leb reached y.first) (ltb y.first y.«end» && apart_from y.«end» ys) e in
+    let two = and_parts (leb reached y.first) (ltb y.first y.«end» && apart_from y.«end» ys) e in
     let same : y ≡ t = cc in
     subst (λ (x : Start). reached ≤ x.first) same (grind (arith, two.0))
 from_reached (y ∷ ys) reached (suc k) t e there =
-    let two = both_true (leb reached y.first) (ltb y.first y.«end» && apart_from y.«end» ys) e in
-    let more = both_true (ltb y.first y.«end») (apart_from y.«end» ys) two.1 in
+    let two = and_parts (leb reached y.first) (ltb y.first y.«end» && apart_from y.«end» ys) e in
+    let more = and_parts (ltb y.first y.«end») (apart_from y.«end» ys) two.1 in
     let from : reached ≤ y.first = grind (arith, two.0) in
     let to : y.first < y.«end» = grind (arith, more.0) in
     let later : y.«end» ≤ t.first = from_reached ys y.«end» k t more.1 there in
@@ -48,7 +49,7 @@ from_reached (y ∷ ys) reached (suc k) t e there =
 none_past : (ts : List Start) (reached a : ℕ) → apart_from reached ts ≡ true → a < reached → last_reached first_of a ts ≡ None
 none_past [] reached a e h = refl
 none_past (t ∷ ts) reached a e h =
-    let two = both_true (leb reached t.first) (ltb t.first t.«end» && apart_from t.«end» ts) e in
+    let two = and_parts (leb reached t.first) (ltb t.first t.«end» && apart_from t.«end» ts) e in
     let from : reached ≤ t.first = grind (arith, two.0) in
     reach_none first_of a t ts (grind (arith, from, h))
 
@@ -56,15 +57,15 @@ none_past (t ∷ ts) reached a e h =
 last_holding : (ts : List Start) (reached a k : ℕ) (t : Start) → apart_from reached ts ≡ true → slice_get ts k ≡ Some t → t.first ≤ a → a < t.«end» → last_reached first_of a ts ≡ Some t
 last_holding [] reached a k t e there low high = absurd cc
 last_holding (y ∷ ys) reached a zero t e there low high =
-    let two = both_true (leb reached y.first) (ltb y.first y.«end» && apart_from y.«end» ys) e in
-    let more = both_true (ltb y.first y.«end») (apart_from y.«end» ys) two.1 in
+    let two = and_parts (leb reached y.first) (ltb y.first y.«end» && apart_from y.«end» ys) e in
+    let more = and_parts (ltb y.first y.«end») (apart_from y.«end» ys) two.1 in
     let same : t ≡ y = cc in
     let begun : y.first ≤ a = subst (λ (x : Start). x.first ≤ a) same low in
     let within : a < y.«end» = subst (λ (x : Start). a < x.«end») same high in
     reach_first first_of a y ys (grind (arith, begun)) ∙ ap (λ (o : Option Start). option_or o (Some y)) (none_past ys y.«end» a more.1 within) ∙ there
 last_holding (y ∷ ys) reached a (suc k) t e there low high =
-    let two = both_true (leb reached y.first) (ltb y.first y.«end» && apart_from y.«end» ys) e in
-    let more = both_true (ltb y.first y.«end») (apart_from y.«end» ys) two.1 in
+    let two = and_parts (leb reached y.first) (ltb y.first y.«end» && apart_from y.«end» ys) e in
+    let more = and_parts (ltb y.first y.«end») (apart_from y.«end» ys) two.1 in
     let to : y.first < y.«end» = grind (arith, more.0) in
     let later : y.«end» ≤ t.first = from_reached ys y.«end» k t more.1 there in
     let begun : y.first ≤ a = omega (arith, to, later, low) in

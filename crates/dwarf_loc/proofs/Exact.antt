@@ -20,11 +20,9 @@ use Rattle.dwarf_loc.specs.declared.entry.ListEntry.TheVariants.{Base, FromBase,
 use Rattle.dwarf_loc.specs.Contents.{span_of, span_item, nothing_item}
 use Rattle.dwarf_loc.specs.Version4.{is_selection, behind_pair, entry4_item, list4_item, expression4_item}
 use Rattle.dwarf_loc.specs.Grammar.{span, expression4, entry4, list4}
+use Rattle.wasm_bytes.proofs.Takes.{front_takes}
 
 -- ---- each entry takes bytes
-
-front_takes : (front rest bytes : List ℕ) → bytes ≡ front ++ rest → 0 < length front → 0 < length bytes
-front_takes front rest bytes e some = omega (arith, some, ap length e, length-append front rest)
 
 four_take : (n at : ℕ) (front : List ℕ) → number 4 n at front → 0 < length front
 four_take n at front s = omega (arith, s.0)

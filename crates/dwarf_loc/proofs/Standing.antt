@@ -12,30 +12,11 @@ use Rattle.dwarf_bytes.specs.Spelled.{StandsAt}
 use Rattle.dwarf_bytes.specs.Answers.{found_at}
 use Rattle.dwarf_bytes.specs.declared.faults.ReadFault.{ReadFault}
 use Rattle.dwarf_bytes.specs.declared.faults.ReadFault.TheVariants.{Unreadable}
-
-reading_ok : {A : Type 0} (r : Read A) (x : A) → reading_of r ≡ Some x → (q : Place) × (r ≡ got x q)
-reading_ok {A} (Ok y) x e = (y.1, let same : y.0 ≡ x = (let some : Some y.0 ≡ Some x = e in cc) in ap (λ (z : A). got z y.1) same)
-reading_ok (Err at) x e = absurd cc
+use Rattle.dwarf_bytes.proofs.Standing.{stands_read, read_stands}
 
 -- a section is what stands before an offset and behind it
 before_at : (section : List ℕ) (at : ℕ) → at ≤ length section → place (take at section) (drop at section) ≡ (let p : Place = record { block = section; at = at } in p)
 before_at section at inside = place_is (take at section ++ drop at section) section (length (take at section)) at (take-append-drop at section) (length-take-le at section inside)
-
-pub stands_read : {A : Type 0} (S : A → ℕ → List ℕ → Type 0) (f : Place → Read A) → IsExact S f
-    → (section : List ℕ) (at : ℕ) (x : A) → StandsAt S x section at → read_at f section at ≡ Some x
-stands_read S f e section at x s =
-    let spelled : S x (length (take at section)) s.0 = subst (λ (n : ℕ). S x n s.0) (sym (length-take-le at section s.2)) s.4 in
-    let here = ap (λ (t : List ℕ). place (take at section) t) (sym s.3) ∙ before_at section at s.2 in
-    ap (λ (p : Place). reading_of (f p)) (sym here) ∙ ap reading_of (e.again (take at section) s.0 s.1 x spelled)
-
-pub read_stands : {A : Type 0} (S : A → ℕ → List ℕ → Type 0) (f : Place → Read A) → IsExact S f
-    → (section : List ℕ) (at : ℕ) (x : A) → IsBytes section → at ≤ length section → read_at f section at ≡ Some x → StandsAt S x section at
-read_stands S f e section at x fits inside read =
-    let here = before_at section at inside in
-    let r = reading_ok (f (place (take at section) (drop at section))) x (ap (λ (p : Place). reading_of (f p)) here ∙ read) in
-    let behind : IsBytes (drop at section) = IsBytes-rest (take at section) (drop at section) (subst IsBytes (sym (take-append-drop at section)) fits) in
-    let t = e.sound (take at section) (drop at section) x r.0 behind r.1 in
-    (t.front, t.rest, inside, t.parts, subst (λ (n : ℕ). S x n t.front) (length-take-le at section inside) t.is)
 
 -- no list stands past the end
 pub past_end : {A : Type 0} (f : Place → Read (Option A)) (section : List ℕ) (at : ℕ) → length section < at → read_at (ended_item f) section at ≡ None
@@ -52,7 +33,7 @@ unread : {A B : Type 0} (at : ℕ) (answer : A → B) (o : Option A) → found_a
 unread at answer None e = refl
 unread at answer (Some x) e = absurd cc
 
-none_read : {A : Type 0} (o : Option A) → ((x : A) → o ≡ Some x → ⊥) → o ≡ None
+pub none_read : {A : Type 0} (o : Option A) → ((x : A) → o ≡ Some x → ⊥) → o ≡ None
 none_read None h = refl
 none_read (Some x) h = absurd (h x refl)
 

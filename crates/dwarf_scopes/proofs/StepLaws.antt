@@ -8,12 +8,9 @@ use Rattle.std.proofs.lemmas.List.Folds.{find-append}
 use Rattle.dwarf_scopes.specs.declared.steps.Range.{Range}
 use Rattle.dwarf_scopes.specs.declared.steps.Step.{Step}
 use Rattle.dwarf_scopes.specs.inner.Steps.{is_in, first_in, answer, AtMost, Descend, AreSteps, merged_with, merged}
+use Rattle.dwarf_info.proofs.FindLaws.{or_none}
 
 -- ---- what two tables answer
-
-or_none : {A : Type 0} (o : Option A) → option_or o None ≡ o
-or_none None = refl
-or_none (Some x) = refl
 
 -- where the first step of the left table is taken
 left_by : (a : ℕ) (s t : Step) (left rest : Option ℕ) (more : Option ℕ) (reached next : Bool) → leb s.from a ≡ reached → leb t.from a ≡ next → t.from ≤ s.from

@@ -75,12 +75,12 @@ some_found count p (x ∷ xs) e = by_tests count p x xs (p x) e (some_found coun
     by_tests count p x xs true e h = refl
     by_tests count p x xs false e h = h e
 
-map_drop : {A B : Type 0} (f : A → B) (n : ℕ) (xs : List A) → map f (drop n xs) ≡ drop n (map f xs)
+pub map_drop : {A B : Type 0} (f : A → B) (n : ℕ) (xs : List A) → map f (drop n xs) ≡ drop n (map f xs)
 map_drop f zero xs = refl
 map_drop f (suc n) [] = refl
 map_drop f (suc n) (x ∷ xs) = map_drop f n xs
 
-drop_none : {A : Type 0} (k : ℕ) → drop {A = A} k [] ≡ []
+pub drop_none : {A : Type 0} (k : ℕ) → drop {A = A} k [] ≡ []
 drop_none zero = refl
 drop_none (suc k) = refl
 

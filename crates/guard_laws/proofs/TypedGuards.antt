@@ -18,11 +18,10 @@ use Rattle.rewrite_bodies.specs.Slots.{Place, place_type, Ctx}
 use Rattle.rewrite_bodies.specs.Guards.{guard, can_trap, divides}
 use Rattle.rewrite_bodies.specs.Typed.{Offers, original}
 use Rattle.rewrite_bodies.proofs.TypedPieces.{Ok, at_labels, HasMemory, ok_guard_zero, ok_guard_signed, ok_guard_memory, ok_guard_copy, ok_guard_fill}
+use Rattle.wasm_laws.proofs.Lists.{some_is}
+use Rattle.rewrite_bodies.proofs.TypedNodes.{only_found}
 
 -- ---- what the arrows take
-
-some_is : {A : Type 0} {a b : A} → Some a ≡ Some b → a ≡ b
-some_is e = cc
 
 any_found : {A B : Type 0} (ls : List A) (o : Option B) (b : B) → typing.if_any ls o ≡ Some b → o ≡ Some b
 any_found [] o b e = absurd (cc)
@@ -31,10 +30,6 @@ any_found (l ∷ ls) o b e = e
 any_has : {B : Type 0} (ls : List Limits) (o : Option B) (b : B) → typing.if_any ls o ≡ Some b → HasMemory ls
 any_has [] o b e = absurd (cc)
 any_has (l ∷ ls) o b e = tt
-
-only_found : {A : Type 0} (q : Bool) (o : Option A) (b : A) → only_if q o ≡ Some b → o ≡ Some b
-only_found true o b e = e
-only_found false o b e = absurd (cc)
 
 one_is : {t u : ValType} {ts us : List ValType} → t ∷ ts ≡ u ∷ us → t ≡ u
 one_is e = cc

@@ -25,6 +25,7 @@ use Rattle.rewrite_sizes.proofs.Sections.{contents, contents_least, import_some}
 use Rattle.index_map.specs.inner.Used.{ops_used, bodies_used}
 use Rattle.index_map.specs.inner.Kept.{FewIndices, CanBeNumbered}
 use Rattle.index_map.proofs.Trees.{valid_below}
+use Rattle.rewrite_sizes.proofs.Lists.{global_some, export_some}
 
 -- ---- wrappers
 
@@ -89,14 +90,6 @@ bodies_few [] = omega arith
 bodies_few (b ∷ bs) = omega (arith, length-append (ops_used b.ops) (bodies_used bs), body_few b, bodies_few bs)
 
 -- ---- the whole module
-
-global_some : (g : Global) → 1 ≤ length (global_bytes g)
-unfolding global_bytes
-global_some g = omega arith
-
-export_some : (e : Export) → 1 ≤ length (export_bytes e)
-unfolding export_bytes
-export_some e = let a = length-append (sized_bytes e.name) (kind_byte e.kind ∷ unsigned_bytes e.index) in omega (arith, a)
 
 pub few : (m : Module) → Sized m → FewIndices m
 few m sized =

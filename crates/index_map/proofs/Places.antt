@@ -12,6 +12,7 @@ use Rattle.index_map.specs.inner.Used.{behind, bodies_used, HasMet}
 use Rattle.index_map.specs.inner.Kept.{AreUsed, IsMap}
 use Rattle.index_map.proofs.Meeting.{is_in_behind}
 use Rattle.index_map.proofs.Below.{distinct_below, is_in_below}
+use Rattle.wasm_laws.proofs.Lists.{some_is}
 
 pub place_behind : (t : ℕ) (xs : List ℕ) (k : ℕ) → behind t xs ≡ Some k → place_in t xs + suc k ≡ length xs
 place_behind t [] k e = absurd (cc)
@@ -20,9 +21,6 @@ place_behind t (u ∷ us) k e = by (t == u) e (place_behind t us k)
     by : (q : Bool) → (if q then Some (length us) else behind t us) ≡ Some k → (behind t us ≡ Some k → place_in t us + suc k ≡ length us) → (if q then 0 else suc (place_in t us)) + suc k ≡ suc (length us)
     by true z ih = let same : length us ≡ k = cc in omega (arith, same)
     by false z ih = let r = ih z in omega (arith, r)
-
-some_is : {A : Type 0} {a b : A} → Some a ≡ Some b → a ≡ b
-some_is e = cc
 
 -- what is behind a number that is there
 pub record Behind (t : ℕ) (xs : List ℕ) : Type 0 where

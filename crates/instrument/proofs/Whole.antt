@@ -24,7 +24,7 @@ use Rattle.rewrite_modules.proofs.Theorem.{startable_given, ready_given}
 use Rattle.rewrite_modules.proofs.ValidModule.{new_valid}
 use Rattle.rewrite_sizes.proofs.Totals.{total_many}
 use Rattle.rewrite_sizes.proofs.Sections.{contents_least}
-use Rattle.rewrite_sizes.proofs.Lists.{within}
+use Rattle.rewrite_sizes.proofs.Lists.{within, type_some}
 use Rattle.rewrite_promise.specs.Promise.{Accepted, IsRewriting, Promised}
 use Rattle.rewrite_promise.proofs.Laid.{laid, laid_is, laid_same}
 use Rattle.rewrite_promise.proofs.Kept.{promised}
@@ -47,10 +47,6 @@ there_as P Q (x ∷ xs) (suc i) go h = there_as P Q xs i go h
 pub elements_there : (m : Module) → Valid m → AllByRecursion (ElementThere m) m.elements
 elements_there m valid =
     all_of (ElementThere m) m.elements (λ i. there_as (ElementFine m) (ElementThere m) m.elements i (λ e fine. all_at (λ f. f < length (function_types m)) e.functions fine.2) (valid (ElementAt i)))
-
-type_some : (t : FuncType) → 1 ≤ length (function_type_bytes t)
-unfolding function_type_bytes
-type_some t = omega arith
 
 pub few_types : (m : Module) → Accepted m → length m.types + 3 < 2 ^ 32
 few_types m a =

@@ -22,9 +22,9 @@ use Rattle.command_answers.specs.declared.outcome.Outcome.{Outcome}
 use Rattle.command_answers.proofs.Reading.{then_ok, then_err}
 use Rattle.command_answers.proofs.Unless.{OnAnswer, unless, on_all, map_answer}
 use Rattle.run_session.specs.Written.{Writes, HoldThen}
-use Rattle.instrument_command.proofs.HeldFiles.{none_held}
 use Rattle.instrument_command.specs.InstrumentAnswer.{Decides, ModuleAnswer, AnsweredOn}
 use Rattle.instrument_command.specs.inner.Steps.{Refuses, IsAnswered}
+use Rattle.run_session.proofs.Held.{none_held}
 
 -- ---- a valid module
 

@@ -24,6 +24,7 @@ use Rattle.command_answers.specs.declared.status.Status.TheVariants as status
 use Rattle.run_session.specs.Written.{Writes, HoldThen, held_then}
 use Rattle.instrument_command.specs.InstrumentAnswer.{refused, Decides, ModuleAnswer, InstrumentAnswer}
 use Rattle.instrument_command.specs.Headline.{HoldsRewriting}
+use Rattle.host_set.proofs.Names.{itself}
 
 -- ---- refusals
 
@@ -98,9 +99,6 @@ pub what_was_found : (source out : List ℕ) (held : Contents) (x : Writes) (o :
 what_was_found source out held x o done a = content_found out x o done source (held source) a.answer
 
 -- ---- what files hold then
-
-itself : (name : List ℕ) → bytes_eq name name ≡ true
-itself name = (bytes_eq-Decides name name).1 refl
 
 one_then : (out written : List ℕ) (old : Contents) (b : Bool) → bytes_eq out out ≡ b → b ≡ true → (if b then Some written else old out) ≡ Some written
 one_then out written old true is e = refl

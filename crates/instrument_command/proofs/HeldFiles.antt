@@ -10,19 +10,6 @@ use Rattle.dump_write.specs.Written.{OnTold, HasFile, HasFront, Writes as Leaves
 use Rattle.dump_write.proofs.Files.{same_told, none_told}
 use Rattle.run_session.specs.Written.{HoldThen}
 
-one_file : (file bytes : List ℕ) (old new : Contents) (name : List ℕ) (b : Bool) → bytes_eq name file ≡ b → HasFile file bytes old new → new name ≡ (if b then Some bytes else old name)
-one_file file bytes old new name true e (has, others) = ap new ((bytes_eq-Decides name file).0 e) ∙ has
-one_file file bytes old new name false e (has, others) = others name (λ same. absurd (clash ((bytes_eq-Decides name file).1 same)))
-  where
-    clash : bytes_eq name file ≡ true → ⊥
-    clash f = absurd cc
-
-pub one_held : (file bytes : List ℕ) (before after : Option Contents) → OnTold (HasFile file bytes) before after → OnTold (HoldThen ((file, bytes) ∷ [])) before after
-one_held file bytes before after has = same_told (HasFile file bytes) (HoldThen ((file, bytes) ∷ [])) before after (λ o n x name. one_file file bytes o n name (bytes_eq name file) refl x) has
-
-pub none_held : (told : Option Contents) → OnTold (HoldThen []) told told
-none_held told = none_told (HoldThen []) told (λ o name. refl)
-
 -- whatever writing the file answered, it holds a front
 pub front_left : (file bytes : List ℕ) (answer : WriteAnswer) (before after : Option Contents) → OnTold (Leaves file bytes answer) before after → OnTold (HasFront file bytes) before after
 front_left file bytes answer before after x = same_told (Leaves file bytes answer) (HasFront file bytes) before after (λ o n. of answer o n) x

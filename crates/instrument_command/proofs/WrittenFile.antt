@@ -15,10 +15,11 @@ use Rattle.command_answers.specs.declared.outcome.Outcome.{Outcome}
 use Rattle.command_answers.specs.declared.status.Status.TheVariants as status
 use Rattle.command_answers.proofs.Unless.{OnAnswer, on_all}
 use Rattle.run_session.specs.Stop.{OnStop}
-use Rattle.instrument_command.proofs.HeldFiles.{one_held, front_left}
+use Rattle.instrument_command.proofs.HeldFiles.{front_left}
 use Rattle.instrument_command.specs.InstrumentAnswer.{instrumented, Decides, ModuleAnswer}
 use Rattle.instrument_command.specs.Stops.{LeftInPart}
 use Rattle.instrument_command.specs.inner.Steps.{Rewrites, Weighs, IsAnswered, ModuleStops}
+use Rattle.run_session.proofs.Held.{one_held}
 
 -- ---- the answer
 

@@ -19,8 +19,9 @@ use Rattle.line_coverage.specs.inner.Visits.{bodies_sum}
 use Rattle.line_coverage.specs.inner.Placing.{in_tables, Moves}
 use Rattle.line_coverage.specs.inner.Order.{spot_cmp, line_of}
 use Rattle.line_coverage.proofs.PlaceLaws.{placed}
-use Rattle.line_coverage.proofs.FallLaws.{fell_sum, count_le, count_all, same_length}
+use Rattle.line_coverage.proofs.FallLaws.{fell_sum, count_le, same_length}
 use Rattle.line_coverage.proofs.ListLaws.{ascend_lines, same_sum, none_sum, counted_lines, listed_sum}
+use Rattle.machine_steps.proofs.TallyLaws.{count_all}
 
 one_test : {K : Type 0} (b : Bool) (es : List (K × ℕ)) → sum_of (λ _. b) es ≡ cond b (sum_all es) 0
 one_test true es = refl

@@ -55,10 +55,6 @@ count_le p (x ∷ xs) = by (p x) (count_le p xs) (sum_by-cons (λ y. cond (p y) 
   by true h e = omega (arith, h, e)
   by false h e = omega (arith, h, e)
 
-pub count_all : {X : Type 0} (xs : List X) → count_by (λ _. true) xs ≡ length xs
-count_all [] = refl
-count_all (x ∷ xs) = omega (arith, sum_by-cons (λ _. 1) x xs, count_all xs)
-
 pub same_length : {X Y : Type 0} (f : X → Y) (xs : List X) → length (map f xs) ≡ length xs
 same_length f [] = refl
 same_length f (x ∷ xs) = ap suc (same_length f xs)

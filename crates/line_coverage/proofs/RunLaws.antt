@@ -22,26 +22,9 @@ use Rattle.dwarf_line.specs.declared.lines.Lines.{Lines}
 use Rattle.line_coverage.specs.Covers.{fallen, Covered, Covers}
 use Rattle.line_coverage.specs.Runs.{run_places, CoversRun}
 use Rattle.line_coverage.proofs.FallLaws.{same_length}
-
-some_is : {A : Type 0} {a b : A} → Some a ≡ Some b → a ≡ b
-some_is e = cc
-
-same_end : {A : Type 0} (xs ys zs : List A) → xs ++ ys ≡ xs ++ zs → ys ≡ zs
-same_end [] ys zs e = e
-same_end (x ∷ xs) ys zs e = same_end xs ys zs (ap tail_of e)
-  where
-    tail_of : {B : Type 0} → List B → List B
-    tail_of [] = []
-    tail_of (b ∷ bs) = bs
-
-admits_none : (answer : RunEnd) → AdmitsReplies answer []
-admits_none (Finished value) = tt
-admits_none (Trapped kind) = tt
-admits_none NoReply = refl
-admits_none (BadReply reply) = tt
-admits_none (DeviceFault name) = refl
-admits_none FuelSpent = tt
-admits_none NoMemory = tt
+use Rattle.wasm_laws.proofs.Lists.{some_is}
+use Rattle.machine_hosted.proofs.WatchLaws.{admits_none}
+use Rattle.machine_hosted.proofs.WatchJoins.{behind_same}
 
 count_within : (answer : RunEnd) (fuel made count : ℕ) → IsCount answer fuel made count → made ≤ fuel → count ≤ fuel
 count_within (Finished value) fuel made count e h = omega (arith, e, h)
@@ -71,7 +54,7 @@ module _ (tables : List Lines) (m : Module) (s s' : State) (is_new : IsNew m s) 
         let count : IsCount answer fuel i.made w.count = subst (λ n. IsCount answer fuel n w.count) made w.is in
         let within : i.made ≤ fuel = (i.came.came [] (admits_none answer)).within in
         let bound : w.count < 2 ^ 64 = omega (arith, count_within answer fuel i.made w.count count within, small) in
-        let given : w.asked.given ≡ i.came.asked.given = same_end old.served w.asked.given i.came.asked.given (sym w.grew.served ∙ i.came.grew.served) in
+        let given : w.asked.given ≡ i.came.asked.given = behind_same old.served w.asked.given i.came.asked.given (sym w.grew.served ∙ i.came.grew.served) in
         let fell : (more : List Reply) → Covers c (map (fallen tables m) (invocation_placing (engine p collecting depth) s.due g args (world_of s.machine []) (replies_of w.asked.given ++ more) w.count)) = λ more.
         counted (invocation_placing (engine p collecting depth) s.due g args (world_of s.machine []) (replies_of w.asked.given ++ more) w.count)
         (subst (λ x. Counted x t' (invocation_placing (engine p collecting depth) s.due g args (world_of s.machine []) (replies_of w.asked.given ++ more) w.count)) is (w.sees more [] (subst (λ x. Counted x t []) (sym is) begun)))

@@ -1,6 +1,6 @@
 -- A function is begun from outside of all frames.
 use Rattle.std.proofs.Common.{◌≡◌, ℕ, suc, ◌+◌, ◌-◌, ◌<◌, List, [], ◌∷◌, ◌++◌, length, reverse, take, get_or, refl, sym, ap, subst, ◌∙◌, add-one, append_assoc, length-append, arith}
-use Rattle.std.proofs.lemmas.List.{length-reverse, reverse-append, reverse-reverse}
+use Rattle.std.proofs.lemmas.List.{length-reverse, reverse-append, reverse-reverse, append-nil}
 use Rattle.std.proofs.Math.Seq.{take-suc}
 use Rattle.std.specs.Prelude.{Some, None, slice_get}
 use Rattle.wasm_syntax.specs.declared.value.Value.{Value}
@@ -27,10 +27,6 @@ one_value args i d old values lt e =
     let taken : take (i + 1) args ≡ take i args ++ get_or args i d ∷ [] = ap (λ n. take n args) (add-one i) ∙ take-suc args i d lt in
     ap (λ l. get_or args i d ∷ l) e ∙ ap (λ l. l ++ old) (sym (ap reverse taken ∙ reverse-append (take i args) (get_or args i d ∷ [])))
 
-append_none : {A : Type 0} (xs : List A) → xs ++ [] ≡ xs
-append_none [] = refl
-append_none (x ∷ xs) = ap (λ l. x ∷ l) (append_none xs)
-
 module _ (p : Program) (codes : List Code) (prepares : Prepares p codes) (function : ℕ) (body : Body) (tree : Tree) (type : FuncType) (is : defined_at p function ≡ Some (defined body tree type)) (callee : Code) (callee_is : slice_get codes function ≡ Some callee) (args : List Value) (count : length args ≡ length type.params) where
   abbrev locals : List Value
   locals = args ++ zeros (declared_locals body.groups)
@@ -53,7 +49,7 @@ module _ (p : Program) (codes : List Code) (prepares : Prepares p codes) (functi
   stands =
       let values : reverse (zeros (declared_locals callee.body.now.groups)) ++ (reverse args ++ []) ≡ reverse (args ++ zeros (declared_locals body.groups)) ++ [] =
       ap (λ (b : Body). reverse (zeros (declared_locals b.groups)) ++ (reverse args ++ [])) (sym body_is) ∙ sym (append_assoc (reverse (zeros (declared_locals body.groups))) (reverse args) []) ∙ ap (λ l. l ++ []) (sym (reverse-append args (zeros (declared_locals body.groups)))) in
-      let many : length (reverse args ++ []) ≡ length args = ap length (append_none (reverse args)) ∙ length-reverse args in
+      let many : length (reverse args ++ []) ≡ length args = ap length (append-nil (reverse args)) ∙ length-reverse args in
       let zero_plus : 0 + size tree.nodes ≡ size tree.nodes = omega arith in
       let f : FitsCode tree type callee = fits in
       let level : Level p codes (length p.module_.imports + function) (result_of type) (args ++ zeros (declared_locals body.groups)) (label [] tree.nodes tree.end (returns (result_of type)) ∷ [])

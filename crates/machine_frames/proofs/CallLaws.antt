@@ -61,7 +61,7 @@ regroup : {A : Type 0} (taken below outer under : List A) → ((taken ++ below) 
 regroup taken below outer under = simp append_assoc refl
 
 -- a function that is defined is no import
-no_import : (p : Program) (i : ℕ) (import : Import) (type : FuncType) → defined_at p i ≡ Some (imported import type) → ⊥
+pub no_import : (p : Program) (i : ℕ) (import : Import) (type : FuncType) → defined_at p i ≡ Some (imported import type) → ⊥
 no_import p i import type e = by_index (slice_get p.module_.functions i) e
   where
     by_tree : (body : Body) (u : FuncType) (o : Option Tree) → option_map (λ tree. defined body tree u) o ≡ Some (imported import type) → ⊥

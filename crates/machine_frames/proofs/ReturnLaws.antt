@@ -1,6 +1,6 @@
 -- A function is left.
 use Rattle.std.proofs.Common.{◌≡◌, ℕ, ◌-◌, List, [], ◌∷◌, ◌++◌, length, reverse, drop, refl, sym, ap, subst, ◌∙◌, append_assoc, length-append, arith}
-use Rattle.std.proofs.lemmas.List.{drop_at}
+use Rattle.std.proofs.lemmas.List.{drop_at, append-nil}
 use Rattle.std.specs.Prelude.{Bool, true, Option, Some, None}
 use Rattle.wasm_syntax.specs.declared.value.Value.{Value}
 use Rattle.wasm_syntax.specs.Machine as steps
@@ -17,10 +17,6 @@ use Rattle.machine_frames.specs.Meets.{Point, Meets, Inner, return_at}
 use Rattle.machine_frames.specs.inner.Moves.{Carried, Leaves}
 use Rattle.machine_frames.proofs.Labels.{top_splits}
 use Rattle.machine_frames.proofs.Points.{stuck_meets}
-
-append_none : {A : Type 0} (xs : List A) → xs ++ [] ≡ xs
-append_none [] = refl
-append_none (x ∷ xs) = ap (λ l. x ∷ l) (append_none xs)
 
 regroup : {A : Type 0} (taken gone outer locals below : List A) → ((taken ++ gone) ++ outer) ++ (locals ++ below) ≡ taken ++ ((gone ++ (outer ++ locals)) ++ below)
 regroup taken gone outer locals below = simp append_assoc refl
@@ -88,7 +84,7 @@ module _ (x : Point) (m : CallStack) (code : Code) (h : Inner x m code) (a : Ste
   delivers taken fs es pc ks vs w Stuck l = absurd l
   delivers taken [] [] pc ks vs w Next l = absurd l
   delivers taken [] [] pc ks vs w Ended l = record {
-    values = ap (λ (k : CallStack). k.values) l ∙ ap (λ k. taken ++ k) w.1 ∙ append_none taken;
+    values = ap (λ (k : CallStack). k.values) l ∙ ap (λ k. taken ++ k) w.1 ∙ append-nil taken;
     controls = ap (λ (k : CallStack). k.controls) l ∙ w.0;
     frames = ap (λ (k : CallStack). k.frames) l;
     world = refl;

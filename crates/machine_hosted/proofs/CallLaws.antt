@@ -20,15 +20,7 @@ use Rattle.machine_steps.specs.declared.machine.Machine.{Machine}
 use Rattle.machine_steps.specs.declared.machine.ImportCall.{ImportCall}
 use Rattle.machine_steps.specs.Meets.{CallsImport}
 use Rattle.machine_hosted.specs.inner.Turns.{AtCall}
-
-pub same_types_of : (ts us : List ValType) → same_types ts us ≡ true → ts ≡ us
-same_types_of [] [] e = refl
-same_types_of [] (_ ∷ _) e = absurd (cc)
-same_types_of (_ ∷ _) [] e = absurd (cc)
-same_types_of (I32 ∷ a) (I32 ∷ b) e = ap (λ z. I32 ∷ z) (same_types_of a b e)
-same_types_of (I32 ∷ a) (I64 ∷ b) e = absurd (cc)
-same_types_of (I64 ∷ a) (I32 ∷ b) e = absurd (cc)
-same_types_of (I64 ∷ a) (I64 ∷ b) e = ap (λ z. I64 ∷ z) (same_types_of a b e)
+use Rattle.wasm_laws.proofs.Never.{same_list}
 
 -- a function whose index is that of an import
 pub imported_is : (p : Program) (f : ℕ) (i : Import) (type : FuncType) → slice_get p.module_.imports f ≡ Some i → slice_get p.module_.types i.ftype ≡ Some type → function_at p f ≡ Some (imported i type)
@@ -68,7 +60,7 @@ module _ (M : Engine) (codes : List Code) (call : ImportCall) (m : Machine) (c :
         below = below;
         operands = p.0 ∙ ap (λ l. l ++ below) (sym (reverse-reverse vs));
         count = length-reverse vs ∙ p.1;
-        typed = same_types_of (types (reverse vs)) h.type.params t;
+        typed = same_list (types (reverse vs)) h.type.params t;
         step_is = by_types vs below e true t;
       }
 

@@ -31,9 +31,7 @@ use Rattle.machine_hosted.proofs.WorldLaws.{fits_replying}
 use Rattle.machine_hosted.proofs.ModuleLaws.{valid_program, takes_start}
 use Rattle.machine_hosted.proofs.JoinLaws.{begun_in, function_ends}
 use Rattle.machine_hosted.proofs.WaitLaws.{function_fits, rests}
-
-some_is : {A : Type 0} {a b : A} → Some a ≡ Some b → a ≡ b
-some_is e = cc
+use Rattle.wasm_laws.proofs.Lists.{some_is}
 
 -- ---- where an invocation waits
 
@@ -158,7 +156,7 @@ module _ (p : Program) (codes : List Code) (used_up : Import → Bool) (go : Inv
 
 -- ---- what was asked, one after the other
 
-replies_on : (gs hs : List ServedCall) (more : List Reply) → replies_of (gs ++ hs) ++ more ≡ replies_of gs ++ (replies_of hs ++ more)
+pub replies_on : (gs hs : List ServedCall) (more : List Reply) → replies_of (gs ++ hs) ++ more ≡ replies_of gs ++ (replies_of hs ++ more)
 replies_on gs hs more = ap (λ l. l ++ more) (map-append (λ (s : ServedCall). s.reply) gs hs) ∙ append_assoc (replies_of gs) (replies_of hs) more
 
 -- the host side's lists tell what was asked

@@ -10,15 +10,7 @@ use Rattle.wasm_syntax.specs.Run.{Ended, ended, Ran, ran_to, run_function, run_e
 use Rattle.machine_steps.specs.Places.{Place, place_of, entry_places, places_on, invocation_places}
 use Rattle.machine_steps.proofs.MadeLaws.{Reached, function_count, function_reached}
 use Rattle.machine_hosted.proofs.JoinLaws.{function_ends, left_is}
-
-get_first : {A : Type 0} (xs ys : List A) (k : ℕ) → k < length xs → slice_get (xs ++ ys) k ≡ slice_get xs k
-get_first [] ys k lt = absurd (omega (arith, lt))
-get_first (x ∷ xs) ys zero lt = refl
-get_first (x ∷ xs) ys (suc k) lt = get_first xs ys k (omega (arith, lt))
-
-get_behind : {A : Type 0} (xs ys : List A) (k : ℕ) → slice_get (xs ++ ys) (length xs + k) ≡ slice_get ys k
-get_behind [] ys k = let e : 0 + k ≡ k = omega arith in ap (slice_get ys) e
-get_behind (x ∷ xs) ys k = let e : suc (length xs) + k ≡ suc (length xs + k) = omega arith in ap (slice_get (x ∷ (xs ++ ys))) e ∙ get_behind xs ys k
+use Rattle.wasm_laws.proofs.Lists.{get_behind, get_front}
 
 module _ (M : Engine) (f : ℕ) (args : List Value) where
   -- ---- as many as steps
@@ -57,7 +49,7 @@ module _ (M : Engine) (f : ℕ) (args : List Value) where
       first : k < length (entry_places M n start [] w []) → (there : Config) × ((invoked M (Some start) k f args w).last ≡ Some there) × (at ≡ place_of there)
       first lt =
           let x = run_function M n start (function_at M.program start) [] w [] in
-          let r = function_reached M n k start (function_at M.program start) [] w [] at (sym (get_first (entry_places M n start [] w []) (places_on M x.what x.left f args) k lt) ∙ e) in
+          let r = function_reached M n k start (function_at M.program start) [] w [] at (sym (get_front (entry_places M n start [] w []) (places_on M x.what x.left f args) k lt) ∙ e) in
           (r.there, ap (λ (x : Ended). (go_on M x.what x.left f args).last) r.is, r.place)
 
       behind : (s : Stepped) (l j : ℕ) → run_function M n start (function_at M.program start) [] w [] ≡ ended s l → k ≡ length (entry_places M n start [] w []) + j → slice_get (places_on M s l f args) j ≡ Some at → (there : Config) × ((invoked M (Some start) k f args w).last ≡ Some there) × (at ≡ place_of there)

@@ -18,6 +18,7 @@ use Rattle.wasm_laws.proofs.Validity.{startable}
 use Rattle.wasm_laws.proofs.Safe.{Typed}
 use Rattle.machine_hosted.specs.Safe.{ValidProgram}
 use Rattle.machine_hosted.specs.Settings.{Sound, Takes}
+use Rattle.machine_frames.proofs.CallLaws.{function_is, no_import}
 
 pub valid_program : (p : Program) (m : Module) (prepared : Prepared) → Sound m prepared → p.module_ ≡ m → IsProgram p → ValidProgram p
 valid_program p m prepared s e w = record {
@@ -51,46 +52,20 @@ function_imported p f i type e t =
 
 -- ---- defined functions
 
--- a defined function, by its index among all
-pub at_index : (p : Program) (i : ℕ) → function_at p (length p.module_.imports + i) ≡ defined_at p i
-at_index p i =
-    let test : nat_lt (length p.module_.imports + i) (length p.module_.imports) ≡ false = grind (arith, nat_tests) in
-    let less : length p.module_.imports + i - length p.module_.imports ≡ i = omega arith in
-    ap (λ b. if b then imported_at p.module_ (length p.module_.imports + i) else defined_at p (length p.module_.imports + i - length p.module_.imports)) test ∙ ap (defined_at p) less
-
 pub record IsDefined (p : Program) (i : ℕ) (type : FuncType) : Type 0 where
   pub body : Body
   pub tree : Tree
   pub at : defined_at p i ≡ Some (defined body tree type)
   pub function : function_at p (length p.module_.imports + i) ≡ Some (defined body tree type)
 
-pub not_imported : (p : Program) (i : ℕ) (x : Import) (type : FuncType) → defined_at p i ≡ Some (imported x type) → ⊥
-not_imported p i x type e = by_index (slice_get p.module_.functions i) e
-  where
-    by_tree : (body : Body) (u : FuncType) (o : Option Tree) → option_map (λ tree. defined body tree u) o ≡ Some (imported x type) → ⊥
-    by_tree body u None e = cc
-    by_tree body u (Some tree) e = cc
-
-    by_body : (u : FuncType) (o : Option Body) → option_then o (λ body. option_map (λ tree. defined body tree u) (slice_get p.trees i)) ≡ Some (imported x type) → ⊥
-    by_body u None e = cc
-    by_body u (Some body) e = by_tree body u (slice_get p.trees i) e
-
-    by_type : (o : Option FuncType) → option_then o (λ u. option_then (slice_get p.module_.bodies i) (λ body. option_map (λ tree. defined body tree u) (slice_get p.trees i))) ≡ Some (imported x type) → ⊥
-    by_type None e = cc
-    by_type (Some u) e = by_body u (slice_get p.module_.bodies i) e
-
-    by_index : (o : Option ℕ) → option_then o (λ t. option_then (slice_get p.module_.types t) (λ u. option_then (slice_get p.module_.bodies i) (λ body. option_map (λ tree. defined body tree u) (slice_get p.trees i)))) ≡ Some (imported x type) → ⊥
-    by_index None e = cc
-    by_index (Some t) e = by_type (slice_get p.module_.types t) e
-
 pub is_defined : (p : Program) (i : ℕ) (type : FuncType) → ValidProgram p → type_at p.module_ (length p.module_.imports + i) ≡ Some type → IsDefined p i type
 is_defined p i type v t = let fn = (typed_of p v).functions (length p.module_.imports + i) type t in by_function fn.0 fn.1 fn.2
   where
     by_function : (fn : Function) → function_at p (length p.module_.imports + i) ≡ Some fn → function_type fn ≡ type → IsDefined p i type
-    by_function (imported x u) at ty = absurd (not_imported p i x u (sym (at_index p i) ∙ at))
+    by_function (imported x u) at ty = absurd (no_import p i x u (sym (function_is p i) ∙ at))
     by_function (defined body tree u) at ty =
         let same : function_at p (length p.module_.imports + i) ≡ Some (defined body tree type) = at ∙ ap (λ (z : FuncType). Some (defined body tree z)) ty in
-        record { body = body; tree = tree; at = sym (at_index p i) ∙ same; function = same }
+        record { body = body; tree = tree; at = sym (function_is p i) ∙ same; function = same }
 
 pub function_there : (p : Program) (m : Module) (prepared : Prepared) (f : ℕ) (args : List Value) → Sound m prepared → p.module_ ≡ m → IsProgram p → Takes m f args → (fn : Function) × (function_at p f ≡ Some fn)
 function_there p m prepared f args s e w t =

@@ -25,12 +25,11 @@ use Rattle.machine_hosted.specs.inner.FrameRuns.{CameWith}
 use Rattle.machine_hosted.specs.inner.Turns.{Ready, going}
 use Rattle.machine_hosted.specs.inner.Resumes.{with_replies, resuming, WaitsIn, Waits}
 use Rattle.machine_hosted.proofs.WorldLaws.{shares_replying}
-use Rattle.machine_hosted.proofs.ModuleLaws.{valid_program, not_imported}
+use Rattle.machine_hosted.proofs.ModuleLaws.{valid_program}
 use Rattle.machine_hosted.proofs.FrameLaws.{by_frames}
 use Rattle.machine_hosted.proofs.DefinedLaws.{by_same}
-
-never_stuck : (m : Module) (s : Stepped) → RunFits m s → s ≢ stuck
-never_stuck m s h e = subst (RunFits m) e h
+use Rattle.machine_frames.proofs.CallLaws.{no_import as not_imported}
+use Rattle.machine_hosted.proofs.SafeLaws.{not_stuck}
 
 -- ---- imported and defined functions by their indices
 
@@ -82,7 +81,7 @@ module _ (source : Module) (prepared : Prepared) (collecting : Bool) (depth f : 
         is_prepared = sound.is_prepared p e is;
         depth_is = refl;
         stands = record { frames = stands.frames; shares = shares_replying m c.world replies stands.shares };
-        safe = λ n. never_stuck p.module_ (run_steps (engine p collecting depth) n (with_replies c replies)).what (fits replies n);
+        safe = λ n. not_stuck p.module_ (run_steps (engine p collecting depth) n (with_replies c replies)).what (fits replies n);
       };
     }
 

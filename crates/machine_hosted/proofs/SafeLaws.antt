@@ -27,6 +27,7 @@ use Rattle.machine_steps.specs.Meets.{Shares, StandsFor}
 use Rattle.machine_frames.specs.Layout as layout
 use Rattle.machine_steps.specs.inner.Runs.{Begins, Leads}
 use Rattle.machine_hosted.specs.Safe.{ValidProgram, MemoryFits, WorldFits, RunFits}
+use Rattle.machine_frames.proofs.CallLaws.{function_is as at_index}
 
 -- ---- worlds
 
@@ -77,17 +78,10 @@ entered_fits M f body tree type args w co n v at ty wf =
     let s = startable M.program v.writes v.paired v.valid in
     run_fits M s.typed n (config (entered f body tree type args ∷ []) w co) (world_fine M.program.module_ w wf) (entered_fine M s.typed f body tree type args at ty)
 
-not_stuck : (m : Module) (s : Stepped) → RunFits m s → s ≢ stuck
+pub not_stuck : (m : Module) (s : Stepped) → RunFits m s → s ≢ stuck
 not_stuck m s h e = subst (RunFits m) e h
 
 -- ---- machines
-
--- a defined function, by its index among all
-at_index : (p : Program) (i : ℕ) → function_at p (length p.module_.imports + i) ≡ defined_at p i
-at_index p i =
-    let test : nat_lt (length p.module_.imports + i) (length p.module_.imports) ≡ false = grind (arith, nat_tests) in
-    let less : length p.module_.imports + i - length p.module_.imports ≡ i = omega arith in
-    ap (λ b. if b then imported_at p.module_ (length p.module_.imports + i) else defined_at p (length p.module_.imports + i - length p.module_.imports)) test ∙ ap (defined_at p) less
 
 pub begins : (M : Engine) (prepared : Prepared) (i : ℕ) (body : Body) (tree : Tree) (type : FuncType) (args : List Value) (w : World) (co : List CollectorCall) (m : Machine) → ValidProgram M.program → IsPrepared M.program prepared → Shares m w → WorldFits M.program.module_ w →
     defined_at M.program i ≡ Some (defined body tree type) → types args ≡ type.params → layout.StandsFor M.program prepared.codes.items m.stack (entered (length M.program.module_.imports + i) body tree type args ∷ []) →

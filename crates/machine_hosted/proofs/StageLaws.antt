@@ -34,6 +34,7 @@ use Rattle.machine_hosted.specs.inner.FrameRuns.{Tells, Came, CameWith}
 use Rattle.host_devices.specs.Given.{replies_of}
 use Rattle.machine_hosted.specs.inner.Turns.{Setting, Ready, Calling, going, nothing, Turned, TurnedWith}
 use Rattle.machine_hosted.specs.inner.Turns as turns
+use Rattle.machine_hosted.proofs.CourseLaws.{replies_on}
 
 -- ---- what was asked, one after the other
 
@@ -45,9 +46,6 @@ grew_on a b old mid new g h = record {
   served = h.served ∙ ap (λ l. l ++ b.given) g.served ∙ append_assoc old.served a.given b.given;
   collected = h.collected ∙ ap (λ l. l ++ b.told) g.collected ∙ append_assoc old.collected a.told b.told;
 }
-
-pub replies_on : (gs hs : List Given) (more : List Reply) → replies_of (gs ++ hs) ++ more ≡ replies_of gs ++ (replies_of hs ++ more)
-replies_on gs hs more = ap (λ l. l ++ more) (map-append (λ (s : Given). s.reply) gs hs) ∙ append_assoc (replies_of gs) (replies_of hs) more
 
 turned_round : {A : Type 0} → (xs ys rest : List A) → reverse ys ++ (reverse xs ++ rest) ≡ reverse (xs ++ ys) ++ rest
 turned_round xs ys rest = sym (append_assoc (reverse ys) (reverse xs) rest) ∙ ap (λ l. l ++ rest) (sym (reverse-append xs ys))
@@ -94,7 +92,7 @@ module _ (M : Engine) (codes : List Code) where
       let z : 0 ≡ n - n = omega arith in
       ap (λ j. run_steps M j c) e ∙ leads 0 ∙ ap (ended (next c')) z
 
-enough : (answer : RunEnd) (fuel n : ℕ) → n ≤ fuel → n ≤ given_steps answer fuel n
+pub enough : (answer : RunEnd) (fuel n : ℕ) → n ≤ fuel → n ≤ given_steps answer fuel n
 enough answers.NoMemory fuel n le = omega arith
 enough answers.FuelSpent fuel n le = le
 enough (answers.Finished value) fuel n le = le

@@ -24,20 +24,15 @@ use Rattle.machine_hosted.specs.Settings.{world_of}
 use Rattle.machine_hosted.specs.Answers.{last_in, FunctionCame, function_going}
 use Rattle.machine_hosted.specs.Watching.{IsCount, Watched, function_placing, invocation_placing}
 use Rattle.machine_hosted.proofs.WorldLaws.{one_world}
-use Rattle.machine_hosted.proofs.StageLaws.{joined, grew_on, replies_on}
+use Rattle.machine_hosted.proofs.StageLaws.{joined, grew_on}
 use Rattle.machine_hosted.proofs.JoinLaws.{function_ends}
+use Rattle.machine_hosted.proofs.CourseLaws.{replies_on, one_asked}
 
 -- ---- one growth of the lists
 
-behind_same : {A : Type 0} (xs ys zs : List A) → xs ++ ys ≡ xs ++ zs → ys ≡ zs
+pub behind_same : {A : Type 0} (xs ys zs : List A) → xs ++ ys ≡ xs ++ zs → ys ≡ zs
 behind_same [] ys zs e = e
 behind_same (x ∷ xs) ys zs e = behind_same xs ys zs (ap (drop 1) e)
-
-asked_once : (a b : Asked) (old new : Calls) → Grew a old new → Grew b old new → a ≡ b
-asked_once a b old new g h =
-    let given = behind_same old.served a.given b.given (sym g.served ∙ h.served) in
-    let told = behind_same old.collected a.told b.told (sym g.collected ∙ h.collected) in
-    λ i. record { given = given i; told = told i }
 
 count_on : (answer : RunEnd) (fuel first steps count : ℕ) → first ≤ fuel → IsCount answer (fuel - first) steps count → IsCount answer fuel (first + steps) (first + count)
 count_on (Finished value) fuel first steps count le e = ap (λ n. first + n) e
@@ -124,7 +119,7 @@ module _ {W : Type 0} (saw : Module → W → List (Option Place) → Type 0) (x
         (one : Watched saw x (function_placing M start [] w0 []) fuel (Finished v) made before between old middle)
         (two : Watched saw x (function_placing M f args w1 co1) (fuel - made) answer steps between now middle new) where
       same_asked : one.asked ≡ first_asked
-      same_asked = asked_once one.asked first_asked old middle one.grew g
+      same_asked = one_asked one.asked first_asked old middle one.grew g
 
       first_made : (more : List Reply) → length (function_placing M start [] w0 [] (replies_of first_asked.given ++ more) made) ≡ made
       first_made more =

@@ -29,7 +29,8 @@ use Rattle.machine_hosted.specs.Watching.{Placing, IsCount, Watched}
 use Rattle.machine_hosted.specs.inner.Alone.{alone}
 use Rattle.machine_hosted.specs.inner.Turns.{nothing}
 use Rattle.machine_hosted.specs.inner.Watches.{frames_placing}
-use Rattle.machine_hosted.proofs.StageLaws.{joined, replies_on, SoFar}
+use Rattle.machine_hosted.proofs.StageLaws.{joined, SoFar}
+use Rattle.machine_hosted.proofs.CourseLaws.{replies_on}
 
 -- all steps that were made
 pub count_same : (answer : RunEnd) (fuel n : ℕ) → n ≤ fuel → IsCount answer fuel n n
@@ -111,7 +112,7 @@ module _ {W : Type 0} (saw : Module → W → List (Option Place) → Type 0) wh
 
 -- ---- an import with no frame
 
-admits_none : (answer : RunEnd) → AdmitsReplies answer []
+pub admits_none : (answer : RunEnd) → AdmitsReplies answer []
 admits_none (Finished value) = tt
 admits_none (Trapped kind) = tt
 admits_none NoReply = refl

@@ -14,9 +14,7 @@ use Rattle.machine_code.specs.Code.{FitsCode, Prepares}
 use Rattle.machine_prepared.specs.inner.Numbers.{AllNumbered}
 use Rattle.machine_steps.specs.Prepares.{Numbered}
 use Rattle.machine_prepared.specs.inner.Codes.{PreparesUpTo}
-
-some_is : {A : Type 0} {a b : A} → Some a ≡ Some b → a ≡ b
-some_is e = cc
+use Rattle.machine_frames.proofs.Labels.{some_is}
 
 -- ---- numbers
 

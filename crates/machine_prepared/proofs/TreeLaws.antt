@@ -9,9 +9,7 @@ use Rattle.machine_prepared.specs.declared.tree.Letter.{Letter}
 use Rattle.machine_prepared.specs.declared.tree.Letter.TheVariants.{I32, I64, Arrow}
 use Rattle.machine_prepared.specs.declared.tree.Node.{Node}
 use Rattle.machine_prepared.specs.inner.Tree.{empty, edge, with_edge, next, reaches, IsTree, Extends, letter_of}
-
-some_is : {A : Type 0} {a b : A} → Some a ≡ Some b → a ≡ b
-some_is e = cc
+use Rattle.machine_frames.proofs.Labels.{some_is}
 
 -- ---- an edge is put in
 
@@ -222,7 +220,7 @@ one_word ns t (a ∷ u) (b ∷ v) k e f =
 pub extends_both : (a b c : List Node) → Extends a b → Extends b c → Extends a c
 extends_both a b c x y i s k e = y i s k (x i s k e)
 
-map_append : (a b : List ValType) → map letter_of (a ++ b) ≡ map letter_of a ++ map letter_of b
+pub map_append : (a b : List ValType) → map letter_of (a ++ b) ≡ map letter_of a ++ map letter_of b
 map_append [] b = refl
 map_append (t ∷ a) b = ap (λ l. letter_of t ∷ l) (map_append a b)
 

@@ -1,6 +1,6 @@
 -- Function types are the same by structure where their words are, and so where their numbers are.
 use Rattle.std.proofs.Common.{◌≡◌, ℕ, zero, suc, ◌<◌, List, [], ◌∷◌, ◌++◌, map, reverse, length, get_or, refl, sym, ap, ◌∙◌, arith}
-use Rattle.std.proofs.lemmas.List.{reverse-append, reverse-reverse}
+use Rattle.std.proofs.lemmas.List.{reverse-append, reverse-reverse, append-nil}
 use Rattle.std.proofs.lemmas.Bool.Decides.{nat_tests}
 use Rattle.std.specs.Prelude.{Bool, true, false, ◌&&◌, ◌==◌, Some, None, slice_get}
 use Rattle.wasm_syntax.specs.declared.value.ValType.{ValType}
@@ -12,7 +12,8 @@ use Rattle.machine_prepared.specs.declared.tree.Letter.{Letter}
 use Rattle.machine_prepared.specs.declared.tree.Letter.TheVariants.{I32, I64, Arrow}
 use Rattle.machine_prepared.specs.declared.tree.Node.{Node}
 use Rattle.machine_prepared.specs.inner.Tree.{letter_of, word, reaches, IsTree}
-use Rattle.machine_prepared.proofs.TreeLaws.{one_word}
+use Rattle.machine_prepared.proofs.TreeLaws.{one_word, map_append}
+use Rattle.std.proofs.lemmas.Bool.{and_parts}
 
 -- ---- words
 
@@ -40,23 +41,15 @@ split (t ∷ r) (u ∷ s) x y e =
 one_list : (r s : List ValType) → map letter_of r ≡ map letter_of s → r ≡ s
 one_list r s e = (split r s [] [] (ap (λ l. l ++ Arrow ∷ []) e)).0
 
-map_append : (a b : List ValType) → map letter_of (a ++ b) ≡ map letter_of a ++ map letter_of b
-map_append [] b = refl
-map_append (t ∷ a) b = ap (λ l. letter_of t ∷ l) (map_append a b)
-
 turned : (r : List ValType) → reverse (map letter_of r) ≡ map letter_of (reverse r)
 turned [] = refl
 turned (t ∷ r) = reverse-append (letter_of t ∷ []) (map letter_of r) ∙ ap (λ l. l ++ letter_of t ∷ []) (turned r) ∙ sym (map_append (reverse r) (t ∷ [])) ∙ ap (map letter_of) (sym (reverse-append (t ∷ []) r))
-
-append_none : {A : Type 0} (xs : List A) → xs ++ [] ≡ xs
-append_none [] = refl
-append_none (x ∷ xs) = ap (λ l. x ∷ l) (append_none xs)
 
 reverse_one : {A : Type 0} (r s : List A) → reverse r ≡ reverse s → r ≡ s
 reverse_one r s e = sym (reverse-reverse r) ∙ ap reverse e ∙ reverse-reverse s
 
 word_is : (t : FuncType) → word t ≡ map letter_of (reverse t.results) ++ Arrow ∷ map letter_of (reverse t.params)
-word_is t = ap (λ l. l ++ (Arrow ∷ (reverse (map letter_of t.params) ++ []))) (turned t.results) ∙ ap (λ l. map letter_of (reverse t.results) ++ Arrow ∷ l) (append_none (reverse (map letter_of t.params)) ∙ turned t.params)
+word_is t = ap (λ l. l ++ (Arrow ∷ (reverse (map letter_of t.params) ++ []))) (turned t.results) ∙ ap (λ l. map letter_of (reverse t.results) ++ Arrow ∷ l) (append-nil (reverse (map letter_of t.params)) ∙ turned t.params)
 
 pub one_type : (a b : FuncType) → word a ≡ word b → (a.params ≡ b.params) × (a.results ≡ b.results)
 one_type a b e =
@@ -67,11 +60,6 @@ same_word : (a b : FuncType) → a.params ≡ b.params → a.results ≡ b.resul
 same_word a b p r = ap (λ l. reverse (map letter_of l) ++ (Arrow ∷ (reverse (map letter_of a.params) ++ []))) r ∙ ap (λ l. reverse (map letter_of b.results) ++ (Arrow ∷ (reverse (map letter_of l) ++ []))) p
 
 -- ---- the test by structure
-
-both : (a b : Bool) → (a && b) ≡ true → (a ≡ true) × (b ≡ true)
-both true true e = (refl, refl)
-both true false e = absurd (cc)
-both false b e = absurd (cc)
 
 one_value_type : (t u : ValType) → same_type t u ≡ true → t ≡ u
 one_value_type types.I32 types.I32 e = refl
@@ -87,7 +75,7 @@ lists_same : (a b : List ValType) → same_types a b ≡ true → a ≡ b
 lists_same [] [] e = refl
 lists_same [] (u ∷ b) e = absurd (cc)
 lists_same (t ∷ a) [] e = absurd (cc)
-lists_same (t ∷ a) (u ∷ b) e = let q = both (same_type t u) (same_types a b) e in ap (λ z. z ∷ a) (one_value_type t u q.0) ∙ ap (λ z. u ∷ z) (lists_same a b q.1)
+lists_same (t ∷ a) (u ∷ b) e = let q = and_parts (same_type t u) (same_types a b) e in ap (λ z. z ∷ a) (one_value_type t u q.0) ∙ ap (λ z. u ∷ z) (lists_same a b q.1)
 
 lists_refl : (a : List ValType) → same_types a a ≡ true
 lists_refl [] = refl
@@ -102,7 +90,7 @@ same_number ns t a b k l e f = by_test (same_functype a b) refl
   where
     by_test : (z : Bool) → same_functype a b ≡ z → same_functype a b ≡ (k == l)
     by_test true q =
-        let p = both (same_types a.params b.params) (same_types a.results b.results) q in
+        let p = and_parts (same_types a.params b.params) (same_types a.results b.results) q in
         let w : word a ≡ word b = same_word a b (lists_same a.params b.params p.0) (lists_same a.results b.results p.1) in
         let s : Some k ≡ Some l = sym e ∙ ap (reaches ns) w ∙ f in
         let same : k ≡ l = cc in

@@ -33,7 +33,7 @@ use Rattle.machine_steps.specs.declared.machine.Outcome.TheVariants.{Next, Ended
 use Rattle.machine_steps.specs.Meets.{outcome_of, Shares, StandsFor, Then, Meets, MeetsAt, Here, config_at}
 use Rattle.machine_basics.specs.inner.Keeps.{Keeps, EffectKeeps}
 use Rattle.machine_basics.proofs.Keeping.{operands_keep}
-use Rattle.machine_steps.proofs.CutLaws.{cut_more}
+use Rattle.machine_basics.proofs.InFrames.{cut_more}
 
 pub stuck_meets : (x : Point) (o : Outcome) (s : steps.Stepped) (m : Machine) → s ≡ steps.stuck → MeetsAt x o s m
 stuck_meets x o s m e = subst (λ t. MeetsAt x o t m) (sym e) (all o)

@@ -24,7 +24,7 @@ count_push : {X : Type 0} (p : X → Bool) (xs : List X) (x : X) → count_by p 
 count_push p [] x = omega (arith, count_one p x [])
 count_push p (y ∷ ys) x = omega (arith, count_one p y (ys ++ x ∷ []), count_one p y ys, count_push p ys x)
 
-count_all : {X : Type 0} (xs : List X) → count_by (λ _. true) xs ≡ length xs
+pub count_all : {X : Type 0} (xs : List X) → count_by (λ _. true) xs ≡ length xs
 count_all [] = refl
 count_all (x ∷ xs) = omega (arith, count_one (λ _. true) x xs, count_all xs)
 

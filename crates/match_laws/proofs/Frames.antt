@@ -15,8 +15,8 @@ use Rattle.wasm_syntax.specs.Machine.{Label, Frame, joined, operands, offset_in,
 use Rattle.wasm_syntax.specs.Typing.{Context}
 use Rattle.wasm_syntax.specs.Static.{Spot, spot, Live, IsNode}
 use Rattle.wasm_syntax.specs.Valid.{defined_index}
-use Rattle.wasm_laws.proofs.Progress.{some_is, types_append, types_reverse}
-use Rattle.wasm_laws.proofs.Lists.{get_behind}
+use Rattle.wasm_laws.proofs.Progress.{types_append, types_reverse}
+use Rattle.wasm_laws.proofs.Lists.{get_behind, some_is}
 use Rattle.wasm_laws.proofs.Safe.{FrameFine, context_of}
 use Rattle.dump_format.specs.declared.dump.Frame.{Frame as ShownFrame}
 use Rattle.dump_write.specs.Image.{frame_image}
@@ -25,22 +25,9 @@ use Rattle.dump_write.specs.Canonical.{in_instance}
 use Rattle.dump_match.specs.Values.{have_types, can_be}
 use Rattle.dump_match.specs.Frames.{instruction, is_call, taken, can_call, IsOf, StandsAt, FunctionFits, LocalsFit}
 use Rattle.match_laws.proofs.Placed.{outs, OpenAt, CalledAt, live_in, CallersAt, FramesAt, FirstIsNode, AtNode}
+use Rattle.wasm_laws.proofs.Validity.{then_found, map_found, tree_there}
 
 -- ---- a function that the module defines
-
-then_found : {A B : Type 0} (o : Option A) (go : A → Option B) (b : B) → option_then o go ≡ Some b → (x : A) × (o ≡ Some x) × (go x ≡ Some b)
-then_found None go b e = absurd (cc)
-then_found (Some x) go b e = (x, refl, e)
-
-map_found : {A B : Type 0} (o : Option A) (f : A → B) (b : B) → option_map f o ≡ Some b → (x : A) × (o ≡ Some x) × (f x ≡ b)
-map_found None f b e = absurd (cc)
-map_found (Some x) f b e = (x, refl, some_is e)
-
-tree_at : (bodies : List Body) (trees : List Tree) (i : ℕ) (body : Body) (tree : Tree) → AllWrite bodies trees → slice_get bodies i ≡ Some body → slice_get trees i ≡ Some tree → Writes body.targets body.ops tree
-tree_at [] trees i body tree w e f = absurd (cc)
-tree_at (b ∷ bodies) [] i body tree w e f = absurd w
-tree_at (b ∷ bodies) (t ∷ trees) zero body tree w e f = subst (λ x. Writes x.targets x.ops tree) (some_is e) (subst (Writes b.targets b.ops) (some_is f) w.0)
-tree_at (b ∷ bodies) (t ∷ trees) (suc i) body tree w e f = tree_at bodies trees i body tree w.1 e f
 
 pub record Defined (p : Program) (g : ℕ) (body : Body) (tree : Tree) (type : FuncType) : Type 0 where
   pub type_is : type_at p.module_ g ≡ Some type
@@ -78,7 +65,7 @@ module _ (p : Program) (is_program : IsProgram p) where
           record {
             type_is = ap (λ o. option_then o (λ t. slice_get m.types t)) ft ∙ b.1 ∙ ap Some type_;
             body_is = ap (λ (b : Bool). option_then (if b then None else Some i) (slice_get m.bodies)) q ∙ c.1 ∙ ap Some body_;
-            writes = subst (λ b. Writes b.targets b.ops tree) body_ (subst (Writes c.0.targets c.0.ops) tree_ (tree_at m.bodies p.trees i c.0 d.0 is_program c.1 d.1));
+            writes = subst (λ b. Writes b.targets b.ops tree) body_ (subst (Writes c.0.targets c.0.ops) tree_ (tree_there m.bodies p.trees i c.0 d.0 is_program c.1 d.1));
           }
 
 -- ---- values that are all recorded
@@ -102,7 +89,7 @@ types_joined (l ∷ ls) = types_append l.operands (joined ls) ∙ ap (λ z. type
 shown_types : (ls : List Label) → types (reverse (joined ls)) ≡ reverse (outs ls)
 shown_types ls = types_reverse (joined ls) ∙ ap reverse (types_joined ls)
 
-drop_front : (xs ys zs : List ValType) → drop (length xs) ((xs ++ ys) ++ zs) ≡ ys ++ zs
+pub drop_front : (xs ys zs : List ValType) → drop (length xs) ((xs ++ ys) ++ zs) ≡ ys ++ zs
 drop_front [] ys zs = refl
 drop_front (x ∷ xs) ys zs = drop_front xs ys zs
 

@@ -16,6 +16,7 @@ use Rattle.wasm_laws.proofs.Progress.{tail}
 use Rattle.wasm_laws.proofs.Live.{basic_one, jump_one}
 use Rattle.wasm_laws.proofs.Unique.{one_tree}
 use Rattle.dump_match.specs.Frames.{instruction, is_call, taken, shown}
+use Rattle.match_laws.proofs.Frames.{drop_front}
 
 -- the nodes from the spot on are well typed
 record SpotTyped (m : Module) (s : Spot) : Type 0 where
@@ -49,10 +50,6 @@ live_typed c m (choose at r a ea b end rest) here outside after s e t (inr (u, h
 live_typed c m (choose at r a ea b end rest) here outside after s e t (inr (u, h, inr (inr l))) =
     let same : t.2 ≡ u = ap tail (sym t.3 ∙ h) in
     live_typed c m rest (option_to_list r ++ u) outside after s e (subst (λ z. Types c rest (option_to_list r ++ z) after) same t.4) l
-
-drop_front : (xs ys zs : List ValType) → drop (length xs) ((xs ++ ys) ++ zs) ≡ ys ++ zs
-drop_front [] ys zs = refl
-drop_front (x ∷ xs) ys zs = drop_front xs ys zs
 
 -- without what the call takes
 left_types : (n : ℕ) (here takes below outside : List ValType) → n ≡ length takes → here ≡ takes ++ below → reverse (drop n (here ++ outside)) ≡ reverse (below ++ outside)

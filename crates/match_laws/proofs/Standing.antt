@@ -21,11 +21,13 @@ use Rattle.wasm_syntax.specs.Effect.{Effect, gives, fails, unfit, effect, takes}
 use Rattle.wasm_syntax.specs.Machine.{Kind, leaves, again, returns, Label, Frame, Config, label, frame, config, Engine, Stepped, next, ends, traps, no_reply, bad_reply, stuck, parts, cut, top, Went, inside, outside, nowhere, arrive, out_some, leave, land, branch, carried_by, carry, same_result, same_carry, pick, zeros, result_of, function_type, entered, host_call, goes_to, deliver, moved, host, enters, applied, calls, calls_if, fits_entry, calls_entry, calls_indirect, branch_if, moved_if, branch_table, jumps, affects, does, chooses, runs, in_frame, steps, step, trapped}
 use Rattle.wasm_syntax.specs.Typing.{Context, BasicTypes, IsLabel, AreLabels, Types, body_context}
 use Rattle.wasm_syntax.specs.Static.{Spot, spot, Live, IsNode}
-use Rattle.wasm_laws.proofs.Progress.{some_is, IsNil, tail, head, same_of, types_of, types_append, zero_types, types_reverse, cuts, WorldFine, EffectFine, effect_fine, takes_len}
-use Rattle.wasm_laws.proofs.Safe.{end_type, label_types, at_labels, FrameFine, context_of, Typed, one_result, exact, AnswerFine, answer_fine}
+use Rattle.wasm_laws.proofs.Progress.{IsNil, tail, head, same_of, types_of, types_append, zero_types, types_reverse, cuts, WorldFine, EffectFine, effect_fine, takes_len}
+use Rattle.wasm_laws.proofs.Safe.{end_type, label_types, at_labels, FrameFine, context_of, Typed, one_result, exact, AnswerFine, answer_fine, same_lists}
 use Rattle.dump_match.specs.Frames.{same_signature}
 use Rattle.match_laws.proofs.Placed.{outs, Runs, KindAt, LabelsAt, OpenAt, CallAt, live_in, CallersAt, FramesAt, AtNode}
 use Rattle.match_laws.proofs.Kept.{WorldKept, EffectKept, effect_kept, AnswerKept, answer_kept}
+use Rattle.std.proofs.lemmas.Bool.{and_from}
+use Rattle.wasm_laws.proofs.Lists.{some_is}
 
 -- what is outside the frames
 abbrev pub WorldAt : Module → World → Type 0
@@ -91,23 +93,13 @@ carry_of n [] ts e = absurd (cc)
 carry_of zero (l ∷ ls) ts e = (carried_by l.kind, refl, some_is e)
 carry_of (suc n) (l ∷ ls) ts e = carry_of n ls ts e
 
-same_lists : (a b : Option ValType) → option_to_list a ≡ option_to_list b → same_result a b ≡ true
-same_lists None None e = refl
-same_lists None (Some t) e = absurd (subst IsNil e tt)
-same_lists (Some t) None e = absurd (subst IsNil (sym e) tt)
-same_lists (Some t) (Some u) e = same_of t u (ap head e)
-
 -- ---- calls
 
 same_number : (n : ℕ) → (n == n) ≡ true
 same_number n = eq-eqb n n refl
 
-and_true : (a b : Bool) → a ≡ true → b ≡ true → (a && b) ≡ true
-and_true true b e f = f
-and_true false b e f = absurd (cc)
-
 same_self : (type : FuncType) → same_functype type type ≡ true
-same_self type = and_true (same_types type.params type.params) (same_types type.results type.results) (types_of type.params type.params refl) (types_of type.results type.results refl)
+same_self type = and_from (same_types type.params type.params) (same_types type.results type.results) (types_of type.params type.params refl) (types_of type.results type.results refl)
 
 signatures : (a b : Option FuncType) (type : FuncType) → a ≡ Some type → b ≡ Some type → same_signature a b ≡ true
 signatures a b type e f = subst₂ (λ x y. same_signature x y ≡ true) (sym e) (sym f) (same_self type)

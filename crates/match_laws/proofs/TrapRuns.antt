@@ -18,9 +18,9 @@ use Rattle.wasm_syntax.specs.Machine.{Frame, Config, config, Engine, Stepped, ne
 use Rattle.wasm_syntax.specs.Typing.{Types, body_context}
 use Rattle.wasm_syntax.specs.Static.{Live}
 use Rattle.wasm_syntax.specs.Run.{run_on, run_steps, host_alone, run_alone, run_function, Ran, ran_to, run_entry, go_on, invoked, engine, start_world, Cause, or_else, cause_of_entry, cause_of_segments, if_fits as entry_fits, goes_on, fresh, session, unless, run, cause_of, Invocation}
-use Rattle.wasm_laws.proofs.Progress.{types_append, zero_types, some_is}
+use Rattle.wasm_laws.proofs.Progress.{types_append, zero_types}
 use Rattle.wasm_laws.proofs.Safe.{one_result, AnswerFine, answer_fine, Typed}
-use Rattle.wasm_laws.proofs.Never.{Startable}
+use Rattle.wasm_laws.proofs.Never.{Startable, same_list}
 use Rattle.wasm_laws.proofs.Validity.{startable}
 use Rattle.match_laws.specs.TrapDumps.{TrapMatches, TrapsMatch}
 use Rattle.match_laws.proofs.Placed.{Runs, FramesAt, AtNode}
@@ -28,6 +28,7 @@ use Rattle.match_laws.proofs.Kept.{AnswerKept, answer_kept}
 use Rattle.match_laws.proofs.Standing.{WorldAt, SteppedAt, step_at}
 use Rattle.match_laws.proofs.Begins.{world_begins}
 use Rattle.match_laws.proofs.Images.{trap_matches}
+use Rattle.wasm_laws.proofs.Lists.{some_is}
 
 -- frames in live code, or none
 abbrev pub StandAt : Program → List Frame → Type 0
@@ -91,15 +92,6 @@ module _ (M : Engine) (typed : Typed M.program) where
   function_at_ n f type args w co tf ty wf =
       let fn = typed.functions f type tf in
       subst (λ q. Going p (run_function M n f q args w co).what) (sym fn.1) (by_function n f fn.0 args w co fn.1 (ty ∙ ap (λ t. t.params) (sym fn.2)) wf)
-
-same_list : (ts us : List ValType) → same_types ts us ≡ true → ts ≡ us
-same_list [] [] e = refl
-same_list [] (_ ∷ _) e = absurd (cc)
-same_list (_ ∷ _) [] e = absurd (cc)
-same_list (I32 ∷ a) (I32 ∷ b) e = ap (λ z. I32 ∷ z) (same_list a b e)
-same_list (I32 ∷ a) (I64 ∷ b) e = absurd (cc)
-same_list (I64 ∷ a) (I32 ∷ b) e = absurd (cc)
-same_list (I64 ∷ a) (I64 ∷ b) e = ap (λ z. I64 ∷ z) (same_list a b e)
 
 no_cause : (a b : Option Cause) → or_else a b ≡ None → (a ≡ None) × (b ≡ None)
 no_cause None b e = (refl, e)

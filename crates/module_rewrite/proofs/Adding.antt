@@ -15,15 +15,8 @@ use Rattle.index_map.proofs.Trees.{helped_used}
 use Rattle.instrument.specs.Assembly.{Ascends, AreBodies}
 use Rattle.module_rewrite.specs.Rewritten.{program_in}
 use Rattle.module_rewrite.specs.inner.Adding.{Adds, new_bodies, wrapper_bodies, helper_bodies}
-
-all_behind : {A : Type 0} (P : A → Type 0) (xs : List A) (y : A) → AllByRecursion P xs → P y → AllByRecursion P (xs ++ y ∷ [])
-all_behind P [] y h p = (p, tt)
-all_behind P (x ∷ xs) y h p = (h.0, all_behind P xs y h.1 p)
-
-take_one : {A : Type 0} (xs : List A) (i : ℕ) (x : A) → slice_get xs i ≡ Some x → take (i + 1) xs ≡ take i xs ++ x ∷ []
-take_one [] i x e = absurd cc
-take_one (y ∷ ys) zero x e = let same : y ≡ x = cc in ap (λ z. z ∷ []) same
-take_one (y ∷ ys) (suc i) x e = let next : suc i + 1 ≡ suc (i + 1) = omega arith in ap (λ n. take n (y ∷ ys)) next ∙ ap (λ zs. y ∷ zs) (take_one ys i x e)
+use Rattle.wasm_decode.proofs.SoundSections.{all_more}
+use Rattle.validate_stack.proofs.StackLaws.{take_one}
 
 pub one_added : (more old now : List Body) (i : ℕ) (x b : Body) → slice_get more i ≡ Some x → bare_body b ≡ bare_body x → Ascends b → Adds (take i more) old now → Adds (take (i + 1) more) old (now ++ b ∷ [])
 one_added more old now i x b e same up a = record {
@@ -32,7 +25,7 @@ one_added more old now i x b e same up a = record {
       ∙ ap (λ zs. zs ++ bare_body b ∷ []) a.code
       ∙ append_assoc (map bare_body old) (map bare_body (take i more)) (bare_body b ∷ [])
       ∙ ap (λ zs. map bare_body old ++ zs) (ap (λ z. map bare_body (take i more) ++ z ∷ []) same ∙ sym (map-append bare_body (take i more) (x ∷ [])) ∙ ap (map bare_body) (sym (take_one more i x e)));
-  ascend = λ h. all_behind Ascends now b (a.ascend h) up;
+  ascend = λ h. all_more Ascends now b (a.ascend h) up;
 }
 
 pub all_taken : (more old now : List Body) (n : ℕ) → length more ≤ n → Adds (take n more) old now → Adds more old now

@@ -12,14 +12,11 @@ use Rattle.instrument.specs.Assembly.{Ascends}
 use Rattle.module_rewrite.specs.Rewritten.{program_in, IsRewritten}
 use Rattle.module_rewrite.specs.inner.Adding.{Adds, new_bodies}
 use Rattle.module_rewrite.proofs.Adding.{one_added, all_taken, each_at}
-
-length_each : {A B : Type 0} (go : ℕ → B) (k : ℕ) (xs : List A) → length (each go k xs) ≡ length xs
-length_each go k [] = refl
-length_each go k (x ∷ xs) = ap suc (length_each go (suc k) xs)
+use Rattle.rewrite_modules.proofs.Links.{length-each}
 
 pub all_functions : (m : Module) (a : Accepted m) (old now : List Body) (n : ℕ) → length m.bodies ≤ n → Adds (take n (new_bodies m a)) old now → Adds (new_bodies m a) old now
 all_functions m a old now n le adds =
-    let count = length_each (λ f. new_body (program_in m a) f (function_at (program_in m a) f)) (length m.imports) m.bodies in
+    let count = length-each (λ f. new_body (program_in m a) f (function_at (program_in m a) f)) (length m.imports) m.bodies in
     all_taken (new_bodies m a) old now n (omega (arith, le, count)) adds
 
 module _ (m : Module) (a : Accepted m) (i : ℕ) (lt : i < length m.bodies) where

@@ -16,7 +16,7 @@ use Rattle.wasm_syntax.specs.Module.{Program, Function, imported, defined, funct
 use Rattle.wasm_syntax.specs.Typing.{body_context}
 use Rattle.wasm_laws.proofs.Lists.{some_is}
 use Rattle.wasm_laws.proofs.Safe.{Typed}
-use Rattle.wasm_laws.proofs.Validity.{typed}
+use Rattle.wasm_laws.proofs.Validity.{typed, tree_there}
 use Rattle.wasm_validate.specs.Heights.{body_of as body_in}
 use Rattle.rewrite_bodies.specs.Numbering.{helper_base, is_in}
 use Rattle.rewrite_bodies.specs.Rewrite.{body}
@@ -30,7 +30,6 @@ use Rattle.rewrite_modules.proofs.FineBodies.{fine_at}
 use Rattle.rewrite_modules.proofs.Links.{IsDefined, is_defined, import_of, type_is_of}
 use Rattle.rewrite_modules.proofs.Modules.{module_given}
 use Rattle.rewrite_modules.proofs.Theorem.{ready_given}
-use Rattle.rewrite_modules.proofs.WrittenOut.{writes_at}
 use Rattle.rewrite_promise.specs.Promise.{Accepted}
 use Rattle.index_map.proofs.Trees.{helped_used}
 use Rattle.index_map.proofs.Within.{used_within}
@@ -141,7 +140,7 @@ module _ (m : Module) (a : Accepted m) (f : ℕ) (b : Body) (here : body_in m f 
     defined_ = is_defined p f b tree type is
 
     writes : Writes b.targets b.ops tree
-    writes = writes_at m.bodies p.trees defined_.number b tree a.premises.whole.write defined_.body_is defined_.tree_is
+    writes = tree_there m.bodies p.trees defined_.number b tree a.premises.whole.write defined_.body_is defined_.tree_is
 
     fine : Fine C [] tree.nodes
     fine = subst (λ (c : Ctx). Fine c [] tree.nodes) (sym same) (record {

@@ -6,8 +6,7 @@ use Rattle.wasm_syntax.specs.declared.module.ModuleParts.{ModuleParts as Module}
 use Rattle.wasm_syntax.specs.Module.{Program, function_types, type_at}
 use Rattle.wasm_syntax.specs.Sizes.{parameter_count}
 use Rattle.wasm_laws.proofs.Lists.{at_of}
-use Rattle.wasm_laws.proofs.Validity.{typed}
-use Rattle.validate_body.proofs.Options.{then_inv}
+use Rattle.wasm_laws.proofs.Validity.{typed, then_found}
 use Rattle.rewrite_bodies.specs.Numbering.{wrapped}
 use Rattle.rewrite_modules.proofs.Modules.{module_given}
 use Rattle.rewrite_modules.proofs.Theorem.{ready_given}
@@ -25,11 +24,11 @@ module _ (m : Module) (a : Accepted m) (i f : ℕ) (at : slice_get (wrapped m) i
       (wrapped_types p (ready_given p (module_given m a.premises)) a.premises.valid (typed p a.premises.whole.write a.premises.whole.as_many a.premises.valid) a.premises.whole.write a.premises.no_export_collision) at
 
   pub function_there : f < length (function_types m)
-  function_there = let t = then_inv (slice_get (function_types m) f) (λ k. slice_get m.types k) has_type.0 has_type.1 in slice_get_within (function_types m) f t.0 t.1
+  function_there = let t = then_found (slice_get (function_types m) f) (λ k. slice_get m.types k) has_type.0 has_type.1 in slice_get_within (function_types m) f t.0 t.1
 
   pub few_parameters : parameter_count (type_at m f) < 2 ^ 32
   few_parameters =
-      let t = then_inv (slice_get (function_types m) f) (λ k. slice_get m.types k) has_type.0 has_type.1 in
+      let t = then_found (slice_get (function_types m) f) (λ k. slice_get m.types k) has_type.0 has_type.1 in
       let few : length has_type.0.params ≤ 1000 = at_of (λ (type : FuncType). length type.params ≤ 1000) m.types t.0 has_type.0 a.premises.lightness.few_parameters t.2 in
       let is = ap parameter_count has_type.1 in
       omega (arith, few, is)

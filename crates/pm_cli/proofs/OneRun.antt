@@ -27,6 +27,7 @@ use Rattle.run_command.specs.Recorded.{recorded}
 use Rattle.run_command.specs.RunAnswer.{RunAnswer, RunsTo, StartsOr, ModuleAnswer, IfRefusal, IsUntouched, hosting, replies_input, script_of}
 use Rattle.selftest_laws.proofs.OneProgram.{same_program}
 use Rattle.run_command.proofs.OneWritten.{Gives, at_refusal, gives_then, gives_starts, gives_if_loaded, input_refuses, replies_refuse, script_refuses}
+use Rattle.cover_command.proofs.OneCover.{agree_starts}
 
 -- calls hand over one thing
 same_delivery : (a b : List CollectorCall → Delivery) → IsDelivery a → IsDelivery b → a ≡ b
@@ -52,10 +53,6 @@ module _ (before after : List DeviceState) (script : Option (List Reply)) (w : R
   same_writes =
       r.wrote ∙ ap (λ k. dumps_from (tells w.collect r.deliver) w.dump w.name 0 k ++ recorded w.log_to k) one_list
       ∙ ap (λ d. dumps_from (tells w.collect d) w.dump w.name 0 s.rans ++ recorded w.log_to s.rans) handed ∙ sym s.wrote
-
-agree_starts : (cause : Option (List ℕ)) (P Q : Type 0) (a b : Outcome) → (P → Q → a ≡ b) → StartsOr cause P a → StartsOr cause Q b → a ≡ b
-agree_starts (Some cause) P Q a b agree pa qb = pa ∙ sym qb
-agree_starts None P Q a b agree pa qb = agree pa qb
 
 agree_module : (before after : List DeviceState) (w : RunWords) (given : List Served) (x y : Writes) (script : Option (List Reply)) (m : Module) → Agree (ModuleAnswer before after w given x script m) (ModuleAnswer before after w given y script m)
 agree_module before after w given x y script m a b pa qb =

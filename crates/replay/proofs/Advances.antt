@@ -30,9 +30,8 @@ use Rattle.replay.specs.Replays.{Recording, IsOf}
 use Rattle.replay.proofs.Answers.{had}
 use Rattle.replay.proofs.Spent.{invoked_spends}
 use Rattle.replay.specs.inner.Reached.{IfHad, HasEnded, kept, CameTo, Reached, Waits}
-
-some_is : {A : Type 0} {a b : A} → Some a ≡ Some b → a ≡ b
-some_is e = cc
+use Rattle.wasm_laws.proofs.Lists.{some_is}
+use Rattle.machine_hosted.proofs.WatchLaws.{admits_none}
 
 -- ---- replies
 
@@ -116,15 +115,6 @@ waits_spent x n next s w depth same = record {
 }
 
 -- ---- how many steps were made
-
-admits_none : (answer : RunEnd) → AdmitsReplies answer []
-admits_none NoMemory = tt
-admits_none (Finished value) = tt
-admits_none (Trapped kind) = tt
-admits_none NoReply = refl
-admits_none (BadReply reply) = tt
-admits_none (DeviceFault name) = refl
-admits_none FuelSpent = tt
 
 abbrev pub program : (x : Recording) → IsModule x.module_ → Program
 program x w = record { module_ = x.module_; trees = w.trees }

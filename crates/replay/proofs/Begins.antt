@@ -22,9 +22,6 @@ use Rattle.replay.proofs.Advances.{Scripted, taken, count_within, nothing_before
 abbrev pub RunAnswer : Type 0
 RunAnswer = Result RunEnd EntryFault
 
-some_is : {A : Type 0} {a b : A} → Some a ≡ Some b → a ≡ b
-some_is e = cc
-
 -- what is known behind the call of `invoke` that makes no step
 pub record Behind (x : Recording) (count entry : ℕ) (old new : ScriptState) (s s' : State) : Type 0 where
   pub whole : IsModule x.module_

@@ -18,6 +18,7 @@ use Rattle.command_answers.proofs.Reading.{map_contents, whole_then, refused_the
 use Rattle.command_answers.proofs.Unless.{OnAnswer, unless, map_answer}
 use Rattle.replay_words.specs.declared.asking.ReplayWords.{ReplayWords}
 use Rattle.replay_command.specs.ReplayAnswer.{BytesAnswer, ReplayAnswer, IsReadBy}
+use Rattle.debug_command.proofs.Answers.{then_contents}
 
 -- ---- the replies
 
@@ -41,15 +42,6 @@ log_refused told w bytes file input o named is x =
     subst (λ (f : List ℕ). UnlessFault o.status (OnContents told (λ held. Then (input_of RepliesBytes f (held f)) (BytesAnswer w bytes) o))) named y
 
 -- ---- the module, and then the replies
-
-any_contents : (told : Option Contents) (P : Contents → Type 0) → ((held : Contents) → P held) → OnContents told P
-any_contents None P h = record { files = λ name. None; may = tt; holds = h (λ name. None) }
-any_contents (Some held) P h = record { files = held; may = refl; holds = h held }
-
--- what comes behind stands on other contents
-then_contents : {A : Type 0} (told : Option Contents) (r : Result A Outcome) (P : Contents → A → Outcome → Type 0) (o : Outcome) → Then r (λ x p. OnContents told (λ later. P later x p)) o → OnContents told (λ later. Then r (P later) o)
-then_contents told (Ok x) P o h = h
-then_contents told (Err refusal) P o h = any_contents told (λ later. o ≡ refusal) (λ later. h)
 
 abbrev pub OnBoth : Option Contents → ReplayWords → Outcome → Type 0
 OnBoth told w o = OnContents told (λ first. OnContents told (λ later. ReplayAnswer w first later o))
@@ -95,7 +87,3 @@ log_fault w rose rose' (Err e) to x = tt
 
 pub read_fault : (file name : List ℕ) (rose : Type 0) (input : Input) (o : Outcome) → file ≡ name → input ≡ Refused o → IfRefused (Faults file rose) input → Faults name rose o
 read_fault file name rose input o named is x = named_fault file name rose o named (subst (λ (i : Input). IfRefused (Faults file rose) i) is x)
-
--- a count that rose behind a call rose since before it
-pub rose_since : (a b c : ℕ) → a ≤ b → Rose b c → Rose a c
-rose_since a b c le x = omega (arith, le, x)

@@ -57,9 +57,8 @@ use Rattle.replay.specs.Replays.{Recording, IsEnd, cause_in, outcome_at, is_ther
 use Rattle.replay.specs.Moves.{IsNext, HasNoNext}
 use Rattle.replay_command.specs.ReplayText.{At, at_frame, at_step, commands_in, subject_at, step_text, Moved, Looked, DoesMove, DoAll, IsText, ReplayText}
 use Rattle.replay_command.specs.ReplayAnswer.{recording, IsTold, ModuleAnswer, IfReplies, ReplayAnswer}
-
-some_is : {A : Type 0} {x y : A} → Some x ≡ Some y → x ≡ y
-some_is e = cc
+use Rattle.wasm_laws.proofs.Lists.{some_is}
+use Rattle.validate_body.proofs.Flags.{true_false}
 
 same_number : (n k : ℕ) → (n < k → ⊥) → (k < n → ⊥) → n ≡ k
 same_number n k x y = omega (arith, x, y)
@@ -205,9 +204,6 @@ module _ (info : Information) (m : Module) (d e : Dump) (frames : e.frames ≡ d
 
 -- ---- moves
 
-clash : {P : Type 0} → true ≡ false → P
-clash e = absurd cc
-
 module _ (p : Program) (x : Recording) where
   one_end : (a b : ℕ) → IsEnd p x a → IsEnd p x b → a ≡ b
   one_end a b h k = same_number a b (earlier a b h k) (earlier b a k h)
@@ -219,10 +215,10 @@ module _ (p : Program) (x : Recording) where
   one_next f at from end a b h k = same_number a b (earlier a b h k) (earlier b a k h)
     where
       earlier : (a b : ℕ) → IsNext p x f at from end a → IsNext p x f at from end b → a < b → ⊥
-      earlier a b h k lt = clash (sym h.there ∙ k.none_before a h.above lt)
+      earlier a b h k lt = true_false (sym h.there ∙ k.none_before a h.above lt)
 
   next_or_none : (f at from end n : ℕ) → IsNext p x f at from end n → HasNoNext p x f at from end → ⊥
-  next_or_none f at from end n h none = clash (sym h.there ∙ none n h.above h.within)
+  next_or_none f at from end n h none = true_false (sym h.there ∙ none n h.above h.within)
 
 module _ (p : Program) (x : Recording) (bytes : List ℕ) (end : ℕ) (o : RunOutcome) where
   abbrev Same : (a b : List ℕ) → (u v : At) → Type 0

@@ -4,19 +4,12 @@ use Rattle.std.specs.List.{position_or_len, slice_split}
 use Rattle.std.proofs.lemmas.List.Splits.{slice_split_first, slice_split-cons_no}
 use Rattle.std.proofs.lemmas.Str.Pattern.{IsSplitOnceResult, split_once_first}
 use Rattle.replay_command.specs.ReplayText.{commands_in}
+use Rattle.debug_commands.proofs.WordLaws.{none_split}
 
 pub first_split : (text : List ℕ) (p : Bor (List ℕ) × Bor (List ℕ)) → IsSplitOnceResult 59 text (Some p) → commands_in text ≡ p.0.now ∷ commands_in p.1.now
 first_split text p h =
     let s = split_once_first 59 text (Some p) h (omega arith) in
     slice_split_first (λ b. eqb b 59) text 0 s.0 ∙ ap₂ (λ word rest. word ∷ slice_split (λ b. eqb b 59) rest) (sym s.1) (sym s.2)
-
-none_split : (p : ℕ → Bool) (xs : List ℕ) → position_or_len p xs ≡ length xs → slice_split p xs ≡ xs ∷ []
-none_split p [] e = refl
-none_split p (x ∷ xs) e = by_test (p x) refl (λ e'. none_split p xs e')
-  where
-    by_test : (b : Bool) → p x ≡ b → (position_or_len p xs ≡ length xs → slice_split p xs ≡ xs ∷ []) → slice_split p (x ∷ xs) ≡ (x ∷ xs) ∷ []
-    by_test true q ih = absurd (let z = rw q at e in omega (arith, z))
-    by_test false q ih = let z = rw q at e in slice_split-cons_no p x xs q ∙ rw (ih (omega (arith, z))) refl
 
 pub one_alone : (text : List ℕ) → IsSplitOnceResult 59 text None → commands_in text ≡ text ∷ []
 one_alone text h = none_split (λ b. eqb b 59) text (split_once_first 59 text None h (omega arith))

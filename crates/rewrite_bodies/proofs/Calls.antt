@@ -28,7 +28,7 @@ use Rattle.linear_memory.specs.Memory.{Memory}
 use Rattle.linear_memory.specs.Memory as memories
 use Rattle.rewrite_bodies.specs.Agreement.{Holds, now, info, infos, joined, Wit, t_frame, FitsIn, Has, Room_call, Room, FitsLabels, MemoryFits, NoKind, WorldFits, FitsFrame, FitsFrames, Wrap, zero_vs, t_frames, flagged}
 use Rattle.rewrite_bodies.specs.inner.Steps.{Gets, To, Shell, st}
-use Rattle.rewrite_bodies.proofs.Run.{stored, stored_other, kind_no_slot, slice_get-put_other, added_get, added_set, types-stored, slice_get-put_same, types-slice_set, same_type-same, same_type-refl, added_kind, more_parts, one_step, seq, weaken, fetch_to, load_to, less_holds, store_to}
+use Rattle.rewrite_bodies.proofs.Run.{stored, stored_other, kind_no_slot, slice_get-put_other, added_get, added_set, types-stored, slice_get-put_same, types-slice_set, same_type-same, added_kind, more_parts, one_step, seq, weaken, fetch_to, load_to, less_holds, store_to}
 use Rattle.rewrite_bodies.proofs.Parts.{put_keeps, cut_all, fits_put, settle, step_plain}
 use Rattle.rewrite_bodies.specs.Guards.{helper, entry_label, says, first_table}
 use Rattle.rewrite_bodies.specs.inner.Telling.{tell_labels, tell_locals, tell_frame}
@@ -39,27 +39,12 @@ use Rattle.rewrite_bodies.proofs.Sim.{refit, refit_under, room_height, grown-app
 use Rattle.rewrite_bodies.proofs.Control.{flag_len, flag_down, both_to, grown_longer}
 use Rattle.rewrite_bodies.proofs.Unwind.{exit_branch, frame_out, Hands, hand_to, hand_left_to, Up, up_all, renamed}
 use Rattle.wasm_syntax.specs.declared.host.Write.{Write}
-
-pub types-append : (a b : List Value) → types (a ++ b) ≡ types a ++ types b
-types-append a b = map-append type_of a b
-
-pub types-zeros : (ts : List ValType) → types (zeros ts) ≡ ts
-types-zeros [] = refl
-types-zeros (I32 ∷ ts) = ap (λ z. I32 ∷ z) (types-zeros ts)
-types-zeros (I64 ∷ ts) = ap (λ z. I64 ∷ z) (types-zeros ts)
-
-pub same_types-same : (a b : List ValType) → same_types a b ≡ true → a ≡ b
-same_types-same [] [] e = refl
-same_types-same [] (_ ∷ _) e = absurd (cc)
-same_types-same (_ ∷ _) [] e = absurd (cc)
-same_types-same (I32 ∷ a) (I32 ∷ b) e = ap (λ z. I32 ∷ z) (same_types-same a b e)
-same_types-same (I32 ∷ a) (I64 ∷ b) e = absurd (cc)
-same_types-same (I64 ∷ a) (I32 ∷ b) e = absurd (cc)
-same_types-same (I64 ∷ a) (I64 ∷ b) e = ap (λ z. I64 ∷ z) (same_types-same a b e)
+use Rattle.wasm_laws.proofs.Never.{same_list}
+use Rattle.wasm_laws.proofs.Progress.{types_append, zero_types, same_of}
 
 -- the locals of a function that is called on these arguments
 pub types-locals : (args : List Value) (ps ls : List ValType) → types args ≡ ps → types (args ++ zeros ls) ≡ ps ++ ls
-types-locals args ps ls e = types-append args (zeros ls) ∙ ap₂ (λ a b. a ++ b) e (types-zeros ls)
+types-locals args ps ls e = types_append args (zeros ls) ∙ ap₂ (λ a b. a ++ b) e (zero_types ls)
 
 pub new_locals : (args : List Value) (new old more : List ValType) → new ≡ old ++ more → args ++ zeros new ≡ (args ++ zeros old) ++ zeros more
 new_locals args new old more e = ap (λ z. args ++ zeros z) e ∙ ap (λ z. args ++ z) (map-append zero_of old more) ∙ sym (append_assoc args (zeros old) (zeros more))
@@ -88,7 +73,7 @@ fits_result : (r : Option ValType) (v : Option Value) → fits_type r v ≡ true
 fits_result None None e = refl
 fits_result None (Some v) e = absurd (cc)
 fits_result (Some t) None e = absurd (cc)
-fits_result (Some t) (Some v) e = rw (same_type-refl (type_of v) t (sym (same_type-same t (type_of v) e))) refl
+fits_result (Some t) (Some v) e = rw (same_of (type_of v) t (sym (same_type-same t (type_of v) e))) refl
 
 writes_keep : (k : Option Memory) (ws : List Write) (k' : Option Memory) → after_writes k ws ≡ Some k' → MemoryFits k → MemoryFits k'
 writes_keep k [] k' e h = let z : k ≡ k' = cc in subst MemoryFits z h
@@ -292,7 +277,7 @@ module _ (M M' : Engine) (E : ℕ) (gl : List ValType) (W : Wrap) (S : Stands M 
         let s1 : To M' 1 n t mid = rw (depth, locals) at (pre k) in
         let s3 : To M' 2 2 mid (config (t_frame now (entered g' b tree type args) (wit C' ex' ([] ∷ [])) ∷ stands_under Z ex1 code) g0 co) = seq M' (one_step M' mid _ refl) (one_step M' _ _ refl) in
         let callee : FitsFrame M E gl None (entered g' b tree type args) (wit C' ex' ([] ∷ [])) =
-        record { size = types-locals args type.params (declared_locals b.groups) ty; room = types-zeros (added k.slots); idx = refl; result = refl; funcs = refl; base = refl; helpers = refl; flag = ap global_types (sym f.funcs) ∙ f.flag; small = k.small; narrow = k.narrow; labels = (tt, tt, k.room, refl, tt); no_kind = tt } in (
+        record { size = types-locals args type.params (declared_locals b.groups) ty; room = zero_types (added k.slots); idx = refl; result = refl; funcs = refl; base = refl; helpers = refl; flag = ap global_types (sym f.funcs) ∙ f.flag; small = k.small; narrow = k.narrow; labels = (tt, tt, k.room, refl, tt); no_kind = tt } in (
           wit C' ex' ([] ∷ []) ∷ wit_under C ex1 (e' ∷ ss) others ∷ ws,
           (wf, (callee, (refit_under l (label below rest en kd ∷ Ls) ex1 (e' ∷ ss) others (result_of type) o f refl same hb nk, fs))),
           subst (λ z. To M' 1 E t (config (t_frame now (entered g' b tree type args) (wit C' ex' ([] ∷ [])) ∷ z) g0 co)) (frames_under ex1 below e' rest b tree type vs dq others df) (weaken M' (seq M' s1 s3) (omega arith) (omega (arith, le, f.small))),
@@ -317,7 +302,7 @@ module _ (M M' : Engine) (E : ℕ) (gl : List ValType) (W : Wrap) (S : Stands M 
         let quietly : answer M.collects M.program.module_ hc g ≡ served_by hc g g.replies = ap (λ c. answer c M.program.module_ hc g) S.quiet in
         subst (λ A. After M M' E gl W t (host M A hc below rest FF LL Ls Fs g co)) (sym quietly) (answered ex1 below e' rest i type vs dq others hc stk nd t (n + 1) (served_by hc g g.replies) (served_by hc g0 g.replies) same nk hb (omega (arith, le)) (served_rel M gl (values.I32 0) hc g wf g.replies) go)
     called ex1 below e' rest (defined b tree type) vs dq others g' stk nd t T n true at df c same nk hb le ty pre st_ =
-        begun ex1 below e' rest b tree type vs dq others g' stk nd t (n + 1) (nat_lt (suc (length Fs)) M.depth) at df same nk hb (same_types-same (types (reverse vs)) type.params ty) (omega (arith, le)) refl
+        begun ex1 below e' rest b tree type vs dq others g' stk nd t (n + 1) (nat_lt (suc (length Fs)) M.depth) at df same nk hb (same_list (types (reverse vs)) type.params ty) (omega (arith, le)) refl
         (λ k. weaken M' (rw (k.target, c, ty) at (seq M' pre (one_step M' T _ st_))) (omega arith) (omega arith))
 
   -- ---- a direct call
@@ -376,7 +361,7 @@ module _ (M M' : Engine) (E : ℕ) (gl : List ValType) (W : Wrap) (S : Stands M 
 pub same_functype-same : (a b : FuncType) → same_functype a b ≡ true → a ≡ b
 same_functype-same a b e =
     let h = and_is (same_types a.params b.params) (same_types a.results b.results) e in
-    let ps = same_types-same a.params b.params h.0 in let rs = same_types-same a.results b.results h.1 in
+    let ps = same_list a.params b.params h.0 in let rs = same_list a.results b.results h.1 in
     λ i. record { params = ps i; results = rs i }
   where
     and_is : (a b : Bool) → (a && b) ≡ true → (a ≡ true) × (b ≡ true)

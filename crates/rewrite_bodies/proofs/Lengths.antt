@@ -24,17 +24,9 @@ use Rattle.rewrite_bodies.specs.Guards.{least, minus_one, zero_test, guard_zero,
 use Rattle.rewrite_bodies.specs.Rewrite.{Info, hand_value, hand, hand_top, to_exit, unwind, hand_left, test_flag, test_both, tested}
 use Rattle.rewrite_bodies.specs.Agreement.{FitsIn}
 use Rattle.rewrite_bodies.specs.Length.{code_length, FewNumbers}
+use Rattle.dump_write.proofs.Sizes.{ten_bytes, ten_signed}
 
 -- ---- numbers
-
-unsigned_most : (k n : ℕ) → length (unsigned_groups k n) ≤ suc k
-unfolding unsigned_groups
-unsigned_most zero n = omega arith
-unsigned_most (suc k) n = by_test (nat_lt n 128) (unsigned_most k (n / 128))
-  where
-    by_test : (q : Bool) → length (unsigned_groups k (n / 128)) ≤ suc k → length (if q then n ∷ [] else (n % 128 + 128) ∷ unsigned_groups k (n / 128)) ≤ suc (suc k)
-    by_test true r = omega arith
-    by_test false r = omega (arith, r)
 
 -- so many groups of seven bits
 abbrev groups_hold : ℕ → ℕ
@@ -56,30 +48,13 @@ unsigned_few (suc b) (suc k) n le lt = by_test (nat_lt n 128) (unsigned_few b k 
     by_test true r = omega arith
     by_test false r = omega (arith, r)
 
-signed_most : (k : ℕ) (z : ℤ) → length (signed_groups k z) ≤ suc k
-unfolding signed_groups
-signed_most zero z = omega arith
-signed_most (suc k) z = by_test (fits_seven z) (signed_most k (above_seven z))
-  where
-    by_test : (q : Bool) → length (signed_groups k (above_seven z)) ≤ suc k → length (if q then low_seven z ∷ [] else (low_seven z + 128) ∷ signed_groups k (above_seven z)) ≤ suc (suc k)
-    by_test true r = omega arith
-    by_test false r = omega (arith, r)
-
-pub ten_bytes : (n : ℕ) → length (unsigned_bytes n) ≤ 10
-unfolding unsigned_bytes
-ten_bytes n = unsigned_most 9 n
-
 four_bytes : (n : ℕ) → n < 2 ^ 28 → length (unsigned_bytes n) ≤ 4
 unfolding unsigned_bytes
 four_bytes n lt = unsigned_few 3 9 n (omega arith) lt
 
-signed_ten : (z : ℤ) → length (signed_bytes z) ≤ 10
-unfolding signed_bytes
-signed_ten z = signed_most 9 z
-
 pub len_const : (v : Value) (k : Nodes) → code_length (const v k) ≤ 11 + code_length k
-len_const (values.I32 n) k = let s = signed_ten (cast_signed w32 n) in omega (arith, s)
-len_const (values.I64 n) k = let s = signed_ten (cast_signed w64 n) in omega (arith, s)
+len_const (values.I32 n) k = let s = ten_signed (cast_signed w32 n) in omega (arith, s)
+len_const (values.I64 n) k = let s = ten_signed (cast_signed w64 n) in omega (arith, s)
 
 pub len_call : (f : ℕ) (k : Nodes) → code_length (call f k) ≤ 11 + code_length k
 len_call f k = let s = ten_bytes f in omega (arith, s)

@@ -27,8 +27,9 @@ use Rattle.std.proofs.lemmas.List.{length-replicate}
 use Rattle.std.proofs.Math.Nat.{mul-div_cancel_left}
 use Rattle.rewrite_bodies.specs.Agreement.{One, Holds, awaits, pending, joined, FitsLabels, MemoryFits, WorldFits, flagged}
 use Rattle.rewrite_bodies.specs.inner.Steps.{To, Shell, st}
-use Rattle.rewrite_bodies.proofs.Run.{stored, HasPlace, if_same, slice_get-put_same, types-slice_set, same_type-same, same_type-refl, added_at, more_parts, one_step, holds_put}
+use Rattle.rewrite_bodies.proofs.Run.{stored, HasPlace, if_same, slice_get-put_same, types-slice_set, same_type-same, added_at, more_parts, one_step, holds_put}
 use Rattle.int_ops.specs.Integers.{binary as int_binary}
+use Rattle.wasm_laws.proofs.Progress.{value_type, same_of}
 
 get-append_left : (l ex : List Value) (x : ℕ) (v : Value) → slice_get l x ≡ Some v → slice_get (l ++ ex) x ≡ Some v
 get-append_left [] ex x v e = absurd (cc)
@@ -52,11 +53,7 @@ Match (v ∷ vs) [] = ⊥
 Match (v ∷ vs) (e ∷ es) = (type_of v ≡ place_type e) × Match vs es
 
 one_result : (v : Value) (t : ValType) → type_of v ≡ t → exactly (Some t) (v ∷ []) ≡ Some (v ∷ [])
-one_result v t d = rw (same_type-refl (type_of v) t d) refl
-
-pub value_has : (t : ValType) (n : ℕ) → type_of (value t n) ≡ t
-value_has I32 n = refl
-value_has I64 n = refl
+one_result v t d = rw (same_of (type_of v) t d) refl
 
 -- ---- the memory keeps whole pages
 
@@ -224,7 +221,7 @@ module _ (M : Engine) (gl : List ValType) (C : Ctx) (es : List Place) (l : List 
   grown_rel (Some m') m n old e h = (refl, refl, record { globals = wf.globals; memory = grow_keeps m m' n e (memory_is M gl g m wf h); table = wf.table }, refl)
 
   value_rel : (t : ValType) (n : ℕ) (can : Bool) → Rel M gl (Some t) can l ex b (gives g l (value t n ∷ [])) (gives (flagged M g b) (l ++ ex) (value t n ∷ []))
-  value_rel t n can = (refl, refl, wf, one_result (value t n) t (value_has t n))
+  value_rel t n can = (refl, refl, wf, one_result (value t n) t (value_type t n))
 
   binop_rel : (t : ValType) (op : BinaryOp) (n k : ℕ) → Rel M gl (Some t) (divides op) l ex b (effects.divides (binary t op k n) (λ x. gives g l (value t x ∷ []))) (effects.divides (binary t op k n) (λ x. gives (flagged M g b) (l ++ ex) (value t x ∷ [])))
   unfolding int_binary

@@ -14,6 +14,7 @@ use Rattle.rewrite_bodies.specs.Pieces.{get, set, const, fetch, load, store, to_
 use Rattle.rewrite_bodies.specs.Rewrite.{result_back}
 use Rattle.rewrite_bodies.specs.Agreement.{One, Holds}
 use Rattle.rewrite_bodies.specs.inner.Steps.{went, run, Gets, To, Shell, st}
+use Rattle.wasm_laws.proofs.Progress.{get_type, same_of}
 
 pub slice_get-append : {A : Type 0} (l ex : List A) (n h : ℕ) → n ≡ length l → slice_get (l ++ ex) (n + h) ≡ slice_get ex h
 slice_get-append [] ex n h e = ap (slice_get ex) (omega arith)
@@ -26,12 +27,6 @@ slice_set-append [] ex n h v e = ap (λ k. slice_set ex k v) (omega arith)
 slice_set-append (x ∷ l) ex n h v e =
     let m : n + h ≡ suc (length l + h) = omega arith in
     ap (λ k. slice_set (x ∷ (l ++ ex)) k v) m ∙ ap (λ r. x ∷ r) (slice_set-append l ex (length l) h v refl)
-
--- a place of this type
-pub typed_at : (ex : List Value) (i : ℕ) (t : ValType) → slice_get (types ex) i ≡ Some t → (w : Value) × (slice_get ex i ≡ Some w) × (type_of w ≡ t)
-typed_at [] i t e = absurd (cc)
-typed_at (x ∷ ex) zero t e = (x, refl, cc)
-typed_at (x ∷ ex) (suc i) t e = typed_at ex i t e
 
 pub slice_get-put_same : (ex : List Value) (i : ℕ) (t : ValType) (v : Value) → slice_get (types ex) i ≡ Some t → slice_get (slice_set ex i v) i ≡ Some v
 slice_get-put_same [] i t v e = absurd (cc)
@@ -56,12 +51,6 @@ same_type-same I32 I32 e = refl
 same_type-same I32 I64 e = absurd (cc)
 same_type-same I64 I32 e = absurd (cc)
 same_type-same I64 I64 e = refl
-
-pub same_type-refl : (a b : ValType) → a ≡ b → same_type a b ≡ true
-same_type-refl I32 I32 e = refl
-same_type-refl I32 I64 e = absurd (cc)
-same_type-refl I64 I32 e = absurd (cc)
-same_type-refl I64 I64 e = refl
 
 -- the types of the added locals
 pub added_at : (n h : ℕ) (t : ValType) → h ≤ n → slice_get (added n) (slot t h) ≡ Some t
@@ -185,7 +174,7 @@ module _ (M : Engine) where
   get_to x v e = one_step _ _ (rw e)
 
   pub put_to : {X : Shell} {tl s : List Value} {k : Nodes} {g : World} {co : List CollectorCall} (x : ℕ) (v w : Value) → slice_get tl x ≡ Some w → type_of w ≡ type_of v → To M 1 1 (st X tl (v ∷ s) (basic 0 (LocalSet x) k) g co) (st X (slice_set tl x v) s k g co)
-  put_to x v w e d = one_step _ _ (rw (e, same_type-refl (type_of w) (type_of v) d) refl)
+  put_to x v w e d = one_step _ _ (rw (e, same_of (type_of w) (type_of v) d) refl)
 
   -- the added locals
   module _ (C : Ctx) (l : List Value) (size : length C.locals ≡ length l) where
@@ -194,7 +183,7 @@ module _ (M : Engine) where
 
     pub added_set : {X : Shell} {s : List Value} {k : Nodes} {g : World} {co : List CollectorCall} (ex : List Value) (h : ℕ) (t : ValType) (v : Value) → slice_get (types ex) h ≡ Some t → type_of v ≡ t → To M 1 1 (st X (l ++ ex) (v ∷ s) (set C h k) g co) (st X (l ++ slice_set ex h v) s k g co)
     added_set {X = X} {s = s} {k = k} {g = g} {co = co} ex h t v at d =
-        let w = typed_at ex h t at in
+        let w = get_type ex h t at in
         subst (λ z. To M 1 1 (st X (l ++ ex) (v ∷ s) (set C h k) g co) (st X z s k g co)) (slice_set-append l ex (length C.locals) h v size) (put_to ((length C.locals) + h) v w.0 (slice_get-append l ex (length C.locals) h size ∙ w.1) (w.2 ∙ sym d))
 
     pub fetch_to : {X : Shell} {s : List Value} {k : Nodes} {g : World} {co : List CollectorCall} (ex : List Value) (h : ℕ) (e : Place) (v : Value) → One ex h e v → To M 1 1 (st X (l ++ ex) s (fetch C e h k) g co) (st X (l ++ ex) (v ∷ s) k g co)

@@ -35,11 +35,10 @@ use Rattle.rewrite_bodies.proofs.Sim.{grown-append}
 use Rattle.rewrite_bodies.proofs.Unwind.{less_shorter}
 use Rattle.rewrite_bodies.proofs.TypedPieces.{Ok, ok_basic, ok_const, ok_eqz, Open, open_label, TopIs, at_labels, ok_if, ok_branch, ok_call, ok_get, ok_set, ok_fetch, ok_load, ok_store, ok_to_result, ok_from_result, ok_hand_value, ok_tested, ok_test_flag, ok_test_both, HasMemory, ok_guard_zero, ok_guard_signed, ok_guard_memory, ok_guard_copy, ok_guard_fill}
 use Rattle.wasm_laws.proofs.Progress.{takes_len}
+use Rattle.wasm_laws.proofs.Lists.{some_is}
+use Rattle.wasm_laws.proofs.Validity.{then_found, map_found}
 
-some_is : {A : Type 0} {a b : A} → Some a ≡ Some b → a ≡ b
-some_is e = cc
-
-get_front : {A : Type 0} (xs ys : List A) (i : ℕ) (x : A) → slice_get xs i ≡ Some x → slice_get (xs ++ ys) i ≡ Some x
+pub get_front : {A : Type 0} (xs ys : List A) (i : ℕ) (x : A) → slice_get xs i ≡ Some x → slice_get (xs ++ ys) i ≡ Some x
 get_front [] ys i x e = absurd (cc)
 get_front (y ∷ xs) ys zero x e = e
 get_front (y ∷ xs) ys (suc i) x e = get_front xs ys i x e
@@ -74,19 +73,11 @@ grown_types (Some t) own below e = ap (λ z. t ∷ z) e
 
 -- ---- tables of arrows
 
-found : {A B : Type 0} (o : Option A) (f : A → B) (b : B) → option_map f o ≡ Some b → (a : A) × (o ≡ Some a) × (f a ≡ b)
-found None f b e = absurd (cc)
-found (Some a) f b e = (a, refl, let z : f a ≡ b = cc in z)
-
-then_found : {A B : Type 0} (o : Option A) (f : A → Option B) (b : B) → option_then o f ≡ Some b → (a : A) × (o ≡ Some a) × (f a ≡ Some b)
-then_found None f b e = absurd (cc)
-then_found (Some a) f b e = (a, refl, e)
-
 any_found : {A B : Type 0} (ls : List A) (o : Option B) (b : B) → typing.if_any ls o ≡ Some b → o ≡ Some b
 any_found [] o b e = absurd (cc)
 any_found (l ∷ ls) o b e = e
 
-only_found : {A : Type 0} (q : Bool) (o : Option A) (b : A) → only_if q o ≡ Some b → o ≡ Some b
+pub only_found : {A : Type 0} (q : Bool) (o : Option A) (b : A) → only_if q o ≡ Some b → o ≡ Some b
 only_found true o b e = e
 only_found false o b e = absurd (cc)
 
@@ -106,11 +97,11 @@ gives_is C ls t Select a es e h =
     second [] q = absurd (cc)
     second (c ∷ []) q = absurd (cc)
     second (c ∷ b ∷ es) q = let z : place_type b ≡ t = cc in ap (λ u. u ∷ []) (sym z)
-gives_is C ls t (LocalGet x) a es e h = let f = found (slice_get C.locals x) _ a e in rw f.1 (sym (ap (λ z. z.gives) f.2))
-gives_is C ls t (LocalSet x) a es e h = let f = found (slice_get C.locals x) _ a e in sym (ap (λ z. z.gives) f.2)
-gives_is C ls t (LocalTee x) a es e h = let f = found (slice_get C.locals x) _ a e in rw f.1 (sym (ap (λ z. z.gives) f.2))
+gives_is C ls t (LocalGet x) a es e h = let f = map_found (slice_get C.locals x) _ a e in rw f.1 (sym (ap (λ z. z.gives) f.2))
+gives_is C ls t (LocalSet x) a es e h = let f = map_found (slice_get C.locals x) _ a e in sym (ap (λ z. z.gives) f.2)
+gives_is C ls t (LocalTee x) a es e h = let f = map_found (slice_get C.locals x) _ a e in rw f.1 (sym (ap (λ z. z.gives) f.2))
 gives_is C ls t (GlobalGet x) a es e h =
-    let f = found (slice_get C.source.globals x) _ a e in
+    let f = map_found (slice_get C.source.globals x) _ a e in
     let z : slice_get (map (λ g. g.vtype) C.source.globals) x ≡ Some f.0.vtype = slice_get-map (λ g. g.vtype) C.source.globals x ∙ ap (option_map (λ g. g.vtype)) f.1 in
     rw z (sym (ap (λ z. z.gives) f.2))
 gives_is C ls t (GlobalSet x) a es e h =
@@ -167,10 +158,10 @@ module _ (C : Ctx) (m : Module) (locals : List ValType) (off : Offers C m locals
   arrow_kept ls labels t Nop a e = e
   arrow_kept ls labels t Drop a e = e
   arrow_kept ls labels t Select a e = e
-  arrow_kept ls labels t (LocalGet x) a e = let f = found (slice_get C.locals x) _ a e in rw (off.locals_are, get_front C.locals (added C.slots) x f.0 f.1) (ap Some f.2)
-  arrow_kept ls labels t (LocalSet x) a e = let f = found (slice_get C.locals x) _ a e in rw (off.locals_are, get_front C.locals (added C.slots) x f.0 f.1) (ap Some f.2)
-  arrow_kept ls labels t (LocalTee x) a e = let f = found (slice_get C.locals x) _ a e in rw (off.locals_are, get_front C.locals (added C.slots) x f.0 f.1) (ap Some f.2)
-  arrow_kept ls labels t (GlobalGet x) a e = let f = found (slice_get C.source.globals x) _ a e in rw (off.globals x f.0 f.1) (ap Some f.2)
+  arrow_kept ls labels t (LocalGet x) a e = let f = map_found (slice_get C.locals x) _ a e in rw (off.locals_are, get_front C.locals (added C.slots) x f.0 f.1) (ap Some f.2)
+  arrow_kept ls labels t (LocalSet x) a e = let f = map_found (slice_get C.locals x) _ a e in rw (off.locals_are, get_front C.locals (added C.slots) x f.0 f.1) (ap Some f.2)
+  arrow_kept ls labels t (LocalTee x) a e = let f = map_found (slice_get C.locals x) _ a e in rw (off.locals_are, get_front C.locals (added C.slots) x f.0 f.1) (ap Some f.2)
+  arrow_kept ls labels t (GlobalGet x) a e = let f = map_found (slice_get C.source.globals x) _ a e in rw (off.globals x f.0 f.1) (ap Some f.2)
   arrow_kept ls labels t (GlobalSet x) a e = let f = then_found (slice_get C.source.globals x) set_global a e in rw (off.globals x f.0 f.1) f.2
   arrow_kept ls labels t (Load l al o) a e = any_kept _ a e
   arrow_kept ls labels t (Store l al o) a e = any_kept _ a e

@@ -19,13 +19,14 @@ use Rattle.rewrite_bodies.specs.Pieces.{get, set, const, call, if_any, fetch, st
 use Rattle.rewrite_bodies.specs.Rewrite.{Info, hand_value, hand, hand_top, to_exit, unwind, hand_left, test_flag, test_both, rewrite, hand_locals, zero_result, raise_flag, exit_code}
 use Rattle.rewrite_bodies.specs.Agreement.{One, Holds, awaits, code_at, pending, info, infos, joined, t_kind, t_labels, Wit, KindFits, FitsLabels, WorldFits, FitsFrame, FitsFrames, Wrap, w_frame, zero_vs, last_result, t_frames, flagged}
 use Rattle.rewrite_bodies.specs.inner.Steps.{Gets, To, Shell, st}
-use Rattle.rewrite_bodies.proofs.Run.{stored, stored_other, kind_no_slot, types-stored, slice_get-put_same, slice_get-put_other, types-slice_set, same_type-refl, added_kind, added_offset, still, one_step, seq, weaken, push_to, get_to, added_get, added_set, fetch_to, store_to}
+use Rattle.rewrite_bodies.proofs.Run.{stored, stored_other, kind_no_slot, types-stored, slice_get-put_same, slice_get-put_other, types-slice_set, added_kind, added_offset, still, one_step, seq, weaken, push_to, get_to, added_get, added_set, fetch_to, store_to}
 use Rattle.rewrite_bodies.proofs.Parts.{place_of, fits_put, fits_stored, step_plain}
 use Rattle.dump_write.specs.Collected.{value_call}
 use Rattle.rewrite_bodies.specs.inner.Telling.{tell_ops, tell_labels, tell_locals, tell_frame, tell_outer}
 use Rattle.rewrite_bodies.proofs.Sim.{room_height, grown_fits, len_of, shell, wit, wit_under, armed, if_zero_to, if_up_to}
 use Rattle.rewrite_bodies.proofs.Control.{flag_len, get_last, grown_longer, both_to}
 use Rattle.rewrite_bodies.specs.inner.Standing.{Speaks}
+use Rattle.wasm_laws.proofs.Progress.{same_of}
 
 -- all operands of a frame are in their places
 abbrev AllIn : List Value → List Value → List Place → Type 0
@@ -102,7 +103,7 @@ exit_branch C ex a o k L (L1 ∷ Ls) e (e1 ∷ ss) h =
 
 module _ (M' : Engine) (m : Module) (sp : Speaks M' m) where
   value_at : {X : Shell} {tl s : List Value} {k : Nodes} {g : World} {co : List CollectorCall} (v : Value) → To M' 1 1 (st X tl (v ∷ s) (call (value_import m (type_of v)) k) g co) (st X tl s k g (value_call v ∷ co))
-  value_at {g = g} v = one_step M' _ _ (rw (sp.values_ (type_of v), same_type-refl (type_of v) (type_of v) refl, sp.collects, sp.tells v g) refl)
+  value_at {g = g} v = one_step M' _ _ (rw (sp.values_ (type_of v), same_of (type_of v) (type_of v) refl, sp.collects, sp.tells v g) refl)
 
   pub value_to : {X : Shell} {tl s : List Value} {k : Nodes} {g : World} {co : List CollectorCall} (t : ValType) (v : Value) → type_of v ≡ t → To M' 1 1 (st X tl (v ∷ s) (call (value_import m t) k) g co) (st X tl s k g (value_call v ∷ co))
   value_to {X = X} {tl = tl} {s = s} {k = k} {g = g} {co = co} t v d = subst (λ t. To M' 1 1 (st X tl (v ∷ s) (call (value_import m t) k) g co) (st X tl s k g (value_call v ∷ co))) d (value_at v)

@@ -29,6 +29,7 @@ use Rattle.rewrite_sizes.proofs.Totals.{total_many}
 use Rattle.rewrite_sizes.proofs.Items.{item_length, item_short, basic_some}
 use Rattle.rewrite_sizes.proofs.Sections.{contents, contents_least}
 use Rattle.index_map.proofs.Few.{few}
+use Rattle.rewrite_sizes.proofs.Lists.{instr_some}
 
 -- ---- instructions
 
@@ -36,27 +37,6 @@ extra_few : (i : Instr) → extra i ≤ 128
 extra_few (instrs.Basic basics.MemoryCopy) = omega arith
 extra_few (instrs.Basic basics.MemoryFill) = omega arith
 extra_few i = omega arith
-
-jump_some : (j : Jump) → 1 ≤ jump_length j
-jump_some Unreachable = omega arith
-jump_some (Br l) = omega arith
-jump_some (BrIf l) = omega arith
-jump_some (BrTable ts d) = omega arith
-jump_some Return = omega arith
-jump_some (Call f) = omega arith
-jump_some (CallIndirect t) = omega arith
-
-item_some : (x : Item) → 1 ≤ item_length x
-item_some (Plain i) = basic_some i
-item_some (Goes j) = jump_some j
-item_some (Opens t) = omega arith
-item_some (OpensLoop t) = omega arith
-item_some (OpensIf t) = omega arith
-item_some Else = omega arith
-item_some End = omega arith
-
-instr_some : (T : List ℕ) (i : Instr) → 1 ≤ length (instruction_bytes T i)
-instr_some T i = let a = item_short T i in let b = item_some (item_of T i) in omega (arith, a, b)
 
 -- code whose instructions take a byte at least
 ops_light : (T : List ℕ) (h : ℕ → ℕ) → ((j : ℕ) → h j ≤ 4096) → (j : ℕ) (ops : List Op) → AllByRecursion (λ o. length (instruction_bytes T o.code) ≤ o.len) ops → ops_weight h j ops ≤ 65864 * sum_by (λ o. o.len) ops

@@ -11,8 +11,9 @@ use Rattle.wasm_syntax.specs.Typing.{Context, body_context}
 use Rattle.wasm_syntax.specs.FlatTyping.{OpenBlock, label_types, FlatStep, FlatTypes, body_block, dead_next, dead_behind, AllLive, TypesBefore}
 use Rattle.rewrite_modules.specs.Bare.{bare_op, bare_body, bare_module}
 use Rattle.rewrite_modules.specs.LowSizes.{LowHeights}
-use Rattle.rewrite_modules.proofs.BareValid.{basic_to, basic_from, jump_to, jump_from, map_found}
+use Rattle.rewrite_modules.proofs.BareValid.{basic_to, basic_from, jump_to, jump_from}
 use Rattle.rewrite_modules.proofs.WrittenOut.{at_zero, zero_code}
+use Rattle.wasm_laws.proofs.Validity.{map_found}
 
 take_zero : (i : ℕ) (code : List Placed) → take i (map at_zero code) ≡ map at_zero (take i code)
 take_zero zero [] = refl

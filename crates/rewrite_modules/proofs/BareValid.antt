@@ -28,6 +28,7 @@ use Rattle.rewrite_modules.specs.Bare.{bare_nodes, bare_tree, bare_op, bare_body
 use Rattle.rewrite_modules.specs.LowSizes.{LowSizes}
 use Rattle.rewrite_modules.proofs.ValidBodies.{typed_bare, bare_typed}
 use Rattle.rewrite_modules.proofs.WrittenOut.{bare_writes, tree_of_body}
+use Rattle.wasm_laws.proofs.Validity.{map_found}
 
 -- ---- lists
 
@@ -45,17 +46,13 @@ all_back : {A B : Type 0} (P : A → Type 0) (Q : B → Type 0) (go : A → B) (
 all_back P Q go [] h a = tt
 all_back P Q go (x ∷ xs) h a = (h x a.0, all_back P Q go xs h a.1)
 
-all_as : {A : Type 0} (P Q : A → Type 0) (xs : List A) → ((x : A) → P x → Q x) → AllByRecursion P xs → AllByRecursion Q xs
+pub all_as : {A : Type 0} (P Q : A → Type 0) (xs : List A) → ((x : A) → P x → Q x) → AllByRecursion P xs → AllByRecursion Q xs
 all_as P Q [] h a = tt
 all_as P Q (x ∷ xs) h a = (h x a.0, all_as P Q xs h a.1)
 
 codes_bare : (ops : List Op) → map (λ o. o.code) (map bare_op ops) ≡ map (λ o. o.code) ops
 codes_bare [] = refl
 codes_bare (o ∷ ops) = ap (λ z. o.code ∷ z) (codes_bare ops)
-
-pub map_found : {A B : Type 0} (o : Option A) (f : A → B) (b : B) → option_map f o ≡ Some b → (a : A) × (o ≡ Some a) × (f a ≡ b)
-map_found None f b e = absurd (cc)
-map_found (Some a) f b e = (a, refl, let z : f a ≡ b = cc in z)
 
 -- ---- constant expressions
 

@@ -11,7 +11,7 @@ use Rattle.rewrite_bodies.specs.Slots.{groups}
 use Rattle.rewrite_bodies.specs.Pieces.{tree_of}
 use Rattle.rewrite_modules.specs.FlatCode.{targets_in, else_op, ops_in, body_of, op}
 
-taken : (T pre ts more : List ℕ) (n : ℕ) → T ≡ pre ++ (ts ++ more) → n ≡ length pre → take (length ts) (drop n T) ≡ ts
+pub taken : (T pre ts more : List ℕ) (n : ℕ) → T ≡ pre ++ (ts ++ more) → n ≡ length pre → take (length ts) (drop n T) ≡ ts
 taken T pre ts more n e d = ap₂ (λ m xs. take (length ts) (drop m xs)) d e ∙ ap (take (length ts)) (drop-append_seam pre (ts ++ more)) ∙ take-append_seam ts more
 
 module _ (T : List ℕ) where

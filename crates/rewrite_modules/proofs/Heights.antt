@@ -31,10 +31,10 @@ use Rattle.wasm_laws.proofs.FlatStatic.{write_append, dead_pass}
 use Rattle.wasm_laws.proofs.Lists.{some_is}
 use Rattle.rewrite_modules.specs.Weight.{height_at, AreHeights}
 use Rattle.rewrite_modules.proofs.Links.{is_defined, type_is_of}
-use Rattle.rewrite_modules.proofs.WrittenOut.{writes_at}
+use Rattle.wasm_laws.proofs.Validity.{tree_there}
 
 -- what basic instructions take does not hang on labels
-arrow_labels : (C : Ctx) (ret : List ValType) (labels : List (List ValType)) (t : ValType) (i : Basic) → arrow (at_labels C.source C.locals ret labels) t i ≡ arrow (original C []) t i
+pub arrow_labels : (C : Ctx) (ret : List ValType) (labels : List (List ValType)) (t : ValType) (i : Basic) → arrow (at_labels C.source C.locals ret labels) t i ≡ arrow (original C []) t i
 arrow_labels C ret labels t Nop = refl
 arrow_labels C ret labels t Drop = refl
 arrow_labels C ret labels t Select = refl
@@ -351,7 +351,7 @@ module _ (p : Program) (write_ : IsProgram p) (typed : Typed p) (heights : List 
       let C = ctx_of p f b type 0 in
       let ret = reverse type.results in
       let start = opened block_kinds.Plain result [] in
-      let w = writes_at m.bodies p.trees d.number b tree write_ d.body_is d.tree_is in
+      let w = tree_there m.bodies p.trees d.number b tree write_ d.body_is d.tree_is in
       let code = code_of b.targets b.ops in
       let ty = type_is_of p f (defined b tree type) at in
       let ty1 : type_at m (length m.imports + d.number) ≡ Some type = subst (λ z. type_at m z ≡ Some type) d.number_is ty in

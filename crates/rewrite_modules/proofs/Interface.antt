@@ -10,7 +10,8 @@ use Rattle.rewrite_bodies.specs.Numbering.{wraps, import_count}
 use Rattle.rewrite_modules.specs.Collector.{memory_export}
 use Rattle.rewrite_modules.specs.Instrument.{new_exports, new_index, new_module}
 use Rattle.rewrite_modules.specs.Interface.{named, KeepsInterface}
-use Rattle.rewrite_modules.proofs.Links.{get_left, get_right}
+use Rattle.rewrite_modules.proofs.Links.{get_right}
+use Rattle.rewrite_bodies.proofs.TypedNodes.{get_front}
 
 names_kept : (m : Module) (k : ℕ) (es : List Export) → map named (new_exports m k es) ≡ map named es
 names_kept m k [] = refl
@@ -38,7 +39,7 @@ interface p =
       takes_i64 = get_right m.types _ 1 (length m.types + 1) refl;
       takes_frame = get_right m.types _ 2 (length m.types + 2) refl;
       exports = map-append named (new_exports m 0 m.exports) (memory_export m.memories) ∙ ap (λ z. z ++ map named (memory_export m.memories)) (names_kept m 0 m.exports);
-      indices = λ i e at f. get_left (new_exports m 0 m.exports) (memory_export m.memories) i e (index_kept m 0 m.exports i e at f);
+      indices = λ i e at f. get_front (new_exports m 0 m.exports) (memory_export m.memories) i e (index_kept m 0 m.exports i e at f);
       tables = refl;
       memories = refl;
       segments = refl;

@@ -33,13 +33,11 @@ use Rattle.rewrite_modules.specs.Instrument.{each, new_body, new_tree, new_modul
 use Rattle.rewrite_modules.specs.FlatCode.{body_of}
 use Rattle.rewrite_modules.specs.Wrappers.{wrapper}
 use Rattle.rewrite_modules.proofs.Bounds.{Static, room_of}
+use Rattle.wasm_laws.proofs.Validity.{then_found, map_found}
+use Rattle.rewrite_bodies.proofs.TypedNodes.{get_front}
+use Rattle.wasm_laws.proofs.Lists.{get_within}
 
 -- ---- lists
-
-pub get_left : {A : Type 0} (xs ys : List A) (i : ℕ) (x : A) → slice_get xs i ≡ Some x → slice_get (xs ++ ys) i ≡ Some x
-get_left [] ys i x e = absurd (cc)
-get_left (y ∷ xs) ys zero x e = e
-get_left (y ∷ xs) ys (suc i) x e = get_left xs ys i x e
 
 pub get_right : {A : Type 0} (xs ys : List A) (i n : ℕ) → n ≡ length xs + i → slice_get (xs ++ ys) n ≡ slice_get ys i
 get_right [] ys i n e = let z : n ≡ i = omega (arith, e) in ap (slice_get ys) z
@@ -53,11 +51,6 @@ get_each go k (y ∷ xs) (suc i) x e = let z : suc k + i ≡ k + suc i = omega a
 pub length-each : {A B : Type 0} (go : ℕ → B) (k : ℕ) (xs : List A) → length (each go k xs) ≡ length xs
 length-each go k [] = refl
 length-each go k (x ∷ xs) = ap suc (length-each go (suc k) xs)
-
-pub get_within : {A : Type 0} (xs : List A) (i : ℕ) → i < length xs → (x : A) × (slice_get xs i ≡ Some x)
-get_within [] i lt = absurd (omega (arith, lt))
-get_within (x ∷ xs) zero lt = (x, refl)
-get_within (x ∷ xs) (suc i) lt = get_within xs i (omega (arith, lt))
 
 place_has : (t : ℕ) (ts : List ℕ) → Has t ts → slice_get ts (place_in t ts) ≡ Some t
 place_has t [] h = absurd (omega (arith, h))
@@ -75,14 +68,6 @@ declared-groups zero = refl
 declared-groups (suc n) = ap (λ z. I32 ∷ I64 ∷ z) (declared-groups n)
 
 -- ---- the functions of a program
-
-then_some : {A B : Type 0} (o : Option A) (go : A → Option B) (b : B) → option_then o go ≡ Some b → (a : A) × (o ≡ Some a) × (go a ≡ Some b)
-then_some None go b e = absurd (cc)
-then_some (Some a) go b e = (a, refl, e)
-
-map_some : {A B : Type 0} (o : Option A) (go : A → B) (b : B) → option_map go o ≡ Some b → (a : A) × (o ≡ Some a) × (go a ≡ b)
-map_some None go b e = absurd (cc)
-map_some (Some a) go b e = (a, refl, let z : go a ≡ b = cc in z)
 
 -- an imported function
 pub record IsImport (p : Program) (f : ℕ) (i : Import) (type : FuncType) : Type 0 where
@@ -114,16 +99,16 @@ module _ (p : Program) (f : ℕ) where
 
   imported_of : (fn : Function) → imported_at p.module_ f ≡ Some fn → (i : Import) × (type : FuncType) × (fn ≡ imported i type) × (slice_get p.module_.imports f ≡ Some i) × (slice_get p.module_.types i.ftype ≡ Some type)
   imported_of fn e =
-      let a = then_some (slice_get p.module_.imports f) (λ i. option_map (imported i) (slice_get p.module_.types i.ftype)) fn e in
-      let b = map_some (slice_get p.module_.types a.0.ftype) (imported a.0) fn a.2 in
+      let a = then_found (slice_get p.module_.imports f) (λ i. option_map (imported i) (slice_get p.module_.types i.ftype)) fn e in
+      let b = map_found (slice_get p.module_.types a.0.ftype) (imported a.0) fn a.2 in
       (a.0, b.0, sym b.2, a.1, b.1)
 
   defined_of : (j : ℕ) (fn : Function) → defined_at p j ≡ Some fn → (t : ℕ) × (type : FuncType) × (b : Body) × (tree : Tree) × (fn ≡ defined b tree type) × (slice_get p.module_.functions j ≡ Some t) × (slice_get p.module_.types t ≡ Some type) × (slice_get p.module_.bodies j ≡ Some b) × (slice_get p.trees j ≡ Some tree)
   defined_of j fn e =
-      let a = then_some (slice_get p.module_.functions j) _ fn e in
-      let b = then_some (slice_get p.module_.types a.0) _ fn a.2 in
-      let c = then_some (slice_get p.module_.bodies j) _ fn b.2 in
-      let d = map_some (slice_get p.trees j) _ fn c.2 in
+      let a = then_found (slice_get p.module_.functions j) _ fn e in
+      let b = then_found (slice_get p.module_.types a.0) _ fn a.2 in
+      let c = then_found (slice_get p.module_.bodies j) _ fn b.2 in
+      let d = map_found (slice_get p.trees j) _ fn c.2 in
       (a.0, b.0, c.0, d.0, sym d.2, a.1, b.1, c.1, d.1)
 
   by_low : (q : Bool) (fn : Function) → nat_lt f n ≡ q → (if q then imported_at p.module_ f else defined_at p (f - n)) ≡ Some fn → ((i : Import) × (type : FuncType) × (fn ≡ imported i type) × IsImport p f i type) ⊎ ((b : Body) × (tree : Tree) × (type : FuncType) × (fn ≡ defined b tree type) × IsDefined p f b tree type)
@@ -161,7 +146,7 @@ module _ (p : Program) (f : ℕ) where
 
 type_is_import : (p : Program) (f : ℕ) (i : Import) (type : FuncType) → IsImport p f i type → type_at p.module_ f ≡ Some type
 type_is_import p f i type h =
-    let a : slice_get (function_types p.module_) f ≡ Some i.ftype = get_left (map (λ i. i.ftype) p.module_.imports) p.module_.functions f i.ftype (slice_get-map (λ i. i.ftype) p.module_.imports f ∙ ap (option_map (λ i. i.ftype)) h.import) in
+    let a : slice_get (function_types p.module_) f ≡ Some i.ftype = get_front (map (λ i. i.ftype) p.module_.imports) p.module_.functions f i.ftype (slice_get-map (λ i. i.ftype) p.module_.imports f ∙ ap (option_map (λ i. i.ftype)) h.import) in
     rw (a, h.type_is) refl
 
 type_is_defined : (p : Program) (f : ℕ) (b : Body) (tree : Tree) (type : FuncType) → IsDefined p f b tree type → type_at p.module_ f ≡ Some type
@@ -203,12 +188,12 @@ module _ (p : Program) (ready : Ready p) where
   high_is f le = rw imports_many (le-ltb f (import_count m + 3) le)
 
   type_kept : (t : ℕ) (type : FuncType) → slice_get m.types t ≡ Some type → slice_get m'.types t ≡ Some type
-  type_kept t type e = get_left m.types _ t type e
+  type_kept t type e = get_front m.types _ t type e
 
   -- ---- imports
 
   import_kept : (f : ℕ) (i : Import) (type : FuncType) → IsImport p f i type → IsImport p' f i type
-  import_kept f i type h = record { low = low_is f (omega (arith, ltb-true f (import_count m) h.low)); import = get_left m.imports _ f i h.import; type_is = type_kept i.ftype type h.type_is }
+  import_kept f i type h = record { low = low_is f (omega (arith, ltb-true f (import_count m) h.low)); import = get_front m.imports _ f i h.import; type_is = type_kept i.ftype type h.type_is }
 
   pub import_linked : (d : ℕ) (f : ℕ) (i : Import) (type : FuncType) → function_at p f ≡ Some (imported i type) → ImportLinked (engine p false d) (engine p' true (d + 2)) f i type
   import_linked d f i type e =
@@ -269,9 +254,9 @@ module _ (p : Program) (ready : Ready p) where
   defined_kept f b tree type h e =
       let j = h.number in
       let at : import_count m + j ≡ f = sym h.number_is in
-      let bd : slice_get m'.bodies j ≡ Some (new_body p f (Some (defined b tree type))) = get_left _ _ j _ (get_each (λ f. new_body p f (function_at p f)) (import_count m) m.bodies j b h.body_is ∙ ap (λ z. Some (new_body p z (function_at p z))) at ∙ ap (λ z. Some (new_body p f z)) e) in
-      let tr : slice_get p'.trees j ≡ Some (new_tree p f (Some (defined b tree type))) = get_left _ _ j _ (get_each (λ f. new_tree p f (function_at p f)) (import_count m) m.bodies j b h.body_is ∙ ap (λ z. Some (new_tree p z (function_at p z))) at ∙ ap (λ z. Some (new_tree p f z)) e) in
-      defined_there j (3 + f) h.t _ _ type (omega (arith, h.number_is)) (get_left m.functions _ j h.t h.function) (type_kept h.t type h.type_is) bd tr
+      let bd : slice_get m'.bodies j ≡ Some (new_body p f (Some (defined b tree type))) = get_front _ _ j _ (get_each (λ f. new_body p f (function_at p f)) (import_count m) m.bodies j b h.body_is ∙ ap (λ z. Some (new_body p z (function_at p z))) at ∙ ap (λ z. Some (new_body p f z)) e) in
+      let tr : slice_get p'.trees j ≡ Some (new_tree p f (Some (defined b tree type))) = get_front _ _ j _ (get_each (λ f. new_tree p f (function_at p f)) (import_count m) m.bodies j b h.body_is ∙ ap (λ z. Some (new_tree p z (function_at p z))) at ∙ ap (λ z. Some (new_tree p f z)) e) in
+      defined_there j (3 + f) h.t _ _ type (omega (arith, h.number_is)) (get_front m.functions _ j h.t h.function) (type_kept h.t type h.type_is) bd tr
 
   mapped_high : (f : ℕ) → nat_lt f (import_count m) ≡ false → mapped m f ≡ 3 + f
   mapped_high f e = rw e refl
@@ -332,12 +317,12 @@ module _ (p : Program) (ready : Ready p) where
   pub wrapper_there : (j f : ℕ) (type : FuncType) → slice_get (wrapped m) j ≡ Some f → type_at m f ≡ Some type → function_at p' (wrapper_base m + j) ≡ Some (defined (body_of [] (wrapper m f)) (tree_of (wrapper m f)) type)
   wrapper_there j f type at ty =
       let number = length m.functions + j in
-      let a = then_some (slice_get (function_types m) f) (λ t. slice_get m.types t) type ty in
+      let a = then_found (slice_get (function_types m) f) (λ t. slice_get m.types t) type ty in
       let lt : j < length (map (wrapper_type m) (wrapped m)) = rw length-map (slice_get_within (wrapped m) j f at) in
       let wt : slice_get (map (wrapper_type m) (wrapped m)) j ≡ Some a.0 = map_at (wrapper_type m) (wrapped m) j f at ∙ ap (λ o. Some (unwrap_or o 0)) a.1 in
-      let fn : slice_get m'.functions number ≡ Some a.0 = get_right m.functions _ j number refl ∙ get_left (map (wrapper_type m) (wrapped m)) _ j a.0 wt in
-      let bd : slice_get m'.bodies number ≡ Some (body_of [] (wrapper m f)) = get_right _ _ j number (ap (λ z. z + j) (sym bodies_before)) ∙ get_left _ _ j _ (map_at (λ f. body_of [] (wrapper m f)) (wrapped m) j f at) in
-      let tr : slice_get p'.trees number ≡ Some (tree_of (wrapper m f)) = get_right _ _ j number (ap (λ z. z + j) (sym trees_before)) ∙ get_left _ _ j _ (map_at (λ f. tree_of (wrapper m f)) (wrapped m) j f at) in
+      let fn : slice_get m'.functions number ≡ Some a.0 = get_right m.functions _ j number refl ∙ get_front (map (wrapper_type m) (wrapped m)) _ j a.0 wt in
+      let bd : slice_get m'.bodies number ≡ Some (body_of [] (wrapper m f)) = get_right _ _ j number (ap (λ z. z + j) (sym bodies_before)) ∙ get_front _ _ j _ (map_at (λ f. body_of [] (wrapper m f)) (wrapped m) j f at) in
+      let tr : slice_get p'.trees number ≡ Some (tree_of (wrapper m f)) = get_right _ _ j number (ap (λ z. z + j) (sym trees_before)) ∙ get_front _ _ j _ (map_at (λ f. tree_of (wrapper m f)) (wrapped m) j f at) in
       at_defined p' (wrapper_base m + j) _ _ type (defined_there number (wrapper_base m + j) a.0 _ _ type (omega arith) fn (type_kept a.0 type a.2) bd tr)
 
   -- ---- types of functions
@@ -347,19 +332,19 @@ module _ (p : Program) (ready : Ready p) where
 
   low_type : (f : ℕ) (type : FuncType) → f < import_count m → type_at m f ≡ Some type → type_at m' f ≡ Some type
   low_type f type lt e =
-      let a = then_some (slice_get (function_types m) f) (λ t. slice_get m.types t) type e in
+      let a = then_found (slice_get (function_types m) f) (λ t. slice_get m.types t) type e in
       let i = get_within m.imports f lt in
-      let old : slice_get (function_types m) f ≡ Some i.0.ftype = get_left (map (λ i. i.ftype) m.imports) m.functions f i.0.ftype (map_at (λ i. i.ftype) m.imports f i.0 i.1) in
-      let new : slice_get (function_types m') f ≡ Some i.0.ftype = get_left (map (λ i. i.ftype) m'.imports) m'.functions f i.0.ftype (map_at (λ i. i.ftype) m'.imports f i.0 (get_left m.imports _ f i.0 i.1)) in
+      let old : slice_get (function_types m) f ≡ Some i.0.ftype = get_front (map (λ i. i.ftype) m.imports) m.functions f i.0.ftype (map_at (λ i. i.ftype) m.imports f i.0 i.1) in
+      let new : slice_get (function_types m') f ≡ Some i.0.ftype = get_front (map (λ i. i.ftype) m'.imports) m'.functions f i.0.ftype (map_at (λ i. i.ftype) m'.imports f i.0 (get_front m.imports _ f i.0 i.1)) in
       rw (new ∙ sym old ∙ a.1, type_kept a.0 type a.2) refl
 
   high_type : (f : ℕ) (type : FuncType) → import_count m ≤ f → type_at m f ≡ Some type → type_at m' (3 + f) ≡ Some type
   high_type f type le e =
-      let a = then_some (slice_get (function_types m) f) (λ t. slice_get m.types t) type e in
+      let a = then_found (slice_get (function_types m) f) (λ t. slice_get m.types t) type e in
       let j = f - import_count m in
       let old : slice_get (function_types m) f ≡ slice_get m.functions j = get_right (map (λ i. i.ftype) m.imports) m.functions j f (omega (arith, le, length-map m.imports (λ i. i.ftype))) in
       let new : slice_get (function_types m') (3 + f) ≡ slice_get m'.functions j = get_right (map (λ i. i.ftype) m'.imports) m'.functions j (3 + f) (omega (arith, le, length-map m'.imports (λ i. i.ftype), imports_many)) in
-      rw (new ∙ get_left m.functions _ j a.0 (sym old ∙ a.1), type_kept a.0 type a.2) refl
+      rw (new ∙ get_front m.functions _ j a.0 (sym old ∙ a.1), type_kept a.0 type a.2) refl
 
   type_by : (f : ℕ) (type : FuncType) (q : Bool) → nat_lt f (import_count m) ≡ q → type_at m f ≡ Some type → type_at m' (if q then f else 3 + f) ≡ Some type
   type_by f type true lt e = low_type f type (ltb-true f (import_count m) lt) e

@@ -14,7 +14,7 @@ use Rattle.wasm_syntax.specs.Static.{Spot, Live}
 use Rattle.wasm_syntax.specs.Typing.{Types, IsBody, body_context}
 use Rattle.wasm_syntax.specs.Valid.{Valid}
 use Rattle.wasm_syntax.specs.Sizes.{parameter_count}
-use Rattle.wasm_laws.proofs.Lists.{some_is, at_of}
+use Rattle.wasm_laws.proofs.Lists.{some_is, at_of, all_append}
 use Rattle.wasm_laws.proofs.Safe.{Typed, one_result}
 use Rattle.wasm_laws.proofs.Unique.{one_tree}
 use Rattle.rewrite_bodies.specs.Numbering.{import_count, mapped, value_import, frame_import, global_types, wrapped, helped}
@@ -39,7 +39,7 @@ use Rattle.rewrite_modules.proofs.StackPieces.{u_body, helper_under}
 use Rattle.rewrite_modules.proofs.Stacks.{Under, Under_call, fewer, under_bare, bare_under, few_at}
 use Rattle.rewrite_modules.proofs.Theorem.{startable_given, ready_given}
 use Rattle.rewrite_modules.proofs.ValidBodies.{offers}
-use Rattle.rewrite_modules.proofs.ValidModule.{HasType, wrapped_types}
+use Rattle.rewrite_modules.proofs.ValidModule.{HasType, wrapped_types, all_any}
 use Rattle.rewrite_modules.proofs.WrittenOut.{program_bare, same_bare, instrument_bare}
 
 -- ---- lists
@@ -48,10 +48,6 @@ all_each : {A B : Type 0} (P : B → Type 0) (go : ℕ → B) (k : ℕ) (xs : Li
 all_each P go k [] h = tt
 all_each P go k (x ∷ xs) h = (h k, all_each P go (suc k) xs h)
 
-all_both : {A : Type 0} (P : A → Type 0) (xs ys : List A) → AllByRecursion P xs → AllByRecursion P ys → AllByRecursion P (xs ++ ys)
-all_both P [] ys a b = b
-all_both P (x ∷ xs) ys a b = (a.0, all_both P xs ys a.1 b)
-
 all_to : {A B : Type 0} (Q : A → Type 0) (P : B → Type 0) (f : A → B) (xs : List A) → ((x : A) → Q x → P (f x)) → AllByRecursion Q xs → AllByRecursion P (map f xs)
 all_to Q P f [] h a = tt
 all_to Q P f (x ∷ xs) h a = (h x a.0, all_to Q P f xs h a.1)
@@ -59,10 +55,6 @@ all_to Q P f (x ∷ xs) h a = (h x a.0, all_to Q P f xs h a.1)
 all_from_map : {A B : Type 0} (P : B → Type 0) (Q : A → Type 0) (f : A → B) (xs : List A) → ((x : A) → P (f x) → Q x) → AllByRecursion P (map f xs) → AllByRecursion Q xs
 all_from_map P Q f [] h a = tt
 all_from_map P Q f (x ∷ xs) h a = (h x a.0, all_from_map P Q f xs h a.1)
-
-any_of : {A : Type 0} (P : A → Type 0) (xs : List A) → ((x : A) → P x) → AllByRecursion P xs
-any_of P [] h = tt
-any_of P (x ∷ xs) h = (h x, any_of P xs h)
 
 -- the tree of a body, which has what all trees have
 tree_with : (P : Tree → Type 0) (bodies : List Body) (trees : List Tree) (i : ℕ) (body : Body) → AllWrite bodies trees → AllByRecursion P trees → slice_get bodies i ≡ Some body → (tree : Tree) × Writes body.targets body.ops tree × P tree
@@ -136,9 +128,9 @@ module _ (p : Program) (ready : Ready p) (valid : Valid p.module_) (typed : Type
 
   pub trees_under : AllByRecursion LowTree (instrument p).trees
   trees_under =
-      all_both LowTree (each (λ f. new_tree p f (function_at p f)) (import_count m) m.bodies) _ (all_each LowTree (λ f. new_tree p f (function_at p f)) (import_count m) m.bodies (λ f. new_under f (function_at p f) refl))
-      (all_both LowTree (map (λ f. tree_of (wrapper m f)) (wrapped m)) _ (all_to (HasType p ready valid typed whole free) LowTree (λ f. tree_of (wrapper m f)) (wrapped m) (λ f h. wrapper_under f h) (wrapped_types p ready valid typed whole free))
-      (all_to (λ (t : ℕ). Unit {0}) LowTree (λ t. tree_of (helper m t)) (helped p) (λ t h. helper_under m' N room m t) (any_of (λ (t : ℕ). Unit {0}) (helped p) (λ t. tt))))
+      all_append LowTree (each (λ f. new_tree p f (function_at p f)) (import_count m) m.bodies) _ (all_each LowTree (λ f. new_tree p f (function_at p f)) (import_count m) m.bodies (λ f. new_under f (function_at p f) refl))
+      (all_append LowTree (map (λ f. tree_of (wrapper m f)) (wrapped m)) _ (all_to (HasType p ready valid typed whole free) LowTree (λ f. tree_of (wrapper m f)) (wrapped m) (λ f h. wrapper_under f h) (wrapped_types p ready valid typed whole free))
+      (all_to (λ (t : ℕ). Unit {0}) LowTree (λ t. tree_of (helper m t)) (helped p) (λ t h. helper_under m' N room m t) (all_any (λ (t : ℕ). Unit {0}) (helped p) (λ t. tt))))
 
 -- ---- each module that is the same but for offsets
 

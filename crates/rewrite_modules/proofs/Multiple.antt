@@ -39,7 +39,8 @@ use Rattle.rewrite_modules.proofs.BareRuns.{simulates_bare}
 use Rattle.rewrite_modules.proofs.SlotMultiple.{slot_multiple}
 use Rattle.rewrite_modules.proofs.Spots.{at_spots}
 use Rattle.rewrite_modules.proofs.Theorem.{startable_given, rewriting_simulates}
-use Rattle.rewrite_modules.proofs.WrittenOut.{writes_at, program_bare, same_bare, instrument_bare}
+use Rattle.rewrite_modules.proofs.WrittenOut.{program_bare, same_bare, instrument_bare}
+use Rattle.wasm_laws.proofs.Validity.{tree_there}
 
 -- ---- numbers of a list
 
@@ -75,7 +76,7 @@ before_live m type body op gives is live =
     let k = steps_split c (take op code) (drop op code) (body_block result) [] split in
     (reverse (all_types k.0), record { result = result; gives = gives; blocks = k.0; leads = k.1; live = live; types_are = refl })
 
-code_length : (T : List ℕ) (ops : List Op) → length (code_of T ops) ≡ length ops
+pub code_length : (T : List ℕ) (ops : List Op) → length (code_of T ops) ≡ length ops
 code_length T [] = refl
 code_length T (o ∷ os) = ap suc (code_length T os)
 
@@ -99,7 +100,7 @@ module _ (p : Program) (write_ : IsProgram p) (typed : Typed p) where
     gives = one_result type.results (typed.few f (defined b tree type) at)
 
     writes : Writes b.targets b.ops tree
-    writes = writes_at m.bodies p.trees d.number b tree write_ d.body_is d.tree_is
+    writes = tree_there m.bodies p.trees d.number b tree write_ d.body_is d.tree_is
 
     abbrev C : Ctx
     C = ctx_of p f b type 0

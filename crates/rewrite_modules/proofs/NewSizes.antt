@@ -23,8 +23,8 @@ use Rattle.rewrite_modules.proofs.Links.{declared-append, declared-groups, is_de
 use Rattle.rewrite_modules.proofs.Modules.{length-declared, module_given}
 use Rattle.rewrite_modules.proofs.Theorem.{startable_given, ready_given}
 use Rattle.rewrite_modules.proofs.ValidModule.{From, there_from, new_bodies}
-use Rattle.rewrite_modules.proofs.WrittenOut.{writes_at}
 use Rattle.rewrite_modules.proofs.Depths.{low_body, low_wrapper, low_helper, body_low, low_nesting}
+use Rattle.wasm_laws.proofs.Validity.{tree_there}
 
 length-added : (n : ℕ) → length (added n) ≡ 2 * n + 4
 length-added zero = refl
@@ -80,7 +80,7 @@ module _ (m : Module) (x : Instrumentable m) where
       let n : sum (map (λ g. g.count) (gs ++ groups slots)) ≡ length (declared_locals gs) + (2 * slots + 4) =
       omega (arith, length-declared (gs ++ groups slots), ap length (declared-append gs (groups slots)), length-append (declared_locals gs) (declared_locals (groups slots)), ap length (declared-groups slots), length-added slots) in
       let old = length-append type.params (declared_locals gs) in
-      let w = writes_at m.bodies x.whole.trees d.number b tree x.whole.write d.body_is d.tree_is in
+      let w = tree_there m.bodies x.whole.trees d.number b tree x.whole.write d.body_is d.tree_is in
       let deep = at_of (λ body. nesting body ≤ 1000) m.bodies d.number b x.lightness.shallow d.body_is in (
         few_by i (body_of (gs ++ groups slots) (new_nodes p f b tree type)) type ty (omega (arith, n, old, z.0, z.1, given.few_locals, given.few_heights)),
         (let low = low_nesting (gs ++ groups slots) (new_nodes p f b tree type) 1004 (low_body (ctx_of p f b type slots) 1000 tree.nodes (body_low b tree 1000 w.out deep)) in omega (arith, low)),

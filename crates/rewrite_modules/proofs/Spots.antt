@@ -11,16 +11,7 @@ use Rattle.wasm_syntax.specs.Typing.{Context, Types, body_context}
 use Rattle.wasm_syntax.specs.FlatTyping.{OpenBlock, opened, inside, given, FlatStep, FlatTypes, dead_behind_jump, dead_next, dead_behind, AllLive, all_types, TypesBefore}
 use Rattle.wasm_syntax.specs.Static.{Spot, spot, goes_on, Live}
 use Rattle.wasm_laws.proofs.FlatBodies.{no_result, inside_body}
-use Rattle.wasm_laws.proofs.FlatOne.{one_before}
-
-goes_live : (j : Jump) (d : Bool) → dead_behind_jump d j ≡ false → goes_on j × (d ≡ false)
-goes_live Unreachable d e = absurd (cc)
-goes_live (Br n) d e = absurd (cc)
-goes_live (BrIf n) d e = (tt, e)
-goes_live (BrTable targets default) d e = absurd (cc)
-goes_live Return d e = absurd (cc)
-goes_live (Call f) d e = (tt, e)
-goes_live (CallIndirect t) d e = (tt, e)
+use Rattle.wasm_laws.proofs.FlatOne.{one_before, goes_live}
 
 module _ (Q : List ValType → Type 0) where
   -- the operands before each live instruction have the property

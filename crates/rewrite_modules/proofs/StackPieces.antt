@@ -27,10 +27,10 @@ use Rattle.rewrite_bodies.specs.Guards.{guard, can_trap, least, minus_one, past_
 use Rattle.rewrite_bodies.specs.Rewrite.{Info, in_block, in_loop, in_body, carries, end_gives, ending, result_back, body_at, hand_value, hand, hand_top, to_exit, unwind, test_flag, test_both, tested, guarded, plain, instr, go_to, branch_to, branch_if, table, after_direct, call_code, helper_of, indirect_code, rewrite, hand_locals, raise_flag, zero_result, exit_code, body}
 use Rattle.rewrite_bodies.specs.Typed.{Offers, original}
 use Rattle.rewrite_bodies.specs.Agreement.{Has}
-use Rattle.rewrite_bodies.proofs.Sim.{grown-append}
+use Rattle.rewrite_bodies.proofs.Sim.{grown-append, takes_three}
 use Rattle.rewrite_bodies.proofs.TypedNodes.{cuts, grown_types, takes_of}
 use Rattle.rewrite_modules.proofs.Bounds.{Static}
-use Rattle.rewrite_modules.proofs.Stacks.{gives_count, gives_len, takes_few, Under_call, Under, fewer}
+use Rattle.rewrite_modules.proofs.Stacks.{gives_count, gives_len, Under_call, Under, fewer}
 
 -- so many are enough for all but the parameters of calls
 module _ (C : Ctx) (m : Module) (locals : List ValType) (off : Offers C m locals) (N : ℕ) (room : 16 ≤ N) (few : (f : ℕ) (type : FuncType) → type_at C.source f ≡ Some type → length type.params + 16 ≤ N) (few_of : (t : ℕ) (type : FuncType) → slice_get C.source.types t ≡ Some type → length type.params + 16 ≤ N) where
@@ -225,7 +225,7 @@ module _ (C : Ctx) (m : Module) (locals : List ValType) (off : Offers C m locals
       let code = store C r (less n es) k in
       let k2 : U (length (option_to_list r)) code = u_store r (less n es) k k1 in
       let g : length (option_to_list r) ≡ gives_count i = ap length (sym T.gives) ∙ gives_len (original C ls) i h.any h.arrow_is h.has in
-      let three = takes_few i in
+      let three = takes_three i in
       let k3 : U n (basic 0 i code) = (omega (arith, three, room), fewer m N code (length (option_to_list r)) (gives_count i + (n - n)) (omega (arith, g)) k2) in
       let k4 : U 0 (load C n es (basic 0 i code)) = u_load n es 0 (basic 0 i code) (omega (arith, three, room)) (fewer m N (basic 0 i code) n (n + 0) (omega arith) k3) in
       u_guarded (can_trap i) ls es o i (load C n es (basic 0 i code)) k4

@@ -16,6 +16,8 @@ use Rattle.wasm_syntax.specs.Typing as typing
 use Rattle.wasm_laws.proofs.Progress.{takes_len}
 use Rattle.wasm_laws.proofs.Lists.{some_is}
 use Rattle.rewrite_modules.specs.Bare.{bare_nodes}
+use Rattle.wasm_laws.proofs.Validity.{then_found, map_found}
+use Rattle.rewrite_bodies.proofs.TypedNodes.{only_found}
 
 -- ---- what an instruction takes and gives
 
@@ -43,30 +45,18 @@ gives_count (Convert k) = 1
 gives_count (Extend32 k) = 1
 gives_count (Extend64 k) = 1
 
-found : {A B : Type 0} (o : Option A) (f : A → B) (b : B) → option_map f o ≡ Some b → (a : A) × (o ≡ Some a) × (f a ≡ b)
-found None f b e = absurd (cc)
-found (Some a) f b e = (a, refl, let z : f a ≡ b = cc in z)
-
-then_found : {A B : Type 0} (o : Option A) (f : A → Option B) (b : B) → option_then o f ≡ Some b → (a : A) × (o ≡ Some a) × (f a ≡ Some b)
-then_found None f b e = absurd (cc)
-then_found (Some a) f b e = (a, refl, e)
-
 any_found : {A B : Type 0} (ls : List A) (o : Option B) (b : B) → typing.if_any ls o ≡ Some b → o ≡ Some b
 any_found [] o b e = absurd (cc)
 any_found (l ∷ ls) o b e = e
-
-only_found : {A : Type 0} (q : Bool) (o : Option A) (b : A) → only_if q o ≡ Some b → o ≡ Some b
-only_found true o b e = e
-only_found false o b e = absurd (cc)
 
 pub gives_len : (c : Context) (i : Basic) (t : ValType) (a : Arrow) → arrow c t i ≡ Some a → length a.gives ≡ gives_count i
 gives_len c Nop t a e = sym (ap (λ z. length z.gives) (some_is e))
 gives_len c Drop t a e = sym (ap (λ z. length z.gives) (some_is e))
 gives_len c Select t a e = sym (ap (λ z. length z.gives) (some_is e))
-gives_len c (LocalGet x) t a e = sym (ap (λ z. length z.gives) ((found (slice_get c.locals x) _ a e).2))
-gives_len c (LocalSet x) t a e = sym (ap (λ z. length z.gives) ((found (slice_get c.locals x) _ a e).2))
-gives_len c (LocalTee x) t a e = sym (ap (λ z. length z.gives) ((found (slice_get c.locals x) _ a e).2))
-gives_len c (GlobalGet x) t a e = sym (ap (λ z. length z.gives) ((found (slice_get c.module_.globals x) _ a e).2))
+gives_len c (LocalGet x) t a e = sym (ap (λ z. length z.gives) ((map_found (slice_get c.locals x) _ a e).2))
+gives_len c (LocalSet x) t a e = sym (ap (λ z. length z.gives) ((map_found (slice_get c.locals x) _ a e).2))
+gives_len c (LocalTee x) t a e = sym (ap (λ z. length z.gives) ((map_found (slice_get c.locals x) _ a e).2))
+gives_len c (GlobalGet x) t a e = sym (ap (λ z. length z.gives) ((map_found (slice_get c.module_.globals x) _ a e).2))
 gives_len c (GlobalSet x) t a e = let u = then_found (slice_get c.module_.globals x) set_global a e in sym (ap (λ z. length z.gives) (some_is (only_found u.0.mutable (Some (u.0.vtype ∷ [] ⇒ [])) a u.2)))
 gives_len c (Load l al o) t a e = sym (ap (λ z. length z.gives) (some_is (only_found _ _ a (any_found c.module_.memories _ a e))))
 gives_len c (Store l al o) t a e = sym (ap (λ z. length z.gives) (some_is (only_found _ _ a (any_found c.module_.memories _ a e))))
@@ -82,30 +72,6 @@ gives_len c (Binary u op) t a e = sym (ap (λ z. length z.gives) (some_is e))
 gives_len c (Convert k) t a e = sym (ap (λ z. length z.gives) (some_is e))
 gives_len c (Extend32 k) t a e = sym (ap (λ z. length z.gives) (some_is e))
 gives_len c (Extend64 k) t a e = sym (ap (λ z. length z.gives) (some_is e))
-
-pub takes_few : (i : Basic) → takes i ≤ 3
-takes_few Nop = omega arith
-takes_few Drop = omega arith
-takes_few Select = omega arith
-takes_few (LocalGet x) = omega arith
-takes_few (LocalSet x) = omega arith
-takes_few (LocalTee x) = omega arith
-takes_few (GlobalGet x) = omega arith
-takes_few (GlobalSet x) = omega arith
-takes_few (Load l al o) = omega arith
-takes_few (Store l al o) = omega arith
-takes_few MemorySize = omega arith
-takes_few MemoryGrow = omega arith
-takes_few MemoryCopy = omega arith
-takes_few MemoryFill = omega arith
-takes_few (Const v) = omega arith
-takes_few (Eqz u) = omega arith
-takes_few (Unary u op) = omega arith
-takes_few (Compare u op) = omega arith
-takes_few (Binary u op) = omega arith
-takes_few (Convert k) = omega arith
-takes_few (Extend32 k) = omega arith
-takes_few (Extend64 k) = omega arith
 
 -- ---- nodes in which there are never more than so many operands
 

@@ -22,7 +22,8 @@ use Rattle.wasm_syntax.specs.declared.parts.Export.{Export}
 use Rattle.wasm_syntax.specs.declared.parts.ElementSeg.{ElementSeg}
 use Rattle.wasm_syntax.specs.declared.parts.DataSeg.{DataSeg}
 use Rattle.wasm_syntax.specs.Run as runs_
-use Rattle.rewrite_modules.proofs.Links.{get_left, get_right}
+use Rattle.rewrite_modules.proofs.Links.{get_right}
+use Rattle.rewrite_bodies.proofs.TypedNodes.{get_front}
 
 -- ---- constant expressions with one more global, a zero
 
@@ -214,7 +215,7 @@ module _ (p : Program) (name : List ℕ) where
   wraps_by e j q false fk lt h =
       let w : wraps mm e ≡ e.index ∷ [] = rw (fk, lt) refl in
       let z : 0 + j ≡ j = omega arith in
-      inr (j, ap (λ l. new_index mm (0 + j) l e.index) w ∙ ap (λ n. wrapper_base mm + n) z, get_left (export_wrapped mm) (start_wraps mm mm.start) j e.index (h e.index w), lt)
+      inr (j, ap (λ l. new_index mm (0 + j) l e.index) w ∙ ap (λ n. wrapper_base mm + n) z, get_front (export_wrapped mm) (start_wraps mm mm.start) j e.index (h e.index w), lt)
 
   named_by : (q q' : Option Export) → find (test mm name) mm.exports ≡ q → find (test mm name) (new_module p).exports ≡ q' → Finds mm name (export_wrapped mm) 0 q q' → (f : ℕ) → option_map (λ e. e.index) q ≡ Some f → Named p name f
   named_by None q' e e' h f o = absurd (cc)

@@ -22,7 +22,7 @@ use Rattle.rewrite_bodies.specs.Guards.{entry_label, type_label, says, helper, h
 use Rattle.rewrite_bodies.specs.Rewrite.{in_body}
 use Rattle.rewrite_bodies.specs.Typed.{Offers, original}
 use Rattle.rewrite_bodies.proofs.TypedPieces.{Ok, ok_basic, ok_const, ok_if, ok_call, at_labels, Open, open_label}
-use Rattle.rewrite_bodies.proofs.TypedNodes.{body_ok}
+use Rattle.rewrite_bodies.proofs.TypedNodes.{body_ok, get_front}
 use Rattle.wasm_laws.proofs.Safe.{Typed, one_result}
 use Rattle.rewrite_modules.specs.Bare.{bare_nodes, bare_tree}
 use Rattle.rewrite_modules.specs.Instrument.{zero_init, new_module, new_nodes, new_body}
@@ -31,7 +31,7 @@ use Rattle.rewrite_modules.specs.Wrappers.{get_all, tell_globals, end_of_dump, a
 use Rattle.rewrite_modules.proofs.Arms.{ifs_typed, tree_body, tree_wrapper, tree_helper, tree_bare}
 use Rattle.rewrite_modules.proofs.Bounds.{room_of}
 use Rattle.rewrite_modules.proofs.FlatOut.{body_out}
-use Rattle.rewrite_modules.proofs.Links.{get_left, get_right, declared-append, declared-groups, is_defined, Ready, function_type_kept, import_types, frame_types, helper_type_there}
+use Rattle.rewrite_modules.proofs.Links.{get_right, declared-append, declared-groups, is_defined, Ready, function_type_kept, import_types, frame_types, helper_type_there}
 
 -- ---- typing does not look at offsets
 
@@ -103,7 +103,7 @@ module _ (p : Program) (ready : Ready p) (typed : Typed p) where
   tell_globals_ok : (locals returns : List ValType) (labels : List (List ValType)) (z s : List ValType) (done todo : List _) (k : Nodes) → m.globals ≡ done ++ todo → Ok (c1 locals returns labels) z s k → Ok (c1 locals returns labels) z s (tell_globals m (length done) (map (λ g. g.vtype) todo) k)
   tell_globals_ok locals returns labels z s done [] k e h = h
   tell_globals_ok locals returns labels z s done (g ∷ todo) k e h =
-      let at : slice_get m'.globals (length done) ≡ Some g = get_left m.globals _ (length done) g (ap (λ x. slice_get x (length done)) e ∙ middle done) in
+      let at : slice_get m'.globals (length done) ≡ Some g = get_front m.globals _ (length done) g (ap (λ x. slice_get x (length done)) e ∙ middle done) in
       let n : length (done ++ g ∷ []) ≡ suc (length done) = omega (arith, length-append done (g ∷ [])) in
       let rest = tell_globals_ok locals returns labels z s (done ++ g ∷ []) todo k (e ∙ sym (append_assoc done (g ∷ []) todo)) h in
       ok_basic s (GlobalGet (length done)) I32 ([] ⇒ g.vtype ∷ []) (ap (option_map (λ g. [] ⇒ g.vtype ∷ [])) at)
@@ -186,14 +186,14 @@ module _ (p : Program) (ready : Ready p) (typed : Typed p) where
     pub offers : Offers C m' new_locals
     offers = record {
       locals_are = ap (λ z. type.params ++ z) (declared-append b.groups (groups slots) ∙ ap (λ z. declared_locals b.groups ++ z) (declared-groups slots)) ∙ sym (append_assoc type.params (declared_locals b.groups) (added slots));
-      globals = λ x g e. get_left m.globals _ x g e;
+      globals = λ x g e. get_front m.globals _ x g e;
       flag = flag_global;
       flag_there = flag_is;
       flag_type = refl;
       flag_mutable = refl;
       memories = refl;
       tables = refl;
-      types = λ t type e. get_left m.types _ t type e;
+      types = λ t type e. get_front m.types _ t type e;
       functions = function_type_kept p ready;
       values = import_types p ready;
       frames = frame_types p ready;

@@ -31,9 +31,11 @@ use Rattle.rewrite_modules.specs.Collector.{memory_export}
 use Rattle.rewrite_modules.specs.Instrument.{each, new_module, instrument, new_body, new_index, new_exports, new_start, wrapper_type, zero_init}
 use Rattle.rewrite_modules.specs.FlatCode.{body_of}
 use Rattle.rewrite_modules.specs.Wrappers.{wrapper}
-use Rattle.rewrite_modules.proofs.Links.{get_left, get_right, length-each, Ready, is_defined, parts_of, type_is_of, function_type_kept, wrapper_there}
+use Rattle.rewrite_modules.proofs.Links.{get_right, length-each, Ready, is_defined, parts_of, type_is_of, function_type_kept, wrapper_there}
 use Rattle.rewrite_modules.proofs.ValidBodies.{wrapper_typed, helper_typed, rewritten_typed}
 use Rattle.rewrite_modules.proofs.WrittenOut.{tree_at}
+use Rattle.rewrite_bodies.proofs.TypedNodes.{get_front}
+use Rattle.rewrite_modules.proofs.BareValid.{all_as}
 
 -- ---- lists
 
@@ -42,15 +44,11 @@ there_all P [] i a = tt
 there_all P (x ∷ xs) zero a = a.0
 there_all P (x ∷ xs) (suc i) a = there_all P xs i a.1
 
-all_mono : {A : Type 0} (P Q : A → Type 0) (xs : List A) → ((x : A) → P x → Q x) → AllByRecursion P xs → AllByRecursion Q xs
-all_mono P Q [] h a = tt
-all_mono P Q (x ∷ xs) h a = (h x a.0, all_mono P Q xs h a.1)
-
 all_right : {A : Type 0} (P : A → Type 0) (xs ys : List A) → AllByRecursion P (xs ++ ys) → AllByRecursion P ys
 all_right P [] ys a = a
 all_right P (x ∷ xs) ys a = all_right P xs ys a.1
 
-all_any : {A : Type 0} (P : A → Type 0) (xs : List A) → ((x : A) → P x) → AllByRecursion P xs
+pub all_any : {A : Type 0} (P : A → Type 0) (xs : List A) → ((x : A) → P x) → AllByRecursion P xs
 all_any P [] h = tt
 all_any P (x ∷ xs) h = (h x, all_any P xs h)
 
@@ -91,7 +89,7 @@ unwrap_less : (o : Option ℕ) (n : ℕ) → IfSome o (λ t. t < n) → 0 < n �
 unwrap_less None n h lt = lt
 unwrap_less (Some t) n h lt = h
 
-type_inside : (m : Module) (f : ℕ) (type : FuncType) → type_at m f ≡ Some type → f < length (function_types m)
+pub type_inside : (m : Module) (f : ℕ) (type : FuncType) → type_at m f ≡ Some type → f < length (function_types m)
 type_inside m f type e = inside (slice_get (function_types m) f) refl e
   where
     inside : (o : Option ℕ) → slice_get (function_types m) f ≡ o → option_then o (λ t. slice_get m.types t) ≡ Some type → f < length (function_types m)
@@ -166,7 +164,7 @@ module _ (p : Program) (ready : Ready p) (valid : Valid p.module_) (typed : Type
 
   imports_fine : AllByRecursion (ImportFine m') m'.imports
   imports_fine =
-      all_append (ImportFine m') m.imports _ (all_mono (ImportFine m) (ImportFine m') m.imports (λ i lt. more_types i.ftype lt) (all_of (ImportFine m) m.imports (λ i. valid (places.ImportAt i))))
+      all_append (ImportFine m') m.imports _ (all_as (ImportFine m) (ImportFine m') m.imports (λ i lt. more_types i.ftype lt) (all_of (ImportFine m) m.imports (λ i. valid (places.ImportAt i))))
       (omega (arith, types_many), (omega (arith, types_many), (omega (arith, types_many), tt)))
 
   all_types : AllByRecursion (λ t. t < nt) (function_types m)
@@ -175,9 +173,9 @@ module _ (p : Program) (ready : Ready p) (valid : Valid p.module_) (typed : Type
   declarations_fine : AllByRecursion (DeclarationFine m') m'.functions
   declarations_fine =
       all_append (DeclarationFine m') m.functions _
-      (all_mono (λ t. t < nt) (DeclarationFine m') m.functions (λ t lt. more_types t lt) (all_right (λ t. t < nt) (map (λ i. i.ftype) m.imports) m.functions all_types))
+      (all_as (λ t. t < nt) (DeclarationFine m') m.functions (λ t lt. more_types t lt) (all_right (λ t. t < nt) (map (λ i. i.ftype) m.imports) m.functions all_types))
       (all_append (DeclarationFine m') (map (wrapper_type m) (wrapped m)) _
-      (all_map (DeclarationFine m') (wrapper_type m) (wrapped m) (all_any (λ f. wrapper_type m f < length m'.types) (wrapped m) (λ f. unwrap_less (slice_get (function_types m) f) (length m'.types) (there_all (λ t. t < length m'.types) (function_types m) f (all_mono (λ t. t < nt) (λ t. t < length m'.types) (function_types m) (λ t lt. more_types t lt) all_types)) (omega (arith, types_many)))))
+      (all_map (DeclarationFine m') (wrapper_type m) (wrapped m) (all_any (λ f. wrapper_type m f < length m'.types) (wrapped m) (λ f. unwrap_less (slice_get (function_types m) f) (length m'.types) (there_all (λ t. t < length m'.types) (function_types m) f (all_as (λ t. t < nt) (λ t. t < length m'.types) (function_types m) (λ t lt. more_types t lt) all_types)) (omega (arith, types_many)))))
       (all_map (DeclarationFine m') (λ u. nt + 3) (helped p) (all_any (λ u. nt + 3 < length m'.types) (helped p) (λ u. omega (arith, types_many)))))
 
   globals_fine : AllByRecursion GlobalFine m'.globals
@@ -187,7 +185,7 @@ module _ (p : Program) (ready : Ready p) (valid : Valid p.module_) (typed : Type
 
   const_kept : (i : Instr) (t : ValType) → ConstTypes m.globals i t → ConstTypes m'.globals i t
   const_kept (instrs.Basic (basics.Const v)) t h = h
-  const_kept (instrs.Basic (basics.GlobalGet x)) t h = (h.0, get_left m.globals _ x h.0 h.1, h.2, h.3)
+  const_kept (instrs.Basic (basics.GlobalGet x)) t h = (h.0, get_front m.globals _ x h.0 h.1, h.2, h.3)
   const_kept (instrs.Basic basics.Nop) t h = absurd h
   const_kept (instrs.Basic basics.Drop) t h = absurd h
   const_kept (instrs.Basic basics.Select) t h = absurd h
@@ -227,10 +225,10 @@ module _ (p : Program) (ready : Ready p) (valid : Valid p.module_) (typed : Type
   all_mapped (g ∷ fs) h (suc i) f e = all_mapped fs (λ j k q. h (suc j) k q) i f e
 
   elements_fine : AllByRecursion (ElementFine m') m'.elements
-  elements_fine = all_map (ElementFine m') _ m.elements (all_mono (ElementFine m) _ m.elements (λ e h. (h.0, body_kept e.offset I32 h.1, all_mapped e.functions h.2)) (all_of (ElementFine m) m.elements (λ i. valid (places.ElementAt i))))
+  elements_fine = all_map (ElementFine m') _ m.elements (all_as (ElementFine m) _ m.elements (λ e h. (h.0, body_kept e.offset I32 h.1, all_mapped e.functions h.2)) (all_of (ElementFine m) m.elements (λ i. valid (places.ElementAt i))))
 
   data_fine : AllByRecursion (DataFine m') m'.segments
-  data_fine = all_mono (DataFine m) (DataFine m') m.segments (λ s h. (h.0, body_kept s.offset I32 h.1)) (all_of (DataFine m) m.segments (λ i. valid (places.DataAt i)))
+  data_fine = all_as (DataFine m) (DataFine m') m.segments (λ s h. (h.0, body_kept s.offset I32 h.1)) (all_of (DataFine m) m.segments (λ i. valid (places.DataAt i)))
 
   -- ---- exports and the start function
 

@@ -29,10 +29,11 @@ use Rattle.rewrite_bodies.specs.inner.Standing.{Linked, Speaks, Stands}
 use Rattle.rewrite_bodies.proofs.Sim.{len_of, wit, armed, if_zero_to, if_up_to}
 use Rattle.rewrite_bodies.proofs.Control.{get_last}
 use Rattle.rewrite_bodies.proofs.Unwind.{value_to, entry_to, put_last, get_middle}
-use Rattle.rewrite_bodies.proofs.Calls.{types-zeros, types-locals, new_locals, same_types-refl}
+use Rattle.rewrite_bodies.proofs.Calls.{types-locals, new_locals, same_types-refl}
 use Rattle.wasm_syntax.specs.Run.{Ended, ended, run_on, run_steps}
 use Rattle.rewrite_modules.specs.Wrappers.{get_all, tell_globals, end_of_dump, after_wrapped, wrapper_nodes}
 use Rattle.rewrite_modules.proofs.Runs.{ReachS, AllMade, run_sim}
+use Rattle.wasm_laws.proofs.Progress.{zero_types}
 
 -- ---- runs by exact steps, and by steps left
 
@@ -192,7 +193,7 @@ module _ (M M' : Engine) (E : ℕ) (gl : List ValType) (S : Stands M M' E gl) (g
     target = config (entered wi wb wtree type args ∷ []) (flagged M g (values.I32 up)) []
 
     pub fits : FitsConfig M E gl W.result source (w0 ∷ [])
-    fits = (wf, (record { size = types-locals args type.params (declared_locals b.groups) ty; room = types-zeros (added k.slots); idx = refl; result = refl; funcs = refl; base = refl; helpers = refl; flag = sym gm; small = k.small; narrow = k.narrow; labels = (tt, tt, k.room, refl, tt); no_kind = tt }, refl))
+    fits = (wf, (record { size = types-locals args type.params (declared_locals b.groups) ty; room = zero_types (added k.slots); idx = refl; result = refl; funcs = refl; base = refl; helpers = refl; flag = sym gm; small = k.small; narrow = k.narrow; labels = (tt, tt, k.room, refl, tt); no_kind = tt }, refl))
 
     pub begin : To M' 1 (length type.params + 10) target (image M W source (w0 ∷ []))
     begin =

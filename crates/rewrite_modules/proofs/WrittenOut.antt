@@ -61,7 +61,7 @@ all_bare (body ∷ bodies) (tree ∷ trees) w = (bare_writes body tree w.0, all_
 pub program_bare : (p : Program) → IsProgram p → IsProgram (bare p)
 program_bare p w = all_bare p.module_.bodies p.trees w
 
-all_same : (bodies : List Body) (ts us : List Tree) → AllWrite bodies ts → AllWrite bodies us → ts ≡ us
+pub all_same : (bodies : List Body) (ts us : List Tree) → AllWrite bodies ts → AllWrite bodies us → ts ≡ us
 all_same [] [] [] w v = refl
 all_same [] (t ∷ ts) us w v = absurd w
 all_same [] [] (u ∷ us) w v = absurd v
@@ -122,12 +122,6 @@ tree_of_body [] trees j body w e = absurd (cc)
 tree_of_body (b ∷ bs) [] j body w e = absurd w
 tree_of_body (b ∷ bs) (t ∷ ts) zero body w e = (t, (let y : b ≡ body = cc in subst (λ b. Writes b.targets b.ops t) y w.0))
 tree_of_body (b ∷ bs) (t ∷ ts) (suc j) body w e = tree_of_body bs ts j body w.1 e
-
-pub writes_at : (bodies : List Body) (trees : List Tree) (j : ℕ) (body : Body) (tree : Tree) → AllWrite bodies trees → slice_get bodies j ≡ Some body → slice_get trees j ≡ Some tree → Writes body.targets body.ops tree
-writes_at [] trees j body tree w e d = absurd (cc)
-writes_at (b ∷ bs) [] j body tree w e d = absurd w
-writes_at (b ∷ bs) (t ∷ ts) zero body tree w e d = let y : b ≡ body = cc in let z : t ≡ tree = cc in subst (λ b. Writes b.targets b.ops tree) y (subst (λ t. Writes b.targets b.ops t) z w.0)
-writes_at (b ∷ bs) (t ∷ ts) (suc j) body tree w e d = writes_at bs ts j body tree w.1 e d
 
 module _ (p : Program) (w : IsProgram p) (typed : Typed p) where
   pair_at : (f : ℕ) (q : Option Function) → function_at p f ≡ q → Pair (new_body p f q) (new_tree p f q)

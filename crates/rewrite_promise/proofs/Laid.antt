@@ -32,6 +32,7 @@ use Rattle.rewrite_modules.specs.Collector.{memory_export}
 use Rattle.rewrite_modules.specs.Instrument.{new_nodes, new_body, each, zero_init, new_exports, wrapper_type, new_module}
 use Rattle.rewrite_modules.specs.Wrappers.{wrapper}
 use Rattle.rewrite_modules.proofs.FineBodies.{fine_at, gives_one}
+use Rattle.rewrite_modules.proofs.Links.{length-each}
 
 -- ---- instructions at ascending offsets
 
@@ -208,10 +209,6 @@ memory_name (l ∷ ls) = (utf8_memory, tt)
 
 -- ---- the module
 
-each_length : {A B : Type 0} (go : ℕ → B) (f : ℕ) (xs : List A) → length (each go f xs) ≡ length xs
-each_length go f [] = refl
-each_length go f (x ∷ xs) = ap suc (each_length go (suc f) xs)
-
 abbrev zero_flag : Body → Global
 zero_flag init = record { vtype = I32; mutable = true; init = init }
 
@@ -244,7 +241,7 @@ module _ (p : Program) where
       let a = length-map (new_module p).bodies number_body in
       let b = length-append news (ws ++ hs) in
       let c = length-append ws hs in
-      let d = each_length (λ f. new_body p f (function_at p f)) (import_count m) m.bodies in
+      let d = length-each (λ f. new_body p f (function_at p f)) (import_count m) m.bodies in
       let w = length-map (wrapped m) (λ f. body_of [] (wrapper m f)) in
       let h = length-map (helped p) (λ u. body_of [] (helper m u)) in
       let x = length-append m.functions (wt ++ ht) in

@@ -28,11 +28,11 @@ use Rattle.rewrite_modules.proofs.Bounds.{room_of}
 use Rattle.rewrite_modules.proofs.Links.{is_defined, type_is_of, sizes_fit}
 use Rattle.rewrite_modules.proofs.Modules.{length-declared, module_given}
 use Rattle.rewrite_modules.proofs.Theorem.{startable_given, ready_given}
-use Rattle.rewrite_modules.proofs.WrittenOut.{writes_at}
 use Rattle.rewrite_sizes.specs.Light.{BodiesLight, rewritten_length, rewritten_lengths}
 use Rattle.rewrite_sizes.proofs.Totals.{total_many}
 use Rattle.rewrite_sizes.proofs.Weights.{body_weighs}
 use Rattle.rewrite_sizes.proofs.Sections.{import_some, contents_least}
+use Rattle.wasm_laws.proofs.Validity.{tree_there}
 
 module _ (m : Module) (x : Instrumentable m) (sized : Sized m) where
   abbrev p : Program
@@ -68,7 +68,7 @@ module _ (m : Module) (x : Instrumentable m) (sized : Sized m) where
       let C = ctx_of p f b type slots in
       let d = is_defined p f b tree type at in
       let ready = ready_given p given in
-      let w = writes_at m.bodies x.whole.trees d.number b tree x.whole.write d.body_is d.tree_is in
+      let w = tree_there m.bodies x.whole.trees d.number b tree x.whole.write d.body_is d.tree_is in
       let fits = sizes_fit p ready f b tree type d at in
       let ty : type_at m (length m.imports + i) ≡ Some type = type_is_of p f (defined b tree type) at in
       let locals : local_count (type_at m (length m.imports + i)) b ≡ length type.params + sum (map (λ g. g.count) b.groups) = ap (λ o. local_count o b) ty in

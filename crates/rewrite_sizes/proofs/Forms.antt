@@ -12,7 +12,6 @@ use Rattle.wasm_syntax.specs.declared.instruction.Convert.TheVariants.{Wrap, Ext
 use Rattle.wasm_syntax.specs.declared.instruction.Basic.TheVariants as basics
 use Rattle.wasm_syntax.specs.declared.instruction.Instr.{Instr}
 use Rattle.wasm_syntax.specs.declared.instruction.Instr.TheVariants as instr
-use Rattle.wasm_bytes.proofs.Places.{chosen}
 use Rattle.wasm_instructions.specs.declared.code.Code.{Code}
 use Rattle.wasm_instructions.specs.declared.code.Code.TheVariants.{Known, Float}
 use Rattle.wasm_instructions.specs.Spelled.{Spelled, alone, float}
@@ -21,14 +20,8 @@ use Rattle.wasm_instructions.specs.Table.{Rows, lookup, control, parametric, var
 use Rattle.wasm_instructions.specs.Grammar.{immediates, behind_opcode, instruction}
 use Rattle.rewrite_modules.specs.Instrumentable.{SmallInstr}
 use Rattle.wasm_format.specs.Expressions.{stand_in, code_of}
-
-unsigned_small : (bits : ℕ) (bytes : List ℕ) (n : ℕ) → IsUnsigned bits bytes n → n < 2 ^ bits
-unsigned_small bits [] n s = absurd s
-unsigned_small bits (b ∷ []) n s = rw s.2 s.1
-unsigned_small bits (b ∷ c ∷ bs) n s =
-    let high = unsigned_small (bits - 7) (c ∷ bs) s.3 s.5 in
-    let value : n ≡ b - 128 + 128 * s.3 = omega (arith, s.0, s.4) in
-    rw value (fits_above bits s.3 b s.2 high s.1 s.0)
+use Rattle.wasm_instructions.proofs.Shortest.{unsigned_small}
+use Rattle.wasm_leb.proofs.Tools.{chosen}
 
 abbrev pub CodeSmall : Code → Type 0
 CodeSmall (Known i) = SmallInstr i

@@ -30,6 +30,9 @@ use Rattle.rewrite_bodies.specs.Length.{basic_length, jump_length, else_length, 
 use Rattle.rewrite_modules.specs.FlatCode.{targets_in, op, else_op, ops_in, body_of}
 use Rattle.rewrite_modules.specs.Weight.{type_used}
 use Rattle.rewrite_sizes.proofs.Totals.{total, total-append, flat_total}
+use Rattle.rewrite_bodies.proofs.Unwind.{less_shorter}
+use Rattle.rewrite_modules.proofs.FlatOut.{taken}
+use Rattle.wasm_instructions.proofs.Shortest.{labels_length}
 
 -- ---- lengths of items
 
@@ -41,10 +44,6 @@ item_length (OpensLoop t) = 2
 item_length (OpensIf t) = 2
 item_length Else = 1
 item_length End = 1
-
-pub labels_length : (count default : ℕ) (xs : List ℕ) → length (labels_bytes count xs default) ≡ 1 + (length (unsigned_bytes count) + (length (flat_map unsigned_bytes xs) + length (unsigned_bytes default)))
-labels_length count default xs =
-    omega (arith, length-append (unsigned_bytes count ++ flat_map unsigned_bytes xs) (unsigned_bytes default), length-append (unsigned_bytes count) (flat_map unsigned_bytes xs))
 
 pub taken_most : {A : Type 0} (n : ℕ) (xs : List A) → length (take n xs) ≤ n
 taken_most zero xs = omega arith
@@ -116,9 +115,6 @@ old_expression body tree w =
     omega (arith, a, b, c, d)
 
 -- ---- a body written out from nodes takes the bytes of its nodes
-
-taken : (T pre ts more : List ℕ) (n : ℕ) → T ≡ pre ++ (ts ++ more) → n ≡ length pre → take (length ts) (drop n T) ≡ ts
-taken T pre ts more n e d = ap₂ (λ m xs. take (length ts) (drop m xs)) d e ∙ ap (take (length ts)) (drop-append_seam pre (ts ++ more)) ∙ take-append_seam ts more
 
 module _ (T : List ℕ) where
   abbrev bytes_of : List Op → ℕ
@@ -284,11 +280,6 @@ basic_some (Extend32 narrow32.Sixteen) = omega arith
 basic_some (Extend64 narrow64.Eight) = omega arith
 basic_some (Extend64 narrow64.Sixteen) = omega arith
 basic_some (Extend64 narrow64.ThirtyTwo) = omega arith
-
-less_shorter : (n : ℕ) (es : List Place) → length (less n es) ≤ length es
-less_shorter zero es = omega arith
-less_shorter (suc n) [] = omega arith
-less_shorter (suc n) (e ∷ es) = omega (arith, less_shorter n es)
 
 grown_longer : (t : Option ValType) (es : List Place) → length (grown t es) ≤ 1 + length es
 grown_longer None es = omega arith

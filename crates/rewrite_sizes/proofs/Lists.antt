@@ -30,10 +30,10 @@ use Rattle.rewrite_modules.specs.Collector.{memory_export}
 use Rattle.rewrite_modules.specs.Instrument.{new_nodes, new_body, each, new_exports, new_module}
 use Rattle.rewrite_modules.specs.Instrumentable.{program_of, Instrumentable}
 use Rattle.rewrite_modules.specs.Wrappers.{wrapper}
-use Rattle.rewrite_modules.proofs.BareValid.{same_sizes}
+use Rattle.rewrite_modules.proofs.BareValid.{same_sizes, all_as}
 use Rattle.rewrite_modules.proofs.NewSizes.{new_sizes}
 use Rattle.rewrite_sizes.proofs.Numbers.{some_bytes}
-use Rattle.rewrite_sizes.proofs.Totals.{total, total-append, total_many, flat_total, all_as, all_from_map}
+use Rattle.rewrite_sizes.proofs.Totals.{total, total-append, total_many, flat_total, all_from_map}
 use Rattle.rewrite_sizes.proofs.Items.{item_length, item_short, basic_some, expression_total, new_expression}
 use Rattle.rewrite_sizes.proofs.Pieces.{group_some, entry_total}
 use Rattle.rewrite_sizes.proofs.Sections.{contents, import_some}
@@ -44,15 +44,15 @@ use Rattle.rewrite_sizes.proofs.Whole.{contents_weigh}
 short_of : {A : Type 0} (xs : List A) → length xs ≤ 134217728 → Short xs
 short_of xs le = let lt : length xs < 4294967296 = omega (arith, le) in lt
 
-type_some : (t : FuncType) → 1 ≤ length (function_type_bytes t)
+pub type_some : (t : FuncType) → 1 ≤ length (function_type_bytes t)
 unfolding function_type_bytes
 type_some t = omega arith
 
-global_some : (g : Global) → 1 ≤ length (global_bytes g)
+pub global_some : (g : Global) → 1 ≤ length (global_bytes g)
 unfolding global_bytes
 global_some g = omega arith
 
-export_some : (e : Export) → 1 ≤ length (export_bytes e)
+pub export_some : (e : Export) → 1 ≤ length (export_bytes e)
 unfolding export_bytes
 export_some e = let a = length-append (sized_bytes e.name) (kind_byte e.kind ∷ unsigned_bytes e.index) in omega (arith, a)
 
@@ -84,7 +84,7 @@ targets_few (loop o t inner end rest) = omega (arith, length-append (targets_in 
 targets_few (choose o t a ea b end rest) =
     omega (arith, length-append (targets_in a) (targets_in b ++ targets_in rest), length-append (targets_in b) (targets_in rest), targets_few a, targets_few b, targets_few rest)
 
-jump_some : (j : Jump) → 1 ≤ jump_length j
+pub jump_some : (j : Jump) → 1 ≤ jump_length j
 jump_some Unreachable = omega arith
 jump_some (Br l) = omega arith
 jump_some (BrIf l) = omega arith
@@ -93,7 +93,7 @@ jump_some Return = omega arith
 jump_some (Call f) = omega arith
 jump_some (CallIndirect t) = omega arith
 
-item_some : (x : Item) → 1 ≤ item_length x
+pub item_some : (x : Item) → 1 ≤ item_length x
 item_some (Plain i) = basic_some i
 item_some (Goes j) = jump_some j
 item_some (Opens t) = omega arith
@@ -102,7 +102,7 @@ item_some (OpensIf t) = omega arith
 item_some Else = omega arith
 item_some End = omega arith
 
-instr_some : (T : List ℕ) (i : Instr) → 1 ≤ length (instruction_bytes T i)
+pub instr_some : (T : List ℕ) (i : Instr) → 1 ≤ length (instruction_bytes T i)
 instr_some T i = let a = item_short T i in let b = item_some (item_of T i) in omega (arith, a, b)
 
 body_lists : (gs : List LocalGroup) (nodes : Nodes) → length (entry_bytes (body_of gs nodes)) ≤ 134217728 → ShortBody (body_of gs nodes)

@@ -10,8 +10,8 @@ use Rattle.wasm_instructions.specs.Encoding.{BasicFits, NumbersFit, IsCode}
 use Rattle.wasm_encode.specs.Fits.{FitsBody, FitsModule}
 use Rattle.rewrite_bodies.specs.Offsets.{SmallOffset}
 use Rattle.rewrite_modules.specs.Instrumentable.{SmallInstr}
-use Rattle.rewrite_sizes.proofs.Totals.{all_as}
 use Rattle.rewrite_sizes.specs.Light.{SmallOffsets}
+use Rattle.rewrite_modules.proofs.BareValid.{all_as}
 
 basic_small : (i : Basic) → BasicFits i → SmallOffset i
 basic_small Nop h = tt

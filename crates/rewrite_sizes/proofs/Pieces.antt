@@ -20,12 +20,14 @@ use Rattle.rewrite_bodies.specs.Slots.{group, groups}
 use Rattle.rewrite_bodies.specs.Pieces.{const, i32, call, if_any}
 use Rattle.rewrite_bodies.specs.Guards.{first_table, type_label, entry_label, says, helper}
 use Rattle.rewrite_bodies.specs.Length.{code_length, jump_length}
-use Rattle.rewrite_bodies.proofs.Lengths.{ten_bytes, len_const, len_call, len_global_get, len_global_set}
+use Rattle.rewrite_bodies.proofs.Lengths.{len_const, len_call, len_global_get, len_global_set}
 use Rattle.rewrite_modules.specs.FlatCode.{body_of}
 use Rattle.rewrite_modules.specs.Wrappers.{get_all, tell_globals, end_of_dump, after_wrapped, wrapper}
 use Rattle.rewrite_sizes.proofs.Numbers.{some_bytes, few_bytes, single_byte, four_bytes}
 use Rattle.rewrite_sizes.proofs.Totals.{total, total-append, total_many, vector_total}
-use Rattle.rewrite_sizes.proofs.Items.{taken_most, labels_length, new_expression}
+use Rattle.rewrite_sizes.proofs.Items.{taken_most, new_expression}
+use Rattle.dump_write.proofs.Sizes.{ten_bytes}
+use Rattle.wasm_instructions.proofs.Shortest.{labels_length}
 
 -- ---- entries
 

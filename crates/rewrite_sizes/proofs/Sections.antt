@@ -22,12 +22,13 @@ use Rattle.wasm_sizes.proofs.Measures.{sized_length}
 use Rattle.wasm_sizes.proofs.Sections.{lengths}
 use Rattle.rewrite_bodies.specs.Numbering.{import_count, mapped, wraps, value_type, frame_type}
 use Rattle.rewrite_bodies.specs.Guards.{helper_type}
-use Rattle.rewrite_bodies.proofs.Lengths.{ten_bytes}
 use Rattle.rewrite_modules.specs.Bare.{bare_op, bare_body, bare_global, bare_element, bare_segment, bare_module}
 use Rattle.rewrite_modules.specs.Collector.{collector_import, memory_export}
 use Rattle.rewrite_modules.specs.Instrument.{zero_init, new_index, new_exports}
 use Rattle.rewrite_sizes.proofs.Numbers.{some_bytes, three_more, single_byte}
 use Rattle.rewrite_sizes.proofs.Totals.{total, total-append, vector_total, section_most, section_least}
+use Rattle.dump_write.proofs.Sizes.{ten_bytes}
+use Rattle.wasm_sizes.proofs.Entries.{function_import_length, export_length}
 
 -- ---- a whole module
 
@@ -118,12 +119,8 @@ types_grow ts =
 
 -- ---- imports
 
-import_length : (i : Import) → length (import_bytes i) ≡ length (sized_bytes i.«module») + (length (sized_bytes i.name) + (1 + length (unsigned_bytes i.ftype)))
-unfolding import_bytes
-import_length i = omega (arith, length-append (sized_bytes i.«module») (sized_bytes i.name ++ (0x00 ∷ unsigned_bytes i.ftype)), length-append (sized_bytes i.name) (0x00 ∷ unsigned_bytes i.ftype))
-
 pub import_some : (i : Import) → 1 ≤ length (import_bytes i)
-import_some i = let a = import_length i in omega (arith, a)
+import_some i = let a = function_import_length i in omega (arith, a)
 
 name_few : (name : List ℕ) (n : ℕ) → length name ≡ n → n < 128 → length (sized_bytes name) ≤ 1 + n
 name_few name n e lt =
@@ -133,7 +130,7 @@ name_few name n e lt =
 
 new_import : (name : List ℕ) (t : ℕ) → length name ≤ 9 → length (import_bytes (collector_import name t)) ≤ 30
 new_import name t few =
-    let a = import_length (collector_import name t) in
+    let a = function_import_length (collector_import name t) in
     let b = name_few (codes "coredump") 8 refl (omega arith) in
     let c = name_few name (length name) refl (omega (arith, few)) in
     let d = ten_bytes t in
@@ -174,10 +171,6 @@ globals_grow gs =
     omega (arith, all, flag_length)
 
 -- ---- exports
-
-export_length : (e : Export) → length (export_bytes e) ≡ length (sized_bytes e.name) + (1 + length (unsigned_bytes e.index))
-unfolding export_bytes
-export_length e = omega (arith, length-append (sized_bytes e.name) (kind_byte e.kind ∷ unsigned_bytes e.index))
 
 new_exports_grow : (m : Module) (k : ℕ) (es : List Export) → total (λ e. length (export_bytes e)) (new_exports m k es) ≤ 4 * total (λ e. length (export_bytes e)) es
 new_exports_grow m k [] = omega arith

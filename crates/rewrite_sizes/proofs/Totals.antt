@@ -4,7 +4,7 @@ use Rattle.std.specs.List.{AllByRecursion}
 use Rattle.wasm_leb.specs.Writing.{unsigned_bytes}
 use Rattle.wasm_encode.specs.Encoding.{vector_bytes, vector_section}
 use Rattle.wasm_sizes.proofs.Measures.{sized_length}
-use Rattle.rewrite_bodies.proofs.Lengths.{ten_bytes}
+use Rattle.dump_write.proofs.Sizes.{ten_bytes}
 
 -- ---- sums over lists
 
@@ -61,10 +61,6 @@ section_least id bytes (x ∷ xs) =
     omega (arith, a, c)
 
 -- ---- facts on each element
-
-pub all_as : {A : Type 0} (P Q : A → Type 0) (xs : List A) → ((x : A) → P x → Q x) → AllByRecursion P xs → AllByRecursion Q xs
-all_as P Q [] h k = tt
-all_as P Q (x ∷ xs) h k = (h x k.0, all_as P Q xs h k.1)
 
 pub all_from_map : {A B : Type 0} (P : B → Type 0) (f : A → B) (xs : List A) → AllByRecursion P (map f xs) → AllByRecursion (λ x. P (f x)) xs
 all_from_map P f [] h = tt

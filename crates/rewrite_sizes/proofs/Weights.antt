@@ -35,8 +35,9 @@ use Rattle.wasm_laws.proofs.FlatStatic.{write_append, dead_pass}
 use Rattle.wasm_laws.proofs.Lists.{some_is}
 use Rattle.rewrite_modules.specs.Weight.{height_at, AreHeights, extra, ops_weight}
 use Rattle.rewrite_modules.proofs.Links.{is_defined, type_is_of}
-use Rattle.rewrite_modules.proofs.WrittenOut.{writes_at}
 use Rattle.rewrite_sizes.proofs.Items.{item_length, item_short}
+use Rattle.wasm_laws.proofs.Validity.{tree_there}
+use Rattle.rewrite_modules.proofs.Heights.{arrow_labels}
 
 -- ---- the weight of flat code, item by item
 
@@ -145,31 +146,6 @@ module _ (h : ℕ → ℕ) where
       let c = skip y k2 k3 tail refl in
       let d = skip rest (suc k3) k after (omega (arith, e)) in
       omega (arith, a, b, c, d)
-
--- what basic instructions take does not hang on labels
-arrow_labels : (C : Ctx) (ret : List ValType) (labels : List (List ValType)) (t : ValType) (i : Basic) → arrow (at_labels C.source C.locals ret labels) t i ≡ arrow (original C []) t i
-arrow_labels C ret labels t Nop = refl
-arrow_labels C ret labels t Drop = refl
-arrow_labels C ret labels t Select = refl
-arrow_labels C ret labels t (LocalGet x) = refl
-arrow_labels C ret labels t (LocalSet x) = refl
-arrow_labels C ret labels t (LocalTee x) = refl
-arrow_labels C ret labels t (GlobalGet x) = refl
-arrow_labels C ret labels t (GlobalSet x) = refl
-arrow_labels C ret labels t (Load l al o) = refl
-arrow_labels C ret labels t (Store l al o) = refl
-arrow_labels C ret labels t MemorySize = refl
-arrow_labels C ret labels t MemoryGrow = refl
-arrow_labels C ret labels t MemoryCopy = refl
-arrow_labels C ret labels t MemoryFill = refl
-arrow_labels C ret labels t (Const v) = refl
-arrow_labels C ret labels t (Eqz u) = refl
-arrow_labels C ret labels t (Unary u op) = refl
-arrow_labels C ret labels t (Compare u op) = refl
-arrow_labels C ret labels t (Binary u op) = refl
-arrow_labels C ret labels t (Convert k) = refl
-arrow_labels C ret labels t (Extend32 k) = refl
-arrow_labels C ret labels t (Extend64 k) = refl
 
 module _ (C : Ctx) (ret : List ValType) (labs : List (List ValType)) (h : ℕ → ℕ) (one : (f : ℕ) (type : FuncType) → type_at C.source f ≡ Some type → reverse type.results ≡ option_to_list (result_of type)) (one_of : (t : ℕ) (type : FuncType) → slice_get C.source.types t ≡ Some type → reverse type.results ≡ option_to_list (result_of type)) where
   abbrev c : Context
@@ -418,7 +394,7 @@ body_weighs p write_ typed heights are i b tree type at long =
     let C = ctx_of p f b type (slots_of p f b tree type) in
     let ret = reverse type.results in
     let start = opened block_kinds.Plain result [] in
-    let w = writes_at m.bodies p.trees d.number b tree write_ d.body_is d.tree_is in
+    let w = tree_there m.bodies p.trees d.number b tree write_ d.body_is d.tree_is in
     let code = code_of b.targets b.ops in
     let ty : type_at m (length m.imports + i) ≡ Some type = type_is_of p f (defined b tree type) at in
     let types1 : Types (inside (body_context m type b) (start ∷ [])) tree.nodes [] (reverse type.results) = subst (λ z. Types z tree.nodes [] (reverse type.results)) (sym (inside_body m type b result gives)) (typed.bodies f b tree type at) in

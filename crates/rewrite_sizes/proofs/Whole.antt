@@ -20,12 +20,12 @@ use Rattle.rewrite_modules.specs.Instrumentable.{program_of, Instrumentable}
 use Rattle.rewrite_modules.specs.Weight.{height_at, ops_weight, bodies_weight, types_used, entry_weight, exports_weight, start_weight, weight}
 use Rattle.rewrite_modules.specs.Wrappers.{wrapper}
 use Rattle.rewrite_modules.proofs.Links.{is_defined}
-use Rattle.rewrite_modules.proofs.WrittenOut.{writes_at}
 use Rattle.rewrite_sizes.proofs.Totals.{total, total-append, total-map, total_times}
 use Rattle.rewrite_sizes.proofs.Items.{old_expression, all_used, peak_few}
 use Rattle.rewrite_sizes.proofs.Bodies.{few_imports, code_short, same_body, from_first}
 use Rattle.rewrite_sizes.proofs.Pieces.{plain_entry, wrapper_entry, helper_entry, slots_entry}
 use Rattle.rewrite_sizes.proofs.Sections.{contents, contents_least, contents_most, contents_bare, types_grow, imports_grow, functions_grow, globals_grow, exports_grow, elements_grow}
+use Rattle.wasm_laws.proofs.Validity.{tree_there}
 
 -- ---- wrappers: as many as exports of functions and the start function weigh
 
@@ -83,7 +83,7 @@ module _ (m : Module) (x : Instrumentable m) (sized : Sized m) where
       let f = ic + i in
       let slots = slots_of p f b tree type in
       let d = is_defined p f b tree type at in
-      let w = writes_at m.bodies x.whole.trees d.number b tree x.whole.write d.body_is d.tree_is in
+      let w = tree_there m.bodies x.whole.trees d.number b tree x.whole.write d.body_is d.tree_is in
       let many = peak_few (ctx_of p f b type 0) tree.nodes [] in
       let bytes = old_expression b tree w in
       let W = 192 + 16 * local_count (type_at m (length m.imports + i)) b + ops_weight (height_at heights i) 0 b.ops in

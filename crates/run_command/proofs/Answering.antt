@@ -37,6 +37,7 @@ use Rattle.run_command.specs.Hosting.{Hosting, scripted}
 use Rattle.run_command.specs.Recorded.{recorded, served_in, IsReadBack}
 use Rattle.run_command.specs.AllRan.{end_text, told_end, ran_to_end}
 use Rattle.run_command.specs.RunAnswer.{hosting, script_replies, UsesUp, EndUsesUp, HasFailed, EndHasFailed, RunsTo}
+use Rattle.wasm_decode.proofs.Sounds.{map_length}
 
 -- ---- no cause, no refusal
 
@@ -163,10 +164,6 @@ module _ (tell : Tells) (b : Behaves tell) (r : Ran) where
 
 not_begun : (asked made due : ℕ) → asked ≡ made + due → asked - made ≡ due
 not_begun asked made due e = omega arith
-
-map_length : {A B : Type 0} (f : A → B) (xs : List A) → length (map f xs) ≡ length xs
-map_length f [] = refl
-map_length f (x ∷ xs) = ap suc (map_length f xs)
 
 no_less : (n : ℕ) → n - 0 ≡ n
 no_less n = omega arith

@@ -30,6 +30,7 @@ use Rattle.run_session.specs.declared.turns.Lines.{Lines}
 use Rattle.run_session.proofs.Tellings.{Behaves}
 use Rattle.run_session.proofs.Lists.{none_torn_first}
 use Rattle.run_session.proofs.Sessions.{EndedWith, EndsSo, TornAt, fits_on}
+use Rattle.wasm_machine.proofs.SessionLaws.{all_fitted}
 
 -- ---- the last line and the status by the answer
 
@@ -184,15 +185,6 @@ ends_quietly tell b p used_up counts now given rans r (misfits call reply) l is 
 ends_quietly tell b p used_up counts now given rans r running l is at last whole on some = absurd cc
 ends_quietly tell b p used_up counts now given rans r got_stuck l is at last whole on some = absurd cc
 
-none_unfits : (o : RunOutcome) (entered : Bool) → goes_on o entered ≡ true → unfitting o ≡ []
-none_unfits (finished v) entered e = refl
-none_unfits (trapped kind) entered e = refl
-none_unfits (not_started cause) entered e = absurd cc
-none_unfits (lacks_reply call) entered e = absurd cc
-none_unfits (misfits call reply) entered e = absurd cc
-none_unfits running entered e = absurd cc
-none_unfits got_stuck entered e = absurd cc
-
 pub all_made_so : (tell : Tells) → Behaves tell → (p : Program) (M : Engine) (base name : List ℕ) (used_up : Import → Bool) (counts now : List ℕ → ℕ) (first s : State) (done : List Invocation) (fuel : ℕ) (lines : Lines) (before after : List Served) (told_before told_after : Option Contents) (o : Outcome)
     → 0 < length (done ++ []) → o ≡ ended (trapped_or_done lines.traps) lines.text
     → SoFar tell M base name first s done fuel lines before after told_before told_after
@@ -217,7 +209,7 @@ all_made_so tell b p M base name used_up counts now first s done fuel lines befo
             ∙ none_torn_first tell come.rans [] come.none_torn ∙ append-nil come.rans;
         counted = counted;
         came_of = come.came_of;
-        fit = come.fit ∙ plus_none (fitted come.rans) ∙ ap (λ l. fitted come.rans + length l) (sym (none_unfits went.last.outcome went.last.entered went.went.0));
+        fit = come.fit ∙ plus_none (fitted come.rans) ∙ ap (λ l. fitted come.rans + length l) (sym (all_fitted went.last.outcome went.last.entered went.went.0));
         last = went.is_last;
       };
       line = [];

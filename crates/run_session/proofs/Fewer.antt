@@ -9,6 +9,7 @@ use Rattle.wasm_syntax.specs.Host.{World, answer}
 use Rattle.wasm_syntax.specs.Machine.{Engine, Config, config, Stepped, next, ends, traps, no_reply, bad_reply, stuck, step, entered, host_call}
 use Rattle.wasm_syntax.specs.Run.{Ended, ended, run_on, run_steps, host_alone, run_alone, run_function, Ran, ran_to, run_entry, go_on, invoked, goes_on, fresh, Invocation, session, unless, run, cause_of, Cause, engine, start_world}
 use Rattle.run_session.specs.RunText.{last_of}
+use Rattle.machine_hosted.proofs.JoinLaws.{left_is}
 
 abbrev pub with_left : Ran → ℕ → Ran
 with_left r n = record r { left = n }
@@ -72,15 +73,6 @@ module _ (M : Engine) where
   function_left n f None args w co = itself n
   function_left n f (Some (imported i type)) args w co = alone_left n (host_call f i type args) w co
   function_left n f (Some (defined body tree type)) args w co = steps_left n (config (entered f body tree type args ∷ []) w co)
-
--- what is left of the steps is in the record
-left_is : (q : Bool) (s : Stepped) (left : ℕ) → (ran_to q s left).left ≡ left
-left_is q (next c) left = refl
-left_is q (ends w vs co) left = refl
-left_is q (traps k c) left = refl
-left_is q (no_reply call c) left = refl
-left_is q (bad_reply call r c) left = refl
-left_is q stuck left = refl
 
 ran_fewer : (d : ℕ) (q : Bool) (s : Stepped) (left : ℕ) → ran_to q s (left - d) ≡ less_left d (ran_to q s left)
 ran_fewer d q (next c) left = refl

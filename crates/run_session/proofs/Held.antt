@@ -8,14 +8,14 @@ use Rattle.pm_outside.specs.declared.answers.WriteAnswer.{WriteAnswer}
 use Rattle.pm_outside.specs.declared.answers.WriteAnswer.TheVariants as write
 use Rattle.dump_write.specs.Written.{OnTold, HasFile, HoldsFront, HasFront, Writes as Leaves}
 use Rattle.run_session.specs.Written.{Writes, held_then, HoldThen, HoldsPart, HoldPart}
-use Rattle.run_session.proofs.ToldFiles.{then_told, same_told}
+use Rattle.dump_write.proofs.Files.{then_told, same_told}
 
 -- writes behind others
 held_more : (ws also : Writes) (files : Contents) → held_then (ws ++ also) files ≡ held_then also (held_then ws files)
 held_more [] also files = refl
 held_more ((file, bytes) ∷ ws) also files = held_more ws also (λ name. if bytes_eq name file then Some bytes else files name)
 
-one_file : (file bytes : List ℕ) (old new : Contents) (name : List ℕ) (b : Bool) → bytes_eq name file ≡ b → HasFile file bytes old new → new name ≡ (if b then Some bytes else old name)
+pub one_file : (file bytes : List ℕ) (old new : Contents) (name : List ℕ) (b : Bool) → bytes_eq name file ≡ b → HasFile file bytes old new → new name ≡ (if b then Some bytes else old name)
 one_file file bytes old new name true e (has, others) = ap new ((bytes_eq-Decides name file).0 e) ∙ has
 one_file file bytes old new name false e (has, others) = others name (λ same. absurd (cc_false ((bytes_eq-Decides name file).1 same)))
   where

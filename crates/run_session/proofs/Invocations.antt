@@ -42,9 +42,11 @@ use Rattle.run_session.specs.declared.turns.Turn.{Turn}
 use Rattle.run_session.specs.declared.turns.Turn.TheVariants.{GoesOn, Ends, Torn, Refused}
 use Rattle.run_session.proofs.Tellings.{Behaves, one_trap}
 use Rattle.run_session.proofs.Lists.{dumps_only, only_one}
-use Rattle.run_session.proofs.Sessions.{no_replies}
 use Rattle.run_session.proofs.Stopped.{Nothing, none_left, choice_left, unless_left}
 use Rattle.run_session.proofs.Fewer.{with_left, fewer_steps}
+use Rattle.machine_hosted.proofs.WatchLaws.{admits_none}
+use Rattle.wasm_machine.proofs.SessionLaws.{all_fitted}
+use Rattle.machine_hosted.proofs.StageLaws.{enough as given_enough}
 
 -- ---- an answer with a reply that does not fit
 
@@ -116,15 +118,6 @@ shares_on p codes NoMemory m c on keeps = absurd on
 shares_on p codes NoReply m c on keeps = absurd on
 shares_on p codes (DeviceFault device) m c on keeps = absurd on
 
-none_unfit : (o : Outcome) (e : Bool) → goes_on o e ≡ true → unfitting o ≡ []
-none_unfit (finished v) e on = refl
-none_unfit (trapped kind) e on = refl
-none_unfit (not_started cause) e on = refl
-none_unfit (lacks_reply call) e on = refl
-none_unfit (misfits call reply) e on = absurd cc
-none_unfit running e on = refl
-none_unfit got_stuck e on = refl
-
 -- all steps were given
 all_given : (a : RunEnd) (fuel steps : ℕ) → (a ≡ NoMemory → ⊥) → given_steps a fuel steps ≡ fuel
 all_given (Finished v) fuel steps some = refl
@@ -172,16 +165,6 @@ came_within M due n t steps f args w r gives left few many =
     less : (n t steps : ℕ) → steps ≤ t → t ≤ n → n - steps - (n - t) ≡ t - steps
     less n t steps few many = omega arith
 
--- at least as many steps were given as were made
-given_enough : (a : RunEnd) (fuel steps : ℕ) → steps ≤ fuel → steps ≤ given_steps a fuel steps
-given_enough (Finished v) fuel steps le = le
-given_enough (Trapped kind) fuel steps le = le
-given_enough NoReply fuel steps le = le
-given_enough (DeviceFault device) fuel steps le = le
-given_enough (BadReply reply) fuel steps le = le
-given_enough FuelSpent fuel steps le = le
-given_enough NoMemory fuel steps le = le_refl steps
-
 -- what is known of the invocation with these replies left
 module _ (M : Engine) (s new : State) (i : Invocation) (rest : List Invocation) (f fuel steps : ℕ) (given : List Served) (a : RunEnd)
     (entry : function_export M.program.module_ i.name ≡ Some f) (made : new.steps ≡ s.steps + steps) where
@@ -218,7 +201,7 @@ module _ (M : Engine) (s new : State) (i : Invocation) (rest : List Invocation) 
       opens total more r gives left few (up_to total some many)
       ∙ ap (λ b. q ∷ (if b then session M rest None (fresh r.last w) (total - new.steps) else [])) on
       ∙ ap (λ l. q ∷ session M rest None (fresh l w) (total - new.steps)) last
-      ∙ ap (λ v. q ∷ session M rest None v (total - new.steps)) (same_world new.machine c w more shares (ap (λ us. drop (length us) c.world.replies) (sym (none_unfit r.outcome r.entered on)) ∙ replies))
+      ∙ ap (λ v. q ∷ session M rest None v (total - new.steps)) (same_world new.machine c w more shares (ap (λ us. drop (length us) c.world.replies) (sym (all_fitted r.outcome r.entered on)) ∙ replies))
       ∙ ap (λ d. q ∷ session M rest d (world_of new.machine more) (total - new.steps)) (sym due)
 
   pub ends_at : (total : ℕ) (more : List Reply) (r : Ran) → (a ≡ NoMemory → ⊥) → new.steps ≤ total → total ≤ fuel
@@ -286,7 +269,7 @@ module _ (tell : Tells) (p : Program) (collect : Bool) (depth : ℕ) (base name 
   came_with more = InvocationCame p s.prepared.codes.items used_up (invoking (engine p collect depth) s.due f i.args (world_of s.machine [])) (fuel - s.steps) was.came.asked a was.made new.ready new.entered new.machine more
 
   begin : came_with []
-  begin = was.came.came [] (no_replies a)
+  begin = was.came.came [] (admits_none a)
 
   came_to : (more : List Reply) (came : came_with more) → CameTo p used_up a new came.ran.outcome came.last
   came_to more came = record { is_of = is_of; outcome = came.outcome; keeps = subst (λ (q : Prepared). KeepsThen p q.codes.items a new.machine came.last) (sym same) came.keeps }

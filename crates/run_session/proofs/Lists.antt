@@ -9,15 +9,13 @@ use Rattle.run_session.specs.Telling.{Telling, nothing, finish, trap, bare_trap,
 use Rattle.run_session.specs.RunText.{dumps_from, traps_in, last_of, fitted, with_dump, with_trap, dump_name, up_to_torn, unless_torn}
 use Rattle.run_session.specs.Written.{Writes}
 use Rattle.run_session.specs.inner.Progress.{NoneTorn}
+use Rattle.run_session.proofs.Tellings.{plus_none}
 
 pub one_of : {A B : Type 0} (f : A → List B) (xs : List A) (x : A) → flat_map f (xs ++ x ∷ []) ≡ flat_map f xs ++ f x
 one_of f xs x = flat_map-append f xs (x ∷ []) ∙ ap (λ l. flat_map f xs ++ l) (append-nil (f x))
 
 pub zero_plus : (n : ℕ) → n ≡ 0 + n
 zero_plus n = omega arith
-
-plus_zero : (n : ℕ) → n ≡ n + 0
-plus_zero n = omega arith
 
 one_more : (a b k : ℕ) → a ≡ b + k → suc a ≡ suc b + k
 one_more a b k e = omega arith
@@ -54,7 +52,7 @@ own_and_more base name j n (torn at) all front back e = e j
 -- the dumps of more of them
 pub dumps_behind : (tell : Tells) (base name : List ℕ) (j : ℕ) (rans rs : List Ran) → dumps_from tell base name j (rans ++ rs) ≡ dumps_from tell base name j rans ++ dumps_from tell base name (j + traps_in tell rans) rs
 unfolding dumps_from
-dumps_behind tell base name j [] rs = ap (λ n. dumps_from tell base name n rs) (plus_zero j)
+dumps_behind tell base name j [] rs = ap (λ n. dumps_from tell base name n rs) (plus_none j)
 dumps_behind tell base name j (q ∷ rans) rs =
     own_and_more base name j (traps_in tell rans) (told tell q) (λ k. dumps_from tell base name k (rans ++ rs)) (λ k. dumps_from tell base name k rans) (λ k. dumps_from tell base name k rs)
     (λ k. dumps_behind tell base name k rans rs)

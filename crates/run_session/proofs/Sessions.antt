@@ -27,6 +27,7 @@ use Rattle.run_session.specs.declared.turns.Turn.TheVariants.{GoesOn, Ends, Torn
 use Rattle.run_session.proofs.Held.{held_also}
 use Rattle.run_session.proofs.Lists.{only_one, none_behind}
 use Rattle.run_session.proofs.Steps.{with_ran, goes_further, ends_there}
+use Rattle.machine_hosted.proofs.WatchLaws.{admits_none}
 
 abbrev made_of : (text : List ℕ) → Writes → ℕ → List Served → Made
 made_of text writes traps given = record { text = text; writes = writes; traps = traps; given = given }
@@ -88,15 +89,6 @@ EndsSo tell p used_up answer bad r = HasOutcome p used_up answer r.outcome × (t
 abbrev pub TornAt : Tells → ℕ → (bad : Bool) → Ran → Type 0
 TornAt tell at bad r = (torn_in (told tell r) ≡ Some at) × (is_misfit r.outcome ≡ bad)
 
-pub no_replies : (a : RunEnd) → AdmitsReplies a []
-no_replies NoReply = refl
-no_replies (DeviceFault device) = refl
-no_replies (Finished v) = tt
-no_replies (Trapped kind) = tt
-no_replies (BadReply reply) = tt
-no_replies FuelSpent = tt
-no_replies NoMemory = tt
-
 module _ (tell : Tells) (p : Program) (M : Engine) (base name : List ℕ) (used_up : Import → Bool) (first s next : State) (done : List Invocation) (i : Invocation) (rest : List Invocation) (fuel : ℕ) (old new : Lines) (before mid after : List Served) (told_before told_mid told_after : Option Contents)
     (so_far : SoFar tell M base name first s done fuel old before mid told_before told_mid) where
   abbrev pub HasEndedSo : (Ran → Type 0) → Type 0
@@ -119,7 +111,7 @@ module _ (tell : Tells) (p : Program) (M : Engine) (base name : List ℕ) (used_
 
   pub list_ends : (answer : RunEnd) → MadeOne tell p M base name used_up s next i fuel old new mid after told_mid told_after (Ends answer) → HasEndedSo (EndsSo tell p used_up answer (ends_badly next.last))
   list_ends answer made =
-      let one = made.ran rest fuel (made.within so_far.within) (le_refl fuel) [] (no_replies answer) in
+      let one = made.ran rest fuel (made.within so_far.within) (le_refl fuel) [] (admits_none answer) in
       ended_there (Ends answer) made one.ran [] (EndsSo tell p used_up answer (ends_badly next.last)) one.session_turns (only_one tell one.ran) one.given_is one.turns.3 (one.outcome, one.turns.2, one.misfit)
 
   pub list_torn : (at : ℕ) → MadeOne tell p M base name used_up s next i fuel old new mid after told_mid told_after (Torn at) → HasEndedSo (TornAt tell at (ends_badly next.last))

@@ -13,6 +13,8 @@ use Rattle.run_session.specs.RunText.{invocation_text, dumps_from, traps_in, fit
 use Rattle.run_session.specs.Given.{given_in, given_to}
 use Rattle.run_session.specs.inner.Progress.{Point, Made, session_from, CameOf, WentOn, HasCome, HasEnded}
 use Rattle.run_session.proofs.Lists.{one_of, traps_more, dumps_more, last_more, fitted_more, zero_plus, none_torn_first, none_torn_more}
+use Rattle.wasm_machine.proofs.SessionLaws.{all_fitted}
+use Rattle.machine_hosted.proofs.CourseLaws.{replies_on}
 
 -- what is made with one invocation more
 abbrev pub with_ran : Tells → (base name : List ℕ) → Made → List Served → Ran → Made
@@ -30,20 +32,6 @@ came_more tell base name rans made given r is came = record {
   traps = ap (λ n. n + traps_in tell (r ∷ [])) came.traps ∙ sym (traps_more tell rans r);
   given = ap (λ l. l ++ given) came.given ∙ ap (λ l. given_in rans ++ l) is ∙ sym (one_of given_to rans r);
 }
-
--- the replies of the calls so far, before those of the ones behind
-split_replies : (given also : List Served) (more : List Reply) → replies_of (given ++ also) ++ more ≡ replies_of given ++ (replies_of also ++ more)
-split_replies given also more = ap (λ l. l ++ more) (map-append (λ (s : Served). s.reply) given also) ∙ append_assoc (replies_of given) (replies_of also) more
-
--- all replies fit where the list goes on
-none_unfit : (o : Outcome) (entered : Bool) → goes_on o entered ≡ true → unfitting o ≡ []
-none_unfit (finished v) entered e = refl
-none_unfit (trapped kind) entered e = refl
-none_unfit (not_started cause) entered e = refl
-none_unfit (lacks_reply call) entered e = refl
-none_unfit (misfits call reply) entered e = absurd cc
-none_unfit running entered e = refl
-none_unfit got_stuck entered e = refl
 
 -- how many replies fitted, and how many there are with one that does not fit
 fit_more : (given also served unfit : List Served) (n : ℕ) → length given ≡ n → also ≡ served ++ unfit → length (given ++ also) ≡ (n + length served) + length unfit
@@ -64,10 +52,10 @@ pub goes_further : (tell : Tells) (M : Engine) (base name : List ℕ) (first the
     → HasCome tell M base name first next (with_ran tell base name made given r) more
 goes_further tell M base name first there next i made given r more due behind given_is on whole come = record {
   rans = come.rans ++ r ∷ [];
-  is = ap (λ l. session_from M first l) (split_replies made.given given more) ∙ come.is ∙ ap (λ l. come.rans ++ l) behind ∙ sym (append_assoc come.rans (r ∷ []) (session_from M next more));
+  is = ap (λ l. session_from M first l) (replies_on made.given given more) ∙ come.is ∙ ap (λ l. come.rans ++ l) behind ∙ sym (append_assoc come.rans (r ∷ []) (session_from M next more));
   counted = counts (length first.due) (length come.rans) (length next.due) (length (come.rans ++ r ∷ [])) (come.counted ∙ ap (λ l. length come.rans + length l) due) (length-append come.rans (r ∷ []));
   came_of = came_more tell base name come.rans made given r given_is come.came_of;
-  fit = fit_more made.given given r.served (unfitting r.outcome) (fitted come.rans) come.fit given_is ∙ ap (λ l. (fitted come.rans + length r.served) + length l) (none_unfit r.outcome r.entered on.0) ∙ none (fitted come.rans + length r.served) ∙ sym (fitted_more come.rans r);
+  fit = fit_more made.given given r.served (unfitting r.outcome) (fitted come.rans) come.fit given_is ∙ ap (λ l. (fitted come.rans + length r.served) + length l) (all_fitted r.outcome r.entered on.0) ∙ none (fitted come.rans + length r.served) ∙ sym (fitted_more come.rans r);
   went_on = subst (λ o. IfSome o WentOn) (sym (last_more come.rans r)) on;
   none_torn = none_torn_more tell come.rans r come.none_torn whole;
 }
@@ -84,7 +72,7 @@ pub ends_there : (tell : Tells) (M : Engine) (base name : List ℕ) (first there
 ends_there tell M base name first there i is made given r later due behind last given_is come = record {
   rans = come.rans ++ r ∷ [];
   is = ap (λ l. up_to_torn tell l)
-      (ap (λ l. session_from M first l) (sym (append-nil (replies_of (made.given ++ given))) ∙ split_replies made.given given []) ∙ come.is ∙ ap (λ l. come.rans ++ l) behind)
+      (ap (λ l. session_from M first l) (sym (append-nil (replies_of (made.given ++ given))) ∙ replies_on made.given given []) ∙ come.is ∙ ap (λ l. come.rans ++ l) behind)
       ∙ none_torn_first tell come.rans (r ∷ later) come.none_torn ∙ ap (λ l. come.rans ++ l) last;
   counted = counts (length first.due) (length come.rans) (length is) (length (come.rans ++ r ∷ [])) (come.counted ∙ ap (λ l. length come.rans + length l) due) (length-append come.rans (r ∷ []));
   came_of = came_more tell base name come.rans made given r given_is come.came_of;

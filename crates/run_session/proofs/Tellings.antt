@@ -98,7 +98,7 @@ one_trap (torn at) has = absurd has
 
 -- ---- the lines and the dump of each
 
-plus_none : (n : ℕ) → n ≡ n + 0
+pub plus_none : (n : ℕ) → n ≡ n + 0
 plus_none n = omega arith
 
 -- nothing was added

@@ -40,9 +40,10 @@ use Rattle.run_session.proofs.Tellings.{Behaves}
 use Rattle.run_session.proofs.Held.{none_held}
 use Rattle.run_session.proofs.Lists.{zero_plus}
 use Rattle.run_session.proofs.Sessions.{EndedWith, EndsSo, TornAt, list_goes_on, list_ends, list_torn}
-use Rattle.run_session.proofs.Unless.{on_all}
 use Rattle.run_session.proofs.Ends.{ended_so, torn_so, all_made_so, no_file_fault}
 use Rattle.run_session.proofs.Stopped.{ended_stopped, stops_behind}
+use Rattle.wasm_decode.proofs.Sounds.{map_length}
+use Rattle.command_answers.proofs.Unless.{on_all}
 
 -- ---- the begin
 
@@ -75,10 +76,6 @@ pub next_due : (xs : List InvocationWords) (k : ℕ) (x other : InvocationWords)
 next_due xs k x other lt is =
     ap (λ l. map invocation_of l) (drop-cons xs k other lt) ∙ ap (λ y. invocation_of y ∷ map invocation_of (drop (suc k) xs)) (sym is)
     ∙ ap (λ n. invocation_of x ∷ map invocation_of (drop n xs)) (one_more k)
-
-map_length : {A B : Type 0} (f : A → B) (xs : List A) → length (map f xs) ≡ length xs
-map_length f [] = refl
-map_length f (x ∷ xs) = ap suc (map_length f xs)
 
 pub due_left : (xs : List InvocationWords) (k : ℕ) → length (map invocation_of (drop (k + 1) xs)) ≡ length xs - k - 1
 due_left xs k = map_length invocation_of (drop (k + 1) xs) ∙ length-drop (k + 1) xs ∙ less (length xs) k
@@ -223,13 +220,3 @@ all_ran_so tell b p M base name used_up counts now first s all xs k fuel lines b
 
 pub of_end : (turn : Turn) (a : RunEnd) (P : RunEnd → Type 0) → turn ≡ Ends a → IfEnds P turn → P a
 of_end turn a P is x = subst (λ t. IfEnds P t) is x
-
--- what rose since a later count rose since an earlier one
-pub cause_since : (a : RunEnd) (first mid now : List ℕ → ℕ) → ((n : List ℕ) → first n ≤ mid n) → HasCause a mid now → HasCause a first now
-cause_since (DeviceFault device) first mid now later rose = rose_since (first device) (mid device) (now device) (later device) rose
-cause_since (Finished v) first mid now later rose = tt
-cause_since (Trapped kind) first mid now later rose = tt
-cause_since NoReply first mid now later rose = tt
-cause_since (BadReply reply) first mid now later rose = tt
-cause_since FuelSpent first mid now later rose = tt
-cause_since NoMemory first mid now later rose = tt

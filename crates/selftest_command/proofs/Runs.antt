@@ -41,6 +41,7 @@ use Rattle.run_session.specs.Telling.{memory_in}
 use Rattle.selftest_laws.specs.Handing.{main_on, fuel, depth}
 use Rattle.selftest_command.specs.Summary.{summary}
 use Rattle.selftest_command.specs.inner.Steps.{collected_alone, IsCollected, dumped, Runs}
+use Rattle.machine_hosted.proofs.WatchLaws.{admits_none}
 
 -- ---- why nothing is run
 
@@ -147,15 +148,6 @@ module _ (n : ℕ) (m : Module) (whole : IsModule m) where
 
 -- ---- where it is run
 
-no_replies : (a : RunEnd) → AdmitsReplies a []
-no_replies NoReply = refl
-no_replies (DeviceFault device) = refl
-no_replies (Finished v) = tt
-no_replies (Trapped kind) = tt
-no_replies (BadReply reply) = tt
-no_replies FuelSpent = tt
-no_replies NoMemory = tt
-
 had_memory : (a : RunEnd) → (a ≡ NoMemory → ⊥) → HadMemory a
 had_memory NoReply some = tt
 had_memory (DeviceFault device) some = tt
@@ -209,7 +201,7 @@ came_so n f m whole s later end used_up old new o delivery is_new segments entry
     let M : Engine = engine p true (depth true) in
     let is = main_on n ∷ [] in
     let inv = invoked p (record { of_module = sym is_new.module_is; writes_out = whole.write }) in
-    let came = inv.came.came [] (no_replies end) in
+    let came = inv.came.came [] (admits_none end) in
     let given : inv.came.asked.given ≡ [] = none_grown old.served inv.came.asked.given (sym no_served ∙ inv.came.grew.served) in
     let none : replies_of inv.came.asked.given ++ [] ≡ [] = ap (λ l. replies_of l ++ []) given in
     let listed = goes_on_behind M s.prepared.codes.items used_up (main_on n) [] f s.due s.machine later.machine fuel inv.came.asked end inv.made later.ready later.entered [] export (had_memory end some) came in

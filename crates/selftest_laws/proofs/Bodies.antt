@@ -30,6 +30,7 @@ use Rattle.rewrite_modules.proofs.FineBodies.{fine_at, gives_one}
 use Rattle.rewrite_modules.proofs.Multiple.{live_or, before_live}
 use Rattle.selftest_module.specs.Selftest.{number, constant, local_get, add, mix, mixed, beginning, mixing, ending, function_code, ops_from, body_of, bodies, selftest}
 use Rattle.selftest_laws.proofs.Running.{two_to_one}
+use Rattle.selftest_module.proofs.Sizes.{length_code}
 
 -- ---- instructions that add at most one operand
 
@@ -77,12 +78,6 @@ small_code n i =
     (all_append Small (beginning i) (mixing n (16 * i + 1)) (tt, (tt, (tt, (tt, (tt, tt))))) (small_flat (λ k. mixed (number n k)) (range_with_len (16 * i + 1) 16) (λ k. (tt, (small_mix (number n k / 65536 % 4), tt)))))
     (small_ending n i).0)
     (tt, tt)
-
-length_code : (n i : ℕ) → length (function_code n i) ≡ 41
-unfolding function_code
-length_code n i =
-    let a : length (beginning i ++ mixing n (16 * i + 1)) ≡ 37 = refl in
-    omega (arith, a, length-append (beginning i ++ mixing n (16 * i + 1) ++ ending n i) (instr.End ∷ []), length-append (beginning i ++ mixing n (16 * i + 1)) (ending n i), (small_ending n i).1)
 
 -- ---- bodies with equal code
 

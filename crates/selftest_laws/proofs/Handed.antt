@@ -28,12 +28,9 @@ use Rattle.selftest_laws.proofs.Programs.{program}
 use Rattle.selftest_laws.proofs.Trapped.{Traps, traps_so}
 use Rattle.selftest_laws.proofs.Bodies.{like}
 use Rattle.selftest_laws.proofs.Light.{framed, multiple_few}
+use Rattle.selftest_module.proofs.Whole.{all_write}
 
 -- ---- the same run without offsets
-
-all_write : (n : ℕ) (is : List ℕ) → AllWrite (map (λ i. body_of (function_code n i)) is) (map (tree_at n) is)
-all_write n [] = tt
-all_write n (i ∷ is) = (writes_at n i, all_write n is)
 
 writes : (n : ℕ) → IsProgram (program n)
 unfolding selftest

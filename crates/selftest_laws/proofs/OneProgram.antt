@@ -5,18 +5,9 @@ use Rattle.wasm_syntax.specs.declared.module.ModuleParts.{ModuleParts as Module}
 use Rattle.wasm_syntax.specs.Tree.{Tree, code_of}
 use Rattle.wasm_syntax.specs.Module.{Program, IsProgram, AllWrite}
 use Rattle.wasm_laws.proofs.Unique.{one_tree}
-
--- flat bodies write out at most one list of trees
-same_trees : (bodies : List Body) (a b : List Tree) → AllWrite bodies a → AllWrite bodies b → a ≡ b
-same_trees [] [] [] x y = refl
-same_trees [] [] (t ∷ ts) x y = absurd y
-same_trees [] (t ∷ ts) b x y = absurd x
-same_trees (body ∷ bodies) [] b x y = absurd x
-same_trees (body ∷ bodies) (t ∷ ts) [] x y = absurd y
-same_trees (body ∷ bodies) (t ∷ ts) (u ∷ us) (w, ws) (v, vs) =
-    ap (λ x. x ∷ ts) (one_tree (code_of body.targets body.ops) t u w v) ∙ ap (λ xs. u ∷ xs) (same_trees bodies ts us ws vs)
+use Rattle.rewrite_modules.proofs.WrittenOut.{all_same}
 
 pub same_program : (m : Module) (p q : Program) → p.module_ ≡ m → q.module_ ≡ m → IsProgram p → IsProgram q → p ≡ q
 same_program m p q ep eq wp wq =
-    let trees = same_trees m.bodies p.trees q.trees (subst (λ k. AllWrite k.bodies p.trees) ep wp) (subst (λ k. AllWrite k.bodies q.trees) eq wq) in
+    let trees = all_same m.bodies p.trees q.trees (subst (λ k. AllWrite k.bodies p.trees) ep wp) (subst (λ k. AllWrite k.bodies q.trees) eq wq) in
     ap (λ k. record { module_ = k; trees = p.trees }) (ep ∙ sym eq) ∙ ap (λ ts. record { module_ = q.module_; trees = ts }) trees

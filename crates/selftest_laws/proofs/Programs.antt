@@ -12,7 +12,7 @@ use Rattle.wasm_syntax.specs.Module.{Program, defined, function_at, imported_at,
 use Rattle.wasm_laws.proofs.Lists.{get_map}
 use Rattle.selftest_module.specs.Selftest.{number, constant, local_get, add, mix, mixed, beginning, mixing, ending, function_code, body_of, bodies, selftest}
 use Rattle.selftest_module.proofs.Lines.{line}
-use Rattle.selftest_module.proofs.Functions.{tree_at}
+use Rattle.selftest_module.proofs.Functions.{tree_at, get_replicate}
 use Rattle.selftest_laws.proofs.Straight.{Follows}
 use Rattle.selftest_laws.proofs.Running.{two_to_one, HasCode}
 
@@ -76,11 +76,6 @@ get_range a (suc n) (suc i) h = let e : a + 1 + i ≡ a + suc i = omega arith in
 
 pub get_each : {A : Type 0} (f : ℕ → A) (n i : ℕ) → i < n → slice_get (map f (range_with_len 0 n)) i ≡ Some (f i)
 get_each f n i lt = let e : 0 + i ≡ i = omega arith in get_map f (range_with_len 0 n) i ∙ ap (option_map f) (get_range 0 n i lt ∙ ap Some e)
-
-pub get_replicate : (n f : ℕ) → f < n → slice_get {X = ℕ} (replicate n 0) f ≡ Some 0
-get_replicate zero f h = absurd (omega (arith, h))
-get_replicate (suc n) zero h = refl
-get_replicate (suc n) (suc f) h = get_replicate n f (omega (arith, h))
 
 function_is : (n i : ℕ) → i < n → function_at (program n) i ≡ Some (defined (body_of (function_code n i)) (tree_at n i) two_to_one)
 unfolding selftest

@@ -12,7 +12,8 @@ use Rattle.wasm_syntax.specs.Run.{cause_of, or_else, if_fits, start_world, Ended
 use Rattle.selftest_module.specs.Selftest.{selftest}
 use Rattle.selftest_laws.specs.Handing.{main_on}
 use Rattle.selftest_laws.proofs.Running.{two_to_one, HasPage, down}
-use Rattle.selftest_laws.proofs.Programs.{program, has_code, get_replicate}
+use Rattle.selftest_laws.proofs.Programs.{program, has_code}
+use Rattle.selftest_module.proofs.Functions.{get_replicate}
 
 paged_by : (k : ℕ) (w : World) → w.memory ≡ Some (record { bytes = replicate k 0; max = 4096 }) → k ≡ 65536 → HasPage w
 paged_by k w is size = record { memory = record { bytes = replicate k 0; max = 4096 }; is = is; size = length-replicate {A = ℕ} k 0 ∙ size }

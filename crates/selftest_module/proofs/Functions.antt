@@ -89,7 +89,7 @@ module _ (c : Context) (locals : c.locals ≡ two) (l : Limits) (memories : c.mo
 
 -- ---- functions of the module
 
-get_replicate : (n f : ℕ) → f < n → slice_get {X = ℕ} (replicate n 0) f ≡ Some 0
+pub get_replicate : (n f : ℕ) → f < n → slice_get {X = ℕ} (replicate n 0) f ≡ Some 0
 get_replicate zero f h = absurd (omega (arith, h))
 get_replicate (suc n) zero h = refl
 get_replicate (suc n) (suc f) h = get_replicate n f (omega (arith, h))

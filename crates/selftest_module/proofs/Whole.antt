@@ -13,7 +13,7 @@ use Rattle.selftest_module.proofs.Functions.{two_to_one, type_there, tree_at, wr
 
 -- ---- a module
 
-all_write : (n : ℕ) (is : List ℕ) → AllWrite (map (λ i. body_of (function_code n i)) is) (map (tree_at n) is)
+pub all_write : (n : ℕ) (is : List ℕ) → AllWrite (map (λ i. body_of (function_code n i)) is) (map (tree_at n) is)
 all_write n [] = tt
 all_write n (i ∷ is) = (writes_at n i, all_write n is)
 

@@ -10,13 +10,13 @@ use Rattle.wasm_syntax.specs.Module.{type_at, declared_locals}
 use Rattle.wasm_syntax.specs.Sizes.{WithinLimits, ShortBody, local_count}
 use Rattle.wasm_syntax.specs.Valid.{defined_index}
 use Rattle.wasm_laws.proofs.Lists.{at_of}
-use Rattle.validate_body.proofs.Options.{then_inv}
 use Rattle.wasm_validate.specs.Heights.{body_of, TypesAt, HasOp, HeightIs, StandsIn, AllLow}
 use Rattle.wasm_validate.proofs.Order.{index_back}
 use Rattle.rewrite_modules.proofs.Modules.{length-declared}
 use Rattle.rewrite_bodies.specs.Slots.{Place}
 use Rattle.slot_plan.specs.Plans.{own_types, planned, Fits}
 use Rattle.slot_plan.specs.inner.Greatest.{height_or_zero, IsGreatestUpTo}
+use Rattle.wasm_laws.proofs.Validity.{then_found}
 
 pub none_greatest : (m : Module) (f : ℕ) → IsGreatestUpTo m f 0 0
 none_greatest m f = record { bound = λ op types lt h. absurd (omega (arith, lt)); there = inl refl }
@@ -44,7 +44,7 @@ greatest_more m f n most next o g has h over holds either = record {
 
 pub there : (m : Module) (f : ℕ) (body : Body) → body_of m f ≡ Some body → (i : ℕ) × (f ≡ length m.imports + i) × (slice_get m.bodies i ≡ Some body)
 there m f body e =
-    let i = then_inv (defined_index m f) (slice_get m.bodies) body e in
+    let i = then_found (defined_index m f) (slice_get m.bodies) body e in
     (i.0, index_back m f i.0 i.1, i.2)
 
 pub few_ops : (m : Module) (f : ℕ) (body : Body) → WithinLimits m → body_of m f ≡ Some body → length body.ops < 2 ^ 32

@@ -18,7 +18,7 @@ use Rattle.wasm_laws.proofs.FlatBodies.{inside_body, body_steps}
 use Rattle.wasm_laws.proofs.FlatOne.{one_before}
 use Rattle.wasm_laws.proofs.Lists.{some_is}
 use Rattle.wasm_laws.proofs.Safe.{Typed, one_result}
-use Rattle.wasm_laws.proofs.Validity.{typed}
+use Rattle.wasm_laws.proofs.Validity.{typed, tree_there}
 use Rattle.wasm_syntax.specs.Valid.{Valid}
 use Rattle.wasm_validate.specs.Heights.{body_of, TypesAt}
 use Rattle.wasm_validate.proofs.HeightLaws.{at_of}
@@ -26,14 +26,10 @@ use Rattle.wasm_validate.proofs.WholeLaws.{body_at}
 use Rattle.rewrite_bodies.specs.Slots.{Place, Ctx, ctx_of, slots_of}
 use Rattle.rewrite_modules.proofs.Heights.{peak_low}
 use Rattle.rewrite_modules.proofs.Links.{is_defined, type_is_of, IsDefined}
-use Rattle.rewrite_modules.proofs.Multiple.{slots_high}
-use Rattle.rewrite_modules.proofs.WrittenOut.{writes_at}
+use Rattle.rewrite_modules.proofs.Multiple.{slots_high, code_length}
 use Rattle.slot_plan.specs.Before.{before, kept_at}
 use Rattle.slot_plan.specs.Plans.{own_types, planned, IsPlan}
 use Rattle.slot_plan.specs.inner.Greatest.{IsGreatestUpTo}
-
-code_length : (targets : List ℕ) (ops : List Op) → length (code_of targets ops) ≡ length ops
-code_length targets ops = length-map ops (λ (o : Op). placed o.at (item_of targets o.code))
 
 module _ (p : Program) (write_ : IsProgram p) (typed_ : Typed p) (f : ℕ) (b : Body) (tree : Tree) (type : FuncType) (at : function_at p f ≡ Some (defined b tree type)) where
   abbrev m : Module
@@ -46,7 +42,7 @@ module _ (p : Program) (write_ : IsProgram p) (typed_ : Typed p) (f : ℕ) (b : 
   gives = one_result type.results (typed_.few f (defined b tree type) at)
 
   writes : Writes b.targets b.ops tree
-  writes = writes_at m.bodies p.trees d.number b tree write_ d.body_is d.tree_is
+  writes = tree_there m.bodies p.trees d.number b tree write_ d.body_is d.tree_is
 
   abbrev C : Ctx
   C = ctx_of p f b type 0
@@ -135,7 +131,7 @@ plan_from m parts p f b own tree type most locals kept same parts_are is valid w
     let most_here : IsGreatestUpTo p.module_ f (length own.ops) most = subst (λ x. IsGreatestUpTo x f (length own.ops) most) (sym same) g in
     let locals_are : locals ≡ own_types (type_at p.module_ f) own = types ∙ ap (λ x. own_types (type_at x f) own) e in
     let typed_locals : type.params ++ declared_locals b.groups ≡ locals = sym (locals_are ∙ ap (λ q. own_types q own) (type_is_of p f (defined b tree type) at) ∙ ap (own_types (Some type)) is_b) in
-    let writes_b : Writes b.targets b.ops tree = writes_at p.module_.bodies p.trees d.number b tree w d.body_is d.tree_is in
+    let writes_b : Writes b.targets b.ops tree = tree_there p.module_.bodies p.trees d.number b tree w d.body_is d.tree_is in
     let writes_own : Writes b.targets own.ops tree = subst (λ (x : Body). Writes b.targets x.ops tree) (sym is_b) writes_b in
     let known : (op : ℕ) → kept_at kept op ≡ before (ctx_of p f b type 0) tree.nodes op = places (ctx_of p f b type 0) b.targets tree typed_locals (sym e) writes_own in
     subst (λ ls. IsPlan p f b tree type (planned ls most kept)) (sym locals_are) (plan_is p f b own tree type most kept w as_many (subst Valid (sym same) valid) at there most_here known)

@@ -5,11 +5,13 @@ use Rattle.wasm_syntax.specs.declared.value.ValType.{ValType}
 use Rattle.wasm_syntax.specs.declared.value.ValType.TheVariants.{I32, I64}
 use Rattle.wasm_syntax.specs.Numbers.{same_type}
 use Rattle.wasm_syntax.specs.Typing.{Arrow}
-use Rattle.wasm_laws.proofs.Progress.{some_is}
 use Rattle.validate_stack.specs.Frames.{Known, Frame, set_known, labels, pop_type, pop, push, pops, pushes, forget}
 use Rattle.validate_body.specs.inner.Algorithm.{apply}
-use Rattle.validate_body.proofs.Options.{none_is, same_type_is, IsNil, then_inv, then_some, map_inv, map_some, if_inv}
+use Rattle.validate_body.proofs.Options.{none_is, same_type_is, IsNil, then_some, map_inv, map_some, if_inv}
 use Rattle.wasm_syntax.specs.FlatTyping.{OpenBlock, opened, label_types, given}
+use Rattle.wasm_laws.proofs.Lists.{some_is}
+use Rattle.wasm_laws.proofs.Validity.{then_found}
+use Rattle.wasm_laws.proofs.FlatSteps.{given_none}
 
 abbrev pub Fits : Known → Bool → List ValType → Type 0
 Fits [] false ts = ts ≡ []
@@ -73,14 +75,10 @@ given_more : (t : ValType) (ts : List ValType) (hs : List OpenBlock) → given (
 given_more t ts [] = refl
 given_more t ts (h ∷ hs) = refl
 
-pub given_nil : (gs : List OpenBlock) → given [] gs ≡ gs
-given_nil [] = refl
-given_nil (g ∷ gs) = refl
-
 pub pops_sound : (fs fs' : List Frame) (ts : List ValType) (hs : List OpenBlock) → pops fs ts ≡ Some fs' → FitAll fs' hs → FitAll fs (given ts hs)
-pops_sound fs fs' [] hs e h = subst (λ x. FitAll fs x) (sym (given_nil hs)) (subst (λ x. FitAll x hs) (sym (some_is e)) h)
+pops_sound fs fs' [] hs e h = subst (λ x. FitAll fs x) (sym (given_none hs)) (subst (λ x. FitAll x hs) (sym (some_is e)) h)
 pops_sound fs fs' (t ∷ ts) hs e h =
-    let i = then_inv (pop fs t) (λ gs. pops gs ts) fs' e in
+    let i = then_found (pop fs t) (λ gs. pops gs ts) fs' e in
     subst (λ x. FitAll fs x) (given_more t ts hs) (pop_sound fs i.0 t (given ts hs) i.1 (pops_sound i.0 fs' ts hs i.2 h))
 
 pub pops_complete : (fs : List Frame) (ts : List ValType) (g : OpenBlock) (gs : List OpenBlock) → FitAll fs (given ts (g ∷ gs)) → (fs' : List Frame) × (pops fs ts ≡ Some fs') × FitAll fs' (g ∷ gs)
@@ -108,14 +106,14 @@ push_complete (f ∷ fs) t [] h = absurd h
 push_complete (f ∷ fs) t (g ∷ gs) h = ((h.0.0, h.0.1, (refl, h.0.2)), h.1)
 
 pub pushes_sound : (fs : List Frame) (ts : List ValType) (hs : List OpenBlock) → FitAll (pushes fs ts) hs → (gs : List OpenBlock) × (hs ≡ given ts gs) × FitAll fs gs
-pushes_sound fs [] hs h = (hs, sym (given_nil hs), h)
+pushes_sound fs [] hs h = (hs, sym (given_none hs), h)
 pushes_sound fs (t ∷ ts) hs h =
     let i = push_sound (pushes fs ts) t hs h in
     let j = pushes_sound fs ts i.0 i.2 in
     (j.0, i.1 ∙ ap (given (t ∷ [])) j.1 ∙ given_more t ts j.0, j.2)
 
 pub pushes_complete : (fs : List Frame) (ts : List ValType) (gs : List OpenBlock) → FitAll fs gs → FitAll (pushes fs ts) (given ts gs)
-pushes_complete fs [] gs h = subst (λ x. FitAll fs x) (sym (given_nil gs)) h
+pushes_complete fs [] gs h = subst (λ x. FitAll fs x) (sym (given_none gs)) h
 pushes_complete fs (t ∷ ts) gs h =
     subst (λ x. FitAll (pushes fs (t ∷ ts)) x) (given_more t ts gs) (push_complete (pushes fs ts) t (given ts gs) (pushes_complete fs ts gs h))
 

@@ -11,16 +11,17 @@ use Rattle.wasm_syntax.specs.Numbers.{same_type}
 use Rattle.wasm_syntax.specs.Module.{type_at, option_then}
 use Rattle.wasm_syntax.specs.Tree.{Placed}
 use Rattle.wasm_syntax.specs.Typing.{Context, Arrow, ◌⇒◌, arrow, call_arrow}
-use Rattle.wasm_laws.proofs.Progress.{some_is}
 use Rattle.wasm_syntax.specs.declared.blocks.BlockKind.TheVariants.{Loop, Then}
 use Rattle.wasm_syntax.specs.declared.blocks.BlockKind.TheVariants as kinds
 use Rattle.validate_stack.specs.Frames.{Known, Frame, opening, set_known, pop_type, pop_any, pop, push, pops, pushes, forget, label, emptied}
 use Rattle.validate_body.specs.inner.Algorithm.{apply, drop_any, both, select_known, select, step_basic, step_jump, step, run, targets_fit, closed, at_else, may_end, at_end}
 use Rattle.wasm_syntax.specs.FlatTyping.{dead_behind_jump, dead_next, dead_behind}
 use Rattle.validate_body.specs.Marks.{flags, AllSome, Sure}
-use Rattle.validate_body.proofs.Options.{none_is, then_inv, map_inv, if_inv}
+use Rattle.validate_body.proofs.Options.{none_is, map_inv, if_inv}
 use Rattle.validate_body.proofs.Jumps.{any_sound_inv, drop_inv}
 use Rattle.validate_body.proofs.Same.{emptied_inv, else_inv}
+use Rattle.wasm_laws.proofs.Lists.{some_is}
+use Rattle.wasm_laws.proofs.Validity.{then_found}
 
 abbrev pub Kept : List Frame → List Frame → Type 0
 Kept fs fs' = (flags fs' ≡ flags fs) × (Sure fs → Sure fs')
@@ -28,7 +29,7 @@ Kept fs fs' = (flags fs' ≡ flags fs) × (Sure fs → Sure fs')
 kept_then : (fs gs hs : List Frame) → Kept fs gs → Kept gs hs → Kept fs hs
 kept_then fs gs hs h k = (k.0 ∙ h.0, λ s. k.1 (h.1 s))
 
-true_false : {A : Type 0} → true ≡ false → A
+pub true_false : {A : Type 0} → true ≡ false → A
 true_false e = absurd (cc)
 
 type_sure : (free : Bool) (ks ls : Known) (t : ValType) → pop_type free ks t ≡ Some ls → (free ≡ false → AllSome ks) → free ≡ false → AllSome ls
@@ -56,7 +57,7 @@ pop_kept (f ∷ fs) fs' t e =
 pops_kept : (fs fs' : List Frame) (ts : List ValType) → pops fs ts ≡ Some fs' → Kept fs fs'
 pops_kept fs fs' [] e = let q : fs ≡ fs' = some_is e in (sym (ap flags q), λ s. subst Sure q s)
 pops_kept fs fs' (t ∷ ts) e =
-    let i = then_inv (pop fs t) (λ gs. pops gs ts) fs' e in kept_then fs i.0 fs' (pop_kept fs i.0 t i.1) (pops_kept i.0 fs' ts i.2)
+    let i = then_found (pop fs t) (λ gs. pops gs ts) fs' e in kept_then fs i.0 fs' (pop_kept fs i.0 t i.1) (pops_kept i.0 fs' ts i.2)
 
 push_kept : (fs : List Frame) (t : ValType) → Kept fs (push fs (Some t))
 push_kept [] t = (refl, λ s. s)
@@ -89,9 +90,9 @@ some_front (Some t) ks o h = h
 
 select_sure : (free : Bool) (ks ls : Known) → select_known free ks ≡ Some ls → (free ≡ false → AllSome ks) → free ≡ false → AllSome ls
 select_sure free ks ls e h f =
-    let i = then_inv (pop_type free ks I32) _ ls e in
-    let j = then_inv (pop_any free i.0) _ ls i.2 in
-    let l = then_inv (pop_any free j.0.1) _ ls j.2 in
+    let i = then_found (pop_type free ks I32) _ ls e in
+    let j = then_found (pop_any free i.0) _ ls i.2 in
+    let l = then_found (pop_any free j.0.1) _ ls j.2 in
     let m = map_inv (λ k. k ∷ l.0.1) (both j.0.0 l.0.0) ls l.2 in
     let a = any_sure free i.0 j.0 j.1 f (type_sure free ks i.0 I32 i.1 h f) in
     let b = any_sure free j.0.1 l.0 l.1 f a.1 in
@@ -104,7 +105,7 @@ select_kept (f ∷ fs) fs' e =
     (sym (ap flags i.2), λ s. subst Sure i.2 (select_sure f.free f.known i.0 i.1 s.0, s.1))
 
 arrow_kept : (o : Option Arrow) (fs fs' : List Frame) → option_then o (apply fs) ≡ Some fs' → Kept fs fs'
-arrow_kept o fs fs' e = let i = then_inv o (apply fs) fs' e in apply_kept fs fs' i.0 i.2
+arrow_kept o fs fs' e = let i = then_found o (apply fs) fs' e in apply_kept fs fs' i.0 i.2
 
 basic_kept : (c : Context) (fs fs' : List Frame) (i : Basic) → step_basic c fs i ≡ Some fs' → Kept fs fs'
 basic_kept c fs fs' Drop e = drop_kept fs fs' e
@@ -152,17 +153,17 @@ transfer_next f fs fs' ts e =
 
 jump_next : (c : Context) (f : Frame) (fs fs' : List Frame) (j : Jump) → step_jump c (f ∷ fs) j ≡ Some fs' → Next (f ∷ fs) fs' (dead_behind_jump f.free j ∷ flags fs)
 jump_next c f fs fs' Unreachable e = transfer_next f fs fs' [] e
-jump_next c f fs fs' (Br n) e = let l = then_inv (label (f ∷ fs) n) _ fs' e in transfer_next f fs fs' (option_to_list l.0) l.2
-jump_next c f fs fs' (BrIf n) e = let l = then_inv (label (f ∷ fs) n) _ fs' e in apply_kept (f ∷ fs) fs' (I32 ∷ option_to_list l.0 ⇒ option_to_list l.0) l.2
+jump_next c f fs fs' (Br n) e = let l = then_found (label (f ∷ fs) n) _ fs' e in transfer_next f fs fs' (option_to_list l.0) l.2
+jump_next c f fs fs' (BrIf n) e = let l = then_found (label (f ∷ fs) n) _ fs' e in apply_kept (f ∷ fs) fs' (I32 ∷ option_to_list l.0 ⇒ option_to_list l.0) l.2
 jump_next c f fs fs' (BrTable targets default) e =
-    let l = then_inv (label (f ∷ fs) default) _ fs' e in
+    let l = then_found (label (f ∷ fs) default) _ fs' e in
     let i = if_inv (targets_fit (f ∷ fs) l.0 targets) _ fs' l.2 in
     transfer_next f fs fs' (I32 ∷ option_to_list l.0) i.1
 jump_next c f fs fs' Return e = transfer_next f fs fs' c.returns e
-jump_next c f fs fs' (Call g) e = let l = then_inv (type_at c.module_ g) _ fs' e in apply_kept (f ∷ fs) fs' (call_arrow l.0) l.2
+jump_next c f fs fs' (Call g) e = let l = then_found (type_at c.module_ g) _ fs' e in apply_kept (f ∷ fs) fs' (call_arrow l.0) l.2
 jump_next c f fs fs' (CallIndirect t) e =
     let a = any_sound_inv {A = Limits} c.module_.tables _ fs' e in
-    let l = then_inv (slice_get c.module_.types t) _ fs' a.1 in
+    let l = then_found (slice_get c.module_.types t) _ fs' a.1 in
     apply_kept (f ∷ fs) fs' (I32 ∷ reverse l.0.params ⇒ reverse l.0.results) l.2
 
 -- ---- blocks
@@ -170,7 +171,7 @@ jump_next c f fs fs' (CallIndirect t) e =
 closed_next : (f : Frame) (fs : List Frame) (p : Frame × List Frame) → closed (f ∷ fs) ≡ Some p → (flags p.1 ≡ flags fs) × (Sure (f ∷ fs) → Sure p.1)
 unfolding tail_of
 closed_next f fs p e =
-    let i = then_inv (pops (f ∷ fs) (option_to_list f.result)) emptied p e in
+    let i = then_found (pops (f ∷ fs) (option_to_list f.result)) emptied p e in
     let m = emptied_inv i.0 p i.2 in
     let k = pops_kept (f ∷ fs) i.0 (option_to_list f.result) i.1 in
     (ap tail_of (sym (ap flags m.0) ∙ k.0), λ s. (subst Sure m.0 (k.1 s)).1)
@@ -186,12 +187,12 @@ step_next c (f ∷ fs) fs' (OpensIf t) e =
     let k = pop_kept (f ∷ fs) i.0 I32 i.1 in
     (sym (ap flags i.2) ∙ ap (λ b. false ∷ b) k.0, λ s. subst Sure i.2 (λ _. tt, k.1 s))
 step_next c (f ∷ fs) fs' Else e =
-    let i = then_inv (closed (f ∷ fs)) (λ p. at_else p.0 p.1 p.0.kind) fs' e in
+    let i = then_found (closed (f ∷ fs)) (λ p. at_else p.0 p.1 p.0.kind) fs' e in
     let j = else_inv i.0.0 i.0.1 i.0.0.kind fs' i.2 in
     let k = closed_next f fs i.0 i.1 in
     (sym (ap flags j.1) ∙ ap (λ b. false ∷ b) k.0, λ s. subst Sure j.1 (λ _. tt, k.1 s))
 step_next c (f ∷ fs) fs' End e =
-    let i = then_inv (closed (f ∷ fs)) (λ p. at_end p.0 p.1) fs' e in
+    let i = then_found (closed (f ∷ fs)) (λ p. at_end p.0 p.1) fs' e in
     let j = if_inv (may_end i.0.0.kind i.0.0.result) (Some (pushes i.0.1 (option_to_list i.0.0.result))) fs' i.2 in
     let k = closed_next f fs i.0 i.1 in
     let q : pushes i.0.1 (option_to_list i.0.0.result) ≡ fs' = some_is j.1 in
@@ -201,7 +202,7 @@ step_next c (f ∷ fs) fs' End e =
 pub run_next : (c : Context) (ps : List Placed) (fs fs' : List Frame) → run c fs ps ≡ Some fs' → Next fs fs' (dead_behind (flags fs) ps)
 run_next c [] fs fs' e = let q : fs ≡ fs' = some_is e in (sym (ap flags q), λ s. subst Sure q s)
 run_next c (p ∷ ps) fs fs' e =
-    let i = then_inv (step c fs p.code) (λ gs. run c gs ps) fs' e in
+    let i = then_found (step c fs p.code) (λ gs. run c gs ps) fs' e in
     let s = step_next c fs i.0 p.code i.1 in
     let r = run_next c ps i.0 fs' i.2 in
     (r.0 ∙ ap (λ b. dead_behind b ps) s.0, λ k. r.1 (s.1 k))

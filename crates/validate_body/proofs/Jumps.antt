@@ -11,12 +11,14 @@ use Rattle.wasm_syntax.specs.declared.parts.Limits.{Limits}
 use Rattle.wasm_syntax.specs.Numbers.{same_type}
 use Rattle.wasm_syntax.specs.Module.{type_at, option_then}
 use Rattle.wasm_syntax.specs.Typing.{Context, Arrow, ◌⇒◌, Above, OnTop, BasicTypes, JumpTypes, IsLabel, AreLabels, arrow, call_arrow, if_any}
-use Rattle.wasm_laws.proofs.Progress.{some_is}
 use Rattle.validate_stack.specs.Frames.{Known, Frame, set_known, labels, label, pop_type, pop_any, pops, forget}
 use Rattle.validate_body.specs.inner.Algorithm.{apply, drop_any, both, select_known, select, step_basic, step_jump, same_option, is_label, targets_fit}
-use Rattle.validate_body.proofs.Options.{none_is, same_type_is, IsNil, then_inv, then_some, map_inv, map_some, if_inv, if_some}
+use Rattle.validate_body.proofs.Options.{none_is, same_type_is, IsNil, then_some, map_inv, map_some, if_inv, if_some}
 use Rattle.wasm_syntax.specs.FlatTyping.{OpenBlock, opened, given, inside}
 use Rattle.validate_body.proofs.Fits.{Fits, FitAll, same_self, type_sound, type_complete, pops_sound, pops_complete, apply_sound, apply_complete, forget_sound, forget_complete, retype, labels_fit}
+use Rattle.std.proofs.lemmas.Bool.{and_parts, and_from}
+use Rattle.wasm_laws.proofs.Lists.{some_is}
+use Rattle.wasm_laws.proofs.Validity.{then_found}
 
 -- ---- an arrow, and what lies on top before a transfer
 
@@ -113,9 +115,9 @@ both_complete (Some u) (Some v) t o p = (Some u, rw (o, p, same_self t) refl, o)
 
 select_sound : (free : Bool) (ks ls : Known) (ts : List ValType) → select_known free ks ≡ Some ls → Fits ls free ts → (t : ValType) × (below : List ValType) × (ts ≡ t ∷ below) × Fits ks free (I32 ∷ t ∷ t ∷ below)
 select_sound free ks ls ts e h =
-    let i = then_inv (pop_type free ks I32) _ ls e in
-    let j = then_inv (pop_any free i.0) _ ls i.2 in
-    let l = then_inv (pop_any free j.0.1) _ ls j.2 in
+    let i = then_found (pop_type free ks I32) _ ls e in
+    let j = then_found (pop_any free i.0) _ ls i.2 in
+    let l = then_found (pop_any free j.0.1) _ ls j.2 in
     let m = map_inv (λ k. k ∷ l.0.1) (both j.0.0 l.0.0) ls l.2 in
     by_types ts refl i.0 j.0 l.0 m.0 i.1 j.1 l.1 m.1 (subst (λ x. Fits x free ts) (sym m.2) h)
   where
@@ -146,7 +148,7 @@ OneArrow c i = (gs : List OpenBlock) (t : ValType) → arrow (inside c gs) t i �
 
 one_sound : (c : Context) (f : Frame) (fs fs' : List Frame) (i : Basic) (hs : List OpenBlock) → OneArrow c i → option_then (arrow c I32 i) (apply (f ∷ fs)) ≡ Some fs' → FitAll fs' hs → BasicSound c f fs i hs
 one_sound c f fs fs' i hs one e h =
-    let a = then_inv (arrow c I32 i) (apply (f ∷ fs)) fs' e in
+    let a = then_found (arrow c I32 i) (apply (f ∷ fs)) fs' e in
     let s = above_sound f fs fs' a.0 hs a.2 h in
     record {
       top = s.top;
@@ -290,13 +292,6 @@ same_lists None (Some u) e = absurd (cc)
 same_lists (Some t) None e = absurd (cc)
 same_lists (Some t) (Some u) e = let q : t ≡ u = cc in rw (q, same_self u) refl
 
-and_true : (a b : Bool) → (a && b) ≡ true → (a ≡ true) × (b ≡ true)
-and_true true b e = (refl, e)
-and_true false b e = absurd (cc)
-
-and_both : (a b : Bool) → a ≡ true → b ≡ true → (a && b) ≡ true
-and_both a b e f = rw (e, f) refl
-
 one_target : (c : Context) (fs : List Frame) (gs : List OpenBlock) (n : ℕ) (t : Option ValType) (l : Option (Option ValType)) → FitAll fs gs → label fs n ≡ l → is_label t l ≡ true → IsLabel (inside c gs) n (option_to_list t)
 one_target c fs gs n t None h q e = absurd (cc)
 one_target c fs gs n t (Some u) h q e = subst (λ x. IsLabel (inside c gs) n (option_to_list x)) (same_option_is u t e) (label_sound c fs gs n u h q)
@@ -304,14 +299,14 @@ one_target c fs gs n t (Some u) h q e = subst (λ x. IsLabel (inside c gs) n (op
 targets_sound : (c : Context) (fs : List Frame) (gs : List OpenBlock) (t : Option ValType) (ns : List ℕ) → FitAll fs gs → targets_fit fs t ns ≡ true → AreLabels (inside c gs) ns (option_to_list t)
 targets_sound c fs gs t [] h e = tt
 targets_sound c fs gs t (n ∷ ns) h e =
-    let a = and_true (is_label t (label fs n)) (targets_fit fs t ns) e in
+    let a = and_parts (is_label t (label fs n)) (targets_fit fs t ns) e in
     (one_target c fs gs n t (label fs n) h refl a.0, targets_sound c fs gs t ns h a.1)
 
 targets_complete : (c : Context) (fs : List Frame) (gs : List OpenBlock) (t : Option ValType) (ns : List ℕ) → FitAll fs gs → AreLabels (inside c gs) ns (option_to_list t) → targets_fit fs t ns ≡ true
 targets_complete c fs gs t [] h l = refl
 targets_complete c fs gs t (n ∷ ns) h l =
     let i = label_complete c fs gs n (option_to_list t) h l.0 in
-    and_both _ _ (subst (λ x. is_label t x ≡ true) (sym i.1) (same_lists i.0 t i.2)) (targets_complete c fs gs t ns h l.1)
+    and_from _ _ (subst (λ x. is_label t x ≡ true) (sym i.1) (same_lists i.0 t i.2)) (targets_complete c fs gs t ns h l.1)
 
 -- ---- jumps
 
@@ -331,15 +326,15 @@ jump_sound c f fs fs' Unreachable hs e h =
     let s = top_sound f fs fs' [] hs e h in
     record { top = s.top; outer = s.outer; after = s.after; types = tt; fits = s.fits; then = s.then }
 jump_sound c f fs fs' (Br n) hs e h =
-    let l = then_inv (label (f ∷ fs) n) _ fs' e in
+    let l = then_found (label (f ∷ fs) n) _ fs' e in
     let s = top_sound f fs fs' (option_to_list l.0) hs l.2 h in
     record { top = s.top; outer = s.outer; after = s.after; types = (option_to_list l.0, label_sound c (f ∷ fs) (s.top ∷ s.outer) n l.0 s.fits l.1, s.types); fits = s.fits; then = s.then }
 jump_sound c f fs fs' (BrIf n) hs e h =
-    let l = then_inv (label (f ∷ fs) n) _ fs' e in
+    let l = then_found (label (f ∷ fs) n) _ fs' e in
     let s = above_sound f fs fs' (I32 ∷ option_to_list l.0 ⇒ option_to_list l.0) hs l.2 h in
     record { top = s.top; outer = s.outer; after = s.after; types = (option_to_list l.0, label_sound c (f ∷ fs) (s.top ∷ s.outer) n l.0 s.fits l.1, s.types); fits = s.fits; then = s.then }
 jump_sound c f fs fs' (BrTable targets default) hs e h =
-    let l = then_inv (label (f ∷ fs) default) _ fs' e in
+    let l = then_found (label (f ∷ fs) default) _ fs' e in
     let i = if_inv (targets_fit (f ∷ fs) l.0 targets) _ fs' l.2 in
     let s = top_sound f fs fs' (I32 ∷ option_to_list l.0) hs i.1 h in
     record { top = s.top; outer = s.outer; after = s.after; types = (option_to_list l.0, label_sound c (f ∷ fs) (s.top ∷ s.outer) default l.0 s.fits l.1, targets_sound c (f ∷ fs) (s.top ∷ s.outer) l.0 targets s.fits i.0, s.types); fits = s.fits; then = s.then }
@@ -347,12 +342,12 @@ jump_sound c f fs fs' Return hs e h =
     let s = top_sound f fs fs' c.returns hs e h in
     record { top = s.top; outer = s.outer; after = s.after; types = s.types; fits = s.fits; then = s.then }
 jump_sound c f fs fs' (Call g) hs e h =
-    let l = then_inv (type_at c.module_ g) _ fs' e in
+    let l = then_found (type_at c.module_ g) _ fs' e in
     let s = above_sound f fs fs' (call_arrow l.0) hs l.2 h in
     record { top = s.top; outer = s.outer; after = s.after; types = (l.0, l.1, s.types); fits = s.fits; then = s.then }
 jump_sound c f fs fs' (CallIndirect t) hs e h =
     let a = any_sound_inv {A = Limits} c.module_.tables _ fs' e in
-    let l = then_inv (slice_get c.module_.types t) _ fs' a.1 in
+    let l = then_found (slice_get c.module_.types t) _ fs' a.1 in
     let s = above_sound f fs fs' (I32 ∷ reverse l.0.params ⇒ reverse l.0.results) hs l.2 h in
     record { top = s.top; outer = s.outer; after = s.after; types = (l.0, a.0, l.1, s.types); fits = s.fits; then = s.then }
 

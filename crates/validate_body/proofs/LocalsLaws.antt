@@ -18,7 +18,7 @@ ends_least n [] i h = absurd (omega (arith, h))
 ends_least n (g ∷ gs) zero h = omega arith
 ends_least n (g ∷ gs) (suc i) h = omega (arith, ends_least (n + g.count) gs i (omega (arith, h)))
 
-replicate_length : {A : Type 0} (n : ℕ) (x : A) → length (replicate n x) ≡ n
+pub replicate_length : {A : Type 0} (n : ℕ) (x : A) → length (replicate n x) ≡ n
 replicate_length zero x = refl
 replicate_length (suc n) x = ap suc (replicate_length n x)
 

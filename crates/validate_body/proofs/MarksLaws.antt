@@ -1,7 +1,7 @@
 -- The marks that the algorithm leaves are those of the typing.
 use Rattle.std.proofs.Common.{◌≡◌, ℕ, zero, suc, ◌+◌, ◌<◌, ◌≤◌, List, [], ◌∷◌, ◌++◌, map, length, take, reverse, slice_get, refl, sym, ap, subst, ◌∙◌, arith, length-append, inl, inr, ⊎_elim}
 use Rattle.std.proofs.lemmas.Option.{slice_get_within}
-use Rattle.wasm_laws.proofs.Lists.{get_front, get_behind}
+use Rattle.wasm_laws.proofs.Lists.{get_front, get_behind, some_is}
 use Rattle.std.proofs.lemmas.List.{length-reverse, reverse-reverse, reverse-append, map-append}
 use Rattle.std.specs.Prelude.{Bool, true, false, ◌||◌, ◌⊎◌, Option, Some, None, option_to_list}
 use Rattle.wasm_syntax.specs.declared.value.ValType.{ValType}
@@ -11,7 +11,6 @@ use Rattle.wasm_syntax.specs.declared.module.ModuleParts.{ModuleParts as Module}
 use Rattle.wasm_syntax.specs.Tree.{Placed, placed, code_of, item_of}
 use Rattle.wasm_syntax.specs.Typing.{body_context}
 use Rattle.wasm_syntax.specs.FlatTyping.{OpenBlock, FlatTypes, body_block, dead_behind, AllLive, all_types, TypesBefore}
-use Rattle.wasm_laws.proofs.Progress.{some_is}
 use Rattle.wasm_laws.proofs.FlatBodies.{Gives}
 use Rattle.validate_stack.specs.Frames.{Known, Frame, operands, any_free, height_of, topmost}
 use Rattle.validate_body.specs.declared.marks.Mark.{Mark}
@@ -20,6 +19,8 @@ use Rattle.validate_body.specs.Marks.{flags, AllSome, Sure, mark_of, last_type, 
 use Rattle.validate_body.proofs.Fits.{Fits, FitAll, fill_all}
 use Rattle.validate_body.proofs.Same.{run_sound, run_complete, only_begin}
 use Rattle.validate_body.proofs.Flags as next
+use Rattle.std.proofs.lemmas.Bool.{or_parts}
+use Rattle.wasm_laws.proofs.FlatOne.{one_result_of}
 
 -- ---- live frames know all their types
 
@@ -43,15 +44,11 @@ live_not_free : (fs : List Frame) → AllLive (flags fs) → any_free fs ≡ fal
 live_not_free [] a = refl
 live_not_free (f ∷ fs) a = rw (a.0, live_not_free fs a.1) refl
 
-or_false : (a b : Bool) → (a || b) ≡ false → (a ≡ false) × (b ≡ false)
-or_false true b e = absurd (cc)
-or_false false b e = (refl, e)
-
 not_free_live : (fs : List Frame) → any_free fs ≡ false → AllLive (flags fs)
 not_free_live [] e = tt
-not_free_live (f ∷ fs) e = let o = or_false f.free (any_free fs) e in (o.0, not_free_live fs o.1)
+not_free_live (f ∷ fs) e = let o = or_parts f.free (any_free fs) e in (o.0, not_free_live fs o.1)
 
-map_len : (ts : List ValType) → length (map (λ t. Some t) ts) ≡ length ts
+pub map_len : (ts : List ValType) → length (map (λ t. Some t) ts) ≡ length ts
 map_len [] = refl
 map_len (t ∷ ts) = ap suc (map_len ts)
 
@@ -68,12 +65,6 @@ top_last [] = refl
 top_last (t ∷ ts) = sym (ap last_type (reverse_cons t ts) ∙ last_more (reverse ts) t)
 
 -- ---- from frames to operand types, and back
-
-one_list : (a b : Option ValType) → option_to_list a ≡ option_to_list b → a ≡ b
-one_list None None e = refl
-one_list None (Some t) e = absurd (cc)
-one_list (Some t) None e = absurd (cc)
-one_list (Some t) (Some u) e = let q : t ≡ u = cc in ap (λ x. Some x) q
 
 record There (m : Module) (type : FuncType) (body : Body) (r : Option ValType) (ps : List Placed) (types : List ValType) : Type 0 where
   blocks : List OpenBlock
@@ -118,7 +109,7 @@ code_take body n = map_take (λ o. placed o.at (item_of body.targets o.code)) n 
 
 before_there : (m : Module) (type : FuncType) (body : Body) (r : Option ValType) (i : ℕ) (types : List ValType) → Gives type r → TypesBefore m type body i types → There m type body r (code_of body.targets (take i body.ops)) types
 before_there m type body r i types g h =
-    let q : h.result ≡ r = one_list h.result r (sym h.gives ∙ g) in
+    let q : h.result ≡ r = one_result_of h.result r (sym h.gives ∙ g) in
     record {
       blocks = h.blocks;
       leads = subst (λ x. FlatTypes (body_context m type body) (body_block x) (code_of body.targets (take i body.ops)) h.blocks) q (subst (λ x. FlatTypes (body_context m type body) (body_block h.result) x h.blocks) (code_take body i) h.leads);

@@ -6,7 +6,7 @@ use Rattle.wasm_syntax.specs.Typing.{only_if}
 use Rattle.wasm_syntax.specs.declared.value.ValType.{ValType}
 use Rattle.wasm_syntax.specs.declared.value.ValType.TheVariants.{I32, I64}
 use Rattle.wasm_syntax.specs.Numbers.{same_type}
-use Rattle.wasm_laws.proofs.Progress.{some_is}
+use Rattle.wasm_laws.proofs.Lists.{some_is}
 
 pub none_is : {A B : Type 0} {x : A} → None ≡ Some x → B
 none_is e = absurd (cc)
@@ -20,10 +20,6 @@ same_type_is I64 I64 e = refl
 abbrev pub IsNil : List ValType → Type 0
 IsNil [] = Unit {0}
 IsNil (t ∷ ts) = ⊥
-
-pub then_inv : {A B : Type 0} (o : Option A) (k : A → Option B) (y : B) → option_then o k ≡ Some y → (x : A) × (o ≡ Some x) × (k x ≡ Some y)
-then_inv None k y e = absurd (none_is e)
-then_inv (Some x) k y e = (x, refl, e)
 
 pub then_some : {A B : Type 0} (o : Option A) (k : A → Option B) (x : A) (y : B) → o ≡ Some x → k x ≡ Some y → option_then o k ≡ Some y
 then_some o k x y e f = subst (λ z. option_then z k ≡ Some y) (sym e) f

@@ -11,18 +11,19 @@ use Rattle.wasm_syntax.specs.Module.{option_then}
 use Rattle.wasm_syntax.specs.Tree.{Item, Plain, Goes, Opens, OpensLoop, OpensIf, Else, End, Placed, placed, code_of, Tree, WritesOut, Nodes, stop, basic, jump, block, loop, choose, write, IsTree}
 use Rattle.wasm_syntax.specs.Typing.{Context, body_context, IsBody, BeginsBody, open_behind}
 use Rattle.wasm_syntax.specs.Valid.{FirstWrong}
-use Rattle.wasm_laws.proofs.Progress.{some_is}
 use Rattle.wasm_syntax.specs.declared.blocks.BlockKind.{BlockKind}
 use Rattle.wasm_syntax.specs.declared.blocks.BlockKind.TheVariants.{Loop, Then}
 use Rattle.wasm_syntax.specs.declared.blocks.BlockKind.TheVariants as kinds
 use Rattle.validate_stack.specs.Frames.{Known, Frame, opening, pop, pops, pushes, is_empty, emptied}
 use Rattle.validate_body.specs.inner.Algorithm.{closed, at_else, may_end, at_end, step_open, step, run, start}
-use Rattle.validate_body.proofs.Options.{none_is, then_inv, then_some, map_inv, map_some, if_inv, if_some}
+use Rattle.validate_body.proofs.Options.{none_is, then_some, map_inv, map_some, if_inv, if_some}
 use Rattle.wasm_syntax.specs.FlatTyping.{OpenBlock, opened, given, MayEnd, FlatStep, FlatTypes, body_block}
 use Rattle.wasm_laws.proofs.FlatSteps.{opens, opens_steps}
 use Rattle.wasm_laws.proofs.FlatBodies.{Gives, body_steps, steps_body, begins_steps, steps_begins}
 use Rattle.validate_body.proofs.Fits.{Fits, FitAll, no_below, pop_sound, pop_complete, pops_sound, pops_complete, pushes_sound, pushes_complete, fill_all}
 use Rattle.validate_body.proofs.Jumps.{basic_sound, basic_complete, jump_sound, jump_complete, Arrives}
+use Rattle.wasm_laws.proofs.Lists.{some_is}
+use Rattle.wasm_laws.proofs.Validity.{then_found}
 
 -- ---- a frame's end
 
@@ -43,7 +44,7 @@ emptied_inv (f ∷ fs) p e =
 
 closed_sound : (f : Frame) (fs : List Frame) (p : Frame × List Frame) (hs : List OpenBlock) → closed (f ∷ fs) ≡ Some p → FitAll p.1 hs → FitAll (f ∷ fs) (opened p.0.kind p.0.result (option_to_list p.0.result) ∷ hs)
 closed_sound f fs p hs e h =
-    let i = then_inv (pops (f ∷ fs) (option_to_list f.result)) emptied p e in
+    let i = then_found (pops (f ∷ fs) (option_to_list f.result)) emptied p e in
     let m = emptied_inv i.0 p i.2 in
     let k : FitAll i.0 (opened p.0.kind p.0.result [] ∷ hs) = subst (λ x. FitAll x (opened p.0.kind p.0.result [] ∷ hs)) (sym m.0) ((refl, refl, empty_fits p.0.known p.0.free m.1), h) in
     let s = pops_sound (f ∷ fs) i.0 (option_to_list f.result) (opened p.0.kind p.0.result [] ∷ hs) i.1 k in
@@ -111,12 +112,12 @@ step_sound c (f ∷ fs) fs' (OpensIf t) hs e h =
     by_rest [] q k = absurd k
     by_rest (g ∷ gs) q k = (opened g.kind g.result (I32 ∷ g.types) ∷ gs, k, (g.types, refl, q))
 step_sound c (f ∷ fs) fs' Else hs e h =
-    let i = then_inv (closed (f ∷ fs)) (λ p. at_else p.0 p.1 p.0.kind) fs' e in
+    let i = then_found (closed (f ∷ fs)) (λ p. at_else p.0 p.1 p.0.kind) fs' e in
     let j = else_inv i.0.0 i.0.1 i.0.0.kind fs' i.2 in
     let s = opened_sound kinds.Plain i.0.0.result i.0.1 hs (subst (λ x. FitAll x hs) (sym j.1) h) in
     (opened i.0.0.kind i.0.0.result (option_to_list i.0.0.result) ∷ s.0, closed_sound f fs i.0 s.0 i.1 s.2, (j.0, refl, s.1))
 step_sound c (f ∷ fs) fs' End hs e h =
-    let i = then_inv (closed (f ∷ fs)) (λ p. at_end p.0 p.1) fs' e in
+    let i = then_found (closed (f ∷ fs)) (λ p. at_end p.0 p.1) fs' e in
     let j = if_inv (may_end i.0.0.kind i.0.0.result) (Some (pushes i.0.1 (option_to_list i.0.0.result))) fs' i.2 in
     let s = pushes_sound i.0.1 (option_to_list i.0.0.result) hs (subst (λ x. FitAll x hs) (sym (some_is j.1)) h) in
     (opened i.0.0.kind i.0.0.result (option_to_list i.0.0.result) ∷ s.0, closed_sound f fs i.0 s.0 i.1 s.2, (refl, end_inv i.0.0.kind i.0.0.result j.0, s.1))
@@ -156,7 +157,7 @@ step_complete c (f ∷ fs) i (g ∷ gs) hs h st = open_complete c f fs i g gs hs
 pub run_sound : (c : Context) (ps : List Placed) (fs fs' : List Frame) (hs : List OpenBlock) → run c fs ps ≡ Some fs' → FitAll fs' hs → (gs : List OpenBlock) × FitAll fs gs × FlatTypes c gs ps hs
 run_sound c [] fs fs' hs e h = (hs, subst (λ x. FitAll x hs) (sym (some_is e)) h, refl)
 run_sound c (p ∷ ps) fs fs' hs e h =
-    let i = then_inv (step c fs p.code) (λ gs. run c gs ps) fs' e in
+    let i = then_found (step c fs p.code) (λ gs. run c gs ps) fs' e in
     let r = run_sound c ps i.0 fs' hs i.2 h in
     let s = step_sound c fs i.0 p.code r.0 i.1 r.1 in
     (s.0, s.1, (r.0, s.2, r.2))
@@ -206,7 +207,7 @@ begins m type body result is g h =
 pub run_append : (c : Context) (ps qs : List Placed) (fs fs' : List Frame) → run c fs ps ≡ Some fs' → run c fs (ps ++ qs) ≡ run c fs' qs
 run_append c [] qs fs fs' e = ap (λ x. run c x qs) (some_is e)
 run_append c (p ∷ ps) qs fs fs' e =
-    let i = then_inv (step c fs p.code) (λ gs. run c gs ps) fs' e in
+    let i = then_found (step c fs p.code) (λ gs. run c gs ps) fs' e in
     subst (λ x. option_then x (λ gs. run c gs (ps ++ qs)) ≡ run c fs' qs) (sym i.1) (run_append c ps qs i.0 fs' i.2)
 
 pub wrong_there : (m : Module) (type : FuncType) (body : Body) (result : Option ValType) (before : List Placed) (p : Placed) (after : List Placed) (fs : List Frame) → Gives type result → code_of body.targets body.ops ≡ before ++ p ∷ after → run (body_context m type body) (start result) before ≡ Some fs → step (body_context m type body) fs p.code ≡ None → FirstWrong m type body p.at
@@ -219,7 +220,7 @@ wrong_there m type body result before p after fs g split e w = record {
   wrong = λ h.
       let b = begins m type body result (before ++ p ∷ []) g h in
       let q : run (body_context m type body) fs (p ∷ []) ≡ Some b.0 = sym (run_append (body_context m type body) before (p ∷ []) (start result) fs e) ∙ b.1 in
-      let i = then_inv (step (body_context m type body) fs p.code) (λ gs. run (body_context m type body) gs []) b.0 q in
+      let i = then_found (step (body_context m type body) fs p.code) (λ gs. run (body_context m type body) gs []) b.0 q in
       none_is (sym w ∙ i.1);
 }
 

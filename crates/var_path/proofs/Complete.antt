@@ -2,7 +2,7 @@
 use Rattle.std.proofs.Common.{◌≡◌, ℕ, Bool, true, false, List, [], ◌∷◌, ◌++◌, Option, Some, None, refl, sym, ap, ◌∙◌, append_assoc}
 use Rattle.std.specs.Prelude.{reverse, ◌==◌, option_map, if◌then◌else◌}
 use Rattle.std.specs.List.{list_all}
-use Rattle.std.proofs.lemmas.Bool.{eqb-true}
+use Rattle.std.proofs.lemmas.Bool.{eqb-true, and_parts}
 use Rattle.std.proofs.lemmas.List.{append-nil}
 use Rattle.var_path.specs.declared.path.Step.{Step}
 use Rattle.var_path.specs.declared.path.Step.TheVariants.{Member, Arrow, Index, Deref}
@@ -10,7 +10,7 @@ use Rattle.var_path.specs.declared.path.Path.{Path}
 use Rattle.var_path.specs.Words.{is_letter, is_name_byte, is_front, is_bracketed, is_name, index_value, in_front, behind}
 use Rattle.var_path.specs.Language.{PathTree, starred, named, grouped, with_member, with_arrow, with_index, CanBeFollowed, IsPathTree, spelling, path, extended, then_step, meaning}
 use Rattle.var_path.specs.Reading.{step_read, begins_name, named_step, one_step, derefs, behind_stars, if_none_open, if_one_open, step_and, steps_behind, path_behind, read_path}
-use Rattle.var_path.proofs.Spans.{Stops, both, front_of, behind_of, reversed_onto}
+use Rattle.var_path.proofs.Spans.{Stops, front_of, behind_of, reversed_onto}
 use Rattle.var_path.proofs.StepLaws.{name_byte, read_end, read_one}
 use Rattle.var_path.proofs.Digits.{some_index}
 
@@ -97,12 +97,12 @@ group_closed unclosed rest = read_one (40 ∷ unclosed) 41 rest ∙ none_more (s
 
 begins : (name rest : List ℕ) → is_name name ≡ true → begins_name (name ++ rest) ≡ true
 begins [] rest e = absurd cc
-begins (b ∷ bs) rest e = (both (is_letter b) (list_all is_name_byte bs) e).0
+begins (b ∷ bs) rest e = (and_parts (is_letter b) (list_all is_name_byte bs) e).0
 
 all_bytes : (name : List ℕ) → is_name name ≡ true → list_all is_name_byte name ≡ true
 all_bytes [] e = absurd cc
 all_bytes (b ∷ bs) e =
-    let parted = both (is_letter b) (list_all is_name_byte bs) e in
+    let parted = and_parts (is_letter b) (list_all is_name_byte bs) e in
     rw (name_byte b parted.0) parted.1
 
 no_front : (b : ℕ) → is_letter b ≡ true → is_front b ≡ false
@@ -119,7 +119,7 @@ named_read name unclosed rest is h =
 
 name_from : (name unclosed rest : List ℕ) → is_name name ≡ true → path_from unclosed (name ++ rest) ≡ path_behind unclosed (name ++ rest)
 name_from [] unclosed rest e = absurd cc
-name_from (b ∷ bs) unclosed rest e = rw (no_front b (both (is_letter b) (list_all is_name_byte bs) e).0) refl
+name_from (b ∷ bs) unclosed rest e = rw (no_front b (and_parts (is_letter b) (list_all is_name_byte bs) e).0) refl
 
 -- ---- steps
 

@@ -4,19 +4,18 @@ use Rattle.std.specs.Prelude.{◌==◌, ◌&&◌, ◌^◌, nat_lt, nat_le, slice
 use Rattle.std.specs.Char.{is_ascii_digit}
 use Rattle.std.specs.List.{list_all}
 use Rattle.std.specs.Str.{all_ascii_digits, IsUtf8}
-use Rattle.std.proofs.lemmas.Bool.{eqb-true, leb-true}
+use Rattle.std.proofs.lemmas.Bool.{eqb-true, leb-true, and_parts}
 use Rattle.std.proofs.lemmas.Str.{IsUtf8-from_ascii}
 use Rattle.pm_text.specs.Numbers.{digits_sum, decimal_value}
 use Rattle.var_path.specs.Words.{is_bracketed, within_greatest, index_value}
-use Rattle.var_path.proofs.Spans.{both}
 
 digit_below : (c : ℕ) → is_ascii_digit c ≡ true → c < 58
-digit_below c e = let parted = both (nat_le 48 c) (nat_le c 57) e in let most : c ≤ 57 = leb-true c 57 parted.1 in omega arith
+digit_below c e = let parted = and_parts (nat_le 48 c) (nat_le c 57) e in let most : c ≤ 57 = leb-true c 57 parted.1 in omega arith
 
 all_ascii : (ds : List ℕ) → all_ascii_digits ds ≡ true → (i : ℕ) → slice_index ds i < 128
 all_ascii [] e i = lit< tt
-all_ascii (d ∷ ds) e zero = let most : d < 58 = digit_below d (both (is_ascii_digit d) (all_ascii_digits ds) e).0 in omega arith
-all_ascii (d ∷ ds) e (suc i) = all_ascii ds (both (is_ascii_digit d) (all_ascii_digits ds) e).1 i
+all_ascii (d ∷ ds) e zero = let most : d < 58 = digit_below d (and_parts (is_ascii_digit d) (all_ascii_digits ds) e).0 in omega arith
+all_ascii (d ∷ ds) e (suc i) = all_ascii ds (and_parts (is_ascii_digit d) (all_ascii_digits ds) e).1 i
 
 one_bracketed : (d : ℕ) → d < 58 → is_bracketed d ≡ true
 one_bracketed d lt = by_test d lt (d == 93) refl
@@ -28,7 +27,7 @@ one_bracketed d lt = by_test d lt (d == 93) refl
 all_bracketed : (ds : List ℕ) → all_ascii_digits ds ≡ true → list_all is_bracketed ds ≡ true
 all_bracketed [] e = refl
 all_bracketed (d ∷ ds) e =
-    let parted = both (is_ascii_digit d) (all_ascii_digits ds) e in
+    let parted = and_parts (is_ascii_digit d) (all_ascii_digits ds) e in
     rw (one_bracketed d (digit_below d parted.0)) (all_bracketed ds parted.1)
 
 digits_by : (a b c d : Bool) (n : ℕ) (m : ℕ) → option_and_then within_greatest (if a && b && c && d then Some n else None) ≡ Some m → a ≡ true

@@ -2,7 +2,7 @@
 use Rattle.std.proofs.Common.{◌≡◌, ℕ, zero, suc, ◌≤◌, Bool, true, false, List, [], ◌∷◌, ◌++◌, length, Option, Some, None, refl, sym, ap, ◌∙◌, subst, append_assoc, arith}
 use Rattle.std.specs.Prelude.{◌↔◌, map, reverse, ◌==◌, ◌&&◌, ◌||◌, option_map, if◌then◌else◌}
 use Rattle.std.specs.List.{list_all}
-use Rattle.std.proofs.lemmas.Bool.{eqb-true}
+use Rattle.std.proofs.lemmas.Bool.{eqb-true, and_parts}
 use Rattle.std.proofs.lemmas.List.Folds.{list_all-append}
 use Rattle.std.proofs.lemmas.List.{append-nil, reverse-append, reverse-reverse}
 use Rattle.var_path.specs.declared.path.Step.{Step}
@@ -12,7 +12,7 @@ use Rattle.var_path.specs.declared.path.Path.{Path}
 use Rattle.var_path.specs.Words.{is_name_byte, is_star, is_front, in_front, behind}
 use Rattle.var_path.specs.Language.{PathTree, starred, named, grouped, with_member, with_arrow, with_index, CanBeFollowed, IsPathTree, spelling, path, extended, then_step, meaning, SpellsPath}
 use Rattle.var_path.specs.Reading.{begins_name, one_step, derefs, behind_stars, if_none_open, if_one_open, step_and, steps_behind, read_path}
-use Rattle.var_path.proofs.Spans.{Stops, both, parts, passes, stops, reversed_onto, all_reversed}
+use Rattle.var_path.proofs.Spans.{Stops, parts, passes, stops, reversed_onto, all_reversed}
 use Rattle.var_path.proofs.StepLaws.{IsStep, name_in_front, some_is, step_spelled, shorter, read_end, read_one}
 use Rattle.var_path.proofs.Complete.{spelled_read}
 
@@ -40,7 +40,7 @@ under_tree (b ∷ bs) t h = under_tree bs (starred t) h
 under_spelled : (bs : List ℕ) (t : PathTree) → list_all is_star bs ≡ true → spelling (under bs t) ≡ reverse bs ++ spelling t
 under_spelled [] t all = refl
 under_spelled (b ∷ bs) t all =
-    let parted = both (is_star b) (list_all is_star bs) all in
+    let parted = and_parts (is_star b) (list_all is_star bs) all in
     under_spelled bs (starred t) parted.1
     ∙ ap (λ (x : ℕ). reverse bs ++ (x ∷ spelling t)) (sym (eqb-true b 42 parted.0))
     ∙ sym (reversed_onto b bs (spelling t))
@@ -97,7 +97,7 @@ closed unclosed t h text steps further (b ∷ outer) is stop all each e = by_mor
     by_more : (o : Option (List Step)) → further outer ≡ o → option_map (λ ss. derefs unclosed ++ ss) o ≡ Some steps → Found unclosed t (41 ∷ text) steps
     by_more None got e = absurd cc
     by_more (Some more) got e =
-        let fronts = both (is_front b) (list_all is_front outer) ((both (list_all is_front front) (list_all is_front (b ∷ outer)) parted).1) in
+        let fronts = and_parts (is_front b) (list_all is_front outer) ((and_parts (list_all is_front front) (list_all is_front (b ∷ outer)) parted).1) in
         let with_one : unclosed ≡ front ++ (40 ∷ outer) = whole ∙ ap (λ (x : ℕ). front ++ (x ∷ outer)) (opening b stop fronts.0) in
         let found = each outer fronts.1 (grouped (under front t)) (under_tree front t h) tt more got in (
           found.0,

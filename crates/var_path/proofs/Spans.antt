@@ -5,6 +5,7 @@ use Rattle.std.specs.List.{list_all}
 use Rattle.std.proofs.lemmas.List.{reverse-append}
 use Rattle.std.proofs.lemmas.List.Folds.{list_all-append}
 use Rattle.var_path.specs.Words.{in_front, behind}
+use Rattle.std.proofs.lemmas.Bool.{and_parts}
 
 -- What stands here does not begin with what passes.
 abbrev pub Stops : (ℕ → Bool) → List ℕ → Type 0
@@ -37,11 +38,6 @@ stops p (b ∷ bs) = stops_by p b bs (p b) refl (stops p bs)
 
 -- ---- a word and what stops it
 
-pub both : (a b : Bool) → (a && b) ≡ true → (a ≡ true) × (b ≡ true)
-both true true e = (refl, refl)
-both true false e = absurd cc
-both false b e = absurd cc
-
 front_none : (p : ℕ → Bool) (rest : List ℕ) → Stops p rest → in_front p rest ≡ []
 front_none p [] h = refl
 front_none p (b ∷ bs) h = ap (λ (t : Bool). if t then b ∷ in_front p bs else []) h
@@ -53,13 +49,13 @@ behind_none p (b ∷ bs) h = ap (λ (t : Bool). if t then behind p bs else b ∷
 pub front_of : (p : ℕ → Bool) (word rest : List ℕ) → list_all p word ≡ true → Stops p rest → in_front p (word ++ rest) ≡ word
 front_of p [] rest all h = front_none p rest h
 front_of p (b ∷ bs) rest all h =
-    let parted = both (p b) (list_all p bs) all in
+    let parted = and_parts (p b) (list_all p bs) all in
     ap (λ (t : Bool). if t then b ∷ in_front p (bs ++ rest) else []) parted.0 ∙ ap (λ (xs : List ℕ). b ∷ xs) (front_of p bs rest parted.1 h)
 
 pub behind_of : (p : ℕ → Bool) (word rest : List ℕ) → list_all p word ≡ true → Stops p rest → behind p (word ++ rest) ≡ rest
 behind_of p [] rest all h = behind_none p rest h
 behind_of p (b ∷ bs) rest all h =
-    let parted = both (p b) (list_all p bs) all in
+    let parted = and_parts (p b) (list_all p bs) all in
     ap (λ (t : Bool). if t then behind p (bs ++ rest) else b ∷ (bs ++ rest)) parted.0 ∙ behind_of p bs rest parted.1 h
 
 -- ---- reversed

@@ -15,7 +15,7 @@ use Rattle.dwarf_types.specs.declared.behind.Typed.{Typed}
 use Rattle.dwarf_types.specs.declared.behind.Typed.TheVariants as typeds
 use Rattle.dwarf_types.specs.Types.{class_at, type_of}
 use Rattle.dwarf_types.specs.Counts.{subrange_count, one_at_least, counts}
-use Rattle.dwarf_types.proofs.ArraySizes.{last_counts, last_passed}
+use Rattle.dwarf_types.proofs.ArraySizes.{last_counts, last_passed, map_drop, drop_none}
 use Rattle.dwarf_types.specs.Sizes.{times, array_size, own_size, rows_size, size_as, size_within, type_size}
 use Rattle.var_texts.specs.Values.{row_size}
 use Rattle.var_texts.specs.declared.levels.Level.{Level}
@@ -139,21 +139,12 @@ last_passes count test xs k e step lt is fails h = subst (λ (o : Option ℕ). I
 
 -- ---- the counts behind the first k of them
 
-filter_none : {A : Type 0} (k : ℕ) → drop {A = A} k [] ≡ []
-filter_none zero = refl
-filter_none (suc k) = refl
-
-map_dropped : {A B : Type 0} (f : A → B) (n : ℕ) (xs : List A) → map f (drop n xs) ≡ drop n (map f xs)
-map_dropped f zero xs = refl
-map_dropped f (suc n) [] = refl
-map_dropped f (suc n) (x ∷ xs) = map_dropped f n xs
-
 rows_counted : {E : Type 0} (count : E → Option ℕ) (all rest : List E) (k : ℕ) (size : Option ℕ) → rest ≡ drop k all → IsSome (array_size (drop k (one_at_least (map count all))) size)
     → map count rest ≡ drop k (one_at_least (map count all))
 unfolding array_size
 rows_counted count [] rest zero size are h = absurd (let no : false ≡ true = h in cc)
-rows_counted count [] rest (suc k) size are h = ap (map count) are ∙ sym (filter_none k)
-rows_counted count (x ∷ xs) rest k size are h = ap (map count) are ∙ map_dropped count k (x ∷ xs)
+rows_counted count [] rest (suc k) size are h = ap (map count) are ∙ sym (drop_none k)
+rows_counted count (x ∷ xs) rest k size are h = ap (map count) are ∙ map_drop count k (x ∷ xs)
 
 pub counts_behind : (s : Standing) (depth : ℕ) (inside rest : List Entry) (k : ℕ) (size : Option ℕ) → depth ≡ s.entry.depth → inside ≡ entries_inside s
     → filter (is_child depth tag_subrange) rest ≡ drop k (filter (is_child depth tag_subrange) inside) → IsSome (rows_size s k size)

@@ -20,6 +20,7 @@ use Rattle.var_texts.specs.Places.{Place}
 use Rattle.var_texts.specs.Values.{Text, in_place, suits, content_as, unless_lost, sized_text, value_as, value_text, braced}
 use Rattle.var_texts.specs.Told.{Tells}
 use Rattle.var_texts.specs.inner.Parts.{joined, separator}
+use Rattle.dwarf_bytes.proofs.Loops.{next}
 
 pub tells_as : (v w : Text) (mark : Option Mark) (old new : List ℕ) → v ≡ w → Tells w mark old new → Tells v mark old new
 tells_as v w mark old new is h = subst (λ (t : Text). Tells t mark old new) (sym is) h
@@ -145,13 +146,8 @@ pub joined_ends : (text new total : List ℕ) (first : Bool) → new ≡ text ++
 joined_ends text new total true is all = is ∙ all
 joined_ends text new total false is all = is ∙ all
 
-at_front : {E : Type 0} (xs : List E) (i : ℕ) (x : E) → i < length xs → x ≡ get_or xs i x → drop i xs ≡ x ∷ drop (i + 1) xs
-at_front xs i x lt is =
-    let next : suc i ≡ i + 1 = omega arith in
-    drop-cons xs i x lt ∙ ap (λ (y : _). y ∷ drop (suc i) xs) (sym is) ∙ ap (λ (n : ℕ). x ∷ drop n xs) next
-
 pub filter_takes : {E : Type 0} (test : E → Bool) (xs : List E) (i : ℕ) (x : E) → i < length xs → x ≡ get_or xs i x → test x ≡ true → filter test (drop i xs) ≡ x ∷ filter test (drop (i + 1) xs)
-filter_takes test xs i x lt is passes = ap (filter test) (at_front xs i x lt is) ∙ ap (λ (b : Bool). if b then x ∷ filter test (drop (i + 1) xs) else filter test (drop (i + 1) xs)) passes
+filter_takes test xs i x lt is passes = ap (filter test) (next xs i x lt is) ∙ ap (λ (b : Bool). if b then x ∷ filter test (drop (i + 1) xs) else filter test (drop (i + 1) xs)) passes
 
 pub filter_passes : {E : Type 0} (test : E → Bool) (xs : List E) (i : ℕ) (x : E) → i < length xs → x ≡ get_or xs i x → test x ≡ false → filter test (drop i xs) ≡ filter test (drop (i + 1) xs)
-filter_passes test xs i x lt is fails = ap (filter test) (at_front xs i x lt is) ∙ ap (λ (b : Bool). if b then x ∷ filter test (drop (i + 1) xs) else filter test (drop (i + 1) xs)) fails
+filter_passes test xs i x lt is fails = ap (filter test) (next xs i x lt is) ∙ ap (λ (b : Bool). if b then x ∷ filter test (drop (i + 1) xs) else filter test (drop (i + 1) xs)) fails

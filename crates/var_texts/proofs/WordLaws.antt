@@ -17,10 +17,6 @@ use Rattle.var_texts.specs.inner.Wide.{value, number}
 pub no_word : (m : Recorded) (s : Source) (z : ℤ) (n : ℕ) → n ≡ 0 → Ok 0 ≡ number_at m s z n
 no_word m s z n none = sym (no_bytes m s z n none)
 
-pub wide_word : (m : Recorded) (s : Source) (z : ℤ) (n : ℕ) (all : Result ℕ Mark) (first rest : Result ℕ Mark) → 0 < n → all ≡ joined first rest → first ≡ byte_at m s z
-    → rest ≡ number_at m s (z +ℤ pos 1) (n - 1) → all ≡ number_at m s z n
-wide_word m s z n all first rest some are here next = joined_bytes m s z n all first rest some are here next
-
 -- the first byte and the others, without the lowest s bits
 shifted_is : (s first rest : ℕ) → s ≤ 8 → (first + 256 * rest) / 2 ^ s ≡ first / 2 ^ s + rest * 2 ^ (8 - s)
 shifted_is s first rest le =

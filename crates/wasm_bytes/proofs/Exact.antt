@@ -5,7 +5,8 @@ use Rattle.wasm_bytes.specs.Place.{Place, Read}
 use Rattle.wasm_bytes.specs.Reading.{◌>>=◌, ◌⊗◌, ◌▷◌, mapped, checked, if_passes, as_one, at_front, done_item, here_item}
 use Rattle.wasm_bytes.specs.Spelling.{◌&◌, pair, leads, image, passing, only, here}
 use Rattle.wasm_bytes.specs.Laws.{IsBytes, place, got, Took, IsExact}
-use Rattle.wasm_bytes.proofs.Places.{chosen, bind_ok, took_as, took_is, took_nothing}
+use Rattle.wasm_bytes.proofs.Places.{bind_ok, took_as, took_is, took_nothing}
+use Rattle.wasm_leb.proofs.Tools.{chosen}
 
 -- ---- one after the other
 

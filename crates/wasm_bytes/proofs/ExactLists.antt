@@ -6,11 +6,12 @@ use Rattle.wasm_bytes.specs.Place.{Place, Read}
 use Rattle.wasm_bytes.specs.Reading.{◌>>=◌, u32_item, byte_item, picked, choose, items_from, vector_item, until_end, to_end_item, steps_from, steps_until_end, steps_to_end}
 use Rattle.wasm_bytes.specs.Spelling.{leads, byte, tagged, u32, items, vector, steps, some_steps}
 use Rattle.wasm_bytes.specs.Laws.{IsBytes, place, got, Took, IsExact, IsTail, TakesBytes, PicksExact}
-use Rattle.wasm_bytes.proofs.Places.{place_is, chosen, bind_ok, took_is, took_nothing}
+use Rattle.wasm_bytes.proofs.Places.{place_is, bind_ok, took_is, took_nothing}
 use Rattle.wasm_bytes.proofs.Exact.{then_took, first_took, same_exact, leads_exact}
 use Rattle.wasm_bytes.proofs.ExactItems.{u32_exact, byte_exact}
 use Rattle.wasm_bytes.proofs.ExactBlocks.{tail_is, end_behind, none_left}
 use Rattle.wasm_bytes.proofs.Loops.{first, end_on, end_done, end_step_on, end_steps_done}
+use Rattle.wasm_leb.proofs.Tools.{chosen}
 
 -- ---- so many items
 
@@ -61,7 +62,7 @@ more_left before after some = omega (arith, length-append before after)
 pub at_end : (before : List ℕ) → length (before ++ []) ≤ length before
 at_end before = omega (arith, length-append before [])
 
-nil_place : (before : List ℕ) → place before [] ≡ place (before ++ []) []
+pub nil_place : (before : List ℕ) → place before [] ≡ place (before ++ []) []
 nil_place before = place_is (before ++ []) ((before ++ []) ++ []) (length before) (length (before ++ [])) (sym (append-nil (before ++ []))) (ap length (sym (append-nil before)))
 
 ended : {A : Type 0} (S : A → ℕ → List ℕ → Type 0) (before after : List ℕ) (x y : A) (q : Place) → ltb (length before) (length (before ++ after)) ≡ false → got x (place before after) ≡ got y q → S x (length before) [] → S y (length before) after × (q ≡ place (before ++ after) [])

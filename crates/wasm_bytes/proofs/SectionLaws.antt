@@ -30,7 +30,7 @@ id_parts before (b ∷ bs) id is = let same : Some b ≡ Some id = sym (byte_her
 
 -- ---- the size and the contents
 
-range_of : (before front rest : List ℕ) (n : ℕ) → n ≡ length before + length front → slice_range (before ++ (front ++ rest)) (length before) n ≡ front
+pub range_of : (before front rest : List ℕ) (n : ℕ) → n ≡ length before + length front → slice_range (before ++ (front ++ rest)) (length before) n ≡ front
 range_of before front rest n e =
     let size : n - length before ≡ length front = omega (arith, e) in
     rw (size, drop-append_seam before (front ++ rest)) (take_at front rest (length front) refl)
@@ -183,7 +183,7 @@ stops before after o fits none = elim none [
 -- ---- at an offset of an input
 
 -- what holds between any bytes before and behind holds at each offset
-each_offset : (P : List ℕ → ℕ → Type 0) → ((before after : List ℕ) → P (before ++ after) (length before)) → (bytes : List ℕ) (at : ℕ) → at ≤ length bytes → P bytes at
+pub each_offset : (P : List ℕ → ℕ → Type 0) → ((before after : List ℕ) → P (before ++ after) (length before)) → (bytes : List ℕ) (at : ℕ) → at ≤ length bytes → P bytes at
 each_offset P h bytes at inside =
     let len : length (take at bytes) ≡ at = omega (arith, length-take at bytes) in
     subst (λ (n : ℕ). P bytes n) len (subst (λ (t : List ℕ). P t (length (take at bytes))) (take-append-drop at bytes) (h (take at bytes) (drop at bytes)))

@@ -9,9 +9,10 @@ use Rattle.wasm_bytes.specs.Reading.{◌>>=◌, ◌⊗◌, ◌▷◌, mapped, ch
 use Rattle.wasm_bytes.specs.Spelling.{always, byte, one_of, u32, s32, s64, run, name}
 use Rattle.wasm_bytes.specs.Stopping.{never, unread, either, behind, then_stops, refused, sized_run_stops, text_stops}
 use Rattle.wasm_bytes.specs.Laws.{IsBytes, place, got, failed, IsExact, StopsAt, FailsAtFront}
-use Rattle.wasm_bytes.proofs.Places.{chosen, IsBytes-rest, bind_err, reading}
+use Rattle.wasm_bytes.proofs.Places.{IsBytes-rest, bind_err, reading}
 use Rattle.wasm_bytes.proofs.Exact.{as_one_exact}
 use Rattle.wasm_bytes.proofs.ExactItems.{u32_exact, s32_exact, s64_exact, byte_exact, one_of_exact, fixed_exact, run_exact, name_exact, named_exact}
+use Rattle.wasm_leb.proofs.Tools.{chosen}
 
 -- ---- an item that fails where it begins
 

@@ -5,10 +5,11 @@ use Rattle.wasm_bytes.specs.Reading.{◌>>=◌, ◌⊗◌, mapped, u32_item, if_
 use Rattle.wasm_bytes.specs.Spelling.{always, byte}
 use Rattle.wasm_bytes.specs.Stopping.{never, unread, either, incomplete, left_over, closed_stops, no_block, sized_stops, section_stops}
 use Rattle.wasm_bytes.specs.Laws.{IsBytes, place, got, failed, IsExact, IsTail, StopsAt, FailsAtFront}
-use Rattle.wasm_bytes.proofs.Places.{chosen, IsBytes-rest, IsBytes-front, bind_err, reading}
+use Rattle.wasm_bytes.proofs.Places.{IsBytes-rest, IsBytes-front, bind_err, reading}
 use Rattle.wasm_bytes.proofs.ExactItems.{fixed_exact}
 use Rattle.wasm_bytes.proofs.ExactBlocks.{end_ok, end_here, none_left, block_sound, block_again}
 use Rattle.wasm_bytes.proofs.Stops.{u32_front, made_err, fixed_stops_at, leads_stops_at, then_stops_at, mapped_stops_at}
+use Rattle.wasm_leb.proofs.Tools.{chosen}
 
 -- ---- the end of a block
 

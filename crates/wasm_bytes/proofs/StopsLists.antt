@@ -6,11 +6,12 @@ use Rattle.wasm_bytes.specs.Reading.{◌>>=◌, u32_item, byte_item, picked, cho
 use Rattle.wasm_bytes.specs.Spelling.{byte, u32, items, steps}
 use Rattle.wasm_bytes.specs.Stopping.{unread, no_tag, tagged_stops, items_stops, vector_stops, to_end_stops, steps_stops, steps_to_end_stops}
 use Rattle.wasm_bytes.specs.Laws.{IsBytes, place, failed, IsExact, StopsAt, TakesBytes, PicksStops}
-use Rattle.wasm_bytes.proofs.Places.{chosen, IsBytes-rest}
+use Rattle.wasm_bytes.proofs.Places.{IsBytes-rest}
 use Rattle.wasm_bytes.proofs.ExactItems.{u32_exact, byte_exact}
 use Rattle.wasm_bytes.proofs.ExactLists.{more_left}
 use Rattle.wasm_bytes.proofs.Loops.{first}
 use Rattle.wasm_bytes.proofs.Stops.{byte_stops_at, u32_stops_at, leads_stops_at, first_fails}
+use Rattle.wasm_leb.proofs.Tools.{chosen}
 
 -- ---- choices
 

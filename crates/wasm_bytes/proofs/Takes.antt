@@ -4,10 +4,10 @@ use Rattle.wasm_leb.specs.Numbers.{IsUnsigned, IsSigned}
 use Rattle.wasm_bytes.specs.Spelling.{pair, leads, always, image, passing, byte, one_of, u32, s32, s64, sized_run, name, sized, section, tagged, vector}
 use Rattle.wasm_bytes.specs.Laws.{TakesBytes}
 
-front_takes : (front rest bytes : List ℕ) → bytes ≡ front ++ rest → 0 < length front → 0 < length bytes
+pub front_takes : (front rest bytes : List ℕ) → bytes ≡ front ++ rest → 0 < length front → 0 < length bytes
 front_takes front rest bytes e some = omega (arith, some, ap length e, length-append front rest)
 
-unsigned_takes : (bits n : ℕ) (front : List ℕ) → IsUnsigned bits front n → 0 < length front
+pub unsigned_takes : (bits n : ℕ) (front : List ℕ) → IsUnsigned bits front n → 0 < length front
 unsigned_takes bits n [] s = absurd s
 unsigned_takes bits n (b ∷ bs) s = omega arith
 

@@ -6,10 +6,11 @@ use Rattle.wasm_bytes.specs.Reading.{steps_while_due, steps_until_done}
 use Rattle.wasm_bytes.specs.Spelling.{steps, due, steps_to_done}
 use Rattle.wasm_bytes.specs.Stopping.{steps_until_done_stops}
 use Rattle.wasm_bytes.specs.Laws.{IsBytes, place, got, failed, Took, IsExact, StopsAt, TakesBytes}
-use Rattle.wasm_bytes.proofs.Places.{chosen, IsBytes-rest, took_is, took_nothing}
+use Rattle.wasm_bytes.proofs.Places.{IsBytes-rest, took_is, took_nothing}
 use Rattle.wasm_bytes.proofs.Exact.{first_took, then_took}
 use Rattle.wasm_bytes.proofs.Stops.{first_fails}
 use Rattle.wasm_bytes.proofs.StopsLists.{one_more, behind_both}
+use Rattle.wasm_leb.proofs.Tools.{chosen}
 
 -- ---- what is read
 

@@ -9,7 +9,6 @@ use Rattle.wasm_syntax.specs.Quantity.{greatest}
 use Rattle.wasm_syntax.specs.Sizes.{nesting}
 use Rattle.wasm_bytes.specs.Reading.{whole}
 use Rattle.wasm_bytes.specs.Laws.{IsBytes}
-use Rattle.wasm_bytes.proofs.Places.{chosen}
 use Rattle.wasm_format.specs.declared.module.SpelledModule.{SpelledModule}
 use Rattle.wasm_format.specs.Sections.{module_item}
 use Rattle.wasm_format.proofs.ExactSections.{module_found, module_read}
@@ -18,6 +17,7 @@ use Rattle.wasm_decode.specs.declared.fault.DecodeFault.{DecodeFault}
 use Rattle.wasm_decode.specs.declared.fault.DecodeFault.TheVariants.{Malformed, Float, ImportKind, Limit}
 use Rattle.wasm_decode.specs.Decode.{first_other, module_of, all_locals, first_over, ◌orelse◌, too_much, at_float, at_import, refusal, unless_refused, judged, judged_read, module_from, Answers}
 use Rattle.wasm_decode.specs.Meaning.{IsSpelled, IsModuleOf, BreaksAt, HasFloatAt, HasOtherImport, PassesLimit, Exactly}
+use Rattle.wasm_leb.proofs.Tools.{chosen}
 
 abbrev pub known : ModuleParts → Result ModuleParts DecodeFault
 known m = Ok m

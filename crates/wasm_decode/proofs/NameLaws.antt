@@ -33,7 +33,7 @@ appended index title (n ∷ names) h = by (nat_eq index n.0) h (appended index t
   by true h rest = absurd cc
   by false h rest = ap (λ (t : List Named). n ∷ t) (rest h)
 
-copied_none : {A : Type 0} (o : Option (Bor A)) (none : Bool) → is_some o ≡ not none → none ≡ true → option_copied o ≡ None
+pub copied_none : {A : Type 0} (o : Option (Bor A)) (none : Bool) → is_some o ≡ not none → none ≡ true → option_copied o ≡ None
 copied_none None none h t = refl
 copied_none (Some x) none h t = let both : true ≡ not true = h ∙ ap not t in absurd cc
 

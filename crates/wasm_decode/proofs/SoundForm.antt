@@ -45,7 +45,7 @@ vector_sound S P takes sound xs at size bytes fits s =
     record { few = omega (arith, all.0, len, fits); all = all.1 }
 
 -- the values of a list that was put together
-values_of : {A : Type 0} (front : Noted (List A)) (xs : List (Noted A)) → (fold with_noted front xs).value ≡ front.value ++ map (λ x. x.value) xs
+pub values_of : {A : Type 0} (front : Noted (List A)) (xs : List (Noted A)) → (fold with_noted front xs).value ≡ front.value ++ map (λ x. x.value) xs
 values_of front [] = sym (append-nil front.value)
 values_of front (x ∷ xs) = values_of (with_noted front x) xs ∙ append_assoc front.value (x.value ∷ []) (map (λ y. y.value) xs)
 

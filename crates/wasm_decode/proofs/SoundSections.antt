@@ -93,7 +93,7 @@ contents_sound s t id at size n bytes fits h c = elim c [
 
 -- ---- sections
 
-all_more : {A : Type 0} (P : A → Type 0) (xs : List A) (x : A) → AllByRecursion P xs → P x → AllByRecursion P (xs ++ x ∷ [])
+pub all_more : {A : Type 0} (P : A → Type 0) (xs : List A) (x : A) → AllByRecursion P xs → P x → AllByRecursion P (xs ++ x ∷ [])
 all_more P [] x all one = (one, tt)
 all_more P (y ∷ ys) x all one = (all.0, all_more P ys x all.1 one)
 

@@ -45,7 +45,7 @@ size = 134217728
 
 -- ---- imports
 
-imports_few : (xs : List Imported) → length (functions_of xs) ≤ length xs
+pub imports_few : (xs : List Imported) → length (functions_of xs) ≤ length xs
 imports_few [] = omega arith
 imports_few (imported.Function i ∷ xs) = omega (arith, imports_few xs)
 imports_few (imported.Table ∷ xs) = omega (arith, imports_few xs)
@@ -154,7 +154,7 @@ mapped_all f P [] h = tt
 mapped_all f P (x ∷ xs) h = (h.0, mapped_all f P xs h.1)
 
 -- the type of a function that has a body, by its place among them
-behind_imports : {A : Type 0} (xs ys : List A) (i : ℕ) → slice_get (xs ++ ys) (length xs + i) ≡ slice_get ys i
+pub behind_imports : {A : Type 0} (xs ys : List A) (i : ℕ) → slice_get (xs ++ ys) (length xs + i) ≡ slice_get ys i
 behind_imports [] ys i = let same : 0 + i ≡ i = omega arith in ap (slice_get ys) same
 behind_imports (x ∷ xs) ys i =
     let same : length (x ∷ xs) + i ≡ suc (length xs + i) = omega arith in
@@ -172,11 +172,11 @@ locals_within types (t ∷ functions) (b ∷ bodies) zero body same h e =
     subst (λ (x : Body). local_count (slice_get types t) x ≤ greatest Locals) is h.0
 locals_within types (t ∷ functions) (b ∷ bodies) (suc i) body same h e = locals_within types functions bodies i body (omega (arith, same)) h.1 e
 
-map_length : {A B : Type 0} (f : A → B) (xs : List A) → length (map f xs) ≡ length xs
+pub map_length : {A B : Type 0} (f : A → B) (xs : List A) → length (map f xs) ≡ length xs
 map_length f [] = refl
 map_length f (x ∷ xs) = ap suc (map_length f xs)
 
-type_behind : (m : ModuleParts) (i : ℕ) → type_at m (length m.imports + i) ≡ option_then (slice_get m.functions i) (λ t. slice_get m.types t)
+pub type_behind : (m : ModuleParts) (i : ℕ) → type_at m (length m.imports + i) ≡ option_then (slice_get m.functions i) (λ t. slice_get m.types t)
 type_behind m i =
     let ftypes = map (λ (x : Import). x.ftype) m.imports in
     let same : length m.imports + i ≡ length ftypes + i = omega (arith, map_length (λ (x : Import). x.ftype) m.imports) in

@@ -14,6 +14,7 @@ use Rattle.wasm_instructions.specs.Spelled.{Spelled}
 use Rattle.wasm_instructions.specs.Form.{Form, bare, indexed, access, typed, labels, indirect, reserved, constant_i32, constant_i64, bulk, float_bare, float_access, float_constant, br_table, block}
 use Rattle.wasm_instructions.specs.Table.{Rows, lookup, control, parametric, variable, load_rows, store_rows, sizes_and_constants, numeric_forms, rows_from, numeric, rows_near, form_of}
 use Rattle.wasm_instructions.specs.Grammar.{immediates, behind_opcode, instruction}
+use Rattle.std.proofs.lemmas.Bool.{and_parts}
 
 -- ---- what is claimed
 
@@ -132,14 +133,10 @@ one_plain (bare (instr.Basic i)) h = tt
 one_plain float_bare h = tt
 one_plain form h = absurd cc
 
-both : (a b : Bool) → (a && b) ≡ true → (a ≡ true) × (b ≡ true)
-both true b h = (refl, h)
-both false b h = absurd cc
-
 rows_plain : (forms : List Form) (first : ℕ) → all_numeric forms ≡ true → PlainRows (rows_from first forms)
 rows_plain [] first h = tt
 rows_plain (form ∷ forms) first h =
-    let t = both (is_numeric form) (all_numeric forms) h in
+    let t = and_parts (is_numeric form) (all_numeric forms) h in
     (one_plain form t.0, rows_plain forms (first + 1) t.1)
 
 near_plain : (opcode : ℕ) → PlainRows (rows_near opcode)

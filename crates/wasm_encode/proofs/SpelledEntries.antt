@@ -15,9 +15,10 @@ use Rattle.wasm_format.specs.Expressions.{code_body}
 use Rattle.wasm_format.specs.Grammar.{code_contents, code, global_entry, element_entry, segment_entry}
 use Rattle.wasm_encode.specs.Encoding.{vector_bytes, sized_bytes, type_byte, value_type_bytes, mutability_byte, expression_bytes, global_bytes, element_bytes, group_bytes, function_bytes, entry_bytes, segment_bytes}
 use Rattle.wasm_encode.specs.Fits.{Fits32, FitsBody, FitsExpression, FitsElement, FitsSegment}
-use Rattle.wasm_encode.proofs.Spellings.{u32_spelled, sized_spelled, run_spelled, vector_spelled}
+use Rattle.wasm_encode.proofs.Spellings.{sized_spelled, run_spelled, vector_spelled}
 use Rattle.wasm_encode.proofs.SpelledTypes.{valtype_spelled, mutability_spelled, locals_spelled}
 use Rattle.wasm_encode.proofs.SpelledCode.{entries_spelled, expression_spelled, same_body, no_note, SpelledAlike}
+use Rattle.wasm_instructions.proofs.Encoded.{number_spells}
 
 -- ---- globals and segments
 
@@ -53,8 +54,8 @@ element_spelled e at is fits short =
         (
           table,
           bytes ++ functions,
-          u32_spelled e.table at fits.table,
-          (bytes, functions, offset.2, vector_spelled u32 unsigned_bytes Fits32 u32_spelled e.functions (at + length table + length bytes) short.functions fits.functions, refl),
+          number_spells e.table at fits.table,
+          (bytes, functions, offset.2, vector_spelled u32 unsigned_bytes Fits32 number_spells e.functions (at + length table + length bytes) short.functions fits.functions, refl),
           refl,
         ),
       ),
@@ -76,7 +77,7 @@ segment_spelled s at is fits short =
         (
           memory,
           bytes ++ run,
-          u32_spelled s.memory at fits.memory,
+          number_spells s.memory at fits.memory,
           (bytes, run, offset.2, run_spelled s.bytes (at + length memory + length bytes) short.bytes, refl),
           refl,
         ),

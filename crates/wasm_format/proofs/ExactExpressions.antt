@@ -23,8 +23,9 @@ use Rattle.wasm_format.specs.Form.{locals_item}
 use Rattle.wasm_format.specs.Expressions.{with_first, may_stand, instr_of, no_code, with_instr, instr_step, is_closed, expression_from, constant_body, expression_item, function_body, code_from, code_item}
 use Rattle.wasm_format.specs.Sections.{due_vector_item, bodies_item}
 use Rattle.wasm_format.specs.Grammar.{instr_entry, expression_entries, expression, locals, code_contents, code, bodies}
-use Rattle.wasm_format.proofs.Tests.{offset_exact, first_exact, first_takes, second_takes}
+use Rattle.wasm_format.proofs.Tests.{first_exact, first_takes, second_takes}
 use Rattle.wasm_format.proofs.ExactForm.{locals_exact}
+use Rattle.wasm_instructions.proofs.Offsets.{offset_exact}
 
 -- ---- expressions
 

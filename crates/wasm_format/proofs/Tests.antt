@@ -56,12 +56,6 @@ picks_stops false P s t f pick e h = none_stops P s t pick h
 
 -- ---- an item that knows its offset
 
-pub offset_exact : {A : Type 0} (T : ℕ → A → ℕ → List ℕ → Type 0) (g : ℕ → Place → Read A) → ((at : ℕ) → IsExact (T at) (g at)) → IsExact (λ x at. T at x at) (here_item ▷ g)
-offset_exact T g h = record {
-  sound = λ before after x q fits read.
-      let t = (h (length before)).sound before after x q fits read in
-      record { front = t.front; rest = t.rest; is = t.is; parts = t.parts; behind = t.behind; bytes = t.bytes };
-  again = λ before front rest x s. (h (length before)).again before front rest x s;
 }
 
 pub offset_stops : {A : Type 0} (s : ℕ → ℕ → List ℕ → ℕ → Type 0) (g : ℕ → Place → Read A) → ((at : ℕ) → StopsAt (s at) (g at)) → StopsAt (λ at. s at at) (here_item ▷ g)

@@ -20,6 +20,7 @@ use Rattle.wasm_syntax.specs.Sizes.{local_count, deepest, nesting, WithinLimits}
 use Rattle.wasm_syntax.specs.SameCode.{op_code, body_code, code_alone}
 use Rattle.wasm_decode.specs.declared.fault.DecodeFault.{DecodeFault}
 use Rattle.wasm_decode.specs.Decode.{all_locals, first_over, ◌orelse◌, too_much}
+use Rattle.wasm_decode.proofs.Sounds.{type_behind}
 
 -- ---- the code alone
 
@@ -56,19 +57,6 @@ none_over what (n ∷ ns) h = rw (le-ltb (greatest what) n h.0) (none_over what 
 none_over_of : {A : Type 0} (what : Quantity) (f : A → ℕ) (xs : List A) → AllByRecursion (λ x. f x ≤ greatest what) xs → first_over what (map f xs) ≡ None
 none_over_of what f [] h = refl
 none_over_of what f (x ∷ xs) h = rw (le-ltb (greatest what) (f x) h.0) (none_over_of what f xs h.1)
-
--- the type of a function that has a body, by its place among them
-behind_imports : {A : Type 0} (xs ys : List A) (i : ℕ) → slice_get (xs ++ ys) (length xs + i) ≡ slice_get ys i
-behind_imports [] ys i = let same : 0 + i ≡ i = omega arith in ap (slice_get ys) same
-behind_imports (x ∷ xs) ys i =
-    let same : length (x ∷ xs) + i ≡ suc (length xs + i) = omega arith in
-    ap (slice_get (x ∷ (xs ++ ys))) same ∙ behind_imports xs ys i
-
-type_behind : (m : ModuleParts) (i : ℕ) → type_at m (length m.imports + i) ≡ option_then (slice_get m.functions i) (λ t. slice_get m.types t)
-type_behind m i =
-    let ftypes = map (λ (x : Import). x.ftype) m.imports in
-    let same : length m.imports + i ≡ length ftypes + i = omega (arith, length-map m.imports (λ (x : Import). x.ftype)) in
-    ap (λ (k : ℕ). type_at m k) same ∙ ap (λ (o : Option ℕ). option_then o (λ t. slice_get m.types t)) (behind_imports ftypes m.functions i)
 
 AtMost : List FuncType → List ℕ → ℕ → Body → Type 0
 AtMost types functions i body = local_count (option_then (slice_get functions i) (λ t. slice_get types t)) body ≤ greatest Locals

@@ -157,7 +157,7 @@ begins base at opcode form x rest row s = (opcode, (opcode ∷ [], rest, refl, s
 bare_spells : (base at opcode : ℕ) (i : Instr) → form_of opcode ≡ some (bare i) → instruction base (alone i) at (opcode ∷ [])
 bare_spells base at opcode i row = begins base at opcode (bare i) (alone i) [] row (refl, refl)
 
-number_spells : (n at : ℕ) → n < 2 ^ 32 → u32 n at (unsigned_bytes n)
+pub number_spells : (n at : ℕ) → n < 2 ^ 32 → u32 n at (unsigned_bytes n)
 number_spells n at small = unsigned_spells 32 n (lit≤ tt) small
 
 indexed_spells : (base at opcode : ℕ) (to : ℕ → Instr) (n : ℕ) → form_of opcode ≡ some (indexed to) → n < 2 ^ 32 → instruction base (alone (to n)) at (opcode ∷ unsigned_bytes n)

@@ -17,6 +17,7 @@ use Rattle.wasm_instructions.specs.Breaking.{instruction_stops}
 use Rattle.wasm_instructions.specs.Meaning.{IsInstrAt, BreaksAt, Exactly}
 use Rattle.wasm_instructions.proofs.Exact.{instruction_exact}
 use Rattle.wasm_instructions.proofs.Stops.{instruction_stops_at}
+use Rattle.wasm_bytes.proofs.SectionLaws.{range_of, each_offset}
 
 abbrev ok : ReadInstr → Result ReadInstr ℕ
 ok x = Ok x
@@ -25,16 +26,6 @@ abbrev err : ℕ → Result ReadInstr ℕ
 err o = Err o
 
 -- ---- blocks in two parts
-
-parted : (P : List ℕ → ℕ → Type 0) → ((before after : List ℕ) → P (before ++ after) (length before)) → (block : List ℕ) (at : ℕ) → at ≤ length block → P block at
-parted P h block at room =
-    let len : length (take at block) ≡ at = omega (arith, length-take at block, room) in
-    subst (λ (b : List ℕ). P b at) (take-append-drop at block) (subst (λ (n : ℕ). P (take at block ++ drop at block) n) len (h (take at block) (drop at block)))
-
-range_is : (before front rest : List ℕ) (n : ℕ) → n ≡ length before + length front → slice_range (before ++ (front ++ rest)) (length before) n ≡ front
-range_is before front rest n e =
-    let size : n - length before ≡ length front = omega (arith, e) in
-    rw (size, drop-append_seam before (front ++ rest)) (take_at front rest (length front) refl)
 
 -- ---- the instruction
 
@@ -45,7 +36,7 @@ from_ok (Err o) x e = absurd cc
 here : (before front rest : List ℕ) (s : Spelled) → instruction 0 s (length before) front → IsInstrAt (before ++ (front ++ rest)) (length before) (read_of (s, place (before ++ front) rest))
 here before front rest s is =
     let next = length-append before front in
-    let bytes = range_is before front rest (length (before ++ front)) next in
+    let bytes = range_of before front rest (length (before ++ front)) next in
     (s, omega (arith, next), omega (arith, next, length-append before (front ++ rest), length-append front rest), subst (λ (t : List ℕ). instruction 0 s (length before) t) (sym bytes) is, refl, refl)
 
 found : (before after : List ℕ) (x : ReadInstr) → IsBytes after → instr_at (before ++ after) (length before) ≡ ok x → IsInstrAt (before ++ after) (length before) x
@@ -119,9 +110,9 @@ exactly_err (Err (faults.At u)) answer o P given one other = record {
 exactly_err (Err faults.NoMemory) answer o P given one other = record { only = λ e. absurd cc; always = λ p. tt }
 
 pub found_exactly : (block : List ℕ) (at : ℕ) → at ≤ length block → IsBytes block → (result : Result ReadInstr ItemFault) → Answers result (instr_at block at) → (x : ReadInstr) → Exactly result (Ok x) (IsInstrAt block at x)
-found_exactly = parted (λ block at. IsBytes block → (result : Result ReadInstr ItemFault) → Answers result (instr_at block at) → (x : ReadInstr) → Exactly result (Ok x) (IsInstrAt block at x))
+found_exactly = each_offset (λ block at. IsBytes block → (result : Result ReadInstr ItemFault) → Answers result (instr_at block at) → (x : ReadInstr) → Exactly result (Ok x) (IsInstrAt block at x))
     (λ before after fits result given x. exactly_ok result (instr_at (before ++ after) (length before)) x (IsInstrAt (before ++ after) (length before) x) given (found before after x (IsBytes-rest before after fits)) (again before after x))
 
 pub broken_exactly : (block : List ℕ) (at : ℕ) → at ≤ length block → IsBytes block → (result : Result ReadInstr ItemFault) → Answers result (instr_at block at) → (o : ℕ) → Exactly result (Err (faults.At o)) (BreaksAt block at o)
-broken_exactly = parted (λ block at. IsBytes block → (result : Result ReadInstr ItemFault) → Answers result (instr_at block at) → (o : ℕ) → Exactly result (Err (faults.At o)) (BreaksAt block at o))
+broken_exactly = each_offset (λ block at. IsBytes block → (result : Result ReadInstr ItemFault) → Answers result (instr_at block at) → (o : ℕ) → Exactly result (Err (faults.At o)) (BreaksAt block at o))
     (λ before after fits result given o. exactly_err result (instr_at (before ++ after) (length before)) o (BreaksAt (before ++ after) (length before) o) given (breaks before after o (IsBytes-rest before after fits)) (broken before after o (IsBytes-rest before after fits)))

@@ -24,7 +24,6 @@ use Rattle.wasm_syntax.specs.declared.instruction.Jump.TheVariants as jumps
 use Rattle.wasm_syntax.specs.declared.instruction.Instr.{Instr}
 use Rattle.wasm_syntax.specs.declared.instruction.Instr.TheVariants as instr
 use Rattle.wasm_bytes.specs.Spelling.{pair, u32, items, vector}
-use Rattle.wasm_bytes.proofs.Places.{chosen}
 use Rattle.wasm_bytes.proofs.Takes.{u32_takes}
 use Rattle.wasm_instructions.specs.declared.code.Code.{Code}
 use Rattle.wasm_instructions.specs.declared.code.Code.TheVariants.{Known, Float}
@@ -33,6 +32,7 @@ use Rattle.wasm_instructions.specs.Form.{Form, bare, indexed, access, typed, lab
 use Rattle.wasm_instructions.specs.Table.{Rows, lookup, control, parametric, indexed_basic, variable, load, store, load_rows, store_rows, sizes_and_constants, comparisons, unaries, operations, basic, tests_of, operators_of, floats, numeric_forms, rows_from, numeric, rows_near, form_of}
 use Rattle.wasm_instructions.specs.Grammar.{immediates, behind_opcode, instruction}
 use Rattle.wasm_instructions.specs.Encoding.{two_numbers, basic_bytes, labels_bytes, encoding, targets_of, spelled_of}
+use Rattle.wasm_leb.proofs.Tools.{chosen}
 
 abbrev some : Form → Option Form
 some form = Some form
@@ -45,7 +45,7 @@ float_code at = Float at
 
 -- ---- numbers
 
-unsigned_small : (bits : ℕ) (bytes : List ℕ) (n : ℕ) → IsUnsigned bits bytes n → n < 2 ^ bits
+pub unsigned_small : (bits : ℕ) (bytes : List ℕ) (n : ℕ) → IsUnsigned bits bytes n → n < 2 ^ bits
 unsigned_small bits [] n s = absurd s
 unsigned_small bits (b ∷ []) n s = rw s.2 s.1
 unsigned_small bits (b ∷ c ∷ bs) n s =
@@ -56,7 +56,7 @@ unsigned_small bits (b ∷ c ∷ bs) n s =
 pub number_least : (n : ℕ) (bytes : List ℕ) → IsUnsigned 32 bytes n → length (unsigned_bytes n) ≤ length bytes
 number_least n bytes s = (unsigned_shortest 32 n (lit≤ tt) (unsigned_small 32 bytes n s)).least bytes s
 
-signed_within : (bits : ℕ) (bytes : List ℕ) (z : ℤ) → 0 < bits → IsSigned bits bytes z → IsWithin bits z
+pub signed_within : (bits : ℕ) (bytes : List ℕ) (z : ℤ) → 0 < bits → IsSigned bits bytes z → IsWithin bits z
 signed_within bits [] z some s = absurd s
 signed_within bits (b ∷ []) z some s = elim s [
   | inl p ↦ (omega (arith, ints, p.2), omega (arith, ints, p.1, p.2))
@@ -116,7 +116,7 @@ numbers_least [] here bytes s = omega arith
 numbers_least (x ∷ xs) here bytes s =
     omega (arith, length-append (unsigned_bytes x) (flat_map unsigned_bytes xs), number_least x s.0 s.2, numbers_least xs (here + length s.0) s.1 s.3, ap length s.4, length-append s.0 s.1)
 
-labels_length : (count default : ℕ) (xs : List ℕ) → length (labels_bytes count xs default) ≡ 1 + (length (unsigned_bytes count) + (length (flat_map unsigned_bytes xs) + length (unsigned_bytes default)))
+pub labels_length : (count default : ℕ) (xs : List ℕ) → length (labels_bytes count xs default) ≡ 1 + (length (unsigned_bytes count) + (length (flat_map unsigned_bytes xs) + length (unsigned_bytes default)))
 labels_length count default xs =
     omega (arith, length-append (unsigned_bytes count ++ flat_map unsigned_bytes xs) (unsigned_bytes default), length-append (unsigned_bytes count) (flat_map unsigned_bytes xs))
 

@@ -43,7 +43,7 @@ same_labels (d ∷ ds) (a ∷ more) (b ∷ bs) h = ap₂ (λ x y. x ∷ y) (ap�
 same_inside : (c : Context) (ds : List Bool) (more bs : List OpenBlock) → Agree ds more bs → inside c more ≡ inside c bs
 same_inside c ds more bs h = ap (λ l. record c { labels = l }) (same_labels ds more bs h)
 
-goes_live : (j : Jump) (d : Bool) → dead_behind_jump d j ≡ false → goes_on j × (d ≡ false)
+pub goes_live : (j : Jump) (d : Bool) → dead_behind_jump d j ≡ false → goes_on j × (d ≡ false)
 goes_live Unreachable d e = absurd (cc)
 goes_live (Br n) d e = absurd (cc)
 goes_live (BrIf n) d e = (tt, e)
@@ -98,7 +98,7 @@ same_types_all (d ∷ ds) [] bs l h = absurd h
 same_types_all (d ∷ ds) (a ∷ more) [] l h = absurd h
 same_types_all (d ∷ ds) (a ∷ more) (b ∷ bs) l h = ap₂ (λ x y. x ++ y) (h.2 l.0) (same_types_all ds more bs l.1 h.3)
 
-one_result_of : (r s : Option ValType) → option_to_list r ≡ option_to_list s → r ≡ s
+pub one_result_of : (r s : Option ValType) → option_to_list r ≡ option_to_list s → r ≡ s
 one_result_of None None e = refl
 one_result_of None (Some t) e = absurd (cc)
 one_result_of (Some t) None e = absurd (cc)
@@ -132,7 +132,7 @@ take_front : (xs ys : List Placed) → take (length xs) (xs ++ ys) ≡ xs
 take_front [] ys = refl
 take_front (x ∷ xs) ys = ap (λ z. x ∷ z) (take_front xs ys)
 
-get_front_end : (xs ys : List Placed) → slice_get (xs ++ ys) (length xs) ≡ slice_get ys zero
+pub get_front_end : (xs ys : List Placed) → slice_get (xs ++ ys) (length xs) ≡ slice_get ys zero
 get_front_end [] ys = refl
 get_front_end (x ∷ xs) ys = get_front_end xs ys
 

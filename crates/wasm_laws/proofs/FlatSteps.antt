@@ -60,7 +60,7 @@ closes_given : (c : Context) (ts : List ValType) (gs : List OpenBlock) → FlatT
 closes_given c ts [] = refl
 closes_given c ts (g ∷ gs) = closes_one c g.kind g.result (ts ++ g.types) gs (closes_given c (option_to_list g.result) gs)
 
-given_none : (gs : List OpenBlock) → given [] gs ≡ gs
+pub given_none : (gs : List OpenBlock) → given [] gs ≡ gs
 given_none [] = refl
 given_none (g ∷ gs) = refl
 

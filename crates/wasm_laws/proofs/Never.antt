@@ -77,7 +77,7 @@ module _ (M : Engine) (typed : Typed M.program) where
   Alive got_stuck = ⊥
   Alive o = Unit {0}
 
-same_list : (ts us : List ValType) → same_types ts us ≡ true → ts ≡ us
+pub same_list : (ts us : List ValType) → same_types ts us ≡ true → ts ≡ us
 same_list [] [] e = refl
 same_list [] (_ ∷ _) e = absurd (cc)
 same_list (_ ∷ _) [] e = absurd (cc)

@@ -21,11 +21,9 @@ use Rattle.wasm_syntax.specs.Effect.{Effect, gives, fails, unfit, effect, takes,
 use Rattle.wasm_syntax.specs.Effect as effects
 use Rattle.wasm_syntax.specs.Machine.{parts, one_more, cut, zeros}
 use Rattle.wasm_syntax.specs.Typing.{Context, Arrow, ◌⇒◌, arrow, set_global, only_if, if_any}
+use Rattle.wasm_laws.proofs.Lists.{some_is}
 
 -- ---- values and lists of types
-
-pub some_is : {A : Type 0} {a b : A} → Some a ≡ Some b → a ≡ b
-some_is {a} e = ap (λ o. unwrap_or o a) e
 
 abbrev pub IsNil : List ValType → Type 0
 IsNil [] = Unit {0}
@@ -39,7 +37,7 @@ abbrev pub head : List ValType → ValType
 head [] = I32
 head (t ∷ ts) = t
 
-value_type : (t : ValType) (n : ℕ) → type_of (value t n) ≡ t
+pub value_type : (t : ValType) (n : ℕ) → type_of (value t n) ≡ t
 value_type I32 n = refl
 value_type I64 n = refl
 
@@ -89,7 +87,7 @@ cuts (t ∷ ts) below (v ∷ vs) e =
     let r = cuts ts below vs (ap tail e) in
     record { taken = v ∷ r.taken; rest = r.rest; cut_is = ap (one_more v) r.cut_is; taken_types = ap₂ (λ a b. a ∷ b) (ap head e) r.taken_types; rest_types = r.rest_types }
 
-get_type : (ls : List Value) (x : ℕ) (t : ValType) → slice_get (types ls) x ≡ Some t → (v : Value) × (slice_get ls x ≡ Some v) × (type_of v ≡ t)
+pub get_type : (ls : List Value) (x : ℕ) (t : ValType) → slice_get (types ls) x ≡ Some t → (v : Value) × (slice_get ls x ≡ Some v) × (type_of v ≡ t)
 get_type [] x t e = absurd (cc)
 get_type (v ∷ ls) zero t e = (v, refl, some_is e)
 get_type (v ∷ ls) (suc x) t e = get_type ls x t e

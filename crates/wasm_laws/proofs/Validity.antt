@@ -43,7 +43,7 @@ same_count [] (t ∷ trees) w = absurd w
 same_count (b ∷ bodies) [] w = absurd w
 same_count (b ∷ bodies) (t ∷ trees) w = ap suc (same_count bodies trees w.1)
 
-tree_there : (bodies : List Body) (trees : List Tree) (i : ℕ) (body : Body) (tree : Tree) → AllWrite bodies trees → slice_get bodies i ≡ Some body → slice_get trees i ≡ Some tree → Writes body.targets body.ops tree
+pub tree_there : (bodies : List Body) (trees : List Tree) (i : ℕ) (body : Body) (tree : Tree) → AllWrite bodies trees → slice_get bodies i ≡ Some body → slice_get trees i ≡ Some tree → Writes body.targets body.ops tree
 tree_there [] trees i body tree w e f = absurd (cc)
 tree_there (b ∷ bodies) [] i body tree w e f = absurd w
 tree_there (b ∷ bodies) (t ∷ trees) zero body tree w e f = subst (λ x. Writes x.targets x.ops tree) (some_is e) (subst (Writes b.targets b.ops) (some_is f) w.0)
@@ -51,11 +51,11 @@ tree_there (b ∷ bodies) (t ∷ trees) (suc i) body tree w e f = tree_there bod
 
 -- ---- options
 
-then_found : {A B : Type 0} (o : Option A) (go : A → Option B) (b : B) → option_then o go ≡ Some b → (x : A) × (o ≡ Some x) × (go x ≡ Some b)
+pub then_found : {A B : Type 0} (o : Option A) (go : A → Option B) (b : B) → option_then o go ≡ Some b → (x : A) × (o ≡ Some x) × (go x ≡ Some b)
 then_found None go b e = absurd (cc)
 then_found (Some x) go b e = (x, refl, e)
 
-map_found : {A B : Type 0} (o : Option A) (f : A → B) (b : B) → option_map f o ≡ Some b → (x : A) × (o ≡ Some x) × (f x ≡ b)
+pub map_found : {A B : Type 0} (o : Option A) (f : A → B) (b : B) → option_map f o ≡ Some b → (x : A) × (o ≡ Some x) × (f x ≡ b)
 map_found None f b e = absurd (cc)
 map_found (Some x) f b e = (x, refl, some_is e)
 

@@ -27,6 +27,7 @@ use Rattle.machine_hosted.specs.Answers.{KeepsFrames}
 use Rattle.dump_write.specs.Image.{DumpFrame, frame_image, frame_images}
 use Rattle.wasm_machine.specs.declared.frames.Extent.{Extent}
 use Rattle.wasm_machine.specs.inner.Shown.{between, offset_at, numbered, frame_shown, frames_shown, all_shown, extent_under}
+use Rattle.machine_frames.proofs.CallLaws.{as_many}
 
 -- ---- the values of a frame
 
@@ -155,16 +156,10 @@ frames_kept p prepared m (f ∷ fs) is few stands = frames_are p prepared.codes.
 
 -- ---- as many frames
 
-waiting_count : (p : Program) (codes : List Code) (fs : List Frame) (es : List CallFrame) (pc : ℕ) (ks : List Control) (vs : List Value) → Waiting p codes fs es pc ks vs → length es ≡ length fs
-waiting_count p codes [] [] pc ks vs w = refl
-waiting_count p codes [] (e ∷ es) pc ks vs w = absurd w
-waiting_count p codes (f ∷ fs) [] pc ks vs w = absurd w
-waiting_count p codes (f ∷ fs) (e ∷ es) pc ks vs w = ap (λ (n : ℕ). suc n) (waiting_count p codes fs es e.returns_to w.1 w.2 w.5)
-
 frames_count : (p : Program) (codes : List Code) (fs : List Frame) (es : List CallFrame) (pc : ℕ) (ks : List Control) (vs : List Value) → Frames p codes fs es pc ks vs → length es ≡ length fs
 frames_count p codes [] es pc ks vs w = absurd w
 frames_count p codes (f ∷ fs) [] pc ks vs w = absurd w
-frames_count p codes (f ∷ fs) (e ∷ es) pc ks vs w = ap (λ (n : ℕ). suc n) (waiting_count p codes fs es e.returns_to w.1 w.2 w.4)
+frames_count p codes (f ∷ fs) (e ∷ es) pc ks vs w = ap (λ (n : ℕ). suc n) (as_many p codes fs es e.returns_to w.1 w.2 w.4)
 
 pub count_kept : (p : Program) (codes : List Code) (m : Machine) (fs : List Frame) → KeepsFrames p codes m fs → length m.stack.frames ≡ length fs
 count_kept p codes m [] none = ap (λ (es : List CallFrame). length es) none

@@ -48,7 +48,7 @@ keeps_shares p codes (BadReply reply) m c h k = k.shares
 keeps_shares p codes (DeviceFault name) m c h k = k.shares
 keeps_shares p codes FuelSpent m c h k = k.shares
 
-all_fitted : (o : Outcome) (q : Bool) → goes_on o q ≡ true → unfitting o ≡ []
+pub all_fitted : (o : Outcome) (q : Bool) → goes_on o q ≡ true → unfitting o ≡ []
 all_fitted (not_started cause) q e = refl
 all_fitted (finished v) q e = refl
 all_fitted (trapped kind) q e = refl

@@ -75,7 +75,7 @@ globaltype_long x at bytes s = omega (arith, one_type x.0 at s.0 s.2, ap length 
 abbrev pub imported_length : Imported → ℕ
 imported_length x = sum_by (λ i. length (import_bytes i)) (function_in x)
 
-function_import_length : (i : Import) → length (import_bytes i) ≡ length (sized_bytes i.«module») + (length (sized_bytes i.name) + (1 + length (unsigned_bytes i.ftype)))
+pub function_import_length : (i : Import) → length (import_bytes i) ≡ length (sized_bytes i.«module») + (length (sized_bytes i.name) + (1 + length (unsigned_bytes i.ftype)))
 unfolding import_bytes
 function_import_length i = omega (arith, length-append (sized_bytes i.«module») (sized_bytes i.name ++ (0x00 ∷ unsigned_bytes i.ftype)), length-append (sized_bytes i.name) (0x00 ∷ unsigned_bytes i.ftype))
 
@@ -116,11 +116,7 @@ at_most_one imported.Table = omega arith
 at_most_one imported.Memory = omega arith
 at_most_one imported.Global = omega arith
 
-pub functions_few : (xs : List Imported) → length (functions_of xs) ≤ length xs
-functions_few [] = omega arith
-functions_few (x ∷ xs) = omega (arith, length-append (function_in x) (functions_of xs), at_most_one x, functions_few xs)
-
-export_length : (e : Export) → length (export_bytes e) ≡ length (sized_bytes e.name) + (1 + length (unsigned_bytes e.index))
+pub export_length : (e : Export) → length (export_bytes e) ≡ length (sized_bytes e.name) + (1 + length (unsigned_bytes e.index))
 unfolding export_bytes
 export_length e = omega (arith, length-append (sized_bytes e.name) (kind_byte e.kind ∷ unsigned_bytes e.index))
 

@@ -13,6 +13,7 @@ use Rattle.wasm_format.specs.declared.noted.Noted.{Noted}
 use Rattle.wasm_format.specs.Notes.{plain, with_noted, together}
 use Rattle.wasm_format.specs.Grammar.{noted_vector}
 use Rattle.wasm_encode.specs.Encoding.{vector_bytes, sized_bytes}
+use Rattle.wasm_decode.proofs.SoundForm.{values_of as values_from}
 
 -- Bytes that spell a value are no fewer than its measure.
 abbrev pub Least : {A : Type 0} → (A → ℕ → List ℕ → Type 0) → (A → ℕ) → Type 0
@@ -79,10 +80,6 @@ pub vector_each : {A : Type 0} (S : A → ℕ → List ℕ → Type 0) (P : A �
 vector_each S P h xs at bytes s = items_each S P h xs (at + length s.0) s.1 s.3
 
 -- ---- values that may hold floats
-
-values_from : {A : Type 0} (front : Noted (List A)) (xs : List (Noted A)) → (fold with_noted front xs).value ≡ front.value ++ map (λ x. x.value) xs
-values_from front [] = sym (append-nil front.value)
-values_from front (x ∷ xs) = values_from (with_noted front x) xs ∙ append_assoc front.value (x.value ∷ []) (map (λ y. y.value) xs)
 
 pub values_of : {A : Type 0} (xs : List (Noted A)) (ys : Noted (List A)) → together xs ≡ ys → ys.value ≡ map (λ x. x.value) xs
 values_of {A} xs ys same = sym (ap (λ (y : Noted (List A)). y.value) same) ∙ values_from (plain []) xs

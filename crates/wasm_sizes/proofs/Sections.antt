@@ -21,8 +21,9 @@ use Rattle.wasm_decode.specs.Decode.{functions_of, module_of}
 use Rattle.wasm_encode.specs.Encoding.{vector_bytes, sized_bytes, vector_section, start_section, function_type_bytes, import_bytes, table_bytes, limits_bytes, global_bytes, export_bytes, element_bytes, entry_bytes, segment_bytes, declarations, front_sections, encoding}
 use Rattle.wasm_sizes.specs.Sized.{OpsSized, ops_length, CodeSized, code_length}
 use Rattle.wasm_sizes.proofs.Measures.{Least, number_rises, sized_length, vector_least, vector_length, noted_least, noted_each}
-use Rattle.wasm_sizes.proofs.Entries.{function_type_least, limits_least, table_least, import_least, imported_length, functions_length, functions_few, export_least}
+use Rattle.wasm_sizes.proofs.Entries.{function_type_least, limits_least, table_least, import_least, imported_length, functions_length, export_least}
 use Rattle.wasm_sizes.proofs.Bodies.{Holds, global_holds, element_holds, segment_holds, code_holds, numbers_least}
+use Rattle.wasm_decode.proofs.Sounds.{imports_few}
 
 -- ---- vectors
 
@@ -37,7 +38,7 @@ noted_sum S f h xs at bytes s = omega (arith, noted_least S f h xs at bytes s)
 
 imports_least : Least (noted_vector import_entry) (λ xs. length (vector_bytes import_bytes (functions_of xs.value)))
 imports_least xs at bytes s =
-    omega (arith, vector_length import_bytes (functions_of xs.value), functions_length xs.value, number_rises (length (functions_of xs.value)) (length xs.value) (functions_few xs.value), noted_least import_entry imported_length import_least xs at bytes s)
+    omega (arith, vector_length import_bytes (functions_of xs.value), functions_length xs.value, number_rises (length (functions_of xs.value)) (length xs.value) (imports_few xs.value), noted_least import_entry imported_length import_least xs at bytes s)
 
 -- ---- how long sections are written
 

@@ -8,7 +8,7 @@ use Rattle.std.specs.List.{list_any}
 use Rattle.wasm_syntax.specs.declared.parts.Export.{Export}
 use Rattle.wasm_syntax.specs.declared.module.ModuleParts.{ModuleParts as Module}
 use Rattle.wasm_syntax.specs.Valid.{ExportFine, index_space}
-use Rattle.wasm_laws.proofs.Progress.{some_is}
+use Rattle.wasm_laws.proofs.Lists.{some_is}
 
 eq_is : (xs ys : List ℕ) → bytes_eq xs ys ≡ true → xs ≡ ys
 eq_is xs ys e = (bytes_eq-Decides xs ys).0 e

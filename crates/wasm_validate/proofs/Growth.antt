@@ -17,12 +17,15 @@ use Rattle.wasm_syntax.specs.Numbers.{same_type}
 use Rattle.wasm_syntax.specs.Module.{type_at, function_types, option_then}
 use Rattle.wasm_syntax.specs.Tree.{Jump, Unreachable, Br, BrIf, BrTable, Return, Call, CallIndirect, Item, Plain, Goes, Opens, OpensLoop, OpensIf, Else, End}
 use Rattle.wasm_syntax.specs.Typing.{Context, Arrow, ◌⇒◌, arrow, call_arrow, set_global}
-use Rattle.wasm_laws.proofs.Progress.{some_is}
 use Rattle.validate_stack.specs.Frames.{Known, Frame, opening, set_known, pop_type, pop_any, pop, push, pops, pushes, forget, label, emptied, operands, any_free}
 use Rattle.validate_body.specs.inner.Algorithm.{apply, drop_any, both, select_known, select, step_basic, step_jump, step, targets_fit, closed, at_else, may_end, at_end}
-use Rattle.validate_body.proofs.Options.{none_is, then_inv, map_inv, if_inv}
+use Rattle.validate_body.proofs.Options.{none_is, map_inv, if_inv}
 use Rattle.validate_body.proofs.Jumps.{any_sound_inv, drop_inv}
 use Rattle.validate_body.proofs.Same.{emptied_inv, else_inv}
+use Rattle.std.proofs.lemmas.Bool.{or_parts}
+use Rattle.wasm_laws.proofs.Lists.{some_is}
+use Rattle.wasm_laws.proofs.Validity.{then_found}
+use Rattle.validate_body.proofs.Flags.{true_false}
 
 -- the operands under the outermost dead sequence, the topmost first; in live code those of all frames
 abbrev pub base : List Frame → Known
@@ -43,13 +46,6 @@ OneResult m = (t : ℕ) (type : FuncType) → slice_get m.types t ≡ Some type 
 
 -- ---- lower parts
 
-true_false : {A : Type 0} → true ≡ false → A
-true_false e = absurd (cc)
-
-neither : (a b : Bool) → (a || b) ≡ false → (a ≡ false) × (b ≡ false)
-neither true b e = absurd (cc)
-neither false b e = (refl, e)
-
 pub below_self : (ks : Known) → Below ks ks
 below_self ks = ([], refl)
 
@@ -67,7 +63,7 @@ below_tail (k ∷ ks) = (k ∷ [], refl)
 
 pub base_live : (fs : List Frame) → any_free fs ≡ false → base fs ≡ operands fs
 base_live [] e = refl
-base_live (f ∷ fs) e = rw e (ap (λ z. f.known ++ z) (base_live fs (neither f.free (any_free fs) e).1))
+base_live (f ∷ fs) e = rw e (ap (λ z. f.known ++ z) (base_live fs (or_parts f.free (any_free fs) e).1))
 
 base_out : (f : Frame) (fs : List Frame) → Below (base fs) (base (f ∷ fs))
 base_out f fs = by_test (f.free || any_free fs) refl
@@ -81,7 +77,7 @@ base_set f fs ks h = by_test (f.free || any_free fs) refl
   where
     by_test : (b : Bool) → (f.free || any_free fs) ≡ b → Below (base (set_known f fs ks)) (base (f ∷ fs))
     by_test true q = rw q (below_self (base fs))
-    by_test false q = rw q (below_more ks f.known (base fs) (h (neither f.free (any_free fs) q).0))
+    by_test false q = rw q (below_more ks f.known (base fs) (h (or_parts f.free (any_free fs) q).0))
 
 base_opened : (kind : BlockKind) (t : Option ValType) (fs : List Frame) → base (opening kind t ∷ fs) ≡ base fs
 base_opened kind t fs = by_test (any_free fs) refl
@@ -116,7 +112,7 @@ pop_below (f ∷ fs) fs' t e =
 pops_below : (fs fs' : List Frame) (ts : List ValType) → pops fs ts ≡ Some fs' → Below (base fs') (base fs)
 pops_below fs fs' [] e = subst (λ x. Below (base x) (base fs)) (some_is e) (below_self (base fs))
 pops_below fs fs' (t ∷ ts) e =
-    let i = then_inv (pop fs t) (λ gs. pops gs ts) fs' e in
+    let i = then_found (pop fs t) (λ gs. pops gs ts) fs' e in
     below_then (base fs') (base i.0) (base fs) (pop_below fs i.0 t i.1) (pops_below i.0 fs' ts i.2)
 
 -- ---- at most one more
@@ -173,7 +169,7 @@ gives_one c (LocalSet x) t a e = gives_none _ a (map_inv _ (slice_get c.locals x
 gives_one c (LocalTee x) t a e = gives_single _ _ a (map_inv _ (slice_get c.locals x) a e).2
 gives_one c (GlobalGet x) t a e = gives_single _ _ a (map_inv _ (slice_get c.module_.globals x) a e).2
 gives_one c (GlobalSet x) t a e =
-    let u = then_inv (slice_get c.module_.globals x) set_global a e in
+    let u = then_found (slice_get c.module_.globals x) set_global a e in
     gives_none _ a (some_is (if_inv u.0.mutable (Some (u.0.vtype ∷ [] ⇒ [])) a u.2).1)
 gives_one c (Load l al o) t a e = gives_single _ _ a (some_is (if_inv _ _ a (any_sound_inv c.module_.memories _ a e).1).1)
 gives_one c (Store s al o) t a e = gives_none _ a (some_is (if_inv _ _ a (any_sound_inv c.module_.memories _ a e).1).1)
@@ -205,9 +201,9 @@ record Selected (free : Bool) (ks ls : Known) : Type 0 where
 
 selected : (free : Bool) (ks ls : Known) → select_known free ks ≡ Some ls → Selected free ks ls
 selected free ks ls e =
-    let i = then_inv (pop_type free ks I32) _ ls e in
-    let j = then_inv (pop_any free i.0) _ ls i.2 in
-    let l = then_inv (pop_any free j.0.1) _ ls j.2 in
+    let i = then_found (pop_type free ks I32) _ ls e in
+    let j = then_found (pop_any free i.0) _ ls i.2 in
+    let l = then_found (pop_any free j.0.1) _ ls j.2 in
     let m = map_inv (λ k. k ∷ l.0.1) (both j.0.0 l.0.0) ls l.2 in
     record {
       top = m.0;
@@ -228,7 +224,7 @@ select_grows (f ∷ fs) fs' e =
         subst (λ x. Grows (f ∷ fs) x) (ap (set_known f fs) h.are ∙ q) p
 
 arrow_grows : (c : Context) (i : Basic) (fs fs' : List Frame) → option_then (arrow c I32 i) (apply fs) ≡ Some fs' → Grows fs fs'
-arrow_grows c i fs fs' e = let a = then_inv (arrow c I32 i) (apply fs) fs' e in apply_grows fs fs' a.0 (gives_one c i I32 a.0 a.1) a.2
+arrow_grows c i fs fs' e = let a = then_found (arrow c I32 i) (apply fs) fs' e in apply_grows fs fs' a.0 (gives_one c i I32 a.0 a.1) a.2
 
 basic_grows : (c : Context) (fs fs' : List Frame) (i : Basic) → step_basic c fs i ≡ Some fs' → Grows fs fs'
 basic_grows c fs fs' Drop e = drop_grows fs fs' e
@@ -266,27 +262,27 @@ one_back type le = subst (λ n. n ≤ 1) (sym (length-reverse type.results)) le
 
 jump_grows : (c : Context) (fs fs' : List Frame) (j : Jump) → OneResult c.module_ → step_jump c fs j ≡ Some fs' → Grows fs fs'
 jump_grows c fs fs' Unreachable one e = transfer_grows fs fs' [] e
-jump_grows c fs fs' (Br n) one e = let l = then_inv (label fs n) _ fs' e in transfer_grows fs fs' (option_to_list l.0) l.2
-jump_grows c fs fs' (BrIf n) one e = let l = then_inv (label fs n) _ fs' e in apply_grows fs fs' (I32 ∷ option_to_list l.0 ⇒ option_to_list l.0) (one_option l.0) l.2
+jump_grows c fs fs' (Br n) one e = let l = then_found (label fs n) _ fs' e in transfer_grows fs fs' (option_to_list l.0) l.2
+jump_grows c fs fs' (BrIf n) one e = let l = then_found (label fs n) _ fs' e in apply_grows fs fs' (I32 ∷ option_to_list l.0 ⇒ option_to_list l.0) (one_option l.0) l.2
 jump_grows c fs fs' (BrTable targets default) one e =
-    let l = then_inv (label fs default) _ fs' e in
+    let l = then_found (label fs default) _ fs' e in
     let i = if_inv (targets_fit fs l.0 targets) _ fs' l.2 in
     transfer_grows fs fs' (I32 ∷ option_to_list l.0) i.1
 jump_grows c fs fs' Return one e = transfer_grows fs fs' c.returns e
 jump_grows c fs fs' (Call g) one e =
-    let l = then_inv (type_at c.module_ g) _ fs' e in
-    let t = then_inv (slice_get (function_types c.module_) g) (λ t. slice_get c.module_.types t) l.0 l.1 in
+    let l = then_found (type_at c.module_ g) _ fs' e in
+    let t = then_found (slice_get (function_types c.module_) g) (λ t. slice_get c.module_.types t) l.0 l.1 in
     apply_grows fs fs' (call_arrow l.0) (one_back l.0 (one t.0 l.0 t.2)) l.2
 jump_grows c fs fs' (CallIndirect t) one e =
     let a = any_sound_inv {A = Limits} c.module_.tables _ fs' e in
-    let l = then_inv (slice_get c.module_.types t) _ fs' a.1 in
+    let l = then_found (slice_get c.module_.types t) _ fs' a.1 in
     apply_grows fs fs' (I32 ∷ reverse l.0.params ⇒ reverse l.0.results) (one_back l.0 (one t l.0 l.1)) l.2
 
 -- ---- blocks
 
 closed_below : (f : Frame) (fs : List Frame) (p : Frame × List Frame) → closed (f ∷ fs) ≡ Some p → Below (base p.1) (base (f ∷ fs))
 closed_below f fs p e =
-    let i = then_inv (pops (f ∷ fs) (option_to_list f.result)) emptied p e in
+    let i = then_found (pops (f ∷ fs) (option_to_list f.result)) emptied p e in
     let m = emptied_inv i.0 p i.2 in
     let k : Below (base (p.0 ∷ p.1)) (base (f ∷ fs)) = subst (λ x. Below (base x) (base (f ∷ fs))) m.0 (pops_below (f ∷ fs) i.0 (option_to_list f.result) i.1) in
     below_then (base p.1) (base (p.0 ∷ p.1)) (base (f ∷ fs)) k (base_out p.0 p.1)
@@ -304,10 +300,10 @@ step_grows c (f ∷ fs) fs' (OpensIf t) one e =
     let i = map_inv (λ gs. opening Then t ∷ gs) (pop (f ∷ fs) I32) fs' e in
     subst (Grows (f ∷ fs)) i.2 (opened_grows (f ∷ fs) i.0 Then t (pop_below (f ∷ fs) i.0 I32 i.1))
 step_grows c (f ∷ fs) fs' Else one e =
-    let i = then_inv (closed (f ∷ fs)) (λ p. at_else p.0 p.1 p.0.kind) fs' e in
+    let i = then_found (closed (f ∷ fs)) (λ p. at_else p.0 p.1 p.0.kind) fs' e in
     let j = else_inv i.0.0 i.0.1 i.0.0.kind fs' i.2 in
     subst (Grows (f ∷ fs)) j.1 (opened_grows (f ∷ fs) i.0.1 kinds.Plain i.0.0.result (closed_below f fs i.0 i.1))
 step_grows c (f ∷ fs) fs' End one e =
-    let i = then_inv (closed (f ∷ fs)) (λ p. at_end p.0 p.1) fs' e in
+    let i = then_found (closed (f ∷ fs)) (λ p. at_end p.0 p.1) fs' e in
     let j = if_inv (may_end i.0.0.kind i.0.0.result) (Some (pushes i.0.1 (option_to_list i.0.0.result))) fs' i.2 in
     subst (Grows (f ∷ fs)) (some_is j.1) (pushes_grows (f ∷ fs) i.0.1 (option_to_list i.0.0.result) (one_option i.0.0.result) (closed_below f fs i.0 i.1))

@@ -11,16 +11,16 @@ use Rattle.wasm_syntax.specs.declared.module.ModuleParts.{ModuleParts as Module}
 use Rattle.wasm_syntax.specs.Module.{type_at, option_then}
 use Rattle.wasm_syntax.specs.FlatTyping.{TypesBefore}
 use Rattle.wasm_syntax.specs.Valid.{defined_index}
-use Rattle.wasm_laws.proofs.Progress.{some_is}
-use Rattle.wasm_laws.proofs.Lists.{get_within}
+use Rattle.wasm_laws.proofs.Lists.{get_within, some_is}
 use Rattle.validate_body.specs.declared.marks.Mark.{Mark}
-use Rattle.validate_body.proofs.Options.{then_inv, then_some, map_inv}
+use Rattle.validate_body.proofs.Options.{then_some, map_inv}
 use Rattle.wasm_validate.specs.Heights.{TypesAt, HasOp, HeightIs, StandsIn, AllLow, FirstHigh}
 use Rattle.wasm_validate.specs.Instructions.{HeightsAre}
 use Rattle.wasm_validate.specs.MarkedHeights.{height_or_zero, heights_of, IsGreatest, LowMarks, FirstHighMarks}
 use Rattle.wasm_validate.specs.Whole.{MarkedAt, MarkedUpTo}
 use Rattle.wasm_validate.proofs.Order.{index_back}
 use Rattle.wasm_validate.proofs.WholeLaws.{body_at}
+use Rattle.wasm_laws.proofs.Validity.{then_found}
 
 -- ---- one function
 
@@ -57,7 +57,7 @@ pub record MarkAt (all : List (List (Option Mark))) (m : Module) (f op : ℕ) : 
 
 pub mark_at : (all : List (List (Option Mark))) (m : Module) (f op : ℕ) → MarkedUpTo all m (length m.bodies) → HasOp m f op → MarkAt all m f op
 mark_at all m f op h o =
-    let i = then_inv (defined_index m f) (slice_get m.bodies) o.0 o.1 in
+    let i = then_found (defined_index m f) (slice_get m.bodies) o.0 o.1 in
     let lt : i.0 < length m.bodies = slice_get_within m.bodies i.0 o.0 i.2 in
     let a = get_within all i.0 (omega (arith, lt, h.as_many)) in
     let k = h.each i.0 a.0 a.1 in
@@ -147,7 +147,7 @@ pub record GreatestUpTo (marks : List (Option Mark)) (i n : ℕ) : Type 0 where
 pub greatest_none : (marks : List (Option Mark)) → GreatestUpTo marks 0 0
 greatest_none marks = record { most = λ j k lt e. absurd (omega (arith, lt)); there = λ p. absurd (omega (arith, p)) }
 
-below_or : (j i : ℕ) → j ≤ i → (j < i) ⊎ (j ≡ i)
+pub below_or : (j i : ℕ) → j ≤ i → (j < i) ⊎ (j ≡ i)
 below_or zero zero le = inr refl
 below_or zero (suc i) le = inl (omega arith)
 below_or (suc j) zero le = absurd (omega arith)

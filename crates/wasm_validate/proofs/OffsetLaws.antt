@@ -8,15 +8,15 @@ use Rattle.wasm_syntax.specs.declared.parts.Body.{Body}
 use Rattle.wasm_syntax.specs.declared.module.ModuleParts.{ModuleParts as Module}
 use Rattle.wasm_syntax.specs.Module.{Ascend, InOrder, IsModule}
 use Rattle.wasm_syntax.specs.Valid.{defined_index}
-use Rattle.wasm_laws.proofs.Progress.{some_is}
-use Rattle.wasm_laws.proofs.Lists.{at_of, get_within}
-use Rattle.validate_body.proofs.Options.{none_is, then_inv}
+use Rattle.wasm_laws.proofs.Lists.{at_of, get_within, some_is}
+use Rattle.validate_body.proofs.Options.{none_is}
 use Rattle.wasm_validate.specs.Heights.{body_of}
 use Rattle.wasm_validate.specs.Instructions.{OpIs}
 use Rattle.wasm_syntax.specs.Sizes.{WithinLimits, ShortBody}
 use Rattle.wasm_validate.specs.inner.Offsets.{SplitsAt, IsNodeAt}
+use Rattle.wasm_laws.proofs.Validity.{then_found}
 
-least_at : (least : ℕ) (ops : List Op) (k : ℕ) (b : Op) → Ascend least ops → slice_get ops k ≡ Some b → least ≤ b.at
+pub least_at : (least : ℕ) (ops : List Op) (k : ℕ) (b : Op) → Ascend least ops → slice_get ops k ≡ Some b → least ≤ b.at
 least_at least [] k b a e = none_is e
 least_at least (o ∷ os) zero b a e = let q : o ≡ b = some_is e in subst (λ x. least ≤ x.at) q a.0
 least_at least (o ∷ os) (suc k) b a e = let r = least_at (suc o.at) os k b a.1 e in omega (arith, r, a.0)
@@ -54,7 +54,7 @@ only_there ops at n k o a s e q = ⊎_elim before (λ b. ⊎_elim (λ r. r) behi
         absurd (omega (arith, h, c, q))
 
 pub in_order : (m : Module) (f : ℕ) (body : Body) → IsModule m → body_of m f ≡ Some body → Ascend 0 body.ops
-in_order m f body h e = let i = then_inv (defined_index m f) (slice_get m.bodies) body e in (at_of InOrder m.bodies i.0 body h.in_order i.2).offsets
+in_order m f body h e = let i = then_found (defined_index m f) (slice_get m.bodies) body e in (at_of InOrder m.bodies i.0 body h.in_order i.2).offsets
 
 pub not_there : (m : Module) (f at n : ℕ) (body : Body) → IsModule m → body_of m f ≡ Some body → SplitsAt body.ops at n → IsNodeAt false body.ops n at → OpIs None m f at
 not_there m f at n body h e s free = λ b k o g x y z.
@@ -65,7 +65,7 @@ not_there m f at n body h e s free = λ b k o g x y z.
 
 pub few_ops : (m : Module) (f n at : ℕ) (body : Body) → WithinLimits m → body_of m f ≡ Some body → IsNodeAt true body.ops n at → n < 2 ^ 32
 few_ops m f n at body l e h =
-    let i = then_inv (defined_index m f) (slice_get m.bodies) body e in
+    let i = then_found (defined_index m f) (slice_get m.bodies) body e in
     let w = slice_get_within body.ops n h.0 h.1 in
     let k : length body.ops < 2 ^ 32 = (at_of ShortBody m.bodies i.0 body l.short.each_body i.2).ops in
     omega (arith, w, k)

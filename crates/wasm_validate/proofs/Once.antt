@@ -15,18 +15,17 @@ use Rattle.wasm_syntax.specs.Tree.{Placed, placed, code_of}
 use Rattle.wasm_syntax.specs.Typing.{BeginsBody, body_context}
 use Rattle.wasm_syntax.specs.FlatTyping.{body_block}
 use Rattle.wasm_syntax.specs.Valid.{Valid, Fine, FuncTypeFine, There, defined_index, Before, kind_number, index_number, FirstWrong, OffsetIs, FirstInvalid}
-use Rattle.wasm_laws.proofs.Progress.{some_is}
-use Rattle.wasm_laws.proofs.Lists.{there_at}
+use Rattle.wasm_laws.proofs.Lists.{there_at, some_is}
 use Rattle.wasm_laws.proofs.FlatSteps.{steps_split}
 use Rattle.wasm_laws.proofs.FlatBodies.{Gives, begins_steps, steps_begins}
 use Rattle.wasm_laws.proofs.FlatStatic.{rest_of, head_or}
-use Rattle.validate_body.proofs.Options.{then_inv}
 use Rattle.validate_body.proofs.Through.{first_gives}
 use Rattle.wasm_validate.specs.declared.validated.ValidateFault.{ValidateFault}
 use Rattle.wasm_validate.specs.declared.validated.ValidateFault.TheVariants.{Invalid, Limit, NoMemory}
 use Rattle.wasm_validate.specs.Heights.{AllLow, FirstHigh, StandsIn}
 use Rattle.wasm_validate.specs.Answers.{Answered}
-use Rattle.wasm_validate.proofs.RowLaws.{less_or_same}
+use Rattle.wasm_laws.proofs.Validity.{then_found}
+use Rattle.wasm_validate.proofs.HeightLaws.{below_or}
 
 -- ---- the first wrong instruction
 
@@ -126,7 +125,7 @@ offsets_same : (m : Module) (f a b : ℕ) → FirstInvalid m (Function f a) → 
 offsets_same m f a b h k =
     let (type, body, e, i, wrong) = h.offset in
     let (other_type, other_body, e', i', wrong') = k.offset in
-    let t = then_inv (slice_get (function_types m) f) (λ t. slice_get m.types t) type e in
+    let t = then_found (slice_get (function_types m) f) (λ t. slice_get m.types t) type e in
     let fine : FuncTypeFine type = there_at FuncTypeFine m.types t.0 type (h.earlier (TypeAt t.0) (inl (omega arith))) t.2 in
     let q : other_type ≡ type = some_is (sym e' ∙ e) in
     let r : other_body ≡ body = some_is (sym i' ∙ i) in
@@ -141,7 +140,7 @@ numbers_same m p q h k = by_kind (compare (kind_number p) (kind_number q))
       where
         by_test : (t : Bool) → nat_lt a b ≡ t → (a < b) ⊎ (a ≡ b) ⊎ (b < a)
         by_test true e = inl (grind (arith, nat_tests, e))
-        by_test false e = let le : b ≤ a = grind (arith, nat_tests, e) in ⊎_elim (λ x. inr (inr x)) (λ x. inr (inl (sym x))) (less_or_same b a le)
+        by_test false e = let le : b ≤ a = grind (arith, nat_tests, e) in ⊎_elim (λ x. inr (inr x)) (λ x. inr (inl (sym x))) (below_or b a le)
 
     by_index : kind_number p ≡ kind_number q → (index_number p < index_number q) ⊎ (index_number p ≡ index_number q) ⊎ (index_number q < index_number p) → (kind_number p ≡ kind_number q) × (index_number p ≡ index_number q)
     by_index e (inl l) = absurd (h.not_fine (k.earlier p (inr (e, l))))

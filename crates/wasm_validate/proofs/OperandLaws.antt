@@ -11,16 +11,14 @@ use Rattle.wasm_syntax.specs.Module.{IsModule, InOrder, function_types, type_at,
 use Rattle.wasm_syntax.specs.Tree.{Placed, placed, code_of, item_of}
 use Rattle.wasm_syntax.specs.Typing.{Context, body_context}
 use Rattle.wasm_syntax.specs.FlatTyping.{TypesBefore}
-use Rattle.wasm_laws.proofs.Progress.{some_is}
 use Rattle.wasm_laws.proofs.FlatBodies.{Gives}
-use Rattle.wasm_laws.proofs.Lists.{at_of as in_list, there_at, get_within}
+use Rattle.wasm_laws.proofs.Lists.{at_of as in_list, there_at, get_within, some_is}
 use Rattle.validate_stack.specs.Frames.{Known, Frame, operands, any_free, topmost}
 use Rattle.validate_body.specs.declared.marks.Mark.{Mark}
 use Rattle.validate_body.specs.inner.Algorithm.{run, start, step}
 use Rattle.validate_body.specs.Marks.{mark_of, MarkIs, Marked}
-use Rattle.validate_body.proofs.Options.{then_inv}
 use Rattle.validate_body.proofs.Through.{take_next, first_gives}
-use Rattle.validate_body.proofs.MarksLaws.{mark_is, frames_before}
+use Rattle.validate_body.proofs.MarksLaws.{mark_is, frames_before, map_len}
 use Rattle.wasm_syntax.specs.Sizes.{ShortBody, WithinLimits}
 use Rattle.wasm_syntax.specs.declared.place.Place.TheVariants.{TypeAt, Function}
 use Rattle.wasm_syntax.specs.Typing.{IsBody}
@@ -29,9 +27,10 @@ use Rattle.wasm_laws.proofs.FlatOne.{to_flat}
 use Rattle.wasm_validate.specs.Heights.{HasOp, HeightIs, TypesAt}
 use Rattle.wasm_validate.specs.Operands.{HasOperand, StaticAt, FewMarks, LastOf}
 use Rattle.wasm_validate.specs.Whole.{MarkedUpTo}
-use Rattle.wasm_validate.proofs.HeightLaws.{at_of, mark_at, height_of_mark, height_option}
-use Rattle.wasm_validate.proofs.RowLaws.{less_or_same, in_more}
+use Rattle.wasm_validate.proofs.HeightLaws.{at_of, mark_at, height_of_mark, height_option, below_or}
+use Rattle.wasm_validate.proofs.RowLaws.{in_more}
 use Rattle.wasm_validate.proofs.Growth.{base, Below, tail_of, OneResult, base_live, Grows, step_grows}
+use Rattle.wasm_laws.proofs.Validity.{then_found}
 
 -- the last instruction with a height has this topmost type
 abbrev pub Found : List (Option Mark) → ℕ → ℕ → Option ValType → Type 0
@@ -52,7 +51,7 @@ below_found marks op low all b h = front_found marks op b.0 low (subst (AllFound
 -- ---- the next instruction
 
 up_to_next : (i n : ℕ) → i ≤ suc n → (i ≤ n) ⊎ (i ≡ suc n)
-up_to_next i n le = ⊎_elim (λ a. inl (omega (arith, a))) (λ b. inr b) (less_or_same i (suc n) le)
+up_to_next i n le = ⊎_elim (λ a. inl (omega (arith, a))) (λ b. inr b) (below_or i (suc n) le)
 
 last_next : (marks : List (Option Mark)) (op height last : ℕ) (mark : Mark) → LastOf marks op height last mark → ((k : Mark) → slice_get marks (suc op) ≡ Some (Some k) → k.height ≡ height → ⊥) → LastOf marks (suc op) height last mark
 last_next marks op height last mark h other = record {
@@ -88,10 +87,10 @@ mark_there m type body r marks i fs g h lt e =
 
 run_last : (c : Context) (ps : List Placed) (p : Placed) (fs gs : List Frame) → run c fs (ps ++ p ∷ []) ≡ Some gs → (hs : List Frame) × (run c fs ps ≡ Some hs) × (step c hs p.code ≡ Some gs)
 run_last c [] p fs gs e =
-    let i = then_inv (step c fs p.code) (λ hs. run c hs []) gs e in
+    let i = then_found (step c fs p.code) (λ hs. run c hs []) gs e in
     (fs, refl, i.1 ∙ i.2)
 run_last c (q ∷ ps) p fs gs e =
-    let i = then_inv (step c fs q.code) (λ hs. run c hs (ps ++ p ∷ [])) gs e in
+    let i = then_found (step c fs q.code) (λ hs. run c hs (ps ++ p ∷ [])) gs e in
     let r = run_last c ps p i.0 gs i.2 in
     (r.0, subst (λ x. option_then x (λ hs. run c hs ps) ≡ Some r.0) (sym i.1) r.1, r.2)
 
@@ -132,10 +131,6 @@ all_found m type body r marks (suc n) fs one g h lt e =
 
 -- ---- from the topmost first to the bottom first
 
-map_length : (ts : List ValType) → length (map (λ t. Some t) ts) ≡ length ts
-map_length [] = refl
-map_length (t ∷ ts) = ap suc (map_length ts)
-
 at_height : (marks : List (Option Mark)) (op : ℕ) (ts : List ValType) (p : ℕ) (t : ValType) → AllFound marks op (map (λ t. Some t) ts) → slice_get (reverse ts) p ≡ Some t → Found marks op (suc p) (Some t)
 at_height marks op [] p t h e = absurd (let z : None ≡ Some t = e in cc)
 at_height marks op (u ∷ us) p t h e = ⊎_elim (λ a. at_height marks op us p t h.1 a.1) (λ b. top b.1 b.0) (in_more (reverse us) u p t in_two)
@@ -145,7 +140,7 @@ at_height marks op (u ∷ us) p t h e = ⊎_elim (λ a. at_height marks op us p 
 
     top : t ≡ u → p ≡ length (reverse us) → Found marks op (suc p) (Some t)
     top q b =
-        let n : length (map (λ t. Some t) us) ≡ p = map_length us ∙ sym (length-reverse us) ∙ sym b in
+        let n : length (map (λ t. Some t) us) ≡ p = map_len us ∙ sym (length-reverse us) ∙ sym b in
         subst (λ k. Found marks op (suc k) (Some t)) n (subst (λ x. Found marks op (suc (length (map (λ t. Some t) us))) (Some x)) (sym q) h.0)
 
 pub operand_found : (m : Module) (type : FuncType) (body : Body) (r : Option ValType) (marks : List (Option Mark)) (op : ℕ) (types : List ValType) (p : ℕ) (t : ValType) → OneResult m → Gives type r → Marked marks m type body → op < length body.ops → TypesBefore m type body op types → slice_get types p ≡ Some t → Found marks op (suc p) (Some t)
@@ -160,7 +155,7 @@ one_result : (m : Module) → Valid m → OneResult m
 one_result m v = λ t type e. there_at FuncTypeFine m.types t type (v (TypeAt t)) e
 
 gives : (m : Module) (f : ℕ) (type : FuncType) → Valid m → type_at m f ≡ Some type → Gives type (slice_get type.results 0)
-gives m f type v e = let t = then_inv (slice_get (function_types m) f) (λ t. slice_get m.types t) type e in first_gives type.results (one_result m v t.0 type t.2)
+gives m f type v e = let t = then_found (slice_get (function_types m) f) (λ t. slice_get m.types t) type e in first_gives type.results (one_result m v t.0 type t.2)
 
 same_height : (o : Option ℕ) (m : Module) (f op : ℕ) (types others : List ValType) → HeightIs o m f op → TypesAt m f op types → TypesAt m f op others → length types ≡ length others
 same_height None m f op types others h t u = absurd (h types t)
@@ -184,7 +179,7 @@ operand_read all m f op n i types found v h o b e reads t =
 -- the static operand types are those of the flat code
 pub static_there : (m : Module) (f op : ℕ) (types : List ValType) → IsModule m → Valid m → StaticAt m f op types → TypesAt m f op types
 static_there m f op types whole v (type, body, o, e, b, at, s) =
-    let i = then_inv (defined_index m f) (slice_get m.bodies) body b in
+    let i = then_found (defined_index m f) (slice_get m.bodies) body b in
     let fine : BodyFine m f body = there_at (BodyFine m f) m.bodies i.0 body (subst (λ x. IfSome x (λ j. There m.bodies j (BodyFine m f))) i.1 (v (Function f 0))) i.2 in
     let q : fine.0 ≡ type = some_is (sym fine.1 ∙ e) in
     (type, body, e, b, to_flat m type body (slice_get type.results 0) (gives m f type v e) (in_list InOrder m.bodies i.0 body whole.in_order i.2) (subst (λ x. IsBody m x body (code_of body.targets body.ops)) q fine.2) op o at types s)

@@ -8,8 +8,9 @@ use Rattle.wasm_syntax.specs.declared.place.Place.TheVariants.{TypeAt, ImportAt,
 use Rattle.wasm_syntax.specs.declared.parts.Limits.{Limits}
 use Rattle.wasm_syntax.specs.declared.module.ModuleParts.{ModuleParts as Module}
 use Rattle.wasm_syntax.specs.Valid.{AtIndex, There, Fine, FirstInvalid, FuncTypeFine, ImportFine, DeclarationFine, TableFine, MemoryFine, GlobalFine, ExportFine, StartFine, ElementFine, DataFine, defined_index, kind_number, index_number}
-use Rattle.wasm_laws.proofs.Progress.{some_is}
 use Rattle.wasm_validate.specs.inner.Places.{FineUpTo, FirstBad, UpTo, OneFine}
+use Rattle.wasm_laws.proofs.Lists.{some_is}
+use Rattle.validate_body.proofs.Options.{none_is}
 
 pub nothing_before : (m : Module) → UpTo m 0 0
 nothing_before m other b = ⊎_elim (λ lt. absurd (omega arith)) (λ e. absurd (omega (arith, e.1))) b
@@ -243,14 +244,11 @@ index_of m i = by_test (nat_lt (length m.imports + i) (length m.imports)) refl
     by_test true e = let w : length m.imports + i < length m.imports = grind (arith, nat_tests) in absurd (omega arith)
     by_test false e = let q : length m.imports + i - length m.imports ≡ i = omega arith in ap (λ x. Some x) q
 
-none_some : {A B : Type 0} {x : A} → None ≡ Some x → B
-none_some e = absurd (cc)
-
 pub index_back : (m : Module) (f i : ℕ) → defined_index m f ≡ Some i → f ≡ length m.imports + i
 index_back m f i e = by_test (nat_lt f (length m.imports)) refl e
   where
     by_test : (b : Bool) → nat_lt f (length m.imports) ≡ b → (if b then None else Some (f - length m.imports)) ≡ Some i → f ≡ length m.imports + i
-    by_test true t e = none_some e
+    by_test true t e = none_is e
     by_test false t e = let w : length m.imports ≤ f = grind (arith, nat_tests) in let q : f - length m.imports ≡ i = some_is e in omega arith
 
 declared_fine : (m : Module) (f : ℕ) → ((i t : ℕ) → defined_index m f ≡ Some i → slice_get m.functions i ≡ Some t → DeclarationFine m t) → Fine m (Declaration f)

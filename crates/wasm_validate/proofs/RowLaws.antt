@@ -4,18 +4,12 @@ use Rattle.std.proofs.lemmas.Option.{slice_get_within, slice_get-get_or, get_or_
 use Rattle.std.proofs.lemmas.Bool.Decides.{nat_tests}
 use Rattle.std.specs.Prelude.{Bool, true, false, ◌⊎◌, Option, Some, None, Result, Ok, Err, OnOk, nat_le, slice_set}
 use Rattle.std.specs.List.Sorted.{IsNonDecreasingBy, IsPartitionPoint}
-use Rattle.wasm_laws.proofs.Progress.{some_is}
-use Rattle.wasm_laws.proofs.Lists.{get_front, get_behind}
+use Rattle.wasm_laws.proofs.Lists.{get_front, get_behind, some_is}
 use Rattle.validate_body.specs.declared.marks.Mark.{Mark}
 use Rattle.wasm_validate.specs.Operands.{Ascends, UpTo, IsRow, AreRows, RowsUpTo, LastOf}
+use Rattle.wasm_validate.proofs.HeightLaws.{below_or}
 
 -- ---- places of a list
-
-pub less_or_same : (j i : ℕ) → j ≤ i → (j < i) ⊎ (j ≡ i)
-less_or_same zero zero le = inr refl
-less_or_same zero (suc i) le = inl (omega arith)
-less_or_same (suc j) zero le = absurd (omega (arith, le))
-less_or_same (suc j) (suc i) le = ⊎_elim (λ a. inl (omega (arith, a))) (λ b. inr (ap suc b)) (less_or_same j i (omega (arith, le)))
 
 -- in a list with one more element
 pub in_more : {A : Type 0} (xs : List A) (y : A) (i : ℕ) (x : A) → slice_get (xs ++ y ∷ []) i ≡ Some x → ((i < length xs) × (slice_get xs i ≡ Some x)) ⊎ ((i ≡ length xs) × (x ≡ y))
@@ -58,7 +52,7 @@ row_next : (row : List ℕ) (marks : List (Option Mark)) (n : ℕ) (k : Mark) �
 row_next row marks n k h there = record {
   ascends = λ a b i j lt e f. by_ends a b i j lt (in_more row n a i e) (in_more row n b j f);
   each = λ a i e. ⊎_elim (λ p. earlier i (h.each a i p.1)) (λ q. (omega (arith, q.1), k, subst (λ x. slice_get marks x ≡ Some (Some k)) (sym q.1) there, refl)) (in_more row n a i e);
-  all = λ i l lt e q. ⊎_elim (λ p. front (h.all i l p e q)) (λ p. (length row + 0, get_behind row (n ∷ []) 0 ∙ ap (λ x. Some x) (sym p))) (less_or_same i n (omega (arith, lt)));
+  all = λ i l lt e q. ⊎_elim (λ p. front (h.all i l p e q)) (λ p. (length row + 0, get_behind row (n ∷ []) 0 ∙ ap (λ x. Some x) (sym p))) (below_or i n (omega (arith, lt)));
 }
   where
     earlier : (i : ℕ) → (i < n) × (l : Mark) × (slice_get marks i ≡ Some (Some l)) × (l.height ≡ k.height) → (i < n + 1) × (l : Mark) × (slice_get marks i ≡ Some (Some l)) × (l.height ≡ k.height)
@@ -77,14 +71,14 @@ row_other : (row : List ℕ) (marks : List (Option Mark)) (n height : ℕ) → I
 row_other row marks n height h other = record {
   ascends = h.ascends;
   each = λ a i e. let p = h.each a i e in (omega (arith, p.0), p.1, p.2, p.3);
-  all = λ i l lt e q. ⊎_elim (λ p. h.all i l p e q) (λ p. absurd (other l (subst (λ x. slice_get marks x ≡ Some (Some l)) p e) q)) (less_or_same i n (omega (arith, lt)));
+  all = λ i l lt e q. ⊎_elim (λ p. h.all i l p e q) (λ p. absurd (other l (subst (λ x. slice_get marks x ≡ Some (Some l)) p e) q)) (below_or i n (omega (arith, lt)));
 }
 
 pub rows_next : (rows new : List (List ℕ)) (marks : List (Option Mark)) (n : ℕ) (k : Mark) (row : List ℕ) → AreRows rows marks n → slice_get marks n ≡ Some (Some k) → slice_get rows k.height ≡ Some row → new ≡ slice_set rows k.height (row ++ n ∷ []) → AreRows new marks (n + 1)
 rows_next rows new marks n k row h there at is = record {
   row = λ height r e. by_place height r (in_changed rows k.height (row ++ n ∷ []) height r within (ap (λ x. slice_get x height) (sym is) ∙ e));
   enough = λ i l lt e. subst (λ x. l.height < x) (sym (ap (λ x. length x) is ∙ changed_length rows k.height (row ++ n ∷ [])))
-      (⊎_elim (λ p. h.enough i l p e) (λ p. subst (λ x. x.height < length rows) (some_is (some_is (sym there ∙ sym (ap (λ x. slice_get marks x) p) ∙ e))) within) (less_or_same i n (omega (arith, lt))));
+      (⊎_elim (λ p. h.enough i l p e) (λ p. subst (λ x. x.height < length rows) (some_is (some_is (sym there ∙ sym (ap (λ x. slice_get marks x) p) ∙ e))) within) (below_or i n (omega (arith, lt))));
 }
   where
     within : k.height < length rows
@@ -109,7 +103,7 @@ all_rows_next every all i rows marks h e is = record {
 -- ---- the last instruction up to another
 
 pub rises : (row : List ℕ) → Ascends row → IsNonDecreasingBy (λ i. i) row
-rises row h = λ a b d le lt. by_place a b d lt (less_or_same a b le)
+rises row h = λ a b d le lt. by_place a b d lt (below_or a b le)
   where
     by_place : (a b d : ℕ) → b < length row → (a < b) ⊎ (a ≡ b) → get_or row a d ≤ get_or row b d
     by_place a b d lt (inl p) = omega (arith, h a b (get_or row a d) (get_or row b d) p (slice_get-get_or row a d (omega (arith, p, lt))) (slice_get-get_or row b d lt))
@@ -134,7 +128,7 @@ pub last_up_to : (row : List ℕ) (op count : ℕ) → (count ≡ 0 → ⊥) →
 last_up_to row op count some le up h =
     let lt : count - 1 < count = omega (arith, some) in
     let there : slice_get row (count - 1) ≡ Some (get_or row (count - 1) 0) = slice_get-get_or row (count - 1) 0 (omega (arith, lt, le)) in
-    ((count - 1, there), not_over (get_or row (count - 1) 0) op (h.0 (count - 1) 0 (omega arith) lt), λ a i e le. by_place a i e le there (less_or_same a (count - 1) (before a i e le)))
+    ((count - 1, there), not_over (get_or row (count - 1) 0) op (h.0 (count - 1) 0 (omega arith) lt), λ a i e le. by_place a i e le there (below_or a (count - 1) (before a i e le)))
   where
     before : (a i : ℕ) → slice_get row a ≡ Some i → i ≤ op → a ≤ count - 1
     before a i e le = by_test (nat_le count a) refl
@@ -153,7 +147,7 @@ last_of_row rows marks n height op i last row mark h lt e up l =
     let r = h.row height row e in
     let a = r.all last mark (omega (arith, l.up_to, lt)) l.there l.has in
     let k = r.each up.0.0 i up.0.1 in
-    by_place k.1 k.2 k.3 (less_or_same last i (up.2 a.0 last a.1 l.up_to))
+    by_place k.1 k.2 k.3 (below_or last i (up.2 a.0 last a.1 l.up_to))
   where
     by_place : (k : Mark) → slice_get marks i ≡ Some (Some k) → k.height ≡ height → (last < i) ⊎ (last ≡ i) → slice_get marks i ≡ Some (Some mark)
     by_place k f q (inl p) = absurd (l.later i k p up.1 f q)

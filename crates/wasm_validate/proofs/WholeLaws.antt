@@ -14,7 +14,6 @@ use Rattle.wasm_syntax.specs.Module.{AllWrite, function_types, type_at, option_t
 use Rattle.wasm_syntax.specs.Tree.{Tree, Placed, Writes, code_of, placed}
 use Rattle.wasm_syntax.specs.Typing.{Context, body_context, IsBody}
 use Rattle.wasm_syntax.specs.Valid.{Fine, Valid, There, FirstWrong, FirstInvalid, OffsetIs, BodyFine, FuncTypeFine, DeclarationFine, defined_index, kind_number, index_number}
-use Rattle.wasm_laws.proofs.Progress.{some_is}
 use Rattle.validate_stack.specs.Frames.{Frame}
 use Rattle.validate_body.specs.declared.marks.Mark.{Mark}
 use Rattle.validate_body.specs.Marks.{Marked}
@@ -22,14 +21,16 @@ use Rattle.validate_body.specs.inner.Bodies.{Judged}
 use Rattle.validate_body.specs.inner.Algorithm.{step, run, start}
 use Rattle.validate_body.specs.declared.body.BodyFault.{BodyFault}
 use Rattle.validate_body.specs.declared.body.BodyFault.TheVariants.{WrongAt, NoMemory}
-use Rattle.validate_body.proofs.Options.{none_is, then_inv, then_some}
+use Rattle.validate_body.proofs.Options.{none_is, then_some}
 use Rattle.validate_body.proofs.Same.{accepts, began}
 use Rattle.validate_body.proofs.Through.{first_gives}
-use Rattle.wasm_laws.proofs.Lists.{get_front, get_behind}
+use Rattle.wasm_laws.proofs.Lists.{get_front, get_behind, some_is, get_within}
 use Rattle.wasm_syntax.specs.Sizes.{WithinLimits, local_count}
 use Rattle.wasm_validate.specs.inner.Places.{UpTo}
 use Rattle.wasm_validate.specs.Whole.{BodiesUpTo, BodyJudged, MarkedAt, MarkedUpTo}
 use Rattle.wasm_validate.proofs.Order.{there_is, there_from, index_of, index_back}
+use Rattle.wasm_laws.proofs.Validity.{then_found}
+use Rattle.validate_body.proofs.LocalsLaws.{replicate_length}
 
 pub tree_of : (bodies : List Body) (trees : List Tree) (i : ℕ) (b : Body) → AllWrite bodies trees → slice_get bodies i ≡ Some b → (tree : Tree) × Writes b.targets b.ops tree
 tree_of [] trees i b w e = absurd (cc)
@@ -41,17 +42,8 @@ tree_of (c ∷ cs) (t ∷ ts) (suc i) b w e = tree_of cs ts i b w.1 e
 
 pub one_result : (m : Module) (f : ℕ) (t : FuncType) → UpTo m 10 0 → type_at m f ≡ Some t → length t.results ≤ 1
 one_result m f t u e =
-    let i = then_inv (slice_get (function_types m) f) (λ k. slice_get m.types k) t e in
+    let i = then_found (slice_get (function_types m) f) (λ k. slice_get m.types k) t e in
     there_is m.types i.0 FuncTypeFine t i.2 (u (TypeAt i.0) (inl (omega arith)))
-
-behind : {A : Type 0} (xs ys : List A) (i : ℕ) → slice_get (xs ++ ys) (length xs + i) ≡ slice_get ys i
-behind [] ys i = let q : 0 + i ≡ i = omega arith in ap (slice_get ys) q
-behind (x ∷ xs) ys i = let q : suc (length xs) + i ≡ suc (length xs + i) = omega arith in ap (slice_get ((x ∷ xs) ++ ys)) q ∙ behind xs ys i
-
-at_some : {A : Type 0} (xs : List A) (i : ℕ) → i < length xs → (x : A) × (slice_get xs i ≡ Some x)
-at_some [] i le = absurd (omega arith)
-at_some (x ∷ xs) zero le = (x, refl)
-at_some (x ∷ xs) (suc i) le = at_some xs i (omega arith)
 
 map_length : (xs : List Import) → length (map (λ i. i.ftype) xs) ≡ length xs
 map_length [] = refl
@@ -59,13 +51,13 @@ map_length (x ∷ xs) = ap suc (map_length xs)
 
 pub has_type : (m : Module) (i : ℕ) → UpTo m 10 0 → i < length m.functions → (t : FuncType) × (type_at m (length m.imports + i) ≡ Some t)
 has_type m i u le =
-    let k = at_some m.functions i le in
+    let k = get_within m.functions i le in
     let d : IfSome (defined_index m (length m.imports + i)) (λ j. There m.functions j (DeclarationFine m)) = u (Declaration (length m.imports + i)) (inl (omega arith)) in
     let d' : There m.functions i (DeclarationFine m) = subst (λ o. IfSome o (λ j. There m.functions j (DeclarationFine m))) (index_of m i) d in
     let lt : DeclarationFine m k.0 = there_is m.functions i (DeclarationFine m) k.0 k.1 d' in
-    let t = at_some m.types k.0 lt in
+    let t = get_within m.types k.0 lt in
     let g : slice_get (function_types m) (length m.imports + i) ≡ Some k.0 =
-    ap (λ n. slice_get (function_types m) (n + i)) (sym (map_length m.imports)) ∙ behind (map (λ x. x.ftype) m.imports) m.functions i ∙ k.1 in
+    ap (λ n. slice_get (function_types m) (n + i)) (sym (map_length m.imports)) ∙ get_behind (map (λ x. x.ftype) m.imports) m.functions i ∙ k.1 in
     (t.0, then_some (slice_get (function_types m) (length m.imports + i)) (λ k. slice_get m.types k) k.0 t.0 g t.1)
 
 -- ---- a wrong body
@@ -73,7 +65,7 @@ has_type m i u le =
 run_front : (c : Context) (ps qs : List Placed) (fs r : List Frame) → run c fs (ps ++ qs) ≡ Some r → (gs : List Frame) × (run c fs ps ≡ Some gs)
 run_front c [] qs fs r e = (fs, refl)
 run_front c (p ∷ ps) qs fs r e =
-    let i = then_inv (step c fs p.code) (λ gs. run c gs (ps ++ qs)) r e in
+    let i = then_found (step c fs p.code) (λ gs. run c gs (ps ++ qs)) r e in
     let j = run_front c ps qs i.0 r i.2 in
     (j.0, then_some (step c fs p.code) (λ gs. run c gs ps) i.0 j.0 i.1 j.1)
 
@@ -152,7 +144,7 @@ pub judged_bad : (offset : ℕ) (m : Module) (i : ℕ) (body : Body) → UpTo m 
 judged_bad offset m i body u b e h = first_invalid m i offset body u b e (h.1 body e) h.0
 
 pub some_body : (m : Module) (i : ℕ) → i < length m.bodies → (body : Body) × (slice_get m.bodies i ≡ Some body)
-some_body m i le = at_some m.bodies i le
+some_body m i le = get_within m.bodies i le
 
 pub none_marked : (m : Module) → MarkedUpTo [] m 0
 none_marked m = record { as_many = refl; each = λ i k e. none_is e }
@@ -182,10 +174,6 @@ marked_more all m n marks h is = record {
 
 pub up_to_none : (m : Module) → BodiesUpTo m 0
 up_to_none m i body lt e = absurd (omega (arith, lt))
-
-replicate_length : {A : Type 0} (n : ℕ) (x : A) → length (replicate n x) ≡ n
-replicate_length zero x = refl
-replicate_length (suc n) x = ap suc (replicate_length n x)
 
 declared_length : (gs : List LocalGroup) → length (declared_locals gs) ≡ sum (map (λ g. g.count) gs)
 declared_length [] = refl

@@ -1,13 +1,14 @@
 use Rattle.std.proofs.Common.{ap, sym, ◌∙◌}
 use Rattle.wasm_syntax.specs.Module.{type_at}
-use Rattle.body_rewrite.proofs.JumpLaws.{no_function, type_there, called}
+use Rattle.body_rewrite.proofs.JumpLaws.{no_function, called}
 use Rattle.body_rewrite.proofs.jumps.write_call.Goals as goal
+use Rattle.rewrite_modules.proofs.ValidModule.{type_inside}
 
 pub returns-in_default : goal.returns-in_default
 returns-in_default c = no_function c.args.context.now c.args.offset c.args.function c.args.walk.now (ap (λ m. type_at m c.args.function) (sym c.requires.source) ∙ sym c.in_default.ensures)
 
 pub call_function-requires-clause-there : goal.call_function-requires-clause-there
-call_function-requires-clause-there c = type_there c.args.context.now.source c.args.function c.in-Some.ftype.now (ap (λ m. type_at m c.args.function) (sym c.requires.source) ∙ sym c.in-Some.ensures)
+call_function-requires-clause-there c = type_inside c.args.context.now.source c.args.function c.in-Some.ftype.now (ap (λ m. type_at m c.args.function) (sym c.requires.source) ∙ sym c.in-Some.ensures)
 
 pub returns : goal.returns
 returns c =

@@ -1,7 +1,8 @@
 use Rattle.std.proofs.Common.{◌<◌, suc, length, arith}
 use Rattle.body_rewrite.specs.Points.{code_in}
-use Rattle.body_rewrite.proofs.PointLaws.{code_length, block_open, saved_room, stands_behind, resumes_next}
+use Rattle.body_rewrite.proofs.PointLaws.{block_open, saved_room, stands_behind, resumes_next}
 use Rattle.body_rewrite.proofs.nodes.write_from_end.Goals as goal
+use Rattle.rewrite_modules.proofs.Multiple.{code_length}
 
 pub write_behind-requires-clause-behind : goal.write_behind-requires-clause-behind
 write_behind-requires-clause-behind c =

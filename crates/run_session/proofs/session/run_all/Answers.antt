@@ -2,7 +2,7 @@ use Rattle.std.proofs.Common.{◌-◌, ◌+◌, map, length, refl, sym, ap, ◌�
 use Rattle.std.proofs.Math.Nat.{le_refl}
 use Rattle.command_answers.specs.declared.outcome.Outcome.{Outcome}
 use Rattle.wasm_syntax.specs.Run.{engine}
-use Rattle.machine_hosted.proofs.HostLaws.{kept_same, kept_on}
+use Rattle.machine_hosted.proofs.HostLaws.{kept_same, kept_on, cause_later}
 use Rattle.wasm_machine.proofs.StandingLaws.{of_same}
 use Rattle.run_session.specs.Telling.{tells}
 use Rattle.run_session.specs.Invocations.{invocation_of, depth_of}
@@ -11,7 +11,7 @@ use Rattle.run_session.specs.inner.Collecting.{used_up_of, serving_of, collectin
 use Rattle.run_session.specs.inner.Sessions.{OnTurnStop}
 use Rattle.run_session.proofs.Tellings.{behaves}
 use Rattle.run_session.proofs.Ends.{done_no_fault}
-use Rattle.run_session.proofs.Whole.{begins, entry_now, next_done, one_due, due_left, of_ok, of_want, of_goes, of_refused, rose_since, come_next, ends_ran, torn_ran, ends_stopped, torn_stopped, stops_here, stopped_here, stopped_refused, all_ran_so, of_end, cause_since}
+use Rattle.run_session.proofs.Whole.{begins, entry_now, next_done, one_due, due_left, of_ok, of_want, of_goes, of_refused, rose_since, come_next, ends_ran, torn_ran, ends_stopped, torn_stopped, stops_here, stopped_here, stopped_refused, all_ran_so, of_end}
 use Rattle.run_session.proofs.session.run_all.Goals as goal
 
 pub loop-index-init : goal.loop-index-init
@@ -67,7 +67,7 @@ returns-in-Ends-clause-ran g c = λ deliver delivers p is_of.
     (one_due xs k c.index-invocations-index.result _ c.loop-index-test.true c.index-invocations-index.is ∙ ap (λ l. map invocation_of l) c.as_slice-invocations.ensures)
     (of_ok c.run_next-turn.result.0 c.in-Ok.turn _ c.in-Ok.is (c.run_next-turn.ensures.made deliver delivers p (of_same _ _ p h.same is_of))) (due_left xs k) c.requires.calls c.given.ensures
     (of_end c.in-Ok.turn c.in-Ends.answer _ c.in-Ends.is (of_ok c.run_next-turn.result.0 c.in-Ok.turn _ c.in-Ok.is c.run_next-turn.ensures.memory))
-    (cause_since c.in-Ends.answer (g.H.HostSide.fault_count c.args.hosts) (g.H.HostSide.fault_count c.loop-index.hosts) (g.H.HostSide.fault_count c.run_next-turn.result.1) h.host.later (of_end c.in-Ok.turn c.in-Ends.answer _ c.in-Ends.is (of_ok c.run_next-turn.result.0 c.in-Ok.turn _ c.in-Ok.is c.run_next-turn.ensures.cause)))
+    (cause_later c.in-Ends.answer (g.H.HostSide.fault_count c.args.hosts) (g.H.HostSide.fault_count c.loop-index.hosts) (g.H.HostSide.fault_count c.run_next-turn.result.1) h.host.later (of_end c.in-Ok.turn c.in-Ends.answer _ c.in-Ends.is (of_ok c.run_next-turn.result.0 c.in-Ok.turn _ c.in-Ok.is c.run_next-turn.ensures.cause)))
     c.ended_with-outcome.ensures
 
 pub returns-in-Ends-clause-stops : goal.returns-in-Ends-clause-stops
