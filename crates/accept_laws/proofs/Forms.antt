@@ -4,7 +4,6 @@ use Rattle.std.specs.Prelude.{◌==◌, nat_le, if◌then◌else◌}
 use Rattle.std.specs.Int.{w32, w64, cast_unsigned}
 use Rattle.std.specs.List.{AllByRecursion}
 use Rattle.std.proofs.lemmas.Int.{ints}
-use Rattle.wasm_leb.specs.Numbers.{IsSigned}
 use Rattle.wasm_leb.specs.Reading.{IsWithin}
 use Rattle.wasm_leb.proofs.Powers.{half_seven_more}
 use Rattle.int_ops.specs.declared.operators.Narrow32.TheVariants as narrow32

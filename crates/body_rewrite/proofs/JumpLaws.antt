@@ -1,15 +1,14 @@
 -- What each control instruction that holds no others comes to, from what was written of it.
-use Rattle.std.proofs.lemmas.Option.{slice_get_within}
 use Rattle.wasm_syntax.specs.declared.module.ModuleParts.{ModuleParts as Module}
 use Rattle.rewrite_bodies.specs.Numbering.{helper_base, place_in}
 use Rattle.rewrite_modules.specs.Weight.{types_used}
 use Rattle.body_rewrite.specs.Numbers.{HasHelpers}
-use Rattle.std.proofs.Common.{◌<◌, ◌≡◌, ℕ, suc, ◌+◌, ◌≤◌, List, [], ◌∷◌, length, slice_get, Option, Some, None, option_map, refl, sym, ap, subst, ◌∙◌, arith}
+use Rattle.std.proofs.Common.{◌≡◌, ℕ, suc, ◌+◌, ◌≤◌, List, [], ◌∷◌, length, slice_get, Option, Some, None, option_map, refl, sym, ap, subst, ◌∙◌, arith}
 use Rattle.wasm_syntax.specs.declared.value.ValType.{ValType}
 use Rattle.wasm_syntax.specs.declared.parts.FuncType.{FuncType}
 use Rattle.wasm_syntax.specs.Tree.{Jump, Br, BrIf, BrTable, Return, Unreachable, Call, CallIndirect, Nodes, stop, Goes, Placed}
 use Rattle.wasm_syntax.specs.Machine.{result_of}
-use Rattle.wasm_syntax.specs.Module.{type_at, function_types, option_then}
+use Rattle.wasm_syntax.specs.Module.{type_at}
 use Rattle.rewrite_bodies.specs.Slots.{Place, Ctx, less, grown}
 use Rattle.rewrite_bodies.specs.Rewrite.{Info, carries, control, branch_to, branch_if, table, call_code, indirect_code, helper_of}
 use Rattle.rewrite_code.specs.Writing.{Written, Emits, EmitsLast}

@@ -1,15 +1,13 @@
 -- What is known at a point of a body, and where the code goes from there.
-use Rattle.std.proofs.Common.{◌≡◌, ℕ, suc, ◌+◌, ◌-◌, ◌^◌, ◌<◌, ◌≤◌, true, false, nat_le, List, [], ◌∷◌, length, drop, get_or, slice_get, Option, Some, None, sym, ap, subst, ◌∙◌, arith, length-drop}
-use Rattle.std.proofs.lemmas.List.{length-map}
+use Rattle.std.proofs.Common.{◌≡◌, ℕ, suc, ◌+◌, ◌-◌, ◌^◌, ◌<◌, ◌≤◌, true, false, nat_le, List, [], ◌∷◌, length, drop, get_or, slice_get, sym, ap, subst, ◌∙◌, arith, length-drop}
 use Rattle.std.proofs.lemmas.Option.{slice_get-get_or}
 use Rattle.std.proofs.lemmas.Bool.Decides.{nat_tests}
-use Rattle.wasm_syntax.specs.declared.value.ValType.{ValType}
 use Rattle.wasm_syntax.specs.declared.instruction.Op.{Op}
 use Rattle.wasm_syntax.specs.declared.instruction.Instr.{Instr}
 use Rattle.wasm_syntax.specs.declared.instruction.Instr.TheVariants as instrs
 use Rattle.wasm_syntax.specs.declared.parts.Body.{Body}
 use Rattle.wasm_syntax.specs.Tree.{Nodes, Tree, stop, basic, jump, block, loop, choose, End, Placed, placed, write, code_of, item_of, jump_of, Writes}
-use Rattle.rewrite_bodies.specs.Slots.{Place, Ctx, grown}
+use Rattle.rewrite_bodies.specs.Slots.{Ctx}
 use Rattle.rewrite_bodies.specs.Rewrite.{in_body, end_gives, rewrite}
 use Rattle.rewrite_bodies.proofs.Sim.{room_height}
 use Rattle.rewrite_code.specs.Writing.{Written, EmitsLast}

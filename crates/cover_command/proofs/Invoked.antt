@@ -23,7 +23,7 @@ use Rattle.machine_steps.specs.Places.{Place, invocation_places}
 use Rattle.machine_steps.specs.Tallies.{Counts, Counted}
 use Rattle.host_devices.specs.Given.{replies_of, unfitting}
 use Rattle.machine_hosted.specs.Settings.{world_of}
-use Rattle.machine_hosted.specs.Answers.{HasCause, AdmitsReplies, given_steps}
+use Rattle.machine_hosted.specs.Answers.{HasCause, given_steps}
 use Rattle.machine_hosted.specs.Watching.{IsCount, invocation_placing}
 use Rattle.machine_hosted.specs.Invocations.{HasOutcome, InvocationCame, invoking}
 use Rattle.machine_hosted.specs.declared.answer.RunEnd.{RunEnd}

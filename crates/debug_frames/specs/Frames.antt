@@ -7,9 +7,8 @@ use Rattle.wasm_syntax.specs.declared.parts.Body.{Body}
 use Rattle.wasm_syntax.specs.declared.module.ModuleParts.{ModuleParts as Module}
 use Rattle.wasm_syntax.specs.Module.{option_then}
 use Rattle.wasm_syntax.specs.Valid.{defined_index}
-use Rattle.wasm_decode.specs.Names.{Named, name_of as function_name}
+use Rattle.wasm_decode.specs.Names.{name_of as function_name}
 use Rattle.dump_format.specs.declared.dump.Frame.{Frame}
-use Rattle.dwarf_info.specs.declared.entry.Attribute.{Attribute}
 use Rattle.dwarf_info.specs.declared.entry.UnitAnswer.{UnitAnswer}
 use Rattle.dwarf_info.specs.Attributes.{valued, as_number}
 use Rattle.dwarf_entries.specs.Names.{as_natural}

@@ -1,5 +1,5 @@
 -- Bytes of the recorded memory in lines.
-use Rattle.std.specs.Prelude.{ℕ, ◌+◌, ◌-◌, ◌*◌, ◌/◌, nat_le, List, [], ◌++◌, flat_map, length, Option, Some, None, if◌then◌else◌, codes}
+use Rattle.std.specs.Prelude.{ℕ, ◌+◌, ◌*◌, ◌/◌, nat_le, List, ◌++◌, flat_map, length, Option, Some, None, if◌then◌else◌, codes}
 use Rattle.std.specs.List.{range_with_len}
 use Rattle.linear_memory.specs.Memory.{Memory, window}
 use Rattle.pm_text.specs.Hex.{hex_padded}

@@ -1,5 +1,5 @@
 -- The globals and the memory that a dump records: those that its instance lists (tool-conventions Coredump.md).
-use Rattle.std.specs.Prelude.{ℕ, List, [], ◌∷◌, filter_map, slice_get, Option, Some, None, option_map}
+use Rattle.std.specs.Prelude.{ℕ, List, [], ◌∷◌, filter_map, slice_get, Option, None, option_map}
 use Rattle.wasm_syntax.specs.declared.value.Value.{Value}
 use Rattle.wasm_syntax.specs.declared.value.Value.TheVariants as values
 use Rattle.wasm_syntax.specs.declared.value.Seen.{Seen}

@@ -1,18 +1,16 @@
 -- Lists of version 5 are read exactly as they are spelled.
-use Rattle.std.proofs.Common.{◌≡◌, ℕ, ◌+◌, ◌<◌, List, [], ◌++◌, length, Option, Some, None, refl, sym, ap, subst, ◌∙◌, arith, length-append}
+use Rattle.std.proofs.Common.{ℕ, List, length, None, ap, arith, length-append}
 use Rattle.wasm_bytes.specs.Place.{Place, Read}
-use Rattle.wasm_bytes.specs.Reading.{◌⊗◌, ◌▷◌, mapped, here_item, byte_item, u64_item, run_item}
-use Rattle.wasm_bytes.specs.Spelling.{leads, pair, image, only, here, run, byte, u64}
+use Rattle.wasm_bytes.specs.Reading.{◌⊗◌, mapped, byte_item, u64_item}
+use Rattle.wasm_bytes.specs.Spelling.{pair, image, only, byte, u64}
 use Rattle.wasm_bytes.specs.Laws.{IsExact, TakesBytes}
-use Rattle.wasm_bytes.proofs.Exact.{same_exact, leads_exact, image_exact, then_exact, done_exact, here_exact}
-use Rattle.wasm_bytes.proofs.ExactItems.{run_exact, u64_exact, byte_exact}
+use Rattle.wasm_bytes.proofs.Exact.{leads_exact, image_exact, then_exact, done_exact}
+use Rattle.wasm_bytes.proofs.ExactItems.{u64_exact, byte_exact}
 use Rattle.dwarf_bytes.specs.Items.{number_item, meaning_item}
 use Rattle.dwarf_bytes.specs.Spelled.{number, meaning}
 use Rattle.dwarf_bytes.proofs.Exact.{number_exact}
 use Rattle.dwarf_bytes.proofs.Lists.{meaning_exact, ended_exact}
-use Rattle.dwarf_loc.specs.declared.contents.Span.{Span}
-use Rattle.dwarf_loc.specs.declared.entry.ListEntry.{ListEntry}
-use Rattle.dwarf_loc.specs.Contents.{span_of, span_item, nothing_item}
+use Rattle.dwarf_loc.specs.Contents.{nothing_item}
 use Rattle.dwarf_loc.proofs.Exact.{sized_span_exact}
 use Rattle.dwarf5_lists.specs.declared.kind.EntryKind.{EntryKind}
 use Rattle.dwarf5_lists.specs.declared.kind.EntryKind.TheVariants.{EndOfList, BaseAddressx, StartxEndx, StartxLength, OffsetPair, DefaultLocation, BaseAddress, StartEnd, StartLength}

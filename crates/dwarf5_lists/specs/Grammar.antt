@@ -1,5 +1,5 @@
 -- The bytes that spell lists of version 5 (DWARF 5, 7.7.3 and 7.25).
-use Rattle.std.specs.Prelude.{ℕ, List, Option, Some, None}
+use Rattle.std.specs.Prelude.{ℕ, List, Option, None}
 use Rattle.wasm_bytes.specs.Spelling.{Spellings, ◌&◌, leads, pair, image, only, byte, u64}
 use Rattle.dwarf_bytes.specs.Spelled.{meaning, number, ended, StandsAt}
 use Rattle.dwarf_loc.specs.declared.contents.Span.{Span}

@@ -1,18 +1,18 @@
 -- Numbers, texts and blocks are read exactly as they are spelled.
-use Rattle.std.proofs.Common.{◌≡◌, ◌≢◌, ℕ, zero, suc, ◌+◌, ◌-◌, ◌≤◌, ◌<◌, Bool, true, false, eqb, leb, ltb, cond, List, [], ◌∷◌, ◌++◌, length, take, drop, Result, Ok, Err, refl, sym, ap, subst, ◌∙◌, inl, inr, append_assoc, arith, length-append}
+use Rattle.std.proofs.Common.{◌≡◌, ◌≢◌, ℕ, suc, ◌+◌, ◌-◌, ◌≤◌, ◌<◌, Bool, true, false, eqb, leb, ltb, List, [], ◌∷◌, ◌++◌, length, take, drop, Ok, refl, sym, ap, subst, ◌∙◌, inl, inr, append_assoc, arith, length-append}
 use Rattle.std.specs.Prelude.{not}
 use Rattle.std.specs.List.{before_first, prefix_len, AllByRecursion}
 use Rattle.std.proofs.lemmas.Bool.{eqb-true}
-use Rattle.std.proofs.lemmas.List.{append-nil, take-append-drop, take_at, length-take}
+use Rattle.std.proofs.lemmas.List.{take-append-drop, take_at, length-take}
 use Rattle.std.proofs.Math.Seq.{drop-append_seam, take-append-add}
 use Rattle.wasm_bytes.specs.Place.{Place, Read}
-use Rattle.wasm_bytes.specs.Reading.{◌>>=◌, run_item, checked, if_inside, block_of, closed}
-use Rattle.wasm_bytes.specs.Spelling.{run, passing}
+use Rattle.wasm_bytes.specs.Reading.{◌>>=◌, run_item, if_inside, block_of, closed}
+use Rattle.wasm_bytes.specs.Spelling.{run}
 use Rattle.wasm_bytes.specs.Laws.{IsBytes, place, got, Took, IsExact, IsTail}
 use Rattle.wasm_bytes.proofs.Places.{IsBytes-rest, IsBytes-front, place_behind, rest_length, got_is, bind_ok, took_is}
 use Rattle.wasm_bytes.proofs.Exact.{first_took, same_exact, image_exact}
 use Rattle.wasm_bytes.proofs.ExactItems.{run_exact}
-use Rattle.dwarf_bytes.specs.Items.{little_endian, number_item, is_zero, text_item, if_ended, block_by, is_unit_length, unit_block_item}
+use Rattle.dwarf_bytes.specs.Items.{little_endian, number_item, is_zero, text_item, if_ended, block_by}
 use Rattle.dwarf_bytes.specs.Spelled.{number, ended_text, sized_by}
 use Rattle.wasm_leb.proofs.Tools.{chosen}
 

@@ -1,12 +1,11 @@
 -- Every format is read exactly as it is spelled.
-use Rattle.std.proofs.Common.{◌≡◌, ℕ, List, [], ◌++◌, length, refl, sym}
+use Rattle.std.proofs.Common.{refl}
 use Rattle.std.proofs.lemmas.List.{append-nil}
-use Rattle.wasm_bytes.specs.Place.{Place, Read}
-use Rattle.wasm_bytes.specs.Reading.{u64_item, s64_item, run_item, closed}
+use Rattle.wasm_bytes.specs.Reading.{u64_item, s64_item, run_item}
 use Rattle.wasm_bytes.specs.Spelling as spelling
 use Rattle.wasm_bytes.specs.Spelling.{u64}
-use Rattle.wasm_bytes.specs.Laws.{IsBytes, place, got, Took, IsExact, IsTail}
-use Rattle.wasm_bytes.proofs.Places.{got_is, took_is, took_nothing}
+use Rattle.wasm_bytes.specs.Laws.{place}
+use Rattle.wasm_bytes.proofs.Places.{took_is, took_nothing}
 use Rattle.wasm_bytes.proofs.Exact.{leads_exact}
 use Rattle.wasm_bytes.proofs.ExactItems.{u64_exact, s64_exact, run_exact}
 use Rattle.wasm_bytes.proofs.ExactBlocks.{closed_exact}

@@ -7,7 +7,7 @@ use Rattle.wasm_bytes.specs.Laws.{place, got, Took, IsExact}
 use Rattle.wasm_bytes.proofs.Places.{IsBytes-rest, IsBytes-front, bind_ok, took_is}
 use Rattle.dwarf_bytes.specs.Items.{block_by}
 use Rattle.dwarf_bytes.specs.Spelled.{sized_by}
-use Rattle.dwarf_bytes.proofs.Exact.{Opens, block_sound, block_again}
+use Rattle.dwarf_bytes.proofs.Exact.{block_sound, block_again}
 
 -- a block, and what stands at its front; what stands behind that is passed over
 pub front_block_exact : {A : Type 0} (S : ℕ → ℕ → List ℕ → Type 0) (f : Place → Read ℕ) → IsExact S f → (T : A → ℕ → List ℕ → Type 0) (g : Place → Read A) → IsExact T g

@@ -1,5 +1,5 @@
 -- What is left to read, at each turn of the loops over lists that an end mark ends, and over one item for each of a list.
-use Rattle.std.proofs.Common.{◌≡◌, ℕ, suc, ◌+◌, ◌≤◌, ◌<◌, List, [], ◌∷◌, length, drop, get_or, Option, Some, None, Ok, Err, refl, sym, ap, ◌∙◌, add-one, drop-cons}
+use Rattle.std.proofs.Common.{◌≡◌, ℕ, suc, ◌+◌, ◌≤◌, ◌<◌, List, [], ◌∷◌, length, drop, get_or, Option, Some, None, refl, sym, ap, ◌∙◌, add-one, drop-cons}
 use Rattle.std.proofs.lemmas.List.{drop_all}
 use Rattle.wasm_bytes.specs.declared.faults.ItemFault.{ItemFault}
 use Rattle.wasm_bytes.specs.declared.faults.ItemFault.TheVariants as faults

@@ -1,5 +1,5 @@
 -- A byte is a number of one byte.
-use Rattle.std.proofs.Common.{◌≡◌, ℕ, suc, ◌+◌, ◌-◌, ◌*◌, ◌<◌, true, false, leb, List, ◌∷◌, length, take, drop, get_or, Some, refl, inl, inr, drop-cons, arith}
+use Rattle.std.proofs.Common.{◌≡◌, ℕ, suc, ◌-◌, true, false, leb, List, ◌∷◌, length, take, drop, get_or, Some, refl, inl, inr, drop-cons, arith}
 use Rattle.std.specs.List.{slice_get}
 use Rattle.std.proofs.lemmas.Bool.{cases_lt}
 use Rattle.std.proofs.lemmas.Option.{slice_get-get_or, slice_get_past}

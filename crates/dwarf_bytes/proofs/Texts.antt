@@ -1,9 +1,9 @@
 -- A text is a run of bytes up to the first zero byte, and one more.
-use Rattle.std.proofs.Common.{◌≡◌, ℕ, zero, suc, ◌+◌, ◌-◌, ◌≤◌, ◌<◌, Bool, true, false, ltb, leb, List, [], ◌∷◌, length, take, drop, Option, Some, None, Ok, Err, refl, sym, ap, ◌∙◌, inl, inr, length-drop, arith}
+use Rattle.std.proofs.Common.{◌≡◌, ℕ, zero, suc, ◌+◌, ◌-◌, ◌≤◌, ◌<◌, true, false, ltb, leb, List, [], ◌∷◌, length, take, drop, Option, Some, None, refl, sym, ap, ◌∙◌, inl, inr, length-drop, arith}
 use Rattle.std.specs.Prelude.{position}
 use Rattle.std.specs.List.{position_or_len, before_first}
 use Rattle.std.proofs.lemmas.List.{length-take-le, length-take}
-use Rattle.wasm_bytes.specs.Place.{Place, Read}
+use Rattle.wasm_bytes.specs.Place.{Place}
 use Rattle.wasm_bytes.specs.Reading.{run_item, rest_item}
 use Rattle.wasm_bytes.specs.Laws.{got, failed}
 use Rattle.wasm_bytes.proofs.Places.{got_is}

@@ -1,5 +1,5 @@
 -- Worked expressions, by computation. The answers are those of an evaluator written apart from these definitions.
-use Rattle.std.specs.Prelude.{◌≡◌, ℕ, List, [], ◌∷◌, ◌++◌, map, replicate, Option, Some, None, ◌==◌, if◌then◌else◌, refl}
+use Rattle.std.specs.Prelude.{◌≡◌, ℕ, List, [], ◌∷◌, ◌++◌, map, replicate, Option, Some, None, refl}
 use Rattle.int_ops.specs.Integers.{binary, compare, div_s, rem_s}
 use Rattle.linear_memory.specs.Memory.{Memory}
 use Rattle.wasm_leb.specs.Reading.{unsigned_at, u64_at, signed_at, s64_at, last_signed}

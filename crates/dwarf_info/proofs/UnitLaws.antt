@@ -1,5 +1,5 @@
 -- What stands in the block of a length is read as a unit exactly where the bytes spell one, for each version.
-use Rattle.std.proofs.Common.{◌≡◌, ℕ, ◌+◌, ◌≤◌, ◌<◌, true, List, ◌++◌, length, take, drop, Option, Some, None, Ok, Err, refl, sym, ap, subst, ◌∙◌, inl, inr, append_assoc, arith}
+use Rattle.std.proofs.Common.{◌≡◌, ℕ, ◌+◌, ◌≤◌, ◌<◌, true, List, ◌++◌, length, take, drop, Option, Some, None, refl, sym, ap, subst, ◌∙◌, inl, inr, append_assoc, arith}
 use Rattle.std.specs.Prelude.{option_map}
 use Rattle.std.specs.List.{list_all}
 use Rattle.std.proofs.lemmas.Bool.{cases_lt}
@@ -11,7 +11,7 @@ use Rattle.wasm_bytes.specs.Laws.{IsBytes, place, got, IsExact, IsTail}
 use Rattle.wasm_bytes.proofs.Places.{IsBytes-rest, place_is}
 use Rattle.wasm_bytes.proofs.Exact.{leads_exact, image_exact}
 use Rattle.wasm_bytes.proofs.ExactBlocks.{leads_tail, same_tail, image_tail, checked_tail, rest_tail}
-use Rattle.dwarf_bytes.specs.Items.{item_or_none, number_item, read_at, reading_of, is_zero}
+use Rattle.dwarf_bytes.specs.Items.{item_or_none, number_item, read_at, is_zero}
 use Rattle.dwarf_bytes.specs.Spelled.{never, number, StandsAt}
 use Rattle.dwarf_bytes.proofs.Exact.{number_exact}
 use Rattle.dwarf_info.specs.declared.form.Shape.{Shape}

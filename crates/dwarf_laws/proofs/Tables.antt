@@ -1,5 +1,5 @@
 -- A table of abbreviations is read exactly where a section spells it.
-use Rattle.std.proofs.Common.{◌≡◌, ℕ, ◌<◌, ◌↔◌, List, length, Option, Some, None, refl, sym, ◌∙◌, inl, inr}
+use Rattle.std.proofs.Common.{◌≡◌, ℕ, ◌↔◌, List, length, Option, Some, None, sym, ◌∙◌, inl, inr}
 use Rattle.std.proofs.lemmas.Bool.{cases_lt}
 use Rattle.wasm_bytes.specs.Laws.{IsBytes}
 use Rattle.dwarf_bytes.specs.Spelled.{StandsAt}

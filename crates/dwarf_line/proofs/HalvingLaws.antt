@@ -1,6 +1,6 @@
 -- Among ascending values the last one that is reached stands in front of the first that is not.
 use Rattle.std.proofs.Common.{◌≡◌, ℕ, zero, suc, ◌-◌, ◌<◌, ◌≤◌, Bool, true, false, leb, List, [], ◌∷◌, length, get_or, Option, Some, None, refl, sym, ap, subst, ◌∙◌, arith, ◌≢◌}
-use Rattle.std.specs.Prelude.{◌&&◌, filter, fold}
+use Rattle.std.specs.Prelude.{filter, fold}
 use Rattle.std.specs.Option.{option_or}
 use Rattle.std.specs.List.{reduce}
 use Rattle.std.specs.List.Sorted.{IsNonDecreasingBy, IsPartitionPoint}

@@ -1,5 +1,5 @@
 -- What a list says of an address, at each turn of the loop over its entries.
-use Rattle.std.proofs.Common.{◌≡◌, ℕ, suc, ◌+◌, Bool, true, false, List, [], ◌∷◌, Option, Some, None, Ok, Err, refl, ap}
+use Rattle.std.proofs.Common.{◌≡◌, ℕ, suc, ◌+◌, Bool, true, false, List, ◌∷◌, Option, Some, None, Ok, Err, refl, ap}
 use Rattle.std.specs.Prelude.{find, if◌then◌else◌}
 use Rattle.wasm_bytes.specs.Place.{Place, Read}
 use Rattle.wasm_bytes.specs.Reading.{◌>>=◌, mapped}
@@ -9,7 +9,7 @@ use Rattle.dwarf_loc.specs.declared.entry.ListEntry.{ListEntry}
 use Rattle.dwarf_loc.specs.declared.entry.ListEntry.TheVariants.{Base, FromBase, Between, Lasting, Otherwise}
 use Rattle.dwarf_loc.specs.declared.search.Search.{Search}
 use Rattle.dwarf_loc.specs.Lists.{held, held_by, holds, defaults, first_or}
-use Rattle.dwarf_loc.specs.inner.Search.{first_of, sought, holding, taken}
+use Rattle.dwarf_loc.specs.inner.Search.{first_of, sought, taken}
 
 -- ---- one entry
 

@@ -1,16 +1,14 @@
 -- What stands at an offset of a section is what is read there.
-use Rattle.std.proofs.Common.{◌≡◌, ℕ, suc, ◌+◌, ◌-◌, ◌<◌, ◌≤◌, ◌↔◌, ◌⊎◌, List, [], ◌∷◌, ◌++◌, length, take, drop, Option, Some, None, Result, Ok, Err, refl, sym, ap, subst, ◌∙◌, inl, inr, arith}
+use Rattle.std.proofs.Common.{◌≡◌, ℕ, ◌+◌, ◌-◌, ◌<◌, ◌≤◌, ◌↔◌, List, ◌++◌, length, take, drop, Option, Some, None, Ok, Err, refl, sym, ◌∙◌, inl, inr, arith}
 use Rattle.std.specs.Prelude.{option_map}
 use Rattle.std.proofs.lemmas.Bool.{cases_lt}
 use Rattle.std.proofs.lemmas.List.{take-append-drop, length-take-le}
-use Rattle.std.proofs.Math.Seq.{drop-append_seam}
 use Rattle.wasm_bytes.specs.Place.{Place, Read}
-use Rattle.wasm_bytes.specs.Laws.{IsBytes, place, got, Took, IsExact}
-use Rattle.wasm_bytes.proofs.Places.{IsBytes-rest, place_is}
-use Rattle.dwarf_bytes.specs.Items.{ended_from, ended_item, reading_of, read_at}
+use Rattle.wasm_bytes.specs.Laws.{IsBytes, place, IsExact}
+use Rattle.wasm_bytes.proofs.Places.{place_is}
+use Rattle.dwarf_bytes.specs.Items.{ended_from, ended_item, read_at}
 use Rattle.dwarf_bytes.specs.Spelled.{StandsAt}
 use Rattle.dwarf_bytes.specs.Answers.{found_at}
-use Rattle.dwarf_bytes.specs.declared.faults.ReadFault.{ReadFault}
 use Rattle.dwarf_bytes.specs.declared.faults.ReadFault.TheVariants.{Unreadable}
 use Rattle.dwarf_bytes.proofs.Standing.{stands_read, read_stands}
 

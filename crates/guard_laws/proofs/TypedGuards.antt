@@ -1,5 +1,5 @@
 -- The guard of an instruction that is well typed on its operands is well typed.
-use Rattle.std.proofs.Common.{◌≡◌, suc, ◌+◌, ◌/◌, ◌≤◌, List, [], ◌∷◌, length, map, Option, Some, Bool, true, false, sym, ap, ◌∙◌, subst, arith}
+use Rattle.std.proofs.Common.{◌≡◌, suc, ◌+◌, ◌/◌, ◌≤◌, List, [], ◌∷◌, length, map, Option, Some, true, sym, ap, ◌∙◌, subst, arith}
 use Rattle.std.specs.Prelude.{take}
 use Rattle.wasm_syntax.specs.declared.value.ValType.{ValType}
 use Rattle.wasm_syntax.specs.declared.value.ValType.TheVariants.{I32}
@@ -12,7 +12,7 @@ use Rattle.wasm_syntax.specs.declared.module.ModuleParts.{ModuleParts as Module}
 use Rattle.wasm_syntax.specs.Access.{load_bits, store_type, store_bits}
 use Rattle.wasm_syntax.specs.Tree.{Nodes}
 use Rattle.wasm_syntax.specs.Effect.{takes}
-use Rattle.wasm_syntax.specs.Typing.{Context, Arrow, arrow, only_if}
+use Rattle.wasm_syntax.specs.Typing.{Context, Arrow, arrow}
 use Rattle.wasm_syntax.specs.Typing as typing
 use Rattle.rewrite_bodies.specs.Slots.{Place, place_type, Ctx}
 use Rattle.rewrite_bodies.specs.Guards.{guard, can_trap, divides}

@@ -7,13 +7,12 @@ use Rattle.wasm_syntax.specs.declared.instruction.Instr.TheVariants as instrs
 use Rattle.wasm_syntax.specs.declared.instruction.Op.{Op}
 use Rattle.wasm_syntax.specs.declared.parts.Body.{Body}
 use Rattle.wasm_syntax.specs.declared.parts.Export.{Export}
-use Rattle.wasm_syntax.specs.declared.parts.Global.{Global}
 use Rattle.wasm_syntax.specs.declared.module.ModuleParts.{ModuleParts as Module}
 use Rattle.wasm_syntax.specs.Tree.{item_of}
 use Rattle.wasm_syntax.specs.Module.{is_function}
 use Rattle.wasm_syntax.specs.Valid.{Valid}
 use Rattle.wasm_instructions.specs.Encoding.{encoding as instruction_bytes}
-use Rattle.wasm_encode.specs.Encoding.{sized_bytes, import_bytes, kind_byte, global_bytes, export_bytes, entry_bytes}
+use Rattle.wasm_encode.specs.Encoding.{import_bytes, global_bytes, export_bytes, entry_bytes}
 use Rattle.wasm_sizes.specs.Sized.{Sized}
 use Rattle.rewrite_bodies.specs.Numbering.{import_count, wraps, start_wraps, export_wrapped, wrapped, is_in, distinct}
 use Rattle.rewrite_modules.specs.Weight.{type_used}

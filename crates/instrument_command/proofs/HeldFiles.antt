@@ -1,14 +1,11 @@
 -- What files hold behind one that was written.
-use Rattle.std.proofs.Common.{◌≡◌, Bool, true, false, List, ℕ, [], ◌∷◌, refl, sym, ap, ◌∙◌, subst, inr, Option, Some}
-use Rattle.std.specs.Prelude.{bytes_eq, if◌then◌else◌}
+use Rattle.std.proofs.Common.{◌≡◌, List, ℕ, [], refl, sym, subst, inr, Option}
 use Rattle.std.proofs.lemmas.List.{append-nil}
-use Rattle.std.proofs.lemmas.Slice.Eq.{bytes_eq-Decides}
 use Rattle.pm_outside.specs.Contents.{Contents, SameBut}
 use Rattle.pm_outside.specs.declared.answers.WriteAnswer.{WriteAnswer}
 use Rattle.pm_outside.specs.declared.answers.WriteAnswer.TheVariants as write
-use Rattle.dump_write.specs.Written.{OnTold, HasFile, HasFront, Writes as Leaves}
+use Rattle.dump_write.specs.Written.{OnTold, HasFront, Writes as Leaves}
 use Rattle.dump_write.proofs.Files.{same_told, none_told}
-use Rattle.run_session.specs.Written.{HoldThen}
 
 -- whatever writing the file answered, it holds a front
 pub front_left : (file bytes : List ℕ) (answer : WriteAnswer) (before after : Option Contents) → OnTold (Leaves file bytes answer) before after → OnTold (HasFront file bytes) before after

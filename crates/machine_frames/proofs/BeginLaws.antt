@@ -1,6 +1,6 @@
 -- A function is begun from outside of all frames.
-use Rattle.std.proofs.Common.{◌≡◌, ℕ, suc, ◌+◌, ◌-◌, ◌<◌, List, [], ◌∷◌, ◌++◌, length, reverse, take, get_or, refl, sym, ap, subst, ◌∙◌, add-one, append_assoc, length-append, arith}
-use Rattle.std.proofs.lemmas.List.{length-reverse, reverse-append, reverse-reverse, append-nil}
+use Rattle.std.proofs.Common.{◌≡◌, ℕ, ◌+◌, ◌-◌, ◌<◌, List, [], ◌∷◌, ◌++◌, length, reverse, take, get_or, refl, sym, ap, subst, ◌∙◌, add-one, append_assoc, length-append, arith}
+use Rattle.std.proofs.lemmas.List.{length-reverse, reverse-append, append-nil}
 use Rattle.std.proofs.Math.Seq.{take-suc}
 use Rattle.std.specs.Prelude.{Some, None, slice_get}
 use Rattle.wasm_syntax.specs.declared.value.Value.{Value}
@@ -12,7 +12,6 @@ use Rattle.wasm_syntax.specs.Machine.{returns, label, zeros, result_of, entered}
 use Rattle.machine_code.specs.declared.code.Code.{Code}
 use Rattle.machine_code.specs.Flat.{Is, size}
 use Rattle.machine_code.specs.Code.{items, FitsCode, Prepares}
-use Rattle.machine_frames.specs.declared.layout.CallFrame.{CallFrame}
 use Rattle.machine_frames.specs.declared.layout.CallStack.{CallStack}
 use Rattle.machine_frames.specs.declared.layout.Stepped.{Stepped}
 use Rattle.machine_frames.specs.declared.layout.Stepped.TheVariants.{Next, Ended, Trap, NoMemory, Stuck}

@@ -7,7 +7,7 @@ use Rattle.wasm_syntax.specs.declared.value.Value.{Value}
 use Rattle.wasm_syntax.specs.declared.value.Value.TheVariants as values
 use Rattle.wasm_syntax.specs.Tree.{Nodes, stop, basic, jump, block, loop, choose, Opens, OpensLoop, OpensIf}
 use Rattle.wasm_syntax.specs.Machine as steps
-use Rattle.wasm_syntax.specs.Machine.{Kind, leaves, again, returns, Label, label, config, joined, runs, else_or}
+use Rattle.wasm_syntax.specs.Machine.{Kind, leaves, again, Label, label, config, joined, runs, else_or}
 use Rattle.machine_code.specs.declared.sides.Side.{Side}
 use Rattle.machine_code.specs.declared.code.Code.{Code}
 use Rattle.machine_code.specs.Code.{items, gives_one}

@@ -6,7 +6,7 @@ use Rattle.wasm_syntax.specs.declared.value.ValType.{ValType}
 use Rattle.wasm_syntax.specs.declared.value.Value.{Value}
 use Rattle.wasm_syntax.specs.Tree.{Nodes, stop, basic, jump, block, loop, choose, Else, End}
 use Rattle.wasm_syntax.specs.Machine as steps
-use Rattle.wasm_syntax.specs.Machine.{Kind, leaves, again, returns, Label, label, config, joined, runs, branch, exactly, top, arrive_some, out_some, moved, jumps}
+use Rattle.wasm_syntax.specs.Machine.{Kind, leaves, again, returns, Label, label, config, joined, runs, branch, exactly, arrive_some, out_some, moved}
 use Rattle.machine_code.specs.declared.code.Code.{Code}
 use Rattle.machine_code.specs.Flat.{Is}
 use Rattle.machine_code.specs.Code.{items}

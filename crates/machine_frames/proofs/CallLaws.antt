@@ -11,7 +11,7 @@ use Rattle.wasm_syntax.specs.Numbers.{types}
 use Rattle.wasm_syntax.specs.Tree.{Jump, Call, Nodes, Tree, Goes, End}
 use Rattle.wasm_syntax.specs.Module.{Program, Function, imported, defined, function_at, defined_at, imported_at, declared_locals, same_types, option_then}
 use Rattle.wasm_syntax.specs.Machine as steps
-use Rattle.wasm_syntax.specs.Machine.{returns, Label, label, Frame, frame, config, joined, Cut, short, parts, cut, one_more, zeros, result_of, entered}
+use Rattle.wasm_syntax.specs.Machine.{returns, label, Frame, frame, joined, Cut, short, parts, cut, one_more, zeros, result_of, entered}
 use Rattle.machine_code.specs.declared.code.Code.{Code}
 use Rattle.machine_code.specs.Flat.{Is, size}
 use Rattle.machine_code.specs.Code.{items, FitsCode, Prepares}

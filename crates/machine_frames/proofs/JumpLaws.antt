@@ -5,7 +5,7 @@ use Rattle.wasm_syntax.specs.declared.value.Value.{Value}
 use Rattle.wasm_syntax.specs.declared.value.Value.TheVariants as values
 use Rattle.wasm_syntax.specs.Tree.{Jump, BrIf, BrTable, Nodes, stop, basic, jump, block, loop, choose, Goes}
 use Rattle.wasm_syntax.specs.Machine as steps
-use Rattle.wasm_syntax.specs.Machine.{Label, label, joined, runs, branch, moved, jumps, pick, same_carry, carry}
+use Rattle.wasm_syntax.specs.Machine.{label, joined, runs, branch, moved, jumps, pick, same_carry, carry}
 use Rattle.machine_code.specs.declared.code.Code.{Code}
 use Rattle.machine_code.specs.Code.{items}
 use Rattle.machine_frames.specs.declared.layout.CallStack.{CallStack}

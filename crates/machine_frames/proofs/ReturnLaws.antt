@@ -4,7 +4,7 @@ use Rattle.std.proofs.lemmas.List.{drop_at, append-nil}
 use Rattle.std.specs.Prelude.{Bool, true, Option, Some, None}
 use Rattle.wasm_syntax.specs.declared.value.Value.{Value}
 use Rattle.wasm_syntax.specs.Machine as steps
-use Rattle.wasm_syntax.specs.Machine.{Label, label, Frame, config, joined, arrive, top, out_some, result_of}
+use Rattle.wasm_syntax.specs.Machine.{Label, label, Frame, joined, arrive, top, out_some}
 use Rattle.machine_code.specs.declared.code.Code.{Code}
 use Rattle.machine_code.specs.Code.{gives_one}
 use Rattle.machine_frames.specs.declared.layout.Control.{Control}

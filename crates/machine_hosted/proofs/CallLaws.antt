@@ -1,11 +1,9 @@
 -- A step that calls an import, unless it is stuck.
-use Rattle.std.proofs.Common.{◌≡◌, ◌≢◌, ℕ, ◌-◌, List, [], ◌∷◌, ◌++◌, length, reverse, refl, sym, ap, ◌∙◌, arith}
+use Rattle.std.proofs.Common.{◌≡◌, ◌≢◌, ℕ, ◌-◌, List, ◌++◌, length, reverse, refl, sym, ap, ◌∙◌, arith}
 use Rattle.std.proofs.lemmas.Bool.Decides.{nat_tests}
 use Rattle.std.proofs.lemmas.List.{reverse-reverse, length-reverse}
 use Rattle.std.proofs.lemmas.Option.{slice_get_within}
 use Rattle.std.specs.Prelude.{Bool, true, false, nat_lt, if◌then◌else◌, Some, option_map, slice_get}
-use Rattle.wasm_syntax.specs.declared.value.ValType.{ValType}
-use Rattle.wasm_syntax.specs.declared.value.ValType.TheVariants.{I32, I64}
 use Rattle.wasm_syntax.specs.declared.value.Value.{Value}
 use Rattle.wasm_syntax.specs.declared.parts.Import.{Import}
 use Rattle.wasm_syntax.specs.declared.parts.FuncType.{FuncType}
@@ -13,7 +11,7 @@ use Rattle.wasm_syntax.specs.Numbers.{types}
 use Rattle.wasm_syntax.specs.Module.{Program, imported, imported_at, defined_at, function_at, same_types, option_then}
 use Rattle.wasm_syntax.specs.Host.{answer}
 use Rattle.wasm_syntax.specs.Machine as steps
-use Rattle.wasm_syntax.specs.Machine.{Engine, Config, Stepped, Cut, short, parts, cut, step, host, host_call}
+use Rattle.wasm_syntax.specs.Machine.{Engine, Config, Cut, short, parts, cut, step, host, host_call}
 use Rattle.machine_frames.proofs.CallLaws.{cut_parts}
 use Rattle.machine_code.specs.declared.code.Code.{Code}
 use Rattle.machine_steps.specs.declared.machine.Machine.{Machine}

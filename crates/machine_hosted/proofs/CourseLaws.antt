@@ -1,5 +1,5 @@
 -- An invocation whose steps are used up waits in its start function or in its entry, and goes on from there.
-use Rattle.std.proofs.Common.{◌≡◌, ℕ, suc, ◌+◌, ◌-◌, ◌≤◌, List, [], ◌∷◌, ◌++◌, reverse, drop, length, refl, sym, ap, ap₂, subst, ◌∙◌, arith, append_assoc}
+use Rattle.std.proofs.Common.{◌≡◌, ℕ, suc, ◌+◌, ◌-◌, ◌≤◌, List, [], ◌++◌, reverse, drop, length, refl, sym, ap, subst, ◌∙◌, arith, append_assoc}
 use Rattle.std.proofs.lemmas.List.{append-nil, append_cancel_left, map-append, reverse-append, reverse-reverse}
 use Rattle.std.specs.Prelude.{Bool, true, false, Option, Some, None}
 use Rattle.wasm_syntax.specs.declared.value.Value.{Value}
@@ -11,7 +11,7 @@ use Rattle.wasm_syntax.specs.declared.host.Served.{Served as ServedCall}
 use Rattle.wasm_syntax.specs.declared.host.CollectorCall.{CollectorCall}
 use Rattle.wasm_syntax.specs.Module.{Program, IsProgram, function_at, type_at}
 use Rattle.wasm_syntax.specs.Host.{World}
-use Rattle.wasm_syntax.specs.Machine.{Engine, Config, config, Stepped, next, ends, traps, no_reply, bad_reply, stuck}
+use Rattle.wasm_syntax.specs.Machine.{Engine, Config, Stepped, next, ends, traps, no_reply, bad_reply, stuck}
 use Rattle.wasm_syntax.specs.Run.{Ended, ended, run_function, run_entry, go_on, ran_to, invoked, engine, running, Ran}
 use Rattle.host_devices.specs.HostSides.{Calls}
 use Rattle.host_devices.specs.Given.{replies_of, unfitting}

@@ -16,6 +16,7 @@ pub mod AloneLaws
 pub mod FrameLaws
 pub mod DefinedLaws
 pub mod JoinLaws
+pub mod Fewer
 pub mod WatchLaws
 pub mod WatchJoins
 pub mod MadeJoins

@@ -1,14 +1,14 @@
 -- Where the steps of an invocation are made, and how many there are.
-use Rattle.std.proofs.Common.{◌≡◌, ℕ, zero, suc, ◌+◌, ◌-◌, ◌<◌, ◌≤◌, List, [], ◌∷◌, ◌++◌, length, length-append, refl, sym, ap, ◌∙◌, arith, inl, inr}
+use Rattle.std.proofs.Common.{◌≡◌, ℕ, suc, ◌+◌, ◌-◌, ◌<◌, ◌≤◌, List, [], ◌++◌, length, length-append, refl, sym, ap, ◌∙◌, arith, inl, inr}
 use Rattle.std.proofs.lemmas.Bool.{cases_lt}
 use Rattle.std.specs.Prelude.{true, Option, Some, None, slice_get}
 use Rattle.wasm_syntax.specs.declared.value.Value.{Value}
 use Rattle.wasm_syntax.specs.Module.{function_at}
 use Rattle.wasm_syntax.specs.Host.{World}
 use Rattle.wasm_syntax.specs.Machine.{Engine, Config, Stepped, next, ends, traps, no_reply, bad_reply, stuck}
-use Rattle.wasm_syntax.specs.Run.{Ended, ended, Ran, ran_to, run_function, run_entry, go_on, invoked}
+use Rattle.wasm_syntax.specs.Run.{Ended, ended, ran_to, run_function, go_on, invoked}
 use Rattle.machine_steps.specs.Places.{Place, place_of, entry_places, places_on, invocation_places}
-use Rattle.machine_steps.proofs.MadeLaws.{Reached, function_count, function_reached}
+use Rattle.machine_steps.proofs.MadeLaws.{function_count, function_reached}
 use Rattle.machine_hosted.proofs.JoinLaws.{function_ends, left_is}
 use Rattle.wasm_laws.proofs.Lists.{get_behind, get_front}
 

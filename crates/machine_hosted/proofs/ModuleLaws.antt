@@ -1,7 +1,7 @@
 -- Functions of valid modules.
 use Rattle.std.proofs.Common.{◌≡◌, ℕ, ◌+◌, ◌-◌, ◌<◌, ◌≤◌, List, [], map, length, refl, sym, ap, subst, ◌∙◌, arith}
 use Rattle.std.proofs.lemmas.Bool.Decides.{nat_tests}
-use Rattle.std.specs.Prelude.{true, false, nat_lt, if◌then◌else◌, Option, Some, None, IfSome, option_map, slice_get}
+use Rattle.std.specs.Prelude.{true, nat_lt, if◌then◌else◌, Option, Some, None, IfSome, option_map, slice_get}
 use Rattle.wasm_syntax.specs.declared.value.Value.{Value}
 use Rattle.wasm_syntax.specs.declared.parts.FuncType.{FuncType}
 use Rattle.wasm_syntax.specs.declared.parts.Import.{Import}

@@ -1,5 +1,5 @@
 -- A function goes on from where it waits.
-use Rattle.std.proofs.Common.{◌≡◌, ◌≢◌, ℕ, ◌+◌, ◌-◌, ◌≤◌, ◌<◌, List, [], ◌∷◌, length, refl, sym, ap, subst, ◌∙◌, arith}
+use Rattle.std.proofs.Common.{◌≡◌, ℕ, ◌-◌, ◌≤◌, ◌<◌, List, length, refl, sym, ap, subst, ◌∙◌, arith}
 use Rattle.std.proofs.lemmas.Bool.Decides.{nat_tests}
 use Rattle.std.specs.Prelude.{Bool, true, false, nat_lt, if◌then◌else◌, Option, Some, None, option_map, slice_get}
 use Rattle.wasm_syntax.specs.declared.value.Value.{Value}
@@ -10,14 +10,14 @@ use Rattle.wasm_syntax.specs.declared.module.ModuleParts.{ModuleParts as Module}
 use Rattle.wasm_syntax.specs.declared.host.Reply.{Reply}
 use Rattle.wasm_syntax.specs.Tree.{Tree}
 use Rattle.wasm_syntax.specs.Module.{Program, IsProgram, Function, imported, defined, imported_at, defined_at, function_at, option_then}
-use Rattle.wasm_syntax.specs.Machine.{Config, Stepped, stuck}
+use Rattle.wasm_syntax.specs.Machine.{Config}
 use Rattle.wasm_syntax.specs.Run.{engine, run_function, run_steps}
 use Rattle.machine_steps.specs.declared.machine.Machine.{Machine}
 use Rattle.machine_steps.specs.declared.machine.Prepared.{Prepared}
 use Rattle.machine_steps.specs.Meets.{StandsFor}
 use Rattle.host_devices.specs.HostSides.{Calls}
 use Rattle.machine_hosted.specs.declared.answer.RunEnd.{RunEnd}
-use Rattle.machine_hosted.specs.Safe.{ValidProgram, RunFits}
+use Rattle.machine_hosted.specs.Safe.{RunFits}
 use Rattle.machine_hosted.specs.Settings.{Sound, ServesAll}
 use Rattle.machine_hosted.specs.Hosted.{replying}
 use Rattle.machine_hosted.specs.Answers.{FunctionCameWith, function_going}

@@ -1,7 +1,6 @@
 -- Runs of a valid program fit.
-use Rattle.std.proofs.Common.{◌≡◌, ◌≢◌, ℕ, zero, suc, ◌+◌, ◌-◌, List, [], ◌∷◌, ◌++◌, length, refl, sym, ap, ap₂, subst, ◌∙◌, arith}
-use Rattle.std.proofs.lemmas.Bool.Decides.{nat_tests}
-use Rattle.std.specs.Prelude.{false, nat_lt, if◌then◌else◌, Option, Some, None, option_to_list}
+use Rattle.std.proofs.Common.{◌≡◌, ◌≢◌, ℕ, zero, suc, ◌+◌, List, [], ◌∷◌, ◌++◌, length, refl, sym, ap, ap₂, subst, ◌∙◌}
+use Rattle.std.specs.Prelude.{Option, Some, None, option_to_list}
 use Rattle.wasm_syntax.specs.declared.value.Value.{Value}
 use Rattle.wasm_syntax.specs.declared.parts.FuncType.{FuncType}
 use Rattle.wasm_syntax.specs.declared.parts.Limits.{Limits}
@@ -11,7 +10,7 @@ use Rattle.wasm_syntax.specs.declared.host.CollectorCall.{CollectorCall}
 use Rattle.wasm_syntax.specs.declared.host.Reply.{Reply}
 use Rattle.wasm_syntax.specs.Numbers.{types}
 use Rattle.wasm_syntax.specs.Tree.{Tree}
-use Rattle.wasm_syntax.specs.Module.{Program, imported_at, defined, defined_at, function_at, declared_locals}
+use Rattle.wasm_syntax.specs.Module.{Program, defined, defined_at, function_at, declared_locals}
 use Rattle.wasm_syntax.specs.Typing.{Types, body_context}
 use Rattle.wasm_syntax.specs.Host.{World}
 use Rattle.wasm_syntax.specs.Machine.{Engine, Config, config, Stepped, next, ends, traps, no_reply, bad_reply, stuck, step, entered, zeros, result_of}

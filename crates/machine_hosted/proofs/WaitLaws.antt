@@ -1,13 +1,12 @@
 -- A function whose steps are used up waits where it stands, and goes on from there.
 use Rattle.std.proofs.Common.{◌≡◌, ℕ, zero, suc, ◌+◌, List, [], ◌∷◌, refl, sym, ap, subst, ◌∙◌, arith}
-use Rattle.std.specs.Prelude.{Option, Some}
+use Rattle.std.specs.Prelude.{Some}
 use Rattle.wasm_syntax.specs.declared.value.Value.{Value}
 use Rattle.wasm_syntax.specs.declared.parts.FuncType.{FuncType}
 use Rattle.wasm_syntax.specs.declared.host.HostCall.{HostCall}
-use Rattle.wasm_syntax.specs.declared.host.Reply.{Reply}
 use Rattle.wasm_syntax.specs.declared.host.CollectorCall.{CollectorCall}
 use Rattle.wasm_syntax.specs.Numbers.{types}
-use Rattle.wasm_syntax.specs.Module.{Program, Function, imported, defined, function_at, type_at}
+use Rattle.wasm_syntax.specs.Module.{Function, imported, defined, function_at, type_at}
 use Rattle.wasm_syntax.specs.Host.{World, Answer, replied, told, silent, misfit, answer}
 use Rattle.wasm_syntax.specs.Machine.{Engine, Frame, Config, config, Stepped, next, ends, traps, no_reply, bad_reply, stuck, step, entered, host_call, function_type}
 use Rattle.wasm_syntax.specs.Run.{Ended, ended, run_on, run_steps, host_alone, run_alone, run_function}
@@ -20,7 +19,7 @@ use Rattle.machine_steps.specs.Meets.{StandsFor}
 use Rattle.machine_hosted.specs.Safe.{ValidProgram, WorldFits, RunFits}
 use Rattle.machine_hosted.specs.Hosted.{replying}
 use Rattle.machine_hosted.specs.Answers.{KeepsFrames, Keeps}
-use Rattle.machine_hosted.specs.inner.Resumes.{with_replies, going_on, WaitsIn, Waits}
+use Rattle.machine_hosted.specs.inner.Resumes.{with_replies, going_on, Waits}
 use Rattle.machine_hosted.proofs.SafeLaws.{world_fine, world_fits, run_fits, entered_fine}
 use Rattle.machine_hosted.proofs.WorldLaws.{fits_replying}
 use Rattle.machine_hosted.proofs.ModuleLaws.{typed_of}

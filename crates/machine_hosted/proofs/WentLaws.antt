@@ -1,5 +1,5 @@
 -- How an invocation whose steps were used up went on.
-use Rattle.std.proofs.Common.{◌≡◌, ℕ, ◌+◌, ◌-◌, ◌≤◌, List, [], ◌++◌, reverse, refl, sym, ap, subst, ◌∙◌, arith, append_assoc}
+use Rattle.std.proofs.Common.{◌≡◌, ℕ, ◌+◌, ◌-◌, List, [], ◌++◌, reverse, refl, sym, ap, subst, ◌∙◌, arith, append_assoc}
 use Rattle.std.proofs.lemmas.List.{append-nil}
 use Rattle.std.specs.Prelude.{Bool, true, false, Option, Some}
 use Rattle.wasm_syntax.specs.declared.value.Value.{Value}
@@ -23,7 +23,7 @@ use Rattle.machine_steps.specs.Meets.{Shares}
 use Rattle.machine_hosted.specs.Hosted.{Asked, Grew, Going}
 use Rattle.machine_hosted.specs.Answers.{AdmitsReplies, given_steps, FunctionCame, FunctionCameWith, function_going}
 use Rattle.machine_hosted.specs.Invocations.{follows_behind, Invoking, invoking, InvocationCame, InvocationCameWith}
-use Rattle.machine_hosted.specs.Courses.{Course, both, longer, CameBy, Followed, WentOn}
+use Rattle.machine_hosted.specs.Courses.{Course, both, Followed, WentOn}
 use Rattle.machine_hosted.specs.inner.Resumes.{resuming}
 use Rattle.machine_hosted.proofs.ModuleLaws.{function_there}
 use Rattle.machine_hosted.proofs.JoinLaws.{begun_is, ran_came, inside_start, behind_start, w1, co1}

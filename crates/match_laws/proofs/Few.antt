@@ -1,5 +1,5 @@
 -- No more frames stand than the depth admits.
-use Rattle.std.proofs.Common.{◌≡◌, ℕ, zero, suc, ◌<◌, ◌≤◌, Bool, true, false, nat_lt, List, [], ◌∷◌, reverse, if◌then◌else◌, length, slice_get, Option, Some, None, refl, subst, ltb-true, arith}
+use Rattle.std.proofs.Common.{◌≡◌, ℕ, zero, suc, ◌<◌, ◌≤◌, Bool, true, false, nat_lt, List, [], ◌∷◌, reverse, length, slice_get, Option, Some, None, refl, ltb-true, arith}
 use Rattle.std.specs.List.{AllByRecursion}
 use Rattle.wasm_syntax.specs.declared.value.ValType.{ValType}
 use Rattle.wasm_syntax.specs.declared.value.Value.{Value}
@@ -11,10 +11,10 @@ use Rattle.wasm_syntax.specs.declared.host.Reply.{Reply}
 use Rattle.wasm_syntax.specs.declared.host.CollectorCall.{CollectorCall}
 use Rattle.wasm_syntax.specs.Numbers.{types}
 use Rattle.wasm_syntax.specs.Tree.{Jump, Unreachable, Br, BrIf, BrTable, Return, Call, CallIndirect, Nodes, stop, basic, jump, block, loop, choose}
-use Rattle.wasm_syntax.specs.Module.{Program, Function, imported, defined, function_at, same_types, function_export}
+use Rattle.wasm_syntax.specs.Module.{Program, Function, imported, defined, function_at, same_types}
 use Rattle.wasm_syntax.specs.Host.{World, Answer, replied, told, silent, misfit, answer}
 use Rattle.wasm_syntax.specs.Effect.{Effect, gives, fails, unfit, effect, takes}
-use Rattle.wasm_syntax.specs.Machine.{Label, Frame, Config, config, Engine, Stepped, next, ends, traps, no_reply, bad_reply, stuck, Cut, short, parts, cut, top, Went, inside, outside, nowhere, arrive, out_some, leave, branch, carry, same_carry, pick, function_type, entered, host_call, goes_to, deliver, moved, host, enters, applied, applied_if, calls_on, calls, calls_if, fits_entry, calls_entry, calls_typed, calls_indirect, branch_if, moved_if, branch_table, jumps, affects, does, chooses, runs, in_frame, steps, step}
+use Rattle.wasm_syntax.specs.Machine.{Label, Frame, Config, Engine, Stepped, Cut, short, parts, cut, top, Went, inside, outside, nowhere, arrive, out_some, leave, branch, carry, same_carry, pick, function_type, entered, host_call, goes_to, deliver, moved, host, enters, applied, applied_if, calls_on, calls, calls_if, fits_entry, calls_entry, calls_typed, calls_indirect, branch_if, moved_if, branch_table, jumps, affects, does, chooses, runs, in_frame, steps, step}
 use Rattle.wasm_syntax.specs.Run.{engine, run, cause_of, Invocation}
 use Rattle.match_laws.proofs.RunStates.{OnFrames, LastHas, unless_has}
 

@@ -10,7 +10,7 @@ use Rattle.wasm_syntax.specs.declared.parts.Body.{Body}
 use Rattle.wasm_syntax.specs.declared.module.ModuleParts.{ModuleParts as Module}
 use Rattle.wasm_syntax.specs.Numbers.{types}
 use Rattle.wasm_syntax.specs.Tree.{Tree, Writes, Call, CallIndirect, Item, Goes, Nodes, stop, basic, jump, block, loop, choose}
-use Rattle.wasm_syntax.specs.Module.{Program, IsProgram, AllWrite, Function, imported, defined, function_at, imported_at, defined_at, function_types, type_at, option_then, declared_locals}
+use Rattle.wasm_syntax.specs.Module.{Program, IsProgram, Function, imported, defined, function_at, imported_at, defined_at, function_types, type_at, option_then, declared_locals}
 use Rattle.wasm_syntax.specs.Machine.{Label, Frame, joined, operands, offset_in, offset_of}
 use Rattle.wasm_syntax.specs.Typing.{Context}
 use Rattle.wasm_syntax.specs.Static.{Spot, spot, Live, IsNode}

@@ -1,10 +1,10 @@
 -- The functions of an accepted module, one after the other.
-use Rattle.std.proofs.Common.{◌≡◌, ℕ, suc, ◌+◌, ◌^◌, ◌<◌, ◌≤◌, List, [], ◌∷◌, ◌++◌, length, take, get_or, Option, Some, slice_get, refl, ap, ◌∙◌, arith}
+use Rattle.std.proofs.Common.{◌≡◌, ℕ, ◌+◌, ◌^◌, ◌<◌, ◌≤◌, List, [], ◌∷◌, ◌++◌, length, take, get_or, Option, Some, slice_get, ap, ◌∙◌, arith}
 use Rattle.std.proofs.lemmas.Option.{slice_get-get_or}
 use Rattle.wasm_syntax.specs.declared.parts.Body.{Body}
 use Rattle.wasm_syntax.specs.declared.module.ModuleParts.{ModuleParts as Module}
 use Rattle.wasm_syntax.specs.Module.{option_then, function_at}
-use Rattle.rewrite_modules.specs.Instrument.{each, new_body}
+use Rattle.rewrite_modules.specs.Instrument.{new_body}
 use Rattle.rewrite_modules.proofs.FineBodies.{index_back}
 use Rattle.rewrite_promise.specs.Promise.{Accepted}
 use Rattle.slot_plan.specs.Plans.{IsDefined}

@@ -1,5 +1,5 @@
 -- Lists of types of different lengths.
-use Rattle.std.proofs.Common.{◌≡◌, ◌≢◌, ◌∙◌, ◌&&◌, Bool, true, false, List, [], ◌∷◌, length, suc, refl, ap}
+use Rattle.std.proofs.Common.{◌≡◌, ◌≢◌, ◌∙◌, ◌&&◌, false, List, [], ◌∷◌, length, suc, refl, ap}
 use Rattle.wasm_syntax.specs.declared.value.ValType.{ValType}
 use Rattle.wasm_syntax.specs.Numbers.{same_type}
 use Rattle.wasm_syntax.specs.Module.{same_types}

@@ -1,5 +1,5 @@
 -- `run` has at most one answer, and one list of written files, where the same replies were given.
-use Rattle.std.proofs.Common.{◌≡◌, ℕ, List, ◌++◌, map, length, Option, Some, None, sym, ap, subst, ◌∙◌}
+use Rattle.std.proofs.Common.{◌≡◌, List, ◌++◌, map, length, Option, sym, ap, subst, ◌∙◌}
 use Rattle.std.proofs.Math.Path.{fun_ext}
 use Rattle.pm_outside.specs.Contents.{Contents}
 use Rattle.wasm_syntax.specs.declared.quantity.Quantity.TheVariants.{ModuleBytes}
@@ -24,7 +24,7 @@ use Rattle.run_session.specs.RunText.{up_to_torn, dumps_from}
 use Rattle.run_command.specs.Hosting.{start_text}
 use Rattle.run_command.specs.AllRan.{all_ran}
 use Rattle.run_command.specs.Recorded.{recorded}
-use Rattle.run_command.specs.RunAnswer.{RunAnswer, RunsTo, StartsOr, ModuleAnswer, IfRefusal, IsUntouched, hosting, replies_input, script_of}
+use Rattle.run_command.specs.RunAnswer.{RunAnswer, RunsTo, ModuleAnswer, IfRefusal, IsUntouched, hosting, replies_input, script_of}
 use Rattle.selftest_laws.proofs.OneProgram.{same_program}
 use Rattle.run_command.proofs.OneWritten.{Gives, at_refusal, gives_then, gives_starts, gives_if_loaded, input_refuses, replies_refuse, script_refuses}
 use Rattle.cover_command.proofs.OneCover.{agree_starts}

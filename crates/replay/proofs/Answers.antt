@@ -10,7 +10,7 @@ use Rattle.machine_hosted.specs.declared.answer.RunEnd.TheVariants.{Finished, Tr
 use Rattle.machine_hosted.specs.Answers.{KeepsThen, given_steps}
 use Rattle.machine_hosted.specs.Invocations.{HasOutcome}
 use Rattle.wasm_machine.specs.Instances as instances
-use Rattle.wasm_machine.specs.Instances.{State, StandsAt, kept_end}
+use Rattle.wasm_machine.specs.Instances.{State, StandsAt}
 use Rattle.wasm_machine.specs.Sessions.{HadMemory}
 use Rattle.wasm_machine.proofs.StandingLaws.{trap_stands}
 use Rattle.replay.specs.Replays.{IsOutcome}

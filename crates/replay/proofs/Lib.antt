@@ -1,6 +1,5 @@
 pub mod Answers
 pub mod Runs
-pub mod Fewer
 pub mod Going
 pub mod Ending
 pub mod Spent

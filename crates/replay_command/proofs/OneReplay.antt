@@ -1,5 +1,5 @@
 -- `replay` has at most one answer.
-use Rattle.std.proofs.Common.{◌≡◌, ℕ, ◌<◌, ◌*◌, ◌/◌, true, false, List, [], ◌∷◌, ◌++◌, length, replicate, slice_get, Option, Some, None, Result, Ok, Err, refl, sym, ap, ap₂, subst, ◌∙◌, arith, inl, inr}
+use Rattle.std.proofs.Common.{◌≡◌, ℕ, ◌<◌, ◌*◌, ◌/◌, List, [], ◌∷◌, ◌++◌, length, replicate, slice_get, Option, Some, None, Result, Ok, Err, refl, sym, ap, ap₂, subst, ◌∙◌, arith, inl, inr}
 use Rattle.std.specs.Prelude.{codes, option_map, IfSome}
 use Rattle.std.specs.List.{range_with_len}
 use Rattle.linear_memory.specs.Memory.{Memory, page_size}
@@ -11,7 +11,7 @@ use Rattle.wasm_syntax.specs.declared.host.Reply.{Reply}
 use Rattle.wasm_syntax.specs.declared.module.ModuleParts.{ModuleParts as Module}
 use Rattle.wasm_syntax.specs.Machine.{Config}
 use Rattle.wasm_syntax.specs.Module.{Program}
-use Rattle.wasm_syntax.specs.Run.{Outcome as RunOutcome, running}
+use Rattle.wasm_syntax.specs.Run.{Outcome as RunOutcome}
 use Rattle.wasm_decode.specs.Decode.{module_from}
 use Rattle.dump_format.specs.declared.dump.Dump.{Dump}
 use Rattle.dump_format.specs.declared.dump.Frame.{Frame}
@@ -24,7 +24,6 @@ use Rattle.dump_image.specs.Pictured.{Pictures}
 use Rattle.host_replies.specs.Replies.{file_replies}
 use Rattle.command_answers.specs.Inputs.{input_of}
 use Rattle.command_answers.specs.Texts.{ended}
-use Rattle.command_answers.specs.declared.outcome.Outcome.{Outcome}
 use Rattle.command_answers.proofs.OneOutcome.{Agree, agree_then, agree_if_loaded}
 use Rattle.dwarf_expr.specs.View.{View}
 use Rattle.var_path.specs.declared.path.Path.{Path}
@@ -44,7 +43,7 @@ use Rattle.debug_frames.specs.Unreadable.{unreadable_text}
 use Rattle.debug_subject.specs.Subject.{Subject}
 use Rattle.debug_subject.specs.Texts.{backtrace_text, frame_or_none, frame_text_at, locals_text, IsOperandsText, globals_text, memory_text}
 use Rattle.debug_variables.specs.Variables.{view_of, all_variables, variables_text, shown_line, path_text}
-use Rattle.debugger.specs.Session.{of_frame, of_chosen, AreOperands, chosen_variables, chosen_path, word_text, Prints, chosen_of, chosen_behind}
+use Rattle.debugger.specs.Session.{of_frame, of_chosen, AreOperands, chosen_variables, chosen_path, Prints, chosen_of, chosen_behind}
 use Rattle.debug_command.proofs.OneDebug.{one_printed}
 use Rattle.selftest_laws.proofs.OneProgram.{same_program}
 use Rattle.run_command.specs.Starting.{cause_text}
@@ -53,7 +52,7 @@ use Rattle.replay_words.specs.declared.asking.ReplayWords.{ReplayWords}
 use Rattle.replay_words.specs.declared.moves.Move.{Move}
 use Rattle.replay_words.specs.declared.moves.Move.TheVariants.{Goto, Back, Until, Look}
 use Rattle.replay_words.specs.Moves.{read_move}
-use Rattle.replay.specs.Replays.{Recording, IsEnd, cause_in, outcome_at, is_there}
+use Rattle.replay.specs.Replays.{Recording, IsEnd, cause_in, outcome_at}
 use Rattle.replay.specs.Moves.{IsNext, HasNoNext}
 use Rattle.replay_command.specs.ReplayText.{At, at_frame, at_step, commands_in, subject_at, step_text, Moved, Looked, DoesMove, DoAll, IsText, ReplayText}
 use Rattle.replay_command.specs.ReplayAnswer.{recording, IsTold, ModuleAnswer, IfReplies, ReplayAnswer}

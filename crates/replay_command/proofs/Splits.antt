@@ -1,7 +1,7 @@
 -- The commands of a text at its first semicolon.
-use Rattle.std.proofs.Common.{◌≡◌, ℕ, Bool, true, false, List, [], ◌∷◌, length, eqb, refl, sym, ap₂, ◌∙◌, arith, Some, None, Bor}
-use Rattle.std.specs.List.{position_or_len, slice_split}
-use Rattle.std.proofs.lemmas.List.Splits.{slice_split_first, slice_split-cons_no}
+use Rattle.std.proofs.Common.{◌≡◌, ℕ, List, [], ◌∷◌, eqb, sym, ap₂, ◌∙◌, arith, Some, None, Bor}
+use Rattle.std.specs.List.{slice_split}
+use Rattle.std.proofs.lemmas.List.Splits.{slice_split_first}
 use Rattle.std.proofs.lemmas.Str.Pattern.{IsSplitOnceResult, split_once_first}
 use Rattle.replay_command.specs.ReplayText.{commands_in}
 use Rattle.debug_commands.proofs.WordLaws.{none_split}

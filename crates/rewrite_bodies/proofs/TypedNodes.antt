@@ -17,10 +17,10 @@ use Rattle.wasm_syntax.specs.declared.module.ModuleParts.{ModuleParts as Module}
 use Rattle.wasm_syntax.specs.Numbers.{type_of}
 use Rattle.wasm_syntax.specs.Access.{load_bits, store_type, store_bits}
 use Rattle.wasm_syntax.specs.Tree.{Jump, Unreachable, Br, BrIf, BrTable, Return, Call, CallIndirect, Nodes, stop, basic, jump, block, loop, choose}
-use Rattle.wasm_syntax.specs.Module.{type_at, option_then}
+use Rattle.wasm_syntax.specs.Module.{type_at}
 use Rattle.wasm_syntax.specs.Effect.{takes}
 use Rattle.wasm_syntax.specs.Machine.{result_of, zero_of}
-use Rattle.wasm_syntax.specs.Typing.{Context, Arrow, ◌⇒◌, Above, OnTop, BasicTypes, JumpTypes, IsLabel, AreLabels, call_arrow, arrow, only_if, aligned, set_global, Types}
+use Rattle.wasm_syntax.specs.Typing.{Context, Arrow, ◌⇒◌, BasicTypes, JumpTypes, IsLabel, AreLabels, arrow, only_if, set_global, Types}
 use Rattle.wasm_syntax.specs.Typing as typing
 use Rattle.rewrite_bodies.specs.Numbering.{import_count, mapped, frame_import, frame_type, flag_of}
 use Rattle.rewrite_bodies.specs.Slots.{Place, Known, place_type, Ctx, result_at, kind_at, offset_at, added, less, grown, second_type, result_type, after_plain}

@@ -17,7 +17,7 @@ use Rattle.wasm_syntax.specs.declared.module.ModuleParts.{ModuleParts as Module}
 use Rattle.wasm_syntax.specs.Numbers.{type_of, value}
 use Rattle.wasm_syntax.specs.Tree.{Br, Nodes, stop, basic, jump}
 use Rattle.wasm_syntax.specs.Module.{type_at}
-use Rattle.wasm_syntax.specs.Typing.{Context, Arrow, ◌⇒◌, arrow, set_global, Types}
+use Rattle.wasm_syntax.specs.Typing.{Context, Arrow, ◌⇒◌, arrow, Types}
 use Rattle.rewrite_bodies.specs.Slots.{Place, Spilled, Known, place_type, Ctx, slot, result_at, kind_at, offset_at, added}
 use Rattle.rewrite_bodies.specs.Numbering.{value_import, flag_of}
 use Rattle.rewrite_bodies.specs.Pieces.{get, set, const, i32, call, if_any, fetch, load, store, to_result, from_result}

@@ -15,7 +15,6 @@ use Rattle.wasm_syntax.specs.declared.parts.FuncType.{FuncType}
 use Rattle.wasm_syntax.specs.declared.parts.Global.{Global}
 use Rattle.wasm_syntax.specs.declared.parts.Limits.{Limits}
 use Rattle.wasm_syntax.specs.declared.module.ModuleParts.{ModuleParts as Module}
-use Rattle.wasm_syntax.specs.Tree.{Jump, Unreachable, Br, BrIf, BrTable, Return, Call, CallIndirect, Item, Plain, Goes, Opens, OpensLoop, OpensIf, Else, End, item_of}
 use Rattle.wasm_syntax.specs.Module.{type_at, function_types, is_function, option_then}
 use Rattle.wasm_syntax.specs.Run.{table_min}
 use Rattle.wasm_syntax.specs.Sizes.{WithinLimits, ShortType, parameter_count, local_count}
@@ -23,10 +22,8 @@ use Rattle.wasm_laws.proofs.Lists.{at_of}
 use Rattle.wasm_instructions.specs.Encoding.{encoding as instruction_bytes}
 use Rattle.wasm_encode.specs.Encoding.{sized_bytes, kind_byte, global_bytes, export_bytes}
 use Rattle.wasm_sizes.specs.Sized.{Sized, OpsSized, ops_length}
-use Rattle.rewrite_bodies.specs.Length.{jump_length}
 use Rattle.rewrite_modules.specs.Weight.{height_at, extra, ops_weight, bodies_weight, types_used, entry_weight, exports_weight, start_weight, weight}
 use Rattle.rewrite_sizes.proofs.Totals.{total_many}
-use Rattle.rewrite_sizes.proofs.Items.{item_length, item_short, basic_some}
 use Rattle.rewrite_sizes.proofs.Sections.{contents, contents_least}
 use Rattle.index_map.proofs.Few.{few}
 use Rattle.rewrite_sizes.proofs.Lists.{instr_some}

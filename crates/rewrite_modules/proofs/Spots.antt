@@ -6,10 +6,10 @@ use Rattle.wasm_syntax.specs.declared.value.ValType.{ValType}
 use Rattle.wasm_syntax.specs.declared.parts.FuncType.{FuncType}
 use Rattle.wasm_syntax.specs.declared.parts.Body.{Body}
 use Rattle.wasm_syntax.specs.declared.module.ModuleParts.{ModuleParts as Module}
-use Rattle.wasm_syntax.specs.Tree.{Jump, Unreachable, Br, BrIf, BrTable, Return, Call, CallIndirect, End, Else, Nodes, stop, basic, jump, block, loop, choose, Tree, Placed, placed, write, code_of, IsTree, Writes}
+use Rattle.wasm_syntax.specs.Tree.{End, Else, Nodes, stop, basic, jump, block, loop, choose, Tree, Placed, placed, write, code_of, IsTree, Writes}
 use Rattle.wasm_syntax.specs.Typing.{Context, Types, body_context}
 use Rattle.wasm_syntax.specs.FlatTyping.{OpenBlock, opened, inside, given, FlatStep, FlatTypes, dead_behind_jump, dead_next, dead_behind, AllLive, all_types, TypesBefore}
-use Rattle.wasm_syntax.specs.Static.{Spot, spot, goes_on, Live}
+use Rattle.wasm_syntax.specs.Static.{Spot, spot, Live}
 use Rattle.wasm_laws.proofs.FlatBodies.{no_result, inside_body}
 use Rattle.wasm_laws.proofs.FlatOne.{one_before, goes_live}
 

@@ -1,5 +1,5 @@
 -- How many operands stand in rewritten code: at most as many as the parameters of a function, and a few.
-use Rattle.std.proofs.Common.{◌≡◌, ℕ, ◌+◌, ◌-◌, ◌≤◌, Bool, true, false, List, [], ◌∷◌, ◌++◌, inl, inr, length, reverse, Option, Some, None, refl, sym, ap, ◌∙◌, subst, arith, slice_get, option_map, option_to_list, length-append}
+use Rattle.std.proofs.Common.{◌≡◌, ℕ, ◌+◌, ◌-◌, ◌≤◌, List, [], ◌∷◌, ◌++◌, inl, inr, length, reverse, Option, Some, None, sym, ap, ◌∙◌, subst, arith, slice_get, option_to_list, length-append}
 use Rattle.std.proofs.lemmas.List.{length-reverse}
 use Rattle.wasm_syntax.specs.declared.value.ValType.{ValType}
 use Rattle.wasm_syntax.specs.declared.value.ValType.TheVariants.{I32}
@@ -8,10 +8,10 @@ use Rattle.wasm_syntax.specs.declared.instruction.Basic.TheVariants.{Nop, Drop, 
 use Rattle.wasm_syntax.specs.declared.parts.FuncType.{FuncType}
 use Rattle.wasm_syntax.specs.declared.module.ModuleParts.{ModuleParts as Module}
 use Rattle.wasm_syntax.specs.Tree.{Jump, Unreachable, Br, BrIf, BrTable, Return, Call, CallIndirect, Nodes, stop, basic, jump, block, loop, choose}
-use Rattle.wasm_syntax.specs.Module.{type_at, option_then}
+use Rattle.wasm_syntax.specs.Module.{type_at}
 use Rattle.wasm_syntax.specs.Effect.{takes}
 use Rattle.wasm_syntax.specs.Static.{Spot, Live}
-use Rattle.wasm_syntax.specs.Typing.{Context, Arrow, ◌⇒◌, arrow, set_global, only_if, within}
+use Rattle.wasm_syntax.specs.Typing.{Context, Arrow, ◌⇒◌, arrow, set_global, within}
 use Rattle.wasm_syntax.specs.Typing as typing
 use Rattle.wasm_laws.proofs.Progress.{takes_len}
 use Rattle.wasm_laws.proofs.Lists.{some_is}

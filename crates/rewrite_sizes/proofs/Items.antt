@@ -1,7 +1,6 @@
 -- The bytes of flat code are those of its tree.
 use Rattle.std.proofs.Common.{◌≡◌, ℕ, zero, suc, ◌+◌, ◌≤◌, List, [], ◌∷◌, ◌++◌, length, flat_map, take, drop, Option, Some, None, refl, sym, ap, ap₂, ◌∙◌, arith, length-append, append_assoc, append-nil, slice_get}
 use Rattle.std.proofs.Math.Nat.{max-le}
-use Rattle.std.proofs.Math.Seq.{take-append_seam, drop-append_seam}
 use Rattle.wasm_leb.specs.Writing.{unsigned_bytes}
 use Rattle.int_ops.specs.declared.operators.Narrow32.TheVariants as narrow32
 use Rattle.int_ops.specs.declared.operators.Narrow64.TheVariants as narrow64

@@ -17,7 +17,7 @@ use Rattle.wasm_syntax.specs.declared.parts.Body.{Body}
 use Rattle.wasm_syntax.specs.declared.instruction.Op.{Op}
 use Rattle.wasm_syntax.specs.declared.module.ModuleParts.{ModuleParts as Module}
 use Rattle.wasm_instructions.specs.Encoding.{encoding as instruction_bytes}
-use Rattle.wasm_encode.specs.Encoding.{vector_bytes, sized_bytes, start_section, type_byte, mutability_byte, kind_byte, value_type_bytes, function_type_bytes, import_bytes, table_bytes, limits_bytes, global_bytes, export_bytes, element_bytes, entry_bytes, segment_bytes, expression_bytes, group_bytes, function_bytes, encoding}
+use Rattle.wasm_encode.specs.Encoding.{vector_bytes, sized_bytes, start_section, type_byte, mutability_byte, value_type_bytes, function_type_bytes, import_bytes, table_bytes, limits_bytes, global_bytes, export_bytes, element_bytes, entry_bytes, segment_bytes, expression_bytes, group_bytes, function_bytes, encoding}
 use Rattle.wasm_sizes.proofs.Measures.{sized_length}
 use Rattle.wasm_sizes.proofs.Sections.{lengths}
 use Rattle.rewrite_bodies.specs.Numbering.{import_count, mapped, wraps, value_type, frame_type}

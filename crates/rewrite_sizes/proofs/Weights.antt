@@ -19,7 +19,7 @@ use Rattle.wasm_syntax.specs.Tree.{Unreachable, Br, BrIf, BrTable, Return, Call,
 use Rattle.wasm_syntax.specs.Module.{Program, IsProgram, defined, function_at, type_at}
 use Rattle.wasm_syntax.specs.Effect.{takes}
 use Rattle.wasm_syntax.specs.Machine.{result_of}
-use Rattle.wasm_syntax.specs.Typing.{Context, arrow, BasicTypes, Types, body_context}
+use Rattle.wasm_syntax.specs.Typing.{Context, BasicTypes, Types, body_context}
 use Rattle.wasm_syntax.specs.FlatTyping.{OpenBlock, opened, label_types, inside, FlatTypes, dead_behind, AllLive, all_types, TypesBefore}
 use Rattle.wasm_instructions.specs.Encoding.{encoding}
 use Rattle.rewrite_bodies.specs.Slots.{Place, Known, place_type, Ctx, less, grown, result_type, after_plain, ctx_of, slots_of, behind_call, behind_instr}

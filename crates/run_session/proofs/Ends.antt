@@ -15,7 +15,6 @@ use Rattle.machine_hosted.specs.declared.answer.RunEnd.{RunEnd}
 use Rattle.machine_hosted.specs.declared.answer.RunEnd.TheVariants.{Finished, Trapped, NoReply, BadReply, DeviceFault, FuelSpent, NoMemory}
 use Rattle.machine_hosted.specs.Answers.{HasCause}
 use Rattle.machine_hosted.specs.Invocations.{HasOutcome}
-use Rattle.host_devices.specs.Given.{unfitting}
 use Rattle.wasm_machine.specs.Instances.{State}
 use Rattle.command_answers.specs.Texts.{ended}
 use Rattle.command_answers.specs.declared.outcome.Outcome.{Outcome}

@@ -14,7 +14,7 @@ use Rattle.wasm_syntax.specs.declared.host.CollectorCall.{CollectorCall}
 use Rattle.wasm_syntax.specs.Host.{World}
 use Rattle.wasm_syntax.specs.Machine.{Config, Engine}
 use Rattle.wasm_syntax.specs.Module.{Program, function_export}
-use Rattle.wasm_syntax.specs.Run.{Invocation, Outcome, not_started, finished, trapped, lacks_reply, misfits, running, got_stuck, Ran, goes_on, fresh, session, invoked, engine}
+use Rattle.wasm_syntax.specs.Run.{Invocation, Outcome, lacks_reply, misfits, running, Ran, goes_on, fresh, session, invoked, engine}
 use Rattle.machine_code.specs.declared.code.Code.{Code}
 use Rattle.machine_steps.specs.declared.machine.Machine.{Machine}
 use Rattle.machine_steps.specs.declared.machine.Prepared.{Prepared}
@@ -43,7 +43,7 @@ use Rattle.run_session.specs.declared.turns.Turn.TheVariants.{GoesOn, Ends, Torn
 use Rattle.run_session.proofs.Tellings.{Behaves, one_trap}
 use Rattle.run_session.proofs.Lists.{dumps_only, only_one}
 use Rattle.run_session.proofs.Stopped.{Nothing, none_left, choice_left, unless_left}
-use Rattle.run_session.proofs.Fewer.{with_left, fewer_steps}
+use Rattle.machine_hosted.proofs.Fewer.{with_left, fewer_steps}
 use Rattle.machine_hosted.proofs.WatchLaws.{admits_none}
 use Rattle.wasm_machine.proofs.SessionLaws.{all_fitted}
 use Rattle.machine_hosted.proofs.StageLaws.{enough as given_enough}

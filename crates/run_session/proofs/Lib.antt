@@ -8,7 +8,6 @@ mod Handing
 mod Turning
 mod Sessions
 mod Stopped
-mod Fewer
 mod Ends
 mod Invocations
 mod Ones

@@ -10,8 +10,6 @@ use Rattle.wasm_syntax.specs.Run.{Invocation, Outcome, not_started, finished, tr
 use Rattle.dump_write.specs.Written.{OnTold}
 use Rattle.host_devices.specs.Given.{replies_of}
 use Rattle.machine_hosted.specs.declared.answer.RunEnd.{RunEnd}
-use Rattle.machine_hosted.specs.declared.answer.RunEnd.TheVariants.{Finished, Trapped, NoReply, BadReply, DeviceFault, FuelSpent, NoMemory}
-use Rattle.machine_hosted.specs.Answers.{AdmitsReplies}
 use Rattle.machine_hosted.specs.Invocations.{HasOutcome}
 use Rattle.wasm_machine.specs.Instances.{State}
 use Rattle.run_session.specs.Telling.{Tells, told, torn_in}

@@ -1,5 +1,5 @@
 -- Names of files for dumps.
-use Rattle.std.proofs.Common.{◌≡◌, ℕ, suc, ◌+◌, Bool, true, false, cond, List, [], ◌∷◌, ◌++◌, length, drop, refl, sym, ap, ◌<◌, ◌∙◌}
+use Rattle.std.proofs.Common.{◌≡◌, ℕ, ◌+◌, Bool, true, false, List, [], ◌∷◌, ◌++◌, length, drop, refl, ap, ◌<◌, ◌∙◌}
 use Rattle.std.specs.Prelude.{◌&&◌, nat_eq, codes}
 use Rattle.std.specs.List.{AllPass, starts_with}
 use Rattle.std.proofs.lemmas.List.{drop-drop}

@@ -1,5 +1,5 @@
 -- What the words behind `cover` ask for: `M ENTRY [ARG ...]`, and options.
-use Rattle.std.specs.Prelude.{List, [], ◌∷◌, Option, Some, None, codes, option_and_then}
+use Rattle.std.specs.Prelude.{List, [], ◌∷◌, Option, None, codes, option_and_then}
 use Rattle.std.specs.Option.{option_map}
 use Rattle.command_words.specs.Reading.{Word, Allowed, Read, read_words}
 use Rattle.run_words.specs.Invocations.{invocation}

@@ -23,7 +23,7 @@ use Rattle.host_set.specs.Hosting.{HostsState, origin_of, calls_of, of_script, s
 use Rattle.host_collector.specs.Collecting.{CollectingState, is_told, is_collected, serves}
 use Rattle.machine_hosted.specs.declared.answer.RunEnd.{RunEnd}
 use Rattle.machine_hosted.specs.declared.answer.RunEnd.TheVariants.{Finished, Trapped, NoReply, BadReply, DeviceFault, FuelSpent, NoMemory}
-use Rattle.machine_hosted.specs.Answers.{KeepsThen, AdmitsReplies, given_steps}
+use Rattle.machine_hosted.specs.Answers.{KeepsThen, given_steps}
 use Rattle.machine_hosted.specs.Settings.{Knows, world_of}
 use Rattle.wasm_machine.specs.Entries.{fault_or, unserved, first_unserved, is_served, serves_type, entry_fault}
 use Rattle.wasm_machine.specs.Instances.{State, IsNew, IsOf, Invoked}

@@ -5,7 +5,7 @@ use Rattle.std.proofs.Math.Nat.{mul-le-mul}
 use Rattle.std.proofs.lemmas.List.{length-map}
 use Rattle.wasm_syntax.specs.declared.module.ModuleParts.{ModuleParts as Module}
 use Rattle.wasm_syntax.specs.SameCode.{code_alone}
-use Rattle.wasm_syntax.specs.Module.{Program, IsProgram, AllWrite, IsModule}
+use Rattle.wasm_syntax.specs.Module.{Program, IsProgram, IsModule}
 use Rattle.wasm_syntax.specs.Machine.{Frame, Config}
 use Rattle.wasm_syntax.specs.Run.{Outcome, not_started, finished, trapped, lacks_reply, misfits, running, got_stuck, Ran, ran, run}
 use Rattle.wasm_syntax.specs.Valid.{Valid}
@@ -20,8 +20,7 @@ use Rattle.rewrite_modules.specs.Simulates.{EndsAlike, AllAlike, NoneDeep}
 use Rattle.rewrite_modules.proofs.BareRuns.{runs_alike}
 use Rattle.rewrite_modules.proofs.WrittenOut.{program_bare, same_bare}
 use Rattle.rewrite_promise.specs.Admitted.{Admits}
-use Rattle.selftest_module.specs.Selftest.{body_of, function_code, selftest}
-use Rattle.selftest_module.proofs.Functions.{tree_at, writes_at}
+use Rattle.selftest_module.specs.Selftest.{selftest}
 use Rattle.selftest_laws.specs.Handing.{main_on, RunsOnce, Divides, HandsOver, HandsAllOver}
 use Rattle.selftest_laws.proofs.OneProgram.{same_program}
 use Rattle.selftest_laws.proofs.Programs.{program}

@@ -1,10 +1,7 @@
 -- A module is that of at most one program.
-use Rattle.std.proofs.Common.{◌≡◌, List, [], ◌∷◌, refl, sym, ap, subst, ◌∙◌}
-use Rattle.wasm_syntax.specs.declared.parts.Body.{Body}
+use Rattle.std.proofs.Common.{◌≡◌, sym, ap, subst, ◌∙◌}
 use Rattle.wasm_syntax.specs.declared.module.ModuleParts.{ModuleParts as Module}
-use Rattle.wasm_syntax.specs.Tree.{Tree, code_of}
 use Rattle.wasm_syntax.specs.Module.{Program, IsProgram, AllWrite}
-use Rattle.wasm_laws.proofs.Unique.{one_tree}
 use Rattle.rewrite_modules.proofs.WrittenOut.{all_same}
 
 pub same_program : (m : Module) (p q : Program) → p.module_ ≡ m → q.module_ ≡ m → IsProgram p → IsProgram q → p ≡ q

@@ -1,15 +1,14 @@
 -- A function has no more slots than operands at once, and no fewer.
 use Rattle.std.proofs.Common.{◌≡◌, ℕ, ◌+◌, ◌<◌, ◌≤◌, false, List, [], ◌∷◌, ◌++◌, ⊎_elim, slice_get, length, reverse, refl, sym, ap, ◌∙◌, subst, arith, option_to_list, length-append, append-nil, take}
 use Rattle.std.specs.Prelude.{Option, Some}
-use Rattle.std.proofs.lemmas.List.{length-reverse, length-map}
+use Rattle.std.proofs.lemmas.List.{length-reverse}
 use Rattle.std.proofs.Math.Seq.{take-append_seam}
 use Rattle.wasm_syntax.specs.declared.blocks.BlockKind.TheVariants as block_kinds
-use Rattle.wasm_syntax.specs.declared.instruction.Op.{Op}
 use Rattle.wasm_syntax.specs.declared.value.ValType.{ValType}
 use Rattle.wasm_syntax.specs.declared.parts.FuncType.{FuncType}
 use Rattle.wasm_syntax.specs.declared.parts.Body.{Body}
 use Rattle.wasm_syntax.specs.declared.module.ModuleParts.{ModuleParts as Module}
-use Rattle.wasm_syntax.specs.Tree.{Tree, End, Placed, placed, code_of, item_of, Writes}
+use Rattle.wasm_syntax.specs.Tree.{Tree, End, Placed, placed, code_of, Writes}
 use Rattle.wasm_syntax.specs.Module.{Program, IsModule, IsProgram, defined, function_at, type_at, declared_locals}
 use Rattle.wasm_syntax.specs.Machine.{result_of}
 use Rattle.wasm_syntax.specs.Typing.{Types, IsBody, body_context}

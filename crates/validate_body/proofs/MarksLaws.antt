@@ -3,7 +3,7 @@ use Rattle.std.proofs.Common.{◌≡◌, ℕ, zero, suc, ◌+◌, ◌<◌, ◌�
 use Rattle.std.proofs.lemmas.Option.{slice_get_within}
 use Rattle.wasm_laws.proofs.Lists.{get_front, get_behind, some_is}
 use Rattle.std.proofs.lemmas.List.{length-reverse, reverse-reverse, reverse-append, map-append}
-use Rattle.std.specs.Prelude.{Bool, true, false, ◌||◌, ◌⊎◌, Option, Some, None, option_to_list}
+use Rattle.std.specs.Prelude.{Bool, true, false, ◌⊎◌, Option, Some, None}
 use Rattle.wasm_syntax.specs.declared.value.ValType.{ValType}
 use Rattle.wasm_syntax.specs.declared.parts.FuncType.{FuncType}
 use Rattle.wasm_syntax.specs.declared.parts.Body.{Body}

@@ -1,13 +1,13 @@
 -- Words in bits.
-use Rattle.std.proofs.Common.{◌≡◌, ℕ, ◌+◌, ◌-◌, ◌*◌, ◌/◌, ◌%◌, ◌^◌, ◌<◌, ◌≤◌, Result, Ok, Err, sym, ap, ◌∙◌, arith}
+use Rattle.std.proofs.Common.{◌≡◌, ℕ, ◌+◌, ◌-◌, ◌*◌, ◌/◌, ◌%◌, ◌^◌, ◌<◌, ◌≤◌, Ok, Err, sym, ap, ◌∙◌, arith}
 use Rattle.std.specs.Prelude.{ℤ, pos, ◌+ℤ◌}
 use Rattle.std.proofs.Math.Nat.{add-mul-div_left, add-mod-mod, mul_assoc, mul_comm}
 use Rattle.std.proofs.Math.Pow.{mod-mod-pow}
 use Rattle.std.proofs.lemmas.Nat.{pow-add, pow_pos}
 use Rattle.var_values.specs.declared.mark.Mark.{Mark}
 use Rattle.var_values.specs.declared.source.Source.{Source}
-use Rattle.var_values.specs.Bytes.{Recorded, byte_at, joined, number_at}
-use Rattle.var_values.proofs.FuelLaws.{no_bytes, joined_bytes}
+use Rattle.var_values.specs.Bytes.{Recorded, number_at}
+use Rattle.var_values.proofs.FuelLaws.{no_bytes}
 use Rattle.var_texts.specs.declared.bits.Bits.{Bits}
 use Rattle.var_texts.specs.declared.word.Wide.{Wide}
 use Rattle.var_texts.specs.Places.{Place}

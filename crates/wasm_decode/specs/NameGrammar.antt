@@ -1,5 +1,5 @@
 -- The bytes that spell the names of functions (Core, appendix "Custom Sections", A.2), and which names a module has by them.
-use Rattle.std.specs.Prelude.{◌≡◌, ◌≢◌, ℕ, ◌+◌, ◌<◌, ◌≤◌, ◌⊎◌, List, [], ◌∷◌, ◌++◌, length, slice_range, Option, Some, None, codes}
+use Rattle.std.specs.Prelude.{◌≡◌, ◌≢◌, ℕ, ◌+◌, ◌<◌, ◌≤◌, ◌⊎◌, List, [], ◌∷◌, length, slice_range, Option, None, codes}
 use Rattle.wasm_syntax.specs.declared.parts.Custom.{Custom}
 use Rattle.wasm_bytes.specs.Spelling.{Spellings, pair, leads, image, byte, u32, text, name, sized, vector, some_steps}
 use Rattle.wasm_bytes.specs.Stopping.{Stops, never, unread, either, behind, then_stops, closed_stops, sized_stops, vector_stops, steps_to_end_stops}

@@ -1,20 +1,18 @@
 -- Which quantity of a module passes its greatest number depends on its code alone; within the limits none does.
-use Rattle.std.proofs.Common.{◌≡◌, ℕ, suc, ◌+◌, ◌≤◌, List, [], ◌∷◌, ◌++◌, length, Option, None, refl, ap, subst, ◌∙◌, arith}
+use Rattle.std.proofs.Common.{◌≡◌, ℕ, suc, ◌≤◌, List, [], ◌∷◌, Option, None, refl, ap, subst, ◌∙◌}
 use Rattle.std.specs.Prelude.{map, slice_get}
 use Rattle.std.specs.List.{AllByRecursion}
 use Rattle.std.proofs.lemmas.Bool.{le-ltb}
-use Rattle.std.proofs.lemmas.List.{length-map}
 use Rattle.wasm_syntax.specs.declared.quantity.Quantity.{Quantity}
 use Rattle.wasm_syntax.specs.declared.quantity.Quantity.TheVariants.{Locals, Nesting, Table, Memory}
 use Rattle.wasm_syntax.specs.declared.instruction.Instr.{Instr}
 use Rattle.wasm_syntax.specs.declared.instruction.Op.{Op}
 use Rattle.wasm_syntax.specs.declared.parts.FuncType.{FuncType}
-use Rattle.wasm_syntax.specs.declared.parts.Import.{Import}
 use Rattle.wasm_syntax.specs.declared.parts.Limits.{Limits}
 use Rattle.wasm_syntax.specs.declared.parts.Body.{Body}
 use Rattle.wasm_syntax.specs.declared.module.ModuleParts.{ModuleParts}
 use Rattle.wasm_syntax.specs.Quantity.{greatest}
-use Rattle.wasm_syntax.specs.Module.{option_then, type_at}
+use Rattle.wasm_syntax.specs.Module.{option_then}
 use Rattle.wasm_syntax.specs.Valid.{AtIndex}
 use Rattle.wasm_syntax.specs.Sizes.{local_count, deepest, nesting, WithinLimits}
 use Rattle.wasm_syntax.specs.SameCode.{op_code, body_code, code_alone}

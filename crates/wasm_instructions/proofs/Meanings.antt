@@ -1,7 +1,7 @@
 -- The instruction at an offset is the one that the bytes there spell, or they stop being one.
 use Rattle.std.proofs.Common.{◌≡◌, ℕ, ◌+◌, ◌-◌, ◌≤◌, List, ◌++◌, length, take, drop, Option, Result, Ok, Err, refl, sym, ap, subst, ◌∙◌, arith, length-append, length-take}
 use Rattle.std.specs.List.{slice_range}
-use Rattle.std.proofs.lemmas.List.{take_at, take-append-drop}
+use Rattle.std.proofs.lemmas.List.{take-append-drop}
 use Rattle.std.proofs.Math.Seq.{drop-append_seam}
 use Rattle.wasm_syntax.specs.declared.instruction.Instr.{Instr}
 use Rattle.wasm_bytes.specs.declared.faults.ItemFault.{ItemFault}

@@ -1,5 +1,5 @@
 -- No configuration that a well-typed program reaches is stuck, and each step leads to a fine one.
-use Rattle.std.proofs.Common.{◌≡◌, ℕ, zero, suc, ◌/◌, ◌%◌, ◌==◌, Bool, true, false, List, [], ◌∷◌, ◌++◌, map, reverse, length, slice_get, slice_set, if◌then◌else◌, Option, Some, None, option_map, unwrap_or, Result, Ok, Err, refl, sym, ap, ap₂, ◌∙◌, subst}
+use Rattle.std.proofs.Common.{◌≡◌, ℕ, zero, suc, ◌/◌, ◌%◌, ◌==◌, Bool, true, false, List, [], ◌∷◌, ◌++◌, map, reverse, length, slice_get, slice_set, if◌then◌else◌, Option, Some, None, option_map, Result, Ok, Err, refl, sym, ap, ap₂, ◌∙◌, subst}
 use Rattle.std.proofs.lemmas.List.{map-append, reverse-append}
 use Rattle.wasm_syntax.specs.declared.value.ValType.{ValType}
 use Rattle.wasm_syntax.specs.declared.value.ValType.TheVariants.{I32, I64}
@@ -17,7 +17,7 @@ use Rattle.wasm_syntax.specs.Access.{load_type, load_bits, loaded, store_type, s
 use Rattle.wasm_syntax.specs.Module.{type_at, same_types, option_then}
 use Rattle.wasm_syntax.specs.declared.module.ModuleParts.{ModuleParts as Module}
 use Rattle.wasm_syntax.specs.Host.{World}
-use Rattle.wasm_syntax.specs.Effect.{Effect, gives, fails, unfit, effect, takes, with_globals, with_memory, address}
+use Rattle.wasm_syntax.specs.Effect.{Effect, gives, fails, unfit, effect, takes, with_memory, address}
 use Rattle.wasm_syntax.specs.Effect as effects
 use Rattle.wasm_syntax.specs.Machine.{parts, one_more, cut, zeros}
 use Rattle.wasm_syntax.specs.Typing.{Context, Arrow, ◌⇒◌, arrow, set_global, only_if, if_any}

@@ -1,5 +1,5 @@
 -- The frames that a machine shows are those of the configuration that it stands for.
-use Rattle.std.proofs.Common.{◌≡◌, ℕ, zero, suc, ◌+◌, ◌-◌, ◌^◌, ◌<◌, ◌≤◌, List, [], ◌∷◌, ◌++◌, length, reverse, map, take, refl, sym, ap, subst, ◌∙◌, ⊎_elim, arith, append_assoc, length-append, Option, Some, None}
+use Rattle.std.proofs.Common.{◌≡◌, ℕ, zero, suc, ◌+◌, ◌-◌, ◌^◌, ◌<◌, ◌≤◌, List, [], ◌∷◌, ◌++◌, length, reverse, map, take, refl, sym, ap, subst, ◌∙◌, arith, append_assoc, length-append, Option, Some, None}
 use Rattle.std.specs.Prelude.{slice_get, option_map, unwrap_or}
 use Rattle.std.proofs.Math.Nat.{min-eq_left}
 use Rattle.std.proofs.lemmas.List.{reverse-append, reverse-reverse, length-reverse, take_at, drop_at, append-nil}
@@ -7,18 +7,17 @@ use Rattle.std.proofs.lemmas.Option.{slice_get-map, slice_get_within}
 use Rattle.wasm_syntax.specs.declared.value.Value.{Value}
 use Rattle.wasm_syntax.specs.declared.value.ValType.{ValType}
 use Rattle.wasm_syntax.specs.declared.instruction.Op.{Op}
-use Rattle.wasm_syntax.specs.Tree.{Nodes, stop, basic, jump, block, loop, choose, Item, Plain, Goes, Opens, OpensLoop, OpensIf, Else, End, Placed, placed, item_of}
+use Rattle.wasm_syntax.specs.Tree.{Item, Placed, placed, item_of}
 use Rattle.wasm_syntax.specs.Module.{Program, option_then}
-use Rattle.wasm_syntax.specs.Machine.{Label, Frame, joined, offset_in, offset_of}
+use Rattle.wasm_syntax.specs.Machine.{Label, Frame, joined, offset_of}
 use Rattle.machine_code.specs.declared.code.Code.{Code}
-use Rattle.machine_code.specs.declared.sides.Side.{Side}
-use Rattle.machine_code.specs.Flat.{Is, At, size}
+use Rattle.machine_code.specs.Flat.{Is}
 use Rattle.machine_code.specs.Code.{items}
 use Rattle.machine_frames.specs.declared.layout.Control.{Control}
 use Rattle.machine_frames.specs.declared.layout.CallFrame.{CallFrame}
 use Rattle.machine_frames.specs.declared.layout.CallStack.{CallStack}
-use Rattle.machine_frames.specs.Layout.{Under, Labels, Level, Waiting, Frames}
-use Rattle.machine_frames.proofs.Labels.{some_is, closed, under_place}
+use Rattle.machine_frames.specs.Layout.{Level, Waiting, Frames}
+use Rattle.machine_frames.proofs.Labels.{some_is}
 use Rattle.machine_steps.proofs.PlaceLaws.{labels_at}
 use Rattle.machine_steps.specs.declared.machine.Machine.{Machine}
 use Rattle.machine_steps.specs.declared.machine.Prepared.{Prepared}

@@ -1,5 +1,5 @@
 -- Where the last invocation of an instance stopped.
-use Rattle.std.proofs.Common.{◌≡◌, ℕ, ◌+◌, List, [], refl, sym, ap, subst, ◌∙◌}
+use Rattle.std.proofs.Common.{◌≡◌, ℕ, ◌+◌, List, refl, sym, ap, subst, ◌∙◌}
 use Rattle.std.specs.Prelude.{Bool, Option, Some, None, option_map}
 use Rattle.wasm_syntax.specs.declared.value.Value.{Value}
 use Rattle.wasm_syntax.specs.declared.parts.Import.{Import}

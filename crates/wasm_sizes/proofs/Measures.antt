@@ -1,16 +1,16 @@
 -- Bytes that spell a value are no fewer than its measure: one lemma for each way of putting items together.
-use Rattle.std.proofs.Common.{◌≡◌, ℕ, zero, suc, ◌+◌, ◌/◌, ◌%◌, ◌≤◌, Bool, true, false, List, [], ◌∷◌, ◌++◌, length, map, fold, sum_by, flat_map, refl, sym, ap, subst, ◌∙◌, append_assoc, arith, length-append}
+use Rattle.std.proofs.Common.{◌≡◌, ℕ, zero, suc, ◌+◌, ◌/◌, ◌%◌, ◌≤◌, Bool, true, false, List, [], ◌∷◌, length, map, sum_by, flat_map, refl, sym, ap, subst, ◌∙◌, arith, length-append}
 use Rattle.std.specs.Prelude.{nat_lt, if◌then◌else◌}
 use Rattle.std.specs.List.{AllByRecursion}
 use Rattle.std.proofs.lemmas.Bool.{ltb-true, ltb-false}
-use Rattle.std.proofs.lemmas.List.{append-nil, length-map}
+use Rattle.std.proofs.lemmas.List.{length-map}
 use Rattle.std.proofs.lemmas.List.Concat.{length-flat_map}
 use Rattle.std.proofs.lemmas.List.Sums.{sum_by-cons}
 use Rattle.wasm_leb.specs.Writing.{unsigned_groups, unsigned_bytes}
 use Rattle.wasm_bytes.specs.Spelling.{items, name, sized, sized_run, vector}
 use Rattle.wasm_instructions.proofs.Shortest.{number_least}
 use Rattle.wasm_format.specs.declared.noted.Noted.{Noted}
-use Rattle.wasm_format.specs.Notes.{plain, with_noted, together}
+use Rattle.wasm_format.specs.Notes.{plain, together}
 use Rattle.wasm_format.specs.Grammar.{noted_vector}
 use Rattle.wasm_encode.specs.Encoding.{vector_bytes, sized_bytes}
 use Rattle.wasm_decode.proofs.SoundForm.{values_of as values_from}

@@ -1,20 +1,18 @@
 -- What validation answers is unique.
-use Rattle.std.proofs.Common.{◌≡◌, ℕ, zero, suc, ◌+◌, ◌<◌, ◌≤◌, List, [], ◌∷◌, ◌++◌, refl, sym, ap, subst, ◌∙◌, arith, append_assoc, inl, inr, ⊎_elim}
+use Rattle.std.proofs.Common.{◌≡◌, ℕ, zero, suc, ◌+◌, ◌<◌, ◌≤◌, List, [], ◌∷◌, ◌++◌, refl, sym, ap, subst, ◌∙◌, arith, inl, inr, ⊎_elim}
 use Rattle.std.proofs.lemmas.Bool.Decides.{nat_tests}
-use Rattle.std.specs.Prelude.{Bool, true, false, ◌⊎◌, nat_lt, Option, Some, None, Result, Ok, Err, slice_get}
+use Rattle.std.specs.Prelude.{Bool, true, false, ◌⊎◌, nat_lt, Option, Result, Ok, Err, slice_get}
 use Rattle.wasm_syntax.specs.declared.value.ValType.{ValType}
 use Rattle.wasm_syntax.specs.declared.parts.FuncType.{FuncType}
 use Rattle.wasm_syntax.specs.declared.parts.Body.{Body}
 use Rattle.wasm_syntax.specs.declared.module.ModuleParts.{ModuleParts as Module}
 use Rattle.wasm_syntax.specs.declared.place.Place.{Place}
 use Rattle.wasm_syntax.specs.declared.place.Place.TheVariants.{TypeAt, ImportAt, Declaration, TableAt, MemoryAt, GlobalAt, ExportAt, Start, ElementAt, DataAt, Function}
-use Rattle.wasm_syntax.specs.declared.quantity.Quantity.{Quantity}
-use Rattle.wasm_syntax.specs.declared.quantity.Quantity.TheVariants.{Height}
-use Rattle.wasm_syntax.specs.Module.{type_at, function_types, option_then}
-use Rattle.wasm_syntax.specs.Tree.{Placed, placed, code_of}
+use Rattle.wasm_syntax.specs.Module.{function_types}
+use Rattle.wasm_syntax.specs.Tree.{Placed, placed}
 use Rattle.wasm_syntax.specs.Typing.{BeginsBody, body_context}
 use Rattle.wasm_syntax.specs.FlatTyping.{body_block}
-use Rattle.wasm_syntax.specs.Valid.{Valid, Fine, FuncTypeFine, There, defined_index, Before, kind_number, index_number, FirstWrong, OffsetIs, FirstInvalid}
+use Rattle.wasm_syntax.specs.Valid.{Valid, FuncTypeFine, kind_number, index_number, FirstWrong, FirstInvalid}
 use Rattle.wasm_laws.proofs.Lists.{there_at, some_is}
 use Rattle.wasm_laws.proofs.FlatSteps.{steps_split}
 use Rattle.wasm_laws.proofs.FlatBodies.{Gives, begins_steps, steps_begins}

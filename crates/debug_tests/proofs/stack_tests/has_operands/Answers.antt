@@ -1,4 +1,4 @@
-use Rattle.std.proofs.Common.{◌≡◌, ◌<◌, length, sym, subst}
+use Rattle.std.proofs.Common.{◌<◌, sym, subst}
 use Rattle.debug_tests.proofs.stack_tests.has_operands.Goals as goal
 
 pub operand-requires-clause-below : goal.operand-requires-clause-below

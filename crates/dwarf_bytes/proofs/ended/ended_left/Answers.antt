@@ -1,7 +1,6 @@
-use Rattle.std.proofs.Common.{◌≡◌, ◌+◌, ◌-◌, ◌∙◌, sym, suc, length, ap, arith}
+use Rattle.std.proofs.Common.{◌≡◌, ◌-◌, suc, length, ap, arith}
 use Rattle.std.proofs.lemmas.Result.{err_from_is_err_and}
 use Rattle.wasm_bytes.proofs.Loops.{in_front, one_more, no_more, left_fails}
-use Rattle.dwarf_bytes.specs.Items.{ended_from}
 use Rattle.dwarf_bytes.proofs.Loops.{ended_on, ended_fails, ended_done}
 use Rattle.dwarf_bytes.proofs.ended.ended_left.Goals as goal
 

@@ -1,5 +1,5 @@
-use Rattle.std.proofs.Common.{◌+◌, ◌*◌, ◌<◌, ◌^◌, arith}
-use Rattle.dwarf_bytes.proofs.Numbers.{little_endian_below, parts_fit}
+use Rattle.std.proofs.Common.{arith}
+use Rattle.dwarf_bytes.proofs.Numbers.{parts_fit}
 use Rattle.dwarf_bytes.proofs.items.+little_endian.Goals as goal
 
 pub overflow_mul-result : goal.overflow_mul-result

@@ -1,4 +1,4 @@
-use Rattle.std.proofs.Common.{◌≡◌, ◌-◌, ◌+◌, ◌∙◌, sym, suc, length, ap, arith, Some, None}
+use Rattle.std.proofs.Common.{◌≡◌, ◌-◌, ◌∙◌, suc, length, ap, arith}
 use Rattle.std.proofs.lemmas.Result.{err_from_is_err_and}
 use Rattle.wasm_bytes.specs.Reading.{mapped}
 use Rattle.dwarf_bytes.specs.Items.{ended_from, ended_item}

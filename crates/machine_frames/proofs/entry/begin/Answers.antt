@@ -1,4 +1,4 @@
-use Rattle.std.proofs.Common.{◌≡◌, ◌++◌, reverse, ap, subst, ◌∙◌}
+use Rattle.std.proofs.Common.{◌++◌, reverse, ap, subst, ◌∙◌}
 use Rattle.machine_frames.specs.declared.layout.CallStack.{CallStack}
 use Rattle.machine_frames.specs.inner.Moves.{Becomes}
 use Rattle.machine_frames.proofs.BeginLaws.{begun, same_stack, no_code}

@@ -1,4 +1,4 @@
-use Rattle.std.proofs.Common.{◌≡◌, ◌≤◌, ◌<◌, length, refl, sym, subst, arith}
+use Rattle.std.proofs.Common.{◌≤◌, ◌<◌, length, refl, arith}
 use Rattle.wasm_syntax.specs.Run.{engine}
 use Rattle.machine_hosted.specs.inner.Resumes.{resuming}
 use Rattle.machine_hosted.proofs.WorldLaws.{machine_fits}

@@ -1,10 +1,8 @@
-use Rattle.std.proofs.Common.{◌≡◌, ◌∙◌, ◌-◌, List, [], refl, sym, subst}
+use Rattle.std.proofs.Common.{◌≡◌, ◌∙◌, ◌-◌, [], refl, sym, subst}
 use Rattle.std.specs.Prelude.{Bool, Some, true, false}
-use Rattle.wasm_syntax.specs.declared.host.Reply.{Reply}
 use Rattle.wasm_syntax.specs.Run.{engine}
 use Rattle.machine_hosted.specs.declared.answer.EntryRun.{EntryRun}
 use Rattle.machine_hosted.specs.declared.answer.RunEnd.{RunEnd}
-use Rattle.machine_hosted.specs.declared.answer.RunEnd.TheVariants.{Finished}
 use Rattle.machine_hosted.specs.Answers.{FunctionCameWith, function_going}
 use Rattle.machine_hosted.specs.Invocations.{finishes}
 use Rattle.machine_hosted.specs.Courses.{WentOn}

@@ -1,8 +1,8 @@
 use Rattle.std.proofs.Common.{◌≡◌, ◌∷◌, ◌++◌, [], List, length, sym, ap, subst, ◌∙◌}
-use Rattle.std.specs.Prelude.{ℕ, Some, None, slice_set}
+use Rattle.std.specs.Prelude.{ℕ, Some, slice_set}
 use Rattle.machine_prepared.specs.declared.tree.Letter.{Letter}
 use Rattle.machine_prepared.specs.declared.tree.Node.{Node}
-use Rattle.machine_prepared.specs.inner.Tree.{IsTree, Extends, edge, with_edge, empty, next, reaches}
+use Rattle.machine_prepared.specs.inner.Tree.{IsTree, Extends, edge, with_edge, empty, reaches}
 use Rattle.machine_prepared.proofs.TreeLaws.{next_is, goes, reaches_kept, grown, tree_grown, extends_grown, new_edge}
 use Rattle.machine_prepared.proofs.tree.go.Goals as goal
 

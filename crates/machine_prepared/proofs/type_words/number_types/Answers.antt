@@ -1,6 +1,5 @@
-use Rattle.std.proofs.Common.{◌≡◌, ◌+◌, ◌<◌, ◌≤◌, ◌∷◌, [], get_or, length, take, sym, ap, ◌∙◌, arith, length-append}
+use Rattle.std.proofs.Common.{◌≡◌, ◌+◌, ◌<◌, ◌≤◌, ◌∷◌, [], get_or, length, sym, ap, ◌∙◌, arith, length-append}
 use Rattle.std.specs.Prelude.{Some, slice_get}
-use Rattle.wasm_syntax.specs.declared.parts.FuncType.{FuncType}
 use Rattle.machine_prepared.specs.inner.Tree.{reaches, word}
 use Rattle.machine_prepared.proofs.WordLaws.{same_number}
 use Rattle.machine_prepared.proofs.NumberLaws.{one_more, all_taken}

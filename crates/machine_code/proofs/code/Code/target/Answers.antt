@@ -1,5 +1,4 @@
-use Rattle.std.proofs.Common.{◌≡◌, ◌+◌, sym, ◌∙◌}
-use Rattle.std.specs.Prelude.{Some, None, slice_get}
+use Rattle.std.proofs.Common.{sym, ◌∙◌}
 use Rattle.machine_code.proofs.Targets.{found, absent}
 use Rattle.machine_code.proofs.code.Code.target.Goals as goal
 
