@@ -10,16 +10,12 @@ use Rattle.wasm_syntax.specs.declared.quantity.Quantity.TheVariants.{ModuleBytes
 use Rattle.wasm_syntax.specs.declared.host.Reply.{Reply}
 use Rattle.wasm_syntax.specs.declared.host.Served.{Served}
 use Rattle.wasm_syntax.specs.declared.module.ModuleParts.{ModuleParts as Module}
-use Rattle.wasm_syntax.specs.Valid.{Valid}
-use Rattle.wasm_validate.specs.Heights.{AllLow}
 use Rattle.wasm_decode.specs.Decode.{module_from}
-use Rattle.wasm_decode.specs.declared.fault.DecodeFault.{DecodeFault}
 use Rattle.dump_write.specs.Written.{OnTold}
 use Rattle.host_set.specs.Sets.{DeviceState}
 use Rattle.command_answers.specs.Inputs.{input_of, Then}
 use Rattle.command_answers.specs.Texts.{file_fault}
 use Rattle.command_answers.specs.Input.{IsInput, IfRefused}
-use Rattle.command_answers.specs.Loading.{IsTurnedDown, IfLoaded}
 use Rattle.command_answers.specs.Loaded.{IsLoaded}
 use Rattle.command_answers.specs.Told.{UnlessFault, OnContents}
 use Rattle.command_answers.specs.declared.outcome.Outcome.{Outcome}
@@ -45,6 +41,8 @@ use Rattle.cover_command.specs.CoverAnswer.{ModuleAnswer, CoverAnswer, IsReadBy}
 use Rattle.cover_command.specs.Stops.{CoverStops}
 use Rattle.cover_command.specs.inner.Steps.{IsAnswered, ScriptAnswer, BytesAnswer, SourceAnswer, ModuleStops, ScriptStops, BytesStops, SourceStops, StepStops}
 use Rattle.run_session.proofs.Held.{none_held}
+use Rattle.run_command.proofs.Refusals.{if_refusal}
+use Rattle.run_command.proofs.Commands.{turned_down, if_loaded}
 
 -- ---- results
 
@@ -68,26 +66,6 @@ want_only P Q (Ok o) to x never = λ faulted. absurd (never faulted)
 -- of a refusal by its status
 pub not_status : (s t : Status) (o : Outcome) (P : Type 0) → o.status ≡ s → (s ≡ t → P) → o.status ≡ t → P
 not_status s t o P is apart e = apart (sym is ∙ e)
-
-if_refusal : (s : Status) (P : Type 0) → P → IfRefusal s P
-if_refusal status.FileFault P x = tt
-if_refusal status.NoMemory P x = x
-if_refusal status.Done P x = tt
-if_refusal status.Trapped P x = tt
-if_refusal status.HostStopped P x = tt
-if_refusal status.FuelSpent P x = tt
-if_refusal status.Usage P x = x
-if_refusal status.NoFile P x = x
-if_refusal status.Malformed P x = x
-if_refusal status.Outside P x = x
-if_refusal status.Invalid P x = x
-if_refusal status.NotStarted P x = x
-if_refusal status.BadDump P x = x
-if_refusal status.Mismatch P x = x
-if_refusal status.Limit P x = x
-if_refusal status.Collision P x = x
-if_refusal status.TornCalls P x = tt
-if_refusal status.BadReplies P x = x
 
 map_refusal : (s : Status) (P Q : Type 0) → (P → Q) → IfRefusal s P → IfRefusal s Q
 map_refusal status.FileFault P Q to x = tt
@@ -119,13 +97,6 @@ untouched : (devices : List DeviceState) (Q : List Served → Outcome → Type 0
 untouched devices Q o x = record { given = []; answer = x; untouched = if_refusal o.status ((devices ≡ devices) × ([] ≡ [])) (refl, refl) }
 
 -- ---- modules
-
-turned_down : (Answers : Module → Outcome → Type 0) (decoded : Result Module DecodeFault) (o : Outcome) → IsTurnedDown decoded o → IfLoaded Answers decoded o
-turned_down Answers (Err fault) o x = x
-turned_down Answers (Ok m) o x = inl x
-
-if_loaded : (Answers : Module → Outcome → Type 0) (decoded : Result Module DecodeFault) (m : Module) (o : Outcome) → (decoded ≡ Ok m) × Valid m × AllLow m → Answers m o → IfLoaded Answers decoded o
-if_loaded Answers decoded m o (is, valid, low) x = subst (λ d. IfLoaded Answers d o) (sym is) (inr (valid, low, x))
 
 module _ (before after : List DeviceState) (w : CoverWords) (r : Result Outcome WantOfMemory) where
   -- ---- the script

@@ -1,5 +1,5 @@
 -- The answer on a valid module, from what its parts ensure.
-use Rattle.std.proofs.Common.{◌≡◌, ℕ, suc, ◌+◌, ◌-◌, ◌<◌, ◌≤◌, ◌^◌, Bool, true, false, List, [], ◌∷◌, ◌++◌, map, length, drop, refl, sym, ap, ◌∙◌, subst, arith, Option, None, Result, Ok, Err, inl, inr, length-append}
+use Rattle.std.proofs.Common.{◌≡◌, ℕ, suc, ◌+◌, ◌-◌, ◌<◌, ◌≤◌, ◌^◌, Bool, true, false, List, [], ◌∷◌, ◌++◌, map, length, drop, refl, sym, ap, ◌∙◌, subst, arith, Option, None, Result, Ok, Err, length-append}
 use Rattle.std.proofs.lemmas.Bool.{ltb-false}
 use Rattle.std.specs.Prelude.{IfOk, nat_lt, if◌then◌else◌}
 use Rattle.std.proofs.lemmas.List.{append-nil}
@@ -10,7 +10,6 @@ use Rattle.wasm_format.specs.Sections.{module_item}
 use Rattle.wasm_decode.specs.declared.fault.DecodeFault.{DecodeFault}
 use Rattle.wasm_decode.specs.declared.fault.DecodeFault.TheVariants.{Limit}
 use Rattle.wasm_decode.specs.Decode.{module_from, judged_read}
-use Rattle.wasm_syntax.specs.declared.parts.Import.{Import}
 use Rattle.wasm_syntax.specs.declared.host.Reply.{Reply}
 use Rattle.wasm_syntax.specs.declared.host.Served.{Served}
 use Rattle.wasm_syntax.specs.declared.module.ModuleParts.{ModuleParts as Module}
@@ -36,7 +35,7 @@ use Rattle.command_answers.specs.Texts.{ended}
 use Rattle.command_answers.specs.declared.outcome.Outcome.{Outcome}
 use Rattle.command_answers.specs.declared.status.Status.TheVariants as status
 use Rattle.run_words.specs.declared.cover.CoverWords.{CoverWords}
-use Rattle.run_session.specs.RunText.{kind_line, not_invoked_text}
+use Rattle.run_session.specs.RunText.{kind_line}
 use Rattle.run_session.specs.Given.{given_to}
 use Rattle.run_session.specs.inner.Answers.{answer_line}
 use Rattle.run_session.specs.inner.Sessions.{EndsIn}
@@ -56,20 +55,11 @@ use Rattle.cover_command.specs.Stops.{CoversFor}
 use Rattle.cover_command.specs.inner.Running.{Came, TellsCounts, AnswersEnd}
 use Rattle.cover_command.specs.inner.Steps.{IsAnswered, ModuleStops}
 use Rattle.machine_hosted.proofs.WatchLaws.{admits_none}
+use Rattle.run_session.proofs.Invocations.{all_given as all_steps}
+use Rattle.machine_hosted.proofs.Fewer.{itself}
+use Rattle.run_session.proofs.Ends.{line_ends}
 
 -- ---- numbers of steps
-
-all_steps : (a : RunEnd) (fuel steps : ℕ) → (a ≡ NoMemory → ⊥) → given_steps a fuel steps ≡ fuel
-all_steps (Finished v) fuel steps some = refl
-all_steps (Trapped kind) fuel steps some = refl
-all_steps NoReply fuel steps some = refl
-all_steps (BadReply reply) fuel steps some = refl
-all_steps (DeviceFault device) fuel steps some = refl
-all_steps FuelSpent fuel steps some = refl
-all_steps NoMemory fuel steps some = absurd (some refl)
-
-itself : (n : ℕ) → n ≤ n
-itself n = omega arith
 
 few_steps : (a : RunEnd) (fuel steps : ℕ) → steps ≤ fuel → given_steps a fuel steps ≤ fuel
 few_steps (Finished v) fuel steps le = itself fuel
@@ -96,15 +86,6 @@ fewer : (fuel left n : ℕ) → n ≡ fuel - left → fuel < 2 ^ 64 → n < 2 ^ 
 fewer fuel left n is few = omega (arith, is, few)
 
 -- ---- the end
-
-line_ends : (p : Program) (used_up : Import → Bool) (counts now : List ℕ → ℕ) (given due : ℕ) (a : RunEnd) (o : RunOutcome) → HasOutcome p used_up a o → (a ≡ NoMemory → ⊥) → HasCause a counts now → EndsIn p used_up counts now given due o (answer_line a given due)
-line_ends p used_up counts now given due (Finished v) o is some cause = subst (λ x. EndsIn p used_up counts now given due x []) (sym is) refl
-line_ends p used_up counts now given due (Trapped kind) o is some cause = subst (λ x. EndsIn p used_up counts now given due x (not_invoked_text due)) (sym is) refl
-line_ends p used_up counts now given due NoReply o (call, is, up) some cause = subst (λ x. EndsIn p used_up counts now given due x (answer_line NoReply given due)) (sym is) (inl (up, refl))
-line_ends p used_up counts now given due (DeviceFault device) o (call, is, named) some cause = subst (λ x. EndsIn p used_up counts now given due x (answer_line (DeviceFault device) given due)) (sym is) (inr (device, named, cause, refl))
-line_ends p used_up counts now given due (BadReply reply) o (call, is) some cause = subst (λ x. EndsIn p used_up counts now given due x (answer_line (BadReply reply) given due)) (sym is) refl
-line_ends p used_up counts now given due FuelSpent o is some cause = subst (λ x. EndsIn p used_up counts now given due x (answer_line FuelSpent given due)) (sym is) refl
-line_ends p used_up counts now given due NoMemory o is some cause = absurd (some refl)
 
 had_memory : (lines : List (ℕ × LineProgram)) (m : Module) (t : Counts) (given : ℕ) (a : RunEnd) (o : Outcome) → AnswersEnd lines m t given a o → a ≡ NoMemory → ⊥
 had_memory lines m t given (Finished v) o x e = absurd cc

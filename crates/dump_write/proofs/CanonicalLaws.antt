@@ -17,12 +17,12 @@ use Rattle.dump_write.specs.Pages.{memory_bytes, laid_on, page_region, is_used, 
 use Rattle.dump_write.specs.Canonical.{core_bytes, modules_bytes, instances_bytes, stack_bytes, memory_section, globals_section, data_section, memory_indices, instance_of, segments_of, canonical, canonical_bytes}
 use Rattle.dump_write.specs.Typed.{IsTyped}
 use Rattle.dump_write.specs.Laws.{ReadsBack, KeepsMemory}
-use Rattle.dump_write.proofs.Windows.{length-splice}
 use Rattle.dump_write.proofs.PageLists.{Inside}
 use Rattle.dump_write.proofs.LaidLists.{FirstPages, page_laid, page_absent, pages_laid, length-window}
 use Rattle.dump_write.proofs.SpelledParts.{IsPlaced, no_longer, global_long}
 use Rattle.dump_write.proofs.SpelledSections.{IsSmallInstance, body_short}
 use Rattle.dump_write.proofs.ReadsBack.{ArePlaced, IsSpelt, sections_nested, nested, spelt_read}
+use Rattle.linear_memory.proofs.Contents.{length-splice}
 
 -- ---- the sizes of the sections
 

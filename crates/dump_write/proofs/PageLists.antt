@@ -10,7 +10,8 @@ use Rattle.linear_memory.specs.Memory.{page_size, window, splice}
 use Rattle.dump_format.specs.Region.{Region}
 use Rattle.dump_write.specs.Pages.{laid_on, page_region, is_used, used_pages}
 use Rattle.dump_write.specs.Paged.{ArePages}
-use Rattle.dump_write.proofs.Windows.{length-splice, window-splice, window-before, window-behind}
+use Rattle.dump_write.proofs.Windows.{window-splice, window-before, window-behind}
+use Rattle.linear_memory.proofs.Contents.{length-splice}
 
 abbrev pub Inside : ℕ → List Region → Type 0
 Inside size segments = All (λ r. r.at + length r.bytes ≤ size) segments

@@ -3,9 +3,6 @@ use Rattle.std.proofs.Common.{◌≡◌, ℕ, ◌+◌, ◌-◌, ◌≤◌, List,
 use Rattle.std.proofs.lemmas.List.{take-take, take_at, take-append-le, drop-drop, drop_at, drop-append-le, drop-take}
 use Rattle.linear_memory.specs.Memory.{window, splice}
 
-pub length-splice : (xs ys : List ℕ) (at : ℕ) → at + length ys ≤ length xs → length (splice xs at ys) ≡ length xs
-length-splice xs ys at h = simp (length-append, length-take, length-drop) (omega arith)
-
 -- what was put there
 pub window-splice : (xs ys : List ℕ) (at : ℕ) → at + length ys ≤ length xs → window (splice xs at ys) at (length ys) ≡ ys
 window-splice xs ys at h =

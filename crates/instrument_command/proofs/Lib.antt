@@ -1,5 +1,5 @@
 pub mod HeldFiles
-mod WrittenFile
+pub mod WrittenFile
 mod Answering
 pub mod Stopping
 mod Promises

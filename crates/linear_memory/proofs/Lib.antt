@@ -1,5 +1,5 @@
 mod Boxed
-mod Contents
+pub mod Contents
 mod Instructions
 mod Making
 mod Moves

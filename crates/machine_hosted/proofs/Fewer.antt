@@ -27,7 +27,7 @@ less d e = ended e.what (e.left - d)
 
 -- ---- numbers of steps
 
-itself : (n : ℕ) → n ≤ n
+pub itself : (n : ℕ) → n ≤ n
 itself n = omega arith
 
 up : (l n : ℕ) → l ≤ n → l ≤ suc n

@@ -1,13 +1,14 @@
 -- Writes in order, and whether all of them lie inside the memory.
-use Rattle.std.proofs.Common.{◌≡◌, ℕ, ◌+◌, ◌<◌, ◌≤◌, List, [], ◌∷◌, ◌++◌, take, drop, length, get_or, refl, sym, ap, ◌∙◌, length-append, arith}
+use Rattle.std.proofs.Common.{◌≡◌, ℕ, ◌+◌, ◌<◌, ◌≤◌, List, [], ◌∷◌, drop, length, get_or, refl, sym, ap, ◌∙◌, arith}
 use Rattle.std.proofs.lemmas.Bool.Decides.{nat_tests}
-use Rattle.std.proofs.lemmas.List.{at_drop_more, at_drop_all, length-take, length-drop}
+use Rattle.std.proofs.lemmas.List.{at_drop_more, at_drop_all}
 use Rattle.std.specs.Prelude.{◌==◌, ◌&&◌, if◌then◌else◌, Bool, true, false, nat_le, Option, Some, None, is_some}
 use Rattle.wasm_syntax.specs.declared.host.Write.{Write}
 use Rattle.wasm_syntax.specs.Module.{option_then}
 use Rattle.wasm_syntax.specs.Host.{after_writes}
 use Rattle.linear_memory.specs.Memory.{Memory, put, splice}
 use Rattle.machine_hosted.specs.inner.Writes.{all_inside}
+use Rattle.linear_memory.proofs.Contents.{length-splice}
 
 -- ---- all lie inside
 
@@ -17,11 +18,6 @@ inside_next size ws i w b lt g e =
 
 pub inside_end : (size : ℕ) (ws : List Write) (i : ℕ) → length ws ≤ i → all_inside size (drop i ws) ≡ true
 inside_end size ws i le = at_drop_all (all_inside size) ws i le
-
--- a write changes no size
-length-splice : (xs zs : List ℕ) (at : ℕ) → at + length zs ≤ length xs → length (splice xs at zs) ≡ length xs
-length-splice xs zs at inside =
-    omega (arith, length-append (take at xs ++ zs) (drop (at + length zs) xs), length-append (take at xs) zs, length-take at xs, length-drop (at + length zs) xs)
 
 -- writes that all lie inside can be made
 pub inside_after : (ws : List Write) (m : Memory) → all_inside (length m.bytes) ws ≡ is_some (after_writes (Some m) ws)

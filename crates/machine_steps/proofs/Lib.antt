@@ -1,4 +1,3 @@
-pub mod CutLaws
 pub mod StepLaws
 pub mod EntryLaws
 pub mod ImportLaws

@@ -3,14 +3,13 @@ use Rattle.std.proofs.Common.{◌≡◌, ℕ, List, [], Option, Some, None, Resu
 use Rattle.std.specs.Prelude.{IfOk}
 use Rattle.pm_outside.specs.Contents.{Contents}
 use Rattle.wasm_syntax.specs.declared.host.Served.{Served}
-use Rattle.dump_write.specs.Written.{OnTold}
 use Rattle.host_set.specs.Sets.{DeviceState}
 use Rattle.command_answers.specs.Texts.{usage}
 use Rattle.command_answers.specs.Told.{MayHold, OnContents}
 use Rattle.command_answers.specs.declared.outcome.Outcome.{Outcome}
 use Rattle.command_answers.proofs.Unless.{OnAnswer, map_answer, all_answers}
 use Rattle.run_words.specs.declared.words.RunWords.{RunWords}
-use Rattle.run_session.specs.Written.{Writes, HoldThen}
+use Rattle.run_session.specs.Written.{Writes}
 use Rattle.run_command.specs.RunAnswer.{RunAnswer, AnsweredOn}
 use Rattle.instrument_command.specs.InstrumentAnswer.{AnsweredOn as InstrumentedOn}
 use Rattle.debug_command.specs.declared.words.DebugWords.{DebugWords}
@@ -24,16 +23,9 @@ use Rattle.pm_cli.specs.Answer.{AnswersTo, IsAnswer, Answered, CheckAnswer, Show
 use Rattle.pm_cli.specs.Words.{command}
 use Rattle.pm_cli.specs.declared.words.Command.{Command}
 use Rattle.pm_cli.specs.declared.words.Command.TheVariants.{Check, Run, Instrument, Show, Debug, Selftest, Replay, Cover}
+use Rattle.run_command.proofs.Refusals.{untold}
 
 -- ---- commands that write nothing and call no device
-
--- files that tell the same hold what they held
-untold : (old new : Option Contents) → new ≡ old → OnTold (HoldThen []) old new
-untold old new same = subst (λ t. OnTold (HoldThen []) old t) (sym same) (alike old)
-  where
-    alike : (t : Option Contents) → OnTold (HoldThen []) t t
-    alike None = tt
-    alike (Some held) = λ name. refl
 
 -- what these words ask for is answered so
 quiet_answer : (devices : List DeviceState) (words : List (List ℕ)) (told told' : Option Contents) (c : Option Command) (o : Outcome) → command words ≡ c → told' ≡ told

@@ -1,4 +1,4 @@
 mod ExtendsLaws
 mod HexLaws
-mod NameLaws
+pub mod NameLaws
 pub mod NumberLaws

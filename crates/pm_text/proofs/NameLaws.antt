@@ -56,7 +56,7 @@ text_more marks old out mid rest text cs c so_far left pushed =
 pub name_of_text : (byte : ℕ → List ℕ) (name : List ℕ) → IsUtf8 name → name_bytes byte name ≡ flat_map byte name
 name_of_text byte name text = ap (λ b. cond b (flat_map byte name) (flat_map (outside_text byte) name)) (is_utf8-from_IsUtf8 name text)
 
-not_text : (name : List ℕ) (b : Bool) → is_utf8 name ≡ b → (IsUtf8 name → ⊥) → b ≡ false
+pub not_text : (name : List ℕ) (b : Bool) → is_utf8 name ≡ b → (IsUtf8 name → ⊥) → b ≡ false
 not_text name true e not = absurd (not (IsUtf8-from_is_utf8 name e))
 not_text name false e not = refl
 

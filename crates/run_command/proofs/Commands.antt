@@ -39,11 +39,11 @@ use Rattle.run_command.proofs.Refusals.{untouched, carried, all_carried}
 
 -- ---- modules
 
-turned_down : (Answers : Module → Outcome → Type 0) (decoded : Result Module DecodeFault) (o : Outcome) → IsTurnedDown decoded o → IfLoaded Answers decoded o
+pub turned_down : (Answers : Module → Outcome → Type 0) (decoded : Result Module DecodeFault) (o : Outcome) → IsTurnedDown decoded o → IfLoaded Answers decoded o
 turned_down Answers (Err fault) o x = x
 turned_down Answers (Ok m) o x = inl x
 
-if_loaded : (Answers : Module → Outcome → Type 0) (decoded : Result Module DecodeFault) (m : Module) (o : Outcome) → (decoded ≡ Ok m) × Valid m × AllLow m → Answers m o → IfLoaded Answers decoded o
+pub if_loaded : (Answers : Module → Outcome → Type 0) (decoded : Result Module DecodeFault) (m : Module) (o : Outcome) → (decoded ≡ Ok m) × Valid m × AllLow m → Answers m o → IfLoaded Answers decoded o
 if_loaded Answers decoded m o (is, valid, low) x = subst (λ d. IfLoaded Answers d o) (sym is) (inr (valid, low, x))
 
 -- ---- the script

@@ -1,5 +1,5 @@
 -- The causes of the invocations in order.
-use Rattle.std.proofs.Common.{◌≡◌, ℕ, suc, ◌+◌, ◌<◌, ◌≤◌, List, map, length, drop, get_or, sym, ap, ◌∙◌, arith, Option, Some, None, drop-cons}
+use Rattle.std.proofs.Common.{◌≡◌, ℕ, suc, ◌+◌, ◌<◌, ◌≤◌, List, map, length, drop, get_or, sym, ap, ◌∙◌, Option, Some, None, drop-cons}
 use Rattle.std.proofs.lemmas.List.{drop_all}
 use Rattle.wasm_syntax.specs.declared.module.ModuleParts.{ModuleParts as Module}
 use Rattle.wasm_syntax.specs.Module.{function_export}
@@ -7,15 +7,13 @@ use Rattle.wasm_syntax.specs.Run.{cause_of_entry}
 use Rattle.run_words.specs.declared.invocation.Invocation.{Invocation}
 use Rattle.run_session.specs.Invocations.{invocation_of}
 use Rattle.run_command.specs.Starting.{or_text, cause_text, entries_text}
+use Rattle.run_session.proofs.Whole.{one_more}
 
 abbrev pub own_text : Module → Invocation → Option (List ℕ)
 own_text m i = cause_text i.entry (cause_of_entry m (function_export m i.entry) i.args)
 
 abbrev pub texts : Module → List Invocation → Option (List ℕ)
 texts m is = entries_text m (map invocation_of is)
-
-one_more : (n : ℕ) → suc n ≡ n + 1
-one_more n = omega arith
 
 next : (m : Module) (xs : List Invocation) (at : ℕ) (i : Invocation) → at < length xs → i ≡ get_or xs at i → texts m (drop at xs) ≡ or_text (own_text m i) (texts m (drop (at + 1) xs))
 next m xs at i lt g =

@@ -4,7 +4,7 @@ mod Valid
 pub mod Beginning
 mod Entries
 pub mod OneWritten
-mod Refusals
-mod Commands
+pub mod Refusals
+pub mod Commands
 mod Stopping
 mod Fitting

@@ -14,7 +14,7 @@ use Rattle.run_command.specs.RunAnswer.{IfRefusal, IsUntouched}
 
 -- ---- statuses
 
-if_refusal : (s : Status) (P : Type 0) → P → IfRefusal s P
+pub if_refusal : (s : Status) (P : Type 0) → P → IfRefusal s P
 if_refusal status.FileFault P x = tt
 if_refusal status.NoMemory P x = x
 if_refusal status.Done P x = tt
@@ -37,7 +37,7 @@ if_refusal status.BadReplies P x = x
 -- ---- steps
 
 -- files that tell the same hold what they held
-untold : (old new : Option Contents) → new ≡ old → OnTold (HoldThen []) old new
+pub untold : (old new : Option Contents) → new ≡ old → OnTold (HoldThen []) old new
 untold old new same = subst (λ t. OnTold (HoldThen []) old t) (sym same) (alike old)
   where
     alike : (t : Option Contents) → OnTold (HoldThen []) t t

@@ -82,7 +82,7 @@ nothing_told p used_up FuelSpent o c nf nt nm is = ap (λ x. plain_telling x (So
 
 -- ---- the memory
 
-shares_of : (p : Program) (codes : List Code) (a : RunEnd) (m : Machine) (c : Config) → (a ≡ NoMemory → ⊥) → KeepsThen p codes a m c → Shares m c.world
+pub shares_of : (p : Program) (codes : List Code) (a : RunEnd) (m : Machine) (c : Config) → (a ≡ NoMemory → ⊥) → KeepsThen p codes a m c → Shares m c.world
 shares_of p codes (Finished v) m c some keeps = keeps.shares
 shares_of p codes (Trapped kind) m c some keeps = keeps.shares
 shares_of p codes NoReply m c some keeps = keeps.shares
@@ -91,11 +91,11 @@ shares_of p codes (BadReply reply) m c some keeps = keeps.shares
 shares_of p codes FuelSpent m c some keeps = keeps.shares
 shares_of p codes NoMemory m c some keeps = absurd (some refl)
 
-of_pages : (memory : Option Paged) → bytes_in memory ≡ option_map (λ m. m.bytes) (option_map (λ m. m.memory) memory)
+pub of_pages : (memory : Option Paged) → bytes_in memory ≡ option_map (λ m. m.bytes) (option_map (λ m. m.memory) memory)
 of_pages None = refl
 of_pages (Some m) = refl
 
-same_memory : (m : Machine) (c : Config) → Shares m c.world → bytes_in m.shared.memory ≡ memory_in (Some c)
+pub same_memory : (m : Machine) (c : Config) → Shares m c.world → bytes_in m.shared.memory ≡ memory_in (Some c)
 same_memory m c shares = of_pages m.shared.memory ∙ ap (λ o. option_map (λ m. m.bytes) o) (sym shares.holds.memory)
 
 -- ---- by what calls handed over

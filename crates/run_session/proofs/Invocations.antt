@@ -119,7 +119,7 @@ shares_on p codes NoReply m c on keeps = absurd on
 shares_on p codes (DeviceFault device) m c on keeps = absurd on
 
 -- all steps were given
-all_given : (a : RunEnd) (fuel steps : ℕ) → (a ≡ NoMemory → ⊥) → given_steps a fuel steps ≡ fuel
+pub all_given : (a : RunEnd) (fuel steps : ℕ) → (a ≡ NoMemory → ⊥) → given_steps a fuel steps ≡ fuel
 all_given (Finished v) fuel steps some = refl
 all_given (Trapped kind) fuel steps some = refl
 all_given NoReply fuel steps some = refl

@@ -1,16 +1,14 @@
-pub mod Unless
 mod Lists
 mod Steps
-mod ToldFiles
 pub mod Held
 pub mod Tellings
-mod Handing
+pub mod Handing
 mod Turning
 mod Sessions
 mod Stopped
-mod Ends
-mod Invocations
+pub mod Ends
+pub mod Invocations
 mod Ones
 mod Nexts
-mod Whole
+pub mod Whole
 mod WrittenFile

@@ -69,7 +69,7 @@ begins tell M base name s done fuel lines calls told none steps text traps = rec
 
 -- ---- one turn
 
-one_more : (n : ℕ) → suc n ≡ n + 1
+pub one_more : (n : ℕ) → suc n ≡ n + 1
 one_more n = omega arith
 
 pub next_due : (xs : List InvocationWords) (k : ℕ) (x other : InvocationWords) → k < length xs → x ≡ get_or xs k other → map invocation_of (drop k xs) ≡ invocation_of x ∷ map invocation_of (drop (k + 1) xs)

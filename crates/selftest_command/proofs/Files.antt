@@ -6,7 +6,6 @@ use Rattle.pm_outside.specs.Contents.{Contents, SameBut}
 use Rattle.dump_write.specs.Written.{OnTold, HasFile, HasFront}
 use Rattle.dump_write.proofs.Files.{then_told, same_told, none_told}
 use Rattle.command_answers.specs.Texts.{file_fault}
-use Rattle.command_answers.specs.Told.{UnlessFault}
 use Rattle.command_answers.specs.declared.outcome.Outcome.{Outcome}
 use Rattle.command_answers.specs.declared.status.Status.TheVariants as status
 use Rattle.command_answers.proofs.Unless.{OnAnswer, map_answer}
@@ -18,11 +17,6 @@ use Rattle.selftest_command.specs.Stops.{HasThenFront, Left, SameButBoth}
 use Rattle.run_session.proofs.Held.{one_held}
 
 -- ---- one file
-
--- a fault that the answer names
-pub fault_answers : (P : Outcome → Type 0) (file : List ℕ) (result : Result Outcome WantOfMemory) → IfOk result (λ o. o ≡ file_fault file) → OnAnswer P result
-fault_answers P file (Err e) is = tt
-fault_answers P file (Ok o) is = subst (λ (x : Outcome). UnlessFault x.status (P o)) (sym is) tt
 
 pub fault_stops : (Q : Stop → Type 0) (file : List ℕ) (result : Result Outcome WantOfMemory) → Q no_memory → Q (file_failed file) → IfOk result (λ o. o ≡ file_fault file) → OnStop Q result
 fault_stops Q file (Err e) want failed is = want

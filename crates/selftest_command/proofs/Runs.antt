@@ -1,7 +1,6 @@
 -- What the run of a module comes to, from what its parts ensure.
 use Rattle.std.proofs.Common.{◌≡◌, ℕ, zero, suc, slice_get, is_some, inl, inr, ◌-◌, Bool, true, false, List, [], ◌∷◌, ◌++◌, length, map, take, refl, sym, ap, ap₂, subst, ◌∙◌, arith, Option, Some, None, Result, Ok, Err}
 use Rattle.std.specs.Prelude.{codes, IfOk, option_map, if◌then◌else◌, ◌⊎◌}
-use Rattle.linear_memory.specs.Paged.{Paged}
 use Rattle.wasm_syntax.specs.declared.value.Value.{Value}
 use Rattle.wasm_syntax.specs.declared.parts.FuncType.{FuncType}
 use Rattle.wasm_syntax.specs.declared.parts.Import.{Import}
@@ -11,11 +10,8 @@ use Rattle.wasm_syntax.specs.declared.host.CollectorCall.{CollectorCall}
 use Rattle.wasm_syntax.specs.declared.module.ModuleParts.{ModuleParts as Module}
 use Rattle.wasm_syntax.specs.Module.{Program, IsModule, function_export, type_at, same_types}
 use Rattle.wasm_syntax.specs.Numbers.{types}
-use Rattle.wasm_syntax.specs.Machine.{Config, Engine}
+use Rattle.wasm_syntax.specs.Machine.{Engine}
 use Rattle.wasm_syntax.specs.Run.{first_false, Cause, no_export, bad_arguments, cause_of_segments, cause_of_entry, cause_of, or_else, if_fits, Ran, not_begun, session, start_world, unless, engine}
-use Rattle.machine_code.specs.declared.code.Code.{Code}
-use Rattle.machine_steps.specs.declared.machine.Machine.{Machine}
-use Rattle.machine_steps.specs.Meets.{Shares}
 use Rattle.host_devices.specs.HostSides.{Calls, Origin}
 use Rattle.host_devices.specs.Given.{replies_of}
 use Rattle.host_set.specs.Sets.{DeviceState, names, is_named}
@@ -23,7 +19,6 @@ use Rattle.host_set.specs.Hosting.{HostsState, origin_of, calls_of, of_script, s
 use Rattle.host_collector.specs.Collecting.{CollectingState, is_told, is_collected, serves}
 use Rattle.machine_hosted.specs.declared.answer.RunEnd.{RunEnd}
 use Rattle.machine_hosted.specs.declared.answer.RunEnd.TheVariants.{Finished, Trapped, NoReply, BadReply, DeviceFault, FuelSpent, NoMemory}
-use Rattle.machine_hosted.specs.Answers.{KeepsThen, given_steps}
 use Rattle.machine_hosted.specs.Settings.{Knows, world_of}
 use Rattle.wasm_machine.specs.Entries.{fault_or, unserved, first_unserved, is_served, serves_type, entry_fault}
 use Rattle.wasm_machine.specs.Instances.{State, IsNew, IsOf, Invoked}
@@ -42,6 +37,8 @@ use Rattle.selftest_laws.specs.Handing.{main_on, fuel, depth}
 use Rattle.selftest_command.specs.Summary.{summary}
 use Rattle.selftest_command.specs.inner.Steps.{collected_alone, IsCollected, dumped, Runs}
 use Rattle.machine_hosted.proofs.WatchLaws.{admits_none}
+use Rattle.run_session.proofs.Invocations.{all_given}
+use Rattle.run_session.proofs.Handing.{shares_of, same_memory}
 
 -- ---- why nothing is run
 
@@ -156,31 +153,6 @@ had_memory (Trapped kind) some = tt
 had_memory (BadReply reply) some = tt
 had_memory FuelSpent some = tt
 had_memory NoMemory some = absurd (some refl)
-
-all_given : (a : RunEnd) (f k : ℕ) → (a ≡ NoMemory → ⊥) → given_steps a f k ≡ f
-all_given NoReply f k some = refl
-all_given (DeviceFault device) f k some = refl
-all_given (Finished v) f k some = refl
-all_given (Trapped kind) f k some = refl
-all_given (BadReply reply) f k some = refl
-all_given FuelSpent f k some = refl
-all_given NoMemory f k some = absurd (some refl)
-
-shares_of : (p : Program) (codes : List Code) (a : RunEnd) (m : Machine) (c : Config) → (a ≡ NoMemory → ⊥) → KeepsThen p codes a m c → Shares m c.world
-shares_of p codes (Finished v) m c some keeps = keeps.shares
-shares_of p codes (Trapped kind) m c some keeps = keeps.shares
-shares_of p codes NoReply m c some keeps = keeps.shares
-shares_of p codes (DeviceFault device) m c some keeps = keeps.shares
-shares_of p codes (BadReply reply) m c some keeps = keeps.shares
-shares_of p codes FuelSpent m c some keeps = keeps.shares
-shares_of p codes NoMemory m c some keeps = absurd (some refl)
-
-of_pages : (memory : Option Paged) → bytes_in memory ≡ option_map (λ m. m.bytes) (option_map (λ m. m.memory) memory)
-of_pages None = refl
-of_pages (Some m) = refl
-
-same_memory : (m : Machine) (c : Config) → Shares m c.world → bytes_in m.shared.memory ≡ memory_in (Some c)
-same_memory m c shares = of_pages m.shared.memory ∙ ap (λ o. option_map (λ m. m.bytes) o) (sym shares.holds.memory)
 
 one_behind : (ready : Bool) (r : Ran) → (r ∷ (if ready then [] else [])) ≡ r ∷ []
 one_behind true r = refl

@@ -160,7 +160,7 @@ behind_imports (x ∷ xs) ys i =
     let same : length (x ∷ xs) + i ≡ suc (length xs + i) = omega arith in
     ap (slice_get (x ∷ (xs ++ ys))) same ∙ behind_imports xs ys i
 
-AtMost : List FuncType → List ℕ → ℕ → Body → Type 0
+pub AtMost : List FuncType → List ℕ → ℕ → Body → Type 0
 AtMost types functions i body = local_count (option_then (slice_get functions i) (λ t. slice_get types t)) body ≤ greatest Locals
 
 locals_within : (types : List FuncType) (functions : List ℕ) (bodies : List Body) (i : ℕ) (body : Body) → length bodies ≡ length functions → AllByRecursion (λ n. n ≤ greatest Locals) (all_locals types functions bodies) → slice_get bodies i ≡ Some body → AtMost types functions i body

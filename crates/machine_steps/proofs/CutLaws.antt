@@ -1,1 +1,0 @@
--- The operands that an instruction takes, above others.

@@ -1,1 +1,0 @@
--- Facts on what files hold, where they tell it.
