@@ -2,7 +2,7 @@
 
 ghost use Rattle.std.specs.Prelude.{◌≡◌, ◌-◌, ◌≤◌, List, [], ◌∷◌, length, drop, slice_get, OnOk, OnErr, MatchOption, Some, None, Option, option_to_list};
 ghost use Rattle.validate_stack.specs.Frames.{Frame, opening, pop as pop_frames, push as push_frames, emptied, forget as forget_frames, label as label_at, result_of, any_free, height_of, no_frame, gives_any, operands, topmost};
-ghost use Rattle.validate_stack.specs.inner.Stacked.{Did, Took, Left};
+ghost use Rattle.validate_stack.specs.inner.Stacked.{Did, Made, Took, Left};
 ghost use Rattle.validate_stack.specs.declared.stack.StackFault.TheVariants as faults;
 ghost use Rattle.wasm_syntax.specs.Numbers.{same_type};
 
@@ -100,7 +100,7 @@ impl TypeStack {
 
     /// Takes a type from the innermost frame.
     pub fn pop(&mut self, t: ValType) -> Result<(), StackFault>
-        ensures { Did result (pop_frames self.old t) self.new }
+        ensures { Made result (pop_frames self.old t) self.new }
     {
         match self.pop_any()? {
             Some(u) => {

@@ -22,20 +22,26 @@ abbrev pub Heights : ℕ → List Control → Type 0
 Heights n [] = n ≡ 0
 Heights n (c ∷ cs) = (c.height ≤ n) × (c.within ≡ free_control cs) × Heights c.height cs
 
--- A call makes a step from frames to frames: it is made, or there is none. Of want of memory nothing is said.
+-- A call makes a step from frames to frames: it is made, or there is none. Of want of memory nothing is said, where memory is taken.
 abbrev pub Did : {A : Type 0} → Result A StackFault → Option (List Frame) → List Frame → Type 0
 Did (Ok x) step new = step ≡ Some new
 Did (Err Wrong) step new = step ≡ None
 Did (Err NoMemory) step new = Unit {0}
 
+-- the same of a call that takes no memory
+abbrev pub Made : {A : Type 0} → Result A StackFault → Option (List Frame) → List Frame → Type 0
+Made (Ok x) step new = step ≡ Some new
+Made (Err Wrong) step new = step ≡ None
+Made (Err NoMemory) step new = ⊥
+
 -- the topmost type was taken
 abbrev pub Took : Result (Option ValType) StackFault → List Frame → List Frame → Type 0
 Took (Ok u) old new = take_any old ≡ Some (u, new)
 Took (Err Wrong) old new = take_any old ≡ None
-Took (Err NoMemory) old new = Unit {0}
+Took (Err NoMemory) old new = ⊥
 
 -- the innermost frame was left, where it was empty; it was what this control frame says
 abbrev pub Left : Result Control StackFault → List Frame → List Frame → Type 0
 Left (Ok c) old new = emptied old ≡ Some (frame_of c [], new)
 Left (Err Wrong) old new = emptied old ≡ None
-Left (Err NoMemory) old new = Unit {0}
+Left (Err NoMemory) old new = ⊥
