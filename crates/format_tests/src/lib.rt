@@ -8,6 +8,8 @@ mod dump_tests;
 #[cfg(test)]
 mod instruction_tests;
 #[cfg(test)]
+mod leb_tests;
+#[cfg(test)]
 mod module_tests;
 #[cfg(test)]
 mod reader_tests;

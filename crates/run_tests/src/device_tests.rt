@@ -3,7 +3,7 @@
 ghost use Rattle.std.specs.Prelude.{codes};
 ghost use Rattle.host_set.specs.Sets.{AreDistinct, names};
 
-use crate::devices::{Kind, device_of, set_of};
+use crate::devices::{Kind, set_of, set_with};
 use crate::trial::{are_served, files_of};
 use host_devices::{Console, Device, DeviceAnswer};
 use host_set::{DeviceSet, Devices};
@@ -173,20 +173,13 @@ fn runs(
     }
 }
 
-/// Whether a row holds of a device of its kind.
-fn holds_of(alloc: Global, device: Box<dyn Device>, row: &Row) -> bool {
-    let Some(mut devices) = set_of(alloc, device) else {
+/// Whether a row holds.
+fn holds(alloc: Global, row: &Row) -> bool {
+    let Some(mut devices) = set_of(alloc, row.device) else {
         return false;
     };
     let wanted = (row.status, row.text);
     runs(alloc, row.source, row.line, &mut devices, wanted) && tells(&devices, row)
-}
-
-fn holds(alloc: Global, row: &Row) -> bool {
-    match device_of(alloc, row.device) {
-        Ok(device) => holds_of(alloc, device, row),
-        Err(_) => false,
-    }
 }
 
 #[test]
@@ -239,10 +232,10 @@ fn new_dropping(
     alloc: Global,
     failing: u64,
     drops: &Rc<Cell<u64>>,
-) -> Result<Box<dyn Device>, AllocError> {
+) -> Result<Dropping, AllocError> {
     let console = Console::new(alloc, vec![in alloc; failing]?);
     let drops = drops.clone()?;
-    Ok(Box::new(alloc, Dropping { console, drops })?)
+    Ok(Dropping { console, drops })
 }
 
 /// Whether a set has a console, which can be released and attached again.
@@ -256,13 +249,8 @@ fn is_attached_again(devices: &mut DeviceSet) -> bool {
 }
 
 /// Whether, behind a run that gets this, a console is in its set, and is dropped with the set alone.
-fn is_kept(
-    alloc: Global,
-    console: Box<dyn Device>,
-    drops: &Rc<Cell<u64>>,
-    wanted: (u8, &str),
-) -> bool {
-    let Some(mut devices) = set_of(alloc, console) else {
+fn is_kept(alloc: Global, console: Dropping, drops: &Rc<Cell<u64>>, wanted: (u8, &str)) -> bool {
+    let Some(mut devices) = set_with(alloc, console) else {
         return false;
     };
     runs(alloc, &PRINTING, "f", &mut devices, wanted)

@@ -154,44 +154,56 @@ impl Kind {
     }
 }
 
-fn new_looking(alloc: Global) -> Result<Box<dyn Device>, AllocError> {
-    let log = Items::new(alloc);
-    Ok(Box::new(alloc, Looking { alloc, log })?)
-}
-
-fn new_counter(alloc: Global) -> Result<Box<dyn Device>, AllocError> {
-    Ok(Box::new(alloc, Counter::new(alloc))?)
-}
-
-/// A console whose calls with these numbers fail.
-fn new_console(alloc: Global, failing: Vec<u64>) -> Result<Box<dyn Device>, AllocError> {
-    Ok(Box::new(alloc, Console::new(alloc, failing))?)
-}
-
-fn new_complaining(alloc: Global) -> Result<Box<dyn Device>, AllocError> {
-    let console = Console::new(alloc, Vec::new(alloc));
-    Ok(Box::new(alloc, Complaining { console, faults: 0 })?)
-}
-
-/// A new device of a kind.
-pub fn device_of(alloc: Global, kind: Kind) -> Result<Box<dyn Device>, AllocError> {
-    match kind {
-        Kind::Looking => new_looking(alloc),
-        Kind::Counter => new_counter(alloc),
-        Kind::Console => new_console(alloc, Vec::new(alloc)),
-        Kind::FailingConsole => new_console(alloc, vec![in alloc; 1]?),
-        Kind::Complaining => new_complaining(alloc),
-    }
-}
-
 /// A set of one device.
-pub fn set_of(alloc: Global, device: Box<dyn Device>) -> Option<DeviceSet>
+pub fn set_with<D: Device + 'static>(alloc: Global, device: D) -> Option<DeviceSet>
     ensures { IfSome result
         (λ set. AreDistinct (names (⟦<DeviceSet as Devices>⟧.shown set))) }
 {
+    let Ok(device) = Box::new(alloc, device) else {
+        return None;
+    };
     let mut devices = DeviceSet::new(alloc);
     match devices.attach(device) {
         Ok(_) => Some(devices),
         Err(_) => None,
+    }
+}
+
+fn new_looking(alloc: Global) -> Looking {
+    Looking {
+        alloc,
+        log: Items::new(alloc),
+    }
+}
+
+fn new_complaining(alloc: Global) -> Complaining {
+    Complaining {
+        console: Console::new(alloc, Vec::new(alloc)),
+        faults: 0,
+    }
+}
+
+/// A console whose call with this number fails.
+fn with_failing(alloc: Global, call: u64) -> Option<DeviceSet>
+    ensures { IfSome result
+        (λ set. AreDistinct (names (⟦<DeviceSet as Devices>⟧.shown set))) }
+{
+    match vec![in alloc; call] {
+        Ok(calls) => set_with(alloc, Console::new(alloc, calls)),
+        Err(_) => None,
+    }
+}
+
+/// A set of one new device of a kind.
+pub fn set_of(alloc: Global, kind: Kind) -> Option<DeviceSet>
+    ensures { IfSome result
+        (λ set. AreDistinct (names (⟦<DeviceSet as Devices>⟧.shown set))) }
+{
+    match kind {
+        Kind::Looking => set_with(alloc, new_looking(alloc)),
+        Kind::Counter => set_with(alloc, Counter::new(alloc)),
+        Kind::Console => set_with(alloc, Console::new(alloc, Vec::new(alloc))),
+        Kind::FailingConsole => with_failing(alloc, 1),
+        Kind::Complaining => set_with(alloc, new_complaining(alloc)),
     }
 }

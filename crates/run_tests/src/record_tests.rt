@@ -1,8 +1,7 @@
 //! The record of a run, as a file.
 
-use crate::devices::{Kind, device_of, set_of};
+use crate::devices::{Kind, set_of};
 use crate::trial::{are_answered, are_served, files_of};
-use host_devices::Device;
 use pm_outside::MemFiles;
 use std::alloc::Global;
 use std::test::Fail;
@@ -131,9 +130,9 @@ fn runs_with_torn_calls_are_recorded(rt: HostRuntime) {
     assert!(rt; is_recorded(rt.alloc(), &HANDING, &TORN));
 }
 
-/// Whether what a device replies to two calls is recorded, in place of the module.
-fn is_served(alloc: Global, files: &mut MemFiles, device: Box<dyn Device>) -> bool {
-    let Some(mut devices) = set_of(alloc, device) else {
+/// Whether what a counter replies is recorded, in place of the module.
+fn is_counter_recorded(alloc: Global, files: &mut MemFiles) -> bool {
+    let Some(mut devices) = set_of(alloc, Kind::Counter) else {
         return false;
     };
     let line = ["run m", "--record m f"];
@@ -142,14 +141,10 @@ fn is_served(alloc: Global, files: &mut MemFiles, device: Box<dyn Device>) -> bo
         && holds(files, "m", Some("i32:0\ni32:1\n"))
 }
 
-fn is_counter_recorded(alloc: Global) -> Result<bool, Fail> {
-    let mut files = files_of(alloc, &TWICE_NEXT, b"", &[])?;
-    Ok(is_served(alloc, &mut files, device_of(alloc, Kind::Counter)?))
-}
-
 #[test]
 fn replies_of_devices_are_recorded(rt: HostRuntime) -> Result<(), Fail> {
-    assert!(rt; is_counter_recorded(rt.alloc())?);
+    let mut files = files_of(rt.alloc(), &TWICE_NEXT, b"", &[])?;
+    assert!(rt; is_counter_recorded(rt.alloc(), &mut files));
     Ok(())
 }
 
