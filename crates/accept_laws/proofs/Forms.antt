@@ -35,12 +35,6 @@ abbrev pub InstrFine : Instr → Type 0
 InstrFine (instr.Basic i) = BasicFine i
 InstrFine i = Unit {0}
 
-]
-signed_within bits (b ∷ c ∷ bs) z some s =
-    let high = signed_within (bits - 7) (c ∷ bs) s.3 (omega (arith, s.2)) s.5 in
-    let power = half_seven_more bits s.2 in
-    (omega (arith, ints, power, s.0, s.1, s.4, high.0, high.1), omega (arith, ints, power, s.0, s.1, s.4, high.0, high.1))
-
 in_32 : (z : ℤ) → IsWithin 32 z → cast_unsigned w32 z < 2 ^ 32
 in_32 (pos n) h = omega (arith, ints, h.1)
 in_32 (negsuc n) h = omega arith

@@ -56,8 +56,6 @@ picks_stops false P s t f pick e h = none_stops P s t pick h
 
 -- ---- an item that knows its offset
 
-}
-
 pub offset_stops : {A : Type 0} (s : ℕ → ℕ → List ℕ → ℕ → Type 0) (g : ℕ → Place → Read A) → ((at : ℕ) → StopsAt (s at) (g at)) → StopsAt (λ at. s at at) (here_item ▷ g)
 offset_stops s g h = record {
   only = λ before after o fits read. (h (length before)).only before after o fits read;
