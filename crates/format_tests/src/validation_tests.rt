@@ -398,7 +398,7 @@ const CASES: [Case; 69] = [
 
 /// The size of some bytes and so many more, where it is below 128: one byte.
 fn size_with(more: u8, bytes: &[u8]) -> u8 {
-    (bytes.len() as u8).wrapping_add(more)
+    ((bytes.len() % 0x100) as u8).wrapping_add(more)
 }
 
 /// A module whose third function has this body.

@@ -3,9 +3,9 @@
 ghost use Rattle.std.specs.Prelude.{codes};
 ghost use Rattle.host_set.specs.Sets.{AreDistinct, names};
 
-use crate::devices::{Kind, set_of, set_with};
+use crate::devices::{new_complaining, new_looking};
 use crate::trial::{are_served, files_of};
-use host_devices::{Console, Device, DeviceAnswer};
+use host_devices::{Console, Counter, Device, DeviceAnswer};
 use host_set::{DeviceSet, Devices};
 use linear_memory::Memory;
 use std::alloc::{AllocError, Global};
@@ -13,6 +13,28 @@ use std::cell::Cell;
 use std::rc::Rc;
 use test_modules::{FAR_STORES_LENT, LENDING, PRINTING, TWICE_NEXT};
 use wasm_syntax::{HostCall, Served, Value};
+
+/// A kind of device.
+#[derive(Clone, Copy)]
+enum Kind {
+    Looking,
+    Counter,
+    Console,
+    /// A console whose second call fails.
+    FailingConsole,
+    Complaining,
+}
+
+impl Kind {
+    /// The name of its devices.
+    fn name(self) -> &'static str {
+        match self {
+            Kind::Looking => "memory",
+            Kind::Counter => "counter",
+            Kind::Console | Kind::FailingConsole | Kind::Complaining => "console",
+        }
+    }
+}
 
 /// A call that a device replied to: its name, its argument if it has one, and the value of the reply.
 type Logged = (&'static str, Option<Value>, Option<Value>);
@@ -173,20 +195,65 @@ fn runs(
     }
 }
 
-/// Whether a row holds.
-fn holds(alloc: Global, row: &Row) -> bool {
-    let Some(mut devices) = set_of(alloc, row.device) else {
-        return false;
-    };
+/// Whether a row holds with these devices.
+fn serves(alloc: Global, row: &Row, devices: &mut DeviceSet) -> bool
+    requires { AreDistinct (names (⟦<DeviceSet as Devices>⟧.shown devices.old)) }
+{
     let wanted = (row.status, row.text);
-    runs(alloc, row.source, row.line, &mut devices, wanted) && tells(&devices, row)
+    runs(alloc, row.source, row.line, devices, wanted) && tells(devices, row)
+}
+
+// One function for each kind: it makes the device and attaches it.
+
+fn with_looking(alloc: Global, row: &Row) -> Result<bool, AllocError> {
+    let mut devices = DeviceSet::new(alloc);
+    match devices.attach(Box::new(alloc, new_looking(alloc))?) {
+        Ok(_) => Ok(serves(alloc, row, &mut devices)),
+        Err(_) => Ok(false),
+    }
+}
+
+fn with_counter(alloc: Global, row: &Row) -> Result<bool, AllocError> {
+    let mut devices = DeviceSet::new(alloc);
+    match devices.attach(Box::new(alloc, Counter::new(alloc))?) {
+        Ok(_) => Ok(serves(alloc, row, &mut devices)),
+        Err(_) => Ok(false),
+    }
+}
+
+/// The calls of the console with these numbers fail.
+fn with_console(alloc: Global, row: &Row, failing: Vec<u64>) -> Result<bool, AllocError> {
+    let mut devices = DeviceSet::new(alloc);
+    match devices.attach(Box::new(alloc, Console::new(alloc, failing))?) {
+        Ok(_) => Ok(serves(alloc, row, &mut devices)),
+        Err(_) => Ok(false),
+    }
+}
+
+fn with_complaining(alloc: Global, row: &Row) -> Result<bool, AllocError> {
+    let mut devices = DeviceSet::new(alloc);
+    match devices.attach(Box::new(alloc, new_complaining(alloc))?) {
+        Ok(_) => Ok(serves(alloc, row, &mut devices)),
+        Err(_) => Ok(false),
+    }
+}
+
+fn holds(alloc: Global, row: &Row) -> Result<bool, AllocError> {
+    match row.device {
+        Kind::Looking => with_looking(alloc, row),
+        Kind::Counter => with_counter(alloc, row),
+        Kind::Console => with_console(alloc, row, Vec::new(alloc)),
+        Kind::FailingConsole => with_console(alloc, row, vec![in alloc; 1]?),
+        Kind::Complaining => with_complaining(alloc, row),
+    }
 }
 
 #[test]
-fn devices_serve_runs(rt: HostRuntime) {
+fn devices_serve_runs(rt: HostRuntime) -> Result<(), AllocError> {
     for row in &ROWS {
-        assert!(rt; holds(rt.alloc(), row), "{}", row.line);
+        assert!(rt; holds(rt.alloc(), row)?, "{}", row.line);
     }
+    Ok(())
 }
 
 /// A console that counts how many such devices are dropped.
@@ -238,30 +305,24 @@ fn new_dropping(
     Ok(Dropping { console, drops })
 }
 
-/// Whether a set has a console, which can be released and attached again.
-fn is_attached_again(devices: &mut DeviceSet) -> bool {
-    let Some(console) = devices.release("console") else {
-        return false;
-    };
-    devices.get("console").is_none()
-        && matches!(devices.attach(console), Ok(None))
-        && devices.get("console").is_some()
-}
-
-/// Whether, behind a run that gets this, a console is in its set, and is dropped with the set alone.
-fn is_kept(alloc: Global, console: Dropping, drops: &Rc<Cell<u64>>, wanted: (u8, &str)) -> bool {
-    let Some(mut devices) = set_with(alloc, console) else {
-        return false;
-    };
-    runs(alloc, &PRINTING, "f", &mut devices, wanted)
-        && is_attached_again(&mut devices)
-        && drops.get() == 0
-}
-
+/// Whether, behind a run that gets this, a console is in its set, can be released and attached again, and is dropped with the set alone.
 fn is_dropped_once(alloc: Global, failing: u64, wanted: (u8, &str)) -> Result<bool, AllocError> {
     let drops = Rc::new(alloc, Cell::new(0))?;
+    let mut devices = DeviceSet::new(alloc);
     let console = new_dropping(alloc, failing, &drops)?;
-    Ok(is_kept(alloc, console, &drops, wanted) && drops.get() == 1)
+    if devices.attach(Box::new(alloc, console)?).is_err()
+        || !runs(alloc, &PRINTING, "f", &mut devices, wanted)
+    {
+        return Ok(false);
+    }
+    let Some(console) = devices.release("console") else {
+        return Ok(false);
+    };
+    let is_released = devices.get("console").is_none();
+    let is_new = matches!(devices.attach(console), Ok(None));
+    let is_kept = devices.get("console").is_some() && drops.get() == 0;
+    drop(devices);
+    Ok(is_released && is_new && is_kept && drops.get() == 1)
 }
 
 const DONE: (u8, &str) = (0, "finished\nhost calls 2\n");

@@ -1,20 +1,18 @@
-//! Devices of the tests: one that looks at the memory, one that complains, and how each kind is attached.
+//! Devices of the tests: one that looks at the memory, and one that complains.
 
-ghost use Rattle.std.specs.Prelude.{◌≡◌, codes, [], IfSome};
-ghost use Rattle.host_set.specs.Sets.{AreDistinct, names};
+ghost use Rattle.std.specs.Prelude.{◌≡◌, codes, []};
 
-use host_devices::{Console, Counter, Device, DeviceAnswer, copy_call};
-use host_set::{DeviceSet, Devices};
+use host_devices::{Console, Device, DeviceAnswer, copy_call};
 use linear_memory::Memory;
 use pm_text::Items;
-use std::alloc::{AllocError, Global};
+use std::alloc::Global;
 use std::marker::Model;
 use wasm_syntax::{HostCall, Reply, Served, Value};
 
 /// The device `memory`. To a call with an address it replies the byte that stands there, and to one without arguments how many pages are
 /// made.
 #[derive(Drop)]
-struct Looking {
+pub struct Looking {
     alloc: Global,
     log: Items<Served>,
 }
@@ -102,7 +100,7 @@ impl Device for Looking {
 
 /// A console that counts a fault at each call, and replies all the same.
 #[derive(Drop)]
-struct Complaining {
+pub struct Complaining {
     console: Console,
     faults: u64,
 }
@@ -132,78 +130,18 @@ impl Device for Complaining {
     }
 }
 
-/// A kind of device.
-#[derive(Clone, Copy)]
-pub enum Kind {
-    Looking,
-    Counter,
-    Console,
-    /// A console whose second call fails.
-    FailingConsole,
-    Complaining,
-}
-
-impl Kind {
-    /// The name of its devices.
-    pub fn name(self) -> &'static str {
-        match self {
-            Kind::Looking => "memory",
-            Kind::Counter => "counter",
-            Kind::Console | Kind::FailingConsole | Kind::Complaining => "console",
-        }
-    }
-}
-
-/// A set of one device.
-pub fn set_with<D: Device + 'static>(alloc: Global, device: D) -> Option<DeviceSet>
-    ensures { IfSome result
-        (λ set. AreDistinct (names (⟦<DeviceSet as Devices>⟧.shown set))) }
-{
-    let Ok(device) = Box::new(alloc, device) else {
-        return None;
-    };
-    let mut devices = DeviceSet::new(alloc);
-    match devices.attach(device) {
-        Ok(_) => Some(devices),
-        Err(_) => None,
-    }
-}
-
-fn new_looking(alloc: Global) -> Looking {
+/// A device that looks at the memory.
+pub fn new_looking(alloc: Global) -> Looking {
     Looking {
         alloc,
         log: Items::new(alloc),
     }
 }
 
-fn new_complaining(alloc: Global) -> Complaining {
+/// A console that complains.
+pub fn new_complaining(alloc: Global) -> Complaining {
     Complaining {
         console: Console::new(alloc, Vec::new(alloc)),
         faults: 0,
-    }
-}
-
-/// A console whose call with this number fails.
-fn with_failing(alloc: Global, call: u64) -> Option<DeviceSet>
-    ensures { IfSome result
-        (λ set. AreDistinct (names (⟦<DeviceSet as Devices>⟧.shown set))) }
-{
-    match vec![in alloc; call] {
-        Ok(calls) => set_with(alloc, Console::new(alloc, calls)),
-        Err(_) => None,
-    }
-}
-
-/// A set of one new device of a kind.
-pub fn set_of(alloc: Global, kind: Kind) -> Option<DeviceSet>
-    ensures { IfSome result
-        (λ set. AreDistinct (names (⟦<DeviceSet as Devices>⟧.shown set))) }
-{
-    match kind {
-        Kind::Looking => set_with(alloc, new_looking(alloc)),
-        Kind::Counter => set_with(alloc, Counter::new(alloc)),
-        Kind::Console => set_with(alloc, Console::new(alloc, Vec::new(alloc))),
-        Kind::FailingConsole => with_failing(alloc, 1),
-        Kind::Complaining => set_with(alloc, new_complaining(alloc)),
     }
 }

@@ -1,7 +1,10 @@
 //! The record of a run, as a file.
 
-use crate::devices::{Kind, set_of};
+ghost use Rattle.host_set.specs.Sets.{AreDistinct, names};
+
 use crate::trial::{are_answered, are_served, files_of};
+use host_devices::Counter;
+use host_set::{DeviceSet, Devices};
 use pm_outside::MemFiles;
 use std::alloc::Global;
 use std::test::Fail;
@@ -130,21 +133,27 @@ fn runs_with_torn_calls_are_recorded(rt: HostRuntime) {
     assert!(rt; is_recorded(rt.alloc(), &HANDING, &TORN));
 }
 
-/// Whether what a counter replies is recorded, in place of the module.
-fn is_counter_recorded(alloc: Global, files: &mut MemFiles) -> bool {
-    let Some(mut devices) = set_of(alloc, Kind::Counter) else {
-        return false;
-    };
+/// Whether what a device replies to two calls is recorded, in place of the module.
+fn is_served(alloc: Global, files: &mut MemFiles, devices: &mut DeviceSet) -> bool
+    requires { AreDistinct (names (⟦<DeviceSet as Devices>⟧.shown devices.old)) }
+{
     let line = ["run m", "--record m f"];
     let wanted = (0, "finished i32:1\nhost calls 2\n");
-    are_served(alloc, line, files, &mut devices, wanted)
-        && holds(files, "m", Some("i32:0\ni32:1\n"))
+    are_served(alloc, line, files, devices, wanted) && holds(files, "m", Some("i32:0\ni32:1\n"))
+}
+
+fn is_counter_recorded(alloc: Global, files: &mut MemFiles) -> Result<bool, Fail> {
+    let mut devices = DeviceSet::new(alloc);
+    match devices.attach(Box::new(alloc, Counter::new(alloc))?) {
+        Ok(_) => Ok(is_served(alloc, files, &mut devices)),
+        Err(_) => Ok(false),
+    }
 }
 
 #[test]
 fn replies_of_devices_are_recorded(rt: HostRuntime) -> Result<(), Fail> {
     let mut files = files_of(rt.alloc(), &TWICE_NEXT, b"", &[])?;
-    assert!(rt; is_counter_recorded(rt.alloc(), &mut files));
+    assert!(rt; is_counter_recorded(rt.alloc(), &mut files)?);
     Ok(())
 }
 
