@@ -22,8 +22,9 @@ ghost use Rattle.rewrite_promise.specs.Admitted.{Admits};
 ghost use Rattle.accept_laws.specs.Ranges.{InRanges};
 ghost use Rattle.accept_laws.specs.Accepted.{TrapsAccepted, AllHandOver};
 
-/// The dump of each trap of a valid module, of at most so many bytes as dumps may have, is accepted with that module, whatever the
-/// invocations, their arguments, the replies and the number of steps, where no more frames may stand than a dump may have.
+/// The dump of each trap of a valid module, of at most so many bytes as dumps may have, is accepted
+/// with that module, whatever the invocations, their arguments, the replies and the number of
+/// steps, where no more frames may stand than a dump may have.
 pub fn written_dumps_are_accepted()
     ensures modules { (p : Program) (collecting : Bool) (invocations : List Invocation)
         (replies : List HostReply) (depth n : ℕ) → IsProgram p → IsModule p.module_
@@ -37,7 +38,8 @@ pub fn written_dumps_are_accepted()
         → TrapsAccepted p.module_ (run p collecting invocations replies depth n) }
 {}
 
-/// What a module hands over that simulates another one is accepted with that other one, at each of its traps.
+/// What a module hands over that simulates another one is accepted with that other one, at each of
+/// its traps.
 pub fn collected_dumps_are_accepted()
     ensures simulating { (factor : ℕ) (p other : Program) → Simulates factor p other → IsProgram p
         → IsModule p.module_ → Valid p.module_ → WithinLimits p.module_ → InRanges p.module_
@@ -56,7 +58,8 @@ pub fn collected_dumps_are_accepted()
         steps) }
 {}
 
-/// In a decoded module the offsets of instructions have 32 bits, and the first values of globals are of their types.
+/// In a decoded module the offsets of instructions have 32 bits, and the first values of globals
+/// are of their types.
 pub fn decoded_modules_are_in_ranges()
     ensures spelled { (bytes : List ℕ) (m : Parts) → IsModuleOf bytes m → InRanges m }
     ensures decoded { (bytes : List ℕ) (m : Parts) → IsBytes bytes → module_from bytes ≡ Ok m

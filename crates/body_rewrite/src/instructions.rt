@@ -130,7 +130,8 @@ fn write_ending(
     Ok(Flow::Leaves)
 }
 
-/// A live instruction, in a body with these targets. Of an `else` or `end`, what stands in front of it.
+/// A live instruction, in a body with these targets. Of an `else` or `end`, what stands in front of
+/// it.
 pub(crate) fn write_live(
     context: &FunctionContext<'_, '_>,
     writer: &mut CodeWriter,

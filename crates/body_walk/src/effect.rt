@@ -88,8 +88,8 @@ fn global_type(source: &ModuleParts, global: u32) -> Option<ValType>
     }
 }
 
-/// What an instruction gives over these operands, in a function of this module with these locals. An index that is out of range gives
-/// nothing.
+/// What an instruction gives over these operands, in a function of this module with these locals.
+/// An index that is out of range gives nothing.
 pub fn result_type(
     locals: &[ValType],
     source: &ModuleParts,

@@ -1,5 +1,5 @@
-//! A walk over the flat code of a body, from its first instruction to its last, which knows where the operands are kept and which blocks are
-//! open.
+//! A walk over the flat code of a body, from its first instruction to its last, which knows where
+//! the operands are kept and which blocks are open.
 #![tactic(auto)]
 
 mod effect;

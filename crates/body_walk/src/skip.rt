@@ -6,7 +6,8 @@ ghost use Rattle.body_walk.specs.Standing.{Due, flat, passed};
 
 use wasm_syntax::{Instr, Op};
 
-/// In dead code with so many open blocks, how many are open behind an instruction; None where the list ends in front of it.
+/// In dead code with so many open blocks, how many are open behind an instruction; None where the
+/// list ends in front of it.
 fn passed(depth: usize, code: Instr) -> Option<usize>
     requires { depth < 2 ^ 63 }
     ensures value { (targets : List ℕ) → result ≡ passed depth (item_of targets code) }
@@ -20,7 +21,8 @@ fn passed(depth: usize, code: Instr) -> Option<usize>
     }
 }
 
-/// The index of the `else` or the `end` behind a list of which no instruction from this index on is live.
+/// The index of the `else` or the `end` behind a list of which no instruction from this index on is
+/// live.
 pub fn end_of_list(ops: &[Op], from: usize) -> usize
     ensures forward { from ≤ result }
     ensures within { from ≤ length ops.now → result ≤ length ops.now }

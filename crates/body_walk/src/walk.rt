@@ -14,8 +14,9 @@ use std::alloc::Global;
 use std::marker::Model;
 use wasm_syntax::{ValType, Value};
 
-/// The places of the operands and the open blocks at a live instruction of a body, which contracts see with the topmost operand and the
-/// innermost block first. The outermost block is the body itself.
+/// The places of the operands and the open blocks at a live instruction of a body, which contracts
+/// see with the topmost operand and the innermost block first. The outermost block is the body
+/// itself.
 #[derive(Drop)]
 pub struct Walk {
     alloc: Global,
@@ -131,7 +132,8 @@ impl Walk {
         self.places.push(OperandPlace::Known(value))
     }
 
-    /// Another instruction behind which the next one is run: it takes so many operands and gives this.
+    /// Another instruction behind which the next one is run: it takes so many operands and gives
+    /// this.
     pub fn perform(&mut self, taken: usize, gives: Option<ValType>) -> Result<(), NoMemory>
         ensures { OnOk result (self.new
             ≡ with_places self.old (grown gives (less taken self.old.places))) }

@@ -1,4 +1,5 @@
-//! Modules that `instrument` wrote, under `run --collect`. What is wanted was worked out by hand from Core 4.4 and 4.5.
+//! Modules that `instrument` wrote, under `run --collect`. What is wanted was worked out by hand
+//! from Core 4.4 and 4.5.
 
 use crate::trial::{answers, begins, files_of};
 use pm_outside::MemFiles;
@@ -328,7 +329,8 @@ fn are_equal(files: &MemFiles, first: &str, second: &str) -> bool {
     files.get(first) == files.get(second)
 }
 
-/// Whether the module in `m` runs so, and, rewritten, runs so again and hands over what the first run wrote.
+/// Whether the module in `m` runs so, and, rewritten, runs so again and hands over what the first
+/// run wrote.
 fn is_collected(alloc: Global, files: &mut MemFiles, row: &Row) -> bool {
     let wanted = (row.status, row.text);
     answers(alloc, ["run m --dump a", row.line], files, wanted)

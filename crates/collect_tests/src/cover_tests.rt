@@ -1,5 +1,6 @@
-//! The command `cover`: how many steps fell on each source line. The rows of the line program are those that llvm-dwarfdump prints, and the steps of
-//! each line are the instructions between its row and the next one.
+//! The command `cover`: how many steps fell on each source line. The rows of the line program are
+//! those that llvm-dwarfdump prints, and the steps of each line are the instructions between its
+//! row and the next one.
 
 use crate::trial::{answers, files_of};
 use std::alloc::Global;

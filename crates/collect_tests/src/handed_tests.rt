@@ -1,4 +1,5 @@
-//! Modules that call the collector by hand, under `run --collect`. What is wanted was worked out by hand.
+//! Modules that call the collector by hand, under `run --collect`. What is wanted was worked out by
+//! hand.
 
 use crate::trial::{answers, files_of};
 use pm_outside::MemFiles;
@@ -83,7 +84,8 @@ fn a_trap_without_a_dump_is_numbered(rt: HostRuntime) {
 
 const TRAPPED: &str = "trap 2 integer divide by zero\nat function 0 offset 5\nhost calls 0\n";
 
-/// Whether the module in `r`, a rewriting by hand of that in `m`, hands over what `run` writes of that. The wrapper and the two functions take three frames.
+/// Whether the module in `r`, a rewriting by hand of that in `m`, hands over what `run` writes of
+/// that. The wrapper and the two functions take three frames.
 fn is_handed(alloc: Global, files: &mut MemFiles) -> bool {
     let wanted = (1, TRAPPED);
     answers(alloc, ["run m --dump a", "run i32:7 i32:0"], files, wanted)

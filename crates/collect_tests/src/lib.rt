@@ -1,5 +1,6 @@
-//! The commands `instrument`, `run --collect`, `selftest`, `replay` and `cover`, tested over files in memory. The tests stand apart from `pm_cli`, so that
-//! it is not proved a second time with them.
+//! The commands `instrument`, `run --collect`, `selftest`, `replay` and `cover`, tested over files
+//! in memory. The tests stand apart from `pm_cli`, so that it is not proved a second time with
+//! them.
 #![tactic(auto)]
 
 #[cfg(test)]

@@ -1,4 +1,5 @@
-//! The command `replay`: moves between the steps of a run, and commands on the states that are shown. What is wanted was worked out by hand.
+//! The command `replay`: moves between the steps of a run, and commands on the states that are
+//! shown. What is wanted was worked out by hand.
 
 use crate::trial::{answers, answers_with, files_of};
 use std::alloc::Global;
@@ -6,7 +7,8 @@ use test_modules::{DIVISION, READING};
 
 const REPLIES: &str = "i32:9 16=01020304\n";
 
-/// A module, the words in front of the last one, which is the text of the commands, and what these print.
+/// A module, the words in front of the last one, which is the text of the commands, and what these
+/// print.
 type Row = (&'static [u8], &'static str, &'static str, &'static str);
 
 const ROWS: [Row; 6] = [

@@ -1,5 +1,6 @@
-//! The command `selftest`, and both files that it writes under `run`. Modules and dumps were also written by a program apart from this one, which
-//! told how many bytes they have, the sums of these, and the code offset of the division.
+//! The command `selftest`, and both files that it writes under `run`. Modules and dumps were also
+//! written by a program apart from this one, which told how many bytes they have, the sums of
+//! these, and the code offset of the division.
 
 use crate::trial::{answers, length, number_told};
 use host_set::DeviceSet;
@@ -8,7 +9,8 @@ use pm_text::Text;
 use selftest_command::selftest_files;
 use std::alloc::Global;
 
-/// How many functions there are, the line but for the number of steps, what `run` tells of the trap, and the bytes of the first file.
+/// How many functions there are, the line but for the number of steps, what `run` tells of the
+/// trap, and the bytes of the first file.
 struct Row {
     count: u32,
     told: &'static str,
@@ -62,7 +64,8 @@ fn text_of(alloc: Global, pieces: &[&str], numbers: &[u64]) -> Option<Text> {
     Some(text)
 }
 
-/// Whether `main` of the first file traps so, and so does that of the second one within so many steps, but not within one less, and hands the same dump over.
+/// Whether `main` of the first file traps so, and so does that of the second one within so many
+/// steps, but not within one less, and hands the same dump over.
 fn runs(alloc: Global, files: &mut MemFiles, row: &Row, main: &str, steps: u64) -> bool {
     let front = "run selftest.inst.wasm --collect --dump b --fuel ";
     let Some(enough) = text_of(alloc, &[front, ""], &[steps]) else {
@@ -133,8 +136,8 @@ fn the_call_tells_what_the_command_does(rt: HostRuntime) {
     assert!(rt; is_called(rt.alloc()));
 }
 
-/// The call of `Files` that fails, the file that is named, and how many bytes of each file are there. Each file is made, and its bytes are added at once, of which
-/// ten are taken.
+/// The call of `Files` that fails, the file that is named, and how many bytes of each file are
+/// there. Each file is made, and its bytes are added at once, of which ten are taken.
 const FAULTS: [(u64, &str, Option<usize>, Option<usize>); 4] = [
     (0, "file fault: \"selftest.wasm\"\n", None, None),
     (1, "file fault: \"selftest.wasm\"\n", Some(10), None),

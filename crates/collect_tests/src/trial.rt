@@ -34,7 +34,8 @@ fn status(alloc: Global, words: &[String], files: &mut MemFiles, out: &mut MemSi
     post_mortem(alloc, words, files, out, &mut devices).code()
 }
 
-/// Whether the words of a line get this status, and a text that begins so, and ends there where it has to be whole.
+/// Whether the words of a line get this status, and a text that begins so, and ends there where it
+/// has to be whole.
 fn gets(
     alloc: Global,
     pieces: [&str; 2],

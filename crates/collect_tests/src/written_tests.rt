@@ -65,8 +65,9 @@ fn the_name_of_the_memory_is_taken(rt: HostRuntime) {
     assert!(rt; is_refused(rt.alloc()));
 }
 
-/// The call of `Files` that fails, the file that is named, and how many bytes of the written file are there. The module is read in two calls; then the file is
-/// made, and its bytes are added at once, of which ten are taken.
+/// The call of `Files` that fails, the file that is named, and how many bytes of the written file
+/// are there. The module is read in two calls; then the file is made, and its bytes are added at
+/// once, of which ten are taken.
 const FAULTS: [(u64, &str, Option<usize>); 4] = [
     (0, "file fault: \"m\"\n", None),
     (1, "file fault: \"m\"\n", None),

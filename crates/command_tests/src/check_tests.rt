@@ -1,5 +1,6 @@
-//! `check` over files in memory. The places of invalid modules are worked out by hand from Core 3.3 and 3.4; wabt's wasm-validate, with
-//! multi-value and reference types disabled, refuses the same modules.
+//! `check` over files in memory. The places of invalid modules are worked out by hand from Core 3.3
+//! and 3.4; wabt's wasm-validate, with multi-value and reference types disabled, refuses the same
+//! modules.
 
 use crate::trial::{Row, first_wrong};
 use std::alloc::{AllocError, Global};
@@ -14,7 +15,8 @@ const DIVISION: [u8; 30] = [
     0x7F, 0x03, 0x02, 0x01, 0x00, 0x07, 0x07, 0x01, 0x03, 0x64, 0x69, 0x76, 0x00, 0x00,
 ];
 
-/// Its code section up to the second operand, and what follows: the division, and an addition of i64.
+/// Its code section up to the second operand, and what follows: the division, and an addition of
+/// i64.
 const DIVISION_CODE: [u8; 7] = [0x0A, 0x09, 0x01, 0x07, 0x00, 0x20, 0x00];
 
 const DIVIDING: [u8; 3] = [0x20, 0x01, 0x6D];
@@ -41,7 +43,8 @@ const IMPORT: [u8; 9] = [0x02, 0x07, 0x01, 0x01, 0x61, 0x01, 0x62, 0x00, 0x00];
 /// A body that adds without operands.
 const ADDING_BODY: [u8; 7] = [0x0A, 0x05, 0x01, 0x03, 0x00, 0x6A, 0x0B];
 
-/// A function section without functions, whose numbers are as long as they may be, or set bits that they have not.
+/// A function section without functions, whose numbers are as long as they may be, or set bits that
+/// they have not.
 const LONG_NUMBERS: [u8; 11] = [
     0x03, 0x85, 0x80, 0x80, 0x80, 0x00, 0x80, 0x80, 0x80, 0x80, 0x00,
 ];
@@ -258,7 +261,8 @@ fn places_are_named(rt: HostRuntime) -> Result<(), Fail> {
     Ok(())
 }
 
-/// A function that pushes so many constants and drops them, where the sizes of its code section and of its body are spelled so.
+/// A function that pushes so many constants and drops them, where the sizes of its code section and
+/// of its body are spelled so.
 fn tall(alloc: Global, sizes: [u8; 5], count: usize) -> Result<Vec<u8>, AllocError> {
     let mut bytes = Vec::from_slice(alloc, &[0x0A])?;
     bytes.extend_from_slice(&sizes)?;

@@ -1,5 +1,5 @@
-//! Words, and the commands `check` and `show`, tested over files in memory. The tests stand apart from `pm_cli`, so that it is not proved a second
-//! time with them.
+//! Words, and the commands `check` and `show`, tested over files in memory. The tests stand apart
+//! from `pm_cli`, so that it is not proved a second time with them.
 #![tactic(auto)]
 
 #[cfg(test)]

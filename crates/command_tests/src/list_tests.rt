@@ -1,5 +1,6 @@
-//! 354 lists of words for all commands, with the command that the rules of words read of each: repeated options, options with values of
-//! either form, values outside their bounds, `--`, `-`, `--help`, arguments of `run`. A second reading of the rules gave the answers.
+//! 354 lists of words for all commands, with the command that the rules of words read of each:
+//! repeated options, options with values of either form, values outside their bounds, `--`, `-`,
+//! `--help`, arguments of `run`. A second reading of the rules gave the answers.
 
 use crate::reading::{Wanted, is_read};
 use std::alloc::Global;

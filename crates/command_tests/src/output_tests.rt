@@ -28,7 +28,8 @@ fn failing(alloc: Global, part: Part) -> Result<MemSink, Fail> {
     Ok(out)
 }
 
-/// Whether a command ends so and puts once: the second call of `put` fails, and is that of the test.
+/// Whether a command ends so and puts once: the second call of `put` fails, and is that of the
+/// test.
 fn puts_once(alloc: Global, line: &str, code: u8) -> Result<bool, Fail> {
     let mut out = failing(alloc, Part { call: 1, bytes: 0 })?;
     let status = ended(alloc, line, &mut out)?;

@@ -16,7 +16,8 @@ pub fn words_of(alloc: Global, line: &str) -> Result<Vec<String>, AllocError> {
     Ok(words)
 }
 
-/// What a line is read as: the command, or `usage`; for some commands also the files that it names, or its number.
+/// What a line is read as: the command, or `usage`; for some commands also the files that it names,
+/// or its number.
 #[derive(Drop)]
 pub struct Wanted<'a> {
     pub name: &'a str,

@@ -8,7 +8,8 @@ use std::test::Fail;
 
 pub const USAGE: &str = "usage: check, run, instrument, show, debug, selftest, replay or cover\n";
 
-/// Words, the pieces of a file named `d`, the calls on files and on the output that fail, the status, and the text.
+/// Words, the pieces of a file named `d`, the calls on files and on the output that fail, the
+/// status, and the text.
 pub type Row<'a> = (
     &'a [&'a str],
     &'a [&'a [u8]],

@@ -237,8 +237,8 @@ fn give_option<'a>(
     Ok(Some(left))
 }
 
-/// Reads the first word, with its value where the value is a word of its own, and gives the words that are left, or
-/// None where the first word is refused.
+/// Reads the first word, with its value where the value is a word of its own, and gives the words
+/// that are left, or None where the first word is refused.
 fn read_word<'a>(
     reading: &mut Reading<'a>,
     options: &Options<'_>,
@@ -285,9 +285,10 @@ fn read_word<'a>(
     }
 }
 
-/// The words behind a command, or None where they are outside the rules: before the first `--`, which is dropped, a
-/// longer word that begins with `-` is an option of the command. `--x=v` gives a value, and so does the word behind
-/// `--x`, which begins with `-` only if it is `-` alone. Each option stands at most once.
+/// The words behind a command, or None where they are outside the rules: before the first `--`,
+/// which is dropped, a longer word that begins with `-` is an option of the command. `--x=v` gives
+/// a value, and so does the word behind `--x`, which begins with `-` only if it is `-` alone. Each
+/// option stands at most once.
 pub fn read_words<'a>(
     alloc: Global,
     words: &'a [String],

@@ -111,8 +111,9 @@ fn cover_source<F: Files, D: Devices>(
     }
 }
 
-/// Invokes a function of the module in a file on a new instance, with devices that serve its imports, and tells how many of its
-/// steps fell on each source line. The names of the devices are distinct. No file is written.
+/// Invokes a function of the module in a file on a new instance, with devices that serve its
+/// imports, and tells how many of its steps fell on each source line. The names of the devices are
+/// distinct. No file is written.
 ///
 /// # Errors
 ///

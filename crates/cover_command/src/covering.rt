@@ -25,7 +25,8 @@ use wasm_machine::Instance;
 use wasm_syntax::Reply;
 use wasm_validate::Validated;
 
-/// Invokes the function that the words name on a new instance, with the steps that they allow. The tally counts these.
+/// Invokes the function that the words name on a new instance, with the steps that they allow. The
+/// tally counts these.
 fn invoke<H: HostSide>(
     words: &CoverWords,
     instance: &mut Instance<'_>,
@@ -52,8 +53,8 @@ fn invoke<H: HostSide>(
     end
 }
 
-/// Invokes the function that the words name on a valid module, which these bytes spell, tells where its steps fell, and gives
-/// the devices back.
+/// Invokes the function that the words name on a valid module, which these bytes spell, tells where
+/// its steps fell, and gives the devices back.
 pub(crate) fn cover_valid<D: Devices>(
     alloc: Global,
     words: &CoverWords,

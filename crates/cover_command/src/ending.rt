@@ -65,7 +65,8 @@ fn told(
     })
 }
 
-/// The answer where a call of an import had no fitting reply, behind so many calls that were replied to.
+/// The answer where a call of an import had no fitting reply, behind so many calls that were
+/// replied to.
 fn stopped(alloc: Global, end: &RunEnd, given: u64) -> Result<Outcome, NoMemory>
     ensures { IfOk result (λ o. o ≡ ended Status.HostStopped (answer_line end.now given 0)) }
 {
@@ -76,7 +77,8 @@ fn stopped(alloc: Global, end: &RunEnd, given: u64) -> Result<Outcome, NoMemory>
     })
 }
 
-/// The answer where the invocation came to this end, behind so many calls that were replied to, with the steps that were counted.
+/// The answer where the invocation came to this end, behind so many calls that were replied to,
+/// with the steps that were counted.
 ///
 /// # Errors
 ///

@@ -15,7 +15,8 @@ use pm_text::Text;
 use std::alloc::Global;
 use std::collections::BTreeMap;
 
-/// A line of a source file, by the text that names the file. They are ordered by the bytes of the text, and then by the line.
+/// A line of a source file, by the text that names the file. They are ordered by the bytes of the
+/// text, and then by the line.
 #[derive(PartialEq, Eq, PartialOrd, Ord, Drop)]
 pub(crate) struct FileLine {
     pub file: String,
@@ -68,7 +69,8 @@ fn add(counts: &mut BTreeMap<FileLine, u64>, line: FileLine, steps: u64) -> Resu
     Ok(())
 }
 
-/// How many steps fell on each line of each file, where so many fell on these lines of line programs. A number stops at 2^64 - 1.
+/// How many steps fell on each line of each file, where so many fell on these lines of line
+/// programs. A number stops at 2^64 - 1.
 pub(crate) fn merge(
     alloc: Global,
     tables: &Vec<&Lines<'_>>,

@@ -53,7 +53,8 @@ fn push_sums(out: &mut Text, unplaced: u64, steps: u64) -> Result<(), NoMemory>
     out.push_str("\n")
 }
 
-/// Adds the lines that tell where the steps fell that were counted of runs of a module, by its line programs.
+/// Adds the lines that tell where the steps fell that were counted of runs of a module, by its line
+/// programs.
 pub(crate) fn push_covered(
     out: &mut Text,
     alloc: Global,

@@ -1,5 +1,5 @@
-//! Steps by lines. The rows of the line program are those that llvm-dwarfdump 14 prints, and the steps of each line are the instructions
-//! between its row and the next one.
+//! Steps by lines. The rows of the line program are those that llvm-dwarfdump 14 prints, and the
+//! steps of each line are the instructions between its row and the next one.
 
 ghost use Rattle.std.specs.Prelude.{true, false, [], None};
 ghost use Rattle.wasm_machine.specs.Instances.{IsNew};
@@ -14,7 +14,8 @@ use wasm_machine::Instance;
 use wasm_syntax::{FuncType, HostCall, Import, ModuleParts, Value};
 use wasm_validate::{Validated, validate};
 
-/// A function, exported as `f`, as a C compiler lays it out. Its last instruction but one is a load from where its argument points.
+/// A function, exported as `f`, as a C compiler lays it out. Its last instruction but one is a load
+/// from where its argument points.
 const STRAIGHT: [u8; 92] = [
     0x00, 0x61, 0x73, 0x6d, 0x01, 0x00, 0x00, 0x00, 0x01, 0x06, 0x01, 0x60, 0x01, 0x7f, 0x01, 0x7f,
     0x03, 0x02, 0x01, 0x00, 0x05, 0x03, 0x01, 0x00, 0x01, 0x06, 0x07, 0x01, 0x7f, 0x01, 0x41, 0x80,
@@ -113,7 +114,8 @@ fn coverage_of(alloc: Global, tables: &Vec<&Lines<'_>>, argument: u32) -> Option
     }
 }
 
-/// Whether the lines of the first file with these numbers, and no others, have these counts, and so many steps fell on no line.
+/// Whether the lines of the first file with these numbers, and no others, have these counts, and so
+/// many steps fell on no line.
 fn has_counts(coverage: &Coverage, counts: &[(u32, u64)], unplaced: u64, steps: u64) -> bool {
     let mut same = coverage.unplaced() == unplaced && coverage.steps() == steps;
     same = same && coverage.lines().len() == counts.len();

@@ -40,7 +40,8 @@ fn debug_dump<F: Files>(
     }
 }
 
-/// What commands of the debugger print on the module and the dump in two files, or why the dump can't be one of the module.
+/// What commands of the debugger print on the module and the dump in two files, or why the dump
+/// can't be one of the module.
 ///
 /// # Errors
 ///

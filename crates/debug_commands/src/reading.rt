@@ -104,8 +104,8 @@ fn with_third(word: &str, second: &str, behind: &str) -> Command
     }
 }
 
-/// The command that a text spells: words with exactly one space between them. A text that spells none is `Bad`; of `print` the path is not
-/// looked at.
+/// The command that a text spells: words with exactly one space between them. A text that spells
+/// none is `Bad`; of `print` the path is not looked at.
 #[tactic(auto, unfolding(crate::specs::Commands::read_command))]
 pub fn read_command(text: &str) -> Command
     ensures { result ≡ command_there text.now }

@@ -132,7 +132,8 @@ fn push_function_line(
     out.push_str("\n")
 }
 
-/// Adds the lines of the inlined subroutines that hold an address, and the line of the function behind them.
+/// Adds the lines of the inlined subroutines that hold an address, and the line of the function
+/// behind them.
 fn push_lines(
     out: &mut Text,
     alloc: Global,
@@ -170,8 +171,9 @@ fn push_resolved(
     push_lines(out, alloc, information, index, resolved, frame)
 }
 
-/// Adds the lines of a frame by its index: one for each inlined subroutine that holds its address, the innermost first, and one for its
-/// function, each with its place in the source where it is known.
+/// Adds the lines of a frame by its index: one for each inlined subroutine that holds its address,
+/// the innermost first, and one for its function, each with its place in the source where it is
+/// known.
 #[tactic(auto, unfolding(crate::specs::Frames::frame_text))]
 pub fn push_frame(
     out: &mut Text,

@@ -13,7 +13,8 @@ use std::alloc::Global;
 use wasm_decode::{Names, function_names};
 use wasm_syntax::Module;
 
-/// The debugging information of a module, and the names that its `name` section gives to functions. Texts borrow the module's bytes.
+/// The debugging information of a module, and the names that its `name` section gives to functions.
+/// Texts borrow the module's bytes.
 #[derive(Drop)]
 pub struct Information<'a> {
     pub sections: Sections5<'a>,
@@ -44,7 +45,8 @@ fn said<'a>(
 }
 
 impl<'a> Information<'a> {
-    /// What the bytes of a module say, which was decoded from them: each unit and each line program is read once.
+    /// What the bytes of a module say, which was decoded from them: each unit and each line program
+    /// is read once.
     #[tactic(auto, unfolding(crate::specs::Information::information))]
     pub fn of(alloc: Global, bytes: &'a [u8], module_: &Module) -> Result<Self, NoMemory>
         requires { length bytes.now ≤ greatest_section }

@@ -89,8 +89,8 @@ fn push_place(out: &mut Text, alloc: Global, resolved: &Resolved<'_, '_>) -> Res
     }
 }
 
-/// Adds the place of a line: of the first one that of the row of the address, of each next one that of the call of the inlined
-/// subroutine before it.
+/// Adds the place of a line: of the first one that of the row of the address, of each next one that
+/// of the call of the inlined subroutine before it.
 pub fn push_place_behind(
     out: &mut Text,
     alloc: Global,

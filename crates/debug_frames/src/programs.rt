@@ -39,7 +39,8 @@ impl<'r, 'a> Model for Located<'r, 'a> {
     ghost view = { λ x. record { lines = x.lines.now; row = x.row } };
 }
 
-/// The line programs that units name, by their offsets in `.debug_line`. Contracts see them as pairs, each where it is named first.
+/// The line programs that units name, by their offsets in `.debug_line`. Contracts see them as
+/// pairs, each where it is named first.
 #[derive(Drop)]
 pub struct Programs<'a> {
     programs: IndexMap<u32, Program<'a>>,

@@ -76,7 +76,8 @@ impl<'r, 'a> Resolved<'r, 'a> {
     }
 }
 
-/// What the bytes of a module say, with what was found of addresses before. Contracts see the first.
+/// What the bytes of a module say, with what was found of addresses before. Contracts see the
+/// first.
 #[derive(Drop)]
 pub struct Symbolizer<'r, 'a> {
     information: &'r Information<'a>,

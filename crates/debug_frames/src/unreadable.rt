@@ -47,7 +47,8 @@ fn push_unit(
     }
 }
 
-/// Adds a line for each unit that could not be read, and for each unit that names a line program that could not be read.
+/// Adds a line for each unit that could not be read, and for each unit that names a line program
+/// that could not be read.
 #[tactic(auto, unfolding(crate::specs::Unreadable::unreadable_text))]
 pub fn push_unreadable(out: &mut Text, information: &Information<'_>) -> Result<(), NoMemory>
     ensures { OnOk result (out.new ≡ out.old ++ definitions.unreadable_text information.now) }

@@ -60,8 +60,9 @@ fn push_none(out: &mut Text, label: &str) -> Result<(), NoMemory>
     out.push_str("s\n")
 }
 
-/// The lines of values with their numbers behind a label, as `local 0 i32:7`, or that there are none. A list that is not recorded is empty, and
-/// is shown as one of `count` values that are not recorded.
+/// The lines of values with their numbers behind a label, as `local 0 i32:7`, or that there are
+/// none. A list that is not recorded is empty, and is shown as one of `count` values that are not
+/// recorded.
 pub fn push_listing(
     out: &mut Text,
     label: &str,

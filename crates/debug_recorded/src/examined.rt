@@ -115,8 +115,8 @@ fn push_memory(
     push_rows(out, at, bytes.as_slice())
 }
 
-/// Adds so many bytes from an address on: 16 to a line behind the address of the first. Where one of them is outside the memory, or there is
-/// no memory, a mark stands in their place.
+/// Adds so many bytes from an address on: 16 to a line behind the address of the first. Where one
+/// of them is outside the memory, or there is no memory, a mark stands in their place.
 pub fn push_examined(
     out: &mut Text,
     alloc: Global,

@@ -1,4 +1,5 @@
-//! What a session of the debugger looks at, and the texts of its frames, its recorded values and its memory.
+//! What a session of the debugger looks at, and the texts of its frames, its recorded values and
+//! its memory.
 #![tactic(auto)]
 
 mod counts;

@@ -21,8 +21,8 @@ use std::marker::Model;
 use wasm_syntax::{ModuleParts, Seen};
 use wasm_validate::Validated;
 
-/// What the bytes of a module say, the module, and a dump that can show a state of it, with the globals and the memory that it records.
-/// Contracts see the first three.
+/// What the bytes of a module say, the module, and a dump that can show a state of it, with the
+/// globals and the memory that it records. Contracts see the first three.
 #[derive(Drop)]
 pub struct Subject<'a, 'm, 'd, 'b> {
     information: Information<'a>,

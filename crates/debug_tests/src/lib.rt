@@ -1,4 +1,5 @@
-//! Tests of what the debugger stands on. They stand apart from the crates that they test, so that those are proved once.
+//! Tests of what the debugger stands on. They stand apart from the crates that they test, so that
+//! those are proved once.
 #![tactic(auto)]
 
 #[cfg(test)]

@@ -1,4 +1,5 @@
-//! Dumps against modules: each row changes some bytes of a dump, and tells the first test that fails then.
+//! Dumps against modules: each row changes some bytes of a dump, and tells the first test that
+//! fails then.
 
 use crate::cases::{
     CALLS, CALLS_DUMP, CHAIN, CHAIN_DUMP, CONSTANT, CONSTANT_DUMP, DIVISION, DIVISION_DUMP, GROUPS,

@@ -237,7 +237,8 @@ fn order_of_refusals(rt: HostRuntime) -> Result<(), Fail> {
     Ok(())
 }
 
-/// What is answered where the call of each number fails. Each file is read in two calls, the module first.
+/// What is answered where the call of each number fails. Each file is read in two calls, the module
+/// first.
 const FAULTS: [Row<'static>; 5] = [
     (&DIVISION, &DIVISION_DUMP, "bt", 4, "file fault: \"m\"\n"),
     (&DIVISION, &DIVISION_DUMP, "bt", 4, "file fault: \"m\"\n"),

@@ -1,5 +1,5 @@
-//! Modules with debugging information, and dumps of them, put together by hand from the layout of the sections; llvm-dwarfdump and
-//! llvm-symbolizer read the modules as it is said here.
+//! Modules with debugging information, and dumps of them, put together by hand from the layout of
+//! the sections; llvm-dwarfdump and llvm-symbolizer read the modules as it is said here.
 
 /// [`SOURCE`] with debugging information of version 5.
 pub const SOURCE5: [u8; 440] = [

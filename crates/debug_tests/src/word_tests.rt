@@ -17,7 +17,8 @@ fn words_of(alloc: Global, line: &str) -> Result<Vec<String>, AllocError> {
     Ok(words)
 }
 
-/// Words, and what they ask for, where they are within the rules: the module, the dump and the commands.
+/// Words, and what they ask for, where they are within the rules: the module, the dump and the
+/// commands.
 type Row<'a> = (&'a str, Option<&'a [&'a str]>);
 
 const ROWS: [Row<'static>; 15] = [

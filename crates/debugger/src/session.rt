@@ -51,7 +51,8 @@ fn chosen_of(subject: &Subject<'_, '_, '_, '_>, chosen: u32, number: u64) -> u32
 }
 
 impl<'a, 'm, 'd, 'b> Session<'a, 'm, 'd, 'b> {
-    /// A session on a module, with what its bytes say, and a dump that shows a state of it. This frame is chosen.
+    /// A session on a module, with what its bytes say, and a dump that shows a state of it. This
+    /// frame is chosen.
     pub fn on_state(
         alloc: Global,
         information: Information<'a>,
@@ -68,8 +69,8 @@ impl<'a, 'm, 'd, 'b> Session<'a, 'm, 'd, 'b> {
         Ok(Session { subject, chosen })
     }
 
-    /// A session on the module that these bytes spell, and a dump that can be one of it. Debugging information is read once,
-    /// here.
+    /// A session on the module that these bytes spell, and a dump that can be one of it. Debugging
+    /// information is read once, here.
     pub fn new(
         alloc: Global,
         bytes: &'a [u8],

@@ -39,9 +39,10 @@ fn decode<'a>(alloc: Global, bytes: &'a [u8]) -> Result<Dump<'a>, DumpFault>
 ///
 /// # Errors
 ///
-/// In this order: too many bytes; `Malformed`, at the first item without a reading, or at the end where an item or the
-/// section `core` is still due; `FloatValue`, at the first float; `Several`, for the first of the parts that stand more
-/// than once; a limit of pages, and then of frames. `NoMemory` where memory runs out.
+/// In this order: too many bytes; `Malformed`, at the first item without a reading, or at the end
+/// where an item or the section `core` is still due; `FloatValue`, at the first float; `Several`,
+/// for the first of the parts that stand more than once; a limit of pages, and then of frames.
+/// `NoMemory` where memory runs out.
 pub fn decode_dump<'a>(alloc: Global, bytes: &'a [u8]) -> Result<Dump<'a>, DumpFault>
     ensures exact { Answers result (dump_from bytes.now) }
     ensures found { (d : Dump) → Exactly result (Ok d) (IsDump bytes.now d) }

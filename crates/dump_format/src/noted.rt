@@ -19,7 +19,8 @@ pub struct Noted<T> {
     pub first: Option<usize>,
 }
 
-/// A type whose values hold no floats. The offset of the first float that stands in the place of one is noted.
+/// A type whose values hold no floats. The offset of the first float that stands in the place of
+/// one is noted.
 pub trait Noting<'a>: Drop {
     /// The value, and the first float up to its end, where the first float before it is given.
     ghost noting: { Option ℕ → Place → Read (Self × Option ℕ) };

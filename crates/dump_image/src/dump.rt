@@ -41,7 +41,8 @@ fn all_seen(alloc: Global, values: &[Value]) -> Result<Seens, NoMemory>
     Ok(out)
 }
 
-/// A frame of the one instance, which has the index 0, with all its values. Operands stand bottom first.
+/// A frame of the one instance, which has the index 0, with all its values. Operands stand bottom
+/// first.
 pub fn recorded_frame(
     alloc: Global,
     function: u32,
@@ -126,7 +127,8 @@ fn segments<'a>(alloc: Global, memory: Option<&'a Memory>) -> Result<Segments<'a
     }
 }
 
-/// The dump with one module and one instance of this name. Its segments are the memory's pages that are made, and borrow their bytes.
+/// The dump with one module and one instance of this name. Its segments are the memory's pages that
+/// are made, and borrow their bytes.
 pub fn picture<'a>(
     alloc: Global,
     name: &str,

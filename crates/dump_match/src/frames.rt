@@ -108,7 +108,8 @@ fn call_fits(stand: Stand, i: u32) -> bool
     i == 0 || is_call(stand.code)
 }
 
-/// Whether a frame is the innermost one, or its call can have called the function of the frame before it.
+/// Whether a frame is the innermost one, or its call can have called the function of the frame
+/// before it.
 fn callee_fits(m: &ModuleParts, frames: &[Frame], stand: Stand, i: u32) -> bool
     requires { i < length frames.now }
     ensures { (f : ShownFrame) → Stands m.now f stand

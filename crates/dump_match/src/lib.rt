@@ -1,4 +1,5 @@
-//! Whether a dump can be one of a module: nine tests, of which the first that fails is told. It takes no memory.
+//! Whether a dump can be one of a module: nine tests, of which the first that fails is told. It
+//! takes no memory.
 #![tactic(auto)]
 
 ghost use Rattle.std.specs.Prelude.{◌<◌, ◌^◌, length};
@@ -24,14 +25,15 @@ use state::judge_state_frames;
 use wasm_validate::Validated;
 use whole::judge_whole;
 
-/// Whether a dump can be one of a module (tool-conventions Coredump.md): its one instance, its memory and its globals are those of the
-/// module, and each frame stands in live code with locals and operands of the types there, each one but the innermost at a call that can
-/// have called the function of the frame before it.
+/// Whether a dump can be one of a module (tool-conventions Coredump.md): its one instance, its
+/// memory and its globals are those of the module, and each frame stands in live code with locals
+/// and operands of the types there, each one but the innermost at a call that can have called the
+/// function of the frame before it.
 ///
 /// # Errors
 ///
-/// The first test that fails: of the instance, of the memory, and of the globals by their indices; then those of the innermost frame, of
-/// the next one and so on.
+/// The first test that fails: of the instance, of the memory, and of the globals by their indices;
+/// then those of the innermost frame, of the next one and so on.
 pub fn matches<'m, 'd, 'b>(
     module_: &'m Validated,
     dump: &'d Dump<'b>,
@@ -46,8 +48,8 @@ pub fn matches<'m, 'd, 'b>(
     Ok(Matched::new(module_, dump))
 }
 
-/// Whether a dump can show a state of a module, at a trap or elsewhere: as `matches`, but the innermost frame may stand at an `else` or
-/// `end`, where nothing is asked of its operands.
+/// Whether a dump can show a state of a module, at a trap or elsewhere: as `matches`, but the
+/// innermost frame may stand at an `else` or `end`, where nothing is asked of its operands.
 ///
 /// # Errors
 ///

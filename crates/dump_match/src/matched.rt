@@ -116,8 +116,9 @@ impl<'m, 'd, 'b> StateMatched<'m, 'd, 'b> {
         StateMatched::new(matched.module, matched.dump)
     }
 
-    /// How many operands a frame shows, by its index from the innermost frame on, also where they are not recorded. Where the innermost frame
-    /// stands at an `else` or `end` the module tells none.
+    /// How many operands a frame shows, by its index from the innermost frame on, also where they
+    /// are not recorded. Where the innermost frame stands at an `else` or `end` the module tells
+    /// none.
     pub fn operand_count(&self, index: u32) -> u32
         requires { index < length self.now.dump.frames }
         ensures { There self.now.dump.frames index

@@ -3,13 +3,13 @@
 /// The first test that fails.
 #[derive(Clone, Copy, Debug, PartialEq, Eq)]
 pub enum Mismatch {
-    /// There is not exactly one instance; or the index of its module, its list of memories, or one of its globals is out of range; or a
-    /// frame is of another instance.
+    /// There is not exactly one instance; or the index of its module, its list of memories, or one
+    /// of its globals is out of range; or a frame is of another instance.
     Instance,
     /// The module has no memory, or none that can have so many pages.
     Memory,
-    /// The recorded global has another type than that of the module, or another value than an immutable one; or only one of the two is
-    /// there.
+    /// The recorded global has another type than that of the module, or another value than an
+    /// immutable one; or only one of the two is there.
     Global { index: u32 },
     /// The module defines no such function.
     Function { frame: u32 },

@@ -8,7 +8,8 @@ use dump_format::Frame;
 use wasm_syntax::Instr;
 use wasm_validate::Validated;
 
-/// A live instruction other than `else` and `end`: its number in its function, with the operand height before it.
+/// A live instruction other than `else` and `end`: its number in its function, with the operand
+/// height before it.
 #[derive(Clone, Copy)]
 pub struct Stand {
     pub op: u32,

@@ -1,4 +1,5 @@
-//! The tests of a state: those of a dump, but that its innermost frame may stand at an `else` or `end`.
+//! The tests of a state: those of a dump, but that its innermost frame may stand at an `else` or
+//! `end`.
 
 ghost use Rattle.std.specs.Prelude.{◌<◌, ◌^◌, length};
 ghost use Rattle.dump_match.specs.inner.Decides.{StateFrameJudged, StateFramesJudged};
@@ -9,7 +10,8 @@ use crate::mismatch::Mismatch;
 use dump_format::Dump;
 use wasm_validate::Validated;
 
-/// The tests of the innermost frame. At an `else` or `end` its function is defined, and nothing is asked of its operands.
+/// The tests of the innermost frame. At an `else` or `end` its function is defined, and nothing is
+/// asked of its operands.
 fn judge_innermost(m: &Validated, dump: &Dump<'_>) -> Result<(), Mismatch>
     requires { 0 < length dump.now.frames }
     ensures { StateFrameJudged result m.now dump.now 0 }

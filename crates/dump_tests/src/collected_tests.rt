@@ -17,7 +17,8 @@ use wasm_validate::Validated;
 /// The arguments of `frame`, in order, or of `value_i32`.
 type Told = &'static [u32];
 
-/// 7 is divided by 0 at code offset 5 of function 0: two operands, two locals, the entry of kind 2, and no globals.
+/// 7 is divided by 0 at code offset 5 of function 0: two operands, two locals, the entry of kind 2,
+/// and no globals.
 const DIVISION: [Told; 6] = [&[7], &[0], &[7], &[0], &[2, 0, 5, 2], &[255, 0, 0, 0]];
 
 /// Calls, and the index of the first offending one.

@@ -1,4 +1,5 @@
-//! Dumps, tested byte by byte. The tests stand apart from `dump_write` and `trap_image`, so that neither is proved a second time with them.
+//! Dumps, tested byte by byte. The tests stand apart from `dump_write` and `trap_image`, so that
+//! neither is proved a second time with them.
 #![tactic(auto)]
 
 #[cfg(test)]

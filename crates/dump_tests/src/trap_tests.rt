@@ -1,4 +1,5 @@
-//! Dumps of instances that stand at a trap. The offsets, locals, operands and bytes were put together by hand from the encoded bodies.
+//! Dumps of instances that stand at a trap. The offsets, locals, operands and bytes were put
+//! together by hand from the encoded bodies.
 
 ghost use Rattle.std.specs.Prelude.{◌≡◌, ◌≤◌};
 ghost use Rattle.dump_format.specs.Form.{pages_of};
@@ -22,7 +23,8 @@ const DIVISION: [u8; 41] = [
     0x01, 0x07, 0x00, 0x20, 0x00, 0x20, 0x01, 0x6d, 0x0b,
 ];
 
-/// The division, with a memory of two to four pages, of which the second one holds 1 2 3 4 behind its first 16 bytes, and two globals.
+/// The division, with a memory of two to four pages, of which the second one holds 1 2 3 4 behind
+/// its first 16 bytes, and two globals.
 const MEMORY: [u8; 74] = [
     0x00, 0x61, 0x73, 0x6d, 0x01, 0x00, 0x00, 0x00, 0x01, 0x07, 0x01, 0x60, 0x02, 0x7f, 0x7f, 0x01,
     0x7f, 0x03, 0x02, 0x01, 0x00, 0x05, 0x04, 0x01, 0x01, 0x02, 0x04, 0x06, 0x0b, 0x02, 0x7f, 0x00,
@@ -85,8 +87,8 @@ fn shows(
         && shown.operands == operands
 }
 
-/// What is looked at, when a function has come to a trap. One function makes the module of each of them and one the instance, since the proof of
-/// a function that holds such a value is long.
+/// What is looked at, when a function has come to a trap. One function makes the module of each of
+/// them and one the instance, since the proof of a function that holds such a value is long.
 #[derive(Clone, Copy)]
 enum Scene {
     /// 7 is divided by 0.

@@ -10,8 +10,8 @@ use dump_write::{dump_bytes, write_dump};
 use pm_outside::{MemFiles, WriteAnswer};
 use std::alloc::{AllocError, Global};
 
-/// What stands before the pages of a dump with the empty name, no frames, a memory of three pages, of which two are
-/// used, and one i32 global of 5.
+/// What stands before the pages of a dump with the empty name, no frames, a memory of three pages,
+/// of which two are used, and one i32 global of 5.
 const BEFORE_PAGES: [u8; 101] = [
     0x00, 0x61, 0x73, 0x6D, 0x01, 0x00, 0x00, 0x00, 0x00, 0x07, 0x04, 0x63, 0x6F, 0x72, 0x65, 0x00,
     0x00, 0x00, 0x0F, 0x0B, 0x63, 0x6F, 0x72, 0x65, 0x6D, 0x6F, 0x64, 0x75, 0x6C, 0x65, 0x73, 0x01,
@@ -74,8 +74,8 @@ fn a_trap_is_written(rt: HostRuntime) {
     assert!(rt; is_kept(rt.alloc(), &TRAP));
 }
 
-/// Whether the trap is what becomes of itself with the instance 3 and the offset 85 80 80 00, so that the section of frames is three bytes
-/// longer.
+/// Whether the trap is what becomes of itself with the instance 3 and the offset 85 80 80 00, so
+/// that the section of frames is three bytes longer.
 fn is_shortened(alloc: Global, trap: &[u8; 100]) -> bool {
     let long = [0x22, 0x09];
     let frame = [0x00, 0x03, 0x00, 0x85, 0x80, 0x80, 0x00];
@@ -131,7 +131,8 @@ fn are_whole(bytes: &[u8]) -> bool {
         && has_at(bytes, 131_180, &[0, 2])
 }
 
-/// Whether so many bytes are left of three pages, and all where the failing call is behind the six that there are.
+/// Whether so many bytes are left of three pages, and all where the failing call is behind the six
+/// that there are.
 fn is_left(answer: WriteAnswer, left: &[u8], failing: u64, length: usize) -> bool {
     if failing < 6 {
         matches!(answer, WriteAnswer::Failed) && left.len() == length
@@ -167,7 +168,8 @@ fn is_written(alloc: Global, bytes: &[u8], failing: u64, length: usize) -> bool 
     }
 }
 
-/// The length of the file after each call: create, the head, and then each page behind its own head.
+/// The length of the file after each call: create, the head, and then each page behind its own
+/// head.
 const LENGTHS: [usize; 7] = [0, 0, 94, 101, 65_637, 65_646, 131_182];
 
 fn are_written(alloc: Global, bytes: &[u8]) -> bool {
@@ -205,7 +207,8 @@ fn becomes_one_page(alloc: Global, bytes: &[u8]) -> bool {
     }
 }
 
-/// Whether a trap with a memory of one page, in which segments lay 1 at 0, then 2 3 at 16, then FF at 16, is written with that page.
+/// Whether a trap with a memory of one page, in which segments lay 1 at 0, then 2 3 at 16, then FF
+/// at 16, is written with that page.
 fn are_laid(alloc: Global) -> bool {
     let segments = [
         0x05, 0x03, 0x01, 0x00, 0x01, 0x0B, 0x14, 0x03, 0x00, 0x41, 0x00, 0x0B, 0x01, 0x01, 0x00,

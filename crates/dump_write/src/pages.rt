@@ -57,8 +57,8 @@ pub fn are_pages(segments: &[Segment<'_>]) -> bool
     true
 }
 
-/// The pages of a memory that are made, each as a segment that borrows its bytes, in rising order. All other bytes of
-/// the memory are zero.
+/// The pages of a memory that are made, each as a segment that borrows its bytes, in rising order.
+/// All other bytes of the memory are zero.
 pub fn memory_segments<'a>(alloc: Global, memory: &'a Memory) -> Result<Segments<'a>, NoMemory>
     ensures paged { IfOk result (ArePages 0) }
     ensures bytes { IfOk result (λ v. laid_on (replicate (page_size * pages memory.now.memory) 0) v

@@ -9,7 +9,8 @@ use dump_format::Segment;
 use std::alloc::Global;
 use wasm_leb::{write_s32, write_u64};
 
-/// What stands before the bytes of a segment: the index of its memory, its address, and the count of its bytes.
+/// What stands before the bytes of a segment: the index of its memory, its address, and the count
+/// of its bytes.
 #[tactic(auto, unfolding(crate::specs::Spelled::segment_head))]
 pub fn push_segment_head(out: &mut Vec<u8>, segment: &Segment<'_>) -> Result<(), NoMemory>
     ensures { OnOk result (out.new.items ≡ out.old.items ++ segment_head segment.now) }

@@ -123,7 +123,8 @@ fn write_pieces<F: Files>(
     WriteAnswer::Done
 }
 
-/// Makes a file of the canonical bytes, where the segments that are not all zero are the used pages of the memory.
+/// Makes a file of the canonical bytes, where the segments that are not all zero are the used pages
+/// of the memory.
 fn write_with<F: Files>(
     alloc: Global,
     dump: &Dump<'_>,
@@ -151,8 +152,8 @@ fn write_with<F: Files>(
     write_pieces(alloc, files, name, &head, used.as_slice())
 }
 
-/// Makes a file of the canonical bytes of a dump. The memory goes out page by page, and is not copied where the
-/// segments are whole pages in rising order.
+/// Makes a file of the canonical bytes of a dump. The memory goes out page by page, and is not
+/// copied where the segments are whole pages in rising order.
 pub fn write_dump<F: Files>(
     alloc: Global,
     dump: &Dump<'_>,

@@ -54,8 +54,8 @@ fn push_operator(
     }
 }
 
-/// The expression with addr in place of each addrx whose index has an address, up to the first operator that is not known or
-/// has no reading.
+/// The expression with addr in place of each addrx whose index has an address, up to the first
+/// operator that is not known or has no reading.
 pub fn with_addresses(
     alloc: Global,
     addresses: &AddressTable<'_>,

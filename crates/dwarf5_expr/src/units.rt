@@ -10,8 +10,9 @@ use dwarf5_info::address_table;
 use pm_text::{Bytes, Items};
 use std::alloc::Global;
 
-/// An expression of a unit with addr in place of each addrx whose index has an address, up to the first operator that is not
-/// known or has no reading. That of a unit of another version than 5 stays as it is.
+/// An expression of a unit with addr in place of each addrx whose index has an address, up to the
+/// first operator that is not known or has no reading. That of a unit of another version than 5
+/// stays as it is.
 pub fn plain_expr(
     alloc: Global,
     sections: &Sections5<'_>,

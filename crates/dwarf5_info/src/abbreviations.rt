@@ -1,4 +1,5 @@
-//! Reading tables of abbreviations, in which the value of an implicit_const stands behind its pair (DWARF 5 section 7.5.3).
+//! Reading tables of abbreviations, in which the value of an implicit_const stands behind its pair
+//! (DWARF 5 section 7.5.3).
 
 ghost use Rattle.std.specs.Prelude.{◌≡◌, IfOk, OnOk};
 ghost use Rattle.wasm_bytes.specs.Place.{Stays};
@@ -174,7 +175,8 @@ fn read_shapes<'a>(alloc: Global, reader: &mut Reader<'a>) -> Result<Items<Table
     ended_items(alloc, reader)
 }
 
-/// The table at an offset of a section of abbreviations, with the forms of its codes, if one stands there.
+/// The table at an offset of a section of abbreviations, with the forms of its codes, if one stands
+/// there.
 pub fn shapes5_at(alloc: Global, section: &[u8], at: u64) -> Result<Option<Items<Shape>>, NoMemory>
     ensures { IfOk result (λ shapes. shapes ≡ read_at shapes5_item section.now at) }
 {

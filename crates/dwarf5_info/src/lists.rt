@@ -41,8 +41,8 @@ pub fn address_table<'a>(sections: &Sections5<'a>, unit: &Unit<'_>) -> AddressTa
     AddressTable::new(sections.addr, offset(root(unit), ADDR_BASE))
 }
 
-/// The expression of the entry of a location list of `.debug_loclists` that counts for an address, as its place in the section.
-/// None where no entry holds it and the list has no default.
+/// The expression of the entry of a location list of `.debug_loclists` that counts for an address,
+/// as its place in the section. None where no entry holds it and the list has no default.
 ///
 /// # Errors
 ///

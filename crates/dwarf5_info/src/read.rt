@@ -25,8 +25,9 @@ fn sections_are_bytes(sections: &Sections5<'_>)
     are_bytes(sections.base.info);
 }
 
-/// The units of `.debug_info`, in order (DWARF 5 section 7.5.1). Those of versions 4 and 5 are read; in place of each other one
-/// stands the offset of its length. What stands in place of indices is looked up.
+/// The units of `.debug_info`, in order (DWARF 5 section 7.5.1). Those of versions 4 and 5 are
+/// read; in place of each other one stands the offset of its length. What stands in place of
+/// indices is looked up.
 #[tactic(auto, unfolding(crate::specs::Version5::units5))]
 pub fn read_units5<'a>(alloc: Global, sections: &Sections5<'a>) -> Result<Units<'a>, NoMemory>
     requires { IsReadable5 sections.now }

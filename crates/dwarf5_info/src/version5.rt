@@ -53,8 +53,8 @@ impl<'a> UnitVersion<'a> for Five {
         form5(code)
     }
 
-    /// The type of the unit, which is a compile or a partial unit, the size of an address, which is 4, and the offset of
-    /// the abbreviations.
+    /// The type of the unit, which is a compile or a partial unit, the size of an address, which is
+    /// 4, and the offset of the abbreviations.
     #[tactic(auto, unfolding(crate::specs::Version5::header5_item))]
     fn header(reader: &mut Reader<'a>) -> Result<u64, Malformed>
         ensures item { Reads result reader.new (header5_item reader.old) }

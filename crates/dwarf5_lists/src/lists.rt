@@ -96,8 +96,8 @@ fn expression_at(
     chosen_at(&lists, section, at, base, address)
 }
 
-/// The expression of the entry of a location list of `.debug_loclists` that counts for an address, as its place in the
-/// section. Indices are those of the addresses.
+/// The expression of the entry of a location list of `.debug_loclists` that counts for an address,
+/// as its place in the section. Indices are those of the addresses.
 ///
 /// # Errors
 ///
@@ -136,7 +136,8 @@ fn is_held(
     Ok(what.is_some())
 }
 
-/// Whether an entry of a range list of `.debug_rnglists` holds the address. Indices are those of the addresses.
+/// Whether an entry of a range list of `.debug_rnglists` holds the address. Indices are those of
+/// the addresses.
 ///
 /// # Errors
 ///

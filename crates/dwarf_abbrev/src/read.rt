@@ -31,7 +31,8 @@ impl<'a> Ended<'a> for Pair {
     }
 }
 
-/// A type whose values stand in tables of abbreviations, made of code, tag, whether there are children, and pairs.
+/// A type whose values stand in tables of abbreviations, made of code, tag, whether there are
+/// children, and pairs.
 pub trait Row<'a>: Drop {
     type Pair: Ended<'a>;
 
@@ -108,7 +109,8 @@ pub fn abbrevs<'a>(alloc: Global, reader: &mut Reader<'a>) -> Result<Items<Abbre
     ended_items(alloc, reader)
 }
 
-/// The abbreviations of the table at an offset of `.debug_abbrev`, in order. The first one of a code counts.
+/// The abbreviations of the table at an offset of `.debug_abbrev`, in order. The first one of a
+/// code counts.
 ///
 /// # Errors
 ///

@@ -20,7 +20,8 @@ pub trait Coded: Drop {
         ensures { result ≡ code self.now };
 }
 
-/// A list of values, of which the first one of a code is found in logarithmic time. Contracts see it as the list.
+/// A list of values, of which the first one of a code is found in logarithmic time. Contracts see
+/// it as the list.
 #[derive(Drop)]
 pub struct Table<T: Coded> {
     items: Items<T>,

@@ -39,7 +39,8 @@ fn zero_at(bytes: &[u8]) -> Option<usize>
     bytes.iter().position(|byte| *byte == 0)
 }
 
-/// The text at an offset of a section, where one stands there (DWARF 4 section 7.5.4, `DW_FORM_strp`).
+/// The text at an offset of a section, where one stands there (DWARF 4 section 7.5.4,
+/// `DW_FORM_strp`).
 pub fn text_at<'a>(section: &'a [u8], at: u64) -> Option<Run<'a>>
     ensures { result ≡ read_at text_item section.now at }
 {
@@ -77,8 +78,8 @@ pub fn open_long<'a>(reader: &mut Reader<'a>) -> Result<Reader<'a>, Malformed>
     reader.cut(len, start)
 }
 
-/// A reader of the block that the length of a unit opens: 4 bytes, below FFFFFFF0 (DWARF 4 section 7.4). This one goes on
-/// behind the block.
+/// A reader of the block that the length of a unit opens: 4 bytes, below FFFFFFF0 (DWARF 4 section
+/// 7.4). This one goes on behind the block.
 #[tactic(auto, unfolding(crate::specs::Items::number_item, crate::specs::Items::unit_block_item))]
 pub fn open_unit<'a>(reader: &mut Reader<'a>) -> Result<Reader<'a>, Malformed>
     ensures item { Reads result reader.new (unit_block_item reader.old) }

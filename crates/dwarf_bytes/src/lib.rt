@@ -1,4 +1,5 @@
-//! Reading the bytes of DWARF sections from left to right: numbers, texts, lengths and lists that an end mark ends.
+//! Reading the bytes of DWARF sections from left to right: numbers, texts, lengths and lists that
+//! an end mark ends.
 #![tactic(auto)]
 
 mod bytes;

@@ -1,4 +1,5 @@
-//! Entries of `.debug_info` where they stand: their attributes by name, what is in them, and the names and types that stand in other entries.
+//! Entries of `.debug_info` where they stand: their attributes by name, what is in them, and the
+//! names and types that stand in other entries.
 #![tactic(auto)]
 
 mod classes;

@@ -9,7 +9,8 @@ use crate::standing::Standing;
 use crate::values::{reference, text};
 use dwarf_info::{Attribute, Units};
 
-/// How many entries may follow each other, where one says what another does not, or a type is another name of one.
+/// How many entries may follow each other, where one says what another does not, or a type is
+/// another name of one.
 pub const LONGEST_CHAIN: u32 = 16;
 
 /// The attributes of the entry that one with these attributes completes or instantiates.
@@ -67,7 +68,8 @@ pub fn name_of<'r, 'a>(units: &'r Units<'a>, attributes: &'r [Attribute<'a>]) ->
     name_within(units, attributes, LONGEST_CHAIN)
 }
 
-/// The name of an entry with these attributes, which is empty where neither it nor one behind it has one.
+/// The name of an entry with these attributes, which is empty where neither it nor one behind it
+/// has one.
 pub fn name_or_empty<'r, 'a>(units: &'r Units<'a>, attributes: &'r [Attribute<'a>]) -> &'a [u8]
     ensures { result.now ≡ origins.name_or_empty units.now attributes.now }
 {

@@ -7,7 +7,8 @@ ghost use Rattle.dwarf_entries.specs.Standing.{stands, entries_inside, is_child}
 use dwarf_info::{Entry, Unit};
 use std::marker::Model;
 
-/// An entry where it stands in its unit: in the tree that is written out, with the entries behind it.
+/// An entry where it stands in its unit: in the tree that is written out, with the entries behind
+/// it.
 #[derive(Drop)]
 pub struct Standing<'r, 'a> {
     unit: &'r Unit<'a>,

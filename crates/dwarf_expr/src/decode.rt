@@ -264,7 +264,8 @@ fn begun(opcode: u8, reader: &mut Reader<'_>) -> Begun
     }
 }
 
-/// The next operator, unless the expression ends. Behind one that is not known the reader stands anywhere.
+/// The next operator, unless the expression ends. Behind one that is not known the reader stands
+/// anywhere.
 pub(crate) fn next_operator(reader: &mut Reader<'_>) -> Option<Placed>
     requires short { length reader.old.block < 2 ^ 32 }
     ensures next { IsNext result reader.new reader.old }

@@ -1,4 +1,5 @@
-//! DWARF expressions: what they mean in a frame (DWARF 4 sections 2.5 and 2.6, DWARF for WebAssembly).
+//! DWARF expressions: what they mean in a frame (DWARF 4 sections 2.5 and 2.6, DWARF for
+//! WebAssembly).
 #![tactic(auto)]
 
 mod answer;

@@ -34,7 +34,8 @@ impl<'a> Model for FrameView<'a> {
 }
 
 impl<'a> FrameView<'a> {
-    /// The number in the `width` bytes from an address on, the lowest first: all that an expression asks of a memory.
+    /// The number in the `width` bytes from an address on, the lowest first: all that an expression
+    /// asks of a memory.
     pub(crate) fn load(&self, address: u32, width: u32) -> Result<u64, Event>
         requires { IsWidth width }
         ensures { result ≡ read_memory self.now.memory address width }

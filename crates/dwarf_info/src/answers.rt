@@ -24,7 +24,8 @@ fn unreadable<'a>(alloc: Global, at: usize) -> Result<UnitAnswer<'a>, NoMemory>
     Ok(UnitAnswer::Unreadable { section, at })
 }
 
-/// A unit, or in its place that it has no reading. Where its length has none, the rest of the section is that one unit.
+/// A unit, or in its place that it has no reading. Where its length has none, the rest of the
+/// section is that one unit.
 #[tactic(auto, unfolding(crate::specs::Units::answer_item, wasm_bytes::specs::Reading::rest_item))]
 fn read_answer<'a, W: UnitVersions<'a>>(
     alloc: Global,

@@ -1,4 +1,5 @@
-//! Reading the entries of a unit (DWARF 4 sections 2.3 and 7.5.2), written out in the order of the section.
+//! Reading the entries of a unit (DWARF 4 sections 2.3 and 7.5.2), written out in the order of the
+//! section.
 
 ghost use Rattle.std.specs.Prelude.{◌≡◌, ◌≤◌, ◌<◌, ◌+◌, ◌-◌, ◌^◌, length, OnOk};
 ghost use Rattle.wasm_bytes.specs.Place.{Moves, Stays};

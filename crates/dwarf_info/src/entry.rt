@@ -21,7 +21,8 @@ pub struct Unit<'a> {
     /// The offset of its length.
     pub at: u32,
     pub version: u32,
-    /// The tree written out in the order of the section: the root first, an entry before its children.
+    /// The tree written out in the order of the section: the root first, an entry before its
+    /// children.
     pub entries: Entries<'a>,
 }
 
@@ -42,7 +43,8 @@ pub struct Attribute<'a> {
     pub value: AttrValue<'a>,
 }
 
-/// The value of an attribute, by the class of its form (DWARF 4 section 7.5.4). Blocks and texts are borrowed from the sections.
+/// The value of an attribute, by the class of its form (DWARF 4 section 7.5.4). Blocks and texts
+/// are borrowed from the sections.
 #[derive(Drop)]
 pub enum AttrValue<'a> {
     Address(u32),

@@ -29,11 +29,13 @@ pub struct PlacedEntry {
     pub place: EntryPlace,
 }
 
-/// Entries with their places, which contracts see as the list. Of several with one offset the first counts.
+/// Entries with their places, which contracts see as the list. Of several with one offset the first
+/// counts.
 #[derive(Drop)]
 pub struct Places {
     entries: Items<PlacedEntry>,
-    // Offsets ascend, as they do in units that are read one behind the other. Then an entry is found by halving.
+    // Offsets ascend, as they do in units that are read one behind the other. Then an entry is
+    // found by halving.
     ascend: bool,
 }
 

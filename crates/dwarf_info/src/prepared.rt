@@ -11,7 +11,8 @@ use std::alloc::Global;
 use std::marker::Model;
 use wasm_bytes::Run;
 
-/// The sections, in which the ends of texts were looked for once. Contracts see them as the sections.
+/// The sections, in which the ends of texts were looked for once. Contracts see them as the
+/// sections.
 #[derive(Drop)]
 pub struct PreparedSections<'a> {
     sections: Sections5<'a>,
@@ -51,7 +52,8 @@ impl<'a> PreparedSections<'a> {
         &self.sections
     }
 
-    /// The text at an offset of a section of texts, where one stands there. It takes logarithmic time.
+    /// The text at an offset of a section of texts, where one stands there. It takes logarithmic
+    /// time.
     pub fn text_at(&self, section: TextSection, at: u64) -> Option<Run<'a>>
         ensures { result ≡ text_at self.now section at }
     {

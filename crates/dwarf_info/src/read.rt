@@ -47,8 +47,8 @@ pub fn read_all<'a, W: UnitVersions<'a>>(
     read_prepared(alloc, &prepared, versions)
 }
 
-/// The units of `.debug_info`, in order (DWARF 4 section 7.5.1). Those of version 4 are read; in place of each other one
-/// stands the offset of its length.
+/// The units of `.debug_info`, in order (DWARF 4 section 7.5.1). Those of version 4 are read; in
+/// place of each other one stands the offset of its length.
 #[tactic(auto, unfolding(crate::specs::Version4::units4))]
 pub fn read_units<'a>(alloc: Global, sections: &Sections<'a>) -> Result<Units<'a>, NoMemory>
     requires { IsReadable sections.now }

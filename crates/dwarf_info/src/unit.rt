@@ -34,7 +34,8 @@ fn root<'e, 'a>(entries: &'e Entries<'a>) -> &'e [Attribute<'a>]
     }
 }
 
-/// What the indices of a unit are looked up by: attributes of its root, which may stand behind the first use.
+/// What the indices of a unit are looked up by: attributes of its root, which may stand behind the
+/// first use.
 fn read_index<'a, V: UnitVersion<'a>>(
     alloc: Global,
     sections: &PreparedSections<'a>,

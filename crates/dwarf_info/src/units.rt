@@ -44,7 +44,8 @@ impl<'a> Units<'a> {
         self.answers.as_slice()
     }
 
-    /// Where the entry at an offset of the section stands, if there is one; of several the first. It takes logarithmic time.
+    /// Where the entry at an offset of the section stands, if there is one; of several the first.
+    /// It takes logarithmic time.
     pub fn place_of(&self, at: u32) -> Option<EntryPlace>
         ensures place { result ≡ place_among 0 self.now at }
         ensures found { IfSome result (IsEntryAt self.now at) }

@@ -34,12 +34,14 @@ pub trait UnitVersion<'a>: Drop {
         ensures row { result ≡ form_of version.rows code }
         ensures sized { IfSome result IsSized };
 
-    /// What stands between the version and the entries, which gives the offset of the abbreviations.
+    /// What stands between the version and the entries, which gives the offset of the
+    /// abbreviations.
     fn header(reader: &mut Reader<'a>) -> Result<u64, Malformed>
         ensures item { Reads result reader.new (version.header reader.old) }
         ensures stays { OnOk result (Stays reader.old reader.new) };
 
-    /// The table at an offset of a section of abbreviations, with the forms of its codes, if one stands there.
+    /// The table at an offset of a section of abbreviations, with the forms of its codes, if one
+    /// stands there.
     fn shapes_at(
         alloc: Global,
         section: &'a [u8],

@@ -103,7 +103,8 @@ fn shapes(alloc: Global, rows: &[Abbrev]) -> Result<Items<Shape>, NoMemory>
     Ok(Items::from_vec(shapes))
 }
 
-/// The table at an offset of a section of abbreviations, with the forms of its codes, if one stands there.
+/// The table at an offset of a section of abbreviations, with the forms of its codes, if one stands
+/// there.
 #[tactic(auto, unfolding(crate::specs::Version4::shapes4_item))]
 fn shapes4_at(alloc: Global, section: &[u8], at: u64) -> Result<Option<Items<Shape>>, NoMemory>
     ensures { IfOk result (λ shapes. shapes ≡ read_at shapes4_item section.now at) }

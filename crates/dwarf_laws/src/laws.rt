@@ -14,8 +14,8 @@ ghost use Rattle.dwarf_info.specs.Grammar4.{IsUnits4};
 ghost use Rattle.dwarf5_info.specs.Grammar5.{IsUnits5};
 ghost use Rattle.dwarf_laws.specs.Inside.{insides, nodes, siblings_at};
 
-/// A table of abbreviations is read at an offset exactly where the section spells it there (DWARF 4 section 7.5.3), and none is
-/// read exactly where it spells none.
+/// A table of abbreviations is read at an offset exactly where the section spells it there (DWARF 4
+/// section 7.5.3), and none is read exactly where it spells none.
 pub fn tables_as_spelled()
     ensures read { (section : List ℕ) (at : ℕ) (table : List Abbrev) → IsBytes section
         → (abbrevs_at section at ≡ Some table) ↔ StandsAt abbrevs table section at }
@@ -40,7 +40,8 @@ pub fn one_reading5()
         → IsBytes s.base.info → IsUnits5 s us → IsUnits5 s vs → us ≡ vs }
 {}
 
-/// The offsets of entries stand inside the section and ascend, so that at most one entry stands at each.
+/// The offsets of entries stand inside the section and ascend, so that at most one entry stands at
+/// each.
 pub fn entries_apart()
     ensures inside { (s : SectionBytes) (units : List UnitAnswer) (i : ℕ) → IsUnits4 s units
         → i < length (offsets_of units) → get_or (offsets_of units) i 0 < length s.info }
@@ -58,8 +59,9 @@ pub fn entries_apart5()
         → get_or (offsets_of units) i 0 < get_or (offsets_of units) j 0 }
 {}
 
-/// In the list that a tree writes out, the entries behind one that are deeper, up to the first that is not, are its children,
-/// written out. Among them those that are one deeper are its own children.
+/// In the list that a tree writes out, the entries behind one that are deeper, up to the first that
+/// is not, are its children, written out. Among them those that are one deeper are its own
+/// children.
 pub fn entries_in_entries()
     ensures written { (t : Tree) → insides (written t) ≡ nodes t }
     ensures children { (depth : ℕ) (children : Siblings)

@@ -46,7 +46,8 @@ impl<'a> Parameters<'a> {
         self.opcode_base
     }
 
-    /// How many operands a standard opcode has by the header, or 0 where the header does not say it.
+    /// How many operands a standard opcode has by the header, or 0 where the header does not say
+    /// it.
     pub fn operand_count(&self, opcode: u8) -> u8
         ensures { result ≡ slice_index_or self.now.opcode_lengths (opcode - 1) 0 }
     {
@@ -66,14 +67,16 @@ impl<'a> Parameters<'a> {
         (u64::from(self.minimum_instruction_length) * low % 0x1_0000_0000) as u32
     }
 
-    /// By how much a special opcode, counted from the first, advances the address (DWARF 4 section 6.2.5.1).
+    /// By how much a special opcode, counted from the first, advances the address (DWARF 4 section
+    /// 6.2.5.1).
     pub fn address_advance(&self, special: u8) -> u32
         ensures { result ≡ address_advance self.now special }
     {
         u32::from(self.minimum_instruction_length) * u32::from(special / self.line_range)
     }
 
-    /// By how much a special opcode, counted from the first, advances the line (DWARF 4 section 6.2.5.1).
+    /// By how much a special opcode, counted from the first, advances the line (DWARF 4 section
+    /// 6.2.5.1).
     pub fn line_advance(&self, special: u8) -> i64
         ensures { result ≡ line_advance self.now special }
     {
@@ -81,8 +84,8 @@ impl<'a> Parameters<'a> {
     }
 }
 
-/// From the minimum length of an instruction up to the lengths of the opcodes (DWARF 4 section 6.2.4, items 5 to 10), with
-/// or without the number of operations of an instruction, which is 1.
+/// From the minimum length of an instruction up to the lengths of the opcodes (DWARF 4 section
+/// 6.2.4, items 5 to 10), with or without the number of operations of an instruction, which is 1.
 #[tactic(auto, unfolding(dwarf_bytes::specs::Format::read))]
 pub fn read_parameters<'a>(
     has_operations: bool,

@@ -17,8 +17,8 @@ fn row_of(address: u32, sequences: &Sequences) -> Option<Row>
 }
 
 impl Lines<'_> {
-    /// The row of a code address: in the first sequence that holds it the one with the greatest address not past it, the last
-    /// of equals. None where no sequence holds the address.
+    /// The row of a code address: in the first sequence that holds it the one with the greatest
+    /// address not past it, the last of equals. None where no sequence holds the address.
     pub fn place(&self, address: u32) -> Option<Row>
         ensures exact { result ≡ place address self.now.sequences }
         ensures is { IsPlaceIfAny address self.now.sequences result }

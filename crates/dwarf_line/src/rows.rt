@@ -99,7 +99,8 @@ impl Rows {
         self.rows.get(0)
     }
 
-    /// The row with the greatest address not past this one, the last of equals: in logarithmic time where addresses ascend.
+    /// The row with the greatest address not past this one, the last of equals: in logarithmic time
+    /// where addresses ascend.
     pub fn nearest(&self, address: u32) -> Option<Row>
         ensures { result ≡ nearest address self.now }
     {

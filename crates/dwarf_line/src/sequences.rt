@@ -46,8 +46,8 @@ impl Model for Sequences {
 }
 
 impl Sequence {
-    /// The addresses that it holds: from the first one up to but not including the second. What linkers make of removed code
-    /// holds none.
+    /// The addresses that it holds: from the first one up to but not including the second. What
+    /// linkers make of removed code holds none.
     pub fn held(&self) -> Option<(u32, u32)>
         ensures { result ≡ held self.now }
     {

@@ -1,7 +1,7 @@
 //! Entries of lists.
 
-/// An entry of a location list or a range list, of any version (DWARF 4, 2.6.2 and 2.17.3; DWARF 5, 2.6.2 and 2.17.3). It
-/// holds something: the place of an expression, or nothing.
+/// An entry of a location list or a range list, of any version (DWARF 4, 2.6.2 and 2.17.3; DWARF 5,
+/// 2.6.2 and 2.17.3). It holds something: the place of an expression, or nothing.
 #[derive(Drop)]
 pub enum ListEntry<T> {
     /// The base of the entries behind it.

@@ -1,5 +1,5 @@
-//! Location lists and range lists of DWARF: what a list says of an address, and the lists of version 4 (DWARF 4, 2.6.2 and
-//! 2.17.3).
+//! Location lists and range lists of DWARF: what a list says of an address, and the lists of
+//! version 4 (DWARF 4, 2.6.2 and 2.17.3).
 #![tactic(auto)]
 
 mod address;

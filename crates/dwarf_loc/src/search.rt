@@ -19,7 +19,8 @@ pub trait Entries {
     /// What an entry holds.
     type What: Drop;
 
-    /// The entry, none where it is the end mark, and the place behind it, or the offset of the first item without a reading.
+    /// The entry, none where it is the end mark, and the place behind it, or the offset of the
+    /// first item without a reading.
     ghost item: { Self → Place → Read (Option (Listed Self.What)) };
 
     fn read(&self, reader: &mut Reader<'_>) -> Result<Option<ListEntry<Self::What>>, Malformed>
@@ -131,8 +132,8 @@ fn chosen<E: Entries>(
     }
 }
 
-/// What the entry of a list holds that counts for an address (DWARF 5, 2.6.2): the first one that holds the address, or a
-/// default where there is none.
+/// What the entry of a list holds that counts for an address (DWARF 5, 2.6.2): the first one that
+/// holds the address, or a default where there is none.
 ///
 /// # Errors
 ///

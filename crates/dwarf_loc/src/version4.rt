@@ -94,7 +94,8 @@ impl Entries for Ranges {
     }
 }
 
-/// The expression of the first entry of a location list that holds the address, as its place in the section.
+/// The expression of the first entry of a location list that holds the address, as its place in the
+/// section.
 ///
 /// # Errors
 ///

@@ -14,8 +14,8 @@ use dwarf_info::Sections5;
 use pm_text::Items;
 use std::alloc::Global;
 
-/// What finds the first of many entries that holds an address: by halving among those that say where they begin and end. Those
-/// that have a list instead are asked one after the other.
+/// What finds the first of many entries that holds an address: by halving among those that say
+/// where they begin and end. Those that have a list instead are asked one after the other.
 #[derive(Drop)]
 pub struct Holders {
     bounded: Steps,
@@ -81,7 +81,8 @@ fn is_before(named: Option<usize>, index: usize) -> bool
     }
 }
 
-/// The first of the entries with these numbers that holds an address, or the one that is named, if that stands before it.
+/// The first of the entries with these numbers that holds an address, or the one that is named, if
+/// that stands before it.
 fn first_or(
     sections: &Sections5<'_>,
     entries: &[Standing<'_, '_>],

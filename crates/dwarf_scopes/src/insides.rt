@@ -8,7 +8,8 @@ use dwarf_info::Entry;
 use pm_text::Items;
 use std::alloc::Global;
 
-/// How many entries from the front on are deeper, where it is known of each how many stand in it: those are passed over.
+/// How many entries from the front on are deeper, where it is known of each how many stand in it:
+/// those are passed over.
 fn deeper(depth: u32, entries: &[Entry<'_>], counts: &[usize]) -> usize
     requires { counts.now ≡ insides entries.now }
     ensures { result ≡ deeper_than depth entries.now }
@@ -27,7 +28,8 @@ fn zeros(alloc: Global, len: usize) -> Result<Vec<usize>, NoMemory>
     Ok(vec![in alloc; 0usize; len]?)
 }
 
-/// How many entries stand in each of these, in linear time: from the last on, each is counted by those in it.
+/// How many entries stand in each of these, in linear time: from the last on, each is counted by
+/// those in it.
 pub fn insides_of(alloc: Global, entries: &[Entry<'_>]) -> Result<Items<usize>, NoMemory>
     ensures { IfOk result (λ counts. counts ≡ insides entries.now) }
 {

@@ -1,4 +1,5 @@
-//! Addresses of entries: what holds an address, and the scopes and variables that are visible there.
+//! Addresses of entries: what holds an address, and the scopes and variables that are visible
+//! there.
 #![tactic(auto)]
 
 mod holders;

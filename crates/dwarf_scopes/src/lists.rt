@@ -9,8 +9,9 @@ use dwarf_info::{Sections5, Unit};
 use dwarf_loc::Span;
 use dwarf5_info::{list_base, location5_at, range5_holds};
 
-/// The expression of the entry of a location list that counts for an address, as its place in the section: in `.debug_loclists`
-/// where the unit is of version 5, else in `.debug_loc`. None where no entry holds it and the list has no default.
+/// The expression of the entry of a location list that counts for an address, as its place in the
+/// section: in `.debug_loclists` where the unit is of version 5, else in `.debug_loc`. None where
+/// no entry holds it and the list has no default.
 ///
 /// # Errors
 ///
@@ -30,8 +31,8 @@ pub fn location_in(
     }
 }
 
-/// Whether an entry of a range list holds an address: in `.debug_rnglists` where the unit is of version 5, else in
-/// `.debug_ranges`.
+/// Whether an entry of a range list holds an address: in `.debug_rnglists` where the unit is of
+/// version 5, else in `.debug_ranges`.
 ///
 /// # Errors
 ///

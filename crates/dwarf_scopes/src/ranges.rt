@@ -69,7 +69,8 @@ pub fn holds_by_known(
     }
 }
 
-/// Whether an entry holds an address: from its low_pc up to but not including its high_pc, where it has both, else by its list.
+/// Whether an entry holds an address: from its low_pc up to but not including its high_pc, where it
+/// has both, else by its list.
 pub fn holds(sections: &Sections5<'_>, address: u32, standing: &Standing<'_, '_>) -> bool
     ensures { result ≡ ranges.holds sections.now address standing.now }
 {

@@ -1,4 +1,5 @@
-//! The subprogram at an address, and the scopes and variables that are visible there (DWARF 4 sections 3.3 to 3.5 and 4.1).
+//! The subprogram at an address, and the scopes and variables that are visible there (DWARF 4
+//! sections 3.3 to 3.5 and 4.1).
 
 ghost use Rattle.std.specs.Prelude.{ℕ, ◌≡◌, ◌++◌, OnOk, IfOk, filter, reverse};
 ghost use Rattle.dwarf_entries.specs.Standing.{Standing as Stands, standing_in};
@@ -135,8 +136,8 @@ pub fn scopes_in<'r, 'a>(
     Ok(scopes)
 }
 
-/// The subprogram at an address, and the lexical blocks and inlined subroutines in it that hold the address: outer ones first,
-/// in the order of the section.
+/// The subprogram at an address, and the lexical blocks and inlined subroutines in it that hold the
+/// address: outer ones first, in the order of the section.
 #[tactic(auto, unfolding(crate::specs::Scopes::scopes_at))]
 pub fn scopes_at<'r, 'a>(
     alloc: Global,

@@ -7,7 +7,8 @@ use causes::NoMemory;
 use std::alloc::Global;
 use std::marker::Model;
 
-/// A range of addresses, with a number. The end, which is not in it, may be a sum of addresses that is none itself.
+/// A range of addresses, with a number. The end, which is not in it, may be a sum of addresses that
+/// is none itself.
 #[derive(Clone, Copy)]
 pub struct Range {
     pub first: u32,
@@ -22,7 +23,8 @@ struct Step {
     index: Option<usize>,
 }
 
-/// The numbers of the ranges that hold addresses first. Contracts see the steps, which `answer` reads.
+/// The numbers of the ranges that hold addresses first. Contracts see the steps, which `answer`
+/// reads.
 #[derive(Drop)]
 pub struct Steps {
     // The last one first.

@@ -26,7 +26,8 @@ fn is_variable(depth: u32, standing: &Standing<'_, '_>) -> bool
         && (entry.tag == FORMAL_PARAMETER || entry.tag == VARIABLE)
 }
 
-/// How many entries stand from an entry on up to the next one that may be a child of one of this depth: what is in a child is none.
+/// How many entries stand from an entry on up to the next one that may be a child of one of this
+/// depth: what is in a child is none.
 fn passed(depth: u32, entry: &Entry<'_>, inside: usize) -> usize
     requires { inside + 1 < 2 ^ 64 }
     ensures { result ≡ (if entry.now.depth == suc depth then inside + 1 else 1) }
@@ -53,7 +54,8 @@ fn counts_behind(counts: &[usize], at: usize) -> &[usize]
     &counts[at + 1..]
 }
 
-/// Appends an entry, behind which these stand, where it is a formal parameter or a variable that is a child of one of this depth.
+/// Appends an entry, behind which these stand, where it is a formal parameter or a variable that is
+/// a child of one of this depth.
 fn push_if_variable<'r, 'a>(
     unit: &'r Unit<'a>,
     depth: u32,
@@ -71,8 +73,8 @@ fn push_if_variable<'r, 'a>(
     Ok(())
 }
 
-/// Appends the formal parameters and variables among these entries that are children of one of this depth, where it is known of each
-/// how many stand in it.
+/// Appends the formal parameters and variables among these entries that are children of one of this
+/// depth, where it is known of each how many stand in it.
 fn push_children<'r, 'a>(
     unit: &'r Unit<'a>,
     depth: u32,
@@ -109,7 +111,8 @@ fn first_entries<'r, 'a>(entries: &'r [Entry<'a>], len: usize) -> &'r [Entry<'a>
     &entries[..len]
 }
 
-/// Appends the formal parameters and variables of an entry, behind which these stand, so many of them in it.
+/// Appends the formal parameters and variables of an entry, behind which these stand, so many of
+/// them in it.
 fn push_variables<'r, 'a>(
     unit: &'r Unit<'a>,
     entry: &'r Entry<'a>,
@@ -153,7 +156,8 @@ fn push_if_scope<'r, 'a>(
     Ok(())
 }
 
-/// Appends the formal parameters and variables of each of these entries that is a scope at the address.
+/// Appends the formal parameters and variables of each of these entries that is a scope at the
+/// address.
 fn push_scopes<'r, 'a>(
     pick: &ScopeAt<'_, 'a>,
     unit: &'r Unit<'a>,
@@ -220,7 +224,8 @@ fn variables_in<'r, 'a>(
     Ok(variables)
 }
 
-/// The variables that are visible at an address, those of outer scopes first. It takes time linear in what stands in the subprogram.
+/// The variables that are visible at an address, those of outer scopes first. It takes time linear
+/// in what stands in the subprogram.
 #[tactic(auto, unfolding(crate::specs::Scopes::variables_at, crate::specs::Scopes::scopes_at))]
 pub fn variables_at<'r, 'a>(
     alloc: Global,

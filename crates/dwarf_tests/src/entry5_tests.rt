@@ -9,8 +9,9 @@ const ADDRESSES: [u8; 16] = [
     0xaa, 0xaa, 0xaa, 0xaa, 0x10, 0, 0, 0, 0x64, 0, 0, 0, 0xf0, 0xff, 0xff, 0xff,
 ];
 
-// At 0 an offset pair and a default. At 10 each kind but a default. At 57 two defaults in front of an offset pair. Behind an offset pair: at 69 an index
-// without an address, at 77 an unknown kind, at 84 no end mark.
+// At 0 an offset pair and a default. At 10 each kind but a default. At 57 two defaults in front of
+// an offset pair. Behind an offset pair: at 69 an index without an address, at 77 an unknown kind,
+// at 84 no end mark.
 const LOCATIONS: [u8; 89] = [
     4, 2, 14, 2, 0x91, 0x0c, 5, 1, 0x30, 0, 1, 1, 4, 0, 4, 1, 0x30, 2, 0, 1, 1, 0x31, 3, 2, 32, 1,
     0x32, 6, 200, 0, 0, 0, 4, 0, 2, 1, 0x33, 7, 0x2c, 1, 0, 0, 0x2e, 1, 0, 0, 1, 0x34, 8, 0x90, 1,

@@ -195,7 +195,8 @@ fn means(view: &FrameView<'_>, base: Base, row: &Row) -> bool {
     row.0.len() <= LONGEST && meaning(&eval(row.0, view, base)) == row.1
 }
 
-/// The number of the first row that means something else over the frame with memory, or how many rows there are.
+/// The number of the first row that means something else over the frame with memory, or how many
+/// rows there are.
 fn first_wrong(alloc: Global, rows: &[Row]) -> usize {
     let memory = memory_with(alloc, &CONTENTS);
     let view = view_of(&memory);

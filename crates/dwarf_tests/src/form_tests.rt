@@ -1,4 +1,5 @@
-//! The forms of version 4 in a unit of version 5, codes that are those of no form, and units that are cut at each byte.
+//! The forms of version 4 in a unit of version 5, codes that are those of no form, and units that
+//! are cut at each byte.
 
 use crate::reading::{EntryRow, Sample, is_read5, is_unreadable5};
 use crate::samples::{ABBREV, FORMS, INFO, TEXTS};

@@ -14,7 +14,8 @@ pub fn memory_with(alloc: Global, contents: &[(u64, &[u8])]) -> Option<Memory> {
     Some(memory)
 }
 
-/// Where a value comes from: it is this number, or stands at this address, or its expression is bad.
+/// Where a value comes from: it is this number, or stands at this address, or its expression is
+/// bad.
 #[derive(Clone, Copy)]
 pub enum Origin {
     Number(u64),

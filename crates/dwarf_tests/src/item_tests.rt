@@ -1,4 +1,5 @@
-//! Bytes with the numbers, texts and blocks that stand in them by hand, and the generic function at a concrete type.
+//! Bytes with the numbers, texts and blocks that stand in them by hand, and the generic function at
+//! a concrete type.
 
 ghost use Rattle.std.specs.Prelude.{◌==◌, Some, None, if◌then◌else◌};
 ghost use Rattle.wasm_bytes.specs.Reading.{◌▷◌, u64_item, done_item};
@@ -9,7 +10,8 @@ use std::alloc::Global;
 use std::test::Fail;
 use wasm_bytes::{ItemFault, Reader};
 
-// A number of two bytes, a text "ab", a block of two bytes, a unit of one byte, and a list of 5 and 128.
+// A number of two bytes, a text "ab", a block of two bytes, a unit of one byte, and a list of 5 and
+// 128.
 const BYTES: [u8; 18] = [
     0x34, 0x12, 0x61, 0x62, 0x00, 0x02, 0x07, 0x08, 0x01, 0x00, 0x00, 0x00, 0x09, 0x05, 0x80, 0x01,
     0x00, 0x06,

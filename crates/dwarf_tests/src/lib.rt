@@ -1,4 +1,5 @@
-//! Tests of the readers of DWARF. They stand apart from the crates that they test, so that those are proved once.
+//! Tests of the readers of DWARF. They stand apart from the crates that they test, so that those
+//! are proved once.
 #![tactic(auto)]
 
 #[cfg(test)]

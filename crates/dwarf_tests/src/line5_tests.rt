@@ -1,6 +1,7 @@
-//! Programs of version 5. SMALL is written by hand, as a C compiler lays one out; ASSEMBLED was made by an assembler (GNU
-//! binutils 2.40); FORMS is written by hand. Names and rows are those that llvm-dwarfdump 14 prints, but that of a path or a
-//! directory which stands twice it takes the last.
+//! Programs of version 5. SMALL is written by hand, as a C compiler lays one out; ASSEMBLED was
+//! made by an assembler (GNU binutils 2.40); FORMS is written by hand. Names and rows are those
+//! that llvm-dwarfdump 14 prints, but that of a path or a directory which stands twice it takes the
+//! last.
 
 use dwarf_bytes::ReadFault;
 use dwarf_info::{Sections, Sections5};
@@ -17,7 +18,8 @@ const SMALL: [u8; 70] = [
     0x13, 0x02, 0x06, 0x00, 0x01, 0x01,
 ];
 
-// Two directories and three files, whose names stand in `.debug_line_str`. Rows at 36, 40, 44 and 348, end 349.
+// Two directories and three files, whose names stand in `.debug_line_str`. Rows at 36, 40, 44 and
+// 348, end 349.
 const ASSEMBLED: [u8; 94] = [
     0x5A, 0x00, 0x00, 0x00, 0x05, 0x00, 0x04, 0x00, 0x33, 0x00, 0x00, 0x00, 0x01, 0x01, 0x01, 0xFB,
     0x0E, 0x0D, 0x00, 0x01, 0x01, 0x01, 0x01, 0x00, 0x00, 0x00, 0x01, 0x00, 0x00, 0x01, 0x01, 0x01,
@@ -31,8 +33,8 @@ const ASSEMBLED_NAMES: [u8; 15] = [
     0x2F, 0x73, 0x00, 0x69, 0x6E, 0x63, 0x00, 0x61, 0x2E, 0x63, 0x00, 0x62, 0x2E, 0x68, 0x00,
 ];
 
-// A directory whose name stands in `.debug_str`, and a file with a checksum, a block of an unknown content type, two paths,
-// two directories (of which the first is 2), a time and a length. No rows.
+// A directory whose name stands in `.debug_str`, and a file with a checksum, a block of an unknown
+// content type, two paths, two directories (of which the first is 2), a time and a length. No rows.
 const FORMS: [u8; 95] = [
     0x5B, 0x00, 0x00, 0x00, 0x05, 0x00, 0x04, 0x00, 0x53, 0x00, 0x00, 0x00, 0x01, 0x01, 0x01, 0xFB,
     0x0E, 0x0D, 0x00, 0x01, 0x01, 0x01, 0x01, 0x00, 0x00, 0x00, 0x01, 0x00, 0x00, 0x01, 0x01, 0x01,
@@ -44,8 +46,9 @@ const FORMS: [u8; 95] = [
 
 const FORMS_NAMES: [u8; 4] = [0x78, 0x2F, 0x64, 0x00];
 
-// Bytes of SMALL that make it unreadable: the version, the sizes of an address and of a segment selector, operations of an
-// instruction, no pairs but a directory, a form that is not in the list, and the length of the unit.
+// Bytes of SMALL that make it unreadable: the version, the sizes of an address and of a segment
+// selector, operations of an instruction, no pairs but a directory, a form that is not in the list,
+// and the length of the unit.
 const BROKEN: [(usize, u8); 8] = [
     (4, 0x06),
     (6, 0x08),

@@ -1,5 +1,6 @@
-//! Programs and their rows. SMALL is written by hand, as a C compiler lays one out; ASSEMBLED was made by an assembler (GNU
-//! binutils 2.40), and EACH by hand with each opcode. The rows are those that llvm-dwarfdump 14 and readelf print.
+//! Programs and their rows. SMALL is written by hand, as a C compiler lays one out; ASSEMBLED was
+//! made by an assembler (GNU binutils 2.40), and EACH by hand with each opcode. The rows are those
+//! that llvm-dwarfdump 14 and readelf print.
 
 use dwarf_bytes::ReadFault;
 use dwarf_line::{Lines, Row, read_lines};
@@ -23,8 +24,8 @@ const ASSEMBLED: [u8; 78] = [
     0x01, 0x05, 0x00, 0x03, 0x79, 0x02, 0xB0, 0x02, 0x01, 0x02, 0x01, 0x00, 0x01, 0x01,
 ];
 
-// Version 2, opcode base 14, instructions of 4 bytes, two bytes behind the tables. Three sequences: from 16 to 116, of
-// removed code at 0, and from 8 to 136; then a row that no sequence has.
+// Version 2, opcode base 14, instructions of 4 bytes, two bytes behind the tables. Three sequences:
+// from 16 to 116, of removed code at 0, and from 8 to 136; then a row that no sequence has.
 const EACH: [u8; 133] = [
     0x81, 0x00, 0x00, 0x00, 0x02, 0x00, 0x21, 0x00, 0x00, 0x00, 0x04, 0x01, 0xFD, 0x0C, 0x0E, 0x00,
     0x01, 0x01, 0x01, 0x01, 0x00, 0x00, 0x00, 0x01, 0x00, 0x00, 0x01, 0x02, 0x69, 0x6E, 0x63, 0x00,
@@ -37,8 +38,8 @@ const EACH: [u8; 133] = [
     0x20, 0x00, 0x01, 0x01, 0x01,
 ];
 
-// Sequences that are apart and not in order: from 40 to 50, of removed code at 0, from 2 to 16, from 30 to 34, and from 100 to 108
-// with a second row at 96, which the standard forbids.
+// Sequences that are apart and not in order: from 40 to 50, of removed code at 0, from 2 to 16,
+// from 30 to 34, and from 100 to 108 with a second row at 96, which the standard forbids.
 const APART: [u8; 114] = [
     0x6E, 0x00, 0x00, 0x00, 0x04, 0x00, 0x1B, 0x00, 0x00, 0x00, 0x01, 0x01, 0x01, 0xFB, 0x0E, 0x0D,
     0x00, 0x01, 0x01, 0x01, 0x01, 0x00, 0x00, 0x00, 0x01, 0x00, 0x00, 0x01, 0x00, 0x74, 0x2E, 0x63,
@@ -84,8 +85,8 @@ const APART_PLACES: [[u32; 5]; 9] = [
 
 const APART_NONE: [u32; 8] = [1, 16, 29, 34, 39, 50, 99, 108];
 
-// Bytes of SMALL that make it unreadable: the version, operations of an instruction, line range, opcode base, the length
-// of an extended opcode, that of the header, and those of the unit.
+// Bytes of SMALL that make it unreadable: the version, operations of an instruction, line range,
+// opcode base, the length of an extended opcode, that of the header, and those of the unit.
 const BROKEN: [(usize, u8); 10] = [
     (4, 0x01),
     (4, 0x05),

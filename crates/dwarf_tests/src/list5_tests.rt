@@ -11,7 +11,8 @@ use dwarf5_info::read_units5;
 use dwarf5_lists::AddressTable;
 use std::alloc::Global;
 
-// A unit of version 5 and one of version 4, whose roots have the low_pc 100 and the base 4 of addresses.
+// A unit of version 5 and one of version 4, whose roots have the low_pc 100 and the base 4 of
+// addresses.
 const INFO: [u8; 41] = [
     0x11, 0x00, 0x00, 0x00, 0x05, 0x00, 0x01, 0x04, 0x00, 0x00, 0x00, 0x00, 0x01, 0x64, 0x00, 0x00,
     0x00, 0x04, 0x00, 0x00, 0x00, 0x10, 0x00, 0x00, 0x00, 0x04, 0x00, 0x00, 0x00, 0x00, 0x00, 0x04,
@@ -25,7 +26,8 @@ const ADDRESSES: [u8; 12] = [
     0xAA, 0xAA, 0xAA, 0xAA, 0x10, 0x00, 0x00, 0x00, 0xF0, 0xFF, 0xFF, 0xFF,
 ];
 
-// At 0 the offsets 5 to 8 and a default, at 9 two addresses from that of index 1 on, at 15 an index without an address.
+// At 0 the offsets 5 to 8 and a default, at 9 two addresses from that of index 1 on, at 15 an index
+// without an address.
 const LOCATION_LISTS: [u8; 21] = [
     0x04, 0x05, 0x08, 0x01, 0x30, 0x05, 0x01, 0x31, 0x00, 0x03, 0x01, 0x02, 0x01, 0x32, 0x00, 0x03,
     0x02, 0x02, 0x01, 0x32, 0x00,
@@ -34,7 +36,8 @@ const LOCATION_LISTS: [u8; 21] = [
 // At 0, in the layout of version 4: from 2 up to 14, counted from the low_pc of a unit.
 const OLD_LISTS: [u8; 19] = [2, 0, 0, 0, 14, 0, 0, 0, 1, 0, 0x30, 0, 0, 0, 0, 0, 0, 0, 0];
 
-// At 0 the offsets 5 to 8, at 4 five addresses from that of index 0 on, at 8 an index without an address.
+// At 0 the offsets 5 to 8, at 4 five addresses from that of index 0 on, at 8 an index without an
+// address.
 const RANGE_LISTS: [u8; 12] = [
     0x04, 0x05, 0x08, 0x00, 0x03, 0x00, 0x05, 0x00, 0x03, 0x02, 0x05, 0x00,
 ];
@@ -166,9 +169,10 @@ fn expressions_of_a_unit_have_addresses(rt: HostRuntime) {
     assert!(rt; is_plain_in(rt.alloc(), 1, &expr, &expr));
 }
 
-// An expression, and the same without addrx: replaced; between others; an index of two bytes; without an entry, and then
-// replaced; behind an operator that is not known; inside an operand; cut; behind a cut operator; behind a deref_size of another
-// size; empty. The answers are those of a program written apart.
+// An expression, and the same without addrx: replaced; between others; an index of two bytes;
+// without an entry, and then replaced; behind an operator that is not known; inside an operand;
+// cut; behind a cut operator; behind a deref_size of another size; empty. The answers are those of
+// a program written apart.
 const EXPRESSIONS: [(&[u8], &[u8]); 10] = [
     (&[0xA1, 0x01], &[0x03, 0xF0, 0xFF, 0xFF, 0xFF]),
     (

@@ -3,8 +3,9 @@
 use dwarf_bytes::ReadFault;
 use dwarf_loc::{Span, location_at, range_holds};
 
-// At 0: from 2 up to 14 and from 14 up to 20, and from 4 up to 6. At 42: from 2 up to 4 counted from the base, then from 100, and from 2 up to 5
-// counted from 0. At 99: from 0 up to 4. At 118: from FFFFFFF0 up to FFFFFFFE. At 137 a list whose end mark is cut.
+// At 0: from 2 up to 14 and from 14 up to 20, and from 4 up to 6. At 42: from 2 up to 4 counted
+// from the base, then from 100, and from 2 up to 5 counted from 0. At 99: from 0 up to 4. At 118:
+// from FFFFFFF0 up to FFFFFFFE. At 137 a list whose end mark is cut.
 const LOCATIONS: [u8; 155] = [
     2, 0, 0, 0, 14, 0, 0, 0, 2, 0, 0x91, 0x0c, 14, 0, 0, 0, 20, 0, 0, 0, 1, 0, 0x30, 4, 0, 0, 0, 6,
     0, 0, 0, 1, 0, 0x31, 0, 0, 0, 0, 0, 0, 0, 0, 2, 0, 0, 0, 4, 0, 0, 0, 1, 0, 0x30, 0xff, 0xff,
@@ -37,7 +38,8 @@ const NOT_HELD: [(usize, u32, u32); 5] = [
 
 const CUT: [usize; 4] = [137, 148, 155, 156];
 
-// At 0: from 2 up to 14 counted from the base, and from 102 up to 104. At 32 an empty list. At 40 a list without an end mark.
+// At 0: from 2 up to 14 counted from the base, and from 102 up to 104. At 32 an empty list. At 40 a
+// list without an end mark.
 const RANGES: [u8; 48] = [
     2, 0, 0, 0, 14, 0, 0, 0, 0xff, 0xff, 0xff, 0xff, 100, 0, 0, 0, 2, 0, 0, 0, 4, 0, 0, 0, 0, 0, 0,
     0, 0, 0, 0, 0, 0, 0, 0, 0, 0, 0, 0, 0, 2, 0, 0, 0, 4, 0, 0, 0,

@@ -1,4 +1,5 @@
-//! Sections by hand: how their units are read, and units with their entries beside the rows of a table.
+//! Sections by hand: how their units are read, and units with their entries beside the rows of a
+//! table.
 
 use dwarf_info::{AttrValue, Entry, Sections, Sections5, UnitAnswer, Units, read_units};
 use dwarf5_info::read_units5;
@@ -42,7 +43,8 @@ pub struct Sample<'t> {
     pub entries: &'t [EntryRow<'t>],
 }
 
-/// The units of these sections, of which those of version 4 are read. None where a section is long, or memory is wanting.
+/// The units of these sections, of which those of version 4 are read. None where a section is long,
+/// or memory is wanting.
 pub fn units4<'a>(
     alloc: Global,
     info: &'a [u8],
@@ -63,7 +65,8 @@ pub fn units4<'a>(
     read_units(alloc, &sections).ok()
 }
 
-/// The units of these sections beside the texts and tables above. None where a section is long, or memory is wanting.
+/// The units of these sections beside the texts and tables above. None where a section is long, or
+/// memory is wanting.
 pub fn units5<'a>(
     alloc: Global,
     info: &'a [u8],

@@ -1,4 +1,5 @@
-//! Sections that several tests read: the unit of a module as a C compiler writes it, all forms of version 4, and chains of types.
+//! Sections that several tests read: the unit of a module as a C compiler writes it, all forms of
+//! version 4, and chains of types.
 
 use crate::reading::EntryRow;
 
@@ -51,7 +52,8 @@ pub const ENTRIES: [EntryRow<'static>; 13] = [
 /// What a frame of the module has in memory, from 1000 on: `p`, `x` and `s`.
 pub const STACK: (u64, &[u8]) = (1000, &[0, 0, 1, 0, 7, 0, 0, 0, 3, 0, 0, 0, 0, 66, 0, 0]);
 
-/// One entry with an attribute of each form of version 4, whose attribute has the number of the form.
+/// One entry with an attribute of each form of version 4, whose attribute has the number of the
+/// form.
 pub const FORMS: [u8; 56] = [
     0x01, 0x11, 0x00, 0x01, 0x01, 0x03, 0x03, 0x04, 0x04, 0x05, 0x05, 0x06, 0x06, 0x07, 0x07, 0x08,
     0x08, 0x09, 0x09, 0x0A, 0x0A, 0x0B, 0x0B, 0x0C, 0x0C, 0x0D, 0x0D, 0x0E, 0x0E, 0x0F, 0x0F, 0x10,

@@ -13,10 +13,13 @@ const ABBREV: [u8; 102] = [
     46, 0, 17, 1, 18, 10, 85, 23, 0, 0, 13, 46, 0, 85, 23, 0, 0, 0,
 ];
 
-// The root, whose low_pc is 100, has subprograms: at 17 one that is removed, at 26 one without a low_pc, at 31 one from 110 up to 150, at 78 one that ends
-// before it begins, at 88 one whose high_pc is a block, at 99 one whose list is cut. The one at 31 has a parameter at 40, blocks at 41 (from 110 up to
-// 120) and 65 (by its list, from 140 up to 144), a variable at 72 and a structure at 73. In the block at 41 stand a variable at 47 and inlined subroutines
-// at 48 (from 130 up to 140) and, in that, at 55 (from 132 up to 134), with a variable at 54 and a parameter at 61.
+// The root, whose low_pc is 100, has subprograms: at 17 one that is removed, at 26 one without a
+// low_pc, at 31 one from 110 up to 150, at 78 one that ends before it begins, at 88 one whose
+// high_pc is a block, at 99 one whose list is cut. The one at 31 has a parameter at 40, blocks at
+// 41 (from 110 up to 120) and 65 (by its list, from 140 up to 144), a variable at 72 and a
+// structure at 73. In the block at 41 stand a variable at 47 and inlined subroutines at 48 (from
+// 130 up to 140) and, in that, at 55 (from 132 up to 134), with a variable at 54 and a parameter at
+// 61.
 const INFO: [u8; 105] = [
     101, 0, 0, 0, 4, 0, 0, 0, 0, 0, 4, 1, 100, 0, 0, 0, 2, 3, 0, 0, 0, 0, 232, 3, 0, 0, 4, 144, 1,
     0, 0, 5, 110, 0, 0, 0, 150, 0, 0, 0, 6, 7, 110, 0, 0, 0, 10, 2, 8, 130, 0, 0, 0, 10, 2, 8, 132,

@@ -1,5 +1,6 @@
-//! What is shown of variables: behind paths in a compiled module and as a listing has them, by where they are, by the constants that
-//! they are, and the marks in their places. The expected texts are from the standard's rules by hand.
+//! What is shown of variables: behind paths in a compiled module and as a listing has them, by
+//! where they are, by the constants that they are, and the marks in their places. The expected
+//! texts are from the standard's rules by hand.
 
 use crate::frames::memory_with;
 use crate::reading::{sections4, units4};
@@ -29,7 +30,8 @@ struct Scene {
     contents: (u64, &'static [u8]),
 }
 
-// What is asked for: the value behind a path, a variable as a listing has it, and the value of a variable by the offset of its entry.
+// What is asked for: the value behind a path, a variable as a listing has it, and the value of a
+// variable by the offset of its entry.
 #[derive(Clone, Copy)]
 enum Asked {
     Path(&'static str),
@@ -164,10 +166,13 @@ const ABBREV: [u8; 78] = [
     0, 73, 17, 2, 24, 0, 0, 8, 52, 0, 73, 17, 2, 23, 0, 0, 9, 52, 0, 2, 24, 0, 0, 0,
 ];
 
-// The root begins at 100, and a subprogram holds 100 to 119 with its frame base in local 0. Its variables are of 2 bytes each, but for the one at 185,
-// which has no type: at 30 one that is nowhere, at 32 the constant -2, at 35 a block, at 40 an empty expression, at 43 one at frame base + 4, at 48 local
-// 0, at 54 a global, at 60 an operator that is not known, at 64 a division by 0, at 70 65 entries, at 138 one behind the memory's end, at 147 a piece that
-// is nowhere, at 156 two pieces, at 167, 173 and 179 by lists, of which the last one is none, at 189 the last byte of memory.
+// The root begins at 100, and a subprogram holds 100 to 119 with its frame base in local 0. Its
+// variables are of 2 bytes each, but for the one at 185, which has no type: at 30 one that is
+// nowhere, at 32 the constant -2, at 35 a block, at 40 an empty expression, at 43 one at frame base
+// + 4, at 48 local 0, at 54 a global, at 60 an operator that is not known, at 64 a division by 0,
+// at 70 65 entries, at 138 one behind the memory's end, at 147 a piece that is nowhere, at 156 two
+// pieces, at 167, 173 and 179 by lists, of which the last one is none, at 189 the last byte of
+// memory.
 const INFO: [u8; 199] = [
     195, 0, 0, 0, 4, 0, 0, 0, 0, 0, 4, 1, 100, 0, 0, 0, 2, 5, 2, 3, 100, 0, 0, 0, 20, 4, 237, 0, 0,
     159, 4, 16, 5, 16, 126, 6, 16, 2, 1, 0, 7, 16, 0, 7, 16, 2, 145, 4, 7, 16, 3, 237, 0, 0, 7, 16,

@@ -1,4 +1,5 @@
-//! Steps from variables, and the variable that a name means. The expected values are from the standard's rules by hand.
+//! Steps from variables, and the variable that a name means. The expected values are from the
+//! standard's rules by hand.
 
 use crate::frames::memory_with;
 use crate::reading::{sections4, units4};
@@ -82,7 +83,8 @@ fn first_wrong_of(
     rows.len()
 }
 
-/// The number of the first row that leads elsewhere, over the memory of the compiled module; or how many rows there are.
+/// The number of the first row that leads elsewhere, over the memory of the compiled module; or how
+/// many rows there are.
 fn first_wrong(alloc: Global, info: &[u8], abbrev: &[u8], rows: &[Row]) -> usize {
     let memory = memory_with(alloc, &[STACK]);
     match units4(alloc, info, abbrev, &[]) {
@@ -127,9 +129,11 @@ const SHAPES_ABBREV: [u8; 109] = [
     16, 0, 73, 17, 0, 0, 12, 15, 0, 73, 17, 0, 0, 13, 66, 0, 73, 17, 0, 0, 14, 15, 0, 0, 0, 0,
 ];
 
-// `int` at 12. At 15 a structure of 2^64 - 1 bytes: `m` (`int`) at -4, `n` at 16, an array of that structure without a count, `b`, three bits from the fifth
-// on, `o` of another form, and `t`, that structure by another name. At 56 `int[2][3]`, at 63 the other name, at 65, 67 and 69 a reference, a pointer and
-// an rvalue reference to the structure, at 71 a pointer to the array, at 73 one without a type, at 74 another name of the reference, at 76 two pointers to the structure.
+// `int` at 12. At 15 a structure of 2^64 - 1 bytes: `m` (`int`) at -4, `n` at 16, an array of that
+// structure without a count, `b`, three bits from the fifth on, `o` of another form, and `t`, that
+// structure by another name. At 56 `int[2][3]`, at 63 the other name, at 65, 67 and 69 a reference,
+// a pointer and an rvalue reference to the structure, at 71 a pointer to the array, at 73 one
+// without a type, at 74 another name of the reference, at 76 two pointers to the structure.
 const SHAPES: [u8; 82] = [
     78, 0, 0, 0, 4, 0, 0, 0, 0, 0, 4, 1, 2, 5, 4, 3, 255, 255, 255, 255, 255, 255, 255, 255, 4,
     109, 0, 12, 124, 4, 110, 0, 52, 16, 5, 98, 0, 12, 3, 5, 6, 111, 0, 12, 1, 35, 4, 116, 0, 63, 0,
@@ -203,8 +207,8 @@ const NAMES_ABBREV: [u8; 31] = [
     0, 0, 0,
 ];
 
-// Variables of the unit: `g` at 12, `x` at 15, `w` at 41 and 44. A subprogram from 10 up to 30 has `x` at 24 and `y` at 27, and a block in it from 12 up to 17
-// has `x` at 36.
+// Variables of the unit: `g` at 12, `x` at 15, `w` at 41 and 44. A subprogram from 10 up to 30 has
+// `x` at 24 and `y` at 27, and a block in it from 12 up to 17 has `x` at 36.
 const NAMES: [u8; 48] = [
     44, 0, 0, 0, 4, 0, 0, 0, 0, 0, 4, 1, 2, 103, 0, 2, 120, 0, 3, 10, 0, 0, 0, 20, 2, 120, 0, 2,
     121, 0, 4, 12, 0, 0, 0, 5, 2, 120, 0, 0, 0, 2, 119, 0, 2, 119, 0, 0,

@@ -1,4 +1,5 @@
-//! Texts of values by types of each class, and the marks in them. The expected texts are from the standard's rules by hand.
+//! Texts of values by types of each class, and the marks in them. The expected texts are from the
+//! standard's rules by hand.
 
 use crate::frames::{Origin, memory_with, source_of};
 use crate::reading::units4;
@@ -20,12 +21,15 @@ const ABBREV: [u8; 180] = [
     73, 17, 0, 0, 20, 23, 1, 11, 11, 0, 0, 21, 19, 0, 0, 0, 0,
 ];
 
-// A base type of 2 bytes at 12, and others behind it. At 27 a structure with a bit-field of 3 bits at 5, members at -4, of a location that is a block,
-// without a type, with a bit-field that stands nowhere, with one of 17 bits and with one of none. At 68 an array of two rows of two, at 75 one without
-// subranges, at 78 one with the upper bound -1, at 83 one of 2^40 rows of 2^40, at 100 one of two empty rows, at 107 one of 66 bytes. At 112 an enumeration
-// without a type, at 127 one of signed characters, at 137 one of 3 bytes. At 139 a structure with a bit-field of 128 bits at 4, at 149 a pointer, at 151 a
-// structure with a pointer and one in bits, at 168 one that contains itself, at 175 a union, at 187 an array of three, at 192 a structure without members,
-// at 195 one without a size, at 196 one of 16 bytes.
+// A base type of 2 bytes at 12, and others behind it. At 27 a structure with a bit-field of 3 bits
+// at 5, members at -4, of a location that is a block, without a type, with a bit-field that stands
+// nowhere, with one of 17 bits and with one of none. At 68 an array of two rows of two, at 75 one
+// without subranges, at 78 one with the upper bound -1, at 83 one of 2^40 rows of 2^40, at 100 one
+// of two empty rows, at 107 one of 66 bytes. At 112 an enumeration without a type, at 127 one of
+// signed characters, at 137 one of 3 bytes. At 139 a structure with a bit-field of 128 bits at 4,
+// at 149 a pointer, at 151 a structure with a pointer and one in bits, at 168 one that contains
+// itself, at 175 a union, at 187 an array of three, at 192 a structure without members, at 195 one
+// without a size, at 196 one of 16 bytes.
 const INFO: [u8; 210] = [
     206, 0, 0, 0, 4, 0, 0, 0, 0, 0, 4, 1, 2, 5, 2, 2, 7, 1, 2, 5, 4, 2, 4, 16, 2, 6, 1, 3, 4, 4,
     97, 0, 12, 3, 5, 5, 98, 0, 12, 124, 6, 99, 0, 12, 2, 35, 0, 7, 100, 0, 8, 101, 0, 12, 3, 4,

@@ -1,5 +1,5 @@
-//! Kinds and sizes of types: those of a compiled module, chains of other names, and arrays by their counts. The expected values are
-//! from the standard's rules by hand.
+//! Kinds and sizes of types: those of a compiled module, chains of other names, and arrays by their
+//! counts. The expected values are from the standard's rules by hand.
 
 use crate::reading::units4;
 use crate::samples::{ABBREV, CHAIN, CHAIN_ABBREV, INFO};
@@ -62,7 +62,8 @@ const ARRAY_ABBREV: [u8; 60] = [
     0, 0, 0,
 ];
 
-// `int`, arrays of it with subranges by count or upper bound, one without subranges, an enumeration and a pointer.
+// `int`, arrays of it with subranges by count or upper bound, one without subranges, an enumeration
+// and a pointer.
 const ARRAYS: [u8; 117] = [
     113, 0, 0, 0, 4, 0, 0, 0, 0, 0, 4, 1, 2, 5, 4, 3, 12, 4, 2, 5, 2, 0, 3, 12, 6, 0, 3, 12, 4,
     128, 128, 128, 128, 128, 32, 4, 128, 128, 128, 128, 128, 32, 0, 3, 12, 5, 127, 0, 3, 12, 5,

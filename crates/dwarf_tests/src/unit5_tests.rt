@@ -159,8 +159,9 @@ fn units_are_read(rt: HostRuntime) {
     }
 }
 
-// Units without a reading: a type unit, an implicit value in version 4, one behind indirect, no form, an index without its base,
-// a base of a child, a base of another class, an index in version 4.
+// Units without a reading: a type unit, an implicit value in version 4, one behind indirect, no
+// form, an index without its base, a base of a child, a base of another class, an index in version
+// 4.
 const REFUSED: [(&[u8], &[u8]); 8] = [
     (
         &[

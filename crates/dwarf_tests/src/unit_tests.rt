@@ -1,5 +1,5 @@
-//! The units of a module as a C compiler writes them, the same cut short, and each form once. The expected values are from
-//! the standard's tables and another reader.
+//! The units of a module as a C compiler writes them, the same cut short, and each form once. The
+//! expected values are from the standard's tables and another reader.
 
 use crate::reading::{EntryRow, Sample, is_read4, units4};
 use crate::samples::{ABBREV, ENTRIES, FORMS, INFO, NAMED, TEXTS};
@@ -48,7 +48,8 @@ const ALL_FORMS: EntryRow<'static> = (
     ],
 );
 
-// Two units, each with one entry, at 11 and at 26; the first is unreadable, as its padding is not zero.
+// Two units, each with one entry, at 11 and at 26; the first is unreadable, as its padding is not
+// zero.
 const TWO: [u8; 29] = [
     0x0B, 0x00, 0x00, 0x00, 0x04, 0x00, 0x00, 0x00, 0x00, 0x00, 0x04, 0x01, 0x61, 0x00, 0x01, 0x0A,
     0x00, 0x00, 0x00, 0x04, 0x00, 0x00, 0x00, 0x00, 0x00, 0x04, 0x01, 0x62, 0x00,

@@ -1,4 +1,5 @@
-//! Visible variables of a compiled module, bytes of values, and texts of base types. The expected values are by hand.
+//! Visible variables of a compiled module, bytes of values, and texts of base types. The expected
+//! values are by hand.
 
 use crate::frames::{Origin, source_of};
 use crate::reading::{sections4, units4};
@@ -112,7 +113,8 @@ fn enumerators_have_names(rt: HostRuntime) {
     }
 }
 
-// Where a value comes from, the number of its first byte, how many bytes, and the number that they spell.
+// Where a value comes from, the number of its first byte, how many bytes, and the number that they
+// spell.
 type NumberRow = (Origin, i128, u32, Result<u128, Mark>);
 
 const WORD: Origin = Origin::Number(0x1122_3344_5566_7788);

@@ -1,4 +1,5 @@
-//! Types, and what stands behind those that are other names of types (DWARF 4 sections 5.2 and 5.3).
+//! Types, and what stands behind those that are other names of types (DWARF 4 sections 5.2 and
+//! 5.3).
 
 ghost use Rattle.std.specs.Prelude.{◌≡◌};
 ghost use Rattle.dwarf_types.specs.Types as types;
@@ -7,8 +8,8 @@ use crate::class::{Class, class_of};
 use dwarf_entries::{Standing, standing_at, type_entry};
 use dwarf_info::{Attribute, Units};
 
-/// A type: that of an entry, or none. Of an array without its first so many subranges it is that of the rows behind them
-/// (DWARF 4 section 5.4).
+/// A type: that of an entry, or none. Of an array without its first so many subranges it is that of
+/// the rows behind them (DWARF 4 section 5.4).
 #[derive(Drop)]
 pub enum Typed<'r, 'a> {
     Nothing,
@@ -57,7 +58,8 @@ pub fn type_of<'r, 'a>(units: &'r Units<'a>, attributes: &'r [Attribute<'a>]) ->
     type_in(type_entry(units, attributes))
 }
 
-/// What stands behind a type, where the types passed through and this one are at most so many entries.
+/// What stands behind a type, where the types passed through and this one are at most so many
+/// entries.
 #[tactic(auto, using(crate::proofs::Fuel::behind_none, crate::proofs::Fuel::behind_spent, crate::proofs::Fuel::behind_more))]
 pub fn resolved<'r, 'a>(units: &'r Units<'a>, most: u32, from: Typed<'r, 'a>) -> Behind<'r, 'a>
     ensures { result ≡ types.behind units.now most from.entry }

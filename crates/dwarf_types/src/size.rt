@@ -30,7 +30,8 @@ fn times(count: Option<u128>, size: Option<u64>) -> Option<u64>
     Some((count * size) as u64)
 }
 
-/// The size of arrays of arrays, whose subranges are among the entries, and whose innermost elements have this size.
+/// The size of arrays of arrays, whose subranges are among the entries, and whose innermost
+/// elements have this size.
 fn array_size(entries: &[Entry<'_>], depth: u32, element: Option<u64>) -> Option<u64>
     ensures { result ≡ sizes.array_size
         (map subrange_count (filter (is_child depth tag_subrange) entries.now)) element }
@@ -47,7 +48,8 @@ fn array_size(entries: &[Entry<'_>], depth: u32, element: Option<u64>) -> Option
     size
 }
 
-/// Whether the counts of an array are known, behind its first so many subranges: one without subranges has a count that is not.
+/// Whether the counts of an array are known, behind its first so many subranges: one without
+/// subranges has a count that is not.
 fn is_counted(standing: &Standing<'_, '_>, skipped: usize) -> bool
     ensures { result ≡ (nat_lt 0 skipped || is_some
         (find (is_child standing.now.entry.depth tag_subrange) (entries_inside standing.now))) }

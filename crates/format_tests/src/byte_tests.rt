@@ -11,7 +11,8 @@ use wasm_bytes::{
     gather_to_end, gather_until_done, items_to_end, named_section, section_at,
 };
 
-// A custom section "ab" that holds a vector of two vectors of numbers, then two numbers up to the end.
+// A custom section "ab" that holds a vector of two vectors of numbers, then two numbers up to the
+// end.
 const BYTES: [u8; 13] = [
     0x00, 0x09, 0x02, 0x61, 0x62, 0x02, 0x01, 0x80, 0x01, 0x01, 0x07, 0x05, 0x06,
 ];

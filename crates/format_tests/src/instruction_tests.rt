@@ -1,5 +1,5 @@
-//! Instructions byte by byte. The bytes of instructions are those that wat2wasm of WABT 1.0.32 writes; offsets of refusals were
-//! worked out by hand.
+//! Instructions byte by byte. The bytes of instructions are those that wat2wasm of WABT 1.0.32
+//! writes; offsets of refusals were worked out by hand.
 
 ghost use Rattle.std.specs.Prelude.{[]};
 ghost use Rattle.wasm_instructions.specs.Encoding.{IsInside};

@@ -22,11 +22,13 @@ fn writes_the_shortest(rt: HostRuntime) -> Result<(), Fail> {
     Ok(())
 }
 
-/// Bytes, an offset, and what is read there: the number and the offset behind it, or why there is none.
+/// Bytes, an offset, and what is read there: the number and the offset behind it, or why there is
+/// none.
 type Row<T> = (&'static [u8], usize, Result<(T, usize), LebFault>);
 
-/// DWARF 4, 7.6, has 128, 12857, -128 and -129. By Core 5.2.2, 03 and 83 00 are both 3; 7E, FE 7F and FE FF 7F are all -2; 83 10 is no u8, and
-/// 83 3E and FF 7B are no s8, since bits that are not used are set. The same at 32 and 64 bits.
+/// DWARF 4, 7.6, has 128, 12857, -128 and -129. By Core 5.2.2, 03 and 83 00 are both 3; 7E, FE 7F
+/// and FE FF 7F are all -2; 83 10 is no u8, and 83 3E and FF 7B are no s8, since bits that are not
+/// used are set. The same at 32 and 64 bits.
 const U32: [Row<u32>; 4] = [
     (&[0x80, 0x01], 0, Ok((128, 2))),
     (&[0x83, 0x80, 0x80, 0x80, 0x00], 0, Ok((3, 5))),

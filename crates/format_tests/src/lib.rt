@@ -1,4 +1,5 @@
-//! Tests of the formats of instructions, modules and dumps, and of validation. They stand apart from the crates that they test, so that those are proved once.
+//! Tests of the formats of instructions, modules and dumps, and of validation. They stand apart
+//! from the crates that they test, so that those are proved once.
 #![tactic(auto)]
 
 #[cfg(test)]

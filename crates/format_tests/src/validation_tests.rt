@@ -1,5 +1,6 @@
-//! Bodies, each with its first wrong instruction by Core 3.3, worked out by hand. The validator of wabt 1.0.32 finds the same places, but that
-//! it tells the missing result of an empty body where the body begins.
+//! Bodies, each with its first wrong instruction by Core 3.3, worked out by hand. The validator of
+//! wabt 1.0.32 finds the same places, but that it tells the missing result of an empty body where
+//! the body begins.
 
 use std::alloc::{AllocError, Global};
 use std::test::Fail;
@@ -10,7 +11,8 @@ use wasm_validate::{ValidateFault, validate};
 /// The magic and the version.
 const HEADER: [u8; 8] = [0x00, 0x61, 0x73, 0x6D, 0x01, 0x00, 0x00, 0x00];
 
-/// Three types: of no parameters, of an i32 and an i64 with a result of i32, and of an i64 without a result.
+/// Three types: of no parameters, of an i32 and an i64 with a result of i32, and of an i64 without
+/// a result.
 const NO_RESULT: [u8; 16] = [
     0x01, 0x0E, 0x03, 0x60, 0x00, 0x00, 0x60, 0x02, 0x7F, 0x7E, 0x01, 0x7F, 0x60, 0x01, 0x7E, 0x00,
 ];
@@ -39,8 +41,8 @@ const FRONT_BODIES: [u8; 7] = [0x02, 0x00, 0x0B, 0x03, 0x00, 0x00, 0x0B];
 /// The locals of the third: two of i64, none of i32, and one of i32.
 const LOCALS: [u8; 7] = [0x03, 0x02, 0x7E, 0x00, 0x7F, 0x01, 0x7F];
 
-/// A body of the third function: what it is, the types of the module, its instructions, and the code offset of the first wrong one, where
-/// there is one.
+/// A body of the third function: what it is, the types of the module, its instructions, and the
+/// code offset of the first wrong one, where there is one.
 type Case = (&'static str, &'static [u8], &'static [u8], Option<u32>);
 
 const CASES: [Case; 69] = [
@@ -414,7 +416,8 @@ fn module_with(alloc: Global, types: &[u8], code: &[u8]) -> Result<Vec<u8>, Allo
     Ok(bytes)
 }
 
-/// Whether the third function is wrong first at this offset, or the module is valid where there is none.
+/// Whether the third function is wrong first at this offset, or the module is valid where there is
+/// none.
 fn is_wrong_at(alloc: Global, bytes: &[u8], wrong: Option<u32>) -> bool {
     let module = match decode(alloc, bytes) {
         Ok(module) => module,

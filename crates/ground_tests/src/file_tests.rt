@@ -198,7 +198,8 @@ fn files_read_whole(rt: HostRuntime) -> Result<(), Fail> {
     Ok(())
 }
 
-/// A file of a million bytes is refused by the sixth read of one byte, where five are the limit: the next call is the one that fails.
+/// A file of a million bytes is refused by the sixth read of one byte, where five are the limit:
+/// the next call is the one that fails.
 fn is_refused_early(alloc: Global, files: &mut MemFiles) -> bool {
     files.limit_reads(1);
     is_refused(alloc, files, 5, FileError::TooLong)
@@ -242,7 +243,8 @@ fn real_files(rt: HostRuntime) -> Result<(), Fail> {
     Ok(())
 }
 
-/// A writer that takes two bytes a call, is interrupted once, and fails when it has been called five times.
+/// A writer that takes two bytes a call, is interrupted once, and fails when it has been called
+/// five times.
 #[derive(Drop)]
 struct Narrow {
     taken: Vec<u8>,

@@ -1,4 +1,5 @@
-//! Tests of texts, files, integers and memory. They stand apart from the crates that they test, so that those are proved once.
+//! Tests of texts, files, integers and memory. They stand apart from the crates that they test, so
+//! that those are proved once.
 #![tactic(auto)]
 
 #[cfg(test)]

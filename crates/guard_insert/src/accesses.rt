@@ -113,7 +113,8 @@ fn range_test(
     past_end(writer)
 }
 
-/// Of `memory.copy`: 4 or 0. Where to is at this height, and above it are where from and the length.
+/// Of `memory.copy`: 4 or 0. Where to is at this height, and above it are where from and the
+/// length.
 pub(crate) fn guard_copy(
     context: &FunctionContext<'_, '_>,
     writer: &mut CodeWriter,

@@ -57,7 +57,8 @@ pub(crate) fn guard_zero(
     zero_test(writer, t)
 }
 
-/// Of two verdicts, whether the quotient is past the range. The dividend is at this height, and the divisor above it.
+/// Of two verdicts, whether the quotient is past the range. The dividend is at this height, and the
+/// divisor above it.
 fn overflow_test(
     context: &FunctionContext<'_, '_>,
     writer: &mut CodeWriter,

@@ -43,8 +43,8 @@ fn write_entry(
     writer.call(helper)
 }
 
-/// The guard of `call_indirect`, of the type that has this helper: the operand at a height is the number of the entry. It leaves the kind or
-/// 0 on the stack.
+/// The guard of `call_indirect`, of the type that has this helper: the operand at a height is the
+/// number of the entry. It leaves the kind or 0 on the stack.
 pub fn guard_entry(
     context: &FunctionContext<'_, '_>,
     writer: &mut CodeWriter,

@@ -1,4 +1,5 @@
-//! Writes guards: code in front of an instruction that gives the kind with which it would trap on its operands, or 0.
+//! Writes guards: code in front of an instruction that gives the kind with which it would trap on
+//! its operands, or 0.
 #![tactic(auto)]
 
 mod accesses;

@@ -32,8 +32,8 @@ pub struct Collected<'a> {
 /// Why calls have no dump.
 #[derive(Clone, Copy, PartialEq, Eq)]
 pub enum CloseFault {
-    /// The calls are not whole. The call at this index is the first one up to and with which they begin no whole list; it is the number of
-    /// the calls where there is none.
+    /// The calls are not whole. The call at this index is the first one up to and with which they
+    /// begin no whole list; it is the number of the calls where there is none.
     Torn { at: usize },
     NoMemory,
 }
@@ -62,7 +62,8 @@ fn collected_dump<'a>(
 ///
 /// # Errors
 ///
-/// `Torn` exactly where the calls are not whole, with the first offending call; where they are, `NoMemory` if memory runs out.
+/// `Torn` exactly where the calls are not whole, with the first offending call; where they are,
+/// `NoMemory` if memory runs out.
 pub fn close<'a>(
     alloc: Global,
     calls: &[CollectorCall],
@@ -87,7 +88,8 @@ pub fn close<'a>(
 }
 
 impl<H> Collecting<H> {
-    /// The dump of the calls that were collected, with this memory and of this name. The calls stay.
+    /// The dump of the calls that were collected, with this memory and of this name. The calls
+    /// stay.
     ///
     /// # Errors
     ///

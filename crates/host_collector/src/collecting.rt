@@ -15,8 +15,8 @@ use std::alloc::Global;
 use std::marker::Model;
 use wasm_syntax::{CollectorCall, FuncType, HostCall, Import};
 
-/// A host side that collects the calls of the collector's imports, and leaves all other imports to another host side, which it never asks
-/// for one of module `coredump`.
+/// A host side that collects the calls of the collector's imports, and leaves all other imports to
+/// another host side, which it never asks for one of module `coredump`.
 ///
 /// Contracts see the other host side and the calls that were collected.
 #[derive(Drop)]

@@ -1,4 +1,5 @@
-//! The imports of the collector: `value_i32(i32)`, `value_i64(i64)` and `frame(i32, i32, i32, i32)` of module `coredump`, without results.
+//! The imports of the collector: `value_i32(i32)`, `value_i64(i64)` and `frame(i32, i32, i32, i32)`
+//! of module `coredump`, without results.
 
 ghost use Rattle.std.specs.Prelude.{◌≡◌};
 ghost use Rattle.wasm_syntax.specs.Host.{on_i32, on_i64, on_frame, collector_name};

@@ -1,5 +1,5 @@
-//! The collector: a host side that takes the calls by which a rewritten module hands over its dump, and the dump of a whole list of such
-//! calls.
+//! The collector: a host side that takes the calls by which a rewritten module hands over its dump,
+//! and the dump of a whole list of such calls.
 #![tactic(auto)]
 
 mod closing;

@@ -11,7 +11,8 @@ const MOST: usize = 134_217_728;
 /// The kind of the last call.
 const LAST: u32 = 255;
 
-/// How far calls have come that begin a whole list. Values are counted from the end of the last entry on.
+/// How far calls have come that begin a whole list. Values are counted from the end of the last
+/// entry on.
 #[derive(Clone, Copy)]
 pub(crate) enum Progress {
     /// No entry is closed.
@@ -126,7 +127,8 @@ fn missing(progress: Progress) -> usize
     }
 }
 
-/// How far the calls have come behind one more, the call at this index, where there is room for those that have to come.
+/// How far the calls have come behind one more, the call at this index, where there is room for
+/// those that have to come.
 fn stepped(at: usize, progress: Progress, call: CollectorCall) -> Option<Progress>
     requires values { values_in progress ≤ at }
     requires room { at + missing progress ≤ 134217728 }

@@ -12,8 +12,8 @@ use std::alloc::Global;
 use std::marker::Model;
 use wasm_syntax::{HostCall, Reply, Served, ValType, Value};
 
-/// The device `counter`: it replies the number of its earlier replies, or no value where none is asked. Contracts see
-/// its log.
+/// The device `counter`: it replies the number of its earlier replies, or no value where none is
+/// asked. Contracts see its log.
 #[derive(Drop)]
 pub struct Counter {
     alloc: Global,

@@ -20,8 +20,8 @@ pub enum DeviceAnswer {
 
 /// A device.
 ///
-/// Its meaning is its name, which never changes; the log of the calls that it replied to; and a count of faults, below
-/// 2^64, that never falls.
+/// Its meaning is its name, which never changes; the log of the calls that it replied to; and a
+/// count of faults, below 2^64, that never falls.
 pub trait Device: Drop {
     ghost title: { Self → List ℕ };
 

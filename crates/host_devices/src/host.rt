@@ -22,9 +22,10 @@ pub enum HostAnswer {
 
 /// What serves the imports of a module.
 ///
-/// Its meaning is what it began with, which never changes; the calls so far, those that were served and those of the collector; whether it collects; which
-/// imports it serves; for each import whether its replies are used up; and for each name of a device a count of faults,
-/// which never falls.
+/// Its meaning is what it began with, which never changes; the calls so far, those that were served
+/// and those of the collector; whether it collects; which imports it serves; for each import
+/// whether its replies are used up; and for each name of a device a count of faults, which never
+/// falls.
 pub trait HostSide {
     ghost origin: { Self → Origin };
 
@@ -42,7 +43,8 @@ pub trait HostSide {
     fn serves(&self, import: &Import, ftype: &FuncType) -> bool
         ensures { result ≡ serving self.now import.now ftype.now };
 
-    /// Whether the calls of the collector's imports are collected, and not served. This never changes.
+    /// Whether the calls of the collector's imports are collected, and not served. This never
+    /// changes.
     fn collects(&self) -> bool
         ensures { result ≡ collecting self.now };
 

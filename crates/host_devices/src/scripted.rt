@@ -43,7 +43,8 @@ impl Model for Scripted {
 }
 
 impl Scripted {
-    /// A device with an empty log. The calls with these numbers, counted from 0, fail and use no reply.
+    /// A device with an empty log. The calls with these numbers, counted from 0, fail and use no
+    /// reply.
     pub fn new(alloc: Global, name: Text, replies: Items<Reply>, fail: Vec<u64>) -> Self
         ensures { result ≡ record {
           name = name;

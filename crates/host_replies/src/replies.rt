@@ -16,7 +16,8 @@ pub type Replies = Items<Reply>;
 /// Why a file of replies is refused.
 #[derive(Clone, Copy, Debug, PartialEq, Eq)]
 pub enum ReplyFault {
-    /// The first line outside the grammar. Lines are counted from 1, and those that are skipped count too.
+    /// The first line outside the grammar. Lines are counted from 1, and those that are skipped
+    /// count too.
     Line(u64),
     NoMemory,
 }

@@ -14,10 +14,12 @@ use std::alloc::Global;
 use std::marker::Model;
 use wasm_syntax::{FuncType, HostCall, Import, Reply};
 
-/// A host side that serves every import of a module by the replies of a list, in order, from one of them on. It borrows both.
+/// A host side that serves every import of a module by the replies of a list, in order, from one of
+/// them on. It borrows both.
 ///
-/// Contracts see the imports, the replies, the number of the first one that it gives, and the calls that it replied to, in order. It keeps
-/// these calls, since they are a part of what a host side means.
+/// Contracts see the imports, the replies, the number of the first one that it gives, and the calls
+/// that it replied to, in order. It keeps these calls, since they are a part of what a host side
+/// means.
 #[derive(Drop)]
 pub struct ScriptHosts<'m, 'r> {
     alloc: Global,
@@ -46,7 +48,8 @@ impl<'m, 'r> Model for ScriptHosts<'m, 'r> {
 }
 
 impl<'m, 'r> ScriptHosts<'m, 'r> {
-    /// A host side for the imports of a module. It gives the replies from the one of this number on, which counts from 0. It takes no memory.
+    /// A host side for the imports of a module. It gives the replies from the one of this number
+    /// on, which counts from 0. It takes no memory.
     pub fn new(alloc: Global, imports: &'m [Import], replies: &'r [Reply], first: u64) -> Self
         requires { first ≤ length replies.now }
         ensures { result ≡ record {
@@ -66,8 +69,8 @@ impl<'m, 'r> ScriptHosts<'m, 'r> {
         }
     }
 
-    /// The number of the next reply: that of the first one that it gives, and how many it gave. What it gave are the replies from the first
-    /// one up to this.
+    /// The number of the next reply: that of the first one that it gives, and how many it gave.
+    /// What it gave are the replies from the first one up to this.
     pub fn next(&self) -> u64
         ensures next { result ≡ next_of self.now }
         ensures within { next_of self.now ≤ length self.now.replies }
@@ -77,7 +80,8 @@ impl<'m, 'r> ScriptHosts<'m, 'r> {
         self.next as u64
     }
 
-    /// How many replies it gave: those from the first one on. It is used up exactly where there is no other one.
+    /// How many replies it gave: those from the first one on. It is used up exactly where there is
+    /// no other one.
     pub fn given(&self) -> u64
         ensures count { result ≡ length (calls_of self.now).served }
         ensures given { replies_of (calls_of self.now).served

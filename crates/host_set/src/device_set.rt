@@ -113,8 +113,8 @@ impl DeviceSet {
         }
     }
 
-    /// Attaches a device, and gives back the one of the same name that it replaces. Replacing takes no memory. Where
-    /// memory runs out the set is unchanged and the error gives the device back.
+    /// Attaches a device, and gives back the one of the same name that it replaces. Replacing takes
+    /// no memory. Where memory runs out the set is unchanged and the error gives the device back.
     pub fn attach(
         &mut self,
         device: Box<dyn Device>,

@@ -10,8 +10,8 @@ use wasm_syntax::{HostCall, Served};
 
 /// A set of devices.
 ///
-/// Its meaning is the list of the devices in order of attachment, each as its name, its log and its count of faults.
-/// Of two devices of one name the first one counts.
+/// Its meaning is the list of the devices in order of attachment, each as its name, its log and its
+/// count of faults. Of two devices of one name the first one counts.
 pub trait Devices: Drop {
     ghost shown: { Self → List DeviceState };
 

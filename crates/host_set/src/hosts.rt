@@ -18,10 +18,11 @@ use std::alloc::Global;
 use std::marker::Model;
 use wasm_syntax::{FuncType, HostCall, Import, Reply};
 
-/// A host side that serves each import by the device that is named as its module, or else by a script.
+/// A host side that serves each import by the device that is named as its module, or else by a
+/// script.
 ///
-/// Contracts see the devices as they are now, the script and how many of its replies were given, and what was served,
-/// each with the name of its import's module.
+/// Contracts see the devices as they are now, the script and how many of its replies were given,
+/// and what was served, each with the name of its import's module.
 #[derive(Drop)]
 pub struct Hosts<'a, S: Devices> {
     alloc: Global,
@@ -73,7 +74,8 @@ fn script_entry(alloc: Global, call: &HostCall, reply: usize) -> Result<Entry, N
 }
 
 impl<'a, S: Devices> Hosts<'a, S> {
-    /// A host side of these devices and this script for the imports of a module. It takes no memory.
+    /// A host side of these devices and this script for the imports of a module. It takes no
+    /// memory.
     pub fn new(
         alloc: Global,
         devices: S,
@@ -102,8 +104,9 @@ impl<'a, S: Devices> Hosts<'a, S> {
         }
     }
 
-    /// The devices. The log of each is its log from before, followed by what was served to the imports of its module;
-    /// what was served to the imports of other modules has the first replies of the script.
+    /// The devices. The log of each is its log from before, followed by what was served to the
+    /// imports of its module; what was served to the imports of other modules has the first replies
+    /// of the script.
     pub fn into_devices(self) -> S
         ensures devices { S.shown result ≡ self.entry.devices }
         ensures distinct { AreDistinct (names self.entry.devices) }

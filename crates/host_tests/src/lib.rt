@@ -1,4 +1,5 @@
-//! Tests of devices, sets of them, files of replies, and records. They stand apart from the crates that they test, so that those are proved once.
+//! Tests of devices, sets of them, files of replies, and records. They stand apart from the crates
+//! that they test, so that those are proved once.
 #![tactic(auto)]
 
 #[cfg(test)]

@@ -83,7 +83,8 @@ fn is_write(write: &Write, at: u32, bytes: &[u8]) -> bool {
     write.at == at && write.bytes.as_slice() == bytes
 }
 
-/// Whether a file of replies has these three: none, one with two writes, and a negative one with one.
+/// Whether a file of replies has these three: none, one with two writes, and a negative one with
+/// one.
 fn are_three(replies: &[Reply]) -> bool {
     let [first, second, third] = replies else {
         return false;

@@ -133,7 +133,8 @@ fn first_served<S: Devices>(
     hosts.reply(0).value
 }
 
-/// The answers to three calls of the imports of `env` and `counter`, by a set of devices and the replies 5 and 6.
+/// The answers to three calls of the imports of `env` and `counter`, by a set of devices and the
+/// replies 5 and 6.
 fn scripted(
     alloc: Global,
     devices: &mut DeviceSet,

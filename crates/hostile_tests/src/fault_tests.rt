@@ -1,5 +1,6 @@
-//! Each call of the files, and the one of the output, fails in turn: before it takes a byte of its piece, behind the first one, and behind all.
-//! Lengths of dumps were added up by hand from their sections.
+//! Each call of the files, and the one of the output, fails in turn: before it takes a byte of its
+//! piece, behind the first one, and behind all. Lengths of dumps were added up by hand from their
+//! sections.
 
 use crate::trial::{answers, files_of, status_alone, words_of};
 use causes::NoMemory;
@@ -26,8 +27,8 @@ const WHOLE: Act = Act::Fill(usize::MAX);
 /// How many bytes of its piece a failing call takes, all of a shorter one.
 const PARTS: [usize; 3] = [0, 1, usize::MAX];
 
-/// A module in `m` and replies in `r`, lines that are answered before, with their statuses, and then a line, its status, and its calls in order. It writes
-/// no file that is there before.
+/// A module in `m` and replies in `r`, lines that are answered before, with their statuses, and
+/// then a line, its status, and its calls in order. It writes no file that is there before.
 struct Row {
     source: &'static [u8],
     replies: &'static str,
@@ -172,7 +173,8 @@ const TESTED: [Row; 1] = [Row {
     ],
 }];
 
-/// The length of a file that was not there, behind these calls, of which the last one fails behind a part of its piece; nothing where it is not made.
+/// The length of a file that was not there, behind these calls, of which the last one fails behind
+/// a part of its piece; nothing where it is not made.
 fn length_left(calls: &[Call], part: usize, name: &str) -> Option<usize> {
     let mut length = None;
     for (index, (file, act)) in calls.iter().enumerate() {
@@ -194,7 +196,8 @@ fn length_behind(act: Act, held: Option<usize>, fails: bool, part: usize) -> Opt
     }
 }
 
-/// Whether a file holds the front of another one, of so many bytes or all of it, or, without a length, is not there.
+/// Whether a file holds the front of another one, of so many bytes or all of it, or, without a
+/// length, is not there.
 fn is_front(got: Option<&[u8]>, whole: Option<&[u8]>, length: Option<usize>) -> bool {
     match (got, whole, length) {
         (None, _, None) => true,
@@ -203,8 +206,8 @@ fn is_front(got: Option<&[u8]>, whole: Option<&[u8]>, length: Option<usize>) -> 
     }
 }
 
-/// Whether behind these calls, of which the last one fails behind a part of its piece, each file that the row reads is as it was, and each that it writes
-/// holds what these calls wrote.
+/// Whether behind these calls, of which the last one fails behind a part of its piece, each file
+/// that the row reads is as it was, and each that it writes holds what these calls wrote.
 fn are_left(files: &MemFiles, done: &MemFiles, row: &Row, calls: &[Call], part: usize) -> bool {
     for (name, act) in row.calls {
         let is_left = match act {
@@ -233,7 +236,8 @@ fn blames(text: &[u8], file: &str) -> bool {
     }
 }
 
-/// The files that the row reads, as they are in others. Of the calls one fails, behind a part of its piece.
+/// The files that the row reads, as they are in others. Of the calls one fails, behind a part of
+/// its piece.
 fn failing_files(
     alloc: Global,
     done: &MemFiles,
@@ -300,7 +304,8 @@ fn failing_output(alloc: Global, part: usize) -> Result<MemSink, AllocError> {
     Ok(out)
 }
 
-/// Whether these words get this status over the files that the row reads, of which no call of the row fails, and write what they write there.
+/// Whether these words get this status over the files that the row reads, of which no call of the
+/// row fails, and write what they write there.
 fn is_done(
     alloc: Global,
     words: &[String],

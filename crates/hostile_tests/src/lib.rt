@@ -1,5 +1,5 @@
-//! Broken input, and faults at each call of the files and of the output, tested over files in memory. The tests stand apart from `pm_cli`, so that
-//! it is not proved a second time with them.
+//! Broken input, and faults at each call of the files and of the output, tested over files in
+//! memory. The tests stand apart from `pm_cli`, so that it is not proved a second time with them.
 #![tactic(auto)]
 
 #[cfg(test)]

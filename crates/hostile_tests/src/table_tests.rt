@@ -1,5 +1,6 @@
-//! Fronts of files, and files of which a byte is replaced. Which of them are whole was worked out by the grammar of modules (Core 5.5) and that
-//! of dumps; wabt's `wasm-validate` accepts the same modules.
+//! Fronts of files, and files of which a byte is replaced. Which of them are whole was worked out
+//! by the grammar of modules (Core 5.5) and that of dumps; wabt's `wasm-validate` accepts the same
+//! modules.
 
 use crate::trial::{answers, files_of, status_alone, words_of};
 use pm_outside::{MemFiles, MemSink};
@@ -17,8 +18,8 @@ fn status_of(alloc: Global, words: &[String], bytes: &[u8]) -> Option<u8> {
     Some(status_alone(alloc, words, &mut files, &mut out))
 }
 
-/// The length of the first front, the empty one and the whole among them, that does not get status 0 where its length is one of these, and else
-/// the other status.
+/// The length of the first front, the empty one and the whole among them, that does not get status
+/// 0 where its length is one of these, and else the other status.
 fn first_wrong_front(
     alloc: Global,
     words: &[String],
@@ -39,7 +40,8 @@ fn first_wrong_front(
     None
 }
 
-// There the header, the types, the code and each custom section end. Between the types and the code the bodies of a declared function are missing.
+// There the header, the types, the code and each custom section end. Between the types and the code
+// the bodies of a declared function are missing.
 #[test]
 fn fronts_of_a_module_are_checked(rt: HostRuntime) -> Result<(), Fail> {
     let words = words_of(rt.alloc(), "check;m")?;
@@ -68,8 +70,9 @@ fn replaced(alloc: Global, bytes: &[u8], at: usize, byte: u8) -> Result<Vec<u8>,
     Ok(copy)
 }
 
-/// How many of the 256 bytes make a valid module where they stand at a place of [`DIVISION`]; nothing where one gets a status that `check` can't answer of a
-/// file that is there: other than valid, malformed, with a float or an import that is no function, invalid, and past a limit.
+/// How many of the 256 bytes make a valid module where they stand at a place of [`DIVISION`];
+/// nothing where one gets a status that `check` can't answer of a file that is there: other than
+/// valid, malformed, with a float or an import that is no function, invalid, and past a limit.
 fn valid_at(alloc: Global, words: &[String], at: usize) -> Option<u32> {
     let mut valid = 0u32;
     for byte in 0..256u32 {
@@ -119,7 +122,8 @@ fn first_refused(alloc: Global, files: &mut MemFiles) -> Option<usize> {
 
 const DIED: &str = "trap 4 out of bounds memory access\nat function 0 offset 43\nhost calls 0\n";
 
-// What can't be read of debugging information is passed over, so that the commands are done whatever it holds.
+// What can't be read of debugging information is passed over, so that the commands are done
+// whatever it holds.
 #[test]
 fn each_byte_of_debugging_information_is_replaced(rt: HostRuntime) -> Result<(), Fail> {
     let alloc = rt.alloc();

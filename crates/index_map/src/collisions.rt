@@ -1,4 +1,5 @@
-//! The names that the rewriting takes: the module of the collector's imports, and the export of the memory.
+//! The names that the rewriting takes: the module of the collector's imports, and the export of the
+//! memory.
 
 ghost use Rattle.std.specs.Prelude.{◌≡◌, ℕ, false, None, Some, codes, slice_get};
 ghost use Rattle.std.specs.List.{AllByRecursion, position_from};

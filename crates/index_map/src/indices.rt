@@ -18,7 +18,8 @@ use std::alloc::Global;
 use std::marker::Model;
 use wasm_syntax::{Items, Module, ModuleParts, ValType};
 
-/// Where functions, the flag and helpers stand in the rewriting of a module. Contracts see it as the module.
+/// Where functions, the flag and helpers stand in the rewriting of a module. Contracts see it as
+/// the module.
 #[derive(Drop)]
 pub struct IndexMap<'a> {
     parts: &'a ModuleParts,
@@ -27,7 +28,8 @@ pub struct IndexMap<'a> {
     wrapped: Items<u32>,
     exports: Items<u32>,
     helped: Items<u32>,
-    /// For each type of the module, how many of the types with a helper stand behind it; None where it has none.
+    /// For each type of the module, how many of the types with a helper stand behind it; None where
+    /// it has none.
     places: Items<Option<usize>>,
 }
 
@@ -132,8 +134,8 @@ impl<'a> IndexMap<'a> {
         self.parts.globals.len() as u32
     }
 
-    /// The functions that have a wrapper: one for each export of a function that the module defines, and the start function, where the
-    /// module defines it.
+    /// The functions that have a wrapper: one for each export of a function that the module
+    /// defines, and the start function, where the module defines it.
     pub fn wrapped(&self) -> &[u32]
         ensures { result.now ≡ wrapped self.now }
     {

@@ -10,7 +10,8 @@ ghost use Rattle.rewrite_bodies.specs.Numbering.{frame_import, helped, helper_ba
 ghost use Rattle.rewrite_modules.specs.Weight.{type_used, types_used};
 ghost use Rattle.index_map.specs.Wrapper.{HasWrapper, wrapper_of};
 
-/// A type that an instruction of the module uses has a helper, and the types that flat code uses are those of its trees.
+/// A type that an instruction of the module uses has a helper, and the types that flat code uses
+/// are those of its trees.
 pub fn used_types_have_helpers()
     ensures flat { (m : Parts) (i j t : ℕ) (body : Body) (o : Op) → slice_get m.bodies i ≡ Some body
         → slice_get body.ops j ≡ Some o → type_used o.code ≡ t ∷ []
@@ -18,8 +19,8 @@ pub fn used_types_have_helpers()
     ensures trees { (p : Program) → IsProgram p → helped p ≡ types_used p.module_ }
 {}
 
-/// The numbers of functions are distinct: those of the module's functions, of the collector's imports, of the wrappers behind them and of
-/// the helpers behind these.
+/// The numbers of functions are distinct: those of the module's functions, of the collector's
+/// imports, of the wrappers behind them and of the helpers behind these.
 pub fn numbers_are_distinct()
     ensures functions { (m : Parts) (f g : ℕ) → mapped m f ≡ mapped m g → f ≡ g }
     ensures values { (m : Parts) (t u : Sort) → value_import m t ≡ value_import m u → t ≡ u }

@@ -1,4 +1,5 @@
-//! Where the functions, the flag and the helpers stand in a rewritten module, and whether a module has a name that the rewriting takes.
+//! Where the functions, the flag and the helpers stand in a rewritten module, and whether a module
+//! has a name that the rewriting takes.
 #![tactic(auto)]
 
 mod collisions;

@@ -58,7 +58,8 @@ pub(crate) fn push_start(out: &mut Vec<u32>, parts: &ModuleParts) -> Result<(), 
     }
 }
 
-/// Adds the index of an export in the rewritten module, where the next wrapper stands at this index. Gives the index of the wrapper behind.
+/// Adds the index of an export in the rewritten module, where the next wrapper stands at this
+/// index. Gives the index of the wrapper behind.
 fn push_index(
     out: &mut Vec<u32>,
     imports: usize,

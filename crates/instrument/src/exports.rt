@@ -55,7 +55,8 @@ fn push_memory(alloc: Global, out: &mut Exports, memories: &LimitsList) -> Resul
     Ok(())
 }
 
-/// The exports of the module, those of functions that it defines with the indices of their wrappers, and behind them its memory.
+/// The exports of the module, those of functions that it defines with the indices of their
+/// wrappers, and behind them its memory.
 pub(crate) fn new_exports(alloc: Global, numbers: &IndexMap<'_>) -> Result<Exports, NoMemory>
     ensures { IfOk result (λ exports. exports
         ≡ new_exports numbers.now 0 numbers.now.exports ++ memory_export numbers.now.memories) }

@@ -39,8 +39,9 @@ fn new_parts(alloc: Global, numbers: &IndexMap<'_>, bodies: Bodies) -> Result<Mo
     })
 }
 
-/// The rewritten module with the bodies of its functions: those of the module, rewritten, in their order; of wrappers, in that of
-/// `IndexMap::wrapped`; and of helpers, in that of `IndexMap::helped`. Its instructions have numbers in place of offsets, and no lengths.
+/// The rewritten module with the bodies of its functions: those of the module, rewritten, in their
+/// order; of wrappers, in that of `IndexMap::wrapped`; and of helpers, in that of
+/// `IndexMap::helped`. Its instructions have numbers in place of offsets, and no lengths.
 pub fn assemble(alloc: Global, numbers: &IndexMap<'_>, bodies: Bodies) -> Result<Module, NoMemory>
     requires { AreBodies numbers.now bodies }
     ensures rewriting { IfOk result (λ other. IsRewriting numbers.now other) }

@@ -15,9 +15,9 @@ use rewrite_limits::first_excess;
 use std::alloc::Global;
 use wasm_syntax::{Heights, Module, Quantity};
 
-/// Why a module is not rewritten, the first cause in this order: the first import from the collector's module; the export that has the
-/// name under which the memory is exported; the first quantity that passes its greatest number, and how much there is of it. Or memory is
-/// wanting.
+/// Why a module is not rewritten, the first cause in this order: the first import from the
+/// collector's module; the export that has the name under which the memory is exported; the first
+/// quantity that passes its greatest number, and how much there is of it. Or memory is wanting.
 #[derive(Clone, Copy, PartialEq, Eq)]
 pub enum InstrFault {
     ImportCollision { index: u32 },
@@ -41,9 +41,10 @@ fn is_whole(source: &Module)
     let _ = source.parts();
 }
 
-/// The numbers of the rewriting of a module, or the first cause why it is not rewritten. The module is valid and within the limits of the
-/// decoder and of validation, and its operand heights are these; its lengths are those of a spelling, and the offsets of its accesses are
-/// numbers of 32 bits.
+/// The numbers of the rewriting of a module, or the first cause why it is not rewritten. The module
+/// is valid and within the limits of the decoder and of validation, and its operand heights are
+/// these; its lengths are those of a spelling, and the offsets of its accesses are numbers of 32
+/// bits.
 pub fn admitted<'a>(
     alloc: Global,
     source: &'a Module,

@@ -84,8 +84,8 @@ fn instrument_bytes<F: Files>(
     }
 }
 
-/// Rewrites the module in the file `source`, and writes what it is rewritten to under the name `out`. A file that faults is named in the
-/// answer.
+/// Rewrites the module in the file `source`, and writes what it is rewritten to under the name
+/// `out`. A file that faults is named in the answer.
 ///
 /// # Errors
 ///

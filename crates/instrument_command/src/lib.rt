@@ -1,4 +1,5 @@
-//! The command `instrument`: the module in a file is rewritten, and what it is rewritten to is written under another name.
+//! The command `instrument`: the module in a file is rewritten, and what it is rewritten to is
+//! written under another name.
 #![tactic(auto)]
 
 mod command;

@@ -65,8 +65,8 @@ fn refused(alloc: Global, fault: InstrFault) -> Result<Outcome, NoMemory>
     }
 }
 
-/// Rewrites a valid module, or refuses it for the first cause. The module's lengths are those of a spelling, and the offsets of its accesses
-/// are numbers of 32 bits.
+/// Rewrites a valid module, or refuses it for the first cause. The module's lengths are those of a
+/// spelling, and the offsets of its accesses are numbers of 32 bits.
 pub fn rewrite(alloc: Global, source: &Validated) -> Result<Rewritten, NoMemory>
     requires valid { Valid source.now }
     requires sized { Sized source.now }

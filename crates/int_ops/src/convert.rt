@@ -37,7 +37,8 @@ pub fn i32_narrow(bits: Narrow32, a: u32) -> u32
     }
 }
 
-/// The lowest 8, 16 or 32 bits, read as signed (`i64.extend8_s`, `i64.extend16_s`, `i64.extend32_s`).
+/// The lowest 8, 16 or 32 bits, read as signed (`i64.extend8_s`, `i64.extend16_s`,
+/// `i64.extend32_s`).
 pub fn i64_narrow(bits: Narrow64, a: u64) -> u64
     ensures { result ≡ extend64 bits a }
 {

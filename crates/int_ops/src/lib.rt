@@ -1,4 +1,5 @@
-//! The integer operations of WebAssembly (Core 1.0, 4.3; the sign extensions of Core 2.0, 4.3), on machine words.
+//! The integer operations of WebAssembly (Core 1.0, 4.3; the sign extensions of Core 2.0, 4.3), on
+//! machine words.
 #![tactic(auto)]
 
 mod convert;

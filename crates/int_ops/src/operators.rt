@@ -11,7 +11,8 @@ pub enum Unary {
     Popcnt,
 }
 
-/// A comparison of two integers (Core 2.4.1). `S` compares as signed, `U` as unsigned. `eqz` is `Eq` with 0.
+/// A comparison of two integers (Core 2.4.1). `S` compares as signed, `U` as unsigned. `eqz` is
+/// `Eq` with 0.
 #[derive(Clone, Copy, PartialEq, Eq)]
 pub enum Compare {
     Eq,

@@ -84,8 +84,8 @@ fn rotr(a: u32, by: u32) -> u32
     a.rotate_right(by)
 }
 
-/// `i32.add`, `i32.sub` and the other operations on two integers.
-/// `DivideByZero` exactly where the divisor of a division or remainder is 0, `Overflow` exactly at `i32.div_s` of -2^31 by -1.
+/// `i32.add`, `i32.sub` and the other operations on two integers. `DivideByZero` exactly where the
+/// divisor of a division or remainder is 0, `Overflow` exactly at `i32.div_s` of -2^31 by -1.
 #[tactic(auto, unfolding(crate::specs::Integers::binary))]
 pub fn i32_binary(op: Binary, a: u32, b: u32) -> Result<u32, ArithTrap>
     ensures { result ≡ binary 32 op a b }

@@ -86,8 +86,8 @@ fn rotr(a: u64, by: u64) -> u64
     a.rotate_right((by % 64) as u32)
 }
 
-/// `i64.add`, `i64.sub` and the other operations on two integers.
-/// `DivideByZero` exactly where the divisor of a division or remainder is 0, `Overflow` exactly at `i64.div_s` of -2^63 by -1.
+/// `i64.add`, `i64.sub` and the other operations on two integers. `DivideByZero` exactly where the
+/// divisor of a division or remainder is 0, `Overflow` exactly at `i64.div_s` of -2^63 by -1.
 #[tactic(auto, unfolding(crate::specs::Integers::binary))]
 pub fn i64_binary(op: Binary, a: u64, b: u64) -> Result<u64, ArithTrap>
     ensures { result ≡ binary 64 op a b }

@@ -44,8 +44,8 @@ fn steps_on(lines: &[LineCount], spot: Spot) -> u64
 }
 
 impl Coverage {
-    /// Where the steps fell that were counted of runs of the module `source`, by these line programs: a step falls on the line of the first one
-    /// that has a row of its address.
+    /// Where the steps fell that were counted of runs of the module `source`, by these line
+    /// programs: a step falls on the line of the first one that has a row of its address.
     pub fn of(
         alloc: Global,
         tables: &Vec<&Lines<'_>>,
@@ -74,7 +74,8 @@ impl Coverage {
         self.lines.as_slice()
     }
 
-    /// How many steps fell on a line of a file of a line program, of which the first has the number 0. It looks through all lines.
+    /// How many steps fell on a line of a file of a line program, of which the first has the number
+    /// 0. It looks through all lines.
     pub fn count(&self, table: usize, file: u32, line: u32) -> u64
         ensures { result
             ≡ count_on self.now (record { table = table; file = file; line = line }) }

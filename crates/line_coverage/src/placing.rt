@@ -1,5 +1,6 @@
-//! Steps at addresses that become steps on lines. Each sequence takes the addresses that it holds and that none before it took, so that each
-//! address is looked up once, however many line programs there are.
+//! Steps at addresses that become steps on lines. Each sequence takes the addresses that it holds
+//! and that none before it took, so that each address is looked up once, however many line programs
+//! there are.
 
 ghost use Rattle.std.specs.Prelude.{◌≡◌, ◌<◌, true, false, Some, IfSome, IfNone, IfOk, OnOk};
 ghost use Rattle.std.specs.Prelude.{[], length, map};

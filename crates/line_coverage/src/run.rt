@@ -47,9 +47,10 @@ impl From<NoMemory> for CoverFault {
 }
 
 impl Coverage {
-    /// Invokes a function of a new instance of the module `source` as `Instance::invoke` does, and counts on which lines the steps fall: those of
-    /// the start function and of the entry, the one that traps among them. Where memory was wanting in the run the answer says so, and the counts
-    /// are those of steps that were made.
+    /// Invokes a function of a new instance of the module `source` as `Instance::invoke` does, and
+    /// counts on which lines the steps fall: those of the start function and of the entry, the one
+    /// that traps among them. Where memory was wanting in the run the answer says so, and the
+    /// counts are those of steps that were made.
     pub fn run<H: HostSide>(
         alloc: Global,
         tables: &Vec<&Lines<'_>>,

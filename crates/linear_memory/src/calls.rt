@@ -52,7 +52,8 @@ pub enum Answer {
     Loaded(Option<u64>),
     Stored(Result<(), StoreFault>),
     Grew(GrowAnswer),
-    /// The bytes of a page that is made, or None where the page is not made or the memory has no such page.
+    /// The bytes of a page that is made, or None where the page is not made or the memory has no
+    /// such page.
     Page(Option<Vec<u8>>),
     Copied,
 }

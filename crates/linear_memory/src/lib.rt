@@ -1,4 +1,5 @@
-//! A linear memory of WebAssembly (Core 4.2.8) in pages of 65,536 bytes, each made at its first write.
+//! A linear memory of WebAssembly (Core 4.2.8) in pages of 65,536 bytes, each made at its first
+//! write.
 #![tactic(auto)]
 
 mod calls;

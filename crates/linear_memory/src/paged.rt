@@ -15,8 +15,9 @@ use crate::{GrowAnswer, NoMemory, StoreFault};
 use std::alloc::Global;
 use std::marker::Model;
 
-/// A linear memory. Contracts see its bytes, its maximum in pages, and which pages are made. A page takes memory when it is made,
-/// at its first write; until then it reads as zeros. A page stays where it is until the memory is dropped.
+/// A linear memory. Contracts see its bytes, its maximum in pages, and which pages are made. A page
+/// takes memory when it is made, at its first write; until then it reads as zeros. A page stays
+/// where it is until the memory is dropped.
 #[derive(Drop)]
 pub struct Memory {
     pages: Vec<Page>,
@@ -41,7 +42,8 @@ impl Model for Memory {
 }
 
 impl Memory {
-    /// A memory of zeros. `pages` is its size, and `max` the most that it may have, both in pages. No page is made.
+    /// A memory of zeros. `pages` is its size, and `max` the most that it may have, both in pages.
+    /// No page is made.
     pub fn new(alloc: Global, pages: u32, max: u32) -> Result<Memory, NoMemory>
         requires { (pages ≤ max) × (max ≤ 4096) }
         ensures memory { IfOk result (λ m. m.memory ≡ zeroed pages max) }
@@ -69,7 +71,8 @@ impl Memory {
         self.pages.len() as u32
     }
 
-    /// The number in the `width` bytes from `at` on, the lowest first. None past the end (Core 4.4.4, `load`).
+    /// The number in the `width` bytes from `at` on, the lowest first. None past the end (Core
+    /// 4.4.4, `load`).
     #[tactic(auto, using(crate::proofs::Contents::length_of_contents))]
     #[inline(always)]
     pub fn load(&self, at: u64, width: u32) -> Option<u64>
@@ -103,7 +106,8 @@ impl Memory {
         }
     }
 
-    /// Writes the `width` lowest bytes of a number from `at` on, the lowest first (Core 4.4.4, `store`).
+    /// Writes the `width` lowest bytes of a number from `at` on, the lowest first (Core 4.4.4,
+    /// `store`).
     #[tactic(auto, using(crate::proofs::Contents::length_of_contents))]
     #[inline(always)]
     pub fn store(&mut self, at: u64, width: u32, value: u64) -> Result<(), StoreFault>
@@ -165,7 +169,8 @@ impl Memory {
         Ok(())
     }
 
-    /// Copies `len` bytes from `from` on, as they were before the call, to `to` (Core 2.0 4.4.7, `memory.copy`).
+    /// Copies `len` bytes from `from` on, as they were before the call, to `to` (Core 2.0 4.4.7,
+    /// `memory.copy`).
     #[tactic(auto, using(crate::proofs::Contents::length_of_contents))]
     pub fn copy(&mut self, to: u64, from: u64, len: u64) -> Result<(), StoreFault>
         ensures out { (result ≡ Err StoreFault.Out) ↔

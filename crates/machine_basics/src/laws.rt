@@ -7,7 +7,8 @@ ghost use Rattle.wasm_syntax.specs.declared.value.Value.{Value as Val};
 ghost use Rattle.machine_basics.specs.inner.Keeps.{EffectKeeps};
 ghost use Rattle.machine_basics.specs.Performs.{on_operands};
 
-/// No instruction changes the number of locals or globals, the table, the replies that are left or what was served.
+/// No instruction changes the number of locals or globals, the table, the replies that are left or
+/// what was served.
 pub fn effects_keep()
     ensures { (i : Instruction) (w : World) (locals operands : List Val)
         → EffectKeeps w locals (on_operands i w locals operands) }

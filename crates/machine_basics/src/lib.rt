@@ -1,5 +1,5 @@
-//! The instructions behind which the next one is run (Core 4.4.1 to 4.4.4, and of Core 2.0 the sign extensions, `memory.copy` and
-//! `memory.fill`), on the values of a frame and on what frames share.
+//! The instructions behind which the next one is run (Core 4.4.1 to 4.4.4, and of Core 2.0 the sign
+//! extensions, `memory.copy` and `memory.fill`), on the values of a frame and on what frames share.
 #![tactic(auto)]
 
 mod access;

@@ -89,7 +89,8 @@ pub(crate) fn size(values: &mut Stack<Value>, shared: &Shared) -> Performed
     }
 }
 
-/// The size before in pages, or -1 where there would be too many pages, as an i32. None where memory ran out.
+/// The size before in pages, or -1 where there would be too many pages, as an i32. None where
+/// memory ran out.
 fn grow_by(memory: &mut Memory, count: u32) -> Option<u32>
     ensures { Grows result memory.old memory.new count }
 {

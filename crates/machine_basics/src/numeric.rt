@@ -1,4 +1,5 @@
-//! Numeric instructions on values (Core 4.4.1). None where an operand is not of the instruction's type.
+//! Numeric instructions on values (Core 4.4.1). None where an operand is not of the instruction's
+//! type.
 
 ghost use Rattle.std.specs.Prelude.{◌≡◌, ◌==◌, option_map};
 ghost use Rattle.int_ops.specs.Integers.{extend32 as extended_32, extend64 as extended_64};

@@ -1,4 +1,5 @@
-//! Instructions on operands alone (Core 4.4.1, 4.4.2). Where the operands do not fit the instruction, nothing is said of them.
+//! Instructions on operands alone (Core 4.4.1, 4.4.2). Where the operands do not fit the
+//! instruction, nothing is said of them.
 
 ghost use Rattle.std.specs.Prelude.{◌≡◌, ◌∷◌, List, drop, slice_set, IfSome};
 ghost use Rattle.wasm_syntax.specs.Host.{World};

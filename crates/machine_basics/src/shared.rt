@@ -65,7 +65,8 @@ impl Globals {
     }
 }
 
-/// The globals of an instance, in the order of their indices, and its memory if it has one (Core 4.2.5).
+/// The globals of an instance, in the order of their indices, and its memory if it has one (Core
+/// 4.2.5).
 #[derive(Drop)]
 pub struct Shared {
     pub globals: Globals,

@@ -6,8 +6,8 @@ use causes::NoMemory;
 use std::alloc::Global;
 use std::marker::Model;
 
-/// A stack, which contracts see as the list of its elements, the topmost first. A place is the number of elements below an element, and
-/// stays the same while the stack grows above it.
+/// A stack, which contracts see as the list of its elements, the topmost first. A place is the
+/// number of elements below an element, and stays the same while the stack grows above it.
 #[derive(Drop)]
 pub struct Stack<T> {
     items: Vec<T>,

@@ -11,8 +11,9 @@ use crate::stack::Stack;
 use crate::{memory, operands, variables};
 use wasm_syntax::{Basic, Value};
 
-/// Performs an instruction on the values of a frame, whose locals stand from the place `base` on, with its operands above them.
-/// `Trap` and `NoMemory` change nothing. Where the instruction does not fit the operands, nothing is said of them.
+/// Performs an instruction on the values of a frame, whose locals stand from the place `base` on,
+/// with its operands above them. `Trap` and `NoMemory` change nothing. Where the instruction does
+/// not fit the operands, nothing is said of them.
 pub fn perform(
     instruction: &Basic,
     base: usize,

@@ -13,7 +13,8 @@ use wasm_syntax::{Instr, Items, Op};
 /// Where a `block`, `loop` or `if` goes on, as indices of instructions.
 #[derive(Clone, Copy)]
 pub struct Side {
-    /// Of an `if`: the first instruction that is run where the condition is 0, which may be its `end`.
+    /// Of an `if`: the first instruction that is run where the condition is 0, which may be its
+    /// `end`.
     pub arm: usize,
     /// The instruction behind its `end`.
     pub end: usize,

@@ -124,7 +124,8 @@ pub fn call(
     }
 }
 
-/// Calls a defined function, by its index among these, with its arguments under the index of a table's entry, which is taken away.
+/// Calls a defined function, by its index among these, with its arguments under the index of a
+/// table's entry, which is taken away.
 pub fn call_under_index(
     m: &mut CallStack,
     codes: &[Code],

@@ -33,7 +33,8 @@ fn clear(m: &mut CallStack)
     m.frames.keep(0);
 }
 
-/// Leaves all frames and begins a defined function, by its index among these, on arguments in the parameters' order.
+/// Leaves all frames and begins a defined function, by its index among these, on arguments in the
+/// parameters' order.
 pub fn begin(m: &mut CallStack, codes: &[Code], function: usize, args: &[Value]) -> Stepped
     ensures { (p : Program) (body : FunctionBody) (tree : CodeTree) (type : Signature)
         → Prepares p codes.now → defined_at p function ≡ Some (defined body tree type)

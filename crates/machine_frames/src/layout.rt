@@ -32,8 +32,8 @@ pub struct CallFrame {
     pub returns_to: usize,
 }
 
-/// The frames of a run: for each its locals and above them its operands, over all of its open blocks; and the index of the instruction
-/// that the innermost one runs next.
+/// The frames of a run: for each its locals and above them its operands, over all of its open
+/// blocks; and the index of the instruction that the innermost one runs next.
 #[derive(Drop)]
 pub struct CallStack {
     pub values: Stack<Value>,

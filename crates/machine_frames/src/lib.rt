@@ -1,5 +1,5 @@
-//! Steps of control (Core 4.4.5, 4.4.7) over flat code: blocks, branches, calls and returns, on one stack of values, one of open blocks
-//! and one of frames.
+//! Steps of control (Core 4.4.5, 4.4.7) over flat code: blocks, branches, calls and returns, on one
+//! stack of values, one of open blocks and one of frames.
 #![tactic(auto)]
 
 mod blocks;

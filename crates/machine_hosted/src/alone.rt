@@ -1,4 +1,5 @@
-//! A call of an import with no frame (Core 4.5.5): of an entry or a start function that is imported.
+//! A call of an import with no frame (Core 4.5.5): of an entry or a start function that is
+//! imported.
 
 ghost use Rattle.std.specs.Prelude.{◌≡◌, ◌≤◌, ℕ, List, [], true, length, slice_get, Some};
 ghost use Rattle.wasm_syntax.specs.declared.host.CollectorCall.{CollectorCall as Collected};
@@ -37,8 +38,8 @@ fn leave_frames(m: &mut CallStack)
     m.frames.keep(0);
 }
 
-/// Takes the reply to a call with this result: first its writes are made, and then its value is what the call gives. Nothing is changed
-/// where it does not fit.
+/// Takes the reply to a call with this result: first its writes are made, and then its value is
+/// what the call gives. Nothing is changed where it does not fit.
 fn take_reply(shared: &mut Shared, wanted: Option<ValType>, reply: Reply) -> RunEnd
     ensures { (w : World) → Holds shared.old w → Took result wanted reply w shared.old shared.new }
 {
@@ -52,7 +53,8 @@ fn take_reply(shared: &mut Shared, wanted: Option<ValType>, reply: Reply) -> Run
     }
 }
 
-/// What a host side answers to a call of an import, by its index, on arguments in the parameters' order.
+/// What a host side answers to a call of an import, by its index, on arguments in the parameters'
+/// order.
 fn ask<H: HostSide>(
     alloc: Global,
     index: u32,
@@ -85,7 +87,8 @@ fn ask<H: HostSide>(
     }
 }
 
-/// Calls an import, by its index, with no frame, on arguments in the parameters' order. That is one step.
+/// Calls an import, by its index, with no frame, on arguments in the parameters' order. That is one
+/// step.
 pub(crate) fn call_alone<H: HostSide>(
     alloc: Global,
     m: &mut Machine,

@@ -23,7 +23,8 @@ pub enum RunEnd {
     NoMemory,
 }
 
-/// What a run of one function came to, and the number of steps that it made. A step that traps, or that has no fitting reply, counts.
+/// What a run of one function came to, and the number of steps that it made. A step that traps, or
+/// that has no fitting reply, counts.
 #[derive(Drop)]
 pub struct FunctionRun {
     pub answer: RunEnd,

@@ -19,8 +19,8 @@ use machine_frames::{Stepped, begin};
 use machine_steps::{Machine, Prepared};
 use wasm_syntax::Value;
 
-/// Leaves all frames and begins a defined function, by its index among these, on arguments in the parameters' order (Core 4.5.5). In a
-/// valid module no run from there gets stuck.
+/// Leaves all frames and begins a defined function, by its index among these, on arguments in the
+/// parameters' order (Core 4.5.5). In a valid module no run from there gets stuck.
 pub(crate) fn begin_function(
     m: &mut Machine,
     prepared: &Prepared,

@@ -50,7 +50,8 @@ fn takes(import: &Import, args: &[Value]) -> bool
     }
 }
 
-/// Whether a call of an import, with a result of this type, is one of the collector, where these are collected.
+/// Whether a call of an import, with a result of this type, is one of the collector, where these
+/// are collected.
 pub(crate) fn is_told(
     collects: bool,
     import: &Import,

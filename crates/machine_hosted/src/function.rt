@@ -16,8 +16,8 @@ use host_devices::HostSide;
 use machine_steps::{Machine, Unwatched};
 use wasm_syntax::Value;
 
-/// Runs a function of a valid module, the imported ones first, on arguments in the parameters' order, for at most so many steps. All frames
-/// are left before. A host side serves the imports.
+/// Runs a function of a valid module, the imported ones first, on arguments in the parameters'
+/// order, for at most so many steps. All frames are left before. A host side serves the imports.
 pub(crate) fn run_function<H: HostSide>(
     runner: &Runner<'_, '_>,
     m: &mut Machine,

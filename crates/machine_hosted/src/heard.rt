@@ -14,7 +14,8 @@ use pm_text::Text;
 use std::alloc::Global;
 use wasm_syntax::{FuncType, HostCall, Import, ValType, Values};
 
-/// What a host side answered to a call of an import, and whether that was a call of the collector, which takes no reply.
+/// What a host side answered to a call of an import, and whether that was a call of the collector,
+/// which takes no reply.
 #[derive(Drop)]
 pub struct Heard {
     pub answer: HostAnswer,
@@ -45,8 +46,8 @@ fn make_call(
     })
 }
 
-/// Asks the host side to serve a call of an import, by its index and with arguments of the parameters' types in their order. The memory is
-/// that of the run, where there is one.
+/// Asks the host side to serve a call of an import, by its index and with arguments of the
+/// parameters' types in their order. The memory is that of the run, where there is one.
 pub(crate) fn call_host<H: HostSide>(
     alloc: Global,
     import: &Import,

@@ -1,4 +1,5 @@
-//! What invocations come to: the start function where it is due, and then the entry (Core 4.5.4, 4.5.5).
+//! What invocations come to: the start function where it is due, and then the entry (Core 4.5.4,
+//! 4.5.5).
 
 ghost use Rattle.std.specs.Prelude.{◌≡◌, ◌==◌, not};
 ghost use Rattle.machine_basics.specs.Traps.{trap_code};
@@ -23,7 +24,8 @@ fn leaves_room(kind: TrapKind) -> bool
     }
 }
 
-/// Whether another invocation may follow one that came to this inside its entry, or inside the start function.
+/// Whether another invocation may follow one that came to this inside its entry, or inside the
+/// start function.
 fn may_follow(answer: &RunEnd, entered: bool) -> bool
     ensures { result ≡ follows_behind answer.now entered }
 {

@@ -25,8 +25,8 @@ pub fn start_world_fits()
         → WorldFits p.module_ (start_world p.module_ replies) }
 {}
 
-/// From the begin of a function of a valid module, in a world that fits, no number of steps gets stuck, and where the run ends or traps,
-/// the world fits again.
+/// From the begin of a function of a valid module, in a world that fits, no number of steps gets
+/// stuck, and where the run ends or traps, the world fits again.
 pub fn entered_runs_fit()
     ensures { (engine : Engine) (f : ℕ) (body : FunctionBody) (tree : CodeTree) (type : Signature)
         (args : List Val) (w : World) (co : List Collected) (n : ℕ) → ValidProgram engine.program
@@ -36,7 +36,8 @@ pub fn entered_runs_fit()
         (run_steps engine n (config (entered f body tree type args ∷ []) w co)).what }
 {}
 
-/// A machine that stands where the next step of a safe run leads, as behind a call of an import, begins a safe run there.
+/// A machine that stands where the next step of a safe run leads, as behind a call of an import,
+/// begins a safe run there.
 pub fn step_stays_safe()
     ensures { (engine : Engine) (prepared : Ready) (depth : ℕ) (c then : Config) (m later : Kept)
         → Begins engine prepared depth c m → step engine c ≡ next then
@@ -44,7 +45,8 @@ pub fn step_stays_safe()
         → Begins engine prepared depth then later }
 {}
 
-/// A machine that stands where so many steps of a safe run lead, as where the fuel is spent, begins a safe run there.
+/// A machine that stands where so many steps of a safe run lead, as where the fuel is spent, begins
+/// a safe run there.
 pub fn reached_stays_safe()
     ensures { (engine : Engine) (prepared : Ready) (depth n : ℕ) (c then : Config) (m later : Kept)
         → Begins engine prepared depth c m → Leads engine prepared.codes.items c n then
@@ -52,7 +54,8 @@ pub fn reached_stays_safe()
         → Begins engine prepared depth then later }
 {}
 
-/// Each step of an invocation is made where the run stands behind the steps before it: at the place of the last configuration for as many steps.
+/// Each step of an invocation is made where the run stands behind the steps before it: at the place
+/// of the last configuration for as many steps.
 pub fn steps_are_made_where_runs_stand()
     ensures { (engine : Engine) (start : Option ℕ) (n k f : ℕ) (args : List Val) (w : World)
         (at : Option Place) → slice_get (invocation_places engine start n f args w) k ≡ Some at

@@ -1,6 +1,6 @@
-//! Runs whose imports a host side serves (Core 4.4.7, 4.5.4, 4.5.5): a reply to a call of an import, a run of one function, and an
-//! invocation, which is the start function, where it is due, and the entry behind it. No run of a valid module gets stuck (Core, appendix
-//! "Soundness").
+//! Runs whose imports a host side serves (Core 4.4.7, 4.5.4, 4.5.5): a reply to a call of an
+//! import, a run of one function, and an invocation, which is the start function, where it is due,
+//! and the entry behind it. No run of a valid module gets stuck (Core, appendix "Soundness").
 #![tactic(auto)]
 
 mod alone;

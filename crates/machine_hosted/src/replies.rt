@@ -44,7 +44,8 @@ fn push_result(values: &mut Stack<Value>, value: Option<Value>) -> Result<(), No
     }
 }
 
-/// Ends a call of an import, which takes so many arguments, with the value of its reply. What frames share may have changed since the call.
+/// Ends a call of an import, which takes so many arguments, with the value of its reply. What
+/// frames share may have changed since the call.
 pub(crate) fn finish_call(
     m: &mut Machine,
     call: ImportCall,

@@ -19,7 +19,8 @@ use wasm_syntax::{Reply, ValType, Value};
 pub enum Replied {
     /// Its writes were made, and the machine goes on behind the call with its value.
     Done,
-    /// Its value is not of the result's type, or a write passes the end of the memory. Nothing is changed.
+    /// Its value is not of the result's type, or a write passes the end of the memory. Nothing is
+    /// changed.
     Misfit,
     NoMemory,
 }
@@ -36,9 +37,9 @@ pub(crate) fn fits_result(wanted: Option<ValType>, value: Option<Value>) -> bool
     }
 }
 
-/// Serves a call of an import, which takes so many arguments and gives a result of this type, with a reply: first its writes are made, and
-/// then its value is the result of the call. All of it is done, or nothing where it does not fit; after want of memory the machine is of no
-/// use.
+/// Serves a call of an import, which takes so many arguments and gives a result of this type, with
+/// a reply: first its writes are made, and then its value is the result of the call. All of it is
+/// done, or nothing where it does not fit; after want of memory the machine is of no use.
 pub(crate) fn serve(
     m: &mut Machine,
     call: ImportCall,

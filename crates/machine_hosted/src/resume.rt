@@ -18,8 +18,8 @@ use host_devices::HostSide;
 use machine_steps::Machine;
 use wasm_syntax::Value;
 
-/// Goes on with a function of a valid module, where it waits for steps, for at most so many. An import is called now, since a call is one
-/// step. A host side serves the imports.
+/// Goes on with a function of a valid module, where it waits for steps, for at most so many. An
+/// import is called now, since a call is one step. A host side serves the imports.
 fn resume_function<H: HostSide>(
     runner: &Runner<'_, '_>,
     m: &mut Machine,
@@ -91,8 +91,9 @@ fn resume_start<H: HostSide>(
     ended(then.answer, first.steps + then.steps, true)
 }
 
-/// Goes on with an invocation whose steps were used up, for at most so many more: with the entry where that was begun, and otherwise with
-/// the start function and then the entry. The machine stands where that stopped. A host side serves the imports.
+/// Goes on with an invocation whose steps were used up, for at most so many more: with the entry
+/// where that was begun, and otherwise with the start function and then the entry. The machine
+/// stands where that stopped. A host side serves the imports.
 pub fn resume_invocation<H: HostSide>(
     runner: &Runner<'_, '_>,
     m: &mut Machine,

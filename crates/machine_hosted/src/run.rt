@@ -12,8 +12,8 @@ use crate::watched_run::watch_frames;
 use host_devices::HostSide;
 use machine_steps::{Machine, Unwatched};
 
-/// Runs a function of a valid module, begun with `crate::begin_function`, for at most so many steps. The host side serves its imports.
-/// After want of memory the machine is of no use.
+/// Runs a function of a valid module, begun with `crate::begin_function`, for at most so many
+/// steps. The host side serves its imports. After want of memory the machine is of no use.
 pub(crate) fn run_frames<H: HostSide>(
     runner: &Runner<'_, '_>,
     m: &mut Machine,

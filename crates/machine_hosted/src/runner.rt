@@ -4,7 +4,8 @@ use machine_steps::Prepared;
 use std::alloc::Global;
 use wasm_syntax::ModuleParts;
 
-/// What the runs of a module have in common: the module, what it was prepared to, and how many frames there may be at most.
+/// What the runs of a module have in common: the module, what it was prepared to, and how many
+/// frames there may be at most.
 #[derive(Drop)]
 pub struct Runner<'a, 'b> {
     pub alloc: Global,

@@ -66,7 +66,8 @@ fn after_told(m: &mut Machine, call: ImportCall, ftype: &FuncType) -> Turn
     }
 }
 
-/// Reads the arguments of a call of an import, asks the host side, and goes on behind the call with its reply, or stops at it.
+/// Reads the arguments of a call of an import, asks the host side, and goes on behind the call with
+/// its reply, or stops at it.
 pub(crate) fn serve_import<H: HostSide>(
     runner: &Runner<'_, '_>,
     m: &mut Machine,

@@ -73,8 +73,9 @@ fn watch_defined<H: HostSide, W: Watch>(
     }
 }
 
-/// Runs a function of a valid module, the imported ones first, on arguments in the parameters' order, for at most so many steps, each of which
-/// the watch sees. All frames are left before. A host side serves the imports.
+/// Runs a function of a valid module, the imported ones first, on arguments in the parameters'
+/// order, for at most so many steps, each of which the watch sees. All frames are left before. A
+/// host side serves the imports.
 pub(crate) fn watch_function<H: HostSide, W: Watch>(
     runner: &Runner<'_, '_>,
     m: &mut Machine,

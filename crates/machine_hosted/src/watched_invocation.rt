@@ -1,4 +1,5 @@
-//! Invocations whose steps a watch sees: the start function where it is due, and then the entry (Core 4.5.4, 4.5.5).
+//! Invocations whose steps a watch sees: the start function where it is due, and then the entry
+//! (Core 4.5.4, 4.5.5).
 
 ghost use Rattle.std.specs.Prelude.{◌≡◌, ◌≤◌, true, [], IfSome, Some};
 ghost use Rattle.wasm_syntax.specs.Module.{Program, IsProgram};
@@ -16,7 +17,8 @@ use host_devices::HostSide;
 use machine_steps::{Machine, Watch};
 use wasm_syntax::Value;
 
-/// Runs the start function of this index, and then the entry where it ended. The watch sees each step.
+/// Runs the start function of this index, and then the entry where it ended. The watch sees each
+/// step.
 fn watch_with_start<H: HostSide, W: Watch>(
     runner: &Runner<'_, '_>,
     m: &mut Machine,
@@ -56,8 +58,9 @@ fn watch_with_start<H: HostSide, W: Watch>(
     ended(then.answer, first.steps + then.steps, true)
 }
 
-/// Runs the start function, where it is due, and then the entry on its arguments in the parameters' order, for at most so many steps in all.
-/// The watch sees each step. A host side serves the imports.
+/// Runs the start function, where it is due, and then the entry on its arguments in the parameters'
+/// order, for at most so many steps in all. The watch sees each step. A host side serves the
+/// imports.
 pub fn watch_invocation<H: HostSide, W: Watch>(
     runner: &Runner<'_, '_>,
     m: &mut Machine,

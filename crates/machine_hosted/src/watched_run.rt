@@ -14,8 +14,9 @@ use crate::turn::{Turn, serve_import};
 use host_devices::HostSide;
 use machine_steps::{Machine, Outcome, Watch, run_watched};
 
-/// Runs a function of a valid module, begun with `crate::begin_function`, for at most so many steps, each of which the watch sees. The host
-/// side serves its imports. After want of memory the machine is of no use.
+/// Runs a function of a valid module, begun with `crate::begin_function`, for at most so many
+/// steps, each of which the watch sees. The host side serves its imports. After want of memory the
+/// machine is of no use.
 pub(crate) fn watch_frames<H: HostSide, W: Watch>(
     runner: &Runner<'_, '_>,
     m: &mut Machine,

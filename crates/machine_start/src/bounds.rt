@@ -1,4 +1,5 @@
-//! Whether the segments of a module lie inside its table and its memory, which is judged before anything is written.
+//! Whether the segments of a module lie inside its table and its memory, which is judged before
+//! anything is written.
 
 ghost use Rattle.std.specs.Prelude.{◌≡◌, ◌<◌, ◌^◌, ◌*◌, option_map, length, map};
 ghost use Rattle.linear_memory.specs.Memory.{page_size};
@@ -98,7 +99,8 @@ fn data_out(m: &ModuleParts) -> Option<u32>
     None
 }
 
-/// The first segment that passes the end of what it is put into, where the element segments come first (Core 4.5.4). It takes no memory.
+/// The first segment that passes the end of what it is put into, where the element segments come
+/// first (Core 4.5.4). It takes no memory.
 pub fn segment_out(m: &ModuleParts) -> Option<SegmentOut>
     requires elements { Short m.now.elements }
     requires segments { Short m.now.segments }

@@ -1,4 +1,5 @@
-//! The start of an instance (Core 4.5.4): its globals, its table and its memory, once each segment was found to lie inside.
+//! The start of an instance (Core 4.5.4): its globals, its table and its memory, once each segment
+//! was found to lie inside.
 #![tactic(auto)]
 
 mod bounds;

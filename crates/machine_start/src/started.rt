@@ -15,8 +15,8 @@ use machine_basics::Shared;
 use std::alloc::Global;
 use wasm_syntax::{Items, ModuleParts};
 
-/// Why an instance does not start: at the first segment that passes the end of what it is put into, by its index among its kind; or for
-/// want of memory.
+/// Why an instance does not start: at the first segment that passes the end of what it is put into,
+/// by its index among its kind; or for want of memory.
 #[derive(Clone, Copy, Debug, PartialEq, Eq)]
 pub enum StartFault {
     ElementOut { index: u32 },
@@ -32,15 +32,16 @@ impl From<NoMemory> for StartFault {
     }
 }
 
-/// What an instance has at its start: its globals and its memory, and the functions in its table, which is empty where there is none.
+/// What an instance has at its start: its globals and its memory, and the functions in its table,
+/// which is empty where there is none.
 #[derive(Drop)]
 pub struct Started {
     pub shared: Shared,
     pub table: Items<Option<u32>>,
 }
 
-/// Starts an instance of a valid module (Core 4.5.4). All segments are judged first, the element segments before the data segments, and
-/// nothing is made where one of them passes the end.
+/// Starts an instance of a valid module (Core 4.5.4). All segments are judged first, the element
+/// segments before the data segments, and nothing is made where one of them passes the end.
 pub fn start(alloc: Global, m: &ModuleParts) -> Result<Started, StartFault>
     requires valid { Valid m.now }
     requires limits { WithinLimits m.now }

@@ -1,4 +1,5 @@
-//! Steps of a machine over flat code (Core 4.4), of its frames, its globals and its memory, and runs with fuel up to a call of an import.
+//! Steps of a machine over flat code (Core 4.4), of its frames, its globals and its memory, and
+//! runs with fuel up to a call of an import.
 #![tactic(auto)]
 
 mod indirect;

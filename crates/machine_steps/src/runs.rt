@@ -9,14 +9,16 @@ use crate::machine::{Machine, Outcome, Prepared};
 use crate::steps::step;
 use crate::watch::{Unwatched, Watch, standing};
 
-/// What a run came to, and the number of steps that it made. The step that traps counts; a call of an import is not made yet.
+/// What a run came to, and the number of steps that it made. The step that traps counts; a call of
+/// an import is not made yet.
 #[derive(Clone, Copy)]
 pub struct Ended {
     pub outcome: Outcome,
     pub steps: u64,
 }
 
-/// At most so many steps, up to the first one that does not go on. `Next` says that the fuel is spent.
+/// At most so many steps, up to the first one that does not go on. `Next` says that the fuel is
+/// spent.
 pub fn run(m: &mut Machine, prepared: &Prepared, depth: usize, fuel: u64) -> Ended
     ensures { (engine : Engine) (c : Config) → Begins engine prepared.now depth c m.old
         → Came engine prepared.now.codes.items c fuel result.outcome result.steps m.new }

@@ -12,7 +12,8 @@ use std::alloc::Global;
 use std::marker::Model;
 use wasm_syntax::{Body, ModuleParts};
 
-/// How many steps were made at each instruction of a module, and how many at none. A count stops at 2^64 - 1.
+/// How many steps were made at each instruction of a module, and how many at none. A count stops at
+/// 2^64 - 1.
 #[derive(Drop)]
 pub struct Tally {
     // For each defined function, by the index of the instruction.
@@ -73,8 +74,8 @@ impl Tally {
         })
     }
 
-    /// The counts of a function, by its index among those that the module defines: one for each instruction, in their order. Empty where there is
-    /// no such function.
+    /// The counts of a function, by its index among those that the module defines: one for each
+    /// instruction, in their order. Empty where there is no such function.
     pub fn of_function(&self, function: usize) -> &[u64]
         ensures { result.now ≡ slice_index_or self.now.cells function [] }
     {

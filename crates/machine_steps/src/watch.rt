@@ -8,7 +8,8 @@ ghost use Rattle.machine_steps.specs.inner.Watched.{position_of};
 
 use crate::machine::Machine;
 
-/// Where a machine stands: the index of a function among those that the module defines, and of an instruction in its flat body.
+/// Where a machine stands: the index of a function among those that the module defines, and of an
+/// instruction in its flat body.
 #[derive(Clone, Copy)]
 pub struct Position {
     pub function: usize,

@@ -567,7 +567,8 @@ fn memory(rt: HostRuntime) -> Result<(), Fail> {
     Ok(())
 }
 
-/// Two locals over a value of the frame below, by hand from Core 4.4.3, and how all values stand behind these instructions.
+/// Two locals over a value of the frame below, by hand from Core 4.4.3, and how all values stand
+/// behind these instructions.
 const LOCALS: [Value; 3] = [Value::I32(99), Value::I32(1), Value::I64(2)];
 
 const MOVES: [Basic; 9] = [

@@ -13,8 +13,8 @@ use wasm_machine::{End, Instance};
 use wasm_syntax::{Import, Reply, Value};
 use wasm_validate::Validated;
 
-/// What is invoked for 1,000 steps, the index of the function, the number of the first reply that it is given, how it ends, and the number of
-/// the next reply.
+/// What is invoked for 1,000 steps, the index of the function, the number of the first reply that
+/// it is given, how it ends, and the number of the next reply.
 type Row<'a> = (Case<'a>, u32, u64, End, u64);
 
 /// `f` of a module with a function alone.

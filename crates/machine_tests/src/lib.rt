@@ -1,5 +1,5 @@
-//! Tests of single instructions, of the start of instances and of their invocations. They stand apart from the crates that they test, so that those are proved
-//! once.
+//! Tests of single instructions, of the start of instances and of their invocations. They stand
+//! apart from the crates that they test, so that those are proved once.
 #![tactic(auto)]
 
 #[cfg(test)]

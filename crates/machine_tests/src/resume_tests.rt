@@ -15,7 +15,8 @@ use wasm_machine::{End, Instance};
 use wasm_syntax::{Import, Reply, Value, Write};
 use wasm_validate::Validated;
 
-/// What an instance shows: how its invocation ended, its steps, the operands of its innermost frame, its global and the word at 16.
+/// What an instance shows: how its invocation ended, its steps, the operands of its innermost
+/// frame, its global and the word at 16.
 #[derive(Clone, Copy, PartialEq, Eq)]
 struct Picture {
     end: Option<End>,
@@ -69,8 +70,9 @@ const AGREEING: [Row<'static>; 4] = [
     (IMPORTS, Asked::Agrees(1)),
 ];
 
-/// The operands of the division are there behind the second step, and the quotient behind the last one; what a reply wrote stays; the entry
-/// comes behind the start function; and an import that is an entry is called when it goes on.
+/// The operands of the division are there behind the second step, and the quotient behind the last
+/// one; what a reply wrote stays; the entry comes behind the start function; and an import that is
+/// an entry is called when it goes on.
 const SHOWN: [Row<'static>; 5] = [
     (
         DIVIDING,
@@ -195,7 +197,8 @@ fn replies(alloc: Global) -> Result<Items<Reply>, NoMemory> {
     Ok(replies)
 }
 
-/// Goes on for so many steps with an invocation whose steps were used up, on the replies from a number on.
+/// Goes on for so many steps with an invocation whose steps were used up, on the replies from a
+/// number on.
 fn go_on(
     alloc: Global,
     instance: &mut Instance<'_>,
@@ -251,7 +254,8 @@ fn copy_and_go_on<'a>(
     }
 }
 
-/// The same as `run_parts`, with the copy that was made between the two parts, where the steps of the first part were used up.
+/// The same as `run_parts`, with the copy that was made between the two parts, where the steps of
+/// the first part were used up.
 fn run_copy<'a>(
     alloc: Global,
     instance: &mut Instance<'a>,
@@ -303,7 +307,8 @@ fn agrees(
     whole.is_some()
 }
 
-/// Whether the original stands where the whole run does, and the copy where it was made, with the steps that each has made itself.
+/// Whether the original stands where the whole run does, and the copy where it was made, with the
+/// steps that each has made itself.
 fn are_apart(
     original: &Instance<'_>,
     copy: &Instance<'_>,

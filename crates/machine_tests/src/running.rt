@@ -16,8 +16,9 @@ pub struct Case<'a> {
     pub args: &'a [Value],
 }
 
-/// Invokes a function of a new instance for so many steps, with at most eight frames, on the replies from a number on. It tells the number of
-/// the next reply: as an error where the steps were used up.
+/// Invokes a function of a new instance for so many steps, with at most eight frames, on the
+/// replies from a number on. It tells the number of the next reply: as an error where the steps
+/// were used up.
 pub fn invoke(
     alloc: Global,
     instance: &mut Instance<'_>,

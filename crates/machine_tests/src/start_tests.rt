@@ -60,7 +60,8 @@ fn later_segments_lie_over_earlier_ones(rt: HostRuntime) {
     assert!(rt; starts(rt.alloc(), &FILLED, None));
 }
 
-/// A module, an entry, its arguments, and why it may not be invoked where nobody serves imports, if so.
+/// A module, an entry, its arguments, and why it may not be invoked where nobody serves imports, if
+/// so.
 type Row<'a> = (&'a [u8], &'a str, &'a [Value], Option<EntryFault>);
 
 const ENTRIES: [Row<'static>; 4] = [

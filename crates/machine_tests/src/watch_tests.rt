@@ -10,7 +10,8 @@ use wasm_machine::Instance;
 use wasm_syntax::{Import, ModuleParts, Value};
 use wasm_validate::Validated;
 
-/// A module with one function, its argument, the steps that it may make, and how many it makes at each of its instructions.
+/// A module with one function, its argument, the steps that it may make, and how many it makes at
+/// each of its instructions.
 type Row<'a> = (&'a [u8], u32, u32, &'a [u64]);
 
 const WHOLE: [Row<'static>; 1] = [(&STRAIGHT, 0, 1000, &[1; 20])];

@@ -16,8 +16,9 @@ ghost use Rattle.dump_match.specs.Frames.{instruction, is_call, shown};
 ghost use Rattle.match_laws.specs.StateDumps.{StatesMatch};
 ghost use Rattle.match_laws.specs.TrapDumps.{TrapsMatch};
 
-/// The dump of each trap of a valid module within the limits of the decoder can be one of that module, whatever the invocations, their
-/// arguments, the replies, the depth and the number of steps.
+/// The dump of each trap of a valid module within the limits of the decoder can be one of that
+/// module, whatever the invocations, their arguments, the replies, the depth and the number of
+/// steps.
 pub fn traps_match()
     ensures { (p : Program) (collecting : Bool) (invocations : List Invocation)
         (replies : List HostReply) (depth n : ℕ) → IsProgram p
@@ -26,7 +27,8 @@ pub fn traps_match()
         (run p collecting invocations replies depth n) }
 {}
 
-/// The dump of the last configuration of each invocation, however it ended or was left, can be one of a state of that module.
+/// The dump of the last configuration of each invocation, however it ended or was left, can be one
+/// of a state of that module.
 pub fn states_match()
     ensures { (p : Program) (collecting : Bool) (invocations : List Invocation)
         (replies : List HostReply) (depth n : ℕ) → IsProgram p

@@ -80,7 +80,8 @@ fn push_helpers(alloc: Global, out: &mut Bodies, numbers: &IndexMap<'_>) -> Resu
     Ok(())
 }
 
-/// All bodies: those of the module's functions, rewritten, and behind them those of wrappers and of helpers.
+/// All bodies: those of the module's functions, rewritten, and behind them those of wrappers and of
+/// helpers.
 pub(crate) fn all_bodies(
     alloc: Global,
     source: &Validated,

@@ -26,7 +26,8 @@ use std::alloc::Global;
 use unwind_rewrite::{close_body, open_body, with_added};
 use wasm_syntax::{Body, Items, ModuleParts, ValType};
 
-/// The rewritten body of a function whose body and context these are, with the locals that are added.
+/// The rewritten body of a function whose body and context these are, with the locals that are
+/// added.
 fn write_body(
     alloc: Global,
     context: &FunctionContext<'_, '_>,
@@ -71,7 +72,8 @@ fn gives(parts: &ModuleParts, func: u32) -> Option<ValType>
     }
 }
 
-/// The body of a function of an accepted module, rewritten by its plan: that of the definitions, but for offsets.
+/// The body of a function of an accepted module, rewritten by its plan: that of the definitions,
+/// but for offsets.
 pub fn rewrite_body(
     alloc: Global,
     numbers: &IndexMap<'_>,

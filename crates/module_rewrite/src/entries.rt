@@ -87,7 +87,8 @@ fn same_signature(a: &FuncType, b: &FuncType) -> bool
         && same_types(a.results.as_slice(), b.results.as_slice())
 }
 
-/// The label of a table entry in the helper of a type, by which the kind of the trap of its call is given.
+/// The label of a table entry in the helper of a type, by which the kind of the trap of its call is
+/// given.
 fn entry_label(parts: &ModuleParts, ftype: u32, entry: Option<u32>) -> u32
     ensures { result ≡ entry_label parts.now ftype entry }
 {

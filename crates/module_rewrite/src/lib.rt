@@ -1,4 +1,5 @@
-//! Rewrites a module, so that it hands over its own dump at each trap, on equal replies of its host.
+//! Rewrites a module, so that it hands over its own dump at each trap, on equal replies of its
+//! host.
 #![tactic(auto)]
 
 mod bodies;

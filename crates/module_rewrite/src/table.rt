@@ -1,4 +1,5 @@
-//! The table where an instance starts (Core 4.5.4), as far as its first size. A segment may pass the end, and then no instance starts.
+//! The table where an instance starts (Core 4.5.4), as far as its first size. A segment may pass
+//! the end, and then no instance starts.
 
 ghost use Rattle.std.specs.Prelude.{◌≡◌, ◌+◌, ◌≤◌, length, map, replicate, take, IfOk, Some, None};
 ghost use Rattle.wasm_syntax.specs.Run.{table_min as least_table, over};

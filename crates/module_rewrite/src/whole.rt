@@ -10,8 +10,9 @@ use std::alloc::Global;
 use wasm_syntax::Module;
 use wasm_validate::Validated;
 
-/// The module rewritten, so that it hands over its dump at each trap; or the first cause why it is not rewritten. The lengths of the module
-/// are those of a spelling, and the offsets of its accesses are numbers of 32 bits.
+/// The module rewritten, so that it hands over its dump at each trap; or the first cause why it is
+/// not rewritten. The lengths of the module are those of a spelling, and the offsets of its
+/// accesses are numbers of 32 bits.
 pub fn instrument(alloc: Global, source: &Validated) -> Result<Module, InstrFault>
     requires sized { Sized source.now }
     requires small { SmallOffsets source.now }

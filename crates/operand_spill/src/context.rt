@@ -17,7 +17,8 @@ use rewrite_code::CodeWriter;
 use std::marker::Model;
 use wasm_syntax::{Basic, Items, ValType};
 
-/// The module, the types of a function's locals with its parameters, the number of heights, its index and its result.
+/// The module, the types of a function's locals with its parameters, the number of heights, its
+/// index and its result.
 #[derive(Drop)]
 pub struct FunctionContext<'m, 'a> {
     map: &'m IndexMap<'a>,

@@ -1,5 +1,5 @@
-//! Writes code that keeps operands in added locals: it moves them between there, the stack and the result local, hands them over to the
-//! collector, and unwinds where the flag is up.
+//! Writes code that keeps operands in added locals: it moves them between there, the stack and the
+//! result local, hands them over to the collector, and unwinds where the flag is up.
 #![tactic(auto)]
 
 mod context;

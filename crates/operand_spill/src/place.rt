@@ -10,7 +10,8 @@ use std::alloc::Global;
 use std::marker::Model;
 use wasm_syntax::{ValType, Value};
 
-/// What is known of an operand: a constant, or its type, and then its value is in the slot of its type and height.
+/// What is known of an operand: a constant, or its type, and then its value is in the slot of its
+/// type and height.
 #[derive(Clone, Copy, PartialEq, Eq)]
 pub enum OperandPlace {
     Spilled(ValType),
@@ -47,7 +48,8 @@ impl OperandPlace {
     }
 }
 
-/// The places of the operands at a point of a function, which contracts see as a list with the topmost first.
+/// The places of the operands at a point of a function, which contracts see as a list with the
+/// topmost first.
 #[derive(Drop)]
 pub struct OperandPlaces {
     items: Vec<OperandPlace>,

@@ -9,8 +9,9 @@ ghost use Rattle.pm_cli.specs.Answer.{IsAnswer, SameAnswer, SameWrites};
 ghost use Rattle.pm_cli.specs.Words.{command};
 ghost use Rattle.command_answers.specs.declared.outcome.Outcome.{Outcome};
 
-/// A list of words has at most one status and text, and writes the same files, where the same replies were given. The bytes that `instrument`
-/// writes, and those of the second file of `selftest`, are all those that are admitted; on these the number of steps depends that
+/// A list of words has at most one status and text, and writes the same files, where the same
+/// replies were given. The bytes that `instrument` writes, and those of the second file of
+/// `selftest`, are all those that are admitted; on these the number of steps depends that
 /// `selftest` tells, and nothing else of its text.
 pub fn one_answer()
     ensures { (before after : List DeviceState) (words : List (List ℕ)) (first later : Contents)

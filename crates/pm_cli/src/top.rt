@@ -37,8 +37,8 @@ fn deliver<O: Sink>(out: &mut O, outcome: &Outcome) -> Status
     }
 }
 
-/// Does all that the program does: `words` are its words without its name, `files` and `out` stand for the outside, and `devices` serve
-/// imports by the names of their modules.
+/// Does all that the program does: `words` are its words without its name, `files` and `out` stand
+/// for the outside, and `devices` serve imports by the names of their modules.
 pub fn post_mortem<F: Files, O: Sink, D: Devices>(
     alloc: Global,
     words: &[String],
@@ -49,24 +49,27 @@ pub fn post_mortem<F: Files, O: Sink, D: Devices>(
     // Devices have distinct names.
     requires distinct { AreDistinct (names (D.shown devices.old)) }
 
-    // Status, text, files and the logs of devices are those of the answer, but for a fault and want of memory. Where files
-    // tell nothing there are contents of them on which this is the answer; where the output does, what it took is open.
+    // Status, text, files and the logs of devices are those of the answer, but for a fault and want
+    // of memory. Where files tell nothing there are contents of them on which this is the answer;
+    // where the output does, what it took is open.
     ensures answer { UnlessFault result ((o : OutcomeThere)
         × Answered (D.shown devices.old) (D.shown devices.new) (map string_bytes words.now)
         (F.told files.old) (F.told files.new) o
         × Takes result (O.taken out.old) (O.taken out.new) o) }
 
-    // Where `instrument` is done, the module that it wrote does what the one that it read does, on equal replies of its host, and hands over
-    // the dump of each trap.
+    // Where `instrument` is done, the module that it wrote does what the one that it read does, on
+    // equal replies of its host, and hands over the dump of each trap.
     ensures instrumented { result ≡ Status.Done → IfRewritten (command (map string_bytes words.now))
         (F.told files.old) (F.told files.new) }
 
-    // Where `debug` is done, it has read a valid module and a dump that can be one of it, and its text is what the commands print on both;
-    // where it answers a mismatch, it has read such a module and a dump that can't be one of it.
+    // Where `debug` is done, it has read a valid module and a dump that can be one of it, and its
+    // text is what the commands print on both; where it answers a mismatch, it has read such a
+    // module and a dump that can't be one of it.
     ensures debugged { UnlessFault result (IfDebugged (command (map string_bytes words.now)) result
         (F.told files.old) (O.taken out.old) (O.taken out.new)) }
 
-    // Where memory runs out, the command was stopped, or its whole answer stands but for what the output has taken.
+    // Where memory runs out, the command was stopped, or its whole answer stands but for what the
+    // output has taken.
     ensures memory { result ≡ Status.NoMemory
         → WordsStop no_memory (map string_bytes words.now)
         (D.shown devices.old) (D.shown devices.new) (F.told files.old) (F.told files.new)
@@ -82,8 +85,9 @@ pub fn post_mortem<F: Files, O: Sink, D: Devices>(
         × Answered (D.shown devices.old) (D.shown devices.new) (map string_bytes words.now)
         (F.told files.old) (F.told files.new) o) }
 
-    // However it ends, commands other than `run` and `cover`, and wrong words, call no device; `instrument` leaves all files as they are but
-    // the one that it writes, `selftest` all but the two that it writes, and the others but `run` leave all.
+    // However it ends, commands other than `run` and `cover`, and wrong words, call no device;
+    // `instrument` leaves all files as they are but the one that it writes, `selftest` all but the
+    // two that it writes, and the others but `run` leave all.
     ensures quiet { Quiet (command (map string_bytes words.now)) (D.shown devices.old)
         (D.shown devices.new)
         (F.told files.old) (F.told files.new) (F.created files.old) (F.created files.new) }
@@ -93,16 +97,17 @@ pub fn post_mortem<F: Files, O: Sink, D: Devices>(
         → Rose (F.faults files.old) (F.faults files.new)
         ⊎ Rose (O.faults out.old) (O.faults out.new) }
 
-    // Where the count of the output did not rise, a fault is that of a file that the command reads, or one that `instrument` or `selftest`
-    // writes, or the dump of a trap in this run, or its record, and the output has the whole text that names it.
+    // Where the count of the output did not rise, a fault is that of a file that the command reads,
+    // or one that `instrument` or `selftest` writes, or the dump of a trap in this run, or its
+    // record, and the output has the whole text that names it.
     ensures named { result ≡ Status.FileFault → (Rose (O.faults out.old) (O.faults out.new) → ⊥)
         → Rose (F.faults files.old) (F.faults files.new) × ((file : List ℕ)
         × WordsStop (file_failed file) (map string_bytes words.now)
         (D.shown devices.old) (D.shown devices.new) (F.told files.old) (F.told files.new)
         × Takes result (O.taken out.old) (O.taken out.new) (file_fault file)) }
 
-    // However it ends, the output has taken nothing, or a front of the answer's text, or, where a count of the files rose, a front of the
-    // text that names such a file.
+    // However it ends, the output has taken nothing, or a front of the answer's text, or, where a
+    // count of the files rose, a front of the text that names such a file.
     ensures front { IfSome (O.taken out.old) (λ before. (O.taken out.new ≡ Some before)
         ⊎ (((o : OutcomeThere)
         × Answered (D.shown devices.old) (D.shown devices.new) (map string_bytes words.now)

@@ -9,7 +9,8 @@ use pm_outside::{HostFiles, HostOut};
 use std::process::ExitCode;
 use std::{env, io};
 
-/// The program's words without its name. Arguments that are no text are outside the rules of words, as no words are.
+/// The program's words without its name. Arguments that are no text are outside the rules of words,
+/// as no words are.
 fn words(rt: &HostRuntime) -> Result<Vec<String>, NoMemory> {
     match env::args(rt) {
         Ok(args) => match args.skip(1).collect(rt.alloc()) {

@@ -14,7 +14,8 @@ pub struct Part {
     pub bytes: usize,
 }
 
-/// The numbers of the calls that fail, counted from 0, what these take first, and how many were made and have failed.
+/// The numbers of the calls that fail, counted from 0, what these take first, and how many were
+/// made and have failed.
 #[derive(Drop)]
 pub(crate) struct FaultPlan {
     failing: Vec<u64>,

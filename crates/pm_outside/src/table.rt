@@ -74,8 +74,8 @@ impl Table {
         }
     }
 
-    /// Adds the first `part` bytes of a piece, all of a shorter one. Where that is none the file is as before, and no
-    /// memory is taken.
+    /// Adds the first `part` bytes of a piece, all of a shorter one. Where that is none the file is
+    /// as before, and no memory is taken.
     pub(crate) fn append_part(
         &mut self,
         name: &str,

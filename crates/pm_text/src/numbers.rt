@@ -57,8 +57,8 @@ fn negative_bits(n: u64, width: u32) -> Option<u64>
     Some(((range - u128::from(n)) % range) as u64)
 }
 
-/// The number modulo 2^width that an optional `-` and 1 to 20 decimal digits write, where it lies from
-/// -2^(width - 1) to 2^width - 1.
+/// The number modulo 2^width that an optional `-` and 1 to 20 decimal digits write, where it lies
+/// from -2^(width - 1) to 2^width - 1.
 #[tactic(auto, unfolding(crate::specs::Numbers::integer_bits))]
 fn integer_bits(s: &str, width: u32) -> Option<u64>
     requires low { 1 ≤ width }
@@ -71,8 +71,8 @@ fn integer_bits(s: &str, width: u32) -> Option<u64>
     }
 }
 
-/// The number that a text as `i32:-1` or `i64:255` writes: its width, an optional `-` and 1 to 20 decimal digits. It
-/// lies from -2^31 to 2^32 - 1, or from -2^63 to 2^64 - 1.
+/// The number that a text as `i32:-1` or `i64:255` writes: its width, an optional `-` and 1 to 20
+/// decimal digits. It lies from -2^31 to 2^32 - 1, or from -2^63 to 2^64 - 1.
 #[tactic(auto, unfolding(crate::specs::Numbers::number_value))]
 pub fn read_value(s: &str) -> Option<Number>
     ensures { result ≡ number_value s.now }

@@ -125,8 +125,8 @@ impl Text {
         self.push_str(Buffer::new().format(v))
     }
 
-    /// Adds a number in lower-case hexadecimal digits, with zeros in front up to `digits` digits. A number that has
-    /// more digits is written whole.
+    /// Adds a number in lower-case hexadecimal digits, with zeros in front up to `digits` digits. A
+    /// number that has more digits is written whole.
     pub fn push_hex(&mut self, v: u64, digits: u32) -> Result<(), NoMemory>
         ensures ok { OnOk result (self.new ≡ self.old ++ hex_padded digits v) }
         ensures err { OnErr result (self.new ≡ self.old) }
@@ -136,8 +136,9 @@ impl Text {
         settled(&mut self.string, old_len, written)
     }
 
-    /// Adds a name between quotation marks. `"` and `\` have a `\` before them, and a byte below 0x20 or 0x7F is `\`
-    /// and two lower-case hexadecimal digits. In a name that is not UTF-8 each byte from 0x80 on is written so too.
+    /// Adds a name between quotation marks. `"` and `\` have a `\` before them, and a byte below
+    /// 0x20 or 0x7F is `\` and two lower-case hexadecimal digits. In a name that is not UTF-8 each
+    /// byte from 0x80 on is written so too.
     pub fn push_quoted(&mut self, s: &[u8]) -> Result<(), NoMemory>
         ensures ok { OnOk result (self.new ≡ self.old ++ quoted s.now) }
         ensures err { OnErr result (self.new ≡ self.old) }

@@ -11,8 +11,8 @@ use crate::recorded::Recorded;
 use causes::NoMemory;
 use std::alloc::Global;
 
-/// The least step behind a first one, up to the run's last one, at which the innermost frame is of this function, at this code offset. The
-/// point stands at the first one, and goes on from there.
+/// The least step behind a first one, up to the run's last one, at which the innermost frame is of
+/// this function, at this code offset. The point stands at the first one, and goes on from there.
 pub(crate) fn next_at<'a>(
     alloc: Global,
     recorded: &Recorded<'a>,

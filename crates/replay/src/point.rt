@@ -109,7 +109,8 @@ fn begun<'a>(
         &mut hosts,
     );
     let going = is_going(&answer);
-    // No step is made, and each import of a valid module is served, so that only memory can be wanting.
+    // No step is made, and each import of a valid module is served, so that only memory can be
+    // wanting.
     if !going {
         return Err(NoMemory);
     }
@@ -127,8 +128,8 @@ impl<'a> Point<'a> {
         Ok(point)
     }
 
-    /// Makes so many steps more, or fewer where the run ends before, and answers how it ended, or that these steps are used up. Behind want of
-    /// memory it is of no use.
+    /// Makes so many steps more, or fewer where the run ends before, and answers how it ended, or
+    /// that these steps are used up. Behind want of memory it is of no use.
     pub(crate) fn advance(
         &mut self,
         alloc: Global,

@@ -18,10 +18,12 @@ use wasm_machine::Instance;
 use wasm_syntax::{Reply, Value};
 use wasm_validate::Validated;
 
-/// A run whose replies are there, from its first step to its last one, and the state behind one of its steps.
+/// A run whose replies are there, from its first step to its last one, and the state behind one of
+/// its steps.
 ///
-/// It keeps at most 16 checkpoints. Where another one is due, every second one is dropped, and they stand twice as far apart. So a move makes at
-/// most as many steps as two checkpoints are apart at first, or an eighth of the run.
+/// It keeps at most 16 checkpoints. Where another one is due, every second one is dropped, and they
+/// stand twice as far apart. So a move makes at most as many steps as two checkpoints are apart at
+/// first, or an eighth of the run.
 #[derive(Drop)]
 pub struct Replayer<'a> {
     alloc: Global,
@@ -55,8 +57,9 @@ impl<'a> Model for Replayer<'a> {
 }
 
 impl<'a> Replayer<'a> {
-    /// Runs an exported function on arguments up to its end, with at most `depth` frames at once and for at most `fuel` steps. The replies serve
-    /// all imports, in order. Then it stands at step 0. Checkpoints are `every` steps apart at first.
+    /// Runs an exported function on arguments up to its end, with at most `depth` frames at once
+    /// and for at most `fuel` steps. The replies serve all imports, in order. Then it stands at
+    /// step 0. Checkpoints are `every` steps apart at first.
     ///
     /// # Errors
     ///
@@ -103,7 +106,8 @@ impl<'a> Replayer<'a> {
         })
     }
 
-    /// Goes to a step, or to the last one where there are not so many, and answers which one that is.
+    /// Goes to a step, or to the last one where there are not so many, and answers which one that
+    /// is.
     ///
     /// # Errors
     ///
@@ -119,8 +123,9 @@ impl<'a> Replayer<'a> {
         Ok(step)
     }
 
-    /// Goes to the next step behind the one that is shown at which the innermost frame is of this function, at this code offset, or stays where
-    /// there is none. It answers whether there is one.
+    /// Goes to the next step behind the one that is shown at which the innermost frame is of this
+    /// function, at this code offset, or stays where there is none. It answers whether there is
+    /// one.
     ///
     /// # Errors
     ///

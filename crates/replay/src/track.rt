@@ -52,7 +52,8 @@ fn point_of<'s, 'a>(points: &'s [Point<'a>], index: usize) -> &'s Point<'a>
 }
 
 impl<'a> Track<'a> {
-    /// Drops every second one, and sets them twice as far apart, where there are as many as are kept.
+    /// Drops every second one, and sets them twice as far apart, where there are as many as are
+    /// kept.
     fn thin(&mut self, alloc: Global) -> Result<(), NoMemory>
         requires { length self.old.points.items * self.old.spacing < 2 ^ 64 }
         ensures { (x : Recording) (every here : ℕ) → DueIn x every here self.old
@@ -67,8 +68,8 @@ impl<'a> Track<'a> {
         Ok(())
     }
 
-    /// Adds a checkpoint, where one is due. Where there are as many as are kept, every second one is dropped before, and they stand twice as far
-    /// apart.
+    /// Adds a checkpoint, where one is due. Where there are as many as are kept, every second one
+    /// is dropped before, and they stand twice as far apart.
     pub(crate) fn keep(&mut self, alloc: Global, point: &Point<'a>) -> Result<(), NoMemory>
         requires { length self.old.points.items * self.old.spacing < 2 ^ 64 }
         ensures { (x : Recording) (every here : ℕ) → DueIn x every here self.old

@@ -40,7 +40,8 @@ fn replay_log<F: Files>(
     }
 }
 
-/// What moves between the steps of a recorded run print, with commands of the debugger on its states: the module and the replies stand in two files.
+/// What moves between the steps of a recorded run print, with commands of the debugger on its
+/// states: the module and the replies stand in two files.
 ///
 /// # Errors
 ///

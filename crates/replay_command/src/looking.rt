@@ -21,7 +21,8 @@ use std::marker::Model;
 use trap_image::image;
 use wasm_validate::Validated;
 
-/// Looks at states of a module: what its bytes say, which is read at the first look, and the chosen frame.
+/// Looks at states of a module: what its bytes say, which is read at the first look, and the chosen
+/// frame.
 #[derive(Drop)]
 pub(crate) struct Viewer<'a> {
     source: &'a Validated,
@@ -57,7 +58,8 @@ fn push_command(
     out.push_str(text.as_str())
 }
 
-/// Adds what the commands before the first move print, and hands out the text that is left from there on.
+/// Adds what the commands before the first move print, and hands out the text that is left from
+/// there on.
 fn push_looks<'c>(
     out: &mut Text,
     alloc: Global,
@@ -115,7 +117,8 @@ fn shown_dump<'i>(
 }
 
 impl<'a> Viewer<'a> {
-    /// Nothing is read yet, and frame 0 is chosen. The bytes are those that the module was decoded from.
+    /// Nothing is read yet, and frame 0 is chosen. The bytes are those that the module was decoded
+    /// from.
     pub(crate) fn new(source: &'a Validated, bytes: &'a [u8]) -> Self
         requires { Spells bytes.now source.now }
         ensures { result ≡ record { module_ = source.now; bytes = bytes.now; chosen = 0 } }
@@ -149,7 +152,8 @@ impl<'a> Viewer<'a> {
         }
     }
 
-    /// Adds what the commands before the first move print on the state that is shown, and hands out the text that is left from there on.
+    /// Adds what the commands before the first move print on the state that is shown, and hands out
+    /// the text that is left from there on.
     pub(crate) fn look<'c>(
         &mut self,
         out: &mut Text,

@@ -73,7 +73,8 @@ fn go_until(
     }
 }
 
-/// Makes the first move of a text, or looks as the commands before its first move say. It hands out the text that is left.
+/// Makes the first move of a text, or looks as the commands before its first move say. It hands out
+/// the text that is left.
 fn take_turn<'c>(
     out: &mut Text,
     alloc: Global,

@@ -10,7 +10,8 @@ use wasm_machine::{End, Instance};
 use wasm_syntax::{Reply, Value};
 use wasm_validate::{Validated, validate};
 
-/// The start function sets a global to 5 in three steps, and `f` adds its parameter to that in five.
+/// The start function sets a global to 5 in three steps, and `f` adds its parameter to that in
+/// five.
 const STARTED: [u8; 61] = [
     0x00, 0x61, 0x73, 0x6d, 0x01, 0x00, 0x00, 0x00, 0x01, 0x08, 0x02, 0x60, 0x01, 0x7f, 0x00, 0x60,
     0x00, 0x00, 0x03, 0x03, 0x02, 0x01, 0x00, 0x06, 0x06, 0x01, 0x7f, 0x01, 0x41, 0x00, 0x0b, 0x07,
@@ -272,7 +273,8 @@ fn ask(alloc: Global, case: Case<'_>, asked: Asked) -> Told {
     }
 }
 
-/// What is told where the first checkpoints are one step apart and where they are 1,000 steps apart, if it is the same.
+/// What is told where the first checkpoints are one step apart and where they are 1,000 steps
+/// apart, if it is the same.
 fn ask_both(alloc: Global, case: Case<'_>, asked: Asked) -> Told {
     let near = ask(alloc, Case { every: 1, ..case }, asked);
     let far = ask(
@@ -398,7 +400,8 @@ fn states_do_not_depend_on_checkpoints(rt: HostRuntime) {
     assert!(rt; divided && branched && deeper && read && started);
 }
 
-/// A recursion of depth n makes 8 n + 5 steps. At 16, 32, 64 and 128 steps there are 16 checkpoints, of which every second one goes.
+/// A recursion of depth n makes 8 n + 5 steps. At 16, 32, 64 and 128 steps there are 16
+/// checkpoints, of which every second one goes.
 #[test]
 fn every_second_checkpoint_goes(rt: HostRuntime) {
     let alloc = rt.alloc();

@@ -9,8 +9,8 @@ use std::test::Fail;
 use test_modules::{DIVISION, READING, RECURSIVE, STARTING, TABLE_BRANCH};
 use wasm_syntax::{Value, Values};
 
-/// A module, replies, an entry with arguments, how many steps and how many frames there may be, commands between semicolons, the status, and the
-/// text.
+/// A module, replies, an entry with arguments, how many steps and how many frames there may be,
+/// commands between semicolons, the status, and the text.
 type Row<'a> = (
     &'a [u8],
     &'a [u8],
@@ -44,7 +44,8 @@ fn is_printed(alloc: Global, row: &Row<'_>, every: u64) -> Result<bool, Fail> {
     Ok(outcome.status.code() == row.6 && outcome.text.as_str() == row.7)
 }
 
-/// The number of the first row that is not printed so, or how many rows there are. The text does not depend on how far checkpoints stand apart.
+/// The number of the first row that is not printed so, or how many rows there are. The text does
+/// not depend on how far checkpoints stand apart.
 fn first_wrong(alloc: Global, rows: &[Row<'_>]) -> Result<usize, Fail> {
     for (i, row) in rows.iter().enumerate() {
         if !is_printed(alloc, row, 1)? || !is_printed(alloc, row, 1_000)? {
@@ -212,7 +213,8 @@ fn looks_are_printed(rt: HostRuntime) -> Result<(), Fail> {
     Ok(())
 }
 
-/// Each step of the three ways that a branch by a table goes: the argument, the step, and the text of `goto`, of the frame and of its operands.
+/// Each step of the three ways that a branch by a table goes: the argument, the step, and the text
+/// of `goto`, of the frame and of its operands.
 const STEPS: [(u32, &str, &str); 39] = [
     (
         0,

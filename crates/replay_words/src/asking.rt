@@ -55,7 +55,8 @@ fn commands<'a>(reading: &Reading<'a>) -> &'a str
     }
 }
 
-/// What the options ask for, with these files of a module and of replies, this entry and these words behind it.
+/// What the options ask for, with these files of a module and of replies, this entry and these
+/// words behind it.
 #[tactic(auto, unfolding(crate::specs::Words::asked))]
 fn asked(
     alloc: Global,
@@ -96,8 +97,9 @@ fn asked(
     })
 }
 
-/// What the words behind `replay` ask for: `M LOG ENTRY [ARG ...]`, with the options `--fuel N`, `--depth N`, `--every K` and
-/// `--do TEXT` anywhere. There is one invocation, so the word `+` separates nothing.
+/// What the words behind `replay` ask for: `M LOG ENTRY [ARG ...]`, with the options `--fuel N`,
+/// `--depth N`, `--every K` and `--do TEXT` anywhere. There is one invocation, so the word `+`
+/// separates nothing.
 #[tactic(auto, unfolding(crate::specs::Words::replay_words))]
 pub fn replay_words(alloc: Global, words: &[String]) -> Result<ReplayWords, WordsFault>
     ensures ok { IfOk result (λ r. replay_words (map string_bytes words.now) ≡ Some r) }

@@ -95,7 +95,8 @@ fn with_second(word: &str, behind: &str) -> Move
     }
 }
 
-/// The move that a text spells: words with exactly one space between them. Every other text is `Look`. It takes no memory.
+/// The move that a text spells: words with exactly one space between them. Every other text is
+/// `Look`. It takes no memory.
 #[tactic(auto, unfolding(crate::specs::Moves::read_move))]
 pub fn read_move(text: &str) -> Move
     ensures { result ≡ move_there text.now }

@@ -15,7 +15,8 @@ pub fn guards_tell_kinds()
     ensures { (M : Engine) (i : Basic) → GuardTells M i }
 {}
 
-/// Each step of the original is some steps of the rewritten module, and at a trap all frames hand over their values.
+/// Each step of the original is some steps of the rewritten module, and at a trap all frames hand
+/// over their values.
 pub fn each_step_is_followed()
     ensures { (M M' : Engine) (E : ℕ) (gl : List ValType) (W : Wrap) → StepFollows M M' E gl W }
 {}
@@ -25,8 +26,8 @@ pub fn rewritten_bodies_are_typed()
     ensures { (C : Ctx) → BodyTyped C }
 {}
 
-/// The rewriting of a well-typed body takes at most the bytes that the weight of its module gives to its live instructions and to its
-/// function.
+/// The rewriting of a well-typed body takes at most the bytes that the weight of its module gives
+/// to its live instructions and to its function.
 pub fn rewritten_bodies_are_short()
     ensures { (C : Ctx) → BodyShort C }
 {}

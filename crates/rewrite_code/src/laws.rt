@@ -6,7 +6,8 @@ ghost use Rattle.wasm_syntax.specs.Tree.{Nodes, stop, choose};
 ghost use Rattle.rewrite_modules.specs.FlatCode.{ops_in, targets_in};
 ghost use Rattle.rewrite_code.specs.Writing.{Written, written, nothing, with_nodes, Emits, EmitsLast, Opens, OpensArms, Alternates, Closes};
 
-/// A piece and the one behind it; a piece and the last nodes; the beginning of a block, its nodes and its end; both arms of an `if`.
+/// A piece and the one behind it; a piece and the last nodes; the beginning of a block, its nodes
+/// and its end; both arms of an `if`.
 pub fn pieces_compose()
     ensures in_order { (P Q : Nodes → Nodes) (a b c : Written) → Emits P a b → Emits Q b c
         → Emits (λ k. P (Q k)) a c }
@@ -19,7 +20,8 @@ pub fn pieces_compose()
         → Emits (λ k. choose 0 t arm (Some 0) other 0 k) a f }
 {}
 
-/// What was written is the flat code of the nodes, behind the code before: so all of a tree is its flat code, with its targets.
+/// What was written is the flat code of the nodes, behind the code before: so all of a tree is its
+/// flat code, with its targets.
 pub fn nodes_are_written_out()
     ensures piece { (P : Nodes → Nodes) (a b : Written) → Emits P a b → b ≡ with_nodes a (P stop) }
     ensures last { (nodes : Nodes) (a b : Written) → EmitsLast nodes a b → b ≡ with_nodes a nodes }

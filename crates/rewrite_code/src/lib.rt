@@ -1,5 +1,6 @@
-//! Writes the flat code of a body, one instruction after the other. A contract says which piece of the body's tree was written: whatever
-//! nodes go on behind it, all that is written in the end is the same.
+//! Writes the flat code of a body, one instruction after the other. A contract says which piece of
+//! the body's tree was written: whatever nodes go on behind it, all that is written in the end is
+//! the same.
 #![tactic(auto)]
 
 pub mod laws;

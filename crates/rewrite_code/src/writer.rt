@@ -14,7 +14,8 @@ use std::alloc::Global;
 use std::marker::Model;
 use wasm_syntax::{Basic, Body, Instr, Items, Jump, LocalGroups, Op, ValType, Value};
 
-/// Flat code, each instruction at offset 0 with length 0, with the targets of its `br_table`s. Offsets come with the finished body.
+/// Flat code, each instruction at offset 0 with length 0, with the targets of its `br_table`s.
+/// Offsets come with the finished body.
 #[derive(Drop)]
 pub struct CodeWriter {
     ops: Items<Op>,
@@ -175,7 +176,8 @@ impl CodeWriter {
         self.push(Instr::End)
     }
 
-    /// The body with these groups of locals, and with its last `end`. Its instructions stand at ascending offsets, where 32 bits count them.
+    /// The body with these groups of locals, and with its last `end`. Its instructions stand at
+    /// ascending offsets, where 32 bits count them.
     pub fn finish(mut self, groups: LocalGroups) -> Result<Body, NoMemory>
         ensures code { (nodes : Nodes) → EmitsLast nodes nothing self
             → IfOk result (λ body. bare_body body ≡ bare_body (body_of groups nodes)) }

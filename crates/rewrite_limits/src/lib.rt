@@ -1,4 +1,5 @@
-//! The weight of a module, by which the bytes of its rewriting are bounded, and the limits of the rewriting.
+//! The weight of a module, by which the bytes of its rewriting are bounded, and the limits of the
+//! rewriting.
 #![tactic(auto)]
 
 mod count;

@@ -105,8 +105,8 @@ fn heights_over(bodies: &[Body], heights: &Heights) -> Option<Excess>
     None
 }
 
-/// The first quantity that passes its greatest number: of locals by functions, with parameters, of parameters by types, of operand heights
-/// and of nesting by functions, and the weight.
+/// The first quantity that passes its greatest number: of locals by functions, with parameters, of
+/// parameters by types, of operand heights and of nesting by functions, and the weight.
 #[tactic(auto, unfolding(crate::specs::Limits::first_excess))]
 pub fn first_excess(numbers: &IndexMap<'_>, heights: &Heights) -> Option<Excess>
     requires sized { Sized numbers.now }

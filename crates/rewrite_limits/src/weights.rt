@@ -168,8 +168,9 @@ fn total(parts: &ModuleParts, heights: &Heights, types: usize) -> u64
         + start_weight(parts)
 }
 
-/// The weight of a module with these operand heights, by which the bytes of its rewriting are bounded. The module is within the limits of
-/// the decoder and of validation, and its lengths are those of a spelling.
+/// The weight of a module with these operand heights, by which the bytes of its rewriting are
+/// bounded. The module is within the limits of the decoder and of validation, and its lengths are
+/// those of a spelling.
 pub fn weight(numbers: &IndexMap<'_>, heights: &Heights) -> u64
     requires sized { Sized numbers.now }
     requires limits { WithinLimits numbers.now }

@@ -23,22 +23,25 @@ ghost use Rattle.wasm_syntax.specs.declared.parts.Body.{Body as FunctionBody};
 ghost use Rattle.wasm_syntax.specs.declared.parts.FuncType.{FuncType as Signature};
 ghost use Rattle.wasm_syntax.specs.Valid.{Valid};
 
-/// The rewritten module does what the module does: for every list of invocations, with any arguments, replies, depth and number of steps, it
-/// makes the same host calls and each invocation comes to the same end. Where one traps, its collector calls hand over the dump of the
-/// original at that trap. It takes at least as many steps as the original, and at most the stated multiple.
+/// The rewritten module does what the module does: for every list of invocations, with any
+/// arguments, replies, depth and number of steps, it makes the same host calls and each invocation
+/// comes to the same end. Where one traps, its collector calls hand over the dump of the original
+/// at that trap. It takes at least as many steps as the original, and at most the stated multiple.
 pub fn instrumented_module_simulates()
     ensures { (p : Program) → Given p → (heights : List (List ℕ)) → AreHeights p.module_ heights
         → Simulates (multiple p.module_ heights) p (instrument p) }
 {}
 
-/// So does each program whose module is the rewritten one but for offsets, lengths and custom sections.
+/// So does each program whose module is the rewritten one but for offsets, lengths and custom
+/// sections.
 pub fn rewritten_programs_simulate()
     ensures { (p other : Program) → Given p → IsProgram other
         → bare_module other.module_ ≡ bare_module (new_module p) → (heights : List (List ℕ))
         → AreHeights p.module_ heights → Simulates (multiple p.module_ heights) p other }
 {}
 
-/// Each body of the rewritten module writes out its tree, but for offsets: the flat code is that of the trees.
+/// Each body of the rewritten module writes out its tree, but for offsets: the flat code is that of
+/// the trees.
 pub fn rewritten_bodies_write_their_trees()
     ensures { (p : Program) → Given p → IsProgram (bare (instrument p)) }
 {}
@@ -48,7 +51,8 @@ pub fn instrumentable_modules_are_given()
     ensures { (m : Parts) (these : Instrumentable m) → Given (program_of m these.whole) }
 {}
 
-/// All together, for modules alone: a module that is the rewritten one but for offsets, lengths and custom sections does what the original does.
+/// All together, for modules alone: a module that is the rewritten one but for offsets, lengths and
+/// custom sections does what the original does.
 pub fn rewritten_modules_simulate()
     ensures { (m other : Parts) (these : Instrumentable m) (whole : IsModule other)
         → bare_module other ≡ bare_module (new_module (program_of m these.whole))
@@ -64,12 +68,14 @@ pub fn offsets_change_no_run()
         ≡ map bare_ran (run other collecting invocations replies depth n) }
 {}
 
-/// The imports are those of the module and then the collector's three, and the exports those of the module and then its memory.
+/// The imports are those of the module and then the collector's three, and the exports those of the
+/// module and then its memory.
 pub fn interface_is_kept()
     ensures { (p : Program) → KeepsInterface p.module_ (new_module p) }
 {}
 
-/// The rewritten module is valid, and so is each one that is the same but for offsets, lengths and custom sections.
+/// The rewritten module is valid, and so is each one that is the same but for offsets, lengths and
+/// custom sections.
 pub fn rewritten_modules_are_valid()
     ensures { (m other : Parts) (these : Instrumentable m) (whole : IsModule other)
         → bare_module (new_module (program_of m these.whole)) ≡ bare_module other → Valid other }
@@ -81,8 +87,9 @@ pub fn rewritten_modules_are_within_limits()
         → bare_module (new_module (program_of m these.whole)) ≡ bare_module other → LowSizes other }
 {}
 
-/// From each configuration that agrees with one of the original, frames hand over their values where the original traps, and the wrapper
-/// ends in a trap: each frame in at most half of the bound on the steps, and the wrapper too. Worlds at the start agree, and wrappers lead to
+/// From each configuration that agrees with one of the original, frames hand over their values
+/// where the original traps, and the wrapper ends in a trap: each frame in at most half of the
+/// bound on the steps, and the wrapper too. Worlds at the start agree, and wrappers lead to
 /// configurations that do.
 pub fn traps_unwind()
     ensures { (m : Parts) (these : Instrumentable m) (heights : List (List ℕ))
@@ -90,15 +97,16 @@ pub fn traps_unwind()
         → Unwinds (program_of m these.whole) (half m heights) depth }
 {}
 
-/// No function of them has more operands than validation admits: at most as many as the parameters of a function, and a few.
+/// No function of them has more operands than validation admits: at most as many as the parameters
+/// of a function, and a few.
 pub fn rewritten_modules_have_low_heights()
     ensures { (m other : Parts) (these : Instrumentable m) (whole : IsModule other)
         → bare_module (new_module (program_of m these.whole)) ≡ bare_module other
         → LowHeights other }
 {}
 
-/// Each function has as many slots as its greatest operand height in live code, so the bound on the steps is that of locals, heights and
-/// globals.
+/// Each function has as many slots as its greatest operand height in live code, so the bound on the
+/// steps is that of locals, heights and globals.
 pub fn slots_are_heights()
     ensures greatest { (m : Parts) (these : Instrumentable m) (heights : List (List ℕ))
         → AreHeights m heights → (greatest (program_of m these.whole)).1
@@ -114,7 +122,8 @@ pub fn slots_are_heights()
         ≡ highest (height_at heights i) 0 body.ops }
 {}
 
-/// The module of the example weighs what the sum of its parts is by hand, and so is the bound on the steps.
+/// The module of the example weighs what the sum of its parts is by hand, and so is the bound on
+/// the steps.
 pub fn weight_of_the_example()
     ensures weight { Weighs }
     ensures multiple { Multiplies }
@@ -130,13 +139,14 @@ pub fn limits_are_met()
     ensures { Instrumentable divider.module_ }
 {}
 
-/// A division by zero, and then one that ends: the rewritten program hands over the dump of the trap, ends in a trap of its own, and then does
-/// the second division.
+/// A division by zero, and then one that ends: the rewritten program hands over the dump of the
+/// trap, ends in a trap of its own, and then does the second division.
 pub fn division_by_zero_is_handed_over()
     ensures { HandsOver }
 {}
 
-/// A copy does not do: with whatever multiple of the steps, a program that traps does not simulate itself.
+/// A copy does not do: with whatever multiple of the steps, a program that traps does not simulate
+/// itself.
 pub fn no_copy_simulates()
     ensures { (factor : ℕ) → Simulates factor divider divider → ⊥ }
 {}

@@ -21,9 +21,10 @@ ghost use Rattle.rewrite_promise.specs.Promise.{Accepted, AcceptedBytes, IsRewri
 ghost use Rattle.rewrite_promise.specs.Outside.{KeepsOutside};
 ghost use Rattle.rewrite_promise.specs.Admitted.{Admits};
 
-/// The rewritten module shows those outside what the module shows, and so does each one that is the same but for offsets, lengths and custom
-/// sections: its imports are those of the module and then the collector's three, its exports those of the module and then its memory. Types,
-/// tables, memories and segments are the module's, and its globals come first.
+/// The rewritten module shows those outside what the module shows, and so does each one that is the
+/// same but for offsets, lengths and custom sections: its imports are those of the module and then
+/// the collector's three, its exports those of the module and then its memory. Types, tables,
+/// memories and segments are the module's, and its globals come first.
 pub fn interface_is_kept()
     ensures { (p : Program) (other : Parts) → bare_module (new_module p) ≡ bare_module other
         → KeepsOutside p.module_ other }
@@ -41,8 +42,8 @@ pub fn heights_give_one_multiple()
         → AreHeights m other → multiple m one ≡ multiple m other }
 {}
 
-/// What decoding gives has what the type of a module keeps, and is within the limits of the decoder. Where the bytes are accepted, the module
-/// is.
+/// What decoding gives has what the type of a module keeps, and is within the limits of the
+/// decoder. Where the bytes are accepted, the module is.
 pub fn decoded_modules_are_accepted()
     ensures whole { (bytes : List ℕ) (m : Parts) → IsBytes bytes → module_from bytes ≡ Ok m
         → IsModule m }
@@ -51,21 +52,24 @@ pub fn decoded_modules_are_accepted()
     ensures accepted { (bytes : List ℕ) (m : Parts) → AcceptedBytes bytes m → Accepted m }
 {}
 
-/// The theorem of rewriting, whole: each module that is the rewriting of an accepted one, but for offsets, lengths and custom sections, keeps
-/// all promises; so does each rewriting of what accepted bytes are decoded as.
+/// The theorem of rewriting, whole: each module that is the rewriting of an accepted one, but for
+/// offsets, lengths and custom sections, keeps all promises; so does each rewriting of what
+/// accepted bytes are decoded as.
 pub fn rewriting_promises()
     ensures modules { (m other : Parts) → Accepted m → IsRewriting m other → Promised m other }
     ensures bytes { (bytes : List ℕ) (m other : Parts) → AcceptedBytes bytes m → IsRewriting m other
         → Promised m other }
 {}
 
-/// Each accepted module has such a rewriting: a module whose code is that of the rewritten one, at ascending offsets.
+/// Each accepted module has such a rewriting: a module whose code is that of the rewritten one, at
+/// ascending offsets.
 pub fn rewritings_are_there()
     ensures { (m : Parts) → Accepted m → (other : Parts) × IsRewriting m other × Promised m other }
 {}
 
-/// What is written of a rewriting is decoded as a rewriting, so that it keeps all promises, and takes at most the weight of the module. The
-/// numbers of a value of `Module` always fit their types, what is written of it is bytes, and encoding gives bytes that spell the same.
+/// What is written of a rewriting is decoded as a rewriting, so that it keeps all promises, and
+/// takes at most the weight of the module. The numbers of a value of `Module` always fit their
+/// types, what is written of it is bytes, and encoding gives bytes that spell the same.
 pub fn written_rewritings_are_decoded()
     ensures encoded { (m other : Parts) → Accepted m → IsRewriting m other → FitsModule other
         → IsBytes (encoding other) → DecodesAsRewriting m (encoding other) }
@@ -74,7 +78,8 @@ pub fn written_rewritings_are_decoded()
         → DecodesAsRewriting m (encoding other) }
 {}
 
-/// What is written of a promised module is admitted: so a promised module is all that the writer of a file has to be given.
+/// What is written of a promised module is admitted: so a promised module is all that the writer of
+/// a file has to be given.
 pub fn written_promises_are_admitted()
     ensures encoded { (m other : Parts) → LightEnough m → Promised m other → FitsModule other
         → IsBytes (encoding other) → Admits m (encoding other) }

@@ -16,8 +16,9 @@ ghost use Rattle.rewrite_modules.specs.Instrumentable.{Instrumentable, program_o
 ghost use Rattle.rewrite_modules.specs.Weight.{bodies_weight, weight};
 ghost use Rattle.rewrite_sizes.specs.Light.{BodiesLight, rewritten_lengths, SmallOffsets};
 
-/// The live instructions of each body weigh at most what the weight of the module, by the heights of its operands, gives to all
-/// instructions of the body; and the rewritten bodies together take at most what the weight gives to the bodies.
+/// The live instructions of each body weigh at most what the weight of the module, by the heights
+/// of its operands, gives to all instructions of the body; and the rewritten bodies together take
+/// at most what the weight gives to the bodies.
 pub fn rewritten_bodies_weigh()
     ensures each { (m : Parts) (these : Instrumentable m) → Sized m
         → BodiesLight (program_of m these.whole) these.lightness.heights }
@@ -26,16 +27,16 @@ pub fn rewritten_bodies_weigh()
         ≤ bodies_weight m these.lightness.heights 0 m.bodies }
 {}
 
-/// The shortest encoding of the rewritten module takes at most as many bytes as the module weighs; so does that of each module that is the
-/// same but for offsets, lengths and custom sections.
+/// The shortest encoding of the rewritten module takes at most as many bytes as the module weighs;
+/// so does that of each module that is the same but for offsets, lengths and custom sections.
 pub fn rewritten_modules_weigh()
     ensures { (m other : Parts) (these : Instrumentable m) → Sized m
         → bare_module (new_module (program_of m these.whole)) ≡ bare_module other
         → length (encoding other) ≤ weight m these.lightness.heights }
 {}
 
-/// So it is within the limits of the decoder: its lists are short, locals, nesting, table and memory are low, and its bytes are not too
-/// many.
+/// So it is within the limits of the decoder: its lists are short, locals, nesting, table and
+/// memory are low, and its bytes are not too many.
 pub fn rewritten_modules_are_decodable()
     ensures limits { (m other : Parts) (these : Instrumentable m) → Sized m
         → bare_module (new_module (program_of m these.whole)) ≡ bare_module other
@@ -45,8 +46,8 @@ pub fn rewritten_modules_are_decodable()
         → length (encoding other) ≤ 134_217_728 }
 {}
 
-/// The offset of each access is a number of 32 bits where the numbers of a module have the ranges of their types, and in each module that
-/// bytes spell, so that decoding gives no other.
+/// The offset of each access is a number of 32 bits where the numbers of a module have the ranges
+/// of their types, and in each module that bytes spell, so that decoding gives no other.
 pub fn offsets_are_small()
     ensures fitting { (m : Parts) → FitsModule m → SmallOffsets m }
     ensures spelled { (bytes : List ℕ) (m : Parts) → IsModuleOf bytes m → SmallOffsets m }

@@ -15,8 +15,8 @@ use std::test::Fail;
 use wasm_syntax::{Basic, Binary, Body, Instr, Items, ValType, Value};
 use wasm_validate::Validated;
 
-/// The dividend, the divisor, and the kind with which `i32.div_s` traps on them, or 0: 3 where the quotient is past the range, 2 where the
-/// divisor is zero.
+/// The dividend, the divisor, and the kind with which `i32.div_s` traps on them, or 0: 3 where the
+/// quotient is past the range, 2 where the divisor is zero.
 const DIVISIONS: [(u32, u32, u32); 5] = [
     (0x8000_0000, 0xFFFF_FFFF, 3),
     (1, 0, 2),

@@ -14,8 +14,9 @@ use wasm_decode::decode;
 use wasm_syntax::{ExportKind, ModuleParts, ValType};
 use wasm_validate::Validated;
 
-/// Two imports, `a` of `env` and `x` of `coredump`, and two functions. The first one is exported as `f` and as `coredump.memory`, the
-/// import `a` as `a`, and the second function is the start function.
+/// Two imports, `a` of `env` and `x` of `coredump`, and two functions. The first one is exported as
+/// `f` and as `coredump.memory`, the import `a` as `a`, and the second function is the start
+/// function.
 const NAMED: [u8; 91] = [
     0x00, 0x61, 0x73, 0x6d, 0x01, 0x00, 0x00, 0x00, 0x01, 0x09, 0x02, 0x60, 0x01, 0x7f, 0x01, 0x7f,
     0x60, 0x00, 0x00, 0x02, 0x16, 0x02, 0x03, 0x65, 0x6e, 0x76, 0x01, 0x61, 0x00, 0x00, 0x08, 0x63,
@@ -38,8 +39,8 @@ fn is_defined(parts: &ModuleParts) -> bool
     }
 }
 
-/// An import stays, three of the collector stand behind the imports, then the functions, and then the wrappers of exports and of the
-/// start function.
+/// An import stays, three of the collector stand behind the imports, then the functions, and then
+/// the wrappers of exports and of the start function.
 fn has_numbers(numbers: &IndexMap<'_>) -> bool {
     let parts = numbers.source();
     if !has_two_functions(parts) || !is_defined(parts) {

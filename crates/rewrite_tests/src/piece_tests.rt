@@ -1,5 +1,5 @@
-//! Pieces of rewritten bodies, written out by hand from the definitions, for a function of an i32 and an i64 that gives an i32, with four
-//! heights.
+//! Pieces of rewritten bodies, written out by hand from the definitions, for a function of an i32
+//! and an i64 that gives an i32, with four heights.
 
 ghost use Rattle.std.specs.Prelude.{◌≡◌, ◌≤◌, ◌<◌, length, IfOk};
 ghost use Rattle.std.specs.Bool.{OnTrue};
@@ -24,7 +24,8 @@ use wasm_syntax::{
 };
 use wasm_validate::Validated;
 
-/// Function 0 is imported; function 1 calls through a table, and is exported. Both have type 0. There is a global.
+/// Function 0 is imported; function 1 calls through a table, and is exported. Both have type 0.
+/// There is a global.
 const MODULE: [u8; 66] = [
     0x00, 0x61, 0x73, 0x6d, 0x01, 0x00, 0x00, 0x00, 0x01, 0x07, 0x01, 0x60, 0x02, 0x7f, 0x7e, 0x01,
     0x7f, 0x02, 0x07, 0x01, 0x01, 0x61, 0x01, 0x62, 0x00, 0x00, 0x03, 0x02, 0x01, 0x00, 0x04, 0x04,
@@ -35,7 +36,8 @@ const MODULE: [u8; 66] = [
 
 const EQUAL: Instr = Instr::Basic(Basic::Compare(ValType::I64, Compare::Eq));
 
-// Operands go to the stack and back, to a result local and from one, and to the collector; and a signed division is guarded.
+// Operands go to the stack and back, to a result local and from one, and to the collector; and a
+// signed division is guarded.
 const MOVES: [Instr; 37] = [
     Instr::Basic(Basic::Const(Value::I64(7))),
     Instr::Basic(Basic::LocalGet(7)),
@@ -76,7 +78,8 @@ const MOVES: [Instr; 37] = [
     Instr::End,
 ];
 
-// A branch with a condition, a table, the end of a loop, `return` and `unreachable`, over an i32 and an i64.
+// A branch with a condition, a table, the end of a loop, `return` and `unreachable`, over an i32
+// and an i64.
 const BRANCHES: [Instr; 29] = [
     Instr::Basic(Basic::Const(Value::I32(1))),
     Instr::If(None),
@@ -109,7 +112,8 @@ const BRANCHES: [Instr; 29] = [
     Instr::End,
 ];
 
-// A call through the table with an operand left, of the function that the module defines, and of the imported one.
+// A call through the table with an operand left, of the function that the module defines, and of
+// the imported one.
 const CALLS: [Instr; 47] = [
     Instr::Basic(Basic::LocalGet(8)),
     Instr::Jump(Jump::Call(6)),
@@ -160,7 +164,8 @@ const CALLS: [Instr; 47] = [
     Instr::End,
 ];
 
-// The ends of a body without nodes, a wrapper, and a helper of a table with an empty entry and one of the right type.
+// The ends of a body without nodes, a wrapper, and a helper of a table with an empty entry and one
+// of the right type.
 const ENDS: [Instr; 54] = [
     Instr::Block(None),
     Instr::Block(None),

@@ -43,7 +43,8 @@ fn weighs(
     Ok(found == expected && excess.is_none())
 }
 
-/// 512 for the module, 208, 224, 232 and 216 for its instructions, 224 for the function, 160 for the export, and 8 for each of 41 bytes.
+/// 512 for the module, 208, 224, 232 and 216 for its instructions, 224 for the function, 160 for
+/// the export, and 8 for each of 41 bytes.
 fn division_weighs(alloc: Global) -> Result<bool, NoMemory> {
     let heights = heights(alloc)?;
     match valid(alloc, &DIV) {

@@ -10,7 +10,8 @@ ghost use Rattle.run_session.specs.Written.{Writes};
 ghost use Rattle.run_command.specs.RunAnswer.{RunAnswer};
 ghost use Rattle.run_accepted.specs.Accepted.{InBounds, HoldBytes, DumpsAccepted};
 
-/// Each dump that `run` writes without `--collect`, of at most so many bytes as dumps may have, is decoded as a dump that can be one of the module that `run` read.
+/// Each dump that `run` writes without `--collect`, of at most so many bytes as dumps may have, is
+/// decoded as a dump that can be one of the module that `run` read.
 pub fn run_dumps_are_accepted()
     ensures { (before after : List DeviceState) (w : Asked) (first later : Contents)
         (given : List ServedCall) (writes : Writes) (o : Answer) → InBounds w → w.collect ≡ false

@@ -21,12 +21,13 @@ pub enum Handed<'a> {
     Nothing,
     /// They are whole.
     Whole(Collected<'a>),
-    /// There are some, and they are not whole. This is the first one up to and with which they begin no whole list.
+    /// There are some, and they are not whole. This is the first one up to and with which they
+    /// begin no whole list.
     Torn { at: usize },
 }
 
-/// What the collector calls of one invocation hand over, with the memory that it left and a name for the dump. The
-/// dump borrows the pages of the memory.
+/// What the collector calls of one invocation hand over, with the memory that it left and a name
+/// for the dump. The dump borrows the pages of the memory.
 ///
 /// # Errors
 ///

@@ -127,9 +127,9 @@ fn run_source<F: Files, D: Devices>(
     }
 }
 
-/// Runs the module in a file: its functions are invoked one after the other on one instance, with devices that serve its
-/// imports, and a dump is written at each trap. The names of the devices are distinct. A file that faults is named in the
-/// answer; dumps that were written before it stand.
+/// Runs the module in a file: its functions are invoked one after the other on one instance, with
+/// devices that serve its imports, and a dump is written at each trap. The names of the devices are
+/// distinct. A file that faults is named in the answer; dumps that were written before it stand.
 ///
 /// # Errors
 ///

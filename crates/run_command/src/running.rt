@@ -48,7 +48,8 @@ fn segment_cause(alloc: Global, fault: StartFault) -> Result<Text, NoMemory>
     }
 }
 
-/// A new instance, where all of these invocations may begin with a host side, or the answer that says why not.
+/// A new instance, where all of these invocations may begin with a host side, or the answer that
+/// says why not.
 ///
 /// # Errors
 ///
@@ -81,8 +82,9 @@ pub fn begin<'a, H: HostSide>(
     }
 }
 
-/// A new instance, where all invocations that the words name may begin, with a collector in front of the host side where
-/// the words ask for one; or the answer that says why not. The host side comes back.
+/// A new instance, where all invocations that the words name may begin, with a collector in front
+/// of the host side where the words ask for one; or the answer that says why not. The host side
+/// comes back.
 fn begin_with<'a, H: HostSide>(
     alloc: Global,
     source: &'a Validated,

@@ -41,7 +41,8 @@ fn misfit_cause(alloc: Global, number: u64) -> Result<Text, NoMemory>
     Ok(text)
 }
 
-/// The last line, behind so many replies and with so many invocations that were not begun. Empty where there is none.
+/// The last line, behind so many replies and with so many invocations that were not begun. Empty
+/// where there is none.
 ///
 /// # Errors
 ///

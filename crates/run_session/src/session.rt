@@ -78,8 +78,8 @@ fn depth_of(words: &RunWords) -> u32
     }
 }
 
-/// Makes one invocation, with the steps that are left of those for the whole list. The host side collects where the words ask
-/// for a collector, and has collected nothing.
+/// Makes one invocation, with the steps that are left of those for the whole list. The host side
+/// collects where the words ask for a collector, and has collected nothing.
 pub(crate) fn run_one<F: Files, H: Counting>(
     alloc: Global,
     files: &mut F,
@@ -145,7 +145,8 @@ pub(crate) fn run_one<F: Files, H: Counting>(
     )
 }
 
-/// Makes one invocation, where the words ask for it with a collector of its own in front of the host side, which comes back.
+/// Makes one invocation, where the words ask for it with a collector of its own in front of the
+/// host side, which comes back.
 fn run_next<F: Files, H: Counting>(
     alloc: Global,
     files: &mut F,
@@ -210,12 +211,13 @@ fn run_next<F: Files, H: Counting>(
     }
 }
 
-/// Makes the invocations that the words name one after the other on a new instance, up to the first one behind which the
-/// list does not go on, and writes a dump at each trap. There is at least one, all of them have their entries in the module,
-/// and the host side serves its imports and has served no call yet; it comes back. Where the words ask for a collector, each
-/// invocation has one of its own, and one whose collector calls are torn ends the list. All steps together are at most the
-/// fuel. The answer has the lines of what was run, and the status by its end. A dump whose file faults is named in the answer
-/// and ends the list; dumps that were written before it stand.
+/// Makes the invocations that the words name one after the other on a new instance, up to the first
+/// one behind which the list does not go on, and writes a dump at each trap. There is at least one,
+/// all of them have their entries in the module, and the host side serves its imports and has
+/// served no call yet; it comes back. Where the words ask for a collector, each invocation has one
+/// of its own, and one whose collector calls are torn ends the list. All steps together are at most
+/// the fuel. The answer has the lines of what was run, and the status by its end. A dump whose file
+/// faults is named in the answer and ends the list; dumps that were written before it stand.
 ///
 /// # Errors
 ///

@@ -104,8 +104,8 @@ fn with_calls<'a>(
     }
 }
 
-/// What is told of an invocation with this answer, which left the instance so. Its collector calls are looked at where the
-/// words ask for a collector. A dump borrows the instance's memory.
+/// What is told of an invocation with this answer, which left the instance so. Its collector calls
+/// are looked at where the words ask for a collector. A dump borrows the instance's memory.
 ///
 /// # Errors
 ///

@@ -140,8 +140,8 @@ fn add_told<F: Files>(
     }
 }
 
-/// Adds the lines of an invocation with this answer and these collector calls, which left the instance so and was given so
-/// many replies, and says how the list goes on.
+/// Adds the lines of an invocation with this answer and these collector calls, which left the
+/// instance so and was given so many replies, and says how the list goes on.
 pub(crate) fn end_turn<F: Files>(
     alloc: Global,
     files: &mut F,

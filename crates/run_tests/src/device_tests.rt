@@ -36,10 +36,12 @@ impl Kind {
     }
 }
 
-/// A call that a device replied to: its name, its argument if it has one, and the value of the reply.
+/// A call that a device replied to: its name, its argument if it has one, and the value of the
+/// reply.
 type Logged = (&'static str, Option<Value>, Option<Value>);
 
-/// A device, a module, the words behind `run m`, the status and the text, and the log and the faults of the device then.
+/// A device, a module, the words behind `run m`, the status and the text, and the log and the
+/// faults of the device then.
 struct Row {
     device: Kind,
     source: &'static [u8],
@@ -305,7 +307,8 @@ fn new_dropping(
     Ok(Dropping { console, drops })
 }
 
-/// Whether, behind a run that gets this, a console is in its set, can be released and attached again, and is dropped with the set alone.
+/// Whether, behind a run that gets this, a console is in its set, can be released and attached
+/// again, and is dropped with the set alone.
 fn is_dropped_once(alloc: Global, failing: u64, wanted: (u8, &str)) -> Result<bool, AllocError> {
     let drops = Rc::new(alloc, Cell::new(0))?;
     let mut devices = DeviceSet::new(alloc);

@@ -9,8 +9,8 @@ use std::alloc::Global;
 use std::marker::Model;
 use wasm_syntax::{HostCall, Reply, Served, Value};
 
-/// The device `memory`. To a call with an address it replies the byte that stands there, and to one without arguments how many pages are
-/// made.
+/// The device `memory`. To a call with an address it replies the byte that stands there, and to one
+/// without arguments how many pages are made.
 #[derive(Drop)]
 pub struct Looking {
     alloc: Global,

@@ -36,8 +36,9 @@ const MODULE_FAULT: (u8, &str) = (4, "file fault: \"m\"\n");
 
 const DUMP_FAULT: (u8, &str) = (4, "file fault: \"core.wasm\"\n");
 
-/// The call of `Files` that fails in a run of far stores, the status and text, and how long the dump is then, if it is there. The module is read in two
-/// calls. Then the dump is created, and gets its head of 104 bytes and each page behind its own head.
+/// The call of `Files` that fails in a run of far stores, the status and text, and how long the
+/// dump is then, if it is there. The module is read in two calls. Then the dump is created, and
+/// gets its head of 104 bytes and each page behind its own head.
 const FAULTS: [(u64, (u8, &str), Option<usize>); 8] = [
     (0, MODULE_FAULT, None),
     (1, MODULE_FAULT, None),
@@ -85,7 +86,8 @@ fn a_memory_is_written_page_by_page(rt: HostRuntime) {
 /// The module's header, and the id and size of the first section.
 const FRONT: [u8; 10] = [0x00, 0x61, 0x73, 0x6D, 0x01, 0x00, 0x00, 0x00, 0x00, 0x0D];
 
-/// Whether the call that adds the head of a dump, and fails behind its first ten bytes, leaves these.
+/// Whether the call that adds the head of a dump, and fails behind its first ten bytes, leaves
+/// these.
 fn is_front_left(alloc: Global) -> Result<bool, Fail> {
     let mut files = files_of(alloc, &FAR_STORES, b"", &[3])?;
     let part = Part { call: 3, bytes: 10 };
@@ -107,7 +109,8 @@ const TRAPPED: (u8, &str) = (
     "trap 1 unreachable\nat function 0 offset 19\nhost calls 0\n",
 );
 
-/// Pieces of the dump of far stores, and where they stand: two segments, at 0, which begins with 1, and at 268369920, which ends with 2.
+/// Pieces of the dump of far stores, and where they stand: two segments, at 0, which begins with 1,
+/// and at 268369920, which ends with 2.
 const PIECES: [(usize, &[u8]); 3] = [
     (
         103,

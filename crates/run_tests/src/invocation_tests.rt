@@ -5,8 +5,8 @@ use pm_outside::MemFiles;
 use std::alloc::Global;
 use test_modules::*;
 
-/// A module in the file `m`, replies in the file `r`, the words behind `run m`, the status and the text, and what `show core.wasm` prints
-/// then: nothing where no dump is written.
+/// A module in the file `m`, replies in the file `r`, the words behind `run m`, the status and the
+/// text, and what `show core.wasm` prints then: nothing where no dump is written.
 struct Row {
     source: &'static [u8],
     line: &'static str,

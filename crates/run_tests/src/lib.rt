@@ -1,5 +1,5 @@
-//! The command `run`, tested over files in memory and devices. The tests stand apart from `pm_cli`, so that it is not proved a second time with
-//! them.
+//! The command `run`, tested over files in memory and devices. The tests stand apart from `pm_cli`,
+//! so that it is not proved a second time with them.
 #![tactic(auto)]
 
 #[cfg(test)]

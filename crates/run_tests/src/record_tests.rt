@@ -10,7 +10,8 @@ use std::alloc::Global;
 use std::test::Fail;
 use test_modules::{HANDING, READING, TWICE_NEXT};
 
-/// The words behind `run m`, replies in the file `r`, the status and the text, and what the file `log` holds then, if it is there.
+/// The words behind `run m`, replies in the file `r`, the status and the text, and what the file
+/// `log` holds then, if it is there.
 struct Row {
     line: &'static str,
     replies: &'static str,
@@ -161,8 +162,9 @@ const DUMP_FAULT: &str = "file fault: \"core.wasm\"\n";
 
 const RECORD_FAULT: &str = "file fault: \"log\"\n";
 
-/// The call of `Files` that fails, the text, and whether a dump and a record are there then. The module is read in two calls and the replies in two; then
-/// the dump is made by two, and the record by two.
+/// The call of `Files` that fails, the text, and whether a dump and a record are there then. The
+/// module is read in two calls and the replies in two; then the dump is made by two, and the record
+/// by two.
 const FAULTS: [(u64, &str, bool, bool); 4] = [
     (4, DUMP_FAULT, false, false),
     (5, DUMP_FAULT, true, false),

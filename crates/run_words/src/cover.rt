@@ -62,7 +62,8 @@ fn asked(
     })
 }
 
-/// What the words behind `cover` ask for: `M ENTRY [ARG ...]` with the options `--replies FILE`, `--fuel N` and `--depth N` anywhere.
+/// What the words behind `cover` ask for: `M ENTRY [ARG ...]` with the options `--replies FILE`,
+/// `--fuel N` and `--depth N` anywhere.
 #[tactic(auto, unfolding(crate::specs::CoverWords::cover_words))]
 pub fn cover_words(alloc: Global, words: &[String]) -> Result<CoverWords, WordsFault>
     ensures ok { IfOk result (λ r. cover_words (map string_bytes words.now) ≡ Some r) }

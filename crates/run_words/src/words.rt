@@ -52,7 +52,8 @@ fn options() -> Options<'static>
     )
 }
 
-/// The number that an option gives, from `least` to `greatest`, or the default where it is not given.
+/// The number that an option gives, from `least` to `greatest`, or the default where it is not
+/// given.
 pub fn number_or(
     reading: &Reading<'_>,
     option: &str,
@@ -241,10 +242,11 @@ fn asked(
     })
 }
 
-/// What the words behind `run` ask for: `M ENTRY [ARG ...]`, then any number of `+ ENTRY [ARG ...]`, with the options
-/// `--replies FILE`, `--fuel N`, `--depth N`, `--dump FILE`, `--name TEXT`, `--record FILE` and `--collect` anywhere.
-/// Each plain word `+` behind the first plain word separates invocations, of which none is empty. The file for the
-/// record is none of those for dumps.
+/// What the words behind `run` ask for: `M ENTRY [ARG ...]`, then any number of
+/// `+ ENTRY [ARG ...]`, with the options `--replies FILE`, `--fuel N`, `--depth N`, `--dump FILE`,
+/// `--name TEXT`, `--record FILE` and `--collect` anywhere. Each plain word `+` behind the first
+/// plain word separates invocations, of which none is empty. The file for the record is none of
+/// those for dumps.
 #[tactic(auto, unfolding(crate::specs::RunWords::run_words))]
 pub fn run_words(alloc: Global, words: &[String]) -> Result<RunWords, WordsFault>
     ensures ok { IfOk result (λ r. run_words (map string_bytes words.now) ≡ Some r) }

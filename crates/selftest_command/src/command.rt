@@ -58,7 +58,8 @@ fn test_rewritten<F: Files, D: Devices>(
     write_both(alloc, files, bytes, &rewritten, done)
 }
 
-/// Tests the rewriting of the module, which is that of the self-test, or tells why it is not rewritten.
+/// Tests the rewriting of the module, which is that of the self-test, or tells why it is not
+/// rewritten.
 fn test_module<F: Files, D: Devices>(
     alloc: Global,
     files: &mut F,
@@ -125,9 +126,10 @@ fn test_bytes<F: Files, D: Devices>(
     }
 }
 
-/// Makes the module of a self-test of so many functions, writes it as `selftest.wasm` and what it is rewritten to as
-/// `selftest.inst.wasm`, and answers with a line on the dump that the rewritten module hands over, and on the steps that it
-/// made. A file that faults is named in the answer. The host side that runs it has no devices, of any kind.
+/// Makes the module of a self-test of so many functions, writes it as `selftest.wasm` and what it
+/// is rewritten to as `selftest.inst.wasm`, and answers with a line on the dump that the rewritten
+/// module hands over, and on the steps that it made. A file that faults is named in the answer. The
+/// host side that runs it has no devices, of any kind.
 ///
 /// # Errors
 ///

@@ -1,4 +1,5 @@
-//! The command `selftest`: a module that divides by zero under so many calls is written, and its rewriting, which is run with a collector.
+//! The command `selftest`: a module that divides by zero under so many calls is written, and its
+//! rewriting, which is run with a collector.
 #![tactic(auto)]
 
 mod command;

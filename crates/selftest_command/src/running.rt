@@ -22,7 +22,8 @@ use wasm_machine::{Instance, RunEnd, StartFault};
 use wasm_syntax::{CollectorCall, Value};
 use wasm_validate::Validated;
 
-/// How many frames may stand: the default number, and two more for the wrapper of an export and the helper of an indirect call.
+/// How many frames may stand: the default number, and two more for the wrapper of an export and the
+/// helper of an indirect call.
 const DEPTH: u32 = 1_002;
 
 /// How many steps may be made: the default number.
@@ -133,7 +134,8 @@ fn run_module<D: Devices>(
     }
 }
 
-/// Runs the module that the bytes spell. They are admitted as what a module is rewritten to that imports nothing.
+/// Runs the module that the bytes spell. They are admitted as what a module is rewritten to that
+/// imports nothing.
 pub(crate) fn run_bytes<D: Devices>(
     alloc: Global,
     bytes: &[u8],

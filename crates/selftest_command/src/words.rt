@@ -21,7 +21,8 @@ fn count(digits: &str) -> Option<u32>
     }
 }
 
-/// The number of functions that the words behind `selftest` ask for: one plain word, and no options.
+/// The number of functions that the words behind `selftest` ask for: one plain word, and no
+/// options.
 ///
 /// # Errors
 ///

@@ -14,8 +14,9 @@ pub fn selftests_are_accepted()
         → IsDecoded n m → IsAccepted m }
 {}
 
-/// The module that it is decoded as divides by zero under as many frames as there are functions. Whatever bytes are admitted as what it is
-/// rewritten to, the module that they spell hands over the dump of that, within the default number of steps.
+/// The module that it is decoded as divides by zero under as many frames as there are functions.
+/// Whatever bytes are admitted as what it is rewritten to, the module that they spell hands over
+/// the dump of that, within the default number of steps.
 pub fn rewritings_hand_over()
     ensures { (n : ℕ) (m : Parts) (bytes : List ℕ) (a : Admits m bytes) → 1 ≤ n → n ≤ 900
         → IsBytes (encoding (selftest n)) → IsDecoded n m → HandsAllOver n m a.decoded }

@@ -10,7 +10,8 @@ use causes::NoMemory;
 use std::alloc::Global;
 use wasm_encode::encode;
 
-/// The shortest encoding of the module of a self-test, which is decoded as a module with the same code.
+/// The shortest encoding of the module of a self-test, which is decoded as a module with the same
+/// code.
 pub fn selftest_bytes(alloc: Global, count: u32) -> Result<Vec<u8>, NoMemory>
     requires least { 1 ≤ count }
     requires most { count ≤ 900 }

@@ -1,5 +1,5 @@
-//! The module of a self-test of so many functions: each one stores, mixes sixteen numbers and calls the next one, and the last one divides
-//! by zero.
+//! The module of a self-test of so many functions: each one stores, mixes sixteen numbers and calls
+//! the next one, and the last one divides by zero.
 #![tactic(auto)]
 
 mod bytes;

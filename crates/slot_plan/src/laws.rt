@@ -3,8 +3,8 @@
 ghost use Rattle.std.specs.Prelude.{◌≡◌, ◌+◌, ◌*◌, ◌<◌, ◌≤◌, length};
 ghost use Rattle.slot_plan.specs.Plans.{Planned, AddedLocal, IsAdded, number};
 
-/// No two of the added locals are one, and none is one of the function's own: they stand behind those, and take up all the numbers from
-/// there on that are counted.
+/// No two of the added locals are one, and none is one of the function's own: they stand behind
+/// those, and take up all the numbers from there on that are counted.
 pub fn slots_are_apart()
     ensures distinct { (plan : Planned) (a b : AddedLocal) → IsAdded plan a → IsAdded plan b
         → number plan a ≡ number plan b → a ≡ b }

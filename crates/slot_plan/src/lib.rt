@@ -1,4 +1,5 @@
-//! Where a rewritten function keeps its operands, its result, and the kind and the offset of a trap: the locals that are added to it.
+//! Where a rewritten function keeps its operands, its result, and the kind and the offset of a
+//! trap: the locals that are added to it.
 #![tactic(auto)]
 
 mod heights;

@@ -20,7 +20,8 @@ use std::marker::Model;
 use wasm_syntax::{Body, Items, ModuleParts, ValType, Value};
 use wasm_validate::Validated;
 
-/// The types of a function's locals with its parameters, how many heights have slots, and where the operands are before each instruction.
+/// The types of a function's locals with its parameters, how many heights have slots, and where the
+/// operands are before each instruction.
 #[derive(Drop)]
 pub struct SlotPlan {
     locals: Items<ValType>,
@@ -124,7 +125,8 @@ impl SlotPlan {
         self.slots
     }
 
-    /// The local that keeps an operand of a type at a height, which is the number of operands below it.
+    /// The local that keeps an operand of a type at a height, which is the number of operands below
+    /// it.
     pub fn slot(&self, vtype: ValType, height: u32) -> u32
         requires { height < self.now.slots }
         ensures { result ≡ number self.now (Slot vtype height) }
@@ -153,8 +155,8 @@ impl SlotPlan {
         self.locals.len() as u32 + 2 * self.slots + 3
     }
 
-    /// The value of an operand before a live instruction, by the number of operands below it, where a constant instruction pushed it and it was
-    /// not taken since. Dead code has none.
+    /// The value of an operand before a live instruction, by the number of operands below it, where
+    /// a constant instruction pushed it and it was not taken since. Dead code has none.
     pub fn known(&self, op: u32, from_bottom: u32) -> Option<Value>
         ensures { result ≡ known_among (kept_at self.now.before op) from_bottom }
     {
@@ -165,7 +167,8 @@ impl SlotPlan {
         }
     }
 
-    /// How many locals are added: a slot of each type for each height, two for results, one for a kind and one for an offset.
+    /// How many locals are added: a slot of each type for each height, two for results, one for a
+    /// kind and one for an offset.
     pub fn locals(&self) -> u32
         ensures { result ≡ 2 * self.now.slots + 4 }
     {

@@ -43,8 +43,8 @@ fn all_frames(alloc: Global, instance: &Instance) -> Result<Frames, NoMemory>
     Ok(frames)
 }
 
-/// The dump of an instance where it stands, with one module and one instance of this name. Its segments are the memory's pages that are made,
-/// and borrow their bytes.
+/// The dump of an instance where it stands, with one module and one instance of this name. Its
+/// segments are the memory's pages that are made, and borrow their bytes.
 pub fn image<'a>(alloc: Global, instance: &'a Instance, name: &str) -> Result<Dump<'a>, NoMemory>
     ensures image { (p : Program) (c : Config) → StandsAt instance.now p c
         → IfOk result (λ d. Pictures (image_of c name.now) d) }

@@ -1,4 +1,5 @@
-//! The beginning and the end of blocks, loops and `if`s. A rewritten block gives nothing: its result is in the result local.
+//! The beginning and the end of blocks, loops and `if`s. A rewritten block gives nothing: its
+//! result is in the result local.
 
 ghost use Rattle.std.specs.Prelude.{◌≡◌, ◌≤◌, List, length, Some, None, OnOk};
 ghost use Rattle.wasm_syntax.specs.Tree.{stop, choose};

@@ -20,7 +20,8 @@ pub struct Target {
     pub carried: Option<ValType>,
 }
 
-/// What a branch to a label carries goes to the result local, and the code to the label of this number.
+/// What a branch to a label carries goes to the result local, and the code to the label of this
+/// number.
 fn go_to(
     context: &FunctionContext<'_, '_>,
     writer: &mut CodeWriter,
@@ -36,7 +37,8 @@ fn go_to(
     writer.branch(label)
 }
 
-/// `br`: the code goes to a label of this number, with what a branch to it carries. Where there is no such label, nothing is written.
+/// `br`: the code goes to a label of this number, with what a branch to it carries. Where there is
+/// no such label, nothing is written.
 pub fn branch_to(
     context: &FunctionContext<'_, '_>,
     writer: &mut CodeWriter,
@@ -74,7 +76,8 @@ fn branch_out(
     }
 }
 
-/// `br_if`: where the condition is not zero, the code goes to a label; `places` are the operands under the condition.
+/// `br_if`: where the condition is not zero, the code goes to a label; `places` are the operands
+/// under the condition.
 pub fn branch_if(
     context: &FunctionContext<'_, '_>,
     writer: &mut CodeWriter,
@@ -118,8 +121,9 @@ fn select(
     }
 }
 
-/// `br_table`: the code goes to one of the targets, with what a branch to the default carries; `places` are the operands under the selector. A
-/// body whose targets cannot be counted in 32 bits has no room.
+/// `br_table`: the code goes to one of the targets, with what a branch to the default carries;
+/// `places` are the operands under the selector. A body whose targets cannot be counted in 32 bits
+/// has no room.
 pub fn branch_table(
     context: &FunctionContext<'_, '_>,
     writer: &mut CodeWriter,

@@ -1,4 +1,5 @@
-//! The body of a rewritten function around its nodes: a block from which results go back, in a block behind which the frame is handed over.
+//! The body of a rewritten function around its nodes: a block from which results go back, in a
+//! block behind which the frame is handed over.
 
 ghost use Rattle.std.specs.Prelude.{◌≡◌, [], ◌∷◌, length, OnOk};
 ghost use Rattle.wasm_syntax.specs.Tree.{Nodes};
@@ -92,7 +93,8 @@ fn end_frame(context: &FunctionContext<'_, '_>, writer: &mut CodeWriter) -> Resu
     writer.call(context.map().frame_import())
 }
 
-/// Behind the exit block: the locals and the end of the frame are handed over, the flag is raised, and the function returns.
+/// Behind the exit block: the locals and the end of the frame are handed over, the flag is raised,
+/// and the function returns.
 fn exit(context: &FunctionContext<'_, '_>, writer: &mut CodeWriter) -> Result<(), NoMemory>
     ensures { OnOk result (EmitsLast (exit_code context.now) writer.old writer.new) }
 {

@@ -29,7 +29,8 @@ fn close_says(writer: &mut CodeWriter, kind: u32) -> Result<(), NoMemory>
     says(writer, kind)
 }
 
-/// The label of the entry, or that of an entry past the end of the table, where so many can be counted.
+/// The label of the entry, or that of an entry past the end of the table, where so many can be
+/// counted.
 fn select(writer: &mut CodeWriter, labels: &[u32]) -> Result<(), NoMemory>
     ensures { OnOk result (EmitsLast (basic 0 (LocalGetOf 0) (jump 0 (BrTable labels.now 1) stop))
         writer.old writer.new) }
@@ -42,7 +43,8 @@ fn select(writer: &mut CodeWriter, labels: &[u32]) -> Result<(), NoMemory>
     }
 }
 
-/// The nodes of the helper of a type, by the label of each entry of the table where an instance starts.
+/// The nodes of the helper of a type, by the label of each entry of the table where an instance
+/// starts.
 pub fn helper(writer: &mut CodeWriter, labels: &[u32]) -> Result<(), NoMemory>
     ensures { (m : Module) (t : ℕ) → labels.now ≡ map (entry_label m t) (first_table m)
         → OnOk result (EmitsLast (helper m t) writer.old writer.new) }

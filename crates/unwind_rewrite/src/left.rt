@@ -1,4 +1,5 @@
-//! The operands that a call leaves: they are handed over where the callee unwound, or where the call would trap.
+//! The operands that a call leaves: they are handed over where the callee unwound, or where the
+//! call would trap.
 
 ghost use Rattle.std.specs.Prelude.{◌≡◌, ◌+◌, ◌^◌, ◌<◌, ◌≤◌, List, length, OnOk};
 ghost use Rattle.wasm_syntax.specs.Tree.{stop};
@@ -169,7 +170,8 @@ fn unwind_both(
     hand_left(context, writer, labels, places, count)
 }
 
-/// The code unwinds where the guard of a call gave a kind or the flag is up; so many operands were its own.
+/// The code unwinds where the guard of a call gave a kind or the flag is up; so many operands were
+/// its own.
 pub(crate) fn test_both(
     context: &FunctionContext<'_, '_>,
     writer: &mut CodeWriter,

@@ -1,5 +1,5 @@
-//! Writes the pieces of a rewritten body: instructions, branches, calls, and the way out of a function that unwinds; and the bodies of
-//! wrappers and helpers.
+//! Writes the pieces of a rewritten body: instructions, branches, calls, and the way out of a
+//! function that unwinds; and the bodies of wrappers and helpers.
 #![tactic(auto)]
 
 mod blocks;

@@ -56,7 +56,8 @@ fn plain(
     on_operands(context, writer, places, instruction, taken, gives)
 }
 
-/// A basic instruction, which takes so many operands and gives a value of this type, if any. A constant is written out where it is used.
+/// A basic instruction, which takes so many operands and gives a value of this type, if any. A
+/// constant is written out where it is used.
 pub fn instruction(
     context: &FunctionContext<'_, '_>,
     writer: &mut CodeWriter,

@@ -55,7 +55,8 @@ fn tell_globals(
     Ok(())
 }
 
-/// The end of the dump: its kind, function and offset say that it is one, and it counts the globals.
+/// The end of the dump: its kind, function and offset say that it is one, and it counts the
+/// globals.
 fn end_dump(map: &IndexMap<'_>, writer: &mut CodeWriter) -> Result<(), NoMemory>
     ensures { OnOk result (EmitsLast
         (const (i32 255) (const (i32 0)

@@ -16,8 +16,8 @@ use std::alloc::Global;
 use validate_stack::{StackFault, TypeStack};
 use wasm_syntax::{BlockKind, Body, FuncType, ModuleParts, Op, ValType};
 
-/// Why a body is refused: at the code offset of the first instruction such that the body up to and with it begins no well-typed body, or
-/// for want of memory.
+/// Why a body is refused: at the code offset of the first instruction such that the body up to and
+/// with it begins no well-typed body, or for want of memory.
 #[derive(Clone, Copy, Debug, PartialEq, Eq)]
 pub enum BodyFault {
     WrongAt(u32),

@@ -9,8 +9,8 @@ use std::alloc::Global;
 use std::marker::Model;
 use wasm_syntax::{LocalGroup, ValType};
 
-/// The types of parameters and of groups of locals, which contracts see as one list. A group is found by the number of locals up to and
-/// with each.
+/// The types of parameters and of groups of locals, which contracts see as one list. A group is
+/// found by the number of locals up to and with each.
 #[derive(Drop)]
 pub struct Locals<'a> {
     params: &'a [ValType],

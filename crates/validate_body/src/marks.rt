@@ -7,8 +7,8 @@ use pm_text::Items;
 use validate_stack::TypeStack;
 use wasm_syntax::ValType;
 
-/// What is known before an instruction in live code: the number of operands of the function, over all open blocks, and the type of the
-/// topmost one, where there is one.
+/// What is known before an instruction in live code: the number of operands of the function, over
+/// all open blocks, and the type of the topmost one, where there is one.
 #[derive(Clone, Copy, Debug, PartialEq, Eq)]
 pub struct Mark {
     pub height: usize,

@@ -99,7 +99,8 @@ pub fn select(stack: &mut TypeStack) -> Result<(), StackFault>
     }
 }
 
-/// Takes types, the last one first. Dead code gives any types, so there it stops once nothing else is left.
+/// Takes types, the last one first. Dead code gives any types, so there it stops once nothing else
+/// is left.
 pub fn pop_all(stack: &mut TypeStack, types: &[ValType]) -> Result<(), StackFault>
     ensures { Did result (pops stack.old (reverse types.now)) stack.new }
 {

@@ -1,5 +1,5 @@
-//! The stack of the validation algorithm (Core, appendix "Validation Algorithm"): operand types, some of which may be unknown, under
-//! control frames.
+//! The stack of the validation algorithm (Core, appendix "Validation Algorithm"): operand types,
+//! some of which may be unknown, under control frames.
 #![tactic(auto)]
 
 mod pile;

@@ -41,7 +41,8 @@ pub struct Control {
     pub within: bool,
 }
 
-/// Operand types under control frames, which contracts see as frames that each hold their own operands, the innermost first.
+/// Operand types under control frames, which contracts see as frames that each hold their own
+/// operands, the innermost first.
 #[derive(Drop)]
 pub struct TypeStack {
     types: Pile<Option<ValType>>,

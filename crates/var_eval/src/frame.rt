@@ -12,8 +12,8 @@ use dwarf_scopes::subprogram_at;
 use std::alloc::Global;
 use std::marker::Model;
 
-/// A frame as its variables see it: what the sections of its module say, the address of the code where it stands, and what is
-/// recorded of it.
+/// A frame as its variables see it: what the sections of its module say, the address of the code
+/// where it stands, and what is recorded of it.
 #[derive(Drop)]
 pub struct Frame<'s, 'u, 'w, 'v, 'a> {
     sections: &'s Sections5<'a>,

@@ -49,7 +49,8 @@ fn without_innermost(unclosed: &[u8]) -> Option<&[u8]>
     }
 }
 
-/// A closing parenthesis: appends the steps of the stars behind the innermost opening one, and gives what is open around that.
+/// A closing parenthesis: appends the steps of the stars behind the innermost opening one, and
+/// gives what is open around that.
 fn close<'f, 't>(unclosed: &'f [u8], steps: &mut Steps<'t>) -> Result<Option<&'f [u8]>, NoMemory>
     ensures steps { OnOk result (steps.new ≡ steps.old ++ reading.derefs (reverse unclosed.now)) }
     ensures outer { IfOk result (λ o. MatchOption o
@@ -61,7 +62,8 @@ fn close<'f, 't>(unclosed: &'f [u8], steps: &mut Steps<'t>) -> Result<Option<&'f
     Ok(without_innermost(inner))
 }
 
-/// The steps and closing parentheses behind a name. In front of it these stars and parentheses were opened.
+/// The steps and closing parentheses behind a name. In front of it these stars and parentheses were
+/// opened.
 fn steps_behind<'t>(
     alloc: Global,
     front: &[u8],
@@ -116,7 +118,8 @@ fn read_path<'t>(alloc: Global, text: &'t str) -> Result<Option<Path<'t>>, NoMem
     }
 }
 
-/// The path that a text spells, or None where it is no path. Memory is taken for the list of its steps.
+/// The path that a text spells, or None where it is no path. Memory is taken for the list of its
+/// steps.
 pub fn parse_path<'t>(alloc: Global, text: &'t str) -> Result<Option<Path<'t>>, NoMemory>
     ensures read { IfOk result (λ p. p ≡ reading.read_path text.now) }
     ensures spelled { IfOk result (λ p. (q : AnyPath) → (p ≡ Some q) ↔ SpellsPath q text.now) }

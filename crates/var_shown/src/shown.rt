@@ -70,12 +70,13 @@ fn shown_behind<'r, 'a>(
     }
 }
 
-/// What is shown of the variable that a path names, or of the part of it that is behind the path's steps.
+/// What is shown of the variable that a path names, or of the part of it that is behind the path's
+/// steps.
 ///
 /// # Errors
 ///
-/// Want of memory also where the steps lead 2^118 bytes from where a variable, or what a pointer leads to, begins: millions of
-/// steps do.
+/// Want of memory also where the steps lead 2^118 bytes from where a variable, or what a pointer
+/// leads to, begins: millions of steps do.
 #[tactic(auto, unfolding(crate::specs::Shown::path_shown))]
 pub fn value_of<'r, 'a>(
     alloc: Global,

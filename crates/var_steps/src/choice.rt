@@ -63,7 +63,8 @@ fn unit_variable<'r, 'a>(
     first_picked(&UnitVariable { units, name }, unit, unit.entries.as_slice())
 }
 
-/// The last visible variable of a name, or else the first that is the own one of the unit of the subprogram.
+/// The last visible variable of a name, or else the first that is the own one of the unit of the
+/// subprogram.
 #[tactic(auto, unfolding(crate::specs::Chosen::chosen))]
 pub fn chosen<'r, 'a>(
     alloc: Global,

@@ -35,7 +35,8 @@ fn first_subrange<'r, 'a>(entries: &'r [Entry<'a>], depth: u32) -> Option<&'r En
     None
 }
 
-/// Whether an index is at or past the count of an array behind its first so many subranges, where that is known.
+/// Whether an index is at or past the count of an array behind its first so many subranges, where
+/// that is known.
 fn is_past(standing: &Standing<'_, '_>, skipped: usize, index: u32) -> bool
     ensures { result ≡ steps.is_past (drop skipped (counts standing.now)) index }
 {
@@ -60,7 +61,8 @@ fn has_rows(standing: &Standing<'_, '_>, skipped: usize) -> bool
     skipped < entries.len() && has_subranges(subranges_behind(entries, depth, skipped + 1), depth)
 }
 
-/// The type of the elements of an array behind its first so many subranges: rows of it, or the type that it has.
+/// The type of the elements of an array behind its first so many subranges: rows of it, or the type
+/// that it has.
 fn element_type<'r, 'a>(units: &'r Units<'a>, met: Met<'r, 'a>) -> Typed<'r, 'a>
     ensures { result ≡ steps.element_type units.now met.entry.standing met.entry.skipped }
 {

@@ -41,7 +41,8 @@ fn member_named<'r, 'a>(
     None
 }
 
-/// The offset and the bits of a member of a structure that stands there; None where it is of another form.
+/// The offset and the bits of a member of a structure that stands there; None where it is of
+/// another form.
 fn offset_of(spot: &Spot, member: &Entry<'_>) -> Option<(i128, Option<Bits>)>
     ensures { option_map
         (λ x. record { source = spot.now.source; offset = x.0; bits = x.1 }) result

@@ -52,12 +52,13 @@ fn take_steps<'r, 'a>(
     Ok(part)
 }
 
-/// The part that is behind all steps, from a variable of this type that comes from this source; or the mark of the first step
-/// that does not fit.
+/// The part that is behind all steps, from a variable of this type that comes from this source; or
+/// the mark of the first step that does not fit.
 ///
 /// # Errors
 ///
-/// Want of memory also where an offset in a source passes 2^118 bytes, which takes millions of steps.
+/// Want of memory also where an offset in a source passes 2^118 bytes, which takes millions of
+/// steps.
 pub fn walk<'r, 'a>(
     units: &'r Units<'a>,
     view: &FrameView<'_>,

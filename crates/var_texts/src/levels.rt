@@ -25,7 +25,8 @@ pub struct OpenRow {
 pub enum Step {
     /// There are more steps.
     On,
-    /// An innermost element is to be written, which stands so many bytes from the start of the array on.
+    /// An innermost element is to be written, which stands so many bytes from the start of the
+    /// array on.
     Element(u64),
     /// All is written.
     End,

@@ -66,7 +66,8 @@ fn at_bits<'s>(place: &Place<'s>, entry: &Entry<'_>) -> Option<Place<'s>>
     })
 }
 
-/// Where a member of a structure stands that stands at a place. None where the member is of another form.
+/// Where a member of a structure stands that stands at a place. None where the member is of another
+/// form.
 #[tactic(auto, unfolding(crate::specs::Members::member_at))]
 pub fn member_at<'s>(place: &Place<'s>, entry: &Entry<'_>) -> Option<Place<'s>>
     requires near { IsNear 1 place.now.offset }

@@ -136,8 +136,8 @@ impl Rows {
         }
     }
 
-    /// Writes what stands in front of the next innermost element. How many bytes from the start of the array on it stands, or
-    /// None where all is written.
+    /// Writes what stands in front of the next innermost element. How many bytes from the start of
+    /// the array on it stands, or None where all is written.
     pub fn next(&mut self, text: &mut Text) -> Result<Option<u64>, NoMemory>
         requires sound { AreSound self.old }
         ensures sound { OnOk result (AreSound self.new) }

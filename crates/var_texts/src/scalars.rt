@@ -161,7 +161,8 @@ fn push_word<'r, 'a>(
     }
 }
 
-/// Appends the text of a pointer, an enumeration or a base type of this size, or tells the mark in its place.
+/// Appends the text of a pointer, an enumeration or a base type of this size, or tells the mark in
+/// its place.
 #[tactic(auto, unfolding(crate::specs::Scalars::scalar_text))]
 pub fn push_scalar<'r, 'a>(
     text: &mut Text,

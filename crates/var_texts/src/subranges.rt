@@ -28,7 +28,8 @@ fn push_level(levels: &mut Items<Level>, step: u64, entry: &Entry<'_>) -> Result
     Ok((count * u128::from(step)) as u64)
 }
 
-/// The levels of the subranges among entries of this depth, the outermost last, where the innermost elements have this size.
+/// The levels of the subranges among entries of this depth, the outermost last, where the innermost
+/// elements have this size.
 fn levels_among(
     alloc: Global,
     entries: &[Entry<'_>],
@@ -53,7 +54,8 @@ fn levels_among(
     Ok(levels)
 }
 
-/// The levels of an array without its first so many subranges, the outermost last, where its innermost elements have this size.
+/// The levels of an array without its first so many subranges, the outermost last, where its
+/// innermost elements have this size.
 pub fn levels_of(
     alloc: Global,
     standing: &Standing<'_, '_>,

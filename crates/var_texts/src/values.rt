@@ -73,7 +73,8 @@ fn array_levels<'r, 'a>(
     Ok(levels)
 }
 
-/// Appends the text of a value, or tells the mark in its place, where at most so many type entries follow each other.
+/// Appends the text of a value, or tells the mark in its place, where at most so many type entries
+/// follow each other.
 #[cycle(values)]
 fn push_within<'r, 'w, 'v, 'a>(
     text: &mut Text,
@@ -103,7 +104,8 @@ fn push_within<'r, 'w, 'v, 'a>(
     }
 }
 
-/// Appends the text of a value, or tells the mark in its place, where no other type stands behind the type.
+/// Appends the text of a value, or tells the mark in its place, where no other type stands behind
+/// the type.
 #[cycle(values)]
 fn push_passed<'r, 'w, 'v, 'a>(
     text: &mut Text,
@@ -324,7 +326,8 @@ fn push_rows<'r, 'w, 'v, 'a>(
     }
 }
 
-/// Appends the text of an array without its first so many subranges, or tells the mark in its place.
+/// Appends the text of an array without its first so many subranges, or tells the mark in its
+/// place.
 #[cycle(values)]
 fn push_array<'r, 'w, 'v, 'a>(
     text: &mut Text,
@@ -352,7 +355,8 @@ fn push_array<'r, 'w, 'v, 'a>(
     Ok(None)
 }
 
-/// Appends the text of a value of a type at a place, or appends nothing and tells the mark in its place.
+/// Appends the text of a value of a type at a place, or appends nothing and tells the mark in its
+/// place.
 pub fn push_value<'r, 'a>(
     alloc: Global,
     text: &mut Text,

@@ -80,7 +80,8 @@ fn push_boolean(text: &mut Text, word: u128) -> Result<(), NoMemory>
     }
 }
 
-/// Appends the text of a base type: by its encoding and size its bits as an unsigned number, or the number that they are.
+/// Appends the text of a base type: by its encoding and size its bits as an unsigned number, or the
+/// number that they are.
 #[tactic(auto, unfolding(crate::specs::Texts::base_text))]
 pub fn push_base(
     text: &mut Text,

@@ -14,7 +14,8 @@ pub struct Malformed {
 /// Why a value that takes memory is not read.
 #[derive(Clone, Copy, Debug, PartialEq, Eq)]
 pub enum ItemFault {
-    /// The item at this offset has no reading. Offsets are in bytes from the first byte of the input.
+    /// The item at this offset has no reading. Offsets are in bytes from the first byte of the
+    /// input.
     At(usize),
     /// Memory ran out.
     NoMemory,

@@ -9,9 +9,11 @@ use crate::faults::ItemFault;
 use crate::reader::Reader;
 use std::alloc::Global;
 
-/// A state that takes one element after another. What an element may be can depend on those before it.
+/// A state that takes one element after another. What an element may be can depend on those before
+/// it.
 pub trait Gather<'a> {
-    /// The state with the next element and the place behind that, or the offset of the first item without a reading.
+    /// The state with the next element and the place behind that, or the offset of the first item
+    /// without a reading.
     ghost step: { Self → Place → Read Self };
 
     fn take(&mut self, alloc: Global, reader: &mut Reader<'a>) -> Result<(), ItemFault>

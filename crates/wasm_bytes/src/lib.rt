@@ -1,4 +1,5 @@
-//! Reading the bytes of WebAssembly's formats from left to right: places, single items, blocks and vectors.
+//! Reading the bytes of WebAssembly's formats from left to right: places, single items, blocks and
+//! vectors.
 #![tactic(auto)]
 
 mod faults;

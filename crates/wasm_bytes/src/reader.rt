@@ -207,7 +207,8 @@ impl<'a> Reader<'a> {
         self.run(len as usize)
     }
 
-    /// A name: a length, and as many bytes of UTF-8 (Core 5.2.4). It is one item, which begins at its length.
+    /// A name: a length, and as many bytes of UTF-8 (Core 5.2.4). It is one item, which begins at
+    /// its length.
     #[tactic(auto, using(crate::proofs::Utf8::utf8_tests), unfolding(crate::specs::Reading::name_item))]
     pub fn name(&mut self) -> Result<&'a str, Malformed>
         ensures item { Reads (result_now result) self.new (name_item self.old) }
@@ -248,8 +249,8 @@ impl<'a> Reader<'a> {
         self.cut(u64::from(size), start)
     }
 
-    /// A reader of the block of so many bytes that begins here. This one goes on behind the block. The error is the offset that
-    /// is given, where the block does not end inside this one.
+    /// A reader of the block of so many bytes that begins here. This one goes on behind the block.
+    /// The error is the offset that is given, where the block does not end inside this one.
     pub fn cut(&mut self, len: u64, at: usize) -> Result<Reader<'a>, Malformed>
         ensures item { Reads result self.new (if_inside at (len, self.old)) }
         ensures stays { OnOk result (Stays self.old self.new) }

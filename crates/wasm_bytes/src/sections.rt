@@ -47,8 +47,8 @@ fn placed(bytes: &[u8], at: usize) -> Result<SectionFrame, usize>
     }
 }
 
-/// The frame of the section at an offset (Core 5.5.2). The error is the offset of the id or of the size, where that has
-/// no reading.
+/// The frame of the section at an offset (Core 5.5.2). The error is the offset of the id or of the
+/// size, where that has no reading.
 pub fn section_at(bytes: &[u8], at: usize) -> Result<SectionFrame, usize>
     requires { at ≤ length bytes.now }
     ensures exact { result ≡ section_of bytes.now at }

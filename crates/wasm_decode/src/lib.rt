@@ -1,4 +1,5 @@
-//! The decoder of modules (Core 5): the sections judged as a module within the limits, and the names of functions.
+//! The decoder of modules (Core 5): the sections judged as a module within the limits, and the
+//! names of functions.
 #![tactic(auto)]
 
 mod fault;

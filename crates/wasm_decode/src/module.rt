@@ -94,10 +94,10 @@ fn decoded(alloc: Global, bytes: &[u8]) -> Result<Module, DecodeFault>
 ///
 /// # Errors
 ///
-/// In this order: too many bytes; `Malformed`, at the first item without a reading, or at the end where an item or the body
-/// of a function is still due; `Float`, at the first float type or float opcode; `ImportKind`, for the first import that is
-/// no function; a limit of locals, then of nesting, each by functions, then of tables, then of memories. `NoMemory` where
-/// memory runs out.
+/// In this order: too many bytes; `Malformed`, at the first item without a reading, or at the end
+/// where an item or the body of a function is still due; `Float`, at the first float type or float
+/// opcode; `ImportKind`, for the first import that is no function; a limit of locals, then of
+/// nesting, each by functions, then of tables, then of memories. `NoMemory` where memory runs out.
 pub fn decode(alloc: Global, bytes: &[u8]) -> Result<Module, DecodeFault>
     ensures exact { Answers result (module_from bytes.now) }
     ensures found { (m : Parts) → Exactly result (Ok m) (IsModuleOf bytes.now m) }

@@ -17,7 +17,8 @@ use wasm_bytes::ItemFault;
 use wasm_sections::{Collect, Input, collect_count};
 use wasm_syntax::{Custom, Module};
 
-/// Names by the indices of functions, which contracts see as pairs in the order of their first mention.
+/// Names by the indices of functions, which contracts see as pairs in the order of their first
+/// mention.
 #[derive(Drop)]
 pub struct Names {
     names: IndexMap<u32, Text>,
@@ -174,9 +175,10 @@ fn names_of(alloc: Global, bytes: &[u8], module: &Module) -> Result<Names, NoMem
     first_names(alloc, bytes, module.parts().customs.as_slice())
 }
 
-/// The names of functions that the first custom section `name` of a module gives: its first subsection of function names,
-/// in which the first name of an index counts. There are none where the section or the subsection is not there, or where an
-/// item of the section has no reading. The bytes are those that the module was decoded from.
+/// The names of functions that the first custom section `name` of a module gives: its first
+/// subsection of function names, in which the first name of an index counts. There are none where
+/// the section or the subsection is not there, or where an item of the section has no reading. The
+/// bytes are those that the module was decoded from.
 pub fn function_names(alloc: Global, bytes: &[u8], module: &Module) -> Result<Names, NoMemory>
     requires { length bytes.now < 2 ^ 32 }
     ensures exact { IfOk result (λ names. names ≡ names_from bytes.now «module».now.customs) }

@@ -1,5 +1,5 @@
-//! The shortest binary encoding of a module (Core 5.5): no custom sections, no empty sections, and every number in its shortest
-//! spelling.
+//! The shortest binary encoding of a module (Core 5.5): no custom sections, no empty sections, and
+//! every number in its shortest spelling.
 #![tactic(auto)]
 
 mod entries;

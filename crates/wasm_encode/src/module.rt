@@ -56,8 +56,8 @@ fn encode_parts(alloc: Global, m: &ModuleParts) -> Result<Vec<u8>, NoMemory>
     Ok(out)
 }
 
-/// The shortest encoding of a module, without custom sections (Core 5.5). That of a module within the limits of decoding spells
-/// a module with the same code.
+/// The shortest encoding of a module, without custom sections (Core 5.5). That of a module within
+/// the limits of decoding spells a module with the same code.
 pub fn encode(alloc: Global, module: &Module) -> Result<Vec<u8>, NoMemory>
     requires { length (encoding «module».now) ≤ 134_217_728 }
     ensures exact { IfOk result (λ bytes. bytes.items ≡ encoding «module».now) }

@@ -10,7 +10,8 @@ pub struct Expression {
     pub origin: u32,
     pub ops: Ops,
     pub targets: Labels,
-    /// What opened the blocks that are open there, the innermost on top. None is open behind the last `end`.
+    /// What opened the blocks that are open there, the innermost on top. None is open behind the
+    /// last `end`.
     pub blocks: Pile<BlockKind>,
     /// The offset of the first float type or float opcode.
     pub float: Option<usize>,

@@ -1,4 +1,5 @@
-//! The binary format of modules (Core 5.5): what a module's bytes say, and (in `specs/`) which bytes spell it and how they are read.
+//! The binary format of modules (Core 5.5): what a module's bytes say, and (in `specs/`) which
+//! bytes spell it and how they are read.
 #![tactic(auto)]
 
 mod expression;

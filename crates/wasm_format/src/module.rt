@@ -17,7 +17,8 @@ pub enum Imported {
 pub struct SpelledModule {
     /// The id of the last section that is no custom section, or 0.
     pub last: u8,
-    /// The offset of the first float type or float opcode, in bytes from the first byte of the input.
+    /// The offset of the first float type or float opcode, in bytes from the first byte of the
+    /// input.
     pub float: Option<usize>,
     pub imports: Items<Imported>,
     /// All but the imports. Floats stand as integers.

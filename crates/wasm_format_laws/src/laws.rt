@@ -23,8 +23,9 @@ pub fn one_reading()
     ensures either { (bytes : List ℕ) → IsBytes bytes → Reads bytes ⊎ Breaks bytes }
 {}
 
-/// Within the limits of decoding, the encoding of a module is decoded as a module with the same code. So are other bytes that
-/// spell that. The numbers of a value of `Module` always fit their types.
+/// Within the limits of decoding, the encoding of a module is decoded as a module with the same
+/// code. So are other bytes that spell that. The numbers of a value of `Module` always fit their
+/// types.
 pub fn decoding_the_encoding()
     ensures encoded { (m : Parts) → IsModule m → FitsModule m → WithinLimits m
         → length (encoding m) ≤ 134_217_728 → DecodesSame m (encoding m) }

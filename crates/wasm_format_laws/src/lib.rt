@@ -1,5 +1,5 @@
-//! Laws of the binary format of modules (Core 5), which join its grammar, the decoder and the encoder: each is the contract of a
-//! function with an empty body.
+//! Laws of the binary format of modules (Core 5), which join its grammar, the decoder and the
+//! encoder: each is the contract of a function with an empty body.
 #![tactic(auto)]
 
 pub mod laws;

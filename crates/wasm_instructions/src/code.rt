@@ -9,8 +9,8 @@ use wasm_syntax::{Instr, Labels};
 #[derive(Clone, Copy)]
 pub enum Code {
     Known(Instr),
-    /// An instruction that has a float type: the offset of the float opcode, or of the byte that is the type of a block,
-    /// in bytes from the first byte of the input.
+    /// An instruction that has a float type: the offset of the float opcode, or of the byte that is
+    /// the type of a block, in bytes from the first byte of the input.
     Float { at: usize },
 }
 
@@ -29,7 +29,8 @@ impl Code {
 /// An instruction that stands alone.
 #[derive(Drop)]
 pub struct ReadInstr {
-    /// None where the instruction has a float type. A `br_table` has its targets from the first one on.
+    /// None where the instruction has a float type. A `br_table` has its targets from the first one
+    /// on.
     pub code: Option<Instr>,
     /// The targets of a `br_table`, without its default.
     pub targets: Labels,

@@ -1,4 +1,5 @@
-//! The binary format of instructions (Core 5.4), with the sign extensions, `memory.copy` and `memory.fill` of Core 2.0.
+//! The binary format of instructions (Core 5.4), with the sign extensions, `memory.copy` and
+//! `memory.fill` of Core 2.0.
 #![tactic(auto)]
 
 mod code;

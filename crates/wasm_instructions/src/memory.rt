@@ -92,7 +92,8 @@ pub fn read_store(opcode: u8, at: usize, reader: &mut Reader<'_>) -> Result<Code
     }
 }
 
-/// The size of a memory or its growth, or a constant, behind its opcode, which stood at that offset.
+/// The size of a memory or its growth, or a constant, behind its opcode, which stood at that
+/// offset.
 pub fn read_size_or_constant(
     opcode: u8,
     at: usize,
@@ -126,8 +127,8 @@ pub fn read_size_or_constant(
     Ok(Code::Known(Instr::Basic(basic)))
 }
 
-/// A copy or a fill of memory, behind its first byte: a number that says which of them it is, and a zero byte for each
-/// memory that it names.
+/// A copy or a fill of memory, behind its first byte: a number that says which of them it is, and a
+/// zero byte for each memory that it names.
 #[tactic(auto, unfolding(crate::specs::Reading::bulk_item))]
 pub fn read_bulk(reader: &mut Reader<'_>) -> Result<Code, Malformed>
     ensures item { Reads (made result) reader.new (bulk_item reader.old) }

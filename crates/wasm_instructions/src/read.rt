@@ -52,7 +52,8 @@ fn read_targets(count: u32, targets: &mut Labels, reader: &mut Reader<'_>) -> Re
     Ok(())
 }
 
-/// A `br_table`, behind its opcode: its targets, which are added to those before them, and its default.
+/// A `br_table`, behind its opcode: its targets, which are added to those before them, and its
+/// default.
 #[tactic(auto, unfolding(wasm_bytes::specs::Reading::vector_item))]
 fn read_labels(targets: &mut Labels, reader: &mut Reader<'_>) -> Result<Code, ItemFault>
     requires { length targets.old < 2 ^ 32 }
@@ -69,8 +70,8 @@ fn read_labels(targets: &mut Labels, reader: &mut Reader<'_>) -> Result<Code, It
     Ok(Code::Known(Instr::Jump(Jump::BrTable(first, count, default))))
 }
 
-/// The instruction at the place of a reader (Core 5.4). The targets of a `br_table` are added to those of its body before
-/// it, and each of them takes a byte or more.
+/// The instruction at the place of a reader (Core 5.4). The targets of a `br_table` are added to
+/// those of its body before it, and each of them takes a byte or more.
 pub fn read_code(targets: &mut Labels, reader: &mut Reader<'_>) -> Result<Code, ItemFault>
     requires { length targets.old < 2 ^ 32 }
     ensures item { Gives (beside targets.new result) reader.new (code_item targets.old reader.old) }

@@ -160,7 +160,8 @@ fn block_type_byte(block_type: Option<ValType>) -> u8
 
 // ---- an opcode and its immediates
 
-/// Appends bytes. Where memory runs out, here and below, the bytes may have a part of the new ones at their end.
+/// Appends bytes. Where memory runs out, here and below, the bytes may have a part of the new ones
+/// at their end.
 fn push_bytes(out: &mut Vec<u8>, bytes: &[u8]) -> Result<(), NoMemory>
     ensures exact { OnOk result (out.new.items ≡ out.old.items ++ bytes.now) }
     ensures front { take (length out.old.items) out.new.items ≡ out.old.items }
@@ -332,8 +333,8 @@ fn append_instr(out: &mut Vec<u8>, code: &Instr, targets: &Labels) -> Result<(),
     done
 }
 
-/// Appends the shortest spelling of an instruction of a body with these targets (Core 5.4), or leaves the bytes as they
-/// were.
+/// Appends the shortest spelling of an instruction of a body with these targets (Core 5.4), or
+/// leaves the bytes as they were.
 pub fn write_instr(out: &mut Vec<u8>, code: &Instr, targets: &Labels) -> Result<(), NoMemory>
     requires { IsInside targets.now code.now }
     ensures exact { OnOk result (out.new.items ≡ out.old.items ++ encoding targets.now code.now) }

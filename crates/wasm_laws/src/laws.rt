@@ -68,7 +68,8 @@ pub fn flat_static_is_the_same()
         → Static m ftype body op.at types ↔ TypesBefore m ftype body i types }
 {}
 
-/// What an invocation came to, other than being still under way, it comes to with every greater number of steps; only more of them are left.
+/// What an invocation came to, other than being still under way, it comes to with every greater
+/// number of steps; only more of them are left.
 pub fn outcome_stays()
     ensures { (p : Program) (collecting : Bool) (invocations : List Invocation)
         (replies : List HostReply) (depth n m : ℕ) → n ≤ m
@@ -76,7 +77,8 @@ pub fn outcome_stays()
         (run p collecting invocations replies depth m) }
 {}
 
-/// No run of a valid module gets stuck, whatever the invocations, their arguments, the replies, the depth and the number of steps.
+/// No run of a valid module gets stuck, whatever the invocations, their arguments, the replies, the
+/// depth and the number of steps.
 pub fn never_stuck()
     ensures { (p : Program) (collecting : Bool) (invocations : List Invocation)
         (replies : List HostReply) (depth n : ℕ) → IsProgram p

@@ -41,7 +41,8 @@ fn placed_u32(bytes: &[u8], at: usize) -> Result<(u32, usize), LebFault>
 }
 
 /// The unsigned 32-bit number at an offset in bytes, and the offset behind it (Core 5.2.2).
-/// `Truncated` where the bytes end inside the number, `TooLong` where 5 bytes are there and are no spelling.
+/// `Truncated` where the bytes end inside the number, `TooLong` where 5 bytes are there and are no
+/// spelling.
 pub fn read_u32(bytes: &[u8], at: usize) -> Result<(u32, usize), LebFault>
     requires { at ≤ length bytes.now }
     ensures exact { result ≡ u32_at bytes.now at }
@@ -64,7 +65,8 @@ fn placed_u64(bytes: &[u8], at: usize) -> Result<(u64, usize), LebFault>
 }
 
 /// The unsigned 64-bit number at an offset in bytes, and the offset behind it (Core 5.2.2).
-/// `Truncated` where the bytes end inside the number, `TooLong` where 10 bytes are there and are no spelling.
+/// `Truncated` where the bytes end inside the number, `TooLong` where 10 bytes are there and are no
+/// spelling.
 pub fn read_u64(bytes: &[u8], at: usize) -> Result<(u64, usize), LebFault>
     requires { at ≤ length bytes.now }
     ensures exact { result ≡ u64_at bytes.now at }
@@ -132,7 +134,8 @@ fn placed_s32(bytes: &[u8], at: usize) -> Result<(i32, usize), LebFault>
 }
 
 /// The signed 32-bit number at an offset in bytes, and the offset behind it (Core 5.2.2).
-/// `Truncated` where the bytes end inside the number, `TooLong` where 5 bytes are there and are no spelling.
+/// `Truncated` where the bytes end inside the number, `TooLong` where 5 bytes are there and are no
+/// spelling.
 pub fn read_s32(bytes: &[u8], at: usize) -> Result<(i32, usize), LebFault>
     requires { at ≤ length bytes.now }
     ensures exact { result ≡ s32_at bytes.now at }
@@ -155,7 +158,8 @@ fn placed_s64(bytes: &[u8], at: usize) -> Result<(i64, usize), LebFault>
 }
 
 /// The signed 64-bit number at an offset in bytes, and the offset behind it (Core 5.2.2).
-/// `Truncated` where the bytes end inside the number, `TooLong` where 10 bytes are there and are no spelling.
+/// `Truncated` where the bytes end inside the number, `TooLong` where 10 bytes are there and are no
+/// spelling.
 pub fn read_s64(bytes: &[u8], at: usize) -> Result<(i64, usize), LebFault>
     requires { at ≤ length bytes.now }
     ensures exact { result ≡ s64_at bytes.now at }

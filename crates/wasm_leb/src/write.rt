@@ -6,7 +6,8 @@ ghost use Rattle.wasm_leb.specs.Writing.{unsigned_bytes, low_seven, above_seven,
 
 use crate::NoMemory;
 
-/// Appends the shortest spelling. Where memory runs out, the bytes may have a part of it at their end.
+/// Appends the shortest spelling. Where memory runs out, the bytes may have a part of it at their
+/// end.
 #[tactic(auto, using(crate::proofs::UnsignedBytes::one_byte, crate::proofs::UnsignedBytes::more_bytes))]
 fn push_unsigned(out: &mut Vec<u8>, v: u64) -> Result<(), NoMemory>
     ensures exact { OnOk result (out.new.items ≡ out.old.items ++ unsigned_bytes v) }
@@ -34,7 +35,8 @@ fn append_unsigned(out: &mut Vec<u8>, v: u64) -> Result<(), NoMemory>
     done
 }
 
-/// Appends the shortest spelling of an unsigned 32-bit number (Core 5.2.2), or leaves the bytes as they were.
+/// Appends the shortest spelling of an unsigned 32-bit number (Core 5.2.2), or leaves the bytes as
+/// they were.
 pub fn write_u32(out: &mut Vec<u8>, v: u32) -> Result<(), NoMemory>
     ensures exact { OnOk result (out.new.items ≡ out.old.items ++ unsigned_bytes v) }
     ensures shortest { OnOk result (AppendsShortest (IsUnsigned 32) out.old.items out.new.items v) }
@@ -43,7 +45,8 @@ pub fn write_u32(out: &mut Vec<u8>, v: u32) -> Result<(), NoMemory>
     append_unsigned(out, u64::from(v))
 }
 
-/// Appends the shortest spelling of an unsigned 64-bit number (Core 5.2.2), or leaves the bytes as they were.
+/// Appends the shortest spelling of an unsigned 64-bit number (Core 5.2.2), or leaves the bytes as
+/// they were.
 pub fn write_u64(out: &mut Vec<u8>, v: u64) -> Result<(), NoMemory>
     ensures exact { OnOk result (out.new.items ≡ out.old.items ++ unsigned_bytes v) }
     ensures shortest { OnOk result (AppendsShortest (IsUnsigned 64) out.old.items out.new.items v) }
@@ -74,7 +77,8 @@ fn fits_seven(v: i64) -> bool
     -64 <= v && v < 64
 }
 
-/// Appends the shortest spelling. Where memory runs out, the bytes may have a part of it at their end.
+/// Appends the shortest spelling. Where memory runs out, the bytes may have a part of it at their
+/// end.
 fn push_signed(out: &mut Vec<u8>, v: i64) -> Result<(), NoMemory>
     ensures exact { OnOk result (out.new.items ≡ out.old.items ++ signed_bytes v) }
     ensures front { take (length out.old.items) out.new.items ≡ out.old.items }
@@ -101,7 +105,8 @@ fn append_signed(out: &mut Vec<u8>, v: i64) -> Result<(), NoMemory>
     done
 }
 
-/// Appends the shortest spelling of a signed 32-bit number (Core 5.2.2), or leaves the bytes as they were.
+/// Appends the shortest spelling of a signed 32-bit number (Core 5.2.2), or leaves the bytes as
+/// they were.
 pub fn write_s32(out: &mut Vec<u8>, v: i32) -> Result<(), NoMemory>
     ensures exact { OnOk result (out.new.items ≡ out.old.items ++ signed_bytes v) }
     ensures shortest { OnOk result (AppendsShortest (IsSigned 32) out.old.items out.new.items v) }
@@ -110,7 +115,8 @@ pub fn write_s32(out: &mut Vec<u8>, v: i32) -> Result<(), NoMemory>
     append_signed(out, i64::from(v))
 }
 
-/// Appends the shortest spelling of a signed 64-bit number (Core 5.2.2), or leaves the bytes as they were.
+/// Appends the shortest spelling of a signed 64-bit number (Core 5.2.2), or leaves the bytes as
+/// they were.
 pub fn write_s64(out: &mut Vec<u8>, v: i64) -> Result<(), NoMemory>
     ensures exact { OnOk result (out.new.items ≡ out.old.items ++ signed_bytes v) }
     ensures shortest { OnOk result (AppendsShortest (IsSigned 64) out.old.items out.new.items v) }

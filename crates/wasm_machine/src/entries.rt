@@ -11,8 +11,9 @@ use host_devices::HostSide;
 use wasm_syntax::{Export, ExportKind, Import, ModuleParts, ValType, Value};
 use wasm_validate::Validated;
 
-/// Why an entry may not be invoked: no function is exported under its name; or the arguments are not as many as its parameters, or not of
-/// their types; or the host side does not serve the import of this index, the first such one.
+/// Why an entry may not be invoked: no function is exported under its name; or the arguments are
+/// not as many as its parameters, or not of their types; or the host side does not serve the import
+/// of this index, the first such one.
 #[derive(Clone, Copy, Debug, PartialEq, Eq)]
 pub enum EntryFault {
     NoExport,
@@ -142,7 +143,8 @@ pub(crate) fn callee<H: HostSide>(
     }
 }
 
-/// Why an entry may not be invoked on these arguments with this host side, if it may not. It takes no memory.
+/// Why an entry may not be invoked on these arguments with this host side, if it may not. It takes
+/// no memory.
 pub fn entry_fault<H: HostSide>(
     source: &Validated,
     entry: &str,

@@ -68,8 +68,8 @@ fn numbered(imports: usize, function: usize) -> u32
     u32::try_from(imports.saturating_add(function)).unwrap_or(u32::MAX)
 }
 
-/// The innermost frame goes up to the topmost value and stands at its next instruction. Each other frame goes up to the one above it and
-/// stands at its call.
+/// The innermost frame goes up to the topmost value and stands at its next instruction. Each other
+/// frame goes up to the one above it and stands at its call.
 fn extent_at(stack: &CallStack, index: usize) -> Extent
     ensures first { index ≡ 0 → result ≡ record {
       top = length stack.now.values;

@@ -33,11 +33,13 @@ use std::rc::Rc;
 use wasm_syntax::{ModuleParts, Value, Values};
 use wasm_validate::Validated;
 
-/// An instance of a module: its globals, its memory, its table, and the frames of its last invocation, with what was invoked and how that ended.
-/// The start function is run as the first part of the first invocation.
+/// An instance of a module: its globals, its memory, its table, and the frames of its last
+/// invocation, with what was invoked and how that ended. The start function is run as the first
+/// part of the first invocation.
 ///
-/// It may be invoked while it is ready: from the start, and again behind each invocation that finished or trapped, but not behind a trap for
-/// want of frames (kind 8) or inside the start function.
+/// It may be invoked while it is ready: from the start, and again behind each invocation that
+/// finished or trapped, but not behind a trap for want of frames (kind 8) or inside the start
+/// function.
 #[derive(Drop)]
 pub struct Instance<'a> {
     alloc: Global,
@@ -94,8 +96,8 @@ fn share<'a>(alloc: Global, prepared: Prepared<'a>) -> Result<Rc<Prepared<'a>>, 
 }
 
 impl<'a> Instance<'a> {
-    /// Starts an instance (Core 4.5.4): all segments are judged first, the element segments before the data segments, and then they are written.
-    /// No function is run yet.
+    /// Starts an instance (Core 4.5.4): all segments are judged first, the element segments before
+    /// the data segments, and then they are written. No function is run yet.
     pub fn new(alloc: Global, source: &'a Validated) -> Result<Instance<'a>, StartFault>
         ensures { Begins result source.now }
     {
@@ -118,10 +120,12 @@ impl<'a> Instance<'a> {
         })
     }
 
-    /// Runs the start function, where it was not run yet, and then the function that is exported under this name on these arguments, for at most
-    /// so many steps and with at most so many frames. A host side serves the imports. Nothing is run and nothing changed where there is no such
-    /// function, where it does not take the arguments, or where an import is not served. The arguments are copied before the first step, and
-    /// kept with the answer; behind want of memory nothing is kept.
+    /// Runs the start function, where it was not run yet, and then the function that is exported
+    /// under this name on these arguments, for at most so many steps and with at most so many
+    /// frames. A host side serves the imports. Nothing is run and nothing changed where there is no
+    /// such function, where it does not take the arguments, or where an import is not served. The
+    /// arguments are copied before the first step, and kept with the answer; behind want of memory
+    /// nothing is kept.
     pub fn invoke<H: HostSide>(
         &mut self,
         entry: &str,
@@ -156,8 +160,9 @@ impl<'a> Instance<'a> {
         self.invoke_watched(entry, args, depth, fuel, hosts, &mut Unwatched {})
     }
 
-    /// The same, and a watch sees each step: that of the start function and of the entry, the one that traps, and calls of imports. Where memory
-    /// was wanting it saw some number of steps. It sees nothing where nothing is run.
+    /// The same, and a watch sees each step: that of the start function and of the entry, the one
+    /// that traps, and calls of imports. Where memory was wanting it saw some number of steps. It
+    /// sees nothing where nothing is run.
     pub fn invoke_watched<H: HostSide, W: Watch>(
         &mut self,
         entry: &str,
@@ -202,8 +207,8 @@ impl<'a> Instance<'a> {
         }
     }
 
-    /// Runs the start function, where it was not run yet, and then the function of this index on its arguments. Both are there, and all imports
-    /// are served. The watch sees each step.
+    /// Runs the start function, where it was not run yet, and then the function of this index on
+    /// its arguments. Both are there, and all imports are served. The watch sees each step.
     fn call<H: HostSide, W: Watch>(
         &mut self,
         function: u32,
@@ -261,10 +266,11 @@ impl<'a> Instance<'a> {
         run.answer
     }
 
-    /// Goes on with its last invocation, whose steps were used up, for at most so many steps more. The number of frames that there may be is
-    /// the same, and so is whether the host side collects; it is asked behind the replies that were given so far. It answers as the whole
-    /// invocation does with all these steps. The steps count on, and whether it may be invoked is as behind `invoke`; behind want of memory
-    /// nothing is kept.
+    /// Goes on with its last invocation, whose steps were used up, for at most so many steps more.
+    /// The number of frames that there may be is the same, and so is whether the host side
+    /// collects; it is asked behind the replies that were given so far. It answers as the whole
+    /// invocation does with all these steps. The steps count on, and whether it may be invoked is
+    /// as behind `invoke`; behind want of memory nothing is kept.
     pub fn resume<H: HostSide>(&mut self, depth: u32, fuel: u64, hosts: &mut H) -> RunEnd
         requires spent { IsSpent self.old depth (H.collecting hosts.old) }
         requires host { HostServes (H.origin hosts.old) (H.serving hosts.old) self.old.module_ }
@@ -313,8 +319,8 @@ impl<'a> Instance<'a> {
         rest.answer
     }
 
-    /// An instance of its own that is the same: at the same place of the same invocation, with globals, memory and table of its own. Both go on
-    /// by themselves.
+    /// An instance of its own that is the same: at the same place of the same invocation, with
+    /// globals, memory and table of its own. Both go on by themselves.
     pub fn copy_of(&self) -> Result<Instance<'a>, NoMemory>
         ensures { IfOk result (λ copy. copy ≡ copied self.now) }
     {
@@ -342,8 +348,8 @@ impl<'a> Instance<'a> {
         self.ready
     }
 
-    /// Whether the function that was invoked last was begun. Where it was not, the start function was still under way. Before the first
-    /// invocation none was.
+    /// Whether the function that was invoked last was begun. Where it was not, the start function
+    /// was still under way. Before the first invocation none was.
     pub fn entered(&self) -> bool
         ensures { result ≡ self.now.entered }
     {
@@ -364,8 +370,8 @@ impl<'a> Instance<'a> {
         self.since_copy
     }
 
-    /// What was invoked last, and how that ended. None where nothing was invoked, or memory was wanting. The instance stands where that
-    /// stopped.
+    /// What was invoked last, and how that ended. None where nothing was invoked, or memory was
+    /// wanting. The instance stands where that stopped.
     pub fn last(&self) -> Option<&LastInvocation>
         ensures last { option_copied result ≡ self.now.last }
         ensures stopped { (l : Kept) (p : Program) → self.now.last ≡ Some l → IsOf self.now p

@@ -13,7 +13,8 @@ use wasm_syntax::{Value, Values};
 /// What an invocation came to, or why nothing was run.
 pub type RunAnswer = Result<RunEnd, EntryFault>;
 
-/// How an invocation ended, where memory sufficed: a variant for each other answer, without what was handed out with it.
+/// How an invocation ended, where memory sufficed: a variant for each other answer, without what
+/// was handed out with it.
 #[derive(Clone, Copy, PartialEq, Eq)]
 pub enum End {
     /// The function gave this result, or none.

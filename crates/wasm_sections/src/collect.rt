@@ -50,9 +50,11 @@ pub fn vector<'a, E: Entry<'a>>(
     entries::<E>(alloc, count, input)
 }
 
-/// A state that takes one element after another. What an element may be can depend on those before it.
+/// A state that takes one element after another. What an element may be can depend on those before
+/// it.
 pub trait Collect<'a> {
-    /// The state with the next element and the place behind that, or the offset of the first item without a reading.
+    /// The state with the next element and the place behind that, or the offset of the first item
+    /// without a reading.
     ghost step: { Self → Place → Read Self };
 
     fn take(&mut self, alloc: Global, input: &mut Input<'a>) -> Result<(), ItemFault>

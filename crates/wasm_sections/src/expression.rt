@@ -17,7 +17,8 @@ use wasm_format::{Expression, Noted};
 use wasm_instructions::Code;
 use wasm_syntax::{Basic, BlockKind, Body, Instr, Op};
 
-/// What stands in the place of an instruction that has a float type: one that opens the same, or nothing.
+/// What stands in the place of an instruction that has a float type: one that opens the same, or
+/// nothing.
 fn stand_in(opcode: u8) -> Instr
     ensures { result ≡ stand_in opcode }
 {
@@ -120,7 +121,8 @@ fn take_instrs(expression: &mut Expression, input: &mut Input<'_>) -> Result<(),
     Ok(())
 }
 
-/// An expression up to its own `end`, whose code offsets count from this offset in bytes from the first byte of the input.
+/// An expression up to its own `end`, whose code offsets count from this offset in bytes from the
+/// first byte of the input.
 #[tactic(auto, unfolding(crate::specs::Steps::instr_steps, wasm_format::specs::Expressions::expression_from))]
 pub fn expression(
     alloc: Global,

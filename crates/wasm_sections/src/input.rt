@@ -12,8 +12,8 @@ use wasm_bytes::{Item, ItemFault, Malformed, Reader};
 use wasm_instructions::{Code, read_code};
 use wasm_syntax::Labels;
 
-/// A place in a block, which is all bytes of an input up to the block's end, and has fewer than 2^32 bytes. Where an item
-/// has no reading it stays where it was.
+/// A place in a block, which is all bytes of an input up to the block's end, and has fewer than
+/// 2^32 bytes. Where an item has no reading it stays where it was.
 #[derive(Drop)]
 pub struct Input<'a> {
     block: &'a [u8],
@@ -189,8 +189,8 @@ impl<'a> Input<'a> {
         bytes
     }
 
-    /// The instruction that stands here (Core 5.4). The targets of a `br_table` are added to those before it, and each of
-    /// them takes a byte or more.
+    /// The instruction that stands here (Core 5.4). The targets of a `br_table` are added to those
+    /// before it, and each of them takes a byte or more.
     pub fn code(&mut self, targets: &mut Labels) -> Result<Code, ItemFault>
         requires { length targets.old < 2 ^ 32 }
         ensures item { Gives (beside targets.new result) self.new (code_item targets.old self.old) }

@@ -1,5 +1,5 @@
-//! The decoder of a module's sections (Core 5.5): all that the bytes spell, where floats and imports that are no functions
-//! are noted and nothing is counted against a limit.
+//! The decoder of a module's sections (Core 5.5): all that the bytes spell, where floats and
+//! imports that are no functions are noted and nothing is counted against a limit.
 #![tactic(auto)]
 
 mod bodies;

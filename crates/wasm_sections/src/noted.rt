@@ -26,7 +26,8 @@ pub fn first_float(first: Option<usize>, later: Option<usize>) -> Option<usize>
 
 /// A type whose values may hold floats.
 pub trait Noting<'a>: Drop {
-    /// The value with its first float and the place behind it, or the offset of the first item without a reading.
+    /// The value with its first float and the place behind it, or the offset of the first item
+    /// without a reading.
     ghost item: { Place → Read (NotedValue Self) };
 
     fn read(alloc: Global, input: &mut Input<'a>) -> Result<Noted<Self>, ItemFault>

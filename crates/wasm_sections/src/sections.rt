@@ -224,7 +224,8 @@ fn custom(
     Ok(())
 }
 
-/// A section. The sections before it that are no custom sections are not longer than the input up to it.
+/// A section. The sections before it that are no custom sections are not longer than the input up
+/// to it.
 #[tactic(auto, unfolding(wasm_bytes::specs::Reading::choose, wasm_format::specs::Sections::section_step))]
 fn section(
     alloc: Global,
@@ -307,8 +308,8 @@ fn header(input: &mut Input<'_>) -> Result<(), ItemFault>
     Ok(())
 }
 
-/// Reads a whole module into one without sections, which its caller drops, at one place, where this fails. A body is due for
-/// each of the module's functions.
+/// Reads a whole module into one without sections, which its caller drops, at one place, where this
+/// fails. A body is due for each of the module's functions.
 #[tactic(auto, unfolding(wasm_format::specs::Sections::sections_item, wasm_format::specs::Sections::module_item))]
 fn read_whole(alloc: Global, spelled: &mut SpelledModule, bytes: &[u8]) -> Result<(), ItemFault>
     requires small { length bytes.now < 2 ^ 32 }

@@ -343,8 +343,8 @@ fn same_bodies(a: &ModuleParts, b: &ModuleParts) -> bool
         && a.bodies.same(&b.bodies)
 }
 
-/// Whether two modules are the same code: equal but for the places and lengths of instructions, the places of bodies, custom sections and
-/// lengths in bytes.
+/// Whether two modules are the same code: equal but for the places and lengths of instructions, the
+/// places of bodies, custom sections and lengths in bytes.
 pub fn same_code(a: &Module, b: &Module) -> bool
     ensures { IsTrue result ↔ (code_alone a.now ≡ code_alone b.now) }
 {

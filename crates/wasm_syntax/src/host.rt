@@ -7,7 +7,8 @@ pub type Values = Items<Value>;
 
 pub type Writes = Items<Write>;
 
-/// A call of an imported function: the index of the import, its name, the arguments in order, and the type of its result.
+/// A call of an imported function: the index of the import, its name, the arguments in order, and
+/// the type of its result.
 #[derive(Drop)]
 pub struct HostCall {
     pub import: u32,
@@ -23,7 +24,8 @@ pub struct Write {
     pub bytes: Bytes,
 }
 
-/// What a host replies: first its writes are made, in order, and then its value is the result of the call.
+/// What a host replies: first its writes are made, in order, and then its value is the result of
+/// the call.
 #[derive(Drop)]
 pub struct Reply {
     pub value: Option<Value>,

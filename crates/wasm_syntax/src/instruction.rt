@@ -1,10 +1,11 @@
-//! Instructions: one variant per production of Core 2.4, with its operator and its immediates as fields, so that each instruction of
-//! integers is exactly one value.
+//! Instructions: one variant per production of Core 2.4, with its operator and its immediates as
+//! fields, so that each instruction of integers is exactly one value.
 
 use crate::value::{ValType, Value};
 use int_ops::{Binary, Compare, Narrow32, Narrow64, Unary};
 
-/// A conversion between the two types: `i32.wrap_i64`, `i64.extend_i32_s`, `i64.extend_i32_u` (Core 2.4.1).
+/// A conversion between the two types: `i32.wrap_i64`, `i64.extend_i32_s`, `i64.extend_i32_u` (Core
+/// 2.4.1).
 #[derive(Clone, Copy, PartialEq, Eq)]
 pub enum Convert {
     Wrap,
@@ -35,8 +36,8 @@ pub enum Store {
     Part64(Narrow64),
 }
 
-/// An instruction behind which the next one of its sequence is run (Core 2.4.1 to 2.4.4, and `nop`; Core 2.0 for the sign extensions,
-/// `memory.copy` and `memory.fill`).
+/// An instruction behind which the next one of its sequence is run (Core 2.4.1 to 2.4.4, and `nop`;
+/// Core 2.0 for the sign extensions, `memory.copy` and `memory.fill`).
 #[derive(Clone, Copy, PartialEq, Eq)]
 pub enum Basic {
     Nop,
@@ -73,7 +74,8 @@ pub enum Jump {
     Unreachable,
     Br(u32),
     BrIf(u32),
-    /// The place of its first target in the target list of its body, the number of its targets, and its default.
+    /// The place of its first target in the target list of its body, the number of its targets, and
+    /// its default.
     BrTable(u32, u32, u32),
     Return,
     Call(u32),
@@ -93,8 +95,8 @@ pub enum Instr {
     End,
 }
 
-/// An instruction with the code offset of its first byte, in bytes from the first byte of the code entry after its size field, and its
-/// length in bytes.
+/// An instruction with the code offset of its first byte, in bytes from the first byte of the code
+/// entry after its size field, and its length in bytes.
 #[derive(Clone, Copy, PartialEq, Eq)]
 pub struct Op {
     pub at: u32,

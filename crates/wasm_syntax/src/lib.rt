@@ -1,5 +1,5 @@
-//! The abstract syntax of WebAssembly modules, as far as they hold integers alone, and (in `specs/`) their trees, their typing, their steps
-//! and their runs.
+//! The abstract syntax of WebAssembly modules, as far as they hold integers alone, and (in
+//! `specs/`) their trees, their typing, their steps and their runs.
 #![tactic(auto)]
 
 mod blocks;

@@ -30,8 +30,8 @@ pub struct ModuleParts {
 }
 
 impl ModuleParts {
-    /// The type of a function, where the imported functions come first (Core 2.5.1). None where there is no such function, or where its
-    /// type index is out of range.
+    /// The type of a function, where the imported functions come first (Core 2.5.1). None where
+    /// there is no such function, or where its type index is out of range.
     pub fn type_of(&self, function: usize) -> Option<&FuncType>
         ensures { option_copied result ≡ type_at self.now function }
     {
@@ -50,7 +50,8 @@ impl ModuleParts {
     }
 }
 
-/// A module, which contracts see as its parts. It has as many bodies as functions, and each body writes out a tree.
+/// A module, which contracts see as its parts. It has as many bodies as functions, and each body
+/// writes out a tree.
 #[derive(Drop)]
 pub struct Module {
     parts: ModuleParts,

@@ -36,7 +36,8 @@ pub type Bodies = Items<Body>;
 
 pub type Customs = Items<Custom>;
 
-/// The operand height before each instruction: one list per defined function with one number per instruction, which is 0 in dead code.
+/// The operand height before each instruction: one list per defined function with one number per
+/// instruction, which is 0 in dead code.
 pub type Heights = Items<Items<u32>>;
 
 /// What a function takes and gives (Core 2.3.3).
@@ -120,8 +121,8 @@ pub struct DataSeg {
     pub bytes: Bytes,
 }
 
-/// A custom section (Core 5.5.3): its name, the offset of its first content byte behind the name, in bytes from the first byte of the
-/// module, and how many such bytes there are.
+/// A custom section (Core 5.5.3): its name, the offset of its first content byte behind the name,
+/// in bytes from the first byte of the module, and how many such bytes there are.
 #[derive(Drop)]
 pub struct Custom {
     pub name: Text,

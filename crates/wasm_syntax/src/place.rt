@@ -1,6 +1,7 @@
 //! Places of a module where it is judged.
 
-/// A part of a module that validation judges by itself (Core 3.4). Functions are numbered with the imported ones first.
+/// A part of a module that validation judges by itself (Core 3.4). Functions are numbered with the
+/// imported ones first.
 #[derive(Clone, Copy, PartialEq, Eq)]
 pub enum Place {
     TypeAt(u32),

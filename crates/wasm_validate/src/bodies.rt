@@ -51,7 +51,8 @@ fn check_at(alloc: Global, m: &ModuleParts, i: usize) -> Result<Marks, BodyFault
     }
 }
 
-/// The first function whose body is wrong, where all other places are fine; or what is known before each instruction.
+/// The first function whose body is wrong, where all other places are fine; or what is known before
+/// each instruction.
 pub fn check_bodies(alloc: Global, m: &ModuleParts) -> Result<Items<Marks>, BodiesFault>
     requires limits { WithinLimits m.now }
     requires whole { IsModule m.now }

@@ -1,4 +1,5 @@
-//! Exports, whose names are distinct. They are looked up in their order, so that no choice of names makes the search slow.
+//! Exports, whose names are distinct. They are looked up in their order, so that no choice of names
+//! makes the search slow.
 
 ghost use Rattle.std.specs.Prelude.{◌≡◌, ◌<◌, ◌+◌, ◌^◌, length, IfOk};
 ghost use Rattle.wasm_syntax.specs.Valid.{ExportFine, index_space};
@@ -22,7 +23,8 @@ fn index_space_of(m: &ModuleParts, kind: ExportKind) -> usize
     }
 }
 
-/// The first export that is not fine: what it names is not there, or an earlier export has its name.
+/// The first export that is not fine: what it names is not there, or an earlier export has its
+/// name.
 pub fn bad_export(alloc: Global, m: &ModuleParts) -> Result<Option<u32>, NoMemory>
     requires few { length m.now.exports < 2 ^ 32 }
     requires functions { length m.now.imports + length m.now.functions < 2 ^ 32 }

@@ -1,4 +1,5 @@
-//! What validation answers is unique: laws of the definitions, each the contract of a function with an empty body.
+//! What validation answers is unique: laws of the definitions, each the contract of a function with
+//! an empty body.
 
 ghost use Rattle.std.specs.Prelude.{◌≡◌, ℕ, Result, Err};
 ghost use Rattle.wasm_syntax.specs.declared.module.ModuleParts.{ModuleParts as Parts};

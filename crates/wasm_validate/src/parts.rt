@@ -118,7 +118,8 @@ fn bad_second(list: &Items<Limits>, most: u64, first: Limits) -> Option<u32>
     None
 }
 
-/// The first of a list of tables or memories that is not fine: its limits pass a number, or it is not the only one.
+/// The first of a list of tables or memories that is not fine: its limits pass a number, or it is
+/// not the only one.
 pub fn first_bad_limits(list: &Items<Limits>, most: u64) -> Option<u32>
     ensures { FirstBad list.now (OneFine most) result }
 {

@@ -11,7 +11,8 @@ use std::alloc::Global;
 use validate_body::{Mark, Marks};
 use wasm_syntax::ValType;
 
-/// For each operand height the instructions of a function that have it, ascending. Those in dead code have none.
+/// For each operand height the instructions of a function that have it, ascending. Those in dead
+/// code have none.
 pub type Rows = Items<Items<u32>>;
 
 /// Adds rows without instructions, so that there is one for a height.

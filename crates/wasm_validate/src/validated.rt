@@ -25,8 +25,8 @@ use std::marker::Model;
 use validate_body::{Mark, Marks};
 use wasm_syntax::{Heights, Module, Place, Quantity, ValType};
 
-/// Why a module is refused: at the first place that is not valid; or since a function has too many operands at once, with the greatest
-/// number of the first such function; or for want of memory.
+/// Why a module is refused: at the first place that is not valid; or since a function has too many
+/// operands at once, with the greatest number of the first such function; or for want of memory.
 #[derive(Clone, Copy, PartialEq, Eq)]
 pub enum ValidateFault {
     Invalid { place: Place },
@@ -42,7 +42,8 @@ impl From<NoMemory> for ValidateFault {
     }
 }
 
-/// A valid module within the limits, which contracts see as its parts, with what is known before each instruction.
+/// A valid module within the limits, which contracts see as its parts, with what is known before
+/// each instruction.
 #[derive(Drop)]
 pub struct Validated {
     module: Module,
@@ -161,8 +162,8 @@ impl Validated {
         &self.heights
     }
 
-    /// The operand height before an instruction of a function that the module defines, or None in dead code. The `else` or `end` behind
-    /// a sequence with an unconditional transfer is dead.
+    /// The operand height before an instruction of a function that the module defines, or None in
+    /// dead code. The `else` or `end` behind a sequence with an unconditional transfer is dead.
     pub fn height(&self, func: u32, op: u32) -> Option<u32>
         requires { HasOp self.now func op }
         ensures { HeightIs result self.now func op }
@@ -174,8 +175,9 @@ impl Validated {
         }
     }
 
-    /// The type of an operand before an instruction of a function that the module defines, by its place from the bottom, over all open
-    /// blocks. The place is below the height, so the instruction is in live code.
+    /// The type of an operand before an instruction of a function that the module defines, by its
+    /// place from the bottom, over all open blocks. The place is below the height, so the
+    /// instruction is in live code.
     pub fn operand(&self, func: u32, op: u32, from_bottom: u32) -> ValType
         requires there { HasOp self.now func op }
         requires below { HasOperand self.now func op from_bottom }
@@ -191,8 +193,8 @@ impl Validated {
         }
     }
 
-    /// The number of the instruction of a function at a code offset, or None where no instruction other than `else` and `end` begins
-    /// there, or the module does not define such a function.
+    /// The number of the instruction of a function at a code offset, or None where no instruction
+    /// other than `else` and `end` begins there, or the module does not define such a function.
     pub fn op_at(&self, func: u32, at: u32) -> Option<u32>
         ensures { OpIs result self.now func at }
     {
