@@ -16,7 +16,7 @@ use Rattle.wasm_syntax.specs.Module.{IsModule, function_types}
 use Rattle.wasm_syntax.specs.Sizes.{WithinLimits}
 use Rattle.wasm_syntax.specs.Static.{LiveAt}
 use Rattle.wasm_syntax.specs.Valid.{Valid, defined_index}
-use Rattle.wasm_laws.proofs.Lists.{some_is, all_of, at_of, get_inside}
+use Rattle.wasm_laws.proofs.Lists.{all_of, at_of}
 use Rattle.dump_format.specs.declared.dump.Frame.{Frame}
 use Rattle.dump_format.specs.declared.dump.Dump.{Dump}
 use Rattle.dump_format.specs.declared.dump.Instance.{Instance}
@@ -35,6 +35,8 @@ use Rattle.accept_laws.proofs.Held.{held, held_seen, held_frame, held_dump, belo
 use Rattle.accept_laws.proofs.HeldBytes.{instance_same, bytes_same}
 use Rattle.accept_laws.proofs.HeldMatches.{Holds, matches_held}
 use Rattle.wasm_laws.proofs.Validity.{then_found}
+use Rattle.pm_text.proofs.Lists.{some_is}
+use Rattle.std.proofs.lemmas.Option.{slice_get_within}
 
 -- ---- values
 
@@ -75,7 +77,7 @@ module _ (m : Module) (whole : IsModule m) (valid : Valid m) (limits : WithinLim
   small_function f h =
       let is_of : IsOf m f h.0 h.1 = h.2 in
       let t = then_found (slice_get (function_types m) f.function) (λ t. slice_get m.types t) h.0 is_of.type_is in
-      let inside = get_inside (function_types m) f.function t.0 t.1 in
+      let inside = slice_get_within (function_types m) f.function t.0 t.1 in
       omega (arith, inside, limits.short.functions, length-append (map (λ i. i.ftype) m.imports) m.functions, length-map m.imports (λ i. i.ftype))
 
   small_offset : (f : Frame) → OffsetFits m f → f.offset < 2 ^ 32

@@ -6,11 +6,11 @@ use Rattle.wasm_syntax.specs.declared.module.ModuleParts.{ModuleParts as Module}
 use Rattle.wasm_syntax.specs.Module.{Program}
 use Rattle.wasm_syntax.specs.Machine.{Config}
 use Rattle.wasm_syntax.specs.Run.{Outcome, not_started, finished, trapped, lacks_reply, misfits, running, got_stuck, Ran, Invocation, run}
-use Rattle.wasm_laws.proofs.Lists.{some_is}
 use Rattle.dump_write.specs.Image.{image}
 use Rattle.dump_write.specs.ImageBytes.{bytes_of}
 use Rattle.rewrite_modules.specs.Simulates.{Simulates, NoneDeep, AllAlike, EndsAlike, Shows}
 use Rattle.accept_laws.specs.Accepted.{IsAcceptedIfFew, TrapAccepted, TrapsAccepted, HandsOver, HandsOverAt, AllHandOver}
+use Rattle.pm_text.proofs.Lists.{some_is}
 
 module _ (m : Module) where
   -- the bytes are those of the image

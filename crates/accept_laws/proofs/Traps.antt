@@ -1,5 +1,5 @@
 -- The dumps of the traps of a run are accepted.
-use Rattle.std.proofs.Common.{◌≡◌, ℕ, suc, ◌≤◌, Bool, List, [], ◌∷◌, length, Option, Some, refl, ap, ◌∙◌, arith}
+use Rattle.std.proofs.Common.{◌≡◌, ℕ, ◌≤◌, Bool, List, [], ◌∷◌, length, Option, Some, ◌∙◌, arith}
 use Rattle.std.specs.List.{AllByRecursion}
 use Rattle.std.specs.Str.{IsUtf8}
 use Rattle.std.proofs.lemmas.List.{length-map}
@@ -10,9 +10,9 @@ use Rattle.wasm_syntax.specs.Quantity.{greatest}
 use Rattle.wasm_syntax.specs.Module.{Program, IsProgram, IsModule}
 use Rattle.wasm_syntax.specs.Sizes.{WithinLimits}
 use Rattle.wasm_syntax.specs.Valid.{Valid}
-use Rattle.wasm_syntax.specs.Machine.{Frame, Config}
+use Rattle.wasm_syntax.specs.Machine.{Config}
 use Rattle.wasm_syntax.specs.Run.{Outcome, not_started, finished, trapped, lacks_reply, misfits, running, got_stuck, Ran, Invocation, run}
-use Rattle.dump_write.specs.Image.{frame_image, frame_images, image}
+use Rattle.dump_write.specs.Image.{frame_images, image}
 use Rattle.dump_write.specs.ImageBytes.{frame_of, dump_of, bytes_of}
 use Rattle.dump_match.specs.Matching.{Matches}
 use Rattle.match_laws.specs.TrapDumps.{dump_at, TrapMatches, TrapsMatch}
@@ -22,13 +22,10 @@ use Rattle.accept_laws.specs.Accepted.{TrapAccepted, TrapsAccepted, IsAcceptedIf
 use Rattle.match_laws.proofs.RunStates.{LastHas}
 use Rattle.match_laws.proofs.Few.{Few, run_few}
 use Rattle.accept_laws.proofs.Accepting.{accepted}
-
-count_images : (fs : List Frame) → length (frame_images fs) ≡ length fs
-count_images [] = refl
-count_images (f ∷ fs) = ap suc (length-map fs (λ g. frame_image g.call g))
+use Rattle.dump_write.proofs.Images.{images_count}
 
 count_frames : (c : Config) (name : List ℕ) → length (dump_of (image c name)).frames ≡ length c.frames
-count_frames c name = length-map (frame_images c.frames) frame_of ∙ count_images c.frames
+count_frames c name = length-map (frame_images c.frames) frame_of ∙ images_count c.frames
 
 module _ (m : Module) (whole : IsModule m) (valid : Valid m) (limits : WithinLimits m) (ranges : InRanges m) where
   image_accepted : (c : Config) (name : List ℕ) → IsUtf8 name → Matches m (dump_at c name) → length c.frames ≤ greatest DumpFrames → IsAcceptedIfFew m (bytes_of (image c name))

@@ -19,6 +19,7 @@ use Rattle.command_answers.specs.declared.input.Input.{Input}
 use Rattle.command_answers.specs.declared.input.Input.TheVariants.{Whole, Refused}
 use Rattle.command_answers.specs.declared.outcome.Outcome.{Outcome}
 use Rattle.command_answers.proofs.Unless.{OnAnswer, unless, on_all, map_answer}
+use Rattle.causes.specs.Counts.{Rose}
 
 -- ---- what a file gives
 
@@ -84,3 +85,7 @@ refused_then told what file input o Answers is x =
     let k : OnContents told (λ held. IsInput (Refused o) (input_of what file (held file))) = subst (λ i. OnContents told (λ held. IsInput i (input_of what file (held file)))) is x in
     unless o.status (input_of what file (k.files file) ≡ Err o) (OnContents told (λ held. Then (input_of what file (held file)) Answers o))
     (λ e. record { files = k.files; may = k.may; holds = then_err (input_of what file (k.files file)) Answers o e }) k.holds
+
+-- a count that rose later rose
+pub rose_since : (a b c : ℕ) → a ≤ b → Rose b c → Rose a c
+rose_since a b c le rose = omega (arith, le, rose)

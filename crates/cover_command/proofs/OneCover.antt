@@ -27,7 +27,7 @@ use Rattle.cover_command.specs.SourceLines.{SourceLine, source_line}
 use Rattle.cover_command.specs.CoverText.{CoverText, count_text, sums_text}
 use Rattle.cover_command.specs.CoverAnswer.{covered_run, covered_places, Tells, EndsAs, CoversTo, ModuleAnswer, CoverAnswer, called}
 use Rattle.cover_command.proofs.Orders.{one_counts}
-use Rattle.wasm_laws.proofs.Lists.{some_is}
+use Rattle.pm_text.proofs.Lists.{some_is}
 
 -- a module is that of at most one program
 abbrev pub OneProgram : Type 0

@@ -17,8 +17,7 @@ use Rattle.std.proofs.lemmas.Map.Keys.{IsDistinct-from_sorted, sorted_tail}
 use Rattle.std.proofs.lemmas.Cmp.{nat_cmp_total, nat_list_cmp_total, then_total, eq_by_cmp_equiv, tied_itself}
 use Rattle.std.proofs.lemmas.Slice.Eq.{bytes_eq-Decides}
 use Rattle.cover_command.specs.SourceLines.{SourceLine, line_cmp, is_line}
-use Rattle.wasm_laws.proofs.Lists.{some_is}
-use Rattle.dwarf_abbrev.proofs.Places.{is_eq_at}
+use Rattle.pm_text.proofs.Lists.{some_is, is_eq_at}
 
 -- ---- the same line
 

@@ -10,7 +10,7 @@ use Rattle.wasm_machine.specs.Instances.{State, IsOf, Invoked}
 use Rattle.wasm_machine.specs.Watching.{Seen}
 use Rattle.run_words.specs.declared.cover.CoverWords.{CoverWords}
 use Rattle.cover_command.specs.inner.Running.{Came}
-use Rattle.wasm_laws.proofs.Lists.{some_is}
+use Rattle.pm_text.proofs.Lists.{some_is}
 
 -- what is known of the run and what is known of the counts are of the same function
 pub joined : (w : CoverWords) (collecting : Bool) (used_up : Import → Bool) (s s' : State) (a : RunEnd) (t t' : Counts) (old new : Calls) (entry : List ℕ) (args : List Value) (L : ℕ → Type 0)

@@ -1,9 +1,8 @@
 -- Both files were read, or one was refused.
-use Rattle.std.proofs.Common.{◌≡◌, ℕ, ◌≤◌, List, Option, Some, None, Result, Ok, Err, refl, subst, inl, inr, arith}
+use Rattle.std.proofs.Common.{◌≡◌, ℕ, List, Option, Some, None, Result, Ok, Err, refl, subst, inl, inr}
 use Rattle.std.specs.declared.vec.Vec.{Vec}
 use Rattle.std.specs.Global.{Global}
 use Rattle.std.specs.Prelude.{IfOk}
-use Rattle.causes.specs.Counts.{Rose}
 use Rattle.pm_outside.specs.Contents.{Contents}
 use Rattle.wasm_syntax.specs.declared.quantity.Quantity.TheVariants.{ModuleBytes, DumpBytes}
 use Rattle.command_answers.specs.Input.{IsInput, IfRefused}
@@ -96,7 +95,3 @@ dump_fault w rose rose' (Err e) to x = tt
 
 pub read_fault : (file name : List ℕ) (rose : Type 0) (input : Input) (o : Outcome) → file ≡ name → input ≡ Refused o → IfRefused (Faults file rose) input → Faults name rose o
 read_fault file name rose input o named is x = named_fault file name rose o named (subst (λ (i : Input). IfRefused (Faults file rose) i) is x)
-
--- a count that rose behind a call rose since before it
-pub rose_since : (a b c : ℕ) → a ≤ b → Rose b c → Rose a c
-rose_since a b c le x = omega (arith, le, x)

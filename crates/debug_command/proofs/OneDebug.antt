@@ -30,7 +30,7 @@ use Rattle.debug_subject.specs.Texts.{IsOperandsText}
 use Rattle.debugger.specs.Session.{AreOperands, Prints, PrintsAll, chosen_behind}
 use Rattle.debug_command.specs.declared.words.DebugWords.{DebugWords}
 use Rattle.debug_command.specs.Answer.{mismatched, IsTold, DumpAnswer, IfDump, DebugAnswer}
-use Rattle.wasm_laws.proofs.Lists.{some_is}
+use Rattle.pm_text.proofs.Lists.{some_is}
 
 -- ---- how many operands a frame shows
 

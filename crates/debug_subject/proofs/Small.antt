@@ -1,15 +1,7 @@
 -- The sizes of what a session stands on.
-use Rattle.std.proofs.Common.{◌≡◌, ℕ, ◌≤◌, Bool, true, false, List, [], ◌∷◌, length, Option, Some, None, Result, Ok, Err, refl, sym, subst, ◌∙◌, arith}
-use Rattle.std.proofs.lemmas.Bool.{ltb-false}
-use Rattle.std.specs.Prelude.{nat_lt, option_map, IfSome, if◌then◌else◌}
-use Rattle.wasm_syntax.specs.declared.quantity.Quantity.TheVariants.{ModuleBytes}
+use Rattle.std.proofs.Common.{◌≡◌, ℕ, ◌≤◌, List, [], ◌∷◌, Option, Some, None, refl, sym, subst, ◌∙◌, arith}
+use Rattle.std.specs.Prelude.{option_map, IfSome}
 use Rattle.wasm_syntax.specs.declared.module.ModuleParts.{ModuleParts as Module}
-use Rattle.wasm_syntax.specs.Quantity.{greatest}
-use Rattle.wasm_bytes.specs.Reading.{whole}
-use Rattle.wasm_format.specs.Sections.{module_item}
-use Rattle.wasm_decode.specs.declared.fault.DecodeFault.{DecodeFault}
-use Rattle.wasm_decode.specs.declared.fault.DecodeFault.TheVariants.{Limit}
-use Rattle.wasm_decode.specs.Decode.{module_from, judged_read}
 use Rattle.dump_format.specs.declared.dump.Dump.{Dump}
 use Rattle.dump_format.specs.declared.dump.Instance.{Instance}
 use Rattle.dump_format.specs.Region.{Region}
@@ -17,18 +9,9 @@ use Rattle.dump_match.specs.declared.mismatch.Mismatch.TheVariants as rows
 use Rattle.dump_match.specs.Matching.{MemoryFits}
 use Rattle.dump_match.specs.States.{MatchesState}
 use Rattle.debug_recorded.specs.Recorded.{laid_memory, memory_in, memory_among, recorded_memory}
-use Rattle.debug_subject.specs.Subject.{Spells}
-use Rattle.wasm_laws.proofs.Lists.{some_is}
+use Rattle.pm_text.proofs.Lists.{some_is}
 
 -- ---- bytes that spell a module
-
-by_length : (most n : ℕ) (e : DecodeFault) (r : Result Module DecodeFault) (m : Module) (b : Bool) → nat_lt most n ≡ b → (if b then Err e else r) ≡ Ok m → n ≤ most
-by_length most n e r m true q is = absurd (cc)
-by_length most n e r m false q is = ltb-false most n q
-
-pub short_bytes : (bytes : List ℕ) (m : Module) → Spells bytes m → length bytes ≤ 134217728
-unfolding module_from
-short_bytes bytes m e = by_length (greatest ModuleBytes) (length bytes) (Limit ModuleBytes (length bytes)) (judged_read (whole module_item bytes)) m (nat_lt (greatest ModuleBytes) (length bytes)) refl e
 
 -- ---- the recorded memory
 

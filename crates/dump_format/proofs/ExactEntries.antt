@@ -14,7 +14,8 @@ use Rattle.dump_format.specs.Region.{Region}
 use Rattle.dump_format.specs.Parts.{Shown, known, float, ShownFrame}
 use Rattle.dump_format.specs.Form.{known_i32, known_i64, float_behind, value_behind, value_item, module_item, instance_of, instance_item, place_item, shown_frame_of, frame_item, thread_item, stack_item, limits_behind, limits_item, mutability_item, constant_item, global_i32, global_i64, global_behind, global_item, is_memory, is_inside, region_of, segment_item}
 use Rattle.dump_format.specs.Grammar.{float_bytes, value_tail, value_entry, module_entry, instance_entry, frame_entry, stack_entry, limits_tail, limits_entry, mutability, constant, global_tail, global_entry, segment_body, segment_entry}
-use Rattle.dump_format.proofs.OnTest.{on_test_picks, no_spelling_picks, offset_exact}
+use Rattle.dump_format.proofs.OnTest.{on_test_picks, no_spelling_picks}
+use Rattle.wasm_bytes.proofs.Offsets.{offset_exact}
 
 pub float_exact : {A : Type 0} (at width : ℕ) → IsExact {A = Shown A} (float_bytes at width) (float_behind at width)
 float_exact at width = image_exact (run width) (λ _. float at) (run_item width) (run_exact width)

@@ -1,8 +1,8 @@
 -- A test that chooses between two ways to read.
-use Rattle.std.proofs.Common.{◌≡◌, ℕ, Bool, true, false, List, length, Option, Some, None, Ok, Err, refl, sym, inl, inr, ◌∙◌}
+use Rattle.std.proofs.Common.{◌≡◌, ℕ, Bool, true, false, List, Option, Some, None, Ok, Err, refl, sym, inl, inr, ◌∙◌}
 use Rattle.std.specs.Prelude.{if◌then◌else◌}
 use Rattle.wasm_bytes.specs.Place.{Place, Read}
-use Rattle.wasm_bytes.specs.Reading.{◌>>=◌, ◌▷◌, closed, here_item, end_item}
+use Rattle.wasm_bytes.specs.Reading.{◌>>=◌, ◌▷◌, closed, end_item}
 use Rattle.wasm_bytes.specs.Laws.{place, IsExact, IsTail, StopsAt, PicksExact, PicksStops}
 use Rattle.wasm_bytes.proofs.Exact.{same_exact}
 use Rattle.wasm_bytes.proofs.ExactBlocks.{same_tail}
@@ -39,14 +39,6 @@ no_spelling_picks x at front s = s
 
 -- ---- an item that knows its offset
 
-pub offset_exact : {A : Type 0} (T : ℕ → A → ℕ → List ℕ → Type 0) (g : ℕ → Place → Read A) → ((at : ℕ) → IsExact (T at) (g at)) → IsExact (λ x at. T at x at) (here_item ▷ g)
-offset_exact T g h = record {
-  sound = λ before after x q fits read.
-      let t = (h (length before)).sound before after x q fits read in
-      record { front = t.front; rest = t.rest; is = t.is; parts = t.parts; behind = t.behind; bytes = t.bytes };
-  again = λ before front rest x s. (h (length before)).again before front rest x s;
-}
-
 -- ---- two functions that read the same
 
 pub same_closed : {A : Type 0} (S : A → ℕ → List ℕ → Type 0) (f g : Place → Read A) → ((p : Place) → f p ≡ g p) → IsTail S g → IsTail S f
@@ -80,12 +72,6 @@ none_stops P s t None h = λ x. elim x [ inl e ↦ absurd cc | inr p ↦ h p.1 ]
 pub picks_stops : {A : Type 0} (b : Bool) (P : Type 0) (s t : ℕ → List ℕ → ℕ → Type 0) (f : Place → Read A) (pick : Option (Place → Read A)) → StopsAt s f → PicksStops P t pick → PicksStops (or_else b P) (stops_on_test b s t) (if b then Some f else pick)
 picks_stops true P s t f pick e h = (inl refl, same_stops_at s (stops_on_test true s t) f (λ at bytes o x. inl (refl, x)) (true_stops s t) e)
 picks_stops false P s t f pick e h = none_stops P s t pick h
-
-pub offset_stops : {A : Type 0} (s : ℕ → List ℕ → ℕ → Type 0) (g : ℕ → Place → Read A) → ((at : ℕ) → StopsAt s (g at)) → StopsAt s (here_item ▷ g)
-offset_stops s g h = record {
-  only = λ before after o fits read. (h (length before)).only before after o fits read;
-  again = λ before after o fits stops. (h (length before)).again before after o fits stops;
-}
 
 pub same_item_stops : {A : Type 0} (s : ℕ → List ℕ → ℕ → Type 0) (f g : Place → Read A) → ((p : Place) → f p ≡ g p) → StopsAt s g → StopsAt s f
 same_item_stops s f g same e = record {

@@ -16,8 +16,9 @@ use Rattle.dump_format.specs.Sections.{custom_behind, custom_item, contents_item
 use Rattle.dump_format.specs.Noting.{value_noting, noted_vector, stack_noting}
 use Rattle.dump_format.specs.inner.Gathering.{added, name_step, module_names, segment_step, memory_segments, custom_gathering, contents_gathering, section_step, nothing_gathered, is_found, has_name, all_gathered, gathered_item, first_memory, with_stack, with_globals}
 use Rattle.dump_format.proofs.Summary.{found, found_or-found, summary, taken, summary-more}
-use Rattle.dump_format.proofs.Steps.{made, bind-made, bind-same, until_end-made, vector-steps, within-made}
+use Rattle.dump_format.proofs.Steps.{made, bind-made, until_end-made, vector-steps, within-made}
 use Rattle.dump_format.proofs.Values.{noted_by, stack-noted, globals-noted}
+use Rattle.wasm_bytes.proofs.Offsets.{bind-same}
 
 -- ---- vectors
 

@@ -4,6 +4,7 @@ use Rattle.std.specs.Prelude.{nat_lt, if◌then◌else◌}
 use Rattle.std.proofs.lemmas.List.{append-nil}
 use Rattle.wasm_bytes.specs.Place.{Place, Read}
 use Rattle.wasm_bytes.specs.Reading.{◌>>=◌, ◌▷◌, u32_item, vector_item, items_from, steps_from, steps_until_end, end_item, block_item, closed, within}
+use Rattle.wasm_bytes.proofs.Offsets.{bind-same}
 
 -- the value made of what was read
 abbrev pub made : {A B : Type 0} → (A → B) → Read A → Read B
@@ -17,11 +18,6 @@ made-bind to (Err at) f = refl
 pub bind-made : {A B C : Type 0} (to : B → C) (read : Read A) (f : A × Place → Read B) → made to (read >>= f) ≡ (read >>= λ x. made to (f x))
 bind-made to (Ok x) f = refl
 bind-made to (Err at) f = refl
-
--- reading on in two ways that agree
-pub bind-same : {A B : Type 0} (read : Read A) (f g : A × Place → Read B) → ((x : A) (q : Place) → f (x, q) ≡ g (x, q)) → (read >>= f) ≡ (read >>= g)
-bind-same (Ok x) f g same = same x.0 x.1
-bind-same (Err at) f g same = refl
 
 -- ---- steps
 

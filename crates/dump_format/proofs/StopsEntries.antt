@@ -15,8 +15,9 @@ use Rattle.dump_format.specs.Parts.{Shown, known, float}
 use Rattle.dump_format.specs.Form.{known_i32, known_i64, value_behind, value_item, module_item, instance_of, instance_item, place_item, shown_frame_of, frame_item, thread_item, stack_item, limits_behind, limits_item, mutability_item, constant_item, global_i32, global_i64, global_behind, global_item, is_memory, is_inside, region_of, segment_item}
 use Rattle.dump_format.specs.Grammar.{value_entry, module_entry, frame_entry, mutability, segment_body}
 use Rattle.dump_format.specs.Breaking.{IsValueTag, value_tail_stops, value_stops, module_stops, indices_stops, instance_stops, place_stops, values_stops, frame_stops, stack_stops, IsLimitsFlag, limits_tail_stops, limits_stops, constant_stops, IsGlobalType, global_tail_stops, global_stops, no_memory, segment_parts_stops, segment_stops}
-use Rattle.dump_format.proofs.OnTest.{picks_stops, offset_stops}
+use Rattle.dump_format.proofs.OnTest.{picks_stops}
 use Rattle.dump_format.proofs.ExactEntries.{value_exact, zero_exact, indices_exact, place_exact, values_exact, frame_exact, thread_exact, mutability_exact, body_exact}
+use Rattle.wasm_bytes.proofs.Offsets.{offset_stops}
 
 float_stops_at : {A : Type 0} (at width : ℕ) → StopsAt {A = Shown A} (unread (run width)) (mapped (λ _. float at) (run_item width))
 float_stops_at at width = mapped_stops_at (λ _. float at) (unread (run width)) (run_item width) (run_stops_at width)

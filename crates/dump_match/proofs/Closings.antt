@@ -11,7 +11,7 @@ use Rattle.dump_match.specs.Frames.{IsOf, FunctionFits}
 use Rattle.dump_match.specs.States.{AtClose, ClosesAt, SomeClosesAt}
 use Rattle.dump_match.specs.inner.Decides.{Decides}
 use Rattle.dump_match.proofs.Spots.{defined_fits}
-use Rattle.wasm_laws.proofs.Lists.{some_is}
+use Rattle.pm_text.proofs.Lists.{some_is}
 
 -- what was looked at so far, and one more
 pub one_more : (ops : List Op) (at i : ℕ) → ((k : ℕ) → k < i → ClosesAt ops k at → ⊥) → (ClosesAt ops i at → ⊥) → (k : ℕ) → k < i + 1 → ClosesAt ops k at → ⊥

@@ -4,3 +4,4 @@ pub mod Order
 pub mod InTurn
 pub mod InState
 pub mod Closings
+pub mod FrameLists

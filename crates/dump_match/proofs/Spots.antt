@@ -20,7 +20,7 @@ use Rattle.wasm_syntax.specs.FlatTyping.{OpenBlock, opened, inside, BeginsNode, 
 use Rattle.wasm_syntax.specs.Machine.{offset_in}
 use Rattle.wasm_syntax.specs.Static.{Spot, Live, IsNode, LiveAt, Static}
 use Rattle.wasm_syntax.specs.Valid.{Valid, FuncTypeFine, BodyFine, There, defined_index}
-use Rattle.wasm_laws.proofs.Lists.{there_at, at_of as in_list, some_is}
+use Rattle.wasm_laws.proofs.Lists.{there_at, at_of as in_list}
 use Rattle.wasm_laws.proofs.Unique.{one_tree}
 use Rattle.wasm_laws.proofs.Live.{one_static}
 use Rattle.wasm_laws.proofs.FlatBodies.{Gives, inside_body}
@@ -39,6 +39,7 @@ use Rattle.dump_match.specs.inner.Stands.{CodeIs, Stands, count_shown}
 use Rattle.dump_match.proofs.ValueLaws.{take_reverse, take_all}
 use Rattle.wasm_laws.proofs.Validity.{then_found}
 use Rattle.wasm_validate.proofs.OffsetLaws.{least_at}
+use Rattle.pm_text.proofs.Lists.{some_is}
 
 -- ---- one instruction at each offset
 

@@ -4,18 +4,11 @@ use Rattle.std.proofs.lemmas.List.{length-reverse, reverse-append, length-replic
 use Rattle.std.proofs.Math.Seq.{take-append_seam}
 use Rattle.wasm_syntax.specs.declared.value.ValType.{ValType}
 use Rattle.wasm_syntax.specs.declared.value.Seen.{Seen}
-use Rattle.wasm_syntax.specs.Numbers.{same_type}
 use Rattle.wasm_syntax.specs.declared.parts.LocalGroup.{LocalGroup}
-use Rattle.wasm_syntax.specs.Module.{same_types, declared_locals}
+use Rattle.wasm_syntax.specs.Module.{declared_locals}
 use Rattle.dump_match.specs.Values.{has_type, have_types, can_be}
 use Rattle.std.proofs.Math.Bool.{and-false}
-use Rattle.wasm_laws.proofs.Lists.{some_is}
-
-pub other_count : (ts us : List ValType) → length ts ≢ length us → same_types ts us ≡ false
-other_count [] [] h = absurd (h refl)
-other_count [] (u ∷ us) h = refl
-other_count (t ∷ ts) [] h = refl
-other_count (t ∷ ts) (u ∷ us) h = ap (λ z. same_type t u && z) (other_count ts us (λ e. h (ap suc e))) ∙ and-false (same_type t u)
+use Rattle.pm_text.proofs.Lists.{some_is}
 
 pub other_length : (ts : List ValType) (vs : List Seen) → length ts ≢ length vs → have_types ts vs ≡ false
 other_length [] [] h = absurd (h refl)

@@ -10,3 +10,4 @@ pub mod SpelledParts
 pub mod SpelledSections
 pub mod ReadsBack
 pub mod CanonicalLaws
+pub mod Images

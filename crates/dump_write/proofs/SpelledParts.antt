@@ -4,12 +4,10 @@ use Rattle.std.specs.Int.{w32, w64, cast_signed}
 use Rattle.std.specs.List.{flat_map}
 use Rattle.std.specs.Str.{IsUtf8}
 use Rattle.std.proofs.lemmas.List.{length-map}
-use Rattle.std.proofs.lemmas.Int.{ints, of_z-to_z}
+use Rattle.std.proofs.lemmas.Int.{of_z-to_z}
 use Rattle.std.proofs.lemmas.List.Elements.{All-head, All-tail}
 use Rattle.wasm_leb.specs.Numbers.{IsUnsigned}
-use Rattle.wasm_leb.specs.Reading.{IsWithin}
 use Rattle.wasm_leb.specs.Writing.{unsigned_bytes, signed_bytes}
-use Rattle.wasm_leb.proofs.UnsignedBytes.{unsigned_spells}
 use Rattle.wasm_leb.proofs.SignedBytes.{signed_spells}
 use Rattle.wasm_bytes.specs.Spelling.{Spellings, items, vector, u32, s32, s64, name}
 use Rattle.wasm_syntax.specs.declared.value.Seen.{Seen}
@@ -26,17 +24,9 @@ use Rattle.dump_write.specs.Spelled.{name_bytes, vector_bytes, module_bytes, see
 use Rattle.dump_write.specs.Canonical.{instance_bytes}
 use Rattle.dump_write.specs.Typed.{IsSeenTyped, IsValueTyped, IsFrameTyped}
 use Rattle.wasm_syntax.proofs.Differ.{map_same}
+use Rattle.wasm_bytes.proofs.Numbers.{u32_spelled, within_32, within_64}
 
 -- ---- numbers and names
-
-pub u32_spelled : (n at : ℕ) → n < 2 ^ 32 → u32 n at (unsigned_bytes n)
-u32_spelled n at h = unsigned_spells 32 n (omega arith) h
-
-within_32 : (n : ℕ) → n < 2 ^ 32 → IsWithin 32 (cast_signed w32 n)
-within_32 n h = (omega (arith, ints), omega (arith, ints))
-
-within_64 : (n : ℕ) → n < 2 ^ 64 → IsWithin 64 (cast_signed w64 n)
-within_64 n h = (omega (arith, ints), omega (arith, ints))
 
 s32_spelled : (n at : ℕ) → n < 2 ^ 32 → s32 (cast_signed w32 n) at (signed_bytes (cast_signed w32 n))
 s32_spelled n at h = signed_spells 32 (cast_signed w32 n) (omega arith) (within_32 n h)

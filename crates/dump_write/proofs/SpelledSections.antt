@@ -18,7 +18,8 @@ use Rattle.dump_write.specs.Spelled.{name_bytes, vector_bytes, module_bytes, fra
 use Rattle.dump_write.specs.Canonical.{instance_bytes, core_bytes, modules_bytes, instances_bytes, stack_bytes, memory_section, globals_section, data_section}
 use Rattle.dump_write.specs.Typed.{IsValueTyped, IsFrameTyped}
 use Rattle.dump_write.proofs.Lists.{ascii_text}
-use Rattle.dump_write.proofs.SpelledParts.{u32_spelled, name_spelled, module_spelled, vector_spelled, list_spelled, no_longer, global_long, global_spelled, frame_long, shown_frame, IsSmallFrame, frame_spelled, instance_spelled, limits_spelled, segment_long, IsPlaced, segment_spelled}
+use Rattle.dump_write.proofs.SpelledParts.{name_spelled, module_spelled, vector_spelled, list_spelled, no_longer, global_long, global_spelled, frame_long, shown_frame, IsSmallFrame, frame_spelled, instance_spelled, limits_spelled, segment_long, IsPlaced, segment_spelled}
+use Rattle.wasm_bytes.proofs.Numbers.{u32_spelled}
 
 -- ---- sizes
 

@@ -1,36 +1,18 @@
 -- A map of places stays one where a value is added behind the others.
-use Rattle.std.proofs.Common.{◌≡◌, ℕ, zero, suc, ◌+◌, ◌<◌, Bool, true, false, cond, eqb, ltb, List, [], ◌∷◌, ◌++◌, length, take, get_or, Option, Some, None, refl, sym, ap, subst, ◌∙◌, inl, inr, arith, length-append}
+use Rattle.std.proofs.Common.{◌≡◌, ℕ, zero, suc, ◌+◌, ◌<◌, Bool, true, false, cond, eqb, List, [], ◌∷◌, ◌++◌, length, take, get_or, Option, Some, None, refl, sym, ap, subst, ◌∙◌, inl, inr, arith, length-append}
 use Rattle.std.specs.Prelude.{slice_get, option_and_then, IfSome, find}
 use Rattle.std.specs.Option.{option_or, is_some}
 use Rattle.std.specs.Ordering.{nat_cmp, is_eq}
-use Rattle.std.specs.declared.cmp.Ordering.TheVariants.{Less, Equal, Greater}
 use Rattle.std.proofs.lemmas.Bool.{eqb-true}
 use Rattle.std.proofs.lemmas.Option.{slice_get_cases}
 use Rattle.std.proofs.lemmas.List.{length-take}
 use Rattle.std.proofs.lemmas.List.Folds.{find-append}
 use Rattle.dwarf_abbrev.specs.inner.Places.{IsPlaced}
+use Rattle.pm_text.proofs.Lists.{get_front, get_last, is_eq_at}
 
 -- ---- keys
 
-cmp_parts : (lt eq : Bool) → (eq ≡ true → lt ≡ false) → is_eq (cond lt Less (cond eq Equal Greater)) ≡ eq
-cmp_parts true true h = absurd (let no : true ≡ false = h refl in cc)
-cmp_parts true false h = refl
-cmp_parts false true h = refl
-cmp_parts false false h = refl
-
-pub is_eq_at : (a b : ℕ) → is_eq (nat_cmp a b) ≡ eqb a b
-is_eq_at a b = cmp_parts (ltb a b) (eqb a b) (λ e. grind (arith, e))
-
 -- ---- lists
-
-kept_at : {T : Type 0} (xs ys : List T) (i : ℕ) (y : T) → slice_get xs i ≡ Some y → slice_get (xs ++ ys) i ≡ Some y
-kept_at [] ys i y e = absurd cc
-kept_at (x ∷ xs) ys zero y e = e
-kept_at (x ∷ xs) ys (suc i) y e = kept_at xs ys i y e
-
-last_at : {T : Type 0} (xs : List T) (x : T) → slice_get (xs ++ x ∷ []) (length xs) ≡ Some x
-last_at [] x = refl
-last_at (y ∷ xs) x = last_at xs x
 
 -- ---- places
 
@@ -49,7 +31,7 @@ grown code xs x c (Some i) e inside other = elim (slice_get_cases xs i).1 [
   | inl s ↦
       let here : Some s.0 ≡ find (λ y. eqb (code y) c) xs = sym s.2 ∙ e in
       let all = find-append (λ y. eqb (code y) c) xs (x ∷ []) ∙ ap (λ o. option_or o (find (λ y. eqb (code y) c) (x ∷ []))) (sym here) in
-      (kept_at xs (x ∷ []) i s.0 s.2 ∙ sym all, omega (arith, inside, length-append xs (x ∷ [])))
+      (get_front xs (x ∷ []) i s.0 s.2 ∙ sym all, omega (arith, inside, length-append xs (x ∷ [])))
   | inr s ↦ absurd (omega (arith, inside, s.0))
 ]
 
@@ -70,7 +52,7 @@ by_code code xs x place after p new update c true tie =
     let nothing : None ≡ find (λ y. eqb (code y) c) xs = rw absent at (p c).0 in
     let last : find (λ y. eqb (code y) c) (x ∷ []) ≡ Some x = rw tie refl in
     let all = find-append (λ y. eqb (code y) c) xs (x ∷ []) ∙ ap (λ o. option_or o (find (λ y. eqb (code y) c) (x ∷ []))) (sym nothing) ∙ last in
-    rw is (last_at xs x ∙ sym all, omega (arith, length-append xs (x ∷ [])))
+    rw is (get_last xs x ∙ sym all, omega (arith, length-append xs (x ∷ [])))
 by_code code xs x place after p new update c false tie =
     let is : after c ≡ place c = update c ∙ rw tie refl in
     rw is (grown code xs x c (place c) (p c).0 (p c).1 (λ e. tie))

@@ -1,6 +1,6 @@
 -- In the list that a tree writes out the entries in an entry, which are those behind it that are deeper up to the first that is not,
 -- are its children, written out.
-use Rattle.std.proofs.Common.{◌≡◌, ℕ, suc, ◌+◌, ◌≤◌, ◌<◌, Bool, true, false, List, [], ◌∷◌, ◌++◌, take, refl, sym, ap, ◌∙◌, append_assoc, arith}
+use Rattle.std.proofs.Common.{◌≡◌, ℕ, suc, ◌+◌, ◌≤◌, ◌<◌, Bool, true, false, List, [], ◌∷◌, ◌++◌, refl, sym, ap, ◌∙◌, append_assoc, arith}
 use Rattle.std.specs.Prelude.{take_while, filter, nat_lt, ◌==◌}
 use Rattle.std.specs.List.{prefix_len}
 use Rattle.std.proofs.lemmas.Bool.{lt-ltb, le-ltb, ne_eqb}
@@ -9,11 +9,9 @@ use Rattle.std.proofs.lemmas.List.Elements.{filter-append}
 use Rattle.dwarf_info.specs.declared.entry.Entry.{Entry}
 use Rattle.dwarf_info.specs.Trees.{Siblings, none, entry, Tree, written_at, written}
 use Rattle.dwarf_laws.specs.Inside.{deeper, insides, nodes_at, nodes, siblings_at}
+use Rattle.pm_text.proofs.Lists.{take_first}
 
 -- ---- what is taken in front
-
-take_first : {A : Type 0} (n : ℕ) (x : A) (xs : List A) → take (1 + n) (x ∷ xs) ≡ x ∷ take n xs
-take_first n x xs = let e : 1 + n ≡ suc n = omega arith in rw e refl
 
 taken_first : (p : Entry → Bool) (e : Entry) (es : List Entry) → p e ≡ true → take_while p (e ∷ es) ≡ e ∷ take_while p es
 taken_first p e es t = rw t (take_first (prefix_len p es) e es)

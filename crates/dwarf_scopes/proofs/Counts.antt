@@ -14,6 +14,7 @@ use Rattle.dwarf_scopes.specs.Scopes.{is_scope_at, scopes_in, variables_of}
 use Rattle.dwarf_scopes.specs.inner.Picks.{is_variable_of}
 use Rattle.dwarf_scopes.specs.inner.Insides.{deeper, insides}
 use Rattle.dwarf_scopes.proofs.Filters.{variables_are}
+use Rattle.pm_text.proofs.Lists.{take_first}
 
 pub insides_drop : (n : ℕ) (es : List Entry) → insides (drop n es) ≡ drop n (insides es)
 insides_drop zero es = refl
@@ -124,13 +125,10 @@ child_step d u es counts i e other k count step behind total out more lt is all 
 
 -- ---- the entries in one of them
 
-take_one : {A : Type 0} (k : ℕ) (x : A) (xs : List A) → take (1 + k) (x ∷ xs) ≡ x ∷ take k xs
-take_one k x xs = let e : 1 + k ≡ suc k = omega arith in rw e refl
-
 deeper_taken_by : (d n : ℕ) (g : Entry) (gs : List Entry) (b : Bool) → d < n → nat_lt d g.depth ≡ b → deeper n (take (deeper d gs) gs) ≡ deeper n gs → deeper n (take (deeper d (g ∷ gs)) (g ∷ gs)) ≡ deeper n (g ∷ gs)
 deeper_taken_by d n g gs true lt e h =
     let count : deeper d (g ∷ gs) ≡ 1 + deeper d gs = rw e refl in
-    let front : take (deeper d (g ∷ gs)) (g ∷ gs) ≡ g ∷ take (deeper d gs) gs = ap (λ (c : ℕ). take c (g ∷ gs)) count ∙ take_one (deeper d gs) g gs in
+    let front : take (deeper d (g ∷ gs)) (g ∷ gs) ≡ g ∷ take (deeper d gs) gs = ap (λ (c : ℕ). take c (g ∷ gs)) count ∙ take_first (deeper d gs) g gs in
     ap (deeper n) front ∙ ap (λ (c : ℕ). cond (nat_lt n g.depth) (1 + c) 0) h
 deeper_taken_by d n g gs false lt e h =
     let count : deeper d (g ∷ gs) ≡ 0 = rw e refl in
@@ -146,8 +144,8 @@ insides_taken_by : (d : ℕ) (f : Entry) (fs : List Entry) (b : Bool) → nat_lt
 insides_taken_by d f fs true e h =
     let count : deeper d (f ∷ fs) ≡ 1 + deeper d fs = rw e refl in
     let lt : d < f.depth = ltb-true d f.depth e in
-    let front : take (deeper d (f ∷ fs)) (f ∷ fs) ≡ f ∷ take (deeper d fs) fs = ap (λ (c : ℕ). take c (f ∷ fs)) count ∙ take_one (deeper d fs) f fs in
-    let counts : take (deeper d (f ∷ fs)) (insides (f ∷ fs)) ≡ deeper f.depth fs ∷ take (deeper d fs) (insides fs) = ap (λ (c : ℕ). take c (insides (f ∷ fs))) count ∙ take_one (deeper d fs) (deeper f.depth fs) (insides fs) in
+    let front : take (deeper d (f ∷ fs)) (f ∷ fs) ≡ f ∷ take (deeper d fs) fs = ap (λ (c : ℕ). take c (f ∷ fs)) count ∙ take_first (deeper d fs) f fs in
+    let counts : take (deeper d (f ∷ fs)) (insides (f ∷ fs)) ≡ deeper f.depth fs ∷ take (deeper d fs) (insides fs) = ap (λ (c : ℕ). take c (insides (f ∷ fs))) count ∙ take_first (deeper d fs) (deeper f.depth fs) (insides fs) in
     counts ∙ ap (λ (c : ℕ). c ∷ take (deeper d fs) (insides fs)) (sym (deeper_taken d f.depth fs lt)) ∙ ap (λ (cs : List ℕ). deeper f.depth (take (deeper d fs) fs) ∷ cs) h ∙ ap insides (sym front)
 insides_taken_by d f fs false e h =
     let count : deeper d (f ∷ fs) ≡ 0 = rw e refl in

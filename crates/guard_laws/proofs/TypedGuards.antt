@@ -18,14 +18,11 @@ use Rattle.rewrite_bodies.specs.Slots.{Place, place_type, Ctx}
 use Rattle.rewrite_bodies.specs.Guards.{guard, can_trap, divides}
 use Rattle.rewrite_bodies.specs.Typed.{Offers, original}
 use Rattle.rewrite_bodies.proofs.TypedPieces.{Ok, at_labels, HasMemory, ok_guard_zero, ok_guard_signed, ok_guard_memory, ok_guard_copy, ok_guard_fill}
-use Rattle.wasm_laws.proofs.Lists.{some_is}
 use Rattle.rewrite_bodies.proofs.TypedNodes.{only_found}
+use Rattle.pm_text.proofs.Lists.{some_is}
+use Rattle.wasm_syntax.proofs.Types.{any_found}
 
 -- ---- what the arrows take
-
-any_found : {A B : Type 0} (ls : List A) (o : Option B) (b : B) → typing.if_any ls o ≡ Some b → o ≡ Some b
-any_found [] o b e = absurd (cc)
-any_found (l ∷ ls) o b e = e
 
 any_has : {B : Type 0} (ls : List Limits) (o : Option B) (b : B) → typing.if_any ls o ≡ Some b → HasMemory ls
 any_has [] o b e = absurd (cc)

@@ -1,4 +1,3 @@
 pub mod Splits
 pub mod Numbers
-pub mod Utf8
 pub mod Lines

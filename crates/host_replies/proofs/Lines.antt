@@ -1,5 +1,5 @@
 -- Writes and lines that are read one after another.
-use Rattle.std.proofs.Common.{◌≡◌, ℕ, suc, ◌+◌, ◌<◌, Bool, false, List, [], ◌∷◌, ◌++◌, length, refl, sym, ap, ◌∙◌, arith, append_assoc, Option, Some, None, Ok, Err}
+use Rattle.std.proofs.Common.{◌≡◌, ℕ, ◌+◌, ◌<◌, Bool, false, List, [], ◌∷◌, ◌++◌, length, refl, sym, ap, ◌∙◌, arith, append_assoc, Option, Some, None, Ok, Err}
 use Rattle.std.specs.Prelude.{◌==◌, ◌&&◌, nat_lt, option_to_list, Result}
 use Rattle.std.specs.List.{slice_split}
 use Rattle.std.specs.Str.Lines.{lines_of_parts, strip_carriage_return}
@@ -22,12 +22,9 @@ abbrev pub before_writes : List Write → Option (List Write) → Option (List W
 before_writes ws (Some more) = Some (ws ++ more)
 before_writes ws None = None
 
-not_zero : (n : ℕ) → (suc n == 0) ≡ false
-not_zero n = eqb-suc-zero n
-
 no_gap : (part : List ℕ) (parts : List (List ℕ)) → (length part ≡ 0 → length parts ≡ 0) → (length part == 0 && nat_lt 0 (length parts)) ≡ false
 no_gap [] parts none = le-ltb 0 (length parts) (omega (arith, none refl))
-no_gap (b ∷ bs) parts none = ap (λ (c : Bool). c && nat_lt 0 (length parts)) (not_zero (length bs))
+no_gap (b ∷ bs) parts none = ap (λ (c : Bool). c && nat_lt 0 (length parts)) (eqb-suc-zero (length bs))
 
 pub word_next : (part : List ℕ) (parts : List (List ℕ)) → (length part ≡ 0 → length parts ≡ 0) → writes_of (part ∷ parts) ≡ one_more (write_word part) (writes_of parts)
 unfolding writes_of
@@ -115,7 +112,7 @@ wrong_line [] none = absurd cc
 wrong_line (b ∷ bs) none = omega arith
 
 last_parts : (b : ℕ) (bs : List ℕ) → lines_of_parts ((b ∷ bs) ∷ []) ≡ (b ∷ bs) ∷ []
-last_parts b bs = rw (not_zero (length bs)) refl
+last_parts b bs = rw (eqb-suc-zero (length bs)) refl
 
 -- a line with a line feed behind it
 pub lines_next : (part : List ℕ) (parts : List (List ℕ)) → 0 < length parts → lines_of_parts (part ∷ parts) ≡ strip_carriage_return part ∷ lines_of_parts parts

@@ -12,7 +12,7 @@ use Rattle.index_map.specs.inner.Used.{behind, bodies_used, HasMet}
 use Rattle.index_map.specs.inner.Kept.{AreUsed, IsMap}
 use Rattle.index_map.proofs.Meeting.{is_in_behind}
 use Rattle.index_map.proofs.Below.{distinct_below, is_in_below}
-use Rattle.wasm_laws.proofs.Lists.{some_is}
+use Rattle.pm_text.proofs.Lists.{some_is}
 
 pub place_behind : (t : ℕ) (xs : List ℕ) (k : ℕ) → behind t xs ≡ Some k → place_in t xs + suc k ≡ length xs
 place_behind t [] k e = absurd (cc)

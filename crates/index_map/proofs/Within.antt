@@ -5,10 +5,10 @@ use Rattle.std.proofs.lemmas.Bool.Decides.{nat_tests}
 use Rattle.wasm_syntax.specs.declared.instruction.Op.{Op}
 use Rattle.wasm_syntax.specs.declared.parts.Body.{Body}
 use Rattle.wasm_syntax.specs.declared.module.ModuleParts.{ModuleParts as Module}
-use Rattle.wasm_laws.proofs.Lists.{some_is}
 use Rattle.rewrite_bodies.specs.Numbering.{is_in, distinct}
 use Rattle.rewrite_modules.specs.Weight.{type_used, types_used}
 use Rattle.index_map.specs.inner.Used.{ops_used, bodies_used}
+use Rattle.pm_text.proofs.Lists.{some_is}
 
 left_within : (t : ℕ) (xs ys : List ℕ) → is_in t xs ≡ true → is_in t (xs ++ ys) ≡ true
 left_within t [] ys e = absurd (cc)

@@ -16,17 +16,18 @@ use Rattle.wasm_syntax.specs.FlatTyping.{FlatTypes, body_block, IsLive, TypesBef
 use Rattle.wasm_syntax.specs.Valid.{Valid}
 use Rattle.wasm_laws.proofs.FlatBodies.{body_steps}
 use Rattle.wasm_laws.proofs.FlatOne.{one_before}
-use Rattle.wasm_laws.proofs.Lists.{some_is}
 use Rattle.wasm_validate.specs.Heights.{body_of, TypesAt, HeightIs, AllLow}
 use Rattle.wasm_validate.specs.Instructions.{HeightsAre}
 use Rattle.rewrite_modules.specs.Weight.{height_at, AreHeights}
-use Rattle.rewrite_modules.proofs.FineBodies.{index_back, fine_at, gives_one}
+use Rattle.rewrite_modules.proofs.FineBodies.{fine_at, gives_one}
 use Rattle.rewrite_limits.proofs.Within.{all_low}
 use Rattle.instrument.specs.Refusal.{OwnHeights}
+use Rattle.pm_text.proofs.Lists.{some_is}
+use Rattle.wasm_syntax.proofs.Bodies.{index_of}
 
 module _ (m : Module) (heights : List (List ℕ)) (valid : Valid m) (are : HeightsAre heights m) where
   body_there : (i : ℕ) (b : Body) → slice_get m.bodies i ≡ Some b → body_of m (length m.imports + i) ≡ Some b
-  body_there i b e = ap (λ (o : Option ℕ). option_then o (slice_get m.bodies)) (index_back m i) ∙ e
+  body_there i b e = ap (λ (o : Option ℕ). option_then o (slice_get m.bodies)) (index_of m i) ∙ e
 
   -- the heights of a function
   list_there : (i : ℕ) (b : Body) → slice_get m.bodies i ≡ Some b → (ns : List ℕ) × (slice_get heights i ≡ Some ns)

@@ -1,5 +1,5 @@
 -- What each step of the command leaves where it has no answer, from what the next one leaves.
-use Rattle.std.proofs.Common.{◌≡◌, ℕ, List, refl, sym, subst, ap, ◌∙◌, inl, inr, Option, Result, Ok, Err}
+use Rattle.std.proofs.Common.{◌≡◌, ℕ, List, refl, sym, subst, ap, ◌∙◌, inl, inr, Option, Result, Ok}
 use Rattle.std.specs.declared.vec.Vec.{Vec}
 use Rattle.std.specs.Global.{Global}
 use Rattle.causes.specs.declared.NoMemory.{NoMemory as WantOfMemory}
@@ -20,10 +20,7 @@ use Rattle.command_answers.specs.declared.status.Status.TheVariants as status
 use Rattle.run_session.specs.Stop.{Stop, no_memory, file_failed, OnStop}
 use Rattle.instrument_command.specs.Stops.{IsFailed, LeftInPart, InstrumentStops}
 use Rattle.instrument_command.specs.inner.Steps.{IsWant, ModuleStops, BytesStops}
-
-pub map_stop : (P Q : Stop → Type 0) (result : Result Outcome WantOfMemory) → ((stop : Stop) → P stop → Q stop) → OnStop P result → OnStop Q result
-map_stop P Q (Err e) go x = go no_memory x
-map_stop P Q (Ok o) go x = λ faulted. let k = x faulted in record { file = k.file; named = k.named; failed = go (file_failed k.file) k.failed; memory = go no_memory k.memory }
+use Rattle.run_session.proofs.Stops.{map_stop}
 
 -- ---- bytes
 

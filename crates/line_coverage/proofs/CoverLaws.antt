@@ -19,9 +19,10 @@ use Rattle.line_coverage.specs.inner.Visits.{bodies_sum}
 use Rattle.line_coverage.specs.inner.Placing.{in_tables, Moves}
 use Rattle.line_coverage.specs.inner.Order.{spot_cmp, line_of}
 use Rattle.line_coverage.proofs.PlaceLaws.{placed}
-use Rattle.line_coverage.proofs.FallLaws.{fell_sum, count_le, same_length}
+use Rattle.line_coverage.proofs.FallLaws.{fell_sum, count_le}
 use Rattle.line_coverage.proofs.ListLaws.{ascend_lines, same_sum, none_sum, counted_lines, listed_sum}
 use Rattle.machine_steps.proofs.TallyLaws.{count_all}
+use Rattle.std.proofs.lemmas.List.{length-map}
 
 one_test : {K : Type 0} (b : Bool) (es : List (K × ℕ)) → sum_of (λ _. b) es ≡ cond b (sum_all es) 0
 one_test true es = refl
@@ -44,14 +45,14 @@ module _ (tables : List Lines) (m : Module) (t : Counts) (seen : List (Option Pl
   fell = map (fallen tables m) seen
 
   within : (p : Option Spot → Bool) → count_by p fell < 2 ^ 64
-  within p = omega (arith, count_le p fell, same_length (fallen tables m) seen, few)
+  within p = omega (arith, count_le p fell, length-map seen (fallen tables m), few)
 
   -- all counts
   whole : bodies_sum m.bodies t.cells (λ _. true) + t.elsewhere ≡ length fell
   whole = fell_sum tables m t seen (λ _. true) counted few ∙ count_all fell
 
   fits : bodies_sum m.bodies t.cells (λ _. true) < 2 ^ 64
-  fits = omega (arith, whole, same_length (fallen tables m) seen, few)
+  fits = omega (arith, whole, length-map seen (fallen tables m), few)
 
   visited : (q : ℕ → Bool) → sum_of q visits ≡ bodies_sum m.bodies t.cells q
   visited q = omega (arith, adds.sums (omega (arith, fits)) q)
@@ -68,7 +69,7 @@ module _ (tables : List Lines) (m : Module) (t : Counts) (seen : List (Option Pl
       → IsStrictlySortedBy spot_cmp (keys_of spots) → c.lines ≡ map line_of spots → Covers c fell
   covers c rest total rest_is unplaced_is total_is steps_is sorted lines_is =
       let every : sum_all spots + (sum_all left + t.elsewhere) ≡ length fell = sum_is (λ _. true) ∙ count_all fell in
-      let bound : length fell < 2 ^ 64 = omega (arith, same_length (fallen tables m) seen, few) in
+      let bound : length fell < 2 ^ 64 = omega (arith, length-map seen (fallen tables m), few) in
       let rest_at : rest ≡ sum_all left = rest_is (omega (arith, every, bound)) in
       let total_at : total ≡ sum_all spots = total_is (omega (arith, every, bound)) in
       let small : rest + t.elsewhere ≤ 2 ^ 64 - 1 = omega (arith, rest_at, every, bound) in

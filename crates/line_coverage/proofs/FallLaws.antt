@@ -55,10 +55,6 @@ count_le p (x ∷ xs) = by (p x) (count_le p xs) (sum_by-cons (λ y. cond (p y) 
   by true h e = omega (arith, h, e)
   by false h e = omega (arith, h, e)
 
-pub same_length : {X Y : Type 0} (f : X → Y) (xs : List X) → length (map f xs) ≡ length xs
-same_length f [] = refl
-same_length f (x ∷ xs) = ap suc (same_length f xs)
-
 -- the counts by where they fall, with those that fall nowhere for want of a frame
 pub fell_sum : (tables : List Lines) (m : Module) (t : Counts) (seen : List (Option Place)) (p : Test) → Counted m t seen → length seen < 2 ^ 64
     → bodies_sum m.bodies t.cells (λ a. p (spot tables a)) + cond (p None) t.elsewhere 0 ≡ count_by p (map (fallen tables m) seen)

@@ -17,7 +17,7 @@ use Rattle.line_coverage.specs.Spots.{spot_of}
 use Rattle.line_coverage.specs.inner.Sums.{sum_of, sum_all, spots_sum, Positive, AddsOne}
 use Rattle.line_coverage.specs.inner.Placing.{Spotting, in_sequence, in_sequences, in_tables, MovesOne, Moves}
 use Rattle.line_coverage.proofs.SumLaws.{found_at_most}
-use Rattle.line_coverage.proofs.SpotLaws.{last_eq}
+use Rattle.pm_text.proofs.Lists.{is_eq_at}
 
 -- ---- one address
 
@@ -51,7 +51,7 @@ moves_one spots visits new_spots new_visits address to n there removed added = r
 }
   where
     same_at : (x : ℕ) → is_at (nat_cmp address) x ≡ true → address ≡ x
-    same_at x t = let e : eqb address x ≡ true = sym (last_eq address x) ∙ t in grind (arith, e)
+    same_at x t = let e : eqb address x ≡ true = sym (is_eq_at address x) ∙ t in grind (arith, e)
 
 -- ---- a sequence
 

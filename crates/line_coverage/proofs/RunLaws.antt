@@ -20,10 +20,10 @@ use Rattle.wasm_machine.specs.Watching.{Seen}
 use Rattle.dwarf_line.specs.declared.lines.Lines.{Lines}
 use Rattle.line_coverage.specs.Covers.{fallen, Covered, Covers}
 use Rattle.line_coverage.specs.Runs.{run_places, CoversRun}
-use Rattle.line_coverage.proofs.FallLaws.{same_length}
-use Rattle.wasm_laws.proofs.Lists.{some_is}
 use Rattle.machine_hosted.proofs.WatchLaws.{admits_none}
 use Rattle.machine_hosted.proofs.WatchJoins.{behind_same}
+use Rattle.pm_text.proofs.Lists.{some_is}
+use Rattle.std.proofs.lemmas.List.{length-map}
 
 count_within : (answer : RunEnd) (fuel made count : ℕ) → IsCount answer fuel made count → made ≤ fuel → count ≤ fuel
 count_within (Finished value) fuel made count e h = omega (arith, e, h)
@@ -62,7 +62,7 @@ module _ (tables : List Lines) (m : Module) (s s' : State) (is_new : IsNew m s) 
           invoked = i;
           counted = w.count;
           is = count;
-          steps = (fell []).steps ∙ same_length (fallen tables m) (invocation_placing (engine p collecting depth) s.due g args (world_of s.machine []) (replies_of w.asked.given ++ []) w.count) ∙ w.made [];
+          steps = (fell []).steps ∙ length-map (invocation_placing (engine p collecting depth) s.due g args (world_of s.machine []) (replies_of w.asked.given ++ []) w.count) (fallen tables m) ∙ w.made [];
           covers = λ more.
               let entry : invocation_placing (engine p collecting depth) s.due g args (world_of s.machine []) (replies_of w.asked.given ++ more) w.count ≡ invocation_placing (engine p collecting depth) s.due f args (world_of s.machine []) (replies_of i.came.asked.given ++ more) w.count =
               ap (λ h. invocation_placing (engine p collecting depth) s.due h args (world_of s.machine []) (replies_of w.asked.given ++ more) w.count) (sym (some_is same))

@@ -9,6 +9,7 @@ use Rattle.std.proofs.lemmas.Cmp.{then_total, on_total}
 use Rattle.line_coverage.specs.declared.spots.Spot.{Spot}
 use Rattle.line_coverage.specs.Spots.{is_spot}
 use Rattle.line_coverage.specs.inner.Order.{spot_cmp}
+use Rattle.pm_text.proofs.Lists.{is_eq_at}
 
 pub spot_total : IsTotalOrder spot_cmp
 spot_total = then_total (on_total (λ (s : Spot). s.table) nat_cmp_total) (then_total (on_total (λ (s : Spot). s.file) nat_cmp_total) (on_total (λ (s : Spot). s.line) nat_cmp_total))
@@ -21,16 +22,8 @@ then_eq x y r = by (ltb x y) (eqb x y) refl refl where
   by false true e f = rw (e, f) refl
   by false false e f = rw (e, f) refl
 
-pub last_eq : (x y : ℕ) → is_eq (nat_cmp x y) ≡ eqb x y
-last_eq x y = by (ltb x y) (eqb x y) refl refl where
-  by : (a b : Bool) → ltb x y ≡ a → eqb x y ≡ b → is_eq (cond (ltb x y) Less (cond (eqb x y) Equal Greater)) ≡ eqb x y
-  by true true e f = absurd (grind (arith, e, f))
-  by true false e f = rw (e, f) refl
-  by false true e f = rw (e, f) refl
-  by false false e f = rw (e, f) refl
-
 pub same_key : (t s : Spot) → is_eq (spot_cmp t s) ≡ is_spot t s
-same_key t s = then_eq t.table s.table (ordering_then (nat_cmp t.file s.file) (nat_cmp t.line s.line)) ∙ ap (λ b. eqb t.table s.table && b) (then_eq t.file s.file (nat_cmp t.line s.line) ∙ ap (λ b. eqb t.file s.file && b) (last_eq t.line s.line))
+same_key t s = then_eq t.table s.table (ordering_then (nat_cmp t.file s.file) (nat_cmp t.line s.line)) ∙ ap (λ b. eqb t.table s.table && b) (then_eq t.file s.file (nat_cmp t.line s.line) ∙ ap (λ b. eqb t.file s.file && b) (is_eq_at t.line s.line))
 
 pub same_spot : (t s : Spot) → is_spot t s ≡ true → t ≡ s
 same_spot t s e = by (eqb t.table s.table) (eqb t.file s.file) (eqb t.line s.line) refl refl refl e where
@@ -48,7 +41,7 @@ pub tied_spots : (q : Spot → Bool) (x y : Spot) → spot_cmp x y ≡ Equal →
 tied_spots q x y e = ap q (sym (same_spot x y (sym (same_key x y) ∙ ap is_eq e)))
 
 pub same_number : (x y : ℕ) → nat_cmp x y ≡ Equal → x ≡ y
-same_number x y e = by (eqb x y) refl (sym (last_eq x y) ∙ ap is_eq e) where
+same_number x y e = by (eqb x y) refl (sym (is_eq_at x y) ∙ ap is_eq e) where
   by : (b : Bool) → eqb x y ≡ b → eqb x y ≡ true → x ≡ y
   by true e h = grind (arith, e)
   by false e h = absurd cc

@@ -1,5 +1,5 @@
 -- Locals below the operands of a frame.
-use Rattle.std.proofs.Common.{◌≡◌, ℕ, zero, suc, ◌+◌, ◌<◌, List, [], ◌∷◌, ◌++◌, length, reverse, refl, sym, ap, ◌∙◌, arith, append_assoc}
+use Rattle.std.proofs.Common.{◌≡◌, ℕ, ◌+◌, List, [], ◌∷◌, ◌++◌, length, reverse, refl, sym, ap, ◌∙◌, arith, append_assoc}
 use Rattle.std.proofs.lemmas.List.{length-reverse, reverse-append, reverse-reverse, set-append_left, set-append_right}
 use Rattle.std.specs.Prelude.{Bool, true, false, Option, Some, None, slice_get, slice_set}
 use Rattle.wasm_syntax.specs.declared.value.Value.{Value}
@@ -10,15 +10,11 @@ use Rattle.wasm_syntax.specs.Host.{World}
 use Rattle.machine_basics.specs.declared.answer.Performed.TheVariants.{Done}
 use Rattle.machine_basics.specs.Performs.{above, on_operands, laid_out}
 use Rattle.machine_basics.specs.inner.Parts.{Moves}
+use Rattle.std.proofs.lemmas.Option.{slice_get_within}
 
 turned : {A : Type 0} (operands locals below : List A) → reverse (operands ++ (reverse locals ++ below)) ≡ reverse below ++ (locals ++ reverse operands)
 turned operands locals below =
     rw (reverse-append operands (reverse locals ++ below), reverse-append (reverse locals) below, reverse-reverse locals) (append_assoc (reverse below) locals (reverse operands))
-
-within : {A : Type 0} (xs : List A) (n : ℕ) (x : A) → slice_get xs n ≡ Some x → n < length xs
-within [] n x e = absurd (cc)
-within (y ∷ xs) zero x e = omega arith
-within (y ∷ xs) (suc n) x e = omega (arith, within xs n x e)
 
 -- a local that is written
 set_local : {A : Type 0} (operands locals below : List A) (n : ℕ) (v old : A) → slice_get locals n ≡ Some old →
@@ -27,7 +23,7 @@ set_local operands locals below n v old e =
     let front : slice_set (reverse below ++ (locals ++ reverse operands)) (length below + n) v ≡ reverse below ++ (slice_set locals n v ++ reverse operands) =
     set-append_right (reverse below) (locals ++ reverse operands) (length below) (length below + n) v (length-reverse below) (omega arith)
     ∙ ap (λ k. reverse below ++ slice_set (locals ++ reverse operands) k v) (omega arith)
-    ∙ ap (λ l. reverse below ++ l) (set-append_left locals (reverse operands) n v (within locals n old e)) in
+    ∙ ap (λ l. reverse below ++ l) (set-append_left locals (reverse operands) n v (slice_get_within locals n old e)) in
     rw (turned operands locals below, front, reverse-append (reverse below) (slice_set locals n v ++ reverse operands), reverse-append (slice_set locals n v) (reverse operands), reverse-reverse operands, reverse-reverse below)
     (append_assoc operands (reverse (slice_set locals n v)) below)
 

@@ -1,13 +1,9 @@
 -- A list in a vector, seen from its end.
 use Rattle.std.proofs.Common.{◌≡◌, ℕ, zero, suc, ◌-◌, ◌<◌, List, [], ◌∷◌, ◌++◌, length, reverse, take, drop, refl, sym, ap, ◌∙◌, arith, length-append}
-use Rattle.std.proofs.lemmas.List.{length-reverse, reverse-append, reverse-reverse, take-append-drop, drop_at, length-drop, drop_all}
+use Rattle.std.proofs.lemmas.List.{length-reverse, reverse-append, reverse-reverse, drop_all}
 use Rattle.std.proofs.Math.Seq.{set-append_seam}
 use Rattle.std.specs.Prelude.{slice_set}
-
-pub kept : {A : Type 0} (xs : List A) (n : ℕ) → reverse (take n xs) ≡ drop (length xs - n) (reverse xs)
-kept xs n =
-    sym (ap (drop (length xs - n)) (ap reverse (sym (take-append-drop n xs)) ∙ reverse-append (take n xs) (drop n xs))
-    ∙ drop_at (reverse (drop n xs)) (reverse (take n xs)) (length xs - n) (length-reverse (drop n xs) ∙ length-drop n xs))
+use Rattle.pm_text.proofs.Lists.{reverse_take}
 
 drop_most : {A : Type 0} (xs : List A) (n : ℕ) → drop (length xs - (length xs - n)) xs ≡ drop n xs
 drop_most {A} [] n = drop_all (length {A = A} [] - (length {A = A} [] - n)) [] (omega arith) ∙ sym (drop_all n [] (omega arith))
@@ -24,7 +20,7 @@ drop_most {A} (x ∷ xs) (suc n) = by_length (length xs - n) refl
 
 pub discarded : {A : Type 0} (xs : List A) (n : ℕ) → reverse (take (length xs - n) xs) ≡ drop n (reverse xs)
 discarded xs n =
-    kept xs (length xs - n) ∙ ap (λ k. drop (k - (k - n)) (reverse xs)) (sym (length-reverse xs)) ∙ drop_most (reverse xs) n
+    reverse_take xs (length xs - n) ∙ ap (λ k. drop (k - (k - n)) (reverse xs)) (sym (length-reverse xs)) ∙ drop_most (reverse xs) n
 
 pub topmost_set : {A : Type 0} (xs : List A) (v : A) → 0 < length xs → reverse (slice_set xs (length xs - 1) v) ≡ slice_set (reverse xs) 0 v
 topmost_set {A} xs v some = by_top (reverse xs) refl

@@ -18,7 +18,7 @@ use Rattle.machine_frames.specs.declared.layout.Stepped.TheVariants.{Next, Ended
 use Rattle.machine_frames.specs.Layout.{Level, StandsFor}
 use Rattle.machine_frames.specs.Meets.{Begun}
 use Rattle.machine_frames.specs.inner.Moves.{Becomes}
-use Rattle.machine_frames.proofs.Labels.{some_is}
+use Rattle.pm_text.proofs.Lists.{some_is}
 
 -- one argument more
 pub one_value : (args : List Value) (i : ℕ) (d : Value) (old values : List Value) → i < length args → values ≡ reverse (take i args) ++ old → get_or args i d ∷ values ≡ reverse (take (i + 1) args) ++ old

@@ -1,7 +1,6 @@
 -- Blocks are opened and left.
-use Rattle.std.proofs.Common.{◌≡◌, ℕ, zero, suc, ◌+◌, List, [], ◌∷◌, ◌++◌, length, reverse, refl, sym, ap, subst, ◌∙◌, inl, inr, ⊎_elim, arith}
-use Rattle.std.proofs.lemmas.Bool.Decides.{nat_tests}
-use Rattle.std.specs.Prelude.{◌⊎◌, false, ◌==◌, if◌then◌else◌, Option, Some, None, slice_get}
+use Rattle.std.proofs.Common.{◌≡◌, ℕ, zero, suc, ◌+◌, List, [], ◌∷◌, ◌++◌, length, reverse, refl, sym, ap, subst, ◌∙◌, inl, inr, ⊎_elim}
+use Rattle.std.specs.Prelude.{◌⊎◌, ◌==◌, if◌then◌else◌, Option, Some, None, slice_get}
 use Rattle.wasm_syntax.specs.declared.value.ValType.{ValType}
 use Rattle.wasm_syntax.specs.declared.value.Value.{Value}
 use Rattle.wasm_syntax.specs.declared.value.Value.TheVariants as values
@@ -17,9 +16,7 @@ use Rattle.machine_frames.specs.Layout.{control}
 use Rattle.machine_frames.specs.Meets.{Point, with_labels, step_at, Meets, Inner, Reads}
 use Rattle.machine_frames.proofs.Labels.{First, enters_block, enters_loop, enters_then, enters_else}
 use Rattle.machine_frames.proofs.Points.{stuck_meets, floor_at, LabelsAt, labels_are, first_at, goes_on, height_of, top_is}
-
-pub not_zero : (c : ℕ) → (suc c == 0) ≡ false
-not_zero c = grind (arith, nat_tests)
+use Rattle.std.proofs.Math.Dec.{eqb-suc-zero}
 
 module _ (x : Point) (m : CallStack) (code : Code) (h : Inner x m code) where
   -- the stack of calls with a block opened
@@ -96,7 +93,7 @@ module _ (x : Point) (m : CallStack) (code : Code) (h : Inner x m code) where
               (opens b e (leaves u) (label vs rest x.label.end x.label.kind) side.end side.arm u popped q
               (enters_else (items code) code.sides x.frame.result (floor_at x m code h) o u a ea b e rest vs x.label.operands x.label.end x.label.kind x.outer m.position side h.level.mine ls s))
           by_test (suc k) vs q =
-              let pos : chosen (suc k) side next ≡ suc m.position = ap (λ z. if z then side.arm else next) (not_zero k) ∙ p in
+              let pos : chosen (suc k) side next ≡ suc m.position = ap (λ z. if z then side.arm else next) (eqb-suc-zero k) ∙ p in
               subst (λ y. Meets x Next (steps.chooses x.engine (values.I32 (suc k) ∷ vs) u a ea b e rest x.frame x.label x.outer x.callers x.world x.collected) (opened popped side.end y (chosen (suc k) side next))) same
               (opens a (else_or ea e) (leaves u) (label vs rest x.label.end x.label.kind) side.end (chosen (suc k) side next) u popped q
               (subst (λ z. LabelsAt x m code h (label [] a (else_or ea e) (leaves u) ∷ label vs rest x.label.end x.label.kind ∷ x.outer) z (control side.end (length (vs ++ joined x.outer) + floor_at x m code h) u ∷ h.level.mine)) (sym pos)

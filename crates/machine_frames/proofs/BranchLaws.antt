@@ -17,8 +17,9 @@ use Rattle.machine_frames.specs.declared.layout.Stepped.{Stepped}
 use Rattle.machine_frames.specs.declared.layout.Stepped.TheVariants.{Next}
 use Rattle.machine_frames.specs.Meets.{Point, with_labels, step_at, Meets, Inner, Reads, return_at, branch_at}
 use Rattle.machine_frames.specs.inner.Moves.{Becomes, Carried}
-use Rattle.machine_frames.proofs.Labels.{some_is, First, Branches, exactly_all, exactly_top, not_both, leaves_end, leaves_loop, leaves_else, branches, leaves_body, by_kind}
+use Rattle.machine_frames.proofs.Labels.{First, Branches, exactly_all, exactly_top, not_both, leaves_end, leaves_loop, leaves_else, branches, leaves_body, by_kind}
 use Rattle.machine_frames.proofs.Points.{stuck_meets, becomes, floor_at, LabelsAt, labels_are, first_at, goes_on}
+use Rattle.pm_text.proofs.Lists.{some_is}
 
 -- the first of a list
 pub first_of : {A : Type 0} (xs : List A) (e f : A) (es : List A) → xs ≡ e ∷ es → slice_get xs 0 ≡ Some f → e ≡ f

@@ -24,9 +24,9 @@ use Rattle.machine_basics.specs.declared.answer.TrapKind.TheVariants.{StackExhau
 use Rattle.machine_frames.specs.Layout.{Level, Waiting}
 use Rattle.machine_frames.specs.Meets.{Point, with_operands, step_at, call_at, Meets, Inner, Reads, Site, CallPlace}
 use Rattle.machine_frames.specs.inner.Moves.{Becomes}
-use Rattle.machine_frames.proofs.Labels.{some_is}
 use Rattle.machine_frames.proofs.Points.{stuck_meets, becomes, LabelsAt, labels_are, moves}
 use Rattle.machine_frames.proofs.JumpLaws.{IsJump, jump_at, step_jumps, behind, popped_inner}
+use Rattle.pm_text.proofs.Lists.{some_is}
 
 -- the operands that are cut off
 pub cut_parts : (n : ℕ) (vs a b : List Value) → cut n vs ≡ parts a b → (vs ≡ a ++ b) × (length a ≡ n)

@@ -13,9 +13,7 @@ use Rattle.machine_code.specs.Code.{gives_one}
 use Rattle.machine_frames.specs.declared.layout.Control.{Control}
 use Rattle.machine_frames.specs.Layout.{control, Under, Labels}
 use Rattle.machine_frames.specs.inner.Moves.{Carried}
-
-pub some_is : {A : Type 0} {a b : A} → Some a ≡ Some b → a ≡ b
-some_is e = cc
+use Rattle.pm_text.proofs.Lists.{some_is}
 
 -- the instruction of a first node; where there is none, what closes a label
 abbrev pub First : Nodes → Item → Type 0

@@ -29,7 +29,7 @@ use Rattle.machine_hosted.specs.declared.answer.RunEnd.TheVariants.{Finished, Tr
 use Rattle.machine_hosted.specs.inner.Alone.{after_reply, Took, alone}
 use Rattle.machine_hosted.specs.Answers.{Keeps, KeepsThen, last_in, AnswersTo, AdmitsReplies, given_steps, FunctionCame, FunctionCameWith, HasCause}
 use Rattle.machine_hosted.proofs.WorldLaws.{shares_replying, fits_replying, writes_fit}
-use Rattle.wasm_laws.proofs.Lists.{some_is}
+use Rattle.pm_text.proofs.Lists.{some_is}
 
 no_result : (b : Bool) (r : Option ValType) (x : Option CollectorCall) (k : CollectorCall) → (if b then if_none r x else None) ≡ Some k → r ≡ None
 no_result true None x k e = refl

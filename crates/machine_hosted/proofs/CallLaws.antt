@@ -18,7 +18,7 @@ use Rattle.machine_steps.specs.declared.machine.Machine.{Machine}
 use Rattle.machine_steps.specs.declared.machine.ImportCall.{ImportCall}
 use Rattle.machine_steps.specs.Meets.{CallsImport}
 use Rattle.machine_hosted.specs.inner.Turns.{AtCall}
-use Rattle.wasm_laws.proofs.Never.{same_list}
+use Rattle.wasm_syntax.proofs.Types.{same_types_are}
 
 -- a function whose index is that of an import
 pub imported_is : (p : Program) (f : ℕ) (i : Import) (type : FuncType) → slice_get p.module_.imports f ≡ Some i → slice_get p.module_.types i.ftype ≡ Some type → function_at p f ≡ Some (imported i type)
@@ -58,7 +58,7 @@ module _ (M : Engine) (codes : List Code) (call : ImportCall) (m : Machine) (c :
         below = below;
         operands = p.0 ∙ ap (λ l. l ++ below) (sym (reverse-reverse vs));
         count = length-reverse vs ∙ p.1;
-        typed = same_list (types (reverse vs)) h.type.params t;
+        typed = same_types_are (types (reverse vs)) h.type.params t;
         step_is = by_types vs below e true t;
       }
 

@@ -31,7 +31,7 @@ use Rattle.machine_hosted.proofs.WorldLaws.{fits_replying}
 use Rattle.machine_hosted.proofs.ModuleLaws.{valid_program, takes_start}
 use Rattle.machine_hosted.proofs.JoinLaws.{begun_in, function_ends}
 use Rattle.machine_hosted.proofs.WaitLaws.{function_fits, rests}
-use Rattle.wasm_laws.proofs.Lists.{some_is}
+use Rattle.pm_text.proofs.Lists.{some_is}
 
 -- ---- where an invocation waits
 

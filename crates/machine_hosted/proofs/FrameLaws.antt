@@ -22,7 +22,7 @@ use Rattle.machine_hosted.specs.declared.answer.RunEnd.{RunEnd}
 use Rattle.machine_hosted.specs.declared.answer.RunEnd.TheVariants.{Finished, Trapped, NoReply, BadReply, DeviceFault, FuelSpent, NoMemory}
 use Rattle.machine_hosted.specs.Answers.{KeepsFrames, Keeps, KeepsThen, last_in, AnswersTo, AdmitsReplies, given_steps, FunctionCame, FunctionCameWith, FitsThen}
 use Rattle.machine_hosted.proofs.WorldLaws.{machine_fits}
-use Rattle.wasm_laws.proofs.Lists.{some_is}
+use Rattle.pm_text.proofs.Lists.{some_is}
 
 module _ (p : Program) (codes : List Code) (used_up : Import → Bool) where
   keeps_frames : (m : Machine) (fs : List Frame) → layout.StandsFor p codes m.stack fs → KeepsFrames p codes m fs

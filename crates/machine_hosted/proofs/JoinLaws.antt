@@ -26,7 +26,7 @@ use Rattle.machine_hosted.specs.Answers.{KeepsThen, last_in, AnswersTo, given_st
 use Rattle.machine_hosted.specs.Invocations.{HasOutcome, IsEntered, may_follow, follows_behind, finishes, Invoking, invoking, InvocationCame, InvocationCameWith}
 use Rattle.host_devices.specs.Given.{unfitting}
 use Rattle.machine_hosted.proofs.WorldLaws.{one_world}
-use Rattle.wasm_laws.proofs.Lists.{some_is}
+use Rattle.pm_text.proofs.Lists.{some_is}
 
 -- ---- a run that ended ends with each number of steps that suffices
 

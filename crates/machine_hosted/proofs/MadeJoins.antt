@@ -10,7 +10,8 @@ use Rattle.wasm_syntax.specs.Run.{Ended, ended, ran_to, run_function, go_on, inv
 use Rattle.machine_steps.specs.Places.{Place, place_of, entry_places, places_on, invocation_places}
 use Rattle.machine_steps.proofs.MadeLaws.{function_count, function_reached}
 use Rattle.machine_hosted.proofs.JoinLaws.{function_ends, left_is}
-use Rattle.wasm_laws.proofs.Lists.{get_behind, get_front}
+use Rattle.wasm_laws.proofs.Lists.{get_front}
+use Rattle.pm_text.proofs.Lists.{get_behind}
 
 module _ (M : Engine) (f : ℕ) (args : List Value) where
   -- ---- as many as steps

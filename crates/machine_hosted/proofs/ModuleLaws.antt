@@ -13,12 +13,13 @@ use Rattle.wasm_syntax.specs.declared.place.Place.TheVariants as places
 use Rattle.wasm_syntax.specs.Valid.{Valid, StartFine}
 use Rattle.wasm_syntax.specs.Machine.{function_type}
 use Rattle.machine_steps.specs.declared.machine.Prepared.{Prepared}
-use Rattle.wasm_laws.proofs.Lists.{get_inside, get_front, get_map}
+use Rattle.wasm_laws.proofs.Lists.{get_front, get_map}
 use Rattle.wasm_laws.proofs.Validity.{startable}
 use Rattle.wasm_laws.proofs.Safe.{Typed}
 use Rattle.machine_hosted.specs.Safe.{ValidProgram}
 use Rattle.machine_hosted.specs.Settings.{Sound, Takes}
 use Rattle.machine_frames.proofs.CallLaws.{function_is, no_import}
+use Rattle.std.proofs.lemmas.Option.{slice_get_within}
 
 pub valid_program : (p : Program) (m : Module) (prepared : Prepared) → Sound m prepared → p.module_ ≡ m → IsProgram p → ValidProgram p
 valid_program p m prepared s e w = record {
@@ -38,13 +39,13 @@ typed_of p v = let s = startable p v.writes v.paired v.valid in s.typed
 
 pub import_type : (m : Module) (f : ℕ) (i : Import) → slice_get m.imports f ≡ Some i → type_at m f ≡ slice_get m.types i.ftype
 import_type m f i e =
-    let lt : f < length m.imports = get_inside m.imports f i e in
-    let within : f < length (map (λ i. i.ftype) m.imports) = get_inside (map (λ i. i.ftype) m.imports) f i.ftype (get_map (λ i. i.ftype) m.imports f ∙ ap (option_map (λ i. i.ftype)) e) in
+    let lt : f < length m.imports = slice_get_within m.imports f i e in
+    let within : f < length (map (λ i. i.ftype) m.imports) = slice_get_within (map (λ i. i.ftype) m.imports) f i.ftype (get_map (λ i. i.ftype) m.imports f ∙ ap (option_map (λ i. i.ftype)) e) in
     ap (λ o. option_then o (λ t. slice_get m.types t)) (get_front (map (λ i. i.ftype) m.imports) m.functions f within ∙ get_map (λ i. i.ftype) m.imports f ∙ ap (option_map (λ i. i.ftype)) e)
 
 pub function_imported : (p : Program) (f : ℕ) (i : Import) (type : FuncType) → slice_get p.module_.imports f ≡ Some i → type_at p.module_ f ≡ Some type → function_at p f ≡ Some (imported i type)
 function_imported p f i type e t =
-    let lt : f < length p.module_.imports = get_inside p.module_.imports f i e in
+    let lt : f < length p.module_.imports = slice_get_within p.module_.imports f i e in
     let test : nat_lt f (length p.module_.imports) ≡ true = grind (arith, nat_tests, lt) in
     ap (λ b. if b then imported_at p.module_ f else defined_at p (f - length p.module_.imports)) test
     ∙ ap (λ o. option_then o (λ i. option_map (imported i) (slice_get p.module_.types i.ftype))) e

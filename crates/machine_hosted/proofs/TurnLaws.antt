@@ -25,7 +25,7 @@ use Rattle.machine_hosted.specs.declared.turn.Turn.{Turn}
 use Rattle.machine_hosted.specs.declared.turn.Turn.TheVariants.{Goes, Ends}
 use Rattle.machine_hosted.specs.inner.Turns.{AtCall, told_by, nothing, one_reply, one_told, Turned}
 use Rattle.machine_hosted.proofs.CollectorLaws.{unheard}
-use Rattle.wasm_laws.proofs.Never.{same_list}
+use Rattle.wasm_syntax.proofs.Types.{same_types_are}
 
 -- what came of a reply
 abbrev pub turn_of : Replied → Reply → Turn
@@ -50,7 +50,7 @@ module _ (M : Engine) (codes : List Code) (call : ImportCall) (import : Import) 
   -- no call with arguments of these types is one of the collector's
   pub not_collected : told_by M (host_call call.function import type args) ≡ None → NotCollected M codes c call (step M c) m k.calls
   not_collected none others t =
-      let same : types args ≡ types others = k.typed ∙ ap (λ (t : FuncType). t.params) (sym k.type_is) ∙ sym (same_list (types others) k.calls.type.params t) in
+      let same : types args ≡ types others = k.typed ∙ ap (λ (t : FuncType). t.params) (sym k.type_is) ∙ sym (same_types_are (types others) k.calls.type.params t) in
       unheard M call.function k.calls.import k.calls.type args others same
       (subst (λ i. told_by M (host_call call.function i k.calls.type args) ≡ None) (sym k.import_is) (subst (λ t. told_by M (host_call call.function import t args) ≡ None) (sym k.type_is) none))
 

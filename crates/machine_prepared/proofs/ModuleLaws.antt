@@ -8,13 +8,14 @@ use Rattle.wasm_syntax.specs.declared.parts.FuncType.{FuncType}
 use Rattle.wasm_syntax.specs.declared.parts.Body.{Body}
 use Rattle.wasm_syntax.specs.declared.parts.Import.{Import}
 use Rattle.wasm_syntax.specs.Tree.{Tree, Writes}
-use Rattle.wasm_syntax.specs.Module.{Program, IsProgram, AllWrite, defined, defined_at, function_types, option_then}
+use Rattle.wasm_syntax.specs.Module.{Program, IsProgram, defined, defined_at, function_types, option_then}
 use Rattle.machine_code.specs.declared.code.Code.{Code}
 use Rattle.machine_code.specs.Code.{FitsCode, Prepares}
 use Rattle.machine_prepared.specs.inner.Numbers.{AllNumbered}
 use Rattle.machine_steps.specs.Prepares.{Numbered}
 use Rattle.machine_prepared.specs.inner.Codes.{PreparesUpTo}
-use Rattle.machine_frames.proofs.Labels.{some_is}
+use Rattle.pm_text.proofs.Lists.{some_is, get_last}
+use Rattle.wasm_syntax.proofs.Bodies.{tree_there}
 
 -- ---- numbers
 
@@ -50,16 +51,6 @@ numbered m numbers functions a f t type e =
 
 -- ---- bodies
 
--- the body and the tree at one place
-pub writes_at : (bodies : List Body) (trees : List Tree) (i : ℕ) (body : Body) (tree : Tree) → AllWrite bodies trees → slice_get bodies i ≡ Some body → slice_get trees i ≡ Some tree → Writes body.targets body.ops tree
-writes_at [] trees i body tree w e f = absurd (cc)
-writes_at (b ∷ bodies) [] i body tree w e f = absurd (cc)
-writes_at (b ∷ bodies) (t ∷ trees) zero body tree w e f =
-    let b_is : b ≡ body = some_is e in
-    let t_is : t ≡ tree = some_is f in
-    subst (λ (c : Body). Writes c.targets c.ops tree) b_is (subst (λ u. Writes b.targets b.ops u) t_is w.0)
-writes_at (b ∷ bodies) (t ∷ trees) (suc i) body tree w e f = writes_at bodies trees i body tree w.1 e f
-
 -- what a defined function is made of
 pub record Parts (p : Program) (i : ℕ) (body : Body) (tree : Tree) (type : FuncType) : Type 0 where
   pub type_is : option_then (slice_get p.module_.functions i) (slice_get p.module_.types) ≡ Some type
@@ -85,10 +76,6 @@ parts_of p i body tree type e =
           body_is = c ∙ ap Some z_is;
           tree_is = o ∙ ap Some r_is;
         }
-
-get_last : {A : Type 0} (xs : List A) (x : A) → slice_get (xs ++ x ∷ []) (length xs) ≡ Some x
-get_last [] x = refl
-get_last (y ∷ xs) x = get_last xs x
 
 get_front : {A : Type 0} (xs : List A) (x y : A) (i : ℕ) → slice_get xs i ≡ Some y → slice_get (xs ++ x ∷ []) i ≡ Some y
 get_front [] x y i e = absurd (cc)
@@ -118,7 +105,7 @@ one_code p i codes code body before b_is w fits = record {
         let same : j ≡ i = omega arith in
         let s = parts_of p j body' tree type e in
         let bodies : body ≡ body' = some_is (sym b_is ∙ ap (slice_get p.module_.bodies) (sym same) ∙ s.body_is) in
-        let out : Writes body.targets body.ops tree = subst (λ (z : Body). Writes z.targets z.ops tree) (sym bodies) (writes_at p.module_.bodies p.trees j body' tree w s.body_is s.tree_is) in
+        let out : Writes body.targets body.ops tree = subst (λ (z : Body). Writes z.targets z.ops tree) (sym bodies) (tree_there p.module_.bodies p.trees j body' tree w s.body_is s.tree_is) in
         let typed : option_then (slice_get p.module_.functions i) (slice_get p.module_.types) ≡ Some type = ap (λ n. option_then (slice_get p.module_.functions n) (slice_get p.module_.types)) (sym same) ∙ s.type_is in
         let fit = fits tree type typed out in
         (code, ap (slice_get (codes ++ code ∷ [])) (same ∙ sym before.count) ∙ get_last codes code, fit.0 ∙ bodies, fit.1)

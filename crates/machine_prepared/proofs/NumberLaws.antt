@@ -6,7 +6,7 @@ use Rattle.wasm_syntax.specs.declared.parts.FuncType.{FuncType}
 use Rattle.machine_prepared.specs.declared.tree.Node.{Node}
 use Rattle.machine_prepared.specs.inner.Tree.{word, reaches, Extends}
 use Rattle.machine_prepared.proofs.TreeLaws.{reaches_kept}
-use Rattle.machine_frames.proofs.Labels.{some_is}
+use Rattle.pm_text.proofs.Lists.{some_is}
 
 pairs : (ts : List FuncType) (ks : List ℕ) (x : FuncType) (n j : ℕ) (t : FuncType) (k : ℕ) → length ts ≡ length ks → slice_get (ts ++ x ∷ []) j ≡ Some t → slice_get (ks ++ n ∷ []) j ≡ Some k → ((slice_get ts j ≡ Some t) × (slice_get ks j ≡ Some k)) ⊎ ((x ≡ t) × (n ≡ k))
 pairs [] [] x n zero t k l e f = inr (some_is e, some_is f)

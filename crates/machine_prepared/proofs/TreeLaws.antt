@@ -9,7 +9,7 @@ use Rattle.machine_prepared.specs.declared.tree.Letter.{Letter}
 use Rattle.machine_prepared.specs.declared.tree.Letter.TheVariants.{I32, I64, Arrow}
 use Rattle.machine_prepared.specs.declared.tree.Node.{Node}
 use Rattle.machine_prepared.specs.inner.Tree.{empty, edge, with_edge, next, reaches, IsTree, Extends, letter_of}
-use Rattle.machine_frames.proofs.Labels.{some_is}
+use Rattle.pm_text.proofs.Lists.{some_is}
 
 -- ---- an edge is put in
 

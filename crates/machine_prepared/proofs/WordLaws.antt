@@ -6,7 +6,6 @@ use Rattle.std.specs.Prelude.{Bool, true, false, ◌&&◌, ◌==◌, Some}
 use Rattle.wasm_syntax.specs.declared.value.ValType.{ValType}
 use Rattle.wasm_syntax.specs.declared.value.ValType.TheVariants as types
 use Rattle.wasm_syntax.specs.declared.parts.FuncType.{FuncType}
-use Rattle.wasm_syntax.specs.Numbers.{same_type}
 use Rattle.wasm_syntax.specs.Module.{same_types, same_functype}
 use Rattle.machine_prepared.specs.declared.tree.Letter.{Letter}
 use Rattle.machine_prepared.specs.declared.tree.Letter.TheVariants.{I32, I64, Arrow}
@@ -14,6 +13,7 @@ use Rattle.machine_prepared.specs.declared.tree.Node.{Node}
 use Rattle.machine_prepared.specs.inner.Tree.{letter_of, word, reaches, IsTree}
 use Rattle.machine_prepared.proofs.TreeLaws.{one_word, map_append}
 use Rattle.std.proofs.lemmas.Bool.{and_parts}
+use Rattle.wasm_syntax.proofs.Types.{same_types_are, same_types_refl}
 
 -- ---- words
 
@@ -61,28 +61,8 @@ same_word a b p r = ap (λ l. reverse (map letter_of l) ++ (Arrow ∷ (reverse (
 
 -- ---- the test by structure
 
-one_value_type : (t u : ValType) → same_type t u ≡ true → t ≡ u
-one_value_type types.I32 types.I32 e = refl
-one_value_type types.I32 types.I64 e = absurd (cc)
-one_value_type types.I64 types.I32 e = absurd (cc)
-one_value_type types.I64 types.I64 e = refl
-
-same_value_type : (t : ValType) → same_type t t ≡ true
-same_value_type types.I32 = refl
-same_value_type types.I64 = refl
-
-lists_same : (a b : List ValType) → same_types a b ≡ true → a ≡ b
-lists_same [] [] e = refl
-lists_same [] (u ∷ b) e = absurd (cc)
-lists_same (t ∷ a) [] e = absurd (cc)
-lists_same (t ∷ a) (u ∷ b) e = let q = and_parts (same_type t u) (same_types a b) e in ap (λ z. z ∷ a) (one_value_type t u q.0) ∙ ap (λ z. u ∷ z) (lists_same a b q.1)
-
-lists_refl : (a : List ValType) → same_types a a ≡ true
-lists_refl [] = refl
-lists_refl (t ∷ a) = ap (λ z. z && same_types a a) (same_value_type t) ∙ lists_refl a
-
 types_refl : (a b : FuncType) → a.params ≡ b.params → a.results ≡ b.results → same_functype a b ≡ true
-types_refl a b p r = ap (λ l. same_types a.params l && same_types a.results b.results) (sym p) ∙ ap (λ l. same_types a.params a.params && same_types a.results l) (sym r) ∙ ap (λ z. z && same_types a.results a.results) (lists_refl a.params) ∙ lists_refl a.results
+types_refl a b p r = ap (λ l. same_types a.params l && same_types a.results b.results) (sym p) ∙ ap (λ l. same_types a.params a.params && same_types a.results l) (sym r) ∙ ap (λ z. z && same_types a.results a.results) (same_types_refl a.params) ∙ same_types_refl a.results
 
 -- two numbers are the same exactly for types that are the same
 pub same_number : (ns : List Node) → IsTree ns → (a b : FuncType) (k l : ℕ) → reaches ns (word a) ≡ Some k → reaches ns (word b) ≡ Some l → same_functype a b ≡ (k == l)
@@ -91,7 +71,7 @@ same_number ns t a b k l e f = by_test (same_functype a b) refl
     by_test : (z : Bool) → same_functype a b ≡ z → same_functype a b ≡ (k == l)
     by_test true q =
         let p = and_parts (same_types a.params b.params) (same_types a.results b.results) q in
-        let w : word a ≡ word b = same_word a b (lists_same a.params b.params p.0) (lists_same a.results b.results p.1) in
+        let w : word a ≡ word b = same_word a b (same_types_are a.params b.params p.0) (same_types_are a.results b.results p.1) in
         let s : Some k ≡ Some l = sym e ∙ ap (reaches ns) w ∙ f in
         let same : k ≡ l = cc in
         let yes : (k == l) ≡ true = grind (arith, nat_tests) in

@@ -17,12 +17,13 @@ use Rattle.machine_code.specs.Code.{items}
 use Rattle.machine_frames.specs.declared.layout.Control.{Control}
 use Rattle.machine_frames.specs.declared.layout.CallFrame.{CallFrame}
 use Rattle.machine_frames.specs.Layout.{Under, Labels, Frames}
-use Rattle.machine_frames.proofs.Labels.{some_is, closed, under_place}
+use Rattle.machine_frames.proofs.Labels.{closed, under_place}
 use Rattle.machine_steps.specs.declared.machine.Machine.{Machine}
 use Rattle.machine_steps.specs.Meets.{StandsFor}
 use Rattle.machine_steps.specs.Places.{Place, place_in, place_of}
 use Rattle.machine_steps.specs.Watches.{place_at}
 use Rattle.machine_steps.specs.inner.Watched.{innermost, position_of}
+use Rattle.pm_text.proofs.Lists.{some_is}
 
 -- ---- the index of an instruction
 

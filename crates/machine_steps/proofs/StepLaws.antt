@@ -25,7 +25,7 @@ use Rattle.machine_frames.specs.declared.layout.Stepped.TheVariants as stepped
 use Rattle.machine_frames.specs.Layout.{Level, Frames, Labels}
 use Rattle.machine_frames.specs.Meets as moved
 use Rattle.machine_frames.specs.Meets.{Point, with_labels, step_at, Inner, Reads}
-use Rattle.machine_frames.proofs.Labels.{First, some_is, some_item, behind_basic}
+use Rattle.machine_frames.proofs.Labels.{First, some_item, behind_basic}
 use Rattle.machine_frames.proofs.Points.{floor_at, LabelsAt, labels_are, first_at, moves}
 use Rattle.machine_steps.specs.declared.machine.Machine.{Machine}
 use Rattle.machine_steps.specs.declared.machine.Outcome.{Outcome}
@@ -34,6 +34,8 @@ use Rattle.machine_steps.specs.Meets.{outcome_of, Shares, StandsFor, Then, Meets
 use Rattle.machine_basics.specs.inner.Keeps.{Keeps, EffectKeeps}
 use Rattle.machine_basics.proofs.Keeping.{operands_keep}
 use Rattle.machine_basics.proofs.InFrames.{cut_more}
+use Rattle.pm_text.proofs.Lists.{some_is}
+use Rattle.wasm_syntax.proofs.Bodies.{code_at}
 
 pub stuck_meets : (x : Point) (o : Outcome) (s : steps.Stepped) (m : Machine) → s ≡ steps.stuck → MeetsAt x o s m
 stuck_meets x o s m e = subst (λ t. MeetsAt x o t m) (sym e) (all o)
@@ -253,18 +255,13 @@ no_code M codes m c entry st q e = by_frames c.frames m.stack.frames st.frames q
 
 -- ---- the instruction at the position
 
-get_map : (ts : List ℕ) (ops : List Op) (k : ℕ) (op : Op) → slice_get ops k ≡ Some op → slice_get (code_of ts ops) k ≡ Some (placed op.at (item_of ts op.code))
-get_map ts [] k op e = absurd (cc)
-get_map ts (o ∷ os) zero op e = ap (λ (p : Op). Some (placed p.at (item_of ts p.code))) (some_is e)
-get_map ts (o ∷ os) (suc k) op e = get_map ts os k op e
-
 get_none : (ts : List ℕ) (ops : List Op) (k : ℕ) → slice_get ops k ≡ None → slice_get (code_of ts ops) k ≡ None
 get_none ts [] k e = refl
 get_none ts (o ∷ os) zero e = absurd (cc)
 get_none ts (o ∷ os) (suc k) e = get_none ts os k e
 
 pub reads : (m : CallStack) (code : Code) (op : Op) → slice_get code.body.now.ops m.position ≡ Some op → Reads m code (item_of code.body.now.targets op.code)
-reads m code op e = (op.at, get_map code.body.now.targets code.body.now.ops m.position op e)
+reads m code op e = (op.at, code_at code.body.now.targets code.body.now.ops m.position op e)
 
 pub has_op : (x : Point) (m : CallStack) (code : Code) → Inner x m code → slice_get code.body.now.ops m.position ≡ None → ⊥
 has_op x m code h e =

@@ -21,8 +21,9 @@ use Rattle.wasm_syntax.specs.Module.{const_value, const_code}
 use Rattle.wasm_syntax.specs.Machine.{zero_of}
 use Rattle.wasm_syntax.specs.Valid.{ConstTypes, GlobalFine, MemoryFine, Valid}
 use Rattle.wasm_syntax.specs.Run.{over, empty_memory, memory_bytes, globals_at_start, data_at, data_fits, element_fits, start_world, first_false, by_data, by_element, cause_of_segments}
-use Rattle.wasm_laws.proofs.Lists.{some_is, there_at, get_map}
+use Rattle.wasm_laws.proofs.Lists.{there_at, get_map}
 use Rattle.match_laws.proofs.Kept.{SizeKept, FirstKept, WorldKept}
+use Rattle.pm_text.proofs.Lists.{some_is}
 
 -- ---- globals
 

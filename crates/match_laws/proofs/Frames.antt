@@ -16,7 +16,6 @@ use Rattle.wasm_syntax.specs.Typing.{Context}
 use Rattle.wasm_syntax.specs.Static.{Spot, spot, Live, IsNode}
 use Rattle.wasm_syntax.specs.Valid.{defined_index}
 use Rattle.wasm_laws.proofs.Progress.{types_append, types_reverse}
-use Rattle.wasm_laws.proofs.Lists.{get_behind, some_is}
 use Rattle.wasm_laws.proofs.Safe.{FrameFine, context_of}
 use Rattle.dump_format.specs.declared.dump.Frame.{Frame as ShownFrame}
 use Rattle.dump_write.specs.Image.{frame_image}
@@ -25,7 +24,9 @@ use Rattle.dump_write.specs.Canonical.{in_instance}
 use Rattle.dump_match.specs.Values.{have_types, can_be}
 use Rattle.dump_match.specs.Frames.{instruction, is_call, taken, can_call, IsOf, StandsAt, FunctionFits, LocalsFit}
 use Rattle.match_laws.proofs.Placed.{outs, OpenAt, CalledAt, live_in, CallersAt, FramesAt, FirstIsNode, AtNode}
-use Rattle.wasm_laws.proofs.Validity.{then_found, map_found, tree_there}
+use Rattle.wasm_laws.proofs.Validity.{then_found, map_found}
+use Rattle.pm_text.proofs.Lists.{some_is, get_behind}
+use Rattle.wasm_syntax.proofs.Bodies.{tree_there}
 
 -- ---- a function that the module defines
 

@@ -29,6 +29,7 @@ use Rattle.match_laws.proofs.Placed.{FramesAt, AtNode}
 use Rattle.match_laws.proofs.Kept.{SizeKept, FirstKept}
 use Rattle.match_laws.proofs.Standing.{WorldAt}
 use Rattle.match_laws.proofs.Frames.{shown_frame, map_stands, InnerFits, inner_fits, AllCallers, shown_callers, callers_fit, caller_at}
+use Rattle.pm_text.proofs.Lists.{get_range}
 
 -- ---- the parts of the dump
 
@@ -60,11 +61,6 @@ range_below a zero k d h = absurd (omega (arith, h))
 range_below a (suc n) zero d h = omega arith
 range_below a (suc n) (suc k) d h = let r = range_below (a + 1) n k d (omega (arith, h)) in omega (arith, r)
 
-range_get : (a n i : ℕ) → i < n → slice_get (range_with_len a n) i ≡ Some (a + i)
-range_get a zero i h = absurd (omega (arith, h))
-range_get a (suc n) zero h = let e : a ≡ a + 0 = omega arith in ap Some e
-range_get a (suc n) (suc i) h = let e : a + 1 + i ≡ a + suc i = omega arith in range_get (a + 1) n i (omega (arith, h)) ∙ ap Some e
-
 range_none : (a n i : ℕ) → n ≤ i → slice_get (range_with_len a n) i ≡ None
 range_none a zero i h = refl
 range_none a (suc n) zero h = absurd (omega (arith, h))
@@ -82,7 +78,7 @@ below_or_not (suc i) (suc n) = ⊎_elim (λ a. inl (omega (arith, a))) (λ b. in
 
 each_global : (vs : List Value) (i : ℕ) → option_then (slice_get (range_with_len 0 (length vs)) i) (slice_get vs) ≡ slice_get vs i
 each_global vs i = ⊎_elim
-    (λ a. let e : 0 + i ≡ i = omega arith in ap (λ o. option_then o (slice_get vs)) (range_get 0 (length vs) i a) ∙ ap (slice_get vs) e)
+    (λ a. let e : 0 + i ≡ i = omega arith in ap (λ o. option_then o (slice_get vs)) (get_range 0 (length vs) i a) ∙ ap (slice_get vs) e)
     (λ b. ap (λ o. option_then o (slice_get vs)) (range_none 0 (length vs) i b) ∙ sym (get_none vs i b)) (below_or_not i (length vs))
 
 -- ---- the instance

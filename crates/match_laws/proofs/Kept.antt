@@ -24,7 +24,7 @@ use Rattle.wasm_syntax.specs.Module.{const_value, option_then}
 use Rattle.wasm_syntax.specs.Effect.{Effect, gives, fails, unfit, effect, when, with_some, on_none, on_any, on_one, on_two, on_three, on_choice, over, in_bounds, divides, grown, with_globals, with_memory, address}
 use Rattle.wasm_syntax.specs.Host.{World, Answer, replied, told, silent, misfit, answer, told_or, served_by, if_fits, if_written, after_writes, fits_type, collector_of}
 use Rattle.wasm_syntax.specs.Typing.{Context, Arrow, ◌⇒◌, arrow, set_global, only_if}
-use Rattle.wasm_laws.proofs.Lists.{some_is}
+use Rattle.pm_text.proofs.Lists.{some_is}
 
 -- ---- what is kept
 

@@ -12,7 +12,7 @@ use Rattle.wasm_syntax.specs.Module.{Function, imported, defined, function_at, f
 use Rattle.wasm_syntax.specs.Host.{World, Answer, replied, told, silent, misfit, answer}
 use Rattle.wasm_syntax.specs.Machine.{Frame, Config, config, Engine, Stepped, next, ends, traps, no_reply, bad_reply, stuck, entered, host_call, step}
 use Rattle.wasm_syntax.specs.Run.{Ended, run_on, run_steps, host_alone, run_alone, run_function, Ran, ran_to, run_entry, go_on, invoked, start_world, Cause, goes_on, fresh, session, unless, Invocation}
-use Rattle.wasm_laws.proofs.Lists.{some_is}
+use Rattle.pm_text.proofs.Lists.{some_is}
 
 -- of the frames of a configuration, where there is one
 abbrev pub OnFrames : (List Frame → Type 0) → Stepped → Type 0

@@ -26,8 +26,8 @@ use Rattle.wasm_laws.proofs.Safe.{end_type, label_types, at_labels, FrameFine, c
 use Rattle.dump_match.specs.Frames.{same_signature}
 use Rattle.match_laws.proofs.Placed.{outs, Runs, KindAt, LabelsAt, OpenAt, CallAt, live_in, CallersAt, FramesAt, AtNode}
 use Rattle.match_laws.proofs.Kept.{WorldKept, EffectKept, effect_kept, AnswerKept, answer_kept}
-use Rattle.std.proofs.lemmas.Bool.{and_from}
-use Rattle.wasm_laws.proofs.Lists.{some_is}
+use Rattle.pm_text.proofs.Lists.{some_is}
+use Rattle.wasm_syntax.proofs.Types.{same_functype_refl}
 
 -- what is outside the frames
 abbrev pub WorldAt : Module → World → Type 0
@@ -98,11 +98,8 @@ carry_of (suc n) (l ∷ ls) ts e = carry_of n ls ts e
 same_number : (n : ℕ) → (n == n) ≡ true
 same_number n = eq-eqb n n refl
 
-same_self : (type : FuncType) → same_functype type type ≡ true
-same_self type = and_from (same_types type.params type.params) (same_types type.results type.results) (types_of type.params type.params refl) (types_of type.results type.results refl)
-
 signatures : (a b : Option FuncType) (type : FuncType) → a ≡ Some type → b ≡ Some type → same_signature a b ≡ true
-signatures a b type e f = subst₂ (λ x y. same_signature x y ≡ true) (sym e) (sym f) (same_self type)
+signatures a b type e f = subst₂ (λ x y. same_signature x y ≡ true) (sym e) (sym f) (same_functype_refl type)
 
 -- ---- steps of a frame
 

@@ -18,7 +18,7 @@ use Rattle.wasm_syntax.specs.Static.{Live}
 use Rattle.wasm_syntax.specs.Run.{run_on, run_steps, host_alone, run_alone, run_function, Ran, ran_to, run_entry, go_on, invoked, engine, start_world, Cause, or_else, cause_of_entry, cause_of_segments, if_fits as entry_fits, goes_on, fresh, session, unless, run, cause_of, Invocation}
 use Rattle.wasm_laws.proofs.Progress.{types_append, zero_types}
 use Rattle.wasm_laws.proofs.Safe.{one_result, AnswerFine, answer_fine, Typed}
-use Rattle.wasm_laws.proofs.Never.{Startable, same_list}
+use Rattle.wasm_laws.proofs.Never.{Startable}
 use Rattle.wasm_laws.proofs.Validity.{startable}
 use Rattle.match_laws.specs.TrapDumps.{TrapMatches, TrapsMatch}
 use Rattle.match_laws.proofs.Placed.{Runs, FramesAt, AtNode}
@@ -26,7 +26,8 @@ use Rattle.match_laws.proofs.Kept.{AnswerKept, answer_kept}
 use Rattle.match_laws.proofs.Standing.{WorldAt, SteppedAt, step_at}
 use Rattle.match_laws.proofs.Begins.{world_begins}
 use Rattle.match_laws.proofs.Images.{trap_matches}
-use Rattle.wasm_laws.proofs.Lists.{some_is}
+use Rattle.pm_text.proofs.Lists.{some_is}
+use Rattle.wasm_syntax.proofs.Types.{same_types_are}
 
 -- frames in live code, or none
 abbrev pub StandAt : Program → List Frame → Type 0
@@ -171,7 +172,7 @@ module _ (p : Program) (is_program : IsProgram p) (s : Startable p) (collecting 
   call_of i (Some f) e c =
       let t = s.exported i.name f e in
       let c' : entry_fits (Some (same_types t.0.params (types i.args))) ≡ None = ap (λ o. entry_fits (option_map (λ type. same_types type.params (types i.args)) o)) (sym t.1) ∙ c in
-      (f, e, t.0, t.1, sym (same_list t.0.params (types i.args) (true_of (same_types t.0.params (types i.args)) c')))
+      (f, e, t.0, t.1, sym (same_types_are t.0.params (types i.args) (true_of (same_types t.0.params (types i.args)) c')))
 
   calls_of : (is : List Invocation) → cause_of p.module_ is ≡ None → Calls is
   calls_of [] e = tt

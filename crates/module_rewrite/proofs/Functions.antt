@@ -5,7 +5,6 @@ use Rattle.wasm_syntax.specs.declared.parts.Body.{Body}
 use Rattle.wasm_syntax.specs.declared.module.ModuleParts.{ModuleParts as Module}
 use Rattle.wasm_syntax.specs.Module.{option_then, function_at}
 use Rattle.rewrite_modules.specs.Instrument.{new_body}
-use Rattle.rewrite_modules.proofs.FineBodies.{index_back}
 use Rattle.rewrite_promise.specs.Promise.{Accepted}
 use Rattle.slot_plan.specs.Plans.{IsDefined}
 use Rattle.instrument.specs.Assembly.{Ascends}
@@ -13,6 +12,7 @@ use Rattle.module_rewrite.specs.Rewritten.{program_in, IsRewritten}
 use Rattle.module_rewrite.specs.inner.Adding.{Adds, new_bodies}
 use Rattle.module_rewrite.proofs.Adding.{one_added, all_taken, each_at}
 use Rattle.rewrite_modules.proofs.Links.{length-each}
+use Rattle.wasm_syntax.proofs.Bodies.{index_of}
 
 pub all_functions : (m : Module) (a : Accepted m) (old now : List Body) (n : ℕ) → length m.bodies ≤ n → Adds (take n (new_bodies m a)) old now → Adds (new_bodies m a) old now
 all_functions m a old now n le adds =
@@ -30,7 +30,7 @@ module _ (m : Module) (a : Accepted m) (i : ℕ) (lt : i < length m.bodies) wher
   number_fits = omega (arith, lt, a.premises.whole.as_many, a.premises.limits_.short.functions)
 
   pub is_there : IsDefined m (length m.imports + i)
-  is_there = (body, ap (λ (o : Option ℕ). option_then o (slice_get m.bodies)) (index_back m i) ∙ body_is)
+  is_there = (body, ap (λ (o : Option ℕ). option_then o (slice_get m.bodies)) (index_of m i) ∙ body_is)
 
   -- a function more
   pub function_added : (old now : List Body) (b : Body) → IsRewritten m (length m.imports + i) b → Ascends b → Adds (take i (new_bodies m a)) old now → Adds (take (i + 1) (new_bodies m a)) old (now ++ b ∷ [])

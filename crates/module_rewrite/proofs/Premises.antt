@@ -14,9 +14,8 @@ use Rattle.wasm_syntax.specs.Tree.{Tree, Writes}
 use Rattle.wasm_syntax.specs.Machine.{result_of}
 use Rattle.wasm_syntax.specs.Module.{Program, Function, imported, defined, function_at, type_at, option_then}
 use Rattle.wasm_syntax.specs.Typing.{body_context}
-use Rattle.wasm_laws.proofs.Lists.{some_is}
 use Rattle.wasm_laws.proofs.Safe.{Typed}
-use Rattle.wasm_laws.proofs.Validity.{typed, tree_there}
+use Rattle.wasm_laws.proofs.Validity.{typed}
 use Rattle.wasm_validate.specs.Heights.{body_of as body_in}
 use Rattle.rewrite_bodies.specs.Numbering.{helper_base, is_in}
 use Rattle.rewrite_bodies.specs.Rewrite.{body}
@@ -41,6 +40,8 @@ use Rattle.body_rewrite.specs.Points.{CanBeWritten}
 use Rattle.slot_plan.specs.Plans.{Planned, IsPlan}
 use Rattle.slot_plan.proofs.Greatest.{there}
 use Rattle.module_rewrite.specs.Rewritten.{program_in, IsPlanIn, IsRewritten, gives_of}
+use Rattle.pm_text.proofs.Lists.{some_is}
+use Rattle.wasm_syntax.proofs.Bodies.{tree_there}
 
 -- ---- how many instructions there are
 

@@ -19,7 +19,6 @@ use Rattle.replay_command.specs.ReplayAnswer.{IsReadBy as IsReplayed}
 use Rattle.run_words.specs.declared.cover.CoverWords.{CoverWords}
 use Rattle.cover_command.specs.Stops.{CoverStops}
 use Rattle.instrument_command.specs.Stops.{InstrumentStops}
-use Rattle.instrument_command.proofs.Stopping.{map_stop}
 use Rattle.instrument_command.proofs.HeldFiles.{all_kept}
 use Rattle.selftest_command.specs.SelftestAnswer.{module_file, rewritten_file}
 use Rattle.selftest_command.specs.Stops.{SelftestStops}
@@ -28,6 +27,7 @@ use Rattle.pm_cli.specs.Stops.{Quiet, IsQuietBut, IsQuietButBoth, CommandStops, 
 use Rattle.pm_cli.specs.Words.{command}
 use Rattle.pm_cli.specs.declared.words.Command.{Command}
 use Rattle.pm_cli.specs.declared.words.Command.TheVariants.{Check, Run, Instrument, Show, Debug, Selftest, Replay, Cover}
+use Rattle.run_session.proofs.Stops.{map_stop}
 
 -- ---- commands that run nothing
 

@@ -1,5 +1,5 @@
 -- The names in a list.
-use Rattle.std.proofs.Common.{◌≡◌, ℕ, List, [], ◌∷◌, ◌++◌, Bool, true, false, map, refl, rules, String}
+use Rattle.std.proofs.Common.{◌≡◌, ℕ, List, [], ◌∷◌, ◌++◌, Bool, true, false, map, refl, String}
 use Rattle.std.specs.Prelude.{Contains, if◌then◌else◌}
 use Rattle.std.specs.Str.{bytes_eq}
 use Rattle.std.specs.String.{string_bytes}
@@ -14,14 +14,11 @@ pub list_any-map : {X Y : Type 0} (p : Y → Bool) (f : X → Y) (xs : List X) �
 list_any-map p f [] = refl
 list_any-map p f (x ∷ xs) = rw (list_any-map p f xs) refl
 
-same : (xs ys : List ℕ) → bytes_eq xs ys ≡ true → xs ≡ ys
-same xs ys e = search (rules, bytes_eq-Decides)
-
 -- a name that was added stands in the list
 pub is_in_with_name : (names : List (List ℕ)) (name : List ℕ) → Contains (with_name names name) name
 is_in_with_name names name =
     elim (is_named names name) as (λ b. is_named names name ≡ b → Contains (if b then names else names ++ name ∷ []) name) [
-      | true ↦ λ e. Contains-from_any same name names e
+      | true ↦ λ e. Contains-from_any (λ xs ys same. (bytes_eq-Decides xs ys).0 same) name names e
       | false ↦ λ e. Contains-push names name
     ] refl
 

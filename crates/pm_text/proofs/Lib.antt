@@ -2,3 +2,5 @@ mod ExtendsLaws
 mod HexLaws
 pub mod NameLaws
 pub mod NumberLaws
+pub mod Lists
+pub mod Utf8

@@ -30,8 +30,8 @@ use Rattle.replay.specs.Replays.{Recording, IsOf}
 use Rattle.replay.proofs.Answers.{had}
 use Rattle.replay.proofs.Spent.{invoked_spends}
 use Rattle.replay.specs.inner.Reached.{IfHad, HasEnded, kept, CameTo, Reached, Waits}
-use Rattle.wasm_laws.proofs.Lists.{some_is}
 use Rattle.machine_hosted.proofs.WatchLaws.{admits_none}
+use Rattle.pm_text.proofs.Lists.{some_is}
 
 -- ---- replies
 

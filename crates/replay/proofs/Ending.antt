@@ -14,7 +14,7 @@ use Rattle.replay.proofs.Answers.{running_spent, spent_running}
 use Rattle.replay.proofs.Advances.{program}
 use Rattle.replay.proofs.Runs.{Known, known, ran_there, outcome_is}
 use Rattle.replay.proofs.Going.{runs_before, runs_up_to, same_within}
-use Rattle.wasm_laws.proofs.Lists.{some_is}
+use Rattle.pm_text.proofs.Lists.{some_is}
 
 -- the outcome behind fewer steps
 outcome_of : (p : Program) (x : Recording) (j : ℕ) (a : Ran) → ran_within p x j ≡ Some a → a.outcome ≡ running → outcome_at p x j ≡ Some running

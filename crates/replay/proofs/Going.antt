@@ -10,7 +10,7 @@ use Rattle.machine_hosted.specs.declared.answer.RunEnd.{RunEnd}
 use Rattle.wasm_machine.specs.Instances.{State}
 use Rattle.replay.specs.Replays.{Recording, invocation_of, ran_within, outcome_at}
 use Rattle.replay.proofs.Runs.{Known, ran_is}
-use Rattle.wasm_laws.proofs.Lists.{some_is}
+use Rattle.pm_text.proofs.Lists.{some_is}
 
 is_running : (o : Outcome) → (o ≡ running) ⊎ (o ≢ running)
 is_running running = inl refl

@@ -56,8 +56,8 @@ use Rattle.replay.specs.Replays.{Recording, IsEnd, cause_in, outcome_at}
 use Rattle.replay.specs.Moves.{IsNext, HasNoNext}
 use Rattle.replay_command.specs.ReplayText.{At, at_frame, at_step, commands_in, subject_at, step_text, Moved, Looked, DoesMove, DoAll, IsText, ReplayText}
 use Rattle.replay_command.specs.ReplayAnswer.{recording, IsTold, ModuleAnswer, IfReplies, ReplayAnswer}
-use Rattle.wasm_laws.proofs.Lists.{some_is}
 use Rattle.validate_body.proofs.Flags.{true_false}
+use Rattle.pm_text.proofs.Lists.{some_is}
 
 same_number : (n k : ℕ) → (n < k → ⊥) → (k < n → ⊥) → n ≡ k
 same_number n k x y = omega (arith, x, y)

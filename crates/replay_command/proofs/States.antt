@@ -24,11 +24,11 @@ use Rattle.match_laws.proofs.TrapRuns.{StateAt, states_stand}
 use Rattle.match_laws.proofs.StateImages.{images_match}
 use Rattle.match_laws.proofs.RunStates.{LastHas}
 use Rattle.match_laws.proofs.Few.{Few, run_few}
-use Rattle.trap_image.proofs.Dumps.{images_count}
 use Rattle.wasm_machine.specs.Instances.{State, StandsAt}
 use Rattle.replay.specs.Replays.{Recording, IsOf, invocation_of, ran_within}
 use Rattle.replay.specs.Moves.{OfEach, Shows}
 use Rattle.replay_command.specs.ReplayText.{ShowsStep}
+use Rattle.dump_write.proofs.Images.{images_count}
 
 abbrev name : List ℕ
 name = codes "module"

@@ -1,7 +1,7 @@
 -- Calls, traps, and the whole step.
 use Rattle.std.proofs.Common.{◌≡◌, ℕ, zero, suc, ◌+◌, ◌≤◌, List, [], ◌∷◌, ◌++◌, length, map, reverse, Option, Some, None, Bool, true, false, ◌&&◌, nat_lt, refl, sym, ap, ap₂, ◌∙◌, subst, arith, append_assoc, append-nil, length-append, ◌⊎◌, inl, inr, slice_get, slice_set, option_to_list, option_map, ltb-true, lt-ltb, unwrap_or, ◌≢◌, ◌==◌, Ok}
 use Rattle.wasm_syntax.specs.declared.value.ValType.{ValType}
-use Rattle.wasm_syntax.specs.declared.value.ValType.TheVariants.{I32, I64}
+use Rattle.wasm_syntax.specs.declared.value.ValType.TheVariants.{I32}
 use Rattle.wasm_syntax.specs.declared.value.Value.{Value}
 use Rattle.wasm_syntax.specs.declared.value.Value.TheVariants as values
 use Rattle.wasm_syntax.specs.declared.parts.FuncType.{FuncType}
@@ -28,7 +28,7 @@ use Rattle.linear_memory.specs.Memory.{Memory}
 use Rattle.linear_memory.specs.Memory as memories
 use Rattle.rewrite_bodies.specs.Agreement.{Holds, now, info, infos, joined, Wit, t_frame, FitsIn, Has, Room_call, Room, FitsLabels, MemoryFits, NoKind, WorldFits, FitsFrame, FitsFrames, Wrap, zero_vs, t_frames, flagged}
 use Rattle.rewrite_bodies.specs.inner.Steps.{Gets, To, Shell, st}
-use Rattle.rewrite_bodies.proofs.Run.{stored, stored_other, kind_no_slot, slice_get-put_other, added_get, added_set, types-stored, slice_get-put_same, types-slice_set, same_type-same, added_kind, more_parts, one_step, seq, weaken, fetch_to, load_to, less_holds, store_to}
+use Rattle.rewrite_bodies.proofs.Run.{stored, stored_other, kind_no_slot, slice_get-put_other, added_get, added_set, types-stored, slice_get-put_same, types-slice_set, added_kind, more_parts, one_step, seq, weaken, fetch_to, load_to, less_holds, store_to}
 use Rattle.rewrite_bodies.proofs.Parts.{put_keeps, cut_all, fits_put, settle, step_plain}
 use Rattle.rewrite_bodies.specs.Guards.{helper, entry_label, says, first_table}
 use Rattle.rewrite_bodies.specs.inner.Telling.{tell_labels, tell_locals, tell_frame}
@@ -39,8 +39,8 @@ use Rattle.rewrite_bodies.proofs.Sim.{refit, refit_under, room_height, grown-app
 use Rattle.rewrite_bodies.proofs.Control.{flag_len, flag_down, both_to, grown_longer}
 use Rattle.rewrite_bodies.proofs.Unwind.{exit_branch, frame_out, Hands, hand_to, hand_left_to, Up, up_all, renamed}
 use Rattle.wasm_syntax.specs.declared.host.Write.{Write}
-use Rattle.wasm_laws.proofs.Never.{same_list}
 use Rattle.wasm_laws.proofs.Progress.{types_append, zero_types, same_of}
+use Rattle.wasm_syntax.proofs.Types.{same_type_is, same_types_are, same_functype_refl}
 
 -- the locals of a function that is called on these arguments
 pub types-locals : (args : List Value) (ps ls : List ValType) → types args ≡ ps → types (args ++ zeros ls) ≡ ps ++ ls
@@ -73,7 +73,7 @@ fits_result : (r : Option ValType) (v : Option Value) → fits_type r v ≡ true
 fits_result None None e = refl
 fits_result None (Some v) e = absurd (cc)
 fits_result (Some t) None e = absurd (cc)
-fits_result (Some t) (Some v) e = rw (same_of (type_of v) t (sym (same_type-same t (type_of v) e))) refl
+fits_result (Some t) (Some v) e = rw (same_of (type_of v) t (sym (same_type_is t (type_of v) e))) refl
 
 writes_keep : (k : Option Memory) (ws : List Write) (k' : Option Memory) → after_writes k ws ≡ Some k' → MemoryFits k → MemoryFits k'
 writes_keep k [] k' e h = let z : k ≡ k' = cc in subst MemoryFits z h
@@ -302,7 +302,7 @@ module _ (M M' : Engine) (E : ℕ) (gl : List ValType) (W : Wrap) (S : Stands M 
         let quietly : answer M.collects M.program.module_ hc g ≡ served_by hc g g.replies = ap (λ c. answer c M.program.module_ hc g) S.quiet in
         subst (λ A. After M M' E gl W t (host M A hc below rest FF LL Ls Fs g co)) (sym quietly) (answered ex1 below e' rest i type vs dq others hc stk nd t (n + 1) (served_by hc g g.replies) (served_by hc g0 g.replies) same nk hb (omega (arith, le)) (served_rel M gl (values.I32 0) hc g wf g.replies) go)
     called ex1 below e' rest (defined b tree type) vs dq others g' stk nd t T n true at df c same nk hb le ty pre st_ =
-        begun ex1 below e' rest b tree type vs dq others g' stk nd t (n + 1) (nat_lt (suc (length Fs)) M.depth) at df same nk hb (same_list (types (reverse vs)) type.params ty) (omega (arith, le)) refl
+        begun ex1 below e' rest b tree type vs dq others g' stk nd t (n + 1) (nat_lt (suc (length Fs)) M.depth) at df same nk hb (same_types_are (types (reverse vs)) type.params ty) (omega (arith, le)) refl
         (λ k. weaken M' (rw (k.target, c, ty) at (seq M' pre (one_step M' T _ st_))) (omega arith) (omega arith))
 
   -- ---- a direct call
@@ -361,7 +361,7 @@ module _ (M M' : Engine) (E : ℕ) (gl : List ValType) (W : Wrap) (S : Stands M 
 pub same_functype-same : (a b : FuncType) → same_functype a b ≡ true → a ≡ b
 same_functype-same a b e =
     let h = and_is (same_types a.params b.params) (same_types a.results b.results) e in
-    let ps = same_list a.params b.params h.0 in let rs = same_list a.results b.results h.1 in
+    let ps = same_types_are a.params b.params h.0 in let rs = same_types_are a.results b.results h.1 in
     λ i. record { params = ps i; results = rs i }
   where
     and_is : (a b : Bool) → (a && b) ≡ true → (a ≡ true) × (b ≡ true)
@@ -372,14 +372,6 @@ pub pick_map : (f : Option ℕ → ℕ) (xs : List (Option ℕ)) (d n : ℕ) (q 
 pick_map f [] d n q e = let z : None ≡ q = e in rw (← z) refl
 pick_map f (x ∷ xs) d zero q e = rw (← e) refl
 pick_map f (x ∷ xs) d (suc n) q e = pick_map f xs d n q e
-
-pub same_types-refl : (a : List ValType) → same_types a a ≡ true
-same_types-refl [] = refl
-same_types-refl (I32 ∷ a) = same_types-refl a
-same_types-refl (I64 ∷ a) = same_types-refl a
-
-pub same_functype-refl : (a : FuncType) → same_functype a a ≡ true
-same_functype-refl a = ap₂ (λ p q. p && q) (same_types-refl a.params) (same_types-refl a.results)
 
 -- ---- the helper
 
@@ -571,7 +563,7 @@ module _ (M M' : Engine) (E : ℕ) (gl : List ValType) (W : Wrap) (S : Stands M 
         let tbl : slice_get gi.table n ≡ Some (Some (mapped M.program.module_ g')) = slice_get-map (option_map (mapped M.program.module_)) g.table n ∙ ap (option_map (option_map (mapped M.program.module_))) tq in
         let ft : type_at M'.program.module_ (mapped M.program.module_ g') ≡ Some type = S.function_types_ g' type (S.type_is g' fn at_ ∙ ap Some same) in
         let ty' = S.entry_types t type ty in
-        let self = same_functype-refl type in
+        let self = same_functype_refl type in
         let st_ : step M' T ≡ calls M' (function_at M'.program (mapped M.program.module_ g')) (mapped M.program.module_ g') (vs ++ []) 0 k (frame YI.idx YI.result 0 (l ++ exi) (label (values.I32 n ∷ (vs ++ [])) code 0 YI.kind ∷ YI.below)) (label (values.I32 n ∷ (vs ++ [])) code 0 YI.kind) YI.below YI.frames gi co = rw (ty', tbl, ft, self) refl in
         let cc_ : cut (length (function_type fn).params) (vs ++ []) ≡ parts vs [] = cut_all (length (function_type fn).params) ops vs below [] c in
         called M M' E gl W S C ex (e1 ∷ e) ss ws ix cl r l (values.I32 n ∷ ops) en kd Ls Fs g co NI f fs wf exi below e' rest fn vs false (Some others) g' (values.I32 n ∷ (vs ++ [])) code t0 T (C.slots + 35) (same_types (types (reverse vs)) (function_type fn).params) at_ (direct_ fn) cc_ same1 no_kind hb (omega arith) refl (weaken M' (seq M' s0 (seq M' s1 (seq M' s1b s2))) (omega arith) (omega (arith, few))) st_

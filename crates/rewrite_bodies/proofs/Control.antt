@@ -19,10 +19,11 @@ use Rattle.rewrite_bodies.specs.Pieces.{get, set, const, if_any, fetch, store, t
 use Rattle.std.proofs.lemmas.List.{length-map}
 use Rattle.rewrite_bodies.specs.Agreement.{Holds, Pending, Arrives, awaits, now, code_at, pending, info, infos, joined, t_kind, t_labels, Wit, KindFits, FitsLabels, WorldFits, FitsFrame, FitsFrames, Wrap, t_frames, flagged}
 use Rattle.rewrite_bodies.specs.inner.Steps.{Gets, To, Shell, st}
-use Rattle.rewrite_bodies.proofs.Run.{stored, stored_other, kind_no_slot, if_same, types-stored, same_type-same, still, one_step, seq, weaken, added_get, fetch_to, store_to, to_result_to, from_result_to, finish_to}
+use Rattle.rewrite_bodies.proofs.Run.{stored, stored_other, kind_no_slot, if_same, types-stored, still, one_step, seq, weaken, added_get, fetch_to, store_to, to_result_to, from_result_to, finish_to}
 use Rattle.rewrite_bodies.proofs.Parts.{fits_stored, has_slot, settle, step_plain}
 use Rattle.rewrite_bodies.specs.inner.Standing.{After}
 use Rattle.rewrite_bodies.proofs.Sim.{refit, room_height, grown-append, grown_fits, len_of, shell, tgt, wit, wit_under, armed, if_zero_to}
+use Rattle.wasm_syntax.proofs.Types.{same_type_is}
 
 pub flag_len : (C : Ctx) (g : World) → types g.globals ≡ global_types C.source → flag_of C.source ≡ length g.globals
 flag_len C g e = sym (length-map C.source.globals (λ g. g.vtype)) ∙ len_of g.globals (global_types C.source) e
@@ -311,7 +312,7 @@ module _ (M M' : Engine) (E : ℕ) (gl : List ValType) (W : Wrap) where
   same_result-same None None e = refl
   same_result-same None (Some t) e = absurd (cc)
   same_result-same (Some t) None e = absurd (cc)
-  same_result-same (Some t) (Some u) e = ap Some (same_type-same t u e)
+  same_result-same (Some t) (Some u) e = ap Some (same_type_is t u e)
 
   same_carry-same : (p q : Option (Option ValType)) → same_carry p q ≡ true → (a : Option ValType) × (p ≡ Some a) × (q ≡ Some a)
   same_carry-same None q e = absurd (cc)

@@ -25,10 +25,10 @@ use Rattle.rewrite_bodies.specs.Length.{basic_length, jump_length, else_length, 
 use Rattle.rewrite_bodies.proofs.Sim.{grown-append, takes_three}
 use Rattle.rewrite_bodies.proofs.Unwind.{less_shorter}
 use Rattle.rewrite_bodies.proofs.TypedNodes.{cuts, grown_types, takes_of}
-use Rattle.wasm_laws.proofs.Lists.{some_is}
 use Rattle.wasm_laws.proofs.Safe.{one_result}
 use Rattle.rewrite_bodies.proofs.Lengths.{len_const, len_call, len_global_set, len_branch, costs_most, costs_twice, known, known-append, known_parts, known_grown, length_parts, length_taken, len_get, len_fetched, len_load, len_hand_value, len_store, len_to_result, len_from_result, len_tested, len_test_flag, len_test_both, len_guard, len_set}
 use Rattle.dump_write.proofs.Sizes.{ten_bytes}
+use Rattle.pm_text.proofs.Lists.{some_is}
 
 module _ (C : Ctx) (few : FewNumbers C) where
   -- the rewritten code behind these places takes at most the weight, and eleven bytes more for each known operand of its own

@@ -27,9 +27,10 @@ use Rattle.std.proofs.lemmas.List.{length-replicate}
 use Rattle.std.proofs.Math.Nat.{mul-div_cancel_left}
 use Rattle.rewrite_bodies.specs.Agreement.{One, Holds, awaits, pending, joined, FitsLabels, MemoryFits, WorldFits, flagged}
 use Rattle.rewrite_bodies.specs.inner.Steps.{To, Shell, st}
-use Rattle.rewrite_bodies.proofs.Run.{stored, HasPlace, if_same, slice_get-put_same, types-slice_set, same_type-same, added_at, more_parts, one_step, holds_put}
+use Rattle.rewrite_bodies.proofs.Run.{stored, HasPlace, if_same, slice_get-put_same, types-slice_set, added_at, more_parts, one_step, holds_put}
 use Rattle.int_ops.specs.Integers.{binary as int_binary}
 use Rattle.wasm_laws.proofs.Progress.{value_type, same_of}
+use Rattle.wasm_syntax.proofs.Types.{same_type_is}
 
 get-append_left : (l ex : List Value) (x : ℕ) (v : Value) → slice_get l x ≡ Some v → slice_get (l ++ ex) x ≡ Some v
 get-append_left [] ex x v e = absurd (cc)
@@ -160,7 +161,7 @@ module _ (M : Engine) (gl : List ValType) (C : Ctx) (es : List Place) (l : List 
 
   local_set_if : (x : ℕ) (v w : Value) (q : Bool) → slice_get l x ≡ Some w → same_type (type_of w) (type_of v) ≡ q → Rel M gl None false l ex b (effects.when q (gives g (slice_set l x v) [])) (effects.over (slice_get (l ++ ex) x) v (gives (flagged M g b) (slice_set (l ++ ex) x v) []))
   local_set_if x v w false e d = tt
-  local_set_if x v w true e d = (rw (get-append_left l ex x w e, d, set-append_left l ex x v w e) refl, types-slice_set l x (type_of w) v (types_get l x w e) (sym (same_type-same (type_of w) (type_of v) d)), wf, refl)
+  local_set_if x v w true e d = (rw (get-append_left l ex x w e, d, set-append_left l ex x v w e) refl, types-slice_set l x (type_of w) v (types_get l x w e) (sym (same_type_is (type_of w) (type_of v) d)), wf, refl)
 
   local_set : (x : ℕ) (v : Value) (o : Option Value) → slice_get l x ≡ o → Rel M gl None false l ex b (effects.over o v (gives g (slice_set l x v) [])) (effects.over (slice_get (l ++ ex) x) v (gives (flagged M g b) (slice_set (l ++ ex) x v) []))
   local_set x v None e = tt
@@ -169,7 +170,7 @@ module _ (M : Engine) (gl : List ValType) (C : Ctx) (es : List Place) (l : List 
   local_tee_if : (x : ℕ) (v w : Value) (q : Bool) → slice_get l x ≡ Some w → same_type (type_of w) (type_of v) ≡ q → Rel M gl (slice_get C.locals x) false l ex b (effects.when q (gives g (slice_set l x v) (v ∷ []))) (effects.over (slice_get (l ++ ex) x) v (gives (flagged M g b) (slice_set (l ++ ex) x v) (v ∷ [])))
   local_tee_if x v w false e d = tt
   local_tee_if x v w true e d =
-      let same : type_of w ≡ type_of v = same_type-same (type_of w) (type_of v) d in
+      let same : type_of w ≡ type_of v = same_type_is (type_of w) (type_of v) d in
       let ty = types-slice_set l x (type_of w) v (types_get l x w e) (sym same) in
       let at : slice_get C.locals x ≡ Some (type_of v) = ap (λ q. slice_get q x) (sym lt) ∙ types_get l x w e ∙ ap Some same in
       (rw (get-append_left l ex x w e, d, set-append_left l ex x v w e) refl, ty, wf, rw at (one_result v (type_of v) refl))
@@ -187,7 +188,7 @@ module _ (M : Engine) (gl : List ValType) (C : Ctx) (es : List Place) (l : List 
   global_set_if x v w true e d = (
     rw (get-append_left g.globals (b ∷ []) x w e, d, set-append_left g.globals (b ∷ []) x v w e) refl,
     refl,
-    record { globals = types-slice_set g.globals x (type_of w) v (types_get g.globals x w e) (sym (same_type-same (type_of w) (type_of v) d)) ∙ wf.globals; memory = wf.memory; table = wf.table },
+    record { globals = types-slice_set g.globals x (type_of w) v (types_get g.globals x w e) (sym (same_type_is (type_of w) (type_of v) d)) ∙ wf.globals; memory = wf.memory; table = wf.table },
     refl,
   )
 
@@ -206,7 +207,7 @@ module _ (M : Engine) (gl : List ValType) (C : Ctx) (es : List Place) (l : List 
       second : (es : List Place) → Match (values.I32 n ∷ c ∷ a ∷ []) es → exactly (second_type es) ((if n == 0 then c else a) ∷ []) ≡ Some ((if n == 0 then c else a) ∷ [])
       second [] m = absurd m
       second (e ∷ []) m = absurd m.1
-      second (e ∷ f ∷ es) m = one_result (if n == 0 then c else a) (place_type f) (choice_type (n == 0) c a (same_type-same (type_of a) (type_of c) d) ∙ m.1.0)
+      second (e ∷ f ∷ es) m = one_result (if n == 0 then c else a) (place_type f) (choice_type (n == 0) c a (same_type_is (type_of a) (type_of c) d) ∙ m.1.0)
 
   select : (vs : List Value) → Match vs es → Rel M gl (second_type es) false l ex b (effect Select g l vs) (effect Select (flagged M g b) (l ++ ex) vs)
   select [] m = tt
@@ -326,7 +327,7 @@ settle C ex (Some t) L Ls e ss (v ∷ []) ty x h =
     let n = length (e ++ joined ss) in
     let i = slot t n in
     let at : slice_get (types ex) i ≡ Some t = rw ty (added_at C.slots n t (omega (arith, h.1))) in
-    let d : type_of v ≡ t = same_type-same (type_of v) t (if_same (same_type (type_of v) t) (v ∷ []) (v ∷ []) x).0 in
+    let d : type_of v ≡ t = same_type_is (type_of v) t (if_same (same_type (type_of v) t) (v ∷ []) (v ∷ []) x).0 in
     (((slice_get-put_same ex i t v at, d), holds_put ex (joined ss) e L.operands i v (omega arith) h.0), tt, h.2, h.3, fits_put C ex (awaits (pending L.kind)) Ls ss i v (omega (arith, length-append e (joined ss))) h.4)
 settle C ex (Some t) L Ls e ss (v ∷ w ∷ vs) ty x h = absurd (cc)
 

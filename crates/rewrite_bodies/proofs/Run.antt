@@ -15,6 +15,7 @@ use Rattle.rewrite_bodies.specs.Rewrite.{result_back}
 use Rattle.rewrite_bodies.specs.Agreement.{One, Holds}
 use Rattle.rewrite_bodies.specs.inner.Steps.{went, run, Gets, To, Shell, st}
 use Rattle.wasm_laws.proofs.Progress.{get_type, same_of}
+use Rattle.wasm_syntax.proofs.Types.{same_type_is}
 
 pub slice_get-append : {A : Type 0} (l ex : List A) (n h : ℕ) → n ≡ length l → slice_get (l ++ ex) (n + h) ≡ slice_get ex h
 slice_get-append [] ex n h e = ap (slice_get ex) (omega arith)
@@ -45,12 +46,6 @@ pub types-slice_set : (ex : List Value) (i : ℕ) (t : ValType) (v : Value) → 
 types-slice_set [] i t v e d = refl
 types-slice_set (x ∷ ex) zero t v e d = let z : type_of v ≡ type_of x = cc in ap (λ q. q ∷ types ex) z
 types-slice_set (x ∷ ex) (suc i) t v e d = ap (λ q. type_of x ∷ q) (types-slice_set ex i t v e d)
-
-pub same_type-same : (a b : ValType) → same_type a b ≡ true → a ≡ b
-same_type-same I32 I32 e = refl
-same_type-same I32 I64 e = absurd (cc)
-same_type-same I64 I32 e = absurd (cc)
-same_type-same I64 I64 e = refl
 
 -- the types of the added locals
 pub added_at : (n h : ℕ) (t : ValType) → h ≤ n → slice_get (added n) (slot t h) ≡ Some t
@@ -97,7 +92,7 @@ if_same true x y e = (refl, cc)
 pub types-stored : (r : Option ValType) (i : ValType → ℕ) (vs ex : List Value) → HasPlace r i ex → exactly r vs ≡ Some vs → types (stored r i vs ex) ≡ types ex
 types-stored None i vs ex p e = refl
 types-stored (Some t) i [] ex p e = refl
-types-stored (Some t) i (v ∷ []) ex p e = types-slice_set ex (i t) t v p (same_type-same (type_of v) t (if_same (same_type (type_of v) t) (v ∷ []) (v ∷ []) e).0)
+types-stored (Some t) i (v ∷ []) ex p e = types-slice_set ex (i t) t v p (same_type_is (type_of v) t (if_same (same_type (type_of v) t) (v ∷ []) (v ∷ []) e).0)
 types-stored (Some t) i (v ∷ w ∷ vs) ex p e = absurd (cc)
 
 pub more_parts : (v : Value) (u : Cut) (vs below : List Value) → one_more v u ≡ parts vs below → (t : List Value) × (u ≡ parts t below) × (vs ≡ v ∷ t)
@@ -205,7 +200,7 @@ module _ (M : Engine) where
     store_to ex None es [] k p e = weaken (still _) (omega arith) (omega arith)
     store_to ex None es (v ∷ vs) k p e = absurd (cc)
     store_to ex (Some t) es [] k p e = absurd (cc)
-    store_to ex (Some t) es (v ∷ []) k p e = weaken (added_set ex (slot t (length es)) t v p (same_type-same (type_of v) t (if_same (same_type (type_of v) t) (v ∷ []) (v ∷ []) e).0)) (omega arith) (omega arith)
+    store_to ex (Some t) es (v ∷ []) k p e = weaken (added_set ex (slot t (length es)) t v p (same_type_is (type_of v) t (if_same (same_type (type_of v) t) (v ∷ []) (v ∷ []) e).0)) (omega arith) (omega arith)
     store_to ex (Some t) es (v ∷ w ∷ vs) k p e = absurd (cc)
 
     -- the top operand goes to the result local
@@ -215,14 +210,14 @@ module _ (M : Engine) where
     to_result_to ex (Some t) js [] (v ∷ ops) vs k p h e = absurd h
     to_result_to ex (Some t) js (e ∷ es) (v ∷ ops) vs k p h c =
         let f = if_same (same_type (type_of v) t) (v ∷ []) vs c in
-        rw (← f.1) (weaken (seq (fetch_to ex (length (es ++ js)) e v h.0) (added_set ex (slot t C.slots) t v p (same_type-same (type_of v) t f.0))) (omega arith) (omega arith))
+        rw (← f.1) (weaken (seq (fetch_to ex (length (es ++ js)) e v h.0) (added_set ex (slot t C.slots) t v p (same_type_is (type_of v) t f.0))) (omega arith) (omega arith))
 
     -- and from there to its slot
     pub from_result_to : {X : Shell} {g : World} {co : List CollectorCall} (ex : List Value) (r : Option ValType) (es : List Place) (vs : List Value) (k : Nodes) → HasPlace r (λ t. slot t C.slots) ex → HasPlace r (λ t. slot t (length es)) ex → exactly r vs ≡ Some vs → To M 0 2 (st X (l ++ stored r (λ t. slot t C.slots) vs ex) [] (from_result C r es k) g co) (st X (l ++ stored r (λ t. slot t (length es)) vs (stored r (λ t. slot t C.slots) vs ex)) [] k g co)
     from_result_to ex None es vs k p p' e = weaken (still _) (omega arith) (omega arith)
     from_result_to ex (Some t) es [] k p p' e = absurd (cc)
     from_result_to ex (Some t) es (v ∷ []) k p p' e =
-        let d : type_of v ≡ t = same_type-same (type_of v) t (if_same (same_type (type_of v) t) (v ∷ []) (v ∷ []) e).0 in
+        let d : type_of v ≡ t = same_type_is (type_of v) t (if_same (same_type (type_of v) t) (v ∷ []) (v ∷ []) e).0 in
         let i = slot t C.slots in
         weaken (seq (added_get (slice_set ex i v) i v (slice_get-put_same ex i t v p)) (added_set (slice_set ex i v) (slot t (length es)) t v (rw (types-slice_set ex i t v p d) p') d)) (omega arith) (omega arith)
     from_result_to ex (Some t) es (v ∷ w ∷ vs) k p p' e = absurd (cc)

@@ -24,8 +24,9 @@ use Rattle.rewrite_bodies.proofs.Parts.{Rel, framed, match_of}
 use Rattle.rewrite_bodies.specs.inner.Standing.{After, Stands}
 use Rattle.rewrite_bodies.proofs.Sim.{refit, len_of, shell, tgt, wit, verdict_to, plain_gives, push_sim, block_sim, loop_sim, if_sim}
 use Rattle.rewrite_bodies.proofs.Control.{end_sim, br_node, br_if_node, return_node, table_node}
-use Rattle.rewrite_bodies.proofs.Calls.{trap_from, call_node, same_functype-same, same_functype-refl, entry_trap, entry_call}
+use Rattle.rewrite_bodies.proofs.Calls.{trap_from, call_node, same_functype-same, entry_trap, entry_call}
 use Rattle.rewrite_bodies.specs.Offsets.{SmallOffset}
+use Rattle.wasm_syntax.proofs.Types.{same_functype_refl}
 
 module _ (M M' : Engine) (E : ℕ) (gl : List ValType) (W : Wrap) (S : Stands M M' E gl) where
   -- ---- an indirect call
@@ -61,7 +62,7 @@ module _ (M M' : Engine) (E : ℕ) (gl : List ValType) (W : Wrap) (S : Stands M 
       by_function g' (Some fn) tq tu at_ =
           let ft = S.type_is g' fn at_ in
           let same : function_type fn ≡ type = some_same (sym ft ∙ tu) in
-          entry_call M M' E gl W S C ex e1 e ss ws ix cl r l n ops en kd Ls Fs g co at t rest f fs wf shallow type g' fn (cut (length (function_type fn).params) ops) has rm ty tq at_ same (label_is g' type true tu (same_functype-refl type)) refl
+          entry_call M M' E gl W S C ex e1 e ss ws ix cl r l n ops en kd Ls Fs g co at t rest f fs wf shallow type g' fn (cut (length (function_type fn).params) ops) has rm ty tq at_ same (label_is g' type true tu (same_functype_refl type)) refl
         where
           some_same : {a b : FuncType} → Some a ≡ Some b → a ≡ b
           some_same {a} e = ap (λ o. unwrap_or o a) e

@@ -35,13 +35,9 @@ use Rattle.rewrite_bodies.proofs.Sim.{grown-append}
 use Rattle.rewrite_bodies.proofs.Unwind.{less_shorter}
 use Rattle.rewrite_bodies.proofs.TypedPieces.{Ok, ok_basic, ok_const, ok_eqz, Open, open_label, TopIs, at_labels, ok_if, ok_branch, ok_call, ok_get, ok_set, ok_fetch, ok_load, ok_store, ok_to_result, ok_from_result, ok_hand_value, ok_tested, ok_test_flag, ok_test_both, HasMemory, ok_guard_zero, ok_guard_signed, ok_guard_memory, ok_guard_copy, ok_guard_fill}
 use Rattle.wasm_laws.proofs.Progress.{takes_len}
-use Rattle.wasm_laws.proofs.Lists.{some_is}
 use Rattle.wasm_laws.proofs.Validity.{then_found, map_found}
-
-pub get_front : {A : Type 0} (xs ys : List A) (i : ℕ) (x : A) → slice_get xs i ≡ Some x → slice_get (xs ++ ys) i ≡ Some x
-get_front [] ys i x e = absurd (cc)
-get_front (y ∷ xs) ys zero x e = e
-get_front (y ∷ xs) ys (suc i) x e = get_front xs ys i x e
+use Rattle.pm_text.proofs.Lists.{some_is, get_front}
+use Rattle.wasm_syntax.proofs.Types.{any_found}
 
 -- ---- the operands that are taken, and those that are left
 
@@ -72,10 +68,6 @@ grown_types None own below e = e
 grown_types (Some t) own below e = ap (λ z. t ∷ z) e
 
 -- ---- tables of arrows
-
-any_found : {A B : Type 0} (ls : List A) (o : Option B) (b : B) → typing.if_any ls o ≡ Some b → o ≡ Some b
-any_found [] o b e = absurd (cc)
-any_found (l ∷ ls) o b e = e
 
 pub only_found : {A : Type 0} (q : Bool) (o : Option A) (b : A) → only_if q o ≡ Some b → o ≡ Some b
 only_found true o b e = e

@@ -27,8 +27,9 @@ use Rattle.wasm_laws.proofs.Lists.{all_map}
 use Rattle.rewrite_modules.specs.Bare.{bare_nodes, bare_tree, bare_op, bare_body, bare_global, bare_element, bare_segment, bare_module}
 use Rattle.rewrite_modules.specs.LowSizes.{LowSizes}
 use Rattle.rewrite_modules.proofs.ValidBodies.{typed_bare, bare_typed}
-use Rattle.rewrite_modules.proofs.WrittenOut.{bare_writes, tree_of_body}
+use Rattle.rewrite_modules.proofs.WrittenOut.{bare_writes}
 use Rattle.wasm_laws.proofs.Validity.{map_found}
+use Rattle.wasm_syntax.proofs.Bodies.{tree_of}
 
 -- ---- lists
 
@@ -294,7 +295,7 @@ module _ (m : Module) where
   valid_from whole v (places.DataAt i) = there_back (DataFine m) (DataFine m0) bare_segment m.segments i (λ s at h. (h.0, bare_body_ m.globals s.offset _ h.1)) (v (places.DataAt i))
   valid_from whole v (places.Function f o) =
       if_mono (defined_index m f) (λ i. There (map bare_body m.bodies) i (BodyFine m0 f)) (λ i. There m.bodies i (BodyFine m f))
-      (λ i t. there_back (BodyFine m f) (BodyFine m0 f) bare_body m.bodies i (λ b at h. let w = tree_of_body m.bodies whole.trees i b whole.write at in bodies_from f b w.0 w.1 h) t) (v (places.Function f o))
+      (λ i t. there_back (BodyFine m f) (BodyFine m0 f) bare_body m.bodies i (λ b at h. let w = tree_of m.bodies whole.trees i b whole.write at in bodies_from f b w.0 w.1 h) t) (v (places.Function f o))
 
   nesting_bare : (b : Body) → nesting (bare_body b) ≡ nesting b
   nesting_bare b = ap (λ z. deepest 0 z) (codes_bare b.ops)

@@ -9,7 +9,6 @@ use Rattle.wasm_syntax.specs.declared.instruction.Basic.TheVariants.{LocalGet, B
 use Rattle.wasm_syntax.specs.declared.parts.FuncType.{FuncType}
 use Rattle.wasm_syntax.specs.Typing.{Context, ◌⇒◌, BasicTypes, body_context}
 use Rattle.wasm_syntax.specs.FlatTyping.{OpenBlock, opened, inside, FlatTypes, dead_behind, AllLive, IsLive, all_types, TypesBefore}
-use Rattle.wasm_laws.proofs.Lists.{some_is}
 use Rattle.wasm_laws.proofs.FlatOne.{one_before}
 use Rattle.rewrite_modules.specs.Weight.{height_at}
 use Rattle.int_ops.specs.Integers.{binary, compare, div_s, rem_s}
@@ -22,6 +21,7 @@ use Rattle.wasm_syntax.specs.Sizes.{ShortLists, local_count}
 use Rattle.rewrite_modules.specs.Instrumentable.{Instrumentable}
 use Rattle.rewrite_modules.specs.Given.{Given, SmallCode}
 use Rattle.rewrite_modules.specs.Example.{divider, HandsOver, Weighs, Multiplies}
+use Rattle.pm_text.proofs.Lists.{some_is}
 
 abbrev OfSome : Option Tree → Type 0
 OfSome None = Unit {0}

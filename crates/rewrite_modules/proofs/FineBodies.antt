@@ -1,31 +1,24 @@
 -- What validity says of the functions that a module defines.
-use Rattle.std.proofs.Common.{◌≡◌, ℕ, ◌+◌, ◌-◌, Bool, false, nat_lt, if◌then◌else◌, length, reverse, Option, Some, None, ap, ◌∙◌, subst, arith, slice_get, option_to_list}
+use Rattle.std.proofs.Common.{◌≡◌, ℕ, ◌+◌, Bool, if◌then◌else◌, length, reverse, Option, Some, None, subst, slice_get, option_to_list}
 use Rattle.std.specs.Prelude.{IfSome}
-use Rattle.std.proofs.lemmas.Bool.{le-ltb}
 use Rattle.wasm_syntax.specs.declared.parts.FuncType.{FuncType}
 use Rattle.wasm_syntax.specs.declared.parts.Body.{Body}
 use Rattle.wasm_syntax.specs.declared.module.ModuleParts.{ModuleParts as Module}
 use Rattle.wasm_syntax.specs.declared.place.Place.TheVariants as places
 use Rattle.wasm_syntax.specs.Module.{option_then, function_types, type_at}
 use Rattle.wasm_syntax.specs.Machine.{result_of}
-use Rattle.wasm_syntax.specs.Valid.{Valid, There, FuncTypeFine, BodyFine, defined_index}
+use Rattle.wasm_syntax.specs.Valid.{Valid, There, FuncTypeFine, BodyFine}
 use Rattle.wasm_laws.proofs.Lists.{there_at}
 use Rattle.wasm_laws.proofs.Safe.{one_result}
+use Rattle.wasm_syntax.proofs.Bodies.{index_of}
 
 abbrev unless : Bool → ℕ → Option ℕ
 unless b k = if b then None else Some k
 
-pub index_back : (m : Module) (i : ℕ) → defined_index m (length m.imports + i) ≡ Some i
-index_back m i =
-    let n = length m.imports in
-    let defined : nat_lt (n + i) n ≡ false = le-ltb (n + i) n (omega arith) in
-    let number : n + i - n ≡ i = omega arith in
-    ap (λ (b : Bool). unless b (n + i - n)) defined ∙ ap (λ (k : ℕ). unless false k) number
-
 pub fine_at : (m : Module) (i : ℕ) (body : Body) → Valid m → slice_get m.bodies i ≡ Some body → BodyFine m (length m.imports + i) body
 fine_at m i body valid e =
     let f = length m.imports + i in
-    there_at (BodyFine m f) m.bodies i body (subst (λ (o : Option ℕ). IfSome o (λ j. There m.bodies j (BodyFine m f))) (index_back m i) (valid (places.Function f 0))) e
+    there_at (BodyFine m f) m.bodies i body (subst (λ (o : Option ℕ). IfSome o (λ j. There m.bodies j (BodyFine m f))) (index_of m i) (valid (places.Function f 0))) e
 
 then_some : {A B : Type 0} (o : Option A) (go : A → Option B) (y : B) → option_then o go ≡ Some y → (x : A) × (go x ≡ Some y)
 then_some None go y e = absurd cc

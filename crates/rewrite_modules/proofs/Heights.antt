@@ -28,10 +28,10 @@ use Rattle.rewrite_bodies.proofs.TypedNodes.{cuts, grown_types, takes_of}
 use Rattle.wasm_laws.proofs.FlatBodies.{tree_steps, inside_body}
 use Rattle.wasm_laws.proofs.Safe.{Typed, one_result}
 use Rattle.wasm_laws.proofs.FlatStatic.{write_append, dead_pass}
-use Rattle.wasm_laws.proofs.Lists.{some_is}
 use Rattle.rewrite_modules.specs.Weight.{height_at, AreHeights}
 use Rattle.rewrite_modules.proofs.Links.{is_defined, type_is_of}
-use Rattle.wasm_laws.proofs.Validity.{tree_there}
+use Rattle.pm_text.proofs.Lists.{some_is}
+use Rattle.wasm_syntax.proofs.Bodies.{tree_there}
 
 -- what basic instructions take does not hang on labels
 pub arrow_labels : (C : Ctx) (ret : List ValType) (labels : List (List ValType)) (t : ValType) (i : Basic) → arrow (at_labels C.source C.locals ret labels) t i ≡ arrow (original C []) t i

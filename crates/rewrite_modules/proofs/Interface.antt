@@ -11,7 +11,7 @@ use Rattle.rewrite_modules.specs.Collector.{memory_export}
 use Rattle.rewrite_modules.specs.Instrument.{new_exports, new_index, new_module}
 use Rattle.rewrite_modules.specs.Interface.{named, KeepsInterface}
 use Rattle.rewrite_modules.proofs.Links.{get_right}
-use Rattle.rewrite_bodies.proofs.TypedNodes.{get_front}
+use Rattle.pm_text.proofs.Lists.{get_front}
 
 names_kept : (m : Module) (k : ℕ) (es : List Export) → map named (new_exports m k es) ≡ map named es
 names_kept m k [] = refl

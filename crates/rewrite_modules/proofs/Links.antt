@@ -34,8 +34,8 @@ use Rattle.rewrite_modules.specs.FlatCode.{body_of}
 use Rattle.rewrite_modules.specs.Wrappers.{wrapper}
 use Rattle.rewrite_modules.proofs.Bounds.{Static, room_of}
 use Rattle.wasm_laws.proofs.Validity.{then_found, map_found}
-use Rattle.rewrite_bodies.proofs.TypedNodes.{get_front}
 use Rattle.wasm_laws.proofs.Lists.{get_within}
+use Rattle.pm_text.proofs.Lists.{get_front}
 
 -- ---- lists
 

@@ -14,7 +14,7 @@ use Rattle.wasm_syntax.specs.Static.{Spot, Live}
 use Rattle.wasm_syntax.specs.Typing.{Types, IsBody, body_context}
 use Rattle.wasm_syntax.specs.Valid.{Valid}
 use Rattle.wasm_syntax.specs.Sizes.{parameter_count}
-use Rattle.wasm_laws.proofs.Lists.{some_is, at_of, all_append}
+use Rattle.wasm_laws.proofs.Lists.{at_of, all_append}
 use Rattle.wasm_laws.proofs.Safe.{Typed, one_result}
 use Rattle.wasm_laws.proofs.Unique.{one_tree}
 use Rattle.rewrite_bodies.specs.Numbering.{import_count, mapped, value_import, frame_import, global_types, wrapped, helped}
@@ -41,6 +41,7 @@ use Rattle.rewrite_modules.proofs.Theorem.{startable_given, ready_given}
 use Rattle.rewrite_modules.proofs.ValidBodies.{offers}
 use Rattle.rewrite_modules.proofs.ValidModule.{HasType, wrapped_types, all_any}
 use Rattle.rewrite_modules.proofs.WrittenOut.{program_bare, same_bare, instrument_bare}
+use Rattle.pm_text.proofs.Lists.{some_is}
 
 -- ---- lists
 

@@ -1,7 +1,6 @@
 -- From a module that is rewritten to its program.
 use Rattle.std.proofs.Common.{◌≡◌, ℕ, zero, suc, ◌+◌, ◌*◌, ◌≤◌, Bool, true, false, ◌&&◌, if◌then◌else◌, option_map, List, [], ◌∷◌, length, map, Option, Some, None, refl, subst, slice_get, arith, length-append}
-use Rattle.std.specs.Prelude.{replicate, sum, find, bytes_eq}
-use Rattle.wasm_syntax.specs.declared.value.ValType.{ValType}
+use Rattle.std.specs.Prelude.{sum, find, bytes_eq}
 use Rattle.wasm_syntax.specs.declared.instruction.Op.{Op}
 use Rattle.wasm_syntax.specs.declared.parts.Body.{Body}
 use Rattle.wasm_syntax.specs.declared.instruction.Instr.TheVariants as instrs
@@ -13,7 +12,6 @@ use Rattle.wasm_laws.proofs.Validity.{typed}
 use Rattle.rewrite_modules.specs.Weight.{entry_weight, exports_weight}
 use Rattle.rewrite_modules.proofs.Heights.{heights_low}
 use Rattle.rewrite_modules.specs.Given.{Given, SmallCode}
-use Rattle.wasm_syntax.specs.declared.parts.LocalGroup.{LocalGroup}
 use Rattle.rewrite_bodies.specs.Numbering.{import_count}
 use Rattle.rewrite_bodies.specs.Slots.{sizes, most}
 use Rattle.rewrite_modules.proofs.Links.{is_defined, type_is_of}
@@ -21,9 +19,8 @@ use Rattle.rewrite_bodies.specs.Offsets.{SmallOffset}
 use Rattle.rewrite_modules.specs.Instrumentable.{program_of, SmallInstr, Instrumentable}
 use Rattle.wasm_syntax.specs.Sizes.{local_count}
 use Rattle.wasm_syntax.specs.declared.instruction.Instr.{Instr}
-use Rattle.std.proofs.lemmas.List.Sums.{sum_by-cons}
-use Rattle.std.proofs.lemmas.List.{length-replicate}
 use Rattle.std.specs.List.{AllByRecursion}
+use Rattle.wasm_syntax.proofs.Bodies.{declared_length}
 
 -- ---- offsets of accesses
 
@@ -83,12 +80,6 @@ small_trees (b ∷ bs) (t ∷ ts) (suc f) tree w h e = small_trees bs ts f tree 
 
 -- ---- locals
 
-pub length-declared : (groups : List LocalGroup) → length (declared_locals groups) ≡ sum (map (λ g. g.count) groups)
-length-declared [] = refl
-length-declared (g ∷ gs) =
-    let more : sum (g.count ∷ map (λ g. g.count) gs) ≡ g.count + sum (map (λ g. g.count) gs) = sum_by-cons (λ n. n) g.count (map (λ g. g.count) gs) in
-    omega (arith, more, length-declared gs, length-append (replicate g.count g.vtype) (declared_locals gs), length-replicate {A = ValType} g.count g.vtype)
-
 most_bound : (go : ℕ → ℕ × ℕ) (n : ℕ) → ((f : ℕ) → (go f).0 ≤ n) → (f : ℕ) (bs : List Body) → (most go f bs).0 ≤ n
 most_bound go n h f [] = omega arith
 most_bound go n h f (b ∷ bs) = let x = h f in let y = most_bound go n h (suc f) bs in omega (arith, x, y)
@@ -105,7 +96,7 @@ module _ (m : Module) (x : Instrumentable m) where
       let bound : local_count (type_at m (length m.imports + d.number)) b ≤ 10000 = x.lightness.few_locals d.number b d.body_is in
       let tf : type_at m (length m.imports + d.number) ≡ Some type = subst (λ g. type_at m g ≡ Some type) d.number_is (type_is_of p f (defined b tree type) e) in
       let bound' : length type.params + sum (map (λ g. g.count) b.groups) ≤ 10000 = subst (λ o. local_count o b ≤ 10000) tf bound in
-      omega (arith, bound', length-declared b.groups, length-append type.params (declared_locals b.groups))
+      omega (arith, bound', declared_length b.groups, length-append type.params (declared_locals b.groups))
 
   -- the globals weigh, where something is exported
   globals_weigh : (name : List ℕ) (es : List Export) (f : ℕ) → option_map (λ e. e.index) (find (λ e. is_function e.kind && bytes_eq e.name name) es) ≡ Some f → 16 * length m.globals ≤ exports_weight m es

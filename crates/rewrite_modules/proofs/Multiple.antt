@@ -21,7 +21,6 @@ use Rattle.wasm_syntax.specs.Valid.{Valid}
 use Rattle.wasm_laws.proofs.FlatBodies.{inside_body, body_steps}
 use Rattle.wasm_laws.proofs.FlatOne.{one_before}
 use Rattle.wasm_laws.proofs.FlatSteps.{steps_split}
-use Rattle.wasm_laws.proofs.Lists.{some_is}
 use Rattle.wasm_laws.proofs.Safe.{Typed, one_result}
 use Rattle.rewrite_bodies.specs.Numbering.{import_count}
 use Rattle.rewrite_bodies.specs.Slots.{Ctx, ctx_of, slots_of, sizes, most, greatest}
@@ -34,13 +33,13 @@ use Rattle.rewrite_modules.specs.Multiple.{most_locals, highest, most_operands, 
 use Rattle.rewrite_modules.proofs.FineBodies.{fine_at}
 use Rattle.rewrite_modules.proofs.Heights.{spot_peak, peak_low}
 use Rattle.rewrite_modules.proofs.Links.{is_defined, parts_of, type_is_of, IsDefined}
-use Rattle.rewrite_modules.proofs.Modules.{length-declared}
 use Rattle.rewrite_modules.proofs.BareRuns.{simulates_bare}
 use Rattle.rewrite_modules.proofs.SlotMultiple.{slot_multiple}
 use Rattle.rewrite_modules.proofs.Spots.{at_spots}
 use Rattle.rewrite_modules.proofs.Theorem.{startable_given, rewriting_simulates}
 use Rattle.rewrite_modules.proofs.WrittenOut.{program_bare, same_bare, instrument_bare}
-use Rattle.wasm_laws.proofs.Validity.{tree_there}
+use Rattle.pm_text.proofs.Lists.{some_is}
+use Rattle.wasm_syntax.proofs.Bodies.{tree_there, declared_length}
 
 -- ---- numbers of a list
 
@@ -198,7 +197,7 @@ module _ (p : Program) (write_ : IsProgram p) (typed : Typed p) (valid : Valid p
       let number : (is_defined p (n + i) b d.0 d.1 d.2).number ≡ i = omega (arith, (is_defined p (n + i) b d.0 d.1 d.2).number_is) in
       let slots = slots_are p write_ typed (n + i) b d.0 d.1 d.2 heights are ∙ ap (λ x. highest (height_at heights x) 0 b.ops) number in
       let ty = type_is_of p (n + i) (defined b d.0 d.1) d.2 in
-      let locals : length (d.1.params ++ declared_locals b.groups) ≡ length d.1.params + sum (map (λ g. g.count) b.groups) = omega (arith, length-declared b.groups, length-append d.1.params (declared_locals b.groups)) in
+      let locals : length (d.1.params ++ declared_locals b.groups) ≡ length d.1.params + sum (map (λ g. g.count) b.groups) = omega (arith, declared_length b.groups, length-append d.1.params (declared_locals b.groups)) in
       rw (d.2, ty) (locals, slots)
 
   abbrev Same : ℕ → List Body → Type 0

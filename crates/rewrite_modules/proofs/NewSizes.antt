@@ -20,11 +20,11 @@ use Rattle.rewrite_modules.specs.Wrappers.{wrapper}
 use Rattle.rewrite_modules.specs.Instrumentable.{program_of, Instrumentable}
 use Rattle.rewrite_modules.specs.LowSizes.{LowSizes}
 use Rattle.rewrite_modules.proofs.Links.{declared-append, declared-groups, is_defined, sizes_fit}
-use Rattle.rewrite_modules.proofs.Modules.{length-declared, module_given}
+use Rattle.rewrite_modules.proofs.Modules.{module_given}
 use Rattle.rewrite_modules.proofs.Theorem.{startable_given, ready_given}
 use Rattle.rewrite_modules.proofs.ValidModule.{From, there_from, new_bodies}
 use Rattle.rewrite_modules.proofs.Depths.{low_body, low_wrapper, low_helper, body_low, low_nesting}
-use Rattle.wasm_laws.proofs.Validity.{tree_there}
+use Rattle.wasm_syntax.proofs.Bodies.{tree_there, declared_length}
 
 length-added : (n : ℕ) → length (added n) ≡ 2 * n + 4
 length-added zero = refl
@@ -78,7 +78,7 @@ module _ (m : Module) (x : Instrumentable m) where
       let z = sizes_fit p (ready_given p given) f b tree type d at in
       let gs = b.groups in
       let n : sum (map (λ g. g.count) (gs ++ groups slots)) ≡ length (declared_locals gs) + (2 * slots + 4) =
-      omega (arith, length-declared (gs ++ groups slots), ap length (declared-append gs (groups slots)), length-append (declared_locals gs) (declared_locals (groups slots)), ap length (declared-groups slots), length-added slots) in
+      omega (arith, declared_length (gs ++ groups slots), ap length (declared-append gs (groups slots)), length-append (declared_locals gs) (declared_locals (groups slots)), ap length (declared-groups slots), length-added slots) in
       let old = length-append type.params (declared_locals gs) in
       let w = tree_there m.bodies x.whole.trees d.number b tree x.whole.write d.body_is d.tree_is in
       let deep = at_of (λ body. nesting body ≤ 1000) m.bodies d.number b x.lightness.shallow d.body_is in (

@@ -25,7 +25,7 @@ use Rattle.rewrite_modules.specs.Simulates.{EndsAlike, Alike, Simulates, AllAlik
 use Rattle.rewrite_modules.proofs.Start.{world_start, segments_same, Outside, Named, named, unnamed, started, not_started_}
 use Rattle.wasm_laws.specs.Runs.{NoneStuck}
 use Rattle.rewrite_modules.proofs.Final.{Fits, part, St, Invoked_so, invoked_alone, invoked_behind, world_alike, trap_alike, start_fits, out_type, go1}
-use Rattle.wasm_laws.proofs.Never.{same_list}
+use Rattle.wasm_syntax.proofs.Types.{same_types_are}
 
 other_kind : (k : ℕ) (q : Bool) → (k == 8) ≡ q → (k ≡ 8 → ⊥) → (k == 8) ≡ false
 other_kind k false t n8 = t
@@ -309,7 +309,7 @@ module _ (p : Program) (fit : Fits p) (d : ℕ) (deep : 0 < d) (low : d ≤ 1000
   call_of i (Some f) e c =
       let t = fit.exported i.name f e in
       let c' : entry_fits (Some (same_types t.0.params (types i.args))) ≡ None = ap (λ o. entry_fits (option_map (λ type. same_types type.params (types i.args)) o)) (sym t.1) ∙ c in
-      (f, e, t.0, t.1, sym (same_list t.0.params (types i.args) (true_of (same_types t.0.params (types i.args)) c')))
+      (f, e, t.0, t.1, sym (same_types_are t.0.params (types i.args) (true_of (same_types t.0.params (types i.args)) c')))
 
   calls_are_of : (is : List Invocation) → runs_.cause_of m is ≡ None → Calls is × (cause_of_segments m ≡ None)
   calls_are_of [] e = (tt, e)

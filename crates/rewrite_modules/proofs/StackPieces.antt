@@ -19,7 +19,6 @@ use Rattle.wasm_syntax.specs.Module.{type_at}
 use Rattle.wasm_syntax.specs.Effect.{takes}
 use Rattle.wasm_syntax.specs.Machine.{result_of}
 use Rattle.wasm_syntax.specs.Typing.{◌⇒◌, BasicTypes, JumpTypes, Types}
-use Rattle.wasm_laws.proofs.Lists.{some_is}
 use Rattle.rewrite_bodies.specs.Numbering.{import_count, mapped, value_import, frame_import, value_type, frame_type}
 use Rattle.rewrite_bodies.specs.Slots.{Place, Spilled, Known, place_type, Ctx, result_at, kind_at, offset_at, less, grown, result_type}
 use Rattle.rewrite_bodies.specs.Pieces.{get, set, const, i32, call, if_any, fetch, load, store, to_result, from_result}
@@ -31,6 +30,7 @@ use Rattle.rewrite_bodies.proofs.Sim.{grown-append, takes_three}
 use Rattle.rewrite_bodies.proofs.TypedNodes.{cuts, grown_types, takes_of}
 use Rattle.rewrite_modules.proofs.Bounds.{Static}
 use Rattle.rewrite_modules.proofs.Stacks.{gives_count, gives_len, Under_call, Under, fewer}
+use Rattle.pm_text.proofs.Lists.{some_is}
 
 -- so many are enough for all but the parameters of calls
 module _ (C : Ctx) (m : Module) (locals : List ValType) (off : Offers C m locals) (N : ℕ) (room : 16 ≤ N) (few : (f : ℕ) (type : FuncType) → type_at C.source f ≡ Some type → length type.params + 16 ≤ N) (few_of : (t : ℕ) (type : FuncType) → slice_get C.source.types t ≡ Some type → length type.params + 16 ≤ N) where

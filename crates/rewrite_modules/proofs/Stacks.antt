@@ -14,10 +14,11 @@ use Rattle.wasm_syntax.specs.Static.{Spot, Live}
 use Rattle.wasm_syntax.specs.Typing.{Context, Arrow, ◌⇒◌, arrow, set_global, within}
 use Rattle.wasm_syntax.specs.Typing as typing
 use Rattle.wasm_laws.proofs.Progress.{takes_len}
-use Rattle.wasm_laws.proofs.Lists.{some_is}
 use Rattle.rewrite_modules.specs.Bare.{bare_nodes}
 use Rattle.wasm_laws.proofs.Validity.{then_found, map_found}
 use Rattle.rewrite_bodies.proofs.TypedNodes.{only_found}
+use Rattle.pm_text.proofs.Lists.{some_is}
+use Rattle.wasm_syntax.proofs.Types.{any_found}
 
 -- ---- what an instruction takes and gives
 
@@ -44,10 +45,6 @@ gives_count (Binary u op) = 1
 gives_count (Convert k) = 1
 gives_count (Extend32 k) = 1
 gives_count (Extend64 k) = 1
-
-any_found : {A B : Type 0} (ls : List A) (o : Option B) (b : B) → typing.if_any ls o ≡ Some b → o ≡ Some b
-any_found [] o b e = absurd (cc)
-any_found (l ∷ ls) o b e = e
 
 pub gives_len : (c : Context) (i : Basic) (t : ValType) (a : Arrow) → arrow c t i ≡ Some a → length a.gives ≡ gives_count i
 gives_len c Nop t a e = sym (ap (λ z. length z.gives) (some_is e))

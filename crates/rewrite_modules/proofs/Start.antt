@@ -23,7 +23,7 @@ use Rattle.wasm_syntax.specs.declared.parts.ElementSeg.{ElementSeg}
 use Rattle.wasm_syntax.specs.declared.parts.DataSeg.{DataSeg}
 use Rattle.wasm_syntax.specs.Run as runs_
 use Rattle.rewrite_modules.proofs.Links.{get_right}
-use Rattle.rewrite_bodies.proofs.TypedNodes.{get_front}
+use Rattle.pm_text.proofs.Lists.{get_front}
 
 -- ---- constant expressions with one more global, a zero
 

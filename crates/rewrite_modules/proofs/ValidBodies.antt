@@ -22,7 +22,7 @@ use Rattle.rewrite_bodies.specs.Guards.{entry_label, type_label, says, helper, h
 use Rattle.rewrite_bodies.specs.Rewrite.{in_body}
 use Rattle.rewrite_bodies.specs.Typed.{Offers, original}
 use Rattle.rewrite_bodies.proofs.TypedPieces.{Ok, ok_basic, ok_const, ok_if, ok_call, at_labels, Open, open_label}
-use Rattle.rewrite_bodies.proofs.TypedNodes.{body_ok, get_front}
+use Rattle.rewrite_bodies.proofs.TypedNodes.{body_ok}
 use Rattle.wasm_laws.proofs.Safe.{Typed, one_result}
 use Rattle.rewrite_modules.specs.Bare.{bare_nodes, bare_tree}
 use Rattle.rewrite_modules.specs.Instrument.{zero_init, new_module, new_nodes, new_body}
@@ -32,6 +32,7 @@ use Rattle.rewrite_modules.proofs.Arms.{ifs_typed, tree_body, tree_wrapper, tree
 use Rattle.rewrite_modules.proofs.Bounds.{room_of}
 use Rattle.rewrite_modules.proofs.FlatOut.{body_out}
 use Rattle.rewrite_modules.proofs.Links.{get_right, declared-append, declared-groups, is_defined, Ready, function_type_kept, import_types, frame_types, helper_type_there}
+use Rattle.pm_text.proofs.Lists.{get_front}
 
 -- ---- typing does not look at offsets
 

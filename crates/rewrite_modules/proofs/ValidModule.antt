@@ -5,7 +5,7 @@ use Rattle.std.specs.List.{AllByRecursion}
 use Rattle.std.proofs.lemmas.Bool.{ltb-false}
 use Rattle.std.proofs.lemmas.List.{length-map}
 use Rattle.std.proofs.lemmas.Slice.Eq.{bytes_eq-Decides}
-use Rattle.std.proofs.lemmas.Option.{slice_get-map}
+use Rattle.std.proofs.lemmas.Option.{slice_get-map, slice_get_within}
 use Rattle.wasm_syntax.specs.declared.value.ValType.{ValType}
 use Rattle.wasm_syntax.specs.declared.value.ValType.TheVariants.{I32}
 use Rattle.wasm_syntax.specs.declared.instruction.Instr.{Instr}
@@ -24,7 +24,7 @@ use Rattle.wasm_syntax.specs.Module.{Program, IsProgram, defined, function_at, f
 use Rattle.wasm_syntax.specs.Valid.{Valid, There, AtIndex, defined_index, FuncTypeFine, ImportFine, DeclarationFine, GlobalFine, ConstBody, ConstTypes, ExportFine, StartFine, ElementFine, DataFine, BodyFine, index_space}
 use Rattle.rewrite_bodies.specs.Numbering.{import_count, mapped, wraps, start_wraps, export_wrapped, wrapped, wrapper_base, helped}
 use Rattle.rewrite_bodies.specs.Guards.{helper, helper_type}
-use Rattle.wasm_laws.proofs.Lists.{some_is, all_of, at_of, there_at, all_append, all_map, get_inside}
+use Rattle.wasm_laws.proofs.Lists.{all_of, at_of, there_at, all_append, all_map}
 use Rattle.wasm_laws.proofs.Safe.{Typed}
 use Rattle.wasm_laws.proofs.Validity.{typed_functions, has_type, start_type}
 use Rattle.rewrite_modules.specs.Collector.{memory_export}
@@ -34,8 +34,8 @@ use Rattle.rewrite_modules.specs.Wrappers.{wrapper}
 use Rattle.rewrite_modules.proofs.Links.{get_right, length-each, Ready, is_defined, parts_of, type_is_of, function_type_kept, wrapper_there}
 use Rattle.rewrite_modules.proofs.ValidBodies.{wrapper_typed, helper_typed, rewritten_typed}
 use Rattle.rewrite_modules.proofs.WrittenOut.{tree_at}
-use Rattle.rewrite_bodies.proofs.TypedNodes.{get_front}
 use Rattle.rewrite_modules.proofs.BareValid.{all_as}
+use Rattle.pm_text.proofs.Lists.{some_is, get_front}
 
 -- ---- lists
 
@@ -94,10 +94,7 @@ type_inside m f type e = inside (slice_get (function_types m) f) refl e
   where
     inside : (o : Option ℕ) → slice_get (function_types m) f ≡ o → option_then o (λ t. slice_get m.types t) ≡ Some type → f < length (function_types m)
     inside None q e = absurd (cc)
-    inside (Some t) q e = get_inside (function_types m) f t q
-
-bytes_refl : (name : List ℕ) → bytes_eq name name ≡ true
-bytes_refl name = (bytes_eq-Decides name name).1 refl
+    inside (Some t) q e = slice_get_within (function_types m) f t q
 
 -- ---- exports
 
@@ -260,7 +257,7 @@ module _ (p : Program) (ready : Ready p) (valid : Valid p.module_) (typed : Type
 
   -- the name of the memory is none of the others
   not_taken : (name : List ℕ) → bytes_eq name (codes "coredump.memory") ≡ false → codes "coredump.memory" ≢ name
-  not_taken name q e = absurd (let z : bytes_eq name name ≡ false = subst (λ x. bytes_eq name x ≡ false) e q in true≢false (sym (bytes_refl name) ∙ z))
+  not_taken name q e = absurd (let z : bytes_eq name name ≡ false = subst (λ x. bytes_eq name x ≡ false) e q in true≢false (sym ((bytes_eq-Decides name name).1 refl) ∙ z))
 
   exports_fine : (i : ℕ) (e : Export) → slice_get m'.exports i ≡ Some e → ExportFine m' i e
   exports_fine i e at = elim (split_at (new_exports m 0 m.exports) (memory_export m.memories) i e at) [
@@ -277,7 +274,7 @@ module _ (p : Program) (ready : Ready p) (valid : Valid p.module_) (typed : Type
       old_fine : (i : ℕ) (e : Export) → NewExport m 0 m.exports i e → ExportFine m' i e
       old_fine i e n =
           let fine = export_fine i n.old n.at in
-          let within = get_inside m.exports i n.old n.at in
+          let within = slice_get_within m.exports i n.old n.at in
           let lt : new_index m n.before (wraps m n.old) n.old.index < index_space m' n.old.kind = space_kept n.old n.before fine.0 (omega (arith, n.room, wrapped_many)) in (
             subst (λ x. x < index_space m' e.kind) (sym n.index) (subst (λ k. new_index m n.before (wraps m n.old) n.old.index < index_space m' k) (sym n.kind) lt),
             λ j f lt at same. let o = old_of j f i lt (omega (arith, within)) at in fine.1 j o.old lt o.at (sym o.name ∙ same ∙ n.name),

@@ -29,11 +29,12 @@ use Rattle.rewrite_bodies.specs.inner.Standing.{Linked, Speaks, Stands}
 use Rattle.rewrite_bodies.proofs.Sim.{len_of, wit, armed, if_zero_to, if_up_to}
 use Rattle.rewrite_bodies.proofs.Control.{get_last}
 use Rattle.rewrite_bodies.proofs.Unwind.{value_to, entry_to, put_last, get_middle}
-use Rattle.rewrite_bodies.proofs.Calls.{types-locals, new_locals, same_types-refl}
+use Rattle.rewrite_bodies.proofs.Calls.{types-locals, new_locals}
 use Rattle.wasm_syntax.specs.Run.{Ended, ended, run_on, run_steps}
 use Rattle.rewrite_modules.specs.Wrappers.{get_all, tell_globals, end_of_dump, after_wrapped, wrapper_nodes}
 use Rattle.rewrite_modules.proofs.Runs.{ReachS, AllMade, run_sim}
 use Rattle.wasm_laws.proofs.Progress.{zero_types}
+use Rattle.wasm_syntax.proofs.Types.{same_types_refl}
 
 -- ---- runs by exact steps, and by steps left
 
@@ -215,7 +216,7 @@ module _ (M M' : Engine) (E : ℕ) (gl : List ValType) (S : Stands M M' E gl) (g
         let depth : nat_lt 1 M'.depth ≡ true = rw S.deeper (lt-ltb 1 (suc (suc M.depth)) (omega arith)) in
         let whole : cut n (reverse args) ≡ parts (reverse args) [] = cut_whole n (reverse args) (length-reverse args ∙ sym len) in
         let twice = reverse-reverse args in
-        let tys : same_types (types args) type.params ≡ true = ap (λ z. same_types z type.params) ty ∙ same_types-refl type.params in
+        let tys : same_types (types args) type.params ≡ true = ap (λ z. same_types z type.params) ty ∙ same_types_refl type.params in
         let locals : args ++ zeros (declared_locals k.new.groups) ≡ (args ++ zeros (declared_locals b.groups)) ++ ex = new_locals args (declared_locals k.new.groups) (declared_locals b.groups) (added k.slots) k.locals in
         let s4 : To M' 1 1 (st X args (reverse args) kc g0 []) mid = one_step M' _ _ (rw (k.target, whole, twice, tys, depth, locals) refl) in
         let s5 : To M' 2 2 mid (image M W source (w0 ∷ [])) = seq M' (one_step M' mid _ refl) (one_step M' _ _ refl) in

@@ -116,13 +116,6 @@ tree_at (b ∷ bs) [] j tree w e = absurd w
 tree_at (b ∷ bs) (t ∷ ts) zero tree w e = let z : t ≡ tree = cc in subst (λ x. IsTree x.nodes) z w.0.arms
 tree_at (b ∷ bs) (t ∷ ts) (suc j) tree w e = tree_at bs ts j tree w.1 e
 
--- the tree of a body
-pub tree_of_body : (bodies : List Body) (trees : List Tree) (j : ℕ) (body : Body) → AllWrite bodies trees → slice_get bodies j ≡ Some body → (tree : Tree) × Writes body.targets body.ops tree
-tree_of_body [] trees j body w e = absurd (cc)
-tree_of_body (b ∷ bs) [] j body w e = absurd w
-tree_of_body (b ∷ bs) (t ∷ ts) zero body w e = (t, (let y : b ≡ body = cc in subst (λ b. Writes b.targets b.ops t) y w.0))
-tree_of_body (b ∷ bs) (t ∷ ts) (suc j) body w e = tree_of_body bs ts j body w.1 e
-
 module _ (p : Program) (w : IsProgram p) (typed : Typed p) where
   pair_at : (f : ℕ) (q : Option Function) → function_at p f ≡ q → Pair (new_body p f q) (new_tree p f q)
   pair_at f None e = pair_of [] stop tt

@@ -6,10 +6,10 @@ use Rattle.wasm_syntax.specs.declared.parts.Body.{Body}
 use Rattle.wasm_syntax.specs.declared.module.ModuleParts.{ModuleParts as Module}
 use Rattle.wasm_syntax.specs.Module.{type_at, option_then}
 use Rattle.wasm_syntax.specs.FlatTyping.{TypesBefore}
-use Rattle.wasm_laws.proofs.Lists.{some_is}
 use Rattle.wasm_validate.specs.Heights.{body_of, AllLow}
 use Rattle.rewrite_modules.specs.LowSizes.{LowHeights}
-use Rattle.rewrite_modules.proofs.FineBodies.{index_back}
+use Rattle.pm_text.proofs.Lists.{some_is}
+use Rattle.wasm_syntax.proofs.Bodies.{index_of}
 
 abbrev at_index : Module → Option ℕ → Option Body
 at_index m o = option_then o (slice_get m.bodies)
@@ -31,5 +31,5 @@ all_low m low f n s =
 
 pub low_heights : (m : Module) → AllLow m → LowHeights m
 low_heights m low i op body type types e lt ty before =
-    let at : body_of m (length m.imports + i) ≡ Some body = ap (at_index m) (index_back m i) ∙ e in
+    let at : body_of m (length m.imports + i) ≡ Some body = ap (at_index m) (index_of m i) ∙ e in
     low (length m.imports + i) (length types) (op, (body, at, lt), types, (type, body, ty, at, before), refl)

@@ -1,8 +1,8 @@
 -- The rewriting of the example, with its bytes.
-use Rattle.std.proofs.Common.{◌≡◌, ℕ, ◌^◌, ◌<◌, Bool, true, false, nat_lt, List, [], ◌∷◌, drop, refl, sym, subst, lit<, arith}
+use Rattle.std.proofs.Common.{◌≡◌, ℕ, ◌^◌, ◌<◌, Bool, true, nat_lt, List, [], ◌∷◌, drop, refl, sym, subst, lit<, arith}
 use Rattle.std.specs.Prelude.{codes, ◌&&◌}
 use Rattle.std.specs.List.{AllByRecursion}
-use Rattle.std.proofs.lemmas.Bool.{ltb-true}
+use Rattle.std.proofs.lemmas.Bool.{ltb-true, and_parts}
 use Rattle.wasm_leb.specs.Writing.{unsigned_bytes, unsigned_groups, signed_bytes, signed_groups}
 use Rattle.wasm_syntax.specs.declared.value.Value.{Value}
 use Rattle.wasm_syntax.specs.declared.value.Value.TheVariants as values
@@ -44,14 +44,6 @@ word_fits : (n : ℕ) → word n ≡ true → n < 2 ^ 32
 unfolding word
 word_fits n e = ltb-true n 4294967296 e
 
-left : (a b : Bool) → (a && b) ≡ true → a ≡ true
-left true b e = refl
-left false b e = absurd cc
-
-right : (a b : Bool) → (a && b) ≡ true → b ≡ true
-right true b e = e
-right false b e = absurd cc
-
 abbrev value_test : Value → Bool
 value_test (values.I32 n) = nat_lt n 4294967296
 value_test (values.I64 n) = nat_lt n 18446744073709551616
@@ -80,8 +72,8 @@ basic_fits (LocalSet x) e = word_fits x e
 basic_fits (LocalTee x) e = word_fits x e
 basic_fits (GlobalGet x) e = word_fits x e
 basic_fits (GlobalSet x) e = word_fits x e
-basic_fits (Load l al of) e = (word_fits al (left (word al) (word of) e), word_fits of (right (word al) (word of) e))
-basic_fits (Store l al of) e = (word_fits al (left (word al) (word of) e), word_fits of (right (word al) (word of) e))
+basic_fits (Load l al of) e = (word_fits al (and_parts (word al) (word of) e).0, word_fits of (and_parts (word al) (word of) e).1)
+basic_fits (Store l al of) e = (word_fits al (and_parts (word al) (word of) e).0, word_fits of (and_parts (word al) (word of) e).1)
 basic_fits MemorySize e = tt
 basic_fits MemoryGrow e = tt
 basic_fits MemoryCopy e = tt
@@ -107,7 +99,7 @@ jump_fits : (j : Jump) → jump_test j ≡ true → JumpFits j
 jump_fits Unreachable e = tt
 jump_fits (Br l) e = word_fits l e
 jump_fits (BrIf l) e = word_fits l e
-jump_fits (BrTable start count default) e = (word_fits count (left (word count) (word default) e), word_fits default (right (word count) (word default) e))
+jump_fits (BrTable start count default) e = (word_fits count (and_parts (word count) (word default) e).0, word_fits default (and_parts (word count) (word default) e).1)
 jump_fits Return e = tt
 jump_fits (Call f) e = word_fits f e
 jump_fits (CallIndirect t) e = word_fits t e
@@ -150,8 +142,8 @@ no_labels instrs.End = tt
 ops_fit : (ops : List Op) → body_test ops ≡ true → AllByRecursion (λ o. IsInside [] o.code) ops → AllByRecursion (λ o. IsCode [] o.code) ops
 ops_fit [] e h = tt
 ops_fit (o ∷ os) e h = (
-  record { numbers = numbers_fit o.code (left (instr_test o.code) (body_test os) e); labels = no_labels o.code; inside = h.0 },
-  ops_fit os (right (instr_test o.code) (body_test os) e) h.1,
+  record { numbers = numbers_fit o.code (and_parts (instr_test o.code) (body_test os) e).0; labels = no_labels o.code; inside = h.0 },
+  ops_fit os (and_parts (instr_test o.code) (body_test os) e).1 h.1,
 )
 
 -- ---- bytes
@@ -162,7 +154,7 @@ low_test (b ∷ bs) = nat_lt b 256 && low_test bs
 
 low_bytes : (bs : List ℕ) → low_test bs ≡ true → AllByRecursion (λ b. b < 256) bs
 low_bytes [] e = tt
-low_bytes (b ∷ bs) e = (ltb-true b 256 (left (nat_lt b 256) (low_test bs) e), low_bytes bs (right (nat_lt b 256) (low_test bs) e))
+low_bytes (b ∷ bs) e = (ltb-true b 256 (and_parts (nat_lt b 256) (low_test bs) e).0, low_bytes bs (and_parts (nat_lt b 256) (low_test bs) e).1)
 
 -- ---- the example
 

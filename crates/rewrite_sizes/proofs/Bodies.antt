@@ -18,7 +18,7 @@ use Rattle.rewrite_bodies.specs.Typed.{original}
 use Rattle.rewrite_bodies.specs.Length.{code_length}
 use Rattle.rewrite_bodies.proofs.LengthsNodes.{bodies_short}
 use Rattle.rewrite_bodies.proofs.TypedPieces.{at_labels}
-use Rattle.wasm_laws.proofs.Lists.{some_is, at_of}
+use Rattle.wasm_laws.proofs.Lists.{at_of}
 use Rattle.wasm_laws.proofs.Safe.{Typed, one_result}
 use Rattle.rewrite_modules.specs.Given.{Given}
 use Rattle.rewrite_modules.specs.Instrument.{new_nodes}
@@ -26,13 +26,14 @@ use Rattle.rewrite_modules.specs.Instrumentable.{program_of, Instrumentable}
 use Rattle.rewrite_modules.specs.Weight.{height_at, ops_weight, bodies_weight}
 use Rattle.rewrite_modules.proofs.Bounds.{room_of}
 use Rattle.rewrite_modules.proofs.Links.{is_defined, type_is_of, sizes_fit}
-use Rattle.rewrite_modules.proofs.Modules.{length-declared, module_given}
+use Rattle.rewrite_modules.proofs.Modules.{module_given}
 use Rattle.rewrite_modules.proofs.Theorem.{startable_given, ready_given}
 use Rattle.rewrite_sizes.specs.Light.{BodiesLight, rewritten_length, rewritten_lengths}
 use Rattle.rewrite_sizes.proofs.Totals.{total_many}
 use Rattle.rewrite_sizes.proofs.Weights.{body_weighs}
 use Rattle.rewrite_sizes.proofs.Sections.{import_some, contents_least}
-use Rattle.wasm_laws.proofs.Validity.{tree_there}
+use Rattle.pm_text.proofs.Lists.{some_is}
+use Rattle.wasm_syntax.proofs.Bodies.{tree_there, declared_length}
 
 module _ (m : Module) (x : Instrumentable m) (sized : Sized m) where
   abbrev p : Program
@@ -72,7 +73,7 @@ module _ (m : Module) (x : Instrumentable m) (sized : Sized m) where
       let fits = sizes_fit p ready f b tree type d at in
       let ty : type_at m (length m.imports + i) ≡ Some type = type_is_of p f (defined b tree type) at in
       let locals : local_count (type_at m (length m.imports + i)) b ≡ length type.params + sum (map (λ g. g.count) b.groups) = ap (λ o. local_count o b) ty in
-      let all_locals : length C.locals ≡ length type.params + sum (map (λ g. g.count) b.groups) = omega (arith, length-append type.params (declared_locals b.groups), length-declared b.groups) in
+      let all_locals : length C.locals ≡ length type.params + sum (map (λ g. g.count) b.groups) = omega (arith, length-append type.params (declared_locals b.groups), declared_length b.groups) in
       let low : length C.locals + (2 * slots + 4) ≤ 268435456 = omega (arith, fits.0, fits.1, given.few_locals, given.few_heights) in
       let low1 : import_count C.source + 3 ≤ 268435456 = omega (arith, few_imports) in
       let one : reverse type.results ≡ option_to_list (result_of type) = one_result type.results (typed_.few f (defined b tree type) at) in

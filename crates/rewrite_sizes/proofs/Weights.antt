@@ -32,12 +32,12 @@ use Rattle.rewrite_bodies.proofs.TypedNodes.{cuts, grown_types, takes_of}
 use Rattle.wasm_laws.proofs.FlatBodies.{tree_steps, inside_body}
 use Rattle.wasm_laws.proofs.Safe.{Typed, one_result}
 use Rattle.wasm_laws.proofs.FlatStatic.{write_append, dead_pass}
-use Rattle.wasm_laws.proofs.Lists.{some_is}
 use Rattle.rewrite_modules.specs.Weight.{height_at, AreHeights, extra, ops_weight}
 use Rattle.rewrite_modules.proofs.Links.{is_defined, type_is_of}
 use Rattle.rewrite_sizes.proofs.Items.{item_length, item_short}
-use Rattle.wasm_laws.proofs.Validity.{tree_there}
 use Rattle.rewrite_modules.proofs.Heights.{arrow_labels}
+use Rattle.pm_text.proofs.Lists.{some_is}
+use Rattle.wasm_syntax.proofs.Bodies.{tree_there}
 
 -- ---- the weight of flat code, item by item
 

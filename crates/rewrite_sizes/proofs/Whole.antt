@@ -25,7 +25,7 @@ use Rattle.rewrite_sizes.proofs.Items.{old_expression, all_used, peak_few}
 use Rattle.rewrite_sizes.proofs.Bodies.{few_imports, code_short, same_body, from_first}
 use Rattle.rewrite_sizes.proofs.Pieces.{plain_entry, wrapper_entry, helper_entry, slots_entry}
 use Rattle.rewrite_sizes.proofs.Sections.{contents, contents_least, contents_most, contents_bare, types_grow, imports_grow, functions_grow, globals_grow, exports_grow, elements_grow}
-use Rattle.wasm_laws.proofs.Validity.{tree_there}
+use Rattle.wasm_syntax.proofs.Bodies.{tree_there}
 
 -- ---- wrappers: as many as exports of functions and the start function weigh
 

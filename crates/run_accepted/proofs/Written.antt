@@ -12,7 +12,6 @@ use Rattle.wasm_syntax.specs.Machine.{Config}
 use Rattle.wasm_syntax.specs.Module.{Program}
 use Rattle.wasm_syntax.specs.Valid.{Valid}
 use Rattle.wasm_syntax.specs.Run.{Outcome as RunOutcome, not_started, finished, trapped, lacks_reply, misfits, running, got_stuck, Ran, run}
-use Rattle.wasm_laws.proofs.Lists.{some_is}
 use Rattle.wasm_decode.specs.declared.fault.DecodeFault.{DecodeFault}
 use Rattle.wasm_decode.specs.declared.fault.DecodeFault.TheVariants.{NoMemory, Malformed, Float, ImportKind, Limit}
 use Rattle.wasm_decode.specs.Decode.{module_from}
@@ -41,6 +40,7 @@ use Rattle.accept_laws.specs.Accepted.{IsAcceptedIfFew, TrapAccepted, TrapsAccep
 use Rattle.accept_laws.proofs.Spelled.{decoded}
 use Rattle.accept_laws.proofs.Traps.{traps_accepted}
 use Rattle.run_accepted.specs.Accepted.{AllAccepted, DumpsAccepted, InBounds, HoldBytes}
+use Rattle.pm_text.proofs.Lists.{some_is}
 
 -- ---- the files of the dumps
 

@@ -55,12 +55,9 @@ use Rattle.run_session.proofs.Held.{part_also}
 use Rattle.dump_write.specs.Written.{OnTold}
 use Rattle.command_answers.proofs.Unless.{OnAnswer}
 use Rattle.run_command.proofs.Hostings.{Began, GaveBack, by_script, logs}
+use Rattle.run_session.proofs.Stops.{map_stop}
 
 -- ---- facts on results
-
-pub map_stop : (P Q : Stop → Type 0) (result : Result Outcome WantOfMemory) → ((stop : Stop) → P stop → Q stop) → OnStop P result → OnStop Q result
-map_stop P Q (Err e) go x = go no_memory x
-map_stop P Q (Ok o) go x = λ faulted. let k = x faulted in record { file = k.file; named = k.named; failed = go (file_failed k.file) k.failed; memory = go no_memory k.memory }
 
 -- where no file can have failed
 pub only_want : (P : Stop → Type 0) (result : Result Outcome WantOfMemory) → P no_memory → IfOk result (λ o. o.status ≡ status.FileFault → ⊥) → OnStop P result

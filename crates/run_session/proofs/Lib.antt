@@ -12,3 +12,4 @@ mod Ones
 mod Nexts
 pub mod Whole
 mod WrittenFile
+pub mod Stops

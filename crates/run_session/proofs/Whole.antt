@@ -4,7 +4,6 @@ use Rattle.std.specs.Prelude.{All, IfOk}
 use Rattle.std.proofs.Math.Path.{fun_ext}
 use Rattle.std.proofs.Math.Seq.{take-suc}
 use Rattle.std.proofs.lemmas.List.{append-nil, drop_all, length-drop, map-append, take-append-drop}
-use Rattle.causes.specs.Counts.{Rose}
 use Rattle.causes.specs.declared.NoMemory.{NoMemory as WantOfMemory}
 use Rattle.pm_outside.specs.Contents.{Contents}
 use Rattle.wasm_syntax.specs.declared.parts.Import.{Import}
@@ -95,9 +94,6 @@ of_goes turn P is x = subst (λ t. IfGoesOn P t) is x
 
 pub of_refused : (turn : Turn) (o : Outcome) (P : Outcome → Type 0) → turn ≡ Refused o → IfTurnRefused P turn → P o
 of_refused turn o P is x = subst (λ t. IfTurnRefused P t) is x
-
-pub rose_since : (a b c : ℕ) → a ≤ b → Rose b c → Rose a c
-rose_since a b c le rose = omega (arith, le, rose)
 
 -- each of them may be begun, where what is served did not change
 pub entry_now : (old now : Import → FuncType → Bool) → ((i : Import) (type : FuncType) → now i type ≡ old i type) → (m n : Module) → n ≡ m → (all xs : List InvocationWords) → xs ≡ all → All (λ i. entry_fault old m i.entry i.args ≡ None) all

@@ -12,9 +12,9 @@ use Rattle.command_answers.proofs.Unless.{OnAnswer, map_answer}
 use Rattle.run_session.specs.Stop.{Stop, no_memory, file_failed, OnStop}
 use Rattle.run_session.specs.Written.{HoldThen}
 use Rattle.instrument_command.specs.Stops.{IsFailed}
-use Rattle.instrument_command.proofs.Stopping.{map_stop}
 use Rattle.selftest_command.specs.Stops.{HasThenFront, Left, SameButBoth}
 use Rattle.run_session.proofs.Held.{one_held}
+use Rattle.run_session.proofs.Stops.{map_stop}
 
 -- ---- one file
 

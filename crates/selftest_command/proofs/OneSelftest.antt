@@ -4,7 +4,6 @@ use Rattle.std.specs.Prelude.{codes}
 use Rattle.wasm_syntax.specs.declared.module.ModuleParts.{ModuleParts as Module}
 use Rattle.wasm_syntax.specs.Machine.{Config}
 use Rattle.wasm_syntax.specs.Run.{Ran, run}
-use Rattle.wasm_laws.proofs.Lists.{some_is}
 use Rattle.wasm_decode.specs.Decode.{module_from}
 use Rattle.dump_write.specs.Image.{image}
 use Rattle.dump_write.specs.ImageBytes.{bytes_of}
@@ -15,6 +14,7 @@ use Rattle.selftest_laws.proofs.OneProgram.{same_program}
 use Rattle.selftest_command.specs.Summary.{summary}
 use Rattle.selftest_command.specs.SelftestAnswer.{module_bytes, division, SelftestAnswer, OneDump}
 use Rattle.selftest_command.proofs.Steps.{ok_is}
+use Rattle.pm_text.proofs.Lists.{some_is}
 
 -- one module has one run
 one_run : (collecting : Bool) (n : ℕ) (m other : Module) → m ≡ other → (r : RunsOnce collecting n m) (s : RunsOnce collecting n other) → r.ran ≡ s.ran

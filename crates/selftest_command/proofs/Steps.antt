@@ -27,15 +27,15 @@ use Rattle.run_session.specs.Stop.{OnStop}
 use Rattle.run_session.specs.Telling.{memory_in}
 use Rattle.run_session.specs.Written.{HoldThen}
 use Rattle.instrument_command.specs.inner.Steps.{Refuses}
-use Rattle.instrument_command.proofs.Stopping.{map_stop}
 use Rattle.selftest_module.specs.Selftest.{selftest}
 use Rattle.selftest_laws.specs.Handing.{fuel, HandsAllOver}
-use Rattle.selftest_laws.proofs.Handed.{length_images}
 use Rattle.selftest_laws.proofs.Taken.{accepted, all_handed}
 use Rattle.selftest_command.specs.Summary.{summary}
 use Rattle.selftest_command.specs.SelftestAnswer.{module_file, rewritten_file, module_bytes, both_files, IsRewritten, division, SelftestAnswer, AnsweredOn}
 use Rattle.selftest_command.specs.Stops.{Left, SelftestStops}
 use Rattle.selftest_command.specs.inner.Steps.{IsTaken, IsSelftest, dumped, Runs, RunsBytes}
+use Rattle.dump_write.proofs.Images.{images_count}
+use Rattle.run_session.proofs.Stops.{map_stop}
 
 -- ---- the run
 
@@ -66,7 +66,7 @@ line_of n m other o all r =
     let name = codes "module" in
     let told : r.delivery ≡ whole (handed_by w) = one ran.collected r.delivery (whole (handed_by w)) r.delivers (w, refl) in
     let memory : memory_in ran.last ≡ memory_of h.there = ap memory_in h.last in
-    let frames : length (handed_by w).frames ≡ n = ap (λ (d : Dump). length d.frames) (h.shows.dump name short) ∙ length_images all.divides.at.frames ∙ all.divides.frames in
+    let frames : length (handed_by w).frames ≡ n = ap (λ (d : Dump). length d.frames) (h.shows.dump name short) ∙ images_count all.divides.at.frames ∙ all.divides.frames in
     let bytes : bytes_of (dump_of (handed_by w) (memory_in ran.last) name) ≡ bytes_of (image all.divides.at name) = ap (λ b. bytes_of (dump_of (handed_by w) b name)) memory ∙ h.shows.bytes name short in
     let is : dumped (whole (handed_by w)) (memory_in ran.last) ≡ division n (bytes_of (image all.divides.at name)) = λ i. record { kind = h.shows.kind i; frames = frames i; bytes = bytes i } in
     r.answer ∙ ap (λ d. summary n (dumped d (memory_in ran.last)) (fuel - ran.left)) told ∙ ap (λ d. summary n d (fuel - ran.left)) is

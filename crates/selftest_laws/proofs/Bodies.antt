@@ -23,7 +23,7 @@ use Rattle.wasm_syntax.specs.Tree.{code_of, item_of}
 use Rattle.wasm_syntax.specs.Typing.{Context, Arrow, ◌⇒◌, arrow, if_any, only_if, aligned, body_context}
 use Rattle.wasm_syntax.specs.FlatTyping.{OpenBlock, opened, inside, given, FlatStep, FlatTypes, body_block, dead_behind, all_types, TypesBefore}
 use Rattle.wasm_syntax.specs.Valid.{Valid}
-use Rattle.wasm_laws.proofs.Lists.{some_is, all_append}
+use Rattle.wasm_laws.proofs.Lists.{all_append}
 use Rattle.rewrite_sizes.proofs.Totals.{all_from_map}
 use Rattle.rewrite_modules.specs.Weight.{height_at, AreHeights}
 use Rattle.rewrite_modules.proofs.FineBodies.{fine_at, gives_one}
@@ -31,6 +31,7 @@ use Rattle.rewrite_modules.proofs.Multiple.{live_or, before_live}
 use Rattle.selftest_module.specs.Selftest.{number, constant, local_get, add, mix, mixed, beginning, mixing, ending, function_code, ops_from, body_of, bodies, selftest}
 use Rattle.selftest_laws.proofs.Running.{two_to_one}
 use Rattle.selftest_module.proofs.Sizes.{length_code}
+use Rattle.pm_text.proofs.Lists.{some_is}
 
 -- ---- instructions that add at most one operand
 

@@ -6,13 +6,11 @@ use Rattle.std.proofs.lemmas.List.{length-map}
 use Rattle.wasm_syntax.specs.declared.module.ModuleParts.{ModuleParts as Module}
 use Rattle.wasm_syntax.specs.SameCode.{code_alone}
 use Rattle.wasm_syntax.specs.Module.{Program, IsProgram, IsModule}
-use Rattle.wasm_syntax.specs.Machine.{Frame, Config}
+use Rattle.wasm_syntax.specs.Machine.{Config}
 use Rattle.wasm_syntax.specs.Run.{Outcome, not_started, finished, trapped, lacks_reply, misfits, running, got_stuck, Ran, ran, run}
 use Rattle.wasm_syntax.specs.Valid.{Valid}
 use Rattle.wasm_laws.specs.Runs.{with_more}
-use Rattle.wasm_laws.proofs.Lists.{some_is}
 use Rattle.wasm_laws.proofs.Longer.{longer_run}
-use Rattle.dump_write.specs.Image.{frame_images}
 use Rattle.rewrite_modules.specs.Bare.{bare_module, bare, bare_frame, bare_config, bare_ran}
 use Rattle.rewrite_modules.specs.Instrumentable.{program_of}
 use Rattle.rewrite_modules.specs.Multiple.{multiple}
@@ -28,6 +26,7 @@ use Rattle.selftest_laws.proofs.Trapped.{Traps, traps_so}
 use Rattle.selftest_laws.proofs.Bodies.{like}
 use Rattle.selftest_laws.proofs.Light.{framed, multiple_few}
 use Rattle.selftest_module.proofs.Whole.{all_write}
+use Rattle.pm_text.proofs.Lists.{some_is}
 
 -- ---- the same run without offsets
 
@@ -101,10 +100,6 @@ stays_one p collecting n d steps more one r kind le outcome is runs =
     some_is (ap (λ l. slice_get l 0) (sym runs) ∙ stays)
 
 -- ---- the rewritten module
-
-pub length_images : (fs : List Frame) → length (frame_images fs) ≡ length fs
-length_images [] = refl
-length_images (f ∷ fs) = ap suc (length-map fs _)
 
 abbrev kind_of : Outcome → ℕ
 kind_of (trapped kind) = kind

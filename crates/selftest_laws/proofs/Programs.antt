@@ -15,6 +15,7 @@ use Rattle.selftest_module.proofs.Lines.{line}
 use Rattle.selftest_module.proofs.Functions.{tree_at, get_replicate}
 use Rattle.selftest_laws.proofs.Straight.{Follows}
 use Rattle.selftest_laws.proofs.Running.{two_to_one, HasCode}
+use Rattle.pm_text.proofs.Lists.{get_range}
 
 -- ---- straight code
 
@@ -68,11 +69,6 @@ straight_front n i =
 
 abbrev pub program : ℕ → Program
 program n = record { module_ = selftest n; trees = map (tree_at n) (range_with_len 0 n) }
-
-get_range : (a n i : ℕ) → i < n → slice_get (range_with_len a n) i ≡ Some (a + i)
-get_range a zero i h = absurd (omega (arith, h))
-get_range a (suc n) zero h = let e : a ≡ a + 0 = omega arith in ap Some e
-get_range a (suc n) (suc i) h = let e : a + 1 + i ≡ a + suc i = omega arith in get_range (a + 1) n i (omega (arith, h)) ∙ ap Some e
 
 pub get_each : {A : Type 0} (f : ℕ → A) (n i : ℕ) → i < n → slice_get (map f (range_with_len 0 n)) i ≡ Some (f i)
 get_each f n i lt = let e : 0 + i ≡ i = omega arith in get_map f (range_with_len 0 n) i ∙ ap (option_map f) (get_range 0 n i lt ∙ ap Some e)

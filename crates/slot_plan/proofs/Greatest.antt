@@ -12,11 +12,11 @@ use Rattle.wasm_syntax.specs.Valid.{defined_index}
 use Rattle.wasm_laws.proofs.Lists.{at_of}
 use Rattle.wasm_validate.specs.Heights.{body_of, TypesAt, HasOp, HeightIs, StandsIn, AllLow}
 use Rattle.wasm_validate.proofs.Order.{index_back}
-use Rattle.rewrite_modules.proofs.Modules.{length-declared}
 use Rattle.rewrite_bodies.specs.Slots.{Place}
 use Rattle.slot_plan.specs.Plans.{own_types, planned, Fits}
 use Rattle.slot_plan.specs.inner.Greatest.{height_or_zero, IsGreatestUpTo}
 use Rattle.wasm_laws.proofs.Validity.{then_found}
+use Rattle.wasm_syntax.proofs.Bodies.{declared_length}
 
 pub none_greatest : (m : Module) (f : ℕ) → IsGreatestUpTo m f 0 0
 none_greatest m f = record { bound = λ op types lt h. absurd (omega (arith, lt)); there = inl refl }
@@ -62,7 +62,7 @@ fits m f n slots body before l low e g =
   where
     own_count : (q : Option FuncType) → length (own_types q body) ≤ local_count q body
     own_count None = omega arith
-    own_count (Some type) = omega (arith, length-append type.params (declared_locals body.groups), length-declared body.groups)
+    own_count (Some type) = omega (arith, length-append type.params (declared_locals body.groups), declared_length body.groups)
 
 -- where the parts are those of the module
 pub fits_from : (m parts : Module) (f n slots : ℕ) (body : Body) (locals : List ValType) (before : List (Option (List Place))) → parts ≡ m → WithinLimits m → AllLow m → body_of parts f ≡ Some body → IsGreatestUpTo m f n slots →

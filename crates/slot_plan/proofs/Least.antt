@@ -15,9 +15,8 @@ use Rattle.wasm_syntax.specs.Typing.{Types, IsBody, body_context}
 use Rattle.wasm_syntax.specs.FlatTyping.{OpenBlock, opened, inside, FlatTypes, body_block, dead_behind, AllLive, all_types, TypesBefore}
 use Rattle.wasm_laws.proofs.FlatBodies.{inside_body, body_steps}
 use Rattle.wasm_laws.proofs.FlatOne.{one_before}
-use Rattle.wasm_laws.proofs.Lists.{some_is}
 use Rattle.wasm_laws.proofs.Safe.{Typed, one_result}
-use Rattle.wasm_laws.proofs.Validity.{typed, tree_there}
+use Rattle.wasm_laws.proofs.Validity.{typed}
 use Rattle.wasm_syntax.specs.Valid.{Valid}
 use Rattle.wasm_validate.specs.Heights.{body_of, TypesAt}
 use Rattle.wasm_validate.proofs.HeightLaws.{at_of}
@@ -29,6 +28,8 @@ use Rattle.rewrite_modules.proofs.Multiple.{slots_high, code_length}
 use Rattle.slot_plan.specs.Before.{before, kept_at}
 use Rattle.slot_plan.specs.Plans.{own_types, planned, IsPlan}
 use Rattle.slot_plan.specs.inner.Greatest.{IsGreatestUpTo}
+use Rattle.pm_text.proofs.Lists.{some_is}
+use Rattle.wasm_syntax.proofs.Bodies.{tree_there}
 
 module _ (p : Program) (write_ : IsProgram p) (typed_ : Typed p) (f : ℕ) (b : Body) (tree : Tree) (type : FuncType) (at : function_at p f ≡ Some (defined b tree type)) where
   abbrev m : Module

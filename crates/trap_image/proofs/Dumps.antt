@@ -1,13 +1,13 @@
 -- The image of a configuration, from its parts.
-use Rattle.std.proofs.Common.{◌≡◌, ℕ, suc, ◌+◌, List, [], ◌∷◌, ◌++◌, length, map, take, refl, ap, subst, ◌∙◌, Option, Some, None}
+use Rattle.std.proofs.Common.{◌≡◌, ℕ, ◌+◌, List, [], ◌∷◌, ◌++◌, map, take, ap, subst, ◌∙◌, Option, Some, None}
 use Rattle.std.specs.Prelude.{option_map, slice_get}
-use Rattle.std.proofs.lemmas.List.{take_more, map-append, length-map}
+use Rattle.std.proofs.lemmas.List.{take_more, map-append}
 use Rattle.std.proofs.lemmas.Option.{slice_get_within, get_or_from_slice_get}
 use Rattle.linear_memory.specs.Memory.{Memory}
 use Rattle.linear_memory.specs.Paged.{Paged}
 use Rattle.wasm_syntax.specs.declared.value.Value.{Value}
-use Rattle.wasm_syntax.specs.Machine.{Frame, Config}
-use Rattle.dump_write.specs.Image.{DumpFrame, frame_image, frame_images, image, Dump as Image}
+use Rattle.wasm_syntax.specs.Machine.{Config}
+use Rattle.dump_write.specs.Image.{DumpFrame, frame_images, image, Dump as Image}
 use Rattle.dump_write.specs.ImageBytes.{frame_of}
 use Rattle.dump_image.specs.Pictured.{bytes_in}
 
@@ -31,7 +31,3 @@ pub frame_more : (xs : List DumpFrame) (i : ℕ) (x : DumpFrame) → slice_get x
 frame_more xs i x there =
     ap (λ (ys : List DumpFrame). map frame_of ys) (take_more xs i x (slice_get_within xs i x there) ∙ ap (λ (y : DumpFrame). take i xs ++ y ∷ []) (get_or_from_slice_get xs i x x there))
     ∙ map-append frame_of (take i xs) (x ∷ [])
-
-pub images_count : (fs : List Frame) → length (frame_images fs) ≡ length fs
-images_count [] = refl
-images_count (f ∷ fs) = ap (λ (n : ℕ). suc n) (length-map fs (λ g. frame_image g.call g))

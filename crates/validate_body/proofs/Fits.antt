@@ -2,16 +2,17 @@
 use Rattle.std.proofs.Common.{◌≡◌, List, [], ◌∷◌, ◌++◌, map, refl, sym, ap, subst, ◌∙◌}
 use Rattle.std.specs.Prelude.{Bool, true, false, Option, Some, None, option_to_list}
 use Rattle.wasm_syntax.specs.declared.value.ValType.{ValType}
-use Rattle.wasm_syntax.specs.declared.value.ValType.TheVariants.{I32, I64}
+use Rattle.wasm_syntax.specs.declared.value.ValType.TheVariants.{I32}
 use Rattle.wasm_syntax.specs.Numbers.{same_type}
 use Rattle.wasm_syntax.specs.Typing.{Arrow}
 use Rattle.validate_stack.specs.Frames.{Known, Frame, set_known, labels, pop_type, pop, push, pops, pushes, forget}
 use Rattle.validate_body.specs.inner.Algorithm.{apply}
-use Rattle.validate_body.proofs.Options.{none_is, same_type_is, IsNil, then_some, map_inv, map_some, if_inv}
+use Rattle.validate_body.proofs.Options.{none_is, IsNil, then_some, map_inv, map_some, if_inv}
 use Rattle.wasm_syntax.specs.FlatTyping.{OpenBlock, opened, label_types, given}
-use Rattle.wasm_laws.proofs.Lists.{some_is}
 use Rattle.wasm_laws.proofs.Validity.{then_found}
 use Rattle.wasm_laws.proofs.FlatSteps.{given_none}
+use Rattle.pm_text.proofs.Lists.{some_is}
+use Rattle.wasm_syntax.proofs.Types.{same_type_is, same_type_refl}
 
 abbrev pub Fits : Known → Bool → List ValType → Type 0
 Fits [] false ts = ts ≡ []
@@ -31,10 +32,6 @@ FitAll (f ∷ fs) (g ∷ gs) = Fit f g × FitAll fs gs
 
 -- ---- one operand
 
-pub same_self : (t : ValType) → same_type t t ≡ true
-same_self I32 = refl
-same_self I64 = refl
-
 pub type_sound : (free : Bool) (ks ls : Known) (t : ValType) (below : List ValType) → pop_type free ks t ≡ Some ls → Fits ls free below → Fits ks free (t ∷ below)
 type_sound false [] ls t below e h = absurd (none_is e)
 type_sound true [] ls t below e h = tt
@@ -47,7 +44,7 @@ pub type_complete : (free : Bool) (ks : Known) (t : ValType) (below : List ValTy
 type_complete false [] t below h = absurd (subst IsNil (sym h) tt)
 type_complete true [] t below h = ([], refl, tt)
 type_complete free (None ∷ ks) t below h = (ks, refl, h)
-type_complete free (Some u ∷ ks) t below h = (ks, rw (h.0, same_self t) refl, h.1)
+type_complete free (Some u ∷ ks) t below h = (ks, rw (h.0, same_type_refl t) refl, h.1)
 
 pub no_below : (free : Bool) → Fits [] free []
 no_below false = refl

@@ -20,8 +20,8 @@ use Rattle.validate_body.specs.Marks.{flags, AllSome, Sure}
 use Rattle.validate_body.proofs.Options.{none_is, map_inv, if_inv}
 use Rattle.validate_body.proofs.Jumps.{any_sound_inv, drop_inv}
 use Rattle.validate_body.proofs.Same.{emptied_inv, else_inv}
-use Rattle.wasm_laws.proofs.Lists.{some_is}
 use Rattle.wasm_laws.proofs.Validity.{then_found}
+use Rattle.pm_text.proofs.Lists.{some_is}
 
 abbrev pub Kept : List Frame → List Frame → Type 0
 Kept fs fs' = (flags fs' ≡ flags fs) × (Sure fs → Sure fs')

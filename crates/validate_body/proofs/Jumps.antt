@@ -13,12 +13,13 @@ use Rattle.wasm_syntax.specs.Module.{type_at, option_then}
 use Rattle.wasm_syntax.specs.Typing.{Context, Arrow, ◌⇒◌, Above, OnTop, BasicTypes, JumpTypes, IsLabel, AreLabels, arrow, call_arrow, if_any}
 use Rattle.validate_stack.specs.Frames.{Known, Frame, set_known, labels, label, pop_type, pop_any, pops, forget}
 use Rattle.validate_body.specs.inner.Algorithm.{apply, drop_any, both, select_known, select, step_basic, step_jump, same_option, is_label, targets_fit}
-use Rattle.validate_body.proofs.Options.{none_is, same_type_is, IsNil, then_some, map_inv, map_some, if_inv, if_some}
+use Rattle.validate_body.proofs.Options.{none_is, IsNil, then_some, map_inv, map_some, if_inv, if_some}
 use Rattle.wasm_syntax.specs.FlatTyping.{OpenBlock, opened, given, inside}
-use Rattle.validate_body.proofs.Fits.{Fits, FitAll, same_self, type_sound, type_complete, pops_sound, pops_complete, apply_sound, apply_complete, forget_sound, forget_complete, retype, labels_fit}
+use Rattle.validate_body.proofs.Fits.{Fits, FitAll, type_sound, type_complete, pops_sound, pops_complete, apply_sound, apply_complete, forget_sound, forget_complete, retype, labels_fit}
 use Rattle.std.proofs.lemmas.Bool.{and_parts, and_from}
-use Rattle.wasm_laws.proofs.Lists.{some_is}
 use Rattle.wasm_laws.proofs.Validity.{then_found}
+use Rattle.pm_text.proofs.Lists.{some_is}
+use Rattle.wasm_syntax.proofs.Types.{same_type_is, same_type_refl}
 
 -- ---- an arrow, and what lies on top before a transfer
 
@@ -111,7 +112,7 @@ both_sound (Some u) (Some v) k t e o =
 both_complete : (a b : Option ValType) (t : ValType) → FitsOne a t → FitsOne b t → (k : Option ValType) × (both a b ≡ Some k) × FitsOne k t
 both_complete None b t o p = (b, refl, p)
 both_complete (Some u) None t o p = (Some u, refl, o)
-both_complete (Some u) (Some v) t o p = (Some u, rw (o, p, same_self t) refl, o)
+both_complete (Some u) (Some v) t o p = (Some u, rw (o, p, same_type_refl t) refl, o)
 
 select_sound : (free : Bool) (ks ls : Known) (ts : List ValType) → select_known free ks ≡ Some ls → Fits ls free ts → (t : ValType) × (below : List ValType) × (ts ≡ t ∷ below) × Fits ks free (I32 ∷ t ∷ t ∷ below)
 select_sound free ks ls ts e h =
@@ -290,7 +291,7 @@ same_lists : (t u : Option ValType) → option_to_list t ≡ option_to_list u �
 same_lists None None e = refl
 same_lists None (Some u) e = absurd (cc)
 same_lists (Some t) None e = absurd (cc)
-same_lists (Some t) (Some u) e = let q : t ≡ u = cc in rw (q, same_self u) refl
+same_lists (Some t) (Some u) e = let q : t ≡ u = cc in rw (q, same_type_refl u) refl
 
 one_target : (c : Context) (fs : List Frame) (gs : List OpenBlock) (n : ℕ) (t : Option ValType) (l : Option (Option ValType)) → FitAll fs gs → label fs n ≡ l → is_label t l ≡ true → IsLabel (inside c gs) n (option_to_list t)
 one_target c fs gs n t None h q e = absurd (cc)

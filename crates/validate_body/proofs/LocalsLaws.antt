@@ -6,8 +6,9 @@ use Rattle.wasm_syntax.specs.declared.parts.LocalGroup.{LocalGroup}
 use Rattle.wasm_syntax.specs.Module.{declared_locals}
 use Rattle.std.proofs.lemmas.List.{append-nil}
 use Rattle.std.proofs.lemmas.Option.{slice_get-get_or}
-use Rattle.wasm_laws.proofs.Lists.{get_front, get_behind}
+use Rattle.wasm_laws.proofs.Lists.{get_front}
 use Rattle.validate_body.specs.inner.Locals.{ends, Splits}
+use Rattle.pm_text.proofs.Lists.{get_behind}
 
 pub ends_length : (n : ℕ) (gs : List LocalGroup) → length (ends n gs) ≡ length gs
 ends_length n [] = refl

@@ -1,7 +1,7 @@
 -- The marks that the algorithm leaves are those of the typing.
 use Rattle.std.proofs.Common.{◌≡◌, ℕ, zero, suc, ◌+◌, ◌<◌, ◌≤◌, List, [], ◌∷◌, ◌++◌, map, length, take, reverse, slice_get, refl, sym, ap, subst, ◌∙◌, arith, length-append, inl, inr, ⊎_elim}
 use Rattle.std.proofs.lemmas.Option.{slice_get_within}
-use Rattle.wasm_laws.proofs.Lists.{get_front, get_behind, some_is}
+use Rattle.wasm_laws.proofs.Lists.{get_front}
 use Rattle.std.proofs.lemmas.List.{length-reverse, reverse-reverse, reverse-append, map-append}
 use Rattle.std.specs.Prelude.{Bool, true, false, ◌⊎◌, Option, Some, None}
 use Rattle.wasm_syntax.specs.declared.value.ValType.{ValType}
@@ -21,6 +21,7 @@ use Rattle.validate_body.proofs.Same.{run_sound, run_complete, only_begin}
 use Rattle.validate_body.proofs.Flags as next
 use Rattle.std.proofs.lemmas.Bool.{or_parts}
 use Rattle.wasm_laws.proofs.FlatOne.{one_result_of}
+use Rattle.pm_text.proofs.Lists.{some_is, get_behind}
 
 -- ---- live frames know all their types
 

@@ -4,18 +4,10 @@ use Rattle.std.specs.Prelude.{List, [], ◌∷◌, Bool, true, false, Option, So
 use Rattle.wasm_syntax.specs.Module.{option_then}
 use Rattle.wasm_syntax.specs.Typing.{only_if}
 use Rattle.wasm_syntax.specs.declared.value.ValType.{ValType}
-use Rattle.wasm_syntax.specs.declared.value.ValType.TheVariants.{I32, I64}
-use Rattle.wasm_syntax.specs.Numbers.{same_type}
-use Rattle.wasm_laws.proofs.Lists.{some_is}
+use Rattle.pm_text.proofs.Lists.{some_is}
 
 pub none_is : {A B : Type 0} {x : A} → None ≡ Some x → B
 none_is e = absurd (cc)
-
-pub same_type_is : (t u : ValType) → same_type t u ≡ true → t ≡ u
-same_type_is I32 I32 e = refl
-same_type_is I32 I64 e = absurd (cc)
-same_type_is I64 I32 e = absurd (cc)
-same_type_is I64 I64 e = refl
 
 abbrev pub IsNil : List ValType → Type 0
 IsNil [] = Unit {0}

@@ -1,6 +1,6 @@
 -- One stack of types with heights, as frames.
 use Rattle.std.proofs.Common.{◌≡◌, ℕ, zero, suc, ◌+◌, ◌-◌, ◌<◌, ◌≤◌, List, [], ◌∷◌, ◌++◌, length, take, drop, reverse, refl, sym, ap, subst, ◌∙◌, arith}
-use Rattle.std.proofs.lemmas.List.{reverse-append, length-reverse, take-append-drop, drop_at, length-drop, get_or-reverse}
+use Rattle.std.proofs.lemmas.List.{reverse-append, length-reverse, take-append-drop, length-drop, get_or-reverse}
 use Rattle.std.proofs.lemmas.Option.{slice_get-get_or, slice_get_past}
 use Rattle.std.specs.Prelude.{true, false, Option, Some, None, option_map, slice_get, option_to_list, ◌^◌, ◌*◌}
 use Rattle.std.proofs.Math.Nat.{pow-le-pow_right}
@@ -17,11 +17,6 @@ use Rattle.std.specs.Prelude.{Err}
 use Rattle.wasm_syntax.specs.Module.{option_then}
 use Rattle.validate_stack.specs.declared.stack.StackFault.{StackFault}
 use Rattle.validate_stack.specs.declared.stack.StackFault.TheVariants.{Wrong, NoMemory}
-
-pub reverse_take : {A : Type 0} (xs : List A) (n : ℕ) → reverse (take n xs) ≡ drop (length xs - n) (reverse xs)
-reverse_take xs n =
-    sym (ap (drop (length xs - n)) (ap reverse (sym (take-append-drop n xs)) ∙ reverse-append (take n xs) (drop n xs))
-    ∙ drop_at (reverse (drop n xs)) (reverse (take n xs)) (length xs - n) (length-reverse (drop n xs) ∙ length-drop n xs))
 
 pub get_reversed : {A : Type 0} (xs : List A) (k : ℕ) → k < length xs → slice_get (reverse xs) k ≡ slice_get xs (length xs - 1 - k)
 get_reversed [] k le = absurd (omega arith)

@@ -16,14 +16,7 @@ use Rattle.var_texts.specs.Places.{Place}
 use Rattle.var_texts.specs.Scalars.{all_bits, bits_of, is_size, encoding_suits, size_suits}
 use Rattle.var_texts.specs.Values.{class_suits, bits_suit, source_suits, suits}
 use Rattle.var_texts.specs.inner.Scalar.{ScalarAs, IsScalar}
-
-and_first : (a b : Bool) → (a && b) ≡ true → a ≡ true
-and_first true b e = refl
-and_first false b e = absurd (let no : false ≡ true = e in cc)
-
-and_second : (a b : Bool) → (a && b) ≡ true → b ≡ true
-and_second true b e = e
-and_second false b e = absurd (let no : false ≡ true = e in cc)
+use Rattle.std.proofs.lemmas.Bool.{and_parts}
 
 is_short : (size : ℕ) → is_size size ≡ true → size ≤ 8
 is_short size e = grind (arith, nat_tests)
@@ -38,7 +31,7 @@ short_unless_float e size h other = by_tests e size (e == 1) (e == 2 || e == 5 |
     by_tests e size false true c isa isb isc h other = is_short size h
     by_tests e size false false true isa isb isc h other = absurd (other (grind (arith, nat_tests)))
     by_tests e size false false false isa isb isc h other =
-        let one : (size == 1) ≡ true = and_second (e == 6 || e == 8) (size == 1) h in
+        let one : (size == 1) ≡ true = (and_parts (e == 6 || e == 8) (size == 1) h).1 in
         grind (arith, nat_tests)
 
 pub encoding_short : (e size : ℕ) → encoding_suits e size ≡ true → size ≤ 16
@@ -48,9 +41,9 @@ encoding_short e size h = by_tests e size (e == 1) (e == 2 || e == 5 || e == 7) 
         → (if a then size == 4 else (if b then is_size size else (if c then nat_le 1 size && nat_le size 16 else (e == 6 || e == 8) && size == 1))) ≡ true → size ≤ 16
     by_tests e size true b c isa isb isc h = grind (arith, nat_tests)
     by_tests e size false true c isa isb isc h = let short : size ≤ 8 = is_short size h in omega (arith, short)
-    by_tests e size false false true isa isb isc h = let most : nat_le size 16 ≡ true = and_second (nat_le 1 size) (nat_le size 16) h in grind (arith, nat_tests)
+    by_tests e size false false true isa isb isc h = let most : nat_le size 16 ≡ true = (and_parts (nat_le 1 size) (nat_le size 16) h).1 in grind (arith, nat_tests)
     by_tests e size false false false isa isb isc h =
-        let one : (size == 1) ≡ true = and_second (e == 6 || e == 8) (size == 1) h in
+        let one : (size == 1) ≡ true = (and_parts (e == 6 || e == 8) (size == 1) h).1 in
         grind (arith, nat_tests)
 
 pub suited_encoding : (o : Option ℕ) (size : ℕ) → size_suits o size ≡ true → size ≤ 16
@@ -89,11 +82,11 @@ scalar_as classes.Another s size h pointing members array = absurd (let no : fal
 
 class_suited : (s : Standing) (p : Place) (size : ℕ) → suits s p size ≡ true → class_suits (class_at s) s size ≡ true
 class_suited s p size h =
-    and_first (class_suits (class_at s) s size) (bits_suit (class_at s) size p.bits) (and_first (class_suits (class_at s) s size && bits_suit (class_at s) size p.bits) (source_suits p.source size) h)
+    (and_parts (class_suits (class_at s) s size) (bits_suit (class_at s) size p.bits) (and_parts (class_suits (class_at s) s size && bits_suit (class_at s) size p.bits) (source_suits p.source size) h).0).0
 
 bits_suited : (s : Standing) (p : Place) (size : ℕ) → suits s p size ≡ true → bits_suit (class_at s) size p.bits ≡ true
 bits_suited s p size h =
-    and_second (class_suits (class_at s) s size) (bits_suit (class_at s) size p.bits) (and_first (class_suits (class_at s) s size && bits_suit (class_at s) size p.bits) (source_suits p.source size) h)
+    (and_parts (class_suits (class_at s) s size) (bits_suit (class_at s) size p.bits) (and_parts (class_suits (class_at s) s size && bits_suit (class_at s) size p.bits) (source_suits p.source size) h).0).1
 
 pub suits_scalar : (units : List UnitAnswer) (s : Standing) (k size : ℕ) (p : Place) → type_size units (typeds.At s k) ≡ Some size → suits s p size ≡ true → (class_at s ≡ classes.Members → ⊥)
     → (class_at s ≡ classes.Array → ⊥) → IsScalar s size

@@ -1,4 +1,3 @@
-pub mod Utf8
 pub mod Loops
 pub mod Places
 pub mod Exact
@@ -12,3 +11,5 @@ pub mod Whole
 pub mod UntilDone
 pub mod SectionLaws
 pub mod Takes
+pub mod Offsets
+pub mod Numbers

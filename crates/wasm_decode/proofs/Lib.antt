@@ -9,3 +9,4 @@ pub mod Sounds
 pub mod Meanings
 pub mod NameLaws
 pub mod NameSpelled
+pub mod Short

@@ -1,5 +1,5 @@
 -- What is decoded is a module within the limits.
-use Rattle.std.proofs.Common.{◌≡◌, ℕ, zero, suc, ◌+◌, ◌^◌, ◌<◌, ◌≤◌, Bool, true, false, List, [], ◌∷◌, ◌++◌, length, Option, Some, None, Result, Ok, Err, refl, sym, ap, subst, ◌∙◌, arith}
+use Rattle.std.proofs.Common.{◌≡◌, ℕ, zero, suc, ◌+◌, ◌^◌, ◌<◌, ◌≤◌, Bool, true, false, List, [], ◌∷◌, length, Option, Some, None, Result, Ok, Err, refl, sym, ap, subst, ◌∙◌, arith}
 use Rattle.std.specs.Prelude.{map, nat_lt, slice_get, IfOk, IsUtf8, if◌then◌else◌}
 use Rattle.std.specs.List.{AllByRecursion}
 use Rattle.std.proofs.lemmas.Bool.{ltb-false}
@@ -34,6 +34,8 @@ use Rattle.wasm_decode.specs.declared.fault.DecodeFault.TheVariants.{Limit}
 use Rattle.wasm_decode.specs.Decode.{functions_of, module_of, all_locals, first_over, ◌orelse◌, too_much}
 use Rattle.wasm_decode.specs.Meaning.{IsModuleOf, Exactly}
 use Rattle.wasm_decode.specs.inner.Fit.{FewLocals, Fit}
+use Rattle.pm_text.proofs.Lists.{get_behind}
+use Rattle.std.proofs.lemmas.List.{length-map}
 
 weaker : {A : Type 0} (P Q : A → Type 0) → ((x : A) → P x → Q x) → (xs : List A) → AllByRecursion P xs → AllByRecursion Q xs
 weaker P Q f [] h = tt
@@ -153,14 +155,7 @@ mapped_all : {A : Type 0} (f : A → ℕ) (P : ℕ → Type 0) (xs : List A) →
 mapped_all f P [] h = tt
 mapped_all f P (x ∷ xs) h = (h.0, mapped_all f P xs h.1)
 
--- the type of a function that has a body, by its place among them
-pub behind_imports : {A : Type 0} (xs ys : List A) (i : ℕ) → slice_get (xs ++ ys) (length xs + i) ≡ slice_get ys i
-behind_imports [] ys i = let same : 0 + i ≡ i = omega arith in ap (slice_get ys) same
-behind_imports (x ∷ xs) ys i =
-    let same : length (x ∷ xs) + i ≡ suc (length xs + i) = omega arith in
-    ap (slice_get (x ∷ (xs ++ ys))) same ∙ behind_imports xs ys i
-
-pub AtMost : List FuncType → List ℕ → ℕ → Body → Type 0
+unfoldable pub AtMost : List FuncType → List ℕ → ℕ → Body → Type 0
 AtMost types functions i body = local_count (option_then (slice_get functions i) (λ t. slice_get types t)) body ≤ greatest Locals
 
 locals_within : (types : List FuncType) (functions : List ℕ) (bodies : List Body) (i : ℕ) (body : Body) → length bodies ≡ length functions → AllByRecursion (λ n. n ≤ greatest Locals) (all_locals types functions bodies) → slice_get bodies i ≡ Some body → AtMost types functions i body
@@ -172,15 +167,11 @@ locals_within types (t ∷ functions) (b ∷ bodies) zero body same h e =
     subst (λ (x : Body). local_count (slice_get types t) x ≤ greatest Locals) is h.0
 locals_within types (t ∷ functions) (b ∷ bodies) (suc i) body same h e = locals_within types functions bodies i body (omega (arith, same)) h.1 e
 
-pub map_length : {A B : Type 0} (f : A → B) (xs : List A) → length (map f xs) ≡ length xs
-map_length f [] = refl
-map_length f (x ∷ xs) = ap suc (map_length f xs)
-
 pub type_behind : (m : ModuleParts) (i : ℕ) → type_at m (length m.imports + i) ≡ option_then (slice_get m.functions i) (λ t. slice_get m.types t)
 type_behind m i =
     let ftypes = map (λ (x : Import). x.ftype) m.imports in
-    let same : length m.imports + i ≡ length ftypes + i = omega (arith, map_length (λ (x : Import). x.ftype) m.imports) in
-    ap (λ (k : ℕ). type_at m k) same ∙ ap (λ (o : Option ℕ). option_then o (λ t. slice_get m.types t)) (behind_imports ftypes m.functions i)
+    let same : length m.imports + i ≡ length ftypes + i = omega (arith, length-map m.imports (λ (x : Import). x.ftype)) in
+    ap (λ (k : ℕ). type_at m k) same ∙ ap (λ (o : Option ℕ). option_then o (λ t. slice_get m.types t)) (get_behind ftypes m.functions i)
 
 within : (m : ModuleParts) → ShortLists m → length m.bodies ≡ length m.functions → too_much m ≡ None → WithinLimits m
 unfolding too_much AtMost

@@ -18,7 +18,7 @@ use Rattle.wasm_encode.specs.Fits.{Fits32, FitsBody, FitsExpression, FitsElement
 use Rattle.wasm_encode.proofs.Spellings.{sized_spelled, run_spelled, vector_spelled}
 use Rattle.wasm_encode.proofs.SpelledTypes.{valtype_spelled, mutability_spelled, locals_spelled}
 use Rattle.wasm_encode.proofs.SpelledCode.{entries_spelled, expression_spelled, same_body, no_note, SpelledAlike}
-use Rattle.wasm_instructions.proofs.Encoded.{number_spells}
+use Rattle.wasm_bytes.proofs.Numbers.{u32_spelled}
 
 -- ---- globals and segments
 
@@ -54,8 +54,8 @@ element_spelled e at is fits short =
         (
           table,
           bytes ++ functions,
-          number_spells e.table at fits.table,
-          (bytes, functions, offset.2, vector_spelled u32 unsigned_bytes Fits32 number_spells e.functions (at + length table + length bytes) short.functions fits.functions, refl),
+          u32_spelled e.table at fits.table,
+          (bytes, functions, offset.2, vector_spelled u32 unsigned_bytes Fits32 u32_spelled e.functions (at + length table + length bytes) short.functions fits.functions, refl),
           refl,
         ),
       ),
@@ -77,7 +77,7 @@ segment_spelled s at is fits short =
         (
           memory,
           bytes ++ run,
-          number_spells s.memory at fits.memory,
+          u32_spelled s.memory at fits.memory,
           (bytes, run, offset.2, run_spelled s.bytes (at + length memory + length bytes) short.bytes, refl),
           refl,
         ),

@@ -27,7 +27,7 @@ use Rattle.wasm_format.specs.Grammar.{valtype, noted_vector, functype, limits, t
 use Rattle.wasm_encode.specs.Encoding.{vector_bytes, sized_bytes, range_bytes, type_byte, value_type_bytes, function_type_bytes, limits_bytes, table_bytes, mutability_byte, import_bytes, kind_byte, export_bytes, group_bytes}
 use Rattle.wasm_encode.specs.Fits.{Fits32, FitsLimits}
 use Rattle.wasm_encode.proofs.Spellings.{name_spelled, wrapped_vector, all_true}
-use Rattle.wasm_instructions.proofs.Encoded.{number_spells}
+use Rattle.wasm_bytes.proofs.Numbers.{u32_spelled}
 
 pub valtype_spelled : (t : ValType) (at : ℕ) → valtype (plain t) at (value_type_bytes t)
 unfolding value_type_bytes type_byte
@@ -67,10 +67,10 @@ pub tagged_spelled : {A : Type 0} (S : ℕ → A → ℕ → List ℕ → Type 0
 tagged_spelled S tag x at rest s = (tag, (tag ∷ [], rest, refl, s, refl))
 
 range_spelled : (min : ℕ) (max : Option ℕ) (at : ℕ) → Fits32 min → IfSome max Fits32 → limits (record { min = min; max = max }) at (range_bytes min max)
-range_spelled min None at low high = tagged_spelled limits_tail 0x00 _ at (unsigned_bytes min) (inl (refl, (min, refl, number_spells min (at + 1) low)))
+range_spelled min None at low high = tagged_spelled limits_tail 0x00 _ at (unsigned_bytes min) (inl (refl, (min, refl, u32_spelled min (at + 1) low)))
 range_spelled min (Some max) at low high =
     let first = unsigned_bytes min in
-    tagged_spelled limits_tail 0x01 _ at (first ++ unsigned_bytes max) (inr (refl, inl (refl, ((min, max), refl, (first, unsigned_bytes max, number_spells min (at + 1) low, number_spells max (at + 1 + length first) high, refl)))))
+    tagged_spelled limits_tail 0x01 _ at (first ++ unsigned_bytes max) (inr (refl, inl (refl, ((min, max), refl, (first, unsigned_bytes max, u32_spelled min (at + 1) low, u32_spelled max (at + 1 + length first) high, refl)))))
 
 pub limits_spelled : (l : Limits) (at : ℕ) → FitsLimits l → limits l at (limits_bytes l)
 unfolding limits_bytes
@@ -99,7 +99,7 @@ import_spelled i at short_module short_name utf8_module utf8_name fits =
         both,
         0x00 ∷ ftype,
         (first, second, name_spelled i.«module» at short_module utf8_module, name_spelled i.name (at + length first) short_name utf8_name, refl),
-        tagged_spelled (import_tail (i.«module», i.name)) 0x00 (plain (Function i)) (at + length both) ftype (inl (refl, (i.ftype, refl, number_spells i.ftype (at + length both + 1) fits))),
+        tagged_spelled (import_tail (i.«module», i.name)) 0x00 (plain (Function i)) (at + length both) ftype (inl (refl, (i.ftype, refl, u32_spelled i.ftype (at + length both + 1) fits))),
         sym (append_assoc first second (0x00 ∷ ftype)),
       ),
     )
@@ -122,7 +122,7 @@ export_spelled e at short utf8 fits =
         title,
         kind_byte e.kind ∷ index,
         name_spelled e.name at short utf8,
-        (kind_byte e.kind ∷ [], index, kind_spelled e.kind (at + length title), number_spells e.index (at + length title + 1) fits, refl),
+        (kind_byte e.kind ∷ [], index, kind_spelled e.kind (at + length title), u32_spelled e.index (at + length title + 1) fits, refl),
         refl,
       ),
     )
@@ -143,7 +143,7 @@ group_spelled : (g : LocalGroup) (before : List LocalGroup) (count at : ℕ) →
 unfolding group_bytes
 group_spelled g before count at fits room =
     let number = unsigned_bytes g.count in
-    ((g.count, plain g.vtype), refl, (number, value_type_bytes g.vtype, (lt-ltb (count + g.count) (2 ^ 32) room, number_spells g.count at fits), valtype_spelled g.vtype (at + length number), refl))
+    ((g.count, plain g.vtype), refl, (number, value_type_bytes g.vtype, (lt-ltb (count + g.count) (2 ^ 32) room, u32_spelled g.count at fits), valtype_spelled g.vtype (at + length number), refl))
 
 groups_spelled : (groups before : List LocalGroup) (count at : ℕ) → AllByRecursion (λ g. Fits32 g.count) groups → count + sum (map (λ g. g.count) groups) < 2 ^ 32 → Grouped before groups count at
 groups_spelled [] before count at fits room = record { after = known_locals before count; groups_behind = sym (append-nil before); no_float = refl; spelled = (refl, refl) }
@@ -173,5 +173,5 @@ locals_spelled groups at short fits room =
       read = g.after;
       groups_read = g.groups_behind;
       no_float = g.no_float;
-      spelled = (length groups, (number, flat_map group_bytes groups, number_spells (length groups) at short, g.spelled, refl));
+      spelled = (length groups, (number, flat_map group_bytes groups, u32_spelled (length groups) at short, g.spelled, refl));
     }

@@ -6,19 +6,19 @@ use Rattle.std.proofs.lemmas.List.{length-map, map-id}
 use Rattle.wasm_leb.specs.Writing.{unsigned_bytes}
 use Rattle.wasm_bytes.specs.Spelling.{Spellings, ◌&◌, u32, sized_run, name, sized, items, vector}
 use Rattle.wasm_encode.specs.Encoding.{vector_bytes, sized_bytes}
-use Rattle.wasm_instructions.proofs.Encoded.{number_spells}
+use Rattle.wasm_bytes.proofs.Numbers.{u32_spelled}
 
 pub then_spelled : (A B : Spellings) (at : ℕ) (front rest : List ℕ) → A at front → B (at + length front) rest → (A & B) at (front ++ rest)
 then_spelled A B at front rest a b = (front, rest, a, b, refl)
 
 pub sized_spelled : (S : Spellings) (at : ℕ) (inner : List ℕ) → length inner < 2 ^ 32 → S (at + length (unsigned_bytes (length inner))) inner → sized S at (sized_bytes inner)
-sized_spelled S at inner lt s = (unsigned_bytes (length inner), inner, number_spells (length inner) at lt, s, refl)
+sized_spelled S at inner lt s = (unsigned_bytes (length inner), inner, u32_spelled (length inner) at lt, s, refl)
 
 pub name_spelled : (bytes : List ℕ) (at : ℕ) → length bytes < 2 ^ 32 → IsUtf8 bytes → name bytes at (sized_bytes bytes)
-name_spelled bytes at lt utf8 = (unsigned_bytes (length bytes), bytes, number_spells (length bytes) at lt, (refl, utf8), refl)
+name_spelled bytes at lt utf8 = (unsigned_bytes (length bytes), bytes, u32_spelled (length bytes) at lt, (refl, utf8), refl)
 
 pub run_spelled : (bytes : List ℕ) (at : ℕ) → length bytes < 2 ^ 32 → sized_run bytes at (sized_bytes bytes)
-run_spelled bytes at lt = (unsigned_bytes (length bytes), bytes, number_spells (length bytes) at lt, refl, refl)
+run_spelled bytes at lt = (unsigned_bytes (length bytes), bytes, u32_spelled (length bytes) at lt, refl, refl)
 
 -- ---- many items
 
@@ -30,7 +30,7 @@ wrapped_items S wrap bytes P each (x ∷ xs) at all = (bytes x, flat_map bytes x
 pub wrapped_vector : {A W : Type 0} (S : W → Spellings) (wrap : A → W) (bytes : A → List ℕ) (P : A → Type 0) → ((x : A) (at : ℕ) → P x → S (wrap x) at (bytes x)) → (xs : List A) (at : ℕ) → length xs < 2 ^ 32 → AllByRecursion P xs → vector S (map wrap xs) at (vector_bytes bytes xs)
 wrapped_vector {W = W} S wrap bytes P each xs at lt all =
     let n : length (map wrap xs) ≡ length xs = length-map xs wrap in
-    let count : u32 (length (map wrap xs)) at (unsigned_bytes (length xs)) = subst (λ (k : ℕ). u32 k at (unsigned_bytes (length xs))) (sym n) (number_spells (length xs) at lt) in
+    let count : u32 (length (map wrap xs)) at (unsigned_bytes (length xs)) = subst (λ (k : ℕ). u32 k at (unsigned_bytes (length xs))) (sym n) (u32_spelled (length xs) at lt) in
     (unsigned_bytes (length xs), flat_map bytes xs, count, wrapped_items S wrap bytes P each xs (at + length (unsigned_bytes (length xs))) all, refl)
 
 -- each item spells its value
@@ -73,5 +73,5 @@ pub vector_alike : {A B C W : Type 0} (S : W → Spellings) (wrap : B → W) (se
 vector_alike {W = W} S wrap seen code bytes P each xs at lt all =
     let a = items_alike S wrap seen code bytes P each xs (at + length (unsigned_bytes (length xs))) all in
     let n = same_length wrap seen code a.values xs a.same in
-    let count : u32 (length (map wrap a.values)) at (unsigned_bytes (length xs)) = subst (λ (k : ℕ). u32 k at (unsigned_bytes (length xs))) (sym n) (number_spells (length xs) at lt) in
+    let count : u32 (length (map wrap a.values)) at (unsigned_bytes (length xs)) = subst (λ (k : ℕ). u32 k at (unsigned_bytes (length xs))) (sym n) (u32_spelled (length xs) at lt) in
     (a.values, a.same, (unsigned_bytes (length xs), flat_map bytes xs, count, a.spelled, refl))

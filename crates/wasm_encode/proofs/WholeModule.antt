@@ -30,7 +30,7 @@ use Rattle.wasm_encode.proofs.SpelledTypes.{functype_spelled, limits_spelled, ta
 use Rattle.wasm_encode.proofs.SpelledEntries.{global_spelled, element_spelled, segment_spelled, CanEnter, code_spelled, neither}
 use Rattle.wasm_encode.proofs.SpelledSections.{Says, Adds, section_adds, none_adds, then_adds, vector_adds}
 use Rattle.wasm_encode.proofs.Sizes.{SmallSections, small_sections, small_entries, small_locals, all_enter, both}
-use Rattle.wasm_instructions.proofs.Encoded.{number_spells}
+use Rattle.wasm_bytes.proofs.Numbers.{u32_spelled}
 
 -- ---- what the sections up to an id say
 
@@ -154,7 +154,7 @@ functions_add m s at within fits small says =
     (λ here_on. (
       with_functions s m.functions,
       plainly s 2 3 (functions_imported m) (parts_1 m) (parts_3 m) (record s.parts { functions = m.functions }) says (ap (λ (p : ModuleParts). let q : ModuleParts = record p { functions = m.functions } in q) says.code),
-      inr (refl, inr (refl, inl (refl, (m.functions, refl, vector_spelled u32 unsigned_bytes Fits32 number_spells m.functions here_on (omega (arith, within.short.functions)) fits.front.declarations.functions)))),
+      inr (refl, inr (refl, inl (refl, (m.functions, refl, vector_spelled u32 unsigned_bytes Fits32 u32_spelled m.functions here_on (omega (arith, within.short.functions)) fits.front.declarations.functions)))),
     ))
 
 tables_add : (m : ModuleParts) (s : SpelledModule) (at : ℕ) → WithinLimits m → FitsModule m → SmallSections m → Says s 3 (functions_imported m) (parts_3 m) → Adds s at (vector_section 4 table_bytes m.tables) 4 (functions_imported m) (parts_4 m)
@@ -214,7 +214,7 @@ start_adds m (Some f) s at fits small says =
     let after : ModuleParts = record (parts_7 m) { start = Some f } in
     section_adds s (with_start s f) 7 8 at inner (functions_imported m) after says.ids (omega arith) (omega arith) (omega (arith, small, length-append (unsigned_bytes (length inner)) inner))
     (plainly s 7 8 (functions_imported m) (parts_7 m) after (record s.parts { start = Some f }) says (ap (λ (p : ModuleParts). let q : ModuleParts = record p { start = Some f } in q) says.code))
-    (inr (refl, inr (refl, inr (refl, inr (refl, inr (refl, inr (refl, inr (refl, inl (refl, (f, refl, number_spells f here_on fits))))))))))
+    (inr (refl, inr (refl, inr (refl, inr (refl, inr (refl, inr (refl, inr (refl, inl (refl, (f, refl, u32_spelled f here_on fits))))))))))
 
 elements_add : (m : ModuleParts) (s : SpelledModule) (at : ℕ) → IsModule m → WithinLimits m → FitsModule m → SmallSections m → Says s 8 (functions_imported m) (parts_8 m) → Adds s at (vector_section 9 element_bytes m.elements) 9 (functions_imported m) (parts_9 m)
 elements_add m s at is within fits small says =

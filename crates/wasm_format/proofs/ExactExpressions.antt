@@ -25,7 +25,7 @@ use Rattle.wasm_format.specs.Sections.{due_vector_item, bodies_item}
 use Rattle.wasm_format.specs.Grammar.{instr_entry, expression_entries, expression, locals, code_contents, code, bodies}
 use Rattle.wasm_format.proofs.Tests.{first_exact, first_takes, second_takes}
 use Rattle.wasm_format.proofs.ExactForm.{locals_exact}
-use Rattle.wasm_instructions.proofs.Offsets.{offset_exact}
+use Rattle.wasm_bytes.proofs.Offsets.{offset_exact}
 
 -- ---- expressions
 

@@ -17,7 +17,7 @@ use Rattle.wasm_format.specs.Grammar.{noted_vector, functype, limits, table, glo
 use Rattle.wasm_format.proofs.Tests.{on_test_exact, on_test_picks, no_spelling_picks}
 use Rattle.wasm_format.proofs.ExactForm.{noted_vector_exact, functype_exact, limits_exact, table_exact, globaltype_exact, import_exact, export_exact}
 use Rattle.wasm_format.proofs.ExactExpressions.{expression_exact, bodies_exact}
-use Rattle.wasm_instructions.proofs.Offsets.{offset_exact}
+use Rattle.wasm_bytes.proofs.Offsets.{offset_exact}
 
 -- ---- globals and segments
 

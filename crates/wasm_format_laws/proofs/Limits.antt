@@ -12,13 +12,12 @@ use Rattle.wasm_syntax.specs.declared.parts.Limits.{Limits}
 use Rattle.wasm_syntax.specs.declared.parts.Body.{Body}
 use Rattle.wasm_syntax.specs.declared.module.ModuleParts.{ModuleParts}
 use Rattle.wasm_syntax.specs.Quantity.{greatest}
-use Rattle.wasm_syntax.specs.Module.{option_then}
 use Rattle.wasm_syntax.specs.Valid.{AtIndex}
 use Rattle.wasm_syntax.specs.Sizes.{local_count, deepest, nesting, WithinLimits}
 use Rattle.wasm_syntax.specs.SameCode.{op_code, body_code, code_alone}
 use Rattle.wasm_decode.specs.declared.fault.DecodeFault.{DecodeFault}
 use Rattle.wasm_decode.specs.Decode.{all_locals, first_over, ◌orelse◌, too_much}
-use Rattle.wasm_decode.proofs.Sounds.{type_behind}
+use Rattle.wasm_decode.proofs.Sounds.{type_behind, AtMost}
 
 -- ---- the code alone
 
@@ -55,9 +54,6 @@ none_over what (n ∷ ns) h = rw (le-ltb (greatest what) n h.0) (none_over what 
 none_over_of : {A : Type 0} (what : Quantity) (f : A → ℕ) (xs : List A) → AllByRecursion (λ x. f x ≤ greatest what) xs → first_over what (map f xs) ≡ None
 none_over_of what f [] h = refl
 none_over_of what f (x ∷ xs) h = rw (le-ltb (greatest what) (f x) h.0) (none_over_of what f xs h.1)
-
-AtMost : List FuncType → List ℕ → ℕ → Body → Type 0
-AtMost types functions i body = local_count (option_then (slice_get functions i) (λ t. slice_get types t)) body ≤ greatest Locals
 
 all_at_most : (types : List FuncType) (functions : List ℕ) (bodies : List Body) → AtIndex bodies (AtMost types functions) → AllByRecursion (λ n. n ≤ greatest Locals) (all_locals types functions bodies)
 unfolding AtMost

@@ -2,7 +2,7 @@
 use Rattle.std.proofs.Common.{◌≡◌, ℕ, ◌+◌, ◌^◌, ◌<◌, ◌≤◌, List, [], ◌∷◌, ◌++◌, length, drop, Option, Some, None, refl, sym, ap, subst, lit≤, lit<, arith, length-take, length-drop}
 use Rattle.std.specs.List.{flat_map}
 use Rattle.std.specs.Int.{w32, w64, cast_signed}
-use Rattle.std.proofs.lemmas.Int.{of_z-to_z, ints}
+use Rattle.std.proofs.lemmas.Int.{of_z-to_z}
 use Rattle.int_ops.specs.declared.operators.Unary.{Unary}
 use Rattle.int_ops.specs.declared.operators.Unary.TheVariants.{Clz, Ctz, Popcnt}
 use Rattle.int_ops.specs.declared.operators.Compare.{Compare as Comparison}
@@ -11,9 +11,7 @@ use Rattle.int_ops.specs.declared.operators.Binary.{Binary as Operation}
 use Rattle.int_ops.specs.declared.operators.Binary.TheVariants.{Add, Sub, Mul, DivS, DivU, RemS, RemU, And, Or, Xor, Shl, ShrS, ShrU, Rotl, Rotr}
 use Rattle.int_ops.specs.declared.operators.Narrow32.TheVariants as narrow32
 use Rattle.int_ops.specs.declared.operators.Narrow64.TheVariants as narrow64
-use Rattle.wasm_leb.specs.Reading.{IsWithin}
 use Rattle.wasm_leb.specs.Writing.{unsigned_bytes, signed_bytes}
-use Rattle.wasm_leb.proofs.UnsignedBytes.{unsigned_spells}
 use Rattle.wasm_leb.proofs.SignedBytes.{signed_spells}
 use Rattle.wasm_syntax.specs.declared.value.ValType.{ValType}
 use Rattle.wasm_syntax.specs.declared.value.ValType.TheVariants.{I32, I64}
@@ -39,6 +37,7 @@ use Rattle.wasm_instructions.specs.Form.{Form, bare, indexed, access, typed, lab
 use Rattle.wasm_instructions.specs.Table.{form_of, numeric, load, store}
 use Rattle.wasm_instructions.specs.Grammar.{immediates, behind_opcode, instruction}
 use Rattle.wasm_instructions.specs.Encoding.{load_opcode, store_opcode, comparison_place, unary_place, operation_place, by_type, conversion_opcode, two_numbers, constant_bytes, basic_bytes, targets_from, jump_bytes, block_type_byte, encoding, JumpInside, ValueFits, BasicFits, JumpFits, IsCode, AllWords, targets_of, BeginsAt, spelled_of}
+use Rattle.wasm_bytes.proofs.Numbers.{u32_spelled, within_32, within_64}
 
 abbrev some : Form → Option Form
 some form = Some form
@@ -157,14 +156,11 @@ begins base at opcode form x rest row s = (opcode, (opcode ∷ [], rest, refl, s
 bare_spells : (base at opcode : ℕ) (i : Instr) → form_of opcode ≡ some (bare i) → instruction base (alone i) at (opcode ∷ [])
 bare_spells base at opcode i row = begins base at opcode (bare i) (alone i) [] row (refl, refl)
 
-pub number_spells : (n at : ℕ) → n < 2 ^ 32 → u32 n at (unsigned_bytes n)
-number_spells n at small = unsigned_spells 32 n (lit≤ tt) small
-
 indexed_spells : (base at opcode : ℕ) (to : ℕ → Instr) (n : ℕ) → form_of opcode ≡ some (indexed to) → n < 2 ^ 32 → instruction base (alone (to n)) at (opcode ∷ unsigned_bytes n)
-indexed_spells base at opcode to n row small = begins base at opcode (indexed to) (alone (to n)) (unsigned_bytes n) row (n, refl, number_spells n (at + 1) small)
+indexed_spells base at opcode to n row small = begins base at opcode (indexed to) (alone (to n)) (unsigned_bytes n) row (n, refl, u32_spelled n (at + 1) small)
 
 two_spell : (m n at : ℕ) → m < 2 ^ 32 → n < 2 ^ 32 → pair u32 u32 (m, n) at (two_numbers m n)
-two_spell m n at first second = (unsigned_bytes m, unsigned_bytes n, number_spells m at first, number_spells n (at + length (unsigned_bytes m)) second, refl)
+two_spell m n at first second = (unsigned_bytes m, unsigned_bytes n, u32_spelled m at first, u32_spelled n (at + length (unsigned_bytes m)) second, refl)
 
 access_spells : (base at opcode : ℕ) (to : ℕ → ℕ → Instr) (m n : ℕ) → form_of opcode ≡ some (access to) → m < 2 ^ 32 → n < 2 ^ 32 → instruction base (alone (to m n)) at (opcode ∷ two_numbers m n)
 access_spells base at opcode to m n row first second = begins base at opcode (access to) (alone (to m n)) (two_numbers m n) row ((m, n), refl, two_spell m n (at + 1) first second)
@@ -175,12 +171,6 @@ block_spells base at opcode to (Some I32) row = begins base at opcode (typed to)
 block_spells base at opcode to (Some I64) row = begins base at opcode (typed to) (alone (to (Some I64))) (0x7e ∷ []) row (0x7e, refl, (refl, refl))
 
 -- ---- constants
-
-within_32 : (n : ℕ) → n < 2 ^ 32 → IsWithin 32 (cast_signed w32 n)
-within_32 n small = (omega (arith, ints, small), omega (arith, ints, small))
-
-within_64 : (n : ℕ) → n < 2 ^ 64 → IsWithin 64 (cast_signed w64 n)
-within_64 n small = (omega (arith, ints, small), omega (arith, ints, small))
 
 constant_spells : (base at : ℕ) (v : Value) → ValueFits v → instruction base (alone (instr.Basic (basics.Const v))) at (constant_bytes v)
 unfolding form_of
@@ -195,13 +185,13 @@ constant_spells base at (value.I64 n) small =
 
 numbers_spell : (xs : List ℕ) (at : ℕ) → AllWords xs → items u32 xs at (flat_map unsigned_bytes xs)
 numbers_spell [] at small = refl
-numbers_spell (x ∷ xs) at small = (unsigned_bytes x, flat_map unsigned_bytes xs, number_spells x at small.0, numbers_spell xs (at + length (unsigned_bytes x)) small.1, refl)
+numbers_spell (x ∷ xs) at small = (unsigned_bytes x, flat_map unsigned_bytes xs, u32_spelled x at small.0, numbers_spell xs (at + length (unsigned_bytes x)) small.1, refl)
 
 labels_spell : (at count default : ℕ) (xs : List ℕ) → length xs ≡ count → count < 2 ^ 32 → default < 2 ^ 32 → AllWords xs → pair (vector u32) u32 (xs, default) at ((unsigned_bytes count ++ flat_map unsigned_bytes xs) ++ unsigned_bytes default)
 labels_spell at count default xs counted small last all =
-    let counts : u32 (length xs) at (unsigned_bytes count) = subst (λ (n : ℕ). u32 n at (unsigned_bytes count)) (sym counted) (number_spells count at small) in
+    let counts : u32 (length xs) at (unsigned_bytes count) = subst (λ (n : ℕ). u32 n at (unsigned_bytes count)) (sym counted) (u32_spelled count at small) in
     let bytes = unsigned_bytes count ++ flat_map unsigned_bytes xs in
-    (bytes, unsigned_bytes default, (unsigned_bytes count, flat_map unsigned_bytes xs, counts, numbers_spell xs (at + length (unsigned_bytes count)) all, refl), number_spells default (at + length bytes) last, refl)
+    (bytes, unsigned_bytes default, (unsigned_bytes count, flat_map unsigned_bytes xs, counts, numbers_spell xs (at + length (unsigned_bytes count)) all, refl), u32_spelled default (at + length bytes) last, refl)
 
 targets_counted : (start count : ℕ) (xs : List ℕ) → start + count ≤ length xs → length (targets_from start count xs) ≡ count
 targets_counted start count xs room = omega (arith, length-take count (drop start xs), length-drop start xs, room)
@@ -253,7 +243,7 @@ jump_spells targets base at jumps.Return fits small inside from = bare_spells ba
 jump_spells targets base at (jumps.Call f) fits small inside from = indexed_spells base at 0x10 (λ n. instr.Jump (jumps.Call n)) f refl fits
 jump_spells targets base at (jumps.CallIndirect t) fits small inside from =
     begins base at 0x11 indirect (alone (instr.Jump (jumps.CallIndirect t))) (unsigned_bytes t ++ 0x00 ∷ []) refl
-    ((t, 0), refl, (unsigned_bytes t, 0x00 ∷ [], number_spells t (at + 1) fits, (refl, (lit< tt, lit< tt, refl)), refl))
+    ((t, 0), refl, (unsigned_bytes t, 0x00 ∷ [], u32_spelled t (at + 1) fits, (refl, (lit< tt, lit< tt, refl)), refl))
 
 pub encoding_spells : (targets : List ℕ) (base at : ℕ) (i : Instr) → IsCode targets i → BeginsAt base i → instruction base (spelled_of targets i) at (encoding targets i)
 unfolding encoding form_of

@@ -15,7 +15,7 @@ use Rattle.wasm_instructions.specs.Form.{Form, bare, indexed, access, typed, lab
 use Rattle.wasm_instructions.specs.Table.{form_of}
 use Rattle.wasm_instructions.specs.Grammar.{block_type, bulk_number, immediates, behind_opcode, instruction}
 use Rattle.wasm_instructions.specs.Reading.{block_type_item, bulk_number_item, bulk_item, immediates_item, item_behind, instruction_item}
-use Rattle.wasm_instructions.proofs.Offsets.{offset_exact}
+use Rattle.wasm_bytes.proofs.Offsets.{offset_exact}
 
 pub two_exact : IsExact (pair u32 u32) (u32_item ⊗ u32_item)
 two_exact = then_exact u32 u32 u32_item u32_item u32_exact u32_exact

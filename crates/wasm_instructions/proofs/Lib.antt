@@ -1,5 +1,4 @@
 pub mod Numbers
-pub mod Offsets
 pub mod Exact
 pub mod Stops
 pub mod Codes

@@ -17,7 +17,7 @@ use Rattle.wasm_instructions.specs.Form.{Form, bare, indexed, access, typed, lab
 use Rattle.wasm_instructions.specs.Table.{form_of}
 use Rattle.wasm_instructions.specs.Reading.{block_type_item, bulk_number_item, bulk_item, immediates_item, item_behind, instruction_item}
 use Rattle.wasm_instructions.specs.Breaking.{two_numbers_stop, immediates_stop, HasForm, IsOpcode, stops_behind, instruction_stops}
-use Rattle.wasm_instructions.proofs.Offsets.{offset_stops}
+use Rattle.wasm_bytes.proofs.Offsets.{offset_stops}
 
 two_stop : StopsAt two_numbers_stop (u32_item ⊗ u32_item)
 two_stop = then_stops_at u32 (unread u32) (unread u32) u32_item u32_item u32_exact u32_stops_at u32_stops_at

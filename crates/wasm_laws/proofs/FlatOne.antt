@@ -15,11 +15,12 @@ use Rattle.wasm_syntax.specs.FlatTyping.{OpenBlock, opened, label_of, label_type
 use Rattle.wasm_syntax.specs.Machine.{offset_in}
 use Rattle.wasm_syntax.specs.Static.{goes_on, Live, IsNode, LiveAt, Static}
 use Rattle.wasm_laws.proofs.Progress.{tail, head}
-use Rattle.wasm_laws.proofs.Lists.{some_is}
 use Rattle.wasm_laws.proofs.Unique.{one_tree}
 use Rattle.wasm_laws.proofs.Live.{basic_one, jump_one, AscendCode, ascend_code}
 use Rattle.wasm_laws.proofs.FlatBodies.{inside_body}
 use Rattle.wasm_laws.proofs.FlatStatic.{live_front, Spotted, spotted, stands}
+use Rattle.pm_text.proofs.Lists.{some_is}
+use Rattle.wasm_syntax.proofs.Bodies.{code_at}
 
 -- ---- live blocks agree
 
@@ -144,11 +145,6 @@ first_item (jump at j ns) rest n = (Goes j, refl)
 first_item (block at t body end ns) rest n = (Opens t, refl)
 first_item (loop at t body end ns) rest n = (OpensLoop t, refl)
 first_item (choose at t a ea b end ns) rest n = (OpensIf t, refl)
-
-code_at : (targets : List ℕ) (ops : List Op) (i : ℕ) (op : Op) → slice_get ops i ≡ Some op → slice_get (code_of targets ops) i ≡ Some (placed op.at (item_of targets op.code))
-code_at targets [] i op e = absurd (cc)
-code_at targets (o ∷ ops) zero op e = ap (λ z. Some (placed z.at (item_of targets z.code))) (some_is e)
-code_at targets (o ∷ ops) (suc i) op e = code_at targets ops i op e
 
 -- ---- both ways
 

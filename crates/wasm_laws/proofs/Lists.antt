@@ -1,11 +1,9 @@
 -- Facts on each element of a list.
-use Rattle.std.proofs.Common.{◌≡◌, ℕ, zero, suc, ◌+◌, ◌<◌, Bool, true, false, List, [], ◌∷◌, ◌++◌, map, length, take, drop, replicate, slice_get, if◌then◌else◌, Some, option_map, refl, ap, subst, ◌∙◌, arith, unwrap_or}
+use Rattle.std.proofs.Common.{◌≡◌, ℕ, zero, suc, ◌+◌, ◌<◌, Bool, true, false, List, [], ◌∷◌, ◌++◌, map, length, take, drop, replicate, slice_get, if◌then◌else◌, Some, option_map, refl, subst, arith}
 use Rattle.std.specs.Prelude.{IfSome, find}
 use Rattle.std.specs.List.{AllByRecursion}
 use Rattle.wasm_syntax.specs.Valid.{There}
-
-pub some_is : {A : Type 0} {a b : A} → Some a ≡ Some b → a ≡ b
-some_is {a} e = ap (λ o. unwrap_or o a) e
+use Rattle.pm_text.proofs.Lists.{some_is}
 
 -- from each index to each element, and back
 pub all_of : {A : Type 0} (P : A → Type 0) (xs : List A) → ((i : ℕ) → There xs i P) → AllByRecursion P xs
@@ -57,19 +55,10 @@ get_within [] i h = absurd (omega (arith, h))
 get_within (x ∷ xs) zero h = (x, refl)
 get_within (x ∷ xs) (suc i) h = get_within xs i (omega (arith, h))
 
-pub get_inside : {A : Type 0} (xs : List A) (i : ℕ) (x : A) → slice_get xs i ≡ Some x → i < length xs
-get_inside [] i x e = absurd (cc)
-get_inside (y ∷ xs) zero x e = omega arith
-get_inside (y ∷ xs) (suc i) x e = omega (arith, get_inside xs i x e)
-
 pub get_front : {A : Type 0} (xs ys : List A) (i : ℕ) → i < length xs → slice_get (xs ++ ys) i ≡ slice_get xs i
 get_front [] ys i h = absurd (omega (arith, h))
 get_front (x ∷ xs) ys zero h = refl
 get_front (x ∷ xs) ys (suc i) h = get_front xs ys i (omega (arith, h))
-
-pub get_behind : {A : Type 0} (xs ys : List A) (i : ℕ) → slice_get (xs ++ ys) (length xs + i) ≡ slice_get ys i
-get_behind [] ys i = ap (slice_get ys) (omega arith)
-get_behind (x ∷ xs) ys i = let e : length (x ∷ xs) + i ≡ suc (length xs + i) = omega arith in ap (slice_get (x ∷ (xs ++ ys))) e ∙ get_behind xs ys i
 
 pub get_map : {A B : Type 0} (f : A → B) (xs : List A) (i : ℕ) → slice_get (map f xs) i ≡ option_map f (slice_get xs i)
 get_map f [] i = refl

@@ -16,7 +16,7 @@ use Rattle.wasm_syntax.specs.Machine.{offset_in}
 use Rattle.wasm_syntax.specs.Static.{Spot, spot, goes_on, Live, IsNode, LiveAt, Static, CallTakes, Left}
 use Rattle.wasm_laws.proofs.Progress.{head, tail, takes_len}
 use Rattle.wasm_laws.proofs.Unique.{one_tree}
-use Rattle.wasm_laws.proofs.Lists.{some_is}
+use Rattle.pm_text.proofs.Lists.{some_is}
 
 -- ---- what an instruction leaves is determined by what it found
 

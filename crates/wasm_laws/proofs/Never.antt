@@ -1,7 +1,5 @@
 -- No run of a well-typed program gets stuck.
 use Rattle.std.proofs.Common.{◌≡◌, ℕ, zero, suc, Bool, true, false, List, [], ◌∷◌, ◌++◌, if◌then◌else◌, Option, Some, None, option_map, option_to_list, refl, sym, ap, ap₂, ◌∙◌, subst}
-use Rattle.wasm_syntax.specs.declared.value.ValType.{ValType}
-use Rattle.wasm_syntax.specs.declared.value.ValType.TheVariants.{I32, I64}
 use Rattle.wasm_syntax.specs.declared.value.Value.{Value}
 use Rattle.wasm_syntax.specs.declared.parts.FuncType.{FuncType}
 use Rattle.wasm_syntax.specs.Numbers.{types}
@@ -18,6 +16,7 @@ use Rattle.wasm_syntax.specs.Run.{run_on, run_steps, host_alone, run_alone, run_
 use Rattle.wasm_laws.specs.Runs.{NoneStuck}
 use Rattle.wasm_laws.proofs.Progress.{types_append, zero_types, WorldFine}
 use Rattle.wasm_laws.proofs.Safe.{FramesFine, SteppedFine, Typed, step_fine, one_result, AnswerFine, answer_fine}
+use Rattle.wasm_syntax.proofs.Types.{same_types_are}
 
 -- a well-typed program whose instance starts well
 pub record Startable (p : Program) : Type 0 where
@@ -76,15 +75,6 @@ module _ (M : Engine) (typed : Typed M.program) where
   abbrev Alive : Outcome → Type 0
   Alive got_stuck = ⊥
   Alive o = Unit {0}
-
-pub same_list : (ts us : List ValType) → same_types ts us ≡ true → ts ≡ us
-same_list [] [] e = refl
-same_list [] (_ ∷ _) e = absurd (cc)
-same_list (_ ∷ _) [] e = absurd (cc)
-same_list (I32 ∷ a) (I32 ∷ b) e = ap (λ z. I32 ∷ z) (same_list a b e)
-same_list (I32 ∷ a) (I64 ∷ b) e = absurd (cc)
-same_list (I64 ∷ a) (I32 ∷ b) e = absurd (cc)
-same_list (I64 ∷ a) (I64 ∷ b) e = ap (λ z. I64 ∷ z) (same_list a b e)
 
 -- ---- lists of invocations
 
@@ -155,7 +145,7 @@ module _ (p : Program) (s : Startable p) (collecting : Bool) (d : ℕ) where
   call_of i (Some f) e c =
       let t = s.exported i.name f e in
       let c' : entry_fits (Some (same_types t.0.params (types i.args))) ≡ None = ap (λ o. entry_fits (option_map (λ type. same_types type.params (types i.args)) o)) (sym t.1) ∙ c in
-      (f, e, t.0, t.1, sym (same_list t.0.params (types i.args) (true_of (same_types t.0.params (types i.args)) c')))
+      (f, e, t.0, t.1, sym (same_types_are t.0.params (types i.args) (true_of (same_types t.0.params (types i.args)) c')))
 
   calls_of : (is : List Invocation) → cause_of p.module_ is ≡ None → Calls is
   calls_of [] e = tt

@@ -21,7 +21,8 @@ use Rattle.wasm_syntax.specs.Effect.{Effect, gives, fails, unfit, effect, takes,
 use Rattle.wasm_syntax.specs.Effect as effects
 use Rattle.wasm_syntax.specs.Machine.{parts, one_more, cut, zeros}
 use Rattle.wasm_syntax.specs.Typing.{Context, Arrow, ◌⇒◌, arrow, set_global, only_if, if_any}
-use Rattle.wasm_laws.proofs.Lists.{some_is}
+use Rattle.pm_text.proofs.Lists.{some_is}
+use Rattle.wasm_syntax.proofs.Types.{any_found}
 
 -- ---- values and lists of types
 
@@ -194,10 +195,6 @@ found_then (Some x) f a e = (x, refl, e)
 only_found : (b : Bool) (o : Option Arrow) (a : Arrow) → only_if b o ≡ Some a → o ≡ Some a
 only_found true o a e = e
 only_found false o a e = absurd (cc)
-
-any_found : {A : Type 0} (xs : List A) (o : Option Arrow) (a : Arrow) → if_any xs o ≡ Some a → o ≡ Some a
-any_found [] o a e = absurd (cc)
-any_found (x ∷ xs) o a e = e
 
 memory_of_limits : (ls : List Limits) (k : Option Memory) (a : Arrow) (o : Option Arrow) → if_any ls o ≡ Some a → HasMemory ls k → (m : Memory) × (k ≡ Some m)
 memory_of_limits [] k a o e h = absurd (cc)

@@ -15,7 +15,6 @@ use Rattle.wasm_syntax.specs.Tree.{Unreachable, Plain, End, Nodes, stop, basic, 
 use Rattle.wasm_syntax.specs.Typing.{Types, body_context, IsBody, BeginsBody, closing, ◌⇒◌}
 use Rattle.wasm_syntax.specs.Valid.{There, Fine, Valid, Before, FirstInvalid, BodyFine, defined_index}
 use Rattle.wasm_laws.proofs.Progress.{head}
-use Rattle.wasm_laws.proofs.Lists.{some_is}
 use Rattle.wasm_laws.proofs.Unique.{one_tree}
 use Rattle.wasm_syntax.specs.declared.host.Reply.{Reply}
 use Rattle.wasm_syntax.specs.Module.{IsModule}
@@ -24,6 +23,7 @@ use Rattle.wasm_laws.specs.Runs.{NoneStuck}
 use Rattle.wasm_laws.proofs.Never.{never_stuck}
 use Rattle.wasm_laws.proofs.Validity.{startable}
 use Rattle.wasm_laws.proofs.RowModules.{program_of, divides, divides_trees, adds_wide}
+use Rattle.pm_text.proofs.Lists.{some_is}
 
 abbrev two_one : FuncType
 two_one = record { params = I32 ∷ I32 ∷ []; results = I32 ∷ [] }

@@ -23,7 +23,7 @@ use Rattle.wasm_syntax.specs.Effect.{Effect, gives, fails, unfit, effect, takes}
 use Rattle.wasm_syntax.specs.Machine.{Kind, leaves, again, returns, Label, Frame, Config, label, frame, config, Engine, Stepped, next, ends, traps, no_reply, bad_reply, stuck, parts, cut, top, exactly, Went, inside, outside, nowhere, arrive, out_some, leave, land, branch, carried_by, carry, same_result, same_carry, pick, zeros, first, result_of, function_type, entered, host_call, goes_to, deliver, moved, host, enters, applied, calls, calls_if, fits_entry, calls_entry, calls_indirect, branch_if, moved_if, branch_table, jumps, affects, does, chooses, runs, in_frame, steps, step}
 use Rattle.wasm_syntax.specs.Typing.{Context, BasicTypes, IsLabel, AreLabels, JumpTypes, within, Types, body_context}
 use Rattle.wasm_laws.proofs.Progress.{IsNil, tail, head, same_of, types_of, types_append, zero_types, types_reverse, cuts, HasMemory, WorldFine, EffectFine, memory_stays, effect_fine, takes_len}
-use Rattle.wasm_laws.proofs.Lists.{some_is}
+use Rattle.pm_text.proofs.Lists.{some_is}
 
 -- ---- what a fine configuration is
 

@@ -22,7 +22,7 @@ use Rattle.wasm_syntax.specs.declared.place.Place.TheVariants.{TypeAt, ImportAt,
 use Rattle.wasm_syntax.specs.declared.place.Place.TheVariants as places
 use Rattle.wasm_syntax.specs.declared.host.Reply.{Reply}
 use Rattle.wasm_syntax.specs.Numbers.{type_of, types}
-use Rattle.wasm_syntax.specs.Tree.{Tree, Writes, code_of}
+use Rattle.wasm_syntax.specs.Tree.{Tree, code_of}
 use Rattle.wasm_syntax.specs.declared.module.ModuleParts.{ModuleParts as Module}
 use Rattle.wasm_syntax.specs.Module.{AllWrite, IsProgram, Program, Function, imported, defined, function_at, defined_at, imported_at, function_types, type_at, option_then, function_export, is_function, const_value, const_code}
 use Rattle.wasm_syntax.specs.Machine.{zero_of, function_type}
@@ -33,7 +33,10 @@ use Rattle.wasm_laws.proofs.Progress.{HasMemory, WorldFine}
 use Rattle.wasm_laws.proofs.Safe.{Typed}
 use Rattle.wasm_laws.proofs.Never.{Startable}
 use Rattle.wasm_laws.proofs.Unique.{one_tree}
-use Rattle.wasm_laws.proofs.Lists.{some_is, all_of, at_of, there_at, all_append, all_take, all_drop, all_replicate, all_map, found_in, get_within, get_inside, get_front, get_behind, get_map}
+use Rattle.wasm_laws.proofs.Lists.{all_of, at_of, there_at, all_append, all_take, all_drop, all_replicate, all_map, found_in, get_within, get_front, get_map}
+use Rattle.pm_text.proofs.Lists.{some_is, get_behind}
+use Rattle.std.proofs.lemmas.Option.{slice_get_within}
+use Rattle.wasm_syntax.proofs.Bodies.{tree_there}
 
 -- ---- trees
 
@@ -42,12 +45,6 @@ same_count [] [] w = refl
 same_count [] (t ∷ trees) w = absurd w
 same_count (b ∷ bodies) [] w = absurd w
 same_count (b ∷ bodies) (t ∷ trees) w = ap suc (same_count bodies trees w.1)
-
-pub tree_there : (bodies : List Body) (trees : List Tree) (i : ℕ) (body : Body) (tree : Tree) → AllWrite bodies trees → slice_get bodies i ≡ Some body → slice_get trees i ≡ Some tree → Writes body.targets body.ops tree
-tree_there [] trees i body tree w e f = absurd (cc)
-tree_there (b ∷ bodies) [] i body tree w e f = absurd w
-tree_there (b ∷ bodies) (t ∷ trees) zero body tree w e f = subst (λ x. Writes x.targets x.ops tree) (some_is e) (subst (Writes b.targets b.ops) (some_is f) w.0)
-tree_there (b ∷ bodies) (t ∷ trees) (suc i) body tree w e f = tree_there bodies trees i body tree w.1 e f
 
 -- ---- options
 
@@ -229,7 +226,7 @@ module _ (p : Program) (is_program : IsProgram p) (as_many : length p.module_.bo
       by_test false q x =
           let le : imports ≤ g = ltb-false g imports q in
           let t : slice_get M.functions (g - imports) ≡ Some x.0 = sym (defined_type g le) ∙ x.1 in
-          let lt = get_inside M.functions (g - imports) x.0 t in
+          let lt = slice_get_within M.functions (g - imports) x.0 t in
           let body = get_within M.bodies (g - imports) (omega (arith, lt, as_many)) in
           let tree = get_within p.trees (g - imports) (omega (arith, lt, as_many, same_count M.bodies p.trees is_program)) in
           (defined body.0 tree.0 type, is_defined (g - imports) x.0 type body.0 tree.0 t x.2 body.1 tree.1, refl)

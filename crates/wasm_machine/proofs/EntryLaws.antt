@@ -1,13 +1,13 @@
 -- Entries, their arguments and the imports of their module.
-use Rattle.std.proofs.Common.{◌≡◌, ◌≢◌, ℕ, zero, suc, List, [], ◌∷◌, map, length, refl, sym, ap, subst, ◌∙◌}
-use Rattle.std.specs.Prelude.{Bool, true, false, ◌&&◌, slice_get, Option, Some, None, option_map}
+use Rattle.std.proofs.Common.{◌≡◌, ℕ, zero, suc, List, [], ◌∷◌, map, refl, sym, ap, subst, ◌∙◌}
+use Rattle.std.specs.Prelude.{Bool, true, false, slice_get, Option, Some, None, option_map}
 use Rattle.wasm_syntax.specs.declared.value.ValType.{ValType}
 use Rattle.wasm_syntax.specs.declared.value.ValType.TheVariants.{I32, I64}
 use Rattle.wasm_syntax.specs.declared.value.Value.{Value}
 use Rattle.wasm_syntax.specs.declared.parts.Import.{Import}
 use Rattle.wasm_syntax.specs.declared.parts.FuncType.{FuncType}
 use Rattle.wasm_syntax.specs.declared.module.ModuleParts.{ModuleParts as Module}
-use Rattle.wasm_syntax.specs.Numbers.{same_type, types}
+use Rattle.wasm_syntax.specs.Numbers.{types}
 use Rattle.wasm_syntax.specs.Module.{same_types, type_at, function_export}
 use Rattle.wasm_syntax.specs.Run.{cause_of_entry, if_fits, first_false}
 use Rattle.machine_hosted.specs.Settings.{Takes, ServesAll}
@@ -15,16 +15,6 @@ use Rattle.wasm_machine.specs.declared.entries.EntryFault.{EntryFault}
 use Rattle.wasm_machine.specs.Entries.{serves_type, is_served, first_unserved, unserved, fault_or, entry_fault}
 
 -- ---- types of arguments
-
-pub other_count : (ts us : List ValType) → length ts ≢ length us → same_types ts us ≡ false
-other_count [] [] ne = absurd (ne refl)
-other_count [] (u ∷ us) ne = refl
-other_count (t ∷ ts) [] ne = refl
-other_count (t ∷ ts) (u ∷ us) ne = ap (λ b. same_type t u && b) (other_count ts us (λ e. ne (ap suc e))) ∙ both_false (same_type t u)
-  where
-    both_false : (b : Bool) → (b && false) ≡ false
-    both_false true = refl
-    both_false false = refl
 
 same_list : (ts us : List ValType) → same_types ts us ≡ true → us ≡ ts
 same_list [] [] e = refl

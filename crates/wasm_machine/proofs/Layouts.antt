@@ -17,7 +17,6 @@ use Rattle.machine_frames.specs.declared.layout.Control.{Control}
 use Rattle.machine_frames.specs.declared.layout.CallFrame.{CallFrame}
 use Rattle.machine_frames.specs.declared.layout.CallStack.{CallStack}
 use Rattle.machine_frames.specs.Layout.{Level, Waiting, Frames}
-use Rattle.machine_frames.proofs.Labels.{some_is}
 use Rattle.machine_steps.proofs.PlaceLaws.{labels_at}
 use Rattle.machine_steps.specs.declared.machine.Machine.{Machine}
 use Rattle.machine_steps.specs.declared.machine.Prepared.{Prepared}
@@ -27,6 +26,7 @@ use Rattle.dump_write.specs.Image.{DumpFrame, frame_image, frame_images}
 use Rattle.wasm_machine.specs.declared.frames.Extent.{Extent}
 use Rattle.wasm_machine.specs.inner.Shown.{between, offset_at, numbered, frame_shown, frames_shown, all_shown, extent_under}
 use Rattle.machine_frames.proofs.CallLaws.{as_many}
+use Rattle.pm_text.proofs.Lists.{some_is}
 
 -- ---- the values of a frame
 

@@ -18,7 +18,7 @@ use Rattle.wasm_machine.specs.declared.invocation.End.{End}
 use Rattle.wasm_machine.specs.declared.invocation.End.TheVariants as ends
 use Rattle.wasm_machine.specs.declared.invocation.LastInvocation.{LastInvocation}
 use Rattle.wasm_machine.specs.Instances.{State, state, kept_end, last_of, IsSpent, Resumed, StoppedBy}
-use Rattle.wasm_laws.proofs.Lists.{some_is}
+use Rattle.pm_text.proofs.Lists.{some_is}
 
 abbrev kept_so : (entry : ℕ) (args : List Value) (depth : ℕ) (collecting : Bool) → End → LastInvocation
 kept_so entry args depth collecting end = record { entry = entry; args = args; depth = depth; collecting = collecting; end = end }

@@ -12,6 +12,7 @@ use Rattle.wasm_format.specs.Expressions.{code_item}
 use Rattle.wasm_format.specs.Sections.{bodies_item}
 use Rattle.wasm_sections.specs.declared.bodies.CodeEntries.{CodeEntries}
 use Rattle.wasm_sections.specs.Steps.{noted_step, noted_steps, with_body, code_step, entries_steps, bodies_steps}
+use Rattle.wasm_bytes.proofs.Offsets.{bind-same}
 
 -- the value made of what was read
 abbrev pub made : {A B : Type 0} → (A → B) → Read A → Read B
@@ -24,11 +25,6 @@ made-bind to (Err at) f = refl
 pub bind-made : {A B C : Type 0} (to : B → C) (read : Read A) (f : A × Place → Read B) → made to (read >>= f) ≡ (read >>= λ x. made to (f x))
 bind-made to (Ok x) f = refl
 bind-made to (Err at) f = refl
-
--- reading on in two ways that agree
-pub bind-same : {A B : Type 0} (read : Read A) (f g : A × Place → Read B) → ((x : A) (q : Place) → f (x, q) ≡ g (x, q)) → (read >>= f) ≡ (read >>= g)
-bind-same (Ok x) f g same = same x.0 x.1
-bind-same (Err at) f g same = refl
 
 pub items-steps : {A S : Type 0} (to : List A → S) (item : Place → Read A) (step : S → Place → Read S)
     → ((front : List A) (p : Place) → step (to front) p ≡ made (λ x. to (front ++ x ∷ [])) (item p))

@@ -1,1 +1,3 @@
 pub mod Differ
+pub mod Types
+pub mod Bodies

@@ -8,10 +8,7 @@ use Rattle.std.specs.List.{list_any}
 use Rattle.wasm_syntax.specs.declared.parts.Export.{Export}
 use Rattle.wasm_syntax.specs.declared.module.ModuleParts.{ModuleParts as Module}
 use Rattle.wasm_syntax.specs.Valid.{ExportFine, index_space}
-use Rattle.wasm_laws.proofs.Lists.{some_is}
-
-eq_is : (xs ys : List ℕ) → bytes_eq xs ys ≡ true → xs ≡ ys
-eq_is xs ys e = (bytes_eq-Decides xs ys).0 e
+use Rattle.pm_text.proofs.Lists.{some_is}
 
 ne_is : (xs ys : List ℕ) → bytes_eq xs ys ≡ false → xs ≡ ys → ⊥
 ne_is xs ys e q = let t : false ≡ true = sym e ∙ (bytes_eq-Decides xs ys).1 q in cc
@@ -27,7 +24,7 @@ other_ne : (xs ys : List ℕ) → (xs ≡ ys → ⊥) → bytes_eq xs ys ≡ fal
 other_ne xs ys n = by_test (bytes_eq xs ys) refl
   where
     by_test : (b : Bool) → bytes_eq xs ys ≡ b → bytes_eq xs ys ≡ false
-    by_test true q = absurd (n (eq_is xs ys q))
+    by_test true q = absurd (n ((bytes_eq-Decides xs ys).0 q))
     by_test false q = q
 
 -- an element that passes a test is there, or none is
@@ -55,7 +52,7 @@ pub repeated : (m : Module) (i : ℕ) (e : Export) (name : List ℕ) (old : Opti
 repeated m i e name old n q o s f =
     let t : list_any (λ x. bytes_eq name x.name) (take i m.exports) ≡ true = sym s ∙ ap (λ z. is_some z) o in
     let r = any_found (λ x. bytes_eq name x.name) m.exports i t in
-    f.1 r.0 r.1 r.2 r.3 (sym (eq_is name r.1.name r.4) ∙ q)
+    f.1 r.0 r.1 r.2 r.3 (sym ((bytes_eq-Decides name r.1.name).0 r.4) ∙ q)
 
 pub distinct : (m : Module) (i : ℕ) (e : Export) (name : List ℕ) (old : Option ℕ) → name ≡ e.name → old ≡ None → is_some old ≡ list_any (λ x. bytes_eq name x.name) (take i m.exports) → e.index < index_space m e.kind → ExportFine m i e
 distinct m i e name old p o s lt =
@@ -81,7 +78,7 @@ seen_next exports i e q old new n g s u =
 
     by_test : (b : Bool) → bytes_eq e.name q ≡ b → list_any (λ x. bytes_eq q x.name) (take (i + 1) exports) ≡ (list_any (λ x. bytes_eq q x.name) (take i exports) || bytes_eq q e.name) → is_some new ≡ list_any (λ x. bytes_eq q x.name) (take (i + 1) exports)
     by_test true t m =
-        let r : bytes_eq q e.name ≡ true = same_eq q e.name (sym (eq_is e.name q t)) in
+        let r : bytes_eq q e.name ≡ true = same_eq q e.name (sym ((bytes_eq-Decides e.name q).0 t)) in
         let w : new ≡ Some n = u ∙ ap (λ b. cond b (Some n) old) t in
         ap (λ o. is_some o) w ∙ or_true (list_any (λ x. bytes_eq q x.name) (take i exports)) ∙ ap (λ b. list_any (λ x. bytes_eq q x.name) (take i exports) || b) (sym r) ∙ sym m
     by_test false t m =

@@ -23,9 +23,9 @@ use Rattle.validate_body.proofs.Options.{none_is, map_inv, if_inv}
 use Rattle.validate_body.proofs.Jumps.{any_sound_inv, drop_inv}
 use Rattle.validate_body.proofs.Same.{emptied_inv, else_inv}
 use Rattle.std.proofs.lemmas.Bool.{or_parts}
-use Rattle.wasm_laws.proofs.Lists.{some_is}
 use Rattle.wasm_laws.proofs.Validity.{then_found}
 use Rattle.validate_body.proofs.Flags.{true_false}
+use Rattle.pm_text.proofs.Lists.{some_is}
 
 -- the operands under the outermost dead sequence, the topmost first; in live code those of all frames
 abbrev pub base : List Frame → Known

@@ -11,7 +11,7 @@ use Rattle.wasm_syntax.specs.declared.module.ModuleParts.{ModuleParts as Module}
 use Rattle.wasm_syntax.specs.Module.{type_at, option_then}
 use Rattle.wasm_syntax.specs.FlatTyping.{TypesBefore}
 use Rattle.wasm_syntax.specs.Valid.{defined_index}
-use Rattle.wasm_laws.proofs.Lists.{get_within, some_is}
+use Rattle.wasm_laws.proofs.Lists.{get_within}
 use Rattle.validate_body.specs.declared.marks.Mark.{Mark}
 use Rattle.validate_body.proofs.Options.{then_some, map_inv}
 use Rattle.wasm_validate.specs.Heights.{TypesAt, HasOp, HeightIs, StandsIn, AllLow, FirstHigh}
@@ -21,6 +21,7 @@ use Rattle.wasm_validate.specs.Whole.{MarkedAt, MarkedUpTo}
 use Rattle.wasm_validate.proofs.Order.{index_back}
 use Rattle.wasm_validate.proofs.WholeLaws.{body_at}
 use Rattle.wasm_laws.proofs.Validity.{then_found}
+use Rattle.pm_text.proofs.Lists.{some_is}
 
 -- ---- one function
 

@@ -13,7 +13,7 @@ use Rattle.wasm_syntax.specs.Tree.{Placed, placed}
 use Rattle.wasm_syntax.specs.Typing.{BeginsBody, body_context}
 use Rattle.wasm_syntax.specs.FlatTyping.{body_block}
 use Rattle.wasm_syntax.specs.Valid.{Valid, FuncTypeFine, kind_number, index_number, FirstWrong, FirstInvalid}
-use Rattle.wasm_laws.proofs.Lists.{there_at, some_is}
+use Rattle.wasm_laws.proofs.Lists.{there_at}
 use Rattle.wasm_laws.proofs.FlatSteps.{steps_split}
 use Rattle.wasm_laws.proofs.FlatBodies.{Gives, begins_steps, steps_begins}
 use Rattle.wasm_laws.proofs.FlatStatic.{rest_of, head_or}
@@ -24,6 +24,7 @@ use Rattle.wasm_validate.specs.Heights.{AllLow, FirstHigh, StandsIn}
 use Rattle.wasm_validate.specs.Answers.{Answered}
 use Rattle.wasm_laws.proofs.Validity.{then_found}
 use Rattle.wasm_validate.proofs.HeightLaws.{below_or}
+use Rattle.pm_text.proofs.Lists.{some_is}
 
 -- ---- the first wrong instruction
 

@@ -12,7 +12,7 @@ use Rattle.wasm_syntax.specs.Tree.{Placed, placed, code_of, item_of}
 use Rattle.wasm_syntax.specs.Typing.{Context, body_context}
 use Rattle.wasm_syntax.specs.FlatTyping.{TypesBefore}
 use Rattle.wasm_laws.proofs.FlatBodies.{Gives}
-use Rattle.wasm_laws.proofs.Lists.{at_of as in_list, there_at, get_within, some_is}
+use Rattle.wasm_laws.proofs.Lists.{at_of as in_list, there_at, get_within}
 use Rattle.validate_stack.specs.Frames.{Known, Frame, operands, any_free, topmost}
 use Rattle.validate_body.specs.declared.marks.Mark.{Mark}
 use Rattle.validate_body.specs.inner.Algorithm.{run, start, step}
@@ -31,6 +31,7 @@ use Rattle.wasm_validate.proofs.HeightLaws.{at_of, mark_at, height_of_mark, heig
 use Rattle.wasm_validate.proofs.RowLaws.{in_more}
 use Rattle.wasm_validate.proofs.Growth.{base, Below, tail_of, OneResult, base_live, Grows, step_grows}
 use Rattle.wasm_laws.proofs.Validity.{then_found}
+use Rattle.pm_text.proofs.Lists.{some_is}
 
 -- the last instruction with a height has this topmost type
 abbrev pub Found : List (Option Mark) → ℕ → ℕ → Option ValType → Type 0

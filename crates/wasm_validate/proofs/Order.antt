@@ -9,8 +9,9 @@ use Rattle.wasm_syntax.specs.declared.parts.Limits.{Limits}
 use Rattle.wasm_syntax.specs.declared.module.ModuleParts.{ModuleParts as Module}
 use Rattle.wasm_syntax.specs.Valid.{AtIndex, There, Fine, FirstInvalid, FuncTypeFine, ImportFine, DeclarationFine, TableFine, MemoryFine, GlobalFine, ExportFine, StartFine, ElementFine, DataFine, defined_index, kind_number, index_number}
 use Rattle.wasm_validate.specs.inner.Places.{FineUpTo, FirstBad, UpTo, OneFine}
-use Rattle.wasm_laws.proofs.Lists.{some_is}
 use Rattle.validate_body.proofs.Options.{none_is}
+use Rattle.pm_text.proofs.Lists.{some_is}
+use Rattle.wasm_syntax.proofs.Bodies.{index_of}
 
 pub nothing_before : (m : Module) → UpTo m 0 0
 nothing_before m other b = ⊎_elim (λ lt. absurd (omega arith)) (λ e. absurd (omega (arith, e.1))) b
@@ -236,13 +237,6 @@ segments_bad m i u h = record {
     same other e lt = absurd (omega arith)
 
 -- ---- declarations
-
-pub index_of : (m : Module) (i : ℕ) → defined_index m (length m.imports + i) ≡ Some i
-index_of m i = by_test (nat_lt (length m.imports + i) (length m.imports)) refl
-  where
-    by_test : (b : Bool) → nat_lt (length m.imports + i) (length m.imports) ≡ b → (if b then None else Some (length m.imports + i - length m.imports)) ≡ Some i
-    by_test true e = let w : length m.imports + i < length m.imports = grind (arith, nat_tests) in absurd (omega arith)
-    by_test false e = let q : length m.imports + i - length m.imports ≡ i = omega arith in ap (λ x. Some x) q
 
 pub index_back : (m : Module) (f i : ℕ) → defined_index m f ≡ Some i → f ≡ length m.imports + i
 index_back m f i e = by_test (nat_lt f (length m.imports)) refl e

@@ -4,10 +4,11 @@ use Rattle.std.proofs.lemmas.Option.{slice_get_within, slice_get-get_or, get_or_
 use Rattle.std.proofs.lemmas.Bool.Decides.{nat_tests}
 use Rattle.std.specs.Prelude.{Bool, true, false, ◌⊎◌, Option, Some, None, Result, Ok, Err, OnOk, nat_le, slice_set}
 use Rattle.std.specs.List.Sorted.{IsNonDecreasingBy, IsPartitionPoint}
-use Rattle.wasm_laws.proofs.Lists.{get_front, get_behind, some_is}
+use Rattle.wasm_laws.proofs.Lists.{get_front}
 use Rattle.validate_body.specs.declared.marks.Mark.{Mark}
 use Rattle.wasm_validate.specs.Operands.{Ascends, UpTo, IsRow, AreRows, RowsUpTo, LastOf}
 use Rattle.wasm_validate.proofs.HeightLaws.{below_or}
+use Rattle.pm_text.proofs.Lists.{some_is, get_behind}
 
 -- ---- places of a list
 

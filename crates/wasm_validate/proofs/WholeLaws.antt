@@ -1,17 +1,15 @@
 -- From bodies to modules.
 use Rattle.std.proofs.Common.{◌≡◌, ℕ, zero, suc, ◌+◌, ◌<◌, ◌≤◌, ◌^◌, List, [], ◌∷◌, ◌++◌, map, length, refl, sym, ap, subst, ◌∙◌, arith, length-append, inl, inr, ⊎_elim}
 use Rattle.std.proofs.lemmas.Option.{slice_get_within}
-use Rattle.std.proofs.lemmas.List.Sums.{sum_by-cons}
-use Rattle.std.specs.Prelude.{replicate, sum, Result, Ok, Err, Option, Some, None, slice_get, IfSome, IfOk, ◌⊎◌}
+use Rattle.std.specs.Prelude.{Result, Ok, Err, Option, Some, None, slice_get, IfSome, IfOk, ◌⊎◌}
 use Rattle.wasm_syntax.specs.declared.place.Place.{Place}
 use Rattle.wasm_syntax.specs.declared.place.Place.TheVariants.{TypeAt, Declaration, Function}
 use Rattle.wasm_syntax.specs.declared.parts.FuncType.{FuncType}
 use Rattle.wasm_syntax.specs.declared.parts.Import.{Import}
-use Rattle.wasm_syntax.specs.declared.parts.LocalGroup.{LocalGroup}
 use Rattle.wasm_syntax.specs.declared.parts.Body.{Body}
 use Rattle.wasm_syntax.specs.declared.module.ModuleParts.{ModuleParts as Module}
-use Rattle.wasm_syntax.specs.Module.{AllWrite, function_types, type_at, option_then, declared_locals}
-use Rattle.wasm_syntax.specs.Tree.{Tree, Placed, Writes, code_of, placed}
+use Rattle.wasm_syntax.specs.Module.{function_types, type_at, option_then, declared_locals}
+use Rattle.wasm_syntax.specs.Tree.{Placed, code_of, placed}
 use Rattle.wasm_syntax.specs.Typing.{Context, body_context, IsBody}
 use Rattle.wasm_syntax.specs.Valid.{Fine, Valid, There, FirstWrong, FirstInvalid, OffsetIs, BodyFine, FuncTypeFine, DeclarationFine, defined_index, kind_number, index_number}
 use Rattle.validate_stack.specs.Frames.{Frame}
@@ -24,19 +22,14 @@ use Rattle.validate_body.specs.declared.body.BodyFault.TheVariants.{WrongAt, NoM
 use Rattle.validate_body.proofs.Options.{none_is, then_some}
 use Rattle.validate_body.proofs.Same.{accepts, began}
 use Rattle.validate_body.proofs.Through.{first_gives}
-use Rattle.wasm_laws.proofs.Lists.{get_front, get_behind, some_is, get_within}
+use Rattle.wasm_laws.proofs.Lists.{get_front, get_within}
 use Rattle.wasm_syntax.specs.Sizes.{WithinLimits, local_count}
 use Rattle.wasm_validate.specs.inner.Places.{UpTo}
 use Rattle.wasm_validate.specs.Whole.{BodiesUpTo, BodyJudged, MarkedAt, MarkedUpTo}
-use Rattle.wasm_validate.proofs.Order.{there_is, there_from, index_of, index_back}
+use Rattle.wasm_validate.proofs.Order.{there_is, there_from, index_back}
 use Rattle.wasm_laws.proofs.Validity.{then_found}
-use Rattle.validate_body.proofs.LocalsLaws.{replicate_length}
-
-pub tree_of : (bodies : List Body) (trees : List Tree) (i : ℕ) (b : Body) → AllWrite bodies trees → slice_get bodies i ≡ Some b → (tree : Tree) × Writes b.targets b.ops tree
-tree_of [] trees i b w e = absurd (cc)
-tree_of (c ∷ cs) [] i b w e = absurd w
-tree_of (c ∷ cs) (t ∷ ts) zero b w e = let q : c ≡ b = some_is e in (t, subst (λ x. Writes x.targets x.ops t) q w.0)
-tree_of (c ∷ cs) (t ∷ ts) (suc i) b w e = tree_of cs ts i b w.1 e
+use Rattle.pm_text.proofs.Lists.{some_is, get_behind}
+use Rattle.wasm_syntax.proofs.Bodies.{index_of, declared_length}
 
 -- ---- the type of a defined function
 
@@ -174,15 +167,6 @@ marked_more all m n marks h is = record {
 
 pub up_to_none : (m : Module) → BodiesUpTo m 0
 up_to_none m i body lt e = absurd (omega (arith, lt))
-
-declared_length : (gs : List LocalGroup) → length (declared_locals gs) ≡ sum (map (λ g. g.count) gs)
-declared_length [] = refl
-declared_length (g ∷ gs) =
-    let a : length (replicate g.count g.vtype ++ declared_locals gs) ≡ length (replicate g.count g.vtype) + length (declared_locals gs) = length-append (replicate g.count g.vtype) (declared_locals gs) in
-    let b : length (replicate g.count g.vtype) ≡ g.count = replicate_length g.count g.vtype in
-    let r : length (declared_locals gs) ≡ sum (map (λ g. g.count) gs) = declared_length gs in
-    let t : length (replicate g.count g.vtype) + length (declared_locals gs) ≡ g.count + sum (map (λ g. g.count) gs) = omega (arith, b, r) in
-    a ∙ t ∙ sym (sum_by-cons (λ n. n) g.count (map (λ g. g.count) gs))
 
 pub few_locals : (m : Module) (i : ℕ) (body : Body) → WithinLimits m → slice_get m.bodies i ≡ Some body → length (declared_locals body.groups) < 2 ^ 32
 few_locals m i body h e =

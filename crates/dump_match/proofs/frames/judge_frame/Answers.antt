@@ -1,6 +1,4 @@
-use Rattle.std.proofs.Common.{◌≡◌, ℕ, ◌<◌, List, get_or, length, slice_get, refl, sym, subst, ◌∙◌}
-use Rattle.std.proofs.lemmas.Option.{slice_get_read}
-use Rattle.std.specs.Prelude.{Some}
+use Rattle.std.proofs.Common.{subst, ◌∙◌}
 use Rattle.dump_format.specs.declared.dump.Frame.{Frame}
 use Rattle.dump_match.specs.Frames.{FunctionFits, LocalsFit, OperandsFit, CallFits, CalleeFits}
 use Rattle.dump_match.specs.inner.Decides.{Decides}
@@ -8,12 +6,7 @@ use Rattle.dump_match.specs.inner.Stands.{Stands}
 use Rattle.dump_match.proofs.Order.{no_locals, no_operands, no_call, no_callee, passes_all}
 use Rattle.dump_match.proofs.Spots.{from_spot}
 use Rattle.dump_match.proofs.frames.judge_frame.Goals as goal
-
--- the frame of the index
-frame_at : (slice frames : List Frame) (i : ℕ) (f : Frame) → slice ≡ frames → i < length frames → f ≡ get_or slice i f → slice_get frames i ≡ Some f
-frame_at slice frames i f e lt is =
-    let lt' : i < length slice = subst (λ xs. i < length xs) (sym e) lt in
-    subst (λ xs. slice_get xs i ≡ Some f) e (slice_get_read slice (length slice) i f refl lt' is)
+use Rattle.dump_match.proofs.FrameLists.{frame_at}
 
 pub returns-then-not-locals_fit : goal.returns-then-not-locals_fit
 returns-then-not-locals_fit c =

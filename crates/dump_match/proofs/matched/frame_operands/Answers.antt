@@ -1,14 +1,8 @@
-use Rattle.std.proofs.Common.{◌≡◌, ℕ, ◌<◌, List, get_or, length, slice_get, refl, sym, subst}
-use Rattle.std.proofs.lemmas.Option.{slice_get_read}
-use Rattle.std.specs.Prelude.{Some, IfSome}
-use Rattle.dump_format.specs.declared.dump.Frame.{Frame}
+use Rattle.std.proofs.Common.{sym, subst}
+use Rattle.std.specs.Prelude.{IfSome}
 use Rattle.dump_match.specs.States.{StateOperandCount}
 use Rattle.dump_match.proofs.matched.frame_operands.Goals as goal
-
-frame_at : (slice frames : List Frame) (i : ℕ) (f : Frame) → slice ≡ frames → i < length frames → f ≡ get_or slice i f → slice_get frames i ≡ Some f
-frame_at slice frames i f e lt is =
-    let lt' : i < length slice = subst (λ xs. i < length xs) (sym e) lt in
-    subst (λ xs. slice_get xs i ≡ Some f) e (slice_get_read slice (length slice) i f refl lt' is)
+use Rattle.dump_match.proofs.FrameLists.{frame_at}
 
 pub returns : goal.returns
 returns c =

@@ -11,8 +11,9 @@ use Rattle.run_session.specs.inner.Collecting.{used_up_of, serving_of, collectin
 use Rattle.run_session.specs.inner.Sessions.{OnTurnStop}
 use Rattle.run_session.proofs.Tellings.{behaves}
 use Rattle.run_session.proofs.Ends.{done_no_fault}
-use Rattle.run_session.proofs.Whole.{begins, entry_now, next_done, one_due, due_left, of_ok, of_want, of_goes, of_refused, rose_since, come_next, ends_ran, torn_ran, ends_stopped, torn_stopped, stops_here, stopped_here, stopped_refused, all_ran_so, of_end}
+use Rattle.run_session.proofs.Whole.{begins, entry_now, next_done, one_due, due_left, of_ok, of_want, of_goes, of_refused, come_next, ends_ran, torn_ran, ends_stopped, torn_stopped, stops_here, stopped_here, stopped_refused, all_ran_so, of_end}
 use Rattle.run_session.proofs.session.run_all.Goals as goal
+use Rattle.command_answers.proofs.Reading.{rose_since}
 
 pub loop-index-init : goal.loop-index-init
 loop-index-init g c = record {

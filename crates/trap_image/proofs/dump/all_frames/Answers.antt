@@ -3,8 +3,9 @@ use Rattle.std.proofs.lemmas.List.{take_all}
 use Rattle.dump_format.specs.declared.dump.Frame.{Frame}
 use Rattle.dump_write.specs.Image.{DumpFrame, frame_images}
 use Rattle.dump_write.specs.ImageBytes.{frame_of}
-use Rattle.trap_image.proofs.Dumps.{frame_more, images_count}
+use Rattle.trap_image.proofs.Dumps.{frame_more}
 use Rattle.trap_image.proofs.dump.all_frames.Goals as goal
+use Rattle.dump_write.proofs.Images.{images_count}
 
 pub loop-index-preserved : goal.loop-index-preserved
 loop-index-preserved c = λ p d at.

@@ -3,8 +3,9 @@ use Rattle.std.specs.Prelude.{Some, None}
 use Rattle.std.specs.Option.{option_copied}
 use Rattle.wasm_syntax.specs.Module.{type_at}
 use Rattle.validate_body.proofs.Options.{none_is}
-use Rattle.wasm_validate.proofs.WholeLaws.{one_result, tree_of, has_type, judged_at, few_locals}
+use Rattle.wasm_validate.proofs.WholeLaws.{one_result, has_type, judged_at, few_locals}
 use Rattle.wasm_validate.proofs.bodies.check_at.Goals as goal
+use Rattle.wasm_syntax.proofs.Bodies.{tree_of}
 
 pub check_body-requires-clause-one_result : goal.check_body-requires-clause-one_result
 check_body-requires-clause-one_result c =

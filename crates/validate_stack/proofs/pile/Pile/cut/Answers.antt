@@ -1,7 +1,7 @@
 use Rattle.std.proofs.Common.{sym, ap, ◌∙◌, reverse, length, drop, ◌-◌}
 use Rattle.std.proofs.lemmas.List.{length-reverse}
-use Rattle.validate_stack.proofs.StackLaws.{reverse_take}
 use Rattle.validate_stack.proofs.pile.Pile.cut.Goals as goal
+use Rattle.pm_text.proofs.Lists.{reverse_take}
 
 pub returns : goal.returns
 returns g c =
