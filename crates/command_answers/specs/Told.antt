@@ -9,22 +9,7 @@ use Rattle.command_answers.specs.declared.status.Status.TheVariants as status
 abbrev pub UnlessFault : Status → Type 0 → Type 0
 UnlessFault status.FileFault P = Unit {0}
 UnlessFault status.NoMemory P = Unit {0}
-UnlessFault status.Done P = P
-UnlessFault status.Trapped P = P
-UnlessFault status.Usage P = P
-UnlessFault status.NoFile P = P
-UnlessFault status.Malformed P = P
-UnlessFault status.Outside P = P
-UnlessFault status.Invalid P = P
-UnlessFault status.NotStarted P = P
-UnlessFault status.HostStopped P = P
-UnlessFault status.FuelSpent P = P
-UnlessFault status.BadDump P = P
-UnlessFault status.Mismatch P = P
-UnlessFault status.Limit P = P
-UnlessFault status.Collision P = P
-UnlessFault status.TornCalls P = P
-UnlessFault status.BadReplies P = P
+UnlessFault _ P = P
 
 -- ---- files
 

@@ -8,7 +8,7 @@ use Rattle.wasm_syntax.specs.declared.host.Reply.{Reply}
 use Rattle.wasm_syntax.specs.declared.host.Served.{Served}
 use Rattle.wasm_syntax.specs.declared.module.ModuleParts.{ModuleParts as Module}
 use Rattle.wasm_syntax.specs.Module.{Program, IsProgram, function_export}
-use Rattle.wasm_syntax.specs.Run.{Outcome as RunOutcome, not_started, finished, trapped, lacks_reply, misfits, running, got_stuck, Ran, Invocation, engine, invoked, start_world}
+use Rattle.wasm_syntax.specs.Run.{Outcome as RunOutcome, finished, trapped, lacks_reply, misfits, running, Ran, Invocation, engine, invoked, start_world}
 use Rattle.wasm_decode.specs.Decode.{module_from}
 use Rattle.machine_steps.specs.Places.{Place, invocation_places}
 use Rattle.host_devices.specs.Given.{replies_of}
@@ -58,8 +58,7 @@ EndsAs names imports fitted fell (trapped kind) o = Tells (kind_line kind) fell 
 EndsAs names imports fitted fell running o = Tells (codes "fuel spent\n") fell o
 EndsAs names imports fitted fell (lacks_reply call) o = o ≡ ended status.HostStopped (end_text names imports fitted 0 (lacks_reply call))
 EndsAs names imports fitted fell (misfits call reply) o = o ≡ ended status.HostStopped (end_text names imports fitted 0 (misfits call reply))
-EndsAs names imports fitted fell (not_started cause) o = ⊥
-EndsAs names imports fitted fell got_stuck o = ⊥
+EndsAs names imports fitted fell _ o = ⊥
 
 -- what the invocation comes to on the replies that were given, those of the script being its first ones; a device that gives none has failed
 pub record CoversTo (before after : List DeviceState) (script : Option (List Reply)) (w : CoverWords) (lines : List (ℕ × LineProgram)) (m : Module) (given : List Served) (o : Outcome) : Type 0 where

@@ -32,8 +32,7 @@ most_bytes = 4096
 
 abbrev pub examined : Option ℕ → Option ℕ → Command
 examined (Some at) (Some n) = if nat_le 1 n && nat_le n most_bytes then Examine at n else Bad
-examined (Some at) None = Bad
-examined None n = Bad
+examined _ _ = Bad
 
 abbrev pub examine : List ℕ → List ℕ → Command
 examine x y = examined (decimal_value x) (decimal_value y)
@@ -42,11 +41,10 @@ abbrev pub three_words : List ℕ → List ℕ → List ℕ → Command
 three_words w x y = is_word w (codes "x") (examine x y) Bad
 
 abbrev pub command_of : List (List ℕ) → Command
-command_of [] = Bad
 command_of (w ∷ []) = one_word w
 command_of (w ∷ x ∷ []) = two_words w x
 command_of (w ∷ x ∷ y ∷ []) = three_words w x y
-command_of (w ∷ x ∷ y ∷ z ∷ more) = Bad
+command_of _ = Bad
 
 unfoldable pub read_command : List ℕ → Command
 read_command text = command_of (slice_split (λ b. b == 32) text)

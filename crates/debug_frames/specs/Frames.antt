@@ -18,7 +18,7 @@ use Rattle.dwarf_scopes.specs.Scopes.{subprogram_at, inlined_at}
 use Rattle.dwarf_line.specs.Place.{Located}
 use Rattle.debug_frames.specs.declared.information.Information.{Information}
 use Rattle.debug_frames.specs.declared.programs.Program.{Program}
-use Rattle.debug_frames.specs.declared.programs.Program.TheVariants.{Read, Unreadable}
+use Rattle.debug_frames.specs.declared.programs.Program.TheVariants.{Read}
 use Rattle.debug_frames.specs.Programs.{named_by, program_at, located_at}
 use Rattle.debug_frames.specs.Files.{file_text}
 
@@ -54,8 +54,7 @@ row_site (Some x) = site (file_text x.lines (Some x.row.file)) (pos x.row.line)
 
 abbrev pub file_in : Option Program → Option ℕ → List ℕ
 file_in (Some (Read lines)) number = file_text lines number
-file_in (Some Unreadable) number = codes "?"
-file_in None number = codes "?"
+file_in _ number = codes "?"
 
 -- the line program of the unit of an entry
 abbrev pub program_of_unit : List (ℕ × Program) → Standing → Option Program

@@ -5,7 +5,7 @@ use Rattle.dwarf_info.specs.declared.entry.UnitAnswer.{UnitAnswer}
 use Rattle.dwarf_info.specs.declared.entry.UnitAnswer.TheVariants as answers
 use Rattle.debug_frames.specs.declared.information.Information.{Information}
 use Rattle.debug_frames.specs.declared.programs.Program.{Program}
-use Rattle.debug_frames.specs.declared.programs.Program.TheVariants.{Read, Unreadable}
+use Rattle.debug_frames.specs.declared.programs.Program.TheVariants.{Unreadable}
 use Rattle.debug_frames.specs.Programs.{named, program_at}
 
 unfoldable pub unreadable : List ℕ → ℕ → List ℕ
@@ -13,8 +13,7 @@ unreadable section at = codes "unreadable " ++ section ++ codes " at " ++ decima
 
 abbrev pub program_line : ℕ → Option Program → List ℕ
 program_line at (Some Unreadable) = unreadable (codes ".debug_line") at
-program_line at (Some (Read lines)) = []
-program_line at None = []
+program_line at _ = []
 
 abbrev pub named_line : List (ℕ × Program) → Option ℕ → List ℕ
 named_line programs None = []

@@ -82,9 +82,8 @@ floats_in _ = []
 
 -- the one element of a list, or else the other value
 abbrev pub only : {A : Type 0} → A → List A → A
-only other [] = other
 only other (x ∷ []) = x
-only other (x ∷ y ∷ ys) = other
+only other _ = other
 
 abbrev pub first_of : {A : Type 0} → List A → Option A
 first_of [] = None
@@ -126,9 +125,8 @@ dump_of ps = record {
 -- ---- refusals
 
 abbrev pub is_repeated : {A : Type 0} → List A → Bool
-is_repeated [] = false
-is_repeated (x ∷ []) = false
 is_repeated (x ∷ y ∷ ys) = true
+is_repeated _ = false
 
 -- the first part that stands more than once
 unfoldable pub repeated : List Part → Option DumpPart

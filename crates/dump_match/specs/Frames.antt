@@ -1,5 +1,5 @@
 -- When a frame of a dump can be one of a module (Core 4.2.12; tool-conventions Coredump.md): tests 4 to 9.
-use Rattle.std.specs.Prelude.{◌≡◌, ℕ, zero, suc, ◌==◌, Bool, true, false, List, ◌++◌, length, drop, reverse, slice_get, Option, Some, None}
+use Rattle.std.specs.Prelude.{◌≡◌, ℕ, zero, suc, ◌==◌, Bool, true, false, List, ◌++◌, length, drop, reverse, slice_get, Option, Some}
 use Rattle.wasm_syntax.specs.declared.value.ValType.{ValType}
 use Rattle.wasm_syntax.specs.declared.parts.FuncType.{FuncType}
 use Rattle.wasm_syntax.specs.declared.parts.Body.{Body}
@@ -36,8 +36,7 @@ taken m i = 0
 
 abbrev pub same_signature : Option FuncType → Option FuncType → Bool
 same_signature (Some a) (Some b) = same_functype a b
-same_signature (Some a) None = false
-same_signature None b = false
+same_signature _ _ = false
 
 -- the call can have called the function: it names it, or has its type by structure
 abbrev pub can_call : Module → Item → ℕ → Bool

@@ -44,9 +44,8 @@ IsOfGlobal v g = (type_of v ≡ g.vtype) × (g.mutable ≡ false → const_value
 -- both lists end there, or both have what fits
 abbrev pub BothHave : Option Value → Option Global → Type 0
 BothHave None None = Unit {0}
-BothHave None (Some g) = ⊥
-BothHave (Some v) None = ⊥
 BothHave (Some v) (Some g) = IsOfGlobal v g
+BothHave _ _ = ⊥
 
 abbrev pub GlobalFits : Module → Dump → ℕ → Instance → Type 0
 GlobalFits m dump i one = (one.globals ≡ []) ⊎ BothHave (global_of dump one i) (slice_get m.globals i)
@@ -71,15 +70,13 @@ Matches m dump = (row : Mismatch) → Passes m dump row
 
 -- The order of the tests: those of the whole dump, then those of frame 0, of frame 1 and so on.
 abbrev pub group : Mismatch → ℕ
-group rows.Instance = 0
-group rows.Memory = 0
-group (rows.Global i) = 0
 group (rows.Function i) = i + 1
 group (rows.Offset i) = i + 1
 group (rows.Locals i) = i + 1
 group (rows.Operands i) = i + 1
 group (rows.NotACall i) = i + 1
 group (rows.Callee i) = i + 1
+group _ = 0
 
 -- the order within a group
 abbrev pub place : Mismatch → ℕ

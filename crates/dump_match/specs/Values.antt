@@ -15,9 +15,8 @@ has_type t (seens.I64 n) = same_type t I64
 -- as many, each of its type
 abbrev pub have_types : List ValType → List Seen → Bool
 have_types [] [] = true
-have_types [] (v ∷ vs) = false
-have_types (t ∷ ts) [] = false
 have_types (t ∷ ts) (v ∷ vs) = has_type t v && have_types ts vs
+have_types _ _ = false
 
 -- of these types, or not recorded at all
 abbrev pub can_be : List ValType → List Seen → Bool

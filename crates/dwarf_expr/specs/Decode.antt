@@ -29,8 +29,7 @@ placed at opcode begun = record { at = at; opcode = opcode; begun = begun }
 -- what is behind an operator, where something is told of it
 abbrev pub others_behind : Begun → List Placed → List Placed
 others_behind (Known op) xs = xs
-others_behind Cut xs = []
-others_behind Foreign xs = []
+others_behind _ xs = []
 
 -- what an opcode begins, and the place behind it
 abbrev pub begun_by : Place → Read Operator → Begun × Place

@@ -51,9 +51,8 @@ on_one [] f = Err Bad
 on_one (x ∷ s) f = f x s
 
 abbrev pub on_two : Stack → (ℕ → ℕ → Stack → Effect) → Effect
-on_two [] f = Err Bad
-on_two (y ∷ []) f = Err Bad
 on_two (y ∷ x ∷ s) f = f x y s
+on_two _ f = Err Bad
 
 -- ---- numbers of 64 bits
 

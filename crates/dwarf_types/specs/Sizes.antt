@@ -1,5 +1,5 @@
 -- Sizes of types (DWARF 4, 2.21, 5.1 and 5.4; wasm32 has pointers of 4 bytes).
-use Rattle.std.specs.Prelude.{ℕ, zero, suc, ◌*◌, ◌^◌, nat_lt, Bool, ℤ, List, [], ◌∷◌, drop, Option, Some, None, if◌then◌else◌}
+use Rattle.std.specs.Prelude.{ℕ, suc, ◌*◌, ◌^◌, nat_lt, Bool, ℤ, List, [], ◌∷◌, drop, Option, Some, None, if◌then◌else◌}
 use Rattle.std.specs.Option.{is_some}
 use Rattle.dwarf_info.specs.declared.entry.UnitAnswer.{UnitAnswer}
 use Rattle.dwarf_info.specs.Attributes.{valued, as_number}
@@ -16,8 +16,7 @@ use Rattle.dwarf_types.specs.Counts.{counts}
 -- so many sizes, where the product is below 2 ^ 64
 abbrev pub times : Option ℕ → Option ℕ → Option ℕ
 times (Some n) (Some size) = if nat_lt (n * size) (2 ^ 64) then Some (n * size) else None
-times (Some n) None = None
-times None size = None
+times _ _ = None
 
 -- arrays of arrays, of which the innermost has elements of this size
 unfoldable pub array_size : List (Option ℕ) → Option ℕ → Option ℕ
@@ -51,9 +50,8 @@ size_as classes.Another further s k = stated_size s None
 
 -- at most n type entries follow each other
 unfoldable pub size_within : List UnitAnswer → ℕ → Typed → Option ℕ
-size_within units zero t = None
-size_within units (suc n) typeds.Nothing = None
 size_within units (suc n) (typeds.At s k) = size_as (class_at s) (size_within units n (type_of units s.entry.attributes)) s k
+size_within units _ _ = None
 
 abbrev pub type_size : List UnitAnswer → Typed → Option ℕ
 type_size units t = size_within units longest_chain t

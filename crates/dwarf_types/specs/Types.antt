@@ -33,7 +33,6 @@ behind_as c further s k = behinds.Stands s k
 
 -- The types passed through and the one behind them are at most n entries.
 unfoldable pub behind : List UnitAnswer → ℕ → Typed → Behind
-behind units zero typeds.Nothing = behinds.Nothing
 behind units zero (typeds.At s k) = behinds.TooDeep
-behind units (suc n) typeds.Nothing = behinds.Nothing
 behind units (suc n) (typeds.At s k) = behind_as (class_at s) (behind units n (type_of units s.entry.attributes)) s k
+behind units _ typeds.Nothing = behinds.Nothing

@@ -3,7 +3,7 @@ use Rattle.std.specs.Prelude.{ℕ, List, [], ◌∷◌, map, Option, Some, None}
 use Rattle.wasm_syntax.specs.declared.parts.Import.{Import}
 use Rattle.wasm_syntax.specs.declared.host.Reply.{Reply}
 use Rattle.wasm_syntax.specs.declared.host.Served.{Served}
-use Rattle.wasm_syntax.specs.Run.{Outcome, not_started, finished, trapped, lacks_reply, misfits, running, got_stuck}
+use Rattle.wasm_syntax.specs.Run.{Outcome, misfits}
 
 -- the replies among calls with their replies
 abbrev pub replies_of : List Served → List Reply
@@ -12,12 +12,7 @@ replies_of given = map (λ s. s.reply) given
 -- the call whose reply does not fit, which is not among those that were served
 abbrev pub unfitting : Outcome → List Served
 unfitting (misfits call reply) = record { call = call; reply = reply } ∷ []
-unfitting (not_started cause) = []
-unfitting (finished value) = []
-unfitting (trapped kind) = []
-unfitting (lacks_reply call) = []
-unfitting running = []
-unfitting got_stuck = []
+unfitting _ = []
 
 -- ---- who gave them
 

@@ -61,8 +61,7 @@ write_word word = sides word (position (λ b. b == 61) word)
 
 abbrev pub one_more : Option Write → Option (List Write) → Option (List Write)
 one_more (Some w) (Some ws) = Some (w ∷ ws)
-one_more (Some w) None = None
-one_more None ws = None
+one_more _ _ = None
 
 -- the writes in the parts between spaces; an empty part before another one stands between two spaces
 unfoldable pub writes_of : List (List ℕ) → Option (List Write)
@@ -71,8 +70,7 @@ writes_of (part ∷ parts) = if length part == 0 && nat_lt 0 (length parts) then
 
 abbrev pub with_writes : Option (Option Value) → Option (List Write) → Option (Option Reply)
 with_writes (Some v) (Some ws) = Some (Some (record { value = v; writes = ws }))
-with_writes (Some v) None = None
-with_writes None ws = None
+with_writes _ _ = None
 
 abbrev pub reply_of : List (List ℕ) → Option (Option Reply)
 reply_of [] = None

@@ -7,7 +7,7 @@ use Rattle.wasm_syntax.specs.declared.module.ModuleParts.{ModuleParts as Module}
 use Rattle.wasm_syntax.specs.declared.host.CollectorCall.{CollectorCall}
 use Rattle.wasm_syntax.specs.Module.{Function, imported, defined, function_at, option_then}
 use Rattle.wasm_syntax.specs.Host.{World}
-use Rattle.wasm_syntax.specs.Machine.{Engine, Frame, Config, config, Stepped, next, ends, traps, no_reply, bad_reply, stuck, step, entered, offset_of}
+use Rattle.wasm_syntax.specs.Machine.{Engine, Frame, Config, config, Stepped, next, ends, step, entered, offset_of}
 use Rattle.wasm_syntax.specs.Run.{run_function}
 
 -- an instruction of a function, by its code offset
@@ -32,11 +32,7 @@ module _ (M : Engine) where
   -- those of the steps behind one, where the run goes on
   abbrev pub places_behind : (Config → List (Option Place)) → Stepped → List (Option Place)
   places_behind go (next c) = go c
-  places_behind go (ends w vs co) = []
-  places_behind go (traps k c) = []
-  places_behind go (no_reply call c) = []
-  places_behind go (bad_reply call r c) = []
-  places_behind go stuck = []
+  places_behind go _ = []
 
   -- Those of at most so many steps from a configuration, in their order. A step that ends, that traps, or that has no fitting reply is made too.
   abbrev pub step_places : ℕ → Config → List (Option Place)
@@ -55,11 +51,7 @@ module _ (M : Engine) where
   -- those of the entry behind the start function, where that ended
   abbrev pub places_on : Stepped → ℕ → ℕ → List Value → List (Option Place)
   places_on (ends w vs co) n f args = entry_places n f args w co
-  places_on (next c) n f args = []
-  places_on (traps k c) n f args = []
-  places_on (no_reply call c) n f args = []
-  places_on (bad_reply call r c) n f args = []
-  places_on stuck n f args = []
+  places_on _ n f args = []
 
   -- those of an invocation: of the start function, where it is due, and then of the entry
   abbrev pub invocation_places : Option ℕ → ℕ → ℕ → List Value → World → List (Option Place)

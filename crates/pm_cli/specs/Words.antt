@@ -13,8 +13,7 @@ use Rattle.pm_cli.specs.declared.words.Command.TheVariants.{Check, Run, Instrume
 
 abbrev pub only : List Word → Option Word
 only (word ∷ []) = Some word
-only [] = None
-only (word ∷ other ∷ words) = None
+only _ = None
 
 -- the one plain word behind a command without options
 unfoldable pub one_word : List Word → Option Word
@@ -23,9 +22,7 @@ one_word words = option_and_then (λ r. only r.plain) (read_words no_options wor
 -- the file that is read and the one that is written
 abbrev pub both : List Word → Option Command
 both (source ∷ out ∷ []) = Some (Instrument source out)
-both [] = None
-both (word ∷ []) = None
-both (word ∷ other ∷ more ∷ words) = None
+both _ = None
 
 -- the two plain words behind `instrument`, which has no options
 unfoldable pub instrument_words : List Word → Option Command

@@ -4,7 +4,7 @@ use Rattle.std.specs.Fmt.{decimal}
 use Rattle.std.specs.List.{slice_split}
 use Rattle.wasm_syntax.specs.Module.{Program}
 use Rattle.wasm_syntax.specs.Machine.{Config}
-use Rattle.wasm_syntax.specs.Run.{Outcome, not_started, finished, trapped, lacks_reply, misfits, running, got_stuck}
+use Rattle.wasm_syntax.specs.Run.{Outcome, finished, trapped, lacks_reply, misfits, running}
 use Rattle.dump_format.specs.declared.dump.Dump.{Dump}
 use Rattle.dump_write.specs.Image.{image}
 use Rattle.dump_write.specs.Canonical.{instance_of}
@@ -28,8 +28,7 @@ ending_text (trapped kind) = codes " trap " ++ decimal kind ++ codes " " ++ kind
 ending_text (lacks_reply call) = codes " no reply"
 ending_text (misfits call reply) = codes " bad reply"
 ending_text running = codes " fuel spent"
-ending_text (not_started cause) = []
-ending_text got_stuck = []
+ending_text _ = []
 
 abbrev pub ending_at : ℕ → ℕ → Outcome → List ℕ
 ending_at step end o = if step == end then ending_text o else []

@@ -49,10 +49,9 @@ abbrev pub two_words : List ℕ → List ℕ → Move
 two_words w x = is_word w (codes "goto") (goto_step x) (is_word w (codes "until") (until_place x) Look)
 
 abbrev pub move_of : List (List ℕ) → Move
-move_of [] = Look
 move_of (w ∷ []) = one_word w
 move_of (w ∷ x ∷ []) = two_words w x
-move_of (w ∷ x ∷ y ∷ more) = Look
+move_of _ = Look
 
 -- a text that spells no move looks at the state that is shown
 unfoldable pub read_move : List ℕ → Move

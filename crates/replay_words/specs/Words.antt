@@ -1,5 +1,5 @@
 -- What the words behind `replay` ask for: `M LOG ENTRY [ARG ...]`, and options.
-use Rattle.std.specs.Prelude.{ℕ, List, [], ◌∷◌, Option, None, codes, option_and_then, unwrap_or}
+use Rattle.std.specs.Prelude.{ℕ, List, ◌∷◌, Option, None, codes, option_and_then, unwrap_or}
 use Rattle.std.specs.Option.{option_map}
 use Rattle.command_words.specs.Reading.{Word, Allowed, Read, given_value, read_words}
 use Rattle.run_words.specs.Invocations.{argument, each}
@@ -29,10 +29,8 @@ asked source log entry behind r =
 
 -- the first plain words are the two files and the entry; the word `+` is an argument like every other
 abbrev pub from_plain : List Word → Read → Option ReplayWords
-from_plain [] r = None
-from_plain (source ∷ []) r = None
-from_plain (source ∷ log ∷ []) r = None
 from_plain (source ∷ log ∷ entry ∷ behind) r = asked source log entry behind r
+from_plain _ r = None
 
 unfoldable pub replay_words : List Word → Option ReplayWords
 replay_words words = option_and_then (λ r. from_plain r.plain r) (read_words replay_options words)

@@ -12,7 +12,7 @@ use Rattle.wasm_syntax.specs.declared.parts.Body.{Body}
 use Rattle.wasm_syntax.specs.declared.module.ModuleParts.{ModuleParts as Module}
 use Rattle.wasm_syntax.specs.Numbers.{type_of, convert_to}
 use Rattle.wasm_syntax.specs.Access.{load_type}
-use Rattle.wasm_syntax.specs.Tree.{Jump, Unreachable, Br, BrIf, BrTable, Return, Call, CallIndirect, Nodes, stop, basic, jump, block, loop, choose, Tree}
+use Rattle.wasm_syntax.specs.Tree.{Jump, BrIf, Call, CallIndirect, Nodes, stop, basic, jump, block, loop, choose, Tree}
 use Rattle.wasm_syntax.specs.Module.{Program, Function, defined, function_at, type_at, declared_locals}
 use Rattle.wasm_syntax.specs.Effect.{takes}
 use Rattle.wasm_syntax.specs.Machine.{result_of}
@@ -124,13 +124,10 @@ behind_instr C (Const v) es go = go (Known v ∷ es)
 behind_instr C i es go = go (after_plain C es i)
 
 abbrev pub behind_jump : Ctx → Jump → List Place → (List Place → ℕ) → ℕ
-behind_jump C Unreachable es go = 0
-behind_jump C (Br l) es go = 0
 behind_jump C (BrIf l) es go = go (less 1 es)
-behind_jump C (BrTable ts d) es go = 0
-behind_jump C Return es go = 0
 behind_jump C (Call f) es go = behind_call (type_at C.source f) es go
 behind_jump C (CallIndirect t) es go = behind_call (slice_get C.source.types t) (less 1 es) go
+behind_jump C _ es go = 0
 
 -- ---- the greatest height of operands in live code
 

@@ -40,9 +40,8 @@ pub record Alike (one other : Ran) : Type 0 where
 
 abbrev pub AllAlike : List Ran → List Ran → Type 0
 AllAlike [] [] = Unit {0}
-AllAlike [] (other ∷ others) = ⊥
-AllAlike (one ∷ ones) [] = ⊥
 AllAlike (one ∷ ones) (other ∷ others) = Alike one other × AllAlike ones others
+AllAlike _ _ = ⊥
 
 -- each ends otherwise than by exhausting the call depth
 abbrev pub NoneDeep : List Ran → Type 0

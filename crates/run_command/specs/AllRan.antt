@@ -5,7 +5,7 @@ use Rattle.std.specs.Fmt.{decimal}
 use Rattle.pm_text.specs.Names.{quoted}
 use Rattle.wasm_syntax.specs.declared.host.HostCall.{HostCall}
 use Rattle.wasm_syntax.specs.declared.parts.Import.{Import}
-use Rattle.wasm_syntax.specs.Run.{Outcome as RunOutcome, not_started, finished, trapped, lacks_reply, misfits, running, got_stuck, Ran}
+use Rattle.wasm_syntax.specs.Run.{Outcome as RunOutcome, trapped, lacks_reply, misfits, running, Ran}
 use Rattle.host_set.specs.Sets.{is_named}
 use Rattle.command_answers.specs.Texts.{ended}
 use Rattle.command_answers.specs.declared.outcome.Outcome.{Outcome}
@@ -28,9 +28,7 @@ module _ (names : List (List ℕ)) (imports : List Import) where
   end_text n due (misfits call reply) = host_stopped (codes "reply " ++ decimal n ++ codes " does not fit")
   end_text n due running = codes "fuel spent\n"
   end_text n due (trapped kind) = not_invoked_text due
-  end_text n due (finished v) = []
-  end_text n due (not_started cause) = []
-  end_text n due got_stuck = []
+  end_text n due _ = []
 
   -- torn calls are told before all else
   abbrev pub told_end : ℕ → ℕ → (torn : Option ℕ) → RunOutcome → List ℕ

@@ -9,7 +9,7 @@ use Rattle.wasm_syntax.specs.declared.host.Served.{Served}
 use Rattle.wasm_syntax.specs.declared.host.CollectorCall.{CollectorCall}
 use Rattle.wasm_syntax.specs.declared.module.ModuleParts.{ModuleParts as Module}
 use Rattle.wasm_syntax.specs.Module.{Program, IsProgram}
-use Rattle.wasm_syntax.specs.Run.{Outcome as RunOutcome, not_started, finished, trapped, lacks_reply, misfits, running, got_stuck, Ran, run}
+use Rattle.wasm_syntax.specs.Run.{Outcome as RunOutcome, lacks_reply, Ran, run}
 use Rattle.wasm_decode.specs.Decode.{module_from}
 use Rattle.dump_write.specs.Written.{OnTold}
 use Rattle.host_replies.specs.Replies.{file_replies}
@@ -41,12 +41,7 @@ script_replies (Some replies) = replies
 -- no reply of the script is left where a call that no device serves has none
 abbrev pub UsesUp : Hosting → Module → List Reply → RunOutcome → Type 0
 UsesUp h m left (lacks_reply call) = is_named h.names (module_of m.imports call.import) ≡ false → left ≡ []
-UsesUp h m left (misfits call reply) = Unit {0}
-UsesUp h m left (finished v) = Unit {0}
-UsesUp h m left (trapped kind) = Unit {0}
-UsesUp h m left (not_started cause) = Unit {0}
-UsesUp h m left running = Unit {0}
-UsesUp h m left got_stuck = Unit {0}
+UsesUp h m left _ = Unit {0}
 
 abbrev pub EndUsesUp : Hosting → Module → List Reply → Option Ran → Type 0
 EndUsesUp h m left None = Unit {0}
@@ -56,12 +51,7 @@ EndUsesUp h m left (Some r) = UsesUp h m left r.outcome
 abbrev pub HasFailed : (before after : List DeviceState) → Module → RunOutcome → Type 0
 HasFailed before after m (lacks_reply call) =
     is_named (names before) (module_of m.imports call.import) ≡ true → Rose (count_of before (module_of m.imports call.import)) (count_of after (module_of m.imports call.import))
-HasFailed before after m (misfits call reply) = Unit {0}
-HasFailed before after m (finished v) = Unit {0}
-HasFailed before after m (trapped kind) = Unit {0}
-HasFailed before after m (not_started cause) = Unit {0}
-HasFailed before after m running = Unit {0}
-HasFailed before after m got_stuck = Unit {0}
+HasFailed before after m _ = Unit {0}
 
 abbrev pub EndHasFailed : (before after : List DeviceState) → Module → Option Ran → Type 0
 EndHasFailed before after m None = Unit {0}
@@ -136,18 +126,7 @@ IfRefusal status.HostStopped P = Unit {0}
 IfRefusal status.FuelSpent P = Unit {0}
 IfRefusal status.TornCalls P = Unit {0}
 IfRefusal status.FileFault P = Unit {0}
-IfRefusal status.NoMemory P = P
-IfRefusal status.Usage P = P
-IfRefusal status.NoFile P = P
-IfRefusal status.Malformed P = P
-IfRefusal status.Outside P = P
-IfRefusal status.Invalid P = P
-IfRefusal status.NotStarted P = P
-IfRefusal status.BadDump P = P
-IfRefusal status.Mismatch P = P
-IfRefusal status.Limit P = P
-IfRefusal status.Collision P = P
-IfRefusal status.BadReplies P = P
+IfRefusal _ P = P
 
 -- The answer to `run`, where the devices are these before and then, files hold this when the module is read and that when the replies are,
 -- these replies were given in this call, and these files were written.

@@ -6,7 +6,7 @@ use Rattle.wasm_syntax.specs.Run.{Ran}
 use Rattle.dump_write.specs.Image.{DumpFrame}
 use Rattle.dump_write.specs.ImageBytes.{bytes_of}
 use Rattle.command_answers.specs.Values.{value_text}
-use Rattle.run_session.specs.Telling.{Telling, nothing, finish, trap, bare_trap, torn, Tells, told, torn_in}
+use Rattle.run_session.specs.Telling.{Telling, finish, trap, bare_trap, torn, Tells, told, torn_in}
 
 -- ---- the lines of one invocation
 
@@ -51,11 +51,10 @@ bare_text kind n = kind_line kind ++ codes "no dump collected\n" ++ calls_text n
 
 -- an invocation that ended otherwise has no lines
 abbrev pub telling_text : Telling → ℕ → List ℕ
-telling_text nothing n = []
 telling_text (finish v) n = finished_text v n
 telling_text (trap kind place dump) n = trapped_text kind place n
 telling_text (bare_trap kind) n = bare_text kind n
-telling_text (torn at) n = []
+telling_text _ n = []
 
 abbrev pub invocation_text : Tells → Ran → List ℕ
 invocation_text tell r = telling_text (told tell r) (length r.served)
@@ -81,11 +80,9 @@ dump_name base (suc j) = base ++ codes "." ++ decimal (suc j)
 
 -- The dump of an invocation, before those of the later ones. A trap whose dump was not handed over is numbered like every other.
 abbrev pub with_dump : (base name : List ℕ) → ℕ → Telling → (later : ℕ → List (List ℕ × List ℕ)) → List (List ℕ × List ℕ)
-with_dump base name j nothing later = later j
-with_dump base name j (finish v) later = later j
 with_dump base name j (trap kind place dump) later = (dump_name base j, bytes_of (dump name)) ∷ later (suc j)
 with_dump base name j (bare_trap kind) later = later (suc j)
-with_dump base name j (torn at) later = later j
+with_dump base name j _ later = later j
 
 -- the file names and the bytes of the dumps, the first one for the trap of this number
 unfoldable pub dumps_from : Tells → (base name : List ℕ) → ℕ → List Ran → List (List ℕ × List ℕ)
@@ -93,11 +90,9 @@ dumps_from tell base name j [] = []
 dumps_from tell base name j (r ∷ rs) = with_dump base name j (told tell r) (λ k. dumps_from tell base name k rs)
 
 abbrev pub with_trap : Telling → ℕ → ℕ
-with_trap nothing n = n
-with_trap (finish v) n = n
 with_trap (trap kind place dump) n = suc n
 with_trap (bare_trap kind) n = suc n
-with_trap (torn at) n = n
+with_trap _ n = n
 
 abbrev pub traps_in : Tells → List Ran → ℕ
 traps_in tell [] = 0

@@ -3,7 +3,7 @@ use Rattle.std.specs.Prelude.{ℕ, Bool, true, false, List, Option, Some, None, 
 use Rattle.wasm_syntax.specs.declared.value.Value.{Value}
 use Rattle.wasm_syntax.specs.declared.host.CollectorCall.{CollectorCall}
 use Rattle.wasm_syntax.specs.Machine.{Config, first}
-use Rattle.wasm_syntax.specs.Run.{Outcome, not_started, finished, trapped, lacks_reply, misfits, running, got_stuck, Ran}
+use Rattle.wasm_syntax.specs.Run.{Outcome, finished, trapped, Ran}
 use Rattle.dump_write.specs.Image.{DumpFrame, frame_images, Dump, image}
 use Rattle.run_collected.specs.Delivery.{Delivery, dump_of}
 use Rattle.run_collected.specs.Showing.{Showing, as_run, collected, no_dump, torn_at, showing}
@@ -24,12 +24,7 @@ innermost c = first (frame_images c.frames)
 abbrev pub plain_telling : Outcome → Option Config → Telling
 plain_telling (finished v) last = finish v
 plain_telling (trapped kind) (Some c) = trap kind (innermost c) (λ name. image c name)
-plain_telling (trapped kind) None = nothing
-plain_telling (not_started cause) last = nothing
-plain_telling (lacks_reply call) last = nothing
-plain_telling (misfits call reply) last = nothing
-plain_telling running last = nothing
-plain_telling got_stuck last = nothing
+plain_telling _ _ = nothing
 
 abbrev pub memory_in : Option Config → Option (List ℕ)
 memory_in None = None
@@ -57,16 +52,10 @@ told tell r = tell r.outcome r.collected r.last
 -- ---- parts of it
 
 abbrev pub torn_in : Telling → Option ℕ
-torn_in nothing = None
-torn_in (finish v) = None
-torn_in (trap kind place dump) = None
-torn_in (bare_trap kind) = None
 torn_in (torn at) = Some at
+torn_in _ = None
 
 -- a trap with a dump
 abbrev pub HasDump : Telling → Type 0
-HasDump nothing = ⊥
-HasDump (finish v) = ⊥
 HasDump (trap kind place dump) = Unit {0}
-HasDump (bare_trap kind) = ⊥
-HasDump (torn at) = ⊥
+HasDump _ = ⊥

@@ -15,8 +15,7 @@ argument word = option_map typed (number_value word)
 
 abbrev pub one_more : {B : Type 0} → Option B → Option (List B) → Option (List B)
 one_more (Some y) (Some ys) = Some (y ∷ ys)
-one_more (Some y) None = None
-one_more None ys = None
+one_more _ _ = None
 
 -- what the values of a list read as, in order, where each of them reads as something
 unfoldable pub each : {A B : Type 0} → (A → Option B) → List A → Option (List B)

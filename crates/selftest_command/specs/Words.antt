@@ -10,8 +10,7 @@ count digits = option_and_then (within 1 900) (decimal_value digits)
 -- the one plain word
 abbrev pub only_count : List Word → Option ℕ
 only_count (word ∷ []) = count word
-only_count [] = None
-only_count (word ∷ other ∷ words) = None
+only_count _ = None
 
 unfoldable pub selftest_words : List Word → Option ℕ
 selftest_words words = option_and_then (λ r. only_count r.plain) (read_words no_options words)

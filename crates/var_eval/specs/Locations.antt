@@ -46,8 +46,7 @@ in_list section (Some (Some span)) = Expression (spanned section span)
 abbrev pub located_by : SectionBytes5 → ℕ → UnitTree → Option AttrValue → Located
 located_by s address u (Some (Block e)) = Expression e
 located_by s address u (Some (Offset at)) = in_list (lists_of s u) (location_in s u at address)
-located_by s address u (Some v) = Unsaid
-located_by s address u None = Unsaid
+located_by s address u _ = Unsaid
 
 -- what the attribute of a name says of an address
 abbrev pub located : SectionBytes5 → ℕ → Standing → ℕ → Located
@@ -57,9 +56,7 @@ located s address x name = located_by s address x.unit (attribute name x.entry.a
 
 abbrev pub base_by : SectionBytes5 → UnitTree → View → Located → Base
 base_by s u view (Expression e) = frame_base (Some (plain_of s u e)) view
-base_by s u view NoEntry = bases.Absent
-base_by s u view Unreadable = bases.Absent
-base_by s u view Unsaid = bases.Absent
+base_by s u view _ = bases.Absent
 
 abbrev pub base_in : SectionBytes5 → ℕ → View → Option Standing → Base
 base_in s address view None = bases.Absent

@@ -46,10 +46,9 @@ and_then (Err m) go = Err m
 
 -- What a step meets: the entry that stands behind the type, and how many subranges of it are behind. No step leads on from a bit-field.
 abbrev pub met_as : Option Bits → Behind → Result Met Mark
-met_as bits behinds.Nothing = Err UnsupportedType
 met_as bits behinds.TooDeep = Err TypeTooDeep
 met_as None (behinds.Stands s k) = Ok (record { standing = s; skipped = k })
-met_as (Some b) (behinds.Stands s k) = Err UnsupportedType
+met_as _ _ = Err UnsupportedType
 
 abbrev pub met : List UnitAnswer → Part → Result Met Mark
 met units part = met_as part.place.bits (behind units longest_chain part.type)
@@ -99,9 +98,8 @@ element_type units s k = if nat_lt (k + 1) (length (counts s)) then typeds.At s 
 
 -- at or past the first of these counts, where it is known
 abbrev pub is_past : List (Option ℕ) → ℕ → Bool
-is_past [] n = false
-is_past (None ∷ cs) n = false
 is_past (Some c ∷ cs) n = nat_le c n
+is_past _ n = false
 
 abbrev pub element_at : List UnitAnswer → ℕ → Place → Bool → Met → Option ℕ → Reached
 element_at units n place past x None = Err UnsupportedType

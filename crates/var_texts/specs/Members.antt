@@ -15,8 +15,7 @@ at_location p (Some v) = option_map (further p) (as_number v)
 
 abbrev pub at_bits : Place → Option ℕ → Option ℕ → Option Place
 at_bits p (Some count) (Some first) = Some (in_bits p (record { first = first; count = count }))
-at_bits p (Some count) None = None
-at_bits p None first = None
+at_bits p _ _ = None
 
 -- the place of a member of a structure that stands there; None where it is of another form
 unfoldable pub member_at : Place → Entry → Option Place

@@ -70,9 +70,8 @@ is_signed (Some e) = e == 5 || e == 6
 
 -- an enumeration is signed where the type behind its own is
 abbrev pub behind_is_signed : Behind → Bool
-behind_is_signed behinds.Nothing = false
-behind_is_signed behinds.TooDeep = false
 behind_is_signed (behinds.Stands s k) = is_signed (encoding s)
+behind_is_signed _ = false
 
 -- of a word in k bits: a pointer, an enumeration or a base type
 abbrev pub word_text : Class → List UnitAnswer → Standing → ℕ → ℕ → ℕ → List ℕ

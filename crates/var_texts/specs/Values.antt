@@ -110,8 +110,7 @@ content_as c units memory value s k size p = scalar_text units memory s size p
 -- a value that is nowhere has one mark for the whole of it
 abbrev pub unless_lost : Source → Text → Text
 unless_lost (Lost m) text = Err m
-unless_lost (Single place) text = text
-unless_lost (Pieces ps) text = text
+unless_lost _ text = text
 
 abbrev pub sized_text : Option ℕ → List UnitAnswer → Recorded → (Typed → Place → Text) → Standing → ℕ → Place → Text
 sized_text None units memory value s k p = Err UnsupportedType

@@ -52,8 +52,7 @@ residue size z = int_rem_euclid z (pos (2 ^ (8 * size)))
 abbrev pub same_number : ℤ → ℤ → Bool
 same_number (pos a) (pos b) = a == b
 same_number (negsuc a) (negsuc b) = a == b
-same_number (pos a) (negsuc b) = false
-same_number (negsuc a) (pos b) = false
+same_number _ _ = false
 
 abbrev pub equals : ℕ → ℤ → Option ℤ → Bool
 equals size z None = false

@@ -43,9 +43,8 @@ module_of s = record s.parts { imports = functions_of s.imports }
 
 -- the locals of each function that has a body, with its parameters; a type that is out of range has none
 abbrev pub all_locals : List FuncType → List ℕ → List Body → List ℕ
-all_locals types [] bodies = []
-all_locals types (t ∷ ts) [] = []
 all_locals types (t ∷ ts) (body ∷ bodies) = local_count (slice_get types t) body ∷ all_locals types ts bodies
+all_locals types _ _ = []
 
 -- the first number that passes the greatest one of the quantity
 abbrev pub first_over : Quantity → List ℕ → Option DecodeFault

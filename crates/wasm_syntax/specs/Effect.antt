@@ -63,36 +63,26 @@ on_none e [] = e
 on_none e (_ ∷ _) = unfit
 
 abbrev pub on_any : (Value → Effect) → List Value → Effect
-on_any go [] = unfit
 on_any go (v ∷ []) = go v
-on_any go (v ∷ _ ∷ _) = unfit
+on_any go _ = unfit
 
 abbrev pub on_one : ValType → (ℕ → Effect) → List Value → Effect
-on_one t go [] = unfit
 on_one t go (v ∷ []) = with_some (number t v) go
-on_one t go (v ∷ _ ∷ _) = unfit
+on_one t go _ = unfit
 
 abbrev pub on_two : ValType → ValType → (ℕ → ℕ → Effect) → List Value → Effect
-on_two t u go [] = unfit
-on_two t u go (v ∷ []) = unfit
 on_two t u go (v ∷ w ∷ []) = with_some (number t v) (λ n. with_some (number u w) (go n))
-on_two t u go (v ∷ w ∷ _ ∷ _) = unfit
+on_two t u go _ = unfit
 
 -- on three numbers of i32s, the topmost first
 abbrev pub on_three : (ℕ → ℕ → ℕ → Effect) → List Value → Effect
-on_three go [] = unfit
-on_three go (x ∷ []) = unfit
-on_three go (x ∷ y ∷ []) = unfit
 on_three go (x ∷ y ∷ z ∷ []) = with_some (number I32 x) (λ a. with_some (number I32 y) (λ b. with_some (number I32 z) (go a b)))
-on_three go (x ∷ y ∷ z ∷ _ ∷ _) = unfit
+on_three go _ = unfit
 
 -- a number of an i32, and two values of one type
 abbrev pub on_choice : (ℕ → Value → Value → Effect) → List Value → Effect
-on_choice go [] = unfit
-on_choice go (c ∷ []) = unfit
-on_choice go (c ∷ b ∷ []) = unfit
 on_choice go (c ∷ b ∷ a ∷ []) = with_some (number I32 c) (λ n. when (same_type (type_of a) (type_of b)) (go n b a))
-on_choice go (c ∷ b ∷ a ∷ _ ∷ _) = unfit
+on_choice go _ = unfit
 
 -- a value is written over one of its type
 abbrev pub over : Option Value → Value → Effect → Effect

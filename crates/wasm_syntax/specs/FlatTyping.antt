@@ -41,9 +41,8 @@ given ts (b ∷ bs) = opened b.kind b.result (ts ++ b.types) ∷ bs
 
 -- an `if` without `else` gives nothing
 abbrev pub MayEnd : BlockKind → Option ValType → Type 0
-MayEnd kinds.Plain t = Unit {0}
-MayEnd Loop t = Unit {0}
 MayEnd Then t = t ≡ None
+MayEnd _ t = Unit {0}
 
 -- an instruction leads from these open blocks to those
 abbrev pub FlatStep : Context → List OpenBlock → Item → List OpenBlock → Type 0

@@ -66,9 +66,8 @@ after_writes (Some m) (w ∷ ws) = option_then (put m w.at w.bytes) (λ m'. afte
 
 abbrev pub fits_type : Option ValType → Option Value → Bool
 fits_type None None = true
-fits_type None (Some v) = false
-fits_type (Some t) None = false
 fits_type (Some t) (Some v) = same_type t (type_of v)
+fits_type _ _ = false
 
 pub data Answer : Type 0 where
   replied : World → Option Value → Answer

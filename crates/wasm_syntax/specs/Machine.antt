@@ -99,10 +99,8 @@ top (Some t) (v ∷ vs) = if_so (same_type (type_of v) t) (v ∷ [])
 -- the results of this type, where there is nothing else
 abbrev pub exactly : Option ValType → List Value → Option (List Value)
 exactly None [] = Some []
-exactly None (v ∷ vs) = None
-exactly (Some t) [] = None
 exactly (Some t) (v ∷ []) = if_so (same_type (type_of v) t) (v ∷ [])
-exactly (Some t) (v ∷ w ∷ vs) = None
+exactly _ _ = None
 
 -- ---- moves inside a frame (Core 4.4.5)
 
@@ -161,14 +159,12 @@ carry (suc n) (l ∷ ls) = carry n ls
 
 abbrev pub same_result : Option ValType → Option ValType → Bool
 same_result None None = true
-same_result None (Some t) = false
-same_result (Some t) None = false
 same_result (Some t) (Some u) = same_type t u
+same_result _ _ = false
 
 abbrev pub same_carry : Option (Option ValType) → Option (Option ValType) → Bool
 same_carry (Some a) (Some b) = same_result a b
-same_carry None _ = false
-same_carry (Some a) None = false
+same_carry _ _ = false
 
 abbrev pub pick : List ℕ → ℕ → ℕ → ℕ
 pick [] d n = d
@@ -212,8 +208,7 @@ module _ (M : Engine) where
 
   abbrev pub goes_to : Went → Frame → List Frame → World → List CollectorCall → Stepped
   goes_to (inside ls) f fs w co = next (config (frame f.function f.result f.call f.locals ls ∷ fs) w co)
-  goes_to (outside vs) f fs w co = stuck
-  goes_to nowhere f fs w co = stuck
+  goes_to _ f fs w co = stuck
 
   -- these results are handed to the call that is under way, or are those of the run
   abbrev pub deliver : List Value → List Frame → World → List CollectorCall → Stepped
@@ -284,18 +279,16 @@ module _ (M : Engine) where
 
   -- the topmost operand is the number of an entry
   abbrev pub calls_indirect : ℕ → List Value → ℕ → Nodes → Frame → Label → List Label → List Frame → World → List CollectorCall → Stepped
-  calls_indirect t [] at rest f l ls fs w co = stuck
-  calls_indirect t (values.I64 n ∷ vs) at rest f l ls fs w co = stuck
   calls_indirect t (values.I32 n ∷ vs) at rest f l ls fs w co = calls_typed (slice_get M.program.module_.types t) (slice_get w.table n) vs at rest f l ls fs w co
+  calls_indirect t _ at rest f l ls fs w co = stuck
 
   -- ---- the other instructions that may go elsewhere (Core 4.4.5)
 
   abbrev pub branch_if : ℕ → List Value → Nodes → Frame → Label → List Label → List Frame → World → List CollectorCall → Stepped
-  branch_if n [] rest f l ls fs w co = stuck
-  branch_if n (values.I64 c ∷ vs) rest f l ls fs w co = stuck
   branch_if n (values.I32 zero ∷ vs) rest f l ls fs w co =
       next (config (frame f.function f.result f.call f.locals (label vs rest l.end l.kind ∷ ls) ∷ fs) w co)
   branch_if n (values.I32 (suc c) ∷ vs) rest f l ls fs w co = moved (branch n vs (l ∷ ls)) f fs w co
+  branch_if n _ rest f l ls fs w co = stuck
 
   abbrev pub moved_if : Bool → Went → Frame → List Frame → World → List CollectorCall → Stepped
   moved_if false x f fs w co = stuck
@@ -303,10 +296,9 @@ module _ (M : Engine) where
 
   -- the target takes with it what the default takes
   abbrev pub branch_table : List ℕ → ℕ → List Value → Frame → Label → List Label → List Frame → World → List CollectorCall → Stepped
-  branch_table ts d [] f l ls fs w co = stuck
-  branch_table ts d (values.I64 n ∷ vs) f l ls fs w co = stuck
   branch_table ts d (values.I32 n ∷ vs) f l ls fs w co =
       moved_if (same_carry (carry (pick ts d n) (l ∷ ls)) (carry d (l ∷ ls))) (branch (pick ts d n) vs (l ∷ ls)) f fs w co
+  branch_table ts d _ f l ls fs w co = stuck
 
   abbrev pub jumps : Jump → ℕ → Nodes → Frame → Label → List Label → List Frame → World → List CollectorCall → Stepped
   jumps Unreachable at rest f l ls fs w co = trapped 1 f l ls fs w co
@@ -335,10 +327,9 @@ module _ (M : Engine) where
       next (config (frame f.function f.result f.call f.locals (label [] arm end (leaves t) ∷ label vs rest l.end l.kind ∷ ls) ∷ fs) w co)
 
   abbrev pub chooses : List Value → Option ValType → Nodes → Option ℕ → Nodes → ℕ → Nodes → Frame → Label → List Label → List Frame → World → List CollectorCall → Stepped
-  chooses [] t a else_at b end rest f l ls fs w co = stuck
-  chooses (values.I64 c ∷ vs) t a else_at b end rest f l ls fs w co = stuck
   chooses (values.I32 zero ∷ vs) t a else_at b end rest f l ls fs w co = opens_arm t b end vs rest f l ls fs w co
   chooses (values.I32 (suc c) ∷ vs) t a else_at b end rest f l ls fs w co = opens_arm t a (else_or else_at end) vs rest f l ls fs w co
+  chooses _ t a else_at b end rest f l ls fs w co = stuck
 
   -- the first node of the innermost label is run, or where there is none, that label is left
   abbrev pub runs : Nodes → Frame → Label → List Label → List Frame → World → List CollectorCall → Stepped

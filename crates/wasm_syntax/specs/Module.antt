@@ -21,9 +21,8 @@ use Rattle.wasm_syntax.specs.Tree.{Tree, Writes}
 -- each body writes out the tree in its place
 abbrev pub AllWrite : List Body → List Tree → Type 0
 AllWrite [] [] = Unit {0}
-AllWrite [] (tree ∷ trees) = ⊥
-AllWrite (body ∷ bodies) [] = ⊥
 AllWrite (body ∷ bodies) (tree ∷ trees) = Writes body.targets body.ops tree × AllWrite bodies trees
+AllWrite _ _ = ⊥
 
 -- the instructions stand at ascending offsets, the first one at this offset or behind it
 abbrev pub Ascend : ℕ → List Op → Type 0
@@ -120,9 +119,7 @@ same_functype a b = same_types a.params b.params && same_types a.results b.resul
 -- the function that is exported under a name
 abbrev pub is_function : ExportKind → Bool
 is_function kinds.Function = true
-is_function kinds.Table = false
-is_function kinds.Memory = false
-is_function kinds.Global = false
+is_function _ = false
 
 abbrev pub function_export : Module → List ℕ → Option ℕ
 function_export m name = option_map (λ e. e.index) (find (λ e. is_function e.kind && bytes_eq e.name name) m.exports)

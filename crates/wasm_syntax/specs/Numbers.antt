@@ -37,9 +37,8 @@ value I64 n = values.I64 n
 -- the number of a value of this type
 abbrev pub number : ValType → Value → Option ℕ
 number I32 (values.I32 n) = Some n
-number I32 (values.I64 n) = None
-number I64 (values.I32 n) = None
 number I64 (values.I64 n) = Some n
+number _ _ = None
 
 -- the value's number is one of its type
 abbrev pub IsValue : Value → Type 0

@@ -29,9 +29,8 @@ abbrev pub initial_globals : List Global → List Value
 initial_globals globals = map (λ g. unwrap_or (const_value [] g.init.ops) (zero_of g.vtype)) globals
 
 abbrev pub i32_or_zero : Option Value → ℕ
-i32_or_zero None = 0
 i32_or_zero (Some (values.I32 n)) = n
-i32_or_zero (Some (values.I64 n)) = 0
+i32_or_zero _ = 0
 
 -- the list with new ones put over those at a place
 abbrev pub over : {A : Type 0} → List A → ℕ → List A → List A
@@ -211,11 +210,7 @@ cause_of m (i ∷ is) = or_else (cause_of_entry m (function_export m i.name) i.a
 abbrev pub goes_on : Outcome → Bool → Bool
 goes_on (finished v) entered = true
 goes_on (trapped kind) entered = not (kind == 8) && entered
-goes_on (not_started cause) entered = false
-goes_on (lacks_reply call) entered = false
-goes_on (misfits call r) entered = false
-goes_on running entered = false
-goes_on got_stuck entered = false
+goes_on _ entered = false
 
 -- with nothing served yet
 abbrev pub fresh : Option Config → World → World

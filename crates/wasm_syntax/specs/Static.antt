@@ -2,7 +2,7 @@
 use Rattle.std.specs.Prelude.{◌≡◌, ℕ, List, [], ◌∷◌, ◌++◌, reverse, slice_get, Some, option_to_list, ◌⊎◌}
 use Rattle.wasm_syntax.specs.declared.value.ValType.{ValType}
 use Rattle.wasm_syntax.specs.declared.value.ValType.TheVariants.{I32}
-use Rattle.wasm_syntax.specs.Tree.{Jump, Unreachable, Br, BrIf, BrTable, Return, Call, CallIndirect, Nodes, stop, basic, jump, block, loop, choose, Tree, Writes}
+use Rattle.wasm_syntax.specs.Tree.{Jump, BrIf, Call, CallIndirect, Nodes, stop, basic, jump, block, loop, choose, Tree, Writes}
 use Rattle.wasm_syntax.specs.declared.parts.FuncType.{FuncType}
 use Rattle.wasm_syntax.specs.declared.parts.Body.{Body}
 use Rattle.wasm_syntax.specs.Module.{type_at}
@@ -20,13 +20,10 @@ abbrev pub spot : Nodes → List ValType → List ValType → Spot
 spot nodes here outside = record { nodes = nodes; here = here; outside = outside }
 
 abbrev pub goes_on : Jump → Type 0
-goes_on Unreachable = ⊥
-goes_on (Br n) = ⊥
 goes_on (BrIf n) = Unit {0}
-goes_on (BrTable targets default) = ⊥
-goes_on Return = ⊥
 goes_on (Call f) = Unit {0}
 goes_on (CallIndirect t) = Unit {0}
+goes_on _ = ⊥
 
 -- a spot lies in live code of the nodes
 abbrev pub Live : Context → Nodes → List ValType → List ValType → Spot → Type 0
@@ -53,11 +50,7 @@ Live c (choose at t a else_at b end rest) here outside s =
 -- an instruction begins here, other than `else` and `end`
 abbrev pub IsNode : Nodes → Type 0
 IsNode stop = ⊥
-IsNode (basic at i rest) = Unit {0}
-IsNode (jump at j rest) = Unit {0}
-IsNode (block at t body end rest) = Unit {0}
-IsNode (loop at t body end rest) = Unit {0}
-IsNode (choose at t a else_at b end rest) = Unit {0}
+IsNode _ = Unit {0}
 
 -- in the body, the live instruction at offset o stands at this spot
 pub record LiveAt (m : Module) (type : FuncType) (body : Body) (o : ℕ) (s : Spot) : Type 0 where
