@@ -14,14 +14,14 @@ use Rattle.wasm_syntax.specs.FlatTyping.{OpenBlock, FlatStep, FlatTypes, body_bl
 use Rattle.wasm_syntax.specs.Sizes.{ShortBody}
 use Rattle.wasm_syntax.specs.Valid.{Valid}
 use Rattle.wasm_laws.proofs.FlatBodies.{body_steps, steps_body}
-use Rattle.rewrite_modules.specs.Bare.{bare_op, bare_body}
+use Rattle.wasm_syntax.specs.SameCode.{op_code, body_code}
 use Rattle.rewrite_modules.proofs.FineBodies.{fine_at, gives_one}
 use Rattle.instrument.specs.Assembly.{Ascends}
 
 abbrev codes_of : List Op → List Instr
 codes_of ops = map (λ o. o.code) ops
 
-bare_codes : (ops : List Op) → codes_of (map bare_op ops) ≡ codes_of ops
+bare_codes : (ops : List Op) → codes_of (map op_code ops) ≡ codes_of ops
 bare_codes [] = refl
 bare_codes (o ∷ os) = ap (λ (is : List Instr). o.code ∷ is) (bare_codes os)
 
@@ -32,13 +32,13 @@ record Alike (b c : Body) : Type 0 where
   pub targets : b.targets ≡ c.targets
   pub count : length b.ops ≡ length c.ops
 
-alike : (b c : Body) → bare_body b ≡ bare_body c → Alike b c
+alike : (b c : Body) → body_code b ≡ body_code c → Alike b c
 alike b c e =
-    let ops : map bare_op b.ops ≡ map bare_op c.ops = ap (λ (x : Body). x.ops) e in
+    let ops : map op_code b.ops ≡ map op_code c.ops = ap (λ (x : Body). x.ops) e in
     record {
       codes = sym (bare_codes b.ops) ∙ ap codes_of ops ∙ bare_codes c.ops;
       targets = ap (λ (x : Body). x.targets) e;
-      count = sym (length-map b.ops bare_op) ∙ ap length ops ∙ length-map c.ops bare_op;
+      count = sym (length-map b.ops op_code) ∙ ap length ops ∙ length-map c.ops op_code;
     }
 
 -- flat steps do not look at offsets
@@ -54,7 +54,7 @@ same_steps c T (x ∷ xs) (y ∷ ys) before after e h =
 abbrev HasTree : Body → Type 0
 HasTree b = (tree : Tree) × Writes b.targets b.ops tree
 
-tree_there : (n : Module) (i : ℕ) (c b : Body) → Valid n → slice_get n.bodies i ≡ Some c → bare_body b ≡ bare_body c → HasTree b
+tree_there : (n : Module) (i : ℕ) (c b : Body) → Valid n → slice_get n.bodies i ≡ Some c → body_code b ≡ body_code c → HasTree b
 tree_there n i c b valid at e =
     let same = alike b c e in
     let fine = fine_at n i c valid at in
@@ -65,7 +65,7 @@ tree_there n i c b valid at e =
     let is = steps_body n type c result (code_of c.targets b.ops) gives (same_steps (body_context n type c) c.targets b.ops c.ops (body_block result) [] same.codes all) in
     (is.tree, subst (λ (ts : List ℕ). Writes ts b.ops is.tree) (sym same.targets) is.writes)
 
-in_order : (b c : Body) → bare_body b ≡ bare_body c → ShortBody c → Ascends b → InOrder c → InOrder b
+in_order : (b c : Body) → body_code b ≡ body_code c → ShortBody c → Ascends b → InOrder c → InOrder b
 in_order b c e short up order =
     let same = alike b c e in
     record {
@@ -75,24 +75,24 @@ in_order b c e short up order =
 
 -- ---- lists of them
 
-pub all_trees : (bs cs : List Body) → map bare_body bs ≡ map bare_body cs → ((i : ℕ) (c b : Body) → slice_get cs i ≡ Some c → bare_body b ≡ bare_body c → HasTree b) → (trees : List Tree) × AllWrite bs trees
+pub all_trees : (bs cs : List Body) → map body_code bs ≡ map body_code cs → ((i : ℕ) (c b : Body) → slice_get cs i ≡ Some c → body_code b ≡ body_code c → HasTree b) → (trees : List Tree) × AllWrite bs trees
 all_trees [] [] e h = ([], tt)
 all_trees [] (c ∷ cs) e h = absurd cc
 all_trees (b ∷ bs) [] e h = absurd cc
 all_trees (b ∷ bs) (c ∷ cs) e h =
-    let first : bare_body b ≡ bare_body c = cc in
-    let others : map bare_body bs ≡ map bare_body cs = cc in
+    let first : body_code b ≡ body_code c = cc in
+    let others : map body_code bs ≡ map body_code cs = cc in
     let one = h 0 c b refl first in
     let rest = all_trees bs cs others (λ i x y at. h (suc i) x y at) in
     (one.0 ∷ rest.0, (one.1, rest.1))
 
-pub valid_trees : (n : Module) (bs : List Body) → Valid n → map bare_body bs ≡ map bare_body n.bodies → (trees : List Tree) × AllWrite bs trees
+pub valid_trees : (n : Module) (bs : List Body) → Valid n → map body_code bs ≡ map body_code n.bodies → (trees : List Tree) × AllWrite bs trees
 valid_trees n bs valid e = all_trees bs n.bodies e (λ i c b at same. tree_there n i c b valid at same)
 
-pub all_in_order : (bs cs : List Body) → map bare_body bs ≡ map bare_body cs → AllByRecursion ShortBody cs → AllByRecursion Ascends bs → AllByRecursion InOrder cs → AllByRecursion InOrder bs
+pub all_in_order : (bs cs : List Body) → map body_code bs ≡ map body_code cs → AllByRecursion ShortBody cs → AllByRecursion Ascends bs → AllByRecursion InOrder cs → AllByRecursion InOrder bs
 all_in_order [] cs e short up order = tt
 all_in_order (b ∷ bs) [] e short up order = absurd cc
 all_in_order (b ∷ bs) (c ∷ cs) e short up order =
-    let first : bare_body b ≡ bare_body c = cc in
-    let others : map bare_body bs ≡ map bare_body cs = cc in
+    let first : body_code b ≡ body_code c = cc in
+    let others : map body_code bs ≡ map body_code cs = cc in
     (in_order b c first short.0 up.0 order.0, all_in_order bs cs others short.1 up.1 order.1)

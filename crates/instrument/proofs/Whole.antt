@@ -13,7 +13,7 @@ use Rattle.wasm_syntax.specs.Valid.{Valid, There, AtIndex, ElementFine}
 use Rattle.wasm_encode.specs.Encoding.{function_type_bytes}
 use Rattle.wasm_laws.proofs.Lists.{all_of}
 use Rattle.rewrite_bodies.specs.Numbering.{wrapped, helped}
-use Rattle.rewrite_modules.specs.Bare.{bare_body, bare_global, bare_module}
+use Rattle.wasm_syntax.specs.SameCode.{body_code, global_code, code_alone}
 use Rattle.rewrite_modules.specs.Given.{Given}
 use Rattle.rewrite_modules.specs.Instrument.{wrapper_type, zero_init, new_module}
 use Rattle.rewrite_modules.specs.Instrumentable.{program_of}
@@ -76,7 +76,7 @@ module _ (m : Module) (bodies : List Body) (are : AreBodies m bodies) where
   whole : IsModule (laid p)
   whole = laid_is p a.premises.whole valid
 
-  laid_code : map bare_body new.bodies ≡ map bare_body (laid p).bodies
+  laid_code : map body_code new.bodies ≡ map body_code (laid p).bodies
   laid_code = ap (λ (x : Module). x.bodies) (laid_same p)
 
   used : helped p ≡ types_used m
@@ -88,9 +88,9 @@ module _ (m : Module) (bodies : List Body) (are : AreBodies m bodies) where
   as_many : length made.bodies ≡ length made.functions
   as_many =
       let ws = map (wrapper_type m) (wrapped m) in
-      let one = length-map bodies bare_body in
-      let two = length-map new.bodies bare_body in
-      let three = length-map (laid p).bodies bare_body in
+      let one = length-map bodies body_code in
+      let two = length-map new.bodies body_code in
+      let three = length-map (laid p).bodies body_code in
       let four = length-append m.functions (ws ++ map (λ u. length m.types + 3) (types_used m)) in
       let five = length-append ws (map (λ u. length m.types + 3) (types_used m)) in
       let six = length-append m.functions (ws ++ map (λ u. length m.types + 3) (helped p)) in
@@ -122,16 +122,16 @@ module _ (m : Module) (bodies : List Body) (are : AreBodies m bodies) where
   abbrev zero_flag : Global
   zero_flag = record { vtype = I32; mutable = true; init = zero_init }
 
-  made_same : bare_module new ≡ bare_module made
+  made_same : code_alone new ≡ code_alone made
   made_same = same functions globals (sym are.code)
     where
       functions : with_types (helped p) ≡ with_types (types_used m)
       functions = ap with_types used
 
-      globals : map bare_global (m.globals ++ zero_flag ∷ []) ≡ map bare_global (m.globals ++ flag ∷ [])
-      globals = map-append bare_global m.globals (zero_flag ∷ []) ∙ sym (map-append bare_global m.globals (flag ∷ []))
+      globals : map global_code (m.globals ++ zero_flag ∷ []) ≡ map global_code (m.globals ++ flag ∷ [])
+      globals = map-append global_code m.globals (zero_flag ∷ []) ∙ sym (map-append global_code m.globals (flag ∷ []))
 
-      same : {fs fs' : List ℕ} {gs gs' : List Global} {bs bs' : List Body} → fs ≡ fs' → gs ≡ gs' → bs ≡ bs' → ◌≡◌ {A = Module} (record (bare_module new) { functions = fs; globals = gs; bodies = bs }) (record (bare_module new) { functions = fs'; globals = gs'; bodies = bs' })
+      same : {fs fs' : List ℕ} {gs gs' : List Global} {bs bs' : List Body} → fs ≡ fs' → gs ≡ gs' → bs ≡ bs' → ◌≡◌ {A = Module} (record (code_alone new) { functions = fs; globals = gs; bodies = bs }) (record (code_alone new) { functions = fs'; globals = gs'; bodies = bs' })
       same e d b = cc
 
   pub made_rewriting : IsRewriting m made

@@ -6,7 +6,7 @@ use Rattle.wasm_syntax.specs.declared.parts.Body.{Body}
 use Rattle.wasm_syntax.specs.declared.module.ModuleParts.{ModuleParts as Module}
 use Rattle.rewrite_bodies.specs.Guards.{helper}
 use Rattle.rewrite_bodies.specs.Numbering.{helped}
-use Rattle.rewrite_modules.specs.Bare.{bare_body}
+use Rattle.wasm_syntax.specs.SameCode.{body_code}
 use Rattle.rewrite_modules.specs.FlatCode.{body_of}
 use Rattle.rewrite_modules.specs.Instrument.{each, new_module}
 use Rattle.rewrite_promise.specs.Promise.{Accepted}
@@ -17,13 +17,13 @@ use Rattle.module_rewrite.specs.inner.Adding.{Adds, new_bodies, wrapper_bodies, 
 use Rattle.wasm_decode.proofs.SoundSections.{all_more}
 use Rattle.validate_stack.proofs.StackLaws.{take_one}
 
-pub one_added : (more old now : List Body) (i : ℕ) (x b : Body) → slice_get more i ≡ Some x → bare_body b ≡ bare_body x → Ascends b → Adds (take i more) old now → Adds (take (i + 1) more) old (now ++ b ∷ [])
+pub one_added : (more old now : List Body) (i : ℕ) (x b : Body) → slice_get more i ≡ Some x → body_code b ≡ body_code x → Ascends b → Adds (take i more) old now → Adds (take (i + 1) more) old (now ++ b ∷ [])
 one_added more old now i x b e same up a = record {
   code =
-      map-append bare_body now (b ∷ [])
-      ∙ ap (λ zs. zs ++ bare_body b ∷ []) a.code
-      ∙ append_assoc (map bare_body old) (map bare_body (take i more)) (bare_body b ∷ [])
-      ∙ ap (λ zs. map bare_body old ++ zs) (ap (λ z. map bare_body (take i more) ++ z ∷ []) same ∙ sym (map-append bare_body (take i more) (x ∷ [])) ∙ ap (map bare_body) (sym (take_one more i x e)));
+      map-append body_code now (b ∷ [])
+      ∙ ap (λ zs. zs ++ body_code b ∷ []) a.code
+      ∙ append_assoc (map body_code old) (map body_code (take i more)) (body_code b ∷ [])
+      ∙ ap (λ zs. map body_code old ++ zs) (ap (λ z. map body_code (take i more) ++ z ∷ []) same ∙ sym (map-append body_code (take i more) (x ∷ [])) ∙ ap (map body_code) (sym (take_one more i x e)));
   ascend = λ h. all_more Ascends now b (a.ascend h) up;
 }
 
@@ -45,9 +45,9 @@ item_at xs ys i e lt = subst (λ (zs : List ℕ). slice_get zs i ≡ Some (get_o
 
 pub all_added : (m : Module) (a : Accepted m) (one two three : List Body) → Adds (new_bodies m a) [] one → Adds (wrapper_bodies m) one two → Adds (helper_bodies m) two three → AreBodies m three
 all_added m a one two three f w h =
-    let nb = map bare_body (new_bodies m a) in
-    let wb = map bare_body (wrapper_bodies m) in
-    let hb = map bare_body (helper_bodies m) in
+    let nb = map body_code (new_bodies m a) in
+    let wb = map body_code (wrapper_bodies m) in
+    let hb = map body_code (helper_bodies m) in
     let others : List Body = map (λ t. body_of [] (helper m t)) (helped (program_in m a)) in
     let used : others ≡ helper_bodies m = ap (map (λ t. body_of [] (helper m t))) (helped_used (program_in m a) a.premises.whole.write) in
     let is : (new_module (program_in m a)).bodies ≡ new_bodies m a ++ (wrapper_bodies m ++ helper_bodies m) = ap (λ zs. new_bodies m a ++ (wrapper_bodies m ++ zs)) used in
@@ -55,8 +55,8 @@ all_added m a one two three f w h =
       accepted = a;
       code =
           h.code ∙ ap (λ zs. zs ++ hb) (w.code ∙ ap (λ zs. zs ++ wb) f.code) ∙ append_assoc nb wb hb
-          ∙ ap (λ zs. nb ++ zs) (sym (map-append bare_body (wrapper_bodies m) (helper_bodies m)))
-          ∙ sym (map-append bare_body (new_bodies m a) (wrapper_bodies m ++ helper_bodies m))
-          ∙ ap (map bare_body) (sym is);
+          ∙ ap (λ zs. nb ++ zs) (sym (map-append body_code (wrapper_bodies m) (helper_bodies m)))
+          ∙ sym (map-append body_code (new_bodies m a) (wrapper_bodies m ++ helper_bodies m))
+          ∙ ap (map body_code) (sym is);
       ascend = h.ascend (w.ascend (f.ascend tt));
     }

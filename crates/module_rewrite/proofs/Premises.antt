@@ -20,7 +20,7 @@ use Rattle.wasm_validate.specs.Heights.{body_of as body_in}
 use Rattle.rewrite_bodies.specs.Numbering.{helper_base, is_in}
 use Rattle.rewrite_bodies.specs.Rewrite.{body}
 use Rattle.rewrite_bodies.specs.Slots.{Ctx, ctx_of, slots_of, groups}
-use Rattle.rewrite_modules.specs.Bare.{bare_body}
+use Rattle.wasm_syntax.specs.SameCode.{body_code}
 use Rattle.rewrite_modules.specs.FlatCode.{body_of}
 use Rattle.rewrite_modules.specs.Instrument.{new_body}
 use Rattle.rewrite_modules.specs.Weight.{height_at, type_used, types_used, ops_weight, bodies_weight}
@@ -153,20 +153,20 @@ module _ (m : Module) (a : Accepted m) (f : ℕ) (b : Body) (here : body_in m f 
     can_be = record { tree = tree; writes = writes; fine = fine }
 
     -- what is written is the body of the definitions
-    written_is : (out : Body) → ((t : Tree) → Writes b.targets b.ops t → Fine C [] t.nodes → bare_body out ≡ bare_body (body_of (b.groups ++ groups C.slots) (body C t.nodes))) → bare_body out ≡ bare_body (new_body p f (function_at p f))
+    written_is : (out : Body) → ((t : Tree) → Writes b.targets b.ops t → Fine C [] t.nodes → body_code out ≡ body_code (body_of (b.groups ++ groups C.slots) (body C t.nodes))) → body_code out ≡ body_code (new_body p f (function_at p f))
     written_is out h =
         h tree writes fine
-        ∙ ap (λ (c : Ctx). bare_body (body_of (b.groups ++ groups c.slots) (body c tree.nodes))) same
-        ∙ sym (ap (λ q. bare_body (new_body p f q)) is)
+        ∙ ap (λ (c : Ctx). body_code (body_of (b.groups ++ groups c.slots) (body c tree.nodes))) same
+        ∙ sym (ap (λ q. body_code (new_body p f q)) is)
 
   -- there is a tree
   pub can : (plan : Planned) → IsPlanIn m f plan → CanBeWritten (context m plan.locals plan.slots f (gives_of m f)) b
   can plan planned = can_be plan found.tree found.type found.is (planned a b found.tree found.type found.is)
 
 pub is_rewritten : {E : Type 0} (m : Module) (f : ℕ) (b : Body) → body_in m f ≡ Some b → (plan : Planned) → IsPlanIn m f plan → (C : Ctx) → C ≡ context m plan.locals plan.slots f (gives_of m f) → (r : Result Body E)
-    → ((t : Tree) → Writes b.targets b.ops t → Fine C [] t.nodes → IfOk r (λ out. bare_body out ≡ bare_body (body_of (b.groups ++ groups C.slots) (body C t.nodes)))) → IfOk r (IsRewritten m f)
+    → ((t : Tree) → Writes b.targets b.ops t → Fine C [] t.nodes → IfOk r (λ out. body_code out ≡ body_code (body_of (b.groups ++ groups C.slots) (body C t.nodes)))) → IfOk r (IsRewritten m f)
 is_rewritten m f b here plan planned C e (Err x) h = tt
 is_rewritten m f b here plan planned C e (Ok out) h = λ a.
     let q = found m a f b here in
     written_is m a f b here plan q.tree q.type q.is (planned a b q.tree q.type q.is) out
-    (subst (λ (c : Ctx). (t : Tree) → Writes b.targets b.ops t → Fine c [] t.nodes → bare_body out ≡ bare_body (body_of (b.groups ++ groups c.slots) (body c t.nodes))) e h)
+    (subst (λ (c : Ctx). (t : Tree) → Writes b.targets b.ops t → Fine c [] t.nodes → body_code out ≡ body_code (body_of (b.groups ++ groups c.slots) (body c t.nodes))) e h)

@@ -7,7 +7,7 @@ use Rattle.wasm_syntax.specs.declared.module.ModuleParts.{ModuleParts as Module}
 use Rattle.wasm_syntax.specs.Tree.{Tree}
 use Rattle.wasm_syntax.specs.Machine.{result_of}
 use Rattle.wasm_syntax.specs.Module.{Program, option_then, type_at, defined, function_at}
-use Rattle.rewrite_modules.specs.Bare.{bare_body}
+use Rattle.wasm_syntax.specs.SameCode.{body_code}
 use Rattle.rewrite_modules.specs.Instrument.{new_body}
 use Rattle.rewrite_modules.specs.Instrumentable.{program_of}
 use Rattle.rewrite_promise.specs.Promise.{Accepted}
@@ -24,7 +24,7 @@ IsPlanIn m f plan =
 
 -- the body of function f in the rewriting, but for offsets
 abbrev pub IsRewritten : Module → ℕ → Body → Type 0
-IsRewritten m f body = (a : Accepted m) → bare_body body ≡ bare_body (new_body (program_in m a) f (function_at (program_in m a) f))
+IsRewritten m f body = (a : Accepted m) → body_code body ≡ body_code (new_body (program_in m a) f (function_at (program_in m a) f))
 
 -- what function f gives
 abbrev pub gives_of : Module → ℕ → Option ValType

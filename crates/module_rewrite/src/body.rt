@@ -6,7 +6,7 @@ ghost use Rattle.wasm_syntax.specs.Tree.{Tree as TreeOf, Writes};
 ghost use Rattle.wasm_validate.specs.Heights.{body_of as body_in};
 ghost use Rattle.rewrite_bodies.specs.Rewrite.{body as rewriting};
 ghost use Rattle.rewrite_bodies.specs.Slots.{groups};
-ghost use Rattle.rewrite_modules.specs.Bare.{bare_body};
+ghost use Rattle.wasm_syntax.specs.SameCode.{body_code};
 ghost use Rattle.rewrite_modules.specs.FlatCode.{body_of};
 ghost use Rattle.rewrite_promise.specs.Promise.{Accepted};
 ghost use Rattle.body_walk.specs.Standing.{Fine};
@@ -41,8 +41,8 @@ fn write_body(
     requires tree { CanBeWritten context.now body.now }
     ensures code { (tree : TreeOf) → Writes body.now.targets body.now.ops tree
         → Fine context.now [] tree.nodes
-        → IfOk result (λ out. bare_body out
-        ≡ bare_body (body_of (body.now.groups ++ groups context.now.slots)
+        → IfOk result (λ out. body_code out
+        ≡ body_code (body_of (body.now.groups ++ groups context.now.slots)
         (rewriting context.now tree.nodes))) }
     ensures offsets { IfOk result (λ out. length out.ops ≤ 2 ^ 32 → Ascend 0 out.ops) }
 {

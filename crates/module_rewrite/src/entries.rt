@@ -5,7 +5,7 @@ ghost use Rattle.wasm_syntax.specs.Numbers.{same_type as are_same};
 ghost use Rattle.wasm_syntax.specs.Module.{function_types, same_functype, same_types as lists_are_same, type_at};
 ghost use Rattle.wasm_syntax.specs.Sizes.{parameter_count};
 ghost use Rattle.rewrite_bodies.specs.Guards.{entry_label, first_table, helper};
-ghost use Rattle.rewrite_modules.specs.Bare.{bare_body};
+ghost use Rattle.wasm_syntax.specs.SameCode.{body_code};
 ghost use Rattle.rewrite_modules.specs.FlatCode.{body_of};
 ghost use Rattle.rewrite_modules.specs.Wrappers.{wrapper};
 ghost use Rattle.instrument.specs.Assembly.{Ascends};
@@ -36,8 +36,8 @@ pub(crate) fn wrapper_body(
 ) -> Result<Body, NoMemory>
     requires there { function < length (function_types numbers.now) }
     requires few { parameter_count (type_at numbers.now function) < 2 ^ 32 }
-    ensures code { IfOk result (λ out. bare_body out
-        ≡ bare_body (body_of [] (wrapper numbers.now function))) }
+    ensures code { IfOk result (λ out. body_code out
+        ≡ body_code (body_of [] (wrapper numbers.now function))) }
     ensures offsets { IfOk result Ascends }
 {
     let parts = numbers.source();
@@ -129,8 +129,8 @@ pub(crate) fn helper_body(
     table: &[Option<u32>],
 ) -> Result<Body, NoMemory>
     requires { table.now ≡ first_table parts.now }
-    ensures code { IfOk result (λ out. bare_body out
-        ≡ bare_body (body_of [] (helper parts.now ftype))) }
+    ensures code { IfOk result (λ out. body_code out
+        ≡ body_code (body_of [] (helper parts.now ftype))) }
     ensures offsets { IfOk result Ascends }
 {
     let labels = entry_labels(alloc, parts, ftype, table)?;

@@ -4,12 +4,12 @@ use Rattle.std.specs.Prelude.{min, get_or, slice_set, take, drop}
 use Rattle.std.proofs.lemmas.List.{take_all, drop_all}
 use Rattle.wasm_syntax.specs.declared.instruction.Op.{Op}
 use Rattle.wasm_syntax.specs.Module.{Ascend}
-use Rattle.rewrite_modules.specs.Bare.{bare_op}
+use Rattle.wasm_syntax.specs.SameCode.{op_code}
 use Rattle.rewrite_code.specs.inner.Numbered.{numbered}
 
-pub bare_numbered : (n : ℕ) (ops : List Op) → map bare_op (numbered n ops) ≡ map bare_op ops
+pub bare_numbered : (n : ℕ) (ops : List Op) → map op_code (numbered n ops) ≡ map op_code ops
 bare_numbered n [] = refl
-bare_numbered n (o ∷ os) = ap (λ (rest : List Op). bare_op o ∷ rest) (bare_numbered (suc n) os)
+bare_numbered n (o ∷ os) = ap (λ (rest : List Op). op_code o ∷ rest) (bare_numbered (suc n) os)
 
 pub length-numbered : (n : ℕ) (ops : List Op) → length (numbered n ops) ≡ length ops
 length-numbered n [] = refl

@@ -6,7 +6,7 @@ use Rattle.wasm_syntax.specs.declared.instruction.Op.{Op}
 use Rattle.wasm_syntax.specs.declared.parts.LocalGroup.{LocalGroup}
 use Rattle.wasm_syntax.specs.declared.parts.Body.{Body}
 use Rattle.wasm_syntax.specs.Tree.{Nodes, stop, choose}
-use Rattle.rewrite_modules.specs.Bare.{bare_op, bare_body}
+use Rattle.wasm_syntax.specs.SameCode.{op_code, body_code}
 use Rattle.rewrite_modules.specs.FlatCode.{body_of}
 use Rattle.rewrite_code.specs.inner.Numbered.{numbered}
 use Rattle.rewrite_code.proofs.Numbers.{bare_numbered}
@@ -55,9 +55,9 @@ finished_body groups nodes ops targets e d =
     same e d = cc
 
 -- but for the offsets of instructions that were numbered
-pub numbered_body : {w : Written} (groups : List LocalGroup) (nodes : Nodes) (ops placed : List Op) (targets : List ℕ) → EmitsLast nodes nothing w → written ops targets ≡ with_op w instrs.End → placed ≡ numbered 0 ops → bare_body (record { groups = groups; ops = placed; targets = targets; start = 0 }) ≡ bare_body (body_of groups nodes)
+pub numbered_body : {w : Written} (groups : List LocalGroup) (nodes : Nodes) (ops placed : List Op) (targets : List ℕ) → EmitsLast nodes nothing w → written ops targets ≡ with_op w instrs.End → placed ≡ numbered 0 ops → body_code (record { groups = groups; ops = placed; targets = targets; start = 0 }) ≡ body_code (body_of groups nodes)
 numbered_body groups nodes ops placed targets e d n =
-    same (ap (λ (os : List Op). map bare_op os) n ∙ bare_numbered 0 ops) ∙ ap bare_body (finished_body groups nodes ops targets e d)
+    same (ap (λ (os : List Op). map op_code os) n ∙ bare_numbered 0 ops) ∙ ap body_code (finished_body groups nodes ops targets e d)
   where
     same : {os os' : List Op} → os ≡ os' → ◌≡◌ {A = Body} (record { groups = groups; ops = os; targets = targets; start = 0 }) (record { groups = groups; ops = os'; targets = targets; start = 0 })
     same e = cc

@@ -4,7 +4,7 @@ ghost use Rattle.std.specs.Prelude.{◌≡◌, ◌+◌, ◌<◌, ◌≤◌, ◌^
 ghost use Rattle.wasm_syntax.specs.Module.{Ascend};
 ghost use Rattle.wasm_syntax.specs.Tree.{Nodes, stop, basic, jump, block, loop, choose, Unreachable, Br, BrIf, BrTable, Return, CallIndirect};
 ghost use Rattle.rewrite_bodies.specs.Pieces.{const, call};
-ghost use Rattle.rewrite_modules.specs.Bare.{bare_body};
+ghost use Rattle.wasm_syntax.specs.SameCode.{body_code};
 ghost use Rattle.rewrite_modules.specs.FlatCode.{body_of};
 ghost use Rattle.rewrite_code.specs.inner.Numbered.{numbered};
 ghost use Rattle.rewrite_code.specs.Writing.{nothing, with_op, Emits, EmitsLast, Opens, OpensArms, Alternates, Closes};
@@ -180,7 +180,7 @@ impl CodeWriter {
     /// ascending offsets, where 32 bits count them.
     pub fn finish(mut self, groups: LocalGroups) -> Result<Body, NoMemory>
         ensures code { (nodes : Nodes) → EmitsLast nodes nothing self
-            → IfOk result (λ body. bare_body body ≡ bare_body (body_of groups nodes)) }
+            → IfOk result (λ body. body_code body ≡ body_code (body_of groups nodes)) }
         ensures offsets { IfOk result (λ body. length body.ops ≤ 2 ^ 32 → Ascend 0 body.ops) }
     {
         self.push(Instr::End)?;

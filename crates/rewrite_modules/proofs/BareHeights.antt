@@ -9,7 +9,7 @@ use Rattle.wasm_syntax.specs.declared.module.ModuleParts.{ModuleParts as Module}
 use Rattle.wasm_syntax.specs.Tree.{Plain, Goes, Opens, OpensLoop, OpensIf, Else, End, Item, Placed, code_of}
 use Rattle.wasm_syntax.specs.Typing.{Context, body_context}
 use Rattle.wasm_syntax.specs.FlatTyping.{OpenBlock, label_types, FlatStep, FlatTypes, body_block, dead_next, dead_behind, AllLive, TypesBefore}
-use Rattle.rewrite_modules.specs.Bare.{bare_op, bare_body, bare_module}
+use Rattle.wasm_syntax.specs.SameCode.{op_code, body_code, code_alone}
 use Rattle.rewrite_modules.specs.LowSizes.{LowHeights}
 use Rattle.rewrite_modules.proofs.BareValid.{basic_to, basic_from, jump_to, jump_from}
 use Rattle.rewrite_modules.proofs.WrittenOut.{at_zero, zero_code}
@@ -30,7 +30,7 @@ module _ (m : Module) (type : FuncType) (b : Body) where
   c = body_context m type b
 
   abbrev c0 : Context
-  c0 = body_context (bare_module m) type (bare_body b)
+  c0 = body_context (code_alone m) type (body_code b)
 
   step_to : (bs : List OpenBlock) (i : Item) (after : List OpenBlock) → FlatStep c bs i after → FlatStep c0 bs i after
   step_to [] i after h = absurd h
@@ -60,10 +60,10 @@ module _ (m : Module) (type : FuncType) (b : Body) where
   flat_from [] bs after h = h
   flat_from (p ∷ ps) bs after h = (h.0, step_from bs p.code h.0 h.1, flat_from ps h.0 after h.2)
 
-  front : (i : ℕ) → take i (code_of (bare_body b).targets (bare_body b).ops) ≡ map at_zero (take i (code_of b.targets b.ops))
+  front : (i : ℕ) → take i (code_of (body_code b).targets (body_code b).ops) ≡ map at_zero (take i (code_of b.targets b.ops))
   front i = ap (take i) (zero_code b.targets b.ops) ∙ take_zero i (code_of b.targets b.ops)
 
-  before_to : (i : ℕ) (types : List ValType) → TypesBefore m type b i types → TypesBefore (bare_module m) type (bare_body b) i types
+  before_to : (i : ℕ) (types : List ValType) → TypesBefore m type b i types → TypesBefore (code_alone m) type (body_code b) i types
   before_to i types h =
       let code = take i (code_of b.targets b.ops) in
       record {
@@ -75,7 +75,7 @@ module _ (m : Module) (type : FuncType) (b : Body) where
         types_are = h.types_are;
       }
 
-  before_from : (i : ℕ) (types : List ValType) → TypesBefore (bare_module m) type (bare_body b) i types → TypesBefore m type b i types
+  before_from : (i : ℕ) (types : List ValType) → TypesBefore (code_alone m) type (body_code b) i types → TypesBefore m type b i types
   before_from i types h =
       let code = take i (code_of b.targets b.ops) in
       record {
@@ -87,19 +87,19 @@ module _ (m : Module) (type : FuncType) (b : Body) where
         types_are = h.types_are;
       }
 
-heights_to : (m : Module) → LowHeights m → LowHeights (bare_module m)
+heights_to : (m : Module) → LowHeights m → LowHeights (code_alone m)
 heights_to m low i op body type types e lt ty before =
-    let f = map_found (slice_get m.bodies i) bare_body body (sym (slice_get-map bare_body m.bodies i) ∙ e) in
+    let f = map_found (slice_get m.bodies i) body_code body (sym (slice_get-map body_code m.bodies i) ∙ e) in
     let b = f.0 in
-    let old : TypesBefore (bare_module m) type (bare_body b) op types = subst (λ z. TypesBefore (bare_module m) type z op types) (sym f.2) before in
-    let inside_ : op < length b.ops = omega (arith, lt, ap (λ (z : Body). length z.ops) f.2, length-map b.ops bare_op) in
+    let old : TypesBefore (code_alone m) type (body_code b) op types = subst (λ z. TypesBefore (code_alone m) type z op types) (sym f.2) before in
+    let inside_ : op < length b.ops = omega (arith, lt, ap (λ (z : Body). length z.ops) f.2, length-map b.ops op_code) in
     low i op b type types f.1 inside_ ty (before_from m type b op types old)
 
-heights_from : (m : Module) → LowHeights (bare_module m) → LowHeights m
+heights_from : (m : Module) → LowHeights (code_alone m) → LowHeights m
 heights_from m low i op b type types e lt ty before =
-    let at : slice_get (map bare_body m.bodies) i ≡ Some (bare_body b) = slice_get-map bare_body m.bodies i ∙ ap (option_map bare_body) e in
-    let inside_ : op < length (map bare_op b.ops) = omega (arith, lt, length-map b.ops bare_op) in
-    low i op (bare_body b) type types at inside_ ty (before_to m type b op types before)
+    let at : slice_get (map body_code m.bodies) i ≡ Some (body_code b) = slice_get-map body_code m.bodies i ∙ ap (option_map body_code) e in
+    let inside_ : op < length (map op_code b.ops) = omega (arith, lt, length-map b.ops op_code) in
+    low i op (body_code b) type types at inside_ ty (before_to m type b op types before)
 
-pub same_heights : (a b : Module) → bare_module a ≡ bare_module b → LowHeights a → LowHeights b
+pub same_heights : (a b : Module) → code_alone a ≡ code_alone b → LowHeights a → LowHeights b
 same_heights a b e low = heights_from b (subst LowHeights e (heights_to a low))

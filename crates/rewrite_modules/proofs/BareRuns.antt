@@ -15,7 +15,8 @@ use Rattle.wasm_syntax.specs.Host.{World, Answer, replied, told, silent, misfit,
 use Rattle.wasm_syntax.specs.Machine.{Config, config, Engine, Stepped, next, ends, traps, no_reply, bad_reply, stuck, entered, host_call, step, zero_of}
 use Rattle.wasm_syntax.specs.Run.{Cause, initial_globals, i32_or_zero, over, first_false, table_min, empty_memory, memory_bytes, globals_at_start, element_at, data_at, element_fits, data_fits, start_world, Ended, ended, host_alone, run_on, run_steps, run_alone, run_function, Outcome, not_started, finished, trapped, lacks_reply, misfits, running, got_stuck, Ran, ran_to, run_entry, go_on, invoked, by_data, by_element, cause_of_entry, or_else, Invocation, cause_of, goes_on, fresh, session, unless, engine, run}
 use Rattle.linear_memory.specs.Memory.{Memory}
-use Rattle.rewrite_modules.specs.Bare.{bare_op, bare_module, bare, bare_global, bare_element, bare_segment, bare_config, bare_ran}
+use Rattle.rewrite_modules.specs.Bare.{bare, bare_config, bare_ran}
+use Rattle.wasm_syntax.specs.SameCode.{op_code, code_alone, global_code, element_code, segment_code}
 use Rattle.rewrite_modules.proofs.BareStep.{bare_stepped, bare_function, function_bare, bare_engine, step_bare}
 use Rattle.rewrite_modules.specs.Simulates.{EndsAlike, SameState, Alike, AllAlike, Simulates}
 
@@ -117,44 +118,44 @@ module _ (M : Engine) where
 
 -- ---- the start
 
-const_bare : (gs : List Value) (ops : List Op) → const_value gs (map bare_op ops) ≡ const_value gs ops
+const_bare : (gs : List Value) (ops : List Op) → const_value gs (map op_code ops) ≡ const_value gs ops
 const_bare gs [] = refl
 const_bare gs (o ∷ os) = refl
 
-initial_bare : (gs : List Global) → initial_globals (map bare_global gs) ≡ initial_globals gs
+initial_bare : (gs : List Global) → initial_globals (map global_code gs) ≡ initial_globals gs
 initial_bare [] = refl
 initial_bare (g ∷ gs) = ap₂ (λ v vs. v ∷ vs) (ap (λ o. unwrap_or o (zero_of g.vtype)) (const_bare [] g.init.ops)) (initial_bare gs)
 
 module _ (m : Module) where
   abbrev m' : Module
-  m' = bare_module m
+  m' = code_alone m
 
   globals_same : globals_at_start m' ≡ globals_at_start m
   globals_same = initial_bare m.globals
 
-  element_same : (e : ElementSeg) → element_at m' (bare_element e) ≡ element_at m e
-  element_same e = ap (λ gs. i32_or_zero (const_value gs (map bare_op e.offset.ops))) globals_same ∙ ap i32_or_zero (const_bare (globals_at_start m) e.offset.ops)
+  element_same : (e : ElementSeg) → element_at m' (element_code e) ≡ element_at m e
+  element_same e = ap (λ gs. i32_or_zero (const_value gs (map op_code e.offset.ops))) globals_same ∙ ap i32_or_zero (const_bare (globals_at_start m) e.offset.ops)
 
-  data_same : (s : DataSeg) → data_at m' (bare_segment s) ≡ data_at m s
-  data_same s = ap (λ gs. i32_or_zero (const_value gs (map bare_op s.offset.ops))) globals_same ∙ ap i32_or_zero (const_bare (globals_at_start m) s.offset.ops)
+  data_same : (s : DataSeg) → data_at m' (segment_code s) ≡ data_at m s
+  data_same s = ap (λ gs. i32_or_zero (const_value gs (map op_code s.offset.ops))) globals_same ∙ ap i32_or_zero (const_bare (globals_at_start m) s.offset.ops)
 
-  element_tests : (es : List ElementSeg) → map (element_fits m') (map bare_element es) ≡ map (element_fits m) es
+  element_tests : (es : List ElementSeg) → map (element_fits m') (map element_code es) ≡ map (element_fits m) es
   element_tests [] = refl
   element_tests (e ∷ es) = ap₂ (λ b bs. b ∷ bs) (ap (λ n. nat_le (n + length e.functions) (table_min m.tables)) (element_same e)) (element_tests es)
 
-  data_tests : (ss : List DataSeg) → map (data_fits m') (map bare_segment ss) ≡ map (data_fits m) ss
+  data_tests : (ss : List DataSeg) → map (data_fits m') (map segment_code ss) ≡ map (data_fits m) ss
   data_tests [] = refl
   data_tests (s ∷ ss) = ap₂ (λ b bs. b ∷ bs) (ap (λ n. nat_le (n + length s.bytes) (length (memory_bytes (empty_memory m.memories)))) (data_same s)) (data_tests ss)
 
-  table_same : (es : List ElementSeg) (t : List (Option ℕ)) → fold (λ table e. over table (element_at m' e) (map Some e.functions)) t (map bare_element es) ≡ fold (λ table e. over table (element_at m e) (map Some e.functions)) t es
+  table_same : (es : List ElementSeg) (t : List (Option ℕ)) → fold (λ table e. over table (element_at m' e) (map Some e.functions)) t (map element_code es) ≡ fold (λ table e. over table (element_at m e) (map Some e.functions)) t es
   table_same [] t = refl
-  table_same (e ∷ es) t = ap (λ n. fold (λ table e. over table (element_at m' e) (map Some e.functions)) (over t n (map Some e.functions)) (map bare_element es)) (element_same e) ∙ table_same es (over t (element_at m e) (map Some e.functions))
+  table_same (e ∷ es) t = ap (λ n. fold (λ table e. over table (element_at m' e) (map Some e.functions)) (over t n (map Some e.functions)) (map element_code es)) (element_same e) ∙ table_same es (over t (element_at m e) (map Some e.functions))
 
-  memory_same : (ss : List DataSeg) (k : Memory) → fold (λ k s. record k { bytes = over k.bytes (data_at m' s) s.bytes }) k (map bare_segment ss) ≡ fold (λ k s. record k { bytes = over k.bytes (data_at m s) s.bytes }) k ss
+  memory_same : (ss : List DataSeg) (k : Memory) → fold (λ k s. record k { bytes = over k.bytes (data_at m' s) s.bytes }) k (map segment_code ss) ≡ fold (λ k s. record k { bytes = over k.bytes (data_at m s) s.bytes }) k ss
   memory_same [] k = refl
-  memory_same (s ∷ ss) k = ap (λ n. fold (λ k s. record k { bytes = over k.bytes (data_at m' s) s.bytes }) (record k { bytes = over k.bytes n s.bytes }) (map bare_segment ss)) (data_same s) ∙ memory_same ss (record k { bytes = over k.bytes (data_at m s) s.bytes })
+  memory_same (s ∷ ss) k = ap (λ n. fold (λ k s. record k { bytes = over k.bytes (data_at m' s) s.bytes }) (record k { bytes = over k.bytes n s.bytes }) (map segment_code ss)) (data_same s) ∙ memory_same ss (record k { bytes = over k.bytes (data_at m s) s.bytes })
 
-  memory_option : (o : Option Memory) → option_map (λ memory. fold (λ k s. record k { bytes = over k.bytes (data_at m' s) s.bytes }) memory (map bare_segment m.segments)) o ≡ option_map (λ memory. fold (λ k s. record k { bytes = over k.bytes (data_at m s) s.bytes }) memory m.segments) o
+  memory_option : (o : Option Memory) → option_map (λ memory. fold (λ k s. record k { bytes = over k.bytes (data_at m' s) s.bytes }) memory (map segment_code m.segments)) o ≡ option_map (λ memory. fold (λ k s. record k { bytes = over k.bytes (data_at m s) s.bytes }) memory m.segments) o
   memory_option None = refl
   memory_option (Some k) = ap Some (memory_same m.segments k)
 

@@ -17,7 +17,8 @@ use Rattle.wasm_syntax.specs.Module.{Program, Function, imported, defined, funct
 use Rattle.wasm_syntax.specs.Host.{World, Answer, replied, told, silent, misfit, answer}
 use Rattle.wasm_syntax.specs.Effect.{Effect, gives, fails, unfit, effect, takes}
 use Rattle.wasm_syntax.specs.Machine.{Kind, leaves, again, returns, Label, Frame, Config, Engine, Stepped, next, ends, traps, no_reply, bad_reply, stuck, Cut, short, parts, cut, top, exactly, Went, inside, outside, nowhere, arrive, arrive_some, out_some, leave, loops, land, branch, carried_by, carry, same_carry, pick, function_type, entered, host_call, goes_to, deliver, moved, host, enters, applied, applied_if, calls_on, calls, calls_if, fits_entry, calls_entry, calls_typed, calls_indirect, branch_if, moved_if, branch_table, jumps, affects, does, opens_arm, chooses, runs, in_frame, steps, step}
-use Rattle.rewrite_modules.specs.Bare.{bare_nodes, bare_tree, bare_body, bare_module, bare, bare_kind, bare_label, bare_frame, bare_config}
+use Rattle.rewrite_modules.specs.Bare.{bare_nodes, bare_tree, bare, bare_kind, bare_label, bare_frame, bare_config}
+use Rattle.wasm_syntax.specs.SameCode.{body_code, code_alone}
 use Rattle.rewrite_bodies.proofs.Sim.{ends_zero}
 
 abbrev pub bare_stepped : Stepped → Stepped
@@ -35,29 +36,29 @@ bare_went nowhere = nowhere
 
 abbrev pub bare_function : Function → Function
 bare_function (imported i type) = imported i type
-bare_function (defined b tree type) = defined (bare_body b) (bare_tree tree) type
+bare_function (defined b tree type) = defined (body_code b) (bare_tree tree) type
 
 -- ---- functions
 
-function_by_tree : (b : Body) (type : FuncType) (o : Option Tree) → option_map (λ tree. defined (bare_body b) tree type) (option_map bare_tree o) ≡ option_map bare_function (option_map (λ tree. defined b tree type) o)
+function_by_tree : (b : Body) (type : FuncType) (o : Option Tree) → option_map (λ tree. defined (body_code b) tree type) (option_map bare_tree o) ≡ option_map bare_function (option_map (λ tree. defined b tree type) o)
 function_by_tree b type None = refl
 function_by_tree b type (Some tree) = refl
 
-function_by_body : (type : FuncType) (o : Option Body) (q : Option Tree) → option_then (option_map bare_body o) (λ b. option_map (λ tree. defined b tree type) (option_map bare_tree q)) ≡ option_map bare_function (option_then o (λ b. option_map (λ tree. defined b tree type) q))
+function_by_body : (type : FuncType) (o : Option Body) (q : Option Tree) → option_then (option_map body_code o) (λ b. option_map (λ tree. defined b tree type) (option_map bare_tree q)) ≡ option_map bare_function (option_then o (λ b. option_map (λ tree. defined b tree type) q))
 function_by_body type None q = refl
 function_by_body type (Some b) q = function_by_tree b type q
 
-function_by_type : (t : Option FuncType) (o : Option Body) (q : Option Tree) → option_then t (λ type. option_then (option_map bare_body o) (λ b. option_map (λ tree. defined b tree type) (option_map bare_tree q))) ≡ option_map bare_function (option_then t (λ type. option_then o (λ b. option_map (λ tree. defined b tree type) q)))
+function_by_type : (t : Option FuncType) (o : Option Body) (q : Option Tree) → option_then t (λ type. option_then (option_map body_code o) (λ b. option_map (λ tree. defined b tree type) (option_map bare_tree q))) ≡ option_map bare_function (option_then t (λ type. option_then o (λ b. option_map (λ tree. defined b tree type) q)))
 function_by_type None o q = refl
 function_by_type (Some type) o q = function_by_body type o q
 
-function_by_index : (types_ : List FuncType) (i : Option ℕ) (o : Option Body) (q : Option Tree) → option_then i (λ t. option_then (slice_get types_ t) (λ type. option_then (option_map bare_body o) (λ b. option_map (λ tree. defined b tree type) (option_map bare_tree q)))) ≡ option_map bare_function (option_then i (λ t. option_then (slice_get types_ t) (λ type. option_then o (λ b. option_map (λ tree. defined b tree type) q))))
+function_by_index : (types_ : List FuncType) (i : Option ℕ) (o : Option Body) (q : Option Tree) → option_then i (λ t. option_then (slice_get types_ t) (λ type. option_then (option_map body_code o) (λ b. option_map (λ tree. defined b tree type) (option_map bare_tree q)))) ≡ option_map bare_function (option_then i (λ t. option_then (slice_get types_ t) (λ type. option_then o (λ b. option_map (λ tree. defined b tree type) q))))
 function_by_index types_ None o q = refl
 function_by_index types_ (Some t) o q = function_by_type (slice_get types_ t) o q
 
 defined_bare : (p : Program) (i : ℕ) → defined_at (bare p) i ≡ option_map bare_function (defined_at p i)
 defined_bare p i =
-    ap₂ (λ o q. option_then (slice_get p.module_.functions i) (λ t. option_then (slice_get p.module_.types t) (λ type. option_then o (λ b. option_map (λ tree. defined b tree type) q)))) (slice_get-map bare_body p.module_.bodies i) (slice_get-map bare_tree p.trees i)
+    ap₂ (λ o q. option_then (slice_get p.module_.functions i) (λ t. option_then (slice_get p.module_.types t) (λ type. option_then o (λ b. option_map (λ tree. defined b tree type) q)))) (slice_get-map body_code p.module_.bodies i) (slice_get-map bare_tree p.trees i)
     ∙ function_by_index p.module_.types (slice_get p.module_.functions i) (slice_get p.module_.bodies i) (slice_get p.trees i)
 
 imported_by_type : (i : Import) (o : Option FuncType) → option_map (imported i) o ≡ option_map bare_function (option_map (imported i) o)
@@ -75,7 +76,7 @@ function_if false a b a' b' e d = d
 pub function_bare : (p : Program) (f : ℕ) → function_at (bare p) f ≡ option_map bare_function (function_at p f)
 function_bare p f =
     let n = length p.module_.imports in
-    function_if (nat_lt f n) (imported_at p.module_ f) (defined_at p (f - n)) (imported_at (bare_module p.module_) f) (defined_at (bare p) (f - n)) (imported_by p.module_.types (slice_get p.module_.imports f)) (defined_bare p (f - n))
+    function_if (nat_lt f n) (imported_at p.module_ f) (defined_at p (f - n)) (imported_at (code_alone p.module_) f) (defined_at (bare p) (f - n)) (imported_by p.module_.types (slice_get p.module_.imports f)) (defined_bare p (f - n))
 
 -- ---- moves inside a frame
 

@@ -24,7 +24,8 @@ use Rattle.wasm_syntax.specs.Valid.{Valid, There, GlobalFine, ConstBody, ConstTy
 use Rattle.wasm_syntax.specs.Sizes.{nesting, deepest, local_count}
 use Rattle.wasm_laws.proofs.Unique.{one_tree}
 use Rattle.wasm_laws.proofs.Lists.{all_map}
-use Rattle.rewrite_modules.specs.Bare.{bare_nodes, bare_tree, bare_op, bare_body, bare_global, bare_element, bare_segment, bare_module}
+use Rattle.rewrite_modules.specs.Bare.{bare_nodes, bare_tree}
+use Rattle.wasm_syntax.specs.SameCode.{op_code, body_code, global_code, element_code, segment_code, code_alone}
 use Rattle.rewrite_modules.specs.LowSizes.{LowSizes}
 use Rattle.rewrite_modules.proofs.ValidBodies.{typed_bare, bare_typed}
 use Rattle.rewrite_modules.proofs.WrittenOut.{bare_writes}
@@ -51,15 +52,15 @@ pub all_as : {A : Type 0} (P Q : A → Type 0) (xs : List A) → ((x : A) → P 
 all_as P Q [] h a = tt
 all_as P Q (x ∷ xs) h a = (h x a.0, all_as P Q xs h a.1)
 
-codes_bare : (ops : List Op) → map (λ o. o.code) (map bare_op ops) ≡ map (λ o. o.code) ops
+codes_bare : (ops : List Op) → map (λ o. o.code) (map op_code ops) ≡ map (λ o. o.code) ops
 codes_bare [] = refl
 codes_bare (o ∷ ops) = ap (λ z. o.code ∷ z) (codes_bare ops)
 
 -- ---- constant expressions
 
-const_bare : (gs : List Global) (i : Instr) (t : ValType) → ConstTypes gs i t → ConstTypes (map bare_global gs) i t
+const_bare : (gs : List Global) (i : Instr) (t : ValType) → ConstTypes gs i t → ConstTypes (map global_code gs) i t
 const_bare gs (instrs.Basic (Const v)) t h = h
-const_bare gs (instrs.Basic (GlobalGet x)) t h = (bare_global h.0, slice_get-map bare_global gs x ∙ ap (option_map bare_global) h.1, h.2, h.3)
+const_bare gs (instrs.Basic (GlobalGet x)) t h = (global_code h.0, slice_get-map global_code gs x ∙ ap (option_map global_code) h.1, h.2, h.3)
 const_bare gs (instrs.Basic Nop) t h = absurd h
 const_bare gs (instrs.Basic Drop) t h = absurd h
 const_bare gs (instrs.Basic Select) t h = absurd h
@@ -87,10 +88,10 @@ const_bare gs (instrs.If b) t h = absurd h
 const_bare gs instrs.Else t h = absurd h
 const_bare gs instrs.End t h = absurd h
 
-bare_const : (gs : List Global) (i : Instr) (t : ValType) → ConstTypes (map bare_global gs) i t → ConstTypes gs i t
+bare_const : (gs : List Global) (i : Instr) (t : ValType) → ConstTypes (map global_code gs) i t → ConstTypes gs i t
 bare_const gs (instrs.Basic (Const v)) t h = h
 bare_const gs (instrs.Basic (GlobalGet x)) t h =
-    let f = map_found (slice_get gs x) bare_global h.0 (sym (slice_get-map bare_global gs x) ∙ h.1) in
+    let f = map_found (slice_get gs x) global_code h.0 (sym (slice_get-map global_code gs x) ∙ h.1) in
     (f.0, f.1, ap (λ g. g.mutable) f.2 ∙ h.2, ap (λ g. g.vtype) f.2 ∙ h.3)
 bare_const gs (instrs.Basic Nop) t h = absurd h
 bare_const gs (instrs.Basic Drop) t h = absurd h
@@ -119,32 +120,32 @@ bare_const gs (instrs.If b) t h = absurd h
 bare_const gs instrs.Else t h = absurd h
 bare_const gs instrs.End t h = absurd h
 
-body_bare : (gs : List Global) (b : Body) (t : ValType) → ConstBody gs b t → ConstBody (map bare_global gs) (bare_body b) t
+body_bare : (gs : List Global) (b : Body) (t : ValType) → ConstBody gs b t → ConstBody (map global_code gs) (body_code b) t
 body_bare gs b t h = (h.0, codes_bare b.ops ∙ h.1, const_bare gs h.0 t h.2)
 
-bare_body_ : (gs : List Global) (b : Body) (t : ValType) → ConstBody (map bare_global gs) (bare_body b) t → ConstBody gs b t
+bare_body_ : (gs : List Global) (b : Body) (t : ValType) → ConstBody (map global_code gs) (body_code b) t → ConstBody gs b t
 bare_body_ gs b t h = (h.0, sym (codes_bare b.ops) ∙ h.1, bare_const gs h.0 t h.2)
 
 -- ---- typing in the module without offsets
 
 module _ (m : Module) where
   abbrev m0 : Module
-  m0 = bare_module m
+  m0 = code_alone m
 
   abbrev at : Module → List ValType → List (List ValType) → List ValType → Context
   at k locals labels returns = record { module_ = k; locals = locals; labels = labels; returns = returns }
 
-  global_found : (x : ℕ) (f : Global → Option Arrow) → ((g : Global) → f (bare_global g) ≡ f g) → option_then (slice_get (map bare_global m.globals) x) f ≡ option_then (slice_get m.globals x) f
-  global_found x f h = by (slice_get m.globals x) (slice_get-map bare_global m.globals x)
+  global_found : (x : ℕ) (f : Global → Option Arrow) → ((g : Global) → f (global_code g) ≡ f g) → option_then (slice_get (map global_code m.globals) x) f ≡ option_then (slice_get m.globals x) f
+  global_found x f h = by (slice_get m.globals x) (slice_get-map global_code m.globals x)
     where
-      by : (o : Option Global) → slice_get (map bare_global m.globals) x ≡ option_map bare_global o → option_then (slice_get (map bare_global m.globals) x) f ≡ option_then o f
+      by : (o : Option Global) → slice_get (map global_code m.globals) x ≡ option_map global_code o → option_then (slice_get (map global_code m.globals) x) f ≡ option_then o f
       by None e = ap (λ o. option_then o f) e
       by (Some g) e = ap (λ o. option_then o f) e ∙ h g
 
-  global_mapped : (x : ℕ) → option_map (λ g. [] ⇒ g.vtype ∷ []) (slice_get (map bare_global m.globals) x) ≡ option_map (λ g. [] ⇒ g.vtype ∷ []) (slice_get m.globals x)
-  global_mapped x = by (slice_get m.globals x) (slice_get-map bare_global m.globals x)
+  global_mapped : (x : ℕ) → option_map (λ g. [] ⇒ g.vtype ∷ []) (slice_get (map global_code m.globals) x) ≡ option_map (λ g. [] ⇒ g.vtype ∷ []) (slice_get m.globals x)
+  global_mapped x = by (slice_get m.globals x) (slice_get-map global_code m.globals x)
     where
-      by : (o : Option Global) → slice_get (map bare_global m.globals) x ≡ option_map bare_global o → option_map (λ g. [] ⇒ g.vtype ∷ []) (slice_get (map bare_global m.globals) x) ≡ option_map (λ g. [] ⇒ g.vtype ∷ []) o
+      by : (o : Option Global) → slice_get (map global_code m.globals) x ≡ option_map global_code o → option_map (λ g. [] ⇒ g.vtype ∷ []) (slice_get (map global_code m.globals) x) ≡ option_map (λ g. [] ⇒ g.vtype ∷ []) o
       by None e = ap (option_map (λ g. [] ⇒ g.vtype ∷ [])) e
       by (Some g) e = ap (option_map (λ g. [] ⇒ g.vtype ∷ [])) e
 
@@ -224,7 +225,7 @@ module _ (m : Module) where
       by kinds.Function h = h
       by kinds.Table h = h
       by kinds.Memory h = h
-      by kinds.Global h = subst (λ n. e.index < n) (sym (length-map m.globals bare_global)) h
+      by kinds.Global h = subst (λ n. e.index < n) (sym (length-map m.globals global_code)) h
 
   space_from : (e : Export) → e.index < index_space m0 e.kind → e.index < index_space m e.kind
   space_from e h = by e.kind h
@@ -233,7 +234,7 @@ module _ (m : Module) where
       by kinds.Function h = h
       by kinds.Table h = h
       by kinds.Memory h = h
-      by kinds.Global h = subst (λ n. e.index < n) (length-map m.globals bare_global) h
+      by kinds.Global h = subst (λ n. e.index < n) (length-map m.globals global_code) h
 
   there_mono : {A : Type 0} (P Q : A → Type 0) (xs : List A) (i : ℕ) → ((x : A) → P x → Q x) → There xs i P → There xs i Q
   there_mono P Q [] i h t = tt
@@ -244,7 +245,7 @@ module _ (m : Module) where
   if_mono None P Q h t = tt
   if_mono (Some i) P Q h t = h i t
 
-  bodies_to : (f : ℕ) (b : Body) → BodyFine m f b → BodyFine m0 f (bare_body b)
+  bodies_to : (f : ℕ) (b : Body) → BodyFine m f b → BodyFine m0 f (body_code b)
   bodies_to f b h =
       let type = h.0 in
       let ib = h.2 in
@@ -259,7 +260,7 @@ module _ (m : Module) where
         },
       )
 
-  bodies_from : (f : ℕ) (b : Body) (tree : Tree) → Writes b.targets b.ops tree → BodyFine m0 f (bare_body b) → BodyFine m f b
+  bodies_from : (f : ℕ) (b : Body) (tree : Tree) → Writes b.targets b.ops tree → BodyFine m0 f (body_code b) → BodyFine m f b
   bodies_from f b tree w h =
       let type = h.0 in
       let ib = h.2 in
@@ -275,12 +276,12 @@ module _ (m : Module) where
   valid_to v (places.Declaration f) = v (places.Declaration f)
   valid_to v (places.TableAt i) = v (places.TableAt i)
   valid_to v (places.MemoryAt i) = v (places.MemoryAt i)
-  valid_to v (places.GlobalAt i) = there_map GlobalFine GlobalFine bare_global m.globals i (λ g h. body_bare [] g.init g.vtype h) (v (places.GlobalAt i))
+  valid_to v (places.GlobalAt i) = there_map GlobalFine GlobalFine global_code m.globals i (λ g h. body_bare [] g.init g.vtype h) (v (places.GlobalAt i))
   valid_to v (places.ExportAt i) = there_mono (ExportFine m i) (ExportFine m0 i) m.exports i (λ e h. (space_to e h.0, h.1)) (v (places.ExportAt i))
   valid_to v places.Start = v places.Start
-  valid_to v (places.ElementAt i) = there_map (ElementFine m) (ElementFine m0) bare_element m.elements i (λ e h. (h.0, body_bare m.globals e.offset _ h.1, h.2)) (v (places.ElementAt i))
-  valid_to v (places.DataAt i) = there_map (DataFine m) (DataFine m0) bare_segment m.segments i (λ s h. (h.0, body_bare m.globals s.offset _ h.1)) (v (places.DataAt i))
-  valid_to v (places.Function f o) = if_mono (defined_index m f) (λ i. There m.bodies i (BodyFine m f)) (λ i. There (map bare_body m.bodies) i (BodyFine m0 f)) (λ i t. there_map (BodyFine m f) (BodyFine m0 f) bare_body m.bodies i (bodies_to f) t) (v (places.Function f o))
+  valid_to v (places.ElementAt i) = there_map (ElementFine m) (ElementFine m0) element_code m.elements i (λ e h. (h.0, body_bare m.globals e.offset _ h.1, h.2)) (v (places.ElementAt i))
+  valid_to v (places.DataAt i) = there_map (DataFine m) (DataFine m0) segment_code m.segments i (λ s h. (h.0, body_bare m.globals s.offset _ h.1)) (v (places.DataAt i))
+  valid_to v (places.Function f o) = if_mono (defined_index m f) (λ i. There m.bodies i (BodyFine m f)) (λ i. There (map body_code m.bodies) i (BodyFine m0 f)) (λ i t. there_map (BodyFine m f) (BodyFine m0 f) body_code m.bodies i (bodies_to f) t) (v (places.Function f o))
 
   pub valid_from : IsModule m → Valid m0 → Valid m
   valid_from whole v (places.TypeAt i) = v (places.TypeAt i)
@@ -288,22 +289,22 @@ module _ (m : Module) where
   valid_from whole v (places.Declaration f) = v (places.Declaration f)
   valid_from whole v (places.TableAt i) = v (places.TableAt i)
   valid_from whole v (places.MemoryAt i) = v (places.MemoryAt i)
-  valid_from whole v (places.GlobalAt i) = there_back GlobalFine GlobalFine bare_global m.globals i (λ g at h. bare_body_ [] g.init g.vtype h) (v (places.GlobalAt i))
+  valid_from whole v (places.GlobalAt i) = there_back GlobalFine GlobalFine global_code m.globals i (λ g at h. bare_body_ [] g.init g.vtype h) (v (places.GlobalAt i))
   valid_from whole v (places.ExportAt i) = there_mono (ExportFine m0 i) (ExportFine m i) m.exports i (λ e h. (space_from e h.0, h.1)) (v (places.ExportAt i))
   valid_from whole v places.Start = v places.Start
-  valid_from whole v (places.ElementAt i) = there_back (ElementFine m) (ElementFine m0) bare_element m.elements i (λ e at h. (h.0, bare_body_ m.globals e.offset _ h.1, h.2)) (v (places.ElementAt i))
-  valid_from whole v (places.DataAt i) = there_back (DataFine m) (DataFine m0) bare_segment m.segments i (λ s at h. (h.0, bare_body_ m.globals s.offset _ h.1)) (v (places.DataAt i))
+  valid_from whole v (places.ElementAt i) = there_back (ElementFine m) (ElementFine m0) element_code m.elements i (λ e at h. (h.0, bare_body_ m.globals e.offset _ h.1, h.2)) (v (places.ElementAt i))
+  valid_from whole v (places.DataAt i) = there_back (DataFine m) (DataFine m0) segment_code m.segments i (λ s at h. (h.0, bare_body_ m.globals s.offset _ h.1)) (v (places.DataAt i))
   valid_from whole v (places.Function f o) =
-      if_mono (defined_index m f) (λ i. There (map bare_body m.bodies) i (BodyFine m0 f)) (λ i. There m.bodies i (BodyFine m f))
-      (λ i t. there_back (BodyFine m f) (BodyFine m0 f) bare_body m.bodies i (λ b at h. let w = tree_of m.bodies whole.trees i b whole.write at in bodies_from f b w.0 w.1 h) t) (v (places.Function f o))
+      if_mono (defined_index m f) (λ i. There (map body_code m.bodies) i (BodyFine m0 f)) (λ i. There m.bodies i (BodyFine m f))
+      (λ i t. there_back (BodyFine m f) (BodyFine m0 f) body_code m.bodies i (λ b at h. let w = tree_of m.bodies whole.trees i b whole.write at in bodies_from f b w.0 w.1 h) t) (v (places.Function f o))
 
-  nesting_bare : (b : Body) → nesting (bare_body b) ≡ nesting b
+  nesting_bare : (b : Body) → nesting (body_code b) ≡ nesting b
   nesting_bare b = ap (λ z. deepest 0 z) (codes_bare b.ops)
 
   pub sizes_from : LowSizes m0 → LowSizes m
   sizes_from s = record {
-    locals = λ i b e. s.locals i (bare_body b) (slice_get-map bare_body m.bodies i ∙ ap (option_map bare_body) e);
-    nested = all_back (λ b. nesting b ≤ 1024) (λ b. nesting b ≤ 1024) bare_body m.bodies (λ b h. subst (λ n. n ≤ 1024) (nesting_bare b) h) s.nested;
+    locals = λ i b e. s.locals i (body_code b) (slice_get-map body_code m.bodies i ∙ ap (option_map body_code) e);
+    nested = all_back (λ b. nesting b ≤ 1024) (λ b. nesting b ≤ 1024) body_code m.bodies (λ b h. subst (λ n. n ≤ 1024) (nesting_bare b) h) s.nested;
     tables = s.tables;
     memories = s.memories;
   }
@@ -311,16 +312,16 @@ module _ (m : Module) where
   pub sizes_to : LowSizes m → LowSizes m0
   sizes_to s = record {
     locals = λ i b e.
-        let f = map_found (slice_get m.bodies i) bare_body b (sym (slice_get-map bare_body m.bodies i) ∙ e) in
+        let f = map_found (slice_get m.bodies i) body_code b (sym (slice_get-map body_code m.bodies i) ∙ e) in
         subst (λ z. local_count (type_at m (length m.imports + i)) z ≤ 16384) f.2 (s.locals i f.0 f.1);
-    nested = all_map (λ b. nesting b ≤ 1024) bare_body m.bodies (all_as (λ b. nesting b ≤ 1024) (λ b. nesting (bare_body b) ≤ 1024) m.bodies (λ b h. subst (λ n. n ≤ 1024) (sym (nesting_bare b)) h) s.nested);
+    nested = all_map (λ b. nesting b ≤ 1024) body_code m.bodies (all_as (λ b. nesting b ≤ 1024) (λ b. nesting (body_code b) ≤ 1024) m.bodies (λ b h. subst (λ n. n ≤ 1024) (sym (nesting_bare b)) h) s.nested);
     tables = s.tables;
     memories = s.memories;
   }
 
 -- a module that differs in these alone is valid too, and within the limits
-pub same_valid : (a b : Module) → bare_module a ≡ bare_module b → IsModule b → Valid a → Valid b
+pub same_valid : (a b : Module) → code_alone a ≡ code_alone b → IsModule b → Valid a → Valid b
 same_valid a b e whole v = valid_from b whole (subst Valid e (valid_to a v))
 
-pub same_sizes : (a b : Module) → bare_module a ≡ bare_module b → LowSizes a → LowSizes b
+pub same_sizes : (a b : Module) → code_alone a ≡ code_alone b → LowSizes a → LowSizes b
 same_sizes a b e s = sizes_from b (subst LowSizes e (sizes_to a s))

@@ -24,7 +24,8 @@ use Rattle.rewrite_bodies.specs.Guards.{helper}
 use Rattle.rewrite_bodies.specs.Rewrite.{in_body, body}
 use Rattle.rewrite_bodies.specs.Typed.{original}
 use Rattle.rewrite_bodies.proofs.TypedPieces.{at_labels}
-use Rattle.rewrite_modules.specs.Bare.{bare_tree, bare_module, bare}
+use Rattle.rewrite_modules.specs.Bare.{bare_tree, bare}
+use Rattle.wasm_syntax.specs.SameCode.{code_alone}
 use Rattle.rewrite_modules.specs.Given.{Given}
 use Rattle.rewrite_modules.specs.Instrument.{instrument, new_module, new_tree, each}
 use Rattle.rewrite_modules.specs.Instrumentable.{program_of, Instrumentable}
@@ -135,7 +136,7 @@ module _ (p : Program) (ready : Ready p) (valid : Valid p.module_) (typed : Type
 
 -- ---- each module that is the same but for offsets
 
-module _ (m other : Module) (x : Instrumentable m) (too : IsModule other) (valid : Valid other) (same : bare_module (new_module (program_of m x.whole)) ≡ bare_module other) where
+module _ (m other : Module) (x : Instrumentable m) (too : IsModule other) (valid : Valid other) (same : code_alone (new_module (program_of m x.whole)) ≡ code_alone other) where
   abbrev p : Program
   p = program_of m x.whole
 

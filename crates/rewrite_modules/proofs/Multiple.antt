@@ -24,7 +24,7 @@ use Rattle.wasm_laws.proofs.FlatSteps.{steps_split}
 use Rattle.wasm_laws.proofs.Safe.{Typed, one_result}
 use Rattle.rewrite_bodies.specs.Numbering.{import_count}
 use Rattle.rewrite_bodies.specs.Slots.{Ctx, ctx_of, slots_of, sizes, most, greatest}
-use Rattle.rewrite_modules.specs.Bare.{bare_module}
+use Rattle.wasm_syntax.specs.SameCode.{code_alone}
 use Rattle.rewrite_modules.specs.Given.{Given}
 use Rattle.rewrite_modules.specs.Instrument.{instrument, new_module}
 use Rattle.rewrite_modules.specs.Simulates.{Simulates}
@@ -228,7 +228,7 @@ pub simulates_by : (p : Program) → Given p → (heights : List (List ℕ)) →
 simulates_by p g heights are = subst (λ k. Simulates k p (instrument p)) (multiple_is p g.program (startable_given p g).typed g.valid heights are) (rewriting_simulates p g)
 
 -- each module that is the same but for offsets
-pub others_simulate : (p other : Program) → Given p → IsProgram other → bare_module other.module_ ≡ bare_module (new_module p) → (heights : List (List ℕ)) → AreHeights p.module_ heights → Simulates (multiple p.module_ heights) p other
+pub others_simulate : (p other : Program) → Given p → IsProgram other → code_alone other.module_ ≡ code_alone (new_module p) → (heights : List (List ℕ)) → AreHeights p.module_ heights → Simulates (multiple p.module_ heights) p other
 others_simulate p other g w e heights are =
     let typed = (startable_given p g).typed in
     simulates_bare (multiple p.module_ heights) p (instrument p) other (same_bare other (instrument p) (program_bare other w) (instrument_bare p g.program typed) e) (simulates_by p g heights are)

@@ -4,7 +4,8 @@ use Rattle.wasm_syntax.specs.declared.instruction.Op.{Op}
 use Rattle.wasm_syntax.specs.declared.parts.Body.{Body}
 use Rattle.wasm_syntax.specs.Tree.{Nodes, stop, basic, jump, block, loop, choose, Tree, Plain, Goes, Opens, OpensLoop, OpensIf, End, placed, else_out, write, code_of, IsTree, Writes, Placed, item_of}
 use Rattle.wasm_syntax.specs.Module.{Program, Function, imported, defined, function_at, AllWrite, IsProgram}
-use Rattle.rewrite_modules.specs.Bare.{bare_nodes, bare_tree, bare_op, bare_body, bare_module, bare}
+use Rattle.rewrite_modules.specs.Bare.{bare_nodes, bare_tree, bare}
+use Rattle.wasm_syntax.specs.SameCode.{op_code, body_code, code_alone}
 use Rattle.rewrite_modules.specs.Instrument.{instrument, new_nodes, new_body, new_tree, each}
 use Rattle.wasm_syntax.specs.declared.parts.LocalGroup.{LocalGroup}
 use Rattle.wasm_syntax.specs.Typing.{body_context}
@@ -26,7 +27,7 @@ use Rattle.rewrite_modules.proofs.Links.{is_defined}
 abbrev pub at_zero : Placed → Placed
 at_zero x = placed 0 x.code
 
-pub zero_code : (T : List ℕ) (ops : List Op) → code_of T (map bare_op ops) ≡ map at_zero (code_of T ops)
+pub zero_code : (T : List ℕ) (ops : List Op) → code_of T (map op_code ops) ≡ map at_zero (code_of T ops)
 zero_code T [] = refl
 zero_code T (o ∷ os) = ap (λ z. placed 0 (item_of T o.code) ∷ z) (zero_code T os)
 
@@ -45,13 +46,13 @@ zero_write (choose at t a ea b end rest) after =
     ∙ ap (write (bare_nodes a)) (zero_else ea (write b (placed end End ∷ write rest after))
     ∙ ap (else_out (option_map (λ at. 0) ea)) (zero_write b (placed end End ∷ write rest after) ∙ ap (λ z. write (bare_nodes b) (placed 0 End ∷ z)) (zero_write rest after))))
 
-pub bare_writes : (body : Body) (tree : Tree) → Writes body.targets body.ops tree → Writes (bare_body body).targets (bare_body body).ops (bare_tree tree)
+pub bare_writes : (body : Body) (tree : Tree) → Writes body.targets body.ops tree → Writes (body_code body).targets (body_code body).ops (bare_tree tree)
 bare_writes body tree w = record {
   arms = tree_bare tree.nodes w.arms;
   out = zero_code body.targets body.ops ∙ ap (map at_zero) w.out ∙ zero_write tree.nodes (placed tree.end End ∷ []);
 }
 
-all_bare : (bodies : List Body) (trees : List Tree) → AllWrite bodies trees → AllWrite (map bare_body bodies) (map bare_tree trees)
+all_bare : (bodies : List Body) (trees : List Tree) → AllWrite bodies trees → AllWrite (map body_code bodies) (map bare_tree trees)
 all_bare [] [] w = tt
 all_bare [] (tree ∷ trees) w = absurd w
 all_bare (body ∷ bodies) [] w = absurd w
@@ -70,9 +71,9 @@ all_same (body ∷ bodies) (t ∷ ts) [] w v = absurd v
 all_same (body ∷ bodies) (t ∷ ts) (u ∷ us) w v = ap₂ (λ a b. a ∷ b) (one_tree (code_of body.targets body.ops) t u w.0 v.0) (all_same bodies ts us w.1 v.1)
 
 -- programs whose modules are the same without offsets are the same without offsets
-pub same_bare : (p q : Program) → IsProgram (bare p) → IsProgram (bare q) → bare_module p.module_ ≡ bare_module q.module_ → bare p ≡ bare q
+pub same_bare : (p q : Program) → IsProgram (bare p) → IsProgram (bare q) → code_alone p.module_ ≡ code_alone q.module_ → bare p ≡ bare q
 same_bare p q w v e =
-    let trees : map bare_tree p.trees ≡ map bare_tree q.trees = all_same (map bare_body q.module_.bodies) (map bare_tree p.trees) (map bare_tree q.trees) (subst (λ m. AllWrite m.bodies (map bare_tree p.trees)) e w) v in
+    let trees : map bare_tree p.trees ≡ map bare_tree q.trees = all_same (map body_code q.module_.bodies) (map bare_tree p.trees) (map bare_tree q.trees) (subst (λ m. AllWrite m.bodies (map bare_tree p.trees)) e w) v in
     λ i. record { module_ = e i; trees = trees i }
 
 -- ---- the rewritten module
@@ -88,10 +89,10 @@ bare_twice (choose at t a (Some e) b end rest) = λ i. choose 0 t (bare_twice a 
 
 -- a body and its tree, without offsets
 abbrev Pair : Body → Tree → Type 0
-Pair body tree = Writes (bare_body body).targets (bare_body body).ops (bare_tree tree)
+Pair body tree = Writes (body_code body).targets (body_code body).ops (bare_tree tree)
 
 abbrev Pairs : List Body → List Tree → Type 0
-Pairs bodies trees = AllWrite (map bare_body bodies) (map bare_tree trees)
+Pairs bodies trees = AllWrite (map body_code bodies) (map bare_tree trees)
 
 pair_of : (groups : List LocalGroup) (nodes : Nodes) → IsTree nodes → Pair (body_of groups nodes) (tree_of nodes)
 pair_of groups nodes it = record {

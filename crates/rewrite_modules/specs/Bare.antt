@@ -1,15 +1,10 @@
 -- Programs without their offsets, lengths and custom sections: what these are changes no run, and is only shown.
-use Rattle.std.specs.Prelude.{[], map, option_map}
-use Rattle.wasm_syntax.specs.declared.instruction.Op.{Op}
-use Rattle.wasm_syntax.specs.declared.parts.Body.{Body}
-use Rattle.wasm_syntax.specs.declared.parts.Global.{Global}
-use Rattle.wasm_syntax.specs.declared.parts.ElementSeg.{ElementSeg}
-use Rattle.wasm_syntax.specs.declared.parts.DataSeg.{DataSeg}
-use Rattle.wasm_syntax.specs.declared.module.ModuleParts.{ModuleParts as Module}
+use Rattle.std.specs.Prelude.{map, option_map}
 use Rattle.wasm_syntax.specs.Tree.{Nodes, stop, basic, jump, block, loop, choose, Tree}
 use Rattle.wasm_syntax.specs.Module.{Program}
 use Rattle.wasm_syntax.specs.Machine.{Kind, leaves, again, returns, Label, Frame, Config, label, frame, config}
 use Rattle.wasm_syntax.specs.Run.{Ran}
+use Rattle.wasm_syntax.specs.SameCode.{code_alone}
 
 abbrev pub bare_nodes : Nodes → Nodes
 bare_nodes stop = stop
@@ -22,40 +17,8 @@ bare_nodes (choose at t a else_at b end rest) = choose 0 t (bare_nodes a) (optio
 abbrev pub bare_tree : Tree → Tree
 bare_tree tree = record { nodes = bare_nodes tree.nodes; end = 0 }
 
-abbrev pub bare_op : Op → Op
-bare_op o = record { at = 0; len = 0; code = o.code }
-
-abbrev pub bare_body : Body → Body
-bare_body b = record { groups = b.groups; ops = map bare_op b.ops; targets = b.targets; start = 0 }
-
-abbrev pub bare_global : Global → Global
-bare_global g = record { vtype = g.vtype; mutable = g.mutable; init = bare_body g.init }
-
-abbrev pub bare_element : ElementSeg → ElementSeg
-bare_element e = record { table = e.table; offset = bare_body e.offset; functions = e.functions }
-
-abbrev pub bare_segment : DataSeg → DataSeg
-bare_segment s = record { memory = s.memory; offset = bare_body s.offset; bytes = s.bytes }
-
-abbrev pub bare_module : Module → Module
-bare_module m = record {
-  types = m.types;
-  imports = m.imports;
-  functions = m.functions;
-  tables = m.tables;
-  memories = m.memories;
-  globals = map bare_global m.globals;
-  exports = m.exports;
-  start = m.start;
-  elements = map bare_element m.elements;
-  segments = map bare_segment m.segments;
-  bodies = map bare_body m.bodies;
-  customs = [];
-  plain_bytes = 0;
-}
-
 abbrev pub bare : Program → Program
-bare p = record { module_ = bare_module p.module_; trees = map bare_tree p.trees }
+bare p = record { module_ = code_alone p.module_; trees = map bare_tree p.trees }
 
 -- ---- configurations and runs
 

@@ -5,7 +5,8 @@ ghost use Rattle.wasm_syntax.specs.declared.host.Reply.{Reply as HostReply};
 ghost use Rattle.wasm_syntax.specs.declared.module.ModuleParts.{ModuleParts as Parts};
 ghost use Rattle.wasm_syntax.specs.Module.{Program, IsProgram, IsModule, defined, function_at};
 ghost use Rattle.wasm_syntax.specs.Run.{Invocation, run};
-ghost use Rattle.rewrite_modules.specs.Bare.{bare, bare_module, bare_ran};
+ghost use Rattle.rewrite_modules.specs.Bare.{bare, bare_ran};
+ghost use Rattle.wasm_syntax.specs.SameCode.{code_alone};
 ghost use Rattle.rewrite_modules.specs.Given.{Given};
 ghost use Rattle.rewrite_modules.specs.Instrumentable.{Instrumentable, program_of};
 ghost use Rattle.rewrite_modules.specs.Instrument.{instrument, new_module};
@@ -36,7 +37,7 @@ pub fn instrumented_module_simulates()
 /// sections.
 pub fn rewritten_programs_simulate()
     ensures { (p other : Program) → Given p → IsProgram other
-        → bare_module other.module_ ≡ bare_module (new_module p) → (heights : List (List ℕ))
+        → code_alone other.module_ ≡ code_alone (new_module p) → (heights : List (List ℕ))
         → AreHeights p.module_ heights → Simulates (multiple p.module_ heights) p other }
 {}
 
@@ -55,7 +56,7 @@ pub fn instrumentable_modules_are_given()
 /// custom sections does what the original does.
 pub fn rewritten_modules_simulate()
     ensures { (m other : Parts) (these : Instrumentable m) (whole : IsModule other)
-        → bare_module other ≡ bare_module (new_module (program_of m these.whole))
+        → code_alone other ≡ code_alone (new_module (program_of m these.whole))
         → (heights : List (List ℕ)) → AreHeights m heights
         → Simulates (multiple m heights) (program_of m these.whole) (program_of other whole) }
 {}
@@ -78,13 +79,13 @@ pub fn interface_is_kept()
 /// custom sections.
 pub fn rewritten_modules_are_valid()
     ensures { (m other : Parts) (these : Instrumentable m) (whole : IsModule other)
-        → bare_module (new_module (program_of m these.whole)) ≡ bare_module other → Valid other }
+        → code_alone (new_module (program_of m these.whole)) ≡ code_alone other → Valid other }
 {}
 
 /// They are within the limits of the decoder, but for its bytes: locals, nesting, table and memory.
 pub fn rewritten_modules_are_within_limits()
     ensures { (m other : Parts) (these : Instrumentable m)
-        → bare_module (new_module (program_of m these.whole)) ≡ bare_module other → LowSizes other }
+        → code_alone (new_module (program_of m these.whole)) ≡ code_alone other → LowSizes other }
 {}
 
 /// From each configuration that agrees with one of the original, frames hand over their values
@@ -101,7 +102,7 @@ pub fn traps_unwind()
 /// of a function, and a few.
 pub fn rewritten_modules_have_low_heights()
     ensures { (m other : Parts) (these : Instrumentable m) (whole : IsModule other)
-        → bare_module (new_module (program_of m these.whole)) ≡ bare_module other
+        → code_alone (new_module (program_of m these.whole)) ≡ code_alone other
         → LowHeights other }
 {}
 

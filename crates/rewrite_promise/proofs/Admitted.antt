@@ -7,7 +7,8 @@ use Rattle.wasm_encode.specs.Fits.{FitsModule}
 use Rattle.wasm_encode.specs.SameModule.{SpellsSame}
 use Rattle.wasm_format_laws.specs.Laws.{DecodesSame}
 use Rattle.wasm_format_laws.proofs.Decoding.{encoding_decodes, spelled_decodes}
-use Rattle.rewrite_modules.specs.Bare.{bare_module, bare_global, bare}
+use Rattle.rewrite_modules.specs.Bare.{bare}
+use Rattle.wasm_syntax.specs.SameCode.{code_alone, global_code}
 use Rattle.rewrite_modules.specs.Instrumentable.{program_of, LightEnough}
 use Rattle.rewrite_modules.specs.Interface.{KeepsInterface}
 use Rattle.rewrite_modules.specs.Multiple.{multiple}
@@ -21,11 +22,11 @@ use Rattle.rewrite_promise.specs.Admitted.{Admits}
 use Rattle.rewrite_promise.proofs.Decoded.{whole, limits}
 use Rattle.rewrite_promise.proofs.Low.{all_low, low_heights}
 
-module _ (m other decoded : Module) (same : bare_module other ≡ bare_module decoded) where
+module _ (m other decoded : Module) (same : code_alone other ≡ code_alone decoded) where
   outside_kept : KeepsOutside m other → KeepsOutside m decoded
   outside_kept h = record {
-    interface = subst (KeepsInterface (bare_module m)) same h.interface;
-    globals = subst (λ (k : Module). take (length m.globals) k.globals ≡ map bare_global m.globals) same h.globals;
+    interface = subst (KeepsInterface (code_alone m)) same h.interface;
+    globals = subst (λ (k : Module). take (length m.globals) k.globals ≡ map global_code m.globals) same h.globals;
   }
 
   functions_kept : KeepsFunctions m other → KeepsFunctions m decoded
@@ -35,7 +36,7 @@ admits : (m other : Module) → LightEnough m → Promised m other → DecodesSa
 admits m other light p d are =
     let bytes = encoding other in
     let decoded = d.decoded in
-    let same : bare_module other ≡ bare_module decoded = sym d.code in
+    let same : code_alone other ≡ code_alone decoded = sym d.code in
     let too = whole bytes decoded are d.is in
     let q = program_of other p.other_whole in
     let r = program_of decoded too in

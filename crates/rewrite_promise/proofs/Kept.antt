@@ -7,7 +7,7 @@ use Rattle.wasm_syntax.specs.Valid.{Valid}
 use Rattle.wasm_validate.specs.Heights.{AllLow}
 use Rattle.wasm_encode.specs.Encoding.{encoding}
 use Rattle.wasm_sizes.specs.Sized.{Sized}
-use Rattle.rewrite_modules.specs.Bare.{bare_module}
+use Rattle.wasm_syntax.specs.SameCode.{code_alone}
 use Rattle.rewrite_modules.specs.Given.{Given}
 use Rattle.rewrite_modules.specs.Instrument.{instrument, new_module}
 use Rattle.rewrite_modules.specs.Multiple.{multiple}
@@ -31,7 +31,7 @@ use Rattle.rewrite_promise.proofs.Heights.{one_weight}
 use Rattle.rewrite_promise.proofs.Low.{all_low}
 use Rattle.rewrite_promise.proofs.Outside.{outside}
 
-module _ (m other : Module) (x : Instrumentable m) (sized : Sized m) (too : IsModule other) (same : bare_module (new_module (program_of m x.whole)) ≡ bare_module other) where
+module _ (m other : Module) (x : Instrumentable m) (sized : Sized m) (too : IsModule other) (same : code_alone (new_module (program_of m x.whole)) ≡ code_alone other) where
   abbrev p : Program
   p = program_of m x.whole
 
@@ -60,7 +60,7 @@ module _ (m other : Module) (x : Instrumentable m) (sized : Sized m) (too : IsMo
 abbrev plain : Module → Module
 plain m = record m { customs = [] }
 
-within_too : (m other : Module) (r : IsRewriting m other) (x : Instrumentable m) → Sized m → bare_module (new_module (program_of m x.whole)) ≡ bare_module other → WithinLimits other
+within_too : (m other : Module) (r : IsRewriting m other) (x : Instrumentable m) → Sized m → code_alone (new_module (program_of m x.whole)) ≡ code_alone other → WithinLimits other
 within_too m other r x sized same =
     let w = within m (plain other) x sized same refl in
     let s = w.short in

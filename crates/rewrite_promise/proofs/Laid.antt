@@ -26,7 +26,7 @@ use Rattle.rewrite_bodies.specs.Numbering.{import_count, mapped, wraps, wrapped,
 use Rattle.rewrite_bodies.specs.Slots.{groups, slots_of}
 use Rattle.rewrite_bodies.specs.Pieces.{i32}
 use Rattle.rewrite_bodies.specs.Guards.{helper}
-use Rattle.rewrite_modules.specs.Bare.{bare_op, bare_body, bare_global, bare_module}
+use Rattle.wasm_syntax.specs.SameCode.{op_code, body_code, global_code, code_alone}
 use Rattle.rewrite_modules.specs.FlatCode.{targets_in, op, else_op, ops_in, body_of}
 use Rattle.rewrite_modules.specs.Collector.{memory_export}
 use Rattle.rewrite_modules.specs.Instrument.{new_nodes, new_body, each, zero_init, new_exports, wrapper_type, new_module}
@@ -50,14 +50,14 @@ codes_number : (n : ℕ) (ops : List Op) → codes_of (number n ops) ≡ codes_o
 codes_number n [] = refl
 codes_number n (o ∷ os) = ap (λ (is : List Instr). o.code ∷ is) (codes_number (suc n) os)
 
-bare_number : (n : ℕ) (ops : List Op) → map bare_op (number n ops) ≡ map bare_op ops
+bare_number : (n : ℕ) (ops : List Op) → map op_code (number n ops) ≡ map op_code ops
 bare_number n [] = refl
-bare_number n (o ∷ os) = ap (λ (rest : List Op). bare_op o ∷ rest) (bare_number (suc n) os)
+bare_number n (o ∷ os) = ap (λ (rest : List Op). op_code o ∷ rest) (bare_number (suc n) os)
 
 abbrev bare_with : Body → List Op → Body
 bare_with b ops = record { groups = b.groups; ops = ops; targets = b.targets; start = 0 }
 
-bodies_number : (bs : List Body) → map bare_body (map number_body bs) ≡ map bare_body bs
+bodies_number : (bs : List Body) → map body_code (map number_body bs) ≡ map body_code bs
 bodies_number [] = refl
 bodies_number (b ∷ bs) = ap₂ (λ (ops : List Op) (rest : List Body). bare_with b ops ∷ rest) (bare_number 0 b.ops) (bodies_number bs)
 
@@ -268,11 +268,11 @@ module _ (p : Program) where
       }
 
   -- it is the rewritten module but for offsets
-  pub laid_same : bare_module (new_module p) ≡ bare_module laid
+  pub laid_same : code_alone (new_module p) ≡ code_alone laid
   laid_same =
-      let globals : map bare_global (m.globals ++ zero_flag zero_init ∷ []) ≡ map bare_global (m.globals ++ numbered_flag ∷ []) = map-append bare_global m.globals (zero_flag zero_init ∷ []) ∙ sym (map-append bare_global m.globals (numbered_flag ∷ [])) in
+      let globals : map global_code (m.globals ++ zero_flag zero_init ∷ []) ≡ map global_code (m.globals ++ numbered_flag ∷ []) = map-append global_code m.globals (zero_flag zero_init ∷ []) ∙ sym (map-append global_code m.globals (numbered_flag ∷ [])) in
       let bodies = sym (bodies_number (new_module p).bodies) in
-      ap₂ (λ (gs : List Global) (bs : List Body). with_code (bare_module (new_module p)) gs bs) globals bodies
+      ap₂ (λ (gs : List Global) (bs : List Body). with_code (code_alone (new_module p)) gs bs) globals bodies
     where
       with_code : Module → List Global → List Body → Module
       with_code n gs bs = record n { globals = gs; bodies = bs }

@@ -7,13 +7,13 @@ use Rattle.wasm_syntax.specs.declared.value.ValType.TheVariants.{I32}
 use Rattle.wasm_syntax.specs.declared.parts.Global.{Global}
 use Rattle.wasm_syntax.specs.declared.module.ModuleParts.{ModuleParts as Module}
 use Rattle.wasm_syntax.specs.Module.{Program}
-use Rattle.rewrite_modules.specs.Bare.{bare_global, bare_segment, bare_module}
+use Rattle.wasm_syntax.specs.SameCode.{global_code, segment_code, code_alone}
 use Rattle.rewrite_modules.specs.Instrument.{zero_init, new_module}
 use Rattle.rewrite_modules.specs.Interface.{KeepsInterface}
 use Rattle.rewrite_modules.proofs.Interface.{interface}
 use Rattle.rewrite_promise.specs.Outside.{KeepsOutside}
 
-bare_kept : (m n : Module) → KeepsInterface m n → KeepsInterface (bare_module m) (bare_module n)
+bare_kept : (m n : Module) → KeepsInterface m n → KeepsInterface (code_alone m) (code_alone n)
 bare_kept m n k = record {
   imports = k.imports;
   types = k.types;
@@ -24,7 +24,7 @@ bare_kept m n k = record {
   indices = k.indices;
   tables = k.tables;
   memories = k.memories;
-  segments = ap (map bare_segment) k.segments;
+  segments = ap (map segment_code) k.segments;
 }
 
 front_mapped : {A B : Type 0} (f : A → B) (xs ys : List A) → take (length xs) (map f (xs ++ ys)) ≡ map f xs
@@ -35,11 +35,11 @@ front_mapped f xs ys =
 abbrev flag : Global
 flag = record { vtype = I32; mutable = true; init = zero_init }
 
-globals_first : (p : Program) → take (length p.module_.globals) (map bare_global (new_module p).globals) ≡ map bare_global p.module_.globals
-globals_first p = front_mapped bare_global p.module_.globals (flag ∷ [])
+globals_first : (p : Program) → take (length p.module_.globals) (map global_code (new_module p).globals) ≡ map global_code p.module_.globals
+globals_first p = front_mapped global_code p.module_.globals (flag ∷ [])
 
-pub outside : (p : Program) (other : Module) → bare_module (new_module p) ≡ bare_module other → KeepsOutside p.module_ other
+pub outside : (p : Program) (other : Module) → code_alone (new_module p) ≡ code_alone other → KeepsOutside p.module_ other
 outside p other e = record {
-  interface = subst (KeepsInterface (bare_module p.module_)) e (bare_kept p.module_ (new_module p) (interface p));
+  interface = subst (KeepsInterface (code_alone p.module_)) e (bare_kept p.module_ (new_module p) (interface p));
   globals = ap (λ (z : Module). take (length p.module_.globals) z.globals) (sym e) ∙ globals_first p;
 }

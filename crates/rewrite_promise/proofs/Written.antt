@@ -1,5 +1,5 @@
 -- What is written of a rewriting is decoded as one.
-use Rattle.std.proofs.Common.{◌≡◌, ℕ, List, Ok, refl, sym, ◌∙◌}
+use Rattle.std.proofs.Common.{◌≡◌, ℕ, List, Ok, sym, ◌∙◌}
 use Rattle.wasm_syntax.specs.declared.module.ModuleParts.{ModuleParts as Module}
 use Rattle.wasm_syntax.specs.SameCode.{code_alone}
 use Rattle.wasm_bytes.specs.Laws.{IsBytes}
@@ -9,13 +9,9 @@ use Rattle.wasm_encode.specs.Fits.{FitsModule}
 use Rattle.wasm_encode.specs.SameModule.{SpellsSame}
 use Rattle.wasm_format_laws.specs.Laws.{DecodesSame}
 use Rattle.wasm_format_laws.proofs.Decoding.{encoding_decodes, spelled_decodes}
-use Rattle.rewrite_modules.specs.Bare.{bare_module}
 use Rattle.rewrite_promise.specs.Promise.{Accepted, IsRewriting, DecodesAsRewriting}
 use Rattle.rewrite_promise.proofs.Decoded.{whole, limits}
 use Rattle.rewrite_promise.proofs.Kept.{promised}
-
-alone : (m : Module) → code_alone m ≡ bare_module m
-alone m = refl
 
 rewriting_again : (m other decoded : Module) (written : List ℕ) → IsRewriting m other → IsBytes written → module_from written ≡ Ok decoded → code_alone decoded ≡ code_alone other → IsRewriting m decoded
 rewriting_again m other decoded written r fits is code =
@@ -23,7 +19,7 @@ rewriting_again m other decoded written r fits is code =
     record {
       whole = r.whole;
       other_whole = whole written decoded fits is;
-      same = r.same ∙ sym (alone other) ∙ sym code ∙ alone decoded;
+      same = r.same ∙ sym code;
       few_customs = within.short.customs;
       short_names = within.short.custom_names;
     }

@@ -13,7 +13,7 @@ use Rattle.wasm_decode.specs.Decode.{module_from}
 use Rattle.wasm_validate.specs.Heights.{AllLow}
 use Rattle.wasm_encode.specs.Encoding.{encoding}
 use Rattle.wasm_sizes.specs.Sized.{Sized}
-use Rattle.rewrite_modules.specs.Bare.{bare_module}
+use Rattle.wasm_syntax.specs.SameCode.{code_alone}
 use Rattle.rewrite_modules.specs.Instrument.{new_module}
 use Rattle.rewrite_modules.specs.Instrumentable.{program_of, LightEnough, Instrumentable}
 use Rattle.rewrite_modules.specs.Multiple.{multiple}
@@ -43,7 +43,7 @@ pub record AcceptedBytes (bytes : List ℕ) (m : Module) : Type 0 where
 pub record IsRewriting (m other : Module) : Type 0 where
   pub whole : IsModule m
   pub other_whole : IsModule other
-  pub same : bare_module (new_module (program_of m whole)) ≡ bare_module other
+  pub same : code_alone (new_module (program_of m whole)) ≡ code_alone other
   pub few_customs : Short other.customs
   pub short_names : AllByRecursion (λ c. Short c.name) other.customs
 

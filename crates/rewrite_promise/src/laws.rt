@@ -10,7 +10,7 @@ ghost use Rattle.wasm_decode.specs.Decode.{module_from};
 ghost use Rattle.wasm_encode.specs.Encoding.{encoding};
 ghost use Rattle.wasm_encode.specs.Fits.{FitsModule};
 ghost use Rattle.wasm_encode.specs.SameModule.{SpellsSame};
-ghost use Rattle.rewrite_modules.specs.Bare.{bare_module};
+ghost use Rattle.wasm_syntax.specs.SameCode.{code_alone};
 ghost use Rattle.rewrite_modules.specs.Instrument.{new_module};
 ghost use Rattle.rewrite_modules.specs.Instrumentable.{LightEnough};
 ghost use Rattle.rewrite_modules.specs.Multiple.{multiple};
@@ -26,7 +26,7 @@ ghost use Rattle.rewrite_promise.specs.Admitted.{Admits};
 /// the collector's three, its exports those of the module and then its memory. Types, tables,
 /// memories and segments are the module's, and its globals come first.
 pub fn interface_is_kept()
-    ensures { (p : Program) (other : Parts) → bare_module (new_module p) ≡ bare_module other
+    ensures { (p : Program) (other : Parts) → code_alone (new_module p) ≡ code_alone other
         → KeepsOutside p.module_ other }
 {}
 

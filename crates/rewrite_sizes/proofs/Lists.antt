@@ -24,7 +24,7 @@ use Rattle.rewrite_bodies.specs.Slots.{groups, slots_of}
 use Rattle.rewrite_bodies.specs.Guards.{helper}
 use Rattle.rewrite_bodies.specs.Length.{jump_length, code_length}
 use Rattle.wasm_laws.proofs.Lists.{all_append, all_map}
-use Rattle.rewrite_modules.specs.Bare.{bare_op, bare_body, bare_global, bare_element, bare_segment, bare_module}
+use Rattle.wasm_syntax.specs.SameCode.{op_code, body_code, global_code, element_code, segment_code, code_alone}
 use Rattle.rewrite_modules.specs.FlatCode.{targets_in, body_of}
 use Rattle.rewrite_modules.specs.Collector.{memory_export}
 use Rattle.rewrite_modules.specs.Instrument.{new_nodes, new_body, each, new_exports, new_module}
@@ -190,22 +190,22 @@ new_short p s le =
 
 -- ---- the same without offsets and lengths, and with others
 
-body_bare : (b : Body) → ShortBody b → ShortBody (bare_body b)
-body_bare b s = record { groups = s.groups; ops = subst (λ n. n < 2 ^ 32) (sym (length-map b.ops bare_op)) s.ops; targets = s.targets }
+body_bare : (b : Body) → ShortBody b → ShortBody (body_code b)
+body_bare b s = record { groups = s.groups; ops = subst (λ n. n < 2 ^ 32) (sym (length-map b.ops op_code)) s.ops; targets = s.targets }
 
-body_back : (b : Body) → ShortBody (bare_body b) → ShortBody b
-body_back b s = record { groups = s.groups; ops = subst (λ n. n < 2 ^ 32) (length-map b.ops bare_op) s.ops; targets = s.targets }
+body_back : (b : Body) → ShortBody (body_code b) → ShortBody b
+body_back b s = record { groups = s.groups; ops = subst (λ n. n < 2 ^ 32) (length-map b.ops op_code) s.ops; targets = s.targets }
 
-element_bare : (e : ElementSeg) → ShortElement e → ShortElement (bare_element e)
+element_bare : (e : ElementSeg) → ShortElement e → ShortElement (element_code e)
 element_bare e s = record { offset = body_bare e.offset s.offset; functions = s.functions }
 
-element_back : (e : ElementSeg) → ShortElement (bare_element e) → ShortElement e
+element_back : (e : ElementSeg) → ShortElement (element_code e) → ShortElement e
 element_back e s = record { offset = body_back e.offset s.offset; functions = s.functions }
 
-segment_bare : (d : DataSeg) → ShortData d → ShortData (bare_segment d)
+segment_bare : (d : DataSeg) → ShortData d → ShortData (segment_code d)
 segment_bare d s = record { offset = body_bare d.offset s.offset; bytes = s.bytes }
 
-segment_back : (d : DataSeg) → ShortData (bare_segment d) → ShortData d
+segment_back : (d : DataSeg) → ShortData (segment_code d) → ShortData d
 segment_back d s = record { offset = body_back d.offset s.offset; bytes = s.bytes }
 
 map_short : {A B : Type 0} (f : A → B) (xs : List A) → Short xs → Short (map f xs)
@@ -214,7 +214,7 @@ map_short f xs s = subst (λ n. n < 2 ^ 32) (sym (length-map xs f)) s
 short_map : {A B : Type 0} (f : A → B) (xs : List A) → Short (map f xs) → Short xs
 short_map f xs s = subst (λ n. n < 2 ^ 32) (length-map xs f) s
 
-lists_bare : (m : Module) → ShortLists m → ShortLists (bare_module m)
+lists_bare : (m : Module) → ShortLists m → ShortLists (code_alone m)
 lists_bare m s = record {
   types = s.types;
   each_type = s.each_type;
@@ -223,21 +223,21 @@ lists_bare m s = record {
   import_names = s.import_names;
   tables = s.tables;
   memories = s.memories;
-  globals = map_short bare_global m.globals s.globals;
-  each_global = all_map (λ g. ShortBody g.init) bare_global m.globals (all_as (λ g. ShortBody g.init) (λ g. ShortBody (bare_body g.init)) m.globals (λ g h. body_bare g.init h) s.each_global);
+  globals = map_short global_code m.globals s.globals;
+  each_global = all_map (λ g. ShortBody g.init) global_code m.globals (all_as (λ g. ShortBody g.init) (λ g. ShortBody (body_code g.init)) m.globals (λ g h. body_bare g.init h) s.each_global);
   exports = s.exports;
   export_names = s.export_names;
-  elements = map_short bare_element m.elements s.elements;
-  each_element = all_map ShortElement bare_element m.elements (all_as ShortElement (λ e. ShortElement (bare_element e)) m.elements element_bare s.each_element);
-  segments = map_short bare_segment m.segments s.segments;
-  each_segment = all_map ShortData bare_segment m.segments (all_as ShortData (λ d. ShortData (bare_segment d)) m.segments segment_bare s.each_segment);
-  bodies = map_short bare_body m.bodies s.bodies;
-  each_body = all_map ShortBody bare_body m.bodies (all_as ShortBody (λ b. ShortBody (bare_body b)) m.bodies body_bare s.each_body);
+  elements = map_short element_code m.elements s.elements;
+  each_element = all_map ShortElement element_code m.elements (all_as ShortElement (λ e. ShortElement (element_code e)) m.elements element_bare s.each_element);
+  segments = map_short segment_code m.segments s.segments;
+  each_segment = all_map ShortData segment_code m.segments (all_as ShortData (λ d. ShortData (segment_code d)) m.segments segment_bare s.each_segment);
+  bodies = map_short body_code m.bodies s.bodies;
+  each_body = all_map ShortBody body_code m.bodies (all_as ShortBody (λ b. ShortBody (body_code b)) m.bodies body_bare s.each_body);
   customs = lit< tt;
   custom_names = tt;
 }
 
-lists_back : (m : Module) → m.customs ≡ [] → ShortLists (bare_module m) → ShortLists m
+lists_back : (m : Module) → m.customs ≡ [] → ShortLists (code_alone m) → ShortLists m
 lists_back m none s = record {
   types = s.types;
   each_type = s.each_type;
@@ -246,21 +246,21 @@ lists_back m none s = record {
   import_names = s.import_names;
   tables = s.tables;
   memories = s.memories;
-  globals = short_map bare_global m.globals s.globals;
-  each_global = all_as (λ g. ShortBody (bare_body g.init)) (λ g. ShortBody g.init) m.globals (λ g h. body_back g.init h) (all_from_map (λ g. ShortBody g.init) bare_global m.globals s.each_global);
+  globals = short_map global_code m.globals s.globals;
+  each_global = all_as (λ g. ShortBody (body_code g.init)) (λ g. ShortBody g.init) m.globals (λ g h. body_back g.init h) (all_from_map (λ g. ShortBody g.init) global_code m.globals s.each_global);
   exports = s.exports;
   export_names = s.export_names;
-  elements = short_map bare_element m.elements s.elements;
-  each_element = all_as (λ e. ShortElement (bare_element e)) ShortElement m.elements element_back (all_from_map ShortElement bare_element m.elements s.each_element);
-  segments = short_map bare_segment m.segments s.segments;
-  each_segment = all_as (λ d. ShortData (bare_segment d)) ShortData m.segments segment_back (all_from_map ShortData bare_segment m.segments s.each_segment);
-  bodies = short_map bare_body m.bodies s.bodies;
-  each_body = all_as (λ b. ShortBody (bare_body b)) ShortBody m.bodies body_back (all_from_map ShortBody bare_body m.bodies s.each_body);
+  elements = short_map element_code m.elements s.elements;
+  each_element = all_as (λ e. ShortElement (element_code e)) ShortElement m.elements element_back (all_from_map ShortElement element_code m.elements s.each_element);
+  segments = short_map segment_code m.segments s.segments;
+  each_segment = all_as (λ d. ShortData (segment_code d)) ShortData m.segments segment_back (all_from_map ShortData segment_code m.segments s.each_segment);
+  bodies = short_map body_code m.bodies s.bodies;
+  each_body = all_as (λ b. ShortBody (body_code b)) ShortBody m.bodies body_back (all_from_map ShortBody body_code m.bodies s.each_body);
   customs = subst (λ xs. Short xs) (sym none) (lit< tt);
   custom_names = subst (AllByRecursion (λ c. Short c.name)) (sym none) tt;
 }
 
-pub within : (m other : Module) (x : Instrumentable m) → Sized m → bare_module (new_module (program_of m x.whole)) ≡ bare_module other → other.customs ≡ [] → WithinLimits other
+pub within : (m other : Module) (x : Instrumentable m) → Sized m → code_alone (new_module (program_of m x.whole)) ≡ code_alone other → other.customs ≡ [] → WithinLimits other
 within m other x sized e none =
     let p = program_of m x.whole in
     let weighs = contents_weigh m x sized in

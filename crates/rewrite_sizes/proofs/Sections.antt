@@ -22,7 +22,7 @@ use Rattle.wasm_sizes.proofs.Measures.{sized_length}
 use Rattle.wasm_sizes.proofs.Sections.{lengths}
 use Rattle.rewrite_bodies.specs.Numbering.{import_count, mapped, wraps, value_type, frame_type}
 use Rattle.rewrite_bodies.specs.Guards.{helper_type}
-use Rattle.rewrite_modules.specs.Bare.{bare_op, bare_body, bare_global, bare_element, bare_segment, bare_module}
+use Rattle.wasm_syntax.specs.SameCode.{op_code, body_code, global_code, element_code, segment_code, code_alone}
 use Rattle.rewrite_modules.specs.Collector.{collector_import, memory_export}
 use Rattle.rewrite_modules.specs.Instrument.{zero_init, new_index, new_exports}
 use Rattle.rewrite_sizes.proofs.Numbers.{some_bytes, three_more, single_byte}
@@ -229,11 +229,11 @@ elements_grow m (e ∷ es) =
 
 -- ---- offsets and lengths of instructions are not written
 
-codes_bare : (targets : List ℕ) (ops : List Op) → flat_map (λ o. instruction_bytes targets o.code) (map bare_op ops) ≡ flat_map (λ o. instruction_bytes targets o.code) ops
+codes_bare : (targets : List ℕ) (ops : List Op) → flat_map (λ o. instruction_bytes targets o.code) (map op_code ops) ≡ flat_map (λ o. instruction_bytes targets o.code) ops
 codes_bare targets [] = refl
 codes_bare targets (o ∷ os) = ap (λ z. instruction_bytes targets o.code ++ z) (codes_bare targets os)
 
-expression_bare : (b : Body) → expression_bytes (bare_body b) ≡ expression_bytes b
+expression_bare : (b : Body) → expression_bytes (body_code b) ≡ expression_bytes b
 unfolding expression_bytes
 expression_bare b = codes_bare b.targets b.ops
 
@@ -241,31 +241,31 @@ same_total : {A : Type 0} (f : A → ℕ) (go : A → A) (xs : List A) → ((x :
 same_total f go [] h = refl
 same_total f go (x ∷ xs) h = omega (arith, h x, same_total f go xs h)
 
-global_bare : (g : Global) → length (global_bytes (bare_global g)) ≡ length (global_bytes g)
+global_bare : (g : Global) → length (global_bytes (global_code g)) ≡ length (global_bytes g)
 unfolding global_bytes
 global_bare g = let e = ap length (expression_bare g.init) in omega (arith, e)
 
-element_bare : (e : ElementSeg) → length (element_bytes (bare_element e)) ≡ length (element_bytes e)
-element_bare e = let a = ap length (expression_bare e.offset) in omega (arith, a, element_length e, element_length (bare_element e))
+element_bare : (e : ElementSeg) → length (element_bytes (element_code e)) ≡ length (element_bytes e)
+element_bare e = let a = ap length (expression_bare e.offset) in omega (arith, a, element_length e, element_length (element_code e))
 
-segment_bare : (s : DataSeg) → length (segment_bytes (bare_segment s)) ≡ length (segment_bytes s)
+segment_bare : (s : DataSeg) → length (segment_bytes (segment_code s)) ≡ length (segment_bytes s)
 unfolding segment_bytes
 segment_bare s =
     let a = ap length (expression_bare s.offset) in
     let b = length-append (unsigned_bytes s.memory) (expression_bytes s.offset ++ sized_bytes s.bytes) in
     let c = length-append (expression_bytes s.offset) (sized_bytes s.bytes) in
-    let d = length-append (unsigned_bytes s.memory) (expression_bytes (bare_body s.offset) ++ sized_bytes s.bytes) in
-    let e = length-append (expression_bytes (bare_body s.offset)) (sized_bytes s.bytes) in
+    let d = length-append (unsigned_bytes s.memory) (expression_bytes (body_code s.offset) ++ sized_bytes s.bytes) in
+    let e = length-append (expression_bytes (body_code s.offset)) (sized_bytes s.bytes) in
     omega (arith, a, b, c, d, e)
 
-entry_bare : (b : Body) → entry_bytes (bare_body b) ≡ entry_bytes b
+entry_bare : (b : Body) → entry_bytes (body_code b) ≡ entry_bytes b
 unfolding entry_bytes function_bytes
 entry_bare b = ap (λ z. sized_bytes (vector_bytes group_bytes b.groups ++ z)) (expression_bare b)
 
-pub contents_bare : (m : Module) → contents (bare_module m) ≡ contents m
+pub contents_bare : (m : Module) → contents (code_alone m) ≡ contents m
 contents_bare m =
-    let a = same_total (λ g. length (global_bytes g)) bare_global m.globals global_bare in
-    let b = same_total (λ e. length (element_bytes e)) bare_element m.elements element_bare in
-    let c = same_total (λ b. length (entry_bytes b)) bare_body m.bodies (λ b. ap length (entry_bare b)) in
-    let d = same_total (λ s. length (segment_bytes s)) bare_segment m.segments segment_bare in
+    let a = same_total (λ g. length (global_bytes g)) global_code m.globals global_bare in
+    let b = same_total (λ e. length (element_bytes e)) element_code m.elements element_bare in
+    let c = same_total (λ b. length (entry_bytes b)) body_code m.bodies (λ b. ap length (entry_bare b)) in
+    let d = same_total (λ s. length (segment_bytes s)) segment_code m.segments segment_bare in
     omega (arith, a, b, c, d)

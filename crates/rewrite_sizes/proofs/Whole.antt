@@ -13,7 +13,7 @@ use Rattle.wasm_sizes.specs.Sized.{Sized}
 use Rattle.rewrite_bodies.specs.Numbering.{import_count, wraps, start_wraps, export_wrapped, wrapped, helped, distinct}
 use Rattle.rewrite_bodies.specs.Slots.{ctx_of, slots_of}
 use Rattle.rewrite_bodies.specs.Guards.{helper}
-use Rattle.rewrite_modules.specs.Bare.{bare_module}
+use Rattle.wasm_syntax.specs.SameCode.{code_alone}
 use Rattle.rewrite_modules.specs.FlatCode.{body_of}
 use Rattle.rewrite_modules.specs.Instrument.{new_nodes, new_body, each, wrapper_type, new_module}
 use Rattle.rewrite_modules.specs.Instrumentable.{program_of, Instrumentable}
@@ -155,7 +155,7 @@ module _ (m : Module) (x : Instrumentable m) (sized : Sized m) where
       omega (arith, a, b, c, d, e, f, g, h, h1, h2, i, i1, i2, z, sized.no_shorter)
 
   -- the encoding of a module that is the rewritten one but for offsets, lengths and custom sections
-  pub encoding_weighs : (other : Module) → bare_module (new_module p) ≡ bare_module other → length (encoding other) ≤ weight m heights
+  pub encoding_weighs : (other : Module) → code_alone (new_module p) ≡ code_alone other → length (encoding other) ≤ weight m heights
   encoding_weighs other e =
       let a = contents_most other in
       let b = contents_bare other in

@@ -10,7 +10,7 @@ ghost use Rattle.wasm_encode.specs.Encoding.{encoding};
 ghost use Rattle.wasm_encode.specs.Fits.{FitsModule};
 ghost use Rattle.wasm_sizes.specs.Sized.{Sized};
 ghost use Rattle.rewrite_bodies.specs.Numbering.{import_count};
-ghost use Rattle.rewrite_modules.specs.Bare.{bare_module};
+ghost use Rattle.wasm_syntax.specs.SameCode.{code_alone};
 ghost use Rattle.rewrite_modules.specs.Instrument.{new_module};
 ghost use Rattle.rewrite_modules.specs.Instrumentable.{Instrumentable, program_of};
 ghost use Rattle.rewrite_modules.specs.Weight.{bodies_weight, weight};
@@ -31,7 +31,7 @@ pub fn rewritten_bodies_weigh()
 /// so does that of each module that is the same but for offsets, lengths and custom sections.
 pub fn rewritten_modules_weigh()
     ensures { (m other : Parts) (these : Instrumentable m) → Sized m
-        → bare_module (new_module (program_of m these.whole)) ≡ bare_module other
+        → code_alone (new_module (program_of m these.whole)) ≡ code_alone other
         → length (encoding other) ≤ weight m these.lightness.heights }
 {}
 
@@ -39,10 +39,10 @@ pub fn rewritten_modules_weigh()
 /// memory are low, and its bytes are not too many.
 pub fn rewritten_modules_are_decodable()
     ensures limits { (m other : Parts) (these : Instrumentable m) → Sized m
-        → bare_module (new_module (program_of m these.whole)) ≡ bare_module other
+        → code_alone (new_module (program_of m these.whole)) ≡ code_alone other
         → other.customs ≡ [] → WithinLimits other }
     ensures bytes { (m other : Parts) (these : Instrumentable m) → Sized m
-        → bare_module (new_module (program_of m these.whole)) ≡ bare_module other
+        → code_alone (new_module (program_of m these.whole)) ≡ code_alone other
         → length (encoding other) ≤ 134_217_728 }
 {}
 

@@ -11,7 +11,7 @@ use Rattle.wasm_syntax.specs.Run.{Outcome, not_started, finished, trapped, lacks
 use Rattle.wasm_syntax.specs.Valid.{Valid}
 use Rattle.wasm_laws.specs.Runs.{with_more}
 use Rattle.wasm_laws.proofs.Longer.{longer_run}
-use Rattle.rewrite_modules.specs.Bare.{bare_module, bare, bare_frame, bare_config, bare_ran}
+use Rattle.rewrite_modules.specs.Bare.{bare, bare_frame, bare_config, bare_ran}
 use Rattle.rewrite_modules.specs.Instrumentable.{program_of}
 use Rattle.rewrite_modules.specs.Multiple.{multiple}
 use Rattle.rewrite_modules.specs.Simulates.{EndsAlike, AllAlike, NoneDeep}
@@ -67,14 +67,11 @@ of_bare n (r ∷ []) last left frames e = by_last r.last refl
       };
     }
 
-bare_is : (m : Module) → bare_module m ≡ code_alone m
-bare_is m = refl
-
 original_traps : (n : ℕ) (m : Module) (whole : IsModule m) (t : Traps n) → code_alone m ≡ code_alone (selftest n) → (left : ℕ) → Trapped n (Invoking n (program_of m whole) (t.steps + suc left))
 original_traps n m whole t same left =
     let p = program n in
     let q = program_of m whole in
-    let e : bare p ≡ bare q = same_bare p q (program_bare p (writes n)) (program_bare q whole.write) (bare_is (selftest n) ∙ sym same ∙ sym (bare_is m)) in
+    let e : bare p ≡ bare q = same_bare p q (program_bare p (writes n)) (program_bare q whole.write) (sym same) in
     of_bare n (Invoking n q (t.steps + suc left)) t.last left t.frames (sym (runs_alike p q e false (main_on n ∷ []) [] 1000 (t.steps + suc left)) ∙ ap (map bare_ran) (t.runs left))
 
 -- ---- more steps

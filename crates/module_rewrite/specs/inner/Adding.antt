@@ -6,7 +6,7 @@ use Rattle.wasm_syntax.specs.declared.module.ModuleParts.{ModuleParts as Module}
 use Rattle.wasm_syntax.specs.Module.{function_at}
 use Rattle.rewrite_bodies.specs.Guards.{helper}
 use Rattle.rewrite_bodies.specs.Numbering.{import_count, wrapped}
-use Rattle.rewrite_modules.specs.Bare.{bare_body}
+use Rattle.wasm_syntax.specs.SameCode.{body_code}
 use Rattle.rewrite_modules.specs.FlatCode.{body_of}
 use Rattle.rewrite_modules.specs.Instrument.{each, new_body}
 use Rattle.rewrite_modules.specs.Weight.{types_used}
@@ -17,7 +17,7 @@ use Rattle.module_rewrite.specs.Rewritten.{program_in}
 
 -- behind the old ones there are these, but for offsets, each with its instructions in order
 pub record Adds (more old new : List Body) : Type 0 where
-  pub code : map bare_body new ≡ map bare_body old ++ map bare_body more
+  pub code : map body_code new ≡ map body_code old ++ map body_code more
   pub ascend : AllByRecursion Ascends old → AllByRecursion Ascends new
 
 -- the bodies of the module's functions, rewritten; of wrappers; and of helpers

@@ -1,7 +1,7 @@
 use Rattle.std.proofs.Common.{◌+◌, [], take, get_or, sym, ap, ◌∙◌, subst}
 use Rattle.wasm_syntax.specs.declared.module.ModuleParts.{ModuleParts as Module}
 use Rattle.rewrite_bodies.specs.Guards.{helper}
-use Rattle.rewrite_modules.specs.Bare.{bare_body}
+use Rattle.wasm_syntax.specs.SameCode.{body_code}
 use Rattle.rewrite_modules.specs.FlatCode.{body_of}
 use Rattle.module_rewrite.specs.inner.Adding.{Adds, helper_bodies}
 use Rattle.module_rewrite.proofs.Adding.{one_added, mapped_at, item_at}
@@ -15,4 +15,4 @@ loop-ftype-preserved c =
     let more = helper_bodies m in
     let at = mapped_at (λ u. body_of [] (helper m u)) _ i t (item_at _ c.helped-ftype-items.result.now i c.helped-ftype-items.ensures.flat c.loop-ftype-test.true) in
     subst (λ z. Adds (take (i + 1) more) c.args.out.now z) (sym c.in_ok-push.ensures.ok)
-    (one_added more c.args.out.now c.loop-ftype.out i _ c.in_ok-body.body at (c.in_ok-body.ensures.code ∙ ap (λ (x : Module). bare_body (body_of [] (helper x t))) c.source-parts.ensures) c.in_ok-body.ensures.offsets c.loop-ftype.invariant)
+    (one_added more c.args.out.now c.loop-ftype.out i _ c.in_ok-body.body at (c.in_ok-body.ensures.code ∙ ap (λ (x : Module). body_code (body_of [] (helper x t))) c.source-parts.ensures) c.in_ok-body.ensures.offsets c.loop-ftype.invariant)

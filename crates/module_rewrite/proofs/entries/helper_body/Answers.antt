@@ -1,7 +1,7 @@
 use Rattle.std.proofs.Common.{◌≡◌, map, ap, ◌∙◌, subst}
 use Rattle.std.specs.Prelude.{IfOk}
 use Rattle.rewrite_bodies.specs.Guards.{entry_label, helper}
-use Rattle.rewrite_modules.specs.Bare.{bare_body}
+use Rattle.wasm_syntax.specs.SameCode.{body_code}
 use Rattle.rewrite_modules.specs.FlatCode.{body_of}
 use Rattle.rewrite_code.specs.Writing.{EmitsLast, nothing}
 use Rattle.module_rewrite.proofs.entries.helper_body.Goals as goal
@@ -13,4 +13,4 @@ returns-clause-code c =
     let labels = c.as_slice.ensures ∙ c.in_ok-labels.ensures ∙ ap (map (entry_label m t)) c.requires in
     let one : EmitsLast (helper m t) c.new-writer.result c.helper.new.writer = c.in_ok-helper.ensures m t labels in
     let whole : EmitsLast (helper m t) nothing c.helper.new.writer = subst (λ w. EmitsLast (helper m t) w c.helper.new.writer) c.new-writer.ensures one in
-    subst (λ gs. IfOk c.finish.result (λ out. bare_body out ≡ bare_body (body_of gs (helper m t)))) c.new.ensures (c.finish.ensures.code (helper m t) whole)
+    subst (λ gs. IfOk c.finish.result (λ out. body_code out ≡ body_code (body_of gs (helper m t)))) c.new.ensures (c.finish.ensures.code (helper m t) whole)
