@@ -1,5 +1,5 @@
 -- The frames of an image.
-use Rattle.std.proofs.Common.{◌≡◌, List, [], ◌∷◌, length, refl, ap}
+use Rattle.std.proofs.Common.{◌≡◌, suc, List, [], ◌∷◌, length, refl, ap}
 use Rattle.std.proofs.lemmas.List.{length-map}
 use Rattle.wasm_syntax.specs.Machine.{Frame}
 use Rattle.dump_write.specs.Image.{frame_image, frame_images}

@@ -29,6 +29,7 @@ abbrev pub HaveKind : List Entry → ℕ → Type 0
 HaveKind [] k = ⊥
 HaveKind (e ∷ es) k = (e.kind ≡ k) × AllByRecursion (λ e. e.kind ≡ 0) es
 
+-- the calls hand over a dump whole: the frames of a trap of kind 1 to 7, and at most 134,217,728 calls
 pub record Whole (calls : List CollectorCall) : Type 0 where
   pub kind : ℕ
   pub entries : List Entry

@@ -8,7 +8,7 @@ use Rattle.dwarf_info.specs.declared.entry.AttrValue.{AttrValue}
 use Rattle.dwarf_info.specs.declared.entry.AttrValue.TheVariants as value
 use Rattle.dwarf_info.specs.declared.entry.Attribute.{Attribute}
 use Rattle.dwarf_info.specs.Sections.{SectionBytes5}
-use Rattle.dwarf_info.specs.Attributes.{valued, as_offset, as_address, str_offsets_base, addr_base, rnglists_base, loclists_base}
+use Rattle.dwarf_info.specs.Attributes.{valued, as_offset, str_offsets_base, addr_base, rnglists_base, loclists_base}
 use Rattle.dwarf_info.specs.Values.{text_at}
 
 abbrev pub base_name : IndexTable → ℕ
@@ -48,7 +48,3 @@ from_table s table i base = option_and_then (entry_means s base table) (entry_at
 -- what an index stands for, in a unit whose root has these attributes
 abbrev pub index5 : SectionBytes5 → List Attribute → IndexTable → ℕ → Option AttrValue
 index5 s root table i = option_and_then (from_table s table i) (base_of root table)
-
--- the address of an index
-abbrev pub address5 : SectionBytes5 → List Attribute → ℕ → Option ℕ
-address5 s root i = option_and_then as_address (index5 s root Addresses i)

@@ -1,4 +1,4 @@
--- The directories and files of a line header of version 5 (DWARF 5 section 6.2.4, items 11 to 18, and section 6.2.4.1).
+-- The directories and files of a line header of version 5 (DWARF 5 section 6.2.4, items 13 to 20, and section 6.2.4.1).
 use Rattle.std.specs.Prelude.{ℕ, List, [], ◌∷◌, map, option_map, find, Option, Some, None, Bool, true, ◌==◌, if◌then◌else◌}
 use Rattle.wasm_bytes.specs.Place.{Place, Read}
 use Rattle.wasm_bytes.specs.Reading.{◌▷◌, ◌⊗◌, mapped, checked, u64_item, items_from}

@@ -17,7 +17,7 @@ use Rattle.dwarf5_lists.specs.Kinds.{location_kind, range_kind}
 unfoldable pub indexed_item : Addresses → Place → Read ℕ
 indexed_item addresses = meaning_item addresses u64_item
 
--- ---- what is made of two numbers and what is held
+-- ---- what an entry is made of
 
 abbrev pub base_of : {A : Type 0} → ℕ → Option (ListEntry A)
 base_of address = Some (Base address)

@@ -17,7 +17,7 @@ pub data Format (A : Type 0) : Type 0 where
   -- a number in LEB128 of 64 bits, unsigned or signed (7.6)
   unsigned : (ℕ → Format A) → Format A
   signed : (ℤ → Format A) → Format A
-  -- a number of so many bytes, the lowest first (7.4)
+  -- a number of so many bytes, the lowest first
   number : ℕ → (ℕ → Format A) → Format A
   -- so many bytes
   run : ℕ → (List ℕ → Format A) → Format A
@@ -62,11 +62,6 @@ done = made tt
 abbrev pub fixed : {A : Type 0} → List ℕ → Format A → Format A
 fixed [] f = f
 fixed (b ∷ bs) f = number 1 (λ c. only_if (c == b) (fixed bs f))
-
--- what there is, or nothing that has a reading
-abbrev pub if_there : {A : Type 0} → Option (Format A) → Format A
-if_there (Some f) = f
-if_there None = unread
 
 -- a text, of which an empty one ends a list
 abbrev pub unless_empty : List ℕ → Option (List ℕ)

@@ -3,7 +3,7 @@
 use Rattle.std.specs.Prelude.{ℕ, zero, suc, ◌+◌, ◌-◌, ◌*◌, List, [], ◌∷◌, length, drop, Option, Some, None, Ok, Err, Bool, nat_lt, ◌==◌, if◌then◌else◌}
 use Rattle.std.specs.List.{before_first}
 use Rattle.wasm_bytes.specs.Place.{Place, Read}
-use Rattle.wasm_bytes.specs.Reading.{◌>>=◌, mapped, u64_item, byte_item, run_item, checked, if_inside}
+use Rattle.wasm_bytes.specs.Reading.{◌>>=◌, mapped, u64_item, run_item, checked, if_inside}
 
 -- ---- putting together
 
@@ -42,15 +42,6 @@ ended_from f (suc n) p = f p >>= λ x. and_more (ended_from f n) x.0 x.1
 -- a list that an end mark ends, each item of at least one byte
 unfoldable pub ended_item : {A : Type 0} → (Place → Read (Option A)) → Place → Read (List A)
 ended_item f p = ended_from f (length p.block + 1 - p.at) p
-
--- items up to a zero byte, which is read too; at most so many
-unfoldable pub items_to_zero : {A : Type 0} → (Place → Read A) → ℕ → Place → Read (List A)
-items_to_zero f zero p = Err p.at
-items_to_zero f (suc n) p = byte_item p >>= λ b. if b.0 == 0 then Ok ([], b.1) else (f p >>= λ x. items_to_zero f n x.1 >>= λ others. Ok (x.0 ∷ others.0, others.1))
-
--- items up to a zero byte, each of at least one byte
-unfoldable pub to_zero_item : {A : Type 0} → (Place → Read A) → Place → Read (List A)
-to_zero_item f p = items_to_zero f (length p.block - p.at) p
 
 -- ---- numbers and texts
 

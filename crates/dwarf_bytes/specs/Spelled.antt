@@ -1,7 +1,7 @@
 -- The bytes that spell the items of DWARF sections (DWARF 4 sections 7.4 to 7.6).
 use Rattle.std.specs.Prelude.{◌≡◌, ◌≢◌, ◌≤◌, ℕ, ◌+◌, List, [], ◌∷◌, ◌++◌, length, drop, Option, Some, None}
 use Rattle.std.specs.List.{AllByRecursion}
-use Rattle.wasm_bytes.specs.Spelling.{Spellings, ◌&◌, nothing, passing, byte, items, u64}
+use Rattle.wasm_bytes.specs.Spelling.{Spellings, ◌&◌, nothing, passing, u64}
 use Rattle.dwarf_bytes.specs.Items.{little_endian, is_unit_length}
 
 -- ---- putting together
@@ -24,14 +24,6 @@ each S (x ∷ xs) [] = λ at bytes. ⊥
 abbrev pub ended : {A : Type 0} → (Option A → Spellings) → List A → Spellings
 ended S [] = S None
 ended S (x ∷ xs) = S (Some x) & ended S xs
-
--- something that does not begin with a zero byte
-abbrev pub not_at_zero : {A : Type 0} → (A → Spellings) → A → Spellings
-not_at_zero S x at bytes = S x at bytes × (b : ℕ) × (rest : List ℕ) × (bytes ≡ b ∷ rest) × (b ≢ 0)
-
--- items up to a zero byte
-abbrev pub up_to_zero : {A : Type 0} → (A → Spellings) → List A → Spellings
-up_to_zero S xs = items (not_at_zero S) xs & byte 0x00
 
 -- Bytes at an offset of a section spell it, whatever comes after them.
 abbrev pub StandsAt : {A : Type 0} → (A → Spellings) → A → List ℕ → ℕ → Type 0

@@ -1,4 +1,4 @@
--- What an expression means in a frame (DWARF 4 sections 2.5 and 2.6; DWARF 5 section 2.5.1 on entries of 64 bits).
+-- What an expression means in a frame (DWARF 4 sections 2.5 and 2.6). Entries of the stack have 64 bits.
 use Rattle.std.specs.Prelude.{ℕ, ◌+◌, ◌-◌, ◌^◌, ℤ, List, [], ◌∷◌, ◌++◌, length, slice_get, Option, Some, None, Result, Ok, Err, Bool, true, false, ◌||◌, ◌==◌, nat_lt, if◌then◌else◌}
 use Rattle.int_ops.specs.declared.operators.Binary.{Binary}
 use Rattle.int_ops.specs.declared.operators.Binary.TheVariants.{Add, Sub, Xor, Shl, ShrS, ShrU}

@@ -63,7 +63,7 @@ operations =
     ∷ made (Arithmetic Shl) ∷ made (Arithmetic ShrU) ∷ made (Arithmetic ShrS) ∷ made (Arithmetic Xor) ∷ [])
     ++ rows_from 0x29 (made (Comparison Eq) ∷ made (Comparison GeS) ∷ made (Comparison GtS) ∷ made (Comparison LeS) ∷ made (Comparison LtS) ∷ made (Comparison Ne) ∷ [])
 
--- 2.5.1.2, 2.6.1 and the operator of WebAssembly
+-- 2.5.1.2, 2.5.1.3, 2.5.1.6, 2.6.1 and the operator of WebAssembly
 abbrev pub locations : Rows
 locations =
     (0x91, signed (λ z. made (Fbreg z))) ∷ (0x93, unsigned (λ n. made (Piece n))) ∷ (0x94, number 1 (λ n. made (Deref n)))

@@ -4,8 +4,7 @@ use Rattle.std.specs.Prelude.{find, filter, fold, ◌⊎◌, ◌&&◌, not}
 use Rattle.std.specs.List.{AllByRecursion, reduce}
 use Rattle.dwarf_line.specs.declared.lines.Row.{Row}
 use Rattle.dwarf_line.specs.declared.lines.Sequence.{Sequence}
-use Rattle.dwarf_line.specs.declared.lines.Lines.{Lines}
-use Rattle.dwarf_line.specs.Place.{IsFirst, Holds, HoldsFrom, IsNearest, IsPlace, holds, holds_from, greater, nearest, place, HoldsNone, IsPlaceIfAny, Located, IsLocated, or_else, located}
+use Rattle.dwarf_line.specs.Place.{IsFirst, Holds, HoldsFrom, IsNearest, IsPlace, holds, holds_from, greater, nearest, place, HoldsNone, IsPlaceIfAny}
 
 -- ---- the nearest row
 
@@ -210,27 +209,3 @@ place_is a sequences found e = subst (IsPlaceIfAny a sequences) (sym e) (by (pla
   by : ((row : Row) × IsPlace a sequences row) ⊎ HoldsNone a sequences → IsPlaceIfAny a sequences (place a sequences)
   by (inl p) = subst (IsPlaceIfAny a sequences) (sym (place_is_computed a sequences p.0 p.1)) p.1
   by (inr none) = subst (IsPlaceIfAny a sequences) (sym (no_place a sequences none)) none
-
--- ---- among line programs
-
--- What is described is computed.
-located_of : (a : ℕ) (before after : List Lines) (found : Located) → AllByRecursion (λ (l : Lines). HoldsNone a l.sequences) before → IsPlace a found.lines.sequences found.row → located a (before ++ found.lines ∷ after) ≡ Some found
-unfolding located
-located_of a [] after found none is = ap (λ (r : Option Row). or_else found.lines r (located a after)) (place_is_computed a found.lines.sequences found.row is)
-located_of a (l ∷ before) after found none is =
-    ap (λ (r : Option Row). or_else l r (located a (before ++ found.lines ∷ after))) (no_place a l.sequences none.0) ∙ located_of a before after found none.1 is
-
-pub located_is_computed : (a : ℕ) (programs : List Lines) (found : Located) → IsLocated a programs found → located a programs ≡ Some found
-located_is_computed a programs found f = ap (located a) f.parts ∙ located_of a f.before f.after found f.none_before f.is
-
--- There is a place in some program, or no sequence of any holds the address.
-located_by : (a : ℕ) (l : Lines) (programs : List Lines) → ((row : Row) × IsPlace a l.sequences row) ⊎ HoldsNone a l.sequences
-    → ((found : Located) × IsLocated a programs found) ⊎ AllByRecursion (λ (m : Lines). HoldsNone a m.sequences) programs
-    → ((found : Located) × IsLocated a (l ∷ programs) found) ⊎ AllByRecursion (λ (m : Lines). HoldsNone a m.sequences) (l ∷ programs)
-located_by a l programs (inl p) others = inl (record { lines = l; row = p.0 }, record { before = []; after = programs; parts = refl; none_before = tt; is = p.1 })
-located_by a l programs (inr none) (inl f) = inl (f.0, record { before = l ∷ f.1.before; after = f.1.after; parts = ap (λ (xs : List Lines). l ∷ xs) f.1.parts; none_before = (none, f.1.none_before); is = f.1.is })
-located_by a l programs (inr none) (inr others) = inr (none, others)
-
-pub located_or_none : (a : ℕ) (programs : List Lines) → ((found : Located) × IsLocated a programs found) ⊎ AllByRecursion (λ (m : Lines). HoldsNone a m.sequences) programs
-located_or_none a [] = inr tt
-located_or_none a (l ∷ programs) = located_by a l programs (place_or_none a l.sequences) (located_or_none a programs)

@@ -1,4 +1,4 @@
--- The opcodes of line programs (DWARF 4 sections 6.2.5 and 7.22).
+-- The opcodes of line programs (DWARF 4 sections 6.2.5 and 7.21).
 use Rattle.std.specs.Prelude.{ℕ, zero, suc, ◌-◌, List, slice_index_or, nat_le, ◌==◌, if◌then◌else◌}
 use Rattle.dwarf_bytes.specs.Format.{Format, made, unsigned, signed, run, text, sized, number}
 use Rattle.dwarf_line.specs.declared.lines.LineFile.{LineFile}

@@ -1,4 +1,4 @@
--- What the header of a line program says to its opcodes (DWARF 4 section 6.2.4, items 5 to 10).
+-- What the header of a line program says to its opcodes (DWARF 4 section 6.2.4, items 4 to 10).
 use Rattle.std.specs.Prelude.{ℕ, ◌-◌, ℤ, List, Bool, not, ◌&&◌, ◌==◌}
 use Rattle.std.specs.Int.{w8, cast_signed}
 use Rattle.dwarf_bytes.specs.Format.{Format, made, run, number, only_if, fixed}

@@ -62,26 +62,7 @@ nearest address rows = reduce greater (filter (λ (r : Row). nat_le r.address ad
 unfoldable pub place : ℕ → List Sequence → Option Row
 place address sequences = option_and_then (λ (s : Sequence). nearest address s.rows) (find (holds address) sequences)
 
--- ---- among line programs, in the order of their units
-
 -- a row, with the program whose files it counts
 pub record Located : Type 0 where
   pub lines : Lines
   pub row : Row
-
--- the place in the first program that has one
-pub record IsLocated (address : ℕ) (programs : List Lines) (found : Located) : Type 0 where
-  pub before : List Lines
-  pub after : List Lines
-  pub parts : programs ≡ before ++ found.lines ∷ after
-  pub none_before : AllByRecursion (λ (l : Lines). HoldsNone address l.sequences) before
-  pub is : IsPlace address found.lines.sequences found.row
-
--- the same, computed
-abbrev pub or_else : Lines → Option Row → Option Located → Option Located
-or_else lines (Some row) others = Some (record { lines = lines; row = row })
-or_else lines None others = others
-
-unfoldable pub located : ℕ → List Lines → Option Located
-located address [] = None
-located address (l ∷ programs) = or_else l (place address l.sequences) (located address programs)

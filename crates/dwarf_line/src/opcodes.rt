@@ -1,4 +1,4 @@
-//! The opcodes of line programs (DWARF 4 sections 6.2.5 and 7.22).
+//! The opcodes of line programs (DWARF 4 sections 6.2.5 and 7.21).
 
 ghost use Rattle.std.specs.Prelude.{OnOk};
 ghost use Rattle.wasm_bytes.specs.Place.{Moves, Stays};

@@ -85,7 +85,7 @@ impl<'a> Parameters<'a> {
 }
 
 /// From the minimum length of an instruction up to the lengths of the opcodes (DWARF 4 section
-/// 6.2.4, items 5 to 10), with or without the number of operations of an instruction, which is 1.
+/// 6.2.4, items 4 to 10), with or without the number of operations of an instruction, which is 1.
 #[tactic(auto, unfolding(dwarf_bytes::specs::Format::read))]
 pub fn read_parameters<'a>(
     has_operations: bool,

@@ -4,7 +4,7 @@ use Rattle.wasm_bytes.specs.Spelling.{Spellings, ◌&◌, only}
 use Rattle.dwarf_bytes.specs.Spelled.{number, ended, StandsAt}
 use Rattle.dwarf_loc.specs.declared.contents.Span.{Span}
 use Rattle.dwarf_loc.specs.declared.entry.ListEntry.{ListEntry}
-use Rattle.dwarf_loc.specs.declared.entry.ListEntry.TheVariants.{Base, FromBase, Between, Lasting, Otherwise}
+use Rattle.dwarf_loc.specs.declared.entry.ListEntry.TheVariants.{Base, FromBase}
 use Rattle.dwarf_loc.specs.Version4.{is_selection}
 
 -- so many bytes at that offset
@@ -19,9 +19,7 @@ entry4 S None = number 4 0 & number 4 0
 entry4 S (Some (Base address)) = number 4 0xffffffff & number 4 address
 entry4 S (Some (FromBase begin end what)) = λ at bytes.
     ((begin == 0 && end == 0) ≡ false) × (is_selection begin ≡ false) × ((number 4 begin & number 4 end) & S what) at bytes
-entry4 S (Some (Between begin end what)) = λ at bytes. ⊥
-entry4 S (Some (Lasting begin length what)) = λ at bytes. ⊥
-entry4 S (Some (Otherwise what)) = λ at bytes. ⊥
+entry4 S (Some _) = λ at bytes. ⊥
 
 abbrev pub list4 : {A : Type 0} → (A → Spellings) → List (ListEntry A) → Spellings
 list4 S = ended (entry4 S)

@@ -28,10 +28,7 @@ holds address h = nat_le h.begin address && nat_lt address h.end
 abbrev pub defaults : {A : Type 0} → List (ListEntry A) → Option A
 defaults [] = None
 defaults (Otherwise what ∷ entries) = Some what
-defaults (Base address ∷ entries) = defaults entries
-defaults (FromBase begin end what ∷ entries) = defaults entries
-defaults (Between begin end what ∷ entries) = defaults entries
-defaults (Lasting begin length what ∷ entries) = defaults entries
+defaults (_ ∷ entries) = defaults entries
 
 abbrev pub first_or : {A : Type 0} → Option A → Option (Held A) → Option A
 first_or other (Some h) = Some h.what

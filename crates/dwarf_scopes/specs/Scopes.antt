@@ -1,4 +1,4 @@
--- The subprogram at an address, and the scopes and variables that are visible there (DWARF 4, 3.3 to 3.5 and 4.1).
+-- The subprogram at an address, and the scopes and variables that are visible there (DWARF 4, 3.3, 3.4 and 4.1).
 use Rattle.std.specs.Prelude.{ℕ, List, [], ◌∷◌, Option, Some, None, filter, find, flat_map, reverse, Bool, not, ◌&&◌, ◌||◌, ◌==◌, false}
 use Rattle.dwarf_info.specs.declared.entry.UnitAnswer.{UnitAnswer}
 use Rattle.dwarf_info.specs.Attributes.{valued, as_address, low_pc}

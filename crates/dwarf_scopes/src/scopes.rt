@@ -1,5 +1,5 @@
 //! The subprogram at an address, and the scopes and variables that are visible there (DWARF 4
-//! sections 3.3 to 3.5 and 4.1).
+//! sections 3.3, 3.4 and 4.1).
 
 ghost use Rattle.std.specs.Prelude.{ℕ, ◌≡◌, ◌++◌, OnOk, IfOk, filter, reverse};
 ghost use Rattle.dwarf_entries.specs.Standing.{Standing as Stands, standing_in};

@@ -19,7 +19,7 @@ pub enum Class {
     Members,
     /// An array (5.4).
     Array,
-    /// An enumeration (5.6).
+    /// An enumeration (5.7).
     Enumeration,
     /// A base type (5.1).
     Base,

@@ -30,7 +30,7 @@ impl From<causes::NoMemory> for LineFault {
 }
 
 /// The text that a word is.
-#[tactic(auto, using(crate::proofs::Utf8::utf8_tests))]
+#[tactic(auto, using(pm_text::proofs::Utf8::utf8_tests))]
 fn as_text(word: &[u8]) -> Option<&str>
     ensures { MatchOption result (is_utf8 word.now ≡ false)
         (λ t. (is_utf8 word.now ≡ true) × (t.now ≡ word.now)) }

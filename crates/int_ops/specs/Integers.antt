@@ -15,7 +15,7 @@ use Rattle.int_ops.specs.declared.operators.Narrow32.TheVariants as narrow32
 use Rattle.int_ops.specs.declared.operators.Narrow64.{Narrow64}
 use Rattle.int_ops.specs.declared.operators.Narrow64.TheVariants as narrow64
 
--- ---- Core 4.3.1: the signed reading of an integer of n bits, and the integer with that reading
+-- ---- Core 4.3.2: the signed reading of an integer of n bits, and the integer with that reading
 
 abbrev pub signed : ℕ → ℕ → ℤ
 signed n a = if nat_lt a (2 ^ (n - 1)) then pos a else pos a -ℤ pos (2 ^ n)
@@ -101,7 +101,7 @@ binary n ShrU a b = Ok (shr_u n a (b % n))
 binary n Rotl a b = Ok (rotl n a (b % n))
 binary n Rotr a b = Ok (rotr n a (b % n))
 
--- ---- Core 4.3.2 (in Core 1.0, 4.3.4): conversions
+-- ---- Core 4.3.4: conversions; the sign extensions are those of Core 2.0, 4.3.2
 
 -- extend_s: an integer of m bits, read as signed, in n bits
 abbrev pub sign_extended : ℕ → ℕ → ℕ → ℕ

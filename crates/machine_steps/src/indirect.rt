@@ -1,4 +1,4 @@
-//! A call through the table (Core 4.4.7).
+//! A call through the table (Core 4.4.5).
 
 ghost use Rattle.std.specs.Prelude.{◌≡◌, ℕ, slice_get, Some};
 ghost use Rattle.wasm_syntax.specs.Machine.{Engine};

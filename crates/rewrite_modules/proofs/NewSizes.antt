@@ -1,4 +1,4 @@
--- The rewritten module is within the limits of the decoder, but for its bytes.
+-- The rewritten module is within the limits of the decoder on locals, nesting, table and memory.
 use Rattle.std.proofs.Common.{◌≡◌, ℕ, zero, suc, ◌+◌, ◌*◌, ◌≤◌, List, [], ◌∷◌, ◌++◌, length, map, Option, Some, None, refl, sym, ap, subst, arith, slice_get, length-append}
 use Rattle.std.specs.Prelude.{sum}
 use Rattle.std.specs.List.{AllByRecursion}

@@ -1,4 +1,4 @@
--- A module within the limits of the decoder, but for its bytes.
+-- A module within the limits of the decoder on locals, nesting, table, memory and operands.
 use Rattle.std.specs.Prelude.{◌≡◌, ℕ, ◌+◌, ◌<◌, ◌≤◌, List, length, slice_get, Some}
 use Rattle.std.specs.List.{AllByRecursion}
 use Rattle.wasm_syntax.specs.declared.quantity.Quantity.TheVariants.{Locals, Nesting, Table, Memory, Height}

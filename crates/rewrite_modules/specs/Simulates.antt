@@ -48,7 +48,7 @@ abbrev pub NoneDeep : List Ran → Type 0
 NoneDeep [] = Unit {0}
 NoneDeep (one ∷ ones) = (one.outcome ≢ trapped 8) × NoneDeep ones
 
--- For every list of invocations, replies, depth and n, unless the original exhausts its call depth.
+-- For every list of invocations, replies, n, and depth from 1 to 10,000, unless the original exhausts its call depth.
 abbrev pub Simulates : ℕ → Program → Program → Type 0
 Simulates factor p p' =
     (is : List Invocation) (replies : List Reply) (d n : ℕ) → 1 ≤ d → d ≤ 10000 → NoneDeep (run p false is replies d n) →

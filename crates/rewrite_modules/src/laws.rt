@@ -82,7 +82,7 @@ pub fn rewritten_modules_are_valid()
         → code_alone (new_module (program_of m these.whole)) ≡ code_alone other → Valid other }
 {}
 
-/// They are within the limits of the decoder, but for its bytes: locals, nesting, table and memory.
+/// They are within the limits of the decoder on locals, nesting, table and memory.
 pub fn rewritten_modules_are_within_limits()
     ensures { (m other : Parts) (these : Instrumentable m)
         → code_alone (new_module (program_of m these.whole)) ≡ code_alone other → LowSizes other }

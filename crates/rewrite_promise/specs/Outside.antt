@@ -7,7 +7,7 @@ use Rattle.wasm_syntax.specs.SameCode.{global_code, code_alone}
 use Rattle.rewrite_modules.specs.Interface.{KeepsInterface}
 
 -- The other module shows those outside what the module shows: its imports and exports, with those that the rewriting adds, its types, tables
--- and memories, its segments but for the offsets of their code, and its globals in front of any others.
+-- and memories, its data segments but for the offsets of their code, and its globals in front of any others.
 pub record KeepsOutside (m other : Module) : Type 0 where
   pub interface : KeepsInterface (code_alone m) (code_alone other)
   pub globals : take (length m.globals) (map global_code other.globals) ≡ map global_code m.globals

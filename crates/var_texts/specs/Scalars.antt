@@ -1,4 +1,4 @@
--- Scalars where they stand: the number in their bits, and its text (DWARF 4, 5.1, 5.5.6 and 5.6).
+-- Scalars where they stand: the number in their bits, and its text (DWARF 4, 5.1, 5.5.6 and 5.7).
 use Rattle.std.specs.Prelude.{ℕ, ◌+◌, ◌-◌, ◌*◌, ◌/◌, ◌%◌, ◌^◌, ◌==◌, ◌&&◌, ◌||◌, Bool, false, nat_lt, nat_le, ℤ, pos, ◌+ℤ◌, ◌-ℤ◌, List, Option, Some, None, unwrap_or, Result, Ok, Err, if◌then◌else◌}
 use Rattle.dwarf_info.specs.declared.entry.UnitAnswer.{UnitAnswer}
 use Rattle.dwarf_entries.specs.Standing.{Standing}

@@ -1,4 +1,4 @@
--- The text of a value, by recursion on its type (DWARF 4, 5.4 to 5.6).
+-- The text of a value, by recursion on its type (DWARF 4, 5.4, 5.5 and 5.7).
 use Rattle.std.specs.Prelude.{ℕ, zero, suc, ◌*◌, ◌&&◌, Bool, true, false, nat_lt, nat_le, min, pos, List, [], ◌∷◌, ◌++◌, map, drop, Option, Some, None, unwrap_or, Result, Ok, Err, if◌then◌else◌, codes}
 use Rattle.std.specs.List.{join_by, range_with_len}
 use Rattle.pm_text.specs.Names.{plain}

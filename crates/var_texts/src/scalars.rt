@@ -1,4 +1,4 @@
-//! Texts of scalars where they stand (DWARF 4 sections 5.1, 5.5.6 and 5.6).
+//! Texts of scalars where they stand (DWARF 4 sections 5.1, 5.5.6 and 5.7).
 
 ghost use Rattle.std.specs.Prelude.{◌≡◌, ◌≤◌, ◌<◌, ◌*◌, ◌^◌, ◌++◌, true, Some, unwrap_or, OnOk, IfOk};
 ghost use Rattle.dwarf_entries.specs.Origins.{longest_chain};

@@ -1,4 +1,4 @@
-//! Texts of values, by recursion on their types (DWARF 4 sections 5.4 to 5.6).
+//! Texts of values, by recursion on their types (DWARF 4 sections 5.4, 5.5 and 5.7).
 
 ghost use Rattle.std.specs.Prelude.{◌≡◌, ◌≢◌, ◌<◌, ◌^◌, ◌++◌, suc, true, drop, map, reverse, Some, IsSome, OnOk, IfOk};
 ghost use Rattle.dwarf_entries.specs.Origins.{longest_chain};

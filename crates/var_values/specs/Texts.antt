@@ -1,4 +1,4 @@
--- Texts of scalars: pointers, enumerations and base types by their encodings (DWARF 4, 5.1, 5.6 and 7.8).
+-- Texts of scalars: pointers, enumerations and base types by their encodings (DWARF 4, 5.1, 5.7 and 7.8).
 use Rattle.std.specs.Prelude.{ℕ, zero, suc, ◌*◌, ◌/◌, ◌%◌, ◌^◌, ◌==◌, ◌&&◌, ◌||◌, Bool, false, nat_le, ℤ, pos, negsuc, List, [], ◌∷◌, ◌++◌, find, Option, Some, None, if◌then◌else◌, codes}
 use Rattle.std.specs.Fmt.{signed_decimal}
 use Rattle.std.specs.Int.{int_rem_euclid}
@@ -12,11 +12,12 @@ use Rattle.dwarf_entries.specs.Tags.{tag_enumerator}
 use Rattle.dwarf_entries.specs.Standing.{Standing, children_tagged}
 use Rattle.dwarf_entries.specs.Origins.{name_or_empty}
 
--- a number, and behind 32 to 126 the character
+-- the character of 32 to 126, in marks
 abbrev pub character : ℤ → List ℕ
 character (pos n) = if nat_le 32 n && nat_le n 126 then codes " '" ++ n ∷ 39 ∷ [] else []
 character (negsuc n) = []
 
+-- a number, and behind one from 32 to 126 the character
 abbrev pub with_character : ℤ → List ℕ
 with_character z = signed_decimal z ++ character z
 

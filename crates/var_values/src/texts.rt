@@ -1,4 +1,4 @@
-//! Texts of scalars (DWARF 4 sections 5.1, 5.6 and 7.8).
+//! Texts of scalars (DWARF 4 sections 5.1, 5.7 and 7.8).
 
 ghost use Rattle.std.specs.Prelude.{◌≡◌, ◌<◌, ◌≤◌, ◌^◌, ◌*◌, ◌∷◌, [], ◌++◌, pos, filter, find, OnOk, option_copied};
 ghost use Rattle.dwarf_entries.specs.Standing.{is_child};

@@ -1,5 +1,5 @@
 -- Items that know the offset where they begin.
-use Rattle.std.proofs.Common.{ℕ, List, length}
+use Rattle.std.proofs.Common.{◌≡◌, ℕ, List, length, Ok, Err, refl}
 use Rattle.wasm_bytes.specs.Place.{Place, Read}
 use Rattle.wasm_bytes.specs.Reading.{◌▷◌, here_item, ◌>>=◌}
 use Rattle.wasm_bytes.specs.Laws.{IsExact, StopsAt}

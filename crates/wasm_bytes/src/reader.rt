@@ -209,7 +209,7 @@ impl<'a> Reader<'a> {
 
     /// A name: a length, and as many bytes of UTF-8 (Core 5.2.4). It is one item, which begins at
     /// its length.
-    #[tactic(auto, using(crate::proofs::Utf8::utf8_tests), unfolding(crate::specs::Reading::name_item))]
+    #[tactic(auto, using(pm_text::proofs::Utf8::utf8_tests), unfolding(crate::specs::Reading::name_item))]
     pub fn name(&mut self) -> Result<&'a str, Malformed>
         ensures item { Reads (result_now result) self.new (name_item self.old) }
         ensures moves { OnOk result (Moves self.old self.new) }

@@ -1,5 +1,5 @@
 -- What the tests of types say.
-use Rattle.std.proofs.Common.{◌≡◌, ◌≢◌, true, false, ◌&&◌, List, [], ◌∷◌, length, Option, Some, refl, ap, ap₂, ◌∙◌}
+use Rattle.std.proofs.Common.{◌≡◌, ◌≢◌, suc, true, false, ◌&&◌, List, [], ◌∷◌, length, Option, Some, refl, ap, ap₂, ◌∙◌}
 use Rattle.std.proofs.Math.Bool.{and-false}
 use Rattle.wasm_syntax.specs.declared.value.ValType.{ValType}
 use Rattle.wasm_syntax.specs.declared.value.ValType.TheVariants.{I32, I64}

@@ -11,7 +11,7 @@ use Rattle.wasm_syntax.specs.declared.instruction.Store.TheVariants as stores
 use Rattle.int_ops.specs.Integers.{narrow32_bits, narrow64_bits, sign_extended}
 use Rattle.wasm_syntax.specs.Numbers.{bits}
 
--- a number of k bits in n bits (Core 4.3.2, "extend")
+-- a number of k bits in n bits (Core 4.3.4, "extend")
 abbrev pub widen : Sign → ℕ → ℕ → ℕ → ℕ
 widen Unsigned k n v = v
 widen Signed k n v = sign_extended k n v

@@ -30,8 +30,8 @@ pub record Label : Type 0 where
   pub end : ℕ
   pub kind : Kind
 
--- a function under way: what it gives, the offset of the call under way, if there is one, its locals, and its labels from the innermost
--- out; the last one is that of its body
+-- a function under way: what it gives, the offset of the last call that it made, which is under way where another frame is above it, its
+-- locals, and its labels from the innermost out; the last one is that of its body
 pub record Frame : Type 0 where
   pub function : ℕ
   pub result : Option ValType
@@ -259,7 +259,7 @@ module _ (M : Engine) where
   abbrev pub trapped : ℕ → Frame → Label → List Label → List Frame → World → List CollectorCall → Stepped
   trapped kind f l ls fs w co = traps kind (config (frame f.function f.result f.call f.locals (l ∷ ls) ∷ fs) w co)
 
-  -- an entry of the table is called, where its type is the one that is asked for (Core 4.4.7, call_indirect)
+  -- an entry of the table is called, where its type is the one that is asked for (Core 4.4.5, call_indirect)
   abbrev pub calls_if : Option Bool → ℕ → List Value → ℕ → Nodes → Frame → Label → List Label → List Frame → World → List CollectorCall → Stepped
   calls_if None g vs at rest f l ls fs w co = stuck
   calls_if (Some false) g vs at rest f l ls fs w co = trapped 7 f l ls fs w co

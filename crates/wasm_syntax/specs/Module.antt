@@ -39,7 +39,7 @@ pub record InOrder (body : Body) : Type 0 where
   pub offsets : Ascend 0 body.ops
   pub targets : TakeUp 0 (map (λ o. o.code) body.ops) (length body.targets)
 
--- an expression is a body without locals (Core 2.4.7)
+-- an expression is a body without locals (Core 2.4.6)
 pub record IsExpression (body : Body) : Type 0 where
   pub tree : Tree
   pub writes : Writes body.targets body.ops tree

@@ -100,11 +100,7 @@ host_alone (misfit reply) call w co = bad_reply call reply (config [] w co)
 module _ (M : Engine) where
   abbrev pub run_on : (Config → Ended) → ℕ → Stepped → Ended
   run_on go n (next c) = go c
-  run_on go n (ends w vs co) = ended (ends w vs co) n
-  run_on go n (traps k c) = ended (traps k c) n
-  run_on go n (no_reply call c) = ended (no_reply call c) n
-  run_on go n (bad_reply call r c) = ended (bad_reply call r c) n
-  run_on go n stuck = ended stuck n
+  run_on go n s = ended s n
 
   abbrev pub run_steps : ℕ → Config → Ended
   run_steps zero c = ended (next c) 0

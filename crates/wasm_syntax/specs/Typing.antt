@@ -165,7 +165,7 @@ abbrev pub open_behind : List BlockKind → List Placed → List BlockKind
 open_behind os [] = os
 open_behind os (i ∷ is) = open_behind (open_next os i.code) is
 
--- what closes them: `unreachable`, `else` and `unreachable` where there may be an `else`, and `end`, at no offsets of the body
+-- what closes them: `unreachable`, `else` and `unreachable` where there may be an `else`, and `end`, all at offset 0, where no instruction of a function stands
 abbrev pub closing_of : List BlockKind → List Placed
 closing_of [] = []
 closing_of (kinds.Plain ∷ os) = placed 0 (Goes Unreachable) ∷ placed 0 End ∷ closing_of os

@@ -82,7 +82,7 @@ ElementFine m e = (e.table < length m.tables) × ConstBody m.globals e.offset I3
 abbrev pub DataFine : Module → DataSeg → Type 0
 DataFine m s = (s.memory < length m.memories) × ConstBody m.globals s.offset I32
 
--- function f, which the module defines, where i of its functions come before
+-- function f, which the module defines
 abbrev pub BodyFine : Module → ℕ → Body → Type 0
 BodyFine m f body = (type : FuncType) × (type_at m f ≡ Some type) × IsBody m type body (code_of body.targets body.ops)
 

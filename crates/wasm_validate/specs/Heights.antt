@@ -19,7 +19,7 @@ abbrev pub TypesAt : Module → ℕ → ℕ → List ValType → Type 0
 TypesAt m f op types =
     (type : FuncType) × (body : Body) × (type_at m f ≡ Some type) × (body_of m f ≡ Some body) × TypesBefore m type body op types
 
--- a function that the module defines has so many instructions and more
+-- a function that the module defines has an instruction of this number
 abbrev pub HasOp : Module → ℕ → ℕ → Type 0
 HasOp m f op = (body : Body) × (body_of m f ≡ Some body) × (op < length body.ops)
 
@@ -38,7 +38,7 @@ StandsIn m f n = (op : ℕ) × HasOp m f op × (types : List ValType) × TypesAt
 abbrev pub AllLow : Module → Type 0
 AllLow m = (f n : ℕ) → StandsIn m f n → n ≤ greatest quantities.Height
 
--- the first function with more operands than may be has at most this many
+-- the first function with more operands than may be, and the most that it has
 pub record FirstHigh (m : Module) (count : ℕ) : Type 0 where
   pub function : ℕ
   pub there : StandsIn m function count

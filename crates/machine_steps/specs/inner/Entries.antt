@@ -1,4 +1,4 @@
--- What an entry of the table leads to (Core 4.4.7, call_indirect).
+-- What an entry of the table leads to (Core 4.4.5, call_indirect).
 use Rattle.std.specs.Prelude.{◌≡◌, ℕ, List, slice_get, ◌⊎◌}
 use Rattle.wasm_syntax.specs.declared.value.Value.{Value}
 use Rattle.wasm_syntax.specs.declared.host.CollectorCall.{CollectorCall}
