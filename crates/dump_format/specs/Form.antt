@@ -80,7 +80,7 @@ limits_item = choose limits_behind
 unfoldable pub mutability_item : Place → Read ℕ
 mutability_item = one_of_item (λ b. nat_le b 0x01)
 
--- the mutability, and a constant behind its opcode
+-- the mutability, and a constant behind its opcode, in front of the `end`
 unfoldable pub constant_item : {A : Type 0} → ℕ → (Place → Read A) → Place → Read A
 constant_item opcode f = mapped (λ x. x.1.1.0) (mutability_item ⊗ fixed_item opcode ⊗ f ⊗ fixed_item 0x0b)
 

@@ -11,7 +11,7 @@ use Rattle.dump_format.specs.declared.noted.Noted.{Noted}
 use Rattle.dump_format.specs.Parts.{Shown, known, float}
 use Rattle.dump_format.specs.Form.{value_item, global_item, place_item, thread_item}
 
--- The value that is read, and the first float up to its end, where that was the first float before it.
+-- The value that is read, and the first float up to its end, where a first float stood before it or none.
 abbrev pub Noting : Type 0 → Type 0
 Noting A = Option ℕ → Place → Read (A × Option ℕ)
 

@@ -92,7 +92,7 @@ impl Pages {
     }
 }
 
-/// The least size of a memory; the greatest one is passed over (Core 5.3.7).
+/// The least size of a memory; the greatest one is passed over (Core 5.3.4).
 impl<'a> Item<'a> for Pages {
     ghost item = { limits_item };
 

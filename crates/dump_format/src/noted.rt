@@ -103,7 +103,7 @@ impl<'a> Noting<'a> for Seen {
     }
 }
 
-/// The mutability of a global, which a dump does not tell again (Core 5.3.10).
+/// The mutability of a global, which a dump does not tell again (Core 5.3.7).
 #[tactic(auto, unfolding(wasm_bytes::specs::Reading::byte_item, wasm_bytes::specs::Reading::one_of_item, crate::specs::Form::mutability_item))]
 fn mutability(reader: &mut Reader<'_>) -> Result<u8, Malformed>
     ensures item { Reads result reader.new (mutability_item reader.old) }

@@ -179,11 +179,11 @@ module _ (o : Outcome) (A : Outcome → Type 0) (P : Stop → Type 0) (some : o.
       either (inl x) = inl x
       either (inr a) = inr (o, a)
 
-  pub failed_or_answered : ((file : List ℕ) × P (file_failed file)) ⊎ ((p : Outcome) × A p)
-  failed_or_answered = either (by_status o.status (IsFileFault P o) (A o) some answer stops)
+  pub failed_or_answered : (R : Type 0) → (o.status ≡ status.FileFault → R) → (R × ((file : List ℕ) × P (file_failed file))) ⊎ ((p : Outcome) × A p)
+  failed_or_answered R rose = either (by_status o.status (R × IsFileFault P o) (A o) some answer (λ faulted. (rose faulted, stops faulted)))
     where
-      either : IsFileFault P o ⊎ A o → ((file : List ℕ) × P (file_failed file)) ⊎ ((p : Outcome) × A p)
-      either (inl x) = inl (x.file, x.failed)
+      either : (R × IsFileFault P o) ⊎ A o → (R × ((file : List ℕ) × P (file_failed file))) ⊎ ((p : Outcome) × A p)
+      either (inl (risen, x)) = inl (risen, (x.file, x.failed))
       either (inr a) = inr (o, a)
 
   -- the output has taken a front of the text

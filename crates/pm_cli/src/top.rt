@@ -77,10 +77,10 @@ pub fn post_mortem<F: Files, O: Sink, D: Devices>(
         × Answered (D.shown devices.old) (D.shown devices.new) (map string_bytes words.now)
         (F.told files.old) (F.told files.new) o) }
 
-    // So it is where a file or the output fails.
-    ensures failed { result ≡ Status.FileFault → ((file : List ℕ)
-        × WordsStop (file_failed file) (map string_bytes words.now)
-        (D.shown devices.old) (D.shown devices.new) (F.told files.old) (F.told files.new))
+    // So it is where a file or the output fails; it was stopped only where a count of the files rose.
+    ensures failed { result ≡ Status.FileFault → (Rose (F.faults files.old) (F.faults files.new)
+        × ((file : List ℕ) × WordsStop (file_failed file) (map string_bytes words.now)
+        (D.shown devices.old) (D.shown devices.new) (F.told files.old) (F.told files.new)))
         ⊎ ((o : OutcomeThere)
         × Answered (D.shown devices.old) (D.shown devices.new) (map string_bytes words.now)
         (F.told files.old) (F.told files.new) o) }

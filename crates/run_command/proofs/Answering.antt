@@ -151,11 +151,11 @@ module _ (tell : Tells) (b : Behaves tell) (r : Ran) where
   torn_fails before after m at torn got_stuck is = tt
 
   module _ (p : Program) (m : Module) (used_up : Import → Bool) (left : List Reply) (counts now : List ℕ → ℕ) (given due : ℕ) (line : List ℕ) (is : p.module_ ≡ m) where
-    told_uses : (h : Hosting) → HostFacts h.names used_up left counts now → (t : Option ℕ) → torn_in (told tell r) ≡ t → ToldEndsIn p used_up counts now given due t r.outcome line → UsesUp h m left r.outcome
+    pub told_uses : (h : Hosting) → HostFacts h.names used_up left counts now → (t : Option ℕ) → torn_in (told tell r) ≡ t → ToldEndsIn p used_up counts now given due t r.outcome line → UsesUp h m left r.outcome
     told_uses h facts None torn ends = uses_up h p m used_up left counts now given due r.outcome line is facts ends
     told_uses h facts (Some at) torn ends = torn_uses h m left at torn r.outcome refl
 
-    told_fails : (before after : List DeviceState) → HostFacts (names before) used_up left counts now → ((device : List ℕ) → Rose (counts device) (now device) → Rose (count_of before device) (count_of after device))
+    pub told_fails : (before after : List DeviceState) → HostFacts (names before) used_up left counts now → ((device : List ℕ) → Rose (counts device) (now device) → Rose (count_of before device) (count_of after device))
         → (t : Option ℕ) → torn_in (told tell r) ≡ t → ToldEndsIn p used_up counts now given due t r.outcome line → HasFailed before after m r.outcome
     told_fails before after facts counted None torn ends = has_failed before after p m used_up left counts now given due r.outcome line is facts counted ends
     told_fails before after facts counted (Some at) torn ends = torn_fails before after m at torn r.outcome refl

@@ -1,5 +1,5 @@
 -- What a command leaves where it has no answer, from what its parts leave.
-use Rattle.std.proofs.Common.{◌≡◌, ℕ, zero, suc, Bool, List, [], ◌∷◌, ◌++◌, map, take, drop, refl, sym, ap, ◌∙◌, subst, inl, inr, Option, None, Result, Ok, Err}
+use Rattle.std.proofs.Common.{◌≡◌, ℕ, zero, suc, Bool, List, [], ◌∷◌, ◌++◌, map, take, drop, refl, sym, ap, ◌∙◌, subst, inl, inr, Option, None, Result, Ok, Err, length}
 use Rattle.std.specs.Prelude.{◌⊎◌, IfOk}
 use Rattle.causes.specs.declared.NoMemory.{NoMemory as WantOfMemory}
 use Rattle.std.specs.declared.vec.Vec.{Vec}
@@ -13,8 +13,8 @@ use Rattle.wasm_syntax.specs.Module.{Program, IsProgram, IsModule, function_expo
 use Rattle.wasm_syntax.specs.Run.{Invocation, cause_of_entry, cause_of_segments, Ran, engine}
 use Rattle.wasm_decode.specs.Decode.{module_from}
 use Rattle.wasm_machine.specs.Instances.{State, IsNew, IsOf}
-use Rattle.host_set.specs.Sets.{DeviceState}
-use Rattle.host_set.specs.Hosting.{HostsState, origin_of, calls_of, serves}
+use Rattle.host_set.specs.Sets.{DeviceState, count_of}
+use Rattle.host_set.specs.Hosting.{HostsState, origin_of, calls_of, serves, is_used_up}
 use Rattle.command_answers.specs.Input.{IsInput}
 use Rattle.command_answers.specs.Inputs.{input_of}
 use Rattle.command_answers.specs.Loaded.{IsLoaded}
@@ -29,21 +29,21 @@ use Rattle.command_answers.proofs.Reading.{map_contents}
 use Rattle.run_words.specs.declared.words.RunWords.{RunWords}
 use Rattle.wasm_syntax.specs.declared.host.CollectorCall.{CollectorCall}
 use Rattle.run_collected.specs.Delivery.{Delivery, IsDelivery}
-use Rattle.run_session.specs.Telling.{tells}
+use Rattle.run_session.specs.Telling.{tells, told as told_of, torn_in}
 use Rattle.run_session.specs.RunText.{up_to_torn}
-use Rattle.run_session.specs.inner.Collecting.{serving_of}
+use Rattle.run_session.specs.inner.Collecting.{serving_of, used_up_of}
 use Rattle.run_session.specs.Invocations.{invocation_of, depth_of}
 use Rattle.run_session.specs.Stop.{Stop, no_memory, file_failed, OnStop}
 use Rattle.run_session.specs.inner.Sessions.{point_of, WasStopped, StopsIn}
 use Rattle.run_command.specs.Starting.{cause_text, entries_text, or_text}
-use Rattle.run_command.specs.RunAnswer.{IsReadBy, bad_replies, script_replies, replies_input, script_of}
+use Rattle.run_command.specs.RunAnswer.{IsReadBy, bad_replies, script_replies, replies_input, script_of, EndUsesUp, EndHasFailed, hosting}
 use Rattle.run_command.specs.inner.Scripts.{script_result, IsAsked, IsReadFault}
 use Rattle.run_command.specs.Stops.{RunsFor, dumps_of, StopsRecord, StopsRun, NothingDone, ModuleStops, ScriptStops, BytesStops, SourceStops, FileStops, RunStops}
 use Rattle.run_command.specs.declared.scripts.Script.{Script}
 use Rattle.run_command.specs.declared.scripts.Script.TheVariants.{Whole}
 use Rattle.run_command.specs.declared.scripts.Asked.{Asked}
 use Rattle.run_command.specs.declared.scripts.Asked.TheVariants.{Read}
-use Rattle.run_command.proofs.Answering.{none_then, is_run}
+use Rattle.run_command.proofs.Answering.{none_then, is_run, told_uses, told_fails}
 use Rattle.run_command.specs.inner.Begun.{HasBegun}
 use Rattle.run_command.specs.declared.running.Begun.TheVariants.{Ready}
 use Rattle.run_command.proofs.Beginning.{none_starts, starts_alike}
@@ -54,8 +54,9 @@ use Rattle.run_session.specs.Written.{HoldPart}
 use Rattle.run_session.proofs.Held.{part_also}
 use Rattle.dump_write.specs.Written.{OnTold}
 use Rattle.command_answers.proofs.Unless.{OnAnswer}
-use Rattle.run_command.proofs.Hostings.{Began, GaveBack, by_script, logs}
+use Rattle.run_command.proofs.Hostings.{Began, GaveBack, by_script, logs, host_facts, rose_on}
 use Rattle.run_session.proofs.Stops.{map_stop}
+use Rattle.run_session.proofs.Tellings.{behaves}
 
 -- ---- facts on results
 
@@ -114,7 +115,14 @@ module _ (deliver : List CollectorCall → Delivery) (delivers : IsDelivery deli
   -- the record is written in part, behind the whole run
   record_stops : (o : Outcome) → RanSo deliver p w s bad h0 h1 told mid o → OnTold (HoldPart (own_record w bad h1)) mid new → StopsRecord w s.module_ script before after told new
   record_stops o r part =
-      let e = r.has_ended in (
+      let e = r.has_ended in
+      let tell = tells w.collect deliver in
+      let b = behaves w.collect deliver in
+      let used_up = used_up_of w.collect (is_used_up h1) in
+      let left = drop h1.given (script_replies script) in
+      let counts = count_of h0.devices in
+      let now = count_of h1.devices in
+      let facts = host_facts s.module_.imports before script h0 h1 began same w.collect in (
         deliver,
         r.has_ended.rans,
         record {
@@ -133,6 +141,8 @@ module _ (deliver : List CollectorCall → Delivery) (delivers : IsDelivery deli
               ∙ ap (λ ws. dumps_of deliver w r.has_ended.rans ++ ws) (is_recorded deliver delivers p before after script w s bad h0 h1 told mid new of_module writes_out is_new entries segments began same back o r))
               (part_also r.writes (own_record w bad h1) told mid new r.files part);
         },
+        subst (λ l. EndUsesUp (hosting before script w.collect) s.module_ left l) (sym e.last) (told_uses tell b r.last p s.module_ used_up left counts now (length r.given) r.due r.line of_module (hosting before script w.collect) facts (torn_in (told_of tell r.last)) refl r.ends),
+        subst (λ l. EndHasFailed before after s.module_ l) (sym e.last) (told_fails tell b r.last p s.module_ used_up left counts now (length r.given) r.due r.line of_module before after facts (λ device. rose_on before after h0.devices h1.devices device began.devices_are back.devices) (torn_in (told_of tell r.last)) refl r.ends),
       )
 
   recorded_in : (rose : Type 0) (ran result : Result Outcome WantOfMemory) → OnAnswer (RanSo deliver p w s bad h0 h1 told mid) ran → IfOk ran (λ o. o.status ≡ status.NoMemory → ⊥)

@@ -21,13 +21,13 @@ use Rattle.run_words.specs.declared.words.RunWords.{RunWords}
 use Rattle.run_session.specs.Stop.{Stop, no_memory, file_failed, EndsAtDump}
 use Rattle.run_collected.specs.Delivery.{Delivery, IsDelivery}
 use Rattle.run_session.specs.Telling.{tells}
-use Rattle.run_session.specs.RunText.{up_to_torn, dumps_from}
+use Rattle.run_session.specs.RunText.{up_to_torn, dumps_from, last_of}
 use Rattle.run_session.specs.Given.{given_in}
 use Rattle.run_session.specs.Written.{Writes, HoldPart}
 use Rattle.run_session.specs.Invocations.{invocation_of, depth_of}
 use Rattle.run_command.specs.Hosting.{scripted, start_text}
 use Rattle.run_command.specs.Recorded.{recorded}
-use Rattle.run_command.specs.RunAnswer.{Logs, IsReadBy, hosting, script_replies, replies_input, script_of}
+use Rattle.run_command.specs.RunAnswer.{Logs, EndUsesUp, EndHasFailed, IsReadBy, hosting, script_replies, replies_input, script_of}
 
 -- ---- what was run
 
@@ -50,11 +50,12 @@ pub record RunsFor (deliver : List CollectorCall → Delivery) (w : RunWords) (m
 abbrev pub dumps_of : (List CollectorCall → Delivery) → RunWords → List Ran → Writes
 dumps_of deliver w rans = dumps_from (tells w.collect deliver) w.dump w.name 0 rans
 
--- the whole run, with its dumps; the record behind them may be there in part
+-- the whole run, which ended as an answer tells it, with its dumps; the record behind them may be there in part
 abbrev pub StopsRecord : RunWords → Module → Option (List Reply) → (before after : List DeviceState) → (old new : Option Contents) → Type 0
 StopsRecord w m script before after old new =
     (deliver : List CollectorCall → Delivery) × (rans : List Ran)
-    × RunsFor deliver w m script (map invocation_of w.invocations) w.fuel rans (dumps_of deliver w rans ++ recorded w.log_to rans) before after old new
+    × (x : RunsFor deliver w m script (map invocation_of w.invocations) w.fuel rans (dumps_of deliver w rans ++ recorded w.log_to rans) before after old new)
+    × EndUsesUp (hosting before script w.collect) m x.left (last_of rans) × EndHasFailed before after m (last_of rans)
 
 -- all invocations, for some number of steps up to the fuel; or the invocations up to one that trapped, the file of whose dump failed; or the
 -- record was not written

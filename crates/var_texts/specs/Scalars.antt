@@ -2,6 +2,7 @@
 use Rattle.std.specs.Prelude.{ℕ, ◌+◌, ◌-◌, ◌*◌, ◌/◌, ◌%◌, ◌^◌, ◌==◌, ◌&&◌, ◌||◌, Bool, false, nat_lt, nat_le, ℤ, pos, ◌+ℤ◌, ◌-ℤ◌, List, Option, Some, None, unwrap_or, Result, Ok, Err, if◌then◌else◌}
 use Rattle.dwarf_info.specs.declared.entry.UnitAnswer.{UnitAnswer}
 use Rattle.dwarf_entries.specs.Standing.{Standing}
+use Rattle.dwarf_entries.specs.Tags.{tag_base}
 use Rattle.dwarf_entries.specs.Origins.{longest_chain}
 use Rattle.dwarf_types.specs.declared.class.Class.{Class}
 use Rattle.dwarf_types.specs.declared.class.Class.TheVariants as classes
@@ -68,9 +69,9 @@ abbrev pub is_signed : Option ℕ → Bool
 is_signed None = false
 is_signed (Some e) = e == 5 || e == 6
 
--- an enumeration is signed where the type behind its own is
+-- an enumeration is signed where the type behind its own is a signed base type
 abbrev pub behind_is_signed : Behind → Bool
-behind_is_signed (behinds.Stands s k) = is_signed (encoding s)
+behind_is_signed (behinds.Stands s k) = s.entry.tag == tag_base && is_signed (encoding s)
 behind_is_signed _ = false
 
 -- of a word in k bits: a pointer, an enumeration or a base type

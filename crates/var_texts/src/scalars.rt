@@ -14,6 +14,7 @@ ghost use Rattle.var_texts.specs.inner.Scalar.{IsScalar};
 use crate::place::Place;
 use crate::word::{bits_of, word_in};
 use dwarf_entries::names::ENCODING;
+use dwarf_entries::tags::BASE;
 use dwarf_entries::{LONGEST_CHAIN, Standing, natural};
 use dwarf_expr::FrameView;
 use dwarf_info::Units;
@@ -62,7 +63,7 @@ fn is_signed(encoding: Option<u64>) -> bool
     }
 }
 
-/// Whether the type behind that of an enumeration is signed.
+/// Whether the type behind that of an enumeration is a signed base type.
 fn behind_is_signed<'r, 'a>(units: &'r Units<'a>, standing: &Standing<'r, 'a>) -> bool
     ensures { result ≡ scalars.behind_is_signed (behind units.now longest_chain
         (type_at units.now standing.now.entry.attributes)) }
@@ -72,7 +73,7 @@ fn behind_is_signed<'r, 'a>(units: &'r Units<'a>, standing: &Standing<'r, 'a>) -
         Behind::Stands {
             standing,
             skipped: _,
-        } => is_signed(encoding_of(&standing)),
+        } => standing.entry().tag == BASE && is_signed(encoding_of(&standing)),
         Behind::Nothing | Behind::TooDeep => false,
     }
 }

@@ -1,4 +1,4 @@
--- The bytes that spell the names of functions (Core, appendix "Custom Sections", A.2), and which names a module has by them.
+-- The bytes that spell the names of functions (Core, appendix "Custom Sections", A.4.1), and which names a module has by them.
 use Rattle.std.specs.Prelude.{◌≡◌, ◌≢◌, ℕ, ◌+◌, ◌<◌, ◌≤◌, ◌⊎◌, List, [], ◌∷◌, length, slice_range, Option, None, codes}
 use Rattle.wasm_syntax.specs.declared.parts.Custom.{Custom}
 use Rattle.wasm_bytes.specs.Spelling.{Spellings, pair, leads, image, byte, u32, text, name, sized, vector, some_steps}
@@ -8,7 +8,7 @@ use Rattle.wasm_decode.specs.Names.{Named, firsts, found_some, counts, or_none}
 
 -- ---- the language
 
--- an index and a name (A.2.2)
+-- an index and a name
 abbrev pub naming : Named → Spellings
 naming = pair u32 name
 
@@ -17,11 +17,11 @@ abbrev pub name_map : List Named → Spellings
 name_map = image firsts (vector naming)
 
 -- What stands behind the id of a subsection is a size and as many bytes. Those of the first one with id 1 are names of
--- functions (A.2.4), those of any other are passed over.
+-- functions, those of any other are passed over.
 abbrev pub subsection_tail : Option (List Named) → ℕ → Option (List Named) → Spellings
 subsection_tail found id = on_test (counts found id) (image found_some (λ names. sized (name_map names))) (image (λ bytes. found) (λ bytes. sized (text bytes)))
 
--- a subsection (A.2.1), from what was found before it to what is found with it
+-- a subsection, from what was found before it to what is found with it
 abbrev pub subsection : Option (List Named) → Option (List Named) → Spellings
 subsection found = leads byte (subsection_tail found)
 

@@ -1,4 +1,4 @@
--- The names of functions, by the custom section `name` (Core, appendix "Custom Sections", A.2).
+-- The names of functions, by the custom section `name` (Core, appendix "Custom Sections", A.4.1).
 use Rattle.std.specs.Prelude.{ℕ, ◌+◌, List, [], ◌∷◌, ◌++◌, length, take, fold, Option, Some, None, Ok, Err, Bool, ◌&&◌, ◌==◌, not, is_some, nat_eq, nat_le, codes, if◌then◌else◌}
 use Rattle.std.specs.Str.{bytes_eq}
 use Rattle.std.specs.Map.{lookup}

@@ -1,4 +1,4 @@
-//! The names of functions (Core, appendix "Custom Sections", A.2).
+//! The names of functions (Core, appendix "Custom Sections", A.4.1).
 
 ghost use Rattle.std.specs.Prelude.{◌≡◌, ◌<◌, ◌^◌, List, [], length, IfOk, OnOk};
 ghost use Rattle.std.specs.Option.{option_copied};

@@ -26,7 +26,7 @@ fn type_byte(vtype: ValType) -> u8
     }
 }
 
-/// Core 5.3.6.
+/// Core 5.3.7.
 #[tactic(auto, unfolding(crate::specs::Encoding::mutability_byte))]
 fn mutability_byte(mutable: bool) -> u8
     ensures { result ≡ mutability_byte mutable }

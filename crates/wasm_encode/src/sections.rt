@@ -39,7 +39,7 @@ pub fn write_vector_section<T: Item>(
     write_section(out, id, contents.as_slice())
 }
 
-/// Appends a vector of table types (Core 5.3.5).
+/// Appends a vector of table types (Core 5.3.6).
 #[tactic(auto, unfolding(crate::specs::Encoding::table_bytes))]
 fn write_tables(alloc: Global, out: &mut Vec<u8>, tables: &[Limits]) -> Result<(), NoMemory>
     ensures exact { OnOk result (out.new.items

@@ -91,7 +91,7 @@ operation_place ShrU = 12
 operation_place Rotl = 13
 operation_place Rotr = 14
 
--- the opcodes of the operators of a type begin there
+-- the first for i32, the second for i64
 abbrev pub by_type : {A : Type 0} → A → A → ValType → A
 by_type x y I32 = x
 by_type x y I64 = y

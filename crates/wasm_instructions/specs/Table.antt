@@ -75,7 +75,7 @@ store_rows =
     ∷ (0x3a, store (stores.Part32 narrow32.Eight)) ∷ (0x3b, store (stores.Part32 narrow32.Sixteen))
     ∷ (0x3c, store (stores.Part64 narrow64.Eight)) ∷ (0x3d, store (stores.Part64 narrow64.Sixteen)) ∷ (0x3e, store (stores.Part64 narrow64.ThirtyTwo)) ∷ []
 
--- the sizes of memories, and constants (5.4.5)
+-- the sizes of memories (5.4.4), and constants (5.4.5)
 abbrev pub sizes_and_constants : Rows
 sizes_and_constants =
     (0x3f, reserved (instr.Basic basics.MemorySize)) ∷ (0x40, reserved (instr.Basic basics.MemoryGrow))

@@ -21,7 +21,7 @@ fn opening(kind: BlockKind, block_type: Option<ValType>) -> Instr
     }
 }
 
-/// What opens a block, behind its opcode: one byte for its type (Core 5.3.4).
+/// What opens a block, behind its opcode: one byte for its type (Core 5.3.2).
 #[tactic(auto, unfolding(wasm_bytes::specs::Reading::byte_item, wasm_bytes::specs::Reading::one_of_item, wasm_bytes::specs::Reading::here_item, crate::specs::Reading::block_type_item))]
 fn block(kind: BlockKind, reader: &mut Reader<'_>) -> Result<Code, Malformed>
     ensures item { Reads (made result) reader.new (block_type_item (opening kind) reader.old) }

@@ -125,7 +125,7 @@ impl<'a> Entry<'a> for TableTypes {
     }
 }
 
-/// Whether a global is variable (Core 5.3.10).
+/// Whether a global is variable (Core 5.3.7).
 #[tactic(auto, unfolding(wasm_bytes::specs::Reading::byte_item, wasm_bytes::specs::Reading::one_of_item, wasm_format::specs::Form::mutability_item))]
 fn mutability(input: &mut Input<'_>) -> Result<bool, Malformed>
     ensures item { Reads result input.new (mutability_item input.old) }
@@ -139,7 +139,7 @@ fn mutability(input: &mut Input<'_>) -> Result<bool, Malformed>
     }
 }
 
-/// The type of a global (Core 5.3.10).
+/// The type of a global (Core 5.3.7).
 #[tactic(auto, unfolding(wasm_format::specs::Form::globaltype_item))]
 pub fn global_type(input: &mut Input<'_>) -> Result<(Noted<ValType>, bool), Malformed>
     ensures item { Reads result input.new (globaltype_item input.old) }

@@ -24,6 +24,7 @@ returns-in-Ok-clause-memory g c = λ so. stopped_or_answered c.in-Ok.outcome (An
 
 pub returns-in-Ok-clause-failed : goal.returns-in-Ok-clause-failed
 returns-in-Ok-clause-failed g c = λ so. failed_or_answered c.in-Ok.outcome (Answered (g.D.Devices.shown c.args.devices.now) (g.D.Devices.shown c.respond.new.devices) (map string_bytes c.args.words.now) (g.F.Files.told c.args.files.now) (g.F.Files.told c.respond.new.files)) (λ stop. WordsStop stop (map string_bytes c.args.words.now) (g.D.Devices.shown c.args.devices.now) (g.D.Devices.shown c.respond.new.devices) (g.F.Files.told c.args.files.now) (g.F.Files.told c.respond.new.files)) c.in-Ok.ensures.memory c.in-Ok.ensures.told c.in-Ok.ensures.stops
+    (Rose (g.F.Files.faults c.args.files.now) (g.F.Files.faults c.respond.new.files)) c.in-Ok.ensures.fault
 
 pub returns-in-Ok-clause-named : goal.returns-in-Ok-clause-named
 returns-in-Ok-clause-named g c = named_fault c.in-Ok.outcome (Answered (g.D.Devices.shown c.args.devices.now) (g.D.Devices.shown c.respond.new.devices) (map string_bytes c.args.words.now) (g.F.Files.told c.args.files.now) (g.F.Files.told c.respond.new.files)) (λ stop. WordsStop stop (map string_bytes c.args.words.now) (g.D.Devices.shown c.args.devices.now) (g.D.Devices.shown c.respond.new.devices) (g.F.Files.told c.args.files.now) (g.F.Files.told c.respond.new.files)) c.in-Ok.ensures.memory c.in-Ok.ensures.told c.in-Ok.ensures.stops
