@@ -1,4 +1,4 @@
--- The status and the text that a list of words gets, where files are told.
+-- What a list of words gets: status and text, written files, and what devices log; where files tell nothing, for some contents of them.
 use Rattle.std.specs.Prelude.{◌≡◌, ℕ, List, [], ◌++◌, map, Option, Some, None, IfSome, Result, Ok, Err}
 use Rattle.pm_outside.specs.Contents.{Contents}
 use Rattle.wasm_syntax.specs.declared.quantity.Quantity.TheVariants.{ModuleBytes, DumpBytes}

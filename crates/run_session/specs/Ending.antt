@@ -1,4 +1,4 @@
--- The last line of a list of invocations, and its status.
+-- The status of a list of invocations, and the line of a host that stopped.
 use Rattle.std.specs.Prelude.{ℕ, nat_lt, List, ◌++◌, Option, Some, None, if◌then◌else◌, codes}
 use Rattle.wasm_syntax.specs.Run.{Outcome, not_started, finished, trapped, lacks_reply, misfits, running, got_stuck}
 use Rattle.command_answers.specs.declared.status.Status.{Status}
