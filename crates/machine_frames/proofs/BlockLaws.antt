@@ -1,12 +1,12 @@
 -- Blocks are opened and left.
 use Rattle.std.proofs.Common.{◌≡◌, ℕ, zero, suc, ◌+◌, List, [], ◌∷◌, ◌++◌, length, reverse, refl, sym, ap, subst, ◌∙◌, inl, inr, ⊎_elim}
-use Rattle.std.specs.Prelude.{◌⊎◌, ◌==◌, if◌then◌else◌, Option, Some, None, slice_get}
+use Rattle.std.specs.Prelude.{◌⊎◌, ◌==◌, if◌then◌else◌, Option, Some, None, slice_get, unwrap_or}
 use Rattle.wasm_syntax.specs.declared.value.ValType.{ValType}
 use Rattle.wasm_syntax.specs.declared.value.Value.{Value}
 use Rattle.wasm_syntax.specs.declared.value.Value.TheVariants as values
 use Rattle.wasm_syntax.specs.Tree.{Nodes, stop, basic, jump, block, loop, choose, Opens, OpensLoop, OpensIf}
 use Rattle.wasm_syntax.specs.Machine as steps
-use Rattle.wasm_syntax.specs.Machine.{Kind, leaves, again, Label, label, config, joined, runs, else_or}
+use Rattle.wasm_syntax.specs.Machine.{Kind, leaves, again, Label, label, config, joined, runs}
 use Rattle.machine_code.specs.declared.sides.Side.{Side}
 use Rattle.machine_code.specs.declared.code.Code.{Code}
 use Rattle.machine_code.specs.Code.{items, gives_one}
@@ -95,8 +95,8 @@ module _ (x : Point) (m : CallStack) (code : Code) (h : Inner x m code) where
           by_test (suc k) vs q =
               let pos : chosen (suc k) side next ≡ suc m.position = ap (λ z. if z then side.arm else next) (eqb-suc-zero k) ∙ p in
               subst (λ y. Meets x Next (steps.chooses x.engine (values.I32 (suc k) ∷ vs) u a ea b e rest x.frame x.label x.outer x.callers x.world x.collected) (opened popped side.end y (chosen (suc k) side next))) same
-              (opens a (else_or ea e) (leaves u) (label vs rest x.label.end x.label.kind) side.end (chosen (suc k) side next) u popped q
-              (subst (λ z. LabelsAt x m code h (label [] a (else_or ea e) (leaves u) ∷ label vs rest x.label.end x.label.kind ∷ x.outer) z (control side.end (length (vs ++ joined x.outer) + floor_at x m code h) u ∷ h.level.mine)) (sym pos)
+              (opens a (unwrap_or ea e) (leaves u) (label vs rest x.label.end x.label.kind) side.end (chosen (suc k) side next) u popped q
+              (subst (λ z. LabelsAt x m code h (label [] a (unwrap_or ea e) (leaves u) ∷ label vs rest x.label.end x.label.kind ∷ x.outer) z (control side.end (length (vs ++ joined x.outer) + floor_at x m code h) u ∷ h.level.mine)) (sym pos)
               (enters_then (items code) code.sides x.frame.result (floor_at x m code h) o u a ea b e rest vs x.label.operands x.label.end x.label.kind x.outer m.position side h.level.mine ls s)))
 
   -- without an i32 on top an `if` is stuck

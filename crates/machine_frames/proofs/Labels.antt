@@ -1,12 +1,12 @@
 -- How a frame's labels change with its position and its controls.
 use Rattle.std.proofs.Common.{◌≡◌, ℕ, zero, suc, ◌+◌, ◌≤◌, List, [], ◌∷◌, ◌++◌, length, drop, refl, sym, ap, subst, ◌∙◌, append_assoc, arith, inl, inr, ⊎_elim}
-use Rattle.std.specs.Prelude.{Bool, true, false, Option, Some, None, slice_get, ◌⊎◌}
+use Rattle.std.specs.Prelude.{Bool, true, false, Option, Some, None, slice_get, ◌⊎◌, unwrap_or}
 use Rattle.wasm_syntax.specs.declared.value.ValType.{ValType}
 use Rattle.wasm_syntax.specs.declared.value.Value.{Value}
 use Rattle.wasm_syntax.specs.Numbers.{type_of, same_type}
 use Rattle.wasm_syntax.specs.declared.instruction.Basic.{Basic}
 use Rattle.wasm_syntax.specs.Tree.{Jump, Nodes, stop, basic, jump, block, loop, choose, Item, Plain, Goes, Opens, OpensLoop, OpensIf, Else, End, Placed}
-use Rattle.wasm_syntax.specs.Machine.{Kind, leaves, again, returns, Label, label, inside, nowhere, joined, branch, land, top, exactly, arrive_some, out_some, if_so, else_or}
+use Rattle.wasm_syntax.specs.Machine.{Kind, leaves, again, returns, Label, label, inside, nowhere, joined, branch, land, top, exactly, arrive_some, out_some}
 use Rattle.machine_code.specs.declared.sides.Side.{Side}
 use Rattle.machine_code.specs.Flat.{Is, At, size, else_size}
 use Rattle.machine_code.specs.Code.{gives_one}
@@ -14,6 +14,7 @@ use Rattle.machine_frames.specs.declared.layout.Control.{Control}
 use Rattle.machine_frames.specs.Layout.{control, Under, Labels}
 use Rattle.machine_frames.specs.inner.Moves.{Carried}
 use Rattle.pm_text.proofs.Lists.{some_is}
+use Rattle.std.specs.Bool.{then_some}
 
 -- the instruction of a first node; where there is none, what closes a label
 abbrev pub First : Nodes → Item → Type 0
@@ -36,7 +37,7 @@ pub record Splits (t : Option ValType) (vs taken : List Value) : Type 0 where
   pub parts : vs ≡ taken ++ gone
   pub carried : Carried (gives_one t) taken
 
-top_one : (b : Bool) (v : Value) (vs taken : List Value) (t : ValType) → if_so b (v ∷ []) ≡ Some taken → Splits (Some t) (v ∷ vs) taken
+top_one : (b : Bool) (v : Value) (vs taken : List Value) (t : ValType) → then_some b (v ∷ []) ≡ Some taken → Splits (Some t) (v ∷ vs) taken
 top_one false v vs taken t e = absurd (cc)
 top_one true v vs taken t e = let q : v ∷ [] ≡ taken = some_is e in record { gone = vs; parts = ap (λ l. l ++ vs) q; carried = (v, sym q) }
 
@@ -45,7 +46,7 @@ top_splits None vs taken e = let q : [] ≡ taken = some_is e in record { gone =
 top_splits (Some t) [] taken e = absurd (cc)
 top_splits (Some t) (v ∷ vs) taken e = top_one (same_type (type_of v) t) v vs taken t e
 
-all_one : (b : Bool) (v : Value) (taken : List Value) → if_so b (v ∷ []) ≡ Some taken → v ∷ [] ≡ taken
+all_one : (b : Bool) (v : Value) (taken : List Value) → then_some b (v ∷ []) ≡ Some taken → v ∷ [] ≡ taken
 all_one false v taken e = absurd (cc)
 all_one true v taken e = some_is e
 
@@ -154,7 +155,7 @@ module _ (code : List Placed) (sides : List Side) where
 
     pub enters_then : (o : ℕ) (t : Option ValType) (a : Nodes) (ea : Option ℕ) (b : Nodes) (e : ℕ) (rest : Nodes) (vs ws : List Value) (end : ℕ) (kind : Kind) (ls : List Label) (pc : ℕ) (side : Side) (ks : List Control) →
         Labels code sides result floor (label ws (choose o t a ea b e rest) end kind ∷ ls) pc ks → slice_get sides pc ≡ Some side →
-        Labels code sides result floor (label [] a (else_or ea e) (leaves t) ∷ label vs rest end kind ∷ ls) (suc pc) (control side.end (length (vs ++ joined ls) + floor) t ∷ ks)
+        Labels code sides result floor (label [] a (unwrap_or ea e) (leaves t) ∷ label vs rest end kind ∷ ls) (suc pc) (control side.end (length (vs ++ joined ls) + floor) t ∷ ks)
     enters_then o t a None b e rest vs ws end kind ls pc side ks h s =
         let q : side.end ≡ suc (suc pc + size a + size b) = ap (λ (x : Side). x.end) (some_is (sym s ∙ h.0.6)) in
         let z : size b ≡ 0 = ap size h.0.7 in

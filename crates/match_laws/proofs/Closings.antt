@@ -17,9 +17,10 @@ use Rattle.wasm_syntax.specs.Tree.{Jump, Unreachable, Br, BrIf, BrTable, Return,
 use Rattle.wasm_syntax.specs.Module.{Function, imported, defined, function_at, same_types}
 use Rattle.wasm_syntax.specs.Host.{World, Answer, replied, told, silent, misfit, answer}
 use Rattle.wasm_syntax.specs.Effect.{Effect, gives, fails, unfit, effect, takes}
-use Rattle.wasm_syntax.specs.Machine.{Kind, leaves, again, returns, Label, Frame, Config, frame, Engine, Stepped, Cut, short, parts, cut, exactly, top, Went, inside, outside, nowhere, arrive, arrive_some, out_some, leave, loops, land, branch, carry, same_carry, pick, else_or, function_type, entered, host_call, goes_to, deliver, moved, host, enters, applied, applied_if, calls_on, calls, calls_if, fits_entry, calls_entry, calls_typed, calls_indirect, branch_if, moved_if, branch_table, jumps, affects, does, opens_arm, chooses, runs, in_frame, steps, step}
+use Rattle.wasm_syntax.specs.Machine.{Kind, leaves, again, returns, Label, Frame, Config, frame, Engine, Stepped, Cut, short, parts, cut, exactly, top, Went, inside, outside, nowhere, arrive, arrive_some, out_some, leave, loops, land, branch, carry, same_carry, pick, function_type, entered, host_call, goes_to, deliver, moved, host, enters, applied, applied_if, calls_on, calls, calls_if, fits_entry, calls_entry, calls_typed, calls_indirect, branch_if, moved_if, branch_table, jumps, affects, does, opens_arm, chooses, runs, in_frame, steps, step}
 use Rattle.wasm_validate.specs.Instructions.{is_node}
 use Rattle.match_laws.proofs.RunStates.{OnFrames}
+use Rattle.std.specs.Prelude.{unwrap_or}
 
 -- ---- the nodes of a body
 
@@ -30,7 +31,7 @@ Closed C (basic at i rest) = Closed C rest
 Closed C (jump at j rest) = Closed C rest
 Closed C (block at t body end rest) = C end × Closed C body × Closed C rest
 Closed C (loop at t body end rest) = C end × Closed C body × Closed C rest
-Closed C (choose at t a else_at b end rest) = C (else_or else_at end) × C end × Closed C a × Closed C b × Closed C rest
+Closed C (choose at t a else_at b end rest) = C (unwrap_or else_at end) × C end × Closed C a × Closed C b × Closed C rest
 
 -- an `else` or `end` stands at such an offset
 abbrev pub ClosesIf : (ℕ → Type 0) → ℕ → Item → Type 0
@@ -237,11 +238,11 @@ module _ (M : Engine) (K : ℕ → ℕ → Type 0) (begins : (g : ℕ) (b : Body
       arm_closes : (t : Option ValType) (arm : Nodes) (end : ℕ) (vs : List Value) (rest : Nodes) → C end → Closed C arm → Closed C rest → F (opens_arm M t arm end vs rest f l ls fs w co)
       arm_closes t arm end vs rest e a r = (((e, a, tt), ((here.0, r, here.2), out)), h)
 
-      chooses_closes : (vs : List Value) (t : Option ValType) (a : Nodes) (else_at : Option ℕ) (b : Nodes) (end : ℕ) (rest : Nodes) → C (else_or else_at end) → C end → Closed C a → Closed C b → Closed C rest → F (chooses M vs t a else_at b end rest f l ls fs w co)
+      chooses_closes : (vs : List Value) (t : Option ValType) (a : Nodes) (else_at : Option ℕ) (b : Nodes) (end : ℕ) (rest : Nodes) → C (unwrap_or else_at end) → C end → Closed C a → Closed C b → Closed C rest → F (chooses M vs t a else_at b end rest f l ls fs w co)
       chooses_closes [] t a else_at b end rest x y p q r = tt
       chooses_closes (values.I64 c ∷ vs) t a else_at b end rest x y p q r = tt
       chooses_closes (values.I32 zero ∷ vs) t a else_at b end rest x y p q r = arm_closes t b end vs rest y q r
-      chooses_closes (values.I32 (suc c) ∷ vs) t a else_at b end rest x y p q r = arm_closes t a (else_or else_at end) vs rest x p r
+      chooses_closes (values.I32 (suc c) ∷ vs) t a else_at b end rest x y p q r = arm_closes t a (unwrap_or else_at end) vs rest x p r
 
       runs_closes : (nodes : Nodes) → Closed C nodes → F (runs M nodes f l ls fs w co)
       runs_closes stop r = moved_closes (leave l.kind l.operands ls) (leave_closes C l.kind l.operands ls out)

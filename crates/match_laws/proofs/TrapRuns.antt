@@ -15,7 +15,7 @@ use Rattle.wasm_syntax.specs.Host.{World, Answer, replied, told, silent, misfit,
 use Rattle.wasm_syntax.specs.Machine.{Frame, Config, config, Engine, Stepped, next, ends, traps, no_reply, bad_reply, stuck, zeros, result_of, function_type, entered, host_call, step}
 use Rattle.wasm_syntax.specs.Typing.{Types, body_context}
 use Rattle.wasm_syntax.specs.Static.{Live}
-use Rattle.wasm_syntax.specs.Run.{run_on, run_steps, host_alone, run_alone, run_function, Ran, ran_to, run_entry, go_on, invoked, engine, start_world, Cause, or_else, cause_of_entry, cause_of_segments, if_fits as entry_fits, goes_on, fresh, session, unless, run, cause_of, Invocation}
+use Rattle.wasm_syntax.specs.Run.{run_on, run_steps, host_alone, run_alone, run_function, Ran, ran_to, run_entry, go_on, invoked, engine, start_world, Cause, cause_of_entry, cause_of_segments, if_fits as entry_fits, goes_on, fresh, session, unless, run, cause_of, Invocation}
 use Rattle.wasm_laws.proofs.Progress.{types_append, zero_types}
 use Rattle.wasm_laws.proofs.Safe.{one_result, AnswerFine, answer_fine, Typed}
 use Rattle.wasm_laws.proofs.Never.{Startable}
@@ -28,6 +28,7 @@ use Rattle.match_laws.proofs.Begins.{world_begins}
 use Rattle.match_laws.proofs.Images.{trap_matches}
 use Rattle.pm_text.proofs.Lists.{some_is}
 use Rattle.wasm_syntax.proofs.Types.{same_types_are}
+use Rattle.std.specs.Option.{option_or}
 
 -- frames in live code, or none
 abbrev pub StandAt : Program → List Frame → Type 0
@@ -92,7 +93,7 @@ module _ (M : Engine) (typed : Typed M.program) where
       let fn = typed.functions f type tf in
       subst (λ q. Going p (run_function M n f q args w co).what) (sym fn.1) (by_function n f fn.0 args w co fn.1 (ty ∙ ap (λ t. t.params) (sym fn.2)) wf)
 
-no_cause : (a b : Option Cause) → or_else a b ≡ None → (a ≡ None) × (b ≡ None)
+no_cause : (a b : Option Cause) → option_or a b ≡ None → (a ≡ None) × (b ≡ None)
 no_cause None b e = (refl, e)
 no_cause (Some c) b e = absurd (cc)
 

@@ -5,7 +5,7 @@ use Rattle.wasm_syntax.specs.declared.value.Value.{Value}
 use Rattle.wasm_syntax.specs.declared.module.ModuleParts.{ModuleParts as Module}
 use Rattle.wasm_syntax.specs.Numbers.{types}
 use Rattle.wasm_syntax.specs.Module.{function_export, same_types, type_at}
-use Rattle.wasm_syntax.specs.Run.{Cause, no_export, bad_arguments, element_out, data_out, if_fits, cause_of_entry, cause_of_segments, or_else}
+use Rattle.wasm_syntax.specs.Run.{Cause, no_export, bad_arguments, element_out, data_out, if_fits, cause_of_entry, cause_of_segments}
 use Rattle.wasm_machine.specs.Entries.{unserved, fault_or}
 use Rattle.machine_start.specs.declared.started.StartFault.{StartFault}
 use Rattle.machine_start.specs.declared.started.StartFault.TheVariants as starts
@@ -13,6 +13,7 @@ use Rattle.wasm_machine.specs.Instances.{State, Begins}
 use Rattle.replay.specs.Replays.{Recording, cause_in}
 use Rattle.replay.specs.Moves.{IsFault}
 use Rattle.replay.specs.inner.Starting.{early, of_segments, Started}
+use Rattle.std.specs.Option.{option_or}
 
 -- of an entry there are two causes
 pub data OfEntry : Option Cause → Type 0 where
@@ -34,7 +35,7 @@ none_early c i none e = refl
 none_early c i not_exported e = absurd (cc)
 none_early c i not_taken e = absurd (cc)
 
-pub some_early : (x : Recording) (c : Option Cause) (i : Option ℕ) → OfEntry c → cause_in x ≡ or_else c (cause_of_segments x.module_) → IfSome (early (fault_or c (unserved i))) (λ fault. IsFault fault x)
+pub some_early : (x : Recording) (c : Option Cause) (i : Option ℕ) → OfEntry c → cause_in x ≡ option_or c (cause_of_segments x.module_) → IfSome (early (fault_or c (unserved i))) (λ fault. IsFault fault x)
 some_early x c None none e = tt
 some_early x c (Some i) none e = tt
 some_early x c i not_exported e = e
@@ -45,7 +46,7 @@ some_early x c i not_taken e = e
 -- where the entry has no cause, that of the segments is the run's
 module _ (x : Recording) (none : cause_of_entry x.module_ (function_export x.module_ x.entry) x.args ≡ None) where
   by_segments : (o : Option Cause) → cause_of_segments x.module_ ≡ o → cause_in x ≡ o
-  by_segments o is = ap (λ (c : Option Cause). or_else c (cause_of_segments x.module_)) none ∙ is
+  by_segments o is = ap (λ (c : Option Cause). option_or c (cause_of_segments x.module_)) none ∙ is
 
   pub started_well : (m : Module) (s : State) → m ≡ x.module_ → Begins (Ok s) m → Started (Ok s) x
   started_well m s same b =

@@ -8,7 +8,7 @@ use Rattle.wasm_syntax.specs.Numbers.{type_of, types, same_type}
 use Rattle.wasm_syntax.specs.Tree.{Nodes, basic}
 use Rattle.wasm_syntax.specs.Host.{World}
 use Rattle.wasm_syntax.specs.declared.host.CollectorCall.{CollectorCall}
-use Rattle.wasm_syntax.specs.Machine.{Config, Engine, Stepped, next, ends, traps, no_reply, bad_reply, stuck, Cut, short, parts, one_more, cut, if_so, top, exactly, deliver, step}
+use Rattle.wasm_syntax.specs.Machine.{Config, Engine, Stepped, next, ends, traps, no_reply, bad_reply, stuck, Cut, short, parts, one_more, cut, top, exactly, deliver, step}
 use Rattle.rewrite_bodies.specs.Slots.{Place, Spilled, Known, Ctx, slot, kind_at, added, less}
 use Rattle.rewrite_bodies.specs.Pieces.{get, set, const, fetch, load, store, to_result, from_result}
 use Rattle.rewrite_bodies.specs.Rewrite.{result_back}
@@ -16,6 +16,7 @@ use Rattle.rewrite_bodies.specs.Agreement.{One, Holds}
 use Rattle.rewrite_bodies.specs.inner.Steps.{went, run, Gets, To, Shell, st}
 use Rattle.wasm_laws.proofs.Progress.{get_type, same_of}
 use Rattle.wasm_syntax.proofs.Types.{same_type_is}
+use Rattle.std.specs.Bool.{then_some}
 
 pub slice_get-append : {A : Type 0} (l ex : List A) (n h : ℕ) → n ≡ length l → slice_get (l ++ ex) (n + h) ≡ slice_get ex h
 slice_get-append [] ex n h e = ap (slice_get ex) (omega arith)
@@ -85,7 +86,7 @@ abbrev pub HasPlace : Option ValType → (ValType → ℕ) → List Value → Ty
 HasPlace None i ex = Unit {0}
 HasPlace (Some t) i ex = slice_get (types ex) (i t) ≡ Some t
 
-pub if_same : {A : Type 0} (b : Bool) (x y : A) → if_so b x ≡ Some y → (b ≡ true) × (x ≡ y)
+pub if_same : {A : Type 0} (b : Bool) (x y : A) → then_some b x ≡ Some y → (b ≡ true) × (x ≡ y)
 if_same false x y e = absurd (cc)
 if_same true x y e = (refl, cc)
 

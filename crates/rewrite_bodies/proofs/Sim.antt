@@ -12,7 +12,7 @@ use Rattle.wasm_syntax.specs.Tree.{Nodes, stop, basic, jump, block, loop, choose
 use Rattle.wasm_syntax.specs.Host.{World}
 use Rattle.wasm_syntax.specs.declared.host.CollectorCall.{CollectorCall}
 use Rattle.wasm_syntax.specs.Effect.{gives, unfit, effect, takes}
-use Rattle.wasm_syntax.specs.Machine.{Kind, leaves, again, Label, Frame, Config, label, frame, config, Engine, next, parts, cut, else_or, chooses}
+use Rattle.wasm_syntax.specs.Machine.{Kind, leaves, again, Label, Frame, Config, label, frame, config, Engine, next, parts, cut, chooses}
 use Rattle.rewrite_bodies.specs.Slots.{Place, Known, Ctx, slot, kind_at, added, less, grown, result_type, after_plain}
 use Rattle.rewrite_bodies.specs.Rewrite.{Info, unwind, tested, guarded, plain, rewrite}
 use Rattle.rewrite_bodies.specs.Numbering.{mapped, global_types}
@@ -26,6 +26,7 @@ use Rattle.rewrite_bodies.proofs.Parts.{Rel, framed, match_of, cut_all, fits_sto
 use Rattle.rewrite_bodies.proofs.Guards.{guard_to}
 use Rattle.rewrite_bodies.specs.Offsets.{SmallOffset}
 use Rattle.rewrite_bodies.specs.inner.Standing.{After}
+use Rattle.std.specs.Prelude.{unwrap_or}
 
 -- a frame with other locals, labels and places, under a call or not
 pub refit_under : {M : Engine} {E : ℕ} {gl : List ValType} {a : Option ValType} {ix cl : ℕ} {r : Option ValType} {l : List Value} {Ls : List Label} {w : Wit} (l' : List Value) (Ls' : List Label) (ex' : List Value) (ss' : List (List Place)) (others : Option Nodes) (b : Option ValType) (cl' : ℕ) → FitsFrame M E gl a (frame ix r cl l Ls) w → types l' ≡ types l → types ex' ≡ types w.ex → FitsOpen w.ctx ex' b Ls' ss' → NoKind w.ctx ex' others → FitsFrame M E gl b (frame ix r cl' l' Ls') (record { ctx = w.ctx; ex = ex'; ss = ss'; others = others })
@@ -82,7 +83,7 @@ length-types (v ∷ l) = ap suc (length-types l)
 pub len_of : (l : List Value) (ts : List ValType) → types l ≡ ts → length ts ≡ length l
 len_of l ts e = ap length (sym e) ∙ length-types l
 
-pub ends_zero : (ea : Option ℕ) → else_or (option_map (λ at. 0) ea) 0 ≡ 0
+pub ends_zero : (ea : Option ℕ) → unwrap_or (option_map (λ at. 0) ea) 0 ≡ 0
 ends_zero None = refl
 ends_zero (Some at) = refl
 

@@ -13,12 +13,13 @@ use Rattle.wasm_syntax.specs.declared.module.ModuleParts.{ModuleParts as Module}
 use Rattle.wasm_syntax.specs.Module.{Program, Function, imported, defined, function_at, const_value, function_export}
 use Rattle.wasm_syntax.specs.Host.{World, Answer, replied, told, silent, misfit, answer}
 use Rattle.wasm_syntax.specs.Machine.{Config, config, Engine, Stepped, next, ends, traps, no_reply, bad_reply, stuck, entered, host_call, step, zero_of}
-use Rattle.wasm_syntax.specs.Run.{Cause, initial_globals, i32_or_zero, over, first_false, table_min, empty_memory, memory_bytes, globals_at_start, element_at, data_at, element_fits, data_fits, start_world, Ended, ended, host_alone, run_on, run_steps, run_alone, run_function, Outcome, not_started, finished, trapped, lacks_reply, misfits, running, got_stuck, Ran, ran_to, run_entry, go_on, invoked, by_data, by_element, cause_of_entry, or_else, Invocation, cause_of, goes_on, fresh, session, unless, engine, run}
+use Rattle.wasm_syntax.specs.Run.{Cause, initial_globals, i32_or_zero, over, first_false, table_min, empty_memory, memory_bytes, globals_at_start, element_at, data_at, element_fits, data_fits, start_world, Ended, ended, host_alone, run_on, run_steps, run_alone, run_function, Outcome, not_started, finished, trapped, lacks_reply, misfits, running, got_stuck, Ran, ran_to, run_entry, go_on, invoked, by_data, by_element, cause_of_entry, Invocation, cause_of, goes_on, fresh, session, unless, engine, run}
 use Rattle.linear_memory.specs.Memory.{Memory}
 use Rattle.rewrite_modules.specs.Bare.{bare, bare_config, bare_ran}
 use Rattle.wasm_syntax.specs.SameCode.{op_code, code_alone, global_code, element_code, segment_code}
 use Rattle.rewrite_modules.proofs.BareStep.{bare_stepped, bare_function, function_bare, bare_engine, step_bare}
 use Rattle.rewrite_modules.specs.Simulates.{EndsAlike, SameState, Alike, AllAlike, Simulates}
+use Rattle.std.specs.Option.{option_or}
 
 abbrev pub bare_ended : Ended → Ended
 bare_ended e = ended (bare_stepped e.what) e.left
@@ -168,7 +169,7 @@ module _ (m : Module) where
 
   cause_same : (is : List Invocation) → cause_of m' is ≡ cause_of m is
   cause_same [] = ap (λ bs. by_element m' (first_false 0 bs)) (element_tests m.elements) ∙ by_element_same (first_false 0 (map (element_fits m) m.elements))
-  cause_same (i ∷ is) = ap (or_else (cause_of_entry m (function_export m i.name) i.args)) (cause_same is)
+  cause_same (i ∷ is) = ap (option_or (cause_of_entry m (function_export m i.name) i.args)) (cause_same is)
 
 unless_bare : (M : Engine) (c : Option Cause) (is : List Invocation) (replies : List Reply) (n : ℕ) → unless (bare_engine M) c is replies n ≡ map bare_ran (unless M c is replies n)
 unless_bare M None is replies n = ap (λ w. session (bare_engine M) is M.program.module_.start w n) (world_same M.program.module_ replies) ∙ session_bare M is M.program.module_.start (start_world M.program.module_ replies) n

@@ -15,7 +15,7 @@ use Rattle.rewrite_bodies.specs.Numbering.{global_types}
 use Rattle.rewrite_bodies.specs.inner.Steps.{st}
 use Rattle.rewrite_bodies.specs.Agreement.{WorldFits, flagged}
 use Rattle.std.proofs.lemmas.Bool.{eqb-true}
-use Rattle.wasm_syntax.specs.Run.{Ended, ended, run_function, engine, start_world, cause_of_segments, cause_of_entry, Outcome, not_started, finished, lacks_reply, misfits, running, got_stuck, Ran, ran_to, not_begun, run_entry, go_on, invoked, if_fits as entry_fits, or_else, Cause, goes_on, fresh, session, run, Invocation}
+use Rattle.wasm_syntax.specs.Run.{Ended, ended, run_function, engine, start_world, cause_of_segments, cause_of_entry, Outcome, not_started, finished, lacks_reply, misfits, running, got_stuck, Ran, ran_to, not_begun, run_entry, go_on, invoked, if_fits as entry_fits, Cause, goes_on, fresh, session, run, Invocation}
 use Rattle.rewrite_modules.specs.Instrument.{new_module, instrument}
 use Rattle.rewrite_modules.proofs.SlotMultiple.{slot_multiple}
 use Rattle.rewrite_bodies.specs.Slots.{greatest}
@@ -26,6 +26,7 @@ use Rattle.rewrite_modules.proofs.Start.{world_start, segments_same, Outside, Na
 use Rattle.wasm_laws.specs.Runs.{NoneStuck}
 use Rattle.rewrite_modules.proofs.Final.{Fits, part, St, Invoked_so, invoked_alone, invoked_behind, world_alike, trap_alike, start_fits, out_type, go1}
 use Rattle.wasm_syntax.proofs.Types.{same_types_are}
+use Rattle.std.specs.Option.{option_or}
 
 other_kind : (k : ℕ) (q : Bool) → (k == 8) ≡ q → (k ≡ 8 → ⊥) → (k == 8) ≡ false
 other_kind k false t n8 = t
@@ -294,9 +295,9 @@ module _ (p : Program) (fit : Fits p) (d : ℕ) (deep : 0 < d) (low : d ≤ 1000
 
   causes_same : (is : List Invocation) → runs_.cause_of (new_module p) is ≡ runs_.cause_of m is
   causes_same [] = segments_same p
-  causes_same (i ∷ is) = ap₂ or_else (entry_cause i (function_export m i.name) refl) (causes_same is)
+  causes_same (i ∷ is) = ap₂ option_or (entry_cause i (function_export m i.name) refl) (causes_same is)
 
-  no_cause : (a b : Option Cause) → or_else a b ≡ None → (a ≡ None) × (b ≡ None)
+  no_cause : (a b : Option Cause) → option_or a b ≡ None → (a ≡ None) × (b ≡ None)
   no_cause None b e = (refl, e)
   no_cause (Some c) b e = absurd (cc)
 

@@ -22,7 +22,7 @@ use Rattle.rewrite_modules.proofs.Bounds.{Static}
 use Rattle.std.specs.List.{AllByRecursion}
 use Rattle.wasm_syntax.specs.declared.parts.DataSeg.{DataSeg}
 use Rattle.wasm_syntax.specs.declared.parts.Limits.{Limits}
-use Rattle.wasm_syntax.specs.Run.{Cause, Invocation, not_begun, first_false, table_min, start_table, element_at, empty_memory, memory_bytes, data_at, element_fits, data_fits, by_data, by_element, cause_of, cause_of_entry, cause_of_segments, or_else, unless, engine, run, start_world}
+use Rattle.wasm_syntax.specs.Run.{Cause, Invocation, not_begun, first_false, table_min, start_table, element_at, empty_memory, memory_bytes, data_at, element_fits, data_fits, by_data, by_element, cause_of, cause_of_entry, cause_of_segments, unless, engine, run, start_world}
 use Rattle.wasm_syntax.specs.Run as runs_
 use Rattle.rewrite_modules.specs.Simulates.{Simulates, AllAlike, NoneDeep}
 use Rattle.rewrite_modules.proofs.Links.{Ready}
@@ -32,6 +32,7 @@ use Rattle.wasm_laws.proofs.Never.{Startable, never_stuck as never_stuck_all}
 use Rattle.rewrite_modules.proofs.Sessions.{simulates_all}
 use Rattle.rewrite_modules.specs.Given.{SmallCode, Given}
 use Rattle.wasm_laws.proofs.Validity.{startable}
+use Rattle.std.specs.Option.{option_or}
 
 -- ---- the types that are asked for have helpers
 
@@ -240,7 +241,7 @@ module _ (p : Program) (given : Given p) where
 
   no_export : (i : Invocation) (is : List Invocation) (replies : List Reply) (d n : ℕ) → function_export p.module_ i.name ≡ None → SimulatesHere (i ∷ is) replies d n
   no_export i is replies d n e =
-      by_cause (i ∷ is) replies d n runs_.no_export (ap (λ q. or_else (cause_of_entry p.module_ q i.args) (cause_of p.module_ is)) e) (ap (λ q. or_else (cause_of_entry (new_module p) q i.args) (cause_of (new_module p) is)) (unnamed p i.name e))
+      by_cause (i ∷ is) replies d n runs_.no_export (ap (λ q. option_or (cause_of_entry p.module_ q i.args) (cause_of p.module_ is)) e) (ap (λ q. option_or (cause_of_entry (new_module p) q i.args) (cause_of (new_module p) is)) (unnamed p i.name e))
 
   with_export : (is : List Invocation) (replies : List Reply) (d n : ℕ) → 1 ≤ d → d ≤ 10000 → NoneDeep (run p false is replies d n) → length p.module_.globals ≤ 20000000 → SimulatesHere is replies d n
   with_export is replies d n d1 d2 nd few = simulates_all p (fits_given p given few) (λ is replies d n. never_stuck_all p (startable_given p given) false is replies d n) is replies d n d1 d2 nd

@@ -13,7 +13,7 @@ use Rattle.wasm_syntax.specs.declared.host.Served.{Served}
 use Rattle.wasm_syntax.specs.declared.host.CollectorCall.{CollectorCall}
 use Rattle.wasm_syntax.specs.declared.module.ModuleParts.{ModuleParts as Module}
 use Rattle.wasm_syntax.specs.Module.{Program, IsProgram, function_export}
-use Rattle.wasm_syntax.specs.Run.{Cause, no_export, bad_arguments, element_out, data_out, cause_of_entry, cause_of_segments, cause_of, or_else, Invocation, Outcome as RunOutcome, not_started, finished, trapped, lacks_reply, misfits, running, got_stuck, Ran, session, start_world, unless, run, engine}
+use Rattle.wasm_syntax.specs.Run.{Cause, no_export, bad_arguments, element_out, data_out, cause_of_entry, cause_of_segments, cause_of, Invocation, Outcome as RunOutcome, not_started, finished, trapped, lacks_reply, misfits, running, got_stuck, Ran, session, start_world, unless, run, engine}
 use Rattle.host_devices.specs.Given.{replies_of, module_name}
 use Rattle.machine_hosted.specs.Settings.{world_of}
 use Rattle.host_devices.specs.Given.{unfitting}
@@ -32,16 +32,17 @@ use Rattle.run_session.specs.inner.Answers.{device_cause, misfit_cause}
 use Rattle.run_session.specs.Ending.{host_stopped, told_status}
 use Rattle.run_session.specs.inner.Progress.{session_from}
 use Rattle.run_session.specs.inner.Sessions.{point_of, EndsIn, ToldEndsIn, RanAll}
-use Rattle.run_command.specs.Starting.{or_text, cause_text, entries_text}
+use Rattle.run_command.specs.Starting.{cause_text, entries_text}
 use Rattle.run_command.specs.Hosting.{Hosting, scripted}
 use Rattle.run_command.specs.Recorded.{recorded, served_in, IsReadBack}
 use Rattle.run_command.specs.AllRan.{end_text, told_end, ran_to_end}
 use Rattle.run_command.specs.RunAnswer.{hosting, script_replies, UsesUp, EndUsesUp, HasFailed, EndHasFailed, RunsTo}
 use Rattle.wasm_decode.proofs.Sounds.{map_length}
+use Rattle.std.specs.Option.{option_or}
 
 -- ---- no cause, no refusal
 
-pub none_then : (name : List ℕ) (o : Option Cause) (t : Option (List ℕ)) → or_text (cause_text name o) t ≡ None → (o ≡ None) × (t ≡ None)
+pub none_then : (name : List ℕ) (o : Option Cause) (t : Option (List ℕ)) → option_or (cause_text name o) t ≡ None → (o ≡ None) × (t ≡ None)
 none_then name None t e = (refl, e)
 none_then name (Some no_export) t e = absurd cc
 none_then name (Some bad_arguments) t e = absurd cc
@@ -52,7 +53,7 @@ pub no_cause : (m : Module) (is : List Invocation) → entries_text m is ≡ Non
 no_cause m [] e segments = segments
 no_cause m (i ∷ is) e segments =
     let parts = none_then i.name (cause_of_entry m (function_export m i.name) i.args) (entries_text m is) e in
-    ap (λ o. or_else o (cause_of m is)) parts.0 ∙ no_cause m is parts.1 segments
+    ap (λ o. option_or o (cause_of m is)) parts.0 ∙ no_cause m is parts.1 segments
 
 -- ---- the last line
 

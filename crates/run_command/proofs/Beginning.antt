@@ -24,7 +24,7 @@ use Rattle.run_words.specs.declared.invocation.Invocation.{Invocation as Invocat
 use Rattle.host_collector.specs.Collecting.{CollectingState, is_told, is_collected, serves as collected}
 use Rattle.run_session.specs.inner.Collecting.{serving_of}
 use Rattle.run_session.specs.Invocations.{invocation_of}
-use Rattle.run_command.specs.Starting.{or_text, cause_text, segment_of, entries_text}
+use Rattle.run_command.specs.Starting.{cause_text, segment_of, entries_text}
 use Rattle.run_command.specs.Hosting.{is_replied, is_one_of, is_served, import_text, first_unserved, start_text}
 use Rattle.run_command.specs.RunAnswer.{hosting}
 use Rattle.run_command.specs.inner.Begun.{fault_text, import_in, start_cause, HasBegun}
@@ -32,6 +32,7 @@ use Rattle.run_command.specs.declared.running.Begun.{Begun}
 use Rattle.run_command.specs.declared.running.Begun.TheVariants.{Ready}
 use Rattle.run_command.proofs.Answering.{none_then}
 use Rattle.run_command.proofs.Entries.{own_text}
+use Rattle.std.specs.Option.{option_or}
 
 -- ---- one entry
 
@@ -74,9 +75,9 @@ module _ (serving : Import → FuncType → Bool) (m : Module) (i : InvocationWo
 
 -- what is looked at before the segments
 abbrev pub early : (Import → FuncType → Bool) → Module → List Invocation → Option (List ℕ)
-early serving m is = or_text (entries_text m is) (import_text (machine.first_unserved serving m))
+early serving m is = option_or (entries_text m is) (import_text (machine.first_unserved serving m))
 
-some_first : (a b c : Option (List ℕ)) (t : List ℕ) → or_text a b ≡ Some t → or_text a (or_text b c) ≡ Some t
+some_first : (a b c : Option (List ℕ)) (t : List ℕ) → option_or a b ≡ Some t → option_or a (option_or b c) ≡ Some t
 some_first None None c t e = absurd cc
 some_first None (Some x) c t e = e
 some_first (Some x) b c t e = e
@@ -97,15 +98,15 @@ module _ (serving : Import → FuncType → Bool) (m : Module) (is : List Invoca
   none_early : early serving m is ≡ None → (entries_text m is ≡ None) × (machine.first_unserved serving m ≡ None)
   none_early e = by_case (entries_text m is) e
     where
-      by_case : (t : Option (List ℕ)) → or_text t (import_text (machine.first_unserved serving m)) ≡ None → (t ≡ None) × (machine.first_unserved serving m ≡ None)
+      by_case : (t : Option (List ℕ)) → option_or t (import_text (machine.first_unserved serving m)) ≡ None → (t ≡ None) × (machine.first_unserved serving m ≡ None)
       by_case None e = (refl, no_import (machine.first_unserved serving m) e)
       by_case (Some t) e = absurd cc
 
   by_segments : early serving m is ≡ None → start_cause serving m is ≡ cause_text [] (cause_of_segments m)
   by_segments e =
       let k = none_early e in
-      ap (λ t. or_text t (or_text (import_text (machine.first_unserved serving m)) (cause_text [] (cause_of_segments m)))) k.0
-      ∙ ap (λ i. or_text (import_text i) (cause_text [] (cause_of_segments m))) k.1
+      ap (λ t. option_or t (option_or (import_text (machine.first_unserved serving m)) (cause_text [] (cause_of_segments m)))) k.0
+      ∙ ap (λ i. option_or (import_text i) (cause_text [] (cause_of_segments m))) k.1
 
   pub segments_start : early serving m is ≡ None → cause_of_segments m ≡ None → start_cause serving m is ≡ None
   segments_start e segments = by_segments e ∙ ap (λ c. cause_text [] c) segments
@@ -117,7 +118,7 @@ module _ (serving : Import → FuncType → Bool) (m : Module) (is : List Invoca
   pub none_starts : start_cause serving m is ≡ None → (entries_text m is ≡ None) × (machine.first_unserved serving m ≡ None)
   none_starts e = by_case (entries_text m is) (import_text (machine.first_unserved serving m)) refl e
     where
-      by_case : (t u : Option (List ℕ)) → import_text (machine.first_unserved serving m) ≡ u → or_text t (or_text u (cause_text [] (cause_of_segments m))) ≡ None → (t ≡ None) × (machine.first_unserved serving m ≡ None)
+      by_case : (t u : Option (List ℕ)) → import_text (machine.first_unserved serving m) ≡ u → option_or t (option_or u (cause_text [] (cause_of_segments m))) ≡ None → (t ≡ None) × (machine.first_unserved serving m ≡ None)
       by_case None None is e = (refl, no_import (machine.first_unserved serving m) is)
       by_case None (Some u) is e = absurd cc
       by_case (Some t) u is e = absurd cc
@@ -187,4 +188,4 @@ module _ (m : Module) (h : HostsState) (before : List DeviceState) (script : Opt
       (λ k i at. let t = typed m k i valid at in ap (λ o. serves_type served_by i o) t.1 ∙ served_alike i t.0 t.1))
 
   pub starts_alike : (is : List Invocation) → start_cause served_by m is ≡ start_text (hosting before script collect) m is
-  starts_alike is = ap (λ o. or_text (entries_text m is) (or_text (import_text o) (cause_text [] (cause_of_segments m)))) alike
+  starts_alike is = ap (λ o. option_or (entries_text m is) (option_or (import_text o) (cause_text [] (cause_of_segments m)))) alike

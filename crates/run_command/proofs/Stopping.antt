@@ -35,7 +35,7 @@ use Rattle.run_session.specs.inner.Collecting.{serving_of, used_up_of}
 use Rattle.run_session.specs.Invocations.{invocation_of, depth_of}
 use Rattle.run_session.specs.Stop.{Stop, no_memory, file_failed, OnStop}
 use Rattle.run_session.specs.inner.Sessions.{point_of, WasStopped, StopsIn}
-use Rattle.run_command.specs.Starting.{cause_text, entries_text, or_text}
+use Rattle.run_command.specs.Starting.{cause_text, entries_text}
 use Rattle.run_command.specs.RunAnswer.{IsReadBy, bad_replies, script_replies, replies_input, script_of, EndUsesUp, EndHasFailed, hosting}
 use Rattle.run_command.specs.inner.Scripts.{script_result, IsAsked, IsReadFault}
 use Rattle.run_command.specs.Stops.{RunsFor, dumps_of, StopsRecord, StopsRun, NothingDone, ModuleStops, ScriptStops, BytesStops, SourceStops, FileStops, RunStops}
@@ -57,6 +57,7 @@ use Rattle.command_answers.proofs.Unless.{OnAnswer}
 use Rattle.run_command.proofs.Hostings.{Began, GaveBack, by_script, logs, host_facts, rose_on}
 use Rattle.run_session.proofs.Stops.{map_stop}
 use Rattle.run_session.proofs.Tellings.{behaves}
+use Rattle.std.specs.Option.{option_or}
 
 -- ---- facts on results
 
@@ -78,7 +79,7 @@ taken_entries m zero (i ∷ is) e = refl
 taken_entries m (suc k) [] e = refl
 taken_entries m (suc k) (i ∷ is) e =
     let parts = none_then i.name (cause_of_entry m (function_export m i.name) i.args) (entries_text m is) e in
-    ap (λ o. or_text (cause_text i.name o) (entries_text m (take k is))) parts.0 ∙ taken_entries m k is parts.1
+    ap (λ o. option_or (cause_text i.name o) (entries_text m (take k is))) parts.0 ∙ taken_entries m k is parts.1
 
 module _ (before after : List DeviceState) (script : Option (List Reply)) (w : RunWords) (s : State) (h0 h1 : HostsState) (told told' : Option Contents)
     (new : IsNew s.module_ s) (segments : cause_of_segments s.module_ ≡ None) (began : Began s.module_.imports before script h0) (same : origin_of h1 ≡ origin_of h0) (back : GaveBack h1 after) where

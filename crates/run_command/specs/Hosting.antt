@@ -10,7 +10,8 @@ use Rattle.wasm_syntax.specs.Run.{cause_of_segments, first_false, Invocation}
 use Rattle.host_collector.specs.Collecting.{is_told, is_collected}
 use Rattle.host_set.specs.Sets.{is_named}
 use Rattle.run_session.specs.Given.{module_of}
-use Rattle.run_command.specs.Starting.{or_text, cause_text, entries_text}
+use Rattle.run_command.specs.Starting.{cause_text, entries_text}
+use Rattle.std.specs.Option.{option_or}
 
 -- the calls that no device serves
 abbrev pub scripted : List (List ℕ) → List Import → List Served → List Served
@@ -45,4 +46,4 @@ import_text (Some i) = Some (codes "import " ++ decimal i)
 
 -- the invocations in order, the imports, the segments
 abbrev pub start_text : Hosting → Module → List Invocation → Option (List ℕ)
-start_text h m is = or_text (entries_text m is) (or_text (import_text (first_unserved h m)) (cause_text [] (cause_of_segments m)))
+start_text h m is = option_or (entries_text m is) (option_or (import_text (first_unserved h m)) (cause_text [] (cause_of_segments m)))

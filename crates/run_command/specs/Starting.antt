@@ -10,13 +10,10 @@ use Rattle.command_answers.specs.declared.outcome.Outcome.{Outcome}
 use Rattle.command_answers.specs.declared.status.Status.TheVariants as status
 use Rattle.machine_start.specs.declared.started.StartFault.{StartFault}
 use Rattle.machine_start.specs.declared.started.StartFault.TheVariants.{ElementOut, DataOut, NoMemory}
+use Rattle.std.specs.Option.{option_or}
 
 abbrev pub not_started_with : List ℕ → Outcome
 not_started_with cause = ended status.NotStarted (codes "not started: " ++ cause ++ codes "\n")
-
-abbrev pub or_text : Option (List ℕ) → Option (List ℕ) → Option (List ℕ)
-or_text None o = o
-or_text (Some t) o = Some t
 
 abbrev pub cause_text : List ℕ → Option Cause → Option (List ℕ)
 cause_text name None = None
@@ -28,7 +25,7 @@ cause_text name (Some (data_out i)) = Some (codes "data " ++ decimal i)
 -- by the first invocation that can't be made
 abbrev pub entries_text : Module → List Invocation → Option (List ℕ)
 entries_text m [] = None
-entries_text m (i ∷ is) = or_text (cause_text i.name (cause_of_entry m (function_export m i.name) i.args)) (entries_text m is)
+entries_text m (i ∷ is) = option_or (cause_text i.name (cause_of_entry m (function_export m i.name) i.args)) (entries_text m is)
 
 -- the cause that a segment is, which lies outside
 abbrev pub segment_of : StartFault → Option Cause

@@ -4,7 +4,8 @@ ghost use Rattle.std.specs.Prelude.{◌≡◌, ◌<◌, ◌++◌, IfOk, map, len
 ghost use Rattle.pm_text.specs.Names.{quoted};
 ghost use Rattle.wasm_machine.specs.Entries.{entry_fault, first_unserved};
 ghost use Rattle.run_session.specs.Invocations.{invocation_of};
-ghost use Rattle.run_command.specs.Starting.{entries_text, or_text, not_started_with};
+ghost use Rattle.run_command.specs.Starting.{entries_text, not_started_with};
+ghost use Rattle.std.specs.Option.{option_or};
 ghost use Rattle.run_command.specs.Hosting.{import_text};
 ghost use Rattle.run_command.specs.inner.Begun.{fault_text, import_in};
 
@@ -96,7 +97,7 @@ pub(crate) fn early_cause<H: HostSide>(
 ) -> Result<Option<Text>, NoMemory>
     requires { 0 < length invocations.now }
     ensures { IfOk result (λ t. t
-        ≡ or_text (entries_text source.now (map invocation_of invocations.now))
+        ≡ option_or (entries_text source.now (map invocation_of invocations.now))
         (import_text (first_unserved (H.serving hosts.now) source.now))) }
 {
     let mut import = None;

@@ -11,7 +11,7 @@ use Rattle.wasm_syntax.specs.declared.module.ModuleParts.{ModuleParts as Module}
 use Rattle.wasm_syntax.specs.Module.{Program, IsModule, function_export, type_at, same_types}
 use Rattle.wasm_syntax.specs.Numbers.{types}
 use Rattle.wasm_syntax.specs.Machine.{Engine}
-use Rattle.wasm_syntax.specs.Run.{first_false, Cause, no_export, bad_arguments, cause_of_segments, cause_of_entry, cause_of, or_else, if_fits, Ran, not_begun, session, start_world, unless, engine}
+use Rattle.wasm_syntax.specs.Run.{first_false, Cause, no_export, bad_arguments, cause_of_segments, cause_of_entry, cause_of, if_fits, Ran, not_begun, session, start_world, unless, engine}
 use Rattle.host_devices.specs.HostSides.{Calls, Origin}
 use Rattle.host_devices.specs.Given.{replies_of}
 use Rattle.host_set.specs.Sets.{DeviceState, names, is_named}
@@ -39,6 +39,7 @@ use Rattle.selftest_command.specs.inner.Steps.{collected_alone, IsCollected, dum
 use Rattle.machine_hosted.proofs.WatchLaws.{admits_none}
 use Rattle.run_session.proofs.Invocations.{all_given}
 use Rattle.run_session.proofs.Handing.{shares_of, same_memory}
+use Rattle.std.specs.Option.{option_or}
 
 -- ---- why nothing is run
 
@@ -135,13 +136,13 @@ module _ (n : ℕ) (m : Module) (whole : IsModule m) where
   bad_segment cause o is answer = by_entry (cause_of_entry m (function_export m (codes "main")) (main_on n).args) refl
     where
       by_entry : (c : Option Cause) → cause_of_entry m (function_export m (codes "main")) (main_on n).args ≡ c → Runs n m o
-      by_entry None e = not_begun_so cause o (ap (λ x. or_else x (cause_of_segments m)) e ∙ is) answer
-      by_entry (Some other) e = not_begun_so other o (ap (λ x. or_else x (cause_of_segments m)) e) answer
+      by_entry None e = not_begun_so cause o (ap (λ x. option_or x (cause_of_segments m)) e ∙ is) answer
+      by_entry (Some other) e = not_begun_so other o (ap (λ x. option_or x (cause_of_segments m)) e) answer
 
   pub bad_entry : (serving : Import → FuncType → Bool) (fault : EntryFault) (o : Outcome) → first_unserved serving m ≡ None → Some fault ≡ entry_fault serving m (codes "main") (main_on n).args → o ≡ summary n (record { kind = 0; frames = 0; bytes = [] }) 0 → Runs n m o
   bad_entry serving fault o served is answer =
       let k = some_fault m (main_on n).args (function_export m (codes "main")) fault (is ∙ ap (λ u. fault_or (cause_of_entry m (function_export m (codes "main")) (main_on n).args) (unserved u)) served) in
-      not_begun_so k.0 o (ap (λ x. or_else x (cause_of_segments m)) k.1) answer
+      not_begun_so k.0 o (ap (λ x. option_or x (cause_of_segments m)) k.1) answer
 
 -- ---- where it is run
 
@@ -188,7 +189,7 @@ came_so n f m whole s later end used_up old new o delivery is_new segments entry
         of_module = refl;
         writes_out = whole.write;
         ran = came.ran;
-        runs = ap (λ c. unless M c is [] fuel) (ap (λ c. or_else c (cause_of_segments m)) entry ∙ segments)
+        runs = ap (λ c. unless M c is [] fuel) (ap (λ c. option_or c (cause_of_segments m)) entry ∙ segments)
             ∙ ap₂ (λ d w. session M is d w fuel) (sym is_new.due) world
             ∙ listed
             ∙ one_behind later.ready came.ran;

@@ -8,12 +8,13 @@ use Rattle.wasm_syntax.specs.Module.{same_types, option_then, declared_locals}
 use Rattle.wasm_syntax.specs.Numbers.{types}
 use Rattle.wasm_syntax.specs.Host.{World}
 use Rattle.wasm_syntax.specs.Machine.{Engine, Config, config, frame, label, returns, zeros}
-use Rattle.wasm_syntax.specs.Run.{cause_of, or_else, if_fits, start_world, Ended, Ran, ran, ran_to, trapped, goes_on, invoked, run_function, run_steps, unless, engine, run}
+use Rattle.wasm_syntax.specs.Run.{cause_of, if_fits, start_world, Ended, Ran, ran, ran_to, trapped, goes_on, invoked, run_function, run_steps, unless, engine, run}
 use Rattle.selftest_module.specs.Selftest.{selftest}
 use Rattle.selftest_laws.specs.Handing.{main_on}
 use Rattle.selftest_laws.proofs.Running.{two_to_one, HasPage, down}
 use Rattle.selftest_laws.proofs.Programs.{program, has_code}
 use Rattle.selftest_module.proofs.Functions.{get_replicate}
+use Rattle.std.specs.Option.{option_or}
 
 paged_by : (k : ℕ) (w : World) → w.memory ≡ Some (record { bytes = replicate k 0; max = 4096 }) → k ≡ 65536 → HasPage w
 paged_by k w is size = record { memory = record { bytes = replicate k 0; max = 4096 }; is = is; size = length-replicate {A = ℕ} k 0 ∙ size }
@@ -24,7 +25,7 @@ paged n = paged_by (page_size * 1) (start_world (selftest n) []) refl refl
 
 no_cause : (n : ℕ) → 1 ≤ n → cause_of (selftest n) (main_on n ∷ []) ≡ None
 unfolding selftest
-no_cause n some = ap (λ o. or_else (if_fits (option_map (λ (type : FuncType). same_types type.params (types (main_on n).args)) (option_then o (λ (t : ℕ). slice_get (two_to_one ∷ []) t)))) None) (get_replicate n 0 some)
+no_cause n some = ap (λ o. option_or (if_fits (option_map (λ (type : FuncType). same_types type.params (types (main_on n).args)) (option_then o (λ (t : ℕ). slice_get (two_to_one ∷ []) t)))) None) (get_replicate n 0 some)
 
 -- with so many steps the run has not come to its trap, and with one more it has
 pub record Traps (n : ℕ) : Type 0 where

@@ -10,7 +10,7 @@ use Rattle.wasm_syntax.specs.Sizes.{ShortBody, ShortElement, ShortData}
 use Rattle.wasm_syntax.specs.SameCode.{body_code, global_code, element_code, segment_code}
 use Rattle.wasm_syntax.specs.Tree.{Tree, Writes}
 use Rattle.wasm_bytes.specs.Spelling.{u32}
-use Rattle.wasm_format.specs.Notes.{plain, first_float}
+use Rattle.wasm_format.specs.Notes.{plain}
 use Rattle.wasm_format.specs.Expressions.{code_body}
 use Rattle.wasm_format.specs.Grammar.{code_contents, code, global_entry, element_entry, segment_entry}
 use Rattle.wasm_encode.specs.Encoding.{vector_bytes, sized_bytes, type_byte, value_type_bytes, mutability_byte, expression_bytes, global_bytes, element_bytes, group_bytes, function_bytes, entry_bytes, segment_bytes}
@@ -19,6 +19,7 @@ use Rattle.wasm_encode.proofs.Spellings.{sized_spelled, run_spelled, vector_spel
 use Rattle.wasm_encode.proofs.SpelledTypes.{valtype_spelled, mutability_spelled, locals_spelled}
 use Rattle.wasm_encode.proofs.SpelledCode.{entries_spelled, expression_spelled, same_body, no_note, SpelledAlike}
 use Rattle.wasm_bytes.proofs.Numbers.{u32_spelled}
+use Rattle.std.specs.Option.{option_or}
 
 -- ---- globals and segments
 
@@ -96,7 +97,7 @@ pub record CanEnter (body : Body) : Type 0 where
   pub room : sum (map (λ g. g.count) body.groups) < 2 ^ 32
   pub size : length (function_bytes body) < 2 ^ 32
 
-pub neither : (one other : Option ℕ) → one ≡ None → other ≡ None → first_float one other ≡ None
+pub neither : (one other : Option ℕ) → one ≡ None → other ≡ None → option_or one other ≡ None
 neither one other e f = rw (e, f) refl
 
 pub code_spelled : (origin : ℕ) (body : Body) (at : ℕ) → CanEnter body → SpelledAlike (code origin) body_code body at (entry_bytes body)
@@ -110,7 +111,7 @@ code_spelled origin body at can =
     let read = code_body l.read.groups (start - origin) e.read in
     let float = neither l.read.float e.read.float l.no_float e.no_float in
     let contents : code_contents origin (plain read) start inner =
-    (l.read, (groups, expression_bytes body, l.spelled, (e.read, no_note read (first_float l.read.float e.read.float) float, e.spelled), refl)) in (
+    (l.read, (groups, expression_bytes body, l.spelled, (e.read, no_note read (option_or l.read.float e.read.float) float, e.spelled), refl)) in (
       read,
       same_body body.groups l.read.groups body.ops e.read.ops body.targets e.read.targets body.start (start - origin) l.groups_read e.same e.targets,
       sized_spelled (code_contents origin (plain read)) at inner can.size contents,

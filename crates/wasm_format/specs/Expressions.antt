@@ -17,8 +17,8 @@ use Rattle.wasm_instructions.specs.Reading.{instruction_item}
 use Rattle.wasm_format.specs.declared.noted.Noted.{Noted}
 use Rattle.wasm_format.specs.declared.expression.Expression.{Expression}
 use Rattle.wasm_format.specs.declared.expression.Locals.{Locals}
-use Rattle.wasm_format.specs.Notes.{first_float}
 use Rattle.wasm_format.specs.Form.{locals_item}
+use Rattle.std.specs.Option.{option_or}
 
 -- ---- instructions, with their opcodes
 
@@ -83,7 +83,7 @@ with_instr e x =
       ops = e.ops ++ op ∷ [];
       targets = e.targets ++ x.1.0.1.targets;
       blocks = open_behind e.blocks i;
-      float = first_float e.float (float_of x.1.0.1.code);
+      float = option_or e.float (float_of x.1.0.1.code);
     }
 
 unfoldable pub instr_step : Expression → Place → Read Expression
@@ -110,7 +110,7 @@ expression_item = mapped constant_body (here_item ▷ expression_from)
 -- ---- bodies
 
 abbrev pub function_body : ℕ → ℕ → Locals → Expression → Noted Body
-function_body origin start locals e = record { value = code_body locals.groups (start - origin) e; float = first_float locals.float e.float }
+function_body origin start locals e = record { value = code_body locals.groups (start - origin) e; float = option_or locals.float e.float }
 
 -- the locals and the expression of a function, whose code offsets count from the locals
 abbrev pub code_from : ℕ → ℕ → Place → Read (Noted Body)

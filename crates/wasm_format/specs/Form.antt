@@ -13,7 +13,8 @@ use Rattle.wasm_format.specs.declared.noted.Noted.{Noted}
 use Rattle.wasm_format.specs.declared.expression.Locals.{Locals}
 use Rattle.wasm_format.specs.declared.module.Imported.{Imported}
 use Rattle.wasm_format.specs.declared.module.Imported.TheVariants.{Function, Table, Memory, Global}
-use Rattle.wasm_format.specs.Notes.{plain, noted_as, noted_both, first_float, noted_vector_item}
+use Rattle.wasm_format.specs.Notes.{plain, noted_as, noted_both, noted_vector_item}
+use Rattle.std.specs.Option.{option_or}
 
 -- ---- types (Core 5.3)
 
@@ -128,7 +129,7 @@ abbrev pub with_group : Locals → ℕ × Noted ValType → Locals
 with_group s x = record {
   groups = s.groups ++ record { count = x.0; vtype = x.1.value } ∷ [];
   count = s.count + x.0;
-  float = first_float s.float x.1.float;
+  float = option_or s.float x.1.float;
 }
 
 unfoldable pub group_step : Locals → Place → Read Locals

@@ -1,17 +1,13 @@
 -- Values that may hold floats, and vectors of them.
-use Rattle.std.specs.Prelude.{ℕ, List, [], ◌∷◌, ◌++◌, fold, Option, Some, None}
+use Rattle.std.specs.Prelude.{List, [], ◌∷◌, ◌++◌, fold, None}
 use Rattle.wasm_bytes.specs.Place.{Place, Read}
 use Rattle.wasm_bytes.specs.Reading.{mapped, vector_item}
 use Rattle.wasm_format.specs.declared.noted.Noted.{Noted}
+use Rattle.std.specs.Option.{option_or}
 
 -- a value without floats
 abbrev pub plain : {A : Type 0} → A → Noted A
 plain x = record { value = x; float = None }
-
--- the offset of the first float of two parts, one after the other
-abbrev pub first_float : Option ℕ → Option ℕ → Option ℕ
-first_float (Some at) later = Some at
-first_float None later = later
 
 -- a value made of one
 abbrev pub noted_as : {A B : Type 0} → (A → B) → Noted A → Noted B
@@ -19,7 +15,7 @@ noted_as f x = record { value = f x.value; float = x.float }
 
 -- a value made of two, one after the other
 abbrev pub noted_both : {A B C : Type 0} → (A → B → C) → Noted A → Noted B → Noted C
-noted_both f x y = record { value = f x.value y.value; float = first_float x.float y.float }
+noted_both f x y = record { value = f x.value y.value; float = option_or x.float y.float }
 
 -- a list with one more value
 abbrev pub with_noted : {A : Type 0} → Noted (List A) → Noted A → Noted (List A)

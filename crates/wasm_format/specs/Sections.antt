@@ -15,9 +15,10 @@ use Rattle.wasm_bytes.specs.Reading.{◌⊗◌, ◌▷◌, mapped, checked, choo
 use Rattle.wasm_format.specs.declared.noted.Noted.{Noted}
 use Rattle.wasm_format.specs.declared.module.Imported.{Imported}
 use Rattle.wasm_format.specs.declared.module.SpelledModule.{SpelledModule}
-use Rattle.wasm_format.specs.Notes.{noted_as, noted_both, first_float, together, noted_vector_item}
+use Rattle.wasm_format.specs.Notes.{noted_as, noted_both, together, noted_vector_item}
 use Rattle.wasm_format.specs.Form.{functype_item, limits_item, table_item, globaltype_item, import_item, export_item}
 use Rattle.wasm_format.specs.Expressions.{expression_item, code_item}
+use Rattle.std.specs.Option.{option_or}
 
 -- ---- globals and segments
 
@@ -69,13 +70,13 @@ with_plain s id parts = record { last = id; float = s.float; imports = s.imports
 
 -- parts that may hold floats
 abbrev pub with_parts : SpelledModule → ℕ → Option ℕ → ModuleParts → SpelledModule
-with_parts s id float parts = record { last = id; float = first_float s.float float; imports = s.imports; parts = parts }
+with_parts s id float parts = record { last = id; float = option_or s.float float; imports = s.imports; parts = parts }
 
 abbrev pub with_types : SpelledModule → Noted (List FuncType) → SpelledModule
 with_types s x = with_parts s 1 x.float (record s.parts { types = x.value })
 
 abbrev pub with_imports : SpelledModule → Noted (List Imported) → SpelledModule
-with_imports s x = record { last = 2; float = first_float s.float x.float; imports = x.value; parts = s.parts }
+with_imports s x = record { last = 2; float = option_or s.float x.float; imports = x.value; parts = s.parts }
 
 abbrev pub with_functions : SpelledModule → List ℕ → SpelledModule
 with_functions s x = with_plain s 3 (record s.parts { functions = x })

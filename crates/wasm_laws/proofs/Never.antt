@@ -12,11 +12,12 @@ use Rattle.wasm_syntax.specs.Machine.{Config, config, Engine, Stepped, next, end
 use Rattle.wasm_syntax.specs.Typing.{Types, body_context}
 use Rattle.std.proofs.Common.{◌≢◌}
 use Rattle.wasm_syntax.specs.Module.{function_export}
-use Rattle.wasm_syntax.specs.Run.{run_on, run_steps, host_alone, run_alone, run_function, Outcome, got_stuck, Ran, ran_to, run_entry, go_on, invoked, engine, start_world, Cause, or_else, cause_of_entry, if_fits as entry_fits, goes_on, fresh, session, unless, run, cause_of, Invocation}
+use Rattle.wasm_syntax.specs.Run.{run_on, run_steps, host_alone, run_alone, run_function, Outcome, got_stuck, Ran, ran_to, run_entry, go_on, invoked, engine, start_world, Cause, cause_of_entry, if_fits as entry_fits, goes_on, fresh, session, unless, run, cause_of, Invocation}
 use Rattle.wasm_laws.specs.Runs.{NoneStuck}
 use Rattle.wasm_laws.proofs.Progress.{types_append, zero_types, WorldFine}
 use Rattle.wasm_laws.proofs.Safe.{FramesFine, SteppedFine, Typed, step_fine, one_result, AnswerFine, answer_fine}
 use Rattle.wasm_syntax.proofs.Types.{same_types_are}
+use Rattle.std.specs.Option.{option_or}
 
 -- a well-typed program whose instance starts well
 pub record Startable (p : Program) : Type 0 where
@@ -132,7 +133,7 @@ module _ (p : Program) (s : Startable p) (collecting : Bool) (d : ℕ) where
       rest_fine true e h = h e
       rest_fine false e h = tt
 
-  no_cause : (a b : Option Cause) → or_else a b ≡ None → (a ≡ None) × (b ≡ None)
+  no_cause : (a b : Option Cause) → option_or a b ≡ None → (a ≡ None) × (b ≡ None)
   no_cause None b e = (refl, e)
   no_cause (Some c) b e = absurd (cc)
 

@@ -14,8 +14,8 @@ use Rattle.wasm_instructions.specs.declared.code.Code.{Code}
 use Rattle.wasm_instructions.specs.Spelled.{Spelled}
 use Rattle.wasm_instructions.specs.Reading.{instruction_item, with_targets, code_item}
 use Rattle.wasm_format.specs.declared.expression.Expression.{Expression}
-use Rattle.wasm_format.specs.Notes.{first_float}
 use Rattle.wasm_format.specs.Expressions.{code_of, float_of, may_stand, open_behind, instr_step}
+use Rattle.std.specs.Option.{option_or}
 
 abbrev opcode_at : Place → ℕ
 opcode_at p = get_or p.block p.at 0
@@ -40,7 +40,7 @@ more e p q code targets = record {
   ops = e.ops ++ record { at = p.at - e.origin; len = q.at - p.at; code = code_of (opcode_at p) code } ∷ [];
   targets = targets;
   blocks = open_behind e.blocks (code_of (opcode_at p) code);
-  float = first_float e.float (float_of code);
+  float = option_or e.float (float_of code);
 }
 
 own_ok : (e : Expression) (p q : Place) (code : Code) (own : List ℕ) → instruction_item (length e.targets) p ≡ got (spelled code own) q → may_stand e.blocks (code_of (opcode_at p) code) ≡ true
@@ -65,7 +65,7 @@ pub record Found (e : Expression) (p q : Place) (code : Code) (at opcode next of
   pub pushed : ops ≡ e.ops ++ record { at = offset; len = next - at; code = instr } ∷ []
   pub opened : blocks ≡ open_behind e.blocks instr
   pub its : own ≡ float_of code
-  pub noted : float ≡ first_float e.float own
+  pub noted : float ≡ option_or e.float own
 
 pub instr_found : (e : Expression) (p q : Place) (code : Code) (at opcode next offset : ℕ) (instr : Instr) (ops : List Op) (targets : List ℕ) (blocks : List BlockKind) (own float : Option ℕ)
     → code_item e.targets p ≡ got (code, targets) q → Found e p q code at opcode next offset instr ops blocks own float

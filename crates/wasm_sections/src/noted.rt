@@ -4,7 +4,8 @@ ghost use Rattle.std.specs.Prelude.{◌≡◌, OnOk};
 ghost use Rattle.wasm_bytes.specs.Place.{Place, Read, Moves};
 ghost use Rattle.wasm_bytes.specs.Answers.{Gives};
 ghost use Rattle.wasm_format.specs.declared.noted.Noted.{Noted as NotedValue};
-ghost use Rattle.wasm_format.specs.Notes.{first_float, noted_vector_item};
+ghost use Rattle.wasm_format.specs.Notes.{noted_vector_item};
+ghost use Rattle.std.specs.Option.{option_or};
 ghost use Rattle.wasm_sections.specs.Steps.{noted_step, noted_steps};
 
 use crate::collect::{Collect, collect_count};
@@ -15,8 +16,8 @@ use wasm_bytes::ItemFault;
 use wasm_format::Noted;
 
 /// The first float of two parts, one after the other.
-pub fn first_float(first: Option<usize>, later: Option<usize>) -> Option<usize>
-    ensures { result ≡ first_float first later }
+pub fn option_or(first: Option<usize>, later: Option<usize>) -> Option<usize>
+    ensures { result ≡ option_or first later }
 {
     match first {
         Some(at) => Some(at),
@@ -42,7 +43,7 @@ impl<'a, T: Noting<'a>> Collect<'a> for Noted<Items<T>> {
     fn take(&mut self, alloc: Global, input: &mut Input<'a>) -> Result<(), ItemFault> {
         let noted = T::read(alloc, input)?;
         self.value.push(noted.value)?;
-        self.float = first_float(self.float, noted.float);
+        self.float = option_or(self.float, noted.float);
         Ok(())
     }
 }

@@ -1,6 +1,6 @@
 -- Configurations (Core 4.2) and their steps (Core 4.4.5 to 4.4.8). A step is defensive: what Core knows from validation is tested, and
 -- where a test fails, the step is stuck.
-use Rattle.std.specs.Prelude.{ℕ, zero, suc, nat_lt, Bool, true, false, List, [], ◌∷◌, ◌++◌, map, reverse, length, slice_get, Option, Some, None, option_to_list, option_map}
+use Rattle.std.specs.Prelude.{ℕ, zero, suc, nat_lt, Bool, true, false, List, [], ◌∷◌, ◌++◌, map, reverse, length, slice_get, Option, Some, None, option_to_list, option_map, unwrap_or}
 use Rattle.wasm_syntax.specs.declared.value.ValType.{ValType}
 use Rattle.wasm_syntax.specs.declared.value.Value.{Value}
 use Rattle.wasm_syntax.specs.declared.value.Value.TheVariants as values
@@ -16,6 +16,7 @@ use Rattle.wasm_syntax.specs.declared.host.Reply.{Reply}
 use Rattle.wasm_syntax.specs.declared.host.CollectorCall.{CollectorCall}
 use Rattle.wasm_syntax.specs.Host.{World, Answer, replied, told, silent, misfit, answer}
 use Rattle.wasm_syntax.specs.Effect.{Effect, gives, fails, unfit, effect, takes}
+use Rattle.std.specs.Bool.{then_some}
 
 -- what a branch to a label does (Core 4.2.12): it leaves a block or an arm, begins a loop anew, or leaves the function
 pub data Kind : Type 0 where
@@ -86,20 +87,16 @@ cut zero vs = parts [] vs
 cut (suc n) [] = short
 cut (suc n) (v ∷ vs) = one_more v (cut n vs)
 
-abbrev pub if_so : {A : Type 0} → Bool → A → Option A
-if_so false x = None
-if_so true x = Some x
-
 -- the results of this type on top
 abbrev pub top : Option ValType → List Value → Option (List Value)
 top None vs = Some []
 top (Some t) [] = None
-top (Some t) (v ∷ vs) = if_so (same_type (type_of v) t) (v ∷ [])
+top (Some t) (v ∷ vs) = then_some (same_type (type_of v) t) (v ∷ [])
 
 -- the results of this type, where there is nothing else
 abbrev pub exactly : Option ValType → List Value → Option (List Value)
 exactly None [] = Some []
-exactly (Some t) (v ∷ []) = if_so (same_type (type_of v) t) (v ∷ [])
+exactly (Some t) (v ∷ []) = then_some (same_type (type_of v) t) (v ∷ [])
 exactly _ _ = None
 
 -- ---- moves inside a frame (Core 4.4.5)
@@ -170,10 +167,6 @@ abbrev pub pick : List ℕ → ℕ → ℕ → ℕ
 pick [] d n = d
 pick (t ∷ ts) d zero = t
 pick (t ∷ ts) d (suc n) = pick ts d n
-
-abbrev pub else_or : Option ℕ → ℕ → ℕ
-else_or None end = end
-else_or (Some at) end = at
 
 -- ---- functions
 
@@ -328,7 +321,7 @@ module _ (M : Engine) where
 
   abbrev pub chooses : List Value → Option ValType → Nodes → Option ℕ → Nodes → ℕ → Nodes → Frame → Label → List Label → List Frame → World → List CollectorCall → Stepped
   chooses (values.I32 zero ∷ vs) t a else_at b end rest f l ls fs w co = opens_arm t b end vs rest f l ls fs w co
-  chooses (values.I32 (suc c) ∷ vs) t a else_at b end rest f l ls fs w co = opens_arm t a (else_or else_at end) vs rest f l ls fs w co
+  chooses (values.I32 (suc c) ∷ vs) t a else_at b end rest f l ls fs w co = opens_arm t a (unwrap_or else_at end) vs rest f l ls fs w co
   chooses _ t a else_at b end rest f l ls fs w co = stuck
 
   -- the first node of the innermost label is run, or where there is none, that label is left

@@ -16,6 +16,7 @@ use Rattle.wasm_syntax.specs.declared.host.Served.{Served}
 use Rattle.wasm_syntax.specs.declared.host.CollectorCall.{CollectorCall}
 use Rattle.wasm_syntax.specs.Host.{World, Answer, replied, told, silent, misfit, answer}
 use Rattle.wasm_syntax.specs.Machine.{Engine, Config, config, Stepped, next, ends, traps, no_reply, bad_reply, stuck, step, entered, host_call, first, zero_of}
+use Rattle.std.specs.Option.{option_or}
 
 -- ---- the start of an instance (Core 4.5.4)
 
@@ -187,10 +188,6 @@ abbrev pub cause_of_entry : Module → Option ℕ → List Value → Option Caus
 cause_of_entry m None args = Some no_export
 cause_of_entry m (Some f) args = if_fits (option_map (λ type. same_types type.params (types args)) (type_at m f))
 
-abbrev pub or_else : Option Cause → Option Cause → Option Cause
-or_else None o = o
-or_else (Some c) o = Some c
-
 -- ---- lists of invocations on one instance
 
 pub record Invocation : Type 0 where
@@ -200,7 +197,7 @@ pub record Invocation : Type 0 where
 -- the first cause for which a list of invocations does not start
 abbrev pub cause_of : Module → List Invocation → Option Cause
 cause_of m [] = cause_of_segments m
-cause_of m (i ∷ is) = or_else (cause_of_entry m (function_export m i.name) i.args) (cause_of m is)
+cause_of m (i ∷ is) = option_or (cause_of_entry m (function_export m i.name) i.args) (cause_of m is)
 
 -- the list goes on behind an invocation that finished, or trapped with a kind other than 8 and not inside the start function
 abbrev pub goes_on : Outcome → Bool → Bool

@@ -9,10 +9,11 @@ use Rattle.wasm_machine.specs.declared.entries.EntryFault.{EntryFault}
 use Rattle.wasm_machine.specs.declared.entries.EntryFault.TheVariants.{NoExport, BadArguments, Unserved}
 use Rattle.wasm_machine.specs.Entries.{first_unserved}
 use Rattle.wasm_machine.specs.Instances.{IsNew}
-use Rattle.run_command.specs.Starting.{or_text, cause_text, entries_text, not_started_with}
+use Rattle.run_command.specs.Starting.{cause_text, entries_text, not_started_with}
 use Rattle.run_command.specs.Hosting.{import_text}
 use Rattle.run_command.specs.declared.running.Begun.{Begun}
 use Rattle.run_command.specs.declared.running.Begun.TheVariants.{Ready, Refused}
+use Rattle.std.specs.Option.{option_or}
 
 -- the cause of an invocation by itself; that an import is not served comes behind those of all invocations
 abbrev pub fault_text : List ℕ → Option EntryFault → Option (List ℕ)
@@ -29,7 +30,7 @@ import_in (Some (Unserved i)) = Some i
 
 -- the invocations in order, the imports, the segments
 abbrev pub start_cause : (Import → FuncType → Bool) → Module → List Invocation → Option (List ℕ)
-start_cause serving m is = or_text (entries_text m is) (or_text (import_text (first_unserved serving m)) (cause_text [] (cause_of_segments m)))
+start_cause serving m is = option_or (entries_text m is) (option_or (import_text (first_unserved serving m)) (cause_text [] (cause_of_segments m)))
 
 -- a new instance of the module, where nothing hinders its start; or the answer that tells the cause
 abbrev pub HasBegun : (Import → FuncType → Bool) → Module → List Invocation → Begun → Type 0
