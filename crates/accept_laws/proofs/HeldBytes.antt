@@ -11,11 +11,11 @@ use Rattle.wasm_syntax.specs.declared.value.Value.TheVariants as value
 use Rattle.dump_format.specs.declared.dump.Frame.{Frame}
 use Rattle.dump_format.specs.declared.dump.Instance.{Instance}
 use Rattle.dump_format.specs.declared.dump.Dump.{Dump}
-use Rattle.dump_format.specs.Sections.{header}
 use Rattle.dump_write.specs.Spelled.{vector_bytes, module_bytes, seen_bytes, frame_bytes, global_bytes, section_bytes, custom_bytes}
 use Rattle.dump_write.specs.Pages.{memory_bytes}
 use Rattle.dump_write.specs.Canonical.{memory_indices, instance_of, core_bytes, modules_bytes, instances_bytes, stack_bytes, memory_section, globals_section, data_section, sections_before_data, segments_of, canonical_bytes}
 use Rattle.accept_laws.proofs.Held.{held, held_seen, held_frame, held_dump, signed_32, signed_64}
+use Rattle.wasm_bytes.specs.Tables.{header}
 
 flat_same : {A : Type 0} (item : A → List ℕ) (h : A → A) → ((x : A) → item (h x) ≡ item x) → (xs : List A) → flat_map item (map h xs) ≡ flat_map item xs
 flat_same item h one [] = refl

@@ -14,10 +14,11 @@ use Rattle.wasm_bytes.proofs.Takes.{image_takes, tagged_takes}
 use Rattle.dump_format.specs.Parts.{Part, core, modules, instances, stack, memories, globals, segments, custom, passed}
 use Rattle.dump_format.specs.Form.{module_item, instance_item, stack_item, limits_item, global_item, segment_item}
 use Rattle.dump_format.specs.Judged.{last_id, memory_of}
-use Rattle.dump_format.specs.Sections.{custom_behind, custom_item, contents_item, may_follow, section_behind, section_item, with_section, header, sections_item, has_core, parts_item}
+use Rattle.dump_format.specs.Sections.{custom_behind, custom_item, contents_item, may_follow, section_behind, section_item, with_section, sections_item, has_core, parts_item}
 use Rattle.dump_format.specs.Grammar.{module_entry, instance_entry, stack_entry, limits_entry, global_entry, segment_entry, custom_tail, contents, section_tail, section_entry, one_section, sections, dump_file}
 use Rattle.dump_format.proofs.OnTest.{on_test_closed, on_test_picks, no_spelling_picks, same_closed, closed-leads}
 use Rattle.dump_format.proofs.ExactEntries.{module_exact, instance_exact, stack_exact, limits_exact, global_exact, segment_exact}
+use Rattle.wasm_bytes.specs.Tables.{header}
 
 -- a part that fills its block
 part_closed : {X : Type 0} (part : X → Part) (S : X → ℕ → List ℕ → Type 0) (f : Place → Read X) → IsExact S f → IsTail (image part S) (closed (mapped part f))

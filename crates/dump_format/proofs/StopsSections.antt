@@ -17,13 +17,14 @@ use Rattle.wasm_bytes.proofs.StopsLists.{choose_stops_at, vector_stops_at, steps
 use Rattle.dump_format.specs.Parts.{Part, core, modules, instances, stack, memories, globals, segments, custom, passed}
 use Rattle.dump_format.specs.Form.{module_item, instance_item, stack_item, limits_item, global_item, segment_item}
 use Rattle.dump_format.specs.Judged.{last_id, memory_of}
-use Rattle.dump_format.specs.Sections.{custom_behind, custom_item, contents_item, may_follow, section_behind, section_item, with_section, header, sections_item, has_core, parts_item}
+use Rattle.dump_format.specs.Sections.{custom_behind, custom_item, contents_item, may_follow, section_behind, section_item, with_section, sections_item, has_core, parts_item}
 use Rattle.dump_format.specs.Grammar.{module_entry, instance_entry, stack_entry, limits_entry, global_entry, segment_entry, one_section, sections, dump_file}
 use Rattle.dump_format.specs.Breaking.{module_stops, instance_stops, stack_stops, limits_stops, global_stops, segment_stops, custom_tail_stops, contents_stops, IsNextId, section_stops, sections_stops, dump_stops, stops_on_test}
 use Rattle.dump_format.proofs.OnTest.{on_test_stops, picks_stops, same_item_stops, closed-leads}
 use Rattle.dump_format.proofs.ExactEntries.{module_exact, instance_exact, stack_exact, limits_exact, global_exact, segment_exact}
 use Rattle.dump_format.proofs.StopsEntries.{module_stops_at, instance_stops_at, stack_stops_at, limits_stops_at, global_stops_at, segment_stops_at}
 use Rattle.dump_format.proofs.ExactSections.{one_exact, one_takes, sections_tail, parts_tail}
+use Rattle.wasm_bytes.specs.Tables.{header}
 
 -- a part that fills its block
 part_stops : {X : Type 0} (part : X → Part) (S : X → ℕ → List ℕ → Type 0) (s : ℕ → List ℕ → ℕ → Type 0) (f : Place → Read X) → IsExact S f → StopsAt s f → StopsAt (closed_stops (image part S) s) (closed (mapped part f))

@@ -6,8 +6,9 @@ use Rattle.wasm_bytes.specs.Stopping.{Stops, never, unread, either, behind, then
 use Rattle.dump_format.specs.Parts.{Part, core, modules, instances, stack, memories, globals, segments}
 use Rattle.dump_format.specs.Form.{is_memory, is_inside}
 use Rattle.dump_format.specs.Judged.{last_id, memory_of}
-use Rattle.dump_format.specs.Sections.{may_follow, header, has_core}
+use Rattle.dump_format.specs.Sections.{may_follow, has_core}
 use Rattle.dump_format.specs.Grammar.{value_entry, module_entry, instance_entry, frame_entry, stack_entry, limits_entry, mutability, global_entry, segment_body, segment_entry, one_section, sections}
+use Rattle.wasm_bytes.specs.Tables.{header}
 
 -- the one way to stop where the test holds, the other one where it does not
 abbrev pub stops_on_test : Bool → Stops → Stops → Stops

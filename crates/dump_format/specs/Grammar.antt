@@ -12,7 +12,8 @@ use Rattle.dump_format.specs.Region.{Region}
 use Rattle.dump_format.specs.Parts.{Shown, known, float, ShownFrame, Part, core, modules, instances, stack, memories, globals, segments, custom, passed}
 use Rattle.dump_format.specs.Form.{known_i32, known_i64, global_i32, global_i64, is_memory, is_inside}
 use Rattle.dump_format.specs.Judged.{last_id, memory_of}
-use Rattle.dump_format.specs.Sections.{may_follow, header, has_core}
+use Rattle.dump_format.specs.Sections.{may_follow, has_core}
+use Rattle.wasm_bytes.specs.Tables.{header}
 
 -- the one language where the test holds, the other one where it does not
 abbrev pub on_test : {A : Type 0} → Bool → (A → Spellings) → (A → Spellings) → A → Spellings

@@ -7,6 +7,7 @@ use Rattle.wasm_bytes.specs.Reading.{◌⊗◌, ◌▷◌, mapped, bytes_item, n
 use Rattle.dump_format.specs.Parts.{Part, core, modules, instances, stack, memories, globals, segments, custom, passed}
 use Rattle.dump_format.specs.Form.{module_item, instance_item, stack_item, limits_item, global_item, segment_item}
 use Rattle.dump_format.specs.Judged.{last_id, memory_of, first_of, names_in}
+use Rattle.wasm_bytes.specs.Tables.{header}
 
 -- a custom section, behind its name
 unfoldable pub custom_behind : List ℕ → Place → Read Part
@@ -42,10 +43,6 @@ section_item ps = choose (section_behind ps)
 
 abbrev pub with_section : List Part → Place → Read (List Part)
 with_section ps = mapped (λ part. ps ++ part ∷ []) (section_item ps)
-
--- the magic and the version of a module (Core 5.5.15)
-abbrev pub header : List ℕ
-header = 0x00 ∷ 0x61 ∷ 0x73 ∷ 0x6d ∷ 0x01 ∷ 0x00 ∷ 0x00 ∷ 0x00 ∷ []
 
 unfoldable pub sections_item : Place → Read (List Part)
 sections_item = mapped (λ x. x.1) (bytes_item header ⊗ steps_to_end with_section [])

@@ -9,13 +9,13 @@ use Rattle.linear_memory.specs.Paged.{Paged}
 use Rattle.dump_format.specs.declared.dump.Dump.{Dump}
 use Rattle.dump_format.specs.declared.dump.Instance.{Instance}
 use Rattle.dump_format.specs.Form.{pages_of}
-use Rattle.dump_format.specs.Sections.{header}
 use Rattle.dump_write.specs.Pages.{laid_on, memory_bytes, used_pages}
 use Rattle.dump_write.specs.Canonical.{core_bytes, modules_bytes, instances_bytes, instance_of, stack_bytes, memory_section, memory_indices, globals_section, data_section, sections_before_data, canonical_bytes}
 use Rattle.dump_write.proofs.Vectors.{range_more}
 use Rattle.dump_write.specs.Image.{Dump as Image}
 use Rattle.dump_write.specs.ImageBytes.{frame_of, dump_of, bytes_of}
 use Rattle.dump_image.specs.Pictured.{Pictures, CoversIfThere}
+use Rattle.wasm_bytes.specs.Tables.{header}
 
 -- ---- the memory of an image, which is one segment
 

@@ -11,7 +11,6 @@ use Rattle.wasm_syntax.specs.declared.value.Value.{Value}
 use Rattle.dump_format.specs.declared.dump.Dump.{Dump}
 use Rattle.dump_format.specs.Region.{Region}
 use Rattle.dump_format.specs.Form.{pages_of}
-use Rattle.dump_format.specs.Sections.{header}
 use Rattle.dump_write.specs.Spelled.{global_bytes, vector_bytes}
 use Rattle.dump_write.specs.Pages.{memory_bytes, laid_on, page_region, is_used, used_pages}
 use Rattle.dump_write.specs.Canonical.{core_bytes, modules_bytes, instances_bytes, stack_bytes, memory_section, globals_section, data_section, memory_indices, instance_of, segments_of, canonical, canonical_bytes}
@@ -23,6 +22,7 @@ use Rattle.dump_write.proofs.SpelledParts.{IsPlaced, no_longer, global_long}
 use Rattle.dump_write.proofs.SpelledSections.{IsSmallInstance, body_short}
 use Rattle.dump_write.proofs.ReadsBack.{ArePlaced, IsSpelt, sections_nested, nested, spelt_read}
 use Rattle.linear_memory.proofs.Contents.{length-splice}
+use Rattle.wasm_bytes.specs.Tables.{header}
 
 -- ---- the sizes of the sections
 

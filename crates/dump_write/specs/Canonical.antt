@@ -9,9 +9,9 @@ use Rattle.dump_format.specs.declared.dump.Frame.{Frame}
 use Rattle.dump_format.specs.declared.dump.Instance.{Instance}
 use Rattle.dump_format.specs.Region.{Region}
 use Rattle.dump_format.specs.Form.{pages_of}
-use Rattle.dump_format.specs.Sections.{header}
 use Rattle.dump_write.specs.Spelled.{vector_bytes, module_bytes, frame_bytes, global_bytes, segment_bytes, section_bytes, custom_bytes}
 use Rattle.dump_write.specs.Pages.{memory_bytes, used_pages}
+use Rattle.wasm_bytes.specs.Tables.{header}
 
 -- ---- the instance
 

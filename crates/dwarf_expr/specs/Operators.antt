@@ -1,6 +1,6 @@
 -- The table of operators (DWARF 4 sections 2.5, 2.6 and 7.7.1; DWARF for WebAssembly, `DW_OP_WASM_location`): what stands
 -- behind each opcode.
-use Rattle.std.specs.Prelude.{ℕ, ◌+◌, ◌-◌, ◌*◌, List, [], ◌∷◌, ◌++◌, Option, Some, None, ◌&&◌, ◌==◌, nat_le, if◌then◌else◌}
+use Rattle.std.specs.Prelude.{ℕ, ◌+◌, ◌-◌, ◌*◌, List, [], ◌∷◌, ◌++◌, Option, Some, ◌&&◌, ◌==◌, nat_le, if◌then◌else◌}
 use Rattle.int_ops.specs.declared.operators.Compare.TheVariants.{Eq, Ne, LtS, GtS, LeS, GeS}
 use Rattle.int_ops.specs.declared.operators.Binary.TheVariants.{Add, Sub, Mul, DivS, RemU, And, Or, Xor, Shl, ShrS, ShrU}
 use Rattle.int_ops.specs.Integers.{unsigned as word_of, narrowed}
@@ -9,6 +9,7 @@ use Rattle.dwarf_expr.specs.declared.operators.Space.{Space}
 use Rattle.dwarf_expr.specs.declared.operators.Space.TheVariants.{Local, Global, Operand}
 use Rattle.dwarf_expr.specs.declared.operators.Operator.{Operator}
 use Rattle.dwarf_expr.specs.declared.operators.Operator.TheVariants.{Constant, Dup, Drop, Over, Swap, Neg, Not, Arithmetic, Comparison, PlusUconst, Deref, Fbreg, Location, Piece, Nop, StackValue}
+use Rattle.wasm_bytes.specs.Tables.{lookup, rows_from}
 
 -- a constant of so many bytes, unsigned or signed
 abbrev pub constant_u : ℕ → Format Operator
@@ -37,15 +38,6 @@ location_behind kind =
 -- opcodes, and what stands behind each
 abbrev pub Rows : Type 0
 Rows = List (ℕ × Format Operator)
-
-abbrev pub lookup : ℕ → Rows → Option (Format Operator)
-lookup opcode [] = None
-lookup opcode (row ∷ rows) = if opcode == row.0 then Some row.1 else lookup opcode rows
-
--- opcodes that follow one another
-abbrev pub rows_from : ℕ → List (Format Operator) → Rows
-rows_from first [] = []
-rows_from first (f ∷ fs) = (first, f) ∷ rows_from (first + 1) fs
 
 -- 2.5.1.1 to 2.5.1.3
 abbrev pub constants : Rows

@@ -1,9 +1,6 @@
 -- The bytes of the example (Core 5.5), which exports its one function, a division of signed numbers, as `div`.
 use Rattle.std.specs.Prelude.{ℕ, List, [], ◌∷◌, ◌++◌}
-
--- magic and version
-abbrev header : List ℕ
-header = 0x00 ∷ 0x61 ∷ 0x73 ∷ 0x6d ∷ 0x01 ∷ 0x00 ∷ 0x00 ∷ 0x00 ∷ []
+use Rattle.wasm_bytes.specs.Tables.{header}
 
 -- one type, with two i32 and an i32
 abbrev types : List ℕ

@@ -2,7 +2,7 @@
 use Rattle.std.specs.Prelude.{ℕ, ◌+◌, ◌*◌, ◌%◌, ◌^◌, ◌==◌, ◌||◌, Bool, false, nat_lt, nat_le, pos, List, [], ◌∷◌, length, drop, find, bytes_eq, Option, Some, None, option_map, option_and_then, ok_or, Result, Ok, Err, if◌then◌else◌}
 use Rattle.dwarf_info.specs.declared.entry.Entry.{Entry}
 use Rattle.dwarf_info.specs.declared.entry.UnitAnswer.{UnitAnswer}
-use Rattle.dwarf_expr.specs.declared.answer.PiecePlace.TheVariants.{Value, Address, Nothing}
+use Rattle.dwarf_expr.specs.declared.answer.PiecePlace.TheVariants.{Address}
 use Rattle.dwarf_entries.specs.Tags.{tag_pointer, tag_member}
 use Rattle.dwarf_entries.specs.Standing.{Standing, children_tagged}
 use Rattle.dwarf_entries.specs.Origins.{name_or_empty, longest_chain}
@@ -20,7 +20,7 @@ use Rattle.var_path.specs.declared.path.Step.TheVariants.{Member, Arrow, Index, 
 use Rattle.var_values.specs.declared.mark.Mark.{Mark}
 use Rattle.var_values.specs.declared.mark.Mark.TheVariants.{TypeTooDeep, UnsupportedType, OutsideArray}
 use Rattle.var_values.specs.declared.source.Source.{Source}
-use Rattle.var_values.specs.declared.source.Source.TheVariants.{Lost, Single, Pieces}
+use Rattle.var_values.specs.declared.source.Source.TheVariants.{Lost, Single}
 use Rattle.var_values.specs.Bytes.{Recorded, number_at}
 use Rattle.var_texts.specs.declared.bits.Bits.{Bits}
 use Rattle.var_texts.specs.Places.{Place, start_of, further}
@@ -111,11 +111,8 @@ element_at units n place past x (Some size) = Ok (record {
 
 -- addresses go on modulo 2 ^ 32
 abbrev pub address_further : ℕ → Source → Source
-address_further n (Lost m) = Lost m
-address_further n (Single (Value w)) = Single (Value w)
 address_further n (Single (Address a)) = Single (Address ((a + n) % 2 ^ 32))
-address_further n (Single Nothing) = Single Nothing
-address_further n (Pieces ps) = Pieces ps
+address_further n source = source
 
 abbrev pub pointed_element : List UnitAnswer → ℕ → Standing → Source → Option ℕ → Reached
 pointed_element units n s source None = Err UnsupportedType

@@ -5,3 +5,4 @@ pub mod Spelling
 pub mod Sections
 pub mod Stopping
 pub mod Laws
+pub mod Tables

@@ -12,9 +12,10 @@ use Rattle.wasm_instructions.specs.declared.code.Code.{Code}
 use Rattle.wasm_instructions.specs.declared.code.Code.TheVariants.{Known, Float}
 use Rattle.wasm_instructions.specs.Spelled.{Spelled}
 use Rattle.wasm_instructions.specs.Form.{Form, bare, indexed, access, typed, labels, indirect, reserved, constant_i32, constant_i64, bulk, float_bare, float_access, float_constant, br_table, block}
-use Rattle.wasm_instructions.specs.Table.{Rows, lookup, control, parametric, variable, load_rows, store_rows, sizes_and_constants, numeric_forms, rows_from, numeric, rows_near, form_of}
+use Rattle.wasm_instructions.specs.Table.{Rows, control, parametric, variable, load_rows, store_rows, sizes_and_constants, numeric_forms, numeric, rows_near, form_of}
 use Rattle.wasm_instructions.specs.Grammar.{immediates, behind_opcode, instruction}
 use Rattle.std.proofs.lemmas.Bool.{and_parts}
+use Rattle.wasm_bytes.specs.Tables.{lookup, rows_from}
 
 -- ---- what is claimed
 

@@ -7,9 +7,10 @@ use Rattle.wasm_syntax.specs.declared.module.ModuleParts.{ModuleParts}
 use Rattle.wasm_syntax.specs.Module.{AllWrite, InOrder}
 use Rattle.wasm_syntax.specs.Sizes.{ShortBody, WithinLimits}
 use Rattle.wasm_syntax.specs.Tree.{Tree}
-use Rattle.wasm_encode.specs.Encoding.{vector_bytes, vector_section, start_section, header, function_type_bytes, import_bytes, table_bytes, limits_bytes, global_bytes, export_bytes, element_bytes, function_bytes, entry_bytes, segment_bytes, declarations, front_sections, encoding}
+use Rattle.wasm_encode.specs.Encoding.{vector_bytes, vector_section, start_section, function_type_bytes, import_bytes, table_bytes, limits_bytes, global_bytes, export_bytes, element_bytes, function_bytes, entry_bytes, segment_bytes, declarations, front_sections, encoding}
 use Rattle.wasm_encode.specs.Fits.{FitsBody}
 use Rattle.wasm_encode.proofs.SpelledEntries.{CanEnter}
+use Rattle.wasm_bytes.specs.Tables.{header}
 
 halves : (n : ℕ) (a b : List ℕ) → length (a ++ b) < n → (length a < n) × (length b < n)
 halves n a b h = (omega (arith, h, length-append a b), omega (arith, h, length-append a b))

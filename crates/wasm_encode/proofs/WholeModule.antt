@@ -22,7 +22,7 @@ use Rattle.wasm_format.specs.declared.module.SpelledModule.{SpelledModule}
 use Rattle.wasm_format.specs.Notes.{plain}
 use Rattle.wasm_format.specs.Sections.{with_parts, with_plain, with_types, with_imports, with_functions, with_tables, with_memories, with_globals, with_exports, with_start, with_elements, with_bodies, with_segments, no_parts, no_sections}
 use Rattle.wasm_format.specs.Grammar.{functype, import_entry, table, limits, global_entry, export_entry, element_entry, code, segment_entry}
-use Rattle.wasm_encode.specs.Encoding.{vector_bytes, vector_section, start_section, header, function_type_bytes, import_bytes, table_bytes, limits_bytes, global_bytes, export_bytes, element_bytes, entry_bytes, segment_bytes, declarations, front_sections, encoding}
+use Rattle.wasm_encode.specs.Encoding.{vector_bytes, vector_section, start_section, function_type_bytes, import_bytes, table_bytes, limits_bytes, global_bytes, export_bytes, element_bytes, entry_bytes, segment_bytes, declarations, front_sections, encoding}
 use Rattle.wasm_encode.specs.Fits.{Fits32, FitsLimits, FitsExpression, FitsElement, FitsSegment, FitsModule}
 use Rattle.wasm_encode.specs.SameModule.{SpellsSame}
 use Rattle.wasm_encode.proofs.Spellings.{vector_spelled, wrapped_vector, vector_alike, same_length}
@@ -31,6 +31,7 @@ use Rattle.wasm_encode.proofs.SpelledEntries.{global_spelled, element_spelled, s
 use Rattle.wasm_encode.proofs.SpelledSections.{Says, Adds, section_adds, none_adds, then_adds, vector_adds}
 use Rattle.wasm_encode.proofs.Sizes.{SmallSections, small_sections, small_entries, small_locals, all_enter, both}
 use Rattle.wasm_bytes.proofs.Numbers.{u32_spelled}
+use Rattle.wasm_bytes.specs.Tables.{header}
 
 -- ---- what the sections up to an id say
 

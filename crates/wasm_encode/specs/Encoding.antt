@@ -17,6 +17,7 @@ use Rattle.wasm_syntax.specs.declared.parts.Limits.{Limits}
 use Rattle.wasm_syntax.specs.declared.parts.LocalGroup.{LocalGroup}
 use Rattle.wasm_syntax.specs.declared.module.ModuleParts.{ModuleParts}
 use Rattle.wasm_instructions.specs.Encoding.{encoding as instruction_bytes}
+use Rattle.wasm_bytes.specs.Tables.{header}
 
 -- ---- vectors, sizes and names
 
@@ -112,10 +113,6 @@ vector_section id bytes (x ∷ xs) = section_bytes id (vector_bytes bytes (x ∷
 abbrev pub start_section : Option ℕ → List ℕ
 start_section None = []
 start_section (Some f) = section_bytes 8 (unsigned_bytes f)
-
--- magic and version
-abbrev pub header : List ℕ
-header = 0x00 ∷ 0x61 ∷ 0x73 ∷ 0x6d ∷ 0x01 ∷ 0x00 ∷ 0x00 ∷ 0x00 ∷ []
 
 -- types, imports, and the types of functions, tables and memories
 unfoldable pub declarations : ModuleParts → List ℕ

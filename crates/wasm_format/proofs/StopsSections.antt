@@ -12,7 +12,7 @@ use Rattle.wasm_bytes.proofs.StopsLists.{choose_stops_at, vector_stops_at, steps
 use Rattle.wasm_format.specs.declared.module.SpelledModule.{SpelledModule}
 use Rattle.wasm_format.specs.Form.{functype_item, limits_item, table_item, globaltype_item, import_item, export_item}
 use Rattle.wasm_format.specs.Expressions.{expression_item}
-use Rattle.wasm_format.specs.Sections.{global_of, global_item, element_of, element_item, segment_of, segment_item, with_types, with_imports, with_functions, with_tables, with_memories, with_globals, with_exports, with_start, with_elements, with_bodies, with_segments, contents_item, with_custom, custom_item, may_follow, measured, section_behind, section_step, header, no_sections, sections_item, has_bodies, module_item}
+use Rattle.wasm_format.specs.Sections.{global_of, global_item, element_of, element_item, segment_of, segment_item, with_types, with_imports, with_functions, with_tables, with_memories, with_globals, with_exports, with_start, with_elements, with_bodies, with_segments, contents_item, with_custom, custom_item, may_follow, measured, section_behind, section_step, no_sections, sections_item, has_bodies, module_item}
 use Rattle.wasm_format.specs.Grammar.{functype, limits, table, globaltype, import_entry, export_entry, expression, global_entry, element_entry, segment_entry, contents, custom_contents, section_entry, sections, module_file}
 use Rattle.wasm_format.specs.Breaking.{functype_stops, limits_stops, table_stops, import_stops, export_stops, global_stops, element_stops, segment_stops, items_of_section, contents_stops, section_tail_stops, IsNextId, section_stops, sections_stops, module_stops}
 use Rattle.wasm_format.proofs.Tests.{on_test_stops, picks_stops, offset_stops, total_stops_at}
@@ -21,6 +21,7 @@ use Rattle.wasm_format.proofs.ExactExpressions.{expression_exact}
 use Rattle.wasm_format.proofs.ExactSections.{global_exact, element_exact, segment_exact, contents_exact, custom_open_tail, section_exact, section_takes, sections_tail, module_tail}
 use Rattle.wasm_format.proofs.StopsForm.{noted_vector_stops_at, functype_stops_at, limits_stops_at, table_stops_at, globaltype_stops_at, import_stops_at, export_stops_at}
 use Rattle.wasm_format.proofs.StopsExpressions.{expression_stops_at, bodies_stops_at}
+use Rattle.wasm_bytes.specs.Tables.{header}
 
 -- ---- globals and segments
 

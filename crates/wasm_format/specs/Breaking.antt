@@ -10,8 +10,9 @@ use Rattle.wasm_format.specs.declared.module.SpelledModule.{SpelledModule}
 use Rattle.wasm_format.specs.Choices.{stops_on_test, or_else, first_and}
 use Rattle.wasm_format.specs.Form.{is_valtype, is_mutability, is_export_kind, no_locals, is_room}
 use Rattle.wasm_format.specs.Expressions.{may_stand, instr_of, no_code, is_closed}
-use Rattle.wasm_format.specs.Sections.{may_follow, header, no_sections, has_bodies}
+use Rattle.wasm_format.specs.Sections.{may_follow, no_sections, has_bodies}
 use Rattle.wasm_format.specs.Grammar.{valtype, noted_vector, functype, limits, table, globaltype, import_entry, export_kind, export_entry, instr_entry, expression, group_entry, locals, code_contents, code, global_entry, element_entry, segment_entry, contents, section_entry, sections}
+use Rattle.wasm_bytes.specs.Tables.{header}
 
 abbrev pub no_byte : ℕ → Stops
 no_byte b = unread (always (byte b))

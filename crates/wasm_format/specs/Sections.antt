@@ -19,6 +19,7 @@ use Rattle.wasm_format.specs.Notes.{noted_as, noted_both, together, noted_vector
 use Rattle.wasm_format.specs.Form.{functype_item, limits_item, table_item, globaltype_item, import_item, export_item}
 use Rattle.wasm_format.specs.Expressions.{expression_item, code_item}
 use Rattle.std.specs.Option.{option_or}
+use Rattle.wasm_bytes.specs.Tables.{header}
 
 -- ---- globals and segments
 
@@ -149,10 +150,6 @@ section_behind s from id =
 -- a section, and what it adds
 unfoldable pub section_step : SpelledModule → Place → Read SpelledModule
 section_step s = here_item ▷ λ from. choose (section_behind s from)
-
--- the magic and the version (Core 5.5.15)
-abbrev pub header : List ℕ
-header = 0x00 ∷ 0x61 ∷ 0x73 ∷ 0x6d ∷ 0x01 ∷ 0x00 ∷ 0x00 ∷ 0x00 ∷ []
 
 -- no section, whose module is the header alone
 unfoldable pub no_parts : ModuleParts

@@ -5,7 +5,8 @@ use Rattle.std.specs.List.{slice_get}
 use Rattle.std.proofs.lemmas.Bool.{cases_lt, eq-eqb, ne_eqb}
 use Rattle.wasm_syntax.specs.declared.value.ValType.TheVariants.{I32, I64}
 use Rattle.wasm_instructions.specs.Form.{Form, float_bare}
-use Rattle.wasm_instructions.specs.Table.{lookup, rows_from, numeric_forms, numeric, tests_of, operators_of, floats}
+use Rattle.wasm_instructions.specs.Table.{numeric_forms, numeric, tests_of, operators_of, floats}
+use Rattle.wasm_bytes.specs.Tables.{lookup, rows_from}
 
 abbrev some : Form → Option Form
 some form = Some form

@@ -29,10 +29,11 @@ use Rattle.wasm_instructions.specs.declared.code.Code.{Code}
 use Rattle.wasm_instructions.specs.declared.code.Code.TheVariants.{Known, Float}
 use Rattle.wasm_instructions.specs.Spelled.{Spelled, alone, float}
 use Rattle.wasm_instructions.specs.Form.{Form, bare, indexed, access, typed, labels, indirect, reserved, constant_i32, constant_i64, bulk, float_bare, float_access, float_constant, bulk_of, bulk_zeros}
-use Rattle.wasm_instructions.specs.Table.{Rows, lookup, control, parametric, indexed_basic, variable, load, store, load_rows, store_rows, sizes_and_constants, comparisons, unaries, operations, basic, tests_of, operators_of, floats, numeric_forms, rows_from, numeric, rows_near, form_of}
+use Rattle.wasm_instructions.specs.Table.{Rows, control, parametric, indexed_basic, variable, load, store, load_rows, store_rows, sizes_and_constants, comparisons, unaries, operations, basic, tests_of, operators_of, floats, numeric_forms, numeric, rows_near, form_of}
 use Rattle.wasm_instructions.specs.Grammar.{immediates, behind_opcode, instruction}
 use Rattle.wasm_instructions.specs.Encoding.{two_numbers, basic_bytes, labels_bytes, encoding, targets_of, spelled_of}
 use Rattle.wasm_leb.proofs.Tools.{chosen}
+use Rattle.wasm_bytes.specs.Tables.{lookup, rows_from}
 
 abbrev some : Form → Option Form
 some form = Some form

@@ -16,7 +16,8 @@ use Rattle.wasm_instructions.specs.declared.code.Code.TheVariants.{Known, Float}
 use Rattle.wasm_instructions.specs.declared.code.ReadInstr.{ReadInstr}
 use Rattle.wasm_instructions.specs.Spelled.{Spelled, alone, float}
 use Rattle.wasm_instructions.specs.Form.{Form, bare, indexed, access, typed, labels, indirect, reserved, constant_i32, constant_i64, bulk, float_bare, float_access, float_constant, const_i32, const_i64, br_table, is_zero, call_indirect, is_block_type, block, is_bulk, bulk_of, bulk_zeros}
-use Rattle.wasm_instructions.specs.Table.{Rows, lookup, form_of}
+use Rattle.wasm_instructions.specs.Table.{Rows, form_of}
+use Rattle.wasm_bytes.specs.Tables.{lookup}
 
 unfoldable pub block_type_item : (Option ValType → Instr) → Place → Read Spelled
 block_type_item to = here_item ▷ λ at. mapped (block to at) (one_of_item is_block_type)

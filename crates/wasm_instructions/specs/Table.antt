@@ -1,5 +1,5 @@
 -- The table of opcodes (WebAssembly Core 1.0, 5.4 and the index of instructions; Core 2.0 for C0 to C4 and FC).
-use Rattle.std.specs.Prelude.{ℕ, ◌+◌, List, [], ◌∷◌, ◌++◌, map, replicate, Option, Some, None, ◌==◌, nat_le, if◌then◌else◌}
+use Rattle.std.specs.Prelude.{ℕ, ◌+◌, List, [], ◌∷◌, ◌++◌, map, replicate, Option, nat_le, if◌then◌else◌}
 use Rattle.int_ops.specs.declared.operators.Unary.{Unary}
 use Rattle.int_ops.specs.declared.operators.Unary.TheVariants.{Clz, Ctz, Popcnt}
 use Rattle.int_ops.specs.declared.operators.Compare.{Compare as Comparison}
@@ -21,14 +21,11 @@ use Rattle.wasm_syntax.specs.declared.instruction.Basic.TheVariants as basics
 use Rattle.wasm_syntax.specs.declared.instruction.Jump.TheVariants as jumps
 use Rattle.wasm_syntax.specs.declared.instruction.Instr.TheVariants as instr
 use Rattle.wasm_instructions.specs.Form.{Form, bare, indexed, access, typed, labels, indirect, reserved, constant_i32, constant_i64, bulk, float_bare, float_access, float_constant}
+use Rattle.wasm_bytes.specs.Tables.{lookup, rows_from}
 
 -- rows of the table: an opcode, and the form of what it begins
 abbrev pub Rows : Type 0
 Rows = List (ℕ × Form)
-
-abbrev pub lookup : ℕ → Rows → Option Form
-lookup opcode [] = None
-lookup opcode (row ∷ rows) = if opcode == row.0 then Some row.1 else lookup opcode rows
 
 -- ---- control instructions (5.4.1)
 
@@ -111,11 +108,6 @@ numeric_forms =
     ++ basic (basics.Convert Wrap) ∷ floats 4 ++ basic (basics.Convert ExtendS) ∷ basic (basics.Convert ExtendU) ∷ floats 18
     ++ basic (basics.Extend32 narrow32.Eight) ∷ basic (basics.Extend32 narrow32.Sixteen)
     ∷ basic (basics.Extend64 narrow64.Eight) ∷ basic (basics.Extend64 narrow64.Sixteen) ∷ basic (basics.Extend64 narrow64.ThirtyTwo) ∷ []
-
--- forms of opcodes that follow one another
-abbrev pub rows_from : ℕ → List Form → Rows
-rows_from first [] = []
-rows_from first (form ∷ forms) = (first, form) ∷ rows_from (first + 1) forms
 
 unfoldable pub numeric : Rows
 numeric = rows_from 0x45 numeric_forms

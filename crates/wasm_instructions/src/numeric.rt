@@ -2,7 +2,8 @@
 
 ghost use Rattle.std.specs.Prelude.{ℕ, ◌≡◌, ◌<◌, ◌≤◌, slice_get};
 ghost use Rattle.wasm_bytes.specs.Reading.{done_item};
-ghost use Rattle.wasm_instructions.specs.Table.{basic, tests_of, operators_of, numeric, lookup};
+ghost use Rattle.wasm_instructions.specs.Table.{basic, tests_of, operators_of, numeric};
+ghost use Rattle.wasm_bytes.specs.Tables.{lookup};
 ghost use Rattle.wasm_instructions.specs.Reading.{numeric_form, item_behind, made_of};
 
 use crate::code::Code;

@@ -5,8 +5,8 @@ use Rattle.wasm_bytes.specs.Place.{Place}
 use Rattle.wasm_bytes.specs.Reading.{◌>>=◌, byte_of, if_passes, byte_item, one_of_item, fixed_item, bytes_item}
 use Rattle.wasm_bytes.specs.Laws.{got}
 use Rattle.wasm_bytes.proofs.Places.{got_is, bind_ok}
-use Rattle.wasm_format.specs.Sections.{header}
 use Rattle.wasm_leb.proofs.Tools.{chosen}
+use Rattle.wasm_bytes.specs.Tables.{header}
 
 byte_at : (o : Option ℕ) (p q : Place) (c : ℕ) → byte_of p o ≡ got c q → q.at ≡ p.at + 1
 byte_at (Some b) p q c read = let same = got_is b c (record p { at = p.at + 1 }) q read in ap (λ (r : Place). r.at) (sym same.1)

@@ -6,7 +6,8 @@ ghost use Rattle.wasm_bytes.specs.Reading.{mapped, u32_item, vector_item, bytes_
 ghost use Rattle.wasm_bytes.specs.Answers.{Gives, with_state};
 ghost use Rattle.wasm_format.specs.Notes.{noted_vector_item};
 ghost use Rattle.wasm_format.specs.Form.{functype_item, limits_item, table_item, import_item, export_item};
-ghost use Rattle.wasm_format.specs.Sections.{global_item, element_item, segment_item, bodies_item, with_types, with_imports, with_functions, with_tables, with_memories, with_globals, with_exports, with_start, with_elements, with_bodies, with_segments, contents_item, custom_item, section_step, header, no_sections, module_item};
+ghost use Rattle.wasm_format.specs.Sections.{global_item, element_item, segment_item, bodies_item, with_types, with_imports, with_functions, with_tables, with_memories, with_globals, with_exports, with_start, with_elements, with_bodies, with_segments, contents_item, custom_item, section_step, no_sections, module_item};
+ghost use Rattle.wasm_bytes.specs.Tables.{header};
 ghost use Rattle.wasm_sections.specs.Steps.{GivesWhole};
 
 use crate::bodies::bodies;
