@@ -1,6 +1,6 @@
 -- The answer on a valid module, from what its parts ensure.
 use Rattle.std.proofs.Common.{◌≡◌, ℕ, suc, ◌+◌, ◌-◌, ◌<◌, ◌≤◌, ◌^◌, false, List, [], ◌∷◌, ◌++◌, map, length, drop, refl, sym, ap, ◌∙◌, subst, arith, Option, None, Result, Ok, Err, length-append}
-use Rattle.std.specs.Prelude.{IfOk}
+use Rattle.std.specs.Prelude.{IfOk, unwrap_or}
 use Rattle.std.proofs.lemmas.List.{append-nil}
 use Rattle.wasm_bytes.specs.Reading.{whole}
 use Rattle.wasm_syntax.specs.declared.host.Reply.{Reply}
@@ -34,7 +34,7 @@ use Rattle.run_session.specs.inner.Answers.{answer_line}
 use Rattle.run_session.specs.inner.Sessions.{EndsIn}
 use Rattle.run_command.specs.Hosting.{start_text}
 use Rattle.run_command.specs.AllRan.{end_text}
-use Rattle.run_command.specs.RunAnswer.{hosting, script_replies, Logs, StartsOr, IfRefusal}
+use Rattle.run_command.specs.RunAnswer.{hosting, Logs, StartsOr, IfRefusal}
 use Rattle.run_command.specs.inner.Begun.{HasBegun}
 use Rattle.run_command.specs.declared.running.Begun.TheVariants.{Ready, Refused}
 use Rattle.run_command.proofs.Answering.{HostFacts, line_is, uses_up, has_failed}
@@ -188,7 +188,7 @@ module _ (before after : List DeviceState) (script : Option (List Reply)) (w : C
   runs_within = sym r.gives ∙ as_run w s p refl new f (replies_of given ++ []) within_steps ∙ ap (λ l. covered_run p w f l within_steps) (append-nil (replies_of given))
 
   abbrev left : List Reply
-  left = drop h1.given (script_replies script)
+  left = drop h1.given (unwrap_or script [])
 
   -- ---- where memory was wanting
 

@@ -1,5 +1,5 @@
 -- What `cover` answers. Refusals, and who serves imports, are as with `run`.
-use Rattle.std.specs.Prelude.{◌≡◌, ◌⊎◌, ℕ, ◌-◌, false, List, [], ◌∷◌, ◌++◌, map, length, Option, Some, codes}
+use Rattle.std.specs.Prelude.{◌≡◌, ◌⊎◌, ℕ, ◌-◌, false, List, [], ◌∷◌, ◌++◌, map, length, Option, Some, codes, unwrap_or}
 use Rattle.pm_outside.specs.Contents.{Contents}
 use Rattle.wasm_syntax.specs.declared.value.Value.{Value}
 use Rattle.wasm_syntax.specs.declared.parts.Import.{Import}
@@ -25,7 +25,7 @@ use Rattle.run_session.specs.Invocations.{invocation_of}
 use Rattle.run_session.specs.Written.{Writes}
 use Rattle.run_command.specs.Hosting.{scripted, start_text}
 use Rattle.run_command.specs.AllRan.{end_text}
-use Rattle.run_command.specs.RunAnswer.{hosting, script_replies, script_of, replies_input, UsesUp, HasFailed, Logs, StartsOr, IfRefusal, IsUntouched}
+use Rattle.run_command.specs.RunAnswer.{hosting, script_of, replies_input, UsesUp, HasFailed, Logs, StartsOr, IfRefusal, IsUntouched}
 use Rattle.debug_frames.specs.Information.{information}
 use Rattle.debug_frames.specs.declared.programs.Program.{Program as LineProgram}
 use Rattle.cover_command.specs.SourceLines.{SourceLine, source_line}
@@ -71,7 +71,7 @@ pub record CoversTo (before after : List DeviceState) (script : Option (List Rep
   pub runs : ran ≡ covered_run program w function (replies_of given) w.fuel
   pub all_given : given ≡ given_to ran
   pub left : List Reply
-  pub by_script : script_replies script ≡ replies_of (scripted (names before) m.imports given) ++ left
+  pub by_script : unwrap_or script [] ≡ replies_of (scripted (names before) m.imports given) ++ left
   pub used_up : UsesUp (hosting before script false) m left ran.outcome
   pub failed : HasFailed before after m ran.outcome
   -- each step that was made has its place

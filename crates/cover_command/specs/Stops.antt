@@ -1,5 +1,5 @@
 -- What is left where memory is wanting, or where a file fails.
-use Rattle.std.specs.Prelude.{◌≡◌, ℕ, ◌≤◌, ◌⊎◌, false, List, ◌++◌, Option, Some, None, Ok}
+use Rattle.std.specs.Prelude.{◌≡◌, ℕ, ◌≤◌, ◌⊎◌, false, List, ◌++◌, Option, Some, None, Ok, unwrap_or, []}
 use Rattle.pm_outside.specs.Contents.{Contents}
 use Rattle.wasm_syntax.specs.declared.quantity.Quantity.TheVariants.{ModuleBytes}
 use Rattle.wasm_syntax.specs.declared.host.Reply.{Reply}
@@ -17,7 +17,7 @@ use Rattle.run_words.specs.declared.cover.CoverWords.{CoverWords}
 use Rattle.run_session.specs.Given.{given_to}
 use Rattle.run_session.specs.Stop.{Stop, no_memory}
 use Rattle.run_command.specs.Hosting.{scripted, start_text}
-use Rattle.run_command.specs.RunAnswer.{Logs, hosting, script_replies, script_of, replies_input}
+use Rattle.run_command.specs.RunAnswer.{Logs, hosting, script_of, replies_input}
 use Rattle.run_command.specs.Stops.{NothingDone}
 use Rattle.cover_command.specs.CoverAnswer.{covered_run, called, IsReadBy}
 
@@ -34,7 +34,7 @@ pub record CoversFor (w : CoverWords) (m : Module) (script : Option (List Reply)
   pub given : List Served
   pub all_given : given ≡ given_to (covered_run program w function (replies_of given) fuel)
   pub left : List Reply
-  pub by_script : script_replies script ≡ replies_of (scripted (names before) m.imports given) ++ left
+  pub by_script : unwrap_or script [] ≡ replies_of (scripted (names before) m.imports given) ++ left
   pub logs : Logs m given before after
 
 -- Memory was wanting behind the start of the invocation: the bytes are read whole and spell a module that is taken, the replies are taken

@@ -3,7 +3,8 @@ use Rattle.std.proofs.Common.{◌≡◌, ℕ, zero, suc, ◌+◌, ◌-◌, ◌<�
 use Rattle.std.proofs.lemmas.List.{append-nil, drop_all}
 use Rattle.wasm_syntax.specs.declared.value.Seen.{Seen}
 use Rattle.wasm_syntax.specs.declared.value.Seen.TheVariants.{Missing}
-use Rattle.debug_listings.specs.Listings.{numbered, value_line, none_text, listing, recorded_or}
+use Rattle.debug_listings.specs.Listings.{value_line, none_text, listing, recorded_or}
+use Rattle.command_answers.specs.Values.{numbered}
 
 numbered_cons : {A : Type 0} (line : ℕ → A → List ℕ) (i : ℕ) (x : A) (xs : List A) → numbered line i (x ∷ xs) ≡ line i x ++ numbered line (i + 1) xs
 numbered_cons line i x xs = refl

@@ -1,11 +1,10 @@
 -- Listings of recorded values.
 use Rattle.std.specs.Prelude.{ℕ, List, [], ◌∷◌, ◌++◌, replicate, codes}
-use Rattle.std.specs.List.{flat_map, enumerate_from}
 use Rattle.std.specs.Fmt.{decimal}
 use Rattle.wasm_syntax.specs.declared.value.Value.TheVariants as values
 use Rattle.wasm_syntax.specs.declared.value.Seen.{Seen}
 use Rattle.wasm_syntax.specs.declared.value.Seen.TheVariants as seens
-use Rattle.command_answers.specs.Values.{value_text}
+use Rattle.command_answers.specs.Values.{value_text, numbered}
 
 abbrev pub seen_text : Seen → List ℕ
 seen_text (seens.I32 n) = value_text (values.I32 n)
@@ -14,10 +13,6 @@ seen_text seens.Missing = codes "<not recorded>"
 
 unfoldable pub value_line : List ℕ → ℕ → Seen → List ℕ
 value_line label n v = label ++ codes " " ++ decimal n ++ codes " " ++ seen_text v ++ codes "\n"
-
--- a line for each, numbered from this number on
-abbrev pub numbered : {A : Type 0} → (ℕ → A → List ℕ) → ℕ → List A → List ℕ
-numbered line n xs = flat_map (λ x. line x.0 x.1) (enumerate_from n xs)
 
 unfoldable pub none_text : List ℕ → List ℕ
 none_text label = codes "no " ++ label ++ codes "s\n"

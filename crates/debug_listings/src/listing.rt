@@ -1,7 +1,8 @@
 //! Listings of locals, operands and globals.
 
 ghost use Rattle.std.specs.Prelude.{◌≡◌, ◌++◌, replicate, OnOk};
-ghost use Rattle.debug_listings.specs.Listings.{seen_text, value_line, numbered, listing, none_text, recorded_or};
+ghost use Rattle.debug_listings.specs.Listings.{seen_text, value_line, listing, none_text, recorded_or};
+ghost use Rattle.command_answers.specs.Values.{numbered};
 ghost use Rattle.wasm_syntax.specs.declared.value.Seen.TheVariants.{Missing};
 
 use causes::NoMemory;

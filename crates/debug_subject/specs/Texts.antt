@@ -9,12 +9,13 @@ use Rattle.wasm_syntax.specs.Sizes.{local_count}
 use Rattle.wasm_validate.specs.Heights.{body_of}
 use Rattle.dump_format.specs.declared.dump.Frame.{Frame}
 use Rattle.dump_match.specs.States.{StateOperandCount}
-use Rattle.debug_listings.specs.Listings.{numbered, listing, recorded_or}
+use Rattle.debug_listings.specs.Listings.{listing, recorded_or}
 use Rattle.debug_recorded.specs.Recorded.{recorded_globals, recorded_memory}
 use Rattle.debug_recorded.specs.Examined.{examined_text}
 use Rattle.debug_frames.specs.Frames.{frame_text}
 use Rattle.debug_frames.specs.Unreadable.{unreadable_text}
 use Rattle.debug_subject.specs.Subject.{Subject}
+use Rattle.command_answers.specs.Values.{numbered}
 
 -- ---- frames
 

@@ -1,7 +1,7 @@
 //! The texts of frames, and of the values that a dump records.
 
 ghost use Rattle.std.specs.Prelude.{◌≡◌, ◌<◌, ◌≤◌, ◌++◌, ℕ, List, OnOk, slice_get, Some, length};
-ghost use Rattle.debug_listings.specs.Listings.{numbered};
+ghost use Rattle.command_answers.specs.Values.{numbered};
 ghost use Rattle.debug_frames.specs.Frames.{frame_text};
 ghost use Rattle.debug_frames.specs.Unreadable.{unreadable_text};
 ghost use Rattle.debug_subject.specs.Texts as definitions;

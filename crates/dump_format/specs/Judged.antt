@@ -1,5 +1,5 @@
 -- What parts say together: the dump that they make, or why they make none.
-use Rattle.std.specs.Prelude.{ℕ, List, [], ◌∷◌, ◌++◌, length, map, fold, Option, Some, None, Result, Ok, Err, Bool, true, false, nat_lt, if◌then◌else◌}
+use Rattle.std.specs.Prelude.{ℕ, List, [], ◌∷◌, ◌++◌, length, map, fold, Option, Some, None, Result, Bool, true, false, nat_lt, if◌then◌else◌, option_map}
 use Rattle.std.specs.List.{flat_map}
 use Rattle.wasm_syntax.specs.declared.value.Seen.{Seen}
 use Rattle.wasm_syntax.specs.declared.value.Seen.TheVariants as seen
@@ -18,6 +18,7 @@ use Rattle.dump_format.specs.declared.fault.DumpFault.TheVariants.{FloatValue, S
 use Rattle.dump_format.specs.Region.{Region}
 use Rattle.dump_format.specs.Parts.{Shown, known, float, ShownFrame, Part, core, modules, instances, stack, memories, globals, segments, passed}
 use Rattle.dump_format.specs.Form.{pages_of}
+use Rattle.wasm_bytes.specs.Refusals.{◌orelse◌, unless_refused}
 
 -- ---- values without floats
 
@@ -142,29 +143,17 @@ repeated ps =
 abbrev pub over : Quantity → ℕ → Option DumpFault
 over what count = if nat_lt (greatest what) count then Some (Limit what count) else None
 
--- the first of two refusals
-infixr 6 ◌orelse◌
-abbrev pub ◌orelse◌ : Option DumpFault → Option DumpFault → Option DumpFault
-(Some e) orelse other = Some e
-None orelse other = other
-
 abbrev pub at_float : Option ℕ → Option DumpFault
-at_float None = None
-at_float (Some at) = Some (FloatValue at)
+at_float o = option_map FloatValue o
 
 abbrev pub at_repeated : Option DumpPart → Option DumpFault
-at_repeated None = None
-at_repeated (Some part) = Some (Several part)
+at_repeated o = option_map Several o
 
 -- why these parts are refused
 unfoldable pub refusal : List Part → Option DumpFault
 refusal ps =
     at_float (first_of (flat_map floats_in ps)) orelse at_repeated (repeated ps)
     orelse over DumpPages (pages_of (memory_of ps)) orelse over DumpFrames (length (frames_of ps))
-
-abbrev pub unless_refused : {A : Type 0} → Option DumpFault → A → Result A DumpFault
-unless_refused None x = Ok x
-unless_refused (Some e) x = Err e
 
 abbrev pub judged : List Part → Result Dump DumpFault
 judged ps = unless_refused (refusal ps) (dump_of ps)

@@ -1,7 +1,8 @@
 //! What is gathered from the sections of a dump.
 
 ghost use Rattle.std.specs.Prelude.{◌≡◌, [], length};
-ghost use Rattle.dump_format.specs.Judged.{over, unless_refused};
+ghost use Rattle.dump_format.specs.Judged.{over};
+ghost use Rattle.wasm_bytes.specs.Refusals.{unless_refused};
 ghost use Rattle.dump_format.specs.inner.Gathering.{nothing_gathered, first_memory, found_or, repeated_in, too_many_in, refusal_in, dump_in};
 
 use crate::dump::{Dump, Frames, Instances, Segments, Texts, Values};

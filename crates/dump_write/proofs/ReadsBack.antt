@@ -19,7 +19,7 @@ use Rattle.dump_format.specs.declared.fault.DumpFault.{DumpFault}
 use Rattle.dump_format.specs.Region.{Region}
 use Rattle.dump_format.specs.Parts.{Part, core, modules, instances, stack, memories, globals, segments, known}
 use Rattle.dump_format.specs.Form.{pages_of}
-use Rattle.dump_format.specs.Judged.{◌orelse◌, at_float, at_repeated, first_of, seen_of, value_of, frame_of, float_in, frame_floats, floats_in, dump_of, memory_of, frames_of, refusal, repeated, last_id, over}
+use Rattle.dump_format.specs.Judged.{at_float, at_repeated, first_of, seen_of, value_of, frame_of, float_in, frame_floats, floats_in, dump_of, memory_of, frames_of, refusal, repeated, last_id, over}
 use Rattle.dump_format.specs.Decode.{dump_from}
 use Rattle.dump_format.specs.Sections.{has_core, parts_item}
 use Rattle.dump_format.specs.Grammar.{section_entry, one_section, dump_file}
@@ -29,6 +29,7 @@ use Rattle.dump_write.specs.Typed.{IsValueTyped, IsFrameTyped}
 use Rattle.dump_write.proofs.SpelledParts.{shown_frame, IsPlaced}
 use Rattle.dump_write.proofs.SpelledSections.{IsSmallInstance, core_spelled, modules_spelled, instances_spelled, stack_spelled, memory_spelled, globals_spelled, data_spelled, step_on, step_last}
 use Rattle.wasm_bytes.specs.Tables.{header}
+use Rattle.wasm_bytes.specs.Refusals.{◌orelse◌}
 
 -- ---- the parts
 

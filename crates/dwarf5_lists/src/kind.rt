@@ -23,37 +23,39 @@ pub enum EntryKind {
     StartLength,
 }
 
+const LOCATION_KINDS: [EntryKind; 9] = [
+    EntryKind::EndOfList,
+    EntryKind::BaseAddressx,
+    EntryKind::StartxEndx,
+    EntryKind::StartxLength,
+    EntryKind::OffsetPair,
+    EntryKind::DefaultLocation,
+    EntryKind::BaseAddress,
+    EntryKind::StartEnd,
+    EntryKind::StartLength,
+];
+
+const RANGE_KINDS: [EntryKind; 8] = [
+    EntryKind::EndOfList,
+    EntryKind::BaseAddressx,
+    EntryKind::StartxEndx,
+    EntryKind::StartxLength,
+    EntryKind::OffsetPair,
+    EntryKind::BaseAddress,
+    EntryKind::StartEnd,
+    EntryKind::StartLength,
+];
+
 /// The kind of an entry of a location list by its number (7.7.3).
 pub fn location_kind(code: u8) -> Option<EntryKind>
     ensures { result ≡ location_kind code }
 {
-    match code {
-        0 => Some(EntryKind::EndOfList),
-        1 => Some(EntryKind::BaseAddressx),
-        2 => Some(EntryKind::StartxEndx),
-        3 => Some(EntryKind::StartxLength),
-        4 => Some(EntryKind::OffsetPair),
-        5 => Some(EntryKind::DefaultLocation),
-        6 => Some(EntryKind::BaseAddress),
-        7 => Some(EntryKind::StartEnd),
-        8 => Some(EntryKind::StartLength),
-        _ => None,
-    }
+    LOCATION_KINDS.get(usize::from(code)).copied()
 }
 
 /// The kind of an entry of a range list by its number (7.25).
 pub fn range_kind(code: u8) -> Option<EntryKind>
     ensures { result ≡ range_kind code }
 {
-    match code {
-        0 => Some(EntryKind::EndOfList),
-        1 => Some(EntryKind::BaseAddressx),
-        2 => Some(EntryKind::StartxEndx),
-        3 => Some(EntryKind::StartxLength),
-        4 => Some(EntryKind::OffsetPair),
-        5 => Some(EntryKind::BaseAddress),
-        6 => Some(EntryKind::StartEnd),
-        7 => Some(EntryKind::StartLength),
-        _ => None,
-    }
+    RANGE_KINDS.get(usize::from(code)).copied()
 }

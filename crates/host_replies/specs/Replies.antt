@@ -1,13 +1,13 @@
 -- Files of replies. A line that is empty or begins with `#` is skipped. Any other one is `none`, or a value such as `i32:-1`, and
 -- then writes such as `16=01ff`, behind one or more spaces each.
-use Rattle.std.specs.Prelude.{◌≡◌, ℕ, ◌+◌, ◌^◌, ◌&&◌, ◌==◌, nat_lt, nat_le, List, [], ◌∷◌, ◌++◌, length, take, drop, Option, Some, None, Result, Ok, Err, if◌then◌else◌, codes, bytes_eq, position, option_and_then, option_to_list}
+use Rattle.std.specs.Prelude.{◌≡◌, ℕ, ◌+◌, ◌&&◌, ◌==◌, nat_lt, nat_le, List, [], ◌∷◌, ◌++◌, length, take, drop, Option, Some, None, Result, Ok, Err, if◌then◌else◌, codes, bytes_eq, position, option_and_then, option_to_list, option_map}
 use Rattle.std.specs.List.{slice_split}
 use Rattle.std.specs.Option.{option_map}
 use Rattle.std.specs.Result.{result_ok}
 use Rattle.std.specs.Str.{is_utf8}
 use Rattle.std.specs.Str.Lines.{lines}
 use Rattle.hex.specs.Hex.{decode_of}
-use Rattle.pm_text.specs.Numbers.{decimal_value, number_value}
+use Rattle.pm_text.specs.Numbers.{decimal_value, number_value, positive_bits}
 use Rattle.pm_text.specs.declared.numbers.Number.{Number}
 use Rattle.wasm_syntax.specs.declared.value.Value.{Value}
 use Rattle.wasm_syntax.specs.declared.value.Value.TheVariants as values
@@ -30,20 +30,16 @@ first_word word =
     if bytes_eq word (codes "none") then Some None
     else (if is_utf8 word then option_map (λ n. Some (typed n)) (number_value word) else None)
 
-abbrev pub below_32_bits : ℕ → Option ℕ
-below_32_bits n = if nat_lt n (2 ^ 32) then Some n else None
-
 -- an address: 1 to 10 decimal digits
 unfoldable pub address : List ℕ → Option ℕ
-address digits = if nat_le (length digits) 10 && is_utf8 digits then option_and_then below_32_bits (decimal_value digits) else None
+address digits = if nat_le (length digits) 10 && is_utf8 digits then option_and_then (positive_bits 32) (decimal_value digits) else None
 
 -- one or more pairs of hexadecimal digits
 unfoldable pub pairs : List ℕ → Option (List ℕ)
 pairs digits = if length digits == 0 then None else result_ok (decode_of digits)
 
 abbrev pub with_pairs : ℕ → Option (List ℕ) → Option Write
-with_pairs at (Some bytes) = Some (record { at = at; bytes = bytes })
-with_pairs at None = None
+with_pairs at o = option_map (λ bytes. record { at = at; bytes = bytes }) o
 
 abbrev pub with_address : Option ℕ → List ℕ → Option Write
 with_address (Some at) digits = with_pairs at (pairs digits)

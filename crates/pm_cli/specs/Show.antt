@@ -1,6 +1,6 @@
 -- The lines that show a dump.
 use Rattle.std.specs.Prelude.{ℕ, List, [], ◌∷◌, ◌++◌, length, Option, Some, None, codes}
-use Rattle.std.specs.List.{flat_map, enumerate_from}
+use Rattle.std.specs.List.{flat_map}
 use Rattle.std.specs.Fmt.{decimal}
 use Rattle.pm_text.specs.Names.{quoted}
 use Rattle.wasm_syntax.specs.declared.value.Value.{Value}
@@ -9,7 +9,7 @@ use Rattle.wasm_syntax.specs.declared.value.Seen.{Seen}
 use Rattle.wasm_syntax.specs.declared.value.Seen.TheVariants as seen
 use Rattle.dump_format.specs.declared.dump.Frame.{Frame}
 use Rattle.dump_format.specs.declared.dump.Dump.{Dump}
-use Rattle.command_answers.specs.Values.{value_text}
+use Rattle.command_answers.specs.Values.{value_text, numbered}
 
 abbrev pub seen_text : Seen → List ℕ
 seen_text (seen.I32 n) = value_text (value.I32 n)
@@ -29,10 +29,6 @@ frame_text i f = place_text i f ++ codes " locals " ++ values_text f.locals ++ c
 
 unfoldable pub global_text : ℕ → Value → List ℕ
 global_text i v = codes "global " ++ decimal i ++ codes " " ++ value_text v ++ codes "\n"
-
--- a line for each, numbered from this number on
-abbrev pub numbered : {A : Type 0} → (ℕ → A → List ℕ) → ℕ → List A → List ℕ
-numbered line n xs = flat_map (λ x. line x.0 x.1) (enumerate_from n xs)
 
 abbrev pub memory_text : Option ℕ → List ℕ
 memory_text None = []

@@ -33,7 +33,7 @@ use Rattle.var_shown.specs.Shown.{path_shown}
 use Rattle.debug_commands.specs.declared.command.Command.{Command}
 use Rattle.debug_commands.specs.declared.command.Command.TheVariants as commands
 use Rattle.debug_commands.specs.Commands.{read_command, second_word}
-use Rattle.debug_listings.specs.Listings.{numbered, listing, recorded_or}
+use Rattle.debug_listings.specs.Listings.{listing, recorded_or}
 use Rattle.debug_recorded.specs.Recorded.{globals_in, laid_memory, memory_in, memory_among, recorded_globals, recorded_memory}
 use Rattle.debug_recorded.specs.Examined.{examined_text}
 use Rattle.debug_frames.specs.declared.information.Information.{Information}
@@ -58,6 +58,7 @@ use Rattle.replay_command.specs.ReplayText.{At, at_frame, at_step, commands_in, 
 use Rattle.replay_command.specs.ReplayAnswer.{recording, IsTold, ModuleAnswer, IfReplies, ReplayAnswer}
 use Rattle.validate_body.proofs.Flags.{true_false}
 use Rattle.pm_text.proofs.Lists.{some_is}
+use Rattle.command_answers.specs.Values.{numbered}
 
 same_number : (n k : ℕ) → (n < k → ⊥) → (k < n → ⊥) → n ≡ k
 same_number n k x y = omega (arith, x, y)

@@ -1,7 +1,7 @@
 -- Moves between the steps of a run: words with exactly one space between them.
-use Rattle.std.specs.Prelude.{ℕ, ◌+◌, ◌^◌, ◌==◌, nat_lt, List, [], ◌∷◌, take, drop, position, Option, Some, None, option_and_then, if◌then◌else◌, codes, bytes_eq}
+use Rattle.std.specs.Prelude.{ℕ, ◌+◌, ◌==◌, List, [], ◌∷◌, take, drop, position, Option, Some, None, option_and_then, if◌then◌else◌, codes, bytes_eq, option_map}
 use Rattle.std.specs.List.{slice_split}
-use Rattle.pm_text.specs.Numbers.{decimal_value}
+use Rattle.pm_text.specs.Numbers.{decimal_value, positive_bits}
 use Rattle.replay_words.specs.declared.moves.Move.{Move}
 use Rattle.replay_words.specs.declared.moves.Move.TheVariants.{Goto, Back, Until, Look}
 
@@ -9,17 +9,13 @@ use Rattle.replay_words.specs.declared.moves.Move.TheVariants.{Goto, Back, Until
 abbrev pub is_word : List ℕ → List ℕ → Move → Move → Move
 is_word given word move other = if bytes_eq given word then move else other
 
-abbrev pub below_32_bits : ℕ → Option ℕ
-below_32_bits n = if nat_lt n (2 ^ 32) then Some n else None
-
 -- a decimal number below 2 ^ 32
 abbrev pub number_32 : List ℕ → Option ℕ
-number_32 digits = option_and_then below_32_bits (decimal_value digits)
+number_32 digits = option_and_then (positive_bits 32) (decimal_value digits)
 
 -- the numbers on the two sides of the first colon, as in `0:5`: a function and a code offset
 abbrev pub with_offset : ℕ → Option ℕ → Option (ℕ × ℕ)
-with_offset function None = None
-with_offset function (Some offset) = Some (function, offset)
+with_offset function o = option_map (λ offset. (function, offset)) o
 
 abbrev pub sides : List ℕ → Option ℕ → Option (ℕ × ℕ)
 sides word None = None

@@ -5,7 +5,7 @@ use Rattle.wasm_syntax.specs.declared.value.ValType.{ValType}
 use Rattle.wasm_syntax.specs.declared.value.ValType.TheVariants.{I32, I64}
 use Rattle.wasm_syntax.specs.declared.value.Value.{Value}
 use Rattle.wasm_syntax.specs.declared.instruction.Basic.{Basic}
-use Rattle.wasm_syntax.specs.declared.instruction.Basic.TheVariants.{Nop, Drop, Select, LocalGet, LocalSet, LocalTee, GlobalGet, GlobalSet, Load, Store, MemorySize, MemoryGrow, MemoryCopy, MemoryFill, Const, Eqz, Unary, Compare, Binary, Convert, Extend32, Extend64}
+use Rattle.wasm_syntax.specs.declared.instruction.Basic.TheVariants.{Select, LocalGet, LocalTee, GlobalGet, Load, MemorySize, MemoryGrow, Const, Eqz, Unary, Compare, Binary, Convert, Extend32, Extend64}
 use Rattle.wasm_syntax.specs.declared.parts.LocalGroup.{LocalGroup}
 use Rattle.wasm_syntax.specs.declared.parts.FuncType.{FuncType}
 use Rattle.wasm_syntax.specs.declared.parts.Body.{Body}
@@ -86,16 +86,11 @@ second_type _ = None
 
 -- what an instruction gives on these places
 abbrev pub result_type : Ctx → List Place → Basic → Option ValType
-result_type C es Nop = None
-result_type C es Drop = None
 result_type C es Select = second_type es
 result_type C es (LocalGet x) = slice_get C.locals x
-result_type C es (LocalSet x) = None
 result_type C es (LocalTee x) = slice_get C.locals x
 result_type C es (GlobalGet x) = slice_get (map (λ g. g.vtype) C.source.globals) x
-result_type C es (GlobalSet x) = None
 result_type C es (Load l align o) = Some (load_type l)
-result_type C es (Store l align o) = None
 result_type C es MemorySize = Some I32
 result_type C es MemoryGrow = Some I32
 result_type C es (Const v) = Some (type_of v)
@@ -104,10 +99,9 @@ result_type C es (Unary t op) = Some t
 result_type C es (Compare t op) = Some I32
 result_type C es (Binary t op) = Some t
 result_type C es (Convert c) = Some (convert_to c)
-result_type C es MemoryCopy = None
-result_type C es MemoryFill = None
 result_type C es (Extend32 k) = Some I32
 result_type C es (Extend64 k) = Some I64
+result_type C es _ = None
 
 abbrev pub after_plain : Ctx → List Place → Basic → List Place
 after_plain C es i = grown (result_type C es i) (less (takes i) es)

@@ -26,7 +26,8 @@ use Rattle.rewrite_modules.specs.Instrumentable.{LightEnough}
 use Rattle.rewrite_modules.specs.Multiple.{highest}
 use Rattle.rewrite_modules.specs.Weight.{height_at, AreHeights, weight}
 use Rattle.rewrite_limits.specs.declared.limits.Excess.{Excess}
-use Rattle.rewrite_limits.specs.Limits.{function_locals, function_heights, first_over, ◌orelse◌, first_excess}
+use Rattle.rewrite_limits.specs.Limits.{function_locals, function_heights, first_over, first_excess}
+use Rattle.wasm_bytes.specs.Refusals.{◌orelse◌}
 
 -- an index at which nothing stands
 slice_get_none : {A : Type 0} (xs : List A) (i : ℕ) → slice_get xs i ≡ None → length xs ≤ i

@@ -10,6 +10,7 @@ use Rattle.wasm_syntax.specs.Sizes.{local_count, nesting}
 use Rattle.rewrite_modules.specs.Multiple.{highest}
 use Rattle.rewrite_modules.specs.Weight.{height_at, weight}
 use Rattle.rewrite_limits.specs.declared.limits.Excess.{Excess}
+use Rattle.wasm_bytes.specs.Refusals.{◌orelse◌}
 
 -- the locals, with parameters, of each of these functions, before the first of which i functions are defined
 abbrev pub function_locals : Module → ℕ → List Body → List ℕ
@@ -25,11 +26,6 @@ function_heights heights i (b ∷ bs) = highest (height_at heights i) 0 b.ops �
 abbrev pub first_over : Quantity → List ℕ → Option Excess
 first_over what [] = None
 first_over what (n ∷ ns) = if nat_lt (greatest what) n then Some (record { what = what; count = n }) else first_over what ns
-
-infixr 6 ◌orelse◌
-abbrev pub ◌orelse◌ : Option Excess → Option Excess → Option Excess
-(Some e) orelse other = Some e
-None orelse other = other
 
 -- the first quantity that passes: of locals by functions, of parameters by types, of operand heights and of nesting by functions, and the
 -- weight

@@ -1,6 +1,6 @@
 -- What was run is the answer.
 use Rattle.std.proofs.Common.{◌≡◌, ℕ, ◌+◌, ◌-◌, Bool, true, false, List, [], ◌∷◌, ◌++◌, map, length, refl, sym, ap, ◌∙◌, inl, inr, arith, Option, Some, None, subst}
-use Rattle.std.specs.Prelude.{slice_get, codes, if◌then◌else◌}
+use Rattle.std.specs.Prelude.{slice_get, codes, if◌then◌else◌, unwrap_or}
 use Rattle.std.specs.Fmt.{decimal}
 use Rattle.std.specs.List.{flat_map}
 use Rattle.pm_text.specs.Names.{quoted}
@@ -36,7 +36,7 @@ use Rattle.run_command.specs.Starting.{cause_text, entries_text}
 use Rattle.run_command.specs.Hosting.{Hosting, scripted}
 use Rattle.run_command.specs.Recorded.{recorded, served_in, IsReadBack}
 use Rattle.run_command.specs.AllRan.{end_text, told_end, ran_to_end}
-use Rattle.run_command.specs.RunAnswer.{hosting, script_replies, UsesUp, EndUsesUp, HasFailed, EndHasFailed, RunsTo}
+use Rattle.run_command.specs.RunAnswer.{hosting, UsesUp, EndUsesUp, HasFailed, EndHasFailed, RunsTo}
 use Rattle.wasm_decode.proofs.Sounds.{map_length}
 use Rattle.std.specs.Option.{option_or}
 
@@ -185,7 +185,7 @@ pub runs_to : (before after : List DeviceState) (script : Option (List Reply)) (
     → p.module_ ≡ m → IsProgram p → IsNew m s → entries_text m (map invocation_of w.invocations) ≡ None → cause_of_segments m ≡ None → HostFacts (names before) used_up left counts now
     → ((device : List ℕ) → Rose (counts device) (now device) → Rose (count_of before device) (count_of after device))
     → (r : RanAll (tells w.collect deliver) p (engine p w.collect (depth_of w)) w.dump w.name used_up counts now bad (point_of s (map invocation_of w.invocations) w.fuel) calls calls' told_before told_after o)
-    → script_replies script ≡ replies_of (scripted (names before) m.imports r.given) ++ left → IsReadBack w.log_to (replies_of (served_in r.has_ended.rans))
+    → unwrap_or script [] ≡ replies_of (scripted (names before) m.imports r.given) ++ left → IsReadBack w.log_to (replies_of (served_in r.has_ended.rans))
     → RunsTo before after script w m r.given o (r.writes ++ recorded w.log_to r.has_ended.rans)
 runs_to before after script w m p used_up counts now bad left s calls calls' told_before told_after o deliver delivers of_module writes_out new entries segments facts counted r of_script back =
     let is = map invocation_of w.invocations in

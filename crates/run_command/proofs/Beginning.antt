@@ -25,14 +25,14 @@ use Rattle.host_collector.specs.Collecting.{CollectingState, is_told, is_collect
 use Rattle.run_session.specs.inner.Collecting.{serving_of}
 use Rattle.run_session.specs.Invocations.{invocation_of}
 use Rattle.run_command.specs.Starting.{cause_text, segment_of, entries_text}
-use Rattle.run_command.specs.Hosting.{is_replied, is_one_of, is_served, import_text, first_unserved, start_text}
+use Rattle.run_command.specs.Hosting.{is_replied, is_served, import_text, first_unserved, start_text}
 use Rattle.run_command.specs.RunAnswer.{hosting}
 use Rattle.run_command.specs.inner.Begun.{fault_text, import_in, start_cause, HasBegun}
 use Rattle.run_command.specs.declared.running.Begun.{Begun}
 use Rattle.run_command.specs.declared.running.Begun.TheVariants.{Ready}
 use Rattle.run_command.proofs.Answering.{none_then}
 use Rattle.run_command.proofs.Entries.{own_text}
-use Rattle.std.specs.Option.{option_or}
+use Rattle.std.specs.Option.{option_or, option_map_or}
 
 -- ---- one entry
 
@@ -181,7 +181,7 @@ module _ (m : Module) (h : HostsState) (before : List DeviceState) (script : Opt
   served_alike : (i : Import) (type : FuncType) → slice_get m.types i.ftype ≡ Some type → served_by i type ≡ is_served (hosting before script collect) m i
   served_alike i type there =
       ap (λ r. if collect then (if is_told i then is_collected i type else r) else r) (replied_alike i)
-      ∙ ap (λ o. if collect then (if is_told i then is_one_of i o else is_replied (hosting before script collect) i) else is_replied (hosting before script collect) i) (sym there)
+      ∙ ap (λ o. if collect then (if is_told i then option_map_or (is_collected i) o false else is_replied (hosting before script collect) i) else is_replied (hosting before script collect) i) (sym there)
 
   alike : machine.first_unserved served_by m ≡ first_unserved (hosting before script collect) m
   alike = ap (λ bs. first_false 0 bs) (map_alike (machine.is_served served_by m) (is_served (hosting before script collect) m) m.imports

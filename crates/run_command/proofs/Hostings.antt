@@ -1,6 +1,6 @@
 -- What a host side of devices and a script has given in a run.
 use Rattle.std.proofs.Common.{◌≡◌, ℕ, ◌<◌, Bool, true, false, List, [], ◌∷◌, ◌++◌, map, take, drop, refl, sym, ap, ap₂, ◌∙◌, subst, inl, inr, arith, Option, Some, None}
-use Rattle.std.specs.Prelude.{◌≤◌, ◌⊎◌, length, get_or, not, cond, if◌then◌else◌, slice_get, is_none, bytes_eq}
+use Rattle.std.specs.Prelude.{◌≤◌, ◌⊎◌, length, get_or, not, cond, if◌then◌else◌, slice_get, is_none, bytes_eq, unwrap_or}
 use Rattle.std.proofs.lemmas.List.{take-append-drop, drop_all}
 use Rattle.std.proofs.lemmas.Option.{slice_get_cases}
 use Rattle.causes.specs.Counts.{Rose}
@@ -17,7 +17,7 @@ use Rattle.run_session.specs.Given.{module_of, from_module}
 use Rattle.host_collector.specs.Collecting.{is_told}
 use Rattle.run_session.specs.inner.Collecting.{used_up_of}
 use Rattle.run_command.specs.Hosting.{scripted}
-use Rattle.run_command.specs.RunAnswer.{Logs, script_replies}
+use Rattle.run_command.specs.RunAnswer.{Logs}
 use Rattle.run_command.proofs.Answering.{HostFacts}
 
 -- ---- the modules of what was served
@@ -36,7 +36,7 @@ of_script_is names imports [] = refl
 of_script_is names imports (s ∷ ss) =
     by_choice (is_named names (module_of imports s.call.import)) s (of_script names (map (with_module imports) ss)) (scripted names imports ss) (of_script_is names imports ss)
 
-same_replies : (o : Option (List Reply)) → replies_in o ≡ script_replies o
+same_replies : (o : Option (List Reply)) → replies_in o ≡ unwrap_or o []
 same_replies None = refl
 same_replies (Some rs) = refl
 
@@ -126,10 +126,10 @@ module _ (imports : List Import) (before : List DeviceState) (script : Option (L
   logs_are : (name : List ℕ) → log_named (logs_before h1) name ≡ log_of before name
   logs_are name = ap (λ (o : Origin). o.logs name) same ∙ began.logs_are name
 
-  replies_are : replies_in h1.script ≡ script_replies script
+  replies_are : replies_in h1.script ≡ unwrap_or script []
   replies_are = ap replies_in script_is ∙ same_replies script
 
-  pub host_facts : (collect : Bool) → HostFacts (names before) (used_up_of collect (is_used_up h1)) (drop h1.given (script_replies script)) (count_of h0.devices) (count_of h1.devices)
+  pub host_facts : (collect : Bool) → HostFacts (names before) (used_up_of collect (is_used_up h1)) (drop h1.given (unwrap_or script [])) (count_of h0.devices) (count_of h1.devices)
   host_facts collect = record {
     used = λ i up.
         let k = used_of (is_named (names h1.devices) i.«module») (slice_get (replies_in h1.script) h1.given) (used_behind collect (is_told i) (is_used_up h1 i) up) in
@@ -144,10 +144,10 @@ module _ (imports : List Import) (before : List DeviceState) (script : Option (L
     served_is : h1.served ≡ map (with_module imports) given
     served_is = back.modules ∙ ap₂ (λ is l. map (with_module is) l) imports_are given_is
 
-    pub by_script : script_replies script ≡ replies_of (scripted (names before) imports given) ++ drop h1.given (script_replies script)
+    pub by_script : unwrap_or script [] ≡ replies_of (scripted (names before) imports given) ++ drop h1.given (unwrap_or script [])
     by_script =
-        sym (take-append-drop h1.given (script_replies script))
-        ∙ ap (λ l. l ++ drop h1.given (script_replies script))
+        sym (take-append-drop h1.given (unwrap_or script []))
+        ∙ ap (λ l. l ++ drop h1.given (unwrap_or script []))
         (ap (λ l. take h1.given l) (sym replies_are) ∙ sym back.scripted ∙ ap₂ (λ ns l. of_script ns l) names_are served_is ∙ of_script_is (names before) imports given)
 
     log_is : (name : List ℕ) → is_named (names before) name ≡ true → log_of after name ≡ log_of before name ++ from_module imports name given

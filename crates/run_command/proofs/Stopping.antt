@@ -1,6 +1,6 @@
 -- What a command leaves where it has no answer, from what its parts leave.
 use Rattle.std.proofs.Common.{◌≡◌, ℕ, zero, suc, Bool, List, [], ◌∷◌, ◌++◌, map, take, drop, refl, sym, ap, ◌∙◌, subst, inl, inr, Option, None, Result, Ok, Err, length}
-use Rattle.std.specs.Prelude.{◌⊎◌, IfOk}
+use Rattle.std.specs.Prelude.{◌⊎◌, IfOk, unwrap_or}
 use Rattle.causes.specs.declared.NoMemory.{NoMemory as WantOfMemory}
 use Rattle.std.specs.declared.vec.Vec.{Vec}
 use Rattle.std.specs.Global.{Global}
@@ -36,7 +36,7 @@ use Rattle.run_session.specs.Invocations.{invocation_of, depth_of}
 use Rattle.run_session.specs.Stop.{Stop, no_memory, file_failed, OnStop}
 use Rattle.run_session.specs.inner.Sessions.{point_of, WasStopped, StopsIn}
 use Rattle.run_command.specs.Starting.{cause_text, entries_text}
-use Rattle.run_command.specs.RunAnswer.{IsReadBy, bad_replies, script_replies, replies_input, script_of, EndUsesUp, EndHasFailed, hosting}
+use Rattle.run_command.specs.RunAnswer.{IsReadBy, bad_replies, replies_input, script_of, EndUsesUp, EndHasFailed, hosting}
 use Rattle.run_command.specs.inner.Scripts.{script_result, IsAsked, IsReadFault}
 use Rattle.run_command.specs.Stops.{RunsFor, dumps_of, StopsRecord, StopsRun, NothingDone, ModuleStops, ScriptStops, BytesStops, SourceStops, FileStops, RunStops}
 use Rattle.run_command.specs.declared.scripts.Script.{Script}
@@ -94,7 +94,7 @@ module _ (before after : List DeviceState) (script : Option (List Reply)) (w : R
     delivers = delivers;
     runs = sym x.is ∙ ap (λ l. up_to_torn (tells w.collect deliver) l) (is_run s.module_ p w.collect s is (depth_of w) fuel x.given of_module new entries segments);
     all_given = x.all_given;
-    left = drop h1.given (script_replies script);
+    left = drop h1.given (unwrap_or script []);
     by_script = by_script s.module_.imports before script h0 h1 began same after back x.given x.grew;
     logs = logs s.module_ before after script h0 h1 began same back x.given x.grew;
     files = x.files;
@@ -120,7 +120,7 @@ module _ (deliver : List CollectorCall → Delivery) (delivers : IsDelivery deli
       let tell = tells w.collect deliver in
       let b = behaves w.collect deliver in
       let used_up = used_up_of w.collect (is_used_up h1) in
-      let left = drop h1.given (script_replies script) in
+      let left = drop h1.given (unwrap_or script []) in
       let counts = count_of h0.devices in
       let now = count_of h1.devices in
       let facts = host_facts s.module_.imports before script h0 h1 began same w.collect in (
@@ -134,7 +134,7 @@ module _ (deliver : List CollectorCall → Delivery) (delivers : IsDelivery deli
           delivers = delivers;
           runs = sym e.is ∙ ap (λ l. up_to_torn (tells w.collect deliver) l) (is_run s.module_ p w.collect s (map invocation_of w.invocations) (depth_of w) w.fuel r.given of_module is_new entries segments);
           all_given = e.came_of.given;
-          left = drop h1.given (script_replies script);
+          left = drop h1.given (unwrap_or script []);
           by_script = by_script s.module_.imports before script h0 h1 began same after back r.given r.grew;
           logs = logs s.module_ before after script h0 h1 began same back r.given r.grew;
           files = subst (λ ws. OnTold (HoldPart ws) told new)

@@ -1,6 +1,6 @@
 -- The answer on a valid module, from what its parts ensure.
 use Rattle.std.proofs.Common.{◌≡◌, ℕ, ◌≤◌, arith, Bool, true, false, List, [], ◌++◌, map, length, drop, refl, sym, ap, ◌∙◌, subst, Option, Some, None, Result, Ok, Err}
-use Rattle.std.specs.Prelude.{IfOk, nat_lt, if◌then◌else◌}
+use Rattle.std.specs.Prelude.{IfOk, nat_lt, if◌then◌else◌, unwrap_or}
 use Rattle.causes.specs.Counts.{Rose}
 use Rattle.causes.specs.declared.NoMemory.{NoMemory as WantOfMemory}
 use Rattle.pm_outside.specs.Contents.{Contents}
@@ -27,7 +27,7 @@ use Rattle.run_session.specs.inner.Sessions.{point_of, EndsIn, ToldEndsIn, RanAl
 use Rattle.command_answers.proofs.Unless.{OnAnswer, map_answer, all_answers}
 use Rattle.run_command.specs.Starting.{not_started_with, entries_text}
 use Rattle.run_command.specs.Hosting.{start_text}
-use Rattle.run_command.specs.RunAnswer.{hosting, script_replies, RunsTo, Logs, StartsOr, ModuleAnswer, IfRefusal, IsUntouched}
+use Rattle.run_command.specs.RunAnswer.{hosting, RunsTo, Logs, StartsOr, ModuleAnswer, IfRefusal, IsUntouched}
 use Rattle.run_command.specs.inner.Steps.{IsAnswered}
 use Rattle.run_command.specs.Recorded.{record_file, recorded, served_in, IsReadBack}
 use Rattle.run_command.specs.inner.Recording.{Records, fitting}
@@ -92,7 +92,7 @@ module _ (deliver : List CollectorCall → Delivery) (delivers : IsDelivery deli
         given = r.given;
         writes = r.writes ++ recorded w.log_to r.has_ended.rans;
         answer = (
-          runs_to before after script w s.module_ p used_up (count_of h0.devices) (count_of h1.devices) bad (drop h1.given (script_replies script)) s (calls_of h0).served (calls_of h1).served told mid o deliver delivers
+          runs_to before after script w s.module_ p used_up (count_of h0.devices) (count_of h1.devices) bad (drop h1.given (unwrap_or script [])) s (calls_of h0).served (calls_of h1).served told mid o deliver delivers
               of_module writes_out is_new entries segments (host_facts s.module_.imports before script h0 h1 began same w.collect) (λ device. rose_on before after h0.devices h1.devices device began.devices_are back.devices) r (by_script s.module_.imports before script h0 h1 began same after back r.given r.grew)
               (subst (λ rs. IsReadBack w.log_to rs) (same_replies o r) read),
           logs s.module_ before after script h0 h1 began same back r.given r.grew,

@@ -1,5 +1,5 @@
 -- What `run` answers, and what it writes.
-use Rattle.std.specs.Prelude.{◌≡◌, ℕ, ◌⊎◌, Bool, true, false, List, [], ◌++◌, map, length, Option, Some, None, Result, Ok, Err, codes}
+use Rattle.std.specs.Prelude.{◌≡◌, ℕ, ◌⊎◌, Bool, true, false, List, [], ◌++◌, map, length, Option, Some, None, Result, Ok, Err, codes, unwrap_or}
 use Rattle.std.specs.Fmt.{decimal}
 use Rattle.causes.specs.Counts.{Rose}
 use Rattle.pm_outside.specs.Contents.{Contents}
@@ -33,10 +33,6 @@ use Rattle.run_command.specs.Starting.{not_started_with}
 use Rattle.run_command.specs.Hosting.{Hosting, scripted, start_text}
 use Rattle.run_command.specs.AllRan.{all_ran}
 use Rattle.run_command.specs.Recorded.{recorded, served_in, IsReadBack}
-
-abbrev pub script_replies : Option (List Reply) → List Reply
-script_replies None = []
-script_replies (Some replies) = replies
 
 -- no reply of the script is left where a call that no device serves has none
 abbrev pub UsesUp : Hosting → Module → List Reply → RunOutcome → Type 0
@@ -80,7 +76,7 @@ pub record RunsTo (before after : List DeviceState) (script : Option (List Reply
   pub runs : rans ≡ up_to_torn (tells w.collect deliver) (run program w.collect (map invocation_of w.invocations) (replies_of given) (depth_of w) w.fuel)
   pub all_given : given ≡ given_in rans
   pub left : List Reply
-  pub by_script : script_replies script ≡ replies_of (scripted (names before) m.imports given) ++ left
+  pub by_script : unwrap_or script [] ≡ replies_of (scripted (names before) m.imports given) ++ left
   pub used_up : EndUsesUp (hosting before script w.collect) m left (last_of rans)
   pub failed : EndHasFailed before after m (last_of rans)
   pub answer : o ≡ all_ran (tells w.collect deliver) (names before) m.imports (length w.invocations) rans

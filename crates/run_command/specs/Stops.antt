@@ -1,5 +1,5 @@
 -- What is left where memory is wanting, or where a file fails.
-use Rattle.std.specs.Prelude.{◌≡◌, ℕ, ◌≤◌, ◌⊎◌, List, ◌++◌, map, take, Option, Some, None, Result, Ok}
+use Rattle.std.specs.Prelude.{◌≡◌, ℕ, ◌≤◌, ◌⊎◌, List, ◌++◌, map, take, Option, Some, None, Result, Ok, unwrap_or, []}
 use Rattle.pm_outside.specs.Contents.{Contents}
 use Rattle.wasm_syntax.specs.declared.quantity.Quantity.TheVariants.{ModuleBytes}
 use Rattle.wasm_syntax.specs.declared.host.Reply.{Reply}
@@ -27,7 +27,7 @@ use Rattle.run_session.specs.Written.{Writes, HoldPart}
 use Rattle.run_session.specs.Invocations.{invocation_of, depth_of}
 use Rattle.run_command.specs.Hosting.{scripted, start_text}
 use Rattle.run_command.specs.Recorded.{recorded}
-use Rattle.run_command.specs.RunAnswer.{Logs, EndUsesUp, EndHasFailed, IsReadBy, hosting, script_replies, replies_input, script_of}
+use Rattle.run_command.specs.RunAnswer.{Logs, EndUsesUp, EndHasFailed, IsReadBy, hosting, replies_input, script_of}
 
 -- ---- what was run
 
@@ -42,7 +42,7 @@ pub record RunsFor (deliver : List CollectorCall → Delivery) (w : RunWords) (m
   pub runs : rans ≡ up_to_torn (tells w.collect deliver) (run program w.collect is (replies_of given) (depth_of w) fuel)
   pub all_given : given ≡ given_in rans
   pub left : List Reply
-  pub by_script : script_replies script ≡ replies_of (scripted (names before) m.imports given) ++ left
+  pub by_script : unwrap_or script [] ≡ replies_of (scripted (names before) m.imports given) ++ left
   pub logs : Logs m given before after
   pub files : OnTold (HoldPart writes) old new
 

@@ -26,11 +26,12 @@ use Rattle.wasm_sizes.specs.Sized.{ops_length, code_length}
 use Rattle.rewrite_bodies.specs.Numbering.{distinct}
 use Rattle.rewrite_modules.specs.Weight.{height_at, AreHeights, op_weight, ops_weight, bodies_weight, type_used, exports_weight, start_weight, extra, weight}
 use Rattle.rewrite_modules.specs.Multiple.{most_locals, highest, most_operands, multiple}
-use Rattle.rewrite_limits.specs.Limits.{function_locals, function_heights, first_over, ◌orelse◌, first_excess}
+use Rattle.rewrite_limits.specs.Limits.{function_locals, function_heights, first_over, first_excess}
 use Rattle.instrument.specs.Refusal.{export_taken, at_import, at_export, at_limit, refusal}
 use Rattle.selftest_module.specs.Selftest.{selftest}
 use Rattle.selftest_laws.proofs.Running.{two_to_one}
 use Rattle.selftest_laws.proofs.Bodies.{Small, IsSmall, IsLike, all_small, height_few}
+use Rattle.wasm_bytes.specs.Refusals.{◌orelse◌}
 
 -- ---- limits
 

@@ -6,3 +6,4 @@ pub mod Sections
 pub mod Stopping
 pub mod Laws
 pub mod Tables
+pub mod Refusals

@@ -1,6 +1,6 @@
 -- What is read of the names of functions is what is spelled, and reading stops where the grammar says.
 use Rattle.std.proofs.Common.{◌≡◌, ℕ, ◌+◌, ◌-◌, ◌<◌, ◌≤◌, Bool, true, false, List, [], ◌∷◌, ◌++◌, length, take, drop, Option, None, Result, Ok, Err, refl, sym, ap, subst, ◌∙◌, inl, inr, arith}
-use Rattle.std.specs.Prelude.{IfOk, nat_le, codes, if◌then◌else◌}
+use Rattle.std.specs.Prelude.{IfOk, nat_le, codes, if◌then◌else◌, Some, unwrap_or}
 use Rattle.std.specs.Str.{bytes_eq}
 use Rattle.std.proofs.lemmas.Bool.{leb-true, leb-false, le-leb, lt-leb}
 use Rattle.std.proofs.lemmas.List.{length-take, take-append-drop}
@@ -23,7 +23,7 @@ use Rattle.wasm_bytes.proofs.StopsBlocks.{closed_stops_at, closed_tail_stops_at,
 use Rattle.wasm_bytes.proofs.StopsLists.{vector_stops_at, steps_to_end_stops_at}
 use Rattle.wasm_bytes.proofs.Takes.{byte_takes, leads_takes}
 use Rattle.wasm_format.proofs.Tests.{on_test_exact, on_test_stops}
-use Rattle.wasm_decode.specs.Names.{Named, firsts, named_item, names_item, found_some, counts, subsection_behind, subsection_step, or_none, found_names, behind_title, names_in, names_from}
+use Rattle.wasm_decode.specs.Names.{Named, firsts, named_item, names_item, counts, subsection_behind, subsection_step, found_names, behind_title, names_in, names_from}
 use Rattle.wasm_decode.specs.NameGrammar.{naming, name_map, subsection_tail, subsection, subsections, naming_stops, name_map_stops, subsection_tail_stops, subsection_stops, subsections_stop, behind_its_title, AreNamesIn, AreNamesOf}
 
 -- ---- names
@@ -51,14 +51,14 @@ map_stops_at = closed_stops_at name_map (vector_stops naming naming_stops) names
 
 tail_exact : (found : Option (List Named)) (id : ℕ) → IsExact (subsection_tail found id) (subsection_behind found id)
 tail_exact found id =
-    on_test_exact (counts found id) (image found_some (λ names. sized (name_map names))) (image (λ bytes. found) (λ bytes. sized (text bytes))) (mapped found_some (within names_item)) (mapped (λ bytes. found) (within rest_item))
-    (image_exact (λ names. sized (name_map names)) found_some (within names_item) (within_exact name_map names_item (closed_exact name_map names_item map_exact)))
+    on_test_exact (counts found id) (image Some (λ names. sized (name_map names))) (image (λ bytes. found) (λ bytes. sized (text bytes))) (mapped Some (within names_item)) (mapped (λ bytes. found) (within rest_item))
+    (image_exact (λ names. sized (name_map names)) Some (within names_item) (within_exact name_map names_item (closed_exact name_map names_item map_exact)))
     (image_exact (λ bytes. sized (text bytes)) (λ bytes. found) (within rest_item) (within_exact text rest_item (closed_tail text rest_item rest_tail)))
 
 tail_stops_at : (found : Option (List Named)) (id : ℕ) → StopsAt (subsection_tail_stops found id) (subsection_behind found id)
 tail_stops_at found id =
-    on_test_stops (counts found id) (sized_stops name_map_stops) (sized_stops never) (mapped found_some (within names_item)) (mapped (λ bytes. found) (within rest_item))
-    (mapped_stops_at found_some (sized_stops name_map_stops) (within names_item) (within_stops_at name_map_stops names_item map_stops_at))
+    on_test_stops (counts found id) (sized_stops name_map_stops) (sized_stops never) (mapped Some (within names_item)) (mapped (λ bytes. found) (within rest_item))
+    (mapped_stops_at Some (sized_stops name_map_stops) (within names_item) (within_stops_at name_map_stops names_item map_stops_at))
     (mapped_stops_at (λ bytes. found) (sized_stops never) (within rest_item) (within_stops_at never rest_item (closed_tail_stops_at text never rest_item rest_tail rest_stops_at)))
 
 subsection_exact : (found : Option (List Named)) → IsExact (subsection found) (subsection_step found)
@@ -116,7 +116,7 @@ module _ (bytes : List ℕ) (fits : IsBytes bytes) (custom : Custom) where
   unfolding names_in
   in_none outside = rw (lt-leb (custom.at + custom.len) (length bytes) outside) refl
 
-  read_is : custom.at + custom.len ≤ length bytes → (found : Option (List Named)) → subsections found custom.at after → names_in bytes custom ≡ or_none found
+  read_is : custom.at + custom.len ≤ length bytes → (found : Option (List Named)) → subsections found custom.at after → names_in bytes custom ≡ unwrap_or found []
   read_is inside found s =
       let here : subsections found (length before) after = subst (λ n. subsections found n after) (sym (before_length inside)) s in
       in_is inside ∙ ap (λ p. found_names (steps_to_end subsection_step None p)) (title_place inside) ∙ ap found_names (subsections_tail.again before after found here)

@@ -31,11 +31,12 @@ use Rattle.wasm_decode.proofs.SoundCode.{SoundBody, SoundConstant, SoundElement,
 use Rattle.wasm_decode.proofs.SoundSections.{Sound, module_sound}
 use Rattle.wasm_decode.specs.declared.fault.DecodeFault.{DecodeFault}
 use Rattle.wasm_decode.specs.declared.fault.DecodeFault.TheVariants.{Limit}
-use Rattle.wasm_decode.specs.Decode.{functions_of, module_of, all_locals, first_over, ◌orelse◌, too_much}
+use Rattle.wasm_decode.specs.Decode.{functions_of, module_of, all_locals, first_over, too_much}
 use Rattle.wasm_decode.specs.Meaning.{IsModuleOf, Exactly}
 use Rattle.wasm_decode.specs.inner.Fit.{FewLocals, Fit}
 use Rattle.pm_text.proofs.Lists.{get_behind}
 use Rattle.std.proofs.lemmas.List.{length-map}
+use Rattle.wasm_bytes.specs.Refusals.{◌orelse◌}
 
 weaker : {A : Type 0} (P Q : A → Type 0) → ((x : A) → P x → Q x) → (xs : List A) → AllByRecursion P xs → AllByRecursion Q xs
 weaker P Q f [] h = tt

@@ -1,5 +1,5 @@
 -- A whole module from its bytes.
-use Rattle.std.specs.Prelude.{◌≡◌, ℕ, suc, List, [], ◌∷◌, length, map, slice_get, Option, Some, None, Result, Ok, Err, nat_lt, if◌then◌else◌}
+use Rattle.std.specs.Prelude.{◌≡◌, ℕ, suc, List, [], ◌∷◌, length, map, slice_get, Option, Some, None, Result, Ok, Err, nat_lt, if◌then◌else◌, option_map}
 use Rattle.std.specs.List.{flat_map}
 use Rattle.wasm_syntax.specs.declared.quantity.Quantity.{Quantity}
 use Rattle.wasm_syntax.specs.declared.quantity.Quantity.TheVariants.{ModuleBytes, Locals, Nesting, Table, Memory}
@@ -16,6 +16,7 @@ use Rattle.wasm_format.specs.declared.module.SpelledModule.{SpelledModule}
 use Rattle.wasm_format.specs.Sections.{module_item}
 use Rattle.wasm_decode.specs.declared.fault.DecodeFault.{DecodeFault}
 use Rattle.wasm_decode.specs.declared.fault.DecodeFault.TheVariants.{NoMemory, Malformed, Float, ImportKind, Limit}
+use Rattle.wasm_bytes.specs.Refusals.{◌orelse◌, unless_refused}
 
 -- ---- imports
 
@@ -51,12 +52,6 @@ abbrev pub first_over : Quantity → List ℕ → Option DecodeFault
 first_over what [] = None
 first_over what (n ∷ ns) = if nat_lt (greatest what) n then Some (Limit what n) else first_over what ns
 
--- the first of two refusals
-infixr 6 ◌orelse◌
-abbrev pub ◌orelse◌ : Option DecodeFault → Option DecodeFault → Option DecodeFault
-(Some e) orelse other = Some e
-None orelse other = other
-
 -- the first quantity that passes: of locals and of nesting by functions, then of tables, then of memories
 unfoldable pub too_much : ModuleParts → Option DecodeFault
 too_much m =
@@ -66,20 +61,14 @@ too_much m =
 -- ---- refusals
 
 abbrev pub at_float : Option ℕ → Option DecodeFault
-at_float None = None
-at_float (Some at) = Some (Float at)
+at_float o = option_map Float o
 
 abbrev pub at_import : Option ℕ → Option DecodeFault
-at_import None = None
-at_import (Some index) = Some (ImportKind index)
+at_import o = option_map ImportKind o
 
 -- why what was spelled is refused
 unfoldable pub refusal : SpelledModule → Option DecodeFault
 refusal s = at_float s.float orelse at_import (first_other s.imports) orelse too_much (module_of s)
-
-abbrev pub unless_refused : Option DecodeFault → ModuleParts → Result ModuleParts DecodeFault
-unless_refused None m = Ok m
-unless_refused (Some e) m = Err e
 
 abbrev pub judged : SpelledModule → Result ModuleParts DecodeFault
 judged s = unless_refused (refusal s) (module_of s)

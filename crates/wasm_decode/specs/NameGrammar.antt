@@ -1,10 +1,10 @@
 -- The bytes that spell the names of functions (Core, appendix "Custom Sections", A.4.1), and which names a module has by them.
-use Rattle.std.specs.Prelude.{◌≡◌, ◌≢◌, ℕ, ◌+◌, ◌<◌, ◌≤◌, ◌⊎◌, List, [], ◌∷◌, length, slice_range, Option, None, codes}
+use Rattle.std.specs.Prelude.{◌≡◌, ◌≢◌, ℕ, ◌+◌, ◌<◌, ◌≤◌, ◌⊎◌, List, [], ◌∷◌, length, slice_range, Option, None, codes, Some, unwrap_or}
 use Rattle.wasm_syntax.specs.declared.parts.Custom.{Custom}
 use Rattle.wasm_bytes.specs.Spelling.{Spellings, pair, leads, image, byte, u32, text, name, sized, vector, some_steps}
 use Rattle.wasm_bytes.specs.Stopping.{Stops, never, unread, either, behind, then_stops, closed_stops, sized_stops, vector_stops, steps_to_end_stops}
 use Rattle.wasm_format.specs.Choices.{on_test, stops_on_test}
-use Rattle.wasm_decode.specs.Names.{Named, firsts, found_some, counts, or_none}
+use Rattle.wasm_decode.specs.Names.{Named, firsts, counts}
 
 -- ---- the language
 
@@ -19,7 +19,7 @@ name_map = image firsts (vector naming)
 -- What stands behind the id of a subsection is a size and as many bytes. Those of the first one with id 1 are names of
 -- functions, those of any other are passed over.
 abbrev pub subsection_tail : Option (List Named) → ℕ → Option (List Named) → Spellings
-subsection_tail found id = on_test (counts found id) (image found_some (λ names. sized (name_map names))) (image (λ bytes. found) (λ bytes. sized (text bytes)))
+subsection_tail found id = on_test (counts found id) (image Some (λ names. sized (name_map names))) (image (λ bytes. found) (λ bytes. sized (text bytes)))
 
 -- a subsection, from what was found before it to what is found with it
 abbrev pub subsection : Option (List Named) → Option (List Named) → Spellings
@@ -56,7 +56,7 @@ behind_its_title bytes custom = slice_range bytes custom.at (custom.at + custom.
 abbrev pub SpellsNames : List ℕ → Custom → List Named → Type 0
 SpellsNames bytes custom names =
     (custom.at + custom.len ≤ length bytes)
-    × ((found : Option (List Named)) × subsections found custom.at (behind_its_title bytes custom) × (names ≡ or_none found))
+    × ((found : Option (List Named)) × subsections found custom.at (behind_its_title bytes custom) × (names ≡ unwrap_or found []))
 
 -- An item of it has no reading, or it does not lie inside the bytes.
 abbrev pub HasNoReading : List ℕ → Custom → Type 0

@@ -1,5 +1,5 @@
 -- The names of functions, by the custom section `name` (Core, appendix "Custom Sections", A.4.1).
-use Rattle.std.specs.Prelude.{ℕ, ◌+◌, List, [], ◌∷◌, ◌++◌, length, take, fold, Option, Some, None, Ok, Err, Bool, ◌&&◌, ◌==◌, not, is_some, nat_eq, nat_le, codes, if◌then◌else◌}
+use Rattle.std.specs.Prelude.{ℕ, ◌+◌, List, [], ◌∷◌, ◌++◌, length, take, fold, Option, Some, None, Ok, Err, Bool, ◌&&◌, ◌==◌, not, is_some, nat_eq, nat_le, codes, if◌then◌else◌, unwrap_or}
 use Rattle.std.specs.Str.{bytes_eq}
 use Rattle.std.specs.Map.{lookup}
 use Rattle.wasm_syntax.specs.declared.parts.Custom.{Custom}
@@ -36,24 +36,17 @@ names_item = mapped firsts (vector_item named_item)
 abbrev pub counts : Option (List Named) → ℕ → Bool
 counts found id = id == 1 && not (is_some found)
 
-abbrev pub found_some : List Named → Option (List Named)
-found_some names = Some names
-
 abbrev pub subsection_behind : Option (List Named) → ℕ → Place → Read (Option (List Named))
-subsection_behind found id = if counts found id then mapped found_some (within names_item) else mapped (λ bytes. found) (within rest_item)
+subsection_behind found id = if counts found id then mapped Some (within names_item) else mapped (λ bytes. found) (within rest_item)
 
 unfoldable pub subsection_step : Option (List Named) → Place → Read (Option (List Named))
 subsection_step found = byte_item ▷ subsection_behind found
 
 -- ---- the section
 
-abbrev pub or_none : Option (List Named) → List Named
-or_none (Some names) = names
-or_none None = []
-
 -- Where an item has no reading there are no names.
 abbrev pub found_names : Read (Option (List Named)) → List Named
-found_names (Ok x) = or_none x.0
+found_names (Ok x) = unwrap_or x.0 []
 found_names (Err at) = []
 
 -- what stands behind the name of a custom section

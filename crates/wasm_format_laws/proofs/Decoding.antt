@@ -12,7 +12,7 @@ use Rattle.wasm_format.specs.declared.module.Imported.TheVariants.{Function}
 use Rattle.wasm_format.specs.declared.module.SpelledModule.{SpelledModule}
 use Rattle.wasm_format.proofs.ExactSections.{module_read}
 use Rattle.wasm_decode.specs.declared.fault.DecodeFault.{DecodeFault}
-use Rattle.wasm_decode.specs.Decode.{functions_of, other_from, first_other, module_of, ◌orelse◌, too_much, at_float, at_import, refusal, unless_refused}
+use Rattle.wasm_decode.specs.Decode.{functions_of, other_from, first_other, module_of, too_much, at_float, at_import, refusal}
 use Rattle.wasm_decode.proofs.Meanings.{read_is}
 use Rattle.wasm_encode.specs.Encoding.{encoding}
 use Rattle.wasm_encode.specs.Fits.{FitsModule}
@@ -20,6 +20,7 @@ use Rattle.wasm_encode.specs.SameModule.{SpellsSame}
 use Rattle.wasm_encode.proofs.WholeModule.{spells_same}
 use Rattle.wasm_format_laws.specs.Laws.{DecodesSame}
 use Rattle.wasm_format_laws.proofs.Limits.{same_limits, none_too_much}
+use Rattle.wasm_bytes.specs.Refusals.{◌orelse◌, unless_refused}
 
 -- ---- imports of functions alone
 

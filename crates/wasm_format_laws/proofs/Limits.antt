@@ -16,8 +16,9 @@ use Rattle.wasm_syntax.specs.Valid.{AtIndex}
 use Rattle.wasm_syntax.specs.Sizes.{local_count, deepest, nesting, WithinLimits}
 use Rattle.wasm_syntax.specs.SameCode.{op_code, body_code, code_alone}
 use Rattle.wasm_decode.specs.declared.fault.DecodeFault.{DecodeFault}
-use Rattle.wasm_decode.specs.Decode.{all_locals, first_over, ◌orelse◌, too_much}
+use Rattle.wasm_decode.specs.Decode.{all_locals, first_over, too_much}
 use Rattle.wasm_decode.proofs.Sounds.{type_behind, AtMost}
+use Rattle.wasm_bytes.specs.Refusals.{◌orelse◌}
 
 -- ---- the code alone
 

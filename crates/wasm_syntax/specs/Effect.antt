@@ -21,30 +21,20 @@ pub data Effect : Type 0 where
   fails : (kind : ℕ) → Effect
   unfit : Effect
 
--- how many operands it takes
+-- how many operands it takes; those that are not named take one
 abbrev pub takes : Basic → ℕ
 takes Nop = 0
-takes Drop = 1
 takes Select = 3
 takes (LocalGet x) = 0
-takes (LocalSet x) = 1
-takes (LocalTee x) = 1
 takes (GlobalGet x) = 0
-takes (GlobalSet x) = 1
-takes (Load l align offset) = 1
 takes (Store l align offset) = 2
 takes MemorySize = 0
-takes MemoryGrow = 1
 takes MemoryCopy = 3
 takes MemoryFill = 3
 takes (Const v) = 0
-takes (Eqz t) = 1
-takes (Unary t op) = 1
 takes (Compare t op) = 2
 takes (Binary t op) = 2
-takes (Convert c) = 1
-takes (Extend32 k) = 1
-takes (Extend64 k) = 1
+takes _ = 1
 
 -- ---- tests on the operands
 

@@ -81,11 +81,9 @@ abbrev pub dead_next : List Bool → Item → List Bool
 dead_next [] i = []
 dead_next (d ∷ ds) (Plain i) = d ∷ ds
 dead_next (d ∷ ds) (Goes j) = dead_behind_jump d j ∷ ds
-dead_next (d ∷ ds) (Opens t) = false ∷ d ∷ ds
-dead_next (d ∷ ds) (OpensLoop t) = false ∷ d ∷ ds
-dead_next (d ∷ ds) (OpensIf t) = false ∷ d ∷ ds
 dead_next (d ∷ ds) Else = false ∷ ds
 dead_next (d ∷ ds) End = ds
+dead_next (d ∷ ds) opening = false ∷ d ∷ ds
 
 abbrev pub dead_behind : List Bool → List Placed → List Bool
 dead_behind ds [] = ds

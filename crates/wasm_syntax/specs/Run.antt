@@ -168,8 +168,7 @@ module _ (M : Engine) where
   invoked (Some start) n f args w = let e = run_function M n start (function_at M.program start) [] w [] in go_on e.what e.left f args
 
 abbrev pub by_data : Option ℕ → Option Cause
-by_data None = None
-by_data (Some i) = Some (data_out i)
+by_data o = option_map data_out o
 
 abbrev pub by_element : Module → Option ℕ → Option Cause
 by_element m None = by_data (first_false 0 (map (data_fits m) m.segments))

@@ -23,13 +23,11 @@ local_count type body = parameter_count type + sum (map (λ g. g.count) body.gro
 
 -- how many blocks, loops and ifs are open behind an instruction
 abbrev pub depth_behind : ℕ → Instr → ℕ
-depth_behind depth (instr.Basic i) = depth
-depth_behind depth (instr.Jump j) = depth
 depth_behind depth (instr.Block t) = suc depth
 depth_behind depth (instr.Loop t) = suc depth
 depth_behind depth (instr.If t) = suc depth
-depth_behind depth instr.Else = depth
 depth_behind depth instr.End = depth - 1
+depth_behind depth _ = depth
 
 -- the most that are open at once
 abbrev pub deepest : ℕ → List Instr → ℕ
