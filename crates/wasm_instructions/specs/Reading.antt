@@ -1,5 +1,5 @@
 -- Reading an instruction (WebAssembly Core 1.0, 5.4).
-use Rattle.std.specs.Prelude.{◌≡◌, ℕ, List, [], ◌∷◌, ◌++◌, length, Option, Some, None, Result, Ok, Err, option_map}
+use Rattle.std.specs.Prelude.{◌≡◌, ℕ, List, [], ◌∷◌, ◌++◌, length, Option, Some, None, Result, Ok, Err}
 use Rattle.wasm_syntax.specs.declared.value.ValType.{ValType}
 use Rattle.wasm_syntax.specs.declared.blocks.BlockKind.{BlockKind}
 use Rattle.wasm_syntax.specs.declared.blocks.BlockKind.TheVariants as kinds
@@ -60,7 +60,8 @@ immediates_item base at float_access = float_access_item at
 immediates_item base at (float_constant width) = mapped (λ _. float at) (run_item width)
 
 abbrev pub item_behind : ℕ → ℕ → Option Form → Option (Place → Read Spelled)
-item_behind base at form = option_map (immediates_item base at) form
+item_behind base at None = None
+item_behind base at (Some form) = Some (immediates_item base at form)
 
 -- what stands behind an opcode at that offset, by these rows of the table
 abbrev pub row_item : ℕ → ℕ → Rows → ℕ → Place → Read Spelled
