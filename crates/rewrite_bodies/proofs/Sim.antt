@@ -83,7 +83,7 @@ length-types (v ∷ l) = ap suc (length-types l)
 pub len_of : (l : List Value) (ts : List ValType) → types l ≡ ts → length ts ≡ length l
 len_of l ts e = ap length (sym e) ∙ length-types l
 
-pub ends_zero : (ea : Option ℕ) → unwrap_or (option_map (λ at. 0) ea) 0 ≡ 0
+pub ends_zero : (ea : Option ℕ) → ◌≡◌ {A = ℕ} (unwrap_or (option_map (λ at. 0) ea) 0) 0
 ends_zero None = refl
 ends_zero (Some at) = refl
 

@@ -11,7 +11,7 @@ use crate::collect::{Collect, collect_count};
 use crate::expression::{constant, expression};
 use crate::form::{global_type, locals};
 use crate::input::Input;
-use crate::noted::{Noting, first_float};
+use crate::noted::Noting;
 use pm_text::Items;
 use std::alloc::Global;
 use wasm_bytes::{ItemFault, Run};
@@ -32,7 +32,7 @@ impl<'a> Noting<'a> for GlobalPart {
                 mutable,
                 init: init.value,
             },
-            float: first_float(vtype.float, init.float),
+            float: vtype.float.or(init.float),
         })
     }
 }
@@ -96,7 +96,7 @@ fn code(alloc: Global, origin: u32, input: &mut Input<'_>) -> Result<Noted<Body>
             targets: expression.targets,
             start: start.saturating_sub(origin),
         },
-        float: first_float(locals.float, expression.float),
+        float: locals.float.or(expression.float),
     })
 }
 
@@ -115,7 +115,7 @@ impl<'a> Collect<'a> for CodeEntries {
     fn take(&mut self, alloc: Global, input: &mut Input<'a>) -> Result<(), ItemFault> {
         let body = code(alloc, self.origin, input)?;
         self.bodies.value.push(body.value)?;
-        self.bodies.float = first_float(self.bodies.float, body.float);
+        self.bodies.float = self.bodies.float.or(body.float);
         Ok(())
     }
 }

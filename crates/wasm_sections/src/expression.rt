@@ -7,7 +7,6 @@ ghost use Rattle.wasm_format.specs.Expressions.{stand_in, code_of, float_of, may
 ghost use Rattle.wasm_sections.specs.Steps.{instr_steps};
 
 use crate::input::Input;
-use crate::noted::first_float;
 use causes::NoMemory;
 use pm_text::Items;
 use std::alloc::Global;
@@ -103,7 +102,7 @@ fn take_instr(expression: &mut Expression, input: &mut Input<'_>) -> Result<(), 
         len: input.at() - at,
         code: instr,
     })?;
-    expression.float = first_float(expression.float, float_of(&code));
+    expression.float = expression.float.or(float_of(&code));
     Ok(())
 }
 

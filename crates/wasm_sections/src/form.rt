@@ -7,7 +7,7 @@ ghost use Rattle.wasm_format.specs.Form.{valtype_item, functype_item, limits_ite
 
 use crate::collect::{Collect, Entry, collect_count};
 use crate::input::Input;
-use crate::noted::{Noting, first_float, noted_vector};
+use crate::noted::{Noting, noted_vector};
 use pm_text::{Items, Text};
 use std::alloc::Global;
 use wasm_bytes::{ItemFault, Malformed};
@@ -60,7 +60,7 @@ impl<'a> Noting<'a> for FuncType {
                 params: params.value,
                 results: results.value,
             },
-            float: first_float(params.float, results.float),
+            float: params.float.or(results.float),
         })
     }
 }
@@ -246,7 +246,7 @@ impl<'a> Collect<'a> for Locals {
             vtype: vtype.value,
         })?;
         self.count = sum;
-        self.float = first_float(self.float, vtype.float);
+        self.float = self.float.or(vtype.float);
         Ok(())
     }
 }

@@ -5,7 +5,6 @@ ghost use Rattle.wasm_bytes.specs.Place.{Place, Read, Moves};
 ghost use Rattle.wasm_bytes.specs.Answers.{Gives};
 ghost use Rattle.wasm_format.specs.declared.noted.Noted.{Noted as NotedValue};
 ghost use Rattle.wasm_format.specs.Notes.{noted_vector_item};
-ghost use Rattle.std.specs.Option.{option_or};
 ghost use Rattle.wasm_sections.specs.Steps.{noted_step, noted_steps};
 
 use crate::collect::{Collect, collect_count};
@@ -14,16 +13,6 @@ use pm_text::Items;
 use std::alloc::Global;
 use wasm_bytes::ItemFault;
 use wasm_format::Noted;
-
-/// The first float of two parts, one after the other.
-pub fn option_or(first: Option<usize>, later: Option<usize>) -> Option<usize>
-    ensures { result ≡ option_or first later }
-{
-    match first {
-        Some(at) => Some(at),
-        None => later,
-    }
-}
 
 /// A type whose values may hold floats.
 pub trait Noting<'a>: Drop {
@@ -43,7 +32,7 @@ impl<'a, T: Noting<'a>> Collect<'a> for Noted<Items<T>> {
     fn take(&mut self, alloc: Global, input: &mut Input<'a>) -> Result<(), ItemFault> {
         let noted = T::read(alloc, input)?;
         self.value.push(noted.value)?;
-        self.float = option_or(self.float, noted.float);
+        self.float = self.float.or(noted.float);
         Ok(())
     }
 }

@@ -14,7 +14,7 @@ use crate::bodies::bodies;
 use crate::collect::vector;
 use crate::form::{ExportEntries, MemoryTypes, TableTypes};
 use crate::input::Input;
-use crate::noted::{first_float, noted_vector};
+use crate::noted::noted_vector;
 use pm_text::{Items, Text};
 use std::alloc::Global;
 use wasm_bytes::ItemFault;
@@ -31,7 +31,7 @@ fn types(alloc: Global, spelled: &mut SpelledModule, input: &mut Input<'_>) -> R
 {
     let types = noted_vector(alloc, input)?;
     spelled.parts.types = types.value;
-    spelled.float = first_float(spelled.float, types.float);
+    spelled.float = spelled.float.or(types.float);
     spelled.last = 1;
     Ok(())
 }
@@ -47,7 +47,7 @@ fn imports(
 {
     let imports = noted_vector(alloc, input)?;
     spelled.imports = imports.value;
-    spelled.float = first_float(spelled.float, imports.float);
+    spelled.float = spelled.float.or(imports.float);
     spelled.last = 2;
     Ok(())
 }
@@ -105,7 +105,7 @@ fn globals(
 {
     let globals = noted_vector(alloc, input)?;
     spelled.parts.globals = globals.value;
-    spelled.float = first_float(spelled.float, globals.float);
+    spelled.float = spelled.float.or(globals.float);
     spelled.last = 6;
     Ok(())
 }
@@ -146,7 +146,7 @@ fn elements(
 {
     let elements = noted_vector(alloc, input)?;
     spelled.parts.elements = elements.value;
-    spelled.float = first_float(spelled.float, elements.float);
+    spelled.float = spelled.float.or(elements.float);
     spelled.last = 9;
     Ok(())
 }
@@ -159,7 +159,7 @@ fn code(alloc: Global, spelled: &mut SpelledModule, input: &mut Input<'_>) -> Re
 {
     let bodies = bodies(alloc, spelled.parts.functions.len(), input)?;
     spelled.parts.bodies = bodies.value;
-    spelled.float = first_float(spelled.float, bodies.float);
+    spelled.float = spelled.float.or(bodies.float);
     spelled.last = 10;
     Ok(())
 }
@@ -175,7 +175,7 @@ fn segments(
 {
     let segments = noted_vector(alloc, input)?;
     spelled.parts.segments = segments.value;
-    spelled.float = first_float(spelled.float, segments.float);
+    spelled.float = spelled.float.or(segments.float);
     spelled.last = 11;
     Ok(())
 }

@@ -15,7 +15,7 @@ returns-then-not-may_stand-clause-item c =
 
 pub returns-clause-item : goal.returns-clause-item
 returns-clause-item c =
-    instr_found c.args.expression.now c.args.input.now c.code.new.self c.in_ok-code.code c.at-at.result c.first-opcode.result c.at.result c.saturating_sub.result c.instr_of-instr.result c.push.new.self c.code.new.targets c.go_behind.new.blocks c.float_of.result c.first_float-expression.result c.in_ok-code.ensures.item
+    instr_found c.args.expression.now c.args.input.now c.code.new.self c.in_ok-code.code c.at-at.result c.first-opcode.result c.at.result c.saturating_sub.result c.instr_of-instr.result c.push.new.self c.code.new.targets c.go_behind.new.blocks c.float_of.result c.or-expression.result c.in_ok-code.ensures.item
     (record {
       here = c.at-at.ensures.is;
       first = c.first-opcode.ensures;
@@ -26,5 +26,5 @@ returns-clause-item c =
       pushed = c.in_ok-push.ensures.ok;
       opened = c.in_ok-go_behind.ensures;
       its = c.float_of.ensures;
-      noted = c.first_float-expression.ensures;
+      noted = c.or-expression.ensures;
     })
