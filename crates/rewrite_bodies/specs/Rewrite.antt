@@ -142,6 +142,8 @@ test_both C ls es o others k =
 
 -- where the guard gave no kind, the call is made; behind it, one piece of code hands over the operands left
 abbrev pub indirect_code : Ctx → List Info → List Place → ℕ → ℕ → Option FuncType → (List Place → Nodes) → Nodes
+indirect_code C ls es o t None go = stop
+indirect_code C ls [] o t (Some type) go = stop
 indirect_code C ls (i ∷ es) o t (Some type) go =
     let n = length type.params in
     let left = less n es in
@@ -149,7 +151,6 @@ indirect_code C ls (i ∷ es) o t (Some type) go =
     fetch C i (length es) (call (helper_of C t) (set C (kind_at C) (get C (kind_at C) (basic 0 (Eqz I32)
     (if_any (load C (suc n) (i ∷ es) (jump 0 (CallIndirect t) (store C r left stop)))
     (test_both C ls left o (hand_top C (suc n) (i ∷ es) stop) (go (grown r left))))))))
-indirect_code C ls _ o t _ go = stop
 
 abbrev pub control : Ctx → List Info → List Place → ℕ → Jump → (List Place → Nodes) → Nodes
 control C ls es o Unreachable go = const (i32 1) (tested C ls es o (jump 0 Unreachable stop))
