@@ -1,5 +1,5 @@
 -- What the words behind `replay` ask for: `M LOG ENTRY [ARG ...]`, and options.
-use Rattle.std.specs.Prelude.{ℕ, List, ◌∷◌, Option, None, codes, option_and_then, unwrap_or}
+use Rattle.std.specs.Prelude.{ℕ, List, ◌∷◌, Option, None, codes, option_and_then, unwrap_or, []}
 use Rattle.std.specs.Option.{option_map}
 use Rattle.command_words.specs.Reading.{Word, Allowed, Read, given_value, read_words}
 use Rattle.run_words.specs.Invocations.{argument, each}
