@@ -37,8 +37,8 @@ use Rattle.run_command.specs.Hosting.{Hosting, scripted}
 use Rattle.run_command.specs.Recorded.{recorded, served_in, IsReadBack}
 use Rattle.run_command.specs.AllRan.{end_text, told_end, ran_to_end}
 use Rattle.run_command.specs.RunAnswer.{hosting, UsesUp, EndUsesUp, HasFailed, EndHasFailed, RunsTo}
-use Rattle.wasm_decode.proofs.Sounds.{map_length}
 use Rattle.std.specs.Option.{option_or}
+use Rattle.std.proofs.lemmas.List.{length-map}
 
 -- ---- no cause, no refusal
 
@@ -193,7 +193,7 @@ runs_to before after script w m p used_up counts now bad left s calls calls' tol
     let b = behaves w.collect deliver in
     let e = r.has_ended in
     let torn = torn_in (told tell r.last) in
-    let due : length w.invocations - length e.rans ≡ r.due = not_begun (length w.invocations) (length e.rans) r.due (sym (map_length invocation_of w.invocations) ∙ e.counted) in
+    let due : length w.invocations - length e.rans ≡ r.due = not_begun (length w.invocations) (length e.rans) r.due (sym (length-map w.invocations invocation_of) ∙ e.counted) in
     record {
       program = p;
       of_module = of_module;

@@ -3,7 +3,7 @@ use Rattle.std.proofs.Common.{◌≡◌, ℕ, suc, ◌+◌, ◌-◌, ◌<◌, �
 use Rattle.std.specs.Prelude.{All, IfOk}
 use Rattle.std.proofs.Math.Path.{fun_ext}
 use Rattle.std.proofs.Math.Seq.{take-suc}
-use Rattle.std.proofs.lemmas.List.{append-nil, drop_all, length-drop, map-append, take-append-drop}
+use Rattle.std.proofs.lemmas.List.{append-nil, drop_all, length-drop, map-append, take-append-drop, length-map}
 use Rattle.causes.specs.declared.NoMemory.{NoMemory as WantOfMemory}
 use Rattle.pm_outside.specs.Contents.{Contents}
 use Rattle.wasm_syntax.specs.declared.parts.Import.{Import}
@@ -41,7 +41,6 @@ use Rattle.run_session.proofs.Lists.{zero_plus}
 use Rattle.run_session.proofs.Sessions.{EndedWith, EndsSo, TornAt, list_goes_on, list_ends, list_torn}
 use Rattle.run_session.proofs.Ends.{ended_so, torn_so, all_made_so, no_file_fault}
 use Rattle.run_session.proofs.Stopped.{ended_stopped, stops_behind}
-use Rattle.wasm_decode.proofs.Sounds.{map_length}
 use Rattle.command_answers.proofs.Unless.{on_all}
 
 -- ---- the begin
@@ -77,7 +76,7 @@ next_due xs k x other lt is =
     ∙ ap (λ n. invocation_of x ∷ map invocation_of (drop n xs)) (one_more k)
 
 pub due_left : (xs : List InvocationWords) (k : ℕ) → length (map invocation_of (drop (k + 1) xs)) ≡ length xs - k - 1
-due_left xs k = map_length invocation_of (drop (k + 1) xs) ∙ length-drop (k + 1) xs ∙ less (length xs) k
+due_left xs k = length-map (drop (k + 1) xs) invocation_of ∙ length-drop (k + 1) xs ∙ less (length xs) k
   where
     less : (a b : ℕ) → a - (b + 1) ≡ a - b - 1
     less a b = omega arith
@@ -197,7 +196,7 @@ module _ (tell : Tells) (p : Program) (M : Engine) (base name : List ℕ) (used_
 -- ---- the end of the list
 
 some_due : (xs : List InvocationWords) → 0 < length xs → 0 < length (map invocation_of xs)
-some_due xs lt = subst (λ n. 0 < n) (sym (map_length invocation_of xs)) lt
+some_due xs lt = subst (λ n. 0 < n) (sym (length-map xs invocation_of)) lt
 
 pub all_ran_so : (tell : Tells) → Behaves tell → (p : Program) (M : Engine) (base name : List ℕ) (used_up : Import → Bool) (counts now : List ℕ → ℕ) (first s : State) (all xs : List InvocationWords) (k fuel : ℕ) (lines : Lines) (before after : List Served) (told_before told_after : Option Contents) (o : Outcome)
     → length xs ≤ k → xs ≡ all → 0 < length all → o ≡ ended (trapped_or_done lines.traps) lines.text

@@ -6,7 +6,7 @@ use Rattle.wasm_syntax.specs.Run.{Ran}
 use Rattle.dump_write.specs.Image.{DumpFrame}
 use Rattle.dump_write.specs.ImageBytes.{bytes_of}
 use Rattle.command_answers.specs.Values.{value_text}
-use Rattle.run_session.specs.Telling.{Telling, finish, trap, bare_trap, torn, Tells, told, torn_in}
+use Rattle.run_session.specs.Telling.{Telling, finish, trap, bare_trap, Tells, told, torn_in}
 
 -- ---- the lines of one invocation
 
