@@ -1,5 +1,5 @@
 -- What a list of words gets: status and text, written files, and what devices log; where files tell nothing, for some contents of them.
-use Rattle.std.specs.Prelude.{◌≡◌, ℕ, List, [], ◌++◌, map, Option, Some, None, IfSome, Result, Ok, Err}
+use Rattle.std.specs.Prelude.{◌≡◌, ℕ, List, [], ◌++◌, map, Option, Some, None, IfSome, Result, Ok, Err, take}
 use Rattle.pm_outside.specs.Contents.{Contents}
 use Rattle.wasm_syntax.specs.declared.quantity.Quantity.TheVariants.{ModuleBytes, DumpBytes}
 use Rattle.dump_format.specs.declared.dump.Dump.{Dump}
@@ -88,8 +88,8 @@ abbrev pub SameAnswer : Option Command → (x y : Writes) → (a b : Outcome) �
 SameAnswer (Some (Selftest n)) x y a b = OneDump n x y a b
 SameAnswer _ x y a b = a ≡ b
 
--- The same files are written with the same bytes; of the files that `instrument` and `selftest` write the names are the same.
+-- The same files are written with the same bytes; of the file that `instrument` writes, and of the second one of `selftest`, the names are the same.
 abbrev pub SameWrites : Option Command → (one other : Writes) → Type 0
 SameWrites (Some (Instrument m out)) one other = map (λ w. w.0) one ≡ map (λ w. w.0) other
-SameWrites (Some (Selftest n)) one other = map (λ w. w.0) one ≡ map (λ w. w.0) other
+SameWrites (Some (Selftest n)) one other = (map (λ w. w.0) one ≡ map (λ w. w.0) other) × (take 1 one ≡ take 1 other)
 SameWrites _ one other = one ≡ other

@@ -1,5 +1,5 @@
 -- Two answers tell of one dump.
-use Rattle.std.proofs.Common.{◌≡◌, ℕ, ◌-◌, Bool, true, false, List, [], ◌∷◌, map, slice_get, sym, ap, ◌∙◌}
+use Rattle.std.proofs.Common.{◌≡◌, ℕ, ◌-◌, Bool, true, false, List, [], ◌∷◌, map, slice_get, sym, ap, ◌∙◌, take}
 use Rattle.std.specs.Prelude.{codes}
 use Rattle.wasm_syntax.specs.declared.module.ModuleParts.{ModuleParts as Module}
 use Rattle.wasm_syntax.specs.Machine.{Config}
@@ -54,5 +54,5 @@ module _ (n : ℕ) (x y : Writes) (a b : Outcome) (p : SelftestAnswer n x a) (q 
     same_steps = λ same. ap (λ (r : Ran). fuel - r.left) (same_second same);
   }
 
-  pub same_files : map (λ w. w.0) x ≡ map (λ w. w.0) y
-  same_files = ap (λ (ws : Writes). map (λ w. w.0) ws) p.both ∙ sym (ap (λ (ws : Writes). map (λ w. w.0) ws) q.both)
+  pub same_files : (map (λ w. w.0) x ≡ map (λ w. w.0) y) × (take 1 x ≡ take 1 y)
+  same_files = (ap (λ (ws : Writes). map (λ w. w.0) ws) p.both ∙ sym (ap (λ (ws : Writes). map (λ w. w.0) ws) q.both), ap (take 1) p.both ∙ sym (ap (take 1) q.both))
