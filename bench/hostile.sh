@@ -6,7 +6,7 @@
 #            is looked at); COUNT, SECONDS, SEED and EVERY in the environment change how many, for how long, which, and how rarely under valgrind
 #   shapes   inputs whose shape costs much, at two sizes: seconds grow no faster than bytes (shapes.py)
 # It exits with 1 where something differs. Needs the program (crates/pm_main/out/pm_main), python3, a C compiler, clang and lld of a version for
-# wasm32, and valgrind for its part; with wabt, `check` is compared with wasm-validate.
+# wasm32, and valgrind for its part; with wabt, `check` is compared with wasm-validate, and where node is there with its engine too.
 set -eu
 top=$(cd "$(dirname "$0")/.." && pwd)
 pm="$top/crates/pm_main/out/pm_main"
