@@ -23,14 +23,14 @@ use Rattle.dump_format.specs.declared.dump.Instance.{Instance}
 use Rattle.dump_format.specs.Form.{pages_of}
 use Rattle.dump_format.specs.Decode.{dump_from}
 use Rattle.dump_write.specs.Canonical.{memory_indices, instance_of, in_instance, canonical, canonical_bytes}
-use Rattle.dump_write.specs.Typed.{IsSeenTyped, IsValueTyped, IsFrameTyped, IsTyped}
+use Rattle.dump_write.specs.calls.Typed.{IsSeenTyped, IsValueTyped, IsFrameTyped, IsTyped}
 use Rattle.dump_write.proofs.CanonicalLaws.{reads_back}
 use Rattle.dump_match.specs.declared.mismatch.Mismatch.TheVariants as rows
 use Rattle.dump_match.specs.Frames.{IsOf, FunctionFits, OffsetFits, instruction}
 use Rattle.dump_match.specs.Matching.{MemoryFits, Matches}
 use Rattle.dump_match.proofs.Spots.{OpThere, there}
-use Rattle.accept_laws.specs.Ranges.{InRanges}
-use Rattle.accept_laws.specs.Accepted.{IsAccepted}
+use Rattle.accept_laws.specs.calls.Ranges.{InRanges}
+use Rattle.accept_laws.specs.calls.Accepted.{IsAccepted}
 use Rattle.accept_laws.proofs.Held.{held, held_seen, held_frame, held_dump, below_32, below_64}
 use Rattle.accept_laws.proofs.HeldBytes.{instance_same, bytes_same}
 use Rattle.accept_laws.proofs.HeldMatches.{Holds, matches_held}

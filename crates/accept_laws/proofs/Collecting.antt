@@ -9,7 +9,7 @@ use Rattle.wasm_syntax.specs.Run.{Outcome, not_started, finished, trapped, lacks
 use Rattle.dump_write.specs.Image.{image}
 use Rattle.dump_write.specs.ImageBytes.{bytes_of}
 use Rattle.rewrite_modules.specs.Simulates.{Simulates, NoneDeep, AllAlike, EndsAlike, Shows}
-use Rattle.accept_laws.specs.Accepted.{IsAcceptedIfFew, TrapAccepted, TrapsAccepted, HandsOver, HandsOverAt, AllHandOver}
+use Rattle.accept_laws.specs.calls.Accepted.{IsAcceptedIfFew, TrapAccepted, TrapsAccepted, HandsOver, HandsOverAt, AllHandOver}
 use Rattle.pm_text.proofs.Lists.{some_is}
 
 module _ (m : Module) where

@@ -15,14 +15,14 @@ use Rattle.wasm_syntax.specs.declared.instruction.Basic.TheVariants as basics
 use Rattle.wasm_syntax.specs.declared.instruction.Instr.{Instr}
 use Rattle.wasm_syntax.specs.declared.instruction.Instr.TheVariants as instr
 use Rattle.wasm_syntax.specs.Numbers.{IsValue}
-use Rattle.wasm_instructions.specs.declared.code.Code.{Code}
-use Rattle.wasm_instructions.specs.declared.code.Code.TheVariants.{Known, Float}
-use Rattle.wasm_instructions.specs.Spelled.{Spelled, alone, float}
-use Rattle.wasm_instructions.specs.Form.{Form, bare, indexed, access, typed, labels, indirect, reserved, constant_i32, constant_i64, bulk, float_bare, float_access, float_constant}
-use Rattle.wasm_instructions.specs.Table.{Rows, control, parametric, variable, load_rows, store_rows, sizes_and_constants, comparisons, unaries, operations, basic, tests_of, operators_of, floats, numeric_forms, numeric, rows_near, form_of}
-use Rattle.wasm_instructions.specs.Grammar.{immediates, behind_opcode, instruction}
+use Rattle.wasm_format.specs.declared.code.Code.{Code}
+use Rattle.wasm_format.specs.declared.code.Code.TheVariants.{Known, Float}
+use Rattle.wasm_format.specs.Spelled.{Spelled, alone, float}
+use Rattle.wasm_format.specs.InstructionForm.{Form, bare, indexed, access, typed, labels, indirect, reserved, constant_i32, constant_i64, bulk, float_bare, float_access, float_constant}
+use Rattle.wasm_format.specs.Table.{Rows, control, parametric, variable, load_rows, store_rows, sizes_and_constants, comparisons, unaries, operations, basic, tests_of, operators_of, floats, numeric_forms, numeric, rows_near, form_of}
+use Rattle.wasm_format.specs.calls.InstructionGrammar.{immediates, behind_opcode, instruction}
 use Rattle.wasm_format.specs.Expressions.{stand_in, code_of}
-use Rattle.wasm_instructions.proofs.Shortest.{signed_within}
+use Rattle.wasm_format.proofs.Shortest.{signed_within}
 use Rattle.wasm_leb.proofs.Tools.{chosen}
 use Rattle.wasm_bytes.specs.Tables.{lookup, rows_from}
 

@@ -23,7 +23,7 @@ use Rattle.dump_match.specs.declared.mismatch.Mismatch.TheVariants as rows
 use Rattle.dump_match.specs.Values.{has_type, have_types, can_be}
 use Rattle.dump_match.specs.Frames.{IsOf, StandsAt, instruction, is_call, can_call, shown, FunctionFits, OffsetFits, LocalsFit, OperandsFit, CallFits, CalleeFits}
 use Rattle.dump_match.specs.Matching.{OneInstance, MemoryFits, global_of, BothHave, Matches}
-use Rattle.accept_laws.specs.Ranges.{InRanges}
+use Rattle.accept_laws.specs.calls.Ranges.{InRanges}
 use Rattle.accept_laws.proofs.Held.{held, held_seen, held_frame, held_same, held_type}
 
 -- ---- values

@@ -6,3 +6,4 @@ pub mod Forms
 pub mod Spelled
 pub mod Traps
 pub mod Collecting
+pub mod Written

@@ -15,22 +15,22 @@ use Rattle.wasm_syntax.specs.Quantity.{greatest}
 use Rattle.wasm_syntax.specs.Numbers.{IsValue}
 use Rattle.wasm_syntax.specs.Module.{const_code, const_value}
 use Rattle.wasm_bytes.specs.Laws.{IsBytes}
-use Rattle.wasm_bytes.specs.Spelling.{pair, passing, here, items, vector, steps, due}
-use Rattle.wasm_instructions.specs.Spelled.{Spelled}
-use Rattle.wasm_instructions.specs.Grammar.{instruction}
+use Rattle.wasm_bytes.specs.calls.Spelling.{pair, passing, here, items, vector, steps, due}
+use Rattle.wasm_format.specs.Spelled.{Spelled}
+use Rattle.wasm_format.specs.calls.InstructionGrammar.{instruction}
 use Rattle.wasm_format.specs.declared.expression.Expression.{Expression}
 use Rattle.wasm_format.specs.declared.noted.Noted.{Noted}
 use Rattle.wasm_format.specs.declared.module.SpelledModule.{SpelledModule}
-use Rattle.wasm_format.specs.Choices.{first_and}
+use Rattle.wasm_format.specs.calls.Choices.{first_and}
 use Rattle.wasm_format.specs.Expressions.{instr_of, may_stand, no_code, with_instr, is_closed}
 use Rattle.wasm_format.specs.Sections.{no_parts, no_sections}
-use Rattle.wasm_format.specs.Grammar.{instr_entry, expression_entries, expression, code_contents, code, global_entry, noted_vector, contents, section_entry, module_file}
+use Rattle.wasm_format.specs.calls.Grammar.{instr_entry, expression_entries, expression, code_contents, code, global_entry, noted_vector, contents, section_entry, module_file}
 use Rattle.wasm_decode.specs.Decode.{module_of, module_from}
-use Rattle.wasm_decode.specs.Meaning.{IsModuleOf}
+use Rattle.wasm_decode.specs.calls.Meaning.{IsModuleOf}
 use Rattle.wasm_decode.proofs.Meanings.{found_exactly}
 use Rattle.wasm_laws.proofs.Lists.{all_map, all_append}
-use Rattle.wasm_sizes.proofs.Measures.{values_of}
-use Rattle.accept_laws.specs.Ranges.{InRanges}
+use Rattle.wasm_format_laws.proofs.Measures.{values_of}
+use Rattle.accept_laws.specs.calls.Ranges.{InRanges}
 use Rattle.accept_laws.proofs.Forms.{InstrFine, instruction_fine, code_fine}
 
 -- ---- lists of what is spelled

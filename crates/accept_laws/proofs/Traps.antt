@@ -15,10 +15,10 @@ use Rattle.wasm_syntax.specs.Run.{Outcome, not_started, finished, trapped, lacks
 use Rattle.dump_write.specs.Image.{frame_images, image}
 use Rattle.dump_write.specs.ImageBytes.{frame_of, dump_of, bytes_of}
 use Rattle.dump_match.specs.Matching.{Matches}
-use Rattle.match_laws.specs.TrapDumps.{dump_at, TrapMatches, TrapsMatch}
+use Rattle.match_laws.specs.calls.TrapDumps.{dump_at, TrapMatches, TrapsMatch}
 use Rattle.match_laws.proofs.TrapRuns.{traps_match}
-use Rattle.accept_laws.specs.Ranges.{InRanges}
-use Rattle.accept_laws.specs.Accepted.{TrapAccepted, TrapsAccepted, IsAcceptedIfFew}
+use Rattle.accept_laws.specs.calls.Ranges.{InRanges}
+use Rattle.accept_laws.specs.calls.Accepted.{TrapAccepted, TrapsAccepted, IsAcceptedIfFew}
 use Rattle.match_laws.proofs.RunStates.{LastHas}
 use Rattle.match_laws.proofs.Few.{Few, run_few}
 use Rattle.accept_laws.proofs.Accepting.{accepted}

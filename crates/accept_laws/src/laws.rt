@@ -11,7 +11,7 @@ ghost use Rattle.wasm_syntax.specs.Valid.{Valid};
 ghost use Rattle.wasm_syntax.specs.Run.{Invocation, run};
 ghost use Rattle.wasm_bytes.specs.Laws.{IsBytes};
 ghost use Rattle.wasm_decode.specs.Decode.{module_from};
-ghost use Rattle.wasm_decode.specs.Meaning.{IsModuleOf};
+ghost use Rattle.wasm_decode.specs.calls.Meaning.{IsModuleOf};
 ghost use Rattle.dump_format.specs.declared.dump.Dump.{Dump as CoreDump};
 ghost use Rattle.dump_match.specs.declared.mismatch.Mismatch.{Mismatch as FirstTest};
 ghost use Rattle.dump_match.specs.Matching.{Matches};
@@ -19,8 +19,8 @@ ghost use Rattle.dump_match.specs.Judged.{Match, Judged};
 ghost use Rattle.rewrite_modules.specs.Instrumentable.{program_of};
 ghost use Rattle.rewrite_modules.specs.Simulates.{Simulates, NoneDeep};
 ghost use Rattle.rewrite_promise.specs.Admitted.{Admits};
-ghost use Rattle.accept_laws.specs.Ranges.{InRanges};
-ghost use Rattle.accept_laws.specs.Accepted.{TrapsAccepted, AllHandOver};
+ghost use Rattle.accept_laws.specs.calls.Ranges.{InRanges};
+ghost use Rattle.accept_laws.specs.calls.Accepted.{TrapsAccepted, AllHandOver};
 
 /// The dump of each trap of a valid module, of at most so many bytes as dumps may have, is accepted
 /// with that module, whatever the invocations, their arguments, the replies and the number of

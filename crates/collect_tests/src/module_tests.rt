@@ -2,7 +2,7 @@
 
 ghost use Rattle.std.specs.Prelude.{◌≤◌};
 
-use selftest_module::selftest_bytes;
+use selftest_command::selftest_bytes;
 use std::alloc::Global;
 
 /// One function, which divides by zero.

@@ -2,7 +2,7 @@
 
 use machine_basics::TrapKind;
 use machine_hosted::RunEnd;
-use run_collected::{Shown, handed_over, shown_by};
+use run_session::{Shown, handed_over, shown_by};
 use std::alloc::Global;
 use wasm_syntax::CollectorCall;
 

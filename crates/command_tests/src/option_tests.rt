@@ -2,7 +2,7 @@
 
 use crate::reading::words_of;
 use causes::NoMemory;
-use command_words::{Options, Reading, read_words};
+use commands::{Options, Reading, read_words};
 use pm_text::Text;
 use std::alloc::Global;
 use std::test::Fail;

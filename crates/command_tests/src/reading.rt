@@ -1,6 +1,6 @@
 //! Lists of words, and what they are read as.
 
-use command_words::WordsFault;
+use commands::WordsFault;
 use pm_cli::{Command, parse_words};
 use std::alloc::{AllocError, Global};
 

@@ -1,7 +1,7 @@
 //! The words of `run`, with bounds and defaults.
 
 use crate::reading::words_of;
-use command_words::WordsFault;
+use commands::WordsFault;
 use run_words::{RunWords, run_words};
 use std::alloc::{AllocError, Global};
 use std::test::Fail;

@@ -11,28 +11,28 @@ use Rattle.wasm_syntax.specs.declared.host.Reply.{Reply}
 use Rattle.wasm_syntax.specs.declared.host.Served.{Served}
 use Rattle.wasm_syntax.specs.declared.module.ModuleParts.{ModuleParts as Module}
 use Rattle.wasm_decode.specs.Decode.{module_from}
-use Rattle.dump_write.specs.Written.{OnTold}
+use Rattle.pm_outside.specs.Written.{OnTold}
 use Rattle.host_set.specs.Sets.{DeviceState}
-use Rattle.command_answers.specs.Inputs.{input_of, Then}
-use Rattle.command_answers.specs.Texts.{file_fault}
-use Rattle.command_answers.specs.Input.{IsInput, IfRefused}
-use Rattle.command_answers.specs.Loaded.{IsLoaded}
-use Rattle.command_answers.specs.Told.{UnlessFault, OnContents}
-use Rattle.command_answers.specs.declared.outcome.Outcome.{Outcome}
-use Rattle.command_answers.specs.declared.status.Status.{Status}
-use Rattle.command_answers.specs.declared.status.Status.TheVariants as status
-use Rattle.command_answers.specs.declared.loading.Loaded.{Loaded}
-use Rattle.command_answers.specs.declared.loading.Loaded.TheVariants.{Valid as IsValid, TurnedDown}
-use Rattle.command_answers.specs.declared.input.Input.{Input}
-use Rattle.command_answers.specs.declared.input.Input.TheVariants as inputs
-use Rattle.command_answers.proofs.Unless.{unless, map_answer, all_answers}
-use Rattle.command_answers.proofs.Reading.{map_contents, then_ok, then_err}
+use Rattle.commands.specs.Inputs.{input_of, Then}
+use Rattle.commands.specs.Texts.{file_fault}
+use Rattle.commands.specs.calls.Input.{IsInput, IfRefused}
+use Rattle.commands.specs.calls.Loaded.{IsLoaded}
+use Rattle.commands.specs.Told.{UnlessFault, OnContents}
+use Rattle.commands.specs.declared.outcome.Outcome.{Outcome}
+use Rattle.commands.specs.declared.status.Status.{Status}
+use Rattle.commands.specs.declared.status.Status.TheVariants as status
+use Rattle.commands.specs.declared.loading.Loaded.{Loaded}
+use Rattle.commands.specs.declared.loading.Loaded.TheVariants.{Valid as IsValid, TurnedDown}
+use Rattle.commands.specs.declared.input.Input.{Input}
+use Rattle.commands.specs.declared.input.Input.TheVariants as inputs
+use Rattle.commands.proofs.Unless.{unless, map_answer, all_answers}
+use Rattle.commands.proofs.ReadFiles.{map_contents, then_ok, then_err}
 use Rattle.run_words.specs.declared.cover.CoverWords.{CoverWords}
 use Rattle.run_session.specs.Stop.{Stop, no_memory, file_failed, OnStop}
-use Rattle.run_session.specs.Written.{HoldThen}
+use Rattle.pm_outside.specs.Held.{HoldThen}
 use Rattle.run_command.specs.RunAnswer.{AnsweredOn, IfRefusal, IsUntouched, bad_replies, script_of, replies_input}
 use Rattle.run_command.specs.Stops.{NothingDone}
-use Rattle.run_command.specs.inner.Scripts.{script_result, IsAsked, IsRepliesFault}
+use Rattle.run_command.specs.calls.Scripts.{script_result, IsAsked, IsRepliesFault}
 use Rattle.run_command.specs.declared.scripts.Script.{Script}
 use Rattle.run_command.specs.declared.scripts.Script.TheVariants.{Whole, Bad}
 use Rattle.run_command.specs.declared.scripts.Asked.{Asked}
@@ -40,7 +40,7 @@ use Rattle.run_command.specs.declared.scripts.Asked.TheVariants.{Read, Refused}
 use Rattle.cover_command.specs.CoverAnswer.{ModuleAnswer, CoverAnswer, IsReadBy}
 use Rattle.cover_command.specs.Stops.{CoverStops}
 use Rattle.cover_command.specs.inner.Steps.{IsAnswered, ScriptAnswer, BytesAnswer, SourceAnswer, ModuleStops, ScriptStops, BytesStops, SourceStops, StepStops}
-use Rattle.run_session.proofs.Held.{none_held}
+use Rattle.pm_outside.proofs.Held.{none_held}
 use Rattle.run_command.proofs.Refusals.{if_refusal}
 use Rattle.run_command.proofs.Commands.{turned_down, if_loaded}
 

@@ -16,7 +16,7 @@ use Rattle.debug_frames.specs.declared.programs.Program.TheVariants.{Read, Unrea
 use Rattle.debug_frames.specs.Programs.{located_at, readable}
 use Rattle.line_coverage.specs.declared.spots.Spot.{Spot}
 use Rattle.line_coverage.specs.declared.spots.LineCount.{LineCount}
-use Rattle.line_coverage.specs.Spots.{spot, spot_of, spot_from}
+use Rattle.line_coverage.specs.calls.Spots.{spot, spot_of, spot_from}
 use Rattle.line_coverage.specs.Covers.{address_of, fallen, Covered, Covers}
 use Rattle.cover_command.specs.SourceLines.{SourceLine, line_of, source_line, falls_on}
 use Rattle.cover_command.specs.CoverText.{CoverText, count_text, sums_text}

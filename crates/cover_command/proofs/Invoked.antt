@@ -10,32 +10,32 @@ use Rattle.wasm_syntax.specs.Module.{Program, IsModule}
 use Rattle.wasm_syntax.specs.Valid.{Valid}
 use Rattle.wasm_syntax.specs.Machine.{Engine}
 use Rattle.wasm_syntax.specs.Run.{Outcome as RunOutcome, engine, invoked, start_world}
-use Rattle.machine_basics.specs.Traps.{trap_code}
+use Rattle.machine_basics.specs.calls.Traps.{trap_code}
 use Rattle.machine_steps.specs.Places.{Place, invocation_places}
-use Rattle.machine_steps.specs.Tallies.{Counts, Counted}
+use Rattle.machine_steps.specs.calls.Tallies.{Counts, Counted}
 use Rattle.host_devices.specs.Given.{replies_of, unfitting}
-use Rattle.machine_hosted.specs.Settings.{world_of}
-use Rattle.machine_hosted.specs.Answers.{HasCause, given_steps}
-use Rattle.machine_hosted.specs.Watching.{IsCount, invocation_placing}
-use Rattle.machine_hosted.specs.Invocations.{HasOutcome, InvocationCame, invoking}
+use Rattle.machine_hosted.specs.calls.Settings.{world_of}
+use Rattle.machine_hosted.specs.calls.Answers.{HasCause, given_steps}
+use Rattle.machine_hosted.specs.calls.Watching.{IsCount, invocation_placing}
+use Rattle.machine_hosted.specs.calls.Invocations.{HasOutcome, InvocationCame, invoking}
 use Rattle.machine_hosted.specs.declared.answer.RunEnd.{RunEnd}
 use Rattle.machine_hosted.specs.declared.answer.RunEnd.TheVariants.{Finished, Trapped, NoReply, BadReply, DeviceFault, FuelSpent, NoMemory}
-use Rattle.wasm_machine.specs.Instances.{State, IsNew, IsOf, Invoked}
-use Rattle.wasm_machine.specs.Watching.{Seen}
+use Rattle.wasm_machine.specs.calls.Instances.{State, IsNew, IsOf, Invoked}
+use Rattle.wasm_machine.specs.calls.Watching.{Seen}
 use Rattle.host_set.specs.Sets.{DeviceState, names, count_of}
-use Rattle.host_set.specs.Hosting.{HostsState, origin_of, calls_of, is_used_up, serves}
-use Rattle.command_answers.specs.Texts.{ended}
-use Rattle.command_answers.specs.declared.outcome.Outcome.{Outcome}
-use Rattle.command_answers.specs.declared.status.Status.TheVariants as status
+use Rattle.host_set.specs.calls.Hosting.{HostsState, origin_of, calls_of, is_used_up, serves}
+use Rattle.commands.specs.Texts.{ended}
+use Rattle.commands.specs.declared.outcome.Outcome.{Outcome}
+use Rattle.commands.specs.declared.status.Status.TheVariants as status
 use Rattle.run_words.specs.declared.cover.CoverWords.{CoverWords}
-use Rattle.run_session.specs.RunText.{kind_line}
+use Rattle.commands.specs.Lines.{kind_line}
 use Rattle.run_session.specs.Given.{given_to}
-use Rattle.run_session.specs.inner.Answers.{answer_line}
-use Rattle.run_session.specs.inner.Sessions.{EndsIn}
+use Rattle.run_session.specs.calls.Answers.{answer_line}
+use Rattle.run_session.specs.calls.Sessions.{EndsIn}
 use Rattle.run_command.specs.Hosting.{start_text}
 use Rattle.run_command.specs.AllRan.{end_text}
 use Rattle.run_command.specs.RunAnswer.{hosting, Logs, StartsOr, IfRefusal}
-use Rattle.run_command.specs.inner.Begun.{HasBegun}
+use Rattle.run_command.specs.calls.Begun.{HasBegun}
 use Rattle.run_command.specs.declared.running.Begun.TheVariants.{Ready, Refused}
 use Rattle.run_command.proofs.Answering.{HostFacts, line_is, uses_up, has_failed}
 use Rattle.run_command.proofs.Beginning.{starts_alike}

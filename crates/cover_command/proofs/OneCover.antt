@@ -14,11 +14,11 @@ use Rattle.wasm_decode.specs.Decode.{module_from}
 use Rattle.machine_steps.specs.Places.{Place}
 use Rattle.host_devices.specs.Given.{replies_of}
 use Rattle.host_set.specs.Sets.{DeviceState, names}
-use Rattle.command_answers.specs.Inputs.{input_of}
-use Rattle.command_answers.specs.declared.outcome.Outcome.{Outcome}
-use Rattle.command_answers.proofs.OneOutcome.{Agree, agree_then, agree_if_loaded}
+use Rattle.commands.specs.Inputs.{input_of}
+use Rattle.commands.specs.declared.outcome.Outcome.{Outcome}
+use Rattle.commands.proofs.OneOutcome.{Agree, agree_then, agree_if_loaded}
 use Rattle.run_words.specs.declared.cover.CoverWords.{CoverWords}
-use Rattle.run_session.specs.Written.{Writes}
+use Rattle.pm_outside.specs.Held.{Writes}
 use Rattle.run_command.specs.Hosting.{start_text}
 use Rattle.run_command.specs.RunAnswer.{StartsOr, Logs, hosting, replies_input, script_of}
 use Rattle.debug_frames.specs.Information.{information}

@@ -3,11 +3,11 @@ use Rattle.std.proofs.Common.{◌≡◌, ℕ, Bool, List, Some, sym, ap, subst, 
 use Rattle.wasm_syntax.specs.declared.value.Value.{Value}
 use Rattle.wasm_syntax.specs.declared.parts.Import.{Import}
 use Rattle.wasm_syntax.specs.Module.{Program, function_export}
-use Rattle.machine_steps.specs.Tallies.{Counts, Counted}
-use Rattle.host_devices.specs.HostSides.{Calls}
+use Rattle.machine_steps.specs.calls.Tallies.{Counts, Counted}
+use Rattle.host_devices.specs.calls.HostSides.{Calls}
 use Rattle.machine_hosted.specs.declared.answer.RunEnd.{RunEnd}
-use Rattle.wasm_machine.specs.Instances.{State, IsOf, Invoked}
-use Rattle.wasm_machine.specs.Watching.{Seen}
+use Rattle.wasm_machine.specs.calls.Instances.{State, IsOf, Invoked}
+use Rattle.wasm_machine.specs.calls.Watching.{Seen}
 use Rattle.run_words.specs.declared.cover.CoverWords.{CoverWords}
 use Rattle.cover_command.specs.inner.Running.{Came}
 use Rattle.pm_text.proofs.Lists.{some_is}

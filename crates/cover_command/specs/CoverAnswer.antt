@@ -13,16 +13,16 @@ use Rattle.wasm_decode.specs.Decode.{module_from}
 use Rattle.machine_steps.specs.Places.{Place, invocation_places}
 use Rattle.host_devices.specs.Given.{replies_of}
 use Rattle.host_set.specs.Sets.{DeviceState, names}
-use Rattle.command_answers.specs.Texts.{ended}
-use Rattle.command_answers.specs.Inputs.{input_of, Then}
-use Rattle.command_answers.specs.Loading.{IfLoaded}
-use Rattle.command_answers.specs.declared.outcome.Outcome.{Outcome}
-use Rattle.command_answers.specs.declared.status.Status.TheVariants as status
+use Rattle.commands.specs.Texts.{ended}
+use Rattle.commands.specs.Inputs.{input_of, Then}
+use Rattle.commands.specs.Loading.{IfLoaded}
+use Rattle.commands.specs.declared.outcome.Outcome.{Outcome}
+use Rattle.commands.specs.declared.status.Status.TheVariants as status
 use Rattle.run_words.specs.declared.cover.CoverWords.{CoverWords}
-use Rattle.run_session.specs.RunText.{kind_line, result_text}
+use Rattle.commands.specs.Lines.{kind_line, result_text}
 use Rattle.run_session.specs.Given.{given_to}
 use Rattle.run_session.specs.Invocations.{invocation_of}
-use Rattle.run_session.specs.Written.{Writes}
+use Rattle.pm_outside.specs.Held.{Writes}
 use Rattle.run_command.specs.Hosting.{scripted, start_text}
 use Rattle.run_command.specs.AllRan.{end_text}
 use Rattle.run_command.specs.RunAnswer.{hosting, script_of, replies_input, UsesUp, HasFailed, Logs, StartsOr, IfRefusal, IsUntouched}

@@ -11,8 +11,8 @@ use Rattle.wasm_decode.specs.Decode.{module_from}
 use Rattle.wasm_validate.specs.Heights.{AllLow}
 use Rattle.host_devices.specs.Given.{replies_of}
 use Rattle.host_set.specs.Sets.{DeviceState, names}
-use Rattle.command_answers.specs.Inputs.{input_of}
-use Rattle.command_answers.specs.Told.{OnContents}
+use Rattle.commands.specs.Inputs.{input_of}
+use Rattle.commands.specs.Told.{OnContents}
 use Rattle.run_words.specs.declared.cover.CoverWords.{CoverWords}
 use Rattle.run_session.specs.Given.{given_to}
 use Rattle.run_session.specs.Stop.{Stop, no_memory}

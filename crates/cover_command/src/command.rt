@@ -4,18 +4,18 @@ ghost use Rattle.std.specs.Prelude.{◌≡◌, ◌≢◌, ◌≤◌, ◌⊎◌, 
 ghost use Rattle.causes.specs.Counts.{Rose};
 ghost use Rattle.wasm_decode.specs.Decode.{module_from};
 ghost use Rattle.host_set.specs.Sets.{names, AreDistinct};
-ghost use Rattle.command_answers.specs.Told.{UnlessFault, OnContents};
+ghost use Rattle.commands.specs.Told.{UnlessFault, OnContents};
 ghost use Rattle.run_session.specs.Stop.{OnStop};
 ghost use Rattle.run_command.specs.RunAnswer.{AnsweredOn};
 ghost use Rattle.run_command.specs.Stops.{NothingDone};
-ghost use Rattle.run_command.specs.inner.Scripts.{script_result};
+ghost use Rattle.run_command.specs.calls.Scripts.{script_result};
 ghost use Rattle.cover_command.specs.CoverAnswer.{CoverAnswer, IsReadBy};
 ghost use Rattle.cover_command.specs.Stops.{CoverStops};
 ghost use Rattle.cover_command.specs.inner.Steps.{IsAnswered, ScriptAnswer, BytesAnswer, SourceAnswer, ScriptStops, BytesStops, SourceStops, StepStops};
 
 use crate::covering::cover_valid;
 use causes::NoMemory;
-use command_answers::{Input, Loaded, Outcome, Status, load, read_input};
+use commands::{Input, Loaded, Outcome, Status, load, read_input};
 use host_set::Devices;
 use pm_outside::Files;
 use run_command::{Asked, Script, asked_script, bad_replies};

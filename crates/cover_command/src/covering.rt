@@ -2,16 +2,16 @@
 
 ghost use Rattle.std.specs.Prelude.{◌≡◌, ◌≢◌, ◌<◌, ◌^◌, ◌⊎◌, Ok, None, true, IfOk, OnErr};
 ghost use Rattle.wasm_decode.specs.Decode.{module_from};
-ghost use Rattle.machine_hosted.specs.Answers.{HasCause};
+ghost use Rattle.machine_hosted.specs.calls.Answers.{HasCause};
 ghost use Rattle.host_set.specs.Sets.{AreDistinct, names};
-ghost use Rattle.wasm_machine.specs.Entries.{entry_fault};
+ghost use Rattle.wasm_machine.specs.calls.Entries.{entry_fault};
 ghost use Rattle.cover_command.specs.CoverAnswer.{ModuleAnswer};
 ghost use Rattle.cover_command.specs.inner.Running.{Came};
 ghost use Rattle.cover_command.specs.inner.Steps.{IsAnswered, ModuleStops};
 
 use crate::ending::answer_to;
 use causes::NoMemory;
-use command_answers::{Outcome, Status};
+use commands::{Outcome, Status};
 use host_devices::HostSide;
 use host_set::{Devices, Hosts};
 use machine_hosted::RunEnd;

@@ -2,23 +2,23 @@
 
 ghost use Rattle.std.specs.Prelude.{◌≡◌, ◌++◌, Ok, IfOk};
 ghost use Rattle.wasm_decode.specs.Decode.{module_from};
-ghost use Rattle.machine_basics.specs.Traps.{trap_code};
-ghost use Rattle.command_answers.specs.Texts.{ended};
-ghost use Rattle.run_session.specs.RunText.{kind_line};
-ghost use Rattle.run_session.specs.inner.Answers.{answer_line};
+ghost use Rattle.machine_basics.specs.calls.Traps.{trap_code};
+ghost use Rattle.commands.specs.Texts.{ended};
+ghost use Rattle.commands.specs.Lines.{kind_line};
+ghost use Rattle.run_session.specs.calls.Answers.{answer_line};
 ghost use Rattle.debug_frames.specs.Information.{information};
 ghost use Rattle.cover_command.specs.CoverAnswer.{finished_line};
 ghost use Rattle.cover_command.specs.inner.Running.{TellsCounts, AnswersEnd};
 
 use crate::telling::push_covered;
 use causes::NoMemory;
-use command_answers::{Outcome, Status};
+use commands::{Outcome, Status, push_kind, push_result};
 use debug_frames::Information;
 use machine_basics::TrapKind;
 use machine_hosted::RunEnd;
 use machine_steps::Tally;
 use pm_text::Text;
-use run_session::{end_line, push_kind, push_result};
+use run_session::end_line;
 use std::alloc::Global;
 use wasm_syntax::Value;
 use wasm_validate::Validated;

@@ -7,5 +7,4 @@ mod ending;
 mod merging;
 mod telling;
 
-pub use causes::NoMemory;
 pub use command::cover_file;

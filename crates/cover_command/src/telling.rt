@@ -4,14 +4,14 @@ ghost use Rattle.std.specs.Prelude.{◌≡◌, ◌<◌, ◌^◌, ◌++◌, List,
 ghost use Rattle.std.specs.List.{flat_map};
 ghost use Rattle.std.specs.BTreeMap.{IsOrdered};
 ghost use Rattle.machine_steps.specs.Places.{Place};
-ghost use Rattle.machine_steps.specs.Tallies.{Counted};
+ghost use Rattle.machine_steps.specs.calls.Tallies.{Counted};
 ghost use Rattle.cover_command.specs.CoverText.{CoverText, count_text, sums_text};
 ghost use Rattle.cover_command.specs.SourceLines.{source_line};
 ghost use Rattle.cover_command.specs.inner.Merging.{file_line_cmp, seen_line, seen_counts};
 
 use crate::merging::{FileLine, merge};
 use causes::NoMemory;
-use command_answers::push_number;
+use commands::push_number;
 use debug_frames::Programs;
 use line_coverage::Coverage;
 use machine_steps::Tally;

@@ -5,16 +5,16 @@ use Rattle.std.specs.Global.{Global}
 use Rattle.std.specs.Prelude.{IfOk}
 use Rattle.pm_outside.specs.Contents.{Contents}
 use Rattle.wasm_syntax.specs.declared.quantity.Quantity.TheVariants.{ModuleBytes, DumpBytes}
-use Rattle.command_answers.specs.Input.{IsInput, IfRefused}
-use Rattle.command_answers.specs.Inputs.{input_of, Then}
-use Rattle.command_answers.specs.Texts.{file_fault}
-use Rattle.command_answers.specs.Told.{UnlessFault, OnContents}
-use Rattle.command_answers.specs.declared.input.Input.{Input}
-use Rattle.command_answers.specs.declared.input.Input.TheVariants.{Whole, Refused}
-use Rattle.command_answers.specs.declared.outcome.Outcome.{Outcome}
-use Rattle.command_answers.specs.declared.status.Status.TheVariants as status
-use Rattle.command_answers.proofs.Reading.{map_contents, whole_then, refused_then}
-use Rattle.command_answers.proofs.Unless.{OnAnswer, unless, map_answer}
+use Rattle.commands.specs.calls.Input.{IsInput, IfRefused}
+use Rattle.commands.specs.Inputs.{input_of, Then}
+use Rattle.commands.specs.Texts.{file_fault}
+use Rattle.commands.specs.Told.{UnlessFault, OnContents}
+use Rattle.commands.specs.declared.input.Input.{Input}
+use Rattle.commands.specs.declared.input.Input.TheVariants.{Whole, Refused}
+use Rattle.commands.specs.declared.outcome.Outcome.{Outcome}
+use Rattle.commands.specs.declared.status.Status.TheVariants as status
+use Rattle.commands.proofs.ReadFiles.{map_contents, whole_then, refused_then}
+use Rattle.commands.proofs.Unless.{OnAnswer, unless, map_answer}
 use Rattle.debug_command.specs.declared.words.DebugWords.{DebugWords}
 use Rattle.debug_command.specs.Answer.{BytesAnswer, DebugAnswer, IsReadBy}
 

@@ -14,14 +14,14 @@ use Rattle.dump_format.specs.declared.fault.DumpFault.{DumpFault}
 use Rattle.dump_format.specs.declared.fault.DumpFault.TheVariants as dump_fault
 use Rattle.dump_format.specs.Decode.{dump_from}
 use Rattle.dump_match.specs.declared.mismatch.Mismatch.{Mismatch}
-use Rattle.command_answers.specs.Inputs.{input_of, Then}
-use Rattle.command_answers.specs.Loading.{IfLoaded, undecoded}
-use Rattle.command_answers.specs.Refusal.{IsRefusal}
-use Rattle.command_answers.specs.Texts.{over_limit}
-use Rattle.command_answers.specs.declared.outcome.Outcome.{Outcome}
-use Rattle.command_answers.specs.declared.status.Status.{Status}
-use Rattle.command_answers.specs.declared.status.Status.TheVariants as status
-use Rattle.dump_answers.specs.Refused.{refused}
+use Rattle.commands.specs.Inputs.{input_of, Then}
+use Rattle.commands.specs.Loading.{IfLoaded, undecoded}
+use Rattle.commands.specs.Refusal.{IsRefusal}
+use Rattle.commands.specs.Texts.{over_limit}
+use Rattle.commands.specs.declared.outcome.Outcome.{Outcome}
+use Rattle.commands.specs.declared.status.Status.{Status}
+use Rattle.commands.specs.declared.status.Status.TheVariants as status
+use Rattle.commands.specs.Refused.{refused}
 use Rattle.debug_command.specs.declared.words.DebugWords.{DebugWords}
 use Rattle.debug_command.specs.Answer.{DumpAnswer, IfDump, BytesAnswer, DebugAnswer}
 use Rattle.debug_command.specs.Headline.{IsDebugged}

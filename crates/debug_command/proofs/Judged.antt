@@ -8,12 +8,12 @@ use Rattle.dump_format.specs.declared.fault.DumpFault.TheVariants.{NoMemory, Mal
 use Rattle.dump_format.specs.Decode.{Answers}
 use Rattle.dump_match.specs.declared.mismatch.Mismatch.{Mismatch}
 use Rattle.dump_match.specs.Judged.{Match, Judged}
-use Rattle.command_answers.specs.declared.outcome.Outcome.{Outcome}
-use Rattle.command_answers.specs.declared.status.Status.TheVariants as status
-use Rattle.dump_answers.specs.Refused.{refused}
+use Rattle.commands.specs.declared.outcome.Outcome.{Outcome}
+use Rattle.commands.specs.declared.status.Status.TheVariants as status
+use Rattle.commands.specs.Refused.{refused}
 use Rattle.debugger.specs.Session.{PrintsAll}
-use Rattle.debugger.specs.Sitting.{Sitting, sitting}
-use Rattle.debug_subject.specs.Subject.{subject_of}
+use Rattle.debugger.specs.calls.Sitting.{Sitting, sitting}
+use Rattle.debugger.specs.Subject.{subject_of}
 use Rattle.debug_command.specs.Answer.{mismatched, IsTold, DumpAnswer, IfDump}
 
 -- the texts of a session from its begin

@@ -17,16 +17,16 @@ use Rattle.dump_match.specs.declared.mismatch.Mismatch.TheVariants as rows
 use Rattle.dump_match.specs.Frames.{IsOf, OffsetFits, OperandCount}
 use Rattle.dump_match.specs.States.{StateOperandCount}
 use Rattle.dump_match.specs.Matching.{FirstMismatch, Before, group, place}
-use Rattle.command_answers.specs.Inputs.{input_of}
-use Rattle.command_answers.specs.Texts.{ended}
-use Rattle.command_answers.specs.declared.outcome.Outcome.{Outcome}
-use Rattle.command_answers.proofs.OneOutcome.{Agree, agree_then, agree_if_loaded}
-use Rattle.debug_listings.specs.Listings.{listing, recorded_or}
-use Rattle.debug_commands.specs.declared.command.Command.{Command}
-use Rattle.debug_commands.specs.declared.command.Command.TheVariants as commands
-use Rattle.debug_commands.specs.Commands.{read_command}
-use Rattle.debug_subject.specs.Subject.{Subject, subject_of}
-use Rattle.debug_subject.specs.Texts.{IsOperandsText}
+use Rattle.commands.specs.Inputs.{input_of}
+use Rattle.commands.specs.Texts.{ended}
+use Rattle.commands.specs.declared.outcome.Outcome.{Outcome}
+use Rattle.commands.proofs.OneOutcome.{Agree, agree_then, agree_if_loaded}
+use Rattle.debugger.specs.Listings.{listing, recorded_or}
+use Rattle.debugger.specs.declared.command.Command.{Command}
+use Rattle.debugger.specs.declared.command.Command.TheVariants as commands
+use Rattle.debugger.specs.Commands.{read_command}
+use Rattle.debugger.specs.Subject.{Subject, subject_of}
+use Rattle.debugger.specs.Texts.{IsOperandsText}
 use Rattle.debugger.specs.Session.{AreOperands, Prints, PrintsAll, chosen_behind}
 use Rattle.debug_command.specs.declared.words.DebugWords.{DebugWords}
 use Rattle.debug_command.specs.Answer.{mismatched, IsTold, DumpAnswer, IfDump, DebugAnswer}

@@ -1,9 +1,9 @@
 -- Commands one after the other.
 use Rattle.std.proofs.Common.{◌≡◌, ℕ, ◌+◌, ◌<◌, ◌≤◌, List, [], ◌∷◌, ◌++◌, length, get_or, drop, refl, sym, ap, subst, ◌∙◌, append_assoc, add-one, drop-cons}
 use Rattle.std.proofs.lemmas.List.{append-nil, drop_all}
-use Rattle.debug_commands.specs.Commands.{read_command}
+use Rattle.debugger.specs.Commands.{read_command}
 use Rattle.debugger.specs.Session.{PrintsAll, chosen_behind}
-use Rattle.debugger.specs.Sitting.{Sitting}
+use Rattle.debugger.specs.calls.Sitting.{Sitting}
 use Rattle.debug_command.specs.inner.Steps.{Adds}
 
 -- whatever is printed behind, all of it is this

@@ -11,13 +11,13 @@ use Rattle.dump_format.specs.Decode.{dump_from}
 use Rattle.dump_match.specs.declared.mismatch.Mismatch.{Mismatch}
 use Rattle.dump_match.specs.declared.mismatch.Mismatch.TheVariants as rows
 use Rattle.dump_match.specs.Matching.{Matches, FirstMismatch}
-use Rattle.command_answers.specs.Inputs.{input_of, Then}
-use Rattle.command_answers.specs.Loading.{IfLoaded}
-use Rattle.command_answers.specs.Texts.{ended}
-use Rattle.command_answers.specs.declared.outcome.Outcome.{Outcome}
-use Rattle.command_answers.specs.declared.status.Status.TheVariants as status
-use Rattle.dump_answers.specs.Refused.{refused}
-use Rattle.debug_subject.specs.Subject.{subject_of}
+use Rattle.commands.specs.Inputs.{input_of, Then}
+use Rattle.commands.specs.Loading.{IfLoaded}
+use Rattle.commands.specs.Texts.{ended}
+use Rattle.commands.specs.declared.outcome.Outcome.{Outcome}
+use Rattle.commands.specs.declared.status.Status.TheVariants as status
+use Rattle.commands.specs.Refused.{refused}
+use Rattle.debugger.specs.Subject.{subject_of}
 use Rattle.debugger.specs.Session.{PrintsAll}
 use Rattle.debug_command.specs.declared.words.DebugWords.{DebugWords}
 

@@ -7,9 +7,9 @@ use Rattle.wasm_decode.specs.Decode.{module_from}
 use Rattle.dump_format.specs.declared.dump.Dump.{Dump}
 use Rattle.dump_format.specs.Decode.{dump_from}
 use Rattle.dump_match.specs.Matching.{Matches}
-use Rattle.command_answers.specs.declared.status.Status.{Status}
-use Rattle.command_answers.specs.declared.status.Status.TheVariants as status
-use Rattle.debug_subject.specs.Subject.{subject_of}
+use Rattle.commands.specs.declared.status.Status.{Status}
+use Rattle.commands.specs.declared.status.Status.TheVariants as status
+use Rattle.debugger.specs.Subject.{subject_of}
 use Rattle.debugger.specs.Session.{PrintsAll}
 use Rattle.debug_command.specs.declared.words.DebugWords.{DebugWords}
 

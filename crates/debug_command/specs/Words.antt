@@ -1,6 +1,6 @@
 -- The words behind `debug`: a module, a dump, and commands.
 use Rattle.std.specs.Prelude.{List, ◌∷◌, Option, Some, None, option_and_then}
-use Rattle.command_words.specs.Reading.{Word, no_options, read_words}
+use Rattle.commands.specs.Reading.{Word, no_options, read_words}
 use Rattle.debug_command.specs.declared.words.DebugWords.{DebugWords}
 
 abbrev pub words_of : List Word → Option DebugWords

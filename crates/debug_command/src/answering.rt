@@ -1,16 +1,15 @@
 //! The answer on the bytes of a module and of a dump.
 
 ghost use Rattle.std.specs.Prelude.{◌≡◌, ◌≢◌, ◌++◌, IfOk, OnOk};
-ghost use Rattle.dump_format.specs.Contained.{IsContained, IsLimited};
+ghost use Rattle.dump_format.specs.calls.Contained.{IsContained, IsLimited};
 ghost use Rattle.dump_format.specs.Decode.{dump_from};
-ghost use Rattle.debug_subject.specs.Subject.{Spells};
+ghost use Rattle.debugger.specs.Subject.{Spells};
 ghost use Rattle.debug_command.specs.Answer as answers;
 
-use crate::commands::printed;
+use crate::command_list::printed;
 use causes::NoMemory;
-use command_answers::{Loaded, Outcome, Status, load, push_number};
+use commands::{Loaded, Outcome, Status, load, push_number, refused_dump};
 use debugger::Session;
-use dump_answers::refused_dump;
 use dump_format::{Dump, decode_dump};
 use dump_match::{Matched, Mismatch, matches};
 use pm_text::Text;

@@ -3,9 +3,8 @@
 
 mod answering;
 mod command;
-mod commands;
+mod command_list;
 mod words;
 
-pub use causes::NoMemory;
 pub use command::debug_file;
 pub use words::{DebugWords, debug_words};

@@ -5,7 +5,7 @@ ghost use Rattle.std.specs.String.{string_bytes};
 ghost use Rattle.debug_command.specs.Words.{debug_words};
 
 use causes::NoMemory;
-use command_words::{Options, WordsFault, read_words};
+use commands::{Options, WordsFault, read_words};
 use pm_text::{Text, Texts};
 use std::alloc::Global;
 

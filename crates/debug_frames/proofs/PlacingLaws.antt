@@ -5,11 +5,11 @@ use Rattle.std.specs.Option.{option_or, option_to_list}
 use Rattle.std.specs.List.{list_any, position_from}
 use Rattle.dwarf_line.specs.declared.lines.Sequence.{Sequence}
 use Rattle.dwarf_line.specs.Place.{Located, holds, place}
-use Rattle.dwarf_line.specs.inner.Held.{held, is_held}
+use Rattle.dwarf_line.specs.calls.Held.{held, is_held}
 use Rattle.dwarf_line.proofs.HeldLaws.{holds_held, is_placed}
 use Rattle.dwarf_scopes.specs.Ranges.{is_between}
-use Rattle.dwarf_scopes.specs.inner.Numbered.{ranges_from, is_within}
-use Rattle.dwarf_scopes.specs.inner.Steps.{Answer, answer}
+use Rattle.dwarf_scopes.specs.calls.Numbered.{ranges_from, is_within}
+use Rattle.dwarf_scopes.specs.calls.Steps.{Answer, answer}
 use Rattle.dwarf_scopes.specs.declared.steps.Step.{Step}
 use Rattle.dwarf_scopes.proofs.NumberLaws.{StandsAt, stands_behind, first_numbered}
 use Rattle.debug_frames.specs.declared.programs.Program.{Program}

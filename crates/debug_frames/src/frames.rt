@@ -11,7 +11,7 @@ use crate::information::Information;
 use crate::places::push_place_behind;
 use crate::symbolizer::{Resolved, Symbolizer};
 use causes::NoMemory;
-use command_answers::push_number;
+use commands::push_number;
 use dump_format::Frame;
 use dwarf_entries::{Standing, name_of};
 use pm_text::Text;

@@ -12,7 +12,6 @@ mod symbolizer;
 mod unreadable;
 
 pub use address::address_of;
-pub use causes::NoMemory;
 pub use files::push_file;
 pub use frames::push_frame;
 pub use information::Information;

@@ -1,7 +1,7 @@
 //! The line programs that units name (DWARF 4 and 5 section 6.2).
 
 ghost use Rattle.std.specs.Prelude.{◌≡◌, ◌++◌, [], map, flat_map, IfOk, OnOk, slice_get, option_copied, option_map};
-ghost use Rattle.dwarf_scopes.specs.inner.Numbered.{ranges_from, with_number};
+ghost use Rattle.dwarf_scopes.specs.calls.Numbered.{ranges_from, with_number};
 ghost use Rattle.debug_frames.specs.Programs as definitions;
 ghost use Rattle.debug_frames.specs.inner.Placing.{held_by, held_in};
 
@@ -250,8 +250,8 @@ pub struct ProgramTable<'r, 'a> {
 
 impl<'r, 'a> Model for ProgramTable<'r, 'a> {
     ghost use Rattle.std.specs.Prelude.{ℕ, List};
-    ghost use Rattle.dwarf_scopes.specs.inner.Numbered.{ranges_from};
-    ghost use Rattle.dwarf_scopes.specs.inner.Steps.{Answer};
+    ghost use Rattle.dwarf_scopes.specs.calls.Numbered.{ranges_from};
+    ghost use Rattle.dwarf_scopes.specs.calls.Steps.{Answer};
     ghost use Rattle.debug_frames.specs.declared.programs.Program.{Program};
     ghost use Rattle.debug_frames.specs.inner.Placing.{held_in};
 

@@ -6,7 +6,7 @@ ghost use Rattle.debug_frames.specs.Unreadable as definitions;
 use crate::information::Information;
 use crate::programs::{Program, Programs, named};
 use causes::NoMemory;
-use command_answers::push_number;
+use commands::push_number;
 use dwarf_info::UnitAnswer;
 use pm_text::Text;
 

@@ -1,6 +1,6 @@
 //! Texts of commands, with what each asks for.
 
-use debug_commands::{Command, read_command};
+use debugger::{Command, read_command};
 
 const ROWS: [(&str, Command); 24] = [
     ("bt", Command::Backtrace),

@@ -2,7 +2,7 @@
 
 use crate::cases::{DIVISION, DIVISION_DUMP, valid};
 use causes::NoMemory;
-use debug_listings::push_listing;
+use debugger::push_listing;
 use dump_format::decode_dump;
 use dump_match::matches;
 use pm_text::Text;

@@ -1,6 +1,6 @@
 //! The words behind `debug`.
 
-use command_words::WordsFault;
+use commands::WordsFault;
 use debug_command::{DebugWords, debug_words};
 use pm_text::Text;
 use std::alloc::{AllocError, Global};

@@ -1,0 +1,7 @@
+pub mod Locals
+pub mod Small
+pub mod Operands
+pub mod VariableLines
+pub mod ListingLines
+pub mod Rows
+pub mod WordLaws

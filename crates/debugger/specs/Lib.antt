@@ -1,2 +1,9 @@
 pub mod Session
-pub mod Sitting
+pub mod Subject
+pub mod Texts
+pub mod Variables
+pub mod Listings
+pub mod Recorded
+pub mod Examined
+pub mod Commands
+pub mod calls

@@ -3,13 +3,13 @@ use Rattle.std.specs.Prelude.{◌≡◌, ℕ, List, [], ◌∷◌, ◌++◌, sli
 use Rattle.dump_format.specs.declared.dump.Frame.{Frame}
 use Rattle.var_path.specs.declared.path.Path.{Path}
 use Rattle.var_path.specs.Reading.{read_path}
-use Rattle.debug_commands.specs.declared.command.Command.{Command}
-use Rattle.debug_commands.specs.declared.command.Command.TheVariants as commands
-use Rattle.debug_commands.specs.Commands.{read_command, second_word}
+use Rattle.debugger.specs.declared.command.Command.{Command}
+use Rattle.debugger.specs.declared.command.Command.TheVariants as commands
+use Rattle.debugger.specs.Commands.{read_command, second_word}
 use Rattle.debug_frames.specs.Unreadable.{unreadable_text}
-use Rattle.debug_subject.specs.Subject.{Subject}
-use Rattle.debug_subject.specs.Texts.{no_frame, backtrace_text, frame_text_at, locals_text, IsOperandsText, globals_text, memory_text}
-use Rattle.debug_variables.specs.Variables.{variables_text, path_text}
+use Rattle.debugger.specs.Subject.{Subject}
+use Rattle.debugger.specs.Texts.{no_frame, backtrace_text, frame_text_at, locals_text, IsOperandsText, globals_text, memory_text}
+use Rattle.debugger.specs.Variables.{variables_text, path_text}
 
 -- the text of the chosen frame; without frames there is none to choose
 abbrev pub of_frame : (Frame → List ℕ) → Option Frame → List ℕ

@@ -1,17 +1,15 @@
 //! The texts that commands print.
 
 ghost use Rattle.std.specs.Prelude.{◌≡◌, ◌++◌, Some, IfOk, OnOk, option_copied, slice_get};
-ghost use Rattle.debug_subject.specs.Texts as texts;
-ghost use Rattle.debug_variables.specs.Variables as variables;
+ghost use Rattle.debugger.specs.Texts as texts;
+ghost use Rattle.debugger.specs.Variables as variables;
 ghost use Rattle.debugger.specs.Session as definitions;
 
-use causes::NoMemory;
-use debug_commands::{Command, second_word};
-use debug_subject::{
-    Subject, push_backtrace, push_frame_at, push_globals, push_locals, push_memory, push_no_frame,
-    push_operands, push_unread,
+use crate::{
+    Command, Subject, push_backtrace, push_frame_at, push_globals, push_locals, push_memory,
+    push_no_frame, push_operands, push_path, push_unread, push_variables, second_word,
 };
-use debug_variables::{push_path, push_variables};
+use causes::NoMemory;
 use dump_format::Frame;
 use pm_text::Text;
 use std::alloc::Global;

@@ -1,14 +1,13 @@
 //! A session of commands.
 
 ghost use Rattle.std.specs.Prelude.{◌≡◌, IfOk, slice_get};
-ghost use Rattle.debug_subject.specs.Subject.{subject_of, Spells};
+ghost use Rattle.debugger.specs.Subject.{subject_of, Spells};
 ghost use Rattle.debugger.specs.Session.{chosen_of, chosen_behind};
-ghost use Rattle.debugger.specs.Sitting.{sitting, Answers};
+ghost use Rattle.debugger.specs.calls.Sitting.{sitting, Answers};
 
 use crate::answers::answer;
+use crate::{Command, Information, Subject, information_of, read_command};
 use causes::NoMemory;
-use debug_commands::{Command, read_command};
-use debug_subject::{Information, Subject, information_of};
 use dump_match::{Matched, StateMatched};
 use pm_text::Text;
 use std::alloc::Global;
@@ -22,7 +21,7 @@ pub struct Session<'a, 'm, 'd, 'b> {
 }
 
 impl<'a, 'm, 'd, 'b> Model for Session<'a, 'm, 'd, 'b> {
-    ghost use Rattle.debugger.specs.Sitting.{Sitting, sitting};
+    ghost use Rattle.debugger.specs.calls.Sitting.{Sitting, sitting};
 
     ghost Value = { Sitting };
 

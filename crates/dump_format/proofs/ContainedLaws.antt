@@ -5,10 +5,10 @@ use Rattle.std.specs.List.{flat_map}
 use Rattle.std.proofs.lemmas.Bool.{ltb-true, leb-true, eqb-true}
 use Rattle.std.proofs.lemmas.List.{append-nil, length-map}
 use Rattle.std.proofs.lemmas.List.Elements.{All-nil, All-cons, All-weaker}
-use Rattle.wasm_leb.specs.Numbers.{IsUnsigned}
+use Rattle.wasm_leb.specs.calls.Numbers.{IsUnsigned}
 use Rattle.wasm_leb.proofs.Powers.{fits_above}
 use Rattle.wasm_syntax.specs.declared.value.Value.{Value}
-use Rattle.wasm_bytes.specs.Spelling.{items, vector, image, steps}
+use Rattle.wasm_bytes.specs.calls.Spelling.{items, vector, image, steps}
 use Rattle.dump_format.specs.declared.dump.Dump.{Dump}
 use Rattle.dump_format.specs.declared.fault.DumpFault.{DumpFault}
 use Rattle.dump_format.specs.Region.{Region}
@@ -16,9 +16,9 @@ use Rattle.dump_format.specs.Parts.{Part, core, modules, instances, stack, memor
 use Rattle.dump_format.specs.Form.{is_inside, pages_of}
 use Rattle.dump_format.specs.Judged.{value_of, memories_in, values_in, segments_in, only, first_of, last_id, memory_of, dump_of}
 use Rattle.dump_format.specs.Sections.{may_follow}
-use Rattle.dump_format.specs.Grammar.{global_entry, segment_entry, custom_tail, contents, section_entry, one_section, dump_file}
-use Rattle.dump_format.specs.Meaning.{IsDump, Exactly}
-use Rattle.dump_format.specs.Contained.{IsContained, IsLimited}
+use Rattle.dump_format.specs.calls.Grammar.{global_entry, segment_entry, custom_tail, contents, section_entry, one_section, dump_file}
+use Rattle.dump_format.specs.calls.Meaning.{IsDump, Exactly}
+use Rattle.dump_format.specs.calls.Contained.{IsContained, IsLimited}
 use Rattle.dump_format.proofs.Summary.{more, last_more}
 
 -- ---- what a section says of itself

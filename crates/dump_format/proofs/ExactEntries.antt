@@ -5,7 +5,7 @@ use Rattle.std.specs.Int.{w32, cast_unsigned}
 use Rattle.wasm_syntax.specs.declared.value.Seen.TheVariants as seen
 use Rattle.wasm_bytes.specs.Place.{Place, Read}
 use Rattle.wasm_bytes.specs.Reading.{◌⊗◌, mapped, checked, choose, fixed_item, run_item, u32_item, s32_item, s64_item, name_item, vector_item, sized_run_item}
-use Rattle.wasm_bytes.specs.Spelling.{◌&◌, pair, always, image, passing, byte, u32, s32, s64, run, sized_run, name, vector, tagged}
+use Rattle.wasm_bytes.specs.calls.Spelling.{◌&◌, pair, always, image, passing, byte, u32, s32, s64, run, sized_run, name, vector, tagged}
 use Rattle.wasm_bytes.specs.Laws.{IsExact, PicksExact}
 use Rattle.wasm_bytes.proofs.Exact.{then_exact, mapped_exact, image_exact, same_exact, checked_exact, done_exact}
 use Rattle.wasm_bytes.proofs.ExactItems.{u32_exact, s32_exact, s64_exact, one_of_exact, fixed_exact, run_exact, sized_run_exact, name_exact}
@@ -13,7 +13,7 @@ use Rattle.wasm_bytes.proofs.ExactLists.{vector_exact, choose_exact}
 use Rattle.dump_format.specs.Region.{Region}
 use Rattle.dump_format.specs.Parts.{Shown, known, float, ShownFrame}
 use Rattle.dump_format.specs.Form.{known_i32, known_i64, float_behind, value_behind, value_item, module_item, instance_of, instance_item, place_item, shown_frame_of, frame_item, thread_item, stack_item, limits_behind, limits_item, mutability_item, constant_item, global_i32, global_i64, global_behind, global_item, is_memory, is_inside, region_of, segment_item}
-use Rattle.dump_format.specs.Grammar.{float_bytes, value_tail, value_entry, module_entry, instance_entry, frame_entry, stack_entry, limits_tail, limits_entry, mutability, constant, global_tail, global_entry, segment_body, segment_entry}
+use Rattle.dump_format.specs.calls.Grammar.{float_bytes, value_tail, value_entry, module_entry, instance_entry, frame_entry, stack_entry, limits_tail, limits_entry, mutability, constant, global_tail, global_entry, segment_body, segment_entry}
 use Rattle.dump_format.proofs.OnTest.{on_test_picks, no_spelling_picks}
 use Rattle.wasm_bytes.proofs.Offsets.{offset_exact}
 

@@ -4,7 +4,7 @@ use Rattle.std.specs.Prelude.{◌==◌, codes}
 use Rattle.std.specs.Str.{bytes_eq}
 use Rattle.wasm_bytes.specs.Place.{Place, Read}
 use Rattle.wasm_bytes.specs.Reading.{◌⊗◌, ◌▷◌, mapped, bytes_item, name_item, rest_item, vector_item, closed, steps_to_end, whole}
-use Rattle.wasm_bytes.specs.Spelling.{pair, leads, always, image, text, name, vector, some_steps}
+use Rattle.wasm_bytes.specs.calls.Spelling.{pair, leads, always, image, text, name, vector, some_steps}
 use Rattle.wasm_bytes.specs.Laws.{IsBytes, IsExact, IsTail, PicksExact, TakesBytes}
 use Rattle.wasm_bytes.proofs.Exact.{image_exact}
 use Rattle.wasm_bytes.proofs.ExactItems.{name_exact, text_exact}
@@ -15,7 +15,7 @@ use Rattle.dump_format.specs.Parts.{Part, core, modules, instances, stack, memor
 use Rattle.dump_format.specs.Form.{module_item, instance_item, stack_item, limits_item, global_item, segment_item}
 use Rattle.dump_format.specs.Judged.{last_id, memory_of}
 use Rattle.dump_format.specs.Sections.{custom_behind, custom_item, contents_item, may_follow, section_behind, section_item, with_section, sections_item, has_core, parts_item}
-use Rattle.dump_format.specs.Grammar.{module_entry, instance_entry, stack_entry, limits_entry, global_entry, segment_entry, custom_tail, contents, section_tail, section_entry, one_section, sections, dump_file}
+use Rattle.dump_format.specs.calls.Grammar.{module_entry, instance_entry, stack_entry, limits_entry, global_entry, segment_entry, custom_tail, contents, section_tail, section_entry, one_section, sections, dump_file}
 use Rattle.dump_format.proofs.OnTest.{on_test_closed, on_test_picks, no_spelling_picks, same_closed, closed-leads}
 use Rattle.dump_format.proofs.ExactEntries.{module_exact, instance_exact, stack_exact, limits_exact, global_exact, segment_exact}
 use Rattle.wasm_bytes.specs.Tables.{header}

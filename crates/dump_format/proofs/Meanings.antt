@@ -16,7 +16,7 @@ use Rattle.dump_format.specs.Parts.{Part}
 use Rattle.dump_format.specs.Judged.{floats_in, first_of, repeated, dump_of, over, at_float, at_repeated, refusal, judged}
 use Rattle.dump_format.specs.Sections.{parts_item}
 use Rattle.dump_format.specs.Decode.{judged_parts, dump_from, Answers}
-use Rattle.dump_format.specs.Meaning.{IsSpelled, page_count, frame_count, IsDump, BreaksAt, HasFloatAt, HasSeveral, IsOver, PassesLimit, Exactly}
+use Rattle.dump_format.specs.calls.Meaning.{IsSpelled, page_count, frame_count, IsDump, BreaksAt, HasFloatAt, HasSeveral, IsOver, PassesLimit, Exactly}
 use Rattle.dump_format.proofs.ExactSections.{parts_found, parts_read}
 use Rattle.dump_format.proofs.StopsSections.{parts_stop, parts_stopped}
 use Rattle.wasm_leb.proofs.Tools.{chosen}

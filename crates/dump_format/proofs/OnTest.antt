@@ -7,8 +7,8 @@ use Rattle.wasm_bytes.specs.Laws.{place, IsExact, IsTail, StopsAt, PicksExact, P
 use Rattle.wasm_bytes.proofs.Exact.{same_exact}
 use Rattle.wasm_bytes.proofs.ExactBlocks.{same_tail}
 use Rattle.wasm_bytes.proofs.Stops.{same_stops_at}
-use Rattle.dump_format.specs.Grammar.{on_test, no_spelling}
-use Rattle.dump_format.specs.Breaking.{stops_on_test, or_else}
+use Rattle.dump_format.specs.calls.Grammar.{on_test, no_spelling}
+use Rattle.dump_format.specs.calls.Breaking.{stops_on_test, or_else}
 
 -- ---- a language by a test
 

@@ -13,7 +13,7 @@ use Rattle.dump_format.specs.Parts.{Part, core, modules, instances, stack, memor
 use Rattle.dump_format.specs.Form.{module_item, instance_item, stack_item, limits_item, global_item, segment_item}
 use Rattle.dump_format.specs.Judged.{value_of, frame_of, float_in, frame_floats, memories_in, memory_of, last_id, first_of, names_in}
 use Rattle.dump_format.specs.Sections.{custom_behind, custom_item, contents_item, may_follow, section_behind, section_item, with_section, sections_item, has_core, parts_item}
-use Rattle.dump_format.specs.Noting.{value_noting, noted_vector, stack_noting}
+use Rattle.dump_format.specs.calls.Noting.{value_noting, noted_vector, stack_noting}
 use Rattle.dump_format.specs.inner.Gathering.{added, name_step, module_names, segment_step, memory_segments, custom_gathering, contents_gathering, section_step, nothing_gathered, is_found, has_name, all_gathered, gathered_item, first_memory, with_stack, with_globals}
 use Rattle.dump_format.proofs.Summary.{found, found_or-found, summary, taken, summary-more}
 use Rattle.dump_format.proofs.Steps.{made, bind-made, until_end-made, vector-steps, within-made}

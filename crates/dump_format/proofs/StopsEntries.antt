@@ -4,8 +4,8 @@ use Rattle.std.specs.Prelude.{◌==◌, nat_le}
 use Rattle.wasm_syntax.specs.declared.value.Seen.TheVariants as seen
 use Rattle.wasm_bytes.specs.Place.{Place, Read}
 use Rattle.wasm_bytes.specs.Reading.{◌⊗◌, mapped, checked, choose, fixed_item, run_item, u32_item, s32_item, s64_item, name_item, vector_item}
-use Rattle.wasm_bytes.specs.Spelling.{pair, always, passing, byte, u32, s32, s64, run, vector}
-use Rattle.wasm_bytes.specs.Stopping.{unread}
+use Rattle.wasm_bytes.specs.calls.Spelling.{pair, always, passing, byte, u32, s32, s64, run, vector}
+use Rattle.wasm_bytes.specs.calls.Stopping.{unread}
 use Rattle.wasm_bytes.specs.Laws.{IsExact, StopsAt, PicksStops}
 use Rattle.wasm_bytes.proofs.Exact.{checked_exact}
 use Rattle.wasm_bytes.proofs.ExactItems.{u32_exact, s32_exact, s64_exact, fixed_exact, run_exact}
@@ -13,8 +13,8 @@ use Rattle.wasm_bytes.proofs.Stops.{unread_stops_at, u32_front, checked_front, o
 use Rattle.wasm_bytes.proofs.StopsLists.{choose_stops_at, vector_stops_at}
 use Rattle.dump_format.specs.Parts.{Shown, known, float}
 use Rattle.dump_format.specs.Form.{known_i32, known_i64, value_behind, value_item, module_item, instance_of, instance_item, place_item, shown_frame_of, frame_item, thread_item, stack_item, limits_behind, limits_item, mutability_item, constant_item, global_i32, global_i64, global_behind, global_item, is_memory, is_inside, region_of, segment_item}
-use Rattle.dump_format.specs.Grammar.{value_entry, module_entry, frame_entry, mutability, segment_body}
-use Rattle.dump_format.specs.Breaking.{IsValueTag, value_tail_stops, value_stops, module_stops, indices_stops, instance_stops, place_stops, values_stops, frame_stops, stack_stops, IsLimitsFlag, limits_tail_stops, limits_stops, constant_stops, IsGlobalType, global_tail_stops, global_stops, no_memory, segment_parts_stops, segment_stops}
+use Rattle.dump_format.specs.calls.Grammar.{value_entry, module_entry, frame_entry, mutability, segment_body}
+use Rattle.dump_format.specs.calls.Breaking.{IsValueTag, value_tail_stops, value_stops, module_stops, indices_stops, instance_stops, place_stops, values_stops, frame_stops, stack_stops, IsLimitsFlag, limits_tail_stops, limits_stops, constant_stops, IsGlobalType, global_tail_stops, global_stops, no_memory, segment_parts_stops, segment_stops}
 use Rattle.dump_format.proofs.OnTest.{picks_stops}
 use Rattle.dump_format.proofs.ExactEntries.{value_exact, zero_exact, indices_exact, place_exact, values_exact, frame_exact, thread_exact, mutability_exact, body_exact}
 use Rattle.wasm_bytes.proofs.Offsets.{offset_stops}

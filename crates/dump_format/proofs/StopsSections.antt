@@ -4,8 +4,8 @@ use Rattle.std.specs.Prelude.{◌==◌, codes}
 use Rattle.std.specs.Str.{bytes_eq}
 use Rattle.wasm_bytes.specs.Place.{Place, Read}
 use Rattle.wasm_bytes.specs.Reading.{◌⊗◌, ◌▷◌, mapped, bytes_item, name_item, rest_item, vector_item, closed, steps_to_end, whole}
-use Rattle.wasm_bytes.specs.Spelling.{always, image, text, name, vector}
-use Rattle.wasm_bytes.specs.Stopping.{never, unread, closed_stops, sized_stops, either, behind}
+use Rattle.wasm_bytes.specs.calls.Spelling.{always, image, text, name, vector}
+use Rattle.wasm_bytes.specs.calls.Stopping.{never, unread, closed_stops, sized_stops, either, behind}
 use Rattle.wasm_bytes.specs.Laws.{IsBytes, IsExact, StopsAt, PicksStops}
 use Rattle.wasm_bytes.proofs.Exact.{image_exact}
 use Rattle.wasm_bytes.proofs.ExactItems.{name_exact, text_exact}
@@ -18,8 +18,8 @@ use Rattle.dump_format.specs.Parts.{Part, core, modules, instances, stack, memor
 use Rattle.dump_format.specs.Form.{module_item, instance_item, stack_item, limits_item, global_item, segment_item}
 use Rattle.dump_format.specs.Judged.{last_id, memory_of}
 use Rattle.dump_format.specs.Sections.{custom_behind, custom_item, contents_item, may_follow, section_behind, section_item, with_section, sections_item, has_core, parts_item}
-use Rattle.dump_format.specs.Grammar.{module_entry, instance_entry, stack_entry, limits_entry, global_entry, segment_entry, one_section, sections, dump_file}
-use Rattle.dump_format.specs.Breaking.{module_stops, instance_stops, stack_stops, limits_stops, global_stops, segment_stops, custom_tail_stops, contents_stops, IsNextId, section_stops, sections_stops, dump_stops, stops_on_test}
+use Rattle.dump_format.specs.calls.Grammar.{module_entry, instance_entry, stack_entry, limits_entry, global_entry, segment_entry, one_section, sections, dump_file}
+use Rattle.dump_format.specs.calls.Breaking.{module_stops, instance_stops, stack_stops, limits_stops, global_stops, segment_stops, custom_tail_stops, contents_stops, IsNextId, section_stops, sections_stops, dump_stops, stops_on_test}
 use Rattle.dump_format.proofs.OnTest.{on_test_stops, picks_stops, same_item_stops, closed-leads}
 use Rattle.dump_format.proofs.ExactEntries.{module_exact, instance_exact, stack_exact, limits_exact, global_exact, segment_exact}
 use Rattle.dump_format.proofs.StopsEntries.{module_stops_at, instance_stops_at, stack_stops_at, limits_stops_at, global_stops_at, segment_stops_at}

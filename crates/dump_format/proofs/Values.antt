@@ -14,7 +14,7 @@ use Rattle.dump_format.specs.declared.noted.Noted.{Noted}
 use Rattle.dump_format.specs.Parts.{Shown, known, float, ShownFrame}
 use Rattle.dump_format.specs.Form.{value_item, global_item, place_item, frame_item, thread_item, stack_item, shown_frame_of}
 use Rattle.dump_format.specs.Judged.{seen_of, value_of, frame_of, float_in, frame_floats}
-use Rattle.dump_format.specs.Noting.{Noting, or_noted, one_more, noted_step, noted_vector, seen_noting, value_noting, frame_noting, stack_noting, whole_frame}
+use Rattle.dump_format.specs.calls.Noting.{Noting, or_noted, one_more, noted_step, noted_vector, seen_noting, value_noting, frame_noting, stack_noting, whole_frame}
 use Rattle.dump_format.proofs.Firsts.{or_first, or_nothing, or_first-append}
 use Rattle.dump_format.proofs.Steps.{made, vector-steps}
 

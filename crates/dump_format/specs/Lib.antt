@@ -5,9 +5,5 @@ pub mod Form
 pub mod Judged
 pub mod Sections
 pub mod Decode
-pub mod Noting
-pub mod Grammar
-pub mod Breaking
-pub mod Meaning
-pub mod Contained
 pub mod inner
+pub mod calls

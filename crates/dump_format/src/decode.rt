@@ -5,8 +5,8 @@ ghost use Rattle.wasm_syntax.specs.declared.quantity.Quantity.{Quantity};
 ghost use Rattle.dump_format.specs.declared.dump.Dump.{Dump};
 ghost use Rattle.dump_format.specs.declared.fault.DumpPart.{DumpPart};
 ghost use Rattle.dump_format.specs.declared.fault.DumpFault.TheVariants.{Malformed, FloatValue, Several, Limit};
-ghost use Rattle.dump_format.specs.Meaning.{Exactly, IsDump, BreaksAt, HasFloatAt, HasSeveral, PassesLimit};
-ghost use Rattle.dump_format.specs.Contained.{IsContained, IsLimited};
+ghost use Rattle.dump_format.specs.calls.Meaning.{Exactly, IsDump, BreaksAt, HasFloatAt, HasSeveral, PassesLimit};
+ghost use Rattle.dump_format.specs.calls.Contained.{IsContained, IsLimited};
 ghost use Rattle.dump_format.specs.Decode.{dump_from, Answers};
 ghost use Rattle.dump_format.specs.inner.Gathering.{dump_gathered};
 

@@ -2,7 +2,7 @@
 
 ghost use Rattle.std.specs.Prelude.{◌≡◌, ◌+◌, ◌*◌, nat_le, OnOk};
 ghost use Rattle.wasm_bytes.specs.Place.{Moves};
-ghost use Rattle.wasm_bytes.specs.Answers.{Gives};
+ghost use Rattle.wasm_bytes.specs.calls.Answers.{Gives};
 ghost use Rattle.dump_format.specs.Form.{module_item, instance_item, limits_item, segment_item};
 ghost use Rattle.dump_format.specs.inner.Gathering.{name_step, module_names, segment_step, memory_segments};
 

@@ -2,9 +2,9 @@
 
 ghost use Rattle.std.specs.Prelude.{◌≡◌, ℕ, [], List, Option, OnOk};
 ghost use Rattle.wasm_bytes.specs.Place.{Place, Read, Moves};
-ghost use Rattle.wasm_bytes.specs.Answers.{Gives, Reads};
+ghost use Rattle.wasm_bytes.specs.calls.Answers.{Gives, Reads};
 ghost use Rattle.dump_format.specs.Form.{mutability_item};
-ghost use Rattle.dump_format.specs.Noting.{first_float, seen_noting, value_noting, noted_step, noted_vector, frame_noting, stack_noting};
+ghost use Rattle.dump_format.specs.calls.Noting.{first_float, seen_noting, value_noting, noted_step, noted_vector, frame_noting, stack_noting};
 
 use crate::dump::Frame;
 use pm_text::Items;
@@ -47,7 +47,7 @@ fn first_float(first: Option<usize>, later: usize) -> Option<usize>
 impl<'a, T: Noting<'a>> Gather<'a> for Noted<T> {
     ghost step = { noted_step T.noting };
 
-    #[tactic(auto, unfolding(crate::specs::Noting::noted_step))]
+    #[tactic(auto, unfolding(crate::specs::calls::Noting::noted_step))]
     fn take(&mut self, alloc: Global, reader: &mut Reader<'a>) -> Result<(), ItemFault> {
         let (item, first) = T::read(alloc, self.first, reader)?;
         self.items.push(item)?;
@@ -57,7 +57,7 @@ impl<'a, T: Noting<'a>> Gather<'a> for Noted<T> {
 }
 
 /// A vector: a count and its elements (Core 5.1.3).
-#[tactic(auto, unfolding(crate::specs::Noting::noted_vector))]
+#[tactic(auto, unfolding(crate::specs::calls::Noting::noted_vector))]
 pub fn noted_vector<'a, T: Noting<'a>>(
     alloc: Global,
     first: Option<usize>,
@@ -79,7 +79,7 @@ pub fn noted_vector<'a, T: Noting<'a>>(
 impl<'a> Noting<'a> for Seen {
     ghost noting = { seen_noting };
 
-    #[tactic(auto, unfolding(wasm_bytes::specs::Reading::choose, wasm_bytes::specs::Reading::here_item, crate::specs::Form::value_item, crate::specs::Noting::seen_noting))]
+    #[tactic(auto, unfolding(wasm_bytes::specs::Reading::choose, wasm_bytes::specs::Reading::here_item, crate::specs::Form::value_item, crate::specs::calls::Noting::seen_noting))]
     fn read(
         _alloc: Global,
         first: Option<usize>,
@@ -120,7 +120,7 @@ fn mutability(reader: &mut Reader<'_>) -> Result<u8, Malformed>
 impl<'a> Noting<'a> for Value {
     ghost noting = { value_noting };
 
-    #[tactic(auto, unfolding(wasm_bytes::specs::Reading::choose, wasm_bytes::specs::Reading::here_item, crate::specs::Form::constant_item, crate::specs::Form::global_item, crate::specs::Noting::value_noting))]
+    #[tactic(auto, unfolding(wasm_bytes::specs::Reading::choose, wasm_bytes::specs::Reading::here_item, crate::specs::Form::constant_item, crate::specs::Form::global_item, crate::specs::calls::Noting::value_noting))]
     fn read(
         _alloc: Global,
         first: Option<usize>,
@@ -160,7 +160,7 @@ impl<'a> Noting<'a> for Value {
 impl<'a> Noting<'a> for Frame {
     ghost noting = { frame_noting };
 
-    #[tactic(auto, unfolding(crate::specs::Form::place_item, crate::specs::Noting::frame_noting))]
+    #[tactic(auto, unfolding(crate::specs::Form::place_item, crate::specs::calls::Noting::frame_noting))]
     fn read(
         alloc: Global,
         first: Option<usize>,
@@ -186,7 +186,7 @@ impl<'a> Noting<'a> for Frame {
 }
 
 /// The stack of a thread: its name, which is not kept, and its frames.
-#[tactic(auto, unfolding(crate::specs::Form::thread_item, crate::specs::Noting::stack_noting))]
+#[tactic(auto, unfolding(crate::specs::Form::thread_item, crate::specs::calls::Noting::stack_noting))]
 pub fn stack<'a>(
     alloc: Global,
     first: Option<usize>,

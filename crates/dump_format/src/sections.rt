@@ -3,7 +3,7 @@
 ghost use Rattle.std.specs.Prelude.{◌≡◌, OnOk};
 ghost use Rattle.wasm_bytes.specs.Place.{Moves, Stays};
 ghost use Rattle.wasm_bytes.specs.Reading.{whole};
-ghost use Rattle.wasm_bytes.specs.Answers.{Gives, with_state};
+ghost use Rattle.wasm_bytes.specs.calls.Answers.{Gives, with_state};
 ghost use Rattle.dump_format.specs.Sections.{may_follow};
 ghost use Rattle.wasm_bytes.specs.Tables.{header};
 ghost use Rattle.dump_format.specs.inner.Gathering.{custom_gathering, contents_gathering, section_step, gathered_item, GivesWhole};

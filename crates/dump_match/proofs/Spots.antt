@@ -28,7 +28,7 @@ use Rattle.wasm_laws.proofs.FlatStatic.{live_front}
 use Rattle.wasm_laws.proofs.FlatOne.{to_tree, get_front_end}
 use Rattle.validate_body.proofs.Through.{first_gives}
 use Rattle.wasm_validate.specs.Heights.{body_of, HeightIs, TypesAt}
-use Rattle.wasm_validate.specs.Instructions.{is_node, OpIs}
+use Rattle.wasm_validate.specs.calls.Instructions.{is_node, OpIs}
 use Rattle.wasm_validate.proofs.OperandLaws.{static_there}
 use Rattle.dump_format.specs.declared.dump.Frame.{Frame}
 use Rattle.dump_match.specs.declared.stand.Stand.{Stand}

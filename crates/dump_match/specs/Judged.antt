@@ -2,7 +2,7 @@
 use Rattle.std.specs.Prelude.{◌≡◌, ◌<◌, ◌^◌, length, Result, Ok, Err}
 use Rattle.wasm_syntax.specs.declared.module.ModuleParts.{ModuleParts as Module}
 use Rattle.dump_format.specs.declared.dump.Dump.{Dump}
-use Rattle.dump_format.specs.Contained.{IsContained}
+use Rattle.dump_format.specs.calls.Contained.{IsContained}
 use Rattle.dump_match.specs.declared.mismatch.Mismatch.{Mismatch}
 use Rattle.dump_match.specs.Matching.{Matches, FirstMismatch}
 

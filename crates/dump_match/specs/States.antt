@@ -4,10 +4,10 @@ use Rattle.std.specs.Prelude.{◌≡◌, ℕ, zero, ◌<◌, ◌^◌, false, ◌
 use Rattle.wasm_syntax.specs.declared.instruction.Op.{Op}
 use Rattle.wasm_syntax.specs.declared.module.ModuleParts.{ModuleParts as Module}
 use Rattle.wasm_syntax.specs.Valid.{There}
-use Rattle.wasm_validate.specs.Instructions.{is_node}
+use Rattle.wasm_validate.specs.calls.Instructions.{is_node}
 use Rattle.dump_format.specs.declared.dump.Dump.{Dump}
 use Rattle.dump_format.specs.declared.dump.Frame.{Frame}
-use Rattle.dump_format.specs.Contained.{IsContained}
+use Rattle.dump_format.specs.calls.Contained.{IsContained}
 use Rattle.dump_match.specs.declared.mismatch.Mismatch.{Mismatch}
 use Rattle.dump_match.specs.declared.mismatch.Mismatch.TheVariants as rows
 use Rattle.dump_match.specs.Frames.{OfFunction, OffsetFits, OperandsFit, OperandCount}

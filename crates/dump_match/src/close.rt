@@ -1,7 +1,7 @@
 //! Whether a frame stands at an `else` or `end`.
 
 ghost use Rattle.std.specs.Prelude.{◌≡◌, false, not};
-ghost use Rattle.wasm_validate.specs.Instructions.{is_node};
+ghost use Rattle.wasm_validate.specs.calls.Instructions.{is_node};
 ghost use Rattle.dump_match.specs.States.{AtClose, ClosesAt, SomeClosesAt};
 ghost use Rattle.dump_match.specs.inner.Decides.{Decides};
 

@@ -5,7 +5,7 @@
 ghost use Rattle.std.specs.Prelude.{◌<◌, ◌^◌, length};
 ghost use Rattle.dump_match.specs.Judged.{Judged};
 ghost use Rattle.dump_match.specs.States.{StateJudged};
-ghost use Rattle.dump_format.specs.Contained.{IsContained};
+ghost use Rattle.dump_format.specs.calls.Contained.{IsContained};
 
 mod close;
 mod code;

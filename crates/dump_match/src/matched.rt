@@ -1,7 +1,7 @@
 //! A module with a dump of it.
 
 ghost use Rattle.std.specs.Prelude.{◌≡◌, ◌<◌, ◌^◌, length};
-ghost use Rattle.dump_format.specs.Contained.{IsContained};
+ghost use Rattle.dump_format.specs.calls.Contained.{IsContained};
 ghost use Rattle.wasm_syntax.specs.Valid.{There};
 ghost use Rattle.dump_match.specs.Matching.{Matches};
 ghost use Rattle.dump_match.specs.States.{MatchesState, StateOperandCount};

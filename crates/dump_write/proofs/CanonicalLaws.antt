@@ -14,8 +14,8 @@ use Rattle.dump_format.specs.Form.{pages_of}
 use Rattle.dump_write.specs.Spelled.{global_bytes, vector_bytes}
 use Rattle.dump_write.specs.Pages.{memory_bytes, laid_on, page_region, is_used, used_pages}
 use Rattle.dump_write.specs.Canonical.{core_bytes, modules_bytes, instances_bytes, stack_bytes, memory_section, globals_section, data_section, memory_indices, instance_of, segments_of, canonical, canonical_bytes}
-use Rattle.dump_write.specs.Typed.{IsTyped}
-use Rattle.dump_write.specs.Laws.{ReadsBack, KeepsMemory}
+use Rattle.dump_write.specs.calls.Typed.{IsTyped}
+use Rattle.dump_write.specs.calls.Laws.{ReadsBack, KeepsMemory}
 use Rattle.dump_write.proofs.PageLists.{Inside}
 use Rattle.dump_write.proofs.LaidLists.{FirstPages, page_laid, page_absent, pages_laid, length-window}
 use Rattle.dump_write.proofs.SpelledParts.{IsPlaced, no_longer, global_long}

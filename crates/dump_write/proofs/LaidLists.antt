@@ -8,7 +8,7 @@ use Rattle.dump_format.specs.declared.dump.Dump.{Dump}
 use Rattle.dump_format.specs.Region.{Region}
 use Rattle.dump_format.specs.Form.{pages_of}
 use Rattle.dump_write.specs.Pages.{laid_on, memory_bytes}
-use Rattle.dump_write.specs.Paged.{ArePages}
+use Rattle.dump_write.specs.calls.Paged.{ArePages}
 
 -- ---- one segment more
 

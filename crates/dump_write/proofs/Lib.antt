@@ -4,10 +4,10 @@ pub mod Windows
 pub mod PageLists
 pub mod LaidLists
 pub mod Sizes
-pub mod Files
 pub mod Pieces
 pub mod SpelledParts
 pub mod SpelledSections
 pub mod ReadsBack
 pub mod CanonicalLaws
 pub mod Images
+pub mod Dumps

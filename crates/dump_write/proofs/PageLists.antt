@@ -9,7 +9,7 @@ use Rattle.std.proofs.lemmas.List.FromFn.{length-map-range_with_len}
 use Rattle.linear_memory.specs.Memory.{page_size, window, splice}
 use Rattle.dump_format.specs.Region.{Region}
 use Rattle.dump_write.specs.Pages.{laid_on, page_region, is_used, used_pages}
-use Rattle.dump_write.specs.Paged.{ArePages}
+use Rattle.dump_write.specs.calls.Paged.{ArePages}
 use Rattle.dump_write.proofs.Windows.{window-splice, window-before, window-behind}
 use Rattle.linear_memory.proofs.Contents.{length-splice}
 

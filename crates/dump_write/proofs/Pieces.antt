@@ -8,10 +8,10 @@ use Rattle.linear_memory.specs.Memory.{page_size}
 use Rattle.dump_format.specs.declared.dump.Dump.{Dump}
 use Rattle.dump_format.specs.Region.{Region}
 use Rattle.dump_format.specs.Form.{pages_of}
-use Rattle.dump_format.specs.Contained.{IsContained}
+use Rattle.dump_format.specs.calls.Contained.{IsContained}
 use Rattle.dump_write.specs.Spelled.{vector_bytes, segment_bytes, section_bytes}
 use Rattle.dump_write.specs.Pages.{is_used, memory_bytes, laid_on, used_pages}
-use Rattle.dump_write.specs.Paged.{ArePages}
+use Rattle.dump_write.specs.calls.Paged.{ArePages}
 use Rattle.dump_write.specs.inner.Pieces.{data_head, pages_bytes}
 use Rattle.dump_write.specs.Canonical.{data_section, segments_of, sections_before_data, canonical_bytes}
 use Rattle.dump_write.proofs.PageLists.{used_few, used_small, used_of_paged}

@@ -4,7 +4,7 @@ use Rattle.std.specs.List.{flat_map}
 use Rattle.std.specs.Str.{IsUtf8}
 use Rattle.std.proofs.lemmas.Bool.{le-ltb}
 use Rattle.std.proofs.lemmas.List.{append-nil}
-use Rattle.wasm_bytes.specs.Spelling.{some_steps}
+use Rattle.wasm_bytes.specs.calls.Spelling.{some_steps}
 use Rattle.wasm_bytes.specs.Reading.{whole}
 use Rattle.wasm_syntax.specs.declared.value.Seen.{Seen}
 use Rattle.wasm_syntax.specs.declared.value.Value.{Value}
@@ -22,10 +22,10 @@ use Rattle.dump_format.specs.Form.{pages_of}
 use Rattle.dump_format.specs.Judged.{at_float, at_repeated, first_of, seen_of, value_of, frame_of, float_in, frame_floats, floats_in, dump_of, memory_of, frames_of, refusal, repeated, last_id, over}
 use Rattle.dump_format.specs.Decode.{dump_from}
 use Rattle.dump_format.specs.Sections.{has_core, parts_item}
-use Rattle.dump_format.specs.Grammar.{section_entry, one_section, dump_file}
+use Rattle.dump_format.specs.calls.Grammar.{section_entry, one_section, dump_file}
 use Rattle.dump_format.proofs.ExactSections.{parts_read}
 use Rattle.dump_write.specs.Canonical.{core_bytes, modules_bytes, instances_bytes, stack_bytes, memory_section, globals_section, data_section, sections_before_data, segments_of, instance_of, in_instance, canonical, canonical_bytes}
-use Rattle.dump_write.specs.Typed.{IsValueTyped, IsFrameTyped}
+use Rattle.dump_write.specs.calls.Typed.{IsValueTyped, IsFrameTyped}
 use Rattle.dump_write.proofs.SpelledParts.{shown_frame, IsPlaced}
 use Rattle.dump_write.proofs.SpelledSections.{IsSmallInstance, core_spelled, modules_spelled, instances_spelled, stack_spelled, memory_spelled, globals_spelled, data_spelled, step_on, step_last}
 use Rattle.wasm_bytes.specs.Tables.{header}

@@ -9,29 +9,7 @@ use Rattle.wasm_leb.specs.Writing.{unsigned_groups, unsigned_bytes, fits_seven, 
 use Rattle.dump_format.specs.Region.{Region}
 use Rattle.dump_write.specs.Spelled.{segment_head, segment_bytes, vector_bytes}
 use Rattle.dump_write.proofs.Lists.{flat_map-one}
-
--- a number has at most ten bytes
-one_or_more : (b : Bool) (k : ℕ) (xs ys : List ℕ) → length xs ≤ k → length ys ≤ k → length (cond b xs ys) ≤ k
-one_or_more true k xs ys one more = one
-one_or_more false k xs ys one more = more
-
-pub unsigned_long : (k n : ℕ) → length (unsigned_groups k n) ≤ suc k
-unfolding unsigned_groups
-unsigned_long zero n = omega arith
-unsigned_long (suc k) n = one_or_more (nat_lt n 128) (suc (suc k)) _ _ (omega arith) (omega (arith, unsigned_long k (n / 128)))
-
-pub signed_long : (k : ℕ) (z : ℤ) → length (signed_groups k z) ≤ suc k
-unfolding signed_groups
-signed_long zero z = omega arith
-signed_long (suc k) z = one_or_more (fits_seven z) (suc (suc k)) _ _ (omega arith) (omega (arith, signed_long k (above_seven z)))
-
-pub ten_bytes : (n : ℕ) → length (unsigned_bytes n) ≤ 10
-unfolding unsigned_bytes
-ten_bytes n = unsigned_long 9 n
-
-pub ten_signed : (z : ℤ) → length (signed_bytes z) ≤ 10
-unfolding signed_bytes
-ten_signed z = signed_long 9 z
+use Rattle.wasm_leb.proofs.Lengths.{ten_bytes, ten_signed}
 
 -- what stands before a segment is short
 pub head_short : (r : Region) → length (segment_head r) ≤ 32

@@ -6,10 +6,10 @@ use Rattle.std.specs.Str.{IsUtf8}
 use Rattle.std.proofs.lemmas.List.{length-map}
 use Rattle.std.proofs.lemmas.Int.{of_z-to_z}
 use Rattle.std.proofs.lemmas.List.Elements.{All-head, All-tail}
-use Rattle.wasm_leb.specs.Numbers.{IsUnsigned}
+use Rattle.wasm_leb.specs.calls.Numbers.{IsUnsigned}
 use Rattle.wasm_leb.specs.Writing.{unsigned_bytes, signed_bytes}
 use Rattle.wasm_leb.proofs.SignedBytes.{signed_spells}
-use Rattle.wasm_bytes.specs.Spelling.{Spellings, items, vector, u32, s32, s64, name}
+use Rattle.wasm_bytes.specs.calls.Spelling.{Spellings, items, vector, u32, s32, s64, name}
 use Rattle.wasm_syntax.specs.declared.value.Seen.{Seen}
 use Rattle.wasm_syntax.specs.declared.value.Seen.TheVariants as seen
 use Rattle.wasm_syntax.specs.declared.value.Value.{Value}
@@ -19,10 +19,10 @@ use Rattle.dump_format.specs.declared.dump.Instance.{Instance}
 use Rattle.dump_format.specs.Region.{Region}
 use Rattle.dump_format.specs.Parts.{known, ShownFrame}
 use Rattle.dump_format.specs.Form.{is_inside}
-use Rattle.dump_format.specs.Grammar.{value_entry, module_entry, instance_entry, frame_entry, limits_entry, global_entry, segment_entry}
+use Rattle.dump_format.specs.calls.Grammar.{value_entry, module_entry, instance_entry, frame_entry, limits_entry, global_entry, segment_entry}
 use Rattle.dump_write.specs.Spelled.{name_bytes, vector_bytes, module_bytes, seen_bytes, frame_bytes, global_bytes, segment_head, segment_bytes}
 use Rattle.dump_write.specs.Canonical.{instance_bytes}
-use Rattle.dump_write.specs.Typed.{IsSeenTyped, IsValueTyped, IsFrameTyped}
+use Rattle.dump_write.specs.calls.Typed.{IsSeenTyped, IsValueTyped, IsFrameTyped}
 use Rattle.wasm_syntax.proofs.Differ.{map_same}
 use Rattle.wasm_bytes.proofs.Numbers.{u32_spelled, within_32, within_64}
 

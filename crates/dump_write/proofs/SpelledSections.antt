@@ -5,7 +5,7 @@ use Rattle.std.specs.List.{flat_map}
 use Rattle.std.specs.Str.{IsUtf8}
 use Rattle.std.proofs.lemmas.List.Elements.{All-cons}
 use Rattle.wasm_leb.specs.Writing.{unsigned_bytes}
-use Rattle.wasm_bytes.specs.Spelling.{some_steps}
+use Rattle.wasm_bytes.specs.calls.Spelling.{some_steps}
 use Rattle.wasm_syntax.specs.declared.value.Value.{Value}
 use Rattle.dump_format.specs.declared.dump.Frame.{Frame}
 use Rattle.dump_format.specs.declared.dump.Instance.{Instance}
@@ -13,10 +13,10 @@ use Rattle.dump_format.specs.Region.{Region}
 use Rattle.dump_format.specs.Parts.{Part, core, modules, instances, stack, memories, globals, segments, known}
 use Rattle.dump_format.specs.Judged.{last_id, memory_of}
 use Rattle.dump_format.specs.Sections.{may_follow}
-use Rattle.dump_format.specs.Grammar.{module_entry, instance_entry, frame_entry, limits_entry, global_entry, segment_entry, custom_tail, contents, section_entry, one_section}
+use Rattle.dump_format.specs.calls.Grammar.{module_entry, instance_entry, frame_entry, limits_entry, global_entry, segment_entry, custom_tail, contents, section_entry, one_section}
 use Rattle.dump_write.specs.Spelled.{name_bytes, vector_bytes, module_bytes, frame_bytes, global_bytes, segment_bytes, section_bytes, custom_bytes}
 use Rattle.dump_write.specs.Canonical.{instance_bytes, core_bytes, modules_bytes, instances_bytes, stack_bytes, memory_section, globals_section, data_section}
-use Rattle.dump_write.specs.Typed.{IsValueTyped, IsFrameTyped}
+use Rattle.dump_write.specs.calls.Typed.{IsValueTyped, IsFrameTyped}
 use Rattle.dump_write.proofs.Lists.{ascii_text}
 use Rattle.dump_write.proofs.SpelledParts.{name_spelled, module_spelled, vector_spelled, list_spelled, no_longer, global_long, global_spelled, frame_long, shown_frame, IsSmallFrame, frame_spelled, instance_spelled, limits_spelled, segment_long, IsPlaced, segment_spelled}
 use Rattle.wasm_bytes.proofs.Numbers.{u32_spelled}

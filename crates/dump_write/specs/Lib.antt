@@ -1,11 +1,9 @@
 pub mod Spelled
 pub mod Pages
-pub mod Paged
 pub mod Canonical
-pub mod Typed
-pub mod Written
-pub mod Laws
 pub mod Image
 pub mod ImageBytes
 pub mod Collected
 pub mod inner
+pub mod Pictured
+pub mod calls

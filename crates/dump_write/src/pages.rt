@@ -5,9 +5,9 @@ ghost use Rattle.std.specs.Bool.{OnTrue};
 ghost use Rattle.std.specs.List.{list_any};
 ghost use Rattle.linear_memory.specs.Memory.{page_size, pages};
 ghost use Rattle.dump_format.specs.Form.{pages_of};
-ghost use Rattle.dump_format.specs.Contained.{IsContained};
+ghost use Rattle.dump_format.specs.calls.Contained.{IsContained};
 ghost use Rattle.dump_write.specs.Pages.{laid_on, memory_bytes, is_used};
-ghost use Rattle.dump_write.specs.Paged.{ArePages};
+ghost use Rattle.dump_write.specs.calls.Paged.{ArePages};
 
 use causes::NoMemory;
 use dump_format::{Dump, Segment, Segments};

@@ -3,7 +3,7 @@
 ghost use Rattle.std.specs.Prelude.{◌≡◌, ◌++◌, ◌^◌, ◌<◌, ℕ, List, OnOk, All};
 ghost use Rattle.std.specs.Str.{IsUtf8};
 ghost use Rattle.dump_write.specs.Spelled.{name_bytes, vector_bytes, module_bytes, seen_bytes, frame_bytes, global_bytes};
-ghost use Rattle.dump_write.specs.Typed.{IsSeenTyped, IsValueTyped, IsFrameTyped};
+ghost use Rattle.dump_write.specs.calls.Typed.{IsSeenTyped, IsValueTyped, IsFrameTyped};
 
 use causes::NoMemory;
 use dump_format::Frame;

@@ -5,7 +5,7 @@ ghost use Rattle.std.specs.List.{range_with_len};
 ghost use Rattle.wasm_leb.specs.Writing.{unsigned_bytes};
 ghost use Rattle.dump_write.specs.Spelled.{name_bytes, vector_bytes, section_bytes};
 ghost use Rattle.dump_write.specs.Canonical.{memory_indices, instance_of, instance_bytes, core_bytes, modules_bytes, instances_bytes, stack_bytes, memory_section, globals_section, sections_before_data};
-ghost use Rattle.dump_write.specs.Typed.{IsValueTyped, IsFrameTyped, IsTyped};
+ghost use Rattle.dump_write.specs.calls.Typed.{IsValueTyped, IsFrameTyped, IsTyped};
 
 use crate::parts::{Encode, encode_module, encode_name, encode_vector};
 use causes::NoMemory;

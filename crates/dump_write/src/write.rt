@@ -2,16 +2,16 @@
 
 ghost use Rattle.std.specs.Prelude.{◌≡◌, ◌++◌, ◌≤◌, ◌*◌, ◌⊎◌, filter, length, is_some, IfOk, All, Contains};
 ghost use Rattle.causes.specs.Counts.{Rose};
-ghost use Rattle.pm_outside.specs.Answers.{Appends};
+ghost use Rattle.pm_outside.specs.calls.Answers.{Appends};
 ghost use Rattle.pm_outside.specs.Created.{with_name};
 ghost use Rattle.dump_format.specs.Form.{pages_of};
-ghost use Rattle.dump_format.specs.Contained.{IsContained};
+ghost use Rattle.dump_format.specs.calls.Contained.{IsContained};
 ghost use Rattle.dump_write.specs.Spelled.{segment_bytes};
 ghost use Rattle.dump_write.specs.Pages.{is_used};
 ghost use Rattle.dump_write.specs.inner.Pieces.{data_head, pages_bytes};
 ghost use Rattle.dump_write.specs.Canonical.{sections_before_data, segments_of, canonical_bytes};
-ghost use Rattle.dump_write.specs.Typed.{IsTyped};
-ghost use Rattle.dump_write.specs.Written.{OnTold, Writes};
+ghost use Rattle.dump_write.specs.calls.Typed.{IsTyped};
+ghost use Rattle.pm_outside.specs.Written.{OnTold, Leaves};
 
 use crate::pages::{are_pages, laid_memory, memory_segments, used_segments};
 use crate::sections::sections_before_data;
@@ -98,7 +98,7 @@ fn write_pieces<F: Files>(
     head: &[u8],
     segments: &[Segment<'_>],
 ) -> WriteAnswer
-    ensures content { OnTold (Writes name.now (head.now ++ pages_bytes segments.now) result)
+    ensures content { OnTold (Leaves name.now (head.now ++ pages_bytes segments.now) result)
         (F.told files.old) (F.told files.new) }
     ensures telling { is_some (F.told files.new) ≡ is_some (F.told files.old) }
     ensures names { (F.created files.new ≡ F.created files.old)
@@ -134,7 +134,7 @@ fn write_with<F: Files>(
 ) -> WriteAnswer
     requires pages { pages_of dump.now.memory ≤ 4096 }
     requires used { filter is_used segments.now ≡ segments_of dump.now }
-    ensures content { OnTold (Writes name.now (canonical_bytes dump.now) result) (F.told files.old)
+    ensures content { OnTold (Leaves name.now (canonical_bytes dump.now) result) (F.told files.old)
         (F.told files.new) }
     ensures telling { is_some (F.told files.new) ≡ is_some (F.told files.old) }
     ensures names { (F.created files.new ≡ F.created files.old)
@@ -162,7 +162,7 @@ pub fn write_dump<F: Files>(
 ) -> WriteAnswer
     requires pages { pages_of dump.now.memory ≤ 4096 }
     requires contained { IsContained dump.now }
-    ensures content { OnTold (Writes name.now (canonical_bytes dump.now) result) (F.told files.old)
+    ensures content { OnTold (Leaves name.now (canonical_bytes dump.now) result) (F.told files.old)
         (F.told files.new) }
     ensures telling { is_some (F.told files.new) ≡ is_some (F.told files.old) }
     ensures names { (F.created files.new ≡ F.created files.old)

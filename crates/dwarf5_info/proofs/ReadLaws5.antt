@@ -7,7 +7,7 @@ use Rattle.dwarf_info.specs.declared.entry.UnitAnswer.{UnitAnswer}
 use Rattle.dwarf_info.specs.Sections.{SectionBytes5}
 use Rattle.dwarf_info.specs.Units.{units_of}
 use Rattle.dwarf5_info.specs.Version5.{up_to5, units5}
-use Rattle.dwarf5_info.specs.Grammar5.{IsUnits5}
+use Rattle.dwarf5_info.specs.calls.Grammar5.{IsUnits5}
 use Rattle.dwarf5_info.proofs.UnitLaws5.{units5_spelled}
 
 pub spelled5 : (r : Result (List UnitAnswer) NoMemory) (s : SectionBytes5) → IsBytes s.base.abbreviations → IsBytes s.base.info → IfOk r (λ units. units ≡ units_of s up_to5) → IfOk r (IsUnits5 s)

@@ -3,17 +3,17 @@ use Rattle.std.proofs.Common.{◌≡◌, ℕ, ◌+◌, ◌-◌, ◌<◌, Bool, t
 use Rattle.std.specs.Prelude.{◌==◌, if◌then◌else◌}
 use Rattle.std.proofs.lemmas.Bool.{eqb-true}
 use Rattle.wasm_bytes.specs.Reading.{◌⊗◌, mapped, checked, done_item, s64_item}
-use Rattle.wasm_bytes.specs.Spelling.{image, passing, s64}
-use Rattle.wasm_bytes.specs.Spelling.{pair as both}
+use Rattle.wasm_bytes.specs.calls.Spelling.{image, passing, s64}
+use Rattle.wasm_bytes.specs.calls.Spelling.{pair as both}
 use Rattle.wasm_bytes.specs.Laws.{IsBytes, IsExact}
 use Rattle.wasm_bytes.proofs.Exact.{same_exact, image_exact, then_exact, checked_exact, done_exact}
 use Rattle.wasm_bytes.proofs.ExactItems.{s64_exact}
 use Rattle.dwarf_bytes.specs.Items.{number_item, ended_from, ended_item, read_at}
-use Rattle.dwarf_bytes.specs.Spelled.{number}
+use Rattle.dwarf_bytes.specs.calls.Spelled.{number}
 use Rattle.dwarf_bytes.proofs.Exact.{number_exact}
 use Rattle.dwarf_abbrev.specs.declared.abbrev.Pair.{Pair}
 use Rattle.dwarf_abbrev.specs.Reading.{pair_item, table_item}
-use Rattle.dwarf_abbrev.specs.Grammar.{pair}
+use Rattle.dwarf_abbrev.specs.calls.Grammar.{pair}
 use Rattle.dwarf_abbrev.proofs.Exact.{pair_takes, pair_exact, table_exact}
 use Rattle.dwarf_info.specs.declared.entry.UnitAnswer.{UnitAnswer}
 use Rattle.dwarf_info.specs.Sections.{SectionBytes5}
@@ -24,7 +24,7 @@ use Rattle.dwarf_info.proofs.AnswerLaws.{units_spelled, units_once}
 use Rattle.dwarf_info.proofs.UnitLaws4.{grammars4_exact}
 use Rattle.dwarf5_info.specs.Forms5.{forms5}
 use Rattle.dwarf5_info.specs.Version5.{is_unit_type, header5_item, is_implicit, implicit_slot, slot5_item, shape5, shapes5_item, version5, units5}
-use Rattle.dwarf5_info.specs.Grammar5.{header5, slot_if, slot5, shapes5, header_if, shapes_if, grammars5, IsUnits5}
+use Rattle.dwarf5_info.specs.calls.Grammar5.{header5, slot_if, slot5, shapes5, header_if, shapes_if, grammars5, IsUnits5}
 
 -- ---- headers
 

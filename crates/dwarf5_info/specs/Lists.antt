@@ -5,8 +5,8 @@ use Rattle.dwarf_info.specs.Attributes.{valued, as_address, as_offset, low_pc, a
 use Rattle.dwarf_info.specs.Entries.{root_attributes}
 use Rattle.dwarf_info.specs.Sections.{SectionBytes5}
 use Rattle.dwarf_loc.specs.declared.contents.Span.{Span}
-use Rattle.dwarf5_lists.specs.Addresses.{Table, table, address_of}
-use Rattle.dwarf5_lists.specs.Lists.{location5, range5}
+use Rattle.dwarf_loc.specs.Addresses.{Table, table, address_of}
+use Rattle.dwarf_loc.specs.Version5.{location5, range5}
 
 -- the base from which the lists of a unit begin to count: the low_pc of its root, or 0
 abbrev pub list_base : UnitTree → ℕ

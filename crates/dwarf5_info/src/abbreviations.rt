@@ -4,7 +4,7 @@
 ghost use Rattle.std.specs.Prelude.{◌≡◌, IfOk, OnOk};
 ghost use Rattle.wasm_bytes.specs.Place.{Stays};
 ghost use Rattle.wasm_bytes.specs.Reading.{◌▷◌, u64_item};
-ghost use Rattle.wasm_bytes.specs.Answers.{Gives, Reads};
+ghost use Rattle.wasm_bytes.specs.calls.Answers.{Gives, Reads};
 ghost use Rattle.dwarf_bytes.specs.Items.{read_at};
 ghost use Rattle.dwarf_abbrev.specs.Reading.{pair_item, behind_code};
 ghost use Rattle.dwarf_info.specs.Forms.{form_of};

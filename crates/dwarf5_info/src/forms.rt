@@ -2,7 +2,7 @@
 
 ghost use Rattle.std.specs.Prelude.{◌≡◌, IfSome};
 ghost use Rattle.dwarf_info.specs.Forms.{form_of};
-ghost use Rattle.dwarf_info.specs.inner.Sizes.{IsSized};
+ghost use Rattle.dwarf_info.specs.calls.Sizes.{IsSized};
 ghost use Rattle.dwarf5_info.specs.Forms5.{forms5};
 
 use dwarf_info::{Form, IndexTable, Meaning, NumberForm, TextSection, form4};

@@ -9,7 +9,7 @@ ghost use Rattle.dwarf5_info.specs.inner.Bases.{base_in, looked_up};
 use dwarf_entries::names::{ADDR_BASE, LOCLISTS_BASE, RNGLISTS_BASE, STR_OFFSETS_BASE};
 use dwarf_entries::offset;
 use dwarf_info::{AttrValue, Attribute, IndexTable, PreparedSections, TextSection};
-use dwarf5_lists::AddressTable;
+use dwarf_loc::AddressTable;
 
 /// Where the tables of a unit begin, as far as its root says. Its indices are looked up by that.
 #[derive(Clone, Copy)]

@@ -1,22 +1,21 @@
 //! What the lists of a unit say of an address (DWARF 5 sections 2.6.2 and 2.17.3).
 
 ghost use Rattle.std.specs.Prelude.{ℕ, ◌≡◌, ◌↔◌, List, Ok, Err, is_some};
-ghost use Rattle.dwarf_bytes.specs.Answers.{found_at};
+ghost use Rattle.dwarf_bytes.specs.calls.Answers.{found_at};
 ghost use Rattle.dwarf_bytes.specs.declared.faults.ReadFault.TheVariants.{Unreadable};
 ghost use Rattle.dwarf_info.specs.Entries.{root_attributes};
 ghost use Rattle.dwarf_loc.specs.declared.entry.ListEntry.{ListEntry as Listed};
 ghost use Rattle.dwarf_loc.specs.declared.contents.Span.{Span as SpanOf};
 ghost use Rattle.dwarf_loc.specs.Lists.{chosen};
-ghost use Rattle.dwarf5_lists.specs.Addresses.{address_of};
-ghost use Rattle.dwarf5_lists.specs.Grammar.{IsLocations5, IsRanges5};
+ghost use Rattle.dwarf_loc.specs.Addresses.{address_of};
+ghost use Rattle.dwarf_loc.specs.calls.Grammar5.{IsLocations5, IsRanges5};
 ghost use Rattle.dwarf5_info.specs.Lists as lists;
 
 use dwarf_bytes::ReadFault;
 use dwarf_entries::names::{ADDR_BASE, LOW_PC};
 use dwarf_entries::{address, offset};
 use dwarf_info::{Attribute, Sections5, Unit};
-use dwarf_loc::Span;
-use dwarf5_lists::AddressTable;
+use dwarf_loc::{AddressTable, Span};
 
 fn root<'r, 'a>(unit: &'r Unit<'a>) -> &'r [Attribute<'a>]
     ensures { result.now ≡ root_attributes unit.now.entries }
@@ -63,7 +62,7 @@ pub fn location5_at(
         at entries → ⊥) }
 {
     let addresses = address_table(sections, unit);
-    dwarf5_lists::location_at(sections.loclists, &addresses, at, list_base(unit), address)
+    dwarf_loc::loclist_location(sections.loclists, &addresses, at, list_base(unit), address)
 }
 
 /// Whether an entry of a range list of `.debug_rnglists` holds an address.
@@ -87,5 +86,5 @@ pub fn range5_holds(
         entries → ⊥) }
 {
     let addresses = address_table(sections, unit);
-    dwarf5_lists::range_holds(sections.rnglists, &addresses, at, list_base(unit), address)
+    dwarf_loc::rnglist_holds(sections.rnglists, &addresses, at, list_base(unit), address)
 }

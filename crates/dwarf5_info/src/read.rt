@@ -4,7 +4,7 @@ ghost use Rattle.std.specs.Prelude.{IfOk, ◌≡◌};
 ghost use Rattle.wasm_bytes.specs.Laws.{IsBytes};
 ghost use Rattle.dwarf_info.specs.Sections.{IsReadable5};
 ghost use Rattle.dwarf5_info.specs.Version5.{units5};
-ghost use Rattle.dwarf5_info.specs.Grammar5.{IsUnits5};
+ghost use Rattle.dwarf5_info.specs.calls.Grammar5.{IsUnits5};
 
 use crate::version5::UpToFive;
 use causes::NoMemory;

@@ -2,14 +2,14 @@
 
 ghost use Rattle.std.specs.Prelude.{◌≡◌, ◌≤◌, length, option_map, IfOk, OnOk, IfSome};
 ghost use Rattle.wasm_bytes.specs.Place.{Stays};
-ghost use Rattle.wasm_bytes.specs.Answers.{Reads, Gives};
+ghost use Rattle.wasm_bytes.specs.calls.Answers.{Reads, Gives};
 ghost use Rattle.dwarf_bytes.specs.Items.{item_or_none, read_at};
 ghost use Rattle.dwarf_info.specs.Sections.{SectionBytes5, greatest_section};
 ghost use Rattle.dwarf_info.specs.Forms.{form_of};
 ghost use Rattle.dwarf_info.specs.Units.{body_item};
 ghost use Rattle.dwarf_info.specs.Version4.{version4};
-ghost use Rattle.dwarf_info.specs.inner.Sizes.{IsSized};
-ghost use Rattle.dwarf_info.specs.inner.Keeping.{Keeps};
+ghost use Rattle.dwarf_info.specs.calls.Sizes.{IsSized};
+ghost use Rattle.dwarf_info.specs.calls.Keeping.{Keeps};
 ghost use Rattle.dwarf5_info.specs.Forms5.{forms5};
 ghost use Rattle.dwarf5_info.specs.Indices.{index5};
 ghost use Rattle.dwarf5_info.specs.Version5.{is_unit_type, header5_item, shapes5_item, version5, up_to5};

@@ -1,14 +1,14 @@
 -- A line program of version 5 is read exactly as it is spelled.
 use Rattle.std.proofs.Common.{◌≡◌, ℕ, Bool, true, false, eqb, List, length, Some, refl, sym, subst}
 use Rattle.wasm_bytes.specs.Reading.{◌⊗◌, checked, u64_item, items_from}
-use Rattle.wasm_bytes.specs.Spelling.{◌&◌, pair, leads, passing, items, u64}
+use Rattle.wasm_bytes.specs.calls.Spelling.{◌&◌, pair, leads, passing, items, u64}
 use Rattle.wasm_bytes.specs.Laws.{IsExact}
 use Rattle.std.specs.Prelude.{if◌then◌else◌}
 use Rattle.wasm_bytes.proofs.Exact.{image_exact, then_exact, same_exact, leads_exact, checked_exact}
 use Rattle.wasm_bytes.proofs.ExactItems.{u64_exact}
 use Rattle.wasm_bytes.proofs.ExactLists.{counted, items_exact}
 use Rattle.dwarf_bytes.specs.Items.{number_item, each_item}
-use Rattle.dwarf_bytes.specs.Spelled.{each, number}
+use Rattle.dwarf_bytes.specs.calls.Spelled.{each, number}
 use Rattle.dwarf_bytes.specs.Format.{spelled, read}
 use Rattle.dwarf_bytes.proofs.Exact.{number_exact}
 use Rattle.dwarf_bytes.proofs.Lists.{each_exact}

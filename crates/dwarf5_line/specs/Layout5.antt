@@ -1,14 +1,14 @@
 -- Line programs of versions 2 to 5 (DWARF 5 section 6.2.4).
 use Rattle.std.specs.Prelude.{◌≡◌, ℕ, List, [], ◌∷◌, length, Bool, true, false, Option, Some, ◌==◌, if◌then◌else◌}
-use Rattle.wasm_bytes.specs.Spelling.{Spellings, ◌&◌, pair, leads, image, items, u64}
-use Rattle.dwarf_bytes.specs.Spelled.{each, number}
+use Rattle.wasm_bytes.specs.calls.Spelling.{Spellings, ◌&◌, pair, leads, image, items, u64}
+use Rattle.dwarf_bytes.specs.calls.Spelled.{each, number}
 use Rattle.dwarf_bytes.specs.Format.{spelled}
 use Rattle.dwarf_info.specs.Sections.{SectionBytes5}
 use Rattle.dwarf_line.specs.declared.lines.LineFile.{LineFile}
 use Rattle.dwarf_line.specs.declared.lines.Lines.{Lines}
 use Rattle.dwarf_line.specs.declared.header.Tables.{Tables}
-use Rattle.dwarf_line.specs.Grammar as old
-use Rattle.dwarf_line.specs.Grammar.{line_program}
+use Rattle.dwarf_line.specs.calls.Grammar as old
+use Rattle.dwarf_line.specs.calls.Grammar.{line_program}
 use Rattle.dwarf_line.specs.Header.{Layout, layout}
 use Rattle.dwarf5_line.specs.declared.entries.Pair.{Pair}
 use Rattle.dwarf5_line.specs.Entries as entries

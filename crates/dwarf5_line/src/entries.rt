@@ -3,7 +3,7 @@
 ghost use Rattle.std.specs.Prelude.{◌≡◌, map, IfOk, OnOk};
 ghost use Rattle.wasm_bytes.specs.Place.{Stays};
 ghost use Rattle.wasm_bytes.specs.Reading.{forgotten, run_item, items_from};
-ghost use Rattle.wasm_bytes.specs.Answers.{Reads, Gives};
+ghost use Rattle.wasm_bytes.specs.calls.Answers.{Reads, Gives};
 ghost use Rattle.dwarf_bytes.specs.Format.{read};
 ghost use Rattle.dwarf_info.specs.Values.{texts};
 ghost use Rattle.dwarf5_line.specs.Entries.{text_in, content, pair, describes, path_of, directory_of, entry_item, counted_item, pairs_item, entries_item, name_of, tables_item};

@@ -4,7 +4,6 @@
 mod entries;
 mod program;
 
-pub use causes::NoMemory;
 pub use dwarf_bytes::ReadFault;
 pub use dwarf_line::Lines;
 pub use program::{read_lines5, read_prepared_lines5};

@@ -2,11 +2,11 @@
 
 ghost use Rattle.std.specs.Prelude.{◌≡◌, OnOk};
 ghost use Rattle.wasm_bytes.specs.Place.{Stays};
-ghost use Rattle.wasm_bytes.specs.Answers.{Gives};
-ghost use Rattle.dwarf_bytes.specs.Answers.{ReadsThere};
+ghost use Rattle.wasm_bytes.specs.calls.Answers.{Gives};
+ghost use Rattle.dwarf_bytes.specs.calls.Answers.{ReadsThere};
 ghost use Rattle.dwarf_line.specs.Header.{header_item};
 ghost use Rattle.dwarf_line.specs.Program.{lines_at};
-ghost use Rattle.dwarf_line.specs.Standing.{IsWhatStands};
+ghost use Rattle.dwarf_line.specs.calls.Standing.{IsWhatStands};
 ghost use Rattle.dwarf5_line.specs.Layout5.{texts_of, new_layout, layout5, lines5};
 
 use crate::entries::read_tables;

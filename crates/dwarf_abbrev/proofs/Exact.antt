@@ -5,17 +5,17 @@ use Rattle.std.proofs.lemmas.Bool.{eqb-true, eqb-false, ne_eqb, and_parts}
 use Rattle.std.proofs.lemmas.List.{append-nil}
 use Rattle.wasm_bytes.specs.Place.{Place, Read}
 use Rattle.wasm_bytes.specs.Reading.{◌⊗◌, ◌▷◌, mapped, done_item, one_of_item, u64_item}
-use Rattle.wasm_bytes.specs.Spelling.{leads, image, only, one_of, u64}
-use Rattle.wasm_bytes.specs.Spelling.{pair as both}
+use Rattle.wasm_bytes.specs.calls.Spelling.{leads, image, only, one_of, u64}
+use Rattle.wasm_bytes.specs.calls.Spelling.{pair as both}
 use Rattle.wasm_bytes.specs.Laws.{IsExact, TakesBytes}
 use Rattle.wasm_bytes.proofs.Exact.{same_exact, leads_exact, image_exact, mapped_exact, then_exact, done_exact}
 use Rattle.wasm_bytes.proofs.ExactItems.{one_of_exact, u64_exact}
 use Rattle.dwarf_bytes.specs.Items.{ended_from, ended_item}
-use Rattle.dwarf_bytes.specs.Spelled.{ended}
+use Rattle.dwarf_bytes.specs.calls.Spelled.{ended}
 use Rattle.dwarf_bytes.proofs.Lists.{ended_exact}
 use Rattle.dwarf_abbrev.specs.declared.abbrev.Pair.{Pair}
 use Rattle.dwarf_abbrev.specs.Reading.{pair_of, is_end, behind_pair, pair_item, is_flag, is_one, behind_code, table_item, abbrev_of, abbrevs_item, abbrevs_at}
-use Rattle.dwarf_abbrev.specs.Grammar.{codes, pair, flag, entry, table, abbrevs}
+use Rattle.dwarf_abbrev.specs.calls.Grammar.{codes, pair, flag, entry, table, abbrevs}
 use Rattle.wasm_bytes.proofs.Takes.{front_takes, unsigned_takes}
 
 -- ---- each takes a byte

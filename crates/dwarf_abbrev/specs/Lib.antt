@@ -1,3 +1,3 @@
 pub mod Reading
-pub mod Grammar
 pub mod inner
+pub mod calls

@@ -3,12 +3,12 @@
 ghost use Rattle.std.specs.Prelude.{ℕ, ◌≡◌, IfOk, OnOk, List, Bool};
 ghost use Rattle.wasm_bytes.specs.Place.{Place, Read, Moves};
 ghost use Rattle.wasm_bytes.specs.Reading.{◌▷◌, mapped, done_item, one_of_item, u64_item};
-ghost use Rattle.wasm_bytes.specs.Answers.{Gives, Reads};
+ghost use Rattle.wasm_bytes.specs.calls.Answers.{Gives, Reads};
 ghost use Rattle.dwarf_bytes.specs.Items.{ended_item, read_at};
-ghost use Rattle.dwarf_bytes.specs.Spelled.{StandsAt};
-ghost use Rattle.dwarf_bytes.specs.Answers.{Answers, found_at};
+ghost use Rattle.dwarf_bytes.specs.calls.Spelled.{StandsAt};
+ghost use Rattle.dwarf_bytes.specs.calls.Answers.{Answers, found_at};
 ghost use Rattle.dwarf_abbrev.specs.Reading.{pair_item, is_flag, is_one, behind_code, abbrev_of, abbrevs_item, abbrevs_at};
-ghost use Rattle.dwarf_abbrev.specs.Grammar.{abbrevs};
+ghost use Rattle.dwarf_abbrev.specs.calls.Grammar.{abbrevs};
 
 use crate::abbrev::{Abbrev, Abbrevs, Pair};
 use crate::table::Table;

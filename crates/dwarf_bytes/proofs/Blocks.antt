@@ -5,7 +5,7 @@ use Rattle.std.proofs.lemmas.List.{length-take}
 use Rattle.wasm_bytes.specs.declared.faults.Malformed.{Malformed}
 use Rattle.wasm_bytes.specs.Place.{Place}
 use Rattle.wasm_bytes.specs.Reading.{if_inside, block_of}
-use Rattle.wasm_bytes.specs.Answers.{Reads}
+use Rattle.wasm_bytes.specs.calls.Answers.{Reads}
 use Rattle.wasm_bytes.specs.Laws.{got}
 use Rattle.wasm_bytes.proofs.Places.{got_is}
 use Rattle.wasm_leb.proofs.Tools.{chosen}

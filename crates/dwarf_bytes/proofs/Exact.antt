@@ -7,13 +7,13 @@ use Rattle.std.proofs.lemmas.List.{take-append-drop, take_at, length-take}
 use Rattle.std.proofs.Math.Seq.{drop-append_seam, take-append-add}
 use Rattle.wasm_bytes.specs.Place.{Place, Read}
 use Rattle.wasm_bytes.specs.Reading.{◌>>=◌, run_item, if_inside, block_of, closed}
-use Rattle.wasm_bytes.specs.Spelling.{run}
+use Rattle.wasm_bytes.specs.calls.Spelling.{run}
 use Rattle.wasm_bytes.specs.Laws.{IsBytes, place, got, Took, IsExact, IsTail}
 use Rattle.wasm_bytes.proofs.Places.{IsBytes-rest, IsBytes-front, place_behind, rest_length, got_is, bind_ok, took_is}
 use Rattle.wasm_bytes.proofs.Exact.{first_took, same_exact, image_exact}
 use Rattle.wasm_bytes.proofs.ExactItems.{run_exact}
 use Rattle.dwarf_bytes.specs.Items.{little_endian, number_item, is_zero, text_item, if_ended, block_by}
-use Rattle.dwarf_bytes.specs.Spelled.{number, ended_text, sized_by}
+use Rattle.dwarf_bytes.specs.calls.Spelled.{number, ended_text, sized_by}
 use Rattle.wasm_leb.proofs.Tools.{chosen}
 
 -- ---- numbers

@@ -2,18 +2,18 @@
 use Rattle.std.proofs.Common.{refl}
 use Rattle.std.proofs.lemmas.List.{append-nil}
 use Rattle.wasm_bytes.specs.Reading.{u64_item, s64_item, run_item}
-use Rattle.wasm_bytes.specs.Spelling as spelling
-use Rattle.wasm_bytes.specs.Spelling.{u64}
+use Rattle.wasm_bytes.specs.calls.Spelling as spelling
+use Rattle.wasm_bytes.specs.calls.Spelling.{u64}
 use Rattle.wasm_bytes.specs.Laws.{place}
 use Rattle.wasm_bytes.proofs.Places.{took_is, took_nothing}
 use Rattle.wasm_bytes.proofs.Exact.{leads_exact}
 use Rattle.wasm_bytes.proofs.ExactItems.{u64_exact, s64_exact, run_exact}
 use Rattle.wasm_bytes.proofs.ExactBlocks.{closed_exact}
 use Rattle.dwarf_bytes.specs.Items.{number_item, text_item, long_block_item}
-use Rattle.dwarf_bytes.specs.Spelled as items
-use Rattle.dwarf_bytes.specs.Spelled.{ended_text}
+use Rattle.dwarf_bytes.specs.calls.Spelled as items
+use Rattle.dwarf_bytes.specs.calls.Spelled.{ended_text}
 use Rattle.dwarf_bytes.specs.Format.{Format, made, unread, unsigned, signed, number, run, text, sized, spelled, read}
-use Rattle.dwarf_bytes.specs.Laws.{FormatIsExact}
+use Rattle.dwarf_bytes.specs.calls.Laws.{FormatIsExact}
 use Rattle.dwarf_bytes.proofs.Exact.{number_exact, text_exact, in_block_exact}
 
 pub format_exact : {A : Type 0} (f : Format A) → FormatIsExact f

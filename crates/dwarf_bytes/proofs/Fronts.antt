@@ -2,11 +2,11 @@
 use Rattle.std.proofs.Common.{◌≡◌, ℕ, ◌+◌, List, ◌++◌, length, Ok, refl, sym, ap, subst, ◌∙◌, append_assoc, length-append}
 use Rattle.wasm_bytes.specs.Place.{Place, Read}
 use Rattle.wasm_bytes.specs.Reading.{◌>>=◌}
-use Rattle.wasm_bytes.specs.Spelling.{◌&◌, any}
+use Rattle.wasm_bytes.specs.calls.Spelling.{◌&◌, any}
 use Rattle.wasm_bytes.specs.Laws.{place, got, Took, IsExact}
 use Rattle.wasm_bytes.proofs.Places.{IsBytes-rest, IsBytes-front, bind_ok, took_is}
 use Rattle.dwarf_bytes.specs.Items.{block_by}
-use Rattle.dwarf_bytes.specs.Spelled.{sized_by}
+use Rattle.dwarf_bytes.specs.calls.Spelled.{sized_by}
 use Rattle.dwarf_bytes.proofs.Exact.{block_sound, block_again}
 
 -- a block, and what stands at its front; what stands behind that is passed over

@@ -7,7 +7,7 @@ use Rattle.wasm_bytes.specs.Laws.{IsBytes, place, got, Took, IsExact, TakesBytes
 use Rattle.wasm_bytes.proofs.Places.{got_is, bind_ok, took_as, took_is, took_nothing}
 use Rattle.wasm_bytes.proofs.Exact.{first_took, then_took}
 use Rattle.dwarf_bytes.specs.Items.{meant_at, meaning_item, each_item, and_more, ended_from, ended_item}
-use Rattle.dwarf_bytes.specs.Spelled.{meaning, each, ended}
+use Rattle.dwarf_bytes.specs.calls.Spelled.{meaning, each, ended}
 
 -- ---- what a value stands for
 

@@ -5,7 +5,7 @@ use Rattle.wasm_bytes.specs.declared.faults.ItemFault.{ItemFault}
 use Rattle.wasm_bytes.specs.declared.faults.ItemFault.TheVariants as faults
 use Rattle.wasm_bytes.specs.Place.{Place, Read}
 use Rattle.wasm_bytes.specs.Reading.{◌>>=◌}
-use Rattle.wasm_bytes.specs.Answers.{Fails}
+use Rattle.wasm_bytes.specs.calls.Answers.{Fails}
 use Rattle.wasm_bytes.proofs.Loops.{failed, got, first}
 use Rattle.dwarf_bytes.specs.Items.{each_item, ended_from}
 

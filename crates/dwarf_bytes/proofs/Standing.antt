@@ -5,7 +5,7 @@ use Rattle.wasm_bytes.specs.Place.{Place, Read}
 use Rattle.wasm_bytes.specs.Laws.{IsBytes, place, got, IsExact}
 use Rattle.wasm_bytes.proofs.Places.{place_is, IsBytes-rest}
 use Rattle.dwarf_bytes.specs.Items.{reading_of, read_at}
-use Rattle.dwarf_bytes.specs.Spelled.{StandsAt}
+use Rattle.dwarf_bytes.specs.calls.Spelled.{StandsAt}
 
 pub read_ok : {A : Type 0} (r : Read A) (x : A) → reading_of r ≡ Some x → (q : Place) × (r ≡ got x q)
 read_ok {A} (Ok y) x e = let same : y.0 ≡ x = cc in (y.1, ap (λ (z : A). got z y.1) same)

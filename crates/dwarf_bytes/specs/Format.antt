@@ -3,11 +3,11 @@
 use Rattle.std.specs.Prelude.{◌≡◌, ℕ, ◌-◌, ℤ, List, [], ◌∷◌, length, Option, Some, None, Ok, Err, Bool, ◌==◌, if◌then◌else◌}
 use Rattle.wasm_bytes.specs.Place.{Place, Read}
 use Rattle.wasm_bytes.specs.Reading.{◌>>=◌, u64_item, s64_item, run_item, closed}
-use Rattle.wasm_bytes.specs.Spelling as spelling
-use Rattle.wasm_bytes.specs.Spelling.{Spellings, leads, u64}
+use Rattle.wasm_bytes.specs.calls.Spelling as spelling
+use Rattle.wasm_bytes.specs.calls.Spelling.{Spellings, leads, u64}
 use Rattle.dwarf_bytes.specs.Items.{number_item, text_item, long_block_item}
-use Rattle.dwarf_bytes.specs.Spelled as items
-use Rattle.dwarf_bytes.specs.Spelled.{ended_text, long_sized}
+use Rattle.dwarf_bytes.specs.calls.Spelled as items
+use Rattle.dwarf_bytes.specs.calls.Spelled.{ended_text, long_sized}
 
 pub data Format (A : Type 0) : Type 0 where
   -- nothing more stands there

@@ -2,7 +2,7 @@
 
 ghost use Rattle.std.specs.Prelude.{◌-◌, ◌+◌, ◌≡◌, Option, OnOk, length};
 ghost use Rattle.wasm_bytes.specs.Place.{Place, Read, Moves, Stays};
-ghost use Rattle.wasm_bytes.specs.Answers.{Gives};
+ghost use Rattle.wasm_bytes.specs.calls.Answers.{Gives};
 ghost use Rattle.dwarf_bytes.specs.Items.{ended_from, ended_item};
 
 use pm_text::Items;

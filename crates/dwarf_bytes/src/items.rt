@@ -2,7 +2,7 @@
 
 ghost use Rattle.std.specs.Prelude.{◌≤◌, ◌<◌, ◌≡◌, ◌+◌, ◌^◌, IfOk, OnOk, length, position};
 ghost use Rattle.wasm_bytes.specs.Place.{Moves, Stays};
-ghost use Rattle.wasm_bytes.specs.Answers.{Reads, result_now};
+ghost use Rattle.wasm_bytes.specs.calls.Answers.{Reads, result_now};
 ghost use Rattle.dwarf_bytes.specs.Items.{little_endian, number_item, is_zero, text_item, long_block_item, unit_block_item, read_at};
 
 use wasm_bytes::{Malformed, Reader, Run};

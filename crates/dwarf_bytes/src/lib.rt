@@ -9,7 +9,6 @@ mod items;
 mod names;
 
 pub use bytes::{byte, open_counted};
-pub use causes::NoMemory;
 pub use ended::{Ended, ended_items};
 pub use faults::ReadFault;
 pub use items::{number, open_long, open_unit, text, text_at};

@@ -8,7 +8,7 @@ use Rattle.dwarf_info.specs.declared.entry.UnitAnswer.{UnitAnswer}
 use Rattle.dwarf_info.specs.declared.entry.UnitAnswer.TheVariants.{Tree, Unreadable}
 use Rattle.dwarf_info.specs.declared.places.EntryPlace.{EntryPlace}
 use Rattle.dwarf_info.specs.Units.{entries_in}
-use Rattle.dwarf_info.specs.EntryPlaces.{place, place_in, place_among}
+use Rattle.dwarf_info.specs.calls.EntryPlaces.{place, place_in, place_among}
 use Rattle.dwarf_entries.specs.Standing.{Standing, stands, standing_in, of_unit, standing, stands_at, standing_at}
 use Rattle.dwarf_entries.specs.inner.Numbered.{numbered, numbered_of, there}
 use Rattle.dwarf_entries.proofs.Found.{found_first, found_later}

@@ -3,7 +3,7 @@
 ghost use Rattle.std.specs.Prelude.{ℕ, ◌≡◌, ◌<◌, ◌≤◌, ◌-◌, ◌*◌, ◌^◌, OnOk, IfSome, length, option_map};
 ghost use Rattle.int_ops.specs.Integers.{narrow64_bits, unsigned as word_of};
 ghost use Rattle.wasm_bytes.specs.Place.{Moves, Stays};
-ghost use Rattle.wasm_bytes.specs.Answers.{Reads};
+ghost use Rattle.wasm_bytes.specs.calls.Answers.{Reads};
 ghost use Rattle.dwarf_bytes.specs.Items.{item_or_none};
 ghost use Rattle.dwarf_bytes.specs.Format.{read, made, unsigned, signed, number};
 ghost use Rattle.dwarf_expr.specs.Operators as table;

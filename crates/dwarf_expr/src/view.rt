@@ -1,7 +1,7 @@
 //! What an expression sees of a frame.
 
 ghost use Rattle.std.specs.Prelude.{◌≡◌};
-ghost use Rattle.linear_memory.specs.Paged.{IsWidth};
+ghost use Rattle.linear_memory.specs.calls.Paged.{IsWidth};
 ghost use Rattle.dwarf_expr.specs.Meaning.{read_memory};
 
 use crate::effects::Event;

@@ -5,21 +5,21 @@ use Rattle.std.proofs.lemmas.List.{append-nil, take_at}
 use Rattle.std.proofs.Math.Seq.{drop-append_seam}
 use Rattle.wasm_bytes.specs.Place.{Place, Read}
 use Rattle.wasm_bytes.specs.Reading.{◌>>=◌, checked, until_end, to_end_item}
-use Rattle.wasm_bytes.specs.Spelling.{passing, any}
+use Rattle.wasm_bytes.specs.calls.Spelling.{passing, any}
 use Rattle.wasm_bytes.specs.Laws.{IsBytes, place, got, failed, IsExact}
 use Rattle.wasm_bytes.proofs.Places.{IsBytes-rest, IsBytes-front, place_is}
 use Rattle.wasm_bytes.proofs.Exact.{checked_exact}
 use Rattle.wasm_bytes.proofs.ExactLists.{more_left, at_end, nil_place}
 use Rattle.wasm_bytes.proofs.Loops.{first, end_on, end_done}
 use Rattle.dwarf_bytes.specs.Items.{number_item, is_unit_length, unit_block_item, reading_of}
-use Rattle.dwarf_bytes.specs.Spelled.{number, unit_sized}
+use Rattle.dwarf_bytes.specs.calls.Spelled.{number, unit_sized}
 use Rattle.dwarf_bytes.proofs.Exact.{number_exact, Opens, block_sound, block_again}
 use Rattle.dwarf_info.specs.declared.entry.Unit.{Unit as UnitTree}
 use Rattle.dwarf_info.specs.declared.entry.UnitAnswer.{UnitAnswer}
 use Rattle.dwarf_info.specs.declared.entry.UnitAnswer.TheVariants.{Tree as TreeOf, Unreadable}
 use Rattle.dwarf_info.specs.Sections.{SectionBytes5}
 use Rattle.dwarf_info.specs.Units.{Versions, whole_unit, answer_of, answer_in, answer_item, all_of, answers_of, settled, units_of}
-use Rattle.dwarf_info.specs.Grammar.{Grammars, unit, answer, no_length, answers, IsUnits}
+use Rattle.dwarf_info.specs.calls.Grammar.{Grammars, unit, answer, no_length, answers, IsUnits}
 use Rattle.dwarf_info.proofs.UnitLaws.{AreExact, contents, unit_tail}
 
 -- ---- lengths

@@ -10,7 +10,7 @@ use Rattle.dwarf_info.specs.declared.entry.UnitAnswer.{UnitAnswer}
 use Rattle.dwarf_info.specs.declared.entry.UnitAnswer.TheVariants.{Tree, Unreadable}
 use Rattle.dwarf_info.specs.declared.places.EntryPlace.{EntryPlace}
 use Rattle.dwarf_info.specs.Units.{entries_in}
-use Rattle.dwarf_info.specs.EntryPlaces.{IsEntryAt, first_at, entry_of, entry_there, place, place_in, place_among}
+use Rattle.dwarf_info.specs.calls.EntryPlaces.{IsEntryAt, first_at, entry_of, entry_there, place, place_in, place_among}
 use Rattle.dwarf_info.specs.inner.Settling.{entry_by, answer_by, any_at}
 use Rattle.dwarf_info.specs.inner.Finding.{IsTied}
 use Rattle.dwarf_info.proofs.SettleLaws.{any_append}

@@ -8,7 +8,7 @@ use Rattle.dwarf_info.specs.declared.places.EntryPlace.{EntryPlace}
 use Rattle.dwarf_info.specs.Sections.{SectionBytes, SectionBytes5, without5}
 use Rattle.dwarf_info.specs.Units.{Versions, entries_in, answers_of, units_of}
 use Rattle.dwarf_info.specs.Version4.{only4, units4}
-use Rattle.dwarf_info.specs.Grammar4.{IsUnits4}
+use Rattle.dwarf_info.specs.calls.Grammar4.{IsUnits4}
 use Rattle.dwarf_info.specs.inner.Settling.{meets, answer_by, any_at}
 use Rattle.dwarf_info.proofs.SettleLaws.{all_settled}
 use Rattle.dwarf_info.proofs.UnitLaws4.{units4_spelled}

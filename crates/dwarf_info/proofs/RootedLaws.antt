@@ -5,7 +5,7 @@ use Rattle.wasm_bytes.specs.Place.{Place, Read}
 use Rattle.wasm_bytes.specs.Reading.{◌>>=◌}
 use Rattle.wasm_bytes.specs.Laws.{IsBytes, place, got, Took, IsExact}
 use Rattle.wasm_bytes.proofs.Places.{got_is, bind_ok}
-use Rattle.dwarf_bytes.specs.Spelled.{each}
+use Rattle.dwarf_bytes.specs.calls.Spelled.{each}
 use Rattle.dwarf_info.specs.declared.form.NumberForm.{NumberForm}
 use Rattle.dwarf_info.specs.declared.form.IndexTable.{IndexTable}
 use Rattle.dwarf_info.specs.declared.form.Meaning.{Meaning}
@@ -22,9 +22,9 @@ use Rattle.dwarf_info.specs.declared.growing.Growing.{Growing}
 use Rattle.dwarf_info.specs.Sections.{SectionBytes5}
 use Rattle.dwarf_info.specs.Values.{Context}
 use Rattle.dwarf_info.specs.Entries.{seed, with_entry, step_item, entries_item, root_attributes}
-use Rattle.dwarf_info.specs.Trees.{Siblings, none, entry, Tree, written}
+use Rattle.dwarf_info.specs.calls.Trees.{Siblings, none, entry, Tree, written}
 use Rattle.dwarf_info.specs.Units.{Version, context, unsettled, rooted_item}
-use Rattle.dwarf_info.specs.Grammar.{plain, named, value_in, attribute, children_if, entry_with, siblings, tree, both}
+use Rattle.dwarf_info.specs.calls.Grammar.{plain, named, value_in, attribute, children_if, entry_with, siblings, tree, both}
 use Rattle.dwarf_info.proofs.StepLaws.{Enters, step, step_exact}
 use Rattle.dwarf_info.proofs.TreeLaws.{entries, entries_exact}
 

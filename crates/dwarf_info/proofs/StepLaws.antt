@@ -4,13 +4,13 @@ use Rattle.std.specs.Prelude.{if◌then◌else◌, ◌==◌, option_map}
 use Rattle.std.proofs.lemmas.Bool.{eqb-true, eqb-false, ne_eqb}
 use Rattle.std.proofs.lemmas.List.{append-nil}
 use Rattle.wasm_bytes.specs.Reading.{◌▷◌, here_item, steps_until_done, u64_item}
-use Rattle.wasm_bytes.specs.Spelling.{◌&◌, leads, image, only, here, steps_to_done, u64}
+use Rattle.wasm_bytes.specs.calls.Spelling.{◌&◌, leads, image, only, here, steps_to_done, u64}
 use Rattle.wasm_bytes.specs.Laws.{IsExact, TakesBytes}
 use Rattle.wasm_bytes.proofs.Exact.{same_exact, leads_exact, image_exact, done_exact, here_exact}
 use Rattle.wasm_bytes.proofs.UntilDone.{until_done_exact}
 use Rattle.wasm_bytes.proofs.ExactItems.{u64_exact}
 use Rattle.dwarf_bytes.specs.Items.{item_or_none}
-use Rattle.dwarf_bytes.specs.Spelled.{never, each}
+use Rattle.dwarf_bytes.specs.calls.Spelled.{never, each}
 use Rattle.dwarf_abbrev.proofs.Exact.{u64_takes}
 use Rattle.dwarf_info.specs.declared.form.Shape.{Shape}
 use Rattle.dwarf_info.specs.declared.entry.Attribute.{Attribute}
@@ -18,7 +18,7 @@ use Rattle.dwarf_info.specs.declared.entry.Entry.{Entry}
 use Rattle.dwarf_info.specs.declared.growing.Growing.{Growing}
 use Rattle.dwarf_info.specs.Values.{Context, attributes_item}
 use Rattle.dwarf_info.specs.Entries.{shape_of, seed, with_entry, shape_item, closing_item, code_item, step_item, is_whole}
-use Rattle.dwarf_info.specs.Grammar.{attribute}
+use Rattle.dwarf_info.specs.calls.Grammar.{attribute}
 use Rattle.dwarf_info.proofs.ValueLaws.{never_exact, attributes_exact}
 use Rattle.wasm_bytes.proofs.Takes.{front_takes}
 

@@ -4,7 +4,7 @@ use Rattle.std.specs.Prelude.{if◌then◌else◌, nat_lt, ◌==◌}
 use Rattle.std.proofs.lemmas.Bool.{ne_eqb, lt-ltb}
 use Rattle.std.proofs.lemmas.List.{append-nil}
 use Rattle.wasm_bytes.specs.Reading.{mapped, steps_until_done}
-use Rattle.wasm_bytes.specs.Spelling.{image, steps, some_steps, due, steps_to_done, u64}
+use Rattle.wasm_bytes.specs.calls.Spelling.{image, steps, some_steps, due, steps_to_done, u64}
 use Rattle.wasm_bytes.specs.Laws.{IsExact}
 use Rattle.wasm_bytes.proofs.Exact.{same_exact, image_exact}
 use Rattle.dwarf_info.specs.declared.form.Shape.{Shape}
@@ -13,8 +13,8 @@ use Rattle.dwarf_info.specs.declared.entry.Entry.{Entry}
 use Rattle.dwarf_info.specs.declared.growing.Growing.{Growing}
 use Rattle.dwarf_info.specs.Values.{Context}
 use Rattle.dwarf_info.specs.Entries.{seed, with_entry, step_item, is_whole, entries_read, entries_item}
-use Rattle.dwarf_info.specs.Trees.{Siblings, none, entry, Tree, written_at, written}
-use Rattle.dwarf_info.specs.Grammar.{children_if, entry_with, siblings, tree}
+use Rattle.dwarf_info.specs.calls.Trees.{Siblings, none, entry, Tree, written_at, written}
+use Rattle.dwarf_info.specs.calls.Grammar.{children_if, entry_with, siblings, tree}
 use Rattle.dwarf_info.proofs.StepLaws.{Closes, Enters, step, steps_exact}
 use Rattle.std.proofs.Math.Bool.{and-false}
 

@@ -6,20 +6,20 @@ use Rattle.std.proofs.lemmas.Bool.{cases_lt}
 use Rattle.std.proofs.lemmas.List.{take-append-drop, length-take}
 use Rattle.wasm_bytes.specs.Place.{Place, Read}
 use Rattle.wasm_bytes.specs.Reading.{mapped, rest_item}
-use Rattle.wasm_bytes.specs.Spelling.{◌&◌, leads, image, passing, text}
+use Rattle.wasm_bytes.specs.calls.Spelling.{◌&◌, leads, image, passing, text}
 use Rattle.wasm_bytes.specs.Laws.{IsBytes, place, got, IsExact, IsTail}
 use Rattle.wasm_bytes.proofs.Places.{IsBytes-rest, place_is}
 use Rattle.wasm_bytes.proofs.Exact.{leads_exact, image_exact}
 use Rattle.wasm_bytes.proofs.ExactBlocks.{leads_tail, same_tail, image_tail, checked_tail, rest_tail}
 use Rattle.dwarf_bytes.specs.Items.{item_or_none, number_item, read_at, is_zero}
-use Rattle.dwarf_bytes.specs.Spelled.{never, number, StandsAt}
+use Rattle.dwarf_bytes.specs.calls.Spelled.{never, number, StandsAt}
 use Rattle.dwarf_bytes.proofs.Exact.{number_exact}
 use Rattle.dwarf_info.specs.declared.form.Shape.{Shape}
 use Rattle.dwarf_info.specs.declared.entry.Unit.{Unit as UnitTree}
 use Rattle.dwarf_info.specs.Sections.{SectionBytes5}
-use Rattle.dwarf_info.specs.Trees.{Tree, written}
+use Rattle.dwarf_info.specs.calls.Trees.{Tree, written}
 use Rattle.dwarf_info.specs.Units.{Version, context, unsettled, rooted_item, padding_item, unit_of, body_item, unit_item, whole_unit}
-use Rattle.dwarf_info.specs.Grammar.{tree, both, Grammars, body}
+use Rattle.dwarf_info.specs.calls.Grammar.{tree, both, Grammars, body}
 use Rattle.dwarf_info.proofs.ValueLaws.{never_exact}
 use Rattle.dwarf_info.proofs.RootedLaws.{rooted, rooted_exact}
 use Rattle.dwarf_bytes.proofs.Standing.{read_ok, stands_read}

@@ -3,21 +3,21 @@ use Rattle.std.proofs.Common.{◌≡◌, ℕ, ◌+◌, ◌-◌, ◌<◌, Bool, t
 use Rattle.std.specs.Prelude.{map, ◌==◌, if◌then◌else◌}
 use Rattle.std.proofs.lemmas.Bool.{eqb-true}
 use Rattle.wasm_bytes.specs.Reading.{◌⊗◌, checked}
-use Rattle.wasm_bytes.specs.Spelling.{pair, passing}
+use Rattle.wasm_bytes.specs.calls.Spelling.{pair, passing}
 use Rattle.wasm_bytes.specs.Laws.{IsBytes, IsExact}
 use Rattle.wasm_bytes.proofs.Exact.{image_exact, mapped_exact, then_exact, checked_exact}
 use Rattle.dwarf_bytes.specs.Items.{number_item, ended_from, ended_item, read_at}
-use Rattle.dwarf_bytes.specs.Spelled.{number}
+use Rattle.dwarf_bytes.specs.calls.Spelled.{number}
 use Rattle.dwarf_bytes.proofs.Exact.{number_exact}
 use Rattle.dwarf_abbrev.specs.Reading.{table_item, abbrevs_item}
-use Rattle.dwarf_abbrev.specs.Grammar.{abbrevs}
+use Rattle.dwarf_abbrev.specs.calls.Grammar.{abbrevs}
 use Rattle.dwarf_abbrev.proofs.Exact.{abbrevs_exact}
 use Rattle.dwarf_info.specs.declared.entry.UnitAnswer.{UnitAnswer}
 use Rattle.dwarf_info.specs.Sections.{SectionBytes, without5}
 use Rattle.dwarf_info.specs.Forms.{forms4}
 use Rattle.dwarf_info.specs.Units.{Version}
 use Rattle.dwarf_info.specs.Version4.{shape_in, is_address_size, header4_item, shapes4_item, version4, units4}
-use Rattle.dwarf_info.specs.Grammar4.{header4, shapes4, grammars4, IsUnits4}
+use Rattle.dwarf_info.specs.calls.Grammar4.{header4, shapes4, grammars4, IsUnits4}
 use Rattle.dwarf_info.proofs.UnitLaws.{IsVersionExact, AreExact}
 use Rattle.dwarf_info.proofs.AnswerLaws.{units_spelled, units_once}
 

@@ -2,13 +2,13 @@
 use Rattle.std.proofs.Common.{◌≡◌, ℕ, ◌+◌, List, ◌++◌, length, Option, Some, None, refl, sym, ap, subst}
 use Rattle.std.specs.Prelude.{true, option_map}
 use Rattle.wasm_bytes.specs.Reading.{◌▷◌, run_item, s64_item, u64_item}
-use Rattle.wasm_bytes.specs.Spelling.{leads, image, run, u64, s64}
+use Rattle.wasm_bytes.specs.calls.Spelling.{leads, image, run, u64, s64}
 use Rattle.wasm_bytes.specs.Laws.{IsExact}
 use Rattle.wasm_bytes.proofs.Exact.{same_exact, leads_exact, image_exact, done_exact}
 use Rattle.wasm_bytes.proofs.ExactItems.{run_exact, u64_exact, s64_exact}
 use Rattle.dwarf_bytes.specs.Items.{no_item, item_or_none, text_item}
-use Rattle.dwarf_bytes.specs.Spelled.{never, each}
-use Rattle.dwarf_bytes.specs.Spelled.{ended_text}
+use Rattle.dwarf_bytes.specs.calls.Spelled.{never, each}
+use Rattle.dwarf_bytes.specs.calls.Spelled.{ended_text}
 use Rattle.dwarf_bytes.proofs.Lists.{meaning_exact, each_exact}
 use Rattle.dwarf_bytes.proofs.Exact.{number_exact}
 use Rattle.dwarf_bytes.proofs.Exact.{text_exact}
@@ -22,7 +22,7 @@ use Rattle.dwarf_info.specs.declared.entry.AttrValue.TheVariants as value
 use Rattle.dwarf_info.specs.declared.entry.Attribute.{Attribute}
 use Rattle.dwarf_info.specs.Forms.{form_of}
 use Rattle.dwarf_info.specs.Values.{Context, meant, width_item, plain_item, named_item, value_item, attribute_of, slot_item, attributes_item}
-use Rattle.dwarf_info.specs.Grammar.{width, block, plain, named, value_in, attribute}
+use Rattle.dwarf_info.specs.calls.Grammar.{width, block, plain, named, value_in, attribute}
 
 width_exact : (w : NumberForm) → IsExact (width w) (width_item w)
 width_exact (Bytes n) = number_exact n

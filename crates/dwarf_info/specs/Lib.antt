@@ -5,8 +5,5 @@ pub mod Values
 pub mod Entries
 pub mod Units
 pub mod Version4
-pub mod Trees
-pub mod Grammar
-pub mod Grammar4
 pub mod inner
-pub mod EntryPlaces
+pub mod calls

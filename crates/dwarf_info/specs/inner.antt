@@ -1,6 +1,4 @@
-pub mod Sizes
 pub mod Contexts
-pub mod Keeping
 pub mod Settling
 pub mod Finding
 pub mod Ascending

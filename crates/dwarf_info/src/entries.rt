@@ -4,7 +4,7 @@
 ghost use Rattle.std.specs.Prelude.{◌≡◌, ◌≤◌, ◌<◌, ◌+◌, ◌-◌, ◌^◌, length, OnOk};
 ghost use Rattle.wasm_bytes.specs.Place.{Moves, Stays};
 ghost use Rattle.wasm_bytes.specs.Reading.{steps_while_due};
-ghost use Rattle.wasm_bytes.specs.Answers.{Gives, with_state};
+ghost use Rattle.wasm_bytes.specs.calls.Answers.{Gives, with_state};
 ghost use Rattle.dwarf_info.specs.Sections.{greatest_section};
 ghost use Rattle.dwarf_info.specs.Values.{attributes_item};
 ghost use Rattle.dwarf_info.specs.inner.Contexts.{seen};

@@ -1,7 +1,7 @@
 //! The forms of attributes, each put together of how it is spelled and of what it stands for.
 
 ghost use Rattle.std.specs.Prelude.{◌≡◌};
-ghost use Rattle.dwarf_info.specs.inner.Sizes.{IsSized};
+ghost use Rattle.dwarf_info.specs.calls.Sizes.{IsSized};
 
 use dwarf_abbrev::Coded;
 use pm_text::Items;
@@ -107,7 +107,7 @@ pub struct SizedForm {
 
 impl Model for SizedForm {
     ghost use Rattle.dwarf_info.specs.declared.form.Form.{Form};
-    ghost use Rattle.dwarf_info.specs.inner.Sizes.{IsSized};
+    ghost use Rattle.dwarf_info.specs.calls.Sizes.{IsSized};
 
     ghost Value = { Form };
 

@@ -3,7 +3,7 @@
 ghost use Rattle.std.specs.Prelude.{◌≡◌, ◌==◌, ℕ, true, slice_get, Some, None, IfOk, OnOk, if◌then◌else◌};
 ghost use Rattle.std.specs.Option.{option_or};
 ghost use Rattle.dwarf_info.specs.Units.{entries_in};
-ghost use Rattle.dwarf_info.specs.EntryPlaces.{place_in, place_among};
+ghost use Rattle.dwarf_info.specs.calls.EntryPlaces.{place_in, place_among};
 ghost use Rattle.dwarf_info.specs.inner.Settling.{placed, placed_by, meets};
 ghost use Rattle.dwarf_info.specs.inner.Ascending.{ascends_from};
 

@@ -4,7 +4,7 @@ ghost use Rattle.std.specs.Prelude.{◌≡◌, ◌≤◌, length, IfOk};
 ghost use Rattle.dwarf_info.specs.Sections.{IsReadable, greatest_section};
 ghost use Rattle.dwarf_info.specs.Units.{units_of};
 ghost use Rattle.dwarf_info.specs.Version4.{units4};
-ghost use Rattle.dwarf_info.specs.Grammar4.{IsUnits4};
+ghost use Rattle.dwarf_info.specs.calls.Grammar4.{IsUnits4};
 
 use crate::answers::read_answers;
 use crate::places::Places;

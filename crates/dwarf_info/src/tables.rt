@@ -5,7 +5,7 @@ ghost use Rattle.std.specs.Option.{is_some};
 ghost use Rattle.dwarf_bytes.specs.Items.{read_at};
 ghost use Rattle.dwarf_info.specs.Sections.{SectionBytes5};
 ghost use Rattle.dwarf_info.specs.Units.{Version};
-ghost use Rattle.dwarf_info.specs.inner.Keeping.{Keeps, KeepsIf, kept_at, table_at as table_there};
+ghost use Rattle.dwarf_info.specs.calls.Keeping.{Keeps, KeepsIf, kept_at, table_at as table_there};
 
 use crate::form::Shape;
 use crate::prepared::PreparedSections;

@@ -3,12 +3,12 @@
 ghost use Rattle.std.specs.Prelude.{◌≡◌, ◌≤◌, ◌<◌, ◌^◌, length, OnOk, option_map};
 ghost use Rattle.std.specs.List.{list_all};
 ghost use Rattle.wasm_bytes.specs.Place.{Stays};
-ghost use Rattle.wasm_bytes.specs.Answers.{Gives, Reads, result_now};
+ghost use Rattle.wasm_bytes.specs.calls.Answers.{Gives, Reads, result_now};
 ghost use Rattle.dwarf_bytes.specs.Items.{item_or_none, is_zero};
 ghost use Rattle.dwarf_info.specs.Sections.{greatest_section};
 ghost use Rattle.dwarf_info.specs.Entries.{root_attributes};
 ghost use Rattle.dwarf_info.specs.inner.Contexts.{IsIndex};
-ghost use Rattle.dwarf_info.specs.inner.Keeping.{Keeps};
+ghost use Rattle.dwarf_info.specs.calls.Keeping.{Keeps};
 ghost use Rattle.dwarf_info.specs.Units.{rooted_item, padding_item, body_item, unit_item, whole_unit};
 
 use crate::context::UnitContext;

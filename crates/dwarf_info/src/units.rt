@@ -1,7 +1,7 @@
 //! The units of a section.
 
 ghost use Rattle.std.specs.Prelude.{◌≡◌, ℕ, IfSome, option_and_then};
-ghost use Rattle.dwarf_info.specs.EntryPlaces.{IsEntryAt, first_at, entry_there, place_among};
+ghost use Rattle.dwarf_info.specs.calls.EntryPlaces.{IsEntryAt, first_at, entry_there, place_among};
 ghost use Rattle.dwarf_info.specs.inner.Settling.{placed};
 
 use crate::entry::UnitAnswer;
@@ -20,7 +20,7 @@ impl<'a> Model for Units<'a> {
     ghost use Rattle.std.specs.Prelude.{◌≡◌, ℕ, List};
     ghost use Rattle.dwarf_info.specs.declared.entry.UnitAnswer.{UnitAnswer};
     ghost use Rattle.dwarf_info.specs.inner.Settling.{placed};
-    ghost use Rattle.dwarf_info.specs.EntryPlaces.{place_among};
+    ghost use Rattle.dwarf_info.specs.calls.EntryPlaces.{place_among};
 
     ghost Value = { List UnitAnswer };
 

@@ -3,11 +3,11 @@
 ghost use Rattle.std.specs.Prelude.{◌≡◌, ◌+◌, ◌<◌, ◌^◌, OnOk, IfOk};
 ghost use Rattle.wasm_bytes.specs.Place.{Stays};
 ghost use Rattle.wasm_bytes.specs.Reading.{◌▷◌, run_item};
-ghost use Rattle.wasm_bytes.specs.Answers.{Reads};
+ghost use Rattle.wasm_bytes.specs.calls.Answers.{Reads};
 ghost use Rattle.dwarf_bytes.specs.Items.{meaning_item};
 ghost use Rattle.dwarf_info.specs.Values.{refers_to, meant, width_item, plain_item, named_item, value_item, slot_item};
 ghost use Rattle.dwarf_info.specs.inner.Contexts.{seen};
-ghost use Rattle.dwarf_info.specs.inner.Sizes.{IsWidth, IsNumber, IsSized, Fits};
+ghost use Rattle.dwarf_info.specs.calls.Sizes.{IsWidth, IsNumber, IsSized, Fits};
 
 use crate::context::UnitContext;
 use crate::entry::{AttrValue, Attribute};

@@ -2,14 +2,14 @@
 
 ghost use Rattle.std.specs.Prelude.{◌≡◌, ◌≤◌, ℕ, length, Option, option_map, IfOk, OnOk, IfSome};
 ghost use Rattle.wasm_bytes.specs.Place.{Stays};
-ghost use Rattle.wasm_bytes.specs.Answers.{Reads, Gives};
+ghost use Rattle.wasm_bytes.specs.calls.Answers.{Reads, Gives};
 ghost use Rattle.dwarf_info.specs.declared.form.IndexTable.{IndexTable};
 ghost use Rattle.dwarf_info.specs.declared.entry.AttrValue.{AttrValue};
 ghost use Rattle.dwarf_bytes.specs.Items.{item_or_none, read_at};
 ghost use Rattle.dwarf_info.specs.Sections.{SectionBytes5, greatest_section};
 ghost use Rattle.dwarf_info.specs.Forms.{form_of};
 ghost use Rattle.dwarf_info.specs.Units.{Version, Versions, body_item};
-ghost use Rattle.dwarf_info.specs.inner.Sizes.{IsSized};
+ghost use Rattle.dwarf_info.specs.calls.Sizes.{IsSized};
 
 use crate::entry::{AttrValue, Attribute, Unit};
 use crate::form::{Form, IndexTable, Shape};

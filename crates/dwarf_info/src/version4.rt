@@ -6,8 +6,8 @@ ghost use Rattle.dwarf_info.specs.Forms.{forms4, form_of};
 ghost use Rattle.dwarf_info.specs.Version4.{slot_of, shape_in, header4_item, shapes4_item, version4, only4};
 ghost use Rattle.dwarf_info.specs.Sections.{SectionBytes5};
 ghost use Rattle.dwarf_info.specs.inner.Contexts.{no_index};
-ghost use Rattle.dwarf_info.specs.inner.Keeping.{Keeps};
-ghost use Rattle.dwarf_info.specs.inner.Sizes.{IsSized};
+ghost use Rattle.dwarf_info.specs.calls.Keeping.{Keeps};
+ghost use Rattle.dwarf_info.specs.calls.Sizes.{IsSized};
 
 use crate::entry::{AttrValue, Attribute, Unit};
 use crate::form::{

@@ -7,8 +7,8 @@ use Rattle.std.proofs.lemmas.Bool.{lt-ltb, le-ltb, ne_eqb}
 use Rattle.std.proofs.lemmas.List.{append-nil}
 use Rattle.std.proofs.lemmas.List.Elements.{filter-append}
 use Rattle.dwarf_info.specs.declared.entry.Entry.{Entry}
-use Rattle.dwarf_info.specs.Trees.{Siblings, none, entry, Tree, written_at, written}
-use Rattle.dwarf_laws.specs.Inside.{deeper, insides, nodes_at, nodes, siblings_at}
+use Rattle.dwarf_info.specs.calls.Trees.{Siblings, none, entry, Tree, written_at, written}
+use Rattle.dwarf_laws.specs.calls.Inside.{deeper, insides, nodes_at, nodes, siblings_at}
 use Rattle.pm_text.proofs.Lists.{take_first}
 
 -- ---- what is taken in front

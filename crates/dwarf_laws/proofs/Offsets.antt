@@ -10,11 +10,11 @@ use Rattle.dwarf_info.specs.declared.entry.UnitAnswer.{UnitAnswer}
 use Rattle.dwarf_info.specs.declared.entry.UnitAnswer.TheVariants.{Tree as TreeOf, Unreadable}
 use Rattle.dwarf_info.specs.Sections.{SectionBytes, SectionBytes5, without5}
 use Rattle.dwarf_info.specs.Values.{Context}
-use Rattle.dwarf_info.specs.Trees.{Siblings, none, entry, Tree, written_at, written}
+use Rattle.dwarf_info.specs.calls.Trees.{Siblings, none, entry, Tree, written_at, written}
 use Rattle.dwarf_info.specs.Units.{context, entries_in, offsets_of, settled_entry, settled_answer}
-use Rattle.dwarf_info.specs.Grammar.{Grammars, children_if, entry_with, siblings, tree, unit, answer, answers, IsUnits}
-use Rattle.dwarf_info.specs.Grammar4.{grammars4, IsUnits4}
-use Rattle.dwarf5_info.specs.Grammar5.{grammars5, IsUnits5}
+use Rattle.dwarf_info.specs.calls.Grammar.{Grammars, children_if, entry_with, siblings, tree, unit, answer, answers, IsUnits}
+use Rattle.dwarf_info.specs.calls.Grammar4.{grammars4, IsUnits4}
+use Rattle.dwarf5_info.specs.calls.Grammar5.{grammars5, IsUnits5}
 
 -- Each is past the one before it, and all are from low on and below high.
 abbrev Ascend : ℕ → List ℕ → ℕ → Type 0

@@ -4,10 +4,10 @@ use Rattle.wasm_bytes.specs.Laws.{IsBytes}
 use Rattle.dwarf_info.specs.declared.entry.UnitAnswer.{UnitAnswer}
 use Rattle.dwarf_info.specs.Sections.{SectionBytes, SectionBytes5}
 use Rattle.dwarf_info.specs.Version4.{units4}
-use Rattle.dwarf_info.specs.Grammar4.{IsUnits4}
+use Rattle.dwarf_info.specs.calls.Grammar4.{IsUnits4}
 use Rattle.dwarf_info.proofs.UnitLaws4.{units4_spelled, units4_once}
 use Rattle.dwarf5_info.specs.Version5.{units5}
-use Rattle.dwarf5_info.specs.Grammar5.{IsUnits5}
+use Rattle.dwarf5_info.specs.calls.Grammar5.{IsUnits5}
 use Rattle.dwarf5_info.proofs.UnitLaws5.{units5_spelled, units5_once}
 
 pub some_units : (s : SectionBytes) → IsBytes s.abbreviations → IsBytes s.info → (units : List UnitAnswer) × IsUnits4 s units

@@ -2,11 +2,11 @@
 use Rattle.std.proofs.Common.{◌≡◌, ℕ, ◌↔◌, List, length, Option, Some, None, sym, ◌∙◌, inl, inr}
 use Rattle.std.proofs.lemmas.Bool.{cases_lt}
 use Rattle.wasm_bytes.specs.Laws.{IsBytes}
-use Rattle.dwarf_bytes.specs.Spelled.{StandsAt}
+use Rattle.dwarf_bytes.specs.calls.Spelled.{StandsAt}
 use Rattle.dwarf_bytes.proofs.Standing.{read_stands, stands_read}
 use Rattle.dwarf_abbrev.specs.declared.abbrev.Abbrev.{Abbrev}
 use Rattle.dwarf_abbrev.specs.Reading.{abbrevs_item, abbrevs_at}
-use Rattle.dwarf_abbrev.specs.Grammar.{abbrevs}
+use Rattle.dwarf_abbrev.specs.calls.Grammar.{abbrevs}
 use Rattle.dwarf_abbrev.proofs.Exact.{abbrevs_exact, abbrevs_past}
 use Rattle.dwarf_loc.proofs.Standing.{none_read}
 

@@ -2,17 +2,17 @@
 
 ghost use Rattle.std.specs.Prelude.{◌≡◌, ◌<◌, ◌↔◌, ℕ, List, length, get_or, filter, ◌==◌, Some, None};
 ghost use Rattle.wasm_bytes.specs.Laws.{IsBytes};
-ghost use Rattle.dwarf_bytes.specs.Spelled.{StandsAt};
+ghost use Rattle.dwarf_bytes.specs.calls.Spelled.{StandsAt};
 ghost use Rattle.dwarf_abbrev.specs.declared.abbrev.Abbrev.{Abbrev};
 ghost use Rattle.dwarf_abbrev.specs.Reading.{abbrevs_at};
-ghost use Rattle.dwarf_abbrev.specs.Grammar.{abbrevs};
+ghost use Rattle.dwarf_abbrev.specs.calls.Grammar.{abbrevs};
 ghost use Rattle.dwarf_info.specs.declared.entry.UnitAnswer.{UnitAnswer};
 ghost use Rattle.dwarf_info.specs.Sections.{SectionBytes, SectionBytes5};
-ghost use Rattle.dwarf_info.specs.Trees.{Siblings, Tree, written_at, written};
+ghost use Rattle.dwarf_info.specs.calls.Trees.{Siblings, Tree, written_at, written};
 ghost use Rattle.dwarf_info.specs.Units.{offsets_of};
-ghost use Rattle.dwarf_info.specs.Grammar4.{IsUnits4};
-ghost use Rattle.dwarf5_info.specs.Grammar5.{IsUnits5};
-ghost use Rattle.dwarf_laws.specs.Inside.{insides, nodes, siblings_at};
+ghost use Rattle.dwarf_info.specs.calls.Grammar4.{IsUnits4};
+ghost use Rattle.dwarf5_info.specs.calls.Grammar5.{IsUnits5};
+ghost use Rattle.dwarf_laws.specs.calls.Inside.{insides, nodes, siblings_at};
 
 /// A table of abbreviations is read at an offset exactly where the section spells it there (DWARF 4
 /// section 7.5.3), and none is read exactly where it spells none.

@@ -4,7 +4,7 @@ use Rattle.std.specs.Prelude.{fold}
 use Rattle.wasm_bytes.specs.Place.{Place, Read}
 use Rattle.wasm_bytes.specs.Reading.{◌>>=◌, mapped, until_end, to_end_item, steps_until_end, steps_to_end}
 use Rattle.wasm_bytes.specs.Laws.{got, failed}
-use Rattle.wasm_bytes.specs.Answers.{Fails}
+use Rattle.wasm_bytes.specs.calls.Answers.{Fails}
 use Rattle.wasm_bytes.specs.declared.faults.ItemFault.{ItemFault}
 use Rattle.wasm_bytes.specs.declared.faults.ItemFault.TheVariants as faults
 use Rattle.wasm_bytes.proofs.Loops.{first}

@@ -5,7 +5,7 @@ use Rattle.std.specs.List.{AllByRecursion, list_any}
 use Rattle.dwarf_line.specs.declared.lines.Row.{Row}
 use Rattle.dwarf_line.specs.declared.lines.Sequence.{Sequence}
 use Rattle.dwarf_line.specs.Place.{Holds, IsPlace, holds, holds_from, nearest, place}
-use Rattle.dwarf_line.specs.inner.Held.{held, held_from, is_held}
+use Rattle.dwarf_line.specs.calls.Held.{held, held_from, is_held}
 use Rattle.dwarf_line.proofs.PlaceLaws.{place_is_computed, place_or_none, none_found, no_place}
 
 held_by : (first last a : ℕ) (s t : Bool) → (not s && (t && (leb first a && ltb a last))) ≡ is_held a (if not s && t then Some (first, last) else None)

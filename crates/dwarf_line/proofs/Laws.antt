@@ -2,13 +2,13 @@
 use Rattle.std.proofs.Common.{◌≡◌, ℕ, List, [], ◌∷◌, length, Option, Some, None, Ok, leb, refl, ap, subst, inl, inr, arith, length-append}
 use Rattle.std.specs.Prelude.{◌&&◌}
 use Rattle.wasm_bytes.specs.Reading.{◌>>=◌, ◌⊗◌, ◌▷◌, checked}
-use Rattle.wasm_bytes.specs.Spelling.{Spellings, ◌&◌, pair, image, passing, items, any}
+use Rattle.wasm_bytes.specs.calls.Spelling.{Spellings, ◌&◌, pair, image, passing, items, any}
 use Rattle.wasm_bytes.specs.Laws.{IsExact, IsTail, TakesBytes}
 use Rattle.wasm_bytes.proofs.Exact.{image_exact, then_exact, mapped_exact, same_exact, leads_exact, checked_exact}
 use Rattle.wasm_bytes.proofs.ExactBlocks.{leads_tail, image_tail, closed_tail}
 use Rattle.wasm_bytes.proofs.ExactLists.{to_end_tail}
 use Rattle.dwarf_bytes.specs.Items.{number_item, is_unit_length, counted_block_item, unit_block_item}
-use Rattle.dwarf_bytes.specs.Spelled.{number, counted}
+use Rattle.dwarf_bytes.specs.calls.Spelled.{number, counted}
 use Rattle.dwarf_bytes.specs.Format.{Format, made, text, unless_empty, text_or_end, done, fixed, spelled, read}
 use Rattle.dwarf_bytes.proofs.Exact.{number_exact, in_block_exact}
 use Rattle.dwarf_bytes.proofs.Fronts.{front_block_exact}
@@ -20,7 +20,7 @@ use Rattle.dwarf_line.specs.Parameters.{Parameters, parameters}
 use Rattle.dwarf_line.specs.Opcodes.{opcode}
 use Rattle.dwarf_line.specs.Header.{Layout, header_of, in_header, header_item, header_or_none, file, file_of, tables_of, tables_item, old_layout, layout}
 use Rattle.dwarf_line.specs.Program.{said, opcodes_item, program_item, lines_item}
-use Rattle.dwarf_line.specs.Grammar.{header, opcodes, program, versioned, line_program, tables, lines}
+use Rattle.dwarf_line.specs.calls.Grammar.{header, opcodes, program, versioned, line_program, tables, lines}
 use Rattle.wasm_leb.proofs.Tools.{chosen}
 
 -- ---- the header

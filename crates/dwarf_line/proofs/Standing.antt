@@ -5,14 +5,14 @@ use Rattle.wasm_bytes.specs.Place.{Place, Read}
 use Rattle.wasm_bytes.specs.Reading.{run_item}
 use Rattle.wasm_bytes.specs.Laws.{IsBytes, IsExact}
 use Rattle.dwarf_bytes.specs.Items.{number_item, unit_block_item, read_at}
-use Rattle.dwarf_bytes.specs.Answers.{ReadsThere}
+use Rattle.dwarf_bytes.specs.calls.Answers.{ReadsThere}
 use Rattle.dwarf_bytes.specs.declared.faults.ReadFault.{ReadFault}
 use Rattle.dwarf_bytes.specs.declared.faults.ReadFault.TheVariants.{Unreadable, NoMemory}
 use Rattle.dwarf_bytes.proofs.Standing.{read_stands, stands_read}
 use Rattle.dwarf_line.specs.declared.lines.Lines.{Lines}
 use Rattle.dwarf_line.specs.Header.{Layout}
 use Rattle.dwarf_line.specs.Program.{lines_item, lines_at}
-use Rattle.dwarf_line.specs.Standing.{IsWhatStands}
+use Rattle.dwarf_line.specs.calls.Standing.{IsWhatStands}
 
 pub stands_alone : {A : Type 0} (S : A → ℕ → List ℕ → Type 0) (f : Place → Read A) → IsExact S f → (section : List ℕ) (at : ℕ) → IsBytes section → (at ≤ length section) ⊎ (read_at f section at ≡ None)
     → (r : Result A ReadFault) → ReadsThere at r (read_at f section at) → IsWhatStands S section at r

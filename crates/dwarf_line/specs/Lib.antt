@@ -3,8 +3,7 @@ pub mod Opcodes
 pub mod Rows
 pub mod Header
 pub mod Program
-pub mod Grammar
 pub mod Holding
 pub mod Place
-pub mod Standing
 pub mod inner
+pub mod calls

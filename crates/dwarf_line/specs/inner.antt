@@ -1,4 +1,3 @@
 pub mod Running
 pub mod Halving
 pub mod Starts
-pub mod Held

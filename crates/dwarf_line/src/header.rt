@@ -2,7 +2,7 @@
 
 ghost use Rattle.std.specs.Prelude.{◌≡◌, ℕ, Option, OnOk};
 ghost use Rattle.wasm_bytes.specs.Place.{Moves, Stays};
-ghost use Rattle.wasm_bytes.specs.Answers.{Gives};
+ghost use Rattle.wasm_bytes.specs.calls.Answers.{Gives};
 ghost use Rattle.dwarf_bytes.specs.Format.{read};
 ghost use Rattle.dwarf_line.specs.Header.{Layout, header_or_none, tables_item, layout, file};
 

@@ -11,7 +11,6 @@ mod program;
 mod rows;
 mod sequences;
 
-pub use causes::NoMemory;
 pub use dwarf_bytes::ReadFault;
 pub use header::{Header, Tables, Versions, old_header};
 pub use lines::{Directories, LineFile, LineFiles, Lines, Row, Sequence};

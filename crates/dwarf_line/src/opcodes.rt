@@ -2,7 +2,7 @@
 
 ghost use Rattle.std.specs.Prelude.{OnOk};
 ghost use Rattle.wasm_bytes.specs.Place.{Moves, Stays};
-ghost use Rattle.wasm_bytes.specs.Answers.{Reads};
+ghost use Rattle.wasm_bytes.specs.calls.Answers.{Reads};
 ghost use Rattle.dwarf_bytes.specs.Format.{read, made, number, sized};
 ghost use Rattle.dwarf_line.specs.Opcodes.{skipping, file_behind, extended, standard, opcode};
 ghost use Rattle.dwarf_line.specs.declared.opcodes.Opcode.TheVariants.{Passed};

@@ -2,7 +2,7 @@
 
 ghost use Rattle.std.specs.Prelude.{◌≡◌, ◌≢◌, ◌+◌, ◌-◌, ◌*◌, ℤ, pos, ◌+ℤ◌, ◌∷◌, [], slice_index_or, if◌then◌else◌, OnOk};
 ghost use Rattle.wasm_bytes.specs.Place.{Moves};
-ghost use Rattle.wasm_bytes.specs.Answers.{Reads};
+ghost use Rattle.wasm_bytes.specs.calls.Answers.{Reads};
 ghost use Rattle.dwarf_bytes.specs.Format.{read};
 ghost use Rattle.dwarf_line.specs.Parameters.{parameters};
 ghost use Rattle.dwarf_line.specs.Rows.{low, address_advance, line_advance};

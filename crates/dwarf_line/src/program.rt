@@ -1,11 +1,11 @@
 //! Reading line programs (DWARF 4 section 6.2.4).
 
 ghost use Rattle.std.specs.Prelude.{◌≡◌, ◌≤◌, length};
-ghost use Rattle.wasm_bytes.specs.Answers.{Gives};
-ghost use Rattle.dwarf_bytes.specs.Answers.{ReadsThere};
+ghost use Rattle.wasm_bytes.specs.calls.Answers.{Gives};
+ghost use Rattle.dwarf_bytes.specs.calls.Answers.{ReadsThere};
 ghost use Rattle.dwarf_line.specs.Header.{layout};
-ghost use Rattle.dwarf_line.specs.Grammar.{lines};
-ghost use Rattle.dwarf_line.specs.Standing.{IsWhatStands};
+ghost use Rattle.dwarf_line.specs.calls.Grammar.{lines};
+ghost use Rattle.dwarf_line.specs.calls.Standing.{IsWhatStands};
 ghost use Rattle.dwarf_line.specs.Program.{opcodes_item, program_item, lines_item, lines_at};
 
 use crate::header::{Header, Versions, old_header};

@@ -5,7 +5,7 @@ ghost use Rattle.std.specs.Option.{option_copied, option_to_list};
 ghost use Rattle.dwarf_line.specs.declared.sequences.Start.{Start};
 ghost use Rattle.dwarf_line.specs.Holding.{holds};
 ghost use Rattle.dwarf_line.specs.inner.Halving.{last_reached, ascends_from};
-ghost use Rattle.dwarf_line.specs.inner.Held.{held};
+ghost use Rattle.dwarf_line.specs.calls.Held.{held};
 ghost use Rattle.dwarf_line.specs.inner.Starts.{start_of, starts_from, apart_from, sought};
 
 use crate::lines::Sequence;

@@ -5,13 +5,13 @@ use Rattle.std.proofs.lemmas.Bool.{eqb-true, and_parts}
 use Rattle.std.proofs.lemmas.List.{append-nil}
 use Rattle.wasm_bytes.specs.Place.{Place, Read}
 use Rattle.wasm_bytes.specs.Reading.{◌⊗◌, ◌▷◌, mapped, done_item, here_item, run_item}
-use Rattle.wasm_bytes.specs.Spelling.{◌&◌, leads, image, only, here, run}
-use Rattle.wasm_bytes.specs.Spelling.{pair as both}
+use Rattle.wasm_bytes.specs.calls.Spelling.{◌&◌, leads, image, only, here, run}
+use Rattle.wasm_bytes.specs.calls.Spelling.{pair as both}
 use Rattle.wasm_bytes.specs.Laws.{IsExact, TakesBytes}
 use Rattle.wasm_bytes.proofs.Exact.{same_exact, leads_exact, image_exact, then_exact, done_exact, here_exact}
 use Rattle.wasm_bytes.proofs.ExactItems.{run_exact}
 use Rattle.dwarf_bytes.specs.Items.{number_item}
-use Rattle.dwarf_bytes.specs.Spelled.{number}
+use Rattle.dwarf_bytes.specs.calls.Spelled.{number}
 use Rattle.dwarf_bytes.proofs.Lists.{ended_exact}
 use Rattle.dwarf_bytes.proofs.Exact.{number_exact}
 use Rattle.dwarf_loc.specs.declared.contents.Span.{Span}
@@ -19,7 +19,7 @@ use Rattle.dwarf_loc.specs.declared.entry.ListEntry.{ListEntry}
 use Rattle.dwarf_loc.specs.declared.entry.ListEntry.TheVariants.{Base, FromBase, Between, Lasting, Otherwise}
 use Rattle.dwarf_loc.specs.Contents.{span_of, span_item, nothing_item}
 use Rattle.dwarf_loc.specs.Version4.{is_selection, behind_pair, entry4_item, list4_item, expression4_item}
-use Rattle.dwarf_loc.specs.Grammar.{span, expression4, entry4, list4}
+use Rattle.dwarf_loc.specs.calls.Grammar.{span, expression4, entry4, list4}
 use Rattle.wasm_bytes.proofs.Takes.{front_takes}
 
 -- ---- each entry takes bytes

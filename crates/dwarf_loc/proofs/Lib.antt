@@ -1,3 +1,5 @@
 pub mod Exact
 pub mod Sought
 pub mod Standing
+pub mod Numbers
+pub mod Exact5

@@ -7,8 +7,8 @@ use Rattle.wasm_bytes.specs.Place.{Place, Read}
 use Rattle.wasm_bytes.specs.Laws.{IsBytes, place, IsExact}
 use Rattle.wasm_bytes.proofs.Places.{place_is}
 use Rattle.dwarf_bytes.specs.Items.{ended_from, ended_item, read_at}
-use Rattle.dwarf_bytes.specs.Spelled.{StandsAt}
-use Rattle.dwarf_bytes.specs.Answers.{found_at}
+use Rattle.dwarf_bytes.specs.calls.Spelled.{StandsAt}
+use Rattle.dwarf_bytes.specs.calls.Answers.{found_at}
 use Rattle.dwarf_bytes.specs.declared.faults.ReadFault.TheVariants.{Unreadable}
 use Rattle.dwarf_bytes.proofs.Standing.{stands_read, read_stands}
 

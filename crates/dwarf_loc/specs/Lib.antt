@@ -1,5 +1,8 @@
 pub mod Lists
 pub mod Contents
 pub mod Version4
-pub mod Grammar
 pub mod inner
+pub mod Kinds
+pub mod Addresses
+pub mod Version5
+pub mod calls

@@ -2,7 +2,7 @@
 
 ghost use Rattle.std.specs.Prelude.{◌≡◌, OnOk};
 ghost use Rattle.wasm_bytes.specs.Place.{Moves};
-ghost use Rattle.wasm_bytes.specs.Answers.{Reads};
+ghost use Rattle.wasm_bytes.specs.calls.Answers.{Reads};
 ghost use Rattle.dwarf_bytes.specs.Items.{number_item};
 
 use dwarf_bytes::number;

@@ -3,9 +3,9 @@
 ghost use Rattle.std.specs.Prelude.{ℕ, ◌≡◌, ◌&&◌, ◌<◌, Option, option_map, OnOk, nat_le, nat_lt};
 ghost use Rattle.wasm_bytes.specs.Place.{Place, Read, Moves};
 ghost use Rattle.wasm_bytes.specs.Reading.{mapped};
-ghost use Rattle.wasm_bytes.specs.Answers.{Reads};
+ghost use Rattle.wasm_bytes.specs.calls.Answers.{Reads};
 ghost use Rattle.dwarf_bytes.specs.Items.{ended_item, read_at};
-ghost use Rattle.dwarf_bytes.specs.Answers.{found_at};
+ghost use Rattle.dwarf_bytes.specs.calls.Answers.{found_at};
 ghost use Rattle.dwarf_loc.specs.declared.entry.ListEntry.{ListEntry as Listed};
 ghost use Rattle.dwarf_loc.specs.Lists.{held, holds, chosen};
 ghost use Rattle.dwarf_loc.specs.inner.Search.{first_of, holding, taken};

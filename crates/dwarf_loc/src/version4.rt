@@ -2,17 +2,17 @@
 
 ghost use Rattle.std.specs.Prelude.{◌≡◌, ◌↔◌, List, Ok, Err, is_some, OnOk};
 ghost use Rattle.wasm_bytes.specs.Place.{Moves};
-ghost use Rattle.wasm_bytes.specs.Answers.{Reads};
+ghost use Rattle.wasm_bytes.specs.calls.Answers.{Reads};
 ghost use Rattle.wasm_bytes.specs.Reading.{◌⊗◌};
 ghost use Rattle.dwarf_bytes.specs.Items.{number_item};
-ghost use Rattle.dwarf_bytes.specs.Answers.{found_at};
+ghost use Rattle.dwarf_bytes.specs.calls.Answers.{found_at};
 ghost use Rattle.dwarf_loc.specs.Version4.{expression4_item, entry4_item, location4, range4};
 ghost use Rattle.dwarf_bytes.specs.declared.faults.ReadFault.TheVariants.{Unreadable};
 ghost use Rattle.dwarf_loc.specs.declared.entry.ListEntry.{ListEntry as Listed};
 ghost use Rattle.dwarf_loc.specs.declared.contents.Span.{Span as SpanOf};
 ghost use Rattle.dwarf_loc.specs.Lists.{chosen};
 ghost use Rattle.dwarf_loc.specs.Contents.{nothing_item};
-ghost use Rattle.dwarf_loc.specs.Grammar.{IsLocations, IsRanges};
+ghost use Rattle.dwarf_loc.specs.calls.Grammar.{IsLocations, IsRanges};
 
 use crate::address::read_address;
 use crate::contents::{Contents, Nothing, Span, read_span};

@@ -8,8 +8,8 @@ use Rattle.dwarf_info.specs.Sections.{SectionBytes5}
 use Rattle.dwarf_entries.specs.Standing.{Standing}
 use Rattle.dwarf_scopes.specs.Ranges.{bounds_of, is_between, in_list, holds, holds_by}
 use Rattle.dwarf_scopes.specs.declared.holders.Holders.{Holders}
-use Rattle.dwarf_scopes.specs.inner.Steps.{answer}
-use Rattle.dwarf_scopes.specs.inner.Numbered.{is_within, passes, first_or}
+use Rattle.dwarf_scopes.specs.calls.Steps.{answer}
+use Rattle.dwarf_scopes.specs.calls.Numbered.{is_within, passes, first_or}
 use Rattle.dwarf_scopes.specs.inner.Holding.{bounds_in, is_listed, AreHolders}
 use Rattle.dwarf_scopes.proofs.NumberLaws.{first_numbered, found_first}
 

@@ -4,8 +4,8 @@ use Rattle.std.specs.Prelude.{find, slice_get, option_and_then, if◌then◌else
 use Rattle.std.specs.Option.{option_or}
 use Rattle.std.specs.List.{position_from, list_any}
 use Rattle.dwarf_scopes.specs.Ranges.{is_between}
-use Rattle.dwarf_scopes.specs.inner.Steps.{first_in}
-use Rattle.dwarf_scopes.specs.inner.Numbered.{with_number, ranges_from, is_within, numbers_from, passes, is_before, first_or}
+use Rattle.dwarf_scopes.specs.calls.Steps.{first_in}
+use Rattle.dwarf_scopes.specs.calls.Numbered.{with_number, ranges_from, is_within, numbers_from, passes, is_before, first_or}
 use Rattle.dwarf_scopes.proofs.StepLaws.{first_in_append}
 
 -- ---- bounds as ranges

@@ -7,7 +7,7 @@ use Rattle.std.proofs.lemmas.List.{drop_all, take_rest}
 use Rattle.std.proofs.lemmas.List.Folds.{find-append}
 use Rattle.dwarf_scopes.specs.declared.steps.Range.{Range}
 use Rattle.dwarf_scopes.specs.declared.steps.Step.{Step}
-use Rattle.dwarf_scopes.specs.inner.Steps.{is_in, first_in, answer, AtMost, Descend, AreSteps, merged_with, merged}
+use Rattle.dwarf_scopes.specs.calls.Steps.{is_in, first_in, answer, AtMost, Descend, AreSteps, merged_with, merged}
 use Rattle.dwarf_info.proofs.FindLaws.{or_none}
 
 -- ---- what two tables answer

@@ -3,7 +3,7 @@
 ghost use Rattle.std.specs.Prelude.{◌≡◌, IfOk, find, slice_get, option_and_then};
 ghost use Rattle.dwarf_scopes.specs.Ranges as ranges;
 ghost use Rattle.dwarf_scopes.specs.inner.Holding.{bounds_in, is_listed, AreHolders};
-ghost use Rattle.dwarf_scopes.specs.inner.Numbered.{ranges_from, numbers_from, passes, is_before, first_or};
+ghost use Rattle.dwarf_scopes.specs.calls.Numbered.{ranges_from, numbers_from, passes, is_before, first_or};
 
 use crate::ranges::{bounds, holds};
 use crate::steps::{Range, Steps};

@@ -1,7 +1,7 @@
 //! The lists of a unit by its version.
 
 ghost use Rattle.std.specs.Prelude.{◌≡◌};
-ghost use Rattle.dwarf_bytes.specs.Answers.{found_at};
+ghost use Rattle.dwarf_bytes.specs.calls.Answers.{found_at};
 ghost use Rattle.dwarf_scopes.specs.Lists as lists;
 
 use dwarf_bytes::ReadFault;

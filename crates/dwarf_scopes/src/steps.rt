@@ -1,7 +1,7 @@
 //! Which of many ranges of addresses holds an address first, in logarithmic time.
 
 ghost use Rattle.std.specs.Prelude.{◌≡◌, IfOk};
-ghost use Rattle.dwarf_scopes.specs.inner.Steps as definitions;
+ghost use Rattle.dwarf_scopes.specs.calls.Steps as definitions;
 
 use causes::NoMemory;
 use std::alloc::Global;
@@ -34,7 +34,7 @@ pub struct Steps {
 impl Model for Steps {
     ghost use Rattle.std.specs.Prelude.{List};
     ghost use Rattle.dwarf_scopes.specs.declared.steps.Step.{Step};
-    ghost use Rattle.dwarf_scopes.specs.inner.Steps.{Descend};
+    ghost use Rattle.dwarf_scopes.specs.calls.Steps.{Descend};
 
     ghost Value = { List Step };
 

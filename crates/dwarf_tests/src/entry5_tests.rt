@@ -1,8 +1,7 @@
 //! Lists by hand, read in the same way by llvm-dwarfdump, with addresses and what they say of them.
 
 use dwarf_bytes::ReadFault;
-use dwarf_loc::Span;
-use dwarf5_lists::{AddressTable, location_at, range_holds};
+use dwarf_loc::{AddressTable, Span, loclist_location, rnglist_holds};
 
 // Four bytes in front of a table of 10, 64 and FFFFFFF0.
 const ADDRESSES: [u8; 16] = [
@@ -52,7 +51,7 @@ const IN_RANGES: [u32; 7] = [16, 99, 103, 0xffff_ffff, 201, 301, 401];
 fn locations_are_found(rt: HostRuntime) {
     let addresses = AddressTable::new(&ADDRESSES, Some(4));
     for (at, base, address, from, size) in FOUND {
-        let span = location_at(&LOCATIONS, &addresses, at, base, address);
+        let span = loclist_location(&LOCATIONS, &addresses, at, base, address);
         assert!(rt;
             matches!(span, Ok(Some(Span { at: start, len })) if start == from && len == size),
             "{at} {address}"
@@ -61,7 +60,7 @@ fn locations_are_found(rt: HostRuntime) {
     for address in NOT_HELD {
         assert!(rt;
             matches!(
-                location_at(&LOCATIONS, &addresses, 10, 0, address),
+                loclist_location(&LOCATIONS, &addresses, 10, 0, address),
                 Ok(None)
             ),
             "{address}"
@@ -73,7 +72,7 @@ fn locations_are_found(rt: HostRuntime) {
 fn cut_lists_are_refused(rt: HostRuntime) {
     let addresses = AddressTable::new(&ADDRESSES, Some(4));
     for at in CUT {
-        let span = location_at(&LOCATIONS, &addresses, at, 0, 0);
+        let span = loclist_location(&LOCATIONS, &addresses, at, 0, 0);
         assert!(rt;
             matches!(span, Err(ReadFault::Unreadable { at: start }) if start == at),
             "{at}"
@@ -81,14 +80,14 @@ fn cut_lists_are_refused(rt: HostRuntime) {
     }
     assert!(rt;
         matches!(
-            range_holds(&RANGES, &addresses, 35, 0, 0),
+            rnglist_holds(&RANGES, &addresses, 35, 0, 0),
             Err(ReadFault::Unreadable { at: 35 })
         )
     );
     let other = AddressTable::new(&ADDRESSES, Some(8));
-    assert!(rt; matches!(location_at(&LOCATIONS, &other, 10, 0, 100), Err(_)));
+    assert!(rt; matches!(loclist_location(&LOCATIONS, &other, 10, 0, 100), Err(_)));
     let none = AddressTable::new(&ADDRESSES, None);
-    assert!(rt; matches!(location_at(&LOCATIONS, &none, 10, 0, 100), Err(_)));
+    assert!(rt; matches!(loclist_location(&LOCATIONS, &none, 10, 0, 100), Err(_)));
 }
 
 #[test]
@@ -96,13 +95,13 @@ fn ranges_are_held(rt: HostRuntime) {
     let addresses = AddressTable::new(&ADDRESSES, Some(4));
     for address in IN_RANGES {
         assert!(rt;
-            matches!(range_holds(&RANGES, &addresses, 0, 0, address), Ok(true)),
+            matches!(rnglist_holds(&RANGES, &addresses, 0, 0, address), Ok(true)),
             "{address}"
         );
     }
     for address in NOT_HELD {
         assert!(rt;
-            matches!(range_holds(&RANGES, &addresses, 0, 0, address), Ok(false)),
+            matches!(rnglist_holds(&RANGES, &addresses, 0, 0, address), Ok(false)),
             "{address}"
         );
     }

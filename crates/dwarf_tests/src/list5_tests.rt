@@ -4,11 +4,9 @@ ghost use Rattle.dwarf_info.specs.Sections.{IsReadable5};
 
 use dwarf_bytes::ReadFault;
 use dwarf_info::{Sections, Sections5, Unit, UnitAnswer, Units};
-use dwarf_loc::Span;
+use dwarf_loc::{AddressTable, Span};
 use dwarf_scopes::{location_in, range_in};
-use dwarf5_expr::{plain_expr, with_addresses};
-use dwarf5_info::read_units5;
-use dwarf5_lists::AddressTable;
+use dwarf5_info::{plain_expr, read_units5, with_addresses};
 use std::alloc::Global;
 
 // A unit of version 5 and one of version 4, whose roots have the low_pc 100 and the base 4 of

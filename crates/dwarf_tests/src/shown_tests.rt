@@ -12,9 +12,8 @@ use dwarf_info::Units;
 use linear_memory::Memory;
 use pm_text::Text;
 use std::alloc::Global;
-use var_eval::{Frame, Shown, push_variable, value_at};
+use var_eval::{Frame, Shown, push_variable, value_at, value_of};
 use var_path::parse_path;
-use var_shown::value_of;
 use wasm_syntax::Seen;
 
 // A module, and what is recorded of a frame in it.

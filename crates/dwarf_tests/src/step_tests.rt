@@ -9,8 +9,8 @@ use dwarf_info::Units;
 use dwarf_types::type_at;
 use linear_memory::Memory;
 use std::alloc::Global;
+use var_eval::{Part, chosen, walk};
 use var_path::{Path, parse_path};
-use var_steps::{Part, chosen, walk};
 use var_values::{Mark, Source};
 
 // Where a path leads.

@@ -9,7 +9,7 @@ use dwarf_types::type_at;
 use linear_memory::Memory;
 use pm_text::Text;
 use std::alloc::Global;
-use var_texts::{Place, push_value};
+use var_values::{Place, push_value};
 
 const ABBREV: [u8; 180] = [
     1, 17, 1, 0, 0, 2, 36, 0, 62, 11, 11, 11, 0, 0, 3, 19, 1, 11, 11, 0, 0, 4, 13, 0, 3, 8, 73, 17,

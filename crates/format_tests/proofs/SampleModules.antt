@@ -9,7 +9,7 @@ use Rattle.wasm_syntax.specs.declared.module.ModuleParts.{ModuleParts}
 use Rattle.wasm_syntax.specs.Module.{IsModule}
 use Rattle.wasm_syntax.specs.Tree.{stop, basic}
 use Rattle.wasm_leb.specs.Writing.{unsigned_bytes, unsigned_groups, signed_bytes, signed_groups}
-use Rattle.wasm_instructions.specs.Encoding.{encoding as instruction_bytes}
+use Rattle.wasm_format.specs.Encoding.{encoding as instruction_bytes}
 use Rattle.wasm_encode.specs.Encoding.{type_byte, value_type_bytes, function_type_bytes, expression_bytes, kind_byte, export_bytes, function_bytes, entry_bytes, declarations, front_sections, encoding}
 use Rattle.format_tests.specs.inner.Samples.{division}
 

@@ -2,15 +2,16 @@
 //! writes; offsets of refusals were worked out by hand.
 
 ghost use Rattle.std.specs.Prelude.{[]};
-ghost use Rattle.wasm_instructions.specs.Encoding.{IsInside};
+ghost use Rattle.wasm_format.specs.Encoding.{IsInside};
 
 use int_ops::{Binary, Compare, Narrow32, Narrow64, Unary};
+use pm_text::Items;
 use std::alloc::Global;
 use std::process::Abort;
 use std::test::Fail;
 use wasm_bytes::{ItemFault, Reader};
-use wasm_instructions::{Code, read_code, read_instr, write_instr};
-use wasm_syntax::{Basic, Convert, Instr, Items, Jump, Labels, Load, Sign, Store, ValType, Value};
+use wasm_format::{Code, read_code, read_instr, write_instr};
+use wasm_syntax::{Basic, Convert, Instr, Jump, Labels, Load, Sign, Store, ValType, Value};
 
 /// These bytes are written for the instruction, and it is read from them.
 fn assert_spelled(rt: &impl Abort, alloc: Global, code: Instr, bytes: &[u8]) -> Result<(), Fail>

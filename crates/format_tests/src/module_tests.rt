@@ -4,14 +4,15 @@ ghost use Rattle.std.specs.Prelude.{◌≡◌, ◌∷◌, [], IfOk};
 ghost use Rattle.format_tests.specs.inner.Samples.{division};
 
 use causes::NoMemory;
+use pm_text::{Items, Text};
 use std::alloc::Global;
 use std::process::Abort;
 use std::test::Fail;
 use wasm_decode::{DecodeFault, decode, function_names};
 use wasm_encode::encode;
 use wasm_syntax::{
-    Basic, Binary, Body, Export, ExportKind, FuncType, Instr, Items, Module, ModuleParts, Op,
-    Quantity, Text, ValType, same_code,
+    Basic, Binary, Body, Export, ExportKind, FuncType, Instr, Module, ModuleParts, Op, Quantity,
+    ValType, same_code,
 };
 
 /// A module whose one function, `div`, divides one parameter by the other.

@@ -4,7 +4,7 @@ use Rattle.wasm_syntax.specs.declared.value.Value.{Value}
 use Rattle.rewrite_bodies.specs.Slots.{Place, Ctx}
 use Rattle.rewrite_bodies.specs.Pieces.{const, fetch}
 use Rattle.rewrite_bodies.specs.Guards.{range_test}
-use Rattle.rewrite_code.specs.Writing.{Written, Emits}
+use Rattle.rewrite_code.specs.calls.Writing.{Written, Emits}
 
 pub const_at : {v w : Value} {a b : Written} → v ≡ w → Emits (const v) a b → Emits (const w) a b
 const_at {a = a} {b = b} e p = subst (λ v. Emits (const v) a b) e p

@@ -6,10 +6,10 @@ use Rattle.wasm_syntax.specs.declared.instruction.Basic.{Basic}
 use Rattle.rewrite_bodies.specs.Slots.{Place, Ctx}
 use Rattle.rewrite_bodies.specs.Pieces.{const, i32, call, fetch}
 use Rattle.rewrite_bodies.specs.Guards.{can_trap, guard}
-use Rattle.guard_laws.specs.Verdicts.{IsGuard, IsGuardOfUnreachable, IsGuardOfEntry}
-use Rattle.guard_laws.proofs.Verdicts.{guard_means, unreachable_means, entry_means}
-use Rattle.rewrite_code.specs.Writing.{Written, Emits}
-use Rattle.guard_insert.specs.Meaning.{Writes}
+use Rattle.rewrite_bodies.specs.calls.Verdicts.{IsGuard, IsGuardOfUnreachable, IsGuardOfEntry}
+use Rattle.rewrite_bodies.proofs.Verdicts.{guard_means, unreachable_means, entry_means}
+use Rattle.rewrite_code.specs.calls.Writing.{Written, Emits}
+use Rattle.guard_insert.specs.calls.Meaning.{Writes}
 
 abbrev Done : Type 0
 Done = Result (Unit {0}) NoMemory

@@ -3,13 +3,12 @@
 ghost use Rattle.std.specs.Prelude.{◌≡◌, ◌+◌, ◌/◌, ◌≤◌, OnOk};
 ghost use Rattle.wasm_syntax.specs.Access.{load_bits, store_bits};
 ghost use Rattle.rewrite_bodies.specs.Guards.{past_end, out_test, guard_memory, range_test, guard_copy, guard_fill};
-ghost use Rattle.rewrite_code.specs.Writing.{Emits};
-ghost use Rattle.operand_spill.specs.Places.{place};
+ghost use Rattle.rewrite_code.specs.calls.Writing.{Emits};
+ghost use Rattle.rewrite_code.specs.calls.Places.{place};
 
 use causes::NoMemory;
 use int_ops::{Narrow32, Narrow64};
-use operand_spill::{FunctionContext, OperandPlace};
-use rewrite_code::CodeWriter;
+use rewrite_code::{CodeWriter, FunctionContext, OperandPlace};
 use wasm_syntax::{Basic, Binary, Compare, Convert, Load, Store, ValType, Value};
 
 /// How many bytes a load reads.

@@ -6,15 +6,14 @@ ghost use Rattle.rewrite_bodies.specs.Pieces.{const, i32};
 ghost use Rattle.rewrite_bodies.specs.Rewrite.{Info, guarded};
 ghost use Rattle.int_ops.specs.declared.operators.Binary.TheVariants.{DivS as DivSOf, DivU as DivUOf, RemS as RemSOf, RemU as RemUOf};
 ghost use Rattle.wasm_syntax.specs.declared.instruction.Basic.TheVariants.{Binary as BinaryOf, Load as LoadOf, Store as StoreOf, MemoryCopy as MemoryCopyOf, MemoryFill as MemoryFillOf};
-ghost use Rattle.guard_laws.specs.Verdicts.{IsGuard};
-ghost use Rattle.rewrite_code.specs.Writing.{Emits};
-ghost use Rattle.guard_insert.specs.Meaning.{Writes};
+ghost use Rattle.rewrite_bodies.specs.calls.Verdicts.{IsGuard};
+ghost use Rattle.rewrite_code.specs.calls.Writing.{Emits};
+ghost use Rattle.guard_insert.specs.calls.Meaning.{Writes};
 
 use crate::accesses::{guard_copy, guard_fill, guard_memory, load_bytes, store_bytes};
 use crate::division::{guard_signed, guard_zero};
 use causes::NoMemory;
-use operand_spill::{FunctionContext, OperandPlaces};
-use rewrite_code::CodeWriter;
+use rewrite_code::{CodeWriter, FunctionContext, OperandPlaces};
 use wasm_syntax::{Basic, Binary, Load, Store, ValType, Value};
 
 fn divides(operator: Binary) -> bool

@@ -2,13 +2,12 @@
 
 ghost use Rattle.std.specs.Prelude.{◌≡◌, ◌+◌, ◌≤◌, OnOk};
 ghost use Rattle.rewrite_bodies.specs.Guards.{least, minus_one, zero_test, guard_zero, overflow_test, guard_signed};
-ghost use Rattle.rewrite_code.specs.Writing.{Emits};
-ghost use Rattle.operand_spill.specs.Places.{place};
+ghost use Rattle.rewrite_code.specs.calls.Writing.{Emits};
+ghost use Rattle.rewrite_code.specs.calls.Places.{place};
 
 use crate::accesses::above;
 use causes::NoMemory;
-use operand_spill::{FunctionContext, OperandPlace};
-use rewrite_code::CodeWriter;
+use rewrite_code::{CodeWriter, FunctionContext, OperandPlace};
 use wasm_syntax::{Basic, Binary, Compare, ValType, Value};
 
 /// The least signed number of a type.

@@ -3,14 +3,13 @@
 ghost use Rattle.std.specs.Prelude.{◌≤◌, ℕ, OnOk};
 ghost use Rattle.rewrite_bodies.specs.Pieces.{const, i32, call, fetch};
 ghost use Rattle.rewrite_bodies.specs.Slots.{Ctx};
-ghost use Rattle.guard_laws.specs.Verdicts.{IsGuardOfUnreachable, IsGuardOfEntry};
-ghost use Rattle.rewrite_code.specs.Writing.{Emits};
-ghost use Rattle.operand_spill.specs.Places.{place};
-ghost use Rattle.guard_insert.specs.Meaning.{Writes};
+ghost use Rattle.rewrite_bodies.specs.calls.Verdicts.{IsGuardOfUnreachable, IsGuardOfEntry};
+ghost use Rattle.rewrite_code.specs.calls.Writing.{Emits};
+ghost use Rattle.rewrite_code.specs.calls.Places.{place};
+ghost use Rattle.guard_insert.specs.calls.Meaning.{Writes};
 
 use causes::NoMemory;
-use operand_spill::{FunctionContext, OperandPlace};
-use rewrite_code::CodeWriter;
+use rewrite_code::{CodeWriter, FunctionContext, OperandPlace};
 use wasm_syntax::Value;
 
 fn write_kind(writer: &mut CodeWriter, kind: u32) -> Result<(), NoMemory>

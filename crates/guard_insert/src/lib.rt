@@ -7,6 +7,5 @@ mod choice;
 mod division;
 mod entries;
 
-pub use causes::NoMemory;
 pub use choice::{can_trap, guard, guarded};
 pub use entries::{guard_entry, guard_unreachable};

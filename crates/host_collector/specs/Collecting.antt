@@ -5,7 +5,7 @@ use Rattle.wasm_syntax.specs.declared.value.ValType.TheVariants.{I32, I64}
 use Rattle.wasm_syntax.specs.declared.parts.FuncType.{FuncType}
 use Rattle.wasm_syntax.specs.declared.parts.Import.{Import}
 use Rattle.wasm_syntax.specs.declared.host.CollectorCall.{CollectorCall}
-use Rattle.host_devices.specs.HostSides.{Calls}
+use Rattle.host_devices.specs.calls.HostSides.{Calls}
 
 -- the other host side, and the calls that were collected so far
 pub record CollectingState (H : Type 0) : Type 0 where

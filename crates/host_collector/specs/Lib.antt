@@ -1,4 +1,4 @@
 pub mod Collecting
 pub mod Torn
-pub mod Closed
 pub mod inner
+pub mod calls

@@ -1,22 +1,22 @@
 //! The dump of a whole list of calls.
 
 ghost use Rattle.std.specs.Prelude.{◌≡◌, ◌↔◌, ◌≤◌, ℕ, Err, IfOk, Option, option_copied};
-ghost use Rattle.linear_memory.specs.Paged.{Paged};
+ghost use Rattle.linear_memory.specs.calls.Paged.{Paged};
 ghost use Rattle.dump_format.specs.Form.{pages_of};
-ghost use Rattle.dump_format.specs.Contained.{IsContained};
+ghost use Rattle.dump_format.specs.calls.Contained.{IsContained};
 ghost use Rattle.dump_write.specs.Canonical.{canonical_bytes};
 ghost use Rattle.dump_write.specs.ImageBytes.{bytes_of};
 ghost use Rattle.dump_write.specs.Collected.{Whole, collected_dump};
-ghost use Rattle.dump_image.specs.Pictured.{Pictures, bytes_in};
+ghost use Rattle.dump_write.specs.Pictured.{Pictures, bytes_in};
 ghost use Rattle.host_collector.specs.Torn.{IsFirstOffending};
-ghost use Rattle.host_collector.specs.Closed.{IsClosed};
+ghost use Rattle.host_collector.specs.calls.Closed.{IsClosed};
 
 use crate::collecting::Collecting;
 use crate::gathered::{Gathered, gather};
 use crate::progress::judge;
 use causes::NoMemory;
 use dump_format::Dump;
-use dump_image::picture;
+use dump_write::picture;
 use linear_memory::Memory;
 use std::alloc::Global;
 use wasm_syntax::CollectorCall;

@@ -3,7 +3,7 @@
 ghost use Rattle.std.specs.Prelude.{◌≡◌, ◌≤◌, [], ℕ, List, true, Some, slice_get};
 ghost use Rattle.wasm_syntax.specs.declared.parts.FuncType.{FuncType as TypeValue};
 ghost use Rattle.wasm_syntax.specs.declared.parts.Import.{Import as ImportValue};
-ghost use Rattle.host_devices.specs.HostSides.{Answers, HasCause, IsExhausted, IsOfType, KeepsUse, told};
+ghost use Rattle.host_devices.specs.calls.HostSides.{Answers, HasCause, IsExhausted, IsOfType, KeepsUse, told};
 ghost use Rattle.host_collector.specs.Collecting.{calls_of, is_told, is_used_up, serves};
 ghost use Rattle.host_collector.specs.inner.Keeping.{Keeps};
 

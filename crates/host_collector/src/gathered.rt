@@ -5,7 +5,7 @@ ghost use Rattle.host_collector.specs.inner.Gathering.{nothing, with_call, with_
 
 use causes::NoMemory;
 use dump_format::{Frames, Values};
-use dump_image::recorded_frame;
+use dump_write::recorded_frame;
 use pm_text::Items;
 use std::alloc::Global;
 use wasm_syntax::{CollectorCall, Value};

@@ -9,6 +9,5 @@ mod imports;
 pub mod laws;
 mod progress;
 
-pub use causes::NoMemory;
 pub use closing::{CloseFault, Collected, close};
 pub use collecting::Collecting;

@@ -1,4 +1,2 @@
-pub mod Devices
-pub mod Faults
-pub mod HostSides
 pub mod Given
+pub mod calls

@@ -2,9 +2,9 @@
 
 ghost use Rattle.std.specs.Prelude.{◌≡◌, ◌≤◌, ◌↔◌, [], codes};
 ghost use Rattle.causes.specs.Counts.{Rose};
-ghost use Rattle.host_devices.specs.Devices.{log_after, count_after, empty_reply};
+ghost use Rattle.host_devices.specs.calls.Devices.{log_after, count_after, empty_reply};
 ghost use Rattle.wasm_syntax.specs.declared.host.Reply.{Reply as ReplyValue};
-ghost use Rattle.host_devices.specs.Faults.{IsToFail, HasCounted};
+ghost use Rattle.host_devices.specs.calls.Faults.{IsToFail, HasCounted};
 
 use crate::copies::copy_call;
 use crate::device::{Device, DeviceAnswer};
@@ -24,7 +24,7 @@ pub struct Console {
 }
 
 impl Model for Console {
-    ghost use Rattle.host_devices.specs.Devices.{ConsoleState};
+    ghost use Rattle.host_devices.specs.calls.Devices.{ConsoleState};
 
     ghost Value = { ConsoleState };
 

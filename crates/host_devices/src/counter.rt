@@ -1,7 +1,7 @@
 //! A counter of the calls that it replied to.
 
 ghost use Rattle.std.specs.Prelude.{◌≡◌, [], length, codes, List};
-ghost use Rattle.host_devices.specs.Devices.{log_after, counted_value, counted_reply};
+ghost use Rattle.host_devices.specs.calls.Devices.{log_after, counted_value, counted_reply};
 ghost use Rattle.wasm_syntax.specs.declared.host.Reply.{Reply as ReplyValue};
 
 use crate::copies::copy_call;

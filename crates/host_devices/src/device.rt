@@ -3,7 +3,7 @@
 ghost use Rattle.std.specs.Prelude.{◌≡◌, ◌≤◌, ℕ, List};
 ghost use Rattle.causes.specs.Counts.{Rose};
 ghost use Rattle.wasm_syntax.specs.declared.host.Served.{Served};
-ghost use Rattle.host_devices.specs.Devices.{log_after};
+ghost use Rattle.host_devices.specs.calls.Devices.{log_after};
 
 use linear_memory::Memory;
 use wasm_syntax::{HostCall, Reply, Served};

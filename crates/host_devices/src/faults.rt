@@ -3,7 +3,7 @@
 ghost use Rattle.std.specs.Prelude.{◌≡◌, ◌≤◌, ◌↔◌, IsTrue};
 ghost use Rattle.std.specs.Bool.{OnFalse, OnTrue};
 ghost use Rattle.causes.specs.Counts.{Rose};
-ghost use Rattle.host_devices.specs.Faults.{IsToFail, HasCounted, one_more};
+ghost use Rattle.host_devices.specs.calls.Faults.{IsToFail, HasCounted, one_more};
 
 use std::marker::Model;
 
@@ -16,7 +16,7 @@ pub struct Faults {
 }
 
 impl Model for Faults {
-    ghost use Rattle.host_devices.specs.Faults.{Plan};
+    ghost use Rattle.host_devices.specs.calls.Faults.{Plan};
 
     ghost Value = { Plan };
 

@@ -9,7 +9,6 @@ mod faults;
 mod host;
 mod scripted;
 
-pub use causes::NoMemory;
 pub use console::{Console, empty_reply};
 pub use copies::{copy_call, copy_reply};
 pub use counter::Counter;

@@ -3,8 +3,8 @@
 ghost use Rattle.std.specs.Prelude.{◌≡◌, ◌≤◌, ◌↔◌, ◌⊎◌, []};
 ghost use Rattle.causes.specs.Counts.{Rose};
 ghost use Rattle.wasm_syntax.specs.declared.host.Reply.{Reply as ReplyValue};
-ghost use Rattle.host_devices.specs.Devices.{log_after, count_after, GivesNext};
-ghost use Rattle.host_devices.specs.Faults.{IsToFail, HasCounted};
+ghost use Rattle.host_devices.specs.calls.Devices.{log_after, count_after, GivesNext};
+ghost use Rattle.host_devices.specs.calls.Faults.{IsToFail, HasCounted};
 
 use crate::copies::{copy_reply, entry};
 use crate::device::{Device, DeviceAnswer};
@@ -28,7 +28,7 @@ pub struct Scripted {
 
 impl Model for Scripted {
     ghost use Rattle.std.specs.Prelude.{◌≤◌, drop, length};
-    ghost use Rattle.host_devices.specs.Devices.{ScriptState};
+    ghost use Rattle.host_devices.specs.calls.Devices.{ScriptState};
 
     ghost Value = { ScriptState };
 

@@ -7,8 +7,8 @@ use Rattle.wasm_syntax.specs.declared.parts.Import.{Import}
 use Rattle.wasm_syntax.specs.declared.host.HostCall.{HostCall}
 use Rattle.wasm_syntax.specs.declared.host.Reply.{Reply}
 use Rattle.wasm_syntax.specs.declared.host.Served.{Served}
-use Rattle.host_devices.specs.Devices.{empty_reply}
-use Rattle.host_devices.specs.HostSides.{Origin}
+use Rattle.host_devices.specs.calls.Devices.{empty_reply}
+use Rattle.host_devices.specs.calls.HostSides.{Origin}
 use Rattle.host_devices.specs.declared.device.DeviceAnswer.{DeviceAnswer}
 use Rattle.host_devices.specs.declared.device.DeviceAnswer.TheVariants as device
 use Rattle.host_devices.specs.declared.host.HostAnswer.{HostAnswer}
@@ -16,7 +16,7 @@ use Rattle.host_devices.specs.declared.host.HostAnswer.TheVariants.{Replied, NoR
 use Rattle.host_set.specs.declared.entry.Entry.{Entry}
 use Rattle.host_set.specs.declared.entry.Entry.TheVariants.{OfDevice, OfScript}
 use Rattle.host_set.specs.Sets.{DeviceState, no_device, names, is_named, AreDistinct, IsPlace, IsUnnamed, IsCalled, count_of}
-use Rattle.host_set.specs.Hosting.{HostsState, replies_of, serves, no_served, stored_at, served_at, all_served, logs_before, log_named, IsAnswered, IsFailed, seen, Keeps}
+use Rattle.host_set.specs.calls.Hosting.{HostsState, replies_of, serves, no_served, stored_at, served_at, all_served, logs_before, log_named, IsAnswered, IsFailed, seen, Keeps}
 use Rattle.host_set.proofs.Names.{same}
 use Rattle.host_set.proofs.Sets.{at_place, place_below, named_at, names_set, place_set}
 use Rattle.host_set.proofs.Logs.{Grown, entries_kept, inside_push, served_push, untouched, touched, quiet, of_script_push, logged_first}

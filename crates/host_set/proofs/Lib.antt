@@ -3,3 +3,4 @@ pub mod Logs
 pub mod Names
 pub mod Replies
 pub mod Sets
+pub mod Served

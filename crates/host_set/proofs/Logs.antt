@@ -8,7 +8,7 @@ use Rattle.wasm_syntax.specs.declared.host.Reply.{Reply}
 use Rattle.host_set.specs.declared.entry.Entry.{Entry}
 use Rattle.host_set.specs.declared.entry.Entry.TheVariants.{OfDevice, OfScript}
 use Rattle.host_set.specs.Sets.{DeviceState, no_device, names, is_named, AreDistinct, IsPlace, log_of}
-use Rattle.host_set.specs.Hosting.{of_module, of_script, logs, log_named, with_module, in_front, no_served, served_at, all_served, IsInside, AreInside, AreLogged}
+use Rattle.host_set.specs.calls.Hosting.{of_module, of_script, logs, log_named, with_module, in_front, no_served, served_at, all_served, IsInside, AreInside, AreLogged}
 use Rattle.host_set.proofs.Names.{same, itself, neither}
 
 -- ---- by module

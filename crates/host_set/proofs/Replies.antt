@@ -6,11 +6,11 @@ use Rattle.wasm_syntax.specs.declared.parts.Import.{Import}
 use Rattle.wasm_syntax.specs.declared.host.HostCall.{HostCall}
 use Rattle.wasm_syntax.specs.declared.host.Reply.{Reply}
 use Rattle.wasm_syntax.specs.declared.host.Served.{Served}
-use Rattle.host_devices.specs.Devices.{empty_reply}
+use Rattle.host_devices.specs.calls.Devices.{empty_reply}
 use Rattle.host_set.specs.declared.entry.Entry.{Entry}
 use Rattle.host_set.specs.declared.entry.Entry.TheVariants.{OfDevice, OfScript}
 use Rattle.host_set.specs.Sets.{DeviceState, no_device}
-use Rattle.host_set.specs.Hosting.{no_served, served_at, all_served, IsInside, AreInside}
+use Rattle.host_set.specs.calls.Hosting.{no_served, served_at, all_served, IsInside, AreInside}
 
 inside_at : (ds : List DeviceState) (replies : List Reply) (es : List Entry) (i : ℕ) (e : Entry) → AreInside ds replies es → e ≡ get_or es i e → i < length es → IsInside ds replies e
 inside_at ds replies [] i e h is lt = absurd (let l : i < 0 = lt in omega arith)

@@ -1,2 +1,2 @@
-pub mod Hosting
 pub mod Sets
+pub mod calls

@@ -4,7 +4,7 @@ use Rattle.std.specs.Str.{bytes_eq}
 use Rattle.wasm_syntax.specs.declared.host.HostCall.{HostCall}
 use Rattle.wasm_syntax.specs.declared.host.Served.{Served}
 use Rattle.causes.specs.Counts.{Rose}
-use Rattle.host_devices.specs.Devices.{log_after}
+use Rattle.host_devices.specs.calls.Devices.{log_after}
 use Rattle.host_devices.specs.declared.device.DeviceAnswer.{DeviceAnswer}
 use Rattle.host_devices.specs.declared.device.DeviceAnswer.TheVariants.{Failed}
 

@@ -5,7 +5,7 @@ ghost use Rattle.std.specs.List.{position_from};
 ghost use Rattle.std.specs.Option.{option_map};
 ghost use Rattle.std.specs.Str.{bytes_eq};
 ghost use Rattle.causes.specs.Counts.{Rose};
-ghost use Rattle.host_devices.specs.Devices.{log_after};
+ghost use Rattle.host_devices.specs.calls.Devices.{log_after};
 ghost use Rattle.host_set.specs.Sets.{AreDistinct, attached, device_named, names, released};
 
 use crate::devices::Devices;

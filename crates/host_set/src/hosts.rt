@@ -4,9 +4,9 @@ ghost use Rattle.std.specs.Prelude.{◌≡◌, ◌<◌, ◌≤◌, ◌++◌, ℕ
 ghost use Rattle.std.specs.Option.{option_map};
 ghost use Rattle.wasm_syntax.specs.declared.parts.FuncType.{FuncType as TypeValue};
 ghost use Rattle.wasm_syntax.specs.declared.parts.Import.{Import as ImportValue};
-ghost use Rattle.host_devices.specs.HostSides.{Answers, HasCause, IsExhausted, KeepsUse};
+ghost use Rattle.host_devices.specs.calls.HostSides.{Answers, HasCause, IsExhausted, KeepsUse};
 ghost use Rattle.host_set.specs.Sets.{AreDistinct, IsPlace, IsUnnamed, count_of, is_named, log_of, names};
-ghost use Rattle.host_set.specs.Hosting.{IsAnswered, IsFailed, ServesNext, calls_of, is_used_up, log_named, logs, logs_before, of_module, of_script, origin_of, replies_of, serves, with_module};
+ghost use Rattle.host_set.specs.calls.Hosting.{IsAnswered, IsFailed, ServesNext, calls_of, is_used_up, log_named, logs, logs_before, of_module, of_script, origin_of, replies_of, serves, with_module};
 
 use crate::devices::Devices;
 use crate::entry::Entry;
@@ -34,7 +34,7 @@ pub struct Hosts<'a, S: Devices> {
 }
 
 impl<'a, S: Devices> Model for Hosts<'a, S> {
-    ghost use Rattle.host_set.specs.Hosting.{HostsState, Keeps, seen};
+    ghost use Rattle.host_set.specs.calls.Hosting.{HostsState, Keeps, seen};
 
     ghost Value = { HostsState };
 

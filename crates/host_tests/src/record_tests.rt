@@ -1,9 +1,8 @@
 //! Records of replies.
 
 use causes::NoMemory;
-use host_replies::read_replies;
+use host_replies::{push_record, read_replies};
 use pm_text::{Bytes, Items, Text};
-use run_record::push_record;
 use std::alloc::Global;
 use std::test::Fail;
 use wasm_syntax::{Reply, Value, Write};

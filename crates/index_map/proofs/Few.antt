@@ -11,20 +11,18 @@ use Rattle.wasm_syntax.specs.declared.module.ModuleParts.{ModuleParts as Module}
 use Rattle.wasm_syntax.specs.Tree.{item_of}
 use Rattle.wasm_syntax.specs.Module.{is_function}
 use Rattle.wasm_syntax.specs.Valid.{Valid}
-use Rattle.wasm_instructions.specs.Encoding.{encoding as instruction_bytes}
+use Rattle.wasm_format.specs.Encoding.{encoding as instruction_bytes}
 use Rattle.wasm_encode.specs.Encoding.{import_bytes, global_bytes, export_bytes, entry_bytes}
-use Rattle.wasm_sizes.specs.Sized.{Sized}
+use Rattle.wasm_format_laws.specs.Sized.{Sized}
 use Rattle.rewrite_bodies.specs.Numbering.{import_count, wraps, start_wraps, export_wrapped, wrapped, is_in, distinct}
 use Rattle.rewrite_modules.specs.Weight.{type_used}
-use Rattle.rewrite_sizes.proofs.Numbers.{some_bytes}
-use Rattle.rewrite_sizes.proofs.Totals.{total, total_many}
-use Rattle.rewrite_sizes.proofs.Items.{item_length, item_short, expression_total}
-use Rattle.rewrite_sizes.proofs.Pieces.{entry_total}
-use Rattle.rewrite_sizes.proofs.Sections.{contents, contents_least, import_some}
+use Rattle.wasm_format_laws.proofs.Numbers.{some_bytes}
+use Rattle.wasm_format_laws.proofs.Totals.{total, total_many}
 use Rattle.index_map.specs.inner.Used.{ops_used, bodies_used}
 use Rattle.index_map.specs.inner.Kept.{FewIndices, CanBeNumbered}
 use Rattle.index_map.proofs.Trees.{valid_below}
-use Rattle.rewrite_sizes.proofs.Lists.{global_some, export_some}
+use Rattle.rewrite_modules.proofs.CodeLengths.{item_length, item_short, expression_total}
+use Rattle.rewrite_modules.proofs.EncodedLengths.{global_some, export_some, entry_total, contents, contents_least, import_some}
 
 -- ---- wrappers
 

@@ -7,3 +7,6 @@ pub mod First
 pub mod Within
 pub mod Exports
 pub mod Numbers
+pub mod Steps
+pub mod Bounds
+pub mod WithinLimits

@@ -15,8 +15,8 @@ use Rattle.wasm_syntax.specs.Valid.{Valid, There, BodyFine, defined_index}
 use Rattle.wasm_laws.proofs.Lists.{all_append, there_at}
 use Rattle.rewrite_bodies.specs.Numbering.{uses, distinct, helped}
 use Rattle.rewrite_modules.specs.Weight.{types_used}
-use Rattle.rewrite_sizes.proofs.Items.{all_used}
 use Rattle.index_map.specs.inner.Used.{AllBelow, ops_used, bodies_used}
+use Rattle.rewrite_modules.proofs.CodeLengths.{all_used}
 
 pub helped_used : (p : Program) → IsProgram p → helped p ≡ types_used p.module_
 helped_used p w = ap distinct (all_used p.module_.bodies p.trees w)

@@ -1,2 +1,3 @@
-pub mod Wrapper
 pub mod inner
+pub mod Limits
+pub mod calls

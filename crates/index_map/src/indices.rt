@@ -4,19 +4,20 @@ ghost use Rattle.std.specs.Prelude.{◌≡◌, ℕ, suc, ◌+◌, ◌<◌, true,
 ghost use Rattle.wasm_syntax.specs.declared.module.ModuleParts.{ModuleParts as Parts};
 ghost use Rattle.wasm_syntax.specs.Module.{Program, IsProgram, function_types};
 ghost use Rattle.wasm_syntax.specs.Valid.{Valid};
-ghost use Rattle.wasm_sizes.specs.Sized.{Sized};
+ghost use Rattle.wasm_format_laws.specs.Sized.{Sized};
 ghost use Rattle.rewrite_bodies.specs.Numbering.{flag_of, frame_import, helped, helper_base, is_in, mapped, place_in, value_import, wrapped, wrapper_base};
 ghost use Rattle.rewrite_modules.specs.Instrument.{new_exports, new_start};
 ghost use Rattle.rewrite_modules.specs.Weight.{types_used};
-ghost use Rattle.index_map.specs.Wrapper.{HasWrapper, wrapper_of};
+ghost use Rattle.index_map.specs.calls.Wrapper.{HasWrapper, wrapper_of};
 ghost use Rattle.index_map.specs.inner.Kept.{CanBeNumbered};
 
 use crate::used::used_types;
 use crate::wrapped::{indices, of_exports, push_start};
 use causes::NoMemory;
+use pm_text::Items;
 use std::alloc::Global;
 use std::marker::Model;
-use wasm_syntax::{Items, Module, ModuleParts, ValType};
+use wasm_syntax::{Module, ModuleParts, ValType};
 
 /// Where functions, the flag and helpers stand in the rewriting of a module. Contracts see it as
 /// the module.

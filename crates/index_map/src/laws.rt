@@ -8,7 +8,7 @@ ghost use Rattle.wasm_syntax.specs.declared.value.ValType.{ValType as Sort};
 ghost use Rattle.wasm_syntax.specs.Module.{Program, IsProgram, function_types};
 ghost use Rattle.rewrite_bodies.specs.Numbering.{frame_import, helped, helper_base, is_in, mapped, place_in, value_import, wrapper_base};
 ghost use Rattle.rewrite_modules.specs.Weight.{type_used, types_used};
-ghost use Rattle.index_map.specs.Wrapper.{HasWrapper, wrapper_of};
+ghost use Rattle.index_map.specs.calls.Wrapper.{HasWrapper, wrapper_of};
 
 /// A type that an instruction of the module uses has a helper, and the types that flat code uses
 /// are those of its trees.

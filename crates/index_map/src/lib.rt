@@ -1,12 +1,18 @@
-//! Where the functions, the flag and the helpers stand in a rewritten module, and whether a module
-//! has a name that the rewriting takes.
+//! Numbers of a rewritten module: where functions, flag and helpers stand, names that the rewriting
+//! takes, its weight and its limits.
 #![tactic(auto)]
 
 mod collisions;
+mod count;
 mod indices;
 pub mod laws;
+pub mod limit_laws;
+mod limits;
 mod used;
+mod weights;
 mod wrapped;
 
 pub use collisions::{export_collision, import_collision};
 pub use indices::IndexMap;
+pub use limits::{Excess, first_excess};
+pub use weights::weight;

@@ -6,8 +6,9 @@ ghost use Rattle.index_map.specs.inner.Used.{AllBelow, HasMet, bodies_used, ops_
 ghost use Rattle.index_map.specs.inner.Kept.{AreUsed};
 
 use causes::NoMemory;
+use pm_text::Items;
 use std::alloc::Global;
-use wasm_syntax::{Body, Instr, Items, Jump, ModuleParts, Op};
+use wasm_syntax::{Body, Instr, Jump, ModuleParts, Op};
 
 /// The types that are used, each once.
 #[derive(Drop)]

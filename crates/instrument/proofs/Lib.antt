@@ -1,5 +1,11 @@
 pub mod Copied
 pub mod Trees
-pub mod Whole
+pub mod WholeModule
 pub mod Refused
 pub mod Own
+pub mod Lists
+pub mod RefusedModules
+pub mod Adding
+pub mod NewFunctions
+pub mod Tables
+pub mod Wrapped

@@ -17,10 +17,10 @@ use Rattle.wasm_syntax.specs.Valid.{Valid}
 use Rattle.wasm_laws.proofs.FlatBodies.{body_steps}
 use Rattle.wasm_laws.proofs.FlatOne.{one_before}
 use Rattle.wasm_validate.specs.Heights.{body_of, TypesAt, HeightIs, AllLow}
-use Rattle.wasm_validate.specs.Instructions.{HeightsAre}
+use Rattle.wasm_validate.specs.calls.Instructions.{HeightsAre}
 use Rattle.rewrite_modules.specs.Weight.{height_at, AreHeights}
 use Rattle.rewrite_modules.proofs.FineBodies.{fine_at, gives_one}
-use Rattle.rewrite_limits.proofs.Within.{all_low}
+use Rattle.index_map.proofs.WithinLimits.{all_low}
 use Rattle.instrument.specs.Refusal.{OwnHeights}
 use Rattle.pm_text.proofs.Lists.{some_is}
 use Rattle.wasm_syntax.proofs.Bodies.{index_of}

@@ -7,10 +7,10 @@ use Rattle.wasm_syntax.specs.declared.module.ModuleParts.{ModuleParts as Module}
 use Rattle.wasm_syntax.specs.Module.{IsModule}
 use Rattle.wasm_syntax.specs.Sizes.{WithinLimits}
 use Rattle.wasm_syntax.specs.Valid.{Valid}
-use Rattle.wasm_sizes.specs.Sized.{Sized}
-use Rattle.rewrite_sizes.specs.Light.{SmallOffsets}
-use Rattle.rewrite_limits.specs.Limits.{first_excess}
-use Rattle.rewrite_limits.proofs.Within.{kept}
+use Rattle.wasm_format_laws.specs.Sized.{Sized}
+use Rattle.rewrite_promise.specs.calls.Light.{SmallOffsets}
+use Rattle.index_map.specs.Limits.{first_excess}
+use Rattle.index_map.proofs.WithinLimits.{kept}
 use Rattle.rewrite_promise.specs.Promise.{Accepted}
 use Rattle.instrument.specs.Refusal.{OwnHeights}
 

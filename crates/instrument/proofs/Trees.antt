@@ -16,7 +16,7 @@ use Rattle.wasm_syntax.specs.Valid.{Valid}
 use Rattle.wasm_laws.proofs.FlatBodies.{body_steps, steps_body}
 use Rattle.wasm_syntax.specs.SameCode.{op_code, body_code}
 use Rattle.rewrite_modules.proofs.FineBodies.{fine_at, gives_one}
-use Rattle.instrument.specs.Assembly.{Ascends}
+use Rattle.unwind_rewrite.specs.calls.Rewritten.{Ascends}
 
 abbrev codes_of : List Op → List Instr
 codes_of ops = map (λ o. o.code) ops

@@ -1,3 +1,3 @@
-pub mod Assembly
 pub mod Refusal
 pub mod inner
+pub mod calls

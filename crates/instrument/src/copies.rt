@@ -3,8 +3,9 @@
 ghost use Rattle.std.specs.Prelude.{◌≡◌, IfOk};
 
 use causes::NoMemory;
+use pm_text::{Items, Text};
 use std::alloc::Global;
-use wasm_syntax::{Body, DataSeg, FuncType, Global as GlobalPart, Import, Items, Text};
+use wasm_syntax::{Body, DataSeg, FuncType, Global as GlobalPart, Import};
 
 /// What can be copied.
 pub(crate) trait Duplicate: Drop {

@@ -9,10 +9,11 @@ ghost use Rattle.instrument.specs.inner.Parts.{flag, more_imports, more_types};
 
 use crate::copies::duplicates;
 use causes::NoMemory;
+use pm_text::{Items, Text};
 use std::alloc::Global;
 use wasm_syntax::{
-    Basic, Body, FuncType, Global as GlobalPart, Globals, Import, Imports, Instr, Items,
-    ModuleParts, Op, Text, ValType, Value,
+    Basic, Body, FuncType, Global as GlobalPart, Globals, Import, Imports, Instr, ModuleParts, Op,
+    ValType, Value,
 };
 
 fn function_type(

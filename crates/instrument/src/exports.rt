@@ -8,8 +8,9 @@ ghost use Rattle.instrument.specs.inner.Parts.{renumbered};
 
 use causes::NoMemory;
 use index_map::IndexMap;
+use pm_text::{Items, Text};
 use std::alloc::Global;
-use wasm_syntax::{Export, ExportKind, Exports, Items, LimitsList, Text};
+use wasm_syntax::{Export, ExportKind, Exports, LimitsList};
 
 /// The exports with other indices.
 fn renumbered(alloc: Global, exports: &[Export], indices: &[u32]) -> Result<Exports, NoMemory>

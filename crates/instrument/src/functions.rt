@@ -11,8 +11,9 @@ ghost use Rattle.instrument.specs.inner.Parts.{ElementThere, mapped_element};
 use crate::copies::Duplicate;
 use causes::NoMemory;
 use index_map::IndexMap;
+use pm_text::Items;
 use std::alloc::Global;
-use wasm_syntax::{ElementSeg, ElementSegs, Indices, Items, ModuleParts};
+use wasm_syntax::{ElementSeg, ElementSegs, Indices, ModuleParts};
 
 /// The type index of a wrapper: that of its function.
 fn wrapper_type(parts: &ModuleParts, function: u32) -> u32

@@ -3,7 +3,7 @@
 ghost use Rattle.std.specs.Prelude.{◌≡◌, ◌+◌, ◌<◌, ◌^◌, [], length, IfOk};
 ghost use Rattle.std.specs.List.{AllByRecursion};
 ghost use Rattle.rewrite_promise.specs.Promise.{IsRewriting, Promised};
-ghost use Rattle.instrument.specs.Assembly.{AreBodies};
+ghost use Rattle.instrument.specs.calls.Assembly.{AreBodies};
 ghost use Rattle.instrument.specs.inner.Parts.{ElementThere, new_parts};
 
 use crate::copies::duplicates;
@@ -12,8 +12,9 @@ use crate::exports::new_exports;
 use crate::functions::{new_elements, new_functions};
 use causes::NoMemory;
 use index_map::IndexMap;
+use pm_text::Items;
 use std::alloc::Global;
-use wasm_syntax::{Bodies, Items, Module, ModuleParts};
+use wasm_syntax::{Bodies, Module, ModuleParts};
 
 /// All parts of the rewritten module, with these bodies.
 fn new_parts(alloc: Global, numbers: &IndexMap<'_>, bodies: Bodies) -> Result<ModuleParts, NoMemory>

@@ -4,14 +4,13 @@ ghost use Rattle.std.specs.Prelude.{◌≡◌};
 ghost use Rattle.wasm_syntax.specs.Module.{IsModule};
 ghost use Rattle.wasm_syntax.specs.Sizes.{WithinLimits};
 ghost use Rattle.wasm_syntax.specs.Valid.{Valid};
-ghost use Rattle.wasm_sizes.specs.Sized.{Sized};
-ghost use Rattle.rewrite_sizes.specs.Light.{SmallOffsets};
+ghost use Rattle.wasm_format_laws.specs.Sized.{Sized};
+ghost use Rattle.rewrite_promise.specs.calls.Light.{SmallOffsets};
 ghost use Rattle.instrument.specs.Refusal.{Decided, OwnHeights};
 ghost use Rattle.instrument.specs.declared.refusal.InstrFault.TheVariants as faults;
 
 use causes::NoMemory;
-use index_map::{IndexMap, export_collision, import_collision};
-use rewrite_limits::first_excess;
+use index_map::{IndexMap, export_collision, first_excess, import_collision};
 use std::alloc::Global;
 use wasm_syntax::{Heights, Module, Quantity};
 

@@ -10,21 +10,21 @@ use Rattle.wasm_syntax.specs.Valid.{Valid}
 use Rattle.wasm_decode.specs.Decode.{module_from}
 use Rattle.wasm_decode.specs.declared.fault.DecodeFault.{DecodeFault}
 use Rattle.wasm_validate.specs.Heights.{AllLow}
-use Rattle.dump_write.specs.Written.{OnTold}
+use Rattle.pm_outside.specs.Written.{OnTold}
 use Rattle.rewrite_modules.specs.Weight.{weight}
-use Rattle.command_answers.specs.Input.{IsInput}
-use Rattle.command_answers.specs.Inputs.{input_of}
-use Rattle.command_answers.specs.Loading.{IfLoaded, IsTurnedDown}
-use Rattle.command_answers.specs.Told.{UnlessFault, OnContents}
-use Rattle.command_answers.specs.declared.input.Input.{Input}
-use Rattle.command_answers.specs.declared.input.Input.TheVariants.{Whole, Refused}
-use Rattle.command_answers.specs.declared.outcome.Outcome.{Outcome}
-use Rattle.command_answers.proofs.Reading.{then_ok, then_err}
-use Rattle.command_answers.proofs.Unless.{OnAnswer, unless, on_all, map_answer}
-use Rattle.run_session.specs.Written.{Writes, HoldThen}
+use Rattle.commands.specs.calls.Input.{IsInput}
+use Rattle.commands.specs.Inputs.{input_of}
+use Rattle.commands.specs.Loading.{IfLoaded, IsTurnedDown}
+use Rattle.commands.specs.Told.{UnlessFault, OnContents}
+use Rattle.commands.specs.declared.input.Input.{Input}
+use Rattle.commands.specs.declared.input.Input.TheVariants.{Whole, Refused}
+use Rattle.commands.specs.declared.outcome.Outcome.{Outcome}
+use Rattle.commands.proofs.ReadFiles.{then_ok, then_err}
+use Rattle.commands.proofs.Unless.{OnAnswer, unless, on_all, map_answer}
+use Rattle.pm_outside.specs.Held.{Writes, HoldThen}
 use Rattle.instrument_command.specs.InstrumentAnswer.{Decides, ModuleAnswer, AnsweredOn}
-use Rattle.instrument_command.specs.inner.Steps.{Refuses, IsAnswered}
-use Rattle.run_session.proofs.Held.{none_held}
+use Rattle.instrument_command.specs.calls.Steps.{Refuses, IsAnswered}
+use Rattle.pm_outside.proofs.Held.{none_held}
 
 -- ---- a valid module
 

@@ -14,13 +14,13 @@ use Rattle.rewrite_promise.specs.Admitted.{Admits}
 use Rattle.instrument.specs.Refusal.{refusal}
 use Rattle.instrument.specs.declared.refusal.InstrFault.{InstrFault}
 use Rattle.instrument.specs.declared.refusal.InstrFault.TheVariants.{ImportCollision, ExportCollision, Limit, NoMemory}
-use Rattle.command_answers.specs.Inputs.{input_of, Then}
-use Rattle.command_answers.specs.Loading.{IfLoaded, undecoded}
-use Rattle.command_answers.specs.Refusal.{IsRefusal}
-use Rattle.command_answers.specs.Texts.{over_limit}
-use Rattle.command_answers.specs.declared.outcome.Outcome.{Outcome}
-use Rattle.command_answers.specs.declared.status.Status.TheVariants as status
-use Rattle.run_session.specs.Written.{Writes, HoldThen, held_then}
+use Rattle.commands.specs.Inputs.{input_of, Then}
+use Rattle.commands.specs.Loading.{IfLoaded, undecoded}
+use Rattle.commands.specs.Refusal.{IsRefusal}
+use Rattle.commands.specs.Texts.{over_limit}
+use Rattle.commands.specs.declared.outcome.Outcome.{Outcome}
+use Rattle.commands.specs.declared.status.Status.TheVariants as status
+use Rattle.pm_outside.specs.Held.{Writes, HoldThen, held_then}
 use Rattle.instrument_command.specs.InstrumentAnswer.{refused, Decides, ModuleAnswer, InstrumentAnswer}
 use Rattle.instrument_command.specs.Headline.{HoldsRewriting}
 use Rattle.host_set.proofs.Names.{itself}

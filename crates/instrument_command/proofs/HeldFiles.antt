@@ -4,8 +4,8 @@ use Rattle.std.proofs.lemmas.List.{append-nil}
 use Rattle.pm_outside.specs.Contents.{Contents, SameBut}
 use Rattle.pm_outside.specs.declared.answers.WriteAnswer.{WriteAnswer}
 use Rattle.pm_outside.specs.declared.answers.WriteAnswer.TheVariants as write
-use Rattle.dump_write.specs.Written.{OnTold, HasFront, Writes as Leaves}
-use Rattle.dump_write.proofs.Files.{same_told, none_told}
+use Rattle.pm_outside.specs.Written.{OnTold, HasFront, Leaves}
+use Rattle.pm_outside.proofs.Leavings.{same_told, none_told}
 
 -- whatever writing the file answered, it holds a front
 pub front_left : (file bytes : List ℕ) (answer : WriteAnswer) (before after : Option Contents) → OnTold (Leaves file bytes answer) before after → OnTold (HasFront file bytes) before after

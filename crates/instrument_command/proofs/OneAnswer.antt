@@ -17,16 +17,16 @@ use Rattle.rewrite_modules.specs.Multiple.{highest}
 use Rattle.rewrite_modules.proofs.FineBodies.{fine_at, gives_one}
 use Rattle.rewrite_modules.proofs.Multiple.{live_or, before_live}
 use Rattle.rewrite_promise.proofs.Heights.{one_weight}
-use Rattle.rewrite_limits.specs.Limits.{function_heights, function_locals, first_over, first_excess}
+use Rattle.index_map.specs.Limits.{function_heights, function_locals, first_over, first_excess}
 use Rattle.instrument.specs.Refusal.{import_taken, export_taken, at_import, at_export, at_limit, refusal}
 use Rattle.instrument.specs.declared.refusal.InstrFault.{InstrFault}
-use Rattle.command_answers.specs.Inputs.{input_of, Then}
-use Rattle.command_answers.specs.Loading.{IfLoaded}
-use Rattle.command_answers.specs.declared.outcome.Outcome.{Outcome}
-use Rattle.command_answers.specs.declared.status.Status.{Status}
-use Rattle.command_answers.specs.declared.status.Status.TheVariants as status
-use Rattle.command_answers.proofs.OneOutcome.{Agree, agree_then, agree_if_loaded}
-use Rattle.run_session.specs.Written.{Writes}
+use Rattle.commands.specs.Inputs.{input_of, Then}
+use Rattle.commands.specs.Loading.{IfLoaded}
+use Rattle.commands.specs.declared.outcome.Outcome.{Outcome}
+use Rattle.commands.specs.declared.status.Status.{Status}
+use Rattle.commands.specs.declared.status.Status.TheVariants as status
+use Rattle.commands.proofs.OneOutcome.{Agree, agree_then, agree_if_loaded}
+use Rattle.pm_outside.specs.Held.{Writes}
 use Rattle.instrument_command.specs.InstrumentAnswer.{instrumented, Decides, ModuleAnswer, InstrumentAnswer}
 use Rattle.instrument_command.proofs.Done.{Found, FoundIn, what_was_found}
 use Rattle.wasm_bytes.specs.Refusals.{◌orelse◌}

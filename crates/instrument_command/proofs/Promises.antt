@@ -4,15 +4,15 @@ use Rattle.wasm_syntax.specs.declared.module.ModuleParts.{ModuleParts as Module}
 use Rattle.wasm_syntax.specs.Valid.{Valid}
 use Rattle.wasm_bytes.specs.Laws.{IsBytes}
 use Rattle.wasm_encode.specs.Encoding.{encoding}
-use Rattle.wasm_encode.specs.SameModule.{SpellsSame}
-use Rattle.rewrite_limits.specs.declared.limits.Excess.{Excess}
-use Rattle.rewrite_limits.specs.Limits.{first_excess}
-use Rattle.rewrite_limits.proofs.Within.{kept}
+use Rattle.wasm_encode.specs.calls.SameModule.{SpellsSame}
+use Rattle.index_map.specs.declared.limits.Excess.{Excess}
+use Rattle.index_map.specs.Limits.{first_excess}
+use Rattle.index_map.proofs.WithinLimits.{kept}
 use Rattle.rewrite_promise.specs.Promise.{Promised}
 use Rattle.rewrite_promise.specs.Admitted.{Admits}
 use Rattle.rewrite_promise.proofs.Admitted.{spelled}
 use Rattle.instrument.specs.Refusal.{OwnHeights, import_taken, export_taken, at_import, at_export, at_limit, refusal}
-use Rattle.instrument_command.specs.inner.Steps.{Rewrites}
+use Rattle.instrument_command.specs.calls.Steps.{Rewrites}
 
 -- where there is no cause to refuse a module, no quantity passes
 no_excess : (import_ export : Option ℕ) (excess : Option Excess) → at_import import_ (at_export export (at_limit excess)) ≡ None → excess ≡ None

@@ -9,17 +9,17 @@ use Rattle.wasm_syntax.specs.declared.quantity.Quantity.TheVariants.{ModuleBytes
 use Rattle.wasm_syntax.specs.Valid.{Valid}
 use Rattle.wasm_decode.specs.Decode.{module_from}
 use Rattle.wasm_validate.specs.Heights.{AllLow}
-use Rattle.command_answers.specs.Input.{IsInput, IfRefused}
-use Rattle.command_answers.specs.Inputs.{input_of}
-use Rattle.command_answers.specs.Texts.{file_fault}
-use Rattle.command_answers.specs.Told.{OnContents}
-use Rattle.command_answers.specs.declared.input.Input.{Input}
-use Rattle.command_answers.specs.declared.input.Input.TheVariants.{Whole, Refused}
-use Rattle.command_answers.specs.declared.outcome.Outcome.{Outcome}
-use Rattle.command_answers.specs.declared.status.Status.TheVariants as status
+use Rattle.commands.specs.calls.Input.{IsInput, IfRefused}
+use Rattle.commands.specs.Inputs.{input_of}
+use Rattle.commands.specs.Texts.{file_fault}
+use Rattle.commands.specs.Told.{OnContents}
+use Rattle.commands.specs.declared.input.Input.{Input}
+use Rattle.commands.specs.declared.input.Input.TheVariants.{Whole, Refused}
+use Rattle.commands.specs.declared.outcome.Outcome.{Outcome}
+use Rattle.commands.specs.declared.status.Status.TheVariants as status
 use Rattle.run_session.specs.Stop.{Stop, no_memory, file_failed, OnStop}
 use Rattle.instrument_command.specs.Stops.{IsFailed, LeftInPart, InstrumentStops}
-use Rattle.instrument_command.specs.inner.Steps.{IsWant, ModuleStops, BytesStops}
+use Rattle.instrument_command.specs.calls.Steps.{IsWant, ModuleStops, BytesStops}
 use Rattle.run_session.proofs.Stops.{map_stop}
 
 -- ---- bytes

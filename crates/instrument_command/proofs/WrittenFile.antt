@@ -5,21 +5,21 @@ use Rattle.causes.specs.declared.NoMemory.{NoMemory}
 use Rattle.pm_outside.specs.Contents.{Contents}
 use Rattle.pm_outside.specs.declared.answers.WriteAnswer.{WriteAnswer}
 use Rattle.wasm_syntax.specs.declared.module.ModuleParts.{ModuleParts as Module}
-use Rattle.dump_write.specs.Written.{OnTold, HasFile, Writes as Leaves}
+use Rattle.pm_outside.specs.Written.{OnTold, HasFile, Leaves}
 use Rattle.rewrite_modules.specs.Weight.{weight}
 use Rattle.rewrite_promise.specs.Admitted.{Admits}
 use Rattle.rewrite_promise.proofs.Heights.{one_weight}
-use Rattle.command_answers.specs.Texts.{file_fault}
-use Rattle.command_answers.specs.Told.{UnlessFault}
-use Rattle.command_answers.specs.declared.outcome.Outcome.{Outcome}
-use Rattle.command_answers.specs.declared.status.Status.TheVariants as status
-use Rattle.command_answers.proofs.Unless.{OnAnswer, on_all}
+use Rattle.commands.specs.Texts.{file_fault}
+use Rattle.commands.specs.Told.{UnlessFault}
+use Rattle.commands.specs.declared.outcome.Outcome.{Outcome}
+use Rattle.commands.specs.declared.status.Status.TheVariants as status
+use Rattle.commands.proofs.Unless.{OnAnswer, on_all}
 use Rattle.run_session.specs.Stop.{OnStop}
 use Rattle.instrument_command.proofs.HeldFiles.{front_left}
 use Rattle.instrument_command.specs.InstrumentAnswer.{instrumented, Decides, ModuleAnswer}
 use Rattle.instrument_command.specs.Stops.{LeftInPart}
-use Rattle.instrument_command.specs.inner.Steps.{Rewrites, Weighs, IsAnswered, ModuleStops}
-use Rattle.run_session.proofs.Held.{one_held}
+use Rattle.instrument_command.specs.calls.Steps.{Rewrites, Weighs, IsAnswered, ModuleStops}
+use Rattle.pm_outside.proofs.Held.{one_held}
 
 -- ---- the answer
 

@@ -5,19 +5,19 @@ use Rattle.pm_outside.specs.Contents.{Contents}
 use Rattle.wasm_syntax.specs.declared.quantity.Quantity.TheVariants.{ModuleBytes}
 use Rattle.wasm_syntax.specs.declared.module.ModuleParts.{ModuleParts as Module}
 use Rattle.wasm_decode.specs.Decode.{module_from}
-use Rattle.dump_write.specs.Written.{OnTold}
+use Rattle.pm_outside.specs.Written.{OnTold}
 use Rattle.rewrite_modules.specs.Weight.{AreHeights, weight}
 use Rattle.rewrite_promise.specs.Admitted.{Admits}
 use Rattle.instrument.specs.Refusal.{refusal}
 use Rattle.instrument.specs.declared.refusal.InstrFault.{InstrFault}
 use Rattle.instrument.specs.declared.refusal.InstrFault.TheVariants.{ImportCollision, ExportCollision, Limit, NoMemory}
-use Rattle.command_answers.specs.Inputs.{input_of, Then}
-use Rattle.command_answers.specs.Loading.{IfLoaded}
-use Rattle.command_answers.specs.Texts.{ended, over_limit}
-use Rattle.command_answers.specs.Told.{MayHold}
-use Rattle.command_answers.specs.declared.outcome.Outcome.{Outcome}
-use Rattle.command_answers.specs.declared.status.Status.TheVariants as status
-use Rattle.run_session.specs.Written.{Writes, HoldThen}
+use Rattle.commands.specs.Inputs.{input_of, Then}
+use Rattle.commands.specs.Loading.{IfLoaded}
+use Rattle.commands.specs.Texts.{ended, over_limit}
+use Rattle.commands.specs.Told.{MayHold}
+use Rattle.commands.specs.declared.outcome.Outcome.{Outcome}
+use Rattle.commands.specs.declared.status.Status.TheVariants as status
+use Rattle.pm_outside.specs.Held.{Writes, HoldThen}
 
 -- ---- the texts
 

@@ -1,4 +1,4 @@
 pub mod InstrumentAnswer
 pub mod Headline
 pub mod Stops
-pub mod inner
+pub mod calls

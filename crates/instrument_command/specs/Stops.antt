@@ -6,12 +6,12 @@ use Rattle.wasm_syntax.specs.declared.module.ModuleParts.{ModuleParts as Module}
 use Rattle.wasm_syntax.specs.Valid.{Valid}
 use Rattle.wasm_decode.specs.Decode.{module_from}
 use Rattle.wasm_validate.specs.Heights.{AllLow}
-use Rattle.dump_write.specs.Written.{OnTold, HasFront}
+use Rattle.pm_outside.specs.Written.{OnTold, HasFront}
 use Rattle.rewrite_modules.specs.Weight.{AreHeights}
 use Rattle.rewrite_promise.specs.Admitted.{Admits}
 use Rattle.instrument.specs.Refusal.{refusal}
-use Rattle.command_answers.specs.Inputs.{input_of}
-use Rattle.command_answers.specs.Told.{MayHold}
+use Rattle.commands.specs.Inputs.{input_of}
+use Rattle.commands.specs.Told.{MayHold}
 use Rattle.run_session.specs.Stop.{Stop, no_memory, file_failed}
 
 -- the file that failed, where one did, is this one

@@ -6,7 +6,6 @@ mod command;
 mod rewriting;
 mod writing;
 
-pub use causes::NoMemory;
 pub use command::instrument_file;
 pub use rewriting::{Rewritten, rewrite};
 pub use writing::admitted_bytes;

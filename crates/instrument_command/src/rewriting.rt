@@ -2,20 +2,18 @@
 
 ghost use Rattle.std.specs.Prelude.{◌≡◌, ◌≢◌, ◌++◌, IfOk, codes, ℕ};
 ghost use Rattle.std.specs.Fmt.{decimal};
-ghost use Rattle.command_answers.specs.Texts.{ended};
+ghost use Rattle.commands.specs.Texts.{ended};
 ghost use Rattle.instrument_command.specs.InstrumentAnswer.{instrumented, refused};
-ghost use Rattle.instrument_command.specs.inner.Steps.{IfRefused, IsRewritten, Weighs};
-ghost use Rattle.rewrite_sizes.specs.Light.{SmallOffsets};
-ghost use Rattle.wasm_sizes.specs.Sized.{Sized};
+ghost use Rattle.instrument_command.specs.calls.Steps.{IfRefused, IsRewritten, Weighs};
+ghost use Rattle.rewrite_promise.specs.calls.Light.{SmallOffsets};
+ghost use Rattle.wasm_format_laws.specs.Sized.{Sized};
 ghost use Rattle.wasm_syntax.specs.Valid.{Valid};
 
 use causes::NoMemory;
-use command_answers::{Outcome, Status, over_limit, push_number};
-use index_map::IndexMap;
-use instrument::InstrFault;
-use module_rewrite::instrument;
+use commands::{Outcome, Status, over_limit, push_number};
+use index_map::{IndexMap, weight};
+use instrument::{InstrFault, instrument};
 use pm_text::Text;
-use rewrite_limits::weight;
 use std::alloc::Global;
 use wasm_syntax::Module;
 use wasm_validate::Validated;

@@ -4,20 +4,19 @@ ghost use Rattle.std.specs.Prelude.{◌≡◌, ◌≢◌, ◌≤◌, ◌⊎◌, 
 ghost use Rattle.causes.specs.Counts.{Rose};
 ghost use Rattle.pm_outside.specs.Contents.{SameBut};
 ghost use Rattle.pm_outside.specs.Created.{with_name};
-ghost use Rattle.command_answers.specs.Told.{UnlessFault};
-ghost use Rattle.dump_write.specs.Written.{OnTold};
+ghost use Rattle.commands.specs.Told.{UnlessFault};
+ghost use Rattle.pm_outside.specs.Written.{OnTold};
 ghost use Rattle.instrument_command.specs.InstrumentAnswer.{ModuleAnswer};
-ghost use Rattle.instrument_command.specs.inner.Steps.{IsAnswered, ModuleStops, Rewrites};
+ghost use Rattle.instrument_command.specs.calls.Steps.{IsAnswered, ModuleStops, Rewrites};
 ghost use Rattle.rewrite_promise.specs.Admitted.{Admits};
 ghost use Rattle.run_session.specs.Stop.{OnStop};
 ghost use Rattle.wasm_bytes.specs.Laws.{IsBytes};
-ghost use Rattle.wasm_sizes.specs.Sized.{Sized};
+ghost use Rattle.wasm_format_laws.specs.Sized.{Sized};
 
 use crate::rewriting::weighed;
 use causes::NoMemory;
-use command_answers::{Outcome, Status, about_file};
-use pm_outside::{Files, WriteAnswer};
-use run_session::write_file;
+use commands::{Outcome, Status, about_file};
+use pm_outside::{Files, WriteAnswer, write_file};
 use std::alloc::Global;
 use wasm_encode::encode;
 use wasm_syntax::Module;

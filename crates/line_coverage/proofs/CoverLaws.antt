@@ -8,11 +8,11 @@ use Rattle.std.proofs.Math.Nat.{min-eq_left}
 use Rattle.std.proofs.lemmas.List.Elements.{All-nil}
 use Rattle.wasm_syntax.specs.declared.module.ModuleParts.{ModuleParts as Module}
 use Rattle.machine_steps.specs.Places.{Place}
-use Rattle.machine_steps.specs.Tallies.{Counts, Counted}
+use Rattle.machine_steps.specs.calls.Tallies.{Counts, Counted}
 use Rattle.dwarf_line.specs.declared.lines.Lines.{Lines}
 use Rattle.line_coverage.specs.declared.spots.Spot.{Spot}
 use Rattle.line_coverage.specs.declared.spots.LineCount.{LineCount}
-use Rattle.line_coverage.specs.Spots.{spot, steps_on, lines_sum, Ascend}
+use Rattle.line_coverage.specs.calls.Spots.{spot, steps_on, lines_sum, Ascend}
 use Rattle.line_coverage.specs.Covers.{fallen, is_on, Covered, Covers, sum_where}
 use Rattle.line_coverage.specs.inner.Sums.{sum_of, sum_all, spots_sum, Adds}
 use Rattle.line_coverage.specs.inner.Visits.{bodies_sum}

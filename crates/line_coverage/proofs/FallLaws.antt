@@ -6,11 +6,11 @@ use Rattle.wasm_syntax.specs.declared.instruction.Op.{Op}
 use Rattle.wasm_syntax.specs.declared.parts.Body.{Body}
 use Rattle.wasm_syntax.specs.declared.module.ModuleParts.{ModuleParts as Module}
 use Rattle.machine_steps.specs.Places.{Place}
-use Rattle.machine_steps.specs.Tallies as tallies
-use Rattle.machine_steps.specs.Tallies.{Counts, Counted}
+use Rattle.machine_steps.specs.calls.Tallies as tallies
+use Rattle.machine_steps.specs.calls.Tallies.{Counts, Counted}
 use Rattle.dwarf_line.specs.declared.lines.Lines.{Lines}
 use Rattle.line_coverage.specs.declared.spots.Spot.{Spot}
-use Rattle.line_coverage.specs.Spots.{spot}
+use Rattle.line_coverage.specs.calls.Spots.{spot}
 use Rattle.line_coverage.specs.Covers.{start_of, fallen}
 use Rattle.line_coverage.specs.inner.Visits.{op_sum, ops_sum, bodies_sum}
 

@@ -11,7 +11,7 @@ use Rattle.std.proofs.lemmas.Map.Keys.{sorted_head, sorted_tail}
 use Rattle.std.proofs.lemmas.List.Elements.{recursion_from_All}
 use Rattle.line_coverage.specs.declared.spots.Spot.{Spot}
 use Rattle.line_coverage.specs.declared.spots.LineCount.{LineCount}
-use Rattle.line_coverage.specs.Spots.{is_spot, is_before, Ascend, steps_on, lines_sum}
+use Rattle.line_coverage.specs.calls.Spots.{is_spot, is_before, Ascend, steps_on, lines_sum}
 use Rattle.line_coverage.specs.Covers.{is_on}
 use Rattle.line_coverage.specs.inner.Sums.{spots_sum, Positive}
 use Rattle.line_coverage.specs.inner.Order.{spot_cmp, line_of}

@@ -13,7 +13,7 @@ use Rattle.dwarf_line.specs.declared.lines.Row.{Row}
 use Rattle.dwarf_line.specs.declared.lines.Sequence.{Sequence}
 use Rattle.dwarf_line.specs.Place.{holds, nearest}
 use Rattle.line_coverage.specs.declared.spots.Spot.{Spot}
-use Rattle.line_coverage.specs.Spots.{spot_of}
+use Rattle.line_coverage.specs.calls.Spots.{spot_of}
 use Rattle.line_coverage.specs.inner.Sums.{sum_of, sum_all, spots_sum, Positive, AddsOne}
 use Rattle.line_coverage.specs.inner.Placing.{Spotting, in_sequence, in_sequences, in_tables, MovesOne, Moves}
 use Rattle.line_coverage.proofs.SumLaws.{found_at_most}

@@ -8,7 +8,7 @@ use Rattle.dwarf_line.specs.declared.lines.Sequence.{Sequence}
 use Rattle.dwarf_line.specs.declared.lines.Lines.{Lines}
 use Rattle.dwarf_line.specs.Place.{holds, holds_from, nearest, greater, place}
 use Rattle.line_coverage.specs.declared.spots.Spot.{Spot}
-use Rattle.line_coverage.specs.Spots.{spot_of, spot_from, spot}
+use Rattle.line_coverage.specs.calls.Spots.{spot_of, spot_from, spot}
 use Rattle.line_coverage.specs.inner.Placing.{Spotting, in_sequences, in_tables}
 
 -- a sequence that holds an address has a row of it

@@ -8,18 +8,18 @@ use Rattle.wasm_syntax.specs.declared.host.Reply.{Reply}
 use Rattle.wasm_syntax.specs.Module.{Program}
 use Rattle.wasm_syntax.specs.Run.{engine, start_world}
 use Rattle.machine_steps.specs.Places.{Place, invocation_places}
-use Rattle.machine_steps.specs.Tallies.{Counts, Counted}
-use Rattle.host_devices.specs.HostSides.{Calls}
+use Rattle.machine_steps.specs.calls.Tallies.{Counts, Counted}
+use Rattle.host_devices.specs.calls.HostSides.{Calls}
 use Rattle.host_devices.specs.Given.{replies_of}
-use Rattle.machine_hosted.specs.Settings.{world_of}
-use Rattle.machine_hosted.specs.Watching.{IsCount, Watched, invocation_placing}
+use Rattle.machine_hosted.specs.calls.Settings.{world_of}
+use Rattle.machine_hosted.specs.calls.Watching.{IsCount, Watched, invocation_placing}
 use Rattle.machine_hosted.specs.declared.answer.RunEnd.{RunEnd}
 use Rattle.machine_hosted.specs.declared.answer.RunEnd.TheVariants.{Finished, Trapped, NoReply, BadReply, DeviceFault, FuelSpent, NoMemory}
-use Rattle.wasm_machine.specs.Instances.{State, IsNew, IsOf, Invoked}
-use Rattle.wasm_machine.specs.Watching.{Seen}
+use Rattle.wasm_machine.specs.calls.Instances.{State, IsNew, IsOf, Invoked}
+use Rattle.wasm_machine.specs.calls.Watching.{Seen}
 use Rattle.dwarf_line.specs.declared.lines.Lines.{Lines}
 use Rattle.line_coverage.specs.Covers.{fallen, Covered, Covers}
-use Rattle.line_coverage.specs.Runs.{run_places, CoversRun}
+use Rattle.line_coverage.specs.calls.Runs.{run_places, CoversRun}
 use Rattle.machine_hosted.proofs.WatchLaws.{admits_none}
 use Rattle.machine_hosted.proofs.WatchJoins.{behind_same}
 use Rattle.pm_text.proofs.Lists.{some_is}

@@ -7,7 +7,7 @@ use Rattle.std.specs.declared.cmp.Ordering.TheVariants.{Less, Equal, Greater}
 use Rattle.std.specs.Ordering.{nat_cmp, ordering_then, is_eq}
 use Rattle.std.proofs.lemmas.Cmp.{then_total, on_total}
 use Rattle.line_coverage.specs.declared.spots.Spot.{Spot}
-use Rattle.line_coverage.specs.Spots.{is_spot}
+use Rattle.line_coverage.specs.calls.Spots.{is_spot}
 use Rattle.line_coverage.specs.inner.Order.{spot_cmp}
 use Rattle.pm_text.proofs.Lists.{is_eq_at}
 

@@ -4,11 +4,11 @@ use Rattle.std.specs.List.{AllByRecursion}
 use Rattle.wasm_syntax.specs.declared.parts.Body.{Body}
 use Rattle.wasm_syntax.specs.declared.module.ModuleParts.{ModuleParts as Module}
 use Rattle.machine_steps.specs.Places.{Place}
-use Rattle.machine_steps.specs.Tallies.{Counts, Counted}
+use Rattle.machine_steps.specs.calls.Tallies.{Counts, Counted}
 use Rattle.dwarf_line.specs.declared.lines.Lines.{Lines}
 use Rattle.line_coverage.specs.declared.spots.Spot.{Spot}
 use Rattle.line_coverage.specs.declared.spots.LineCount.{LineCount}
-use Rattle.line_coverage.specs.Spots.{spot, is_spot, Ascend, steps_on, lines_sum}
+use Rattle.line_coverage.specs.calls.Spots.{spot, is_spot, Ascend, steps_on, lines_sum}
 
 -- where the code entry of a function begins
 abbrev pub start_of : Module → ℕ → ℕ

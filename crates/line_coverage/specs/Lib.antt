@@ -1,4 +1,3 @@
-pub mod Spots
 pub mod Covers
-pub mod Runs
 pub mod inner
+pub mod calls

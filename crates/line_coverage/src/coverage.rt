@@ -1,7 +1,7 @@
 //! How many steps fell on each source line.
 
 ghost use Rattle.std.specs.Prelude.{◌≡◌, map, IfOk};
-ghost use Rattle.line_coverage.specs.Spots.{steps_on};
+ghost use Rattle.line_coverage.specs.calls.Spots.{steps_on};
 ghost use Rattle.line_coverage.specs.Covers.{count_on, CoversCounted};
 
 use crate::placing::{lines_of, place_visits};

@@ -8,7 +8,6 @@ mod spots;
 mod sums;
 mod visits;
 
-pub use causes::NoMemory;
 pub use coverage::Coverage;
 pub use run::{CoverFault, CoveredRun};
 pub use spots::{LineCount, Spot};

@@ -10,7 +10,7 @@ ghost use Rattle.std.specs.Map.{lookup, keys_of};
 ghost use Rattle.std.specs.Ordering.{nat_cmp};
 ghost use Rattle.std.specs.BTreeMap.{is_at};
 ghost use Rattle.dwarf_line.specs.Place.{holds, nearest};
-ghost use Rattle.line_coverage.specs.Spots.{spot_of};
+ghost use Rattle.line_coverage.specs.calls.Spots.{spot_of};
 ghost use Rattle.line_coverage.specs.inner.Order.{spot_cmp, line_of};
 ghost use Rattle.line_coverage.specs.inner.Spans.{is_kept, span, within};
 ghost use Rattle.line_coverage.specs.inner.Placing.{in_sequence, in_sequences, in_tables};

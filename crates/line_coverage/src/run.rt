@@ -2,12 +2,12 @@
 
 ghost use Rattle.std.specs.Prelude.{◌≡◌, ℕ, Some, IfOk, map};
 ghost use Rattle.wasm_syntax.specs.Module.{Program, function_export};
-ghost use Rattle.machine_hosted.specs.Settings.{HostKept, Knows};
-ghost use Rattle.machine_hosted.specs.Answers.{HasCause};
-ghost use Rattle.wasm_machine.specs.Entries.{entry_fault};
-ghost use Rattle.wasm_machine.specs.Instances.{IsNew, IsOf};
+ghost use Rattle.machine_hosted.specs.calls.Settings.{HostKept, Knows};
+ghost use Rattle.machine_hosted.specs.calls.Answers.{HasCause};
+ghost use Rattle.wasm_machine.specs.calls.Entries.{entry_fault};
+ghost use Rattle.wasm_machine.specs.calls.Instances.{IsNew, IsOf};
 ghost use Rattle.wasm_machine.specs.declared.entries.EntryFault.{EntryFault as Fault};
-ghost use Rattle.line_coverage.specs.Runs.{CoversRun, RefusedAs};
+ghost use Rattle.line_coverage.specs.calls.Runs.{CoversRun, RefusedAs};
 
 use crate::coverage::Coverage;
 use causes::NoMemory;

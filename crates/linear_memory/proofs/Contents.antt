@@ -4,7 +4,7 @@ use Rattle.std.proofs.lemmas.List.{take-append-le, drop-append-le, take_all, dro
 use Rattle.std.proofs.lemmas.List.{get_or-map, set-get_or, get_or_default, length-map, map-append, drop-replicate, take-replicate, get_or-set_same}
 use Rattle.std.proofs.lemmas.Bool.{cases_lt}
 use Rattle.linear_memory.specs.Memory.{window, splice, from_bytes}
-use Rattle.linear_memory.specs.Paged.{IsMade, AllMade, StaysMade}
+use Rattle.linear_memory.specs.calls.Paged.{IsMade, AllMade, StaysMade}
 use Rattle.linear_memory.specs.inner.Table.{zeros, page_bytes, contents, IsWhole, AllWhole}
 
 pub length-zeros : length zeros ≡ 65536

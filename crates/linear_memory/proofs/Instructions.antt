@@ -3,7 +3,7 @@ use Rattle.std.proofs.Common.{◌≡◌, ℕ, ◌+◌, ◌≤◌, Bool, List, �
 use Rattle.std.proofs.lemmas.Bool.{le-leb}
 use Rattle.std.proofs.lemmas.List.{take_at, length-take-le}
 use Rattle.linear_memory.specs.Memory.{Memory, put, copy, window, splice}
-use Rattle.linear_memory.specs.Paged.{Paged}
+use Rattle.linear_memory.specs.calls.Paged.{Paged}
 use Rattle.linear_memory.specs.inner.Table.{contents}
 use Rattle.linear_memory.proofs.Contents.{Table}
 

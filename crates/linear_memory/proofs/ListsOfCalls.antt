@@ -1,8 +1,8 @@
 -- One more call of a list.
 use Rattle.std.proofs.Common.{◌≡◌, ℕ, suc, ◌+◌, ◌<◌, ◌≤◌, List, [], ◌∷◌, ◌++◌, length, get_or, drop, refl, sym, ◌∙◌, ap, subst, arith, append_assoc, drop-cons}
 use Rattle.std.proofs.lemmas.List.{drop_all, append-nil}
-use Rattle.linear_memory.specs.Calls.{Does, Runs}
-use Rattle.linear_memory.specs.Paged.{Paged}
+use Rattle.linear_memory.specs.calls.Calls.{Does, Runs}
+use Rattle.linear_memory.specs.calls.Paged.{Paged}
 use Rattle.linear_memory.specs.declared.calls.Call.{Call}
 use Rattle.linear_memory.specs.declared.calls.Answer.{Answer}
 

@@ -3,7 +3,7 @@ use Rattle.std.proofs.Common.{◌≡◌, ℕ, zero, suc, ◌/◌, ◌%◌, ◌^�
 use Rattle.std.proofs.Math.Nat.{div-div-eq-div-mul}
 use Rattle.std.specs.Int.{w64, to_le_bytes, bytes_low_first, byte_at}
 use Rattle.linear_memory.specs.Memory.{to_bytes}
-use Rattle.linear_memory.specs.Paged.{IsWidth}
+use Rattle.linear_memory.specs.calls.Paged.{IsWidth}
 
 pub length-to_bytes : (n v : ℕ) → length (to_bytes n v) ≡ n
 length-to_bytes zero v = refl

@@ -1,6 +1,6 @@
 -- Which pages a write makes.
 use Rattle.std.proofs.Common.{◌≡◌, ℕ, ◌+◌, ◌-◌, ◌/◌, ◌%◌, ◌<◌, ◌≤◌, ◌⊎◌, Bool, List, sym, subst, inl, inr, arith}
-use Rattle.linear_memory.specs.Paged.{IsMade, AllMade, StaysMade, Makes, Touches}
+use Rattle.linear_memory.specs.calls.Paged.{IsMade, AllMade, StaysMade, Makes, Touches}
 use Rattle.linear_memory.proofs.Contents.{stays_refl, stays_trans, all_made_join, all_made_kept}
 
 touches_more : (at step len page : ℕ) → step ≤ len → Touches (at + step) (len - step) page → Touches at len page

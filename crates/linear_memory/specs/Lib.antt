@@ -1,6 +1,3 @@
-pub mod Calls
-pub mod Growth
 pub mod Memory
-pub mod Paged
-pub mod Width
 pub mod inner
+pub mod calls

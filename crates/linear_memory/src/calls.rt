@@ -1,10 +1,11 @@
 //! Calls of a memory one after another.
 
 ghost use Rattle.std.specs.Prelude.{◌≡◌, IfOk};
-ghost use Rattle.linear_memory.specs.Width.{width_bytes};
-ghost use Rattle.linear_memory.specs.Calls.{Does, Runs, Shows};
+ghost use Rattle.linear_memory.specs.calls.Width.{width_bytes};
+ghost use Rattle.linear_memory.specs.calls.Calls.{Does, Runs, Shows};
 
-use crate::{GrowAnswer, Memory, NoMemory, StoreFault};
+use crate::{GrowAnswer, Memory, StoreFault};
+use causes::NoMemory;
 use std::alloc::Global;
 
 /// How many bytes a load or a store moves.

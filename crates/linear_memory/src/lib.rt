@@ -10,7 +10,6 @@ mod table;
 mod words;
 
 pub use calls::{Answer, Call, Width, run};
-pub use causes::NoMemory;
 pub use paged::Memory;
 
 /// Why a store, a write, a copy or a fill did not happen. Nothing was changed.

@@ -2,7 +2,7 @@
 
 ghost use Rattle.std.specs.Prelude.{◌≡◌, ◌+◌, ◌≤◌, length, IfOk, MatchOption, is_some, IsSome, replicate};
 ghost use Rattle.linear_memory.specs.Memory.{splice, to_bytes};
-ghost use Rattle.linear_memory.specs.Paged.{IsWidth};
+ghost use Rattle.linear_memory.specs.calls.Paged.{IsWidth};
 
 use crate::raw::RawPage;
 use crate::words::{put, put_equal, write_word};

@@ -2,8 +2,8 @@
 
 ghost use Rattle.std.specs.Prelude.{◌≡◌, ◌+◌, ◌*◌, ◌^◌, ◌<◌, ◌≤◌, ◌↔◌, ◌⊎◌, length, replicate, false, IfOk, OnOk, OnErr, IfSome, IfNone, IsSome, Some};
 ghost use Rattle.linear_memory.specs.Memory.{page_size, pages, zeroed, window, to_bytes, load, store, put, fill, copy};
-ghost use Rattle.linear_memory.specs.Paged.{IsWidth, IsMade, AllMade, Makes};
-ghost use Rattle.linear_memory.specs.Growth.{Grows};
+ghost use Rattle.linear_memory.specs.calls.Paged.{IsWidth, IsMade, AllMade, Makes};
+ghost use Rattle.linear_memory.specs.calls.Growth.{Grows};
 
 use crate::page::Page;
 use crate::table::{
@@ -11,7 +11,8 @@ use crate::table::{
     store_in,
 };
 use crate::words::read_word;
-use crate::{GrowAnswer, NoMemory, StoreFault};
+use crate::{GrowAnswer, StoreFault};
+use causes::NoMemory;
 use std::alloc::Global;
 use std::marker::Model;
 
@@ -27,7 +28,7 @@ pub struct Memory {
 
 impl Model for Memory {
     ghost use Rattle.std.specs.Prelude.{◌≤◌, length, map, is_some};
-    ghost use Rattle.linear_memory.specs.Paged.{Paged};
+    ghost use Rattle.linear_memory.specs.calls.Paged.{Paged};
     ghost use Rattle.linear_memory.specs.inner.Table.{contents, AllWhole};
 
     ghost Value = { Paged };

@@ -2,7 +2,7 @@
 
 ghost use Rattle.std.specs.Prelude.{◌≡◌, ◌+◌, ◌-◌, ◌*◌, ◌/◌, ◌%◌, ◌^◌, ◌<◌, ◌≤◌, ◌↔◌, ◌++◌, length, map, is_some, replicate, if◌then◌else◌, IsTrue, IfOk, IsSome, IfSome, IfNone, false, ℕ, ◌⊎◌};
 ghost use Rattle.linear_memory.specs.Memory.{window, splice, from_bytes, to_bytes};
-ghost use Rattle.linear_memory.specs.Paged.{IsWidth, AllMade, IsMade, StaysMade, Makes};
+ghost use Rattle.linear_memory.specs.calls.Paged.{IsWidth, AllMade, IsMade, StaysMade, Makes};
 ghost use Rattle.linear_memory.specs.inner.Table.{contents, AllWhole, zeros};
 
 use crate::page::Page;

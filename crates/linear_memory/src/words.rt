@@ -2,7 +2,7 @@
 
 ghost use Rattle.std.specs.Prelude.{◌≡◌, ◌+◌, ◌^◌, ◌<◌, ◌≤◌, length, replicate};
 ghost use Rattle.linear_memory.specs.Memory.{from_bytes, to_bytes, window, splice};
-ghost use Rattle.linear_memory.specs.Paged.{IsWidth};
+ghost use Rattle.linear_memory.specs.calls.Paged.{IsWidth};
 
 #[inline(always)]
 pub(crate) fn read_word(bytes: &[u8], at: usize, width: usize) -> u64

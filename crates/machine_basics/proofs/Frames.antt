@@ -8,7 +8,7 @@ use Rattle.wasm_syntax.specs.Numbers.{same_type, type_of}
 use Rattle.wasm_syntax.specs.Effect.{gives, when, over}
 use Rattle.wasm_syntax.specs.Host.{World}
 use Rattle.machine_basics.specs.declared.answer.Performed.TheVariants.{Done}
-use Rattle.machine_basics.specs.Performs.{above, on_operands, laid_out}
+use Rattle.machine_basics.specs.calls.Performs.{above, on_operands, laid_out}
 use Rattle.machine_basics.specs.inner.Parts.{Moves}
 use Rattle.std.proofs.lemmas.Option.{slice_get_within}
 

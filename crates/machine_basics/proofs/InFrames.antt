@@ -8,7 +8,7 @@ use Rattle.wasm_syntax.specs.Machine.{Cut, short, parts, cut, one_more}
 use Rattle.machine_basics.specs.declared.answer.Performed.{Performed}
 use Rattle.machine_basics.specs.declared.answer.Performed.TheVariants.{Done, Trap, NoMemory}
 use Rattle.machine_basics.specs.declared.shared.Shared.{Shared}
-use Rattle.machine_basics.specs.Performs.{above, on_cut, on_operands, laid_out, Holds, Does, Did}
+use Rattle.machine_basics.specs.calls.Performs.{above, on_cut, on_operands, laid_out, Holds, Does, Did}
 use Rattle.machine_basics.specs.inner.Parts.{Acts, Moves, Changes}
 
 -- ---- a cut of a longer list

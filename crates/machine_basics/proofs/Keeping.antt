@@ -16,8 +16,8 @@ use Rattle.wasm_syntax.specs.Numbers.{number, value, modulo, bool_number, unary,
 use Rattle.wasm_syntax.specs.Effect.{Effect, gives, fails, unfit, effect, takes, when, with_some, on_none, on_any, on_one, on_two, on_three, on_choice, over, in_bounds, divides, grown, with_globals, with_memory, address}
 use Rattle.wasm_syntax.specs.Host.{World}
 use Rattle.wasm_syntax.specs.Machine.{Cut, short, parts, cut}
-use Rattle.machine_basics.specs.inner.Keeps.{Keeps, EffectKeeps}
-use Rattle.machine_basics.specs.Performs.{above, on_cut, on_operands}
+use Rattle.machine_basics.specs.calls.Keeps.{Keeps, EffectKeeps}
+use Rattle.machine_basics.specs.calls.Performs.{above, on_cut, on_operands}
 
 module _ (w : World) (ls : List Value) where
   abbrev K : Effect → Type 0

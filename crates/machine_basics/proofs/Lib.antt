@@ -1,4 +1,3 @@
 pub mod Frames
 pub mod InFrames
 pub mod Keeping
-pub mod Stacks

@@ -1,3 +1,2 @@
-pub mod Performs
-pub mod Traps
 pub mod inner
+pub mod calls

@@ -2,7 +2,7 @@
 
 ghost use Rattle.std.specs.Prelude.{◌≡◌, ◌<◌, ◌^◌, ◌*◌, ◌/◌, ◌+◌, ◌%◌, option_map};
 ghost use Rattle.linear_memory.specs.Memory.{load as load_of, store as store_of, copy as copy_of, fill as fill_of};
-ghost use Rattle.linear_memory.specs.Paged.{IsWidth};
+ghost use Rattle.linear_memory.specs.calls.Paged.{IsWidth};
 ghost use Rattle.wasm_syntax.specs.Access.{load_type, load_bits, loaded, store_type, store_bits, widen};
 ghost use Rattle.wasm_syntax.specs.Effect.{address as address_of};
 ghost use Rattle.wasm_syntax.specs.Numbers.{number, value as value_of};

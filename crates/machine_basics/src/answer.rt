@@ -1,7 +1,7 @@
 //! What performing an instruction answers.
 
 ghost use Rattle.std.specs.Prelude.{◌≡◌};
-ghost use Rattle.machine_basics.specs.Traps.{trap_code};
+ghost use Rattle.machine_basics.specs.calls.Traps.{trap_code};
 
 /// Why an instruction traps.
 #[derive(Clone, Copy, Debug, PartialEq, Eq)]

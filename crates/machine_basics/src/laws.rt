@@ -4,8 +4,8 @@ ghost use Rattle.std.specs.Prelude.{List};
 ghost use Rattle.wasm_syntax.specs.Host.{World};
 ghost use Rattle.wasm_syntax.specs.declared.instruction.Basic.{Basic as Instruction};
 ghost use Rattle.wasm_syntax.specs.declared.value.Value.{Value as Val};
-ghost use Rattle.machine_basics.specs.inner.Keeps.{EffectKeeps};
-ghost use Rattle.machine_basics.specs.Performs.{on_operands};
+ghost use Rattle.machine_basics.specs.calls.Keeps.{EffectKeeps};
+ghost use Rattle.machine_basics.specs.calls.Performs.{on_operands};
 
 /// No instruction changes the number of locals or globals, the table, the replies that are left or
 /// what was served.

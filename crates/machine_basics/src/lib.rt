@@ -9,13 +9,10 @@ mod memory;
 mod numeric;
 mod operands;
 mod shared;
-mod stack;
 mod step;
 mod variables;
 
 pub use answer::{Performed, TrapKind};
-pub use causes::NoMemory;
 pub use laws::effects_keep;
 pub use shared::{Globals, Shared};
-pub use stack::Stack;
 pub use step::perform;

@@ -4,15 +4,15 @@ ghost use Rattle.std.specs.Prelude.{◌≡◌, ℕ, List, drop};
 ghost use Rattle.wasm_syntax.specs.Host.{World};
 ghost use Rattle.wasm_syntax.specs.declared.value.Value.{Value as Val};
 ghost use Rattle.wasm_syntax.specs.declared.instruction.Basic.TheVariants as basics;
-ghost use Rattle.machine_basics.specs.Performs.{on_operands, Holds, UnlessDone};
+ghost use Rattle.machine_basics.specs.calls.Performs.{on_operands, Holds, UnlessDone};
 ghost use Rattle.machine_basics.specs.inner.Parts.{Acts, Changes, Grows, three_numbers};
 
 use crate::access::{address, copy_at, fill_at, load_at, store_at, stored_number};
 use crate::answer::{Performed, TrapKind};
 use crate::operands::push;
 use crate::shared::Shared;
-use crate::stack::Stack;
 use linear_memory::{GrowAnswer, Memory};
+use pm_text::Stack;
 use wasm_syntax::{Load, Store, Value};
 
 #[inline(always)]

@@ -6,14 +6,14 @@ ghost use Rattle.wasm_syntax.specs.Host.{World};
 ghost use Rattle.wasm_syntax.specs.declared.value.Value.{Value as Val};
 ghost use Rattle.wasm_syntax.specs.declared.instruction.Basic.TheVariants as basics;
 ghost use Rattle.wasm_syntax.specs.Effect.{trap_kind};
-ghost use Rattle.machine_basics.specs.Performs.{on_operands, UnlessDone};
+ghost use Rattle.machine_basics.specs.calls.Performs.{on_operands, UnlessDone};
 ghost use Rattle.machine_basics.specs.inner.Parts.{Acts, Pushes};
-ghost use Rattle.machine_basics.specs.Traps.{trap_code};
+ghost use Rattle.machine_basics.specs.calls.Traps.{trap_code};
 
 use crate::answer::{Performed, TrapKind};
 use crate::numeric;
-use crate::stack::Stack;
 use int_ops::{ArithTrap, Binary, Compare, Narrow32, Narrow64, Unary};
+use pm_text::Stack;
 use wasm_syntax::{Convert, ValType, Value};
 
 // ---- results in the place of operands

@@ -3,12 +3,12 @@
 ghost use Rattle.std.specs.Prelude.{◌≡◌, List, length, IsTrue};
 ghost use Rattle.wasm_syntax.specs.Host.{World};
 ghost use Rattle.wasm_syntax.specs.declared.value.Value.{Value as Val};
-ghost use Rattle.machine_basics.specs.Performs.{on_operands, laid_out, Holds, Did, UnlessDone, takes_memory};
+ghost use Rattle.machine_basics.specs.calls.Performs.{on_operands, laid_out, Holds, Did, UnlessDone, takes_memory};
 
 use crate::answer::Performed;
 use crate::shared::Shared;
-use crate::stack::Stack;
 use crate::{memory, operands, variables};
+use pm_text::Stack;
 use wasm_syntax::{Basic, Value};
 
 /// Performs an instruction on the values of a frame, whose locals stand from the place `base` on,

@@ -4,13 +4,13 @@ ghost use Rattle.std.specs.Prelude.{◌≡◌, List, length};
 ghost use Rattle.wasm_syntax.specs.Host.{World};
 ghost use Rattle.wasm_syntax.specs.declared.value.Value.{Value as Val};
 ghost use Rattle.wasm_syntax.specs.declared.instruction.Basic.TheVariants as basics;
-ghost use Rattle.machine_basics.specs.Performs.{on_operands, laid_out, Holds, UnlessDone};
+ghost use Rattle.machine_basics.specs.calls.Performs.{on_operands, laid_out, Holds, UnlessDone};
 ghost use Rattle.machine_basics.specs.inner.Parts.{Acts, Moves, Changes};
 
 use crate::answer::Performed;
 use crate::operands::push;
 use crate::shared::Shared;
-use crate::stack::Stack;
+use pm_text::Stack;
 use wasm_syntax::Value;
 
 // ---- locals, which stand from the place `base` on

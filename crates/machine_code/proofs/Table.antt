@@ -5,7 +5,7 @@ use Rattle.std.specs.Prelude.{Some, None, slice_get}
 use Rattle.wasm_syntax.specs.declared.instruction.Op.{Op}
 use Rattle.wasm_syntax.specs.Tree.{code_of, item_of, Nodes, stop, basic, jump, block, loop, choose, Tree, Item, Plain, Goes, Opens, OpensLoop, OpensIf, Else, End, Placed, placed, write, IsTree, WritesOut}
 use Rattle.machine_code.specs.declared.sides.Side.{Side}
-use Rattle.machine_code.specs.Flat.{Is, At, Stands, size}
+use Rattle.machine_code.specs.calls.Flat.{Is, At, Stands, size}
 use Rattle.machine_code.specs.inner.Sides.{Scan, scan, scan_one, top, below, with_arm}
 
 module _ (code : List Placed) (sides : List Side) where

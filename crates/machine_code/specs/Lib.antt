@@ -1,3 +1,2 @@
-pub mod Flat
-pub mod Code
 pub mod inner
+pub mod calls

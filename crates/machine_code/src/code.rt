@@ -2,13 +2,14 @@
 
 ghost use Rattle.std.specs.Prelude.{◌≡◌, slice_get, take, drop, IfOk};
 ghost use Rattle.wasm_syntax.specs.Tree.{Tree as CodeTree, Writes};
-ghost use Rattle.machine_code.specs.Code.{FitsCode, gives_one};
+ghost use Rattle.machine_code.specs.calls.Code.{FitsCode, gives_one};
 ghost use Rattle.wasm_syntax.specs.Machine.{first, pick};
 
 use crate::sides::{Side, side_table};
 use causes::NoMemory;
+use pm_text::Items;
 use std::alloc::Global;
-use wasm_syntax::{Body, FuncType, Items, Op, ValTypes};
+use wasm_syntax::{Body, FuncType, Op, ValTypes};
 
 /// A defined function, prepared for running.
 #[derive(Drop)]

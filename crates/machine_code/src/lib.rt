@@ -1,8 +1,16 @@
-//! Flat bodies prepared for running: a table beside the instructions says where each block goes on.
+//! Modules prepared for running: flat code with a table that says where each block goes on, and a
+//! number for each function type.
 #![tactic(auto)]
 
 mod code;
+mod numbers;
+mod prepared;
 mod sides;
+mod tree;
+mod type_words;
+mod whole;
 
 pub use code::Code;
+pub use prepared::Prepared;
 pub use sides::{Side, side_table};
+pub use whole::prepare;

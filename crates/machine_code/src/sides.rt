@@ -2,13 +2,13 @@
 
 ghost use Rattle.std.specs.Prelude.{◌≡◌, ℕ, suc, List, reverse, IfOk, OnOk};
 ghost use Rattle.wasm_syntax.specs.Tree.{Tree, WritesOut, code_of, item_of};
-ghost use Rattle.machine_code.specs.Flat.{Stands};
+ghost use Rattle.machine_code.specs.calls.Flat.{Stands};
 ghost use Rattle.machine_code.specs.inner.Sides.{scan_one, top, below, with_arm};
 
 use causes::NoMemory;
+use pm_text::{Items, Stack};
 use std::alloc::Global;
-use validate_stack::Pile;
-use wasm_syntax::{Instr, Items, Op};
+use wasm_syntax::{Instr, Op};
 
 /// Where a `block`, `loop` or `if` goes on, as indices of instructions.
 #[derive(Clone, Copy)]
@@ -27,7 +27,7 @@ fn no_side() -> Side
 }
 
 /// Takes the innermost open block off.
-fn close(opens: &mut Pile<Side>) -> Side
+fn close(opens: &mut Stack<Side>) -> Side
     ensures side { result ≡ top opens.old }
     ensures left { opens.new ≡ below opens.old }
 {
@@ -38,7 +38,7 @@ fn close(opens: &mut Pile<Side>) -> Side
 }
 
 /// The second arm of the innermost open block begins here.
-fn set_arm(opens: &mut Pile<Side>, arm: usize) -> Result<(), NoMemory>
+fn set_arm(opens: &mut Stack<Side>, arm: usize) -> Result<(), NoMemory>
     ensures { OnOk result (opens.new ≡ with_arm arm opens.old) }
 {
     match opens.pop() {
@@ -49,7 +49,7 @@ fn set_arm(opens: &mut Pile<Side>, arm: usize) -> Result<(), NoMemory>
 
 /// Reads the instruction at an index, in front of those that were read.
 fn read_one(
-    opens: &mut Pile<Side>,
+    opens: &mut Stack<Side>,
     sides: &mut Vec<Side>,
     code: Instr,
     index: usize,
@@ -86,7 +86,7 @@ pub fn side_table(alloc: Global, ops: &[Op]) -> Result<Items<Side>, NoMemory>
     ensures { (targets : List ℕ) (tree : Tree) → WritesOut (code_of targets ops.now) tree
         → IfOk result (λ sides. Stands (code_of targets ops.now) sides tree) }
 {
-    let mut opens = Pile::new(alloc);
+    let mut opens = Stack::new(alloc);
     let mut sides = Vec::new(alloc);
     let mut index = ops.len();
     while index > 0 {

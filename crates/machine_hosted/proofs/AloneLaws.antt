@@ -18,16 +18,16 @@ use Rattle.linear_memory.specs.Memory.{Memory}
 use Rattle.machine_basics.specs.declared.shared.Shared.{Shared}
 use Rattle.machine_code.specs.declared.code.Code.{Code}
 use Rattle.machine_steps.specs.declared.machine.Machine.{Machine}
-use Rattle.machine_steps.specs.Meets.{Shares}
-use Rattle.machine_hosted.specs.Safe.{WorldFits, RunFits}
-use Rattle.host_devices.specs.Devices.{empty_reply}
-use Rattle.host_devices.specs.HostSides.{Calls, Adds, told}
-use Rattle.machine_hosted.specs.Hosted.{Going, Asked, Grew, Served, replying}
+use Rattle.machine_steps.specs.calls.Meets.{Shares}
+use Rattle.machine_hosted.specs.calls.Safe.{WorldFits, RunFits}
+use Rattle.host_devices.specs.calls.Devices.{empty_reply}
+use Rattle.host_devices.specs.calls.HostSides.{Calls, Adds, told}
+use Rattle.machine_hosted.specs.calls.Hosted.{Going, Asked, Grew, Served, replying}
 use Rattle.host_devices.specs.Given.{replies_of}
 use Rattle.machine_hosted.specs.declared.answer.RunEnd.{RunEnd}
 use Rattle.machine_hosted.specs.declared.answer.RunEnd.TheVariants.{Finished, Trapped, NoReply, BadReply, DeviceFault, FuelSpent, NoMemory}
 use Rattle.machine_hosted.specs.inner.Alone.{after_reply, Took, alone}
-use Rattle.machine_hosted.specs.Answers.{Keeps, KeepsThen, last_in, AnswersTo, AdmitsReplies, given_steps, FunctionCame, FunctionCameWith, HasCause}
+use Rattle.machine_hosted.specs.calls.Answers.{Keeps, KeepsThen, last_in, AnswersTo, AdmitsReplies, given_steps, FunctionCame, FunctionCameWith, HasCause}
 use Rattle.machine_hosted.proofs.WorldLaws.{shares_replying, fits_replying, writes_fit}
 use Rattle.pm_text.proofs.Lists.{some_is}
 

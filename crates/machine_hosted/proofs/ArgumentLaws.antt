@@ -6,11 +6,11 @@ use Rattle.wasm_syntax.specs.declared.value.Value.{Value}
 use Rattle.wasm_syntax.specs.declared.value.Value.TheVariants as values
 use Rattle.wasm_syntax.specs.Machine.{Engine, Config, Stepped}
 use Rattle.machine_code.specs.declared.code.Code.{Code}
-use Rattle.machine_frames.specs.Layout.{Frames}
-use Rattle.machine_frames.specs.Meets.{with_labels}
+use Rattle.machine_steps.specs.calls.Layout.{Frames}
+use Rattle.machine_steps.specs.calls.FramesMeet.{with_labels}
 use Rattle.machine_steps.specs.declared.machine.Machine.{Machine}
 use Rattle.machine_steps.specs.declared.machine.ImportCall.{ImportCall}
-use Rattle.machine_steps.specs.Meets.{UnderIndex, CallsImport}
+use Rattle.machine_steps.specs.calls.Meets.{UnderIndex, CallsImport}
 use Rattle.machine_hosted.proofs.ReplyLaws.{behind_call}
 
 -- a part of a list, by the lengths of what is before and behind it

@@ -12,11 +12,11 @@ use Rattle.wasm_syntax.specs.Module.{Program, imported, imported_at, defined_at,
 use Rattle.wasm_syntax.specs.Host.{answer}
 use Rattle.wasm_syntax.specs.Machine as steps
 use Rattle.wasm_syntax.specs.Machine.{Engine, Config, Cut, short, parts, cut, step, host, host_call}
-use Rattle.machine_frames.proofs.CallLaws.{cut_parts}
+use Rattle.machine_steps.proofs.CallLaws.{cut_parts}
 use Rattle.machine_code.specs.declared.code.Code.{Code}
 use Rattle.machine_steps.specs.declared.machine.Machine.{Machine}
 use Rattle.machine_steps.specs.declared.machine.ImportCall.{ImportCall}
-use Rattle.machine_steps.specs.Meets.{CallsImport}
+use Rattle.machine_steps.specs.calls.Meets.{CallsImport}
 use Rattle.machine_hosted.specs.inner.Turns.{AtCall}
 use Rattle.wasm_syntax.proofs.Types.{same_types_are}
 

@@ -12,7 +12,7 @@ use Rattle.wasm_syntax.specs.Numbers.{types}
 use Rattle.wasm_syntax.specs.Module.{option_then}
 use Rattle.wasm_syntax.specs.Host.{on_i32, on_i64, on_frame, collector_name, collector_call, if_none, collector_of}
 use Rattle.wasm_syntax.specs.Machine.{Engine, host_call, result_of}
-use Rattle.host_devices.specs.HostSides.{told}
+use Rattle.host_devices.specs.calls.HostSides.{told}
 use Rattle.machine_hosted.specs.inner.Turns.{told_by}
 
 -- ---- by types

@@ -13,19 +13,19 @@ use Rattle.wasm_syntax.specs.Module.{Program, IsProgram, function_at, type_at}
 use Rattle.wasm_syntax.specs.Host.{World}
 use Rattle.wasm_syntax.specs.Machine.{Engine, Config, Stepped, next, ends, traps, no_reply, bad_reply, stuck}
 use Rattle.wasm_syntax.specs.Run.{Ended, ended, run_function, run_entry, go_on, ran_to, invoked, engine, running, Ran}
-use Rattle.host_devices.specs.HostSides.{Calls}
+use Rattle.host_devices.specs.calls.HostSides.{Calls}
 use Rattle.host_devices.specs.Given.{replies_of, unfitting}
 use Rattle.machine_code.specs.declared.code.Code.{Code}
 use Rattle.machine_steps.specs.declared.machine.Machine.{Machine}
-use Rattle.machine_steps.specs.declared.machine.Prepared.{Prepared}
-use Rattle.machine_hosted.specs.Safe.{ValidProgram, WorldFits, RunFits}
-use Rattle.machine_hosted.specs.Settings.{Sound, MachineFits, Takes, world_of}
-use Rattle.machine_hosted.specs.Hosted.{Asked, Grew, replying, served_in, told_in, left_in}
+use Rattle.machine_code.specs.declared.prepared.Prepared.{Prepared}
+use Rattle.machine_hosted.specs.calls.Safe.{ValidProgram, WorldFits, RunFits}
+use Rattle.machine_hosted.specs.calls.Settings.{Sound, MachineFits, Takes, world_of}
+use Rattle.machine_hosted.specs.calls.Hosted.{Asked, Grew, replying, served_in, told_in, left_in}
 use Rattle.machine_hosted.specs.declared.answer.RunEnd.{RunEnd}
 use Rattle.machine_hosted.specs.declared.answer.RunEnd.TheVariants.{Finished, Trapped, NoReply, BadReply, DeviceFault, FuelSpent, NoMemory}
-use Rattle.machine_hosted.specs.Answers.{KeepsThen, last_in, AnswersTo, given_steps, FunctionCame, FunctionCameWith, AdmitsReplies, function_going}
-use Rattle.machine_hosted.specs.Invocations.{InvocationCame, Invoking, invoking}
-use Rattle.machine_hosted.specs.Courses.{Course, both, Followed}
+use Rattle.machine_hosted.specs.calls.Answers.{KeepsThen, last_in, AnswersTo, given_steps, FunctionCame, FunctionCameWith, AdmitsReplies, function_going}
+use Rattle.machine_hosted.specs.calls.Invocations.{InvocationCame, Invoking, invoking}
+use Rattle.machine_hosted.specs.calls.Courses.{Course, both, Followed}
 use Rattle.machine_hosted.specs.inner.Resumes.{with_replies, going_on, resuming, Waits}
 use Rattle.machine_hosted.proofs.WorldLaws.{fits_replying}
 use Rattle.machine_hosted.proofs.ModuleLaws.{valid_program, takes_start}

@@ -17,23 +17,23 @@ use Rattle.wasm_syntax.specs.Machine.{Engine, Frame, config, next, entered, host
 use Rattle.wasm_syntax.specs.Run.{engine, run_function}
 use Rattle.machine_code.specs.declared.code.Code.{Code}
 use Rattle.machine_steps.specs.declared.machine.Machine.{Machine}
-use Rattle.machine_steps.specs.declared.machine.Prepared.{Prepared}
+use Rattle.machine_code.specs.declared.prepared.Prepared.{Prepared}
 use Rattle.machine_steps.specs.Places.{Place, alone_places, function_places}
-use Rattle.machine_steps.specs.Prepares.{IsPrepared}
-use Rattle.machine_steps.specs.Meets.{Shares}
-use Rattle.machine_steps.specs.inner.Runs.{Begins}
-use Rattle.machine_hosted.specs.Safe.{ValidProgram, WorldFits}
+use Rattle.machine_code.specs.calls.Prepares.{IsPrepared}
+use Rattle.machine_steps.specs.calls.Meets.{Shares}
+use Rattle.machine_steps.specs.calls.Runs.{Begins}
+use Rattle.machine_hosted.specs.calls.Safe.{ValidProgram, WorldFits}
 use Rattle.machine_hosted.proofs.SafeLaws.{entered_fits}
-use Rattle.host_devices.specs.HostSides.{Calls}
-use Rattle.machine_hosted.specs.Hosted.{Going, replying}
+use Rattle.host_devices.specs.calls.HostSides.{Calls}
+use Rattle.machine_hosted.specs.calls.Hosted.{Going, replying}
 use Rattle.machine_hosted.specs.inner.FrameRuns.{CameWith}
 use Rattle.machine_hosted.specs.inner.Turns.{Ready, going}
 use Rattle.machine_hosted.specs.declared.answer.RunEnd.{RunEnd}
 use Rattle.machine_hosted.specs.declared.answer.RunEnd.TheVariants.{NoMemory}
-use Rattle.machine_hosted.specs.Settings.{Sound, MachineFits, Takes, ServesAll}
+use Rattle.machine_hosted.specs.calls.Settings.{Sound, MachineFits, Takes, ServesAll}
 use Rattle.machine_hosted.specs.inner.Alone.{alone}
-use Rattle.machine_hosted.specs.Answers.{FunctionCameWith, function_going}
-use Rattle.machine_hosted.specs.Watching.{Watched, function_placing}
+use Rattle.machine_hosted.specs.calls.Answers.{FunctionCameWith, function_going}
+use Rattle.machine_hosted.specs.calls.Watching.{Watched, function_placing}
 use Rattle.machine_hosted.specs.inner.Watches.{frames_placing}
 use Rattle.machine_hosted.proofs.WatchLaws.{by_same_places, unseen}
 use Rattle.machine_hosted.proofs.WorldLaws.{shares_replying, fits_replying, each_fits}

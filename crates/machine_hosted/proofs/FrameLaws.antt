@@ -9,18 +9,18 @@ use Rattle.wasm_syntax.specs.Host.{World}
 use Rattle.wasm_syntax.specs.Machine.{Engine, Frame, Config, config, Stepped, next, ends, traps, no_reply, bad_reply, stuck}
 use Rattle.wasm_syntax.specs.Run.{Ended as Result}
 use Rattle.machine_code.specs.declared.code.Code.{Code}
-use Rattle.machine_frames.specs.Layout as layout
+use Rattle.machine_steps.specs.calls.Layout as layout
 use Rattle.machine_steps.specs.declared.machine.Machine.{Machine}
-use Rattle.machine_steps.specs.Meets.{StandsFor}
-use Rattle.machine_hosted.specs.Safe.{RunFits}
-use Rattle.host_devices.specs.HostSides.{Calls}
-use Rattle.machine_hosted.specs.Hosted.{Going}
+use Rattle.machine_steps.specs.calls.Meets.{StandsFor}
+use Rattle.machine_hosted.specs.calls.Safe.{RunFits}
+use Rattle.host_devices.specs.calls.HostSides.{Calls}
+use Rattle.machine_hosted.specs.calls.Hosted.{Going}
 use Rattle.machine_hosted.specs.inner.FrameRuns.{Tells, Came, CameWith}
 use Rattle.host_devices.specs.Given.{replies_of}
 use Rattle.machine_hosted.specs.inner.Turns as turns
 use Rattle.machine_hosted.specs.declared.answer.RunEnd.{RunEnd}
 use Rattle.machine_hosted.specs.declared.answer.RunEnd.TheVariants.{Finished, Trapped, NoReply, BadReply, DeviceFault, FuelSpent, NoMemory}
-use Rattle.machine_hosted.specs.Answers.{KeepsFrames, Keeps, KeepsThen, last_in, AnswersTo, AdmitsReplies, given_steps, FunctionCame, FunctionCameWith, FitsThen}
+use Rattle.machine_hosted.specs.calls.Answers.{KeepsFrames, Keeps, KeepsThen, last_in, AnswersTo, AdmitsReplies, given_steps, FunctionCame, FunctionCameWith, FitsThen}
 use Rattle.machine_hosted.proofs.WorldLaws.{machine_fits}
 use Rattle.pm_text.proofs.Lists.{some_is}
 

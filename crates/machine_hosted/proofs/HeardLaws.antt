@@ -16,14 +16,14 @@ use Rattle.wasm_laws.proofs.Validity.{startable}
 use Rattle.machine_code.specs.declared.code.Code.{Code}
 use Rattle.machine_steps.specs.declared.machine.Machine.{Machine}
 use Rattle.machine_steps.specs.declared.machine.ImportCall.{ImportCall}
-use Rattle.machine_steps.specs.Meets.{CallsImport}
-use Rattle.host_devices.specs.HostSides.{Calls, told, Adds, IsOfType}
+use Rattle.machine_steps.specs.calls.Meets.{CallsImport}
+use Rattle.host_devices.specs.calls.HostSides.{Calls, told, Adds, IsOfType}
 use Rattle.machine_hosted.specs.declared.answer.RunEnd.{RunEnd}
 use Rattle.machine_hosted.specs.declared.answer.RunEnd.TheVariants as answers
 use Rattle.machine_hosted.specs.declared.turn.Turn.{Turn}
 use Rattle.machine_hosted.specs.declared.turn.Turn.TheVariants.{Goes, Ends, Lacking}
-use Rattle.machine_hosted.specs.Hosted.{Asked, Grew}
-use Rattle.machine_hosted.specs.Answers.{AdmitsReplies, HasCause}
+use Rattle.machine_hosted.specs.calls.Hosted.{Asked, Grew}
+use Rattle.machine_hosted.specs.calls.Answers.{AdmitsReplies, HasCause}
 use Rattle.host_devices.specs.Given.{replies_of}
 use Rattle.machine_hosted.specs.inner.Turns.{Calling, AtCall, told_by, nothing, one_reply, one_told, end_of, Turned, TurnMeets, IsReplied}
 use Rattle.machine_hosted.proofs.CallLaws.{imported_is, called, at_call}

@@ -4,11 +4,11 @@ use Rattle.std.specs.Prelude.{Bool}
 use Rattle.wasm_syntax.specs.declared.parts.Import.{Import}
 use Rattle.wasm_syntax.specs.declared.parts.FuncType.{FuncType}
 use Rattle.wasm_syntax.specs.declared.module.ModuleParts.{ModuleParts as Module}
-use Rattle.host_devices.specs.HostSides.{Origin}
+use Rattle.host_devices.specs.calls.HostSides.{Origin}
 use Rattle.machine_hosted.specs.declared.answer.RunEnd.{RunEnd}
 use Rattle.machine_hosted.specs.declared.answer.RunEnd.TheVariants.{Finished, Trapped, NoReply, BadReply, DeviceFault, FuelSpent, NoMemory}
-use Rattle.machine_hosted.specs.Answers.{HasCause}
-use Rattle.machine_hosted.specs.Settings.{Knows, HostServes, HostKept}
+use Rattle.machine_hosted.specs.calls.Answers.{HasCause}
+use Rattle.machine_hosted.specs.calls.Settings.{Knows, HostServes, HostKept}
 
 module _ {H : Type 0} (origin : H → Origin) (collecting : H → Bool) (serving : H → Import → FuncType → Bool) (fault_count : H → List ℕ → ℕ) where
   pub kept_same : (h : H) → HostKept origin collecting serving fault_count h h

@@ -15,15 +15,15 @@ use Rattle.wasm_syntax.specs.Machine.{Engine, Config, config, Stepped, next, end
 use Rattle.wasm_syntax.specs.Run.{Ended, ended, run_on, run_steps, run_alone, run_function, run_entry, go_on, ran_to, finished, goes_on}
 use Rattle.machine_code.specs.declared.code.Code.{Code}
 use Rattle.machine_steps.specs.declared.machine.Machine.{Machine}
-use Rattle.machine_hosted.specs.Safe.{RunFits}
-use Rattle.host_devices.specs.HostSides.{Calls}
-use Rattle.machine_hosted.specs.Hosted.{Asked, Grew, replying, served_in, told_in, left_in}
+use Rattle.machine_hosted.specs.calls.Safe.{RunFits}
+use Rattle.host_devices.specs.calls.HostSides.{Calls}
+use Rattle.machine_hosted.specs.calls.Hosted.{Asked, Grew, replying, served_in, told_in, left_in}
 use Rattle.host_devices.specs.Given.{replies_of}
 use Rattle.machine_hosted.specs.declared.answer.RunEnd.{RunEnd}
 use Rattle.machine_hosted.specs.declared.answer.RunEnd.TheVariants.{Finished, Trapped, NoReply, BadReply, DeviceFault, FuelSpent, NoMemory}
-use Rattle.machine_hosted.specs.Settings.{world_of}
-use Rattle.machine_hosted.specs.Answers.{KeepsThen, last_in, AnswersTo, given_steps, FunctionCame, FunctionCameWith, function_going}
-use Rattle.machine_hosted.specs.Invocations.{HasOutcome, IsEntered, may_follow, follows_behind, finishes, Invoking, invoking, InvocationCame, InvocationCameWith}
+use Rattle.machine_hosted.specs.calls.Settings.{world_of}
+use Rattle.machine_hosted.specs.calls.Answers.{KeepsThen, last_in, AnswersTo, given_steps, FunctionCame, FunctionCameWith, function_going}
+use Rattle.machine_hosted.specs.calls.Invocations.{HasOutcome, IsEntered, may_follow, follows_behind, finishes, Invoking, invoking, InvocationCame, InvocationCameWith}
 use Rattle.host_devices.specs.Given.{unfitting}
 use Rattle.machine_hosted.proofs.WorldLaws.{one_world}
 use Rattle.pm_text.proofs.Lists.{some_is}

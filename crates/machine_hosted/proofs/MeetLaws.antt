@@ -10,14 +10,14 @@ use Rattle.wasm_syntax.specs.Host.{World, Answer, answer, told_or, served_by, if
 use Rattle.wasm_syntax.specs.Machine as steps
 use Rattle.wasm_syntax.specs.Machine.{Engine, Config, config, Cut, short, parts, cut, label, frame, result_of}
 use Rattle.linear_memory.specs.Memory.{Memory}
-use Rattle.machine_frames.proofs.CallLaws.{cut_parts}
+use Rattle.machine_steps.proofs.CallLaws.{cut_parts}
 use Rattle.machine_code.specs.declared.code.Code.{Code}
-use Rattle.machine_frames.specs.Layout as layout
-use Rattle.machine_frames.specs.Meets.{with_labels}
+use Rattle.machine_steps.specs.calls.Layout as layout
+use Rattle.machine_steps.specs.calls.FramesMeet.{with_labels}
 use Rattle.machine_basics.specs.declared.shared.Shared.{Shared}
 use Rattle.machine_steps.specs.declared.machine.Machine.{Machine}
 use Rattle.machine_steps.specs.declared.machine.ImportCall.{ImportCall}
-use Rattle.machine_steps.specs.Meets.{StandsFor, CallsImport}
+use Rattle.machine_steps.specs.calls.Meets.{StandsFor, CallsImport}
 use Rattle.machine_hosted.specs.declared.reply.Replied.{Replied}
 use Rattle.machine_hosted.specs.declared.reply.Replied.TheVariants.{Done, Misfit, NoMemory}
 use Rattle.machine_hosted.specs.inner.Replies.{Finished}

@@ -12,13 +12,13 @@ use Rattle.wasm_syntax.specs.Module.{Program, IsProgram, Function, imported, def
 use Rattle.wasm_syntax.specs.declared.place.Place.TheVariants as places
 use Rattle.wasm_syntax.specs.Valid.{Valid, StartFine}
 use Rattle.wasm_syntax.specs.Machine.{function_type}
-use Rattle.machine_steps.specs.declared.machine.Prepared.{Prepared}
+use Rattle.machine_code.specs.declared.prepared.Prepared.{Prepared}
 use Rattle.wasm_laws.proofs.Lists.{get_front, get_map}
 use Rattle.wasm_laws.proofs.Validity.{startable}
 use Rattle.wasm_laws.proofs.Safe.{Typed}
-use Rattle.machine_hosted.specs.Safe.{ValidProgram}
-use Rattle.machine_hosted.specs.Settings.{Sound, Takes}
-use Rattle.machine_frames.proofs.CallLaws.{function_is, no_import}
+use Rattle.machine_hosted.specs.calls.Safe.{ValidProgram}
+use Rattle.machine_hosted.specs.calls.Settings.{Sound, Takes}
+use Rattle.machine_steps.proofs.CallLaws.{function_is, no_import}
 use Rattle.std.proofs.lemmas.Option.{slice_get_within}
 
 pub valid_program : (p : Program) (m : Module) (prepared : Prepared) → Sound m prepared → p.module_ ≡ m → IsProgram p → ValidProgram p

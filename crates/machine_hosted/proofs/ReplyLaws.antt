@@ -10,16 +10,16 @@ use Rattle.wasm_syntax.specs.Host.{World}
 use Rattle.wasm_syntax.specs.Module.{Program}
 use Rattle.wasm_syntax.specs.Machine.{Engine, Config, Stepped, Label, label, Frame, joined}
 use Rattle.machine_code.specs.declared.code.Code.{Code}
-use Rattle.machine_code.specs.Code.{items}
-use Rattle.machine_frames.specs.declared.layout.CallFrame.{CallFrame}
-use Rattle.machine_frames.specs.declared.layout.CallStack.{CallStack}
-use Rattle.machine_frames.specs.declared.layout.Control.{Control}
-use Rattle.machine_frames.specs.Layout.{Level, Frames, Labels}
-use Rattle.machine_frames.specs.Meets.{with_labels}
-use Rattle.machine_frames.proofs.Labels.{behind_jump}
+use Rattle.machine_code.specs.calls.Code.{items}
+use Rattle.machine_steps.specs.declared.layout.CallFrame.{CallFrame}
+use Rattle.machine_steps.specs.declared.layout.CallStack.{CallStack}
+use Rattle.machine_steps.specs.declared.layout.Control.{Control}
+use Rattle.machine_steps.specs.calls.Layout.{Level, Frames, Labels}
+use Rattle.machine_steps.specs.calls.FramesMeet.{with_labels}
+use Rattle.machine_steps.proofs.Labels.{behind_jump}
 use Rattle.machine_steps.specs.declared.machine.Machine.{Machine}
 use Rattle.machine_steps.specs.declared.machine.ImportCall.{ImportCall}
-use Rattle.machine_steps.specs.Meets.{UnderIndex, Shares, CallsImport}
+use Rattle.machine_steps.specs.calls.Meets.{UnderIndex, Shares, CallsImport}
 use Rattle.machine_hosted.specs.inner.Replies.{Taken, Finished}
 
 -- what is taken from the operands

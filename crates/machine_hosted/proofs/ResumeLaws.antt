@@ -13,14 +13,14 @@ use Rattle.wasm_syntax.specs.Module.{Program, IsProgram, Function, imported, def
 use Rattle.wasm_syntax.specs.Machine.{Config}
 use Rattle.wasm_syntax.specs.Run.{engine, run_function, run_steps}
 use Rattle.machine_steps.specs.declared.machine.Machine.{Machine}
-use Rattle.machine_steps.specs.declared.machine.Prepared.{Prepared}
-use Rattle.machine_steps.specs.Meets.{StandsFor}
-use Rattle.host_devices.specs.HostSides.{Calls}
+use Rattle.machine_code.specs.declared.prepared.Prepared.{Prepared}
+use Rattle.machine_steps.specs.calls.Meets.{StandsFor}
+use Rattle.host_devices.specs.calls.HostSides.{Calls}
 use Rattle.machine_hosted.specs.declared.answer.RunEnd.{RunEnd}
-use Rattle.machine_hosted.specs.Safe.{RunFits}
-use Rattle.machine_hosted.specs.Settings.{Sound, ServesAll}
-use Rattle.machine_hosted.specs.Hosted.{replying}
-use Rattle.machine_hosted.specs.Answers.{FunctionCameWith, function_going}
+use Rattle.machine_hosted.specs.calls.Safe.{RunFits}
+use Rattle.machine_hosted.specs.calls.Settings.{Sound, ServesAll}
+use Rattle.machine_hosted.specs.calls.Hosted.{replying}
+use Rattle.machine_hosted.specs.calls.Answers.{FunctionCameWith, function_going}
 use Rattle.machine_hosted.specs.inner.FrameRuns.{CameWith}
 use Rattle.machine_hosted.specs.inner.Turns.{Ready, going}
 use Rattle.machine_hosted.specs.inner.Resumes.{with_replies, resuming, WaitsIn, Waits}
@@ -28,7 +28,7 @@ use Rattle.machine_hosted.proofs.WorldLaws.{shares_replying}
 use Rattle.machine_hosted.proofs.ModuleLaws.{valid_program}
 use Rattle.machine_hosted.proofs.FrameLaws.{by_frames}
 use Rattle.machine_hosted.proofs.DefinedLaws.{by_same}
-use Rattle.machine_frames.proofs.CallLaws.{no_import as not_imported}
+use Rattle.machine_steps.proofs.CallLaws.{no_import as not_imported}
 use Rattle.machine_hosted.proofs.SafeLaws.{not_stuck}
 
 -- ---- imported and defined functions by their indices

@@ -20,13 +20,13 @@ use Rattle.wasm_laws.proofs.Progress.{types_append, zero_types, HasMemory, World
 use Rattle.wasm_laws.proofs.Safe.{FramesFine, SteppedFine, Typed, step_fine, one_result}
 use Rattle.wasm_laws.proofs.Validity.{startable}
 use Rattle.machine_steps.specs.declared.machine.Machine.{Machine}
-use Rattle.machine_steps.specs.declared.machine.Prepared.{Prepared}
-use Rattle.machine_steps.specs.Prepares.{IsPrepared}
-use Rattle.machine_steps.specs.Meets.{Shares, StandsFor}
-use Rattle.machine_frames.specs.Layout as layout
-use Rattle.machine_steps.specs.inner.Runs.{Begins, Leads}
-use Rattle.machine_hosted.specs.Safe.{ValidProgram, MemoryFits, WorldFits, RunFits}
-use Rattle.machine_frames.proofs.CallLaws.{function_is as at_index}
+use Rattle.machine_code.specs.declared.prepared.Prepared.{Prepared}
+use Rattle.machine_code.specs.calls.Prepares.{IsPrepared}
+use Rattle.machine_steps.specs.calls.Meets.{Shares, StandsFor}
+use Rattle.machine_steps.specs.calls.Layout as layout
+use Rattle.machine_steps.specs.calls.Runs.{Begins, Leads}
+use Rattle.machine_hosted.specs.calls.Safe.{ValidProgram, MemoryFits, WorldFits, RunFits}
+use Rattle.machine_steps.proofs.CallLaws.{function_is as at_index}
 
 -- ---- worlds
 

@@ -11,24 +11,24 @@ use Rattle.wasm_syntax.specs.declared.host.CollectorCall.{CollectorCall}
 use Rattle.wasm_syntax.specs.Host.{World}
 use Rattle.wasm_syntax.specs.Machine.{Engine, Frame, Config, config, Stepped, next, ends, traps, no_reply, bad_reply, stuck, step, first}
 use Rattle.wasm_syntax.specs.Run.{run_steps, run_on, ended}
-use Rattle.machine_basics.specs.Traps.{trap_code}
+use Rattle.machine_basics.specs.calls.Traps.{trap_code}
 use Rattle.machine_basics.specs.declared.answer.TrapKind.{TrapKind}
 use Rattle.machine_code.specs.declared.code.Code.{Code}
 use Rattle.machine_steps.specs.declared.machine.Machine.{Machine}
-use Rattle.machine_steps.specs.declared.machine.Prepared.{Prepared}
+use Rattle.machine_code.specs.declared.prepared.Prepared.{Prepared}
 use Rattle.machine_steps.specs.declared.machine.ImportCall.{ImportCall}
 use Rattle.machine_steps.specs.declared.machine.Outcome.{Outcome}
 use Rattle.machine_steps.specs.declared.machine.Outcome.TheVariants as outcomes
-use Rattle.machine_steps.specs.Meets.{StandsFor, CallsImport}
-use Rattle.machine_steps.specs.inner.Runs as runs
-use Rattle.machine_steps.specs.inner.Runs.{Begins, Leads, Stops}
+use Rattle.machine_steps.specs.calls.Meets.{StandsFor, CallsImport}
+use Rattle.machine_steps.specs.calls.Runs as runs
+use Rattle.machine_steps.specs.calls.Runs.{Begins, Leads, Stops}
 use Rattle.machine_hosted.proofs.SafeLaws.{reached}
-use Rattle.host_devices.specs.HostSides.{Calls}
+use Rattle.host_devices.specs.calls.HostSides.{Calls}
 use Rattle.machine_hosted.specs.declared.answer.RunEnd.{RunEnd}
 use Rattle.machine_hosted.specs.declared.answer.RunEnd.TheVariants as answers
 use Rattle.machine_hosted.specs.declared.turn.Turn.TheVariants.{Goes, Ends}
-use Rattle.machine_hosted.specs.Hosted.{replying, Asked, Grew, Served}
-use Rattle.machine_hosted.specs.Answers.{given_steps}
+use Rattle.machine_hosted.specs.calls.Hosted.{replying, Asked, Grew, Served}
+use Rattle.machine_hosted.specs.calls.Answers.{given_steps}
 use Rattle.machine_hosted.specs.inner.FrameRuns.{Tells, Came, CameWith}
 use Rattle.host_devices.specs.Given.{replies_of}
 use Rattle.machine_hosted.specs.inner.Turns.{Setting, Ready, Calling, going, nothing, Turned, TurnedWith}

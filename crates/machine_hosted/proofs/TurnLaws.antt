@@ -12,11 +12,11 @@ use Rattle.wasm_syntax.specs.Host.{World, told_or, served_by, if_fits, if_writte
 use Rattle.wasm_syntax.specs.Machine.{Engine, Config, config, Stepped, next, no_reply, bad_reply, step, host, host_call, label, result_of}
 use Rattle.linear_memory.specs.Memory.{Memory}
 use Rattle.machine_code.specs.declared.code.Code.{Code}
-use Rattle.machine_frames.specs.Layout as layout
-use Rattle.machine_frames.specs.Meets.{with_labels}
+use Rattle.machine_steps.specs.calls.Layout as layout
+use Rattle.machine_steps.specs.calls.FramesMeet.{with_labels}
 use Rattle.machine_steps.specs.declared.machine.Machine.{Machine}
 use Rattle.machine_steps.specs.declared.machine.ImportCall.{ImportCall}
-use Rattle.machine_steps.specs.Meets.{StandsFor}
+use Rattle.machine_steps.specs.calls.Meets.{StandsFor}
 use Rattle.machine_hosted.specs.declared.reply.Replied.{Replied}
 use Rattle.machine_hosted.specs.declared.reply.Replied.TheVariants as replies
 use Rattle.machine_hosted.specs.inner.Meets.{NotCollected, MeetsReply}

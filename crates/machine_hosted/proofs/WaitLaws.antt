@@ -13,12 +13,12 @@ use Rattle.wasm_syntax.specs.Run.{Ended, ended, run_on, run_steps, host_alone, r
 use Rattle.wasm_laws.proofs.Progress.{WorldFine}
 use Rattle.wasm_laws.proofs.Safe.{AnswerFine, answer_fine, FramesFine, SteppedFine, Typed, step_fine}
 use Rattle.machine_code.specs.declared.code.Code.{Code}
-use Rattle.machine_frames.specs.Layout as layout
+use Rattle.machine_steps.specs.calls.Layout as layout
 use Rattle.machine_steps.specs.declared.machine.Machine.{Machine}
-use Rattle.machine_steps.specs.Meets.{StandsFor}
-use Rattle.machine_hosted.specs.Safe.{ValidProgram, WorldFits, RunFits}
-use Rattle.machine_hosted.specs.Hosted.{replying}
-use Rattle.machine_hosted.specs.Answers.{KeepsFrames, Keeps}
+use Rattle.machine_steps.specs.calls.Meets.{StandsFor}
+use Rattle.machine_hosted.specs.calls.Safe.{ValidProgram, WorldFits, RunFits}
+use Rattle.machine_hosted.specs.calls.Hosted.{replying}
+use Rattle.machine_hosted.specs.calls.Answers.{KeepsFrames, Keeps}
 use Rattle.machine_hosted.specs.inner.Resumes.{with_replies, going_on, Waits}
 use Rattle.machine_hosted.proofs.SafeLaws.{world_fine, world_fits, run_fits, entered_fine}
 use Rattle.machine_hosted.proofs.WorldLaws.{fits_replying}

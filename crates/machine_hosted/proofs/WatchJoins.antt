@@ -15,14 +15,14 @@ use Rattle.machine_code.specs.declared.code.Code.{Code}
 use Rattle.machine_steps.specs.declared.machine.Machine.{Machine}
 use Rattle.machine_steps.specs.Places.{Place, entry_places, places_on}
 use Rattle.machine_steps.proofs.MadeLaws.{function_count, function_none, function_over}
-use Rattle.host_devices.specs.HostSides.{Calls}
+use Rattle.host_devices.specs.calls.HostSides.{Calls}
 use Rattle.host_devices.specs.Given.{replies_of}
 use Rattle.machine_hosted.specs.declared.answer.RunEnd.{RunEnd}
 use Rattle.machine_hosted.specs.declared.answer.RunEnd.TheVariants.{Finished, Trapped, NoReply, BadReply, DeviceFault, FuelSpent, NoMemory}
-use Rattle.machine_hosted.specs.Hosted.{replying, Asked, Grew, served_in, told_in, left_in}
-use Rattle.machine_hosted.specs.Settings.{world_of}
-use Rattle.machine_hosted.specs.Answers.{last_in, FunctionCame, function_going}
-use Rattle.machine_hosted.specs.Watching.{IsCount, Watched, function_placing, invocation_placing}
+use Rattle.machine_hosted.specs.calls.Hosted.{replying, Asked, Grew, served_in, told_in, left_in}
+use Rattle.machine_hosted.specs.calls.Settings.{world_of}
+use Rattle.machine_hosted.specs.calls.Answers.{last_in, FunctionCame, function_going}
+use Rattle.machine_hosted.specs.calls.Watching.{IsCount, Watched, function_placing, invocation_placing}
 use Rattle.machine_hosted.proofs.WorldLaws.{one_world}
 use Rattle.machine_hosted.proofs.StageLaws.{joined, grew_on}
 use Rattle.machine_hosted.proofs.JoinLaws.{function_ends}

@@ -13,18 +13,18 @@ use Rattle.wasm_syntax.specs.Machine.{Engine, Frame, config}
 use Rattle.wasm_syntax.specs.Run.{Ended, run_alone}
 use Rattle.machine_code.specs.declared.code.Code.{Code}
 use Rattle.machine_steps.specs.declared.machine.Machine.{Machine}
-use Rattle.machine_steps.specs.declared.machine.Prepared.{Prepared}
+use Rattle.machine_code.specs.declared.prepared.Prepared.{Prepared}
 use Rattle.machine_steps.specs.Places.{Place, step_places, alone_places}
-use Rattle.machine_steps.specs.inner.Runs.{Begins}
-use Rattle.machine_steps.specs.inner.Watched.{Saw}
+use Rattle.machine_steps.specs.calls.Runs.{Begins}
+use Rattle.machine_steps.specs.calls.Watched.{Saw}
 use Rattle.machine_steps.proofs.MadeLaws.{behind_lead}
-use Rattle.host_devices.specs.HostSides.{Calls}
+use Rattle.host_devices.specs.calls.HostSides.{Calls}
 use Rattle.host_devices.specs.Given.{replies_of}
 use Rattle.machine_hosted.specs.declared.answer.RunEnd.{RunEnd}
 use Rattle.machine_hosted.specs.declared.answer.RunEnd.TheVariants.{Finished, Trapped, NoReply, BadReply, DeviceFault, FuelSpent, NoMemory}
-use Rattle.machine_hosted.specs.Hosted.{replying, Asked, Grew}
-use Rattle.machine_hosted.specs.Answers.{AdmitsReplies, given_steps, FunctionCameWith}
-use Rattle.machine_hosted.specs.Watching.{Placing, IsCount, Watched}
+use Rattle.machine_hosted.specs.calls.Hosted.{replying, Asked, Grew}
+use Rattle.machine_hosted.specs.calls.Answers.{AdmitsReplies, given_steps, FunctionCameWith}
+use Rattle.machine_hosted.specs.calls.Watching.{Placing, IsCount, Watched}
 use Rattle.machine_hosted.specs.inner.Alone.{alone}
 use Rattle.machine_hosted.specs.inner.Turns.{nothing}
 use Rattle.machine_hosted.specs.inner.Watches.{frames_placing}

@@ -13,17 +13,17 @@ use Rattle.wasm_syntax.specs.Machine.{Engine}
 use Rattle.wasm_syntax.specs.Run.{engine}
 use Rattle.machine_code.specs.declared.code.Code.{Code}
 use Rattle.machine_steps.specs.declared.machine.Machine.{Machine}
-use Rattle.machine_steps.specs.declared.machine.Prepared.{Prepared}
-use Rattle.host_devices.specs.HostSides.{Calls}
+use Rattle.machine_code.specs.declared.prepared.Prepared.{Prepared}
+use Rattle.host_devices.specs.calls.HostSides.{Calls}
 use Rattle.machine_hosted.specs.declared.answer.RunEnd.{RunEnd}
 use Rattle.machine_hosted.specs.declared.answer.RunEnd.TheVariants.{Finished, FuelSpent}
 use Rattle.machine_hosted.specs.declared.answer.EntryRun.{EntryRun}
-use Rattle.machine_hosted.specs.Settings.{Sound, world_of}
-use Rattle.machine_steps.specs.Meets.{Shares}
-use Rattle.machine_hosted.specs.Hosted.{Asked, Grew, Going}
-use Rattle.machine_hosted.specs.Answers.{AdmitsReplies, given_steps, FunctionCame, FunctionCameWith, function_going}
-use Rattle.machine_hosted.specs.Invocations.{follows_behind, Invoking, invoking, InvocationCame, InvocationCameWith}
-use Rattle.machine_hosted.specs.Courses.{Course, both, Followed, WentOn}
+use Rattle.machine_hosted.specs.calls.Settings.{Sound, world_of}
+use Rattle.machine_steps.specs.calls.Meets.{Shares}
+use Rattle.machine_hosted.specs.calls.Hosted.{Asked, Grew, Going}
+use Rattle.machine_hosted.specs.calls.Answers.{AdmitsReplies, given_steps, FunctionCame, FunctionCameWith, function_going}
+use Rattle.machine_hosted.specs.calls.Invocations.{follows_behind, Invoking, invoking, InvocationCame, InvocationCameWith}
+use Rattle.machine_hosted.specs.calls.Courses.{Course, both, Followed, WentOn}
 use Rattle.machine_hosted.specs.inner.Resumes.{resuming}
 use Rattle.machine_hosted.proofs.ModuleLaws.{function_there}
 use Rattle.machine_hosted.proofs.JoinLaws.{begun_is, ran_came, inside_start, behind_start, w1, co1}

@@ -11,10 +11,10 @@ use Rattle.wasm_syntax.specs.Module.{type_at, option_then}
 use Rattle.wasm_syntax.specs.Host.{World, after_writes}
 use Rattle.linear_memory.specs.Memory.{Memory, put}
 use Rattle.machine_steps.specs.declared.machine.Machine.{Machine}
-use Rattle.machine_steps.specs.Meets.{Shares}
-use Rattle.machine_hosted.specs.Safe.{MemoryFits, WorldFits}
-use Rattle.machine_hosted.specs.Hosted.{replying}
-use Rattle.machine_hosted.specs.Settings.{world_of, MachineFits}
+use Rattle.machine_steps.specs.calls.Meets.{Shares}
+use Rattle.machine_hosted.specs.calls.Safe.{MemoryFits, WorldFits}
+use Rattle.machine_hosted.specs.calls.Hosted.{replying}
+use Rattle.machine_hosted.specs.calls.Settings.{world_of, MachineFits}
 
 pub same_world : (w u : World) → w.globals ≡ u.globals → w.memory ≡ u.memory → w.table ≡ u.table → w.replies ≡ u.replies → w.served ≡ u.served → w ≡ u
 same_world w u g m t r s = λ i. record { globals = g i; memory = m i; table = t i; replies = r i; served = s i }

@@ -8,14 +8,14 @@ ghost use Rattle.wasm_syntax.specs.Module.{Program};
 ghost use Rattle.wasm_syntax.specs.Host.{World};
 ghost use Rattle.wasm_syntax.specs.Machine.{host_call};
 ghost use Rattle.wasm_syntax.specs.Run.{engine};
-ghost use Rattle.machine_basics.specs.Performs.{Holds};
+ghost use Rattle.machine_basics.specs.calls.Performs.{Holds};
 ghost use Rattle.machine_code.specs.declared.code.Code.{Code as FlatCode};
-ghost use Rattle.machine_steps.specs.Meets.{Shares};
-ghost use Rattle.machine_hosted.specs.Safe.{WorldFits};
-ghost use Rattle.machine_hosted.specs.Settings.{HostKept};
-ghost use Rattle.host_devices.specs.HostSides.{told, Answers, IsExhausted, KeepsUse, HasCause as AnswerHasCause};
+ghost use Rattle.machine_steps.specs.calls.Meets.{Shares};
+ghost use Rattle.machine_hosted.specs.calls.Safe.{WorldFits};
+ghost use Rattle.machine_hosted.specs.calls.Settings.{HostKept};
+ghost use Rattle.host_devices.specs.calls.HostSides.{told, Answers, IsExhausted, KeepsUse, HasCause as AnswerHasCause};
 ghost use Rattle.machine_hosted.specs.inner.Alone.{Took, alone};
-ghost use Rattle.machine_hosted.specs.Answers.{FunctionCameWith, HasCause};
+ghost use Rattle.machine_hosted.specs.calls.Answers.{FunctionCameWith, HasCause};
 
 use crate::answer::{FunctionRun, RunEnd};
 use crate::heard::{call_host, result_type};
@@ -24,10 +24,10 @@ use crate::writes::make_writes;
 use causes::NoMemory;
 use host_devices::{HostAnswer, HostSide};
 use machine_basics::Shared;
-use machine_frames::CallStack;
-use machine_steps::Machine;
+use machine_steps::{CallStack, Machine};
+use pm_text::Items;
 use std::alloc::Global;
-use wasm_syntax::{FuncType, Import, Items, Reply, ValType, Value};
+use wasm_syntax::{FuncType, Import, Reply, ValType, Value};
 
 /// Leaves all frames.
 fn leave_frames(m: &mut CallStack)

@@ -9,14 +9,14 @@ ghost use Rattle.wasm_syntax.specs.Tree.{Tree as CodeTree};
 ghost use Rattle.wasm_syntax.specs.Module.{defined, defined_at};
 ghost use Rattle.wasm_syntax.specs.Host.{World};
 ghost use Rattle.wasm_syntax.specs.Machine.{Engine, config, entered};
-ghost use Rattle.machine_steps.specs.Prepares.{IsPrepared};
-ghost use Rattle.machine_steps.specs.Meets.{Shares};
-ghost use Rattle.machine_steps.specs.inner.Runs.{Begins};
-ghost use Rattle.machine_hosted.specs.Safe.{ValidProgram, WorldFits};
+ghost use Rattle.machine_code.specs.calls.Prepares.{IsPrepared};
+ghost use Rattle.machine_steps.specs.calls.Meets.{Shares};
+ghost use Rattle.machine_steps.specs.calls.Runs.{Begins};
+ghost use Rattle.machine_hosted.specs.calls.Safe.{ValidProgram, WorldFits};
 
-use machine_basics::NoMemory;
-use machine_frames::{Stepped, begin};
-use machine_steps::{Machine, Prepared};
+use causes::NoMemory;
+use machine_code::Prepared;
+use machine_steps::{Machine, Stepped, begin};
 use wasm_syntax::Value;
 
 /// Leaves all frames and begins a defined function, by its index among these, on arguments in the

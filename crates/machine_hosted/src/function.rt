@@ -5,9 +5,9 @@ ghost use Rattle.wasm_syntax.specs.declared.host.CollectorCall.{CollectorCall as
 ghost use Rattle.wasm_syntax.specs.Module.{Program, IsProgram};
 ghost use Rattle.wasm_syntax.specs.Host.{World};
 ghost use Rattle.wasm_syntax.specs.Run.{engine};
-ghost use Rattle.machine_steps.specs.Meets.{Shares};
-ghost use Rattle.machine_hosted.specs.Settings.{Sound, MachineFits, HostServes, HostKept, Takes};
-ghost use Rattle.machine_hosted.specs.Answers.{FunctionCameWith, function_going, FitsThen, HasCause};
+ghost use Rattle.machine_steps.specs.calls.Meets.{Shares};
+ghost use Rattle.machine_hosted.specs.calls.Settings.{Sound, MachineFits, HostServes, HostKept, Takes};
+ghost use Rattle.machine_hosted.specs.calls.Answers.{FunctionCameWith, function_going, FitsThen, HasCause};
 
 use crate::answer::FunctionRun;
 use crate::runner::Runner;

@@ -3,8 +3,8 @@
 ghost use Rattle.std.specs.Prelude.{◌≡◌, ◌≤◌, true, length, slice_get, is_some, Some, IfOk};
 ghost use Rattle.wasm_syntax.specs.Numbers.{types};
 ghost use Rattle.wasm_syntax.specs.Machine.{host_call, result_of};
-ghost use Rattle.machine_hosted.specs.Settings.{HostKept};
-ghost use Rattle.host_devices.specs.HostSides.{told, Answers, IsExhausted, HasCause, KeepsUse};
+ghost use Rattle.machine_hosted.specs.calls.Settings.{HostKept};
+ghost use Rattle.host_devices.specs.calls.HostSides.{told, Answers, IsExhausted, HasCause, KeepsUse};
 
 use crate::collector::is_told;
 use causes::NoMemory;

@@ -2,8 +2,8 @@
 //! 4.5.5).
 
 ghost use Rattle.std.specs.Prelude.{◌≡◌, ◌==◌, not};
-ghost use Rattle.machine_basics.specs.Traps.{trap_code};
-ghost use Rattle.machine_hosted.specs.Invocations.{follows_behind, finishes};
+ghost use Rattle.machine_basics.specs.calls.Traps.{trap_code};
+ghost use Rattle.machine_hosted.specs.calls.Invocations.{follows_behind, finishes};
 
 use crate::answer::{EntryRun, RunEnd};
 use machine_basics::TrapKind;

@@ -13,11 +13,11 @@ ghost use Rattle.wasm_syntax.specs.Host.{World};
 ghost use Rattle.wasm_syntax.specs.Machine.{Engine, Config, config, entered, step, next};
 ghost use Rattle.wasm_syntax.specs.Run.{run_steps, start_world, invoked};
 ghost use Rattle.machine_steps.specs.declared.machine.Machine.{Machine as Kept};
-ghost use Rattle.machine_steps.specs.declared.machine.Prepared.{Prepared as Ready};
-ghost use Rattle.machine_steps.specs.Meets.{StandsFor};
+ghost use Rattle.machine_code.specs.declared.prepared.Prepared.{Prepared as Ready};
+ghost use Rattle.machine_steps.specs.calls.Meets.{StandsFor};
 ghost use Rattle.machine_steps.specs.Places.{Place, place_of, invocation_places};
-ghost use Rattle.machine_steps.specs.inner.Runs.{Begins, Leads};
-ghost use Rattle.machine_hosted.specs.Safe.{ValidProgram, WorldFits, RunFits};
+ghost use Rattle.machine_steps.specs.calls.Runs.{Begins, Leads};
+ghost use Rattle.machine_hosted.specs.calls.Safe.{ValidProgram, WorldFits, RunFits};
 
 /// What is outside the frames fits a valid module where its instance starts.
 pub fn start_world_fits()

@@ -7,11 +7,12 @@ ghost use Rattle.wasm_syntax.specs.Host.{World};
 ghost use Rattle.wasm_syntax.specs.Machine.{Engine, Config, Stepped};
 ghost use Rattle.machine_code.specs.declared.code.Code.{Code as FlatCode};
 ghost use Rattle.machine_steps.specs.declared.machine.Machine.{Machine as Kept};
-ghost use Rattle.machine_steps.specs.Meets.{Shares, CallsImport};
+ghost use Rattle.machine_steps.specs.calls.Meets.{Shares, CallsImport};
 ghost use Rattle.machine_hosted.specs.inner.Replies.{Taken, Finished};
 
-use machine_basics::{NoMemory, Stack};
+use causes::NoMemory;
 use machine_steps::{ImportCall, Machine};
+use pm_text::Stack;
 use wasm_syntax::Value;
 
 /// Takes the index of a table's entry away, and the arguments under it.

@@ -6,7 +6,7 @@ ghost use Rattle.wasm_syntax.specs.Numbers.{same_type};
 ghost use Rattle.wasm_syntax.specs.Host.{fits_type};
 ghost use Rattle.wasm_syntax.specs.Machine.{Engine, Config, Stepped, result_of};
 ghost use Rattle.machine_code.specs.declared.code.Code.{Code as FlatCode};
-ghost use Rattle.machine_steps.specs.Meets.{CallsImport};
+ghost use Rattle.machine_steps.specs.calls.Meets.{CallsImport};
 ghost use Rattle.machine_hosted.specs.inner.Meets.{NotCollected, MeetsReply};
 
 use crate::replies::finish_call;

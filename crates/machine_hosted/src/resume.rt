@@ -4,9 +4,9 @@ ghost use Rattle.std.specs.Prelude.{◌≡◌, ◌≤◌, Bool, true, false, Som
 ghost use Rattle.wasm_syntax.specs.Module.{Program, IsProgram};
 ghost use Rattle.wasm_syntax.specs.Machine.{Config};
 ghost use Rattle.wasm_syntax.specs.Run.{engine};
-ghost use Rattle.machine_hosted.specs.Settings.{Sound, MachineFits, HostServes, HostKept, Takes};
-ghost use Rattle.machine_hosted.specs.Answers.{FunctionCameWith, FitsThen, HasCause};
-ghost use Rattle.machine_hosted.specs.Courses.{Course, Followed, WentOn};
+ghost use Rattle.machine_hosted.specs.calls.Settings.{Sound, MachineFits, HostServes, HostKept, Takes};
+ghost use Rattle.machine_hosted.specs.calls.Answers.{FunctionCameWith, FitsThen, HasCause};
+ghost use Rattle.machine_hosted.specs.calls.Courses.{Course, Followed, WentOn};
 ghost use Rattle.machine_hosted.specs.inner.Resumes.{Waits, resuming};
 
 use crate::answer::{EntryRun, FunctionRun, RunEnd};

@@ -1,8 +1,8 @@
 //! A run over a host side.
 
 ghost use Rattle.std.specs.Prelude.{◌≡◌};
-ghost use Rattle.machine_hosted.specs.Answers.{HasCause};
-ghost use Rattle.machine_hosted.specs.Settings.{HostKept, Knows};
+ghost use Rattle.machine_hosted.specs.calls.Answers.{HasCause};
+ghost use Rattle.machine_hosted.specs.calls.Settings.{HostKept, Knows};
 ghost use Rattle.machine_hosted.specs.inner.FrameRuns.{CameWith};
 ghost use Rattle.machine_hosted.specs.inner.Turns.{Ready, going};
 

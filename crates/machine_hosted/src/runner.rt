@@ -1,6 +1,6 @@
 //! What runs of a module have in common.
 
-use machine_steps::Prepared;
+use machine_code::Prepared;
 use std::alloc::Global;
 use wasm_syntax::ModuleParts;
 

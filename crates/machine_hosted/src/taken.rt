@@ -4,9 +4,9 @@ ghost use Rattle.std.specs.Prelude.{◌≡◌, ◌++◌, List, reverse, length, 
 ghost use Rattle.wasm_syntax.specs.declared.value.Value.{Value as Val};
 ghost use Rattle.wasm_syntax.specs.Machine.{Engine, Config, Stepped};
 ghost use Rattle.machine_code.specs.declared.code.Code.{Code as FlatCode};
-ghost use Rattle.machine_steps.specs.Meets.{CallsImport};
+ghost use Rattle.machine_steps.specs.calls.Meets.{CallsImport};
 
-use machine_basics::NoMemory;
+use causes::NoMemory;
 use machine_steps::{ImportCall, Machine};
 use std::alloc::Global;
 use wasm_syntax::Values;

@@ -7,8 +7,8 @@ ghost use Rattle.wasm_syntax.specs.declared.host.Reply.{Reply as HostReply};
 ghost use Rattle.wasm_syntax.specs.declared.host.CollectorCall.{CollectorCall as Collected};
 ghost use Rattle.wasm_syntax.specs.Machine.{Engine, Config, host_call};
 ghost use Rattle.machine_code.specs.declared.code.Code.{Code as FlatCode};
-ghost use Rattle.machine_hosted.specs.Answers.{HasCause};
-ghost use Rattle.machine_hosted.specs.Settings.{HostKept, Knows};
+ghost use Rattle.machine_hosted.specs.calls.Answers.{HasCause};
+ghost use Rattle.machine_hosted.specs.calls.Settings.{HostKept, Knows};
 ghost use Rattle.machine_hosted.specs.inner.Turns.{Calling, AtCall, told_by, one_reply, one_told, Turned, TurnMeets, IsReplied, end_of};
 
 use crate::answer::RunEnd;

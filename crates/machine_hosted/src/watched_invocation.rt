@@ -4,10 +4,10 @@
 ghost use Rattle.std.specs.Prelude.{◌≡◌, ◌≤◌, true, [], IfSome, Some};
 ghost use Rattle.wasm_syntax.specs.Module.{Program, IsProgram};
 ghost use Rattle.wasm_syntax.specs.Run.{engine};
-ghost use Rattle.machine_hosted.specs.Settings.{Sound, MachineFits, HostServes, HostKept, Takes, world_of};
-ghost use Rattle.machine_hosted.specs.Answers.{HasCause};
-ghost use Rattle.machine_hosted.specs.Invocations.{InvocationCameWith, invoking};
-ghost use Rattle.machine_hosted.specs.Watching.{Watched, invocation_placing};
+ghost use Rattle.machine_hosted.specs.calls.Settings.{Sound, MachineFits, HostServes, HostKept, Takes, world_of};
+ghost use Rattle.machine_hosted.specs.calls.Answers.{HasCause};
+ghost use Rattle.machine_hosted.specs.calls.Invocations.{InvocationCameWith, invoking};
+ghost use Rattle.machine_hosted.specs.calls.Watching.{Watched, invocation_placing};
 
 use crate::answer::EntryRun;
 use crate::invocation::{ended, is_finished};

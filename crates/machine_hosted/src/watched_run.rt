@@ -1,9 +1,9 @@
 //! A run over a host side that a watch sees.
 
 ghost use Rattle.std.specs.Prelude.{◌≡◌};
-ghost use Rattle.machine_hosted.specs.Answers.{HasCause};
-ghost use Rattle.machine_hosted.specs.Settings.{HostKept, Knows};
-ghost use Rattle.machine_hosted.specs.Watching.{Watched};
+ghost use Rattle.machine_hosted.specs.calls.Answers.{HasCause};
+ghost use Rattle.machine_hosted.specs.calls.Settings.{HostKept, Knows};
+ghost use Rattle.machine_hosted.specs.calls.Watching.{Watched};
 ghost use Rattle.machine_hosted.specs.inner.FrameRuns.{CameWith};
 ghost use Rattle.machine_hosted.specs.inner.Turns.{Ready, going};
 ghost use Rattle.machine_hosted.specs.inner.Watches.{frames_placing};

@@ -2,7 +2,7 @@
 
 ghost use Rattle.std.specs.Prelude.{◌≡◌, ◌+◌, length, nat_le, OnOk, Some, None};
 ghost use Rattle.wasm_syntax.specs.Host.{World, after_writes};
-ghost use Rattle.machine_basics.specs.Performs.{Holds};
+ghost use Rattle.machine_basics.specs.calls.Performs.{Holds};
 ghost use Rattle.machine_hosted.specs.inner.Writes.{all_inside, WroteTo, Wrote};
 
 use crate::reply::Replied;

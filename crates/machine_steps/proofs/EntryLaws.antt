@@ -11,7 +11,7 @@ use Rattle.wasm_syntax.specs.Host.{World}
 use Rattle.wasm_syntax.specs.Machine.{Engine, Label, Frame, Stepped, stuck, calls_typed, calls_entry, calls_if, fits_entry}
 use Rattle.machine_basics.specs.declared.answer.TrapKind.TheVariants.{UndefinedElement, UninitializedElement, TypeMismatch}
 use Rattle.machine_steps.specs.declared.indirect.Entry.TheVariants as entries
-use Rattle.machine_steps.specs.Prepares.{Numbered}
+use Rattle.machine_code.specs.calls.Prepares.{Numbered}
 use Rattle.machine_steps.specs.inner.Entries.{Is, EntryFits}
 
 module _ (M : Engine) (w : World) (t n : ℕ) where

@@ -13,17 +13,17 @@ use Rattle.wasm_syntax.specs.Host.{Answer, replied, told, silent, misfit, answer
 use Rattle.wasm_syntax.specs.Machine as steps
 use Rattle.wasm_syntax.specs.Machine.{Cut, short, parts, cut, host_call}
 use Rattle.machine_code.specs.declared.code.Code.{Code}
-use Rattle.machine_frames.specs.Meets.{Point, CallPlace, call_at, step_at, Reads}
-use Rattle.machine_frames.proofs.Points.{top_is}
-use Rattle.machine_frames.proofs.JumpLaws.{IsJump, jump_at, step_jumps}
+use Rattle.machine_steps.specs.calls.FramesMeet.{Point, CallPlace, call_at, step_at, Reads}
+use Rattle.machine_steps.proofs.Points.{top_is}
+use Rattle.machine_steps.proofs.JumpLaws.{IsJump, jump_at, step_jumps}
 use Rattle.machine_steps.specs.declared.machine.Machine.{Machine}
 use Rattle.machine_steps.specs.declared.machine.ImportCall.{ImportCall}
 use Rattle.machine_steps.specs.declared.machine.Outcome.{Outcome}
 use Rattle.machine_steps.specs.declared.machine.Outcome.TheVariants.{Trap, Import}
 use Rattle.machine_steps.specs.declared.indirect.Entry.{Entry}
 use Rattle.machine_steps.specs.declared.indirect.Entry.TheVariants as entries
-use Rattle.machine_basics.specs.Traps.{trap_code}
-use Rattle.machine_steps.specs.Meets.{UnderIndex, CallsImport, MeetsAt, Here, config_at}
+use Rattle.machine_basics.specs.calls.Traps.{trap_code}
+use Rattle.machine_steps.specs.calls.Meets.{UnderIndex, CallsImport, MeetsAt, Here, config_at}
 use Rattle.machine_steps.specs.inner.Entries.{EntryFits}
 use Rattle.machine_steps.proofs.StepLaws.{stuck_meets, stands_here, traps_here}
 

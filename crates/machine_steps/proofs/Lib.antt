@@ -6,3 +6,12 @@ pub mod PlaceLaws
 pub mod MadeLaws
 pub mod WatchLaws
 pub mod TallyLaws
+pub mod Labels
+pub mod Points
+pub mod BlockLaws
+pub mod ReturnLaws
+pub mod BranchLaws
+pub mod JumpLaws
+pub mod CallLaws
+pub mod LocalLaws
+pub mod BeginLaws

@@ -12,17 +12,17 @@ use Rattle.wasm_syntax.specs.Module.{Program, defined, defined_at, option_then}
 use Rattle.wasm_syntax.specs.Machine.{Label, Frame, Config, offset_in, offset_of}
 use Rattle.machine_code.specs.declared.code.Code.{Code}
 use Rattle.machine_code.specs.declared.sides.Side.{Side}
-use Rattle.machine_code.specs.Flat.{Is, At, size}
-use Rattle.machine_code.specs.Code.{items}
-use Rattle.machine_frames.specs.declared.layout.Control.{Control}
-use Rattle.machine_frames.specs.declared.layout.CallFrame.{CallFrame}
-use Rattle.machine_frames.specs.Layout.{Under, Labels, Frames}
-use Rattle.machine_frames.proofs.Labels.{closed, under_place}
+use Rattle.machine_code.specs.calls.Flat.{Is, At, size}
+use Rattle.machine_code.specs.calls.Code.{items}
+use Rattle.machine_steps.specs.declared.layout.Control.{Control}
+use Rattle.machine_steps.specs.declared.layout.CallFrame.{CallFrame}
+use Rattle.machine_steps.specs.calls.Layout.{Under, Labels, Frames}
+use Rattle.machine_steps.proofs.Labels.{closed, under_place}
 use Rattle.machine_steps.specs.declared.machine.Machine.{Machine}
-use Rattle.machine_steps.specs.Meets.{StandsFor}
+use Rattle.machine_steps.specs.calls.Meets.{StandsFor}
 use Rattle.machine_steps.specs.Places.{Place, place_in, place_of}
-use Rattle.machine_steps.specs.Watches.{place_at}
-use Rattle.machine_steps.specs.inner.Watched.{innermost, position_of}
+use Rattle.machine_steps.specs.calls.Watches.{place_at}
+use Rattle.machine_steps.specs.calls.Watched.{innermost, position_of}
 use Rattle.pm_text.proofs.Lists.{some_is}
 
 -- ---- the index of an instruction

@@ -14,24 +14,24 @@ use Rattle.machine_basics.specs.declared.answer.Performed.{Performed}
 use Rattle.machine_basics.specs.declared.answer.Performed.TheVariants as performed
 use Rattle.machine_basics.specs.declared.answer.TrapKind.{TrapKind}
 use Rattle.machine_basics.specs.declared.shared.Shared.{Shared}
-use Rattle.machine_basics.specs.Traps.{trap_code}
-use Rattle.machine_basics.specs.Performs.{Holds, Did, on_operands, on_cut, above, laid_out}
+use Rattle.machine_basics.specs.calls.Traps.{trap_code}
+use Rattle.machine_basics.specs.calls.Performs.{Holds, Did, on_operands, on_cut, above, laid_out}
 use Rattle.machine_code.specs.declared.code.Code.{Code}
-use Rattle.machine_code.specs.Code.{items, Prepares}
-use Rattle.machine_frames.specs.declared.layout.CallFrame.{CallFrame}
-use Rattle.machine_frames.specs.declared.layout.CallStack.{CallStack}
-use Rattle.machine_frames.specs.declared.layout.Stepped.{Stepped}
-use Rattle.machine_frames.specs.declared.layout.Stepped.TheVariants as stepped
-use Rattle.machine_frames.specs.Layout.{Level, Frames, Labels}
-use Rattle.machine_frames.specs.Meets as moved
-use Rattle.machine_frames.specs.Meets.{Point, with_labels, step_at, Inner, Reads}
-use Rattle.machine_frames.proofs.Labels.{First, some_item, behind_basic}
-use Rattle.machine_frames.proofs.Points.{floor_at, LabelsAt, labels_are, first_at, moves}
+use Rattle.machine_code.specs.calls.Code.{items, Prepares}
+use Rattle.machine_steps.specs.declared.layout.CallFrame.{CallFrame}
+use Rattle.machine_steps.specs.declared.layout.CallStack.{CallStack}
+use Rattle.machine_steps.specs.declared.layout.Stepped.{Stepped}
+use Rattle.machine_steps.specs.declared.layout.Stepped.TheVariants as stepped
+use Rattle.machine_steps.specs.calls.Layout.{Level, Frames, Labels}
+use Rattle.machine_steps.specs.calls.FramesMeet as moved
+use Rattle.machine_steps.specs.calls.FramesMeet.{Point, with_labels, step_at, Inner, Reads}
+use Rattle.machine_steps.proofs.Labels.{First, some_item, behind_basic}
+use Rattle.machine_steps.proofs.Points.{floor_at, LabelsAt, labels_are, first_at, moves}
 use Rattle.machine_steps.specs.declared.machine.Machine.{Machine}
 use Rattle.machine_steps.specs.declared.machine.Outcome.{Outcome}
 use Rattle.machine_steps.specs.declared.machine.Outcome.TheVariants.{Next, Ended, Trap, Import, NoMemory, Stuck}
-use Rattle.machine_steps.specs.Meets.{outcome_of, Shares, StandsFor, Then, Meets, MeetsAt, Here, config_at}
-use Rattle.machine_basics.specs.inner.Keeps.{Keeps, EffectKeeps}
+use Rattle.machine_steps.specs.calls.Meets.{outcome_of, Shares, StandsFor, Then, Meets, MeetsAt, Here, config_at}
+use Rattle.machine_basics.specs.calls.Keeps.{Keeps, EffectKeeps}
 use Rattle.machine_basics.proofs.Keeping.{operands_keep}
 use Rattle.machine_basics.proofs.InFrames.{cut_more}
 use Rattle.pm_text.proofs.Lists.{some_is}

@@ -9,7 +9,7 @@ use Rattle.wasm_syntax.specs.declared.parts.Body.{Body}
 use Rattle.wasm_syntax.specs.declared.module.ModuleParts.{ModuleParts as Module}
 use Rattle.wasm_syntax.specs.Module.{option_then}
 use Rattle.machine_steps.specs.Places.{Place, flat_place}
-use Rattle.machine_steps.specs.Tallies.{Counts, Fits, body_sum, bodies_sum, sum_where, Counted}
+use Rattle.machine_steps.specs.calls.Tallies.{Counts, Fits, body_sum, bodies_sum, sum_where, Counted}
 use Rattle.machine_steps.specs.inner.Cells.{more, cells_more, counts_more, no_cells}
 
 -- ---- counts of a list

@@ -11,8 +11,8 @@ use Rattle.machine_steps.specs.declared.machine.Machine.{Machine}
 use Rattle.machine_steps.specs.declared.machine.ImportCall.{ImportCall}
 use Rattle.machine_steps.specs.declared.machine.Outcome.{Outcome}
 use Rattle.machine_steps.specs.declared.machine.Outcome.TheVariants.{Next, Ended, Trap, Import, NoMemory, Stuck}
-use Rattle.machine_steps.specs.Meets.{StandsFor, SameHost, Then, CallsImport, Meets}
-use Rattle.machine_steps.specs.inner.Runs.{Reached, Came}
+use Rattle.machine_steps.specs.calls.Meets.{StandsFor, SameHost, Then, CallsImport, Meets}
+use Rattle.machine_steps.specs.calls.Runs.{Reached, Came}
 
 same_after : (w v u : World) (co do_ eo : List CollectorCall) → SameHost w co v do_ → SameHost v do_ u eo → SameHost w co u eo
 same_after w v u co do_ eo a b = record { replies = b.replies ∙ a.replies; served = b.served ∙ a.served; collected = b.collected ∙ a.collected }

@@ -5,14 +5,14 @@ use Rattle.std.specs.Prelude.{Option}
 use Rattle.wasm_syntax.specs.declared.module.ModuleParts.{ModuleParts as Module}
 use Rattle.wasm_syntax.specs.Machine.{Engine, Config}
 use Rattle.machine_steps.specs.declared.machine.Machine.{Machine}
-use Rattle.machine_steps.specs.declared.machine.Prepared.{Prepared}
+use Rattle.machine_code.specs.declared.prepared.Prepared.{Prepared}
 use Rattle.machine_steps.specs.declared.machine.ImportCall.{ImportCall}
 use Rattle.machine_steps.specs.declared.machine.Outcome.{Outcome}
 use Rattle.machine_steps.specs.declared.machine.Outcome.TheVariants.{Next, Ended, Trap, Import, NoMemory, Stuck}
 use Rattle.machine_steps.specs.Places.{Place, place_of, step_places}
-use Rattle.machine_steps.specs.Watches.{place_at}
-use Rattle.machine_steps.specs.inner.Runs.{Begins, Reached}
-use Rattle.machine_steps.specs.inner.Watched.{position_of, IsCount, Saw, Watched}
+use Rattle.machine_steps.specs.calls.Watches.{place_at}
+use Rattle.machine_steps.specs.calls.Runs.{Begins, Reached}
+use Rattle.machine_steps.specs.calls.Watched.{position_of, IsCount, Saw, Watched}
 use Rattle.machine_steps.proofs.PlaceLaws.{position_place}
 use Rattle.machine_steps.proofs.MadeLaws.{behind_lead, one_place}
 

@@ -3,12 +3,12 @@
 ghost use Rattle.std.specs.Prelude.{◌≡◌, ℕ, slice_get, Some};
 ghost use Rattle.wasm_syntax.specs.Machine.{Engine};
 ghost use Rattle.wasm_syntax.specs.Host.{World};
-ghost use Rattle.machine_steps.specs.Prepares.{Numbered};
+ghost use Rattle.machine_code.specs.calls.Prepares.{Numbered};
 ghost use Rattle.machine_steps.specs.inner.Entries.{EntryFits};
 
-use crate::machine::Prepared;
 use machine_basics::TrapKind;
-use wasm_syntax::Items;
+use machine_code::Prepared;
+use pm_text::Items;
 
 /// What an entry of the table leads to.
 #[derive(Clone, Copy)]

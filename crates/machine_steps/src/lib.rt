@@ -2,14 +2,26 @@
 //! runs with fuel up to a call of an import.
 #![tactic(auto)]
 
+mod blocks;
+mod branches;
+mod calls;
+mod entry;
 mod indirect;
+mod layout;
 mod machine;
+mod returns;
 mod runs;
 mod steps;
 mod tally;
 mod watch;
 
-pub use machine::{ImportCall, Machine, Outcome, Prepared};
+pub use blocks::{block, if_, loop_};
+pub use branches::{branch, branch_if, branch_table, else_, end};
+pub use calls::{call, call_under_index, code_at};
+pub use entry::begin;
+pub use layout::{CallFrame, CallStack, Control, Stepped};
+pub use machine::{ImportCall, Machine, Outcome};
+pub use returns::leave;
 pub use runs::{Ended, run, run_watched};
 pub use steps::step;
 pub use tally::Tally;

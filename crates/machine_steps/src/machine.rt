@@ -1,26 +1,13 @@
 //! What a machine keeps, what a module is prepared to, and what a step comes to.
 
 ghost use Rattle.std.specs.Prelude.{◌≡◌, IfOk};
-ghost use Rattle.machine_steps.specs.Meets.{outcome_of};
+ghost use Rattle.machine_steps.specs.calls.Meets.{outcome_of};
 
-use machine_basics::{NoMemory, Shared, TrapKind};
-use machine_code::Code;
-use machine_frames::{CallStack, Stepped};
+use crate::{CallStack, Stepped};
+use causes::NoMemory;
+use machine_basics::{Shared, TrapKind};
+use pm_text::Items;
 use std::alloc::Global;
-use wasm_syntax::Items;
-
-/// What the functions and types of a module are prepared to.
-#[derive(Drop)]
-pub struct Prepared<'a> {
-    /// The functions that the module defines.
-    pub codes: Vec<Code<'a>>,
-    /// The number of its imports.
-    pub imports: usize,
-    /// For each type a number, the same one exactly for types that are the same by structure.
-    pub type_numbers: Items<usize>,
-    /// For each function, the imported ones first, the number of its type.
-    pub function_numbers: Items<usize>,
-}
 
 /// What a run keeps.
 #[derive(Drop)]

@@ -2,12 +2,13 @@
 
 ghost use Rattle.std.specs.Prelude.{◌≡◌};
 ghost use Rattle.wasm_syntax.specs.Machine.{Engine, Config};
-ghost use Rattle.machine_steps.specs.inner.Runs.{Begins, Came};
-ghost use Rattle.machine_steps.specs.inner.Watched.{Watched};
+ghost use Rattle.machine_steps.specs.calls.Runs.{Begins, Came};
+ghost use Rattle.machine_steps.specs.calls.Watched.{Watched};
 
-use crate::machine::{Machine, Outcome, Prepared};
+use crate::machine::{Machine, Outcome};
 use crate::steps::step;
 use crate::watch::{Unwatched, Watch, standing};
+use machine_code::Prepared;
 
 /// What a run came to, and the number of steps that it made. The step that traps counts; a call of
 /// an import is not made yet.

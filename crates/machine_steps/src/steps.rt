@@ -4,18 +4,18 @@ ghost use Rattle.std.specs.Prelude.{◌≡◌, ◌+◌, ◌<◌, ◌^◌, IsSome
 ghost use Rattle.wasm_syntax.specs.Tree.{Plain, Goes, Call, CallIndirect, item_of, jump_of};
 ghost use Rattle.wasm_syntax.specs.Machine.{Engine, Config, step};
 ghost use Rattle.machine_code.specs.declared.code.Code.{Code as FlatCode};
-ghost use Rattle.machine_frames.specs.Meets.{Point, Reads, CallPlace, step_at, call_at};
-ghost use Rattle.machine_steps.specs.Prepares.{IsPrepared};
-ghost use Rattle.machine_steps.specs.Meets.{StandsFor, Here, Meets, MeetsAt};
+ghost use Rattle.machine_steps.specs.calls.FramesMeet.{Point, Reads, CallPlace, step_at, call_at};
+ghost use Rattle.machine_code.specs.calls.Prepares.{IsPrepared};
+ghost use Rattle.machine_steps.specs.calls.Meets.{StandsFor, Here, Meets, MeetsAt};
 
 use crate::indirect::{Entry, resolve};
-use crate::machine::{ImportCall, Machine, Outcome, Prepared, of_frames};
-use machine_basics::{Performed, TrapKind, perform};
-use machine_code::Code;
-use machine_frames::{
+use crate::machine::{ImportCall, Machine, Outcome, of_frames};
+use crate::{
     block, branch, branch_if, branch_table, call, call_under_index, code_at, else_, end, if_,
     leave, loop_,
 };
+use machine_basics::{Performed, TrapKind, perform};
+use machine_code::{Code, Prepared};
 use wasm_syntax::{Basic, Instr, Jump, Op, Value};
 
 /// Performs an instruction behind which the next one is run.

@@ -3,7 +3,7 @@
 ghost use Rattle.std.specs.Prelude.{◌≡◌, ◌++◌, ◌∷◌, List, Option, [], length, replicate, map, slice_index_or, nat_lt, IfOk, OnOk};
 ghost use Rattle.wasm_syntax.specs.declared.module.ModuleParts.{ModuleParts as Module};
 ghost use Rattle.machine_steps.specs.Places.{Place, flat_place};
-ghost use Rattle.machine_steps.specs.Tallies.{Counted};
+ghost use Rattle.machine_steps.specs.calls.Tallies.{Counted};
 ghost use Rattle.machine_steps.specs.inner.Cells.{more, cells_more, counts_more};
 
 use crate::watch::{Position, Watch};
@@ -23,7 +23,7 @@ pub struct Tally {
 
 impl Model for Tally {
     ghost use Rattle.std.specs.Prelude.{map};
-    ghost use Rattle.machine_steps.specs.Tallies as parts;
+    ghost use Rattle.machine_steps.specs.calls.Tallies as parts;
 
     ghost Value = { parts.Counts };
 

@@ -3,8 +3,8 @@
 ghost use Rattle.std.specs.Prelude.{◌≡◌, ◌++◌, ◌∷◌, [], List, Option};
 ghost use Rattle.wasm_syntax.specs.declared.module.ModuleParts.{ModuleParts as Module};
 ghost use Rattle.machine_steps.specs.Places.{Place};
-ghost use Rattle.machine_steps.specs.Watches.{place_at};
-ghost use Rattle.machine_steps.specs.inner.Watched.{position_of};
+ghost use Rattle.machine_steps.specs.calls.Watches.{place_at};
+ghost use Rattle.machine_steps.specs.calls.Watched.{position_of};
 
 use crate::machine::Machine;
 

@@ -4,7 +4,8 @@ ghost use Rattle.std.specs.Prelude.{◌≤◌};
 
 use causes::NoMemory;
 use linear_memory::Memory;
-use machine_basics::{Globals, Performed, Shared, Stack, TrapKind, perform};
+use machine_basics::{Globals, Performed, Shared, TrapKind, perform};
+use pm_text::Stack;
 use std::alloc::Global;
 use std::test::Fail;
 use wasm_syntax::{

@@ -1,12 +1,12 @@
 //! Invocations that go on where their steps were used up, and copies of instances.
 
 ghost use Rattle.std.specs.Prelude.{◌≡◌, false};
-ghost use Rattle.wasm_machine.specs.Instances.{IsSpent};
+ghost use Rattle.wasm_machine.specs.calls.Instances.{IsSpent};
 
 use crate::modules::{DIVISION, IMPORTED, READING, STARTED, valid};
 use crate::running::{Case, end_of, invoke};
 use causes::NoMemory;
-use host_script::ScriptHosts;
+use host_set::ScriptHosts;
 use machine_basics::TrapKind;
 use pm_text::{Bytes, Items};
 use std::alloc::Global;

@@ -1,9 +1,9 @@
 //! Invocations of new instances on recorded replies.
 
 ghost use Rattle.std.specs.Prelude.{◌≡◌, ◌≤◌, false, length, OnErr};
-ghost use Rattle.wasm_machine.specs.Instances.{IsSpent};
+ghost use Rattle.wasm_machine.specs.calls.Instances.{IsSpent};
 
-use host_script::ScriptHosts;
+use host_set::ScriptHosts;
 use std::alloc::Global;
 use wasm_machine::{End, Instance, RunEnd};
 use wasm_syntax::{Import, Reply, Value};

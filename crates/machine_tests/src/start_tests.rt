@@ -5,9 +5,8 @@ ghost use Rattle.host_set.specs.Sets.{AreDistinct, names};
 
 use crate::modules::{BOTH_OUT, DATA_OUT, FILLED, READING, valid};
 use host_set::{DeviceSet, Devices, Hosts};
-use machine_start::{StartFault, Started, start};
 use std::alloc::Global;
-use wasm_machine::{EntryFault, entry_fault};
+use wasm_machine::{EntryFault, StartFault, Started, entry_fault, start};
 use wasm_syntax::Value;
 use wasm_validate::Validated;
 

@@ -3,7 +3,7 @@
 ghost use Rattle.std.specs.Prelude.{◌≡◌};
 
 use crate::modules::{ROUND, STRAIGHT, valid};
-use host_script::ScriptHosts;
+use host_set::ScriptHosts;
 use machine_steps::Tally;
 use std::alloc::Global;
 use wasm_machine::Instance;

@@ -18,7 +18,7 @@ use Rattle.wasm_syntax.specs.Module.{Function, imported, defined, function_at, s
 use Rattle.wasm_syntax.specs.Host.{World, Answer, replied, told, silent, misfit, answer}
 use Rattle.wasm_syntax.specs.Effect.{Effect, gives, fails, unfit, effect, takes}
 use Rattle.wasm_syntax.specs.Machine.{Kind, leaves, again, returns, Label, Frame, Config, frame, Engine, Stepped, Cut, short, parts, cut, exactly, top, Went, inside, outside, nowhere, arrive, arrive_some, out_some, leave, loops, land, branch, carry, same_carry, pick, function_type, entered, host_call, goes_to, deliver, moved, host, enters, applied, applied_if, calls_on, calls, calls_if, fits_entry, calls_entry, calls_typed, calls_indirect, branch_if, moved_if, branch_table, jumps, affects, does, opens_arm, chooses, runs, in_frame, steps, step}
-use Rattle.wasm_validate.specs.Instructions.{is_node}
+use Rattle.wasm_validate.specs.calls.Instructions.{is_node}
 use Rattle.match_laws.proofs.RunStates.{OnFrames}
 use Rattle.std.specs.Prelude.{unwrap_or}
 

@@ -24,7 +24,7 @@ use Rattle.dump_match.specs.declared.mismatch.Mismatch.TheVariants as rows
 use Rattle.dump_match.specs.Values.{can_be}
 use Rattle.dump_match.specs.Frames.{instruction, is_call, can_call, shown, StandsAt, FunctionFits, OffsetFits, LocalsFit, OperandsFit, CallFits, CalleeFits}
 use Rattle.dump_match.specs.Matching.{OneInstance, MemoryFits, global_of, BothHave, Matches}
-use Rattle.match_laws.specs.TrapDumps.{dump_at}
+use Rattle.match_laws.specs.calls.TrapDumps.{dump_at}
 use Rattle.match_laws.proofs.Placed.{FramesAt, AtNode}
 use Rattle.match_laws.proofs.Kept.{SizeKept, FirstKept}
 use Rattle.match_laws.proofs.Standing.{WorldAt}

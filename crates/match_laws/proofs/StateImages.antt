@@ -20,8 +20,8 @@ use Rattle.dump_match.specs.declared.mismatch.Mismatch.TheVariants as rows
 use Rattle.dump_match.specs.Frames.{FunctionFits, OffsetFits, LocalsFit, OperandsFit, CallFits, CalleeFits}
 use Rattle.dump_match.specs.States.{SomeClosesAt, AtClose, MatchesState}
 use Rattle.dump_match.proofs.InState.{eases}
-use Rattle.match_laws.specs.TrapDumps.{dump_at}
-use Rattle.match_laws.specs.StateDumps.{StatesMatch}
+use Rattle.match_laws.specs.calls.TrapDumps.{dump_at}
+use Rattle.match_laws.specs.calls.StateDumps.{StatesMatch}
 use Rattle.wasm_laws.proofs.Safe.{context_of}
 use Rattle.match_laws.proofs.Placed.{OpenAt, live_in, FramesAt, FirstIsNode}
 use Rattle.match_laws.proofs.Standing.{WorldAt}

@@ -20,7 +20,7 @@ use Rattle.wasm_laws.proofs.Progress.{types_append, zero_types}
 use Rattle.wasm_laws.proofs.Safe.{one_result, AnswerFine, answer_fine, Typed}
 use Rattle.wasm_laws.proofs.Never.{Startable}
 use Rattle.wasm_laws.proofs.Validity.{startable}
-use Rattle.match_laws.specs.TrapDumps.{TrapMatches, TrapsMatch}
+use Rattle.match_laws.specs.calls.TrapDumps.{TrapMatches, TrapsMatch}
 use Rattle.match_laws.proofs.Placed.{Runs, FramesAt, AtNode}
 use Rattle.match_laws.proofs.Kept.{AnswerKept, answer_kept}
 use Rattle.match_laws.proofs.Standing.{WorldAt, SteppedAt, step_at}

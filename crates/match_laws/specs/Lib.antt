@@ -1,2 +1,1 @@
-pub mod TrapDumps
-pub mod StateDumps
+pub mod calls

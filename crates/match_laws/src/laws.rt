@@ -13,8 +13,8 @@ ghost use Rattle.wasm_syntax.specs.Typing.{IsBody};
 ghost use Rattle.wasm_syntax.specs.Valid.{Valid};
 ghost use Rattle.wasm_syntax.specs.Run.{Invocation, run};
 ghost use Rattle.dump_match.specs.Frames.{instruction, is_call, shown};
-ghost use Rattle.match_laws.specs.StateDumps.{StatesMatch};
-ghost use Rattle.match_laws.specs.TrapDumps.{TrapsMatch};
+ghost use Rattle.match_laws.specs.calls.StateDumps.{StatesMatch};
+ghost use Rattle.match_laws.specs.calls.TrapDumps.{TrapsMatch};
 
 /// The dump of each trap of a valid module within the limits of the decoder can be one of that
 /// module, whatever the invocations, their arguments, the replies, the depth and the number of

@@ -1,1 +1,10 @@
-pub mod Loads
+pub mod Apart
+pub mod Groups
+pub mod Greatest
+pub mod Least
+pub mod Knowing
+pub mod Shapes
+pub mod Steps
+pub mod Skips
+pub mod Arms
+pub mod Opens

@@ -1,2 +1,2 @@
-pub mod Places
-pub mod Contexts
+pub mod inner
+pub mod calls

@@ -1,14 +1,19 @@
-//! Writes code that keeps operands in added locals: it moves them between there, the stack and the
-//! result local, hands them over to the collector, and unwinds where the flag is up.
+//! Where a rewritten function keeps its operands: the locals that are added to it, and a walk over
+//! its body that knows which operand is where.
 #![tactic(auto)]
 
-mod context;
-mod handing;
-mod moves;
-mod place;
-mod unwinding;
+mod effect;
+mod heights;
+mod labels;
+pub mod laws;
+mod locals;
+mod places;
+mod skip;
+mod slots;
+mod walk;
 
-pub use causes::NoMemory;
-pub use context::FunctionContext;
-pub use place::{OperandPlace, OperandPlaces, slot};
-pub use unwinding::to_exit;
+pub use effect::{result_type, takes};
+pub use labels::{Label, OpenBlock};
+pub use skip::end_of_list;
+pub use slots::{SlotPlan, plan};
+pub use walk::{Walk, copy_of};

@@ -3,13 +3,13 @@ use Rattle.std.proofs.Common.{◌≡◌, ℕ, List, ◌++◌, Option, Some, None
 use Rattle.std.specs.Prelude.{IfSome}
 use Rattle.wasm_syntax.specs.declared.host.Served.{Served}
 use Rattle.pm_outside.specs.Contents.{Contents}
-use Rattle.dump_write.specs.Written.{OnTold}
+use Rattle.pm_outside.specs.Written.{OnTold}
 use Rattle.host_set.specs.Sets.{DeviceState}
-use Rattle.command_answers.specs.Told.{UnlessFault, MayHold, Takes}
-use Rattle.command_answers.specs.declared.outcome.Outcome.{Outcome}
-use Rattle.command_answers.specs.declared.status.Status.{Status}
-use Rattle.command_answers.specs.declared.status.Status.TheVariants as status
-use Rattle.run_session.specs.Written.{Writes, HoldThen}
+use Rattle.commands.specs.Told.{UnlessFault, MayHold, Takes}
+use Rattle.commands.specs.declared.outcome.Outcome.{Outcome}
+use Rattle.commands.specs.declared.status.Status.{Status}
+use Rattle.commands.specs.declared.status.Status.TheVariants as status
+use Rattle.pm_outside.specs.Held.{Writes, HoldThen}
 use Rattle.instrument_command.specs.InstrumentAnswer.{InstrumentAnswer}
 use Rattle.instrument_command.specs.Headline.{HoldsRewriting}
 use Rattle.instrument_command.proofs.Done.{holds_rewriting}
@@ -17,7 +17,7 @@ use Rattle.debug_command.specs.declared.words.DebugWords.{DebugWords}
 use Rattle.debug_command.specs.Answer.{DebugAnswer}
 use Rattle.debug_command.specs.Headline.{IsDebugged}
 use Rattle.debug_command.proofs.Held.{debugged}
-use Rattle.command_answers.proofs.Unless.{unless}
+use Rattle.commands.proofs.Unless.{unless}
 use Rattle.pm_cli.specs.Answer.{AnswersTo, IsAnswer, Answered, IfRewritten, IfDebugged}
 use Rattle.pm_cli.specs.Words.{command}
 use Rattle.pm_cli.specs.declared.words.Command.{Command}

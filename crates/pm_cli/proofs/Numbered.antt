@@ -1,7 +1,7 @@
 -- Numbered lines, one after the other.
 use Rattle.std.proofs.Common.{◌≡◌, ℕ, ◌+◌, ◌<◌, ◌≤◌, List, [], ◌∷◌, ◌++◌, length, get_or, drop, refl, sym, ◌∙◌, append_assoc, add-one, drop-cons}
 use Rattle.std.proofs.lemmas.List.{append-nil, drop_all}
-use Rattle.command_answers.specs.Values.{numbered}
+use Rattle.commands.specs.Values.{numbered}
 
 numbered_cons : {A : Type 0} (line : ℕ → A → List ℕ) (i : ℕ) (x : A) (xs : List A) → numbered line i (x ∷ xs) ≡ line i x ++ numbered line (i + 1) xs
 numbered_cons line i x xs = refl

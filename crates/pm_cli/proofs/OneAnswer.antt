@@ -5,12 +5,12 @@ use Rattle.wasm_syntax.specs.declared.host.Served.{Served}
 use Rattle.pm_outside.specs.Contents.{Contents}
 use Rattle.wasm_decode.specs.Decode.{module_from}
 use Rattle.host_set.specs.Sets.{DeviceState}
-use Rattle.command_answers.specs.Inputs.{input_of}
-use Rattle.command_answers.specs.declared.outcome.Outcome.{Outcome}
-use Rattle.command_answers.proofs.OneOutcome.{Agree, agree_then, agree_if_loaded}
-use Rattle.run_session.specs.Written.{Writes}
+use Rattle.commands.specs.Inputs.{input_of}
+use Rattle.commands.specs.declared.outcome.Outcome.{Outcome}
+use Rattle.commands.proofs.OneOutcome.{Agree, agree_then, agree_if_loaded}
+use Rattle.pm_outside.specs.Held.{Writes}
 use Rattle.instrument_command.proofs.OneAnswer.{one_instrument_answer, same_names}
-use Rattle.selftest_laws.proofs.OneProgram.{same_program}
+use Rattle.wasm_laws.proofs.OneProgram.{same_program}
 use Rattle.selftest_command.proofs.OneSelftest.{one_dump, same_files}
 use Rattle.pm_cli.specs.Answer.{AnswersTo, IsAnswer, SameAnswer, SameWrites, CheckAnswer, ShowAnswer, checked}
 use Rattle.pm_cli.specs.Words.{command}

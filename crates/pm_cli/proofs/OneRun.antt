@@ -11,13 +11,13 @@ use Rattle.wasm_syntax.specs.Run.{run}
 use Rattle.wasm_decode.specs.Decode.{module_from}
 use Rattle.host_devices.specs.Given.{replies_of}
 use Rattle.host_set.specs.Sets.{DeviceState, names}
-use Rattle.command_answers.specs.Inputs.{input_of}
-use Rattle.command_answers.specs.declared.outcome.Outcome.{Outcome}
-use Rattle.command_answers.proofs.OneOutcome.{Agree, agree_then, agree_if_loaded}
+use Rattle.commands.specs.Inputs.{input_of}
+use Rattle.commands.specs.declared.outcome.Outcome.{Outcome}
+use Rattle.commands.proofs.OneOutcome.{Agree, agree_then, agree_if_loaded}
 use Rattle.run_words.specs.declared.words.RunWords.{RunWords}
-use Rattle.run_session.specs.Written.{Writes}
-use Rattle.run_collected.specs.Delivery.{Delivery, IsDelivery}
-use Rattle.run_collected.proofs.Deliveries.{one}
+use Rattle.pm_outside.specs.Held.{Writes}
+use Rattle.run_session.specs.Delivery.{Delivery, IsDelivery}
+use Rattle.run_session.proofs.Deliveries.{one}
 use Rattle.run_session.specs.Invocations.{invocation_of, depth_of}
 use Rattle.run_session.specs.Telling.{tells}
 use Rattle.run_session.specs.RunText.{up_to_torn, dumps_from}
@@ -25,7 +25,7 @@ use Rattle.run_command.specs.Hosting.{start_text}
 use Rattle.run_command.specs.AllRan.{all_ran}
 use Rattle.run_command.specs.Recorded.{recorded}
 use Rattle.run_command.specs.RunAnswer.{RunAnswer, RunsTo, ModuleAnswer, IfRefusal, IsUntouched, hosting, replies_input, script_of}
-use Rattle.selftest_laws.proofs.OneProgram.{same_program}
+use Rattle.wasm_laws.proofs.OneProgram.{same_program}
 use Rattle.run_command.proofs.OneWritten.{Gives, at_refusal, gives_then, gives_starts, gives_if_loaded, input_refuses, replies_refuse, script_refuses}
 use Rattle.cover_command.proofs.OneCover.{agree_starts}
 

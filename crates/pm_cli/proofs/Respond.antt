@@ -4,18 +4,18 @@ use Rattle.std.specs.Prelude.{IfOk}
 use Rattle.pm_outside.specs.Contents.{Contents}
 use Rattle.wasm_syntax.specs.declared.host.Served.{Served}
 use Rattle.host_set.specs.Sets.{DeviceState}
-use Rattle.command_answers.specs.Texts.{usage}
-use Rattle.command_answers.specs.Told.{MayHold, OnContents}
-use Rattle.command_answers.specs.declared.outcome.Outcome.{Outcome}
-use Rattle.command_answers.proofs.Unless.{OnAnswer, map_answer, all_answers}
+use Rattle.commands.specs.Texts.{usage}
+use Rattle.commands.specs.Told.{MayHold, OnContents}
+use Rattle.commands.specs.declared.outcome.Outcome.{Outcome}
+use Rattle.commands.proofs.Unless.{OnAnswer, map_answer, all_answers}
 use Rattle.run_words.specs.declared.words.RunWords.{RunWords}
-use Rattle.run_session.specs.Written.{Writes}
+use Rattle.pm_outside.specs.Held.{Writes}
 use Rattle.run_command.specs.RunAnswer.{RunAnswer, AnsweredOn}
 use Rattle.instrument_command.specs.InstrumentAnswer.{AnsweredOn as InstrumentedOn}
 use Rattle.debug_command.specs.declared.words.DebugWords.{DebugWords}
 use Rattle.debug_command.specs.Answer.{DebugAnswer}
 use Rattle.selftest_command.specs.SelftestAnswer.{AnsweredOn as TestedOn}
-use Rattle.replay_words.specs.declared.asking.ReplayWords.{ReplayWords}
+use Rattle.replay_command.specs.declared.asking.ReplayWords.{ReplayWords}
 use Rattle.replay_command.specs.ReplayAnswer.{ReplayAnswer}
 use Rattle.run_words.specs.declared.cover.CoverWords.{CoverWords}
 use Rattle.cover_command.specs.CoverAnswer.{CoverAnswer}

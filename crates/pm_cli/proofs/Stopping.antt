@@ -4,17 +4,17 @@ use Rattle.std.specs.Prelude.{◌⊎◌, IfSome, IfOk}
 use Rattle.causes.specs.declared.NoMemory.{NoMemory}
 use Rattle.pm_outside.specs.Contents.{Contents}
 use Rattle.host_set.specs.Sets.{DeviceState}
-use Rattle.command_answers.specs.Texts.{usage, file_fault}
-use Rattle.command_answers.specs.Told.{UnlessFault, Takes, HasTakenFront}
-use Rattle.command_answers.specs.declared.outcome.Outcome.{Outcome}
-use Rattle.command_answers.specs.declared.status.Status.{Status}
-use Rattle.command_answers.specs.declared.status.Status.TheVariants as status
+use Rattle.commands.specs.Texts.{usage, file_fault}
+use Rattle.commands.specs.Told.{UnlessFault, Takes, HasTakenFront}
+use Rattle.commands.specs.declared.outcome.Outcome.{Outcome}
+use Rattle.commands.specs.declared.status.Status.{Status}
+use Rattle.commands.specs.declared.status.Status.TheVariants as status
 use Rattle.run_words.specs.declared.words.RunWords.{RunWords}
 use Rattle.run_session.specs.Stop.{Stop, no_memory, file_failed, IsFileFault, OnStop}
 use Rattle.run_command.specs.Stops.{NothingDone, RunStops}
 use Rattle.debug_command.specs.declared.words.DebugWords.{DebugWords}
 use Rattle.debug_command.specs.Answer.{IsReadBy}
-use Rattle.replay_words.specs.declared.asking.ReplayWords.{ReplayWords}
+use Rattle.replay_command.specs.declared.asking.ReplayWords.{ReplayWords}
 use Rattle.replay_command.specs.ReplayAnswer.{IsReadBy as IsReplayed}
 use Rattle.run_words.specs.declared.cover.CoverWords.{CoverWords}
 use Rattle.cover_command.specs.Stops.{CoverStops}

@@ -2,10 +2,10 @@
 use Rattle.std.proofs.Common.{◌≡◌, ℕ, List, ◌++◌, length, Option, Some, None, sym, ap, ◌∙◌}
 use Rattle.std.specs.Prelude.{IfSome}
 use Rattle.std.proofs.Math.Seq.{take-length}
-use Rattle.command_answers.specs.Told.{HasTakenFront, UnlessFault}
-use Rattle.command_answers.specs.declared.outcome.Outcome.{Outcome}
-use Rattle.command_answers.specs.declared.status.Status.{Status}
-use Rattle.command_answers.specs.declared.status.Status.TheVariants as status
+use Rattle.commands.specs.Told.{HasTakenFront, UnlessFault}
+use Rattle.commands.specs.declared.outcome.Outcome.{Outcome}
+use Rattle.commands.specs.declared.status.Status.{Status}
+use Rattle.commands.specs.declared.status.Status.TheVariants as status
 
 -- a whole text is a front of itself
 pub whole_front : (taken after : Option (List ℕ)) (piece text : List ℕ) → piece ≡ text → IfSome taken (λ old. after ≡ Some (old ++ piece)) → IfSome taken (λ before. HasTakenFront before after text)

@@ -9,26 +9,26 @@ use Rattle.wasm_syntax.specs.declared.module.ModuleParts.{ModuleParts as Module}
 use Rattle.wasm_decode.specs.Decode.{module_from}
 use Rattle.wasm_syntax.specs.declared.host.Served.{Served}
 use Rattle.host_set.specs.Sets.{DeviceState}
-use Rattle.run_session.specs.Written.{Writes}
+use Rattle.pm_outside.specs.Held.{Writes}
 use Rattle.run_command.specs.RunAnswer.{RunAnswer, IsUntouched, AnsweredOn}
 use Rattle.instrument_command.specs.InstrumentAnswer.{InstrumentAnswer}
 use Rattle.instrument_command.specs.Headline.{HoldsRewriting}
-use Rattle.dump_write.specs.Written.{OnTold}
-use Rattle.dump_answers.specs.Refused.{refused}
+use Rattle.pm_outside.specs.Written.{OnTold}
+use Rattle.commands.specs.Refused.{refused}
 use Rattle.debug_command.specs.Answer.{DebugAnswer}
 use Rattle.debug_command.specs.Headline.{IsDebugged}
 use Rattle.selftest_command.specs.SelftestAnswer.{SelftestAnswer, OneDump}
 use Rattle.replay_command.specs.ReplayAnswer.{ReplayAnswer}
 use Rattle.cover_command.specs.CoverAnswer.{CoverAnswer}
 use Rattle.pm_cli.specs.Check.{counted}
-use Rattle.command_answers.specs.Loading.{IfLoaded}
-use Rattle.command_answers.specs.Inputs.{input_of, Then}
+use Rattle.commands.specs.Loading.{IfLoaded}
+use Rattle.commands.specs.Inputs.{input_of, Then}
 use Rattle.pm_cli.specs.Show.{show_text}
-use Rattle.command_answers.specs.Texts.{ended, usage}
+use Rattle.commands.specs.Texts.{ended, usage}
 use Rattle.pm_cli.specs.Words.{command}
-use Rattle.command_answers.specs.declared.outcome.Outcome.{Outcome}
-use Rattle.command_answers.specs.declared.status.Status.{Status}
-use Rattle.command_answers.specs.declared.status.Status.TheVariants as status
+use Rattle.commands.specs.declared.outcome.Outcome.{Outcome}
+use Rattle.commands.specs.declared.status.Status.{Status}
+use Rattle.commands.specs.declared.status.Status.TheVariants as status
 use Rattle.pm_cli.specs.declared.words.Command.{Command}
 use Rattle.pm_cli.specs.declared.words.Command.TheVariants.{Check, Run, Instrument, Show, Debug, Selftest, Replay, Cover}
 

@@ -2,9 +2,9 @@
 use Rattle.std.specs.Prelude.{ℕ, List, ◌++◌, length, codes}
 use Rattle.std.specs.Fmt.{decimal}
 use Rattle.wasm_syntax.specs.declared.module.ModuleParts.{ModuleParts as Module}
-use Rattle.command_answers.specs.Texts.{ended}
-use Rattle.command_answers.specs.declared.outcome.Outcome.{Outcome}
-use Rattle.command_answers.specs.declared.status.Status.TheVariants as status
+use Rattle.commands.specs.Texts.{ended}
+use Rattle.commands.specs.declared.outcome.Outcome.{Outcome}
+use Rattle.commands.specs.declared.status.Status.TheVariants as status
 
 unfoldable pub code_text : Module → List ℕ
 code_text m = codes "types " ++ decimal (length m.types) ++ codes " imports " ++ decimal (length m.imports) ++ codes " functions " ++ decimal (length m.functions)

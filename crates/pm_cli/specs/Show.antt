@@ -9,7 +9,7 @@ use Rattle.wasm_syntax.specs.declared.value.Seen.{Seen}
 use Rattle.wasm_syntax.specs.declared.value.Seen.TheVariants as seen
 use Rattle.dump_format.specs.declared.dump.Frame.{Frame}
 use Rattle.dump_format.specs.declared.dump.Dump.{Dump}
-use Rattle.command_answers.specs.Values.{value_text, numbered}
+use Rattle.commands.specs.Values.{value_text, numbered}
 
 abbrev pub seen_text : Seen → List ℕ
 seen_text (seen.I32 n) = value_text (value.I32 n)

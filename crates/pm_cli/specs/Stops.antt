@@ -2,7 +2,7 @@
 use Rattle.std.specs.Prelude.{◌≡◌, ◌⊎◌, ℕ, List, Option, Some, None}
 use Rattle.pm_outside.specs.Contents.{Contents, SameBut}
 use Rattle.pm_outside.specs.Created.{with_name}
-use Rattle.dump_write.specs.Written.{OnTold}
+use Rattle.pm_outside.specs.Written.{OnTold}
 use Rattle.host_set.specs.Sets.{DeviceState}
 use Rattle.run_session.specs.Stop.{Stop}
 use Rattle.run_command.specs.Stops.{NothingDone, RunStops}

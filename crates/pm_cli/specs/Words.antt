@@ -2,12 +2,12 @@
 use Rattle.std.specs.Prelude.{◌<◌, ◌≤◌, List, length, [], ◌∷◌, Option, Some, None, if◌then◌else◌, codes, option_and_then}
 use Rattle.std.specs.Option.{option_map}
 use Rattle.std.specs.Str.{bytes_eq}
-use Rattle.command_words.specs.Reading.{Word, no_options, read_words}
+use Rattle.commands.specs.Reading.{Word, no_options, read_words}
 use Rattle.pm_cli.specs.declared.words.Command.{Command}
 use Rattle.run_words.specs.RunWords.{run_words}
 use Rattle.debug_command.specs.Words.{debug_words}
 use Rattle.selftest_command.specs.Words.{selftest_words}
-use Rattle.replay_words.specs.Words.{replay_words}
+use Rattle.replay_command.specs.Words.{replay_words}
 use Rattle.run_words.specs.CoverWords.{cover_words}
 use Rattle.pm_cli.specs.declared.words.Command.TheVariants.{Check, Run, Instrument, Show, Debug, Selftest, Replay, Cover}
 

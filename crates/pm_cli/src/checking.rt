@@ -5,12 +5,12 @@ ghost use Rattle.causes.specs.Counts.{Rose};
 ghost use Rattle.wasm_decode.specs.Decode.{module_from};
 ghost use Rattle.pm_cli.specs.Answer.{CheckAnswer, checked};
 ghost use Rattle.pm_cli.specs.Check.{code_text, other_text, valid_text, counted};
-ghost use Rattle.command_answers.specs.Loading.{IfLoaded};
-ghost use Rattle.command_answers.specs.Texts.{file_fault};
-ghost use Rattle.command_answers.specs.Told.{UnlessFault, OnContents};
+ghost use Rattle.commands.specs.Loading.{IfLoaded};
+ghost use Rattle.commands.specs.Texts.{file_fault};
+ghost use Rattle.commands.specs.Told.{UnlessFault, OnContents};
 
 use causes::NoMemory;
-use command_answers::{Input, Loaded, Outcome, Status, load, push_number, read_input};
+use commands::{Input, Loaded, Outcome, Status, load, push_number, read_input};
 use pm_outside::Files;
 use pm_text::Text;
 use std::alloc::Global;

@@ -1,12 +1,12 @@
 //! The lines that show a dump.
 
 ghost use Rattle.std.specs.Prelude.{◌≡◌, ◌++◌, OnOk, IfOk};
-ghost use Rattle.command_answers.specs.Values.{value_text};
+ghost use Rattle.commands.specs.Values.{value_text};
 ghost use Rattle.pm_cli.specs.Show.{seen_text, values_text, place_text, frame_text, global_text, memory_text, head_text, show_text};
-ghost use Rattle.command_answers.specs.Values.{numbered};
+ghost use Rattle.commands.specs.Values.{numbered};
 
 use causes::NoMemory;
-use command_answers::{push_number, push_value};
+use commands::{push_number, push_value};
 use dump_format::{Dump, Frame};
 use pm_text::Text;
 use std::alloc::Global;

@@ -4,10 +4,10 @@ ghost use Rattle.std.specs.Prelude.{◌≡◌, ℕ, List};
 ghost use Rattle.pm_outside.specs.Contents.{Contents};
 ghost use Rattle.wasm_syntax.specs.declared.host.Served.{Served};
 ghost use Rattle.host_set.specs.Sets.{DeviceState};
-ghost use Rattle.run_session.specs.Written.{Writes};
+ghost use Rattle.pm_outside.specs.Held.{Writes};
 ghost use Rattle.pm_cli.specs.Answer.{IsAnswer, SameAnswer, SameWrites};
 ghost use Rattle.pm_cli.specs.Words.{command};
-ghost use Rattle.command_answers.specs.declared.outcome.Outcome.{Outcome};
+ghost use Rattle.commands.specs.declared.outcome.Outcome.{Outcome};
 
 /// A list of words has at most one status and text, and writes the same files, where the same
 /// replies were given. The bytes that `instrument` writes, and those of the second file of

@@ -9,8 +9,7 @@ mod showing;
 mod top;
 mod words;
 
-pub use command_answers::Status;
-pub use command_words::WordsFault;
+pub use commands::{Status, WordsFault};
 pub use laws::one_answer;
 pub use top::post_mortem;
 pub use words::{Command, parse_words};

@@ -4,13 +4,12 @@ ghost use Rattle.std.specs.Prelude.{◌≡◌, ◌≢◌, ◌≤◌, IfOk};
 ghost use Rattle.causes.specs.Counts.{Rose};
 ghost use Rattle.dump_format.specs.Decode.{dump_from};
 ghost use Rattle.pm_cli.specs.Answer.{ShowAnswer, shown};
-ghost use Rattle.command_answers.specs.Texts.{file_fault};
-ghost use Rattle.command_answers.specs.Told.{UnlessFault, OnContents};
+ghost use Rattle.commands.specs.Texts.{file_fault};
+ghost use Rattle.commands.specs.Told.{UnlessFault, OnContents};
 
 use crate::dump_text::show;
 use causes::NoMemory;
-use command_answers::{Input, Outcome, Status, read_input};
-use dump_answers::refused_dump;
+use commands::{Input, Outcome, Status, read_input, refused_dump};
 use dump_format::decode_dump;
 use pm_outside::Files;
 use std::alloc::Global;

@@ -4,7 +4,7 @@ ghost use Rattle.std.specs.Prelude.{◌≡◌, map, None, Some, IfOk};
 ghost use Rattle.std.specs.String.{string_bytes};
 ghost use Rattle.pm_cli.specs.Words.{one_word, instrument_words, command, HasBounds};
 
-use command_words::{Options, WordsFault, read_words};
+use commands::{Options, WordsFault, read_words};
 use debug_command::{DebugWords, debug_words};
 use pm_text::Text;
 use replay_command::{ReplayWords, replay_words};

@@ -2,7 +2,7 @@
 
 ghost use Rattle.std.specs.Prelude.{◌≡◌, ◌≤◌, MatchOption};
 ghost use Rattle.causes.specs.Counts.{Rose};
-ghost use Rattle.pm_outside.specs.Memory.{IsToFail, part_of, with_call, with_fault};
+ghost use Rattle.pm_outside.specs.calls.Memory.{IsToFail, part_of, with_call, with_fault};
 
 use std::marker::Model;
 
@@ -25,7 +25,7 @@ pub(crate) struct FaultPlan {
 }
 
 impl Model for FaultPlan {
-    ghost use Rattle.pm_outside.specs.Memory.{Plan};
+    ghost use Rattle.pm_outside.specs.calls.Memory.{Plan};
 
     ghost Value = { Plan };
 

@@ -3,7 +3,7 @@
 ghost use Rattle.std.specs.Prelude.{◌≡◌, ◌≢◌, [], ◌++◌, Some, OnOk, OnErr, unwrap_or};
 ghost use Rattle.std.specs.Option.{option_copied};
 ghost use Rattle.pm_outside.specs.Contents.{SameBut, held};
-ghost use Rattle.pm_outside.specs.Memory.{IsPartAdded};
+ghost use Rattle.pm_outside.specs.calls.Memory.{IsPartAdded};
 
 use causes::NoMemory;
 use std::alloc::Global;

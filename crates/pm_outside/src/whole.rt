@@ -2,7 +2,7 @@
 
 ghost use Rattle.std.specs.Prelude.{◌≡◌, ◌≤◌, length, vec_len, Some, IfOk, IfErr, IfSome, IsErrOf};
 ghost use Rattle.causes.specs.Counts.{Rose};
-ghost use Rattle.pm_outside.specs.Whole.{Refuses};
+ghost use Rattle.pm_outside.specs.calls.Whole.{Refuses};
 ghost use Rattle.pm_outside.specs.declared.whole.FileError.TheVariants.{NoMemory};
 
 use crate::{Files, ReadAnswer};

@@ -4,3 +4,4 @@ pub mod NameLaws
 pub mod NumberLaws
 pub mod Lists
 pub mod Utf8
+pub mod Stacks

@@ -5,9 +5,10 @@ mod hex;
 mod items;
 mod names;
 mod numbers;
+mod stack;
 mod text;
 
-pub use causes::NoMemory;
 pub use items::{Bytes, Items, Texts};
 pub use numbers::{Number, read_decimal, read_value};
+pub use stack::Stack;
 pub use text::Text;

@@ -12,20 +12,20 @@ use Rattle.wasm_syntax.specs.declared.module.ModuleParts.{ModuleParts as Module}
 use Rattle.wasm_syntax.specs.Module.{Program, IsModule}
 use Rattle.wasm_syntax.specs.Run.{Ran, engine}
 use Rattle.host_devices.specs.Given.{replies_of}
-use Rattle.host_devices.specs.HostSides.{Origin}
-use Rattle.host_script.specs.Scripting.{ScriptState, calls_of, origin_of, is_used_up}
+use Rattle.host_devices.specs.calls.HostSides.{Origin}
+use Rattle.host_set.specs.calls.Scripting.{ScriptState, calls_of, origin_of, is_used_up}
 use Rattle.machine_hosted.specs.declared.answer.RunEnd.{RunEnd}
 use Rattle.machine_hosted.specs.declared.answer.RunEnd.TheVariants.{Finished, Trapped, NoReply, BadReply, DeviceFault, FuelSpent, NoMemory}
-use Rattle.machine_hosted.specs.Settings.{HostServes, world_of}
-use Rattle.machine_hosted.specs.Hosted.{replying}
-use Rattle.machine_hosted.specs.Invocations.{InvocationCame, invoking}
-use Rattle.machine_hosted.specs.Answers.{AdmitsReplies, HasCause}
-use Rattle.machine_hosted.specs.Courses.{Course, CameBy, longer}
-use Rattle.machine_steps.specs.declared.machine.Prepared.{Prepared}
+use Rattle.machine_hosted.specs.calls.Settings.{HostServes, world_of}
+use Rattle.machine_hosted.specs.calls.Hosted.{replying}
+use Rattle.machine_hosted.specs.calls.Invocations.{InvocationCame, invoking}
+use Rattle.machine_hosted.specs.calls.Answers.{AdmitsReplies, HasCause}
+use Rattle.machine_hosted.specs.calls.Courses.{Course, CameBy, longer}
+use Rattle.machine_code.specs.declared.prepared.Prepared.{Prepared}
 use Rattle.wasm_machine.specs.declared.invocation.End.{End}
 use Rattle.wasm_machine.specs.declared.invocation.LastInvocation.{LastInvocation}
-use Rattle.wasm_machine.specs.Instances as instances
-use Rattle.wasm_machine.specs.Instances.{State, IsSpent, StoppedBy, Resumed, kept_end, last_of}
+use Rattle.wasm_machine.specs.calls.Instances as instances
+use Rattle.wasm_machine.specs.calls.Instances.{State, IsSpent, StoppedBy, Resumed, kept_end, last_of}
 use Rattle.replay.specs.Replays.{Recording, IsOf}
 use Rattle.replay.proofs.Answers.{had}
 use Rattle.replay.proofs.Spent.{invoked_spends}

@@ -7,11 +7,11 @@ use Rattle.wasm_syntax.specs.Machine.{Config}
 use Rattle.wasm_syntax.specs.Run.{Outcome, running}
 use Rattle.machine_hosted.specs.declared.answer.RunEnd.{RunEnd}
 use Rattle.machine_hosted.specs.declared.answer.RunEnd.TheVariants.{Finished, Trapped, NoReply, BadReply, DeviceFault, FuelSpent, NoMemory}
-use Rattle.machine_hosted.specs.Answers.{KeepsThen, given_steps}
-use Rattle.machine_hosted.specs.Invocations.{HasOutcome}
-use Rattle.wasm_machine.specs.Instances as instances
-use Rattle.wasm_machine.specs.Instances.{State, StandsAt}
-use Rattle.wasm_machine.specs.Sessions.{HadMemory}
+use Rattle.machine_hosted.specs.calls.Answers.{KeepsThen, given_steps}
+use Rattle.machine_hosted.specs.calls.Invocations.{HasOutcome}
+use Rattle.wasm_machine.specs.calls.Instances as instances
+use Rattle.wasm_machine.specs.calls.Instances.{State, StandsAt}
+use Rattle.wasm_machine.specs.calls.Sessions.{HadMemory}
 use Rattle.wasm_machine.proofs.StandingLaws.{trap_stands}
 use Rattle.replay.specs.Replays.{IsOutcome}
 use Rattle.replay.specs.inner.Reached.{IfHad, HasEnded}

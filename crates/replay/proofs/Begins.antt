@@ -5,16 +5,16 @@ use Rattle.wasm_syntax.specs.declared.value.Value.{Value}
 use Rattle.wasm_syntax.specs.declared.module.ModuleParts.{ModuleParts as Module}
 use Rattle.wasm_syntax.specs.declared.host.Served.{Served}
 use Rattle.wasm_syntax.specs.Module.{Program, IsModule, function_export}
-use Rattle.machine_steps.specs.declared.machine.Prepared.{Prepared}
+use Rattle.machine_code.specs.declared.prepared.Prepared.{Prepared}
 use Rattle.host_devices.specs.Given.{replies_of}
-use Rattle.host_script.specs.Scripting.{ScriptState, calls_of, is_used_up}
+use Rattle.host_set.specs.calls.Scripting.{ScriptState, calls_of, is_used_up}
 use Rattle.machine_hosted.specs.declared.answer.RunEnd.{RunEnd}
 use Rattle.machine_hosted.specs.declared.answer.RunEnd.TheVariants.{FuelSpent}
 use Rattle.wasm_machine.specs.declared.entries.EntryFault.{EntryFault}
 use Rattle.wasm_machine.specs.declared.invocation.End.TheVariants as ends
-use Rattle.wasm_machine.specs.Instances as instances
-use Rattle.wasm_machine.specs.Instances.{State, IsNew, Invoked, last_of, course_from}
-use Rattle.machine_hosted.specs.Courses.{CameBy}
+use Rattle.wasm_machine.specs.calls.Instances as instances
+use Rattle.wasm_machine.specs.calls.Instances.{State, IsNew, Invoked, last_of, course_from}
+use Rattle.machine_hosted.specs.calls.Courses.{CameBy}
 use Rattle.replay.specs.Replays.{Recording, IsOf, cause_in}
 use Rattle.replay.specs.inner.Reached.{CameTo, Waits, kept}
 use Rattle.replay.proofs.Advances.{Scripted, taken, count_within, nothing_before}

@@ -6,7 +6,7 @@ use Rattle.wasm_syntax.specs.Module.{Program}
 use Rattle.wasm_syntax.specs.Run.{running, Ran}
 use Rattle.machine_hosted.specs.declared.answer.RunEnd.{RunEnd}
 use Rattle.machine_hosted.specs.declared.answer.RunEnd.TheVariants.{FuelSpent}
-use Rattle.wasm_machine.specs.Instances.{State}
+use Rattle.wasm_machine.specs.calls.Instances.{State}
 use Rattle.replay.specs.Replays.{Recording, IsOf, IsEnd, ran_within, outcome_at}
 use Rattle.replay.specs.inner.Reached.{Reached, Waits}
 use Rattle.replay.specs.inner.Tracks.{Ends}

@@ -3,11 +3,11 @@ use Rattle.std.proofs.Common.{◌≡◌, ◌≢◌, ◌⊎◌, ℕ, ◌+◌, ◌
 use Rattle.std.specs.Prelude.{false, Option, Some, option_map, map}
 use Rattle.wasm_syntax.specs.Module.{Program}
 use Rattle.wasm_syntax.specs.Run.{Outcome, not_started, finished, trapped, lacks_reply, misfits, running, got_stuck, Ran, run}
-use Rattle.wasm_laws.specs.Runs.{with_more}
+use Rattle.wasm_laws.specs.calls.Runs.{with_more}
 use Rattle.wasm_laws.proofs.Longer.{longer_run}
 use Rattle.machine_hosted.proofs.Fewer.{last_of, less_left, fewer_in_run}
 use Rattle.machine_hosted.specs.declared.answer.RunEnd.{RunEnd}
-use Rattle.wasm_machine.specs.Instances.{State}
+use Rattle.wasm_machine.specs.calls.Instances.{State}
 use Rattle.replay.specs.Replays.{Recording, invocation_of, ran_within, outcome_at}
 use Rattle.replay.proofs.Runs.{Known, ran_is}
 use Rattle.pm_text.proofs.Lists.{some_is}

@@ -5,7 +5,7 @@ use Rattle.std.proofs.lemmas.Bool.{cases_order}
 use Rattle.wasm_syntax.specs.Module.{Program}
 use Rattle.wasm_syntax.specs.Machine.{Config}
 use Rattle.machine_hosted.specs.declared.answer.RunEnd.{RunEnd}
-use Rattle.wasm_machine.specs.Instances.{StandsAt}
+use Rattle.wasm_machine.specs.calls.Instances.{StandsAt}
 use Rattle.replay.specs.declared.point.Point.{Point}
 use Rattle.replay.specs.Replays.{Recording, IsOf, IsEnd, is_in, is_in_some, is_there}
 use Rattle.replay.specs.Moves.{Replay, OfEach, Shows, Went, Found, IsNext, HasNoNext}

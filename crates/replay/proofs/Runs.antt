@@ -10,9 +10,9 @@ use Rattle.wasm_syntax.specs.Machine.{Engine, Config}
 use Rattle.wasm_syntax.specs.Run.{Ran, Cause, cause_of, engine, invoked, goes_on, fresh, session, unless, run, start_world}
 use Rattle.host_devices.specs.Given.{replies_of}
 use Rattle.machine_hosted.specs.declared.answer.RunEnd.{RunEnd}
-use Rattle.machine_hosted.specs.Settings.{world_of}
-use Rattle.machine_hosted.specs.Invocations.{InvocationCame, invoking}
-use Rattle.wasm_machine.specs.Instances.{State, StandsAt}
+use Rattle.machine_hosted.specs.calls.Settings.{world_of}
+use Rattle.machine_hosted.specs.calls.Invocations.{InvocationCame, invoking}
+use Rattle.wasm_machine.specs.calls.Instances.{State, StandsAt}
 use Rattle.wasm_machine.proofs.SessionLaws.{goes_on_behind}
 use Rattle.replay.specs.Replays.{Recording, IsOf, IsOutcome, invocation_of, ran_within, outcome_at}
 use Rattle.replay.specs.Moves.{Shows}

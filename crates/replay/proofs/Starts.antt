@@ -6,10 +6,10 @@ use Rattle.wasm_syntax.specs.declared.module.ModuleParts.{ModuleParts as Module}
 use Rattle.wasm_syntax.specs.Numbers.{types}
 use Rattle.wasm_syntax.specs.Module.{function_export, same_types, type_at}
 use Rattle.wasm_syntax.specs.Run.{Cause, no_export, bad_arguments, element_out, data_out, if_fits, cause_of_entry, cause_of_segments}
-use Rattle.wasm_machine.specs.Entries.{unserved, fault_or}
-use Rattle.machine_start.specs.declared.started.StartFault.{StartFault}
-use Rattle.machine_start.specs.declared.started.StartFault.TheVariants as starts
-use Rattle.wasm_machine.specs.Instances.{State, Begins}
+use Rattle.wasm_machine.specs.calls.Entries.{unserved, fault_or}
+use Rattle.wasm_machine.specs.declared.started.StartFault.{StartFault}
+use Rattle.wasm_machine.specs.declared.started.StartFault.TheVariants as starts
+use Rattle.wasm_machine.specs.calls.Instances.{State, Begins}
 use Rattle.replay.specs.Replays.{Recording, cause_in}
 use Rattle.replay.specs.Moves.{IsFault}
 use Rattle.replay.specs.inner.Starting.{early, of_segments, Started}

@@ -4,7 +4,7 @@ use Rattle.std.specs.Prelude.{max, Option, Some, None, option_to_list}
 use Rattle.std.proofs.lemmas.List.{length-append, append-nil}
 use Rattle.machine_hosted.specs.declared.answer.RunEnd.{RunEnd}
 use Rattle.machine_hosted.specs.declared.answer.RunEnd.TheVariants.{FuelSpent}
-use Rattle.wasm_machine.specs.Instances.{State, copied}
+use Rattle.wasm_machine.specs.calls.Instances.{State, copied}
 use Rattle.replay.specs.declared.point.Point.{Point}
 use Rattle.replay.specs.Replays.{Recording}
 use Rattle.replay.specs.inner.Reached.{Reached}

@@ -4,7 +4,7 @@ use Rattle.wasm_syntax.specs.Module.{Program}
 use Rattle.wasm_syntax.specs.Machine.{Config}
 use Rattle.wasm_syntax.specs.Run.{no_export, bad_arguments, element_out, data_out}
 use Rattle.machine_hosted.specs.declared.answer.RunEnd.{RunEnd}
-use Rattle.wasm_machine.specs.Instances.{State, StandsAt}
+use Rattle.wasm_machine.specs.calls.Instances.{State, StandsAt}
 use Rattle.replay.specs.declared.fault.ReplayFault.{ReplayFault}
 use Rattle.replay.specs.declared.fault.ReplayFault.TheVariants.{NoExport, BadArguments, ElementOut, DataOut, NoMemory}
 use Rattle.replay.specs.Replays.{Recording, IsOf, cause_in, state_at, is_there}

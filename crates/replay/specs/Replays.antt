@@ -8,7 +8,7 @@ use Rattle.wasm_syntax.specs.Module.{Program, IsProgram, option_then}
 use Rattle.wasm_syntax.specs.Machine.{Config}
 use Rattle.wasm_syntax.specs.Run.{Outcome, finished, trapped, lacks_reply, misfits, running, Ran, Invocation, Cause, cause_of, run}
 use Rattle.dump_write.specs.Image.{DumpFrame, frame_images}
-use Rattle.machine_basics.specs.Traps.{trap_code}
+use Rattle.machine_basics.specs.calls.Traps.{trap_code}
 use Rattle.machine_hosted.specs.declared.answer.RunEnd.{RunEnd}
 use Rattle.machine_hosted.specs.declared.answer.RunEnd.TheVariants.{Finished, Trapped, NoReply, BadReply, DeviceFault, FuelSpent, NoMemory}
 

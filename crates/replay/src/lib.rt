@@ -9,7 +9,6 @@ mod recorded;
 mod replayer;
 mod track;
 
-pub use causes::NoMemory;
 pub use fault::ReplayFault;
 pub use machine_hosted::RunEnd;
 pub use replayer::Replayer;

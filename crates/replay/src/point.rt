@@ -4,7 +4,7 @@ ghost use Rattle.std.specs.Prelude.{◌≡◌, ◌≢◌, ◌+◌, ◌<◌, ◌�
 ghost use Rattle.wasm_syntax.specs.Module.{Program, function_export};
 ghost use Rattle.wasm_syntax.specs.Machine.{Config};
 ghost use Rattle.wasm_syntax.specs.Run.{cause_of_entry};
-ghost use Rattle.wasm_machine.specs.Instances.{IsNew, StandsAt, copied};
+ghost use Rattle.wasm_machine.specs.calls.Instances.{IsNew, StandsAt, copied};
 ghost use Rattle.replay.specs.Replays.{cause_in, is_in};
 ghost use Rattle.replay.specs.Moves.{IsFault};
 ghost use Rattle.replay.specs.inner.Starting.{early, of_segments, Started};

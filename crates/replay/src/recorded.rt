@@ -3,7 +3,7 @@
 ghost use Rattle.std.specs.Prelude.{◌≡◌, ◌≤◌, [], length};
 ghost use Rattle.wasm_syntax.specs.Module.{IsModule};
 
-use host_script::ScriptHosts;
+use host_set::ScriptHosts;
 use std::alloc::Global;
 use std::marker::Model;
 use wasm_syntax::{Reply, Value};

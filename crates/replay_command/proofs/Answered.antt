@@ -4,13 +4,13 @@ use Rattle.std.specs.Prelude.{IfOk}
 use Rattle.wasm_syntax.specs.declared.value.Value.{Value}
 use Rattle.wasm_syntax.specs.declared.host.Reply.{Reply}
 use Rattle.wasm_syntax.specs.declared.module.ModuleParts.{ModuleParts as Module}
-use Rattle.command_answers.specs.declared.outcome.Outcome.{Outcome}
+use Rattle.commands.specs.declared.outcome.Outcome.{Outcome}
 use Rattle.run_command.specs.Starting.{cause_text}
 use Rattle.run_command.specs.RunAnswer.{StartsOr}
 use Rattle.replay.specs.declared.fault.ReplayFault.{ReplayFault}
 use Rattle.replay.specs.Moves.{IsFault, Replay, Starts}
 use Rattle.replay.specs.Replays.{Recording, cause_in}
-use Rattle.replay_words.specs.declared.asking.ReplayWords.{ReplayWords}
+use Rattle.replay_command.specs.declared.asking.ReplayWords.{ReplayWords}
 use Rattle.replay_command.specs.ReplayAnswer.{IsTold, ModuleAnswer, recording}
 use Rattle.replay_command.specs.inner.Told.{StandsAtStart, TellsFault}
 

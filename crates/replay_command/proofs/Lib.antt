@@ -5,3 +5,4 @@ pub mod OneReplay
 pub mod States
 pub mod Splits
 pub mod Turns
+pub mod WordLaws

@@ -4,14 +4,14 @@ use Rattle.std.proofs.lemmas.List.{append-nil}
 use Rattle.wasm_syntax.specs.Module.{Program}
 use Rattle.wasm_syntax.specs.Run.{Outcome}
 use Rattle.dump_format.specs.declared.dump.Dump.{Dump}
-use Rattle.debug_commands.specs.Commands.{read_command}
-use Rattle.debug_subject.specs.Subject.{Subject}
+use Rattle.debugger.specs.Commands.{read_command}
+use Rattle.debugger.specs.Subject.{Subject}
 use Rattle.debugger.specs.Session.{Prints, chosen_behind}
-use Rattle.debugger.specs.Sitting.{Sitting}
+use Rattle.debugger.specs.calls.Sitting.{Sitting}
 use Rattle.replay.specs.Replays.{Recording}
-use Rattle.replay_words.specs.declared.moves.Move.{Move}
-use Rattle.replay_words.specs.declared.moves.Move.TheVariants.{Look}
-use Rattle.replay_words.specs.Moves.{read_move}
+use Rattle.replay_command.specs.declared.moves.Move.{Move}
+use Rattle.replay_command.specs.declared.moves.Move.TheVariants.{Look}
+use Rattle.replay_command.specs.Moves.{read_move}
 use Rattle.replay_command.specs.ReplayText.{at_frame, subject_at, ShowsStep, Looked, DoesMove, DoAll}
 use Rattle.replay_command.specs.inner.Steps.{Adds, Looks, LookedThrough}
 

@@ -20,45 +20,45 @@ use Rattle.dump_format.specs.Form.{pages_of}
 use Rattle.dump_write.specs.Pages.{laid_on, memory_bytes}
 use Rattle.dump_write.specs.Canonical.{memory_indices, instance_of}
 use Rattle.dump_write.specs.Image.{Dump as Image, image}
-use Rattle.dump_image.specs.Pictured.{Pictures}
+use Rattle.dump_write.specs.Pictured.{Pictures}
 use Rattle.host_replies.specs.Replies.{file_replies}
-use Rattle.command_answers.specs.Inputs.{input_of}
-use Rattle.command_answers.specs.Texts.{ended}
-use Rattle.command_answers.proofs.OneOutcome.{Agree, agree_then, agree_if_loaded}
+use Rattle.commands.specs.Inputs.{input_of}
+use Rattle.commands.specs.Texts.{ended}
+use Rattle.commands.proofs.OneOutcome.{Agree, agree_then, agree_if_loaded}
 use Rattle.dwarf_expr.specs.View.{View}
 use Rattle.var_path.specs.declared.path.Path.{Path}
 use Rattle.var_path.specs.Reading.{read_path}
 use Rattle.var_eval.specs.Frames.{frame_of}
-use Rattle.var_shown.specs.Shown.{path_shown}
-use Rattle.debug_commands.specs.declared.command.Command.{Command}
-use Rattle.debug_commands.specs.declared.command.Command.TheVariants as commands
-use Rattle.debug_commands.specs.Commands.{read_command, second_word}
-use Rattle.debug_listings.specs.Listings.{listing, recorded_or}
-use Rattle.debug_recorded.specs.Recorded.{globals_in, laid_memory, memory_in, memory_among, recorded_globals, recorded_memory}
-use Rattle.debug_recorded.specs.Examined.{examined_text}
+use Rattle.var_eval.specs.PathShown.{path_shown}
+use Rattle.debugger.specs.declared.command.Command.{Command}
+use Rattle.debugger.specs.declared.command.Command.TheVariants as commands
+use Rattle.debugger.specs.Commands.{read_command, second_word}
+use Rattle.debugger.specs.Listings.{listing, recorded_or}
+use Rattle.debugger.specs.Recorded.{globals_in, laid_memory, memory_in, memory_among, recorded_globals, recorded_memory}
+use Rattle.debugger.specs.Examined.{examined_text}
 use Rattle.debug_frames.specs.declared.information.Information.{Information}
 use Rattle.debug_frames.specs.Information.{information}
 use Rattle.debug_frames.specs.Frames.{frame_text, address_of}
 use Rattle.debug_frames.specs.Unreadable.{unreadable_text}
-use Rattle.debug_subject.specs.Subject.{Subject}
-use Rattle.debug_subject.specs.Texts.{backtrace_text, frame_or_none, frame_text_at, locals_text, IsOperandsText, globals_text, memory_text}
-use Rattle.debug_variables.specs.Variables.{view_of, all_variables, variables_text, shown_line, path_text}
+use Rattle.debugger.specs.Subject.{Subject}
+use Rattle.debugger.specs.Texts.{backtrace_text, frame_or_none, frame_text_at, locals_text, IsOperandsText, globals_text, memory_text}
+use Rattle.debugger.specs.Variables.{view_of, all_variables, variables_text, shown_line, path_text}
 use Rattle.debugger.specs.Session.{of_frame, of_chosen, AreOperands, chosen_variables, chosen_path, Prints, chosen_of, chosen_behind}
 use Rattle.debug_command.proofs.OneDebug.{one_printed}
-use Rattle.selftest_laws.proofs.OneProgram.{same_program}
+use Rattle.wasm_laws.proofs.OneProgram.{same_program}
 use Rattle.run_command.specs.Starting.{cause_text}
 use Rattle.run_command.specs.RunAnswer.{StartsOr}
-use Rattle.replay_words.specs.declared.asking.ReplayWords.{ReplayWords}
-use Rattle.replay_words.specs.declared.moves.Move.{Move}
-use Rattle.replay_words.specs.declared.moves.Move.TheVariants.{Goto, Back, Until, Look}
-use Rattle.replay_words.specs.Moves.{read_move}
+use Rattle.replay_command.specs.declared.asking.ReplayWords.{ReplayWords}
+use Rattle.replay_command.specs.declared.moves.Move.{Move}
+use Rattle.replay_command.specs.declared.moves.Move.TheVariants.{Goto, Back, Until, Look}
+use Rattle.replay_command.specs.Moves.{read_move}
 use Rattle.replay.specs.Replays.{Recording, IsEnd, cause_in, outcome_at}
 use Rattle.replay.specs.Moves.{IsNext, HasNoNext}
 use Rattle.replay_command.specs.ReplayText.{At, at_frame, at_step, commands_in, subject_at, step_text, Moved, Looked, DoesMove, DoAll, IsText, ReplayText}
 use Rattle.replay_command.specs.ReplayAnswer.{recording, IsTold, ModuleAnswer, IfReplies, ReplayAnswer}
 use Rattle.validate_body.proofs.Flags.{true_false}
 use Rattle.pm_text.proofs.Lists.{some_is}
-use Rattle.command_answers.specs.Values.{numbered}
+use Rattle.commands.specs.Values.{numbered}
 
 same_number : (n k : ℕ) → (n < k → ⊥) → (k < n → ⊥) → n ≡ k
 same_number n k x y = omega (arith, x, y)

@@ -4,7 +4,7 @@ use Rattle.std.specs.List.{slice_split}
 use Rattle.std.proofs.lemmas.List.Splits.{slice_split_first}
 use Rattle.std.proofs.lemmas.Str.Pattern.{IsSplitOnceResult, split_once_first}
 use Rattle.replay_command.specs.ReplayText.{commands_in}
-use Rattle.debug_commands.proofs.WordLaws.{none_split}
+use Rattle.debugger.proofs.WordLaws.{none_split}
 
 pub first_split : (text : List ℕ) (p : Bor (List ℕ) × Bor (List ℕ)) → IsSplitOnceResult 59 text (Some p) → commands_in text ≡ p.0.now ∷ commands_in p.1.now
 first_split text p h =

@@ -13,18 +13,18 @@ use Rattle.wasm_syntax.specs.Run.{Ran, run}
 use Rattle.wasm_laws.proofs.Lists.{at_of}
 use Rattle.dump_format.specs.declared.dump.Dump.{Dump}
 use Rattle.dump_format.specs.declared.dump.Frame.{Frame as ShownFrame}
-use Rattle.dump_format.specs.Contained.{IsContained}
+use Rattle.dump_format.specs.calls.Contained.{IsContained}
 use Rattle.dump_write.specs.Image.{DumpFrame, frame_images, image}
 use Rattle.dump_write.specs.ImageBytes.{frame_of}
 use Rattle.dump_write.specs.Canonical.{memory_indices, instance_of, in_instance}
-use Rattle.dump_image.specs.Pictured.{Pictures}
+use Rattle.dump_write.specs.Pictured.{Pictures}
 use Rattle.dump_match.specs.States.{MatchesState, KeptState}
 use Rattle.match_laws.proofs.Images.{IsImage}
 use Rattle.match_laws.proofs.TrapRuns.{StateAt, states_stand}
 use Rattle.match_laws.proofs.StateImages.{images_match}
 use Rattle.match_laws.proofs.RunStates.{LastHas}
 use Rattle.match_laws.proofs.Few.{Few, run_few}
-use Rattle.wasm_machine.specs.Instances.{State, StandsAt}
+use Rattle.wasm_machine.specs.calls.Instances.{State, StandsAt}
 use Rattle.replay.specs.Replays.{Recording, IsOf, invocation_of, ran_within}
 use Rattle.replay.specs.Moves.{OfEach, Shows}
 use Rattle.replay_command.specs.ReplayText.{ShowsStep}

@@ -11,13 +11,13 @@ use Rattle.dump_format.specs.declared.dump.Dump.{Dump}
 use Rattle.dump_match.specs.Judged.{Match}
 use Rattle.debug_frames.specs.declared.information.Information.{Information}
 use Rattle.debug_frames.specs.Information.{information}
-use Rattle.debug_subject.specs.Subject.{Subject}
-use Rattle.debugger.specs.Sitting.{Sitting, sitting}
+use Rattle.debugger.specs.Subject.{Subject}
+use Rattle.debugger.specs.calls.Sitting.{Sitting, sitting}
 use Rattle.replay.specs.Replays.{Recording, IsOutcome}
 use Rattle.replay.specs.Moves.{Replay, OfEach, Went, Found}
-use Rattle.replay_words.specs.declared.moves.Move.{Move}
-use Rattle.replay_words.specs.declared.moves.Move.TheVariants.{Goto, Back, Until}
-use Rattle.replay_words.specs.Moves.{read_move}
+use Rattle.replay_command.specs.declared.moves.Move.{Move}
+use Rattle.replay_command.specs.declared.moves.Move.TheVariants.{Goto, Back, Until}
+use Rattle.replay_command.specs.Moves.{read_move}
 use Rattle.replay_command.specs.ReplayText.{At, at_frame, at_step, ending_at, step_text, commands_in, subject_at, ShowsStep, DoesMove, DoAll, ReplayText}
 use Rattle.replay_command.specs.inner.Steps.{Seat, choosing, LookedThrough, RunOf, SameRun, place, TakesFor, Moves, Took, EndsSo}
 use Rattle.replay_command.proofs.Looks.{looked_all}

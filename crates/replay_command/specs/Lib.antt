@@ -1,3 +1,5 @@
 pub mod ReplayText
 pub mod ReplayAnswer
 pub mod inner
+pub mod Moves
+pub mod Words

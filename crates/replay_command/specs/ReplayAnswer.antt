@@ -6,14 +6,14 @@ use Rattle.wasm_syntax.specs.declared.host.Reply.{Reply}
 use Rattle.wasm_syntax.specs.declared.module.ModuleParts.{ModuleParts as Module}
 use Rattle.wasm_decode.specs.Decode.{module_from}
 use Rattle.host_replies.specs.Replies.{file_replies}
-use Rattle.command_answers.specs.Inputs.{input_of, Then}
-use Rattle.command_answers.specs.Loading.{IfLoaded}
-use Rattle.command_answers.specs.declared.outcome.Outcome.{Outcome}
-use Rattle.command_answers.specs.declared.status.Status.TheVariants as status
+use Rattle.commands.specs.Inputs.{input_of, Then}
+use Rattle.commands.specs.Loading.{IfLoaded}
+use Rattle.commands.specs.declared.outcome.Outcome.{Outcome}
+use Rattle.commands.specs.declared.status.Status.TheVariants as status
 use Rattle.run_command.specs.Starting.{cause_text}
 use Rattle.run_command.specs.RunAnswer.{StartsOr, bad_replies}
 use Rattle.replay.specs.Replays.{Recording, cause_in}
-use Rattle.replay_words.specs.declared.asking.ReplayWords.{ReplayWords}
+use Rattle.replay_command.specs.declared.asking.ReplayWords.{ReplayWords}
 use Rattle.replay_command.specs.ReplayText.{ReplayText}
 
 abbrev pub recording : ReplayWords → Module → List Reply → Recording

@@ -8,16 +8,16 @@ use Rattle.wasm_syntax.specs.Run.{Outcome, finished, trapped, lacks_reply, misfi
 use Rattle.dump_format.specs.declared.dump.Dump.{Dump}
 use Rattle.dump_write.specs.Image.{image}
 use Rattle.dump_write.specs.Canonical.{instance_of}
-use Rattle.dump_image.specs.Pictured.{Pictures}
-use Rattle.run_session.specs.RunText.{kind_text, result_text}
-use Rattle.debug_commands.specs.Commands.{read_command}
-use Rattle.debug_subject.specs.Subject.{Subject, subject_of}
+use Rattle.dump_write.specs.Pictured.{Pictures}
+use Rattle.commands.specs.Lines.{kind_text, result_text}
+use Rattle.debugger.specs.Commands.{read_command}
+use Rattle.debugger.specs.Subject.{Subject, subject_of}
 use Rattle.debugger.specs.Session.{Prints, chosen_behind}
 use Rattle.replay.specs.Replays.{Recording, IsOf, IsEnd, state_at, outcome_at}
 use Rattle.replay.specs.Moves.{IsNext, HasNoNext}
-use Rattle.replay_words.specs.declared.moves.Move.{Move}
-use Rattle.replay_words.specs.declared.moves.Move.TheVariants.{Goto, Back, Until, Look}
-use Rattle.replay_words.specs.Moves.{read_move}
+use Rattle.replay_command.specs.declared.moves.Move.{Move}
+use Rattle.replay_command.specs.declared.moves.Move.TheVariants.{Goto, Back, Until, Look}
+use Rattle.replay_command.specs.Moves.{read_move}
 
 -- ---- the line of a step
 

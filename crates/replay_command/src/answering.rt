@@ -3,7 +3,7 @@
 ghost use Rattle.std.specs.Prelude.{◌≡◌, ◌≢◌, ◌≤◌, ◌<◌, ◌^◌, ◌++◌, IfOk, Some, codes};
 ghost use Rattle.pm_text.specs.Names.{quoted};
 ghost use Rattle.host_replies.specs.Replies.{file_replies};
-ghost use Rattle.debug_subject.specs.Subject.{Spells};
+ghost use Rattle.debugger.specs.Subject.{Spells};
 ghost use Rattle.run_command.specs.RunAnswer.{bad_replies as bad_replies_at};
 ghost use Rattle.run_command.specs.Starting.{cause_text, not_started_with};
 ghost use Rattle.replay.specs.Moves.{IsFault};
@@ -11,15 +11,14 @@ ghost use Rattle.replay.specs.Replays.{Recording, cause_in};
 ghost use Rattle.replay_command.specs.ReplayAnswer.{BytesAnswer, IfReplies, IsTold, ModuleAnswer};
 ghost use Rattle.replay_command.specs.inner.Told.{StandsAtStart, TellsFault};
 
+use crate::ReplayWords;
 use crate::looking::Viewer;
 use crate::moving::replayed;
 use causes::NoMemory;
-use command_answers::{Loaded, Outcome, Status, load, push_number};
+use commands::{Loaded, Outcome, Status, load, numbered, push_number};
 use host_replies::{ReplyFault, read_replies};
 use pm_text::Text;
 use replay::{ReplayFault, Replayer};
-use replay_words::ReplayWords;
-use run_session::numbered;
 use std::alloc::Global;
 use wasm_syntax::Reply;
 use wasm_validate::Validated;

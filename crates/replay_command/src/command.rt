@@ -3,16 +3,16 @@
 ghost use Rattle.std.specs.Prelude.{◌≡◌, ◌≢◌, ◌≤◌, ℕ, List, IfOk};
 ghost use Rattle.causes.specs.Counts.{Rose};
 ghost use Rattle.wasm_syntax.specs.declared.quantity.Quantity.TheVariants.{RepliesBytes};
-ghost use Rattle.command_answers.specs.Inputs.{input_of, Then};
-ghost use Rattle.command_answers.specs.Told.{UnlessFault, OnContents};
-ghost use Rattle.command_answers.specs.Texts.{file_fault};
+ghost use Rattle.commands.specs.Inputs.{input_of, Then};
+ghost use Rattle.commands.specs.Told.{UnlessFault, OnContents};
+ghost use Rattle.commands.specs.Texts.{file_fault};
 ghost use Rattle.replay_command.specs.ReplayAnswer.{BytesAnswer, ReplayAnswer, IsReadBy};
 
+use crate::ReplayWords;
 use crate::answering::on_bytes;
 use causes::NoMemory;
-use command_answers::{Input, Outcome, Status, read_input};
+use commands::{Input, Outcome, Status, read_input};
 use pm_outside::Files;
-use replay_words::ReplayWords;
 use std::alloc::Global;
 use wasm_syntax::Quantity;
 

@@ -2,7 +2,7 @@
 
 ghost use Rattle.std.specs.Prelude.{◌≡◌, ◌<◌, ◌^◌, IfOk, OnOk, codes};
 ghost use Rattle.debug_frames.specs.Information.{information};
-ghost use Rattle.debug_subject.specs.Subject.{Spells};
+ghost use Rattle.debugger.specs.Subject.{Spells};
 ghost use Rattle.dump_match.specs.States.{KeptState};
 ghost use Rattle.replay.specs.Moves.{OfEach};
 ghost use Rattle.replay_command.specs.ReplayText.{ShowsStep, commands_in};
@@ -10,8 +10,7 @@ ghost use Rattle.replay_command.specs.inner.Steps.{Adds, BeginsWithLook, IsShort
 
 use crate::reading::{begins_with_look, first_command};
 use causes::NoMemory;
-use debug_subject::{Information, information_of};
-use debugger::Session;
+use debugger::{Information, Session, information_of};
 use dump_format::Dump;
 use dump_match::{StateMatched, matches_state};
 use pm_text::Text;
@@ -34,7 +33,7 @@ pub(crate) struct Viewer<'a> {
 impl<'a> Model for Viewer<'a> {
     ghost use Rattle.std.specs.Prelude.{◌≡◌, IfSome};
     ghost use Rattle.debug_frames.specs.Information.{information};
-    ghost use Rattle.debug_subject.specs.Subject.{Spells};
+    ghost use Rattle.debugger.specs.Subject.{Spells};
     ghost use Rattle.replay_command.specs.inner.Steps.{Seat};
 
     ghost Value = { Seat };

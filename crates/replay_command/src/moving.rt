@@ -4,17 +4,17 @@ ghost use Rattle.std.specs.Prelude.{◌≡◌, ◌<◌, ◌++◌, ◌^◌, IfOk,
 ghost use Rattle.wasm_syntax.specs.Run.{Outcome as RunOutcome};
 ghost use Rattle.replay.specs.Moves.{OfEach};
 ghost use Rattle.replay.specs.Replays.{IsOutcome};
-ghost use Rattle.replay_words.specs.declared.moves.Move.TheVariants as moves;
+ghost use Rattle.replay_command.specs.declared.moves.Move.TheVariants as moves;
 ghost use Rattle.replay_command.specs.ReplayText.{ReplayText, commands_in, step_text};
 ghost use Rattle.replay_command.specs.inner.Steps.{EndsSo, IsShorter, Moves, Took, left_in};
 
 use crate::looking::Viewer;
 use crate::reading::first_command;
 use crate::texts::push_step;
+use crate::{Move, read_move};
 use causes::NoMemory;
 use pm_text::Text;
 use replay::Replayer;
-use replay_words::{Move, read_move};
 use std::alloc::Global;
 
 /// Adds the line of the step that is shown.

@@ -4,7 +4,7 @@ ghost use Rattle.std.specs.Prelude.{◌≡◌, ◌∷◌, true};
 ghost use Rattle.replay_command.specs.ReplayText.{commands_in};
 ghost use Rattle.replay_command.specs.inner.Steps.{BeginsWithLook, IsShorter, left_in};
 
-use replay_words::{Move, read_move};
+use crate::{Move, read_move};
 
 /// The first command, and the text behind the semicolon after it, where there is one.
 pub(crate) fn first_command(text: &str) -> (&str, Option<&str>)

@@ -3,17 +3,16 @@
 ghost use Rattle.std.specs.Prelude.{◌≡◌, ◌++◌, OnOk, codes};
 ghost use Rattle.std.specs.Fmt.{decimal};
 ghost use Rattle.wasm_syntax.specs.Run.{Outcome as RunOutcome};
-ghost use Rattle.machine_basics.specs.Traps.{trap_code};
+ghost use Rattle.machine_basics.specs.calls.Traps.{trap_code};
 ghost use Rattle.replay.specs.Replays.{IsOutcome};
-ghost use Rattle.run_session.specs.RunText.{kind_text, result_text};
+ghost use Rattle.commands.specs.Lines.{kind_text, result_text};
 ghost use Rattle.replay_command.specs.ReplayText.{ending_at, ending_text, step_text};
 
 use causes::NoMemory;
-use command_answers::push_number;
+use commands::{kind_name, push_number, push_result};
 use machine_basics::TrapKind;
 use pm_text::Text;
 use replay::RunEnd;
-use run_session::{kind_name, push_result};
 use wasm_syntax::Value;
 
 fn push_finished(out: &mut Text, value: Option<Value>) -> Result<(), NoMemory>

@@ -1,7 +1,7 @@
 //! Moves and words, with bounds and defaults.
 
-use command_words::WordsFault;
-use replay_words::{Move, ReplayWords, read_move, replay_words};
+use commands::WordsFault;
+use replay_command::{Move, ReplayWords, read_move, replay_words};
 use std::alloc::{AllocError, Global};
 use std::test::Fail;
 use wasm_syntax::Value;

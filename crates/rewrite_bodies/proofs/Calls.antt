@@ -26,15 +26,15 @@ use Rattle.rewrite_bodies.specs.Numbering.{import_count, mapped, place_in, globa
 use Rattle.rewrite_bodies.specs.Pieces.{get, set, const, call, if_any, fetch, load, store, tree_of}
 use Rattle.linear_memory.specs.Memory.{Memory}
 use Rattle.linear_memory.specs.Memory as memories
-use Rattle.rewrite_bodies.specs.Agreement.{Holds, now, info, infos, joined, Wit, t_frame, FitsIn, Has, Room_call, Room, FitsLabels, MemoryFits, NoKind, WorldFits, FitsFrame, FitsFrames, Wrap, zero_vs, t_frames, flagged}
-use Rattle.rewrite_bodies.specs.inner.Steps.{Gets, To, Shell, st}
+use Rattle.rewrite_bodies.specs.calls.Agreement.{Holds, now, info, infos, joined, Wit, t_frame, FitsIn, Has, Room_call, Room, FitsLabels, MemoryFits, NoKind, WorldFits, FitsFrame, FitsFrames, Wrap, zero_vs, t_frames, flagged}
+use Rattle.rewrite_bodies.specs.calls.Steps.{Gets, To, Shell, st}
 use Rattle.rewrite_bodies.proofs.Run.{stored, stored_other, kind_no_slot, slice_get-put_other, added_get, added_set, types-stored, slice_get-put_same, types-slice_set, added_kind, more_parts, one_step, seq, weaken, fetch_to, load_to, less_holds, store_to}
 use Rattle.rewrite_bodies.proofs.Parts.{put_keeps, cut_all, fits_put, settle, step_plain}
 use Rattle.rewrite_bodies.specs.Guards.{helper, entry_label, says, first_table}
-use Rattle.rewrite_bodies.specs.inner.Telling.{tell_labels, tell_locals, tell_frame}
+use Rattle.rewrite_bodies.specs.calls.Telling.{tell_labels, tell_locals, tell_frame}
 use Rattle.std.proofs.lemmas.List.{map-append}
 use Rattle.std.proofs.lemmas.Option.{slice_get-map}
-use Rattle.rewrite_bodies.specs.inner.Standing.{Linked, After, Speaks, HelperLinked, Stands}
+use Rattle.rewrite_bodies.specs.calls.Standing.{Linked, After, Speaks, HelperLinked, Stands}
 use Rattle.rewrite_bodies.proofs.Sim.{refit, refit_under, room_height, grown-append, grown_fits, len_of, shell, tgt, wit, wit_under, armed, if_zero_to, caught_to}
 use Rattle.rewrite_bodies.proofs.Control.{flag_len, flag_down, both_to, grown_longer}
 use Rattle.rewrite_bodies.proofs.Unwind.{exit_branch, frame_out, Hands, hand_to, hand_left_to, Up, up_all, renamed}

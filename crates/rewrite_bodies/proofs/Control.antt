@@ -17,11 +17,11 @@ use Rattle.rewrite_bodies.specs.Rewrite.{Info, in_loop, result_back, finish, bod
 use Rattle.rewrite_bodies.specs.Numbering.{mapped, flag_of, global_types}
 use Rattle.rewrite_bodies.specs.Pieces.{get, set, const, if_any, fetch, store, to_result, from_result}
 use Rattle.std.proofs.lemmas.List.{length-map}
-use Rattle.rewrite_bodies.specs.Agreement.{Holds, Pending, Arrives, awaits, now, code_at, pending, info, infos, joined, t_kind, t_labels, Wit, KindFits, FitsLabels, WorldFits, FitsFrame, FitsFrames, Wrap, t_frames, flagged}
-use Rattle.rewrite_bodies.specs.inner.Steps.{Gets, To, Shell, st}
+use Rattle.rewrite_bodies.specs.calls.Agreement.{Holds, Pending, Arrives, awaits, now, code_at, pending, info, infos, joined, t_kind, t_labels, Wit, KindFits, FitsLabels, WorldFits, FitsFrame, FitsFrames, Wrap, t_frames, flagged}
+use Rattle.rewrite_bodies.specs.calls.Steps.{Gets, To, Shell, st}
 use Rattle.rewrite_bodies.proofs.Run.{stored, stored_other, kind_no_slot, if_same, types-stored, still, one_step, seq, weaken, added_get, fetch_to, store_to, to_result_to, from_result_to, finish_to}
 use Rattle.rewrite_bodies.proofs.Parts.{fits_stored, has_slot, settle, step_plain}
-use Rattle.rewrite_bodies.specs.inner.Standing.{After}
+use Rattle.rewrite_bodies.specs.calls.Standing.{After}
 use Rattle.rewrite_bodies.proofs.Sim.{refit, room_height, grown-append, grown_fits, len_of, shell, tgt, wit, wit_under, armed, if_zero_to}
 use Rattle.wasm_syntax.proofs.Types.{same_type_is}
 

@@ -25,8 +25,8 @@ use Rattle.int_ops.specs.declared.operators.Binary.{Binary as BinaryOp}
 use Rattle.int_ops.specs.declared.operators.Binary.TheVariants.{Add, Sub, Mul, DivS, DivU, RemS, RemU, And, Or, Xor, Shl, ShrS, ShrU, Rotl, Rotr}
 use Rattle.std.proofs.lemmas.List.{length-replicate}
 use Rattle.std.proofs.Math.Nat.{mod-lt, mod-eq_of_lt}
-use Rattle.rewrite_bodies.specs.Agreement.{One, Holds, MemoryFits}
-use Rattle.rewrite_bodies.specs.inner.Steps.{To, Shell, st}
+use Rattle.rewrite_bodies.specs.calls.Agreement.{One, Holds, MemoryFits}
+use Rattle.rewrite_bodies.specs.calls.Steps.{To, Shell, st}
 use Rattle.rewrite_bodies.proofs.Run.{one_step, seq, weaken, push_to, fetch_to}
 use Rattle.std.proofs.lemmas.Bool.Decides.{leb_tells}
 use Rattle.int_ops.specs.declared.operators.Compare.TheVariants.{Eq, GtU}

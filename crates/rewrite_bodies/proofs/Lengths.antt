@@ -21,9 +21,9 @@ use Rattle.rewrite_bodies.specs.Slots.{Place, Spilled, Known, place_type, Ctx, s
 use Rattle.rewrite_bodies.specs.Pieces.{get, set, const, i32, call, if_any, fetch, load, store, to_result, from_result}
 use Rattle.rewrite_bodies.specs.Guards.{least, minus_one, zero_test, guard_zero, guard_signed, past_end, out_test, guard_memory, range_test, guard_copy, guard_fill, guard}
 use Rattle.rewrite_bodies.specs.Rewrite.{Info, hand_value, hand, hand_top, to_exit, unwind, hand_left, test_flag, test_both, tested}
-use Rattle.rewrite_bodies.specs.Agreement.{FitsIn}
-use Rattle.rewrite_bodies.specs.Length.{code_length, FewNumbers}
-use Rattle.dump_write.proofs.Sizes.{ten_bytes, ten_signed}
+use Rattle.rewrite_bodies.specs.calls.Agreement.{FitsIn}
+use Rattle.rewrite_bodies.specs.calls.Length.{code_length, FewNumbers}
+use Rattle.wasm_leb.proofs.Lengths.{ten_bytes, ten_signed}
 
 -- ---- numbers
 

@@ -18,17 +18,17 @@ use Rattle.rewrite_bodies.specs.Slots.{Place, Known, place_type, Ctx, result_at,
 use Rattle.rewrite_bodies.specs.Pieces.{get, set, const, i32, call, if_any, fetch, load, store, from_result}
 use Rattle.rewrite_bodies.specs.Guards.{can_trap}
 use Rattle.rewrite_bodies.specs.Rewrite.{Info, in_block, in_loop, in_body, carries, end_gives, result_back, body_at, guarded, plain, instr, ending, go_to, branch_to, branch_if, table, after_direct, call_code, helper_of, hand_top, test_flag, test_both, indirect_code, control, rewrite, hand_locals, zero_result, raise_flag, exit_code, body, tested}
-use Rattle.rewrite_bodies.specs.Agreement.{FitsIn, Room_call, Room}
+use Rattle.rewrite_bodies.specs.calls.Agreement.{FitsIn, Room_call, Room}
 use Rattle.rewrite_bodies.specs.Offsets.{SmallOffset}
-use Rattle.rewrite_bodies.specs.Typed.{original}
-use Rattle.rewrite_bodies.specs.Length.{basic_length, jump_length, else_length, code_length, node_weight, live_weight, FewNumbers, BodyShort}
+use Rattle.rewrite_bodies.specs.calls.Typed.{original}
+use Rattle.rewrite_bodies.specs.calls.Length.{basic_length, jump_length, else_length, code_length, node_weight, live_weight, FewNumbers, BodyShort}
 use Rattle.rewrite_bodies.proofs.Sim.{grown-append, takes_three}
 use Rattle.rewrite_bodies.proofs.Unwind.{less_shorter}
 use Rattle.rewrite_bodies.proofs.TypedNodes.{cuts, grown_types, takes_of}
 use Rattle.wasm_laws.proofs.Safe.{one_result}
 use Rattle.rewrite_bodies.proofs.Lengths.{len_const, len_call, len_global_set, len_branch, costs_most, costs_twice, known, known-append, known_parts, known_grown, length_parts, length_taken, len_get, len_fetched, len_load, len_hand_value, len_store, len_to_result, len_from_result, len_tested, len_test_flag, len_test_both, len_guard, len_set}
-use Rattle.dump_write.proofs.Sizes.{ten_bytes}
 use Rattle.pm_text.proofs.Lists.{some_is}
+use Rattle.wasm_leb.proofs.Lengths.{ten_bytes}
 
 module _ (C : Ctx) (few : FewNumbers C) where
   -- the rewritten code behind these places takes at most the weight, and eleven bytes more for each known operand of its own

@@ -10,3 +10,7 @@ pub mod TypedPieces
 pub mod TypedNodes
 pub mod Lengths
 pub mod LengthsNodes
+pub mod Runs
+pub mod Helpers
+pub mod TypedGuards
+pub mod Verdicts

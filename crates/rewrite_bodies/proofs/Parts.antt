@@ -25,8 +25,8 @@ use Rattle.int_ops.specs.declared.operators.Binary.{Binary as BinaryOp}
 use Rattle.int_ops.specs.declared.operators.Binary.TheVariants.{Add, Sub, Mul, DivS, DivU, RemS, RemU, And, Or, Xor, Shl, ShrS, ShrU, Rotl, Rotr}
 use Rattle.std.proofs.lemmas.List.{length-replicate}
 use Rattle.std.proofs.Math.Nat.{mul-div_cancel_left}
-use Rattle.rewrite_bodies.specs.Agreement.{One, Holds, awaits, pending, joined, FitsLabels, MemoryFits, WorldFits, flagged}
-use Rattle.rewrite_bodies.specs.inner.Steps.{To, Shell, st}
+use Rattle.rewrite_bodies.specs.calls.Agreement.{One, Holds, awaits, pending, joined, FitsLabels, MemoryFits, WorldFits, flagged}
+use Rattle.rewrite_bodies.specs.calls.Steps.{To, Shell, st}
 use Rattle.rewrite_bodies.proofs.Run.{stored, HasPlace, if_same, slice_get-put_same, types-slice_set, added_at, more_parts, one_step, holds_put}
 use Rattle.int_ops.specs.Integers.{binary as int_binary}
 use Rattle.wasm_laws.proofs.Progress.{value_type, same_of}

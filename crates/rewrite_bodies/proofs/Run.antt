@@ -12,8 +12,8 @@ use Rattle.wasm_syntax.specs.Machine.{Config, Engine, Stepped, next, ends, traps
 use Rattle.rewrite_bodies.specs.Slots.{Place, Spilled, Known, Ctx, slot, kind_at, added, less}
 use Rattle.rewrite_bodies.specs.Pieces.{get, set, const, fetch, load, store, to_result, from_result}
 use Rattle.rewrite_bodies.specs.Rewrite.{result_back}
-use Rattle.rewrite_bodies.specs.Agreement.{One, Holds}
-use Rattle.rewrite_bodies.specs.inner.Steps.{went, run, Gets, To, Shell, st}
+use Rattle.rewrite_bodies.specs.calls.Agreement.{One, Holds}
+use Rattle.rewrite_bodies.specs.calls.Steps.{went, run, Gets, To, Shell, st}
 use Rattle.wasm_laws.proofs.Progress.{get_type, same_of}
 use Rattle.wasm_syntax.proofs.Types.{same_type_is}
 use Rattle.std.specs.Bool.{then_some}

@@ -18,14 +18,14 @@ use Rattle.rewrite_bodies.specs.Rewrite.{Info, unwind, tested, guarded, plain, r
 use Rattle.rewrite_bodies.specs.Numbering.{mapped, global_types}
 use Rattle.rewrite_bodies.specs.Pieces.{if_any, load, store}
 use Rattle.rewrite_bodies.specs.Guards.{can_trap}
-use Rattle.rewrite_bodies.specs.Agreement.{Holds, pending, info, infos, joined, t_kind, t_labels, Wit, FitsIn, Room, FitsLabels, FitsOpen, MemoryFits, NoKind, WorldFits, FitsFrame, FitsFrames, Wrap, t_frames, flagged, image}
-use Rattle.rewrite_bodies.specs.inner.Steps.{To, Shell, st}
+use Rattle.rewrite_bodies.specs.calls.Agreement.{Holds, pending, info, infos, joined, t_kind, t_labels, Wit, FitsIn, Room, FitsLabels, FitsOpen, MemoryFits, NoKind, WorldFits, FitsFrame, FitsFrames, Wrap, t_frames, flagged, image}
+use Rattle.rewrite_bodies.specs.calls.Steps.{To, Shell, st}
 use Rattle.rewrite_bodies.proofs.Run.{stored, HasPlace, types-stored, slice_get-put_same, types-slice_set, added_at, added_kind, still, one_step, seq, weaken, added_get, added_set, fetch_to, load_to, less_holds, store_to}
 use Rattle.rewrite_bodies.specs.inner.Promises.{kind_of}
 use Rattle.rewrite_bodies.proofs.Parts.{Rel, framed, match_of, cut_all, fits_stored, settle, step_plain}
 use Rattle.rewrite_bodies.proofs.Guards.{guard_to}
 use Rattle.rewrite_bodies.specs.Offsets.{SmallOffset}
-use Rattle.rewrite_bodies.specs.inner.Standing.{After}
+use Rattle.rewrite_bodies.specs.calls.Standing.{After}
 use Rattle.std.specs.Prelude.{unwrap_or}
 
 -- a frame with other locals, labels and places, under a call or not

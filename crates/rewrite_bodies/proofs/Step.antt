@@ -16,12 +16,12 @@ use Rattle.rewrite_bodies.specs.Slots.{Place, Ctx, less, grown, result_type, aft
 use Rattle.rewrite_bodies.specs.Rewrite.{Info, tested, guarded, indirect_code, rewrite}
 use Rattle.rewrite_bodies.specs.Pieces.{load, store}
 use Rattle.rewrite_bodies.specs.Guards.{can_trap, entry_label, type_label, first_table}
-use Rattle.rewrite_bodies.specs.inner.Steps.{To, Shell, st}
+use Rattle.rewrite_bodies.specs.calls.Steps.{To, Shell, st}
 use Rattle.rewrite_bodies.proofs.Run.{weaken, push_to}
-use Rattle.rewrite_bodies.specs.Agreement.{info, infos, joined, Wit, FitsIn, Has, Room_call, Room, WorldFits, FitsFrame, FitsFrames, FitsConfig, Wrap, flagged, image}
+use Rattle.rewrite_bodies.specs.calls.Agreement.{info, infos, joined, Wit, FitsIn, Has, Room_call, Room, WorldFits, FitsFrame, FitsFrames, FitsConfig, Wrap, flagged, image}
 use Rattle.rewrite_bodies.specs.inner.Promises.{kind_of}
 use Rattle.rewrite_bodies.proofs.Parts.{Rel, framed, match_of}
-use Rattle.rewrite_bodies.specs.inner.Standing.{After, Stands}
+use Rattle.rewrite_bodies.specs.calls.Standing.{After, Stands}
 use Rattle.rewrite_bodies.proofs.Sim.{refit, len_of, shell, tgt, wit, verdict_to, plain_gives, push_sim, block_sim, loop_sim, if_sim}
 use Rattle.rewrite_bodies.proofs.Control.{end_sim, br_node, br_if_node, return_node, table_node}
 use Rattle.rewrite_bodies.proofs.Calls.{trap_from, call_node, same_functype-same, entry_trap, entry_call}

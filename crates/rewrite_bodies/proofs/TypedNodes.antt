@@ -27,9 +27,9 @@ use Rattle.rewrite_bodies.specs.Slots.{Place, Known, place_type, Ctx, result_at,
 use Rattle.rewrite_bodies.specs.Pieces.{get, set, i32, call, if_any, fetch, load, store, to_result, from_result}
 use Rattle.rewrite_bodies.specs.Guards.{guard, can_trap, divides, helper_type}
 use Rattle.rewrite_bodies.specs.Rewrite.{Info, in_block, in_loop, in_body, carries, end_gives, result_back, body_at, guarded, plain, instr, go_to, branch_to, branch_if, table, after_direct, call_code, helper_of, hand_top, test_both, indirect_code, control, rewrite, hand_locals, zero_result, exit_code, body, tested}
-use Rattle.rewrite_bodies.specs.Agreement.{FitsIn, Room_call, Room}
+use Rattle.rewrite_bodies.specs.calls.Agreement.{FitsIn, Room_call, Room}
 use Rattle.rewrite_bodies.specs.Offsets.{SmallOffset}
-use Rattle.rewrite_bodies.specs.Typed.{Offers, original, rewritten}
+use Rattle.rewrite_bodies.specs.calls.Typed.{Offers, original, rewritten}
 use Rattle.rewrite_bodies.proofs.Run.{added_at, added_kind, added_offset}
 use Rattle.rewrite_bodies.proofs.Sim.{grown-append}
 use Rattle.rewrite_bodies.proofs.Unwind.{less_shorter}

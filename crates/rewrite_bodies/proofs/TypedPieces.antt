@@ -23,8 +23,8 @@ use Rattle.rewrite_bodies.specs.Numbering.{value_import, flag_of}
 use Rattle.rewrite_bodies.specs.Pieces.{get, set, const, i32, call, if_any, fetch, load, store, to_result, from_result}
 use Rattle.rewrite_bodies.specs.Guards.{zero_test, guard_zero, guard_signed, past_end, guard_memory, range_test, guard_copy, guard_fill}
 use Rattle.rewrite_bodies.specs.Rewrite.{Info, hand_value, hand, hand_top, to_exit, unwind, test_flag, test_both, tested}
-use Rattle.rewrite_bodies.specs.Agreement.{FitsIn}
-use Rattle.rewrite_bodies.specs.Typed.{Offers}
+use Rattle.rewrite_bodies.specs.calls.Agreement.{FitsIn}
+use Rattle.rewrite_bodies.specs.calls.Typed.{Offers}
 use Rattle.rewrite_bodies.proofs.Run.{slice_get-append, added_at, added_kind, added_offset}
 
 -- the nodes take these types to those

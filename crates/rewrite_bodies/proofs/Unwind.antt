@@ -17,15 +17,15 @@ use Rattle.rewrite_bodies.specs.Slots.{Place, place_type, Ctx, slot, kind_at, of
 use Rattle.rewrite_bodies.specs.Numbering.{mapped, value_import, frame_import, flag_of, global_types}
 use Rattle.rewrite_bodies.specs.Pieces.{get, set, const, call, if_any, fetch, store}
 use Rattle.rewrite_bodies.specs.Rewrite.{Info, hand_value, hand, hand_top, to_exit, unwind, hand_left, test_flag, test_both, rewrite, hand_locals, zero_result, raise_flag, exit_code}
-use Rattle.rewrite_bodies.specs.Agreement.{One, Holds, awaits, code_at, pending, info, infos, joined, t_kind, t_labels, Wit, KindFits, FitsLabels, WorldFits, FitsFrame, FitsFrames, Wrap, w_frame, zero_vs, last_result, t_frames, flagged}
-use Rattle.rewrite_bodies.specs.inner.Steps.{Gets, To, Shell, st}
+use Rattle.rewrite_bodies.specs.calls.Agreement.{One, Holds, awaits, code_at, pending, info, infos, joined, t_kind, t_labels, Wit, KindFits, FitsLabels, WorldFits, FitsFrame, FitsFrames, Wrap, w_frame, zero_vs, last_result, t_frames, flagged}
+use Rattle.rewrite_bodies.specs.calls.Steps.{Gets, To, Shell, st}
 use Rattle.rewrite_bodies.proofs.Run.{stored, stored_other, kind_no_slot, types-stored, slice_get-put_same, slice_get-put_other, types-slice_set, added_kind, added_offset, still, one_step, seq, weaken, push_to, get_to, added_get, added_set, fetch_to, store_to}
 use Rattle.rewrite_bodies.proofs.Parts.{place_of, fits_put, fits_stored, step_plain}
 use Rattle.dump_write.specs.Collected.{value_call}
-use Rattle.rewrite_bodies.specs.inner.Telling.{tell_ops, tell_labels, tell_locals, tell_frame, tell_outer}
+use Rattle.rewrite_bodies.specs.calls.Telling.{tell_ops, tell_labels, tell_locals, tell_frame, tell_outer}
 use Rattle.rewrite_bodies.proofs.Sim.{room_height, grown_fits, len_of, shell, wit, wit_under, armed, if_zero_to, if_up_to}
 use Rattle.rewrite_bodies.proofs.Control.{flag_len, get_last, grown_longer, both_to}
-use Rattle.rewrite_bodies.specs.inner.Standing.{Speaks}
+use Rattle.rewrite_bodies.specs.calls.Standing.{Speaks}
 use Rattle.wasm_laws.proofs.Progress.{same_of}
 
 -- all operands of a frame are in their places

@@ -4,7 +4,5 @@ pub mod Slots
 pub mod Pieces
 pub mod Guards
 pub mod Rewrite
-pub mod Agreement
-pub mod Typed
-pub mod Length
 pub mod inner
+pub mod calls

@@ -1,5 +1,2 @@
 -- What only proofs and the contracts of inner functions speak of: no promise to those outside rests on it.
 pub mod Promises
-pub mod Standing
-pub mod Steps
-pub mod Telling

@@ -4,11 +4,11 @@ ghost use Rattle.std.specs.Prelude.{ℕ, List};
 ghost use Rattle.wasm_syntax.specs.declared.value.ValType.{ValType};
 ghost use Rattle.wasm_syntax.specs.declared.instruction.Basic.{Basic};
 ghost use Rattle.wasm_syntax.specs.Machine.{Engine};
-ghost use Rattle.rewrite_bodies.specs.Agreement.{Wrap};
+ghost use Rattle.rewrite_bodies.specs.calls.Agreement.{Wrap};
 ghost use Rattle.rewrite_bodies.specs.inner.Promises.{GuardTells, StepFollows};
 ghost use Rattle.rewrite_bodies.specs.Slots.{Ctx};
-ghost use Rattle.rewrite_bodies.specs.Typed.{BodyTyped};
-ghost use Rattle.rewrite_bodies.specs.Length.{BodyShort};
+ghost use Rattle.rewrite_bodies.specs.calls.Typed.{BodyTyped};
+ghost use Rattle.rewrite_bodies.specs.calls.Length.{BodyShort};
 
 /// A guard changes nothing, and leaves the kind with which its instruction traps, or 0.
 pub fn guards_tell_kinds()

@@ -2,4 +2,5 @@
 //! `specs/`), and the proof that the rewritten code does what the original does.
 #![tactic(auto)]
 
+pub mod guard_laws;
 pub mod laws;

@@ -10,7 +10,7 @@ use Rattle.wasm_syntax.specs.SameCode.{op_code, body_code}
 use Rattle.rewrite_modules.specs.FlatCode.{body_of}
 use Rattle.rewrite_code.specs.inner.Numbered.{numbered}
 use Rattle.rewrite_code.proofs.Numbers.{bare_numbered}
-use Rattle.rewrite_code.specs.Writing.{Written, written, nothing, with_op, with_nodes, ends, alternates, Emits, EmitsLast, Opens, OpensArms, Alternates, Closes}
+use Rattle.rewrite_code.specs.calls.Writing.{Written, written, nothing, with_op, with_nodes, ends, alternates, Emits, EmitsLast, Opens, OpensArms, Alternates, Closes}
 
 pub emits_nothing : {a : Written} → Emits (λ k. k) a a
 emits_nothing = record { emitted = λ k behind. refl }

@@ -1,10 +1,16 @@
-//! Writes the flat code of a body, one instruction after the other. A contract says which piece of
-//! the body's tree was written: whatever nodes go on behind it, all that is written in the end is
-//! the same.
+//! Writes the flat code of a rewritten body: one instruction after the other, and the pieces that
+//! keep operands in added locals and hand them over.
 #![tactic(auto)]
 
+mod context;
+mod handing;
 pub mod laws;
+mod moves;
+mod place;
+mod unwinding;
 mod writer;
 
-pub use causes::NoMemory;
+pub use context::FunctionContext;
+pub use place::{OperandPlace, OperandPlaces, slot};
+pub use unwinding::to_exit;
 pub use writer::CodeWriter;

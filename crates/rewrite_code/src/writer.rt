@@ -7,12 +7,13 @@ ghost use Rattle.rewrite_bodies.specs.Pieces.{const, call};
 ghost use Rattle.wasm_syntax.specs.SameCode.{body_code};
 ghost use Rattle.rewrite_modules.specs.FlatCode.{body_of};
 ghost use Rattle.rewrite_code.specs.inner.Numbered.{numbered};
-ghost use Rattle.rewrite_code.specs.Writing.{nothing, with_op, Emits, EmitsLast, Opens, OpensArms, Alternates, Closes};
+ghost use Rattle.rewrite_code.specs.calls.Writing.{nothing, with_op, Emits, EmitsLast, Opens, OpensArms, Alternates, Closes};
 
 use causes::NoMemory;
+use pm_text::Items;
 use std::alloc::Global;
 use std::marker::Model;
-use wasm_syntax::{Basic, Body, Instr, Items, Jump, LocalGroups, Op, ValType, Value};
+use wasm_syntax::{Basic, Body, Instr, Jump, LocalGroups, Op, ValType, Value};
 
 /// Flat code, each instruction at offset 0 with length 0, with the targets of its `br_table`s.
 /// Offsets come with the finished body.
@@ -23,7 +24,7 @@ pub struct CodeWriter {
 }
 
 impl Model for CodeWriter {
-    ghost use Rattle.rewrite_code.specs.Writing.{Written, written};
+    ghost use Rattle.rewrite_code.specs.calls.Writing.{Written, written};
 
     ghost Value = { Written };
 

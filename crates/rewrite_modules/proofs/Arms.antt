@@ -8,7 +8,7 @@ use Rattle.wasm_syntax.specs.Tree.{Jump, Unreachable, Br, BrIf, BrTable, Return,
 use Rattle.wasm_syntax.specs.Module.{type_at}
 use Rattle.wasm_syntax.specs.Effect.{takes}
 use Rattle.wasm_syntax.specs.Machine.{result_of}
-use Rattle.rewrite_modules.specs.Bare.{bare_nodes}
+use Rattle.rewrite_modules.specs.calls.Bare.{bare_nodes}
 use Rattle.wasm_syntax.specs.Typing.{Context, Types, within}
 use Rattle.wasm_syntax.specs.Access.{load_bits, store_bits}
 use Rattle.int_ops.specs.declared.operators.Binary.{Binary as BinaryOp}

@@ -10,7 +10,7 @@ use Rattle.wasm_syntax.specs.Tree.{Plain, Goes, Opens, OpensLoop, OpensIf, Else,
 use Rattle.wasm_syntax.specs.Typing.{Context, body_context}
 use Rattle.wasm_syntax.specs.FlatTyping.{OpenBlock, label_types, FlatStep, FlatTypes, body_block, dead_next, dead_behind, AllLive, TypesBefore}
 use Rattle.wasm_syntax.specs.SameCode.{op_code, body_code, code_alone}
-use Rattle.rewrite_modules.specs.LowSizes.{LowHeights}
+use Rattle.rewrite_modules.specs.calls.LowSizes.{LowHeights}
 use Rattle.rewrite_modules.proofs.BareValid.{basic_to, basic_from, jump_to, jump_from}
 use Rattle.rewrite_modules.proofs.WrittenOut.{at_zero, zero_code}
 use Rattle.wasm_laws.proofs.Validity.{map_found}

@@ -24,9 +24,9 @@ use Rattle.wasm_syntax.specs.Valid.{Valid, There, GlobalFine, ConstBody, ConstTy
 use Rattle.wasm_syntax.specs.Sizes.{nesting, deepest, local_count}
 use Rattle.wasm_laws.proofs.Unique.{one_tree}
 use Rattle.wasm_laws.proofs.Lists.{all_map}
-use Rattle.rewrite_modules.specs.Bare.{bare_nodes, bare_tree}
+use Rattle.rewrite_modules.specs.calls.Bare.{bare_nodes, bare_tree}
 use Rattle.wasm_syntax.specs.SameCode.{op_code, body_code, global_code, element_code, segment_code, code_alone}
-use Rattle.rewrite_modules.specs.LowSizes.{LowSizes}
+use Rattle.rewrite_modules.specs.calls.LowSizes.{LowSizes}
 use Rattle.rewrite_modules.proofs.ValidBodies.{typed_bare, bare_typed}
 use Rattle.rewrite_modules.proofs.WrittenOut.{bare_writes}
 use Rattle.wasm_laws.proofs.Validity.{map_found}

@@ -9,7 +9,7 @@ use Rattle.wasm_syntax.specs.Module.{type_at}
 use Rattle.wasm_syntax.specs.Effect.{takes}
 use Rattle.wasm_syntax.specs.Machine.{result_of}
 use Rattle.rewrite_bodies.specs.Slots.{Place, Spilled, Known, Ctx, less, grown, result_type, after_plain, behind_call, behind_instr, peak}
-use Rattle.rewrite_bodies.specs.Agreement.{FitsIn, Has, Room_call, Room_instr, Room}
+use Rattle.rewrite_bodies.specs.calls.Agreement.{FitsIn, Has, Room_call, Room_instr, Room}
 use Rattle.rewrite_bodies.proofs.Sim.{room_height}
 use Rattle.rewrite_bodies.specs.Offsets.{SmallOffset}
 

@@ -4,10 +4,10 @@ use Rattle.std.proofs.Common.{arith, sym, ap, ◌∙◌}
 use Rattle.int_ops.specs.Integers.{binary, compare, div_s, rem_s}
 use Rattle.wasm_syntax.specs.Machine.{Config}
 use Rattle.wasm_syntax.specs.Run.{Outcome, trapped, running, Ran, Invocation, run}
-use Rattle.wasm_laws.specs.Runs.{with_more}
+use Rattle.wasm_laws.specs.calls.Runs.{with_more}
 use Rattle.wasm_laws.proofs.Longer.{longer_run}
 use Rattle.rewrite_modules.specs.Simulates.{EndsAlike, AllAlike, NoneDeep, Simulates}
-use Rattle.rewrite_modules.specs.Example.{divider, divides}
+use Rattle.rewrite_modules.specs.calls.Example.{divider, divides}
 
 abbrev by_zero : List Invocation
 by_zero = divides 7 0 ∷ []

@@ -19,8 +19,8 @@ use Rattle.wasm_syntax.specs.declared.parts.Body.{Body}
 use Rattle.wasm_syntax.specs.Module.{IsModule, type_at}
 use Rattle.wasm_syntax.specs.Sizes.{ShortLists, local_count}
 use Rattle.rewrite_modules.specs.Instrumentable.{Instrumentable}
-use Rattle.rewrite_modules.specs.Given.{Given, SmallCode}
-use Rattle.rewrite_modules.specs.Example.{divider, HandsOver, Weighs, Multiplies}
+use Rattle.rewrite_modules.specs.calls.Given.{Given, SmallCode}
+use Rattle.rewrite_modules.specs.calls.Example.{divider, HandsOver, Weighs, Multiplies}
 use Rattle.pm_text.proofs.Lists.{some_is}
 
 abbrev OfSome : Option Tree → Type 0

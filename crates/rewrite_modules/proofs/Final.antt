@@ -19,10 +19,10 @@ use Rattle.rewrite_bodies.specs.Guards.{first_table}
 use Rattle.rewrite_bodies.specs.Numbering.{mapped, global_types, wrapped, wrapper_base}
 use Rattle.rewrite_bodies.specs.Pieces.{call, tree_of}
 use Rattle.std.proofs.lemmas.List.{length-map}
-use Rattle.rewrite_bodies.specs.Agreement.{Wit, MemoryFits, WorldFits, FitsTop, FitsConfig, Wrap, flagged}
-use Rattle.rewrite_bodies.specs.inner.Telling.{collected}
+use Rattle.rewrite_bodies.specs.calls.Agreement.{Wit, MemoryFits, WorldFits, FitsTop, FitsConfig, Wrap, flagged}
+use Rattle.rewrite_bodies.specs.calls.Telling.{collected}
 use Rattle.rewrite_bodies.proofs.Sim.{len_of}
-use Rattle.rewrite_bodies.specs.inner.Standing.{Stands}
+use Rattle.rewrite_bodies.specs.calls.Standing.{Stands}
 use Rattle.rewrite_bodies.proofs.Calls.{AnswerRel, served_rel}
 use Rattle.wasm_syntax.specs.Run.{Ended, ended, run_steps, run_function, run_alone, host_alone, engine, globals_at_start, start_memory, start_table, start_world, cause_of_segments, got_stuck, ran_to, run_entry, go_on, invoked}
 use Rattle.rewrite_modules.specs.Wrappers.{wrapper_nodes, wrapper}

@@ -4,7 +4,7 @@ use Rattle.std.specs.Prelude.{take, drop}
 use Rattle.wasm_syntax.specs.declared.instruction.Op.{Op}
 use Rattle.wasm_syntax.specs.declared.instruction.Instr.TheVariants as instrs
 use Rattle.wasm_syntax.specs.Tree.{Unreachable, Br, BrIf, BrTable, Return, Call, CallIndirect, Nodes, stop, basic, jump, block, loop, choose, Plain, Goes, Opens, OpensLoop, OpensIf, End, placed, else_out, write, written, code_of}
-use Rattle.rewrite_modules.specs.Bare.{bare_nodes, bare_tree}
+use Rattle.rewrite_modules.specs.calls.Bare.{bare_nodes, bare_tree}
 use Rattle.std.proofs.Math.Seq.{take-append_seam, drop-append_seam}
 use Rattle.wasm_syntax.specs.declared.parts.LocalGroup.{LocalGroup}
 use Rattle.rewrite_bodies.specs.Slots.{groups}

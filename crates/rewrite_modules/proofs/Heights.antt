@@ -21,7 +21,7 @@ use Rattle.wasm_syntax.specs.FlatTyping.{OpenBlock, opened, label_types, inside,
 use Rattle.wasm_syntax.specs.Static.{Spot, spot, Live}
 use Rattle.rewrite_bodies.specs.Slots.{Place, Known, place_type, Ctx, less, grown, result_type, after_plain, behind_call, behind_instr, peak, ctx_of, slots_of, sizes, most, greatest}
 use Rattle.rewrite_bodies.specs.Numbering.{import_count}
-use Rattle.rewrite_bodies.specs.Typed.{original}
+use Rattle.rewrite_bodies.specs.calls.Typed.{original}
 use Rattle.rewrite_bodies.proofs.Sim.{grown-append}
 use Rattle.rewrite_bodies.proofs.TypedPieces.{at_labels}
 use Rattle.rewrite_bodies.proofs.TypedNodes.{cuts, grown_types, takes_of}

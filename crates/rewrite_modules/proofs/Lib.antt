@@ -32,3 +32,5 @@ pub mod Multiple
 pub mod LowOperands
 pub mod Unwinding
 pub mod BareHeights
+pub mod CodeLengths
+pub mod EncodedLengths

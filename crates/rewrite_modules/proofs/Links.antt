@@ -17,13 +17,13 @@ use Rattle.wasm_syntax.specs.Machine.{result_of, function_type, host_call}
 use Rattle.rewrite_bodies.specs.Numbering.{import_count, mapped, value_import, frame_import, place_in, global_types, helper_base, helped, value_type, frame_type, wrapped, wrapper_base}
 use Rattle.rewrite_bodies.specs.Slots.{added, ctx_of, groups, slots_of, sizes, most, greatest}
 use Rattle.std.proofs.lemmas.List.{length-map}
-use Rattle.rewrite_bodies.specs.Agreement.{Has}
+use Rattle.rewrite_bodies.specs.calls.Agreement.{Has}
 use Rattle.std.proofs.lemmas.Bool.{eqb-true}
 use Rattle.std.proofs.lemmas.Bool.Decides.{leb_tells}
 use Rattle.dump_write.specs.Collected.{value_call}
 use Rattle.rewrite_bodies.specs.Pieces.{tree_of}
 use Rattle.rewrite_bodies.specs.Guards.{helper_type, helper}
-use Rattle.rewrite_bodies.specs.inner.Standing.{Linked, Speaks, ImportLinked, HelperLinked, Stands}
+use Rattle.rewrite_bodies.specs.calls.Standing.{Linked, Speaks, ImportLinked, HelperLinked, Stands}
 use Rattle.std.specs.Prelude.{bytes_eq, codes}
 use Rattle.std.proofs.lemmas.Option.{slice_get-map, slice_get_within}
 use Rattle.std.proofs.lemmas.Grind.{flat_map-append}

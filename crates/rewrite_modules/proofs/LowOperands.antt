@@ -22,14 +22,14 @@ use Rattle.rewrite_bodies.specs.Slots.{Ctx, ctx_of, slots_of}
 use Rattle.rewrite_bodies.specs.Pieces.{const, i32, call, tree_of}
 use Rattle.rewrite_bodies.specs.Guards.{helper}
 use Rattle.rewrite_bodies.specs.Rewrite.{in_body, body}
-use Rattle.rewrite_bodies.specs.Typed.{original}
+use Rattle.rewrite_bodies.specs.calls.Typed.{original}
 use Rattle.rewrite_bodies.proofs.TypedPieces.{at_labels}
-use Rattle.rewrite_modules.specs.Bare.{bare_tree, bare}
+use Rattle.rewrite_modules.specs.calls.Bare.{bare_tree, bare}
 use Rattle.wasm_syntax.specs.SameCode.{code_alone}
-use Rattle.rewrite_modules.specs.Given.{Given}
+use Rattle.rewrite_modules.specs.calls.Given.{Given}
 use Rattle.rewrite_modules.specs.Instrument.{instrument, new_module, new_tree, each}
 use Rattle.rewrite_modules.specs.Instrumentable.{program_of, Instrumentable}
-use Rattle.rewrite_modules.specs.LowSizes.{LowHeights}
+use Rattle.rewrite_modules.specs.calls.LowSizes.{LowHeights}
 use Rattle.rewrite_modules.specs.Wrappers.{get_all, tell_globals, end_of_dump, after_wrapped, wrapper_nodes, wrapper}
 use Rattle.rewrite_modules.proofs.FineBodies.{fine_at, gives_one}
 use Rattle.rewrite_modules.proofs.Links.{Ready, is_defined, function_type_kept, import_types, frame_types}

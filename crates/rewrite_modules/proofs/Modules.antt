@@ -11,7 +11,7 @@ use Rattle.wasm_syntax.specs.declared.parts.Export.{Export}
 use Rattle.wasm_laws.proofs.Validity.{typed}
 use Rattle.rewrite_modules.specs.Weight.{entry_weight, exports_weight}
 use Rattle.rewrite_modules.proofs.Heights.{heights_low}
-use Rattle.rewrite_modules.specs.Given.{Given, SmallCode}
+use Rattle.rewrite_modules.specs.calls.Given.{Given, SmallCode}
 use Rattle.rewrite_bodies.specs.Numbering.{import_count}
 use Rattle.rewrite_bodies.specs.Slots.{sizes, most}
 use Rattle.rewrite_modules.proofs.Links.{is_defined, type_is_of}

@@ -13,12 +13,12 @@ use Rattle.rewrite_bodies.specs.Slots.{added, groups, ctx_of, slots_of}
 use Rattle.rewrite_bodies.specs.Guards.{helper, helper_type}
 use Rattle.wasm_laws.proofs.Lists.{at_of, there_at}
 use Rattle.wasm_laws.proofs.Safe.{Typed}
-use Rattle.rewrite_modules.specs.Given.{Given}
+use Rattle.rewrite_modules.specs.calls.Given.{Given}
 use Rattle.rewrite_modules.specs.Instrument.{new_module, new_body, new_nodes}
 use Rattle.rewrite_modules.specs.FlatCode.{body_of}
 use Rattle.rewrite_modules.specs.Wrappers.{wrapper}
 use Rattle.rewrite_modules.specs.Instrumentable.{program_of, Instrumentable}
-use Rattle.rewrite_modules.specs.LowSizes.{LowSizes}
+use Rattle.rewrite_modules.specs.calls.LowSizes.{LowSizes}
 use Rattle.rewrite_modules.proofs.Links.{declared-append, declared-groups, is_defined, sizes_fit}
 use Rattle.rewrite_modules.proofs.Modules.{module_given}
 use Rattle.rewrite_modules.proofs.Theorem.{startable_given, ready_given}

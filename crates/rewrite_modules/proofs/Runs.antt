@@ -24,11 +24,11 @@ use Rattle.wasm_syntax.specs.Access as accesses
 use Rattle.wasm_syntax.specs.Effect as effects
 use Rattle.int_ops.specs.declared.operators.ArithTrap.{ArithTrap}
 use Rattle.int_ops.specs.declared.operators.ArithTrap.TheVariants.{DivideByZero, Overflow}
-use Rattle.rewrite_bodies.specs.inner.Steps.{Gets, To}
+use Rattle.rewrite_bodies.specs.calls.Steps.{Gets, To}
 use Rattle.rewrite_bodies.proofs.Run.{still, seq, weaken}
-use Rattle.rewrite_bodies.specs.Agreement.{Wit, WorldFits, FitsConfig, Wrap, w_frame, zero_vs, last_of, flagged, image}
-use Rattle.rewrite_bodies.specs.inner.Telling.{tell_frames}
-use Rattle.rewrite_bodies.specs.inner.Standing.{After, Stands}
+use Rattle.rewrite_bodies.specs.calls.Agreement.{Wit, WorldFits, FitsConfig, Wrap, w_frame, zero_vs, last_of, flagged, image}
+use Rattle.rewrite_bodies.specs.calls.Telling.{tell_frames}
+use Rattle.rewrite_bodies.specs.calls.Standing.{After, Stands}
 use Rattle.wasm_syntax.specs.Run.{Ended, run_on, run_steps}
 use Rattle.rewrite_bodies.proofs.Step.{step_sim}
 

@@ -12,8 +12,8 @@ use Rattle.wasm_syntax.specs.declared.host.Reply.{Reply}
 use Rattle.wasm_syntax.specs.Machine.{Config, config, Engine, Stepped, next, ends, traps, no_reply, bad_reply, stuck}
 use Rattle.rewrite_bodies.specs.Pieces.{call}
 use Rattle.rewrite_bodies.specs.Numbering.{global_types}
-use Rattle.rewrite_bodies.specs.inner.Steps.{st}
-use Rattle.rewrite_bodies.specs.Agreement.{WorldFits, flagged}
+use Rattle.rewrite_bodies.specs.calls.Steps.{st}
+use Rattle.rewrite_bodies.specs.calls.Agreement.{WorldFits, flagged}
 use Rattle.std.proofs.lemmas.Bool.{eqb-true}
 use Rattle.wasm_syntax.specs.Run.{Ended, ended, run_function, engine, start_world, cause_of_segments, cause_of_entry, Outcome, not_started, finished, lacks_reply, misfits, running, got_stuck, Ran, ran_to, not_begun, run_entry, go_on, invoked, if_fits as entry_fits, Cause, goes_on, fresh, session, run, Invocation}
 use Rattle.rewrite_modules.specs.Instrument.{new_module, instrument}
@@ -23,7 +23,7 @@ use Rattle.wasm_syntax.specs.Run as runs_
 use Rattle.rewrite_modules.proofs.Links.{half}
 use Rattle.rewrite_modules.specs.Simulates.{EndsAlike, Alike, Simulates, AllAlike, NoneDeep}
 use Rattle.rewrite_modules.proofs.Start.{world_start, segments_same, Outside, Named, named, unnamed, started, not_started_}
-use Rattle.wasm_laws.specs.Runs.{NoneStuck}
+use Rattle.wasm_laws.specs.calls.Runs.{NoneStuck}
 use Rattle.rewrite_modules.proofs.Final.{Fits, part, St, Invoked_so, invoked_alone, invoked_behind, world_alike, trap_alike, start_fits, out_type, go1}
 use Rattle.wasm_syntax.proofs.Types.{same_types_are}
 use Rattle.std.specs.Option.{option_or}

@@ -7,9 +7,9 @@ use Rattle.wasm_syntax.specs.declared.host.CollectorCall.TheVariants as collecto
 use Rattle.wasm_syntax.specs.Tree.{Nodes}
 use Rattle.wasm_syntax.specs.Machine.{Label, Frame, Config, frame, Engine, calls, offset_of}
 use Rattle.rewrite_bodies.specs.Slots.{Place, Ctx, grown, greatest}
-use Rattle.rewrite_bodies.specs.Agreement.{awaits, pending, joined, Wit, FitsLabels, FitsFrame, FitsFrames, FitsTop, FitsConfig}
+use Rattle.rewrite_bodies.specs.calls.Agreement.{awaits, pending, joined, Wit, FitsLabels, FitsFrame, FitsFrames, FitsTop, FitsConfig}
 use Rattle.dump_write.specs.Collected.{value_call, Entry, entry_calls, calls_of, HaveKind, Whole, collected_dump}
-use Rattle.rewrite_bodies.specs.inner.Telling.{tell_ops, tell_labels, tell_locals, tell_frame, tell_outer, tell_frames, collected}
+use Rattle.rewrite_bodies.specs.calls.Telling.{tell_ops, tell_labels, tell_locals, tell_frame, tell_outer, tell_frames, collected}
 use Rattle.std.proofs.lemmas.List.{map-append, reverse-append, length-reverse}
 use Rattle.rewrite_bodies.proofs.Sim.{room_height, len_of, wit_under}
 use Rattle.rewrite_bodies.proofs.Control.{grown_longer}

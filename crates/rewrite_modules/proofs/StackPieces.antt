@@ -24,8 +24,8 @@ use Rattle.rewrite_bodies.specs.Slots.{Place, Spilled, Known, place_type, Ctx, r
 use Rattle.rewrite_bodies.specs.Pieces.{get, set, const, i32, call, if_any, fetch, load, store, to_result, from_result}
 use Rattle.rewrite_bodies.specs.Guards.{guard, can_trap, least, minus_one, past_end, out_test, range_test, zero_test, guard_zero, guard_signed, guard_memory, helper, helper_type}
 use Rattle.rewrite_bodies.specs.Rewrite.{Info, in_block, in_loop, in_body, carries, end_gives, ending, result_back, body_at, hand_value, hand, hand_top, to_exit, unwind, test_flag, test_both, tested, guarded, plain, instr, go_to, branch_to, branch_if, table, after_direct, call_code, helper_of, indirect_code, rewrite, hand_locals, raise_flag, zero_result, exit_code, body}
-use Rattle.rewrite_bodies.specs.Typed.{Offers, original}
-use Rattle.rewrite_bodies.specs.Agreement.{Has}
+use Rattle.rewrite_bodies.specs.calls.Typed.{Offers, original}
+use Rattle.rewrite_bodies.specs.calls.Agreement.{Has}
 use Rattle.rewrite_bodies.proofs.Sim.{grown-append, takes_three}
 use Rattle.rewrite_bodies.proofs.TypedNodes.{cuts, grown_types, takes_of}
 use Rattle.rewrite_modules.proofs.Bounds.{Static}

@@ -14,7 +14,7 @@ use Rattle.wasm_syntax.specs.Static.{Spot, Live}
 use Rattle.wasm_syntax.specs.Typing.{Context, Arrow, ◌⇒◌, arrow, set_global, within}
 use Rattle.wasm_syntax.specs.Typing as typing
 use Rattle.wasm_laws.proofs.Progress.{takes_len}
-use Rattle.rewrite_modules.specs.Bare.{bare_nodes}
+use Rattle.rewrite_modules.specs.calls.Bare.{bare_nodes}
 use Rattle.wasm_laws.proofs.Validity.{then_found, map_found}
 use Rattle.rewrite_bodies.proofs.TypedNodes.{only_found}
 use Rattle.pm_text.proofs.Lists.{some_is}

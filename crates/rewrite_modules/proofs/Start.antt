@@ -10,7 +10,7 @@ use Rattle.wasm_syntax.specs.Machine.{zero_of}
 use Rattle.rewrite_bodies.specs.Numbering.{import_count, mapped, wrapped, wrapper_base, export_wrapped, start_wraps, wraps}
 use Rattle.linear_memory.specs.Memory.{Memory}
 use Rattle.std.proofs.lemmas.List.{length-map, map-append}
-use Rattle.rewrite_bodies.specs.Agreement.{flagged}
+use Rattle.rewrite_bodies.specs.calls.Agreement.{flagged}
 use Rattle.wasm_syntax.specs.Run.{start_table, engine, i32_or_zero, first_false, table_min, empty_memory, memory_bytes, globals_at_start, element_at, data_at, element_fits, data_fits, start_memory, start_world, by_data, by_element, cause_of_segments}
 use Rattle.std.specs.Prelude.{flat_map, bytes_eq, fold, find, cond}
 use Rattle.rewrite_modules.specs.Collector.{memory_export}

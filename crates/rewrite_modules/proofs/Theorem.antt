@@ -13,7 +13,7 @@ use Rattle.std.proofs.lemmas.List.{length-map, length-replicate}
 use Rattle.std.proofs.Math.Seq.{take-length}
 use Rattle.rewrite_bodies.specs.Guards.{first_table}
 use Rattle.wasm_syntax.specs.declared.parts.ElementSeg.{ElementSeg}
-use Rattle.rewrite_bodies.specs.Agreement.{Has, MemoryFits, WorldFits}
+use Rattle.rewrite_bodies.specs.calls.Agreement.{Has, MemoryFits, WorldFits}
 use Rattle.std.proofs.lemmas.Bool.{eqb-true, eq-eqb}
 use Rattle.std.specs.Prelude.{flat_map, fold, min}
 use Rattle.rewrite_modules.specs.Instrument.{instrument, new_module}
@@ -30,7 +30,7 @@ use Rattle.rewrite_modules.proofs.Start.{segments_same, unnamed}
 use Rattle.rewrite_modules.proofs.Final.{Fits}
 use Rattle.wasm_laws.proofs.Never.{Startable, never_stuck as never_stuck_all}
 use Rattle.rewrite_modules.proofs.Sessions.{simulates_all}
-use Rattle.rewrite_modules.specs.Given.{SmallCode, Given}
+use Rattle.rewrite_modules.specs.calls.Given.{SmallCode, Given}
 use Rattle.wasm_laws.proofs.Validity.{startable}
 use Rattle.std.specs.Option.{option_or}
 

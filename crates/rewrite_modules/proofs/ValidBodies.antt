@@ -20,11 +20,11 @@ use Rattle.rewrite_bodies.specs.Slots.{Ctx, added, groups, ctx_of, slots_of}
 use Rattle.rewrite_bodies.specs.Pieces.{i32, call, tree_of}
 use Rattle.rewrite_bodies.specs.Guards.{entry_label, type_label, says, helper, helper_type, first_table}
 use Rattle.rewrite_bodies.specs.Rewrite.{in_body}
-use Rattle.rewrite_bodies.specs.Typed.{Offers, original}
+use Rattle.rewrite_bodies.specs.calls.Typed.{Offers, original}
 use Rattle.rewrite_bodies.proofs.TypedPieces.{Ok, ok_basic, ok_const, ok_if, ok_call, at_labels, Open, open_label}
 use Rattle.rewrite_bodies.proofs.TypedNodes.{body_ok}
 use Rattle.wasm_laws.proofs.Safe.{Typed, one_result}
-use Rattle.rewrite_modules.specs.Bare.{bare_nodes, bare_tree}
+use Rattle.rewrite_modules.specs.calls.Bare.{bare_nodes, bare_tree}
 use Rattle.rewrite_modules.specs.Instrument.{zero_init, new_module, new_nodes, new_body}
 use Rattle.rewrite_modules.specs.FlatCode.{body_of}
 use Rattle.rewrite_modules.specs.Wrappers.{get_all, tell_globals, end_of_dump, after_wrapped, wrapper_nodes, wrapper}

@@ -19,13 +19,13 @@ use Rattle.rewrite_bodies.specs.Numbering.{mapped, frame_import, flag_of, global
 use Rattle.rewrite_bodies.specs.Pieces.{const, i32, call, if_any, tree_of}
 use Rattle.rewrite_bodies.specs.Rewrite.{body}
 use Rattle.std.proofs.lemmas.List.{length-map, reverse-append, reverse-reverse, length-reverse}
-use Rattle.rewrite_bodies.specs.inner.Steps.{went, run, Gets, To, Shell, st}
+use Rattle.rewrite_bodies.specs.calls.Steps.{went, run, Gets, To, Shell, st}
 use Rattle.rewrite_bodies.proofs.Run.{still, one_step, seq, weaken, push_to, get_to}
-use Rattle.rewrite_bodies.specs.Agreement.{Wit, WorldFits, FitsConfig, Wrap, w_frame, zero_vs, last_of, flagged, image}
+use Rattle.rewrite_bodies.specs.calls.Agreement.{Wit, WorldFits, FitsConfig, Wrap, w_frame, zero_vs, last_of, flagged, image}
 use Rattle.rewrite_bodies.proofs.Parts.{step_plain}
 use Rattle.dump_write.specs.Collected.{value_call}
-use Rattle.rewrite_bodies.specs.inner.Telling.{tell_locals, tell_frames, collected}
-use Rattle.rewrite_bodies.specs.inner.Standing.{Linked, Speaks, Stands}
+use Rattle.rewrite_bodies.specs.calls.Telling.{tell_locals, tell_frames, collected}
+use Rattle.rewrite_bodies.specs.calls.Standing.{Linked, Speaks, Stands}
 use Rattle.rewrite_bodies.proofs.Sim.{len_of, wit, armed, if_zero_to, if_up_to}
 use Rattle.rewrite_bodies.proofs.Control.{get_last}
 use Rattle.rewrite_bodies.proofs.Unwind.{value_to, entry_to, put_last, get_middle}

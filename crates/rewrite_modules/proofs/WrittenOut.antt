@@ -4,7 +4,7 @@ use Rattle.wasm_syntax.specs.declared.instruction.Op.{Op}
 use Rattle.wasm_syntax.specs.declared.parts.Body.{Body}
 use Rattle.wasm_syntax.specs.Tree.{Nodes, stop, basic, jump, block, loop, choose, Tree, Plain, Goes, Opens, OpensLoop, OpensIf, End, placed, else_out, write, code_of, IsTree, Writes, Placed, item_of}
 use Rattle.wasm_syntax.specs.Module.{Program, Function, imported, defined, function_at, AllWrite, IsProgram}
-use Rattle.rewrite_modules.specs.Bare.{bare_nodes, bare_tree, bare}
+use Rattle.rewrite_modules.specs.calls.Bare.{bare_nodes, bare_tree, bare}
 use Rattle.wasm_syntax.specs.SameCode.{op_code, body_code, code_alone}
 use Rattle.rewrite_modules.specs.Instrument.{instrument, new_nodes, new_body, new_tree, each}
 use Rattle.wasm_syntax.specs.declared.parts.LocalGroup.{LocalGroup}
@@ -18,7 +18,7 @@ use Rattle.rewrite_modules.specs.Wrappers.{wrapper}
 use Rattle.rewrite_modules.specs.FlatCode.{targets_in, body_of}
 use Rattle.rewrite_modules.proofs.FlatOut.{body_out}
 use Rattle.rewrite_modules.proofs.Arms.{ifs_typed, tree_body, tree_wrapper, tree_helper, tree_bare}
-use Rattle.wasm_laws.proofs.Unique.{one_tree}
+use Rattle.wasm_laws.proofs.OneProgram.{all_same}
 use Rattle.wasm_laws.proofs.Safe.{Typed}
 use Rattle.rewrite_modules.proofs.Links.{is_defined}
 
@@ -61,14 +61,6 @@ all_bare (body ∷ bodies) (tree ∷ trees) w = (bare_writes body tree w.0, all_
 -- without offsets, each body still writes out its tree
 pub program_bare : (p : Program) → IsProgram p → IsProgram (bare p)
 program_bare p w = all_bare p.module_.bodies p.trees w
-
-pub all_same : (bodies : List Body) (ts us : List Tree) → AllWrite bodies ts → AllWrite bodies us → ts ≡ us
-all_same [] [] [] w v = refl
-all_same [] (t ∷ ts) us w v = absurd w
-all_same [] [] (u ∷ us) w v = absurd v
-all_same (body ∷ bodies) [] us w v = absurd w
-all_same (body ∷ bodies) (t ∷ ts) [] w v = absurd v
-all_same (body ∷ bodies) (t ∷ ts) (u ∷ us) w v = ap₂ (λ a b. a ∷ b) (one_tree (code_of body.targets body.ops) t u w.0 v.0) (all_same bodies ts us w.1 v.1)
 
 -- programs whose modules are the same without offsets are the same without offsets
 pub same_bare : (p q : Program) → IsProgram (bare p) → IsProgram (bare q) → code_alone p.module_ ≡ code_alone q.module_ → bare p ≡ bare q

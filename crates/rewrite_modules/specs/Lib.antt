@@ -3,12 +3,9 @@ pub mod FlatCode
 pub mod Collector
 pub mod Instrument
 pub mod Simulates
-pub mod Given
-pub mod Example
-pub mod Bare
 pub mod Weight
 pub mod Multiple
 pub mod Instrumentable
 pub mod Interface
-pub mod LowSizes
 pub mod inner
+pub mod calls

@@ -3,11 +3,11 @@ use Rattle.std.proofs.Common.{◌≡◌, map, length, take, sym, subst}
 use Rattle.wasm_syntax.specs.declared.module.ModuleParts.{ModuleParts as Module}
 use Rattle.wasm_bytes.specs.Laws.{IsBytes}
 use Rattle.wasm_encode.specs.Encoding.{encoding}
-use Rattle.wasm_encode.specs.Fits.{FitsModule}
-use Rattle.wasm_encode.specs.SameModule.{SpellsSame}
-use Rattle.wasm_format_laws.specs.Laws.{DecodesSame}
+use Rattle.wasm_encode.specs.calls.Fits.{FitsModule}
+use Rattle.wasm_encode.specs.calls.SameModule.{SpellsSame}
+use Rattle.wasm_format_laws.specs.calls.Laws.{DecodesSame}
 use Rattle.wasm_format_laws.proofs.Decoding.{encoding_decodes, spelled_decodes}
-use Rattle.rewrite_modules.specs.Bare.{bare}
+use Rattle.rewrite_modules.specs.calls.Bare.{bare}
 use Rattle.wasm_syntax.specs.SameCode.{code_alone, global_code}
 use Rattle.rewrite_modules.specs.Instrumentable.{program_of, LightEnough}
 use Rattle.rewrite_modules.specs.Interface.{KeepsInterface}

@@ -5,13 +5,13 @@ use Rattle.wasm_syntax.specs.Module.{IsModule}
 use Rattle.wasm_syntax.specs.Sizes.{WithinLimits}
 use Rattle.wasm_bytes.specs.Laws.{IsBytes}
 use Rattle.wasm_decode.specs.Decode.{module_from}
-use Rattle.wasm_decode.specs.Meaning.{IsModuleOf}
+use Rattle.wasm_decode.specs.calls.Meaning.{IsModuleOf}
 use Rattle.wasm_decode.proofs.Meanings.{found_exactly}
 use Rattle.wasm_decode.proofs.SoundSections.{module_sound}
 use Rattle.wasm_decode.proofs.Sounds.{module_is, decoded_within}
-use Rattle.wasm_sizes.proofs.Whole.{decoded as decoded_sized}
+use Rattle.wasm_format_laws.proofs.Whole.{decoded as decoded_sized}
 use Rattle.rewrite_modules.specs.Instrumentable.{Instrumentable}
-use Rattle.rewrite_sizes.proofs.Spelled as sizes
+use Rattle.rewrite_promise.proofs.Spelled as sizes
 use Rattle.rewrite_promise.specs.Promise.{Accepted, AcceptedBytes}
 
 pub spelled : (bytes : List ℕ) (m : Module) → IsBytes bytes → module_from bytes ≡ Ok m → IsModuleOf bytes m

@@ -10,3 +10,13 @@ pub mod Written
 pub mod Admitted
 pub mod Example
 pub mod Rewritten
+pub mod Items
+pub mod Weights
+pub mod Pieces
+pub mod Sections
+pub mod Bodies
+pub mod Whole
+pub mod Lists
+pub mod Offsets
+pub mod Forms
+pub mod Spelled

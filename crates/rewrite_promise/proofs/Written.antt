@@ -5,9 +5,9 @@ use Rattle.wasm_syntax.specs.SameCode.{code_alone}
 use Rattle.wasm_bytes.specs.Laws.{IsBytes}
 use Rattle.wasm_decode.specs.Decode.{module_from}
 use Rattle.wasm_encode.specs.Encoding.{encoding}
-use Rattle.wasm_encode.specs.Fits.{FitsModule}
-use Rattle.wasm_encode.specs.SameModule.{SpellsSame}
-use Rattle.wasm_format_laws.specs.Laws.{DecodesSame}
+use Rattle.wasm_encode.specs.calls.Fits.{FitsModule}
+use Rattle.wasm_encode.specs.calls.SameModule.{SpellsSame}
+use Rattle.wasm_format_laws.specs.calls.Laws.{DecodesSame}
 use Rattle.wasm_format_laws.proofs.Decoding.{encoding_decodes, spelled_decodes}
 use Rattle.rewrite_promise.specs.Promise.{Accepted, IsRewriting, DecodesAsRewriting}
 use Rattle.rewrite_promise.proofs.Decoded.{whole, limits}

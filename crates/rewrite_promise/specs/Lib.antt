@@ -1,4 +1,4 @@
 pub mod Outside
 pub mod Promise
 pub mod Admitted
-pub mod Example
+pub mod calls

@@ -12,7 +12,7 @@ use Rattle.wasm_bytes.specs.Laws.{IsBytes}
 use Rattle.wasm_decode.specs.Decode.{module_from}
 use Rattle.wasm_validate.specs.Heights.{AllLow}
 use Rattle.wasm_encode.specs.Encoding.{encoding}
-use Rattle.wasm_sizes.specs.Sized.{Sized}
+use Rattle.wasm_format_laws.specs.Sized.{Sized}
 use Rattle.wasm_syntax.specs.SameCode.{code_alone}
 use Rattle.rewrite_modules.specs.Instrument.{new_module}
 use Rattle.rewrite_modules.specs.Instrumentable.{program_of, LightEnough, Instrumentable}

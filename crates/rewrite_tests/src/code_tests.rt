@@ -1,10 +1,11 @@
 //! Bodies that were written out by hand.
 
 use causes::NoMemory;
+use pm_text::Items;
 use rewrite_code::CodeWriter;
 use std::alloc::Global;
 use std::test::Fail;
-use wasm_syntax::{Body, Instr, Items, Jump, LocalGroup, ValType};
+use wasm_syntax::{Body, Instr, Jump, LocalGroup, ValType};
 
 // Each instruction at the offset of its number, with length 0.
 pub fn is_code(body: &Body, expected: &[Instr]) -> bool {

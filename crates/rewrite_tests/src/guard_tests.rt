@@ -1,18 +1,18 @@
 //! Verdicts of guards, which are run on constants.
 
 ghost use Rattle.std.specs.Prelude.{◌≡◌, ◌≤◌, ◌∷◌, [], length, IfOk, OnOk};
-ghost use Rattle.wasm_sizes.specs.Sized.{Sized};
+ghost use Rattle.wasm_format_laws.specs.Sized.{Sized};
 
 use crate::modules::{DIV, valid};
 use causes::NoMemory;
 use guard_insert::{guard, guard_unreachable};
 use index_map::IndexMap;
-use machine_basics::{Globals, Performed, Shared, Stack, perform};
-use operand_spill::{FunctionContext, OperandPlace, OperandPlaces};
-use rewrite_code::CodeWriter;
+use machine_basics::{Globals, Performed, Shared, perform};
+use pm_text::{Items, Stack};
+use rewrite_code::{CodeWriter, FunctionContext, OperandPlace, OperandPlaces};
 use std::alloc::Global;
 use std::test::Fail;
-use wasm_syntax::{Basic, Binary, Body, Instr, Items, ValType, Value};
+use wasm_syntax::{Basic, Binary, Body, Instr, ValType, Value};
 use wasm_validate::Validated;
 
 /// The dividend, the divisor, and the kind with which `i32.div_s` traps on them, or 0: 3 where the

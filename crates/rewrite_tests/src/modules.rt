@@ -2,11 +2,11 @@
 
 ghost use Rattle.std.specs.Prelude.{◌≡◌, IfSome};
 ghost use Rattle.wasm_syntax.specs.Sizes.{WithinLimits};
-ghost use Rattle.wasm_sizes.specs.Sized.{Sized};
+ghost use Rattle.wasm_format_laws.specs.Sized.{Sized};
 
 use std::alloc::Global;
 use wasm_decode::decode;
-use wasm_sizes::laws::spelled_is_sized;
+use wasm_format_laws::laws::spelled_is_sized;
 use wasm_syntax::Module;
 use wasm_validate::{Validated, validate};
 

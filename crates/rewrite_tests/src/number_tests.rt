@@ -1,8 +1,8 @@
 //! Numbers of a rewritten module, and the names that the rewriting takes, worked out by hand.
 
 ghost use Rattle.std.specs.Bool.{OnTrue};
-ghost use Rattle.index_map.specs.Wrapper.{HasWrapper};
-ghost use Rattle.wasm_sizes.specs.Sized.{Sized};
+ghost use Rattle.index_map.specs.calls.Wrapper.{HasWrapper};
+ghost use Rattle.wasm_format_laws.specs.Sized.{Sized};
 
 use crate::modules::{DIV, valid};
 use crate::piece_tests::has_two_functions;

@@ -4,24 +4,22 @@
 ghost use Rattle.std.specs.Prelude.{◌≡◌, ◌≤◌, ◌<◌, length, IfOk};
 ghost use Rattle.std.specs.Bool.{OnTrue};
 ghost use Rattle.wasm_syntax.specs.Module.{function_types};
-ghost use Rattle.wasm_sizes.specs.Sized.{Sized};
+ghost use Rattle.wasm_format_laws.specs.Sized.{Sized};
 
 use crate::code_tests::is_code;
 use crate::modules::valid;
 use causes::NoMemory;
 use guard_insert::guarded;
 use index_map::IndexMap;
-use operand_spill::{FunctionContext, OperandPlace, OperandPlaces};
-use rewrite_code::CodeWriter;
+use pm_text::Items;
+use rewrite_code::{CodeWriter, FunctionContext, OperandPlace, OperandPlaces};
 use std::alloc::Global;
 use std::test::Fail;
 use unwind_rewrite::{
     Target, TypeNumbers, branch_if, branch_table, call_function, call_through_table, close_body,
     end_block, helper, open_body, return_from, trap, wrapper,
 };
-use wasm_syntax::{
-    Basic, Binary, Compare, FuncType, Instr, Items, Jump, ModuleParts, ValType, Value,
-};
+use wasm_syntax::{Basic, Binary, Compare, FuncType, Instr, Jump, ModuleParts, ValType, Value};
 use wasm_validate::Validated;
 
 /// Function 0 is imported; function 1 calls through a table, and is exported. Both have type 0.

@@ -2,7 +2,7 @@
 
 use crate::modules::{DIV, valid};
 use causes::NoMemory;
-use slot_plan::{SlotPlan, plan};
+use operand_spill::{SlotPlan, plan};
 use std::alloc::Global;
 use std::test::Fail;
 use wasm_syntax::{ValType, Value};

@@ -1,8 +1,8 @@
 //! Places of operands and open labels by hand, through blocks, an `else` and dead code.
 
-use body_walk::{Label, Walk, end_of_list, takes};
 use causes::NoMemory;
-use operand_spill::{OperandPlace, OperandPlaces};
+use operand_spill::{Label, Walk, end_of_list, takes};
+use rewrite_code::{OperandPlace, OperandPlaces};
 use std::alloc::Global;
 use std::test::Fail;
 use wasm_syntax::{Basic, Binary, Instr, Jump, Load, Op, Store, ValType, Value};

@@ -3,16 +3,16 @@
 ghost use Rattle.std.specs.Prelude.{◌≡◌, ◌≤◌, ℕ, [], ◌∷◌, List, IfOk};
 ghost use Rattle.wasm_syntax.specs.declared.quantity.Quantity.TheVariants.{Height};
 ghost use Rattle.wasm_syntax.specs.Quantity.{greatest};
-ghost use Rattle.wasm_sizes.specs.Sized.{Sized};
+ghost use Rattle.wasm_format_laws.specs.Sized.{Sized};
 ghost use Rattle.rewrite_modules.specs.Weight.{height_at};
 
 use crate::modules::{DIV, valid};
 use causes::NoMemory;
-use index_map::IndexMap;
-use rewrite_limits::{first_excess, weight};
+use index_map::{IndexMap, first_excess, weight};
+use pm_text::Items;
 use std::alloc::Global;
 use std::test::Fail;
-use wasm_syntax::{Heights, Items};
+use wasm_syntax::Heights;
 use wasm_validate::Validated;
 
 /// Magic and version alone: 512, and 8 for each of 8 bytes.

@@ -15,23 +15,23 @@ use Rattle.wasm_syntax.specs.declared.module.ModuleParts.{ModuleParts as Module}
 use Rattle.wasm_syntax.specs.Module.{Program, IsProgram, function_export}
 use Rattle.wasm_syntax.specs.Run.{Cause, no_export, bad_arguments, element_out, data_out, cause_of_entry, cause_of_segments, cause_of, Invocation, Outcome as RunOutcome, not_started, finished, trapped, lacks_reply, misfits, running, got_stuck, Ran, session, start_world, unless, run, engine}
 use Rattle.host_devices.specs.Given.{replies_of, module_name}
-use Rattle.machine_hosted.specs.Settings.{world_of}
+use Rattle.machine_hosted.specs.calls.Settings.{world_of}
 use Rattle.host_devices.specs.Given.{unfitting}
 use Rattle.host_set.specs.Sets.{DeviceState, names, count_of, is_named}
-use Rattle.wasm_machine.specs.Instances.{State, IsNew}
+use Rattle.wasm_machine.specs.calls.Instances.{State, IsNew}
 use Rattle.run_words.specs.declared.words.RunWords.{RunWords}
-use Rattle.command_answers.specs.Texts.{ended}
-use Rattle.command_answers.specs.declared.outcome.Outcome.{Outcome}
-use Rattle.run_collected.specs.Delivery.{Delivery, IsDelivery}
+use Rattle.commands.specs.Texts.{ended}
+use Rattle.commands.specs.declared.outcome.Outcome.{Outcome}
+use Rattle.run_session.specs.Delivery.{Delivery, IsDelivery}
 use Rattle.run_session.proofs.Tellings.{Behaves, behaves}
 use Rattle.run_session.specs.Telling.{Tells, tells, told, torn_in}
 use Rattle.run_session.specs.RunText.{invocation_text, traps_in, fitted, up_to_torn}
 use Rattle.run_session.specs.Given.{module_of}
 use Rattle.run_session.specs.Invocations.{invocation_of, depth_of}
-use Rattle.run_session.specs.inner.Answers.{device_cause, misfit_cause}
+use Rattle.run_session.specs.calls.Answers.{device_cause, misfit_cause}
 use Rattle.run_session.specs.Ending.{host_stopped, told_status}
-use Rattle.run_session.specs.inner.Progress.{session_from}
-use Rattle.run_session.specs.inner.Sessions.{point_of, EndsIn, ToldEndsIn, RanAll}
+use Rattle.run_session.specs.calls.Progress.{session_from}
+use Rattle.run_session.specs.calls.Sessions.{point_of, EndsIn, ToldEndsIn, RanAll}
 use Rattle.run_command.specs.Starting.{cause_text, entries_text}
 use Rattle.run_command.specs.Hosting.{Hosting, scripted}
 use Rattle.run_command.specs.Recorded.{recorded, served_in, IsReadBack}

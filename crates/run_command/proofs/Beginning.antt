@@ -13,21 +13,21 @@ use Rattle.wasm_syntax.specs.Numbers.{types}
 use Rattle.wasm_syntax.specs.Module.{function_export, same_types, type_at}
 use Rattle.wasm_syntax.specs.Valid.{Valid, ImportFine}
 use Rattle.wasm_syntax.specs.Run.{cause_of_entry, cause_of_segments, if_fits, first_false, Invocation}
-use Rattle.machine_start.specs.declared.started.StartFault.{StartFault}
-use Rattle.machine_start.specs.declared.started.StartFault.TheVariants.{ElementOut, DataOut, NoMemory}
-use Rattle.wasm_machine.specs.Entries as machine
-use Rattle.wasm_machine.specs.Entries.{serves_type, unserved, fault_or, entry_fault}
-use Rattle.wasm_machine.specs.Instances.{State, Begins}
+use Rattle.wasm_machine.specs.declared.started.StartFault.{StartFault}
+use Rattle.wasm_machine.specs.declared.started.StartFault.TheVariants.{ElementOut, DataOut, NoMemory}
+use Rattle.wasm_machine.specs.calls.Entries as machine
+use Rattle.wasm_machine.specs.calls.Entries.{serves_type, unserved, fault_or, entry_fault}
+use Rattle.wasm_machine.specs.calls.Instances.{State, Begins}
 use Rattle.host_set.specs.Sets.{DeviceState}
-use Rattle.host_set.specs.Hosting.{HostsState, serves}
+use Rattle.host_set.specs.calls.Hosting.{HostsState, serves}
 use Rattle.run_words.specs.declared.invocation.Invocation.{Invocation as InvocationWords}
 use Rattle.host_collector.specs.Collecting.{CollectingState, is_told, is_collected, serves as collected}
-use Rattle.run_session.specs.inner.Collecting.{serving_of}
+use Rattle.run_session.specs.calls.Collecting.{serving_of}
 use Rattle.run_session.specs.Invocations.{invocation_of}
 use Rattle.run_command.specs.Starting.{cause_text, segment_of, entries_text}
 use Rattle.run_command.specs.Hosting.{is_replied, is_served, import_text, first_unserved, start_text}
 use Rattle.run_command.specs.RunAnswer.{hosting}
-use Rattle.run_command.specs.inner.Begun.{fault_text, import_in, start_cause, HasBegun}
+use Rattle.run_command.specs.calls.Begun.{fault_text, import_in, start_cause, HasBegun}
 use Rattle.run_command.specs.declared.running.Begun.{Begun}
 use Rattle.run_command.specs.declared.running.Begun.TheVariants.{Ready}
 use Rattle.run_command.proofs.Answering.{none_then}

@@ -14,27 +14,27 @@ use Rattle.wasm_decode.specs.Decode.{module_from}
 use Rattle.wasm_decode.specs.declared.fault.DecodeFault.{DecodeFault}
 use Rattle.host_set.specs.Sets.{DeviceState}
 use Rattle.run_words.specs.declared.words.RunWords.{RunWords}
-use Rattle.command_answers.specs.Inputs.{input_of, Then}
-use Rattle.command_answers.specs.Texts.{file_fault}
-use Rattle.command_answers.specs.Input.{IsInput, IfRefused}
-use Rattle.command_answers.specs.Loading.{IsTurnedDown, IfLoaded}
-use Rattle.command_answers.specs.Loaded.{IsLoaded}
-use Rattle.command_answers.specs.Told.{UnlessFault, OnContents}
-use Rattle.command_answers.specs.declared.outcome.Outcome.{Outcome}
-use Rattle.command_answers.specs.declared.status.Status.TheVariants as status
-use Rattle.command_answers.specs.declared.loading.Loaded.{Loaded}
-use Rattle.command_answers.specs.declared.loading.Loaded.TheVariants.{Valid as IsValid, TurnedDown}
-use Rattle.command_answers.specs.declared.input.Input.{Input}
-use Rattle.command_answers.specs.declared.input.Input.TheVariants as inputs
-use Rattle.command_answers.proofs.Unless.{OnAnswer, unless, on_all, map_answer, all_answers}
-use Rattle.command_answers.proofs.Reading.{map_contents, then_ok, then_err}
+use Rattle.commands.specs.Inputs.{input_of, Then}
+use Rattle.commands.specs.Texts.{file_fault}
+use Rattle.commands.specs.calls.Input.{IsInput, IfRefused}
+use Rattle.commands.specs.Loading.{IsTurnedDown, IfLoaded}
+use Rattle.commands.specs.calls.Loaded.{IsLoaded}
+use Rattle.commands.specs.Told.{UnlessFault, OnContents}
+use Rattle.commands.specs.declared.outcome.Outcome.{Outcome}
+use Rattle.commands.specs.declared.status.Status.TheVariants as status
+use Rattle.commands.specs.declared.loading.Loaded.{Loaded}
+use Rattle.commands.specs.declared.loading.Loaded.TheVariants.{Valid as IsValid, TurnedDown}
+use Rattle.commands.specs.declared.input.Input.{Input}
+use Rattle.commands.specs.declared.input.Input.TheVariants as inputs
+use Rattle.commands.proofs.Unless.{OnAnswer, unless, on_all, map_answer, all_answers}
+use Rattle.commands.proofs.ReadFiles.{map_contents, then_ok, then_err}
 use Rattle.run_command.specs.declared.scripts.Script.{Script}
 use Rattle.run_command.specs.declared.scripts.Script.TheVariants.{Bad}
 use Rattle.run_command.specs.declared.scripts.Asked.{Asked}
 use Rattle.run_command.specs.declared.scripts.Asked.TheVariants.{Read, Refused}
 use Rattle.run_command.specs.inner.Steps.{IsAnswered}
 use Rattle.run_command.specs.RunAnswer.{ModuleAnswer, RunAnswer, AnsweredOn, bad_replies, script_of, replies_input}
-use Rattle.run_command.specs.inner.Scripts.{script_result, IsAsked, ScriptAnswer, BytesAnswer, SourceAnswer, IsRepliesFault, IsReadFault}
+use Rattle.run_command.specs.calls.Scripts.{script_result, IsAsked, ScriptAnswer, BytesAnswer, SourceAnswer, IsRepliesFault, IsReadFault}
 use Rattle.run_command.proofs.Refusals.{untouched, carried, all_carried}
 
 -- ---- modules

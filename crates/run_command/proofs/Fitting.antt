@@ -12,22 +12,22 @@ use Rattle.wasm_syntax.specs.declared.host.Reply.{Reply}
 use Rattle.wasm_syntax.specs.declared.host.Served.{Served}
 use Rattle.wasm_syntax.specs.Run.{Outcome, not_started, finished, trapped, lacks_reply, misfits, running, got_stuck, Ran}
 use Rattle.host_devices.specs.Given.{replies_of, unfitting}
-use Rattle.command_answers.specs.Told.{UnlessFault}
-use Rattle.command_answers.specs.Texts.{file_fault}
-use Rattle.command_answers.specs.declared.outcome.Outcome.{Outcome as Answer}
-use Rattle.command_answers.specs.declared.status.Status.{Status}
-use Rattle.command_answers.specs.declared.status.Status.TheVariants as status
-use Rattle.command_answers.proofs.Unless.{OnAnswer, unless}
+use Rattle.commands.specs.Told.{UnlessFault}
+use Rattle.commands.specs.Texts.{file_fault}
+use Rattle.commands.specs.declared.outcome.Outcome.{Outcome as Answer}
+use Rattle.commands.specs.declared.status.Status.{Status}
+use Rattle.commands.specs.declared.status.Status.TheVariants as status
+use Rattle.commands.proofs.Unless.{OnAnswer, unless}
 use Rattle.pm_outside.specs.declared.answers.WriteAnswer.{WriteAnswer}
-use Rattle.dump_write.specs.Written.{OnTold, HasFile, Writes as Leaves}
+use Rattle.pm_outside.specs.Written.{OnTold, HasFile, Leaves}
 use Rattle.run_session.specs.RunText.{last_of, fitted}
 use Rattle.run_session.specs.Stop.{Stop, no_memory, file_failed, IsFileFault, OnStop}
-use Rattle.run_session.specs.Written.{Writes, HoldThen, HoldPart}
+use Rattle.pm_outside.specs.Held.{Writes, HoldThen, HoldPart}
 use Rattle.run_session.specs.Given.{given_in, given_to}
-use Rattle.run_session.specs.inner.Sessions.{is_misfit}
-use Rattle.run_record.specs.Record.{IsReplyTyped, record_text, reply_line}
-use Rattle.run_record.proofs.Lines.{record_back}
-use Rattle.run_session.proofs.Held.{one_held, none_held, front_left, front_part, no_part, one_few}
+use Rattle.run_session.specs.calls.Sessions.{is_misfit}
+use Rattle.host_replies.specs.Record.{IsReplyTyped, record_text, reply_line}
+use Rattle.host_replies.proofs.RecordLines.{record_back}
+use Rattle.pm_outside.proofs.Held.{one_held, none_held, front_left, front_part, no_part, one_few}
 use Rattle.run_command.specs.Recorded.{record_file, served_in, IsReadBack}
 use Rattle.run_command.specs.inner.Recording.{Behind, Records, fitting, misfits_in}
 

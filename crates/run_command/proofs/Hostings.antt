@@ -8,14 +8,14 @@ use Rattle.wasm_syntax.specs.declared.parts.Import.{Import}
 use Rattle.wasm_syntax.specs.declared.host.Reply.{Reply}
 use Rattle.wasm_syntax.specs.declared.host.Served.{Served}
 use Rattle.wasm_syntax.specs.declared.module.ModuleParts.{ModuleParts as Module}
-use Rattle.host_devices.specs.HostSides.{Origin}
+use Rattle.host_devices.specs.calls.HostSides.{Origin}
 use Rattle.host_devices.specs.Given.{replies_of}
 use Rattle.host_set.specs.Sets.{DeviceState, names, is_named, count_of, log_of}
-use Rattle.host_set.specs.Hosting.{HostsState, with_module, of_module, of_script, logs_before, log_named, origin_of, calls_of, is_used_up, replies_of as replies_in}
+use Rattle.host_set.specs.calls.Hosting.{HostsState, with_module, of_module, of_script, logs_before, log_named, origin_of, calls_of, is_used_up, replies_of as replies_in}
 use Rattle.host_set.proofs.Names.{swapped, neither}
 use Rattle.run_session.specs.Given.{module_of, from_module}
 use Rattle.host_collector.specs.Collecting.{is_told}
-use Rattle.run_session.specs.inner.Collecting.{used_up_of}
+use Rattle.run_session.specs.calls.Collecting.{used_up_of}
 use Rattle.run_command.specs.Hosting.{scripted}
 use Rattle.run_command.specs.RunAnswer.{Logs}
 use Rattle.run_command.proofs.Answering.{HostFacts}

@@ -10,13 +10,13 @@ use Rattle.wasm_syntax.specs.declared.module.ModuleParts.{ModuleParts as Module}
 use Rattle.wasm_decode.specs.declared.fault.DecodeFault.{DecodeFault}
 use Rattle.wasm_decode.specs.declared.fault.DecodeFault.TheVariants.{NoMemory, Malformed, Float, ImportKind, Limit}
 use Rattle.host_replies.specs.Replies.{file_replies}
-use Rattle.command_answers.specs.Inputs.{input_of, Then}
-use Rattle.command_answers.specs.Loading.{IfLoaded, undecoded}
-use Rattle.command_answers.specs.Refusal.{IsRefusal, IfValid}
-use Rattle.command_answers.specs.Texts.{over_limit}
-use Rattle.command_answers.specs.declared.outcome.Outcome.{Outcome}
-use Rattle.command_answers.specs.declared.status.Status.{Status}
-use Rattle.command_answers.specs.declared.status.Status.TheVariants as status
+use Rattle.commands.specs.Inputs.{input_of, Then}
+use Rattle.commands.specs.Loading.{IfLoaded, undecoded}
+use Rattle.commands.specs.Refusal.{IsRefusal, IfValid}
+use Rattle.commands.specs.Texts.{over_limit}
+use Rattle.commands.specs.declared.outcome.Outcome.{Outcome}
+use Rattle.commands.specs.declared.status.Status.{Status}
+use Rattle.commands.specs.declared.status.Status.TheVariants as status
 use Rattle.run_command.specs.RunAnswer.{IfRefusal, StartsOr, replies_input, script_of, script_of_bytes}
 
 -- a fact that two refusals of one status have together

@@ -2,13 +2,13 @@
 use Rattle.std.proofs.Common.{◌≡◌, List, [], refl, sym, subst, Option, Some, None, Result}
 use Rattle.pm_outside.specs.Contents.{Contents}
 use Rattle.wasm_syntax.specs.declared.host.Served.{Served}
-use Rattle.dump_write.specs.Written.{OnTold}
+use Rattle.pm_outside.specs.Written.{OnTold}
 use Rattle.host_set.specs.Sets.{DeviceState}
-use Rattle.command_answers.specs.declared.outcome.Outcome.{Outcome}
-use Rattle.command_answers.specs.declared.status.Status.{Status}
-use Rattle.command_answers.specs.declared.status.Status.TheVariants as status
-use Rattle.command_answers.proofs.Unless.{OnAnswer, map_answer}
-use Rattle.run_session.specs.Written.{Writes, HoldThen}
+use Rattle.commands.specs.declared.outcome.Outcome.{Outcome}
+use Rattle.commands.specs.declared.status.Status.{Status}
+use Rattle.commands.specs.declared.status.Status.TheVariants as status
+use Rattle.commands.proofs.Unless.{OnAnswer, map_answer}
+use Rattle.pm_outside.specs.Held.{Writes, HoldThen}
 use Rattle.run_command.specs.inner.Steps.{IsAnswered}
 use Rattle.run_command.specs.RunAnswer.{IfRefusal, IsUntouched}
 

@@ -12,48 +12,48 @@ use Rattle.wasm_syntax.specs.Valid.{Valid}
 use Rattle.wasm_syntax.specs.Module.{Program, IsProgram, IsModule, function_export}
 use Rattle.wasm_syntax.specs.Run.{Invocation, cause_of_entry, cause_of_segments, Ran, engine}
 use Rattle.wasm_decode.specs.Decode.{module_from}
-use Rattle.wasm_machine.specs.Instances.{State, IsNew, IsOf}
+use Rattle.wasm_machine.specs.calls.Instances.{State, IsNew, IsOf}
 use Rattle.host_set.specs.Sets.{DeviceState, count_of}
-use Rattle.host_set.specs.Hosting.{HostsState, origin_of, calls_of, serves, is_used_up}
-use Rattle.command_answers.specs.Input.{IsInput}
-use Rattle.command_answers.specs.Inputs.{input_of}
-use Rattle.command_answers.specs.Loaded.{IsLoaded}
-use Rattle.command_answers.specs.Told.{OnContents}
-use Rattle.command_answers.specs.declared.input.Input.{Input}
-use Rattle.command_answers.specs.declared.input.Input.TheVariants as inputs
-use Rattle.command_answers.specs.declared.outcome.Outcome.{Outcome}
-use Rattle.command_answers.specs.declared.status.Status.TheVariants as status
-use Rattle.command_answers.specs.declared.loading.Loaded.{Loaded}
-use Rattle.command_answers.specs.declared.loading.Loaded.TheVariants.{Valid as IsValid}
-use Rattle.command_answers.proofs.Reading.{map_contents}
+use Rattle.host_set.specs.calls.Hosting.{HostsState, origin_of, calls_of, serves, is_used_up}
+use Rattle.commands.specs.calls.Input.{IsInput}
+use Rattle.commands.specs.Inputs.{input_of}
+use Rattle.commands.specs.calls.Loaded.{IsLoaded}
+use Rattle.commands.specs.Told.{OnContents}
+use Rattle.commands.specs.declared.input.Input.{Input}
+use Rattle.commands.specs.declared.input.Input.TheVariants as inputs
+use Rattle.commands.specs.declared.outcome.Outcome.{Outcome}
+use Rattle.commands.specs.declared.status.Status.TheVariants as status
+use Rattle.commands.specs.declared.loading.Loaded.{Loaded}
+use Rattle.commands.specs.declared.loading.Loaded.TheVariants.{Valid as IsValid}
+use Rattle.commands.proofs.ReadFiles.{map_contents}
 use Rattle.run_words.specs.declared.words.RunWords.{RunWords}
 use Rattle.wasm_syntax.specs.declared.host.CollectorCall.{CollectorCall}
-use Rattle.run_collected.specs.Delivery.{Delivery, IsDelivery}
+use Rattle.run_session.specs.Delivery.{Delivery, IsDelivery}
 use Rattle.run_session.specs.Telling.{tells, told as told_of, torn_in}
 use Rattle.run_session.specs.RunText.{up_to_torn}
-use Rattle.run_session.specs.inner.Collecting.{serving_of, used_up_of}
+use Rattle.run_session.specs.calls.Collecting.{serving_of, used_up_of}
 use Rattle.run_session.specs.Invocations.{invocation_of, depth_of}
 use Rattle.run_session.specs.Stop.{Stop, no_memory, file_failed, OnStop}
-use Rattle.run_session.specs.inner.Sessions.{point_of, WasStopped, StopsIn}
+use Rattle.run_session.specs.calls.Sessions.{point_of, WasStopped, StopsIn}
 use Rattle.run_command.specs.Starting.{cause_text, entries_text}
 use Rattle.run_command.specs.RunAnswer.{IsReadBy, bad_replies, replies_input, script_of, EndUsesUp, EndHasFailed, hosting}
-use Rattle.run_command.specs.inner.Scripts.{script_result, IsAsked, IsReadFault}
+use Rattle.run_command.specs.calls.Scripts.{script_result, IsAsked, IsReadFault}
 use Rattle.run_command.specs.Stops.{RunsFor, dumps_of, StopsRecord, StopsRun, NothingDone, ModuleStops, ScriptStops, BytesStops, SourceStops, FileStops, RunStops}
 use Rattle.run_command.specs.declared.scripts.Script.{Script}
 use Rattle.run_command.specs.declared.scripts.Script.TheVariants.{Whole}
 use Rattle.run_command.specs.declared.scripts.Asked.{Asked}
 use Rattle.run_command.specs.declared.scripts.Asked.TheVariants.{Read}
 use Rattle.run_command.proofs.Answering.{none_then, is_run, told_uses, told_fails}
-use Rattle.run_command.specs.inner.Begun.{HasBegun}
+use Rattle.run_command.specs.calls.Begun.{HasBegun}
 use Rattle.run_command.specs.declared.running.Begun.TheVariants.{Ready}
 use Rattle.run_command.proofs.Beginning.{none_starts, starts_alike}
 use Rattle.run_command.specs.inner.Recording.{Records, fitting}
 use Rattle.run_command.proofs.Fitting.{recorded_stops}
 use Rattle.run_command.proofs.Valid.{RanSo, own_record, is_recorded}
-use Rattle.run_session.specs.Written.{HoldPart}
-use Rattle.run_session.proofs.Held.{part_also}
-use Rattle.dump_write.specs.Written.{OnTold}
-use Rattle.command_answers.proofs.Unless.{OnAnswer}
+use Rattle.pm_outside.specs.Held.{HoldPart}
+use Rattle.pm_outside.proofs.Held.{part_also}
+use Rattle.pm_outside.specs.Written.{OnTold}
+use Rattle.commands.proofs.Unless.{OnAnswer}
 use Rattle.run_command.proofs.Hostings.{Began, GaveBack, by_script, logs, host_facts, rose_on}
 use Rattle.run_session.proofs.Stops.{map_stop}
 use Rattle.run_session.proofs.Tellings.{behaves}

@@ -10,21 +10,21 @@ use Rattle.wasm_syntax.specs.declared.module.ModuleParts.{ModuleParts as Module}
 use Rattle.wasm_syntax.specs.Module.{Program, IsProgram, IsModule}
 use Rattle.wasm_syntax.specs.Valid.{Valid}
 use Rattle.wasm_syntax.specs.Run.{cause_of_segments, Outcome as RunOutcome, not_started, finished, trapped, lacks_reply, misfits, running, got_stuck, engine}
-use Rattle.wasm_machine.specs.Instances.{State, IsNew, IsOf}
+use Rattle.wasm_machine.specs.calls.Instances.{State, IsNew, IsOf}
 use Rattle.host_devices.specs.Given.{replies_of}
 use Rattle.host_set.specs.Sets.{DeviceState, count_of}
-use Rattle.host_set.specs.Hosting.{HostsState, origin_of, calls_of, is_used_up, serves}
-use Rattle.command_answers.specs.declared.outcome.Outcome.{Outcome}
-use Rattle.command_answers.specs.declared.status.Status.TheVariants as status
+use Rattle.host_set.specs.calls.Hosting.{HostsState, origin_of, calls_of, is_used_up, serves}
+use Rattle.commands.specs.declared.outcome.Outcome.{Outcome}
+use Rattle.commands.specs.declared.status.Status.TheVariants as status
 use Rattle.run_words.specs.declared.words.RunWords.{RunWords}
 use Rattle.wasm_syntax.specs.declared.host.CollectorCall.{CollectorCall}
-use Rattle.run_collected.specs.Delivery.{Delivery, IsDelivery}
+use Rattle.run_session.specs.Delivery.{Delivery, IsDelivery}
 use Rattle.run_session.specs.Telling.{tells, told as told_of, torn_in}
-use Rattle.run_session.specs.inner.Collecting.{serving_of, used_up_of}
+use Rattle.run_session.specs.calls.Collecting.{serving_of, used_up_of}
 use Rattle.run_session.specs.Invocations.{invocation_of, depth_of}
 use Rattle.run_session.specs.Ending.{end_status, told_status}
-use Rattle.run_session.specs.inner.Sessions.{point_of, EndsIn, ToldEndsIn, RanAll, IsDumpFault}
-use Rattle.command_answers.proofs.Unless.{OnAnswer, map_answer, all_answers}
+use Rattle.run_session.specs.calls.Sessions.{point_of, EndsIn, ToldEndsIn, RanAll, IsDumpFault}
+use Rattle.commands.proofs.Unless.{OnAnswer, map_answer, all_answers}
 use Rattle.run_command.specs.Starting.{not_started_with, entries_text}
 use Rattle.run_command.specs.Hosting.{start_text}
 use Rattle.run_command.specs.RunAnswer.{hosting, RunsTo, Logs, StartsOr, ModuleAnswer, IfRefusal, IsUntouched}
@@ -33,10 +33,10 @@ use Rattle.run_command.specs.Recorded.{record_file, recorded, served_in, IsReadB
 use Rattle.run_command.specs.inner.Recording.{Records, fitting}
 use Rattle.run_command.proofs.Answering.{runs_to}
 use Rattle.run_command.proofs.Fitting.{fitting_served, recorded_answer}
-use Rattle.run_session.specs.Written.{Writes, HoldThen}
-use Rattle.run_session.proofs.Held.{held_also}
-use Rattle.dump_write.specs.Written.{OnTold}
-use Rattle.run_command.specs.inner.Begun.{HasBegun}
+use Rattle.pm_outside.specs.Held.{Writes, HoldThen}
+use Rattle.pm_outside.proofs.Held.{held_also}
+use Rattle.pm_outside.specs.Written.{OnTold}
+use Rattle.run_command.specs.calls.Begun.{HasBegun}
 use Rattle.run_command.specs.declared.running.Begun.TheVariants.{Ready, Refused}
 use Rattle.run_command.proofs.Beginning.{none_starts, starts_alike}
 use Rattle.run_command.proofs.Refusals.{untouched}

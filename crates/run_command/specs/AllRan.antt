@@ -7,9 +7,9 @@ use Rattle.wasm_syntax.specs.declared.host.HostCall.{HostCall}
 use Rattle.wasm_syntax.specs.declared.parts.Import.{Import}
 use Rattle.wasm_syntax.specs.Run.{Outcome as RunOutcome, trapped, lacks_reply, misfits, running, Ran}
 use Rattle.host_set.specs.Sets.{is_named}
-use Rattle.command_answers.specs.Texts.{ended}
-use Rattle.command_answers.specs.declared.outcome.Outcome.{Outcome}
-use Rattle.command_answers.specs.declared.status.Status.TheVariants as status
+use Rattle.commands.specs.Texts.{ended}
+use Rattle.commands.specs.declared.outcome.Outcome.{Outcome}
+use Rattle.commands.specs.declared.status.Status.TheVariants as status
 use Rattle.run_session.specs.Telling.{Tells, told, torn_in}
 use Rattle.run_session.specs.RunText.{invocation_text, traps_in, last_of, fitted, torn_text, not_invoked_text}
 use Rattle.run_session.specs.Given.{module_of}

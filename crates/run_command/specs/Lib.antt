@@ -5,3 +5,4 @@ pub mod Recorded
 pub mod RunAnswer
 pub mod Stops
 pub mod inner
+pub mod calls

@@ -6,8 +6,8 @@ use Rattle.wasm_syntax.specs.declared.host.Served.{Served}
 use Rattle.wasm_syntax.specs.Run.{Ran}
 use Rattle.host_devices.specs.Given.{replies_of}
 use Rattle.host_replies.specs.Replies.{file_replies}
-use Rattle.run_session.specs.Written.{Writes}
-use Rattle.run_record.specs.Record.{record_text, without_empty}
+use Rattle.pm_outside.specs.Held.{Writes}
+use Rattle.host_replies.specs.Record.{record_text, without_empty}
 
 -- the calls of these invocations whose replies fitted, in order
 abbrev pub served_in : List Ran → List Served

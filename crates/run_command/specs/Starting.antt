@@ -5,11 +5,11 @@ use Rattle.pm_text.specs.Names.{quoted}
 use Rattle.wasm_syntax.specs.declared.module.ModuleParts.{ModuleParts as Module}
 use Rattle.wasm_syntax.specs.Module.{function_export}
 use Rattle.wasm_syntax.specs.Run.{Cause, no_export, bad_arguments, element_out, data_out, cause_of_entry, Invocation}
-use Rattle.command_answers.specs.Texts.{ended}
-use Rattle.command_answers.specs.declared.outcome.Outcome.{Outcome}
-use Rattle.command_answers.specs.declared.status.Status.TheVariants as status
-use Rattle.machine_start.specs.declared.started.StartFault.{StartFault}
-use Rattle.machine_start.specs.declared.started.StartFault.TheVariants.{ElementOut, DataOut, NoMemory}
+use Rattle.commands.specs.Texts.{ended}
+use Rattle.commands.specs.declared.outcome.Outcome.{Outcome}
+use Rattle.commands.specs.declared.status.Status.TheVariants as status
+use Rattle.wasm_machine.specs.declared.started.StartFault.{StartFault}
+use Rattle.wasm_machine.specs.declared.started.StartFault.TheVariants.{ElementOut, DataOut, NoMemory}
 use Rattle.std.specs.Option.{option_or}
 
 abbrev pub not_started_with : List ℕ → Outcome

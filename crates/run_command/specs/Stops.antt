@@ -11,19 +11,19 @@ use Rattle.wasm_syntax.specs.Valid.{Valid}
 use Rattle.wasm_syntax.specs.Run.{Invocation, Ran, run}
 use Rattle.wasm_decode.specs.Decode.{module_from}
 use Rattle.wasm_validate.specs.Heights.{AllLow}
-use Rattle.dump_write.specs.Written.{OnTold}
+use Rattle.pm_outside.specs.Written.{OnTold}
 use Rattle.host_devices.specs.Given.{replies_of}
 use Rattle.host_set.specs.Sets.{DeviceState, names}
-use Rattle.command_answers.specs.Inputs.{input_of}
-use Rattle.command_answers.specs.Told.{OnContents}
-use Rattle.command_answers.specs.declared.outcome.Outcome.{Outcome}
+use Rattle.commands.specs.Inputs.{input_of}
+use Rattle.commands.specs.Told.{OnContents}
+use Rattle.commands.specs.declared.outcome.Outcome.{Outcome}
 use Rattle.run_words.specs.declared.words.RunWords.{RunWords}
 use Rattle.run_session.specs.Stop.{Stop, no_memory, file_failed, EndsAtDump}
-use Rattle.run_collected.specs.Delivery.{Delivery, IsDelivery}
+use Rattle.run_session.specs.Delivery.{Delivery, IsDelivery}
 use Rattle.run_session.specs.Telling.{tells}
 use Rattle.run_session.specs.RunText.{up_to_torn, dumps_from, last_of}
 use Rattle.run_session.specs.Given.{given_in}
-use Rattle.run_session.specs.Written.{Writes, HoldPart}
+use Rattle.pm_outside.specs.Held.{Writes, HoldPart}
 use Rattle.run_session.specs.Invocations.{invocation_of, depth_of}
 use Rattle.run_command.specs.Hosting.{scripted, start_text}
 use Rattle.run_command.specs.Recorded.{recorded}

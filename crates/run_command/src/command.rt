@@ -3,17 +3,17 @@
 ghost use Rattle.std.specs.Prelude.{◌≡◌, ◌≢◌, ◌≤◌, ◌<◌, ◌⊎◌, length, IfOk, is_some};
 ghost use Rattle.causes.specs.Counts.{Rose};
 ghost use Rattle.host_set.specs.Sets.{names, AreDistinct};
-ghost use Rattle.command_answers.specs.Told.{UnlessFault, OnContents};
+ghost use Rattle.commands.specs.Told.{UnlessFault, OnContents};
 ghost use Rattle.run_session.specs.Stop.{OnStop};
 ghost use Rattle.run_command.specs.inner.Steps.{IsAnswered};
 ghost use Rattle.run_command.specs.Stops.{NothingDone, ScriptStops, BytesStops, SourceStops, RunStops};
 ghost use Rattle.run_command.specs.RunAnswer.{IsReadBy, RunAnswer, AnsweredOn};
-ghost use Rattle.run_command.specs.inner.Scripts.{script_result, ScriptAnswer, BytesAnswer, SourceAnswer};
+ghost use Rattle.run_command.specs.calls.Scripts.{script_result, ScriptAnswer, BytesAnswer, SourceAnswer};
 
 use crate::running::run_valid;
 use crate::scripts::{Asked, Script, asked_script, bad_replies};
 use causes::NoMemory;
-use command_answers::{Input, Loaded, Outcome, Status, load, read_input};
+use commands::{Input, Loaded, Outcome, Status, load, read_input};
 use host_set::Devices;
 use pm_outside::Files;
 use run_words::RunWords;

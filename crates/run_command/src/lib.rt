@@ -7,7 +7,6 @@ mod running;
 mod scripts;
 mod starting;
 
-pub use causes::NoMemory;
 pub use command::run_file;
 pub use running::{Begun, begin};
 pub use scripts::{Asked, Script, asked_script, bad_replies};

@@ -2,17 +2,16 @@
 
 ghost use Rattle.std.specs.Prelude.{◌≡◌, ◌≢◌, ◌≤◌, ◌-◌, All, IfOk, OnOk, is_some, length, map, take};
 ghost use Rattle.causes.specs.Counts.{Rose};
-ghost use Rattle.run_record.specs.Record.{IsReplyTyped, record_text};
-ghost use Rattle.run_session.specs.inner.Sessions.{ends_badly};
+ghost use Rattle.host_replies.specs.Record.{IsReplyTyped, record_text};
+ghost use Rattle.run_session.specs.calls.Sessions.{ends_badly};
 ghost use Rattle.run_command.specs.inner.Recording.{Behind, Records, fitting, misfits_in};
 
 use causes::NoMemory;
-use command_answers::{Outcome, Status, about_file};
+use commands::{Outcome, Status, about_file};
+use host_replies::push_reply;
 use host_set::{Devices, Hosts};
-use pm_outside::{Files, WriteAnswer};
+use pm_outside::{Files, WriteAnswer, write_file};
 use pm_text::Text;
-use run_record::push_reply;
-use run_session::write_file;
 use std::alloc::Global;
 use wasm_machine::{End, Instance};
 

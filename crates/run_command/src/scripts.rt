@@ -2,13 +2,13 @@
 
 ghost use Rattle.std.specs.Prelude.{◌≡◌, ◌≢◌, ◌≤◌, IfOk, Some};
 ghost use Rattle.causes.specs.Counts.{Rose};
-ghost use Rattle.command_answers.specs.Texts.{file_fault};
-ghost use Rattle.command_answers.specs.Told.{OnContents};
+ghost use Rattle.commands.specs.Texts.{file_fault};
+ghost use Rattle.commands.specs.Told.{OnContents};
 ghost use Rattle.run_command.specs.RunAnswer.{replies_input, bad_replies, script_of};
-ghost use Rattle.run_command.specs.inner.Scripts.{script_result, IsAsked, IfAskedRefused, IsRepliesFault};
+ghost use Rattle.run_command.specs.calls.Scripts.{script_result, IsAsked, IfAskedRefused, IsRepliesFault};
 
 use causes::NoMemory;
-use command_answers::{Input, Outcome, Status, push_number, read_input};
+use commands::{Input, Outcome, Status, push_number, read_input};
 use host_replies::{ReplyFault, read_replies};
 use pm_outside::Files;
 use pm_text::{Items, Text};

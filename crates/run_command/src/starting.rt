@@ -2,18 +2,17 @@
 
 ghost use Rattle.std.specs.Prelude.{◌≡◌, ◌<◌, ◌++◌, IfOk, map, length, codes};
 ghost use Rattle.pm_text.specs.Names.{quoted};
-ghost use Rattle.wasm_machine.specs.Entries.{entry_fault, first_unserved};
+ghost use Rattle.wasm_machine.specs.calls.Entries.{entry_fault, first_unserved};
 ghost use Rattle.run_session.specs.Invocations.{invocation_of};
 ghost use Rattle.run_command.specs.Starting.{entries_text, not_started_with};
 ghost use Rattle.std.specs.Option.{option_or};
 ghost use Rattle.run_command.specs.Hosting.{import_text};
-ghost use Rattle.run_command.specs.inner.Begun.{fault_text, import_in};
+ghost use Rattle.run_command.specs.calls.Begun.{fault_text, import_in};
 
 use causes::NoMemory;
-use command_answers::{Outcome, Status};
+use commands::{Outcome, Status, numbered};
 use host_devices::HostSide;
 use pm_text::Text;
-use run_session::numbered;
 use run_words::Invocation;
 use std::alloc::Global;
 use wasm_machine::{EntryFault, entry_fault};

@@ -13,18 +13,18 @@ use Rattle.wasm_syntax.specs.Run.{Invocation, Outcome as RunOutcome, not_started
 use Rattle.host_devices.specs.Given.{replies_of}
 use Rattle.machine_hosted.specs.declared.answer.RunEnd.{RunEnd}
 use Rattle.machine_hosted.specs.declared.answer.RunEnd.TheVariants.{Finished, Trapped, NoReply, BadReply, DeviceFault, FuelSpent, NoMemory}
-use Rattle.machine_hosted.specs.Answers.{HasCause}
-use Rattle.machine_hosted.specs.Invocations.{HasOutcome}
-use Rattle.wasm_machine.specs.Instances.{State}
-use Rattle.command_answers.specs.Texts.{ended}
-use Rattle.command_answers.specs.declared.outcome.Outcome.{Outcome}
-use Rattle.command_answers.specs.declared.status.Status.TheVariants as status
+use Rattle.machine_hosted.specs.calls.Answers.{HasCause}
+use Rattle.machine_hosted.specs.calls.Invocations.{HasOutcome}
+use Rattle.wasm_machine.specs.calls.Instances.{State}
+use Rattle.commands.specs.Texts.{ended}
+use Rattle.commands.specs.declared.outcome.Outcome.{Outcome}
+use Rattle.commands.specs.declared.status.Status.TheVariants as status
 use Rattle.run_session.specs.Telling.{Telling, nothing, finish, trap, bare_trap, torn, Tells, told, torn_in}
 use Rattle.run_session.specs.RunText.{traps_in, with_trap, last_of, fitted, up_to_torn, torn_text, not_invoked_text}
-use Rattle.run_session.specs.inner.Answers.{answer_line, answer_status}
+use Rattle.run_session.specs.calls.Answers.{answer_line, answer_status}
 use Rattle.run_session.specs.Ending.{trapped_or_done, end_status, told_status}
-use Rattle.run_session.specs.inner.Progress.{Point, session_from, WentOn, NoneTorn}
-use Rattle.run_session.specs.inner.Sessions.{is_misfit, ends_badly, point_of, EndsIn, ToldEndsIn, RanAll, SoFar}
+use Rattle.run_session.specs.calls.Progress.{Point, session_from, WentOn, NoneTorn}
+use Rattle.run_session.specs.calls.Sessions.{is_misfit, ends_badly, point_of, EndsIn, ToldEndsIn, RanAll, SoFar}
 use Rattle.run_session.specs.declared.turns.Lines.{Lines}
 use Rattle.run_session.proofs.Tellings.{Behaves}
 use Rattle.run_session.proofs.Lists.{none_torn_first}

@@ -2,7 +2,7 @@
 use Rattle.std.proofs.Common.{◌≡◌, ℕ, List, [], ◌∷◌, map, refl, sym, ap, ◌∙◌, subst, Bool, true, false, Option, Some, None, Result, Ok, Err}
 use Rattle.std.specs.Prelude.{IfOk, option_map}
 use Rattle.causes.specs.declared.NoMemory.{NoMemory as WantOfMemory}
-use Rattle.linear_memory.specs.Paged.{Paged}
+use Rattle.linear_memory.specs.calls.Paged.{Paged}
 use Rattle.wasm_syntax.specs.declared.value.Value.{Value}
 use Rattle.wasm_syntax.specs.declared.parts.Import.{Import}
 use Rattle.wasm_syntax.specs.declared.host.CollectorCall.{CollectorCall}
@@ -10,29 +10,29 @@ use Rattle.wasm_syntax.specs.Module.{Program}
 use Rattle.wasm_syntax.specs.Machine.{Config, first}
 use Rattle.wasm_syntax.specs.Run.{Outcome, finished, trapped}
 use Rattle.machine_basics.specs.declared.answer.TrapKind.{TrapKind}
-use Rattle.machine_basics.specs.Traps.{trap_code}
+use Rattle.machine_basics.specs.calls.Traps.{trap_code}
 use Rattle.machine_code.specs.declared.code.Code.{Code}
 use Rattle.machine_steps.specs.declared.machine.Machine.{Machine}
-use Rattle.machine_steps.specs.Meets.{Shares}
+use Rattle.machine_steps.specs.calls.Meets.{Shares}
 use Rattle.machine_hosted.specs.declared.answer.RunEnd.{RunEnd}
 use Rattle.machine_hosted.specs.declared.answer.RunEnd.TheVariants.{Finished, Trapped, NoReply, BadReply, DeviceFault, FuelSpent, NoMemory}
-use Rattle.machine_hosted.specs.Answers.{KeepsThen}
-use Rattle.machine_hosted.specs.Invocations.{HasOutcome}
-use Rattle.wasm_machine.specs.Instances.{State, StandsAt}
+use Rattle.machine_hosted.specs.calls.Answers.{KeepsThen}
+use Rattle.machine_hosted.specs.calls.Invocations.{HasOutcome}
+use Rattle.wasm_machine.specs.calls.Instances.{State, StandsAt}
 use Rattle.wasm_machine.proofs.StandingLaws.{trap_stands}
 use Rattle.dump_format.specs.declared.dump.Dump.{Dump as FormatDump}
 use Rattle.dump_write.specs.Canonical.{canonical_bytes}
 use Rattle.dump_write.specs.Image.{DumpFrame, frame_images, image}
 use Rattle.dump_write.specs.ImageBytes.{frame_of, bytes_of}
-use Rattle.dump_image.specs.Pictured.{Pictures, bytes_in}
+use Rattle.dump_write.specs.Pictured.{Pictures, bytes_in}
 use Rattle.host_collector.specs.declared.closing.Collected.{Collected}
-use Rattle.run_collected.specs.Delivery.{Delivery, dump_of, IsDelivery, Delivers}
-use Rattle.run_collected.specs.Showing.{Showing, as_run, no_dump, torn_at, showing}
-use Rattle.run_collected.specs.Told.{IsHanded, IsShown}
-use Rattle.run_collected.specs.declared.handed.Handed.{Handed}
-use Rattle.run_collected.proofs.Deliveries.{one}
-use Rattle.run_collected.specs.declared.shown.Shown.{Shown}
-use Rattle.run_collected.specs.declared.shown.Shown.TheVariants as shown
+use Rattle.run_session.specs.Delivery.{Delivery, dump_of, IsDelivery, Delivers}
+use Rattle.run_session.specs.Showing.{Showing, as_run, no_dump, torn_at, showing}
+use Rattle.run_session.specs.calls.Told.{IsHanded, IsShown}
+use Rattle.run_session.specs.declared.handed.Handed.{Handed}
+use Rattle.run_session.proofs.Deliveries.{one}
+use Rattle.run_session.specs.declared.shown.Shown.{Shown}
+use Rattle.run_session.specs.declared.shown.Shown.TheVariants as shown
 use Rattle.run_session.specs.Telling as telling
 use Rattle.run_session.specs.Telling.{Telling, innermost, plain_telling, memory_in, shown_telling, tells}
 use Rattle.run_session.specs.RunText.{place_text}

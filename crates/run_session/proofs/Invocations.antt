@@ -4,7 +4,7 @@ use Rattle.std.specs.Prelude.{if◌then◌else◌, option_map}
 use Rattle.std.proofs.Math.Nat.{le_refl}
 use Rattle.std.proofs.lemmas.List.{length-append, append-nil}
 use Rattle.linear_memory.specs.Memory.{Memory}
-use Rattle.linear_memory.specs.Paged.{Paged}
+use Rattle.linear_memory.specs.calls.Paged.{Paged}
 use Rattle.pm_outside.specs.Contents.{Contents}
 use Rattle.wasm_syntax.specs.declared.parts.Import.{Import}
 use Rattle.wasm_syntax.specs.declared.value.Value.{Value}
@@ -17,26 +17,26 @@ use Rattle.wasm_syntax.specs.Module.{Program, function_export}
 use Rattle.wasm_syntax.specs.Run.{Invocation, Outcome, lacks_reply, misfits, running, Ran, goes_on, fresh, session, invoked, engine}
 use Rattle.machine_code.specs.declared.code.Code.{Code}
 use Rattle.machine_steps.specs.declared.machine.Machine.{Machine}
-use Rattle.machine_steps.specs.declared.machine.Prepared.{Prepared}
-use Rattle.machine_steps.specs.Meets.{Shares}
-use Rattle.dump_write.specs.Written.{OnTold}
-use Rattle.host_devices.specs.HostSides.{Calls}
+use Rattle.machine_code.specs.declared.prepared.Prepared.{Prepared}
+use Rattle.machine_steps.specs.calls.Meets.{Shares}
+use Rattle.pm_outside.specs.Written.{OnTold}
+use Rattle.host_devices.specs.calls.HostSides.{Calls}
 use Rattle.host_devices.specs.Given.{replies_of}
 use Rattle.machine_hosted.specs.declared.answer.RunEnd.{RunEnd}
 use Rattle.machine_hosted.specs.declared.answer.RunEnd.TheVariants.{Finished, Trapped, NoReply, BadReply, DeviceFault, FuelSpent, NoMemory}
-use Rattle.machine_hosted.specs.Settings.{world_of}
-use Rattle.machine_hosted.specs.Answers.{AdmitsReplies, KeepsThen, given_steps}
-use Rattle.machine_hosted.specs.Invocations.{HasOutcome, may_follow, InvocationCame, invoking}
+use Rattle.machine_hosted.specs.calls.Settings.{world_of}
+use Rattle.machine_hosted.specs.calls.Answers.{AdmitsReplies, KeepsThen, given_steps}
+use Rattle.machine_hosted.specs.calls.Invocations.{HasOutcome, may_follow, InvocationCame, invoking}
 use Rattle.host_devices.specs.Given.{unfitting}
-use Rattle.wasm_machine.specs.Instances.{State, IsOf, Invoked, last_of}
-use Rattle.run_session.specs.inner.Progress.{session_from}
+use Rattle.wasm_machine.specs.calls.Instances.{State, IsOf, Invoked, last_of}
+use Rattle.run_session.specs.calls.Progress.{session_from}
 use Rattle.run_session.specs.Telling.{Tells, told, torn_in, HasDump}
 use Rattle.run_session.specs.RunText.{dump_name, dumps_from, up_to_torn, unless_torn}
 use Rattle.run_session.specs.Given.{given_to}
-use Rattle.run_session.specs.Written.{HoldPart}
+use Rattle.pm_outside.specs.Held.{HoldPart}
 use Rattle.run_session.specs.Stop.{no_memory, file_failed}
 use Rattle.run_session.specs.inner.Turns.{CameTo, Answered, UnlessRefused, Added, LeavesPart, Dumps}
-use Rattle.run_session.specs.inner.Sessions.{is_misfit, ends_badly, point_of, MadeOne, StopsIn}
+use Rattle.run_session.specs.calls.Sessions.{is_misfit, ends_badly, point_of, MadeOne, StopsIn}
 use Rattle.run_session.specs.declared.turns.Lines.{Lines}
 use Rattle.run_session.specs.declared.turns.Turn.{Turn}
 use Rattle.run_session.specs.declared.turns.Turn.TheVariants.{GoesOn, Ends, Torn, Refused}

@@ -1,6 +1,5 @@
 mod Lists
 mod Steps
-pub mod Held
 pub mod Tellings
 pub mod Handing
 mod Turning
@@ -11,5 +10,6 @@ pub mod Invocations
 mod Ones
 mod Nexts
 pub mod Whole
-mod WrittenFile
 pub mod Stops
+pub mod Deliveries
+pub mod Endings

@@ -7,8 +7,8 @@ use Rattle.wasm_syntax.specs.Run.{Ran}
 use Rattle.dump_write.specs.ImageBytes.{bytes_of}
 use Rattle.run_session.specs.Telling.{Telling, nothing, finish, trap, bare_trap, torn, Tells, told, torn_in}
 use Rattle.run_session.specs.RunText.{dumps_from, traps_in, last_of, fitted, with_dump, with_trap, dump_name, up_to_torn, unless_torn}
-use Rattle.run_session.specs.Written.{Writes}
-use Rattle.run_session.specs.inner.Progress.{NoneTorn}
+use Rattle.pm_outside.specs.Held.{Writes}
+use Rattle.run_session.specs.calls.Progress.{NoneTorn}
 use Rattle.run_session.proofs.Tellings.{plus_none}
 
 pub one_of : {A B : Type 0} (f : A → List B) (xs : List A) (x : A) → flat_map f (xs ++ x ∷ []) ≡ flat_map f xs ++ f x

@@ -9,14 +9,14 @@ use Rattle.wasm_syntax.specs.declared.host.Served.{Served}
 use Rattle.wasm_syntax.specs.Machine.{Engine}
 use Rattle.wasm_syntax.specs.Module.{Program}
 use Rattle.wasm_syntax.specs.Run.{Invocation}
-use Rattle.host_devices.specs.HostSides.{Origin, Calls}
-use Rattle.machine_hosted.specs.Settings.{HostKept}
+use Rattle.host_devices.specs.calls.HostSides.{Origin, Calls}
+use Rattle.machine_hosted.specs.calls.Settings.{HostKept}
 use Rattle.host_collector.specs.Collecting.{CollectingState, serves, is_used_up}
-use Rattle.wasm_machine.specs.Instances.{State}
+use Rattle.wasm_machine.specs.calls.Instances.{State}
 use Rattle.run_session.specs.Telling.{Tells}
-use Rattle.run_session.specs.inner.Collecting.{used_up_of, KeptBehind}
+use Rattle.run_session.specs.calls.Collecting.{used_up_of, KeptBehind}
 use Rattle.run_session.specs.inner.Turns.{UnlessRefused}
-use Rattle.run_session.specs.inner.Sessions.{MadeOne, StopsIn, OnTurnStop}
+use Rattle.run_session.specs.calls.Sessions.{MadeOne, StopsIn, OnTurnStop}
 use Rattle.run_session.specs.declared.turns.Lines.{Lines}
 use Rattle.run_session.specs.declared.turns.Turn.{Turn}
 

@@ -8,15 +8,15 @@ use Rattle.wasm_syntax.specs.declared.value.Value.{Value}
 use Rattle.wasm_syntax.specs.declared.host.CollectorCall.{CollectorCall}
 use Rattle.wasm_syntax.specs.Module.{Program, function_export}
 use Rattle.wasm_syntax.specs.Run.{Invocation, engine}
-use Rattle.host_devices.specs.HostSides.{Calls}
+use Rattle.host_devices.specs.calls.HostSides.{Calls}
 use Rattle.machine_hosted.specs.declared.answer.RunEnd.{RunEnd}
 use Rattle.machine_hosted.specs.declared.answer.RunEnd.TheVariants.{NoMemory}
-use Rattle.wasm_machine.specs.Instances.{State, IsOf, Invoked}
-use Rattle.command_answers.specs.Texts.{file_fault}
+use Rattle.wasm_machine.specs.calls.Instances.{State, IsOf, Invoked}
+use Rattle.commands.specs.Texts.{file_fault}
 use Rattle.run_session.specs.Telling.{Tells}
 use Rattle.run_session.specs.RunText.{dump_name}
 use Rattle.run_session.specs.inner.Turns.{UnlessRefused, IfEnds, IfTurnRefused, Added, LeavesPart, Dumps}
-use Rattle.run_session.specs.inner.Sessions.{ends_badly, MadeOne, StopsIn, OnTurnStop}
+use Rattle.run_session.specs.calls.Sessions.{ends_badly, MadeOne, StopsIn, OnTurnStop}
 use Rattle.run_session.specs.declared.turns.Lines.{Lines}
 use Rattle.run_session.specs.declared.turns.Turn.{Turn}
 use Rattle.run_session.specs.declared.turns.Turn.TheVariants.{GoesOn, Ends, Torn, Refused}

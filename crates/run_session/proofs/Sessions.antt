@@ -7,22 +7,22 @@ use Rattle.wasm_syntax.specs.declared.host.Served.{Served}
 use Rattle.wasm_syntax.specs.Machine.{Engine}
 use Rattle.wasm_syntax.specs.Module.{Program}
 use Rattle.wasm_syntax.specs.Run.{Invocation, Outcome, not_started, finished, trapped, lacks_reply, misfits, running, got_stuck, Ran, goes_on}
-use Rattle.dump_write.specs.Written.{OnTold}
+use Rattle.pm_outside.specs.Written.{OnTold}
 use Rattle.host_devices.specs.Given.{replies_of}
 use Rattle.machine_hosted.specs.declared.answer.RunEnd.{RunEnd}
-use Rattle.machine_hosted.specs.Invocations.{HasOutcome}
-use Rattle.wasm_machine.specs.Instances.{State}
+use Rattle.machine_hosted.specs.calls.Invocations.{HasOutcome}
+use Rattle.wasm_machine.specs.calls.Instances.{State}
 use Rattle.run_session.specs.Telling.{Tells, told, torn_in}
 use Rattle.run_session.specs.RunText.{dumps_from, traps_in, up_to_torn}
 use Rattle.run_session.specs.Given.{given_to}
-use Rattle.run_session.specs.Written.{Writes, HoldThen}
-use Rattle.run_session.specs.inner.Progress.{Point, Made, session_from, HasCome, HasEnded}
+use Rattle.pm_outside.specs.Held.{Writes, HoldThen}
+use Rattle.run_session.specs.calls.Progress.{Point, Made, session_from, HasCome, HasEnded}
 use Rattle.run_session.specs.inner.Turns.{Adds}
-use Rattle.run_session.specs.inner.Sessions.{is_misfit, ends_badly, point_of, MadeOne, made_with, SoFar}
+use Rattle.run_session.specs.calls.Sessions.{is_misfit, ends_badly, point_of, MadeOne, made_with, SoFar}
 use Rattle.run_session.specs.declared.turns.Lines.{Lines}
 use Rattle.run_session.specs.declared.turns.Turn.{Turn}
 use Rattle.run_session.specs.declared.turns.Turn.TheVariants.{GoesOn, Ends, Torn}
-use Rattle.run_session.proofs.Held.{held_also}
+use Rattle.pm_outside.proofs.Held.{held_also}
 use Rattle.run_session.proofs.Lists.{only_one, none_behind}
 use Rattle.run_session.proofs.Steps.{with_ran, goes_further, ends_there}
 use Rattle.machine_hosted.proofs.WatchLaws.{admits_none}

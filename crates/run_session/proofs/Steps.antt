@@ -11,7 +11,7 @@ use Rattle.host_devices.specs.Given.{unfitting}
 use Rattle.run_session.specs.Telling.{Tells, told, torn_in}
 use Rattle.run_session.specs.RunText.{invocation_text, dumps_from, traps_in, fitted, up_to_torn}
 use Rattle.run_session.specs.Given.{given_in, given_to}
-use Rattle.run_session.specs.inner.Progress.{Point, Made, session_from, CameOf, WentOn, HasCome, HasEnded}
+use Rattle.run_session.specs.calls.Progress.{Point, Made, session_from, CameOf, WentOn, HasCome, HasEnded}
 use Rattle.run_session.proofs.Lists.{one_of, traps_more, dumps_more, last_more, fitted_more, zero_plus, none_torn_first, none_torn_more}
 use Rattle.wasm_machine.proofs.SessionLaws.{all_fitted}
 use Rattle.machine_hosted.proofs.CourseLaws.{replies_on}

@@ -13,23 +13,23 @@ use Rattle.wasm_syntax.specs.Host.{World}
 use Rattle.wasm_syntax.specs.Machine.{Engine, config, entered}
 use Rattle.wasm_syntax.specs.Module.{Function, imported, defined, function_at, function_export}
 use Rattle.wasm_syntax.specs.Run.{Invocation, Ran, ran_to, run_function, invoked, fresh, goes_on, session}
-use Rattle.dump_write.specs.Written.{OnTold}
+use Rattle.pm_outside.specs.Written.{OnTold}
 use Rattle.host_devices.specs.Given.{replies_of}
-use Rattle.wasm_machine.specs.Instances.{State}
-use Rattle.command_answers.specs.Texts.{file_fault}
-use Rattle.command_answers.specs.declared.outcome.Outcome.{Outcome}
+use Rattle.wasm_machine.specs.calls.Instances.{State}
+use Rattle.commands.specs.Texts.{file_fault}
+use Rattle.commands.specs.declared.outcome.Outcome.{Outcome}
 use Rattle.run_session.specs.Telling.{Tells}
 use Rattle.run_session.specs.RunText.{dumps_from, traps_in, up_to_torn, unless_torn, with_dump}
 use Rattle.run_session.specs.Given.{given_to, given_in}
-use Rattle.run_session.specs.Written.{Writes, HoldThen, HoldPart}
-use Rattle.run_session.specs.inner.Progress.{Point, session_from, HasCome}
+use Rattle.pm_outside.specs.Held.{Writes, HoldThen, HoldPart}
+use Rattle.run_session.specs.calls.Progress.{Point, session_from, HasCome}
 use Rattle.run_session.specs.Stop.{Stop, no_memory, file_failed, OnStop}
 use Rattle.run_session.specs.inner.Turns.{IfTurnRefused}
-use Rattle.run_session.specs.inner.Sessions.{point_of, made_with, SoFar, WasStopped, StopsIn, OnTurnStop}
+use Rattle.run_session.specs.calls.Sessions.{point_of, made_with, SoFar, WasStopped, StopsIn, OnTurnStop}
 use Rattle.run_session.specs.declared.turns.Lines.{Lines}
 use Rattle.run_session.specs.declared.turns.Turn.{Turn}
 use Rattle.run_session.specs.declared.turns.Turn.TheVariants.{GoesOn, Ends, Torn, Refused}
-use Rattle.run_session.proofs.Held.{held_part, part_also}
+use Rattle.pm_outside.proofs.Held.{held_part, part_also}
 use Rattle.run_session.proofs.Tellings.{Behaves}
 use Rattle.run_session.proofs.Lists.{dumps_behind, last_behind, traps_behind, zero_plus, only_one, none_torn_first}
 use Rattle.run_session.proofs.Sessions.{EndedWith, grown}

@@ -14,21 +14,22 @@ use Rattle.dump_format.specs.declared.dump.Dump.{Dump as FormatDump}
 use Rattle.dump_write.specs.Canonical.{canonical_bytes}
 use Rattle.dump_write.specs.Image.{DumpFrame}
 use Rattle.dump_write.specs.ImageBytes.{bytes_of}
-use Rattle.dump_write.specs.Written.{OnTold, HasFile, HasFront}
-use Rattle.run_collected.specs.Delivery as delivered
-use Rattle.run_collected.specs.Delivery.{Delivery}
-use Rattle.run_collected.specs.Showing.{showing}
+use Rattle.pm_outside.specs.Written.{OnTold, HasFile, HasFront}
+use Rattle.run_session.specs.Delivery as delivered
+use Rattle.run_session.specs.Delivery.{Delivery}
+use Rattle.run_session.specs.Showing.{showing}
 use Rattle.run_session.specs.Telling.{Telling, nothing, finish, trap, bare_trap, torn, plain_telling, shown_telling, Tells, tells, torn_in, HasDump}
-use Rattle.run_session.specs.RunText.{finished_text, trapped_text, bare_text, telling_text, dump_name, with_trap, kind_line, place_text, calls_text}
-use Rattle.run_session.specs.Written.{HoldPart}
-use Rattle.command_answers.specs.declared.outcome.Outcome.{Outcome as Answer}
+use Rattle.run_session.specs.RunText.{finished_text, trapped_text, bare_text, telling_text, dump_name, with_trap, place_text, calls_text}
+use Rattle.commands.specs.Lines.{kind_line}
+use Rattle.pm_outside.specs.Held.{HoldPart}
+use Rattle.commands.specs.declared.outcome.Outcome.{Outcome as Answer}
 use Rattle.run_session.specs.inner.Dumping.{place_in, handed_text, IsTrap, IsTold, own_dump, AddsTold, LeavesDump, IfWritten, IfRefused}
 use Rattle.run_session.specs.declared.told.Told.{Told}
 use Rattle.run_session.specs.declared.told.Told.TheVariants as code
 use Rattle.run_session.specs.declared.turns.Lines.{Lines}
 use Rattle.run_session.specs.declared.dumps.Written.{Written}
 use Rattle.run_session.specs.declared.dumps.Written.TheVariants.{Whole, Refused}
-use Rattle.run_session.proofs.Held.{none_held, one_held, no_part, none_few, one_few, front_part}
+use Rattle.pm_outside.proofs.Held.{none_held, one_held, no_part, none_few, one_few, front_part}
 
 -- ---- what is told by outcomes
 

@@ -8,15 +8,15 @@ use Rattle.wasm_syntax.specs.declared.host.CollectorCall.{CollectorCall}
 use Rattle.wasm_syntax.specs.Machine.{Config}
 use Rattle.wasm_syntax.specs.Module.{Program}
 use Rattle.wasm_syntax.specs.Run.{Outcome, not_started, finished, trapped, lacks_reply, misfits, running, got_stuck, Ran, goes_on}
-use Rattle.dump_write.specs.Written.{OnTold}
+use Rattle.pm_outside.specs.Written.{OnTold}
 use Rattle.machine_hosted.specs.declared.answer.RunEnd.{RunEnd}
 use Rattle.machine_hosted.specs.declared.answer.RunEnd.TheVariants.{Finished, Trapped, NoReply, BadReply, DeviceFault, FuelSpent, NoMemory}
-use Rattle.machine_hosted.specs.Invocations.{may_follow}
-use Rattle.wasm_machine.specs.Instances.{State}
+use Rattle.machine_hosted.specs.calls.Invocations.{may_follow}
+use Rattle.wasm_machine.specs.calls.Instances.{State}
 use Rattle.run_session.specs.Telling.{Telling, nothing, Tells, told, torn_in, HasDump}
 use Rattle.run_session.specs.RunText.{telling_text, dumps_from, with_trap}
 use Rattle.run_session.specs.Given.{given_to}
-use Rattle.run_session.specs.Written.{Writes, HoldPart}
+use Rattle.pm_outside.specs.Held.{Writes, HoldPart}
 use Rattle.host_devices.specs.Given.{unfitting}
 use Rattle.run_session.specs.inner.Dumping.{IsTold, torn_at, own_dump, AddsTold, LeavesDump}
 use Rattle.run_session.specs.inner.Turns.{TellsIt, Dumps, Answered, Adds, turn_of, TurnsTo, UnlessRefused, Added, LeavesPart}

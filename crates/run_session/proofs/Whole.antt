@@ -15,33 +15,33 @@ use Rattle.wasm_syntax.specs.Module.{Program}
 use Rattle.wasm_syntax.specs.Run.{Invocation, Ran}
 use Rattle.machine_hosted.specs.declared.answer.RunEnd.{RunEnd}
 use Rattle.machine_hosted.specs.declared.answer.RunEnd.TheVariants.{NoMemory}
-use Rattle.machine_hosted.specs.Answers.{HasCause}
-use Rattle.wasm_machine.specs.Entries.{entry_fault}
-use Rattle.wasm_machine.specs.Instances.{State}
-use Rattle.command_answers.specs.Texts.{ended}
-use Rattle.command_answers.specs.Told.{UnlessFault}
-use Rattle.command_answers.specs.declared.outcome.Outcome.{Outcome}
-use Rattle.command_answers.specs.declared.status.Status.TheVariants as status
+use Rattle.machine_hosted.specs.calls.Answers.{HasCause}
+use Rattle.wasm_machine.specs.calls.Entries.{entry_fault}
+use Rattle.wasm_machine.specs.calls.Instances.{State}
+use Rattle.commands.specs.Texts.{ended}
+use Rattle.commands.specs.Told.{UnlessFault}
+use Rattle.commands.specs.declared.outcome.Outcome.{Outcome}
+use Rattle.commands.specs.declared.status.Status.TheVariants as status
 use Rattle.run_words.specs.declared.invocation.Invocation.{Invocation as InvocationWords}
 use Rattle.run_session.specs.Telling.{Tells}
 use Rattle.run_session.specs.RunText.{dumps_from, torn_text}
 use Rattle.run_session.specs.Invocations.{invocation_of}
-use Rattle.run_session.specs.inner.Answers.{answer_line, answer_status}
+use Rattle.run_session.specs.calls.Answers.{answer_line, answer_status}
 use Rattle.run_session.specs.Ending.{trapped_or_done}
-use Rattle.run_session.specs.inner.Progress.{session_from}
+use Rattle.run_session.specs.calls.Progress.{session_from}
 use Rattle.run_session.specs.inner.Turns.{UnlessRefused, IfGoesOn, IfEnds, IfTurnRefused}
 use Rattle.run_session.specs.Stop.{Stop, no_memory, file_failed, IsFileFault, OnStop}
-use Rattle.run_session.specs.inner.Sessions.{ends_badly, point_of, MadeOne, SoFar, RanAll, StopsIn, OnTurnStop}
+use Rattle.run_session.specs.calls.Sessions.{ends_badly, point_of, MadeOne, SoFar, RanAll, StopsIn, OnTurnStop}
 use Rattle.run_session.specs.declared.turns.Lines.{Lines}
 use Rattle.run_session.specs.declared.turns.Turn.{Turn}
 use Rattle.run_session.specs.declared.turns.Turn.TheVariants.{GoesOn, Ends, Torn, Refused}
 use Rattle.run_session.proofs.Tellings.{Behaves}
-use Rattle.run_session.proofs.Held.{none_held}
+use Rattle.pm_outside.proofs.Held.{none_held}
 use Rattle.run_session.proofs.Lists.{zero_plus}
 use Rattle.run_session.proofs.Sessions.{EndedWith, EndsSo, TornAt, list_goes_on, list_ends, list_torn}
 use Rattle.run_session.proofs.Ends.{ended_so, torn_so, all_made_so, no_file_fault}
 use Rattle.run_session.proofs.Stopped.{ended_stopped, stops_behind}
-use Rattle.command_answers.proofs.Unless.{on_all}
+use Rattle.commands.proofs.Unless.{on_all}
 
 -- ---- the begin
 

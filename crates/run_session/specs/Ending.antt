@@ -1,8 +1,8 @@
 -- The status of a list of invocations, and the line of a host that stopped.
 use Rattle.std.specs.Prelude.{ℕ, nat_lt, List, ◌++◌, Option, Some, None, if◌then◌else◌, codes}
 use Rattle.wasm_syntax.specs.Run.{Outcome, not_started, finished, trapped, lacks_reply, misfits, running, got_stuck}
-use Rattle.command_answers.specs.declared.status.Status.{Status}
-use Rattle.command_answers.specs.declared.status.Status.TheVariants as status
+use Rattle.commands.specs.declared.status.Status.{Status}
+use Rattle.commands.specs.declared.status.Status.TheVariants as status
 
 unfoldable pub host_stopped : List ℕ → List ℕ
 host_stopped cause = codes "host stopped: " ++ cause ++ codes "\n"

@@ -5,35 +5,17 @@ use Rattle.wasm_syntax.specs.declared.value.Value.{Value}
 use Rattle.wasm_syntax.specs.Run.{Ran}
 use Rattle.dump_write.specs.Image.{DumpFrame}
 use Rattle.dump_write.specs.ImageBytes.{bytes_of}
-use Rattle.command_answers.specs.Values.{value_text}
+use Rattle.commands.specs.Lines.{kind_line, result_text}
 use Rattle.run_session.specs.Telling.{Telling, finish, trap, bare_trap, Tells, told, torn_in}
 
 -- ---- the lines of one invocation
-
-abbrev pub kind_text : ℕ → List ℕ
-kind_text kind =
-    if kind == 1 then codes "unreachable" else
-    if kind == 2 then codes "integer divide by zero" else
-    if kind == 3 then codes "integer overflow" else
-    if kind == 4 then codes "out of bounds memory access" else
-    if kind == 5 then codes "undefined element" else
-    if kind == 6 then codes "uninitialized element" else
-    if kind == 7 then codes "indirect call type mismatch" else
-    if kind == 8 then codes "call stack exhausted" else []
 
 -- how many replies an invocation was given
 unfoldable pub calls_text : ℕ → List ℕ
 calls_text n = codes "host calls " ++ decimal n ++ codes "\n"
 
-abbrev pub result_text : Option Value → List ℕ
-result_text None = []
-result_text (Some v) = codes " " ++ value_text v
-
 unfoldable pub finished_text : Option Value → ℕ → List ℕ
 finished_text v n = codes "finished" ++ result_text v ++ codes "\n" ++ calls_text n
-
-unfoldable pub kind_line : ℕ → List ℕ
-kind_line kind = codes "trap " ++ decimal kind ++ codes " " ++ kind_text kind ++ codes "\n"
 
 unfoldable pub place_line : ℕ → ℕ → List ℕ
 place_line function offset = codes "at function " ++ decimal function ++ codes " offset " ++ decimal offset ++ codes "\n"

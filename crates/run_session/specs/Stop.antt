@@ -2,9 +2,9 @@
 use Rattle.std.specs.Prelude.{◌≡◌, ℕ, suc, ◌+◌, List, Some, Result, Ok, Err}
 use Rattle.causes.specs.declared.NoMemory.{NoMemory}
 use Rattle.wasm_syntax.specs.Run.{trapped, Ran}
-use Rattle.command_answers.specs.Texts.{file_fault}
-use Rattle.command_answers.specs.declared.outcome.Outcome.{Outcome}
-use Rattle.command_answers.specs.declared.status.Status.TheVariants as status
+use Rattle.commands.specs.Texts.{file_fault}
+use Rattle.commands.specs.declared.outcome.Outcome.{Outcome}
+use Rattle.commands.specs.declared.status.Status.TheVariants as status
 use Rattle.run_session.specs.Telling.{Tells, told, HasDump}
 use Rattle.run_session.specs.RunText.{dump_name, last_of, traps_in}
 

@@ -5,8 +5,8 @@ use Rattle.wasm_syntax.specs.declared.host.CollectorCall.{CollectorCall}
 use Rattle.wasm_syntax.specs.Machine.{Config, first}
 use Rattle.wasm_syntax.specs.Run.{Outcome, finished, trapped, Ran}
 use Rattle.dump_write.specs.Image.{DumpFrame, frame_images, Dump, image}
-use Rattle.run_collected.specs.Delivery.{Delivery, dump_of}
-use Rattle.run_collected.specs.Showing.{Showing, as_run, collected, no_dump, torn_at, showing}
+use Rattle.run_session.specs.Delivery.{Delivery, dump_of}
+use Rattle.run_session.specs.Showing.{Showing, as_run, collected, no_dump, torn_at, showing}
 
 -- nothing; that it finished, with its value; a trap, with its kind, its innermost frame, and its dump by the name inside; a trap whose dump was
 -- not handed over; or that its collector calls are torn at this index

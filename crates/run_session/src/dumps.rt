@@ -3,15 +3,15 @@
 ghost use Rattle.std.specs.Prelude.{◌≡◌, ◌≤◌, IfOk, is_some};
 ghost use Rattle.causes.specs.Counts.{Rose};
 ghost use Rattle.dump_format.specs.Form.{pages_of};
-ghost use Rattle.dump_format.specs.Contained.{IsContained};
+ghost use Rattle.dump_format.specs.calls.Contained.{IsContained};
 ghost use Rattle.dump_write.specs.Canonical.{canonical_bytes};
-ghost use Rattle.dump_write.specs.Written.{OnTold, HasFile, HasFront};
-ghost use Rattle.command_answers.specs.Texts.{file_fault};
+ghost use Rattle.pm_outside.specs.Written.{OnTold, HasFile, HasFront};
+ghost use Rattle.commands.specs.Texts.{file_fault};
 ghost use Rattle.run_session.specs.RunText.{dump_name};
 ghost use Rattle.run_session.specs.inner.Dumping.{IfWritten, IfRefused};
 
 use causes::NoMemory;
-use command_answers::{Outcome, Status, about_file, push_number};
+use commands::{Outcome, Status, about_file, push_number};
 use dump_format::Dump;
 use dump_write::write_dump;
 use pm_outside::{Files, WriteAnswer};

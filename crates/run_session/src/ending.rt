@@ -1,15 +1,15 @@
 //! The end of a list of invocations.
 
 ghost use Rattle.std.specs.Prelude.{◌≡◌, ◌++◌, IfOk};
-ghost use Rattle.command_answers.specs.Texts.{ended};
+ghost use Rattle.commands.specs.Texts.{ended};
 ghost use Rattle.run_session.specs.RunText.{torn_text};
 ghost use Rattle.run_session.specs.Ending.{host_stopped, trapped_or_done};
-ghost use Rattle.run_session.specs.inner.Answers.{device_cause, misfit_cause, answer_line, answer_status};
+ghost use Rattle.run_session.specs.calls.Answers.{device_cause, misfit_cause, answer_line, answer_status};
 
-use crate::lines::{not_invoked, numbered, push_torn};
+use crate::lines::{not_invoked, push_torn};
 use crate::turns::Lines;
 use causes::NoMemory;
-use command_answers::{Outcome, Status};
+use commands::{Outcome, Status, numbered};
 use machine_hosted::RunEnd;
 use pm_text::Text;
 use std::alloc::Global;

@@ -1,16 +1,18 @@
-//! Lists of invocations on one instance: what is told of them, and the dump at each trap.
+//! Lists of invocations on one instance: what is told of them, what their collector calls hand
+//! over, and the dump at each trap.
 #![tactic(auto)]
 
 mod dumps;
 mod ending;
-mod files;
+mod handed;
+pub mod laws;
 mod lines;
 mod session;
+mod shown;
 mod told;
 mod turns;
 
-pub use causes::NoMemory;
 pub use ending::end_line;
-pub use files::write_file;
-pub use lines::{kind_name, numbered, push_kind, push_result};
+pub use handed::{Handed, handed_over};
 pub use session::{Counting, run_all};
+pub use shown::{Shown, shown_by};

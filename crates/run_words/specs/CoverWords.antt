@@ -1,7 +1,7 @@
 -- What the words behind `cover` ask for: `M ENTRY [ARG ...]`, and options.
 use Rattle.std.specs.Prelude.{List, [], ◌∷◌, Option, None, codes, option_and_then}
 use Rattle.std.specs.Option.{option_map}
-use Rattle.command_words.specs.Reading.{Word, Allowed, Read, read_words}
+use Rattle.commands.specs.Reading.{Word, Allowed, Read, read_words}
 use Rattle.run_words.specs.Invocations.{invocation}
 use Rattle.run_words.specs.RunWords.{fuel, depth, replies}
 use Rattle.run_words.specs.declared.cover.CoverWords.{CoverWords}

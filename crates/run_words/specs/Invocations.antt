@@ -6,7 +6,7 @@ use Rattle.std.specs.Str.{bytes_eq}
 use Rattle.pm_text.specs.Numbers.{number_value}
 use Rattle.wasm_syntax.specs.declared.value.Value.{Value}
 use Rattle.host_replies.specs.Replies.{typed}
-use Rattle.command_words.specs.Reading.{Word}
+use Rattle.commands.specs.Reading.{Word}
 use Rattle.run_words.specs.declared.invocation.Invocation.{Invocation}
 
 -- `i32:` or `i64:`, and an integer of that width, as in a file of replies

@@ -4,7 +4,7 @@ use Rattle.std.specs.List.{starts_with}
 use Rattle.std.specs.Option.{option_map}
 use Rattle.std.specs.Str.{all_ascii_digits, bytes_eq}
 use Rattle.pm_text.specs.Numbers.{decimal_value}
-use Rattle.command_words.specs.Reading.{Word, Allowed, Read, given_value, read_words}
+use Rattle.commands.specs.Reading.{Word, Allowed, Read, given_value, read_words}
 use Rattle.run_words.specs.Invocations.{invocations}
 use Rattle.run_words.specs.declared.words.RunWords.{RunWords}
 

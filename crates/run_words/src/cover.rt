@@ -7,7 +7,7 @@ ghost use Rattle.run_words.specs.CoverWords.{cover_options, cover_asked, cover_w
 use crate::invocation::Invocation;
 use crate::invoking::invocation;
 use crate::words::{depth, fuel, replies};
-use command_words::{Options, Reading, WordsFault, read_words};
+use commands::{Options, Reading, WordsFault, read_words};
 use pm_text::Text;
 use std::alloc::Global;
 

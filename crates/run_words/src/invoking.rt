@@ -6,8 +6,9 @@ ghost use Rattle.host_replies.specs.Replies.{typed};
 ghost use Rattle.run_words.specs.Invocations.{argument, each, invocation, invocations, is_plus};
 
 use crate::invocation::{Invocation, Invocations};
-use command_words::WordsFault;
-use pm_text::{Items, NoMemory, Number, Text, read_value};
+use causes::NoMemory;
+use commands::WordsFault;
+use pm_text::{Items, Number, Text, read_value};
 use std::alloc::Global;
 use wasm_syntax::{Value, Values};
 

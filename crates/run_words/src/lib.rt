@@ -6,7 +6,6 @@ mod invocation;
 mod invoking;
 mod words;
 
-pub use causes::NoMemory;
 pub use cover::{CoverWords, cover_words};
 pub use invocation::{Invocation, Invocations};
 pub use invoking::arguments;

@@ -4,13 +4,14 @@ ghost use Rattle.std.specs.Prelude.{◌≡◌, ◌<◌, ◌≤◌, ◌↔◌, tr
 ghost use Rattle.std.specs.Char.{is_ascii_digit};
 ghost use Rattle.std.specs.List.{AllPass, starts_with};
 ghost use Rattle.std.specs.String.{string_bytes};
-ghost use Rattle.command_words.specs.Reading.{given_value};
+ghost use Rattle.commands.specs.Reading.{given_value};
 ghost use Rattle.run_words.specs.RunWords.{run_options, number_or, fuel, depth, name, dump, replies, is_number, is_for_dumps, log_to, collect, asked, run_words};
 
 use crate::invocation::Invocations;
 use crate::invoking::invocations;
-use command_words::{Options, Reading, WordsFault, read_words};
-use pm_text::{NoMemory, Text, read_decimal};
+use causes::NoMemory;
+use commands::{Options, Reading, WordsFault, read_words};
+use pm_text::{Text, read_decimal};
 use std::alloc::Global;
 
 /// The words behind `run`, with the defaults of what is not given.

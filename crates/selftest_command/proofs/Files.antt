@@ -3,17 +3,17 @@ use Rattle.std.proofs.Common.{◌≡◌, ℕ, List, [], ◌∷◌, refl, sym, ap
 use Rattle.std.specs.Prelude.{bytes_eq, if◌then◌else◌, IfOk}
 use Rattle.causes.specs.declared.NoMemory.{NoMemory as WantOfMemory}
 use Rattle.pm_outside.specs.Contents.{Contents, SameBut}
-use Rattle.dump_write.specs.Written.{OnTold, HasFile, HasFront}
-use Rattle.dump_write.proofs.Files.{then_told, same_told, none_told}
-use Rattle.command_answers.specs.Texts.{file_fault}
-use Rattle.command_answers.specs.declared.outcome.Outcome.{Outcome}
-use Rattle.command_answers.specs.declared.status.Status.TheVariants as status
-use Rattle.command_answers.proofs.Unless.{OnAnswer, map_answer}
+use Rattle.pm_outside.specs.Written.{OnTold, HasFile, HasFront}
+use Rattle.pm_outside.proofs.Leavings.{then_told, same_told, none_told}
+use Rattle.commands.specs.Texts.{file_fault}
+use Rattle.commands.specs.declared.outcome.Outcome.{Outcome}
+use Rattle.commands.specs.declared.status.Status.TheVariants as status
+use Rattle.commands.proofs.Unless.{OnAnswer, map_answer}
 use Rattle.run_session.specs.Stop.{Stop, no_memory, file_failed, OnStop}
-use Rattle.run_session.specs.Written.{HoldThen}
+use Rattle.pm_outside.specs.Held.{HoldThen}
 use Rattle.instrument_command.specs.Stops.{IsFailed}
 use Rattle.selftest_command.specs.Stops.{HasThenFront, Left, SameButBoth}
-use Rattle.run_session.proofs.Held.{one_held}
+use Rattle.pm_outside.proofs.Held.{one_held}
 use Rattle.run_session.proofs.Stops.{map_stop}
 
 -- ---- one file

@@ -6,11 +6,11 @@ use Rattle.wasm_syntax.specs.declared.parts.FuncType.{FuncType}
 use Rattle.wasm_syntax.specs.declared.parts.Import.{Import}
 use Rattle.wasm_syntax.specs.declared.module.ModuleParts.{ModuleParts as Module}
 use Rattle.wasm_syntax.specs.Run.{first_false}
-use Rattle.wasm_machine.specs.Entries.{serves_type, is_served}
+use Rattle.wasm_machine.specs.calls.Entries.{serves_type, is_served}
 use Rattle.rewrite_bodies.specs.Numbering.{value_type, frame_type}
 use Rattle.rewrite_modules.specs.Collector.{collector_import}
 use Rattle.rewrite_promise.specs.Admitted.{Admits}
-use Rattle.selftest_module.specs.Selftest.{selftest}
+use Rattle.selftest_command.specs.Selftest.{selftest}
 use Rattle.selftest_command.specs.inner.Steps.{collected_alone, IsCollected, IsTaken, IsSelftest}
 
 abbrev collectors : ℕ → List Import

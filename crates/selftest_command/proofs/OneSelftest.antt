@@ -7,10 +7,10 @@ use Rattle.wasm_syntax.specs.Run.{Ran, run}
 use Rattle.wasm_decode.specs.Decode.{module_from}
 use Rattle.dump_write.specs.Image.{image}
 use Rattle.dump_write.specs.ImageBytes.{bytes_of}
-use Rattle.command_answers.specs.declared.outcome.Outcome.{Outcome}
-use Rattle.run_session.specs.Written.{Writes}
-use Rattle.selftest_laws.specs.Handing.{main_on, fuel, depth, RunsOnce}
-use Rattle.selftest_laws.proofs.OneProgram.{same_program}
+use Rattle.commands.specs.declared.outcome.Outcome.{Outcome}
+use Rattle.pm_outside.specs.Held.{Writes}
+use Rattle.selftest_command.specs.Handing.{main_on, fuel, depth, RunsOnce}
+use Rattle.wasm_laws.proofs.OneProgram.{same_program}
 use Rattle.selftest_command.specs.Summary.{summary}
 use Rattle.selftest_command.specs.SelftestAnswer.{module_bytes, division, SelftestAnswer, OneDump}
 use Rattle.selftest_command.proofs.Steps.{ok_is}

@@ -12,28 +12,28 @@ use Rattle.wasm_syntax.specs.Module.{Program, IsModule, function_export, type_at
 use Rattle.wasm_syntax.specs.Numbers.{types}
 use Rattle.wasm_syntax.specs.Machine.{Engine}
 use Rattle.wasm_syntax.specs.Run.{first_false, Cause, no_export, bad_arguments, cause_of_segments, cause_of_entry, cause_of, if_fits, Ran, not_begun, session, start_world, unless, engine}
-use Rattle.host_devices.specs.HostSides.{Calls, Origin}
+use Rattle.host_devices.specs.calls.HostSides.{Calls, Origin}
 use Rattle.host_devices.specs.Given.{replies_of}
 use Rattle.host_set.specs.Sets.{DeviceState, names, is_named}
-use Rattle.host_set.specs.Hosting.{HostsState, origin_of, calls_of, of_script, serves as hosts_serve, replies_of as script_replies}
+use Rattle.host_set.specs.calls.Hosting.{HostsState, origin_of, calls_of, of_script, serves as hosts_serve, replies_of as script_replies}
 use Rattle.host_collector.specs.Collecting.{CollectingState, is_told, is_collected, serves}
 use Rattle.machine_hosted.specs.declared.answer.RunEnd.{RunEnd}
 use Rattle.machine_hosted.specs.declared.answer.RunEnd.TheVariants.{Finished, Trapped, NoReply, BadReply, DeviceFault, FuelSpent, NoMemory}
-use Rattle.machine_hosted.specs.Settings.{Knows, world_of}
-use Rattle.wasm_machine.specs.Entries.{fault_or, unserved, first_unserved, is_served, serves_type, entry_fault}
-use Rattle.wasm_machine.specs.Instances.{State, IsNew, IsOf, Invoked}
-use Rattle.wasm_machine.specs.Sessions.{HadMemory}
+use Rattle.machine_hosted.specs.calls.Settings.{Knows, world_of}
+use Rattle.wasm_machine.specs.calls.Entries.{fault_or, unserved, first_unserved, is_served, serves_type, entry_fault}
+use Rattle.wasm_machine.specs.calls.Instances.{State, IsNew, IsOf, Invoked}
+use Rattle.wasm_machine.specs.calls.Sessions.{HadMemory}
 use Rattle.wasm_machine.specs.declared.entries.EntryFault.{EntryFault}
 use Rattle.wasm_machine.specs.declared.entries.EntryFault.TheVariants.{NoExport, BadArguments}
 use Rattle.wasm_machine.proofs.SessionLaws.{goes_on_behind}
-use Rattle.dump_image.specs.Pictured.{bytes_in}
-use Rattle.command_answers.specs.declared.outcome.Outcome.{Outcome}
-use Rattle.run_collected.specs.Delivery.{Delivery, nothing, Delivers}
-use Rattle.run_collected.specs.Told.{IsHanded}
-use Rattle.run_collected.specs.declared.handed.Handed.{Handed}
+use Rattle.dump_write.specs.Pictured.{bytes_in}
+use Rattle.commands.specs.declared.outcome.Outcome.{Outcome}
+use Rattle.run_session.specs.Delivery.{Delivery, nothing, Delivers}
+use Rattle.run_session.specs.calls.Told.{IsHanded}
+use Rattle.run_session.specs.declared.handed.Handed.{Handed}
 use Rattle.causes.specs.declared.NoMemory.{NoMemory as WantOfMemory}
 use Rattle.run_session.specs.Telling.{memory_in}
-use Rattle.selftest_laws.specs.Handing.{main_on, fuel, depth}
+use Rattle.selftest_command.specs.Handing.{main_on, fuel, depth}
 use Rattle.selftest_command.specs.Summary.{summary}
 use Rattle.selftest_command.specs.inner.Steps.{collected_alone, IsCollected, dumped, Runs}
 use Rattle.machine_hosted.proofs.WatchLaws.{admits_none}

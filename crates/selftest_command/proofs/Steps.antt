@@ -11,25 +11,25 @@ use Rattle.wasm_decode.specs.Decode.{module_from}
 use Rattle.wasm_decode.specs.declared.fault.DecodeFault.{DecodeFault}
 use Rattle.wasm_validate.specs.Heights.{AllLow}
 use Rattle.wasm_validate.proofs.Once.{valid_not_invalid, low_not_high}
-use Rattle.wasm_format_laws.specs.Laws.{DecodesSame}
+use Rattle.wasm_format_laws.specs.calls.Laws.{DecodesSame}
 use Rattle.dump_write.specs.Image.{Dump, image}
 use Rattle.dump_write.specs.ImageBytes.{bytes_of}
-use Rattle.dump_write.specs.Written.{OnTold}
+use Rattle.pm_outside.specs.Written.{OnTold}
 use Rattle.rewrite_modules.specs.Simulates.{memory_of}
 use Rattle.rewrite_promise.specs.Admitted.{Admits}
-use Rattle.command_answers.specs.Loading.{IsTurnedDown}
-use Rattle.command_answers.specs.Refusal.{IsRefusal}
-use Rattle.command_answers.specs.declared.outcome.Outcome.{Outcome}
-use Rattle.command_answers.proofs.Unless.{OnAnswer, map_answer}
-use Rattle.run_collected.specs.Delivery.{whole, handed_by, dump_of}
-use Rattle.run_collected.proofs.Deliveries.{one}
+use Rattle.commands.specs.Loading.{IsTurnedDown}
+use Rattle.commands.specs.Refusal.{IsRefusal}
+use Rattle.commands.specs.declared.outcome.Outcome.{Outcome}
+use Rattle.commands.proofs.Unless.{OnAnswer, map_answer}
+use Rattle.run_session.specs.Delivery.{whole, handed_by, dump_of}
+use Rattle.run_session.proofs.Deliveries.{one}
 use Rattle.run_session.specs.Stop.{OnStop}
 use Rattle.run_session.specs.Telling.{memory_in}
-use Rattle.run_session.specs.Written.{HoldThen}
-use Rattle.instrument_command.specs.inner.Steps.{Refuses}
-use Rattle.selftest_module.specs.Selftest.{selftest}
-use Rattle.selftest_laws.specs.Handing.{fuel, HandsAllOver}
-use Rattle.selftest_laws.proofs.Taken.{accepted, all_handed}
+use Rattle.pm_outside.specs.Held.{HoldThen}
+use Rattle.instrument_command.specs.calls.Steps.{Refuses}
+use Rattle.selftest_command.specs.Selftest.{selftest}
+use Rattle.selftest_command.specs.Handing.{fuel, HandsAllOver}
+use Rattle.selftest_command.proofs.Taken.{accepted, all_handed}
 use Rattle.selftest_command.specs.Summary.{summary}
 use Rattle.selftest_command.specs.SelftestAnswer.{module_file, rewritten_file, module_bytes, both_files, IsRewritten, division, SelftestAnswer, AnsweredOn}
 use Rattle.selftest_command.specs.Stops.{Left, SelftestStops}

@@ -7,12 +7,12 @@ use Rattle.wasm_decode.specs.Decode.{module_from}
 use Rattle.wasm_encode.specs.Encoding.{encoding}
 use Rattle.dump_write.specs.Image.{image}
 use Rattle.dump_write.specs.ImageBytes.{bytes_of}
-use Rattle.dump_write.specs.Written.{OnTold}
+use Rattle.pm_outside.specs.Written.{OnTold}
 use Rattle.rewrite_promise.specs.Admitted.{Admits}
-use Rattle.command_answers.specs.declared.outcome.Outcome.{Outcome}
-use Rattle.run_session.specs.Written.{Writes, HoldThen}
-use Rattle.selftest_module.specs.Selftest.{selftest}
-use Rattle.selftest_laws.specs.Handing.{fuel, RunsOnce, Divides, HandsOver}
+use Rattle.commands.specs.declared.outcome.Outcome.{Outcome}
+use Rattle.pm_outside.specs.Held.{Writes, HoldThen}
+use Rattle.selftest_command.specs.Selftest.{selftest}
+use Rattle.selftest_command.specs.Handing.{fuel, RunsOnce, Divides, HandsOver}
 use Rattle.selftest_command.specs.Summary.{Dumped, summary}
 
 -- ---- the files

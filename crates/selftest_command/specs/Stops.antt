@@ -2,7 +2,7 @@
 use Rattle.std.specs.Prelude.{◌≡◌, ◌≢◌, ◌⊎◌, ℕ, List, Option}
 use Rattle.pm_outside.specs.Contents.{Contents}
 use Rattle.pm_outside.specs.Created.{with_name}
-use Rattle.dump_write.specs.Written.{OnTold, HasFile, HasFront}
+use Rattle.pm_outside.specs.Written.{OnTold, HasFile, HasFront}
 use Rattle.run_session.specs.Stop.{Stop, no_memory}
 use Rattle.instrument_command.specs.Stops.{IsFailed}
 use Rattle.selftest_command.specs.SelftestAnswer.{module_file, rewritten_file, module_bytes, IsRewritten}

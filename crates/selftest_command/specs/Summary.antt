@@ -1,9 +1,9 @@
 -- The line of `selftest`.
 use Rattle.std.specs.Prelude.{ℕ, List, ◌++◌, length, sum, codes}
 use Rattle.std.specs.Fmt.{decimal}
-use Rattle.command_answers.specs.Texts.{ended}
-use Rattle.command_answers.specs.declared.outcome.Outcome.{Outcome}
-use Rattle.command_answers.specs.declared.status.Status.TheVariants as status
+use Rattle.commands.specs.Texts.{ended}
+use Rattle.commands.specs.declared.outcome.Outcome.{Outcome}
+use Rattle.commands.specs.declared.status.Status.TheVariants as status
 
 -- the kind of a trap, how many frames its dump has, and the canonical bytes of the dump
 pub record Dumped : Type 0 where

@@ -1,7 +1,7 @@
 -- What the words behind `selftest` ask for: `N`, a number of functions from 1 to 900.
 use Rattle.std.specs.Prelude.{ℕ, List, [], ◌∷◌, Option, None, option_and_then}
 use Rattle.pm_text.specs.Numbers.{decimal_value}
-use Rattle.command_words.specs.Reading.{Word, no_options, read_words}
+use Rattle.commands.specs.Reading.{Word, no_options, read_words}
 use Rattle.run_words.specs.RunWords.{within}
 
 abbrev pub count : Word → Option ℕ

@@ -2,27 +2,27 @@
 
 ghost use Rattle.std.specs.Prelude.{◌≡◌, ◌≢◌, ◌≤◌, IfOk, is_some};
 ghost use Rattle.causes.specs.Counts.{Rose};
-ghost use Rattle.command_answers.specs.Told.{UnlessFault};
-ghost use Rattle.dump_write.specs.Written.{OnTold};
-ghost use Rattle.instrument_command.specs.inner.Steps.{Rewrites};
-ghost use Rattle.rewrite_sizes.specs.Light.{SmallOffsets};
+ghost use Rattle.commands.specs.Told.{UnlessFault};
+ghost use Rattle.pm_outside.specs.Written.{OnTold};
+ghost use Rattle.instrument_command.specs.calls.Steps.{Rewrites};
+ghost use Rattle.rewrite_promise.specs.calls.Light.{SmallOffsets};
 ghost use Rattle.run_session.specs.Stop.{OnStop};
 ghost use Rattle.selftest_command.specs.SelftestAnswer.{AnsweredOn, module_bytes, module_file, rewritten_file};
 ghost use Rattle.selftest_command.specs.Stops.{CreatedBoth, SameButBoth, SelftestStops};
 ghost use Rattle.selftest_command.specs.inner.Steps.{IsSelftest};
-ghost use Rattle.selftest_module.specs.Selftest.{selftest};
-ghost use Rattle.wasm_format_laws.specs.Laws.{DecodesSame};
-ghost use Rattle.wasm_sizes.specs.Sized.{Sized};
+ghost use Rattle.selftest_command.specs.Selftest.{selftest};
+ghost use Rattle.wasm_format_laws.specs.calls.Laws.{DecodesSame};
+ghost use Rattle.wasm_format_laws.specs.Sized.{Sized};
 ghost use Rattle.wasm_syntax.specs.Valid.{Valid};
 
 use crate::running::run_bytes;
+use crate::selftest_bytes;
 use crate::writing::write_both;
 use causes::NoMemory;
-use command_answers::{Loaded, Outcome, Status, load};
+use commands::{Loaded, Outcome, Status, load};
 use host_set::Devices;
 use instrument_command::{Rewritten, admitted_bytes, rewrite};
 use pm_outside::Files;
-use selftest_module::selftest_bytes;
 use std::alloc::Global;
 use wasm_syntax::Module;
 use wasm_validate::Validated;

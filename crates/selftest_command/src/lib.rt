@@ -2,12 +2,18 @@
 //! rewriting, which is run with a collector.
 #![tactic(auto)]
 
+mod bytes;
+mod code;
 mod command;
+pub mod laws;
+mod module;
+mod numbers;
 mod running;
 mod summary;
 mod words;
 mod writing;
 
-pub use causes::NoMemory;
+pub use bytes::selftest_bytes;
 pub use command::selftest_files;
+pub use module::selftest_module;
 pub use words::selftest_words;

@@ -1,22 +1,22 @@
 //! The run of a module that hands over its own dump.
 
 ghost use Rattle.std.specs.Prelude.{◌≡◌, ◌≢◌, [], Err, None, IfOk};
-ghost use Rattle.dump_image.specs.Pictured.{bytes_in};
+ghost use Rattle.dump_write.specs.Pictured.{bytes_in};
 ghost use Rattle.host_set.specs.Sets.{names};
-ghost use Rattle.run_collected.specs.Delivery.{Delivery, Delivers};
+ghost use Rattle.run_session.specs.Delivery.{Delivery, Delivers};
 ghost use Rattle.selftest_command.specs.Summary.{summary};
 ghost use Rattle.selftest_command.specs.inner.Steps.{IsCollected, IsTaken, Runs, RunsBytes, dumped};
-ghost use Rattle.wasm_machine.specs.Instances.{Begins, IsNew};
+ghost use Rattle.wasm_machine.specs.calls.Instances.{Begins, IsNew};
 ghost use Rattle.wasm_syntax.specs.declared.module.ModuleParts.{ModuleParts as Parts};
 ghost use Rattle.wasm_syntax.specs.Module.{IsModule};
 ghost use Rattle.wasm_syntax.specs.Run.{cause_of_segments};
 
 use crate::summary::{handed_summary, summary};
 use causes::NoMemory;
-use command_answers::{Loaded, Outcome, load};
+use commands::{Loaded, Outcome, load};
 use host_collector::Collecting;
 use host_set::{Devices, Hosts};
-use run_collected::handed_over;
+use run_session::handed_over;
 use std::alloc::Global;
 use wasm_machine::{Instance, RunEnd, StartFault};
 use wasm_syntax::{CollectorCall, Value};

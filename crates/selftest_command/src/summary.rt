@@ -2,17 +2,17 @@
 
 ghost use Rattle.std.specs.Prelude.{◌≡◌, ◌≤◌, ◌*◌, ◌++◌, ℕ, List, Option, IfOk, OnOk, codes, length, sum};
 ghost use Rattle.dump_format.specs.Form.{pages_of};
-ghost use Rattle.dump_format.specs.Contained.{IsContained};
-ghost use Rattle.run_collected.specs.Delivery.{Delivery};
-ghost use Rattle.run_collected.specs.Told.{IfHanded, IsHanded};
+ghost use Rattle.dump_format.specs.calls.Contained.{IsContained};
+ghost use Rattle.run_session.specs.Delivery.{Delivery};
+ghost use Rattle.run_session.specs.calls.Told.{IfHanded, IsHanded};
 ghost use Rattle.selftest_command.specs.Summary.{sum_text, summary, trap_text};
 ghost use Rattle.selftest_command.specs.inner.Steps.{dumped};
 
 use causes::NoMemory;
-use command_answers::{Outcome, Status, push_number};
+use commands::{Outcome, Status, push_number};
 use dump_write::dump_bytes;
 use pm_text::Text;
-use run_collected::Handed;
+use run_session::Handed;
 use std::alloc::Global;
 
 /// The sum of bytes.

@@ -4,7 +4,7 @@ ghost use Rattle.std.specs.Prelude.{◌≡◌, ◌≤◌, map, None, Some, IfOk,
 ghost use Rattle.std.specs.String.{string_bytes};
 ghost use Rattle.selftest_command.specs.Words.{count, selftest_words};
 
-use command_words::{Options, WordsFault, read_words};
+use commands::{Options, WordsFault, read_words};
 use pm_text::read_decimal;
 use std::alloc::Global;
 

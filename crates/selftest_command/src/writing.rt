@@ -4,18 +4,17 @@ ghost use Rattle.std.specs.Prelude.{◌≡◌, ◌≢◌, ◌≤◌, ◌⊎◌, 
 ghost use Rattle.causes.specs.Counts.{Rose};
 ghost use Rattle.pm_outside.specs.Contents.{SameBut};
 ghost use Rattle.pm_outside.specs.Created.{with_name};
-ghost use Rattle.command_answers.specs.Told.{UnlessFault};
-ghost use Rattle.dump_write.specs.Written.{HasFile, HasFront, OnTold};
+ghost use Rattle.commands.specs.Told.{UnlessFault};
+ghost use Rattle.pm_outside.specs.Written.{HasFile, HasFront, OnTold};
 ghost use Rattle.instrument_command.specs.Stops.{IsFailed};
 ghost use Rattle.run_session.specs.Stop.{OnStop};
-ghost use Rattle.run_session.specs.Written.{HoldThen};
+ghost use Rattle.pm_outside.specs.Held.{HoldThen};
 ghost use Rattle.selftest_command.specs.SelftestAnswer.{module_file, rewritten_file};
 ghost use Rattle.selftest_command.specs.Stops.{CreatedBoth, Left, SameButBoth};
 
 use causes::NoMemory;
-use command_answers::{Outcome, Status, about_file};
-use pm_outside::{Files, WriteAnswer};
-use run_session::write_file;
+use commands::{Outcome, Status, about_file};
+use pm_outside::{Files, WriteAnswer, write_file};
 use std::alloc::Global;
 
 /// Writes a file, behind which this is answered.

@@ -4,12 +4,12 @@ use Rattle.std.specs.Prelude.{option_map, slice_get}
 use Rattle.std.proofs.lemmas.List.{take_more, map-append}
 use Rattle.std.proofs.lemmas.Option.{slice_get_within, get_or_from_slice_get}
 use Rattle.linear_memory.specs.Memory.{Memory}
-use Rattle.linear_memory.specs.Paged.{Paged}
+use Rattle.linear_memory.specs.calls.Paged.{Paged}
 use Rattle.wasm_syntax.specs.declared.value.Value.{Value}
 use Rattle.wasm_syntax.specs.Machine.{Config}
 use Rattle.dump_write.specs.Image.{DumpFrame, frame_images, image, Dump as Image}
 use Rattle.dump_write.specs.ImageBytes.{frame_of}
-use Rattle.dump_image.specs.Pictured.{bytes_in}
+use Rattle.dump_write.specs.Pictured.{bytes_in}
 
 shared_bytes : (m : Option Paged) (w : Option Memory) → option_map (λ m. m.memory) m ≡ w → bytes_in m ≡ option_map (λ m. m.bytes) w
 shared_bytes None w e = ap (λ (o : Option Memory). option_map (λ m. m.bytes) o) e

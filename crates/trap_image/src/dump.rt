@@ -3,17 +3,17 @@
 ghost use Rattle.std.specs.Prelude.{◌≡◌, ◌≤◌, map, IfOk};
 ghost use Rattle.wasm_syntax.specs.Module.{Program};
 ghost use Rattle.wasm_syntax.specs.Machine.{Config};
-ghost use Rattle.wasm_machine.specs.Instances.{StandsAt};
+ghost use Rattle.wasm_machine.specs.calls.Instances.{StandsAt};
 ghost use Rattle.dump_format.specs.Form.{pages_of};
-ghost use Rattle.dump_format.specs.Contained.{IsContained};
+ghost use Rattle.dump_format.specs.calls.Contained.{IsContained};
 ghost use Rattle.dump_write.specs.Canonical.{canonical_bytes};
 ghost use Rattle.dump_write.specs.Image.{frame_images, image as image_of};
 ghost use Rattle.dump_write.specs.ImageBytes.{frame_of, bytes_of};
-ghost use Rattle.dump_image.specs.Pictured.{Pictures};
+ghost use Rattle.dump_write.specs.Pictured.{Pictures};
 
 use causes::NoMemory;
 use dump_format::{Dump, Frame, Frames};
-use dump_image::{picture, recorded_frame};
+use dump_write::{picture, recorded_frame};
 use pm_text::Items;
 use std::alloc::Global;
 use wasm_machine::{FrameRef, Instance};

@@ -3,5 +3,4 @@
 
 mod dump;
 
-pub use causes::NoMemory;
 pub use dump::image;

@@ -13,9 +13,9 @@ use Rattle.rewrite_bodies.specs.Pieces.{get, const, i32, call}
 use Rattle.rewrite_bodies.specs.Guards.{says, helper, entry_label, first_table}
 use Rattle.rewrite_bodies.specs.Rewrite.{in_body, hand_locals, result_back, finish, zero_result, raise_flag, exit_code, rewrite, body}
 use Rattle.rewrite_modules.specs.Wrappers.{get_all, tell_globals, end_of_dump, after_wrapped, wrapper_nodes}
-use Rattle.rewrite_code.specs.Writing.{Written, Behind, ends, goes, Emits, EmitsLast, Opens, Closes}
+use Rattle.rewrite_code.specs.calls.Writing.{Written, Behind, ends, goes, Emits, EmitsLast, Opens, Closes}
 use Rattle.rewrite_code.proofs.Pieces.{emits_then, emits_last, emits_stop, emits_within}
-use Rattle.unwind_rewrite.specs.Bodies.{OpensTwo, ClosesWith}
+use Rattle.unwind_rewrite.specs.calls.Bodies.{OpensTwo, ClosesWith}
 use Rattle.unwind_rewrite.proofs.Numbers.{get_at, number_at, call_at, global_get_at, global_set_at}
 
 -- ---- the body around its nodes

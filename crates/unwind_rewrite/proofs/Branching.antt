@@ -5,10 +5,10 @@ use Rattle.wasm_syntax.specs.Tree.{Br, BrTable, Return, Unreachable, Nodes, stop
 use Rattle.rewrite_bodies.specs.Slots.{Place, Ctx, less, result_type}
 use Rattle.rewrite_bodies.specs.Pieces.{const, i32, fetch, load, store, to_result}
 use Rattle.rewrite_bodies.specs.Rewrite.{Info, carries, end_gives, body_at, tested, go_to, branch_to, branch_if, table, ending, control, guarded, plain}
-use Rattle.rewrite_code.specs.Writing.{Written, ends, Emits, EmitsLast, Opens, Closes, OpensArms}
+use Rattle.rewrite_code.specs.calls.Writing.{Written, ends, Emits, EmitsLast, Opens, Closes, OpensArms}
 use Rattle.rewrite_code.proofs.Pieces.{emits_then, emits_last, emits_stop, emits_within}
-use Rattle.operand_spill.proofs.Loads.{emits_same}
-use Rattle.unwind_rewrite.specs.Bodies.{OpensTwo, ClosesWith, OpensBoth, ClosesBefore}
+use Rattle.rewrite_code.proofs.Loads.{emits_same}
+use Rattle.unwind_rewrite.specs.calls.Bodies.{OpensTwo, ClosesWith, OpensBoth, ClosesBefore}
 use Rattle.wasm_syntax.specs.declared.instruction.Basic.{Basic}
 use Rattle.wasm_syntax.specs.Effect.{takes}
 use Rattle.rewrite_bodies.specs.Guards.{can_trap}

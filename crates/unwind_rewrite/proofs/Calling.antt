@@ -11,11 +11,11 @@ use Rattle.rewrite_bodies.specs.Numbering.{import_count, mapped, flag_of}
 use Rattle.rewrite_bodies.specs.Slots.{Place, Ctx, less, kind_at, offset_at}
 use Rattle.rewrite_bodies.specs.Pieces.{get, set, const, i32, call, fetch, load, store}
 use Rattle.rewrite_bodies.specs.Rewrite.{Info, to_exit, unwind, test_flag, hand, hand_top, hand_left, test_both, after_call, after_direct, call_code, helper_of, indirect_code}
-use Rattle.rewrite_code.specs.Writing.{Written, Emits, EmitsLast, Opens, Closes}
+use Rattle.rewrite_code.specs.calls.Writing.{Written, Emits, EmitsLast, Opens, Closes}
 use Rattle.rewrite_code.proofs.Pieces.{emits_then, emits_last, emits_stop, emits_within}
-use Rattle.operand_spill.specs.declared.place.OperandPlace.{OperandPlace}
-use Rattle.operand_spill.specs.Places.{from_top}
-use Rattle.operand_spill.proofs.Loads.{emits_same, discarded, length_from_top, hand_whole}
+use Rattle.rewrite_code.specs.declared.place.OperandPlace.{OperandPlace}
+use Rattle.rewrite_code.specs.calls.Places.{from_top}
+use Rattle.rewrite_code.proofs.Loads.{emits_same, discarded, length_from_top, hand_whole}
 use Rattle.unwind_rewrite.proofs.Numbers.{get_at, set_at, call_at}
 use Rattle.unwind_rewrite.proofs.Branching.{less_length}
 

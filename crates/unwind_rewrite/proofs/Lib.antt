@@ -3,3 +3,7 @@ pub mod Branching
 pub mod Calling
 pub mod Bodies
 pub mod Adding
+pub mod JumpLaws
+pub mod NodeLaws
+pub mod PointLaws
+pub mod Premises

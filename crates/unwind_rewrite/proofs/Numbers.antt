@@ -5,7 +5,7 @@ use Rattle.wasm_syntax.specs.declared.instruction.Basic.TheVariants.{GlobalGet, 
 use Rattle.wasm_syntax.specs.Tree.{Br, basic, jump}
 use Rattle.rewrite_bodies.specs.Slots.{Place, Ctx}
 use Rattle.rewrite_bodies.specs.Pieces.{get, set, const, i32, call, fetch}
-use Rattle.rewrite_code.specs.Writing.{Written, Emits}
+use Rattle.rewrite_code.specs.calls.Writing.{Written, Emits}
 
 -- a fact that does not depend on the answer
 pub always : {T E P : Type 0} → (r : Result T E) → P → OnOk r P

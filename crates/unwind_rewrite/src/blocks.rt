@@ -5,13 +5,12 @@ ghost use Rattle.std.specs.Prelude.{◌≡◌, ◌≤◌, List, length, Some, No
 ghost use Rattle.wasm_syntax.specs.Tree.{stop, choose};
 ghost use Rattle.rewrite_bodies.specs.Slots.{Place as PlaceOf};
 ghost use Rattle.rewrite_bodies.specs.Pieces.{fetch, from_result};
-ghost use Rattle.rewrite_code.specs.Writing.{Opens};
-ghost use Rattle.operand_spill.specs.Places.{place};
-ghost use Rattle.unwind_rewrite.specs.Bodies.{OpensTwo, OpensBoth, ClosesBefore};
+ghost use Rattle.rewrite_code.specs.calls.Writing.{Opens};
+ghost use Rattle.rewrite_code.specs.calls.Places.{place};
+ghost use Rattle.unwind_rewrite.specs.calls.Bodies.{OpensTwo, OpensBoth, ClosesBefore};
 
 use causes::NoMemory;
-use operand_spill::{FunctionContext, OperandPlace};
-use rewrite_code::CodeWriter;
+use rewrite_code::{CodeWriter, FunctionContext, OperandPlace};
 use wasm_syntax::ValType;
 
 /// The beginning of a block, and of another one in it.

@@ -5,13 +5,12 @@ ghost use Rattle.wasm_syntax.specs.Tree.{Nodes, BrTable, Return, Unreachable, st
 ghost use Rattle.rewrite_bodies.specs.Pieces.{fetch};
 ghost use Rattle.rewrite_bodies.specs.Slots.{Place as PlaceOf};
 ghost use Rattle.rewrite_bodies.specs.Rewrite.{Info, carries, end_gives, branch_to, branch_if, table, ending, control};
-ghost use Rattle.rewrite_code.specs.Writing.{Emits, EmitsLast};
-ghost use Rattle.operand_spill.specs.Places.{place};
+ghost use Rattle.rewrite_code.specs.calls.Writing.{Emits, EmitsLast};
+ghost use Rattle.rewrite_code.specs.calls.Places.{place};
 
 use causes::NoMemory;
 use guard_insert::guard_unreachable;
-use operand_spill::{FunctionContext, OperandPlace, OperandPlaces};
-use rewrite_code::CodeWriter;
+use rewrite_code::{CodeWriter, FunctionContext, OperandPlace, OperandPlaces};
 use wasm_syntax::ValType;
 
 /// The label to which a branch goes, by what a branch to it carries.

@@ -10,14 +10,13 @@ ghost use Rattle.rewrite_bodies.specs.Numbering.{import_count, mapped};
 ghost use Rattle.rewrite_bodies.specs.Slots.{Place as PlaceOf, less, kind_at};
 ghost use Rattle.rewrite_bodies.specs.Pieces.{call, fetch, get, load, set, store};
 ghost use Rattle.rewrite_bodies.specs.Rewrite.{Info, after_call, after_direct, call_code, helper_of, indirect_code};
-ghost use Rattle.rewrite_code.specs.Writing.{Emits, EmitsLast};
-ghost use Rattle.operand_spill.specs.Places.{place};
+ghost use Rattle.rewrite_code.specs.calls.Writing.{Emits, EmitsLast};
+ghost use Rattle.rewrite_code.specs.calls.Places.{place};
 
 use crate::left::{store_left, test_both, test_flag};
 use causes::NoMemory;
 use guard_insert::guard_entry;
-use operand_spill::{FunctionContext, OperandPlace, OperandPlaces};
-use rewrite_code::CodeWriter;
+use rewrite_code::{CodeWriter, FunctionContext, OperandPlace, OperandPlaces};
 use wasm_syntax::{Basic, FuncType, ValType};
 
 /// The index of a type, and that of the function that is its helper.

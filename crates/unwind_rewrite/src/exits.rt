@@ -8,13 +8,12 @@ ghost use Rattle.rewrite_bodies.specs.Numbering.{frame_import};
 ghost use Rattle.rewrite_bodies.specs.Slots.{kind_at, offset_at};
 ghost use Rattle.rewrite_bodies.specs.Pieces.{get, const, i32, call};
 ghost use Rattle.rewrite_bodies.specs.Rewrite.{in_body, rewrite, result_back, finish, zero_result, raise_flag, exit_code, body};
-ghost use Rattle.rewrite_code.specs.Writing.{Written, Emits, EmitsLast};
-ghost use Rattle.unwind_rewrite.specs.Bodies.{OpensTwo};
+ghost use Rattle.rewrite_code.specs.calls.Writing.{Written, Emits, EmitsLast};
+ghost use Rattle.unwind_rewrite.specs.calls.Bodies.{OpensTwo};
 
 use crate::blocks::open_two;
 use causes::NoMemory;
-use operand_spill::FunctionContext;
-use rewrite_code::CodeWriter;
+use rewrite_code::{CodeWriter, FunctionContext};
 use wasm_syntax::{Basic, ValType, Value};
 
 /// The result goes back to the caller.

@@ -5,8 +5,8 @@ ghost use Rattle.wasm_syntax.specs.declared.module.ModuleParts.{ModuleParts as M
 ghost use Rattle.wasm_syntax.specs.declared.instruction.Basic.TheVariants.{LocalGet as LocalGetOf};
 ghost use Rattle.wasm_syntax.specs.Tree.{BrTable, stop, basic, jump};
 ghost use Rattle.rewrite_bodies.specs.Guards.{entry_label, first_table, helper, says};
-ghost use Rattle.rewrite_code.specs.Writing.{EmitsLast};
-ghost use Rattle.unwind_rewrite.specs.Bodies.{ClosesWith};
+ghost use Rattle.rewrite_code.specs.calls.Writing.{EmitsLast};
+ghost use Rattle.unwind_rewrite.specs.calls.Bodies.{ClosesWith};
 
 use crate::blocks::open_two;
 use causes::NoMemory;

@@ -6,12 +6,11 @@ ghost use Rattle.wasm_syntax.specs.Tree.{stop};
 ghost use Rattle.rewrite_bodies.specs.Slots.{less, kind_at, offset_at, place_type};
 ghost use Rattle.rewrite_bodies.specs.Pieces.{const, fetch, i32, set, store};
 ghost use Rattle.rewrite_bodies.specs.Rewrite.{Info, hand, hand_top, hand_value, hand_left, unwind, test_flag, test_both};
-ghost use Rattle.rewrite_code.specs.Writing.{Emits, EmitsLast};
-ghost use Rattle.operand_spill.specs.Places.{place};
+ghost use Rattle.rewrite_code.specs.calls.Writing.{Emits, EmitsLast};
+ghost use Rattle.rewrite_code.specs.calls.Places.{place};
 
 use causes::NoMemory;
-use operand_spill::{FunctionContext, OperandPlace, OperandPlaces, to_exit};
-use rewrite_code::CodeWriter;
+use rewrite_code::{CodeWriter, FunctionContext, OperandPlace, OperandPlaces, to_exit};
 use wasm_syntax::{Basic, Binary, ValType, Value};
 
 /// A result goes to its slot over the operands under so many.

@@ -1,23 +1,29 @@
-//! Writes the pieces of a rewritten body: instructions, branches, calls, and the way out of a
-//! function that unwinds; and the bodies of wrappers and helpers.
+//! Rewrites the bodies of functions: instructions, branches, calls and the way out of a function
+//! that unwinds; and makes the bodies of wrappers and helpers.
 #![tactic(auto)]
 
 mod blocks;
+mod body;
 mod branches;
 mod calls;
 mod exits;
 mod helpers;
+mod instructions;
+mod jumps;
 mod left;
 mod locals;
+mod nodes;
 mod plain;
+mod points;
 mod wrappers;
 
 pub use blocks::{close_block, open_if};
+pub use body::rewrite_body;
 pub use branches::{Target, branch_if, branch_table, branch_to, end_block, return_from, trap};
 pub use calls::{TypeNumbers, call_function, call_through_table};
-pub use causes::NoMemory;
 pub use exits::{close_body, open_body};
 pub use helpers::helper;
 pub use locals::with_added;
+pub use nodes::write_nodes;
 pub use plain::instruction;
 pub use wrappers::wrapper;

@@ -5,8 +5,9 @@ ghost use Rattle.wasm_syntax.specs.declared.value.ValType.TheVariants.{I32 as I3
 ghost use Rattle.rewrite_bodies.specs.Slots.{group, groups};
 
 use causes::NoMemory;
+use pm_text::Items;
 use std::alloc::Global;
-use wasm_syntax::{Items, LocalGroup, LocalGroups, ValType};
+use wasm_syntax::{LocalGroup, LocalGroups, ValType};
 
 /// A local.
 fn local(t: ValType) -> LocalGroup

@@ -6,13 +6,12 @@ ghost use Rattle.wasm_syntax.specs.Tree.{basic};
 ghost use Rattle.rewrite_bodies.specs.Slots.{less, result_type};
 ghost use Rattle.rewrite_bodies.specs.Pieces.{load, store};
 ghost use Rattle.rewrite_bodies.specs.Rewrite.{Info, instr, plain};
-ghost use Rattle.rewrite_code.specs.Writing.{Emits};
+ghost use Rattle.rewrite_code.specs.calls.Writing.{Emits};
 
 use crate::left::store_left;
 use causes::NoMemory;
 use guard_insert::guarded;
-use operand_spill::{FunctionContext, OperandPlaces};
-use rewrite_code::CodeWriter;
+use rewrite_code::{CodeWriter, FunctionContext, OperandPlaces};
 use wasm_syntax::{Basic, ValType};
 
 /// The instruction on so many operands, and its result.

@@ -7,7 +7,7 @@ ghost use Rattle.wasm_syntax.specs.Tree.{Unreachable, stop, basic, jump};
 ghost use Rattle.rewrite_bodies.specs.Numbering.{value_import, frame_import, global_types};
 ghost use Rattle.rewrite_bodies.specs.Pieces.{const, i32, call};
 ghost use Rattle.rewrite_modules.specs.Wrappers.{get_all, tell_globals, end_of_dump, after_wrapped, wrapper_nodes};
-ghost use Rattle.rewrite_code.specs.Writing.{Emits, EmitsLast};
+ghost use Rattle.rewrite_code.specs.calls.Writing.{Emits, EmitsLast};
 
 use causes::NoMemory;
 use index_map::IndexMap;

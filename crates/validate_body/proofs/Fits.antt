@@ -5,8 +5,8 @@ use Rattle.wasm_syntax.specs.declared.value.ValType.{ValType}
 use Rattle.wasm_syntax.specs.declared.value.ValType.TheVariants.{I32}
 use Rattle.wasm_syntax.specs.Numbers.{same_type}
 use Rattle.wasm_syntax.specs.Typing.{Arrow}
-use Rattle.validate_stack.specs.Frames.{Known, Frame, set_known, labels, pop_type, pop, push, pops, pushes, forget}
-use Rattle.validate_body.specs.inner.Algorithm.{apply}
+use Rattle.validate_body.specs.calls.Frames.{Known, Frame, set_known, labels, pop_type, pop, push, pops, pushes, forget}
+use Rattle.validate_body.specs.calls.Algorithm.{apply}
 use Rattle.validate_body.proofs.Options.{none_is, IsNil, then_some, map_inv, map_some, if_inv}
 use Rattle.wasm_syntax.specs.FlatTyping.{OpenBlock, opened, label_types, given}
 use Rattle.wasm_laws.proofs.Validity.{then_found}

@@ -13,10 +13,10 @@ use Rattle.wasm_syntax.specs.Tree.{Placed}
 use Rattle.wasm_syntax.specs.Typing.{Context, Arrow, ◌⇒◌, arrow, call_arrow}
 use Rattle.wasm_syntax.specs.declared.blocks.BlockKind.TheVariants.{Loop, Then}
 use Rattle.wasm_syntax.specs.declared.blocks.BlockKind.TheVariants as kinds
-use Rattle.validate_stack.specs.Frames.{Known, Frame, opening, set_known, pop_type, pop_any, pop, push, pops, pushes, forget, label, emptied}
-use Rattle.validate_body.specs.inner.Algorithm.{apply, drop_any, both, select_known, select, step_basic, step_jump, step, run, targets_fit, closed, at_else, may_end, at_end}
+use Rattle.validate_body.specs.calls.Frames.{Known, Frame, opening, set_known, pop_type, pop_any, pop, push, pops, pushes, forget, label, emptied}
+use Rattle.validate_body.specs.calls.Algorithm.{apply, drop_any, both, select_known, select, step_basic, step_jump, step, run, targets_fit, closed, at_else, may_end, at_end}
 use Rattle.wasm_syntax.specs.FlatTyping.{dead_behind_jump, dead_next, dead_behind}
-use Rattle.validate_body.specs.Marks.{flags, AllSome, Sure}
+use Rattle.validate_body.specs.calls.Marks.{flags, AllSome, Sure}
 use Rattle.validate_body.proofs.Options.{none_is, map_inv, if_inv}
 use Rattle.validate_body.proofs.Jumps.{any_sound_inv, drop_inv}
 use Rattle.validate_body.proofs.Same.{emptied_inv, else_inv}

@@ -11,8 +11,8 @@ use Rattle.wasm_syntax.specs.declared.parts.Limits.{Limits}
 use Rattle.wasm_syntax.specs.Numbers.{same_type}
 use Rattle.wasm_syntax.specs.Module.{type_at, option_then}
 use Rattle.wasm_syntax.specs.Typing.{Context, Arrow, ◌⇒◌, Above, OnTop, BasicTypes, JumpTypes, IsLabel, AreLabels, arrow, call_arrow, if_any}
-use Rattle.validate_stack.specs.Frames.{Known, Frame, set_known, labels, label, pop_type, pop_any, pops, forget}
-use Rattle.validate_body.specs.inner.Algorithm.{apply, drop_any, both, select_known, select, step_basic, step_jump, same_option, is_label, targets_fit}
+use Rattle.validate_body.specs.calls.Frames.{Known, Frame, set_known, labels, label, pop_type, pop_any, pops, forget}
+use Rattle.validate_body.specs.calls.Algorithm.{apply, drop_any, both, select_known, select, step_basic, step_jump, same_option, is_label, targets_fit}
 use Rattle.validate_body.proofs.Options.{none_is, IsNil, then_some, map_inv, map_some, if_inv, if_some}
 use Rattle.wasm_syntax.specs.FlatTyping.{OpenBlock, opened, given, inside}
 use Rattle.validate_body.proofs.Fits.{Fits, FitAll, type_sound, type_complete, pops_sound, pops_complete, apply_sound, apply_complete, forget_sound, forget_complete, retype, labels_fit}

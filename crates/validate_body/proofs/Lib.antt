@@ -6,3 +6,4 @@ pub mod LocalsLaws
 pub mod Through
 pub mod Flags
 pub mod MarksLaws
+pub mod StackLaws

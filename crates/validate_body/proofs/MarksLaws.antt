@@ -12,10 +12,10 @@ use Rattle.wasm_syntax.specs.Tree.{Placed, placed, code_of, item_of}
 use Rattle.wasm_syntax.specs.Typing.{body_context}
 use Rattle.wasm_syntax.specs.FlatTyping.{OpenBlock, FlatTypes, body_block, dead_behind, AllLive, all_types, TypesBefore}
 use Rattle.wasm_laws.proofs.FlatBodies.{Gives}
-use Rattle.validate_stack.specs.Frames.{Known, Frame, operands, any_free, height_of, topmost}
+use Rattle.validate_body.specs.calls.Frames.{Known, Frame, operands, any_free, height_of, topmost}
 use Rattle.validate_body.specs.declared.marks.Mark.{Mark}
-use Rattle.validate_body.specs.inner.Algorithm.{run, start}
-use Rattle.validate_body.specs.Marks.{flags, AllSome, Sure, mark_of, last_type, Shows, MarkIs, Marked}
+use Rattle.validate_body.specs.calls.Algorithm.{run, start}
+use Rattle.validate_body.specs.calls.Marks.{flags, AllSome, Sure, mark_of, last_type, Shows, MarkIs, Marked}
 use Rattle.validate_body.proofs.Fits.{Fits, FitAll, fill_all}
 use Rattle.validate_body.proofs.Same.{run_sound, run_complete, only_begin}
 use Rattle.validate_body.proofs.Flags as next

@@ -14,8 +14,8 @@ use Rattle.wasm_syntax.specs.Valid.{FirstWrong}
 use Rattle.wasm_syntax.specs.declared.blocks.BlockKind.{BlockKind}
 use Rattle.wasm_syntax.specs.declared.blocks.BlockKind.TheVariants.{Loop, Then}
 use Rattle.wasm_syntax.specs.declared.blocks.BlockKind.TheVariants as kinds
-use Rattle.validate_stack.specs.Frames.{Known, Frame, opening, pop, pops, pushes, is_empty, emptied}
-use Rattle.validate_body.specs.inner.Algorithm.{closed, at_else, may_end, at_end, step_open, step, run, start}
+use Rattle.validate_body.specs.calls.Frames.{Known, Frame, opening, pop, pops, pushes, is_empty, emptied}
+use Rattle.validate_body.specs.calls.Algorithm.{closed, at_else, may_end, at_end, step_open, step, run, start}
 use Rattle.validate_body.proofs.Options.{none_is, then_some, map_inv, map_some, if_inv, if_some}
 use Rattle.wasm_syntax.specs.FlatTyping.{OpenBlock, opened, given, MayEnd, FlatStep, FlatTypes, body_block}
 use Rattle.wasm_laws.proofs.FlatSteps.{opens, opens_steps}

@@ -13,14 +13,14 @@ use Rattle.wasm_syntax.specs.Module.{option_then}
 use Rattle.wasm_syntax.specs.Tree.{placed, code_of, item_of, Tree, Writes}
 use Rattle.wasm_syntax.specs.Typing.{Context, arrow, body_context, IsBody}
 use Rattle.wasm_syntax.specs.Valid.{FirstWrong}
-use Rattle.validate_stack.specs.Frames.{Frame}
-use Rattle.validate_body.specs.inner.Algorithm.{apply, step_basic, step, run, start}
+use Rattle.validate_body.specs.calls.Frames.{Frame}
+use Rattle.validate_body.specs.calls.Algorithm.{apply, step_basic, step, run, start}
 use Rattle.std.proofs.Common.{◌-◌, ◌<◌, get_or, drop-cons}
 use Rattle.std.specs.Prelude.{◌&&◌}
 use Rattle.wasm_syntax.specs.declared.instruction.Instr.{Instr}
 use Rattle.wasm_syntax.specs.Module.{declared_locals}
-use Rattle.validate_stack.specs.Frames.{label}
-use Rattle.validate_body.specs.inner.Algorithm.{is_label, targets_fit}
+use Rattle.validate_body.specs.calls.Frames.{label}
+use Rattle.validate_body.specs.calls.Algorithm.{is_label, targets_fit}
 use Rattle.validate_body.specs.inner.Steps.{HasShape, context_of}
 use Rattle.std.proofs.Common.{subst}
 use Rattle.validate_body.proofs.Same.{run_append, wrong_there, went}

@@ -1,5 +1,4 @@
 -- What only proofs and the contracts of inner functions speak of: no promise to those outside rests on it.
-pub mod Algorithm
-pub mod Bodies
 pub mod Locals
 pub mod Steps
+pub mod Stacked

@@ -1,19 +1,19 @@
 //! The bodies of functions.
 
 ghost use Rattle.std.specs.Prelude.{◌≡◌, ◌≤◌, ◌<◌, ◌^◌, ◌++◌, length, slice_get, MatchResult, IfOk, OnOk, Some, []};
-ghost use Rattle.validate_body.specs.inner.Algorithm.{start};
-ghost use Rattle.validate_body.specs.inner.Bodies.{Judged, HasTree};
-ghost use Rattle.validate_body.specs.Marks.{Marked};
+ghost use Rattle.validate_body.specs.calls.Algorithm.{start};
+ghost use Rattle.validate_body.specs.calls.Bodies.{Judged, HasTree};
+ghost use Rattle.validate_body.specs.calls.Marks.{Marked};
 ghost use Rattle.validate_body.specs.declared.body.BodyFault.TheVariants as faults;
 ghost use Rattle.wasm_syntax.specs.Module.{declared_locals};
 
 use crate::locals::Locals;
 use crate::marks::{Marks, mark_of};
 use crate::step::step;
+use crate::{StackFault, TypeStack};
 use causes::NoMemory;
 use pm_text::Items;
 use std::alloc::Global;
-use validate_stack::{StackFault, TypeStack};
 use wasm_syntax::{BlockKind, Body, FuncType, ModuleParts, Op, ValType};
 
 /// Why a body is refused: at the code offset of the first instruction such that the body up to and

@@ -1,10 +1,10 @@
 //! What is known before each instruction of a body.
 
 ghost use Rattle.std.specs.Prelude.{◌≡◌};
-ghost use Rattle.validate_body.specs.Marks.{mark_of as mark_there};
+ghost use Rattle.validate_body.specs.calls.Marks.{mark_of as mark_there};
 
+use crate::TypeStack;
 use pm_text::Items;
-use validate_stack::TypeStack;
 use wasm_syntax::ValType;
 
 /// What is known before an instruction in live code: the number of operands of the function, over

@@ -1,15 +1,15 @@
 //! What groups of instructions do to the stack.
 
 ghost use Rattle.std.specs.Prelude.{◌≡◌, ◌∷◌, [], ◌++◌, reverse, option_to_list, Some, None};
-ghost use Rattle.validate_stack.specs.Frames.{pops, pushes, forget};
-ghost use Rattle.validate_body.specs.inner.Algorithm.{apply as apply_arrow, select as select_frames, both as both_types, closed, drop_any};
+ghost use Rattle.validate_body.specs.calls.Frames.{pops, pushes, forget};
+ghost use Rattle.validate_body.specs.calls.Algorithm.{apply as apply_arrow, select as select_frames, both as both_types, closed, drop_any};
 ghost use Rattle.validate_body.specs.inner.Steps.{Closed, arrow_of};
-ghost use Rattle.validate_stack.specs.inner.Stacked.{Did};
+ghost use Rattle.validate_body.specs.inner.Stacked.{Did};
 ghost use Rattle.wasm_syntax.specs.declared.value.ValType.TheVariants as types;
 ghost use Rattle.wasm_syntax.specs.Typing.{◌⇒◌};
 
 use crate::shape::Shape;
-use validate_stack::{Control, StackFault, TypeStack};
+use crate::{Control, StackFault, TypeStack};
 use wasm_syntax::{FuncType, ValType};
 
 /// Takes a type, if there is one to take.

@@ -1,9 +1,9 @@
 //! One instruction of the validation algorithm.
 
 ghost use Rattle.std.specs.Prelude.{◌≡◌, ◌∷◌, [], List, reverse, option_to_list, option_map, slice_get, take, drop, length, Some, None, true, false};
-ghost use Rattle.validate_stack.specs.Frames.{pops, pushes, forget, label, no_frame};
-ghost use Rattle.validate_body.specs.inner.Algorithm.{apply as apply_arrow, closed, same_option as are_same, step_open as step_inside, is_label, targets_fit as targets_do_fit, step_basic, step_jump, step as step_frames, at_else, at_end, may_end as may_end_there};
-ghost use Rattle.validate_stack.specs.inner.Stacked.{Did};
+ghost use Rattle.validate_body.specs.calls.Frames.{pops, pushes, forget, label, no_frame};
+ghost use Rattle.validate_body.specs.calls.Algorithm.{apply as apply_arrow, closed, same_option as are_same, step_open as step_inside, is_label, targets_fit as targets_do_fit, step_basic, step_jump, step as step_frames, at_else, at_end, may_end as may_end_there};
+ghost use Rattle.validate_body.specs.inner.Stacked.{Did};
 ghost use Rattle.validate_body.specs.inner.Steps.{HasShape, context_of};
 ghost use Rattle.wasm_syntax.specs.Tree.{item_of, jump_of};
 ghost use Rattle.std.specs.Option.{option_copied};
@@ -16,7 +16,7 @@ use crate::ops::{
     apply, call, call_indirect, close, drop_top, pop_all, pop_option, pop_two, push_option, select,
 };
 use crate::shape::{Shape, shape_of};
-use validate_stack::{StackFault, TypeStack};
+use crate::{StackFault, TypeStack};
 use wasm_syntax::{Basic, BlockKind, FuncType, Instr, Jump, ModuleParts, ValType};
 
 fn with_shape(

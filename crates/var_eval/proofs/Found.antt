@@ -1,7 +1,7 @@
 -- What an answer about a list says of what is found.
 use Rattle.std.proofs.Common.{◌≡◌, ℕ, Option, Some, None, Ok, Err, refl}
 use Rattle.dwarf_bytes.specs.declared.faults.ReadFault.{ReadFault}
-use Rattle.dwarf_bytes.specs.Answers.{found_at}
+use Rattle.dwarf_bytes.specs.calls.Answers.{found_at}
 
 pub found_some : {A : Type 0} (at : ℕ) (o : Option A) (x : A) → Ok x ≡ found_at at o → Some x ≡ o
 found_some at (Some y) x e = let same : x ≡ y = cc in cc

@@ -1,2 +1,7 @@
 pub mod Found
 pub mod ShownLaws
+mod Stops
+mod Places
+mod Rows
+mod Walks
+mod Told

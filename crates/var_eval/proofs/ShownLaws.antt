@@ -1,8 +1,8 @@
 -- What is shown of a text that was appended, or of its mark.
 use Rattle.std.proofs.Common.{◌≡◌, ℕ, List, [], Some, None, Ok, Err, ap}
 use Rattle.var_values.specs.declared.mark.Mark.{Mark}
-use Rattle.var_texts.specs.Values.{Text}
-use Rattle.var_texts.specs.Told.{Tells}
+use Rattle.var_values.specs.Values.{Text}
+use Rattle.var_values.specs.calls.Told.{Tells}
 use Rattle.var_eval.specs.declared.shown.Shown.TheVariants as shown
 use Rattle.var_eval.specs.Shown.{shown_as}
 

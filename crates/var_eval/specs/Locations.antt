@@ -17,7 +17,7 @@ use Rattle.dwarf_expr.specs.declared.answer.Base.TheVariants as bases
 use Rattle.dwarf_expr.specs.View.{View}
 use Rattle.dwarf_expr.specs.Meaning.{meaning}
 use Rattle.dwarf_expr.specs.FrameBase.{frame_base}
-use Rattle.dwarf5_expr.specs.Units.{plain_of}
+use Rattle.dwarf5_info.specs.Units.{plain_of}
 use Rattle.dwarf_scopes.specs.Lists.{is_version5, location_in}
 use Rattle.dwarf_scopes.specs.Scopes.{subprogram_at}
 use Rattle.var_values.specs.declared.mark.Mark.TheVariants.{OptimisedOut, NotRecorded, OutsideMemory, UnsupportedExpression, BadExpression, ExpressionTooDeep}

@@ -3,8 +3,8 @@ use Rattle.std.specs.Prelude.{ℕ, Option, Some, None, Ok, Err}
 use Rattle.dwarf_entries.specs.Origins.{longest_chain}
 use Rattle.dwarf_entries.specs.Standing.{Standing, standing_at}
 use Rattle.dwarf_types.specs.Types.{type_of}
-use Rattle.var_texts.specs.Places.{start_of}
-use Rattle.var_texts.specs.Values.{Text, value_text}
+use Rattle.var_values.specs.Places.{start_of}
+use Rattle.var_values.specs.Values.{Text, value_text}
 use Rattle.var_eval.specs.declared.shown.Shown.{Shown}
 use Rattle.var_eval.specs.declared.shown.Shown.TheVariants as shown
 use Rattle.var_eval.specs.Frames.{Frame}

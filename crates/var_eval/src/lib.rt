@@ -1,16 +1,31 @@
-//! Variables that are visible at an address, and what is shown of them.
+//! Variables that are visible at an address, steps from one to a part of it, and what is shown of
+//! them.
 #![tactic(auto)]
 
+mod choice;
+mod elements;
 mod frame;
 mod located;
 mod locations;
+mod meeting;
+mod members;
+mod part;
+mod path_shown;
+mod pointers;
 mod shown;
+mod spot;
+mod stop;
 mod visible;
+mod walking;
 mod whole;
 
+pub use choice::chosen;
 pub use frame::Frame;
 pub use located::Located;
 pub use locations::source_of;
+pub use part::Part;
+pub use path_shown::value_of;
 pub use shown::Shown;
 pub use visible::{Variable, Variables, visible_at};
+pub use walking::walk;
 pub use whole::{push_variable, value_at};

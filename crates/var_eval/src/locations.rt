@@ -3,7 +3,7 @@
 ghost use Rattle.std.specs.Prelude.{◌≡◌, ◌<◌, ◌^◌, IfOk, Some, length, take, drop};
 ghost use Rattle.dwarf_info.specs.declared.entry.AttrValue.TheVariants.{Offset};
 ghost use Rattle.dwarf_scopes.specs.Lists.{location_in as entry_in};
-ghost use Rattle.dwarf5_expr.specs.Units.{plain_of};
+ghost use Rattle.dwarf5_info.specs.Units.{plain_of};
 ghost use Rattle.dwarf_expr.specs.Meaning.{meaning};
 ghost use Rattle.dwarf_expr.specs.FrameBase.{frame_base as base_given};
 ghost use Rattle.var_eval.specs.Locations as locations;
@@ -17,7 +17,7 @@ use dwarf_expr::{Base, Eval, FrameView, PiecePlace, eval, frame_base};
 use dwarf_info::{AttrValue, Sections5, Unit};
 use dwarf_loc::Span;
 use dwarf_scopes::location_in;
-use dwarf5_expr::plain_expr;
+use dwarf5_info::plain_expr;
 use std::alloc::Global;
 use var_values::{Mark, Source};
 use wasm_bytes::Run;

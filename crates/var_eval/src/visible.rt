@@ -1,7 +1,7 @@
 //! Visible variables (DWARF 4 sections 3.3, 3.4 and 4.1).
 
 ghost use Rattle.std.specs.Prelude.{◌≡◌, IfOk};
-ghost use Rattle.var_eval.specs.Variables as definitions;
+ghost use Rattle.var_eval.specs.calls.Variables as definitions;
 
 use causes::NoMemory;
 use dwarf_entries::{Standing, name_or_empty};
@@ -34,7 +34,7 @@ fn variable_of<'r, 'a>(units: &'r Units<'a>, standing: &Standing<'r, 'a>) -> Var
 }
 
 /// The variables that are visible at an address, those of outer scopes first.
-#[tactic(auto, unfolding(crate::specs::Variables::visible))]
+#[tactic(auto, unfolding(crate::specs::calls::Variables::visible))]
 pub fn visible_at<'r, 'a>(
     alloc: Global,
     sections: &Sections5<'a>,

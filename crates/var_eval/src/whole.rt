@@ -1,8 +1,8 @@
 //! Whole variables.
 
 ghost use Rattle.std.specs.Prelude.{◌≡◌, ◌++◌, IfOk, OnOk};
-ghost use Rattle.var_texts.specs.Values.{in_place};
-ghost use Rattle.var_texts.specs.Told.{Tells};
+ghost use Rattle.var_values.specs.Values.{in_place};
+ghost use Rattle.var_values.specs.calls.Told.{Tells};
 ghost use Rattle.var_eval.specs.Shown as shown;
 
 use crate::frame::Frame;
@@ -13,11 +13,10 @@ use dwarf_entries::{Standing, standing_at};
 use dwarf_types::type_of;
 use pm_text::Text;
 use std::alloc::Global;
-use var_texts::{Place, push_value};
-use var_values::Mark;
+use var_values::{Mark, Place, push_value};
 
 /// Appends the text of a whole variable, or tells the mark in its place.
-#[tactic(auto, using(var_texts::proofs::NearLaws::near_start), unfolding(crate::specs::Shown::variable_text))]
+#[tactic(auto, using(var_values::proofs::NearLaws::near_start), unfolding(crate::specs::Shown::variable_text))]
 fn push_whole<'r, 'a>(
     alloc: Global,
     text: &mut Text,

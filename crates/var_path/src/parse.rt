@@ -8,7 +8,7 @@ ghost use Rattle.var_path.specs.Reading as reading;
 use crate::one_step::{begins_name, one_step};
 use crate::path::{Path, Step, Steps};
 use crate::span::{Front, NameByte, span};
-use pm_text::NoMemory;
+use causes::NoMemory;
 use std::alloc::Global;
 use wasm_bytes::Run;
 

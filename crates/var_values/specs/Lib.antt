@@ -1,3 +1,9 @@
 pub mod Marks
 pub mod Bytes
 pub mod Texts
+pub mod Places
+pub mod Scalars
+pub mod Members
+pub mod Values
+pub mod inner
+pub mod calls

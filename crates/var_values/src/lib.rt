@@ -1,14 +1,28 @@
-//! Values of variables: their bytes, their numbers and their texts.
+//! Values of variables: their bytes, their numbers and their texts by their types.
 #![tactic(auto)]
 
+mod bits;
 mod bytes;
+mod levels;
 mod mark;
+mod members;
 mod numbers;
+mod place;
+mod rows;
+mod scalars;
 mod source;
+mod subranges;
+mod suits;
 mod texts;
+mod values;
+mod word;
 
+pub use bits::Bits;
 pub use bytes::byte_at;
 pub use mark::{Mark, first_mark};
+pub use members::member_at;
 pub use numbers::number_at;
+pub use place::Place;
 pub use source::Source;
 pub use texts::{push_address, push_base, push_enumeration};
+pub use values::push_value;

@@ -5,11 +5,12 @@ ghost use Rattle.dwarf_entries.specs.Standing.{is_child};
 ghost use Rattle.dwarf_entries.specs.Tags.{tag_enumerator};
 ghost use Rattle.var_values.specs.Texts as texts;
 
+use causes::NoMemory;
 use dwarf_entries::names::CONST_VALUE;
 use dwarf_entries::tags::ENUMERATOR;
 use dwarf_entries::{Standing, is_child, name_or_empty, number};
 use dwarf_info::{Entry, Units};
-use pm_text::{NoMemory, Text};
+use pm_text::Text;
 use std::str;
 
 /// Appends an ASCII character.

@@ -3,7 +3,7 @@ use Rattle.std.proofs.Common.{◌≡◌, ℕ, ◌+◌, Bool, List, ◌++◌, len
 use Rattle.std.proofs.lemmas.List.{append-nil}
 use Rattle.wasm_bytes.specs.Place.{Place, Read}
 use Rattle.wasm_bytes.specs.Reading.{◌>>=◌, ◌⊗◌, ◌▷◌, mapped, checked, if_passes, as_one, at_front, done_item, here_item}
-use Rattle.wasm_bytes.specs.Spelling.{◌&◌, pair, leads, image, passing, only, here}
+use Rattle.wasm_bytes.specs.calls.Spelling.{◌&◌, pair, leads, image, passing, only, here}
 use Rattle.wasm_bytes.specs.Laws.{IsBytes, place, got, Took, IsExact}
 use Rattle.wasm_bytes.proofs.Places.{bind_ok, took_as, took_is, took_nothing}
 use Rattle.wasm_leb.proofs.Tools.{chosen}

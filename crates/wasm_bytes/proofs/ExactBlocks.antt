@@ -5,7 +5,7 @@ use Rattle.std.proofs.lemmas.List.{append-nil, nil_from_length, take-append-drop
 use Rattle.std.proofs.Math.Seq.{take-append-add, drop-append_seam}
 use Rattle.wasm_bytes.specs.Place.{Place, Read}
 use Rattle.wasm_bytes.specs.Reading.{◌>>=◌, ◌⊗◌, ◌▷◌, mapped, checked, if_passes, complete, if_complete, u32_item, if_inside, block_of, block_item, end_item, rest_item, closed, within, value_of, whole, fixed_item, named_item, section_item}
-use Rattle.wasm_bytes.specs.Spelling.{◌&◌, pair, always, leads, image, passing, byte, u32, text, name, sized, section}
+use Rattle.wasm_bytes.specs.calls.Spelling.{◌&◌, pair, always, leads, image, passing, byte, u32, text, name, sized, section}
 use Rattle.wasm_bytes.specs.Laws.{IsBytes, place, got, Took, IsExact, IsTail}
 use Rattle.wasm_bytes.proofs.Places.{IsBytes-rest, IsBytes-front, place_is, place_behind, rest_length, got_is, bind_ok, took_is}
 use Rattle.wasm_bytes.proofs.Exact.{first_took, then_exact, mapped_exact}

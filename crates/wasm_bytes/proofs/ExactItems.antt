@@ -13,7 +13,7 @@ use Rattle.wasm_leb.proofs.UnsignedLaws.{unsigned_sound, unsigned_complete}
 use Rattle.wasm_leb.proofs.SignedLaws.{signed_sound, signed_complete}
 use Rattle.wasm_bytes.specs.Place.{Place}
 use Rattle.wasm_bytes.specs.Reading.{number_of, u32_item, u64_item, s32_item, s64_item, byte_of, byte_item, one_of_item, fixed_item, bytes_item, run_item, sized_run_item, name_item, named_item}
-use Rattle.wasm_bytes.specs.Spelling.{always, leads, image, passing, u32, u64, s32, s64, byte, one_of, text, run, sized_run, name}
+use Rattle.wasm_bytes.specs.calls.Spelling.{always, leads, image, passing, u32, u64, s32, s64, byte, one_of, text, run, sized_run, name}
 use Rattle.wasm_bytes.specs.Laws.{IsBytes, place, got, Took, IsExact}
 use Rattle.wasm_bytes.proofs.Places.{IsBytes-rest, place_behind, rest_length, byte_here, got_is, took_is, took_nothing}
 use Rattle.wasm_bytes.proofs.Exact.{first_took, then_took, same_exact, leads_exact, image_exact, checked_exact, as_one_exact}

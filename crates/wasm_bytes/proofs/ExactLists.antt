@@ -4,7 +4,7 @@ use Rattle.std.proofs.lemmas.List.{append-nil}
 use Rattle.std.proofs.lemmas.Bool.{ltb-false}
 use Rattle.wasm_bytes.specs.Place.{Place, Read}
 use Rattle.wasm_bytes.specs.Reading.{◌>>=◌, u32_item, byte_item, picked, choose, items_from, vector_item, until_end, to_end_item, steps_from, steps_until_end, steps_to_end}
-use Rattle.wasm_bytes.specs.Spelling.{leads, byte, tagged, u32, items, vector, steps, some_steps}
+use Rattle.wasm_bytes.specs.calls.Spelling.{leads, byte, tagged, u32, items, vector, steps, some_steps}
 use Rattle.wasm_bytes.specs.Laws.{IsBytes, place, got, Took, IsExact, IsTail, TakesBytes, PicksExact}
 use Rattle.wasm_bytes.proofs.Places.{place_is, bind_ok, took_is, took_nothing}
 use Rattle.wasm_bytes.proofs.Exact.{then_took, first_took, same_exact, leads_exact}

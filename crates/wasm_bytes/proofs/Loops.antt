@@ -6,7 +6,7 @@ use Rattle.wasm_bytes.specs.declared.faults.ItemFault.{ItemFault}
 use Rattle.wasm_bytes.specs.declared.faults.ItemFault.TheVariants as faults
 use Rattle.wasm_bytes.specs.Place.{Place, Read}
 use Rattle.wasm_bytes.specs.Reading.{◌>>=◌, fixed_item, bytes_item, items_from, until_end, steps_from, steps_until_end, steps_while_due}
-use Rattle.wasm_bytes.specs.Answers.{Fails}
+use Rattle.wasm_bytes.specs.calls.Answers.{Fails}
 
 abbrev pub failed : {A : Type 0} → ℕ → Read A
 failed at = Err at

@@ -5,7 +5,7 @@ use Rattle.std.proofs.lemmas.Int.{ints}
 use Rattle.wasm_leb.specs.Reading.{IsWithin}
 use Rattle.wasm_leb.specs.Writing.{unsigned_bytes}
 use Rattle.wasm_leb.proofs.UnsignedBytes.{unsigned_spells}
-use Rattle.wasm_bytes.specs.Spelling.{u32}
+use Rattle.wasm_bytes.specs.calls.Spelling.{u32}
 
 pub u32_spelled : (n at : ℕ) → n < 2 ^ 32 → u32 n at (unsigned_bytes n)
 u32_spelled n at small = unsigned_spells 32 n (lit≤ tt) small

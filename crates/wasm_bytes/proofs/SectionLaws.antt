@@ -5,13 +5,13 @@ use Rattle.std.proofs.lemmas.Bool.{leb-true, le-leb}
 use Rattle.std.proofs.lemmas.List.{take_at, take-append-drop, length-take}
 use Rattle.std.proofs.lemmas.List.Folds.{drop_split}
 use Rattle.std.proofs.Math.Seq.{drop-append_seam}
-use Rattle.wasm_leb.specs.Numbers.{IsUnsigned}
+use Rattle.wasm_leb.specs.calls.Numbers.{IsUnsigned}
 use Rattle.wasm_bytes.specs.declared.sections.SectionFrame.{SectionFrame}
 use Rattle.wasm_bytes.specs.Place.{Place, Read}
 use Rattle.wasm_bytes.specs.Reading.{◌>>=◌, one_of_item, block_item, value_of}
-use Rattle.wasm_bytes.specs.Spelling.{byte, one_of}
+use Rattle.wasm_bytes.specs.calls.Spelling.{byte, one_of}
 use Rattle.wasm_bytes.specs.Laws.{IsBytes, place, got, failed}
-use Rattle.wasm_bytes.specs.Sections.{is_section_id, frame_of, section_frame_item, section_of, IsIdAt, IsSizeAt, IsSectionAt, NoSectionAt}
+use Rattle.wasm_bytes.specs.calls.Sections.{is_section_id, frame_of, section_frame_item, section_of, IsIdAt, IsSizeAt, IsSectionAt, NoSectionAt}
 use Rattle.wasm_bytes.proofs.Places.{IsBytes-rest, byte_here, got_is, bind_ok}
 use Rattle.wasm_bytes.proofs.Exact.{first_took}
 use Rattle.wasm_bytes.proofs.ExactItems.{one_of_exact}

@@ -6,8 +6,8 @@ use Rattle.wasm_leb.specs.declared.LebFault.{LebFault}
 use Rattle.wasm_leb.specs.Reading.{u32_at, s32_at, s64_at}
 use Rattle.wasm_bytes.specs.Place.{Place, Read}
 use Rattle.wasm_bytes.specs.Reading.{◌>>=◌, ◌⊗◌, ◌▷◌, mapped, checked, if_passes, at_front, as_one, done_item, here_item, byte_of, byte_item, one_of_item, fixed_item, bytes_item, number_of, u32_item, s32_item, s64_item, run_item, sized_run_item, name_item, named_item}
-use Rattle.wasm_bytes.specs.Spelling.{always, byte, one_of, u32, s32, s64, run, name}
-use Rattle.wasm_bytes.specs.Stopping.{never, unread, either, behind, then_stops, refused, sized_run_stops, text_stops}
+use Rattle.wasm_bytes.specs.calls.Spelling.{always, byte, one_of, u32, s32, s64, run, name}
+use Rattle.wasm_bytes.specs.calls.Stopping.{never, unread, either, behind, then_stops, refused, sized_run_stops, text_stops}
 use Rattle.wasm_bytes.specs.Laws.{IsBytes, place, got, failed, IsExact, StopsAt, FailsAtFront}
 use Rattle.wasm_bytes.proofs.Places.{IsBytes-rest, bind_err, reading}
 use Rattle.wasm_bytes.proofs.Exact.{as_one_exact}

@@ -2,8 +2,8 @@
 use Rattle.std.proofs.Common.{◌≡◌, ℕ, ◌+◌, ◌-◌, ◌<◌, Bool, eqb, leb, List, [], ◌∷◌, ◌++◌, length, Ok, Err, refl, sym, ap, subst, ◌∙◌, inl, inr, arith, length-append}
 use Rattle.wasm_bytes.specs.Place.{Place, Read}
 use Rattle.wasm_bytes.specs.Reading.{◌>>=◌, ◌⊗◌, mapped, u32_item, if_inside, block_item, end_item, rest_item, complete, if_complete, closed, within, value_of, whole, fixed_item, named_item, section_item}
-use Rattle.wasm_bytes.specs.Spelling.{always, byte}
-use Rattle.wasm_bytes.specs.Stopping.{never, unread, either, incomplete, left_over, closed_stops, no_block, sized_stops, section_stops}
+use Rattle.wasm_bytes.specs.calls.Spelling.{always, byte}
+use Rattle.wasm_bytes.specs.calls.Stopping.{never, unread, either, incomplete, left_over, closed_stops, no_block, sized_stops, section_stops}
 use Rattle.wasm_bytes.specs.Laws.{IsBytes, place, got, failed, IsExact, IsTail, StopsAt, FailsAtFront}
 use Rattle.wasm_bytes.proofs.Places.{IsBytes-rest, IsBytes-front, bind_err, reading}
 use Rattle.wasm_bytes.proofs.ExactItems.{fixed_exact}

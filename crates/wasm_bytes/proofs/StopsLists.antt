@@ -3,8 +3,8 @@ use Rattle.std.proofs.Common.{◌≡◌, ℕ, zero, suc, ◌+◌, ◌≤◌, ◌
 use Rattle.std.proofs.lemmas.Bool.{ltb-true, lt-ltb}
 use Rattle.wasm_bytes.specs.Place.{Place, Read}
 use Rattle.wasm_bytes.specs.Reading.{◌>>=◌, u32_item, byte_item, picked, choose, items_from, vector_item, until_end, to_end_item, steps_from, steps_until_end, steps_to_end}
-use Rattle.wasm_bytes.specs.Spelling.{byte, u32, items, steps}
-use Rattle.wasm_bytes.specs.Stopping.{unread, no_tag, tagged_stops, items_stops, vector_stops, to_end_stops, steps_stops, steps_to_end_stops}
+use Rattle.wasm_bytes.specs.calls.Spelling.{byte, u32, items, steps}
+use Rattle.wasm_bytes.specs.calls.Stopping.{unread, no_tag, tagged_stops, items_stops, vector_stops, to_end_stops, steps_stops, steps_to_end_stops}
 use Rattle.wasm_bytes.specs.Laws.{IsBytes, place, failed, IsExact, StopsAt, TakesBytes, PicksStops}
 use Rattle.wasm_bytes.proofs.Places.{IsBytes-rest}
 use Rattle.wasm_bytes.proofs.ExactItems.{u32_exact, byte_exact}

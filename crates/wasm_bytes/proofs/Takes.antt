@@ -1,7 +1,7 @@
 -- Languages each of whose spellings has a byte.
 use Rattle.std.proofs.Common.{◌≡◌, ℕ, ◌<◌, Bool, ℤ, List, [], ◌∷◌, ◌++◌, length, ap, arith, length-append}
-use Rattle.wasm_leb.specs.Numbers.{IsUnsigned, IsSigned}
-use Rattle.wasm_bytes.specs.Spelling.{pair, leads, always, image, passing, byte, one_of, u32, s32, s64, sized_run, name, sized, section, tagged, vector}
+use Rattle.wasm_leb.specs.calls.Numbers.{IsUnsigned, IsSigned}
+use Rattle.wasm_bytes.specs.calls.Spelling.{pair, leads, always, image, passing, byte, one_of, u32, s32, s64, sized_run, name, sized, section, tagged, vector}
 use Rattle.wasm_bytes.specs.Laws.{TakesBytes}
 
 pub front_takes : (front rest bytes : List ℕ) → bytes ≡ front ++ rest → 0 < length front → 0 < length bytes

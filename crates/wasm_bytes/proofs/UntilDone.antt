@@ -3,8 +3,8 @@ use Rattle.std.proofs.Common.{◌≡◌, ℕ, zero, suc, ◌+◌, ◌<◌, Bool,
 use Rattle.std.proofs.lemmas.List.{append-nil}
 use Rattle.wasm_bytes.specs.Place.{Place, Read}
 use Rattle.wasm_bytes.specs.Reading.{steps_while_due, steps_until_done}
-use Rattle.wasm_bytes.specs.Spelling.{steps, due, steps_to_done}
-use Rattle.wasm_bytes.specs.Stopping.{steps_until_done_stops}
+use Rattle.wasm_bytes.specs.calls.Spelling.{steps, due, steps_to_done}
+use Rattle.wasm_bytes.specs.calls.Stopping.{steps_until_done_stops}
 use Rattle.wasm_bytes.specs.Laws.{IsBytes, place, got, failed, Took, IsExact, StopsAt, TakesBytes}
 use Rattle.wasm_bytes.proofs.Places.{IsBytes-rest, took_is, took_nothing}
 use Rattle.wasm_bytes.proofs.Exact.{first_took, then_took}

@@ -1,9 +1,6 @@
 pub mod Place
 pub mod Reading
-pub mod Answers
-pub mod Spelling
-pub mod Sections
-pub mod Stopping
 pub mod Laws
 pub mod Tables
 pub mod Refusals
+pub mod calls

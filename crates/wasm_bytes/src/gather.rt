@@ -3,7 +3,7 @@
 ghost use Rattle.std.specs.Prelude.{◌≡◌, ◌-◌, Bool, OnOk, length};
 ghost use Rattle.wasm_bytes.specs.Place.{Place, Read, Moves, Stays};
 ghost use Rattle.wasm_bytes.specs.Reading.{steps_from, steps_until_end, steps_to_end, steps_until_done};
-ghost use Rattle.wasm_bytes.specs.Answers.{Gives, with_state};
+ghost use Rattle.wasm_bytes.specs.calls.Answers.{Gives, with_state};
 
 use crate::faults::ItemFault;
 use crate::reader::Reader;

@@ -3,7 +3,7 @@
 ghost use Rattle.std.specs.Prelude.{◌≡◌, ◌-◌, List, OnOk, length};
 ghost use Rattle.wasm_bytes.specs.Place.{Place, Read, Moves, Stays};
 ghost use Rattle.wasm_bytes.specs.Reading.{u32_item, name_item, sized_run_item, items_from, vector_item, until_end, to_end_item, section_item};
-ghost use Rattle.wasm_bytes.specs.Answers.{Gives};
+ghost use Rattle.wasm_bytes.specs.calls.Answers.{Gives};
 
 use crate::faults::ItemFault;
 use crate::reader::Reader;

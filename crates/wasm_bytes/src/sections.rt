@@ -1,8 +1,8 @@
 //! The frames of sections.
 
 ghost use Rattle.std.specs.Prelude.{◌≡◌, ℕ, ◌≤◌, ◌↔◌, length};
-ghost use Rattle.wasm_bytes.specs.Sections.{section_of, IsSectionAt, NoSectionAt};
-ghost use Rattle.wasm_bytes.specs.Answers.{place_of_error};
+ghost use Rattle.wasm_bytes.specs.calls.Sections.{section_of, IsSectionAt, NoSectionAt};
+ghost use Rattle.wasm_bytes.specs.calls.Answers.{place_of_error};
 ghost use Rattle.wasm_bytes.specs.declared.sections.SectionFrame.{SectionFrame};
 
 use crate::faults::Malformed;
@@ -19,7 +19,7 @@ pub struct SectionFrame {
     pub end: usize,
 }
 
-#[tactic(auto, unfolding(crate::specs::Reading::byte_item, crate::specs::Reading::one_of_item, crate::specs::Reading::block_item, crate::specs::Sections::section_frame_item, crate::specs::Sections::section_of))]
+#[tactic(auto, unfolding(crate::specs::Reading::byte_item, crate::specs::Reading::one_of_item, crate::specs::Reading::block_item, crate::specs::calls::Sections::section_frame_item, crate::specs::calls::Sections::section_of))]
 fn frame_at(bytes: &[u8], at: usize) -> Result<SectionFrame, Malformed>
     requires { at ≤ length bytes.now }
     ensures { place_of_error result ≡ section_of bytes.now at }

@@ -10,3 +10,6 @@ pub mod Meanings
 pub mod NameLaws
 pub mod NameSpelled
 pub mod Short
+pub mod Vectors
+pub mod Instructions
+pub mod Header

@@ -16,7 +16,7 @@ use Rattle.wasm_format.proofs.StopsSections.{module_stop, module_stopped}
 use Rattle.wasm_decode.specs.declared.fault.DecodeFault.{DecodeFault}
 use Rattle.wasm_decode.specs.declared.fault.DecodeFault.TheVariants.{Malformed, Float, ImportKind, Limit}
 use Rattle.wasm_decode.specs.Decode.{first_other, module_of, all_locals, first_over, too_much, at_float, at_import, refusal, judged, judged_read, module_from, Answers}
-use Rattle.wasm_decode.specs.Meaning.{IsSpelled, IsModuleOf, BreaksAt, HasFloatAt, HasOtherImport, PassesLimit, Exactly}
+use Rattle.wasm_decode.specs.calls.Meaning.{IsSpelled, IsModuleOf, BreaksAt, HasFloatAt, HasOtherImport, PassesLimit, Exactly}
 use Rattle.wasm_leb.proofs.Tools.{chosen}
 use Rattle.wasm_bytes.specs.Refusals.{◌orelse◌, unless_refused}
 

@@ -10,8 +10,8 @@ use Rattle.causes.specs.declared.NoMemory.{NoMemory}
 use Rattle.wasm_syntax.specs.declared.parts.Custom.{Custom}
 use Rattle.wasm_bytes.specs.Place.{Read}
 use Rattle.wasm_bytes.specs.Reading.{mapped, byte_item, u32_item, name_item, rest_item, vector_item, closed, within, steps_to_end}
-use Rattle.wasm_bytes.specs.Spelling.{image, byte, u32, text, name, sized, vector}
-use Rattle.wasm_bytes.specs.Stopping.{never, unread, sized_stops, vector_stops}
+use Rattle.wasm_bytes.specs.calls.Spelling.{image, byte, u32, text, name, sized, vector}
+use Rattle.wasm_bytes.specs.calls.Stopping.{never, unread, sized_stops, vector_stops}
 use Rattle.wasm_bytes.specs.Laws.{IsBytes, place, IsExact, IsTail, StopsAt, TakesBytes}
 use Rattle.wasm_bytes.proofs.Places.{place_is, IsBytes-rest, IsBytes-front, reading}
 use Rattle.wasm_bytes.proofs.Exact.{image_exact, leads_exact, then_exact}
@@ -24,7 +24,7 @@ use Rattle.wasm_bytes.proofs.StopsLists.{vector_stops_at, steps_to_end_stops_at}
 use Rattle.wasm_bytes.proofs.Takes.{byte_takes, leads_takes}
 use Rattle.wasm_format.proofs.Tests.{on_test_exact, on_test_stops}
 use Rattle.wasm_decode.specs.Names.{Named, firsts, named_item, names_item, counts, subsection_behind, subsection_step, found_names, behind_title, names_in, names_from}
-use Rattle.wasm_decode.specs.NameGrammar.{naming, name_map, subsection_tail, subsection, subsections, naming_stops, name_map_stops, subsection_tail_stops, subsection_stops, subsections_stop, behind_its_title, AreNamesIn, AreNamesOf}
+use Rattle.wasm_decode.specs.calls.NameGrammar.{naming, name_map, subsection_tail, subsection, subsections, naming_stops, name_map_stops, subsection_tail_stops, subsection_stops, subsections_stop, behind_its_title, AreNamesIn, AreNamesOf}
 
 -- ---- names
 

@@ -13,16 +13,16 @@ use Rattle.wasm_syntax.specs.declared.instruction.Op.{Op}
 use Rattle.wasm_syntax.specs.Tree.{Placed, placed, item_of, Tree, WritesOut}
 use Rattle.wasm_syntax.specs.Tree.{code_of as placed_code}
 use Rattle.wasm_syntax.specs.Module.{Ascend, TakeUp}
-use Rattle.wasm_bytes.specs.Spelling.{pair, passing, here, steps, due}
-use Rattle.wasm_instructions.specs.declared.code.Code.{Code}
-use Rattle.wasm_instructions.specs.declared.code.Code.TheVariants.{Known, Float}
-use Rattle.wasm_instructions.specs.Spelled.{Spelled}
-use Rattle.wasm_instructions.specs.Grammar.{instruction}
-use Rattle.wasm_instructions.proofs.Exact.{instruction_takes}
+use Rattle.wasm_bytes.specs.calls.Spelling.{pair, passing, here, steps, due}
+use Rattle.wasm_format.specs.declared.code.Code.{Code}
+use Rattle.wasm_format.specs.declared.code.Code.TheVariants.{Known, Float}
+use Rattle.wasm_format.specs.Spelled.{Spelled}
+use Rattle.wasm_format.specs.calls.InstructionGrammar.{instruction}
+use Rattle.wasm_format.proofs.Exact.{instruction_takes}
 use Rattle.wasm_format.specs.declared.expression.Expression.{Expression}
-use Rattle.wasm_format.specs.Choices.{first_and}
+use Rattle.wasm_format.specs.calls.Choices.{first_and}
 use Rattle.wasm_format.specs.Expressions.{stand_in, code_of, instr_of, may_stand, open_behind, no_code, with_instr, is_closed}
-use Rattle.wasm_format.specs.Grammar.{instr_entry, expression_entries}
+use Rattle.wasm_format.specs.calls.Grammar.{instr_entry, expression_entries}
 use Rattle.wasm_decode.proofs.Targets.{TakesUp, Brings, instruction_brings}
 use Rattle.wasm_decode.proofs.Trees.{Closes, one_closes, closed_tree}
 

@@ -6,14 +6,14 @@ use Rattle.wasm_syntax.specs.declared.parts.ElementSeg.{ElementSeg}
 use Rattle.wasm_syntax.specs.declared.parts.DataSeg.{DataSeg}
 use Rattle.wasm_syntax.specs.Tree.{Tree, Writes}
 use Rattle.wasm_syntax.specs.Module.{InOrder, IsExpression}
-use Rattle.wasm_bytes.specs.Spelling.{pair, u32, sized_run, vector}
+use Rattle.wasm_bytes.specs.calls.Spelling.{pair, u32, sized_run, vector}
 use Rattle.wasm_bytes.specs.Laws.{TakesBytes}
 use Rattle.wasm_bytes.proofs.Takes.{u32_takes, then_takes, image_takes, sized_takes}
 use Rattle.wasm_format.specs.declared.noted.Noted.{Noted}
 use Rattle.wasm_format.specs.declared.expression.Expression.{Expression}
 use Rattle.wasm_format.specs.Expressions.{function_body, code_body}
 use Rattle.wasm_format.specs.Sections.{global_of, element_of, segment_of}
-use Rattle.wasm_format.specs.Grammar.{valtype, mutability, globaltype, expression, code_contents, code, bodies, global_entry, element_entry, segment_entry}
+use Rattle.wasm_format.specs.calls.Grammar.{valtype, mutability, globaltype, expression, code_contents, code, bodies, global_entry, element_entry, segment_entry}
 use Rattle.wasm_decode.proofs.Reached.{GoodCode, entries_good}
 use Rattle.wasm_decode.proofs.SoundForm.{AllFew, IsSound, vector_sound, together_few, together_sound, SoundLocals, locals_sound, valtype_takes}
 

@@ -5,12 +5,12 @@ use Rattle.std.specs.List.{AllByRecursion}
 use Rattle.std.proofs.lemmas.Bool.{eqb-true}
 use Rattle.wasm_syntax.specs.declared.parts.Limits.{Limits}
 use Rattle.wasm_syntax.specs.declared.parts.Custom.{Custom}
-use Rattle.wasm_bytes.specs.Spelling.{image, u32, vector, steps}
+use Rattle.wasm_bytes.specs.calls.Spelling.{image, u32, vector, steps}
 use Rattle.wasm_bytes.proofs.Takes.{u32_takes}
 use Rattle.wasm_format.specs.declared.module.SpelledModule.{SpelledModule}
-use Rattle.wasm_format.specs.Choices.{on_test}
+use Rattle.wasm_format.specs.calls.Choices.{on_test}
 use Rattle.wasm_format.specs.Sections.{with_globals, with_exports, with_start, with_elements, with_bodies, with_segments, with_custom, no_parts, no_sections}
-use Rattle.wasm_format.specs.Grammar.{noted_vector, functype, limits, table, import_entry, export_entry, bodies, global_entry, element_entry, segment_entry, contents, custom_contents, section_entry, module_file}
+use Rattle.wasm_format.specs.calls.Grammar.{noted_vector, functype, limits, table, import_entry, export_entry, bodies, global_entry, element_entry, segment_entry, contents, custom_contents, section_entry, module_file}
 use Rattle.wasm_format.proofs.ExactSections.{section_takes}
 use Rattle.wasm_decode.proofs.SoundForm.{AllFew, vector_sound, noted_vector_sound, SoundName, name_sound, SoundType, functype_takes, functype_sound, limits_takes, table_takes, SoundImport, import_takes, import_sound, export_takes, export_sound}
 use Rattle.wasm_decode.proofs.SoundCode.{SoundBody, SoundConstant, bodies_sound, SoundElement, SoundData, global_takes, global_sound, element_takes, element_sound, segment_takes, segment_sound}

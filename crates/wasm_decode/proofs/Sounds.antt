@@ -32,7 +32,7 @@ use Rattle.wasm_decode.proofs.SoundSections.{Sound, module_sound}
 use Rattle.wasm_decode.specs.declared.fault.DecodeFault.{DecodeFault}
 use Rattle.wasm_decode.specs.declared.fault.DecodeFault.TheVariants.{Limit}
 use Rattle.wasm_decode.specs.Decode.{functions_of, module_of, all_locals, first_over, too_much}
-use Rattle.wasm_decode.specs.Meaning.{IsModuleOf, Exactly}
+use Rattle.wasm_decode.specs.calls.Meaning.{IsModuleOf, Exactly}
 use Rattle.wasm_decode.specs.inner.Fit.{FewLocals, Fit}
 use Rattle.pm_text.proofs.Lists.{get_behind}
 use Rattle.std.proofs.lemmas.List.{length-map}

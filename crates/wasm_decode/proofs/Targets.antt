@@ -6,14 +6,14 @@ use Rattle.wasm_syntax.specs.declared.value.ValType.TheVariants.{I32, I64}
 use Rattle.wasm_syntax.specs.declared.instruction.Jump.TheVariants as jumps
 use Rattle.wasm_syntax.specs.declared.instruction.Instr.{Instr}
 use Rattle.wasm_syntax.specs.declared.instruction.Instr.TheVariants as instr
-use Rattle.wasm_bytes.specs.Spelling.{items, vector, u32}
+use Rattle.wasm_bytes.specs.calls.Spelling.{items, vector, u32}
 use Rattle.wasm_bytes.proofs.Takes.{u32_takes}
-use Rattle.wasm_instructions.specs.declared.code.Code.{Code}
-use Rattle.wasm_instructions.specs.declared.code.Code.TheVariants.{Known, Float}
-use Rattle.wasm_instructions.specs.Spelled.{Spelled}
-use Rattle.wasm_instructions.specs.Form.{Form, bare, indexed, access, typed, labels, indirect, reserved, constant_i32, constant_i64, bulk, float_bare, float_access, float_constant, br_table, block}
-use Rattle.wasm_instructions.specs.Table.{Rows, control, parametric, variable, load_rows, store_rows, sizes_and_constants, numeric_forms, numeric, rows_near, form_of}
-use Rattle.wasm_instructions.specs.Grammar.{immediates, behind_opcode, instruction}
+use Rattle.wasm_format.specs.declared.code.Code.{Code}
+use Rattle.wasm_format.specs.declared.code.Code.TheVariants.{Known, Float}
+use Rattle.wasm_format.specs.Spelled.{Spelled}
+use Rattle.wasm_format.specs.InstructionForm.{Form, bare, indexed, access, typed, labels, indirect, reserved, constant_i32, constant_i64, bulk, float_bare, float_access, float_constant, br_table, block}
+use Rattle.wasm_format.specs.Table.{Rows, control, parametric, variable, load_rows, store_rows, sizes_and_constants, numeric_forms, numeric, rows_near, form_of}
+use Rattle.wasm_format.specs.calls.InstructionGrammar.{immediates, behind_opcode, instruction}
 use Rattle.std.proofs.lemmas.Bool.{and_parts}
 use Rattle.wasm_bytes.specs.Tables.{lookup, rows_from}
 

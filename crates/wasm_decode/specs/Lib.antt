@@ -1,5 +1,4 @@
 pub mod Decode
-pub mod Meaning
 pub mod Names
-pub mod NameGrammar
 pub mod inner
+pub mod calls

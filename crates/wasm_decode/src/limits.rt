@@ -8,7 +8,8 @@ ghost use Rattle.wasm_decode.specs.Decode.{all_locals, first_over, too_much};
 ghost use Rattle.wasm_decode.specs.inner.Fit.{FewLocals};
 
 use crate::fault::DecodeFault;
-use wasm_syntax::{Body, FuncTypes, Instr, Items, Limits, LocalGroup, ModuleParts, Ops, Quantity};
+use pm_text::Items;
+use wasm_syntax::{Body, FuncTypes, Instr, Limits, LocalGroup, ModuleParts, Ops, Quantity};
 
 /// What is counted against a limit.
 trait Counted {

@@ -6,17 +6,17 @@ ghost use Rattle.wasm_syntax.specs.declared.module.ModuleParts.{ModuleParts as P
 ghost use Rattle.wasm_syntax.specs.Sizes.{WithinLimits};
 ghost use Rattle.wasm_decode.specs.declared.fault.DecodeFault.TheVariants.{Malformed, Float, ImportKind, Limit};
 ghost use Rattle.wasm_decode.specs.Decode.{functions_of, first_other, judged, module_from, Answers};
-ghost use Rattle.wasm_decode.specs.Meaning.{Exactly, IsModuleOf, BreaksAt, HasFloatAt, HasOtherImport, PassesLimit};
+ghost use Rattle.wasm_decode.specs.calls.Meaning.{Exactly, IsModuleOf, BreaksAt, HasFloatAt, HasOtherImport, PassesLimit};
 ghost use Rattle.wasm_decode.specs.inner.Fit.{Fit};
 
 use crate::fault::DecodeFault;
 use crate::limits::too_much;
+use crate::spelled;
 use causes::NoMemory;
 use pm_text::Items;
 use std::alloc::Global;
 use wasm_bytes::ItemFault;
 use wasm_format::{Imported, SpelledModule};
-use wasm_sections::spelled;
 use wasm_syntax::{Imports, Module, ModuleParts, Quantity};
 
 /// The index of the first import that is no function.

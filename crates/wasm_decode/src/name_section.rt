@@ -4,17 +4,17 @@ ghost use Rattle.std.specs.Prelude.{◌≡◌, ◌<◌, ◌^◌, List, [], lengt
 ghost use Rattle.std.specs.Option.{option_copied};
 ghost use Rattle.wasm_bytes.specs.Place.{Moves, Stays};
 ghost use Rattle.wasm_bytes.specs.Reading.{steps_to_end};
-ghost use Rattle.wasm_bytes.specs.Answers.{Gives, with_state};
-ghost use Rattle.wasm_decode.specs.NameGrammar.{AreNamesOf};
+ghost use Rattle.wasm_bytes.specs.calls.Answers.{Gives, with_state};
+ghost use Rattle.wasm_decode.specs.calls.NameGrammar.{AreNamesOf};
 ghost use Rattle.wasm_decode.specs.Names.{Named, name_of, with_name, names_from, name_step, name_steps, names_item, subsection_step, names_in};
 
+use crate::{Collect, Input, collect_count};
 use causes::NoMemory;
 use indexmap::IndexMap;
 use pm_text::Text;
 use std::alloc::Global;
 use std::marker::Model;
 use wasm_bytes::ItemFault;
-use wasm_sections::{Collect, Input, collect_count};
 use wasm_syntax::{Custom, Module};
 
 /// Names by the indices of functions, which contracts see as pairs in the order of their first

@@ -8,7 +8,7 @@ use Rattle.wasm_syntax.specs.Module.{AllWrite, InOrder}
 use Rattle.wasm_syntax.specs.Sizes.{ShortBody, WithinLimits}
 use Rattle.wasm_syntax.specs.Tree.{Tree}
 use Rattle.wasm_encode.specs.Encoding.{vector_bytes, vector_section, start_section, function_type_bytes, import_bytes, table_bytes, limits_bytes, global_bytes, export_bytes, element_bytes, function_bytes, entry_bytes, segment_bytes, declarations, front_sections, encoding}
-use Rattle.wasm_encode.specs.Fits.{FitsBody}
+use Rattle.wasm_encode.specs.calls.Fits.{FitsBody}
 use Rattle.wasm_encode.proofs.SpelledEntries.{CanEnter}
 use Rattle.wasm_bytes.specs.Tables.{header}
 

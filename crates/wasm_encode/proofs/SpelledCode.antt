@@ -13,19 +13,19 @@ use Rattle.wasm_syntax.specs.declared.parts.LocalGroup.{LocalGroup}
 use Rattle.wasm_syntax.specs.Module.{TakeUp, InOrder, IsExpression}
 use Rattle.wasm_syntax.specs.SameCode.{op_code, body_code}
 use Rattle.wasm_syntax.specs.Tree.{Tree, Writes}
-use Rattle.wasm_bytes.specs.Spelling.{Spellings, pair, passing, here, steps, due}
-use Rattle.wasm_instructions.specs.Spelled.{Spelled}
-use Rattle.wasm_instructions.specs.Grammar.{instruction}
-use Rattle.wasm_instructions.specs.Encoding.{encoding, IsInside, IsCode, targets_of, BeginsAt, spelled_of}
-use Rattle.wasm_instructions.proofs.Encoded.{encoding_spells}
+use Rattle.wasm_bytes.specs.calls.Spelling.{Spellings, pair, passing, here, steps, due}
+use Rattle.wasm_format.specs.Spelled.{Spelled}
+use Rattle.wasm_format.specs.calls.InstructionGrammar.{instruction}
+use Rattle.wasm_format.specs.Encoding.{encoding, IsInside, IsCode, targets_of, BeginsAt, spelled_of}
+use Rattle.wasm_format.proofs.Encoded.{encoding_spells}
 use Rattle.wasm_format.specs.declared.noted.Noted.{Noted}
 use Rattle.wasm_format.specs.declared.expression.Expression.{Expression}
-use Rattle.wasm_format.specs.Choices.{first_and}
+use Rattle.wasm_format.specs.calls.Choices.{first_and}
 use Rattle.wasm_format.specs.Notes.{plain}
 use Rattle.wasm_format.specs.Expressions.{may_stand, instr_of, no_code, with_instr, is_closed, code_body}
-use Rattle.wasm_format.specs.Grammar.{instr_entry, expression_entries, expression}
+use Rattle.wasm_format.specs.calls.Grammar.{instr_entry, expression_entries, expression}
 use Rattle.wasm_encode.specs.Encoding.{expression_bytes}
-use Rattle.wasm_encode.specs.Fits.{FitsExpression}
+use Rattle.wasm_encode.specs.calls.Fits.{FitsExpression}
 use Rattle.wasm_encode.proofs.Targets.{behind, taken}
 use Rattle.wasm_encode.proofs.Closing.{Ends, expression_ends}
 

@@ -9,12 +9,12 @@ use Rattle.wasm_syntax.specs.Module.{InOrder, IsExpression}
 use Rattle.wasm_syntax.specs.Sizes.{ShortBody, ShortElement, ShortData}
 use Rattle.wasm_syntax.specs.SameCode.{body_code, global_code, element_code, segment_code}
 use Rattle.wasm_syntax.specs.Tree.{Tree, Writes}
-use Rattle.wasm_bytes.specs.Spelling.{u32}
+use Rattle.wasm_bytes.specs.calls.Spelling.{u32}
 use Rattle.wasm_format.specs.Notes.{plain}
 use Rattle.wasm_format.specs.Expressions.{code_body}
-use Rattle.wasm_format.specs.Grammar.{code_contents, code, global_entry, element_entry, segment_entry}
+use Rattle.wasm_format.specs.calls.Grammar.{code_contents, code, global_entry, element_entry, segment_entry}
 use Rattle.wasm_encode.specs.Encoding.{vector_bytes, sized_bytes, type_byte, value_type_bytes, mutability_byte, expression_bytes, global_bytes, element_bytes, group_bytes, function_bytes, entry_bytes, segment_bytes}
-use Rattle.wasm_encode.specs.Fits.{Fits32, FitsBody, FitsExpression, FitsElement, FitsSegment}
+use Rattle.wasm_encode.specs.calls.Fits.{Fits32, FitsBody, FitsExpression, FitsElement, FitsSegment}
 use Rattle.wasm_encode.proofs.Spellings.{sized_spelled, run_spelled, vector_spelled}
 use Rattle.wasm_encode.proofs.SpelledTypes.{valtype_spelled, mutability_spelled, locals_spelled}
 use Rattle.wasm_encode.proofs.SpelledCode.{entries_spelled, expression_spelled, same_body, no_note, SpelledAlike}

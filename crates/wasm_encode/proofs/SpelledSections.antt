@@ -5,11 +5,11 @@ use Rattle.std.proofs.lemmas.Bool.{lt-ltb}
 use Rattle.wasm_leb.specs.Writing.{unsigned_bytes}
 use Rattle.wasm_syntax.specs.declared.module.ModuleParts.{ModuleParts}
 use Rattle.wasm_syntax.specs.SameCode.{code_alone}
-use Rattle.wasm_bytes.specs.Spelling.{sized, steps, some_steps}
+use Rattle.wasm_bytes.specs.calls.Spelling.{sized, steps, some_steps}
 use Rattle.wasm_format.specs.declared.module.Imported.{Imported}
 use Rattle.wasm_format.specs.declared.module.SpelledModule.{SpelledModule}
 use Rattle.wasm_format.specs.Sections.{may_follow, measured}
-use Rattle.wasm_format.specs.Grammar.{contents, section_tail, section_entry}
+use Rattle.wasm_format.specs.calls.Grammar.{contents, section_tail, section_entry}
 use Rattle.wasm_encode.specs.Encoding.{sized_bytes, section_bytes, vector_bytes, vector_section}
 use Rattle.wasm_encode.proofs.Spellings.{sized_spelled}
 use Rattle.wasm_encode.proofs.SpelledTypes.{tagged_spelled}

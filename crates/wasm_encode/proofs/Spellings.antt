@@ -4,7 +4,7 @@ use Rattle.std.specs.List.{flat_map, AllByRecursion}
 use Rattle.std.specs.Str.{IsUtf8}
 use Rattle.std.proofs.lemmas.List.{length-map, map-id}
 use Rattle.wasm_leb.specs.Writing.{unsigned_bytes}
-use Rattle.wasm_bytes.specs.Spelling.{Spellings, ◌&◌, u32, sized_run, name, sized, items, vector}
+use Rattle.wasm_bytes.specs.calls.Spelling.{Spellings, ◌&◌, u32, sized_run, name, sized, items, vector}
 use Rattle.wasm_encode.specs.Encoding.{vector_bytes, sized_bytes}
 use Rattle.wasm_bytes.proofs.Numbers.{u32_spelled}
 

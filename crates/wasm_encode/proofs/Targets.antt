@@ -7,7 +7,7 @@ use Rattle.wasm_syntax.specs.declared.instruction.Jump.TheVariants as jumps
 use Rattle.wasm_syntax.specs.declared.instruction.Op.{Op}
 use Rattle.wasm_syntax.specs.declared.parts.Body.{Body}
 use Rattle.wasm_syntax.specs.Module.{TakeUp, InOrder}
-use Rattle.wasm_instructions.specs.Encoding.{IsInside}
+use Rattle.wasm_format.specs.Encoding.{IsInside}
 
 -- the targets behind an instruction
 abbrev pub behind : ℕ → Instr → ℕ

@@ -15,16 +15,16 @@ use Rattle.wasm_syntax.specs.declared.module.ModuleParts.{ModuleParts}
 use Rattle.wasm_syntax.specs.Module.{IsModule, IsExpression}
 use Rattle.wasm_syntax.specs.Sizes.{Short, ShortType, ShortElement, ShortData, WithinLimits}
 use Rattle.wasm_syntax.specs.SameCode.{body_code, global_code, element_code, segment_code, code_alone}
-use Rattle.wasm_bytes.specs.Spelling.{u32}
+use Rattle.wasm_bytes.specs.calls.Spelling.{u32}
 use Rattle.wasm_format.specs.declared.module.Imported.{Imported}
 use Rattle.wasm_format.specs.declared.module.Imported.TheVariants.{Function}
 use Rattle.wasm_format.specs.declared.module.SpelledModule.{SpelledModule}
 use Rattle.wasm_format.specs.Notes.{plain}
 use Rattle.wasm_format.specs.Sections.{with_parts, with_plain, with_types, with_imports, with_functions, with_tables, with_memories, with_globals, with_exports, with_start, with_elements, with_bodies, with_segments, no_parts, no_sections}
-use Rattle.wasm_format.specs.Grammar.{functype, import_entry, table, limits, global_entry, export_entry, element_entry, code, segment_entry}
+use Rattle.wasm_format.specs.calls.Grammar.{functype, import_entry, table, limits, global_entry, export_entry, element_entry, code, segment_entry}
 use Rattle.wasm_encode.specs.Encoding.{vector_bytes, vector_section, start_section, function_type_bytes, import_bytes, table_bytes, limits_bytes, global_bytes, export_bytes, element_bytes, entry_bytes, segment_bytes, declarations, front_sections, encoding}
-use Rattle.wasm_encode.specs.Fits.{Fits32, FitsLimits, FitsExpression, FitsElement, FitsSegment, FitsModule}
-use Rattle.wasm_encode.specs.SameModule.{SpellsSame}
+use Rattle.wasm_encode.specs.calls.Fits.{Fits32, FitsLimits, FitsExpression, FitsElement, FitsSegment, FitsModule}
+use Rattle.wasm_encode.specs.calls.SameModule.{SpellsSame}
 use Rattle.wasm_encode.proofs.Spellings.{vector_spelled, wrapped_vector, vector_alike, same_length}
 use Rattle.wasm_encode.proofs.SpelledTypes.{functype_spelled, limits_spelled, table_spelled, import_spelled, export_spelled, plain_items, together_plain, together_wrapped}
 use Rattle.wasm_encode.proofs.SpelledEntries.{global_spelled, element_spelled, segment_spelled, CanEnter, code_spelled, neither}

@@ -16,7 +16,7 @@ use Rattle.wasm_syntax.specs.declared.parts.Import.{Import}
 use Rattle.wasm_syntax.specs.declared.parts.Limits.{Limits}
 use Rattle.wasm_syntax.specs.declared.parts.LocalGroup.{LocalGroup}
 use Rattle.wasm_syntax.specs.declared.module.ModuleParts.{ModuleParts}
-use Rattle.wasm_instructions.specs.Encoding.{encoding as instruction_bytes}
+use Rattle.wasm_format.specs.Encoding.{encoding as instruction_bytes}
 use Rattle.wasm_bytes.specs.Tables.{header}
 
 -- ---- vectors, sizes and names

@@ -1,3 +1,2 @@
 pub mod Encoding
-pub mod Fits
-pub mod SameModule
+pub mod calls

@@ -3,10 +3,10 @@
 ghost use Rattle.std.specs.Prelude.{◌≡◌, ◌++◌, OnOk};
 ghost use Rattle.wasm_syntax.specs.Module.{InOrder};
 ghost use Rattle.wasm_encode.specs.Encoding.{expression_bytes};
-ghost use Rattle.wasm_encode.specs.Fits.{FitsExpression};
+ghost use Rattle.wasm_encode.specs.calls.Fits.{FitsExpression};
 
 use causes::NoMemory;
-use wasm_instructions::write_instr;
+use wasm_format::write_instr;
 use wasm_syntax::Body;
 
 /// Appends the instructions of a body, with its last `end` (Core 5.4.6).

@@ -4,7 +4,7 @@ ghost use Rattle.std.specs.Prelude.{◌≡◌, ◌++◌, ℕ, List, OnOk, length
 ghost use Rattle.std.specs.List.{AllByRecursion};
 ghost use Rattle.wasm_leb.specs.Writing.{unsigned_bytes};
 ghost use Rattle.wasm_encode.specs.Encoding.{vector_bytes, sized_bytes};
-ghost use Rattle.wasm_encode.specs.Fits.{Fits32};
+ghost use Rattle.wasm_encode.specs.calls.Fits.{Fits32};
 
 use causes::NoMemory;
 use std::alloc::Global;

@@ -8,5 +8,4 @@ mod item;
 mod module;
 mod sections;
 
-pub use causes::NoMemory;
 pub use module::encode;

@@ -4,8 +4,8 @@ ghost use Rattle.std.specs.Prelude.{◌≡◌, ◌++◌, ◌≤◌, length, OnOk
 ghost use Rattle.wasm_syntax.specs.Module.{IsModule};
 ghost use Rattle.wasm_syntax.specs.Sizes.{WithinLimits};
 ghost use Rattle.wasm_encode.specs.Encoding.{encoding, declarations, front_sections};
-ghost use Rattle.wasm_encode.specs.Fits.{FitsDeclarations, FitsFront, FitsModule};
-ghost use Rattle.wasm_encode.specs.SameModule.{SpellsSame};
+ghost use Rattle.wasm_encode.specs.calls.Fits.{FitsDeclarations, FitsFront, FitsModule};
+ghost use Rattle.wasm_encode.specs.calls.SameModule.{SpellsSame};
 
 use crate::sections::{write_start_section, write_table_section, write_vector_section};
 use causes::NoMemory;

@@ -3,7 +3,7 @@
 ghost use Rattle.std.specs.Prelude.{◌≡◌, ◌++◌, OnOk, IfSome};
 ghost use Rattle.std.specs.List.{AllByRecursion};
 ghost use Rattle.wasm_encode.specs.Encoding.{vector_bytes, section_bytes, vector_section, start_section, table_bytes};
-ghost use Rattle.wasm_encode.specs.Fits.{Fits32, FitsLimits};
+ghost use Rattle.wasm_encode.specs.calls.Fits.{Fits32, FitsLimits};
 
 use crate::item::{Item, write_len, write_sized, write_vector};
 use causes::NoMemory;

@@ -4,7 +4,7 @@ use Rattle.std.specs.Prelude.{◌==◌}
 use Rattle.std.proofs.lemmas.Bool.{eqb-true}
 use Rattle.wasm_bytes.specs.Place.{Place, Read}
 use Rattle.wasm_bytes.specs.Reading.{◌▷◌, mapped, checked, here_item, u32_item, items_from}
-use Rattle.wasm_bytes.specs.Spelling.{pair, leads, image, passing, here, u32, vector}
+use Rattle.wasm_bytes.specs.calls.Spelling.{pair, leads, image, passing, here, u32, vector}
 use Rattle.wasm_bytes.specs.Laws.{IsExact, TakesBytes}
 use Rattle.wasm_bytes.proofs.Exact.{then_exact, image_exact, same_exact, checked_exact, leads_exact, here_exact}
 use Rattle.wasm_bytes.proofs.ExactItems.{u32_exact}
@@ -12,17 +12,17 @@ use Rattle.wasm_bytes.proofs.ExactBlocks.{closed_exact, within_exact}
 use Rattle.wasm_bytes.proofs.ExactLists.{counted, items_exact}
 use Rattle.wasm_bytes.proofs.UntilDone.{until_done_exact}
 use Rattle.wasm_bytes.proofs.Takes.{image_takes, passing_takes, then_takes}
-use Rattle.wasm_instructions.specs.Reading.{instruction_item}
-use Rattle.wasm_instructions.specs.Grammar.{instruction}
-use Rattle.wasm_instructions.proofs.Exact.{instruction_exact, instruction_takes}
+use Rattle.wasm_format.specs.Reading.{instruction_item}
+use Rattle.wasm_format.specs.calls.InstructionGrammar.{instruction}
+use Rattle.wasm_format.proofs.Exact.{instruction_exact, instruction_takes}
 use Rattle.wasm_format.specs.declared.noted.Noted.{Noted}
 use Rattle.wasm_format.specs.declared.expression.Expression.{Expression}
-use Rattle.wasm_format.specs.Choices.{first_and}
+use Rattle.wasm_format.specs.calls.Choices.{first_and}
 use Rattle.wasm_format.specs.Notes.{together}
 use Rattle.wasm_format.specs.Form.{locals_item}
 use Rattle.wasm_format.specs.Expressions.{with_first, may_stand, instr_of, no_code, with_instr, instr_step, is_closed, expression_from, constant_body, expression_item, function_body, code_from, code_item}
 use Rattle.wasm_format.specs.Sections.{due_vector_item, bodies_item}
-use Rattle.wasm_format.specs.Grammar.{instr_entry, expression_entries, expression, locals, code_contents, code, bodies}
+use Rattle.wasm_format.specs.calls.Grammar.{instr_entry, expression_entries, expression, locals, code_contents, code, bodies}
 use Rattle.wasm_format.proofs.Tests.{first_exact, first_takes, second_takes}
 use Rattle.wasm_format.proofs.ExactForm.{locals_exact}
 use Rattle.wasm_bytes.proofs.Offsets.{offset_exact}

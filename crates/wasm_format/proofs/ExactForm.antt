@@ -3,7 +3,7 @@ use Rattle.std.proofs.Common.{ℕ, List, refl}
 use Rattle.std.specs.Prelude.{◌==◌}
 use Rattle.wasm_bytes.specs.Place.{Place, Read}
 use Rattle.wasm_bytes.specs.Reading.{◌⊗◌, mapped, checked, choose, fixed_item, one_of_item, u32_item, name_item, vector_item, steps_from}
-use Rattle.wasm_bytes.specs.Spelling.{pair, always, image, passing, byte, one_of, u32, name, vector, tagged, steps}
+use Rattle.wasm_bytes.specs.calls.Spelling.{pair, always, image, passing, byte, one_of, u32, name, vector, tagged, steps}
 use Rattle.wasm_bytes.specs.Laws.{IsExact, PicksExact}
 use Rattle.wasm_bytes.proofs.Exact.{then_exact, mapped_exact, image_exact, checked_exact, leads_exact}
 use Rattle.wasm_bytes.proofs.ExactItems.{u32_exact, one_of_exact, fixed_exact, name_exact}
@@ -12,7 +12,7 @@ use Rattle.wasm_format.specs.declared.noted.Noted.{Noted}
 use Rattle.wasm_format.specs.declared.expression.Locals.{Locals}
 use Rattle.wasm_format.specs.Notes.{together, noted_vector_item}
 use Rattle.wasm_format.specs.Form.{is_valtype, valtype_of, valtype_item, functype_of, functype_item, least, bounded, limits_behind, limits_item, table_item, is_mutability, is_variable, mutability_item, globaltype_item, function_import, table_import, memory_import, global_import, import_behind, import_item, is_export_kind, export_kind_of, export_kind_item, export_of, export_item, no_locals, is_room, with_group, group_step, locals_item}
-use Rattle.wasm_format.specs.Grammar.{valtype, noted_vector, functype, limits_tail, limits, table, mutability, globaltype, import_tail, import_entry, export_kind, export_entry, group_entry, locals}
+use Rattle.wasm_format.specs.calls.Grammar.{valtype, noted_vector, functype, limits_tail, limits, table, mutability, globaltype, import_tail, import_entry, export_kind, export_entry, group_entry, locals}
 use Rattle.wasm_format.proofs.Tests.{on_test_picks, no_spelling_picks}
 use Rattle.wasm_bytes.proofs.Offsets.{offset_exact}
 

@@ -2,7 +2,7 @@
 use Rattle.std.proofs.Common.{◌≡◌, ℕ, List, length, Ok, refl}
 use Rattle.std.specs.Prelude.{◌==◌}
 use Rattle.wasm_bytes.specs.Reading.{◌⊗◌, choose, bytes_item, u32_item, name_item, sized_run_item, here_item, rest_item, vector_item, within, closed, steps_to_end, whole}
-use Rattle.wasm_bytes.specs.Spelling.{pair, always, here, text, u32, sized_run, name, sized, vector, tagged, some_steps}
+use Rattle.wasm_bytes.specs.calls.Spelling.{pair, always, here, text, u32, sized_run, name, sized, vector, tagged, some_steps}
 use Rattle.wasm_bytes.specs.Laws.{IsBytes, IsExact, IsTail, PicksExact, TakesBytes}
 use Rattle.wasm_bytes.proofs.Exact.{then_exact, image_exact, here_exact}
 use Rattle.wasm_bytes.proofs.ExactItems.{u32_exact, sized_run_exact, name_exact, text_exact}
@@ -13,7 +13,7 @@ use Rattle.wasm_format.specs.declared.module.SpelledModule.{SpelledModule}
 use Rattle.wasm_format.specs.Form.{functype_item, limits_item, table_item, globaltype_item, import_item, export_item}
 use Rattle.wasm_format.specs.Expressions.{expression_item}
 use Rattle.wasm_format.specs.Sections.{global_of, global_item, element_of, element_item, segment_of, segment_item, with_types, with_imports, with_functions, with_tables, with_memories, with_globals, with_exports, with_start, with_elements, with_bodies, with_segments, contents_item, with_custom, custom_item, may_follow, measured, section_behind, section_step, no_sections, sections_item, has_bodies, module_item}
-use Rattle.wasm_format.specs.Grammar.{noted_vector, functype, limits, table, globaltype, import_entry, export_entry, expression, bodies, global_entry, element_entry, segment_entry, contents, custom_contents, section_tail, section_entry, sections, module_file}
+use Rattle.wasm_format.specs.calls.Grammar.{noted_vector, functype, limits, table, globaltype, import_entry, export_entry, expression, bodies, global_entry, element_entry, segment_entry, contents, custom_contents, section_tail, section_entry, sections, module_file}
 use Rattle.wasm_format.proofs.Tests.{on_test_exact, on_test_picks, no_spelling_picks}
 use Rattle.wasm_format.proofs.ExactForm.{noted_vector_exact, functype_exact, limits_exact, table_exact, globaltype_exact, import_exact, export_exact}
 use Rattle.wasm_format.proofs.ExactExpressions.{expression_exact, bodies_exact}

@@ -5,3 +5,11 @@ pub mod ExactSections
 pub mod StopsForm
 pub mod StopsExpressions
 pub mod StopsSections
+pub mod Numbers
+pub mod Exact
+pub mod Stops
+pub mod Codes
+pub mod Encoded
+pub mod Meanings
+pub mod Shortest
+pub mod Written

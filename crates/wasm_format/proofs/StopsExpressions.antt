@@ -2,8 +2,8 @@
 use Rattle.std.proofs.Common.{ℕ, length}
 use Rattle.std.specs.Prelude.{◌==◌, get_or}
 use Rattle.wasm_bytes.specs.Reading.{◌⊗◌, ◌▷◌, mapped, checked, here_item, u32_item, items_from}
-use Rattle.wasm_bytes.specs.Spelling.{passing, u32}
-use Rattle.wasm_bytes.specs.Stopping.{unread, items_stops}
+use Rattle.wasm_bytes.specs.calls.Spelling.{passing, u32}
+use Rattle.wasm_bytes.specs.calls.Stopping.{unread, items_stops}
 use Rattle.wasm_bytes.specs.Laws.{StopsAt}
 use Rattle.wasm_bytes.proofs.Exact.{checked_exact}
 use Rattle.wasm_bytes.proofs.ExactItems.{u32_exact}
@@ -11,18 +11,18 @@ use Rattle.wasm_bytes.proofs.Stops.{unread_stops_at, u32_front, checked_front, m
 use Rattle.wasm_bytes.proofs.StopsBlocks.{closed_stops_at, within_stops_at}
 use Rattle.wasm_bytes.proofs.StopsLists.{items_stops_at}
 use Rattle.wasm_bytes.proofs.UntilDone.{until_done_stops_at}
-use Rattle.wasm_instructions.specs.Reading.{instruction_item}
-use Rattle.wasm_instructions.specs.Grammar.{instruction}
-use Rattle.wasm_instructions.specs.Breaking.{instruction_stops}
-use Rattle.wasm_instructions.proofs.Stops.{instruction_stops_at}
+use Rattle.wasm_format.specs.Reading.{instruction_item}
+use Rattle.wasm_format.specs.calls.InstructionGrammar.{instruction}
+use Rattle.wasm_format.specs.calls.InstructionBreaking.{instruction_stops}
+use Rattle.wasm_format.proofs.Stops.{instruction_stops_at}
 use Rattle.wasm_format.specs.declared.expression.Expression.{Expression}
-use Rattle.wasm_format.specs.Choices.{first_and}
+use Rattle.wasm_format.specs.calls.Choices.{first_and}
 use Rattle.wasm_format.specs.Notes.{together}
 use Rattle.wasm_format.specs.Form.{locals_item}
 use Rattle.wasm_format.specs.Expressions.{with_first, may_stand, instr_of, no_code, with_instr, instr_step, is_closed, expression_from, constant_body, expression_item, function_body, code_from, code_item}
 use Rattle.wasm_format.specs.Sections.{due_vector_item, bodies_item}
-use Rattle.wasm_format.specs.Grammar.{instr_entry, locals, code_contents, code}
-use Rattle.wasm_format.specs.Breaking.{instr_stops, expression_stops_from, expression_stops, locals_stops, code_contents_stops, code_stops, bodies_stops}
+use Rattle.wasm_format.specs.calls.Grammar.{instr_entry, locals, code_contents, code}
+use Rattle.wasm_format.specs.calls.Breaking.{instr_stops, expression_stops_from, expression_stops, locals_stops, code_contents_stops, code_stops, bodies_stops}
 use Rattle.wasm_format.proofs.Tests.{offset_stops, total_stops_at}
 use Rattle.wasm_format.proofs.ExactForm.{locals_exact}
 use Rattle.wasm_format.proofs.ExactExpressions.{first_instruction_exact, instr_exact, instr_takes, code_contents_exact, code_exact}

@@ -2,8 +2,8 @@
 use Rattle.std.proofs.Common.{◌≡◌, ℕ, List, length, Err}
 use Rattle.std.specs.Prelude.{◌==◌, drop}
 use Rattle.wasm_bytes.specs.Reading.{◌⊗◌, choose, bytes_item, u32_item, name_item, sized_run_item, here_item, rest_item, vector_item, within, closed, steps_to_end, whole}
-use Rattle.wasm_bytes.specs.Spelling.{always, text, u32, name}
-use Rattle.wasm_bytes.specs.Stopping.{unread, sized_stops}
+use Rattle.wasm_bytes.specs.calls.Spelling.{always, text, u32, name}
+use Rattle.wasm_bytes.specs.calls.Stopping.{unread, sized_stops}
 use Rattle.wasm_bytes.specs.Laws.{IsBytes, StopsAt, PicksStops}
 use Rattle.wasm_bytes.proofs.ExactItems.{u32_exact, text_exact}
 use Rattle.wasm_bytes.proofs.Stops.{u32_stops_at, name_stops_at, mapped_stops_at, then_stops_at, text_stops_at, sized_run_stops_at}
@@ -13,8 +13,8 @@ use Rattle.wasm_format.specs.declared.module.SpelledModule.{SpelledModule}
 use Rattle.wasm_format.specs.Form.{functype_item, limits_item, table_item, globaltype_item, import_item, export_item}
 use Rattle.wasm_format.specs.Expressions.{expression_item}
 use Rattle.wasm_format.specs.Sections.{global_of, global_item, element_of, element_item, segment_of, segment_item, with_types, with_imports, with_functions, with_tables, with_memories, with_globals, with_exports, with_start, with_elements, with_bodies, with_segments, contents_item, with_custom, custom_item, may_follow, measured, section_behind, section_step, no_sections, sections_item, has_bodies, module_item}
-use Rattle.wasm_format.specs.Grammar.{functype, limits, table, globaltype, import_entry, export_entry, expression, global_entry, element_entry, segment_entry, contents, custom_contents, section_entry, sections, module_file}
-use Rattle.wasm_format.specs.Breaking.{functype_stops, limits_stops, table_stops, import_stops, export_stops, global_stops, element_stops, segment_stops, items_of_section, contents_stops, section_tail_stops, IsNextId, section_stops, sections_stops, module_stops}
+use Rattle.wasm_format.specs.calls.Grammar.{functype, limits, table, globaltype, import_entry, export_entry, expression, global_entry, element_entry, segment_entry, contents, custom_contents, section_entry, sections, module_file}
+use Rattle.wasm_format.specs.calls.Breaking.{functype_stops, limits_stops, table_stops, import_stops, export_stops, global_stops, element_stops, segment_stops, items_of_section, contents_stops, section_tail_stops, IsNextId, section_stops, sections_stops, module_stops}
 use Rattle.wasm_format.proofs.Tests.{on_test_stops, picks_stops, offset_stops, total_stops_at}
 use Rattle.wasm_format.proofs.ExactForm.{functype_exact, limits_exact, table_exact, globaltype_exact, import_exact, export_exact}
 use Rattle.wasm_format.proofs.ExactExpressions.{expression_exact}

@@ -3,12 +3,12 @@ use Rattle.std.proofs.Common.{◌≡◌, ℕ, ◌+◌, ◌<◌, Bool, true, fals
 use Rattle.std.specs.Prelude.{if◌then◌else◌}
 use Rattle.wasm_bytes.specs.Place.{Place, Read}
 use Rattle.wasm_bytes.specs.Reading.{◌>>=◌, ◌▷◌, here_item}
-use Rattle.wasm_bytes.specs.Spelling.{pair}
+use Rattle.wasm_bytes.specs.calls.Spelling.{pair}
 use Rattle.wasm_bytes.specs.Laws.{IsBytes, place, got, failed, Took, IsExact, StopsAt, TakesBytes, PicksExact, PicksStops}
 use Rattle.wasm_bytes.proofs.Places.{bind_ok, took_is}
 use Rattle.wasm_bytes.proofs.Exact.{same_exact}
 use Rattle.wasm_bytes.proofs.Stops.{same_stops_at}
-use Rattle.wasm_format.specs.Choices.{on_test, no_spelling, stops_on_test, or_else, first_and}
+use Rattle.wasm_format.specs.calls.Choices.{on_test, no_spelling, stops_on_test, or_else, first_and}
 use Rattle.wasm_format.specs.Expressions.{with_first}
 
 -- ---- a language by a test

@@ -10,10 +10,10 @@ use Rattle.wasm_syntax.specs.declared.parts.Body.{Body}
 use Rattle.wasm_syntax.specs.declared.parts.LocalGroup.{LocalGroup}
 use Rattle.wasm_bytes.specs.Place.{Place, Read}
 use Rattle.wasm_bytes.specs.Reading.{◌>>=◌, ◌⊗◌, ◌▷◌, mapped, checked, here_item, within, steps_until_done}
-use Rattle.wasm_instructions.specs.declared.code.Code.{Code}
-use Rattle.wasm_instructions.specs.declared.code.Code.TheVariants.{Known, Float}
-use Rattle.wasm_instructions.specs.Spelled.{Spelled}
-use Rattle.wasm_instructions.specs.Reading.{instruction_item}
+use Rattle.wasm_format.specs.declared.code.Code.{Code}
+use Rattle.wasm_format.specs.declared.code.Code.TheVariants.{Known, Float}
+use Rattle.wasm_format.specs.Spelled.{Spelled}
+use Rattle.wasm_format.specs.Reading.{instruction_item}
 use Rattle.wasm_format.specs.declared.noted.Noted.{Noted}
 use Rattle.wasm_format.specs.declared.expression.Expression.{Expression}
 use Rattle.wasm_format.specs.declared.expression.Locals.{Locals}

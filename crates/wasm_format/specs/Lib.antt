@@ -1,7 +1,10 @@
 pub mod Notes
-pub mod Choices
 pub mod Form
 pub mod Expressions
 pub mod Sections
-pub mod Grammar
-pub mod Breaking
+pub mod Spelled
+pub mod InstructionForm
+pub mod Table
+pub mod Reading
+pub mod Encoding
+pub mod calls

@@ -1,6 +1,6 @@
 //! Expressions, as far as they are read.
 
-use validate_stack::Pile;
+use pm_text::Stack;
 use wasm_syntax::{BlockKind, Labels, LocalGroups, Ops};
 
 /// The instructions of an expression up to a place (Core 5.4.6).
@@ -12,7 +12,7 @@ pub struct Expression {
     pub targets: Labels,
     /// What opened the blocks that are open there, the innermost on top. None is open behind the
     /// last `end`.
-    pub blocks: Pile<BlockKind>,
+    pub blocks: Stack<BlockKind>,
     /// The offset of the first float type or float opcode.
     pub float: Option<usize>,
 }

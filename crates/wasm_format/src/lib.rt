@@ -1,11 +1,21 @@
-//! The binary format of modules (Core 5.5): what a module's bytes say, and (in `specs/`) which
-//! bytes spell it and how they are read.
+//! The binary format of modules and of their instructions (Core 5.4, 5.5): which bytes spell them
+//! and how they are read (in `specs/`), and the reading and writing of single instructions.
 #![tactic(auto)]
 
+mod code;
+mod control;
 mod expression;
+mod memory;
 mod module;
 mod noted;
+mod numeric;
+mod read;
+mod variable;
+mod write;
 
+pub use code::{Code, ReadInstr};
 pub use expression::{Expression, Locals};
 pub use module::{Imported, SpelledModule};
 pub use noted::Noted;
+pub use read::{read_code, read_instr};
+pub use write::write_instr;

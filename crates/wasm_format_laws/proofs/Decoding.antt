@@ -15,10 +15,10 @@ use Rattle.wasm_decode.specs.declared.fault.DecodeFault.{DecodeFault}
 use Rattle.wasm_decode.specs.Decode.{functions_of, other_from, first_other, module_of, too_much, at_float, at_import, refusal}
 use Rattle.wasm_decode.proofs.Meanings.{read_is}
 use Rattle.wasm_encode.specs.Encoding.{encoding}
-use Rattle.wasm_encode.specs.Fits.{FitsModule}
-use Rattle.wasm_encode.specs.SameModule.{SpellsSame}
+use Rattle.wasm_encode.specs.calls.Fits.{FitsModule}
+use Rattle.wasm_encode.specs.calls.SameModule.{SpellsSame}
 use Rattle.wasm_encode.proofs.WholeModule.{spells_same}
-use Rattle.wasm_format_laws.specs.Laws.{DecodesSame}
+use Rattle.wasm_format_laws.specs.calls.Laws.{DecodesSame}
 use Rattle.wasm_format_laws.proofs.Limits.{same_limits, none_too_much}
 use Rattle.wasm_bytes.specs.Refusals.{◌orelse◌, unless_refused}
 

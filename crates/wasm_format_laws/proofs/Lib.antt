@@ -1,3 +1,11 @@
 pub mod Readings
 pub mod Limits
 pub mod Decoding
+pub mod Measures
+pub mod Instructions
+pub mod Entries
+pub mod Bodies
+pub mod Sections
+pub mod Whole
+pub mod Numbers
+pub mod Totals

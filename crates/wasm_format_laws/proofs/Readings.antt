@@ -4,11 +4,11 @@ use Rattle.wasm_bytes.specs.Reading.{whole}
 use Rattle.wasm_bytes.specs.Laws.{IsBytes}
 use Rattle.wasm_format.specs.declared.module.SpelledModule.{SpelledModule}
 use Rattle.wasm_format.specs.Sections.{module_item}
-use Rattle.wasm_format.specs.Grammar.{module_file}
-use Rattle.wasm_format.specs.Breaking.{module_stops}
+use Rattle.wasm_format.specs.calls.Grammar.{module_file}
+use Rattle.wasm_format.specs.calls.Breaking.{module_stops}
 use Rattle.wasm_format.proofs.ExactSections.{module_found, module_read}
 use Rattle.wasm_format.proofs.StopsSections.{module_stop, module_stopped}
-use Rattle.wasm_format_laws.specs.Laws.{Reads, Breaks}
+use Rattle.wasm_format_laws.specs.calls.Laws.{Reads, Breaks}
 
 abbrev Answer : Type 0
 Answer = Result SpelledModule ℕ

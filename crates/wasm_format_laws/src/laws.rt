@@ -6,12 +6,12 @@ ghost use Rattle.wasm_syntax.specs.Module.{IsModule};
 ghost use Rattle.wasm_syntax.specs.Sizes.{WithinLimits};
 ghost use Rattle.wasm_bytes.specs.Laws.{IsBytes};
 ghost use Rattle.wasm_format.specs.declared.module.SpelledModule.{SpelledModule as Read};
-ghost use Rattle.wasm_format.specs.Grammar.{module_file};
-ghost use Rattle.wasm_format.specs.Breaking.{module_stops};
+ghost use Rattle.wasm_format.specs.calls.Grammar.{module_file};
+ghost use Rattle.wasm_format.specs.calls.Breaking.{module_stops};
 ghost use Rattle.wasm_encode.specs.Encoding.{encoding};
-ghost use Rattle.wasm_encode.specs.Fits.{FitsModule};
-ghost use Rattle.wasm_encode.specs.SameModule.{SpellsSame};
-ghost use Rattle.wasm_format_laws.specs.Laws.{Reads, Breaks, DecodesSame};
+ghost use Rattle.wasm_encode.specs.calls.Fits.{FitsModule};
+ghost use Rattle.wasm_encode.specs.calls.SameModule.{SpellsSame};
+ghost use Rattle.wasm_format_laws.specs.calls.Laws.{Reads, Breaks, DecodesSame};
 
 /// Each input spells one module (Core 5.5.15), or is broken at one offset, and never both.
 pub fn one_reading()

@@ -15,3 +15,4 @@ pub mod Rows
 pub mod RowsValid
 pub mod FlatStatic
 pub mod FlatOne
+pub mod OneProgram

@@ -6,7 +6,7 @@ use Rattle.wasm_syntax.specs.declared.value.ValType.{ValType}
 use Rattle.wasm_syntax.specs.declared.value.ValType.TheVariants.{I32}
 use Rattle.wasm_syntax.specs.Tree.{Jump, Unreachable, Br, BrIf, BrTable, Return, Call, CallIndirect, Nodes, stop, basic, jump, block, loop, choose}
 use Rattle.wasm_syntax.specs.Typing.{Context, Arrow, ◌⇒◌, Above, JumpTypes, Types, within, call_arrow}
-use Rattle.wasm_laws.specs.Literal.{Has, empty, sequence, below, has_basic, has_unreachable, has_br, has_br_if, has_br_table, has_return, has_call, has_call_indirect, has_block, has_loop, has_if}
+use Rattle.wasm_laws.specs.calls.Literal.{Has, empty, sequence, below, has_basic, has_unreachable, has_br, has_br_if, has_br_table, has_return, has_call, has_call_indirect, has_block, has_loop, has_if}
 use Rattle.wasm_laws.proofs.Weaken.{weaken, joined}
 
 no_below : (ts : List ValType) → ts ≡ ts ++ []

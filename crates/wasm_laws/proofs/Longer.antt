@@ -8,7 +8,7 @@ use Rattle.wasm_syntax.specs.Module.{Program, Function, imported, defined, funct
 use Rattle.wasm_syntax.specs.Host.{World, answer}
 use Rattle.wasm_syntax.specs.Machine.{Engine, Config, config, Stepped, next, ends, traps, no_reply, bad_reply, stuck, step, entered, host_call}
 use Rattle.wasm_syntax.specs.Run.{Ended, ended, run_on, run_steps, host_alone, run_alone, run_function, Outcome, running, Ran, ran_to, not_begun, run_entry, go_on, invoked, goes_on, fresh, session, unless, run, cause_of, Cause, Invocation, engine, start_world}
-use Rattle.wasm_laws.specs.Runs.{with_more, Stay}
+use Rattle.wasm_laws.specs.calls.Runs.{with_more, Stay}
 use Rattle.pm_text.proofs.Lists.{some_is}
 
 -- it is over

@@ -13,7 +13,7 @@ use Rattle.wasm_syntax.specs.Typing.{Types, body_context}
 use Rattle.std.proofs.Common.{◌≢◌}
 use Rattle.wasm_syntax.specs.Module.{function_export}
 use Rattle.wasm_syntax.specs.Run.{run_on, run_steps, host_alone, run_alone, run_function, Outcome, got_stuck, Ran, ran_to, run_entry, go_on, invoked, engine, start_world, Cause, cause_of_entry, if_fits as entry_fits, goes_on, fresh, session, unless, run, cause_of, Invocation}
-use Rattle.wasm_laws.specs.Runs.{NoneStuck}
+use Rattle.wasm_laws.specs.calls.Runs.{NoneStuck}
 use Rattle.wasm_laws.proofs.Progress.{types_append, zero_types, WorldFine}
 use Rattle.wasm_laws.proofs.Safe.{FramesFine, SteppedFine, Typed, step_fine, one_result, AnswerFine, answer_fine}
 use Rattle.wasm_syntax.proofs.Types.{same_types_are}

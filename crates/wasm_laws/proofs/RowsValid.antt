@@ -19,7 +19,7 @@ use Rattle.wasm_laws.proofs.Unique.{one_tree}
 use Rattle.wasm_syntax.specs.declared.host.Reply.{Reply}
 use Rattle.wasm_syntax.specs.Module.{IsModule}
 use Rattle.wasm_syntax.specs.Run.{Invocation, run}
-use Rattle.wasm_laws.specs.Runs.{NoneStuck}
+use Rattle.wasm_laws.specs.calls.Runs.{NoneStuck}
 use Rattle.wasm_laws.proofs.Never.{never_stuck}
 use Rattle.wasm_laws.proofs.Validity.{startable}
 use Rattle.wasm_laws.proofs.RowModules.{program_of, divides, divides_trees, adds_wide}

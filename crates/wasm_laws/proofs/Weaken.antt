@@ -4,7 +4,7 @@ use Rattle.std.specs.Prelude.{option_to_list}
 use Rattle.wasm_syntax.specs.declared.value.ValType.{ValType}
 use Rattle.wasm_syntax.specs.declared.instruction.Basic.{Basic}
 use Rattle.wasm_syntax.specs.Tree.{Jump, Unreachable, Br, BrIf, BrTable, Return, Call, CallIndirect, Nodes, stop, basic, jump, block, loop, choose}
-use Rattle.wasm_laws.specs.Literal.{join}
+use Rattle.wasm_laws.specs.calls.Literal.{join}
 use Rattle.wasm_syntax.specs.Typing.{Context, Arrow, Above, OnTop, BasicTypes, JumpTypes, Types}
 
 weaken_above : (a : Arrow) (before after ts : List ValType) → Above a before after → Above a (before ++ ts) (after ++ ts)

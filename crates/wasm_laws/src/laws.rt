@@ -14,8 +14,8 @@ ghost use Rattle.wasm_syntax.specs.FlatTyping.{FlatTypes, OpenBlock, body_block,
 ghost use Rattle.wasm_syntax.specs.Valid.{Valid};
 ghost use Rattle.wasm_syntax.specs.Static.{Static, Left};
 ghost use Rattle.wasm_syntax.specs.Run.{Invocation, run};
-ghost use Rattle.wasm_laws.specs.Literal.{Has};
-ghost use Rattle.wasm_laws.specs.Runs.{Stay, NoneStuck};
+ghost use Rattle.wasm_laws.specs.calls.Literal.{Has};
+ghost use Rattle.wasm_laws.specs.calls.Runs.{Stay, NoneStuck};
 
 /// A flat body writes out at most one tree.
 pub fn one_tree()

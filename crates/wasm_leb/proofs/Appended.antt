@@ -1,7 +1,7 @@
 -- What a writer appends.
 use Rattle.std.proofs.Common.{◌≡◌, ℕ, List, [], ◌∷◌, ◌++◌, Result, refl, ap, ◌∙◌, append_assoc, OnOk}
 use Rattle.std.proofs.lemmas.Result.{on_ok_weaker}
-use Rattle.wasm_leb.specs.Numbers.{IsShortest, AppendsShortest}
+use Rattle.wasm_leb.specs.calls.Numbers.{IsShortest, AppendsShortest}
 
 joined : (old middle new rest whole : List ℕ) (b : ℕ) → middle ≡ old ++ b ∷ [] → whole ≡ b ∷ rest → new ≡ middle ++ rest → new ≡ old ++ whole
 joined old middle new rest whole b first parts behind = rw (behind, first, parts, append_assoc) refl

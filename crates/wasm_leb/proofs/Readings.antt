@@ -5,7 +5,7 @@ use Rattle.std.proofs.lemmas.List.{take_at, get_or-drop, append_cancel_right}
 use Rattle.std.proofs.Math.Seq.{drop-append_seam}
 use Rattle.wasm_leb.specs.declared.LebFault.{LebFault}
 use Rattle.wasm_leb.specs.declared.LebFault.TheVariants.{Truncated, TooLong}
-use Rattle.wasm_leb.specs.Numbers.{IsUnfinished, BeginsNone}
+use Rattle.wasm_leb.specs.calls.Numbers.{IsUnfinished, BeginsNone}
 use Rattle.wasm_leb.specs.Reading.{placed}
 
 abbrev pub IsBytes : List ℕ → Type 0

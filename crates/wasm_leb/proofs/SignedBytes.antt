@@ -3,7 +3,7 @@ use Rattle.std.proofs.Common.{◌≡◌, ℕ, zero, suc, ◌+◌, ◌-◌, ◌*�
 use Rattle.std.proofs.Math.Nat.{pow-suc, pow-zero}
 use Rattle.std.proofs.lemmas.Bool.{ltb-true, ltb-false, lt-ltb, le-ltb, cases_lt}
 use Rattle.std.proofs.lemmas.Int.{ints}
-use Rattle.wasm_leb.specs.Numbers.{IsSigned, IsLastSigned, IsShortest}
+use Rattle.wasm_leb.specs.calls.Numbers.{IsSigned, IsLastSigned, IsShortest}
 use Rattle.wasm_leb.specs.Reading.{signed_at, IsWithin}
 use Rattle.wasm_leb.specs.Writing.{low_seven, above_seven, fits_seven, signed_groups, signed_bytes}
 use Rattle.wasm_leb.proofs.Powers.{half_seven_more, half_power_at_most}

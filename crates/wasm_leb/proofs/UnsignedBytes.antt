@@ -2,7 +2,7 @@
 use Rattle.std.proofs.Common.{◌≡◌, ℕ, zero, suc, ◌+◌, ◌-◌, ◌*◌, ◌/◌, ◌%◌, ◌^◌, ◌<◌, ◌≤◌, List, [], ◌∷◌, ◌++◌, length, refl, sym, ap, subst, ◌∙◌, inl, inr, arith}
 use Rattle.std.proofs.Math.Nat.{pow-suc, pow-zero}
 use Rattle.std.proofs.lemmas.Bool.{lt-ltb, le-ltb, cases_lt}
-use Rattle.wasm_leb.specs.Numbers.{IsUnsigned, IsShortest}
+use Rattle.wasm_leb.specs.calls.Numbers.{IsUnsigned, IsShortest}
 use Rattle.wasm_leb.specs.Reading.{unsigned_at}
 use Rattle.wasm_leb.specs.Writing.{unsigned_groups, unsigned_bytes}
 use Rattle.wasm_leb.proofs.Powers.{seven_more, power_at_most, above_seven_bits}

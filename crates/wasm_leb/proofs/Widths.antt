@@ -1,6 +1,6 @@
 -- Reading at the two widths: 5 bytes are the full length at 32 bits, 10 at 64.
 use Rattle.std.proofs.Common.{arith}
-use Rattle.wasm_leb.specs.Numbers.{IsUnsigned, IsSigned}
+use Rattle.wasm_leb.specs.calls.Numbers.{IsUnsigned, IsSigned}
 use Rattle.wasm_leb.specs.Reading.{unsigned_at, signed_at}
 use Rattle.wasm_leb.proofs.Readings.{IsReading}
 use Rattle.wasm_leb.proofs.UnsignedLaws.{IsLength, unsigned_reading}

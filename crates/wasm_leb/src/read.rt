@@ -1,7 +1,7 @@
 //! Reading numbers.
 
 ghost use Rattle.std.specs.Prelude.{◌≡◌, ◌<◌, ◌≤◌, ◌^◌, ◌↔◌, length, drop, slice_range, IfOk, IfSome, IsErrOf};
-ghost use Rattle.wasm_leb.specs.Numbers.{IsUnsigned, IsSigned, IsUnfinished, BeginsNone};
+ghost use Rattle.wasm_leb.specs.calls.Numbers.{IsUnsigned, IsSigned, IsUnfinished, BeginsNone};
 ghost use Rattle.wasm_leb.specs.Reading.{Gives, unsigned_at, u32_at, u64_at, signed_at, last_signed, IsWithin, s32_at, s64_at};
 
 use crate::LebFault;

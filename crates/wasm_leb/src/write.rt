@@ -1,10 +1,10 @@
 //! Writing numbers.
 
 ghost use Rattle.std.specs.Prelude.{◌≡◌, ◌++◌, ◌<◌, length, take, OnOk, OnErr};
-ghost use Rattle.wasm_leb.specs.Numbers.{IsUnsigned, IsSigned, AppendsShortest};
+ghost use Rattle.wasm_leb.specs.calls.Numbers.{IsUnsigned, IsSigned, AppendsShortest};
 ghost use Rattle.wasm_leb.specs.Writing.{unsigned_bytes, low_seven, above_seven, fits_seven, signed_bytes};
 
-use crate::NoMemory;
+use causes::NoMemory;
 
 /// Appends the shortest spelling. Where memory runs out, the bytes may have a part of it at their
 /// end.

@@ -10,9 +10,9 @@ use Rattle.wasm_syntax.specs.declared.module.ModuleParts.{ModuleParts as Module}
 use Rattle.wasm_syntax.specs.Numbers.{types}
 use Rattle.wasm_syntax.specs.Module.{same_types, type_at, function_export}
 use Rattle.wasm_syntax.specs.Run.{cause_of_entry, if_fits, first_false}
-use Rattle.machine_hosted.specs.Settings.{Takes, ServesAll}
+use Rattle.machine_hosted.specs.calls.Settings.{Takes, ServesAll}
 use Rattle.wasm_machine.specs.declared.entries.EntryFault.{EntryFault}
-use Rattle.wasm_machine.specs.Entries.{serves_type, is_served, first_unserved, unserved, fault_or, entry_fault}
+use Rattle.wasm_machine.specs.calls.Entries.{serves_type, is_served, first_unserved, unserved, fault_or, entry_fault}
 
 -- ---- types of arguments
 

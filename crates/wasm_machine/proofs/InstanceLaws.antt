@@ -7,13 +7,13 @@ use Rattle.wasm_syntax.specs.Module.{Program, IsProgram, IsModule}
 use Rattle.wasm_syntax.specs.Valid.{Valid}
 use Rattle.wasm_syntax.specs.Run.{start_world}
 use Rattle.machine_steps.specs.declared.machine.Machine.{Machine}
-use Rattle.machine_steps.specs.declared.machine.Prepared.{Prepared}
-use Rattle.machine_steps.specs.Prepares.{IsPrepared}
-use Rattle.machine_hosted.specs.Safe.{WorldFits}
+use Rattle.machine_code.specs.declared.prepared.Prepared.{Prepared}
+use Rattle.machine_code.specs.calls.Prepares.{IsPrepared}
+use Rattle.machine_hosted.specs.calls.Safe.{WorldFits}
 use Rattle.machine_hosted.proofs.SafeLaws.{start_fits}
-use Rattle.machine_start.specs.declared.started.Started.{Started}
-use Rattle.machine_start.specs.Starts as starts
-use Rattle.machine_hosted.specs.Settings.{Sound, world_of, MachineFits}
+use Rattle.wasm_machine.specs.declared.started.Started.{Started}
+use Rattle.wasm_machine.specs.calls.Starts as starts
+use Rattle.machine_hosted.specs.calls.Settings.{Sound, world_of, MachineFits}
 use Rattle.machine_hosted.proofs.WorldLaws.{same_world}
 
 -- ---- a new instance

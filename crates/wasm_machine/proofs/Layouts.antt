@@ -11,21 +11,21 @@ use Rattle.wasm_syntax.specs.Tree.{Item, Placed, placed, item_of}
 use Rattle.wasm_syntax.specs.Module.{Program, option_then}
 use Rattle.wasm_syntax.specs.Machine.{Label, Frame, joined, offset_of}
 use Rattle.machine_code.specs.declared.code.Code.{Code}
-use Rattle.machine_code.specs.Flat.{Is}
-use Rattle.machine_code.specs.Code.{items}
-use Rattle.machine_frames.specs.declared.layout.Control.{Control}
-use Rattle.machine_frames.specs.declared.layout.CallFrame.{CallFrame}
-use Rattle.machine_frames.specs.declared.layout.CallStack.{CallStack}
-use Rattle.machine_frames.specs.Layout.{Level, Waiting, Frames}
+use Rattle.machine_code.specs.calls.Flat.{Is}
+use Rattle.machine_code.specs.calls.Code.{items}
+use Rattle.machine_steps.specs.declared.layout.Control.{Control}
+use Rattle.machine_steps.specs.declared.layout.CallFrame.{CallFrame}
+use Rattle.machine_steps.specs.declared.layout.CallStack.{CallStack}
+use Rattle.machine_steps.specs.calls.Layout.{Level, Waiting, Frames}
 use Rattle.machine_steps.proofs.PlaceLaws.{labels_at}
 use Rattle.machine_steps.specs.declared.machine.Machine.{Machine}
-use Rattle.machine_steps.specs.declared.machine.Prepared.{Prepared}
-use Rattle.machine_steps.specs.Prepares.{IsPrepared}
-use Rattle.machine_hosted.specs.Answers.{KeepsFrames}
+use Rattle.machine_code.specs.declared.prepared.Prepared.{Prepared}
+use Rattle.machine_code.specs.calls.Prepares.{IsPrepared}
+use Rattle.machine_hosted.specs.calls.Answers.{KeepsFrames}
 use Rattle.dump_write.specs.Image.{DumpFrame, frame_image, frame_images}
 use Rattle.wasm_machine.specs.declared.frames.Extent.{Extent}
 use Rattle.wasm_machine.specs.inner.Shown.{between, offset_at, numbered, frame_shown, frames_shown, all_shown, extent_under}
-use Rattle.machine_frames.proofs.CallLaws.{as_many}
+use Rattle.machine_steps.proofs.CallLaws.{as_many}
 use Rattle.pm_text.proofs.Lists.{some_is}
 
 -- ---- the values of a frame

@@ -5,3 +5,5 @@ pub mod Layouts
 pub mod StandingLaws
 pub mod WantLaws
 pub mod StoppedLaws
+pub mod BoundLaws
+pub mod FillLaws

@@ -9,17 +9,17 @@ use Rattle.wasm_syntax.specs.Machine.{Engine, Config}
 use Rattle.wasm_syntax.specs.Run.{Outcome, not_started, finished, trapped, lacks_reply, misfits, running, got_stuck, Ran, goes_on, fresh, invoked, Invocation, session}
 use Rattle.machine_code.specs.declared.code.Code.{Code}
 use Rattle.machine_steps.specs.declared.machine.Machine.{Machine}
-use Rattle.machine_steps.specs.Meets.{Shares}
-use Rattle.machine_hosted.specs.Hosted.{Asked}
+use Rattle.machine_steps.specs.calls.Meets.{Shares}
+use Rattle.machine_hosted.specs.calls.Hosted.{Asked}
 use Rattle.host_devices.specs.Given.{replies_of}
 use Rattle.machine_hosted.specs.declared.answer.RunEnd.{RunEnd}
 use Rattle.machine_hosted.specs.declared.answer.RunEnd.TheVariants.{Finished, Trapped, NoReply, BadReply, DeviceFault, FuelSpent, NoMemory}
-use Rattle.machine_hosted.specs.Settings.{world_of}
-use Rattle.machine_hosted.specs.Answers.{KeepsThen, given_steps}
-use Rattle.machine_hosted.specs.Invocations.{may_follow, invoking, InvocationCame}
+use Rattle.machine_hosted.specs.calls.Settings.{world_of}
+use Rattle.machine_hosted.specs.calls.Answers.{KeepsThen, given_steps}
+use Rattle.machine_hosted.specs.calls.Invocations.{may_follow, invoking, InvocationCame}
 use Rattle.host_devices.specs.Given.{unfitting}
 use Rattle.machine_hosted.proofs.WorldLaws.{same_world}
-use Rattle.wasm_machine.specs.Sessions.{HadMemory, GoesOn}
+use Rattle.wasm_machine.specs.calls.Sessions.{HadMemory, GoesOn}
 
 all_given : (answer : RunEnd) (fuel steps : ℕ) → HadMemory answer → given_steps answer fuel steps ≡ fuel
 all_given NoMemory fuel steps h = absurd h

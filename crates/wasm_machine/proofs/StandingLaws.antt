@@ -5,14 +5,14 @@ use Rattle.wasm_syntax.specs.declared.module.ModuleParts.{ModuleParts as Module}
 use Rattle.wasm_syntax.specs.Module.{Program}
 use Rattle.wasm_syntax.specs.Machine.{Frame, Config}
 use Rattle.machine_code.specs.declared.code.Code.{Code}
-use Rattle.machine_frames.specs.Layout as layout
+use Rattle.machine_steps.specs.calls.Layout as layout
 use Rattle.machine_steps.specs.declared.machine.Machine.{Machine}
-use Rattle.machine_steps.specs.declared.machine.Prepared.{Prepared}
-use Rattle.machine_steps.specs.Meets.{StandsFor}
-use Rattle.machine_hosted.specs.Answers.{KeepsFrames}
+use Rattle.machine_code.specs.declared.prepared.Prepared.{Prepared}
+use Rattle.machine_steps.specs.calls.Meets.{StandsFor}
+use Rattle.machine_hosted.specs.calls.Answers.{KeepsFrames}
 use Rattle.dump_write.specs.Image.{frame_images}
 use Rattle.wasm_machine.specs.declared.invocation.LastInvocation.{LastInvocation}
-use Rattle.wasm_machine.specs.Instances.{State, state, copied, SoundState, IsOf, StandsAt}
+use Rattle.wasm_machine.specs.calls.Instances.{State, state, copied, SoundState, IsOf, StandsAt}
 use Rattle.wasm_machine.specs.inner.Shown.{all_shown}
 use Rattle.wasm_machine.proofs.Layouts.{frames_kept, count_kept}
 

@@ -7,17 +7,17 @@ use Rattle.wasm_syntax.specs.declared.module.ModuleParts.{ModuleParts as Module}
 use Rattle.wasm_syntax.specs.Module.{Program}
 use Rattle.machine_code.specs.declared.code.Code.{Code}
 use Rattle.machine_steps.specs.declared.machine.Machine.{Machine}
-use Rattle.machine_steps.specs.declared.machine.Prepared.{Prepared}
-use Rattle.host_devices.specs.HostSides.{Calls}
+use Rattle.machine_code.specs.declared.prepared.Prepared.{Prepared}
+use Rattle.host_devices.specs.calls.HostSides.{Calls}
 use Rattle.machine_hosted.specs.declared.answer.EntryRun.{EntryRun}
 use Rattle.machine_hosted.specs.declared.answer.RunEnd.{RunEnd}
 use Rattle.machine_hosted.specs.declared.answer.RunEnd.TheVariants as answers
-use Rattle.machine_hosted.specs.Settings.{MachineFits, Takes}
-use Rattle.machine_hosted.specs.Courses.{Course, longer, CameBy, Followed, WentOn}
+use Rattle.machine_hosted.specs.calls.Settings.{MachineFits, Takes}
+use Rattle.machine_hosted.specs.calls.Courses.{Course, longer, CameBy, Followed, WentOn}
 use Rattle.wasm_machine.specs.declared.invocation.End.{End}
 use Rattle.wasm_machine.specs.declared.invocation.End.TheVariants as ends
 use Rattle.wasm_machine.specs.declared.invocation.LastInvocation.{LastInvocation}
-use Rattle.wasm_machine.specs.Instances.{State, state, kept_end, last_of, IsSpent, Resumed, StoppedBy}
+use Rattle.wasm_machine.specs.calls.Instances.{State, state, kept_end, last_of, IsSpent, Resumed, StoppedBy}
 use Rattle.pm_text.proofs.Lists.{some_is}
 
 abbrev kept_so : (entry : ℕ) (args : List Value) (depth : ℕ) (collecting : Bool) → End → LastInvocation

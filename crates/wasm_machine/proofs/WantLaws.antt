@@ -12,12 +12,12 @@ use Rattle.wasm_syntax.specs.Machine.{Engine, Config, config, next, entered}
 use Rattle.wasm_syntax.specs.Run.{ran, ran_to, running, run_function, go_on}
 use Rattle.machine_code.specs.declared.code.Code.{Code}
 use Rattle.machine_steps.specs.declared.machine.Machine.{Machine}
-use Rattle.machine_steps.specs.declared.machine.Prepared.{Prepared}
-use Rattle.host_devices.specs.HostSides.{Calls}
-use Rattle.machine_hosted.specs.Hosted.{Asked}
+use Rattle.machine_code.specs.declared.prepared.Prepared.{Prepared}
+use Rattle.host_devices.specs.calls.HostSides.{Calls}
+use Rattle.machine_hosted.specs.calls.Hosted.{Asked}
 use Rattle.machine_hosted.specs.declared.answer.RunEnd.TheVariants.{NoMemory}
-use Rattle.machine_hosted.specs.Settings.{Sound, Takes, world_of}
-use Rattle.machine_hosted.specs.Invocations.{Invoking, invoking, InvocationCame, InvocationCameWith}
+use Rattle.machine_hosted.specs.calls.Settings.{Sound, Takes, world_of}
+use Rattle.machine_hosted.specs.calls.Invocations.{Invoking, invoking, InvocationCame, InvocationCameWith}
 use Rattle.machine_hosted.proofs.ModuleLaws.{function_there}
 
 abbrev nothing : Asked

@@ -3,8 +3,8 @@
 ghost use Rattle.std.specs.Prelude.{◌≡◌, ◌<◌, ◌^◌, length, Some, IfOk};
 ghost use Rattle.wasm_syntax.specs.Module.{function_export, is_function as names_function, same_types};
 ghost use Rattle.wasm_syntax.specs.Numbers.{types, type_of as type_of_value, same_type as are_same};
-ghost use Rattle.wasm_machine.specs.Entries.{is_served, first_unserved, entry_fault};
-ghost use Rattle.wasm_machine.specs.Answers.{fault_in};
+ghost use Rattle.wasm_machine.specs.calls.Entries.{is_served, first_unserved, entry_fault};
+ghost use Rattle.wasm_machine.specs.calls.Answers.{fault_in};
 ghost use Rattle.wasm_machine.specs.inner.Callees.{is_entry, takes_arguments};
 
 use host_devices::HostSide;

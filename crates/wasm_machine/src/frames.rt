@@ -3,9 +3,8 @@
 ghost use Rattle.std.specs.Prelude.{◌≡◌, ◌<◌, ◌-◌, length, reverse, slice_get, Some};
 ghost use Rattle.wasm_machine.specs.inner.Shown.{between, offset_at, numbered, frame_shown, all_shown, extent_under};
 
-use machine_code::Code;
-use machine_frames::{CallFrame, CallStack};
-use machine_steps::{Machine, Prepared};
+use machine_code::{Code, Prepared};
+use machine_steps::{CallFrame, CallStack, Machine};
 use std::marker::Model;
 use wasm_syntax::Value;
 

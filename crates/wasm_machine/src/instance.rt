@@ -6,27 +6,26 @@ ghost use Rattle.wasm_syntax.specs.declared.value.Value.{Value as Val};
 ghost use Rattle.wasm_syntax.specs.Module.{Program, function_export};
 ghost use Rattle.wasm_syntax.specs.Machine.{Config};
 ghost use Rattle.dump_write.specs.Image.{frame_images};
-ghost use Rattle.machine_hosted.specs.Settings.{HostKept, HostServes, Knows, Takes};
-ghost use Rattle.machine_hosted.specs.Answers.{HasCause};
-ghost use Rattle.wasm_machine.specs.Entries.{entry_fault};
-ghost use Rattle.wasm_machine.specs.Answers.{fault_in};
-ghost use Rattle.machine_hosted.specs.Courses.{Course};
-ghost use Rattle.wasm_machine.specs.Instances.{Begins, IsOf, IsSpent, StandsAt, Invoked, Resumed, Stopped, StoppedBy, copied, last_of};
-ghost use Rattle.wasm_machine.specs.Watching.{Seen};
+ghost use Rattle.machine_hosted.specs.calls.Settings.{HostKept, HostServes, Knows, Takes};
+ghost use Rattle.machine_hosted.specs.calls.Answers.{HasCause};
+ghost use Rattle.wasm_machine.specs.calls.Entries.{entry_fault};
+ghost use Rattle.wasm_machine.specs.calls.Answers.{fault_in};
+ghost use Rattle.machine_hosted.specs.calls.Courses.{Course};
+ghost use Rattle.wasm_machine.specs.calls.Instances.{Begins, IsOf, IsSpent, StandsAt, Invoked, Resumed, Stopped, StoppedBy, copied, last_of};
+ghost use Rattle.wasm_machine.specs.calls.Watching.{Seen};
 ghost use Rattle.wasm_machine.specs.declared.invocation.LastInvocation.{LastInvocation as Kept};
 
 use crate::entries::callee;
 use crate::frames::{FrameRef, frame_at};
 use crate::invocation::{LastInvocation, RunAnswer, copy_of_last, kept};
+use crate::{StartFault, Started, start};
 use causes::NoMemory;
 use host_devices::HostSide;
 use linear_memory::Memory;
-use machine_basics::Stack;
-use machine_frames::CallStack;
+use machine_code::{Prepared, prepare};
 use machine_hosted::{RunEnd, Runner, resume_invocation, watch_invocation};
-use machine_prepared::prepare;
-use machine_start::{StartFault, Started, start};
-use machine_steps::{Machine, Prepared, Unwatched, Watch};
+use machine_steps::{CallStack, Machine, Unwatched, Watch};
+use pm_text::Stack;
 use std::alloc::Global;
 use std::marker::Model;
 use std::rc::Rc;
@@ -55,7 +54,7 @@ pub struct Instance<'a> {
 }
 
 impl<'a> Model for Instance<'a> {
-    ghost use Rattle.wasm_machine.specs.Instances.{State, state, SoundState};
+    ghost use Rattle.wasm_machine.specs.calls.Instances.{State, state, SoundState};
 
     ghost Value = { State };
 

@@ -1,7 +1,7 @@
 //! What an invocation comes to, and what an instance keeps of it.
 
 ghost use Rattle.std.specs.Prelude.{◌≡◌, IfOk};
-ghost use Rattle.wasm_machine.specs.Instances.{kept_end, last_of};
+ghost use Rattle.wasm_machine.specs.calls.Instances.{kept_end, last_of};
 
 use crate::entries::EntryFault;
 use causes::NoMemory;

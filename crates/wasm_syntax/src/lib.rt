@@ -24,6 +24,5 @@ pub use parts::{
     Limits, LimitsList, LocalGroup, LocalGroups, Ops, ValTypes,
 };
 pub use place::Place;
-pub use pm_text::{Bytes, Items, Text};
 pub use quantity::Quantity;
 pub use value::{Seen, ValType, Value};

@@ -17,8 +17,8 @@ use Rattle.wasm_syntax.specs.Numbers.{same_type}
 use Rattle.wasm_syntax.specs.Module.{type_at, function_types, option_then}
 use Rattle.wasm_syntax.specs.Tree.{Jump, Unreachable, Br, BrIf, BrTable, Return, Call, CallIndirect, Item, Plain, Goes, Opens, OpensLoop, OpensIf, Else, End}
 use Rattle.wasm_syntax.specs.Typing.{Context, Arrow, ◌⇒◌, arrow, call_arrow, set_global}
-use Rattle.validate_stack.specs.Frames.{Known, Frame, opening, set_known, pop_type, pop_any, pop, push, pops, pushes, forget, label, emptied, operands, any_free}
-use Rattle.validate_body.specs.inner.Algorithm.{apply, drop_any, both, select_known, select, step_basic, step_jump, step, targets_fit, closed, at_else, may_end, at_end}
+use Rattle.validate_body.specs.calls.Frames.{Known, Frame, opening, set_known, pop_type, pop_any, pop, push, pops, pushes, forget, label, emptied, operands, any_free}
+use Rattle.validate_body.specs.calls.Algorithm.{apply, drop_any, both, select_known, select, step_basic, step_jump, step, targets_fit, closed, at_else, may_end, at_end}
 use Rattle.validate_body.proofs.Options.{none_is, map_inv, if_inv}
 use Rattle.validate_body.proofs.Jumps.{any_sound_inv, drop_inv}
 use Rattle.validate_body.proofs.Same.{emptied_inv, else_inv}

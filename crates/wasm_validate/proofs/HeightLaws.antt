@@ -1,7 +1,7 @@
 -- From marks to the operand types of the typing.
 use Rattle.std.proofs.Common.{◌≡◌, ℕ, zero, suc, ◌+◌, ◌-◌, ◌<◌, ◌≤◌, List, [], ◌∷◌, map, length, take, slice_get, refl, sym, ap, subst, ◌∙◌, arith, inl, inr, ⊎_elim, ◌++◌}
 use Rattle.std.proofs.lemmas.List.{map-append, length-map}
-use Rattle.validate_stack.proofs.StackLaws.{take_one}
+use Rattle.validate_body.proofs.StackLaws.{take_one}
 use Rattle.std.proofs.lemmas.Option.{slice_get_within, slice_get-map}
 use Rattle.std.specs.Prelude.{Option, Some, None, option_map, unwrap_or, ◌⊎◌}
 use Rattle.wasm_syntax.specs.declared.value.ValType.{ValType}
@@ -15,9 +15,9 @@ use Rattle.wasm_laws.proofs.Lists.{get_within}
 use Rattle.validate_body.specs.declared.marks.Mark.{Mark}
 use Rattle.validate_body.proofs.Options.{then_some, map_inv}
 use Rattle.wasm_validate.specs.Heights.{TypesAt, HasOp, HeightIs, StandsIn, AllLow, FirstHigh}
-use Rattle.wasm_validate.specs.Instructions.{HeightsAre}
-use Rattle.wasm_validate.specs.MarkedHeights.{height_or_zero, heights_of, IsGreatest, LowMarks, FirstHighMarks}
-use Rattle.wasm_validate.specs.Whole.{MarkedAt, MarkedUpTo}
+use Rattle.wasm_validate.specs.calls.Instructions.{HeightsAre}
+use Rattle.wasm_validate.specs.calls.MarkedHeights.{height_or_zero, heights_of, IsGreatest, LowMarks, FirstHighMarks}
+use Rattle.wasm_validate.specs.calls.Whole.{MarkedAt, MarkedUpTo}
 use Rattle.wasm_validate.proofs.Order.{index_back}
 use Rattle.wasm_validate.proofs.WholeLaws.{body_at}
 use Rattle.wasm_laws.proofs.Validity.{then_found}

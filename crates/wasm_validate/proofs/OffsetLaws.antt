@@ -11,7 +11,7 @@ use Rattle.wasm_syntax.specs.Valid.{defined_index}
 use Rattle.wasm_laws.proofs.Lists.{at_of, get_within}
 use Rattle.validate_body.proofs.Options.{none_is}
 use Rattle.wasm_validate.specs.Heights.{body_of}
-use Rattle.wasm_validate.specs.Instructions.{OpIs}
+use Rattle.wasm_validate.specs.calls.Instructions.{OpIs}
 use Rattle.wasm_syntax.specs.Sizes.{WithinLimits, ShortBody}
 use Rattle.wasm_validate.specs.inner.Offsets.{SplitsAt, IsNodeAt}
 use Rattle.wasm_laws.proofs.Validity.{then_found}

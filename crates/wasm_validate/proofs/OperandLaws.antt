@@ -13,10 +13,10 @@ use Rattle.wasm_syntax.specs.Typing.{Context, body_context}
 use Rattle.wasm_syntax.specs.FlatTyping.{TypesBefore}
 use Rattle.wasm_laws.proofs.FlatBodies.{Gives}
 use Rattle.wasm_laws.proofs.Lists.{at_of as in_list, there_at, get_within}
-use Rattle.validate_stack.specs.Frames.{Known, Frame, operands, any_free, topmost}
+use Rattle.validate_body.specs.calls.Frames.{Known, Frame, operands, any_free, topmost}
 use Rattle.validate_body.specs.declared.marks.Mark.{Mark}
-use Rattle.validate_body.specs.inner.Algorithm.{run, start, step}
-use Rattle.validate_body.specs.Marks.{mark_of, MarkIs, Marked}
+use Rattle.validate_body.specs.calls.Algorithm.{run, start, step}
+use Rattle.validate_body.specs.calls.Marks.{mark_of, MarkIs, Marked}
 use Rattle.validate_body.proofs.Through.{take_next, first_gives}
 use Rattle.validate_body.proofs.MarksLaws.{mark_is, frames_before, map_len}
 use Rattle.wasm_syntax.specs.Sizes.{ShortBody, WithinLimits}
@@ -25,8 +25,8 @@ use Rattle.wasm_syntax.specs.Typing.{IsBody}
 use Rattle.wasm_syntax.specs.Valid.{Valid, FuncTypeFine, BodyFine, There, defined_index}
 use Rattle.wasm_laws.proofs.FlatOne.{to_flat}
 use Rattle.wasm_validate.specs.Heights.{HasOp, HeightIs, TypesAt}
-use Rattle.wasm_validate.specs.Operands.{HasOperand, StaticAt, FewMarks, LastOf}
-use Rattle.wasm_validate.specs.Whole.{MarkedUpTo}
+use Rattle.wasm_validate.specs.calls.Operands.{HasOperand, StaticAt, FewMarks, LastOf}
+use Rattle.wasm_validate.specs.calls.Whole.{MarkedUpTo}
 use Rattle.wasm_validate.proofs.HeightLaws.{at_of, mark_at, height_of_mark, height_option, below_or}
 use Rattle.wasm_validate.proofs.RowLaws.{in_more}
 use Rattle.wasm_validate.proofs.Growth.{base, Below, tail_of, OneResult, base_live, Grows, step_grows}

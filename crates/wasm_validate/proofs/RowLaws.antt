@@ -6,7 +6,7 @@ use Rattle.std.specs.Prelude.{Bool, true, false, ◌⊎◌, Option, Some, None, 
 use Rattle.std.specs.List.Sorted.{IsNonDecreasingBy, IsPartitionPoint}
 use Rattle.wasm_laws.proofs.Lists.{get_front}
 use Rattle.validate_body.specs.declared.marks.Mark.{Mark}
-use Rattle.wasm_validate.specs.Operands.{Ascends, UpTo, IsRow, AreRows, RowsUpTo, LastOf}
+use Rattle.wasm_validate.specs.calls.Operands.{Ascends, UpTo, IsRow, AreRows, RowsUpTo, LastOf}
 use Rattle.wasm_validate.proofs.HeightLaws.{below_or}
 use Rattle.pm_text.proofs.Lists.{some_is, get_behind}
 

@@ -12,11 +12,11 @@ use Rattle.wasm_syntax.specs.Module.{function_types, type_at, option_then, decla
 use Rattle.wasm_syntax.specs.Tree.{Placed, code_of, placed}
 use Rattle.wasm_syntax.specs.Typing.{Context, body_context, IsBody}
 use Rattle.wasm_syntax.specs.Valid.{Fine, Valid, There, FirstWrong, FirstInvalid, OffsetIs, BodyFine, FuncTypeFine, DeclarationFine, defined_index, kind_number, index_number}
-use Rattle.validate_stack.specs.Frames.{Frame}
+use Rattle.validate_body.specs.calls.Frames.{Frame}
 use Rattle.validate_body.specs.declared.marks.Mark.{Mark}
-use Rattle.validate_body.specs.Marks.{Marked}
-use Rattle.validate_body.specs.inner.Bodies.{Judged}
-use Rattle.validate_body.specs.inner.Algorithm.{step, run, start}
+use Rattle.validate_body.specs.calls.Marks.{Marked}
+use Rattle.validate_body.specs.calls.Bodies.{Judged}
+use Rattle.validate_body.specs.calls.Algorithm.{step, run, start}
 use Rattle.validate_body.specs.declared.body.BodyFault.{BodyFault}
 use Rattle.validate_body.specs.declared.body.BodyFault.TheVariants.{WrongAt, NoMemory}
 use Rattle.validate_body.proofs.Options.{none_is, then_some}
@@ -25,7 +25,7 @@ use Rattle.validate_body.proofs.Through.{first_gives}
 use Rattle.wasm_laws.proofs.Lists.{get_front, get_within}
 use Rattle.wasm_syntax.specs.Sizes.{WithinLimits, local_count}
 use Rattle.wasm_validate.specs.inner.Places.{UpTo}
-use Rattle.wasm_validate.specs.Whole.{BodiesUpTo, BodyJudged, MarkedAt, MarkedUpTo}
+use Rattle.wasm_validate.specs.calls.Whole.{BodiesUpTo, BodyJudged, MarkedAt, MarkedUpTo}
 use Rattle.wasm_validate.proofs.Order.{there_is, there_from, index_back}
 use Rattle.wasm_laws.proofs.Validity.{then_found}
 use Rattle.pm_text.proofs.Lists.{some_is, get_behind}

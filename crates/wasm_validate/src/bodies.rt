@@ -4,7 +4,7 @@ ghost use Rattle.std.specs.Prelude.{◌≡◌, ◌<◌, length, slice_get, Some}
 ghost use Rattle.wasm_syntax.specs.Module.{IsModule};
 ghost use Rattle.wasm_syntax.specs.Sizes.{WithinLimits};
 ghost use Rattle.wasm_validate.specs.inner.Places.{UpTo};
-ghost use Rattle.wasm_validate.specs.Whole.{BodyJudged, BodiesJudged};
+ghost use Rattle.wasm_validate.specs.calls.Whole.{BodyJudged, BodiesJudged};
 ghost use Rattle.wasm_validate.specs.declared.bodies.BodiesFault.TheVariants as faults;
 
 use causes::NoMemory;

@@ -7,7 +7,7 @@ ghost use Rattle.wasm_syntax.specs.declared.place.Place.{Place as ModulePlace};
 ghost use Rattle.wasm_syntax.specs.Valid.{Valid, FirstInvalid};
 ghost use Rattle.wasm_validate.specs.declared.validated.ValidateFault.{ValidateFault as Fault};
 ghost use Rattle.wasm_validate.specs.declared.validated.ValidateFault.TheVariants.{NoMemory as want_of_memory};
-ghost use Rattle.wasm_validate.specs.Answers.{Answered};
+ghost use Rattle.wasm_validate.specs.calls.Answers.{Answered};
 ghost use Rattle.wasm_validate.specs.Heights.{AllLow, FirstHigh};
 
 /// A module has at most one first place that is not valid.

@@ -4,7 +4,7 @@ ghost use Rattle.std.specs.Prelude.{◌≡◌, ◌<◌, length, slice_get, Some}
 ghost use Rattle.std.specs.Option.{option_copied};
 ghost use Rattle.wasm_syntax.specs.Module.{IsModule};
 ghost use Rattle.wasm_validate.specs.Heights.{body_of as body_there};
-ghost use Rattle.wasm_validate.specs.Instructions.{is_node as is_node_there, OpIs};
+ghost use Rattle.wasm_validate.specs.calls.Instructions.{is_node as is_node_there, OpIs};
 ghost use Rattle.wasm_syntax.specs.Sizes.{WithinLimits};
 ghost use Rattle.wasm_validate.specs.inner.Offsets.{SplitsAt, IsNodeAt};
 

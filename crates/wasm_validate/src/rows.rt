@@ -2,7 +2,7 @@
 
 ghost use Rattle.std.specs.Prelude.{◌≡◌, ◌<◌, ◌+◌, ◌^◌, ℕ, List, [], ◌∷◌, ◌++◌, length, slice_get, slice_set, IfOk, OnOk, Some};
 ghost use Rattle.validate_body.specs.declared.marks.Mark.{Mark as MarkThere};
-ghost use Rattle.wasm_validate.specs.Operands.{Ascends, UpTo, AreRows, LastOf, FewMarks, RowsUpTo};
+ghost use Rattle.wasm_validate.specs.calls.Operands.{Ascends, UpTo, AreRows, LastOf, FewMarks, RowsUpTo};
 
 use crate::limit::{mark_in, marks_in};
 use causes::NoMemory;

@@ -4,13 +4,13 @@ ghost use Rattle.std.specs.Prelude.{◌≡◌, ◌<◌, ℕ, List, length, slice
 ghost use Rattle.wasm_syntax.specs.Module.{option_then};
 ghost use Rattle.validate_body.specs.declared.marks.Mark.{Mark as MarkThere};
 ghost use Rattle.wasm_syntax.specs.Valid.{Valid};
-ghost use Rattle.wasm_validate.specs.Answers.{Answered};
+ghost use Rattle.wasm_validate.specs.calls.Answers.{Answered};
 ghost use Rattle.wasm_validate.specs.Heights.{HasOp, HeightIs, AllLow};
-ghost use Rattle.wasm_validate.specs.Instructions.{HeightsAre, OpIs};
+ghost use Rattle.wasm_validate.specs.calls.Instructions.{HeightsAre, OpIs};
 ghost use Rattle.wasm_syntax.specs.Sizes.{WithinLimits};
-ghost use Rattle.wasm_validate.specs.Operands.{HasOperand, OperandIs, StaticAt, RowsUpTo, LastOf};
+ghost use Rattle.wasm_validate.specs.calls.Operands.{HasOperand, OperandIs, StaticAt, RowsUpTo, LastOf};
 ghost use Rattle.wasm_syntax.specs.declared.value.ValType.{ValType as Sort};
-ghost use Rattle.wasm_validate.specs.Whole.{MarkedUpTo};
+ghost use Rattle.wasm_validate.specs.calls.Whole.{MarkedUpTo};
 ghost use Rattle.wasm_validate.specs.declared.validated.ValidateFault.TheVariants as faults;
 
 use crate::bodies::{BodiesFault, check_bodies};
@@ -54,7 +54,7 @@ pub struct Validated {
 
 impl Model for Validated {
     ghost use Rattle.wasm_syntax.specs.declared.module.ModuleParts.{ModuleParts as Parts};
-    ghost use Rattle.wasm_validate.specs.Answers.{Checked as IsChecked};
+    ghost use Rattle.wasm_validate.specs.calls.Answers.{Checked as IsChecked};
 
     ghost Value = { Parts };
 

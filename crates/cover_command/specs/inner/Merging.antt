@@ -8,7 +8,7 @@ use Rattle.dwarf_line.specs.declared.lines.Lines.{Lines}
 use Rattle.debug_frames.specs.Files.{file_text}
 use Rattle.line_coverage.specs.declared.spots.Spot.{Spot}
 use Rattle.line_coverage.specs.declared.spots.LineCount.{LineCount}
-use Rattle.line_coverage.specs.Spots.{lines_sum}
+use Rattle.line_coverage.specs.calls.Spots.{lines_sum}
 use Rattle.cover_command.specs.declared.merging.FileLine.{FileLine}
 use Rattle.cover_command.specs.contracts.merging.FileLineOrd.TheImpl as file_line_ord
 use Rattle.cover_command.specs.SourceLines.{SourceLine, is_line}

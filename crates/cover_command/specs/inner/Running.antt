@@ -3,20 +3,20 @@ use Rattle.std.specs.Prelude.{◌≡◌, ◌<◌, ◌^◌, ℕ, Bool, List, map,
 use Rattle.wasm_syntax.specs.declared.parts.Import.{Import}
 use Rattle.wasm_syntax.specs.declared.module.ModuleParts.{ModuleParts as Module}
 use Rattle.wasm_syntax.specs.Module.{Program, function_export}
-use Rattle.machine_basics.specs.Traps.{trap_code}
+use Rattle.machine_basics.specs.calls.Traps.{trap_code}
 use Rattle.machine_steps.specs.Places.{Place}
-use Rattle.machine_steps.specs.Tallies.{Counts, Counted}
-use Rattle.host_devices.specs.HostSides.{Calls}
+use Rattle.machine_steps.specs.calls.Tallies.{Counts, Counted}
+use Rattle.host_devices.specs.calls.HostSides.{Calls}
 use Rattle.machine_hosted.specs.declared.answer.RunEnd.{RunEnd}
 use Rattle.machine_hosted.specs.declared.answer.RunEnd.TheVariants.{Finished, Trapped, NoReply, BadReply, DeviceFault, FuelSpent, NoMemory}
-use Rattle.wasm_machine.specs.Instances.{State, IsOf, Invoked}
-use Rattle.wasm_machine.specs.Watching.{Seen}
-use Rattle.command_answers.specs.Texts.{ended}
-use Rattle.command_answers.specs.declared.outcome.Outcome.{Outcome}
-use Rattle.command_answers.specs.declared.status.Status.TheVariants as status
+use Rattle.wasm_machine.specs.calls.Instances.{State, IsOf, Invoked}
+use Rattle.wasm_machine.specs.calls.Watching.{Seen}
+use Rattle.commands.specs.Texts.{ended}
+use Rattle.commands.specs.declared.outcome.Outcome.{Outcome}
+use Rattle.commands.specs.declared.status.Status.TheVariants as status
 use Rattle.run_words.specs.declared.cover.CoverWords.{CoverWords}
-use Rattle.run_session.specs.RunText.{kind_line}
-use Rattle.run_session.specs.inner.Answers.{answer_line}
+use Rattle.commands.specs.Lines.{kind_line}
+use Rattle.run_session.specs.calls.Answers.{answer_line}
 use Rattle.debug_frames.specs.declared.programs.Program.{Program as LineProgram}
 use Rattle.cover_command.specs.SourceLines.{source_line}
 use Rattle.cover_command.specs.CoverText.{CoverText}

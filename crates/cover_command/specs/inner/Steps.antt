@@ -8,10 +8,10 @@ use Rattle.wasm_syntax.specs.Valid.{Valid}
 use Rattle.wasm_decode.specs.Decode.{module_from}
 use Rattle.wasm_validate.specs.Heights.{AllLow}
 use Rattle.host_set.specs.Sets.{DeviceState}
-use Rattle.command_answers.specs.Inputs.{Then}
-use Rattle.command_answers.specs.Loading.{IfLoaded}
-use Rattle.command_answers.specs.Told.{OnContents}
-use Rattle.command_answers.specs.declared.outcome.Outcome.{Outcome}
+use Rattle.commands.specs.Inputs.{Then}
+use Rattle.commands.specs.Loading.{IfLoaded}
+use Rattle.commands.specs.Told.{OnContents}
+use Rattle.commands.specs.declared.outcome.Outcome.{Outcome}
 use Rattle.run_words.specs.declared.cover.CoverWords.{CoverWords}
 use Rattle.run_session.specs.Stop.{Stop, no_memory}
 use Rattle.run_command.specs.Hosting.{start_text}

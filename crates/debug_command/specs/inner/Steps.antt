@@ -1,8 +1,8 @@
 -- What the code comes to between two steps of the command.
 use Rattle.std.specs.Prelude.{◌≡◌, ℕ, List, ◌++◌}
-use Rattle.debug_commands.specs.Commands.{read_command}
+use Rattle.debugger.specs.Commands.{read_command}
 use Rattle.debugger.specs.Session.{Prints, chosen_behind}
-use Rattle.debugger.specs.Sitting.{Sitting, sitting}
+use Rattle.debugger.specs.calls.Sitting.{Sitting, sitting}
 
 -- a command of a session adds its text
 abbrev pub Adds : Sitting → List ℕ → List ℕ → Sitting → List ℕ → Type 0

@@ -2,7 +2,7 @@
 use Rattle.std.specs.Prelude.{ℕ, ℤ, pos, List, [], flat_map, map}
 use Rattle.std.specs.Option.{option_to_list}
 use Rattle.dwarf_line.specs.declared.lines.Sequence.{Sequence}
-use Rattle.dwarf_line.specs.inner.Held.{held}
+use Rattle.dwarf_line.specs.calls.Held.{held}
 use Rattle.debug_frames.specs.declared.programs.Program.{Program}
 use Rattle.debug_frames.specs.declared.programs.Program.TheVariants.{Read, Unreadable}
 

@@ -24,7 +24,7 @@ use Rattle.dump_format.specs.Region.{Region}
 use Rattle.dump_format.specs.Form.{module_item, instance_item, limits_item, segment_item, pages_of}
 use Rattle.dump_format.specs.Judged.{first_of, over, at_float, at_repeated}
 use Rattle.dump_format.specs.Sections.{may_follow}
-use Rattle.dump_format.specs.Noting.{noted_vector, value_noting, stack_noting}
+use Rattle.dump_format.specs.calls.Noting.{noted_vector, value_noting, stack_noting}
 use Rattle.wasm_bytes.specs.Tables.{header}
 use Rattle.wasm_bytes.specs.Refusals.{◌orelse◌, unless_refused}
 

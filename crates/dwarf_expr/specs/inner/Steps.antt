@@ -3,7 +3,7 @@ use Rattle.std.specs.Prelude.{◌≡◌, ℕ, suc, List, [], ◌∷◌, Option, 
 use Rattle.int_ops.specs.Integers.{modulo}
 use Rattle.wasm_bytes.specs.Place.{Place}
 use Rattle.wasm_bytes.specs.declared.faults.Malformed.{Malformed}
-use Rattle.wasm_bytes.specs.Answers.{Reads}
+use Rattle.wasm_bytes.specs.calls.Answers.{Reads}
 use Rattle.dwarf_bytes.specs.Format.{Format, read}
 use Rattle.dwarf_expr.specs.declared.answer.Base.{Base}
 use Rattle.dwarf_expr.specs.declared.answer.Eval.{Eval}

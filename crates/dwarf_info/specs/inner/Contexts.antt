@@ -2,7 +2,7 @@
 use Rattle.std.specs.Prelude.{◌≡◌, ℕ, List, Option, Some, None, Result, Ok, Err}
 use Rattle.wasm_bytes.specs.declared.faults.ItemFault.{ItemFault}
 use Rattle.wasm_bytes.specs.Place.{Place}
-use Rattle.wasm_bytes.specs.Answers.{Fails}
+use Rattle.wasm_bytes.specs.calls.Answers.{Fails}
 use Rattle.dwarf_info.specs.declared.form.Shape.{Shape}
 use Rattle.dwarf_info.specs.declared.growing.Growing.{Growing}
 use Rattle.dwarf_info.specs.Sections.{SectionBytes5}

@@ -3,7 +3,7 @@ use Rattle.std.specs.Prelude.{◌≡◌, List, Option, Some, None}
 use Rattle.dwarf_info.specs.declared.entry.Entry.{Entry}
 use Rattle.dwarf_info.specs.declared.entry.UnitAnswer.{UnitAnswer}
 use Rattle.dwarf_info.specs.declared.places.EntryPlace.{EntryPlace}
-use Rattle.dwarf_info.specs.EntryPlaces.{entry_there}
+use Rattle.dwarf_info.specs.calls.EntryPlaces.{entry_there}
 
 -- That entry stands at that place.
 abbrev pub IsTied : List UnitAnswer → Option EntryPlace → Option Entry → Type 0

@@ -5,8 +5,8 @@ use Rattle.dwarf_info.specs.Attributes.{valued, as_offset, ranges}
 use Rattle.dwarf_entries.specs.Standing.{Standing}
 use Rattle.dwarf_scopes.specs.Ranges.{bounds_of}
 use Rattle.dwarf_scopes.specs.declared.holders.Holders.{Holders}
-use Rattle.dwarf_scopes.specs.inner.Numbered.{ranges_from, numbers_from}
-use Rattle.dwarf_scopes.specs.inner.Steps.{Answer}
+use Rattle.dwarf_scopes.specs.calls.Numbered.{ranges_from, numbers_from}
+use Rattle.dwarf_scopes.specs.calls.Steps.{Answer}
 
 abbrev pub bounds_in : Standing → List (ℕ × ℤ)
 bounds_in x = option_to_list (bounds_of x.entry)

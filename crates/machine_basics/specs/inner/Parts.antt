@@ -1,8 +1,8 @@
 -- What the parts of the code do: each performs instructions of one kind.
 use Rattle.std.specs.Prelude.{◌≡◌, ℕ, ◌-◌, ◌^◌, List, ◌∷◌, Option, Some, None}
 use Rattle.linear_memory.specs.Memory.{Memory, pages, grow}
-use Rattle.linear_memory.specs.Paged.{Paged}
-use Rattle.machine_basics.specs.Traps.{trap_code}
+use Rattle.linear_memory.specs.calls.Paged.{Paged}
+use Rattle.machine_basics.specs.calls.Traps.{trap_code}
 use Rattle.wasm_syntax.specs.declared.value.Value.{Value}
 use Rattle.wasm_syntax.specs.declared.value.Value.TheVariants as values
 use Rattle.wasm_syntax.specs.Effect.{Effect}
@@ -10,7 +10,7 @@ use Rattle.wasm_syntax.specs.Host.{World}
 use Rattle.machine_basics.specs.declared.answer.Performed.{Performed}
 use Rattle.machine_basics.specs.declared.answer.Performed.TheVariants.{Done, Trap, NoMemory}
 use Rattle.machine_basics.specs.declared.shared.Shared.{Shared}
-use Rattle.machine_basics.specs.Performs.{Does, Holds, laid_out}
+use Rattle.machine_basics.specs.calls.Performs.{Does, Holds, laid_out}
 
 -- the operands then; the locals and the world are the same
 abbrev pub Acts : Effect → Performed → World → (locals operands : List Value) → Type 0

@@ -9,7 +9,7 @@ use Rattle.wasm_syntax.specs.Machine.{Engine}
 use Rattle.wasm_syntax.specs.Run.{run_alone}
 use Rattle.linear_memory.specs.Memory.{Memory}
 use Rattle.machine_basics.specs.declared.shared.Shared.{Shared}
-use Rattle.machine_hosted.specs.Hosted.{Going, replying}
+use Rattle.machine_hosted.specs.calls.Hosted.{Going, replying}
 use Rattle.machine_hosted.specs.declared.answer.RunEnd.{RunEnd}
 use Rattle.machine_hosted.specs.declared.answer.RunEnd.TheVariants.{Finished, Trapped, NoReply, BadReply, DeviceFault, FuelSpent, NoMemory}
 

@@ -8,16 +8,16 @@ use Rattle.wasm_syntax.specs.Module.{Program}
 use Rattle.wasm_syntax.specs.Host.{World}
 use Rattle.wasm_syntax.specs.Machine.{Stepped, next, ends, traps, no_reply, bad_reply, stuck, first}
 use Rattle.wasm_syntax.specs.Run.{ended}
-use Rattle.machine_basics.specs.Traps.{trap_code}
+use Rattle.machine_basics.specs.calls.Traps.{trap_code}
 use Rattle.machine_code.specs.declared.code.Code.{Code}
 use Rattle.machine_steps.specs.declared.machine.Machine.{Machine}
-use Rattle.machine_steps.specs.Meets.{StandsFor, Shares}
-use Rattle.host_devices.specs.HostSides.{Calls}
+use Rattle.machine_steps.specs.calls.Meets.{StandsFor, Shares}
+use Rattle.host_devices.specs.calls.HostSides.{Calls}
 use Rattle.host_devices.specs.Given.{replies_of}
 use Rattle.machine_hosted.specs.declared.answer.RunEnd.{RunEnd}
 use Rattle.machine_hosted.specs.declared.answer.RunEnd.TheVariants.{Finished, Trapped, NoReply, BadReply, DeviceFault, FuelSpent, NoMemory}
-use Rattle.machine_hosted.specs.Hosted.{Asked, Grew, Served, Going, IsFaultOf, IsUsedUp}
-use Rattle.machine_hosted.specs.Answers.{AdmitsReplies, given_steps}
+use Rattle.machine_hosted.specs.calls.Hosted.{Asked, Grew, Served, Going, IsFaultOf, IsUsedUp}
+use Rattle.machine_hosted.specs.calls.Answers.{AdmitsReplies, given_steps}
 
 -- the machine, where the last frame was left with these results, of which the first one is given
 pub record IsLeft (m : Machine) (w : World) (results : List Value) (value : Option Value) : Type 0 where

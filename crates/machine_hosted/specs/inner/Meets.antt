@@ -12,7 +12,7 @@ use Rattle.wasm_syntax.specs.Machine.{Engine, Config, host_call}
 use Rattle.machine_code.specs.declared.code.Code.{Code}
 use Rattle.machine_steps.specs.declared.machine.Machine.{Machine}
 use Rattle.machine_steps.specs.declared.machine.ImportCall.{ImportCall}
-use Rattle.machine_steps.specs.Meets.{StandsFor, CallsImport}
+use Rattle.machine_steps.specs.calls.Meets.{StandsFor, CallsImport}
 use Rattle.machine_hosted.specs.declared.reply.Replied.{Replied}
 use Rattle.machine_hosted.specs.declared.reply.Replied.TheVariants.{Done, Misfit, NoMemory}
 

@@ -5,10 +5,10 @@ use Rattle.wasm_syntax.specs.declared.host.CollectorCall.{CollectorCall}
 use Rattle.wasm_syntax.specs.Host.{World}
 use Rattle.wasm_syntax.specs.Machine.{Engine, Config, config, Stepped, label}
 use Rattle.machine_code.specs.declared.code.Code.{Code}
-use Rattle.machine_frames.specs.Meets.{with_labels}
+use Rattle.machine_steps.specs.calls.FramesMeet.{with_labels}
 use Rattle.machine_steps.specs.declared.machine.Machine.{Machine}
 use Rattle.machine_steps.specs.declared.machine.ImportCall.{ImportCall}
-use Rattle.machine_steps.specs.Meets.{StandsFor, CallsImport}
+use Rattle.machine_steps.specs.calls.Meets.{StandsFor, CallsImport}
 
 -- what a call takes from the operands
 abbrev pub Taken : Bool → ℕ → List Value → Type 0

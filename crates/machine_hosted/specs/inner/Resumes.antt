@@ -7,9 +7,9 @@ use Rattle.wasm_syntax.specs.Machine.{Engine, Config, config, host_call}
 use Rattle.wasm_syntax.specs.Run.{Ended, run_alone, run_steps}
 use Rattle.machine_code.specs.declared.code.Code.{Code}
 use Rattle.machine_steps.specs.declared.machine.Machine.{Machine}
-use Rattle.machine_steps.specs.Meets.{StandsFor, Shares}
-use Rattle.machine_hosted.specs.Safe.{WorldFits, RunFits}
-use Rattle.machine_hosted.specs.Hosted.{Going, replying}
+use Rattle.machine_steps.specs.calls.Meets.{StandsFor, Shares}
+use Rattle.machine_hosted.specs.calls.Safe.{WorldFits, RunFits}
+use Rattle.machine_hosted.specs.calls.Hosted.{Going, replying}
 
 -- a configuration with these replies left
 abbrev pub with_replies : Config → List Reply → Config

@@ -14,18 +14,18 @@ use Rattle.wasm_syntax.specs.Machine.{Engine, Frame, Config, config, Stepped, st
 use Rattle.wasm_syntax.specs.Run.{run_steps}
 use Rattle.machine_code.specs.declared.code.Code.{Code}
 use Rattle.machine_steps.specs.declared.machine.Machine.{Machine}
-use Rattle.machine_steps.specs.declared.machine.Prepared.{Prepared}
+use Rattle.machine_code.specs.declared.prepared.Prepared.{Prepared}
 use Rattle.machine_steps.specs.declared.machine.ImportCall.{ImportCall}
-use Rattle.machine_steps.specs.Meets.{CallsImport}
-use Rattle.machine_steps.specs.inner.Runs.{Begins}
-use Rattle.machine_hosted.specs.Safe.{ValidProgram}
-use Rattle.host_devices.specs.HostSides.{Calls}
+use Rattle.machine_steps.specs.calls.Meets.{CallsImport}
+use Rattle.machine_steps.specs.calls.Runs.{Begins}
+use Rattle.machine_hosted.specs.calls.Safe.{ValidProgram}
+use Rattle.host_devices.specs.calls.HostSides.{Calls}
 use Rattle.machine_hosted.specs.declared.answer.RunEnd.{RunEnd}
 use Rattle.machine_hosted.specs.declared.answer.RunEnd.TheVariants.{Finished, Trapped, NoReply, BadReply, DeviceFault, FuelSpent, NoMemory}
 use Rattle.machine_hosted.specs.declared.turn.Turn.{Turn}
 use Rattle.machine_hosted.specs.declared.turn.Turn.TheVariants.{Goes, Ends, Lacking}
-use Rattle.machine_hosted.specs.Hosted.{replying, Asked, Grew, Served, Going}
-use Rattle.machine_hosted.specs.Answers.{AdmitsReplies}
+use Rattle.machine_hosted.specs.calls.Hosted.{replying, Asked, Grew, Served, Going}
+use Rattle.machine_hosted.specs.calls.Answers.{AdmitsReplies}
 use Rattle.machine_hosted.specs.inner.FrameRuns.{Tells}
 use Rattle.host_devices.specs.Given.{replies_of}
 

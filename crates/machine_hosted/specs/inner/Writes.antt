@@ -2,7 +2,7 @@
 use Rattle.std.specs.Prelude.{◌≡◌, ◌+◌, ℕ, Bool, true, ◌&&◌, nat_le, List, [], ◌∷◌, length, Some, None, option_map}
 use Rattle.wasm_syntax.specs.declared.host.Write.{Write}
 use Rattle.wasm_syntax.specs.Host.{World, after_writes}
-use Rattle.linear_memory.specs.Paged.{Paged}
+use Rattle.linear_memory.specs.calls.Paged.{Paged}
 use Rattle.machine_basics.specs.declared.shared.Shared.{Shared}
 use Rattle.machine_hosted.specs.declared.reply.Replied.{Replied}
 use Rattle.machine_hosted.specs.declared.reply.Replied.TheVariants.{Done, Misfit, NoMemory}

@@ -6,7 +6,7 @@ use Rattle.wasm_syntax.specs.Tree.{Nodes}
 use Rattle.wasm_syntax.specs.Module.{function_at}
 use Rattle.wasm_syntax.specs.Host.{World}
 use Rattle.wasm_syntax.specs.Machine.{Engine, Label, Frame, Stepped, stuck, calls, calls_typed, trapped}
-use Rattle.machine_basics.specs.Traps.{trap_code}
+use Rattle.machine_basics.specs.calls.Traps.{trap_code}
 use Rattle.machine_steps.specs.declared.indirect.Entry.{Entry}
 use Rattle.machine_steps.specs.declared.indirect.Entry.TheVariants as entries
 

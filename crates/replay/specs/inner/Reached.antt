@@ -5,14 +5,14 @@ use Rattle.wasm_syntax.specs.declared.host.Reply.{Reply}
 use Rattle.wasm_syntax.specs.Module.{Program, IsModule, function_export}
 use Rattle.wasm_syntax.specs.Run.{start_world}
 use Rattle.host_devices.specs.Given.{replies_of}
-use Rattle.machine_hosted.specs.Settings.{world_of}
-use Rattle.machine_hosted.specs.Answers.{AdmitsReplies}
-use Rattle.machine_hosted.specs.Courses.{Course, CameBy}
+use Rattle.machine_hosted.specs.calls.Settings.{world_of}
+use Rattle.machine_hosted.specs.calls.Answers.{AdmitsReplies}
+use Rattle.machine_hosted.specs.calls.Courses.{Course, CameBy}
 use Rattle.machine_hosted.specs.declared.answer.RunEnd.{RunEnd}
 use Rattle.machine_hosted.specs.declared.answer.RunEnd.TheVariants.{Finished, Trapped, NoReply, BadReply, DeviceFault, FuelSpent, NoMemory}
 use Rattle.wasm_machine.specs.declared.invocation.End.{End}
 use Rattle.wasm_machine.specs.declared.invocation.LastInvocation.{LastInvocation}
-use Rattle.wasm_machine.specs.Instances.{State, kept_end, StoppedBy}
+use Rattle.wasm_machine.specs.calls.Instances.{State, kept_end, StoppedBy}
 use Rattle.replay.specs.Replays.{Recording, IsOf, cause_in}
 
 -- this, where memory sufficed

@@ -1,10 +1,10 @@
 -- How a run starts.
 use Rattle.std.specs.Prelude.{◌≡◌, Option, Some, None, Result, Ok, Err}
-use Rattle.machine_start.specs.declared.started.StartFault.{StartFault}
-use Rattle.machine_start.specs.declared.started.StartFault.TheVariants as starts
+use Rattle.wasm_machine.specs.declared.started.StartFault.{StartFault}
+use Rattle.wasm_machine.specs.declared.started.StartFault.TheVariants as starts
 use Rattle.wasm_machine.specs.declared.entries.EntryFault.{EntryFault}
 use Rattle.wasm_machine.specs.declared.entries.EntryFault.TheVariants as entries
-use Rattle.wasm_machine.specs.Instances.{State, IsNew}
+use Rattle.wasm_machine.specs.calls.Instances.{State, IsNew}
 use Rattle.replay.specs.declared.fault.ReplayFault.{ReplayFault}
 use Rattle.replay.specs.declared.fault.ReplayFault.TheVariants as faults
 use Rattle.replay.specs.Replays.{Recording, cause_in}

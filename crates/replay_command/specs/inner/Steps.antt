@@ -5,15 +5,15 @@ use Rattle.wasm_syntax.specs.declared.module.ModuleParts.{ModuleParts as Module}
 use Rattle.wasm_syntax.specs.Module.{Program}
 use Rattle.wasm_syntax.specs.Run.{Outcome}
 use Rattle.machine_hosted.specs.declared.answer.RunEnd.{RunEnd}
-use Rattle.debug_commands.specs.Commands.{read_command}
-use Rattle.debug_subject.specs.Subject.{Subject}
+use Rattle.debugger.specs.Commands.{read_command}
+use Rattle.debugger.specs.Subject.{Subject}
 use Rattle.debugger.specs.Session.{Prints, chosen_behind}
-use Rattle.debugger.specs.Sitting.{Sitting, sitting}
+use Rattle.debugger.specs.calls.Sitting.{Sitting, sitting}
 use Rattle.replay.specs.Replays.{Recording, IsOf, IsEnd, IsOutcome, EndsWith, outcome_at}
 use Rattle.replay.specs.Moves.{Replay}
-use Rattle.replay_words.specs.declared.moves.Move.{Move}
-use Rattle.replay_words.specs.declared.moves.Move.TheVariants.{Look}
-use Rattle.replay_words.specs.Moves.{read_move}
+use Rattle.replay_command.specs.declared.moves.Move.{Move}
+use Rattle.replay_command.specs.declared.moves.Move.TheVariants.{Look}
+use Rattle.replay_command.specs.Moves.{read_move}
 use Rattle.replay_command.specs.ReplayText.{At, at_frame, DoesMove, DoAll, commands_in}
 
 -- ---- what looks

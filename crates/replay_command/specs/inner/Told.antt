@@ -1,7 +1,7 @@
 -- What the code comes to where a run starts, and where it does not.
 use Rattle.std.specs.Prelude.{◌≡◌, ℕ, ◌<◌, ◌^◌, List, Some}
 use Rattle.wasm_syntax.specs.declared.module.ModuleParts.{ModuleParts as Module}
-use Rattle.command_answers.specs.declared.outcome.Outcome.{Outcome}
+use Rattle.commands.specs.declared.outcome.Outcome.{Outcome}
 use Rattle.run_command.specs.Starting.{cause_text, not_started_with}
 use Rattle.replay.specs.declared.fault.ReplayFault.{ReplayFault}
 use Rattle.replay.specs.Moves.{IsFault, Replay}

@@ -12,9 +12,9 @@ use Rattle.wasm_syntax.specs.declared.instruction.Basic.{Basic}
 use Rattle.wasm_syntax.specs.Effect.{takes, Effect, gives, fails, unfit, effect}
 use Rattle.rewrite_bodies.specs.Offsets.{SmallOffset}
 use Rattle.rewrite_bodies.specs.Guards.{can_trap, guard}
-use Rattle.rewrite_bodies.specs.inner.Steps.{To, Shell, st}
-use Rattle.rewrite_bodies.specs.Agreement.{Holds, Wit, MemoryFits, FitsConfig, Wrap, image}
-use Rattle.rewrite_bodies.specs.inner.Standing.{After, Stands}
+use Rattle.rewrite_bodies.specs.calls.Steps.{To, Shell, st}
+use Rattle.rewrite_bodies.specs.calls.Agreement.{Holds, Wit, MemoryFits, FitsConfig, Wrap, image}
+use Rattle.rewrite_bodies.specs.calls.Standing.{After, Stands}
 
 -- the kind with which it traps, or 0
 abbrev pub kind_of : Effect → ℕ

@@ -15,10 +15,10 @@ use Rattle.wasm_syntax.specs.Host.{World}
 use Rattle.wasm_syntax.specs.Machine.{Frame, Config, config, Engine, traps, entered, result_of, deliver, step}
 use Rattle.wasm_syntax.specs.Run.{engine, start_world, cause_of_segments}
 use Rattle.rewrite_bodies.specs.Numbering.{wrapped, wrapper_base, global_types}
-use Rattle.rewrite_bodies.specs.Agreement.{Wit, WorldFits, FitsFrame, FitsFrames, FitsConfig, Wrap, w_frame, t_frames, flagged, image, zero_vs, last_result}
-use Rattle.rewrite_bodies.specs.inner.Standing.{After}
-use Rattle.rewrite_bodies.specs.inner.Steps.{Gets, To}
-use Rattle.rewrite_bodies.specs.inner.Telling.{tell_locals, tell_frame, tell_outer}
+use Rattle.rewrite_bodies.specs.calls.Agreement.{Wit, WorldFits, FitsFrame, FitsFrames, FitsConfig, Wrap, w_frame, t_frames, flagged, image, zero_vs, last_result}
+use Rattle.rewrite_bodies.specs.calls.Standing.{After}
+use Rattle.rewrite_bodies.specs.calls.Steps.{Gets, To}
+use Rattle.rewrite_bodies.specs.calls.Telling.{tell_locals, tell_frame, tell_outer}
 use Rattle.rewrite_modules.specs.Instrument.{instrument}
 use Rattle.rewrite_modules.specs.Wrappers.{after_wrapped}
 

@@ -4,11 +4,11 @@ use Rattle.causes.specs.declared.NoMemory.{NoMemory as WantOfMemory}
 use Rattle.pm_outside.specs.Contents.{Contents}
 use Rattle.wasm_syntax.specs.declared.host.Reply.{Reply}
 use Rattle.wasm_syntax.specs.declared.host.Served.{Served}
-use Rattle.dump_write.specs.Written.{OnTold}
-use Rattle.command_answers.specs.Texts.{file_fault}
-use Rattle.command_answers.specs.declared.outcome.Outcome.{Outcome}
-use Rattle.command_answers.specs.declared.status.Status.TheVariants as status
-use Rattle.run_session.specs.Written.{HoldThen, HoldPart}
+use Rattle.pm_outside.specs.Written.{OnTold}
+use Rattle.commands.specs.Texts.{file_fault}
+use Rattle.commands.specs.declared.outcome.Outcome.{Outcome}
+use Rattle.commands.specs.declared.status.Status.TheVariants as status
+use Rattle.pm_outside.specs.Held.{HoldThen, HoldPart}
 use Rattle.run_command.specs.Recorded.{record_file, IsReadBack}
 
 -- how many replies do not fit, of so many at most one

@@ -2,10 +2,10 @@
 use Rattle.std.specs.Prelude.{List, Option}
 use Rattle.pm_outside.specs.Contents.{Contents}
 use Rattle.wasm_syntax.specs.declared.host.Served.{Served}
-use Rattle.dump_write.specs.Written.{OnTold}
+use Rattle.pm_outside.specs.Written.{OnTold}
 use Rattle.host_set.specs.Sets.{DeviceState}
-use Rattle.command_answers.specs.declared.outcome.Outcome.{Outcome}
-use Rattle.run_session.specs.Written.{Writes, HoldThen}
+use Rattle.commands.specs.declared.outcome.Outcome.{Outcome}
+use Rattle.pm_outside.specs.Held.{Writes, HoldThen}
 use Rattle.run_command.specs.RunAnswer.{IfRefusal, IsUntouched}
 
 -- this is answered, where the devices are these before and after, and files tell this before and then

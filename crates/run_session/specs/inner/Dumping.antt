@@ -6,12 +6,13 @@ use Rattle.dump_format.specs.declared.dump.Frame.{Frame as FormatFrame}
 use Rattle.dump_write.specs.Canonical.{canonical_bytes}
 use Rattle.dump_write.specs.Image.{DumpFrame, Dump}
 use Rattle.dump_write.specs.ImageBytes.{bytes_of}
-use Rattle.dump_write.specs.Written.{OnTold}
-use Rattle.command_answers.specs.declared.outcome.Outcome.{Outcome}
+use Rattle.pm_outside.specs.Written.{OnTold}
+use Rattle.commands.specs.declared.outcome.Outcome.{Outcome}
 use Rattle.run_session.specs.Telling.{Telling}
 use Rattle.run_session.specs.Telling as telling
-use Rattle.run_session.specs.RunText.{kind_line, place_line, place_text, calls_text, telling_text, with_dump, with_trap}
-use Rattle.run_session.specs.Written.{Writes, HoldThen, HoldPart}
+use Rattle.run_session.specs.RunText.{place_line, place_text, calls_text, telling_text, with_dump, with_trap}
+use Rattle.commands.specs.Lines.{kind_line}
+use Rattle.pm_outside.specs.Held.{Writes, HoldThen, HoldPart}
 use Rattle.run_session.specs.declared.told.Told.{Told}
 use Rattle.run_session.specs.declared.told.Told.TheVariants.{Nothing, Finish, Trap, BareTrap, Torn}
 use Rattle.run_session.specs.declared.turns.Lines.{Lines}

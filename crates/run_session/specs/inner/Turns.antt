@@ -6,16 +6,16 @@ use Rattle.wasm_syntax.specs.declared.host.CollectorCall.{CollectorCall}
 use Rattle.wasm_syntax.specs.Machine.{Config}
 use Rattle.wasm_syntax.specs.Module.{Program}
 use Rattle.wasm_syntax.specs.Run.{Outcome as RunOutcome, Ran, goes_on}
-use Rattle.dump_write.specs.Written.{OnTold}
+use Rattle.pm_outside.specs.Written.{OnTold}
 use Rattle.machine_hosted.specs.declared.answer.RunEnd.{RunEnd}
-use Rattle.machine_hosted.specs.Answers.{KeepsThen}
-use Rattle.machine_hosted.specs.Invocations.{HasOutcome, may_follow}
-use Rattle.wasm_machine.specs.Instances.{State, IsOf}
-use Rattle.command_answers.specs.declared.outcome.Outcome.{Outcome}
+use Rattle.machine_hosted.specs.calls.Answers.{KeepsThen}
+use Rattle.machine_hosted.specs.calls.Invocations.{HasOutcome, may_follow}
+use Rattle.wasm_machine.specs.calls.Instances.{State, IsOf}
+use Rattle.commands.specs.declared.outcome.Outcome.{Outcome}
 use Rattle.run_session.specs.Telling.{Tells, told, torn_in, HasDump}
 use Rattle.run_session.specs.RunText.{invocation_text, dumps_from, traps_in}
 use Rattle.run_session.specs.Given.{given_to}
-use Rattle.run_session.specs.Written.{Writes, HoldThen, HoldPart}
+use Rattle.pm_outside.specs.Held.{Writes, HoldThen, HoldPart}
 use Rattle.run_session.specs.inner.Dumping.{IsTold}
 use Rattle.run_session.specs.declared.told.Told.{Told}
 use Rattle.run_session.specs.declared.turns.Lines.{Lines}

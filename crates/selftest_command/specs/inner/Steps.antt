@@ -10,12 +10,12 @@ use Rattle.wasm_validate.specs.Heights.{AllLow}
 use Rattle.wasm_bytes.specs.Laws.{IsBytes}
 use Rattle.dump_write.specs.ImageBytes.{bytes_of}
 use Rattle.host_collector.specs.Collecting.{is_told, is_collected}
-use Rattle.wasm_machine.specs.Entries.{first_unserved}
-use Rattle.command_answers.specs.declared.outcome.Outcome.{Outcome}
-use Rattle.run_collected.specs.Delivery.{Delivery, nothing, whole, torn, Delivers, dump_of}
+use Rattle.wasm_machine.specs.calls.Entries.{first_unserved}
+use Rattle.commands.specs.declared.outcome.Outcome.{Outcome}
+use Rattle.run_session.specs.Delivery.{Delivery, nothing, whole, torn, Delivers, dump_of}
 use Rattle.run_session.specs.Telling.{memory_in}
-use Rattle.selftest_module.specs.Selftest.{selftest}
-use Rattle.selftest_laws.specs.Handing.{fuel, RunsOnce}
+use Rattle.selftest_command.specs.Selftest.{selftest}
+use Rattle.selftest_command.specs.Handing.{fuel, RunsOnce}
 use Rattle.selftest_command.specs.Summary.{Dumped, summary}
 use Rattle.selftest_command.specs.SelftestAnswer.{module_bytes}
 

@@ -5,13 +5,13 @@ use Rattle.wasm_syntax.specs.declared.instruction.Basic.{Basic}
 use Rattle.wasm_syntax.specs.declared.instruction.Basic.TheVariants.{Drop, Select}
 use Rattle.wasm_syntax.specs.declared.module.ModuleParts.{ModuleParts as Module}
 use Rattle.wasm_syntax.specs.Typing.{Context, Arrow, ◌⇒◌}
-use Rattle.validate_stack.specs.declared.stack.Control.{Control}
-use Rattle.validate_stack.specs.declared.stack.StackFault.{StackFault}
-use Rattle.validate_stack.specs.declared.stack.StackFault.TheVariants.{Wrong, NoMemory}
-use Rattle.validate_stack.specs.Frames.{Frame}
-use Rattle.validate_stack.specs.inner.Stacked.{frame_of}
+use Rattle.validate_body.specs.declared.stack.Control.{Control}
+use Rattle.validate_body.specs.declared.stack.StackFault.{StackFault}
+use Rattle.validate_body.specs.declared.stack.StackFault.TheVariants.{Wrong, NoMemory}
+use Rattle.validate_body.specs.calls.Frames.{Frame}
+use Rattle.validate_body.specs.inner.Stacked.{frame_of}
 use Rattle.validate_body.specs.declared.shape.Shape.{Shape}
-use Rattle.validate_body.specs.inner.Algorithm.{closed}
+use Rattle.validate_body.specs.calls.Algorithm.{closed}
 
 -- the types that are taken, and the one that is given, where there are so many
 abbrev pub arrow_of : Shape → Arrow

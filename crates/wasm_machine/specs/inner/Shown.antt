@@ -4,9 +4,9 @@ use Rattle.std.specs.Prelude.{ℕ, ◌+◌, ◌-◌, ◌^◌, min, List, [], ◌
 use Rattle.wasm_syntax.specs.declared.value.Value.{Value}
 use Rattle.wasm_syntax.specs.Module.{option_then}
 use Rattle.machine_code.specs.declared.code.Code.{Code}
-use Rattle.machine_frames.specs.declared.layout.CallFrame.{CallFrame}
+use Rattle.machine_steps.specs.declared.layout.CallFrame.{CallFrame}
 use Rattle.machine_steps.specs.declared.machine.Machine.{Machine}
-use Rattle.machine_steps.specs.declared.machine.Prepared.{Prepared}
+use Rattle.machine_code.specs.declared.prepared.Prepared.{Prepared}
 use Rattle.dump_write.specs.Image.{DumpFrame}
 use Rattle.wasm_machine.specs.declared.frames.Extent.{Extent}
 

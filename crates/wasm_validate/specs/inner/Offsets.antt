@@ -1,7 +1,7 @@
 -- Instructions found by their offsets.
 use Rattle.std.specs.Prelude.{◌≡◌, ℕ, ◌-◌, ◌<◌, ◌≤◌, Bool, true, false, List, length, slice_get, Some}
 use Rattle.wasm_syntax.specs.declared.instruction.Op.{Op}
-use Rattle.wasm_validate.specs.Instructions.{is_node}
+use Rattle.wasm_validate.specs.calls.Instructions.{is_node}
 
 -- the first instruction at an offset or behind it has this number
 pub record SplitsAt (ops : List Op) (at n : ℕ) : Type 0 where

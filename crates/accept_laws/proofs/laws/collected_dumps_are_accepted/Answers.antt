@@ -12,7 +12,7 @@ use Rattle.rewrite_modules.specs.Multiple.{multiple}
 use Rattle.rewrite_modules.specs.Simulates.{Simulates, NoneDeep}
 use Rattle.rewrite_promise.specs.Admitted.{Admits}
 use Rattle.rewrite_promise.proofs.Decoded.{limits}
-use Rattle.accept_laws.specs.Ranges.{InRanges}
+use Rattle.accept_laws.specs.calls.Ranges.{InRanges}
 use Rattle.accept_laws.proofs.Spelled.{decoded}
 use Rattle.accept_laws.proofs.Traps.{traps_accepted}
 use Rattle.accept_laws.proofs.Collecting.{HandsOverIn, handed_over}

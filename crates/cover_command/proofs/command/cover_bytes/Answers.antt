@@ -1,4 +1,4 @@
-use Rattle.run_command.specs.inner.Scripts.{script_result}
+use Rattle.run_command.specs.calls.Scripts.{script_result}
 use Rattle.cover_command.proofs.Commands.{with_module, module_refused}
 use Rattle.cover_command.proofs.command.cover_bytes.Goals as goal
 

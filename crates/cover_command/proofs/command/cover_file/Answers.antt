@@ -1,6 +1,6 @@
 use Rattle.std.proofs.Common.{subst, ◌∙◌}
 use Rattle.std.specs.Prelude.{IfOk}
-use Rattle.command_answers.specs.Told.{UnlessFault, OnContents}
+use Rattle.commands.specs.Told.{UnlessFault, OnContents}
 use Rattle.run_session.specs.Stop.{OnStop}
 use Rattle.cover_command.specs.inner.Steps.{IsAnswered, SourceAnswer, SourceStops, StepStops}
 use Rattle.cover_command.proofs.Commands.{with_source, source_stops, source_failed}

@@ -2,10 +2,10 @@ use Rattle.std.proofs.Common.{[], map, refl, ap, ◌∙◌, subst, inr}
 use Rattle.std.specs.Prelude.{IfOk}
 use Rattle.wasm_syntax.specs.declared.module.ModuleParts.{ModuleParts as Module}
 use Rattle.wasm_syntax.specs.Module.{IsModule}
-use Rattle.machine_steps.specs.Tallies.{Counted}
-use Rattle.host_set.specs.Hosting.{serves}
+use Rattle.machine_steps.specs.calls.Tallies.{Counted}
+use Rattle.host_set.specs.calls.Hosting.{serves}
 use Rattle.run_session.specs.Invocations.{invocation_of}
-use Rattle.run_command.specs.inner.Begun.{HasBegun}
+use Rattle.run_command.specs.calls.Begun.{HasBegun}
 use Rattle.run_command.specs.declared.running.Begun.TheVariants.{Ready, Refused}
 use Rattle.run_command.proofs.Hostings.{began_behind}
 use Rattle.run_command.proofs.Beginning.{of_begun}

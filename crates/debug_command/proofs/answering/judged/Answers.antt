@@ -1,6 +1,6 @@
 use Rattle.std.proofs.Common.{sym, subst}
 use Rattle.wasm_syntax.specs.declared.module.ModuleParts.{ModuleParts as Module}
-use Rattle.debug_subject.specs.Subject.{Spells}
+use Rattle.debugger.specs.Subject.{Spells}
 use Rattle.debug_command.proofs.Judged.{matched_told, mismatch_told}
 use Rattle.debug_command.proofs.answering.judged.Goals as goal
 

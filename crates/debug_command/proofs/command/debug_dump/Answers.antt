@@ -1,5 +1,5 @@
 use Rattle.causes.specs.Counts.{Rose}
-use Rattle.command_answers.proofs.Unless.{all_answers}
+use Rattle.commands.proofs.Unless.{all_answers}
 use Rattle.debug_command.proofs.Answers.{dump_whole, dump_refused, read_fault}
 use Rattle.debug_command.proofs.command.debug_dump.Goals as goal
 

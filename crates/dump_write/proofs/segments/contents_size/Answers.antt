@@ -1,7 +1,8 @@
 use Rattle.std.proofs.Common.{◌≡◌, ℕ, List, [], ◌++◌, length, ap, ◌∙◌, arith}
 use Rattle.dump_format.specs.Region.{Region}
-use Rattle.dump_write.proofs.Sizes.{ten_bytes, size_more, size_within, size_all}
+use Rattle.dump_write.proofs.Sizes.{size_more, size_within, size_all}
 use Rattle.dump_write.proofs.segments.contents_size.Goals as goal
+use Rattle.wasm_leb.proofs.Lengths.{ten_bytes}
 
 counted_is : (a b c : List ℕ) → b ≡ [] → a ≡ b ++ c → a ≡ c
 counted_is a b c none e = e ∙ ap (λ (bs : List ℕ). bs ++ c) none

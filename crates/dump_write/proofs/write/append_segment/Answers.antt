@@ -1,9 +1,9 @@
 use Rattle.std.proofs.Common.{◌≡◌, ℕ, List, ◌++◌, ap, subst, ◌∙◌}
-use Rattle.pm_outside.specs.Answers.{Appends, HasMore}
+use Rattle.pm_outside.specs.calls.Answers.{Appends, HasMore}
 use Rattle.dump_format.specs.Region.{Region}
 use Rattle.dump_write.specs.Spelled.{segment_head, segment_bytes}
-use Rattle.dump_write.specs.Written.{OnTold}
-use Rattle.dump_write.proofs.Files.{then_told, same_told, first_refused, second_answered}
+use Rattle.pm_outside.specs.Written.{OnTold}
+use Rattle.pm_outside.proofs.Leavings.{then_told, same_told, first_refused, second_answered}
 use Rattle.dump_write.proofs.write.append_segment.Goals as goal
 
 pub returns-in-Done-clause-content : goal.returns-in-Done-clause-content

@@ -3,7 +3,7 @@ use Rattle.std.specs.Prelude.{filter}
 use Rattle.linear_memory.specs.Memory.{pages}
 use Rattle.dump_format.specs.Region.{Region}
 use Rattle.dump_write.specs.Pages.{is_used}
-use Rattle.dump_write.specs.Paged.{ArePages}
+use Rattle.dump_write.specs.calls.Paged.{ArePages}
 use Rattle.dump_write.proofs.Pieces.{paged_used, laid_used}
 use Rattle.dump_write.proofs.write.write_dump.Goals as goal
 

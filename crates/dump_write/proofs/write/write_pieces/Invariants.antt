@@ -3,7 +3,7 @@ use Rattle.std.specs.Prelude.{is_some}
 use Rattle.std.specs.List.{flat_map}
 use Rattle.pm_outside.specs.Created.{with_name}
 use Rattle.dump_write.specs.Spelled.{segment_bytes}
-use Rattle.dump_write.specs.Written.{OnTold, HasFile}
+use Rattle.pm_outside.specs.Written.{OnTold, HasFile}
 use Rattle.dump_write.proofs.write.write_pieces.Given as goal
 
 abbrev pub invariant-loop-segment : goal.invariant-loop-segment

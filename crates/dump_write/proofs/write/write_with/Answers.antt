@@ -2,7 +2,7 @@ use Rattle.std.proofs.Common.{◌≡◌, List, ℕ, ◌++◌, sym, ap, subst, �
 use Rattle.dump_format.specs.Region.{Region}
 use Rattle.dump_write.specs.inner.Pieces.{data_head, pages_bytes}
 use Rattle.dump_write.specs.Canonical.{sections_before_data, canonical_bytes}
-use Rattle.dump_write.specs.Written.{OnTold, Writes}
+use Rattle.pm_outside.specs.Written.{OnTold, Leaves}
 use Rattle.dump_write.proofs.Pieces.{written_few, written_small, in_pieces}
 use Rattle.dump_write.proofs.write.write_with.Goals as goal
 
@@ -21,4 +21,4 @@ returns-clause-content g c =
     ∙ ap (λ (rs : List Region). (sections_before_data d ++ data_head used) ++ pages_bytes rs) (c.as_slice-2.ensures ∙ sym c.as_slice.ensures)
     ∙ sym (in_pieces d used (c.as_slice.ensures ∙ c.in-Ok.ensures ∙ c.requires.used))
     in
-    subst (λ (bs : List ℕ). OnTold (Writes c.args.name.now bs c.write_pieces.result) (g.F.Files.told c.args.files.now) (g.F.Files.told c.write_pieces.new.files)) whole c.write_pieces.ensures.content
+    subst (λ (bs : List ℕ). OnTold (Leaves c.args.name.now bs c.write_pieces.result) (g.F.Files.told c.args.files.now) (g.F.Files.told c.write_pieces.new.files)) whole c.write_pieces.ensures.content

@@ -5,20 +5,20 @@ use Rattle.dwarf_info.specs.Sections.{SectionBytes5}
 use Rattle.dwarf_loc.specs.declared.entry.ListEntry.{ListEntry}
 use Rattle.dwarf_loc.specs.declared.contents.Span.{Span}
 use Rattle.dwarf_loc.specs.Lists.{chosen}
-use Rattle.dwarf5_lists.specs.Addresses.{Table, address_of}
-use Rattle.dwarf5_lists.specs.Grammar.{IsLocations5}
+use Rattle.dwarf_loc.specs.Addresses.{Table, address_of}
+use Rattle.dwarf_loc.specs.calls.Grammar5.{IsLocations5}
 use Rattle.dwarf5_info.specs.Lists.{list_base, addresses_of}
 use Rattle.dwarf5_info.proofs.ListLaws.{of_unit}
 use Rattle.dwarf5_info.proofs.lists.location5_at.Goals as goal
 
 pub returns-clause-spelled : goal.returns-clause-spelled
 returns-clause-spelled c =
-    of_unit (λ (lists : List ℕ) (t : Table) (b : ℕ). (entries : List (ListEntry Span)) → IsLocations5 lists (address_of t) c.args.at entries → c.location_at.result ≡ Ok (chosen b c.args.address entries))
+    of_unit (λ (lists : List ℕ) (t : Table) (b : ℕ). (entries : List (ListEntry Span)) → IsLocations5 lists (address_of t) c.args.at entries → c.loclist_location.result ≡ Ok (chosen b c.args.address entries))
     c.sections.inside.loclists.now c.args.sections.now.loclists c.address_table-addresses.result (addresses_of c.args.sections.now c.args.unit.now) c.list_base.result (list_base c.args.unit.now)
-    (ap (λ (s : SectionBytes5). s.loclists) c.sections.view_is) c.address_table-addresses.ensures c.list_base.ensures c.location_at.ensures.spelled
+    (ap (λ (s : SectionBytes5). s.loclists) c.sections.view_is) c.address_table-addresses.ensures c.list_base.ensures c.loclist_location.ensures.spelled
 
 pub returns-clause-unreadable : goal.returns-clause-unreadable
 returns-clause-unreadable c =
-    of_unit (λ (lists : List ℕ) (t : Table) (b : ℕ). (c.location_at.result ≡ Err (Unreadable c.args.at)) ↔ ((entries : List (ListEntry Span)) → IsLocations5 lists (address_of t) c.args.at entries → ⊥))
+    of_unit (λ (lists : List ℕ) (t : Table) (b : ℕ). (c.loclist_location.result ≡ Err (Unreadable c.args.at)) ↔ ((entries : List (ListEntry Span)) → IsLocations5 lists (address_of t) c.args.at entries → ⊥))
     c.sections.inside.loclists.now c.args.sections.now.loclists c.address_table-addresses.result (addresses_of c.args.sections.now c.args.unit.now) c.list_base.result (list_base c.args.unit.now)
-    (ap (λ (s : SectionBytes5). s.loclists) c.sections.view_is) c.address_table-addresses.ensures c.list_base.ensures c.location_at.ensures.unreadable
+    (ap (λ (s : SectionBytes5). s.loclists) c.sections.view_is) c.address_table-addresses.ensures c.list_base.ensures c.loclist_location.ensures.unreadable

@@ -1,7 +1,7 @@
 use Rattle.std.proofs.Common.{ℕ, List, subst}
-use Rattle.dwarf_bytes.specs.Answers.{ReadsThere}
+use Rattle.dwarf_bytes.specs.calls.Answers.{ReadsThere}
 use Rattle.dwarf_line.specs.Program.{lines_at}
-use Rattle.dwarf_line.specs.Standing.{IsWhatStands}
+use Rattle.dwarf_line.specs.calls.Standing.{IsWhatStands}
 use Rattle.dwarf5_line.specs.Layout5.{texts_of, layout5, lines5}
 use Rattle.dwarf5_line.proofs.program.read_prepared_lines5.Goals as goal
 

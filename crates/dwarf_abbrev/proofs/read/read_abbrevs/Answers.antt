@@ -2,7 +2,7 @@ use Rattle.std.proofs.Common.{◌≡◌, Some, sym, ap, refl, ◌∙◌, arith}
 use Rattle.dwarf_bytes.specs.Items.{reading_of, read_at}
 use Rattle.dwarf_bytes.proofs.Standing.{read_stands}
 use Rattle.dwarf_abbrev.specs.Reading.{abbrevs_item}
-use Rattle.dwarf_abbrev.specs.Grammar.{abbrevs}
+use Rattle.dwarf_abbrev.specs.calls.Grammar.{abbrevs}
 use Rattle.dwarf_abbrev.proofs.Exact.{abbrevs_exact, abbrevs_past}
 use Rattle.dwarf_abbrev.proofs.read.read_abbrevs.Goals as goal
 

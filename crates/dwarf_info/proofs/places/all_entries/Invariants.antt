@@ -1,7 +1,7 @@
 use Rattle.std.proofs.Common.{◌≡◌, ℕ, drop}
 use Rattle.std.specs.Option.{option_or}
 use Rattle.dwarf_info.specs.inner.Settling.{placed}
-use Rattle.dwarf_info.specs.EntryPlaces.{place_among}
+use Rattle.dwarf_info.specs.calls.EntryPlaces.{place_among}
 use Rattle.dwarf_info.proofs.places.all_entries.Given as goal
 
 abbrev pub invariant-units : goal.invariant-units

@@ -4,7 +4,7 @@ use Rattle.std.specs.Prelude.{flat_map}
 use Rattle.dwarf_info.specs.declared.entry.UnitAnswer.{UnitAnswer}
 use Rattle.dwarf_info.specs.Units.{entries_in}
 use Rattle.dwarf_info.specs.inner.Settling.{placed, meets, any_at}
-use Rattle.dwarf_info.specs.EntryPlaces.{place_among}
+use Rattle.dwarf_info.specs.calls.EntryPlaces.{place_among}
 use Rattle.dwarf_info.proofs.FindLaws.{among_any, settled_among}
 use Rattle.dwarf_info.proofs.ReadLaws.{settled_units}
 use Rattle.dwarf_info.proofs.read.read_prepared.Goals as goal

@@ -1,6 +1,6 @@
 use Rattle.std.proofs.Common.{arith}
 use Rattle.dwarf_line.specs.Header.{layout}
-use Rattle.dwarf_line.specs.Grammar.{lines}
+use Rattle.dwarf_line.specs.calls.Grammar.{lines}
 use Rattle.dwarf_line.proofs.Laws.{lines_exact}
 use Rattle.dwarf_line.proofs.Standing.{lines_stand}
 use Rattle.dwarf_line.proofs.program.read_lines.Goals as goal

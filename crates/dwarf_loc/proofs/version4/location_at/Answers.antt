@@ -1,7 +1,7 @@
 use Rattle.std.proofs.Common.{arith}
 use Rattle.dwarf_loc.specs.Lists.{chosen}
 use Rattle.dwarf_loc.specs.Version4.{list4_item, entry4_item, expression4_item}
-use Rattle.dwarf_loc.specs.Grammar.{list4, expression4}
+use Rattle.dwarf_loc.specs.calls.Grammar.{list4, expression4}
 use Rattle.dwarf_loc.proofs.Exact.{locations4_exact}
 use Rattle.dwarf_loc.proofs.Standing.{answer_spelled, answer_unreadable}
 use Rattle.dwarf_loc.proofs.version4.location_at.Goals as goal

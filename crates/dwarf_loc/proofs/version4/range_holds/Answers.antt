@@ -1,10 +1,10 @@
 use Rattle.std.proofs.Common.{arith}
 use Rattle.std.specs.Prelude.{is_some}
-use Rattle.wasm_bytes.specs.Spelling.{only}
+use Rattle.wasm_bytes.specs.calls.Spelling.{only}
 use Rattle.dwarf_loc.specs.Lists.{chosen}
 use Rattle.dwarf_loc.specs.Contents.{nothing_item}
 use Rattle.dwarf_loc.specs.Version4.{list4_item, entry4_item, range4}
-use Rattle.dwarf_loc.specs.Grammar.{list4}
+use Rattle.dwarf_loc.specs.calls.Grammar.{list4}
 use Rattle.dwarf_loc.proofs.Exact.{ranges4_exact}
 use Rattle.dwarf_loc.proofs.Standing.{answer_spelled, answer_unreadable}
 use Rattle.dwarf_loc.proofs.version4.range_holds.Goals as goal

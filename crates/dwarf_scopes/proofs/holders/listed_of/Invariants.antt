@@ -1,6 +1,6 @@
 use Rattle.std.proofs.Common.{◌≡◌, ◌++◌, drop}
 use Rattle.dwarf_scopes.specs.inner.Holding.{is_listed}
-use Rattle.dwarf_scopes.specs.inner.Numbered.{numbers_from}
+use Rattle.dwarf_scopes.specs.calls.Numbered.{numbers_from}
 use Rattle.dwarf_scopes.proofs.holders.listed_of.Given as goal
 
 abbrev pub invariant-entries : goal.invariant-entries

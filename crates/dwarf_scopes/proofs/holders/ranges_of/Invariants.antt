@@ -1,6 +1,6 @@
 use Rattle.std.proofs.Common.{◌≡◌, ◌++◌, drop}
 use Rattle.dwarf_scopes.specs.inner.Holding.{bounds_in}
-use Rattle.dwarf_scopes.specs.inner.Numbered.{ranges_from}
+use Rattle.dwarf_scopes.specs.calls.Numbered.{ranges_from}
 use Rattle.dwarf_scopes.proofs.holders.ranges_of.Given as goal
 
 abbrev pub invariant-entries : goal.invariant-entries

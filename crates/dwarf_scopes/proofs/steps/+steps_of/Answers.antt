@@ -1,6 +1,6 @@
 use Rattle.std.proofs.Common.{ap, ◌∙◌}
 use Rattle.std.proofs.lemmas.Result.{IfOk-weaker}
-use Rattle.dwarf_scopes.specs.inner.Steps.{merged}
+use Rattle.dwarf_scopes.specs.calls.Steps.{merged}
 use Rattle.dwarf_scopes.proofs.StepLaws.{are_in_parts}
 use Rattle.dwarf_scopes.proofs.steps.+steps_of.Goals as goal
 

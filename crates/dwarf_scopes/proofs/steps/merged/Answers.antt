@@ -1,5 +1,5 @@
 use Rattle.std.proofs.Common.{◌≡◌, ◌++◌, drop, arith}
-use Rattle.dwarf_scopes.specs.inner.Steps.{merged}
+use Rattle.dwarf_scopes.specs.calls.Steps.{merged}
 use Rattle.dwarf_scopes.proofs.StepLaws.{left_done, right_done, merge_done}
 use Rattle.dwarf_scopes.proofs.steps.merged.Goals as goal
 use Rattle.dwarf_scopes.proofs.steps.merged.Goals.{then-both-test+else-j-right, else-both-test}

@@ -1,5 +1,5 @@
 use Rattle.std.proofs.Common.{◌≡◌, ◌++◌, ◌+◌, ◌-◌, ◌≤◌, length, drop}
-use Rattle.dwarf_scopes.specs.inner.Steps.{merged}
+use Rattle.dwarf_scopes.specs.calls.Steps.{merged}
 use Rattle.dwarf_scopes.proofs.steps.merged.Given as goal
 
 abbrev pub invariant-both : goal.invariant-both

@@ -1,7 +1,7 @@
 use Rattle.std.proofs.Common.{◌≡◌, suc, refl, arith}
-use Rattle.operand_spill.specs.Places.{place}
+use Rattle.rewrite_code.specs.calls.Places.{place}
 use Rattle.rewrite_code.proofs.Pieces.{emits_then}
-use Rattle.operand_spill.proofs.Loads.{when_ok}
+use Rattle.rewrite_code.proofs.Loads.{when_ok}
 use Rattle.guard_insert.proofs.Guarding.{range_at}
 use Rattle.guard_insert.proofs.accesses.guard_copy.Goals as goal
 

@@ -1,5 +1,5 @@
 use Rattle.rewrite_code.proofs.Pieces.{emits_then}
-use Rattle.operand_spill.proofs.Loads.{when_ok}
+use Rattle.rewrite_code.proofs.Loads.{when_ok}
 use Rattle.guard_insert.proofs.accesses.past_end.Goals as goal
 
 pub returns : goal.returns

@@ -1,6 +1,6 @@
-use Rattle.operand_spill.specs.Places.{place}
+use Rattle.rewrite_code.specs.calls.Places.{place}
 use Rattle.rewrite_code.proofs.Pieces.{emits_then}
-use Rattle.operand_spill.proofs.Loads.{when_ok}
+use Rattle.rewrite_code.proofs.Loads.{when_ok}
 use Rattle.guard_insert.proofs.Guarding.{const_at, next_fetch}
 use Rattle.guard_insert.proofs.division.overflow_test.Goals as goal
 

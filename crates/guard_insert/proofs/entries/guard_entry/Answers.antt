@@ -1,4 +1,4 @@
-use Rattle.operand_spill.specs.Places.{place}
+use Rattle.rewrite_code.specs.calls.Places.{place}
 use Rattle.guard_insert.proofs.Meaning.{entry_written}
 use Rattle.guard_insert.proofs.entries.guard_entry.Goals as goal
 

@@ -1,5 +1,5 @@
 use Rattle.std.proofs.Common.{◌≡◌}
-use Rattle.dump_image.specs.Pictured.{Pictures, bytes_in}
+use Rattle.dump_write.specs.Pictured.{Pictures, bytes_in}
 use Rattle.dump_write.specs.Canonical.{canonical_bytes}
 use Rattle.dump_write.specs.ImageBytes.{bytes_of}
 use Rattle.host_collector.proofs.Faults.{gives_dump, of_image}

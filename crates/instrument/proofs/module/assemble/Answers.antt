@@ -2,7 +2,7 @@ use Rattle.std.proofs.Common.{◌∙◌, sym, ap, subst}
 use Rattle.wasm_syntax.specs.declared.module.ModuleParts.{ModuleParts as Module}
 use Rattle.wasm_syntax.specs.Module.{IsModule}
 use Rattle.rewrite_promise.specs.Promise.{IsRewriting, Promised}
-use Rattle.instrument.proofs.Whole.{few_types, elements_there, made_whole, made_rewriting, made_promised}
+use Rattle.instrument.proofs.WholeModule.{few_types, elements_there, made_whole, made_rewriting, made_promised}
 use Rattle.instrument.proofs.module.assemble.Goals as goal
 
 pub new_parts-requires : goal.new_parts-requires

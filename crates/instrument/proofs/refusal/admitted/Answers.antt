@@ -1,6 +1,6 @@
 use Rattle.std.proofs.Common.{◌≡◌, ◌∙◌, ℕ, Option, None, sym, ap}
 use Rattle.wasm_syntax.specs.declared.module.ModuleParts.{ModuleParts as Module}
-use Rattle.rewrite_limits.specs.Limits.{first_excess}
+use Rattle.index_map.specs.Limits.{first_excess}
 use Rattle.instrument.specs.Refusal.{import_taken, export_taken, at_import, at_export, at_limit}
 use Rattle.instrument.proofs.Refused.{accepted}
 use Rattle.instrument.proofs.refusal.admitted.Goals as goal

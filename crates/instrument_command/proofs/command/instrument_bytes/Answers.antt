@@ -1,9 +1,9 @@
 use Rattle.std.proofs.Common.{subst, arith}
 use Rattle.wasm_bytes.specs.Laws.{IsBytes}
 use Rattle.wasm_decode.specs.Decode.{module_from}
-use Rattle.wasm_sizes.proofs.Whole.{decoded}
-use Rattle.rewrite_sizes.proofs.Spelled.{decoded as decoded_small}
-use Rattle.command_answers.specs.Loaded.{IsLoaded}
+use Rattle.wasm_format_laws.proofs.Whole.{decoded}
+use Rattle.rewrite_promise.proofs.Spelled.{decoded as decoded_small}
+use Rattle.commands.specs.calls.Loaded.{IsLoaded}
 use Rattle.instrument_command.specs.InstrumentAnswer.{ModuleAnswer}
 use Rattle.instrument_command.proofs.Answering.{with_module, without_module}
 use Rattle.instrument_command.proofs.Stopping.{bytes_stop}

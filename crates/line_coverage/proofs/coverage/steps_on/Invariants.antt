@@ -1,5 +1,5 @@
 use Rattle.std.proofs.Common.{◌≡◌, drop}
-use Rattle.line_coverage.specs.Spots.{steps_on}
+use Rattle.line_coverage.specs.calls.Spots.{steps_on}
 use Rattle.line_coverage.proofs.coverage.steps_on.Given as goal
 
 abbrev pub invariant-loop-counted : goal.invariant-loop-counted

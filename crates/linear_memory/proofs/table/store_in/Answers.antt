@@ -1,7 +1,7 @@
 use Rattle.std.proofs.Common.{◌≡◌, ℕ, ◌+◌, ◌/◌, ◌%◌, ◌≤◌, length, is_some, map, set, get_or, ap, sym, ◌∙◌, subst, arith}
 use Rattle.std.proofs.lemmas.List.{get_or_default}
 use Rattle.linear_memory.specs.Memory.{to_bytes}
-use Rattle.linear_memory.specs.Paged.{AllMade}
+use Rattle.linear_memory.specs.calls.Paged.{AllMade}
 use Rattle.linear_memory.proofs.Contents.{stored_all}
 use Rattle.linear_memory.proofs.LowBytes.{length-to_bytes}
 use Rattle.linear_memory.proofs.table.store_in.Goals as goal

@@ -3,7 +3,7 @@ use Rattle.std.proofs.Math.Seq.{drop-length}
 use Rattle.wasm_syntax.specs.Tree.{code_of}
 use Rattle.machine_code.specs.declared.sides.Side.{Side}
 use Rattle.machine_code.specs.inner.Sides.{Scan, scan}
-use Rattle.machine_code.specs.Flat.{Stands}
+use Rattle.machine_code.specs.calls.Flat.{Stands}
 use Rattle.machine_code.proofs.Table.{table_stands, read_back}
 use Rattle.machine_code.proofs.sides.side_table.Goals as goal
 

@@ -1,5 +1,5 @@
 use Rattle.std.proofs.Common.{◌≡◌, ◌<◌, ◌∙◌, [], subst, refl, arith}
-use Rattle.machine_hosted.specs.Settings.{world_of}
+use Rattle.machine_hosted.specs.calls.Settings.{world_of}
 use Rattle.machine_hosted.specs.inner.Alone.{Took}
 use Rattle.machine_hosted.proofs.WorldLaws.{shares_own}
 use Rattle.machine_hosted.proofs.AloneLaws.{spent, no_memory, without_reply, faulted, replied, took_cause}

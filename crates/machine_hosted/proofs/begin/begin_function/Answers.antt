@@ -1,8 +1,8 @@
 use Rattle.std.proofs.Common.{List, [], ◌∷◌, ◌+◌, length, sym, subst}
 use Rattle.wasm_syntax.specs.Machine.{entered}
 use Rattle.machine_code.specs.declared.code.Code.{Code}
-use Rattle.machine_code.specs.Code.{Prepares}
-use Rattle.machine_frames.specs.Layout.{StandsFor}
+use Rattle.machine_code.specs.calls.Code.{Prepares}
+use Rattle.machine_steps.specs.calls.Layout.{StandsFor}
 use Rattle.machine_hosted.proofs.SafeLaws.{begins, count_of}
 use Rattle.machine_hosted.proofs.begin.begin_function.Goals as goal
 

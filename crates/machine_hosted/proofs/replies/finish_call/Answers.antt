@@ -1,5 +1,5 @@
 use Rattle.std.proofs.Common.{◌≡◌, ap, subst, ◌∙◌}
-use Rattle.machine_frames.specs.declared.layout.CallStack.{CallStack}
+use Rattle.machine_steps.specs.declared.layout.CallStack.{CallStack}
 use Rattle.machine_hosted.specs.inner.Replies.{Taken}
 use Rattle.machine_hosted.proofs.ReplyLaws.{parts, left, finished}
 use Rattle.machine_hosted.proofs.replies.finish_call.Goals as goal

@@ -2,7 +2,7 @@ use Rattle.std.proofs.Common.{◌≡◌, ◌∙◌, [], refl, sym, subst}
 use Rattle.std.specs.Prelude.{Bool, true, false, Some, None}
 use Rattle.machine_hosted.specs.declared.answer.EntryRun.{EntryRun}
 use Rattle.machine_hosted.specs.declared.answer.RunEnd.TheVariants.{FuelSpent}
-use Rattle.machine_hosted.specs.Courses.{Followed, WentOn}
+use Rattle.machine_hosted.specs.calls.Courses.{Followed, WentOn}
 use Rattle.machine_hosted.proofs.ModuleLaws.{program_of}
 use Rattle.machine_hosted.proofs.CourseLaws.{entry_place, start_due}
 use Rattle.machine_hosted.proofs.WentLaws.{there, entry_went}

@@ -3,9 +3,9 @@ use Rattle.std.specs.Prelude.{Bool, Some, true, false}
 use Rattle.wasm_syntax.specs.Run.{engine}
 use Rattle.machine_hosted.specs.declared.answer.EntryRun.{EntryRun}
 use Rattle.machine_hosted.specs.declared.answer.RunEnd.{RunEnd}
-use Rattle.machine_hosted.specs.Answers.{FunctionCameWith, function_going}
-use Rattle.machine_hosted.specs.Invocations.{finishes}
-use Rattle.machine_hosted.specs.Courses.{WentOn}
+use Rattle.machine_hosted.specs.calls.Answers.{FunctionCameWith, function_going}
+use Rattle.machine_hosted.specs.calls.Invocations.{finishes}
+use Rattle.machine_hosted.specs.calls.Courses.{WentOn}
 use Rattle.machine_hosted.specs.inner.Resumes.{resuming}
 use Rattle.machine_hosted.proofs.ModuleLaws.{program_of, takes_start}
 use Rattle.machine_hosted.proofs.JoinLaws.{has_finished, not_finished}

@@ -2,8 +2,8 @@ use Rattle.std.proofs.Common.{◌≡◌, ◌∙◌, sym, subst}
 use Rattle.std.specs.Prelude.{true, false, Some, slice_get}
 use Rattle.wasm_syntax.specs.Machine.{host_call}
 use Rattle.host_devices.specs.declared.host.HostAnswer.{HostAnswer}
-use Rattle.host_devices.specs.HostSides as sides
-use Rattle.host_devices.specs.HostSides.{told, Answers}
+use Rattle.host_devices.specs.calls.HostSides as sides
+use Rattle.host_devices.specs.calls.HostSides.{told, Answers}
 use Rattle.machine_hosted.specs.inner.Turns.{end_of}
 use Rattle.machine_hosted.proofs.HeardLaws.{typed, few, grew_told, grew_reply, told_meets, reply_meets, silent_meets, failed_meets, replied_cause}
 use Rattle.machine_hosted.proofs.turn.serve_import.Goals as goal

@@ -1,6 +1,6 @@
 use Rattle.std.proofs.Common.{[], ◌+◌, length, refl}
-use Rattle.machine_hosted.specs.Settings.{world_of}
-use Rattle.machine_hosted.specs.Answers.{function_going}
+use Rattle.machine_hosted.specs.calls.Settings.{world_of}
+use Rattle.machine_hosted.specs.calls.Answers.{function_going}
 use Rattle.wasm_syntax.specs.Run.{engine}
 use Rattle.machine_hosted.proofs.WorldLaws.{shares_own}
 use Rattle.machine_hosted.proofs.ModuleLaws.{program_of}

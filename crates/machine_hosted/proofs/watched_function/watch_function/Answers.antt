@@ -4,11 +4,11 @@ use Rattle.wasm_syntax.specs.declared.module.ModuleParts.{ModuleParts as Module}
 use Rattle.wasm_syntax.specs.Module.{type_at}
 use Rattle.wasm_syntax.specs.Machine.{host_call}
 use Rattle.wasm_syntax.specs.Run.{engine}
-use Rattle.machine_hosted.specs.Safe.{WorldFits}
-use Rattle.machine_hosted.specs.Settings.{world_of}
+use Rattle.machine_hosted.specs.calls.Safe.{WorldFits}
+use Rattle.machine_hosted.specs.calls.Settings.{world_of}
 use Rattle.machine_hosted.specs.inner.Alone.{alone}
-use Rattle.machine_hosted.specs.Answers.{function_going}
-use Rattle.machine_hosted.specs.Watching.{function_placing}
+use Rattle.machine_hosted.specs.calls.Answers.{function_going}
+use Rattle.machine_hosted.specs.calls.Watching.{function_placing}
 use Rattle.machine_hosted.proofs.WatchLaws.{alone_watched}
 use Rattle.machine_hosted.proofs.WorldLaws.{shares_own, each_fits}
 use Rattle.machine_hosted.proofs.ModuleLaws.{program_of, valid_program, few_results}

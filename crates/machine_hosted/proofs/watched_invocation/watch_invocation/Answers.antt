@@ -2,9 +2,9 @@ use Rattle.std.proofs.Common.{[], refl, sym, subst}
 use Rattle.std.specs.Prelude.{true}
 use Rattle.wasm_syntax.specs.Run.{engine}
 use Rattle.machine_hosted.specs.declared.answer.EntryRun.{EntryRun}
-use Rattle.machine_hosted.specs.Settings.{world_of}
-use Rattle.machine_hosted.specs.Invocations.{InvocationCameWith, invoking, follows_behind}
-use Rattle.machine_hosted.specs.Watching.{Watched, invocation_placing}
+use Rattle.machine_hosted.specs.calls.Settings.{world_of}
+use Rattle.machine_hosted.specs.calls.Invocations.{InvocationCameWith, invoking, follows_behind}
+use Rattle.machine_hosted.specs.calls.Watching.{Watched, invocation_placing}
 use Rattle.machine_hosted.proofs.WorldLaws.{shares_own}
 use Rattle.machine_hosted.proofs.JoinLaws.{entry_alone}
 use Rattle.machine_hosted.proofs.watched_invocation.watch_invocation.Goals as goal

@@ -4,10 +4,10 @@ use Rattle.wasm_syntax.specs.Run.{engine}
 use Rattle.machine_hosted.specs.declared.answer.EntryRun.{EntryRun}
 use Rattle.machine_hosted.specs.declared.answer.RunEnd.{RunEnd}
 use Rattle.machine_hosted.specs.declared.answer.RunEnd.TheVariants.{Finished}
-use Rattle.machine_hosted.specs.Settings.{world_of}
-use Rattle.machine_hosted.specs.Answers.{FunctionCameWith, function_going}
-use Rattle.machine_hosted.specs.Invocations.{InvocationCameWith, invoking, finishes}
-use Rattle.machine_hosted.specs.Watching.{Watched, function_placing, invocation_placing}
+use Rattle.machine_hosted.specs.calls.Settings.{world_of}
+use Rattle.machine_hosted.specs.calls.Answers.{FunctionCameWith, function_going}
+use Rattle.machine_hosted.specs.calls.Invocations.{InvocationCameWith, invoking, finishes}
+use Rattle.machine_hosted.specs.calls.Watching.{Watched, function_placing, invocation_placing}
 use Rattle.machine_hosted.proofs.WatchJoins as joins
 use Rattle.machine_hosted.proofs.WorldLaws.{shares_own}
 use Rattle.machine_hosted.proofs.ModuleLaws.{function_there}

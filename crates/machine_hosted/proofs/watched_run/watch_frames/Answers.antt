@@ -1,12 +1,12 @@
 use Rattle.std.proofs.Common.{◌≡◌, suc, ◌+◌, ◌-◌, ◌<◌, ◌≤◌, [], sym, subst, arith}
 use Rattle.machine_steps.specs.declared.machine.Outcome.{Outcome}
 use Rattle.machine_steps.specs.declared.machine.Outcome.TheVariants as outcomes
-use Rattle.machine_steps.specs.inner.Watched.{IsCount}
-use Rattle.host_devices.specs.HostSides.{Calls}
+use Rattle.machine_steps.specs.calls.Watched.{IsCount}
+use Rattle.host_devices.specs.calls.HostSides.{Calls}
 use Rattle.machine_hosted.specs.declared.answer.RunEnd.TheVariants as answers
 use Rattle.machine_hosted.specs.declared.answer.FunctionRun.{FunctionRun}
 use Rattle.machine_hosted.specs.inner.FrameRuns.{CameWith}
-use Rattle.machine_hosted.specs.Watching.{Watched}
+use Rattle.machine_hosted.specs.calls.Watching.{Watched}
 use Rattle.machine_hosted.specs.inner.Turns.{going}
 use Rattle.machine_hosted.specs.inner.Watches.{frames_placing}
 use Rattle.machine_hosted.proofs.HostLaws.{kept_same, kept_on, knows_then}

@@ -1,5 +1,5 @@
 use Rattle.std.proofs.Common.{◌-◌, ◌≤◌}
-use Rattle.machine_hosted.specs.Settings.{HostKept}
+use Rattle.machine_hosted.specs.calls.Settings.{HostKept}
 use Rattle.machine_hosted.specs.inner.Turns.{Ready}
 use Rattle.machine_hosted.proofs.WatchLaws.{SeenSoFar}
 use Rattle.machine_hosted.proofs.watched_run.watch_frames.Given as goal

@@ -1,7 +1,7 @@
 use Rattle.std.proofs.Common.{◌≡◌, ◌++◌, ◌∷◌, [], subst, sym, refl, add-one, arith}
-use Rattle.machine_steps.specs.inner.Runs.{Reached, Came}
-use Rattle.machine_steps.specs.inner.Watched.{Saw, Watched}
-use Rattle.machine_steps.specs.Watches.{place_at}
+use Rattle.machine_steps.specs.calls.Runs.{Reached, Came}
+use Rattle.machine_steps.specs.calls.Watched.{Saw, Watched}
+use Rattle.machine_steps.specs.calls.Watches.{place_at}
 use Rattle.machine_steps.proofs.TurnLaws.{reached_first, goes_on, calls, stops_with}
 use Rattle.machine_steps.proofs.WatchLaws.{saw_none, saw_one, watched_call, watched_all, watched_end}
 use Rattle.machine_steps.proofs.runs.run_watched.Goals as goal

@@ -1,6 +1,6 @@
 use Rattle.wasm_syntax.specs.Machine.{Engine, Config}
-use Rattle.machine_steps.specs.inner.Runs.{Begins, Reached}
-use Rattle.machine_steps.specs.inner.Watched.{Saw}
+use Rattle.machine_steps.specs.calls.Runs.{Begins, Reached}
+use Rattle.machine_steps.specs.calls.Watched.{Saw}
 use Rattle.machine_steps.proofs.runs.run_watched.Given as goal
 
 abbrev pub invariant-loop-i : goal.invariant-loop-i

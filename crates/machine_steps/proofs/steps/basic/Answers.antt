@@ -1,11 +1,11 @@
 use Rattle.std.proofs.Common.{◌≡◌, ◌∷◌, ◌∙◌, sym, ap, subst, length, add-one}
 use Rattle.wasm_syntax.specs.Machine.{joined}
-use Rattle.machine_frames.specs.declared.layout.CallFrame.{CallFrame}
-use Rattle.machine_frames.specs.Meets.{step_at}
-use Rattle.machine_frames.proofs.BranchLaws.{first_of}
+use Rattle.machine_steps.specs.declared.layout.CallFrame.{CallFrame}
+use Rattle.machine_steps.specs.calls.FramesMeet.{step_at}
+use Rattle.machine_steps.proofs.BranchLaws.{first_of}
 use Rattle.machine_steps.specs.declared.machine.Machine.{Machine}
 use Rattle.machine_steps.specs.declared.machine.Outcome.TheVariants.{Trap}
-use Rattle.machine_steps.specs.Meets.{MeetsAt}
+use Rattle.machine_steps.specs.calls.Meets.{MeetsAt}
 use Rattle.machine_steps.proofs.StepLaws.{basic_done, basic_traps}
 use Rattle.machine_steps.proofs.steps.basic.Goals as goal
 

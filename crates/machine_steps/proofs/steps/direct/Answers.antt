@@ -1,10 +1,10 @@
 use Rattle.std.proofs.Common.{◌∙◌, ◌≡◌, ◌+◌, ◌-◌, ◌<◌, false, length, refl, sym, subst, add-one, arith}
 use Rattle.wasm_syntax.specs.Tree.{Call}
-use Rattle.machine_frames.specs.Meets.{step_at}
-use Rattle.machine_frames.proofs.JumpLaws.{jump_at}
-use Rattle.machine_frames.proofs.CallLaws.{step_calls}
+use Rattle.machine_steps.specs.calls.FramesMeet.{step_at}
+use Rattle.machine_steps.proofs.JumpLaws.{jump_at}
+use Rattle.machine_steps.proofs.CallLaws.{step_calls}
 use Rattle.machine_steps.specs.declared.machine.Outcome.TheVariants.{Import}
-use Rattle.machine_steps.specs.Meets.{MeetsAt}
+use Rattle.machine_steps.specs.calls.Meets.{MeetsAt}
 use Rattle.machine_steps.proofs.StepLaws.{lifts}
 use Rattle.machine_steps.proofs.ImportLaws.{import_meets}
 use Rattle.machine_steps.proofs.steps.direct.Goals as goal

@@ -1,6 +1,6 @@
 use Rattle.std.proofs.Common.{refl, sym, inl, ◌∙◌}
-use Rattle.machine_frames.proofs.Points.{no_top}
-use Rattle.machine_frames.proofs.BlockLaws.{other_top}
+use Rattle.machine_steps.proofs.Points.{no_top}
+use Rattle.machine_steps.proofs.BlockLaws.{other_top}
 use Rattle.machine_steps.specs.declared.machine.Outcome.TheVariants.{Trap, Stuck}
 use Rattle.machine_steps.specs.declared.indirect.Entry.TheVariants as entries
 use Rattle.machine_steps.proofs.ImportLaws.{indirect_meets, indirect_stuck, top_value, top_none}

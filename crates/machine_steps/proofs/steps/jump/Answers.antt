@@ -1,8 +1,8 @@
 use Rattle.std.proofs.Common.{sym, subst, refl}
 use Rattle.wasm_syntax.specs.Tree.{Unreachable, Br, Return}
-use Rattle.machine_frames.specs.Meets.{step_at, branch_at, return_at}
-use Rattle.machine_frames.proofs.JumpLaws.{jump_at, step_jumps}
-use Rattle.machine_steps.specs.Meets.{MeetsAt}
+use Rattle.machine_steps.specs.calls.FramesMeet.{step_at, branch_at, return_at}
+use Rattle.machine_steps.proofs.JumpLaws.{jump_at, step_jumps}
+use Rattle.machine_steps.specs.calls.Meets.{MeetsAt}
 use Rattle.machine_steps.specs.declared.machine.Outcome.TheVariants.{Trap}
 use Rattle.machine_basics.specs.declared.answer.TrapKind.TheVariants as kinds
 use Rattle.machine_steps.proofs.StepLaws.{lifts, traps_here}

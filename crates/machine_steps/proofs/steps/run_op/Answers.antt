@@ -1,5 +1,5 @@
 use Rattle.std.proofs.Common.{refl}
-use Rattle.machine_frames.specs.Meets.{step_at}
+use Rattle.machine_steps.specs.calls.FramesMeet.{step_at}
 use Rattle.machine_steps.proofs.StepLaws.{lifts}
 use Rattle.machine_steps.proofs.steps.run_op.Goals as goal
 

@@ -1,7 +1,7 @@
 use Rattle.std.proofs.Common.{sym, ap, subst, ◌∙◌}
 use Rattle.std.specs.Prelude.{slice_get}
 use Rattle.wasm_syntax.specs.Machine.{Engine}
-use Rattle.machine_steps.specs.Prepares.{IsPrepared}
+use Rattle.machine_code.specs.calls.Prepares.{IsPrepared}
 use Rattle.machine_steps.proofs.StepLaws.{from_config, no_frame, no_code, has_op, reads}
 use Rattle.machine_steps.specs.declared.machine.Outcome.TheVariants.{Stuck}
 use Rattle.machine_steps.proofs.steps.step.Goals as goal

@@ -1,5 +1,5 @@
 use Rattle.std.proofs.Common.{◌∙◌, ◌≡◌, ◌+◌, ◌-◌, ◌<◌, true, length, sym, add-one, arith}
-use Rattle.machine_frames.specs.Meets.{call_at}
+use Rattle.machine_steps.specs.calls.FramesMeet.{call_at}
 use Rattle.machine_steps.proofs.StepLaws.{lifts}
 use Rattle.machine_steps.proofs.ImportLaws.{import_meets}
 use Rattle.machine_steps.proofs.steps.under_index.Goals as goal

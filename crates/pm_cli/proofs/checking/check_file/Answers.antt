@@ -1,8 +1,8 @@
 use Rattle.wasm_syntax.specs.declared.quantity.Quantity.TheVariants.{ModuleBytes}
-use Rattle.command_answers.proofs.Unless.{all_answers}
-use Rattle.command_answers.proofs.Reading.{whole_then, refused_then}
+use Rattle.commands.proofs.Unless.{all_answers}
+use Rattle.commands.proofs.ReadFiles.{whole_then, refused_then}
 use Rattle.wasm_decode.specs.Decode.{module_from}
-use Rattle.command_answers.specs.Loading.{IfLoaded}
+use Rattle.commands.specs.Loading.{IfLoaded}
 use Rattle.pm_cli.specs.Answer.{checked}
 use Rattle.pm_cli.proofs.checking.check_file.Goals as goal
 

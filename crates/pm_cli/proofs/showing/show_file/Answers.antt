@@ -1,7 +1,7 @@
 use Rattle.std.proofs.Common.{◌≡◌}
 use Rattle.wasm_syntax.specs.declared.quantity.Quantity.TheVariants.{DumpBytes}
-use Rattle.command_answers.proofs.Unless.{all_answers}
-use Rattle.command_answers.proofs.Reading.{whole_then, refused_then}
+use Rattle.commands.proofs.Unless.{all_answers}
+use Rattle.commands.proofs.ReadFiles.{whole_then, refused_then}
 use Rattle.dump_format.specs.Decode.{dump_from}
 use Rattle.pm_cli.specs.Answer.{shown}
 use Rattle.pm_cli.proofs.showing.show_file.Goals as goal

@@ -1,7 +1,7 @@
 use Rattle.std.proofs.Common.{map, inl}
 use Rattle.std.specs.String.{string_bytes}
 use Rattle.causes.specs.Counts.{Rose}
-use Rattle.command_answers.specs.Told.{Takes}
+use Rattle.commands.specs.Told.{Takes}
 use Rattle.pm_cli.specs.Answer.{Answered}
 use Rattle.pm_cli.specs.Stops.{WordsStop}
 use Rattle.pm_cli.proofs.Taken.{with_outcome}

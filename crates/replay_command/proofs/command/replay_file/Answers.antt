@@ -1,7 +1,7 @@
 use Rattle.causes.specs.Counts.{Rose}
 use Rattle.replay_command.proofs.Files.{module_whole, module_refused, log_fault, source_fault, read_fault}
 use Rattle.replay_command.proofs.command.replay_file.Goals as goal
-use Rattle.command_answers.proofs.Reading.{rose_since}
+use Rattle.commands.proofs.ReadFiles.{rose_since}
 
 pub returns-in-Whole-clause-told : goal.returns-in-Whole-clause-told
 returns-in-Whole-clause-told g c =

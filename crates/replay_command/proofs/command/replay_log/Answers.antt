@@ -1,5 +1,5 @@
 use Rattle.causes.specs.Counts.{Rose}
-use Rattle.command_answers.proofs.Unless.{all_answers}
+use Rattle.commands.proofs.Unless.{all_answers}
 use Rattle.replay_command.proofs.Files.{log_whole, log_refused, read_fault}
 use Rattle.replay_command.proofs.command.replay_log.Goals as goal
 

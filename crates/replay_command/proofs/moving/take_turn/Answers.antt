@@ -1,5 +1,5 @@
 use Rattle.std.proofs.Common.{sym, ◌∙◌}
-use Rattle.replay_words.specs.declared.moves.Move.TheVariants.{Goto, Back, Until}
+use Rattle.replay_command.specs.declared.moves.Move.TheVariants.{Goto, Back, Until}
 use Rattle.replay_command.specs.ReplayText.{commands_in}
 use Rattle.replay_command.specs.inner.Steps.{left_in}
 use Rattle.replay_command.proofs.Turns.{took_move}

@@ -1,5 +1,5 @@
 use Rattle.std.proofs.Common.{refl}
-use Rattle.run_command.specs.inner.Scripts.{script_result}
+use Rattle.run_command.specs.calls.Scripts.{script_result}
 use Rattle.run_command.proofs.Stopping.{bytes_stop}
 use Rattle.run_command.proofs.Commands.{with_module, module_refused}
 use Rattle.run_command.proofs.command.run_bytes.Goals as goal

@@ -1,5 +1,5 @@
 use Rattle.std.proofs.Common.{refl, ap}
-use Rattle.run_command.specs.inner.Scripts.{script_result}
+use Rattle.run_command.specs.calls.Scripts.{script_result}
 use Rattle.run_command.specs.Stops.{ScriptStops}
 use Rattle.run_command.proofs.Stopping.{no_read_fault, not_reached, scripted_stops}
 use Rattle.run_command.proofs.Commands.{with_script, script_refused}

@@ -1,6 +1,6 @@
 use Rattle.std.proofs.Common.{subst}
 use Rattle.run_command.specs.Stops.{SourceStops}
-use Rattle.run_command.specs.inner.Scripts.{IfAskedRefused, IsRepliesFault}
+use Rattle.run_command.specs.calls.Scripts.{IfAskedRefused, IsRepliesFault}
 use Rattle.run_command.proofs.Stopping.{read_failed, source_stops}
 use Rattle.run_command.proofs.Commands.{with_replies, replies_refused, replies_fault}
 use Rattle.run_command.proofs.command.run_source.Goals as goal

@@ -1,7 +1,7 @@
 use Rattle.std.proofs.Common.{◌≡◌, ℕ, List, ◌∙◌, All, take, arith, subst}
 use Rattle.std.proofs.lemmas.List.Elements.{All-map}
 use Rattle.wasm_syntax.specs.declared.host.Served.{Served}
-use Rattle.run_record.specs.Record.{IsReplyTyped}
+use Rattle.host_replies.specs.Record.{IsReplyTyped}
 use Rattle.run_command.proofs.Fitting.{one_reply_more, one_typed_more}
 use Rattle.run_command.proofs.recording.record_of.Goals as goal
 

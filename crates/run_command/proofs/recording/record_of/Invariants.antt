@@ -1,6 +1,6 @@
 use Rattle.std.proofs.Common.{◌≡◌, List, ℕ, All, map, take}
 use Rattle.wasm_syntax.specs.declared.host.Served.{Served}
-use Rattle.run_record.specs.Record.{IsReplyTyped, record_text}
+use Rattle.host_replies.specs.Record.{IsReplyTyped, record_text}
 use Rattle.run_command.proofs.recording.record_of.Given as goal
 
 abbrev pub invariant-loop-index : goal.invariant-loop-index

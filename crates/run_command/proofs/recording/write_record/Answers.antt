@@ -2,9 +2,9 @@ use Rattle.std.proofs.Common.{◌≡◌, refl, subst}
 use Rattle.std.specs.Prelude.{IfOk}
 use Rattle.causes.specs.Counts.{Rose}
 use Rattle.pm_outside.specs.declared.answers.WriteAnswer.TheVariants as write
-use Rattle.dump_write.specs.Written.{OnTold, HasFile, Writes as Leaves}
-use Rattle.command_answers.specs.Texts.{file_fault}
-use Rattle.run_session.specs.inner.Sessions.{ends_badly}
+use Rattle.pm_outside.specs.Written.{OnTold, HasFile, Leaves}
+use Rattle.commands.specs.Texts.{file_fault}
+use Rattle.run_session.specs.calls.Sessions.{ends_badly}
 use Rattle.run_command.specs.inner.Recording.{fitting}
 use Rattle.run_command.proofs.Fitting.{record_whole, record_part, record_failed, record_wanting}
 use Rattle.run_command.proofs.recording.write_record.Goals as goal

@@ -1,15 +1,15 @@
 use Rattle.std.proofs.Common.{List, map, refl, ap, ◌∙◌, arith, subst, Ok}
 use Rattle.causes.specs.Counts.{Rose}
-use Rattle.run_session.specs.inner.Sessions.{ends_badly}
+use Rattle.run_session.specs.calls.Sessions.{ends_badly}
 use Rattle.wasm_syntax.specs.declared.module.ModuleParts.{ModuleParts as Module}
 use Rattle.wasm_syntax.specs.declared.host.CollectorCall.{CollectorCall}
 use Rattle.wasm_syntax.specs.Module.{IsModule}
-use Rattle.host_set.specs.Hosting.{serves}
-use Rattle.run_collected.specs.Delivery.{Delivery, IsDelivery}
-use Rattle.run_collected.proofs.Deliveries.{delivery}
-use Rattle.run_session.specs.inner.Collecting.{serving_of}
+use Rattle.host_set.specs.calls.Hosting.{serves}
+use Rattle.run_session.specs.Delivery.{Delivery, IsDelivery}
+use Rattle.run_session.proofs.Deliveries.{delivery}
+use Rattle.run_session.specs.calls.Collecting.{serving_of}
 use Rattle.run_session.specs.Invocations.{invocation_of}
-use Rattle.run_command.specs.inner.Begun.{HasBegun}
+use Rattle.run_command.specs.calls.Begun.{HasBegun}
 use Rattle.run_command.specs.declared.running.Begun.TheVariants.{Ready, Refused}
 use Rattle.run_command.proofs.Hostings.{began_behind}
 use Rattle.run_command.proofs.Beginning.{begun_begin, of_begun}

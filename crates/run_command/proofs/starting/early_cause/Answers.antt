@@ -1,9 +1,9 @@
 use Rattle.std.proofs.Common.{◌≡◌, ℕ, ◌<◌, List, sym, ap, ◌∙◌, subst, arith, Option, Some, None}
 use Rattle.std.specs.Prelude.{IfOk}
 use Rattle.wasm_machine.specs.declared.entries.EntryFault.{EntryFault}
-use Rattle.wasm_machine.specs.Entries.{first_unserved}
+use Rattle.wasm_machine.specs.calls.Entries.{first_unserved}
 use Rattle.run_command.specs.Hosting.{import_text}
-use Rattle.run_command.specs.inner.Begun.{fault_text, import_in}
+use Rattle.run_command.specs.calls.Begun.{fault_text, import_in}
 use Rattle.run_command.proofs.Entries.{own_text, found, passed, all_passed}
 use Rattle.run_command.proofs.Beginning.{own_fault, import_left}
 use Rattle.run_command.proofs.starting.early_cause.Goals as goal

@@ -1,5 +1,5 @@
 use Rattle.std.proofs.Common.{◌≡◌, ◌<◌, drop}
-use Rattle.wasm_machine.specs.Entries.{first_unserved}
+use Rattle.wasm_machine.specs.calls.Entries.{first_unserved}
 use Rattle.run_command.proofs.Entries.{texts}
 use Rattle.run_command.proofs.starting.early_cause.Given as goal
 

@@ -1,19 +1,19 @@
 use Rattle.std.proofs.Common.{◌-◌, ◌+◌, map, length, refl, sym, ap, ◌∙◌, subst, arith, take, drop}
 use Rattle.std.proofs.Math.Nat.{le_refl}
-use Rattle.command_answers.specs.declared.outcome.Outcome.{Outcome}
+use Rattle.commands.specs.declared.outcome.Outcome.{Outcome}
 use Rattle.wasm_syntax.specs.Run.{engine}
 use Rattle.machine_hosted.proofs.HostLaws.{kept_same, kept_on, cause_later}
 use Rattle.wasm_machine.proofs.StandingLaws.{of_same}
 use Rattle.run_session.specs.Telling.{tells}
 use Rattle.run_session.specs.Invocations.{invocation_of, depth_of}
 use Rattle.run_session.specs.Stop.{no_memory}
-use Rattle.run_session.specs.inner.Collecting.{used_up_of, serving_of, collecting_of}
-use Rattle.run_session.specs.inner.Sessions.{OnTurnStop}
+use Rattle.run_session.specs.calls.Collecting.{used_up_of, serving_of, collecting_of}
+use Rattle.run_session.specs.calls.Sessions.{OnTurnStop}
 use Rattle.run_session.proofs.Tellings.{behaves}
 use Rattle.run_session.proofs.Ends.{done_no_fault}
 use Rattle.run_session.proofs.Whole.{begins, entry_now, next_done, one_due, due_left, of_ok, of_want, of_goes, of_refused, come_next, ends_ran, torn_ran, ends_stopped, torn_stopped, stops_here, stopped_here, stopped_refused, all_ran_so, of_end}
 use Rattle.run_session.proofs.session.run_all.Goals as goal
-use Rattle.command_answers.proofs.Reading.{rose_since}
+use Rattle.commands.proofs.ReadFiles.{rose_since}
 
 pub loop-index-init : goal.loop-index-init
 loop-index-init g c = record {

@@ -2,12 +2,12 @@ use Rattle.std.proofs.Common.{◌≡◌, ◌≤◌, List, map, take, true, is_so
 use Rattle.wasm_syntax.specs.declared.host.CollectorCall.{CollectorCall}
 use Rattle.wasm_syntax.specs.Module.{Program}
 use Rattle.wasm_syntax.specs.Run.{engine}
-use Rattle.wasm_machine.specs.Instances.{IsOf}
-use Rattle.run_collected.specs.Delivery.{Delivery, IsDelivery}
+use Rattle.wasm_machine.specs.calls.Instances.{IsOf}
+use Rattle.run_session.specs.Delivery.{Delivery, IsDelivery}
 use Rattle.run_session.specs.Telling.{tells}
 use Rattle.run_session.specs.Invocations.{invocation_of, depth_of}
-use Rattle.run_session.specs.inner.Collecting.{KeptBehind}
-use Rattle.run_session.specs.inner.Sessions.{SoFar}
+use Rattle.run_session.specs.calls.Collecting.{KeptBehind}
+use Rattle.run_session.specs.calls.Sessions.{SoFar}
 use Rattle.run_session.proofs.session.run_all.Given as goal
 
 abbrev pub invariant-loop-index : goal.invariant-loop-index

@@ -3,12 +3,12 @@ use Rattle.causes.specs.Counts.{Rose}
 use Rattle.wasm_syntax.specs.declared.module.ModuleParts.{ModuleParts as Module}
 use Rattle.std.specs.Prelude.{slice_get}
 use Rattle.wasm_syntax.specs.Module.{function_export}
-use Rattle.machine_hosted.specs.Answers.{HasCause}
+use Rattle.machine_hosted.specs.calls.Answers.{HasCause}
 use Rattle.machine_hosted.specs.declared.answer.RunEnd.TheVariants.{NoMemory}
 use Rattle.wasm_machine.proofs.StandingLaws.{of_same}
 use Rattle.run_session.specs.Telling.{tells}
 use Rattle.run_session.specs.Invocations.{invocation_of, depth_of}
-use Rattle.run_session.specs.inner.Sessions.{ends_badly}
+use Rattle.run_session.specs.calls.Sessions.{ends_badly}
 use Rattle.run_session.proofs.Tellings.{behaves}
 use Rattle.run_session.proofs.Invocations.{kept_badly}
 use Rattle.run_session.proofs.Ones.{result_made, result_stopped, ends_all, ends_some}

@@ -1,6 +1,6 @@
 use Rattle.std.proofs.Common.{subst}
 use Rattle.std.specs.Prelude.{IfOk}
-use Rattle.dump_image.specs.Pictured.{bytes_in}
+use Rattle.dump_write.specs.Pictured.{bytes_in}
 use Rattle.run_session.specs.inner.Dumping.{IsTold}
 use Rattle.run_session.proofs.Handing.{shown_is, as_run_told, dump_told, bare_told, torn_told}
 use Rattle.run_session.proofs.told.with_calls.Goals as goal

@@ -1,5 +1,5 @@
 use Rattle.std.proofs.Common.{refl, inl, subst}
-use Rattle.instrument_command.specs.inner.Steps.{IsRewritten}
+use Rattle.instrument_command.specs.calls.Steps.{IsRewritten}
 use Rattle.selftest_command.proofs.Steps.{never_refused}
 use Rattle.selftest_command.proofs.command.test_module.Goals as goal
 

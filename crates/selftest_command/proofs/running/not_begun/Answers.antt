@@ -1,6 +1,6 @@
 use Rattle.std.proofs.Common.{subst, Err}
 use Rattle.wasm_syntax.specs.Run.{element_out, data_out}
-use Rattle.wasm_machine.specs.Instances.{Begins}
+use Rattle.wasm_machine.specs.calls.Instances.{Begins}
 use Rattle.selftest_command.proofs.Runs.{none_begun}
 use Rattle.selftest_command.proofs.running.not_begun.Goals as goal
 

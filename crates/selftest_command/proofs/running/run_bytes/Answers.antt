@@ -1,6 +1,6 @@
 use Rattle.std.proofs.Common.{subst}
 use Rattle.wasm_decode.specs.Decode.{module_from}
-use Rattle.command_answers.specs.Loaded.{IsLoaded}
+use Rattle.commands.specs.calls.Loaded.{IsLoaded}
 use Rattle.selftest_command.specs.inner.Steps.{IsCollected}
 use Rattle.selftest_command.proofs.Steps.{ok_is, not_turned, run_told}
 use Rattle.selftest_command.proofs.running.run_bytes.Goals as goal

@@ -1,7 +1,7 @@
 use Rattle.std.proofs.Common.{sym, ap, subst, ◌∙◌}
 use Rattle.wasm_syntax.specs.declared.module.ModuleParts.{ModuleParts as Module}
 use Rattle.wasm_syntax.specs.Module.{IsModule}
-use Rattle.host_set.specs.Hosting.{HostsState}
+use Rattle.host_set.specs.calls.Hosting.{HostsState}
 use Rattle.selftest_command.proofs.Runs.{knows_all, none_named, no_script, ran_line, refused_line}
 use Rattle.selftest_command.proofs.running.run_instance.Goals as goal
 

@@ -1,4 +1,4 @@
-use Rattle.dump_image.specs.Pictured.{bytes_in}
+use Rattle.dump_write.specs.Pictured.{bytes_in}
 use Rattle.selftest_command.proofs.Runs.{shown_line}
 use Rattle.selftest_command.proofs.running.shown.Goals as goal
 

@@ -1,7 +1,7 @@
 use Rattle.std.proofs.Common.{◌≡◌, map, take}
 use Rattle.wasm_syntax.specs.Module.{Program}
 use Rattle.wasm_syntax.specs.Machine.{Config}
-use Rattle.wasm_machine.specs.Instances.{StandsAt}
+use Rattle.wasm_machine.specs.calls.Instances.{StandsAt}
 use Rattle.dump_write.specs.Image.{frame_images}
 use Rattle.dump_write.specs.ImageBytes.{frame_of}
 use Rattle.trap_image.proofs.dump.all_frames.Given as goal

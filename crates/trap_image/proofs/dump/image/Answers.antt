@@ -2,7 +2,7 @@ use Rattle.std.proofs.Common.{◌≡◌, ◌∙◌, refl}
 use Rattle.dump_write.specs.Canonical.{canonical_bytes}
 use Rattle.dump_write.specs.Image.{frame_images}
 use Rattle.dump_write.specs.ImageBytes.{bytes_of}
-use Rattle.dump_image.specs.Pictured.{Pictures}
+use Rattle.dump_write.specs.Pictured.{Pictures}
 use Rattle.trap_image.proofs.Dumps.{of_parts}
 use Rattle.trap_image.proofs.dump.image.Goals as goal
 

@@ -1,4 +1,4 @@
-use Rattle.operand_spill.proofs.Loads.{when_ok}
+use Rattle.rewrite_code.proofs.Loads.{when_ok}
 use Rattle.unwind_rewrite.proofs.Branching.{closed_before}
 use Rattle.unwind_rewrite.proofs.blocks.close_block.Goals as goal
 

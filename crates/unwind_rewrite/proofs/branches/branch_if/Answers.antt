@@ -1,6 +1,6 @@
 use Rattle.std.proofs.Common.{slice_get}
-use Rattle.operand_spill.specs.Places.{place}
-use Rattle.operand_spill.proofs.Loads.{when_ok}
+use Rattle.rewrite_code.specs.calls.Places.{place}
+use Rattle.rewrite_code.proofs.Loads.{when_ok}
 use Rattle.unwind_rewrite.proofs.Branching.{branched_if}
 use Rattle.unwind_rewrite.proofs.branches.branch_if.Goals as goal
 

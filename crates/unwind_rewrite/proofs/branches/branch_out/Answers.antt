@@ -1,6 +1,6 @@
 use Rattle.std.proofs.Common.{suc, ap, ◌∙◌, option_map}
 use Rattle.wasm_syntax.specs.Tree.{Br, stop, jump}
-use Rattle.operand_spill.proofs.Loads.{when_ok}
+use Rattle.rewrite_code.proofs.Loads.{when_ok}
 use Rattle.unwind_rewrite.specs.declared.branches.Target.{Target}
 use Rattle.unwind_rewrite.proofs.Branching.{nowhere, out_of}
 use Rattle.unwind_rewrite.proofs.branches.branch_out.Goals as goal

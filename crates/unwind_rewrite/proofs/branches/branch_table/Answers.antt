@@ -1,6 +1,6 @@
 use Rattle.std.proofs.Common.{ap, ◌∙◌, option_map}
-use Rattle.operand_spill.specs.Places.{place}
-use Rattle.operand_spill.proofs.Loads.{when_ok}
+use Rattle.rewrite_code.specs.calls.Places.{place}
+use Rattle.rewrite_code.proofs.Loads.{when_ok}
 use Rattle.unwind_rewrite.specs.declared.branches.Target.{Target}
 use Rattle.unwind_rewrite.proofs.Branching.{table_chosen, table_nowhere}
 use Rattle.unwind_rewrite.proofs.branches.branch_table.Goals as goal

@@ -1,4 +1,4 @@
-use Rattle.operand_spill.proofs.Loads.{when_ok}
+use Rattle.rewrite_code.proofs.Loads.{when_ok}
 use Rattle.unwind_rewrite.proofs.Calling.{called}
 use Rattle.unwind_rewrite.proofs.calls.call_function.Goals as goal
 

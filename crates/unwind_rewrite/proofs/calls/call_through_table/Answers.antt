@@ -1,6 +1,6 @@
 use Rattle.std.proofs.Common.{◌≡◌, suc, ◌+◌, ◌-◌, length, ap, arith}
-use Rattle.operand_spill.specs.Places.{place}
-use Rattle.operand_spill.proofs.Loads.{when_ok}
+use Rattle.rewrite_code.specs.calls.Places.{place}
+use Rattle.rewrite_code.proofs.Loads.{when_ok}
 use Rattle.unwind_rewrite.proofs.Calling.{through_table}
 use Rattle.unwind_rewrite.proofs.calls.call_through_table.Goals as goal
 

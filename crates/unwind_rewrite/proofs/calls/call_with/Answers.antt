@@ -1,6 +1,6 @@
 use Rattle.std.proofs.Common.{ap, ◌∙◌}
 use Rattle.rewrite_bodies.specs.Numbering.{mapped}
-use Rattle.operand_spill.proofs.Loads.{when_ok}
+use Rattle.rewrite_code.proofs.Loads.{when_ok}
 use Rattle.unwind_rewrite.proofs.Calling.{loaded_call}
 use Rattle.unwind_rewrite.proofs.calls.call_with.Goals as goal
 

@@ -1,5 +1,5 @@
-use Rattle.operand_spill.specs.Places.{place}
-use Rattle.operand_spill.proofs.Loads.{when_ok}
+use Rattle.rewrite_code.specs.calls.Places.{place}
+use Rattle.rewrite_code.proofs.Loads.{when_ok}
 use Rattle.unwind_rewrite.proofs.Calling.{entry_guarded}
 use Rattle.unwind_rewrite.proofs.calls.keep_verdict.Goals as goal
 

@@ -1,4 +1,4 @@
-use Rattle.operand_spill.proofs.Loads.{when_ok}
+use Rattle.rewrite_code.proofs.Loads.{when_ok}
 use Rattle.unwind_rewrite.proofs.Bodies.{back_with, back_bare}
 use Rattle.unwind_rewrite.proofs.exits.result_back.Goals as goal
 

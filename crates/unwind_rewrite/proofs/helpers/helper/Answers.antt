@@ -1,4 +1,4 @@
-use Rattle.operand_spill.proofs.Loads.{when_ok}
+use Rattle.rewrite_code.proofs.Loads.{when_ok}
 use Rattle.unwind_rewrite.proofs.Bodies.{helper_written}
 use Rattle.unwind_rewrite.proofs.helpers.helper.Goals as goal
 

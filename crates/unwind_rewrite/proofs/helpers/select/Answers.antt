@@ -1,5 +1,5 @@
 use Rattle.rewrite_code.proofs.Pieces.{emits_last, emits_stop}
-use Rattle.operand_spill.proofs.Loads.{when_ok}
+use Rattle.rewrite_code.proofs.Loads.{when_ok}
 use Rattle.unwind_rewrite.proofs.helpers.select.Goals as goal
 
 pub returns-then-has_room : goal.returns-then-has_room

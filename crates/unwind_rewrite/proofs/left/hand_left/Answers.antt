@@ -1,5 +1,5 @@
 use Rattle.rewrite_bodies.specs.Slots.{less}
-use Rattle.operand_spill.proofs.Loads.{when_ok}
+use Rattle.rewrite_code.proofs.Loads.{when_ok}
 use Rattle.unwind_rewrite.proofs.Calling.{left_handed}
 use Rattle.unwind_rewrite.proofs.left.hand_left.Goals as goal
 

@@ -1,5 +1,5 @@
 use Rattle.std.proofs.Common.{rules, ◌≡◌, ◌-◌, ◌≤◌, ◌<◌, length, arith}
-use Rattle.operand_spill.proofs.Loads.{hand_step}
+use Rattle.rewrite_code.proofs.Loads.{hand_step}
 use Rattle.unwind_rewrite.proofs.Calling.{under_handed}
 use Rattle.unwind_rewrite.proofs.left.hand_under.Goals as goal
 

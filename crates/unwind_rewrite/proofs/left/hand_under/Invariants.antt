@@ -1,7 +1,7 @@
 use Rattle.std.proofs.Common.{◌≤◌, ◌-◌, take}
 use Rattle.rewrite_bodies.specs.Rewrite.{hand_top}
-use Rattle.rewrite_code.specs.Writing.{Emits}
-use Rattle.operand_spill.specs.Places.{from_top}
+use Rattle.rewrite_code.specs.calls.Writing.{Emits}
+use Rattle.rewrite_code.specs.calls.Places.{from_top}
 use Rattle.unwind_rewrite.proofs.left.hand_under.Given as goal
 
 abbrev pub invariant-loop-height : goal.invariant-loop-height

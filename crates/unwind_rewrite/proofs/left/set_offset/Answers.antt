@@ -1,5 +1,5 @@
 use Rattle.rewrite_code.proofs.Pieces.{emits_then}
-use Rattle.operand_spill.proofs.Loads.{when_ok}
+use Rattle.rewrite_code.proofs.Loads.{when_ok}
 use Rattle.unwind_rewrite.proofs.Numbers.{set_at}
 use Rattle.unwind_rewrite.proofs.left.set_offset.Goals as goal
 

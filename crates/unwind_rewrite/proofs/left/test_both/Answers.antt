@@ -1,7 +1,7 @@
 use Rattle.rewrite_bodies.specs.Slots.{less}
 use Rattle.wasm_syntax.specs.Tree.{stop}
 use Rattle.rewrite_bodies.specs.Rewrite.{hand_top}
-use Rattle.operand_spill.proofs.Loads.{when_ok}
+use Rattle.rewrite_code.proofs.Loads.{when_ok}
 use Rattle.unwind_rewrite.proofs.Calling.{both_tested}
 use Rattle.unwind_rewrite.proofs.left.test_both.Goals as goal
 

@@ -1,5 +1,5 @@
 use Rattle.rewrite_bodies.specs.Slots.{less}
-use Rattle.operand_spill.proofs.Loads.{when_ok, flag_tested}
+use Rattle.rewrite_code.proofs.Loads.{when_ok, flag_tested}
 use Rattle.unwind_rewrite.proofs.left.test_flag.Goals as goal
 
 pub returns : goal.returns

@@ -1,5 +1,5 @@
 use Rattle.rewrite_code.proofs.Pieces.{emits_last}
-use Rattle.operand_spill.proofs.Loads.{when_ok}
+use Rattle.rewrite_code.proofs.Loads.{when_ok}
 use Rattle.unwind_rewrite.proofs.left.unwind_both.Goals as goal
 
 pub returns : goal.returns

@@ -1,5 +1,5 @@
 use Rattle.rewrite_bodies.specs.Slots.{less}
-use Rattle.operand_spill.proofs.Loads.{when_ok}
+use Rattle.rewrite_code.proofs.Loads.{when_ok}
 use Rattle.unwind_rewrite.proofs.Calling.{caller_unwound}
 use Rattle.unwind_rewrite.proofs.left.unwind_caller.Goals as goal
 

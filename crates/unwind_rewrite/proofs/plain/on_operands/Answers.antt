@@ -1,4 +1,4 @@
-use Rattle.operand_spill.proofs.Loads.{when_ok}
+use Rattle.rewrite_code.proofs.Loads.{when_ok}
 use Rattle.unwind_rewrite.proofs.Branching.{put_on}
 use Rattle.unwind_rewrite.proofs.plain.on_operands.Goals as goal
 

@@ -2,10 +2,10 @@ use Rattle.std.proofs.Common.{refl, ◌≡◌, ◌∙◌, ◌+◌, ap, sym, subs
 use Rattle.std.specs.Prelude.{Some, None, slice_get}
 use Rattle.wasm_syntax.specs.Tree.{item_of}
 use Rattle.wasm_syntax.specs.Typing.{body_context}
-use Rattle.validate_body.specs.inner.Algorithm.{start, step}
+use Rattle.validate_body.specs.calls.Algorithm.{start, step}
 use Rattle.validate_body.specs.inner.Steps.{context_of}
 use Rattle.validate_body.proofs.Through.{run_next, wrong_next, all_went, first_gives, in_body}
-use Rattle.validate_body.specs.Marks.{MarkIs}
+use Rattle.validate_body.specs.calls.Marks.{MarkIs}
 use Rattle.validate_body.proofs.MarksLaws.{SoFar, none_so_far, one_more_mark, all_marked, mark_is}
 use Rattle.validate_body.proofs.body.through.Goals as goal
 

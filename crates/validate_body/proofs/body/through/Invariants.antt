@@ -2,7 +2,7 @@ use Rattle.std.proofs.Common.{◌≡◌, ◌≤◌, ◌-◌, length, take}
 use Rattle.std.specs.Prelude.{Some, slice_get}
 use Rattle.wasm_syntax.specs.Tree.{code_of}
 use Rattle.wasm_syntax.specs.Typing.{body_context}
-use Rattle.validate_body.specs.inner.Algorithm.{run, start}
+use Rattle.validate_body.specs.calls.Algorithm.{run, start}
 use Rattle.validate_body.proofs.MarksLaws.{SoFar}
 use Rattle.validate_body.proofs.body.through.Given as goal
 

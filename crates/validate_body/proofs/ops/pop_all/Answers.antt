@@ -1,5 +1,5 @@
 use Rattle.std.proofs.Common.{sym, ◌∙◌, take, reverse}
-use Rattle.validate_stack.proofs.StackLaws.{pops_any}
+use Rattle.validate_body.proofs.StackLaws.{pops_any}
 use Rattle.validate_body.proofs.ops.pop_all.Goals as goal
 
 pub returns-then-gives_any : goal.returns-then-gives_any

@@ -1,5 +1,5 @@
 use Rattle.std.proofs.Common.{◌≡◌, ◌≤◌, length, take, reverse}
-use Rattle.validate_stack.specs.Frames.{pops}
+use Rattle.validate_body.specs.calls.Frames.{pops}
 use Rattle.validate_body.proofs.ops.pop_all.Given as goal
 
 abbrev pub invariant-loop-n : goal.invariant-loop-n

@@ -1,5 +1,5 @@
 use Rattle.std.proofs.Common.{◌≡◌, ◌≤◌, ◌-◌, length, take, reverse}
-use Rattle.validate_stack.specs.Frames.{pushes}
+use Rattle.validate_body.specs.calls.Frames.{pushes}
 use Rattle.validate_body.proofs.ops.push_all.Given as goal
 
 abbrev pub invariant-loop-n : goal.invariant-loop-n

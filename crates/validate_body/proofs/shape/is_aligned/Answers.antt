@@ -1,5 +1,5 @@
 use Rattle.std.proofs.Common.{sym}
-use Rattle.validate_stack.proofs.StackLaws.{aligned_not}
+use Rattle.validate_body.proofs.StackLaws.{aligned_not}
 use Rattle.validate_body.proofs.shape.is_aligned.Goals as goal
 
 pub returns-then-align-ge4 : goal.returns-then-align-ge4

@@ -1,5 +1,5 @@
 use Rattle.std.proofs.Common.{sym, subst}
-use Rattle.validate_stack.specs.inner.Stacked.{Did}
+use Rattle.validate_body.specs.inner.Stacked.{Did}
 use Rattle.validate_body.specs.inner.Steps.{context_of}
 use Rattle.validate_body.proofs.Through.{basic_is}
 use Rattle.validate_body.proofs.step.basic.Goals as goal

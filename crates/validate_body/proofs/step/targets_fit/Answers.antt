@@ -1,6 +1,6 @@
 use Rattle.std.proofs.Common.{sym, ap, ◌∙◌, ◌-◌, ◌+◌, take, drop, arith}
 use Rattle.std.specs.Prelude.{◌&&◌}
-use Rattle.validate_body.specs.inner.Algorithm.{targets_fit}
+use Rattle.validate_body.specs.calls.Algorithm.{targets_fit}
 use Rattle.validate_body.proofs.Through.{target_next}
 use Rattle.validate_body.proofs.step.targets_fit.Goals as goal
 

@@ -1,5 +1,5 @@
 use Rattle.std.proofs.Common.{◌≡◌, ◌+◌, take, drop}
-use Rattle.validate_body.specs.inner.Algorithm.{targets_fit}
+use Rattle.validate_body.specs.calls.Algorithm.{targets_fit}
 use Rattle.validate_body.proofs.step.targets_fit.Given as goal
 
 abbrev pub invariant-loop-n : goal.invariant-loop-n

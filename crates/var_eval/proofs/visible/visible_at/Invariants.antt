@@ -1,6 +1,6 @@
 use Rattle.std.proofs.Common.{◌≡◌, ◌++◌, drop}
 use Rattle.std.specs.Prelude.{map}
-use Rattle.var_eval.specs.Variables.{variable_of}
+use Rattle.var_eval.specs.calls.Variables.{variable_of}
 use Rattle.var_eval.proofs.visible.visible_at.Given as goal
 
 abbrev pub invariant-loop-variable : goal.invariant-loop-variable

@@ -1,5 +1,5 @@
 use Rattle.std.proofs.Common.{subst}
-use Rattle.wasm_bytes.specs.Answers.{Gives}
+use Rattle.wasm_bytes.specs.calls.Answers.{Gives}
 use Rattle.wasm_decode.proofs.NameLaws.{names_kept}
 use Rattle.wasm_decode.proofs.name_section.name_vector.Goals as goal
 

@@ -1,6 +1,6 @@
 use Rattle.std.proofs.Common.{◌≡◌, ◌++◌, take}
 use Rattle.std.specs.List.{flat_map, AllByRecursion}
-use Rattle.wasm_instructions.specs.Encoding.{encoding, IsCode}
+use Rattle.wasm_format.specs.Encoding.{encoding, IsCode}
 use Rattle.wasm_encode.proofs.expression.write_expression.Given as goal
 
 abbrev pub invariant-loop-op : goal.invariant-loop-op

@@ -1,5 +1,5 @@
 use Rattle.std.proofs.Common.{arith, refl}
-use Rattle.wasm_leb.specs.Numbers.{IsSigned}
+use Rattle.wasm_leb.specs.calls.Numbers.{IsSigned}
 use Rattle.wasm_leb.specs.Reading.{signed_at, s64_at}
 use Rattle.wasm_leb.proofs.Readings.{found_at, truncated_at, too_long_at}
 use Rattle.wasm_leb.proofs.Widths.{s64_reading}

@@ -1,5 +1,5 @@
 use Rattle.std.proofs.Common.{arith, refl}
-use Rattle.wasm_leb.specs.Numbers.{IsUnsigned}
+use Rattle.wasm_leb.specs.calls.Numbers.{IsUnsigned}
 use Rattle.wasm_leb.specs.Reading.{unsigned_at, u32_at}
 use Rattle.wasm_leb.proofs.Readings.{found_at, truncated_at, too_long_at}
 use Rattle.wasm_leb.proofs.Widths.{u32_reading}

@@ -1,6 +1,6 @@
 use Rattle.std.proofs.Common.{arith, w64, to_z, of_z}
 use Rattle.std.proofs.lemmas.Int.{ints}
-use Rattle.wasm_leb.specs.Numbers.{IsSigned}
+use Rattle.wasm_leb.specs.calls.Numbers.{IsSigned}
 use Rattle.wasm_leb.specs.Writing.{signed_bytes}
 use Rattle.wasm_leb.proofs.Appended.{appends_shortest}
 use Rattle.wasm_leb.proofs.SignedBytes.{signed_shortest}

@@ -1,5 +1,5 @@
 use Rattle.std.proofs.Common.{arith}
-use Rattle.wasm_leb.specs.Numbers.{IsUnsigned}
+use Rattle.wasm_leb.specs.calls.Numbers.{IsUnsigned}
 use Rattle.wasm_leb.specs.Writing.{unsigned_bytes}
 use Rattle.wasm_leb.proofs.Appended.{appends_shortest}
 use Rattle.wasm_leb.proofs.UnsignedBytes.{unsigned_shortest}

@@ -1,6 +1,6 @@
 use Rattle.std.proofs.Common.{◌≡◌, drop, map}
 use Rattle.wasm_syntax.specs.Run.{first_false}
-use Rattle.wasm_machine.specs.Entries.{is_served}
+use Rattle.wasm_machine.specs.calls.Entries.{is_served}
 use Rattle.wasm_machine.proofs.entries.first_unserved.Given as goal
 
 abbrev pub invariant-loop-import : goal.invariant-loop-import

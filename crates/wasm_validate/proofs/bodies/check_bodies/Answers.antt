@@ -1,7 +1,7 @@
 use Rattle.std.proofs.Common.{◌≡◌, ◌+◌, ◌≤◌, length, sym, subst, arith}
 use Rattle.wasm_syntax.specs.Valid.{FirstInvalid}
 use Rattle.wasm_syntax.specs.declared.place.Place.TheVariants.{Function}
-use Rattle.wasm_validate.specs.Whole.{MarkedUpTo}
+use Rattle.wasm_validate.specs.calls.Whole.{MarkedUpTo}
 use Rattle.wasm_validate.proofs.WholeLaws.{all_valid, judged_bad, some_body, bodies_more, marked_more, none_marked, up_to_none}
 use Rattle.wasm_validate.proofs.bodies.check_bodies.Goals as goal
 

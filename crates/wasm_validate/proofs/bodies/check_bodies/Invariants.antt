@@ -1,5 +1,5 @@
 use Rattle.std.proofs.Common.{◌≤◌, ◌-◌, length}
-use Rattle.wasm_validate.specs.Whole.{BodiesUpTo, MarkedUpTo}
+use Rattle.wasm_validate.specs.calls.Whole.{BodiesUpTo, MarkedUpTo}
 use Rattle.wasm_validate.proofs.bodies.check_bodies.Given as goal
 
 abbrev pub invariant-loop-i : goal.invariant-loop-i

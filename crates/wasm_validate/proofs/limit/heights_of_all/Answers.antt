@@ -1,5 +1,5 @@
 use Rattle.std.proofs.Common.{◌++◌, [], ◌∷◌, map, ap, ◌∙◌, arith}
-use Rattle.wasm_validate.specs.MarkedHeights.{height_or_zero}
+use Rattle.wasm_validate.specs.calls.MarkedHeights.{height_or_zero}
 use Rattle.wasm_validate.proofs.HeightLaws.{map_next, map_whole}
 use Rattle.wasm_validate.proofs.limit.heights_of_all.Goals as goal
 

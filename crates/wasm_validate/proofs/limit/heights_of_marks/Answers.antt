@@ -1,5 +1,5 @@
 use Rattle.std.proofs.Common.{◌≤◌, ◌++◌, [], ◌∷◌, ap, subst, sym, ◌∙◌, arith}
-use Rattle.wasm_validate.specs.MarkedHeights.{height_or_zero}
+use Rattle.wasm_validate.specs.calls.MarkedHeights.{height_or_zero}
 use Rattle.wasm_validate.proofs.HeightLaws.{map_next, map_whole, low_height}
 use Rattle.wasm_validate.proofs.limit.heights_of_marks.Goals as goal
 

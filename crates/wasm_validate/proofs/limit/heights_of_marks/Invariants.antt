@@ -1,5 +1,5 @@
 use Rattle.std.proofs.Common.{◌≡◌, ◌≤◌, ◌-◌, length, map, take}
-use Rattle.wasm_validate.specs.MarkedHeights.{height_or_zero}
+use Rattle.wasm_validate.specs.calls.MarkedHeights.{height_or_zero}
 use Rattle.wasm_validate.proofs.limit.heights_of_marks.Given as goal
 
 abbrev pub invariant-loop-i : goal.invariant-loop-i

@@ -1,7 +1,7 @@
 use Rattle.std.proofs.Common.{◌≡◌, length, sym, ap, subst, ◌∙◌}
 use Rattle.std.specs.Prelude.{Some, None, slice_get}
 use Rattle.std.specs.Option.{option_copied}
-use Rattle.wasm_validate.specs.Operands.{UpTo}
+use Rattle.wasm_validate.specs.calls.Operands.{UpTo}
 use Rattle.wasm_validate.proofs.RowLaws.{last_of_row, row_has_last}
 use Rattle.wasm_validate.proofs.rows.last_top.Goals as goal
 

@@ -1,5 +1,5 @@
 use Rattle.std.proofs.Common.{[], ◌∷◌, ◌++◌, sym, ap, subst, ◌∙◌}
-use Rattle.wasm_validate.specs.Operands.{AreRows}
+use Rattle.wasm_validate.specs.calls.Operands.{AreRows}
 use Rattle.wasm_validate.proofs.RowLaws.{more_rows}
 use Rattle.wasm_validate.proofs.rows.reach.Goals as goal
 

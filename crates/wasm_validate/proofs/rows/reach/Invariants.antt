@@ -1,5 +1,5 @@
 use Rattle.std.proofs.Common.{ℕ, List, length, ◌+◌, ◌-◌}
-use Rattle.wasm_validate.specs.Operands.{AreRows}
+use Rattle.wasm_validate.specs.calls.Operands.{AreRows}
 use Rattle.wasm_validate.proofs.rows.reach.Given as goal
 
 abbrev pub invariant-loop-alloc : goal.invariant-loop-alloc

@@ -1,5 +1,5 @@
 use Rattle.std.proofs.Common.{◌≤◌, ◌-◌, length}
-use Rattle.wasm_validate.specs.Operands.{AreRows}
+use Rattle.wasm_validate.specs.calls.Operands.{AreRows}
 use Rattle.wasm_validate.proofs.rows.rows_of.Given as goal
 
 abbrev pub invariant-loop-i : goal.invariant-loop-i

@@ -1,5 +1,5 @@
 use Rattle.std.proofs.Common.{sym, subst, arith, ◌+◌}
-use Rattle.wasm_validate.specs.Operands.{RowsUpTo}
+use Rattle.wasm_validate.specs.calls.Operands.{RowsUpTo}
 use Rattle.wasm_validate.proofs.RowLaws.{all_rows_next}
 use Rattle.wasm_validate.proofs.rows.rows_of_all.Goals as goal
 

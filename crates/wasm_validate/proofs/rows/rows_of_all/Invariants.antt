@@ -1,5 +1,5 @@
 use Rattle.std.proofs.Common.{◌≤◌, ◌-◌, length}
-use Rattle.wasm_validate.specs.Operands.{RowsUpTo}
+use Rattle.wasm_validate.specs.calls.Operands.{RowsUpTo}
 use Rattle.wasm_validate.proofs.rows.rows_of_all.Given as goal
 
 abbrev pub invariant-loop-i : goal.invariant-loop-i

@@ -1,7 +1,7 @@
 use Rattle.std.proofs.Common.{refl, sym, subst}
 use Rattle.std.specs.Prelude.{Some, None}
-use Rattle.wasm_validate.specs.MarkedHeights.{FirstHighMarks}
-use Rattle.wasm_validate.specs.Operands.{FewMarks}
+use Rattle.wasm_validate.specs.calls.MarkedHeights.{FirstHighMarks}
+use Rattle.wasm_validate.specs.calls.Operands.{FewMarks}
 use Rattle.wasm_validate.proofs.HeightLaws.{all_low, first_high}
 use Rattle.wasm_validate.proofs.OperandLaws.{few_marks}
 use Rattle.wasm_validate.proofs.validated.marked.Goals as goal

@@ -1,6 +1,6 @@
 use Rattle.std.proofs.Common.{◌≡◌, ◌++◌, ◌+◌, ◌<◌}
 use Prim.Native.Nat.{◌^◌}
-use Rattle.dwarf_scopes.specs.inner.Numbered.{ranges_from}
+use Rattle.dwarf_scopes.specs.calls.Numbered.{ranges_from}
 use Rattle.debug_frames.specs.inner.Placing.{held_in}
 use Rattle.debug_frames.proofs.programs.Programs.ranges.Given as goal
 

@@ -1,8 +1,8 @@
 use Rattle.std.proofs.Common.{◌<◌, ◌^◌, ℕ, Option, ap, ◌∙◌, arith}
 use Rattle.std.specs.Prelude.{slice_get, option_and_then}
 use Rattle.dwarf_scopes.specs.Ranges.{holds}
-use Rattle.dwarf_scopes.specs.inner.Steps.{answer}
-use Rattle.dwarf_scopes.specs.inner.Numbered.{passes, first_or}
+use Rattle.dwarf_scopes.specs.calls.Steps.{answer}
+use Rattle.dwarf_scopes.specs.calls.Numbered.{passes, first_or}
 use Rattle.dwarf_scopes.proofs.HolderLaws.{first_is}
 use Rattle.dwarf_scopes.proofs.holders.Holders.first.Goals as goal
 

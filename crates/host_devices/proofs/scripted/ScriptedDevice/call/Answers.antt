@@ -2,7 +2,7 @@ use Rattle.std.proofs.Common.{◌∙◌, refl, sym, ap, length, List, slice_get}
 use Rattle.std.proofs.lemmas.Bool.{ltb-true}
 use Rattle.std.proofs.lemmas.Option.{slice_get_read}
 use Rattle.wasm_syntax.specs.declared.host.Reply.{Reply}
-use Rattle.host_devices.specs.Devices.{ScriptState}
+use Rattle.host_devices.specs.calls.Devices.{ScriptState}
 use Rattle.host_devices.proofs.Replies.{next_reply}
 use Rattle.host_devices.proofs.scripted.ScriptedDevice.call.Goals as goal
 

@@ -1,5 +1,5 @@
 use Rattle.std.proofs.Common.{ap}
-use Rattle.host_set.specs.Hosting.{HostsState, replies_of}
+use Rattle.host_set.specs.calls.Hosting.{HostsState, replies_of}
 use Rattle.host_set.proofs.Logs.{log_ends, by_imports}
 use Rattle.host_set.proofs.hosts.Hosts.into_devices.Goals as goal
 

@@ -1,6 +1,6 @@
 use Rattle.std.proofs.Common.{ap, ◌∙◌, List, ℕ}
 use Rattle.wasm_syntax.specs.declared.host.Served.{Served}
-use Rattle.host_set.specs.Hosting.{log_named}
+use Rattle.host_set.specs.calls.Hosting.{log_named}
 use Rattle.host_set.proofs.Logs.{fronts_first, log_of_named}
 use Rattle.host_set.proofs.Calls.{first}
 use Rattle.host_set.proofs.hosts.Hosts.new.Goals as goal

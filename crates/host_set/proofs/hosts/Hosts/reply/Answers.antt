@@ -2,9 +2,9 @@ use Rattle.std.proofs.Common.{rules, ◌<◌, ◌∙◌, ap, sym, length, get_or
 use Rattle.std.proofs.lemmas.List.{get_or_default}
 use Rattle.wasm_syntax.specs.declared.host.Reply.{Reply}
 use Rattle.wasm_syntax.specs.declared.host.Served.{Served}
-use Rattle.host_devices.specs.Devices.{empty_reply}
+use Rattle.host_devices.specs.calls.Devices.{empty_reply}
 use Rattle.host_set.specs.Sets.{no_device}
-use Rattle.host_set.specs.Hosting.{replies_of, no_served}
+use Rattle.host_set.specs.calls.Hosting.{replies_of, no_served}
 use Rattle.host_set.proofs.Replies.{device_entry, script_entry}
 use Rattle.host_set.proofs.hosts.Hosts.reply.Goals as goal
 

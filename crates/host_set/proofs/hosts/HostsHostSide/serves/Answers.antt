@@ -1,4 +1,4 @@
-use Rattle.host_set.specs.Hosting.{seen}
+use Rattle.host_set.specs.calls.Hosting.{seen}
 use Rattle.host_set.proofs.Calls.{serves_named, serves_script}
 use Rattle.host_set.proofs.hosts.HostsHostSide.serves.Goals as goal
 

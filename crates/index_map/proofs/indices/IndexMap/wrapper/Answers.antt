@@ -1,6 +1,6 @@
 use Rattle.std.proofs.Common.{◌∙◌, ap, slice_get, ℕ, List}
 use Rattle.std.proofs.lemmas.Option.{slice_get_within, get_or_from_slice_get}
-use Rattle.index_map.specs.Wrapper.{wrapper_of}
+use Rattle.index_map.specs.calls.Wrapper.{wrapper_of}
 use Rattle.index_map.proofs.Numbers.{wrapper_at}
 use Rattle.index_map.proofs.indices.IndexMap.wrapper.Goals as goal
 

@@ -1,6 +1,6 @@
 use Rattle.std.proofs.Common.{◌≡◌, ◌*◌, replicate, subst, IfNone}
 use Rattle.linear_memory.specs.Memory.{window}
-use Rattle.linear_memory.specs.Paged.{Paged}
+use Rattle.linear_memory.specs.calls.Paged.{Paged}
 use Rattle.linear_memory.specs.inner.Table.{contents}
 use Rattle.linear_memory.proofs.Contents.{Table}
 use Rattle.linear_memory.proofs.paged.Memory.page.Goals as goal

@@ -1,7 +1,7 @@
 use Rattle.std.proofs.Common.{◌≡◌, ◌++◌, ◌∷◌, [], length, sym, subst, ◌∙◌}
 use Rattle.std.specs.Prelude.{true, false, nat_lt, slice_index_or}
 use Rattle.machine_steps.specs.Places.{flat_place}
-use Rattle.machine_steps.specs.Tallies.{Counts, Counted}
+use Rattle.machine_steps.specs.calls.Tallies.{Counts, Counted}
 use Rattle.machine_steps.proofs.TallyLaws.{counted_in, counted_out}
 use Rattle.machine_steps.proofs.tally.Tally.count.Goals as goal
 

@@ -2,7 +2,7 @@ use Rattle.std.proofs.Common.{◌≡◌, ◌≤◌, true, false, drop, length, m
 use Rattle.std.proofs.lemmas.Bool.{cases_lt}
 use Rattle.std.proofs.lemmas.List.{take_at}
 use Rattle.std.specs.Vec.{with_items}
-use Rattle.machine_steps.specs.Tallies.{Counts}
+use Rattle.machine_steps.specs.calls.Tallies.{Counts}
 use Rattle.machine_steps.specs.inner.Cells.{cells_more, counts_more}
 use Rattle.machine_steps.proofs.TallyLaws.{cells_length, counts_past, counts_set}
 use Rattle.machine_steps.proofs.tally.Tally.count_at.Goals.{in-Some, in-None}

@@ -1,6 +1,6 @@
 use Rattle.std.proofs.Common.{ℕ, ap, ◌∙◌}
 use Rattle.std.specs.Prelude.{false}
-use Rattle.wasm_machine.specs.Instances.{last_of}
+use Rattle.wasm_machine.specs.calls.Instances.{last_of}
 use Rattle.replay.proofs.Advances.{handed_on, few_more}
 use Rattle.replay.proofs.point.Point.advance.Goals as goal
 

@@ -1,6 +1,6 @@
 use Rattle.std.proofs.Common.{◌≡◌, ap, ◌∙◌}
-use Rattle.debug_subject.specs.Subject.{Subject}
-use Rattle.debugger.specs.Sitting.{sitting}
+use Rattle.debugger.specs.Subject.{Subject}
+use Rattle.debugger.specs.calls.Sitting.{sitting}
 use Rattle.replay_command.specs.ReplayText.{commands_in}
 use Rattle.replay_command.specs.inner.Steps.{Seat, choosing, left_in}
 use Rattle.replay_command.proofs.Turns.{looks_at, took_looks}

@@ -1,14 +1,14 @@
 use Rattle.std.proofs.Common.{◌≡◌, ◌+◌, ◌-◌, ◌∙◌, [], refl, sym, ap, subst, arith}
 use Rattle.std.specs.Prelude.{Bool, None, false}
 use Rattle.wasm_syntax.specs.Run.{engine}
-use Rattle.machine_steps.specs.declared.machine.Prepared.{Prepared}
-use Rattle.machine_hosted.specs.Settings.{HostServes, Takes, world_of}
-use Rattle.machine_hosted.specs.Invocations.{InvocationCameWith, invoking}
-use Rattle.machine_hosted.specs.Watching.{Watched, invocation_placing}
+use Rattle.machine_code.specs.declared.prepared.Prepared.{Prepared}
+use Rattle.machine_hosted.specs.calls.Settings.{HostServes, Takes, world_of}
+use Rattle.machine_hosted.specs.calls.Invocations.{InvocationCameWith, invoking}
+use Rattle.machine_hosted.specs.calls.Watching.{Watched, invocation_placing}
 use Rattle.machine_hosted.proofs.WatchLaws.{unseen}
 use Rattle.machine_hosted.proofs.WatchJoins.{none_placed}
-use Rattle.wasm_machine.specs.Watching.{Seen}
-use Rattle.wasm_machine.specs.Instances.{State, state, Invoked, course_from, last_of}
+use Rattle.wasm_machine.specs.calls.Watching.{Seen}
+use Rattle.wasm_machine.specs.calls.Instances.{State, state, Invoked, course_from, last_of}
 use Rattle.machine_hosted.specs.declared.answer.RunEnd.TheVariants.{NoMemory}
 use Rattle.machine_hosted.proofs.ModuleLaws.{function_there, takes_start}
 use Rattle.wasm_machine.proofs.StoppedLaws.{stops}

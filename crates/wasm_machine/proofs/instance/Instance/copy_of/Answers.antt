@@ -1,5 +1,5 @@
 use Rattle.std.proofs.Common.{sym, subst}
-use Rattle.wasm_machine.specs.Instances.{state, SoundState}
+use Rattle.wasm_machine.specs.calls.Instances.{state, SoundState}
 use Rattle.wasm_machine.proofs.StandingLaws.{copied_sound, copy_is}
 use Rattle.wasm_machine.proofs.instance.Instance.copy_of.Goals as goal
 

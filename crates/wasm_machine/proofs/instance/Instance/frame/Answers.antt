@@ -1,9 +1,9 @@
 use Rattle.std.proofs.Common.{◌∙◌, List, sym, ap, subst}
 use Rattle.std.specs.Prelude.{slice_get}
 use Rattle.dump_write.specs.Image.{DumpFrame}
-use Rattle.machine_steps.specs.declared.machine.Prepared.{Prepared}
+use Rattle.machine_code.specs.declared.prepared.Prepared.{Prepared}
 use Rattle.wasm_machine.specs.inner.Shown.{all_shown}
-use Rattle.wasm_machine.specs.Instances.{State, state, StandsAt}
+use Rattle.wasm_machine.specs.calls.Instances.{State, state, StandsAt}
 use Rattle.wasm_machine.proofs.StandingLaws.{frames_at}
 use Rattle.wasm_machine.proofs.instance.Instance.frame.Goals as goal
 

@@ -1,5 +1,5 @@
 use Rattle.std.proofs.Common.{◌∙◌, sym, subst}
-use Rattle.wasm_machine.specs.Instances.{State, state, StandsAt}
+use Rattle.wasm_machine.specs.calls.Instances.{State, state, StandsAt}
 use Rattle.wasm_machine.proofs.StandingLaws.{count_at}
 use Rattle.wasm_machine.proofs.instance.Instance.frame_count.Goals as goal
 

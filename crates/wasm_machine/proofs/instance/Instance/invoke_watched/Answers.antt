@@ -1,6 +1,6 @@
 use Rattle.std.proofs.Common.{sym, subst}
-use Rattle.machine_hosted.specs.Settings.{Takes, ServesAll}
-use Rattle.wasm_machine.specs.Instances.{State}
+use Rattle.machine_hosted.specs.calls.Settings.{Takes, ServesAll}
+use Rattle.wasm_machine.specs.calls.Instances.{State}
 use Rattle.machine_hosted.proofs.HostLaws.{kept_same}
 use Rattle.wasm_machine.proofs.EntryLaws.{without_fault}
 use Rattle.wasm_machine.proofs.instance.Instance.invoke_watched.Goals as goal

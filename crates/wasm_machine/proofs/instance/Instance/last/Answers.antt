@@ -1,6 +1,6 @@
 use Rattle.std.proofs.Common.{◌≡◌, subst}
 use Rattle.std.specs.Prelude.{Some}
-use Rattle.wasm_machine.specs.Instances.{State, IsOf, Stopped}
+use Rattle.wasm_machine.specs.calls.Instances.{State, IsOf, Stopped}
 use Rattle.wasm_machine.proofs.instance.Instance.last.Goals as goal
 
 pub returns-clause-stopped : goal.returns-clause-stopped

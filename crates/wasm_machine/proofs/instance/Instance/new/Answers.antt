@@ -5,8 +5,8 @@ use Rattle.wasm_syntax.specs.Module.{Program, IsProgram}
 use Rattle.wasm_syntax.specs.Valid.{Valid}
 use Rattle.wasm_syntax.specs.Sizes.{WithinLimits}
 use Rattle.wasm_syntax.specs.Run.{cause_of_segments, start_world}
-use Rattle.machine_steps.specs.declared.machine.Prepared.{Prepared}
-use Rattle.machine_steps.specs.Prepares.{IsPrepared}
+use Rattle.machine_code.specs.declared.prepared.Prepared.{Prepared}
+use Rattle.machine_code.specs.calls.Prepares.{IsPrepared}
 use Rattle.wasm_machine.proofs.InstanceLaws.{new_sound, new_world, new_fits}
 use Rattle.wasm_machine.proofs.instance.Instance.new.Goals as goal
 

@@ -1,10 +1,10 @@
 use Rattle.std.proofs.Common.{◌≡◌, ◌∙◌, List, sym, subst, arith}
 use Rattle.std.specs.Prelude.{Some}
 use Rattle.wasm_syntax.specs.declared.value.Value.{Value}
-use Rattle.machine_steps.specs.declared.machine.Prepared.{Prepared}
-use Rattle.machine_hosted.specs.Courses.{longer, Followed}
+use Rattle.machine_code.specs.declared.prepared.Prepared.{Prepared}
+use Rattle.machine_hosted.specs.calls.Courses.{longer, Followed}
 use Rattle.machine_hosted.specs.declared.answer.RunEnd.TheVariants.{FuelSpent}
-use Rattle.wasm_machine.specs.Instances.{State, state, IsOf, IsSpent, StoppedBy, Resumed}
+use Rattle.wasm_machine.specs.calls.Instances.{State, state, IsOf, IsSpent, StoppedBy, Resumed}
 use Rattle.wasm_machine.proofs.StoppedLaws.{spent_by, goes_on, resumed, behind}
 use Rattle.wasm_machine.proofs.instance.Instance.resume.Goals as goal
 

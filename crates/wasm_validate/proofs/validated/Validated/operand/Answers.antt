@@ -2,7 +2,7 @@ use Rattle.std.proofs.Common.{◌≡◌, ◌-◌, length, sym, ap, subst, ◌∙
 use Rattle.std.specs.Prelude.{Some, None}
 use Rattle.wasm_syntax.specs.Module.{IsModule}
 use Rattle.wasm_validate.specs.Heights.{HasOp}
-use Rattle.wasm_validate.specs.Operands.{HasOperand}
+use Rattle.wasm_validate.specs.calls.Operands.{HasOperand}
 use Rattle.wasm_validate.proofs.OperandLaws.{operand_read, static_there}
 use Rattle.wasm_validate.proofs.validated.Validated.operand.Goals as goal
 

@@ -1,0 +1,7 @@
+mod Loads
+pub mod OneOutcome
+pub mod Unless
+pub mod ReadFiles
+mod DistinctLaws
+mod PartsLaws
+mod ReadingLaws

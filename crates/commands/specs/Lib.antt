@@ -1,0 +1,11 @@
+pub mod Inputs
+pub mod Loading
+pub mod Refusal
+pub mod Texts
+pub mod Told
+pub mod Values
+pub mod Lines
+pub mod Reading
+pub mod inner
+pub mod Refused
+pub mod calls

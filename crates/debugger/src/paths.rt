@@ -1,0 +1,71 @@
+//! What stands at a path in a frame.
+
+ghost use Rattle.std.specs.Prelude.{◌≡◌, ◌++◌, OnOk};
+ghost use Rattle.debugger.specs.Variables as definitions;
+
+use crate::Subject;
+use crate::view::view_of;
+use causes::NoMemory;
+use debug_frames::address_of;
+use dump_format::Frame;
+use pm_text::Text;
+use std::alloc::Global;
+use var_eval::{Frame as Looks, Shown, value_of};
+use var_path::Path;
+
+fn push_no_variable(out: &mut Text, name: &[u8]) -> Result<(), NoMemory>
+    ensures { OnOk result (out.new ≡ out.old ++ definitions.no_variable name.now) }
+{
+    out.push_str("no variable ")?;
+    out.push_plain(name)?;
+    out.push_str("\n")
+}
+
+#[tactic(auto, unfolding(crate::specs::Variables::value_line))]
+fn push_value_line(out: &mut Text, word: &str, text: &str) -> Result<(), NoMemory>
+    ensures { OnOk result (out.new ≡ out.old ++ definitions.value_line word.now text.now) }
+{
+    out.push_str(word)?;
+    out.push_str(" = ")?;
+    out.push_str(text)?;
+    out.push_str("\n")
+}
+
+/// Adds the line of what is shown of a path to a variable of this name, spelled by this word.
+fn push_shown(out: &mut Text, name: &[u8], word: &str, shown: &Shown) -> Result<(), NoMemory>
+    ensures { OnOk result (out.new
+        ≡ out.old ++ definitions.shown_line name.now word.now shown.now) }
+{
+    match shown {
+        Shown::NoVariable => push_no_variable(out, name),
+        Shown::Marked(mark) => push_value_line(out, word, mark.text()),
+        Shown::Text(text) => push_value_line(out, word, text.as_str()),
+    }
+}
+
+/// Adds the line of what stands at a path, which this word spells, in a frame.
+#[tactic(auto, unfolding(crate::specs::Variables::path_text))]
+pub fn push_path(
+    out: &mut Text,
+    alloc: Global,
+    subject: &Subject<'_, '_, '_, '_>,
+    frame: &Frame,
+    word: &str,
+    path: &Path<'_>,
+) -> Result<(), NoMemory>
+    ensures { OnOk result (out.new
+        ≡ out.old ++ definitions.path_text subject.now frame.now word.now path.now) }
+{
+    let view = view_of(subject, frame);
+    let information = subject.information();
+    let address = address_of(subject.parts(), frame);
+    let looks = Looks::new(
+        alloc,
+        &information.sections,
+        &information.units,
+        address,
+        &view,
+    )?;
+    let shown = value_of(alloc, &looks, path)?;
+    push_shown(out, path.name.as_slice(), word, &shown)
+}

@@ -1,0 +1,153 @@
+//! What a session looks at.
+
+ghost use Rattle.std.specs.Prelude.{◌≡◌, ◌<◌, ◌≤◌, ◌^◌, IfOk, IfSome, length, option_map};
+ghost use Rattle.wasm_syntax.specs.Sizes.{WithinLimits};
+ghost use Rattle.wasm_syntax.specs.Valid.{There};
+ghost use Rattle.dwarf_info.specs.Sections.{greatest_section};
+ghost use Rattle.dump_match.specs.States.{StateOperandCount};
+ghost use Rattle.debugger.specs.Recorded as recorded;
+ghost use Rattle.debug_frames.specs.Information.{information};
+ghost use Rattle.debugger.specs.Subject.{Spells};
+
+use crate::{recorded_globals, recorded_memory};
+use causes::NoMemory;
+use debug_frames::Information;
+use dump_format::Dump;
+use dump_match::StateMatched;
+use linear_memory::Memory;
+use pm_text::Items;
+use std::alloc::Global;
+use std::marker::Model;
+use wasm_syntax::{ModuleParts, Seen};
+use wasm_validate::Validated;
+
+/// What the bytes of a module say, the module, and a dump that can show a state of it, with the
+/// globals and the memory that it records. Contracts see the first three.
+#[derive(Drop)]
+pub struct Subject<'a, 'm, 'd, 'b> {
+    information: Information<'a>,
+    matched: StateMatched<'m, 'd, 'b>,
+    globals: Items<Seen>,
+    memory: Option<Memory>,
+}
+
+impl<'a, 'm, 'd, 'b> Model for Subject<'a, 'm, 'd, 'b> {
+    ghost use Rattle.std.specs.Prelude.{◌≡◌, option_map};
+    ghost use Rattle.debugger.specs.Recorded.{recorded_globals, recorded_memory};
+    ghost use Rattle.debugger.specs.Subject.{Subject};
+
+    ghost Value = { Subject };
+
+    ghost view = { λ s. record {
+      information = s.information;
+      module_ = s.matched.module_;
+      dump = s.matched.dump;
+    } };
+
+    ghost invariant = { λ s. (s.globals ≡ recorded_globals s.matched.dump)
+        × (option_map (λ m. m.memory) s.memory ≡ recorded_memory s.matched.dump) };
+}
+
+/// The globals that a dump records.
+fn globals_of(alloc: Global, matched: &StateMatched<'_, '_, '_>) -> Result<Items<Seen>, NoMemory>
+    ensures { IfOk result (λ seens. seens ≡ recorded.recorded_globals matched.now.dump) }
+{
+    recorded_globals(alloc, matched.dump())
+}
+
+/// The memory that a dump records.
+fn memory_of(alloc: Global, matched: &StateMatched<'_, '_, '_>) -> Result<Option<Memory>, NoMemory>
+    ensures { IfOk result (λ memory. option_map (λ m. m.memory) memory
+        ≡ recorded.recorded_memory matched.now.dump) }
+{
+    recorded_memory(alloc, matched.dump())
+}
+
+/// What the bytes of a module say, which are those that it was decoded from.
+pub fn information_of<'a>(
+    alloc: Global,
+    bytes: &'a [u8],
+    module_: &Validated,
+) -> Result<Information<'a>, NoMemory>
+    requires { Spells bytes.now module_.now }
+    ensures { IfOk result (λ x. x ≡ information bytes.now module_.now.customs) }
+{
+    Information::of(alloc, bytes, module_.module())
+}
+
+impl<'a, 'm, 'd, 'b> Subject<'a, 'm, 'd, 'b> {
+    /// The information is what the bytes of the module say.
+    pub fn new(
+        alloc: Global,
+        information: Information<'a>,
+        matched: StateMatched<'m, 'd, 'b>,
+    ) -> Result<Self, NoMemory>
+        ensures { IfOk result (λ s. s ≡ record {
+          information = information.entry;
+          module_ = matched.entry.module_;
+          dump = matched.entry.dump;
+        }) }
+    {
+        let globals = globals_of(alloc, &matched)?;
+        let memory = memory_of(alloc, &matched)?;
+        Ok(Subject {
+            information,
+            matched,
+            globals,
+            memory,
+        })
+    }
+
+    pub fn information(&self) -> &Information<'a>
+        ensures { result.now ≡ self.now.information }
+    {
+        &self.information
+    }
+
+    /// What the bytes of the module say, for another subject.
+    pub fn into_information(self) -> Information<'a>
+        ensures { result ≡ self.entry.information }
+    {
+        self.information
+    }
+
+    pub fn parts(&self) -> &ModuleParts
+        ensures value { result.now ≡ self.now.module_ }
+        ensures limits { WithinLimits result.now }
+    {
+        self.matched.module().module().parts()
+    }
+
+    pub fn dump(&self) -> &Dump<'b>
+        ensures value { result.now ≡ self.now.dump }
+        ensures frames { length result.now.frames < 2 ^ 32 }
+    {
+        self.matched.dump()
+    }
+
+    /// The recorded globals.
+    pub fn globals(&self) -> &[Seen]
+        ensures { result.now ≡ recorded.recorded_globals self.now.dump }
+    {
+        self.globals.as_slice()
+    }
+
+    /// The recorded memory.
+    pub fn memory(&self) -> Option<&Memory>
+        ensures { option_map (λ m. m.now.memory) result ≡ recorded.recorded_memory self.now.dump }
+    {
+        match &self.memory {
+            Some(memory) => Some(memory),
+            None => None,
+        }
+    }
+
+    /// How many operands the frame of an index shows, also where they are not recorded.
+    pub fn operand_count(&self, index: u32) -> u32
+        requires { index < length self.now.dump.frames }
+        ensures { There self.now.dump.frames index
+            (λ f. StateOperandCount self.now.module_ index f result) }
+    {
+        self.matched.operand_count(index)
+    }
+}

@@ -1,0 +1,149 @@
+//! The texts of frames, and of the values that a dump records.
+
+ghost use Rattle.std.specs.Prelude.{◌≡◌, ◌<◌, ◌≤◌, ◌++◌, ℕ, List, OnOk, slice_get, Some, length};
+ghost use Rattle.commands.specs.Values.{numbered};
+ghost use Rattle.debug_frames.specs.Frames.{frame_text};
+ghost use Rattle.debug_frames.specs.Unreadable.{unreadable_text};
+ghost use Rattle.debugger.specs.Texts as definitions;
+
+use crate::counts::frame_locals;
+use crate::subject::Subject;
+use crate::{push_examined, push_listing};
+use causes::NoMemory;
+use commands::push_number;
+use debug_frames::{Symbolizer, push_frame, push_unreadable};
+use dump_format::Frame;
+use pm_text::Text;
+use std::alloc::Global;
+
+/// Adds that there is no frame of a number.
+#[tactic(auto, unfolding(crate::specs::Texts::no_frame))]
+pub fn push_no_frame(out: &mut Text, number: u64) -> Result<(), NoMemory>
+    ensures { OnOk result (out.new ≡ out.old ++ definitions.no_frame number) }
+{
+    push_number(out, "no frame ", number)?;
+    out.push_str("\n")
+}
+
+fn push_one(
+    out: &mut Text,
+    alloc: Global,
+    symbolizer: &mut Symbolizer<'_, '_>,
+    subject: &Subject<'_, '_, '_, '_>,
+    index: u64,
+    frame: &Frame,
+) -> Result<(), NoMemory>
+    requires { symbolizer.old ≡ subject.now.information }
+    ensures text { OnOk result (out.new
+        ≡ out.old ++ frame_text subject.now.information subject.now.module_ index frame.now) }
+    ensures same { symbolizer.new ≡ subject.now.information }
+{
+    push_frame(out, alloc, symbolizer, subject.parts(), index, frame)
+}
+
+fn push_frames(
+    out: &mut Text,
+    alloc: Global,
+    subject: &Subject<'_, '_, '_, '_>,
+    frames: &[Frame],
+) -> Result<(), NoMemory>
+    ensures { OnOk result (out.new
+        ≡ out.old ++ numbered (frame_text subject.now.information subject.now.module_) 0
+        frames.now) }
+{
+    let mut symbolizer = Symbolizer::new(alloc, subject.information())?;
+    for (i, frame) in frames.iter().enumerate() {
+        push_one(out, alloc, &mut symbolizer, subject, i as u64, frame)?;
+    }
+    Ok(())
+}
+
+/// Adds the lines on what could not be read.
+pub fn push_unread(out: &mut Text, subject: &Subject<'_, '_, '_, '_>) -> Result<(), NoMemory>
+    ensures { OnOk result (out.new ≡ out.old ++ unreadable_text subject.now.information) }
+{
+    push_unreadable(out, subject.information())
+}
+
+/// Adds the lines of each frame, behind those on what could not be read.
+#[tactic(auto, unfolding(crate::specs::Texts::backtrace_text))]
+pub fn push_backtrace(
+    out: &mut Text,
+    alloc: Global,
+    subject: &Subject<'_, '_, '_, '_>,
+) -> Result<(), NoMemory>
+    ensures { OnOk result (out.new ≡ out.old ++ definitions.backtrace_text subject.now) }
+{
+    push_unread(out, subject)?;
+    push_frames(out, alloc, subject, subject.dump().frames.as_slice())
+}
+
+/// Adds the lines of the frame of a number, or that there is none.
+#[tactic(auto, unfolding(crate::specs::Texts::frame_text_at))]
+pub fn push_frame_at(
+    out: &mut Text,
+    alloc: Global,
+    subject: &Subject<'_, '_, '_, '_>,
+    number: u64,
+) -> Result<(), NoMemory>
+    ensures { OnOk result (out.new ≡ out.old ++ definitions.frame_text_at subject.now number) }
+{
+    match subject.dump().frames.get(number as usize) {
+        Some(frame) => {
+            let mut symbolizer = Symbolizer::new(alloc, subject.information())?;
+            push_one(out, alloc, &mut symbolizer, subject, number, frame)
+        }
+        None => push_no_frame(out, number),
+    }
+}
+
+/// Adds the locals of a frame.
+#[tactic(auto, unfolding(crate::specs::Texts::locals_text))]
+pub fn push_locals(
+    out: &mut Text,
+    subject: &Subject<'_, '_, '_, '_>,
+    frame: &Frame,
+) -> Result<(), NoMemory>
+    ensures { OnOk result (out.new ≡ out.old ++ definitions.locals_text subject.now frame.now) }
+{
+    let count = frame_locals(subject.parts(), frame);
+    push_listing(out, "local", frame.locals.as_slice(), count)
+}
+
+/// Adds the operands of the frame of an index, the bottom one first.
+pub fn push_operands(
+    out: &mut Text,
+    subject: &Subject<'_, '_, '_, '_>,
+    index: u32,
+    frame: &Frame,
+) -> Result<(), NoMemory>
+    requires { slice_get subject.now.dump.frames index ≡ Some frame.now }
+    ensures { OnOk result ((text : List ℕ) × (out.new ≡ out.old ++ text)
+        × definitions.IsOperandsText subject.now index frame.now text) }
+{
+    let count = subject.operand_count(index);
+    push_listing(out, "operand", frame.operands.as_slice(), count)
+}
+
+/// Adds the recorded globals.
+#[tactic(auto, unfolding(crate::specs::Texts::globals_text))]
+pub fn push_globals(out: &mut Text, subject: &Subject<'_, '_, '_, '_>) -> Result<(), NoMemory>
+    ensures { OnOk result (out.new ≡ out.old ++ definitions.globals_text subject.now) }
+{
+    let count = subject.parts().globals.len() as u32;
+    push_listing(out, "global", subject.globals(), count)
+}
+
+/// Adds so many bytes of the recorded memory.
+#[tactic(auto, unfolding(crate::specs::Texts::memory_text))]
+pub fn push_memory(
+    out: &mut Text,
+    alloc: Global,
+    subject: &Subject<'_, '_, '_, '_>,
+    at: u64,
+    count: u64,
+) -> Result<(), NoMemory>
+    ensures { OnOk result (out.new ≡ out.old ++ definitions.memory_text subject.now at count) }
+{
+    push_examined(out, alloc, subject.memory(), at, count)
+}

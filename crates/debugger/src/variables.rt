@@ -1,0 +1,99 @@
+//! The variables that are visible in a frame.
+
+ghost use Rattle.std.specs.Prelude.{◌≡◌, ◌++◌, flat_map, OnOk};
+ghost use Rattle.debugger.specs.Variables as definitions;
+
+use crate::Subject;
+use crate::view::view_of;
+use causes::NoMemory;
+use debug_frames::address_of;
+use dump_format::Frame;
+use dwarf_entries::{Standing, name_or_empty};
+use dwarf_scopes::variables_at;
+use pm_text::Text;
+use std::alloc::Global;
+use var_eval::{Frame as Looks, push_variable};
+
+/// Adds the line of a variable.
+#[tactic(auto, unfolding(crate::specs::Variables::variable_line))]
+fn push_line<'r, 'a>(
+    out: &mut Text,
+    alloc: Global,
+    looks: &Looks<'_, 'r, '_, '_, 'a>,
+    variable: &Standing<'r, 'a>,
+) -> Result<(), NoMemory>
+    ensures { OnOk result (out.new ≡ out.old ++ definitions.variable_line looks.now variable.now) }
+{
+    let units = looks.units();
+    out.push_plain(name_or_empty(units, variable.entry().attributes.as_slice()))?;
+    out.push_str(" = ")?;
+    push_variable(alloc, out, looks, variable)?;
+    out.push_str("\n")
+}
+
+fn push_lines<'r, 'a>(
+    out: &mut Text,
+    alloc: Global,
+    looks: &Looks<'_, 'r, '_, '_, 'a>,
+    variables: &[Standing<'r, 'a>],
+) -> Result<(), NoMemory>
+    ensures { OnOk result (out.new
+        ≡ out.old ++ flat_map (definitions.variable_line looks.now) variables.now) }
+{
+    for variable in variables {
+        push_line(out, alloc, looks, variable)?;
+    }
+    Ok(())
+}
+
+/// Adds the lines of variables, or that there are none.
+#[tactic(auto, using(crate::proofs::VariableLines::some_lines))]
+fn push_lines_or_none<'r, 'a>(
+    out: &mut Text,
+    alloc: Global,
+    looks: &Looks<'_, 'r, '_, '_, 'a>,
+    variables: &[Standing<'r, 'a>],
+) -> Result<(), NoMemory>
+    ensures { OnOk result (out.new ≡ out.old ++ definitions.lines_or_none looks.now variables.now) }
+{
+    if variables.is_empty() {
+        return out.push_str("no variables\n");
+    }
+    push_lines(out, alloc, looks, variables)
+}
+
+/// Adds what is visible where a frame stands.
+fn push_visible(
+    out: &mut Text,
+    alloc: Global,
+    looks: &Looks<'_, '_, '_, '_, '_>,
+) -> Result<(), NoMemory>
+    ensures { OnOk result (out.new ≡ out.old ++ definitions.all_variables looks.now) }
+{
+    let units = looks.units();
+    let variables = variables_at(alloc, looks.sections(), units.as_slice(), looks.address())?;
+    push_lines_or_none(out, alloc, looks, variables.as_slice())
+}
+
+/// Adds a line for each variable that is visible in a frame, or that there are none.
+#[tactic(auto, unfolding(crate::specs::Variables::variables_text))]
+pub fn push_variables(
+    out: &mut Text,
+    alloc: Global,
+    subject: &Subject<'_, '_, '_, '_>,
+    frame: &Frame,
+) -> Result<(), NoMemory>
+    ensures { OnOk result (out.new ≡ out.old ++ definitions.variables_text subject.now frame.now) }
+{
+    let view = view_of(subject, frame);
+    let information = subject.information();
+    let address = address_of(subject.parts(), frame);
+    let looks = Looks::new(
+        alloc,
+        &information.sections,
+        &information.units,
+        address,
+        &view,
+    )?;
+    push_visible(out, alloc, &looks)
+}

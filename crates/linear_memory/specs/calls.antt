@@ -1,0 +1,5 @@
+-- What contracts on the way say: nobody has to believe it, for all that rests on it is proved.
+pub mod Calls
+pub mod Growth
+pub mod Paged
+pub mod Width

@@ -1,0 +1,6 @@
+-- What contracts on the way say: nobody has to believe it, for all that rests on it is proved.
+pub mod Before
+pub mod Labels
+pub mod Plans
+pub mod Standing
+pub mod Walking

@@ -1,0 +1,61 @@
+-- The locals that are added to a function.
+use Rattle.std.specs.Prelude.{◌≡◌, ℕ, ◌+◌, ◌*◌, ◌<◌, ◌^◌, ◌++◌, List, [], length, Option, Some, None}
+use Rattle.wasm_syntax.specs.declared.value.ValType.{ValType}
+use Rattle.wasm_syntax.specs.declared.parts.FuncType.{FuncType}
+use Rattle.wasm_syntax.specs.declared.parts.Body.{Body}
+use Rattle.wasm_syntax.specs.declared.module.ModuleParts.{ModuleParts as Module}
+use Rattle.wasm_syntax.specs.Tree.{Tree}
+use Rattle.wasm_syntax.specs.Module.{Program, declared_locals}
+use Rattle.rewrite_bodies.specs.Slots.{Place, slot, ctx_of, slots_of}
+use Rattle.wasm_validate.specs.Heights.{body_of}
+use Rattle.operand_spill.specs.calls.Before.{before, kept_at}
+
+-- the module defines the function
+abbrev pub IsDefined : Module → ℕ → Type 0
+IsDefined m f = (body : Body) × (body_of m f ≡ Some body)
+
+-- the types of the locals of a function with this body, the parameters first
+abbrev pub own_types : Option FuncType → Body → List ValType
+own_types None body = []
+own_types (Some type) body = type.params ++ declared_locals body.groups
+
+-- the types of the function's own locals, with its parameters, how many heights have slots, and the places of the operands before each
+-- instruction
+pub record Planned : Type 0 where
+  pub locals : List ValType
+  pub slots : ℕ
+  pub before : List (Option (List Place))
+
+abbrev pub planned : List ValType → ℕ → List (Option (List Place)) → Planned
+planned locals slots before = record { locals = locals; slots = slots; before = before }
+
+-- all locals have numbers of 32 bits
+abbrev pub Fits : Planned → Type 0
+Fits plan = length plan.locals + 2 * plan.slots + 4 < 2 ^ 32
+
+-- the plan is that of function f of a program: there are as many heights as the rewriting of its body has
+pub record IsPlan (p : Program) (f : ℕ) (body : Body) (tree : Tree) (type : FuncType) (plan : Planned) : Type 0 where
+  pub locals : plan.locals ≡ type.params ++ declared_locals body.groups
+  pub slots : plan.slots ≡ slots_of p f body tree type
+  -- so what is known of an operand is what the rewriting knows: that a constant instruction pushed it and that it was not taken since
+  pub before : (op : ℕ) → kept_at plan.before op ≡ before (ctx_of p f body type 0) tree.nodes op
+
+-- an added local: the slot of a type at a height, the result of a type, the kind and the offset of a trap
+pub data AddedLocal : Type 0 where
+  Slot : (t : ValType) (height : ℕ) → AddedLocal
+  Result : (t : ValType) → AddedLocal
+  Kind : AddedLocal
+  Offset : AddedLocal
+
+abbrev pub IsAdded : Planned → AddedLocal → Type 0
+IsAdded plan (Slot t height) = height < plan.slots
+IsAdded plan (Result t) = Unit {0}
+IsAdded plan Kind = Unit {0}
+IsAdded plan Offset = Unit {0}
+
+-- its place among all locals of the rewritten function
+abbrev pub number : Planned → AddedLocal → ℕ
+number plan (Slot t height) = length plan.locals + slot t height
+number plan (Result t) = length plan.locals + slot t plan.slots
+number plan Kind = length plan.locals + (2 * plan.slots + 2)
+number plan Offset = length plan.locals + (2 * plan.slots + 3)

@@ -1,0 +1,124 @@
+//! What a basic instruction takes and gives.
+
+ghost use Rattle.std.specs.Prelude.{◌≡◌, map, slice_get};
+ghost use Rattle.wasm_syntax.specs.Access.{load_type};
+ghost use Rattle.wasm_syntax.specs.Effect.{takes};
+ghost use Rattle.wasm_syntax.specs.Numbers.{convert_to, type_of};
+ghost use Rattle.rewrite_bodies.specs.Slots.{Ctx, second_type, result_type};
+
+use rewrite_code::OperandPlaces;
+use wasm_syntax::{Basic, Convert, Load, ModuleParts, ValType, Value};
+
+/// How many operands an instruction takes.
+pub fn takes(instruction: Basic) -> usize
+    ensures { result ≡ takes instruction }
+{
+    match instruction {
+        Basic::Nop
+        | Basic::LocalGet(_)
+        | Basic::GlobalGet(_)
+        | Basic::MemorySize
+        | Basic::Const(_) => 0,
+        Basic::Drop
+        | Basic::LocalSet(_)
+        | Basic::LocalTee(_)
+        | Basic::GlobalSet(_)
+        | Basic::Load(_, _, _)
+        | Basic::MemoryGrow
+        | Basic::Eqz(_)
+        | Basic::Unary(_, _)
+        | Basic::Convert(_)
+        | Basic::Extend32(_)
+        | Basic::Extend64(_) => 1,
+        Basic::Store(_, _, _) | Basic::Compare(_, _) | Basic::Binary(_, _) => 2,
+        Basic::Select | Basic::MemoryCopy | Basic::MemoryFill => 3,
+    }
+}
+
+fn load_type(load: Load) -> ValType
+    ensures { result ≡ load_type load }
+{
+    match load {
+        Load::Full(t) => t,
+        Load::Part32(_, _) => ValType::I32,
+        Load::Part64(_, _) => ValType::I64,
+    }
+}
+
+fn convert_to(conversion: Convert) -> ValType
+    ensures { result ≡ convert_to conversion }
+{
+    match conversion {
+        Convert::Wrap => ValType::I32,
+        Convert::ExtendS | Convert::ExtendU => ValType::I64,
+    }
+}
+
+fn constant_type(value: Value) -> ValType
+    ensures { result ≡ type_of value }
+{
+    match value {
+        Value::I32(_) => ValType::I32,
+        Value::I64(_) => ValType::I64,
+    }
+}
+
+/// The type of the operand under the topmost.
+fn second_type(places: &OperandPlaces) -> Option<ValType>
+    ensures { result ≡ second_type places.now }
+{
+    match places.peek(1) {
+        Some(operand) => Some(operand.value_type()),
+        None => None,
+    }
+}
+
+fn local_type(locals: &[ValType], local: u32) -> Option<ValType>
+    ensures { result ≡ slice_get locals.now local }
+{
+    locals.get(local as usize).copied()
+}
+
+fn global_type(source: &ModuleParts, global: u32) -> Option<ValType>
+    ensures { result ≡ slice_get (map (λ g. g.vtype) source.now.globals) global }
+{
+    match source.globals.get(global as usize) {
+        Some(found) => Some(found.vtype),
+        None => None,
+    }
+}
+
+/// What an instruction gives over these operands, in a function of this module with these locals.
+/// An index that is out of range gives nothing.
+pub fn result_type(
+    locals: &[ValType],
+    source: &ModuleParts,
+    places: &OperandPlaces,
+    instruction: Basic,
+) -> Option<ValType>
+    ensures { (C : Ctx) → C.locals ≡ locals.now → C.source ≡ source.now
+        → result ≡ result_type C places.now instruction }
+{
+    match instruction {
+        Basic::Nop
+        | Basic::Drop
+        | Basic::LocalSet(_)
+        | Basic::GlobalSet(_)
+        | Basic::Store(_, _, _)
+        | Basic::MemoryCopy
+        | Basic::MemoryFill => None,
+        Basic::Select => second_type(places),
+        Basic::LocalGet(local) | Basic::LocalTee(local) => local_type(locals, local),
+        Basic::GlobalGet(global) => global_type(source, global),
+        Basic::Load(load, _, _) => Some(load_type(load)),
+        Basic::Const(value) => Some(constant_type(value)),
+        Basic::Unary(t, _) | Basic::Binary(t, _) => Some(t),
+        Basic::Convert(conversion) => Some(convert_to(conversion)),
+        Basic::MemorySize
+        | Basic::MemoryGrow
+        | Basic::Eqz(_)
+        | Basic::Compare(_, _)
+        | Basic::Extend32(_) => Some(ValType::I32),
+        Basic::Extend64(_) => Some(ValType::I64),
+    }
+}

@@ -1,0 +1,325 @@
+//! Where the operands are before each instruction.
+
+ghost use Rattle.std.specs.Prelude.{◌≡◌, ℕ, suc, ◌+◌, ◌<◌, ◌≤◌, ◌++◌, List, length, replicate, slice_get, IfOk, OnOk, MatchOption, Some, None};
+ghost use Rattle.wasm_syntax.specs.declared.instruction.Basic.TheVariants.{Const};
+ghost use Rattle.wasm_syntax.specs.Tree.{Tree, Placed, Writes, Opens, OpensLoop, OpensIf, Call, CallIndirect, code_of, item_of, jump_of};
+ghost use Rattle.wasm_syntax.specs.Machine.{result_of};
+ghost use Rattle.rewrite_bodies.specs.Slots.{Ctx, Place, less, grown, after_plain};
+ghost use Rattle.operand_spill.specs.calls.Walking.{with_places};
+ghost use Rattle.operand_spill.specs.calls.Standing.{after_instr};
+ghost use Rattle.operand_spill.specs.calls.Before.{before, kept_at};
+ghost use Rattle.operand_spill.specs.inner.Knowing.{Places, Knows, Ended, Over, Proceeds, Flowed, Jumped, Kept, Starts, is_else};
+
+use crate::{Label, Walk, copy_of, end_of_list, result_type, takes};
+use causes::NoMemory;
+use pm_text::Items;
+use rewrite_code::OperandPlaces;
+use std::alloc::Global;
+use wasm_syntax::{Basic, FuncType, Instr, Jump, ModuleParts, Op, ValType, Value};
+
+/// For each instruction where the operands are before it, or None in dead code.
+pub(crate) type PlacesBefore = Items<Option<OperandPlaces>>;
+
+/// Whether the next instruction is run behind one, or nothing more of its list.
+#[derive(Clone, Copy)]
+pub(crate) enum Flow {
+    Next,
+    Ends,
+}
+
+/// The value that an instruction pushes, where it is a constant instruction.
+fn constant(instruction: Basic) -> Option<Value>
+    ensures { MatchOption result ((C : Ctx) (es : List Place)
+        → after_instr C es instruction ≡ after_plain C es instruction)
+        (λ v. instruction ≡ Const v) }
+{
+    match instruction {
+        Basic::Const(value) => Some(value),
+        Basic::Nop
+        | Basic::Drop
+        | Basic::Select
+        | Basic::LocalGet(_)
+        | Basic::LocalSet(_)
+        | Basic::LocalTee(_)
+        | Basic::GlobalGet(_)
+        | Basic::GlobalSet(_)
+        | Basic::Load(_, _, _)
+        | Basic::Store(_, _, _)
+        | Basic::MemorySize
+        | Basic::MemoryGrow
+        | Basic::MemoryCopy
+        | Basic::MemoryFill
+        | Basic::Eqz(_)
+        | Basic::Unary(_, _)
+        | Basic::Compare(_, _)
+        | Basic::Binary(_, _)
+        | Basic::Convert(_)
+        | Basic::Extend32(_)
+        | Basic::Extend64(_) => None,
+    }
+}
+
+/// A basic instruction.
+fn basic(
+    walk: &mut Walk,
+    locals: &[ValType],
+    source: &ModuleParts,
+    instruction: Basic,
+) -> Result<(), NoMemory>
+    ensures { (C : Ctx) → C.locals ≡ locals.now → C.source ≡ source.now
+        → OnOk result (walk.new ≡ with_places walk.old
+        (after_instr C walk.old.places instruction)) }
+{
+    match constant(instruction) {
+        Some(value) => walk.push_constant(value),
+        None => {
+            let gives = result_type(locals, source, walk.places(), instruction);
+            walk.perform(takes(instruction), gives)
+        }
+    }
+}
+
+/// What a function gives, if anything.
+fn given(ftype: &FuncType) -> Option<ValType>
+    ensures { result ≡ result_of ftype.now }
+{
+    ftype.results.get(0).copied()
+}
+
+/// A call of a function of this type.
+fn call(walk: &mut Walk, ftype: &FuncType) -> Result<(), NoMemory>
+    ensures { OnOk result (walk.new
+        ≡ with_places walk.old (grown (result_of ftype.now)
+        (less (length ftype.now.params) walk.old.places))) }
+{
+    walk.perform(ftype.params.len(), given(ftype))
+}
+
+/// A call of a function.
+fn call_direct(walk: &mut Walk, source: &ModuleParts, function: u32) -> Result<Flow, NoMemory>
+    ensures { (C : Ctx) → C.source ≡ source.now
+        → IfOk result (λ flow. Jumped flow C (Call function) walk.old walk.new) }
+{
+    match source.type_of(function as usize) {
+        Some(ftype) => {
+            call(walk, ftype)?;
+            Ok(Flow::Next)
+        }
+        None => Ok(Flow::Ends),
+    }
+}
+
+/// A call through the table of a function of the type with this index.
+fn call_indirect(walk: &mut Walk, source: &ModuleParts, index: u32) -> Result<Flow, NoMemory>
+    ensures { (C : Ctx) → C.source ≡ source.now
+        → IfOk result (λ flow. Jumped flow C (CallIndirect index) walk.old walk.new) }
+{
+    walk.perform(1, None)?;
+    match source.types.get(index as usize) {
+        Some(ftype) => {
+            call(walk, ftype)?;
+            Ok(Flow::Next)
+        }
+        None => Ok(Flow::Ends),
+    }
+}
+
+fn jump(walk: &mut Walk, source: &ModuleParts, code: Jump) -> Result<Flow, NoMemory>
+    ensures { (C : Ctx) (targets : List ℕ) → C.source ≡ source.now
+        → IfOk result (λ flow. Jumped flow C (jump_of targets code) walk.old walk.new) }
+{
+    match code {
+        Jump::Unreachable | Jump::Br(_) | Jump::BrTable(_, _, _) | Jump::Return => Ok(Flow::Ends),
+        Jump::BrIf(_) => {
+            walk.perform(1, None)?;
+            Ok(Flow::Next)
+        }
+        Jump::Call(function) => call_direct(walk, source, function),
+        Jump::CallIndirect(index) => call_indirect(walk, source, index),
+    }
+}
+
+fn is_else(code: Instr) -> bool
+    ensures { (targets : List ℕ) → result ≡ is_else (item_of targets code) }
+{
+    code == Instr::Else
+}
+
+/// The `else` or the `end` behind a list.
+fn cross(walk: &mut Walk, code: Instr) -> Result<(), NoMemory>
+    ensures { (C : Ctx) (targets : List ℕ) (items : List Placed) (whole : Places) (pc at : ℕ)
+        → Over C items whole pc walk.old → Starts items pc at (item_of targets code)
+        → OnOk result (Proceeds C items whole (suc pc) walk.new) }
+{
+    if is_else(code) {
+        walk.alternate()
+    } else {
+        walk.close()
+    }
+}
+
+/// The beginning of a block.
+fn open_block(walk: &mut Walk, gives: Option<ValType>) -> Result<(), NoMemory>
+    ensures { (C : Ctx) (items : List Placed) (whole : Places) (pc at : ℕ)
+        → Knows C items whole pc walk.old → Starts items pc at (Opens gives)
+        → OnOk result (Proceeds C items whole (suc pc) walk.new) }
+{
+    walk.open(Label::Block(gives))
+}
+
+/// The beginning of a loop.
+fn open_loop(walk: &mut Walk, gives: Option<ValType>) -> Result<(), NoMemory>
+    ensures { (C : Ctx) (items : List Placed) (whole : Places) (pc at : ℕ)
+        → Knows C items whole pc walk.old → Starts items pc at (OpensLoop gives)
+        → OnOk result (Proceeds C items whole (suc pc) walk.new) }
+{
+    walk.open(Label::Loop(gives))
+}
+
+/// The beginning of an `if`, which takes its condition.
+fn open_if(walk: &mut Walk, gives: Option<ValType>) -> Result<(), NoMemory>
+    ensures { (C : Ctx) (items : List Placed) (whole : Places) (pc at : ℕ)
+        → Knows C items whole pc walk.old → Starts items pc at (OpensIf gives)
+        → OnOk result (Proceeds C items whole (suc pc) walk.new) }
+{
+    walk.perform(1, None)?;
+    walk.open(Label::Block(gives))
+}
+
+/// A live instruction.
+fn pass(
+    walk: &mut Walk,
+    locals: &[ValType],
+    source: &ModuleParts,
+    code: Instr,
+) -> Result<Flow, NoMemory>
+    ensures { (C : Ctx) (targets : List ℕ) (items : List Placed) (whole : Places) (pc at : ℕ)
+        → C.locals ≡ locals.now → C.source ≡ source.now → Knows C items whole pc walk.old
+        → Starts items pc at (item_of targets code)
+        → IfOk result (λ flow. Flowed flow C items whole (suc pc) walk.new) }
+{
+    match code {
+        Instr::Jump(code) => jump(walk, source, code),
+        Instr::Basic(code) => {
+            basic(walk, locals, source, code)?;
+            Ok(Flow::Next)
+        }
+        Instr::Block(t) => {
+            open_block(walk, t)?;
+            Ok(Flow::Next)
+        }
+        Instr::Loop(t) => {
+            open_loop(walk, t)?;
+            Ok(Flow::Next)
+        }
+        Instr::If(t) => {
+            open_if(walk, t)?;
+            Ok(Flow::Next)
+        }
+        Instr::Else => {
+            walk.alternate()?;
+            Ok(Flow::Next)
+        }
+        Instr::End => {
+            walk.close()?;
+            Ok(Flow::Next)
+        }
+    }
+}
+
+/// So many dead instructions.
+fn push_dead(kept: &mut PlacesBefore, count: usize) -> Result<(), NoMemory>
+    ensures { OnOk result (kept.new ≡ kept.old ++ replicate count None) }
+{
+    for _i in 0..count {
+        kept.push(None)?;
+    }
+    Ok(())
+}
+
+fn op_at(ops: &[Op], index: usize) -> Option<Op>
+    ensures { result ≡ slice_get ops.now index }
+{
+    ops.get(index).copied()
+}
+
+fn read_op(ops: &[Op], index: usize) -> Op
+    requires { index < length ops.now }
+    ensures { slice_get ops.now index ≡ Some result }
+{
+    ops[index]
+}
+
+/// From dead code to the instruction behind the end of its list.
+fn leave(
+    walk: &mut Walk,
+    kept: &mut PlacesBefore,
+    ops: &[Op],
+    from: usize,
+) -> Result<usize, NoMemory>
+    requires { from ≤ length ops.now }
+    ensures forward { IfOk result (λ next. from < next) }
+    ensures stays { (C : Ctx) (targets : List ℕ) (whole : Places)
+        → Ended C (code_of targets ops.now) whole from walk.old → Kept whole kept.old from
+        → IfOk result (λ next. Kept whole kept.new next
+        × Proceeds C (code_of targets ops.now) whole next walk.new) }
+{
+    let end = end_of_list(ops, from);
+    let next = end + 1;
+    push_dead(kept, next - from)?;
+    match op_at(ops, end) {
+        Some(op) => {
+            cross(walk, op.code)?;
+            Ok(next)
+        }
+        None => Ok(next),
+    }
+}
+
+/// From a live instruction to the next one that is live.
+fn advance(
+    walk: &mut Walk,
+    kept: &mut PlacesBefore,
+    locals: &[ValType],
+    source: &ModuleParts,
+    ops: &[Op],
+    pc: usize,
+    alloc: Global,
+) -> Result<usize, NoMemory>
+    requires { pc < length ops.now }
+    ensures forward { IfOk result (λ next. pc < next) }
+    ensures stays { (C : Ctx) (targets : List ℕ) (whole : Places) → C.locals ≡ locals.now
+        → C.source ≡ source.now → Proceeds C (code_of targets ops.now) whole pc walk.old
+        → Kept whole kept.old pc → IfOk result
+        (λ next. Kept whole kept.new next
+        × Proceeds C (code_of targets ops.now) whole next walk.new) }
+{
+    let here = copy_of(alloc, walk.places())?;
+    kept.push(Some(here))?;
+    let op = read_op(ops, pc);
+    let flow = pass(walk, locals, source, op.code)?;
+    match flow {
+        Flow::Next => Ok(pc + 1),
+        Flow::Ends => leave(walk, kept, ops, pc + 1),
+    }
+}
+
+/// For each instruction of a body where the operands are before it.
+pub(crate) fn places_before(
+    alloc: Global,
+    locals: &[ValType],
+    source: &ModuleParts,
+    ops: &[Op],
+) -> Result<PlacesBefore, NoMemory>
+    ensures { (C : Ctx) (targets : List ℕ) (tree : Tree) → C.locals ≡ locals.now
+        → C.source ≡ source.now → Writes targets ops.now tree
+        → IfOk result (λ kept. (op : ℕ) → kept_at kept op ≡ before C tree.nodes op) }
+{
+    let mut kept = Items::new(alloc);
+    let mut walk = Walk::new(alloc, None);
+    let mut pc = 0;
+    while pc < ops.len() {
+        pc = advance(&mut walk, &mut kept, locals, source, ops, pc, alloc)?;
+    }
+    Ok(kept)
+}

@@ -1,0 +1,8 @@
+-- What contracts on the way say: nobody has to believe it, for all that rests on it is proved.
+pub mod Agreement
+pub mod Length
+pub mod Typed
+pub mod Verdicts
+pub mod Standing
+pub mod Steps
+pub mod Telling

@@ -1,0 +1,161 @@
+//! What is fixed in a function that is rewritten.
+
+ghost use Rattle.std.specs.Prelude.{◌≡◌, ◌+◌, ◌*◌, ◌≤◌, OnOk};
+ghost use Rattle.wasm_syntax.specs.Tree.{basic};
+ghost use Rattle.wasm_syntax.specs.declared.instruction.Basic.TheVariants.{GlobalGet as GlobalGetOf};
+ghost use Rattle.rewrite_bodies.specs.Numbering.{flag_of};
+ghost use Rattle.rewrite_bodies.specs.Slots.{slot, result_at, kind_at, offset_at};
+ghost use Rattle.rewrite_bodies.specs.Pieces.{get, set};
+ghost use Rattle.rewrite_bodies.specs.Rewrite.{hand_value};
+ghost use Rattle.rewrite_code.specs.calls.Writing.{Emits};
+ghost use Rattle.rewrite_code.specs.calls.Contexts.{context, FewLocals};
+
+use crate::CodeWriter;
+use crate::place::slot;
+use causes::NoMemory;
+use index_map::IndexMap;
+use pm_text::Items;
+use std::marker::Model;
+use wasm_syntax::{Basic, ValType};
+
+/// The module, the types of a function's locals with its parameters, the number of heights, its
+/// index and its result.
+#[derive(Drop)]
+pub struct FunctionContext<'m, 'a> {
+    map: &'m IndexMap<'a>,
+    locals: Items<ValType>,
+    slots: u32,
+    index: u32,
+    gives: Option<ValType>,
+}
+
+impl<'m, 'a> Model for FunctionContext<'m, 'a> {
+    ghost use Rattle.rewrite_bodies.specs.Slots.{Ctx};
+    ghost use Rattle.rewrite_code.specs.calls.Contexts.{context, FewLocals};
+
+    ghost Value = { Ctx };
+
+    ghost view = { λ s. context s.map.now s.locals s.slots s.index s.gives };
+
+    ghost invariant = { λ s. FewLocals s.locals s.slots };
+}
+
+impl<'m, 'a> FunctionContext<'m, 'a> {
+    /// The context of a function of a module, whose locals can be numbered with those added.
+    pub fn new(
+        map: &'m IndexMap<'a>,
+        locals: Items<ValType>,
+        slots: u32,
+        index: u32,
+        gives: Option<ValType>,
+    ) -> Self
+        requires { FewLocals locals slots }
+        ensures { result ≡ context map.now locals slots index gives }
+    {
+        FunctionContext {
+            map,
+            locals,
+            slots,
+            index,
+            gives,
+        }
+    }
+
+    /// The numbers of the module's rewriting.
+    pub fn map(&self) -> &IndexMap<'a>
+        ensures { result.now ≡ self.now.source }
+    {
+        self.map
+    }
+
+    /// The types of the locals, with the parameters.
+    pub fn locals(&self) -> &[ValType]
+        ensures types { result.now ≡ self.now.locals }
+        ensures few { FewLocals self.now.locals self.now.slots }
+    {
+        self.locals.as_slice()
+    }
+
+    /// The number of heights.
+    pub fn slots(&self) -> u32
+        ensures { result ≡ self.now.slots }
+    {
+        self.slots
+    }
+
+    /// The function's index in its module.
+    pub fn index(&self) -> u32
+        ensures { result ≡ self.now.index }
+    {
+        self.index
+    }
+
+    /// What the function gives.
+    pub fn gives(&self) -> Option<ValType>
+        ensures { result ≡ self.now.result }
+    {
+        self.gives
+    }
+
+    /// The place of the result local of a type among the added locals.
+    pub fn result_at(&self, t: ValType) -> u32
+        ensures { result ≡ result_at self.now t }
+    {
+        slot(t, self.slots)
+    }
+
+    /// The place of the slot of a type at a height.
+    pub fn slot_at(&self, t: ValType, height: usize) -> u32
+        requires { height ≤ self.now.slots }
+        ensures { result ≡ slot t height }
+    {
+        // The field is named so that the invariant is known, by which the number fits.
+        let _ = &self.slots;
+        slot(t, height as u32)
+    }
+
+    /// The place of the kind of a trap.
+    pub fn kind_at(&self) -> u32
+        ensures { result ≡ kind_at self.now }
+    {
+        2 * self.slots + 2
+    }
+
+    /// The place of the offset of a trap.
+    pub fn offset_at(&self) -> u32
+        ensures { result ≡ offset_at self.now }
+    {
+        2 * self.slots + 3
+    }
+
+    /// Reads an added local.
+    pub fn get(&self, writer: &mut CodeWriter, x: u32) -> Result<(), NoMemory>
+        requires { x ≤ 2 * self.now.slots + 3 }
+        ensures { OnOk result (Emits (get self.now x) writer.old writer.new) }
+    {
+        writer.basic(Basic::LocalGet(self.locals.len() as u32 + x))
+    }
+
+    /// Writes an added local.
+    pub fn set(&self, writer: &mut CodeWriter, x: u32) -> Result<(), NoMemory>
+        requires { x ≤ 2 * self.now.slots + 3 }
+        ensures { OnOk result (Emits (set self.now x) writer.old writer.new) }
+    {
+        writer.basic(Basic::LocalSet(self.locals.len() as u32 + x))
+    }
+
+    /// Reads the flag that says whether frames are being unwound.
+    pub fn get_flag(&self, writer: &mut CodeWriter) -> Result<(), NoMemory>
+        ensures { OnOk result (Emits (basic 0 (GlobalGetOf (flag_of self.now.source))) writer.old
+            writer.new) }
+    {
+        writer.basic(Basic::GlobalGet(self.map.flag()))
+    }
+
+    /// Hands the value on the stack over.
+    pub fn hand_value(&self, writer: &mut CodeWriter, t: ValType) -> Result<(), NoMemory>
+        ensures { OnOk result (Emits (hand_value self.now t) writer.old writer.new) }
+    {
+        writer.call(self.map.value_import(t))
+    }
+}

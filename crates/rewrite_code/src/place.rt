@@ -1,0 +1,140 @@
+//! Where operands are.
+
+ghost use Rattle.std.specs.Prelude.{◌≡◌, ◌+◌, ◌*◌, ◌^◌, ◌<◌, [], ◌∷◌, length, slice_get, option_map, OnOk, OnErr, MatchOption};
+ghost use Rattle.rewrite_bodies.specs.Numbering.{type_number};
+ghost use Rattle.rewrite_bodies.specs.Slots.{place_type, slot, less, grown};
+ghost use Rattle.rewrite_code.specs.calls.Places.{place, from_top};
+
+use causes::NoMemory;
+use std::alloc::Global;
+use std::marker::Model;
+use wasm_syntax::{ValType, Value};
+
+/// What is known of an operand: a constant, or its type, and then its value is in the slot of its
+/// type and height.
+#[derive(Clone, Copy, PartialEq, Eq)]
+pub enum OperandPlace {
+    Spilled(ValType),
+    Known(Value),
+}
+
+fn type_number(t: ValType) -> u32
+    ensures { result ≡ type_number t }
+{
+    match t {
+        ValType::I32 => 0,
+        ValType::I64 => 1,
+    }
+}
+
+/// The place of a slot among the added locals. A height is the number of operands below.
+pub fn slot(t: ValType, height: u32) -> u32
+    requires { 2 * height + 1 < 2 ^ 32 }
+    ensures { result ≡ slot t height }
+{
+    2 * height + type_number(t)
+}
+
+impl OperandPlace {
+    /// The type of the operand.
+    pub fn value_type(self) -> ValType
+        ensures { result ≡ place_type (place self) }
+    {
+        match self {
+            OperandPlace::Spilled(t) => t,
+            OperandPlace::Known(Value::I32(_)) => ValType::I32,
+            OperandPlace::Known(Value::I64(_)) => ValType::I64,
+        }
+    }
+}
+
+/// The places of the operands at a point of a function, which contracts see as a list with the
+/// topmost first.
+#[derive(Drop)]
+pub struct OperandPlaces {
+    items: Vec<OperandPlace>,
+}
+
+impl Model for OperandPlaces {
+    ghost use Rattle.std.specs.Prelude.{List};
+    ghost use Rattle.rewrite_bodies.specs.Slots.{Place};
+    ghost use Rattle.rewrite_code.specs.calls.Places.{from_top};
+
+    ghost Value = { List Place };
+
+    ghost view = { λ s. from_top s.items.items };
+}
+
+impl OperandPlaces {
+    /// No operand, which takes no memory.
+    pub fn new(alloc: Global) -> Self
+        ensures { result ≡ [] }
+    {
+        OperandPlaces {
+            items: Vec::new(alloc),
+        }
+    }
+
+    /// The number of operands.
+    pub fn len(&self) -> usize
+        ensures { result ≡ length self.now }
+    {
+        self.items.len()
+    }
+
+    /// The places, the lowest first.
+    pub fn as_slice(&self) -> &[OperandPlace]
+        ensures value { from_top result.now ≡ self.now }
+        ensures count { length result.now ≡ length self.now }
+    {
+        self.items.as_slice()
+    }
+
+    /// The operand under `depth` others, or None where there are not so many.
+    pub fn peek(&self, depth: usize) -> Option<OperandPlace>
+        ensures { option_map place result ≡ slice_get self.now depth }
+    {
+        let count = self.items.len();
+        if depth < count {
+            self.items.get(count - 1 - depth).copied()
+        } else {
+            None
+        }
+    }
+
+    /// An operand more.
+    pub fn push(&mut self, added: OperandPlace) -> Result<(), NoMemory>
+        ensures pushed { OnOk result (self.new ≡ place added ∷ self.old) }
+        ensures same { OnErr result (self.new ≡ self.old) }
+    {
+        self.items.push(added)?;
+        Ok(())
+    }
+
+    /// A result of an instruction or of a block, if it has one.
+    pub fn grow(&mut self, gives: Option<ValType>) -> Result<(), NoMemory>
+        ensures grown { OnOk result (self.new ≡ grown gives self.old) }
+        ensures same { OnErr result (self.new ≡ self.old) }
+    {
+        match gives {
+            Some(t) => self.push(OperandPlace::Spilled(t)),
+            None => Ok(()),
+        }
+    }
+
+    /// Takes the topmost operand, if there is one.
+    pub fn pop(&mut self) -> Option<OperandPlace>
+        ensures { MatchOption result ((self.old ≡ []) × (self.new ≡ []))
+            (λ p. self.old ≡ place p ∷ self.new) }
+    {
+        self.items.pop()
+    }
+
+    /// Takes the topmost operands, or all where there are not so many.
+    pub fn discard(&mut self, count: usize)
+        ensures { self.new ≡ less count self.old }
+    {
+        let kept = self.items.len().saturating_sub(count);
+        self.items.truncate(kept);
+    }
+}

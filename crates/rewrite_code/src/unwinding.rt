@@ -1,0 +1,61 @@
+//! Code that goes to the exit of the function, where an instruction or a guard traps.
+
+ghost use Rattle.std.specs.Prelude.{◌≡◌, ◌+◌, ◌^◌, ◌<◌, ◌≤◌, List, length, OnOk};
+ghost use Rattle.rewrite_bodies.specs.Rewrite.{Info, to_exit, unwind, tested};
+ghost use Rattle.rewrite_code.specs.calls.Writing.{Emits, EmitsLast};
+
+use crate::CodeWriter;
+use crate::context::FunctionContext;
+use crate::place::OperandPlaces;
+use causes::NoMemory;
+use wasm_syntax::Value;
+
+/// The branch to the exit, out of so many open labels.
+pub fn to_exit(writer: &mut CodeWriter, labels: u32) -> Result<(), NoMemory>
+    requires { labels + 1 < 2 ^ 32 }
+    ensures { (ls : List Info) → length ls ≡ labels
+        → OnOk result (EmitsLast (to_exit ls) writer.old writer.new) }
+{
+    writer.branch(labels + 1)
+}
+
+impl<'m, 'a> FunctionContext<'m, 'a> {
+    /// The code offset is set, the operands are handed over, and the code goes to the exit.
+    pub fn unwind(
+        &self,
+        writer: &mut CodeWriter,
+        labels: u32,
+        places: &OperandPlaces,
+        offset: u32,
+    ) -> Result<(), NoMemory>
+        requires shallow { labels + 1 < 2 ^ 32 }
+        requires room { length places.now ≤ self.now.slots }
+        ensures { (ls : List Info) → length ls ≡ labels
+            → OnOk result (EmitsLast (unwind self.now ls places.now offset) writer.old writer.new) }
+    {
+        writer.const_value(Value::I32(offset))?;
+        self.set(writer, self.offset_at())?;
+        self.hand(writer, places)?;
+        to_exit(writer, labels)
+    }
+
+    /// The verdict of a guard on the stack is kept, and where it is a kind, the code unwinds.
+    pub fn tested(
+        &self,
+        writer: &mut CodeWriter,
+        labels: u32,
+        places: &OperandPlaces,
+        offset: u32,
+    ) -> Result<(), NoMemory>
+        requires shallow { labels + 1 < 2 ^ 32 }
+        requires room { length places.now ≤ self.now.slots }
+        ensures { (ls : List Info) → length ls ≡ labels
+            → OnOk result (Emits (tested self.now ls places.now offset) writer.old writer.new) }
+    {
+        self.set(writer, self.kind_at())?;
+        self.get(writer, self.kind_at())?;
+        writer.open_if(None)?;
+        self.unwind(writer, labels, places, offset)?;
+        writer.close()
+    }
+}

@@ -1,0 +1,71 @@
+-- What the module of a self-test and its rewriting come to.
+use Rattle.std.specs.Prelude.{◌≡◌, ℕ, Bool, true, false, List, [], ◌∷◌, length, codes, Some, None, Ok}
+use Rattle.wasm_syntax.specs.declared.value.Value.TheVariants as values
+use Rattle.wasm_syntax.specs.declared.module.ModuleParts.{ModuleParts as Module}
+use Rattle.wasm_syntax.specs.SameCode.{code_alone}
+use Rattle.wasm_syntax.specs.Module.{Program, IsProgram}
+use Rattle.wasm_syntax.specs.Machine.{Config}
+use Rattle.wasm_syntax.specs.Run.{Invocation, trapped, Ran, run}
+use Rattle.wasm_syntax.specs.Valid.{Valid}
+use Rattle.wasm_decode.specs.Decode.{module_from}
+use Rattle.wasm_validate.specs.Heights.{AllLow}
+use Rattle.wasm_encode.specs.Encoding.{encoding}
+use Rattle.rewrite_modules.specs.Simulates.{Shows}
+use Rattle.rewrite_modules.specs.Weight.{AreHeights}
+use Rattle.instrument.specs.Refusal.{refusal}
+use Rattle.selftest_command.specs.Selftest.{selftest}
+
+-- ---- what is accepted
+
+-- The module is what the encoding of a self-test's module is decoded as, and has the same code.
+pub record IsDecoded (n : ℕ) (m : Module) : Type 0 where
+  pub is : module_from (encoding (selftest n)) ≡ Ok m
+  pub same : code_alone m ≡ code_alone (selftest n)
+
+-- It is valid with few operands, and there is no cause to refuse to rewrite it.
+pub record IsAccepted (m : Module) : Type 0 where
+  pub valid : Valid m
+  pub low : AllLow m
+  pub no_cause : (heights : List (List ℕ)) → AreHeights m heights → refusal m heights ≡ None
+
+-- ---- the runs
+
+-- `main` on the number of functions and 1
+abbrev pub main_on : ℕ → Invocation
+main_on n = record { name = codes "main"; args = values.I32 n ∷ values.I32 1 ∷ [] }
+
+-- the default number of steps
+abbrev pub fuel : ℕ
+fuel = 100000000
+
+-- the default number of frames, and two more with a collector
+abbrev pub depth : (collecting : Bool) → ℕ
+depth false = 1000
+depth true = 1002
+
+-- the module is run once, without replies
+pub record RunsOnce (collecting : Bool) (n : ℕ) (m : Module) : Type 0 where
+  pub program : Program
+  pub of_module : program.module_ ≡ m
+  pub writes_out : IsProgram program
+  pub ran : Ran
+  pub runs : run program collecting (main_on n ∷ []) [] (depth collecting) fuel ≡ ran ∷ []
+
+-- it divides by zero at this configuration, with so many frames
+pub record Divides (n : ℕ) (r : Ran) : Type 0 where
+  pub outcome : r.outcome ≡ trapped 2
+  pub at : Config
+  pub last : r.last ≡ Some at
+  pub frames : length at.frames ≡ n
+
+-- its collector calls and its memory show this configuration, in which another module divides by zero
+pub record HandsOver (at : Config) (r : Ran) : Type 0 where
+  pub there : Config
+  pub last : r.last ≡ Some there
+  pub shows : Shows 2 at there r
+
+-- The module divides by zero, and each run of the other one with a collector hands that over.
+pub record HandsAllOver (n : ℕ) (m other : Module) : Type 0 where
+  pub one : RunsOnce false n m
+  pub divides : Divides n one.ran
+  pub hands : (r : RunsOnce true n other) → HandsOver divides.at r.ran

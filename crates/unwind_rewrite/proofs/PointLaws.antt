@@ -1,0 +1,133 @@
+-- What is known at a point of a body, and where the code goes from there.
+use Rattle.std.proofs.Common.{◌≡◌, ℕ, suc, ◌+◌, ◌-◌, ◌^◌, ◌<◌, ◌≤◌, true, false, nat_le, List, [], ◌∷◌, length, drop, get_or, slice_get, sym, ap, subst, ◌∙◌, arith, length-drop}
+use Rattle.std.proofs.lemmas.Option.{slice_get-get_or}
+use Rattle.std.proofs.lemmas.Bool.Decides.{nat_tests}
+use Rattle.wasm_syntax.specs.declared.instruction.Op.{Op}
+use Rattle.wasm_syntax.specs.declared.instruction.Instr.{Instr}
+use Rattle.wasm_syntax.specs.declared.instruction.Instr.TheVariants as instrs
+use Rattle.wasm_syntax.specs.declared.parts.Body.{Body}
+use Rattle.wasm_syntax.specs.Tree.{Nodes, Tree, stop, basic, jump, block, loop, choose, End, Placed, placed, write, code_of, item_of, jump_of, Writes}
+use Rattle.rewrite_bodies.specs.Slots.{Ctx}
+use Rattle.rewrite_bodies.specs.Rewrite.{in_body, end_gives, rewrite}
+use Rattle.rewrite_bodies.proofs.Sim.{room_height}
+use Rattle.rewrite_code.specs.calls.Writing.{Written, EmitsLast}
+use Rattle.operand_spill.specs.declared.labels.OpenBlock.{OpenBlock}
+use Rattle.operand_spill.specs.calls.Labels.{info}
+use Rattle.operand_spill.specs.calls.Walking.{Walking, behind_block, at_start}
+use Rattle.operand_spill.specs.calls.Standing.{Due, before_end, before_else, flat, Fine, Around, Rewrites, Left}
+use Rattle.operand_spill.proofs.Shapes.{Shape, shape, begins_read}
+use Rattle.operand_spill.proofs.Steps.{point_within, end_within, whole_written, begin}
+use Rattle.unwind_rewrite.specs.declared.points.Flow.{Flow}
+use Rattle.unwind_rewrite.specs.declared.points.Flow.TheVariants.{Next, Leaves}
+use Rattle.unwind_rewrite.specs.declared.points.Point.{Point}
+use Rattle.unwind_rewrite.specs.declared.points.Point.TheVariants as points
+use Rattle.unwind_rewrite.specs.calls.Numbers.{Helped, AllHelped}
+use Rattle.unwind_rewrite.specs.calls.Points.{EndsAt, Advances, Resumes, IsBehind, Holds, BeforeLast, code_in, is_last}
+use Rattle.rewrite_modules.proofs.Multiple.{code_length}
+use Rattle.rewrite_bodies.proofs.Control.{grown_longer}
+
+-- ---- at the end of a list
+
+-- in front of another instruction than the last one a block is open
+pub block_open : (C : Ctx) (code : List Placed) (start : Written) (whole : Nodes) (pc : ℕ) (w : Walking) (now : Written) → suc pc < length code → Left C code start whole pc w now → 1 ≤ length w.opens
+block_open C code start whole pc w now lt r = by w.opens r.dues r.leaves.code_is r.leaves.around
+  where
+    by : (opens : List OpenBlock) (dues : List Due) → drop pc code ≡ flat dues → Around C opens dues → 1 ≤ length opens
+    by [] [] e around = absurd around
+    by [] (before_end end rest ∷ ds) e around =
+        let one : drop pc code ≡ placed end End ∷ [] = e ∙ ap (λ n. placed end End ∷ write n (flat ds)) around.0 ∙ ap (λ ds. placed end End ∷ flat ds) around.1 in
+        absurd (omega (arith, lt, length-drop pc code, ap length one))
+    by [] (before_else at other end rest ∷ ds) e around = absurd around
+    by (x ∷ xs) dues e around = omega arith
+
+-- the operands below an open block have slots
+pub saved_room : (C : Ctx) (code : List Placed) (start : Written) (whole : Nodes) (pc : ℕ) (w : Walking) (now : Written) → Left C code start whole pc w now → (x : OpenBlock) (others : List OpenBlock) → w.opens ≡ x ∷ others →
+    length x.saved ≤ C.slots
+saved_room C code start whole pc w now r x others is = by r.dues (subst (λ os. Around C os r.dues) is r.leaves.around)
+  where
+    by : (dues : List Due) → Around C (x ∷ others) dues → length x.saved ≤ C.slots
+    by [] around = absurd around
+    by (before_end end rest ∷ ds) around = omega (arith, grown_longer (end_gives (info x.label)) x.saved, room_height C (behind_block x) rest around.0.room)
+    by (before_else at other end rest ∷ ds) around = room_height C x.saved other around.0.room
+
+-- there stands `else` or `end`
+pub stands_behind : (C : Ctx) (body : Body) (xs : List Op) (start : Written) (whole : Nodes) (pc : ℕ) (d : Op) (w : Walking) (now : Written) → xs ≡ body.ops → Left C (code_in body) start whole pc w now → IsBehind (get_or xs pc d).code
+stands_behind C body xs start whole pc d w now same r =
+    let lt : pc < length body.ops = omega (arith, end_within C (code_in body) start whole pc w now r, code_length body.targets body.ops) in
+    let o : Op = get_or body.ops pc d in
+    subst (λ os. IsBehind (get_or os pc d).code) (sym same) (by o.at o.code (shape stop r.dues o.at (item_of body.targets o.code) (drop (suc pc) (code_in body)) (sym (begins_read body.targets body.ops pc d lt) ∙ r.leaves.code_is)))
+  where
+    by : (at : ℕ) (code : Instr) → Shape at (item_of body.targets code) (drop (suc pc) (code_in body)) stop r.dues → IsBehind code
+    by at (instrs.Basic k) h = absurd (let e : stop ≡ basic at k h.0 = h.1 in cc)
+    by at (instrs.Jump j) h = absurd (let e : stop ≡ jump at (jump_of body.targets j) h.0 = h.1 in cc)
+    by at (instrs.Block t) h = absurd (let e : stop ≡ block at t h.0 h.1 h.2 = h.3 in cc)
+    by at (instrs.Loop t) h = absurd (let e : stop ≡ loop at t h.0 h.1 h.2 = h.3 in cc)
+    by at (instrs.If t) h = absurd (let e : stop ≡ choose at t h.0 h.1 h.2 h.3 h.4 = h.5 in cc)
+    by at instrs.Else h = tt
+    by at instrs.End h = tt
+
+pub resumes_next : (C : Ctx) (body : Body) (xs : List Op) (start : Written) (whole : Nodes) (pc : ℕ) (d : Op) (w w' : Walking) {now next : Written} → xs ≡ body.ops → pc + 1 < length body.ops →
+    ((targets : List ℕ) → Resumes C (item_of targets (get_or xs pc d).code) w now w' next) → Left C (code_in body) start whole pc w now → Rewrites C (code_in body) start whole (pc + 1) w' next
+resumes_next C body xs start whole pc d w w' {now} {next} same lt a r =
+    let below : pc < length body.ops = omega (arith, lt) in
+    let more : suc pc < length (code_in body) = omega (arith, lt, code_length body.targets body.ops) in
+    let one : suc pc ≡ pc + 1 = omega arith in
+    let b : Resumes C (item_of body.targets (get_or body.ops pc d).code) w now w' next = subst (λ os. Resumes C (item_of body.targets (get_or os pc d).code) w now w' next) same (a body.targets) in
+    subst (λ n. Rewrites C (code_in body) start whole n w' next) one (b (code_in body) start whole pc (get_or body.ops pc d).at (begins_read body.targets body.ops pc d below) more r)
+
+-- ---- at a live instruction
+
+pub stands_inside : (C : Ctx) (body : Body) (start : Written) (whole : Nodes) (pc : ℕ) (w : Walking) (now : Written) → Rewrites C (code_in body) start whole pc w now → pc < length body.ops
+stands_inside C body start whole pc w now r = omega (arith, point_within C (code_in body) start whole pc w now r, code_length body.targets body.ops)
+
+pub is_helped : (C : Ctx) (ops xs : List Op) (pc : ℕ) (d : Op) → xs ≡ ops → pc < length ops → AllHelped C ops → Helped C (get_or xs pc d).code
+is_helped C ops xs pc d same lt all = all pc (get_or xs pc d) (ap (λ os. slice_get os pc) (sym same) ∙ slice_get-get_or xs pc d (omega (arith, lt, ap length same)))
+
+advance_of : (C : Ctx) (body : Body) (ts : List ℕ) (xs : List Op) (pc : ℕ) (d : Op) (w w' : Walking) (flow flow' : Flow) (now next : Written) → ts ≡ body.targets → xs ≡ body.ops → flow ≡ flow' →
+    Advances C (get_or xs pc d).at (item_of ts (get_or xs pc d).code) w now w' next flow → Advances C (get_or body.ops pc d).at (item_of body.targets (get_or body.ops pc d).code) w now w' next flow'
+advance_of C body ts xs pc d w w' flow flow' now next targets ops is a =
+    let b : Advances C (get_or xs pc d).at (item_of ts (get_or xs pc d).code) w now w' next flow' = subst (λ f. Advances C (get_or xs pc d).at (item_of ts (get_or xs pc d).code) w now w' next f) is a in
+    let c : Advances C (get_or xs pc d).at (item_of body.targets (get_or xs pc d).code) w now w' next flow' = subst (λ t. Advances C (get_or xs pc d).at (item_of t (get_or xs pc d).code) w now w' next flow') targets b in
+    subst (λ os. Advances C (get_or os pc d).at (item_of body.targets (get_or os pc d).code) w now w' next flow') ops c
+
+pub goes_next : (C : Ctx) (body : Body) (ts : List ℕ) (xs : List Op) (start : Written) (whole : Nodes) (pc : ℕ) (d : Op) (w w' : Walking) (flow : Flow) {now next : Written} → ts ≡ body.targets → xs ≡ body.ops → flow ≡ Next →
+    Advances C (get_or xs pc d).at (item_of ts (get_or xs pc d).code) w now w' next flow → Rewrites C (code_in body) start whole pc w now → Rewrites C (code_in body) start whole (pc + 1) w' next
+goes_next C body ts xs start whole pc d w w' flow {now} {next} targets ops is a r =
+    let lt : pc < length body.ops = stands_inside C body start whole pc w now r in
+    let one : suc pc ≡ pc + 1 = omega arith in
+    subst (λ n. Rewrites C (code_in body) start whole n w' next) one (advance_of C body ts xs pc d w w' flow Next now next targets ops is a (code_in body) start whole pc (begins_read body.targets body.ops pc d lt) r)
+
+pub goes_out : (C : Ctx) (body : Body) (ts : List ℕ) (xs : List Op) (start : Written) (whole : Nodes) (pc to : ℕ) (d : Op) (w w' : Walking) (flow : Flow) {now next : Written} → ts ≡ body.targets → xs ≡ body.ops → flow ≡ Leaves →
+    Advances C (get_or xs pc d).at (item_of ts (get_or xs pc d).code) w now w' next flow → pc ≤ to →
+    ((targets : List ℕ) (nodes : Nodes) (dues : List Due) → drop pc (code_of targets xs) ≡ write nodes (flat dues) → drop to (code_of targets xs) ≡ flat dues) → Rewrites C (code_in body) start whole pc w now → Left C (code_in body) start whole to w' next
+goes_out C body ts xs start whole pc to d w w' flow {now} {next} targets ops is a le end r =
+    let lt : pc < length body.ops = stands_inside C body start whole pc w now r in
+    let ends : EndsAt (code_in body) pc to = subst (λ os. EndsAt (code_of body.targets os) pc to) ops (end body.targets) in
+    advance_of C body ts xs pc d w w' flow Leaves now next targets ops is a (code_in body) start whole pc (begins_read body.targets body.ops pc d lt) r to ends le
+
+pub shallow : (C : Ctx) (body : Body) (start : Written) (whole : Nodes) (pc : ℕ) (w : Walking) (now : Written) → length body.ops + 1 < 2 ^ 32 → Rewrites C (code_in body) start whole pc w now → length w.opens + 2 < 2 ^ 32
+shallow C body start whole pc w now few r = omega (arith, few, stands_inside C body start whole pc w now r, r.stands.shallow)
+
+-- ---- the loop
+
+pub begun : (C : Ctx) (body : Body) (tree : Tree) (w : Walking) (now : Written) → Writes body.targets body.ops tree → Fine C [] tree.nodes → w ≡ at_start C.result →
+    Rewrites C (code_in body) now (rewrite C (in_body C.result ∷ []) [] tree.nodes) 0 w now
+begun C body tree w now writes fine is =
+    subst (λ v. Rewrites C (code_in body) now (rewrite C (in_body C.result ∷ []) [] tree.nodes) 0 v now) (sym is) (begin C (code_in body) now tree writes fine.room fine.arms)
+
+pub before_last : (n last : ℕ) (p : Point) → last ≡ n - 1 → is_last last p ≡ false → BeforeLast n p
+before_last n last (points.Live pc) e is = tt
+before_last n last (points.Ended pc) e is = omega (arith, e, not_le last pc is)
+  where
+    not_le : (a b : ℕ) → nat_le a b ≡ false → b < a
+    not_le a b e = grind (arith, nat_tests)
+
+pub all_written : (C : Ctx) (body : Body) (start : Written) (whole : Nodes) (w : Walking) (now : Written) (last : ℕ) (p : Point) → last ≡ length body.ops - 1 → is_last last p ≡ true → Holds C (code_in body) start whole w now p → EmitsLast whole start now
+all_written C body start whole w now last (points.Live pc) e is h = absurd (let no : false ≡ true = is in cc)
+all_written C body start whole w now last (points.Ended pc) e is h =
+    let lt = end_within C (code_in body) start whole pc w now h in
+    let at : suc pc ≡ length (code_in body) = omega (arith, e, le last pc is, lt, code_length body.targets body.ops) in
+    whole_written C (code_in body) start whole pc w now at h
+  where
+    le : (a b : ℕ) → nat_le a b ≡ true → a ≤ b
+    le a b e = grind (arith, nat_tests)

@@ -1,0 +1,50 @@
+use Rattle.std.proofs.Common.{◌≡◌, ap, ◌∙◌, subst, sym, Some}
+use Rattle.wasm_syntax.specs.declared.module.ModuleParts.{ModuleParts as Module}
+use Rattle.wasm_validate.specs.Heights.{body_of}
+use Rattle.rewrite_bodies.specs.Slots.{Ctx}
+use Rattle.rewrite_code.specs.calls.Contexts.{context}
+use Rattle.unwind_rewrite.specs.calls.Points.{CanBeWritten}
+use Rattle.unwind_rewrite.specs.calls.Rewritten.{gives_of}
+use Rattle.unwind_rewrite.proofs.Premises as premises
+use Rattle.unwind_rewrite.proofs.body.rewrite_body.Goals as goal
+
+pub write_body-requires-clause-helped : goal.write_body-requires-clause-helped
+write_body-requires-clause-helped c =
+    let m = c.args.numbers.now in
+    let f = c.args.func in
+    let here = subst (λ (x : Module). body_of x f ≡ Some c.body_at-body.result.now) c.source-parts.ensures c.body_at-body.ensures in
+    premises.helped m c.requires.accepted f c.body_at-body.result.now here c.new-context.result (ap (λ (x : Ctx). x.source) c.new-context.ensures)
+
+pub write_body-requires-clause-few : goal.write_body-requires-clause-few
+write_body-requires-clause-few c =
+    let f = c.args.func in
+    let here = subst (λ (x : Module). body_of x f ≡ Some c.body_at-body.result.now) c.source-parts.ensures c.body_at-body.ensures in
+    premises.few c.args.numbers.now c.requires.accepted f c.body_at-body.result.now here
+
+pub write_body-requires-clause-tree : goal.write_body-requires-clause-tree
+write_body-requires-clause-tree c =
+    let m = c.args.numbers.now in
+    let f = c.args.func in
+    let plan = c.args.plan.now in
+    let b = c.body_at-body.result.now in
+    let here = subst (λ (x : Module). body_of x f ≡ Some b) c.source-parts.ensures c.body_at-body.ensures in
+    let is : c.new-context.result ≡ context m plan.locals plan.slots f (gives_of m f) =
+    c.new-context.ensures
+    ∙ ap (λ ls. context m ls c.heights.result f c.gives-result.result) (c.in_ok-locals.ensures ∙ c.types.ensures.types)
+    ∙ ap (λ n. context m plan.locals n f c.gives-result.result) c.heights.ensures
+    ∙ ap (context m plan.locals plan.slots f) (c.gives-result.ensures ∙ ap (λ (x : Module). gives_of x f) c.source-parts.ensures) in
+    subst (λ (x : Ctx). CanBeWritten x b) (sym is) (premises.can m c.requires.accepted f b here plan c.requires.plan)
+
+pub returns-clause-code : goal.returns-clause-code
+returns-clause-code c =
+    let m = c.args.numbers.now in
+    let f = c.args.func in
+    let plan = c.args.plan.now in
+    let b = c.body_at-body.result.now in
+    let here = subst (λ (x : Module). body_of x f ≡ Some b) c.source-parts.ensures c.body_at-body.ensures in
+    let is : c.new-context.result ≡ context m plan.locals plan.slots f (gives_of m f) =
+    c.new-context.ensures
+    ∙ ap (λ ls. context m ls c.heights.result f c.gives-result.result) (c.in_ok-locals.ensures ∙ c.types.ensures.types)
+    ∙ ap (λ n. context m plan.locals n f c.gives-result.result) c.heights.ensures
+    ∙ ap (context m plan.locals plan.slots f) (c.gives-result.ensures ∙ ap (λ (x : Module). gives_of x f) c.source-parts.ensures) in
+    premises.is_rewritten m f b here plan c.requires.plan c.new-context.result is c.write_body.result c.write_body.ensures.code

@@ -1,0 +1,93 @@
+//! The body of a rewritten function.
+
+ghost use Rattle.std.specs.Prelude.{◌≡◌, ◌+◌, ◌^◌, ◌<◌, ◌≤◌, ◌++◌, [], length, IfOk, Some};
+ghost use Rattle.wasm_syntax.specs.Module.{Ascend};
+ghost use Rattle.wasm_syntax.specs.Tree.{Tree as TreeOf, Writes};
+ghost use Rattle.wasm_validate.specs.Heights.{body_of as body_in};
+ghost use Rattle.rewrite_bodies.specs.Rewrite.{body as rewriting};
+ghost use Rattle.rewrite_bodies.specs.Slots.{groups};
+ghost use Rattle.wasm_syntax.specs.SameCode.{body_code};
+ghost use Rattle.rewrite_modules.specs.FlatCode.{body_of};
+ghost use Rattle.rewrite_promise.specs.Promise.{Accepted};
+ghost use Rattle.operand_spill.specs.calls.Standing.{Fine};
+ghost use Rattle.unwind_rewrite.specs.calls.Numbers.{HasHelpers, AllHelped};
+ghost use Rattle.unwind_rewrite.specs.calls.Points.{CanBeWritten};
+ghost use Rattle.operand_spill.specs.calls.Plans.{IsDefined};
+ghost use Rattle.unwind_rewrite.specs.calls.Rewritten.{Ascends, IsPlanIn, IsRewritten, gives_of};
+
+use crate::{close_body, open_body, with_added, write_nodes};
+use causes::NoMemory;
+use index_map::IndexMap;
+use operand_spill::SlotPlan;
+use pm_text::Items;
+use rewrite_code::{CodeWriter, FunctionContext};
+use std::alloc::Global;
+use wasm_syntax::{Body, ModuleParts, ValType};
+
+/// The rewritten body of a function whose body and context these are, with the locals that are
+/// added.
+fn write_body(
+    alloc: Global,
+    context: &FunctionContext<'_, '_>,
+    parts: &ModuleParts,
+    body: &Body,
+) -> Result<Body, NoMemory>
+    requires source { parts.now ≡ context.now.source }
+    requires helpers { HasHelpers context.now }
+    requires helped { AllHelped context.now body.now.ops }
+    requires few { length body.now.ops + 1 < 2 ^ 32 }
+    requires tree { CanBeWritten context.now body.now }
+    ensures code { (tree : TreeOf) → Writes body.now.targets body.now.ops tree
+        → Fine context.now [] tree.nodes
+        → IfOk result (λ out. body_code out
+        ≡ body_code (body_of (body.now.groups ++ groups context.now.slots)
+        (rewriting context.now tree.nodes))) }
+    ensures offsets { IfOk result (λ out. length out.ops ≤ 2 ^ 32 → Ascend 0 out.ops) }
+{
+    let mut writer = CodeWriter::new(alloc);
+    open_body(&mut writer)?;
+    write_nodes(alloc, context, &mut writer, parts, body)?;
+    close_body(context, &mut writer)?;
+    let locals = with_added(alloc, body.groups.as_slice(), context.slots())?;
+    writer.finish(locals)
+}
+
+/// The body of a function that the module defines.
+fn body_at(parts: &ModuleParts, func: u32) -> &Body
+    requires { IsDefined parts.now func }
+    ensures { body_in parts.now func ≡ Some result.now }
+{
+    &parts.bodies.as_slice()[func as usize - parts.imports.len()]
+}
+
+/// What a function gives, if anything.
+fn gives(parts: &ModuleParts, func: u32) -> Option<ValType>
+    ensures { result ≡ gives_of parts.now func }
+{
+    match parts.type_of(func as usize) {
+        Some(ftype) => ftype.results.get(0).copied(),
+        None => None,
+    }
+}
+
+/// The body of a function of an accepted module, rewritten by its plan: that of the definitions,
+/// but for offsets.
+pub fn rewrite_body(
+    alloc: Global,
+    numbers: &IndexMap<'_>,
+    func: u32,
+    plan: &SlotPlan,
+) -> Result<Body, NoMemory>
+    requires accepted { Accepted numbers.now }
+    requires defined { IsDefined numbers.now func }
+    requires plan { IsPlanIn numbers.now func plan.now }
+    ensures code { IfOk result (IsRewritten numbers.now func) }
+    ensures offsets { IfOk result Ascends }
+{
+    let parts = numbers.source();
+    let body = body_at(parts, func);
+    let locals = Items::from_slice(alloc, plan.types())?;
+    let result = gives(parts, func);
+    let context = FunctionContext::new(numbers, locals, plan.heights(), func, result);
+    write_body(alloc, &context, parts, body)
+}

@@ -1,0 +1,202 @@
+//! Instructions in live code, and the ends of lists.
+
+ghost use Rattle.std.specs.Prelude.{◌≡◌, ℕ, ◌+◌, ◌^◌, ◌<◌, ◌≤◌, ◌∷◌, List, length, IfOk, OnOk};
+ghost use Rattle.wasm_syntax.specs.Effect.{takes};
+ghost use Rattle.wasm_syntax.specs.Tree.{Plain, Opens, OpensLoop, OpensIf, Else as ElseOf, End as EndOf, item_of};
+ghost use Rattle.rewrite_bodies.specs.Slots.{Ctx as CtxOf, result_type};
+ghost use Rattle.operand_spill.specs.declared.labels.OpenBlock.{OpenBlock as OpenBlockOf};
+ghost use Rattle.operand_spill.specs.calls.Standing.{after_instr};
+ghost use Rattle.operand_spill.specs.calls.Walking.{with_places};
+ghost use Rattle.unwind_rewrite.specs.calls.Numbers.{HasHelpers, Helped};
+ghost use Rattle.unwind_rewrite.specs.calls.Points.{Advances, IsBehind, Resumes};
+
+use crate::jumps::write_jump;
+use crate::points::Flow;
+use crate::{close_block, end_block, instruction, open_if};
+use causes::NoMemory;
+use operand_spill::{Label, Walk, result_type, takes};
+use rewrite_code::{CodeWriter, FunctionContext};
+use wasm_syntax::{Basic, Instr, ModuleParts, Op, ValType};
+
+/// What becomes of the operands at a basic instruction, which takes so many and gives this.
+fn perform(
+    walk: &mut Walk,
+    basic: Basic,
+    taken: usize,
+    gives: Option<ValType>,
+) -> Result<(), NoMemory>
+    ensures { (C : CtxOf) → takes basic ≡ taken → result_type C walk.old.places basic ≡ gives
+        → OnOk result (walk.new ≡ with_places walk.old (after_instr C walk.old.places basic)) }
+{
+    match basic {
+        Basic::Const(value) => walk.push_constant(value),
+        _ => walk.perform(taken, gives),
+    }
+}
+
+/// A basic instruction.
+fn write_basic(
+    context: &FunctionContext<'_, '_>,
+    writer: &mut CodeWriter,
+    walk: &mut Walk,
+    parts: &ModuleParts,
+    offset: u32,
+    basic: Basic,
+) -> Result<Flow, NoMemory>
+    requires source { parts.now ≡ context.now.source }
+    requires shallow { length walk.old.opens + 2 < 2 ^ 32 }
+    requires room { length walk.old.places ≤ context.now.slots }
+    ensures { IfOk result (Advances context.now offset (Plain basic) walk.old writer.old walk.new
+        writer.new) }
+{
+    let taken = takes(basic);
+    let gives = result_type(context.locals(), parts, walk.places(), basic);
+    let labels = walk.depth() as u32;
+    instruction(
+        context,
+        writer,
+        labels,
+        walk.places(),
+        offset,
+        basic,
+        taken,
+        gives,
+    )?;
+    perform(walk, basic, taken, gives)?;
+    Ok(Flow::Next)
+}
+
+/// The beginning of a block.
+fn write_block(
+    writer: &mut CodeWriter,
+    walk: &mut Walk,
+    gives: Option<ValType>,
+) -> Result<Flow, NoMemory>
+    ensures { (C : CtxOf) (o : ℕ)
+        → IfOk result (Advances C o (Opens gives) walk.old writer.old walk.new writer.new) }
+{
+    writer.open_block(None)?;
+    walk.open(Label::Block(gives))?;
+    Ok(Flow::Next)
+}
+
+/// The beginning of a loop.
+fn write_loop(
+    writer: &mut CodeWriter,
+    walk: &mut Walk,
+    gives: Option<ValType>,
+) -> Result<Flow, NoMemory>
+    ensures { (C : CtxOf) (o : ℕ)
+        → IfOk result (Advances C o (OpensLoop gives) walk.old writer.old walk.new writer.new) }
+{
+    writer.open_loop(None)?;
+    walk.open(Label::Loop(gives))?;
+    Ok(Flow::Next)
+}
+
+/// The beginning of an `if`, which takes its condition.
+fn write_if(
+    context: &FunctionContext<'_, '_>,
+    writer: &mut CodeWriter,
+    walk: &mut Walk,
+    gives: Option<ValType>,
+) -> Result<Flow, NoMemory>
+    requires { length walk.old.places ≤ context.now.slots }
+    ensures { (o : ℕ) → IfOk result
+        (Advances context.now o (OpensIf gives) walk.old writer.old walk.new writer.new) }
+{
+    let Some(condition) = walk.pop() else {
+        return Ok(Flow::Leaves);
+    };
+    open_if(context, writer, condition, walk.places().len())?;
+    walk.open(Label::Block(gives))?;
+    Ok(Flow::Next)
+}
+
+/// What the end of the innermost list leaves, in front of its `else` or `end`.
+fn write_ending(
+    context: &FunctionContext<'_, '_>,
+    writer: &mut CodeWriter,
+    walk: &Walk,
+) -> Result<Flow, NoMemory>
+    requires { length walk.now.places ≤ context.now.slots }
+    ensures before_end { (o : ℕ) → IfOk result
+        (Advances context.now o EndOf walk.now writer.old walk.now writer.new) }
+    ensures before_else { (o : ℕ)
+        → IfOk result (Advances context.now o ElseOf walk.now writer.old walk.now writer.new) }
+{
+    end_block(context, writer, walk.innermost().end_gives(), walk.places())?;
+    Ok(Flow::Leaves)
+}
+
+/// A live instruction, in a body with these targets. Of an `else` or `end`, what stands in front of
+/// it.
+pub(crate) fn write_live(
+    context: &FunctionContext<'_, '_>,
+    writer: &mut CodeWriter,
+    walk: &mut Walk,
+    parts: &ModuleParts,
+    targets: &[u32],
+    op: Op,
+) -> Result<Flow, NoMemory>
+    requires source { parts.now ≡ context.now.source }
+    requires helpers { HasHelpers context.now }
+    requires helped { Helped context.now op.code }
+    requires shallow { length walk.old.opens + 2 < 2 ^ 32 }
+    requires room { length walk.old.places ≤ context.now.slots }
+    ensures { IfOk result (Advances context.now op.at (item_of targets.now op.code) walk.old
+        writer.old walk.new writer.new) }
+{
+    match op.code {
+        Instr::Basic(basic) => write_basic(context, writer, walk, parts, op.at, basic),
+        Instr::Jump(jump) => write_jump(context, writer, walk, parts, targets, op.at, jump),
+        Instr::Block(gives) => write_block(writer, walk, gives),
+        Instr::Loop(gives) => write_loop(writer, walk, gives),
+        Instr::If(gives) => write_if(context, writer, walk, gives),
+        Instr::Else => write_ending(context, writer, walk),
+        Instr::End => write_ending(context, writer, walk),
+    }
+}
+
+/// `else`, behind the first arm.
+fn write_else(writer: &mut CodeWriter, walk: &mut Walk) -> Result<(), NoMemory>
+    ensures { (C : CtxOf) → OnOk result (Resumes C ElseOf walk.old writer.old walk.new writer.new) }
+{
+    writer.alternate()?;
+    walk.alternate()
+}
+
+/// The `end` of a block, and its result.
+fn write_end(
+    context: &FunctionContext<'_, '_>,
+    writer: &mut CodeWriter,
+    walk: &mut Walk,
+) -> Result<(), NoMemory>
+    requires open { 1 ≤ length walk.old.opens }
+    requires room { (block : OpenBlockOf) (others : List OpenBlockOf)
+        → walk.old.opens ≡ block ∷ others → length block.saved ≤ context.now.slots }
+    ensures { OnOk result (Resumes context.now EndOf walk.old writer.old walk.new writer.new) }
+{
+    close_block(context, writer, walk.innermost().end_gives(), walk.below())?;
+    walk.close()
+}
+
+/// The `else` or the `end` behind a list that was written.
+pub(crate) fn write_behind(
+    context: &FunctionContext<'_, '_>,
+    writer: &mut CodeWriter,
+    walk: &mut Walk,
+    code: Instr,
+) -> Result<(), NoMemory>
+    requires behind { IsBehind code }
+    requires open { 1 ≤ length walk.old.opens }
+    requires room { (block : OpenBlockOf) (others : List OpenBlockOf)
+        → walk.old.opens ≡ block ∷ others → length block.saved ≤ context.now.slots }
+    ensures { (targets : List ℕ) → OnOk result
+        (Resumes context.now (item_of targets code) walk.old writer.old walk.new writer.new) }
+{
+    match code {
+        Instr::Else => write_else(writer, walk),
+        _ => write_end(context, writer, walk),
+    }
+}

@@ -1,0 +1,252 @@
+//! Control instructions that hold no others.
+
+ghost use Rattle.std.specs.Prelude.{◌≡◌, ℕ, ◌+◌, ◌^◌, ◌<◌, ◌≤◌, true, length, slice_get, take, drop, option_map, IfOk, IfSome, Some};
+ghost use Rattle.wasm_syntax.specs.Machine.{result_of};
+ghost use Rattle.wasm_syntax.specs.Tree.{Goes, Br as BrOf, BrIf as BrIfOf, BrTable as BrTableOf, Return as ReturnOf, Unreachable as UnreachableOf, Call as CallOf, CallIndirect as CallIndirectOf, jump_of};
+ghost use Rattle.rewrite_bodies.specs.Numbering.{is_in};
+ghost use Rattle.rewrite_bodies.specs.Rewrite.{carries};
+ghost use Rattle.rewrite_modules.specs.Weight.{types_used};
+ghost use Rattle.operand_spill.specs.calls.Walking.{labels_of};
+ghost use Rattle.unwind_rewrite.specs.calls.Numbers.{HasHelpers, JumpHelped};
+ghost use Rattle.unwind_rewrite.specs.calls.Points.{Advances};
+
+use crate::points::Flow;
+use crate::{
+    Target, TypeNumbers, branch_if, branch_table, branch_to, call_function, call_through_table,
+    return_from, trap,
+};
+use causes::NoMemory;
+use operand_spill::Walk;
+use rewrite_code::{CodeWriter, FunctionContext};
+use wasm_syntax::{FuncType, Jump, ModuleParts, ValType};
+
+/// The label of a branch, where it is there.
+fn target(walk: &Walk, label: u32) -> Option<Target>
+    ensures label { option_map carries (slice_get (labels_of walk.now) label)
+        ≡ option_map (λ t. t.carried) result }
+    ensures inside { IfSome result (λ t. label ≤ length walk.now.opens) }
+{
+    match walk.label(label) {
+        Some(label) => Some(Target {
+            carried: label.carries(),
+        }),
+        None => None,
+    }
+}
+
+/// What a function gives, if anything.
+fn result_type(ftype: &FuncType) -> Option<ValType>
+    ensures { result ≡ result_of ftype.now }
+{
+    ftype.results.get(0).copied()
+}
+
+/// So many targets of a `br_table`, from a place on.
+fn targets_at(targets: &[u32], start: u32, count: u32) -> &[u32]
+    ensures { result.now ≡ take count (drop start targets.now) }
+{
+    let from = targets.len().min(start as usize);
+    let behind = &targets[from..];
+    &behind[..behind.len().min(count as usize)]
+}
+
+/// `br`.
+fn write_branch(
+    context: &FunctionContext<'_, '_>,
+    writer: &mut CodeWriter,
+    walk: &Walk,
+    label: u32,
+) -> Result<Flow, NoMemory>
+    requires { length walk.now.places ≤ context.now.slots }
+    ensures { (o : ℕ) → IfOk result
+        (Advances context.now o (Goes (BrOf label)) walk.now writer.old walk.now writer.new) }
+{
+    branch_to(context, writer, target(walk, label), walk.places(), label)?;
+    Ok(Flow::Leaves)
+}
+
+/// `br_if`, behind which the code goes on.
+fn write_branch_if(
+    context: &FunctionContext<'_, '_>,
+    writer: &mut CodeWriter,
+    walk: &mut Walk,
+    label: u32,
+) -> Result<Flow, NoMemory>
+    requires shallow { length walk.old.opens + 2 < 2 ^ 32 }
+    requires room { length walk.old.places ≤ context.now.slots }
+    ensures { (o : ℕ) → IfOk result
+        (Advances context.now o (Goes (BrIfOf label)) walk.old writer.old walk.new writer.new) }
+{
+    let Some(condition) = walk.pop() else {
+        return Ok(Flow::Leaves);
+    };
+    let target = target(walk, label);
+    branch_if(context, writer, target, condition, walk.places(), label)?;
+    Ok(Flow::Next)
+}
+
+/// `br_table`.
+fn write_branch_table(
+    context: &FunctionContext<'_, '_>,
+    writer: &mut CodeWriter,
+    walk: &mut Walk,
+    targets: &[u32],
+    default_label: u32,
+) -> Result<Flow, NoMemory>
+    requires { length walk.old.places ≤ context.now.slots }
+    ensures { (o : ℕ) → IfOk result
+        (Advances context.now o (Goes (BrTableOf targets.now default_label)) walk.old writer.old
+        walk.new writer.new) }
+{
+    let Some(selector) = walk.pop() else {
+        return Ok(Flow::Leaves);
+    };
+    let target = target(walk, default_label);
+    branch_table(
+        context,
+        writer,
+        target,
+        selector,
+        walk.places(),
+        targets,
+        default_label,
+    )?;
+    Ok(Flow::Leaves)
+}
+
+/// `return`.
+fn write_return(
+    context: &FunctionContext<'_, '_>,
+    writer: &mut CodeWriter,
+    walk: &Walk,
+) -> Result<Flow, NoMemory>
+    requires shallow { length walk.now.opens + 2 < 2 ^ 32 }
+    requires room { length walk.now.places ≤ context.now.slots }
+    ensures { (o : ℕ) → IfOk result
+        (Advances context.now o (Goes ReturnOf) walk.now writer.old walk.now writer.new) }
+{
+    return_from(context, writer, walk.depth() as u32, walk.places())?;
+    Ok(Flow::Leaves)
+}
+
+/// `unreachable`.
+fn write_trap(
+    context: &FunctionContext<'_, '_>,
+    writer: &mut CodeWriter,
+    walk: &Walk,
+    offset: u32,
+) -> Result<Flow, NoMemory>
+    requires shallow { length walk.now.opens + 2 < 2 ^ 32 }
+    requires room { length walk.now.places ≤ context.now.slots }
+    ensures { IfOk result (Advances context.now offset (Goes UnreachableOf) walk.now writer.old
+        walk.now writer.new) }
+{
+    trap(context, writer, walk.depth() as u32, walk.places(), offset)?;
+    Ok(Flow::Leaves)
+}
+
+/// `call`.
+fn write_call(
+    context: &FunctionContext<'_, '_>,
+    writer: &mut CodeWriter,
+    walk: &mut Walk,
+    parts: &ModuleParts,
+    offset: u32,
+    function: u32,
+) -> Result<Flow, NoMemory>
+    requires source { parts.now ≡ context.now.source }
+    requires shallow { length walk.old.opens + 2 < 2 ^ 32 }
+    requires room { length walk.old.places ≤ context.now.slots }
+    ensures { IfOk result (Advances context.now offset (Goes (CallOf function)) walk.old writer.old
+        walk.new writer.new) }
+{
+    let Some(ftype) = parts.type_of(function as usize) else {
+        return Ok(Flow::Leaves);
+    };
+    let labels = walk.depth() as u32;
+    call_function(
+        context,
+        writer,
+        labels,
+        walk.places(),
+        offset,
+        function,
+        ftype,
+    )?;
+    walk.perform(ftype.params.len(), result_type(ftype))?;
+    Ok(Flow::Next)
+}
+
+/// `call_indirect`.
+fn write_call_indirect(
+    context: &FunctionContext<'_, '_>,
+    writer: &mut CodeWriter,
+    walk: &mut Walk,
+    parts: &ModuleParts,
+    offset: u32,
+    index: u32,
+) -> Result<Flow, NoMemory>
+    requires source { parts.now ≡ context.now.source }
+    requires helpers { HasHelpers context.now }
+    requires helped { is_in index (types_used context.now.source) ≡ true }
+    requires shallow { length walk.old.opens + 2 < 2 ^ 32 }
+    requires room { length walk.old.places ≤ context.now.slots }
+    ensures { IfOk result (Advances context.now offset (Goes (CallIndirectOf index)) walk.old
+        writer.old walk.new writer.new) }
+{
+    let Some(ftype) = parts.types.get(index as usize) else {
+        return Ok(Flow::Leaves);
+    };
+    if walk.places().len() == 0 {
+        return Ok(Flow::Leaves);
+    }
+    let taken = ftype.params.as_slice().len() + 1;
+    let labels = walk.depth() as u32;
+    let helper = context.map().helper(index);
+    let numbers = TypeNumbers { index, helper };
+    call_through_table(
+        context,
+        writer,
+        labels,
+        walk.places(),
+        offset,
+        numbers,
+        ftype,
+    )?;
+    walk.perform(taken, result_type(ftype))?;
+    Ok(Flow::Next)
+}
+
+/// A control instruction that holds no others, in a body with these targets.
+pub(crate) fn write_jump(
+    context: &FunctionContext<'_, '_>,
+    writer: &mut CodeWriter,
+    walk: &mut Walk,
+    parts: &ModuleParts,
+    targets: &[u32],
+    offset: u32,
+    jump: Jump,
+) -> Result<Flow, NoMemory>
+    requires source { parts.now ≡ context.now.source }
+    requires helpers { HasHelpers context.now }
+    requires helped { JumpHelped context.now jump }
+    requires shallow { length walk.old.opens + 2 < 2 ^ 32 }
+    requires room { length walk.old.places ≤ context.now.slots }
+    ensures { IfOk result (Advances context.now offset (Goes (jump_of targets.now jump)) walk.old
+        writer.old walk.new writer.new) }
+{
+    match jump {
+        Jump::Unreachable => write_trap(context, writer, walk, offset),
+        Jump::Br(label) => write_branch(context, writer, walk, label),
+        Jump::BrIf(label) => write_branch_if(context, writer, walk, label),
+        Jump::BrTable(start, count, default_label) => {
+            let own = targets_at(targets, start, count);
+            write_branch_table(context, writer, walk, own, default_label)
+        }
+        Jump::Return => write_return(context, writer, walk),
+        Jump::Call(function) => write_call(context, writer, walk, parts, offset, function),
+        Jump::CallIndirect(ftype) => {
+            write_call_indirect(context, writer, walk, parts, offset, ftype)
+        }
+    }
+}

@@ -1,0 +1,5 @@
+-- What contracts on the way say: nobody has to believe it, for all that rests on it is proved.
+pub mod Frames
+pub mod Marks
+pub mod Algorithm
+pub mod Bodies

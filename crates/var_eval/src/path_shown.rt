@@ -1,0 +1,98 @@
+//! What is shown of parts of variables.
+
+ghost use Rattle.std.specs.Prelude.{◌≡◌, IfOk};
+ghost use Rattle.var_eval.specs.Shown.{shown_as};
+ghost use Rattle.var_eval.specs.PathShown as definitions;
+ghost use Rattle.var_eval.specs.inner.PathTold.{shown_by};
+
+use crate::{Frame, Part, Shown, chosen, source_of, walk};
+use causes::NoMemory;
+use dwarf_entries::Standing;
+use dwarf_expr::FrameView;
+use dwarf_info::Units;
+use dwarf_types::type_of;
+use pm_text::Text;
+use std::alloc::Global;
+use var_path::{Path, Step};
+use var_values::{Mark, push_value};
+
+/// A text, or the mark in its place. Behind the end of an array there is no text.
+fn shown_of(past: bool, mark: Option<Mark>, text: Text) -> Shown
+    ensures { result ≡ shown_by past mark text }
+{
+    match mark {
+        Some(mark) => Shown::Marked(mark),
+        None => {
+            if past {
+                Shown::Marked(Mark::OutsideArray)
+            } else {
+                Shown::Text(text)
+            }
+        }
+    }
+}
+
+/// What is shown of a part.
+fn shown_part<'r, 'a>(
+    alloc: Global,
+    units: &'r Units<'a>,
+    view: &FrameView<'_>,
+    part: &Part<'r, 'a>,
+) -> Result<Shown, NoMemory>
+    ensures { IfOk result (λ shown.
+        shown ≡ shown_as (definitions.part_text units.now view.now.memory part.now)) }
+{
+    let mut text = Text::new(alloc);
+    let mark = push_value(alloc, &mut text, units, view, part.typed(), &part.place())?;
+    Ok(shown_of(part.is_past(), mark, text))
+}
+
+/// What is shown behind steps from a variable.
+#[tactic(auto, unfolding(crate::specs::PathShown::steps_text))]
+fn shown_behind<'r, 'a>(
+    alloc: Global,
+    frame: &Frame<'_, 'r, '_, '_, 'a>,
+    steps: &[Step<'_>],
+    variable: &Standing<'r, 'a>,
+) -> Result<Shown, NoMemory>
+    ensures { IfOk result (λ shown.
+        shown ≡ shown_as (definitions.steps_text frame.now steps.now variable.now)) }
+{
+    let units = frame.units();
+    let source = source_of(alloc, frame, variable)?;
+    let typed = type_of(units, variable.entry().attributes.as_slice());
+    let reached = walk(units, frame.view(), steps, typed, source)?;
+    match reached {
+        Ok(part) => shown_part(alloc, units, frame.view(), &part),
+        Err(mark) => Ok(Shown::Marked(mark)),
+    }
+}
+
+/// What is shown of the variable that a path names, or of the part of it that is behind the path's
+/// steps.
+///
+/// # Errors
+///
+/// Want of memory also where the steps lead 2^118 bytes from where a variable, or what a pointer
+/// leads to, begins: millions of steps do.
+#[tactic(auto, unfolding(crate::specs::PathShown::path_shown))]
+pub fn value_of<'r, 'a>(
+    alloc: Global,
+    frame: &Frame<'_, 'r, '_, '_, 'a>,
+    path: &Path<'_>,
+) -> Result<Shown, NoMemory>
+    ensures { IfOk result (λ shown. shown ≡ definitions.path_shown frame.now path.now) }
+{
+    let name = path.name.as_slice();
+    let variable = chosen(
+        alloc,
+        frame.sections(),
+        frame.units(),
+        frame.address(),
+        name,
+    )?;
+    match variable {
+        Some(variable) => shown_behind(alloc, frame, path.steps.as_slice(), &variable),
+        None => Ok(Shown::NoVariable),
+    }
+}

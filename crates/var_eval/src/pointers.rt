@@ -1,0 +1,62 @@
+//! Steps along pointers and references (DWARF 4 section 5.2).
+
+ghost use Rattle.std.specs.Prelude.{◌≡◌, ◌<◌, ◌^◌, IfOk};
+ghost use Rattle.var_values.specs.Bytes.{number_at as the_number};
+ghost use Rattle.var_eval.specs.Steps as steps;
+ghost use Rattle.var_eval.specs.inner.Told.{Tells};
+
+use crate::meeting::meet;
+use crate::part::Part;
+use crate::spot::Spot;
+use crate::stop::Stop;
+use dwarf_expr::{FrameView, PiecePlace};
+use dwarf_info::Units;
+use dwarf_types::{Class, class_of, type_of};
+use var_values::{Mark, Source, number_at};
+
+/// Where an address leads that was read.
+fn at_address(past: bool, address: Result<u128, Mark>) -> Source
+    requires { IfOk address (λ a. a < 2 ^ 32) }
+    ensures { result ≡ steps.at_address past address }
+{
+    match address {
+        Ok(address) => {
+            if past {
+                Source::Lost(Mark::OutsideArray)
+            } else {
+                Source::Single(PiecePlace::Address(address as u32))
+            }
+        }
+        Err(mark) => Source::Lost(mark),
+    }
+}
+
+/// Where the pointer leads that stands there.
+#[tactic(auto, unfolding(crate::specs::Steps::pointed))]
+pub fn pointed(view: &FrameView<'_>, spot: &Spot, past: bool) -> Source
+    ensures { result ≡ steps.pointed view.now.memory spot.now past }
+{
+    let place = spot.place();
+    let address = number_at(view, place.source, place.offset, 4);
+    at_address(past, address)
+}
+
+/// What a pointer or a reference leads to.
+#[tactic(auto, using(crate::proofs::Stops::stopped), unfolding(crate::specs::Steps::pointer_step))]
+pub fn pointer_step<'r, 'a>(
+    units: &'r Units<'a>,
+    view: &FrameView<'_>,
+    part: Part<'r, 'a>,
+) -> Result<Part<'r, 'a>, Stop>
+    ensures { Tells result (steps.pointer_step units.now view.now.memory part.entry) }
+{
+    let Part { typed, spot, past } = part;
+    let met = meet(units, typed, spot.place().bits)?;
+    match class_of(met.standing.entry().tag) {
+        Class::Pointing => {
+            let to = type_of(units, met.standing.entry().attributes.as_slice());
+            Ok(Part::whole(to, pointed(view, &spot, past)))
+        }
+        _ => Err(Stop::Marked(Mark::UnsupportedType)),
+    }
+}

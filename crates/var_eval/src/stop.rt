@@ -1,0 +1,11 @@
+//! Why steps lead no further.
+
+use var_values::Mark;
+
+#[derive(Clone, Copy, Debug, PartialEq, Eq)]
+pub enum Stop {
+    /// A step does not fit, for this reason.
+    Marked(Mark),
+    /// So far from the source that sums of offsets may not have 128 bits.
+    TooFar,
+}

@@ -1,0 +1,53 @@
+use Rattle.std.proofs.Common.{◌≡◌, ◌+◌, ◌*◌, ◌++◌, drop}
+use Rattle.std.specs.Prelude.{map, filter, reverse, codes}
+use Rattle.dwarf_entries.specs.Standing.{is_child}
+use Rattle.dwarf_entries.specs.Tags.{tag_member}
+use Rattle.var_values.specs.Values.{value_text, member_text, braced}
+use Rattle.var_values.specs.inner.Parts.{joined, element_text}
+use Rattle.var_values.specs.inner.Odometer.{AreSound, rows_left, rows_text, extent}
+use Rattle.var_values.proofs.values.+values.Given as goal
+
+abbrev pub decreases-push_within : goal.decreases-push_within
+decreases-push_within l = 8 * l.most + 1
+
+abbrev pub decreases-push_passed : goal.decreases-push_passed
+decreases-push_passed l = 8 * l.most
+
+abbrev pub decreases-push_sized : goal.decreases-push_sized
+decreases-push_sized l = 8 * l.further + 7
+
+abbrev pub decreases-push_content : goal.decreases-push_content
+decreases-push_content l = 8 * l.further + 6
+
+abbrev pub decreases-push_members : goal.decreases-push_members
+decreases-push_members l = 8 * l.further + 5
+
+abbrev pub decreases-push_array : goal.decreases-push_array
+decreases-push_array l = 8 * l.further + 5
+
+abbrev pub decreases-push_rows : goal.decreases-push_rows
+decreases-push_rows l = 8 * l.further + 4
+
+abbrev pub decreases-push_member : goal.decreases-push_member
+decreases-push_member l = 8 * l.further + 4
+
+abbrev pub decreases-push_member_value : goal.decreases-push_member_value
+decreases-push_member_value l = 8 * l.further + 3
+
+abbrev pub decreases-push_in_place : goal.decreases-push_in_place
+decreases-push_in_place l = 8 * l.most + 2
+
+abbrev pub invariant-push_members-loop-entry : goal.invariant-push_members-loop-entry
+invariant-push_members-loop-entry l =
+    l.text ++ (joined l.is_first (map (member_text l.context.units.now (value_text l.context.units.now l.context.view.now.memory l.further) l.place) (filter (is_child l.depth tag_member) (drop l.entry-index l.entries))) ++ codes "}")
+    ≡ l.fn.text ++ braced (map (member_text l.context.units.now (value_text l.context.units.now l.context.view.now.memory l.further) l.place) (filter (is_child l.depth tag_member) l.entries))
+
+abbrev pub invariant-push_rows-elements : goal.invariant-push_rows-elements
+invariant-push_rows-elements l = record {
+  sound : AreSound l.rows;
+  rest : l.text ++ rows_left (element_text l.context.units.now l.context.view.now.memory l.further l.element l.place) l.rows
+      ≡ l.fn.text ++ rows_text (element_text l.context.units.now l.context.view.now.memory l.further l.element l.place) (reverse l.fn.levels) 0;
+}
+
+abbrev pub decreases-push_rows-elements : goal.decreases-push_rows-elements
+decreases-push_rows-elements l = extent l.rows

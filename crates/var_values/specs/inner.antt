@@ -1,0 +1,5 @@
+pub mod Wide
+pub mod Parts
+pub mod Close
+pub mod Scalar
+pub mod Odometer

@@ -1,0 +1,110 @@
+-- What is left to write of the rows of an array, some of which are open. Offsets count from the start of the array.
+use Rattle.std.specs.Prelude.{ℕ, ◌+◌, ◌-◌, ◌*◌, ◌^◌, ◌<◌, ◌≤◌, nat_lt, if◌then◌else◌, min, List, [], ◌∷◌, ◌++◌, length, map, reverse, Option, Some, None, unwrap_or, codes}
+use Rattle.std.specs.List.{flat_map, range_with_len}
+use Rattle.var_values.specs.Values.{braced, dots, shown_elements, row_size}
+use Rattle.var_values.specs.declared.levels.Level.{Level}
+use Rattle.var_values.specs.declared.levels.OpenRow.{OpenRow}
+use Rattle.var_values.specs.declared.levels.Step.{Step}
+use Rattle.var_values.specs.declared.levels.Step.TheVariants.{On, Element, End}
+use Rattle.var_values.specs.declared.levels.Rows.{Rows}
+
+abbrev pub level_of : Option ℕ → ℕ → Level
+level_of c step = record { count = unwrap_or c 0; step = step }
+
+-- the levels of an array with these counts, the outermost first
+abbrev pub levels : List (Option ℕ) → ℕ → List Level
+levels [] size = []
+levels (c ∷ cs) size = level_of c (row_size cs size) ∷ levels cs size
+
+abbrev pub shown : ℕ → ℕ
+shown n = min n shown_elements
+
+-- the text of the rows of these levels at an offset, where `item` is of the innermost elements
+unfoldable pub rows_text : (ℕ → List ℕ) → List Level → ℕ → List ℕ
+rows_text item [] z = item z
+rows_text item (l ∷ ls) z = braced (map (λ i. rows_text item ls (z + i * l.step)) (range_with_len 0 (shown l.count)) ++ dots l.count)
+
+-- what stands behind the elements before number i of n
+unfoldable pub later : (ℕ → List ℕ) → ℕ → ℕ → List ℕ
+later text i n = flat_map (λ y. codes ", " ++ y) (map text (range_with_len i (shown n - i)) ++ dots n) ++ codes "}"
+
+abbrev pub ending : ℕ → List ℕ
+ending n = (if nat_lt shown_elements n then codes ", ..." else []) ++ codes "}"
+
+abbrev pub row_later : (ℕ → List ℕ) → OpenRow → List Level → List ℕ
+row_later item r ls = later (λ i. rows_text item ls (r.start + i * r.level.step)) r.next r.level.count
+
+-- behind an element of the innermost open row: the open rows are the innermost first, and the levels are those inside of it
+unfoldable pub behind : (ℕ → List ℕ) → List OpenRow → List Level → List ℕ
+behind item [] ls = []
+behind item (r ∷ rs) ls = row_later item r ls ++ behind item rs (r.level ∷ ls)
+
+abbrev pub pending_text : (ℕ → List ℕ) → Option ℕ → List Level → List ℕ
+pending_text item None ls = []
+pending_text item (Some z) ls = rows_text item ls z
+
+abbrev pub left_at : (ℕ → List ℕ) → Option ℕ → List OpenRow → List Level → List ℕ
+left_at item pending rs ls = pending_text item pending ls ++ behind item rs ls
+
+-- all that is left; the stacks have their top at the end
+unfoldable pub left : (ℕ → List ℕ) → Option ℕ → List OpenRow → List Level → List ℕ
+left item pending rows closed = left_at item pending (reverse rows) (reverse closed)
+
+abbrev pub row : Level → ℕ → ℕ → OpenRow
+row l start next = record { level = l; start = start; next = next }
+
+-- ---- offsets
+
+abbrev pub whole : List Level → ℕ
+whole [] = 0
+whole (l ∷ ls) = l.count * l.step
+
+abbrev pub AreNested : List Level → Type 0
+AreNested [] = Unit {0}
+AreNested (l ∷ ls) = (whole ls ≤ l.step) × AreNested ls
+
+abbrev pub AreOpen : List OpenRow → List Level → Type 0
+AreOpen [] ls = AreNested ls
+AreOpen (r ∷ rs) ls = (r.start + r.level.count * r.level.step < 2 ^ 64) × AreOpen rs (r.level ∷ ls)
+
+abbrev pub IsPending : Option ℕ → List Level → Type 0
+IsPending None ls = Unit {0}
+IsPending (Some z) ls = z + whole ls < 2 ^ 64
+
+pub record IsSoundAt (pending : Option ℕ) (rs : List OpenRow) (ls : List Level) : Type 0 where
+  pub rows : AreOpen rs ls
+  pub next : IsPending pending ls
+
+unfoldable pub IsSound : Option ℕ → List OpenRow → List Level → Type 0
+IsSound pending rows closed = IsSoundAt pending (reverse rows) (reverse closed)
+
+-- ---- steps
+
+abbrev pub AreSound : Rows → Type 0
+AreSound r = IsSound r.pending r.begun r.closed
+
+abbrev pub rows_left : (ℕ → List ℕ) → Rows → List ℕ
+rows_left item r = left item r.pending r.begun r.closed
+
+-- what is left behind a step: where an element is to be written, it is left too
+abbrev pub step_left : (ℕ → List ℕ) → Step → Rows → List ℕ
+step_left item On r = rows_left item r
+step_left item (Element z) r = item z ++ rows_left item r
+step_left item End r = []
+
+abbrev pub bit : Option ℕ → ℕ
+bit None = 0
+bit (Some z) = 1
+
+-- how much is left to write, with elements without a text
+abbrev pub extent : Rows → ℕ
+extent r = 2 * length (rows_left (λ z. []) r) + bit r.pending
+
+abbrev pub Falls : Step → Rows → Rows → Type 0
+Falls On old new = extent new < extent old
+Falls (Element z) old new = extent new < extent old
+Falls End old new = Unit {0}
+
+abbrev pub step_of : Option ℕ → Step
+step_of None = End
+step_of (Some z) = Element z

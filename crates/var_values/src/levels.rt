@@ -1,0 +1,44 @@
+//! The levels of arrays of several subranges (DWARF 4 section 5.4).
+
+use pm_text::Items;
+
+/// A subrange of an array: rows, or the innermost elements.
+#[derive(Clone, Copy, Debug, Drop)]
+pub struct Level {
+    pub count: u128,
+    /// The size of one of them in bytes.
+    pub step: u64,
+}
+
+/// A row of which some elements are written.
+#[derive(Clone, Copy, Debug, Drop)]
+pub struct OpenRow {
+    pub level: Level,
+    /// In bytes from the start of the array on.
+    pub start: u64,
+    /// The number of the element behind the one that was begun last.
+    pub next: u64,
+}
+
+/// What a step through the rows of an array came to.
+#[derive(Clone, Copy, Debug, Drop)]
+pub enum Step {
+    /// There are more steps.
+    On,
+    /// An innermost element is to be written, which stands so many bytes from the start of the
+    /// array on.
+    Element(u64),
+    /// All is written.
+    End,
+}
+
+/// What is left to write of the rows of an array.
+#[derive(Drop)]
+pub struct Rows {
+    /// The offset of what is to be written next. None behind an element.
+    pub pending: Option<u64>,
+    /// Rows of which some elements are written, the innermost last.
+    pub begun: Items<OpenRow>,
+    /// The levels inside of these, the outermost last.
+    pub closed: Items<Level>,
+}

@@ -1,0 +1,82 @@
+//! Where members stand (DWARF 4 section 5.5.6).
+
+ghost use Rattle.std.specs.Prelude.{ℕ, ◌≡◌, suc, IfSome};
+ghost use Rattle.dwarf_info.specs.Attributes.{as_number, attribute, valued};
+ghost use Rattle.dwarf_entries.specs.Names.{as_natural, at_bit_size, at_data_bit_offset, at_data_member_location};
+ghost use Rattle.var_values.specs.calls.Near.{IsNear};
+ghost use Rattle.var_values.specs.Members as members;
+ghost use Rattle.var_values.specs.inner.Close.{IsClose};
+
+use crate::bits::Bits;
+use crate::place::Place;
+use dwarf_entries::names::{BIT_SIZE, DATA_BIT_OFFSET, DATA_MEMBER_LOCATION};
+use dwarf_entries::{attribute, natural};
+use dwarf_info::{AttrValue, Entry};
+
+/// A constant in bytes, with its sign.
+fn distance(value: &AttrValue<'_>) -> Option<i128>
+    ensures is { result ≡ as_number value.now }
+    ensures close { IfSome result IsClose }
+{
+    match value {
+        AttrValue::Constant(number) => Some(i128::from(*number)),
+        AttrValue::Signed(number) => Some(i128::from(*number)),
+        _ => None,
+    }
+}
+
+/// The place of a member that is no bit-field.
+fn at_location<'s>(place: &Place<'s>, entry: &Entry<'_>) -> Option<Place<'s>>
+    requires near { IsNear 1 place.now.offset }
+    ensures is { result ≡ members.at_location place.now
+        (attribute at_data_member_location entry.now.attributes) }
+    ensures near { (n : ℕ) → IsNear (suc n) place.now.offset
+        → IfSome result (λ p. IsNear n p.offset) }
+{
+    let Some(location) = attribute(entry.attributes.as_slice(), DATA_MEMBER_LOCATION) else {
+        return Some(Place {
+            source: place.source,
+            offset: place.offset,
+            bits: place.bits,
+        });
+    };
+    let further = distance(location)?;
+    Some(Place {
+        source: place.source,
+        offset: place.offset + further,
+        bits: None,
+    })
+}
+
+/// The place of a bit-field.
+fn at_bits<'s>(place: &Place<'s>, entry: &Entry<'_>) -> Option<Place<'s>>
+    ensures is { result ≡ members.at_bits place.now
+        (valued as_natural at_bit_size entry.now.attributes)
+        (valued as_natural at_data_bit_offset entry.now.attributes) }
+    ensures near { (n : ℕ) → IsNear (suc n) place.now.offset
+        → IfSome result (λ p. IsNear n p.offset) }
+{
+    let attributes = entry.attributes.as_slice();
+    let count = natural(attributes, BIT_SIZE)?;
+    let first = natural(attributes, DATA_BIT_OFFSET)?;
+    Some(Place {
+        source: place.source,
+        offset: place.offset,
+        bits: Some(Bits { first, count }),
+    })
+}
+
+/// Where a member of a structure stands that stands at a place. None where the member is of another
+/// form.
+#[tactic(auto, unfolding(crate::specs::Members::member_at))]
+pub fn member_at<'s>(place: &Place<'s>, entry: &Entry<'_>) -> Option<Place<'s>>
+    requires near { IsNear 1 place.now.offset }
+    ensures is { result ≡ members.member_at place.now entry.now }
+    ensures near { (n : ℕ) → IsNear (suc n) place.now.offset
+        → IfSome result (λ p. IsNear n p.offset) }
+{
+    match attribute(entry.attributes.as_slice(), BIT_SIZE) {
+        Some(_) => at_bits(place, entry),
+        None => at_location(place, entry),
+    }
+}

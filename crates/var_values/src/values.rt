@@ -1,0 +1,375 @@
+//! Texts of values, by recursion on their types (DWARF 4 sections 5.4, 5.5 and 5.7).
+
+ghost use Rattle.std.specs.Prelude.{◌≡◌, ◌≢◌, ◌<◌, ◌^◌, ◌++◌, suc, true, drop, map, reverse, Some, IsSome, OnOk, IfOk};
+ghost use Rattle.dwarf_entries.specs.Origins.{longest_chain};
+ghost use Rattle.dwarf_entries.specs.Standing.{children_tagged};
+ghost use Rattle.dwarf_entries.specs.Tags.{tag_member};
+ghost use Rattle.dwarf_types.specs.Types.{class_at, type_of as type_at};
+ghost use Rattle.dwarf_types.specs.Counts.{counts};
+ghost use Rattle.dwarf_types.specs.Sizes as sizes;
+ghost use Rattle.dwarf_types.specs.declared.behind.Typed.TheVariants as typeds;
+ghost use Rattle.dwarf_types.specs.declared.class.Class.TheVariants as classes;
+ghost use Rattle.var_values.specs.calls.Near.{IsNear};
+ghost use Rattle.var_values.specs.Members.{member_place};
+ghost use Rattle.var_values.specs.Values as values;
+ghost use Rattle.var_values.specs.Values.{value_text, in_place};
+ghost use Rattle.var_values.specs.inner.Odometer as odometer;
+ghost use Rattle.var_values.specs.calls.Told.{Tells};
+ghost use Rattle.var_values.specs.inner.Parts.{element_text, inner_size, separator};
+
+use crate::levels::{Level, Rows};
+use crate::members::member_at;
+use crate::place::Place;
+use crate::scalars::push_scalar;
+use crate::subranges::levels_of;
+use crate::suits::suits;
+use crate::{Mark, Source};
+use causes::NoMemory;
+use dwarf_entries::tags::MEMBER;
+use dwarf_entries::{LONGEST_CHAIN, Standing, is_child, name_or_empty};
+use dwarf_expr::FrameView;
+use dwarf_info::{Entry, Units};
+use dwarf_types::{Class, Typed, class_of, type_of, type_size};
+use pm_text::{Items, Text};
+use std::alloc::Global;
+
+/// What all values of a variable share.
+#[derive(Drop)]
+struct Context<'r, 'w, 'v, 'a> {
+    alloc: Global,
+    units: &'r Units<'a>,
+    view: &'w FrameView<'v>,
+}
+
+/// The class of a type.
+fn class_at(standing: &Standing<'_, '_>) -> Class
+    ensures { result ≡ class_at standing.now }
+{
+    class_of(standing.entry().tag)
+}
+
+/// The type that a type is another name of, or that its elements have.
+fn inner_type<'r, 'a>(units: &'r Units<'a>, standing: &Standing<'r, 'a>) -> Typed<'r, 'a>
+    ensures { result ≡ type_at units.now standing.now.entry.attributes }
+{
+    type_of(units, standing.entry().attributes.as_slice())
+}
+
+/// The levels of an array without its first so many subranges, the outermost last.
+fn array_levels<'r, 'a>(
+    alloc: Global,
+    units: &'r Units<'a>,
+    standing: &Standing<'r, 'a>,
+    skipped: usize,
+) -> Result<Items<Level>, NoMemory>
+    requires class { class_at standing.now ≡ classes.Array }
+    requires size { IsSome (sizes.type_size units.now (typeds.At standing.now skipped)) }
+    ensures levels { IfOk result (λ levels. reverse levels ≡ odometer.levels
+        (drop skipped (counts standing.now)) (inner_size units.now standing.now)) }
+    ensures nested { IfOk result (λ levels. odometer.AreNested (reverse levels)) }
+    ensures fits { IfOk result (λ levels. odometer.whole (reverse levels) < 2 ^ 64) }
+{
+    let size = type_size(units, &inner_type(units, standing)).unwrap_or(0);
+    let levels = levels_of(alloc, standing, skipped, size)?;
+    Ok(levels)
+}
+
+/// Appends the text of a value, or tells the mark in its place, where at most so many type entries
+/// follow each other.
+#[cycle(values)]
+fn push_within<'r, 'w, 'v, 'a>(
+    text: &mut Text,
+    context: &Context<'r, 'w, 'v, 'a>,
+    most: u32,
+    typed: &Typed<'r, 'a>,
+    place: &Place<'_>,
+) -> Result<Option<Mark>, NoMemory>
+    requires near { IsNear most place.now.offset }
+    ensures { IfOk result (λ mark. Tells (value_text context.now.units.now
+        context.now.view.now.memory most typed.now place.now) mark text.old text.new) }
+{
+    match typed {
+        Typed::Nothing => Ok(Some(Mark::UnsupportedType)),
+        Typed::At { standing, skipped } => {
+            if most == 0 {
+                return Ok(Some(Mark::TypeTooDeep));
+            }
+            match class_at(standing) {
+                Class::Passed => {
+                    let next = inner_type(context.units, standing);
+                    push_within(text, context, most - 1, &next, place)
+                }
+                _ => push_passed(text, context, most, typed, standing, *skipped, place),
+            }
+        }
+    }
+}
+
+/// Appends the text of a value, or tells the mark in its place, where no other type stands behind
+/// the type.
+#[cycle(values)]
+fn push_passed<'r, 'w, 'v, 'a>(
+    text: &mut Text,
+    context: &Context<'r, 'w, 'v, 'a>,
+    most: u32,
+    typed: &Typed<'r, 'a>,
+    standing: &Standing<'r, 'a>,
+    skipped: usize,
+    place: &Place<'_>,
+) -> Result<Option<Mark>, NoMemory>
+    requires some { 0 < most }
+    requires near { IsNear most place.now.offset }
+    requires typed { typed.now ≡ typeds.At standing.now skipped }
+    requires class { class_at standing.now ≢ classes.Passed }
+    ensures { IfOk result (λ mark. Tells (value_text context.now.units.now
+        context.now.view.now.memory most typed.now place.now) mark text.old text.new) }
+{
+    match type_size(context.units, typed) {
+        Some(size) => push_sized(text, context, most - 1, standing, skipped, size, place),
+        None => Ok(Some(Mark::UnsupportedType)),
+    }
+}
+
+/// Appends the text of a value of this size, or tells the mark in its place.
+#[cycle(values)]
+fn push_sized<'r, 'w, 'v, 'a>(
+    text: &mut Text,
+    context: &Context<'r, 'w, 'v, 'a>,
+    further: u32,
+    standing: &Standing<'r, 'a>,
+    skipped: usize,
+    size: u64,
+    place: &Place<'_>,
+) -> Result<Option<Mark>, NoMemory>
+    requires near { IsNear (suc further) place.now.offset }
+    requires size { sizes.type_size context.now.units.now (typeds.At standing.now skipped)
+        ≡ Some size }
+    ensures { IfOk result (λ mark. Tells (values.sized_text (Some size) context.now.units.now
+        context.now.view.now.memory
+        (value_text context.now.units.now context.now.view.now.memory further)
+        standing.now skipped place.now) mark text.old text.new) }
+{
+    if !suits(standing, place, size) {
+        return Ok(Some(Mark::UnsupportedType));
+    }
+    match place.source {
+        Source::Lost(mark) => Ok(Some(*mark)),
+        Source::Single(_) | Source::Pieces(_) => {
+            push_content(text, context, further, standing, skipped, size, place)
+        }
+    }
+}
+
+/// Appends the text of a value that is somewhere, or tells the mark in its place.
+#[cycle(values)]
+fn push_content<'r, 'w, 'v, 'a>(
+    text: &mut Text,
+    context: &Context<'r, 'w, 'v, 'a>,
+    further: u32,
+    standing: &Standing<'r, 'a>,
+    skipped: usize,
+    size: u64,
+    place: &Place<'_>,
+) -> Result<Option<Mark>, NoMemory>
+    requires near { IsNear (suc further) place.now.offset }
+    requires size { sizes.type_size context.now.units.now (typeds.At standing.now skipped)
+        ≡ Some size }
+    requires suits { values.suits standing.now place.now size ≡ true }
+    ensures { IfOk result (λ mark. Tells (values.content_as (class_at standing.now)
+        context.now.units.now
+        context.now.view.now.memory
+        (value_text context.now.units.now context.now.view.now.memory further)
+        standing.now skipped size place.now) mark text.old text.new) }
+{
+    match class_at(standing) {
+        Class::Members => {
+            push_members(text, context, further, standing, place)?;
+            Ok(None)
+        }
+        Class::Array => push_array(text, context, further, standing, skipped, place),
+        _ => push_scalar(text, context.units, context.view, standing, size, place),
+    }
+}
+
+/// Appends the text of a value, or its mark.
+#[cycle(values)]
+fn push_in_place<'r, 'w, 'v, 'a>(
+    text: &mut Text,
+    context: &Context<'r, 'w, 'v, 'a>,
+    most: u32,
+    typed: &Typed<'r, 'a>,
+    place: &Place<'_>,
+) -> Result<(), NoMemory>
+    requires near { IsNear most place.now.offset }
+    ensures { OnOk result (text.new ≡ text.old ++ in_place (value_text context.now.units.now
+        context.now.view.now.memory most typed.now place.now)) }
+{
+    match push_within(text, context, most, typed, place)? {
+        Some(mark) => text.push_str(mark.text()),
+        None => Ok(()),
+    }
+}
+
+/// Appends the value of a member, or its mark.
+#[cycle(values)]
+fn push_member_value<'r, 'w, 'v, 'a>(
+    text: &mut Text,
+    context: &Context<'r, 'w, 'v, 'a>,
+    further: u32,
+    entry: &'r Entry<'a>,
+    place: &Place<'_>,
+) -> Result<(), NoMemory>
+    requires near { IsNear (suc further) place.now.offset }
+    ensures { OnOk result (text.new ≡ text.old ++ in_place (value_text context.now.units.now
+        context.now.view.now.memory further (type_at context.now.units.now entry.now.attributes)
+        (member_place place.now entry.now))) }
+{
+    let typed = type_of(context.units, entry.attributes.as_slice());
+    if let Some(member) = member_at(place, entry) {
+        return push_in_place(text, context, further, &typed, &member);
+    }
+    let nowhere = Source::Lost(Mark::UnsupportedType);
+    let member = Place {
+        source: &nowhere,
+        offset: place.offset,
+        bits: None,
+    };
+    push_in_place(text, context, further, &typed, &member)
+}
+
+/// Appends a member: its name and its value.
+#[cycle(values)]
+fn push_member<'r, 'w, 'v, 'a>(
+    text: &mut Text,
+    context: &Context<'r, 'w, 'v, 'a>,
+    further: u32,
+    entry: &'r Entry<'a>,
+    place: &Place<'_>,
+) -> Result<(), NoMemory>
+    requires near { IsNear (suc further) place.now.offset }
+    ensures { OnOk result (text.new ≡ text.old ++ values.member_text context.now.units.now
+        (value_text context.now.units.now context.now.view.now.memory further)
+        place.now entry.now) }
+{
+    text.push_plain(name_or_empty(context.units, entry.attributes.as_slice()))?;
+    text.push_str(" = ")?;
+    push_member_value(text, context, further, entry, place)
+}
+
+/// Appends what stands between members: nothing in front of the first one.
+fn push_separator(text: &mut Text, is_first: bool) -> Result<(), NoMemory>
+    ensures { OnOk result (text.new ≡ text.old ++ separator is_first) }
+{
+    if is_first {
+        Ok(())
+    } else {
+        text.push_str(", ")
+    }
+}
+
+/// Appends the members of a structure.
+#[cycle(values)]
+fn push_members<'r, 'w, 'v, 'a>(
+    text: &mut Text,
+    context: &Context<'r, 'w, 'v, 'a>,
+    further: u32,
+    standing: &Standing<'r, 'a>,
+    place: &Place<'_>,
+) -> Result<(), NoMemory>
+    requires near { IsNear (suc further) place.now.offset }
+    ensures { OnOk result (text.new ≡ text.old ++ values.braced (map
+        (values.member_text context.now.units.now
+        (value_text context.now.units.now context.now.view.now.memory further) place.now)
+        (children_tagged tag_member standing.now))) }
+{
+    text.push_str("{")?;
+    let depth = standing.entry().depth;
+    let entries = standing.inside();
+    let mut is_first = true;
+    for entry in entries {
+        if is_child(entry, depth, MEMBER) {
+            push_separator(text, is_first)?;
+            push_member(text, context, further, entry, place)?;
+            is_first = false;
+        }
+    }
+    text.push_str("}")
+}
+
+/// Appends the rows of an array of these levels, the outermost last.
+#[cycle(values)]
+fn push_rows<'r, 'w, 'v, 'a>(
+    text: &mut Text,
+    context: &Context<'r, 'w, 'v, 'a>,
+    further: u32,
+    element: &Typed<'r, 'a>,
+    place: &Place<'_>,
+    levels: Items<Level>,
+) -> Result<(), NoMemory>
+    requires near { IsNear (suc further) place.now.offset }
+    requires nested { odometer.AreNested (reverse levels) }
+    requires fits { odometer.whole (reverse levels) < 2 ^ 64 }
+    ensures { OnOk result (text.new ≡ text.old ++ odometer.rows_text
+        (element_text context.now.units.now
+        context.now.view.now.memory further element.now place.now) (reverse levels) 0) }
+{
+    let mut rows = Rows::new(context.alloc, levels);
+    'elements: loop {
+        let Some(at) = rows.next(text)? else {
+            return Ok(());
+        };
+        let there = Place {
+            source: place.source,
+            offset: place.offset + i128::from(at),
+            bits: None,
+        };
+        push_in_place(text, context, further, element, &there)?;
+    }
+}
+
+/// Appends the text of an array without its first so many subranges, or tells the mark in its
+/// place.
+#[cycle(values)]
+fn push_array<'r, 'w, 'v, 'a>(
+    text: &mut Text,
+    context: &Context<'r, 'w, 'v, 'a>,
+    further: u32,
+    standing: &Standing<'r, 'a>,
+    skipped: usize,
+    place: &Place<'_>,
+) -> Result<Option<Mark>, NoMemory>
+    requires near { IsNear (suc further) place.now.offset }
+    requires class { class_at standing.now ≡ classes.Array }
+    requires size { IsSome (sizes.type_size context.now.units.now
+        (typeds.At standing.now skipped)) }
+    ensures { IfOk result (λ mark. Tells (values.content_as classes.Array context.now.units.now
+        context.now.view.now.memory
+        (value_text context.now.units.now context.now.view.now.memory further)
+        standing.now skipped 0 place.now) mark text.old text.new) }
+{
+    let levels = array_levels(context.alloc, context.units, standing, skipped)?;
+    let element = inner_type(context.units, standing);
+    if levels.is_empty() {
+        return push_within(text, context, further, &element, place);
+    }
+    push_rows(text, context, further, &element, place, levels)?;
+    Ok(None)
+}
+
+/// Appends the text of a value of a type at a place, or appends nothing and tells the mark in its
+/// place.
+pub fn push_value<'r, 'a>(
+    alloc: Global,
+    text: &mut Text,
+    units: &'r Units<'a>,
+    view: &FrameView<'_>,
+    typed: &Typed<'r, 'a>,
+    place: &Place<'_>,
+) -> Result<Option<Mark>, NoMemory>
+    requires near { IsNear 16 place.now.offset }
+    ensures { IfOk result (λ mark. Tells (value_text units.now view.now.memory longest_chain
+        typed.now place.now) mark text.old text.new) }
+{
+    let context = Context { alloc, units, view };
+    push_within(text, &context, LONGEST_CHAIN, typed, place)
+}

@@ -1,0 +1,23 @@
+use Rattle.std.proofs.Common.{arith}
+use Rattle.std.proofs.lemmas.Result.{err_from_is_err_and}
+use Rattle.wasm_bytes.proofs.Loops.{in_front, one_more, no_more, left_fails, count_on, count_fails, count_done}
+use Rattle.wasm_decode.proofs.collect.entries.Goals as goal
+
+pub returns-in_err-read-clause-item : goal.returns-in_err-read-clause-item
+returns-in_err-read-clause-item g c =
+    let p = err_from_is_err_and c.from_residual.result c.from_residual.ensures.1 in
+    let failing = count_fails g.E.Entry.item c.args.count c.loop.counter c.loop.input c.in_err-read.field-0.0 c.loop-test.true c.in_err-read.ensures.item in
+    rw (p.1, p.2) (left_fails _ _ (in_front c.loop.items.items) c.in_err-read.field-0.0 c.loop.invariant.so_far failing)
+
+pub loop-preserved : goal.loop-preserved
+loop-preserved g c =
+    let on = count_on g.E.Entry.item c.args.count c.loop.counter c.loop.input c.read.new.input c.in_ok-read.field-0 c.loop-test.true c.in_ok-read.ensures.item in
+    record {
+      so_far = rw c.in_ok-push.ensures.items (one_more _ _ c.loop.items.items c.in_ok-read.field-0 (rw on at c.loop.invariant.so_far));
+      stays = grind arith;
+    }
+
+pub returns-clause-item : goal.returns-clause-item
+returns-clause-item g c =
+    let done = count_done g.E.Entry.item c.args.count c.loop.counter c.loop.input c.loop-test.false in
+    rw c.from_vec.ensures (no_more _ c.loop.items.items c.loop.input (rw done at c.loop.invariant.so_far))
