@@ -1,3 +1,0 @@
-pub mod JumpLaws
-pub mod NodeLaws
-pub mod PointLaws

@@ -1,5 +1,0 @@
-use Rattle.body_rewrite.proofs.NodeLaws.{block_begun}
-use Rattle.body_rewrite.proofs.instructions.write_block.Goals as goal
-
-pub returns : goal.returns
-returns c = λ C o. block_begun C o c.args.gives c.args.walk.now c.open.new.self c.in_ok-open.ensures c.in_ok-open_block.ensures

@@ -1,5 +1,0 @@
-pub mod Shapes
-pub mod Steps
-pub mod Skips
-pub mod Arms
-pub mod Opens

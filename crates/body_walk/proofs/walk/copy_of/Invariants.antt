@@ -1,6 +1,0 @@
-use Rattle.std.proofs.Common.{◌≡◌, take}
-use Rattle.operand_spill.specs.Places.{from_top}
-use Rattle.body_walk.proofs.walk.copy_of.Given as goal
-
-abbrev pub invariant-loop-operand : goal.invariant-loop-operand
-invariant-loop-operand l = l.copy ≡ from_top (take l.operand-index l.operands)

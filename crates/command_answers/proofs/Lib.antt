@@ -1,4 +1,0 @@
-mod Loads
-pub mod OneOutcome
-pub mod Unless
-pub mod Reading

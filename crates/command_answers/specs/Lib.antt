@@ -1,9 +1,0 @@
-pub mod Codes
-pub mod Input
-pub mod Inputs
-pub mod Loaded
-pub mod Loading
-pub mod Refusal
-pub mod Texts
-pub mod Told
-pub mod Values

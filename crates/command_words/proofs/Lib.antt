@@ -1,3 +1,0 @@
-mod DistinctLaws
-mod PartsLaws
-mod ReadingLaws

@@ -1,6 +1,0 @@
-use Rattle.std.proofs.Common.{◌≡◌, ◌++◌, map, take}
-use Rattle.std.specs.String.{string_bytes}
-use Rattle.command_words.proofs.reading.push_words.Given as goal
-
-abbrev pub invariant-loop-word : goal.invariant-loop-word
-invariant-loop-word l = map (λ w. w.now) l.plain.items ≡ map (λ w. w.now) l.fn.plain.items ++ map string_bytes (take l.word-index l.words)

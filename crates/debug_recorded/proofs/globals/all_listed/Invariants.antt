@@ -1,7 +1,0 @@
-use Rattle.std.proofs.Common.{◌≡◌, ◌++◌, drop}
-use Rattle.std.specs.Prelude.{filter_map}
-use Rattle.debug_recorded.specs.Recorded.{listed}
-use Rattle.debug_recorded.proofs.globals.all_listed.Given as goal
-
-abbrev pub invariant-loop-index : goal.invariant-loop-index
-invariant-loop-index l = filter_map (listed l.globals) l.indices ≡ l.seens ++ filter_map (listed l.globals) (drop l.index-index l.indices)

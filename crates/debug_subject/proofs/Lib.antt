@@ -1,3 +1,0 @@
-pub mod Locals
-pub mod Small
-pub mod Operands

@@ -1,7 +1,0 @@
-use Rattle.std.proofs.Common.{◌≡◌, ◌++◌, drop}
-use Rattle.debug_frames.specs.Frames.{frame_text}
-use Rattle.debug_subject.proofs.texts.push_frames.Given as goal
-use Rattle.command_answers.specs.Values.{numbered}
-
-abbrev pub invariant-loop-i : goal.invariant-loop-i
-invariant-loop-i l = (l.symbolizer ≡ l.subject.information) × (l.out ++ numbered (frame_text l.subject.information l.subject.module_) l.i (drop l.i l.frames) ≡ l.fn.out ++ numbered (frame_text l.subject.information l.subject.module_) 0 l.frames)

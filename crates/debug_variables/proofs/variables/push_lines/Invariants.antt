@@ -1,7 +1,0 @@
-use Rattle.std.proofs.Common.{◌≡◌, ◌++◌, drop}
-use Rattle.std.specs.Prelude.{flat_map}
-use Rattle.debug_variables.specs.Variables.{variable_line}
-use Rattle.debug_variables.proofs.variables.push_lines.Given as goal
-
-abbrev pub invariant-loop-variable : goal.invariant-loop-variable
-invariant-loop-variable l = l.fn.out ++ flat_map (variable_line l.looks) l.variables ≡ l.out ++ flat_map (variable_line l.looks) (drop l.variable-index l.variables)

@@ -1,6 +1,0 @@
-use Rattle.std.proofs.Common.{◌≡◌, map, take}
-use Rattle.dump_write.specs.ImageBytes.{seen_of}
-use Rattle.dump_image.proofs.dump.all_seen.Given as goal
-
-abbrev pub invariant-loop-value : goal.invariant-loop-value
-invariant-loop-value l = l.out ≡ map seen_of (take l.value-index l.values)

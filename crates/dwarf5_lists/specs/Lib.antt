@@ -1,4 +1,0 @@
-pub mod Kinds
-pub mod Addresses
-pub mod Lists
-pub mod Grammar

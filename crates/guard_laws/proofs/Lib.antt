@@ -1,4 +1,0 @@
-pub mod Runs
-pub mod Helpers
-pub mod TypedGuards
-pub mod Verdicts

@@ -1,6 +1,0 @@
-use Rattle.std.proofs.Common.{drop}
-use Rattle.host_script.proofs.Served.{given_so_far}
-use Rattle.host_script.proofs.script_hosts.ScriptHosts.next.Goals as goal
-
-pub returns-clause-given : goal.returns-clause-given
-returns-clause-given c = given_so_far c.args.self.now.calls (drop c.args.self.now.first c.args.self.now.replies)

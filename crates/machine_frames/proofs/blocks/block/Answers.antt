@@ -1,8 +1,0 @@
-use Rattle.std.proofs.Common.{◌∙◌, sym, add-one}
-use Rattle.machine_frames.specs.Meets.{step_at}
-use Rattle.machine_frames.proofs.Points.{becomes}
-use Rattle.machine_frames.proofs.BlockLaws.{opened, block_meets}
-use Rattle.machine_frames.proofs.blocks.block.Goals as goal
-
-pub returns-in-Some : goal.returns-in-Some
-returns-in-Some c = λ x h r. becomes x c.open.result (step_at x) c.open.new.m (opened x c.args.m.now c.args.code.now h c.args.m.now.values c.in-Some.side.end c.args.t c.args.next) (rw (← c.carries.ensures) c.open.ensures) (block_meets x c.args.m.now c.args.code.now h c.args.t c.in-Some.side c.args.next r (sym c.in-Some.ensures) (c.requires ∙ add-one c.args.m.now.position))

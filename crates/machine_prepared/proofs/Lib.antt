@@ -1,4 +1,0 @@
-pub mod TreeLaws
-pub mod WordLaws
-pub mod NumberLaws
-pub mod ModuleLaws

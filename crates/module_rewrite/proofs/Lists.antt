@@ -1,1 +1,0 @@
--- Lists of types of different lengths.

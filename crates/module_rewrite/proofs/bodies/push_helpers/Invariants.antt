@@ -1,6 +1,0 @@
-use Rattle.std.proofs.Common.{take}
-use Rattle.module_rewrite.specs.inner.Adding.{Adds, helper_bodies}
-use Rattle.module_rewrite.proofs.bodies.push_helpers.Given as goal
-
-abbrev pub invariant-loop-ftype : goal.invariant-loop-ftype
-invariant-loop-ftype l = Adds (take l.ftype-index (helper_bodies l.numbers)) l.initial.out l.out

@@ -1,4 +1,0 @@
-//! How long the rewritten module is.
-#![tactic(auto)]
-
-pub mod laws;

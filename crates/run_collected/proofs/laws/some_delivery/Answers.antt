@@ -1,5 +1,0 @@
-use Rattle.run_collected.proofs.Deliveries.{delivery}
-use Rattle.run_collected.proofs.laws.some_delivery.Goals as goal
-
-pub returns : goal.returns
-returns c = (λ calls. (delivery calls).0, λ calls. (delivery calls).1)

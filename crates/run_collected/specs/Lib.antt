@@ -1,3 +1,0 @@
-pub mod Delivery
-pub mod Showing
-pub mod Told

@@ -1,5 +1,0 @@
-use Rattle.selftest_laws.proofs.Taken.{all_handed}
-use Rattle.selftest_laws.proofs.laws.rewritings_hand_over.Goals as goal
-
-pub returns : goal.returns
-returns c = all_handed

@@ -1,5 +1,0 @@
-use Rattle.slot_plan.specs.inner.Greatest.{IsGreatestUpTo}
-use Rattle.slot_plan.proofs.heights.greatest_height.Given as goal
-
-abbrev pub invariant-loop-op : goal.invariant-loop-op
-invariant-loop-op l = IsGreatestUpTo l.source l.func l.op l.most

@@ -1,6 +1,0 @@
-use Rattle.std.proofs.Common.{◌≡◌, ◌++◌, take}
-use Rattle.wasm_syntax.specs.Module.{declared_locals}
-use Rattle.slot_plan.proofs.locals.local_types.Given as goal
-
-abbrev pub invariant-loop-group : goal.invariant-loop-group
-invariant-loop-group l = l.types ≡ l.fn.params ++ declared_locals (take l.group-index l.groups)

@@ -1,9 +1,0 @@
-use Rattle.std.proofs.Common.{suc, sym, subst}
-use Rattle.operand_spill.proofs.Loads.{when_ok}
-use Rattle.slot_plan.specs.inner.Knowing.{Proceeds}
-use Rattle.slot_plan.proofs.Knowing.{know_block}
-use Rattle.slot_plan.proofs.places.open_block.Goals as goal
-
-pub returns : goal.returns
-returns c = λ C items whole pc at k b.
-    when_ok (λ e. subst (λ w. Proceeds C items whole (suc pc) w) (sym e) (know_block C items whole pc c.args.walk.now at c.args.gives b k)) c.open.result c.open.ensures

@@ -1,4 +1,0 @@
-mod Stops
-mod Places
-mod Rows
-mod Walks

@@ -1,3 +1,0 @@
-pub mod Chosen
-pub mod Steps
-pub mod inner

@@ -1,8 +1,0 @@
-use Rattle.var_texts.proofs.RowLaws.{new_sound, new_all}
-use Rattle.var_texts.proofs.levels.Rows.new.Goals as goal
-
-pub returns-clause-sound : goal.returns-clause-sound
-returns-clause-sound c = new_sound c.new.result c.args.levels c.new.ensures c.requires.nested c.requires.fits
-
-pub returns-clause-all : goal.returns-clause-all
-returns-clause-all c = λ item. new_all item c.new.result c.args.levels c.new.ensures

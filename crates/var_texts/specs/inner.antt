@@ -1,5 +1,0 @@
-pub mod Wide
-pub mod Parts
-pub mod Close
-pub mod Scalar
-pub mod Odometer
