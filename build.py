@@ -17,6 +17,8 @@ TOP = os.path.dirname(os.path.abspath(__file__))
 PROGRAM = "pm_main"
 PROVED = re.compile(r"rt: (\w+) (?:proved$|is kept: .* proved )")
 MINUTE = 60
+# What the proofs take from nothing, in minutes: of one processor, and of the longest chain of crates.
+PROCESSOR_MINUTES, CHAIN_MINUTES = 105, 25
 
 
 def listed():
@@ -52,7 +54,7 @@ def prove(copy, count):
 
     def tell():
         while not ended.wait(MINUTE):
-            print(f"pm: {len(proved)} of {count} crates are proved", file=sys.stderr, flush=True)
+            print(f"pm: {len(proved)} crates are proved, {count - len(proved)} are left", file=sys.stderr, flush=True)
 
     threading.Thread(target=tell, daemon=True).start()
     with open(f"{copy}/log", "w", encoding="utf-8") as log:
@@ -74,7 +76,9 @@ def main():
     os.makedirs(copy, exist_ok=True)
     with open(f"{copy}/lock", "w", encoding="utf-8") as lock:
         fcntl.flock(lock, fcntl.LOCK_EX)
-        print(f"pm: proving and building the program with {len(os.sched_getaffinity(0))} processors", file=sys.stderr, flush=True)
+        processors = len(os.sched_getaffinity(0))
+        minutes = max(PROCESSOR_MINUTES // processors, CHAIN_MINUTES)
+        print(f"pm: proving and building the program: some {minutes} minutes from nothing with {processors} processors", file=sys.stderr, flush=True)
         bring(copy, crates, lines)
         status, said = prove(copy, len(crates))
         if status:
@@ -85,4 +89,5 @@ def main():
     return 0
 
 
-sys.exit(main())
+if __name__ == "__main__":
+    sys.exit(main())

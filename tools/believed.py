@@ -1,9 +1,11 @@
 #!/usr/bin/env python3
-"""believed.py                  says where docs/DEFINITIONS.md and the tree disagree on what must be believed; status 1 where they do
+"""believed.py                  says where a definition stands in the wrong folder, and where docs/DEFINITIONS.md and the tree disagree; status 1 where so
 believed.py --list [ROOT..]  lists what must be believed for the contracts ROOT.. to say what they seem to say
-believed.py --inner [ROOT..] lists the files of specs/ of which they reach nothing: those may go to specs/inner/
 believed.py --names [ROOT..] lists the definitions too, each with what first led to it
 believed.py --commands       counts what must be believed of each command's answer
+
+A file of which something must be believed stands directly in a crate's specs/, and no other file does. What contracts on the way say stands in
+specs/calls/, what nobody outside the crate names in specs/inner/. The page has a row for each crate with its files, in a good order to read them.
 
 Run it at the top of a clone. A ROOT is a function's name, FILE:NAME, or FILE for all its `pub` functions;
 the default is post_mortem and rewriting_promises.
@@ -369,7 +371,7 @@ class Repository:
             for name, text in file.models.items():
                 if name in self.types[file.crate]:
                     self.types[file.crate][name].model = text
-        self.unknown, self.kit, self.passed = set(), set(), {}
+        self.unknown, self.kit = set(), set()
 
     def order(self):
         done = []
@@ -582,41 +584,9 @@ class Repository:
             visit(module)
         return sorted((m for m in done if m in modules), key=lambda m: (rank.get(m.split('.')[0], 999), done.index(m)))
 
-    def exports(self, crate):
-        """The names that a crate passes on: by `pub use`, and the modules that are open as a whole."""
-        if crate not in self.passed:
-            names, modules = set(), {''}
-            for file in (f for f in self.rust if f.crate == crate):
-                names |= {m for use in re.findall(r'\bpub use ([^;]*);', file.text) for m in re.findall(r'\w+', use)}
-            for file in sorted((f for f in self.rust if f.crate == crate), key=lambda f: len(f.module)):
-                if file.module in modules:
-                    modules |= {f'{file.module}::{m}'.strip(':') for m in re.findall(r'^pub mod (\w+)', file.text, re.M)}
-            self.passed[crate] = names, modules
-        return self.passed[crate]
-
-    def is_exported(self, file, name):
-        names, modules = self.exports(file.crate)
-        return name in names or file.module in modules
-
-    def cited(self):
-        """Files of specs/ by which `pub` functions cite them: module -> [(place, whether the crate exports it)], and what such clauses reach."""
-        places, things = defaultdict(set), []
-        for file in self.rust:
-            if file.test:
-                continue
-            texts = [(fn.name, c, fn.of) for fn in file.functions if fn.public for c in fn.clauses] + file.ghosts
-            for label, text, of in texts:
-                out = self.is_exported(file, of or label)
-                # the names of the file's own blocks count as the file's
-                for t in self.of_clause(text, file, file.crate):
-                    if isinstance(t, Definition):
-                        places[t.file.module].add((not out, f'{file.path}:{of + "::" if of else ""}{label}'))
-                        things.append(t)
-        return places, {t.file.module for t in self.closure(things) if isinstance(t, Definition)}
-
 
 PAGE = Path('docs/DEFINITIONS.md')
-ROW = re.compile(r'\| `(\w+/specs/[\w/]+)` \| (\d+) \| (.+) \|')
+ROW = re.compile(r'\| `(\w+)` \| ([\w`, ]+) \| (.+) \|')
 COMMAND = re.compile(r'\| (`\w+`|[a-z][\w ,]+) \| (\d+) \|$')
 ANSWERS = {
     'check': ('pm_cli.specs.Answer', 'CheckAnswer'),
@@ -651,30 +621,47 @@ def by_command(repository):
     return rows
 
 
-def compared(repository, by_file):
-    """Compares the rows of the page with the files that are reached, and looks for believed files that stand on inner ones."""
-    tree = {str(repository.files[m].path.relative_to('crates').with_suffix('')): sum(d.lines for d in ds) for m, ds in by_file.items()}
-    page = {m[1]: int(m[2]) for m in map(ROW.match, PAGE.read_text().splitlines()) if m}
-    wrong = [f'{PAGE} lacks {f} ({tree[f]} lines)' for f in tree if f not in page]
-    wrong += [f'{PAGE} names {f}, of which nothing is reached' for f in page if f not in tree]
-    wrong += [f'{f}: {page[f]} lines on the page, {tree[f]} in the tree' for f in page if f in tree and page[f] != tree[f]]
+def misplaced(repository, believed):
+    """Where a file of specs/ stands in a folder that is not its own, or is named from where it may not be."""
     for module, file in repository.files.items():
-        if '.specs.inner' not in module:
-            inner = {m for m, _ in file.names.values() if '.specs.inner' in m} | {m for m in file.aliases.values() if '.specs.inner' in m}
-            wrong += [f'{file.path} stands on {m}' for m in sorted(inner)]
+        folder = file.path.parts[3] if len(file.path.parts) > 4 else ''
+        if module in believed and folder:
+            yield f'{file.path}: it must be believed, and does not stand directly in specs/'
+        if module not in believed and not folder and file.lines():
+            yield f'{file.path}: nobody has to believe it, and it stands directly in specs/'
+        for other in {m for m, _ in file.names.values()} | set(file.aliases.values()):
+            if not folder and '.specs.inner' in other:
+                yield f'{file.path}: it stands on {other}'
+    inner = re.compile(r'\bRattle\.(\w+)\.specs\.inner\b|(?<![\w:.])(\w+)::specs::inner::')
+    for path in sorted(p for p in TOP.glob('crates/*/**/*') if p.suffix in ('.rt', '.antt') and 'out' not in p.parts):
+        crate = path.relative_to(TOP).parts[1]
+        for found in sorted({a or b for a, b in inner.findall(path.read_text(encoding='utf-8'))} - {crate, 'crate'}):
+            yield f'{path}: it names specs/inner/ of {found}'
+
+
+def compared(repository, by_file):
+    """Compares the page's rows with the files that are reached, and the counts of commands with the tree's."""
+    tree = defaultdict(set)
+    for module in by_file:
+        tree[repository.files[module].crate].add(repository.files[module].path.stem)
+    page = {m[1]: set(re.findall(r'\w+', m[2])) for m in map(ROW.match, PAGE.read_text(encoding='utf-8').splitlines()) if m}
+    wrong = list(misplaced(repository, by_file))
+    for crate in sorted(tree | page):
+        wrong += [f'{PAGE} lacks {crate}/specs/{name}' for name in sorted(tree.get(crate, set()) - page.get(crate, set()))]
+        wrong += [f'{PAGE} names {crate}/specs/{name}, of which nothing is reached' for name in sorted(page.get(crate, set()) - tree.get(crate, set()))]
     commands = by_command(repository)
-    told = {m[1]: int(m[2]) for m in map(COMMAND.match, PAGE.read_text().splitlines()) if m}
+    told = {m[1]: int(m[2]) for m in map(COMMAND.match, PAGE.read_text(encoding='utf-8').splitlines()) if m}
     wrong += [f'{row}: {told.get(row)} lines on the page, {count} in the tree' for row, count in commands.items() if told.get(row) != count]
     shared = commands['words, files and want of memory']
     wrong += [f'{row}: {count + shared} lines, more than {MOST_OF_ONE}' for row, count in commands.items()
               if row.startswith('`') and count + shared > MOST_OF_ONE]
-    lines, beside = sum(tree.values()), sum(count for file, count in tree.items() if not file.startswith(DWARF))
+    lines = lines_of(d for ds in by_file.values() for d in ds)
+    beside = lines_of(d for module, ds in by_file.items() if not module.startswith(DWARF) for d in ds)
     wrong += [f'{count} lines must be believed{of}, more than {most}'
               for count, of, most in ((lines, '', MOST), (beside, ' beside what DWARF says', MOST_BESIDE_DWARF)) if count > most]
     for line in wrong:
         print(line)
-    print(f'{len(tree)} files with {lines} lines of definitions must be believed, {beside} of them beside what DWARF says; '
-          f'{len(wrong)} disagreements with {PAGE}')
+    print(f'{len(by_file)} files with {lines} lines of definitions must be believed, {beside} of them beside what DWARF says; {len(wrong)} disagreements')
     return 1 if wrong else 0
 
 
@@ -686,7 +673,7 @@ def shown(t):
 
 def main(args):
     flags = [a for a in args if a.startswith('-')]
-    if set(flags) - {'--inner', '--names', '--list', '--commands'}:
+    if set(flags) - {'--names', '--list', '--commands'}:
         sys.exit(__doc__)
     repository = Repository()
     if '--commands' in flags:
@@ -708,26 +695,6 @@ def main(args):
 
     if not args:
         return compared(repository, by_file)
-
-    if '--inner' in flags:
-        places, indirect = repository.cited()
-        none = [m for m, f in repository.files.items() if m not in by_file and f.lines() and '.specs.inner.' not in m]
-        there = [m for m, f in repository.files.items() if '.specs.inner.' in m]
-        print(f'in specs/inner/ already: {len(there)} files, {sum(repository.files[m].lines() for m in there)} lines of definitions\n')
-        rank = repository.order()
-        size = {m: repository.files[m].lines() for m in none}
-        outside = {m for m in none if any(not inner for inner, _ in places[m])}
-        groups = (
-            ('cited by no clause of a `pub` function (~: but what such clauses cite rests on it)', [m for m in none if not places[m]]),
-            ('cited only by `pub` functions that their crate does not export', [m for m in none if places[m] and m not in outside]),
-            ('cited by a clause of an exported function, or by what a trait, an impl of a trait or a model says outside', [m for m in none if m in outside]))
-        for title, rows in groups:
-            print(f'reached by nothing that must be believed, and {title}: {len(rows)} files, {sum(size[m] for m in rows)} lines of definitions')
-            for m in sorted(rows, key=lambda m: (-size[m], rank.get(m.split(".")[0], 999), m)):
-                example = f'   {len(places[m])}: {min(places[m])[1]}' if places[m] else ''
-                print(f'  {size[m]:5} {"~" if not places[m] and m in indirect else " "} {repository.files[m].path}{example}')
-            print()
-        return 0
 
     for label, one in per_root:
         ds = [t for t in one if isinstance(t, Definition)]
@@ -767,9 +734,6 @@ def main(args):
           f'{sum(repository.files[m].lines() for m in by_file)} lines of definitions in all of them), '
           f'and {sum(type_lines(t) for t in types)} lines of {len(types)} types and traits in {len(by_path)} files of src/')
     print(f'all of specs/: {total} lines of definitions in {len(lib)} files; the kit\'s names that are reached: {len(repository.kit)}')
-    inner = [m for m in by_file if '.specs.inner.' in m]
-    if inner:
-        print(f'believed although in specs/inner/: {", ".join(str(repository.files[m].path) for m in sorted(inner))}')
     if repository.unknown:
         print('names that were not found: ' + ', '.join(sorted(repository.unknown)))
 

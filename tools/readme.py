@@ -1,9 +1,10 @@
 #!/usr/bin/env python3
-"""Runs the commands that README.md shows, in its order, and compares what they print with what stands behind them.
+"""Runs the commands that README.md and docs/COMMANDS.md show, in their order, and compares what they print with what stands behind them.
 
     readme.py [FOLDER]    in the checkout FOLDER, or in this one; files that the commands make are removed
 
-It fails where something differs. Needs the program, clang and lld for wasm32 (clang-14, clang-19) and node.
+It fails where something differs. Needs the program, clang and lld for wasm32 (clang-14, clang-19) and node. Where binaryen is installed, clang runs
+its wasm-opt on what it optimizes, and the commands on `plugin.wasm` print something else.
 """
 import os
 import re
@@ -11,15 +12,17 @@ import subprocess
 import sys
 
 TOP = os.path.abspath(sys.argv[1] if len(sys.argv) > 1 else os.path.join(os.path.dirname(os.path.abspath(__file__)), ".."))
+PAGES = ("README.md", "docs/COMMANDS.md")
 
 
 def blocks():
     """The commands of each block, each with the lines behind it."""
-    with open(f"{TOP}/README.md", encoding="utf-8") as page:
-        for block in re.findall(r"^```\n(\$ .*?)^```$", page.read(), re.S | re.M):
-            for part in re.split(r"^\$ ", block, flags=re.M)[1:]:
-                command, _, printed = part.partition("\n")
-                yield command, printed
+    for name in PAGES:
+        with open(f"{TOP}/{name}", encoding="utf-8") as page:
+            found = re.findall(r"^```\n(\$ .*?)^```$", page.read(), re.S | re.M)
+        for part in (part for block in found for part in re.split(r"^\$ ", block, flags=re.M)[1:]):
+            command, _, printed = part.partition("\n")
+            yield command, printed
 
 
 def main():

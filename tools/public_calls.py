@@ -23,7 +23,7 @@ ELSEWHERE = {
     ('Table', 'find'): 'dwarf_info, for each entry',
     ('Rows', 'first'): 'dwarf_line, for each sequence',
     ('Rows', 'nearest'): 'dwarf_line, for each address',
-    ('IndexMap', 'helper'): 'body_rewrite, at a call_indirect',
+    ('IndexMap', 'helper'): 'unwind_rewrite, at a call_indirect',
     ('Globals', 'set'): 'machine_basics, at a global.set',
 }
 
