@@ -1,6 +1,6 @@
 // node embed.mjs MODULE DUMP A B: runs the export `run` of a rewritten module on A and B, and writes the dump of its trap.
 import { readFileSync, writeFileSync } from 'node:fs';
-import { Collector } from '../collector.mjs';
+import { Collector } from 'pm-collector';
 
 const [module, file, ...args] = process.argv.slice(2);
 const collector = new Collector();
