@@ -1,10 +1,10 @@
 #!/bin/sh
 # Seconds and peak memory of `pm check`, which reads and validates a module, beside wabt's `wasm-validate` and
 # `wasm-objdump -h`, on modules of 1 and 10 MB that clang makes. Needs the program
-# (crates/pm_main/out/pm_main), python3, clang with lld, and wabt.
+# python3, clang with lld, and wabt.
 set -eu
 top=$(cd "$(dirname "$0")/.." && pwd)
-pm="$top/crates/pm_main/out/pm_main"
+pm=${PM:-$("$top/tools/program")}
 work=$(mktemp -d)
 trap 'rm -rf "$work"' EXIT
 for functions in 2600 26000; do

@@ -2,10 +2,10 @@
 # `pm cover` beside gcov, line by line, on integer programs that clang makes without optimization, and gcc natively: a compressor, a hash, a
 # sort and large numbers. Where a line has no branches and opens no function, its steps have to be its instructions times what gcov counts; on
 # the others there have to be steps exactly where gcov counts. Then the seconds of `pm cover` beside those of `pm run`, in rounds of three. Needs the program
-# (crates/pm_main/out/pm_main), clang with lld, llvm-objdump, llvm-dwarfdump, gcc with gcov, and python3.
+# clang with lld, llvm-objdump, llvm-dwarfdump, gcc with gcov, and python3.
 set -eu
 top=$(cd "$(dirname "$0")/.." && pwd)
-pm="$top/crates/pm_main/out/pm_main"
+pm=${PM:-$("$top/tools/program")}
 work=$(mktemp -d)
 trap 'rm -rf "$work"' EXIT
 cd "$work"

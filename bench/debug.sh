@@ -3,10 +3,10 @@
 # programs, `vars` and `print` beside what the program itself wrote of its variables before it trapped. clang 14 makes version 4 of the
 # debugging information, clang 19 versions 4 and 5, plain and optimized. Then the time and the memory of `bt`, beside llvm-symbolizer on the
 # same addresses, in rounds of three, also of a module with 10 MB of debugging information. Needs the program
-# (crates/pm_main/out/pm_main), python3, clang and lld of a version, and llvm-symbolizer; it passes over a version of clang that is missing.
+# python3, clang and lld of a version, and llvm-symbolizer; it passes over a version of clang that is missing.
 set -eu
 top=$(cd "$(dirname "$0")/.." && pwd)
-pm="$top/crates/pm_main/out/pm_main"
+pm=${PM:-$("$top/tools/program")}
 helper="$top/bench/compare_debug.py"
 work=$(mktemp -d)
 trap 'rm -rf "$work"' EXIT

@@ -38,31 +38,46 @@ KINDS = {
     "block": (0x0B, 1, [(LOW, ADDR), (HIGH, DATA4)]),
     "block of ranges": (0x0B, 1, [(RANGES, OFFSET)]),
     "inlined": (0x1D, 1, [(NAME, STRING), (LOW, ADDR), (HIGH, DATA4), (CALL_FILE, DATA1), (CALL_LINE, DATA1)]),
+    "unit of lines alone": (0x11, 0, [(STATEMENTS, OFFSET)]),
+    "bounded function": (0x2E, 0, [(LOW, ADDR), (HIGH, DATA4)]),
+    "listed function": (0x2E, 0, [(RANGES, OFFSET)]),
+    "bounded block": (0x0B, 0, [(LOW, ADDR), (HIGH, DATA4)]),
+    "listed block": (0x0B, 0, [(RANGES, OFFSET)]),
+    "short subrange": (0x21, 0, [(COUNT, DATA1)]),
 }
 CODES = {kind: u32(code) for code, kind in enumerate(KINDS, 1)}
 
 
+def row(code, tag, children, slots):
+    """A row of a table of abbreviations; `slots` are its attributes with their forms, as they are spelled."""
+    return code + u32(tag) + bytes([children]) + slots + b"\0\0"
+
+
 def declaration(code, kind):
     tag, children, pairs = KINDS[kind]
-    return code + u32(tag) + bytes([children]) + b"".join(u32(a) + u32(f) for a, f in pairs) + b"\0\0"
+    return row(code, tag, children, b"".join(u32(a) + u32(f) for a, f in pairs))
 
 
 ABBREVIATIONS = b"".join(declaration(CODES[kind], kind) for kind in KINDS) + b"\0"
 
 
-def unit(entries, abbreviations=0):
+def unit(entries, abbreviations=0, version=4):
+    if version == 5:
+        return struct.pack("<IHBBI", len(entries) + 8, 5, 1, 4, abbreviations) + entries
     return struct.pack("<IHIB", len(entries) + 7, 4, abbreviations, 4) + entries
 
 
 class Entries:
-    """The entries of one unit, byte by byte; `at` is where the next one stands in it."""
+    """The entries of one unit, byte by byte; `at` is where the next one stands in it. The first one is the root."""
 
-    def __init__(self, lines=False):
-        self.bytes = bytearray()
-        self.add("unit with lines" if lines else "unit", ALL + (b"\0\0\0\0" if lines else b""))
+    def __init__(self, lines=False, version=4, root=b""):
+        self.version = version
+        self.bytes = bytearray(root)
+        if not root:
+            self.add("unit with lines" if lines else "unit", ALL + (b"\0\0\0\0" if lines else b""))
 
     def at(self):
-        return 11 + len(self.bytes)
+        return (12 if self.version == 5 else 11) + len(self.bytes)
 
     def add(self, kind, contents):
         place = self.at()
@@ -84,7 +99,7 @@ class Entries:
 
     def done(self):
         """Closes a function and the unit."""
-        return unit(bytes(self.bytes) + b"\0\0")
+        return unit(bytes(self.bytes) + b"\0\0", version=self.version)
 
 
 def program(info, sections=(), abbreviations=ABBREVIATIONS, customs=(), code=CODE):
@@ -95,10 +110,10 @@ def program(info, sections=(), abbreviations=ABBREVIATIONS, customs=(), code=COD
     return HEADER + b"".join(parts + [custom(title, contents) for title, contents in told] + list(customs))
 
 
-def stopped(calls):
-    """A dump of the trap under frames that call at these offsets."""
+def stopped(calls, trap=5, values=()):
+    """A dump of the trap under frames that call at these offsets; these locals are recorded of each frame."""
     memory = section(5, vector([b"\0\1"]))
-    return dump(b"d", [0], [], [frame(0, 5, [], [])] + [frame(0, at, [], []) for at in calls]) + memory
+    return dump(b"d", [0], [], [frame(0, at, values, []) for at in [trap, *calls]]) + memory
 
 
 def debugged(info, *commands, count=1, calls=None, **rest):
@@ -168,16 +183,6 @@ def variables(n):
     for i in range(n):
         entries.variable(base, b"v%d" % i)
     return debugged(entries.done(), "vars", "print v0")
-
-
-def enumerated_variables(n):
-    """As many variables of an enumeration as it has values."""
-    entries = Entries()
-    kind = enumerators(entries, 0, n)
-    entries.function()
-    for i in range(n):
-        entries.variable(kind, b"v%d" % i)
-    return debugged(entries.done(), "vars")
 
 
 def blocks(n):
@@ -357,7 +362,6 @@ def commands(n):
     return debugged(b"", *["x 0 1"] * n)
 
 
-# The one with a 2 takes time by the product of two counts: of the variables and the values of their enumeration.
 SHAPES = [
     ("debug: a cycle of typedefs", typed(cycle), 200_000, 800_000),
     ("debug: an array of many subranges", typed(subranges), 200_000, 800_000),
@@ -365,7 +369,6 @@ SHAPES = [
     ("debug: structures of structures", typed(doubled), 11, 13),
     ("debug: an enumeration of many values", typed(enumerators), 200_000, 800_000),
     ("debug: many variables", variables, 50_000, 200_000),
-    ("debug: many variables of one enumeration", enumerated_variables, 2_000, 8_000, 2),
     ("debug: nested blocks", blocks, 5_000, 20_000),
     ("debug: nested inlined subroutines", inlined, 20_000, 80_000),
     ("debug: many units of one table of abbreviations", units, 20_000, 80_000),

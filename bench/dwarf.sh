@@ -9,7 +9,14 @@ top=$(cd "$(dirname "$0")/.." && pwd)
 work=$(mktemp -d)
 trap 'rm -rf "$work"' EXIT
 helper="$top/bench/compare_dwarf.py"
-crates='causes pm_text wasm_leb wasm_bytes dwarf_bytes dwarf_abbrev dwarf_info dwarf_entries dwarf_loc dwarf5_lists dwarf5_info dwarf_line dwarf5_line'
+crates=$(python3 - "$top" <<'PROGRAM'
+import sys
+sys.path.insert(0, sys.argv[1])
+from build import below, listed
+lines = listed()
+print(*sorted(below("dwarf5_info", lines) | below("dwarf5_line", lines)))
+PROGRAM
+)
 mkdir -p "$work/crates/print_dwarf/src"
 for crate in $crates; do
   mkdir "$work/crates/$crate"

@@ -4,12 +4,13 @@
 #            without a text and with files that hold a front
 #   mutants  modules, dumps, replies and words that are damaged at random, under a limit of time and in part under valgrind (mutants.py says what
 #            is looked at); COUNT, SECONDS, SEED and EVERY in the environment change how many, for how long, which, and how rarely under valgrind
-#   shapes   inputs whose shape costs much, at two sizes: seconds grow no faster than bytes (shapes.py)
-# It exits with 1 where something differs. Needs the program (crates/pm_main/out/pm_main), python3, a C compiler, clang and lld of a version for
-# wasm32, and valgrind for its part; with wabt, `check` is compared with wasm-validate, and where node is there with its engine too.
+#   shapes   inputs whose shape costs much, at two sizes: seconds grow no faster than bytes (shapes.py); and modules on which `debug` could take
+#            a product of two counts, at 1 MB and 4 MB: seconds, how they grow, and memory have to keep within bounds (costs.py)
+# It exits with 1 where something differs. Needs the program, python3, a C compiler, clang and lld of a version for wasm32, GNU time for the shapes,
+# and valgrind for its part; with wabt, `check` is compared with wasm-validate, and where node is there with its engine too.
 set -eu
 top=$(cd "$(dirname "$0")/.." && pwd)
-pm="$top/crates/pm_main/out/pm_main"
+pm=$(realpath "${PM:-$("$top/tools/program")}")
 work=$(mktemp -d)
 kept=$(mktemp -d)
 trap 'rm -rf "$work"; rmdir "$kept" 2> /dev/null || echo "what went wrong is in $kept"' EXIT
@@ -128,7 +129,10 @@ mutants() {
   python3 "$top/bench/mutants.py" "$pm" sources "${SEED:-1}" "${COUNT:-4000}" "${SECONDS_AT_MOST:-900}" "${EVERY:-400}" "$kept" || wrong=1
 }
 
-shapes() { python3 "$top/bench/shapes.py" "$pm" || wrong=1; }
+shapes() {
+  python3 "$top/bench/shapes.py" "$pm" || wrong=1
+  python3 "$top/bench/costs.py" "$pm" || wrong=1
+}
 
 for part in ${*:-memory mutants shapes}; do
   echo "$part:"

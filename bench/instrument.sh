@@ -1,11 +1,11 @@
 #!/bin/sh
 # Size, and time in node, of integer programs that clang makes (a compressor, a hash and arithmetic of large numbers, plain and optimized),
 # beside what `pm instrument` rewrites them to and what binaryen's asyncify does, which is to instrument all functions too; in one run, with
-# the ratios. Then seconds and peak memory of `pm instrument` on a module of 1 MB. Needs the program (crates/pm_main/out/pm_main), clang with
+# the ratios. Then seconds and peak memory of `pm instrument` on a module of 1 MB. Needs the program, clang with
 # lld, binaryen, node and python3.
 set -eu
 top=$(cd "$(dirname "$0")/.." && pwd)
-pm="$top/crates/pm_main/out/pm_main"
+pm=${PM:-$("$top/tools/program")}
 work=$(mktemp -d)
 trap 'rm -rf "$work"' EXIT
 cd "$work"

@@ -1,10 +1,10 @@
 #!/bin/sh
 # Seconds and peak memory of `pm run` at two limits: a function that calls itself to the depth of 10,000 and traps there, and one call
 # deeper; and a memory of 4,096 pages of which two are written. Beside each stands what the machine has to hold for it, and before them
-# the peak of the program that does nothing. Needs the program (crates/pm_main/out/pm_main) and wabt.
+# the peak of the program that does nothing. Needs the program and wabt.
 set -eu
 top=$(cd "$(dirname "$0")/.." && pwd)
-pm="$top/crates/pm_main/out/pm_main"
+pm=${PM:-$("$top/tools/program")}
 work=$(mktemp -d)
 trap 'rm -rf "$work"' EXIT
 

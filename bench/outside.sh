@@ -2,10 +2,10 @@
 # `pm` over a system that gets in its way: a full disk, files without permission, folders in place of files, pipes, a closed output, a file that
 # shrinks while it is read, and a limit of the size of files. Of each the status and the text have to be those that stand here, and files
 # are as they were, or hold a front. It prints a line for each group, and exits with 1 where something differs. Needs the program
-# (crates/pm_main/out/pm_main), a C compiler for the file that shrinks, and, where root runs it, setpriv for the files without permission.
+# a C compiler for the file that shrinks, and, where root runs it, setpriv for the files without permission.
 set -u
 top=$(cd "$(dirname "$0")/.." && pwd)
-pm="$top/crates/pm_main/out/pm_main"
+pm=${PM:-$("$top/tools/program")}
 work=$(mktemp -d)
 trap 'rm -rf "$work"' EXIT
 chmod 755 "$work"

@@ -1,9 +1,9 @@
 #!/bin/sh
 # A file that can't be read from any offset but in order: `pm show` and `pm check` over a pipe give what they give over the file itself, also
-# for a file of many reads. Needs the program (crates/pm_main/out/pm_main) and python3.
+# for a file of many reads. Needs the program and python3.
 set -eu
 top=$(cd "$(dirname "$0")/.." && pwd)
-pm="$top/crates/pm_main/out/pm_main"
+pm=${PM:-$("$top/tools/program")}
 work=$(mktemp -d)
 trap 'rm -rf "$work"' EXIT
 

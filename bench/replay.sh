@@ -1,10 +1,10 @@
 #!/bin/sh
 # `pm replay` on a recorded run of 10^8 steps, which writes all over five pages: its first pass, which keeps checkpoints, beside `pm run`, and
 # then 100 moves to random steps. One of them has to take at most an eighth of the run, on the average. Prints the seconds of each, with the
-# peak of memory, in rounds of three. Needs the program (crates/pm_main/out/pm_main), clang with lld, and python3.
+# peak of memory, in rounds of three. Needs the program, clang with lld, and python3.
 set -eu
 top=$(cd "$(dirname "$0")/.." && pwd)
-pm="$top/crates/pm_main/out/pm_main"
+pm=${PM:-$("$top/tools/program")}
 work=$(mktemp -d)
 trap 'rm -rf "$work"' EXIT
 cd "$work"

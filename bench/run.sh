@@ -1,9 +1,9 @@
 #!/bin/sh
 # Seconds and peak memory of `pm run` beside wabt's `wasm-interp`, on integer programs that clang makes: a compressor, a hash and a sort,
-# in one run. Their results must be the same. Needs the program (crates/pm_main/out/pm_main), clang with lld, and wabt.
+# in one run. Their results must be the same. Needs the program, clang with lld, and wabt.
 set -eu
 top=$(cd "$(dirname "$0")/.." && pwd)
-pm="$top/crates/pm_main/out/pm_main"
+pm=${PM:-$("$top/tools/program")}
 work=$(mktemp -d)
 trap 'rm -rf "$work"' EXIT
 for name in compress hash sort; do

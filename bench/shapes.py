@@ -5,7 +5,7 @@ are read and written.
     shapes.py PROGRAM [WORD ..]    all shapes, or those whose names have one of the words
 
 It fails where the program is killed, takes more than LIMIT seconds, answers by a status that such an input can't have, or where the seconds grow
-more than RATIO times as fast as the bytes, or as their square for the shapes of which that is told. Seconds below FLOOR are not judged.
+more than RATIO times as fast as the bytes. Seconds below FLOOR are not judged.
 """
 import os
 import resource
@@ -52,7 +52,7 @@ def measured(program, make, size):
 
 def judged(program, shape):
     """Prints a line, and says whether the shape passes."""
-    title, make, small, large, *power = shape
+    title, make, small, large = shape
     try:
         first, status, fewer = measured(program, make, small)
         last, other, more = measured(program, make, large)
@@ -60,12 +60,10 @@ def judged(program, shape):
         print(f"{title}: more than {LIMIT} s", flush=True)
         return False
     times, grown = last / max(first, 0.001), more / fewer
-    most = RATIO * grown ** (power[0] if power else 1)
     wanted = STATUSES[title.split(":")[0]]
     is_status = status in wanted and other in wanted
-    passes = is_status and (last < FLOOR or times <= most)
-    told = ", by a product" if power else ""
-    told += "" if is_status else f", status {status}, {other}"
+    passes = is_status and (last < FLOOR or times <= RATIO * grown)
+    told = "" if is_status else f", status {status}, {other}"
     print(f"{title}: {first:.2f} s, {last:.2f} s, {times:.1f} times, bytes {more}, {grown:.1f} times{told}{'' if passes else '  <--'}", flush=True)
     return passes
 
@@ -74,8 +72,7 @@ def main():
     program, words = os.path.abspath(sys.argv[1]), sys.argv[2:]
     shapes = [s for s in module_shapes.SHAPES + debug_shapes.SHAPES if not words or any(word in s[0] for word in words)]
     wrong = [shape[0] for shape in shapes if not judged(program, shape)]
-    products = [shape[0] for shape in shapes if len(shape) > 4]
-    print(f"{len(shapes)} shapes, {len(wrong)} of them do not pass; allowed to grow by a product:", ", ".join(products) or "none")
+    print(f"{len(shapes)} shapes, {len(wrong)} of them do not pass")
     sys.exit(1 if wrong else 0)
 
 

@@ -1,8 +1,8 @@
 #!/bin/sh
-# Seconds and peak memory of `pm show` on large dumps. Needs the program (crates/pm_main/out/pm_main) and python3.
+# Seconds and peak memory of `pm show` on large dumps. Needs the program and python3.
 set -eu
 top=$(cd "$(dirname "$0")/.." && pwd)
-pm="$top/crates/pm_main/out/pm_main"
+pm=${PM:-$("$top/tools/program")}
 work=$(mktemp -d)
 trap 'rm -rf "$work"' EXIT
 python3 "$top/bench/make_dump.py" frames 65536 20 "$work/frames.core"
