@@ -6,7 +6,7 @@ ghost use Rattle.wasm_format_laws.specs.Sized.{Sized};
 
 use std::alloc::Global;
 use wasm_decode::decode;
-use wasm_format_laws::laws::spelled_is_sized;
+use wasm_format_laws::sizes::spelled_is_sized;
 use wasm_syntax::Module;
 use wasm_validate::{Validated, validate};
 
