@@ -1,10 +1,15 @@
 -- How the pieces of a guard are put together.
-use Rattle.std.proofs.Common.{◌≡◌, ℕ, suc, ◌+◌, subst, arith}
+use Rattle.std.proofs.Common.{◌≡◌, ℕ, suc, ◌+◌, List, None, subst, arith}
+use Rattle.wasm_syntax.specs.declared.value.ValType.{ValType}
 use Rattle.wasm_syntax.specs.declared.value.Value.{Value}
+use Rattle.wasm_syntax.specs.declared.instruction.Basic.{Basic}
+use Rattle.wasm_syntax.specs.Tree.{stop, choose}
 use Rattle.rewrite_bodies.specs.Slots.{Place, Ctx}
 use Rattle.rewrite_bodies.specs.Pieces.{const, fetch}
-use Rattle.rewrite_bodies.specs.Guards.{range_test}
-use Rattle.rewrite_code.specs.calls.Writing.{Written, Emits}
+use Rattle.rewrite_bodies.specs.Guards.{guard_zero, range_test, kind}
+use Rattle.rewrite_bodies.specs.Rewrite.{Info, unwind_kind, tested}
+use Rattle.rewrite_code.specs.calls.Writing.{Written, Emits, EmitsLast, Opens, Closes}
+use Rattle.rewrite_code.proofs.Pieces.{emits_last, emits_within}
 
 pub const_at : {v w : Value} {a b : Written} → v ≡ w → Emits (const v) a b → Emits (const w) a b
 const_at {a = a} {b = b} e p = subst (λ v. Emits (const v) a b) e p
@@ -13,6 +18,16 @@ pub next_fetch : (C : Ctx) (p : Place) (h : ℕ) {y : ℕ} {a b : Written} → y
 next_fetch C p h {y} {a} {b} e q =
     let same : y ≡ suc h = omega (arith, e) in
     subst (λ n. Emits (fetch C p n) a b) same q
+
+pub next_zero : (C : Ctx) (t : ValType) (p : Place) (h : ℕ) {y : ℕ} {a b : Written} → y ≡ h + 1 → Emits (guard_zero C t p y) a b → Emits (guard_zero C t p (suc h)) a b
+next_zero C t p h {y} {a} {b} e q =
+    let same : y ≡ suc h = omega (arith, e) in
+    subst (λ n. Emits (guard_zero C t p n) a b) same q
+
+-- where the guard has left 1, the code unwinds with the kind
+pub kind_tested : (C : Ctx) (ls : List Info) (es : List Place) (o : ℕ) (i : Basic) {a b c d e : Written} → Opens (λ arm k. choose 0 None arm None stop 0 k) a b → Emits (kind C i es) b c → EmitsLast (unwind_kind C ls es o) c d → Closes d e →
+    Emits (tested C ls es o (kind C i es)) a e
+kind_tested C ls es o i op p u cl = emits_within op (emits_last p u) cl
 
 -- a test of a range whose heights are these
 pub range_at : (C : Ctx) (p n : Place) {x y x' y' : ℕ} {a b : Written} → x ≡ x' → y ≡ y' → Emits (range_test C p x n y) a b → Emits (range_test C p x' n y') a b

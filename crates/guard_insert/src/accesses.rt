@@ -64,18 +64,17 @@ fn past_end(writer: &mut CodeWriter) -> Result<(), NoMemory>
     writer.basic(Basic::Compare(ValType::I64, Compare::GtU))
 }
 
-/// Of two verdicts, whether so many bytes from the address on top pass the end.
+/// Whether so many bytes from the address on top pass the end.
 fn out_test(writer: &mut CodeWriter, count: u64) -> Result<(), NoMemory>
     ensures { OnOk result (Emits (out_test count) writer.old writer.new) }
 {
     writer.basic(Basic::Convert(Convert::ExtendU))?;
     writer.const_value(Value::I64(count))?;
     writer.basic(Basic::Binary(ValType::I64, Binary::Add))?;
-    past_end(writer)?;
-    writer.basic(Basic::Select)
+    past_end(writer)
 }
 
-/// 4 where an access of so many bytes, offset included, passes the end.
+/// Whether an access of so many bytes, offset included, passes the end.
 pub(crate) fn guard_memory(
     context: &FunctionContext<'_, '_>,
     writer: &mut CodeWriter,
@@ -87,8 +86,6 @@ pub(crate) fn guard_memory(
     ensures { OnOk result (Emits (guard_memory context.now (place address) height count) writer.old
         writer.new) }
 {
-    writer.const_value(Value::I32(4))?;
-    writer.const_value(Value::I32(0))?;
     context.fetch(writer, address, height)?;
     out_test(writer, count)
 }
@@ -112,8 +109,7 @@ fn range_test(
     past_end(writer)
 }
 
-/// Of `memory.copy`: 4 or 0. Where to is at this height, and above it are where from and the
-/// length.
+/// Of `memory.copy`. Where to is at this height, and above it are where from and the length.
 pub(crate) fn guard_copy(
     context: &FunctionContext<'_, '_>,
     writer: &mut CodeWriter,
@@ -128,15 +124,12 @@ pub(crate) fn guard_copy(
 {
     let second = above(context, height, 1);
     let third = above(context, height, 2);
-    writer.const_value(Value::I32(4))?;
-    writer.const_value(Value::I32(0))?;
     range_test(context, writer, (from, second), (len, third))?;
     range_test(context, writer, (to, height), (len, third))?;
-    writer.basic(Basic::Binary(ValType::I32, Binary::Or))?;
-    writer.basic(Basic::Select)
+    writer.basic(Basic::Binary(ValType::I32, Binary::Or))
 }
 
-/// Of `memory.fill`: 4 or 0. Where to is at this height, and the length is the second one above it.
+/// Of `memory.fill`. Where to is at this height, and the length is the second one above it.
 pub(crate) fn guard_fill(
     context: &FunctionContext<'_, '_>,
     writer: &mut CodeWriter,
@@ -149,8 +142,5 @@ pub(crate) fn guard_fill(
         writer.new) }
 {
     let third = above(context, height, 2);
-    writer.const_value(Value::I32(4))?;
-    writer.const_value(Value::I32(0))?;
-    range_test(context, writer, (to, height), (len, third))?;
-    writer.basic(Basic::Select)
+    range_test(context, writer, (to, height), (len, third))
 }

@@ -1,17 +1,17 @@
 //! Which instructions have a guard, and which one.
 
 ghost use Rattle.std.specs.Prelude.{◌≡◌, ◌+◌, ◌^◌, ◌<◌, ◌≤◌, true, List, length, OnOk};
-ghost use Rattle.rewrite_bodies.specs.Guards.{can_trap, divides, guard};
+ghost use Rattle.rewrite_bodies.specs.Guards.{can_trap, divides, guard, kind};
 ghost use Rattle.rewrite_bodies.specs.Pieces.{const, i32};
-ghost use Rattle.rewrite_bodies.specs.Rewrite.{Info, guarded};
+ghost use Rattle.rewrite_bodies.specs.Rewrite.{Info, tested, guarded};
 ghost use Rattle.int_ops.specs.declared.operators.Binary.TheVariants.{DivS as DivSOf, DivU as DivUOf, RemS as RemSOf, RemU as RemUOf};
 ghost use Rattle.wasm_syntax.specs.declared.instruction.Basic.TheVariants.{Binary as BinaryOf, Load as LoadOf, Store as StoreOf, MemoryCopy as MemoryCopyOf, MemoryFill as MemoryFillOf};
-ghost use Rattle.rewrite_bodies.specs.calls.Verdicts.{IsGuard};
+ghost use Rattle.rewrite_bodies.specs.calls.Verdicts.{IsGuard, IsKind};
 ghost use Rattle.rewrite_code.specs.calls.Writing.{Emits};
 ghost use Rattle.guard_insert.specs.calls.Meaning.{Writes};
 
 use crate::accesses::{guard_copy, guard_fill, guard_memory, load_bytes, store_bytes};
-use crate::division::{guard_signed, guard_zero};
+use crate::division::{guard_signed, guard_zero, kind_signed};
 use causes::NoMemory;
 use rewrite_code::{CodeWriter, FunctionContext, OperandPlaces};
 use wasm_syntax::{Basic, Binary, Load, Store, ValType, Value};
@@ -36,8 +36,8 @@ pub fn can_trap(instruction: &Basic) -> bool
     }
 }
 
-/// No kind.
-fn no_kind(writer: &mut CodeWriter) -> Result<(), NoMemory>
+/// No trap.
+fn no_trap(writer: &mut CodeWriter) -> Result<(), NoMemory>
     ensures { OnOk result (Emits (const (i32 0)) writer.old writer.new) }
 {
     writer.const_value(Value::I32(0))
@@ -55,10 +55,10 @@ fn guard_quotient(
         writer.new) }
 {
     let Some(dividend) = places.peek(1) else {
-        return no_kind(writer);
+        return no_trap(writer);
     };
     let Some(divisor) = places.peek(0) else {
-        return no_kind(writer);
+        return no_trap(writer);
     };
     guard_signed(context, writer, t, divisor, dividend, places.len() - 2)
 }
@@ -79,10 +79,10 @@ fn guard_divisor(
         (Emits (guard context.now (BinaryOf t RemUOf) places.now) writer.old writer.new) }
 {
     let Some(_) = places.peek(1) else {
-        return no_kind(writer);
+        return no_trap(writer);
     };
     let Some(divisor) = places.peek(0) else {
-        return no_kind(writer);
+        return no_trap(writer);
     };
     guard_zero(context, writer, t, divisor, places.len() - 1)
 }
@@ -104,7 +104,7 @@ fn guard_binary(
         Binary::DivU => guard_divisor(context, writer, t, places),
         Binary::RemS => guard_divisor(context, writer, t, places),
         Binary::RemU => guard_divisor(context, writer, t, places),
-        _ => no_kind(writer),
+        _ => no_trap(writer),
     }
 }
 
@@ -122,7 +122,7 @@ fn guard_load(
         writer.old writer.new) }
 {
     let Some(address) = places.peek(0) else {
-        return no_kind(writer);
+        return no_trap(writer);
     };
     let count = u64::from(offset) + load_bytes(load);
     guard_memory(context, writer, address, places.len() - 1, count)
@@ -142,7 +142,7 @@ fn guard_store(
         writer.old writer.new) }
 {
     let Some(address) = places.peek(1) else {
-        return no_kind(writer);
+        return no_trap(writer);
     };
     let count = u64::from(offset) + store_bytes(store);
     guard_memory(context, writer, address, places.len() - 2, count)
@@ -159,13 +159,13 @@ fn guard_copied(
         writer.new) }
 {
     let Some(to) = places.peek(2) else {
-        return no_kind(writer);
+        return no_trap(writer);
     };
     let Some(second) = places.peek(1) else {
-        return no_kind(writer);
+        return no_trap(writer);
     };
     let Some(len) = places.peek(0) else {
-        return no_kind(writer);
+        return no_trap(writer);
     };
     guard_copy(context, writer, len, second, to, places.len() - 3)
 }
@@ -181,10 +181,10 @@ fn guard_filled(
         writer.new) }
 {
     let Some(to) = places.peek(2) else {
-        return no_kind(writer);
+        return no_trap(writer);
     };
     let Some(len) = places.peek(0) else {
-        return no_kind(writer);
+        return no_trap(writer);
     };
     guard_fill(context, writer, len, to, places.len() - 3)
 }
@@ -209,11 +209,83 @@ fn write_guard(
         }
         Basic::MemoryCopy => guard_copied(context, writer, places),
         Basic::MemoryFill => guard_filled(context, writer, places),
-        _ => no_kind(writer),
+        _ => no_trap(writer),
     }
 }
 
-/// The guard of an instruction on these operands, which leaves the kind or 0 on the stack.
+/// The kind of a trap of a quotient of signed numbers.
+fn kind_quotient(
+    context: &FunctionContext<'_, '_>,
+    writer: &mut CodeWriter,
+    t: ValType,
+    places: &OperandPlaces,
+) -> Result<(), NoMemory>
+    requires { length places.now ≤ context.now.slots }
+    ensures { OnOk result (Emits (kind context.now (BinaryOf t DivSOf) places.now) writer.old
+        writer.new) }
+{
+    let Some(_) = places.peek(1) else {
+        return writer.const_value(Value::I32(2));
+    };
+    let Some(divisor) = places.peek(0) else {
+        return writer.const_value(Value::I32(2));
+    };
+    kind_signed(context, writer, t, divisor, places.len() - 1)
+}
+
+/// Of an operator on two numbers.
+fn kind_binary(
+    context: &FunctionContext<'_, '_>,
+    writer: &mut CodeWriter,
+    t: ValType,
+    operator: Binary,
+    places: &OperandPlaces,
+) -> Result<(), NoMemory>
+    requires { length places.now ≤ context.now.slots }
+    ensures { OnOk result (Emits (kind context.now (BinaryOf t operator) places.now) writer.old
+        writer.new) }
+{
+    match operator {
+        Binary::DivS => kind_quotient(context, writer, t, places),
+        _ => writer.const_value(Value::I32(2)),
+    }
+}
+
+fn write_kind(
+    context: &FunctionContext<'_, '_>,
+    writer: &mut CodeWriter,
+    instruction: &Basic,
+    places: &OperandPlaces,
+) -> Result<(), NoMemory>
+    requires { length places.now ≤ context.now.slots }
+    ensures { OnOk result (Emits (kind context.now instruction.now places.now) writer.old
+        writer.new) }
+{
+    match *instruction {
+        Basic::Binary(t, operator) => kind_binary(context, writer, t, operator, places),
+        _ => writer.const_value(Value::I32(4)),
+    }
+}
+
+/// The code that leaves the kind with which an instruction traps on these operands.
+pub fn kind(
+    context: &FunctionContext<'_, '_>,
+    writer: &mut CodeWriter,
+    instruction: &Basic,
+    places: &OperandPlaces,
+) -> Result<(), NoMemory>
+    requires { length places.now ≤ context.now.slots }
+    ensures emits { OnOk result (Emits (kind context.now instruction.now places.now) writer.old
+        writer.new) }
+    ensures means { can_trap instruction.now ≡ true
+        → OnOk result (Writes (IsKind context.now instruction.now places.now) writer.old
+        writer.new) }
+{
+    write_kind(context, writer, instruction, places)
+}
+
+/// The guard of an instruction on these operands, which leaves 1 on the stack where it traps, and 0
+/// where it does not.
 pub fn guard(
     context: &FunctionContext<'_, '_>,
     writer: &mut CodeWriter,
@@ -228,6 +300,27 @@ pub fn guard(
         writer.new) }
 {
     write_guard(context, writer, instruction, places)
+}
+
+/// Where the guard has left 1, the code unwinds with the kind.
+fn tested(
+    context: &FunctionContext<'_, '_>,
+    writer: &mut CodeWriter,
+    labels: u32,
+    places: &OperandPlaces,
+    offset: u32,
+    instruction: &Basic,
+) -> Result<(), NoMemory>
+    requires shallow { labels + 1 < 2 ^ 32 }
+    requires room { length places.now ≤ context.now.slots }
+    ensures { (ls : List Info) → length ls ≡ labels
+        → OnOk result (Emits (tested context.now ls places.now offset
+        (kind context.now instruction.now places.now)) writer.old writer.new) }
+{
+    writer.open_if(None)?;
+    kind(context, writer, instruction, places)?;
+    context.unwind_kind(writer, labels, places, offset)?;
+    writer.close()
 }
 
 /// The guard with the test of its verdict, where the instruction has one.
@@ -247,7 +340,7 @@ pub fn guarded(
 {
     if can_trap(instruction) {
         guard(context, writer, instruction, places)?;
-        context.tested(writer, labels, places, offset)
+        tested(context, writer, labels, places, offset, instruction)
     } else {
         Ok(())
     }

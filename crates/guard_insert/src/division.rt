@@ -1,7 +1,7 @@
 //! Guards of divisions and remainders.
 
 ghost use Rattle.std.specs.Prelude.{◌≡◌, ◌+◌, ◌≤◌, OnOk};
-ghost use Rattle.rewrite_bodies.specs.Guards.{least, minus_one, zero_test, guard_zero, overflow_test, guard_signed};
+ghost use Rattle.rewrite_bodies.specs.Guards.{least, minus_one, guard_zero, overflow_test, guard_signed, kind_signed};
 ghost use Rattle.rewrite_code.specs.calls.Writing.{Emits};
 ghost use Rattle.rewrite_code.specs.calls.Places.{place};
 
@@ -30,15 +30,7 @@ fn minus_one(t: ValType) -> Value
     }
 }
 
-/// Of two verdicts, whether the divisor on top is zero.
-fn zero_test(writer: &mut CodeWriter, t: ValType) -> Result<(), NoMemory>
-    ensures { OnOk result (Emits (zero_test t) writer.old writer.new) }
-{
-    writer.basic(Basic::Eqz(t))?;
-    writer.basic(Basic::Select)
-}
-
-/// 2 where the divisor is zero.
+/// Whether the divisor is zero.
 pub(crate) fn guard_zero(
     context: &FunctionContext<'_, '_>,
     writer: &mut CodeWriter,
@@ -50,14 +42,12 @@ pub(crate) fn guard_zero(
     ensures { OnOk result (Emits (guard_zero context.now t (place divisor) height) writer.old
         writer.new) }
 {
-    writer.const_value(Value::I32(2))?;
-    writer.const_value(Value::I32(0))?;
     context.fetch(writer, divisor, height)?;
-    zero_test(writer, t)
+    writer.basic(Basic::Eqz(t))
 }
 
-/// Of two verdicts, whether the quotient is past the range. The dividend is at this height, and the
-/// divisor above it.
+/// Whether the quotient is past the range. The dividend is at this height, and the divisor above
+/// it.
 fn overflow_test(
     context: &FunctionContext<'_, '_>,
     writer: &mut CodeWriter,
@@ -77,11 +67,10 @@ fn overflow_test(
     context.fetch(writer, divisor, upper)?;
     writer.const_value(minus_one(t))?;
     writer.basic(Basic::Compare(t, Compare::Eq))?;
-    writer.basic(Basic::Binary(ValType::I32, Binary::And))?;
-    writer.basic(Basic::Select)
+    writer.basic(Basic::Binary(ValType::I32, Binary::And))
 }
 
-/// Of a quotient of signed numbers: 2, 3 or 0.
+/// Of a quotient of signed numbers.
 pub(crate) fn guard_signed(
     context: &FunctionContext<'_, '_>,
     writer: &mut CodeWriter,
@@ -95,10 +84,25 @@ pub(crate) fn guard_signed(
         height) writer.old writer.new) }
 {
     let upper = above(context, height, 1);
+    overflow_test(context, writer, t, divisor, dividend, height)?;
+    guard_zero(context, writer, t, divisor, upper)?;
+    writer.basic(Basic::Binary(ValType::I32, Binary::Or))
+}
+
+/// The kind of a trap of a quotient of signed numbers: 2 where the divisor is zero, or else 3.
+pub(crate) fn kind_signed(
+    context: &FunctionContext<'_, '_>,
+    writer: &mut CodeWriter,
+    t: ValType,
+    divisor: OperandPlace,
+    height: usize,
+) -> Result<(), NoMemory>
+    requires { height ≤ context.now.slots }
+    ensures { OnOk result (Emits (kind_signed context.now t (place divisor) height) writer.old
+        writer.new) }
+{
     writer.const_value(Value::I32(2))?;
     writer.const_value(Value::I32(3))?;
-    writer.const_value(Value::I32(0))?;
-    overflow_test(context, writer, t, divisor, dividend, height)?;
-    context.fetch(writer, divisor, upper)?;
-    zero_test(writer, t)
+    guard_zero(context, writer, t, divisor, height)?;
+    writer.basic(Basic::Select)
 }

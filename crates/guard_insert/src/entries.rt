@@ -18,7 +18,7 @@ fn write_kind(writer: &mut CodeWriter, kind: u32) -> Result<(), NoMemory>
     writer.const_value(Value::I32(kind))
 }
 
-/// The guard of `unreachable`, which leaves its kind.
+/// The guard of `unreachable`, which leaves 1; its kind is 1 too.
 pub fn guard_unreachable(writer: &mut CodeWriter) -> Result<(), NoMemory>
     ensures emits { OnOk result (Emits (const (i32 1)) writer.old writer.new) }
     ensures means { (C : Ctx) → OnOk result

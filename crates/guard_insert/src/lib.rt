@@ -1,5 +1,5 @@
-//! Writes guards: code in front of an instruction that gives the kind with which it would trap on
-//! its operands, or 0.
+//! Writes guards: code in front of an instruction that tells whether it would trap on its operands,
+//! and code that gives the kind of the trap.
 #![tactic(auto)]
 
 mod accesses;
@@ -7,5 +7,5 @@ mod choice;
 mod division;
 mod entries;
 
-pub use choice::{can_trap, guard, guarded};
+pub use choice::{can_trap, guard, guarded, kind};
 pub use entries::{guard_entry, guard_unreachable};

@@ -21,7 +21,7 @@ use Rattle.wasm_syntax.specs.declared.host.CollectorCall.{CollectorCall}
 use Rattle.wasm_syntax.specs.declared.host.CollectorCall.TheVariants as collector_calls
 use Rattle.wasm_syntax.specs.Machine.{Kind, leaves, returns, Label, Frame, Config, label, frame, config, Engine, Stepped, next, traps, Cut, short, parts, one_more, cut, exactly, pick, zero_of, zeros, result_of, function_type, entered, host_call, deliver, host, enters, applied_if, calls_on, calls, step, offset_in}
 use Rattle.rewrite_bodies.specs.Slots.{Place, Ctx, slot, kind_at, offset_at, added, less, grown, ctx_of}
-use Rattle.rewrite_bodies.specs.Rewrite.{Info, hand, hand_top, to_exit, hand_left, test_flag, test_both, tested, after_direct, call_code, helper_of, rewrite, body}
+use Rattle.rewrite_bodies.specs.Rewrite.{Info, hand, hand_top, to_exit, hand_left, test_flag, test_both, unwind, unwind_kind, after_direct, call_code, helper_of, rewrite, body}
 use Rattle.rewrite_bodies.specs.Numbering.{import_count, mapped, place_in, global_types, helper_base, helped}
 use Rattle.rewrite_bodies.specs.Pieces.{get, set, const, call, if_any, fetch, load, store, tree_of}
 use Rattle.linear_memory.specs.Memory.{Memory}
@@ -35,7 +35,7 @@ use Rattle.rewrite_bodies.specs.calls.Telling.{tell_labels, tell_locals, tell_fr
 use Rattle.std.proofs.lemmas.List.{map-append}
 use Rattle.std.proofs.lemmas.Option.{slice_get-map}
 use Rattle.rewrite_bodies.specs.calls.Standing.{Linked, After, Speaks, HelperLinked, Stands}
-use Rattle.rewrite_bodies.proofs.Sim.{refit, refit_under, room_height, grown-append, grown_fits, len_of, shell, tgt, wit, wit_under, armed, if_zero_to, caught_to}
+use Rattle.rewrite_bodies.proofs.Sim.{refit, refit_under, room_height, grown-append, grown_fits, len_of, shell, tgt, wit, wit_under, armed, if_zero_to}
 use Rattle.rewrite_bodies.proofs.Control.{flag_len, flag_down, both_to, grown_longer}
 use Rattle.rewrite_bodies.proofs.Unwind.{exit_branch, frame_out, Hands, hand_to, hand_left_to, Up, up_all, renamed}
 use Rattle.wasm_syntax.specs.declared.host.Write.{Write}
@@ -147,15 +147,15 @@ module _ (M M' : Engine) (E : ℕ) (gl : List ValType) (W : Wrap) (S : Stands M 
         let up : Up M M' E gl W S.speaks t 1 E r Fs ws g (tell_frame (suc j) o FF co) = renamed M M' E gl W S.speaks t 1 E C.result r C.index ix (length C.locals) (length l) o (suc j) X.frames g (tell_locals l (tell_labels (LL ∷ Ls) co)) f.result f.idx size all in
         inr (wf, weaken M' (up_all M M' E gl W S.speaks Fs ws g (tell_frame (suc j) o FF co) t 1 E r fs wf up) (omega arith) (omega arith))
 
-    -- the verdict of a guard
-    pub trap_from : (t : Config) (j : ℕ) (k : Nodes) → To M' 1 30 t (st X (l ++ ex) (values.I32 (suc j) ∷ []) (tested C ls es o k) g0 co) → After M M' E gl W t (traps (suc j) (config (FF ∷ Fs) g co))
+    -- the kind that a guard gave, inside its arm
+    pub trap_from : (t : Config) (j : ℕ) (k : Nodes) → To M' 1 30 t (st (armed X k []) (l ++ ex) (values.I32 (suc j) ∷ []) (unwind_kind C ls es o) g0 co) → After M M' E gl W t (traps (suc j) (config (FF ∷ Fs) g co))
     trap_from t j k pre =
         let h = f.labels in
         let at : slice_get (types ex) (kind_at C) ≡ Some I32 = rw f.room (added_kind C.slots) in
         let v = values.I32 (suc j) in
         let ex1 = slice_set ex (kind_at C) v in
         let low = room_height C es N h.2 in
-        let v1 = caught_to M' C l size {X = X} {g = g0} {co = co} ex j ls es o k f.room in
+        let v1 : To M' 1 1 (st (armed X k []) (l ++ ex) (v ∷ []) (unwind_kind C ls es o) g0 co) (st (armed X k []) (l ++ ex1) [] (unwind C ls es o) g0 co) = added_set M' C l size ex (kind_at C) I32 v at refl in
         let h1 = fits_put C ex None (LL ∷ Ls) (e ∷ ss) (kind_at C) v (omega (arith, low)) h in
         let h2 = fits_put C ex1 None (LL ∷ Ls) (e ∷ ss) (offset_at C) (values.I32 o) (omega (arith, low)) h1 in
         let X1 = armed X k [] in

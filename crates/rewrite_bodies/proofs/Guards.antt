@@ -14,7 +14,7 @@ use Rattle.wasm_syntax.specs.Effect.{Effect, gives, unfit, effect, takes, with_m
 use Rattle.wasm_syntax.specs.Machine.{Engine, next, parts, cut}
 use Rattle.rewrite_bodies.specs.Slots.{Place, Ctx}
 use Rattle.rewrite_bodies.specs.Pieces.{const, fetch}
-use Rattle.rewrite_bodies.specs.Guards.{least, minus_one, zero_test, guard_zero, overflow_test, guard_signed, out_test, guard_memory, guard, divides, can_trap, past_end, range_test, guard_copy, guard_fill}
+use Rattle.rewrite_bodies.specs.Guards.{least, minus_one, guard_zero, overflow_test, guard_signed, out_test, guard_memory, guard, divides, can_trap, past_end, range_test, guard_copy, guard_fill, kind_signed, kind}
 use Rattle.linear_memory.specs.Memory.{Memory, pages, to_bytes}
 use Rattle.wasm_syntax.specs.Access.{load_type, load_bits, store_type, store_bits}
 use Rattle.linear_memory.specs.Memory as memories
@@ -37,7 +37,7 @@ use Rattle.wasm_syntax.specs.declared.instruction.Store.{Store as Store_}
 use Rattle.wasm_syntax.specs.declared.instruction.Store.TheVariants as stores
 use Rattle.int_ops.specs.declared.operators.Narrow32.TheVariants as narrow32
 use Rattle.int_ops.specs.declared.operators.Narrow64.TheVariants as narrow64
-use Rattle.rewrite_bodies.specs.inner.Promises.{kind_of}
+use Rattle.rewrite_bodies.specs.inner.Promises.{kind_of, verdict}
 use Rattle.rewrite_bodies.proofs.Parts.{pages_are}
 use Rattle.int_ops.specs.Integers as integers
 use Rattle.int_ops.specs.Integers.{binary as int_binary, compare as int_compare, div_s, rem_s}
@@ -51,6 +51,19 @@ if_zero false x = x
 abbrev if_kind : Bool → ℕ → ℕ
 if_kind true k = k
 if_kind false k = 0
+
+-- the access ends inside the memory, or the kind is 4
+abbrev out_kind : Bool → ℕ
+out_kind true = 0
+out_kind false = 4
+
+zero_verdict : (z : Bool) → bool_number z ≡ verdict (if_zero z 0)
+zero_verdict true = refl
+zero_verdict false = refl
+
+out_verdict : (q : Bool) → bool_number (not q) ≡ verdict (out_kind q)
+out_verdict true = refl
+out_verdict false = refl
 
 -- two numbers are there where something fits
 two_of : (t u : ValType) (w v : Value) (go : ℕ → ℕ → Effect) → effects.on_two t u go (w ∷ v ∷ []) ≢ unfit → (n : ℕ) × (k : ℕ) × (number t w ≡ Some n) × (number u v ≡ Some k)
@@ -71,52 +84,101 @@ number_value I64 n = refl
 module _ (M : Engine) (C : Ctx) (l : List Value) (size : length C.locals ≡ length l) where
   module _ (X : Shell) (g : World) (co : List CollectorCall) (tl : List Value) where
     -- the topmost number is tested
-    pub zero_test_to : (t : ValType) (v : Value) (n x : ℕ) (q : Bool) (s : List Value) (k : Nodes) → number t v ≡ Some n → (n == 0) ≡ q → To M 2 2 (st X tl (v ∷ values.I32 x ∷ values.I32 2 ∷ s) (zero_test t k) g co) (st X tl (values.I32 (if_zero q x) ∷ s) k g co)
-    zero_test_to t v n x true s k e d = seq M (one_step M (st X tl (v ∷ values.I32 x ∷ values.I32 2 ∷ s) (zero_test t k) g co) (next (st X tl (values.I32 1 ∷ values.I32 x ∷ values.I32 2 ∷ s) (basic 0 Select k) g co)) (rw (e, d) refl)) (one_step M _ _ refl)
-    zero_test_to t v n x false s k e d = seq M (one_step M (st X tl (v ∷ values.I32 x ∷ values.I32 2 ∷ s) (zero_test t k) g co) (next (st X tl (values.I32 0 ∷ values.I32 x ∷ values.I32 2 ∷ s) (basic 0 Select k) g co)) (rw (e, d) refl)) (one_step M _ _ refl)
+    eqz_to : (t : ValType) (v : Value) (n : ℕ) (q : Bool) (s : List Value) (k : Nodes) → number t v ≡ Some n → (n == 0) ≡ q → To M 1 1 (st X tl (v ∷ s) (basic 0 (Eqz t) k) g co) (st X tl (values.I32 (bool_number q) ∷ s) k g co)
+    eqz_to t v n q s k e d = one_step M (st X tl (v ∷ s) (basic 0 (Eqz t) k) g co) _ (rw (e, d) refl)
 
     -- a number against a constant
     eq_to : (t : ValType) (v : Value) (n c : ℕ) (q : Bool) (s : List Value) (k : Nodes) → number t v ≡ Some n → (n == c) ≡ q → To M 2 2 (st X tl (v ∷ s) (const (value t c) (basic 0 (Compare t Eq) k)) g co) (st X tl (values.I32 (bool_number q) ∷ s) k g co)
     unfolding int_compare
     eq_to t v n c q s k e d = seq M (push_to M (value t c)) (one_step M (st X tl (value t c ∷ v ∷ s) (basic 0 (Compare t Eq) k) g co) _ (rw (number_value, e, d) refl))
 
-    and_to : (p q : Bool) (s : List Value) (k : Nodes) → To M 2 2 (st X tl (values.I32 (bool_number q) ∷ values.I32 (bool_number p) ∷ values.I32 0 ∷ values.I32 3 ∷ s) (basic 0 (Binary I32 And) (basic 0 Select k)) g co) (st X tl (values.I32 (if_kind (p && q) 3) ∷ s) k g co)
+    and_to : (p q : Bool) (s : List Value) (k : Nodes) → To M 1 1 (st X tl (values.I32 (bool_number q) ∷ values.I32 (bool_number p) ∷ s) (basic 0 (Binary I32 And) k) g co) (st X tl (values.I32 (bool_number (p && q)) ∷ s) k g co)
     unfolding int_binary
-    and_to true true s k = seq M (one_step M _ (next (st X tl (values.I32 1 ∷ values.I32 0 ∷ values.I32 3 ∷ s) (basic 0 Select k) g co)) refl) (one_step M _ _ refl)
-    and_to true false s k = seq M (one_step M _ (next (st X tl (values.I32 0 ∷ values.I32 0 ∷ values.I32 3 ∷ s) (basic 0 Select k) g co)) refl) (one_step M _ _ refl)
-    and_to false true s k = seq M (one_step M _ (next (st X tl (values.I32 0 ∷ values.I32 0 ∷ values.I32 3 ∷ s) (basic 0 Select k) g co)) refl) (one_step M _ _ refl)
-    and_to false false s k = seq M (one_step M _ (next (st X tl (values.I32 0 ∷ values.I32 0 ∷ values.I32 3 ∷ s) (basic 0 Select k) g co)) refl) (one_step M _ _ refl)
+    and_to true true s k = one_step M _ _ refl
+    and_to true false s k = one_step M _ _ refl
+    and_to false true s k = one_step M _ _ refl
+    and_to false false s k = one_step M _ _ refl
 
+    -- the verdicts of both tests of a quotient
+    or_to : (p z : Bool) (s : List Value) (k : Nodes) → To M 1 1 (st X tl (values.I32 (bool_number z) ∷ values.I32 (bool_number p) ∷ s) (basic 0 (Binary I32 Or) k) g co) (st X tl (values.I32 (verdict (if_zero z (if_kind p 3))) ∷ s) k g co)
+    unfolding int_binary
+    or_to true true s k = one_step M _ _ refl
+    or_to true false s k = one_step M _ _ refl
+    or_to false true s k = one_step M _ _ refl
+    or_to false false s k = one_step M _ _ refl
+
+    -- 2, or 3 where the divisor is not zero
+    two_or_three_to : (z : Bool) (k : Nodes) → To M 1 1 (st X tl (values.I32 (bool_number z) ∷ values.I32 3 ∷ values.I32 2 ∷ []) (basic 0 Select k) g co) (st X tl (values.I32 (if_zero z 3) ∷ []) k g co)
+    two_or_three_to true k = one_step M _ _ refl
+    two_or_three_to false k = one_step M _ _ refl
+
+  -- the guard leaves 1 where there is a kind, and 0 where there is none; where there is one, the other piece leaves it
   abbrev Guards : Shell → Nodes → World → List CollectorCall → List Value → List Place → Basic → ℕ → Type 0
-  Guards X k g co ex es i n = To M 1 26 (st X (l ++ ex) [] (guard C i es k) g co) (st X (l ++ ex) (values.I32 n ∷ []) k g co)
+  Guards X k g co ex es i n =
+      To M 1 21 (st X (l ++ ex) [] (guard C i es k) g co) (st X (l ++ ex) (values.I32 (verdict n) ∷ []) k g co)
+      × ((j : ℕ) → n ≡ suc j → To M 1 5 (st X (l ++ ex) [] (kind C i es k) g co) (st X (l ++ ex) (values.I32 (suc j) ∷ []) k g co))
 
-  guard_zero_to : (X : Shell) (k : Nodes) (g : World) (co : List CollectorCall) (ex : List Value) (t : ValType) (e : Place) (h : ℕ) (v : Value) (n : ℕ) → One ex h e v → number t v ≡ Some n → To M 1 26 (st X (l ++ ex) [] (guard_zero C t e h k) g co) (st X (l ++ ex) (values.I32 (if_zero (n == 0) 0) ∷ []) k g co)
-  guard_zero_to X k g co ex t e h v n o d =
-      let s3 : To M 1 1 (st X (l ++ ex) (values.I32 0 ∷ values.I32 2 ∷ []) (fetch C e h (zero_test t k)) g co) (st X (l ++ ex) (v ∷ values.I32 0 ∷ values.I32 2 ∷ []) (zero_test t k) g co) = fetch_to M C l size ex h e v o in
-      weaken M (seq M (push_to M (values.I32 2)) (seq M (push_to M (values.I32 0)) (seq M s3 (zero_test_to X g co (l ++ ex) t v n 0 (n == 0) [] k d refl)))) (omega arith) (omega arith)
+  -- a constant kind
+  one_kind_to : (X : Shell) (k : Nodes) (g : World) (co : List CollectorCall) (tl : List Value) (c j : ℕ) → c ≡ suc j → To M 1 5 (st X tl [] (const (values.I32 c) k) g co) (st X tl (values.I32 (suc j) ∷ []) k g co)
+  one_kind_to X k g co tl c j e = subst (λ z. To M 1 5 (st X tl [] (const (values.I32 c) k) g co) (st X tl (values.I32 z ∷ []) k g co)) e (weaken M (push_to M (values.I32 c)) (omega arith) (omega arith))
+
+  two_is : (z : Bool) (j : ℕ) → if_zero z 0 ≡ suc j → 2 ≡ suc j
+  two_is true j e = e
+  two_is false j e = absurd (cc)
+
+  four_is : (q : Bool) (j : ℕ) → out_kind q ≡ suc j → 4 ≡ suc j
+  four_is true j e = absurd (cc)
+  four_is false j e = e
+
+  zero_to : (X : Shell) (k : Nodes) (g : World) (co : List CollectorCall) (ex s : List Value) (t : ValType) (e : Place) (h : ℕ) (v : Value) (n : ℕ) → One ex h e v → number t v ≡ Some n → To M 2 2 (st X (l ++ ex) s (guard_zero C t e h k) g co) (st X (l ++ ex) (values.I32 (bool_number (n == 0)) ∷ s) k g co)
+  zero_to X k g co ex s t e h v n o d =
+      let s1 : To M 1 1 (st X (l ++ ex) s (fetch C e h (basic 0 (Eqz t) k)) g co) (st X (l ++ ex) (v ∷ s) (basic 0 (Eqz t) k) g co) = fetch_to M C l size ex h e v o in
+      seq M s1 (eqz_to X g co (l ++ ex) t v n (n == 0) s k d refl)
+
+  guard_zero_to : (X : Shell) (k : Nodes) (g : World) (co : List CollectorCall) (ex : List Value) (t : ValType) (e : Place) (h : ℕ) (v : Value) (n : ℕ) → One ex h e v → number t v ≡ Some n →
+      To M 1 21 (st X (l ++ ex) [] (guard_zero C t e h k) g co) (st X (l ++ ex) (values.I32 (verdict (if_zero (n == 0) 0)) ∷ []) k g co)
+      × ((j : ℕ) → if_zero (n == 0) 0 ≡ suc j → To M 1 5 (st X (l ++ ex) [] (const (values.I32 2) k) g co) (st X (l ++ ex) (values.I32 (suc j) ∷ []) k g co))
+  guard_zero_to X k g co ex t e h v n o d = (
+    subst (λ b. To M 1 21 (st X (l ++ ex) [] (guard_zero C t e h k) g co) (st X (l ++ ex) (values.I32 b ∷ []) k g co)) (zero_verdict (n == 0)) (weaken M (zero_to X k g co ex [] t e h v n o d) (omega arith) (omega arith)),
+    λ j q. one_kind_to X k g co (l ++ ex) 2 j (two_is (n == 0) j q),
+  )
 
   signed_kind : (x : ℕ) (p z : Bool) (f : ℕ → Effect) → ((x : ℕ) → kind_of (f x) ≡ 0) → kind_of (effects.divides (if z then Err DivideByZero else (if p then Err Overflow else Ok x)) f) ≡ if_zero z (if_kind p 3)
   signed_kind x p true f h = refl
   signed_kind x true false f h = refl
   signed_kind x false false f h = h x
 
-  guard_signed_to : (X : Shell) (k : Nodes) (g : World) (co : List CollectorCall) (ex : List Value) (t : ValType) (e e' : Place) (h : ℕ) (w v : Value) (n a : ℕ) → One ex (suc h) e w → One ex h e' v → number t w ≡ Some n → number t v ≡ Some a → To M 1 26 (st X (l ++ ex) [] (guard_signed C t e e' h k) g co) (st X (l ++ ex) (values.I32 (if_zero (n == 0) (if_kind ((a == 2 ^ (bits t - 1)) && (n == 2 ^ bits t - 1)) 3)) ∷ []) k g co)
+  -- the kind of a trap of a quotient
+  signed_kind_to : (X : Shell) (k : Nodes) (g : World) (co : List CollectorCall) (ex : List Value) (t : ValType) (e : Place) (h : ℕ) (w : Value) (n : ℕ) → One ex h e w → number t w ≡ Some n → To M 5 5 (st X (l ++ ex) [] (kind_signed C t e h k) g co) (st X (l ++ ex) (values.I32 (if_zero (n == 0) 3) ∷ []) k g co)
+  signed_kind_to X k g co ex t e h w n o d =
+      let s0 : To M 2 2 (st X (l ++ ex) [] (kind_signed C t e h k) g co) (st X (l ++ ex) (values.I32 3 ∷ values.I32 2 ∷ []) (guard_zero C t e h (basic 0 Select k)) g co) = seq M (push_to M (values.I32 2)) (push_to M (values.I32 3)) in
+      seq M s0 (seq M (zero_to X (basic 0 Select k) g co ex (values.I32 3 ∷ values.I32 2 ∷ []) t e h w n o d) (two_or_three_to X g co (l ++ ex) (n == 0) k))
+
+  three_is : (z p : Bool) (j : ℕ) → if_zero z (if_kind p 3) ≡ suc j → if_zero z 3 ≡ suc j
+  three_is true p j e = e
+  three_is false true j e = e
+  three_is false false j e = absurd (cc)
+
+  guard_signed_to : (X : Shell) (k : Nodes) (g : World) (co : List CollectorCall) (ex : List Value) (t : ValType) (e e' : Place) (h : ℕ) (w v : Value) (n a : ℕ) → One ex (suc h) e w → One ex h e' v → number t w ≡ Some n → number t v ≡ Some a →
+      To M 1 21 (st X (l ++ ex) [] (guard_signed C t e e' h k) g co) (st X (l ++ ex) (values.I32 (verdict (if_zero (n == 0) (if_kind ((a == 2 ^ (bits t - 1)) && (n == 2 ^ bits t - 1)) 3))) ∷ []) k g co)
+      × ((j : ℕ) → if_zero (n == 0) (if_kind ((a == 2 ^ (bits t - 1)) && (n == 2 ^ bits t - 1)) 3) ≡ suc j → To M 1 5 (st X (l ++ ex) [] (kind_signed C t e (suc h) k) g co) (st X (l ++ ex) (values.I32 (suc j) ∷ []) k g co))
   guard_signed_to X k g co ex t e e' h w v n a o o' d d' =
       let tl = l ++ ex in
       let p = a == 2 ^ (bits t - 1) in
       let q = n == 2 ^ bits t - 1 in
-      let base = values.I32 0 ∷ values.I32 3 ∷ values.I32 2 ∷ [] in
-      let k6 = fetch C e (suc h) (zero_test t k) in
-      let k5 = basic 0 (Binary I32 And) (basic 0 Select k6) in
+      let k7 = basic 0 (Binary I32 Or) k in
+      let k6 = guard_zero C t e (suc h) k7 in
+      let k5 = basic 0 (Binary I32 And) k6 in
       let k4 = fetch C e (suc h) (const (minus_one t) (basic 0 (Compare t Eq) k5)) in
-      let s0 : To M 3 3 (st X tl [] (guard_signed C t e e' h k) g co) (st X tl base (overflow_test C t e e' h k6) g co) = seq M (push_to M (values.I32 2)) (seq M (push_to M (values.I32 3)) (push_to M (values.I32 0))) in
-      let s1 : To M 1 1 (st X tl base (overflow_test C t e e' h k6) g co) (st X tl (v ∷ base) (const (least t) (basic 0 (Compare t Eq) k4)) g co) = fetch_to M C l size ex h e' v o' in
-      let s2 : To M 2 2 (st X tl (v ∷ base) (const (least t) (basic 0 (Compare t Eq) k4)) g co) (st X tl (values.I32 (bool_number p) ∷ base) k4 g co) = eq_to X g co tl t v a (2 ^ (bits t - 1)) p base k4 d' refl in
-      let s3 : To M 1 1 (st X tl (values.I32 (bool_number p) ∷ base) k4 g co) (st X tl (w ∷ values.I32 (bool_number p) ∷ base) (const (minus_one t) (basic 0 (Compare t Eq) k5)) g co) = fetch_to M C l size ex (suc h) e w o in
-      let s4 : To M 2 2 (st X tl (w ∷ values.I32 (bool_number p) ∷ base) (const (minus_one t) (basic 0 (Compare t Eq) k5)) g co) (st X tl (values.I32 (bool_number q) ∷ values.I32 (bool_number p) ∷ base) k5 g co) = eq_to X g co tl t w n (2 ^ bits t - 1) q (values.I32 (bool_number p) ∷ base) k5 d refl in
-      let s5 : To M 2 2 (st X tl (values.I32 (bool_number q) ∷ values.I32 (bool_number p) ∷ base) k5 g co) (st X tl (values.I32 (if_kind (p && q) 3) ∷ values.I32 2 ∷ []) k6 g co) = and_to X g co tl p q (values.I32 2 ∷ []) k6 in
-      let s6 : To M 1 1 (st X tl (values.I32 (if_kind (p && q) 3) ∷ values.I32 2 ∷ []) k6 g co) (st X tl (w ∷ values.I32 (if_kind (p && q) 3) ∷ values.I32 2 ∷ []) (zero_test t k) g co) = fetch_to M C l size ex (suc h) e w o in
-      weaken M (seq M s0 (seq M s1 (seq M s2 (seq M s3 (seq M s4 (seq M s5 (seq M s6 (zero_test_to X g co tl t w n (if_kind (p && q) 3) (n == 0) [] k d refl)))))))) (omega arith) (omega arith)
+      let s1 : To M 1 1 (st X tl [] (overflow_test C t e e' h k6) g co) (st X tl (v ∷ []) (const (least t) (basic 0 (Compare t Eq) k4)) g co) = fetch_to M C l size ex h e' v o' in
+      let s2 : To M 2 2 (st X tl (v ∷ []) (const (least t) (basic 0 (Compare t Eq) k4)) g co) (st X tl (values.I32 (bool_number p) ∷ []) k4 g co) = eq_to X g co tl t v a (2 ^ (bits t - 1)) p [] k4 d' refl in
+      let s3 : To M 1 1 (st X tl (values.I32 (bool_number p) ∷ []) k4 g co) (st X tl (w ∷ values.I32 (bool_number p) ∷ []) (const (minus_one t) (basic 0 (Compare t Eq) k5)) g co) = fetch_to M C l size ex (suc h) e w o in
+      let s4 : To M 2 2 (st X tl (w ∷ values.I32 (bool_number p) ∷ []) (const (minus_one t) (basic 0 (Compare t Eq) k5)) g co) (st X tl (values.I32 (bool_number q) ∷ values.I32 (bool_number p) ∷ []) k5 g co) = eq_to X g co tl t w n (2 ^ bits t - 1) q (values.I32 (bool_number p) ∷ []) k5 d refl in
+      let s5 : To M 1 1 (st X tl (values.I32 (bool_number q) ∷ values.I32 (bool_number p) ∷ []) k5 g co) (st X tl (values.I32 (bool_number (p && q)) ∷ []) k6 g co) = and_to X g co tl p q [] k6 in
+      let s6 = zero_to X k7 g co ex (values.I32 (bool_number (p && q)) ∷ []) t e (suc h) w n o d in
+      let s7 = or_to X g co tl (p && q) (n == 0) [] k in
+      let whole : To M 1 21 (st X tl [] (guard_signed C t e e' h k) g co) (st X tl (values.I32 (verdict (if_zero (n == 0) (if_kind (p && q) 3))) ∷ []) k g co) = weaken M (seq M s1 (seq M s2 (seq M s3 (seq M s4 (seq M s5 (seq M s6 s7)))))) (omega arith) (omega arith) in
+      (whole, λ j z. subst (λ b. To M 1 5 (st X tl [] (kind_signed C t e (suc h) k) g co) (st X tl (values.I32 b ∷ []) k g co)) (three_is (n == 0) (p && q) j z) (weaken M (signed_kind_to X k g co ex t e (suc h) w n o d) (omega arith) (omega arith)))
 
   zero_kind : (n : ℕ) (z : Bool) (x : ℕ) (f : ℕ → Effect) → ((x : ℕ) → kind_of (f x) ≡ 0) → kind_of (effects.divides (if z then Err DivideByZero else Ok x) f) ≡ if_zero z 0
   zero_kind n true x f h = refl
@@ -148,10 +210,6 @@ module _ (M : Engine) (C : Ctx) (l : List Value) (size : length C.locals ≡ len
 
   -- ---- memory
 
-  abbrev out_kind : Bool → ℕ
-  out_kind true = 0
-  out_kind false = 4
-
   not_le : (a b c e : ℕ) (q : Bool) → e ≡ a + b → nat_le (a + b) c ≡ q → nat_lt c e ≡ not q
   not_le a b c e true y h = let z : a + b ≤ c = leb-true (a + b) c h in le-ltb c e (omega (arith, y, z))
   not_le a b c e false y h = lt-ltb c e (omega (arith, y, past (a + b) c h))
@@ -176,28 +234,23 @@ module _ (M : Engine) (C : Ctx) (l : List Value) (size : length C.locals ≡ len
       let s5 : To M 1 1 (st X tl (values.I64 size64 ∷ values.I64 s ∷ base) k7 g co) (st X tl (values.I32 (bool_number (nat_lt (length m.bytes) s)) ∷ base) k g co) = one_step M _ _ (rw cmp refl) in
       seq M s3 (seq M s4 s5)
 
-  chosen : (X : Shell) (k : Nodes) (g : World) (co : List CollectorCall) (tl : List Value) (q : Bool) → To M 1 1 (st X tl (values.I32 (bool_number (not q)) ∷ values.I32 0 ∷ values.I32 4 ∷ []) (basic 0 Select k) g co) (st X tl (values.I32 (out_kind q) ∷ []) k g co)
-  chosen X k g co tl true = one_step M _ _ refl
-  chosen X k g co tl false = one_step M _ _ refl
-
-  guard_memory_to : (X : Shell) (k : Nodes) (g : World) (m : Memory) (co : List CollectorCall) (ex : List Value) (e : Place) (h x n o b : ℕ) (q : Bool) → One ex h e (values.I32 x) → g.memory ≡ Some m → MemoryFits (Some m) → o < 2 ^ 32 → b ≤ 64 → n ≡ o + b → nat_le (address x o + b) (length m.bytes) ≡ q → To M 1 26 (st X (l ++ ex) [] (guard_memory C e h n k) g co) (st X (l ++ ex) (values.I32 (out_kind q) ∷ []) k g co)
+  guard_memory_to : (X : Shell) (k : Nodes) (g : World) (m : Memory) (co : List CollectorCall) (ex : List Value) (e : Place) (h x n o b : ℕ) (q : Bool) → One ex h e (values.I32 x) → g.memory ≡ Some m → MemoryFits (Some m) → o < 2 ^ 32 → b ≤ 64 → n ≡ o + b → nat_le (address x o + b) (length m.bytes) ≡ q →
+      To M 1 21 (st X (l ++ ex) [] (guard_memory C e h n k) g co) (st X (l ++ ex) (values.I32 (verdict (out_kind q)) ∷ []) k g co)
+      × ((j : ℕ) → out_kind q ≡ suc j → To M 1 5 (st X (l ++ ex) [] (const (values.I32 4) k) g co) (st X (l ++ ex) (values.I32 (suc j) ∷ []) k g co))
   unfolding int_binary
   guard_memory_to X k g m co ex e h x n o b q on gm mf lo lb ne inside_ =
       let tl = l ++ ex in
-      let base = values.I32 0 ∷ values.I32 4 ∷ [] in
       let x' = modulo I32 x in
       let lt : n < 2 ^ 32 + 64 + 1 = omega (arith, lo, lb, ne) in
       let sum : modulo I64 (x' + n) ≡ x' + n = (let y : x % 2 ^ 32 < 2 ^ 32 = mod-lt x (omega arith) in mod-eq_of_lt (omega (arith, y, lt))) in
-      let k8 = basic 0 Select k in
-      let k4 = past_end k8 in
+      let k4 = past_end k in
       let k3 = basic 0 (Binary I64 Add) k4 in
       let sum64 = modulo I64 (x' + n) in
-      let s0 : To M 2 2 (st X tl [] (guard_memory C e h n k) g co) (st X tl base (fetch C e h (out_test n k)) g co) = seq M (push_to M (values.I32 4)) (push_to M (values.I32 0)) in
-      let s1 : To M 1 1 (st X tl base (fetch C e h (out_test n k)) g co) (st X tl (values.I32 x ∷ base) (out_test n k) g co) = fetch_to M C l size ex h e (values.I32 x) on in
-      let s2 : To M 3 3 (st X tl (values.I32 x ∷ base) (out_test n k) g co) (st X tl (values.I64 sum64 ∷ base) k4 g co) = seq M (one_step M _ (next (st X tl (values.I64 x' ∷ base) (const (values.I64 n) k3) g co)) refl) (seq M (push_to M (values.I64 n)) (one_step M _ _ refl)) in
-      let cmp : nat_lt (length m.bytes) sum64 ≡ not q = not_le (address x o) b (length m.bytes) sum64 q (sum ∙ omega (arith, ne)) inside_ in
-      let s3 : To M 5 5 (st X tl (values.I64 sum64 ∷ base) k4 g co) (st X tl (values.I32 (bool_number (not q)) ∷ base) k8 g co) = subst (λ z. To M 5 5 (st X tl (values.I64 sum64 ∷ base) k4 g co) (st X tl (values.I32 (bool_number z) ∷ base) k8 g co)) cmp (past_end_to X k8 g m co tl base sum64 gm mf) in
-      weaken M (seq M s0 (seq M s1 (seq M s2 (seq M s3 (chosen X k g co tl q))))) (omega arith) (omega arith)
+      let s1 : To M 1 1 (st X tl [] (fetch C e h (out_test n k)) g co) (st X tl (values.I32 x ∷ []) (out_test n k) g co) = fetch_to M C l size ex h e (values.I32 x) on in
+      let s2 : To M 3 3 (st X tl (values.I32 x ∷ []) (out_test n k) g co) (st X tl (values.I64 sum64 ∷ []) k4 g co) = seq M (one_step M _ (next (st X tl (values.I64 x' ∷ []) (const (values.I64 n) k3) g co)) refl) (seq M (push_to M (values.I64 n)) (one_step M _ _ refl)) in
+      let cmp : bool_number (nat_lt (length m.bytes) sum64) ≡ verdict (out_kind q) = ap bool_number (not_le (address x o) b (length m.bytes) sum64 q (sum ∙ omega (arith, ne)) inside_) ∙ out_verdict q in
+      let s3 : To M 5 5 (st X tl (values.I64 sum64 ∷ []) k4 g co) (st X tl (values.I32 (verdict (out_kind q)) ∷ []) k g co) = subst (λ z. To M 5 5 (st X tl (values.I64 sum64 ∷ []) k4 g co) (st X tl (values.I32 z ∷ []) k g co)) cmp (past_end_to X k g m co tl [] sum64 gm mf) in
+      (weaken M (seq M s1 (seq M s2 s3)) (omega arith) (omega arith), λ j z. one_kind_to X k g co tl 4 j (four_is q j z))
 
   -- a range of bytes against the length of the memory
   range_to : (X : Shell) (k : Nodes) (g : World) (m : Memory) (co : List CollectorCall) (ex base : List Value) (a n : Place) (h hn x y : ℕ) → One ex h a (values.I32 x) → One ex hn n (values.I32 y) → g.memory ≡ Some m → MemoryFits (Some m) → To M 10 10 (st X (l ++ ex) base (range_test C a h n hn k) g co) (st X (l ++ ex) (values.I32 (bool_number (not (nat_le (modulo I32 x + modulo I32 y) (length m.bytes)))) ∷ base) k g co)
@@ -222,34 +275,33 @@ module _ (M : Engine) (C : Ctx) (l : List Value) (size : length C.locals ≡ len
       let s4 : To M 5 5 (st X tl (values.I64 sum64 ∷ base) k4 g co) (st X tl (values.I32 (bool_number (not q)) ∷ base) k g co) = subst (λ z. To M 5 5 (st X tl (values.I64 sum64 ∷ base) k4 g co) (st X tl (values.I32 (bool_number z) ∷ base) k g co)) cmp (past_end_to X k g m co tl base sum64 gm mf) in
       seq M s0 (seq M s1 (seq M s2 (seq M s3 s4)))
 
-  either_to : (X : Shell) (k : Nodes) (g : World) (co : List CollectorCall) (tl : List Value) (p q : Bool) → To M 2 2 (st X tl (values.I32 (bool_number (not q)) ∷ values.I32 (bool_number (not p)) ∷ values.I32 0 ∷ values.I32 4 ∷ []) (basic 0 (Binary I32 Or) (basic 0 Select k)) g co) (st X tl (values.I32 (out_kind (p && q)) ∷ []) k g co)
+  either_to : (X : Shell) (k : Nodes) (g : World) (co : List CollectorCall) (tl : List Value) (p q : Bool) → To M 1 1 (st X tl (values.I32 (bool_number (not q)) ∷ values.I32 (bool_number (not p)) ∷ []) (basic 0 (Binary I32 Or) k) g co) (st X tl (values.I32 (verdict (out_kind (p && q))) ∷ []) k g co)
   unfolding int_binary
-  either_to X k g co tl true true = seq M (one_step M _ (next (st X tl (values.I32 0 ∷ values.I32 0 ∷ values.I32 4 ∷ []) (basic 0 Select k) g co)) refl) (one_step M _ _ refl)
-  either_to X k g co tl true false = seq M (one_step M _ (next (st X tl (values.I32 1 ∷ values.I32 0 ∷ values.I32 4 ∷ []) (basic 0 Select k) g co)) refl) (one_step M _ _ refl)
-  either_to X k g co tl false true = seq M (one_step M _ (next (st X tl (values.I32 1 ∷ values.I32 0 ∷ values.I32 4 ∷ []) (basic 0 Select k) g co)) refl) (one_step M _ _ refl)
-  either_to X k g co tl false false = seq M (one_step M _ (next (st X tl (values.I32 1 ∷ values.I32 0 ∷ values.I32 4 ∷ []) (basic 0 Select k) g co)) refl) (one_step M _ _ refl)
+  either_to X k g co tl true true = one_step M _ _ refl
+  either_to X k g co tl true false = one_step M _ _ refl
+  either_to X k g co tl false true = one_step M _ _ refl
+  either_to X k g co tl false false = one_step M _ _ refl
 
-  guard_copy_to : (X : Shell) (k : Nodes) (g : World) (m : Memory) (co : List CollectorCall) (ex : List Value) (n from to : Place) (h x y z : ℕ) → One ex (suc (suc h)) n (values.I32 z) → One ex (suc h) from (values.I32 x) → One ex h to (values.I32 y) → g.memory ≡ Some m → MemoryFits (Some m) → To M 1 26 (st X (l ++ ex) [] (guard_copy C n from to h k) g co) (st X (l ++ ex) (values.I32 (out_kind (nat_le (modulo I32 x + modulo I32 z) (length m.bytes) && nat_le (modulo I32 y + modulo I32 z) (length m.bytes))) ∷ []) k g co)
+  guard_copy_to : (X : Shell) (k : Nodes) (g : World) (m : Memory) (co : List CollectorCall) (ex : List Value) (n from to : Place) (h x y z : ℕ) → One ex (suc (suc h)) n (values.I32 z) → One ex (suc h) from (values.I32 x) → One ex h to (values.I32 y) → g.memory ≡ Some m → MemoryFits (Some m) →
+      To M 1 21 (st X (l ++ ex) [] (guard_copy C n from to h k) g co) (st X (l ++ ex) (values.I32 (verdict (out_kind (nat_le (modulo I32 x + modulo I32 z) (length m.bytes) && nat_le (modulo I32 y + modulo I32 z) (length m.bytes)))) ∷ []) k g co)
+      × ((j : ℕ) → out_kind (nat_le (modulo I32 x + modulo I32 z) (length m.bytes) && nat_le (modulo I32 y + modulo I32 z) (length m.bytes)) ≡ suc j → To M 1 5 (st X (l ++ ex) [] (const (values.I32 4) k) g co) (st X (l ++ ex) (values.I32 (suc j) ∷ []) k g co))
   guard_copy_to X k g m co ex n from to h x y z on of ot gm mf =
       let tl = l ++ ex in
-      let base = values.I32 0 ∷ values.I32 4 ∷ [] in
       let p = nat_le (modulo I32 x + modulo I32 z) (length m.bytes) in
       let q = nat_le (modulo I32 y + modulo I32 z) (length m.bytes) in
-      let k2 = basic 0 (Binary I32 Or) (basic 0 Select k) in
+      let k2 = basic 0 (Binary I32 Or) k in
       let k1 = range_test C to h n (suc (suc h)) k2 in
-      let s0 : To M 2 2 (st X tl [] (guard_copy C n from to h k) g co) (st X tl base (range_test C from (suc h) n (suc (suc h)) k1) g co) = seq M (push_to M (values.I32 4)) (push_to M (values.I32 0)) in
-      let s1 = range_to X k1 g m co ex base from n (suc h) (suc (suc h)) x z of on gm mf in
-      let s2 = range_to X k2 g m co ex (values.I32 (bool_number (not p)) ∷ base) to n h (suc (suc h)) y z ot on gm mf in
-      weaken M (seq M s0 (seq M s1 (seq M s2 (either_to X k g co tl p q)))) (omega arith) (omega arith)
+      let s1 = range_to X k1 g m co ex [] from n (suc h) (suc (suc h)) x z of on gm mf in
+      let s2 = range_to X k2 g m co ex (values.I32 (bool_number (not p)) ∷ []) to n h (suc (suc h)) y z ot on gm mf in
+      (weaken M (seq M s1 (seq M s2 (either_to X k g co tl p q))) (omega arith) (omega arith), λ j z. one_kind_to X k g co tl 4 j (four_is (p && q) j z))
 
-  guard_fill_to : (X : Shell) (k : Nodes) (g : World) (m : Memory) (co : List CollectorCall) (ex : List Value) (n to : Place) (h y z : ℕ) → One ex (suc (suc h)) n (values.I32 z) → One ex h to (values.I32 y) → g.memory ≡ Some m → MemoryFits (Some m) → To M 1 26 (st X (l ++ ex) [] (guard_fill C n to h k) g co) (st X (l ++ ex) (values.I32 (out_kind (nat_le (modulo I32 y + modulo I32 z) (length m.bytes))) ∷ []) k g co)
+  guard_fill_to : (X : Shell) (k : Nodes) (g : World) (m : Memory) (co : List CollectorCall) (ex : List Value) (n to : Place) (h y z : ℕ) → One ex (suc (suc h)) n (values.I32 z) → One ex h to (values.I32 y) → g.memory ≡ Some m → MemoryFits (Some m) →
+      To M 1 21 (st X (l ++ ex) [] (guard_fill C n to h k) g co) (st X (l ++ ex) (values.I32 (verdict (out_kind (nat_le (modulo I32 y + modulo I32 z) (length m.bytes)))) ∷ []) k g co)
+      × ((j : ℕ) → out_kind (nat_le (modulo I32 y + modulo I32 z) (length m.bytes)) ≡ suc j → To M 1 5 (st X (l ++ ex) [] (const (values.I32 4) k) g co) (st X (l ++ ex) (values.I32 (suc j) ∷ []) k g co))
   guard_fill_to X k g m co ex n to h y z on ot gm mf =
-      let tl = l ++ ex in
-      let base = values.I32 0 ∷ values.I32 4 ∷ [] in
-      let k2 = basic 0 Select k in
-      let s0 : To M 2 2 (st X tl [] (guard_fill C n to h k) g co) (st X tl base (range_test C to h n (suc (suc h)) k2) g co) = seq M (push_to M (values.I32 4)) (push_to M (values.I32 0)) in
-      let s1 = range_to X k2 g m co ex base to n h (suc (suc h)) y z ot on gm mf in
-      weaken M (seq M s0 (seq M s1 (chosen X k g co tl (nat_le (modulo I32 y + modulo I32 z) (length m.bytes))))) (omega arith) (omega arith)
+      let q = nat_le (modulo I32 y + modulo I32 z) (length m.bytes) in
+      let s1 = range_to X k g m co ex [] to n h (suc (suc h)) y z ot on gm mf in
+      (subst (λ b. To M 1 21 (st X (l ++ ex) [] (guard_fill C n to h k) g co) (st X (l ++ ex) (values.I32 b ∷ []) k g co)) (out_verdict q) (weaken M s1 (omega arith) (omega arith)), λ j z. one_kind_to X k g co (l ++ ex) 4 j (four_is q j z))
 
   load_kind : (m : Memory) (at b : ℕ) (f : ℕ → Effect) (q : Bool) → ((x : ℕ) → kind_of (f x) ≡ 0) → kind_of (effects.in_bounds (if q then Some (memories.from_bytes (take b (drop at m.bytes))) else None) f) ≡ out_kind q
   load_kind m at b f true h = h _
@@ -345,7 +397,7 @@ module _ (M : Engine) (C : Ctx) (l : List Value) (size : length C.locals ≡ len
           let kind = put_kind m (modulo I32 to) new (λ m'. gives (with_memory gg m') l []) (nat_le (modulo I32 to + length new) (length m.bytes)) (λ x. refl) ∙ ap (λ j. out_kind (nat_le (modulo I32 to + j) (length m.bytes))) z in
           subst (Guards X k g co ex (e ∷ e' ∷ e'' ∷ es) MemoryFill) (sym kind) (guard_fill_to X k g m co ex e e'' (length es) to n o o'' (gm ∙ r) (subst MemoryFits r mf))
 
-  -- a guard leaves the kind with which the instruction traps, or 0, and changes nothing
+  -- a guard tells whether the instruction traps, and the other piece with which kind; both change nothing
   pub guard_to : (X : Shell) (k : Nodes) (g gg : World) (co : List CollectorCall) (ex : List Value) (js es : List Place) (ops vs below : List Value) (i : Basic) → g.memory ≡ gg.memory → MemoryFits gg.memory → SmallOffset i → can_trap i ≡ true → Holds ex js ops es → cut (takes i) ops ≡ parts vs below → effect i gg l vs ≢ unfit → Guards X k g co ex (es ++ js) i (kind_of (effect i gg l vs))
   guard_to X k g gg co ex js es ops vs below Nop gm mf so t h c nw = absurd (cc)
   guard_to X k g gg co ex js es ops vs below Drop gm mf so t h c nw = absurd (cc)

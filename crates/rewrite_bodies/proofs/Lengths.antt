@@ -19,8 +19,8 @@ use Rattle.wasm_syntax.specs.Tree.{Br, Nodes, stop, basic, jump}
 use Rattle.rewrite_bodies.specs.Numbering.{import_count, flag_of}
 use Rattle.rewrite_bodies.specs.Slots.{Place, Spilled, Known, place_type, Ctx, slot, result_at, kind_at, offset_at, less, grown}
 use Rattle.rewrite_bodies.specs.Pieces.{get, set, const, i32, call, if_any, fetch, load, store, to_result, from_result}
-use Rattle.rewrite_bodies.specs.Guards.{least, minus_one, zero_test, guard_zero, guard_signed, past_end, out_test, guard_memory, range_test, guard_copy, guard_fill, guard}
-use Rattle.rewrite_bodies.specs.Rewrite.{Info, hand_value, hand, hand_top, to_exit, unwind, hand_left, test_flag, test_both, tested}
+use Rattle.rewrite_bodies.specs.Guards.{least, minus_one, guard_zero, guard_signed, past_end, out_test, guard_memory, range_test, guard_copy, guard_fill, guard, kind_signed, kind}
+use Rattle.rewrite_bodies.specs.Rewrite.{Info, hand_value, hand, hand_top, to_exit, unwind, unwind_kind, hand_left, test_flag, test_both}
 use Rattle.rewrite_bodies.specs.calls.Agreement.{FitsIn}
 use Rattle.rewrite_bodies.specs.calls.Length.{code_length, FewNumbers}
 use Rattle.wasm_leb.proofs.Lengths.{ten_bytes, ten_signed}
@@ -207,13 +207,11 @@ module _ (C : Ctx) (few : FewNumbers C) where
       let d = len_exit ls in
       omega (arith, a, b, c, d)
 
-  pub len_tested : (ls : List Info) (es : List Place) (o : ℕ) (k : Nodes) → length es ≤ C.slots → code_length (tested C ls es o k) ≤ 40 + 16 * length es + code_length k
-  len_tested ls es o k le =
-      let rest = if_any (unwind C ls es o) k in
-      let a = len_set (kind_at C) (get C (kind_at C) rest) (omega arith) in
-      let b = len_get (kind_at C) rest (omega arith) in
-      let c = len_unwind ls es o le in
-      omega (arith, a, b, c)
+  pub len_unwind_kind : (ls : List Info) (es : List Place) (o : ℕ) → length es ≤ C.slots → code_length (unwind_kind C ls es o) ≤ 32 + 16 * length es
+  len_unwind_kind ls es o le =
+      let a = len_set (kind_at C) (unwind C ls es o) (omega arith) in
+      let b = len_unwind ls es o le in
+      omega (arith, a, b)
 
   pub len_test_flag : (ls : List Info) (es : List Place) (o : ℕ) (k : Nodes) → length es ≤ C.slots → code_length (test_flag C ls es o k) ≤ 57 + 16 * length es + code_length k
   len_test_flag ls es o k le =
@@ -242,42 +240,34 @@ module _ (C : Ctx) (few : FewNumbers C) where
 
   -- ---- guards
 
-  len_guard_zero : (t : ValType) (b : Place) (h : ℕ) (k : Nodes) → h ≤ C.slots → code_length (guard_zero C t b h k) ≤ 35 + code_length k
+  len_guard_zero : (t : ValType) (b : Place) (h : ℕ) (k : Nodes) → h ≤ C.slots → code_length (guard_zero C t b h k) ≤ 12 + code_length k
   len_guard_zero t b h k le =
-      let x = len_const (i32 2) (const (i32 0) (fetch C b h (zero_test t k))) in
-      let y = len_const (i32 0) (fetch C b h (zero_test t k)) in
-      let z = len_fetched b h (zero_test t k) le in
-      omega (arith, x, y, z)
+      let x = len_fetched b h (basic 0 (Eqz t) k) le in
+      omega (arith, x)
 
-  len_guard_signed : (t : ValType) (b a : Place) (h : ℕ) (k : Nodes) → suc h ≤ C.slots → code_length (guard_signed C t b a h k) ≤ 94 + code_length k
+  len_guard_signed : (t : ValType) (b a : Place) (h : ℕ) (k : Nodes) → suc h ≤ C.slots → code_length (guard_signed C t b a h k) ≤ 60 + code_length k
   len_guard_signed t b a h k le =
-      let k1 = fetch C b (suc h) (zero_test t k) in
-      let k2 = const (minus_one t) (basic 0 (Compare t Eq) (basic 0 (Binary I32 And) (basic 0 Select k1))) in
+      let k1 = guard_zero C t b (suc h) (basic 0 (Binary I32 Or) k) in
+      let k2 = const (minus_one t) (basic 0 (Compare t Eq) (basic 0 (Binary I32 And) k1)) in
       let k3 = fetch C b (suc h) k2 in
       let k4 = const (least t) (basic 0 (Compare t Eq) k3) in
-      let k5 = fetch C a h k4 in
-      let x1 = len_const (i32 2) (const (i32 3) (const (i32 0) k5)) in
-      let x2 = len_const (i32 3) (const (i32 0) k5) in
-      let x3 = len_const (i32 0) k5 in
-      let x4 = len_fetched a h k4 (omega (arith, le)) in
-      let x5 = len_const (least t) (basic 0 (Compare t Eq) k3) in
-      let x6 = len_fetched b (suc h) k2 (omega (arith, le)) in
-      let x7 = len_const (minus_one t) (basic 0 (Compare t Eq) (basic 0 (Binary I32 And) (basic 0 Select k1))) in
-      let x8 = len_fetched b (suc h) (zero_test t k) (omega (arith, le)) in
-      omega (arith, x1, x2, x3, x4, x5, x6, x7, x8)
+      let x1 = len_fetched a h k4 (omega (arith, le)) in
+      let x2 = len_const (least t) (basic 0 (Compare t Eq) k3) in
+      let x3 = len_fetched b (suc h) k2 (omega (arith, le)) in
+      let x4 = len_const (minus_one t) (basic 0 (Compare t Eq) (basic 0 (Binary I32 And) k1)) in
+      let x5 = len_guard_zero t b (suc h) (basic 0 (Binary I32 Or) k) (omega (arith, le)) in
+      omega (arith, x1, x2, x3, x4, x5)
 
   len_past_end : (k : Nodes) → code_length (past_end k) ≤ 16 + code_length k
   len_past_end k = let x = len_const (values.I64 65536) (basic 0 (Binary I64 Mul) (basic 0 (Compare I64 GtU) k)) in omega (arith, x)
 
-  len_guard_memory : (a : Place) (h n : ℕ) (k : Nodes) → h ≤ C.slots → code_length (guard_memory C a h n k) ≤ 63 + code_length k
+  len_guard_memory : (a : Place) (h n : ℕ) (k : Nodes) → h ≤ C.slots → code_length (guard_memory C a h n k) ≤ 40 + code_length k
   len_guard_memory a h n k le =
-      let k1 = past_end (basic 0 Select k) in
-      let x1 = len_const (i32 4) (const (i32 0) (fetch C a h (out_test n k))) in
-      let x2 = len_const (i32 0) (fetch C a h (out_test n k)) in
-      let x3 = len_fetched a h (out_test n k) le in
-      let x4 = len_const (values.I64 n) (basic 0 (Binary I64 Add) k1) in
-      let x5 = len_past_end (basic 0 Select k) in
-      omega (arith, x1, x2, x3, x4, x5)
+      let k1 = past_end k in
+      let x1 = len_fetched a h (out_test n k) le in
+      let x2 = len_const (values.I64 n) (basic 0 (Binary I64 Add) k1) in
+      let x3 = len_past_end k in
+      omega (arith, x1, x2, x3)
 
   len_range : (a : Place) (h : ℕ) (n : Place) (hn : ℕ) (k : Nodes) → h ≤ C.slots → hn ≤ C.slots → code_length (range_test C a h n hn k) ≤ 41 + code_length k
   len_range a h n hn k le len =
@@ -287,29 +277,21 @@ module _ (C : Ctx) (few : FewNumbers C) where
       let x3 = len_past_end k in
       omega (arith, x1, x2, x3)
 
-  len_guard_copy : (n from to : Place) (h : ℕ) (k : Nodes) → suc (suc h) ≤ C.slots → code_length (guard_copy C n from to h k) ≤ 106 + code_length k
+  len_guard_copy : (n from to : Place) (h : ℕ) (k : Nodes) → suc (suc h) ≤ C.slots → code_length (guard_copy C n from to h k) ≤ 83 + code_length k
   len_guard_copy n from to h k le =
-      let k1 = basic 0 (Binary I32 Or) (basic 0 Select k) in
+      let k1 = basic 0 (Binary I32 Or) k in
       let k2 = range_test C to h n (suc (suc h)) k1 in
-      let k3 = range_test C from (suc h) n (suc (suc h)) k2 in
-      let x1 = len_const (i32 4) (const (i32 0) k3) in
-      let x2 = len_const (i32 0) k3 in
-      let x3 = len_range from (suc h) n (suc (suc h)) k2 (omega (arith, le)) le in
-      let x4 = len_range to h n (suc (suc h)) k1 (omega (arith, le)) le in
-      omega (arith, x1, x2, x3, x4)
+      let x1 = len_range from (suc h) n (suc (suc h)) k2 (omega (arith, le)) le in
+      let x2 = len_range to h n (suc (suc h)) k1 (omega (arith, le)) le in
+      omega (arith, x1, x2)
 
-  len_guard_fill : (n to : Place) (h : ℕ) (k : Nodes) → suc (suc h) ≤ C.slots → code_length (guard_fill C n to h k) ≤ 64 + code_length k
-  len_guard_fill n to h k le =
-      let k2 = range_test C to h n (suc (suc h)) (basic 0 Select k) in
-      let x1 = len_const (i32 4) (const (i32 0) k2) in
-      let x2 = len_const (i32 0) k2 in
-      let x3 = len_range to h n (suc (suc h)) (basic 0 Select k) (omega (arith, le)) le in
-      omega (arith, x1, x2, x3)
+  len_guard_fill : (n to : Place) (h : ℕ) (k : Nodes) → suc (suc h) ≤ C.slots → code_length (guard_fill C n to h k) ≤ 41 + code_length k
+  len_guard_fill n to h k le = len_range to h n (suc (suc h)) k (omega (arith, le)) le
 
-  len_none : (k : Nodes) → code_length (const (i32 0) k) ≤ 106 + code_length k
+  len_none : (k : Nodes) → code_length (const (i32 0) k) ≤ 83 + code_length k
   len_none k = let x = len_const (i32 0) k in omega (arith, x)
 
-  len_division : (op : BinaryOp) (t : ValType) (es : List Place) (k : Nodes) → length es ≤ C.slots → code_length (guard C (Binary t op) es k) ≤ 106 + code_length k
+  len_division : (op : BinaryOp) (t : ValType) (es : List Place) (k : Nodes) → length es ≤ C.slots → code_length (guard C (Binary t op) es k) ≤ 83 + code_length k
   len_division DivS t [] k le = len_none k
   len_division DivS t (b ∷ []) k le = len_none k
   len_division DivS t (b ∷ a ∷ es) k le = let x = len_guard_signed t b a (length es) k (omega (arith, le)) in omega (arith, x)
@@ -334,7 +316,65 @@ module _ (C : Ctx) (few : FewNumbers C) where
   len_division Rotl t es k le = len_none k
   len_division Rotr t es k le = len_none k
 
-  pub len_guard : (i : Basic) (es : List Place) (k : Nodes) → length es ≤ C.slots → code_length (guard C i es k) ≤ 106 + code_length k
+  -- ---- kinds of traps
+
+  len_one_kind : (n : ℕ) (k : Nodes) → code_length (const (i32 n) k) ≤ 35 + code_length k
+  len_one_kind n k = let x = len_const (i32 n) k in omega (arith, x)
+
+  len_kind_signed : (t : ValType) (b : Place) (h : ℕ) (k : Nodes) → h ≤ C.slots → code_length (kind_signed C t b h k) ≤ 35 + code_length k
+  len_kind_signed t b h k le =
+      let k1 = guard_zero C t b h (basic 0 Select k) in
+      let x1 = len_const (i32 2) (const (i32 3) k1) in
+      let x2 = len_const (i32 3) k1 in
+      let x3 = len_guard_zero t b h (basic 0 Select k) le in
+      omega (arith, x1, x2, x3)
+
+  len_kind_division : (op : BinaryOp) (t : ValType) (es : List Place) (k : Nodes) → length es ≤ C.slots → code_length (kind C (Binary t op) es k) ≤ 35 + code_length k
+  len_kind_division DivS t [] k le = len_one_kind 2 k
+  len_kind_division DivS t (b ∷ []) k le = len_one_kind 2 k
+  len_kind_division DivS t (b ∷ a ∷ es) k le = len_kind_signed t b (suc (length es)) k (omega (arith, le))
+  len_kind_division DivU t es k le = len_one_kind 2 k
+  len_kind_division RemS t es k le = len_one_kind 2 k
+  len_kind_division RemU t es k le = len_one_kind 2 k
+  len_kind_division Add t es k le = len_one_kind 2 k
+  len_kind_division Sub t es k le = len_one_kind 2 k
+  len_kind_division Mul t es k le = len_one_kind 2 k
+  len_kind_division And t es k le = len_one_kind 2 k
+  len_kind_division Or t es k le = len_one_kind 2 k
+  len_kind_division Xor t es k le = len_one_kind 2 k
+  len_kind_division Shl t es k le = len_one_kind 2 k
+  len_kind_division ShrS t es k le = len_one_kind 2 k
+  len_kind_division ShrU t es k le = len_one_kind 2 k
+  len_kind_division Rotl t es k le = len_one_kind 2 k
+  len_kind_division Rotr t es k le = len_one_kind 2 k
+
+  pub len_kind : (i : Basic) (es : List Place) (k : Nodes) → length es ≤ C.slots → code_length (kind C i es k) ≤ 35 + code_length k
+  len_kind (Binary t op) es k le = len_kind_division op t es k le
+  len_kind Nop es k le = len_one_kind 4 k
+  len_kind Drop es k le = len_one_kind 4 k
+  len_kind Select es k le = len_one_kind 4 k
+  len_kind (LocalGet x) es k le = len_one_kind 4 k
+  len_kind (LocalSet x) es k le = len_one_kind 4 k
+  len_kind (LocalTee x) es k le = len_one_kind 4 k
+  len_kind (GlobalGet x) es k le = len_one_kind 4 k
+  len_kind (GlobalSet x) es k le = len_one_kind 4 k
+  len_kind (Load l al o) es k le = len_one_kind 4 k
+  len_kind (Store l al o) es k le = len_one_kind 4 k
+  len_kind MemorySize es k le = len_one_kind 4 k
+  len_kind MemoryGrow es k le = len_one_kind 4 k
+  len_kind MemoryCopy es k le = len_one_kind 4 k
+  len_kind MemoryFill es k le = len_one_kind 4 k
+  len_kind (Const v) es k le = len_one_kind 4 k
+  len_kind (Eqz u) es k le = len_one_kind 4 k
+  len_kind (Unary u op) es k le = len_one_kind 4 k
+  len_kind (Compare u op) es k le = len_one_kind 4 k
+  len_kind (Convert c) es k le = len_one_kind 4 k
+  len_kind (Extend32 c) es k le = len_one_kind 4 k
+  len_kind (Extend64 c) es k le = len_one_kind 4 k
+
+  -- ---- guards of instructions
+
+  pub len_guard : (i : Basic) (es : List Place) (k : Nodes) → length es ≤ C.slots → code_length (guard C i es k) ≤ 83 + code_length k
   len_guard (Binary t op) es k le = len_division op t es k le
   len_guard (Load l al o) [] k le = len_none k
   len_guard (Load l al o) (a ∷ es) k le = let x = len_guard_memory a (length es) (o + load_bits l / 8) k (omega (arith, le)) in omega (arith, x)

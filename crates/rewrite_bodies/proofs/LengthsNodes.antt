@@ -16,8 +16,8 @@ use Rattle.wasm_syntax.specs.Typing.{◌⇒◌, BasicTypes, JumpTypes, Types}
 use Rattle.rewrite_bodies.specs.Numbering.{import_count, mapped, frame_import, flag_of}
 use Rattle.rewrite_bodies.specs.Slots.{Place, Known, place_type, Ctx, result_at, kind_at, offset_at, less, grown, result_type, after_plain, behind_call}
 use Rattle.rewrite_bodies.specs.Pieces.{get, set, const, i32, call, if_any, fetch, load, store, from_result}
-use Rattle.rewrite_bodies.specs.Guards.{can_trap}
-use Rattle.rewrite_bodies.specs.Rewrite.{Info, in_block, in_loop, in_body, carries, end_gives, result_back, body_at, guarded, plain, instr, ending, go_to, branch_to, branch_if, table, after_direct, call_code, helper_of, hand_top, test_flag, test_both, indirect_code, control, rewrite, hand_locals, zero_result, raise_flag, exit_code, body, tested}
+use Rattle.rewrite_bodies.specs.Guards.{can_trap, kind}
+use Rattle.rewrite_bodies.specs.Rewrite.{Info, in_block, in_loop, in_body, carries, end_gives, result_back, body_at, guarded, plain, instr, ending, go_to, branch_to, branch_if, table, after_direct, call_code, helper_of, hand_top, test_flag, test_both, indirect_code, control, rewrite, hand_locals, zero_result, raise_flag, exit_code, body, unwind_kind, tested}
 use Rattle.rewrite_bodies.specs.calls.Agreement.{FitsIn, Room_call, Room}
 use Rattle.rewrite_bodies.specs.Offsets.{SmallOffset}
 use Rattle.rewrite_bodies.specs.calls.Typed.{original}
@@ -26,7 +26,7 @@ use Rattle.rewrite_bodies.proofs.Sim.{grown-append, takes_three}
 use Rattle.rewrite_bodies.proofs.Unwind.{less_shorter}
 use Rattle.rewrite_bodies.proofs.TypedNodes.{cuts, grown_types, takes_of}
 use Rattle.wasm_laws.proofs.Safe.{one_result}
-use Rattle.rewrite_bodies.proofs.Lengths.{len_const, len_call, len_global_set, len_branch, costs_most, costs_twice, known, known-append, known_parts, known_grown, length_parts, length_taken, len_get, len_fetched, len_load, len_hand_value, len_store, len_to_result, len_from_result, len_tested, len_test_flag, len_test_both, len_guard, len_set}
+use Rattle.rewrite_bodies.proofs.Lengths.{len_const, len_call, len_global_set, len_branch, costs_most, costs_twice, known, known-append, known_parts, known_grown, length_parts, length_taken, len_get, len_fetched, len_load, len_hand_value, len_store, len_to_result, len_from_result, len_unwind_kind, len_test_flag, len_test_both, len_guard, len_kind, len_set}
 use Rattle.pm_text.proofs.Lists.{some_is}
 use Rattle.wasm_leb.proofs.Lengths.{ten_bytes}
 
@@ -52,12 +52,13 @@ module _ (C : Ctx) (few : FewNumbers C) where
         subst (λ z. Behind ls z rest (known own1)) (sym conv) (subst (λ k. code_length (rewrite C ls (grown r own1 ++ js) rest) ≤ live_weight C (grown r own1 ++ js) rest + 11 * k) kg x),
       )
 
-  guarded_short : (ls : List Info) (es : List Place) (o : ℕ) (i : Basic) (k : Nodes) (q : Bool) → length es ≤ C.slots → code_length (guarded q C ls es o i k) ≤ 146 + 16 * length es + code_length k
+  guarded_short : (ls : List Info) (es : List Place) (o : ℕ) (i : Basic) (k : Nodes) (q : Bool) → length es ≤ C.slots → code_length (guarded q C ls es o i k) ≤ 153 + 16 * length es + code_length k
   guarded_short ls es o i k false le = omega arith
   guarded_short ls es o i k true le =
-      let a = len_guard C few i es (tested C ls es o k) le in
-      let b = len_tested C few ls es o k le in
-      omega (arith, a, b)
+      let a = len_guard C few i es (tested C ls es o (kind C i es) k) le in
+      let b = len_kind C few i es (unwind_kind C ls es o) le in
+      let c = len_unwind_kind C few ls es o le in
+      omega (arith, a, b, c)
 
   plain_short : (ls : List Info) (i : Basic) (own js : List Place) (o : ℕ) (rest : Nodes) (between : List ValType) → BasicTypes (original C ls) i (map place_type own) between → length (own ++ js) ≤ C.slots → SmallOffset i × FitsIn C (result_type C (own ++ js) i) (less (takes i) (own ++ js)) × Room C (after_plain C (own ++ js) i) rest → Rest ls js rest between → code_length (plain C ls (own ++ js) o i (λ es'. rewrite C ls es' rest)) ≤ node_weight (basic_length i) (length (own ++ js)) + live_weight C (after_plain C (own ++ js) i) rest + 11 * known own
   plain_short ls i own js o rest between h le rm ih =
@@ -209,9 +210,11 @@ module _ (C : Ctx) (few : FewNumbers C) where
   module _ (one : (f : ℕ) (type : FuncType) → type_at C.source f ≡ Some type → reverse type.results ≡ option_to_list (result_of type)) (one_of : (t : ℕ) (type : FuncType) → slice_get C.source.types t ≡ Some type → reverse type.results ≡ option_to_list (result_of type)) where
     control_short : (i : Info) (ls : List Info) (j : Jump) (own js : List Place) (o : ℕ) (rest : Nodes) (between : List ValType) → JumpTypes (original C (i ∷ ls)) j (map place_type own) between → Room C (own ++ js) (jump o j rest) → Rest (i ∷ ls) js rest between → code_length (control C (i ∷ ls) (own ++ js) o j (λ es'. rewrite C (i ∷ ls) es' rest)) ≤ live_weight C (own ++ js) (jump o j rest) + 11 * known own
     control_short i ls Unreachable own js o rest between h rm ih =
-        let a = len_const (i32 1) (tested C (i ∷ ls) (own ++ js) o (jump 0 Unreachable stop)) in
-        let b = len_tested C few (i ∷ ls) (own ++ js) o (jump 0 Unreachable stop) rm.0 in
-        omega (arith, a, b)
+        let arm = unwind_kind C (i ∷ ls) (own ++ js) o in
+        let a = len_const (i32 1) (tested C (i ∷ ls) (own ++ js) o (const (i32 1)) (jump 0 Unreachable stop)) in
+        let b = len_const (i32 1) arm in
+        let c = len_unwind_kind C few (i ∷ ls) (own ++ js) o rm.0 in
+        omega (arith, a, b, c)
     control_short i ls (Br l) own js o rest between h rm ih =
         let a = go_short (i ∷ ls) (slice_get (i ∷ ls) l) (own ++ js) (jump 0 (Br l) stop) rm.0 in
         let b = len_branch l in

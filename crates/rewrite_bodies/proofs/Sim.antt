@@ -14,14 +14,14 @@ use Rattle.wasm_syntax.specs.declared.host.CollectorCall.{CollectorCall}
 use Rattle.wasm_syntax.specs.Effect.{gives, unfit, effect, takes}
 use Rattle.wasm_syntax.specs.Machine.{Kind, leaves, again, Label, Frame, Config, label, frame, config, Engine, next, parts, cut, chooses}
 use Rattle.rewrite_bodies.specs.Slots.{Place, Known, Ctx, slot, kind_at, added, less, grown, result_type, after_plain}
-use Rattle.rewrite_bodies.specs.Rewrite.{Info, unwind, tested, guarded, plain, rewrite}
+use Rattle.rewrite_bodies.specs.Rewrite.{Info, tested, guarded, plain, rewrite}
 use Rattle.rewrite_bodies.specs.Numbering.{mapped, global_types}
 use Rattle.rewrite_bodies.specs.Pieces.{if_any, load, store}
-use Rattle.rewrite_bodies.specs.Guards.{can_trap}
+use Rattle.rewrite_bodies.specs.Guards.{can_trap, kind}
 use Rattle.rewrite_bodies.specs.calls.Agreement.{Holds, pending, info, infos, joined, t_kind, t_labels, Wit, FitsIn, Room, FitsLabels, FitsOpen, MemoryFits, NoKind, WorldFits, FitsFrame, FitsFrames, Wrap, t_frames, flagged, image}
 use Rattle.rewrite_bodies.specs.calls.Steps.{To, Shell, st}
 use Rattle.rewrite_bodies.proofs.Run.{stored, HasPlace, types-stored, slice_get-put_same, types-slice_set, added_at, added_kind, still, one_step, seq, weaken, added_get, added_set, fetch_to, load_to, less_holds, store_to}
-use Rattle.rewrite_bodies.specs.inner.Promises.{kind_of}
+use Rattle.rewrite_bodies.specs.inner.Promises.{kind_of, verdict}
 use Rattle.rewrite_bodies.proofs.Parts.{Rel, framed, match_of, cut_all, fits_stored, settle, step_plain}
 use Rattle.rewrite_bodies.proofs.Guards.{guard_to}
 use Rattle.rewrite_bodies.specs.Offsets.{SmallOffset}
@@ -113,20 +113,6 @@ module _ (M' : Engine) where
   pub if_up_to : {X : Shell} {tl s : List Value} {a k : Nodes} {g : World} {co : List CollectorCall} (j : ℕ) → To M' 1 1 (st X tl (values.I32 (suc j) ∷ s) (if_any a k) g co) (st (armed X k s) tl [] a g co)
   if_up_to j = one_step M' _ _ refl
 
-  module _ (C : Ctx) (l : List Value) (size : length C.locals ≡ length l) where
-    -- the verdict is kept and tested
-    pub kept_to : {X : Shell} {g : World} {co : List CollectorCall} (ex : List Value) (n : ℕ) (ls : List Info) (es : List Place) (o : ℕ) (k : Nodes) → types ex ≡ added C.slots → To M' 2 2 (st X (l ++ ex) (values.I32 n ∷ []) (tested C ls es o k) g co) (st X (l ++ slice_set ex (kind_at C) (values.I32 n)) (values.I32 n ∷ []) (if_any (unwind C ls es o) k) g co)
-    kept_to ex n ls es o k room =
-        let at : slice_get (types ex) (kind_at C) ≡ Some I32 = rw room (added_kind C.slots) in
-        let v = values.I32 n in
-        seq M' (added_set M' C l size ex (kind_at C) I32 v at refl) (added_get M' C l size (slice_set ex (kind_at C) v) (kind_at C) v (slice_get-put_same ex (kind_at C) I32 v at))
-
-    pub passed_to : {X : Shell} {g : World} {co : List CollectorCall} (ex : List Value) (ls : List Info) (es : List Place) (o : ℕ) (k : Nodes) → types ex ≡ added C.slots → To M' 4 4 (st X (l ++ ex) (values.I32 0 ∷ []) (tested C ls es o k) g co) (st X (l ++ slice_set ex (kind_at C) (values.I32 0)) [] k g co)
-    passed_to ex ls es o k room = seq M' (kept_to ex 0 ls es o k room) if_zero_to
-
-    pub caught_to : {X : Shell} {g : World} {co : List CollectorCall} (ex : List Value) (j : ℕ) (ls : List Info) (es : List Place) (o : ℕ) (k : Nodes) → types ex ≡ added C.slots → To M' 3 3 (st X (l ++ ex) (values.I32 (suc j) ∷ []) (tested C ls es o k) g co) (st (armed X k []) (l ++ slice_set ex (kind_at C) (values.I32 (suc j))) [] (unwind C ls es o) g co)
-    caught_to ex j ls es o k room = seq M' (kept_to ex (suc j) ls es o k room) (if_up_to j)
-
 pub fits_world : {M : Engine} {gl : List ValType} {g : World} → WorldFits M gl g → (ts : List ValType) → gl ≡ ts → types g.globals ≡ ts
 fits_world wf ts e = wf.globals ∙ e
 
@@ -144,15 +130,18 @@ module _ (M M' : Engine) (E : ℕ) (gl : List ValType) (W : Wrap) where
     abbrev pub g0 : World
     g0 = flagged M g (values.I32 0)
 
-    pub verdict_to : (i : Basic) (o : ℕ) (k : Nodes) (vs below : List Value) → can_trap i ≡ true → length C.locals ≡ length l → MemoryFits g.memory → SmallOffset i → Holds ex (joined ss) ops e → cut (takes i) ops ≡ parts vs below → effect i g l vs ≢ unfit → To M' 1 26 (st X (l ++ ex) [] (guarded true C ls es o i k) g0 co) (st X (l ++ ex) (values.I32 (kind_of (effect i g l vs)) ∷ []) (tested C ls es o k) g0 co)
-    verdict_to i o k vs below t size mf so h c nw = guard_to M' C l size X (tested C ls es o k) g0 g co ex (joined ss) e ops vs below i refl mf so t h c nw
+    pub verdict_to : (i : Basic) (o : ℕ) (k : Nodes) (vs below : List Value) → can_trap i ≡ true → length C.locals ≡ length l → MemoryFits g.memory → SmallOffset i → Holds ex (joined ss) ops e → cut (takes i) ops ≡ parts vs below → effect i g l vs ≢ unfit → To M' 1 21 (st X (l ++ ex) [] (guarded true C ls es o i k) g0 co) (st X (l ++ ex) (values.I32 (verdict (kind_of (effect i g l vs))) ∷ []) (tested C ls es o (kind C i es) k) g0 co)
+    verdict_to i o k vs below t size mf so h c nw = (guard_to M' C l size X (tested C ls es o (kind C i es) k) g0 g co ex (joined ss) e ops vs below i refl mf so t h c nw).0
+
+    -- the kind of a trap, inside the arm
+    pub kind_to : (Y : Shell) (i : Basic) (j : ℕ) (k : Nodes) (vs below : List Value) → can_trap i ≡ true → length C.locals ≡ length l → MemoryFits g.memory → SmallOffset i → Holds ex (joined ss) ops e → cut (takes i) ops ≡ parts vs below → effect i g l vs ≢ unfit → kind_of (effect i g l vs) ≡ suc j → To M' 1 5 (st Y (l ++ ex) [] (kind C i es k) g0 co) (st Y (l ++ ex) (values.I32 (suc j) ∷ []) k g0 co)
+    kind_to Y i j k vs below t size mf so h c nw is = (guard_to M' C l size Y k g0 g co ex (joined ss) e ops vs below i refl mf so t h c nw).1 j is
 
     -- a guard that finds no trap
     guarded_to : (i : Basic) (b : Bool) (o : ℕ) (k : Nodes) (vs below : List Value) → can_trap i ≡ b → length C.locals ≡ length l → types ex ≡ added C.slots → MemoryFits g.memory → SmallOffset i → Holds ex (joined ss) ops e → cut (takes i) ops ≡ parts vs below → effect i g l vs ≢ unfit → kind_of (effect i g l vs) ≡ 0 → (x : Option ValType × List Value) × (types (stored x.0 (λ t. kind_at C) x.1 ex) ≡ types ex) × To M' 0 30 (st X (l ++ ex) [] (guarded b C ls es o i k) g0 co) (st X (l ++ stored x.0 (λ t. kind_at C) x.1 ex) [] k g0 co)
     guarded_to i false o k vs below t size room mf so h c nw z = ((None, []), refl, weaken M' (still M' _) (omega arith) (omega arith))
     guarded_to i true o k vs below t size room mf so h c nw z =
-        let at : slice_get (types ex) (kind_at C) ≡ Some I32 = rw room (added_kind C.slots) in
-        ((Some I32, values.I32 0 ∷ []), types-slice_set ex (kind_at C) I32 (values.I32 0) at refl, weaken M' (seq M' (rw z at (verdict_to i o k vs below t size mf so h c nw)) (passed_to M' C l size ex ls es o k room)) (omega arith) (omega arith))
+        ((None, []), refl, weaken M' (seq M' (rw z at (verdict_to i o k vs below t size mf so h c nw)) (if_zero_to M')) (omega arith) (omega arith))
 
     abbrev pub F : Nodes → Frame
     F rest = frame ix r cl l (label ops rest en kd ∷ Ls)

@@ -13,16 +13,16 @@ use Rattle.wasm_syntax.specs.declared.host.CollectorCall.{CollectorCall}
 use Rattle.wasm_syntax.specs.Effect.{Effect, gives, fails, unfit, effect, takes}
 use Rattle.wasm_syntax.specs.Machine.{Kind, Label, Frame, Config, label, frame, config, Engine, traps, Cut, short, parts, cut, result_of, function_type, calls, calls_if, calls_entry, calls_typed, calls_indirect, jumps, affects, does, runs, in_frame, steps, step}
 use Rattle.rewrite_bodies.specs.Slots.{Place, Ctx, less, grown, result_type, after_plain}
-use Rattle.rewrite_bodies.specs.Rewrite.{Info, tested, guarded, indirect_code, rewrite}
-use Rattle.rewrite_bodies.specs.Pieces.{load, store}
-use Rattle.rewrite_bodies.specs.Guards.{can_trap, entry_label, type_label, first_table}
+use Rattle.rewrite_bodies.specs.Rewrite.{Info, unwind_kind, tested, guarded, indirect_code, rewrite}
+use Rattle.rewrite_bodies.specs.Pieces.{const, load, store}
+use Rattle.rewrite_bodies.specs.Guards.{can_trap, kind, entry_label, type_label, first_table}
 use Rattle.rewrite_bodies.specs.calls.Steps.{To, Shell, st}
-use Rattle.rewrite_bodies.proofs.Run.{weaken, push_to}
+use Rattle.rewrite_bodies.proofs.Run.{seq, weaken, push_to}
 use Rattle.rewrite_bodies.specs.calls.Agreement.{info, infos, joined, Wit, FitsIn, Has, Room_call, Room, WorldFits, FitsFrame, FitsFrames, FitsConfig, Wrap, flagged, image}
-use Rattle.rewrite_bodies.specs.inner.Promises.{kind_of}
+use Rattle.rewrite_bodies.specs.inner.Promises.{kind_of, verdict}
 use Rattle.rewrite_bodies.proofs.Parts.{Rel, framed, match_of}
 use Rattle.rewrite_bodies.specs.calls.Standing.{After, Stands}
-use Rattle.rewrite_bodies.proofs.Sim.{refit, len_of, shell, tgt, wit, verdict_to, plain_gives, push_sim, block_sim, loop_sim, if_sim}
+use Rattle.rewrite_bodies.proofs.Sim.{refit, len_of, shell, tgt, wit, armed, if_up_to, verdict_to, kind_to, plain_gives, push_sim, block_sim, loop_sim, if_sim}
 use Rattle.rewrite_bodies.proofs.Control.{end_sim, br_node, br_if_node, return_node, table_node}
 use Rattle.rewrite_bodies.proofs.Calls.{trap_from, call_node, same_functype-same, entry_trap, entry_call}
 use Rattle.rewrite_bodies.specs.Offsets.{SmallOffset}
@@ -128,11 +128,15 @@ module _ (M M' : Engine) (E : ℕ) (gl : List ValType) (W : Wrap) (S : Stands M 
         let h = f.labels in
         let tr = subst (λ z. Rel M gl (result_type C esb i) (can_trap i) l ex (values.I32 0) z (effect i gb (l ++ ex) vs)) p (framed M gl C esb l g ex (values.I32 0) f.size wf (sym f.flag) i vs (match_of ex (takes i) (joined ss) e ops vs below h.0 c)) in
         let j = tr.1 in
-        let kind : kind_of (effect i g l vs) ≡ suc j = ap kind_of p ∙ tr.2 in
+        let is : kind_of (effect i g l vs) ≡ suc j = ap kind_of p ∙ tr.2 in
         let v1 = verdict_to M M' E gl W C ex e ss ws ix cl r l ops en kd Ls Fs g co i o kb vs below tr.0 (len_of l C.locals f.size) wf.memory rm.0 h.0 c (λ n. cc) in
-        let v2 = subst (λ z. To M' 1 26 (TB true) (st XB (l ++ ex) (values.I32 z ∷ []) (tested C lsb esb o kb) gb co)) kind v1 in
+        let arm = unwind_kind C lsb esb o in
+        let YB = armed XB kb [] in
+        let v2 : To M' 1 21 (TB true) (st XB (l ++ ex) (values.I32 1 ∷ []) (tested C lsb esb o (kind C i esb) kb) gb co) = subst (λ z. To M' 1 21 (TB true) (st XB (l ++ ex) (values.I32 (verdict z) ∷ []) (tested C lsb esb o (kind C i esb) kb) gb co)) is v1 in
+        let v3 : To M' 1 1 (st XB (l ++ ex) (values.I32 1 ∷ []) (tested C lsb esb o (kind C i esb) kb) gb co) (st YB (l ++ ex) [] (kind C i esb arm) gb co) = if_up_to M' 0 in
+        let v4 = kind_to M M' E gl W C ex e ss ws ix cl r l ops en kd Ls Fs g co YB i j arm vs below tr.0 (len_of l C.locals f.size) wf.memory rm.0 h.0 c (λ n. cc) is in
         subst₂ (λ b z. After M M' E gl W (TB b) (traps z (config (FB ∷ Fs) g co))) (sym tr.0) (sym tr.2)
-        (trap_from M M' E gl W S C ex e ss ws ix cl r l ops en kd Ls Fs g co (basic o i rest) f fs wf (TB true) j kb (weaken M' v2 (omega arith) (omega arith)))
+        (trap_from M M' E gl W S C ex e ss ws ix cl r l ops en kd Ls Fs g co (basic o i rest) f fs wf (TB true) j kb (weaken M' (seq M' v2 (seq M' v3 v4)) (omega arith) (omega arith)))
 
     performed : (vs below : List Value) (x : Effect) → cut (takes i) ops ≡ parts vs below → effect i g l vs ≡ x → After M M' E gl W (TB (can_trap i)) (affects M x below rest FB LB Ls Fs g co)
     performed vs below (gives g' l' ws') c p = plain_gives M M' E gl W C ex e ss ws ix cl r l ops en kd Ls Fs g co i o rest vs below l' g' ws' f fs wf rm c p
@@ -147,7 +151,16 @@ module _ (M M' : Engine) (E : ℕ) (gl : List ValType) (W : Wrap) (S : Stands M 
     plain_sim = acts (cut (takes i) ops) refl
 
   unreachable_sim : (C : Ctx) (ex : List Value) (e : List Place) (ss : List (List Place)) (ws : List Wit) (ix cl : ℕ) (r : Option ValType) (l ops : List Value) (en : ℕ) (kd : Kind) (Ls : List Label) (Fs : List Frame) (g : World) (co : List CollectorCall) (o : ℕ) (rest : Nodes) → FitsFrame M E gl None (frame ix r cl l (label ops (jump o Unreachable rest) en kd ∷ Ls)) (wit C ex (e ∷ ss)) → FitsFrames M E gl W.result r Fs ws → WorldFits M gl g → After M M' E gl W (tgt M W C ex e ss ws r l kd Ls Fs g co (jump o Unreachable rest)) (traps 1 (config (frame ix r cl l (label ops (jump o Unreachable rest) en kd ∷ Ls) ∷ Fs) g co))
-  unreachable_sim C ex e ss ws ix cl r l ops en kd Ls Fs g co o rest f fs wf = trap_from M M' E gl W S C ex e ss ws ix cl r l ops en kd Ls Fs g co (jump o Unreachable rest) f fs wf _ 0 (jump 0 Unreachable stop) (weaken M' (push_to M' (values.I32 1)) (omega arith) (omega arith))
+  unreachable_sim C ex e ss ws ix cl r l ops en kd Ls Fs g co o rest f fs wf = trap_from M M' E gl W S C ex e ss ws ix cl r l ops en kd Ls Fs g co (jump o Unreachable rest) f fs wf _ 0 (jump 0 Unreachable stop)
+      (let X = shell W C r kd Ls ss Fs ws in
+      let k = jump 0 Unreachable stop in
+      let ls = info kd ∷ infos Ls in
+      let arm = unwind_kind C ls (e ++ joined ss) o in
+      let g0 = flagged M g (values.I32 0) in
+      let s1 : To M' 1 1 (st X (l ++ ex) [] (const (values.I32 1) (tested C ls (e ++ joined ss) o (const (values.I32 1)) k)) g0 co) (st X (l ++ ex) (values.I32 1 ∷ []) (tested C ls (e ++ joined ss) o (const (values.I32 1)) k) g0 co) = push_to M' (values.I32 1) in
+      let s2 : To M' 1 1 (st X (l ++ ex) (values.I32 1 ∷ []) (tested C ls (e ++ joined ss) o (const (values.I32 1)) k) g0 co) (st (armed X k []) (l ++ ex) [] (const (values.I32 1) arm) g0 co) = if_up_to M' 0 in
+      let s3 : To M' 1 1 (st (armed X k []) (l ++ ex) [] (const (values.I32 1) arm) g0 co) (st (armed X k []) (l ++ ex) (values.I32 1 ∷ []) arm g0 co) = push_to M' (values.I32 1) in
+      weaken M' (seq M' s1 (seq M' s2 s3)) (omega arith) (omega arith))
 
   -- ---- each step
 

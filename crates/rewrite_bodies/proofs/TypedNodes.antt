@@ -24,8 +24,8 @@ use Rattle.wasm_syntax.specs.Typing.{Context, Arrow, ◌⇒◌, BasicTypes, Jump
 use Rattle.wasm_syntax.specs.Typing as typing
 use Rattle.rewrite_bodies.specs.Numbering.{import_count, mapped, frame_import, frame_type, flag_of}
 use Rattle.rewrite_bodies.specs.Slots.{Place, Known, place_type, Ctx, result_at, kind_at, offset_at, added, less, grown, second_type, result_type, after_plain}
-use Rattle.rewrite_bodies.specs.Pieces.{get, set, i32, call, if_any, fetch, load, store, to_result, from_result}
-use Rattle.rewrite_bodies.specs.Guards.{guard, can_trap, divides, helper_type}
+use Rattle.rewrite_bodies.specs.Pieces.{const, get, set, i32, call, if_any, fetch, load, store, to_result, from_result}
+use Rattle.rewrite_bodies.specs.Guards.{guard, can_trap, kind, divides, helper_type}
 use Rattle.rewrite_bodies.specs.Rewrite.{Info, in_block, in_loop, in_body, carries, end_gives, result_back, body_at, guarded, plain, instr, go_to, branch_to, branch_if, table, after_direct, call_code, helper_of, hand_top, test_both, indirect_code, control, rewrite, hand_locals, zero_result, exit_code, body, tested}
 use Rattle.rewrite_bodies.specs.calls.Agreement.{FitsIn, Room_call, Room}
 use Rattle.rewrite_bodies.specs.Offsets.{SmallOffset}
@@ -33,7 +33,7 @@ use Rattle.rewrite_bodies.specs.calls.Typed.{Offers, original, rewritten}
 use Rattle.rewrite_bodies.proofs.Run.{added_at, added_kind, added_offset}
 use Rattle.rewrite_bodies.proofs.Sim.{grown-append}
 use Rattle.rewrite_bodies.proofs.Unwind.{less_shorter}
-use Rattle.rewrite_bodies.proofs.TypedPieces.{Ok, ok_basic, ok_const, ok_eqz, Open, open_label, TopIs, at_labels, ok_if, ok_branch, ok_call, ok_get, ok_set, ok_fetch, ok_load, ok_store, ok_to_result, ok_from_result, ok_hand_value, ok_tested, ok_test_flag, ok_test_both, HasMemory, ok_guard_zero, ok_guard_signed, ok_guard_memory, ok_guard_copy, ok_guard_fill}
+use Rattle.rewrite_bodies.proofs.TypedPieces.{Ok, ok_basic, ok_const, ok_eqz, Open, open_label, TopIs, at_labels, ok_if, ok_branch, ok_call, ok_get, ok_set, ok_fetch, ok_load, ok_store, ok_to_result, ok_from_result, ok_hand_value, ok_tested, ok_test_flag, ok_test_both, HasMemory, ok_guard_zero, ok_guard_signed, ok_guard_memory, ok_guard_copy, ok_guard_fill, ok_kind_signed}
 use Rattle.wasm_laws.proofs.Progress.{takes_len}
 use Rattle.wasm_laws.proofs.Validity.{then_found, map_found}
 use Rattle.pm_text.proofs.Lists.{some_is, get_front}
@@ -172,6 +172,50 @@ module _ (C : Ctx) (m : Module) (locals : List ValType) (off : Offers C m locals
 
   -- ---- guards
 
+  kind_division : {labels : List (List ValType)} {z s : List ValType} {k : Nodes} (op : BinaryOp) (t : ValType) (es : List Place) → length es ≤ C.slots → map place_type (take 2 es) ≡ t ∷ t ∷ [] → Ok (at labels) z (I32 ∷ s) k → Ok (at labels) z s (kind C (Binary t op) es k)
+  kind_division DivS t [] le h g = ok_const (i32 2) g
+  kind_division DivS t (b ∷ []) le h g = ok_const (i32 2) g
+  kind_division DivS t (b ∷ a ∷ es) le h g = ok_kind_signed C m locals off returns t b (suc (length es)) (omega (arith, le)) (let same : place_type b ≡ t = cc in same) g
+  kind_division DivU t es le h g = ok_const (i32 2) g
+  kind_division RemS t es le h g = ok_const (i32 2) g
+  kind_division RemU t es le h g = ok_const (i32 2) g
+  kind_division Add t es le h g = ok_const (i32 2) g
+  kind_division Sub t es le h g = ok_const (i32 2) g
+  kind_division Mul t es le h g = ok_const (i32 2) g
+  kind_division And t es le h g = ok_const (i32 2) g
+  kind_division Or t es le h g = ok_const (i32 2) g
+  kind_division Xor t es le h g = ok_const (i32 2) g
+  kind_division Shl t es le h g = ok_const (i32 2) g
+  kind_division ShrS t es le h g = ok_const (i32 2) g
+  kind_division ShrU t es le h g = ok_const (i32 2) g
+  kind_division Rotl t es le h g = ok_const (i32 2) g
+  kind_division Rotr t es le h g = ok_const (i32 2) g
+
+  -- the piece that pushes the kind, where the operands are there
+  pub kind_ok : {labels : List (List ValType)} {z s : List ValType} {k : Nodes} (ls : List Info) (i : Basic) (t : ValType) (a : Arrow) (es : List Place) → length es ≤ C.slots → arrow (original C ls) t i ≡ Some a → map place_type (take (takes i) es) ≡ a.takes → can_trap i ≡ true → Ok (at labels) z (I32 ∷ s) k → Ok (at labels) z s (kind C i es k)
+  kind_ok ls (Binary u op) t a es le e h d g = kind_division op u es le (h ∙ sym (ap (λ z. z.takes) (some_is e))) g
+  kind_ok ls (Load l al o) t a es le e h d g = ok_const (i32 4) g
+  kind_ok ls (Store l al o) t a es le e h d g = ok_const (i32 4) g
+  kind_ok ls MemoryCopy t a es le e h d g = ok_const (i32 4) g
+  kind_ok ls MemoryFill t a es le e h d g = ok_const (i32 4) g
+  kind_ok ls Nop t a es le e h d g = absurd (cc)
+  kind_ok ls Drop t a es le e h d g = absurd (cc)
+  kind_ok ls Select t a es le e h d g = absurd (cc)
+  kind_ok ls (LocalGet x) t a es le e h d g = absurd (cc)
+  kind_ok ls (LocalSet x) t a es le e h d g = absurd (cc)
+  kind_ok ls (LocalTee x) t a es le e h d g = absurd (cc)
+  kind_ok ls (GlobalGet x) t a es le e h d g = absurd (cc)
+  kind_ok ls (GlobalSet x) t a es le e h d g = absurd (cc)
+  kind_ok ls MemorySize t a es le e h d g = absurd (cc)
+  kind_ok ls MemoryGrow t a es le e h d g = absurd (cc)
+  kind_ok ls (Const v) t a es le e h d g = absurd (cc)
+  kind_ok ls (Eqz u) t a es le e h d g = absurd (cc)
+  kind_ok ls (Unary u op) t a es le e h d g = absurd (cc)
+  kind_ok ls (Compare u op) t a es le e h d g = absurd (cc)
+  kind_ok ls (Convert c) t a es le e h d g = absurd (cc)
+  kind_ok ls (Extend32 c) t a es le e h d g = absurd (cc)
+  kind_ok ls (Extend64 c) t a es le e h d g = absurd (cc)
+
   abbrev Guarded : List (List ValType) → List ValType → List ValType → Basic → List Place → Nodes → Type 0
   Guarded labels z s i es k = Ok (at labels) z (I32 ∷ s) k → Ok (at labels) z s (guard C i es k)
 
@@ -252,7 +296,9 @@ module _ (C : Ctx) (m : Module) (locals : List ValType) (off : Offers C m locals
 
   guarded_ok : (ls : List Info) (labels : List (List ValType)) (i : Basic) (t : ValType) (a : Arrow) (es : List Place) (o : ℕ) (k : Nodes) (q : Bool) → Open (suc (length ls)) labels → length es ≤ C.slots → arrow (original C ls) t i ≡ Some a → map place_type (take (takes i) es) ≡ a.takes → can_trap i ≡ q → Ok (at labels) [] [] k → Ok (at labels) [] [] (guarded q C ls es o i k)
   guarded_ok ls labels i t a es o k false op le e h d g = g
-  guarded_ok ls labels i t a es o k true op le e h d g = guard_ok ls labels [] [] i t a es (tested C ls es o k) le e h d (ok_tested C m locals off returns ls es o le op g)
+  guarded_ok ls labels i t a es o k true op le e h d g =
+      guard_ok ls labels [] [] i t a es (tested C ls es o (kind C i es) k) le e h d
+      (ok_tested C m locals off returns ls es o (kind C i es) le op (λ arm w. kind_ok ls i t a es le e h d w) g)
 
   -- ---- instructions
 
@@ -432,7 +478,7 @@ module _ (C : Ctx) (m : Module) (locals : List ValType) (off : Offers C m locals
 
   control_ok : (i : Info) (ls : List Info) (labels : List (List ValType)) (j : Jump) (own js : List Place) (o : ℕ) (rest : Nodes) (between : List ValType) → Open (suc (length (i ∷ ls))) labels → JumpTypes (original C (i ∷ ls)) j (map place_type own) between → Room C (own ++ js) (jump o j rest) → Rest (i ∷ ls) labels js rest between → Ok (at labels) [] [] (control C (i ∷ ls) (own ++ js) o j (λ es'. rewrite C (i ∷ ls) es' rest))
   control_ok i ls labels Unreachable own js o rest between op h rm ih =
-      ok_const (i32 1) (ok_tested C m locals off returns (i ∷ ls) (own ++ js) o rm.0 op (record { typed = ([], tt, refl) }))
+      ok_const (i32 1) (ok_tested C m locals off returns (i ∷ ls) (own ++ js) o (const (i32 1)) rm.0 op (λ arm w. ok_const (i32 1) w) (record { typed = ([], tt, refl) }))
   control_ok i ls labels (Br l) own js o rest between op h rm ih =
       go_to_ok (i ∷ ls) labels l own js h.0 h.2.below [] (jump 0 (Br l) stop) h.1 h.2.takes rm.0 (ok_branch l (opened (i ∷ ls) labels l h.0 op h.1))
   control_ok i ls labels (BrIf l) own js o rest between op h rm ih = branch_if_ok (i ∷ ls) labels l own js o rest between op h rm ih

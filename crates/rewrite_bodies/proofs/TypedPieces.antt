@@ -21,8 +21,8 @@ use Rattle.wasm_syntax.specs.Typing.{Context, Arrow, ◌⇒◌, arrow, Types}
 use Rattle.rewrite_bodies.specs.Slots.{Place, Spilled, Known, place_type, Ctx, slot, result_at, kind_at, offset_at, added}
 use Rattle.rewrite_bodies.specs.Numbering.{value_import, flag_of}
 use Rattle.rewrite_bodies.specs.Pieces.{get, set, const, i32, call, if_any, fetch, load, store, to_result, from_result}
-use Rattle.rewrite_bodies.specs.Guards.{zero_test, guard_zero, guard_signed, past_end, guard_memory, range_test, guard_copy, guard_fill}
-use Rattle.rewrite_bodies.specs.Rewrite.{Info, hand_value, hand, hand_top, to_exit, unwind, test_flag, test_both, tested}
+use Rattle.rewrite_bodies.specs.Guards.{guard_zero, guard_signed, past_end, guard_memory, range_test, guard_copy, guard_fill, kind_signed}
+use Rattle.rewrite_bodies.specs.Rewrite.{Info, hand_value, hand, hand_top, to_exit, unwind, test_flag, test_both, unwind_kind, tested}
 use Rattle.rewrite_bodies.specs.calls.Agreement.{FitsIn}
 use Rattle.rewrite_bodies.specs.calls.Typed.{Offers}
 use Rattle.rewrite_bodies.proofs.Run.{slice_get-append, added_at, added_kind, added_offset}
@@ -148,8 +148,12 @@ module _ (C : Ctx) (m : Module) (locals : List ValType) (off : Offers C m locals
   ok_unwind : {labels : List (List ValType)} {s : List ValType} (ls : List Info) (es : List Place) (o : ℕ) → length es ≤ C.slots → Open (suc (length ls)) labels → Ok (at ([] ∷ labels)) [] s (unwind C ls es o)
   ok_unwind ls es o le op = ok_const (i32 o) (ok_set (offset_at C) I32 (added_offset C.slots) (ok_hand es (to_exit ls) le (ok_exit ls op)))
 
-  pub ok_tested : {labels : List (List ValType)} {z s : List ValType} {k : Nodes} (ls : List Info) (es : List Place) (o : ℕ) → length es ≤ C.slots → Open (suc (length ls)) labels → Ok (at labels) z s k → Ok (at labels) z (I32 ∷ s) (tested C ls es o k)
-  ok_tested ls es o le op h = ok_set (kind_at C) I32 (added_kind C.slots) (ok_get (kind_at C) I32 (added_kind C.slots) (ok_if (ok_unwind ls es o le op) h))
+  ok_unwind_kind : {labels : List (List ValType)} {s : List ValType} (ls : List Info) (es : List Place) (o : ℕ) → length es ≤ C.slots → Open (suc (length ls)) labels → Ok (at ([] ∷ labels)) [] (I32 ∷ s) (unwind_kind C ls es o)
+  ok_unwind_kind ls es o le op = ok_set (kind_at C) I32 (added_kind C.slots) (ok_unwind ls es o le op)
+
+  -- with a piece that pushes the kind
+  pub ok_tested : {labels : List (List ValType)} {z s : List ValType} {k : Nodes} (ls : List Info) (es : List Place) (o : ℕ) (says_kind : Nodes → Nodes) → length es ≤ C.slots → Open (suc (length ls)) labels → ((arm : Nodes) → Ok (at ([] ∷ labels)) [] (I32 ∷ []) arm → Ok (at ([] ∷ labels)) [] [] (says_kind arm)) → Ok (at labels) z s k → Ok (at labels) z (I32 ∷ s) (tested C ls es o says_kind k)
+  ok_tested ls es o says_kind le op says h = ok_if (says (unwind_kind C ls es o) (ok_unwind_kind ls es o le op)) h
 
   pub ok_flag : {labels : List (List ValType)} {z s : List ValType} {k : Nodes} → Ok (at labels) z (I32 ∷ s) k → Ok (at labels) z s (basic 0 (GlobalGet (flag_of C.source)) k)
   ok_flag {s = s} h = ok_basic s (GlobalGet (flag_of C.source)) I32 ([] ⇒ I32 ∷ []) (ap (option_map (λ g. [] ⇒ g.vtype ∷ [])) off.flag_there ∙ ap (λ t. Some ([] ⇒ t ∷ [])) off.flag_type) h
@@ -172,12 +176,12 @@ module _ (C : Ctx) (m : Module) (locals : List ValType) (off : Offers C m locals
       there [] has = absurd has
       there (l ∷ ls) has = refl
 
-  ok_zero_test : {labels : List (List ValType)} {z s : List ValType} {k : Nodes} (t : ValType) → Ok (at labels) z (I32 ∷ s) k → Ok (at labels) z (t ∷ I32 ∷ I32 ∷ s) (zero_test t k)
-  ok_zero_test t h = ok_eqz t (ok_select I32 h)
-
   pub ok_guard_zero : {labels : List (List ValType)} {z s : List ValType} {k : Nodes} (t : ValType) (b : Place) (h : ℕ) → h ≤ C.slots → place_type b ≡ t → Ok (at labels) z (I32 ∷ s) k → Ok (at labels) z s (guard_zero C t b h k)
   ok_guard_zero {labels = labels} {z = z} {s = s} {k = k} t b h le e g =
-      ok_const (i32 2) (ok_const (i32 0) (ok_fetch b h le (subst (λ u. Ok (at labels) z (u ∷ I32 ∷ I32 ∷ s) (zero_test t k)) (sym e) (ok_zero_test t g))))
+      ok_fetch b h le (subst (λ u. Ok (at labels) z (u ∷ s) (basic 0 (Eqz t) k)) (sym e) (ok_eqz t g))
+
+  pub ok_kind_signed : {labels : List (List ValType)} {z s : List ValType} {k : Nodes} (t : ValType) (b : Place) (h : ℕ) → h ≤ C.slots → place_type b ≡ t → Ok (at labels) z (I32 ∷ s) k → Ok (at labels) z s (kind_signed C t b h k)
+  ok_kind_signed t b h le e g = ok_const (i32 2) (ok_const (i32 3) (ok_guard_zero t b h le e (ok_select I32 g)))
 
   type_value : (t : ValType) (n : ℕ) → type_of (value t n) ≡ t
   type_value I32 n = refl
@@ -191,23 +195,22 @@ module _ (C : Ctx) (m : Module) (locals : List ValType) (off : Offers C m locals
 
   pub ok_guard_signed : {labels : List (List ValType)} {z s : List ValType} {k : Nodes} (t : ValType) (b a : Place) (h : ℕ) → suc h ≤ C.slots → place_type b ≡ t → place_type a ≡ t → Ok (at labels) z (I32 ∷ s) k → Ok (at labels) z s (guard_signed C t b a h k)
   ok_guard_signed t b a h le eb ea g =
-      ok_const (i32 2) (ok_const (i32 3) (ok_const (i32 0)
-      (ok_place a t h (omega (arith, le)) ea (ok_constant t _ (ok_compare t Eq (ok_place b t (suc h) le eb (ok_constant t _ (ok_compare t Eq (ok_binary I32 And (ok_select I32
-      (ok_place b t (suc h) le eb (ok_zero_test t g))))))))))))
+      ok_place a t h (omega (arith, le)) ea (ok_constant t _ (ok_compare t Eq (ok_place b t (suc h) le eb (ok_constant t _ (ok_compare t Eq (ok_binary I32 And
+      (ok_guard_zero t b (suc h) le eb (ok_binary I32 Or g))))))))
 
   ok_past_end : {labels : List (List ValType)} {z s : List ValType} {k : Nodes} → HasMemory m.memories → Ok (at labels) z (I32 ∷ s) k → Ok (at labels) z (I64 ∷ s) (past_end k)
   ok_past_end has h = ok_size has (ok_extend (ok_const (values.I64 65536) (ok_binary I64 Mul (ok_compare I64 GtU h))))
 
   pub ok_guard_memory : {labels : List (List ValType)} {z s : List ValType} {k : Nodes} (a : Place) (h n : ℕ) → h ≤ C.slots → HasMemory m.memories → place_type a ≡ I32 → Ok (at labels) z (I32 ∷ s) k → Ok (at labels) z s (guard_memory C a h n k)
   ok_guard_memory a h n le has e g =
-      ok_const (i32 4) (ok_const (i32 0) (ok_place a I32 h le e (ok_extend (ok_const (values.I64 n) (ok_binary I64 Add (ok_past_end has (ok_select I32 g)))))))
+      ok_place a I32 h le e (ok_extend (ok_const (values.I64 n) (ok_binary I64 Add (ok_past_end has g))))
 
   ok_range : {labels : List (List ValType)} {z s : List ValType} {k : Nodes} (a : Place) (h : ℕ) (n : Place) (hn : ℕ) → h ≤ C.slots → hn ≤ C.slots → HasMemory m.memories → place_type a ≡ I32 → place_type n ≡ I32 → Ok (at labels) z (I32 ∷ s) k → Ok (at labels) z s (range_test C a h n hn k)
   ok_range a h n hn le len has ea en g = ok_place a I32 h le ea (ok_extend (ok_place n I32 hn len en (ok_extend (ok_binary I64 Add (ok_past_end has g)))))
 
   pub ok_guard_copy : {labels : List (List ValType)} {z s : List ValType} {k : Nodes} (n from to : Place) (h : ℕ) → suc (suc h) ≤ C.slots → HasMemory m.memories → place_type n ≡ I32 → place_type from ≡ I32 → place_type to ≡ I32 → Ok (at labels) z (I32 ∷ s) k → Ok (at labels) z s (guard_copy C n from to h k)
   ok_guard_copy n from to h le has en ef et g =
-      ok_const (i32 4) (ok_const (i32 0) (ok_range from (suc h) n (suc (suc h)) (omega (arith, le)) le has ef en (ok_range to h n (suc (suc h)) (omega (arith, le)) le has et en (ok_binary I32 Or (ok_select I32 g)))))
+      ok_range from (suc h) n (suc (suc h)) (omega (arith, le)) le has ef en (ok_range to h n (suc (suc h)) (omega (arith, le)) le has et en (ok_binary I32 Or g))
 
   pub ok_guard_fill : {labels : List (List ValType)} {z s : List ValType} {k : Nodes} (n to : Place) (h : ℕ) → suc (suc h) ≤ C.slots → HasMemory m.memories → place_type n ≡ I32 → place_type to ≡ I32 → Ok (at labels) z (I32 ∷ s) k → Ok (at labels) z s (guard_fill C n to h k)
-  ok_guard_fill n to h le has en et g = ok_const (i32 4) (ok_const (i32 0) (ok_range to h n (suc (suc h)) (omega (arith, le)) le has et en (ok_select I32 g)))
+  ok_guard_fill n to h le has en et g = ok_range to h n (suc (suc h)) (omega (arith, le)) le has et en g

@@ -1,4 +1,5 @@
--- Guards: each pushes the kind with which an instruction traps on the operands in these places, or 0, and changes nothing.
+-- Guards: each pushes another number than 0 where an instruction traps on the operands in these places, and 0 where it does not; a second piece
+-- of code pushes the kind of the trap. Both change nothing.
 use Rattle.std.specs.Prelude.{ℕ, suc, ◌+◌, ◌-◌, ◌/◌, ◌^◌, List, [], ◌∷◌, length, map, slice_get, Option, Some, None, option_map, unwrap_or, Bool, true, false, take}
 use Rattle.wasm_syntax.specs.declared.value.ValType.{ValType}
 use Rattle.wasm_syntax.specs.declared.value.ValType.TheVariants.{I32, I64}
@@ -27,23 +28,18 @@ least t = value t (2 ^ (bits t - 1))
 abbrev pub minus_one : ValType → Value
 minus_one t = value t (2 ^ bits t - 1)
 
--- the divisor is on top
-abbrev pub zero_test : ValType → Nodes → Nodes
-zero_test t k = basic 0 (Eqz t) (basic 0 Select k)
-
--- 2 where the divisor, at height h, is zero
+-- the divisor, at height h, is zero
 abbrev pub guard_zero : Ctx → ValType → Place → ℕ → Nodes → Nodes
-guard_zero C t b h k = const (i32 2) (const (i32 0) (fetch C b h (zero_test t k)))
+guard_zero C t b h k = fetch C b h (basic 0 (Eqz t) k)
 
--- 3 on the stack stays where the dividend a, at height h, is the least number and the divisor b is -1; otherwise 0 is taken
+-- the dividend a, at height h, is the least number and the divisor b is -1
 abbrev pub overflow_test : Ctx → ValType → Place → Place → ℕ → Nodes → Nodes
 overflow_test C t b a h k =
-    fetch C a h (const (least t) (basic 0 (Compare t Eq) (fetch C b (suc h) (const (minus_one t) (basic 0 (Compare t Eq) (basic 0 (Binary I32 And) (basic 0 Select k)))))))
+    fetch C a h (const (least t) (basic 0 (Compare t Eq) (fetch C b (suc h) (const (minus_one t) (basic 0 (Compare t Eq) (basic 0 (Binary I32 And) k))))))
 
--- a quotient of signed numbers: 2, 3 or 0
+-- a quotient of signed numbers
 abbrev pub guard_signed : Ctx → ValType → Place → Place → ℕ → Nodes → Nodes
-guard_signed C t b a h k =
-    const (i32 2) (const (i32 3) (const (i32 0) (overflow_test C t b a h (fetch C b (suc h) (zero_test t k)))))
+guard_signed C t b a h k = overflow_test C t b a h (guard_zero C t b (suc h) (basic 0 (Binary I32 Or) k))
 
 -- the i64 on top is past the end of the memory
 abbrev pub past_end : Nodes → Nodes
@@ -51,11 +47,11 @@ past_end k = basic 0 MemorySize (basic 0 (Convert ExtendU) (const (values.I64 65
 
 -- the address on top, the offset and the width pass the end of the memory
 abbrev pub out_test : ℕ → Nodes → Nodes
-out_test n k = basic 0 (Convert ExtendU) (const (values.I64 n) (basic 0 (Binary I64 Add) (past_end (basic 0 Select k))))
+out_test n k = basic 0 (Convert ExtendU) (const (values.I64 n) (basic 0 (Binary I64 Add) (past_end k)))
 
--- 4 where an access of n bytes, offset included, from the address at height h passes the end
+-- an access of n bytes, offset included, from the address at height h passes the end
 abbrev pub guard_memory : Ctx → Place → ℕ → ℕ → Nodes → Nodes
-guard_memory C a h n k = const (i32 4) (const (i32 0) (fetch C a h (out_test n k)))
+guard_memory C a h n k = fetch C a h (out_test n k)
 
 -- so many bytes from an address on, given by two operands with their heights, pass the end of the memory
 abbrev pub range_test : Ctx → Place → ℕ → Place → ℕ → Nodes → Nodes
@@ -63,13 +59,11 @@ range_test C a h n hn k = fetch C a h (basic 0 (Convert ExtendU) (fetch C n hn (
 
 -- the length, where from, and where to, which is at height h
 abbrev pub guard_copy : Ctx → Place → Place → Place → ℕ → Nodes → Nodes
-guard_copy C n from to h k =
-    const (i32 4) (const (i32 0)
-    (range_test C from (suc h) n (suc (suc h)) (range_test C to h n (suc (suc h)) (basic 0 (Binary I32 Or) (basic 0 Select k)))))
+guard_copy C n from to h k = range_test C from (suc h) n (suc (suc h)) (range_test C to h n (suc (suc h)) (basic 0 (Binary I32 Or) k))
 
 -- the length, and where to, which is at height h
 abbrev pub guard_fill : Ctx → Place → Place → ℕ → Nodes → Nodes
-guard_fill C n to h k = const (i32 4) (const (i32 0) (range_test C to h n (suc (suc h)) (basic 0 Select k)))
+guard_fill C n to h k = range_test C to h n (suc (suc h)) k
 
 -- the guard of an instruction on these places
 abbrev pub guard : Ctx → Basic → List Place → Nodes → Nodes
@@ -82,6 +76,16 @@ guard C (Store l align o) (v ∷ a ∷ es) k = guard_memory C a (length es) (o +
 guard C MemoryCopy (n ∷ from ∷ to ∷ es) k = guard_copy C n from to (length es) k
 guard C MemoryFill (n ∷ byte ∷ to ∷ es) k = guard_fill C n to (length es) k
 guard C i es k = const (i32 0) k
+
+-- the kind of a trap of a quotient of signed numbers, whose divisor is at height h
+abbrev pub kind_signed : Ctx → ValType → Place → ℕ → Nodes → Nodes
+kind_signed C t b h k = const (i32 2) (const (i32 3) (guard_zero C t b h (basic 0 Select k)))
+
+-- the kind with which an instruction traps on these places, where it does
+abbrev pub kind : Ctx → Basic → List Place → Nodes → Nodes
+kind C (Binary t DivS) (b ∷ a ∷ es) k = kind_signed C t b (suc (length es)) k
+kind C (Binary t op) es k = const (i32 2) k
+kind C i es k = const (i32 4) k
 
 abbrev pub divides : BinaryOp → Bool
 divides DivS = true

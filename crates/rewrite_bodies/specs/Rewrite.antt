@@ -14,7 +14,7 @@ use Rattle.wasm_syntax.specs.Machine.{result_of, zero_of}
 use Rattle.rewrite_bodies.specs.Numbering.{import_count, mapped, value_import, frame_import, flag_of, place_in}
 use Rattle.rewrite_bodies.specs.Slots.{Place, place_type, Ctx, result_at, kind_at, offset_at, less, grown, result_type, after_plain, Known}
 use Rattle.rewrite_bodies.specs.Pieces.{get, set, const, i32, call, if_any, fetch, load, store, to_result, from_result}
-use Rattle.rewrite_bodies.specs.Guards.{guard, can_trap}
+use Rattle.rewrite_bodies.specs.Guards.{guard, can_trap, kind}
 
 -- an open label
 pub data Info : Type 0 where
@@ -62,13 +62,17 @@ unwind C ls es o = const (i32 o) (set C (offset_at C) (hand C es (to_exit ls)))
 abbrev pub test_flag : Ctx → List Info → List Place → ℕ → Nodes → Nodes
 test_flag C ls es o k = basic 0 (GlobalGet (flag_of C.source)) (if_any (const (i32 0) (set C (kind_at C) (unwind C ls es o))) k)
 
--- the verdict on the stack is kept and tested
-abbrev pub tested : Ctx → List Info → List Place → ℕ → Nodes → Nodes
-tested C ls es o k = set C (kind_at C) (get C (kind_at C) (if_any (unwind C ls es o) k))
+-- the kind on the stack is kept
+abbrev pub unwind_kind : Ctx → List Info → List Place → ℕ → Nodes
+unwind_kind C ls es o = set C (kind_at C) (unwind C ls es o)
+
+-- where the number on the stack is not 0, the code unwinds with the kind that this piece pushes
+abbrev pub tested : Ctx → List Info → List Place → ℕ → (Nodes → Nodes) → Nodes → Nodes
+tested C ls es o says_kind k = if_any (says_kind (unwind_kind C ls es o)) k
 
 abbrev pub guarded : Bool → Ctx → List Info → List Place → ℕ → Basic → Nodes → Nodes
 guarded false C ls es o i k = k
-guarded true C ls es o i k = guard C i es (tested C ls es o k)
+guarded true C ls es o i k = guard C i es (tested C ls es o (kind C i es) k)
 
 -- ---- basic instructions
 
@@ -153,7 +157,7 @@ indirect_code C ls (i ∷ es) o t (Some type) go =
     (test_both C ls left o (hand_top C (suc n) (i ∷ es) stop) (go (grown r left))))))))
 
 abbrev pub control : Ctx → List Info → List Place → ℕ → Jump → (List Place → Nodes) → Nodes
-control C ls es o Unreachable go = const (i32 1) (tested C ls es o (jump 0 Unreachable stop))
+control C ls es o Unreachable go = const (i32 1) (tested C ls es o (const (i32 1)) (jump 0 Unreachable stop))
 control C ls es o (Br l) go = branch_to C (slice_get ls l) es l
 control C ls es o (BrIf l) go = branch_if C ls es l go
 control C ls es o (BrTable ts d) go = table C ls es ts d

@@ -4,13 +4,19 @@ ghost use Rattle.std.specs.Prelude.{◌≡◌, ℕ, ◌≤◌, true, List, lengt
 ghost use Rattle.wasm_syntax.specs.declared.instruction.Basic.{Basic};
 ghost use Rattle.rewrite_bodies.specs.Slots.{Place, Ctx};
 ghost use Rattle.rewrite_bodies.specs.Pieces.{const, i32, call, fetch};
-ghost use Rattle.rewrite_bodies.specs.Guards.{can_trap, guard};
-ghost use Rattle.rewrite_bodies.specs.calls.Verdicts.{IsGuard, IsGuardOfUnreachable, IsGuardOfEntry};
+ghost use Rattle.rewrite_bodies.specs.Guards.{can_trap, guard, kind};
+ghost use Rattle.rewrite_bodies.specs.calls.Verdicts.{IsGuard, IsKind, IsGuardOfUnreachable, IsGuardOfEntry};
 
 /// The guard of an instruction that can trap, on operands that have their slots.
 pub fn guards_are_guards()
     ensures { (C : Ctx) (i : Basic) (places : List Place) → can_trap i ≡ true
         → length places ≤ C.slots → IsGuard C i places (guard C i places) }
+{}
+
+/// And the piece that says with which kind it does.
+pub fn kinds_are_kinds()
+    ensures { (C : Ctx) (i : Basic) (places : List Place) → can_trap i ≡ true
+        → length places ≤ C.slots → IsKind C i places (kind C i places) }
 {}
 
 /// The guard of `unreachable` is its kind.

@@ -9,7 +9,7 @@ use Rattle.wasm_syntax.specs.Tree.{Br, Nodes, stop, basic, jump, choose}
 use Rattle.rewrite_bodies.specs.Numbering.{flag_of}
 use Rattle.rewrite_bodies.specs.Slots.{Place, Ctx, less, place_type, slot, result_at, kind_at, offset_at}
 use Rattle.rewrite_bodies.specs.Pieces.{get, set, const, i32, fetch, load}
-use Rattle.rewrite_bodies.specs.Rewrite.{Info, hand, hand_top, hand_value, hand_locals, to_exit, unwind, test_flag, tested}
+use Rattle.rewrite_bodies.specs.Rewrite.{Info, hand, hand_top, hand_value, hand_locals, to_exit, unwind, unwind_kind, test_flag}
 use Rattle.rewrite_code.specs.calls.Writing.{Written, Behind, goes, Emits, EmitsLast, Opens, Closes}
 use Rattle.rewrite_code.proofs.Pieces.{emits_then, emits_last, emits_stop, emits_within}
 use Rattle.rewrite_code.specs.declared.place.OperandPlace.{OperandPlace}
@@ -169,7 +169,5 @@ pub flag_tested : (C : Ctx) (ls : List Info) (es : List Place) (o : ℕ) {a b c 
     EmitsLast (const (i32 0) (set C (kind_at C) (unwind C ls es o))) c d → Closes d e → Emits (test_flag C ls es o) a e
 flag_tested C ls es o p q r s = emits_then p (emits_within q r s)
 
-pub verdict_tested : (C : Ctx) (ls : List Info) (es : List Place) (o x y : ℕ) {a b c d e f : Written} → x ≡ kind_at C → y ≡ kind_at C → Emits (set C x) a b → Emits (get C y) b c →
-    Opens (λ arm k. choose 0 None arm None stop 0 k) c d → EmitsLast (unwind C ls es o) d e → Closes e f → Emits (tested C ls es o) a f
-verdict_tested C ls es o x y {a} {b} {c} at there p q r s t =
-    emits_then (subst (λ y. Emits (set C y) a b) at p) (emits_then (subst (λ y. Emits (get C y) b c) there q) (emits_within r s t))
+pub kind_kept : (C : Ctx) (ls : List Info) (es : List Place) (o x : ℕ) {a b c : Written} → x ≡ kind_at C → Emits (set C x) a b → EmitsLast (unwind C ls es o) b c → EmitsLast (unwind_kind C ls es o) a c
+kind_kept C ls es o x {a} {b} at p q = emits_last (subst (λ y. Emits (set C y) a b) at p) q

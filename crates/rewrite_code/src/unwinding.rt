@@ -1,8 +1,8 @@
 //! Code that goes to the exit of the function, where an instruction or a guard traps.
 
 ghost use Rattle.std.specs.Prelude.{◌≡◌, ◌+◌, ◌^◌, ◌<◌, ◌≤◌, List, length, OnOk};
-ghost use Rattle.rewrite_bodies.specs.Rewrite.{Info, to_exit, unwind, tested};
-ghost use Rattle.rewrite_code.specs.calls.Writing.{Emits, EmitsLast};
+ghost use Rattle.rewrite_bodies.specs.Rewrite.{Info, to_exit, unwind, unwind_kind};
+ghost use Rattle.rewrite_code.specs.calls.Writing.{EmitsLast};
 
 use crate::CodeWriter;
 use crate::context::FunctionContext;
@@ -39,8 +39,8 @@ impl<'m, 'a> FunctionContext<'m, 'a> {
         to_exit(writer, labels)
     }
 
-    /// The verdict of a guard on the stack is kept, and where it is a kind, the code unwinds.
-    pub fn tested(
+    /// The kind on the stack is kept, and the code unwinds.
+    pub fn unwind_kind(
         &self,
         writer: &mut CodeWriter,
         labels: u32,
@@ -50,12 +50,10 @@ impl<'m, 'a> FunctionContext<'m, 'a> {
         requires shallow { labels + 1 < 2 ^ 32 }
         requires room { length places.now ≤ self.now.slots }
         ensures { (ls : List Info) → length ls ≡ labels
-            → OnOk result (Emits (tested self.now ls places.now offset) writer.old writer.new) }
+            → OnOk result (EmitsLast (unwind_kind self.now ls places.now offset) writer.old
+            writer.new) }
     {
         self.set(writer, self.kind_at())?;
-        self.get(writer, self.kind_at())?;
-        writer.open_if(None)?;
-        self.unwind(writer, labels, places, offset)?;
-        writer.close()
+        self.unwind(writer, labels, places, offset)
     }
 }

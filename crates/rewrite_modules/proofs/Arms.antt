@@ -21,8 +21,8 @@ use Rattle.wasm_syntax.specs.Sizes.{parameter_count}
 use Rattle.rewrite_bodies.specs.Numbering.{import_count, mapped, frame_import, global_types}
 use Rattle.rewrite_bodies.specs.Slots.{Place, place_type, Ctx, result_at, kind_at, offset_at, less, grown, result_type, after_plain, Spilled, Known}
 use Rattle.rewrite_bodies.specs.Pieces.{get, set, const, i32, call, if_any, fetch, load, store, to_result, from_result}
-use Rattle.rewrite_bodies.specs.Guards.{least, minus_one, zero_test, guard_zero, guard_signed, past_end, out_test, guard_memory, range_test, guard, can_trap, helper}
-use Rattle.rewrite_bodies.specs.Rewrite.{Info, result_back, body_at, hand_value, hand, hand_top, to_exit, unwind, test_flag, test_both, tested, guarded, plain, instr, carries, end_gives, ending, go_to, branch_to, branch_if, table, after_call, after_direct, call_code, helper_of, indirect_code, control, rewrite, hand_locals, zero_result, raise_flag, exit_code, body, in_block, in_loop, in_body}
+use Rattle.rewrite_bodies.specs.Guards.{least, minus_one, guard_zero, guard_signed, past_end, out_test, guard_memory, range_test, guard, can_trap, kind, helper}
+use Rattle.rewrite_bodies.specs.Rewrite.{Info, result_back, body_at, hand_value, hand, hand_top, to_exit, unwind, test_flag, test_both, unwind_kind, tested, guarded, plain, instr, carries, end_gives, ending, go_to, branch_to, branch_if, table, after_call, after_direct, call_code, helper_of, indirect_code, control, rewrite, hand_locals, zero_result, raise_flag, exit_code, body, in_block, in_loop, in_body}
 use Rattle.rewrite_modules.specs.Wrappers.{get_all, tell_globals, after_wrapped, wrapper}
 use Rattle.rewrite_modules.specs.FlatCode.{op}
 
@@ -91,20 +91,19 @@ module _ (C : Ctx) where
   tree_flag : (ls : List Info) (es : List Place) (o : ℕ) (k : Nodes) → IsTree k → IsTree (test_flag C ls es o k)
   tree_flag ls es o k tk = (tree_unwind ls es o, refl, tt, tk)
 
-  tree_tested : (ls : List Info) (es : List Place) (o : ℕ) (k : Nodes) → IsTree k → IsTree (tested C ls es o k)
-  tree_tested ls es o k tk = (tree_unwind ls es o, refl, tt, tk)
+  tree_tested : (ls : List Info) (es : List Place) (o : ℕ) (says_kind : Nodes → Nodes) (k : Nodes) → ((arm : Nodes) → IsTree arm → IsTree (says_kind arm)) → IsTree k → IsTree (tested C ls es o says_kind k)
+  tree_tested ls es o says_kind k says tk = (says (unwind_kind C ls es o) (tree_unwind ls es o), refl, tt, tk)
 
   -- ---- guards
 
   tree_zero : (t : ValType) (b : Place) (h : ℕ) (k : Nodes) → IsTree k → IsTree (guard_zero C t b h k)
-  tree_zero t b h k tk = tree_fetch b h (zero_test t k) tk
+  tree_zero t b h k tk = tree_fetch b h (basic 0 (Eqz t) k) tk
 
   tree_signed : (t : ValType) (b a : Place) (h : ℕ) (k : Nodes) → IsTree k → IsTree (guard_signed C t b a h k)
   tree_signed t b a h k tk =
-      let k6 = fetch C b (suc h) (zero_test t k) in
-      let t6 = tree_fetch b (suc h) (zero_test t k) tk in
-      let k3 = const (minus_one t) (basic 0 (Compare t Eq) (basic 0 (Binary I32 And) (basic 0 Select k6))) in
-      tree_fetch a h (const (least t) (basic 0 (Compare t Eq) (fetch C b (suc h) k3))) (tree_fetch b (suc h) k3 t6)
+      let k5 = basic 0 (Binary I32 Or) k in
+      let k3 = const (minus_one t) (basic 0 (Compare t Eq) (basic 0 (Binary I32 And) (guard_zero C t b (suc h) k5))) in
+      tree_fetch a h (const (least t) (basic 0 (Compare t Eq) (fetch C b (suc h) k3))) (tree_fetch b (suc h) k3 (tree_zero t b (suc h) k5 tk))
 
   tree_memory : (a : Place) (h n : ℕ) (k : Nodes) → IsTree k → IsTree (guard_memory C a h n k)
   tree_memory a h n k tk = tree_fetch a h (out_test n k) tk
@@ -113,6 +112,49 @@ module _ (C : Ctx) where
   tree_range a h n hn k tk =
       let k2 = basic 0 (Convert ExtendU) (basic 0 (Binary I64 Add) (past_end k)) in
       tree_fetch a h (basic 0 (Convert ExtendU) (fetch C n hn k2)) (tree_fetch n hn k2 tk)
+
+  tree_kind_division : (op : BinaryOp) (t : ValType) (es : List Place) (k : Nodes) → IsTree k → IsTree (kind C (Binary t op) es k)
+  tree_kind_division DivS t [] k tk = tk
+  tree_kind_division DivS t (b ∷ []) k tk = tk
+  tree_kind_division DivS t (b ∷ a ∷ es) k tk = tree_zero t b (suc (length es)) (basic 0 Select k) tk
+  tree_kind_division DivU t es k tk = tk
+  tree_kind_division RemS t es k tk = tk
+  tree_kind_division RemU t es k tk = tk
+  tree_kind_division Add t es k tk = tk
+  tree_kind_division Sub t es k tk = tk
+  tree_kind_division Mul t es k tk = tk
+  tree_kind_division And t es k tk = tk
+  tree_kind_division Or t es k tk = tk
+  tree_kind_division Xor t es k tk = tk
+  tree_kind_division Shl t es k tk = tk
+  tree_kind_division ShrS t es k tk = tk
+  tree_kind_division ShrU t es k tk = tk
+  tree_kind_division Rotl t es k tk = tk
+  tree_kind_division Rotr t es k tk = tk
+
+  tree_kind : (i : Basic) (es : List Place) (k : Nodes) → IsTree k → IsTree (kind C i es k)
+  tree_kind (Binary t op) es k tk = tree_kind_division op t es k tk
+  tree_kind Nop es k tk = tk
+  tree_kind Drop es k tk = tk
+  tree_kind Select es k tk = tk
+  tree_kind (LocalGet x) es k tk = tk
+  tree_kind (LocalSet x) es k tk = tk
+  tree_kind (LocalTee x) es k tk = tk
+  tree_kind (GlobalGet x) es k tk = tk
+  tree_kind (GlobalSet x) es k tk = tk
+  tree_kind (Load l al of) es k tk = tk
+  tree_kind (Store l al of) es k tk = tk
+  tree_kind MemorySize es k tk = tk
+  tree_kind MemoryGrow es k tk = tk
+  tree_kind MemoryCopy es k tk = tk
+  tree_kind MemoryFill es k tk = tk
+  tree_kind (Const v) es k tk = tk
+  tree_kind (Eqz w) es k tk = tk
+  tree_kind (Unary w op) es k tk = tk
+  tree_kind (Compare w op) es k tk = tk
+  tree_kind (Convert c) es k tk = tk
+  tree_kind (Extend32 j) es k tk = tk
+  tree_kind (Extend64 j) es k tk = tk
 
   tree_division : (op : BinaryOp) (t : ValType) (es : List Place) (k : Nodes) → IsTree k → IsTree (guard C (Binary t op) es k)
   tree_division DivS t [] k tk = tk
@@ -151,12 +193,12 @@ module _ (C : Ctx) where
   tree_guard MemoryCopy (n ∷ from ∷ []) k tk = tk
   tree_guard MemoryCopy (n ∷ from ∷ to ∷ es) k tk =
       let h = length es in
-      let k2 = basic 0 (Binary I32 Or) (basic 0 Select k) in
+      let k2 = basic 0 (Binary I32 Or) k in
       tree_range from (suc h) n (suc (suc h)) (range_test C to h n (suc (suc h)) k2) (tree_range to h n (suc (suc h)) k2 tk)
   tree_guard MemoryFill [] k tk = tk
   tree_guard MemoryFill (n ∷ []) k tk = tk
   tree_guard MemoryFill (n ∷ byte ∷ []) k tk = tk
-  tree_guard MemoryFill (n ∷ byte ∷ to ∷ es) k tk = tree_range to (length es) n (suc (suc (length es))) (basic 0 Select k) tk
+  tree_guard MemoryFill (n ∷ byte ∷ to ∷ es) k tk = tree_range to (length es) n (suc (suc (length es))) k tk
   tree_guard Nop es k tk = tk
   tree_guard Drop es k tk = tk
   tree_guard Select es k tk = tk
@@ -177,7 +219,7 @@ module _ (C : Ctx) where
 
   tree_guarded : (q : Bool) (ls : List Info) (es : List Place) (o : ℕ) (i : Basic) (k : Nodes) → IsTree k → IsTree (guarded q C ls es o i k)
   tree_guarded false ls es o i k tk = tk
-  tree_guarded true ls es o i k tk = tree_guard i es (tested C ls es o k) (tree_tested ls es o k tk)
+  tree_guarded true ls es o i k tk = tree_guard i es (tested C ls es o (kind C i es) k) (tree_tested ls es o (kind C i es) k (λ arm w. tree_kind i es arm w) tk)
 
   -- ---- instructions
 
@@ -267,7 +309,7 @@ module _ (C : Ctx) where
       tree_fetch i (length es) (call (helper_of C t) k1) (tree_load (suc n) (i ∷ es) inner (tree_store r left stop tt), refl, tt, tree_both ls left o others next_ (tree_hand_top (suc n) (i ∷ es) stop tt) (h (grown r left)))
 
   tree_control : (j : Jump) (ls : List Info) (es : List Place) (o : ℕ) (go : List Place → Nodes) → Goes go → IsTree (control C ls es o j go)
-  tree_control Unreachable ls es o go h = tree_tested ls es o (jump 0 Unreachable stop) tt
+  tree_control Unreachable ls es o go h = tree_tested ls es o (const (i32 1)) (jump 0 Unreachable stop) (λ arm w. w) tt
   tree_control (Br l) ls es o go h = tree_go (slice_get ls l) es (jump 0 (Br l) stop) tt
   tree_control (BrIf l) ls es o go h = tree_branch_if ls es l go h
   tree_control (BrTable ts d) ls es o go h = tree_table ls es ts d

@@ -19,8 +19,8 @@ use Rattle.wasm_syntax.specs.declared.value.ValType.TheVariants.{I32, I64}
 use Rattle.rewrite_bodies.specs.Numbering.{import_count, mapped, frame_import, global_types}
 use Rattle.rewrite_bodies.specs.Slots.{Place, place_type, Ctx, result_at, kind_at, offset_at, less, grown, result_type, after_plain, Spilled, Known}
 use Rattle.rewrite_bodies.specs.Pieces.{get, set, const, i32, call, if_any, fetch, load, store, to_result, from_result}
-use Rattle.rewrite_bodies.specs.Guards.{least, minus_one, zero_test, guard_zero, guard_signed, past_end, out_test, guard_memory, range_test, guard, can_trap, helper}
-use Rattle.rewrite_bodies.specs.Rewrite.{Info, result_back, body_at, hand_value, hand, hand_top, to_exit, unwind, test_flag, test_both, tested, guarded, plain, instr, carries, end_gives, ending, go_to, branch_to, branch_if, table, after_call, after_direct, call_code, helper_of, indirect_code, control, rewrite, hand_locals, zero_result, raise_flag, exit_code, body, in_block, in_loop, in_body}
+use Rattle.rewrite_bodies.specs.Guards.{least, minus_one, guard_zero, guard_signed, past_end, out_test, guard_memory, range_test, guard, can_trap, kind, helper}
+use Rattle.rewrite_bodies.specs.Rewrite.{Info, result_back, body_at, hand_value, hand, hand_top, to_exit, unwind, test_flag, test_both, unwind_kind, tested, guarded, plain, instr, carries, end_gives, ending, go_to, branch_to, branch_if, table, after_call, after_direct, call_code, helper_of, indirect_code, control, rewrite, hand_locals, zero_result, raise_flag, exit_code, body, in_block, in_loop, in_body}
 use Rattle.rewrite_modules.specs.Wrappers.{get_all, tell_globals, after_wrapped, wrapper}
 use Rattle.wasm_syntax.specs.declared.instruction.Instr.{Instr}
 use Rattle.wasm_syntax.specs.declared.instruction.Instr.TheVariants as instrs
@@ -201,20 +201,19 @@ module _ (C : Ctx) where
   low_flag : (d : ℕ) (ls : List Info) (es : List Place) (o : ℕ) (k : Nodes) → Low (suc (suc d)) k → Low (suc (suc d)) (test_flag C ls es o k)
   low_flag d ls es o k tk = (low_unwind (suc d) ls es o, tt, tk)
 
-  low_tested : (d : ℕ) (ls : List Info) (es : List Place) (o : ℕ) (k : Nodes) → Low (suc (suc d)) k → Low (suc (suc d)) (tested C ls es o k)
-  low_tested d ls es o k tk = (low_unwind (suc d) ls es o, tt, tk)
+  low_tested : (d : ℕ) (ls : List Info) (es : List Place) (o : ℕ) (says_kind : Nodes → Nodes) (k : Nodes) → ((arm : Nodes) → Low (suc d) arm → Low (suc d) (says_kind arm)) → Low (suc (suc d)) k → Low (suc (suc d)) (tested C ls es o says_kind k)
+  low_tested d ls es o says_kind k says tk = (says (unwind_kind C ls es o) (low_unwind (suc d) ls es o), tt, tk)
 
   -- ---- guards
 
   low_zero : (lv : ℕ) (t : ValType) (b : Place) (h : ℕ) (k : Nodes) → Low lv k → Low lv (guard_zero C t b h k)
-  low_zero lv t b h k tk = low_fetch lv b h (zero_test t k) tk
+  low_zero lv t b h k tk = low_fetch lv b h (basic 0 (Eqz t) k) tk
 
   low_signed : (lv : ℕ) (t : ValType) (b a : Place) (h : ℕ) (k : Nodes) → Low lv k → Low lv (guard_signed C t b a h k)
   low_signed lv t b a h k tk =
-      let k6 = fetch C b (suc h) (zero_test t k) in
-      let t6 = low_fetch lv b (suc h) (zero_test t k) tk in
-      let k3 = const (minus_one t) (basic 0 (Compare t Eq) (basic 0 (Binary I32 And) (basic 0 Select k6))) in
-      low_fetch lv a h (const (least t) (basic 0 (Compare t Eq) (fetch C b (suc h) k3))) (low_fetch lv b (suc h) k3 t6)
+      let k5 = basic 0 (Binary I32 Or) k in
+      let k3 = const (minus_one t) (basic 0 (Compare t Eq) (basic 0 (Binary I32 And) (guard_zero C t b (suc h) k5))) in
+      low_fetch lv a h (const (least t) (basic 0 (Compare t Eq) (fetch C b (suc h) k3))) (low_fetch lv b (suc h) k3 (low_zero lv t b (suc h) k5 tk))
 
   low_memory : (lv : ℕ) (a : Place) (h n : ℕ) (k : Nodes) → Low lv k → Low lv (guard_memory C a h n k)
   low_memory lv a h n k tk = low_fetch lv a h (out_test n k) tk
@@ -223,6 +222,49 @@ module _ (C : Ctx) where
   low_range lv a h n hn k tk =
       let k2 = basic 0 (Convert ExtendU) (basic 0 (Binary I64 Add) (past_end k)) in
       low_fetch lv a h (basic 0 (Convert ExtendU) (fetch C n hn k2)) (low_fetch lv n hn k2 tk)
+
+  low_kind_division : (lv : ℕ) (op : BinaryOp) (t : ValType) (es : List Place) (k : Nodes) → Low lv k → Low lv (kind C (Binary t op) es k)
+  low_kind_division lv DivS t [] k tk = tk
+  low_kind_division lv DivS t (b ∷ []) k tk = tk
+  low_kind_division lv DivS t (b ∷ a ∷ es) k tk = low_zero lv t b (suc (length es)) (basic 0 Select k) tk
+  low_kind_division lv DivU t es k tk = tk
+  low_kind_division lv RemS t es k tk = tk
+  low_kind_division lv RemU t es k tk = tk
+  low_kind_division lv Add t es k tk = tk
+  low_kind_division lv Sub t es k tk = tk
+  low_kind_division lv Mul t es k tk = tk
+  low_kind_division lv And t es k tk = tk
+  low_kind_division lv Or t es k tk = tk
+  low_kind_division lv Xor t es k tk = tk
+  low_kind_division lv Shl t es k tk = tk
+  low_kind_division lv ShrS t es k tk = tk
+  low_kind_division lv ShrU t es k tk = tk
+  low_kind_division lv Rotl t es k tk = tk
+  low_kind_division lv Rotr t es k tk = tk
+
+  low_kind : (lv : ℕ) (i : Basic) (es : List Place) (k : Nodes) → Low lv k → Low lv (kind C i es k)
+  low_kind lv (Binary t op) es k tk = low_kind_division lv op t es k tk
+  low_kind lv Nop es k tk = tk
+  low_kind lv Drop es k tk = tk
+  low_kind lv Select es k tk = tk
+  low_kind lv (LocalGet x) es k tk = tk
+  low_kind lv (LocalSet x) es k tk = tk
+  low_kind lv (LocalTee x) es k tk = tk
+  low_kind lv (GlobalGet x) es k tk = tk
+  low_kind lv (GlobalSet x) es k tk = tk
+  low_kind lv (Load l al of) es k tk = tk
+  low_kind lv (Store l al of) es k tk = tk
+  low_kind lv MemorySize es k tk = tk
+  low_kind lv MemoryGrow es k tk = tk
+  low_kind lv MemoryCopy es k tk = tk
+  low_kind lv MemoryFill es k tk = tk
+  low_kind lv (Const v) es k tk = tk
+  low_kind lv (Eqz w) es k tk = tk
+  low_kind lv (Unary w op) es k tk = tk
+  low_kind lv (Compare w op) es k tk = tk
+  low_kind lv (Convert c) es k tk = tk
+  low_kind lv (Extend32 j) es k tk = tk
+  low_kind lv (Extend64 j) es k tk = tk
 
   low_division : (lv : ℕ) (op : BinaryOp) (t : ValType) (es : List Place) (k : Nodes) → Low lv k → Low lv (guard C (Binary t op) es k)
   low_division lv DivS t [] k tk = tk
@@ -261,12 +303,12 @@ module _ (C : Ctx) where
   low_guard lv MemoryCopy (n ∷ from ∷ []) k tk = tk
   low_guard lv MemoryCopy (n ∷ from ∷ to ∷ es) k tk =
       let h = length es in
-      let k2 = basic 0 (Binary I32 Or) (basic 0 Select k) in
+      let k2 = basic 0 (Binary I32 Or) k in
       low_range lv from (suc h) n (suc (suc h)) (range_test C to h n (suc (suc h)) k2) (low_range lv to h n (suc (suc h)) k2 tk)
   low_guard lv MemoryFill [] k tk = tk
   low_guard lv MemoryFill (n ∷ []) k tk = tk
   low_guard lv MemoryFill (n ∷ byte ∷ []) k tk = tk
-  low_guard lv MemoryFill (n ∷ byte ∷ to ∷ es) k tk = low_range lv to (length es) n (suc (suc (length es))) (basic 0 Select k) tk
+  low_guard lv MemoryFill (n ∷ byte ∷ to ∷ es) k tk = low_range lv to (length es) n (suc (suc (length es))) k tk
   low_guard lv Nop es k tk = tk
   low_guard lv Drop es k tk = tk
   low_guard lv Select es k tk = tk
@@ -287,7 +329,7 @@ module _ (C : Ctx) where
 
   low_guarded : (d : ℕ) (q : Bool) (ls : List Info) (es : List Place) (o : ℕ) (i : Basic) (k : Nodes) → Low (suc (suc d)) k → Low (suc (suc d)) (guarded q C ls es o i k)
   low_guarded d false ls es o i k tk = tk
-  low_guarded d true ls es o i k tk = low_guard (suc (suc d)) i es (tested C ls es o k) (low_tested d ls es o k tk)
+  low_guarded d true ls es o i k tk = low_guard (suc (suc d)) i es (tested C ls es o (kind C i es) k) (low_tested d ls es o (kind C i es) k (λ arm w. low_kind (suc d) i es arm w) tk)
 
   -- ---- instructions
 
@@ -377,7 +419,7 @@ module _ (C : Ctx) where
       low_fetch (suc (suc d)) i (length es) (call (helper_of C t) k1) (low_load (suc d) (suc n) (i ∷ es) inner (low_store (suc d) r left stop tt), tt, low_both d ls left o others next_ (low_hand_top d (suc n) (i ∷ es) stop tt) (h (grown r left)))
 
   low_control : (d : ℕ) (j : Jump) (ls : List Info) (es : List Place) (o : ℕ) (go : List Place → Nodes) → AllLow d go → Low (suc (suc d)) (control C ls es o j go)
-  low_control d Unreachable ls es o go h = low_tested d ls es o (jump 0 Unreachable stop) tt
+  low_control d Unreachable ls es o go h = low_tested d ls es o (const (i32 1)) (jump 0 Unreachable stop) (λ arm w. w) tt
   low_control d (Br l) ls es o go h = low_go (suc (suc d)) (slice_get ls l) es (jump 0 (Br l) stop) tt
   low_control d (BrIf l) ls es o go h = low_branch_if d ls es l go h
   low_control d (BrTable ts default) ls es o go h = low_table d ls es ts default

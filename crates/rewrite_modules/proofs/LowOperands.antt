@@ -30,7 +30,7 @@ use Rattle.rewrite_modules.specs.calls.Given.{Given}
 use Rattle.rewrite_modules.specs.Instrument.{instrument, new_module, new_tree, each}
 use Rattle.rewrite_modules.specs.Instrumentable.{program_of, Instrumentable}
 use Rattle.rewrite_modules.specs.calls.LowSizes.{LowHeights}
-use Rattle.rewrite_modules.specs.Wrappers.{get_all, tell_globals, end_of_dump, after_wrapped, wrapper_nodes, wrapper}
+use Rattle.rewrite_modules.specs.Wrappers.{get_all, tell_globals, lower_flag, end_of_dump, after_wrapped, wrapper_nodes, wrapper}
 use Rattle.rewrite_modules.proofs.FineBodies.{fine_at, gives_one}
 use Rattle.rewrite_modules.proofs.Links.{Ready, is_defined, function_type_kept, import_types, frame_types}
 use Rattle.rewrite_modules.proofs.Modules.{module_given}
@@ -94,8 +94,9 @@ module _ (p : Program) (ready : Ready p) (valid : Valid p.module_) (typed : Type
 
   u_end : U 1 (end_of_dump m)
   u_end =
-      let last = jump 0 Unreachable stop in
-      let called : U 5 (call (frame_import m) last) = (omega (arith, room), (subst (λ q. Under_call q 5 (λ j. Under m' N j last)) (sym (frame_types p ready)) (omega (arith, room), tt))) in
+      let last = lower_flag m (jump 0 Unreachable stop) in
+      let lowered : U 1 last = (omega (arith, room), (omega (arith, room), (omega (arith, room), tt))) in
+      let called : U 5 (call (frame_import m) last) = (omega (arith, room), subst (λ q. Under_call q 5 (λ j. Under m' N j last)) (sym (frame_types p ready)) lowered) in
       u_globals 0 (global_types m) (const (i32 255) (const (i32 0) (const (i32 0) (const (i32 (length m.globals)) (call (frame_import m) last))))) (omega (arith, room), (omega (arith, room), (omega (arith, room), (omega (arith, room), called))))
 
   u_after : U 1 (after_wrapped m)

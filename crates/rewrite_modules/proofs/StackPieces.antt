@@ -22,8 +22,8 @@ use Rattle.wasm_syntax.specs.Typing.{◌⇒◌, BasicTypes, JumpTypes, Types}
 use Rattle.rewrite_bodies.specs.Numbering.{import_count, mapped, value_import, frame_import, value_type, frame_type}
 use Rattle.rewrite_bodies.specs.Slots.{Place, Spilled, Known, place_type, Ctx, result_at, kind_at, offset_at, less, grown, result_type}
 use Rattle.rewrite_bodies.specs.Pieces.{get, set, const, i32, call, if_any, fetch, load, store, to_result, from_result}
-use Rattle.rewrite_bodies.specs.Guards.{guard, can_trap, least, minus_one, past_end, out_test, range_test, zero_test, guard_zero, guard_signed, guard_memory, helper, helper_type}
-use Rattle.rewrite_bodies.specs.Rewrite.{Info, in_block, in_loop, in_body, carries, end_gives, ending, result_back, body_at, hand_value, hand, hand_top, to_exit, unwind, test_flag, test_both, tested, guarded, plain, instr, go_to, branch_to, branch_if, table, after_direct, call_code, helper_of, indirect_code, rewrite, hand_locals, raise_flag, zero_result, exit_code, body}
+use Rattle.rewrite_bodies.specs.Guards.{guard, can_trap, least, minus_one, past_end, out_test, range_test, guard_zero, guard_signed, guard_memory, kind, helper, helper_type}
+use Rattle.rewrite_bodies.specs.Rewrite.{Info, in_block, in_loop, in_body, carries, end_gives, ending, result_back, body_at, hand_value, hand, hand_top, to_exit, unwind, test_flag, test_both, unwind_kind, tested, guarded, plain, instr, go_to, branch_to, branch_if, table, after_direct, call_code, helper_of, indirect_code, rewrite, hand_locals, raise_flag, zero_result, exit_code, body}
 use Rattle.rewrite_bodies.specs.calls.Typed.{Offers, original}
 use Rattle.rewrite_bodies.specs.calls.Agreement.{Has}
 use Rattle.rewrite_bodies.proofs.Sim.{grown-append, takes_three}
@@ -87,8 +87,11 @@ module _ (C : Ctx) (m : Module) (locals : List ValType) (off : Offers C m locals
   u_unwind : (ls : List Info) (es : List Place) (o : ℕ) → U 0 (unwind C ls es o)
   u_unwind ls es o = (omega arith, (omega (arith, room), u_hand es (to_exit ls) (u_exit ls)))
 
-  u_tested : (ls : List Info) (es : List Place) (o : ℕ) (k : Nodes) → U 0 k → U 1 (tested C ls es o k)
-  u_tested ls es o k u = (up 1 (omega arith), (up 0 (omega arith), (up 1 (omega arith), u_unwind ls es o, up 0 (omega arith), u)))
+  u_unwind_kind : (ls : List Info) (es : List Place) (o : ℕ) → U 1 (unwind_kind C ls es o)
+  u_unwind_kind ls es o = (up 1 (omega arith), u_unwind ls es o)
+
+  u_tested : (ls : List Info) (es : List Place) (o : ℕ) (says_kind : Nodes → Nodes) (k : Nodes) → ((arm : Nodes) → U 1 arm → U 0 (says_kind arm)) → U 0 k → U 1 (tested C ls es o says_kind k)
+  u_tested ls es o says_kind k says u = (up 1 (omega arith), says (unwind_kind C ls es o) (u_unwind_kind ls es o), up 0 (omega arith), u)
 
   u_flag : (ls : List Info) (es : List Place) (o : ℕ) (k : Nodes) → U 0 k → U 0 (test_flag C ls es o k)
   u_flag ls es o k u = (up 0 (omega arith), (up 1 (omega arith), (up 0 (omega arith), (up 1 (omega arith), u_unwind ls es o)), up 0 (omega arith), u))
@@ -100,42 +103,90 @@ module _ (C : Ctx) (m : Module) (locals : List ValType) (off : Offers C m locals
 
   -- ---- guards
 
-  u_zero : (t : ValType) (b : Place) (h : ℕ) (k : Nodes) → U 1 k → U 0 (guard_zero C t b h k)
-  u_zero t b h k u = (up 0 (omega arith), (up 1 (omega arith), u_fetch 2 b h (zero_test t k) (up 2 (omega arith)) (up 3 (omega arith), (up 3 (omega arith), u))))
+  -- above so many
+  u_zero : (base : ℕ) (t : ValType) (b : Place) (h : ℕ) (k : Nodes) → base ≤ 8 → U (suc base) k → U base (guard_zero C t b h k)
+  u_zero base t b h k le u =
+      u_fetch base b h (basic 0 (Eqz t) k) (up base (omega (arith, le))) (up (suc base) (omega (arith, le)), fewer m N k (suc base) (1 + (suc base - 1)) (omega arith) u)
 
   u_signed : (t : ValType) (b a : Place) (h : ℕ) (k : Nodes) → U 1 k → U 0 (guard_signed C t b a h k)
   u_signed t b a h k u =
-      let k2 = zero_test t k in
-      let u2 : U 2 (fetch C b (suc h) k2) = u_fetch 2 b (suc h) k2 (up 2 (omega arith)) (up 3 (omega arith), (up 3 (omega arith), u)) in
-      let k4 = const (minus_one t) (basic 0 (Compare t Eq) (basic 0 (Binary I32 And) (basic 0 Select (fetch C b (suc h) k2)))) in
-      let u4 : U 5 k4 = (up 5 (omega arith), (up 6 (omega arith), (up 5 (omega arith), (up 4 (omega arith), u2)))) in
-      let k5 = const (least t) (basic 0 (Compare t Eq) (fetch C b (suc h) k4)) in
-      let u5 : U 4 k5 = (up 4 (omega arith), (up 5 (omega arith), u_fetch 4 b (suc h) k4 (up 4 (omega arith)) u4)) in
-      (up 0 (omega arith), (up 1 (omega arith), (up 2 (omega arith), u_fetch 3 a h k5 (up 3 (omega arith)) u5)))
+      let k1 = basic 0 (Binary I32 Or) k in
+      let u1 : U 1 (guard_zero C t b (suc h) k1) = u_zero 1 t b (suc h) k1 (omega arith) (up 2 (omega arith), u) in
+      let k2 = const (minus_one t) (basic 0 (Compare t Eq) (basic 0 (Binary I32 And) (guard_zero C t b (suc h) k1))) in
+      let u2 : U 2 k2 = (up 2 (omega arith), (up 3 (omega arith), (up 2 (omega arith), u1))) in
+      let k3 = const (least t) (basic 0 (Compare t Eq) (fetch C b (suc h) k2)) in
+      let u3 : U 1 k3 = (up 1 (omega arith), (up 2 (omega arith), u_fetch 1 b (suc h) k2 (up 1 (omega arith)) u2)) in
+      u_fetch 0 a h k3 (up 0 (omega arith)) u3
 
   -- with so many below
-  u_past : (k : Nodes) → U 3 k → U 3 (past_end k)
-  u_past k u = (up 3 (omega arith), (up 4 (omega arith), (up 4 (omega arith), (up 5 (omega arith), (up 4 (omega arith), u)))))
+  u_past : (k : Nodes) → U 1 k → U 1 (past_end k)
+  u_past k u = (up 1 (omega arith), (up 2 (omega arith), (up 2 (omega arith), (up 3 (omega arith), (up 2 (omega arith), u)))))
 
-  u_past4 : (k : Nodes) → U 4 k → U 4 (past_end k)
-  u_past4 k u = (up 4 (omega arith), (up 5 (omega arith), (up 5 (omega arith), (up 6 (omega arith), (up 5 (omega arith), u)))))
+  u_past2 : (k : Nodes) → U 2 k → U 2 (past_end k)
+  u_past2 k u = (up 2 (omega arith), (up 3 (omega arith), (up 3 (omega arith), (up 4 (omega arith), (up 3 (omega arith), u)))))
 
   u_memory : (a : Place) (h n : ℕ) (k : Nodes) → U 1 k → U 0 (guard_memory C a h n k)
   u_memory a h n k u =
-      let u1 : U 3 (out_test n k) = (up 3 (omega arith), (up 3 (omega arith), (up 4 (omega arith), u_past (basic 0 Select k) (up 3 (omega arith), u)))) in
-      (up 0 (omega arith), (up 1 (omega arith), u_fetch 2 a h (out_test n k) (up 2 (omega arith)) u1))
+      let u1 : U 1 (out_test n k) = (up 1 (omega arith), (up 1 (omega arith), (up 2 (omega arith), u_past k u))) in
+      u_fetch 0 a h (out_test n k) (up 0 (omega arith)) u1
 
-  u_range : (a : Place) (h : ℕ) (n : Place) (hn : ℕ) (k : Nodes) → U 3 k → U 2 (range_test C a h n hn k)
+  u_range : (a : Place) (h : ℕ) (n : Place) (hn : ℕ) (k : Nodes) → U 1 k → U 0 (range_test C a h n hn k)
   u_range a h n hn k u =
       let k2 = basic 0 (Convert ExtendU) (basic 0 (Binary I64 Add) (past_end k)) in
-      let u2 : U 4 k2 = (up 4 (omega arith), (up 4 (omega arith), u_past k u)) in
-      u_fetch 2 a h (basic 0 (Convert ExtendU) (fetch C n hn k2)) (up 2 (omega arith)) (up 3 (omega arith), u_fetch 3 n hn k2 (up 3 (omega arith)) u2)
+      let u2 : U 2 k2 = (up 2 (omega arith), (up 2 (omega arith), u_past k u)) in
+      u_fetch 0 a h (basic 0 (Convert ExtendU) (fetch C n hn k2)) (up 0 (omega arith)) (up 1 (omega arith), u_fetch 1 n hn k2 (up 1 (omega arith)) u2)
 
-  u_range3 : (a : Place) (h : ℕ) (n : Place) (hn : ℕ) (k : Nodes) → U 4 k → U 3 (range_test C a h n hn k)
-  u_range3 a h n hn k u =
+  u_range1 : (a : Place) (h : ℕ) (n : Place) (hn : ℕ) (k : Nodes) → U 2 k → U 1 (range_test C a h n hn k)
+  u_range1 a h n hn k u =
       let k2 = basic 0 (Convert ExtendU) (basic 0 (Binary I64 Add) (past_end k)) in
-      let u2 : U 5 k2 = (up 5 (omega arith), (up 5 (omega arith), u_past4 k u)) in
-      u_fetch 3 a h (basic 0 (Convert ExtendU) (fetch C n hn k2)) (up 3 (omega arith)) (up 4 (omega arith), u_fetch 4 n hn k2 (up 4 (omega arith)) u2)
+      let u2 : U 3 k2 = (up 3 (omega arith), (up 3 (omega arith), u_past2 k u)) in
+      u_fetch 1 a h (basic 0 (Convert ExtendU) (fetch C n hn k2)) (up 1 (omega arith)) (up 2 (omega arith), u_fetch 2 n hn k2 (up 2 (omega arith)) u2)
+
+  u_one_kind : (n : ℕ) (k : Nodes) → U 1 k → U 0 (const (i32 n) k)
+  u_one_kind n k u = (omega arith, u)
+
+  u_kind_division : (op : BinaryOp) (t : ValType) (es : List Place) (k : Nodes) → U 1 k → U 0 (kind C (Binary t op) es k)
+  u_kind_division DivS t [] k u = u_one_kind 2 k u
+  u_kind_division DivS t (b ∷ []) k u = u_one_kind 2 k u
+  u_kind_division DivS t (b ∷ a ∷ es) k u = (up 0 (omega arith), (up 1 (omega arith), u_zero 2 t b (suc (length es)) (basic 0 Select k) (omega arith) (up 3 (omega arith), u)))
+  u_kind_division DivU t es k u = u_one_kind 2 k u
+  u_kind_division RemS t es k u = u_one_kind 2 k u
+  u_kind_division RemU t es k u = u_one_kind 2 k u
+  u_kind_division Add t es k u = u_one_kind 2 k u
+  u_kind_division Sub t es k u = u_one_kind 2 k u
+  u_kind_division Mul t es k u = u_one_kind 2 k u
+  u_kind_division And t es k u = u_one_kind 2 k u
+  u_kind_division Or t es k u = u_one_kind 2 k u
+  u_kind_division Xor t es k u = u_one_kind 2 k u
+  u_kind_division Shl t es k u = u_one_kind 2 k u
+  u_kind_division ShrS t es k u = u_one_kind 2 k u
+  u_kind_division ShrU t es k u = u_one_kind 2 k u
+  u_kind_division Rotl t es k u = u_one_kind 2 k u
+  u_kind_division Rotr t es k u = u_one_kind 2 k u
+
+  u_kind : (i : Basic) (es : List Place) (k : Nodes) → U 1 k → U 0 (kind C i es k)
+  u_kind (Binary t op) es k u = u_kind_division op t es k u
+  u_kind Nop es k u = u_one_kind 4 k u
+  u_kind Drop es k u = u_one_kind 4 k u
+  u_kind Select es k u = u_one_kind 4 k u
+  u_kind (LocalGet x) es k u = u_one_kind 4 k u
+  u_kind (LocalSet x) es k u = u_one_kind 4 k u
+  u_kind (LocalTee x) es k u = u_one_kind 4 k u
+  u_kind (GlobalGet x) es k u = u_one_kind 4 k u
+  u_kind (GlobalSet x) es k u = u_one_kind 4 k u
+  u_kind (Load l al of) es k u = u_one_kind 4 k u
+  u_kind (Store l al of) es k u = u_one_kind 4 k u
+  u_kind MemorySize es k u = u_one_kind 4 k u
+  u_kind MemoryGrow es k u = u_one_kind 4 k u
+  u_kind MemoryCopy es k u = u_one_kind 4 k u
+  u_kind MemoryFill es k u = u_one_kind 4 k u
+  u_kind (Const v) es k u = u_one_kind 4 k u
+  u_kind (Eqz w) es k u = u_one_kind 4 k u
+  u_kind (Unary w op) es k u = u_one_kind 4 k u
+  u_kind (Compare w op) es k u = u_one_kind 4 k u
+  u_kind (Convert c) es k u = u_one_kind 4 k u
+  u_kind (Extend32 j) es k u = u_one_kind 4 k u
+  u_kind (Extend64 j) es k u = u_one_kind 4 k u
 
   u_none : (k : Nodes) → U 1 k → U 0 (const (i32 0) k)
   u_none k u = (omega arith, u)
@@ -146,13 +197,13 @@ module _ (C : Ctx) (m : Module) (locals : List ValType) (off : Offers C m locals
   u_division DivS t (b ∷ a ∷ es) k u = u_signed t b a (length es) k u
   u_division DivU t [] k u = u_none k u
   u_division DivU t (b ∷ []) k u = u_none k u
-  u_division DivU t (b ∷ a ∷ es) k u = u_zero t b (suc (length es)) k u
+  u_division DivU t (b ∷ a ∷ es) k u = u_zero 0 t b (suc (length es)) k (omega arith) u
   u_division RemS t [] k u = u_none k u
   u_division RemS t (b ∷ []) k u = u_none k u
-  u_division RemS t (b ∷ a ∷ es) k u = u_zero t b (suc (length es)) k u
+  u_division RemS t (b ∷ a ∷ es) k u = u_zero 0 t b (suc (length es)) k (omega arith) u
   u_division RemU t [] k u = u_none k u
   u_division RemU t (b ∷ []) k u = u_none k u
-  u_division RemU t (b ∷ a ∷ es) k u = u_zero t b (suc (length es)) k u
+  u_division RemU t (b ∷ a ∷ es) k u = u_zero 0 t b (suc (length es)) k (omega arith) u
   u_division Add t es k u = u_none k u
   u_division Sub t es k u = u_none k u
   u_division Mul t es k u = u_none k u
@@ -177,15 +228,13 @@ module _ (C : Ctx) (m : Module) (locals : List ValType) (off : Offers C m locals
   u_guard MemoryCopy (n ∷ from ∷ []) k u = u_none k u
   u_guard MemoryCopy (n ∷ from ∷ to ∷ es) k u =
       let h = length es in
-      let k2 = basic 0 (Binary I32 Or) (basic 0 Select k) in
-      let u2 : U 4 k2 = (up 4 (omega arith), (up 3 (omega arith), u)) in
-      (up 0 (omega arith), (up 1 (omega arith), u_range from (suc h) n (suc (suc h)) (range_test C to h n (suc (suc h)) k2) (u_range3 to h n (suc (suc h)) k2 u2)))
+      let k2 = basic 0 (Binary I32 Or) k in
+      let u2 : U 2 k2 = (up 2 (omega arith), u) in
+      u_range from (suc h) n (suc (suc h)) (range_test C to h n (suc (suc h)) k2) (u_range1 to h n (suc (suc h)) k2 u2)
   u_guard MemoryFill [] k u = u_none k u
   u_guard MemoryFill (n ∷ []) k u = u_none k u
   u_guard MemoryFill (n ∷ byte ∷ []) k u = u_none k u
-  u_guard MemoryFill (n ∷ byte ∷ to ∷ es) k u =
-      let h = length es in
-      (up 0 (omega arith), (up 1 (omega arith), u_range to h n (suc (suc h)) (basic 0 Select k) (up 3 (omega arith), u)))
+  u_guard MemoryFill (n ∷ byte ∷ to ∷ es) k u = u_range to (length es) n (suc (suc (length es))) k u
   u_guard Nop es k u = u_none k u
   u_guard Drop es k u = u_none k u
   u_guard Select es k u = u_none k u
@@ -206,7 +255,7 @@ module _ (C : Ctx) (m : Module) (locals : List ValType) (off : Offers C m locals
 
   u_guarded : (q : Bool) (ls : List Info) (es : List Place) (o : ℕ) (i : Basic) (k : Nodes) → U 0 k → U 0 (guarded q C ls es o i k)
   u_guarded false ls es o i k u = u
-  u_guarded true ls es o i k u = u_guard i es (tested C ls es o k) (u_tested ls es o k u)
+  u_guarded true ls es o i k u = u_guard i es (tested C ls es o (kind C i es) k) (u_tested ls es o (kind C i es) k (λ arm w. u_kind i es arm w) u)
 
   -- ---- instructions
 
@@ -363,7 +412,7 @@ module _ (C : Ctx) (m : Module) (locals : List ValType) (off : Offers C m locals
   u_rewrite stop ls own js before after e st ty = u_ending ls (own ++ js)
   u_rewrite (basic o b rest) ls own js before after e st ty =
       u_instr ls b own js o rest ty.0 (subst (λ z. BasicTypes (original C ls) b z ty.0) (sym e) ty.1) (λ own' e'. u_rewrite rest ls own' js ty.0 after e' st.1 ty.2)
-  u_rewrite (jump o Unreachable rest) ls own js before after e st ty = (up 0 (omega arith), u_tested ls (own ++ js) o (jump 0 Unreachable stop) (omega arith, tt))
+  u_rewrite (jump o Unreachable rest) ls own js before after e st ty = (up 0 (omega arith), u_tested ls (own ++ js) o (const (i32 1)) (jump 0 Unreachable stop) (λ arm w. u_one_kind 1 arm w) (omega arith, tt))
   u_rewrite (jump o (Br l) rest) ls own js before after e st ty = u_branch (slice_get ls l) (own ++ js) l
   u_rewrite (jump o (BrIf l) rest) ls own js before after e st ty =
       u_branch_if ls l own js rest ty.0 (subst (λ z. JumpTypes (original C ls) (BrIf l) z ty.0) (sym e) ty.1) (λ own' e'. u_rewrite rest ls own' js ty.0 after e' st ty.2)

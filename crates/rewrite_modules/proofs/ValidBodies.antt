@@ -10,7 +10,7 @@ use Rattle.wasm_syntax.specs.declared.parts.Body.{Body}
 use Rattle.wasm_syntax.specs.declared.parts.Global.{Global}
 use Rattle.wasm_syntax.specs.declared.parts.LocalGroup.{LocalGroup}
 use Rattle.wasm_syntax.specs.declared.module.ModuleParts.{ModuleParts as Module}
-use Rattle.wasm_syntax.specs.Tree.{BrTable, Return, Nodes, stop, basic, jump, block, loop, choose, Tree, IsTree, code_of}
+use Rattle.wasm_syntax.specs.Tree.{Unreachable, BrTable, Return, Nodes, stop, basic, jump, block, loop, choose, Tree, IsTree, code_of}
 use Rattle.wasm_syntax.specs.Module.{Program, defined, function_at, type_at, declared_locals, option_then, same_functype}
 use Rattle.wasm_syntax.specs.Machine.{result_of}
 use Rattle.wasm_syntax.specs.Typing.{Context, ◌⇒◌, arrow, Types, IsBody, body_context}
@@ -27,7 +27,7 @@ use Rattle.wasm_laws.proofs.Safe.{Typed, one_result}
 use Rattle.rewrite_modules.specs.calls.Bare.{bare_nodes, bare_tree}
 use Rattle.rewrite_modules.specs.Instrument.{zero_init, new_module, new_nodes, new_body}
 use Rattle.rewrite_modules.specs.FlatCode.{body_of}
-use Rattle.rewrite_modules.specs.Wrappers.{get_all, tell_globals, end_of_dump, after_wrapped, wrapper_nodes, wrapper}
+use Rattle.rewrite_modules.specs.Wrappers.{get_all, tell_globals, lower_flag, end_of_dump, after_wrapped, wrapper_nodes, wrapper}
 use Rattle.rewrite_modules.proofs.Arms.{ifs_typed, tree_body, tree_wrapper, tree_helper, tree_bare}
 use Rattle.rewrite_modules.proofs.Bounds.{room_of}
 use Rattle.rewrite_modules.proofs.FlatOut.{body_out}
@@ -119,9 +119,11 @@ module _ (p : Program) (ready : Ready p) (typed : Typed p) where
       let locals = type.params ++ [] in
       let returns = reverse type.results in
       let labels = returns ∷ [] in
+      let lower_e : arrow (c1 locals returns ([] ∷ labels)) I32 (GlobalSet (flag_of m)) ≡ Some (I32 ∷ [] ⇒ []) = rw flag_is refl in
+      let lowered : Ok (c1 locals returns ([] ∷ labels)) [] [] (lower_flag m (jump 0 Unreachable stop)) = ok_const (i32 0) (ok_basic [] (GlobalSet (flag_of m)) I32 (I32 ∷ [] ⇒ []) lower_e (record { typed = ([], tt, refl) })) in
       let end : Ok (c1 locals returns ([] ∷ labels)) [] [] (end_of_dump m) =
       tell_globals_ok locals returns ([] ∷ labels) [] [] [] m.globals _ refl
-      (ok_const (i32 255) (ok_const (i32 0) (ok_const (i32 0) (ok_const (i32 (length m.globals)) (ok_call [] (frame_import m) frame_type (frame_types p ready) (record { typed = ([], tt, refl) })))))) in
+      (ok_const (i32 255) (ok_const (i32 0) (ok_const (i32 0) (ok_const (i32 (length m.globals)) (ok_call [] (frame_import m) frame_type (frame_types p ready) lowered))))) in
       let flag_e : arrow (c1 locals returns labels) I32 (GlobalGet (flag_of m)) ≡ Some ([] ⇒ I32 ∷ []) = ap (option_map (λ g. [] ⇒ g.vtype ∷ [])) flag_is in
       let after : Ok (c1 locals returns labels) returns (returns ++ []) (after_wrapped m) = ok_basic (returns ++ []) (GlobalGet (flag_of m)) I32 ([] ⇒ I32 ∷ []) flag_e (ok_if end (record { typed = append-nil returns })) in
       let called = ok_call [] (mapped m f) type (function_type_kept p ready f type at) after in

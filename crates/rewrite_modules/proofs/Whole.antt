@@ -130,8 +130,8 @@ module _ (M M' : Engine) (E : ℕ) (gl : List ValType) (S : Stands M M' E gl) (g
   pub flag_at : (g : World) → WorldFits M gl g → flag_of m ≡ length g.globals
   flag_at g wf = sym (length-map m.globals (λ g. g.vtype)) ∙ len_of g.globals (global_types m) (wf.globals ∙ gm)
 
-  -- the wrapper's end at a trap
-  pub trap_end : (W : Wrap) (zs : List Value) (g : World) (co : List CollectorCall) → W.rest ≡ after_wrapped m → WorldFits M gl g → (c : Config) × (c.world ≡ flagged M g (values.I32 1)) × (c.collected ≡ collector_calls.Frame 255 0 0 (length g.globals) ∷ tell_locals g.globals co) × Gets M' 1 (2 * length gl + 15) (config (w_frame W zs ∷ []) (flagged M g (values.I32 1)) co) (traps 1 c)
+  -- the wrapper's end at a trap, with the flag down
+  pub trap_end : (W : Wrap) (zs : List Value) (g : World) (co : List CollectorCall) → W.rest ≡ after_wrapped m → WorldFits M gl g → (c : Config) × (c.world ≡ flagged M g (values.I32 0)) × (c.collected ≡ collector_calls.Frame 255 0 0 (length g.globals) ∷ tell_locals g.globals co) × Gets M' 1 (2 * length gl + 17) (config (w_frame W zs ∷ []) (flagged M g (values.I32 1)) co) (traps 1 c)
   trap_end W zs g co wr wf =
       let X : Shell = record { idx = W.idx; result = W.result; kind = returns W.result; below = []; frames = [] } in
       let X1 = armed X stop zs in
@@ -139,17 +139,22 @@ module _ (M M' : Engine) (E : ℕ) (gl : List ValType) (S : Stands M M' E gl) (g
       let n = length m.globals in
       let fl = flag_at g wf in
       let ty = wf.globals ∙ gm in
-      let k4 = call (frame_import m) (jump 0 Unreachable stop) in
+      let g0 = flagged M g (values.I32 0) in
+      let k5 = basic 0 (GlobalSet (flag_of m)) (jump 0 Unreachable stop) in
+      let k4 = call (frame_import m) (const (i32 0) k5) in
       let k3 = const (i32 255) (const (i32 0) (const (i32 0) (const (i32 n) k4))) in
       let co1 = tell_locals g.globals co in
       let s1 : To M' 1 1 (st X W.locals zs (after_wrapped m) g1 co) (st X W.locals (values.I32 1 ∷ zs) (if_any (end_of_dump m) stop) g1 co) = step_plain M' (GlobalGet (flag_of m)) [] zs W.locals g1 (values.I32 1 ∷ []) (values.I32 1 ∷ zs) refl (rw (get_last g.globals (flag_of m) (values.I32 1) fl) refl) refl in
       let s3 : To M' 0 (2 * length g.globals) (st X1 W.locals [] (end_of_dump m) g1 co) (st X1 W.locals [] k3 g1 co1) =
       subst (λ z. To M' 0 (2 * length g.globals) (st X1 W.locals [] (tell_globals m 0 z k3) g1 co) (st X1 W.locals [] k3 g1 co1)) ty (globals_to M' m S.speaks g1 g.globals [] (values.I32 1) k3 refl) in
-      let last = st X1 W.locals [] (jump 0 Unreachable stop) g1 (collector_calls.Frame 255 0 0 n ∷ co1) in
-      let s4 : To M' 5 5 (st X1 W.locals [] k3 g1 co1) last = seq M' (push_to M' (values.I32 255)) (seq M' (push_to M' (values.I32 0)) (seq M' (push_to M' (values.I32 0)) (seq M' (push_to M' (values.I32 n)) (entry_to M' m S.speaks 255 0 0 n)))) in
-      let s5 : Gets M' 1 1 last (traps 1 last) = one_step M' _ _ refl in
+      let co2 = collector_calls.Frame 255 0 0 n ∷ co1 in
+      let last = st X1 W.locals [] (jump 0 Unreachable stop) g0 co2 in
+      let s4 : To M' 5 5 (st X1 W.locals [] k3 g1 co1) (st X1 W.locals [] (const (i32 0) k5) g1 co2) = seq M' (push_to M' (values.I32 255)) (seq M' (push_to M' (values.I32 0)) (seq M' (push_to M' (values.I32 0)) (seq M' (push_to M' (values.I32 n)) (entry_to M' m S.speaks 255 0 0 n)))) in
+      let s5 : To M' 1 1 (st X1 W.locals [] (const (i32 0) k5) g1 co2) (st X1 W.locals (values.I32 0 ∷ []) k5 g1 co2) = push_to M' (values.I32 0) in
+      let s6 : To M' 1 1 (st X1 W.locals (values.I32 0 ∷ []) k5 g1 co2) last = step_plain M' (GlobalSet (flag_of m)) (values.I32 0 ∷ []) [] W.locals g0 [] [] refl (rw (get_last g.globals (flag_of m) (values.I32 1) fl, put_last g.globals (flag_of m) (values.I32 1) (values.I32 0) fl) refl) refl in
+      let s7 : Gets M' 1 1 last (traps 1 last) = one_step M' _ _ refl in
       let lg : length g.globals ≡ length gl = sym (len_of g.globals gl wf.globals) in
-      (last, refl, ap (λ z. collector_calls.Frame 255 0 0 z ∷ co1) fl, rw wr (weaken M' (seq M' s1 (seq M' (if_up_to M' 0) (seq M' s3 (seq M' s4 s5)))) (omega arith) (omega (arith, lg))))
+      (last, refl, ap (λ z. collector_calls.Frame 255 0 0 z ∷ co1) fl, rw wr (weaken M' (seq M' s1 (seq M' (if_up_to M' 0) (seq M' s3 (seq M' s4 (seq M' s5 (seq M' s6 s7)))))) (omega arith) (omega (arith, lg))))
 
   -- and where the run has ended
   pub good_end : (W : Wrap) (vs : List Value) (g : World) (co : List CollectorCall) → W.rest ≡ after_wrapped m → WorldFits M gl g → exactly W.result vs ≡ Some vs → Gets M' 1 4 (config (w_frame W (vs ++ []) ∷ []) (flagged M g (values.I32 0)) co) (ends (flagged M g (values.I32 0)) vs co)
@@ -237,7 +242,7 @@ module _ (M M' : Engine) (E : ℕ) (gl : List ValType) (S : Stands M M' E gl) (g
         let e = trap_end W (zero_vs (last_of c.frames) ++ []) c.world (tell_frames j c.frames c.collected) refl h.1 in
         let z = seq M' begin (seq M' h.4 e.3) in
         let few : (made + length c.frames) * E ≤ (2 * made + 1) * E = mul-le-mul_right E (omega (arith, h.3)) in
-        inr (z.count, omega (arith, z.low), omega (arith, z.high, few, roomy), e.0, (λ extra. over M' z.count extra target (traps 1 e.0) z.goes tt), 1, e.1, e.2, h.2, h.1, W.result, h.0.0, h.0.1, h.0.2, h.0.3, h.0.4)
+        inr (z.count, omega (arith, z.low), omega (arith, z.high, few, roomy), e.0, (λ extra. over M' z.count extra target (traps 1 e.0) z.goes tt), 0, e.1, e.2, h.2, h.1, W.result, h.0.0, h.0.1, h.0.2, h.0.3, h.0.4)
     stood made (no_reply call c) h =
         let z = seq M' begin h.5 in
         (z.count, omega (arith, z.low), omega (arith, z.high, roomy), h.2, (λ extra. over M' z.count extra target (no_reply call h.2) z.goes tt), 0, h.3, h.4 ∙ h.1, h.0)

@@ -89,9 +89,9 @@ pub fn rewritten_modules_are_within_limits()
 {}
 
 /// From each configuration that agrees with one of the original, frames hand over their values
-/// where the original traps, and the wrapper ends in a trap: each frame in at most half of the
-/// bound on the steps, and the wrapper too. Worlds at the start agree, and wrappers lead to
-/// configurations that do.
+/// where the original traps, and the wrapper ends in a trap, with the flag down: each frame in at
+/// most half of the bound on the steps, and the wrapper too. Worlds at the start agree, and
+/// wrappers lead to configurations that do.
 pub fn traps_unwind()
     ensures { (m : Parts) (these : Instrumentable m) (heights : List (List ℕ))
         → AreHeights m heights → (depth : ℕ)

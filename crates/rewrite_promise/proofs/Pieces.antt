@@ -1,7 +1,7 @@
 -- The bytes of the entries of the code section: wrappers, helpers and rewritten bodies.
 use Rattle.std.proofs.Common.{◌≡◌, ℕ, zero, suc, ◌+◌, ◌*◌, ◌/◌, ◌<◌, ◌≤◌, Bool, true, false, List, [], ◌∷◌, ◌++◌, length, map, flat_map, Option, Some, None, refl, arith, length-append, slice_get, option_map, unwrap_or}
 use Rattle.std.proofs.lemmas.List.{length-map}
-use Rattle.wasm_leb.specs.Writing.{unsigned_bytes}
+use Rattle.wasm_leb.specs.Writing.{unsigned_bytes, signed_bytes, signed_groups}
 use Rattle.wasm_syntax.specs.declared.value.ValType.{ValType}
 use Rattle.wasm_syntax.specs.declared.value.ValType.TheVariants.{I32, I64}
 use Rattle.wasm_syntax.specs.declared.instruction.Basic.TheVariants.{GlobalSet}
@@ -22,7 +22,7 @@ use Rattle.rewrite_bodies.specs.Guards.{first_table, type_label, entry_label, sa
 use Rattle.rewrite_bodies.specs.calls.Length.{code_length, jump_length}
 use Rattle.rewrite_bodies.proofs.Lengths.{len_const, len_call, len_global_get, len_global_set}
 use Rattle.rewrite_modules.specs.FlatCode.{body_of}
-use Rattle.rewrite_modules.specs.Wrappers.{get_all, tell_globals, end_of_dump, after_wrapped, wrapper}
+use Rattle.rewrite_modules.specs.Wrappers.{get_all, tell_globals, lower_flag, end_of_dump, after_wrapped, wrapper}
 use Rattle.wasm_format_laws.proofs.Numbers.{some_bytes, few_bytes, single_byte, four_bytes}
 use Rattle.wasm_format_laws.proofs.Totals.{total, total-append, total_many, vector_total}
 use Rattle.rewrite_promise.proofs.Items.{new_expression}
@@ -62,22 +62,31 @@ tell_short m few x (t ∷ ts) k =
     let c = tell_short m few (suc x) ts k in
     omega (arith, a, b, c)
 
+-- the constant 0
+len_zero : (k : Nodes) → code_length (const (i32 0) k) ≡ 2 + code_length k
+unfolding signed_bytes signed_groups
+len_zero k = refl
+
 dump_short : (m : Module) → import_count m < 268435450 → code_length (end_of_dump m) ≤ 56 + 16 * length m.globals
 dump_short m few =
     let k0 = jump 0 Unreachable stop in
-    let k1 = call (frame_import m) k0 in
+    let l0 = basic 0 (GlobalSet (flag_of m)) k0 in
+    let l1 = lower_flag m k0 in
+    let k1 = call (frame_import m) l1 in
     let k2 = const (i32 (length m.globals)) k1 in
     let k3 = const (i32 0) k2 in
     let k4 = const (i32 0) k3 in
     let k5 = const (i32 255) k4 in
     let a = tell_short m few 0 (global_types m) k5 in
     let b = len_const (i32 255) k4 in
-    let c = len_const (i32 0) k3 in
-    let d = len_const (i32 0) k2 in
+    let c = len_zero k3 in
+    let d = len_zero k2 in
     let e = len_const (i32 (length m.globals)) k1 in
-    let f = len_call (frame_import m) k0 in
+    let f = four_bytes (frame_import m) (omega (arith, few)) in
+    let g = len_zero l0 in
+    let h = len_global_set (flag_of m) k0 in
     let n : length (global_types m) ≡ length m.globals = length-map m.globals (λ g. g.vtype) in
-    omega (arith, a, b, c, d, e, f, n)
+    omega (arith, a, b, c, d, e, f, g, h, n)
 
 wrapper_short : (m : Module) (f : ℕ) → import_count m < 268435450 → code_length (wrapper m f) ≤ 103 + 16 * parameter_count (type_at m f) + 16 * length m.globals
 wrapper_short m f few =

@@ -1,11 +1,11 @@
-//! Verdicts of guards, which are run on constants.
+//! Verdicts of guards, and kinds of traps, which are run on constants.
 
 ghost use Rattle.std.specs.Prelude.{◌≡◌, ◌≤◌, ◌∷◌, [], length, IfOk, OnOk};
 ghost use Rattle.wasm_format_laws.specs.Sized.{Sized};
 
 use crate::modules::{DIV, valid};
 use causes::NoMemory;
-use guard_insert::{guard, guard_unreachable};
+use guard_insert::{guard, guard_unreachable, kind};
 use index_map::IndexMap;
 use machine_basics::{Globals, Performed, Shared, perform};
 use pm_text::{Items, Stack};
@@ -55,7 +55,39 @@ fn constants(alloc: Global, dividend: u32, divisor: u32) -> Result<OperandPlaces
     Ok(places)
 }
 
-/// Whether the guard of a division leaves this kind.
+const DIVISION: Basic = Basic::Binary(ValType::I32, Binary::DivS);
+
+/// What the guard of a division leaves.
+fn guarded(
+    alloc: Global,
+    context: &FunctionContext<'_, '_>,
+    row: (u32, u32, u32),
+) -> Result<Option<Value>, NoMemory>
+    requires { 4 ≤ context.now.slots }
+{
+    let places = constants(alloc, row.0, row.1)?;
+    let mut writer = CodeWriter::new(alloc);
+    guard(context, &mut writer, &DIVISION, &places)?;
+    let body = writer.finish(Items::new(alloc))?;
+    Ok(verdict(alloc, &body))
+}
+
+/// Which kind the code beside it leaves.
+fn kind_left(
+    alloc: Global,
+    context: &FunctionContext<'_, '_>,
+    row: (u32, u32, u32),
+) -> Result<Option<Value>, NoMemory>
+    requires { 4 ≤ context.now.slots }
+{
+    let places = constants(alloc, row.0, row.1)?;
+    let mut writer = CodeWriter::new(alloc);
+    kind(context, &mut writer, &DIVISION, &places)?;
+    let body = writer.finish(Items::new(alloc))?;
+    Ok(verdict(alloc, &body))
+}
+
+/// Whether the guard finds a trap where there is one, and then the kind is this.
 fn leaves(
     alloc: Global,
     context: &FunctionContext<'_, '_>,
@@ -63,12 +95,12 @@ fn leaves(
 ) -> Result<bool, NoMemory>
     requires { 4 ≤ context.now.slots }
 {
-    let places = constants(alloc, row.0, row.1)?;
-    let mut writer = CodeWriter::new(alloc);
-    let division = Basic::Binary(ValType::I32, Binary::DivS);
-    guard(context, &mut writer, &division, &places)?;
-    let body = writer.finish(Items::new(alloc))?;
-    Ok(verdict(alloc, &body) == Some(Value::I32(row.2)))
+    let found = guarded(alloc, context, row)?;
+    if row.2 == 0 {
+        return Ok(found == Some(Value::I32(0)));
+    }
+    let left = kind_left(alloc, context, row)?;
+    Ok(found == Some(Value::I32(1)) && left == Some(Value::I32(row.2)))
 }
 
 fn all_leave(alloc: Global, context: &FunctionContext<'_, '_>) -> Result<bool, NoMemory>
@@ -100,7 +132,7 @@ fn divisions_are_judged(alloc: Global, source: &Validated) -> Result<bool, NoMem
 }
 
 #[test]
-fn a_guard_leaves_the_kind_of_the_trap(rt: HostRuntime) -> Result<(), Fail> {
+fn a_guard_finds_a_trap_and_its_kind(rt: HostRuntime) -> Result<(), Fail> {
     match valid(rt.alloc(), &DIV) {
         Some(v) => assert!(rt; divisions_are_judged(rt.alloc(), &v)?),
         None => assert!(rt; false),
@@ -109,7 +141,7 @@ fn a_guard_leaves_the_kind_of_the_trap(rt: HostRuntime) -> Result<(), Fail> {
 }
 
 #[test]
-fn unreachable_has_kind_one(rt: HostRuntime) -> Result<(), Fail> {
+fn the_guard_of_unreachable_finds_a_trap(rt: HostRuntime) -> Result<(), Fail> {
     let mut writer = CodeWriter::new(rt.alloc());
     guard_unreachable(&mut writer)?;
     let body = writer.finish(Items::new(rt.alloc()))?;

@@ -12,7 +12,7 @@ use Rattle.rewrite_bodies.specs.Slots.{Ctx, kind_at, offset_at, result_at}
 use Rattle.rewrite_bodies.specs.Pieces.{get, const, i32, call}
 use Rattle.rewrite_bodies.specs.Guards.{says, helper, entry_label, first_table}
 use Rattle.rewrite_bodies.specs.Rewrite.{in_body, hand_locals, result_back, finish, zero_result, raise_flag, exit_code, rewrite, body}
-use Rattle.rewrite_modules.specs.Wrappers.{get_all, tell_globals, end_of_dump, after_wrapped, wrapper_nodes}
+use Rattle.rewrite_modules.specs.Wrappers.{get_all, tell_globals, lower_flag, end_of_dump, after_wrapped, wrapper_nodes}
 use Rattle.rewrite_code.specs.calls.Writing.{Written, Behind, ends, goes, Emits, EmitsLast, Opens, Closes}
 use Rattle.rewrite_code.proofs.Pieces.{emits_then, emits_last, emits_stop, emits_within}
 use Rattle.unwind_rewrite.specs.calls.Bodies.{OpensTwo, ClosesWith}
@@ -92,21 +92,23 @@ parameters_done n x {b = b} le so_far =
 pub told : (m : Module) (x f : ℕ) (t : ValType) {a b c : Written} → f ≡ value_import m t → Emits (basic 0 (GlobalGet x)) a b → Emits (call f) b c → Emits (λ k. basic 0 (GlobalGet x) (call (value_import m t) k)) a c
 told m x f t e p q = emits_then p (call_at e q)
 
-pub wrapped_end : (m : Module) (x f : ℕ) {a b c d e g h : Written} → x ≡ flag_of m → f ≡ frame_import m → Emits (const (i32 255)) a b → Emits (const (i32 0)) b c → Emits (const (i32 0)) c d → Emits (const (i32 x)) d e →
-    Emits (call f) e g → Emits (jump 0 Unreachable) g h → EmitsLast (const (i32 255) (const (i32 0) (const (i32 0) (const (i32 (length m.globals)) (call (frame_import m) (jump 0 Unreachable stop)))))) a h
-wrapped_end m x f at frame p q r s t u = emits_last p (emits_last q (emits_last r (emits_last (number_at at s) (emits_last (call_at frame t) (emits_stop u)))))
+flag_lowered : (m : Module) (x : ℕ) {a b : Written} → x ≡ flag_of m → Emits (λ k. const (i32 0) (basic 0 (GlobalSet x) k)) a b → Emits (lower_flag m) a b
+flag_lowered m x {a} {b} at p = subst (λ y. Emits (λ k. const (i32 0) (basic 0 (GlobalSet y) k)) a b) at p
+
+pub wrapped_end : (m : Module) (x f : ℕ) {a b c d e g h i : Written} → x ≡ flag_of m → f ≡ frame_import m → Emits (const (i32 255)) a b → Emits (const (i32 0)) b c → Emits (const (i32 0)) c d → Emits (const (i32 x)) d e →
+    Emits (call f) e g → Emits (λ k. const (i32 0) (basic 0 (GlobalSet x) k)) g h → Emits (jump 0 Unreachable) h i → EmitsLast (const (i32 255) (const (i32 0) (const (i32 0) (const (i32 (length m.globals)) (call (frame_import m) (lower_flag m (jump 0 Unreachable stop))))))) a i
+wrapped_end m x f at frame p q r s t low u = emits_last p (emits_last q (emits_last r (emits_last (number_at at s) (emits_last (call_at frame t) (emits_last (flag_lowered m x at low) (emits_stop u))))))
 
 pub dump_ended : (m : Module) {a b c : Written} → Emits (tell_globals m 0 (global_types m)) a b →
-    EmitsLast (const (i32 255) (const (i32 0) (const (i32 0) (const (i32 (length m.globals)) (call (frame_import m) (jump 0 Unreachable stop)))))) b c → EmitsLast (end_of_dump m) a c
+    EmitsLast (const (i32 255) (const (i32 0) (const (i32 0) (const (i32 (length m.globals)) (call (frame_import m) (lower_flag m (jump 0 Unreachable stop))))))) b c → EmitsLast (end_of_dump m) a c
 dump_ended m p q = emits_last p q
 
 pub wrapped_tested : (m : Module) (x : ℕ) {a b c d e : Written} → x ≡ flag_of m → Emits (basic 0 (GlobalGet x)) a b → Opens (λ arm k. choose 0 None arm None stop 0 k) b c → EmitsLast (end_of_dump m) c d → Closes d e →
     EmitsLast (after_wrapped m) a e
 wrapped_tested m x at p o i j = emits_last (global_get_at at p) (emits_stop (emits_within o i j))
 
-pub wrapper_written : (m : Module) (f n x g : ℕ) {a b c d e h : Written} → x ≡ flag_of m → g ≡ mapped m f → Emits (const (i32 0)) a b → Emits (basic 0 (GlobalSet x)) b c → Emits (get_all 0 n) c d → Emits (call g) d e →
-    EmitsLast (after_wrapped m) e h → EmitsLast (wrapper_nodes m f n) a h
-wrapper_written m f n x g flag there p q r s t = emits_last p (emits_last (global_set_at flag q) (emits_last r (emits_last (call_at there s) t)))
+pub wrapper_written : (m : Module) (f n x g : ℕ) {a b c d e : Written} → x ≡ flag_of m → g ≡ mapped m f → Emits (λ k. const (i32 0) (basic 0 (GlobalSet x) k)) a b → Emits (get_all 0 n) b c → Emits (call g) c d → EmitsLast (after_wrapped m) d e → EmitsLast (wrapper_nodes m f n) a e
+wrapper_written m f n x g flag there p q r s = emits_last (flag_lowered m x flag p) (emits_last q (emits_last (call_at there r) s))
 
 pub says_kind : (kind : ℕ) {a b c : Written} → Emits (const (i32 kind)) a b → Emits (jump 0 Return) b c → EmitsLast (says kind) a c
 says_kind kind p q = emits_last p (emits_stop q)

@@ -4,7 +4,7 @@ use Rattle.wasm_syntax.specs.declared.value.ValType.{ValType}
 use Rattle.wasm_syntax.specs.Tree.{Br, BrTable, Return, Unreachable, Nodes, stop, basic, jump, block, choose}
 use Rattle.rewrite_bodies.specs.Slots.{Place, Ctx, less, result_type}
 use Rattle.rewrite_bodies.specs.Pieces.{const, i32, fetch, load, store, to_result}
-use Rattle.rewrite_bodies.specs.Rewrite.{Info, carries, end_gives, body_at, tested, go_to, branch_to, branch_if, table, ending, control, guarded, plain}
+use Rattle.rewrite_bodies.specs.Rewrite.{Info, carries, end_gives, body_at, unwind_kind, go_to, branch_to, branch_if, table, ending, control, guarded, plain}
 use Rattle.rewrite_code.specs.calls.Writing.{Written, ends, Emits, EmitsLast, Opens, Closes, OpensArms}
 use Rattle.rewrite_code.proofs.Pieces.{emits_then, emits_last, emits_stop, emits_within}
 use Rattle.rewrite_code.proofs.Loads.{emits_same}
@@ -68,9 +68,9 @@ returned C ls es o go t n {a} {b} same count p q =
     let at : n - 1 ≡ body_at ls = sym (body_label ls ∙ ap (λ m. m - 1) count) in
     emits_last (subst (λ t. Emits (to_result C t es) a b) same p) (emits_stop (branch_at at q))
 
-pub trapped : (C : Ctx) (ls : List Info) (es : List Place) (o : ℕ) (go : List Place → Nodes) {a b c d : Written} → Emits (const (i32 1)) a b → Emits (tested C ls es o) b c → Emits (jump 0 Unreachable) c d →
-    EmitsLast (control C ls es o Unreachable go) a d
-trapped C ls es o go p q r = emits_last p (emits_last q (emits_stop r))
+pub trapped : (C : Ctx) (ls : List Info) (es : List Place) (o : ℕ) (go : List Place → Nodes) {a b c d e f g : Written} → Emits (const (i32 1)) a b → Opens (λ arm k. choose 0 None arm None stop 0 k) b c → Emits (const (i32 1)) c d →
+    EmitsLast (unwind_kind C ls es o) d e → Closes e f → Emits (jump 0 Unreachable) f g → EmitsLast (control C ls es o Unreachable go) a g
+trapped C ls es o go p op k u cl r = emits_last p (emits_last (emits_within op (emits_last k u) cl) (emits_stop r))
 
 -- ---- blocks
 

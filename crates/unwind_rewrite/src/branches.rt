@@ -11,7 +11,7 @@ ghost use Rattle.rewrite_code.specs.calls.Places.{place};
 use causes::NoMemory;
 use guard_insert::guard_unreachable;
 use rewrite_code::{CodeWriter, FunctionContext, OperandPlace, OperandPlaces};
-use wasm_syntax::ValType;
+use wasm_syntax::{ValType, Value};
 
 /// The label to which a branch goes, by what a branch to it carries.
 #[derive(Clone, Copy)]
@@ -201,6 +201,9 @@ pub fn trap(
         writer.old writer.new) }
 {
     guard_unreachable(writer)?;
-    context.tested(writer, labels, places, offset)?;
+    writer.open_if(None)?;
+    writer.const_value(Value::I32(1))?;
+    context.unwind_kind(writer, labels, places, offset)?;
+    writer.close()?;
     writer.unreachable()
 }

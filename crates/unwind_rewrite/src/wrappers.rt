@@ -2,17 +2,26 @@
 
 ghost use Rattle.std.specs.Prelude.{◌≡◌, ◌<◌, length, OnOk};
 ghost use Rattle.wasm_syntax.specs.Module.{function_types};
-ghost use Rattle.wasm_syntax.specs.declared.instruction.Basic.TheVariants.{GlobalGet as GlobalGetOf};
+ghost use Rattle.wasm_syntax.specs.declared.instruction.Basic.TheVariants.{GlobalGet as GlobalGetOf, GlobalSet as GlobalSetOf};
 ghost use Rattle.wasm_syntax.specs.Tree.{Unreachable, stop, basic, jump};
 ghost use Rattle.rewrite_bodies.specs.Numbering.{value_import, frame_import, global_types};
 ghost use Rattle.rewrite_bodies.specs.Pieces.{const, i32, call};
-ghost use Rattle.rewrite_modules.specs.Wrappers.{get_all, tell_globals, end_of_dump, after_wrapped, wrapper_nodes};
+ghost use Rattle.rewrite_modules.specs.Wrappers.{get_all, tell_globals, lower_flag, end_of_dump, after_wrapped, wrapper_nodes};
 ghost use Rattle.rewrite_code.specs.calls.Writing.{Emits, EmitsLast};
 
 use causes::NoMemory;
 use index_map::IndexMap;
 use rewrite_code::CodeWriter;
 use wasm_syntax::{Basic, Global, ValType, Value};
+
+/// The flag, which has this index, is set to a number.
+fn set_flag(writer: &mut CodeWriter, flag: u32, number: u32) -> Result<(), NoMemory>
+    ensures { OnOk result (Emits (λ k. const (i32 number)
+        (basic 0 (GlobalSetOf flag) k)) writer.old writer.new) }
+{
+    writer.const_value(Value::I32(number))?;
+    writer.basic(Basic::GlobalSet(flag))
+}
 
 /// So many parameters.
 fn get_all(writer: &mut CodeWriter, count: u32) -> Result<(), NoMemory>
@@ -56,19 +65,22 @@ fn tell_globals(
 }
 
 /// The end of the dump: its kind, function and offset say that it is one, and it counts the
-/// globals.
+/// globals. The trap behind it leaves the flag down, since a host may go on with the instance.
 fn end_dump(map: &IndexMap<'_>, writer: &mut CodeWriter) -> Result<(), NoMemory>
     ensures { OnOk result (EmitsLast
         (const (i32 255) (const (i32 0)
         (const (i32 0) (const (i32 (length map.now.globals))
-        (call (frame_import map.now) (jump 0 Unreachable stop)))))) writer.old writer.new) }
+        (call (frame_import map.now) (lower_flag map.now (jump 0 Unreachable stop))))))) writer.old
+        writer.new) }
 {
+    // The flag stands behind the globals, so its index is their number.
+    let flag = map.flag();
     writer.const_value(Value::I32(255))?;
     writer.const_value(Value::I32(0))?;
     writer.const_value(Value::I32(0))?;
-    // The flag stands behind the globals, so its index is their number.
-    writer.const_value(Value::I32(map.flag()))?;
+    writer.const_value(Value::I32(flag))?;
     writer.call(map.frame_import())?;
+    set_flag(writer, flag, 0)?;
     writer.unreachable()
 }
 
@@ -113,8 +125,7 @@ pub fn wrapper(
     ensures { OnOk result (EmitsLast (wrapper_nodes map.now function parameters) writer.old
         writer.new) }
 {
-    writer.const_value(Value::I32(0))?;
-    writer.basic(Basic::GlobalSet(map.flag()))?;
+    set_flag(writer, map.flag(), 0)?;
     get_all(writer, parameters)?;
     writer.call(map.function(function))?;
     after_wrapped(map, writer, globals)

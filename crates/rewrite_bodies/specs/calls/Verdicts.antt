@@ -1,5 +1,5 @@
--- What guards mean. A guard is a piece of code that leaves one i32, its verdict: the kind with which an instruction would trap there, or 0. It
--- changes nothing else.
+-- What guards mean. A guard is a piece of code that leaves one i32, its verdict: 1 where an instruction would trap there, and 0 where it would
+-- not. A second piece leaves the kind of the trap; the guard of `call_indirect` leaves the kind, or 0, by itself. They change nothing else.
 use Rattle.std.specs.Prelude.{◌≡◌, ◌≢◌, ℕ, zero, suc, ◌+◌, ◌<◌, ◌≤◌, ◌⊎◌, ◌==◌, List, [], ◌∷◌, ◌++◌, length, map, Option, Some, if◌then◌else◌}
 use Rattle.wasm_syntax.specs.declared.value.ValType.{ValType}
 use Rattle.wasm_syntax.specs.declared.value.ValType.TheVariants.{I32}
@@ -44,10 +44,10 @@ pub record Around : Type 0 where
 abbrev pub at_nodes : Around → List Value → List Value → Nodes → World → List CollectorCall → Config
 at_nodes A locals operands nodes w calls = config (frame A.function A.result 0 locals (label operands nodes 0 A.kind ∷ A.outer) ∷ A.callers) w calls
 
--- Whatever goes on behind the piece, it takes at most 60 steps, and leaves this kind. The locals, the globals, the memory, the table, the
+-- Whatever goes on behind the piece, it takes at most 60 steps, and leaves this number. The locals, the globals, the memory, the table, the
 -- replies and the collector's calls are as they were.
-abbrev pub LeavesKind : Engine → Around → List Value → World → List CollectorCall → ℕ → (Nodes → Nodes) → Type 0
-LeavesKind M A locals w calls kind piece = (k : Nodes) → Leads M 60 (at_nodes A locals [] (piece k) w calls) (at_nodes A locals (values.I32 kind ∷ []) k w calls)
+abbrev pub Leaves : Engine → Around → List Value → World → List CollectorCall → ℕ → (Nodes → Nodes) → Type 0
+Leaves M A locals w calls number piece = (k : Nodes) → Leads M 60 (at_nodes A locals [] (piece k) w calls) (at_nodes A locals (values.I32 number ∷ []) k w calls)
 
 -- It is well typed (Core 3.3) in front of code that has an i32 more, inside any labels.
 abbrev pub LeavesI32 : Ctx → (Nodes → Nodes) → Type 0
@@ -67,19 +67,32 @@ kind_of (gives w l vs) = 0
 kind_of (fails k) = k
 kind_of unfit = 0
 
--- On the operands that these places stand for, it leaves the kind with which the instruction traps on them, or 0.
+-- 1 where there is a kind, and 0 where there is none
+abbrev pub verdict : ℕ → ℕ
+verdict zero = 0
+verdict (suc k) = 1
+
+-- On the operands that these places stand for, it leaves 1 where the instruction traps on them, and 0 where it does not.
 pub record IsGuard (C : Ctx) (i : Basic) (places : List Place) (piece : Nodes → Nodes) : Type 0 where
   pub tells : (M : Engine) (A : Around) (locals added_ : List Value) (w : World) (calls : List CollectorCall) (operands taken below : List Value)
       → length C.locals ≡ length locals → MemoryFits w.memory → SmallOffset i → Holds added_ [] operands places → cut (takes i) operands ≡ parts taken below → effect i w locals taken ≢ unfit
-      → LeavesKind M A (locals ++ added_) w calls (kind_of (effect i w locals taken)) piece
+      → Leaves M A (locals ++ added_) w calls (verdict (kind_of (effect i w locals taken))) piece
+  pub typed : (after : List ValType) → BasicTypes (original C []) i (map place_type places) after → LeavesI32 C piece
+  pub short : IsShort C piece
+
+-- Where the instruction traps on them, it leaves the kind.
+pub record IsKind (C : Ctx) (i : Basic) (places : List Place) (piece : Nodes → Nodes) : Type 0 where
+  pub tells : (M : Engine) (A : Around) (locals added_ : List Value) (w : World) (calls : List CollectorCall) (operands taken below : List Value)
+      → length C.locals ≡ length locals → MemoryFits w.memory → SmallOffset i → Holds added_ [] operands places → cut (takes i) operands ≡ parts taken below → effect i w locals taken ≢ unfit
+      → (j : ℕ) → kind_of (effect i w locals taken) ≡ suc j → Leaves M A (locals ++ added_) w calls (suc j) piece
   pub typed : (after : List ValType) → BasicTypes (original C []) i (map place_type places) after → LeavesI32 C piece
   pub short : IsShort C piece
 
 -- ---- the guard of `unreachable`
 
--- It leaves kind 1.
+-- It leaves 1, which is the kind too.
 pub record IsGuardOfUnreachable (C : Ctx) (piece : Nodes → Nodes) : Type 0 where
-  pub tells : (M : Engine) (A : Around) (locals : List Value) (w : World) (calls : List CollectorCall) → LeavesKind M A locals w calls 1 piece
+  pub tells : (M : Engine) (A : Around) (locals : List Value) (w : World) (calls : List CollectorCall) → Leaves M A locals w calls 1 piece
   pub typed : LeavesI32 C piece
   pub short : IsShort C piece
 
@@ -117,6 +130,6 @@ IsHelper M source t f = (b : Body) × (function_at M.program f ≡ Some (defined
 pub record IsGuardOfEntry (C : Ctx) (t f : ℕ) (entry : Place) (height : ℕ) (piece : Nodes → Nodes) : Type 0 where
   pub tells : (M N : Engine) (c : Config) (n : ℕ) → N.program.module_ ≡ C.source → c.world.table ≡ first_table C.source → CallsEntry t n c → step N c ≢ stuck
       → (A : Around) (locals added_ : List Value) (w : World) (calls : List CollectorCall) → length C.locals ≡ length locals → One added_ height entry (values.I32 n)
-      → IsHelper M C.source t f → suc (length A.callers) < M.depth → LeavesKind M A (locals ++ added_) w calls (kind_of_step (step N c)) piece
+      → IsHelper M C.source t f → suc (length A.callers) < M.depth → Leaves M A (locals ++ added_) w calls (kind_of_step (step N c)) piece
   pub typed : place_type entry ≡ I32 → Has t C.helpers → f ≡ helper_of C t → LeavesI32 C piece
   pub short : IsShort C piece

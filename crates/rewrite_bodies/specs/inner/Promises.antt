@@ -1,5 +1,5 @@
 -- What is promised of guards and of the steps of rewritten code.
-use Rattle.std.specs.Prelude.{◌≡◌, ℕ, ◌≤◌, List, [], ◌∷◌, ◌++◌, length, true, ◌≢◌}
+use Rattle.std.specs.Prelude.{◌≡◌, ℕ, zero, suc, ◌≤◌, List, [], ◌∷◌, ◌++◌, length, true, ◌≢◌}
 use Rattle.wasm_syntax.specs.declared.value.ValType.{ValType}
 use Rattle.wasm_syntax.specs.declared.value.Value.{Value}
 use Rattle.wasm_syntax.specs.Tree.{Nodes}
@@ -11,7 +11,7 @@ use Rattle.wasm_syntax.specs.declared.value.Value.TheVariants as values
 use Rattle.wasm_syntax.specs.declared.instruction.Basic.{Basic}
 use Rattle.wasm_syntax.specs.Effect.{takes, Effect, gives, fails, unfit, effect}
 use Rattle.rewrite_bodies.specs.Offsets.{SmallOffset}
-use Rattle.rewrite_bodies.specs.Guards.{can_trap, guard}
+use Rattle.rewrite_bodies.specs.Guards.{can_trap, guard, kind}
 use Rattle.rewrite_bodies.specs.calls.Steps.{To, Shell, st}
 use Rattle.rewrite_bodies.specs.calls.Agreement.{Holds, Wit, MemoryFits, FitsConfig, Wrap, image}
 use Rattle.rewrite_bodies.specs.calls.Standing.{After, Stands}
@@ -22,14 +22,20 @@ kind_of (gives g l ws) = 0
 kind_of (fails k) = k
 kind_of unfit = 0
 
--- the guard of an instruction takes at most 26 steps, leaves the kind with which the instruction traps on these operands, or 0, and changes
--- nothing; kind 8 aside, which no basic instruction has
+-- what a guard leaves: 1 where there is a kind, and 0 where there is none
+abbrev pub verdict : ℕ → ℕ
+verdict zero = 0
+verdict (suc k) = 1
+
+-- the guard of an instruction takes at most 21 steps, leaves 1 where the instruction traps on these operands and 0 where it does not, and
+-- changes nothing; where it traps, the other piece leaves the kind in at most 5 steps. Kind 8 aside, which no basic instruction has.
 abbrev pub GuardTells : Engine → Basic → Type 0
 GuardTells M i =
     (C : Ctx) (locals added_ : List Value) (X : Shell) (behind : Nodes) (there here : World) (calls : List CollectorCall) (js es : List Place) (ops vs below : List Value) →
     length C.locals ≡ length locals → there.memory ≡ here.memory → MemoryFits here.memory → SmallOffset i → can_trap i ≡ true →
     Holds added_ js ops es → cut (takes i) ops ≡ parts vs below → effect i here locals vs ≢ unfit →
-    To M 1 26 (st X (locals ++ added_) [] (guard C i (es ++ js) behind) there calls) (st X (locals ++ added_) (values.I32 (kind_of (effect i here locals vs)) ∷ []) behind there calls)
+    To M 1 21 (st X (locals ++ added_) [] (guard C i (es ++ js) behind) there calls) (st X (locals ++ added_) (values.I32 (verdict (kind_of (effect i here locals vs))) ∷ []) behind there calls)
+    × ((k : ℕ) → kind_of (effect i here locals vs) ≡ suc k → To M 1 5 (st X (locals ++ added_) [] (kind C i (es ++ js) behind) there calls) (st X (locals ++ added_) (values.I32 (suc k) ∷ []) behind there calls))
 
 -- Each step of the original from an agreeing configuration is from one to E steps of the rewritten module, to an agreeing configuration or to
 -- the same end. Where it traps, with a kind other than 8, each frame of the original takes at most E steps: all frames hand over their

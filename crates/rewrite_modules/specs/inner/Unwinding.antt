@@ -63,5 +63,5 @@ module _ (p : Program) (n d : ℕ) where
     pub one_frame : (W : Wrap) (F : Frame) (Fs : List Frame) (w : Wit) (ws : List Wit) (g : World) (co : List CollectorCall) (t : Config) (q : ℕ) (r : Option ValType) → FitsFrame M n gl r F w → FitsFrames M n gl W.result F.result Fs ws → WorldFits M gl g → Returned W t q r (F ∷ Fs) (w ∷ ws) g co → Returned W t (q + n) F.result Fs ws g (tell_frame 0 F.call F co)
     -- and all do
     pub all_frames : (W : Wrap) (Fs : List Frame) (ws : List Wit) (g : World) (co : List CollectorCall) (t : Config) (q : ℕ) (r : Option ValType) → FitsFrames M n gl W.result r Fs ws → WorldFits M gl g → Returned W t q r Fs ws g co → To M' 0 (q + length Fs * n) t (config (w_frame W (zero_vs (last_result r Fs) ++ []) ∷ []) (flagged M g (values.I32 1)) (tell_outer Fs co))
-    -- the wrapper hands over the globals and ends in a trap, in at most n steps
-    pub wrapper : (W : Wrap) (operands : List Value) (g : World) (co : List CollectorCall) → W.rest ≡ after_wrapped p.module_ → WorldFits M gl g → (c : Config) × (c.world ≡ flagged M g (values.I32 1)) × (c.collected ≡ collector_calls.Frame 255 0 0 (length g.globals) ∷ tell_locals g.globals co) × Gets M' 1 n (config (w_frame W operands ∷ []) (flagged M g (values.I32 1)) co) (traps 1 c)
+    -- the wrapper hands over the globals and ends in a trap with the flag down, in at most n steps
+    pub wrapper : (W : Wrap) (operands : List Value) (g : World) (co : List CollectorCall) → W.rest ≡ after_wrapped p.module_ → WorldFits M gl g → (c : Config) × (c.world ≡ flagged M g (values.I32 0)) × (c.collected ≡ collector_calls.Frame 255 0 0 (length g.globals) ∷ tell_locals g.globals co) × Gets M' 1 n (config (w_frame W operands ∷ []) (flagged M g (values.I32 1)) co) (traps 1 c)

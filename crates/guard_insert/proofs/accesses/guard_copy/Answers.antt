@@ -9,4 +9,4 @@ pub returns : goal.returns
 returns c =
     let one : c.above-second.result ≡ suc c.args.height = omega (arith, c.above-second.ensures) in
     let two : c.above-third.result ≡ suc (suc c.args.height) = omega (arith, c.above-third.ensures) in
-    when_ok (emits_then (emits_then c.in_ok-const_value.ensures (emits_then c.in_ok-const_value-2.ensures (emits_then (range_at c.args.context.now (place c.args.from) (place c.args.len) one two c.in_ok-range_test.ensures) (emits_then (range_at c.args.context.now (place c.args.to) (place c.args.len) refl two c.in_ok-range_test-2.ensures) c.in_ok-basic.ensures))))) c.basic-2.result c.basic-2.ensures
+    when_ok (emits_then (emits_then (range_at c.args.context.now (place c.args.from) (place c.args.len) one two c.in_ok-range_test.ensures) (range_at c.args.context.now (place c.args.to) (place c.args.len) refl two c.in_ok-range_test-2.ensures))) c.basic.result c.basic.ensures

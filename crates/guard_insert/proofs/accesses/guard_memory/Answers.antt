@@ -4,4 +4,4 @@ use Rattle.guard_insert.proofs.accesses.guard_memory.Goals as goal
 
 pub returns : goal.returns
 returns c =
-    when_ok (emits_then (emits_then c.in_ok-const_value.ensures (emits_then c.in_ok-const_value-2.ensures c.in_ok-fetch.ensures))) c.out_test.result c.out_test.ensures
+    when_ok (emits_then c.in_ok-fetch.ensures) c.out_test.result c.out_test.ensures

@@ -3,5 +3,4 @@ use Rattle.rewrite_code.proofs.Loads.{when_ok}
 use Rattle.guard_insert.proofs.division.guard_zero.Goals as goal
 
 pub returns : goal.returns
-returns c =
-    when_ok (emits_then (emits_then c.in_ok-const_value.ensures (emits_then c.in_ok-const_value-2.ensures c.in_ok-fetch.ensures))) c.zero_test.result c.zero_test.ensures
+returns c = when_ok (emits_then c.in_ok-fetch.ensures) c.basic.result c.basic.ensures

@@ -4,4 +4,4 @@ use Rattle.unwind_rewrite.proofs.branches.trap.Goals as goal
 
 pub returns : goal.returns
 returns c = λ ls go e.
-    when_ok (trapped c.args.context.now ls c.args.places.now c.args.offset go c.in_ok-guard_unreachable.ensures.emits (c.in_ok-tested.ensures ls e)) c.unreachable.result c.unreachable.ensures
+    when_ok (trapped c.args.context.now ls c.args.places.now c.args.offset go c.in_ok-guard_unreachable.ensures.emits c.in_ok-open_if.ensures.one_arm c.in_ok-const_value.ensures (c.in_ok-unwind_kind.ensures ls e) c.in_ok-close.ensures) c.unreachable.result c.unreachable.ensures
