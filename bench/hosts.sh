@@ -136,4 +136,6 @@ if command -v node > /dev/null; then
   if [ -f /usr/lib/wasm32-wasi/libc-printscan-no-floating-point.a ]; then record_wasi; else absent="$absent wasi-libc"; fi
 fi
 if [ -n "$chromium" ] && command -v node > /dev/null; then node "$top/bench/page.mjs" "$chromium" cases; else absent="$absent chromium"; fi
+PM=$pm sh "$top/bench/hosts_flag.sh"
+PM=$pm sh "$top/bench/hosts_flag.sh" instrument
 echo "not installed:${absent:- none}"
