@@ -1,6 +1,6 @@
 #!/bin/sh
 # clients.sh          whether the clients of clients/ show what is so
-# clients.sh speed    how long moves of the prompt take in a run of 10^8 steps, beside going through it once
+# clients.sh speed    what moves of the prompt take of the processor in a run of 10^8 steps, beside going through it once
 #
 # The stories of README: the prompt at a pseudo-terminal, the debug adapter as an editor asks it, and pages of genhtml
 # beside gcov; of modules of clang 14 and clang 19. What they show is compared with the sources, with what the programs
@@ -89,9 +89,29 @@ command -v clang-14 > /dev/null || { echo 'clang 14 is missing'; older=$newer; }
 command -v clang-19 > /dev/null || { echo 'clang 19 is missing'; newer=$older; }
 if [ "${1:-}" = speed ]; then
   enter speed
-  sed -n '/^__attribute__((import_module/,/^}/p' bench/replay.sh > program.c
+  cat > program.c <<'PROGRAM'
+static unsigned cells[65536], sum;
+static unsigned half(unsigned x) { return x / 2 + 1; }
+static unsigned work(unsigned x, unsigned count) {
+  for (unsigned i = 0; i < count; i++) {
+    x = x * 1664525u + 1013904223u;
+    cells[x >> 16] += x;
+    if (i % 65536 == 65535) x ^= half(x);
+  }
+  return x ^ cells[x >> 16];
+}
+__attribute__((export_name("run"))) unsigned run(unsigned x) {
+  x = work(x, 50); // short
+  x = work(x, 40000);
+  sum += x;
+  x = work(x, 200000);
+  sum += x;
+  x = work(x, 2000000000);
+  return x;
+}
+PROGRAM
   make module.wasm program.c $newer
-  python3 -c 'for i in range(2000): print("i32:%d" % (i * 2654435761 % 2 ** 32))' > log
+  : > log
   python3 "$helper" speed . "${2:-100000000}"
   exit
 fi

@@ -5,7 +5,7 @@ usage: play_clients.py prompt FOLDER     pmdb.py at a pseudo-terminal
        play_clients.py refusals FOLDER   all three on bad input
        play_clients.py pages FOLDER NAME ..   pages of genhtml beside the files that gcov wrote
        play_clients.py page FOLDER README     the commands that a page shows behind a `$`, and what they print
-       play_clients.py speed FOLDER STEPS     moves of the prompt in a long run of module.wasm, by the seconds
+       play_clients.py speed FOLDER STEPS     what moves take of the processor in a long run of module.wasm
 
 FOLDER holds the modules tree, notes and values of bench/programs/traps with their dumps, the file of replies `log`,
 and `symbols`, which is what llvm-symbolizer says of the frames of tree's dump. What is expected is read from the
@@ -16,16 +16,18 @@ import base64
 import json
 import os
 import pty
+import random
 import re
 import subprocess
 import sys
-import time
 
 # Nothing is written into the checkout.
 sys.dont_write_bytecode = True
+sys.path.append(os.path.join(os.path.dirname(os.path.abspath(__file__)), "..", "clients"))
 
 from compare_cover import by_line, instructions, rows
 from compare_debug import symbolized_frames
+import pmdb
 
 TOP = os.path.dirname(os.path.dirname(os.path.abspath(__file__)))
 CLIENTS = os.path.join(TOP, "clients")
@@ -133,6 +135,7 @@ def play_dump(checks, folder):
     symbols = [frame[0] for frame in symbolized_frames(os.path.join(folder, "symbols"))]
     key, source = key_of_tree(9), Source("tree.c")
     terminal = Terminal(folder, "tree.wasm", "tree.core")
+    checks.has("the trap", terminal.opening, "trap 2 integer divide by zero, by the instruction")
     checks.has("the trap's line", terminal.opening, source.shown("from / at->value"))
     frames = re.findall(r"#\d+ (\w+) .* at .*?([\w.]+):(\d+)", terminal.do("bt"))
     checks.same("bt", [(name, file, int(line)) for name, file, line in frames], symbols)
@@ -218,6 +221,80 @@ def play_values(checks, folder):
     checks.same("end", terminal.end(), 0)
 
 
+class Steps:
+    """All states of a run, each asked for by itself, and where moves have to end by them."""
+
+    def __init__(self, words, end):
+        parts = [range(low, min(low + 500, end + 1)) for low in range(0, end + 1, 500)]
+        lines = [line for part in parts for line in self._asked(words, part)]
+        self.states, self.end = pmdb.states_of(lines), end
+
+    @staticmethod
+    def _asked(words, steps):
+        moves = ";".join(f"goto {step};bt" for step in steps)
+        return pmdb.Program(None).ask("replay", "--do", moves, "--", *words)
+
+    def site(self, step):
+        """Where the innermost frame stands."""
+        frames = self.states[step].frames
+        return frames[0].site if frames else None
+
+    def next(self, step, into):
+        """The next line, by each state behind this one."""
+        depth, place = self.states[step].key()
+        keys = ((at, *self.states[at].key()) for at in range(step + 1, self.end + 1))
+        found = (at for at, deep, line in keys if at == self.end or deep < depth
+                 or line and (deep, line) != (depth, place) and (into or deep == depth))
+        return next(found, step)
+
+    def before(self, step, into):
+        """Where this line begins, or the line before it."""
+        depth, target = len(self.states[step].frames) or 1, None
+        for at in range(step - 1, -1, -1):
+            deep, line = self.states[at].key()
+            if not line or not (into or deep <= depth):
+                continue
+            if target is not None and (deep, line) != self.states[target].key():
+                break
+            target = at
+        return target or 0
+
+    def out(self, step):
+        """Where the innermost frame has returned."""
+        depth = len(self.states[step].frames) - 1
+        deeper = (at for at in range(step + 1, self.end + 1) if len(self.states[at].frames) <= depth)
+        return next(deeper, self.end) if depth > 0 else self.end
+
+
+def play_moves(checks, folder):
+    """Moves from steps by chance, of which few states are looked at in one call, beside all states of the run."""
+    words = [os.path.join(folder, name) for name in ("notes.wasm", "log")] + ["run", "i32:12"]
+    chance, opened, near = random.Random(7), None, pmdb.Recording.window
+    pmdb.Recording.window = lambda _: 40
+    known = None
+    for count in range(120):
+        if count % 12 == 0:
+            opened = pmdb.Recording(pmdb.Program(None), words[0], words[1:], {})
+            known = known or Steps(words, opened.total)
+        if chance.random() < 0.5:
+            opened.goto(chance.randrange(opened.total + 1))
+        step, sites = opened.step, [known.site(chance.randrange(known.end)) for _ in range(2)]
+        hits = [at for at in range(1, known.end + 1) if known.site(at) in sites]
+        moves = {"next": (lambda: opened.next_line(False), known.next(step, False)),
+                 "step": (lambda: opened.next_line(True), known.next(step, True)),
+                 "reverse-next": (lambda: opened.line_before(False), known.before(step, False)),
+                 "reverse-step": (lambda: opened.line_before(True), known.before(step, True)),
+                 "finish": (lambda: opened.finish(0), known.out(step)),
+                 "continue": (lambda: opened.run_to(sites), min([at for at in hits if at > step], default=known.end)),
+                 "reverse-continue": (lambda: opened.back_to(sites), max([at for at in hits if at < step], default=0))}
+        name = chance.choice(list(moves))
+        move, expected = moves[name]
+        if opened.frames or name.startswith("reverse"):
+            move()
+            checks.same(f"{name} from {step}", opened.step, expected)
+    pmdb.Recording.window = near
+
+
 def play_prompt(folder):
     """All sessions at the prompt."""
     checks = Checks("pmdb")
@@ -225,25 +302,47 @@ def play_prompt(folder):
     play_recording(checks, folder)
     play_alone(checks, folder)
     play_values(checks, folder)
+    play_moves(checks, folder)
     return checks.end()
 
 
+def spent(process):
+    """The seconds of the processor that the children of a process took, as far as it has waited for them."""
+    with open(f"/proc/{process}/stat", encoding="ascii") as file:
+        fields = file.read().rpartition(")")[2].split()
+    return (int(fields[13]) + int(fields[14])) / os.sysconf("SC_CLK_TCK")
+
+
+# What a command may take, of once through the run; 1.3 where nothing is said. In program.c of clients.sh a short call,
+# one of a twentieth and one of a fifth of a run of 10^8 steps stand behind each other, and then one without an end.
+MOST = {"next over a fifth": 1.8, "rc, 7% back": 3, "rc, far back": 10, "when sum": 5, "when i": 1.8}
+
+
 def play_speed(folder, steps):
-    """How long moves take in a run of so many steps, beside going through it once."""
+    """How much of the processor moves take in a run of so many steps, beside going through it once."""
     opened = ["module.wasm", "log", "run", "i32:-1"]
-    begin = time.monotonic()
+    begin = os.times()
     refused_by_pm(folder, "replay", *opened, "--fuel", steps)
-    once = time.monotonic() - begin
+    once = sum(os.times()[2:4]) - sum(begin[2:4])
     terminal = Terminal(folder, "--fuel", steps, *opened)
-    print(f"  once through the run: {once:.2f} s")
-    slow = 0
-    for command in (f"goto {int(steps) // 2}", "back", "stepi", "step", "next", "reverse-step", "info locals",
-                    f"goto {steps}", "reverse-next", "when i"):
-        begin = time.monotonic()
-        terminal.do(command)
-        took = (time.monotonic() - begin) / once
-        slow += took > 1.3 and not command.startswith("when")
-        print(f"  {command}: {took:.2f} of it")
+    print(f"  once through the run: {once:.2f} s of the processor")
+    slow, half, source = 0, int(steps) // 2, os.path.join(folder, "program.c")
+    with open(source, encoding="ascii") as file:
+        line = {key: number for number, text in enumerate(file, 1) for key in re.findall(r"// (.*)", text)}
+    rows = [f"goto {half}", "back", "stepi", "step", "next", "reverse-step", "reverse-next", "info locals",
+            f"goto {steps}", "reverse-next", "when i", "goto 0", f"until {line['short']}",
+            ("next", "next over a short call"), ("next", "next over a twentieth"), ("reverse-next", "back over it"),
+            ("next", "next again"), "next", ("next", "next over a fifth"), ("reverse-next", "back over it"),
+            ("next", "next again"), "next", "break half", ("c", "c, 7% on"), ("c", "c, 7% on"), ("rc", "rc, 7% back"),
+            ("stepi 99", "stepi 99"), ("rc", "rc, near"), f"goto {steps}", "when sum", f"goto {steps}", "delete",
+            "break run", ("rc", "rc, far back")]
+    rows = [row if isinstance(row, tuple) else (row, row) for row in rows]
+    for command, name in rows:
+        begin = spent(terminal.process)
+        shown = terminal.do(command)
+        took = (spent(terminal.process) - begin) / once
+        slow += took > MOST.get(name, 1.3)
+        print(f"  {name}: {took:.2f} of it" + (f", {shown.splitlines()[0]}" if shown else ""))
     terminal.end()
     return 1 if slow else 0
 
@@ -422,7 +521,8 @@ def play_prompt_refusals(checks, folder):
             ("debug notes.wasm tree.core", "another build"),
             ("debug tree.inst.wasm tree.core", "is a rewritten module"),
             ("replay notes.wasm none run i32:12", ""), ("replay notes.wasm tree.c run i32:12", ""),
-            ("replay notes.wasm log walk i32:12", ""), ("replay notes.wasm log run", ""),
+            ("replay notes.wasm log walk i32:12", "notes.wasm exports run"),
+            ("replay notes.wasm log run", "run takes i32"), ("replay notes.wasm log run i64:12", "run takes i32"),
             ("replay notes.wasm log run 12", "12 is no argument: i32:N"),
             ("replay notes.wasm log run i32:4294967296", "i32:4294967296 is no argument")]
     for row, hint in rows:

@@ -16,7 +16,10 @@ import sys
 # Nothing is written, not even what Python keeps of an imported file.
 sys.dont_write_bytecode = True
 
-from pmdb import CONTROL, Lines, Module, Refused, import_hints
+try:
+    from pmdb import CONTROL, Lines, Module, Refused, import_hints
+except ImportError:
+    sys.exit(f"{os.path.basename(__file__)}: pmdb.py has to stand beside it: what they share is there")
 
 
 COUNT = re.compile(r"(.+):(\d+) (\d+)$")

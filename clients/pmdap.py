@@ -18,7 +18,11 @@ import sys
 # Nothing is written, not even what Python keeps of an imported file.
 sys.dont_write_bytecode = True
 
-from pmdb import POINTER, Dump, Lines, Program, Recording, Refused, hints_of, inside, parts, value_in, with_texts
+try:
+    from pmdb import (POINTER, Dump, Program, Recording, Refused, hints_of, inside, parts, value_in, with_texts,
+                      without_spaces)
+except ImportError:
+    sys.exit(f"{os.path.basename(__file__)}: pmdb.py has to stand beside it: what they share is there")
 
 MOST_BYTES = 4096
 SCOPES = {"Variables": "vars", "Machine: locals": "locals", "Machine: operands": "operands",
@@ -110,7 +114,7 @@ class Adapter:
             run = [words["log"], words["entry"], *map(str, words.get("arguments", []))]
             limits = {name: words[name] for name in ("fuel", "depth") if name in words}
             self.subject = Recording(program, words["module"], run, limits)
-        self.tables = Lines(self.subject.module)
+        self.tables = self.subject.tables
         self.folders = [words["source"]] if "source" in words else [".", *self.tables.folders()]
         self.after = self.opened
 
@@ -150,8 +154,16 @@ class Adapter:
         """Tells that the state has changed."""
         self.kept = []
         subject = self.subject
-        text = self.trap() or (f"step {subject.step} of {subject.total}" if subject.recorded else "the dump of a trap")
+        text = self.trap() or (f"step {subject.step} of {subject.total}" if subject.recorded else
+                               subject.trap() or "the dump of a trap")
         self.channel.event("stopped", reason=reason, description=text, text=text, threadId=1, allThreadsStopped=True)
+
+    def on_pause(self, _words):
+        """It stands already."""
+        self.after = lambda: self.stop("pause")
+
+    def on_setExceptionBreakpoints(self, _words):
+        """The only exception is the trap at the end."""
 
     def on_threads(self, _words):
         """A module has one thread."""
@@ -178,8 +190,9 @@ class Adapter:
         return {"stackFrames": found[first:first + (words.get("levels") or len(found))], "totalFrames": len(found)}
 
     def on_exceptionInfo(self, _words):
-        """The trap. A dump does not tell its kind."""
-        description = self.trap() or "the kind of the trap is not in a dump"
+        """The trap; that of a dump is told by the instruction at which it stands."""
+        told = None if self.subject.recorded else self.subject.trap()
+        description = self.trap() or told or "the kind of the trap is not in a dump"
         return {"exceptionId": "trap", "description": description, "breakMode": "always"}
 
     # What it holds.
@@ -229,7 +242,7 @@ class Adapter:
         expression = words["expression"].strip()
         if words.get("context") == "repl" and COMMAND.match(expression):
             return {"result": "\n".join(self.subject.look(frame, expression)[0]), "variablesReference": 0}
-        path = expression.replace(" ", "")
+        path = without_spaces(expression)
         answer = self.subject.look(frame, f"print {path}")[0]
         text = value_in(answer)
         if not text:

@@ -31,12 +31,28 @@ MARK = "frame 18446744073709551615"
 LAST = 18446744073709551615
 MOST_STATES = 1000
 MOST_FRAMES = 200_000
+MOST_KEPT = 20_000
 MOST_BYTES = 4096
+# The system takes no longer word than 131,072 bytes.
+MOST_WORDS = 120_000
 DEFAULTS = {"fuel": 100_000_000, "depth": 1000}
 BOUNDS = {"fuel": (0, 1_000_000_000_000), "depth": (1, 10_000)}
 ARGUMENT = "i32:N or i64:N, N of 1 to 20 digits, with - or without, from -2^31 to 2^32 - 1 or from -2^63 to 2^64 - 1"
-TAKES = "the words are MODULE DUMP, or MODULE LOG ENTRY [ARG ..]"
+TAKES = "the words are MODULE DUMP of a dump, or MODULE LOG ENTRY [ARG ..] of a recorded run"
 TOOLS = ["llvm-dwarfdump", *(f"llvm-dwarfdump-{version}" for version in range(30, 13, -1))]
+
+
+# How many numbers follow an opcode, of those that any follow. Behind 0xfc stands a second opcode; 0x0e has a list.
+OPERANDS = {**dict.fromkeys([2, 3, 4, 0x0c, 0x0d, 0x10, *range(0x20, 0x25), 0x3f, 0x40, 0x41, 0x42], 1),
+            **dict.fromkeys([0x11, *range(0x28, 0x3f)], 2)}
+BULK = {10: 2, 11: 1}
+CALLS = 0x10, 0x11
+# Traps by the instructions that make them.
+TRAPS = {1: "1 unreachable", 2: "2 integer divide by zero", 3: "3 integer overflow",
+         4: "4 out of bounds memory access", 5: "5, 6 or 7, of an indirect call, or 8 call stack exhausted",
+         8: "8 call stack exhausted"}
+DIVISIONS = {*range(0x6d, 0x71), *range(0x7f, 0x83)}
+TRAPPING = {1: {0}, 4: {*range(0x28, 0x3f), 0xfc}, 5: {0x11}, 8: {0x10}}
 
 
 class Refused(Exception):
@@ -57,6 +73,27 @@ def number_at(data, at):
     raise IndexError(at)
 
 
+def behind_numbers(data, at, count):
+    """Where so many LEB128 numbers of any size end."""
+    for _ in range(count):
+        while data[at] > 127:
+            at += 1
+        at += 1
+    return at
+
+
+def behind_instruction(data, at):
+    """Where an instruction ends."""
+    opcode, at = data[at], at + 1
+    if opcode == 0x0e:
+        count, at = number_at(data, at)
+        return behind_numbers(data, at, count + 1)
+    if opcode == 0xfc:
+        second, at = number_at(data, at)
+        return behind_numbers(data, at, BULK.get(second, 0))
+    return behind_numbers(data, at, OPERANDS.get(opcode, 0))
+
+
 def name_at(data, at):
     """A name, and where it ends."""
     size, at = number_at(data, at)
@@ -69,6 +106,7 @@ class Module:
     def __init__(self, name):
         self.name, self.data = name, b""
         self.imports, self.sections, self.names, self.bodies, self.code = [], set(), {}, [], 0
+        self.exports, self.types, self.defined, self.ends, self.decoded = {}, [], [], [], {}
         try:
             with open(name, "rb") as file:
                 self.data = file.read()
@@ -80,7 +118,8 @@ class Module:
     def _read(self):
         """Reads the sections."""
         at = 8
-        readers = {0: self._custom, 2: self._imports, 10: self._bodies}
+        readers = {0: self._custom, 1: self._types, 2: self._imports, 3: self._functions, 7: self._exports,
+                   10: self._bodies}
         while at < len(self.data):
             kind = self.data[at]
             size, at = number_at(self.data, at + 1)
@@ -115,15 +154,43 @@ class Module:
             name, at = name_at(self.data, at)
             self.imports.append((module, name))
             # `pm` takes imports of functions alone, whose type's index follows.
-            _, at = number_at(self.data, at + 1)
+            index, at = number_at(self.data, at + 1)
+            self.defined.append(index)
+
+    def _types(self, at, _end):
+        """The parameters of each type, as their bytes."""
+        count, at = number_at(self.data, at)
+        for _ in range(count):
+            size, at = number_at(self.data, at + 1)
+            self.types.append(self.data[at:at + size])
+            size, at = number_at(self.data, at + size)
+            at += size
+
+    def _functions(self, at, _end):
+        """The type's index of each function behind the imports."""
+        count, at = number_at(self.data, at)
+        for _ in range(count):
+            index, at = number_at(self.data, at)
+            self.defined.append(index)
+
+    def _exports(self, at, _end):
+        """The exported functions."""
+        count, at = number_at(self.data, at)
+        for _ in range(count):
+            name, at = name_at(self.data, at)
+            index, behind = number_at(self.data, at + 1)
+            if self.data[at] == 0:
+                self.exports[name] = index
+            at = behind
 
     def _bodies(self, at, _end):
-        """Where bodies begin."""
+        """Where bodies begin and end."""
         self.code = at
         count, at = number_at(self.data, at)
         for _ in range(count):
             size, at = number_at(self.data, at)
             self.bodies.append(at)
+            self.ends.append(at + size)
             at += size
 
     def is_rewritten(self):
@@ -150,17 +217,50 @@ class Module:
             at += 1
         return at - begin
 
+    def parameters(self, entry):
+        """The types of the parameters of an exported function; None where there is none of that name."""
+        try:
+            return [{0x7f: "i32", 0x7e: "i64"}.get(code, "?") for code in self.types[self.defined[self.exports[entry]]]]
+        except (KeyError, IndexError):
+            return None
+
+    def opcode(self, function, offset):
+        """The opcode at a place, or None outside a function."""
+        try:
+            return self.data[self.body(function) + offset]
+        except IndexError:
+            return None
+
+    def instructions(self, function):
+        """Code offset and opcode of each instruction of a function, and at last where they end."""
+        if function not in self.decoded:
+            found = []
+            try:
+                begin, end = self.body(function), self.ends[function - len(self.imports)]
+                at = begin + self.first_offset(function)
+                while at < end:
+                    found.append((at - begin, self.data[at]))
+                    at = behind_instruction(self.data, at)
+                found.append((at - begin, None))
+            except IndexError:
+                found = []
+            self.decoded[function] = found
+        return self.decoded[function]
+
+    def calls(self, function):
+        """The code offsets of the calls in a function, each with that behind it."""
+        found = self.instructions(function)
+        return [(at, behind) for (at, opcode), (behind, _) in zip(found, found[1:]) if opcode in CALLS]
+
     def call_at(self, function, offset):
         """Of the call at a place: whom it calls, if that is told, and the code offset behind it; None at no call."""
         try:
             begin = self.body(function)
             code = self.data[begin + offset]
-            if code not in (0x10, 0x11):
+            if code not in CALLS:
                 return None
-            index, at = number_at(self.data, begin + offset + 1)
-            if code == 0x10:
-                return index, at - begin
-            return None, number_at(self.data, at)[1] - begin
+            called = number_at(self.data, begin + offset + 1)[0] if code == 0x10 else None
+            return called, behind_instruction(self.data, begin + offset) - begin
         except IndexError:
             return None
 
@@ -268,8 +368,18 @@ class Dump:
 
     def __init__(self, program, module, dump):
         self.program, self.module, self.dump = program, Module(module), dump
+        self.tables = Lines(self.module)
         self.lines = self._debug("bt")
         self.frames = frames_of(self.lines)
+
+    def trap(self):
+        """How it died, by the instruction at which the innermost frame stands and its operands; None at another one."""
+        opcode = self.module.opcode(*self.frames[0].site) if self.frames else None
+        if opcode in DIVISIONS:
+            operands = self.look(0, "operands")[0]
+            is_zero = operands[-1].endswith(":0")
+            return f"trap {TRAPS[2] if is_zero else TRAPS[3]}" if operands[-1].startswith("operand ") else None
+        return next((f"trap {TRAPS[kind]}" for kind, opcodes in TRAPPING.items() if opcode in opcodes), None)
 
     def _debug(self, *commands):
         """What `pm debug` prints."""
@@ -292,10 +402,14 @@ class Recording:
     def __init__(self, program, module, words, limits):
         self.program, self.module, self.words = program, Module(module), words
         self.limits = {**DEFAULTS, **{name: limit for name, limit in limits.items() if limit is not None}}
-        self.total, self.seen, self.is_spread = 0, {}, False
+        self.total, self.seen, self.is_spread, self.known = 0, {}, False, {}
+        # Of calls that were gone over: the first step inside by the step of the return, and the other way round.
+        self.calls, self.returns = {}, {}
+        self.tables = Lines(self.module)
         self.state = states_of(self._replay([f"goto {LAST}", "bt"]))[-1]
         self.total, self.ending = self.state.end, self.state.ending
-        self._learn([self.state])
+        self.last = self.state
+        self._keep([self.last])
 
     @property
     def step(self):
@@ -320,7 +434,7 @@ class Recording:
         try:
             return self.program.ask("replay", *options, "--do", ";".join(commands), "--", self.module.name, *self.words)
         except Refused as refused:
-            raise advised(refused, self.module, self.words[2:], self.limits) from refused
+            raise advised(refused, self.module, self.words[1:], self.limits) from refused
 
     def _learn(self, states):
         """Notes where lines begin, as far as the frames of these states tell."""
@@ -346,13 +460,28 @@ class Recording:
         lines = self._replay([f"goto {self.step}", f"frame {frame}", MARK, *marked], self.step, self.step)
         return each_answer(lines)[1:len(commands) + 1]
 
-    def states(self, steps, *commands):
+    def states(self, steps, *commands, near=None):
         """The states at these steps, in order, each with what the commands print there."""
         steps = [step for step in steps if 0 <= step <= self.total]
         moves = [word for step in steps for word in (f"goto {step}", *commands)]
-        states = states_of(self._replay(moves, steps[0], steps[-1])) if steps else []
-        self._learn(states)
+        near = steps[0] if near is None and steps else near
+        states = states_of(self._replay(moves, near, steps[-1])) if steps else []
+        self._keep(states, commands)
         return states
+
+    def _keep(self, states, commands=("bt",)):
+        """Learns of these states, and keeps those of which all frames are told."""
+        self._learn(states)
+        if commands == ("bt",):
+            if len(self.known) > MOST_KEPT:
+                self.known = {}
+            self.known.update((state.step, state) for state in states)
+
+    def _known(self, step, way, calls=None):
+        """The states that are kept, from a step on or back, without a gap, or with gaps at these calls alone."""
+        while (state := self.known.get(step)) is not None:
+            yield state
+            step = (calls or {}).get(step + way, step + way)
 
     def spread(self, low, high):
         """Steps from `low` up to `high`, evenly spread; to go to all of them takes no more than the run once again."""
@@ -368,7 +497,8 @@ class Recording:
 
     def goto(self, step):
         """Goes to a step."""
-        self.state = self.states([max(0, min(step, self.total))], "bt")[-1]
+        step = max(0, min(step, self.total))
+        self.state = self.known.get(step) or self.states([step], "bt")[-1]
 
     def next_line(self, into):
         """Goes to the next line, `into` calls or over them. It answers whether it was reached."""
@@ -381,122 +511,208 @@ class Recording:
             return state.step == self.total or deep < depth or is_other
 
         for _ in range(4):
-            window = self.states(range(self.step + 1, self.step + 1 + self.window()), "bt")
-            self.state = next(filter(is_there, window), window[-1] if window else self.state)
+            found = next(filter(is_there, self._known(self.step + 1, 1, None if into else self.returns)), None)
+            window, ahead = ([], {}) if found else self._ahead(self.state, not into)
+            self.state = found or next(filter(is_there, window), window[-1] if window else self.state)
             if not is_there(self.state) and not into and len(self.frames) > depth:
-                self.state = self._returned(self.state, depth)
+                hit = ahead.get(self.frames[len(self.frames) - depth].site)
+                is_return = hit and hit.step > self.step and len(hit.frames) == depth
+                before = [state.step for state in window if len(state.frames) == depth]
+                self.state = hit if is_return else self._returned(self.state, depth)
+                if before:
+                    self.calls[self.step] = before[-1] + 1
+                    self.returns[before[-1] + 1] = self.step
+                self._keep([self.state])
             if is_there(self.state):
                 return True
         return False
 
+    def _ahead(self, state, is_over):
+        """The states behind one, and, to go over calls, where the next two calls of its function return.
+
+        The latter by the places of the calls. It is looked for in a part of the run behind them only, so that it does
+        not take long where such a call is not made.
+        """
+        steps = range(state.step + 1, min(state.step + self.window(), self.total) + 1)
+        end, calls, moves = steps[-1] if steps else state.step, [], []
+        if is_over and state.frames:
+            function, offset = state.frames[0].site
+            calls = [call for call in self.module.calls(function) if call[0] >= offset][:2]
+            end = max(end, state.step + self.total // 32) if calls else end
+            moves = [word for _, behind in calls for word in (f"goto {state.step}", f"until {function}:{behind}", "bt")]
+        moves = [word for step in steps for word in (f"goto {step}", "bt")] + moves
+        states = states_of(self._replay(moves, state.step, end)) if steps else []
+        self._keep(states[:len(steps)])
+        returns = zip(calls, states[len(steps) + 1::2])
+        return states[:len(steps)], {(function, at): hit for (at, _), hit in returns if hit}
+
     def _returned(self, state, depth):
         """The first state with no more than so many frames, behind the call under way there; or the end."""
+        # Early in a run its end is far, and may not have to be gone to.
+        ends = [state.step + self.total // 4, self.total] if state.step < self.total // 4 else [self.total]
+        return next(filter(None, (self._returned_before(state, depth, end) for end in ends)), self.last)
+
+    def _returned_before(self, state, depth, end):
+        """That state up to a step; None where it is not there."""
         function, offset = state.frames[len(state.frames) - depth].site
         call = self.module.call_at(function, offset)
         for count in 1, 4, 16, 64, 256:
             until = [f"until {function}:{call[1]}", "bt"] * count if call else []
-            moves = [f"goto {state.step}", *until, f"goto {LAST}", "bt"]
-            states = states_of(self._replay(moves, state.step, self.total))
-            hits = [state for state in states[1:-1] if state]
+            states = states_of(self._replay([f"goto {state.step}", *until], state.step, end)) if call else []
+            hits = [state for state in states[1:] if state]
             found = next((state for state in hits if len(state.frames) <= depth), None)
-            if found or len(hits) < count or not call:
-                return found or states[-1]
+            if found or len(hits) < count:
+                return found
             state = hits[-1]
         return state
 
     def finish(self, frame):
         """Goes to where a frame has returned to its caller, or to the end."""
         depth = len(self.frames) - frame - 1
-        self.state = self._returned(self.state, depth) if depth > 0 else self._end()
-
-    def _end(self):
-        """The last state."""
-        return self.states([self.total], "bt")[-1]
+        self.state = self._returned(self.state, depth) if depth > 0 else self.last
 
     def run_to(self, places):
         """Goes on to the next of these places, or to the end. It answers whether one was reached."""
         here = f"goto {self.step}"
         moves = [word for function, offset in places for word in (here, f"until {function}:{offset}", "bt")]
-        states = states_of(self._replay([*moves, f"goto {LAST}", "bt"], self.step, self.total))
+        states = states_of(self._replay(moves, self.step, self.total)) if moves else []
         hits = [state for state in states[1::2] if state]
-        self.state = min(hits, key=lambda state: state.step, default=states[-1])
+        self.state = min(hits, key=lambda state: state.step, default=self.last)
+        self._keep([self.state])
         return bool(hits)
 
-    def _last_before(self, place, step, depth=None):
-        """The last state before a step at which the innermost frame is at a place, with so many frames; or None.
+    def _latest(self, places, spans, high, depth):
+        """Of each place the last state that is found in front of step `high`, in one call.
 
-        It is looked for from ever farther behind, each time twice as far, and then from there on place by place.
+        It is looked for from so far behind `high` as each of the spans says: twice, or once in a long one, through
+        which a second look in vain would go again. Beside the state stand the steps between which there may be more:
+        the last one seen there, and the next one behind which there are none.
         """
-        until = [f"until {place[0]}:{place[1]}", "bt"]
-        starts = [max(0, step - 1 - 2 ** power) for power in range(step.bit_length() + 1)]
-        moves = [word for start in starts for word in (f"goto {start}", *until)]
-        found = last_of(states_of(self._replay(moves, step, step - 1))[1::2], step, depth)
-        count = 1
-        while found and count < MOST_STATES:
-            further = states_of(self._replay([f"goto {found.step}", *until * count], found.step, step - 1))[1:]
-            found = last_of(further, step, depth) or found
-            if None in further:
-                break
-            count *= 4
+        starts = {max(0, high - 1 - span): 2 if span <= high // 8 else 1 for span in spans}
+        moves = [word for function, offset in places for start, count in starts.items()
+                 for word in (f"goto {start}", *[f"until {function}:{offset}", "bt"] * count)]
+        rows, found = iter(states_of(self._replay(moves, min(starts), high - 1))), {}
+        for place in places:
+            above = high
+            for start, count in starts.items():
+                hits = list(itertools.islice(rows, count + 1))[1:]
+                told = [state for state in hits if state and depth in (None, len(state.frames))]
+                if place not in found and (told or all(hits)):
+                    last = hits[-1].step if all(hits) else above
+                    found[place] = told[-1] if told else None, last, above
+                above = start + 1
         return found
+
+    def _last_before(self, places, step, depth=None):
+        """The last state before a step at which the innermost frame is at one of some places, with so many frames.
+
+        It is looked for shortly before first, and then in all of the run; where it is found, the rest of that part is
+        looked at until nothing is left. None where there is none.
+        """
+        empty, near = 0, max(256, step // 256)
+        for spans in (doubled(1, near, near), doubled(2 * near, step // 8, step))[:1 if near >= step else 2]:
+            found = self._latest(places, spans, step - empty, depth)
+            for place, (state, last, above) in found.items():
+                while last < above - 1:
+                    span = above - last
+                    again = self._latest([place], doubled(max(1, span // 256), span, span), above, depth)
+                    hit, last, above = again.get(place, (None, above, above))
+                    state = hit or state
+                found[place] = state, last, above
+            states = [state for state, _, _ in found.values() if state]
+            if states:
+                return max(states, key=lambda state: state.step)
+            empty = near
+        return None
 
     def back_to(self, places):
         """Goes back to the last of these places, or to step 0. It answers whether one was reached."""
-        hits = filter(None, [self._last_before(place, self.step) for place in places]) if self.step > 1 else ()
-        hit = max(hits, key=lambda state: state.step, default=None)
+        hit = self._last_before(list(dict.fromkeys(places)), self.step) if places and self.step > 1 else None
         if hit:
             self.state = hit
+            self._keep([hit])
         else:
             self.goto(0)
         return hit is not None
 
     def line_before(self, into):
-        """Goes back to where this line begins, or, from there, the line before it, `into` calls or over them."""
+        """Goes back to where this line begins, or, from there, the line before it, `into` calls or over them.
+
+        It answers whether that was reached.
+        """
         depth, high, target = len(self.frames) or 1, self.step, None
-        for _ in range(4):
-            window = self.states(range(max(0, high - self.window()), high), "bt")
-            shown = [state for state in reversed(window) if state.key()[1] and (into or state.key()[0] <= depth)]
-            for state in shown:
+        for _ in range(6):
+            window = list(self._known(high - 1, -1)) or self._before(high)
+            for state in window:
+                if not state.key()[1] or not (into or state.key()[0] <= depth):
+                    continue
                 if target and state.key() != target.key():
                     self.state = target
-                    return
+                    return True
                 target = state
-            if not window or window[0].step == 0:
-                break
-            high = self._before_call(window[0], depth) if not into else window[0].step
-        self.state = target or self.states([0], "bt")[0]
+            if not window or window[-1].step == 0:
+                self.state = target or self.states([0], "bt")[0]
+                return True
+            high = window[-1].step if into else self._before_call(window[-1], depth)
+        self.state = target or self.states([high], "bt")[0]
+        return False
+
+    def _before(self, high):
+        """States before a step, the last one first."""
+        return self.states(range(max(0, high - self.window()), high), "bt")[::-1]
 
     def _before_call(self, state, depth):
         """The step before which to look on: in front of the call in which a state with more than so many frames is."""
+        if state.step in self.calls:
+            return self.calls[state.step]
         deeper = len(state.frames) - depth
-        call = self._last_before(state.frames[deeper].site, state.step, depth) if deeper > 0 else None
+        call = self._last_before([state.frames[deeper].site], state.step, depth) if deeper > 0 else None
         return call.step + 1 if call else state.step
 
     def changed(self, path):
-        """The last state at which `path` was seen with another value than here, that value, and the next step seen.
+        """The text of `path` here, the last state with another one, its text there, and the next step seen.
 
-        The run is cut into parts, and then the last part in which the value changed. Steps at which there is no such
-        variable are passed over. None where no other value was seen.
+        States shortly before this one are looked at, and others all over the run; then the part in which the value
+        changed last is cut into parts, and so on. Steps at which there is no such variable are passed over. Where
+        no other value was seen, the text here alone.
         """
-        low, high, found = 0, self.step, None
-        now = self.look(0, f"print {path}")[0][-1:]
-        while high - low > 1 or found is None:
-            steps = self.spread(low, high)
-            told = [state for state in self.states(steps, f"print {path}") if is_told(state.lines)]
-            found = next((state for state in reversed(told) if state.lines[-1:] != now), None)
-            if found is None:
-                return None
-            before, is_whole = (low, high), len(steps) >= high - low
-            low, high = found.step, min([state.step for state in told if state.step > found.step], default=high)
-            if is_whole or before == (low, high):
-                break
-        return found, found.lines[-1], high
+        low, high, found, now = 0, self.step, None, None
+        most = max(16, min(2 * MOST_STATES, MOST_WORDS // (len(path) + 80)))
+        near = max(0, high - min(self.window(), 250))
+        apart = spacing(near, high)
+        # Those at which states are kept cost nothing.
+        steps = sorted({step for step in range(0, high, apart)[:16]} | set(range(near, high + 1)))
+        while True:
+            told = self._told(steps, path, near)
+            now = now or next((line for state, line in told if state.step == self.step), None)
+            found = next(((state, line) for state, line in reversed(told) if line != now), found)
+            if found is None or now is None:
+                return now
+            before = low, high
+            low = found[0].step
+            high = min([state.step for state, line in told if state.step > low], default=high)
+            if high - low <= 1 or before == (low, high):
+                return now, *found, high
+            steps, near = range(low, high) if high - low <= most else self.spread(low, high), low
+
+    def _told(self, steps, path, near):
+        """The states at these steps at which a path has a value, each with the line that tells it."""
+        states, told = self.states(steps, f"print {path}", MARK, "bt", near=near), []
+        for state in states:
+            value, state.lines = each_answer(state.lines)
+            if is_told(value):
+                told.append((state, value[-1]))
+        self._keep(states)
+        return told
 
 
-def last_of(states, step, depth):
-    """The last of these states before a step, of those with so many frames where that is told; or None."""
-    found = [state for state in states if state and state.step < step and depth in (None, len(state.frames))]
-    return max(found, key=lambda state: state.step, default=None)
+def doubled(first, most, last):
+    """A number, and each time twice as much, up to a most; and a last one behind them."""
+    found = []
+    while first <= most:
+        found.append(first)
+        first *= 2
+    return [*found, last]
 
 
 def is_told(lines):
@@ -531,6 +747,11 @@ def parts(text):
     return [(found[1], found[2]) if found else (f"[{index}]", pieces[index]) for index, found in enumerate(named)]
 
 
+def without_spaces(path):
+    """A path without the spaces that may stand around its signs."""
+    return re.sub(r"\s*(->|[.*()\[\]])\s*", r"\1", path.strip())
+
+
 def inside(path, name):
     """The path of a member or an element of what a path names."""
     whole = f"({path})" if path.startswith("*") else path
@@ -556,12 +777,25 @@ def advised(refused, module, arguments=(), limits=()):
     """The refusal, with hints behind it."""
     text, hints = str(refused), []
     if refused.status == 2:
-        hints.append(usage_of(arguments, dict(limits)))
+        hints.append(usage_of(arguments[1:], dict(limits)))
+    if refused.status == 8 and len(arguments) > 0:
+        hints += entry_hints(arguments, module)
+    if refused.status == 11 and module.exports:
+        hints.append("hint: " + TAKES)
     if refused.status == 12 and module.is_rewritten():
         hints.append(f"hint: {module.name} is a rewritten module: its dumps are read with the original")
     elif refused.status == 12:
         hints.append(f"hint: the dump is not of {module.name}: it is of another module, or of another build of it")
     return Refused("\n".join([text, *hints, *import_hints(text, module)]), refused.status)
+
+
+def entry_hints(words, module):
+    """What the entry takes, or which entries there are; of the words behind a module and a file of replies."""
+    takes = module.parameters(words[0])
+    if takes is None:
+        return [f"hint: {module.name} exports {', '.join(module.exports) or 'no function'}"]
+    given = [word.partition(":")[0] for word in words[1:]]
+    return [f"hint: {words[0]} takes {', '.join(takes) or 'no arguments'}"] if given != takes else []
 
 
 def import_hints(text, module):
@@ -803,6 +1037,9 @@ ALIASES = {
     "i": "info", "l": "list", "n": "next", "p": "print", "q": "quit", "rc": "reverse-continue", "reverse-stepi": "back",
     "rn": "reverse-next", "rs": "reverse-step", "rsi": "back", "s": "step", "si": "stepi", "u": "until",
     "where": "backtrace"}
+INSTEAD = {word: f"{other} does that" for words, other in (
+    ("watch rwatch awatch", "when PATH"), ("run r start", "goto 0"), ("advance", "until PLACE"),
+    ("tbreak", "until PLACE"), ("display", "print PATH")) for word in words.split()}
 A_DUMP = "a dump has one state; one that `pm run --record LOG` recorded has all: pmdb.py MODULE LOG ENTRY [ARG ..]"
 
 
@@ -816,13 +1053,13 @@ class Prompt(cmd.Cmd):
         super().__init__()
         self.subject, self.source, self.frame = subject, source, 0
         self.breakpoints, self.count, self.names = {}, 0, {}
-        self.tables = Lines(subject.module)
+        self.tables = subject.tables
 
     # What the frame of Python's module asks for.
 
     def run(self):
         """Reads commands up to the end; behind Ctrl-C it goes on."""
-        self.arrive()
+        self.opened()
         self.say(hints_of(self.subject))
         while True:
             try:
@@ -845,7 +1082,7 @@ class Prompt(cmd.Cmd):
         word = ALIASES.get(word, word)
         found = [word] if word in self.words() else [name for name in self.words() if word and name.startswith(word)]
         if len(found) != 1:
-            known = f"one of {', '.join(found)}" if found else "help lists the commands"
+            known = f"one of {', '.join(found)}" if found else INSTEAD.get(word, "help lists the commands")
             print(f"no command {word or rest}: {known}")
             return False
         try:
@@ -867,6 +1104,15 @@ class Prompt(cmd.Cmd):
     def completenames(self, text, *_):
         """The commands that begin so."""
         return [name for name in self.words() if name.startswith(text)]
+
+    def complete_info(self, text, *_):
+        """What `info` tells of."""
+        return [name for name in ("args", "breakpoints", "frame", "locals", "registers", "source")
+                if name.startswith(text)]
+
+    def complete_help(self, text, *_):
+        """The commands that begin so."""
+        return self.completenames(text)
 
     def completedefault(self, text, *_):
         """The variables that begin so."""
@@ -890,6 +1136,12 @@ class Prompt(cmd.Cmd):
         """Prints what `pm` answers on the chosen frame."""
         for answer in self.subject.look(self.frame, *commands):
             self.say(answer)
+
+    def opened(self):
+        """Shows what was opened; of a dump also its trap."""
+        trap = None if self.subject.recorded else self.subject.trap()
+        self.say([f"{trap}, by the instruction there"] if trap else [])
+        self.arrive()
 
     def arrive(self):
         """Shows the state that was reached: the step, the innermost frame, its line."""
@@ -930,6 +1182,11 @@ class Prompt(cmd.Cmd):
         if not self.subject.recorded:
             raise Refused(A_DUMP)
         return self.subject
+
+    def takes_nothing(self, line):
+        """Refuses words behind a command that takes none: nothing is passed over in silence."""
+        if line:
+            raise ValueError(line)
 
     def step_back_or_on(self, steps):
         """Goes so many steps of the machine on, or back."""
@@ -999,7 +1256,7 @@ class Prompt(cmd.Cmd):
     def do_print(self, line):
         """print[/x | /d] PATH: NAME with .NAME, ->NAME, [N], * and parentheses; in hexadecimal, or as pm prints it"""
         form, path = re.match(r"(?:/(\w)\s+)?(.*)$", line, re.S).groups()
-        path = path.replace(" ", "")
+        path = without_spaces(path)
         if not path or form not in (None, "x", "d"):
             raise ValueError(line)
         answer = self.subject.look(self.frame, f"print {path}")[0]
@@ -1020,6 +1277,8 @@ class Prompt(cmd.Cmd):
         values = []
         for word in words:
             found = re.match(r"0x[0-9a-f]+|-?\d+", value_in(answers[word])) if word in answers else re.match(".*", word)
+            if not found and value_in(answers[word]):
+                raise Refused(f"{word} is no pointer and no integer: {self.usage('x')}")
             if not found:
                 raise Refused("\n".join(answers[word]) if answers[word] != ["bad command"] else self.usage("x"))
             values.append(int(found[0], 0) & 0xffffffff)
@@ -1061,6 +1320,8 @@ class Prompt(cmd.Cmd):
         lines = self.source_lines(place[0])
         if lines is None:
             raise Refused(f"no source {place[0]}; --source DIR says where names of sources begin")
+        if place[1] > len(lines):
+            print(f"{place[0]} has {len(lines)} lines")
         for number in range(max(1, place[1] - 5), min(len(lines), place[1] + 5) + 1):
             is_here = frame and frame.place == (place[0], number)
             print(f"{'=>' if is_here else '  '} {number:5}  {lines[number - 1]}")
@@ -1078,34 +1339,42 @@ class Prompt(cmd.Cmd):
         """back [N] (reverse-stepi, rsi): N steps of the machine back"""
         self.step_back_or_on(-int(line or 1))
 
-    def do_step(self, _line):
-        """step (s): on to the next line, into calls"""
-        self.next_line(True)
+    def do_step(self, line):
+        """step [N] (s): on to the next line, into calls, N times"""
+        self.next_line(line, True)
 
-    def do_next(self, _line):
-        """next (n): on to the next line, over calls"""
-        self.next_line(False)
+    def do_next(self, line):
+        """next [N] (n): on to the next line, over calls, N times"""
+        self.next_line(line, False)
 
-    def next_line(self, into):
-        """Goes to the next line, and shows it."""
+    def next_line(self, line, into):
+        """Goes on so many lines, and shows the last."""
         recording = self.recording()
-        is_there = recording.next_line(into)
+        is_there = all([recording.next_line(into) for _ in range(int(line or 1))])
         self.arrive()
         if not is_there:
             print("the line goes on behind this step")
 
-    def do_reverse_step(self, _line):
+    def line_before(self, into):
+        """Goes back to where a line begins, and shows it."""
+        is_there = self.recording().line_before(into)
+        self.arrive()
+        if not is_there:
+            print("the line begins before this step")
+
+    def do_reverse_step(self, line):
         """reverse-step (rs): back to where the line begins, or, from there, the line before it, into calls"""
-        self.recording().line_before(True)
-        self.arrive()
+        self.takes_nothing(line)
+        self.line_before(True)
 
-    def do_reverse_next(self, _line):
+    def do_reverse_next(self, line):
         """reverse-next (rn): as reverse-step, over calls"""
-        self.recording().line_before(False)
-        self.arrive()
+        self.takes_nothing(line)
+        self.line_before(False)
 
-    def do_finish(self, _line):
+    def do_finish(self, line):
         """finish: on to where the chosen frame has returned"""
+        self.takes_nothing(line)
         self.recording().finish(self.frame)
         self.arrive()
 
@@ -1117,7 +1386,8 @@ class Prompt(cmd.Cmd):
         self.count += 1
         self.breakpoints[self.count] = name, places
         where = ", ".join(f"function {function} offset {offset}" for function, offset in places)
-        print(f"breakpoint {self.count} at {name}: {where}, by {self.tables.source()}")
+        told = "" if name == where else f": {where}, by {self.tables.source()}"
+        print(f"breakpoint {self.count} at {name}{told}")
 
     def do_delete(self, line):
         """delete [N]: takes breakpoint N away, or all"""
@@ -1130,13 +1400,15 @@ class Prompt(cmd.Cmd):
         """The places of all breakpoints."""
         return [place for _, places in self.breakpoints.values() for place in places]
 
-    def do_continue(self, _line):
+    def do_continue(self, line):
         """continue (c): on to the next breakpoint, or to the end"""
+        self.takes_nothing(line)
         self.recording().run_to(self.places())
         self.arrive()
 
-    def do_reverse_continue(self, _line):
+    def do_reverse_continue(self, line):
         """reverse-continue (rc): back to the breakpoint before this step, or to step 0"""
+        self.takes_nothing(line)
         self.recording().back_to(self.places())
         self.arrive()
 
@@ -1154,19 +1426,18 @@ class Prompt(cmd.Cmd):
 
     def do_when(self, line):
         """when PATH: back to the last step at which PATH, in the innermost frame, had another value than here"""
-        path = line.replace(" ", "")
+        path = without_spaces(line)
         if not path:
             raise ValueError(line)
-        now = self.recording().look(0, f"print {path}")[0]
-        if not is_told(now):
-            raise Refused("\n".join(now))
-        found = self.subject.changed(path)
+        found = self.recording().changed(path)
         if found is None:
-            print(f"{now[-1]} at all steps that were looked at")
-            return
-        self.subject.goto(found[0].step)
+            raise Refused("\n".join(self.subject.look(0, f"print {path}")[0]))
+        if isinstance(found, str):
+            raise Refused(f"{found} at all steps that were looked at")
+        now, state, before, behind = found
+        self.subject.goto(state.step)
         self.arrive()
-        self.say([f"here {found[1]}", f"at step {found[2]} {now[-1]}"])
+        self.say([f"here {before}", f"at step {behind} {now}"])
 
 
 def arguments():
