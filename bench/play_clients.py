@@ -150,6 +150,9 @@ def play_dump(checks, folder):
     checks.has("up", terminal.do("up"), source.shown("key < at->key ? at->left"))
     checks.has("frame 3", terminal.do("frame 3"), source.shown("return quotient(root"))
     checks.same("p seed", terminal.do("p seed"), "seed = 9")
+    checks.same("whatis seed", terminal.do("whatis seed"), "type = int")
+    checks.same("whatis root", terminal.do("ptype root"), "type = node *")
+    checks.same("whatis nothing", terminal.do("whatis nothing"), "no type of nothing, by llvm-dwarfdump")
     checks.has("info locals", terminal.do("i lo"), "zero = 0")
     checks.same("completion", terminal.do("p se\t"), "seed = 9")
     checks.same("history", terminal.do("\x10"), "seed = 9")
@@ -436,6 +439,10 @@ def play_editor_dump(checks, folder):
     symbols = [frame[0] for frame in symbolized_frames(os.path.join(folder, "symbols"))]
     checks.same("stack", [(frame["name"], frame["source"]["name"], frame["line"]) for frame in editor.frames], symbols)
     checks.same("source", editor.frames[0]["source"]["path"], os.path.join(editor.folder, source.file))
+    column = source.lines[source.line("from / at->value") - 1].index("/") + 1
+    checks.same("column", editor.frames[0]["column"], column)
+    checks.has("the trap", editor.body("exceptionInfo", threadId=1)["description"], "trap 2 integer divide by zero")
+    checks.same("the type of at", editor.body("evaluate", expression="at", frameId=0)["type"], "node *")
     scopes = editor.body("scopes", frameId=0)["scopes"]
     variables = editor.variables(scopes[0]["variablesReference"])
     checks.same("key", variables["key"]["value"], str(key))

@@ -183,7 +183,10 @@ class Adapter:
         found = []
         for index, (row, frame) in enumerate(self.rows()):
             name = row["name"] + (" (inlined)" if row["inlined"] else "")
-            entry = {"id": index, "name": name, "line": int(row["line"] or 0), "column": 0}
+            line = int(row["line"] or 0)
+            # The frame's place is that of the innermost function which is inlined there.
+            column = self.tables.column(*frame.site, line) if row is frame.rows[0] else 0
+            entry = {"id": index, "name": name, "line": line, "column": column}
             entry["instructionPointerReference"] = "{}:{}".format(*frame.site)
             found.append({**entry, "source": self.source_of(row["file"])} if row["file"] else entry)
         first = words.get("startFrame") or 0
@@ -233,8 +236,14 @@ class Adapter:
         else:
             values = [(name, None if part == "..." else inside(path, name), part) for name, part in parts(text)]
         told = with_texts(self.subject, frame, [(at or name, part) for name, at, part in values])
-        return {"variables": [{"name": name, **self.keep(frame, at, part, shown)}
+        types = self.types(frame, [name for name, _, _ in values]) if path is None else {}
+        return {"variables": [{"name": name, **self.keep(frame, at, part, shown), **types.get(name, {})}
                               for (name, at, part), shown in zip(values, told)]}
+
+    def types(self, frame, names):
+        """What the protocol has of the types of variables of a frame."""
+        told = self.tables.types(*self.subject.frames[frame].site, names)
+        return {name: {"type": text} for name, text in told.items()}
 
     def on_evaluate(self, words):
         """The value of a path; in the console also what a command of `pm debug` prints."""
@@ -248,7 +257,7 @@ class Adapter:
         if not text:
             raise Refused(f"{path} is no path: {A_PATH}" if answer == ["bad command"] else "\n".join(answer))
         value = self.keep(frame, path, text, with_texts(self.subject, frame, [(path, text)])[0])
-        return {"result": value.pop("value"), **value}
+        return {"result": value.pop("value"), **value, **self.types(frame, [path]).get(path, {})}
 
     def on_readMemory(self, words):
         """Bytes of the memory, up to the first that is outside."""

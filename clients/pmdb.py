@@ -835,11 +835,11 @@ TABLE = re.compile(
     r"|file_names\[ *(?P<file>\d+)\]:"
     r"| +name: \"(?P<name>.*)\""
     r"| +dir_index: (?P<of>\d+)"
-    r"|0x(?P<address>[0-9a-f]{16}) +(?P<line>\d+) +\d+ +(?P<at>\d+) .*?(?P<flags>[a-z_ ]*)$")
+    r"|0x(?P<address>[0-9a-f]{16}) +(?P<line>\d+) +(?P<column>\d+) +(?P<at>\d+) .*?(?P<flags>[a-z_ ]*)$")
 
 
 def rows_of(lines):
-    """File, line, address and flags of each row that llvm-dwarfdump prints of line tables, but of removed code."""
+    """File, line, address, column and flags of each row that llvm-dwarfdump prints, but those of removed code."""
     folders, files, number, is_live = {}, {}, None, None
     for found in filter(None, map(TABLE.match, lines)):
         if found[1]:
@@ -859,16 +859,39 @@ def rows_of(lines):
             if is_live is None:
                 is_live = 0 < address < 0xfffffffe
             if is_live and found["line"] != "0" and "end_sequence" not in found["flags"]:
-                yield files.get(found["at"], ""), int(found["line"]), address, found["flags"]
+                yield files.get(found["at"], ""), int(found["line"]), address, int(found["column"]), found["flags"]
             if "end_sequence" in found["flags"]:
                 is_live = None
+
+
+ENTRY = re.compile(r"0x[0-9a-f]+:(?P<indent> +)DW_TAG_(?P<tag>\w+)$"
+                   r"| +DW_AT_(?P<name>name|type|low_pc|high_pc)\s+"
+                   r"\((?:0x(?P<number>[0-9a-f]+) ?)?(?:\"(?P<text>.*)\")?\)$")
+
+
+def entries_of(lines):
+    """The entries that llvm-dwarfdump prints, each with those above it."""
+    above, found = [], []
+    for match in filter(None, map(ENTRY.match, lines)):
+        if match["tag"]:
+            height = len(match["indent"]) // 2
+            above = [*above[:height], {"tag": match["tag"]}]
+            found.append((above[-1], above[:-1]))
+        elif above:
+            above[-1][match["name"]] = int(match["number"], 16) if match["name"].endswith("_pc") else match["text"]
+    return found
+
+
+def covers(entry, address):
+    """Whether the code of an entry has an address, where it is in one piece that is told."""
+    return "high_pc" not in entry or entry["low_pc"] <= address < entry["high_pc"]
 
 
 class Lines:
     """Where lines and functions begin: by llvm-dwarfdump, or, where it is missing, by the states that `pm` showed."""
 
     def __init__(self, module):
-        self.module, self.rows = module, None
+        self.module, self.rows, self.columns = module, None, {}
         self.tool = next(filter(None, map(shutil.which, TOOLS)), None)
 
     def source(self):
@@ -881,6 +904,25 @@ class Lines:
                               stderr=subprocess.DEVNULL, check=False)
         return done.stdout.decode("utf-8", "backslashreplace").split("\n")
 
+    def types(self, function, offset, names):
+        """The types of variables that are visible at a place, by their names, as far as llvm-dwarfdump tells them."""
+        names = [name for name in dict.fromkeys(names) if re.fullmatch(r"\w+", name)]
+        if not (self.tool and names):
+            return {}
+        try:
+            address = self.module.body(function) + offset - self.module.code
+        except IndexError:
+            return {}
+        lines = self.dwarfdump("--show-parents", *[f"--name={name}" for name in names])
+        found = {}
+        for entry, parents in entries_of(lines):
+            is_variable = entry["tag"] in ("variable", "formal_parameter") and "name" in entry and "type" in entry
+            if is_variable and all(covers(parent, address) for parent in parents):
+                # The innermost one is the visible one; of two at one height, as `pm` takes it, the last.
+                if len(parents) >= found.get(entry["name"], (0, ""))[0]:
+                    found[entry["name"]] = len(parents), entry["type"]
+        return {name: text for name, (_, text) in found.items()}
+
     def folders(self):
         """The folders in which the module was compiled."""
         units = self.dwarfdump("--debug-info", "--recurse-depth=0") if self.tool else []
@@ -888,19 +930,28 @@ class Lines:
         return list(dict.fromkeys(match[1] for match in found if match))
 
     def table(self):
-        """The rows by llvm-dwarfdump: file, line, function, code offset, and whether the prologue ends there."""
+        """The rows by llvm-dwarfdump: file, line, function, code offset, whether the prologue ends there, column."""
         if self.rows is None:
             self.rows = []
-            for file, line, address, flags in rows_of(self.dwarfdump("--debug-line")):
+            for file, line, address, column, flags in rows_of(self.dwarfdump("--debug-line")):
                 place = self.module.place_of(address)
                 if place:
-                    self.rows.append((file, line, *place, "prologue_end" in flags))
+                    self.rows.append((file, line, *place, "prologue_end" in flags, column))
         return self.rows
+
+    def column(self, function, offset, line):
+        """The column at a place on a line, counted from 1, or 0 where it is not told."""
+        if not self.columns:
+            rows = sorted(self.table() if self.tool else [], key=lambda row: row[3])
+            for _, at_line, in_function, at, _, column in rows:
+                self.columns.setdefault(in_function, []).append((at, at_line, column))
+        before = [row for row in self.columns.get(function, []) if row[0] <= offset]
+        return before[-1][2] if before and before[-1][1] == line else 0
 
     def _behind_prologue(self, function):
         """The place in a function from which on its variables are told."""
         rows = self.table() if self.tool else []
-        ends = (offset for _, _, at, offset, is_end in rows if at == function and is_end)
+        ends = (offset for _, _, at, offset, is_end, _ in rows if at == function and is_end)
         return function, next(ends, self.module.first_offset(function))
 
     def of_function(self, name):
@@ -919,7 +970,7 @@ class Lines:
         """The rows of the table, or what the states of a recording tell of it."""
         if self.tool:
             return self.table()
-        return [(*place, *site, False) for place, sites in subject.learned().items() for site in sites.items()]
+        return [(*place, *site, False, 0) for place, sites in subject.learned().items() for site in sites.items()]
 
     def of_line(self, file, line, subject):
         """The first line with code from this one on: file, number, and where it begins in each function; or None."""
@@ -929,7 +980,7 @@ class Lines:
             return None
         name, number = min((row[1], row[0]) for row in rows)[::-1]
         places = {}
-        for _, _, function, offset, _ in [row for row in rows if row[:2] == (name, number)]:
+        for _, _, function, offset, *_ in [row for row in rows if row[:2] == (name, number)]:
             places[function] = min(offset, places.get(function, offset))
         for function, offset in places.items():
             if offset <= self.module.first_offset(function):
@@ -1035,7 +1086,8 @@ def in_hexadecimal(text):
 ALIASES = {
     "EOF": "quit", "b": "break", "bt": "backtrace", "c": "continue", "d": "delete", "f": "frame", "h": "help",
     "i": "info", "l": "list", "n": "next", "p": "print", "q": "quit", "rc": "reverse-continue", "reverse-stepi": "back",
-    "rn": "reverse-next", "rs": "reverse-step", "rsi": "back", "s": "step", "si": "stepi", "u": "until",
+    "ptype": "whatis", "rn": "reverse-next", "rs": "reverse-step", "rsi": "back", "s": "step", "si": "stepi",
+    "u": "until",
     "where": "backtrace"}
 INSTEAD = {word: f"{other} does that" for words, other in (
     ("watch rwatch awatch", "when PATH"), ("run r start", "goto 0"), ("advance", "until PLACE"),
@@ -1269,6 +1321,13 @@ class Prompt(cmd.Cmd):
             print(f"{path} = {in_hexadecimal(text)}")
         else:
             print(f"{path} = {with_texts(self.subject, self.frame, [(path, text)])[0]}")
+
+    def do_whatis(self, line):
+        """whatis NAME (ptype): the type of a variable, by llvm-dwarfdump"""
+        if not line or not self.subject.frames:
+            raise ValueError(line)
+        told = self.tables.types(*self.subject.frames[self.frame].site, [line])
+        print(f"type = {told[line]}" if line in told else f"no type of {line}, by {self.tables.source()}")
 
     def numbers(self, *words):
         """The numbers that words tell: decimal, hexadecimal, or a variable that is a pointer or an integer."""
