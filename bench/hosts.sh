@@ -6,8 +6,10 @@
 #
 #   node, gjs, jsc    JavaScript: V8, SpiderMonkey and JavaScriptCore
 #   chromium          the page of hosts/page, by node and CHROMIUM (else chromium-headless-shell or chromium)
+#   firefox           the same page, by node from version 20.10 on and FIREFOX (else firefox-esr or firefox)
 #   wasm2c            WASM2C is a list of PROGRAM=SOURCES, the sources of its runtime, and else wasm2c=/usr/src/wasm2c, as in Debian
-#   capi              a standard C API; WASM_API has what a C compiler has to be told for wasm.h and an engine
+#   capi              a standard C API; WASM_API has what a C compiler has to be told for wasm.h and an engine. Over wabt 1.0.32, whose form
+#                     of it is older, -I bench/older_wasm_api comes first
 #   wasmedge          the C API of WasmEdge; WASMEDGE has what a C compiler has to be told, and else -lwasmedge
 #
 # PM is the program, and else ./pm.
@@ -17,6 +19,7 @@ pm=${PM:-$("$top/tools/program")}
 example=$top/hosts/example
 wasm2c=${WASM2C:-wasm2c=/usr/src/wasm2c}
 chromium=${CHROMIUM:-$(command -v chromium-headless-shell || command -v chromium || true)}
+firefox=${FIREFOX:-$(command -v firefox-esr || command -v firefox || true)}
 work=$(mktemp -d)
 trap 'rm -rf "$work"' EXIT
 cd "$work"
@@ -105,6 +108,7 @@ MODULE
   "$pm" instrument deep.wasm rewritten.wasm > text
   export JSC_maxPerThreadStackUsage=400000 # of its own accord JavaScriptCore goes so deep that the runs take minutes
   for shell in $shells; do run_shell $shell "$top/bench/stack_end.mjs" rewritten.wasm; done
+  stack_end_native rewritten.wasm
   command -v node > /dev/null || return 0
   node "$top/bench/far_page.mjs" far.core
   wasm-validate far.core
@@ -136,6 +140,11 @@ if command -v node > /dev/null; then
   if [ -f /usr/lib/wasm32-wasi/libc-printscan-no-floating-point.a ]; then record_wasi; else absent="$absent wasi-libc"; fi
 fi
 if [ -n "$chromium" ] && command -v node > /dev/null; then node "$top/bench/page.mjs" "$chromium" cases; else absent="$absent chromium"; fi
+if [ -n "$firefox" ] && command -v node > /dev/null; then
+  node --experimental-websocket "$top/bench/page_firefox.mjs" "$firefox" cases
+else
+  absent="$absent firefox"
+fi
 PM=$pm sh "$top/bench/hosts_flag.sh"
 PM=$pm sh "$top/bench/hosts_flag.sh" instrument
 echo "not installed:${absent:- none}"

@@ -100,3 +100,12 @@ MODULE
     echo "a start function, and a full disk: as they should in $host"
   done
 }
+
+# stack_end_native MODULE: a program that contains it, up to the end of its own stack.
+stack_end_native() {
+  for host in $hosts; do
+    case $host in wasm2c.*) ;; *) continue ;; esac
+    build_plugin "$host" "$1" "$top/bench/stack_end.c" "$top/hosts/collector.c"
+    echo "$host: $("./$host.program")"
+  done
+}

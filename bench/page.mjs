@@ -3,42 +3,12 @@
 // it. The page runs the module, has to show those lines, and its link is clicked and the file compared. Then the dump is dropped onto
 // a new page, which has to show the same lines.
 import { spawn } from 'node:child_process';
-import { existsSync, mkdtempSync, readFileSync, readdirSync, rmSync } from 'node:fs';
-import { createServer } from 'node:http';
+import { mkdtempSync, readFileSync, readdirSync, rmSync } from 'node:fs';
 import { tmpdir } from 'node:os';
-import { dirname, join, normalize, resolve } from 'node:path';
-import { fileURLToPath } from 'node:url';
+import { join, resolve } from 'node:path';
+import { fail, serve, until } from './page_serve.mjs';
 
-const HOSTS = join(dirname(fileURLToPath(import.meta.url)), '..', 'hosts');
-const POLICY = "default-src 'none'; script-src 'self' 'wasm-unsafe-eval'; style-src 'self'; connect-src 'self'";
-const TYPES = { html: 'text/html', css: 'text/css', mjs: 'text/javascript', wasm: 'application/wasm' };
-const LONGEST = 20000; // milliseconds
 const SCREEN = 100; // a place inside the page
-
-const fail = (text) => { throw new Error(text); };
-const sleep = (milliseconds) => new Promise((done) => { setTimeout(done, milliseconds); });
-
-const until = async (what, text) => {
-  const end = Date.now() + LONGEST;
-  for (;;) {
-    const value = await what();
-    if (value) return value;
-    if (Date.now() > end) fail(`waited too long for ${text}`);
-    await sleep(20);
-  }
-};
-
-/** Serves hosts/, and the cases below /cases/. */
-const serve = (cases) => new Promise((done) => {
-  const server = createServer((request, response) => {
-    const path = normalize(decodeURIComponent(new URL(request.url, 'http://localhost').pathname));
-    const file = path.startsWith('/cases/') ? join(cases, path.slice('/cases/'.length)) : join(HOSTS, path);
-    const stands = existsSync(file);
-    response.writeHead(stands ? 200 : 404, { 'Content-Type': TYPES[file.split('.').pop()] ?? 'text/plain', 'Content-Security-Policy': POLICY });
-    response.end(stands ? readFileSync(file) : '');
-  });
-  server.listen(0, '127.0.0.1', () => done(server));
-});
 
 /** A browser, and its protocol over a pipe: `ask` sends a command, and `told` has the events so far. */
 const launch = (chromium, profile) => {
