@@ -582,6 +582,7 @@ def play_editor_refusals(checks, folder):
     run = {"log": "log", "entry": "run", "arguments": ["12"]}
     for words, part in (({"module": "none.wasm", "dump": "tree.core"}, 'no file: "none.wasm"'),
                         ({"module": "tree.wasm"}, "`dump`, or `log`"),
+                        ({"module": "notes.wasm", "log": "log"}, "with `entry`"),
                         ({"module": "tree.inst.wasm", "dump": "tree.core"}, "is a rewritten module"),
                         ({"module": "tree.wasm", "dump": "tree.core", "pm": "/none/pm"}, "/none/pm"),
                         ({"module": "notes.wasm", **run}, "12 is no argument")):

@@ -97,6 +97,8 @@ def traced(words):
     tables = Lines(module)
     if not module.data:
         raise Refused(f"no file or nothing in it: {words.module}")
+    if not module.data.startswith(b"\0asm"):
+        raise Refused(f"{words.module} is no module")
     if not tables.tool:
         raise Refused("llvm-dwarfdump is missing: it tells the lines that no run reached")
     coverage = Coverage(tables, words.source)

@@ -82,9 +82,13 @@ class Adapter:
                 self.channel.write(**answer, success=True, body=body or {})
             except Refused as refused:
                 self.channel.write(**answer, success=False, message=str(refused))
-            except (KeyError, IndexError, TypeError, ValueError) as fault:
-                text = f"{request['command']}: {type(fault).__name__} {fault}"
+            except KeyError as fault:
+                self.channel.write(**answer, success=False, message=f"{request['command']}: {fault} is missing")
+            except IndexError:
+                text = f"{request['command']}: there is no such frame or value"
                 self.channel.write(**answer, success=False, message=text)
+            except (TypeError, ValueError) as fault:
+                self.channel.write(**answer, success=False, message=f"{request['command']}: {fault}")
             if self.after:
                 self.after()
 
@@ -105,7 +109,7 @@ class Adapter:
 
     def on_launch(self, words):
         """Opens what the launch configuration names."""
-        if "module" not in words or ("dump" in words) == ("log" in words):
+        if "module" not in words or ("dump" in words) == ("log" in words) or ("log" in words) > ("entry" in words):
             raise Refused(TAKES)
         program = Program(words.get("pm") or self.pm)
         if "dump" in words:
