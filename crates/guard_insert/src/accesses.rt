@@ -59,8 +59,9 @@ fn past_end(writer: &mut CodeWriter) -> Result<(), NoMemory>
 {
     writer.basic(Basic::MemorySize)?;
     writer.basic(Basic::Convert(Convert::ExtendU))?;
-    writer.const_value(Value::I64(65_536))?;
-    writer.basic(Basic::Binary(ValType::I64, Binary::Mul))?;
+    // A page has 2 ^ 16 bytes, and the shift is spelled in fewer bytes than the product.
+    writer.const_value(Value::I64(16))?;
+    writer.basic(Basic::Binary(ValType::I64, Binary::Shl))?;
     writer.basic(Basic::Compare(ValType::I64, Compare::GtU))
 }
 

@@ -225,11 +225,11 @@ module _ (M : Engine) (C : Ctx) (l : List Value) (size : length C.locals ≡ len
       let p32 : modulo I32 (pages m) ≡ pages m = mod-eq_of_lt (omega (arith, pg, mf.2)) in
       let len : modulo I64 (modulo I32 (pages m) * 65536) ≡ length m.bytes = ap (λ z. modulo I64 (z * 65536)) p32 ∙ mod-eq_of_lt (omega (arith, pg, mf.2)) ∙ (omega (arith, pg, mf.1)) in
       let k7 = basic 0 (Compare I64 GtU) k in
-      let k6 = const (values.I64 65536) (basic 0 (Binary I64 Mul) k7) in
+      let k6 = const (values.I64 16) (basic 0 (Binary I64 Shl) k7) in
       let k5 = basic 0 (Convert ExtendU) k6 in
       let size64 = modulo I64 (modulo I32 (pages m) * 65536) in
       let s3 : To M 1 1 (st X tl (values.I64 s ∷ base) (past_end k) g co) (st X tl (values.I32 (pages m) ∷ values.I64 s ∷ base) k5 g co) = one_step M _ _ (rw gm refl) in
-      let s4 : To M 3 3 (st X tl (values.I32 (pages m) ∷ values.I64 s ∷ base) k5 g co) (st X tl (values.I64 size64 ∷ values.I64 s ∷ base) k7 g co) = seq M (one_step M _ (next (st X tl (values.I64 (modulo I32 (pages m)) ∷ values.I64 s ∷ base) k6 g co)) refl) (seq M (push_to M (values.I64 65536)) (one_step M _ _ refl)) in
+      let s4 : To M 3 3 (st X tl (values.I32 (pages m) ∷ values.I64 s ∷ base) k5 g co) (st X tl (values.I64 size64 ∷ values.I64 s ∷ base) k7 g co) = seq M (one_step M _ (next (st X tl (values.I64 (modulo I32 (pages m)) ∷ values.I64 s ∷ base) k6 g co)) refl) (seq M (push_to M (values.I64 16)) (one_step M _ _ refl)) in
       let cmp : nat_lt size64 s ≡ nat_lt (length m.bytes) s = ap (λ z. nat_lt z s) len in
       let s5 : To M 1 1 (st X tl (values.I64 size64 ∷ values.I64 s ∷ base) k7 g co) (st X tl (values.I32 (bool_number (nat_lt (length m.bytes) s)) ∷ base) k g co) = one_step M _ _ (rw cmp refl) in
       seq M s3 (seq M s4 s5)

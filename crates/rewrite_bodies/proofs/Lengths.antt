@@ -259,7 +259,7 @@ module _ (C : Ctx) (few : FewNumbers C) where
       omega (arith, x1, x2, x3, x4, x5)
 
   len_past_end : (k : Nodes) → code_length (past_end k) ≤ 16 + code_length k
-  len_past_end k = let x = len_const (values.I64 65536) (basic 0 (Binary I64 Mul) (basic 0 (Compare I64 GtU) k)) in omega (arith, x)
+  len_past_end k = let x = len_const (values.I64 16) (basic 0 (Binary I64 Shl) (basic 0 (Compare I64 GtU) k)) in omega (arith, x)
 
   len_guard_memory : (a : Place) (h n : ℕ) (k : Nodes) → h ≤ C.slots → code_length (guard_memory C a h n k) ≤ 40 + code_length k
   len_guard_memory a h n k le =

@@ -6,7 +6,7 @@ use Rattle.wasm_syntax.specs.declared.value.ValType.TheVariants.{I32, I64}
 use Rattle.wasm_syntax.specs.declared.value.Value.{Value}
 use Rattle.wasm_syntax.specs.declared.value.Value.TheVariants as values
 use Rattle.int_ops.specs.declared.operators.Binary.{Binary as BinaryOp}
-use Rattle.int_ops.specs.declared.operators.Binary.TheVariants.{Add, Mul, And, Or}
+use Rattle.int_ops.specs.declared.operators.Binary.TheVariants.{Add, And, Or, Shl}
 use Rattle.int_ops.specs.declared.operators.Compare.TheVariants.{Eq, GtU}
 use Rattle.wasm_syntax.specs.declared.instruction.Convert.TheVariants.{ExtendU}
 use Rattle.wasm_syntax.specs.declared.instruction.Basic.{Basic}
@@ -199,7 +199,7 @@ module _ (C : Ctx) (m : Module) (locals : List ValType) (off : Offers C m locals
       (ok_guard_zero t b (suc h) le eb (ok_binary I32 Or g))))))))
 
   ok_past_end : {labels : List (List ValType)} {z s : List ValType} {k : Nodes} → HasMemory m.memories → Ok (at labels) z (I32 ∷ s) k → Ok (at labels) z (I64 ∷ s) (past_end k)
-  ok_past_end has h = ok_size has (ok_extend (ok_const (values.I64 65536) (ok_binary I64 Mul (ok_compare I64 GtU h))))
+  ok_past_end has h = ok_size has (ok_extend (ok_const (values.I64 16) (ok_binary I64 Shl (ok_compare I64 GtU h))))
 
   pub ok_guard_memory : {labels : List (List ValType)} {z s : List ValType} {k : Nodes} (a : Place) (h n : ℕ) → h ≤ C.slots → HasMemory m.memories → place_type a ≡ I32 → Ok (at labels) z (I32 ∷ s) k → Ok (at labels) z s (guard_memory C a h n k)
   ok_guard_memory a h n le has e g =

@@ -6,7 +6,7 @@ use Rattle.wasm_syntax.specs.declared.value.ValType.TheVariants.{I32, I64}
 use Rattle.wasm_syntax.specs.declared.value.Value.{Value}
 use Rattle.wasm_syntax.specs.declared.value.Value.TheVariants as values
 use Rattle.int_ops.specs.declared.operators.Binary.{Binary as BinaryOp}
-use Rattle.int_ops.specs.declared.operators.Binary.TheVariants.{Add, Mul, DivS, DivU, RemS, RemU, And, Or}
+use Rattle.int_ops.specs.declared.operators.Binary.TheVariants.{Add, DivS, DivU, RemS, RemU, And, Or, Shl}
 use Rattle.int_ops.specs.declared.operators.Compare.TheVariants.{Eq, GtU}
 use Rattle.wasm_syntax.specs.declared.instruction.Convert.TheVariants.{ExtendU}
 use Rattle.wasm_syntax.specs.declared.instruction.Basic.{Basic}
@@ -43,7 +43,7 @@ guard_signed C t b a h k = overflow_test C t b a h (guard_zero C t b (suc h) (ba
 
 -- the i64 on top is past the end of the memory
 abbrev pub past_end : Nodes → Nodes
-past_end k = basic 0 MemorySize (basic 0 (Convert ExtendU) (const (values.I64 65536) (basic 0 (Binary I64 Mul) (basic 0 (Compare I64 GtU) k))))
+past_end k = basic 0 MemorySize (basic 0 (Convert ExtendU) (const (values.I64 16) (basic 0 (Binary I64 Shl) (basic 0 (Compare I64 GtU) k))))
 
 -- the address on top, the offset and the width pass the end of the memory
 abbrev pub out_test : ℕ → Nodes → Nodes
