@@ -5,6 +5,7 @@ pub mod TurnLaws
 pub mod PlaceLaws
 pub mod MadeLaws
 pub mod WatchLaws
+pub mod StraightLaws
 pub mod TallyLaws
 pub mod Labels
 pub mod Points

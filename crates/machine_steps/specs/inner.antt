@@ -2,3 +2,4 @@
 pub mod Entries
 pub mod Cells
 pub mod Moves
+pub mod Turns

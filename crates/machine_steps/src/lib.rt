@@ -23,6 +23,5 @@ pub use layout::{CallFrame, CallStack, Control, Stepped};
 pub use machine::{ImportCall, Machine, Outcome};
 pub use returns::leave;
 pub use runs::{Ended, run, run_watched};
-pub use steps::step;
 pub use tally::Tally;
 pub use watch::{Position, Unwatched, Watch};

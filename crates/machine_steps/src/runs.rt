@@ -1,14 +1,18 @@
 //! Steps up to the fuel.
 
-ghost use Rattle.std.specs.Prelude.{◌≡◌};
+ghost use Rattle.std.specs.Prelude.{◌≡◌, ◌<◌, Some, slice_get};
 ghost use Rattle.wasm_syntax.specs.Machine.{Engine, Config};
+ghost use Rattle.machine_steps.specs.declared.machine.Machine.{Machine as Kept};
 ghost use Rattle.machine_steps.specs.calls.Runs.{Begins, Came};
 ghost use Rattle.machine_steps.specs.calls.Watched.{Watched};
+ghost use Rattle.machine_steps.specs.inner.Turns.{Made, Went};
 
+use crate::calls::code_at;
+use crate::layout::CallFrame;
 use crate::machine::{Machine, Outcome};
-use crate::steps::step;
+use crate::steps::{Turn, step_in};
 use crate::watch::{Unwatched, Watch, standing};
-use machine_code::Prepared;
+use machine_code::{Code, Prepared};
 
 /// What a run came to, and the number of steps that it made. The step that traps counts; a call of
 /// an import is not made yet.
@@ -27,6 +31,80 @@ pub fn run(m: &mut Machine, prepared: &Prepared, depth: usize, fuel: u64) -> End
     run_watched(m, prepared, depth, fuel, &mut Unwatched {})
 }
 
+/// Steps in the innermost frame, behind the first ones of a run, up to one that may have gone
+/// elsewhere.
+#[inline(always)]
+fn steps_in<W: Watch>(
+    m: &mut Machine,
+    prepared: &Prepared,
+    frame: CallFrame,
+    code: &Code,
+    depth: usize,
+    made: u64,
+    fuel: u64,
+    watch: &mut W,
+) -> Ended
+    requires frame { slice_get m.old.stack.frames 0 ≡ Some frame }
+    requires code { slice_get prepared.now.codes.items frame.function ≡ Some code.now }
+    requires fuel { made < fuel }
+    ensures { (first : Kept) (before : W) → Made W.Saw prepared.now depth first before made m.old watch.old
+        → Went W.Saw prepared.now depth first before made fuel result.outcome result.steps m.new watch.new }
+{
+    for i in made..fuel {
+        watch.see(standing(m));
+        match step_in(m, prepared, frame, code, depth) {
+            Turn::Straight => {}
+            Turn::Came(outcome) => match outcome {
+                Outcome::Import(call) => {
+                    return Ended {
+                        outcome: Outcome::Import(call),
+                        steps: i,
+                    };
+                }
+                _ => {
+                    return Ended {
+                        outcome,
+                        steps: i + 1,
+                    };
+                }
+            },
+        }
+    }
+    Ended {
+        outcome: Outcome::Next,
+        steps: fuel,
+    }
+}
+
+/// The same, in the frame that is the innermost one.
+#[inline(always)]
+fn go_on<W: Watch>(
+    m: &mut Machine,
+    prepared: &Prepared,
+    depth: usize,
+    made: u64,
+    fuel: u64,
+    watch: &mut W,
+) -> Ended
+    requires { made < fuel }
+    ensures { (first : Kept) (before : W) → Made W.Saw prepared.now depth first before made m.old watch.old
+        → Went W.Saw prepared.now depth first before made fuel result.outcome result.steps m.new watch.new }
+{
+    match m.stack.frames.peek(0) {
+        Some(frame) => match code_at(&prepared.codes, frame.function) {
+            Some(code) => steps_in(m, prepared, frame, code, depth, made, fuel, watch),
+            None => Ended {
+                outcome: Outcome::Stuck,
+                steps: made,
+            },
+        },
+        None => Ended {
+            outcome: Outcome::Stuck,
+            steps: made,
+        },
+    }
+}
+
 /// The same, and a watch sees each step, also that of the call of an import.
 pub fn run_watched<W: Watch>(
     m: &mut Machine,
@@ -40,22 +118,12 @@ pub fn run_watched<W: Watch>(
     ensures watched { Watched W.Saw prepared.now depth fuel m.old result.outcome result.steps
         watch.old watch.new }
 {
-    for i in 0..fuel {
-        watch.see(standing(m));
-        match step(m, prepared, depth) {
-            Outcome::Next => {}
-            Outcome::Import(call) => {
-                return Ended {
-                    outcome: Outcome::Import(call),
-                    steps: i,
-                };
-            }
-            outcome => {
-                return Ended {
-                    outcome,
-                    steps: i + 1,
-                };
-            }
+    let mut made = 0;
+    while made < fuel {
+        let ended = go_on(m, prepared, depth, made, fuel, watch);
+        match ended.outcome {
+            Outcome::Next => made = ended.steps,
+            _ => return ended,
         }
     }
     Ended {

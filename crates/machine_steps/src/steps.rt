@@ -1,14 +1,17 @@
 //! One step.
 
-ghost use Rattle.std.specs.Prelude.{◌≡◌, ◌+◌, ◌<◌, ◌^◌, IsSome, slice_get};
+ghost use Rattle.std.specs.Prelude.{◌≡◌, ◌+◌, ◌<◌, ◌^◌, IsSome, Some, slice_get};
+ghost use Rattle.std.specs.Option.{option_copied};
 ghost use Rattle.wasm_syntax.specs.Tree.{Plain, Goes, Call, CallIndirect, item_of, jump_of};
 ghost use Rattle.wasm_syntax.specs.Machine.{Engine, Config, step};
 ghost use Rattle.machine_code.specs.declared.code.Code.{Code as FlatCode};
 ghost use Rattle.machine_steps.specs.calls.FramesMeet.{Point, Reads, CallPlace, step_at, call_at};
 ghost use Rattle.machine_code.specs.calls.Prepares.{IsPrepared};
 ghost use Rattle.machine_steps.specs.calls.Meets.{StandsFor, Here, Meets, MeetsAt};
+ghost use Rattle.machine_steps.specs.inner.Turns.{came_to, Stays};
 
 use crate::indirect::{Entry, resolve};
+use crate::layout::CallFrame;
 use crate::machine::{ImportCall, Machine, Outcome, of_frames};
 use crate::{
     block, branch, branch_if, branch_table, call, call_under_index, code_at, else_, end, if_,
@@ -18,24 +21,32 @@ use machine_basics::{Performed, TrapKind, perform};
 use machine_code::{Code, Prepared};
 use wasm_syntax::{Basic, Instr, Jump, Op, Value};
 
+/// What a step in a frame came to.
+#[derive(Clone, Copy)]
+pub(crate) enum Turn {
+    /// An instruction was performed behind which the next one is run, in the same frame.
+    Straight,
+    /// What another instruction came to, which may have gone elsewhere.
+    Came(Outcome),
+}
+
 /// Performs an instruction behind which the next one is run.
-fn basic(m: &mut Machine, instruction: &Basic, next: usize) -> Outcome
-    requires { next ≡ m.old.stack.position + 1 }
-    ensures { (x : Point) (code : FlatCode) → Here x m.old code
-        → Reads m.old.stack code (Plain instruction.now) → MeetsAt x result (step_at x) m.new }
+#[inline(always)]
+fn basic(m: &mut Machine, frame: CallFrame, instruction: &Basic, next: usize) -> Turn
+    requires next { next ≡ m.old.stack.position + 1 }
+    requires frame { slice_get m.old.stack.frames 0 ≡ Some frame }
+    ensures meets { (x : Point) (code : FlatCode) → Here x m.old code
+        → Reads m.old.stack code (Plain instruction.now)
+        → MeetsAt x (came_to result) (step_at x) m.new }
+    ensures stays { Stays result m.old m.new }
 {
-    match m.stack.frames.peek(0) {
-        Some(frame) => {
-            match perform(instruction, frame.base, &mut m.stack.values, &mut m.shared) {
-                Performed::Done => {
-                    m.stack.position = next;
-                    Outcome::Next
-                }
-                Performed::Trap(kind) => Outcome::Trap(kind),
-                Performed::NoMemory => Outcome::NoMemory,
-            }
+    match perform(instruction, frame.base, &mut m.stack.values, &mut m.shared) {
+        Performed::Done => {
+            m.stack.position = next;
+            Turn::Straight
         }
-        None => Outcome::Stuck,
+        Performed::Trap(kind) => Turn::Came(Outcome::Trap(kind)),
+        Performed::NoMemory => Turn::Came(Outcome::NoMemory),
     }
 }
 
@@ -136,62 +147,72 @@ fn jump(
     }
 }
 
-/// The instruction at the position.
+/// Runs an instruction in a frame.
+#[inline(always)]
 fn run_op(
     m: &mut Machine,
     prepared: &Prepared,
+    frame: CallFrame,
     code: &Code,
-    op: Op,
+    instruction: &Instr,
     depth: usize,
     next: usize,
-) -> Outcome
-    requires { next ≡ m.old.stack.position + 1 }
-    ensures { (x : Point) → Here x m.old code.now → x.codes ≡ prepared.now.codes.items
+) -> Turn
+    requires next { next ≡ m.old.stack.position + 1 }
+    requires frame { slice_get m.old.stack.frames 0 ≡ Some frame }
+    ensures meets { (x : Point) → Here x m.old code.now → x.codes ≡ prepared.now.codes.items
         → IsPrepared x.engine.program prepared.now → x.engine.depth ≡ depth
-        → Reads m.old.stack code.now (item_of code.now.body.now.targets op.code)
-        → MeetsAt x result (step_at x) m.new }
+        → Reads m.old.stack code.now (item_of code.now.body.now.targets instruction.now)
+        → MeetsAt x (came_to result) (step_at x) m.new }
+    ensures stays { Stays result m.old m.new }
 {
-    match op.code {
-        Instr::Basic(instruction) => basic(m, &instruction, next),
-        Instr::Jump(to) => jump(m, prepared, code, to, depth, next),
-        Instr::Block(t) => of_frames(block(&mut m.stack, code, t, next)),
-        Instr::Loop(_) => of_frames(loop_(&mut m.stack, next)),
-        Instr::If(t) => of_frames(if_(&mut m.stack, code, t, next)),
-        Instr::Else => of_frames(else_(&mut m.stack)),
-        Instr::End => of_frames(end(&mut m.stack, code.gives, next)),
+    match instruction {
+        Instr::Basic(instruction) => basic(m, frame, instruction, next),
+        Instr::Jump(to) => Turn::Came(jump(m, prepared, code, *to, depth, next)),
+        Instr::Block(t) => Turn::Came(of_frames(block(&mut m.stack, code, *t, next))),
+        Instr::Loop(_) => Turn::Came(of_frames(loop_(&mut m.stack, next))),
+        Instr::If(t) => Turn::Came(of_frames(if_(&mut m.stack, code, *t, next))),
+        Instr::Else => Turn::Came(of_frames(else_(&mut m.stack))),
+        Instr::End => Turn::Came(of_frames(end(&mut m.stack, code.gives, next))),
     }
 }
 
 /// The instruction at a position, behind which there is another index.
 #[tactic(auto, using(std::proofs::lemmas::Option::slice_get_past))]
-fn op_at(code: &Code, position: usize) -> Option<Op>
-    ensures value { result ≡ slice_get code.now.body.now.ops position }
+#[inline(always)]
+fn op_at<'a, 'b>(code: &'b Code<'a>, position: usize) -> Option<&'b Op>
+    ensures value { option_copied result ≡ slice_get code.now.body.now.ops position }
     ensures room { IsSome result → position + 1 < 2 ^ 64 }
 {
     if position < code.body.ops.len() {
-        code.op(position)
+        code.body.ops.get(position)
     } else {
         None
     }
 }
 
-/// One step of the machine is one step of each configuration that it stands for.
-pub fn step(m: &mut Machine, prepared: &Prepared, depth: usize) -> Outcome
-    ensures { (engine : Engine) (c : Config) → IsPrepared engine.program prepared.now
+/// One step of the machine in its innermost frame, which runs this code, is one step of each
+/// configuration that it stands for.
+#[inline(always)]
+pub(crate) fn step_in(
+    m: &mut Machine,
+    prepared: &Prepared,
+    frame: CallFrame,
+    code: &Code,
+    depth: usize,
+) -> Turn
+    requires frame { slice_get m.old.stack.frames 0 ≡ Some frame }
+    requires code { slice_get prepared.now.codes.items frame.function ≡ Some code.now }
+    ensures meets { (engine : Engine) (c : Config) → IsPrepared engine.program prepared.now
         → engine.depth ≡ depth → StandsFor engine.program prepared.now.codes.items m.old c
-        → Meets engine prepared.now.codes.items c result (step engine c) m.new }
+        → Meets engine prepared.now.codes.items c (came_to result) (step engine c) m.new }
+    ensures stays { Stays result m.old m.new }
 {
-    match m.stack.frames.peek(0) {
-        Some(frame) => match code_at(&prepared.codes, frame.function) {
-            Some(code) => match op_at(code, m.stack.position) {
-                Some(op) => {
-                    let next = m.stack.position + 1;
-                    run_op(m, prepared, code, op, depth, next)
-                }
-                None => Outcome::Stuck,
-            },
-            None => Outcome::Stuck,
-        },
-        None => Outcome::Stuck,
+    match op_at(code, m.stack.position) {
+        Some(op) => {
+            let next = m.stack.position + 1;
+            run_op(m, prepared, frame, code, &op.code, depth, next)
+        }
+        None => Turn::Came(Outcome::Stuck),
     }
 }

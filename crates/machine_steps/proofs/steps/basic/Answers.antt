@@ -9,15 +9,15 @@ use Rattle.machine_steps.specs.calls.Meets.{MeetsAt}
 use Rattle.machine_steps.proofs.StepLaws.{basic_done, basic_traps}
 use Rattle.machine_steps.proofs.steps.basic.Goals as goal
 
-pub returns-in-Done : goal.returns-in-Done
-returns-in-Done c = λ x code h r.
-    let base : c.in-Some.frame.base ≡ length h.inner.vs_below = ap (λ (f : CallFrame). f.base) (sym (first_of c.args.m.now.stack.frames h.inner.e c.in-Some.frame h.inner.es h.inner.es_are (sym c.in-Some.ensures))) ∙ h.inner.level.base in
-    basic_done x c.args.m.now code h c.args.instruction.now c.perform.new.values c.perform.new.shared c.args.next r (c.requires ∙ add-one c.args.m.now.stack.position)
+pub returns-in-Done-clause-meets : goal.returns-in-Done-clause-meets
+returns-in-Done-clause-meets c = λ x code h r.
+    let base : c.args.frame.base ≡ length h.inner.vs_below = ap (λ (f : CallFrame). f.base) (sym (first_of c.args.m.now.stack.frames h.inner.e c.args.frame h.inner.es h.inner.es_are c.requires.frame)) ∙ h.inner.level.base in
+    basic_done x c.args.m.now code h c.args.instruction.now c.perform.new.values c.perform.new.shared c.args.next r (c.requires.next ∙ add-one c.args.m.now.stack.position)
     (c.in-Done.ensures.effect x.world (joined (x.label ∷ x.outer)) x.frame.locals h.inner.vs_below h.shares.holds h.inner.level.vs_are base)
 
-pub returns-in-Trap : goal.returns-in-Trap
-returns-in-Trap c = λ x code h r.
-    let base : c.in-Some.frame.base ≡ length h.inner.vs_below = ap (λ (f : CallFrame). f.base) (sym (first_of c.args.m.now.stack.frames h.inner.e c.in-Some.frame h.inner.es h.inner.es_are (sym c.in-Some.ensures))) ∙ h.inner.level.base in
+pub returns-in-Trap-clause-meets : goal.returns-in-Trap-clause-meets
+returns-in-Trap-clause-meets c = λ x code h r.
+    let base : c.args.frame.base ≡ length h.inner.vs_below = ap (λ (f : CallFrame). f.base) (sym (first_of c.args.m.now.stack.frames h.inner.e c.args.frame h.inner.es h.inner.es_are c.requires.frame)) ∙ h.inner.level.base in
     let same = c.in-Trap.ensures.same in
     let m_is : c.args.m.now ≡ record c.args.m.now { stack = record c.args.m.now.stack { values = c.perform.new.values }; shared = c.perform.new.shared } = λ i. record c.args.m.now { stack = record c.args.m.now.stack { values = sym same.0 i }; shared = sym same.1 i } in
     subst (λ (k : Machine). MeetsAt x (Trap c.in-Trap.kind) (step_at x) k) m_is
