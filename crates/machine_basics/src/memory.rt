@@ -11,12 +11,14 @@ use crate::access::{address, copy_at, fill_at, load_at, store_at, stored_number}
 use crate::answer::{Performed, TrapKind};
 use crate::operands::push;
 use crate::shared::Shared;
+use int_ops::{Narrow32, Narrow64};
 use linear_memory::{GrowAnswer, Memory};
 use pm_text::Stack;
-use wasm_syntax::{Load, Store, Value};
+use wasm_syntax::{Load, Store, ValType, Value};
 
+/// A load of a kind that is known where this is called, so that nothing is tested for it.
 #[inline(always)]
-pub(crate) fn load(values: &mut Stack<Value>, shared: &Shared, load: Load, offset: u32) -> Performed
+fn load_of(values: &mut Stack<Value>, shared: &Shared, load: Load, offset: u32) -> Performed
     ensures effect { (w : World) (ls : List Val) (align : ℕ) → Holds shared.now w
         → Acts (on_operands (basics.Load load align offset) w ls values.old) result w ls
         values.new }
@@ -37,6 +39,50 @@ pub(crate) fn load(values: &mut Stack<Value>, shared: &Shared, load: Load, offse
     }
 }
 
+#[inline(always)]
+pub(crate) fn load(values: &mut Stack<Value>, shared: &Shared, load: Load, offset: u32) -> Performed
+    ensures effect { (w : World) (ls : List Val) (align : ℕ) → Holds shared.now w
+        → Acts (on_operands (basics.Load load align offset) w ls values.old) result w ls
+        values.new }
+    ensures room { result ≡ Performed.NoMemory → ⊥ }
+    ensures same { UnlessDone result (values.new ≡ values.old) }
+{
+    match load {
+        Load::Full(ValType::I32) => load_of(values, shared, Load::Full(ValType::I32), offset),
+        Load::Full(ValType::I64) => load_of(values, shared, Load::Full(ValType::I64), offset),
+        Load::Part32(Narrow32::Eight, sign) => load_of(
+            values,
+            shared,
+            Load::Part32(Narrow32::Eight, sign),
+            offset,
+        ),
+        Load::Part32(Narrow32::Sixteen, sign) => load_of(
+            values,
+            shared,
+            Load::Part32(Narrow32::Sixteen, sign),
+            offset,
+        ),
+        Load::Part64(Narrow64::Eight, sign) => load_of(
+            values,
+            shared,
+            Load::Part64(Narrow64::Eight, sign),
+            offset,
+        ),
+        Load::Part64(Narrow64::Sixteen, sign) => load_of(
+            values,
+            shared,
+            Load::Part64(Narrow64::Sixteen, sign),
+            offset,
+        ),
+        Load::Part64(Narrow64::ThirtyTwo, sign) => load_of(
+            values,
+            shared,
+            Load::Part64(Narrow64::ThirtyTwo, sign),
+            offset,
+        ),
+    }
+}
+
 /// Takes the operands away where an instruction is done.
 #[inline(always)]
 fn taken(values: &mut Stack<Value>, count: usize, answer: Performed) -> Performed
@@ -53,13 +99,9 @@ fn taken(values: &mut Stack<Value>, count: usize, answer: Performed) -> Performe
     }
 }
 
+/// A store of a kind that is known where this is called.
 #[inline(always)]
-pub(crate) fn store(
-    values: &mut Stack<Value>,
-    shared: &mut Shared,
-    store: Store,
-    offset: u32,
-) -> Performed
+fn store_of(values: &mut Stack<Value>, shared: &mut Shared, store: Store, offset: u32) -> Performed
     ensures effect { (w : World) (ls : List Val) (align : ℕ) → Holds shared.old w
         → Changes (on_operands (basics.Store store align offset) w ls values.old) result ls
         values.new shared.new }
@@ -74,6 +116,54 @@ pub(crate) fn store(
             None => Performed::Done,
         },
         _ => Performed::Done,
+    }
+}
+
+#[inline(always)]
+pub(crate) fn store(
+    values: &mut Stack<Value>,
+    shared: &mut Shared,
+    store: Store,
+    offset: u32,
+) -> Performed
+    ensures effect { (w : World) (ls : List Val) (align : ℕ) → Holds shared.old w
+        → Changes (on_operands (basics.Store store align offset) w ls values.old) result ls
+        values.new shared.new }
+    ensures same { UnlessDone result ((values.new ≡ values.old) × (shared.new ≡ shared.old)) }
+{
+    match store {
+        Store::Full(ValType::I32) => store_of(values, shared, Store::Full(ValType::I32), offset),
+        Store::Full(ValType::I64) => store_of(values, shared, Store::Full(ValType::I64), offset),
+        Store::Part32(Narrow32::Eight) => store_of(
+            values,
+            shared,
+            Store::Part32(Narrow32::Eight),
+            offset,
+        ),
+        Store::Part32(Narrow32::Sixteen) => store_of(
+            values,
+            shared,
+            Store::Part32(Narrow32::Sixteen),
+            offset,
+        ),
+        Store::Part64(Narrow64::Eight) => store_of(
+            values,
+            shared,
+            Store::Part64(Narrow64::Eight),
+            offset,
+        ),
+        Store::Part64(Narrow64::Sixteen) => store_of(
+            values,
+            shared,
+            Store::Part64(Narrow64::Sixteen),
+            offset,
+        ),
+        Store::Part64(Narrow64::ThirtyTwo) => store_of(
+            values,
+            shared,
+            Store::Part64(Narrow64::ThirtyTwo),
+            offset,
+        ),
     }
 }
 

@@ -9,11 +9,12 @@ use crate::answer::Performed;
 use crate::shared::Shared;
 use crate::{memory, operands, variables};
 use pm_text::Stack;
-use wasm_syntax::{Basic, Value};
+use wasm_syntax::{Basic, ValType, Value};
 
 /// Performs an instruction on the values of a frame, whose locals stand from the place `base` on,
 /// with its operands above them. `Trap` and `NoMemory` change nothing. Where the instruction does
 /// not fit the operands, nothing is said of them.
+#[inline(always)]
 pub fn perform(
     instruction: &Basic,
     base: usize,
@@ -26,6 +27,7 @@ pub fn perform(
     ensures same { UnlessDone result ((values.new ≡ values.old) × (shared.new ≡ shared.old)) }
     ensures room { result ≡ Performed.NoMemory → IsTrue (takes_memory instruction.now) }
 {
+    // An arm for each type, so that its compiled code tests and writes values of that type alone.
     match *instruction {
         Basic::Nop => Performed::Done,
         Basic::Drop => operands::drop_top(values),
@@ -42,10 +44,13 @@ pub fn perform(
         Basic::MemoryCopy => memory::copy(values, shared),
         Basic::MemoryFill => memory::fill(values, shared),
         Basic::Const(value) => operands::constant(values, value),
-        Basic::Eqz(t) => operands::eqz(values, t),
+        Basic::Eqz(ValType::I32) => operands::eqz(values, ValType::I32),
+        Basic::Eqz(ValType::I64) => operands::eqz(values, ValType::I64),
         Basic::Unary(t, op) => operands::unary(values, t, op),
-        Basic::Compare(t, op) => operands::compare(values, t, op),
-        Basic::Binary(t, op) => operands::binary(values, t, op),
+        Basic::Compare(ValType::I32, op) => operands::compare(values, ValType::I32, op),
+        Basic::Compare(ValType::I64, op) => operands::compare(values, ValType::I64, op),
+        Basic::Binary(ValType::I32, op) => operands::binary(values, ValType::I32, op),
+        Basic::Binary(ValType::I64, op) => operands::binary(values, ValType::I64, op),
         Basic::Convert(conversion) => operands::convert(values, conversion),
         Basic::Extend32(bits) => operands::extend_32(values, bits),
         Basic::Extend64(bits) => operands::extend_64(values, bits),

@@ -1,3 +1,5 @@
+use Rattle.std.proofs.Common.{◌∙◌, ap}
+use Rattle.wasm_syntax.specs.declared.instruction.Basic.TheVariants as basics
 use Rattle.machine_basics.proofs.InFrames.{acts_did, moves_did, changes_did}
 use Rattle.machine_basics.proofs.step.perform.Goals as goal
 
@@ -10,17 +12,26 @@ returns-in-Select-clause-effect c = λ w operands locals below h e b. acts_did _
 pub returns-in-Const-clause-effect : goal.returns-in-Const-clause-effect
 returns-in-Const-clause-effect c = λ w operands locals below h e b. acts_did _ _ c.in-Const.is w operands locals below _ _ _ c.args.values.now h e (c.constant.ensures.effect w locals)
 
-pub returns-in-Eqz-clause-effect : goal.returns-in-Eqz-clause-effect
-returns-in-Eqz-clause-effect c = λ w operands locals below h e b. acts_did _ _ c.in-Eqz.is w operands locals below _ _ _ c.args.values.now h e (c.eqz.ensures.effect w locals)
+pub returns-in-Eqz-I32-clause-effect : goal.returns-in-Eqz-I32-clause-effect
+returns-in-Eqz-I32-clause-effect c = λ w operands locals below h e b. acts_did _ _ (c.in-Eqz-I32.is ∙ ap (λ t. basics.Eqz t) (rw c.in-Eqz-I32.is at c.in-Eqz-I32.field-0-is)) w operands locals below _ _ _ c.args.values.now h e (c.eqz.ensures.effect w locals)
+
+pub returns-in-Eqz-I64-clause-effect : goal.returns-in-Eqz-I64-clause-effect
+returns-in-Eqz-I64-clause-effect c = λ w operands locals below h e b. acts_did _ _ (c.in-Eqz-I64.is ∙ ap (λ t. basics.Eqz t) (rw c.in-Eqz-I64.is at c.in-Eqz-I64.field-0-is)) w operands locals below _ _ _ c.args.values.now h e (c.eqz-in-Eqz-I64.ensures.effect w locals)
 
 pub returns-in-Unary-clause-effect : goal.returns-in-Unary-clause-effect
 returns-in-Unary-clause-effect c = λ w operands locals below h e b. acts_did _ _ c.in-Unary.is w operands locals below _ _ _ c.args.values.now h e (c.unary.ensures.effect w locals)
 
-pub returns-in-Compare-clause-effect : goal.returns-in-Compare-clause-effect
-returns-in-Compare-clause-effect c = λ w operands locals below h e b. acts_did _ _ c.in-Compare.is w operands locals below _ _ _ c.args.values.now h e (c.compare.ensures.effect w locals)
+pub returns-in-Compare-I32-default-clause-effect : goal.returns-in-Compare-I32-default-clause-effect
+returns-in-Compare-I32-default-clause-effect c = λ w operands locals below h e b. acts_did _ _ (c.in-Compare-I32-default.is ∙ ap (λ t. basics.Compare t c.in-Compare-I32-default.op) (rw c.in-Compare-I32-default.is at c.in-Compare-I32-default.field-0-is)) w operands locals below _ _ _ c.args.values.now h e (c.compare.ensures.effect w locals)
 
-pub returns-in-Binary-clause-effect : goal.returns-in-Binary-clause-effect
-returns-in-Binary-clause-effect c = λ w operands locals below h e b. acts_did _ _ c.in-Binary.is w operands locals below _ _ _ c.args.values.now h e (c.binary.ensures.effect w locals)
+pub returns-in-Compare-I64-default-clause-effect : goal.returns-in-Compare-I64-default-clause-effect
+returns-in-Compare-I64-default-clause-effect c = λ w operands locals below h e b. acts_did _ _ (c.in-Compare-I64-default.is ∙ ap (λ t. basics.Compare t c.in-Compare-I64-default.op) (rw c.in-Compare-I64-default.is at c.in-Compare-I64-default.field-0-is)) w operands locals below _ _ _ c.args.values.now h e (c.compare-in-Compare-I64-default.ensures.effect w locals)
+
+pub returns-in-Binary-I32-default-clause-effect : goal.returns-in-Binary-I32-default-clause-effect
+returns-in-Binary-I32-default-clause-effect c = λ w operands locals below h e b. acts_did _ _ (c.in-Binary-I32-default.is ∙ ap (λ t. basics.Binary t c.in-Binary-I32-default.op) (rw c.in-Binary-I32-default.is at c.in-Binary-I32-default.field-0-is)) w operands locals below _ _ _ c.args.values.now h e (c.binary.ensures.effect w locals)
+
+pub returns-in-Binary-I64-default-clause-effect : goal.returns-in-Binary-I64-default-clause-effect
+returns-in-Binary-I64-default-clause-effect c = λ w operands locals below h e b. acts_did _ _ (c.in-Binary-I64-default.is ∙ ap (λ t. basics.Binary t c.in-Binary-I64-default.op) (rw c.in-Binary-I64-default.is at c.in-Binary-I64-default.field-0-is)) w operands locals below _ _ _ c.args.values.now h e (c.binary-in-Binary-I64-default.ensures.effect w locals)
 
 pub returns-in-Convert-clause-effect : goal.returns-in-Convert-clause-effect
 returns-in-Convert-clause-effect c = λ w operands locals below h e b. acts_did _ _ c.in-Convert.is w operands locals below _ _ _ c.args.values.now h e (c.convert.ensures.effect w locals)
