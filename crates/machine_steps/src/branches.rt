@@ -66,6 +66,7 @@ pub fn else_(m: &mut CallStack) -> Stepped
 }
 
 /// A branch to the block that has n others inside it, or out of the function.
+#[inline(always)]
 pub fn branch(m: &mut CallStack, gives: bool, n: usize) -> Stepped
     ensures { (x : Point) (code : Prepared) → Inner x m.old code → gives ≡ code.gives
         → Meets x result (branch_at x n) m.new }

@@ -66,6 +66,7 @@ fn drop_frame(m: &mut CallStack, gives: bool) -> Stepped
 }
 
 /// Leaves the function with its result on top, if it gives one.
+#[inline(never)]
 pub fn leave(m: &mut CallStack, gives: bool) -> Stepped
     ensures { (x : Point) (code : Prepared) → Inner x m.old code → gives ≡ code.gives
         → Meets x result (return_at x) m.new }

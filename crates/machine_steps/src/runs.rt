@@ -50,9 +50,10 @@ fn steps_in<W: Watch>(
     ensures { (first : Kept) (before : W) → Made W.Saw prepared.now depth first before made m.old watch.old
         → Went W.Saw prepared.now depth first before made fuel result.outcome result.steps m.new watch.new }
 {
+    let ops = code.body.ops.as_slice();
     for i in made..fuel {
         watch.see(standing(m));
-        match step_in(m, prepared, frame, code, depth) {
+        match step_in(m, prepared, frame, code, ops, depth) {
             Turn::Straight => {}
             Turn::Came(outcome) => match outcome {
                 Outcome::Import(call) => {

@@ -180,35 +180,37 @@ fn run_op(
 /// The instruction at a position, behind which there is another index.
 #[tactic(auto, using(std::proofs::lemmas::Option::slice_get_past))]
 #[inline(always)]
-fn op_at<'a, 'b>(code: &'b Code<'a>, position: usize) -> Option<&'b Op>
-    ensures value { option_copied result ≡ slice_get code.now.body.now.ops position }
+fn op_at(ops: &[Op], position: usize) -> Option<&Op>
+    ensures value { option_copied result ≡ slice_get ops.now position }
     ensures room { IsSome result → position + 1 < 2 ^ 64 }
 {
-    if position < code.body.ops.len() {
-        code.body.ops.get(position)
+    if position < ops.len() {
+        ops.get(position)
     } else {
         None
     }
 }
 
-/// One step of the machine in its innermost frame, which runs this code, is one step of each
-/// configuration that it stands for.
+/// One step of the machine in its innermost frame, which runs this code of these instructions, is
+/// one step of each configuration that it stands for.
 #[inline(always)]
 pub(crate) fn step_in(
     m: &mut Machine,
     prepared: &Prepared,
     frame: CallFrame,
     code: &Code,
+    ops: &[Op],
     depth: usize,
 ) -> Turn
     requires frame { slice_get m.old.stack.frames 0 ≡ Some frame }
     requires code { slice_get prepared.now.codes.items frame.function ≡ Some code.now }
+    requires ops { ops.now ≡ code.now.body.now.ops }
     ensures meets { (engine : Engine) (c : Config) → IsPrepared engine.program prepared.now
         → engine.depth ≡ depth → StandsFor engine.program prepared.now.codes.items m.old c
         → Meets engine prepared.now.codes.items c (came_to result) (step engine c) m.new }
     ensures stays { Stays result m.old m.new }
 {
-    match op_at(code, m.stack.position) {
+    match op_at(ops, m.stack.position) {
         Some(op) => {
             let next = m.stack.position + 1;
             run_op(m, prepared, frame, code, &op.code, depth, next)
