@@ -52,7 +52,7 @@ fn steps_in<W: Watch>(
 {
     let ops = code.body.ops.as_slice();
     for i in made..fuel {
-        watch.see(standing(m));
+        watch.see(standing(m, frame));
         match step_in(m, prepared, frame, code, ops, depth) {
             Turn::Straight => {}
             Turn::Came(outcome) => match outcome {

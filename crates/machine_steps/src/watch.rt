@@ -1,11 +1,12 @@
 //! Who watches a run: told before each step where the machine stands.
 
-ghost use Rattle.std.specs.Prelude.{◌≡◌, ◌++◌, ◌∷◌, [], List, Option};
+ghost use Rattle.std.specs.Prelude.{◌≡◌, ◌++◌, ◌∷◌, [], List, Option, Some, slice_get};
 ghost use Rattle.wasm_syntax.specs.declared.module.ModuleParts.{ModuleParts as Module};
 ghost use Rattle.machine_steps.specs.Places.{Place};
 ghost use Rattle.machine_steps.specs.calls.Watches.{place_at};
 ghost use Rattle.machine_steps.specs.calls.Watched.{position_of};
 
+use crate::layout::CallFrame;
 use crate::machine::Machine;
 
 /// Where a machine stands: the index of a function among those that the module defines, and of an
@@ -38,16 +39,14 @@ impl Watch for Unwatched {
     fn see(&mut self, at: Option<Position>) {}
 }
 
-/// Where the innermost frame stands.
+/// Where the innermost frame stands, which is this one.
 #[inline(always)]
-pub(crate) fn standing(m: &Machine) -> Option<Position>
+pub(crate) fn standing(m: &Machine, frame: CallFrame) -> Option<Position>
+    requires { slice_get m.now.stack.frames 0 ≡ Some frame }
     ensures { result ≡ position_of m.now }
 {
-    match m.stack.frames.peek(0) {
-        Some(frame) => Some(Position {
-            function: frame.function,
-            index: m.stack.position,
-        }),
-        None => None,
-    }
+    Some(Position {
+        function: frame.function,
+        index: m.stack.position,
+    })
 }
