@@ -12,7 +12,6 @@ use Rattle.wasm_syntax.specs.Valid.{defined_index}
 use Rattle.wasm_laws.proofs.Lists.{at_of}
 use Rattle.wasm_validate.specs.Heights.{body_of, TypesAt, HasOp, HeightIs, StandsIn, AllLow}
 use Rattle.wasm_validate.proofs.Order.{index_back}
-use Rattle.rewrite_bodies.specs.Slots.{Place}
 use Rattle.operand_spill.specs.calls.Plans.{own_types, planned, Fits}
 use Rattle.operand_spill.specs.inner.Greatest.{height_or_zero, IsGreatestUpTo}
 use Rattle.wasm_laws.proofs.Validity.{then_found}
@@ -51,8 +50,8 @@ pub few_ops : (m : Module) (f : ℕ) (body : Body) → WithinLimits m → body_o
 few_ops m f body l e = let i = there m f body e in (at_of ShortBody m.bodies i.0 body l.short.each_body i.2).ops
 
 -- all locals have numbers
-pub fits : (m : Module) (f n slots : ℕ) (body : Body) (before : List (Option (List Place))) → WithinLimits m → AllLow m → body_of m f ≡ Some body → IsGreatestUpTo m f n slots → Fits (planned (own_types (type_at m f) body) slots before)
-fits m f n slots body before l low e g =
+pub fits : (m : Module) (f n slots : ℕ) (body : Body) → WithinLimits m → AllLow m → body_of m f ≡ Some body → IsGreatestUpTo m f n slots → Fits (planned (own_types (type_at m f) body) slots)
+fits m f n slots body l low e g =
     let i = there m f body e in
     let few : local_count (type_at m (length m.imports + i.0)) body ≤ 16384 = l.locals i.0 body i.2 in
     let few_here : local_count (type_at m f) body ≤ 16384 = subst (λ k. local_count (type_at m k) body ≤ 16384) (sym i.1) few in
@@ -65,12 +64,12 @@ fits m f n slots body before l low e g =
     own_count (Some type) = omega (arith, length-append type.params (declared_locals body.groups), declared_length body.groups)
 
 -- where the parts are those of the module
-pub fits_from : (m parts : Module) (f n slots : ℕ) (body : Body) (locals : List ValType) (before : List (Option (List Place))) → parts ≡ m → WithinLimits m → AllLow m → body_of parts f ≡ Some body → IsGreatestUpTo m f n slots →
-    locals ≡ own_types (type_at parts f) body → Fits (planned locals slots before)
-fits_from m parts f n slots body locals before same l low e g is =
+pub fits_from : (m parts : Module) (f n slots : ℕ) (body : Body) (locals : List ValType) → parts ≡ m → WithinLimits m → AllLow m → body_of parts f ≡ Some body → IsGreatestUpTo m f n slots →
+    locals ≡ own_types (type_at parts f) body → Fits (planned locals slots)
+fits_from m parts f n slots body locals same l low e g is =
     let here : body_of m f ≡ Some body = subst (λ x. body_of x f ≡ Some body) same e in
     let types : locals ≡ own_types (type_at m f) body = is ∙ ap (λ x. own_types (type_at x f) body) same in
-    subst (λ ls. Fits (planned ls slots before)) (sym types) (fits m f n slots body before l low here g)
+    subst (λ ls. Fits (planned ls slots)) (sym types) (fits m f n slots body l low here g)
 
 -- the body that is read
 pub body_read : (m : Module) (f : ℕ) (body read : Body) (bodies : List Body) (n : ℕ) → body_of m f ≡ Some body → bodies ≡ m.bodies → n ≡ length m.imports → read ≡ get_or bodies (f - n) read →

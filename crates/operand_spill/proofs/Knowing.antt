@@ -1,7 +1,8 @@
 -- The steps of a walk that knows where the operands are.
-use Rattle.std.proofs.Common.{◌≡◌, ℕ, zero, suc, ◌+◌, ◌-◌, ◌<◌, ◌≤◌, true, false, Ok, Err, List, [], ◌∷◌, ◌++◌, length, drop, replicate, slice_get, map, reverse, inl, inr, ⊎_elim, Option, Some, None, refl, sym, ap, subst, ◌∙◌, arith, length-drop, length-append, append-nil, append_assoc}
-use Rattle.std.specs.Prelude.{◌⊎◌, IfOk, unwrap_or, option_map}
-use Rattle.std.proofs.lemmas.Option.{slice_get_past, slice_get_within, get_or_from_slice_get, slice_get-map}
+use Rattle.std.proofs.Common.{◌≡◌, ℕ, zero, suc, ◌+◌, ◌-◌, ◌<◌, ◌≤◌, true, false, Ok, Err, List, [], ◌∷◌, length, drop, slice_get, map, reverse, inl, inr, ⊎_elim, Option, Some, None, refl, sym, ap, subst, ◌∙◌, arith, length-drop}
+use Rattle.std.specs.Prelude.{◌⊎◌, IfOk, option_map}
+use Rattle.std.proofs.lemmas.Bool.{cases_lt}
+use Rattle.std.proofs.lemmas.Option.{slice_get_within, get_or_from_slice_get, slice_get-map}
 use Rattle.std.proofs.lemmas.List.{length-map, reverse-reverse}
 use Rattle.wasm_laws.proofs.Lists.{get_within}
 use Rattle.rewrite_code.specs.declared.place.OperandPlace.{OperandPlace}
@@ -21,10 +22,10 @@ use Rattle.operand_spill.specs.declared.labels.OpenBlock.{OpenBlock}
 use Rattle.operand_spill.specs.calls.Walking.{Walking, walking, with_places, opening, behind_block, at_start, alternating_in, alternating, closing_in, closing}
 use Rattle.operand_spill.specs.calls.Standing.{Due, before_end, before_else, flat, after_instr, IsLast}
 use Rattle.operand_spill.proofs.Shapes.{Begins, Shape, shape, begins}
-use Rattle.operand_spill.specs.calls.Before.{dead, live, after_call, after_jump, before, constant_of, known_among, kept_at}
+use Rattle.operand_spill.specs.calls.Before.{dead, live, after_call, after_jump, before, constant_of, known_among}
 use Rattle.operand_spill.specs.declared.places.Flow.{Flow}
 use Rattle.operand_spill.specs.declared.places.Flow.TheVariants.{Next, Ends}
-use Rattle.operand_spill.specs.inner.Knowing.{Places, Matched, after, Knows, Ended, Over, Proceeds, Flowed, Jumped, Kept, is_else}
+use Rattle.operand_spill.specs.inner.Knowing.{Places, Matched, after, Knows, Ended, Over, Proceeds, Flowed, Jumped, AreDead, is_else}
 
 -- ---- lengths
 
@@ -358,51 +359,6 @@ module _ (C : Ctx) (code : List Placed) (whole : Places) where
   crosses_end pc w o Else e b r = absurd (let z : true ≡ false = e in cc)
   crosses_end pc w o End e b r = pass_end C code whole pc w o b r
 
--- ---- what is kept
-
-get_front : (xs : List (Option (List Place))) (ys : List (Option (List Place))) (k : ℕ) (x : Option (List Place)) → slice_get xs k ≡ Some x → slice_get (xs ++ ys) k ≡ Some x
-get_front [] ys k x e = absurd (cc)
-get_front (z ∷ xs) ys zero x e = e
-get_front (z ∷ xs) ys (suc k) x e = get_front xs ys k x e
-
-get_last : (xs : List (Option (List Place))) (x : Option (List Place)) (k : ℕ) → length xs ≡ k → slice_get (xs ++ x ∷ []) k ≡ Some x
-get_last [] x zero e = refl
-get_last [] x (suc k) e = absurd (omega (arith, e))
-get_last (z ∷ xs) x zero e = absurd (omega (arith, e))
-get_last (z ∷ xs) x (suc k) e = get_last xs x k (omega (arith, e))
-
-pub kept_none : (whole : Places) → Kept whole [] 0
-kept_none whole = record { as_many = refl; each = λ k lt. absurd (omega (arith, lt)) }
-
-pub kept_more : (whole : Places) (kept_ : List (Option (List Place))) (pc : ℕ) (x : Option (List Place)) → Kept whole kept_ pc → x ≡ whole pc → Kept whole (kept_ ++ x ∷ []) (suc pc)
-kept_more whole kept_ pc x h e = record {
-  as_many = omega (arith, length-append kept_ (x ∷ []), h.as_many);
-  each = λ k lt. ⊎_elim (λ low. get_front kept_ (x ∷ []) k (whole k) (h.each k low)) (λ same. get_last kept_ x k (h.as_many ∙ sym same) ∙ ap Some (e ∙ ap whole (sym same))) (below_or k lt);
-}
-  where
-    below_or : (k : ℕ) → k < suc pc → (k < pc) ⊎ (k ≡ pc)
-    below_or k lt = grind arith
-
--- so many more, all dead
-pub kept_dead : (whole : Places) (n : ℕ) (kept_ : List (Option (List Place))) (pc : ℕ) → Kept whole kept_ pc → ((k : ℕ) → pc ≤ k → k < pc + n → whole k ≡ None) → Kept whole (kept_ ++ replicate n None) (pc + n)
-kept_dead whole zero kept_ pc h none = let z : pc ≡ pc + 0 = omega arith in subst (λ m. Kept whole (kept_ ++ []) m) z (subst (λ l. Kept whole l pc) (sym (append-nil kept_)) h)
-kept_dead whole (suc n) kept_ pc h none =
-    let one : Kept whole (kept_ ++ None ∷ []) (suc pc) = kept_more whole kept_ pc None h (sym (none pc (omega arith) (omega arith))) in
-    let more = kept_dead whole n (kept_ ++ None ∷ []) (suc pc) one (λ k low high. none k (omega (arith, low)) (omega (arith, high))) in
-    let z : suc pc + n ≡ pc + suc n = omega arith in
-    subst (λ m. Kept whole (kept_ ++ replicate (suc n) None) m) z (subst (λ l. Kept whole l (suc pc + n)) (append_assoc kept_ (None ∷ []) (replicate n None)) more)
-
-pub kept_all : (whole : Places) (kept_ : List (Option (List Place))) (pc op : ℕ) → Kept whole kept_ pc → ((k : ℕ) → whole (pc + k) ≡ None) → kept_at kept_ op ≡ whole op
-kept_all whole kept_ pc op h past = ⊎_elim (λ low. ap (λ o. unwrap_or o None) (h.each op low)) (λ high. beyond high) (low_or op)
-  where
-    low_or : (k : ℕ) → (k < pc) ⊎ (pc ≤ k)
-    low_or k = grind arith
-
-    beyond : pc ≤ op → kept_at kept_ op ≡ whole op
-    beyond le =
-        let z : op ≡ pc + (op - pc) = omega (arith, le) in
-        ap (λ o. unwrap_or o None) (slice_get_past kept_ op (omega (arith, le, h.as_many))) ∙ sym (past (op - pc)) ∙ ap whole (sym z)
-
 -- ---- jumps
 
 pub call_next : (C : Ctx) (m : Module) (f : ℕ) (type : FuncType) (old new : Walking) → C.source ≡ m → type_at m f ≡ Some type →
@@ -430,16 +386,8 @@ indirect_ends C m t old mid same is one = (
   λ go over k. ap (λ (x : Module). after_call (slice_get x.types t) (less 1 old.places) go over k) same ∙ ap (λ q. after_call q (less 1 old.places) go over k) is,
 )
 
-pub know_start : (C : Ctx) (targets : List ℕ) (ops : List Op) (tree : Tree) → Writes targets ops tree → Kept (before C tree.nodes) [] 0 × Proceeds C (code_of targets ops) (before C tree.nodes) 0 (at_start None)
-know_start C targets ops tree writes =
-    (kept_none (before C tree.nodes), goes C (code_of targets ops) (before C tree.nodes) 0 (at_start None) (know_begin C (code_of targets ops) tree None writes))
-
--- at the end of the code
-pub know_all : (C : Ctx) (targets : List ℕ) (ops : List Op) (tree : Tree) (kept_ : List (Option (List Place))) (pc op : ℕ) (w : Walking) → length ops ≤ pc →
-    Kept (before C tree.nodes) kept_ pc × Proceeds C (code_of targets ops) (before C tree.nodes) pc w → kept_at kept_ op ≡ before C tree.nodes op
-know_all C targets ops tree kept_ pc op w le h =
-    let past : length (code_of targets ops) ≤ pc = omega (arith, le, length-map ops (λ (o : Op). placed o.at (item_of targets o.code))) in
-    kept_all (before C tree.nodes) kept_ pc op h.0 (h.1.past past)
+pub know_start : (C : Ctx) (targets : List ℕ) (ops : List Op) (tree : Tree) → Writes targets ops tree → Proceeds C (code_of targets ops) (before C tree.nodes) 0 (at_start None)
+know_start C targets ops tree writes = goes C (code_of targets ops) (before C tree.nodes) 0 (at_start None) (know_begin C (code_of targets ops) tree None writes)
 
 pub knows_here : (C : Ctx) (targets : List ℕ) (ops : List Op) (whole : Places) (pc : ℕ) (w : Walking) → pc < length ops → Proceeds C (code_of targets ops) whole pc w → Knows C (code_of targets ops) whole pc w
 knows_here C targets ops whole pc w lt p = p.here (omega (arith, lt, length-map ops (λ (o : Op). placed o.at (item_of targets o.code))))
@@ -453,22 +401,27 @@ live_here C es (loop at t inner end rest) behind = refl
 live_here C es (choose at t a None b end rest) behind = refl
 live_here C es (choose at t a (Some else_at) b end rest) behind = refl
 
--- from a live instruction to the next one
-pub advance_next : (C : Ctx) (targets : List ℕ) (ops : List Op) (whole : Places) (pc : ℕ) (kept_ more : List (Option (List Place))) (w : Walking) (here : pc < length ops) → Proceeds C (code_of targets ops) whole pc w →
-    Kept whole kept_ pc → more ≡ kept_ ++ Some w.places ∷ [] → Kept whole more (suc pc)
-advance_next C targets ops whole pc kept_ more w lt p h e =
-    let k : Knows C (code_of targets ops) whole pc w = knows_here C targets ops whole pc w lt p in
-    let z : pc ≡ pc + 0 = omega arith in
-    let places : Some w.places ≡ whole pc = sym (ap whole z ∙ k.places 0 ∙ live_here C w.places k.nodes (after C w.opens k.dues)) in
-    subst (λ l. Kept whole l (suc pc)) (sym e) (kept_more whole kept_ pc (Some w.places) h places)
+-- at a live instruction
+pub known_here : (C : Ctx) (targets : List ℕ) (ops : List Op) (whole : Places) (pc op : ℕ) (w : Walking) → pc ≡ op → op < length ops → Proceeds C (code_of targets ops) whole pc w → Some w.places ≡ whole op
+known_here C targets ops whole pc op w same lt p =
+    let k : Knows C (code_of targets ops) whole pc w = knows_here C targets ops whole pc w (omega (arith, same, lt)) p in
+    let z : op ≡ pc + 0 = omega (arith, same) in
+    sym (ap whole z ∙ k.places 0 ∙ live_here C w.places k.nodes (after C w.opens k.dues))
+
+-- behind the last instruction
+pub none_past : (C : Ctx) (targets : List ℕ) (ops : List Op) (whole : Places) (pc op : ℕ) (w : Walking) → length ops ≤ pc → length ops ≤ op → (op < pc → whole op ≡ None) → Proceeds C (code_of targets ops) whole pc w → whole op ≡ None
+none_past C targets ops whole pc op w le high dead p = elim (cases_lt op pc) [
+  | inl lt ↦ dead lt
+  | inr ge ↦
+      let past : length (code_of targets ops) ≤ pc = omega (arith, le, length-map ops (λ (o : Op). placed o.at (item_of targets o.code))) in
+      let z : op ≡ pc + (op - pc) = omega (arith, ge) in
+      ap whole z ∙ p.past past (op - pc)
+]
 
 -- through dead code, behind the end of its list
-pub leave_next : (C : Ctx) (targets : List ℕ) (ops : List Op) (whole : Places) (from end : ℕ) (kept_ more : List (Option (List Place))) (w : Walking) (e : Ended C (code_of targets ops) whole from w) →
-    drop end (code_of targets ops) ≡ flat e.dues → from ≤ end → Kept whole kept_ from → more ≡ kept_ ++ replicate (end + 1 - from) None → Kept whole more (end + 1)
-leave_next C targets ops whole from end kept_ more w e code_is le h is =
-    let none : (k : ℕ) → from ≤ k → k < from + (end + 1 - from) → whole k ≡ None = λ k low high. none_between C (code_of targets ops) whole from end w e code_is le k low (omega (arith, le, high)) in
-    let z : from + (end + 1 - from) ≡ end + 1 = omega (arith, le) in
-    subst (λ l. Kept whole l (end + 1)) (sym is) (subst (λ m. Kept whole (kept_ ++ replicate (end + 1 - from) None) m) z (kept_dead whole (end + 1 - from) kept_ from h none))
+pub leave_next : (C : Ctx) (targets : List ℕ) (ops : List Op) (whole : Places) (from end : ℕ) (w : Walking) (e : Ended C (code_of targets ops) whole from w) →
+    drop end (code_of targets ops) ≡ flat e.dues → from ≤ end → AreDead whole from (end + 1)
+leave_next C targets ops whole from end w e code_is le = λ k low high. none_between C (code_of targets ops) whole from end w e code_is le k low (omega (arith, high))
 
 -- the instruction that was read
 pub starts_at : (targets : List ℕ) (ops : List Op) (pc : ℕ) (o : Op) → slice_get ops pc ≡ Some o → Begins (code_of targets ops) pc o.at (item_of targets o.code)

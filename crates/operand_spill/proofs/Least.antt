@@ -9,7 +9,7 @@ use Rattle.wasm_syntax.specs.declared.parts.FuncType.{FuncType}
 use Rattle.wasm_syntax.specs.declared.parts.Body.{Body}
 use Rattle.wasm_syntax.specs.declared.module.ModuleParts.{ModuleParts as Module}
 use Rattle.wasm_syntax.specs.Tree.{Tree, End, Placed, placed, code_of, Writes}
-use Rattle.wasm_syntax.specs.Module.{Program, IsModule, IsProgram, defined, function_at, type_at, declared_locals}
+use Rattle.wasm_syntax.specs.Module.{Program, IsModule, IsProgram, defined, function_at, type_at}
 use Rattle.wasm_syntax.specs.Machine.{result_of}
 use Rattle.wasm_syntax.specs.Typing.{Types, IsBody, body_context}
 use Rattle.wasm_syntax.specs.FlatTyping.{OpenBlock, opened, inside, FlatTypes, body_block, dead_behind, AllLive, all_types, TypesBefore}
@@ -25,8 +25,8 @@ use Rattle.rewrite_bodies.specs.Slots.{Place, Ctx, ctx_of, slots_of}
 use Rattle.rewrite_modules.proofs.Heights.{peak_low}
 use Rattle.rewrite_modules.proofs.Links.{is_defined, type_is_of, IsDefined}
 use Rattle.rewrite_modules.proofs.Multiple.{slots_high, code_length}
-use Rattle.operand_spill.specs.calls.Before.{before, kept_at}
-use Rattle.operand_spill.specs.calls.Plans.{own_types, planned, IsPlan}
+use Rattle.operand_spill.specs.calls.Before.{before}
+use Rattle.operand_spill.specs.calls.Plans.{own_types, planned, Planned, IsPlan}
 use Rattle.operand_spill.specs.inner.Greatest.{IsGreatestUpTo}
 use Rattle.pm_text.proofs.Lists.{some_is}
 use Rattle.wasm_syntax.proofs.Bodies.{tree_there}
@@ -105,33 +105,41 @@ module _ (p : Program) (write_ : IsProgram p) (typed_ : Typed p) (f : ℕ) (b : 
           let before : TypesBefore m type b op types = at_of m d.number op type b types ty d.body_is (subst (λ k. TypesAt m k op types) d.number_is h) in
           omega (arith, slots_high p write_ typed_ f b tree type at op types before, e)
 
-pub plan_is : (p : Program) (f : ℕ) (b own : Body) (tree : Tree) (type : FuncType) (most : ℕ) (kept : List (Option (List Place))) → IsProgram p → length p.module_.bodies ≡ length p.module_.functions → Valid p.module_ →
-    function_at p f ≡ Some (defined b tree type) → body_of p.module_ f ≡ Some own → IsGreatestUpTo p.module_ f (length own.ops) most →
-    ((op : ℕ) → kept_at kept op ≡ before (ctx_of p f b type 0) tree.nodes op) → IsPlan p f b tree type (planned (own_types (type_at p.module_ f) own) most kept)
-plan_is p f b own tree type most kept w as_many valid at here g known =
+-- the body of a function that is defined
+body_is : (p : Program) (f : ℕ) (b own : Body) (tree : Tree) (type : FuncType) → function_at p f ≡ Some (defined b tree type) → body_of p.module_ f ≡ Some own → own ≡ b
+body_is p f b own tree type at here =
     let d = is_defined p f b tree type at in
     let there : body_of p.module_ f ≡ Some b = subst (λ k. body_of p.module_ k ≡ Some b) (sym d.number_is) (body_at p.module_ d.number b d.body_is) in
-    let same : own ≡ b = some_is (sym here ∙ there) in
+    some_is (sym here ∙ there)
+
+pub plan_is : (p : Program) (f : ℕ) (b own : Body) (tree : Tree) (type : FuncType) (most : ℕ) → IsProgram p → length p.module_.bodies ≡ length p.module_.functions → Valid p.module_ →
+    function_at p f ≡ Some (defined b tree type) → body_of p.module_ f ≡ Some own → IsGreatestUpTo p.module_ f (length own.ops) most → IsPlan p f b tree type (planned (own_types (type_at p.module_ f) own) most)
+plan_is p f b own tree type most w as_many valid at here g =
+    let same : own ≡ b = body_is p f b own tree type at here in
     record {
       locals = ap (λ q. own_types q own) (type_is_of p f (defined b tree type) at) ∙ ap (own_types (Some type)) same;
       slots = slots_are p w (typed p w as_many valid) f b tree type at most (subst (λ (x : Body). IsGreatestUpTo p.module_ f (length x.ops) most) same g);
-      before = known;
     }
 
 -- where the parts are those of the module
-pub plan_from : (m parts : Module) (p : Program) (f : ℕ) (b own : Body) (tree : Tree) (type : FuncType) (most : ℕ) (locals : List ValType) (kept : List (Option (List Place))) → p.module_ ≡ m → parts ≡ m →
-    IsModule parts → Valid m → IsProgram p → function_at p f ≡ Some (defined b tree type) → body_of parts f ≡ Some own → IsGreatestUpTo m f (length own.ops) most → locals ≡ own_types (type_at parts f) own →
-    ((C : Ctx) (targets : List ℕ) (t : Tree) → C.locals ≡ locals → C.source ≡ parts → Writes targets own.ops t → (op : ℕ) → kept_at kept op ≡ before C t.nodes op) → IsPlan p f b tree type (planned locals most kept)
-plan_from m parts p f b own tree type most locals kept same parts_are is valid w at here g types places =
+pub plan_from : (m parts : Module) (p : Program) (f : ℕ) (b own : Body) (tree : Tree) (type : FuncType) (most : ℕ) (locals : List ValType) → p.module_ ≡ m → parts ≡ m →
+    IsModule parts → Valid m → IsProgram p → function_at p f ≡ Some (defined b tree type) → body_of parts f ≡ Some own → IsGreatestUpTo m f (length own.ops) most → locals ≡ own_types (type_at parts f) own → IsPlan p f b tree type (planned locals most)
+plan_from m parts p f b own tree type most locals same parts_are is valid w at here g types =
     let e : parts ≡ p.module_ = parts_are ∙ sym same in
-    let d = is_defined p f b tree type at in
     let as_many : length p.module_.bodies ≡ length p.module_.functions = subst (λ (x : Module). length x.bodies ≡ length x.functions) e is.as_many in
     let there : body_of p.module_ f ≡ Some own = subst (λ x. body_of x f ≡ Some own) e here in
-    let is_b : own ≡ b = some_is (sym there ∙ subst (λ k. body_of p.module_ k ≡ Some b) (sym d.number_is) (body_at p.module_ d.number b d.body_is)) in
     let most_here : IsGreatestUpTo p.module_ f (length own.ops) most = subst (λ x. IsGreatestUpTo x f (length own.ops) most) (sym same) g in
     let locals_are : locals ≡ own_types (type_at p.module_ f) own = types ∙ ap (λ x. own_types (type_at x f) own) e in
-    let typed_locals : type.params ++ declared_locals b.groups ≡ locals = sym (locals_are ∙ ap (λ q. own_types q own) (type_is_of p f (defined b tree type) at) ∙ ap (own_types (Some type)) is_b) in
+    subst (λ ls. IsPlan p f b tree type (planned ls most)) (sym locals_are) (plan_is p f b own tree type most w as_many (subst Valid (sym same) valid) at there most_here)
+
+-- what stands before an instruction of a body that was read, by the locals of its plan
+pub places_from : (m parts : Module) (p : Program) (f op : ℕ) (b own : Body) (tree : Tree) (type : FuncType) (plan : Planned) (places : Option (List Place)) → p.module_ ≡ m → parts ≡ m →
+    IsProgram p → function_at p f ≡ Some (defined b tree type) → body_of parts f ≡ Some own → IsPlan p f b tree type plan →
+    ((C : Ctx) (targets : List ℕ) (t : Tree) → C.locals ≡ plan.locals → C.source ≡ parts → Writes targets own.ops t → places ≡ before C t.nodes op) → places ≡ before (ctx_of p f b type 0) tree.nodes op
+places_from m parts p f op b own tree type plan places same parts_are w at here planned_ are =
+    let e : parts ≡ p.module_ = parts_are ∙ sym same in
+    let d = is_defined p f b tree type at in
+    let is_b : own ≡ b = body_is p f b own tree type at (subst (λ x. body_of x f ≡ Some own) e here) in
     let writes_b : Writes b.targets b.ops tree = tree_there p.module_.bodies p.trees d.number b tree w d.body_is d.tree_is in
     let writes_own : Writes b.targets own.ops tree = subst (λ (x : Body). Writes b.targets x.ops tree) (sym is_b) writes_b in
-    let known : (op : ℕ) → kept_at kept op ≡ before (ctx_of p f b type 0) tree.nodes op = places (ctx_of p f b type 0) b.targets tree typed_locals (sym e) writes_own in
-    subst (λ ls. IsPlan p f b tree type (planned ls most kept)) (sym locals_are) (plan_is p f b own tree type most kept w as_many (subst Valid (sym same) valid) at there most_here known)
+    are (ctx_of p f b type 0) b.targets tree (sym planned_.locals) (sym e) writes_own

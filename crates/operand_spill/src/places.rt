@@ -1,24 +1,20 @@
-//! Where the operands are before each instruction.
+//! Where the operands are before an instruction.
 
-ghost use Rattle.std.specs.Prelude.{◌≡◌, ℕ, suc, ◌+◌, ◌<◌, ◌≤◌, ◌++◌, List, length, replicate, slice_get, IfOk, OnOk, MatchOption, Some, None};
+ghost use Rattle.std.specs.Prelude.{◌≡◌, ℕ, suc, ◌+◌, ◌<◌, ◌≤◌, List, length, slice_get, IfOk, OnOk, MatchOption, Some};
 ghost use Rattle.wasm_syntax.specs.declared.instruction.Basic.TheVariants.{Const};
 ghost use Rattle.wasm_syntax.specs.Tree.{Tree, Placed, Writes, Opens, OpensLoop, OpensIf, Call, CallIndirect, code_of, item_of, jump_of};
 ghost use Rattle.wasm_syntax.specs.Machine.{result_of};
 ghost use Rattle.rewrite_bodies.specs.Slots.{Ctx, Place, less, grown, after_plain};
 ghost use Rattle.operand_spill.specs.calls.Walking.{with_places};
 ghost use Rattle.operand_spill.specs.calls.Standing.{after_instr};
-ghost use Rattle.operand_spill.specs.calls.Before.{before, kept_at};
-ghost use Rattle.operand_spill.specs.inner.Knowing.{Places, Knows, Ended, Over, Proceeds, Flowed, Jumped, Kept, Starts, is_else};
+ghost use Rattle.operand_spill.specs.calls.Before.{before};
+ghost use Rattle.operand_spill.specs.inner.Knowing.{Places, Knows, Ended, Over, Proceeds, Flowed, Jumped, AreDead, Starts, is_else};
 
 use crate::{Label, Walk, copy_of, end_of_list, result_type, takes};
 use causes::NoMemory;
-use pm_text::Items;
 use rewrite_code::OperandPlaces;
 use std::alloc::Global;
 use wasm_syntax::{Basic, FuncType, Instr, Jump, ModuleParts, Op, ValType, Value};
-
-/// For each instruction where the operands are before it, or None in dead code.
-pub(crate) type PlacesBefore = Items<Option<OperandPlaces>>;
 
 /// Whether the next instruction is run behind one, or nothing more of its list.
 #[derive(Clone, Copy)]
@@ -227,16 +223,6 @@ fn pass(
     }
 }
 
-/// So many dead instructions.
-fn push_dead(kept: &mut PlacesBefore, count: usize) -> Result<(), NoMemory>
-    ensures { OnOk result (kept.new ≡ kept.old ++ replicate count None) }
-{
-    for _i in 0..count {
-        kept.push(None)?;
-    }
-    Ok(())
-}
-
 fn op_at(ops: &[Op], index: usize) -> Option<Op>
     ensures { result ≡ slice_get ops.now index }
 {
@@ -251,22 +237,16 @@ fn read_op(ops: &[Op], index: usize) -> Op
 }
 
 /// From dead code to the instruction behind the end of its list.
-fn leave(
-    walk: &mut Walk,
-    kept: &mut PlacesBefore,
-    ops: &[Op],
-    from: usize,
-) -> Result<usize, NoMemory>
+fn leave(walk: &mut Walk, ops: &[Op], from: usize) -> Result<usize, NoMemory>
     requires { from ≤ length ops.now }
     ensures forward { IfOk result (λ next. from < next) }
     ensures stays { (C : Ctx) (targets : List ℕ) (whole : Places)
-        → Ended C (code_of targets ops.now) whole from walk.old → Kept whole kept.old from
-        → IfOk result (λ next. Kept whole kept.new next
+        → Ended C (code_of targets ops.now) whole from walk.old
+        → IfOk result (λ next. AreDead whole from next
         × Proceeds C (code_of targets ops.now) whole next walk.new) }
 {
     let end = end_of_list(ops, from);
     let next = end + 1;
-    push_dead(kept, next - from)?;
     match op_at(ops, end) {
         Some(op) => {
             cross(walk, op.code)?;
@@ -279,47 +259,51 @@ fn leave(
 /// From a live instruction to the next one that is live.
 fn advance(
     walk: &mut Walk,
-    kept: &mut PlacesBefore,
     locals: &[ValType],
     source: &ModuleParts,
     ops: &[Op],
     pc: usize,
-    alloc: Global,
 ) -> Result<usize, NoMemory>
     requires { pc < length ops.now }
     ensures forward { IfOk result (λ next. pc < next) }
     ensures stays { (C : Ctx) (targets : List ℕ) (whole : Places) → C.locals ≡ locals.now
         → C.source ≡ source.now → Proceeds C (code_of targets ops.now) whole pc walk.old
-        → Kept whole kept.old pc → IfOk result
-        (λ next. Kept whole kept.new next
+        → IfOk result (λ next. AreDead whole (pc + 1) next
         × Proceeds C (code_of targets ops.now) whole next walk.new) }
 {
-    let here = copy_of(alloc, walk.places())?;
-    kept.push(Some(here))?;
     let op = read_op(ops, pc);
     let flow = pass(walk, locals, source, op.code)?;
     match flow {
         Flow::Next => Ok(pc + 1),
-        Flow::Ends => leave(walk, kept, ops, pc + 1),
+        Flow::Ends => leave(walk, ops, pc + 1),
     }
 }
 
-/// For each instruction of a body where the operands are before it.
+/// Where the operands are before the instruction of this index of a body, or None in dead code.
 pub(crate) fn places_before(
     alloc: Global,
     locals: &[ValType],
     source: &ModuleParts,
     ops: &[Op],
-) -> Result<PlacesBefore, NoMemory>
+    op: usize,
+) -> Result<Option<OperandPlaces>, NoMemory>
     ensures { (C : Ctx) (targets : List ℕ) (tree : Tree) → C.locals ≡ locals.now
         → C.source ≡ source.now → Writes targets ops.now tree
-        → IfOk result (λ kept. (op : ℕ) → kept_at kept op ≡ before C tree.nodes op) }
+        → IfOk result (λ places. places ≡ before C tree.nodes op) }
 {
-    let mut kept = Items::new(alloc);
+    let count = ops.len();
+    let bound = op.min(count);
     let mut walk = Walk::new(alloc, None);
     let mut pc = 0;
-    while pc < ops.len() {
-        pc = advance(&mut walk, &mut kept, locals, source, ops, pc, alloc)?;
+    while pc < bound {
+        pc = advance(&mut walk, locals, source, ops, pc)?;
     }
-    Ok(kept)
+    if count <= op {
+        return Ok(None);
+    }
+    if op < pc {
+        return Ok(None);
+    }
+    let here = copy_of(alloc, walk.places())?;
+    Ok(Some(here))
 }

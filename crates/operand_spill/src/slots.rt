@@ -1,18 +1,19 @@
 //! The locals that are added to a function.
 
-ghost use Rattle.std.specs.Prelude.{◌≡◌, ◌+◌, ◌*◌, ◌<◌, ◌++◌, ℕ, length, slice_get, Some, IfOk};
+ghost use Rattle.std.specs.Prelude.{◌≡◌, ◌+◌, ◌*◌, ◌<◌, ℕ, slice_get, Some, IfOk};
 ghost use Rattle.wasm_syntax.specs.declared.parts.Body.{Body as BodyOf};
 ghost use Rattle.wasm_syntax.specs.declared.parts.FuncType.{FuncType as TypeOf};
 ghost use Rattle.wasm_syntax.specs.Tree.{Tree};
 ghost use Rattle.wasm_syntax.specs.Module.{Program, IsProgram, defined, function_at, type_at};
 ghost use Rattle.wasm_validate.specs.Heights.{body_of};
-ghost use Rattle.operand_spill.specs.calls.Before.{constant_of, kept_at, known_among};
+ghost use Rattle.operand_spill.specs.calls.Before.{before, constant_of, known_among};
+ghost use Rattle.rewrite_bodies.specs.Slots.{ctx_of};
 ghost use Rattle.rewrite_code.specs.calls.Places.{place};
 ghost use Rattle.operand_spill.specs.calls.Plans.{Fits, IsDefined, IsPlan, own_types, number, Slot, Result, Kind, Offset};
 
 use crate::heights::greatest_height;
 use crate::locals::local_types;
-use crate::places::{PlacesBefore, places_before};
+use crate::places::places_before;
 use causes::NoMemory;
 use pm_text::Items;
 use rewrite_code::{OperandPlace, OperandPlaces, slot};
@@ -21,13 +22,11 @@ use std::marker::Model;
 use wasm_syntax::{Body, ModuleParts, ValType, Value};
 use wasm_validate::Validated;
 
-/// The types of a function's locals with its parameters, how many heights have slots, and where the
-/// operands are before each instruction.
+/// The types of a function's locals with its parameters, and how many heights have slots.
 #[derive(Drop)]
 pub struct SlotPlan {
     locals: Items<ValType>,
     slots: u32,
-    before: PlacesBefore,
 }
 
 impl Model for SlotPlan {
@@ -35,9 +34,9 @@ impl Model for SlotPlan {
 
     ghost Value = { Planned };
 
-    ghost view = { λ s. planned s.locals s.slots s.before };
+    ghost view = { λ s. planned s.locals s.slots };
 
-    ghost invariant = { λ s. Fits (planned s.locals s.slots s.before) };
+    ghost invariant = { λ s. Fits (planned s.locals s.slots) };
 }
 
 /// The body of a function that the module defines.
@@ -74,12 +73,7 @@ pub fn plan(alloc: Global, source: &Validated, func: u32) -> Result<SlotPlan, No
     let body = body_at(parts, func);
     let slots = greatest_height(source, func, body.ops.len() as u32);
     let locals = own_types(alloc, parts, func, body)?;
-    let before = places_before(alloc, locals.as_slice(), parts, body.ops.as_slice())?;
-    Ok(SlotPlan {
-        locals,
-        slots,
-        before,
-    })
+    Ok(SlotPlan { locals, slots })
 }
 
 /// The value of an operand that is known.
@@ -156,15 +150,31 @@ impl SlotPlan {
         self.locals.len() as u32 + 2 * self.slots + 3
     }
 
-    /// The value of an operand before a live instruction, by the number of operands below it, where
-    /// a constant instruction pushed it and it was not taken since. Dead code has none.
-    pub fn known(&self, op: u32, from_bottom: u32) -> Option<Value>
-        ensures { result ≡ known_among (kept_at self.now.before op) from_bottom }
+    /// The value of an operand before a live instruction of the planned function, by the number of
+    /// operands below it, where a constant instruction pushed it and it was not taken since. Dead
+    /// code has none. It walks over the body up to there.
+    pub fn known(
+        &self,
+        alloc: Global,
+        source: &Validated,
+        func: u32,
+        op: u32,
+        from_bottom: u32,
+    ) -> Result<Option<Value>, NoMemory>
+        requires { IsDefined source.now func }
+        ensures { (p : Program) (body : BodyOf) (tree : Tree) (ftype : TypeOf) → IsProgram p
+            → p.module_ ≡ source.now → function_at p func ≡ Some (defined body tree ftype)
+            → IsPlan p func body tree ftype self.now → IfOk result (λ value. value
+            ≡ known_among (before (ctx_of p func body ftype 0) tree.nodes op) from_bottom) }
     {
-        match self.before.get(op as usize) {
-            Some(Some(places)) => constant_at(places, from_bottom as usize),
-            Some(None) => None,
-            None => None,
+        let parts = source.module().parts();
+        let body = body_at(parts, func);
+        let ops = body.ops.as_slice();
+        let locals = self.locals.as_slice();
+        let found = places_before(alloc, locals, parts, ops, op as usize)?;
+        match found {
+            Some(places) => Ok(constant_at(&places, from_bottom as usize)),
+            None => Ok(None),
         }
     }
 

@@ -1,6 +1,6 @@
 -- Where the operands are before each instruction of a body, by its index in the flat code; `else` and `end` count. None stands for dead code,
 -- which is what follows an unconditional transfer in its list, up to the end of the list and with it.
-use Rattle.std.specs.Prelude.{ℕ, zero, suc, List, [], length, reverse, slice_get, unwrap_or, Option, Some, None}
+use Rattle.std.specs.Prelude.{ℕ, zero, suc, List, [], length, reverse, slice_get, Option, Some, None}
 use Rattle.wasm_syntax.specs.declared.value.Value.{Value}
 use Rattle.wasm_syntax.specs.declared.parts.FuncType.{FuncType}
 use Rattle.wasm_syntax.specs.Tree.{Jump, Unreachable, Br, BrIf, BrTable, Return, Call, CallIndirect, Nodes, stop, basic, jump, block, loop, choose}
@@ -63,7 +63,3 @@ constant_of (Some (Known v)) = Some v
 abbrev pub known_among : Option (List Place) → ℕ → Option Value
 known_among None n = None
 known_among (Some es) n = constant_of (slice_get (reverse es) n)
-
--- of what is kept for the instructions of a body
-abbrev pub kept_at : List (Option (List Place)) → ℕ → Option (List Place)
-kept_at kept op = unwrap_or (slice_get kept op) None

@@ -6,9 +6,8 @@ use Rattle.wasm_syntax.specs.declared.parts.Body.{Body}
 use Rattle.wasm_syntax.specs.declared.module.ModuleParts.{ModuleParts as Module}
 use Rattle.wasm_syntax.specs.Tree.{Tree}
 use Rattle.wasm_syntax.specs.Module.{Program, declared_locals}
-use Rattle.rewrite_bodies.specs.Slots.{Place, slot, ctx_of, slots_of}
+use Rattle.rewrite_bodies.specs.Slots.{slot, slots_of}
 use Rattle.wasm_validate.specs.Heights.{body_of}
-use Rattle.operand_spill.specs.calls.Before.{before, kept_at}
 
 -- the module defines the function
 abbrev pub IsDefined : Module → ℕ → Type 0
@@ -19,15 +18,13 @@ abbrev pub own_types : Option FuncType → Body → List ValType
 own_types None body = []
 own_types (Some type) body = type.params ++ declared_locals body.groups
 
--- the types of the function's own locals, with its parameters, how many heights have slots, and the places of the operands before each
--- instruction
+-- the types of the function's own locals, with its parameters, and how many heights have slots
 pub record Planned : Type 0 where
   pub locals : List ValType
   pub slots : ℕ
-  pub before : List (Option (List Place))
 
-abbrev pub planned : List ValType → ℕ → List (Option (List Place)) → Planned
-planned locals slots before = record { locals = locals; slots = slots; before = before }
+abbrev pub planned : List ValType → ℕ → Planned
+planned locals slots = record { locals = locals; slots = slots }
 
 -- all locals have numbers of 32 bits
 abbrev pub Fits : Planned → Type 0
@@ -37,8 +34,6 @@ Fits plan = length plan.locals + 2 * plan.slots + 4 < 2 ^ 32
 pub record IsPlan (p : Program) (f : ℕ) (body : Body) (tree : Tree) (type : FuncType) (plan : Planned) : Type 0 where
   pub locals : plan.locals ≡ type.params ++ declared_locals body.groups
   pub slots : plan.slots ≡ slots_of p f body tree type
-  -- so what is known of an operand is what the rewriting knows: that a constant instruction pushed it and that it was not taken since
-  pub before : (op : ℕ) → kept_at plan.before op ≡ before (ctx_of p f body type 0) tree.nodes op
 
 -- an added local: the slot of a type at a height, the result of a type, the kind and the offset of a trap
 pub data AddedLocal : Type 0 where

@@ -1,5 +1,5 @@
 -- A walk that knows where the operands are: what stands before the instructions that are left.
-use Rattle.std.specs.Prelude.{◌≡◌, Bool, true, false, ℕ, suc, ◌+◌, ◌<◌, ◌≤◌, List, [], ◌∷◌, length, drop, slice_get, Option, Some, None}
+use Rattle.std.specs.Prelude.{◌≡◌, Bool, true, false, ℕ, suc, ◌+◌, ◌<◌, ◌≤◌, List, [], ◌∷◌, length, drop, Option, None}
 use Rattle.wasm_syntax.specs.Tree.{Jump, Nodes, IsTree, Item, Plain, Goes, Opens, OpensLoop, OpensIf, Else, End, Placed, placed, write}
 use Rattle.rewrite_bodies.specs.Slots.{Place, Ctx}
 use Rattle.operand_spill.specs.declared.labels.OpenBlock.{OpenBlock}
@@ -79,7 +79,6 @@ abbrev pub Jumped : Flow → Ctx → Jump → Walking → Walking → Type 0
 Jumped Next C j old new = (new.opens ≡ old.opens) × ((go : List Place → Places) (over : Places) (k : ℕ) → after_jump C j old.places go over k ≡ go new.places k)
 Jumped Ends C j old new = (new.opens ≡ old.opens) × ((go : List Place → Places) (over : Places) (k : ℕ) → after_jump C j old.places go over k ≡ over k)
 
--- what is kept of the instructions before this one
-pub record Kept (whole : Places) (kept : List (Option (List Place))) (pc : ℕ) : Type 0 where
-  pub as_many : length kept ≡ pc
-  pub each : (k : ℕ) → k < pc → slice_get kept k ≡ Some (whole k)
+-- the instructions from one up to another are dead
+abbrev pub AreDead : Places → ℕ → ℕ → Type 0
+AreDead whole from next = (k : ℕ) → from ≤ k → k < next → whole k ≡ None
