@@ -3,16 +3,19 @@ use Rattle.std.proofs.Common.{◌≡◌, ℕ, ◌+◌, ◌<◌, ◌^◌, List, [
 use Rattle.std.specs.Prelude.{Bool, Option, option_map}
 use Rattle.wasm_syntax.specs.declared.module.ModuleParts.{ModuleParts as Module}
 use Rattle.wasm_syntax.specs.Module.{Program}
-use Rattle.wasm_syntax.specs.Machine.{Frame, Config}
+use Rattle.wasm_syntax.specs.declared.host.Reply.{Reply}
+use Rattle.wasm_syntax.specs.Machine.{Frame, Config, config}
+use Rattle.wasm_syntax.specs.Run.{start_world}
 use Rattle.machine_code.specs.declared.code.Code.{Code}
 use Rattle.machine_steps.specs.calls.Layout as layout
 use Rattle.machine_steps.specs.declared.machine.Machine.{Machine}
 use Rattle.machine_code.specs.declared.prepared.Prepared.{Prepared}
-use Rattle.machine_steps.specs.calls.Meets.{StandsFor}
+use Rattle.machine_steps.specs.calls.Meets.{StandsFor, Shares}
+use Rattle.machine_hosted.proofs.WorldLaws.{shares_own}
 use Rattle.machine_hosted.specs.calls.Answers.{KeepsFrames}
 use Rattle.dump_write.specs.Image.{frame_images}
 use Rattle.wasm_machine.specs.declared.invocation.LastInvocation.{LastInvocation}
-use Rattle.wasm_machine.specs.calls.Instances.{State, state, copied, SoundState, IsOf, StandsAt}
+use Rattle.wasm_machine.specs.calls.Instances.{State, state, copied, SoundState, IsOf, IsNew, StandsAt}
 use Rattle.wasm_machine.specs.inner.Shown.{all_shown}
 use Rattle.wasm_machine.proofs.Layouts.{frames_kept, count_kept}
 
@@ -23,6 +26,10 @@ of_same s t p same is = record { of_module = is.of_module ∙ sym same; writes_o
 kept_frames : (p : Program) (codes : List Code) (m : Machine) (fs : List Frame) → layout.StandsFor p codes m.stack fs → KeepsFrames p codes m fs
 kept_frames p codes m [] h = absurd h
 kept_frames p codes m (f ∷ fs) h = h
+
+-- a new instance has no frames
+pub new_stands : (m : Module) (s : State) (p : Program) (replies : List Reply) → IsNew m s → IsOf s p → StandsAt s p (config [] (start_world m replies) [])
+new_stands m s p replies new is = record { is_of = is; keeps = record { frames = new.frames; shares = subst (λ w. Shares s.machine w) (new.world replies) (shares_own s.machine replies) } }
 
 -- behind a trap
 pub trap_stands : (s : State) (p : Program) (c : Config) → IsOf s p → StandsFor p s.prepared.codes.items s.machine c → StandsAt s p c

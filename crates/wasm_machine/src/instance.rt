@@ -1,6 +1,6 @@
 //! An instance of a module.
 
-ghost use Rattle.std.specs.Prelude.{◌≡◌, ◌+◌, ◌<◌, ◌^◌, ℕ, true, Some, None, IfOk, OnOk, OnErr, length, option_map, slice_get};
+ghost use Rattle.std.specs.Prelude.{[], ◌≡◌, ◌+◌, ◌<◌, ◌^◌, ℕ, true, Some, None, IfOk, OnOk, OnErr, length, option_map, slice_get};
 ghost use Rattle.std.specs.Option.{option_copied};
 ghost use Rattle.wasm_syntax.specs.declared.value.Value.{Value as Val};
 ghost use Rattle.wasm_syntax.specs.Module.{Program, function_export};
@@ -70,6 +70,7 @@ impl<'a> Model for Instance<'a> {
 fn machine_of(alloc: Global, started: Started) -> Machine
     ensures shared { result.shared ≡ started.shared }
     ensures table { result.table ≡ started.table }
+    ensures frames { result.stack.frames ≡ [] }
 {
     let stack = CallStack {
         values: Stack::new(alloc),

@@ -98,6 +98,7 @@ pub record SoundState (s : State) : Type 0 where
 pub record IsNew (m : Module) (s : State) : Type 0 where
   pub module_is : s.module_ ≡ m
   pub world : (replies : List Reply) → world_of s.machine replies ≡ start_world m replies
+  pub frames : s.machine.stack.frames ≡ []
   pub due : s.due ≡ m.start
   pub ready : s.ready ≡ true
   pub entered : s.entered ≡ false

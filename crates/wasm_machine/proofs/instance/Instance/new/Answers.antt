@@ -34,6 +34,7 @@ returns c =
       record {
         module_is = same;
         world = λ replies. new_world m c.in_ok-started.started c.machine_of.result c.in_ok-started.ensures.1 c.machine_of.ensures.shared c.machine_of.ensures.table replies ∙ ap (λ (x : Module). start_world x replies) same;
+        frames = c.machine_of.ensures.frames;
         due = ap (λ (x : Module). x.start) same;
         ready = refl;
         entered = refl;
