@@ -7,13 +7,18 @@ use Rattle.wasm_bytes.specs.Place.{Place, Read}
 use Rattle.wasm_bytes.specs.Reading.{◌⊗◌, ◌▷◌, mapped, done_item, one_of_item, u64_item}
 use Rattle.wasm_bytes.specs.calls.Spelling.{leads, image, only, one_of, u64}
 use Rattle.wasm_bytes.specs.calls.Spelling.{pair as both}
+use Rattle.wasm_bytes.specs.calls.Answers.{Fails}
+use Rattle.wasm_bytes.specs.declared.faults.ItemFault.{ItemFault}
+use Rattle.wasm_bytes.specs.declared.faults.ItemFault.TheVariants.{At}
 use Rattle.wasm_bytes.specs.Laws.{IsExact, TakesBytes}
 use Rattle.wasm_bytes.proofs.Exact.{same_exact, leads_exact, image_exact, mapped_exact, then_exact, done_exact}
 use Rattle.wasm_bytes.proofs.ExactItems.{one_of_exact, u64_exact}
-use Rattle.dwarf_bytes.specs.Items.{ended_from, ended_item}
-use Rattle.dwarf_bytes.specs.calls.Spelled.{ended}
+use Rattle.dwarf_bytes.specs.Items.{ended_from, ended_item, reading_of}
+use Rattle.dwarf_bytes.specs.calls.Spelled.{ended, StandsAt}
+use Rattle.dwarf_bytes.proofs.Standing.{stands_read}
 use Rattle.dwarf_bytes.proofs.Lists.{ended_exact}
 use Rattle.dwarf_abbrev.specs.declared.abbrev.Pair.{Pair}
+use Rattle.dwarf_abbrev.specs.declared.abbrev.Abbrev.{Abbrev}
 use Rattle.dwarf_abbrev.specs.Reading.{pair_of, is_end, behind_pair, pair_item, is_flag, is_one, behind_code, table_item, abbrev_of, abbrevs_item, abbrevs_at}
 use Rattle.dwarf_abbrev.specs.calls.Grammar.{codes, pair, flag, entry, table, abbrevs}
 use Rattle.wasm_bytes.proofs.Takes.{front_takes, unsigned_takes}
@@ -135,6 +140,18 @@ table_exact make S f takes e = ended_exact (entry make S) (u64_item ▷ behind_c
 pub abbrevs_exact : IsExact abbrevs abbrevs_item
 unfolding abbrevs_item
 abbrevs_exact = table_exact abbrev_of (pair only) (pair_item done_item) (pair_takes only) (pair_exact only done_item (λ x. done_exact x))
+
+-- Where a table stands it is read.
+pub table_read : (section : List ℕ) (at : ℕ) (table : List Abbrev) → StandsAt abbrevs table section at → abbrevs_at section at ≡ Some table
+table_read section at table s = stands_read abbrevs abbrevs_item abbrevs_exact section at table s
+
+-- Where none is read none stands.
+pub none_stands : (section : List ℕ) (at : ℕ) → abbrevs_at section at ≡ None → (table : List Abbrev) → StandsAt abbrevs table section at → ⊥
+none_stands section at none table s = let clash : None ≡ Some table = sym none ∙ table_read section at table s in absurd cc
+
+-- Where reading fails none is read.
+pub fails_none : (e : ItemFault) (o : ℕ) (r : Read (List Abbrev)) → e ≡ At o → Fails e r → reading_of r ≡ None
+fails_none e o r same h = ap reading_of (subst (λ (x : ItemFault). Fails x r) same h)
 
 -- Past the end of a section no table stands.
 pub abbrevs_past : (section : List ℕ) (at : ℕ) → length section < at → abbrevs_at section at ≡ None

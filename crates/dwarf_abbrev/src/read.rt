@@ -7,6 +7,7 @@ ghost use Rattle.wasm_bytes.specs.calls.Answers.{Gives, Reads};
 ghost use Rattle.dwarf_bytes.specs.Items.{ended_item, read_at};
 ghost use Rattle.dwarf_bytes.specs.calls.Spelled.{StandsAt};
 ghost use Rattle.dwarf_bytes.specs.calls.Answers.{Answers, found_at};
+ghost use Rattle.dwarf_abbrev.specs.declared.abbrev.Abbrev.{Abbrev as AbbrevThere};
 ghost use Rattle.dwarf_abbrev.specs.Reading.{pair_item, is_flag, is_one, behind_code, abbrev_of, abbrevs_item, abbrevs_at};
 ghost use Rattle.dwarf_abbrev.specs.calls.Grammar.{abbrevs};
 
@@ -118,6 +119,8 @@ pub fn abbrevs<'a>(alloc: Global, reader: &mut Reader<'a>) -> Result<Items<Abbre
 pub fn read_abbrevs(alloc: Global, section: &[u8], at: usize) -> Result<Abbrevs, ReadFault>
     ensures exact { Answers result (found_at at (abbrevs_at section.now at)) }
     ensures spelled { IfOk result (λ table. StandsAt abbrevs table section.now at) }
+    ensures unreadable { result ≡ Err (ReadFault.Unreadable at) → (table : List AbbrevThere)
+        → StandsAt abbrevs table section.now at → ⊥ }
 {
     if at > section.len() {
         return Err(ReadFault::Unreadable { at });

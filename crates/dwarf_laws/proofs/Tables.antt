@@ -3,15 +3,12 @@ use Rattle.std.proofs.Common.{◌≡◌, ℕ, ◌↔◌, List, length, Option, S
 use Rattle.std.proofs.lemmas.Bool.{cases_lt}
 use Rattle.wasm_bytes.specs.Laws.{IsBytes}
 use Rattle.dwarf_bytes.specs.calls.Spelled.{StandsAt}
-use Rattle.dwarf_bytes.proofs.Standing.{read_stands, stands_read}
+use Rattle.dwarf_bytes.proofs.Standing.{read_stands}
 use Rattle.dwarf_abbrev.specs.declared.abbrev.Abbrev.{Abbrev}
 use Rattle.dwarf_abbrev.specs.Reading.{abbrevs_item, abbrevs_at}
 use Rattle.dwarf_abbrev.specs.calls.Grammar.{abbrevs}
-use Rattle.dwarf_abbrev.proofs.Exact.{abbrevs_exact, abbrevs_past}
+use Rattle.dwarf_abbrev.proofs.Exact.{abbrevs_exact, abbrevs_past, table_read, none_stands}
 use Rattle.dwarf_loc.proofs.Standing.{none_read}
-
-table_read : (section : List ℕ) (at : ℕ) (table : List Abbrev) → StandsAt abbrevs table section at → abbrevs_at section at ≡ Some table
-table_read section at table s = stands_read abbrevs abbrevs_item abbrevs_exact section at table s
 
 table_stands : (section : List ℕ) (at : ℕ) (table : List Abbrev) → IsBytes section → abbrevs_at section at ≡ Some table → StandsAt abbrevs table section at
 table_stands section at table fits read = elim (cases_lt (length section) at) [
@@ -19,14 +16,11 @@ table_stands section at table fits read = elim (cases_lt (length section) at) [
   | inr inside ↦ read_stands abbrevs abbrevs_item abbrevs_exact section at table fits inside read
 ]
 
-none_is : {A : Type 0} (o : Option A) (x : A) → o ≡ None → o ≡ Some x → ⊥
-none_is o x none some = let no : None ≡ Some x = sym none ∙ some in absurd cc
-
 pub read_as_spelled : (section : List ℕ) (at : ℕ) (table : List Abbrev) → IsBytes section → (abbrevs_at section at ≡ Some table) ↔ StandsAt abbrevs table section at
 read_as_spelled section at table fits = (table_stands section at table fits, table_read section at table)
 
 pub unread_as_spelled : (section : List ℕ) (at : ℕ) → IsBytes section → (abbrevs_at section at ≡ None) ↔ ((table : List Abbrev) → StandsAt abbrevs table section at → ⊥)
 unread_as_spelled section at fits = (
-  λ none table s. none_is (abbrevs_at section at) table none (table_read section at table s),
+  none_stands section at,
   λ h. none_read (abbrevs_at section at) (λ table read. h table (table_stands section at table fits read)),
 )
