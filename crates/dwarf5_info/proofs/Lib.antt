@@ -5,3 +5,4 @@ pub mod ReadLaws5
 pub mod ListLaws
 pub mod Turns
 pub mod Worked
+pub mod PlainLaws

@@ -7,12 +7,12 @@ use Rattle.wasm_bytes.specs.Place.{Place}
 use Rattle.dwarf_loc.specs.Addresses.{Addresses}
 use Rattle.dwarf5_info.specs.Plain.{address_item, replaced, plain, plain_from}
 
-goes_on : (addresses : Addresses) (n : ℕ) (p q : Place) (x : Option ℕ) → address_item addresses p ≡ Ok (x, q)
+pub goes_on : (addresses : Addresses) (n : ℕ) (p q : Place) (x : Option ℕ) → address_item addresses p ≡ Ok (x, q)
     → plain_from addresses (suc n) p ≡ replaced x (slice_range p.block p.at q.at) ++ plain_from addresses n q
 unfolding plain_from
 goes_on addresses n p q x h = rw h refl
 
-ends : (addresses : Addresses) (n : ℕ) (p : Place) (at : ℕ) → address_item addresses p ≡ Err at → plain_from addresses n p ≡ drop p.at p.block
+pub ends : (addresses : Addresses) (n : ℕ) (p : Place) (at : ℕ) → address_item addresses p ≡ Err at → plain_from addresses n p ≡ drop p.at p.block
 unfolding plain_from
 ends addresses zero p at h = refl
 ends addresses (suc n) p at h = rw h refl

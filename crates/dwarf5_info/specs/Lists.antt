@@ -1,5 +1,5 @@
 -- What the lists of a unit of version 5 say of an address (DWARF 5, 2.6.2, 2.17.3 and 7.27).
-use Rattle.std.specs.Prelude.{ℕ, Option, unwrap_or, Bool}
+use Rattle.std.specs.Prelude.{ℕ, Option, unwrap_or, Bool, ◌==◌}
 use Rattle.dwarf_info.specs.declared.entry.Unit.{Unit as UnitTree}
 use Rattle.dwarf_info.specs.Attributes.{valued, as_address, as_offset, low_pc, addr_base}
 use Rattle.dwarf_info.specs.Entries.{root_attributes}
@@ -7,6 +7,9 @@ use Rattle.dwarf_info.specs.Sections.{SectionBytes5}
 use Rattle.dwarf_loc.specs.declared.contents.Span.{Span}
 use Rattle.dwarf_loc.specs.Addresses.{Table, table, address_of}
 use Rattle.dwarf_loc.specs.Version5.{location5, range5}
+
+abbrev pub is_version5 : UnitTree → Bool
+is_version5 u = u.version == 5
 
 -- the base from which the lists of a unit begin to count: the low_pc of its root, or 0
 abbrev pub list_base : UnitTree → ℕ

@@ -1,7 +1,8 @@
 //! Expressions of a unit.
 
-ghost use Rattle.std.specs.Prelude.{◌≡◌, IfOk};
+ghost use Rattle.std.specs.Prelude.{◌≡◌, ℕ, List, IfOk};
 ghost use Rattle.dwarf5_info.specs.Units.{plain_of};
+ghost use Rattle.dwarf5_info.specs.calls.PlainGrammar.{IsPlainOf};
 
 use crate::address_table;
 use crate::addresses::with_addresses;
@@ -20,6 +21,9 @@ pub fn plain_expr(
     expr: &[u8],
 ) -> Result<Bytes, NoMemory>
     ensures exact { IfOk result (λ bytes. bytes ≡ plain_of sections.now unit.now expr.now) }
+    ensures spelled { IfOk result (IsPlainOf sections.now unit.now expr.now) }
+    ensures only { IfOk result (λ bytes. (other : List ℕ)
+        → IsPlainOf sections.now unit.now expr.now other → other ≡ bytes) }
 {
     if unit.version == 5 {
         with_addresses(alloc, &address_table(sections, unit), expr)
