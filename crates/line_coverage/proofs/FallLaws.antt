@@ -1,6 +1,6 @@
 -- Counts of instructions, by where the steps fell that were made there.
-use Rattle.std.proofs.Common.{◌≡◌, ℕ, suc, ◌+◌, ◌-◌, ◌%◌, ◌^◌, ◌<◌, ◌≤◌, Bool, true, false, cond, List, [], ◌∷◌, length, Option, Some, None, refl, sym, ap, ◌∙◌, arith}
-use Rattle.std.specs.Prelude.{count_by, map, slice_get, option_map, unwrap_or}
+use Rattle.std.proofs.Common.{◌≡◌, ℕ, suc, ◌+◌, ◌%◌, ◌^◌, ◌<◌, ◌≤◌, Bool, true, false, cond, List, [], ◌∷◌, length, Option, Some, None, refl, sym, ap, ◌∙◌, arith}
+use Rattle.std.specs.Prelude.{count_by, map, slice_get}
 use Rattle.std.proofs.lemmas.List.Sums.{sum_by-cons}
 use Rattle.wasm_syntax.specs.declared.instruction.Op.{Op}
 use Rattle.wasm_syntax.specs.declared.parts.Body.{Body}
@@ -11,7 +11,10 @@ use Rattle.machine_steps.specs.calls.Tallies.{Counts, Counted}
 use Rattle.dwarf_line.specs.declared.lines.Lines.{Lines}
 use Rattle.line_coverage.specs.declared.spots.Spot.{Spot}
 use Rattle.line_coverage.specs.calls.Spots.{spot}
-use Rattle.line_coverage.specs.Covers.{start_of, fallen}
+use Rattle.wasm_syntax.specs.Module.{option_then}
+use Rattle.wasm_syntax.proofs.Bodies.{index_of}
+use Rattle.debug_frames.specs.Frames.{body_start, start_of}
+use Rattle.line_coverage.specs.Covers.{fallen}
 use Rattle.line_coverage.specs.inner.Visits.{op_sum, ops_sum, bodies_sum}
 
 abbrev Test : Type 0
@@ -27,8 +30,7 @@ module _ (tables : List Lines) (p : Test) where
 
   start_is : (m : Module) (k : ℕ) (b : Body) → slice_get m.bodies k ≡ Some b → start_of m (length m.imports + k) ≡ b.start
   start_is m k b e =
-      let i : length m.imports + k - length m.imports ≡ k = omega arith in
-      ap (λ j. unwrap_or (option_map (λ (body : Body). body.start) (slice_get m.bodies j)) 0) i ∙ ap (λ o. unwrap_or (option_map (λ (body : Body). body.start) o) 0) e
+      ap (λ o. body_start (option_then o (λ i. slice_get m.bodies i))) (index_of m k) ∙ ap body_start e
 
   bodies_same : (m : Module) (k : ℕ) (bs : List Body) (cs : List (List ℕ)) → ((i : ℕ) → slice_get m.bodies (k + i) ≡ slice_get bs i) → tallies.bodies_sum (λ at. p (fallen tables m at)) (length m.imports + k) bs cs ≡ bodies_sum bs cs (λ a. p (spot tables a))
   bodies_same m k [] cs h = refl

@@ -1,18 +1,14 @@
 -- The source lines on which steps of a run fall.
-use Rattle.std.specs.Prelude.{◌≡◌, ◌<◌, ◌+◌, ◌-◌, ◌%◌, ◌^◌, ℕ, Bool, true, false, List, length, count_by, map, slice_get, Option, Some, None, is_none, option_map, option_and_then, unwrap_or, if◌then◌else◌}
+use Rattle.std.specs.Prelude.{◌≡◌, ◌<◌, ◌+◌, ◌%◌, ◌^◌, ℕ, Bool, true, false, List, length, count_by, map, Option, Some, None, is_none, option_and_then, if◌then◌else◌}
 use Rattle.std.specs.List.{AllByRecursion}
-use Rattle.wasm_syntax.specs.declared.parts.Body.{Body}
 use Rattle.wasm_syntax.specs.declared.module.ModuleParts.{ModuleParts as Module}
 use Rattle.machine_steps.specs.Places.{Place}
 use Rattle.machine_steps.specs.calls.Tallies.{Counts, Counted}
 use Rattle.dwarf_line.specs.declared.lines.Lines.{Lines}
+use Rattle.debug_frames.specs.Frames.{start_of}
 use Rattle.line_coverage.specs.declared.spots.Spot.{Spot}
 use Rattle.line_coverage.specs.declared.spots.LineCount.{LineCount}
 use Rattle.line_coverage.specs.calls.Spots.{spot, is_spot, Ascend, steps_on, lines_sum}
-
--- where the code entry of a function begins
-abbrev pub start_of : Module → ℕ → ℕ
-start_of m f = unwrap_or (option_map (λ (body : Body). body.start) (slice_get m.bodies (f - length m.imports))) 0
 
 -- Code addresses have 32 bits (WebAssembly DWARF).
 abbrev pub address_of : Module → Place → ℕ
