@@ -7,4 +7,3 @@ pub mod PlaceLaws
 pub mod FallLaws
 pub mod ListLaws
 pub mod CoverLaws
-pub mod RunLaws

@@ -3,11 +3,9 @@
 
 mod coverage;
 mod placing;
-mod run;
 mod spots;
 mod sums;
 mod visits;
 
 pub use coverage::Coverage;
-pub use run::{CoverFault, CoveredRun};
 pub use spots::{LineCount, Spot};

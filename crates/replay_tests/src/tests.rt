@@ -8,6 +8,7 @@ use dwarf_line::{Lines, read_lines};
 use host_devices::{HostAnswer, HostSide};
 use line_coverage::Coverage;
 use linear_memory::Memory;
+use machine_steps::Tally;
 use std::alloc::Global;
 use wasm_decode::decode;
 use wasm_machine::Instance;
@@ -91,10 +92,14 @@ fn cover(
         imports: source.imports.as_slice(),
     };
     let args = [Value::I32(argument)];
-    match Coverage::run(
-        alloc, tables, source, instance, "f", &args, 8, 1000, &mut hosts,
-    ) {
-        Ok(run) => Some(run.coverage),
+    let Ok(mut tally) = Tally::new(alloc, source) else {
+        return None;
+    };
+    match instance.invoke_watched("f", &args, 8, 1000, &mut hosts, &mut tally) {
+        Ok(_) => match Coverage::of(alloc, tables, source, &tally) {
+            Ok(coverage) => Some(coverage),
+            Err(_) => None,
+        },
         Err(_) => None,
     }
 }
