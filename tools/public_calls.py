@@ -1,9 +1,11 @@
 #!/usr/bin/env python3
-"""public_calls.py: lists the public functions that no test runs; status 1 where there is one. Run it at the top of a clone.
+"""public_calls.py            lists the public functions that no test runs; status 1 where there is one
+public_calls.py --program  compares those that the program does not run with the table of docs/ARCHITECTURE.md; status 1 where they differ
 
-It goes by names, from the tests through the bodies of the functions that they name. A method counts where a function that is run calls one of
-its name in a file that names its type; the few whose type is never written where they are called are listed below with such a place. Laws
-(functions with an empty body) have nothing to run.
+It goes by names, from the tests, or from `main`, through the bodies of the functions that they name; a function of another crate counts only
+where the file names it with its crate. A method counts where a function that is run calls one of its name in a file that names its type; the
+few whose type is never written where they are called are listed below with such a place. Laws (functions with an empty body) have nothing to
+run. Run it at the top of a clone.
 """
 import re
 import sys
@@ -85,14 +87,23 @@ def functions_of(path):
         yield Function(str(path), i + 1, owner, found[3], public, is_test, bool(RECEIVER.search(text.split('{')[0])), text)
 
 
-def run_by_tests(by_name):
-    """The functions that tests reach by names."""
-    run, left = set(), [f for functions in by_name.values() for f in functions if f.is_test]
+def crate_of(f):
+    return Path(f.file).parts[1]
+
+
+def may_call(f, g, files):
+    """Whether a function that names this one can mean it."""
+    return g.owner or crate_of(f) == crate_of(g) or re.search(rf'\b{crate_of(g)}::[^;]*\b{g.name}\b', files[f.file])
+
+
+def run_from(begins, by_name, files):
+    """The functions that these reach by names."""
+    run, left = set(), begins
     while left:
         f = left.pop()
         if f not in run:
             run.add(f)
-            left += [g for name in set(NAME.findall(f.body)) for g in by_name.get(name, ())]
+            left += [g for name in set(NAME.findall(f.body)) for g in by_name.get(name, ()) if may_call(f, g, files)]
     return run
 
 
@@ -106,22 +117,54 @@ def is_called(f, texts, files):
     return any(call.search(text) and re.search(rf'\b{f.owner}\b', files[file]) for file, text in texts.items())
 
 
-def main():
+def not_run(begins, by_name, files):
+    """The public functions that these do not reach, laws aside, and how many there are in all."""
+    run, texts = run_from(begins, by_name, files), defaultdict(str)
+    for f in run:
+        texts[f.file] += f.body + '\n'
+    public = [f for functions in by_name.values() for f in functions if f.is_public and not f.is_test and not f.body.rstrip().endswith('{}')]
+    return sorted(f for f in public if f not in run or not is_called(f, texts, files)), len(public)
+
+
+def listed():
+    """The calls of the table of docs/ARCHITECTURE.md, with their crates."""
+    text = Path('docs/ARCHITECTURE.md').read_text(encoding='utf-8')
+    table = text.split("## A library's own calls\n")[1].split('\n## ')[0]
+    return {(crate, call) for crate, row in re.findall(r'^\| `(\w+)` \| (.*?) \|', table, re.M) for call in re.findall(r'`([\w:]+)`', row)}
+
+
+def title(f):
+    return f.owner + '::' + f.name if f.owner else f.name
+
+
+def compare(lacking):
+    """What the table lacks, and what it has too much."""
+    found, rows = {(crate_of(f), title(f)) for f in lacking if crate_of(f) != 'test_modules'}, listed()
+    for crate, call in sorted(found - rows):
+        print(f'{crate}: {call} is not run by the program and not listed')
+    for crate, call in sorted(rows - found):
+        print(f'{crate}: {call} is listed, and is run by the program or not there')
+    print(f'{len(found)} public functions that the program does not run, {len(rows)} listed')
+    return 1 if found != rows else 0
+
+
+def main(args):
+    if set(args) - {'--program'}:
+        sys.exit(__doc__)
     by_name, files = defaultdict(list), {}
     for path in sorted(Path('crates').glob('*/src/**/*.rt')):
         files[str(path)] = path.read_text(encoding='utf-8')
         for f in functions_of(path):
             by_name[f.name].append(f)
-    run, texts = run_by_tests(by_name), defaultdict(str)
-    for f in run:
-        texts[f.file] += f.body + '\n'
-    public = [f for functions in by_name.values() for f in functions if f.is_public and not f.is_test and not f.file.endswith('/laws.rt')]
-    lacking = sorted(f for f in public if f not in run or not is_called(f, texts, files))
+    every = [f for functions in by_name.values() for f in functions]
+    if args:
+        return compare(not_run([f for f in every if f.file.endswith('pm_main/src/main.rt')], by_name, files)[0])
+    lacking, count = not_run([f for f in every if f.is_test], by_name, files)
     for f in lacking:
-        print(f'{f.file}:{f.line}: {f.owner + "::" if f.owner else ""}{f.name} is run by no test')
-    print(f'{len(public)} public functions, {len(lacking)} of which no test runs')
+        print(f'{f.file}:{f.line}: {title(f)} is run by no test')
+    print(f'{count} public functions, {len(lacking)} of which no test runs')
     return 1 if lacking else 0
 
 
 if __name__ == '__main__':
-    sys.exit(main())
+    sys.exit(main(sys.argv[1:]))
