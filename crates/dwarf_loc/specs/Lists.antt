@@ -1,6 +1,6 @@
 -- What a location list or a range list says (DWARF 4, 2.6.2 and 2.17.3; DWARF 5, 2.6.2 and 2.17.3). Each entry holds something: the place of an
 -- expression, or nothing.
-use Rattle.std.specs.Prelude.{ℕ, ◌+◌, List, [], ◌∷◌, Option, Some, None, find, Bool, ◌&&◌, nat_le, nat_lt}
+use Rattle.std.specs.Prelude.{ℕ, ◌+◌, ℤ, pos, List, [], ◌∷◌, Option, Some, None, find, Bool, ◌&&◌, nat_le, int_lt}
 use Rattle.dwarf_loc.specs.declared.entry.ListEntry.{ListEntry}
 use Rattle.dwarf_loc.specs.declared.entry.ListEntry.TheVariants.{Base, FromBase, Between, Lasting, Otherwise}
 
@@ -22,8 +22,12 @@ held_by start (Between begin end what ∷ entries) = held begin end what ∷ hel
 held_by start (Lasting begin length what ∷ entries) = held begin (begin + length) what ∷ held_by start entries
 held_by start (Otherwise what ∷ entries) = held_by start entries
 
+-- from the first address up to but not including the second
+abbrev pub is_between : ℕ × ℤ → ℕ → Bool
+is_between bounds address = nat_le bounds.0 address && int_lt (pos address) bounds.1
+
 abbrev pub holds : {A : Type 0} → ℕ → Held A → Bool
-holds address h = nat_le h.begin address && nat_lt address h.end
+holds address h = is_between (h.begin, pos h.end) address
 
 abbrev pub defaults : {A : Type 0} → List (ListEntry A) → Option A
 defaults [] = None

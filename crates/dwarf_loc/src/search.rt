@@ -1,13 +1,13 @@
 //! The entry of a list that counts for an address.
 
-ghost use Rattle.std.specs.Prelude.{ℕ, ◌≡◌, ◌&&◌, ◌<◌, Option, option_map, OnOk, nat_le, nat_lt};
+ghost use Rattle.std.specs.Prelude.{ℕ, ◌≡◌, ◌<◌, pos, Option, option_map, OnOk};
 ghost use Rattle.wasm_bytes.specs.Place.{Place, Read, Moves};
 ghost use Rattle.wasm_bytes.specs.Reading.{mapped};
 ghost use Rattle.wasm_bytes.specs.calls.Answers.{Reads};
 ghost use Rattle.dwarf_bytes.specs.Items.{ended_item, read_at};
 ghost use Rattle.dwarf_bytes.specs.calls.Answers.{found_at};
 ghost use Rattle.dwarf_loc.specs.declared.entry.ListEntry.{ListEntry as Listed};
-ghost use Rattle.dwarf_loc.specs.Lists.{held, holds, chosen};
+ghost use Rattle.dwarf_loc.specs.Lists.{held, holds, is_between, chosen};
 ghost use Rattle.dwarf_loc.specs.inner.Search.{first_of, holding, taken};
 
 use crate::entry::ListEntry;
@@ -52,7 +52,7 @@ fn first_of<T: Drop>(first: Option<T>, later: Option<T>) -> Option<T>
 
 /// Sums of addresses are whole numbers.
 fn is_between(begin: u128, address: u32, end: u128) -> bool
-    ensures { result ≡ (nat_le begin address && nat_lt address end) }
+    ensures { result ≡ is_between (begin, pos end) address }
 {
     let address = u128::from(address);
     begin <= address && address < end

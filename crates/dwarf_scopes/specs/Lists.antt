@@ -1,13 +1,11 @@
 -- The lists of a unit by its version: in `.debug_loc` and `.debug_ranges` (DWARF 4, 2.6.2 and 2.17.3), from version 5 on in `.debug_loclists` and `.debug_rnglists` (DWARF 5, 2.6.2 and 2.17.3).
-use Rattle.std.specs.Prelude.{ℕ, Option, Bool, ◌==◌, if◌then◌else◌}
+use Rattle.std.specs.Prelude.{ℕ, Option, Bool, if◌then◌else◌}
 use Rattle.dwarf_info.specs.declared.entry.Unit.{Unit as UnitTree}
 use Rattle.dwarf_info.specs.Sections.{SectionBytes5}
 use Rattle.dwarf_loc.specs.declared.contents.Span.{Span}
 use Rattle.dwarf_loc.specs.Version4.{location4, range4}
+pub use Rattle.dwarf5_info.specs.Lists.{is_version5}
 use Rattle.dwarf5_info.specs.Lists.{list_base, location5_of, range5_of}
-
-abbrev pub is_version5 : UnitTree → Bool
-is_version5 u = u.version == 5
 
 -- What the list at an offset says of an address. None where no list stands there.
 abbrev pub location_in : SectionBytes5 → UnitTree → ℕ → ℕ → Option (Option Span)

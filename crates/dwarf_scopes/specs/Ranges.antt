@@ -1,11 +1,12 @@
 -- Whether an entry holds an address (DWARF 4, 2.17).
-use Rattle.std.specs.Prelude.{ℕ, ℤ, pos, ◌+ℤ◌, Option, Some, None, option_map, option_and_then, unwrap_or, Bool, false, ◌&&◌, nat_le, int_lt}
+use Rattle.std.specs.Prelude.{ℕ, ℤ, pos, ◌+ℤ◌, Option, Some, None, option_map, option_and_then, unwrap_or, Bool, false}
 use Rattle.dwarf_info.specs.declared.entry.AttrValue.{AttrValue}
 use Rattle.dwarf_info.specs.declared.entry.AttrValue.TheVariants.{Address}
 use Rattle.dwarf_info.specs.declared.entry.Unit.{Unit as UnitTree}
 use Rattle.dwarf_info.specs.declared.entry.Entry.{Entry}
 use Rattle.dwarf_info.specs.Attributes.{attribute, valued, as_address, as_number, as_offset, low_pc, high_pc, ranges}
 use Rattle.dwarf_info.specs.Sections.{SectionBytes5}
+pub use Rattle.dwarf_loc.specs.Lists.{is_between}
 use Rattle.dwarf_scopes.specs.Lists.{range_in}
 use Rattle.dwarf_entries.specs.Standing.{Standing}
 
@@ -20,9 +21,6 @@ bounds_from e low = option_map (λ high. (low, high)) (option_and_then (high_fro
 -- low_pc and high_pc, where the entry has both
 abbrev pub bounds_of : Entry → Option (ℕ × ℤ)
 bounds_of e = option_and_then (bounds_from e) (valued as_address low_pc e.attributes)
-
-abbrev pub is_between : ℕ × ℤ → ℕ → Bool
-is_between bounds address = nat_le bounds.0 address && int_lt (pos address) bounds.1
 
 -- A list that can't be read holds no address.
 abbrev pub in_list : SectionBytes5 → UnitTree → ℕ → Option ℕ → Bool
