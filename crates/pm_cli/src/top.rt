@@ -1,6 +1,6 @@
 //! The top call.
 
-ghost use Rattle.std.specs.Prelude.{◌≡◌, ◌≤◌, ◌⊎◌, List, ℕ, map, Some, IfSome, is_some};
+ghost use Rattle.std.specs.Prelude.{◌≡◌, ◌≢◌, ◌≤◌, ◌⊎◌, List, ℕ, map, Some, IfSome, is_some};
 ghost use Rattle.std.specs.String.{string_bytes};
 ghost use Rattle.causes.specs.Counts.{Rose};
 ghost use Rattle.host_set.specs.Sets.{AreDistinct, names};
@@ -28,6 +28,8 @@ fn deliver<O: Sink>(out: &mut O, outcome: &Outcome) -> Status
         → Takes result (O.taken out.old) (O.taken out.new) outcome.now }
     ensures front { IfSome (O.taken out.old) (λ before.
         HasTakenFront before (O.taken out.new) outcome.now.text) }
+    ensures wanting { result ≡ Status.NoMemory → outcome.now.status ≢ Status.NoMemory
+        → Rose (O.wants out.old) (O.wants out.new) }
     ensures later { O.faults out.old ≤ O.faults out.new }
 {
     match out.put(outcome.text.as_bytes()) {
@@ -117,6 +119,11 @@ pub fn post_mortem<F: Files, O: Sink, D: Devices>(
         × WordsStop (file_failed file) (map string_bytes words.now)
         (D.shown devices.old) (D.shown devices.new) (F.told files.old) (F.told files.new)
         × HasTakenFront before (O.taken out.new) (file_fault file).text)))) }
+
+    // Where the output itself did not answer that memory is wanting, it has taken nothing if memory
+    // runs out.
+    ensures wanting { result ≡ Status.NoMemory → (Rose (O.wants out.old) (O.wants out.new) → ⊥)
+        → O.taken out.new ≡ O.taken out.old }
 
     // The devices keep distinct names.
     ensures distinct { AreDistinct (names (D.shown devices.new)) }

@@ -28,10 +28,11 @@ pub record MemoryFiles : Type 0 where
 abbrev pub contents : MemoryFiles → Contents
 contents m = held m.files
 
--- the bytes taken, and the plan of failures
+-- the bytes taken, the plan of failures, and how often memory was wanting
 pub record MemorySink : Type 0 where
   pub bytes : List ℕ
   pub plan : Plan
+  pub wants : ℕ
 
 -- ---- which calls fail
 

@@ -1,4 +1,4 @@
-use Rattle.std.proofs.Common.{map, inl}
+use Rattle.std.proofs.Common.{map, refl, inl}
 use Rattle.std.specs.String.{string_bytes}
 use Rattle.causes.specs.Counts.{Rose}
 use Rattle.commands.specs.Told.{Takes}
@@ -49,3 +49,9 @@ returns-in-Err-clause-named g c = λ so rose. absurd (no_fault so)
 
 pub returns-in-Err-clause-front : goal.returns-in-Err-clause-front
 returns-in-Err-clause-front g c = untaken (g.O.Sink.taken c.args.out.now) _
+
+pub returns-in-Ok-clause-wanting : goal.returns-in-Ok-clause-wanting
+returns-in-Ok-clause-wanting g c = λ want none. absurd (none (c.deliver.ensures.wanting want c.in-Ok.ensures.memory))
+
+pub returns-in-Err-clause-wanting : goal.returns-in-Err-clause-wanting
+returns-in-Err-clause-wanting g c = λ want none. refl
