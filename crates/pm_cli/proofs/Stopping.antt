@@ -11,6 +11,7 @@ use Rattle.commands.specs.declared.status.Status.{Status}
 use Rattle.commands.specs.declared.status.Status.TheVariants as status
 use Rattle.run_words.specs.declared.words.RunWords.{RunWords}
 use Rattle.run_session.specs.Stop.{Stop, no_memory, file_failed, IsFileFault, OnStop}
+use Rattle.run_session.specs.Created.{CreatesOnly, IsRunName}
 use Rattle.run_command.specs.Stops.{NothingDone, RunStops}
 use Rattle.debug_command.specs.declared.words.DebugWords.{DebugWords}
 use Rattle.debug_command.specs.Answer.{IsReadBy}
@@ -28,6 +29,7 @@ use Rattle.pm_cli.specs.Words.{command}
 use Rattle.pm_cli.specs.declared.words.Command.{Command}
 use Rattle.pm_cli.specs.declared.words.Command.TheVariants.{Check, Run, Instrument, Show, Debug, Selftest, Replay, Cover}
 use Rattle.run_session.proofs.Stops.{map_stop}
+use Rattle.run_session.proofs.Created.{creates_none}
 
 -- ---- commands that run nothing
 
@@ -125,7 +127,7 @@ quiet_all c devices told told' created created' same names = of c
   where
     of : (c : Option Command) → Quiet c devices devices told told' created created'
     of (Some (Check m)) = (refl, same, names)
-    of (Some (Run w)) = tt
+    of (Some (Run w)) = creates_none (IsRunName w) created created' names
     of (Some (Instrument m out)) = record { devices = refl; files = all_kept out told told' same; names = inl names }
     of (Some (Show dump)) = (refl, same, names)
     of (Some (Debug w)) = (refl, same, names)
@@ -135,8 +137,8 @@ quiet_all c devices told told' created created' same names = of c
     of None = (refl, same, names)
 
 module _ (c : Option Command) (before after : List DeviceState) (told told' : Option Contents) (created created' : List (List ℕ)) where
-  pub quiet_run : (w : RunWords) → c ≡ Some (Run w) → Quiet c before after told told' created created'
-  quiet_run w same = subst (λ k. Quiet k before after told told' created created') (sym same) tt
+  pub quiet_run : (w : RunWords) → c ≡ Some (Run w) → CreatesOnly (IsRunName w) created created' → Quiet c before after told told' created created'
+  quiet_run w asked names = subst (λ k. Quiet k before after told told' created created') (sym asked) names
 
   pub quiet_cover : (w : CoverWords) → c ≡ Some (Cover w) → told' ≡ told → created' ≡ created → Quiet c before after told told' created created'
   quiet_cover w asked same names = subst (λ k. Quiet k before after told told' created created') (sym asked) (same, names)

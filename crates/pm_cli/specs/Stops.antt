@@ -5,6 +5,7 @@ use Rattle.pm_outside.specs.Created.{with_name}
 use Rattle.pm_outside.specs.Written.{OnTold}
 use Rattle.host_set.specs.Sets.{DeviceState}
 use Rattle.run_session.specs.Stop.{Stop}
+use Rattle.run_session.specs.Created.{CreatesOnly, IsRunName}
 use Rattle.run_command.specs.Stops.{NothingDone, RunStops}
 use Rattle.debug_command.specs.Answer.{IsReadBy}
 use Rattle.replay_command.specs.ReplayAnswer.{IsReadBy as IsReplayed}
@@ -28,10 +29,10 @@ pub record IsQuietButBoth (before after : List DeviceState) (old new : Option Co
   pub files : OnTold (SameButBoth module_file rewritten_file) old new
   pub names : CreatedBoth module_file rewritten_file created created'
 
--- However it ends, `run` calls devices and writes dumps, `cover` calls devices alone, `instrument` and `selftest` write their files alone, and
--- every other command, and wrong words, leave all as it was.
+-- However it ends, `run` creates no file but those of its dumps and its record, `cover` calls devices alone, `instrument` and `selftest` write
+-- their files alone, and every other command, and wrong words, leave all as it was.
 abbrev pub Quiet : Option Command → (before after : List DeviceState) → (old new : Option Contents) → (created created' : List (List ℕ)) → Type 0
-Quiet (Some (Run w)) before after old new created created' = Unit {0}
+Quiet (Some (Run w)) before after old new created created' = CreatesOnly (IsRunName w) created created'
 Quiet (Some (Cover w)) before after old new created created' = (new ≡ old) × (created' ≡ created)
 Quiet (Some (Instrument m out)) before after old new created created' = IsQuietBut out before after old new created created'
 Quiet (Some (Selftest n)) before after old new created created' = IsQuietButBoth before after old new created created'

@@ -89,7 +89,8 @@ pub fn post_mortem<F: Files, O: Sink, D: Devices>(
 
     // However it ends, commands other than `run` and `cover`, and wrong words, call no device;
     // `instrument` leaves all files as they are but the one that it writes, `selftest` all but the
-    // two that it writes, and the others but `run` leave all.
+    // two that it writes, and the others but `run` leave all. `run` creates no file but those of
+    // its dumps, by their numbers at most one for each invocation, and that of its record.
     ensures quiet { Quiet (command (map string_bytes words.now)) (D.shown devices.old)
         (D.shown devices.new)
         (F.told files.old) (F.told files.new) (F.created files.old) (F.created files.new) }

@@ -5,6 +5,7 @@ ghost use Rattle.causes.specs.Counts.{Rose};
 ghost use Rattle.host_set.specs.Sets.{names, AreDistinct};
 ghost use Rattle.commands.specs.Told.{UnlessFault, OnContents};
 ghost use Rattle.run_session.specs.Stop.{OnStop};
+ghost use Rattle.run_session.specs.Created.{CreatesOnly, IsRunName};
 ghost use Rattle.run_command.specs.inner.Steps.{IsAnswered};
 ghost use Rattle.run_command.specs.Stops.{NothingDone, ScriptStops, BytesStops, SourceStops, RunStops};
 ghost use Rattle.run_command.specs.RunAnswer.{IsReadBy, RunAnswer, AnsweredOn};
@@ -47,6 +48,8 @@ fn run_scripted<F: Files, D: Devices>(
         → Rose (F.faults files.old) (F.faults files.new)) }
     ensures memory { IfOk result (λ o. o.status ≢ Status.NoMemory) }
     ensures distinct { AreDistinct (names (D.shown devices.new)) }
+    ensures names { CreatesOnly (IsRunName words.now) (F.created files.old)
+        (F.created files.new) }
     ensures telling { is_some (F.told files.new) ≡ is_some (F.told files.old) }
     ensures later { F.faults files.old ≤ F.faults files.new }
 {
@@ -82,6 +85,8 @@ fn run_bytes<F: Files, D: Devices>(
         → Rose (F.faults files.old) (F.faults files.new)) }
     ensures memory { IfOk result (λ o. o.status ≢ Status.NoMemory) }
     ensures distinct { AreDistinct (names (D.shown devices.new)) }
+    ensures names { CreatesOnly (IsRunName words.now) (F.created files.old)
+        (F.created files.new) }
     ensures telling { is_some (F.told files.new) ≡ is_some (F.told files.old) }
     ensures later { F.faults files.old ≤ F.faults files.new }
 {
@@ -117,6 +122,8 @@ fn run_source<F: Files, D: Devices>(
         → Rose (F.faults files.old) (F.faults files.new)) }
     ensures memory { IfOk result (λ o. o.status ≢ Status.NoMemory) }
     ensures distinct { AreDistinct (names (D.shown devices.new)) }
+    ensures names { CreatesOnly (IsRunName words.now) (F.created files.old)
+        (F.created files.new) }
     ensures telling { is_some (F.told files.new) ≡ is_some (F.told files.old) }
     ensures later { F.faults files.old ≤ F.faults files.new }
 {
@@ -152,6 +159,8 @@ pub fn run_file<F: Files, D: Devices>(
         → Rose (F.faults files.old) (F.faults files.new)) }
     ensures memory { IfOk result (λ o. o.status ≢ Status.NoMemory) }
     ensures distinct { AreDistinct (names (D.shown devices.new)) }
+    ensures names { CreatesOnly (IsRunName words.now) (F.created files.old)
+        (F.created files.new) }
     ensures telling { is_some (F.told files.new) ≡ is_some (F.told files.old) }
     ensures later { F.faults files.old ≤ F.faults files.new }
 {

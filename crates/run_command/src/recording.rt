@@ -4,6 +4,8 @@ ghost use Rattle.std.specs.Prelude.{◌≡◌, ◌≢◌, ◌≤◌, ◌-◌, Al
 ghost use Rattle.causes.specs.Counts.{Rose};
 ghost use Rattle.host_replies.specs.Record.{IsReplyTyped, record_text};
 ghost use Rattle.run_session.specs.calls.Sessions.{ends_badly};
+ghost use Rattle.run_session.specs.Created.{CreatesOnly};
+ghost use Rattle.run_session.specs.calls.Creating.{MayCreate};
 ghost use Rattle.run_command.specs.inner.Recording.{Behind, Records, fitting, misfits_in};
 
 use causes::NoMemory;
@@ -67,6 +69,7 @@ fn write_record<F: Files, D: Devices>(
         (F.told files.old) (F.told files.new) }
     ensures memory { outcome.status ≢ Status.NoMemory
         → IfOk result (λ o. o.status ≢ Status.NoMemory) }
+    ensures names { MayCreate file.now (F.created files.old) (F.created files.new) }
     ensures telling { is_some (F.told files.new) ≡ is_some (F.told files.old) }
     ensures later { F.faults files.old ≤ F.faults files.new }
 {
@@ -94,6 +97,8 @@ pub(crate) fn recorded<F: Files, D: Devices>(
         (F.told files.old) (F.told files.new) }
     ensures memory { IfOk outcome (λ o. o.status ≢ Status.NoMemory)
         → IfOk result (λ o. o.status ≢ Status.NoMemory) }
+    ensures names { CreatesOnly (λ name. log_to.now ≡ Some name) (F.created files.old)
+        (F.created files.new) }
     ensures telling { is_some (F.told files.new) ≡ is_some (F.told files.old) }
     ensures later { F.faults files.old ≤ F.faults files.new }
 {

@@ -7,6 +7,7 @@ ghost use Rattle.commands.specs.Told.{UnlessFault};
 ghost use Rattle.run_session.specs.Invocations.{invocation_of};
 ghost use Rattle.run_session.specs.calls.Collecting.{serving_of};
 ghost use Rattle.run_session.specs.Stop.{OnStop};
+ghost use Rattle.run_session.specs.Created.{CreatesOnly, IsRunName};
 ghost use Rattle.run_command.specs.Starting.{cause_text, segment_of};
 ghost use Rattle.run_command.specs.RunAnswer.{ModuleAnswer, IsReadBy};
 ghost use Rattle.run_command.specs.calls.Begun.{HasBegun};
@@ -134,6 +135,8 @@ pub(crate) fn run_valid<F: Files, D: Devices>(
         → Rose (F.faults files.old) (F.faults files.new)) }
     ensures memory { IfOk result (λ o. o.status ≢ Status.NoMemory) }
     ensures distinct { AreDistinct (names (D.shown devices.new)) }
+    ensures names { CreatesOnly (IsRunName words.now) (F.created files.old)
+        (F.created files.new) }
     ensures telling { is_some (F.told files.new) ≡ is_some (F.told files.old) }
     ensures later { F.faults files.old ≤ F.faults files.new }
 {

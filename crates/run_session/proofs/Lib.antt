@@ -11,5 +11,6 @@ mod Ones
 mod Nexts
 pub mod Whole
 pub mod Stops
+pub mod Created
 pub mod Deliveries
 pub mod Endings

@@ -1,5 +1,6 @@
 pub mod Telling
 pub mod RunText
+pub mod Created
 pub mod Given
 pub mod Invocations
 pub mod Ending

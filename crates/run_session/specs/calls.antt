@@ -4,3 +4,4 @@ pub mod Answers
 pub mod Collecting
 pub mod Progress
 pub mod Sessions
+pub mod Creating

@@ -8,6 +8,7 @@ ghost use Rattle.dump_write.specs.Canonical.{canonical_bytes};
 ghost use Rattle.pm_outside.specs.Written.{OnTold, HasFile, HasFront};
 ghost use Rattle.commands.specs.Texts.{file_fault};
 ghost use Rattle.run_session.specs.RunText.{dump_name};
+ghost use Rattle.run_session.specs.calls.Creating.{MayCreate};
 ghost use Rattle.run_session.specs.inner.Dumping.{IfWritten, IfRefused};
 
 use causes::NoMemory;
@@ -53,6 +54,7 @@ fn write_into<F: Files>(
     ensures refused { IfOk result
         (IfRefused (λ o. (o ≡ file_fault file.now)
         × Rose (F.faults files.old) (F.faults files.new))) }
+    ensures names { MayCreate file.now (F.created files.old) (F.created files.new) }
     ensures telling { is_some (F.told files.new) ≡ is_some (F.told files.old) }
     ensures later { F.faults files.old ≤ F.faults files.new }
 {
@@ -84,6 +86,8 @@ pub(crate) fn dump_at_trap<F: Files>(
     ensures refused { IfOk result
         (IfRefused (λ o. (o ≡ file_fault (dump_name base.now number))
         × Rose (F.faults files.old) (F.faults files.new))) }
+    ensures names { MayCreate (dump_name base.now number) (F.created files.old)
+        (F.created files.new) }
     ensures telling { is_some (F.told files.new) ≡ is_some (F.told files.old) }
     ensures later { F.faults files.old ≤ F.faults files.new }
 {

@@ -14,6 +14,8 @@ ghost use Rattle.commands.specs.Told.{UnlessFault};
 ghost use Rattle.run_session.specs.Delivery.{Delivery, IsDelivery};
 ghost use Rattle.run_session.specs.Telling.{tells};
 ghost use Rattle.run_session.specs.RunText.{dump_name};
+ghost use Rattle.run_session.specs.Created.{CreatesOnly};
+ghost use Rattle.run_session.specs.calls.Creating.{MayCreate, IsDumpName};
 ghost use Rattle.run_session.specs.Invocations.{invocation_of, depth_of};
 ghost use Rattle.run_session.specs.calls.Collecting.{serving_of, used_up_of, collecting_of, KeptBehind};
 ghost use Rattle.run_session.specs.inner.Turns.{UnlessRefused, IfGoesOn, IfEnds, IfTurnRefused};
@@ -122,6 +124,8 @@ pub(crate) fn run_one<F: Files, H: Counting>(
     ensures refused { IfOk result
         (IfTurnRefused (λ o. (o ≡ file_fault (dump_name words.now.dump lines.old.traps))
         × Rose (F.faults files.old) (F.faults files.new))) }
+    ensures names { MayCreate (dump_name words.now.dump lines.old.traps) (F.created files.old)
+        (F.created files.new) }
     ensures telling { is_some (F.told files.new) ≡ is_some (F.told files.old) }
     ensures later { F.faults files.old ≤ F.faults files.new }
 {
@@ -189,6 +193,8 @@ fn run_next<F: Files, H: Counting>(
     ensures refused { IfOk result.0
         (IfTurnRefused (λ o. (o ≡ file_fault (dump_name words.now.dump lines.old.traps))
         × Rose (F.faults files.old) (F.faults files.new))) }
+    ensures names { MayCreate (dump_name words.now.dump lines.old.traps) (F.created files.old)
+        (F.created files.new) }
     ensures telling { is_some (F.told files.new) ≡ is_some (F.told files.old) }
     ensures later { F.faults files.old ≤ F.faults files.new }
 {
@@ -257,6 +263,8 @@ pub fn run_all<F: Files, H: Counting>(
         (λ o. o.status ≡ Status.FileFault
         → IsDumpFault words.now.dump o × Rose (F.faults files.old) (F.faults files.new)) }
     ensures origin { H.origin result.1 ≡ H.origin hosts }
+    ensures names { CreatesOnly (IsDumpName words.now.dump (length words.now.invocations))
+        (F.created files.old) (F.created files.new) }
     ensures telling { is_some (F.told files.new) ≡ is_some (F.told files.old) }
     ensures later { F.faults files.old ≤ F.faults files.new }
 {

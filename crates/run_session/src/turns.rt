@@ -9,6 +9,7 @@ ghost use Rattle.commands.specs.Texts.{file_fault};
 ghost use Rattle.run_session.specs.Delivery.{Delivery, IsDelivery};
 ghost use Rattle.run_session.specs.Telling.{Telling, HasDump, tells};
 ghost use Rattle.run_session.specs.RunText.{dump_name};
+ghost use Rattle.run_session.specs.calls.Creating.{MayCreate};
 ghost use Rattle.run_session.specs.inner.Dumping.{IsTold, IfDump, AddsTold, LeavesDump, IfWritten, IfRefused};
 ghost use Rattle.run_session.specs.inner.Turns.{turn_of, UnlessRefused, IfGoesOn, IfEnds, IfTurnRefused, Added, LeavesPart, Dumps};
 
@@ -83,6 +84,8 @@ fn add_trap<F: Files>(
         (IfRefused (λ o. (o ≡ file_fault (dump_name words.now.dump lines.old.traps))
         × Rose (F.faults files.old) (F.faults files.new))) }
     ensures one { lines.new.traps ≤ lines.old.traps + 1 }
+    ensures names { MayCreate (dump_name words.now.dump lines.old.traps) (F.created files.old)
+        (F.created files.new) }
     ensures telling { is_some (F.told files.new) ≡ is_some (F.told files.old) }
     ensures later { F.faults files.old ≤ F.faults files.new }
 {
@@ -121,6 +124,8 @@ fn add_told<F: Files>(
         (IfRefused (λ o. (o ≡ file_fault (dump_name words.now.dump lines.old.traps))
         × Rose (F.faults files.old) (F.faults files.new))) }
     ensures one { lines.new.traps ≤ lines.old.traps + 1 }
+    ensures names { MayCreate (dump_name words.now.dump lines.old.traps) (F.created files.old)
+        (F.created files.new) }
     ensures telling { is_some (F.told files.new) ≡ is_some (F.told files.old) }
     ensures later { F.faults files.old ≤ F.faults files.new }
 {
@@ -173,6 +178,8 @@ pub(crate) fn end_turn<F: Files>(
     ensures ready { IfOk result (IfGoesOn (instance.now.ready ≡ true)) }
     ensures ends { IfOk result (IfEnds (λ a. a ≡ answer)) }
     ensures one { lines.new.traps ≤ lines.old.traps + 1 }
+    ensures names { MayCreate (dump_name words.now.dump lines.old.traps) (F.created files.old)
+        (F.created files.new) }
     ensures telling { is_some (F.told files.new) ≡ is_some (F.told files.old) }
     ensures later { F.faults files.old ≤ F.faults files.new }
 {

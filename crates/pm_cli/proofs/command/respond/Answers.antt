@@ -81,7 +81,7 @@ pub returns-in-Err-NoMemory-clause-quiet : goal.returns-in-Err-NoMemory-clause-q
 returns-in-Err-NoMemory-clause-quiet g c = quiet_all (command (map string_bytes c.args.words.now)) (g.D.Devices.shown c.args.devices.now) (g.F.Files.told c.args.files.now) (g.F.Files.told c.args.files.now) (g.F.Files.created c.args.files.now) (g.F.Files.created c.args.files.now) refl refl
 
 pub returns-in-Ok-Run-clause-quiet : goal.returns-in-Ok-Run-clause-quiet
-returns-in-Ok-Run-clause-quiet g c = quiet_run (command (map string_bytes c.args.words.now)) (g.D.Devices.shown c.args.devices.now) (g.D.Devices.shown c.run_file.new.devices) (g.F.Files.told c.args.files.now) (g.F.Files.told c.run_file.new.files) (g.F.Files.created c.args.files.now) (g.F.Files.created c.run_file.new.files) _ (c.in-Ok-Run.ensures.ok ∙ ap Some c.in-Ok-Run.field-0-is)
+returns-in-Ok-Run-clause-quiet g c = quiet_run (command (map string_bytes c.args.words.now)) (g.D.Devices.shown c.args.devices.now) (g.D.Devices.shown c.run_file.new.devices) (g.F.Files.told c.args.files.now) (g.F.Files.told c.run_file.new.files) (g.F.Files.created c.args.files.now) (g.F.Files.created c.run_file.new.files) _ (c.in-Ok-Run.ensures.ok ∙ ap Some c.in-Ok-Run.field-0-is) c.run_file.ensures.names
 
 pub returns-in-Ok-Instrument-clause-quiet : goal.returns-in-Ok-Instrument-clause-quiet
 returns-in-Ok-Instrument-clause-quiet g c =

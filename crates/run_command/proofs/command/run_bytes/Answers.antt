@@ -1,4 +1,4 @@
-use Rattle.std.proofs.Common.{refl}
+use Rattle.std.proofs.Common.{refl, inl}
 use Rattle.run_command.specs.calls.Scripts.{script_result}
 use Rattle.run_command.proofs.Stopping.{bytes_stop}
 use Rattle.run_command.proofs.Commands.{with_module, module_refused}
@@ -18,3 +18,9 @@ pub returns-in-Valid-clause-stops : goal.returns-in-Valid-clause-stops
 returns-in-Valid-clause-stops g c =
     bytes_stop (g.D.Devices.shown c.args.devices.now) (g.D.Devices.shown c.run_scripted.new.devices) c.args.words.now c.run_scripted.result (script_result c.args.script) c.args.bytes.now c.in_ok-loaded.loaded c.in-Valid.source (g.F.Files.told c.args.files.now) (g.F.Files.told c.run_scripted.new.files)
     c.in-Valid.is c.in_ok-loaded.ensures.told c.run_scripted.ensures.stops
+
+pub returns-in_err-loaded-clause-names : goal.returns-in_err-loaded-clause-names
+returns-in_err-loaded-clause-names g c = λ name has. inl has
+
+pub returns-in-TurnedDown-clause-names : goal.returns-in-TurnedDown-clause-names
+returns-in-TurnedDown-clause-names g c = λ name has. inl has

@@ -1,6 +1,8 @@
 use Rattle.run_command.specs.Stops.{FileStops}
 use Rattle.run_command.proofs.Stopping.{read_failed, file_stops}
 use Rattle.run_command.proofs.Commands.{with_source, source_refused, source_fault}
+use Rattle.run_session.specs.Created.{IsRunName}
+use Rattle.run_session.proofs.Created.{creates_none, creates_then}
 use Rattle.run_command.proofs.command.run_file.Goals as goal
 
 pub returns-in-Whole-clause-told : goal.returns-in-Whole-clause-told
@@ -25,3 +27,12 @@ returns-in-Refused-clause-stops g c =
     read_failed (g.D.Devices.shown c.args.devices.now) c.args.words.now (λ stop old new. FileStops stop c.args.words.now (g.D.Devices.shown c.args.devices.now) (g.D.Devices.shown c.args.devices.now) old new)
     (g.F.Files.told c.args.files.now) (g.F.Files.told c.read_input.new.files) c.in_ok-input.ensures.same (g.F.Files.faults c.args.files.now) (g.F.Files.faults c.read_input.new.files) c.in-Refused.refusal
     (source_fault c.args.words.now (g.F.Files.faults c.args.files.now) (g.F.Files.faults c.read_input.new.files) c.as_str.result.now c.in_ok-input.input c.in-Refused.refusal c.in-Refused.is c.as_str.ensures.value c.in_ok-input.ensures.fault)
+
+pub returns-in_err-input-clause-names : goal.returns-in_err-input-clause-names
+returns-in_err-input-clause-names g c = creates_none (IsRunName c.args.words.now) (g.F.Files.created c.args.files.now) (g.F.Files.created c.read_input.new.files) c.read_input.ensures.names
+
+pub returns-in-Refused-clause-names : goal.returns-in-Refused-clause-names
+returns-in-Refused-clause-names g c = creates_none (IsRunName c.args.words.now) (g.F.Files.created c.args.files.now) (g.F.Files.created c.read_input.new.files) c.in_ok-input.ensures.names
+
+pub returns-in-Whole-clause-names : goal.returns-in-Whole-clause-names
+returns-in-Whole-clause-names g c = creates_then (IsRunName c.args.words.now) (g.F.Files.created c.args.files.now) (g.F.Files.created c.read_input.new.files) (g.F.Files.created c.run_source.new.files) (creates_none (IsRunName c.args.words.now) (g.F.Files.created c.args.files.now) (g.F.Files.created c.read_input.new.files) c.in_ok-input.ensures.names) c.run_source.ensures.names

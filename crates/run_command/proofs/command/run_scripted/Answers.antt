@@ -1,4 +1,4 @@
-use Rattle.std.proofs.Common.{refl, ap}
+use Rattle.std.proofs.Common.{refl, ap, inl}
 use Rattle.run_command.specs.calls.Scripts.{script_result}
 use Rattle.run_command.specs.Stops.{ScriptStops}
 use Rattle.run_command.proofs.Stopping.{no_read_fault, not_reached, scripted_stops}
@@ -23,3 +23,6 @@ pub returns-in-Bad-clause-stops : goal.returns-in-Bad-clause-stops
 returns-in-Bad-clause-stops g c =
     not_reached (g.D.Devices.shown c.args.devices.now) c.args.words.now (λ stop old new. ScriptStops stop c.args.words.now c.args.source.now (script_result c.args.script) (g.D.Devices.shown c.args.devices.now) (g.D.Devices.shown c.args.devices.now) old new)
     (g.F.Files.told c.args.files.now) (g.F.Files.told c.args.files.now) refl c.bad_replies.result (no_read_fault c.bad_replies.result c.in-Bad.line c.bad_replies.ensures)
+
+pub returns-in-Bad-clause-names : goal.returns-in-Bad-clause-names
+returns-in-Bad-clause-names g c = λ name has. inl has

@@ -3,6 +3,8 @@ use Rattle.run_command.specs.Stops.{SourceStops}
 use Rattle.run_command.specs.calls.Scripts.{IfAskedRefused, IsRepliesFault}
 use Rattle.run_command.proofs.Stopping.{read_failed, source_stops}
 use Rattle.run_command.proofs.Commands.{with_replies, replies_refused, replies_fault}
+use Rattle.run_session.specs.Created.{IsRunName}
+use Rattle.run_session.proofs.Created.{creates_none, creates_then}
 use Rattle.run_command.proofs.command.run_source.Goals as goal
 
 pub returns-in-Read-clause-told : goal.returns-in-Read-clause-told
@@ -26,3 +28,12 @@ returns-in-Refused-clause-stops g c =
     (g.F.Files.told c.args.files.now) (g.F.Files.told c.asked_script.new.files) c.in_ok-asked.ensures.same (g.F.Files.faults c.args.files.now) (g.F.Files.faults c.asked_script.new.files) c.in-Refused.refusal
     (replies_fault c.args.words.now (g.F.Files.faults c.args.files.now) (g.F.Files.faults c.asked_script.new.files) c.in-Refused.refusal
     (subst (λ a. IfAskedRefused (IsRepliesFault c.args.words.now.replies (g.F.Files.faults c.args.files.now) (g.F.Files.faults c.asked_script.new.files)) a) c.in-Refused.is c.in_ok-asked.ensures.fault))
+
+pub returns-in_err-asked-clause-names : goal.returns-in_err-asked-clause-names
+returns-in_err-asked-clause-names g c = creates_none (IsRunName c.args.words.now) (g.F.Files.created c.args.files.now) (g.F.Files.created c.asked_script.new.files) c.asked_script.ensures.names
+
+pub returns-in-Refused-clause-names : goal.returns-in-Refused-clause-names
+returns-in-Refused-clause-names g c = creates_none (IsRunName c.args.words.now) (g.F.Files.created c.args.files.now) (g.F.Files.created c.asked_script.new.files) c.in_ok-asked.ensures.names
+
+pub returns-in-Read-clause-names : goal.returns-in-Read-clause-names
+returns-in-Read-clause-names g c = creates_then (IsRunName c.args.words.now) (g.F.Files.created c.args.files.now) (g.F.Files.created c.asked_script.new.files) (g.F.Files.created c.run_bytes.new.files) (creates_none (IsRunName c.args.words.now) (g.F.Files.created c.args.files.now) (g.F.Files.created c.asked_script.new.files) c.in_ok-asked.ensures.names) c.run_bytes.ensures.names

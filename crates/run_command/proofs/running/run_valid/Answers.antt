@@ -1,4 +1,4 @@
-use Rattle.std.proofs.Common.{List, map, refl, ap, ◌∙◌, arith, subst, Ok}
+use Rattle.std.proofs.Common.{List, map, refl, ap, ◌∙◌, arith, subst, inl, Ok}
 use Rattle.causes.specs.Counts.{Rose}
 use Rattle.run_session.specs.calls.Sessions.{ends_badly}
 use Rattle.wasm_syntax.specs.declared.module.ModuleParts.{ModuleParts as Module}
@@ -17,6 +17,7 @@ use Rattle.run_command.specs.inner.Recording.{fitting}
 use Rattle.run_command.proofs.Valid.{ready_told, refused_back, fault_since}
 use Rattle.run_command.proofs.Fitting.{recorded_fault}
 use Rattle.run_command.proofs.Stopping.{ready_stops}
+use Rattle.run_session.proofs.Created.{creates_run}
 use Rattle.run_command.proofs.running.run_valid.Goals as goal
 
 abbrev deliver : List CollectorCall → Delivery
@@ -72,3 +73,12 @@ returns-in-Refused-clause-told g c =
     (c.as_slice-imports.ensures ∙ ap (λ (m : Module). m.imports) (c.parts.ensures.value ∙ c.module.ensures.value)) (ap (λ d. g.D.Devices.shown d) c.replace-set.ensures.value))
     c.into_devices-in-Refused.ensures.devices
     (of_begun c.begin_with-begun.result.0 c.in-Ok.begun (Refused c.in-Refused.refusal) (HasBegun (serving_of c.args.words.now.collect (λ i type. serves c.begin_with-begun.result.1 i)) c.args.source.now (map invocation_of c.args.words.now.invocations)) c.in-Ok.is c.in-Refused.is c.begin_with-begun.ensures.begun) refl
+
+pub returns-in_default-clause-names : goal.returns-in_default-clause-names
+returns-in_default-clause-names g c = λ name has. inl has
+
+pub returns-in-Refused-clause-names : goal.returns-in-Refused-clause-names
+returns-in-Refused-clause-names g c = λ name has. inl has
+
+pub returns-in-Ready-clause-names : goal.returns-in-Ready-clause-names
+returns-in-Ready-clause-names g c = creates_run c.args.words.now (g.F.Files.created c.args.files.now) (g.F.Files.created c.run_all-ran.new.files) (g.F.Files.created c.recorded-outcome.new.files) c.run_all-ran.ensures.names c.recorded-outcome.ensures.names

@@ -1,4 +1,4 @@
-use Rattle.std.proofs.Common.{◌-◌, ◌+◌, map, length, refl, sym, ap, ◌∙◌, subst, arith, take, drop}
+use Rattle.std.proofs.Common.{◌-◌, ◌+◌, map, length, refl, sym, ap, ◌∙◌, subst, arith, inl, take, drop, List}
 use Rattle.std.proofs.Math.Nat.{le_refl}
 use Rattle.commands.specs.declared.outcome.Outcome.{Outcome}
 use Rattle.wasm_syntax.specs.Run.{engine}
@@ -12,6 +12,10 @@ use Rattle.run_session.specs.calls.Sessions.{OnTurnStop}
 use Rattle.run_session.proofs.Tellings.{behaves}
 use Rattle.run_session.proofs.Ends.{done_no_fault}
 use Rattle.run_session.proofs.Whole.{begins, entry_now, next_done, one_due, due_left, of_ok, of_want, of_goes, of_refused, come_next, ends_ran, torn_ran, ends_stopped, torn_stopped, stops_here, stopped_here, stopped_refused, all_ran_so, of_end}
+use Rattle.run_words.specs.declared.invocation.Invocation.{Invocation as RunInvocation}
+use Rattle.run_session.specs.Created.{CreatesOnly}
+use Rattle.run_session.specs.calls.Creating.{IsDumpName}
+use Rattle.run_session.proofs.Created.{creates_dump}
 use Rattle.run_session.proofs.session.run_all.Goals as goal
 use Rattle.commands.proofs.ReadFiles.{rose_since}
 
@@ -23,6 +27,7 @@ loop-index-init g c = record {
   traps = le_refl _;
   telling = refl;
   later = le_refl _;
+  names = λ name has. inl has;
   come = λ deliver delivers p is_of.
       begins (tells c.args.words.now.collect deliver) (engine p c.args.words.now.collect (depth_of c.args.words.now)) c.args.words.now.dump c.args.words.now.name c.args.instance.now (map invocation_of (take 0 c.as_slice-invocations.result.now)) c.args.words.now.fuel
       _ (g.H.HostSide.calls c.args.hosts).served (g.F.Files.told c.args.files.now) refl c.requires.steps c.new.ensures refl;
@@ -46,6 +51,7 @@ loop-index-preserved g c =
       traps = omega (arith, c.run_next-turn.ensures.one, h.traps);
       telling = c.run_next-turn.ensures.telling ∙ h.telling;
       later = omega (arith, c.run_next-turn.ensures.later, h.later);
+      names = creates_dump c.args.words.now.dump c.loop-index.lines.traps c.loop-index.index (length c.as_slice-invocations.result.now) (g.F.Files.created c.args.files.now) (g.F.Files.created c.loop-index.files) (g.F.Files.created c.run_next-turn.new.files) c.loop-index.invariant.traps c.loop-index-test.true c.loop-index.invariant.names c.run_next-turn.ensures.names;
       come = λ deliver delivers p is_of.
           come_next (tells c.args.words.now.collect deliver) p (engine p c.args.words.now.collect (depth_of c.args.words.now)) c.args.words.now.dump c.args.words.now.name (used_up_of c.args.words.now.collect (g.H.HostSide.used_up c.run_next-turn.result.1)) c.args.instance.now c.loop-index.instance c.run_next-turn.new.instance
           (map invocation_of (take k xs)) (map invocation_of (drop (k + 1) xs)) (invocation_of c.index-invocations-index.result) c.args.words.now.fuel c.loop-index.lines c.run_next-turn.new.lines
@@ -153,3 +159,28 @@ returns-clause-ran g c = λ deliver delivers p is_of.
     all_ran_so (tells c.args.words.now.collect deliver) (behaves c.args.words.now.collect deliver) p (engine p c.args.words.now.collect (depth_of c.args.words.now)) c.args.words.now.dump c.args.words.now.name (used_up_of c.args.words.now.collect (g.H.HostSide.used_up c.loop-index.hosts)) (g.H.HostSide.fault_count c.args.hosts) (g.H.HostSide.fault_count c.loop-index.hosts) c.args.instance.now c.loop-index.instance
     c.args.words.now.invocations c.as_slice-invocations.result.now c.loop-index.index c.args.words.now.fuel c.loop-index.lines (g.H.HostSide.calls c.args.hosts).served (g.H.HostSide.calls c.loop-index.hosts).served (g.F.Files.told c.args.files.now) (g.F.Files.told c.loop-index.files) c.all_made.result
     (omega arith) c.as_slice-invocations.ensures c.requires.some c.all_made.ensures (c.loop-index.invariant.come deliver delivers p is_of)
+
+pub returns-in_default-clause-names : goal.returns-in_default-clause-names
+returns-in_default-clause-names g c =
+    subst (λ (l : List RunInvocation). CreatesOnly (IsDumpName c.args.words.now.dump (length l)) (g.F.Files.created c.args.files.now) (g.F.Files.created c.run_next-turn.new.files)) c.as_slice-invocations.ensures
+    (creates_dump c.args.words.now.dump c.loop-index.lines.traps c.loop-index.index (length c.as_slice-invocations.result.now) (g.F.Files.created c.args.files.now) (g.F.Files.created c.loop-index.files) (g.F.Files.created c.run_next-turn.new.files) c.loop-index.invariant.traps c.loop-index-test.true c.loop-index.invariant.names c.run_next-turn.ensures.names)
+
+pub returns-in-Ends-clause-names : goal.returns-in-Ends-clause-names
+returns-in-Ends-clause-names g c =
+    subst (λ (l : List RunInvocation). CreatesOnly (IsDumpName c.args.words.now.dump (length l)) (g.F.Files.created c.args.files.now) (g.F.Files.created c.run_next-turn.new.files)) c.as_slice-invocations.ensures
+    (creates_dump c.args.words.now.dump c.loop-index.lines.traps c.loop-index.index (length c.as_slice-invocations.result.now) (g.F.Files.created c.args.files.now) (g.F.Files.created c.loop-index.files) (g.F.Files.created c.run_next-turn.new.files) c.loop-index.invariant.traps c.loop-index-test.true c.loop-index.invariant.names c.run_next-turn.ensures.names)
+
+pub returns-in-Torn-clause-names : goal.returns-in-Torn-clause-names
+returns-in-Torn-clause-names g c =
+    subst (λ (l : List RunInvocation). CreatesOnly (IsDumpName c.args.words.now.dump (length l)) (g.F.Files.created c.args.files.now) (g.F.Files.created c.run_next-turn.new.files)) c.as_slice-invocations.ensures
+    (creates_dump c.args.words.now.dump c.loop-index.lines.traps c.loop-index.index (length c.as_slice-invocations.result.now) (g.F.Files.created c.args.files.now) (g.F.Files.created c.loop-index.files) (g.F.Files.created c.run_next-turn.new.files) c.loop-index.invariant.traps c.loop-index-test.true c.loop-index.invariant.names c.run_next-turn.ensures.names)
+
+pub returns-in-Refused-clause-names : goal.returns-in-Refused-clause-names
+returns-in-Refused-clause-names g c =
+    subst (λ (l : List RunInvocation). CreatesOnly (IsDumpName c.args.words.now.dump (length l)) (g.F.Files.created c.args.files.now) (g.F.Files.created c.run_next-turn.new.files)) c.as_slice-invocations.ensures
+    (creates_dump c.args.words.now.dump c.loop-index.lines.traps c.loop-index.index (length c.as_slice-invocations.result.now) (g.F.Files.created c.args.files.now) (g.F.Files.created c.loop-index.files) (g.F.Files.created c.run_next-turn.new.files) c.loop-index.invariant.traps c.loop-index-test.true c.loop-index.invariant.names c.run_next-turn.ensures.names)
+
+pub returns-clause-names : goal.returns-clause-names
+returns-clause-names g c =
+    subst (λ (l : List RunInvocation). CreatesOnly (IsDumpName c.args.words.now.dump (length l)) (g.F.Files.created c.args.files.now) (g.F.Files.created c.loop-index.files)) c.as_slice-invocations.ensures
+    (c.loop-index.invariant.names)

@@ -1,10 +1,12 @@
-use Rattle.std.proofs.Common.{◌≡◌, ◌≤◌, List, map, take, true, is_some}
+use Rattle.std.proofs.Common.{◌≡◌, ◌≤◌, List, length, map, take, true, is_some}
 use Rattle.wasm_syntax.specs.declared.host.CollectorCall.{CollectorCall}
 use Rattle.wasm_syntax.specs.Module.{Program}
 use Rattle.wasm_syntax.specs.Run.{engine}
 use Rattle.wasm_machine.specs.calls.Instances.{IsOf}
 use Rattle.run_session.specs.Delivery.{Delivery, IsDelivery}
 use Rattle.run_session.specs.Telling.{tells}
+use Rattle.run_session.specs.Created.{CreatesOnly}
+use Rattle.run_session.specs.calls.Creating.{IsDumpName}
 use Rattle.run_session.specs.Invocations.{invocation_of, depth_of}
 use Rattle.run_session.specs.calls.Collecting.{KeptBehind}
 use Rattle.run_session.specs.calls.Sessions.{SoFar}
@@ -18,5 +20,6 @@ invariant-loop-index g l = record {
   traps : l.lines.traps ≤ l.index;
   telling : is_some (g.F.Files.told l.files) ≡ is_some (g.F.Files.told l.fn.files);
   later : g.F.Files.faults l.fn.files ≤ g.F.Files.faults l.files;
+  names : CreatesOnly (IsDumpName l.fn.words.dump (length l.invocations)) (g.F.Files.created l.fn.files) (g.F.Files.created l.files);
   come : ((deliver : List CollectorCall → Delivery) → IsDelivery deliver → (p : Program) → IsOf l.fn.instance p → SoFar (tells l.fn.words.collect deliver) (engine p l.fn.words.collect (depth_of l.fn.words)) l.fn.words.dump l.fn.words.name l.fn.instance l.instance (map invocation_of (take l.index l.invocations)) l.fn.words.fuel l.lines (g.H.HostSide.calls l.fn.hosts).served (g.H.HostSide.calls l.hosts).served (g.F.Files.told l.fn.files) (g.F.Files.told l.files));
 }
