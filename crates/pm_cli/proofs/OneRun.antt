@@ -1,6 +1,7 @@
 -- `run` has at most one answer, and one list of written files, where the same replies were given.
 use Rattle.std.proofs.Common.{◌≡◌, List, ◌++◌, map, length, Option, sym, ap, subst, ◌∙◌}
 use Rattle.std.proofs.Math.Path.{fun_ext}
+use Rattle.std.proofs.lemmas.Option.{same_Some}
 use Rattle.pm_outside.specs.Contents.{Contents}
 use Rattle.wasm_syntax.specs.declared.quantity.Quantity.TheVariants.{ModuleBytes}
 use Rattle.wasm_syntax.specs.declared.host.Reply.{Reply}
@@ -46,8 +47,8 @@ module _ (before after : List DeviceState) (script : Option (List Reply)) (w : R
 
   one_run : a ≡ b
   one_run =
-      r.answer ∙ ap (λ k. all_ran (tells w.collect r.deliver) (names before) m.imports (length w.invocations) k) one_list
-      ∙ ap (λ d. all_ran (tells w.collect d) (names before) m.imports (length w.invocations) s.rans) handed ∙ sym s.answer
+      same_Some a b (sym r.answer ∙ ap (λ k. all_ran (tells w.collect r.deliver) (names before) m.imports (length w.invocations) k) one_list
+      ∙ ap (λ d. all_ran (tells w.collect d) (names before) m.imports (length w.invocations) s.rans) handed ∙ s.answer)
 
   same_writes : x ≡ y
   same_writes =

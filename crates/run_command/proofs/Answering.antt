@@ -1,6 +1,6 @@
 -- What was run is the answer.
 use Rattle.std.proofs.Common.{◌≡◌, ℕ, ◌+◌, ◌-◌, Bool, true, false, List, [], ◌∷◌, ◌++◌, map, length, refl, sym, ap, ◌∙◌, inl, inr, arith, Option, Some, None, subst}
-use Rattle.std.specs.Prelude.{slice_get, codes, if◌then◌else◌, unwrap_or}
+use Rattle.std.specs.Prelude.{slice_get, codes, if◌then◌else◌, unwrap_or, option_and_then, option_map}
 use Rattle.std.specs.Fmt.{decimal}
 use Rattle.std.specs.List.{flat_map}
 use Rattle.pm_text.specs.Names.{quoted}
@@ -20,22 +20,22 @@ use Rattle.host_devices.specs.Given.{unfitting}
 use Rattle.host_set.specs.Sets.{DeviceState, names, count_of, is_named}
 use Rattle.wasm_machine.specs.calls.Instances.{State, IsNew}
 use Rattle.run_words.specs.declared.words.RunWords.{RunWords}
-use Rattle.commands.specs.Texts.{ended}
 use Rattle.commands.specs.declared.outcome.Outcome.{Outcome}
 use Rattle.run_session.specs.Delivery.{Delivery, IsDelivery}
 use Rattle.run_session.proofs.Tellings.{Behaves, behaves}
 use Rattle.run_session.specs.Telling.{Tells, tells, told, torn_in}
 use Rattle.run_session.specs.RunText.{invocation_text, traps_in, fitted, up_to_torn}
+use Rattle.commands.specs.Texts.{ended}
 use Rattle.run_session.specs.Given.{module_of}
 use Rattle.run_session.specs.Invocations.{invocation_of, depth_of}
-use Rattle.run_session.specs.calls.Answers.{device_cause, misfit_cause}
+use Rattle.run_session.specs.calls.Answers.{device_cause, misfit_cause, ended_as}
 use Rattle.run_session.specs.Ending.{host_stopped, told_status}
 use Rattle.run_session.specs.calls.Progress.{session_from}
 use Rattle.run_session.specs.calls.Sessions.{point_of, EndsIn, ToldEndsIn, RanAll}
 use Rattle.run_command.specs.Starting.{cause_text, entries_text}
 use Rattle.run_command.specs.Hosting.{Hosting, scripted}
 use Rattle.run_command.specs.Recorded.{recorded, served_in, IsReadBack}
-use Rattle.run_command.specs.AllRan.{end_text, told_end, ran_to_end}
+use Rattle.run_command.specs.AllRan.{end_text, told_end, text_to}
 use Rattle.run_command.specs.RunAnswer.{hosting, UsesUp, EndUsesUp, HasFailed, EndHasFailed, RunsTo}
 use Rattle.std.specs.Option.{option_or}
 use Rattle.std.proofs.lemmas.List.{length-map}
@@ -207,12 +207,13 @@ runs_to before after script w m p used_up counts now bad left s calls calls' tol
       by_script = of_script;
       used_up = subst (λ l. EndUsesUp (hosting before script w.collect) m left l) (sym e.last) (told_uses tell b r.last p m used_up left counts now (length r.given) r.due r.line of_module (hosting before script w.collect) facts torn refl r.ends);
       failed = subst (λ l. EndHasFailed before after m l) (sym e.last) (told_fails tell b r.last p m used_up left counts now (length r.given) r.due r.line of_module before after facts counted torn refl r.ends);
-      answer = r.answer
-          ∙ ap (λ k. ended (told_status k torn r.last.outcome) (r.lines.text ++ r.line)) e.came_of.traps
-          ∙ ap (λ t. ended (told_status (traps_in tell e.rans) torn r.last.outcome) (t ++ r.line)) e.came_of.text
-          ∙ ap (λ t. ended (told_status (traps_in tell e.rans) torn r.last.outcome) (flat_map (invocation_text tell) e.rans ++ t)) (told_line (names before) p m.imports used_up left counts now (length r.given) (fitted e.rans) r.due torn r.last.outcome r.line (ap (λ (x : Module). x.imports) (sym of_module)) facts e.fit r.ends)
-          ∙ ap (λ k. ended (told_status (traps_in tell e.rans) torn r.last.outcome) (flat_map (invocation_text tell) e.rans ++ told_end (names before) m.imports (fitted e.rans) k torn r.last.outcome)) (sym due)
-          ∙ ap (λ l. ran_to_end tell (names before) m.imports (length w.invocations) e.rans l) (sym e.last);
+      answer = ap (λ (l : Option Ran). option_and_then (λ (x : Ran).
+          option_map (λ s. ended s (text_to (names before) m.imports tell (length w.invocations) e.rans x)) (told_status (traps_in tell e.rans) (torn_in (told tell x)) x.outcome)) l) e.last
+          ∙ ap (λ k. ended_as (told_status (traps_in tell e.rans) torn r.last.outcome) (flat_map (invocation_text tell) e.rans ++ told_end (names before) m.imports (fitted e.rans) k torn r.last.outcome)) due
+          ∙ sym (ap (λ t. ended_as (told_status (traps_in tell e.rans) torn r.last.outcome) (flat_map (invocation_text tell) e.rans ++ t)) (told_line (names before) p m.imports used_up left counts now (length r.given) (fitted e.rans) r.due torn r.last.outcome r.line (ap (λ (x : Module). x.imports) (sym of_module)) facts e.fit r.ends))
+          ∙ ap (λ t. ended_as (told_status (traps_in tell e.rans) torn r.last.outcome) (t ++ r.line)) (sym e.came_of.text)
+          ∙ ap (λ k. ended_as (told_status k torn r.last.outcome) (r.lines.text ++ r.line)) (sym e.came_of.traps)
+          ∙ r.answer;
       wrote = ap (λ ws. ws ++ recorded w.log_to e.rans) e.came_of.writes;
       read_back = back;
     }

@@ -1,10 +1,9 @@
 -- The answer on a valid module, from what its parts ensure.
-use Rattle.std.proofs.Common.{◌≡◌, ℕ, ◌≤◌, arith, Bool, true, false, List, [], ◌++◌, map, length, drop, refl, sym, ap, ◌∙◌, subst, Option, Some, None, Result, Ok, Err}
-use Rattle.std.specs.Prelude.{IfOk, nat_lt, if◌then◌else◌, unwrap_or}
+use Rattle.std.proofs.Common.{◌≡◌, ℕ, ◌≤◌, arith, Bool, true, false, List, [], ◌++◌, map, drop, refl, sym, ap, ◌∙◌, subst, Option, Some, None, Result, Ok, Err}
+use Rattle.std.specs.Prelude.{IfOk, IfSome, nat_lt, if◌then◌else◌, unwrap_or}
 use Rattle.causes.specs.Counts.{Rose}
 use Rattle.causes.specs.declared.NoMemory.{NoMemory as WantOfMemory}
 use Rattle.pm_outside.specs.Contents.{Contents}
-use Rattle.wasm_syntax.specs.declared.parts.Import.{Import}
 use Rattle.wasm_syntax.specs.declared.host.Reply.{Reply}
 use Rattle.wasm_syntax.specs.declared.module.ModuleParts.{ModuleParts as Module}
 use Rattle.wasm_syntax.specs.Module.{Program, IsProgram, IsModule}
@@ -22,8 +21,9 @@ use Rattle.run_session.specs.Delivery.{Delivery, IsDelivery}
 use Rattle.run_session.specs.Telling.{tells, told as told_of, torn_in}
 use Rattle.run_session.specs.calls.Collecting.{serving_of, used_up_of}
 use Rattle.run_session.specs.Invocations.{invocation_of, depth_of}
-use Rattle.run_session.specs.Ending.{end_status, told_status}
-use Rattle.run_session.specs.calls.Sessions.{point_of, EndsIn, ToldEndsIn, RanAll, IsDumpFault}
+use Rattle.run_session.specs.Ending.{told_status}
+use Rattle.run_session.specs.calls.Answers.{ended_as}
+use Rattle.run_session.specs.calls.Sessions.{point_of, RanAll, IsDumpFault}
 use Rattle.commands.proofs.Unless.{OnAnswer, map_answer, all_answers}
 use Rattle.run_command.specs.Starting.{not_started_with, entries_text}
 use Rattle.run_command.specs.Hosting.{start_text}
@@ -49,18 +49,15 @@ of_choice true P = tt
 of_choice false P = tt
 
 -- what was run is no refusal
-no_refusal : (p : Program) (used_up : Import → Bool) (counts now : List ℕ → ℕ) (given due traps : ℕ) (o : RunOutcome) (line : List ℕ) (P : Type 0) → EndsIn p used_up counts now given due o line → IfRefusal (end_status traps o) P
-no_refusal p used_up counts now given due traps (lacks_reply call) line P ends = tt
-no_refusal p used_up counts now given due traps (misfits call reply) line P ends = tt
-no_refusal p used_up counts now given due traps running line P ends = tt
-no_refusal p used_up counts now given due traps (trapped kind) line P ends = tt
-no_refusal p used_up counts now given due traps (finished v) line P ends = of_choice (nat_lt 0 traps) P
-no_refusal p used_up counts now given due traps (not_started cause) line P ends = absurd ends
-no_refusal p used_up counts now given due traps got_stuck line P ends = absurd ends
-
-told_no_refusal : (p : Program) (used_up : Import → Bool) (counts now : List ℕ → ℕ) (given due traps : ℕ) (torn : Option ℕ) (o : RunOutcome) (line : List ℕ) (P : Type 0) → ToldEndsIn p used_up counts now given due torn o line → IfRefusal (told_status traps torn o) P
-told_no_refusal p used_up counts now given due traps None o line P ends = no_refusal p used_up counts now given due traps o line P ends
-told_no_refusal p used_up counts now given due traps (Some at) o line P ends = tt
+no_refusal : (traps : ℕ) (torn : Option ℕ) (o : RunOutcome) (text : List ℕ) (P : Type 0) → IfSome (ended_as (told_status traps torn o) text) (λ (q : Outcome). IfRefusal q.status P)
+no_refusal traps (Some at) o text P = tt
+no_refusal traps None (lacks_reply call) text P = tt
+no_refusal traps None (misfits call reply) text P = tt
+no_refusal traps None running text P = tt
+no_refusal traps None (trapped kind) text P = tt
+no_refusal traps None (finished v) text P = of_choice (nat_lt 0 traps) P
+no_refusal traps None (not_started cause) text P = tt
+no_refusal traps None got_stuck text P = tt
 
 -- all that was run, with these host sides before and after
 abbrev pub RanSo : (List CollectorCall → Delivery) → Program → RunWords → State → (bad : Bool) → (h0 h1 : HostsState) → (told told' : Option Contents) → Outcome → Type 0
@@ -98,8 +95,8 @@ module _ (deliver : List CollectorCall → Delivery) (delivers : IsDelivery deli
           logs s.module_ before after script h0 h1 began same back r.given r.grew,
         );
         files = held_also r.writes (recorded w.log_to r.has_ended.rans) told mid new r.files (subst (λ ws. OnTold (HoldThen ws) mid new) (is_recorded o r) held);
-        untouched = subst (λ t. IfRefusal t (IsUntouched before after r.given (r.writes ++ recorded w.log_to r.has_ended.rans))) (sym (ap (λ (x : Outcome). x.status) r.answer))
-            (told_no_refusal p used_up (count_of h0.devices) (count_of h1.devices) (length r.given) r.due r.lines.traps (torn_in (told_of (tells w.collect deliver) r.last)) r.last.outcome r.line (IsUntouched before after r.given (r.writes ++ recorded w.log_to r.has_ended.rans)) r.ends);
+        untouched = subst (λ (q : Option Outcome). IfSome q (λ (a : Outcome). IfRefusal a.status (IsUntouched before after r.given (r.writes ++ recorded w.log_to r.has_ended.rans)))) r.answer
+            (no_refusal r.lines.traps (torn_in (told_of (tells w.collect deliver) r.last)) r.last.outcome (r.lines.text ++ r.line) (IsUntouched before after r.given (r.writes ++ recorded w.log_to r.has_ended.rans)));
       }
 
   hosted_by : (rose : Type 0) (ran result : Result Outcome WantOfMemory) → OnAnswer (RanSo deliver p w s bad h0 h1 told mid) ran → Records w.log_to (fitting bad h1.served) rose ran result mid new

@@ -1,5 +1,5 @@
 -- What is told of all that was run.
-use Rattle.std.specs.Prelude.{ℕ, ◌-◌, List, [], ◌++◌, length, Option, Some, None, if◌then◌else◌, codes}
+use Rattle.std.specs.Prelude.{ℕ, ◌-◌, List, [], ◌++◌, length, Option, Some, None, option_and_then, option_map, if◌then◌else◌, codes}
 use Rattle.std.specs.List.{flat_map}
 use Rattle.std.specs.Fmt.{decimal}
 use Rattle.pm_text.specs.Names.{quoted}
@@ -9,7 +9,6 @@ use Rattle.wasm_syntax.specs.Run.{Outcome as RunOutcome, trapped, lacks_reply, m
 use Rattle.host_set.specs.Sets.{is_named}
 use Rattle.commands.specs.Texts.{ended}
 use Rattle.commands.specs.declared.outcome.Outcome.{Outcome}
-use Rattle.commands.specs.declared.status.Status.TheVariants as status
 use Rattle.run_session.specs.Telling.{Tells, told, torn_in}
 use Rattle.run_session.specs.RunText.{invocation_text, traps_in, last_of, fitted, torn_text, not_invoked_text}
 use Rattle.run_session.specs.Given.{module_of}
@@ -39,10 +38,7 @@ module _ (names : List (List ℕ)) (imports : List Import) where
   abbrev pub text_to : Tells → ℕ → List Ran → Ran → List ℕ
   text_to tell asked rans r = flat_map (invocation_text tell) rans ++ told_end (fitted rans) (asked - length rans) (torn_in (told tell r)) r.outcome
 
-abbrev pub ran_to_end : Tells → List (List ℕ) → List Import → ℕ → List Ran → Option Ran → Outcome
-ran_to_end tell names imports asked rans None = ended status.Done []
-ran_to_end tell names imports asked rans (Some r) = ended (told_status (traps_in tell rans) (torn_in (told tell r)) r.outcome) (text_to names imports tell asked rans r)
-
--- where devices of these names serve these imports
-abbrev pub all_ran : Tells → List (List ℕ) → List Import → ℕ → List Ran → Outcome
-all_ran tell names imports asked rans = ran_to_end tell names imports asked rans (last_of rans)
+-- What is answered where devices of these names serve these imports. Nothing is where nothing was run, since words ask for an invocation.
+abbrev pub all_ran : Tells → List (List ℕ) → List Import → ℕ → List Ran → Option Outcome
+all_ran tell names imports asked rans = option_and_then (λ (r : Ran).
+    option_map (λ s. ended s (text_to names imports tell asked rans r)) (told_status (traps_in tell rans) (torn_in (told tell r)) r.outcome)) (last_of rans)

@@ -79,7 +79,7 @@ pub record RunsTo (before after : List DeviceState) (script : Option (List Reply
   pub by_script : unwrap_or script [] ≡ replies_of (scripted (names before) m.imports given) ++ left
   pub used_up : EndUsesUp (hosting before script w.collect) m left (last_of rans)
   pub failed : EndHasFailed before after m (last_of rans)
-  pub answer : o ≡ all_ran (tells w.collect deliver) (names before) m.imports (length w.invocations) rans
+  pub answer : all_ran (tells w.collect deliver) (names before) m.imports (length w.invocations) rans ≡ Some o
   -- the dumps, and the record behind them
   pub wrote : writes ≡ dumps_from (tells w.collect deliver) w.dump w.name 0 rans ++ recorded w.log_to rans
   pub read_back : IsReadBack w.log_to (replies_of (served_in rans))

@@ -21,7 +21,7 @@ use Rattle.commands.specs.declared.outcome.Outcome.{Outcome}
 use Rattle.commands.specs.declared.status.Status.TheVariants as status
 use Rattle.run_session.specs.Telling.{Telling, nothing, finish, trap, bare_trap, torn, Tells, told, torn_in}
 use Rattle.run_session.specs.RunText.{traps_in, with_trap, last_of, fitted, up_to_torn, torn_text, not_invoked_text}
-use Rattle.run_session.specs.calls.Answers.{answer_line, answer_status}
+use Rattle.run_session.specs.calls.Answers.{answer_line, answer_status, ended_as}
 use Rattle.run_session.specs.Ending.{trapped_or_done, end_status, told_status}
 use Rattle.run_session.specs.calls.Progress.{Point, session_from, WentOn, NoneTorn}
 use Rattle.run_session.specs.calls.Sessions.{is_misfit, ends_badly, point_of, EndsIn, ToldEndsIn, RanAll, SoFar}
@@ -42,13 +42,13 @@ line_ends p used_up counts now given due (BadReply reply) o (call, is) some caus
 line_ends p used_up counts now given due FuelSpent o is some cause = subst (λ x. EndsIn p used_up counts now given due x (answer_line FuelSpent given due)) (sym is) refl
 line_ends p used_up counts now given due NoMemory o is some cause = absurd (some refl)
 
-pub status_ends : (p : Program) (used_up : Import → Bool) (traps : ℕ) (a : RunEnd) (o : RunOutcome) → HasOutcome p used_up a o → (a ≡ NoMemory → ⊥) → answer_status a traps ≡ end_status traps o
-status_ends p used_up traps (Finished v) o is some = ap (λ x. end_status traps x) (sym is)
-status_ends p used_up traps (Trapped kind) o is some = ap (λ x. end_status traps x) (sym is)
-status_ends p used_up traps NoReply o (call, is, up) some = ap (λ x. end_status traps x) (sym is)
-status_ends p used_up traps (DeviceFault device) o (call, is, named) some = ap (λ x. end_status traps x) (sym is)
-status_ends p used_up traps (BadReply reply) o (call, is) some = ap (λ x. end_status traps x) (sym is)
-status_ends p used_up traps FuelSpent o is some = ap (λ x. end_status traps x) (sym is)
+pub status_ends : (p : Program) (used_up : Import → Bool) (traps : ℕ) (a : RunEnd) (o : RunOutcome) → HasOutcome p used_up a o → (a ≡ NoMemory → ⊥) → end_status traps o ≡ Some (answer_status a traps)
+status_ends p used_up traps (Finished v) o is some = ap (λ x. end_status traps x) is
+status_ends p used_up traps (Trapped kind) o is some = ap (λ x. end_status traps x) is
+status_ends p used_up traps NoReply o (call, is, up) some = ap (λ x. end_status traps x) is
+status_ends p used_up traps (DeviceFault device) o (call, is, named) some = ap (λ x. end_status traps x) is
+status_ends p used_up traps (BadReply reply) o (call, is) some = ap (λ x. end_status traps x) is
+status_ends p used_up traps FuelSpent o is some = ap (λ x. end_status traps x) is
 status_ends p used_up traps NoMemory o is some = absurd (some refl)
 
 -- no answer of the list is a fault of a file
@@ -93,7 +93,7 @@ module _ (tell : Tells) (p : Program) (M : Engine) (base name : List ℕ) (used_
   EndedSo known_of = EndedWith tell M base name first lines before after told_before told_after known_of due
 
   ran_so : (known_of : Ran → Type 0) (e : EndedSo known_of) (line : List ℕ) (o : Outcome) → ToldEndsIn p used_up counts now (length e.given) due (torn_in (told tell e.last)) e.last.outcome line
-      → o ≡ ended (told_status lines.traps (torn_in (told tell e.last)) e.last.outcome) (lines.text ++ line) → is_misfit e.last.outcome ≡ bad → RanSo o
+      → ended_as (told_status lines.traps (torn_in (told tell e.last)) e.last.outcome) (lines.text ++ line) ≡ Some o → is_misfit e.last.outcome ≡ bad → RanSo o
   ran_so known_of e line o ends is misfit = record {
     given = e.given;
     grew = e.grew;
@@ -116,7 +116,7 @@ module _ (tell : Tells) (p : Program) (M : Engine) (base name : List ℕ) (used_
       ran_so (EndsSo tell p used_up a bad) e line o
       (subst (λ t. ToldEndsIn p used_up counts now (length e.given) due t e.last.outcome line) (sym e.known.1)
       (subst (λ n. EndsIn p used_up counts now n due e.last.outcome line) all (line_ends p used_up counts now count due a e.last.outcome e.known.0 some cause)))
-      (is ∙ ap (λ s. ended s (lines.text ++ line)) (status_ends p used_up lines.traps a e.last.outcome e.known.0 some ∙ ap (λ t. told_status lines.traps t e.last.outcome) (sym e.known.1))) e.known.2
+      (ap (λ s. ended_as s (lines.text ++ line)) (ap (λ t. told_status lines.traps t e.last.outcome) e.known.1 ∙ status_ends p used_up lines.traps a e.last.outcome e.known.0 some) ∙ ap Some (sym is)) e.known.2
     where
       all : count ≡ length e.given
       all = counted ∙ ap (λ l. length l) (e.grew ∙ ap (λ l. l ++ e.given) none)
@@ -124,7 +124,7 @@ module _ (tell : Tells) (p : Program) (M : Engine) (base name : List ℕ) (used_
   pub torn_so : (at : ℕ) (o : Outcome) → o ≡ ended status.TornCalls (lines.text ++ torn_text at) → EndedSo (TornAt tell at bad) → RanSo o
   torn_so at o is e =
       ran_so (TornAt tell at bad) e (torn_text at) o (subst (λ t. ToldEndsIn p used_up counts now (length e.given) due t e.last.outcome (torn_text at)) (sym e.known.0) refl)
-      (is ∙ ap (λ t. ended (told_status lines.traps t e.last.outcome) (lines.text ++ torn_text at)) (sym e.known.0)) e.known.1
+      (ap (λ t. ended_as (told_status lines.traps t e.last.outcome) (lines.text ++ torn_text at)) e.known.0 ∙ ap Some (sym is)) e.known.1
 
 -- all invocations were made: the last one went on
 
@@ -166,7 +166,7 @@ some_traps n lt = ap (λ b. if b then status.Trapped else status.Done) (lt-ltb 0
 
 record EndsQuietly (p : Program) (used_up : Import → Bool) (counts now : List ℕ → ℕ) (given traps : ℕ) (o : RunOutcome) : Type 0 where
   pub ends : EndsIn p used_up counts now given 0 o []
-  pub status_is : trapped_or_done traps ≡ end_status traps o
+  pub status_is : end_status traps o ≡ Some (trapped_or_done traps)
 
 ends_quietly : (tell : Tells) → Behaves tell → (p : Program) (used_up : Import → Bool) (counts now : List ℕ → ℕ) (given : ℕ) (rans : List Ran) (r : Ran) (o : RunOutcome) (l : Option Config) → r.outcome ≡ o → r.last ≡ l → last_of rans ≡ Some r → torn_in (told tell r) ≡ None → goes_on o r.entered ≡ true → is_some l ≡ true
     → EndsQuietly p used_up counts now given (traps_in tell rans) o
@@ -175,7 +175,7 @@ ends_quietly tell b p used_up counts now given rans r (trapped kind) (Some c) is
     let same : told tell r ≡ tell (trapped kind) r.collected (Some c) = ap (λ x. tell x r.collected r.last) is ∙ ap (λ x. tell (trapped kind) r.collected x) at in
     record {
       ends = refl;
-      status_is = some_traps (traps_in tell rans) (last_trap tell rans r last (subst (λ t. 0 < with_trap t 0) (sym same) (b.traps kind r.collected c (ap torn_in (sym same) ∙ whole))));
+      status_is = ap Some (sym (some_traps (traps_in tell rans) (last_trap tell rans r last (subst (λ t. 0 < with_trap t 0) (sym same) (b.traps kind r.collected c (ap torn_in (sym same) ∙ whole))))));
     }
 ends_quietly tell b p used_up counts now given rans r (trapped kind) None is at last whole on some = absurd cc
 ends_quietly tell b p used_up counts now given rans r (not_started cause) l is at last whole on some = absurd cc
@@ -213,8 +213,8 @@ all_made_so tell b p M base name used_up counts now first s done fuel lines befo
       };
       line = [];
       ends = subst (λ t. ToldEndsIn p used_up counts now (length so_far.given) 0 t went.last.outcome []) (sym whole) quiet.ends;
-      answer = is ∙ ap (λ t. ended (trapped_or_done lines.traps) t) (sym (append-nil lines.text))
-          ∙ ap (λ s. ended s (lines.text ++ [])) (ap (λ n. trapped_or_done n) come.came_of.traps ∙ quiet.status_is ∙ ap (λ n. end_status n went.last.outcome) (sym come.came_of.traps) ∙ ap (λ t. told_status lines.traps t went.last.outcome) (sym whole));
+      answer = ap (λ s. ended_as s (lines.text ++ [])) (ap (λ t. told_status lines.traps t went.last.outcome) whole ∙ ap (λ n. end_status n went.last.outcome) come.came_of.traps ∙ quiet.status_is ∙ ap (λ n. Some (trapped_or_done n)) (sym come.came_of.traps))
+          ∙ ap (λ t. Some (ended (trapped_or_done lines.traps) t)) (append-nil lines.text) ∙ ap Some (sym is);
       misfit = fits_on went.last.outcome went.last.entered went.went.0 ∙ sym (so_far.fits (subst (λ l. 0 < length l) (append-nil done) some));
     }
   where

@@ -11,16 +11,17 @@ host_stopped cause = codes "host stopped: " ++ cause ++ codes "\n"
 abbrev pub trapped_or_done : ℕ → Status
 trapped_or_done traps = if nat_lt 0 traps then status.Trapped else status.Done
 
-abbrev pub end_status : ℕ → Outcome → Status
-end_status traps (lacks_reply call) = status.HostStopped
-end_status traps (misfits call reply) = status.HostStopped
-end_status traps running = status.FuelSpent
-end_status traps (trapped kind) = status.Trapped
-end_status traps (finished v) = trapped_or_done traps
-end_status traps (not_started cause) = status.NotStarted
-end_status traps got_stuck = status.NotStarted
+-- A list that was begun has no invocation that is not started, and none of a valid module gets stuck: there is no status for them.
+abbrev pub end_status : ℕ → Outcome → Option Status
+end_status traps (lacks_reply call) = Some status.HostStopped
+end_status traps (misfits call reply) = Some status.HostStopped
+end_status traps running = Some status.FuelSpent
+end_status traps (trapped kind) = Some status.Trapped
+end_status traps (finished v) = Some (trapped_or_done traps)
+end_status traps (not_started cause) = None
+end_status traps got_stuck = None
 
 -- torn calls decide before all else
-abbrev pub told_status : ℕ → (torn : Option ℕ) → Outcome → Status
+abbrev pub told_status : ℕ → (torn : Option ℕ) → Outcome → Option Status
 told_status traps None o = end_status traps o
-told_status traps (Some at) o = status.TornCalls
+told_status traps (Some at) o = Some status.TornCalls

@@ -1,9 +1,12 @@
 -- The end of a list by the answer of its last invocation.
-use Rattle.std.specs.Prelude.{ℕ, ◌-◌, List, [], ◌++◌, codes}
+use Rattle.std.specs.Prelude.{ℕ, ◌-◌, List, [], ◌++◌, Option, codes}
+use Rattle.std.specs.Option.{option_map}
 use Rattle.std.specs.Fmt.{decimal}
 use Rattle.pm_text.specs.Names.{quoted}
 use Rattle.machine_hosted.specs.declared.answer.RunEnd.{RunEnd}
 use Rattle.machine_hosted.specs.declared.answer.RunEnd.TheVariants.{Finished, Trapped, NoReply, BadReply, DeviceFault, FuelSpent, NoMemory}
+use Rattle.commands.specs.Texts.{ended}
+use Rattle.commands.specs.declared.outcome.Outcome.{Outcome}
 use Rattle.commands.specs.declared.status.Status.{Status}
 use Rattle.commands.specs.declared.status.Status.TheVariants as status
 use Rattle.run_session.specs.RunText.{not_invoked_text}
@@ -33,3 +36,7 @@ answer_status (BadReply reply) traps = status.HostStopped
 answer_status (DeviceFault device) traps = status.HostStopped
 answer_status FuelSpent traps = status.FuelSpent
 answer_status NoMemory traps = status.NoMemory
+
+-- the answer with these lines, where there is a status
+abbrev pub ended_as : Option Status → List ℕ → Option Outcome
+ended_as s text = option_map (λ s. ended s text) s

@@ -20,7 +20,7 @@ use Rattle.wasm_machine.specs.calls.Instances.{State}
 use Rattle.wasm_machine.specs.declared.invocation.End.{End}
 use Rattle.wasm_machine.specs.declared.invocation.End.TheVariants as ends
 use Rattle.wasm_machine.specs.declared.invocation.LastInvocation.{LastInvocation}
-use Rattle.commands.specs.Texts.{ended, file_fault}
+use Rattle.commands.specs.Texts.{file_fault}
 use Rattle.commands.specs.declared.outcome.Outcome.{Outcome}
 use Rattle.run_session.specs.Given.{given_to, given_in}
 use Rattle.run_session.specs.Telling.{Tells, told, torn_in}
@@ -28,7 +28,7 @@ use Rattle.run_session.specs.RunText.{dump_name, dumps_from, up_to_torn, torn_te
 use Rattle.pm_outside.specs.Held.{Writes, HoldThen, HoldPart}
 use Rattle.run_session.specs.calls.Progress.{Point, Made, session_from, HasCome, HasEnded}
 use Rattle.run_session.specs.inner.Turns.{TurnsTo}
-use Rattle.run_session.specs.calls.Answers.{device_cause, misfit_cause}
+use Rattle.run_session.specs.calls.Answers.{device_cause, misfit_cause, ended_as}
 use Rattle.run_session.specs.Ending.{host_stopped, told_status}
 use Rattle.run_session.specs.Stop.{Stop, no_memory, file_failed, IsFileFault, EndsAtDump}
 use Rattle.run_session.specs.declared.turns.Lines.{Lines}
@@ -153,7 +153,7 @@ pub record RanAll (tell : Tells) (p : Program) (M : Engine) (base name : List �
   pub has_ended : HasEnded tell M base name first (made_with lines given writes) due last
   pub line : List ℕ
   pub ends : ToldEndsIn p used_up counts now (length given) due (torn_in (told tell last)) last.outcome line
-  pub answer : o ≡ ended (told_status lines.traps (torn_in (told tell last)) last.outcome) (lines.text ++ line)
+  pub answer : ended_as (told_status lines.traps (torn_in (told tell last)) last.outcome) (lines.text ++ line) ≡ Some o
   -- whether the last one ended because its last reply does not fit
   pub misfit : is_misfit last.outcome ≡ bad
 
