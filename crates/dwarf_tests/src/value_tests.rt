@@ -9,7 +9,7 @@ use dwarf_expr::FrameView;
 use dwarf_info::Units;
 use pm_text::Text;
 use std::alloc::Global;
-use var_eval::{Variable, visible_at};
+use var_eval::{Variable, visible};
 use var_values::{Mark, number_at, push_base, push_enumeration};
 
 // An address, and the names of the variables there with the offsets of their entries.
@@ -34,7 +34,7 @@ fn are_visible(alloc: Global, address: u32, rows: &[(&[u8], u32)]) -> bool {
     let Some(units) = units4(alloc, &INFO, &ABBREV, &[]) else {
         return false;
     };
-    match visible_at(alloc, &sections4(&INFO, &ABBREV, &[], &[]), &units, address) {
+    match visible(alloc, &sections4(&INFO, &ABBREV, &[], &[]), &units, address) {
         Ok(variables) => are_variables(variables.as_slice(), rows),
         Err(_) => false,
     }

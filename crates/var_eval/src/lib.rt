@@ -15,7 +15,7 @@ mod pointers;
 mod shown;
 mod spot;
 mod stop;
-mod visible;
+mod visibility;
 mod walking;
 mod whole;
 
@@ -26,6 +26,6 @@ pub use locations::source_of;
 pub use part::Part;
 pub use path_shown::value_of;
 pub use shown::Shown;
-pub use visible::{Variable, Variables, visible_at};
+pub use visibility::{Variable, Variables, visible};
 pub use walking::walk;
 pub use whole::{push_variable, value_at};

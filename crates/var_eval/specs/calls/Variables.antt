@@ -5,7 +5,7 @@ use Rattle.dwarf_info.specs.Sections.{SectionBytes5}
 use Rattle.dwarf_entries.specs.Standing.{Standing}
 use Rattle.dwarf_entries.specs.Origins.{name_or_empty}
 use Rattle.dwarf_scopes.specs.Scopes.{variables_at}
-use Rattle.var_eval.specs.declared.visible.Variable.{Variable}
+use Rattle.var_eval.specs.declared.visibility.Variable.{Variable}
 
 -- one without a name has the empty name
 abbrev pub variable_of : List UnitAnswer → Standing → Variable

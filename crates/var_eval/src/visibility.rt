@@ -35,7 +35,7 @@ fn variable_of<'r, 'a>(units: &'r Units<'a>, standing: &Standing<'r, 'a>) -> Var
 
 /// The variables that are visible at an address, those of outer scopes first.
 #[tactic(auto, unfolding(crate::specs::calls::Variables::visible))]
-pub fn visible_at<'r, 'a>(
+pub fn visible<'r, 'a>(
     alloc: Global,
     sections: &Sections5<'a>,
     units: &'r Units<'a>,
