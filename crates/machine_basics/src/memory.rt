@@ -39,7 +39,7 @@ fn load_of(values: &mut Stack<Value>, shared: &Shared, load: Load, offset: u32) 
     }
 }
 
-#[inline(always)]
+#[inline(never)]
 pub(crate) fn load(values: &mut Stack<Value>, shared: &Shared, load: Load, offset: u32) -> Performed
     ensures effect { (w : World) (ls : List Val) (align : ℕ) → Holds shared.now w
         → Acts (on_operands (basics.Load load align offset) w ls values.old) result w ls
@@ -119,7 +119,7 @@ fn store_of(values: &mut Stack<Value>, shared: &mut Shared, store: Store, offset
     }
 }
 
-#[inline(always)]
+#[inline(never)]
 pub(crate) fn store(
     values: &mut Stack<Value>,
     shared: &mut Shared,

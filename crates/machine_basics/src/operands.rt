@@ -116,7 +116,7 @@ pub(crate) fn eqz(values: &mut Stack<Value>, t: ValType) -> Performed
     }
 }
 
-#[inline(always)]
+#[inline(never)]
 pub(crate) fn unary(values: &mut Stack<Value>, t: ValType, op: Unary) -> Performed
     ensures effect { (w : World) (ls : List Val)
         → Acts (on_operands (basics.Unary t op) w ls values.old) result w ls values.new }
@@ -173,7 +173,7 @@ pub(crate) fn binary(values: &mut Stack<Value>, t: ValType, op: Binary) -> Perfo
     }
 }
 
-#[inline(always)]
+#[inline(never)]
 pub(crate) fn convert(values: &mut Stack<Value>, c: Convert) -> Performed
     ensures effect { (w : World) (ls : List Val)
         → Acts (on_operands (basics.Convert c) w ls values.old) result w ls values.new }
@@ -185,7 +185,7 @@ pub(crate) fn convert(values: &mut Stack<Value>, c: Convert) -> Performed
     }
 }
 
-#[inline(always)]
+#[inline(never)]
 pub(crate) fn extend_32(values: &mut Stack<Value>, bits: Narrow32) -> Performed
     ensures effect { (w : World) (ls : List Val)
         → Acts (on_operands (basics.Extend32 bits) w ls values.old) result w ls values.new }
@@ -197,7 +197,7 @@ pub(crate) fn extend_32(values: &mut Stack<Value>, bits: Narrow32) -> Performed
     }
 }
 
-#[inline(always)]
+#[inline(never)]
 pub(crate) fn extend_64(values: &mut Stack<Value>, bits: Narrow64) -> Performed
     ensures effect { (w : World) (ls : List Val)
         → Acts (on_operands (basics.Extend64 bits) w ls values.old) result w ls values.new }

@@ -62,7 +62,7 @@ pub(crate) fn local_tee(values: &mut Stack<Value>, base: usize, index: u32) -> P
 
 // ---- globals
 
-#[inline(always)]
+#[inline(never)]
 pub(crate) fn global_get(values: &mut Stack<Value>, shared: &Shared, index: u32) -> Performed
     ensures effect { (w : World) (ls : List Val) → Holds shared.now w
         → Acts (on_operands (basics.GlobalGet index) w ls values.old) result w ls values.new }
@@ -74,7 +74,7 @@ pub(crate) fn global_get(values: &mut Stack<Value>, shared: &Shared, index: u32)
     }
 }
 
-#[inline(always)]
+#[inline(never)]
 pub(crate) fn global_set(values: &mut Stack<Value>, shared: &mut Shared, index: u32) -> Performed
     ensures effect { (w : World) (ls : List Val) → Holds shared.old w
         → Changes (on_operands (basics.GlobalSet index) w ls values.old) result ls values.new
