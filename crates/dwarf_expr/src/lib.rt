@@ -2,6 +2,7 @@
 //! WebAssembly).
 #![tactic(auto)]
 
+mod alone;
 mod answer;
 mod decode;
 mod effects;
@@ -12,6 +13,7 @@ mod progress;
 mod stack;
 mod view;
 
+pub use alone::is_location;
 pub use answer::{Base, Eval, Piece, PieceList, PiecePlace};
 pub use decode::read_operator;
 pub use evaluate::{eval, frame_base};

@@ -23,6 +23,8 @@ mod list5_tests;
 #[cfg(test)]
 mod list_tests;
 #[cfg(test)]
+mod object_tests;
+#[cfg(test)]
 mod path_tests;
 #[cfg(test)]
 mod reading;

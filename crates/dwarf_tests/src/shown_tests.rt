@@ -17,28 +17,28 @@ use var_path::parse_path;
 use wasm_syntax::Seen;
 
 // A module, and what is recorded of a frame in it.
-struct Scene {
-    info: &'static [u8],
-    abbrev: &'static [u8],
-    loc: &'static [u8],
-    address: u32,
-    locals: &'static [Seen],
-    operands: &'static [Seen],
-    globals: &'static [Seen],
+pub struct Scene {
+    pub info: &'static [u8],
+    pub abbrev: &'static [u8],
+    pub loc: &'static [u8],
+    pub address: u32,
+    pub locals: &'static [Seen],
+    pub operands: &'static [Seen],
+    pub globals: &'static [Seen],
     // Bytes at an address of memory.
-    contents: (u64, &'static [u8]),
+    pub contents: (u64, &'static [u8]),
 }
 
 // What is asked for: the value behind a path, a variable as a listing has it, and the value of a
 // variable by the offset of its entry.
 #[derive(Clone, Copy)]
-enum Asked {
+pub enum Asked {
     Path(&'static str),
     Listed(u32),
     Entry(u32),
 }
 
-type Row = (Asked, &'static str);
+pub type Row = (Asked, &'static str);
 
 fn by_path(
     alloc: Global,
@@ -112,7 +112,7 @@ fn first_wrong_of(
 }
 
 /// The number of the first row where something else is shown, or how many rows there are.
-fn first_wrong(alloc: Global, scene: &Scene, rows: &[Row]) -> usize {
+pub fn first_wrong(alloc: Global, scene: &Scene, rows: &[Row]) -> usize {
     let memory = memory_with(alloc, &[scene.contents]);
     match units4(alloc, scene.info, scene.abbrev, &[]) {
         Some(units) => first_wrong_of(alloc, scene, &units, &memory, rows),
@@ -168,10 +168,10 @@ const ABBREV: [u8; 78] = [
 // The root begins at 100, and a subprogram holds 100 to 119 with its frame base in local 0. Its
 // variables are of 2 bytes each, but for the one at 185, which has no type: at 30 one that is
 // nowhere, at 32 the constant -2, at 35 a block, at 40 an empty expression, at 43 one at frame base
-// + 4, at 48 local 0, at 54 a global, at 60 an operator that is not known, at 64 a division by 0,
-// at 70 65 entries, at 138 one behind the memory's end, at 147 a piece that is nowhere, at 156 two
-// pieces, at 167, 173 and 179 by lists, of which the last one is none, at 189 the last byte of
-// memory.
+// + 4, at 48 one whose address is in local 0, at 54 one by a global, at 60 an operator that is not
+// known, at 64 a division by 0, at 70 65 entries, at 138 one behind the memory's end, at 147 a piece
+// that is nowhere, at 156 two pieces, at 167, 173 and 179 by lists, of which the last one is none,
+// at 189 the last byte of memory.
 const INFO: [u8; 199] = [
     195, 0, 0, 0, 4, 0, 0, 0, 0, 0, 4, 1, 100, 0, 0, 0, 2, 5, 2, 3, 100, 0, 0, 0, 20, 4, 237, 0, 0,
     159, 4, 16, 5, 16, 126, 6, 16, 2, 1, 0, 7, 16, 0, 7, 16, 2, 145, 4, 7, 16, 3, 237, 0, 0, 7, 16,
@@ -206,7 +206,7 @@ const SHOWN: [Row; 19] = [
     (Asked::Entry(35), "<optimised out>"),
     (Asked::Entry(40), "<optimised out>"),
     (Asked::Entry(43), "4660"),
-    (Asked::Entry(48), "40"),
+    (Asked::Entry(48), "0"),
     (Asked::Entry(54), "<not recorded>"),
     (Asked::Entry(60), "<unsupported expression>"),
     (Asked::Entry(64), "<bad expression>"),

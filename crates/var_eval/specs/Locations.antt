@@ -1,6 +1,7 @@
 -- Where a variable is (DWARF 4, 2.6, 3.3.5 and 4.1; DWARF 5, 2.6).
 use Rattle.std.specs.Prelude.{ℕ, ◌^◌, pos, List, take, drop, Option, Some, None, unsigned_abs, if◌then◌else◌}
 use Rattle.std.specs.Int.{int_rem_euclid}
+use Rattle.int_ops.specs.Integers.{modulo}
 use Rattle.dwarf_info.specs.declared.entry.AttrValue.{AttrValue}
 use Rattle.dwarf_info.specs.declared.entry.AttrValue.TheVariants.{Block, Offset}
 use Rattle.dwarf_info.specs.declared.entry.Unit.{Unit as UnitTree}
@@ -15,7 +16,8 @@ use Rattle.dwarf_expr.specs.declared.answer.Eval.TheVariants as evals
 use Rattle.dwarf_expr.specs.declared.answer.Base.{Base}
 use Rattle.dwarf_expr.specs.declared.answer.Base.TheVariants as bases
 use Rattle.dwarf_expr.specs.View.{View}
-use Rattle.dwarf_expr.specs.Meaning.{meaning}
+use Rattle.dwarf_expr.specs.Decode.{operators}
+use Rattle.dwarf_expr.specs.Meaning.{is_location, meaning}
 use Rattle.dwarf_expr.specs.FrameBase.{frame_base}
 use Rattle.dwarf5_info.specs.Units.{plain_of}
 use Rattle.dwarf_scopes.specs.Lists.{is_version5, location_in}
@@ -68,6 +70,14 @@ base_of f = base_in f.sections f.address f.view (subprogram_at f.sections f.unit
 
 -- ---- sources
 
+-- A variable stands in memory where its expression ends without a stack_value: one WASM_location alone holds its address (2.6.1.1.2).
+abbrev pub place_by : List ℕ → Eval → Eval
+place_by e (evals.Value w) = if is_location (operators e) then evals.Address (modulo 32 w) else evals.Value w
+place_by e answer = answer
+
+abbrev pub place_meant : List ℕ → View → Base → Eval
+place_meant e v b = place_by e (meaning e v b)
+
 abbrev pub source_of : Eval → Source
 source_of evals.Empty = Lost OptimisedOut
 source_of (evals.Value w) = Single (places.Value w)
@@ -87,7 +97,7 @@ constant_source x = elim (valued as_number at_const_value x.entry.attributes) [
 ]
 
 abbrev pub source_by : Frame → Standing → Located → Source
-source_by f x (Expression e) = source_of (meaning (plain_of f.sections x.unit e) f.view (base_of f))
+source_by f x (Expression e) = source_of (place_meant (plain_of f.sections x.unit e) f.view (base_of f))
 source_by f x NoEntry = Lost OptimisedOut
 source_by f x Unreadable = Lost BadExpression
 source_by f x Unsaid = constant_source x

@@ -4,7 +4,6 @@ ghost use Rattle.std.specs.Prelude.{◌≡◌, ◌<◌, ◌^◌, IfOk, Some, len
 ghost use Rattle.dwarf_info.specs.declared.entry.AttrValue.TheVariants.{Offset};
 ghost use Rattle.dwarf_scopes.specs.Lists.{location_in as entry_in};
 ghost use Rattle.dwarf5_info.specs.Units.{plain_of};
-ghost use Rattle.dwarf_expr.specs.Meaning.{meaning};
 ghost use Rattle.dwarf_expr.specs.FrameBase.{frame_base as base_given};
 ghost use Rattle.var_eval.specs.Locations as locations;
 
@@ -13,11 +12,12 @@ use crate::located::Located;
 use causes::NoMemory;
 use dwarf_entries::names::{CONST_VALUE, FRAME_BASE, LOCATION};
 use dwarf_entries::{Standing, attribute, number};
-use dwarf_expr::{Base, Eval, FrameView, PiecePlace, eval, frame_base};
+use dwarf_expr::{Base, Eval, FrameView, PiecePlace, eval, frame_base, is_location};
 use dwarf_info::{AttrValue, Sections5, Unit};
 use dwarf_loc::Span;
 use dwarf_scopes::location_in;
 use dwarf5_info::plain_expr;
+use int_ops::wrap;
 use std::alloc::Global;
 use var_values::{Mark, Source};
 use wasm_bytes::Run;
@@ -115,8 +115,26 @@ fn short(expr: &[u8]) -> Result<&[u8], NoMemory>
     Ok(expr)
 }
 
-/// What an expression of a unit means with a frame base.
-fn eval_in(
+/// What an expression means as the place of a variable: one WebAssembly location alone holds its
+/// address.
+fn place_meant(expr: &[u8], view: &FrameView<'_>, base: Base) -> Eval
+    requires { length expr.now < 2 ^ 32 }
+    ensures { result ≡ locations.place_meant expr.now view.now base }
+{
+    match eval(expr, view, base) {
+        Eval::Value(word) => {
+            if is_location(expr) {
+                Eval::Address(wrap(word))
+            } else {
+                Eval::Value(word)
+            }
+        }
+        answer => answer,
+    }
+}
+
+/// What an expression of a unit means as the place of a variable, with a frame base.
+fn place_in(
     alloc: Global,
     sections: &Sections5<'_>,
     unit: &Unit<'_>,
@@ -125,13 +143,13 @@ fn eval_in(
     expr: &[u8],
 ) -> Result<Eval, NoMemory>
     ensures { IfOk result (λ e. e
-        ≡ meaning (plain_of sections.now unit.now expr.now) view.now base) }
+        ≡ locations.place_meant (plain_of sections.now unit.now expr.now) view.now base) }
 {
     if unit.version == 5 {
         let plain = plain_expr(alloc, sections, unit, expr)?;
-        Ok(eval(short(plain.as_slice())?, view, base))
+        Ok(place_meant(short(plain.as_slice())?, view, base))
     } else {
-        Ok(eval(short(expr)?, view, base))
+        Ok(place_meant(short(expr)?, view, base))
     }
 }
 
@@ -219,7 +237,7 @@ pub fn source_of<'r, 'a>(
         Located::Expression(expr) => {
             let (unit, base) = (variable.unit(), frame.base());
             let expr = expr.as_slice();
-            let meant = eval_in(alloc, frame.sections(), unit, frame.view(), base, expr)?;
+            let meant = place_in(alloc, frame.sections(), unit, frame.view(), base, expr)?;
             Ok(source_meant(meant))
         }
         Located::NoEntry => Ok(Source::Lost(Mark::OptimisedOut)),
