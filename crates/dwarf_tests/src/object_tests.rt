@@ -1,5 +1,5 @@
-//! Variables as compilers write them: in memory by an address in a local. The expected texts are
-//! from the standard's rules by hand.
+//! Variables as compilers write them: in memory by an address in a local, and with static members.
+//! The expected texts are from the standard's rules by hand.
 
 use crate::shown_tests::{Asked, Row, Scene, first_wrong};
 use wasm_syntax::Seen;
@@ -62,4 +62,27 @@ const PLACES: [Row; 5] = [
 #[test]
 fn one_location_alone_holds_the_address(rt: HostRuntime) {
     assert_eq!(rt; first_wrong(rt.alloc(), &OBJECTS, &PLACES), PLACES.len());
+}
+
+const MEMBERS: [Row; 6] = [
+    (
+        Asked::Path("s"),
+        "{a = 1234567, k = 951, n = <optimised out>, m = 1234567, b = 77}",
+    ),
+    (
+        Asked::Path("t"),
+        "{a = 40, k = 951, n = <optimised out>, m = 40, b = 0}",
+    ),
+    (Asked::Path("s.k"), "951"),
+    (Asked::Path("s.n"), "<optimised out>"),
+    (Asked::Path("s.m"), "1234567"),
+    (
+        Asked::Listed(68),
+        "{a = 1234567, k = 951, n = <optimised out>, m = 1234567, b = 77}",
+    ),
+];
+
+#[test]
+fn static_members_are_no_part_of_the_object(rt: HostRuntime) {
+    assert_eq!(rt; first_wrong(rt.alloc(), &OBJECTS, &MEMBERS), MEMBERS.len());
 }

@@ -8,7 +8,7 @@ use Rattle.dwarf_entries.specs.Names.{as_natural, at_bit_size, at_data_bit_offse
 use Rattle.var_values.specs.declared.source.Source.{Source}
 use Rattle.var_values.specs.declared.bits.Bits.{Bits}
 use Rattle.var_values.specs.Places.{Place, further}
-use Rattle.var_values.specs.Members.{at_location, at_bits, member_at}
+use Rattle.var_values.specs.Members.{at_location, at_bits, part_at}
 
 moved : (p q : Place) (z : Option ℤ) → option_map (further p) z ≡ Some q → p.source ≡ q.source
 moved p q None is = absurd cc
@@ -26,8 +26,8 @@ in_field p q (Some count) (Some first) is =
 in_field p q (Some count) None is = absurd cc
 in_field p q None first is = absurd cc
 
-kept_source : (p q : Place) (e : Entry) → member_at p e ≡ Some q → p.source ≡ q.source
-unfolding member_at
+kept_source : (p q : Place) (e : Entry) → part_at p e ≡ Some q → p.source ≡ q.source
+unfolding part_at
 kept_source p q e is = by_size (attribute at_bit_size e.attributes) is
   where
     by_size : (size : Option AttrValue)
@@ -37,7 +37,7 @@ kept_source p q e is = by_size (attribute at_bit_size e.attributes) is
     by_size (Some v) is = in_field p q (valued as_natural at_bit_size e.attributes) (valued as_natural at_data_bit_offset e.attributes) is
 
 -- the place of a member, from its offset and its bits
-pub place_told : (p q : Place) (e : Entry) (z : ℤ) (b : Option Bits) → Some q ≡ member_at p e → z ≡ q.offset → b ≡ q.bits → Some (record { source = p.source; offset = z; bits = b }) ≡ member_at p e
+pub place_told : (p q : Place) (e : Entry) (z : ℤ) (b : Option Bits) → Some q ≡ part_at p e → z ≡ q.offset → b ≡ q.bits → Some (record { source = p.source; offset = z; bits = b }) ≡ part_at p e
 place_told p q e z b is offset bits =
     let place : Source → ℤ → Option Bits → Place = λ s o c. record { source = s; offset = o; bits = c } in
     let same : place p.source z b ≡ q = ap (λ (s : Source). place s z b) (kept_source p q e (sym is)) ∙ ap (λ (o : ℤ). place q.source o b) offset ∙ ap (λ (c : Option Bits). place q.source q.offset c) bits in

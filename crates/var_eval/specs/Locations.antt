@@ -1,13 +1,12 @@
 -- Where a variable is (DWARF 4, 2.6, 3.3.5 and 4.1; DWARF 5, 2.6).
-use Rattle.std.specs.Prelude.{ℕ, ◌^◌, pos, List, take, drop, Option, Some, None, unsigned_abs, if◌then◌else◌}
-use Rattle.std.specs.Int.{int_rem_euclid}
+use Rattle.std.specs.Prelude.{ℕ, List, take, drop, Option, Some, None, if◌then◌else◌}
 use Rattle.int_ops.specs.Integers.{modulo}
 use Rattle.dwarf_info.specs.declared.entry.AttrValue.{AttrValue}
 use Rattle.dwarf_info.specs.declared.entry.AttrValue.TheVariants.{Block, Offset}
 use Rattle.dwarf_info.specs.declared.entry.Unit.{Unit as UnitTree}
-use Rattle.dwarf_info.specs.Attributes.{attribute, valued, as_number, location}
+use Rattle.dwarf_info.specs.Attributes.{attribute, location}
 use Rattle.dwarf_info.specs.Sections.{SectionBytes5}
-use Rattle.dwarf_entries.specs.Names.{at_const_value, at_frame_base}
+use Rattle.dwarf_entries.specs.Names.{at_frame_base}
 use Rattle.dwarf_entries.specs.Standing.{Standing}
 use Rattle.dwarf_loc.specs.declared.contents.Span.{Span}
 use Rattle.dwarf_expr.specs.declared.answer.PiecePlace.TheVariants as places
@@ -25,6 +24,7 @@ use Rattle.dwarf_scopes.specs.Scopes.{subprogram_at}
 use Rattle.var_values.specs.declared.mark.Mark.TheVariants.{OptimisedOut, NotRecorded, OutsideMemory, UnsupportedExpression, BadExpression, ExpressionTooDeep}
 use Rattle.var_values.specs.declared.source.Source.{Source}
 use Rattle.var_values.specs.declared.source.Source.TheVariants.{Lost, Single, Pieces}
+use Rattle.var_values.specs.Places.{constant_source}
 use Rattle.var_eval.specs.declared.located.Located.{Located}
 use Rattle.var_eval.specs.declared.located.Located.TheVariants.{Unsaid, NoEntry, Unreadable, Expression}
 use Rattle.var_eval.specs.Frames.{Frame}
@@ -89,18 +89,11 @@ source_of (evals.Unsupported op at) = Lost UnsupportedExpression
 source_of (evals.BadExpr at) = Lost BadExpression
 source_of evals.TooDeep = Lost ExpressionTooDeep
 
--- a variable that is a constant, modulo 2 ^ 64
-abbrev pub constant_source : Standing → Source
-constant_source x = elim (valued as_number at_const_value x.entry.attributes) [
-  | None ↦ Lost OptimisedOut
-  | Some z ↦ Single (places.Value (unsigned_abs (int_rem_euclid z (pos (2 ^ 64)))))
-]
-
 abbrev pub source_by : Frame → Standing → Located → Source
 source_by f x (Expression e) = source_of (place_meant (plain_of f.sections x.unit e) f.view (base_of f))
 source_by f x NoEntry = Lost OptimisedOut
 source_by f x Unreadable = Lost BadExpression
-source_by f x Unsaid = constant_source x
+source_by f x Unsaid = constant_source x.entry.attributes
 
 -- where a variable comes from in a frame
 unfoldable pub variable_source : Frame → Standing → Source

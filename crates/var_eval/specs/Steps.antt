@@ -58,9 +58,12 @@ met units part = met_as part.place.bits (behind units longest_chain part.type)
 abbrev pub member_named : List UnitAnswer → List ℕ → Standing → Option Entry
 member_named units name s = find (λ e. bytes_eq (name_or_empty units e.attributes) name) (children_tagged tag_member s)
 
+abbrev pub part_of : List UnitAnswer → Bool → Entry → Place → Part
+part_of units past e p = record { type = type_of units e.attributes; place = p; past = past }
+
 -- one of another form has no place to go on from
-abbrev pub at_member : List UnitAnswer → Place → Bool → Entry → Option Part
-at_member units place past e = option_map (λ p. record { type = type_of units e.attributes; place = p; past = past }) (member_at place e)
+unfoldable pub at_member : List UnitAnswer → Place → Bool → Entry → Option Part
+at_member units place past e = option_map (part_of units past e) (member_at place e)
 
 abbrev pub member_of : List UnitAnswer → List ℕ → Standing → Place → Bool → Reached
 member_of units name s place past = ok_or (option_and_then (at_member units place past) (member_named units name s)) UnsupportedType

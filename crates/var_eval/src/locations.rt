@@ -10,8 +10,8 @@ ghost use Rattle.var_eval.specs.Locations as locations;
 use crate::frame::Frame;
 use crate::located::Located;
 use causes::NoMemory;
-use dwarf_entries::names::{CONST_VALUE, FRAME_BASE, LOCATION};
-use dwarf_entries::{Standing, attribute, number};
+use dwarf_entries::names::{FRAME_BASE, LOCATION};
+use dwarf_entries::{Standing, attribute};
 use dwarf_expr::{Base, Eval, FrameView, PiecePlace, eval, frame_base, is_location};
 use dwarf_info::{AttrValue, Sections5, Unit};
 use dwarf_loc::Span;
@@ -19,7 +19,7 @@ use dwarf_scopes::location_in;
 use dwarf5_info::plain_expr;
 use int_ops::wrap;
 use std::alloc::Global;
-use var_values::{Mark, Source};
+use var_values::{Mark, Source, constant_source};
 use wasm_bytes::Run;
 
 /// What stands from an offset on.
@@ -211,19 +211,6 @@ fn source_meant(eval: Eval) -> Source
     }
 }
 
-/// A variable that is a constant, modulo 2^64.
-fn constant_source(standing: &Standing<'_, '_>) -> Source
-    ensures { result ≡ locations.constant_source standing.now }
-{
-    match number(standing.entry().attributes.as_slice(), CONST_VALUE) {
-        Some(constant) => {
-            let word = constant.rem_euclid(0x1_0000_0000_0000_0000);
-            Source::Single(PiecePlace::Value(word as u64))
-        }
-        None => Source::Lost(Mark::OptimisedOut),
-    }
-}
-
 /// Where a variable comes from in a frame.
 #[tactic(auto, unfolding(crate::specs::Locations::variable_source))]
 pub fn source_of<'r, 'a>(
@@ -242,6 +229,6 @@ pub fn source_of<'r, 'a>(
         }
         Located::NoEntry => Ok(Source::Lost(Mark::OptimisedOut)),
         Located::Unreadable => Ok(Source::Lost(Mark::BadExpression)),
-        Located::Unsaid => Ok(constant_source(variable)),
+        Located::Unsaid => Ok(constant_source(variable.entry().attributes.as_slice())),
     }
 }

@@ -5,7 +5,7 @@ ghost use Rattle.dwarf_entries.specs.Origins.{name_or_empty as the_name};
 ghost use Rattle.dwarf_entries.specs.Standing.{is_child};
 ghost use Rattle.dwarf_entries.specs.Tags.{tag_member};
 ghost use Rattle.var_values.specs.declared.mark.Mark.TheVariants.{UnsupportedType};
-ghost use Rattle.var_values.specs.Members.{member_at as the_place};
+ghost use Rattle.var_values.specs.Members.{part_at as the_place};
 ghost use Rattle.var_eval.specs.Steps as steps;
 ghost use Rattle.var_eval.specs.inner.Told.{Tells};
 
@@ -17,7 +17,7 @@ use dwarf_entries::tags::MEMBER;
 use dwarf_entries::{Standing, is_child, name_or_empty};
 use dwarf_info::{Entry, Units};
 use dwarf_types::{Class, class_of, type_of};
-use var_values::{Bits, Mark, member_at};
+use var_values::{Bits, Mark, constant_source, is_static, part_at};
 
 /// The first member of a name, among the entries in one of this depth.
 fn member_named<'r, 'a>(
@@ -40,18 +40,40 @@ fn member_named<'r, 'a>(
     None
 }
 
-/// The offset and the bits of a member of a structure that stands there; None where it is of
-/// another form.
+/// The offset and the bits of a member that is part of a structure that stands there; None where it
+/// is of another form.
 fn offset_of(spot: &Spot, member: &Entry<'_>) -> Option<(i128, Option<Bits>)>
     ensures { option_map
         (λ x. record { source = spot.now.source; offset = x.0; bits = x.1 }) result
         ≡ the_place spot.now member.now }
 {
-    let place = member_at(&spot.place(), member)?;
+    let place = part_at(&spot.place(), member)?;
     Some((place.offset, place.bits))
 }
 
-/// A member of a structure that stands there.
+/// A member that is part of a structure that stands there.
+fn placed_part<'r, 'a>(
+    units: &'r Units<'a>,
+    member: &'r Entry<'a>,
+    spot: Spot,
+    past: bool,
+) -> Result<Part<'r, 'a>, Stop>
+    ensures { Tells result (ok_or (option_map (steps.part_of units.now past member.now)
+        (the_place spot member.now)) UnsupportedType) }
+{
+    let Some((offset, bits)) = offset_of(&spot, member) else {
+        return Err(Stop::Marked(Mark::UnsupportedType));
+    };
+    let spot = spot.moved(offset, bits)?;
+    Ok(Part {
+        typed: type_of(units, member.attributes.as_slice()),
+        spot,
+        past,
+    })
+}
+
+/// A member of a structure that stands there; a static one is no more than its constant.
+#[tactic(auto, unfolding(crate::specs::Steps::at_member))]
 fn member_part<'r, 'a>(
     units: &'r Units<'a>,
     member: &'r Entry<'a>,
@@ -61,13 +83,13 @@ fn member_part<'r, 'a>(
     ensures { Tells result
         (ok_or (steps.at_member units.now spot past member.now) UnsupportedType) }
 {
-    let Some((offset, bits)) = offset_of(&spot, member) else {
-        return Err(Stop::Marked(Mark::UnsupportedType));
-    };
-    let spot = spot.moved(offset, bits)?;
+    if !is_static(member) {
+        return placed_part(units, member, spot, past);
+    }
+    let constant = constant_source(member.attributes.as_slice());
     Ok(Part {
         typed: type_of(units, member.attributes.as_slice()),
-        spot,
+        spot: Spot::start_of(constant),
         past,
     })
 }

@@ -6,4 +6,5 @@ pub mod ValueLaws
 pub mod WordLaws
 pub mod ArrayLaws
 pub mod NearLaws
+pub mod MemberLaws
 pub mod ScalarLaws

@@ -19,5 +19,9 @@ near_less n z h = record { from = omega (arith, ints, h.from); to = omega (arith
 pub near_one : (n : ℕ) (z : ℤ) → IsNear (suc n) z → IsNear 1 z
 near_one n z h = record { from = omega (arith, ints, h.from); to = omega (arith, ints, h.to) }
 
+-- another source
+pub near_zero : (n : ℕ) (z : ℤ) → IsNear (suc n) z → IsNear n (pos 0)
+near_zero n z h = record { from = omega (arith, ints, h.from, h.to); to = omega (arith, ints, h.from, h.to) }
+
 pub near_start : (n : ℕ) → n ≤ 16 → IsNear n (pos 0)
 near_start n few = record { from = omega (arith, ints); to = omega (arith, ints) }

@@ -11,7 +11,29 @@ use crate::bits::Bits;
 use crate::place::Place;
 use dwarf_entries::names::{BIT_SIZE, DATA_BIT_OFFSET, DATA_MEMBER_LOCATION};
 use dwarf_entries::{attribute, natural};
-use dwarf_info::{AttrValue, Entry};
+use dwarf_info::{AttrValue, Attribute, Entry};
+
+const DECLARATION: u64 = 0x3c;
+
+const EXTERNAL: u64 = 0x3f;
+
+/// Whether an attribute is a flag that is set.
+fn is_set(attributes: &[Attribute<'_>], name: u64) -> bool
+    ensures { result ≡ members.is_set (attribute name attributes.now) }
+{
+    match attribute(attributes, name) {
+        Some(AttrValue::Flag(set)) => *set,
+        _ => false,
+    }
+}
+
+/// Whether a member is static: external, or only declared. Such a one is no part of the object.
+pub fn is_static(entry: &Entry<'_>) -> bool
+    ensures { result ≡ members.is_static entry.now }
+{
+    let attributes = entry.attributes.as_slice();
+    is_set(attributes, EXTERNAL) || is_set(attributes, DECLARATION)
+}
 
 /// A constant in bytes, with its sign.
 fn distance(value: &AttrValue<'_>) -> Option<i128>
@@ -66,12 +88,12 @@ fn at_bits<'s>(place: &Place<'s>, entry: &Entry<'_>) -> Option<Place<'s>>
     })
 }
 
-/// Where a member of a structure stands that stands at a place. None where the member is of another
-/// form.
-#[tactic(auto, unfolding(crate::specs::Members::member_at))]
-pub fn member_at<'s>(place: &Place<'s>, entry: &Entry<'_>) -> Option<Place<'s>>
+/// Where a member stands that is part of a structure at a place. None where the member is of
+/// another form.
+#[tactic(auto, unfolding(crate::specs::Members::part_at))]
+pub fn part_at<'s>(place: &Place<'s>, entry: &Entry<'_>) -> Option<Place<'s>>
     requires near { IsNear 1 place.now.offset }
-    ensures is { result ≡ members.member_at place.now entry.now }
+    ensures is { result ≡ members.part_at place.now entry.now }
     ensures near { (n : ℕ) → IsNear (suc n) place.now.offset
         → IfSome result (λ p. IsNear n p.offset) }
 {

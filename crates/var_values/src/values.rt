@@ -1,6 +1,6 @@
 //! Texts of values, by recursion on their types (DWARF 4 sections 5.4, 5.5 and 5.7).
 
-ghost use Rattle.std.specs.Prelude.{◌≡◌, ◌≢◌, ◌<◌, ◌^◌, ◌++◌, suc, true, drop, map, reverse, Some, IsSome, OnOk, IfOk};
+ghost use Rattle.std.specs.Prelude.{◌≡◌, ◌≢◌, ◌<◌, ◌^◌, ◌++◌, suc, true, drop, map, reverse, unwrap_or, Some, IsSome, OnOk, IfOk};
 ghost use Rattle.dwarf_entries.specs.Origins.{longest_chain};
 ghost use Rattle.dwarf_entries.specs.Standing.{children_tagged};
 ghost use Rattle.dwarf_entries.specs.Tags.{tag_member};
@@ -10,7 +10,7 @@ ghost use Rattle.dwarf_types.specs.Sizes as sizes;
 ghost use Rattle.dwarf_types.specs.declared.behind.Typed.TheVariants as typeds;
 ghost use Rattle.dwarf_types.specs.declared.class.Class.TheVariants as classes;
 ghost use Rattle.var_values.specs.calls.Near.{IsNear};
-ghost use Rattle.var_values.specs.Members.{member_place};
+ghost use Rattle.var_values.specs.Members.{member_place, part_at, unplaced};
 ghost use Rattle.var_values.specs.Values as values;
 ghost use Rattle.var_values.specs.Values.{value_text, in_place};
 ghost use Rattle.var_values.specs.inner.Odometer as odometer;
@@ -18,12 +18,12 @@ ghost use Rattle.var_values.specs.calls.Told.{Tells};
 ghost use Rattle.var_values.specs.inner.Parts.{element_text, inner_size, separator};
 
 use crate::levels::{Level, Rows};
-use crate::members::member_at;
+use crate::members::{self, is_static};
 use crate::place::Place;
 use crate::scalars::push_scalar;
 use crate::subranges::levels_of;
 use crate::suits::suits;
-use crate::{Mark, Source};
+use crate::{Mark, Source, constant_source};
 use causes::NoMemory;
 use dwarf_entries::tags::MEMBER;
 use dwarf_entries::{LONGEST_CHAIN, Standing, is_child, name_or_empty};
@@ -210,6 +210,33 @@ fn push_in_place<'r, 'w, 'v, 'a>(
     }
 }
 
+/// Appends the value of a member that is part of its structure, or its mark.
+#[cycle(values)]
+fn push_part_value<'r, 'w, 'v, 'a>(
+    text: &mut Text,
+    context: &Context<'r, 'w, 'v, 'a>,
+    further: u32,
+    entry: &'r Entry<'a>,
+    place: &Place<'_>,
+) -> Result<(), NoMemory>
+    requires near { IsNear (suc further) place.now.offset }
+    ensures { OnOk result (text.new ≡ text.old ++ in_place (value_text context.now.units.now
+        context.now.view.now.memory further (type_at context.now.units.now entry.now.attributes)
+        (unwrap_or (part_at place.now entry.now) (unplaced place.now)))) }
+{
+    let typed = type_of(context.units, entry.attributes.as_slice());
+    if let Some(member) = members::part_at(place, entry) {
+        return push_in_place(text, context, further, &typed, &member);
+    }
+    let nowhere = Source::Lost(Mark::UnsupportedType);
+    let member = Place {
+        source: &nowhere,
+        offset: place.offset,
+        bits: None,
+    };
+    push_in_place(text, context, further, &typed, &member)
+}
+
 /// Appends the value of a member, or its mark.
 #[cycle(values)]
 fn push_member_value<'r, 'w, 'v, 'a>(
@@ -224,14 +251,14 @@ fn push_member_value<'r, 'w, 'v, 'a>(
         context.now.view.now.memory further (type_at context.now.units.now entry.now.attributes)
         (member_place place.now entry.now))) }
 {
-    let typed = type_of(context.units, entry.attributes.as_slice());
-    if let Some(member) = member_at(place, entry) {
-        return push_in_place(text, context, further, &typed, &member);
+    if !is_static(entry) {
+        return push_part_value(text, context, further, entry, place);
     }
-    let nowhere = Source::Lost(Mark::UnsupportedType);
+    let typed = type_of(context.units, entry.attributes.as_slice());
+    let constant = constant_source(entry.attributes.as_slice());
     let member = Place {
-        source: &nowhere,
-        offset: place.offset,
+        source: &constant,
+        offset: 0,
         bits: None,
     };
     push_in_place(text, context, further, &typed, &member)

@@ -8,34 +8,37 @@ use Rattle.var_values.specs.inner.Odometer.{AreSound, rows_left, rows_text, exte
 use Rattle.var_values.proofs.values.+values.Given as goal
 
 abbrev pub decreases-push_within : goal.decreases-push_within
-decreases-push_within l = 8 * l.most + 1
+decreases-push_within l = 16 * l.most + 1
 
 abbrev pub decreases-push_passed : goal.decreases-push_passed
-decreases-push_passed l = 8 * l.most
+decreases-push_passed l = 16 * l.most
 
 abbrev pub decreases-push_sized : goal.decreases-push_sized
-decreases-push_sized l = 8 * l.further + 7
+decreases-push_sized l = 16 * l.further + 8
 
 abbrev pub decreases-push_content : goal.decreases-push_content
-decreases-push_content l = 8 * l.further + 6
+decreases-push_content l = 16 * l.further + 7
 
 abbrev pub decreases-push_members : goal.decreases-push_members
-decreases-push_members l = 8 * l.further + 5
+decreases-push_members l = 16 * l.further + 6
 
 abbrev pub decreases-push_array : goal.decreases-push_array
-decreases-push_array l = 8 * l.further + 5
+decreases-push_array l = 16 * l.further + 6
 
 abbrev pub decreases-push_rows : goal.decreases-push_rows
-decreases-push_rows l = 8 * l.further + 4
+decreases-push_rows l = 16 * l.further + 5
 
 abbrev pub decreases-push_member : goal.decreases-push_member
-decreases-push_member l = 8 * l.further + 4
+decreases-push_member l = 16 * l.further + 5
 
 abbrev pub decreases-push_member_value : goal.decreases-push_member_value
-decreases-push_member_value l = 8 * l.further + 3
+decreases-push_member_value l = 16 * l.further + 4
+
+abbrev pub decreases-push_part_value : goal.decreases-push_part_value
+decreases-push_part_value l = 16 * l.further + 3
 
 abbrev pub decreases-push_in_place : goal.decreases-push_in_place
-decreases-push_in_place l = 8 * l.most + 2
+decreases-push_in_place l = 16 * l.most + 2
 
 abbrev pub invariant-push_members-loop-entry : goal.invariant-push_members-loop-entry
 invariant-push_members-loop-entry l =
