@@ -1,5 +1,5 @@
-//! Variables as compilers write them: in memory by an address in a local, and with static members.
-//! The expected texts are from the standard's rules by hand.
+//! Variables as compilers write them: in memory by an address in a local, with static members, in
+//! namespaces and in other units. The expected texts are from the standard's rules by hand.
 
 use crate::shown_tests::{Asked, Row, Scene, first_wrong};
 use wasm_syntax::Seen;
@@ -85,4 +85,20 @@ const MEMBERS: [Row; 6] = [
 #[test]
 fn static_members_are_no_part_of_the_object(rt: HostRuntime) {
     assert_eq!(rt; first_wrong(rt.alloc(), &OBJECTS, &MEMBERS), MEMBERS.len());
+}
+
+const NAMES: [Row; 8] = [
+    (Asked::Path("counter"), "77"),
+    (Asked::Path("deep"), "1234567"),
+    (Asked::Path("both"), "77"),
+    (Asked::Path("far"), "77"),
+    (Asked::Path("other"), "1234567"),
+    (Asked::Path("hidden"), "no variable"),
+    (Asked::Path("local"), "no variable"),
+    (Asked::Path("n"), "no variable"),
+];
+
+#[test]
+fn names_reach_namespaces_and_other_units(rt: HostRuntime) {
+    assert_eq!(rt; first_wrong(rt.alloc(), &OBJECTS, &NAMES), NAMES.len());
 }

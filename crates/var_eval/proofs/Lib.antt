@@ -5,3 +5,4 @@ mod Places
 mod Rows
 mod Walks
 mod Told
+mod Globals

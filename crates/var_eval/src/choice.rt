@@ -1,12 +1,12 @@
 //! The variable that a name means at an address (DWARF 4 sections 3.3, 3.4 and 4.1).
 
-ghost use Rattle.std.specs.Prelude.{◌≡◌, find, reverse, IfOk};
+ghost use Rattle.std.specs.Prelude.{◌≡◌, nat_le, find, reverse, IfOk};
 ghost use Rattle.var_eval.specs.Chosen as definitions;
 
 use causes::NoMemory;
 use dwarf_entries::tags::VARIABLE;
 use dwarf_entries::{Pick, Standing, first_picked, name_or_empty};
-use dwarf_info::{Sections5, Unit, Units};
+use dwarf_info::{Entry, Sections5, Unit, UnitAnswer, Units};
 use dwarf_scopes::{subprogram_at, variables_at};
 use pm_text::Items;
 use std::alloc::Global;
@@ -63,8 +63,110 @@ fn unit_variable<'r, 'a>(
     first_picked(&UnitVariable { units, name }, unit, unit.entries.as_slice())
 }
 
-/// The last visible variable of a name, or else the first that is the own one of the unit of the
-/// subprogram.
+const NAMESPACE: u64 = 0x39;
+
+/// Behind an entry, how deep those are that stand in no more than the unit and namespaces.
+fn reach(entry: &Entry<'_>) -> u64
+    ensures { result ≡ definitions.reach entry.now }
+{
+    let depth = u64::from(entry.depth);
+    if entry.depth == 0 || entry.tag == NAMESPACE {
+        depth + 1
+    } else {
+        depth
+    }
+}
+
+/// Whether an entry is at most so deep.
+fn is_within(entry: &Entry<'_>, deepest: u64) -> bool
+    ensures { result ≡ nat_le entry.now.depth deepest }
+{
+    u64::from(entry.depth) <= deepest
+}
+
+/// Whether an entry is a variable of a name.
+fn is_global<'r, 'a>(units: &'r Units<'a>, name: &[u8], standing: &Standing<'r, 'a>) -> bool
+    ensures { result ≡ definitions.is_global units.now name.now standing.now }
+{
+    standing.entry().tag == VARIABLE && is_named(units, name, standing)
+}
+
+/// The first variable of a name that stands in no more than a unit and namespaces.
+#[tactic(auto, unfolding(crate::specs::Chosen::global_entries))]
+fn global_variable<'r, 'a>(
+    units: &'r Units<'a>,
+    name: &[u8],
+    unit: &'r Unit<'a>,
+) -> Option<Standing<'r, 'a>>
+    ensures { result ≡ find (definitions.is_global units.now name.now)
+        (definitions.global_entries unit.now 0 unit.now.entries) }
+{
+    let mut left = unit.entries.as_slice();
+    let mut deepest = 0;
+    'entries: while let [entry, behind @ ..] = left {
+        left = behind;
+        if !is_within(entry, deepest) {
+            continue;
+        }
+        let standing = Standing::new(unit, entry, behind);
+        if is_global(units, name, &standing) {
+            return Some(standing);
+        }
+        deepest = reach(entry);
+    }
+    None
+}
+
+/// The first of a unit that could be read.
+fn global_of<'r, 'a>(
+    units: &'r Units<'a>,
+    name: &[u8],
+    answer: &'r UnitAnswer<'a>,
+) -> Option<Standing<'r, 'a>>
+    ensures { result ≡ find (definitions.is_global units.now name.now)
+        (definitions.globals answer.now) }
+{
+    match answer {
+        UnitAnswer::Tree(unit) => global_variable(units, name, unit),
+        UnitAnswer::Unreadable { section: _, at: _ } => None,
+    }
+}
+
+/// The first of these units, in their order.
+fn first_global<'r, 'a>(
+    units: &'r Units<'a>,
+    name: &[u8],
+    answers: &'r [UnitAnswer<'a>],
+) -> Option<Standing<'r, 'a>>
+    ensures { result ≡ definitions.first_global units.now name.now answers.now }
+{
+    for answer in answers {
+        if let Some(standing) = global_of(units, name, answer) {
+            return Some(standing);
+        }
+    }
+    None
+}
+
+/// The variable of a name that belongs to no scope: one of the unit itself, in a namespace of it,
+/// or of another unit.
+fn beyond_scopes<'r, 'a>(
+    units: &'r Units<'a>,
+    name: &[u8],
+    unit: &'r Unit<'a>,
+) -> Option<Standing<'r, 'a>>
+    ensures { result ≡ definitions.beyond_scopes units.now name.now unit.now }
+{
+    match unit_variable(units, name, unit) {
+        Some(own) => Some(own),
+        None => match global_variable(units, name, unit) {
+            Some(global) => Some(global),
+            None => first_global(units, name, units.as_slice()),
+        },
+    }
+}
+
+/// The last visible variable of a name, or else one that belongs to no scope.
 #[tactic(auto, unfolding(crate::specs::Chosen::chosen))]
 pub fn chosen<'r, 'a>(
     alloc: Global,
@@ -81,6 +183,6 @@ pub fn chosen<'r, 'a>(
     let visible = variables_at(alloc, sections, units.as_slice(), address)?;
     match last_named(units, name, visible) {
         Some(last) => Ok(Some(last)),
-        None => Ok(unit_variable(units, name, subprogram.unit())),
+        None => Ok(beyond_scopes(units, name, subprogram.unit())),
     }
 }

@@ -1,0 +1,10 @@
+use Rattle.std.proofs.Common.{◌≡◌, length}
+use Rattle.std.specs.Prelude.{find}
+use Rattle.var_eval.specs.Chosen.{is_global, global_entries}
+use Rattle.var_eval.proofs.choice.global_variable.Given as goal
+
+abbrev pub invariant-entries : goal.invariant-entries
+invariant-entries l = find (is_global l.units l.name) (global_entries l.unit 0 l.unit.entries) ≡ find (is_global l.units l.name) (global_entries l.unit l.deepest l.left)
+
+abbrev pub decreases-entries : goal.decreases-entries
+decreases-entries l = length l.left
