@@ -1,9 +1,10 @@
 #!/bin/sh
-# `pm debug` on traps of C programs that clang makes: `bt` beside llvm-symbolizer, frame by frame, by function, file and line; and, of plain
+# `pm debug` on traps of programs in C, C++ and Rust that clang and rustc make: `bt` beside llvm-symbolizer, frame by frame, by function, file and line; and, of plain
 # programs, `vars` and `print` beside what the program itself wrote of its variables before it trapped. clang 14 makes version 4 of the
 # debugging information, clang 19 versions 4 and 5, plain and optimized. Then the time and the memory of `bt`, beside llvm-symbolizer on the
 # same addresses, in rounds of three, also of a module with 10 MB of debugging information. Needs the program
-# python3, clang and lld of a version, and llvm-symbolizer; it passes over a version of clang that is missing.
+# python3, clang and lld of a version, and llvm-symbolizer; it passes over a version of clang that is missing, and over Rust where no rustc has
+# the library of wasm32 (Debian's packages rustc and libstd-rust-dev-wasm32).
 set -eu
 top=$(cd "$(dirname "$0")/.." && pwd)
 pm=${PM:-$("$top/tools/program")}
@@ -54,6 +55,46 @@ rows() {
     esac
   done
 }
+
+# beside COMMAND...: frames beside llvm-symbolizer, and what the commands print beside what the program wrote of its variables, but for types
+# that have no text.
+beside() {
+  die 'i32:1234567 i32:77'
+  "$pm" debug module.wasm core.wasm bt > printed
+  llvm-symbolizer --functions=short --obj=module.wasm < addresses > symbols
+  python3 "$helper" frames printed symbols || status=1
+  "$pm" debug module.wasm core.wasm "$@" > printed
+  python3 "$helper" told printed core.wasm '<unsupported type>' || status=1
+}
+
+# objects CLANG FLAGS: structures by value, static members and namespaces of C++.
+objects() {
+  echo "clang $1 $2, traps/objects.cc"
+  "clang-$1" --target=wasm32 $2 -fno-builtin -fno-exceptions -c -o module.o "$top/bench/programs/traps/objects.cc"
+  "wasm-ld-$1" --no-entry -o module.wasm module.o
+  beside vars 'print counted.pair.b' 'print counted.kMost' 'print stock' 'print shelves' 'print *nowhere'
+}
+
+# statics RUSTC: structures by value of Rust, and the statics of its modules.
+statics() {
+  echo "$("$1" --version), traps/statics.rs"
+  "$1" --edition 2021 --target wasm32-unknown-unknown --crate-type cdylib -C panic=abort -C opt-level=0 -g -o module.wasm \
+    "$top/bench/programs/traps/statics.rs" 2> warnings
+  beside 'print account.balance' 'print account.debt' 'print account.pair' 'print account.initial' 'print account.open' 'print *nowhere' \
+    'frame 1' 'print held' 'print letter' 'print debt' 'print most' 'print plain' 'print STOCK' 'print SHELVES'
+}
+
+if command -v clang-14 > /dev/null; then objects 14 '-gdwarf-4 -glldb -O0'; fi
+if command -v clang-19 > /dev/null; then objects 19 '-g -O0'; fi
+rust=
+for name in rustc /usr/bin/rustc; do
+  library=$("$name" --print target-libdir --target wasm32-unknown-unknown 2> /dev/null) || continue
+  if test -d "$library"; then
+    rust=$name
+    break
+  fi
+done
+if test -n "$rust"; then statics "$rust"; else echo 'no rustc has the library of wasm32'; fi
 
 for level in -O0 -O2; do
   if command -v clang-14 > /dev/null; then rows 14 "-gdwarf-4 -glldb $level"; else echo 'clang 14 is missing'; fi
