@@ -4,4 +4,5 @@ pub mod Files
 pub mod Information
 pub mod Frames
 pub mod Unreadable
+pub mod calls
 pub mod inner

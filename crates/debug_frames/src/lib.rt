@@ -5,6 +5,7 @@ mod address;
 mod files;
 mod frames;
 mod information;
+pub mod laws;
 mod places;
 mod programs;
 mod sections;
