@@ -6,8 +6,8 @@ ghost use Rattle.debugger.specs.Variables as variables;
 ghost use Rattle.debugger.specs.Session as definitions;
 
 use crate::{
-    Command, Subject, push_backtrace, push_frame_at, push_globals, push_locals, push_memory,
-    push_no_frame, push_operands, push_path, push_unread, push_variables, second_word,
+    Command, Information, Subject, push_backtrace, push_frame_at, push_globals, push_locals,
+    push_memory, push_no_frame, push_operands, push_path, push_unread, push_variables, second_word,
 };
 use causes::NoMemory;
 use dump_format::Frame;
@@ -41,14 +41,16 @@ fn push_chosen_locals(
 fn push_chosen_variables(
     out: &mut Text,
     alloc: Global,
+    information: &Information<'_>,
     subject: &Subject<'_, '_, '_, '_>,
     chosen: u32,
 ) -> Result<(), NoMemory>
+    requires { information.now ≡ subject.now.information }
     ensures { OnOk result (out.new ≡ out.old
         ++ definitions.of_chosen subject.now chosen (variables.variables_text subject.now)) }
 {
     match frame_at(subject, chosen) {
-        Some(frame) => push_variables(out, alloc, subject, frame),
+        Some(frame) => push_variables(out, alloc, information, subject, frame),
         None => push_no_frame(out, 0),
     }
 }
@@ -57,16 +59,18 @@ fn push_chosen_variables(
 fn push_chosen_path(
     out: &mut Text,
     alloc: Global,
+    information: &Information<'_>,
     subject: &Subject<'_, '_, '_, '_>,
     chosen: u32,
     word: &str,
     path: &Path<'_>,
 ) -> Result<(), NoMemory>
+    requires { information.now ≡ subject.now.information }
     ensures { OnOk result (out.new ≡ out.old ++ definitions.of_chosen subject.now chosen
         (λ f. variables.path_text subject.now f word.now path.now)) }
 {
     match frame_at(subject, chosen) {
-        Some(frame) => push_path(out, alloc, subject, frame, word, path),
+        Some(frame) => push_path(out, alloc, information, subject, frame, word, path),
         None => push_no_frame(out, 0),
     }
 }
@@ -74,20 +78,51 @@ fn push_chosen_path(
 /// What a command prints.
 type Answer = Result<Text, NoMemory>;
 
-fn backtrace(alloc: Global, subject: &Subject<'_, '_, '_, '_>) -> Answer
+fn backtrace_by(
+    alloc: Global,
+    information: &Information<'_>,
+    subject: &Subject<'_, '_, '_, '_>,
+) -> Answer
+    requires { information.now ≡ subject.now.information }
     ensures { IfOk result (λ text. text ≡ texts.backtrace_text subject.now) }
 {
     let mut out = Text::new(alloc);
-    push_backtrace(&mut out, alloc, subject)?;
+    push_backtrace(&mut out, alloc, information, subject)?;
     Ok(out)
 }
 
-fn one_frame(alloc: Global, subject: &Subject<'_, '_, '_, '_>, number: u64) -> Answer
+fn backtrace(alloc: Global, subject: &mut Subject<'_, '_, '_, '_>) -> Answer
+    ensures text { IfOk result (λ text. text ≡ texts.backtrace_text subject.old) }
+    ensures same { subject.new ≡ subject.old }
+{
+    let information = subject.take_information(alloc)?;
+    let answer = backtrace_by(alloc, &information, subject);
+    subject.keep_information(information);
+    answer
+}
+
+fn one_frame_by(
+    alloc: Global,
+    information: &Information<'_>,
+    subject: &Subject<'_, '_, '_, '_>,
+    number: u64,
+) -> Answer
+    requires { information.now ≡ subject.now.information }
     ensures { IfOk result (λ text. text ≡ texts.frame_text_at subject.now number) }
 {
     let mut out = Text::new(alloc);
-    push_frame_at(&mut out, alloc, subject, number)?;
+    push_frame_at(&mut out, alloc, information, subject, number)?;
     Ok(out)
+}
+
+fn one_frame(alloc: Global, subject: &mut Subject<'_, '_, '_, '_>, number: u64) -> Answer
+    ensures text { IfOk result (λ text. text ≡ texts.frame_text_at subject.old number) }
+    ensures same { subject.new ≡ subject.old }
+{
+    let information = subject.take_information(alloc)?;
+    let answer = one_frame_by(alloc, &information, subject, number);
+    subject.keep_information(information);
+    answer
 }
 
 fn locals(alloc: Global, subject: &Subject<'_, '_, '_, '_>, chosen: u32) -> Answer
@@ -140,32 +175,69 @@ fn globals(alloc: Global, subject: &Subject<'_, '_, '_, '_>) -> Answer
 }
 
 #[tactic(auto, unfolding(crate::specs::Session::chosen_variables))]
-fn variables(alloc: Global, subject: &Subject<'_, '_, '_, '_>, chosen: u32) -> Answer
+fn variables_by(
+    alloc: Global,
+    information: &Information<'_>,
+    subject: &Subject<'_, '_, '_, '_>,
+    chosen: u32,
+) -> Answer
+    requires { information.now ≡ subject.now.information }
     ensures { IfOk result (λ text. text ≡ definitions.chosen_variables subject.now chosen) }
 {
     let mut out = Text::new(alloc);
-    push_unread(&mut out, subject)?;
-    push_chosen_variables(&mut out, alloc, subject, chosen)?;
+    push_unread(&mut out, information, subject)?;
+    push_chosen_variables(&mut out, alloc, information, subject, chosen)?;
     Ok(out)
 }
 
-fn at_path(
+fn variables(alloc: Global, subject: &mut Subject<'_, '_, '_, '_>, chosen: u32) -> Answer
+    ensures text { IfOk result (λ text. text ≡ definitions.chosen_variables subject.old chosen) }
+    ensures same { subject.new ≡ subject.old }
+{
+    let information = subject.take_information(alloc)?;
+    let answer = variables_by(alloc, &information, subject, chosen);
+    subject.keep_information(information);
+    answer
+}
+
+fn at_path_by(
     alloc: Global,
+    information: &Information<'_>,
     subject: &Subject<'_, '_, '_, '_>,
     chosen: u32,
     word: &str,
     path: &Path<'_>,
 ) -> Answer
+    requires { information.now ≡ subject.now.information }
     ensures { IfOk result (λ text. text
         ≡ definitions.chosen_path subject.now chosen word.now (Some path.now)) }
 {
     let mut out = Text::new(alloc);
-    push_chosen_path(&mut out, alloc, subject, chosen, word, path)?;
+    push_chosen_path(&mut out, alloc, information, subject, chosen, word, path)?;
     Ok(out)
 }
 
-fn at_word(alloc: Global, subject: &Subject<'_, '_, '_, '_>, chosen: u32, word: &str) -> Answer
-    ensures { IfOk result (λ text. text ≡ definitions.word_text subject.now chosen word.now) }
+fn at_path(
+    alloc: Global,
+    subject: &mut Subject<'_, '_, '_, '_>,
+    chosen: u32,
+    word: &str,
+    path: &Path<'_>,
+) -> Answer
+    ensures text { IfOk result (λ text. text
+        ≡ definitions.chosen_path subject.old chosen word.now (Some path.now)) }
+    ensures same { subject.new ≡ subject.old }
+{
+    let information = subject.take_information(alloc)?;
+    let answer = at_path_by(alloc, &information, subject, chosen, word, path);
+    subject.keep_information(information);
+    answer
+}
+
+fn at_word(alloc: Global, subject: &mut Subject<'_, '_, '_, '_>, chosen: u32, word: &str) -> Answer
+    ensures text { IfOk result (λ text. text
+        ≡ definitions.word_text subject.old chosen word.now) }
+    ensures same { subject.new ≡ subject.old }
 {
     match parse_path(alloc, word)? {
         Some(path) => at_path(alloc, subject, chosen, word, &path),
@@ -191,12 +263,13 @@ fn bad(alloc: Global) -> Answer
 /// What a command prints where a frame is chosen.
 pub fn answer(
     alloc: Global,
-    subject: &Subject<'_, '_, '_, '_>,
+    subject: &mut Subject<'_, '_, '_, '_>,
     chosen: u32,
     given: &str,
     command: Command,
 ) -> Answer
-    ensures { IfOk result (definitions.Prints subject.now chosen given.now command) }
+    ensures prints { IfOk result (definitions.Prints subject.old chosen given.now command) }
+    ensures same { subject.new ≡ subject.old }
 {
     match command {
         Command::Backtrace => backtrace(alloc, subject),

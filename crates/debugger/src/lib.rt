@@ -25,7 +25,7 @@ pub use memory::recorded_memory;
 pub use paths::push_path;
 pub use reading::{read_command, second_word};
 pub use session::Session;
-pub use subject::{Subject, information_of};
+pub use subject::Subject;
 pub use texts::{
     push_backtrace, push_frame_at, push_globals, push_locals, push_memory, push_no_frame,
     push_operands, push_unread,

@@ -6,7 +6,7 @@ ghost use Rattle.debugger.specs.Variables as definitions;
 use crate::Subject;
 use crate::view::view_of;
 use causes::NoMemory;
-use debug_frames::address_of;
+use debug_frames::{Information, address_of};
 use dump_format::Frame;
 use pm_text::Text;
 use std::alloc::Global;
@@ -48,16 +48,17 @@ fn push_shown(out: &mut Text, name: &[u8], word: &str, shown: &Shown) -> Result<
 pub fn push_path(
     out: &mut Text,
     alloc: Global,
+    information: &Information<'_>,
     subject: &Subject<'_, '_, '_, '_>,
     frame: &Frame,
     word: &str,
     path: &Path<'_>,
 ) -> Result<(), NoMemory>
+    requires { information.now ≡ subject.now.information }
     ensures { OnOk result (out.new
         ≡ out.old ++ definitions.path_text subject.now frame.now word.now path.now) }
 {
     let view = view_of(subject, frame);
-    let information = subject.information();
     let address = address_of(subject.parts(), frame);
     let looks = Looks::new(
         alloc,

@@ -1,12 +1,13 @@
 //! A session of commands.
 
-ghost use Rattle.std.specs.Prelude.{◌≡◌, IfOk, slice_get};
+ghost use Rattle.std.specs.Prelude.{◌≡◌, IfOk, IfSome, None, slice_get};
+ghost use Rattle.debug_frames.specs.Information.{information};
 ghost use Rattle.debugger.specs.Subject.{subject_of, Spells};
 ghost use Rattle.debugger.specs.Session.{chosen_of, chosen_behind};
 ghost use Rattle.debugger.specs.calls.Sitting.{sitting, Answers};
 
 use crate::answers::answer;
-use crate::{Command, Information, Subject, information_of, read_command};
+use crate::{Command, Information, Subject, read_command};
 use causes::NoMemory;
 use dump_match::{Matched, StateMatched};
 use pm_text::Text;
@@ -50,26 +51,29 @@ fn chosen_of(subject: &Subject<'_, '_, '_, '_>, chosen: u32, number: u64) -> u32
 }
 
 impl<'a, 'm, 'd, 'b> Session<'a, 'm, 'd, 'b> {
-    /// A session on a module, with what its bytes say, and a dump that shows a state of it. This
-    /// frame is chosen.
+    /// A session on the module that these bytes spell, with what they say where it is known, and a
+    /// dump that shows a state of the module. This frame is chosen.
     pub fn on_state(
         alloc: Global,
-        information: Information<'a>,
+        bytes: &'a [u8],
+        known: Option<Information<'a>>,
         matched: StateMatched<'m, 'd, 'b>,
         chosen: u32,
     ) -> Result<Self, NoMemory>
+        requires spells { Spells bytes.now matched.module_ }
+        requires known { IfSome known (λ x. x ≡ information bytes.now matched.module_.customs) }
         ensures { IfOk result (λ s. s ≡ sitting (record {
-          information = information.entry;
+          information = information bytes.now matched.entry.module_.customs;
           module_ = matched.entry.module_;
           dump = matched.entry.dump;
         }) chosen) }
     {
-        let subject = Subject::new(alloc, information, matched)?;
+        let subject = Subject::new(alloc, bytes, known, matched)?;
         Ok(Session { subject, chosen })
     }
 
     /// A session on the module that these bytes spell, and a dump that can be one of it. Debugging
-    /// information is read once, here.
+    /// information is read once, at the first command that needs it.
     pub fn new(
         alloc: Global,
         bytes: &'a [u8],
@@ -78,8 +82,7 @@ impl<'a, 'm, 'd, 'b> Session<'a, 'm, 'd, 'b> {
         requires { Spells bytes.now matched.module_ }
         ensures { IfOk result (λ s. s ≡ sitting (subject_of bytes.now matched.entry) 0) }
     {
-        let information = information_of(alloc, bytes, matched.module())?;
-        Session::on_state(alloc, information, StateMatched::of_dump(matched), 0)
+        Session::on_state(alloc, bytes, None, StateMatched::of_dump(matched), 0)
     }
 
     /// The chosen frame.
@@ -89,9 +92,9 @@ impl<'a, 'm, 'd, 'b> Session<'a, 'm, 'd, 'b> {
         self.chosen
     }
 
-    /// What the bytes of the module say, for another session.
-    pub fn into_information(self) -> Information<'a>
-        ensures { result ≡ self.entry.subject.information }
+    /// What the bytes of the module say, for another session, where it was read.
+    pub fn into_information(self) -> Option<Information<'a>>
+        ensures { IfSome result (λ x. x ≡ self.entry.subject.information) }
     {
         self.subject.into_information()
     }
@@ -101,7 +104,7 @@ impl<'a, 'm, 'd, 'b> Session<'a, 'm, 'd, 'b> {
         ensures { Answers self.old text.now result self.new }
     {
         let command = read_command(text);
-        let printed = answer(alloc, &self.subject, self.chosen, text, command)?;
+        let printed = answer(alloc, &mut self.subject, self.chosen, text, command)?;
         self.chosen = chosen_behind(&self.subject, self.chosen, command);
         Ok(printed)
     }

@@ -21,30 +21,35 @@ use std::marker::Model;
 use wasm_syntax::{ModuleParts, Seen};
 use wasm_validate::Validated;
 
-/// What the bytes of a module say, the module, and a dump that can show a state of it, with the
-/// globals and the memory that it records. Contracts see the first three.
+/// What the bytes of a module say, which is read when it is first asked for, the module, and a dump
+/// that can show a state of it, with the globals and the memory that it records. Contracts see the
+/// first three.
 #[derive(Drop)]
 pub struct Subject<'a, 'm, 'd, 'b> {
-    information: Information<'a>,
+    bytes: &'a [u8],
+    known: Option<Information<'a>>,
     matched: StateMatched<'m, 'd, 'b>,
     globals: Items<Seen>,
     memory: Option<Memory>,
 }
 
 impl<'a, 'm, 'd, 'b> Model for Subject<'a, 'm, 'd, 'b> {
-    ghost use Rattle.std.specs.Prelude.{◌≡◌, option_map};
+    ghost use Rattle.std.specs.Prelude.{◌≡◌, IfSome, option_map};
+    ghost use Rattle.debug_frames.specs.Information.{information};
     ghost use Rattle.debugger.specs.Recorded.{recorded_globals, recorded_memory};
-    ghost use Rattle.debugger.specs.Subject.{Subject};
+    ghost use Rattle.debugger.specs.Subject.{Subject, Spells};
 
     ghost Value = { Subject };
 
     ghost view = { λ s. record {
-      information = s.information;
+      information = information s.bytes.now s.matched.module_.customs;
       module_ = s.matched.module_;
       dump = s.matched.dump;
     } };
 
-    ghost invariant = { λ s. (s.globals ≡ recorded_globals s.matched.dump)
+    ghost invariant = { λ s. Spells s.bytes.now s.matched.module_
+        × IfSome s.known (λ x. x ≡ information s.bytes.now s.matched.module_.customs)
+        × (s.globals ≡ recorded_globals s.matched.dump)
         × (option_map (λ m. m.memory) s.memory ≡ recorded_memory s.matched.dump) };
 }
 
@@ -64,7 +69,7 @@ fn memory_of(alloc: Global, matched: &StateMatched<'_, '_, '_>) -> Result<Option
 }
 
 /// What the bytes of a module say, which are those that it was decoded from.
-pub fn information_of<'a>(
+fn information_of<'a>(
     alloc: Global,
     bytes: &'a [u8],
     module_: &Validated,
@@ -76,14 +81,17 @@ pub fn information_of<'a>(
 }
 
 impl<'a, 'm, 'd, 'b> Subject<'a, 'm, 'd, 'b> {
-    /// The information is what the bytes of the module say.
+    /// The bytes are those that the module was decoded from; what they say may be known already.
     pub fn new(
         alloc: Global,
-        information: Information<'a>,
+        bytes: &'a [u8],
+        known: Option<Information<'a>>,
         matched: StateMatched<'m, 'd, 'b>,
     ) -> Result<Self, NoMemory>
+        requires spells { Spells bytes.now matched.module_ }
+        requires known { IfSome known (λ x. x ≡ information bytes.now matched.module_.customs) }
         ensures { IfOk result (λ s. s ≡ record {
-          information = information.entry;
+          information = information bytes.now matched.entry.module_.customs;
           module_ = matched.entry.module_;
           dump = matched.entry.dump;
         }) }
@@ -91,24 +99,41 @@ impl<'a, 'm, 'd, 'b> Subject<'a, 'm, 'd, 'b> {
         let globals = globals_of(alloc, &matched)?;
         let memory = memory_of(alloc, &matched)?;
         Ok(Subject {
-            information,
+            bytes,
+            known,
             matched,
             globals,
             memory,
         })
     }
 
-    pub fn information(&self) -> &Information<'a>
-        ensures { result.now ≡ self.now.information }
+    /// What the bytes of the module say, which is taken out where it was read before.
+    pub(crate) fn take_information(&mut self, alloc: Global) -> Result<Information<'a>, NoMemory>
+        ensures value { IfOk result (λ x. x ≡ self.old.information) }
+        ensures same { self.new ≡ self.old }
     {
-        &self.information
+        match self.known.take() {
+            Some(information) => Ok(information),
+            None => {
+                let information = information_of(alloc, self.bytes, self.matched.module())?;
+                Ok(information)
+            }
+        }
     }
 
-    /// What the bytes of the module say, for another subject.
-    pub fn into_information(self) -> Information<'a>
-        ensures { result ≡ self.entry.information }
+    /// Keeps what the bytes of the module say.
+    pub(crate) fn keep_information(&mut self, information: Information<'a>)
+        requires { information ≡ self.old.information }
+        ensures { self.new ≡ self.old }
     {
-        self.information
+        self.known = Some(information);
+    }
+
+    /// What the bytes of the module say, for another subject, where it was read.
+    pub fn into_information(self) -> Option<Information<'a>>
+        ensures { IfSome result (λ x. x ≡ self.entry.information) }
+    {
+        self.known
     }
 
     pub fn parts(&self) -> &ModuleParts

@@ -11,7 +11,7 @@ use crate::subject::Subject;
 use crate::{push_examined, push_listing};
 use causes::NoMemory;
 use commands::push_number;
-use debug_frames::{Symbolizer, push_frame, push_unreadable};
+use debug_frames::{Information, Symbolizer, push_frame, push_unreadable};
 use dump_format::Frame;
 use pm_text::Text;
 use std::alloc::Global;
@@ -44,14 +44,16 @@ fn push_one(
 fn push_frames(
     out: &mut Text,
     alloc: Global,
+    information: &Information<'_>,
     subject: &Subject<'_, '_, '_, '_>,
     frames: &[Frame],
 ) -> Result<(), NoMemory>
+    requires { information.now ≡ subject.now.information }
     ensures { OnOk result (out.new
         ≡ out.old ++ numbered (frame_text subject.now.information subject.now.module_) 0
         frames.now) }
 {
-    let mut symbolizer = Symbolizer::new(alloc, subject.information())?;
+    let mut symbolizer = Symbolizer::new(alloc, information)?;
     for (i, frame) in frames.iter().enumerate() {
         push_one(out, alloc, &mut symbolizer, subject, i as u64, frame)?;
     }
@@ -59,10 +61,15 @@ fn push_frames(
 }
 
 /// Adds the lines on what could not be read.
-pub fn push_unread(out: &mut Text, subject: &Subject<'_, '_, '_, '_>) -> Result<(), NoMemory>
+pub fn push_unread(
+    out: &mut Text,
+    information: &Information<'_>,
+    subject: &Subject<'_, '_, '_, '_>,
+) -> Result<(), NoMemory>
+    requires { information.now ≡ subject.now.information }
     ensures { OnOk result (out.new ≡ out.old ++ unreadable_text subject.now.information) }
 {
-    push_unreadable(out, subject.information())
+    push_unreadable(out, information)
 }
 
 /// Adds the lines of each frame, behind those on what could not be read.
@@ -70,12 +77,20 @@ pub fn push_unread(out: &mut Text, subject: &Subject<'_, '_, '_, '_>) -> Result<
 pub fn push_backtrace(
     out: &mut Text,
     alloc: Global,
+    information: &Information<'_>,
     subject: &Subject<'_, '_, '_, '_>,
 ) -> Result<(), NoMemory>
+    requires { information.now ≡ subject.now.information }
     ensures { OnOk result (out.new ≡ out.old ++ definitions.backtrace_text subject.now) }
 {
-    push_unread(out, subject)?;
-    push_frames(out, alloc, subject, subject.dump().frames.as_slice())
+    push_unread(out, information, subject)?;
+    push_frames(
+        out,
+        alloc,
+        information,
+        subject,
+        subject.dump().frames.as_slice(),
+    )
 }
 
 /// Adds the lines of the frame of a number, or that there is none.
@@ -83,14 +98,16 @@ pub fn push_backtrace(
 pub fn push_frame_at(
     out: &mut Text,
     alloc: Global,
+    information: &Information<'_>,
     subject: &Subject<'_, '_, '_, '_>,
     number: u64,
 ) -> Result<(), NoMemory>
+    requires { information.now ≡ subject.now.information }
     ensures { OnOk result (out.new ≡ out.old ++ definitions.frame_text_at subject.now number) }
 {
     match subject.dump().frames.get(number as usize) {
         Some(frame) => {
-            let mut symbolizer = Symbolizer::new(alloc, subject.information())?;
+            let mut symbolizer = Symbolizer::new(alloc, information)?;
             push_one(out, alloc, &mut symbolizer, subject, number, frame)
         }
         None => push_no_frame(out, number),

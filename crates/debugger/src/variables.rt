@@ -6,7 +6,7 @@ ghost use Rattle.debugger.specs.Variables as definitions;
 use crate::Subject;
 use crate::view::view_of;
 use causes::NoMemory;
-use debug_frames::address_of;
+use debug_frames::{Information, address_of};
 use dump_format::Frame;
 use dwarf_entries::{Standing, name_or_empty};
 use dwarf_scopes::variables_at;
@@ -80,13 +80,14 @@ fn push_visible(
 pub fn push_variables(
     out: &mut Text,
     alloc: Global,
+    information: &Information<'_>,
     subject: &Subject<'_, '_, '_, '_>,
     frame: &Frame,
 ) -> Result<(), NoMemory>
+    requires { information.now ≡ subject.now.information }
     ensures { OnOk result (out.new ≡ out.old ++ definitions.variables_text subject.now frame.now) }
 {
     let view = view_of(subject, frame);
-    let information = subject.information();
     let address = address_of(subject.parts(), frame);
     let looks = Looks::new(
         alloc,

@@ -1,7 +1,6 @@
 //! Commands of the debugger on the state that is shown.
 
 ghost use Rattle.std.specs.Prelude.{◌≡◌, ◌<◌, ◌^◌, IfOk, OnOk, codes};
-ghost use Rattle.debug_frames.specs.Information.{information};
 ghost use Rattle.debugger.specs.Subject.{Spells};
 ghost use Rattle.dump_match.specs.States.{KeptState};
 ghost use Rattle.replay.specs.Moves.{OfEach};
@@ -10,7 +9,7 @@ ghost use Rattle.replay_command.specs.inner.Steps.{Adds, BeginsWithLook, IsShort
 
 use crate::reading::{begins_with_look, first_command};
 use causes::NoMemory;
-use debugger::{Information, Session, information_of};
+use debugger::{Information, Session};
 use dump_format::Dump;
 use dump_match::{StateMatched, matches_state};
 use pm_text::Text;
@@ -20,8 +19,8 @@ use std::marker::Model;
 use trap_image::image;
 use wasm_validate::Validated;
 
-/// Looks at states of a module: what its bytes say, which is read at the first look, and the chosen
-/// frame.
+/// Looks at states of a module: what its bytes say, which is read at the first look that needs it,
+/// and the chosen frame.
 #[derive(Drop)]
 pub(crate) struct Viewer<'a> {
     source: &'a Validated,
@@ -137,20 +136,6 @@ impl<'a> Viewer<'a> {
         self.chosen = 0;
     }
 
-    /// What the bytes of the module say, which is taken out where it was read before.
-    fn take_information(&mut self, alloc: Global) -> Result<Information<'a>, NoMemory>
-        ensures value { IfOk result (λ x. x ≡ information self.old.bytes self.old.module_.customs) }
-        ensures same { self.new ≡ self.old }
-    {
-        match self.known.take() {
-            Some(information) => Ok(information),
-            None => {
-                let information = information_of(alloc, self.bytes, self.source)?;
-                Ok(information)
-            }
-        }
-    }
-
     /// Adds what the commands before the first move print on the state that is shown, and hands out
     /// the text that is left from there on.
     pub(crate) fn look<'c>(
@@ -170,11 +155,11 @@ impl<'a> Viewer<'a> {
     {
         let dump = shown_dump(alloc, self.source, replayer)?;
         let matched = matched(self.source, &dump);
-        let information = self.take_information(alloc)?;
-        let mut session = Session::on_state(alloc, information, matched, self.chosen)?;
+        let known = self.known.take();
+        let mut session = Session::on_state(alloc, self.bytes, known, matched, self.chosen)?;
         let rest = push_looks(out, alloc, &mut session, commands)?;
         self.chosen = session.chosen();
-        self.known = Some(session.into_information());
+        self.known = session.into_information();
         Ok(rest)
     }
 }
