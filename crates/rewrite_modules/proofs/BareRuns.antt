@@ -1,5 +1,5 @@
 -- Runs without offsets.
-use Rattle.std.proofs.Common.{◌≡◌, ℕ, zero, suc, ◌+◌, List, [], ◌∷◌, length, map, Option, Some, None, Bool, true, false, nat_le, refl, sym, ap, ap₂, ◌∙◌, subst, option_map, if◌then◌else◌, unwrap_or}
+use Rattle.std.proofs.Common.{◌≡◌, ℕ, zero, suc, ◌+◌, List, [], ◌∷◌, length, map, slice_get, Option, Some, None, Bool, true, false, nat_le, refl, sym, ap, ap₂, ◌∙◌, subst, option_map, if◌then◌else◌, unwrap_or}
 use Rattle.std.specs.Prelude.{fold, replicate}
 use Rattle.wasm_syntax.specs.declared.value.Value.{Value}
 use Rattle.wasm_syntax.specs.declared.instruction.Op.{Op}
@@ -19,6 +19,10 @@ use Rattle.rewrite_modules.specs.calls.Bare.{bare, bare_config, bare_ran}
 use Rattle.wasm_syntax.specs.SameCode.{op_code, code_alone, global_code, element_code, segment_code}
 use Rattle.rewrite_modules.proofs.BareStep.{bare_stepped, bare_function, function_bare, bare_engine, step_bare}
 use Rattle.rewrite_modules.specs.Simulates.{EndsAlike, SameState, Alike, AllAlike, Simulates}
+use Rattle.rewrite_modules.specs.Flag.{LowersFlag}
+use Rattle.std.proofs.lemmas.Option.{slice_get-map}
+use Rattle.pm_text.proofs.Lists.{some_is}
+use Rattle.wasm_syntax.specs.declared.value.Value.TheVariants as values
 use Rattle.std.specs.Option.{option_or}
 
 abbrev pub bare_ended : Ended → Ended
@@ -242,3 +246,23 @@ simulates_bare factor p q r e s is replies d n d1 d2 nd =
     let one = run p false is replies d n in
     let same = runs_alike q r (sym e) true is replies (d + 2) x.0 in
     (x.0, x.1, x.2, all_from one (run r true is replies (d + 2) x.0) (subst (AllAlike one) same (all_to one (run q true is replies (d + 2) x.0) x.3)))
+
+-- and lowers its flag behind each trap
+last_from : (o : Option Config) (c : Config) → option_map bare_config o ≡ Some (bare_config c) → (b : Config) × (o ≡ Some b) × (bare_config b ≡ bare_config c)
+last_from None c e = absurd (cc)
+last_from (Some b) c e = (b, refl, some_is e)
+
+pub lowers_bare : (p q r : Program) → bare r ≡ bare q → LowersFlag p q → LowersFlag p r
+lowers_bare p q r e h is replies d n i k x c d1 d2 nd at o l =
+    let one = run q true is replies (d + 2) n in
+    let two = run r true is replies (d + 2) n in
+    let there : slice_get (map bare_ran one) i ≡ Some (bare_ran x) = ap (λ z. slice_get z i) (runs_alike q r (sym e) true is replies (d + 2) n) ∙ slice_get-map bare_ran two i ∙ ap (option_map bare_ran) at in
+    by_there (slice_get one i) refl (sym (slice_get-map bare_ran one i) ∙ there)
+  where
+    by_there : (o1 : Option Ran) → slice_get (run q true is replies (d + 2) n) i ≡ o1 → option_map bare_ran (slice_get (run q true is replies (d + 2) n) i) ≡ Some (bare_ran x) → slice_get c.world.globals (length p.module_.globals) ≡ Some (values.I32 0)
+    by_there None g t = let z : option_map bare_ran None ≡ Some (bare_ran x) = subst (λ w. option_map bare_ran w ≡ Some (bare_ran x)) g t in absurd (cc)
+    by_there (Some y) g t =
+        let same : bare_ran y ≡ bare_ran x = some_is (subst (λ w. option_map bare_ran w ≡ Some (bare_ran x)) g t) in
+        let b = last_from y.last c (ap (λ z. z.last) same ∙ ap (option_map bare_config) l) in
+        let at_b = h is replies d n i k y b.0 d1 d2 nd g (ap (λ z. z.outcome) same ∙ o) b.1 in
+        subst (λ z. slice_get z.world.globals (length p.module_.globals) ≡ Some (values.I32 0)) b.2 at_b

@@ -24,7 +24,7 @@ use Rattle.rewrite_bodies.specs.calls.Telling.{collected}
 use Rattle.rewrite_bodies.proofs.Sim.{len_of}
 use Rattle.rewrite_bodies.specs.calls.Standing.{Stands}
 use Rattle.rewrite_bodies.proofs.Calls.{AnswerRel, served_rel}
-use Rattle.wasm_syntax.specs.Run.{Ended, ended, run_steps, run_function, run_alone, host_alone, engine, globals_at_start, start_memory, start_table, start_world, cause_of_segments, got_stuck, ran_to, run_entry, go_on, invoked}
+use Rattle.wasm_syntax.specs.Run.{Ended, ended, run_steps, run_function, run_alone, host_alone, engine, globals_at_start, start_memory, start_table, start_world, cause_of_segments, got_stuck, Ran, ran_to, run_entry, go_on, invoked}
 use Rattle.rewrite_modules.specs.Wrappers.{wrapper_nodes, wrapper}
 use Rattle.rewrite_modules.specs.FlatCode.{body_of}
 use Rattle.rewrite_modules.specs.Instrument.{new_module, instrument}
@@ -35,7 +35,8 @@ use Rattle.rewrite_modules.proofs.Links.{Ready, half, stands, wrapper_there, typ
 use Rattle.rewrite_modules.proofs.Shown.{whole_is, dump_is, few_calls}
 use Rattle.dump_write.specs.ImageBytes.{bytes_of}
 use Rattle.rewrite_modules.specs.Simulates.{memory_of, SameState, Alike}
-use Rattle.rewrite_modules.proofs.Whole.{Stood, invocation}
+use Rattle.rewrite_modules.proofs.Followed.{Followed, Untrapped, no_trap, lowered}
+use Rattle.rewrite_modules.proofs.Whole.{Stood, invocation, flag_at}
 use Rattle.rewrite_modules.proofs.Runs.{AllMade}
 use Rattle.rewrite_modules.proofs.Start.{Outside}
 use Rattle.std.proofs.Math.Seq.{take-append_seam}
@@ -159,8 +160,8 @@ module _ (p : Program) (fit : Fits p) (d : ℕ) (deep : 0 < d) (low : d ≤ 1000
   frames_some wr [] ws h = absurd h
   frames_some wr (F ∷ Fs) ws h = omega arith
 
-  pub trap_alike : (q : Bool) (j : ℕ) (c c' : Config) (left left' up : ℕ) → c'.world ≡ flagged M c.world (values.I32 up) → c'.collected ≡ collected j c → c.collected ≡ [] → WorldFits M gl c.world → (wr : Option ValType) (ws : List Wit) → FitsConfig M E gl wr c ws → length c.frames ≤ d → 1 ≤ j → j ≤ 8 → (j ≡ 8 → ⊥) → Alike (ran_to q (traps j c) left) (ran_to q (traps 1 c') left')
-  trap_alike q j c c' left left' up we ce e wf wr ws h sh j1 j8 n8 =
+  pub trap_alike : (q : Bool) (j : ℕ) (c c' : Config) (left left' : ℕ) → c'.world ≡ flagged M c.world (values.I32 0) → c'.collected ≡ collected j c → c.collected ≡ [] → WorldFits M gl c.world → (wr : Option ValType) (ws : List Wit) → FitsConfig M E gl wr c ws → length c.frames ≤ d → 1 ≤ j → j ≤ 8 → (j ≡ 8 → ⊥) → Followed (length m.globals) (ran_to q (traps j c) left) (ran_to q (traps 1 c') left')
+  trap_alike q j c c' left left' we ce e wf wr ws h sh j1 j8 n8 =
       let j7 : j ≤ 7 = seven j j8 n8 in
       let lg : length c.world.globals ≤ 20000000 = omega (arith, fit.few_globals, len_of c.world.globals gl wf.globals, length-map m.globals (λ g. g.vtype)) in
       let some = frames_some wr c.frames ws h.1 in
@@ -168,44 +169,51 @@ module _ (p : Program) (fit : Fits p) (d : ℕ) (deep : 0 < d) (low : d ≤ 1000
       let few = subst (λ z. length z ≤ 134217728) (sym col) (few_calls M E gl wr j c ws h e (omega (arith, sh, low)) fit.few_locals fit.few_heights lg) in
       let same = λ (name : List ℕ). dump_is j c e (reverse c'.collected) col j1 j7 few some (memory_of c') name (ap (λ w. option_map (λ k. k.bytes) w.memory) we) in
       record {
-        begun = refl;
-        host_calls = ap (λ w. reverse w.served) we;
-        ends = record {
-          trapped_too = refl;
-          whole = whole_is j c e (reverse c'.collected) col j1 j7 few some;
-          kind = refl;
-          dump = λ name l. same name;
-          bytes = λ name l. ap bytes_of (same name);
+        alike = record {
+          begun = refl;
+          host_calls = ap (λ w. reverse w.served) we;
+          ends = record {
+            trapped_too = refl;
+            whole = whole_is j c e (reverse c'.collected) col j1 j7 few some;
+            kind = refl;
+            dump = λ name l. same name;
+            bytes = λ name l. ap bytes_of (same name);
+          };
+          state = world_alike c c' 0 we;
         };
-        state = world_alike c c' up we;
+        down = lowered M (length m.globals) q 1 c c' left' (flag_at M M' E gl S refl c.world wf) we;
       }
+
+  -- one that did not trap
+  pub untrapped : (q : Bool) (one : Ran) (s : Stepped) (left : ℕ) → Untrapped s → Alike one (ran_to q s left) → Followed (length m.globals) one (ran_to q s left)
+  untrapped q one s left u a = record { alike = a; down = no_trap (length m.globals) q s left u }
 
   -- so many steps of the other suffice, and it ends alike
   abbrev pub EndsSo : Bool → ℕ → Stepped → ℕ → (ℕ → Ended) → Type 0
-  EndsSo q n s left go = (k : ℕ) × (n ≤ k) × (k ≤ (2 * n + 2) * E) × Alike (ran_to q s left) (ran_to q (go k).what (go k).left)
+  EndsSo q n s left go = (k : ℕ) × (n ≤ k) × (k ≤ (2 * n + 2) * E) × Followed (length m.globals) (ran_to q s left) (ran_to q (go k).what (go k).left)
 
   ends_so : (q : Bool) (n made left : ℕ) (s : Stepped) (go : ℕ → Ended) → n ≡ made + left → AllMade M M' E gl (record { idx = 0; result = None; locals = []; rest = stop }) (ended s left) → St go made s → (ran_to q s left).outcome ≢ runs_.trapped 8 → (ran_to q s left).outcome ≢ got_stuck → EndsSo q n s left go
   ends_so q n made left (next c) go nm all h n8 ns =
       let le : h.0 ≤ (2 * n + 2) * E = omega (arith, h.2, nm, mul-le-mul_right E (fits_in made n left nm)) in
-      (h.0, omega (arith, h.1, nm, all), le, rw h.4 (record { begun = refl; host_calls = ap (λ w. reverse w.served) h.6; ends = (refl, ap reverse h.7); state = world_alike c h.3 h.5 h.6 }))
+      (h.0, omega (arith, h.1, nm, all), le, rw h.4 (untrapped q (ran_to q (next c) left) (next h.3) 0 tt (record { begun = refl; host_calls = ap (λ w. reverse w.served) h.6; ends = (refl, ap reverse h.7); state = world_alike c h.3 h.5 h.6 })))
   ends_so q n made left (ends w vs co) go nm all h n8 ns =
       let extra = n - h.0 in
       let le : h.0 + extra ≤ (2 * n + 2) * E = omega (arith, h.2, nm, mul-le-mul_right E (fits_in made n left nm), at_least n) in
-      (h.0 + extra, omega arith, le, rw (h.4 extra) (record { begun = refl; host_calls = refl; ends = (refl, refl); state = world_alike (config [] w co) (config [] (flagged M w (values.I32 h.3)) []) h.3 refl }))
+      (h.0 + extra, omega arith, le, rw (h.4 extra) (untrapped q (ran_to q (ends w vs co) left) (ends (flagged M w (values.I32 h.3)) vs []) extra tt (record { begun = refl; host_calls = refl; ends = (refl, refl); state = world_alike (config [] w co) (config [] (flagged M w (values.I32 h.3)) []) h.3 refl })))
   ends_so q n made left (traps j c) go nm all (inl e) n8 ns = absurd (n8 (ap runs_.trapped e))
   ends_so q n made left (traps j c) go nm all (inr h) n8 ns =
       let extra = n - h.0 in
       let le : h.0 + extra ≤ (2 * n + 2) * E = omega (arith, h.2, nm, mul-le-mul_right E (fits_twice made n left nm), at_least n) in
       let c' = h.3 in
-      (h.0 + extra, omega arith, le, rw (h.4 extra) (trap_alike q j c c' left extra h.5 h.6 h.7 h.8 h.9 h.10 h.11 h.12 h.13 h.14 h.15 (λ e. n8 (ap runs_.trapped e))))
+      (h.0 + extra, omega arith, le, rw (h.4 extra) (trap_alike q j c c' left extra h.5 h.6 h.7 h.8 h.9 h.10 h.11 h.12 h.13 h.14 (λ e. n8 (ap runs_.trapped e))))
   ends_so q n made left (no_reply call c) go nm all h n8 ns =
       let extra = n - h.0 in
       let le : h.0 + extra ≤ (2 * n + 2) * E = omega (arith, h.2, nm, mul-le-mul_right E (fits_in made n left nm), at_least n) in
-      (h.0 + extra, omega arith, le, rw (h.4 extra) (record { begun = refl; host_calls = ap (λ w. reverse w.served) h.6; ends = (refl, ap reverse h.7); state = world_alike c h.3 h.5 h.6 }))
+      (h.0 + extra, omega arith, le, rw (h.4 extra) (untrapped q (ran_to q (no_reply call c) left) (no_reply call h.3) extra tt (record { begun = refl; host_calls = ap (λ w. reverse w.served) h.6; ends = (refl, ap reverse h.7); state = world_alike c h.3 h.5 h.6 })))
   ends_so q n made left (bad_reply call r c) go nm all h n8 ns =
       let extra = n - h.0 in
       let le : h.0 + extra ≤ (2 * n + 2) * E = omega (arith, h.2, nm, mul-le-mul_right E (fits_in made n left nm), at_least n) in
-      (h.0 + extra, omega arith, le, rw (h.4 extra) (record { begun = refl; host_calls = ap (λ w. reverse w.served) h.6; ends = (refl, ap reverse h.7); state = world_alike c h.3 h.5 h.6 }))
+      (h.0 + extra, omega arith, le, rw (h.4 extra) (untrapped q (ran_to q (bad_reply call r c) left) (bad_reply call r h.3) extra tt (record { begun = refl; host_calls = ap (λ w. reverse w.served) h.6; ends = (refl, ap reverse h.7); state = world_alike c h.3 h.5 h.6 })))
   ends_so q n made left stuck go nm all h n8 ns = absurd (ns refl)
 
   -- ---- the start function, and then the entry
@@ -218,7 +226,7 @@ module _ (p : Program) (fit : Fits p) (d : ℕ) (deep : 0 < d) (low : d ≤ 1000
 
   -- the entry alone
   abbrev Entry_so : ℕ → ℕ → List Value → World → ℕ → ℕ → Type 0
-  Entry_so f f' args w up n = (run_entry M n f args w []).outcome ≢ runs_.trapped 8 → (run_entry M n f args w []).outcome ≢ got_stuck → (k : ℕ) × (n ≤ k) × (k ≤ (2 * n + 2) * E) × Alike (run_entry M n f args w []) (run_entry M' k f' args (flagged M w (values.I32 up)) [])
+  Entry_so f f' args w up n = (run_entry M n f args w []).outcome ≢ runs_.trapped 8 → (run_entry M n f args w []).outcome ≢ got_stuck → (k : ℕ) × (n ≤ k) × (k ≤ (2 * n + 2) * E) × Followed (length m.globals) (run_entry M n f args w []) (run_entry M' k f' args (flagged M w (values.I32 up)) [])
 
   entry_so : (f f' : ℕ) (type : FuncType) (args : List Value) (w : World) (up n : ℕ) → Outside m f f' → type_at m f ≡ Some type → types args ≡ type.params → WorldFits M gl w → Entry_so f f' args w up n
   entry_so f f' type args w up n out tf ty wf n8 ns =
@@ -227,12 +235,12 @@ module _ (p : Program) (fit : Fits p) (d : ℕ) (deep : 0 < d) (low : d ≤ 1000
       ends_so true n x.0 e.left e.what (go1 f' args w up) x.1 x.3 x.2 n8 ns
 
   abbrev Start_so : ℕ → ℕ → List Value → ℕ → Stepped → ℕ → (ℕ → Ended) → Type 0
-  Start_so f f' args n s left go = (go_on M s left f args).outcome ≢ runs_.trapped 8 → (go_on M s left f args).outcome ≢ got_stuck → (k : ℕ) × (n ≤ k) × (k ≤ (2 * n + 4) * E) × Alike (go_on M s left f args) (go_on M' (go k).what (go k).left f' args)
+  Start_so f f' args n s left go = (go_on M s left f args).outcome ≢ runs_.trapped 8 → (go_on M s left f args).outcome ≢ got_stuck → (k : ℕ) × (n ≤ k) × (k ≤ (2 * n + 4) * E) × Followed (length m.globals) (go_on M s left f args) (go_on M' (go k).what (go k).left f' args)
 
   pub roomy_more : (n k : ℕ) → k ≤ (2 * n + 2) * E → k ≤ (2 * n + 4) * E
   roomy_more n k le = let z : (2 * n + 2) * E ≤ (2 * n + 4) * E = mul-le-mul_right E (omega arith) in omega (arith, le, z)
 
-  behind : (f f' : ℕ) (args : List Value) (w : World) (vs : List Value) (co : List CollectorCall) (left k l up : ℕ) (go : ℕ → Ended) → go k ≡ ended (ends (flagged M w (values.I32 up)) vs []) l → co ≡ [] → Alike (run_entry M left f args w []) (run_entry M' l f' args (flagged M w (values.I32 up)) []) → Alike (go_on M (ends w vs co) left f args) (go_on M' (go k).what (go k).left f' args)
+  behind : (f f' : ℕ) (args : List Value) (w : World) (vs : List Value) (co : List CollectorCall) (left k l up : ℕ) (go : ℕ → Ended) → go k ≡ ended (ends (flagged M w (values.I32 up)) vs []) l → co ≡ [] → Followed (length m.globals) (run_entry M left f args w []) (run_entry M' l f' args (flagged M w (values.I32 up)) []) → Followed (length m.globals) (go_on M (ends w vs co) left f args) (go_on M' (go k).what (go k).left f' args)
   behind f f' args w vs co left k l up go e c a = rw (e, c) a
 
   start_so : (f f' : ℕ) (type : FuncType) (args : List Value) (n made left : ℕ) (s : Stepped) (go : ℕ → Ended) → n ≡ made + left → AllMade M M' E gl W0 (ended s left) → St go made s → Outside m f f' → type_at m f ≡ Some type → types args ≡ type.params → Start_so f f' args n s left go
@@ -251,26 +259,26 @@ module _ (p : Program) (fit : Fits p) (d : ℕ) (deep : 0 < d) (low : d ≤ 1000
           omega (arith, z, y)
   start_so f f' type args n made left (next c) go nm all h out tf ty n8 ns =
       let le : h.0 ≤ (2 * n + 2) * E = omega (arith, h.2, nm, mul-le-mul_right E (fits_in made n left nm)) in
-      (h.0, omega (arith, h.1, nm, all), roomy_more n h.0 le, rw h.4 (record { begun = refl; host_calls = ap (λ w. reverse w.served) h.6; ends = (refl, ap reverse h.7); state = world_alike c h.3 h.5 h.6 }))
+      (h.0, omega (arith, h.1, nm, all), roomy_more n h.0 le, rw h.4 (untrapped false (ran_to false (next c) left) (next h.3) 0 tt (record { begun = refl; host_calls = ap (λ w. reverse w.served) h.6; ends = (refl, ap reverse h.7); state = world_alike c h.3 h.5 h.6 })))
   start_so f f' type args n made left (traps j c) go nm all (inl e) out tf ty n8 ns = absurd (n8 (ap runs_.trapped e))
   start_so f f' type args n made left (traps j c) go nm all (inr h) out tf ty n8 ns =
       let extra = n - h.0 in
       let le : h.0 + extra ≤ (2 * n + 2) * E = omega (arith, h.2, nm, mul-le-mul_right E (fits_twice made n left nm), at_least n) in
-      (h.0 + extra, omega arith, roomy_more n (h.0 + extra) le, rw (h.4 extra) (trap_alike false j c h.3 left extra h.5 h.6 h.7 h.8 h.9 h.10 h.11 h.12 h.13 h.14 h.15 (λ e. n8 (ap runs_.trapped e))))
+      (h.0 + extra, omega arith, roomy_more n (h.0 + extra) le, rw (h.4 extra) (trap_alike false j c h.3 left extra h.5 h.6 h.7 h.8 h.9 h.10 h.11 h.12 h.13 h.14 (λ e. n8 (ap runs_.trapped e))))
   start_so f f' type args n made left (no_reply call c) go nm all h out tf ty n8 ns =
       let extra = n - h.0 in
       let le : h.0 + extra ≤ (2 * n + 2) * E = omega (arith, h.2, nm, mul-le-mul_right E (fits_in made n left nm), at_least n) in
-      (h.0 + extra, omega arith, roomy_more n (h.0 + extra) le, rw (h.4 extra) (record { begun = refl; host_calls = ap (λ w. reverse w.served) h.6; ends = (refl, ap reverse h.7); state = world_alike c h.3 h.5 h.6 }))
+      (h.0 + extra, omega arith, roomy_more n (h.0 + extra) le, rw (h.4 extra) (untrapped false (ran_to false (no_reply call c) left) (no_reply call h.3) extra tt (record { begun = refl; host_calls = ap (λ w. reverse w.served) h.6; ends = (refl, ap reverse h.7); state = world_alike c h.3 h.5 h.6 })))
   start_so f f' type args n made left (bad_reply call r c) go nm all h out tf ty n8 ns =
       let extra = n - h.0 in
       let le : h.0 + extra ≤ (2 * n + 2) * E = omega (arith, h.2, nm, mul-le-mul_right E (fits_in made n left nm), at_least n) in
-      (h.0 + extra, omega arith, roomy_more n (h.0 + extra) le, rw (h.4 extra) (record { begun = refl; host_calls = ap (λ w. reverse w.served) h.6; ends = (refl, ap reverse h.7); state = world_alike c h.3 h.5 h.6 }))
+      (h.0 + extra, omega arith, roomy_more n (h.0 + extra) le, rw (h.4 extra) (untrapped false (ran_to false (bad_reply call r c) left) (bad_reply call r h.3) extra tt (record { begun = refl; host_calls = ap (λ w. reverse w.served) h.6; ends = (refl, ap reverse h.7); state = world_alike c h.3 h.5 h.6 })))
   start_so f f' type args n made left stuck go nm all h out tf ty n8 ns = absurd (ns refl)
 
   -- ---- an invocation in any world that agrees
 
   abbrev pub Invoked_so : Option ℕ → Option ℕ → ℕ → ℕ → List Value → World → ℕ → ℕ → Type 0
-  Invoked_so start start' f f' args w up n = (invoked M start n f args w).outcome ≢ runs_.trapped 8 → (invoked M start n f args w).outcome ≢ got_stuck → (k : ℕ) × (n ≤ k) × (k ≤ (2 * n + 4) * E) × Alike (invoked M start n f args w) (invoked M' start' k f' args (flagged M w (values.I32 up)))
+  Invoked_so start start' f f' args w up n = (invoked M start n f args w).outcome ≢ runs_.trapped 8 → (invoked M start n f args w).outcome ≢ got_stuck → (k : ℕ) × (n ≤ k) × (k ≤ (2 * n + 4) * E) × Followed (length m.globals) (invoked M start n f args w) (invoked M' start' k f' args (flagged M w (values.I32 up)))
 
   pub invoked_alone : (f f' : ℕ) (type : FuncType) (args : List Value) (w : World) (up n : ℕ) → Outside m f f' → type_at m f ≡ Some type → types args ≡ type.params → WorldFits M gl w → Invoked_so None None f f' args w up n
   invoked_alone f f' type args w up n out tf ty wf n8 ns = let x = entry_so f f' type args w up n out tf ty wf n8 ns in (x.0, x.1, roomy_more n x.0 x.2, x.3)

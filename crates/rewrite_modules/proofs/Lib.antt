@@ -4,6 +4,7 @@ pub mod Bounds
 pub mod Links
 pub mod Shown
 pub mod Start
+pub mod Followed
 pub mod Final
 pub mod SlotMultiple
 pub mod Sessions

@@ -21,10 +21,11 @@ use Rattle.rewrite_modules.proofs.SlotMultiple.{slot_multiple}
 use Rattle.rewrite_bodies.specs.Slots.{greatest}
 use Rattle.wasm_syntax.specs.Run as runs_
 use Rattle.rewrite_modules.proofs.Links.{half}
-use Rattle.rewrite_modules.specs.Simulates.{EndsAlike, Alike, Simulates, AllAlike, NoneDeep}
+use Rattle.rewrite_modules.specs.Simulates.{EndsAlike, Alike, NoneDeep}
+use Rattle.rewrite_modules.proofs.Followed.{Followed, AllFollowed, not_begun_down}
 use Rattle.rewrite_modules.proofs.Start.{world_start, segments_same, Outside, Named, named, unnamed, started, not_started_}
 use Rattle.wasm_laws.specs.calls.Runs.{NoneStuck}
-use Rattle.rewrite_modules.proofs.Final.{Fits, part, St, Invoked_so, invoked_alone, invoked_behind, world_alike, trap_alike, start_fits, out_type, go1}
+use Rattle.rewrite_modules.proofs.Final.{Fits, part, St, Invoked_so, invoked_alone, invoked_behind, world_alike, untrapped, trap_alike, start_fits, out_type, go1}
 use Rattle.wasm_syntax.proofs.Types.{same_types_are}
 use Rattle.std.specs.Option.{option_or}
 
@@ -71,7 +72,7 @@ module _ (p : Program) (fit : Fits p) (d : ℕ) (deep : 0 < d) (low : d ≤ 1000
     pub least : made ≤ count
     pub most_ : count ≤ (2 * made + b) * E
     pub up : ℕ
-    pub alike : (extra : ℕ) → Alike r (go (count + extra))
+    pub followed : (extra : ℕ) → Followed (length m.globals) r (go (count + extra))
     pub left : (extra : ℕ) → (go (count + extra)).left ≡ extra
     pub world : (w' : World) (extra : ℕ) → fresh (go (count + extra)).last w' ≡ flagged M (fresh r.last w) (values.I32 up)
     pub fits : WorldFits M gl (fresh r.last w)
@@ -99,7 +100,7 @@ module _ (p : Program) (fit : Fits p) (d : ℕ) (deep : 0 < d) (low : d ≤ 1000
         least = h.1;
         most_ = omega (arith, h.2, low_bound (made + 1) (2 * made + 2) (omega arith));
         up = h.3;
-        alike = λ extra. rw (h.4 extra) (record { begun = refl; host_calls = refl; ends = (refl, refl); state = world_alike p fit d deep low (config [] w1 co) (config [] (flagged M w1 (values.I32 h.3)) []) h.3 refl });
+        followed = λ extra. rw (h.4 extra) (untrapped p fit d deep low true (ran_to true (ends w1 vs co) left) (ends (flagged M w1 (values.I32 h.3)) vs []) extra tt (record { begun = refl; host_calls = refl; ends = (refl, refl); state = world_alike p fit d deep low (config [] w1 co) (config [] (flagged M w1 (values.I32 h.3)) []) h.3 refl }));
         left = λ extra. rw (h.4 extra) refl;
         world = λ w' extra. rw (h.4 extra) refl;
         fits = fresh_fits (config [] w1 co) w h.5;
@@ -115,11 +116,11 @@ module _ (p : Program) (fit : Fits p) (d : ℕ) (deep : 0 < d) (low : d ≤ 1000
         count = h.0;
         least = h.1;
         most_ = h.2;
-        up = h.5;
-        alike = λ extra. rw (h.4 extra) (trap_alike p fit d deep low true j c h.3 left extra h.5 h.6 h.7 h.8 h.9 h.10 h.11 h.12 h.13 h.14 h.15 (not_eight j q));
+        up = 0;
+        followed = λ extra. rw (h.4 extra) (trap_alike p fit d deep low true j c h.3 left extra h.5 h.6 h.7 h.8 h.9 h.10 h.11 h.12 h.13 h.14 (not_eight j q));
         left = λ extra. rw (h.4 extra) refl;
-        world = λ w' extra. rw (h.4 extra) (fresh_same c h.3 h.5 w w' h.6);
-        fits = fresh_fits c w h.9;
+        world = λ w' extra. rw (h.4 extra) (fresh_same c h.3 0 w w' h.5);
+        fits = fresh_fits c w h.8;
       }
     where
       not_eight : (j : ℕ) → (not (j == 8) && true) ≡ true → j ≡ 8 → ⊥
@@ -166,7 +167,7 @@ module _ (p : Program) (fit : Fits p) (d : ℕ) (deep : 0 < d) (low : d ≤ 1000
         least = omega (arith, h.1, x.least);
         most_ = omega (arith, h.2, x.most_, bound);
         up = x.up;
-        alike = λ extra. subst (λ r. Alike (run_entry M left f args w1 []) r) (sym (at extra)) (x.alike extra);
+        followed = λ extra. subst (λ r. Followed (length m.globals) (run_entry M left f args w1 []) r) (sym (at extra)) (x.followed extra);
         left = λ extra. ap (λ r. r.left) (at extra) ∙ x.left extra;
         world = λ w' extra. ap (λ r. fresh r.last w') (at extra) ∙ x.world w' extra;
         fits = x.fits;
@@ -188,7 +189,7 @@ module _ (p : Program) (fit : Fits p) (d : ℕ) (deep : 0 < d) (low : d ≤ 1000
   start_passed f f' type args w n made left stuck go nm h out tf ty q = absurd (cc)
 
   looser : (w : World) (r : Ran) (n : ℕ) (go : ℕ → Ran) → Passed 2 w r n go → Passed 4 w r n go
-  looser w r n go x = record { made = x.made; in_all = x.in_all; count = x.count; least = x.least; most_ = omega (arith, x.most_, low_bound (2 * x.made + 2) (2 * x.made + 4) (omega arith)); up = x.up; alike = x.alike; left = x.left; world = x.world; fits = x.fits }
+  looser w r n go x = record { made = x.made; in_all = x.in_all; count = x.count; least = x.least; most_ = omega (arith, x.most_, low_bound (2 * x.made + 2) (2 * x.made + 4) (omega arith)); up = x.up; followed = x.followed; left = x.left; world = x.world; fits = x.fits }
 
   invoked_passed : (start start' : Option ℕ) (f f' : ℕ) (type : FuncType) (args : List Value) (w : World) (up n : ℕ) → Starts start start' → Outside m f f' → type_at m f ≡ Some type → types args ≡ type.params → WorldFits M gl w → goes_on (invoked M start n f args w).outcome (invoked M start n f args w).entered ≡ true → Passed 4 w (invoked M start n f args w) n (λ k. invoked M' start' k f' args (flagged M w (values.I32 up)))
   invoked_passed None None f f' type args w up n st out tf ty wf q =
@@ -227,7 +228,7 @@ module _ (p : Program) (fit : Fits p) (d : ℕ) (deep : 0 < d) (low : d ≤ 1000
   rest_true N is w w1 left r e fw fl = ap (λ b. if b then session N is None (fresh r.last w) r.left else []) e ∙ ap₂ (λ w n. session N is None w n) fw fl
 
   abbrev Session_so : List Invocation → Option ℕ → Option ℕ → World → ℕ → ℕ → Type 0
-  Session_so is start start' w up n = NoneDeep (session M is start w n) → NoneStuck (session M is start w n) → (k : ℕ) × (n ≤ k) × (k ≤ (2 * n + 4 * length is) * E) × AllAlike (session M is start w n) (session M' is start' (flagged M w (values.I32 up)) k)
+  Session_so is start start' w up n = NoneDeep (session M is start w n) → NoneStuck (session M is start w n) → (k : ℕ) × (n ≤ k) × (k ≤ (2 * n + 4 * length is) * E) × AllFollowed (length m.globals) (session M is start w n) (session M' is start' (flagged M w (values.I32 up)) k)
 
   small : (n : ℕ) → n ≤ (2 * n + 0) * E
   small n = let z : (2 * n + 0) * 1 ≤ (2 * n + 0) * E = mul-le-mul_left (2 * n + 0) one in omega (arith, z)
@@ -258,23 +259,23 @@ module _ (p : Program) (fit : Fits p) (d : ℕ) (deep : 0 < d) (low : d ≤ 1000
       two : (k : ℕ) → session M' (i ∷ is) start' (flagged M w (values.I32 up)) k ≡ invoked M' start' k (named p i.name cs.0 cs.1).there i.args (flagged M w (values.I32 up)) ∷ rest_of M' is (flagged M w (values.I32 up)) (invoked M' start' k (named p i.name cs.0 cs.1).there i.args (flagged M w (values.I32 up)))
       two k = session_is M' i is start' (flagged M w (values.I32 up)) k (named p i.name cs.0 cs.1).there (named p i.name cs.0 cs.1).found
 
-      by_going : (q : Bool) → goes_on (invoked M start n cs.0 i.args w).outcome (invoked M start n cs.0 i.args w).entered ≡ q → ((w1 : World) (up1 n1 : ℕ) → WorldFits M gl w1 → Session_so is None None w1 up1 n1) → (k : ℕ) × (n ≤ k) × (k ≤ (2 * n + 4 * length (i ∷ is)) * E) × AllAlike (session M (i ∷ is) start w n) (session M' (i ∷ is) start' (flagged M w (values.I32 up)) k)
+      by_going : (q : Bool) → goes_on (invoked M start n cs.0 i.args w).outcome (invoked M start n cs.0 i.args w).entered ≡ q → ((w1 : World) (up1 n1 : ℕ) → WorldFits M gl w1 → Session_so is None None w1 up1 n1) → (k : ℕ) × (n ≤ k) × (k ≤ (2 * n + 4 * length (i ∷ is)) * E) × AllFollowed (length m.globals) (session M (i ∷ is) start w n) (session M' (i ∷ is) start' (flagged M w (values.I32 up)) k)
       by_going false q ih =
           let x = invoked_so start start' cs.0 (named p i.name cs.0 cs.1).there cs.2 i.args w up n st (named p i.name cs.0 cs.1).outside cs.3 cs.4 wf nd1.0 ns1.0 in
-          let q' = goes_same (invoked M start n cs.0 i.args w) (invoked M' start' x.0 (named p i.name cs.0 cs.1).there i.args (flagged M w (values.I32 up))) x.3 nd1.0 ∙ q in
+          let q' = goes_same (invoked M start n cs.0 i.args w) (invoked M' start' x.0 (named p i.name cs.0 cs.1).there i.args (flagged M w (values.I32 up))) x.3.alike nd1.0 ∙ q in
           let b : (2 * n + 4) * E ≤ (2 * n + 4 * length (i ∷ is)) * E = mul-le-mul_right E (omega arith) in
-          (x.0, x.1, omega (arith, x.2, b), subst₂ AllAlike (sym (one ∙ ap (λ z. invoked M start n cs.0 i.args w ∷ z) (rest_false M is w (invoked M start n cs.0 i.args w) q))) (sym (two x.0 ∙ ap (λ z. invoked M' start' x.0 (named p i.name cs.0 cs.1).there i.args (flagged M w (values.I32 up)) ∷ z) (rest_false M' is (flagged M w (values.I32 up)) (invoked M' start' x.0 (named p i.name cs.0 cs.1).there i.args (flagged M w (values.I32 up))) q'))) (x.3, tt))
+          (x.0, x.1, omega (arith, x.2, b), subst₂ (AllFollowed (length m.globals)) (sym (one ∙ ap (λ z. invoked M start n cs.0 i.args w ∷ z) (rest_false M is w (invoked M start n cs.0 i.args w) q))) (sym (two x.0 ∙ ap (λ z. invoked M' start' x.0 (named p i.name cs.0 cs.1).there i.args (flagged M w (values.I32 up)) ∷ z) (rest_false M' is (flagged M w (values.I32 up)) (invoked M' start' x.0 (named p i.name cs.0 cs.1).there i.args (flagged M w (values.I32 up))) q'))) (x.3, tt))
       by_going true q ih =
           let x = invoked_passed start start' cs.0 (named p i.name cs.0 cs.1).there cs.2 i.args w up n st (named p i.name cs.0 cs.1).outside cs.3 cs.4 wf q in
           let rt = rest_true M is w (fresh (invoked M start n cs.0 i.args w).last w) (invoked M start n cs.0 i.args w).left (invoked M start n cs.0 i.args w) q refl refl in
           let y = ih (fresh (invoked M start n cs.0 i.args w).last w) x.up (invoked M start n cs.0 i.args w).left x.fits (subst NoneDeep rt nd1.1) (subst NoneStuck rt ns1.1) in
-          let al = x.alike y.0 in
-          let q' = goes_same (invoked M start n cs.0 i.args w) (invoked M' start' (x.count + y.0) (named p i.name cs.0 cs.1).there i.args (flagged M w (values.I32 up))) al nd1.0 ∙ q in
+          let al = x.followed y.0 in
+          let q' = goes_same (invoked M start n cs.0 i.args w) (invoked M' start' (x.count + y.0) (named p i.name cs.0 cs.1).there i.args (flagged M w (values.I32 up))) al.alike nd1.0 ∙ q in
           let rt' = rest_true M' is (flagged M w (values.I32 up)) (flagged M (fresh (invoked M start n cs.0 i.args w).last w) (values.I32 x.up)) y.0 (invoked M' start' (x.count + y.0) (named p i.name cs.0 cs.1).there i.args (flagged M w (values.I32 up))) q' (x.world (flagged M w (values.I32 up)) y.0) (x.left y.0) in (
             x.count + y.0,
             omega (arith, x.in_all, x.least, y.1),
             total x.count y.0 x.made (invoked M start n cs.0 i.args w).left x.in_all x.most_ y.2,
-            subst₂ AllAlike (sym (one ∙ ap (λ z. invoked M start n cs.0 i.args w ∷ z) rt)) (sym (two (x.count + y.0) ∙ ap (λ z. invoked M' start' (x.count + y.0) (named p i.name cs.0 cs.1).there i.args (flagged M w (values.I32 up)) ∷ z) rt')) (al, y.3),
+            subst₂ (AllFollowed (length m.globals)) (sym (one ∙ ap (λ z. invoked M start n cs.0 i.args w ∷ z) rt)) (sym (two (x.count + y.0) ∙ ap (λ z. invoked M' start' (x.count + y.0) (named p i.name cs.0 cs.1).there i.args (flagged M w (values.I32 up)) ∷ z) rt')) (al, y.3),
           )
         where
           total : (c k a l : ℕ) → n ≡ a + l → c ≤ (2 * a + 4) * E → k ≤ (2 * l + 4 * length is) * E → c + k ≤ (2 * n + 4 * length (i ∷ is)) * E
@@ -325,18 +326,18 @@ module _ (p : Program) (fit : Fits p) (d : ℕ) (deep : 0 < d) (low : d ≤ 1000
   starts_by (Some s) e = let x = started p [] s e in (Some x.0, x.1, (x.2, fit.start s e))
 
   abbrev All_so : List Invocation → List Reply → ℕ → List Ran → Type 0
-  All_so is replies n rs = NoneDeep rs → NoneStuck rs → (k : ℕ) × (n ≤ k) × (k ≤ (2 * n + 4 * length is) * E) × AllAlike rs (run (instrument p) true is replies (d + 2) k)
+  All_so is replies n rs = NoneDeep rs → NoneStuck rs → (k : ℕ) × (n ≤ k) × (k ≤ (2 * n + 4 * length is) * E) × AllFollowed (length m.globals) rs (run (instrument p) true is replies (d + 2) k)
 
   all_by : (is : List Invocation) (replies : List Reply) (n : ℕ) (c : Option Cause) → runs_.cause_of m is ≡ c → All_so is replies n (runs_.unless M c is replies n)
   all_by is replies n (Some c) e nd ns =
       let b : (2 * n + 0) * E ≤ (2 * n + 4 * length is) * E = mul-le-mul_right E (omega arith) in
-      (n, omega arith, omega (arith, small n, b), subst (λ z. AllAlike (not_begun c n ∷ []) (runs_.unless M' z is replies n)) (sym (causes_same is ∙ e)) (record { begun = refl; host_calls = refl; ends = (refl, refl); state = tt }, tt))
+      (n, omega arith, omega (arith, small n, b), subst (λ z. AllFollowed (length m.globals) (not_begun c n ∷ []) (runs_.unless M' z is replies n)) (sym (causes_same is ∙ e)) (record { alike = record { begun = refl; host_calls = refl; ends = (refl, refl); state = tt }; down = not_begun_down (length m.globals) c n }, tt))
   all_by is replies n None e nd ns =
       let cs = calls_are_of is e in
       let st = starts_by m.start refl in
       let x = session_so is m.start st.0 (start_world m replies) 0 n st.2 (start_fits p fit d deep low replies cs.1) cs.0 nd ns in
       let other : run (instrument p) true is replies (d + 2) x.0 ≡ session M' is st.0 (flagged M (start_world m replies) (values.I32 0)) x.0 = ap (λ z. runs_.unless M' z is replies x.0) (causes_same is ∙ e) ∙ ap₂ (λ s w. session M' is s w x.0) st.1 (world_start p d replies) in
-      (x.0, x.1, x.2, subst (AllAlike (session M is m.start (start_world m replies) n)) (sym other) x.3)
+      (x.0, x.1, x.2, subst (AllFollowed (length m.globals) (session M is m.start (start_world m replies) n)) (sym other) x.3)
 
   pub all_so : (is : List Invocation) (replies : List Reply) (n : ℕ) → All_so is replies n (run p false is replies d n)
   all_so is replies n = all_by is replies n (runs_.cause_of m is) refl
@@ -344,9 +345,12 @@ module _ (p : Program) (fit : Fits p) (d : ℕ) (deep : 0 < d) (low : d ≤ 1000
 abbrev pub NeverStuckAll : Program → Type 0
 NeverStuckAll p = (is : List Invocation) (replies : List Reply) (d n : ℕ) → NoneStuck (run p false is replies d n)
 
+abbrev pub Follows_all : Program → List Invocation → List Reply → ℕ → ℕ → Type 0
+Follows_all p is replies d n = (k : ℕ) × (n ≤ k) × (k ≤ (n + 2 * length is) * slot_multiple p) × AllFollowed (length p.module_.globals) (run p false is replies d n) (run (instrument p) true is replies (d + 2) k)
+
 -- for every list of invocations on one instance
-pub simulates_all : (p : Program) → Fits p → NeverStuckAll p → Simulates (slot_multiple p) p (instrument p)
-simulates_all p fit never is replies d n d1 d2 nd =
+pub follows_all : (p : Program) → Fits p → NeverStuckAll p → (is : List Invocation) (replies : List Reply) (d n : ℕ) → 1 ≤ d → d ≤ 10000 → NoneDeep (run p false is replies d n) → Follows_all p is replies d n
+follows_all p fit never is replies d n d1 d2 nd =
     let x = all_so p fit d (omega (arith, d1)) d2 is replies n nd (never is replies d n) in
     let z : (2 * n + 4 * length is) * half p fit.ready ≡ (n + 2 * length is) * slot_multiple p = twice n (length is) ((greatest p).0 + (greatest p).1 + length p.module_.globals) in
     (x.0, x.1, subst (λ q. x.0 ≤ q) z x.2, x.3)

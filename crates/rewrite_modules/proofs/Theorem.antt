@@ -24,12 +24,14 @@ use Rattle.wasm_syntax.specs.declared.parts.DataSeg.{DataSeg}
 use Rattle.wasm_syntax.specs.declared.parts.Limits.{Limits}
 use Rattle.wasm_syntax.specs.Run.{Cause, Invocation, not_begun, first_false, table_min, start_table, element_at, empty_memory, memory_bytes, data_at, element_fits, data_fits, by_data, by_element, cause_of, cause_of_entry, cause_of_segments, unless, engine, run, start_world}
 use Rattle.wasm_syntax.specs.Run as runs_
-use Rattle.rewrite_modules.specs.Simulates.{Simulates, AllAlike, NoneDeep}
+use Rattle.rewrite_modules.specs.Simulates.{Simulates, NoneDeep}
+use Rattle.rewrite_modules.specs.Flag.{LowersFlag}
+use Rattle.rewrite_modules.proofs.Followed.{AllFollowed, all_alike, all_down, down_before, not_begun_down}
 use Rattle.rewrite_modules.proofs.Links.{Ready}
 use Rattle.rewrite_modules.proofs.Start.{segments_same, unnamed}
 use Rattle.rewrite_modules.proofs.Final.{Fits}
 use Rattle.wasm_laws.proofs.Never.{Startable, never_stuck as never_stuck_all}
-use Rattle.rewrite_modules.proofs.Sessions.{simulates_all}
+use Rattle.rewrite_modules.proofs.Sessions.{Follows_all, follows_all}
 use Rattle.rewrite_modules.specs.calls.Given.{SmallCode, Given}
 use Rattle.wasm_laws.proofs.Validity.{startable}
 use Rattle.std.specs.Option.{option_or}
@@ -208,18 +210,15 @@ fits_given p g few =
 -- ---- where nothing can be invoked, both modules say so
 
 -- neither starts
-not_started_alike : (c : Cause) (n : ℕ) → AllAlike (not_begun c n ∷ []) (not_begun c n ∷ [])
-not_started_alike c n = (record { begun = refl; host_calls = refl; ends = (refl, refl); state = tt }, tt)
+not_started_alike : (flag : ℕ) (c : Cause) (n : ℕ) → AllFollowed flag (not_begun c n ∷ []) (not_begun c n ∷ [])
+not_started_alike flag c n = (record { alike = record { begun = refl; host_calls = refl; ends = (refl, refl); state = tt }; down = not_begun_down flag c n }, tt)
 
 enough : (n l f : ℕ) → n ≤ (n + 2 * l) * (200 + 8 * f)
 enough n l f = let z : (n + 2 * l) * 1 ≤ (n + 2 * l) * (200 + 8 * f) = mul-le-mul (omega arith) (omega arith) in omega (arith, z)
 
 module _ (p : Program) (given : Given p) where
-  abbrev E : ℕ
-  E = slot_multiple p
-
   abbrev SimulatesHere : List Invocation → List Reply → ℕ → ℕ → Type 0
-  SimulatesHere is replies d n = (k : ℕ) × (n ≤ k) × (k ≤ (n + 2 * length is) * E) × AllAlike (run p false is replies d n) (run (instrument p) true is replies (d + 2) k)
+  SimulatesHere is replies d n = Follows_all p is replies d n
 
   -- both have this cause, or both have none and nothing is invoked
   by_cause : (is : List Invocation) (replies : List Reply) (d n : ℕ) (c : Cause) → cause_of p.module_ is ≡ Some c → cause_of (new_module p) is ≡ Some c → SimulatesHere is replies d n
@@ -227,7 +226,7 @@ module _ (p : Program) (given : Given p) where
     n,
     omega arith,
     enough n (length is) ((greatest p).0 + (greatest p).1 + length p.module_.globals),
-    subst₂ (λ a b. AllAlike (unless (engine p false d) a is replies n) (unless (engine (instrument p) true (d + 2)) b is replies n)) (sym e) (sym e') (not_started_alike c n),
+    subst₂ (λ a b. AllFollowed (length p.module_.globals) (unless (engine p false d) a is replies n) (unless (engine (instrument p) true (d + 2)) b is replies n)) (sym e) (sym e') (not_started_alike (length p.module_.globals) c n),
   )
 
   no_calls : (replies : List Reply) (d n : ℕ) (c : Option Cause) → cause_of_segments p.module_ ≡ c → SimulatesHere [] replies d n
@@ -236,7 +235,7 @@ module _ (p : Program) (given : Given p) where
     n,
     omega arith,
     enough n 0 ((greatest p).0 + (greatest p).1 + length p.module_.globals),
-    subst₂ (λ a b. AllAlike (unless (engine p false d) a [] replies n) (unless (engine (instrument p) true (d + 2)) b [] replies n)) (sym e) (sym (segments_same p ∙ e)) tt,
+    subst₂ (λ a b. AllFollowed (length p.module_.globals) (unless (engine p false d) a [] replies n) (unless (engine (instrument p) true (d + 2)) b [] replies n)) (sym e) (sym (segments_same p ∙ e)) tt,
   )
 
   no_export : (i : Invocation) (is : List Invocation) (replies : List Reply) (d n : ℕ) → function_export p.module_ i.name ≡ None → SimulatesHere (i ∷ is) replies d n
@@ -244,13 +243,25 @@ module _ (p : Program) (given : Given p) where
       by_cause (i ∷ is) replies d n runs_.no_export (ap (λ q. option_or (cause_of_entry p.module_ q i.args) (cause_of p.module_ is)) e) (ap (λ q. option_or (cause_of_entry (new_module p) q i.args) (cause_of (new_module p) is)) (unnamed p i.name e))
 
   with_export : (is : List Invocation) (replies : List Reply) (d n : ℕ) → 1 ≤ d → d ≤ 10000 → NoneDeep (run p false is replies d n) → length p.module_.globals ≤ 20000000 → SimulatesHere is replies d n
-  with_export is replies d n d1 d2 nd few = simulates_all p (fits_given p given few) (λ is replies d n. never_stuck_all p (startable_given p given) false is replies d n) is replies d n d1 d2 nd
+  with_export is replies d n d1 d2 nd few = follows_all p (fits_given p given few) (λ is replies d n. never_stuck_all p (startable_given p given) false is replies d n) is replies d n d1 d2 nd
 
   by_export : (i : Invocation) (is : List Invocation) (replies : List Reply) (d n : ℕ) (q : Option ℕ) → function_export p.module_ i.name ≡ q → 1 ≤ d → d ≤ 10000 → NoneDeep (run p false (i ∷ is) replies d n) → SimulatesHere (i ∷ is) replies d n
   by_export i is replies d n None e d1 d2 nd = no_export i is replies d n e
   by_export i is replies d n (Some f) e d1 d2 nd = with_export (i ∷ is) replies d n d1 d2 nd (given.few_globals i.name f e)
 
+rewriting_follows : (p : Program) → Given p → (is : List Invocation) (replies : List Reply) (d n : ℕ) → 1 ≤ d → d ≤ 10000 → NoneDeep (run p false is replies d n) → Follows_all p is replies d n
+rewriting_follows p g [] replies d n d1 d2 nd = no_calls p g replies d n (cause_of_segments p.module_) refl
+rewriting_follows p g (i ∷ is) replies d n d1 d2 nd = by_export p g i is replies d n (function_export p.module_ i.name) refl d1 d2 nd
+
 -- the rewritten module does what the module does, for every list of invocations on one instance
 pub rewriting_simulates : (p : Program) → Given p → Simulates (slot_multiple p) p (instrument p)
-rewriting_simulates p g [] replies d n d1 d2 nd = no_calls p g replies d n (cause_of_segments p.module_) refl
-rewriting_simulates p g (i ∷ is) replies d n d1 d2 nd = by_export p g i is replies d n (function_export p.module_ i.name) refl d1 d2 nd
+rewriting_simulates p g is replies d n d1 d2 nd =
+    let x = rewriting_follows p g is replies d n d1 d2 nd in
+    (x.0, x.1, x.2, all_alike (length p.module_.globals) (run p false is replies d n) (run (instrument p) true is replies (d + 2) x.0) x.3)
+
+-- and its flag is down behind each trap
+pub rewriting_lowers : (p : Program) → Given p → LowersFlag p (instrument p)
+rewriting_lowers p g is replies d n i k r c d1 d2 nd at o l =
+    let x = rewriting_follows p g is replies d n d1 d2 nd in
+    let flag = length p.module_.globals in
+    down_before (instrument p) flag is replies (d + 2) n x.0 x.1 (all_down flag (run p false is replies d n) (run (instrument p) true is replies (d + 2) x.0) x.3) i r at k c o l

@@ -165,11 +165,11 @@ module _ (M M' : Engine) (E : ℕ) (gl : List ValType) (S : Stands M M' E gl) (g
       let s3 : Gets M' 1 1 (st X W.locals vs stop g0 co) (ends g0 vs co) = one_step M' _ _ (rw x refl) in
       rw (wr, append-nil) (weaken M' (seq M' s1 (seq M' (if_zero_to M') s3)) (omega arith) (omega arith))
 
-  -- how the new module's run stands for the old one's: with any flag that it leaves
+  -- how the new module's run stands for the old one's: with any flag that it leaves, but with the flag down where it trapped
   abbrev pub Stood : (ℕ → Ended) → ℕ → Stepped → Type 0
   Stood go made (next c) = (n : ℕ) × (made ≤ n) × (n ≤ (made + 1) * E) × (c' : Config) × (go n ≡ ended (next c') 0) × (up : ℕ) × (c'.world ≡ flagged M c.world (values.I32 up)) × (c'.collected ≡ []) × WorldFits M gl c.world
   Stood go made (ends w vs co) = (n : ℕ) × (made ≤ n) × (n ≤ (made + 1) * E) × (up : ℕ) × ((extra : ℕ) → go (n + extra) ≡ ended (ends (flagged M w (values.I32 up)) vs []) extra) × WorldFits M gl w × (co ≡ [])
-  Stood go made (traps j c) = (j ≡ 8) ⊎ (n : ℕ) × (made ≤ n) × (n ≤ (2 * made + 2) * E) × (c' : Config) × ((extra : ℕ) → go (n + extra) ≡ ended (traps 1 c') extra) × (up : ℕ) × (c'.world ≡ flagged M c.world (values.I32 up)) × (c'.collected ≡ collected j c) × (c.collected ≡ []) × WorldFits M gl c.world × (wr : Option ValType) × (ws : List Wit) × FitsConfig M E gl wr c ws × (length c.frames ≤ M.depth) × (1 ≤ j) × (j ≤ 8)
+  Stood go made (traps j c) = (j ≡ 8) ⊎ (n : ℕ) × (made ≤ n) × (n ≤ (2 * made + 2) * E) × (c' : Config) × ((extra : ℕ) → go (n + extra) ≡ ended (traps 1 c') extra) × (c'.world ≡ flagged M c.world (values.I32 0)) × (c'.collected ≡ collected j c) × (c.collected ≡ []) × WorldFits M gl c.world × (wr : Option ValType) × (ws : List Wit) × FitsConfig M E gl wr c ws × (length c.frames ≤ M.depth) × (1 ≤ j) × (j ≤ 8)
   Stood go made (no_reply call c) = (n : ℕ) × (made ≤ n) × (n ≤ (made + 1) * E) × (c' : Config) × ((extra : ℕ) → go (n + extra) ≡ ended (no_reply call c') extra) × (up : ℕ) × (c'.world ≡ flagged M c.world (values.I32 up)) × (c'.collected ≡ []) × WorldFits M gl c.world
   Stood go made (bad_reply call r c) = (n : ℕ) × (made ≤ n) × (n ≤ (made + 1) * E) × (c' : Config) × ((extra : ℕ) → go (n + extra) ≡ ended (bad_reply call r c') extra) × (up : ℕ) × (c'.world ≡ flagged M c.world (values.I32 up)) × (c'.collected ≡ []) × WorldFits M gl c.world
   Stood go made stuck = Unit {0}
@@ -242,7 +242,7 @@ module _ (M M' : Engine) (E : ℕ) (gl : List ValType) (S : Stands M M' E gl) (g
         let e = trap_end W (zero_vs (last_of c.frames) ++ []) c.world (tell_frames j c.frames c.collected) refl h.1 in
         let z = seq M' begin (seq M' h.4 e.3) in
         let few : (made + length c.frames) * E ≤ (2 * made + 1) * E = mul-le-mul_right E (omega (arith, h.3)) in
-        inr (z.count, omega (arith, z.low), omega (arith, z.high, few, roomy), e.0, (λ extra. over M' z.count extra target (traps 1 e.0) z.goes tt), 0, e.1, e.2, h.2, h.1, W.result, h.0.0, h.0.1, h.0.2, h.0.3, h.0.4)
+        inr (z.count, omega (arith, z.low), omega (arith, z.high, few, roomy), e.0, (λ extra. over M' z.count extra target (traps 1 e.0) z.goes tt), e.1, e.2, h.2, h.1, W.result, h.0.0, h.0.1, h.0.2, h.0.3, h.0.4)
     stood made (no_reply call c) h =
         let z = seq M' begin h.5 in
         (z.count, omega (arith, z.low), omega (arith, z.high, roomy), h.2, (λ extra. over M' z.count extra target (no_reply call h.2) z.goes tt), 0, h.3, h.4 ∙ h.1, h.0)

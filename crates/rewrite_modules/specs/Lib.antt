@@ -3,6 +3,7 @@ pub mod FlatCode
 pub mod Collector
 pub mod Instrument
 pub mod Simulates
+pub mod Flag
 pub mod Weight
 pub mod Multiple
 pub mod Instrumentable

@@ -8,18 +8,20 @@ use Rattle.wasm_validate.specs.Heights.{AllLow}
 use Rattle.wasm_encode.specs.Encoding.{encoding}
 use Rattle.wasm_format_laws.specs.Sized.{Sized}
 use Rattle.wasm_syntax.specs.SameCode.{code_alone}
+use Rattle.rewrite_modules.specs.calls.Bare.{bare}
 use Rattle.rewrite_modules.specs.calls.Given.{Given}
 use Rattle.rewrite_modules.specs.Instrument.{instrument, new_module}
 use Rattle.rewrite_modules.specs.Multiple.{multiple}
 use Rattle.rewrite_modules.specs.Instrumentable.{program_of, Instrumentable}
 use Rattle.rewrite_modules.specs.Simulates.{Simulates}
+use Rattle.rewrite_modules.specs.Flag.{LowersFlag}
 use Rattle.rewrite_modules.specs.Weight.{AreHeights, weight}
-use Rattle.rewrite_modules.proofs.BareRuns.{simulates_bare}
+use Rattle.rewrite_modules.proofs.BareRuns.{simulates_bare, lowers_bare}
 use Rattle.rewrite_modules.proofs.BareValid.{same_valid}
 use Rattle.rewrite_modules.proofs.Modules.{module_given}
 use Rattle.rewrite_modules.proofs.LowOperands.{low_heights}
 use Rattle.rewrite_modules.proofs.Multiple.{simulates_by}
-use Rattle.rewrite_modules.proofs.Theorem.{startable_given, ready_given}
+use Rattle.rewrite_modules.proofs.Theorem.{startable_given, ready_given, rewriting_lowers}
 use Rattle.rewrite_modules.proofs.ValidModule.{new_valid}
 use Rattle.rewrite_modules.proofs.WrittenOut.{program_bare, same_bare, instrument_bare}
 use Rattle.rewrite_promise.proofs.Lists.{within}
@@ -41,8 +43,14 @@ module _ (m other : Module) (x : Instrumentable m) (sized : Sized m) (too : IsMo
   given : Given p
   given = module_given m x
 
+  bares : bare q ≡ bare (instrument p)
+  bares = same_bare q (instrument p) (program_bare q too.write) (instrument_bare p given.program (startable_given p given).typed) (sym same)
+
   pub does : (heights : List (List ℕ)) → AreHeights m heights → Simulates (multiple m heights) p q
-  does heights are = simulates_bare (multiple m heights) p (instrument p) q (same_bare q (instrument p) (program_bare q too.write) (instrument_bare p given.program (startable_given p given).typed) (sym same)) (simulates_by p given heights are)
+  does heights are = simulates_bare (multiple m heights) p (instrument p) q bares (simulates_by p given heights are)
+
+  pub lowers_it : LowersFlag p q
+  lowers_it = lowers_bare p (instrument p) q bares (rewriting_lowers p given)
 
   pub is_valid : Valid other
   is_valid = same_valid (new_module p) other same too (new_valid p (ready_given p given) x.valid (startable_given p given).typed x.whole.write x.no_export_collision)
@@ -99,6 +107,7 @@ promised m other a r =
       whole = r.whole;
       other_whole = r.other_whole;
       simulates = does m other x a.sized r.other_whole r.same;
+      lowers = lowers_it m other x a.sized r.other_whole r.same;
       valid = is_valid m other x a.sized r.other_whole r.same;
       within = within_too m other r x a.sized r.same;
       low = is_low m other x a.sized r.other_whole r.same;
