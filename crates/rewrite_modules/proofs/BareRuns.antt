@@ -13,13 +13,14 @@ use Rattle.wasm_syntax.specs.declared.module.ModuleParts.{ModuleParts as Module}
 use Rattle.wasm_syntax.specs.Module.{Program, Function, imported, defined, function_at, const_value, function_export}
 use Rattle.wasm_syntax.specs.Host.{World, Answer, replied, told, silent, misfit, answer}
 use Rattle.wasm_syntax.specs.Machine.{Config, config, Engine, Stepped, next, ends, traps, no_reply, bad_reply, stuck, entered, host_call, step, zero_of}
-use Rattle.wasm_syntax.specs.Run.{Cause, initial_globals, i32_or_zero, over, first_false, table_min, empty_memory, memory_bytes, globals_at_start, element_at, data_at, element_fits, data_fits, start_world, Ended, ended, host_alone, run_on, run_steps, run_alone, run_function, Outcome, not_started, finished, trapped, lacks_reply, misfits, running, got_stuck, Ran, ran_to, run_entry, go_on, invoked, by_data, by_element, cause_of_entry, Invocation, cause_of, goes_on, fresh, session, unless, engine, run}
+use Rattle.wasm_syntax.specs.Run.{Cause, initial_globals, i32_or_zero, over, first_false, table_min, empty_memory, memory_bytes, globals_at_start, element_at, data_at, element_fits, data_fits, start_world, Ended, ended, host_alone, run_on, run_steps, run_alone, run_function, Outcome, not_started, finished, trapped, lacks_reply, misfits, running, got_stuck, Ran, ran_to, run_entry, go_on, invoked, by_data, by_element, cause_of_entry, cause_of_segments, Invocation, cause_of, goes_on, fresh, session, unless, engine, run}
 use Rattle.linear_memory.specs.Memory.{Memory}
 use Rattle.rewrite_modules.specs.calls.Bare.{bare, bare_config, bare_ran}
 use Rattle.wasm_syntax.specs.SameCode.{op_code, code_alone, global_code, element_code, segment_code}
 use Rattle.rewrite_modules.proofs.BareStep.{bare_stepped, bare_function, function_bare, bare_engine, step_bare}
 use Rattle.rewrite_modules.specs.Simulates.{EndsAlike, SameState, Alike, AllAlike, Simulates}
 use Rattle.rewrite_modules.specs.Flag.{LowersFlag}
+use Rattle.rewrite_modules.specs.Starts.{start_run, StartsAlike}
 use Rattle.std.proofs.lemmas.Option.{slice_get-map}
 use Rattle.pm_text.proofs.Lists.{some_is}
 use Rattle.wasm_syntax.specs.declared.value.Value.TheVariants as values
@@ -266,3 +267,26 @@ lowers_bare p q r e h is replies d n i k x c d1 d2 nd at o l =
         let b = last_from y.last c (ap (λ z. z.last) same ∙ ap (option_map bare_config) l) in
         let at_b = h is replies d n i k y b.0 d1 d2 nd g (ap (λ z. z.outcome) same ∙ o) b.1 in
         subst (λ z. slice_get z.world.globals (length p.module_.globals) ≡ Some (values.I32 0)) b.2 at_b
+
+-- ---- the start function alone
+
+start_run_bare : (M : Engine) (f : ℕ) (replies : List Reply) (n : ℕ) → start_run (bare_engine M) f replies n ≡ bare_ran (start_run M f replies n)
+start_run_bare M f replies n =
+    let w = start_world M.program.module_ replies in
+    let e = run_function M n f (function_at M.program f) [] w [] in
+    ap (λ (v : World). (let e = run_function (bare_engine M) n f (function_at (bare M.program) f) [] v [] in ran_to false e.what e.left)) (world_same M.program.module_ replies)
+    ∙ ap (λ e. ran_to false e.what e.left) (function_runs M n f [] w [])
+    ∙ ran_to_bare false e.what e.left
+
+-- a module that is the rewritten one but for offsets starts as the original too
+pub starts_bare : (factor : ℕ) (p q r : Program) → bare r ≡ bare q → StartsAlike factor p q → StartsAlike factor p r
+starts_bare factor p q r e s replies d n f d1 d2 c st n8 =
+    let x = s replies d n f d1 d2 c st n8 in
+    let m = x.3 in
+    let M = engine q true (d + 2) in
+    let N = engine r true (d + 2) in
+    let same : bare_ran (start_run M x.0 replies m) ≡ bare_ran (start_run N x.0 replies m) = sym (start_run_bare M x.0 replies m) ∙ ap (λ (z : Program). start_run (engine z true (d + 2)) x.0 replies m) (sym e) ∙ start_run_bare N x.0 replies m in
+    let fits : cause_of_segments r.module_ ≡ None = sym (cause_same r.module_ []) ∙ ap (λ (z : Program). cause_of_segments z.module_) e ∙ cause_same q.module_ [] ∙ x.1 in
+    let starts : r.module_.start ≡ Some x.0 = ap (λ (z : Program). z.module_.start) e ∙ x.2 in
+    let one = start_run (engine p false d) f replies n in
+    (x.0, fits, starts, m, x.4, x.5, alike_from one (start_run N x.0 replies m) (subst (Alike one) same (alike_to one (start_run M x.0 replies m) x.6)))

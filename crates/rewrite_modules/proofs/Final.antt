@@ -192,7 +192,7 @@ module _ (p : Program) (fit : Fits p) (d : ℕ) (deep : 0 < d) (low : d ≤ 1000
   abbrev pub EndsSo : Bool → ℕ → Stepped → ℕ → (ℕ → Ended) → Type 0
   EndsSo q n s left go = (k : ℕ) × (n ≤ k) × (k ≤ (2 * n + 2) * E) × Followed (length m.globals) (ran_to q s left) (ran_to q (go k).what (go k).left)
 
-  ends_so : (q : Bool) (n made left : ℕ) (s : Stepped) (go : ℕ → Ended) → n ≡ made + left → AllMade M M' E gl (record { idx = 0; result = None; locals = []; rest = stop }) (ended s left) → St go made s → (ran_to q s left).outcome ≢ runs_.trapped 8 → (ran_to q s left).outcome ≢ got_stuck → EndsSo q n s left go
+  pub ends_so : (q : Bool) (n made left : ℕ) (s : Stepped) (go : ℕ → Ended) → n ≡ made + left → AllMade M M' E gl (record { idx = 0; result = None; locals = []; rest = stop }) (ended s left) → St go made s → (ran_to q s left).outcome ≢ runs_.trapped 8 → (ran_to q s left).outcome ≢ got_stuck → EndsSo q n s left go
   ends_so q n made left (next c) go nm all h n8 ns =
       let le : h.0 ≤ (2 * n + 2) * E = omega (arith, h.2, nm, mul-le-mul_right E (fits_in made n left nm)) in
       (h.0, omega (arith, h.1, nm, all), le, rw h.4 (untrapped q (ran_to q (next c) left) (next h.3) 0 tt (record { begun = refl; host_calls = ap (λ w. reverse w.served) h.6; ends = (refl, ap reverse h.7); state = world_alike c h.3 h.5 h.6 })))

@@ -9,6 +9,7 @@ pub mod Final
 pub mod SlotMultiple
 pub mod Sessions
 pub mod Theorem
+pub mod Starts
 pub mod Rows
 pub mod Divider
 pub mod BareStep

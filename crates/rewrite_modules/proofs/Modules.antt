@@ -1,5 +1,5 @@
 -- From a module that is rewritten to its program.
-use Rattle.std.proofs.Common.{◌≡◌, ℕ, zero, suc, ◌+◌, ◌*◌, ◌≤◌, Bool, true, false, ◌&&◌, if◌then◌else◌, option_map, List, [], ◌∷◌, length, map, Option, Some, None, refl, subst, slice_get, arith, length-append}
+use Rattle.std.proofs.Common.{◌≡◌, ℕ, zero, suc, ◌+◌, ◌*◌, ◌≤◌, Bool, true, false, ◌&&◌, if◌then◌else◌, option_map, List, [], ◌∷◌, length, map, Option, Some, None, refl, ap, subst, slice_get, arith, length-append}
 use Rattle.std.specs.Prelude.{sum, find, bytes_eq}
 use Rattle.wasm_syntax.specs.declared.instruction.Op.{Op}
 use Rattle.wasm_syntax.specs.declared.parts.Body.{Body}
@@ -9,7 +9,7 @@ use Rattle.wasm_syntax.specs.Tree.{Nodes, stop, basic, jump, block, loop, choose
 use Rattle.wasm_syntax.specs.Module.{Program, Function, imported, defined, function_at, type_at, declared_locals, AllWrite, is_function}
 use Rattle.wasm_syntax.specs.declared.parts.Export.{Export}
 use Rattle.wasm_laws.proofs.Validity.{typed}
-use Rattle.rewrite_modules.specs.Weight.{entry_weight, exports_weight}
+use Rattle.rewrite_modules.specs.Weight.{entry_weight, exports_weight, start_weight}
 use Rattle.rewrite_modules.proofs.Heights.{heights_low}
 use Rattle.rewrite_modules.specs.calls.Given.{Given, SmallCode}
 use Rattle.rewrite_bodies.specs.Numbering.{import_count}
@@ -107,6 +107,12 @@ module _ (m : Module) (x : Instrumentable m) where
       by_test true true h ih = omega arith
       by_test true false h ih = omega arith
       by_test false b h ih = omega (arith, ih h)
+
+  -- and where there is a start function
+  pub few_at_start : (s : ℕ) → m.start ≡ Some s → length m.globals ≤ 20000000
+  few_at_start s e =
+      let some : start_weight m m.start ≡ entry_weight m s = ap (start_weight m) e in
+      omega (arith, some, x.lightness.light)
 
   pub module_given : Given (program_of m x.whole)
   module_given = record {

@@ -28,6 +28,7 @@ use Rattle.wasm_syntax.specs.SameCode.{code_alone}
 use Rattle.rewrite_modules.specs.calls.Given.{Given}
 use Rattle.rewrite_modules.specs.Instrument.{instrument, new_module}
 use Rattle.rewrite_modules.specs.Simulates.{Simulates}
+use Rattle.rewrite_modules.specs.Starts.{StartsAlike}
 use Rattle.rewrite_modules.specs.Weight.{height_at, AreHeights}
 use Rattle.rewrite_modules.specs.Multiple.{most_locals, highest, most_operands, multiple}
 use Rattle.rewrite_modules.proofs.FineBodies.{fine_at}
@@ -36,6 +37,7 @@ use Rattle.rewrite_modules.proofs.Links.{is_defined, parts_of, type_is_of, IsDef
 use Rattle.rewrite_modules.proofs.BareRuns.{simulates_bare}
 use Rattle.rewrite_modules.proofs.SlotMultiple.{slot_multiple}
 use Rattle.rewrite_modules.proofs.Spots.{at_spots}
+use Rattle.rewrite_modules.proofs.Starts.{starts_by_slots}
 use Rattle.rewrite_modules.proofs.Theorem.{startable_given, rewriting_simulates}
 use Rattle.rewrite_modules.proofs.WrittenOut.{program_bare, same_bare, instrument_bare}
 use Rattle.pm_text.proofs.Lists.{some_is}
@@ -226,6 +228,10 @@ module _ (p : Program) (write_ : IsProgram p) (typed : Typed p) (valid : Valid p
 
 pub simulates_by : (p : Program) → Given p → (heights : List (List ℕ)) → AreHeights p.module_ heights → Simulates (multiple p.module_ heights) p (instrument p)
 simulates_by p g heights are = subst (λ k. Simulates k p (instrument p)) (multiple_is p g.program (startable_given p g).typed g.valid heights are) (rewriting_simulates p g)
+
+-- and the start function alone
+pub starts_by_heights : (p : Program) → Given p → ((s : ℕ) → p.module_.start ≡ Some s → length p.module_.globals ≤ 20000000) → (heights : List (List ℕ)) → AreHeights p.module_ heights → StartsAlike (multiple p.module_ heights) p (instrument p)
+starts_by_heights p g few heights are = subst (λ k. StartsAlike k p (instrument p)) (multiple_is p g.program (startable_given p g).typed g.valid heights are) (starts_by_slots p g few)
 
 -- each module that is the same but for offsets
 pub others_simulate : (p other : Program) → Given p → IsProgram other → code_alone other.module_ ≡ code_alone (new_module p) → (heights : List (List ℕ)) → AreHeights p.module_ heights → Simulates (multiple p.module_ heights) p other

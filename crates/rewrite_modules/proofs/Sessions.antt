@@ -342,6 +342,13 @@ module _ (p : Program) (fit : Fits p) (d : ℕ) (deep : 0 < d) (low : d ≤ 1000
   pub all_so : (is : List Invocation) (replies : List Reply) (n : ℕ) → All_so is replies n (run p false is replies d n)
   all_so is replies n = all_by is replies n (runs_.cause_of m is) refl
 
+-- the bound on the steps
+pub twice : (n l s : ℕ) → (2 * n + 4 * l) * (100 + 4 * s) ≡ (n + 2 * l) * (200 + 8 * s)
+twice n l s =
+    let a : 2 * n + 4 * l ≡ (n + 2 * l) * 2 = omega arith in
+    let b : 200 + 8 * s ≡ 2 * (100 + 4 * s) = omega arith in
+    ap (λ z. z * (100 + 4 * s)) a ∙ mul_assoc (n + 2 * l) 2 (100 + 4 * s) ∙ ap (λ z. (n + 2 * l) * z) (sym b)
+
 abbrev pub NeverStuckAll : Program → Type 0
 NeverStuckAll p = (is : List Invocation) (replies : List Reply) (d n : ℕ) → NoneStuck (run p false is replies d n)
 
@@ -354,9 +361,3 @@ follows_all p fit never is replies d n d1 d2 nd =
     let x = all_so p fit d (omega (arith, d1)) d2 is replies n nd (never is replies d n) in
     let z : (2 * n + 4 * length is) * half p fit.ready ≡ (n + 2 * length is) * slot_multiple p = twice n (length is) ((greatest p).0 + (greatest p).1 + length p.module_.globals) in
     (x.0, x.1, subst (λ q. x.0 ≤ q) z x.2, x.3)
-  where
-    twice : (n l s : ℕ) → (2 * n + 4 * l) * (100 + 4 * s) ≡ (n + 2 * l) * (200 + 8 * s)
-    twice n l s =
-        let a : 2 * n + 4 * l ≡ (n + 2 * l) * 2 = omega arith in
-        let b : 200 + 8 * s ≡ 2 * (100 + 4 * s) = omega arith in
-        ap (λ z. z * (100 + 4 * s)) a ∙ mul_assoc (n + 2 * l) 2 (100 + 4 * s) ∙ ap (λ z. (n + 2 * l) * z) (sym b)

@@ -192,7 +192,7 @@ starts_fit p g d replies e =
       table = first_is_start p.module_ (all_true 0 _ (elements_true p.module_ (first_false 0 (map (element_fits p.module_) p.module_.elements)) e));
     }
 
-fits_given : (p : Program) → Given p → length p.module_.globals ≤ 20000000 → Fits p
+pub fits_given : (p : Program) → Given p → length p.module_.globals ≤ 20000000 → Fits p
 fits_given p g few =
     let s = startable_given p g in
     record {

@@ -4,6 +4,7 @@ pub mod Collector
 pub mod Instrument
 pub mod Simulates
 pub mod Flag
+pub mod Starts
 pub mod Weight
 pub mod Multiple
 pub mod Instrumentable

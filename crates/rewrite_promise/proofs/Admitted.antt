@@ -13,7 +13,7 @@ use Rattle.rewrite_modules.specs.Instrumentable.{program_of, LightEnough}
 use Rattle.rewrite_modules.specs.Interface.{KeepsInterface}
 use Rattle.rewrite_modules.specs.Multiple.{multiple}
 use Rattle.rewrite_modules.proofs.BareHeights.{same_heights}
-use Rattle.rewrite_modules.proofs.BareRuns.{simulates_bare}
+use Rattle.rewrite_modules.proofs.BareRuns.{simulates_bare, starts_bare}
 use Rattle.rewrite_modules.proofs.BareValid.{same_valid}
 use Rattle.rewrite_modules.proofs.WrittenOut.{program_bare, same_bare}
 use Rattle.rewrite_promise.specs.Promise.{Promised}
@@ -50,6 +50,7 @@ admits m other light p d are =
       is = d.is;
       decoded_whole = too;
       simulates = simulates_bare (multiple m light.heights) (program_of m p.whole) q r bares (p.simulates light.heights light.heights_are);
+      starts = starts_bare (multiple m light.heights) (program_of m p.whole) q r bares (p.starts light.heights light.heights_are);
       valid = valid;
       within = limits bytes decoded are d.is;
       low = all_low decoded (same_heights other decoded same (low_heights other p.low));

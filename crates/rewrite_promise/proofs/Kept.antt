@@ -15,12 +15,13 @@ use Rattle.rewrite_modules.specs.Multiple.{multiple}
 use Rattle.rewrite_modules.specs.Instrumentable.{program_of, Instrumentable}
 use Rattle.rewrite_modules.specs.Simulates.{Simulates}
 use Rattle.rewrite_modules.specs.Flag.{LowersFlag}
+use Rattle.rewrite_modules.specs.Starts.{StartsAlike}
 use Rattle.rewrite_modules.specs.Weight.{AreHeights, weight}
-use Rattle.rewrite_modules.proofs.BareRuns.{simulates_bare, lowers_bare}
+use Rattle.rewrite_modules.proofs.BareRuns.{simulates_bare, starts_bare, lowers_bare}
 use Rattle.rewrite_modules.proofs.BareValid.{same_valid}
-use Rattle.rewrite_modules.proofs.Modules.{module_given}
+use Rattle.rewrite_modules.proofs.Modules.{module_given, few_at_start}
 use Rattle.rewrite_modules.proofs.LowOperands.{low_heights}
-use Rattle.rewrite_modules.proofs.Multiple.{simulates_by}
+use Rattle.rewrite_modules.proofs.Multiple.{simulates_by, starts_by_heights}
 use Rattle.rewrite_modules.proofs.Theorem.{startable_given, ready_given, rewriting_lowers}
 use Rattle.rewrite_modules.proofs.ValidModule.{new_valid}
 use Rattle.rewrite_modules.proofs.WrittenOut.{program_bare, same_bare, instrument_bare}
@@ -48,6 +49,9 @@ module _ (m other : Module) (x : Instrumentable m) (sized : Sized m) (too : IsMo
 
   pub does : (heights : List (List ℕ)) → AreHeights m heights → Simulates (multiple m heights) p q
   does heights are = simulates_bare (multiple m heights) p (instrument p) q bares (simulates_by p given heights are)
+
+  pub starts_it : (heights : List (List ℕ)) → AreHeights m heights → StartsAlike (multiple m heights) p q
+  starts_it heights are = starts_bare (multiple m heights) p (instrument p) q bares (starts_by_heights p given (few_at_start m x) heights are)
 
   pub lowers_it : LowersFlag p q
   lowers_it = lowers_bare p (instrument p) q bares (rewriting_lowers p given)
@@ -107,6 +111,7 @@ promised m other a r =
       whole = r.whole;
       other_whole = r.other_whole;
       simulates = does m other x a.sized r.other_whole r.same;
+      starts = starts_it m other x a.sized r.other_whole r.same;
       lowers = lowers_it m other x a.sized r.other_whole r.same;
       valid = is_valid m other x a.sized r.other_whole r.same;
       within = within_too m other r x a.sized r.same;

@@ -133,6 +133,12 @@ module _ (p : Program) (s : Startable p) (collecting : Bool) (d : ℕ) where
       rest_fine true e h = h e
       rest_fine false e h = tt
 
+  -- the start function alone
+  pub start_alive : (n g : ℕ) (replies : List Reply) → p.module_.start ≡ Some g → (ran_to false (run_function N n g (function_at p g) [] (start_world p.module_ replies) []).what (run_function N n g (function_at p g) [] (start_world p.module_ replies) []).left).outcome ≢ got_stuck
+  start_alive n g replies st =
+      let e = run_function N n g (function_at p g) [] (start_world p.module_ replies) [] in
+      not_stuck (ran_to false e.what e.left).outcome (last_fine false e.what e.left (function_ok N s.typed n g (record { params = []; results = [] }) [] (start_world p.module_ replies) [] (s.start g st) refl (s.world replies))).0
+
   no_cause : (a b : Option Cause) → option_or a b ≡ None → (a ≡ None) × (b ≡ None)
   no_cause None b e = (refl, e)
   no_cause (Some c) b e = absurd (cc)
