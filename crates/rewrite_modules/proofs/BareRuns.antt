@@ -15,9 +15,9 @@ use Rattle.wasm_syntax.specs.Host.{World, Answer, replied, told, silent, misfit,
 use Rattle.wasm_syntax.specs.Machine.{Config, config, Engine, Stepped, next, ends, traps, no_reply, bad_reply, stuck, entered, host_call, step, zero_of}
 use Rattle.wasm_syntax.specs.Run.{Cause, initial_globals, i32_or_zero, over, first_false, table_min, empty_memory, memory_bytes, globals_at_start, element_at, data_at, element_fits, data_fits, start_world, Ended, ended, host_alone, run_on, run_steps, run_alone, run_function, Outcome, not_started, finished, trapped, lacks_reply, misfits, running, got_stuck, Ran, ran_to, run_entry, go_on, invoked, by_data, by_element, cause_of_entry, cause_of_segments, Invocation, cause_of, goes_on, fresh, session, unless, engine, run}
 use Rattle.linear_memory.specs.Memory.{Memory}
-use Rattle.rewrite_modules.specs.calls.Bare.{bare, bare_config, bare_ran}
+use Rattle.rewrite_modules.specs.calls.Bare.{bare, bare_config, bare_stepped, bare_ran}
 use Rattle.wasm_syntax.specs.SameCode.{op_code, code_alone, global_code, element_code, segment_code}
-use Rattle.rewrite_modules.proofs.BareStep.{bare_stepped, bare_function, function_bare, bare_engine, step_bare}
+use Rattle.rewrite_modules.proofs.BareStep.{bare_function, function_bare, bare_engine, step_bare}
 use Rattle.rewrite_modules.specs.Simulates.{EndsAlike, SameState, Alike, AllAlike, Simulates}
 use Rattle.rewrite_modules.specs.Flag.{LowersFlag}
 use Rattle.rewrite_modules.specs.Starts.{start_run, StartsAlike}

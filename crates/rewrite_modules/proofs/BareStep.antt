@@ -16,18 +16,10 @@ use Rattle.wasm_syntax.specs.Tree.{Jump, Unreachable, Br, BrIf, BrTable, Return,
 use Rattle.wasm_syntax.specs.Module.{Program, Function, imported, defined, function_at, defined_at, imported_at, same_types, option_then}
 use Rattle.wasm_syntax.specs.Host.{World, Answer, replied, told, silent, misfit, answer}
 use Rattle.wasm_syntax.specs.Effect.{Effect, gives, fails, unfit, effect, takes}
-use Rattle.wasm_syntax.specs.Machine.{Kind, leaves, again, returns, Label, Frame, Config, Engine, Stepped, next, ends, traps, no_reply, bad_reply, stuck, Cut, short, parts, cut, top, exactly, Went, inside, outside, nowhere, arrive, arrive_some, out_some, leave, loops, land, branch, carried_by, carry, same_carry, pick, function_type, entered, host_call, goes_to, deliver, moved, host, enters, applied, applied_if, calls_on, calls, calls_if, fits_entry, calls_entry, calls_typed, calls_indirect, branch_if, moved_if, branch_table, jumps, affects, does, opens_arm, chooses, runs, in_frame, steps, step}
-use Rattle.rewrite_modules.specs.calls.Bare.{bare_nodes, bare_tree, bare, bare_kind, bare_label, bare_frame, bare_config}
+use Rattle.wasm_syntax.specs.Machine.{Kind, leaves, again, returns, Label, Frame, Config, Engine, ends, Cut, short, parts, cut, top, exactly, Went, inside, outside, nowhere, arrive, arrive_some, out_some, leave, loops, land, branch, carried_by, carry, same_carry, pick, function_type, entered, host_call, goes_to, deliver, moved, host, enters, applied, applied_if, calls_on, calls, calls_if, fits_entry, calls_entry, calls_typed, calls_indirect, branch_if, moved_if, branch_table, jumps, affects, does, opens_arm, chooses, runs, in_frame, steps, step}
+use Rattle.rewrite_modules.specs.calls.Bare.{bare_nodes, bare_tree, bare, bare_kind, bare_label, bare_frame, bare_config, bare_stepped}
 use Rattle.wasm_syntax.specs.SameCode.{body_code, code_alone}
 use Rattle.rewrite_bodies.proofs.Sim.{ends_zero}
-
-abbrev pub bare_stepped : Stepped → Stepped
-bare_stepped (next c) = next (bare_config c)
-bare_stepped (ends w vs co) = ends w vs co
-bare_stepped (traps k c) = traps k (bare_config c)
-bare_stepped (no_reply call c) = no_reply call (bare_config c)
-bare_stepped (bad_reply call r c) = bad_reply call r (bare_config c)
-bare_stepped stuck = stuck
 
 abbrev bare_went : Went → Went
 bare_went (inside ls) = inside (map bare_label ls)

@@ -14,6 +14,7 @@ pub mod Rows
 pub mod Divider
 pub mod BareStep
 pub mod BareRuns
+pub mod BareSteps
 pub mod FlatOut
 pub mod Arms
 pub mod WrittenOut
@@ -30,6 +31,7 @@ pub mod Spots
 pub mod Stacks
 pub mod StackPieces
 pub mod FineBodies
+pub mod SameBodies
 pub mod Multiple
 pub mod LowOperands
 pub mod Unwinding

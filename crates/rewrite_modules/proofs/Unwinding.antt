@@ -25,7 +25,7 @@ use Rattle.rewrite_modules.specs.Instrument.{instrument}
 use Rattle.rewrite_modules.specs.Multiple.{half}
 use Rattle.rewrite_modules.specs.Weight.{AreHeights}
 use Rattle.rewrite_modules.specs.Wrappers.{wrapper_nodes, wrapper}
-use Rattle.rewrite_modules.specs.inner.Unwinding.{Begins, Unwinds}
+use Rattle.rewrite_modules.specs.calls.Unwinding.{Begins, Unwinds}
 use Rattle.rewrite_modules.proofs.Links.{Ready, is_defined, sizes_fit, type_is_of, wrapper_there, stands}
 use Rattle.rewrite_modules.proofs.Links as links
 use Rattle.rewrite_modules.proofs.Multiple.{greatest_are}

@@ -9,5 +9,4 @@ pub mod Weight
 pub mod Multiple
 pub mod Instrumentable
 pub mod Interface
-pub mod inner
 pub mod calls

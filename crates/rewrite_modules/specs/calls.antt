@@ -3,3 +3,4 @@ pub mod Bare
 pub mod Example
 pub mod Given
 pub mod LowSizes
+pub mod Unwinding

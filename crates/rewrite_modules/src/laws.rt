@@ -16,7 +16,7 @@ ghost use Rattle.rewrite_modules.specs.calls.Example.{divider, HandsOver, Weighs
 ghost use Rattle.rewrite_modules.specs.calls.LowSizes.{LowSizes, LowHeights};
 ghost use Rattle.rewrite_modules.specs.Weight.{height_at, AreHeights};
 ghost use Rattle.rewrite_modules.specs.Multiple.{most_locals, highest, most_operands, multiple, half};
-ghost use Rattle.rewrite_modules.specs.inner.Unwinding.{Unwinds};
+ghost use Rattle.rewrite_modules.specs.calls.Unwinding.{Unwinds};
 ghost use Rattle.rewrite_bodies.specs.Numbering.{import_count};
 ghost use Rattle.rewrite_bodies.specs.Slots.{greatest, slots_of};
 ghost use Rattle.wasm_syntax.specs.Tree.{Tree};

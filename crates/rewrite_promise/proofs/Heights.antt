@@ -16,12 +16,12 @@ use Rattle.rewrite_modules.proofs.Multiple.{live_or, before_live}
 
 -- ---- the weight
 
-same_ops : (g h : ℕ → ℕ) → ((j : ℕ) → g j ≡ h j) → (j : ℕ) (ops : List Op) → ops_weight g j ops ≡ ops_weight h j ops
+pub same_ops : (g h : ℕ → ℕ) → ((j : ℕ) → g j ≡ h j) → (j : ℕ) (ops : List Op) → ops_weight g j ops ≡ ops_weight h j ops
 same_ops g h e j [] = refl
 same_ops g h e j (o ∷ os) = ap₂ (λ (a b : ℕ). op_weight o a + b) (e j) (same_ops g h e (suc j) os)
 
 module _ (m : Module) (valid : Valid m) (g h : List (List ℕ)) (are : AreHeights m g) (too : AreHeights m h) where
-  same_height : (i op : ℕ) (body : Body) → slice_get m.bodies i ≡ Some body → height_at g i op ≡ height_at h i op
+  pub same_height : (i op : ℕ) (body : Body) → slice_get m.bodies i ≡ Some body → height_at g i op ≡ height_at h i op
   same_height i op body e =
       let f = length m.imports + i in
       let fine = fine_at m i body valid e in

@@ -4,6 +4,7 @@ pub mod Exported
 pub mod Heights
 pub mod Decoded
 pub mod Kept
+pub mod Layered
 pub mod Laid
 pub mod There
 pub mod Written

@@ -227,7 +227,7 @@ segment_bare s =
     let e = length-append (expression_bytes (body_code s.offset)) (sized_bytes s.bytes) in
     omega (arith, a, b, c, d, e)
 
-entry_bare : (b : Body) → entry_bytes (body_code b) ≡ entry_bytes b
+pub entry_bare : (b : Body) → entry_bytes (body_code b) ≡ entry_bytes b
 unfolding entry_bytes function_bytes
 entry_bare b = ap (λ z. sized_bytes (vector_bytes group_bytes b.groups ++ z)) (expression_bare b)
 

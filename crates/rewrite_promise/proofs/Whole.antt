@@ -95,7 +95,7 @@ module _ (m : Module) (x : Instrumentable m) (sized : Sized m) where
   none_short : (n : ℕ) → entry (body_of [] stop) ≤ n + 192
   none_short n = let a = plain_entry stop in omega (arith, a)
 
-  rewritten_short : (i : ℕ) (b : Body) (q : Option Function) → function_at p (ic + i) ≡ q → slice_get m.bodies i ≡ Some b → entry (new_body p (ic + i) q) ≤ 8 * entry b + (192 + 16 * local_count (type_at m (length m.imports + i)) b + ops_weight (height_at heights i) 0 b.ops)
+  pub rewritten_short : (i : ℕ) (b : Body) (q : Option Function) → function_at p (ic + i) ≡ q → slice_get m.bodies i ≡ Some b → entry (new_body p (ic + i) q) ≤ 8 * entry b + (192 + 16 * local_count (type_at m (length m.imports + i)) b + ops_weight (height_at heights i) 0 b.ops)
   rewritten_short i b None at there = let a = none_short 0 in omega (arith, a)
   rewritten_short i b (Some (imported j type)) at there = let a = none_short 0 in omega (arith, a)
   rewritten_short i b (Some (defined c tree type)) at there =

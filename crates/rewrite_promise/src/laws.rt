@@ -17,6 +17,7 @@ ghost use Rattle.rewrite_modules.specs.Multiple.{multiple};
 ghost use Rattle.rewrite_modules.specs.calls.Example.{divider};
 ghost use Rattle.rewrite_modules.specs.Weight.{AreHeights, weight};
 ghost use Rattle.rewrite_promise.specs.calls.Example.{divider_bytes};
+ghost use Rattle.rewrite_promise.specs.calls.Layers.{Layered};
 ghost use Rattle.rewrite_promise.specs.Promise.{Accepted, AcceptedBytes, IsRewriting, Promised, DecodesAsRewriting};
 ghost use Rattle.rewrite_promise.specs.Outside.{KeepsOutside};
 ghost use Rattle.rewrite_promise.specs.Admitted.{Admits};
@@ -59,6 +60,13 @@ pub fn rewriting_promises()
     ensures modules { (m other : Parts) → Accepted m → IsRewriting m other → Promised m other }
     ensures bytes { (bytes : List ℕ) (m other : Parts) → AcceptedBytes bytes m → IsRewriting m other
         → Promised m other }
+{}
+
+/// What the layers promise of each: every step is followed, and at a trap each frame and then the
+/// wrapper hand over their values in at most half of the bound on the steps; each body is well
+/// typed, within the limits of the decoder, and takes at most its share of the weight.
+pub fn layers_promise()
+    ensures { (m other : Parts) → Accepted m → IsRewriting m other → Layered m other }
 {}
 
 /// Each accepted module has such a rewriting: a module whose code is that of the rewritten one, at

@@ -2,7 +2,7 @@
 use Rattle.std.specs.Prelude.{map, option_map}
 use Rattle.wasm_syntax.specs.Tree.{Nodes, stop, basic, jump, block, loop, choose, Tree}
 use Rattle.wasm_syntax.specs.Module.{Program}
-use Rattle.wasm_syntax.specs.Machine.{Kind, leaves, again, returns, Label, Frame, Config, label, frame, config}
+use Rattle.wasm_syntax.specs.Machine.{Kind, leaves, again, returns, Label, Frame, Config, label, frame, config, Stepped, next, ends, traps, no_reply, bad_reply, stuck}
 use Rattle.wasm_syntax.specs.Run.{Ran}
 use Rattle.wasm_syntax.specs.SameCode.{code_alone}
 
@@ -35,6 +35,14 @@ bare_frame f = frame f.function f.result 0 f.locals (map bare_label f.labels)
 
 abbrev pub bare_config : Config → Config
 bare_config c = config (map bare_frame c.frames) c.world c.collected
+
+abbrev pub bare_stepped : Stepped → Stepped
+bare_stepped (next c) = next (bare_config c)
+bare_stepped (ends w vs co) = ends w vs co
+bare_stepped (traps k c) = traps k (bare_config c)
+bare_stepped (no_reply call c) = no_reply call (bare_config c)
+bare_stepped (bad_reply call r c) = bad_reply call r (bare_config c)
+bare_stepped stuck = stuck
 
 abbrev pub bare_ran : Ran → Ran
 bare_ran r = record { outcome = r.outcome; served = r.served; collected = r.collected; entered = r.entered; last = option_map bare_config r.last; left = r.left }
