@@ -39,6 +39,8 @@ use Rattle.unwind_rewrite.specs.calls.Numbers.{Helped, AllHelped}
 use Rattle.unwind_rewrite.specs.calls.Points.{CanBeWritten}
 use Rattle.operand_spill.specs.calls.Plans.{Planned, IsPlan}
 use Rattle.operand_spill.proofs.Greatest.{there}
+use Rattle.rewrite_promise.specs.calls.Layers.{BodyPromised}
+use Rattle.rewrite_promise.proofs.Layered.{body_promised}
 use Rattle.unwind_rewrite.specs.calls.Rewritten.{program_in, IsPlanIn, IsRewritten, gives_of}
 use Rattle.pm_text.proofs.Lists.{some_is}
 use Rattle.wasm_syntax.proofs.Bodies.{tree_there}
@@ -170,3 +172,10 @@ is_rewritten m f b here plan planned C e (Ok out) h = λ a.
     let q = found m a f b here in
     written_is m a f b here plan q.tree q.type q.is (planned a b q.tree q.type q.is) out
     (subst (λ (c : Ctx). (t : Tree) → Writes b.targets b.ops t → Fine c [] t.nodes → body_code out ≡ body_code (body_of (b.groups ++ groups c.slots) (body c t.nodes))) e h)
+
+-- what is promised of it
+pub promised : {E : Type 0} (m : Module) (f : ℕ) (r : Result Body E) → IfOk r (IsRewritten m f) → (a : Accepted m) (i : ℕ) (old : Body) → f ≡ length m.imports + i → slice_get m.bodies i ≡ Some old → IfOk r (BodyPromised m a.premises.whole i old)
+promised m f (Err x) h a i old e there = tt
+promised m f (Ok new) h a i old e there =
+    let p = program_in m a in
+    body_promised m a.premises a.sized i old new there (h a ∙ ap (λ k. body_code (new_body p k (function_at p k))) e)

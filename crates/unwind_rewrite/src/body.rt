@@ -1,6 +1,7 @@
 //! The body of a rewritten function.
 
-ghost use Rattle.std.specs.Prelude.{◌≡◌, ◌+◌, ◌^◌, ◌<◌, ◌≤◌, ◌++◌, [], length, IfOk, Some};
+ghost use Rattle.std.specs.Prelude.{◌≡◌, ◌+◌, ◌^◌, ◌<◌, ◌≤◌, ◌++◌, ℕ, List, [], length, slice_get, IfOk, Some};
+ghost use Rattle.wasm_syntax.specs.declared.parts.Body.{Body as FunctionBody};
 ghost use Rattle.wasm_syntax.specs.Module.{Ascend};
 ghost use Rattle.wasm_syntax.specs.Tree.{Tree as TreeOf, Writes};
 ghost use Rattle.wasm_validate.specs.Heights.{body_of as body_in};
@@ -8,12 +9,16 @@ ghost use Rattle.rewrite_bodies.specs.Rewrite.{body as rewriting};
 ghost use Rattle.rewrite_bodies.specs.Slots.{groups};
 ghost use Rattle.wasm_syntax.specs.SameCode.{body_code};
 ghost use Rattle.rewrite_modules.specs.FlatCode.{body_of};
+ghost use Rattle.rewrite_modules.specs.Multiple.{half};
+ghost use Rattle.rewrite_modules.specs.Weight.{AreHeights};
+ghost use Rattle.rewrite_modules.specs.calls.Unwinding.{Unwinds};
 ghost use Rattle.rewrite_promise.specs.Promise.{Accepted};
+ghost use Rattle.rewrite_promise.specs.calls.Layers.{BodyPromised};
 ghost use Rattle.operand_spill.specs.calls.Standing.{Fine};
 ghost use Rattle.unwind_rewrite.specs.calls.Numbers.{HasHelpers, AllHelped};
 ghost use Rattle.unwind_rewrite.specs.calls.Points.{CanBeWritten};
 ghost use Rattle.operand_spill.specs.calls.Plans.{IsDefined};
-ghost use Rattle.unwind_rewrite.specs.calls.Rewritten.{Ascends, IsPlanIn, IsRewritten, gives_of};
+ghost use Rattle.unwind_rewrite.specs.calls.Rewritten.{Ascends, IsPlanIn, IsRewritten, gives_of, program_in};
 
 use crate::{close_body, open_body, with_added, write_nodes};
 use causes::NoMemory;
@@ -71,7 +76,9 @@ fn gives(parts: &ModuleParts, func: u32) -> Option<ValType>
 }
 
 /// The body of a function of an accepted module, rewritten by its plan: that of the definitions,
-/// but for offsets.
+/// but for offsets. It is well typed in the rewritten module, within the limits of the decoder, and
+/// takes at most its share of the weight. The rewritten module, whose body it is, follows each step
+/// of the original, and at a trap its frames hand over their values.
 pub fn rewrite_body(
     alloc: Global,
     numbers: &IndexMap<'_>,
@@ -83,6 +90,12 @@ pub fn rewrite_body(
     requires plan { IsPlanIn numbers.now func plan.now }
     ensures code { IfOk result (IsRewritten numbers.now func) }
     ensures offsets { IfOk result Ascends }
+    ensures promised { (a : Accepted numbers.now) (i : ℕ) (old : FunctionBody)
+        → func ≡ length numbers.now.imports + i → slice_get numbers.now.bodies i ≡ Some old
+        → IfOk result (BodyPromised numbers.now a.premises.whole i old) }
+    ensures unwinds { (a : Accepted numbers.now) (heights : List (List ℕ))
+        → AreHeights numbers.now heights → (depth : ℕ)
+        → Unwinds (program_in numbers.now a) (half numbers.now heights) depth }
 {
     let parts = numbers.source();
     let body = body_at(parts, func);

@@ -6,6 +6,9 @@ use Rattle.rewrite_code.specs.calls.Contexts.{context}
 use Rattle.unwind_rewrite.specs.calls.Points.{CanBeWritten}
 use Rattle.unwind_rewrite.specs.calls.Rewritten.{gives_of}
 use Rattle.unwind_rewrite.proofs.Premises as premises
+use Rattle.rewrite_modules.proofs.Modules.{module_given}
+use Rattle.rewrite_modules.proofs.Unwinding.{unwinds}
+use Rattle.unwind_rewrite.specs.calls.Rewritten.{program_in}
 use Rattle.unwind_rewrite.proofs.body.rewrite_body.Goals as goal
 
 pub write_body-requires-clause-helped : goal.write_body-requires-clause-helped
@@ -48,3 +51,12 @@ returns-clause-code c =
     ∙ ap (λ n. context m plan.locals n f c.gives-result.result) c.heights.ensures
     ∙ ap (context m plan.locals plan.slots f) (c.gives-result.ensures ∙ ap (λ (x : Module). gives_of x f) c.source-parts.ensures) in
     premises.is_rewritten m f b here plan c.requires.plan c.new-context.result is c.write_body.result c.write_body.ensures.code
+
+pub returns-clause-promised : goal.returns-clause-promised
+returns-clause-promised c = λ a i old e there. premises.promised c.args.numbers.now c.args.func c.write_body.result (returns-clause-code c) a i old e there
+
+pub returns-clause-unwinds : goal.returns-clause-unwinds
+returns-clause-unwinds c = λ a heights are depth. unwinds (program_in c.args.numbers.now a) (module_given c.args.numbers.now a.premises) heights are depth
+
+pub returns-in_err-locals-clause-unwinds : goal.returns-in_err-locals-clause-unwinds
+returns-in_err-locals-clause-unwinds c = λ a heights are depth. unwinds (program_in c.args.numbers.now a) (module_given c.args.numbers.now a.premises) heights are depth
