@@ -26,6 +26,8 @@ use Rattle.rewrite_promise.proofs.Lists.{within, type_some}
 use Rattle.rewrite_promise.specs.Promise.{Accepted, IsRewriting, Promised}
 use Rattle.rewrite_promise.proofs.Laid.{laid, laid_is, laid_same}
 use Rattle.rewrite_promise.proofs.Kept.{promised}
+use Rattle.rewrite_promise.specs.calls.Layers.{Layered}
+use Rattle.rewrite_promise.proofs.Layered.{layered}
 use Rattle.index_map.proofs.Trees.{helped_used}
 use Rattle.instrument.specs.calls.Assembly.{AreBodies}
 use Rattle.instrument.specs.inner.Parts.{ElementThere, flag, new_parts}
@@ -145,3 +147,6 @@ module _ (m : Module) (bodies : List Body) (are : AreBodies m bodies) where
 
   pub made_promised : Promised m made
   made_promised = promised m made a made_rewriting
+
+  pub made_layered : Layered m made
+  made_layered = layered m made a made_rewriting

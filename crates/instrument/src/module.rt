@@ -3,6 +3,7 @@
 ghost use Rattle.std.specs.Prelude.{◌≡◌, ◌+◌, ◌<◌, ◌^◌, [], length, IfOk};
 ghost use Rattle.std.specs.List.{AllByRecursion};
 ghost use Rattle.rewrite_promise.specs.Promise.{IsRewriting, Promised};
+ghost use Rattle.rewrite_promise.specs.calls.Layers.{Layered};
 ghost use Rattle.instrument.specs.calls.Assembly.{AreBodies};
 ghost use Rattle.instrument.specs.inner.Parts.{ElementThere, new_parts};
 
@@ -47,6 +48,7 @@ pub fn assemble(alloc: Global, numbers: &IndexMap<'_>, bodies: Bodies) -> Result
     requires { AreBodies numbers.now bodies }
     ensures rewriting { IfOk result (λ other. IsRewriting numbers.now other) }
     ensures promised { IfOk result (λ other. Promised numbers.now other) }
+    ensures layers { IfOk result (λ other. Layered numbers.now other) }
     ensures no_customs { IfOk result (λ other. other.customs ≡ []) }
 {
     let parts = new_parts(alloc, numbers, bodies)?;

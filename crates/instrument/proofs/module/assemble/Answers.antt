@@ -2,7 +2,8 @@ use Rattle.std.proofs.Common.{◌∙◌, sym, ap, subst}
 use Rattle.wasm_syntax.specs.declared.module.ModuleParts.{ModuleParts as Module}
 use Rattle.wasm_syntax.specs.Module.{IsModule}
 use Rattle.rewrite_promise.specs.Promise.{IsRewriting, Promised}
-use Rattle.instrument.proofs.WholeModule.{few_types, elements_there, made_whole, made_rewriting, made_promised}
+use Rattle.rewrite_promise.specs.calls.Layers.{Layered}
+use Rattle.instrument.proofs.WholeModule.{few_types, elements_there, made_whole, made_rewriting, made_promised, made_layered}
 use Rattle.instrument.proofs.module.assemble.Goals as goal
 
 pub new_parts-requires : goal.new_parts-requires
@@ -20,6 +21,10 @@ returns-clause-rewriting c =
 pub returns-clause-promised : goal.returns-clause-promised
 returns-clause-promised c =
     subst (λ (x : Module). Promised c.args.numbers.now x) (sym (c.new.ensures ∙ c.in_ok-parts.ensures)) (made_promised c.args.numbers.now c.args.bodies c.requires)
+
+pub returns-clause-layers : goal.returns-clause-layers
+returns-clause-layers c =
+    subst (λ (x : Module). Layered c.args.numbers.now x) (sym (c.new.ensures ∙ c.in_ok-parts.ensures)) (made_layered c.args.numbers.now c.args.bodies c.requires)
 
 pub returns-clause-no_customs : goal.returns-clause-no_customs
 returns-clause-no_customs c = ap (λ (x : Module). x.customs) (c.new.ensures ∙ c.in_ok-parts.ensures)

@@ -3,6 +3,7 @@ use Rattle.std.specs.Prelude.{None, Err}
 use Rattle.std.proofs.lemmas.Result.{err_from_is_err_and}
 use Rattle.wasm_syntax.specs.declared.module.ModuleParts.{ModuleParts as Module}
 use Rattle.rewrite_promise.specs.Promise.{Promised}
+use Rattle.rewrite_promise.specs.calls.Layers.{Layered}
 use Rattle.instrument.specs.Refusal.{Decided, OwnHeights, refusal}
 use Rattle.instrument.proofs.Own.{own}
 use Rattle.instrument.proofs.RefusedModules.{refused}
@@ -35,4 +36,5 @@ returns c =
       none,
       subst (λ (x : Module). Promised x c.in_ok-rewritten.rewritten) numbers c.in_ok-rewritten.ensures.promised,
       c.in_ok-rewritten.ensures.no_customs,
+      subst (λ (x : Module). Layered x c.in_ok-rewritten.rewritten) numbers c.in_ok-rewritten.ensures.layers,
     )
