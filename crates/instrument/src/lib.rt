@@ -1,6 +1,7 @@
 //! Rewrites a module so that it hands over its dump at each trap, or tells why it is not rewritten.
 #![tactic(auto)]
 
+mod accesses;
 mod bodies;
 mod copies;
 mod declarations;

@@ -5,10 +5,10 @@ ghost use Rattle.wasm_syntax.specs.Module.{IsModule};
 ghost use Rattle.wasm_syntax.specs.Sizes.{WithinLimits};
 ghost use Rattle.wasm_syntax.specs.Valid.{Valid};
 ghost use Rattle.wasm_format_laws.specs.Sized.{Sized};
-ghost use Rattle.rewrite_promise.specs.calls.Light.{SmallOffsets};
 ghost use Rattle.instrument.specs.Refusal.{Decided, OwnHeights};
 ghost use Rattle.instrument.specs.declared.refusal.InstrFault.TheVariants as faults;
 
+use crate::accesses::offsets_are_small;
 use causes::NoMemory;
 use index_map::{IndexMap, export_collision, first_excess, import_collision};
 use std::alloc::Global;
@@ -42,8 +42,7 @@ fn is_whole(source: &Module)
 
 /// The numbers of the rewriting of a module, or the first cause why it is not rewritten. The module
 /// is valid and within the limits of the decoder and of validation, and its operand heights are
-/// these; its lengths are those of a spelling, and the offsets of its accesses are numbers of 32
-/// bits.
+/// these; its lengths are those of a spelling.
 pub fn admitted<'a>(
     alloc: Global,
     source: &'a Module,
@@ -52,7 +51,6 @@ pub fn admitted<'a>(
     requires valid { Valid source.now }
     requires limits { WithinLimits source.now }
     requires sized { Sized source.now }
-    requires small { SmallOffsets source.now }
     requires heights { OwnHeights source.now heights.now }
     ensures { Decided result source.now heights.now }
 {
@@ -63,6 +61,7 @@ pub fn admitted<'a>(
         return Err(InstrFault::ExportCollision { index });
     }
     is_whole(source);
+    offsets_are_small(source);
     let numbers = IndexMap::new(alloc, source)?;
     if let Some(excess) = first_excess(&numbers, heights) {
         return Err(InstrFault::Limit {

@@ -1,7 +1,6 @@
 //! The whole module.
 
 ghost use Rattle.wasm_format_laws.specs.Sized.{Sized};
-ghost use Rattle.rewrite_promise.specs.calls.Light.{SmallOffsets};
 ghost use Rattle.instrument.specs.calls.Answers.{Instrumented};
 
 use crate::bodies::all_bodies;
@@ -11,11 +10,9 @@ use wasm_syntax::Module;
 use wasm_validate::Validated;
 
 /// The module rewritten, so that it hands over its dump at each trap; or the first cause why it is
-/// not rewritten. The lengths of the module are those of a spelling, and the offsets of its
-/// accesses are numbers of 32 bits.
+/// not rewritten. The lengths of the module are those of a spelling.
 pub fn instrument(alloc: Global, source: &Validated) -> Result<Module, InstrFault>
     requires sized { Sized source.now }
-    requires small { SmallOffsets source.now }
     ensures { Instrumented result source.now }
 {
     let numbers = admitted(alloc, source.module(), source.heights())?;

@@ -10,7 +10,6 @@ ghost use Rattle.pm_outside.specs.Written.{OnTold};
 ghost use Rattle.instrument_command.specs.InstrumentAnswer.{AnsweredOn, ModuleAnswer};
 ghost use Rattle.instrument_command.specs.Stops.{InstrumentStops};
 ghost use Rattle.instrument_command.specs.calls.Steps.{BytesStops, IsAnswered, ModuleStops};
-ghost use Rattle.rewrite_promise.specs.calls.Light.{SmallOffsets};
 ghost use Rattle.run_session.specs.Stop.{OnStop};
 ghost use Rattle.wasm_decode.specs.Decode.{module_from};
 ghost use Rattle.wasm_format_laws.specs.Sized.{Sized};
@@ -34,7 +33,6 @@ fn instrument_valid<F: Files>(
 ) -> Result<Outcome, NoMemory>
     requires valid { Valid source.now }
     requires sized { Sized source.now }
-    requires small { SmallOffsets source.now }
     ensures told { IfOk result (λ o. UnlessFault o.status (IsAnswered
         (λ writes. ModuleAnswer out.now writes source.now)
         (F.told files.old) (F.told files.new) o)) }

@@ -5,7 +5,6 @@ ghost use Rattle.std.specs.Fmt.{decimal};
 ghost use Rattle.commands.specs.Texts.{ended};
 ghost use Rattle.instrument_command.specs.InstrumentAnswer.{instrumented, refused};
 ghost use Rattle.instrument_command.specs.calls.Steps.{IfRefused, IsRewritten, Weighs};
-ghost use Rattle.rewrite_promise.specs.calls.Light.{SmallOffsets};
 ghost use Rattle.wasm_format_laws.specs.Sized.{Sized};
 ghost use Rattle.wasm_syntax.specs.Valid.{Valid};
 
@@ -64,11 +63,10 @@ fn refused(alloc: Global, fault: InstrFault) -> Result<Outcome, NoMemory>
 }
 
 /// Rewrites a valid module, or refuses it for the first cause. The module's lengths are those of a
-/// spelling, and the offsets of its accesses are numbers of 32 bits.
+/// spelling.
 pub fn rewrite(alloc: Global, source: &Validated) -> Result<Rewritten, NoMemory>
     requires valid { Valid source.now }
     requires sized { Sized source.now }
-    requires small { SmallOffsets source.now }
     ensures told { IfOk result (IsRewritten source.now) }
     ensures fault { IfOk result (IfRefused (λ o. o.status ≢ Status.FileFault)) }
     ensures memory { IfOk result (IfRefused (λ o. o.status ≢ Status.NoMemory)) }

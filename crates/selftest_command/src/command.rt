@@ -5,7 +5,6 @@ ghost use Rattle.causes.specs.Counts.{Rose};
 ghost use Rattle.commands.specs.Told.{UnlessFault};
 ghost use Rattle.pm_outside.specs.Written.{OnTold};
 ghost use Rattle.instrument_command.specs.calls.Steps.{Rewrites};
-ghost use Rattle.rewrite_promise.specs.calls.Light.{SmallOffsets};
 ghost use Rattle.run_session.specs.Stop.{OnStop};
 ghost use Rattle.selftest_command.specs.SelftestAnswer.{AnsweredOn, module_bytes, module_file, rewritten_file};
 ghost use Rattle.selftest_command.specs.Stops.{CreatedBoth, SameButBoth, SelftestStops};
@@ -69,7 +68,6 @@ fn test_module<F: Files, D: Devices>(
 ) -> Result<Outcome, NoMemory>
     requires selftest { IsSelftest count source.now }
     requires sized { Sized source.now }
-    requires small { SmallOffsets source.now }
     requires bytes { bytes.now ≡ module_bytes count }
     ensures told { IfOk result (λ o. UnlessFault o.status
         (AnsweredOn count (F.told files.old) (F.told files.new) o)) }

@@ -15,6 +15,6 @@ returns c =
       c.in_ok-numbers.ensures,
       ap (λ (o : Option ℕ). at_import o (at_export (export_taken m) (at_limit (first_excess m heights)))) imports
           ∙ ap (λ (o : Option ℕ). at_export o (at_limit (first_excess m heights))) exports ∙ ap at_limit limits,
-      accepted m heights c.is_whole.ensures c.requires.valid c.requires.limits c.requires.sized c.requires.small c.requires.heights
+      accepted m heights c.is_whole.ensures c.requires.valid c.requires.limits c.requires.sized c.offsets_are_small.ensures c.requires.heights
           (c.import_collision.ensures.none c.in_default.is) (c.export_collision.ensures.none c.in_default-export_collision.is) limits,
     )

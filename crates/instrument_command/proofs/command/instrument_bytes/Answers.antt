@@ -2,7 +2,6 @@ use Rattle.std.proofs.Common.{subst, arith}
 use Rattle.wasm_bytes.specs.Laws.{IsBytes}
 use Rattle.wasm_decode.specs.Decode.{module_from}
 use Rattle.wasm_format_laws.proofs.Whole.{decoded}
-use Rattle.rewrite_promise.proofs.Spelled.{decoded as decoded_small}
 use Rattle.commands.specs.calls.Loaded.{IsLoaded}
 use Rattle.instrument_command.specs.InstrumentAnswer.{ModuleAnswer}
 use Rattle.instrument_command.proofs.Answering.{with_module, without_module}
@@ -14,12 +13,6 @@ instrument_valid-requires-clause-sized g c =
     let known = subst (λ l. IsLoaded l (module_from c.args.bytes.now)) c.in-Valid.is c.in_ok-loaded.ensures.told in
     let are : IsBytes c.args.bytes.now = λ i. omega (arith, c.type_inv.bytes i) in
     decoded c.args.bytes.now c.in-Valid.source are known.0
-
-pub instrument_valid-requires-clause-small : goal.instrument_valid-requires-clause-small
-instrument_valid-requires-clause-small g c =
-    let known = subst (λ l. IsLoaded l (module_from c.args.bytes.now)) c.in-Valid.is c.in_ok-loaded.ensures.told in
-    let are : IsBytes c.args.bytes.now = λ i. omega (arith, c.type_inv.bytes i) in
-    decoded_small c.args.bytes.now c.in-Valid.source are known.0
 
 pub returns-in-Valid-clause-told : goal.returns-in-Valid-clause-told
 returns-in-Valid-clause-told g c =

@@ -2,7 +2,6 @@ use Rattle.std.proofs.Common.{refl, inl, subst, arith}
 use Rattle.wasm_bytes.specs.Laws.{IsBytes}
 use Rattle.wasm_decode.specs.Decode.{module_from}
 use Rattle.wasm_format_laws.proofs.Whole.{decoded}
-use Rattle.rewrite_promise.proofs.Spelled.{decoded as decoded_small}
 use Rattle.commands.specs.calls.Loaded.{IsLoaded}
 use Rattle.selftest_command.proofs.Steps.{selftest_is, never_turned}
 use Rattle.selftest_command.proofs.command.test_bytes.Goals as goal
@@ -15,12 +14,6 @@ test_module-requires-clause-sized g c =
     let known = subst (λ l. IsLoaded l (module_from c.args.bytes.now)) c.in-Valid.is c.in_ok-loaded.ensures.told in
     let are : IsBytes c.args.bytes.now = λ i. omega (arith, c.type_inv.bytes i) in
     decoded c.args.bytes.now c.in-Valid.source are known.0
-
-pub test_module-requires-clause-small : goal.test_module-requires-clause-small
-test_module-requires-clause-small g c =
-    let known = subst (λ l. IsLoaded l (module_from c.args.bytes.now)) c.in-Valid.is c.in_ok-loaded.ensures.told in
-    let are : IsBytes c.args.bytes.now = λ i. omega (arith, c.type_inv.bytes i) in
-    decoded_small c.args.bytes.now c.in-Valid.source are known.0
 
 pub test_module-requires-clause-selftest : goal.test_module-requires-clause-selftest
 test_module-requires-clause-selftest g c =
