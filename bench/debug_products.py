@@ -6,7 +6,6 @@ import struct
 
 from debug_shapes import (
     ABBREVIATIONS,
-    ALL,
     CODES,
     LOW,
     NONE,

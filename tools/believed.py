@@ -482,7 +482,6 @@ class Repository:
             whole = d.kind in ('record', 'data', 'inductive')
             fields = d.fields if whole and d.kind == 'record' else []
             body = re.sub(r'^(?:(?:unfoldable|abbrev|opaque|pub)\s+)*(?:(?:record|data|inductive)\s+)?\S+', '', piece, count=1) if k == 0 else piece
-            first = tokens(piece)[:1]
             words = mentioned(body, covered + fields, d.name if k > 0 else None, is_former)
             if whole:
                 words = [w for w in words if w not in d.fields]
