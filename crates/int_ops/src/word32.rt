@@ -20,6 +20,7 @@ pub fn i32_unary(op: Unary, a: u32) -> u32
 
 /// `i32.eq`, `i32.ne`, `i32.lt_s` and the other comparisons.
 #[tactic(auto, using(crate::proofs::Signs::signed_32), unfolding(crate::specs::Integers::compare))]
+#[inline(always)]
 pub fn i32_compare(op: Compare, a: u32, b: u32) -> bool
     ensures { result ≡ compare 32 op a b }
 {
@@ -87,6 +88,7 @@ fn rotr(a: u32, by: u32) -> u32
 /// `i32.add`, `i32.sub` and the other operations on two integers. `DivideByZero` exactly where the
 /// divisor of a division or remainder is 0, `Overflow` exactly at `i32.div_s` of -2^31 by -1.
 #[tactic(auto, unfolding(crate::specs::Integers::binary))]
+#[inline(always)]
 pub fn i32_binary(op: Binary, a: u32, b: u32) -> Result<u32, ArithTrap>
     ensures { result ≡ binary 32 op a b }
 {

@@ -20,6 +20,7 @@ pub fn i64_unary(op: Unary, a: u64) -> u64
 
 /// `i64.eq`, `i64.ne`, `i64.lt_s` and the other comparisons.
 #[tactic(auto, using(crate::proofs::Signs::signed_64), unfolding(crate::specs::Integers::compare))]
+#[inline(always)]
 pub fn i64_compare(op: Compare, a: u64, b: u64) -> bool
     ensures { result ≡ compare 64 op a b }
 {
@@ -89,6 +90,7 @@ fn rotr(a: u64, by: u64) -> u64
 /// `i64.add`, `i64.sub` and the other operations on two integers. `DivideByZero` exactly where the
 /// divisor of a division or remainder is 0, `Overflow` exactly at `i64.div_s` of -2^63 by -1.
 #[tactic(auto, unfolding(crate::specs::Integers::binary))]
+#[inline(always)]
 pub fn i64_binary(op: Binary, a: u64, b: u64) -> Result<u64, ArithTrap>
     ensures { result ≡ binary 64 op a b }
 {

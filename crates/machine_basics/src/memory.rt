@@ -40,14 +40,19 @@ fn load_of(values: &mut Stack<Value>, shared: &Shared, load: Load, offset: u32) 
 }
 
 #[inline(never)]
-pub(crate) fn load(values: &mut Stack<Value>, shared: &Shared, load: Load, offset: u32) -> Performed
+pub(crate) fn load(
+    values: &mut Stack<Value>,
+    shared: &Shared,
+    load: &Load,
+    offset: u32,
+) -> Performed
     ensures effect { (w : World) (ls : List Val) (align : ℕ) → Holds shared.now w
-        → Acts (on_operands (basics.Load load align offset) w ls values.old) result w ls
+        → Acts (on_operands (basics.Load load.now align offset) w ls values.old) result w ls
         values.new }
     ensures room { result ≡ Performed.NoMemory → ⊥ }
     ensures same { UnlessDone result (values.new ≡ values.old) }
 {
-    match load {
+    match *load {
         Load::Full(ValType::I32) => load_of(values, shared, Load::Full(ValType::I32), offset),
         Load::Full(ValType::I64) => load_of(values, shared, Load::Full(ValType::I64), offset),
         Load::Part32(Narrow32::Eight, sign) => load_of(

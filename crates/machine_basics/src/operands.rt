@@ -5,6 +5,7 @@ ghost use Rattle.std.specs.Prelude.{◌≡◌, ◌∷◌, List, drop, slice_set,
 ghost use Rattle.wasm_syntax.specs.Host.{World};
 ghost use Rattle.wasm_syntax.specs.declared.value.Value.{Value as Val};
 ghost use Rattle.wasm_syntax.specs.declared.instruction.Basic.TheVariants as basics;
+ghost use Rattle.wasm_syntax.specs.declared.value.ValType.TheVariants as types;
 ghost use Rattle.wasm_syntax.specs.Effect.{trap_kind};
 ghost use Rattle.machine_basics.specs.calls.Performs.{on_operands, UnlessDone};
 ghost use Rattle.machine_basics.specs.inner.Parts.{Acts, Pushes};
@@ -143,6 +144,16 @@ pub(crate) fn compare(values: &mut Stack<Value>, t: ValType, op: Compare) -> Per
     }
 }
 
+/// The same of 64 bits, which is called.
+#[inline(never)]
+pub(crate) fn compare_64(values: &mut Stack<Value>, op: Compare) -> Performed
+    ensures effect { (w : World) (ls : List Val)
+        → Acts (on_operands (basics.Compare types.I64 op) w ls values.old) result w ls values.new }
+    ensures done { result ≡ Performed.Done }
+{
+    compare(values, ValType::I64, op)
+}
+
 fn trap_of(trap: ArithTrap) -> TrapKind
     ensures { trap_code result ≡ trap_kind trap }
 {
@@ -171,6 +182,18 @@ pub(crate) fn binary(values: &mut Stack<Value>, t: ValType, op: Binary) -> Perfo
         },
         None => Performed::Done,
     }
+}
+
+/// The same of 64 bits. It is called, as the loop has room for the code of the usual instructions
+/// alone.
+#[inline(never)]
+pub(crate) fn binary_64(values: &mut Stack<Value>, op: Binary) -> Performed
+    ensures effect { (w : World) (ls : List Val)
+        → Acts (on_operands (basics.Binary types.I64 op) w ls values.old) result w ls values.new }
+    ensures room { result ≡ Performed.NoMemory → ⊥ }
+    ensures same { UnlessDone result (values.new ≡ values.old) }
+{
+    binary(values, ValType::I64, op)
 }
 
 #[inline(never)]

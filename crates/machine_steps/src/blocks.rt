@@ -19,8 +19,10 @@ fn carries(t: Option<ValType>) -> bool
 }
 
 /// Opens a block, in which the instruction at `next` is run next.
+#[inline(never)]
 fn open(m: &mut CallStack, goes_to: usize, carries: bool, next: usize) -> Stepped
-    ensures { Becomes result m.new (record m.old {
+    ensures frames { m.new.frames ≡ m.old.frames }
+    ensures becomes { Becomes result m.new (record m.old {
       controls = record {
         goes_to = goes_to;
         height = length m.old.values;
@@ -44,9 +46,11 @@ fn open(m: &mut CallStack, goes_to: usize, carries: bool, next: usize) -> Steppe
 }
 
 /// Opens a `block`.
-pub fn block(m: &mut CallStack, code: &Code, t: Option<ValType>, next: usize) -> Stepped
+#[inline(always)]
+pub(crate) fn block(m: &mut CallStack, code: &Code, t: Option<ValType>, next: usize) -> Stepped
     requires { next ≡ m.old.position + 1 }
-    ensures { (x : Point) → Inner x m.old code.now → Reads m.old code.now (Opens t)
+    ensures frames { m.new.frames ≡ m.old.frames }
+    ensures meets { (x : Point) → Inner x m.old code.now → Reads m.old code.now (Opens t)
         → Meets x result (step_at x) m.new }
 {
     match code.side(m.position) {
@@ -56,9 +60,11 @@ pub fn block(m: &mut CallStack, code: &Code, t: Option<ValType>, next: usize) ->
 }
 
 /// Opens a `loop`. A branch to it comes back to this instruction.
-pub fn loop_(m: &mut CallStack, next: usize) -> Stepped
+#[inline(always)]
+pub(crate) fn loop_(m: &mut CallStack, next: usize) -> Stepped
     requires { next ≡ m.old.position + 1 }
-    ensures { (x : Point) (code : Prepared) (t : Option Sort) → Inner x m.old code
+    ensures frames { m.new.frames ≡ m.old.frames }
+    ensures meets { (x : Point) (code : Prepared) (t : Option Sort) → Inner x m.old code
         → Reads m.old code (OpensLoop t) → Meets x result (step_at x) m.new }
 {
     let here = m.position;
@@ -73,9 +79,11 @@ fn pick(n: u32, zero: usize, other: usize) -> usize
 }
 
 /// Opens an arm of an `if`, by the condition on top.
-pub fn if_(m: &mut CallStack, code: &Code, t: Option<ValType>, next: usize) -> Stepped
+#[inline(always)]
+pub(crate) fn if_(m: &mut CallStack, code: &Code, t: Option<ValType>, next: usize) -> Stepped
     requires { next ≡ m.old.position + 1 }
-    ensures { (x : Point) → Inner x m.old code.now → Reads m.old code.now (OpensIf t)
+    ensures frames { m.new.frames ≡ m.old.frames }
+    ensures meets { (x : Point) → Inner x m.old code.now → Reads m.old code.now (OpensIf t)
         → Meets x result (step_at x) m.new }
 {
     match code.side(m.position) {

@@ -1,21 +1,36 @@
 //! Branches, and the ends of blocks (Core 4.4.5).
 
-ghost use Rattle.std.specs.Prelude.{◌≡◌, ◌+◌, ◌∷◌, ◌++◌, List, length, take, drop};
+ghost use Rattle.std.specs.Prelude.{◌≡◌, ◌+◌, ◌∷◌, ◌++◌, List, Some, length, slice_get, take, drop};
 ghost use Rattle.wasm_syntax.specs.declared.value.Value.{Value as Val};
 ghost use Rattle.wasm_syntax.specs.Tree.{Goes, BrIf, BrTable, Else, End};
 ghost use Rattle.machine_code.specs.declared.code.Code.{Code as Prepared};
 ghost use Rattle.machine_steps.specs.declared.layout.Control.{Control as Kept};
 ghost use Rattle.machine_steps.specs.calls.FramesMeet.{Point, Inner, Reads, Meets, step_at, branch_at};
-ghost use Rattle.machine_steps.specs.inner.Moves.{Becomes, Carried};
+ghost use Rattle.machine_steps.specs.declared.layout.CallStack.{CallStack as Calls};
+ghost use Rattle.machine_steps.specs.inner.Moves.{Becomes, Carried, InFrame, stepped_of};
 
-use crate::layout::{CallStack, Control, Stepped};
+use crate::layout::{CallFrame, CallStack, Control, Reach, Stepped};
 use crate::returns::{leave, unwind};
 use machine_code::Code;
 use wasm_syntax::Value;
 
+/// A step that leaves the frames as they are.
+#[inline(always)]
+pub(crate) fn inside(stepped: Stepped) -> Reach
+    ensures stepped { stepped_of result ≡ stepped }
+    ensures stays { (m m' : Calls) → m'.frames ≡ m.frames → InFrame result m m' }
+{
+    match stepped {
+        Stepped::Next => Reach::Inside,
+        other => Reach::Beyond(other),
+    }
+}
+
 /// Goes where a branch to a block goes, with so many open blocks left.
+#[inline(always)]
 fn go(m: &mut CallStack, k: Control, left: usize) -> Stepped
-    ensures { (kept over below : List Val) (above ks : List Kept)
+    ensures frames { m.new.frames ≡ m.old.frames }
+    ensures goes { (kept over below : List Val) (above ks : List Kept)
         → m.old.values ≡ kept ++ (over ++ below) → Carried k.carries kept → length below ≡ k.height
         → m.old.controls ≡ above ++ ks → length ks ≡ left
         → Becomes result m.new (record m.old
@@ -32,28 +47,28 @@ fn go(m: &mut CallStack, k: Control, left: usize) -> Stepped
 }
 
 /// Goes on behind a block at its `end`, or leaves the function.
-pub fn end(m: &mut CallStack, gives: bool, next: usize) -> Stepped
-    requires { next ≡ m.old.position + 1 }
-    ensures { (x : Point) (code : Prepared) → Inner x m.old code → gives ≡ code.gives
-        → Reads m.old code End → Meets x result (step_at x) m.new }
+#[inline(always)]
+pub(crate) fn end(m: &mut CallStack, frame: CallFrame, gives: bool, next: usize) -> Reach
+    requires next { next ≡ m.old.position + 1 }
+    requires frame { slice_get m.old.frames 0 ≡ Some frame }
+    ensures meets { (x : Point) (code : Prepared) → Inner x m.old code → gives ≡ code.gives
+        → Reads m.old code End → Meets x (stepped_of result) (step_at x) m.new }
+    ensures stays { InFrame result m.old m.new }
 {
-    match m.frames.peek(0) {
-        Some(frame) => {
-            if m.controls.len() > frame.controls {
-                m.controls.discard(1);
-                m.position = next;
-                Stepped::Next
-            } else {
-                leave(m, gives)
-            }
-        }
-        None => Stepped::Stuck,
+    if m.controls.len() > frame.controls {
+        m.controls.discard(1);
+        m.position = next;
+        Reach::Inside
+    } else {
+        Reach::Beyond(leave(m, gives))
     }
 }
 
 /// Goes on behind an `if` at the `else` behind its first arm.
-pub fn else_(m: &mut CallStack) -> Stepped
-    ensures { (x : Point) (code : Prepared) → Inner x m.old code → Reads m.old code Else
+#[inline(always)]
+pub(crate) fn else_(m: &mut CallStack) -> Stepped
+    ensures frames { m.new.frames ≡ m.old.frames }
+    ensures meets { (x : Point) (code : Prepared) → Inner x m.old code → Reads m.old code Else
         → Meets x result (step_at x) m.new }
 {
     match m.controls.pop() {
@@ -67,60 +82,76 @@ pub fn else_(m: &mut CallStack) -> Stepped
 
 /// A branch to the block that has n others inside it, or out of the function.
 #[inline(always)]
-pub fn branch(m: &mut CallStack, gives: bool, n: usize) -> Stepped
-    ensures { (x : Point) (code : Prepared) → Inner x m.old code → gives ≡ code.gives
-        → Meets x result (branch_at x n) m.new }
+pub(crate) fn branch(m: &mut CallStack, frame: CallFrame, gives: bool, n: usize) -> Reach
+    requires { slice_get m.old.frames 0 ≡ Some frame }
+    ensures meets { (x : Point) (code : Prepared) → Inner x m.old code → gives ≡ code.gives
+        → Meets x (stepped_of result) (branch_at x n) m.new }
+    ensures stays { InFrame result m.old m.new }
 {
-    match m.frames.peek(0) {
-        Some(frame) => {
-            let count = m.controls.len();
-            let own = count.saturating_sub(frame.controls);
-            if n < own {
-                match m.controls.peek(n) {
-                    Some(k) => go(m, k, count - n - 1),
-                    None => Stepped::Stuck,
-                }
-            } else {
-                leave(m, gives)
-            }
+    let count = m.controls.len();
+    let own = count.saturating_sub(frame.controls);
+    if n < own {
+        match m.controls.peek(n) {
+            Some(k) => inside(go(m, k, count - n - 1)),
+            None => Reach::Beyond(Stepped::Stuck),
         }
-        None => Stepped::Stuck,
+    } else {
+        Reach::Beyond(leave(m, gives))
     }
 }
 
 /// A `br_if`.
-pub fn branch_if(m: &mut CallStack, gives: bool, n: u32, next: usize) -> Stepped
-    requires { next ≡ m.old.position + 1 }
-    ensures { (x : Point) (code : Prepared) → Inner x m.old code → gives ≡ code.gives
-        → Reads m.old code (Goes (BrIf n)) → Meets x result (step_at x) m.new }
+#[inline(always)]
+pub(crate) fn branch_if(
+    m: &mut CallStack,
+    frame: CallFrame,
+    gives: bool,
+    n: u32,
+    next: usize,
+) -> Reach
+    requires next { next ≡ m.old.position + 1 }
+    requires frame { slice_get m.old.frames 0 ≡ Some frame }
+    ensures meets { (x : Point) (code : Prepared) → Inner x m.old code → gives ≡ code.gives
+        → Reads m.old code (Goes (BrIf n)) → Meets x (stepped_of result) (step_at x) m.new }
+    ensures stays { InFrame result m.old m.new }
 {
     match m.values.pop() {
         Some(Value::I32(c)) => {
             if c == 0 {
                 m.position = next;
-                Stepped::Next
+                Reach::Inside
             } else {
-                branch(m, gives, n as usize)
+                branch(m, frame, gives, n as usize)
             }
         }
-        Some(Value::I64(_)) => Stepped::Stuck,
-        None => Stepped::Stuck,
+        Some(Value::I64(_)) => Reach::Beyond(Stepped::Stuck),
+        None => Reach::Beyond(Stepped::Stuck),
     }
 }
 
 /// A `br_table`, whose targets are these of its body.
-pub fn branch_table(m: &mut CallStack, code: &Code, start: u32, count: u32, default: u32) -> Stepped
-    ensures { (x : Point) → Inner x m.old code.now
+#[inline(always)]
+pub(crate) fn branch_table(
+    m: &mut CallStack,
+    frame: CallFrame,
+    code: &Code,
+    start: u32,
+    count: u32,
+    default: u32,
+) -> Reach
+    requires { slice_get m.old.frames 0 ≡ Some frame }
+    ensures meets { (x : Point) → Inner x m.old code.now
         → Reads m.old code.now (Goes
         (BrTable (take count (drop start code.now.body.now.targets)) default))
-        → Meets x result (step_at x) m.new }
+        → Meets x (stepped_of result) (step_at x) m.new }
+    ensures stays { InFrame result m.old m.new }
 {
     match m.values.pop() {
         Some(Value::I32(i)) => {
             let n = code.target(start, count, default, i);
-            branch(m, code.gives, n as usize)
+            branch(m, frame, code.gives, n as usize)
         }
-        Some(Value::I64(_)) => Stepped::Stuck,
-        None => Stepped::Stuck,
+        Some(Value::I64(_)) => Reach::Beyond(Stepped::Stuck),
+        None => Reach::Beyond(Stepped::Stuck),
     }
 }

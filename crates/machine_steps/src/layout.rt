@@ -73,3 +73,12 @@ pub enum Stepped {
     /// No rule of Core applies. In a valid module this never comes.
     Stuck,
 }
+
+/// What a step came to that may go on in its frame.
+#[derive(Clone, Copy)]
+pub(crate) enum Reach {
+    /// The next instruction is run in the same frame.
+    Inside,
+    /// What a step came to that may have gone elsewhere.
+    Beyond(Stepped),
+}

@@ -15,8 +15,6 @@ mod steps;
 mod tally;
 mod watch;
 
-pub use blocks::{block, if_, loop_};
-pub use branches::{branch, branch_if, branch_table, else_, end};
 pub use calls::{call, call_under_index, code_at};
 pub use entry::begin;
 pub use layout::{CallFrame, CallStack, Control, Stepped};

@@ -14,6 +14,7 @@ use pm_text::Stack;
 use wasm_syntax::Value;
 
 /// Keeps the topmost value, if one is carried along, and so many of the lowest ones.
+#[inline(always)]
 pub(crate) fn unwind(
     values: &mut Stack<Value>,
     carries: bool,

@@ -32,7 +32,7 @@ pub fn run(m: &mut Machine, prepared: &Prepared, depth: usize, fuel: u64) -> End
 }
 
 /// Steps in the innermost frame, behind the first ones of a run, up to one that may have gone
-/// elsewhere.
+/// elsewhere. What that came to is told, and the number of steps of the run is given.
 #[inline(always)]
 fn steps_in<W: Watch>(
     m: &mut Machine,
@@ -43,38 +43,27 @@ fn steps_in<W: Watch>(
     made: u64,
     fuel: u64,
     watch: &mut W,
-) -> Ended
+    told: &mut Outcome,
+) -> u64
     requires frame { slice_get m.old.stack.frames 0 ≡ Some frame }
     requires code { slice_get prepared.now.codes.items frame.function ≡ Some code.now }
     requires fuel { made < fuel }
     ensures { (first : Kept) (before : W) → Made W.Saw prepared.now depth first before made m.old watch.old
-        → Went W.Saw prepared.now depth first before made fuel result.outcome result.steps m.new watch.new }
+        → Went W.Saw prepared.now depth first before made fuel told.new result m.new watch.new }
 {
     let ops = code.body.ops.as_slice();
     for i in made..fuel {
         watch.see(standing(m, frame));
-        match step_in(m, prepared, frame, code, ops, depth) {
+        match step_in(m, prepared, frame, code, ops, depth, told) {
             Turn::Straight => {}
-            Turn::Came(outcome) => match outcome {
-                Outcome::Import(call) => {
-                    return Ended {
-                        outcome: Outcome::Import(call),
-                        steps: i,
-                    };
-                }
-                _ => {
-                    return Ended {
-                        outcome,
-                        steps: i + 1,
-                    };
-                }
+            Turn::Came => match *told {
+                Outcome::Import(_) => return i,
+                _ => return i + 1,
             },
         }
     }
-    Ended {
-        outcome: Outcome::Next,
-        steps: fuel,
-    }
+    *told = Outcome::Next;
+    fuel
 }
 
 /// The same, in the frame that is the innermost one.
@@ -86,23 +75,24 @@ fn go_on<W: Watch>(
     made: u64,
     fuel: u64,
     watch: &mut W,
-) -> Ended
+    told: &mut Outcome,
+) -> u64
     requires { made < fuel }
     ensures { (first : Kept) (before : W) → Made W.Saw prepared.now depth first before made m.old watch.old
-        → Went W.Saw prepared.now depth first before made fuel result.outcome result.steps m.new watch.new }
+        → Went W.Saw prepared.now depth first before made fuel told.new result m.new watch.new }
 {
     match m.stack.frames.peek(0) {
         Some(frame) => match code_at(&prepared.codes, frame.function) {
-            Some(code) => steps_in(m, prepared, frame, code, depth, made, fuel, watch),
-            None => Ended {
-                outcome: Outcome::Stuck,
-                steps: made,
-            },
+            Some(code) => steps_in(m, prepared, frame, code, depth, made, fuel, watch, told),
+            None => {
+                *told = Outcome::Stuck;
+                made
+            }
         },
-        None => Ended {
-            outcome: Outcome::Stuck,
-            steps: made,
-        },
+        None => {
+            *told = Outcome::Stuck;
+            made
+        }
     }
 }
 
@@ -120,11 +110,17 @@ pub fn run_watched<W: Watch>(
         watch.old watch.new }
 {
     let mut made = 0;
+    let mut told = Outcome::Next;
     while made < fuel {
-        let ended = go_on(m, prepared, depth, made, fuel, watch);
-        match ended.outcome {
-            Outcome::Next => made = ended.steps,
-            _ => return ended,
+        let steps = go_on(m, prepared, depth, made, fuel, watch, &mut told);
+        match told {
+            Outcome::Next => made = steps,
+            _ => {
+                return Ended {
+                    outcome: told,
+                    steps,
+                };
+            }
         }
     }
     Ended {

@@ -1,43 +1,74 @@
 //! One step.
 
-ghost use Rattle.std.specs.Prelude.{◌≡◌, ◌+◌, ◌<◌, ◌^◌, IsSome, Some, slice_get};
+ghost use Rattle.std.specs.Prelude.{◌≡◌, ◌+◌, ◌<◌, ◌^◌, IsSome, Some, slice_get, take, drop};
 ghost use Rattle.std.specs.Option.{option_copied};
-ghost use Rattle.wasm_syntax.specs.Tree.{Plain, Goes, Call, CallIndirect, item_of, jump_of};
+ghost use Rattle.wasm_syntax.specs.Tree.{Plain, Goes, BrTable, Call, CallIndirect, item_of, jump_of};
 ghost use Rattle.wasm_syntax.specs.Machine.{Engine, Config, step};
 ghost use Rattle.machine_code.specs.declared.code.Code.{Code as FlatCode};
 ghost use Rattle.machine_steps.specs.calls.FramesMeet.{Point, Reads, CallPlace, step_at, call_at};
 ghost use Rattle.machine_code.specs.calls.Prepares.{IsPrepared};
-ghost use Rattle.machine_steps.specs.calls.Meets.{StandsFor, Here, Meets, MeetsAt};
+ghost use Rattle.machine_steps.specs.calls.Meets.{StandsFor, Here, Meets, MeetsAt, outcome_of};
+ghost use Rattle.machine_steps.specs.declared.machine.Machine.{Machine as Kept};
+ghost use Rattle.machine_steps.specs.inner.Moves.{InFrame, stepped_of};
 ghost use Rattle.machine_steps.specs.inner.Turns.{came_to, Stays};
 
+use crate::blocks::{block, if_, loop_};
+use crate::branches::{branch, branch_if, branch_table, else_, end, inside};
 use crate::indirect::{Entry, resolve};
-use crate::layout::CallFrame;
+use crate::layout::{CallFrame, Reach, Stepped};
 use crate::machine::{ImportCall, Machine, Outcome, of_frames};
-use crate::{
-    block, branch, branch_if, branch_table, call, call_under_index, code_at, else_, end, if_,
-    leave, loop_,
-};
+use crate::{call, call_under_index, leave};
 use machine_basics::{Performed, TrapKind, perform};
 use machine_code::{Code, Prepared};
 use wasm_syntax::{Basic, Instr, Jump, Op, Value};
 
-/// What a step in a frame came to.
+/// What a step in a frame came to. It is a number alone, so that the loop moves no outcome from
+/// place to place at each step.
 #[derive(Clone, Copy)]
 pub(crate) enum Turn {
-    /// An instruction was performed behind which the next one is run, in the same frame.
+    /// The next instruction is run in the same frame.
     Straight,
-    /// What another instruction came to, which may have gone elsewhere.
-    Came(Outcome),
+    /// It came to an outcome, which is told beside; it may have gone to another frame.
+    Came,
+}
+
+/// Tells the outcome of a step.
+#[inline(never)]
+fn tell(stepped: Stepped, told: &mut Outcome)
+    ensures { told.new ≡ outcome_of stepped }
+{
+    *told = of_frames(stepped);
+}
+
+/// A step of the frames that may stay in its frame.
+#[inline(always)]
+fn reached(reach: Reach, told: &mut Outcome) -> Turn
+    ensures came { came_to result told.new ≡ outcome_of (stepped_of reach) }
+    ensures stays { (m m' : Kept) → InFrame reach m.stack m'.stack → Stays result m m' }
+{
+    match reach {
+        Reach::Inside => Turn::Straight,
+        Reach::Beyond(stepped) => {
+            tell(stepped, told);
+            Turn::Came
+        }
+    }
 }
 
 /// Performs an instruction behind which the next one is run.
 #[inline(always)]
-fn basic(m: &mut Machine, frame: CallFrame, instruction: &Basic, next: usize) -> Turn
+fn basic(
+    m: &mut Machine,
+    frame: CallFrame,
+    instruction: &Basic,
+    next: usize,
+    told: &mut Outcome,
+) -> Turn
     requires next { next ≡ m.old.stack.position + 1 }
     requires frame { slice_get m.old.stack.frames 0 ≡ Some frame }
     ensures meets { (x : Point) (code : FlatCode) → Here x m.old code
         → Reads m.old.stack code (Plain instruction.now)
-        → MeetsAt x (came_to result) (step_at x) m.new }
+        → MeetsAt x (came_to result told.new) (step_at x) m.new }
     ensures stays { Stays result m.old m.new }
 {
     match perform(instruction, frame.base, &mut m.stack.values, &mut m.shared) {
@@ -45,8 +76,14 @@ fn basic(m: &mut Machine, frame: CallFrame, instruction: &Basic, next: usize) ->
             m.stack.position = next;
             Turn::Straight
         }
-        Performed::Trap(kind) => Turn::Came(Outcome::Trap(kind)),
-        Performed::NoMemory => Turn::Came(Outcome::NoMemory),
+        Performed::Trap(kind) => {
+            tell(Stepped::Trap(kind), told);
+            Turn::Came
+        }
+        Performed::NoMemory => {
+            tell(Stepped::NoMemory, told);
+            Turn::Came
+        }
     }
 }
 
@@ -119,31 +156,100 @@ fn indirect(m: &mut Machine, prepared: &Prepared, t: usize, depth: usize, next: 
     }
 }
 
+/// A `br_table`.
+#[inline(never)]
+fn by_table(
+    m: &mut Machine,
+    frame: &CallFrame,
+    code: &Code,
+    start: u32,
+    count: u32,
+    default: u32,
+    told: &mut Outcome,
+) -> Turn
+    requires { slice_get m.old.stack.frames 0 ≡ Some frame.now }
+    ensures meets { (x : Point) → Here x m.old code.now
+        → Reads m.old.stack code.now (Goes
+        (BrTable (take count (drop start code.now.body.now.targets)) default))
+        → MeetsAt x (came_to result told.new) (step_at x) m.new }
+    ensures stays { Stays result m.old m.new }
+{
+    let reach = branch_table(&mut m.stack, *frame, code, start, count, default);
+    reached(reach, told)
+}
+
+/// Calls a function.
+#[inline(never)]
+fn call_direct(
+    m: &mut Machine,
+    prepared: &Prepared,
+    function: u32,
+    depth: usize,
+    next: usize,
+    told: &mut Outcome,
+)
+    requires { next ≡ m.old.stack.position + 1 }
+    ensures { (x : Point) (code : FlatCode) → Here x m.old code → x.codes ≡ prepared.now.codes.items
+        → IsPrepared x.engine.program prepared.now → x.engine.depth ≡ depth
+        → Reads m.old.stack code (Goes (Call function)) → MeetsAt x told.new (step_at x) m.new }
+{
+    *told = direct(m, prepared, function as usize, depth, next);
+}
+
+/// Calls a function in the table.
+#[inline(never)]
+fn call_indirect(
+    m: &mut Machine,
+    prepared: &Prepared,
+    t: u32,
+    depth: usize,
+    next: usize,
+    told: &mut Outcome,
+)
+    requires { next ≡ m.old.stack.position + 1 }
+    ensures { (x : Point) (code : FlatCode) → Here x m.old code → x.codes ≡ prepared.now.codes.items
+        → IsPrepared x.engine.program prepared.now → x.engine.depth ≡ depth
+        → Reads m.old.stack code (Goes (CallIndirect t)) → MeetsAt x told.new (step_at x) m.new }
+{
+    *told = indirect(m, prepared, t as usize, depth, next);
+}
+
 /// An instruction that may go elsewhere.
+#[inline(always)]
 fn jump(
     m: &mut Machine,
     prepared: &Prepared,
+    frame: CallFrame,
     code: &Code,
-    jump: Jump,
+    jump: &Jump,
     depth: usize,
     next: usize,
-) -> Outcome
-    requires { next ≡ m.old.stack.position + 1 }
-    ensures { (x : Point) → Here x m.old code.now → x.codes ≡ prepared.now.codes.items
+    told: &mut Outcome,
+) -> Turn
+    requires next { next ≡ m.old.stack.position + 1 }
+    requires frame { slice_get m.old.stack.frames 0 ≡ Some frame }
+    ensures meets { (x : Point) → Here x m.old code.now → x.codes ≡ prepared.now.codes.items
         → IsPrepared x.engine.program prepared.now → x.engine.depth ≡ depth
-        → Reads m.old.stack code.now (Goes (jump_of code.now.body.now.targets jump))
-        → MeetsAt x result (step_at x) m.new }
+        → Reads m.old.stack code.now (Goes (jump_of code.now.body.now.targets jump.now))
+        → MeetsAt x (came_to result told.new) (step_at x) m.new }
+    ensures stays { Stays result m.old m.new }
 {
     match jump {
-        Jump::Unreachable => Outcome::Trap(TrapKind::Unreachable),
-        Jump::Br(n) => of_frames(branch(&mut m.stack, code.gives, n as usize)),
-        Jump::BrIf(n) => of_frames(branch_if(&mut m.stack, code.gives, n, next)),
+        Jump::Br(n) => reached(branch(&mut m.stack, frame, code.gives, *n as usize), told),
+        Jump::BrIf(n) => reached(branch_if(&mut m.stack, frame, code.gives, *n, next), told),
         Jump::BrTable(start, count, default) => {
-            of_frames(branch_table(&mut m.stack, code, start, count, default))
+            by_table(m, &frame, code, *start, *count, *default, told)
         }
-        Jump::Return => of_frames(leave(&mut m.stack, code.gives)),
-        Jump::Call(function) => direct(m, prepared, function as usize, depth, next),
-        Jump::CallIndirect(t) => indirect(m, prepared, t as usize, depth, next),
+        Jump::Return => reached(Reach::Beyond(leave(&mut m.stack, code.gives)), told),
+        Jump::Unreachable => { reached(Reach::Beyond(Stepped::Trap(TrapKind::Unreachable)), told) }
+        Jump::Call(function) => {
+            call_direct(m, prepared, *function, depth, next, told);
+            Turn::Came
+        }
+        Jump::CallIndirect(t) => {
+            call_indirect(m, prepared, *t, depth, next, told);
+            Turn::Came
+        }
     }
 }
 
@@ -157,23 +263,24 @@ fn run_op(
     instruction: &Instr,
     depth: usize,
     next: usize,
+    told: &mut Outcome,
 ) -> Turn
     requires next { next ≡ m.old.stack.position + 1 }
     requires frame { slice_get m.old.stack.frames 0 ≡ Some frame }
     ensures meets { (x : Point) → Here x m.old code.now → x.codes ≡ prepared.now.codes.items
         → IsPrepared x.engine.program prepared.now → x.engine.depth ≡ depth
         → Reads m.old.stack code.now (item_of code.now.body.now.targets instruction.now)
-        → MeetsAt x (came_to result) (step_at x) m.new }
+        → MeetsAt x (came_to result told.new) (step_at x) m.new }
     ensures stays { Stays result m.old m.new }
 {
     match instruction {
-        Instr::Basic(instruction) => basic(m, frame, instruction, next),
-        Instr::Jump(to) => Turn::Came(jump(m, prepared, code, *to, depth, next)),
-        Instr::Block(t) => Turn::Came(of_frames(block(&mut m.stack, code, *t, next))),
-        Instr::Loop(_) => Turn::Came(of_frames(loop_(&mut m.stack, next))),
-        Instr::If(t) => Turn::Came(of_frames(if_(&mut m.stack, code, *t, next))),
-        Instr::Else => Turn::Came(of_frames(else_(&mut m.stack))),
-        Instr::End => Turn::Came(of_frames(end(&mut m.stack, code.gives, next))),
+        Instr::Basic(instruction) => basic(m, frame, instruction, next, told),
+        Instr::Jump(to) => jump(m, prepared, frame, code, to, depth, next, told),
+        Instr::Block(t) => reached(inside(block(&mut m.stack, code, *t, next)), told),
+        Instr::Loop(_) => reached(inside(loop_(&mut m.stack, next)), told),
+        Instr::If(t) => reached(inside(if_(&mut m.stack, code, *t, next)), told),
+        Instr::Else => reached(inside(else_(&mut m.stack)), told),
+        Instr::End => reached(end(&mut m.stack, frame, code.gives, next), told),
     }
 }
 
@@ -192,7 +299,8 @@ fn op_at(ops: &[Op], position: usize) -> Option<&Op>
 }
 
 /// One step of the machine in its innermost frame, which runs this code of these instructions, is
-/// one step of each configuration that it stands for.
+/// one step of each configuration that it stands for. An outcome is told where it may have gone
+/// elsewhere.
 #[inline(always)]
 pub(crate) fn step_in(
     m: &mut Machine,
@@ -201,20 +309,24 @@ pub(crate) fn step_in(
     code: &Code,
     ops: &[Op],
     depth: usize,
+    told: &mut Outcome,
 ) -> Turn
     requires frame { slice_get m.old.stack.frames 0 ≡ Some frame }
     requires code { slice_get prepared.now.codes.items frame.function ≡ Some code.now }
     requires ops { ops.now ≡ code.now.body.now.ops }
     ensures meets { (engine : Engine) (c : Config) → IsPrepared engine.program prepared.now
         → engine.depth ≡ depth → StandsFor engine.program prepared.now.codes.items m.old c
-        → Meets engine prepared.now.codes.items c (came_to result) (step engine c) m.new }
+        → Meets engine prepared.now.codes.items c (came_to result told.new) (step engine c) m.new }
     ensures stays { Stays result m.old m.new }
 {
     match op_at(ops, m.stack.position) {
         Some(op) => {
             let next = m.stack.position + 1;
-            run_op(m, prepared, frame, code, &op.code, depth, next)
+            run_op(m, prepared, frame, code, &op.code, depth, next, told)
         }
-        None => Turn::Came(Outcome::Stuck),
+        None => {
+            tell(Stepped::Stuck, told);
+            Turn::Came
+        }
     }
 }

@@ -81,7 +81,7 @@ impl<T: Copy + Drop> Stack<T> {
     {
         let count = self.items.len();
         if depth < count {
-            self.items.get(count - 1 - depth).copied()
+            Some(self.items[count - 1 - depth])
         } else {
             None
         }
@@ -122,7 +122,7 @@ impl<T: Copy + Drop> Stack<T> {
     {
         let count = self.items.len();
         if base <= count && index < count - base {
-            self.items.get(base + index).copied()
+            Some(self.items[base + index])
         } else {
             None
         }

@@ -5,6 +5,8 @@ use Rattle.machine_steps.specs.declared.layout.CallFrame.{CallFrame}
 use Rattle.machine_steps.specs.declared.layout.CallStack.{CallStack}
 use Rattle.machine_steps.specs.declared.layout.Stepped.{Stepped}
 use Rattle.machine_steps.specs.declared.layout.Stepped.TheVariants.{Next, Ended, Trap, NoMemory, Stuck}
+use Rattle.machine_steps.specs.declared.layout.Reach.{Reach}
+use Rattle.machine_steps.specs.declared.layout.Reach.TheVariants.{Inside, Beyond}
 
 -- it goes on with this stack of calls
 abbrev pub Becomes : Stepped → CallStack → CallStack → Type 0
@@ -28,3 +30,13 @@ Leaves Ended (e ∷ es) m to = ⊥
 Leaves NoMemory es m to = Unit {0}
 Leaves (Trap kind) es m to = ⊥
 Leaves Stuck es m to = ⊥
+
+-- what a step came to, wherever it went
+abbrev pub stepped_of : Reach → Stepped
+stepped_of Inside = Next
+stepped_of (Beyond stepped) = stepped
+
+-- where it goes on in its frame, the frames are as they were
+abbrev pub InFrame : Reach → CallStack → CallStack → Type 0
+InFrame Inside m m' = m'.frames ≡ m.frames
+InFrame (Beyond stepped) m m' = Unit {0}

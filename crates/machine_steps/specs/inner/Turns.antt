@@ -13,14 +13,15 @@ use Rattle.machine_steps.specs.calls.Runs as runs
 use Rattle.machine_steps.specs.calls.Runs.{Begins, Reached}
 use Rattle.machine_steps.specs.calls.Watched.{Saw, Watched}
 
-abbrev pub came_to : Turn → Outcome
-came_to Straight = Next
-came_to (Came outcome) = outcome
+-- what a step came to, with what is told beside of one that may have gone elsewhere
+abbrev pub came_to : Turn → Outcome → Outcome
+came_to Straight told = Next
+came_to Came told = told
 
 -- where the next instruction is run, the frames are as they were
 abbrev pub Stays : Turn → Machine → Machine → Type 0
 Stays Straight m m' = m'.stack.frames ≡ m.stack.frames
-Stays (Came outcome) m m' = Unit {0}
+Stays Came m m' = Unit {0}
 
 module _ {W : Type 0} (saw : Module → W → List (Option Place) → Type 0) (prepared : Prepared) (depth : ℕ) (m : Machine) (before : W) where
   -- so many steps of a run were made and seen

@@ -25,13 +25,13 @@ pub returns-in-Compare-I32-default-clause-effect : goal.returns-in-Compare-I32-d
 returns-in-Compare-I32-default-clause-effect c = λ w operands locals below h e b. acts_did _ _ (c.in-Compare-I32-default.is ∙ ap (λ t. basics.Compare t c.in-Compare-I32-default.op) (rw c.in-Compare-I32-default.is at c.in-Compare-I32-default.field-0-is)) w operands locals below _ _ _ c.args.values.now h e (c.compare.ensures.effect w locals)
 
 pub returns-in-Compare-I64-default-clause-effect : goal.returns-in-Compare-I64-default-clause-effect
-returns-in-Compare-I64-default-clause-effect c = λ w operands locals below h e b. acts_did _ _ (c.in-Compare-I64-default.is ∙ ap (λ t. basics.Compare t c.in-Compare-I64-default.op) (rw c.in-Compare-I64-default.is at c.in-Compare-I64-default.field-0-is)) w operands locals below _ _ _ c.args.values.now h e (c.compare-in-Compare-I64-default.ensures.effect w locals)
+returns-in-Compare-I64-default-clause-effect c = λ w operands locals below h e b. acts_did _ _ (c.in-Compare-I64-default.is ∙ ap (λ t. basics.Compare t c.in-Compare-I64-default.op) (rw c.in-Compare-I64-default.is at c.in-Compare-I64-default.field-0-is)) w operands locals below _ _ _ c.args.values.now h e (c.compare_64.ensures.effect w locals)
 
 pub returns-in-Binary-I32-default-clause-effect : goal.returns-in-Binary-I32-default-clause-effect
 returns-in-Binary-I32-default-clause-effect c = λ w operands locals below h e b. acts_did _ _ (c.in-Binary-I32-default.is ∙ ap (λ t. basics.Binary t c.in-Binary-I32-default.op) (rw c.in-Binary-I32-default.is at c.in-Binary-I32-default.field-0-is)) w operands locals below _ _ _ c.args.values.now h e (c.binary.ensures.effect w locals)
 
 pub returns-in-Binary-I64-default-clause-effect : goal.returns-in-Binary-I64-default-clause-effect
-returns-in-Binary-I64-default-clause-effect c = λ w operands locals below h e b. acts_did _ _ (c.in-Binary-I64-default.is ∙ ap (λ t. basics.Binary t c.in-Binary-I64-default.op) (rw c.in-Binary-I64-default.is at c.in-Binary-I64-default.field-0-is)) w operands locals below _ _ _ c.args.values.now h e (c.binary-in-Binary-I64-default.ensures.effect w locals)
+returns-in-Binary-I64-default-clause-effect c = λ w operands locals below h e b. acts_did _ _ (c.in-Binary-I64-default.is ∙ ap (λ t. basics.Binary t c.in-Binary-I64-default.op) (rw c.in-Binary-I64-default.is at c.in-Binary-I64-default.field-0-is)) w operands locals below _ _ _ c.args.values.now h e (c.binary_64.ensures.effect w locals)
 
 pub returns-in-Convert-clause-effect : goal.returns-in-Convert-clause-effect
 returns-in-Convert-clause-effect c = λ w operands locals below h e b. acts_did _ _ c.in-Convert.is w operands locals below _ _ _ c.args.values.now h e (c.convert.ensures.effect w locals)

@@ -12,23 +12,23 @@ loop-made-init g c = record { few = omega arith; so_far = made_none g.W.Watch.Sa
 
 pub loop-made-preserved : goal.loop-made-preserved
 loop-made-preserved g c =
-    let w : Went g.W.Watch.Saw c.args.prepared.now c.args.depth c.args.m.now c.args.watch.now c.loop-made.made c.args.fuel Next c.go_on-ended.result.steps c.go_on-ended.new.m c.go_on-ended.new.watch =
-    rw c.in-Next.is at (c.go_on-ended.ensures c.args.m.now c.args.watch.now c.loop-made.invariant.so_far) in record { few = w.1; so_far = w.2 }
+    let w : Went g.W.Watch.Saw c.args.prepared.now c.args.depth c.args.m.now c.args.watch.now c.loop-made.made c.args.fuel Next c.go_on-steps.result c.go_on-steps.new.m c.go_on-steps.new.watch =
+    rw c.in-Next.is at (c.go_on-steps.ensures c.args.m.now c.args.watch.now c.loop-made.invariant.so_far) in record { few = w.1; so_far = w.2 }
 
 pub loop-made-smaller : goal.loop-made-smaller
 loop-made-smaller g c =
-    let w : Went g.W.Watch.Saw c.args.prepared.now c.args.depth c.args.m.now c.args.watch.now c.loop-made.made c.args.fuel Next c.go_on-ended.result.steps c.go_on-ended.new.m c.go_on-ended.new.watch =
-    rw c.in-Next.is at (c.go_on-ended.ensures c.args.m.now c.args.watch.now c.loop-made.invariant.so_far) in omega (arith, w.0, w.1)
+    let w : Went g.W.Watch.Saw c.args.prepared.now c.args.depth c.args.m.now c.args.watch.now c.loop-made.made c.args.fuel Next c.go_on-steps.result c.go_on-steps.new.m c.go_on-steps.new.watch =
+    rw c.in-Next.is at (c.go_on-steps.ensures c.args.m.now c.args.watch.now c.loop-made.invariant.so_far) in omega (arith, w.0, w.1)
 
 pub returns-in_default-clause-came : goal.returns-in_default-clause-came
 returns-in_default-clause-came g c = λ engine k b.
-    (is_over g.W.Watch.Saw c.args.prepared.now c.args.depth c.args.m.now c.args.watch.now c.loop-made.made c.args.fuel c.go_on-ended.result.outcome c.go_on-ended.result.steps c.go_on-ended.new.m c.go_on-ended.new.watch (λ e. c.in_default.not-Next e)
-    (c.go_on-ended.ensures c.args.m.now c.args.watch.now c.loop-made.invariant.so_far)).came engine k b
+    (is_over g.W.Watch.Saw c.args.prepared.now c.args.depth c.args.m.now c.args.watch.now c.loop-made.made c.args.fuel c.go_on-steps.new.told c.go_on-steps.result c.go_on-steps.new.m c.go_on-steps.new.watch (λ e. c.in_default.not-Next e)
+    (c.go_on-steps.ensures c.args.m.now c.args.watch.now c.loop-made.invariant.so_far)).came engine k b
 
 pub returns-in_default-clause-watched : goal.returns-in_default-clause-watched
 returns-in_default-clause-watched g c =
-    (is_over g.W.Watch.Saw c.args.prepared.now c.args.depth c.args.m.now c.args.watch.now c.loop-made.made c.args.fuel c.go_on-ended.result.outcome c.go_on-ended.result.steps c.go_on-ended.new.m c.go_on-ended.new.watch (λ e. c.in_default.not-Next e)
-    (c.go_on-ended.ensures c.args.m.now c.args.watch.now c.loop-made.invariant.so_far)).watched
+    (is_over g.W.Watch.Saw c.args.prepared.now c.args.depth c.args.m.now c.args.watch.now c.loop-made.made c.args.fuel c.go_on-steps.new.told c.go_on-steps.result c.go_on-steps.new.m c.go_on-steps.new.watch (λ e. c.in_default.not-Next e)
+    (c.go_on-steps.ensures c.args.m.now c.args.watch.now c.loop-made.invariant.so_far)).watched
 
 pub returns-clause-came : goal.returns-clause-came
 returns-clause-came g c = λ engine k b.

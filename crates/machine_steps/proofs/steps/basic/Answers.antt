@@ -20,6 +20,10 @@ returns-in-Trap-clause-meets c = λ x code h r.
     let base : c.args.frame.base ≡ length h.inner.vs_below = ap (λ (f : CallFrame). f.base) (sym (first_of c.args.m.now.stack.frames h.inner.e c.args.frame h.inner.es h.inner.es_are c.requires.frame)) ∙ h.inner.level.base in
     let same = c.in-Trap.ensures.same in
     let m_is : c.args.m.now ≡ record c.args.m.now { stack = record c.args.m.now.stack { values = c.perform.new.values }; shared = c.perform.new.shared } = λ i. record c.args.m.now { stack = record c.args.m.now.stack { values = sym same.0 i }; shared = sym same.1 i } in
-    subst (λ (k : Machine). MeetsAt x (Trap c.in-Trap.kind) (step_at x) k) m_is
+    subst (λ o. MeetsAt x o (step_at x) (record c.args.m.now { stack = record c.args.m.now.stack { values = c.perform.new.values }; shared = c.perform.new.shared })) (sym c.tell.ensures)
+    (subst (λ (k : Machine). MeetsAt x (Trap c.in-Trap.kind) (step_at x) k) m_is
     (basic_traps x c.args.m.now code h c.args.instruction.now c.in-Trap.kind c.perform.new.values c.perform.new.shared r
-    (c.in-Trap.ensures.effect x.world (joined (x.label ∷ x.outer)) x.frame.locals h.inner.vs_below h.shares.holds h.inner.level.vs_are base))
+    (c.in-Trap.ensures.effect x.world (joined (x.label ∷ x.outer)) x.frame.locals h.inner.vs_below h.shares.holds h.inner.level.vs_are base)))
+
+pub returns-in-NoMemory-clause-meets : goal.returns-in-NoMemory-clause-meets
+returns-in-NoMemory-clause-meets c = λ x code h r. rw c.tell-in-NoMemory.ensures tt
