@@ -1,13 +1,12 @@
 // A rewritten module in a host that calls its functions by an exported table, and that calls it back while it serves an import: behind a trap
 // that was handled, both have to do what the original does, and a trap by an entry of the table has to give a whole dump. Runs in node,
 // gjs -m and jsc -m; the words behind it are the rewritten module of flag/original.wat, and the dumps of `run 7 0`, of its divides on 7 and 0, and
-// of `through 1 7 0` and `through 2 7 0`. Where one more word stands there, the module was written by `pm instrument`, whose wrappers stand in
-// front of exported functions alone: then the trap by the table is left out.
+// of `through 1 7 0` and `through 2 7 0`.
 import { Collector } from '../hosts/collector.mjs';
 import { name, read, say, words } from './shell.mjs';
 
 const [module, ...files] = words;
-const [ofRun, ofDivides, ofThrough, ofUndefined] = files.slice(0, 4).map((file) => Array.from(read(file)).join());
+const [ofRun, ofDivides, ofThrough, ofUndefined] = files.map((file) => Array.from(read(file)).join());
 const STORED = 8; // where `plain` stores 3
 
 const fresh = () => {
@@ -66,7 +65,6 @@ const cases = {
   },
 };
 
-if (files.length > 4) delete cases['a trap by the table'];
 const wrong = [];
 for (const [what, run] of Object.entries(cases)) {
   try {

@@ -24,12 +24,10 @@ dump run run i32:7 i32:0
 dump divides divides i32:7 i32:0
 dump through through i32:1 i32:7 i32:0
 dump undefined through i32:2 i32:7 i32:0
-dumps='run.core divides.core through.core undefined.core'
 if [ "${1:-}" = instrument ]; then
   "$pm" instrument original.wasm rewritten.wasm
-  dumps="$dumps written"
 fi
-set -- rewritten.wasm $dumps
+set -- rewritten.wasm run.core divides.core through.core undefined.core
 if command -v node > /dev/null; then node "$top/bench/host_flag.mjs" "$@"; fi
 if command -v gjs > /dev/null; then gjs -m "$top/bench/host_flag.mjs" "$@"; fi
 if command -v jsc > /dev/null; then jsc -m "$top/bench/host_flag.mjs" -- "$@"; fi

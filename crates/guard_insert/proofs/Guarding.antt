@@ -1,15 +1,17 @@
 -- How the pieces of a guard are put together.
-use Rattle.std.proofs.Common.{◌≡◌, ℕ, suc, ◌+◌, List, None, subst, arith}
+use Rattle.std.proofs.Common.{◌≡◌, ℕ, suc, ◌+◌, ◌-◌, List, [], ◌∷◌, length, slice_get, Some, None, refl, ◌∙◌, subst, arith}
 use Rattle.wasm_syntax.specs.declared.value.ValType.{ValType}
 use Rattle.wasm_syntax.specs.declared.value.Value.{Value}
 use Rattle.wasm_syntax.specs.declared.instruction.Basic.{Basic}
+use Rattle.wasm_syntax.specs.declared.instruction.Basic.TheVariants.{MemoryCopy}
 use Rattle.wasm_syntax.specs.Tree.{stop, choose}
 use Rattle.rewrite_bodies.specs.Slots.{Place, Ctx}
 use Rattle.rewrite_bodies.specs.Pieces.{const, fetch}
-use Rattle.rewrite_bodies.specs.Guards.{guard_zero, range_test, kind}
-use Rattle.rewrite_bodies.specs.Rewrite.{Info, unwind_kind, tested}
+use Rattle.rewrite_bodies.specs.Guards.{guard, guard_zero, guard_copy, range_test, kind}
+use Rattle.rewrite_bodies.specs.Rewrite.{unwind_kind, tested}
 use Rattle.rewrite_code.specs.calls.Writing.{Written, Emits, EmitsLast, Opens, Closes}
 use Rattle.rewrite_code.proofs.Pieces.{emits_last, emits_within}
+use Rattle.rewrite_code.proofs.Loads.{emits_same}
 
 pub const_at : {v w : Value} {a b : Written} → v ≡ w → Emits (const v) a b → Emits (const w) a b
 const_at {a = a} {b = b} e p = subst (λ v. Emits (const v) a b) e p
@@ -25,11 +27,27 @@ next_zero C t p h {y} {a} {b} e q =
     subst (λ n. Emits (guard_zero C t p n) a b) same q
 
 -- where the guard has left 1, the code unwinds with the kind
-pub kind_tested : (C : Ctx) (ls : List Info) (es : List Place) (o : ℕ) (i : Basic) {a b c d e : Written} → Opens (λ arm k. choose 0 None arm None stop 0 k) a b → Emits (kind C i es) b c → EmitsLast (unwind_kind C ls es o) c d → Closes d e →
-    Emits (tested C ls es o (kind C i es)) a e
-kind_tested C ls es o i op p u cl = emits_within op (emits_last p u) cl
+pub kind_tested : (C : Ctx) (l : ℕ) (es : List Place) (o : ℕ) (i : Basic) {a b c d e : Written} → Opens (λ arm k. choose 0 None arm None stop 0 k) a b → Emits (kind C i es) b c → EmitsLast (unwind_kind C l es o) c d → Closes d e →
+    Emits (tested C l es o (kind C i es)) a e
+kind_tested C l es o i op p u cl = emits_within op (emits_last p u) cl
 
 -- a test of a range whose heights are these
 pub range_at : (C : Ctx) (p n : Place) {x y x' y' : ℕ} {a b : Written} → x ≡ x' → y ≡ y' → Emits (range_test C p x n y) a b → Emits (range_test C p x' n y') a b
 range_at C p n {x} {y} {x'} {y'} {a} {b} e d q =
     subst (λ h. Emits (range_test C p x' n h) a b) d (subst (λ h. Emits (range_test C p h n y) a b) e q)
+
+-- that of `memory.copy`, on the three topmost operands
+pub copied : (C : Ctx) (es : List Place) (n from to : Place) (h : ℕ) {a b : Written} → Some n ≡ slice_get es 0 → Some from ≡ slice_get es 1 → Some to ≡ slice_get es 2 → h ≡ length es - 3 →
+    Emits (guard_copy C n from to h) a b → Emits (guard C MemoryCopy es) a b
+copied C [] n from to h one two three e q = absurd (cc)
+copied C (x ∷ []) n from to h one two three e q = absurd (cc)
+copied C (x ∷ y ∷ []) n from to h one two three e q = absurd (cc)
+copied C (x ∷ y ∷ z ∷ es) n from to h {a} {b} one two three e q =
+    let height : h ≡ length es = e ∙ omega arith in
+    let on_length : Emits (guard_copy C x from to h) a b = subst (λ p. Emits (guard_copy C p from to h) a b) (same one) q in
+    let on_from : Emits (guard_copy C x y to h) a b = subst (λ p. Emits (guard_copy C x p to h) a b) (same two) on_length in
+    let on_all : Emits (guard_copy C x y z h) a b = subst (λ p. Emits (guard_copy C x y p h) a b) (same three) on_from in
+    emits_same (λ k. refl) (subst (λ g. Emits (guard_copy C x y z g) a b) height on_all)
+  where
+    same : {p q : Place} → Some p ≡ Some q → p ≡ q
+    same e = cc

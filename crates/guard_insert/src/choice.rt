@@ -1,9 +1,9 @@
 //! Which instructions have a guard, and which one.
 
-ghost use Rattle.std.specs.Prelude.{◌≡◌, ◌+◌, ◌^◌, ◌<◌, ◌≤◌, true, List, length, OnOk};
+ghost use Rattle.std.specs.Prelude.{◌≡◌, ◌+◌, ◌^◌, ◌<◌, ◌≤◌, true, length, OnOk};
 ghost use Rattle.rewrite_bodies.specs.Guards.{can_trap, divides, guard, kind};
 ghost use Rattle.rewrite_bodies.specs.Pieces.{const, i32};
-ghost use Rattle.rewrite_bodies.specs.Rewrite.{Info, tested, guarded};
+ghost use Rattle.rewrite_bodies.specs.Rewrite.{tested, guarded};
 ghost use Rattle.int_ops.specs.declared.operators.Binary.TheVariants.{DivS as DivSOf, DivU as DivUOf, RemS as RemSOf, RemU as RemUOf};
 ghost use Rattle.wasm_syntax.specs.declared.instruction.Basic.TheVariants.{Binary as BinaryOf, Load as LoadOf, Store as StoreOf, MemoryCopy as MemoryCopyOf, MemoryFill as MemoryFillOf};
 ghost use Rattle.rewrite_bodies.specs.calls.Verdicts.{IsGuard, IsKind};
@@ -313,8 +313,7 @@ fn tested(
 ) -> Result<(), NoMemory>
     requires shallow { labels + 1 < 2 ^ 32 }
     requires room { length places.now ≤ context.now.slots }
-    ensures { (ls : List Info) → length ls ≡ labels
-        → OnOk result (Emits (tested context.now ls places.now offset
+    ensures { OnOk result (Emits (tested context.now labels places.now offset
         (kind context.now instruction.now places.now)) writer.old writer.new) }
 {
     writer.open_if(None)?;
@@ -334,9 +333,8 @@ pub fn guarded(
 ) -> Result<(), NoMemory>
     requires shallow { labels + 1 < 2 ^ 32 }
     requires room { length places.now ≤ context.now.slots }
-    ensures { (ls : List Info) → length ls ≡ labels
-        → OnOk result (Emits (guarded (can_trap instruction.now) context.now ls places.now offset
-        instruction.now) writer.old writer.new) }
+    ensures { OnOk result (Emits (guarded (can_trap instruction.now) context.now labels places.now
+        offset instruction.now) writer.old writer.new) }
 {
     if can_trap(instruction) {
         guard(context, writer, instruction, places)?;

@@ -1,5 +1,5 @@
 -- The rewriting of a sized module has few functions, and the module has few globals.
-use Rattle.std.proofs.Common.{ℕ, suc, ◌+◌, ◌≤◌, Bool, true, false, nat_lt, if◌then◌else◌, List, [], ◌∷◌, length, flat_map, Option, Some, None, arith, length-append}
+use Rattle.std.proofs.Common.{◌≡◌, ℕ, suc, ◌+◌, ◌*◌, ◌≤◌, map, refl, Bool, true, false, nat_lt, if◌then◌else◌, List, [], ◌∷◌, length, flat_map, Option, Some, None, arith, length-append}
 use Rattle.wasm_leb.specs.Writing.{unsigned_bytes}
 use Rattle.wasm_syntax.specs.declared.instruction.Jump.TheVariants as flat
 use Rattle.wasm_syntax.specs.declared.instruction.Instr.{Instr}
@@ -14,7 +14,11 @@ use Rattle.wasm_syntax.specs.Valid.{Valid}
 use Rattle.wasm_format.specs.Encoding.{encoding as instruction_bytes}
 use Rattle.wasm_encode.specs.Encoding.{import_bytes, global_bytes, export_bytes, entry_bytes}
 use Rattle.wasm_format_laws.specs.Sized.{Sized}
-use Rattle.rewrite_bodies.specs.Numbering.{import_count, wraps, start_wraps, export_wrapped, wrapped, is_in, distinct}
+use Rattle.rewrite_bodies.specs.Numbering.{import_count, wraps, start_wraps, export_wrapped, named_wrapped, entry_weight, table_functions, doubles, table_wraps, wrapped, is_in, distinct}
+use Rattle.rewrite_bodies.proofs.Doubled.{table_light, weights_more}
+use Rattle.index_map.proofs.TableSizes.{distinct_few, wrappers_fit, places_fit}
+use Rattle.rewrite_modules.proofs.Listed.{functions_below}
+use Rattle.std.specs.Prelude.{sum}
 use Rattle.rewrite_modules.specs.Weight.{type_used}
 use Rattle.wasm_format_laws.proofs.Numbers.{some_bytes}
 use Rattle.wasm_format_laws.proofs.Totals.{total, total_many}
@@ -46,18 +50,22 @@ start_one m (Some f) = by (nat_lt f (import_count m))
     by true = omega arith
     by false = omega arith
 
-wrapped_few : (m : Module) → length (wrapped m) ≤ length m.exports + 1
-wrapped_few m = omega (arith, length-append (export_wrapped m) (start_wraps m m.start), exports_few m m.exports, start_one m m.start)
+-- a wrapper weighs 128 at least, so few fit into what is left for them
+weights_many : (m : Module) (fs : List ℕ) → 128 * length fs ≤ sum (map (entry_weight m) fs)
+weights_many m [] = omega arith
+weights_many m (f ∷ fs) = let more = weights_more m f fs in omega (arith, weights_many m fs, more)
+
+table_few : (m : Module) → 64 * length (table_wraps m) ≤ m.plain_bytes + 64
+table_few m = by (doubles m) refl
+  where
+    by : (q : Bool) → doubles m ≡ q → 64 * length (if q then table_functions m else []) ≤ m.plain_bytes + 64
+    by false d = omega arith
+    by true d = omega (arith, weights_many m (table_functions m), table_light m d)
+
+wrapped_few : (m : Module) → 64 * length (wrapped m) ≤ 64 * length m.exports + m.plain_bytes + 128
+wrapped_few m = omega (arith, length-append (named_wrapped m) (table_wraps m), length-append (export_wrapped m) (start_wraps m m.start), exports_few m m.exports, start_one m m.start, table_few m)
 
 -- ---- types that are used
-
-distinct_few : (xs : List ℕ) → length (distinct xs) ≤ length xs
-distinct_few [] = omega arith
-distinct_few (x ∷ xs) = by (is_in x (distinct xs)) (distinct_few xs)
-  where
-    by : (q : Bool) → length (distinct xs) ≤ length xs → length (if q then distinct xs else x ∷ distinct xs) ≤ suc (length xs)
-    by true h = omega (arith, h)
-    by false h = omega (arith, h)
 
 -- an instruction that uses one takes a byte at least
 type_short : (T : List ℕ) (i : Instr) → length (type_used i) ≤ item_length (item_of T i)
@@ -98,7 +106,7 @@ few m sized =
     let f = distinct_few (bodies_used m.bodies) in
     let g = wrapped_few m in
     let whole : contents m ≤ 134217720 = omega (arith, contents_least m, sized.no_shorter, sized.within_limit) in
-    record { functions = omega (arith, a, b, d, e, f, g, whole); globals = omega (arith, c, whole) }
+    record { functions = omega (arith, a, b, d, e, f, g, whole, sized.within_limit); globals = omega (arith, c, whole) }
 
 pub can_be : (m : Module) → Valid m → Sized m → CanBeNumbered m
-can_be m v s = record { few = few m s; types_there = valid_below m v }
+can_be m v s = record { few = few m s; types_there = valid_below m v; functions_there = functions_below m v; wrappers_light = wrappers_fit m s; places_few = places_fit m s }

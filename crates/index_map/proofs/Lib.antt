@@ -1,7 +1,9 @@
 pub mod Meeting
 pub mod Below
 pub mod Places
+pub mod ShownNumbers
 pub mod Trees
+pub mod TableSizes
 pub mod Few
 pub mod First
 pub mod Within

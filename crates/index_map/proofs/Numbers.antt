@@ -9,7 +9,7 @@ use Rattle.wasm_syntax.specs.declared.value.ValType.TheVariants.{I32, I64}
 use Rattle.wasm_syntax.specs.declared.parts.Export.{Export}
 use Rattle.wasm_syntax.specs.declared.module.ModuleParts.{ModuleParts as Module}
 use Rattle.wasm_syntax.specs.Module.{function_types}
-use Rattle.rewrite_bodies.specs.Numbering.{import_count, mapped, type_number, value_import, frame_import, wraps, start_wraps, export_wrapped, wrapper_base, helper_base, is_in, place_in}
+use Rattle.rewrite_bodies.specs.Numbering.{import_count, mapped, type_number, value_import, frame_import, wraps, start_wraps, export_wrapped, named_wrapped, table_wraps, wrapper_base, helper_base, is_in, place_in}
 use Rattle.rewrite_modules.specs.Instrument.{new_index, new_exports}
 use Rattle.index_map.specs.calls.Wrapper.{HasWrapper, wrapper_of}
 use Rattle.pm_text.proofs.Lists.{some_is}
@@ -94,7 +94,7 @@ wrappers_apart m i j h k e =
 pub wrapper_within : (m : Module) (i : ℕ) → HasWrapper m i → wrapper_of m i < helper_base m
 wrapper_within m i h =
     let one : length (wraps m h.0) ≡ 1 = ap length h.2 in
-    omega (arith, one, taken_few (wraps m) m.exports i h.0 h.1, length-append (export_wrapped m) (start_wraps m m.start))
+    omega (arith, one, taken_few (wraps m) m.exports i h.0 h.1, length-append (named_wrapped m) (table_wraps m), length-append (export_wrapped m) (start_wraps m m.start))
 
 -- the number that an export gets
 pub index_at : (m : Module) (k : ℕ) (es : List Export) (i : ℕ) (e : Export) → slice_get es i ≡ Some e → slice_get (map (λ e. e.index) (new_exports m k es)) i ≡ Some (new_index m (k + length (flat_map (wraps m) (take i es))) (wraps m e) e.index)

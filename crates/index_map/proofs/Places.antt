@@ -1,15 +1,18 @@
--- The place of a type among those that have a helper.
-use Rattle.std.proofs.Common.{◌≡◌, ℕ, suc, ◌+◌, ◌<◌, Bool, true, false, if◌then◌else◌, List, [], ◌∷◌, ◌++◌, length, take, drop, reverse, get_or, slice_get, Option, Some, None, refl, sym, ap, subst, ◌∙◌, arith, replicate}
+-- The place of a type among those that have a helper, and of a function among those of the table.
+use Rattle.std.proofs.Common.{◌≡◌, ℕ, suc, ◌+◌, ◌<◌, Bool, true, false, if◌then◌else◌, List, [], ◌∷◌, ◌++◌, length, flat_map, nat_lt, take, drop, reverse, get_or, slice_get, Option, Some, None, refl, sym, ap, subst, ◌∙◌, arith, replicate}
 use Rattle.std.proofs.lemmas.List.{append-nil, get_or-replicate, length-replicate, take_all}
 use Rattle.std.proofs.Math.Seq.{drop-length}
 use Rattle.std.proofs.lemmas.Option.{slice_get-get_or}
 use Rattle.std.specs.Prelude.{◌==◌, is_some}
 use Rattle.wasm_syntax.specs.declared.parts.Body.{Body}
+use Rattle.wasm_syntax.specs.declared.parts.ElementSeg.{ElementSeg}
+use Rattle.rewrite_modules.proofs.Listed.{defines_both}
 use Rattle.wasm_syntax.specs.declared.module.ModuleParts.{ModuleParts as Module}
-use Rattle.rewrite_bodies.specs.Numbering.{is_in, distinct, place_in}
+use Rattle.rewrite_bodies.specs.Numbering.{import_count, is_in, distinct, place_in, element_functions, defines, table_functions}
 use Rattle.rewrite_modules.specs.Weight.{types_used}
-use Rattle.index_map.specs.inner.Used.{behind, bodies_used, HasMet}
-use Rattle.index_map.specs.inner.Kept.{AreUsed, IsMap}
+use Rattle.index_map.specs.inner.Used.{AllBelow, behind, bodies_used, HasMet}
+use Rattle.index_map.specs.inner.Kept.{CanBeNumbered, AreUsed, AreShown}
+use Rattle.wasm_syntax.specs.Module.{function_types}
 use Rattle.index_map.proofs.Meeting.{is_in_behind}
 use Rattle.index_map.proofs.Below.{distinct_below, is_in_below}
 use Rattle.pm_text.proofs.Lists.{some_is}
@@ -37,28 +40,51 @@ behind_there t xs e = by (behind t xs) refl
         no z = cc
     by (Some k) q = record { number = k; is = q }
 
--- the table has it
-pub table_has : (m : Module) (exported : ℕ) (wraps exports helped : List ℕ) (places : List (Option ℕ)) → IsMap m exported wraps exports helped places → (t : ℕ) → is_in t (types_used m) ≡ true → (b : Behind t (types_used m)) → slice_get places t ≡ Some (Some b.number)
-table_has m exported wraps exports helped places h t e b =
-    let within : t < length places = omega (arith, h.used.count, is_in_below (length m.types) t (types_used m) (distinct_below (length m.types) (bodies_used m.bodies) h.can.types_there) e) in
-    slice_get-get_or places t None within ∙ ap Some (h.used.places_are t within ∙ b.is)
+-- A list of how many stand behind each number has those that count once; n numbers are possible.
+module _ (xs us : List ℕ) (n : ℕ) (places : List (Option ℕ)) (are : us ≡ distinct xs) (count : length places ≡ n) (below : AllBelow n xs) (hold : (s : ℕ) → s < length places → get_or places s None ≡ behind s (distinct xs)) where
+  has : (t : ℕ) → is_in t (distinct xs) ≡ true → (b : Behind t (distinct xs)) → slice_get places t ≡ Some (Some b.number)
+  has t e b =
+      let within : t < length places = omega (arith, count, is_in_below n t (distinct xs) (distinct_below n xs below) e) in
+      slice_get-get_or places t None within ∙ ap Some (hold t within ∙ b.is)
 
--- each entry is less than how many there are
-pub table_low : (m : Module) (exported : ℕ) (wraps exports helped : List ℕ) (places : List (Option ℕ)) → IsMap m exported wraps exports helped places → (t k : ℕ) → is_in t (types_used m) ≡ true → slice_get places t ≡ Some (Some k) → k < length helped
-table_low m exported wraps exports helped places h t k e at =
-    let b = behind_there t (types_used m) e in
-    let same : b.number ≡ k = some_is (some_is (sym (table_has m exported wraps exports helped places h t e b) ∙ at)) in
-    let a = place_behind t (types_used m) b.number b.is in
-    omega (arith, same, a, ap length h.used.helped_is)
+  -- each is less than how many there are
+  pub low : (t k : ℕ) → is_in t (distinct xs) ≡ true → slice_get places t ≡ Some (Some k) → k < length us
+  low t k e at =
+      let b = behind_there t (distinct xs) e in
+      let same : b.number ≡ k = some_is (some_is (sym (has t e b) ∙ at)) in
+      let a = place_behind t (distinct xs) b.number b.is in
+      omega (arith, same, a, ap length are)
 
--- the place that the table gives
-pub place_found : (m : Module) (exported : ℕ) (wraps exports helped : List ℕ) (places : List (Option ℕ)) → IsMap m exported wraps exports helped places → (t r : ℕ) → is_in t (types_used m) ≡ true → ((k : ℕ) → slice_get places t ≡ Some (Some k) → r + suc k ≡ length helped) → (r ≡ place_in t (types_used m)) × (r < length (types_used m))
-place_found m exported wraps exports helped places h t r e found =
-    let b = behind_there t (types_used m) e in
-    let a = place_behind t (types_used m) b.number b.is in
-    let c = found b.number (table_has m exported wraps exports helped places h t e b) in
-    let d = ap length h.used.helped_is in
-    (omega (arith, a, c, d), omega (arith, c, d))
+  -- the place that the list gives
+  pub found : (t r : ℕ) → is_in t (distinct xs) ≡ true → ((k : ℕ) → slice_get places t ≡ Some (Some k) → r + suc k ≡ length us) → (r ≡ place_in t (distinct xs)) × (r < length (distinct xs))
+  found t r e of =
+      let b = behind_there t (distinct xs) e in
+      let a = place_behind t (distinct xs) b.number b.is in
+      let c = of b.number (has t e b) in
+      let d = ap length are in
+      (omega (arith, a, c, d), omega (arith, c, d))
+
+-- of the types that have a helper
+pub table_low : (m : Module) (helped : List ℕ) (places : List (Option ℕ)) → CanBeNumbered m → AreUsed m helped places → (t k : ℕ) → is_in t (types_used m) ≡ true → slice_get places t ≡ Some (Some k) → k < length helped
+table_low m helped places can h = low (bodies_used m.bodies) helped (length m.types) places h.helped_is h.count can.types_there h.places_are
+
+pub place_found : (m : Module) (helped : List ℕ) (places : List (Option ℕ)) → CanBeNumbered m → AreUsed m helped places → (t r : ℕ) → is_in t (types_used m) ≡ true → ((k : ℕ) → slice_get places t ≡ Some (Some k) → r + suc k ≡ length helped) → (r ≡ place_in t (types_used m)) × (r < length (types_used m))
+place_found m helped places can h = found (bodies_used m.bodies) helped (length m.types) places h.helped_is h.count can.types_there h.places_are
+
+-- and of the functions of the table
+defined_below : (m : Module) (n : ℕ) (fs : List ℕ) → AllBelow n fs → AllBelow n (flat_map (defines m) fs)
+defined_below m n [] h = tt
+defined_below m n (f ∷ fs) h = by (nat_lt f (import_count m)) (defined_below m n fs h.1)
+  where
+    by : (q : Bool) → AllBelow n (flat_map (defines m) fs) → AllBelow n ((if q then [] else f ∷ []) ++ flat_map (defines m) fs)
+    by true k = k
+    by false k = (h.0, k)
+
+pub shown_low : (m : Module) (functions : List ℕ) (places : List (Option ℕ)) → CanBeNumbered m → AreShown m functions places → (f k : ℕ) → is_in f (table_functions m) ≡ true → slice_get places f ≡ Some (Some k) → k < length functions
+shown_low m functions places can h = low (flat_map (defines m) (element_functions m)) functions (length (function_types m)) places h.functions_are h.count (defined_below m (length (function_types m)) (element_functions m) can.functions_there) h.places_are
+
+pub shown_found : (m : Module) (functions : List ℕ) (places : List (Option ℕ)) → CanBeNumbered m → AreShown m functions places → (f r : ℕ) → is_in f (table_functions m) ≡ true → ((k : ℕ) → slice_get places f ≡ Some (Some k) → r + suc k ≡ length functions) → (r ≡ place_in f (table_functions m)) × (r < length (table_functions m))
+shown_found m functions places can h = found (flat_map (defines m) (element_functions m)) functions (length (function_types m)) places h.functions_are h.count (defined_below m (length (function_types m)) (element_functions m) can.functions_there) h.places_are
 
 -- ---- what was met when all is read
 
@@ -74,6 +100,20 @@ pub table_kept : (made left : List (Option ℕ)) (n : ℕ) → length left ≡ l
 table_kept made left n e d =
     let none : drop (length left) made ≡ [] = ap (λ k. drop k made) e ∙ drop-length made in
     ap (λ l. take n (left ++ l)) none ∙ ap (take n) (append-nil left) ∙ take_all n left (omega (arith, e, d))
+
+pub all_shown : (m : Module) (elements : List ElementSeg) (met functions : List ℕ) (left places : List (Option ℕ)) → elements ≡ m.elements → functions ≡ reverse met → places ≡ left → length left ≡ length (function_types m) → HasMet (flat_map (λ e. flat_map (defines m) e.functions) elements ++ []) met left → AreShown m functions places
+all_shown m elements met functions left places b t p n h = record {
+  functions_are = t ∙ h.met_is ∙ ap distinct whole;
+  count = ap length p ∙ n;
+  places_are = λ s within. ap (λ l. get_or l s None) p ∙ h.places_are s (subst (λ l. s < length l) p within) ∙ ap (λ l. behind s (distinct l)) whole;
+}
+  where
+    flat : (es : List ElementSeg) → flat_map (λ e. flat_map (defines m) e.functions) es ≡ flat_map (defines m) (flat_map (λ e. e.functions) es)
+    flat [] = refl
+    flat (e ∷ es) = ap (λ z. flat_map (defines m) e.functions ++ z) (flat es) ∙ sym (defines_both m e.functions (flat_map (λ e. e.functions) es))
+
+    whole : flat_map (λ e. flat_map (defines m) e.functions) elements ++ [] ≡ flat_map (defines m) (element_functions m)
+    whole = append-nil (flat_map (λ e. flat_map (defines m) e.functions) elements) ∙ ap (λ es. flat_map (λ e. flat_map (defines m) e.functions) es) b ∙ flat m.elements
 
 pub all_met : (m : Module) (bodies : List Body) (met types : List ℕ) (left places : List (Option ℕ)) → bodies ≡ m.bodies → types ≡ reverse met → places ≡ left → length left ≡ length m.types → HasMet (bodies_used bodies ++ []) met left → AreUsed m types places
 all_met m bodies met types left places b t p n h = record {

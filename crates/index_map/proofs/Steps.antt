@@ -1,6 +1,6 @@
 -- Sums over the front of a list, in the words of what is left.
-use Rattle.std.proofs.Common.{◌≡◌, ℕ, suc, ◌+◌, ◌*◌, ◌<◌, ◌≤◌, List, [], ◌∷◌, length, get_or, drop, ap, ap₂, ◌∙◌, arith, slice_get, unwrap_or, if◌then◌else◌, Bool, Option, Some}
-use Rattle.std.specs.Prelude.{max}
+use Rattle.std.proofs.Common.{◌≡◌, ℕ, zero, suc, ◌+◌, ◌*◌, ◌<◌, ◌≤◌, List, [], ◌∷◌, length, get_or, drop, map, flat_map, length-append, ap, ap₂, ◌∙◌, arith, slice_get, unwrap_or, if◌then◌else◌, Bool, Option, Some}
+use Rattle.std.specs.Prelude.{max, sum}
 use Rattle.std.proofs.Math.Seq.{drop-cons}
 use Rattle.std.proofs.lemmas.Bool.{le-ltb}
 use Rattle.wasm_syntax.specs.declared.instruction.Op.{Op}
@@ -15,7 +15,10 @@ use Rattle.wasm_syntax.specs.declared.quantity.Quantity.TheVariants.{InstrumentL
 use Rattle.wasm_syntax.specs.Quantity.{greatest}
 use Rattle.index_map.specs.Limits.{function_locals, function_heights, first_over}
 use Rattle.rewrite_modules.specs.Multiple.{highest}
-use Rattle.rewrite_modules.specs.Weight.{height_at, op_weight, ops_weight, bodies_weight, entry_weight, exports_weight}
+use Rattle.rewrite_modules.specs.Weight.{height_at, op_weight, ops_weight, bodies_weight, exports_weight}
+use Rattle.rewrite_bodies.specs.Numbering.{entry_weight}
+use Rattle.rewrite_bodies.proofs.Doubled.{weights_more}
+use Rattle.wasm_syntax.specs.declared.parts.ElementSeg.{ElementSeg}
 
 -- a function of a number and of what is left of a list
 at_front : {A B : Type 0} (go : ℕ → List A → B) (xs : List A) (i : ℕ) (d : A) → i < length xs → go i (drop i xs) ≡ go i (get_or xs i d ∷ drop (suc i) xs)
@@ -56,6 +59,25 @@ pub exports_more : (m : Module) (es : List Export) (i : ℕ) (d : Export) → i 
 exports_more m es i d lt =
     let next : suc i ≡ i + 1 = omega arith in
     at_front (λ (n : ℕ) (xs : List Export). exports_weight m xs) es i d lt ∙ ap (λ (k : ℕ). export_weight m (get_or es i d) + exports_weight m (drop k es)) next
+
+-- what wrappers weigh, and how many places segments have
+pub wrappers_more : (m : Module) (fs : List ℕ) (i d : ℕ) → i < length fs → sum (map (entry_weight m) (drop i fs)) ≡ entry_weight m (get_or fs i d) + sum (map (entry_weight m) (drop (i + 1) fs))
+wrappers_more m fs i d lt =
+    let next : suc i ≡ i + 1 = omega arith in
+    at_front (λ (n : ℕ) (xs : List ℕ). sum (map (entry_weight m) xs)) fs i d lt ∙ weights_more m (get_or fs i d) (drop (suc i) fs)
+    ∙ ap (λ (k : ℕ). entry_weight m (get_or fs i d) + sum (map (entry_weight m) (drop k fs))) next
+
+pub places_more : (es : List ElementSeg) (i : ℕ) (d : ElementSeg) → i < length es → length (flat_map (λ e. e.functions) (drop i es)) ≡ length (get_or es i d).functions + length (flat_map (λ e. e.functions) (drop (i + 1) es))
+places_more es i d lt =
+    let next : suc i ≡ i + 1 = omega arith in
+    at_front (λ (n : ℕ) (xs : List ElementSeg). length (flat_map (λ e. e.functions) xs)) es i d lt ∙ length-append (get_or es i d).functions (flat_map (λ e. e.functions) (drop (suc i) es))
+    ∙ ap (λ (k : ℕ). length (get_or es i d).functions + length (flat_map (λ e. e.functions) (drop k es))) next
+
+-- a segment has no more places than all of them
+pub places_few : (es : List ElementSeg) (i : ℕ) (d : ElementSeg) → i < length es → length (get_or es i d).functions ≤ length (flat_map (λ e. e.functions) es)
+places_few [] i d lt = absurd (omega (arith, lt))
+places_few (e ∷ es) zero d lt = omega (arith, length-append e.functions (flat_map (λ e. e.functions) es))
+places_few (e ∷ es) (suc i) d lt = omega (arith, length-append e.functions (flat_map (λ e. e.functions) es), places_few es i d (omega (arith, lt)))
 
 -- ---- the first number that passes
 

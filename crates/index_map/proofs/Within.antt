@@ -7,6 +7,7 @@ use Rattle.wasm_syntax.specs.declared.parts.Body.{Body}
 use Rattle.wasm_syntax.specs.declared.module.ModuleParts.{ModuleParts as Module}
 use Rattle.rewrite_bodies.specs.Numbering.{is_in, distinct}
 use Rattle.rewrite_modules.specs.Weight.{type_used, types_used}
+use Rattle.rewrite_modules.proofs.Listed.{in_distinct}
 use Rattle.index_map.specs.inner.Used.{ops_used, bodies_used}
 use Rattle.pm_text.proofs.Lists.{some_is}
 
@@ -31,19 +32,9 @@ flat_within t f [] i x e h = absurd (cc)
 flat_within t f (y ∷ xs) zero x e h = left_within t (f y) (flat_map f xs) (ap (λ z. is_in t (f z)) (some_is e) ∙ h)
 flat_within t f (y ∷ xs) (suc i) x e h = right_within t (f y) (flat_map f xs) (flat_within t f xs i x e h)
 
-distinct_within : (t : ℕ) (xs : List ℕ) → is_in t xs ≡ true → is_in t (distinct xs) ≡ true
-distinct_within t [] e = e
-distinct_within t (x ∷ xs) e = by (is_in x (distinct xs)) (t == x) refl refl e (distinct_within t xs)
-  where
-    by : (q r : Bool) → is_in x (distinct xs) ≡ q → (t == x) ≡ r → (if r then true else is_in t xs) ≡ true → (is_in t xs ≡ true → is_in t (distinct xs) ≡ true) → is_in t (if q then distinct xs else x ∷ distinct xs) ≡ true
-    by true true a b z ih = let same : t ≡ x = grind (arith, nat_tests) in ap (λ y. is_in y (distinct xs)) same ∙ a
-    by true false a b z ih = ih z
-    by false true a b z ih = ap (λ r. if r then true else is_in t (distinct xs)) b
-    by false false a b z ih = ap (λ r. if r then true else is_in t (distinct xs)) b ∙ ih z
-
 itself : (t : ℕ) → is_in t (t ∷ []) ≡ true
 itself t = let yes : (t == t) ≡ true = grind (arith, nat_tests) in ap (λ q. if q then true else false) yes
 
 pub used_within : (m : Module) (i j t : ℕ) (body : Body) (o : Op) → slice_get m.bodies i ≡ Some body → slice_get body.ops j ≡ Some o → type_used o.code ≡ t ∷ [] → is_in t (types_used m) ≡ true
 used_within m i j t body o b at e =
-    distinct_within t (bodies_used m.bodies) (flat_within t (λ b. ops_used b.ops) m.bodies i body b (flat_within t (λ o. type_used o.code) body.ops j o at (ap (is_in t) e ∙ itself t)))
+    in_distinct t (bodies_used m.bodies) (flat_within t (λ b. ops_used b.ops) m.bodies i body b (flat_within t (λ o. type_used o.code) body.ops j o at (ap (is_in t) e ∙ itself t)))

@@ -24,17 +24,13 @@ use Rattle.wasm_syntax.specs.Sizes.{local_count, nesting}
 use Rattle.wasm_format_laws.proofs.Totals.{all_from_map}
 use Rattle.rewrite_modules.specs.Instrumentable.{LightEnough}
 use Rattle.rewrite_modules.specs.Multiple.{highest}
+use Rattle.rewrite_modules.proofs.Listed.{slice_get_none}
 use Rattle.rewrite_modules.specs.Weight.{height_at, AreHeights, weight}
 use Rattle.index_map.specs.declared.limits.Excess.{Excess}
 use Rattle.index_map.specs.Limits.{function_locals, function_heights, first_over, first_excess}
 use Rattle.wasm_bytes.specs.Refusals.{◌orelse◌}
 
 -- an index at which nothing stands
-slice_get_none : {A : Type 0} (xs : List A) (i : ℕ) → slice_get xs i ≡ None → length xs ≤ i
-slice_get_none [] i e = omega arith
-slice_get_none (x ∷ xs) zero e = absurd cc
-slice_get_none (x ∷ xs) (suc i) e = omega (arith, slice_get_none xs i e)
-
 none_over : (what : Quantity) (ns : List ℕ) → first_over what ns ≡ None → AllByRecursion (λ n. n ≤ greatest what) ns
 none_over what [] e = tt
 none_over what (n ∷ ns) e = by (nat_lt (greatest what) n) refl e (none_over what ns)

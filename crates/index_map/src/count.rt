@@ -6,9 +6,11 @@ ghost use Rattle.wasm_syntax.specs.declared.quantity.Quantity.TheVariants.{Local
 ghost use Rattle.wasm_syntax.specs.Module.{type_at};
 ghost use Rattle.wasm_syntax.specs.Quantity.{greatest};
 ghost use Rattle.wasm_syntax.specs.Sizes.{deepest, depth_behind, local_count, nesting, parameter_count};
+ghost use Rattle.wasm_syntax.specs.Run.{table_min};
+ghost use Rattle.rewrite_bodies.specs.Numbering.{entry_weight};
 ghost use Rattle.rewrite_modules.specs.Multiple.{highest};
 
-use wasm_syntax::{Body, FuncType, Heights, Instr, LocalGroup, Op};
+use wasm_syntax::{Body, FuncType, Heights, Instr, LimitsList, LocalGroup, ModuleParts, Op};
 
 /// The operand heights of the function of this number, where it has any.
 pub(crate) fn heights_of(heights: &Heights, i: usize) -> &[u32]
@@ -107,4 +109,31 @@ pub(crate) fn highest_of(heights: &[u32], ops: &[Op]) -> u64
         most = greater(most, height_before(heights, j));
     }
     most
+}
+
+/// The weight of a function that is called from outside.
+pub(crate) fn entry_weight(parts: &ModuleParts, function: u32) -> u64
+    requires { entry_weight parts.now function < 2 ^ 64 }
+    ensures { result ≡ entry_weight parts.now function }
+{
+    let parameters = parameters_of(parts.type_of(function as usize));
+    128 + 16 * parameters + 16 * parts.globals.len() as u64
+}
+
+pub(crate) fn wide(n: u32) -> u64
+    ensures is { result ≡ n }
+    ensures small { result < 2 ^ 32 }
+{
+    u64::from(n)
+}
+
+/// The least size of the table, in elements; 0 where there is none.
+pub(crate) fn least_size(tables: &LimitsList) -> u64
+    ensures is { result ≡ table_min tables.now }
+    ensures small { result < 2 ^ 32 }
+{
+    match tables.as_slice().first() {
+        Some(limits) => wide(limits.min),
+        None => 0,
+    }
 }

@@ -5,12 +5,15 @@ ghost use Rattle.wasm_syntax.specs.declared.module.ModuleParts.{ModuleParts as P
 ghost use Rattle.wasm_syntax.specs.Module.{Program, IsProgram, function_types};
 ghost use Rattle.wasm_syntax.specs.Valid.{Valid};
 ghost use Rattle.wasm_format_laws.specs.Sized.{Sized};
-ghost use Rattle.rewrite_bodies.specs.Numbering.{flag_of, frame_import, helped, helper_base, is_in, mapped, place_in, value_import, wrapped, wrapper_base};
+ghost use Rattle.wasm_syntax.specs.Run.{table_min};
+ghost use Rattle.rewrite_bodies.specs.Numbering.{doubles, element_functions, flag_of, frame_import, helped, helper_base, is_in, mapped, place_in, shown, value_import, wrapped, wrapper_base};
 ghost use Rattle.rewrite_modules.specs.Instrument.{new_exports, new_start};
 ghost use Rattle.rewrite_modules.specs.Weight.{types_used};
 ghost use Rattle.index_map.specs.calls.Wrapper.{HasWrapper, wrapper_of};
 ghost use Rattle.index_map.specs.inner.Kept.{CanBeNumbered};
 
+use crate::count::least_size;
+use crate::shown::{TableFunctions, doubles, push_table, table_functions};
 use crate::used::used_types;
 use crate::wrapped::{indices, of_exports, push_start};
 use causes::NoMemory;
@@ -19,19 +22,24 @@ use std::alloc::Global;
 use std::marker::Model;
 use wasm_syntax::{Module, ModuleParts, ValType};
 
-/// Where functions, the flag and helpers stand in the rewriting of a module. Contracts see it as
-/// the module.
+/// Where functions, the flag, helpers and what a host sees of the table stand in the rewriting of a
+/// module. Contracts see it as the module.
 #[derive(Drop)]
 pub struct IndexMap<'a> {
     parts: &'a ModuleParts,
     /// How many exports have a wrapper.
     exported: usize,
+    /// How many functions have one beside those of the table: of exports, and the start function.
+    named: usize,
+    /// Whether the table is doubled, for a host.
+    doubled: bool,
     wrapped: Items<u32>,
     exports: Items<u32>,
     helped: Items<u32>,
     /// For each type of the module, how many of the types with a helper stand behind it; None where
     /// it has none.
     places: Items<Option<usize>>,
+    table: TableFunctions,
 }
 
 impl<'a> Model for IndexMap<'a> {
@@ -42,10 +50,11 @@ impl<'a> Model for IndexMap<'a> {
 
     ghost view = { λ s. s.parts.now };
 
-    ghost invariant = { λ s. IsMap s.parts.now s.exported s.wrapped s.exports s.helped s.places };
+    ghost invariant = { λ s. IsMap s.parts.now s.exported s.named s.doubled s.wrapped s.exports
+        s.helped s.table.functions s.places s.table.places };
 }
 
-/// The place of a type among `count` types, by the table of how many stand behind it.
+/// The place of a number among `count` ones, by the list of how many stand behind each.
 fn place_of(places: &Items<Option<usize>>, count: usize, t: u32) -> usize
     requires { (k : ℕ) → slice_get places.now t ≡ Some (Some k) → k < count }
     ensures { (k : ℕ) → slice_get places.now t ≡ Some (Some k) → result + suc k ≡ count }
@@ -64,6 +73,10 @@ fn number<'a>(alloc: Global, parts: &'a ModuleParts) -> Result<IndexMap<'a>, NoM
     let mut wrapped = of_exports(alloc, parts)?;
     let exported = wrapped.as_slice().len();
     push_start(&mut wrapped, parts)?;
+    let named = wrapped.as_slice().len();
+    let table = table_functions(alloc, parts)?;
+    let doubled = doubles(parts, table.functions.as_slice());
+    push_table(&mut wrapped, doubled, table.functions.as_slice())?;
     let exports = indices(
         alloc,
         parts,
@@ -73,10 +86,13 @@ fn number<'a>(alloc: Global, parts: &'a ModuleParts) -> Result<IndexMap<'a>, NoM
     Ok(IndexMap {
         parts,
         exported,
+        named,
+        doubled,
         wrapped: Items::from_vec(wrapped),
         exports: Items::from_vec(exports),
         helped: used.types,
         places: used.places,
+        table,
     })
 }
 
@@ -135,8 +151,40 @@ impl<'a> IndexMap<'a> {
         self.parts.globals.len() as u32
     }
 
+    /// Whether the table is twice as long, for a host that sees it: its first half is for the host,
+    /// with a wrapper for each function that the module defines, and its second half has the
+    /// entries of the module.
+    pub fn doubles(&self) -> bool
+        ensures { result ≡ doubles self.now }
+    {
+        self.doubled
+    }
+
+    /// The least size of the module's own table, in elements; 0 where there is none.
+    pub fn table_size(&self) -> u32
+        ensures { result ≡ table_min self.now.tables }
+    {
+        least_size(&self.parts.tables) as u32
+    }
+
+    /// What a host sees in place of a function of the table: its wrapper, where the module defines
+    /// it.
+    pub fn shown(&self, f: u32) -> u32
+        requires doubled { doubles self.now ≡ true }
+        requires there { is_in f (element_functions self.now) ≡ true }
+        ensures { result ≡ shown self.now f }
+    {
+        if (f as usize) < self.parts.imports.len() {
+            f
+        } else {
+            let count = self.table.functions.len();
+            self.wrapper_base() + (self.named + place_of(&self.table.places, count, f)) as u32
+        }
+    }
+
     /// The functions that have a wrapper: one for each export of a function that the module
-    /// defines, and the start function, where the module defines it.
+    /// defines; the start function, where the module defines it; and the functions of the table
+    /// that the module defines, each once, where the table is doubled.
     pub fn wrapped(&self) -> &[u32]
         ensures { result.now ≡ wrapped self.now }
     {

@@ -1,5 +1,5 @@
-//! Numbers of a rewritten module: where functions, flag and helpers stand, names that the rewriting
-//! takes, its weight and its limits.
+//! Numbers of a rewritten module: where functions, flag and helpers stand, what a host sees of its
+//! table, names that the rewriting takes, its weight and its limits.
 #![tactic(auto)]
 
 mod collisions;
@@ -8,6 +8,8 @@ mod indices;
 pub mod laws;
 pub mod limit_laws;
 mod limits;
+mod offsets;
+mod shown;
 mod used;
 mod weights;
 mod wrapped;
@@ -15,4 +17,5 @@ mod wrapped;
 pub use collisions::{export_collision, import_collision};
 pub use indices::IndexMap;
 pub use limits::{Excess, first_excess};
+pub use offsets::element_at;
 pub use weights::weight;

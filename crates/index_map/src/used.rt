@@ -1,4 +1,4 @@
-//! The types that `call_indirect`s use.
+//! The types that `call_indirect`s use. Numbers are met from the last one on, each once.
 
 ghost use Rattle.std.specs.Prelude.{◌≡◌, ℕ, ◌<◌, ◌∷◌, ◌++◌, List, None, length, replicate, IfOk, OnOk};
 ghost use Rattle.rewrite_modules.specs.Weight.{type_used};
@@ -19,7 +19,7 @@ pub(crate) struct UsedTypes {
 }
 
 /// Meets a type.
-fn meet(met: &mut Vec<u32>, places: &mut [Option<usize>], t: u32) -> Result<(), NoMemory>
+pub(crate) fn meet(met: &mut Vec<u32>, places: &mut [Option<usize>], t: u32) -> Result<(), NoMemory>
     requires { t < length places.old }
     ensures { (us : List ℕ) → HasMet us met.old.items places.old
         → OnOk result (HasMet (t ∷ us) met.new.items places.new) }
@@ -79,7 +79,7 @@ fn meet_bodies(
 }
 
 /// A table in which no type was met.
-fn new_places(alloc: Global, count: usize) -> Result<Vec<Option<usize>>, NoMemory>
+pub(crate) fn new_places(alloc: Global, count: usize) -> Result<Vec<Option<usize>>, NoMemory>
     ensures { IfOk result (λ places. places.items ≡ replicate count None) }
 {
     let places = vec![in alloc; None; count]?;

@@ -9,10 +9,11 @@ ghost use Rattle.wasm_syntax.specs.Quantity.{greatest};
 ghost use Rattle.wasm_syntax.specs.Run.{table_min};
 ghost use Rattle.wasm_syntax.specs.Sizes.{WithinLimits, local_count};
 ghost use Rattle.wasm_format_laws.specs.Sized.{Sized};
-ghost use Rattle.rewrite_modules.specs.Weight.{bodies_weight, entry_weight, exports_weight, extra, height_at, op_weight, ops_weight, start_weight, types_used, weight};
+ghost use Rattle.rewrite_bodies.specs.Numbering.{entry_weight};
+ghost use Rattle.rewrite_modules.specs.Weight.{bodies_weight, exports_weight, extra, height_at, op_weight, ops_weight, start_weight, types_used, weight};
 
 use crate::IndexMap;
-use crate::count::{height_before, heights_of, locals_of, parameters_of};
+use crate::count::{entry_weight, height_before, heights_of, least_size, locals_of};
 use wasm_syntax::{
     Basic, Body, Export, ExportKind, FuncType, Heights, Instr, LimitsList, ModuleParts, Op,
 };
@@ -75,15 +76,6 @@ fn bodies_weight(parts: &ModuleParts, heights: &Heights) -> u64
     sum
 }
 
-/// The weight of a function that is called from outside.
-fn entry_weight(parts: &ModuleParts, function: u32) -> u64
-    requires { entry_weight parts.now function < 2 ^ 64 }
-    ensures { result ≡ entry_weight parts.now function }
-{
-    let parameters = parameters_of(parts.type_of(function as usize));
-    128 + 16 * parameters + 16 * parts.globals.len() as u64
-}
-
 /// The weight of an export: none, where it names no function.
 fn export_weight(parts: &ModuleParts, export: &Export) -> u64
     requires { (if is_function export.now.kind then entry_weight parts.now export.now.index else 0)
@@ -126,24 +118,6 @@ fn types_weight(count: usize, tables: &LimitsList) -> u64
     ensures { result ≡ count * (128 + 5 * table_min tables.now) }
 {
     count as u64 * (128 + 5 * least_size(tables))
-}
-
-fn wide(n: u32) -> u64
-    ensures is { result ≡ n }
-    ensures small { result < 2 ^ 32 }
-{
-    u64::from(n)
-}
-
-/// The least size of the table, in elements; 0 where there is none.
-fn least_size(tables: &LimitsList) -> u64
-    ensures is { result ≡ table_min tables.now }
-    ensures small { result < 2 ^ 32 }
-{
-    match tables.as_slice().first() {
-        Some(limits) => wide(limits.min),
-        None => 0,
-    }
 }
 
 /// The sum of the parts, where so many types are used to call functions through a table.

@@ -1,5 +1,5 @@
 -- What is put together of accepted bodies is a rewriting.
-use Rattle.std.proofs.Common.{◌≡◌, ℕ, zero, suc, ◌+◌, ◌^◌, ◌<◌, List, [], ◌∷◌, ◌++◌, length, map, true, refl, sym, ap, ◌∙◌, lit<, arith, length-append}
+use Rattle.std.proofs.Common.{◌≡◌, ℕ, zero, suc, ◌+◌, ◌^◌, ◌<◌, List, [], ◌∷◌, ◌++◌, length, map, Bool, true, false, if◌then◌else◌, refl, sym, ap, ap₂, ◌∙◌, lit<, arith, length-append}
 use Rattle.std.specs.List.{AllByRecursion}
 use Rattle.std.proofs.lemmas.List.{length-map, map-append}
 use Rattle.wasm_syntax.specs.declared.parts.Global.{Global}
@@ -7,15 +7,17 @@ use Rattle.wasm_syntax.specs.declared.parts.Body.{Body}
 use Rattle.wasm_syntax.specs.declared.module.ModuleParts.{ModuleParts as Module}
 use Rattle.wasm_syntax.specs.declared.place.Place.TheVariants.{ElementAt}
 use Rattle.wasm_syntax.specs.declared.value.ValType.TheVariants.{I32}
-use Rattle.wasm_syntax.specs.Module.{Program, IsModule, function_types}
+use Rattle.wasm_syntax.specs.Module.{Program, IsModule, IsExpression, function_types}
 use Rattle.wasm_syntax.specs.Sizes.{WithinLimits}
 use Rattle.wasm_syntax.specs.Valid.{Valid, There, AtIndex, ElementFine}
 use Rattle.wasm_encode.specs.Encoding.{function_type_bytes}
-use Rattle.wasm_laws.proofs.Lists.{all_of}
-use Rattle.rewrite_bodies.specs.Numbering.{wrapped, helped}
-use Rattle.wasm_syntax.specs.SameCode.{body_code, global_code, code_alone}
+use Rattle.wasm_laws.proofs.Lists.{all_of, all_append, all_map}
+use Rattle.wasm_syntax.specs.declared.parts.ElementSeg.{ElementSeg}
+use Rattle.wasm_syntax.specs.Run.{table_min, element_at}
+use Rattle.rewrite_bodies.specs.Numbering.{mapped, doubles, wrapped, helped}
+use Rattle.wasm_syntax.specs.SameCode.{body_code, global_code, element_code, code_alone}
 use Rattle.rewrite_modules.specs.calls.Given.{Given}
-use Rattle.rewrite_modules.specs.Instrument.{wrapper_type, zero_init, new_module}
+use Rattle.rewrite_modules.specs.Instrument.{wrapper_type, number_init, zero_init, shown_element, inner_element, shown_elements, new_module}
 use Rattle.rewrite_modules.specs.Instrumentable.{program_of}
 use Rattle.rewrite_modules.specs.Weight.{types_used}
 use Rattle.rewrite_modules.proofs.Modules.{module_given}
@@ -24,13 +26,13 @@ use Rattle.rewrite_modules.proofs.ValidModule.{new_valid}
 use Rattle.wasm_format_laws.proofs.Totals.{total_many}
 use Rattle.rewrite_promise.proofs.Lists.{within, type_some}
 use Rattle.rewrite_promise.specs.Promise.{Accepted, IsRewriting, Promised}
-use Rattle.rewrite_promise.proofs.Laid.{laid, laid_is, laid_same}
+use Rattle.rewrite_promise.proofs.Laid.{laid, laid_is, laid_same, number_is}
 use Rattle.rewrite_promise.proofs.Kept.{promised}
 use Rattle.rewrite_promise.specs.calls.Layers.{Layered}
 use Rattle.rewrite_promise.proofs.Layered.{layered}
 use Rattle.index_map.proofs.Trees.{helped_used}
 use Rattle.instrument.specs.calls.Assembly.{AreBodies}
-use Rattle.instrument.specs.inner.Parts.{ElementThere, flag, new_parts}
+use Rattle.instrument.specs.inner.Parts.{ElementThere, number_code, written_element, written_elements, flag, new_parts}
 use Rattle.instrument.proofs.Trees.{valid_trees, all_in_order}
 use Rattle.rewrite_modules.proofs.EncodedLengths.{contents_least}
 
@@ -101,6 +103,25 @@ module _ (m : Module) (bodies : List Body) (are : AreBodies m bodies) where
       let nine = length-map (helped p) (λ (u : ℕ). length m.types + 3) in
       omega (arith, one, two, three, four, five, six, seven, eight, nine, ap length are.code, ap length laid_code, ap length used, whole.as_many)
 
+  -- the offsets of the segments are expressions: those of the module, and numbers
+  written_is : AllByRecursion (λ (e : ElementSeg). IsExpression e.offset) (written_elements m)
+  written_is = all_append (λ (e : ElementSeg). IsExpression e.offset) (shown_elements m) (map (written_element m) m.elements) (in_front (doubles m)) (behind (doubles m))
+    where
+      own : AllByRecursion (λ (e : ElementSeg). IsExpression e.offset) m.elements
+      own = a.premises.whole.elements
+
+      in_front : (q : Bool) → AllByRecursion (λ (e : ElementSeg). IsExpression e.offset) (if q then map (shown_element m) m.elements else [])
+      in_front false = tt
+      in_front true = all_map (λ (e : ElementSeg). IsExpression e.offset) (shown_element m) m.elements own
+
+      behind : (q : Bool) → AllByRecursion (λ (e : ElementSeg). IsExpression e.offset) (map (λ e. record { table = e.table; offset = if q then number_code (element_at m e + table_min m.tables) else e.offset; functions = map (mapped m) e.functions }) m.elements)
+      behind false = all_map (λ (e : ElementSeg). IsExpression e.offset) (λ e. record { table = e.table; offset = e.offset; functions = map (mapped m) e.functions }) m.elements own
+      behind true = numbers m.elements
+        where
+          numbers : (es : List ElementSeg) → AllByRecursion (λ (e : ElementSeg). IsExpression e.offset) (map (λ e. record { table = e.table; offset = number_code (element_at m e + table_min m.tables); functions = map (mapped m) e.functions }) es)
+          numbers [] = tt
+          numbers (e ∷ es) = (number_is (element_at m e + table_min m.tables), numbers es)
+
   pub made_whole : IsModule made
   made_whole =
       let trees = valid_trees new bodies valid are.code in
@@ -110,7 +131,7 @@ module _ (m : Module) (bodies : List Body) (are : AreBodies m bodies) where
         in_order = all_in_order bodies (laid p).bodies (are.code ∙ laid_code) limits.short.each_body are.ascend whole.in_order;
         as_many = as_many;
         globals = whole.globals;
-        elements = whole.elements;
+        elements = written_is;
         segments = whole.segments;
         import_modules = whole.import_modules;
         import_names = whole.import_names;
@@ -125,7 +146,7 @@ module _ (m : Module) (bodies : List Body) (are : AreBodies m bodies) where
   zero_flag = record { vtype = I32; mutable = true; init = zero_init }
 
   made_same : code_alone new ≡ code_alone made
-  made_same = same functions globals (sym are.code)
+  made_same = same functions globals elements (sym are.code)
     where
       functions : with_types (helped p) ≡ with_types (types_used m)
       functions = ap with_types used
@@ -133,8 +154,19 @@ module _ (m : Module) (bodies : List Body) (are : AreBodies m bodies) where
       globals : map global_code (m.globals ++ zero_flag ∷ []) ≡ map global_code (m.globals ++ flag ∷ [])
       globals = map-append global_code m.globals (zero_flag ∷ []) ∙ sym (map-append global_code m.globals (flag ∷ []))
 
-      same : {fs fs' : List ℕ} {gs gs' : List Global} {bs bs' : List Body} → fs ≡ fs' → gs ≡ gs' → bs ≡ bs' → ◌≡◌ {A = Module} (record (code_alone new) { functions = fs; globals = gs; bodies = bs }) (record (code_alone new) { functions = fs'; globals = gs'; bodies = bs' })
-      same e d b = cc
+      written : (q : Bool) (e : ElementSeg) → element_code (record { table = e.table; offset = if q then number_init (element_at m e + table_min m.tables) else e.offset; functions = map (mapped m) e.functions }) ≡ element_code (record { table = e.table; offset = if q then number_code (element_at m e + table_min m.tables) else e.offset; functions = map (mapped m) e.functions })
+      written false e = refl
+      written true e = refl
+
+      each_written : (es : List ElementSeg) → map element_code (map (inner_element m) es) ≡ map element_code (map (written_element m) es)
+      each_written [] = refl
+      each_written (e ∷ es) = ap₂ (λ x xs. x ∷ xs) (written (doubles m) e) (each_written es)
+
+      elements : map element_code (shown_elements m ++ map (inner_element m) m.elements) ≡ map element_code (written_elements m)
+      elements = map-append element_code (shown_elements m) (map (inner_element m) m.elements) ∙ ap (λ z. map element_code (shown_elements m) ++ z) (each_written m.elements) ∙ sym (map-append element_code (shown_elements m) (map (written_element m) m.elements))
+
+      same : {fs fs' : List ℕ} {gs gs' : List Global} {es es' : List ElementSeg} {bs bs' : List Body} → fs ≡ fs' → gs ≡ gs' → es ≡ es' → bs ≡ bs' → ◌≡◌ {A = Module} (record (code_alone new) { functions = fs; globals = gs; elements = es; bodies = bs }) (record (code_alone new) { functions = fs'; globals = gs'; elements = es'; bodies = bs' })
+      same f g e b = cc
 
   pub made_rewriting : IsRewriting m made
   made_rewriting = record {

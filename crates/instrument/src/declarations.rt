@@ -5,7 +5,7 @@ ghost use Rattle.wasm_syntax.specs.declared.value.ValType.TheVariants.{I32, I64}
 ghost use Rattle.rewrite_bodies.specs.Guards.{helper_type};
 ghost use Rattle.rewrite_bodies.specs.Numbering.{frame_type, value_type};
 ghost use Rattle.rewrite_modules.specs.Collector.{collector_import};
-ghost use Rattle.instrument.specs.inner.Parts.{flag, more_imports, more_types};
+ghost use Rattle.instrument.specs.inner.Parts.{flag, more_imports, more_types, number_code};
 
 use crate::copies::duplicates;
 use causes::NoMemory;
@@ -73,21 +73,28 @@ fn placed(at: u32, code: Instr) -> Op
     Op { at, len: 0, code }
 }
 
+/// The constant expression of a number (Core 3.3.7), with numbers in place of offsets.
+pub(crate) fn number_code(alloc: Global, number: u32) -> Result<Body, NoMemory>
+    ensures { IfOk result (λ body. body ≡ number_code number) }
+{
+    let value = Instr::Basic(Basic::Const(Value::I32(number)));
+    let ops = Items::from_slice(alloc, &[placed(0, value), placed(1, Instr::End)])?;
+    Ok(Body {
+        groups: Items::new(alloc),
+        ops,
+        targets: Items::new(alloc),
+        start: 0,
+    })
+}
+
 /// The flag, which is down at first.
 fn new_flag(alloc: Global) -> Result<GlobalPart, NoMemory>
     ensures { IfOk result (λ global. global ≡ flag) }
 {
-    let zero = Instr::Basic(Basic::Const(Value::I32(0)));
-    let ops = Items::from_slice(alloc, &[placed(0, zero), placed(1, Instr::End)])?;
     Ok(GlobalPart {
         vtype: ValType::I32,
         mutable: true,
-        init: Body {
-            groups: Items::new(alloc),
-            ops,
-            targets: Items::new(alloc),
-            start: 0,
-        },
+        init: number_code(alloc, 0)?,
     })
 }
 

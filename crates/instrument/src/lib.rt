@@ -9,7 +9,6 @@ mod entries;
 mod exports;
 mod functions;
 mod module;
-mod offsets;
 mod refusal;
 mod table;
 mod whole;

@@ -6,8 +6,8 @@ ghost use Rattle.wasm_syntax.specs.Run.{table_min as least_table, over};
 ghost use Rattle.rewrite_bodies.specs.Guards.{first_table};
 ghost use Rattle.instrument.specs.inner.Tables.{put_inside};
 
-use crate::offsets::element_at;
 use causes::NoMemory;
+use index_map::element_at;
 use pm_text::Items;
 use std::alloc::Global;
 use wasm_syntax::ModuleParts;

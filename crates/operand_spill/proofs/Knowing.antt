@@ -16,11 +16,11 @@ use Rattle.wasm_syntax.specs.declared.module.ModuleParts.{ModuleParts as Module}
 use Rattle.wasm_syntax.specs.Machine.{result_of}
 use Rattle.wasm_syntax.specs.Module.{type_at}
 use Rattle.wasm_syntax.specs.Tree.{Jump, Call, CallIndirect, Nodes, stop, basic, jump, block, loop, choose, Tree, Item, Plain, Goes as JumpGoes, Opens as BlockOpens, OpensLoop, OpensIf, Else, End, IsTree, Placed, placed, else_out, write, Writes, WritesOut, code_of, item_of}
-use Rattle.rewrite_bodies.specs.Slots.{Place, Ctx, less, grown}
+use Rattle.rewrite_bodies.specs.Slots.{Place, Ctx, less, grown, after_plain}
 use Rattle.operand_spill.specs.declared.labels.Label.TheVariants as kept
 use Rattle.operand_spill.specs.declared.labels.OpenBlock.{OpenBlock}
 use Rattle.operand_spill.specs.calls.Walking.{Walking, walking, with_places, opening, behind_block, at_start, alternating_in, alternating, closing_in, closing}
-use Rattle.operand_spill.specs.calls.Standing.{Due, before_end, before_else, flat, after_instr, IsLast}
+use Rattle.operand_spill.specs.calls.Standing.{Due, before_end, before_else, flat, IsLast}
 use Rattle.operand_spill.proofs.Shapes.{Begins, Shape, shape, begins}
 use Rattle.operand_spill.specs.calls.Before.{dead, live, after_call, after_jump, before, constant_of, known_among}
 use Rattle.operand_spill.specs.declared.places.Flow.{Flow}
@@ -132,10 +132,10 @@ module _ (C : Ctx) (code : List Placed) (whole : Places) where
       let lt : pc < length code = omega (arith, length-drop pc code, ap length r.code_is, written r.nodes (flat r.dues) r.trees, some_due w.opens r.dues r.matched) in
       record { here = λ l. r; past = λ le. absurd (omega (arith, lt, le)) }
 
-  pub know_basic : (pc : ℕ) (w : Walking) (o : ℕ) (i : Basic) → Begins code pc o (Plain i) → Knows C code whole pc w → Proceeds C code whole (suc pc) (with_places w (after_instr C w.places i))
+  pub know_basic : (pc : ℕ) (w : Walking) (o : ℕ) (i : Basic) → Begins code pc o (Plain i) → Knows C code whole pc w → Proceeds C code whole (suc pc) (with_places w (after_plain C w.places i))
   know_basic pc w o i b r =
       let h = here pc w r o (Plain i) b in
-      goes (suc pc) (with_places w (after_instr C w.places i)) (record {
+      goes (suc pc) (with_places w (after_plain C w.places i)) (record {
         nodes = h.0;
         dues = r.dues;
         code_is = h.2;

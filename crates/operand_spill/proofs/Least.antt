@@ -76,7 +76,7 @@ module _ (p : Program) (write_ : IsProgram p) (typed_ : Typed p) (f : ℕ) (b : 
       let one = λ (g : ℕ) (u : FuncType) (e : type_at m g ≡ Some u). (let fn = typed_.functions g u e in one_result u.results (subst (λ q. length q.results ≤ 1) fn.2 (typed_.few g fn.0 fn.1))) in
       let one_of = λ (t : ℕ) (u : FuncType) (e : slice_get m.types t ≡ Some u). one_result u.results (typed_.few_types t u e) in
       let types1 : Types (inside (body_context m type b) (start ∷ [])) tree.nodes [] (reverse type.results) = subst (λ z. Types z tree.nodes [] (reverse type.results)) (sym (inside_body m type b result gives)) (typed_.bodies f b tree type at) in
-      peak_low C (reverse type.results) (reverse type.results ∷ []) N one one_of tree.nodes start [] [] [] [] (reverse type.results) (placed tree.end End ∷ []) writes.arms tt types1 refl refl
+      peak_low C (reverse type.results) (reverse type.results ∷ []) N one one_of tree.nodes start [] [] [] [] (reverse type.results) (placed tree.end End ∷ []) writes.arms tt types1 refl refl tt
       (λ ps rest blocks s ft lv.
       let split : code ≡ ps ++ rest = writes.out ∙ s in
       let front : take (length ps) code ≡ ps = ap (take (length ps)) split ∙ take-append_seam ps rest in

@@ -1,4 +1,5 @@
 pub mod Apart
+pub mod Performing
 pub mod Groups
 pub mod Greatest
 pub mod Least
@@ -7,4 +8,3 @@ pub mod Shapes
 pub mod Steps
 pub mod Skips
 pub mod Arms
-pub mod Opens

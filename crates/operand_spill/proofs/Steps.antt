@@ -1,24 +1,24 @@
 -- The steps of a walk: from a point before an instruction to the point behind it, where the piece of the instruction was written.
-use Rattle.std.proofs.Common.{◌≡◌, ℕ, suc, ◌<◌, ◌≤◌, Bool, true, false, nat_lt, List, [], ◌∷◌, ◌++◌, length, drop, slice_get, Option, Some, None, refl, sym, ap, subst, ◌∙◌, arith, length-drop}
+use Rattle.std.proofs.Common.{◌≡◌, ℕ, suc, ◌<◌, ◌≤◌, Bool, true, false, nat_lt, List, [], ◌∷◌, ◌++◌, length, drop, slice_get, option_map, Option, Some, None, refl, sym, ap, subst, ◌∙◌, arith, length-drop}
 use Rattle.wasm_syntax.specs.declared.value.ValType.{ValType}
 use Rattle.wasm_syntax.specs.declared.instruction.Basic.{Basic}
-use Rattle.wasm_syntax.specs.declared.instruction.Basic.TheVariants.{Nop, Drop, Select, LocalGet, LocalSet, LocalTee, GlobalGet, GlobalSet, Load, Store, MemorySize, MemoryGrow, MemoryCopy, MemoryFill, Const, Eqz, Unary, Compare, Binary, Convert, Extend32, Extend64}
 use Rattle.wasm_syntax.specs.declared.parts.FuncType.{FuncType}
 use Rattle.wasm_syntax.specs.Tree.{Jump, BrIf, Call, CallIndirect, Nodes, stop, basic, jump, block, loop, choose, Item, Plain, Goes, Opens as BlockOpens, OpensLoop, OpensIf, Else, End, Placed, placed, else_out, write, Tree, WritesOut}
 use Rattle.wasm_syntax.specs.Machine.{result_of}
 use Rattle.wasm_syntax.specs.Module.{type_at}
-use Rattle.rewrite_bodies.specs.Slots.{Place, Ctx, less, grown}
+use Rattle.rewrite_bodies.specs.Slots.{Place, Spilled, Ctx, less, grown, under, after_plain}
 use Rattle.rewrite_bodies.specs.Numbering.{import_count, mapped}
-use Rattle.rewrite_bodies.specs.Pieces.{call, fetch, load, to_result, from_result}
-use Rattle.rewrite_bodies.specs.Rewrite.{Info, in_block, in_body, end_gives, ending, instr, control, branch_if, call_code, indirect_code, after_direct, rewrite}
-use Rattle.rewrite_bodies.specs.calls.Agreement.{Room, Room_instr, Room_jump, Room_call}
+use Rattle.rewrite_bodies.specs.Pieces.{call, keep, spill}
+use Rattle.rewrite_bodies.specs.Rewrite.{plain, control, call_code, indirect_code, after_direct, rewrite}
+use Rattle.rewrite_bodies.specs.calls.Typed.{end_gives}
+use Rattle.rewrite_bodies.specs.calls.Agreement.{Room, Room_jump, Room_call}
 use Rattle.rewrite_bodies.proofs.Sim.{room_height}
 use Rattle.rewrite_code.specs.calls.Writing.{Written, Behind, ends, alternates, goes, Emits, EmitsLast, Opens, Alternates}
 use Rattle.operand_spill.specs.declared.labels.Label.TheVariants as kept
 use Rattle.operand_spill.specs.declared.labels.OpenBlock.{OpenBlock}
 use Rattle.operand_spill.specs.calls.Labels.{info}
-use Rattle.operand_spill.specs.calls.Walking.{Walking, walking, with_places, opened, infos, at_start, opening, behind_block, alternating_in, alternating, closing_in, closing}
-use Rattle.operand_spill.specs.calls.Standing.{Due, before_end, before_else, flat, after_instr, Armed, labels_in, Fine, IsLast, Around, rest_of, due, Stands, Leaves, Comes, Rewrites, Left}
+use Rattle.operand_spill.specs.calls.Walking.{Walking, walking, with_places, opened, at_start, opening, behind_block, alternating_in, alternating, closing_in, closing}
+use Rattle.operand_spill.specs.calls.Standing.{Due, before_end, before_else, flat, Armed, depth_in, Fine, IsLast, Around, rest_of, due, Stands, Leaves, Comes, Rewrites, Left}
 use Rattle.operand_spill.proofs.Shapes.{Begins, Shape, shape}
 use Rattle.rewrite_bodies.proofs.Control.{grown_longer}
 
@@ -48,57 +48,6 @@ some_due C (o ∷ os) (before_else at other end rest ∷ ds) around = omega arit
 pub longer : (C : Ctx) (rest : Nodes) (opens : List OpenBlock) (dues : List Due) → Around C opens dues → 1 ≤ length (write rest (flat dues))
 longer C rest opens dues around = omega (arith, written_longer rest (flat dues), some_due C opens dues around)
 
--- ---- basic instructions
-
--- the code behind a basic instruction is that over the places behind it
-instr_goes : (C : Ctx) (ls : List Info) (es : List Place) (o : ℕ) (i : Basic) (go : List Place → Nodes) → instr C ls es o i go ≡ instr C ls es o i (λ left. go (after_instr C es i))
-instr_goes C ls es o Nop go = refl
-instr_goes C ls es o Drop go = refl
-instr_goes C ls es o Select go = refl
-instr_goes C ls es o (LocalGet x) go = refl
-instr_goes C ls es o (LocalSet x) go = refl
-instr_goes C ls es o (LocalTee x) go = refl
-instr_goes C ls es o (GlobalGet x) go = refl
-instr_goes C ls es o (GlobalSet x) go = refl
-instr_goes C ls es o (Load l align offset) go = refl
-instr_goes C ls es o (Store l align offset) go = refl
-instr_goes C ls es o MemorySize go = refl
-instr_goes C ls es o MemoryGrow go = refl
-instr_goes C ls es o MemoryCopy go = refl
-instr_goes C ls es o MemoryFill go = refl
-instr_goes C ls es o (Const v) go = refl
-instr_goes C ls es o (Eqz t) go = refl
-instr_goes C ls es o (Unary t op) go = refl
-instr_goes C ls es o (Compare t op) go = refl
-instr_goes C ls es o (Binary t op) go = refl
-instr_goes C ls es o (Convert c) go = refl
-instr_goes C ls es o (Extend32 k) go = refl
-instr_goes C ls es o (Extend64 k) go = refl
-
-room_behind : (C : Ctx) (es : List Place) (i : Basic) (go : List Place → Type 0) → Room_instr C i es go → go (after_instr C es i)
-room_behind C es Nop go r = r.2
-room_behind C es Drop go r = r.2
-room_behind C es Select go r = r.2
-room_behind C es (LocalGet x) go r = r.2
-room_behind C es (LocalSet x) go r = r.2
-room_behind C es (LocalTee x) go r = r.2
-room_behind C es (GlobalGet x) go r = r.2
-room_behind C es (GlobalSet x) go r = r.2
-room_behind C es (Load l align offset) go r = r.2
-room_behind C es (Store l align offset) go r = r.2
-room_behind C es MemorySize go r = r.2
-room_behind C es MemoryGrow go r = r.2
-room_behind C es MemoryCopy go r = r.2
-room_behind C es MemoryFill go r = r.2
-room_behind C es (Const v) go r = r
-room_behind C es (Eqz t) go r = r.2
-room_behind C es (Unary t op) go r = r.2
-room_behind C es (Compare t op) go r = r.2
-room_behind C es (Binary t op) go r = r.2
-room_behind C es (Convert c) go r = r.2
-room_behind C es (Extend32 k) go r = r.2
-room_behind C es (Extend64 k) go r = r.2
-
 module _ (C : Ctx) (code : List Placed) (start : Written) (whole : Nodes) where
   abbrev pub Point : ℕ → Walking → Written → Type 0
   Point pc w now = Rewrites C code start whole pc w now
@@ -109,7 +58,7 @@ module _ (C : Ctx) (code : List Placed) (start : Written) (whole : Nodes) where
   -- a point with its nodes
   record At (pc : ℕ) (w : Walking) (now : Written) (nodes : Nodes) (dues : List Due) : Type 0 where
     pub stands : Stands C code pc w nodes dues
-    pub comes : Comes C start whole now (rewrite C (labels_in C w) w.places nodes) w.opens dues
+    pub comes : Comes C start whole now (rewrite C (depth_in w) w.places nodes) w.opens dues
 
   at : (pc : ℕ) (w : Walking) (now : Written) (r : Point pc w now) (nodes : Nodes) → r.nodes ≡ nodes → At pc w now nodes r.dues
   at pc w now r nodes e = subst (λ n. At pc w now n r.dues) e (record { stands = r.stands; comes = r.comes })
@@ -130,11 +79,11 @@ module _ (C : Ctx) (code : List Placed) (start : Written) (whole : Nodes) where
   point_room pc w now r = room_height C w.places r.nodes r.stands.fine.room
 
   pub step_basic : (pc : ℕ) (w : Walking) (now next : Written) (o : ℕ) (i : Basic) → Begins code pc o (Plain i) →
-      Emits (λ k. instr C (labels_in C w) w.places o i (λ es. k)) now next → Point pc w now → Point (suc pc) (with_places w (after_instr C w.places i)) next
+      Emits (λ k. plain C (depth_in w) w.places o i (λ es. k)) now next → Point pc w now → Point (suc pc) (with_places w (after_plain C w.places i)) next
   step_basic pc w now next o i b e r =
       let h = here pc w now r o (Plain i) b in
       let a = at pc w now r (basic o i h.0) h.1 in
-      let places = after_instr C w.places i in
+      let places = after_plain C w.places i in
       let more : List Behind = due C w.opens r.dues in
       record {
         nodes = h.0;
@@ -142,15 +91,14 @@ module _ (C : Ctx) (code : List Placed) (start : Written) (whole : Nodes) where
         stands = record {
           gives = r.stands.gives;
           code_is = h.2;
-          fine = record { room = room_behind C w.places i (λ es. Room C es h.0) a.stands.fine.room.1; arms = a.stands.fine.arms };
+          fine = record { room = a.stands.fine.room.3; arms = a.stands.fine.arms };
           around = r.stands.around;
           shallow = omega (arith, r.stands.shallow);
         };
         comes = record {
           comes = λ behind.
               a.comes.comes behind
-              ∙ ap (λ n. goes now n (more ++ behind)) (instr_goes C (labels_in C w) w.places o i (λ es. rewrite C (labels_in C w) es h.0))
-              ∙ e.emitted (rewrite C (labels_in C w) places h.0) (more ++ behind);
+              ∙ e.emitted (rewrite C (depth_in w) places h.0) (more ++ behind);
         };
       }
 
@@ -159,7 +107,7 @@ module _ (C : Ctx) (code : List Placed) (start : Written) (whole : Nodes) where
   -- behind such a jump, whose code goes on over these places
   goes_on : (pc : ℕ) (w : Walking) (now next : Written) (o : ℕ) (j : Jump) (places : List Place) → Begins code pc o (Goes j) →
       ((go : List Place → Type 0) → Room_jump C j w.places go → go places) →
-      ((go : List Place → Nodes) (behind : List Behind) → goes now (control C (labels_in C w) w.places o j go) behind ≡ goes next (go places) behind) →
+      ((go : List Place → Nodes) (behind : List Behind) → goes now (control C (depth_in w) w.places o j go) behind ≡ goes next (go places) behind) →
       Point pc w now → Point (suc pc) (with_places w places) next
   goes_on pc w now next o j places b room piece r =
       let h = here pc w now r o (Goes j) b in
@@ -176,40 +124,37 @@ module _ (C : Ctx) (code : List Placed) (start : Written) (whole : Nodes) where
           shallow = omega (arith, r.stands.shallow);
         };
         comes = record {
-          comes = λ behind. a.comes.comes behind ∙ piece (λ es. rewrite C (labels_in C w) es h.0) (more ++ behind);
+          comes = λ behind. a.comes.comes behind ∙ piece (λ es. rewrite C (depth_in w) es h.0) (more ++ behind);
         };
       }
 
-  pub step_branch_if : (pc : ℕ) (w : Walking) (now next : Written) (o l : ℕ) (p : Place) (es : List Place) → Begins code pc o (Goes (BrIf l)) → w.places ≡ p ∷ es →
-      Emits (λ k. branch_if C (labels_in C w) (p ∷ es) l (λ left. k)) now next → Point pc w now → Point (suc pc) (with_places w es) next
-  step_branch_if pc w now next o l p es b is e r =
-      goes_on pc w now next o (BrIf l) es b
-      (λ go room. subst (λ z. Room_jump C (BrIf l) z go) is room)
-      (λ go behind. ap (λ z. goes now (control C (labels_in C w) z o (BrIf l) go) behind) is ∙ e.emitted (go es) behind) r
+  pub step_branch_if : (pc : ℕ) (w : Walking) (now next : Written) (o l : ℕ) → Begins code pc o (Goes (BrIf l)) → Emits (λ k. jump 0 (BrIf l) k) now next → Point pc w now →
+      Point (suc pc) (with_places w (less 1 w.places)) next
+  step_branch_if pc w now next o l b e r = goes_on pc w now next o (BrIf l) (less 1 w.places) b (λ go room. room) (λ go behind. e.emitted (go (less 1 w.places)) behind) r
 
-  direct_goes : (b : Bool) (ls : List Info) (t : Option ValType) (es : List Place) (o : ℕ) (go : List Place → Nodes) → after_direct b C ls t es o go ≡ after_direct b C ls t es o (λ left. go (grown t es))
-  direct_goes true ls t es o go = refl
-  direct_goes false ls t es o go = refl
+  direct_goes : (b : Bool) (d : ℕ) (t : Option ValType) (es : List Place) (o : ℕ) (go : List Place → Nodes) → after_direct b C d t es o go ≡ after_direct b C d t es o (λ left. go (grown t es))
+  direct_goes true d t es o go = refl
+  direct_goes false d t es o go = refl
 
-  call_goes : (ls : List Info) (es : List Place) (o f : ℕ) (type : FuncType) (go : List Place → Nodes) →
-      call_code C ls es o f (Some type) go ≡ call_code C ls es o f (Some type) (λ left. go (grown (result_of type) (less (length type.params) es)))
-  call_goes ls es o f type go =
-      ap (λ code. load C (length type.params) es (call (mapped C.source f) code)) (direct_goes (nat_lt f (import_count C.source)) ls (result_of type) (less (length type.params) es) o go)
+  call_goes : (d : ℕ) (es : List Place) (o f : ℕ) (type : FuncType) (go : List Place → Nodes) →
+      call_code C d es o f (Some type) go ≡ call_code C d es o f (Some type) (λ left. go (grown (result_of type) (less (length type.params) es)))
+  call_goes d es o f type go =
+      ap (λ code. call (mapped C.source f) code) (direct_goes (nat_lt f (import_count C.source)) d (result_of type) (less (length type.params) es) o go)
 
   pub step_call : (pc : ℕ) (w : Walking) (now next : Written) (o f : ℕ) (type : FuncType) → Begins code pc o (Goes (Call f)) → type_at C.source f ≡ Some type →
-      Emits (λ k. call_code C (labels_in C w) w.places o f (Some type) (λ left. k)) now next → Point pc w now →
+      Emits (λ k. call_code C (depth_in w) w.places o f (Some type) (λ left. k)) now next → Point pc w now →
       Point (suc pc) (with_places w (grown (result_of type) (less (length type.params) w.places))) next
   step_call pc w now next o f type b is e r =
       let places = grown (result_of type) (less (length type.params) w.places) in
       goes_on pc w now next o (Call f) places b
       (λ go room. let z : Room_call C (Some type) w.places go = subst (λ q. Room_call C q w.places go) is room in z.1)
       (λ go behind.
-      ap (λ q. goes now (call_code C (labels_in C w) w.places o f q go) behind) is
-      ∙ ap (λ n. goes now n behind) (call_goes (labels_in C w) w.places o f type go)
+      ap (λ q. goes now (call_code C (depth_in w) w.places o f q go) behind) is
+      ∙ ap (λ n. goes now n behind) (call_goes (depth_in w) w.places o f type go)
       ∙ e.emitted (go places) behind) r
 
   pub step_call_indirect : (pc : ℕ) (w : Walking) (now next : Written) (o t : ℕ) (type : FuncType) (p : Place) (es : List Place) → Begins code pc o (Goes (CallIndirect t)) →
-      w.places ≡ p ∷ es → slice_get C.source.types t ≡ Some type → Emits (λ k. indirect_code C (labels_in C w) (p ∷ es) o t (Some type) (λ left. k)) now next → Point pc w now →
+      w.places ≡ p ∷ es → slice_get C.source.types t ≡ Some type → Emits (λ k. indirect_code C (depth_in w) (p ∷ es) o t (Some type) (λ left. k)) now next → Point pc w now →
       Point (suc pc) (with_places w (grown (result_of type) (less (length type.params) es))) next
   step_call_indirect pc w now next o t type p es b top is e r =
       let places = grown (result_of type) (less (length type.params) es) in
@@ -218,8 +163,8 @@ module _ (C : Ctx) (code : List Placed) (start : Written) (whole : Nodes) where
       let y : Room_jump C (CallIndirect t) (p ∷ es) go = subst (λ z. Room_jump C (CallIndirect t) z go) top room in
       let z : Room_call C (Some type) es go = subst (λ q. Room_call C q es go) is y.1 in z.1)
       (λ go behind.
-      ap (λ z. goes now (control C (labels_in C w) z o (CallIndirect t) go) behind) top
-      ∙ ap (λ q. goes now (indirect_code C (labels_in C w) (p ∷ es) o t q go) behind) is
+      ap (λ z. goes now (control C (depth_in w) z o (CallIndirect t) go) behind) top
+      ∙ ap (λ q. goes now (indirect_code C (depth_in w) (p ∷ es) o t q go) behind) is
       ∙ e.emitted (go places) behind) r
 
   -- ---- the end of a list
@@ -230,7 +175,7 @@ module _ (C : Ctx) (code : List Placed) (start : Written) (whole : Nodes) where
 
   -- the rewriting of what is left was written
   list_left : (pc to : ℕ) (w : Walking) (now next : Written) → EndsAt pc to → pc ≤ to → (r : Point pc w now) →
-      EmitsLast (rewrite C (labels_in C w) w.places r.nodes) now next → EndPoint to w next
+      EmitsLast (rewrite C (depth_in w) w.places r.nodes) now next → EndPoint to w next
   list_left pc to w now next end le r e =
       let more : List Behind = due C w.opens r.dues in
       record {
@@ -246,24 +191,14 @@ module _ (C : Ctx) (code : List Placed) (start : Written) (whole : Nodes) where
 
   -- a jump behind which nothing of its list is run
   pub step_transfer : (pc to : ℕ) (w : Walking) (now next : Written) (o : ℕ) (j : Jump) → Begins code pc o (Goes j) → EndsAt pc to → pc ≤ to →
-      ((go : List Place → Nodes) → EmitsLast (control C (labels_in C w) w.places o j go) now next) → Point pc w now → EndPoint to w next
+      ((go : List Place → Nodes) → EmitsLast (control C (depth_in w) w.places o j go) now next) → Point pc w now → EndPoint to w next
   step_transfer pc to w now next o j b end le e r =
       let h = here pc w now r o (Goes j) b in
-      list_left pc to w now next end le r (subst (λ n. EmitsLast (rewrite C (labels_in C w) w.places n) now next) (sym h.1) (e (λ es. rewrite C (labels_in C w) es h.0)))
-
-  -- an `if` without a condition
-  pub step_no_condition : (pc to : ℕ) (w : Walking) (now : Written) (o : ℕ) (t : Option ValType) → Begins code pc o (OpensIf t) → w.places ≡ [] → EndsAt pc to → pc ≤ to →
-      Point pc w now → EndPoint to w now
-  step_no_condition pc to w now o t b none end le r =
-      let h = here pc w now r o (OpensIf t) b in
-      let nothing : EmitsLast stop now now = record { emitted = λ behind. refl } in
-      list_left pc to w now now end le r
-      (subst (λ n. EmitsLast (rewrite C (labels_in C w) w.places n) now now) (sym h.5) (subst (λ es. EmitsLast (rewrite C (labels_in C w) es (choose o t h.0 h.1 h.2 h.3 h.4)) now now) (sym none) nothing))
+      list_left pc to w now next end le r (subst (λ n. EmitsLast (rewrite C (depth_in w) w.places n) now next) (sym h.1) (e (λ es. rewrite C (depth_in w) es h.0)))
 
   -- `else` or `end`, where no node is left
-  list_ended : (pc : ℕ) (w : Walking) (now next : Written) (i : Info) (r : Point pc w now) → r.nodes ≡ stop → slice_get (labels_in C w) 0 ≡ Some i →
-      ((ls : List Info) → EmitsLast (ending C (i ∷ ls) w.places) now next) → EndPoint pc w next
-  list_ended pc w now next i r none first e =
+  list_ended : (pc : ℕ) (w : Walking) (now : Written) (r : Point pc w now) → r.nodes ≡ stop → EndPoint pc w now
+  list_ended pc w now r none =
       let more : List Behind = due C w.opens r.dues in
       record {
         dues = r.dues;
@@ -273,34 +208,24 @@ module _ (C : Ctx) (code : List Placed) (start : Written) (whole : Nodes) where
           around = r.stands.around;
           shallow = r.stands.shallow;
         };
-        comes = record {
-          comes = λ behind.
-              r.comes.comes behind ∙ ap (λ n. goes now (rewrite C (labels_in C w) w.places n) (more ++ behind)) none
-              ∙ (by (labels_in C w) first).emitted (more ++ behind);
-        };
+        comes = record { comes = λ behind. r.comes.comes behind ∙ ap (λ n. goes now (rewrite C (depth_in w) w.places n) (more ++ behind)) none };
       }
-    where
-      by : (ls : List Info) → slice_get ls 0 ≡ Some i → EmitsLast (ending C ls w.places) now next
-      by [] f = absurd (let z : None ≡ Some i = f in cc)
-      by (k ∷ ls) f = let same : k ≡ i = cc in subst (λ z. EmitsLast (ending C (z ∷ ls) w.places) now next) (sym same) (e ls)
 
-  pub step_end : (pc : ℕ) (w : Walking) (now next : Written) (o : ℕ) (i : Info) → Begins code pc o End → slice_get (labels_in C w) 0 ≡ Some i →
-      ((ls : List Info) → EmitsLast (ending C (i ∷ ls) w.places) now next) → Point pc w now → EndPoint pc w next
-  step_end pc w now next o i b first e r = list_ended pc w now next i r (here pc w now r o End b).0 first e
+  pub step_end : (pc : ℕ) (w : Walking) (now : Written) (o : ℕ) → Begins code pc o End → Point pc w now → EndPoint pc w now
+  step_end pc w now o b r = list_ended pc w now r (here pc w now r o End b).0
 
-  pub step_else : (pc : ℕ) (w : Walking) (now next : Written) (o : ℕ) (i : Info) → Begins code pc o Else → slice_get (labels_in C w) 0 ≡ Some i →
-      ((ls : List Info) → EmitsLast (ending C (i ∷ ls) w.places) now next) → Point pc w now → EndPoint pc w next
-  step_else pc w now next o i b first e r = list_ended pc w now next i r (here pc w now r o Else b).0 first e
+  pub step_else : (pc : ℕ) (w : Walking) (now : Written) (o : ℕ) → Begins code pc o Else → Point pc w now → EndPoint pc w now
+  step_else pc w now o b r = list_ended pc w now r (here pc w now r o Else b).0
 
   -- ---- the beginnings of blocks
 
-  pub step_block : (pc : ℕ) (w : Walking) (now next : Written) (o : ℕ) (t : Option ValType) → Begins code pc o (BlockOpens t) → Opens (λ inner k. block 0 None inner 0 k) now next →
+  pub step_block : (pc : ℕ) (w : Walking) (now next : Written) (o : ℕ) (t : Option ValType) → Begins code pc o (BlockOpens t) → Opens (λ inner k. spill C (λ x. true) w.places (block 0 t inner 0 k)) now next →
       Point pc w now → Point (suc pc) (opening (kept.Block t) w) next
   step_block pc w now next o t b e r =
       let h = here pc w now r o (BlockOpens t) b in
       let a = at pc w now r (block o t h.0 h.1 h.2) h.3 in
       let more : List Behind = due C w.opens r.dues in
-      let block_ : OpenBlock = opened (kept.Block t) w.places in
+      let block_ : OpenBlock = opened (kept.Block t) (under w.places) in
       record {
         nodes = h.0;
         dues = before_end h.1 h.2 ∷ r.dues;
@@ -313,17 +238,17 @@ module _ (C : Ctx) (code : List Placed) (start : Written) (whole : Nodes) where
         };
         comes = record {
           comes = λ behind.
-              a.comes.comes behind ∙ e.opened (rewrite C (infos C.result (block_ ∷ w.opens)) w.places h.0) (rest_of C block_ w.opens h.2) (more ++ behind);
+              a.comes.comes behind ∙ e.opened (rewrite C (suc (depth_in w)) (under w.places) h.0) (rest_of C block_ w.opens h.2) (more ++ behind);
         };
       }
 
-  pub step_loop : (pc : ℕ) (w : Walking) (now next : Written) (o : ℕ) (t : Option ValType) → Begins code pc o (OpensLoop t) → Opens (λ inner k. loop 0 None inner 0 k) now next →
+  pub step_loop : (pc : ℕ) (w : Walking) (now next : Written) (o : ℕ) (t : Option ValType) → Begins code pc o (OpensLoop t) → Opens (λ inner k. spill C (λ x. true) w.places (loop 0 t inner 0 k)) now next →
       Point pc w now → Point (suc pc) (opening (kept.Loop t) w) next
   step_loop pc w now next o t b e r =
       let h = here pc w now r o (OpensLoop t) b in
       let a = at pc w now r (loop o t h.0 h.1 h.2) h.3 in
       let more : List Behind = due C w.opens r.dues in
-      let loop_ : OpenBlock = opened (kept.Loop t) w.places in
+      let loop_ : OpenBlock = opened (kept.Loop t) (under w.places) in
       record {
         nodes = h.0;
         dues = before_end h.1 h.2 ∷ r.dues;
@@ -336,34 +261,34 @@ module _ (C : Ctx) (code : List Placed) (start : Written) (whole : Nodes) where
         };
         comes = record {
           comes = λ behind.
-              a.comes.comes behind ∙ e.opened (rewrite C (infos C.result (loop_ ∷ w.opens)) w.places h.0) (rest_of C loop_ w.opens h.2) (more ++ behind);
+              a.comes.comes behind ∙ e.opened (rewrite C (suc (depth_in w)) (under w.places) h.0) (rest_of C loop_ w.opens h.2) (more ++ behind);
         };
       }
 
-  -- an `if` with the condition p over these places, with or without `else`
-  pub step_if : (pc : ℕ) (w : Walking) (now next : Written) (o : ℕ) (t : Option ValType) (p : Place) (es : List Place) → Begins code pc o (OpensIf t) → w.places ≡ p ∷ es →
-      Opens (λ arm k. fetch C p (length es) (choose 0 None arm None stop 0 k)) now next →
-      ((arm other k : Nodes) (behind : List Behind) → goes now (fetch C p (length es) (choose 0 None arm (Some 0) other 0 k)) behind ≡ goes next arm (alternates other k ∷ behind)) →
-      Point pc w now → Point (suc pc) (opening (kept.Block t) (with_places w es)) next
-  step_if pc w now next o t p es b is one two r =
+  -- an `if` over the operands under its condition, with or without `else`
+  pub step_if : (pc : ℕ) (w : Walking) (now next : Written) (o : ℕ) (t : Option ValType) → Begins code pc o (OpensIf t) →
+      Opens (λ arm k. spill C (λ x. true) (less 1 w.places) (choose 0 t arm None stop 0 k)) now next →
+      ((arm other k : Nodes) (behind : List Behind) → goes now (spill C (λ x. true) (less 1 w.places) (choose 0 t arm (Some 0) other 0 k)) behind ≡ goes next arm (alternates other k ∷ behind)) →
+      Point pc w now → Point (suc pc) (opening (kept.Block t) (with_places w (less 1 w.places))) next
+  step_if pc w now next o t b one two r =
       let h = here pc w now r o (OpensIf t) b in
       let a = at pc w now r (choose o t h.0 h.1 h.2 h.3 h.4) h.5 in
-      by h.0 h.1 h.2 h.3 h.4 h.6
-      (let z : Room C (p ∷ es) (choose o t h.0 h.1 h.2 h.3 h.4) = subst (λ z. Room C z (choose o t h.0 h.1 h.2 h.3 h.4)) is a.stands.fine.room in z)
-      a.stands.fine.arms
-      (λ behind. a.comes.comes behind ∙ ap (λ z. goes now (rewrite C (labels_in C w) z (choose o t h.0 h.1 h.2 h.3 h.4)) (due C w.opens r.dues ++ behind)) is)
+      by h.0 h.1 h.2 h.3 h.4 h.6 a.stands.fine.room a.stands.fine.arms (λ behind. a.comes.comes behind)
     where
-      block_ : OpenBlock
-      block_ = opened (kept.Block t) es
+      es : List Place
+      es = less 1 w.places
+
+      left : List Place
+      left = under es
 
       by : (x : Nodes) (else_at : Option ℕ) (y : Nodes) (end : ℕ) (rest : Nodes) → drop (suc pc) code ≡ write x (else_out else_at (write y (flat (before_end end rest ∷ r.dues)))) →
-          Room C (p ∷ es) (choose o t x else_at y end rest) → Armed (choose o t x else_at y end rest) →
-          ((behind : List Behind) → goes start whole behind ≡ goes now (rewrite C (labels_in C w) (p ∷ es) (choose o t x else_at y end rest)) (due C w.opens r.dues ++ behind)) →
+          Room C w.places (choose o t x else_at y end rest) → Armed (choose o t x else_at y end rest) →
+          ((behind : List Behind) → goes start whole behind ≡ goes now (rewrite C (depth_in w) w.places (choose o t x else_at y end rest)) (due C w.opens r.dues ++ behind)) →
           Point (suc pc) (opening (kept.Block t) (with_places w es)) next
       by x None y end rest e room arms comes =
-          let bare_arm : rewrite C (in_block t ∷ labels_in C w) es y ≡ stop = ap (rewrite C (in_block t ∷ labels_in C w) es) arms.1 ∙ ap (λ q. to_result C q es stop) arms.0 in
-          let k : Nodes = rest_of C (opened (kept.Block t) es) w.opens rest in
-          let arm : Nodes = rewrite C (in_block t ∷ labels_in C w) es x in
+          let bare_arm : rewrite C (suc (depth_in w)) left y ≡ stop = ap (rewrite C (suc (depth_in w)) left) arms.1 in
+          let k : Nodes = rest_of C (opened (kept.Block t) left) w.opens rest in
+          let arm : Nodes = rewrite C (suc (depth_in w)) left x in
           record {
             nodes = x;
             dues = before_end end rest ∷ r.dues;
@@ -376,14 +301,14 @@ module _ (C : Ctx) (code : List Placed) (start : Written) (whole : Nodes) where
             };
             comes = record {
               comes = λ behind.
-                  comes behind ∙ ap (λ n. goes now (fetch C p (length es) (choose 0 None arm None n 0 k)) (due C w.opens r.dues ++ behind)) bare_arm
+                  comes behind ∙ ap (λ n. goes now (spill C (λ x. true) es (choose 0 t arm None n 0 k)) (due C w.opens r.dues ++ behind)) bare_arm
                   ∙ one.opened arm k (due C w.opens r.dues ++ behind);
             };
           }
       by x (Some else_at) y end rest e room arms comes =
-          let k : Nodes = rest_of C (opened (kept.Block t) es) w.opens rest in
-          let arm : Nodes = rewrite C (in_block t ∷ labels_in C w) es x in
-          let other : Nodes = rewrite C (in_block t ∷ labels_in C w) es y in
+          let k : Nodes = rest_of C (opened (kept.Block t) left) w.opens rest in
+          let arm : Nodes = rewrite C (suc (depth_in w)) left x in
+          let other : Nodes = rewrite C (suc (depth_in w)) left y in
           record {
             nodes = x;
             dues = before_else else_at y end rest ∷ r.dues;
@@ -420,14 +345,14 @@ module _ (C : Ctx) (code : List Placed) (start : Written) (whole : Nodes) where
             comes = record {
               comes = λ behind.
                   comes behind ∙ ap (λ ds. goes now stop (due C (x ∷ xs) ds ++ behind)) d
-                  ∙ e.alternated (rewrite C (infos C.result (x ∷ xs)) x.saved other) (rest_of C x xs rest) (due C xs below ++ behind);
+                  ∙ e.alternated (rewrite C (suc (length (x ∷ xs))) x.saved other) (rest_of C x xs rest) (due C xs below ++ behind);
             };
           }
 
   -- the end of a block, but not of the body
   pub close : (pc : ℕ) (w : Walking) (now next : Written) (o : ℕ) → Begins code pc o End → suc pc < length code →
       ((block_ : OpenBlock) (others : List OpenBlock) → w.opens ≡ block_ ∷ others → (k : Nodes) (behind : List Behind) →
-      goes now stop (ends (from_result C (end_gives (info block_.label)) block_.saved k) ∷ behind) ≡ goes next k behind) →
+      goes now stop (ends (keep C (option_map Spilled (end_gives (info block_.label))) block_.saved k) ∷ behind) ≡ goes next k behind) →
       EndPoint pc w now → Point (suc pc) (closing w) next
   close pc w now next o b lt e r =
       let h = left_here pc w now r o End b in
@@ -436,7 +361,7 @@ module _ (C : Ctx) (code : List Placed) (start : Written) (whole : Nodes) where
       by : (opens : List OpenBlock) (dues : List Due) (rest : Nodes) (below : List Due) → dues ≡ before_end o rest ∷ below → drop (suc pc) code ≡ write rest (flat below) →
           Around C opens dues → length opens ≤ pc → ((behind : List Behind) → goes start whole behind ≡ goes now stop (due C opens dues ++ behind)) →
           ((block_ : OpenBlock) (others : List OpenBlock) → opens ≡ block_ ∷ others → (k : Nodes) (behind : List Behind) →
-          goes now stop (ends (from_result C (end_gives (info block_.label)) block_.saved k) ∷ behind) ≡ goes next k behind) →
+          goes now stop (ends (keep C (option_map Spilled (end_gives (info block_.label))) block_.saved k) ∷ behind) ≡ goes next k behind) →
           Point (suc pc) (closing_in (walking w.gives w.places opens) opens) next
       by [] dues rest below d k around le comes e =
           let last : (rest ≡ stop) × (below ≡ []) = subst IsLast d around in
@@ -451,7 +376,7 @@ module _ (C : Ctx) (code : List Placed) (start : Written) (whole : Nodes) where
             comes = record {
               comes = λ behind.
                   comes behind ∙ ap (λ ds. goes now stop (due C (x ∷ xs) ds ++ behind)) d
-                  ∙ e x xs refl (rewrite C (infos C.result xs) (behind_block x) rest) (due C xs below ++ behind);
+                  ∙ e x xs refl (rewrite C (suc (length xs)) (behind_block x) rest) (due C xs below ++ behind);
             };
           }
 
@@ -506,7 +431,7 @@ open_before_last C code pc w dues l lt = by w.opens refl
 -- ---- the beginning
 
 pub begin : (C : Ctx) (code : List Placed) (start : Written) (tree : Tree) → WritesOut code tree → Room C [] tree.nodes → Armed tree.nodes →
-    Rewrites C code start (rewrite C (in_body C.result ∷ []) [] tree.nodes) 0 (at_start C.result) start
+    Rewrites C code start (rewrite C 1 [] tree.nodes) 0 (at_start C.result) start
 begin C code start tree writes room arms = record {
   nodes = tree.nodes;
   dues = before_end tree.end stop ∷ [];

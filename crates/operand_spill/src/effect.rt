@@ -1,12 +1,13 @@
 //! What a basic instruction takes and gives.
 
-ghost use Rattle.std.specs.Prelude.{◌≡◌, map, slice_get};
+ghost use Rattle.std.specs.Prelude.{◌≡◌, map, option_map, slice_get};
 ghost use Rattle.wasm_syntax.specs.Access.{load_type};
 ghost use Rattle.wasm_syntax.specs.Effect.{takes};
 ghost use Rattle.wasm_syntax.specs.Numbers.{convert_to, type_of};
-ghost use Rattle.rewrite_bodies.specs.Slots.{Ctx, second_type, result_type};
+ghost use Rattle.rewrite_bodies.specs.Slots.{Ctx, Spilled as SpilledOf, Copied as CopiedOf, second_type, result_type, result_place};
+ghost use Rattle.rewrite_code.specs.calls.Places.{place};
 
-use rewrite_code::OperandPlaces;
+use rewrite_code::{OperandPlace, OperandPlaces};
 use wasm_syntax::{Basic, Convert, Load, ModuleParts, ValType, Value};
 
 /// How many operands an instruction takes.
@@ -88,9 +89,9 @@ fn global_type(source: &ModuleParts, global: u32) -> Option<ValType>
     }
 }
 
-/// What an instruction gives over these operands, in a function of this module with these locals.
-/// An index that is out of range gives nothing.
-pub fn result_type(
+/// The type of what an instruction gives over these operands, in a function of this module with
+/// these locals. An index that is out of range gives nothing.
+fn result_type(
     locals: &[ValType],
     source: &ModuleParts,
     places: &OperandPlaces,
@@ -120,5 +121,44 @@ pub fn result_type(
         | Basic::Compare(_, _)
         | Basic::Extend32(_) => Some(ValType::I32),
         Basic::Extend64(_) => Some(ValType::I64),
+    }
+}
+
+/// A copy of a local.
+fn copy_of(locals: &[ValType], local: u32) -> Option<OperandPlace>
+    ensures { option_map place result
+        ≡ option_map (λ t. CopiedOf t local) (slice_get locals.now local) }
+{
+    match local_type(locals, local) {
+        Some(t) => Some(OperandPlace::Copied(t, local)),
+        None => None,
+    }
+}
+
+/// A value that is nowhere but in its slot.
+fn spilled(gives: Option<ValType>) -> Option<OperandPlace>
+    ensures { option_map place result ≡ option_map SpilledOf gives }
+{
+    match gives {
+        Some(t) => Some(OperandPlace::Spilled(t)),
+        None => None,
+    }
+}
+
+/// Where the value is that an instruction gives over these operands.
+pub fn result_place(
+    locals: &[ValType],
+    source: &ModuleParts,
+    places: &OperandPlaces,
+    instruction: Basic,
+) -> Option<OperandPlace>
+    ensures { (C : Ctx) → C.locals ≡ locals.now → C.source ≡ source.now
+        → option_map place result ≡ result_place C places.now instruction }
+{
+    match instruction {
+        Basic::Const(value) => Some(OperandPlace::Known(value)),
+        Basic::LocalGet(local) => copy_of(locals, local),
+        Basic::LocalTee(local) => copy_of(locals, local),
+        _ => spilled(result_type(locals, source, places, instruction)),
     }
 }

@@ -1,7 +1,7 @@
 //! Open labels.
 
 ghost use Rattle.std.specs.Prelude.{◌≡◌};
-ghost use Rattle.rewrite_bodies.specs.Rewrite.{carries, end_gives};
+ghost use Rattle.rewrite_bodies.specs.calls.Typed.{end_gives};
 ghost use Rattle.operand_spill.specs.calls.Labels.{info};
 
 use rewrite_code::OperandPlaces;
@@ -24,17 +24,6 @@ pub struct OpenBlock {
 }
 
 impl Label {
-    /// What a branch to the label carries.
-    pub fn carries(self) -> Option<ValType>
-        ensures { result ≡ carries (info self) }
-    {
-        match self {
-            Label::Block(t) => t,
-            Label::Loop(_) => None,
-            Label::Body(t) => t,
-        }
-    }
-
     /// What the end of the block, the loop or the body gives.
     pub fn end_gives(self) -> Option<ValType>
         ensures { result ≡ end_gives (info self) }

@@ -12,7 +12,7 @@ mod skip;
 mod slots;
 mod walk;
 
-pub use effect::{result_type, takes};
+pub use effect::{result_place, takes};
 pub use labels::{Label, OpenBlock};
 pub use skip::end_of_list;
 pub use slots::{SlotPlan, plan};

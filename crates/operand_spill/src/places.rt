@@ -6,53 +6,20 @@ ghost use Rattle.wasm_syntax.specs.Tree.{Tree, Placed, Writes, Opens, OpensLoop,
 ghost use Rattle.wasm_syntax.specs.Machine.{result_of};
 ghost use Rattle.rewrite_bodies.specs.Slots.{Ctx, Place, less, grown, after_plain};
 ghost use Rattle.operand_spill.specs.calls.Walking.{with_places};
-ghost use Rattle.operand_spill.specs.calls.Standing.{after_instr};
 ghost use Rattle.operand_spill.specs.calls.Before.{before};
 ghost use Rattle.operand_spill.specs.inner.Knowing.{Places, Knows, Ended, Over, Proceeds, Flowed, Jumped, AreDead, Starts, is_else};
 
-use crate::{Label, Walk, copy_of, end_of_list, result_type, takes};
+use crate::{Label, Walk, copy_of, end_of_list, result_place, takes};
 use causes::NoMemory;
 use rewrite_code::OperandPlaces;
 use std::alloc::Global;
-use wasm_syntax::{Basic, FuncType, Instr, Jump, ModuleParts, Op, ValType, Value};
+use wasm_syntax::{Basic, FuncType, Instr, Jump, ModuleParts, Op, ValType};
 
 /// Whether the next instruction is run behind one, or nothing more of its list.
 #[derive(Clone, Copy)]
 pub(crate) enum Flow {
     Next,
     Ends,
-}
-
-/// The value that an instruction pushes, where it is a constant instruction.
-fn constant(instruction: Basic) -> Option<Value>
-    ensures { MatchOption result ((C : Ctx) (es : List Place)
-        → after_instr C es instruction ≡ after_plain C es instruction)
-        (λ v. instruction ≡ Const v) }
-{
-    match instruction {
-        Basic::Const(value) => Some(value),
-        Basic::Nop
-        | Basic::Drop
-        | Basic::Select
-        | Basic::LocalGet(_)
-        | Basic::LocalSet(_)
-        | Basic::LocalTee(_)
-        | Basic::GlobalGet(_)
-        | Basic::GlobalSet(_)
-        | Basic::Load(_, _, _)
-        | Basic::Store(_, _, _)
-        | Basic::MemorySize
-        | Basic::MemoryGrow
-        | Basic::MemoryCopy
-        | Basic::MemoryFill
-        | Basic::Eqz(_)
-        | Basic::Unary(_, _)
-        | Basic::Compare(_, _)
-        | Basic::Binary(_, _)
-        | Basic::Convert(_)
-        | Basic::Extend32(_)
-        | Basic::Extend64(_) => None,
-    }
 }
 
 /// A basic instruction.
@@ -64,15 +31,11 @@ fn basic(
 ) -> Result<(), NoMemory>
     ensures { (C : Ctx) → C.locals ≡ locals.now → C.source ≡ source.now
         → OnOk result (walk.new ≡ with_places walk.old
-        (after_instr C walk.old.places instruction)) }
+        (after_plain C walk.old.places instruction)) }
 {
-    match constant(instruction) {
-        Some(value) => walk.push_constant(value),
-        None => {
-            let gives = result_type(locals, source, walk.places(), instruction);
-            walk.perform(takes(instruction), gives)
-        }
-    }
+    let taken = takes(instruction);
+    let gives = result_place(locals, source, walk.places(), instruction);
+    walk.perform_basic(instruction, taken, gives)
 }
 
 /// What a function gives, if anything.

@@ -82,7 +82,7 @@ fn known_value(operand: OperandPlace) -> Option<Value>
 {
     match operand {
         OperandPlace::Known(value) => Some(value),
-        OperandPlace::Spilled(_) => None,
+        OperandPlace::Spilled(_) | OperandPlace::Copied(_, _) => None,
     }
 }
 

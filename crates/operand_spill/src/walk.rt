@@ -1,18 +1,19 @@
 //! What is known at an instruction of a body: where the operands are, and which blocks are open.
 
-ghost use Rattle.std.specs.Prelude.{◌≡◌, suc, ◌∷◌, [], List, length, slice_get, slice_index_or, option_map, ◌<◌, Some, IfOk, OnOk, MatchOption};
-ghost use Rattle.rewrite_bodies.specs.Slots.{Known, less, grown};
+ghost use Rattle.std.specs.Prelude.{◌≡◌, suc, ◌∷◌, [], List, length, option_map, IfOk, OnOk, MatchOption};
+ghost use Rattle.rewrite_bodies.specs.Slots.{Ctx, less, pushed, grown, result_place, freed, after_plain};
+ghost use Rattle.wasm_syntax.specs.Effect.{takes};
 ghost use Rattle.rewrite_code.specs.calls.Places.{place};
+ghost use Rattle.operand_spill.specs.declared.labels.Label.TheVariants.{Body as BodyOf};
 ghost use Rattle.operand_spill.specs.declared.labels.OpenBlock.{OpenBlock as OpenBlockOf};
-ghost use Rattle.operand_spill.specs.calls.Labels.{info};
-ghost use Rattle.operand_spill.specs.calls.Walking.{with_places, labels_of, at_start, opening, alternating, closing};
+ghost use Rattle.operand_spill.specs.calls.Walking.{with_places, at_start, opening, alternating, closing};
 
 use crate::labels::{Label, OpenBlock};
 use causes::NoMemory;
 use rewrite_code::{OperandPlace, OperandPlaces};
 use std::alloc::Global;
 use std::marker::Model;
-use wasm_syntax::{ValType, Value};
+use wasm_syntax::{Basic, ValType};
 
 /// The places of the operands and the open blocks at a live instruction of a body, which contracts
 /// see with the topmost operand and the innermost block first. The outermost block is the body
@@ -46,14 +47,6 @@ pub fn copy_of(alloc: Global, places: &OperandPlaces) -> Result<OperandPlaces, N
     Ok(copy)
 }
 
-/// The label of a block.
-fn label_at(blocks: &[OpenBlock], index: usize) -> Label
-    requires { index < length blocks.now }
-    ensures { (block : OpenBlockOf) → result ≡ (slice_index_or blocks.now index block).label }
-{
-    blocks[index].label
-}
-
 impl Walk {
     /// Before the first instruction of a body that gives this, which takes no memory.
     pub fn new(alloc: Global, gives: Option<ValType>) -> Self
@@ -81,24 +74,11 @@ impl Walk {
         self.opens.len() + 1
     }
 
-    /// An open label, by its number from the innermost out.
-    pub fn label(&self, number: u32) -> Option<Label>
-        ensures { option_map info result ≡ slice_get (labels_of self.now) number }
-    {
-        let count = self.opens.len();
-        let number = number as usize;
-        if number < count {
-            Some(label_at(self.opens.as_slice(), count - 1 - number))
-        } else if number == count {
-            Some(Label::Body(self.gives))
-        } else {
-            None
-        }
-    }
-
     /// The innermost open label.
     pub fn innermost(&self) -> Label
-        ensures { slice_get (labels_of self.now) 0 ≡ Some (info result) }
+        ensures block { (block : OpenBlockOf) (others : List OpenBlockOf)
+            → self.now.opens ≡ block ∷ others → result ≡ block.label }
+        ensures body { self.now.opens ≡ [] → result ≡ BodyOf self.now.gives }
     {
         match self.opens.as_slice().last() {
             Some(block) => block.label,
@@ -125,11 +105,50 @@ impl Walk {
         self.places.pop()
     }
 
-    /// A constant instruction: its value is known.
-    pub fn push_constant(&mut self, value: Value) -> Result<(), NoMemory>
-        ensures { OnOk result (self.new ≡ with_places self.old (Known value ∷ self.old.places)) }
+    // So many topmost operands are taken.
+    fn discard(&mut self, taken: usize)
+        ensures { self.new ≡ with_places self.old (less taken self.old.places) }
     {
-        self.places.push(OperandPlace::Known(value))
+        self.places.discard(taken);
+    }
+
+    // Operands that are copies of the local that an instruction writes go to their slots.
+    fn free(&mut self, instruction: Basic)
+        ensures { self.new ≡ with_places self.old (freed instruction self.old.places) }
+    {
+        match instruction {
+            Basic::LocalSet(local) => self.places.uncopy(Some(local)),
+            Basic::LocalTee(local) => self.places.uncopy(Some(local)),
+            _ => {}
+        }
+    }
+
+    // What an instruction gives is the topmost operand, if it gives something.
+    fn push_given(&mut self, gives: Option<OperandPlace>) -> Result<(), NoMemory>
+        ensures { OnOk result (self.new
+            ≡ with_places self.old (pushed (option_map place gives) self.old.places)) }
+    {
+        match gives {
+            Some(operand) => self.places.push(operand),
+            None => Ok(()),
+        }
+    }
+
+    /// A basic instruction, which takes so many operands and gives this.
+    pub fn perform_basic(
+        &mut self,
+        instruction: Basic,
+        taken: usize,
+        gives: Option<OperandPlace>,
+    ) -> Result<(), NoMemory>
+        ensures { (C : Ctx) → takes instruction ≡ taken
+            → option_map place gives ≡ result_place C self.old.places instruction
+            → OnOk result (self.new
+            ≡ with_places self.old (after_plain C self.old.places instruction)) }
+    {
+        self.discard(taken);
+        self.free(instruction);
+        self.push_given(gives)
     }
 
     /// Another instruction behind which the next one is run: it takes so many operands and gives
@@ -142,10 +161,11 @@ impl Walk {
         self.places.grow(gives)
     }
 
-    /// The beginning of a block. What lies below it is kept until its end.
+    /// The beginning of a block. What lies below it is kept until its end, and holds no copies.
     pub fn open(&mut self, label: Label) -> Result<(), NoMemory>
         ensures { OnOk result (self.new ≡ opening label self.old) }
     {
+        self.places.uncopy(None);
         let saved = copy_of(self.alloc, &self.places)?;
         self.opens.push(OpenBlock { label, saved })?;
         Ok(())

@@ -1,5 +1,5 @@
 -- Calls, traps, and the whole step.
-use Rattle.std.proofs.Common.{◌≡◌, ℕ, zero, suc, ◌+◌, ◌≤◌, List, [], ◌∷◌, ◌++◌, length, map, reverse, Option, Some, None, Bool, true, false, ◌&&◌, nat_lt, refl, sym, ap, ap₂, ◌∙◌, subst, arith, append_assoc, append-nil, length-append, ◌⊎◌, inl, inr, slice_get, slice_set, option_to_list, option_map, ltb-true, lt-ltb, unwrap_or, ◌≢◌, ◌==◌, Ok}
+use Rattle.std.proofs.Common.{◌≡◌, ℕ, zero, suc, ◌+◌, ◌*◌, ◌≤◌, List, [], ◌∷◌, ◌++◌, length, map, reverse, Option, Some, None, Bool, true, false, ◌&&◌, nat_lt, refl, sym, ap, ap₂, ◌∙◌, subst, arith, append_assoc, append-nil, length-append, ◌⊎◌, inl, inr, slice_get, slice_set, option_to_list, option_map, ltb-true, lt-ltb, unwrap_or, ◌≢◌, ◌==◌, Ok, ◌<◌}
 use Rattle.wasm_syntax.specs.declared.value.ValType.{ValType}
 use Rattle.wasm_syntax.specs.declared.value.ValType.TheVariants.{I32}
 use Rattle.wasm_syntax.specs.declared.value.Value.{Value}
@@ -7,10 +7,12 @@ use Rattle.wasm_syntax.specs.declared.value.Value.TheVariants as values
 use Rattle.wasm_syntax.specs.declared.parts.FuncType.{FuncType}
 use Rattle.wasm_syntax.specs.declared.parts.Body.{Body}
 use Rattle.wasm_syntax.specs.declared.parts.Import.{Import}
-use Rattle.wasm_syntax.specs.Numbers.{type_of, types, bool_number, binary}
+use Rattle.wasm_syntax.specs.Numbers.{type_of, types, modulo, bool_number, binary}
+use Rattle.wasm_syntax.specs.Run.{table_min}
+use Rattle.std.proofs.Math.Nat.{mod-eq_of_lt}
 use Rattle.int_ops.specs.Integers.{binary as int_binary}
-use Rattle.int_ops.specs.declared.operators.Binary.TheVariants.{Or}
-use Rattle.wasm_syntax.specs.declared.instruction.Basic.TheVariants.{Eqz}
+use Rattle.int_ops.specs.declared.operators.Binary.TheVariants.{Add, Or}
+use Rattle.wasm_syntax.specs.declared.instruction.Basic.TheVariants.{Eqz, Binary}
 use Rattle.wasm_syntax.specs.Tree.{BrTable, Call, CallIndirect, Nodes, stop, basic, jump, Tree}
 use Rattle.wasm_syntax.specs.declared.module.ModuleParts.{ModuleParts as Module}
 use Rattle.wasm_syntax.specs.Module.{Function, imported, defined, function_at, type_at, declared_locals, same_types, same_functype, option_then}
@@ -20,20 +22,20 @@ use Rattle.wasm_syntax.specs.declared.host.Reply.{Reply}
 use Rattle.wasm_syntax.specs.declared.host.CollectorCall.{CollectorCall}
 use Rattle.wasm_syntax.specs.declared.host.CollectorCall.TheVariants as collector_calls
 use Rattle.wasm_syntax.specs.Machine.{Kind, leaves, returns, Label, Frame, Config, label, frame, config, Engine, Stepped, next, traps, Cut, short, parts, one_more, cut, exactly, pick, zero_of, zeros, result_of, function_type, entered, host_call, deliver, host, enters, applied_if, calls_on, calls, step, offset_in}
-use Rattle.rewrite_bodies.specs.Slots.{Place, Ctx, slot, kind_at, offset_at, added, less, grown, ctx_of}
-use Rattle.rewrite_bodies.specs.Rewrite.{Info, hand, hand_top, to_exit, hand_left, test_flag, test_both, unwind, unwind_kind, after_direct, call_code, helper_of, rewrite, body}
-use Rattle.rewrite_bodies.specs.Numbering.{import_count, mapped, place_in, global_types, helper_base, helped}
-use Rattle.rewrite_bodies.specs.Pieces.{get, set, const, call, if_any, fetch, load, store, tree_of}
+use Rattle.rewrite_bodies.specs.Slots.{Place, Spilled, Ctx, slot, kind_at, offset_at, added, less, grown, ctx_of}
+use Rattle.rewrite_bodies.specs.Rewrite.{hand, hand_top, to_exit, hand_left, test_flag, test_both, unwind, unwind_kind, after_direct, call_code, helper_of, past_shown, rewrite, body}
+use Rattle.rewrite_bodies.specs.Numbering.{import_count, mapped, place_in, global_types, helper_base, helped, doubles}
+use Rattle.rewrite_bodies.proofs.Doubled.{past, entry_past, entry_low}
+use Rattle.rewrite_bodies.specs.Pieces.{get, set, const, call, if_any, fetch, load, keep, store, reload, drops, tree_of}
 use Rattle.linear_memory.specs.Memory.{Memory}
 use Rattle.linear_memory.specs.Memory as memories
-use Rattle.rewrite_bodies.specs.calls.Agreement.{Holds, now, info, infos, joined, Wit, t_frame, FitsIn, Has, Room_call, Room, FitsLabels, MemoryFits, NoKind, WorldFits, FitsFrame, FitsFrames, Wrap, zero_vs, t_frames, flagged}
+use Rattle.rewrite_bodies.specs.calls.Agreement.{Holds, now, joined, Wit, UnderWay, t_frame, FitsIn, Has, Room_call, Room, FitsLabels, MemoryFits, NoKind, WorldFits, FitsFrame, FitsFrames, Wrap, zero_vs, t_frames, flagged}
 use Rattle.rewrite_bodies.specs.calls.Steps.{Gets, To, Shell, st}
-use Rattle.rewrite_bodies.proofs.Run.{stored, stored_other, kind_no_slot, slice_get-put_other, added_get, added_set, types-stored, slice_get-put_same, types-slice_set, added_kind, more_parts, one_step, seq, weaken, fetch_to, load_to, less_holds, store_to}
+use Rattle.rewrite_bodies.proofs.Run.{stored, stored_other, kind_no_slot, slice_get-put_other, added_get, added_set, types-stored, slice_get-put_same, types-slice_set, added_kind, more_parts, one_step, seq, weaken, push_to, still, fetch_to, load_to, less_holds, store_to, kept_to, reload_to, drops_to, cut_front}
 use Rattle.rewrite_bodies.proofs.Parts.{put_keeps, cut_all, fits_put, settle, step_plain}
 use Rattle.rewrite_bodies.specs.Guards.{helper, entry_label, says, first_table}
 use Rattle.rewrite_bodies.specs.calls.Telling.{tell_labels, tell_locals, tell_frame}
 use Rattle.std.proofs.lemmas.List.{map-append}
-use Rattle.std.proofs.lemmas.Option.{slice_get-map}
 use Rattle.rewrite_bodies.specs.calls.Standing.{Linked, After, Speaks, HelperLinked, Stands}
 use Rattle.rewrite_bodies.proofs.Sim.{refit, refit_under, room_height, grown-append, grown_fits, len_of, shell, tgt, wit, wit_under, armed, if_zero_to}
 use Rattle.rewrite_bodies.proofs.Control.{flag_len, flag_down, both_to, grown_longer}
@@ -49,16 +51,38 @@ types-locals args ps ls e = types_append args (zeros ls) ∙ ap₂ (λ a b. a ++
 pub new_locals : (args : List Value) (new old more : List ValType) → new ≡ old ++ more → args ++ zeros new ≡ (args ++ zeros old) ++ zeros more
 new_locals args new old more e = ap (λ z. args ++ zeros z) e ∙ ap (λ z. args ++ z) (map-append zero_of old more) ∙ sym (append_assoc args (zeros old) (zeros more))
 
-pub holds_len : (ex : List Value) (js es : List Place) (ops : List Value) → Holds ex js ops es → length ops ≡ length es
-holds_len ex js [] [] h = refl
-holds_len ex js (e ∷ es) [] h = absurd h
-holds_len ex js [] (v ∷ ops) h = absurd h
-holds_len ex js (e ∷ es) (v ∷ ops) h = ap suc (holds_len ex js es ops h.1)
+pub holds_len : (l ex : List Value) (js es : List Place) (ops : List Value) → Holds l ex js ops es → length ops ≡ length es
+holds_len l ex js [] [] h = refl
+holds_len l ex js (e ∷ es) [] h = absurd h
+holds_len l ex js [] (v ∷ ops) h = absurd h
+holds_len l ex js (e ∷ es) (v ∷ ops) h = ap suc (holds_len l ex js es ops h.1)
+
+-- what is taken, and all of them
+cut_count : (m : ℕ) (ops vs below : List Value) → cut m ops ≡ parts vs below → length vs ≡ m
+cut_count zero ops vs below e = let f : vs ≡ [] = cc in rw f refl
+cut_count (suc m) [] vs below e = absurd (cc)
+cut_count (suc m) (v ∷ ops) vs below e = let r = more_parts v (cut m ops) vs below e in rw r.2 (ap suc (cut_count m ops r.0 below r.1))
+
+cut_whole : (m : ℕ) (ops vs below : List Value) → cut m ops ≡ parts vs below → ops ≡ vs ++ below
+cut_whole zero ops vs below e = let f : vs ≡ [] = cc in rw f (cc)
+cut_whole (suc m) [] vs below e = absurd (cc)
+cut_whole (suc m) (v ∷ ops) vs below e = let r = more_parts v (cut m ops) vs below e in rw r.2 (ap (λ (z : List Value). v ∷ z) (cut_whole m ops r.0 below r.1))
 
 pub cut_len : (m : ℕ) (ops vs below : List Value) → cut m ops ≡ parts vs below → m ≤ length ops
 cut_len zero ops vs below e = omega arith
 cut_len (suc m) [] vs below e = absurd (cc)
 cut_len (suc m) (v ∷ ops) vs below e = let r = more_parts v (cut m ops) vs below e in omega (arith, cut_len m ops r.0 below r.1)
+
+-- ---- the index of an entry is moved
+
+pub past_to : (M' : Engine) (C : Ctx) (X : Shell) (tl : List Value) (n : ℕ) (vs : List Value) (k : Nodes) (g : World) (co : List CollectorCall) (q : Bool) → (q ≡ true → n + table_min C.source.tables < 65537) → To M' 0 2 (st X tl (values.I32 n ∷ vs) (past_shown q C k) g co) (st X tl (values.I32 (past q C.source n) ∷ vs) k g co)
+unfolding int_binary
+past_to M' C X tl n vs k g co false low = weaken M' (still M' _) (omega arith) (omega arith)
+past_to M' C X tl n vs k g co true low =
+    let size = table_min C.source.tables in
+    let sum : modulo I32 (n + size) ≡ n + size = (let lt = low refl in mod-eq_of_lt (omega (arith, lt))) in
+    let added_ : To M' 1 1 (st X tl (values.I32 size ∷ values.I32 n ∷ vs) (basic 0 (Binary I32 Add) k) g co) (st X tl (values.I32 (n + size) ∷ vs) k g co) = subst (λ z. To M' 1 1 (st X tl (values.I32 size ∷ values.I32 n ∷ vs) (basic 0 (Binary I32 Add) k) g co) (st X tl (values.I32 z ∷ vs) k g co)) sum (one_step M' _ _ refl) in
+    weaken M' (seq M' (push_to M' (values.I32 size)) added_) (omega arith) (omega arith)
 
 -- ---- what a host function does, in the two worlds
 
@@ -117,8 +141,8 @@ module _ (M M' : Engine) (E : ℕ) (gl : List ValType) (W : Wrap) (S : Stands M 
     abbrev es : List Place
     es = e ++ joined ss
 
-    abbrev ls : List Info
-    ls = info kd ∷ infos Ls
+    abbrev ls : ℕ
+    ls = suc (length Ls)
 
     abbrev X : Shell
     X = shell W C r kd Ls ss Fs ws
@@ -139,31 +163,31 @@ module _ (M M' : Engine) (E : ℕ) (gl : List ValType) (W : Wrap) (S : Stands M 
     size = len_of l C.locals f.size
 
     -- a verdict is a trap, and this code hands over the operands of this frame: it hands over its values, and then the others do
-    trap_out : (t : Config) (j : ℕ) (k : Nodes) (ex1 : List Value) (H : Nodes) → types ex1 ≡ added C.slots → slice_get ex1 (kind_at C) ≡ Some (values.I32 (suc j)) → Hands M' C sp M l (leaves None) (armed X k []).below X.frames g 0 co (length ls) H (LL ∷ Ls) (slice_set ex1 (offset_at C) (values.I32 o)) → To M' 1 34 t (st (armed X k []) (l ++ ex1) [] (const (values.I32 o) (set C (offset_at C) H)) g0 co) → After M M' E gl W t (traps (suc j) (config (FF ∷ Fs) g co))
-    trap_out t j k ex1 H room kd hands pre =
-        let X1 = armed X k [] in
-        let v3 = frame_out M' C sp M l f.size ex1 (LL ∷ Ls) (length ls) X1.kind X1.below X1.frames g 0 co o (suc j) H room kd gt (exit_branch C ex None [] k LL Ls e ss f.labels) hands in
+    trap_out : (t : Config) (j : ℕ) (k : Nodes) (s ex1 : List Value) (H : Nodes) → types ex1 ≡ added C.slots → slice_get ex1 (kind_at C) ≡ Some (values.I32 (suc j)) → Hands M' C sp M l (leaves None) (armed X k s).below X.frames g 0 co ls H (LL ∷ Ls) (slice_set ex1 (offset_at C) (values.I32 o)) → To M' 1 (C.slots + 40) t (st (armed X k s) (l ++ ex1) [] (const (values.I32 o) (set C (offset_at C) H)) g0 co) → After M M' E gl W t (traps (suc j) (config (FF ∷ Fs) g co))
+    trap_out t j k s ex1 H room kd hands pre =
+        let X1 = armed X k s in
+        let v3 = frame_out M' C sp M l f.size ex1 (LL ∷ Ls) ls X1.kind X1.below X1.frames g 0 co o (suc j) H room kd gt (exit_branch C l ex None s k LL Ls e ss f.labels) hands in
         let all : Gets M' 1 E t (deliver M' (zero_vs C.result) X.frames (flagged M g (values.I32 1)) (collector_calls.Frame (suc j) C.index o (length C.locals) ∷ tell_locals l (tell_labels (LL ∷ Ls) co))) = weaken M' (seq M' pre v3) (omega arith) (omega (arith, f.small)) in
         let up : Up M M' E gl W S.speaks t 1 E r Fs ws g (tell_frame (suc j) o FF co) = renamed M M' E gl W S.speaks t 1 E C.result r C.index ix (length C.locals) (length l) o (suc j) X.frames g (tell_locals l (tell_labels (LL ∷ Ls) co)) f.result f.idx size all in
         inr (wf, weaken M' (up_all M M' E gl W S.speaks Fs ws g (tell_frame (suc j) o FF co) t 1 E r fs wf up) (omega arith) (omega arith))
 
     -- the kind that a guard gave, inside its arm
-    pub trap_from : (t : Config) (j : ℕ) (k : Nodes) → To M' 1 30 t (st (armed X k []) (l ++ ex) (values.I32 (suc j) ∷ []) (unwind_kind C ls es o) g0 co) → After M M' E gl W t (traps (suc j) (config (FF ∷ Fs) g co))
+    pub trap_from : (t : Config) (j : ℕ) (k : Nodes) → To M' 1 30 t (st (armed X k ops) (l ++ ex) (values.I32 (suc j) ∷ []) (unwind_kind C ls es o) g0 co) → After M M' E gl W t (traps (suc j) (config (FF ∷ Fs) g co))
     trap_from t j k pre =
         let h = f.labels in
         let at : slice_get (types ex) (kind_at C) ≡ Some I32 = rw f.room (added_kind C.slots) in
         let v = values.I32 (suc j) in
         let ex1 = slice_set ex (kind_at C) v in
         let low = room_height C es N h.2 in
-        let v1 : To M' 1 1 (st (armed X k []) (l ++ ex) (v ∷ []) (unwind_kind C ls es o) g0 co) (st (armed X k []) (l ++ ex1) [] (unwind C ls es o) g0 co) = added_set M' C l size ex (kind_at C) I32 v at refl in
-        let h1 = fits_put C ex None (LL ∷ Ls) (e ∷ ss) (kind_at C) v (omega (arith, low)) h in
-        let h2 = fits_put C ex1 None (LL ∷ Ls) (e ∷ ss) (offset_at C) (values.I32 o) (omega (arith, low)) h1 in
-        let X1 = armed X k [] in
-        let hands : Hands M' C sp M l X1.kind X1.below X1.frames g 0 co (length ls) (hand C es (to_exit ls)) (LL ∷ Ls) (slice_set ex1 (offset_at C) (values.I32 o)) = weaken M' (hand_to M' C sp l size (slice_set ex1 (offset_at C) (values.I32 o)) None (LL ∷ Ls) (e ∷ ss) (to_exit ls) h2) (omega arith) (omega (arith, low)) in
-        trap_out t j k ex1 (hand C es (to_exit ls)) (types-slice_set ex (kind_at C) I32 v at refl ∙ f.room) (slice_get-put_same ex (kind_at C) I32 v at) hands (weaken M' (seq M' pre v1) (omega arith) (omega arith))
+        let v1 : To M' 1 1 (st (armed X k ops) (l ++ ex) (v ∷ []) (unwind_kind C ls es o) g0 co) (st (armed X k ops) (l ++ ex1) [] (unwind C ls es o) g0 co) = added_set M' C l size ex (kind_at C) I32 v at refl in
+        let h1 = fits_put C l ex None (LL ∷ Ls) (e ∷ ss) (kind_at C) v (omega (arith, low)) h in
+        let h2 = fits_put C l ex1 None (LL ∷ Ls) (e ∷ ss) (offset_at C) (values.I32 o) (omega (arith, low)) h1 in
+        let X1 = armed X k ops in
+        let hands : Hands M' C sp M l X1.kind X1.below X1.frames g 0 co ls (hand C es (to_exit ls)) (LL ∷ Ls) (slice_set ex1 (offset_at C) (values.I32 o)) = weaken M' (hand_to M' C sp l size (slice_set ex1 (offset_at C) (values.I32 o)) None (LL ∷ Ls) (e ∷ ss) (to_exit ls) h2) (omega arith) (omega (arith, low)) in
+        trap_out t j k ops ex1 (hand C es (to_exit ls)) (types-slice_set ex (kind_at C) I32 v at refl ∙ f.room) (slice_get-put_same ex (kind_at C) I32 v at) hands (weaken M' (seq M' pre v1) (omega arith) (omega arith))
 
     -- a function is called, from a state of the target that is about to call it: directly, or through the table inside an arm
-    module _ (ex1 : List Value) (below : List Value) (e' : List Place) (rest : Nodes) (fn : Function) (vs : List Value) (dq : Bool) (others : Option Nodes) where
+    module _ (ex1 : List Value) (below : List Value) (e' : List Place) (rest : Nodes) (fn : Function) (vs : List Value) (dq : Bool) (others : Option UnderWay) where
       abbrev r1 : Option ValType
       r1 = result_of (function_type fn)
 
@@ -173,13 +197,18 @@ module _ (M M' : Engine) (E : ℕ) (gl : List ValType) (W : Wrap) (S : Stands M 
       abbrev goes_on : Nodes
       goes_on = rewrite C ls (grown r1 es1) rest
 
-      abbrev k1_of : Bool → Option Nodes → Nodes
-      k1_of q None = after_direct q C ls r1 es1 o (λ es'. rewrite C ls es' rest)
-      k1_of q (Some k) = store C r1 es1 stop
+      -- what lies under the arguments where the call is made
+      abbrev lies_under : Option UnderWay → List Value
+      lies_under None = below
+      lies_under (Some u) = []
 
-      abbrev Y_of : Option Nodes → Shell
+      abbrev k1_of : Bool → Option UnderWay → Nodes
+      k1_of q None = after_direct q C ls r1 es1 o (λ es'. rewrite C ls es' rest)
+      k1_of q (Some u) = store C r1 es1 stop
+
+      abbrev Y_of : Option UnderWay → Shell
       Y_of None = X
-      Y_of (Some k) = armed X (test_both C ls es1 o k goes_on) []
+      Y_of (Some u) = armed X (test_both C ls es1 o u.others (drops (length u.taken) (reload C r1 es1 goes_on))) (u.taken ++ below)
 
       abbrev k1 : Nodes
       k1 = k1_of dq others
@@ -187,80 +216,87 @@ module _ (M M' : Engine) (E : ℕ) (gl : List ValType) (W : Wrap) (S : Stands M 
       abbrev Y : Shell
       Y = Y_of others
 
-      abbrev Calling : ℕ → List Value → Nodes → Stepped
-      Calling g' stk nd = calls M' (function_at M'.program (mapped M.program.module_ g')) (mapped M.program.module_ g') (vs ++ []) 0 k1 (frame Y.idx Y.result 0 (l ++ ex1) (label stk nd 0 Y.kind ∷ Y.below)) (label stk nd 0 Y.kind) Y.below Y.frames g0 co
+      abbrev Calling : ℕ → List Value → List Value → Nodes → Stepped
+      Calling g' args stk nd = calls M' (function_at M'.program (mapped M.program.module_ g')) (mapped M.program.module_ g') args 0 k1 (frame Y.idx Y.result 0 (l ++ ex1) (label stk nd 0 Y.kind ∷ Y.below)) (label stk nd 0 Y.kind) Y.below Y.frames g0 co
 
       abbrev Below : Type 0
-      Below = FitsLabels C ex1 r1 (label below rest en kd ∷ Ls) (e' ∷ ss)
+      Below = FitsLabels C l ex1 r1 (label below rest en kd ∷ Ls) (e' ∷ ss)
 
       -- the added locals when it has given its results
       abbrev after_of : List Value → List Value
       after_of vs' = stored r1 (λ t. slot t (length es1)) vs' ex1
 
       -- where the target stands when the function has given its results
-      come_back : (g' : World) (vs' : List Value) (t : Config) → types ex1 ≡ types ex → NoKind C ex1 others → Below → WorldFits M gl g' → exactly r1 vs' ≡ Some vs' → (q : ℕ) → q ≤ C.slots + 40 → To M' 1 q t (st Y (l ++ ex1) vs' k1 (flagged M g' (values.I32 0)) co) → After M M' E gl W t (next (config (frame ix r cl l (label (vs' ++ below) rest en kd ∷ Ls) ∷ Fs) g' co))
+      come_back : (g' : World) (vs' : List Value) (t : Config) → types ex1 ≡ types ex → NoKind C ex1 others → Below → WorldFits M gl g' → exactly r1 vs' ≡ Some vs' → (q : ℕ) → q ≤ 2 * C.slots + 40 → To M' 1 q t (st Y (l ++ ex1) (vs' ++ lies_under others) k1 (flagged M g' (values.I32 0)) co) → After M M' E gl W t (next (config (frame ix r cl l (label (vs' ++ below) rest en kd ∷ Ls) ∷ Fs) g' co))
       unfolding int_binary
       come_back g' vs' t same nk hb wf' x q le pre =
           let room1 = same ∙ f.room in
           let pl = grown_fits C r1 es1 ex1 room1 hb.1 in
-          let hs = settle C ex1 r1 (label below rest en kd) Ls e' ss vs' room1 x hb in
+          let hs = settle C l ex1 r1 (label below rest en kd) Ls e' ss vs' room1 x hb in
           let g1 = flagged M g' (values.I32 0) in
-          let fl = flag_len C g' (wf'.globals ∙ sym f.flag) in
-          let go : To M' 1 (C.slots + 50) t (st X (l ++ (after_of vs')) [] goes_on g1 co) = weaken M' (seq M' pre (behind others nk dq)) (omega arith) (omega (arith, le)) in (
+          let go : To M' 1 (3 * C.slots + 51) t (st X (l ++ (after_of vs')) (vs' ++ below) goes_on g1 co) = weaken M' (seq M' pre (behind others nk dq)) (omega arith) (omega (arith, le)) in (
             wit C (after_of vs') (grown r1 e' ∷ ss) ∷ ws,
             (wf', (refit l (label (vs' ++ below) rest en kd ∷ Ls) (after_of vs') (grown r1 e' ∷ ss) None cl f refl (types-stored r1 (λ t. slot t (length es1)) vs' ex1 pl x ∙ same) hs, fs)),
             rw (← grown-append r1 e' (joined ss)) (weaken M' go (omega arith) (omega (arith, f.small))),
           )
         where
-          stored_to : {Z : Shell} (k : Nodes) → To M' 0 1 (st Z (l ++ ex1) vs' (store C r1 es1 k) (flagged M g' (values.I32 0)) co) (st Z (l ++ (after_of vs')) [] k (flagged M g' (values.I32 0)) co)
-          stored_to k = store_to M' C l size ex1 r1 es1 vs' k (grown_fits C r1 es1 ex1 (same ∙ f.room) hb.1) x
-
           low : length es1 ≤ C.slots
           low = omega (arith, grown_longer r1 es1, room_height C (grown r1 es1) rest hb.2)
 
-          behind : (under : Option Nodes) → NoKind C ex1 under → (q : Bool) → To M' 0 10 (st (Y_of under) (l ++ ex1) vs' (k1_of q under) (flagged M g' (values.I32 0)) co) (st X (l ++ (after_of vs')) [] goes_on (flagged M g' (values.I32 0)) co)
-          behind None nk true = weaken M' (stored_to goes_on) (omega arith) (omega arith)
-          behind None nk false =
-              weaken M' (seq M' (stored_to (test_flag C ls es1 o goes_on)) (flag_down M M' E gl W C X (l ++ (after_of vs')) g' co ls es1 o goes_on (flag_len C g' (wf'.globals ∙ sym f.flag)))) (omega arith) (omega arith)
-          behind (Some k) nk q =
-              let kd0 : slice_get (after_of vs') (kind_at C) ≡ Some (values.I32 0) = stored_other r1 (λ t. slot t (length es1)) vs' ex1 (kind_at C) (λ t. kind_no_slot C (length es1) t low) ∙ nk in
-              let K = test_both C ls es1 o k goes_on in
-              let g1 = flagged M g' (values.I32 0) in
-              let s2 : To M' 1 1 (st (armed X K []) (l ++ (after_of vs')) [] stop g1 co) (st X (l ++ (after_of vs')) [] K g1 co) = one_step M' _ _ refl in
-              let s3 = both_to M M' E gl W C X l (after_of vs') g' co ls es1 o k goes_on 0 0 0 size kd0 (flag_len C g' (wf'.globals ∙ sym f.flag)) refl in
-              weaken M' (seq M' (stored_to stop) (seq M' s2 (seq M' s3 (if_zero_to M')))) (omega arith) (omega arith)
+          -- behind a direct call
+          kept_here : (k : Nodes) → To M' 0 1 (st X (l ++ ex1) (vs' ++ below) (keep C (option_map Spilled r1) es1 k) (flagged M g' (values.I32 0)) co) (st X (l ++ (after_of vs')) (vs' ++ below) k (flagged M g' (values.I32 0)) co)
+          kept_here k = kept_to M' C l size ex1 r1 es1 vs' below k (grown_fits C r1 es1 ex1 (same ∙ f.room) hb.1) x
 
-    abbrev DirectFits : Function → Bool → Option Nodes → Type 0
+          behind : (under : Option UnderWay) → NoKind C ex1 under → (q : Bool) → To M' 0 (C.slots + 11) (st (Y_of under) (l ++ ex1) (vs' ++ lies_under under) (k1_of q under) (flagged M g' (values.I32 0)) co) (st X (l ++ (after_of vs')) (vs' ++ below) goes_on (flagged M g' (values.I32 0)) co)
+          behind None nk true = weaken M' (kept_here goes_on) (omega arith) (omega arith)
+          behind None nk false =
+              weaken M' (seq M' (kept_here (test_flag C ls es1 o goes_on)) (flag_down M M' E gl W C X (l ++ (after_of vs')) (vs' ++ below) g' co ls es1 o goes_on (flag_len C g' (wf'.globals ∙ sym f.flag)))) (omega arith) (omega arith)
+          behind (Some u) nk q =
+              let kd0 : slice_get (after_of vs') (kind_at C) ≡ Some (values.I32 0) = stored_other r1 (λ t. slot t (length es1)) vs' ex1 (kind_at C) (λ t. kind_no_slot C (length es1) t low) ∙ nk.0 in
+              let kr = drops (length u.taken) (reload C r1 es1 goes_on) in
+              let K = test_both C ls es1 o u.others kr in
+              let g1 = flagged M g' (values.I32 0) in
+              let all_ = u.taken ++ below in
+              let pl = grown_fits C r1 es1 ex1 (same ∙ f.room) hb.1 in
+              let s1 : To M' 0 1 (st (armed X K all_) (l ++ ex1) vs' (store C r1 es1 stop) g1 co) (st (armed X K all_) (l ++ (after_of vs')) [] stop g1 co) = store_to M' C l size ex1 r1 es1 vs' stop pl x in
+              let s2 : To M' 1 1 (st (armed X K all_) (l ++ (after_of vs')) [] stop g1 co) (st X (l ++ (after_of vs')) all_ K g1 co) = one_step M' _ _ refl in
+              let s3 = both_to M M' E gl W C X l (after_of vs') all_ g' co ls es1 o u.others kr 0 0 0 size kd0 (flag_len C g' (wf'.globals ∙ sym f.flag)) refl in
+              let s4 : To M' (length u.taken) (length u.taken) (st X (l ++ (after_of vs')) all_ kr g1 co) (st X (l ++ (after_of vs')) below (reload C r1 es1 goes_on) g1 co) = drops_to M' (length u.taken) all_ u.taken below (reload C r1 es1 goes_on) (cut_front u.taken below) in
+              let s5 : To M' 0 1 (st X (l ++ (after_of vs')) below (reload C r1 es1 goes_on) g1 co) (st X (l ++ (after_of vs')) (vs' ++ below) goes_on g1 co) = reload_to M' C l size ex1 r1 es1 vs' below goes_on pl x in
+              let alone : vs' ++ [] ≡ vs' = append-nil vs' in
+              rw alone (weaken M' (seq M' s1 (seq M' s2 (seq M' s3 (seq M' (if_zero_to M') (seq M' s4 s5))))) (omega arith) (omega (arith, nk.1)))
+
+    abbrev DirectFits : Function → Bool → Option UnderWay → Type 0
     DirectFits (imported i type) dq others = Unit {0}
     DirectFits (defined b tree type) dq None = dq ≡ false
-    DirectFits (defined b tree type) dq (Some k) = Unit {0}
+    DirectFits (defined b tree type) dq (Some u) = Unit {0}
 
     -- the frames under a call of a defined function
-    abbrev stands_under : Shell → List Value → Nodes → List Frame
-    stands_under Z ex1 k = frame Z.idx Z.result 0 (l ++ ex1) (label [] k 0 Z.kind ∷ Z.below) ∷ Z.frames
+    abbrev stands_under : Shell → List Value → List Value → Nodes → List Frame
+    stands_under Z ex1 s k = frame Z.idx Z.result 0 (l ++ ex1) (label s k 0 Z.kind ∷ Z.below) ∷ Z.frames
 
-    frames_under : (ex1 below : List Value) (e' : List Place) (rest : Nodes) (b : Body) (tree : Tree) (type : FuncType) (vs : List Value) (dq : Bool) (others : Option Nodes) → DirectFits (defined b tree type) dq others → stands_under (Y ex1 below e' rest (defined b tree type) vs dq others) ex1 (k1 ex1 below e' rest (defined b tree type) vs dq others) ≡ t_frames W (result_of type) (frame ix r o l (label below rest en kd ∷ Ls) ∷ Fs) (wit_under C ex1 (e' ∷ ss) others ∷ ws)
+    frames_under : (ex1 below : List Value) (e' : List Place) (rest : Nodes) (b : Body) (tree : Tree) (type : FuncType) (vs : List Value) (dq : Bool) (others : Option UnderWay) → DirectFits (defined b tree type) dq others → stands_under (Y ex1 below e' rest (defined b tree type) vs dq others) ex1 (lies_under ex1 below e' rest (defined b tree type) vs dq others others) (k1 ex1 below e' rest (defined b tree type) vs dq others) ≡ t_frames W (result_of type) (frame ix r o l (label below rest en kd ∷ Ls) ∷ Fs) (wit_under C ex1 (e' ∷ ss) others ∷ ws)
     frames_under ex1 below e' rest b tree type vs dq None df = rw df refl
-    frames_under ex1 below e' rest b tree type vs dq (Some k) df = refl
+    frames_under ex1 below e' rest b tree type vs dq (Some u) df = refl
 
-    frames_same : (ex1 below : List Value) (e' : List Place) (rest : Nodes) (fn : Function) (vs : List Value) (dq : Bool) (others : Option Nodes) → (Y ex1 below e' rest fn vs dq others).frames ≡ X.frames
+    frames_same : (ex1 below : List Value) (e' : List Place) (rest : Nodes) (fn : Function) (vs : List Value) (dq : Bool) (others : Option UnderWay) → (Y ex1 below e' rest fn vs dq others).frames ≡ X.frames
     frames_same ex1 below e' rest fn vs dq None = refl
-    frames_same ex1 below e' rest fn vs dq (Some k) = refl
+    frames_same ex1 below e' rest fn vs dq (Some u) = refl
 
     abbrev Y_frame : Shell → List Value → List Value → Nodes → Frame
     Y_frame Z ex1 stk nd = frame Z.idx Z.result 0 (l ++ ex1) (label stk nd 0 Z.kind ∷ Z.below)
 
     -- a host function has answered
-    answered : (ex1 below : List Value) (e' : List Place) (rest : Nodes) (i : Import) (type : FuncType) (vs : List Value) (dq : Bool) (others : Option Nodes) (call : HostCall) (stk : List Value) (nd : Nodes) (t : Config) (n : ℕ) (A A' : Answer) → types ex1 ≡ types ex → NoKind C ex1 others → Below ex1 below e' rest (imported i type) vs dq others → n ≤ C.slots + 40 → AnswerRel M gl (result_of type) (values.I32 0) A A' → Gets M' 1 n t (host M' A' call [] (k1 ex1 below e' rest (imported i type) vs dq others) (Y_frame (Y ex1 below e' rest (imported i type) vs dq others) ex1 stk nd) (label stk nd 0 (Y ex1 below e' rest (imported i type) vs dq others).kind) (Y ex1 below e' rest (imported i type) vs dq others).below (Y ex1 below e' rest (imported i type) vs dq others).frames g0 co) → After M M' E gl W t (host M A call below rest FF LL Ls Fs g co)
+    answered : (ex1 below : List Value) (e' : List Place) (rest : Nodes) (i : Import) (type : FuncType) (vs : List Value) (dq : Bool) (others : Option UnderWay) (call : HostCall) (stk : List Value) (nd : Nodes) (t : Config) (n : ℕ) (A A' : Answer) → types ex1 ≡ types ex → NoKind C ex1 others → Below ex1 below e' rest (imported i type) vs dq others → n ≤ 2 * C.slots + 40 → AnswerRel M gl (result_of type) (values.I32 0) A A' → Gets M' 1 n t (host M' A' call (lies_under ex1 below e' rest (imported i type) vs dq others others) (k1 ex1 below e' rest (imported i type) vs dq others) (Y_frame (Y ex1 below e' rest (imported i type) vs dq others) ex1 stk nd) (label stk nd 0 (Y ex1 below e' rest (imported i type) vs dq others).kind) (Y ex1 below e' rest (imported i type) vs dq others).below (Y ex1 below e' rest (imported i type) vs dq others).frames g0 co) → After M M' E gl W t (host M A call below rest FF LL Ls Fs g co)
     answered ex1 below e' rest i type vs dq others call stk nd t n (replied w v) A' same nk hb le h pre =
-        come_back ex1 below e' rest (imported i type) vs dq others w (option_to_list v) t same nk hb h.1 h.2 n le (rw (h.0, append-nil) at pre)
+        come_back ex1 below e' rest (imported i type) vs dq others w (option_to_list v) t same nk hb h.1 h.2 n le (rw h.0 at pre)
     answered ex1 below e' rest i type vs dq others call stk nd t n (told k) A' same nk hb le h pre = absurd h
     answered ex1 below e' rest i type vs dq others call stk nd t n silent A' same nk hb le h pre = (wf, _, refl, refl, weaken M' (rw h at pre) (omega arith) (omega (arith, le, f.small)))
     answered ex1 below e' rest i type vs dq others call stk nd t n (misfit reply) A' same nk hb le h pre = (wf, _, refl, refl, weaken M' (rw h at pre) (omega arith) (omega (arith, le, f.small)))
 
     -- a defined function begins
-    begun : (ex1 below : List Value) (e' : List Place) (rest : Nodes) (b : Body) (tree : Tree) (type : FuncType) (vs : List Value) (dq : Bool) (others : Option Nodes) (g' : ℕ) (stk : List Value) (nd : Nodes) (t : Config) (n : ℕ) (d : Bool) → function_at M.program g' ≡ Some (defined b tree type) → DirectFits (defined b tree type) dq others → types ex1 ≡ types ex → NoKind C ex1 others → Below ex1 below e' rest (defined b tree type) vs dq others → types (reverse vs) ≡ type.params → n ≤ C.slots + 40 → nat_lt (suc (length Fs)) M.depth ≡ d
-        → ((k : Linked M M' E gl g' b tree type) → let Z = Y ex1 below e' rest (defined b tree type) vs dq others in Gets M' 1 n t (enters M' (nat_lt (suc (length Z.frames)) M'.depth) (entered (mapped M.program.module_ g') k.new (tree_of (body (ctx_of M.program g' b type k.slots) tree.nodes)) type (reverse vs)) [] 0 (k1 ex1 below e' rest (defined b tree type) vs dq others) (Y_frame Z ex1 stk nd) (label stk nd 0 Z.kind) Z.below Z.frames g0 co))
+    begun : (ex1 below : List Value) (e' : List Place) (rest : Nodes) (b : Body) (tree : Tree) (type : FuncType) (vs : List Value) (dq : Bool) (others : Option UnderWay) (g' : ℕ) (stk : List Value) (nd : Nodes) (t : Config) (n : ℕ) (d : Bool) → function_at M.program g' ≡ Some (defined b tree type) → DirectFits (defined b tree type) dq others → types ex1 ≡ types ex → NoKind C ex1 others → Below ex1 below e' rest (defined b tree type) vs dq others → types (reverse vs) ≡ type.params → n ≤ 2 * C.slots + 40 → nat_lt (suc (length Fs)) M.depth ≡ d
+        → ((k : Linked M M' E gl g' b tree type) → let Z = Y ex1 below e' rest (defined b tree type) vs dq others in Gets M' 1 n t (enters M' (nat_lt (suc (length Z.frames)) M'.depth) (entered (mapped M.program.module_ g') k.new (tree_of (body (ctx_of M.program g' b type k.slots) tree.nodes)) type (reverse vs)) (lies_under ex1 below e' rest (defined b tree type) vs dq others others) 0 (k1 ex1 below e' rest (defined b tree type) vs dq others) (Y_frame Z ex1 stk nd) (label stk nd 0 Z.kind) Z.below Z.frames g0 co))
         → After M M' E gl W t (enters M d (entered g' b tree type (reverse vs)) below o rest FF LL Ls Fs g co)
     begun ex1 below e' rest b tree type vs dq others g' stk nd t n false at df same nk hb ty le d pre = inl refl
     begun ex1 below e' rest b tree type vs dq others g' stk nd t n true at df same nk hb ty le d pre =
@@ -273,9 +309,9 @@ module _ (M M' : Engine) (E : ℕ) (gl : List ValType) (W : Wrap) (S : Stands M 
         let few : length Z.frames ≡ suc (length Fs) = ap length (frames_same ex1 below e' rest (defined b tree type) vs dq others) ∙ length-frames r Fs ws fs in
         let depth : nat_lt (suc (length Z.frames)) M'.depth ≡ true = rw (few, S.deeper) (deep (suc (length Fs)) M.depth d) in
         let locals : args ++ zeros (declared_locals k.new.groups) ≡ (args ++ zeros (declared_locals b.groups)) ++ ex' = new_locals args (declared_locals k.new.groups) (declared_locals b.groups) (added k.slots) k.locals in
-        let mid = config (frame (mapped M.program.module_ g') (result_of type) 0 ((args ++ zeros (declared_locals b.groups)) ++ ex') (label [] (body C' tree.nodes) 0 (returns (result_of type)) ∷ []) ∷ stands_under Z ex1 code) g0 co in
+        let mid = config (frame (mapped M.program.module_ g') (result_of type) 0 ((args ++ zeros (declared_locals b.groups)) ++ ex') (label [] (body C' tree.nodes) 0 (returns (result_of type)) ∷ []) ∷ stands_under Z ex1 (lies_under ex1 below e' rest (defined b tree type) vs dq others others) code) g0 co in
         let s1 : To M' 1 n t mid = rw (depth, locals) at (pre k) in
-        let s3 : To M' 2 2 mid (config (t_frame now (entered g' b tree type args) (wit C' ex' ([] ∷ [])) ∷ stands_under Z ex1 code) g0 co) = seq M' (one_step M' mid _ refl) (one_step M' _ _ refl) in
+        let s3 : To M' 2 2 mid (config (t_frame now (entered g' b tree type args) (wit C' ex' ([] ∷ [])) ∷ stands_under Z ex1 (lies_under ex1 below e' rest (defined b tree type) vs dq others others) code) g0 co) = seq M' (one_step M' mid _ refl) (one_step M' _ _ refl) in
         let callee : FitsFrame M E gl None (entered g' b tree type args) (wit C' ex' ([] ∷ [])) =
         record { size = types-locals args type.params (declared_locals b.groups) ty; room = zero_types (added k.slots); idx = refl; result = refl; funcs = refl; base = refl; helpers = refl; flag = ap global_types (sym f.funcs) ∙ f.flag; small = k.small; narrow = k.narrow; labels = (tt, tt, k.room, refl, tt); no_kind = tt } in (
           wit C' ex' ([] ∷ []) ∷ wit_under C ex1 (e' ∷ ss) others ∷ ws,
@@ -283,25 +319,25 @@ module _ (M M' : Engine) (E : ℕ) (gl : List ValType) (W : Wrap) (S : Stands M 
           subst (λ z. To M' 1 E t (config (t_frame now (entered g' b tree type args) (wit C' ex' ([] ∷ [])) ∷ z) g0 co)) (frames_under ex1 below e' rest b tree type vs dq others df) (weaken M' (seq M' s1 s3) (omega arith) (omega (arith, le, f.small))),
         )
 
-    pub called : (ex1 below : List Value) (e' : List Place) (rest : Nodes) (fn : Function) (vs : List Value) (dq : Bool) (others : Option Nodes) (g' : ℕ) (stk : List Value) (nd : Nodes) (t T : Config) (n : ℕ) (q : Bool) → function_at M.program g' ≡ Some fn → DirectFits fn dq others → cut (length (function_type fn).params) (vs ++ []) ≡ parts vs [] → types ex1 ≡ types ex → NoKind C ex1 others → Below ex1 below e' rest fn vs dq others → n ≤ C.slots + 35 → same_types (types (reverse vs)) (function_type fn).params ≡ q → To M' 0 n t T → step M' T ≡ Calling ex1 below e' rest fn vs dq others g' stk nd → After M M' E gl W t (applied_if M q fn g' (reverse vs) below o rest FF LL Ls Fs g co)
-    called ex1 below e' rest fn vs dq others g' stk nd t T n false at df c same nk hb le ty pre st_ = tt
-    called ex1 below e' rest (imported i type) vs dq others g' stk nd t T n true at df c same nk hb le ty pre st_ =
+    pub called : (ex1 below : List Value) (e' : List Place) (rest : Nodes) (fn : Function) (vs : List Value) (dq : Bool) (others : Option UnderWay) (g' : ℕ) (stk : List Value) (nd : Nodes) (t T : Config) (n : ℕ) (q : Bool) (args : List Value) → function_at M.program g' ≡ Some fn → DirectFits fn dq others → cut (length (function_type fn).params) args ≡ parts vs (lies_under ex1 below e' rest fn vs dq others others) → types ex1 ≡ types ex → NoKind C ex1 others → Below ex1 below e' rest fn vs dq others → n ≤ 2 * C.slots + 35 → same_types (types (reverse vs)) (function_type fn).params ≡ q → To M' 0 n t T → step M' T ≡ Calling ex1 below e' rest fn vs dq others g' args stk nd → After M M' E gl W t (applied_if M q fn g' (reverse vs) below o rest FF LL Ls Fs g co)
+    called ex1 below e' rest fn vs dq others g' stk nd t T n false args at df c same nk hb le ty pre st_ = tt
+    called ex1 below e' rest (imported i type) vs dq others g' stk nd t T n true args at df c same nk hb le ty pre st_ =
         let k = S.imports g' i type at in
         let hc = host_call g' i type (reverse vs) in
-        let args = reverse vs in
+        let given = reverse vs in
         let m = M'.program.module_ in
         let gm = mapped M.program.module_ g' in
         let Z = Y ex1 below e' rest (imported i type) vs dq others in
         let FT = Y_frame Z ex1 stk nd in
         let kk = k1 ex1 below e' rest (imported i type) vs dq others in
-        let e1 : step M' T ≡ host M' (answer M'.collects m (host_call gm i type args) g0) (host_call gm i type args) [] kk FT (label stk nd 0 Z.kind) Z.below Z.frames g0 co = rw (k.target, c, ty) at st_ in
-        let heard : answer M'.collects m (host_call gm i type args) g0 ≡ served_by hc g0 g.replies =
-        ap (λ c. answer c m (host_call gm i type args) g0) S.speaks.collects ∙ ap (λ z. answer true m (host_call z i type args) g0) k.same ∙ ap (λ z. told_or z hc g0) (k.unheard args) in
-        let e2 = e1 ∙ ap₂ (λ A z. host M' A (host_call z i type args) [] kk FT (label stk nd 0 Z.kind) Z.below Z.frames g0 co) heard k.same in
-        let go : Gets M' 1 (n + 1) t (host M' (served_by hc g0 g.replies) hc [] kk FT (label stk nd 0 Z.kind) Z.below Z.frames g0 co) = weaken M' (seq M' pre (one_step M' T _ e2)) (omega arith) (omega arith) in
+        let e1 : step M' T ≡ host M' (answer M'.collects m (host_call gm i type given) g0) (host_call gm i type given) (lies_under ex1 below e' rest (imported i type) vs dq others others) kk FT (label stk nd 0 Z.kind) Z.below Z.frames g0 co = rw (k.target, c, ty) at st_ in
+        let heard : answer M'.collects m (host_call gm i type given) g0 ≡ served_by hc g0 g.replies =
+        ap (λ c. answer c m (host_call gm i type given) g0) S.speaks.collects ∙ ap (λ z. answer true m (host_call z i type given) g0) k.same ∙ ap (λ z. told_or z hc g0) (k.unheard given) in
+        let e2 = e1 ∙ ap₂ (λ A z. host M' A (host_call z i type given) (lies_under ex1 below e' rest (imported i type) vs dq others others) kk FT (label stk nd 0 Z.kind) Z.below Z.frames g0 co) heard k.same in
+        let go : Gets M' 1 (n + 1) t (host M' (served_by hc g0 g.replies) hc (lies_under ex1 below e' rest (imported i type) vs dq others others) kk FT (label stk nd 0 Z.kind) Z.below Z.frames g0 co) = weaken M' (seq M' pre (one_step M' T _ e2)) (omega arith) (omega arith) in
         let quietly : answer M.collects M.program.module_ hc g ≡ served_by hc g g.replies = ap (λ c. answer c M.program.module_ hc g) S.quiet in
         subst (λ A. After M M' E gl W t (host M A hc below rest FF LL Ls Fs g co)) (sym quietly) (answered ex1 below e' rest i type vs dq others hc stk nd t (n + 1) (served_by hc g g.replies) (served_by hc g0 g.replies) same nk hb (omega (arith, le)) (served_rel M gl (values.I32 0) hc g wf g.replies) go)
-    called ex1 below e' rest (defined b tree type) vs dq others g' stk nd t T n true at df c same nk hb le ty pre st_ =
+    called ex1 below e' rest (defined b tree type) vs dq others g' stk nd t T n true args at df c same nk hb le ty pre st_ =
         begun ex1 below e' rest b tree type vs dq others g' stk nd t (n + 1) (nat_lt (suc (length Fs)) M.depth) at df same nk hb (same_types_are (types (reverse vs)) type.params ty) (omega (arith, le)) refl
         (λ k. weaken M' (rw (k.target, c, ty) at (seq M' pre (one_step M' T _ st_))) (omega arith) (omega arith))
 
@@ -317,8 +353,8 @@ module _ (M M' : Engine) (E : ℕ) (gl : List ValType) (W : Wrap) (S : Stands M 
     abbrev esd : List Place
     esd = e ++ joined ss
 
-    abbrev lsd : List Info
-    lsd = info kd ∷ infos Ls
+    abbrev lsd : ℕ
+    lsd = suc (length Ls)
 
     abbrev XD : Shell
     XD = shell W C r kd Ls ss Fs ws
@@ -327,35 +363,33 @@ module _ (M M' : Engine) (E : ℕ) (gl : List ValType) (W : Wrap) (S : Stands M 
     direct_fits (imported i type) at_ = tt
     direct_fits (defined b tree type) at_ = S.undirect g' b tree type at_
 
-    cut_call : (fn : Function) (u : Cut) → function_at M.program g' ≡ Some fn → cut (length (function_type fn).params) ops ≡ u → FitsIn C (result_of (function_type fn)) (less (length (function_type fn).params) esd) × Room C (grown (result_of (function_type fn)) (less (length (function_type fn).params) esd)) rest → After M M' E gl W (st XD (l ++ ex) [] (load C (length (function_type fn).params) esd (call (mapped M.program.module_ g') (after_direct (nat_lt g' (import_count M.program.module_)) C lsd (result_of (function_type fn)) (less (length (function_type fn).params) esd) at (λ es'. rewrite C lsd es' rest)))) (flagged M g (values.I32 0)) co) (calls_on M fn g' u at rest FD LD Ls Fs g co)
+    cut_call : (fn : Function) (u : Cut) → function_at M.program g' ≡ Some fn → cut (length (function_type fn).params) ops ≡ u → FitsIn C (result_of (function_type fn)) (less (length (function_type fn).params) esd) × Room C (grown (result_of (function_type fn)) (less (length (function_type fn).params) esd)) rest → After M M' E gl W (st XD (l ++ ex) ops (call (mapped M.program.module_ g') (after_direct (nat_lt g' (import_count M.program.module_)) C lsd (result_of (function_type fn)) (less (length (function_type fn).params) esd) at (λ es'. rewrite C lsd es' rest))) (flagged M g (values.I32 0)) co) (calls_on M fn g' u at rest FD LD Ls Fs g co)
     cut_call fn short at_ c rm = tt
     cut_call fn (parts vs below) at_ c rm =
         let h = f.labels in
         let m = length (function_type fn).params in
         let r1 = result_of (function_type fn) in
-        let lh = less_holds ex m (joined ss) e ops vs below h.0 c in
+        let lh = less_holds l ex m (joined ss) e ops vs below h.0 c in
         let e' = lh.0 in
         let dq = nat_lt g' (import_count M.program.module_) in
         let k = after_direct dq C lsd r1 (e' ++ joined ss) at (λ es'. rewrite C lsd es' rest) in
         let code = call (mapped M.program.module_ g') k in
         let g0 = flagged M g (values.I32 0) in
-        let hb : FitsLabels C ex r1 (label below rest en kd ∷ Ls) (e' ∷ ss) = (lh.2, subst (FitsIn C r1) lh.1 rm.0, subst (λ z. Room C (grown r1 z) rest) lh.1 rm.1, h.3, h.4) in
-        let T = st XD (l ++ ex) (vs ++ []) code g0 co in
-        let s1 : To M' m m (st XD (l ++ ex) [] (load C m esd code) g0 co) T = load_to M' C l (len_of l C.locals f.size) ex m (joined ss) e ops [] vs below code h.0 c in
-        let few : m ≤ C.slots = omega (arith, cut_len m ops vs below c, holds_len ex (joined ss) e ops h.0, length-append e (joined ss), h.2.0) in
-        rw lh.1 (called C ex e ss ws ix cl r l ops en kd Ls Fs g co (jump at (Call g') rest) f fs wf ex below e' rest fn vs dq None g' (vs ++ []) code (st XD (l ++ ex) [] (load C m esd code) g0 co) T m (same_types (types (reverse vs)) (function_type fn).params) at_ (direct_fits fn at_) (cut_all m ops vs below [] c) refl tt hb (omega (arith, few)) refl (weaken M' s1 (omega arith) (omega arith)) refl)
+        let hb : FitsLabels C l ex r1 (label below rest en kd ∷ Ls) (e' ∷ ss) = (lh.2, subst (FitsIn C r1) lh.1 rm.0, subst (λ z. Room C (grown r1 z) rest) lh.1 rm.1, h.3, h.4) in
+        let T = st XD (l ++ ex) ops code g0 co in
+        rw lh.1 (called C ex e ss ws ix cl r l ops en kd Ls Fs g co (jump at (Call g') rest) f fs wf ex below e' rest fn vs dq None g' ops code T T 0 (same_types (types (reverse vs)) (function_type fn).params) ops at_ (direct_fits fn at_) c refl tt hb (omega arith) refl (still M' T) refl)
 
     abbrev code_with : FuncType → Module → Nodes
-    code_with type m = load C (length type.params) esd (call (mapped m g') (after_direct (nat_lt g' (import_count m)) C lsd (result_of type) (less (length type.params) esd) at (λ es'. rewrite C lsd es' rest)))
+    code_with type m = call (mapped m g') (after_direct (nat_lt g' (import_count m)) C lsd (result_of type) (less (length type.params) esd) at (λ es'. rewrite C lsd es' rest))
 
-    pub call_node : (q : Option Function) → function_at M.program g' ≡ q → After M M' E gl W (tgt M W C ex e ss ws r l kd Ls Fs g co (jump at (Call g') rest)) (calls M q g' ops at rest FD LD Ls Fs g co)
+    pub call_node : (q : Option Function) → function_at M.program g' ≡ q → After M M' E gl W (tgt M W C ex e ss ws r l ops kd Ls Fs g co (jump at (Call g') rest)) (calls M q g' ops at rest FD LD Ls Fs g co)
     call_node None at_ = tt
     call_node (Some fn) at_ =
         let same : type_at C.source g' ≡ Some (function_type fn) = ap (λ z. type_at z g') f.funcs ∙ S.type_is g' fn at_ in
         let go = λ (es' : List Place). rewrite C lsd es' rest in
         let rm = subst (λ z. Room_call C z esd (λ es'. Room C es' rest)) same f.labels.2.1 in
-        subst (λ z. After M M' E gl W (st XD (l ++ ex) [] (call_code C lsd esd at g' z go) (flagged M g (values.I32 0)) co) (calls M (Some fn) g' ops at rest FD LD Ls Fs g co)) (sym same)
-        (subst (λ m. After M M' E gl W (st XD (l ++ ex) [] (code_with (function_type fn) m) (flagged M g (values.I32 0)) co) (calls M (Some fn) g' ops at rest FD LD Ls Fs g co)) (sym f.funcs)
+        subst (λ z. After M M' E gl W (st XD (l ++ ex) ops (call_code C lsd esd at g' z go) (flagged M g (values.I32 0)) co) (calls M (Some fn) g' ops at rest FD LD Ls Fs g co)) (sym same)
+        (subst (λ m. After M M' E gl W (st XD (l ++ ex) ops (code_with (function_type fn) m) (flagged M g (values.I32 0)) co) (calls M (Some fn) g' ops at rest FD LD Ls Fs g co)) (sym f.funcs)
         (cut_call fn (cut (length (function_type fn).params) ops) at_ refl rm))
 
 pub same_functype-same : (a b : FuncType) → same_functype a b ≡ true → a ≡ b
@@ -383,12 +417,12 @@ module _ (M M' : Engine) (t : ℕ) (k : HelperLinked M M' t) where
   abbrev index : ℕ
   index = helper_base M.program.module_ + place_in t (helped M.program)
 
-  module _ (X : Shell) (tl : List Value) (kk : Nodes) (g : World) (co : List CollectorCall) (n : ℕ) where
+  module _ (X : Shell) (tl s : List Value) (kk : Nodes) (g : World) (co : List CollectorCall) (n : ℕ) where
     abbrev inner : Nodes
     inner = jump 0 (BrTable (map (entry_label M.program.module_ t) (first_table M.program.module_)) 1) stop
 
     abbrev in_helper : List Label → Config
-    in_helper Ls = config (frame index (Some I32) 0 (values.I32 n ∷ []) Ls ∷ frame X.idx X.result 0 tl (label [] kk 0 X.kind ∷ X.below) ∷ X.frames) g co
+    in_helper Ls = config (frame index (Some I32) 0 (values.I32 n ∷ []) Ls ∷ frame X.idx X.result 0 tl (label s kk 0 X.kind ∷ X.below) ∷ X.frames) g co
 
     abbrev at_start : Config
     at_start = in_helper (label [] (helper M.program.module_ t) 0 (returns (Some I32)) ∷ [])
@@ -396,19 +430,19 @@ module _ (M M' : Engine) (t : ℕ) (k : HelperLinked M M' t) where
     abbrev at_table : Config
     at_table = in_helper (label (values.I32 n ∷ []) inner 0 (leaves None) ∷ label [] (says 0) 0 (leaves None) ∷ label [] (says 5) 0 (leaves None) ∷ label [] (says 6) 0 (leaves None) ∷ label [] (says 7) 0 (returns (Some I32)) ∷ [])
 
-    starts : nat_lt (suc (length X.frames)) M'.depth ≡ true → To M' 1 1 (st X tl (values.I32 n ∷ []) (call index kk) g co) at_start
+    starts : nat_lt (suc (length X.frames)) M'.depth ≡ true → To M' 1 1 (st X tl (values.I32 n ∷ s) (call index kk) g co) at_start
     starts d = one_step M' _ _ (rw (k.target, d, k.locals) refl)
 
     opened : To M' 5 5 at_start at_table
     opened = seq M' (one_step M' _ _ refl) (seq M' (one_step M' _ _ refl) (seq M' (one_step M' _ _ refl) (seq M' (one_step M' _ _ refl) (one_step M' _ _ refl))))
 
-    said : (lbl kind : ℕ) → pick (map (entry_label M.program.module_ t) (first_table M.program.module_)) 1 n ≡ lbl → Label_kind lbl kind → To M' 3 3 at_table (st X tl (values.I32 kind ∷ []) kk g co)
+    said : (lbl kind : ℕ) → pick (map (entry_label M.program.module_ t) (first_table M.program.module_)) 1 n ≡ lbl → Label_kind lbl kind → To M' 3 3 at_table (st X tl (values.I32 kind ∷ s) kk g co)
     said lbl kind e (inl x) = rw x.1 (seq M' (one_step M' at_table (next (in_helper (label [] (says 0) 0 (leaves None) ∷ label [] (says 5) 0 (leaves None) ∷ label [] (says 6) 0 (leaves None) ∷ label [] (says 7) 0 (returns (Some I32)) ∷ []))) (rw (e ∙ x.0) refl)) (seq M' (one_step M' _ _ refl) (one_step M' _ _ refl)))
     said lbl kind e (inr (inl x)) = rw x.1 (seq M' (one_step M' at_table (next (in_helper (label [] (says 5) 0 (leaves None) ∷ label [] (says 6) 0 (leaves None) ∷ label [] (says 7) 0 (returns (Some I32)) ∷ []))) (rw (e ∙ x.0) refl)) (seq M' (one_step M' _ _ refl) (one_step M' _ _ refl)))
     said lbl kind e (inr (inr (inl x))) = rw x.1 (seq M' (one_step M' at_table (next (in_helper (label [] (says 6) 0 (leaves None) ∷ label [] (says 7) 0 (returns (Some I32)) ∷ []))) (rw (e ∙ x.0) refl)) (seq M' (one_step M' _ _ refl) (one_step M' _ _ refl)))
     said lbl kind e (inr (inr (inr x))) = rw x.1 (seq M' (one_step M' at_table (next (in_helper (label [] (says 7) 0 (returns (Some I32)) ∷ []))) (rw (e ∙ x.0) refl)) (seq M' (one_step M' _ _ refl) (one_step M' _ _ refl)))
 
-    helper_in : (lbl kind : ℕ) → nat_lt (suc (length X.frames)) M'.depth ≡ true → pick (map (entry_label M.program.module_ t) (first_table M.program.module_)) 1 n ≡ lbl → Label_kind lbl kind → To M' 1 12 (st X tl (values.I32 n ∷ []) (call index kk) g co) (st X tl (values.I32 kind ∷ []) kk g co)
+    helper_in : (lbl kind : ℕ) → nat_lt (suc (length X.frames)) M'.depth ≡ true → pick (map (entry_label M.program.module_ t) (first_table M.program.module_)) 1 n ≡ lbl → Label_kind lbl kind → To M' 1 12 (st X tl (values.I32 n ∷ s) (call index kk) g co) (st X tl (values.I32 kind ∷ s) kk g co)
     helper_in lbl kind d e lk = weaken M' (seq M' (starts d) (seq M' opened (said lbl kind e lk))) (omega arith) (omega arith)
 
 -- ---- an indirect call
@@ -424,11 +458,14 @@ module _ (M M' : Engine) (E : ℕ) (gl : List ValType) (W : Wrap) (S : Stands M 
     abbrev LI : Label
     LI = label (values.I32 n ∷ ops) NI en kd
 
+    abbrev all_i : List Value
+    all_i = values.I32 n ∷ ops
+
     abbrev esi : List Place
     esi = e ++ joined ss
 
-    abbrev lsi : List Info
-    lsi = info kd ∷ infos Ls
+    abbrev lsi : ℕ
+    lsi = suc (length Ls)
 
     abbrev XI : Shell
     XI = shell W C r kd Ls ss Fs ws
@@ -448,13 +485,16 @@ module _ (M M' : Engine) (E : ℕ) (gl : List ValType) (W : Wrap) (S : Stands M 
 
     -- the call, and what is behind it
     abbrev made : FuncType → Nodes
-    made type = load C (suc (length type.params)) (e1 ∷ esi) (jump 0 (CallIndirect t) (store C (result_of type) (left_by type) stop))
+    made type = load C (suc (length type.params)) (e1 ∷ esi) (past_shown (doubles C.source) C (jump 0 (CallIndirect t) (store C (result_of type) (left_by type) stop)))
 
     abbrev goes_on_i : FuncType → Nodes
     goes_on_i type = rewrite C lsi (grown (result_of type) (left_by type)) rest
 
+    abbrev dropped_i : FuncType → Nodes
+    dropped_i type = drops (suc (length type.params)) (reload C (result_of type) (left_by type) (goes_on_i type))
+
     abbrev behind_i : FuncType → Nodes
-    behind_i type = test_both C lsi (left_by type) at (others_of type) (goes_on_i type)
+    behind_i type = test_both C lsi (left_by type) at (others_of type) (dropped_i type)
 
     -- behind the guard
     abbrev weighed : FuncType → Nodes
@@ -467,28 +507,28 @@ module _ (M M' : Engine) (E : ℕ) (gl : List ValType) (W : Wrap) (S : Stands M 
     size_i = len_of l C.locals f.size
 
     -- the guard's verdict
-    judged : (type : FuncType) (q : Option (Option ℕ)) (lbl kind : ℕ) → Has t C.helpers → slice_get (first_table M.program.module_) n ≡ q → unwrap_or (option_map (entry_label M.program.module_ t) q) 1 ≡ lbl → Label_kind lbl kind → To M' 1 13 (st XI (l ++ ex) [] (guarded_call type) gi co) (st XI (l ++ ex) (values.I32 kind ∷ []) (weighed type) gi co)
+    judged : (type : FuncType) (q : Option (Option ℕ)) (lbl kind : ℕ) → Has t C.helpers → slice_get (first_table M.program.module_) n ≡ q → unwrap_or (option_map (entry_label M.program.module_ t) q) 1 ≡ lbl → Label_kind lbl kind → To M' 1 13 (st XI (l ++ ex) all_i (guarded_call type) gi co) (st XI (l ++ ex) (values.I32 kind ∷ all_i) (weighed type) gi co)
     judged type q lbl kind has tq le lk =
         let kk = weighed type in
         let h = f.labels in
         let has' = subst (Has t) f.helpers has in
-        let s1 : To M' 1 1 (st XI (l ++ ex) [] (guarded_call type) gi co) (st XI (l ++ ex) (values.I32 n ∷ []) (call (helper_of C t) kk) gi co) = fetch_to M' C l size_i ex (length esi) e1 (values.I32 n) h.0.0 in
+        let s1 : To M' 1 1 (st XI (l ++ ex) all_i (guarded_call type) gi co) (st XI (l ++ ex) (values.I32 n ∷ all_i) (call (helper_of C t) kk) gi co) = fetch_to M' C l size_i ex (length esi) e1 (values.I32 n) h.0.0 in
         let d : nat_lt (suc (length XI.frames)) M'.depth ≡ true = rw (length-frames M M' E gl W S r Fs ws fs, S.deeper) (lt-ltb (suc (suc (length Fs))) (suc (suc M.depth)) (omega (arith, shallow))) in
         let idx : helper_of C t ≡ helper_base M.program.module_ + place_in t (helped M.program) = ap₂ (λ b hs. b + place_in t hs) f.base f.helpers in
         let pk = pick_map (entry_label M.program.module_ t) (first_table M.program.module_) 1 n q tq ∙ le in
-        let s2 = subst (λ z. To M' 1 12 (st XI (l ++ ex) (values.I32 n ∷ []) (call z kk) gi co) (st XI (l ++ ex) (values.I32 kind ∷ []) kk gi co)) (sym idx) (helper_in M M' t (S.helpers t has') XI (l ++ ex) kk gi co n lbl kind d pk lk) in
+        let s2 = subst (λ z. To M' 1 12 (st XI (l ++ ex) (values.I32 n ∷ all_i) (call z kk) gi co) (st XI (l ++ ex) (values.I32 kind ∷ all_i) kk gi co)) (sym idx) (helper_in M M' t (S.helpers t has') XI (l ++ ex) all_i kk gi co n lbl kind d pk lk) in
         weaken M' (seq M' s1 s2) (omega arith) (omega arith)
 
     -- the verdict is kept and tested
-    weighed_to : (type : FuncType) (kind : ℕ) → To M' 3 3 (st XI (l ++ ex) (values.I32 kind ∷ []) (weighed type) gi co) (st XI (l ++ slice_set ex (kind_at C) (values.I32 kind)) (values.I32 (bool_number (kind == 0)) ∷ []) (if_any (made type) (behind_i type)) gi co)
+    weighed_to : (type : FuncType) (kind : ℕ) → To M' 3 3 (st XI (l ++ ex) (values.I32 kind ∷ all_i) (weighed type) gi co) (st XI (l ++ slice_set ex (kind_at C) (values.I32 kind)) (values.I32 (bool_number (kind == 0)) ∷ all_i) (if_any (made type) (behind_i type)) gi co)
     weighed_to type kind =
         let v = values.I32 kind in
         let exk = slice_set ex (kind_at C) v in
         let at : slice_get (types ex) (kind_at C) ≡ Some I32 = rw f.room (added_kind C.slots) in
         let k2 = if_any (made type) (behind_i type) in
-        let s1 : To M' 1 1 (st XI (l ++ ex) (v ∷ []) (weighed type) gi co) (st XI (l ++ exk) [] (get C (kind_at C) (basic 0 (Eqz I32) k2)) gi co) = added_set M' C l size_i ex (kind_at C) I32 v at refl in
-        let s2 : To M' 1 1 (st XI (l ++ exk) [] (get C (kind_at C) (basic 0 (Eqz I32) k2)) gi co) (st XI (l ++ exk) (v ∷ []) (basic 0 (Eqz I32) k2) gi co) = added_get M' C l size_i exk (kind_at C) v (slice_get-put_same ex (kind_at C) I32 v at) in
-        let s3 : To M' 1 1 (st XI (l ++ exk) (v ∷ []) (basic 0 (Eqz I32) k2) gi co) (st XI (l ++ exk) (values.I32 (bool_number (kind == 0)) ∷ []) k2 gi co) = step_plain M' (Eqz I32) (v ∷ []) [] (l ++ exk) gi (values.I32 (bool_number (kind == 0)) ∷ []) (values.I32 (bool_number (kind == 0)) ∷ []) refl refl refl in
+        let s1 : To M' 1 1 (st XI (l ++ ex) (v ∷ all_i) (weighed type) gi co) (st XI (l ++ exk) all_i (get C (kind_at C) (basic 0 (Eqz I32) k2)) gi co) = added_set M' C l size_i ex (kind_at C) I32 v at refl in
+        let s2 : To M' 1 1 (st XI (l ++ exk) all_i (get C (kind_at C) (basic 0 (Eqz I32) k2)) gi co) (st XI (l ++ exk) (v ∷ all_i) (basic 0 (Eqz I32) k2) gi co) = added_get M' C l size_i exk (kind_at C) v (slice_get-put_same ex (kind_at C) I32 v at) in
+        let s3 : To M' 1 1 (st XI (l ++ exk) (v ∷ all_i) (basic 0 (Eqz I32) k2) gi co) (st XI (l ++ exk) (values.I32 (bool_number (kind == 0)) ∷ all_i) k2 gi co) = step_plain M' (Eqz I32) (v ∷ []) all_i (l ++ exk) gi (values.I32 (bool_number (kind == 0)) ∷ []) (values.I32 (bool_number (kind == 0)) ∷ all_i) refl refl refl in
         seq M' s1 (seq M' s2 s3)
 
     -- a kind is tested with the flag down
@@ -499,7 +539,7 @@ module _ (M M' : Engine) (E : ℕ) (gl : List ValType) (W : Wrap) (S : Stands M 
     kind_stays lbl j (inr (inr (inl x))) = rw x.1 (refl, refl)
     kind_stays lbl j (inr (inr (inr x))) = rw x.1 (refl, refl)
 
-    pub entry_trap : (type : FuncType) (q : Option (Option ℕ)) (lbl j : ℕ) → Has t C.helpers → slice_get (first_table M.program.module_) n ≡ q → unwrap_or (option_map (entry_label M.program.module_ t) q) 1 ≡ lbl → Label_kind lbl (suc j) → After M M' E gl W (st XI (l ++ ex) [] (guarded_call type) gi co) (traps (suc j) (config (FI ∷ Fs) g co))
+    pub entry_trap : (type : FuncType) (q : Option (Option ℕ)) (lbl j : ℕ) → Has t C.helpers → slice_get (first_table M.program.module_) n ≡ q → unwrap_or (option_map (entry_label M.program.module_ t) q) 1 ≡ lbl → Label_kind lbl (suc j) → After M M' E gl W (st XI (l ++ ex) all_i (guarded_call type) gi co) (traps (suc j) (config (FI ∷ Fs) g co))
     entry_trap type q lbl j has tq le lk =
         let h = f.labels in
         let v = values.I32 (suc j) in
@@ -509,28 +549,28 @@ module _ (M M' : Engine) (E : ℕ) (gl : List ValType) (W : Wrap) (S : Stands M 
         let kq : slice_get exk (kind_at C) ≡ Some v = slice_get-put_same ex (kind_at C) I32 v ty in
         let room : types exk ≡ added C.slots = types-slice_set ex (kind_at C) I32 v ty refl ∙ f.room in
         let ks = kind_stays lbl j lk in
-        let k = goes_on_i type in
+        let k = dropped_i type in
         let H = hand_left C lsi (left_by type) (others_of type) in
-        let X1 = armed XI k [] in
+        let X1 = armed XI k all_i in
         let ex3 = slice_set exk (offset_at C) (values.I32 at) in
         let ne : kind_at C ≢ offset_at C = omega arith in
         let kd3 : slice_get ex3 (kind_at C) ≡ Some v = slice_get-put_other exk (kind_at C) (offset_at C) (values.I32 at) ne ∙ kq in
-        let h1 = fits_put C ex None (LI ∷ Ls) ((e1 ∷ e) ∷ ss) (kind_at C) v (omega (arith, low)) h in
-        let h3 = fits_put C exk None (LI ∷ Ls) ((e1 ∷ e) ∷ ss) (offset_at C) (values.I32 at) (omega (arith, low)) h1 in
+        let h1 = fits_put C l ex None (LI ∷ Ls) ((e1 ∷ e) ∷ ss) (kind_at C) v (omega (arith, low)) h in
+        let h3 = fits_put C l exk None (LI ∷ Ls) ((e1 ∷ e) ∷ ss) (offset_at C) (values.I32 at) (omega (arith, low)) h1 in
         let sp_ = subst (Speaks M') (sym f.funcs) S.speaks in
-        let hands : Hands M' C sp_ M l X1.kind X1.below X1.frames g 0 co (length lsi) H (LI ∷ Ls) ex3 = weaken M' (hand_left_to M' C sp_ l size_i ex3 None (LI ∷ Ls) ((e1 ∷ e) ∷ ss) lsi (suc (length type.params)) j h3 kd3) (omega arith) (omega (arith, low)) in
+        let hands : Hands M' C sp_ M l X1.kind X1.below X1.frames g 0 co lsi H (LI ∷ Ls) ex3 = weaken M' (hand_left_to M' C sp_ l size_i ex3 None (LI ∷ Ls) ((e1 ∷ e) ∷ ss) lsi (suc (length type.params)) j h3 kd3) (omega arith) (omega (arith, low)) in
         let s0 = judged type q lbl (suc j) has tq le lk in
-        let s1 : To M' 3 3 (st XI (l ++ ex) (v ∷ []) (weighed type) gi co) (st XI (l ++ exk) (values.I32 0 ∷ []) (if_any (made type) (behind_i type)) gi co) = subst (λ z. To M' 3 3 (st XI (l ++ ex) (v ∷ []) (weighed type) gi co) (st XI (l ++ exk) (values.I32 z ∷ []) (if_any (made type) (behind_i type)) gi co)) ks.0 (weighed_to type (suc j)) in
-        let s2 : To M' 2 2 (st XI (l ++ exk) (values.I32 0 ∷ []) (if_any (made type) (behind_i type)) gi co) (st XI (l ++ exk) [] (behind_i type) gi co) = if_zero_to M' in
-        let s3 = both_to M M' E gl W C XI l exk g co lsi (left_by type) at (others_of type) k (suc j) 0 (suc j) size_i kq (flag_len C g (wf.globals ∙ sym f.flag)) ks.1 in
-        let s4 : To M' 1 1 (st XI (l ++ exk) (v ∷ []) (if_any (const (values.I32 at) (set C (offset_at C) H)) k) gi co) (st X1 (l ++ exk) [] (const (values.I32 at) (set C (offset_at C) H)) gi co) = one_step M' _ _ refl in
-        trap_out M M' E gl W S C ex (e1 ∷ e) ss ws ix cl r l (values.I32 n ∷ ops) en kd Ls Fs g co NI f fs wf (st XI (l ++ ex) [] (guarded_call type) gi co) j k exk H room kq hands (weaken M' (seq M' s0 (seq M' s1 (seq M' s2 (seq M' s3 s4)))) (omega arith) (omega arith))
+        let s1 : To M' 3 3 (st XI (l ++ ex) (v ∷ all_i) (weighed type) gi co) (st XI (l ++ exk) (values.I32 0 ∷ all_i) (if_any (made type) (behind_i type)) gi co) = subst (λ z. To M' 3 3 (st XI (l ++ ex) (v ∷ all_i) (weighed type) gi co) (st XI (l ++ exk) (values.I32 z ∷ all_i) (if_any (made type) (behind_i type)) gi co)) ks.0 (weighed_to type (suc j)) in
+        let s2 : To M' 2 2 (st XI (l ++ exk) (values.I32 0 ∷ all_i) (if_any (made type) (behind_i type)) gi co) (st XI (l ++ exk) all_i (behind_i type) gi co) = if_zero_to M' in
+        let s3 = both_to M M' E gl W C XI l exk all_i g co lsi (left_by type) at (others_of type) k (suc j) 0 (suc j) size_i kq (flag_len C g (wf.globals ∙ sym f.flag)) ks.1 in
+        let s4 : To M' 1 1 (st XI (l ++ exk) (v ∷ all_i) (if_any (const (values.I32 at) (set C (offset_at C) H)) k) gi co) (st X1 (l ++ exk) [] (const (values.I32 at) (set C (offset_at C) H)) gi co) = one_step M' _ _ refl in
+        trap_out M M' E gl W S C ex (e1 ∷ e) ss ws ix cl r l (values.I32 n ∷ ops) en kd Ls Fs g co NI f fs wf (st XI (l ++ ex) all_i (guarded_call type) gi co) j k all_i exk H room kq hands (weaken M' (seq M' s0 (seq M' s1 (seq M' s2 (seq M' s3 s4)))) (omega arith) (omega arith))
 
     abbrev RoomI : FuncType → Type 0
     RoomI type = FitsIn C (result_of type) (less (length type.params) esi) × Room C (grown (result_of type) (less (length type.params) esi)) rest
 
     -- the function of an entry is called
-    pub entry_call : (type : FuncType) (g' : ℕ) (fn : Function) (u : Cut) → Has t C.helpers → RoomI type → slice_get M.program.module_.types t ≡ Some type → slice_get g.table n ≡ Some (Some g') → function_at M.program g' ≡ Some fn → function_type fn ≡ type → unwrap_or (option_map (entry_label M.program.module_ t) (Some (Some g'))) 1 ≡ 0 → cut (length (function_type fn).params) ops ≡ u → After M M' E gl W (st XI (l ++ ex) [] (guarded_call type) gi co) (calls_on M fn g' u at rest FI LI Ls Fs g co)
+    pub entry_call : (type : FuncType) (g' : ℕ) (fn : Function) (u : Cut) → Has t C.helpers → RoomI type → slice_get M.program.module_.types t ≡ Some type → slice_get g.table n ≡ Some (Some g') → function_at M.program g' ≡ Some fn → function_type fn ≡ type → unwrap_or (option_map (entry_label M.program.module_ t) (Some (Some g'))) 1 ≡ 0 → cut (length (function_type fn).params) ops ≡ u → After M M' E gl W (st XI (l ++ ex) all_i (guarded_call type) gi co) (calls_on M fn g' u at rest FI LI Ls Fs g co)
     entry_call type g' fn short has rm ty tq at_ same le c = tt
     entry_call type g' fn (parts vs below) has rm ty tq at_ same le c =
         let h = f.labels in
@@ -539,35 +579,43 @@ module _ (M M' : Engine) (E : ℕ) (gl : List ValType) (W : Wrap) (S : Stands M 
         let c' : cut m ops ≡ parts vs below = ap (λ z. cut (length z.params) ops) (sym same) ∙ c in
         let same1 : types exi ≡ types ex = types-slice_set ex (kind_at C) I32 (values.I32 0) (rw f.room (added_kind C.slots)) refl in
         let low : length (e1 ∷ esi) ≤ C.slots = room_height C (e1 ∷ esi) NI h.2 in
-        let h1 = fits_put C ex None (LI ∷ Ls) ((e1 ∷ e) ∷ ss) (kind_at C) (values.I32 0) (omega (arith, low)) h in
-        let lh = less_holds exi m (joined ss) e ops vs below h1.0.1 c' in
+        let h1 = fits_put C l ex None (LI ∷ Ls) ((e1 ∷ e) ∷ ss) (kind_at C) (values.I32 0) (omega (arith, low)) h in
+        let lh = less_holds l exi m (joined ss) e ops vs below h1.0.1 c' in
         let e' = lh.0 in
         let others = hand_top C (suc m) (e1 ∷ esi) stop in
         let k = store C r1 (e' ++ joined ss) stop in
         let code = jump 0 (CallIndirect t) k in
-        let behind = test_both C lsi (e' ++ joined ss) at others (rewrite C lsi (grown r1 (e' ++ joined ss)) rest) in
-        let YI = armed XI behind [] in
+        let moved = past_shown (doubles C.source) C code in
+        let n1 = past (doubles C.source) C.source n in
+        let uw : UnderWay = record { others = others; taken = values.I32 n ∷ vs } in
+        let count : length vs ≡ m = cut_count m ops vs below c' in
+        let behind = test_both C lsi (e' ++ joined ss) at others (drops (suc (length vs)) (reload C r1 (e' ++ joined ss) (rewrite C lsi (grown r1 (e' ++ joined ss)) rest))) in
+        let whole : values.I32 n ∷ ops ≡ (values.I32 n ∷ vs) ++ below = ap (λ (z : List Value). values.I32 n ∷ z) (cut_whole m ops vs below c') in
+        let YI = armed XI behind ((values.I32 n ∷ vs) ++ below) in
         let at_kind : slice_get (types ex) (kind_at C) ≡ Some I32 = rw f.room (added_kind C.slots) in
         let no_kind : slice_get exi (kind_at C) ≡ Some (values.I32 0) = slice_get-put_same ex (kind_at C) I32 (values.I32 0) at_kind in
         let rm' : FitsIn C r1 (less m esi) × Room C (grown r1 (less m esi)) rest = subst (λ z. FitsIn C (result_of z) (less m esi) × Room C (grown (result_of z) (less m esi)) rest) (sym same) rm in
-        let hb : FitsLabels C exi r1 (label below rest en kd ∷ Ls) (e' ∷ ss) = (lh.2, subst (FitsIn C r1) lh.1 rm'.0, subst (λ z. Room C (grown r1 z) rest) lh.1 rm'.1, h1.3, h1.4) in
-        let T = st YI (l ++ exi) (values.I32 n ∷ (vs ++ [])) code gi co in
-        let t0 = st XI (l ++ ex) [] (guarded_call type) gi co in
+        let hb : FitsLabels C l exi r1 (label below rest en kd ∷ Ls) (e' ∷ ss) = (lh.2, subst (FitsIn C r1) lh.1 rm'.0, subst (λ z. Room C (grown r1 z) rest) lh.1 rm'.1, h1.3, h1.4) in
+        let T0 = st YI (l ++ exi) (values.I32 n ∷ (vs ++ [])) moved gi co in
+        let T = st YI (l ++ exi) (values.I32 n1 ∷ (vs ++ [])) code gi co in
+        let t0 = st XI (l ++ ex) all_i (guarded_call type) gi co in
         let s0 = judged type (Some (Some g')) 0 0 has (ap (λ z. slice_get z n) (sym wf.table) ∙ tq) le (inl (refl, refl)) in
-        let conv : if_any (made type) (behind_i type) ≡ if_any (load C (suc m) (e1 ∷ esi) code) behind = ap₂ (λ z es'. if_any (load C (suc m) (e1 ∷ esi) (jump 0 (CallIndirect t) (store C (result_of z) es' stop))) (test_both C lsi es' at others (rewrite C lsi (grown (result_of z) es') rest))) (sym same) lh.1 in
-        let s1 : To M' 3 3 (st XI (l ++ ex) (values.I32 0 ∷ []) (weighed type) gi co) (st XI (l ++ exi) (values.I32 1 ∷ []) (if_any (load C (suc m) (e1 ∷ esi) code) behind) gi co) = subst (λ z. To M' 3 3 (st XI (l ++ ex) (values.I32 0 ∷ []) (weighed type) gi co) (st XI (l ++ exi) (values.I32 1 ∷ []) z gi co)) conv (weighed_to type 0) in
-        let s1b : To M' 1 1 (st XI (l ++ exi) (values.I32 1 ∷ []) (if_any (load C (suc m) (e1 ∷ esi) code) behind) gi co) (st YI (l ++ exi) [] (load C (suc m) (e1 ∷ esi) code) gi co) = one_step M' _ _ refl in
+        let conv : if_any (made type) (behind_i type) ≡ if_any (load C (suc m) (e1 ∷ esi) moved) behind = ap₂ (λ z es'. if_any (load C (suc m) (e1 ∷ esi) (past_shown (doubles C.source) C (jump 0 (CallIndirect t) (store C (result_of z) es' stop)))) (test_both C lsi es' at others (drops (suc m) (reload C (result_of z) es' (rewrite C lsi (grown (result_of z) es') rest))))) (sym same) lh.1 ∙ ap (λ (z : ℕ). if_any (load C (suc m) (e1 ∷ esi) moved) (test_both C lsi (e' ++ joined ss) at others (drops (suc z) (reload C r1 (e' ++ joined ss) (rewrite C lsi (grown r1 (e' ++ joined ss)) rest))))) (sym count) in
+        let s1 : To M' 3 3 (st XI (l ++ ex) (values.I32 0 ∷ all_i) (weighed type) gi co) (st XI (l ++ exi) (values.I32 1 ∷ all_i) (if_any (load C (suc m) (e1 ∷ esi) moved) behind) gi co) = subst (λ z. To M' 3 3 (st XI (l ++ ex) (values.I32 0 ∷ all_i) (weighed type) gi co) (st XI (l ++ exi) (values.I32 1 ∷ all_i) z gi co)) conv (weighed_to type 0) in
+        let s1b : To M' 1 1 (st XI (l ++ exi) (values.I32 1 ∷ all_i) (if_any (load C (suc m) (e1 ∷ esi) moved) behind) gi co) (st YI (l ++ exi) [] (load C (suc m) (e1 ∷ esi) moved) gi co) = subst (λ (z : List Value). To M' 1 1 (st XI (l ++ exi) (values.I32 1 ∷ z) (if_any (load C (suc m) (e1 ∷ esi) moved) behind) gi co) (st YI (l ++ exi) [] (load C (suc m) (e1 ∷ esi) moved) gi co)) (sym whole) (one_step M' _ _ refl) in
         let cu : cut (suc m) (values.I32 n ∷ ops) ≡ parts (values.I32 n ∷ vs) below = ap (one_more (values.I32 n)) c' in
-        let s2 : To M' (suc m) (suc m) (st YI (l ++ exi) [] (load C (suc m) (e1 ∷ esi) code) gi co) T = load_to M' C l size_i {X = YI} exi (suc m) (joined ss) (e1 ∷ e) (values.I32 n ∷ ops) [] (values.I32 n ∷ vs) below code h1.0 cu in
-        let few : m ≤ C.slots = omega (arith, cut_len m ops vs below c', holds_len ex (joined ss) e ops h.0.1, length-append e (joined ss), low) in
-        let tbl : slice_get gi.table n ≡ Some (Some (mapped M.program.module_ g')) = slice_get-map (option_map (mapped M.program.module_)) g.table n ∙ ap (option_map (option_map (mapped M.program.module_))) tq in
+        let s2 : To M' (suc m) (suc m) (st YI (l ++ exi) [] (load C (suc m) (e1 ∷ esi) moved) gi co) T0 = load_to M' C l size_i {X = YI} exi (suc m) (joined ss) (e1 ∷ e) (values.I32 n ∷ ops) [] (values.I32 n ∷ vs) below moved h1.0 cu in
+        let low1 : doubles C.source ≡ true → n + table_min C.source.tables < 65537 = subst (λ z. doubles z ≡ true → n + table_min z.tables < 65537) (sym f.funcs) (entry_low M.program.module_ g.table n (Some g') wf.table tq) in
+        let s2b : To M' 0 2 T0 T = past_to M' C YI (l ++ exi) n (vs ++ []) code gi co (doubles C.source) low1 in
+        let few : m ≤ C.slots = omega (arith, cut_len m ops vs below c', holds_len l ex (joined ss) e ops h.0.1, length-append e (joined ss), low) in
+        let tbl : slice_get gi.table n1 ≡ Some (Some (mapped M.program.module_ g')) = ap (λ z. slice_get gi.table (past (doubles z) z n)) f.funcs ∙ entry_past M.program.module_ g.table n (Some g') wf.table tq in
         let ft : type_at M'.program.module_ (mapped M.program.module_ g') ≡ Some type = S.function_types_ g' type (S.type_is g' fn at_ ∙ ap Some same) in
         let ty' = S.entry_types t type ty in
         let self = same_functype_refl type in
-        let st_ : step M' T ≡ calls M' (function_at M'.program (mapped M.program.module_ g')) (mapped M.program.module_ g') (vs ++ []) 0 k (frame YI.idx YI.result 0 (l ++ exi) (label (values.I32 n ∷ (vs ++ [])) code 0 YI.kind ∷ YI.below)) (label (values.I32 n ∷ (vs ++ [])) code 0 YI.kind) YI.below YI.frames gi co = rw (ty', tbl, ft, self) refl in
+        let st_ : step M' T ≡ calls M' (function_at M'.program (mapped M.program.module_ g')) (mapped M.program.module_ g') (vs ++ []) 0 k (frame YI.idx YI.result 0 (l ++ exi) (label (values.I32 n1 ∷ (vs ++ [])) code 0 YI.kind ∷ YI.below)) (label (values.I32 n1 ∷ (vs ++ [])) code 0 YI.kind) YI.below YI.frames gi co = rw (ty', tbl, ft, self) refl in
         let cc_ : cut (length (function_type fn).params) (vs ++ []) ≡ parts vs [] = cut_all (length (function_type fn).params) ops vs below [] c in
-        called M M' E gl W S C ex (e1 ∷ e) ss ws ix cl r l (values.I32 n ∷ ops) en kd Ls Fs g co NI f fs wf exi below e' rest fn vs false (Some others) g' (values.I32 n ∷ (vs ++ [])) code t0 T (C.slots + 35) (same_types (types (reverse vs)) (function_type fn).params) at_ (direct_ fn) cc_ same1 no_kind hb (omega arith) refl (weaken M' (seq M' s0 (seq M' s1 (seq M' s1b s2))) (omega arith) (omega (arith, few))) st_
+        called M M' E gl W S C ex (e1 ∷ e) ss ws ix cl r l (values.I32 n ∷ ops) en kd Ls Fs g co NI f fs wf exi below e' rest fn vs false (Some uw) g' (values.I32 n1 ∷ (vs ++ [])) code t0 T (2 * C.slots + 35) (same_types (types (reverse vs)) (function_type fn).params) (vs ++ []) at_ (direct_ fn) cc_ same1 (no_kind, omega (arith, few, count)) hb (omega arith) refl (weaken M' (seq M' s0 (seq M' s1 (seq M' s1b (seq M' s2 s2b)))) (omega arith) (omega (arith, few))) st_
       where
-        direct_ : (fn : Function) → DirectFits M M' E gl W S C ex (e1 ∷ e) ss ws ix cl r l (values.I32 n ∷ ops) en kd Ls Fs g co NI f fs wf fn false (Some (hand_top C (suc (length type.params)) (e1 ∷ esi) stop))
+        direct_ : (fn : Function) → DirectFits M M' E gl W S C ex (e1 ∷ e) ss ws ix cl r l (values.I32 n ∷ ops) en kd Ls Fs g co NI f fs wf fn false (Some (record { others = hand_top C (suc (length type.params)) (e1 ∷ esi) stop; taken = values.I32 n ∷ vs }))
         direct_ (imported i type) = tt
         direct_ (defined b tree type) = tt

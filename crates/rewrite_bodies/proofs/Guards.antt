@@ -81,7 +81,7 @@ number_value : (t : ValType) (n : ℕ) → number t (value t n) ≡ Some n
 number_value I32 n = refl
 number_value I64 n = refl
 
-module _ (M : Engine) (C : Ctx) (l : List Value) (size : length C.locals ≡ length l) where
+module _ (M : Engine) (C : Ctx) (l : List Value) (size : length C.locals ≡ length l) (sb : List Value) where
   module _ (X : Shell) (g : World) (co : List CollectorCall) (tl : List Value) where
     -- the topmost number is tested
     eqz_to : (t : ValType) (v : Value) (n : ℕ) (q : Bool) (s : List Value) (k : Nodes) → number t v ≡ Some n → (n == 0) ≡ q → To M 1 1 (st X tl (v ∷ s) (basic 0 (Eqz t) k) g co) (st X tl (values.I32 (bool_number q) ∷ s) k g co)
@@ -108,19 +108,19 @@ module _ (M : Engine) (C : Ctx) (l : List Value) (size : length C.locals ≡ len
     or_to false false s k = one_step M _ _ refl
 
     -- 2, or 3 where the divisor is not zero
-    two_or_three_to : (z : Bool) (k : Nodes) → To M 1 1 (st X tl (values.I32 (bool_number z) ∷ values.I32 3 ∷ values.I32 2 ∷ []) (basic 0 Select k) g co) (st X tl (values.I32 (if_zero z 3) ∷ []) k g co)
+    two_or_three_to : (z : Bool) (k : Nodes) → To M 1 1 (st X tl (values.I32 (bool_number z) ∷ values.I32 3 ∷ values.I32 2 ∷ sb) (basic 0 Select k) g co) (st X tl (values.I32 (if_zero z 3) ∷ sb) k g co)
     two_or_three_to true k = one_step M _ _ refl
     two_or_three_to false k = one_step M _ _ refl
 
   -- the guard leaves 1 where there is a kind, and 0 where there is none; where there is one, the other piece leaves it
   abbrev Guards : Shell → Nodes → World → List CollectorCall → List Value → List Place → Basic → ℕ → Type 0
   Guards X k g co ex es i n =
-      To M 1 21 (st X (l ++ ex) [] (guard C i es k) g co) (st X (l ++ ex) (values.I32 (verdict n) ∷ []) k g co)
-      × ((j : ℕ) → n ≡ suc j → To M 1 5 (st X (l ++ ex) [] (kind C i es k) g co) (st X (l ++ ex) (values.I32 (suc j) ∷ []) k g co))
+      To M 1 21 (st X (l ++ ex) sb (guard C i es k) g co) (st X (l ++ ex) (values.I32 (verdict n) ∷ sb) k g co)
+      × ((j : ℕ) → n ≡ suc j → To M 1 5 (st X (l ++ ex) sb (kind C i es k) g co) (st X (l ++ ex) (values.I32 (suc j) ∷ sb) k g co))
 
   -- a constant kind
-  one_kind_to : (X : Shell) (k : Nodes) (g : World) (co : List CollectorCall) (tl : List Value) (c j : ℕ) → c ≡ suc j → To M 1 5 (st X tl [] (const (values.I32 c) k) g co) (st X tl (values.I32 (suc j) ∷ []) k g co)
-  one_kind_to X k g co tl c j e = subst (λ z. To M 1 5 (st X tl [] (const (values.I32 c) k) g co) (st X tl (values.I32 z ∷ []) k g co)) e (weaken M (push_to M (values.I32 c)) (omega arith) (omega arith))
+  one_kind_to : (X : Shell) (k : Nodes) (g : World) (co : List CollectorCall) (tl : List Value) (c j : ℕ) → c ≡ suc j → To M 1 5 (st X tl sb (const (values.I32 c) k) g co) (st X tl (values.I32 (suc j) ∷ sb) k g co)
+  one_kind_to X k g co tl c j e = subst (λ z. To M 1 5 (st X tl sb (const (values.I32 c) k) g co) (st X tl (values.I32 z ∷ sb) k g co)) e (weaken M (push_to M (values.I32 c)) (omega arith) (omega arith))
 
   two_is : (z : Bool) (j : ℕ) → if_zero z 0 ≡ suc j → 2 ≡ suc j
   two_is true j e = e
@@ -130,16 +130,16 @@ module _ (M : Engine) (C : Ctx) (l : List Value) (size : length C.locals ≡ len
   four_is true j e = absurd (cc)
   four_is false j e = e
 
-  zero_to : (X : Shell) (k : Nodes) (g : World) (co : List CollectorCall) (ex s : List Value) (t : ValType) (e : Place) (h : ℕ) (v : Value) (n : ℕ) → One ex h e v → number t v ≡ Some n → To M 2 2 (st X (l ++ ex) s (guard_zero C t e h k) g co) (st X (l ++ ex) (values.I32 (bool_number (n == 0)) ∷ s) k g co)
+  zero_to : (X : Shell) (k : Nodes) (g : World) (co : List CollectorCall) (ex s : List Value) (t : ValType) (e : Place) (h : ℕ) (v : Value) (n : ℕ) → One l ex h e v → number t v ≡ Some n → To M 2 2 (st X (l ++ ex) s (guard_zero C t e h k) g co) (st X (l ++ ex) (values.I32 (bool_number (n == 0)) ∷ s) k g co)
   zero_to X k g co ex s t e h v n o d =
       let s1 : To M 1 1 (st X (l ++ ex) s (fetch C e h (basic 0 (Eqz t) k)) g co) (st X (l ++ ex) (v ∷ s) (basic 0 (Eqz t) k) g co) = fetch_to M C l size ex h e v o in
       seq M s1 (eqz_to X g co (l ++ ex) t v n (n == 0) s k d refl)
 
-  guard_zero_to : (X : Shell) (k : Nodes) (g : World) (co : List CollectorCall) (ex : List Value) (t : ValType) (e : Place) (h : ℕ) (v : Value) (n : ℕ) → One ex h e v → number t v ≡ Some n →
-      To M 1 21 (st X (l ++ ex) [] (guard_zero C t e h k) g co) (st X (l ++ ex) (values.I32 (verdict (if_zero (n == 0) 0)) ∷ []) k g co)
-      × ((j : ℕ) → if_zero (n == 0) 0 ≡ suc j → To M 1 5 (st X (l ++ ex) [] (const (values.I32 2) k) g co) (st X (l ++ ex) (values.I32 (suc j) ∷ []) k g co))
+  guard_zero_to : (X : Shell) (k : Nodes) (g : World) (co : List CollectorCall) (ex : List Value) (t : ValType) (e : Place) (h : ℕ) (v : Value) (n : ℕ) → One l ex h e v → number t v ≡ Some n →
+      To M 1 21 (st X (l ++ ex) sb (guard_zero C t e h k) g co) (st X (l ++ ex) (values.I32 (verdict (if_zero (n == 0) 0)) ∷ sb) k g co)
+      × ((j : ℕ) → if_zero (n == 0) 0 ≡ suc j → To M 1 5 (st X (l ++ ex) sb (const (values.I32 2) k) g co) (st X (l ++ ex) (values.I32 (suc j) ∷ sb) k g co))
   guard_zero_to X k g co ex t e h v n o d = (
-    subst (λ b. To M 1 21 (st X (l ++ ex) [] (guard_zero C t e h k) g co) (st X (l ++ ex) (values.I32 b ∷ []) k g co)) (zero_verdict (n == 0)) (weaken M (zero_to X k g co ex [] t e h v n o d) (omega arith) (omega arith)),
+    subst (λ b. To M 1 21 (st X (l ++ ex) sb (guard_zero C t e h k) g co) (st X (l ++ ex) (values.I32 b ∷ sb) k g co)) (zero_verdict (n == 0)) (weaken M (zero_to X k g co ex sb t e h v n o d) (omega arith) (omega arith)),
     λ j q. one_kind_to X k g co (l ++ ex) 2 j (two_is (n == 0) j q),
   )
 
@@ -149,19 +149,19 @@ module _ (M : Engine) (C : Ctx) (l : List Value) (size : length C.locals ≡ len
   signed_kind x false false f h = h x
 
   -- the kind of a trap of a quotient
-  signed_kind_to : (X : Shell) (k : Nodes) (g : World) (co : List CollectorCall) (ex : List Value) (t : ValType) (e : Place) (h : ℕ) (w : Value) (n : ℕ) → One ex h e w → number t w ≡ Some n → To M 5 5 (st X (l ++ ex) [] (kind_signed C t e h k) g co) (st X (l ++ ex) (values.I32 (if_zero (n == 0) 3) ∷ []) k g co)
+  signed_kind_to : (X : Shell) (k : Nodes) (g : World) (co : List CollectorCall) (ex : List Value) (t : ValType) (e : Place) (h : ℕ) (w : Value) (n : ℕ) → One l ex h e w → number t w ≡ Some n → To M 5 5 (st X (l ++ ex) sb (kind_signed C t e h k) g co) (st X (l ++ ex) (values.I32 (if_zero (n == 0) 3) ∷ sb) k g co)
   signed_kind_to X k g co ex t e h w n o d =
-      let s0 : To M 2 2 (st X (l ++ ex) [] (kind_signed C t e h k) g co) (st X (l ++ ex) (values.I32 3 ∷ values.I32 2 ∷ []) (guard_zero C t e h (basic 0 Select k)) g co) = seq M (push_to M (values.I32 2)) (push_to M (values.I32 3)) in
-      seq M s0 (seq M (zero_to X (basic 0 Select k) g co ex (values.I32 3 ∷ values.I32 2 ∷ []) t e h w n o d) (two_or_three_to X g co (l ++ ex) (n == 0) k))
+      let t0 : To M 2 2 (st X (l ++ ex) sb (kind_signed C t e h k) g co) (st X (l ++ ex) (values.I32 3 ∷ values.I32 2 ∷ sb) (guard_zero C t e h (basic 0 Select k)) g co) = seq M (push_to M (values.I32 2)) (push_to M (values.I32 3)) in
+      seq M t0 (seq M (zero_to X (basic 0 Select k) g co ex (values.I32 3 ∷ values.I32 2 ∷ sb) t e h w n o d) (two_or_three_to X g co (l ++ ex) (n == 0) k))
 
   three_is : (z p : Bool) (j : ℕ) → if_zero z (if_kind p 3) ≡ suc j → if_zero z 3 ≡ suc j
   three_is true p j e = e
   three_is false true j e = e
   three_is false false j e = absurd (cc)
 
-  guard_signed_to : (X : Shell) (k : Nodes) (g : World) (co : List CollectorCall) (ex : List Value) (t : ValType) (e e' : Place) (h : ℕ) (w v : Value) (n a : ℕ) → One ex (suc h) e w → One ex h e' v → number t w ≡ Some n → number t v ≡ Some a →
-      To M 1 21 (st X (l ++ ex) [] (guard_signed C t e e' h k) g co) (st X (l ++ ex) (values.I32 (verdict (if_zero (n == 0) (if_kind ((a == 2 ^ (bits t - 1)) && (n == 2 ^ bits t - 1)) 3))) ∷ []) k g co)
-      × ((j : ℕ) → if_zero (n == 0) (if_kind ((a == 2 ^ (bits t - 1)) && (n == 2 ^ bits t - 1)) 3) ≡ suc j → To M 1 5 (st X (l ++ ex) [] (kind_signed C t e (suc h) k) g co) (st X (l ++ ex) (values.I32 (suc j) ∷ []) k g co))
+  guard_signed_to : (X : Shell) (k : Nodes) (g : World) (co : List CollectorCall) (ex : List Value) (t : ValType) (e e' : Place) (h : ℕ) (w v : Value) (n a : ℕ) → One l ex (suc h) e w → One l ex h e' v → number t w ≡ Some n → number t v ≡ Some a →
+      To M 1 21 (st X (l ++ ex) sb (guard_signed C t e e' h k) g co) (st X (l ++ ex) (values.I32 (verdict (if_zero (n == 0) (if_kind ((a == 2 ^ (bits t - 1)) && (n == 2 ^ bits t - 1)) 3))) ∷ sb) k g co)
+      × ((j : ℕ) → if_zero (n == 0) (if_kind ((a == 2 ^ (bits t - 1)) && (n == 2 ^ bits t - 1)) 3) ≡ suc j → To M 1 5 (st X (l ++ ex) sb (kind_signed C t e (suc h) k) g co) (st X (l ++ ex) (values.I32 (suc j) ∷ sb) k g co))
   guard_signed_to X k g co ex t e e' h w v n a o o' d d' =
       let tl = l ++ ex in
       let p = a == 2 ^ (bits t - 1) in
@@ -170,21 +170,21 @@ module _ (M : Engine) (C : Ctx) (l : List Value) (size : length C.locals ≡ len
       let k6 = guard_zero C t e (suc h) k7 in
       let k5 = basic 0 (Binary I32 And) k6 in
       let k4 = fetch C e (suc h) (const (minus_one t) (basic 0 (Compare t Eq) k5)) in
-      let s1 : To M 1 1 (st X tl [] (overflow_test C t e e' h k6) g co) (st X tl (v ∷ []) (const (least t) (basic 0 (Compare t Eq) k4)) g co) = fetch_to M C l size ex h e' v o' in
-      let s2 : To M 2 2 (st X tl (v ∷ []) (const (least t) (basic 0 (Compare t Eq) k4)) g co) (st X tl (values.I32 (bool_number p) ∷ []) k4 g co) = eq_to X g co tl t v a (2 ^ (bits t - 1)) p [] k4 d' refl in
-      let s3 : To M 1 1 (st X tl (values.I32 (bool_number p) ∷ []) k4 g co) (st X tl (w ∷ values.I32 (bool_number p) ∷ []) (const (minus_one t) (basic 0 (Compare t Eq) k5)) g co) = fetch_to M C l size ex (suc h) e w o in
-      let s4 : To M 2 2 (st X tl (w ∷ values.I32 (bool_number p) ∷ []) (const (minus_one t) (basic 0 (Compare t Eq) k5)) g co) (st X tl (values.I32 (bool_number q) ∷ values.I32 (bool_number p) ∷ []) k5 g co) = eq_to X g co tl t w n (2 ^ bits t - 1) q (values.I32 (bool_number p) ∷ []) k5 d refl in
-      let s5 : To M 1 1 (st X tl (values.I32 (bool_number q) ∷ values.I32 (bool_number p) ∷ []) k5 g co) (st X tl (values.I32 (bool_number (p && q)) ∷ []) k6 g co) = and_to X g co tl p q [] k6 in
-      let s6 = zero_to X k7 g co ex (values.I32 (bool_number (p && q)) ∷ []) t e (suc h) w n o d in
-      let s7 = or_to X g co tl (p && q) (n == 0) [] k in
-      let whole : To M 1 21 (st X tl [] (guard_signed C t e e' h k) g co) (st X tl (values.I32 (verdict (if_zero (n == 0) (if_kind (p && q) 3))) ∷ []) k g co) = weaken M (seq M s1 (seq M s2 (seq M s3 (seq M s4 (seq M s5 (seq M s6 s7)))))) (omega arith) (omega arith) in
-      (whole, λ j z. subst (λ b. To M 1 5 (st X tl [] (kind_signed C t e (suc h) k) g co) (st X tl (values.I32 b ∷ []) k g co)) (three_is (n == 0) (p && q) j z) (weaken M (signed_kind_to X k g co ex t e (suc h) w n o d) (omega arith) (omega arith)))
+      let s1 : To M 1 1 (st X tl sb (overflow_test C t e e' h k6) g co) (st X tl (v ∷ sb) (const (least t) (basic 0 (Compare t Eq) k4)) g co) = fetch_to M C l size ex h e' v o' in
+      let s2 : To M 2 2 (st X tl (v ∷ sb) (const (least t) (basic 0 (Compare t Eq) k4)) g co) (st X tl (values.I32 (bool_number p) ∷ sb) k4 g co) = eq_to X g co tl t v a (2 ^ (bits t - 1)) p sb k4 d' refl in
+      let s3 : To M 1 1 (st X tl (values.I32 (bool_number p) ∷ sb) k4 g co) (st X tl (w ∷ values.I32 (bool_number p) ∷ sb) (const (minus_one t) (basic 0 (Compare t Eq) k5)) g co) = fetch_to M C l size ex (suc h) e w o in
+      let s4 : To M 2 2 (st X tl (w ∷ values.I32 (bool_number p) ∷ sb) (const (minus_one t) (basic 0 (Compare t Eq) k5)) g co) (st X tl (values.I32 (bool_number q) ∷ values.I32 (bool_number p) ∷ sb) k5 g co) = eq_to X g co tl t w n (2 ^ bits t - 1) q (values.I32 (bool_number p) ∷ sb) k5 d refl in
+      let s5 : To M 1 1 (st X tl (values.I32 (bool_number q) ∷ values.I32 (bool_number p) ∷ sb) k5 g co) (st X tl (values.I32 (bool_number (p && q)) ∷ sb) k6 g co) = and_to X g co tl p q sb k6 in
+      let s6 = zero_to X k7 g co ex (values.I32 (bool_number (p && q)) ∷ sb) t e (suc h) w n o d in
+      let s7 = or_to X g co tl (p && q) (n == 0) sb k in
+      let whole : To M 1 21 (st X tl sb (guard_signed C t e e' h k) g co) (st X tl (values.I32 (verdict (if_zero (n == 0) (if_kind (p && q) 3))) ∷ sb) k g co) = weaken M (seq M s1 (seq M s2 (seq M s3 (seq M s4 (seq M s5 (seq M s6 s7)))))) (omega arith) (omega arith) in
+      (whole, λ j z. subst (λ b. To M 1 5 (st X tl sb (kind_signed C t e (suc h) k) g co) (st X tl (values.I32 b ∷ sb) k g co)) (three_is (n == 0) (p && q) j z) (weaken M (signed_kind_to X k g co ex t e (suc h) w n o d) (omega arith) (omega arith)))
 
   zero_kind : (n : ℕ) (z : Bool) (x : ℕ) (f : ℕ → Effect) → ((x : ℕ) → kind_of (f x) ≡ 0) → kind_of (effects.divides (if z then Err DivideByZero else Ok x) f) ≡ if_zero z 0
   zero_kind n true x f h = refl
   zero_kind n false x f h = h x
 
-  guard_div : (X : Shell) (k : Nodes) (g gg : World) (co : List CollectorCall) (ex : List Value) (t : ValType) (op : BinaryOp) (e e' : Place) (w v : Value) (es : List Place) → divides op ≡ true → One ex (length (e' ∷ es)) e w → One ex (length es) e' v → effect (Binary t op) gg l (w ∷ v ∷ []) ≢ unfit → Guards X k g co ex (e ∷ e' ∷ es) (Binary t op) (kind_of (effect (Binary t op) gg l (w ∷ v ∷ [])))
+  guard_div : (X : Shell) (k : Nodes) (g gg : World) (co : List CollectorCall) (ex : List Value) (t : ValType) (op : BinaryOp) (e e' : Place) (w v : Value) (es : List Place) → divides op ≡ true → One l ex (length (e' ∷ es)) e w → One l ex (length es) e' v → effect (Binary t op) gg l (w ∷ v ∷ []) ≢ unfit → Guards X k g co ex (e ∷ e' ∷ es) (Binary t op) (kind_of (effect (Binary t op) gg l (w ∷ v ∷ [])))
   unfolding int_binary div_s rem_s
   guard_div X k g gg co ex t op e e' w v es dv o o' nw = numbers (two_of t t w v (λ b a. effects.divides (binary t op a b) (λ n. gives gg l (value t n ∷ []))) nw)
     where
@@ -234,9 +234,9 @@ module _ (M : Engine) (C : Ctx) (l : List Value) (size : length C.locals ≡ len
       let s5 : To M 1 1 (st X tl (values.I64 size64 ∷ values.I64 s ∷ base) k7 g co) (st X tl (values.I32 (bool_number (nat_lt (length m.bytes) s)) ∷ base) k g co) = one_step M _ _ (rw cmp refl) in
       seq M s3 (seq M s4 s5)
 
-  guard_memory_to : (X : Shell) (k : Nodes) (g : World) (m : Memory) (co : List CollectorCall) (ex : List Value) (e : Place) (h x n o b : ℕ) (q : Bool) → One ex h e (values.I32 x) → g.memory ≡ Some m → MemoryFits (Some m) → o < 2 ^ 32 → b ≤ 64 → n ≡ o + b → nat_le (address x o + b) (length m.bytes) ≡ q →
-      To M 1 21 (st X (l ++ ex) [] (guard_memory C e h n k) g co) (st X (l ++ ex) (values.I32 (verdict (out_kind q)) ∷ []) k g co)
-      × ((j : ℕ) → out_kind q ≡ suc j → To M 1 5 (st X (l ++ ex) [] (const (values.I32 4) k) g co) (st X (l ++ ex) (values.I32 (suc j) ∷ []) k g co))
+  guard_memory_to : (X : Shell) (k : Nodes) (g : World) (m : Memory) (co : List CollectorCall) (ex : List Value) (e : Place) (h x n o b : ℕ) (q : Bool) → One l ex h e (values.I32 x) → g.memory ≡ Some m → MemoryFits (Some m) → o < 2 ^ 32 → b ≤ 64 → n ≡ o + b → nat_le (address x o + b) (length m.bytes) ≡ q →
+      To M 1 21 (st X (l ++ ex) sb (guard_memory C e h n k) g co) (st X (l ++ ex) (values.I32 (verdict (out_kind q)) ∷ sb) k g co)
+      × ((j : ℕ) → out_kind q ≡ suc j → To M 1 5 (st X (l ++ ex) sb (const (values.I32 4) k) g co) (st X (l ++ ex) (values.I32 (suc j) ∷ sb) k g co))
   unfolding int_binary
   guard_memory_to X k g m co ex e h x n o b q on gm mf lo lb ne inside_ =
       let tl = l ++ ex in
@@ -246,14 +246,14 @@ module _ (M : Engine) (C : Ctx) (l : List Value) (size : length C.locals ≡ len
       let k4 = past_end k in
       let k3 = basic 0 (Binary I64 Add) k4 in
       let sum64 = modulo I64 (x' + n) in
-      let s1 : To M 1 1 (st X tl [] (fetch C e h (out_test n k)) g co) (st X tl (values.I32 x ∷ []) (out_test n k) g co) = fetch_to M C l size ex h e (values.I32 x) on in
-      let s2 : To M 3 3 (st X tl (values.I32 x ∷ []) (out_test n k) g co) (st X tl (values.I64 sum64 ∷ []) k4 g co) = seq M (one_step M _ (next (st X tl (values.I64 x' ∷ []) (const (values.I64 n) k3) g co)) refl) (seq M (push_to M (values.I64 n)) (one_step M _ _ refl)) in
+      let s1 : To M 1 1 (st X tl sb (fetch C e h (out_test n k)) g co) (st X tl (values.I32 x ∷ sb) (out_test n k) g co) = fetch_to M C l size ex h e (values.I32 x) on in
+      let s2 : To M 3 3 (st X tl (values.I32 x ∷ sb) (out_test n k) g co) (st X tl (values.I64 sum64 ∷ sb) k4 g co) = seq M (one_step M _ (next (st X tl (values.I64 x' ∷ sb) (const (values.I64 n) k3) g co)) refl) (seq M (push_to M (values.I64 n)) (one_step M _ _ refl)) in
       let cmp : bool_number (nat_lt (length m.bytes) sum64) ≡ verdict (out_kind q) = ap bool_number (not_le (address x o) b (length m.bytes) sum64 q (sum ∙ omega (arith, ne)) inside_) ∙ out_verdict q in
-      let s3 : To M 5 5 (st X tl (values.I64 sum64 ∷ []) k4 g co) (st X tl (values.I32 (verdict (out_kind q)) ∷ []) k g co) = subst (λ z. To M 5 5 (st X tl (values.I64 sum64 ∷ []) k4 g co) (st X tl (values.I32 z ∷ []) k g co)) cmp (past_end_to X k g m co tl [] sum64 gm mf) in
+      let s3 : To M 5 5 (st X tl (values.I64 sum64 ∷ sb) k4 g co) (st X tl (values.I32 (verdict (out_kind q)) ∷ sb) k g co) = subst (λ z. To M 5 5 (st X tl (values.I64 sum64 ∷ sb) k4 g co) (st X tl (values.I32 z ∷ sb) k g co)) cmp (past_end_to X k g m co tl sb sum64 gm mf) in
       (weaken M (seq M s1 (seq M s2 s3)) (omega arith) (omega arith), λ j z. one_kind_to X k g co tl 4 j (four_is q j z))
 
   -- a range of bytes against the length of the memory
-  range_to : (X : Shell) (k : Nodes) (g : World) (m : Memory) (co : List CollectorCall) (ex base : List Value) (a n : Place) (h hn x y : ℕ) → One ex h a (values.I32 x) → One ex hn n (values.I32 y) → g.memory ≡ Some m → MemoryFits (Some m) → To M 10 10 (st X (l ++ ex) base (range_test C a h n hn k) g co) (st X (l ++ ex) (values.I32 (bool_number (not (nat_le (modulo I32 x + modulo I32 y) (length m.bytes)))) ∷ base) k g co)
+  range_to : (X : Shell) (k : Nodes) (g : World) (m : Memory) (co : List CollectorCall) (ex base : List Value) (a n : Place) (h hn x y : ℕ) → One l ex h a (values.I32 x) → One l ex hn n (values.I32 y) → g.memory ≡ Some m → MemoryFits (Some m) → To M 10 10 (st X (l ++ ex) base (range_test C a h n hn k) g co) (st X (l ++ ex) (values.I32 (bool_number (not (nat_le (modulo I32 x + modulo I32 y) (length m.bytes)))) ∷ base) k g co)
   unfolding int_binary
   range_to X k g m co ex base a n h hn x y oa on gm mf =
       let tl = l ++ ex in
@@ -266,42 +266,42 @@ module _ (M : Engine) (C : Ctx) (l : List Value) (size : length C.locals ≡ len
       let k2 = basic 0 (Convert ExtendU) k3 in
       let k1 = fetch C n hn k2 in
       let k0 = basic 0 (Convert ExtendU) k1 in
-      let s0 : To M 1 1 (st X tl base (fetch C a h k0) g co) (st X tl (values.I32 x ∷ base) k0 g co) = fetch_to M C l size ex h a (values.I32 x) oa in
+      let t0 : To M 1 1 (st X tl base (fetch C a h k0) g co) (st X tl (values.I32 x ∷ base) k0 g co) = fetch_to M C l size ex h a (values.I32 x) oa in
       let s1 : To M 1 1 (st X tl (values.I32 x ∷ base) k0 g co) (st X tl (values.I64 x' ∷ base) k1 g co) = one_step M _ _ refl in
       let s2 : To M 1 1 (st X tl (values.I64 x' ∷ base) (fetch C n hn k2) g co) (st X tl (values.I32 y ∷ values.I64 x' ∷ base) k2 g co) = fetch_to M C l size ex hn n (values.I32 y) on in
       let s3 : To M 2 2 (st X tl (values.I32 y ∷ values.I64 x' ∷ base) k2 g co) (st X tl (values.I64 sum64 ∷ base) k4 g co) = seq M (one_step M _ (next (st X tl (values.I64 y' ∷ values.I64 x' ∷ base) k3 g co)) refl) (one_step M _ _ refl) in
       let q = nat_le (x' + y') (length m.bytes) in
       let cmp : nat_lt (length m.bytes) sum64 ≡ not q = not_le x' y' (length m.bytes) sum64 q sum refl in
       let s4 : To M 5 5 (st X tl (values.I64 sum64 ∷ base) k4 g co) (st X tl (values.I32 (bool_number (not q)) ∷ base) k g co) = subst (λ z. To M 5 5 (st X tl (values.I64 sum64 ∷ base) k4 g co) (st X tl (values.I32 (bool_number z) ∷ base) k g co)) cmp (past_end_to X k g m co tl base sum64 gm mf) in
-      seq M s0 (seq M s1 (seq M s2 (seq M s3 s4)))
+      seq M t0 (seq M s1 (seq M s2 (seq M s3 s4)))
 
-  either_to : (X : Shell) (k : Nodes) (g : World) (co : List CollectorCall) (tl : List Value) (p q : Bool) → To M 1 1 (st X tl (values.I32 (bool_number (not q)) ∷ values.I32 (bool_number (not p)) ∷ []) (basic 0 (Binary I32 Or) k) g co) (st X tl (values.I32 (verdict (out_kind (p && q))) ∷ []) k g co)
+  either_to : (X : Shell) (k : Nodes) (g : World) (co : List CollectorCall) (tl : List Value) (p q : Bool) → To M 1 1 (st X tl (values.I32 (bool_number (not q)) ∷ values.I32 (bool_number (not p)) ∷ sb) (basic 0 (Binary I32 Or) k) g co) (st X tl (values.I32 (verdict (out_kind (p && q))) ∷ sb) k g co)
   unfolding int_binary
   either_to X k g co tl true true = one_step M _ _ refl
   either_to X k g co tl true false = one_step M _ _ refl
   either_to X k g co tl false true = one_step M _ _ refl
   either_to X k g co tl false false = one_step M _ _ refl
 
-  guard_copy_to : (X : Shell) (k : Nodes) (g : World) (m : Memory) (co : List CollectorCall) (ex : List Value) (n from to : Place) (h x y z : ℕ) → One ex (suc (suc h)) n (values.I32 z) → One ex (suc h) from (values.I32 x) → One ex h to (values.I32 y) → g.memory ≡ Some m → MemoryFits (Some m) →
-      To M 1 21 (st X (l ++ ex) [] (guard_copy C n from to h k) g co) (st X (l ++ ex) (values.I32 (verdict (out_kind (nat_le (modulo I32 x + modulo I32 z) (length m.bytes) && nat_le (modulo I32 y + modulo I32 z) (length m.bytes)))) ∷ []) k g co)
-      × ((j : ℕ) → out_kind (nat_le (modulo I32 x + modulo I32 z) (length m.bytes) && nat_le (modulo I32 y + modulo I32 z) (length m.bytes)) ≡ suc j → To M 1 5 (st X (l ++ ex) [] (const (values.I32 4) k) g co) (st X (l ++ ex) (values.I32 (suc j) ∷ []) k g co))
+  guard_copy_to : (X : Shell) (k : Nodes) (g : World) (m : Memory) (co : List CollectorCall) (ex : List Value) (n from to : Place) (h x y z : ℕ) → One l ex (suc (suc h)) n (values.I32 z) → One l ex (suc h) from (values.I32 x) → One l ex h to (values.I32 y) → g.memory ≡ Some m → MemoryFits (Some m) →
+      To M 1 21 (st X (l ++ ex) sb (guard_copy C n from to h k) g co) (st X (l ++ ex) (values.I32 (verdict (out_kind (nat_le (modulo I32 x + modulo I32 z) (length m.bytes) && nat_le (modulo I32 y + modulo I32 z) (length m.bytes)))) ∷ sb) k g co)
+      × ((j : ℕ) → out_kind (nat_le (modulo I32 x + modulo I32 z) (length m.bytes) && nat_le (modulo I32 y + modulo I32 z) (length m.bytes)) ≡ suc j → To M 1 5 (st X (l ++ ex) sb (const (values.I32 4) k) g co) (st X (l ++ ex) (values.I32 (suc j) ∷ sb) k g co))
   guard_copy_to X k g m co ex n from to h x y z on of ot gm mf =
       let tl = l ++ ex in
       let p = nat_le (modulo I32 x + modulo I32 z) (length m.bytes) in
       let q = nat_le (modulo I32 y + modulo I32 z) (length m.bytes) in
       let k2 = basic 0 (Binary I32 Or) k in
       let k1 = range_test C to h n (suc (suc h)) k2 in
-      let s1 = range_to X k1 g m co ex [] from n (suc h) (suc (suc h)) x z of on gm mf in
-      let s2 = range_to X k2 g m co ex (values.I32 (bool_number (not p)) ∷ []) to n h (suc (suc h)) y z ot on gm mf in
+      let s1 = range_to X k1 g m co ex sb from n (suc h) (suc (suc h)) x z of on gm mf in
+      let s2 = range_to X k2 g m co ex (values.I32 (bool_number (not p)) ∷ sb) to n h (suc (suc h)) y z ot on gm mf in
       (weaken M (seq M s1 (seq M s2 (either_to X k g co tl p q))) (omega arith) (omega arith), λ j z. one_kind_to X k g co tl 4 j (four_is (p && q) j z))
 
-  guard_fill_to : (X : Shell) (k : Nodes) (g : World) (m : Memory) (co : List CollectorCall) (ex : List Value) (n to : Place) (h y z : ℕ) → One ex (suc (suc h)) n (values.I32 z) → One ex h to (values.I32 y) → g.memory ≡ Some m → MemoryFits (Some m) →
-      To M 1 21 (st X (l ++ ex) [] (guard_fill C n to h k) g co) (st X (l ++ ex) (values.I32 (verdict (out_kind (nat_le (modulo I32 y + modulo I32 z) (length m.bytes)))) ∷ []) k g co)
-      × ((j : ℕ) → out_kind (nat_le (modulo I32 y + modulo I32 z) (length m.bytes)) ≡ suc j → To M 1 5 (st X (l ++ ex) [] (const (values.I32 4) k) g co) (st X (l ++ ex) (values.I32 (suc j) ∷ []) k g co))
+  guard_fill_to : (X : Shell) (k : Nodes) (g : World) (m : Memory) (co : List CollectorCall) (ex : List Value) (n to : Place) (h y z : ℕ) → One l ex (suc (suc h)) n (values.I32 z) → One l ex h to (values.I32 y) → g.memory ≡ Some m → MemoryFits (Some m) →
+      To M 1 21 (st X (l ++ ex) sb (guard_fill C n to h k) g co) (st X (l ++ ex) (values.I32 (verdict (out_kind (nat_le (modulo I32 y + modulo I32 z) (length m.bytes)))) ∷ sb) k g co)
+      × ((j : ℕ) → out_kind (nat_le (modulo I32 y + modulo I32 z) (length m.bytes)) ≡ suc j → To M 1 5 (st X (l ++ ex) sb (const (values.I32 4) k) g co) (st X (l ++ ex) (values.I32 (suc j) ∷ sb) k g co))
   guard_fill_to X k g m co ex n to h y z on ot gm mf =
       let q = nat_le (modulo I32 y + modulo I32 z) (length m.bytes) in
-      let s1 = range_to X k g m co ex [] to n h (suc (suc h)) y z ot on gm mf in
-      (subst (λ b. To M 1 21 (st X (l ++ ex) [] (guard_fill C n to h k) g co) (st X (l ++ ex) (values.I32 b ∷ []) k g co)) (out_verdict q) (weaken M s1 (omega arith) (omega arith)), λ j z. one_kind_to X k g co (l ++ ex) 4 j (four_is q j z))
+      let s1 = range_to X k g m co ex sb to n h (suc (suc h)) y z ot on gm mf in
+      (subst (λ b. To M 1 21 (st X (l ++ ex) sb (guard_fill C n to h k) g co) (st X (l ++ ex) (values.I32 b ∷ sb) k g co)) (out_verdict q) (weaken M s1 (omega arith) (omega arith)), λ j z. one_kind_to X k g co (l ++ ex) 4 j (four_is q j z))
 
   load_kind : (m : Memory) (at b : ℕ) (f : ℕ → Effect) (q : Bool) → ((x : ℕ) → kind_of (f x) ≡ 0) → kind_of (effects.in_bounds (if q then Some (memories.from_bytes (take b (drop at m.bytes))) else None) f) ≡ out_kind q
   load_kind m at b f true h = h _
@@ -333,7 +333,7 @@ module _ (M : Engine) (C : Ctx) (l : List Value) (size : length C.locals ≡ len
   store_small (stores.Part64 narrow64.Sixteen) = omega arith
   store_small (stores.Part64 narrow64.ThirtyTwo) = omega arith
 
-  guard_load : (X : Shell) (k : Nodes) (g gg : World) (co : List CollectorCall) (ex : List Value) (t : Load_) (align o : ℕ) (e : Place) (v : Value) (es : List Place) → g.memory ≡ gg.memory → MemoryFits gg.memory → o < 2 ^ 32 → One ex (length es) e v → effect (Load t align o) gg l (v ∷ []) ≢ unfit → Guards X k g co ex (e ∷ es) (Load t align o) (kind_of (effect (Load t align o) gg l (v ∷ [])))
+  guard_load : (X : Shell) (k : Nodes) (g gg : World) (co : List CollectorCall) (ex : List Value) (t : Load_) (align o : ℕ) (e : Place) (v : Value) (es : List Place) → g.memory ≡ gg.memory → MemoryFits gg.memory → o < 2 ^ 32 → One l ex (length es) e v → effect (Load t align o) gg l (v ∷ []) ≢ unfit → Guards X k g co ex (e ∷ es) (Load t align o) (kind_of (effect (Load t align o) gg l (v ∷ [])))
   guard_load X k g gg co ex t align o e (values.I64 x) es gm mf lo on nw = absurd (nw refl)
   guard_load X k g gg co ex t align o e (values.I32 x) es gm mf lo on nw = by_memory gg.memory nw refl
     where
@@ -344,10 +344,10 @@ module _ (M : Engine) (C : Ctx) (l : List Value) (size : length C.locals ≡ len
           rw (load_kind m (address x o) b (λ n. gives gg l (value (load_type t) (accesses.loaded t n) ∷ [])) (nat_le (address x o + b) (length m.bytes)) (λ x. refl))
           (guard_memory_to X k g m co ex e (length es) x (o + b) o b (nat_le (address x o + b) (length m.bytes)) on (gm ∙ r) (subst MemoryFits r mf) lo (load_small t) refl refl)
 
-  guard_store : (X : Shell) (k : Nodes) (g gg : World) (co : List CollectorCall) (ex : List Value) (t : Store_) (align o : ℕ) (e e' : Place) (w v : Value) (es : List Place) → g.memory ≡ gg.memory → MemoryFits gg.memory → o < 2 ^ 32 → One ex (length es) e' v → effect (Store t align o) gg l (w ∷ v ∷ []) ≢ unfit → Guards X k g co ex (e ∷ e' ∷ es) (Store t align o) (kind_of (effect (Store t align o) gg l (w ∷ v ∷ [])))
+  guard_store : (X : Shell) (k : Nodes) (g gg : World) (co : List CollectorCall) (ex : List Value) (t : Store_) (align o : ℕ) (e e' : Place) (w v : Value) (es : List Place) → g.memory ≡ gg.memory → MemoryFits gg.memory → o < 2 ^ 32 → One l ex (length es) e' v → effect (Store t align o) gg l (w ∷ v ∷ []) ≢ unfit → Guards X k g co ex (e ∷ e' ∷ es) (Store t align o) (kind_of (effect (Store t align o) gg l (w ∷ v ∷ [])))
   guard_store X k g gg co ex t align o e e' w v es gm mf lo on nw = numbers v on (two_of (store_type t) I32 w v (λ n a. effects.with_some gg.memory (λ m. effects.in_bounds (memories.put m (address a o) (to_bytes (store_bits t / 8) n)) (λ m'. gives (with_memory gg m') l []))) nw) nw
     where
-      by_memory : (n x : ℕ) (r : Option Memory) → One ex (length es) e' (values.I32 x) → effects.with_some r (λ m. effects.in_bounds (memories.put m (address x o) (to_bytes (store_bits t / 8) n)) (λ m'. gives (with_memory gg m') l [])) ≢ unfit → gg.memory ≡ r → Guards X k g co ex (e ∷ e' ∷ es) (Store t align o) (kind_of (effects.with_some r (λ m. effects.in_bounds (memories.put m (address x o) (to_bytes (store_bits t / 8) n)) (λ m'. gives (with_memory gg m') l []))))
+      by_memory : (n x : ℕ) (r : Option Memory) → One l ex (length es) e' (values.I32 x) → effects.with_some r (λ m. effects.in_bounds (memories.put m (address x o) (to_bytes (store_bits t / 8) n)) (λ m'. gives (with_memory gg m') l [])) ≢ unfit → gg.memory ≡ r → Guards X k g co ex (e ∷ e' ∷ es) (Store t align o) (kind_of (effects.with_some r (λ m. effects.in_bounds (memories.put m (address x o) (to_bytes (store_bits t / 8) n)) (λ m'. gives (with_memory gg m') l []))))
       by_memory n x None on nw r = absurd (nw refl)
       by_memory n x (Some m) on nw r =
           let b = store_bits t / 8 in
@@ -357,7 +357,7 @@ module _ (M : Engine) (C : Ctx) (l : List Value) (size : length C.locals ≡ len
           rw (put_kind m (address x o) new (λ m'. gives (with_memory gg m') l []) q (λ x. refl))
           (guard_memory_to X k g m co ex e' (length es) x (o + b) o b q on (gm ∙ r) (subst MemoryFits r mf) lo (store_small t) refl (ap (λ z. nat_le (address x o + z) (length m.bytes)) (sym lb)))
 
-      numbers : (v : Value) → One ex (length es) e' v → ((n : ℕ) × (a : ℕ) × (number (store_type t) w ≡ Some n) × (number I32 v ≡ Some a)) → effect (Store t align o) gg l (w ∷ v ∷ []) ≢ unfit → Guards X k g co ex (e ∷ e' ∷ es) (Store t align o) (kind_of (effect (Store t align o) gg l (w ∷ v ∷ [])))
+      numbers : (v : Value) → One l ex (length es) e' v → ((n : ℕ) × (a : ℕ) × (number (store_type t) w ≡ Some n) × (number I32 v ≡ Some a)) → effect (Store t align o) gg l (w ∷ v ∷ []) ≢ unfit → Guards X k g co ex (e ∷ e' ∷ es) (Store t align o) (kind_of (effect (Store t align o) gg l (w ∷ v ∷ [])))
       numbers (values.I64 x) on q nw = absurd (cc)
       numbers (values.I32 x) on q nw = rw q.2 (by_memory q.0 x gg.memory on (rw q.2 at nw) refl)
 
@@ -371,7 +371,7 @@ module _ (M : Engine) (C : Ctx) (l : List Value) (size : length C.locals ≡ len
       let z : length new ≡ n = window_len m.bytes from n (leb-true (from + n) (length m.bytes) e) in
       put_kind m to new f (nat_le (to + length new) (length m.bytes)) h ∙ ap (λ j. out_kind (nat_le (to + j) (length m.bytes))) z
 
-  guard_copies : (X : Shell) (k : Nodes) (g gg : World) (co : List CollectorCall) (ex : List Value) (e e' e'' : Place) (w v u : Value) (es : List Place) → g.memory ≡ gg.memory → MemoryFits gg.memory → One ex (length (e' ∷ e'' ∷ es)) e w → One ex (length (e'' ∷ es)) e' v → One ex (length es) e'' u → effect MemoryCopy gg l (w ∷ v ∷ u ∷ []) ≢ unfit → Guards X k g co ex (e ∷ e' ∷ e'' ∷ es) MemoryCopy (kind_of (effect MemoryCopy gg l (w ∷ v ∷ u ∷ [])))
+  guard_copies : (X : Shell) (k : Nodes) (g gg : World) (co : List CollectorCall) (ex : List Value) (e e' e'' : Place) (w v u : Value) (es : List Place) → g.memory ≡ gg.memory → MemoryFits gg.memory → One l ex (length (e' ∷ e'' ∷ es)) e w → One l ex (length (e'' ∷ es)) e' v → One l ex (length es) e'' u → effect MemoryCopy gg l (w ∷ v ∷ u ∷ []) ≢ unfit → Guards X k g co ex (e ∷ e' ∷ e'' ∷ es) MemoryCopy (kind_of (effect MemoryCopy gg l (w ∷ v ∷ u ∷ [])))
   guard_copies X k g gg co ex e e' e'' (values.I64 n) v u es gm mf o o' o'' nw = absurd (nw refl)
   guard_copies X k g gg co ex e e' e'' (values.I32 n) (values.I64 from) u es gm mf o o' o'' nw = absurd (nw refl)
   guard_copies X k g gg co ex e e' e'' (values.I32 n) (values.I32 from) (values.I64 to) es gm mf o o' o'' nw = absurd (nw refl)
@@ -383,7 +383,7 @@ module _ (M : Engine) (C : Ctx) (l : List Value) (size : length C.locals ≡ len
           subst (Guards X k g co ex (e ∷ e' ∷ e'' ∷ es) MemoryCopy) (sym (copy_kind m (modulo I32 to) (modulo I32 from) (modulo I32 n) (λ m'. gives (with_memory gg m') l []) (nat_le (modulo I32 from + modulo I32 n) (length m.bytes)) refl (λ x. refl)))
           (guard_copy_to X k g m co ex e e' e'' (length es) from to n o o' o'' (gm ∙ r) (subst MemoryFits r mf))
 
-  guard_fills : (X : Shell) (k : Nodes) (g gg : World) (co : List CollectorCall) (ex : List Value) (e e' e'' : Place) (w v u : Value) (es : List Place) → g.memory ≡ gg.memory → MemoryFits gg.memory → One ex (length (e' ∷ e'' ∷ es)) e w → One ex (length es) e'' u → effect MemoryFill gg l (w ∷ v ∷ u ∷ []) ≢ unfit → Guards X k g co ex (e ∷ e' ∷ e'' ∷ es) MemoryFill (kind_of (effect MemoryFill gg l (w ∷ v ∷ u ∷ [])))
+  guard_fills : (X : Shell) (k : Nodes) (g gg : World) (co : List CollectorCall) (ex : List Value) (e e' e'' : Place) (w v u : Value) (es : List Place) → g.memory ≡ gg.memory → MemoryFits gg.memory → One l ex (length (e' ∷ e'' ∷ es)) e w → One l ex (length es) e'' u → effect MemoryFill gg l (w ∷ v ∷ u ∷ []) ≢ unfit → Guards X k g co ex (e ∷ e' ∷ e'' ∷ es) MemoryFill (kind_of (effect MemoryFill gg l (w ∷ v ∷ u ∷ [])))
   guard_fills X k g gg co ex e e' e'' (values.I64 n) v u es gm mf o o'' nw = absurd (nw refl)
   guard_fills X k g gg co ex e e' e'' (values.I32 n) (values.I64 byte) u es gm mf o o'' nw = absurd (nw refl)
   guard_fills X k g gg co ex e e' e'' (values.I32 n) (values.I32 byte) (values.I64 to) es gm mf o o'' nw = absurd (nw refl)
@@ -398,7 +398,7 @@ module _ (M : Engine) (C : Ctx) (l : List Value) (size : length C.locals ≡ len
           subst (Guards X k g co ex (e ∷ e' ∷ e'' ∷ es) MemoryFill) (sym kind) (guard_fill_to X k g m co ex e e'' (length es) to n o o'' (gm ∙ r) (subst MemoryFits r mf))
 
   -- a guard tells whether the instruction traps, and the other piece with which kind; both change nothing
-  pub guard_to : (X : Shell) (k : Nodes) (g gg : World) (co : List CollectorCall) (ex : List Value) (js es : List Place) (ops vs below : List Value) (i : Basic) → g.memory ≡ gg.memory → MemoryFits gg.memory → SmallOffset i → can_trap i ≡ true → Holds ex js ops es → cut (takes i) ops ≡ parts vs below → effect i gg l vs ≢ unfit → Guards X k g co ex (es ++ js) i (kind_of (effect i gg l vs))
+  pub guard_to : (X : Shell) (k : Nodes) (g gg : World) (co : List CollectorCall) (ex : List Value) (js es : List Place) (ops vs below : List Value) (i : Basic) → g.memory ≡ gg.memory → MemoryFits gg.memory → SmallOffset i → can_trap i ≡ true → Holds l ex js ops es → cut (takes i) ops ≡ parts vs below → effect i gg l vs ≢ unfit → Guards X k g co ex (es ++ js) i (kind_of (effect i gg l vs))
   guard_to X k g gg co ex js es ops vs below Nop gm mf so t h c nw = absurd (cc)
   guard_to X k g gg co ex js es ops vs below Drop gm mf so t h c nw = absurd (cc)
   guard_to X k g gg co ex js es ops vs below Select gm mf so t h c nw = absurd (cc)

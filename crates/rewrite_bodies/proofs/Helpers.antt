@@ -24,12 +24,12 @@ LabelOf lbl kind = (lbl ≡ 0) × (kind ≡ 0) ⊎ (lbl ≡ 1) × (kind ≡ 5) �
 -- ---- the run of a helper
 
 module _ (M : Engine) (m : Module) (t index : ℕ) (k : IsHelper M m t index) where
-  module _ (X : Shell) (tl : List Value) (kk : Nodes) (g : World) (co : List CollectorCall) (n : ℕ) where
+  module _ (X : Shell) (tl s : List Value) (kk : Nodes) (g : World) (co : List CollectorCall) (n : ℕ) where
     abbrev inner : Nodes
     inner = jump 0 (BrTable (map (entry_label m t) (first_table m)) 1) stop
 
     abbrev in_helper : List Label → Config
-    in_helper Ls = config (frame index (Some I32) 0 (values.I32 n ∷ []) Ls ∷ frame X.idx X.result 0 tl (label [] kk 0 X.kind ∷ X.below) ∷ X.frames) g co
+    in_helper Ls = config (frame index (Some I32) 0 (values.I32 n ∷ []) Ls ∷ frame X.idx X.result 0 tl (label s kk 0 X.kind ∷ X.below) ∷ X.frames) g co
 
     abbrev at_start : Config
     at_start = in_helper (label [] (helper m t) 0 (returns (Some I32)) ∷ [])
@@ -37,19 +37,19 @@ module _ (M : Engine) (m : Module) (t index : ℕ) (k : IsHelper M m t index) wh
     abbrev at_table : Config
     at_table = in_helper (label (values.I32 n ∷ []) inner 0 (leaves None) ∷ label [] (says 0) 0 (leaves None) ∷ label [] (says 5) 0 (leaves None) ∷ label [] (says 6) 0 (leaves None) ∷ label [] (says 7) 0 (returns (Some I32)) ∷ [])
 
-    starts : nat_lt (suc (length X.frames)) M.depth ≡ true → To M 1 1 (st X tl (values.I32 n ∷ []) (call index kk) g co) at_start
+    starts : nat_lt (suc (length X.frames)) M.depth ≡ true → To M 1 1 (st X tl (values.I32 n ∷ s) (call index kk) g co) at_start
     starts d = one_step M _ _ (rw (k.1, d, k.2) refl)
 
     opened : To M 5 5 at_start at_table
     opened = seq M (one_step M _ _ refl) (seq M (one_step M _ _ refl) (seq M (one_step M _ _ refl) (seq M (one_step M _ _ refl) (one_step M _ _ refl))))
 
-    said : (lbl kind : ℕ) → pick (map (entry_label m t) (first_table m)) 1 n ≡ lbl → LabelOf lbl kind → To M 3 3 at_table (st X tl (values.I32 kind ∷ []) kk g co)
+    said : (lbl kind : ℕ) → pick (map (entry_label m t) (first_table m)) 1 n ≡ lbl → LabelOf lbl kind → To M 3 3 at_table (st X tl (values.I32 kind ∷ s) kk g co)
     said lbl kind e (inl x) = rw x.1 (seq M (one_step M at_table (next (in_helper (label [] (says 0) 0 (leaves None) ∷ label [] (says 5) 0 (leaves None) ∷ label [] (says 6) 0 (leaves None) ∷ label [] (says 7) 0 (returns (Some I32)) ∷ []))) (rw (e ∙ x.0) refl)) (seq M (one_step M _ _ refl) (one_step M _ _ refl)))
     said lbl kind e (inr (inl x)) = rw x.1 (seq M (one_step M at_table (next (in_helper (label [] (says 5) 0 (leaves None) ∷ label [] (says 6) 0 (leaves None) ∷ label [] (says 7) 0 (returns (Some I32)) ∷ []))) (rw (e ∙ x.0) refl)) (seq M (one_step M _ _ refl) (one_step M _ _ refl)))
     said lbl kind e (inr (inr (inl x))) = rw x.1 (seq M (one_step M at_table (next (in_helper (label [] (says 6) 0 (leaves None) ∷ label [] (says 7) 0 (returns (Some I32)) ∷ []))) (rw (e ∙ x.0) refl)) (seq M (one_step M _ _ refl) (one_step M _ _ refl)))
     said lbl kind e (inr (inr (inr x))) = rw x.1 (seq M (one_step M at_table (next (in_helper (label [] (says 7) 0 (returns (Some I32)) ∷ []))) (rw (e ∙ x.0) refl)) (seq M (one_step M _ _ refl) (one_step M _ _ refl)))
 
-    pub helper_in : (lbl kind : ℕ) → nat_lt (suc (length X.frames)) M.depth ≡ true → pick (map (entry_label m t) (first_table m)) 1 n ≡ lbl → LabelOf lbl kind → To M 1 12 (st X tl (values.I32 n ∷ []) (call index kk) g co) (st X tl (values.I32 kind ∷ []) kk g co)
+    pub helper_in : (lbl kind : ℕ) → nat_lt (suc (length X.frames)) M.depth ≡ true → pick (map (entry_label m t) (first_table m)) 1 n ≡ lbl → LabelOf lbl kind → To M 1 12 (st X tl (values.I32 n ∷ s) (call index kk) g co) (st X tl (values.I32 kind ∷ s) kk g co)
     helper_in lbl kind d e lk = weaken M (seq M (starts d) (seq M opened (said lbl kind e lk))) (omega arith) (omega arith)
 
 -- ---- the call in the original

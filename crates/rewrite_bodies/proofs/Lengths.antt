@@ -1,5 +1,5 @@
 -- The bytes of rewritten code.
-use Rattle.std.proofs.Common.{◌≡◌, ℕ, zero, suc, ◌+◌, ◌*◌, ◌/◌, ◌%◌, ◌^◌, ◌<◌, ◌≤◌, nat_lt, List, [], ◌∷◌, ◌++◌, length, Option, Some, None, Bool, true, false, refl, arith, take, if◌then◌else◌}
+use Rattle.std.proofs.Common.{◌≡◌, ℕ, zero, suc, ◌+◌, ◌*◌, ◌/◌, ◌%◌, ◌^◌, ◌<◌, ◌≤◌, nat_lt, List, [], ◌∷◌, ◌++◌, length, Option, Some, None, option_map, Bool, true, false, refl, arith, take, if◌then◌else◌}
 use Rattle.std.specs.Int.{w32, w64, cast_signed}
 use Rattle.std.proofs.lemmas.Bool.{ltb-false}
 use Rattle.std.proofs.Math.Nat.{div-lt_iff_lt-mul}
@@ -17,10 +17,10 @@ use Rattle.wasm_syntax.specs.declared.instruction.Basic.TheVariants.{Nop, Drop, 
 use Rattle.wasm_syntax.specs.Access.{load_bits, store_bits}
 use Rattle.wasm_syntax.specs.Tree.{Br, Nodes, stop, basic, jump}
 use Rattle.rewrite_bodies.specs.Numbering.{import_count, flag_of}
-use Rattle.rewrite_bodies.specs.Slots.{Place, Spilled, Known, place_type, Ctx, slot, result_at, kind_at, offset_at, less, grown}
-use Rattle.rewrite_bodies.specs.Pieces.{get, set, const, i32, call, if_any, fetch, load, store, to_result, from_result}
+use Rattle.rewrite_bodies.specs.Slots.{Place, Spilled, Known, Copied, place_type, Ctx, slot, kind_at, offset_at, less, pushed, grown, without}
+use Rattle.rewrite_bodies.specs.Pieces.{get, set, const, i32, call, if_any, fetch, load, keep, store, reload, spill_one, spill, drops}
 use Rattle.rewrite_bodies.specs.Guards.{least, minus_one, guard_zero, guard_signed, past_end, out_test, guard_memory, range_test, guard_copy, guard_fill, guard, kind_signed, kind}
-use Rattle.rewrite_bodies.specs.Rewrite.{Info, hand_value, hand, hand_top, to_exit, unwind, unwind_kind, hand_left, test_flag, test_both}
+use Rattle.rewrite_bodies.specs.Rewrite.{hand_value, hand, hand_top, to_exit, unwind, unwind_kind, hand_left, test_flag, test_both}
 use Rattle.rewrite_bodies.specs.calls.Agreement.{FitsIn}
 use Rattle.rewrite_bodies.specs.calls.Length.{code_length, FewNumbers}
 use Rattle.wasm_leb.proofs.Lengths.{ten_bytes, ten_signed}
@@ -73,15 +73,17 @@ len_branch l = let s = ten_bytes l in omega (arith, s)
 abbrev pub cost : Place → ℕ
 cost (Spilled t) = 5
 cost (Known v) = 11
+cost (Copied t x) = 11
 
 abbrev pub costs : List Place → ℕ
 costs [] = 0
 costs (e ∷ es) = cost e + costs es
 
--- how many are known
+-- how many are in no slot
 abbrev pub one_known : Place → ℕ
 one_known (Spilled t) = 0
 one_known (Known v) = 1
+one_known (Copied t x) = 1
 
 abbrev pub known : List Place → ℕ
 known [] = 0
@@ -90,19 +92,21 @@ known (e ∷ es) = one_known e + known es
 cost_most : (e : Place) → cost e ≤ 11
 cost_most (Spilled t) = omega arith
 cost_most (Known v) = omega arith
+cost_most (Copied t x) = omega arith
 
 pub costs_most : (es : List Place) → costs es ≤ 11 * length es
 costs_most [] = omega arith
 costs_most (e ∷ es) = let a = cost_most e in let b = costs_most es in omega (arith, a, b)
 
--- fetched twice and handed over once
-pub costs_twice : (es : List Place) → 2 * costs es + 5 * length es ≤ 16 * length es + 11 * known es
+-- fetched twice, handed over once and dropped
+pub costs_twice : (es : List Place) → 2 * costs es + 6 * length es ≤ 16 * length es + 12 * known es
 costs_twice [] = omega arith
 costs_twice (e ∷ es) = by e (costs_twice es)
   where
-    by : (e : Place) → 2 * costs es + 5 * length es ≤ 16 * length es + 11 * known es → 2 * (cost e + costs es) + 5 * suc (length es) ≤ 16 * suc (length es) + 11 * (one_known e + known es)
+    by : (e : Place) → 2 * costs es + 6 * length es ≤ 16 * length es + 12 * known es → 2 * (cost e + costs es) + 6 * suc (length es) ≤ 16 * suc (length es) + 12 * (one_known e + known es)
     by (Spilled t) h = omega (arith, h)
     by (Known v) h = omega (arith, h)
+    by (Copied t x) h = omega (arith, h)
 
 pub known-append : (a b : List Place) → known (a ++ b) ≡ known a + known b
 known-append [] b = omega arith
@@ -127,6 +131,22 @@ pub known_grown : (t : Option ValType) (es : List Place) → known (grown t es) 
 known_grown None es = refl
 known_grown (Some t) es = omega arith
 
+pub known_pushed : (p : Option Place) (es : List Place) → known (pushed p es) ≤ 1 + known es
+known_pushed None es = omega arith
+known_pushed (Some (Spilled t)) es = omega arith
+known_pushed (Some (Known v)) es = omega arith
+known_pushed (Some (Copied t x)) es = omega arith
+
+pub known_without : (these : ℕ → Bool) (es : List Place) → known (without these es) ≤ known es
+known_without these [] = omega arith
+known_without these (Spilled t ∷ es) = let z = known_without these es in omega (arith, z)
+known_without these (Known v ∷ es) = let z = known_without these es in omega (arith, z)
+known_without these (Copied t x ∷ es) = let a = one_less (these x) in let z = known_without these es in omega (arith, a, z)
+  where
+    one_less : (q : Bool) → one_known (if q then Spilled t else Copied t x) ≤ 1
+    one_less true = omega arith
+    one_less false = omega arith
+
 module _ (C : Ctx) (few : FewNumbers C) where
   local_four : (x : ℕ) → x < 2 * C.slots + 4 → length (unsigned_bytes (length C.locals + x)) ≤ 4
   local_four x lt = four_bytes (length C.locals + x) (omega (arith, few.locals, lt))
@@ -141,9 +161,13 @@ module _ (C : Ctx) (few : FewNumbers C) where
   slot_low I32 h le = omega (arith, le)
   slot_low I64 h le = omega (arith, le)
 
+  len_own : (x : ℕ) (k : Nodes) → code_length (basic 0 (LocalGet x) k) ≤ 11 + code_length k
+  len_own x k = let s = ten_bytes x in omega (arith, s)
+
   pub len_fetch : (e : Place) (h : ℕ) (k : Nodes) → h ≤ C.slots → code_length (fetch C e h k) ≤ cost e + code_length k
   len_fetch (Spilled t) h k le = len_get (slot t h) k (slot_low t h le)
   len_fetch (Known v) h k le = len_const v k
+  len_fetch (Copied t x) h k le = len_own x k
 
   pub len_fetched : (e : Place) (h : ℕ) (k : Nodes) → h ≤ C.slots → code_length (fetch C e h k) ≤ 11 + code_length k
   len_fetched e h k le = let a = len_fetch e h k le in let b = cost_most e in omega (arith, a, b)
@@ -181,25 +205,47 @@ module _ (C : Ctx) (few : FewNumbers C) where
   len_store None es k fit = omega arith
   len_store (Some t) es k fit = len_set (slot t (length es)) k (slot_low t (length es) (omega (arith, fit)))
 
-  pub len_to_result : (r : Option ValType) (es : List Place) (k : Nodes) → length es ≤ C.slots → code_length (to_result C r es k) ≤ 16 + code_length k
-  len_to_result None es k le = omega arith
-  len_to_result (Some t) [] k le = omega arith
-  len_to_result (Some t) (e ∷ es) k le =
-      let a = len_fetched e (length es) (set C (result_at C t) k) (omega (arith, le)) in
-      let b = len_set (result_at C t) k (slot_low t C.slots (omega arith)) in
+  len_tee : (x : ℕ) (k : Nodes) → x < 2 * C.slots + 4 → code_length (basic 0 (LocalTee (length C.locals + x)) k) ≤ 5 + code_length k
+  len_tee x k lt = let s = local_four x lt in omega (arith, s)
+
+  pub len_keep : (p : Option Place) (es : List Place) (k : Nodes) → FitsIn C (option_map place_type p) es → code_length (keep C p es k) ≤ 5 + code_length k
+  len_keep None es k fit = omega arith
+  len_keep (Some (Spilled t)) es k fit = len_tee (slot t (length es)) k (slot_low t (length es) (omega (arith, fit)))
+  len_keep (Some (Known v)) es k fit = omega arith
+  len_keep (Some (Copied t x)) es k fit = omega arith
+
+  pub len_keep_result : (r : Option ValType) (es : List Place) (k : Nodes) → FitsIn C r es → code_length (keep C (option_map Spilled r) es k) ≤ 5 + code_length k
+  len_keep_result None es k fit = omega arith
+  len_keep_result (Some t) es k fit = len_tee (slot t (length es)) k (slot_low t (length es) (omega (arith, fit)))
+
+  pub len_reload : (r : Option ValType) (es : List Place) (k : Nodes) → FitsIn C r es → code_length (reload C r es k) ≤ 5 + code_length k
+  len_reload None es k fit = omega arith
+  len_reload (Some t) es k fit = len_get (slot t (length es)) k (slot_low t (length es) (omega (arith, fit)))
+
+  pub len_drops : (n : ℕ) (k : Nodes) → code_length (drops n k) ≤ n + code_length k
+  len_drops zero k = omega arith
+  len_drops (suc n) k = let a = len_drops n k in omega (arith, a)
+
+  len_spill_if : (q : Bool) (t : ValType) (x h : ℕ) (k : Nodes) → h ≤ C.slots → code_length (if q then basic 0 (LocalGet x) (set C (slot t h) k) else k) ≤ 16 + code_length k
+  len_spill_if true t x h k le = let a = len_own x (set C (slot t h) k) in let b = len_set (slot t h) k (slot_low t h le) in omega (arith, a, b)
+  len_spill_if false t x h k le = omega arith
+
+  len_spill_one : (these : ℕ → Bool) (e : Place) (h : ℕ) (k : Nodes) → h ≤ C.slots → code_length (spill_one C these e h k) ≤ 16 + code_length k
+  len_spill_one these (Spilled t) h k le = omega arith
+  len_spill_one these (Known v) h k le = omega arith
+  len_spill_one these (Copied t x) h k le = len_spill_if (these x) t x h k le
+
+  pub len_spill : (these : ℕ → Bool) (es : List Place) (k : Nodes) → length es ≤ C.slots → code_length (spill C these es k) ≤ 16 * length es + code_length k
+  len_spill these [] k le = omega arith
+  len_spill these (e ∷ es) k le =
+      let a = len_spill these es (spill_one C these e (length es) k) (omega (arith, le)) in
+      let b = len_spill_one these e (length es) k (omega (arith, le)) in
       omega (arith, a, b)
 
-  pub len_from_result : (r : Option ValType) (es : List Place) (k : Nodes) → FitsIn C r es → code_length (from_result C r es k) ≤ 10 + code_length k
-  len_from_result None es k fit = omega arith
-  len_from_result (Some t) es k fit =
-      let a = len_get (result_at C t) (set C (slot t (length es)) k) (slot_low t C.slots (omega arith)) in
-      let b = len_set (slot t (length es)) k (slot_low t (length es) (omega (arith, fit))) in
-      omega (arith, a, b)
+  len_exit : (ls : ℕ) → code_length (to_exit ls) ≤ 11
+  len_exit ls = len_branch (suc ls)
 
-  len_exit : (ls : List Info) → code_length (to_exit ls) ≤ 11
-  len_exit ls = len_branch (suc (length ls))
-
-  len_unwind : (ls : List Info) (es : List Place) (o : ℕ) → length es ≤ C.slots → code_length (unwind C ls es o) ≤ 27 + 16 * length es
+  len_unwind : (ls : ℕ) (es : List Place) (o : ℕ) → length es ≤ C.slots → code_length (unwind C ls es o) ≤ 27 + 16 * length es
   len_unwind ls es o le =
       let a = len_const (i32 o) (set C (offset_at C) (hand C es (to_exit ls))) in
       let b = len_set (offset_at C) (hand C es (to_exit ls)) (omega arith) in
@@ -207,13 +253,13 @@ module _ (C : Ctx) (few : FewNumbers C) where
       let d = len_exit ls in
       omega (arith, a, b, c, d)
 
-  pub len_unwind_kind : (ls : List Info) (es : List Place) (o : ℕ) → length es ≤ C.slots → code_length (unwind_kind C ls es o) ≤ 32 + 16 * length es
+  pub len_unwind_kind : (ls : ℕ) (es : List Place) (o : ℕ) → length es ≤ C.slots → code_length (unwind_kind C ls es o) ≤ 32 + 16 * length es
   len_unwind_kind ls es o le =
       let a = len_set (kind_at C) (unwind C ls es o) (omega arith) in
       let b = len_unwind ls es o le in
       omega (arith, a, b)
 
-  pub len_test_flag : (ls : List Info) (es : List Place) (o : ℕ) (k : Nodes) → length es ≤ C.slots → code_length (test_flag C ls es o k) ≤ 57 + 16 * length es + code_length k
+  pub len_test_flag : (ls : ℕ) (es : List Place) (o : ℕ) (k : Nodes) → length es ≤ C.slots → code_length (test_flag C ls es o k) ≤ 57 + 16 * length es + code_length k
   len_test_flag ls es o k le =
       let arm = set C (kind_at C) (unwind C ls es o) in
       let a = len_global_get (flag_of C.source) (if_any (const (i32 0) arm) k) in
@@ -222,7 +268,7 @@ module _ (C : Ctx) (few : FewNumbers C) where
       let d = len_unwind ls es o le in
       omega (arith, a, b, c, d)
 
-  pub len_test_both : (ls : List Info) (n : ℕ) (es left : List Place) (o : ℕ) (k : Nodes) → length es ≤ C.slots → length left ≤ C.slots → code_length (test_both C ls left o (hand_top C n es stop) k) ≤ 60 + 16 * length left + (costs (take n es) + 5 * length (take n es)) + code_length k
+  pub len_test_both : (ls : ℕ) (n : ℕ) (es left : List Place) (o : ℕ) (k : Nodes) → length es ≤ C.slots → length left ≤ C.slots → code_length (test_both C ls left o (hand_top C n es stop) k) ≤ 60 + 16 * length left + (costs (take n es) + 5 * length (take n es)) + code_length k
   len_test_both ls n es left o k le le1 =
       let others = hand_top C n es stop in
       let inner = get C (kind_at C) (if_any others (to_exit ls)) in

@@ -1,5 +1,5 @@
 -- The bytes of rewritten nodes and bodies.
-use Rattle.std.proofs.Common.{◌≡◌, ℕ, suc, ◌+◌, ◌*◌, ◌<◌, ◌≤◌, nat_lt, List, [], ◌∷◌, ◌++◌, length, map, reverse, Option, Some, None, Bool, true, false, refl, sym, ap, ◌∙◌, subst, arith, slice_get, option_map, option_to_list, take}
+use Rattle.std.proofs.Common.{◌≡◌, ℕ, zero, suc, ◌==◌, ◌+◌, ◌*◌, ◌<◌, ◌≤◌, nat_lt, List, [], ◌∷◌, ◌++◌, length, map, reverse, Option, Some, None, Bool, true, false, refl, sym, ap, ◌∙◌, subst, arith, slice_get, option_map, option_to_list, take}
 use Rattle.std.proofs.lemmas.List.{length-reverse}
 use Rattle.wasm_syntax.specs.declared.value.ValType.{ValType}
 use Rattle.wasm_syntax.specs.declared.value.ValType.TheVariants.{I32, I64}
@@ -13,34 +13,47 @@ use Rattle.wasm_syntax.specs.Module.{type_at, function_types, option_then}
 use Rattle.wasm_syntax.specs.Effect.{takes}
 use Rattle.wasm_syntax.specs.Machine.{result_of, zero_of}
 use Rattle.wasm_syntax.specs.Typing.{◌⇒◌, BasicTypes, JumpTypes, Types}
-use Rattle.rewrite_bodies.specs.Numbering.{import_count, mapped, frame_import, flag_of}
-use Rattle.rewrite_bodies.specs.Slots.{Place, Known, place_type, Ctx, result_at, kind_at, offset_at, less, grown, result_type, after_plain, behind_call}
-use Rattle.rewrite_bodies.specs.Pieces.{get, set, const, i32, call, if_any, fetch, load, store, from_result}
+use Rattle.rewrite_bodies.specs.Numbering.{import_count, mapped, frame_import, flag_of, doubles}
+use Rattle.wasm_syntax.specs.Run.{table_min}
+use Rattle.int_ops.specs.declared.operators.Binary.TheVariants.{Add}
+use Rattle.rewrite_bodies.specs.Slots.{Place, place_type, Ctx, kind_at, offset_at, less, pushed, grown, under, result_place, freed, after_plain, behind_call}
+use Rattle.rewrite_bodies.specs.Pieces.{get, set, const, i32, call, if_any, load, keep, store, reload, drops}
 use Rattle.rewrite_bodies.specs.Guards.{can_trap, kind}
-use Rattle.rewrite_bodies.specs.Rewrite.{Info, in_block, in_loop, in_body, carries, end_gives, result_back, body_at, guarded, plain, instr, ending, go_to, branch_to, branch_if, table, after_direct, call_code, helper_of, hand_top, test_flag, test_both, indirect_code, control, rewrite, hand_locals, zero_result, raise_flag, exit_code, body, unwind_kind, tested}
+use Rattle.rewrite_bodies.specs.Rewrite.{guarded, tested, free, plain, with_result, after_direct, call_code, helper_of, hand_top, test_flag, test_both, past_shown, indirect_code, control, rewrite, hand_locals, zero_result, raise_flag, exit_code, body, unwind_kind}
 use Rattle.rewrite_bodies.specs.calls.Agreement.{FitsIn, Room_call, Room}
 use Rattle.rewrite_bodies.specs.Offsets.{SmallOffset}
-use Rattle.rewrite_bodies.specs.calls.Typed.{original}
+use Rattle.rewrite_bodies.specs.calls.Typed.{Info, in_block, in_loop, in_body, original}
 use Rattle.rewrite_bodies.specs.calls.Length.{basic_length, jump_length, else_length, code_length, node_weight, live_weight, FewNumbers, BodyShort}
 use Rattle.rewrite_bodies.proofs.Sim.{grown-append, takes_three}
 use Rattle.rewrite_bodies.proofs.Unwind.{less_shorter}
-use Rattle.rewrite_bodies.proofs.TypedNodes.{cuts, grown_types, takes_of}
+use Rattle.rewrite_bodies.proofs.TypedNodes.{cuts, grown_types, takes_of, own_behind, behind_types, result_is, without_types}
+use Rattle.rewrite_bodies.proofs.Copies.{Fixed, fixed_under, without_append}
 use Rattle.wasm_laws.proofs.Safe.{one_result}
-use Rattle.rewrite_bodies.proofs.Lengths.{len_const, len_call, len_global_set, len_branch, costs_most, costs_twice, known, known-append, known_parts, known_grown, length_parts, length_taken, len_get, len_fetched, len_load, len_hand_value, len_store, len_to_result, len_from_result, len_unwind_kind, len_test_flag, len_test_both, len_guard, len_kind, len_set}
+use Rattle.rewrite_bodies.proofs.Lengths.{len_const, len_call, len_global_set, costs_twice, known, known-append, known_parts, known_grown, known_pushed, known_without, length_parts, len_get, len_fetched, len_load, len_hand_value, len_store, len_keep, len_keep_result, len_reload, len_drops, len_spill, len_unwind_kind, len_test_flag, len_test_both, len_guard, len_kind, len_set}
 use Rattle.pm_text.proofs.Lists.{some_is}
 use Rattle.wasm_leb.proofs.Lengths.{ten_bytes}
 
+-- so many are there to be taken
+taken_all : (n : ℕ) (own js : List Place) (taken below : List ValType) → length taken ≡ n → map place_type own ≡ taken ++ below → n ≤ length (take n (own ++ js))
+taken_all zero own js taken below n e = omega arith
+taken_all (suc k) own js [] below n e = absurd (omega (arith, n))
+taken_all (suc k) [] js (t ∷ ts) below n e = absurd (cc)
+taken_all (suc k) (p ∷ own) js (t ∷ ts) below n e =
+    let rest : map place_type own ≡ ts ++ below = cc in
+    let r = taken_all k own js ts below (omega (arith, n)) rest in
+    omega (arith, r)
+
 module _ (C : Ctx) (few : FewNumbers C) where
-  -- the rewritten code behind these places takes at most the weight, and eleven bytes more for each known operand of its own
+  -- the rewritten code behind these places takes at most the weight, and twelve bytes more for each operand of its own that is in no slot
   abbrev Short : List Info → List Place → List Place → Nodes → Type 0
-  Short ls own js rest = code_length (rewrite C ls (own ++ js) rest) ≤ live_weight C (own ++ js) rest + 11 * known own
+  Short ls own js rest = code_length (rewrite C (length ls) (own ++ js) rest) ≤ live_weight C (own ++ js) rest + 12 * known own
 
   abbrev Rest : List Info → List Place → Nodes → List ValType → Type 0
   Rest ls js rest between = (own : List Place) → map place_type own ≡ between → Room C (own ++ js) rest → Short ls own js rest
 
   -- the same, where the places are given by what was taken and added
   abbrev Behind : List Info → List Place → Nodes → ℕ → Type 0
-  Behind ls es rest k = code_length (rewrite C ls es rest) ≤ live_weight C es rest + 11 * k
+  Behind ls es rest k = code_length (rewrite C (length ls) es rest) ≤ live_weight C es rest + 12 * k
 
   behind : (ls : List Info) (own js : List Place) (n : ℕ) (r : Option ValType) (own1 : List Place) (rest : Nodes) (between : List ValType) → less n (own ++ js) ≡ own1 ++ js → map place_type (grown r own1) ≡ between → Room C (grown r (less n (own ++ js))) rest → Rest ls js rest between → (k : ℕ) × (k + known (take n (own ++ js)) ≤ known own) × Behind ls (grown r (less n (own ++ js))) rest k
   behind ls own js n r own1 rest between left ty rm ih =
@@ -49,111 +62,99 @@ module _ (C : Ctx) (few : FewNumbers C) where
       let kg = known_grown r own1 in (
         known own1,
         omega (arith, known_parts n (own ++ js), ap known left, known-append own1 js, known-append own js),
-        subst (λ z. Behind ls z rest (known own1)) (sym conv) (subst (λ k. code_length (rewrite C ls (grown r own1 ++ js) rest) ≤ live_weight C (grown r own1 ++ js) rest + 11 * k) kg x),
+        subst (λ z. Behind ls z rest (known own1)) (sym conv) (subst (λ k. code_length (rewrite C (length ls) (grown r own1 ++ js) rest) ≤ live_weight C (grown r own1 ++ js) rest + 12 * k) kg x),
       )
 
-  guarded_short : (ls : List Info) (es : List Place) (o : ℕ) (i : Basic) (k : Nodes) (q : Bool) → length es ≤ C.slots → code_length (guarded q C ls es o i k) ≤ 153 + 16 * length es + code_length k
-  guarded_short ls es o i k false le = omega arith
-  guarded_short ls es o i k true le =
-      let a = len_guard C few i es (tested C ls es o (kind C i es) k) le in
-      let b = len_kind C few i es (unwind_kind C ls es o) le in
-      let c = len_unwind_kind C few ls es o le in
+  guarded_short : (d : ℕ) (es : List Place) (o : ℕ) (i : Basic) (k : Nodes) (q : Bool) → length es ≤ C.slots → code_length (guarded q C d es o i k) ≤ 153 + 16 * length es + code_length k
+  guarded_short d es o i k false le = omega arith
+  guarded_short d es o i k true le =
+      let a = len_guard C few i es (tested C d es o (kind C i es) k) le in
+      let b = len_kind C few i es (unwind_kind C d es o) le in
+      let c = len_unwind_kind C few d es o le in
       omega (arith, a, b, c)
 
-  plain_short : (ls : List Info) (i : Basic) (own js : List Place) (o : ℕ) (rest : Nodes) (between : List ValType) → BasicTypes (original C ls) i (map place_type own) between → length (own ++ js) ≤ C.slots → SmallOffset i × FitsIn C (result_type C (own ++ js) i) (less (takes i) (own ++ js)) × Room C (after_plain C (own ++ js) i) rest → Rest ls js rest between → code_length (plain C ls (own ++ js) o i (λ es'. rewrite C ls es' rest)) ≤ node_weight (basic_length i) (length (own ++ js)) + live_weight C (after_plain C (own ++ js) i) rest + 11 * known own
-  plain_short ls i own js o rest between h le rm ih =
+  freed_short : (d : ℕ) (es left : List Place) (o : ℕ) (i : Basic) (k : Nodes) → length es ≤ C.slots → length left ≤ length es → code_length (guarded (can_trap i) C d es o i (free C i left k)) ≤ 153 + 16 * length es + code_length k
+  freed_short d es left o (LocalSet x) k le ll = let a = len_spill C few (λ y. x == y) left k (omega (arith, le, ll)) in omega (arith, a, ll)
+  freed_short d es left o (LocalTee x) k le ll = let a = len_spill C few (λ y. x == y) left k (omega (arith, le, ll)) in omega (arith, a, ll)
+  freed_short d es left o Nop k le ll = guarded_short d es o Nop k (can_trap Nop) le
+  freed_short d es left o Drop k le ll = guarded_short d es o Drop k (can_trap Drop) le
+  freed_short d es left o Select k le ll = guarded_short d es o Select k (can_trap Select) le
+  freed_short d es left o (LocalGet x) k le ll = guarded_short d es o (LocalGet x) k (can_trap (LocalGet x)) le
+  freed_short d es left o (GlobalGet x) k le ll = guarded_short d es o (GlobalGet x) k (can_trap (GlobalGet x)) le
+  freed_short d es left o (GlobalSet x) k le ll = guarded_short d es o (GlobalSet x) k (can_trap (GlobalSet x)) le
+  freed_short d es left o (Load l al of) k le ll = guarded_short d es o (Load l al of) k (can_trap (Load l al of)) le
+  freed_short d es left o (Store l al of) k le ll = guarded_short d es o (Store l al of) k (can_trap (Store l al of)) le
+  freed_short d es left o MemorySize k le ll = guarded_short d es o MemorySize k (can_trap MemorySize) le
+  freed_short d es left o MemoryGrow k le ll = guarded_short d es o MemoryGrow k (can_trap MemoryGrow) le
+  freed_short d es left o MemoryCopy k le ll = guarded_short d es o MemoryCopy k (can_trap MemoryCopy) le
+  freed_short d es left o MemoryFill k le ll = guarded_short d es o MemoryFill k (can_trap MemoryFill) le
+  freed_short d es left o (Const v) k le ll = guarded_short d es o (Const v) k (can_trap (Const v)) le
+  freed_short d es left o (Eqz u) k le ll = guarded_short d es o (Eqz u) k (can_trap (Eqz u)) le
+  freed_short d es left o (Unary u p) k le ll = guarded_short d es o (Unary u p) k (can_trap (Unary u p)) le
+  freed_short d es left o (Compare u p) k le ll = guarded_short d es o (Compare u p) k (can_trap (Compare u p)) le
+  freed_short d es left o (Binary u p) k le ll = guarded_short d es o (Binary u p) k (can_trap (Binary u p)) le
+  freed_short d es left o (Convert c) k le ll = guarded_short d es o (Convert c) k (can_trap (Convert c)) le
+  freed_short d es left o (Extend32 c) k le ll = guarded_short d es o (Extend32 c) k (can_trap (Extend32 c)) le
+  freed_short d es left o (Extend64 c) k le ll = guarded_short d es o (Extend64 c) k (can_trap (Extend64 c)) le
+
+  known_freed : (i : Basic) (es : List Place) → known (freed i es) ≤ known es
+  known_freed (LocalSet x) es = known_without (λ y. x == y) es
+  known_freed (LocalTee x) es = known_without (λ y. x == y) es
+  known_freed Nop es = omega arith
+  known_freed Drop es = omega arith
+  known_freed Select es = omega arith
+  known_freed (LocalGet x) es = omega arith
+  known_freed (GlobalGet x) es = omega arith
+  known_freed (GlobalSet x) es = omega arith
+  known_freed (Load l al o) es = omega arith
+  known_freed (Store l al o) es = omega arith
+  known_freed MemorySize es = omega arith
+  known_freed MemoryGrow es = omega arith
+  known_freed MemoryCopy es = omega arith
+  known_freed MemoryFill es = omega arith
+  known_freed (Const v) es = omega arith
+  known_freed (Eqz u) es = omega arith
+  known_freed (Unary u op) es = omega arith
+  known_freed (Compare u op) es = omega arith
+  known_freed (Binary u op) es = omega arith
+  known_freed (Convert k) es = omega arith
+  known_freed (Extend32 k) es = omega arith
+  known_freed (Extend64 k) es = omega arith
+
+  plain_short : (ls : List Info) (i : Basic) (own js : List Place) (o : ℕ) (rest : Nodes) (between : List ValType) → Fixed js → BasicTypes (original C ls) i (map place_type own) between → Room C (own ++ js) (basic o i rest) → Rest ls js rest between → code_length (plain C (length ls) (own ++ js) o i (λ es'. rewrite C (length ls) es' rest)) ≤ live_weight C (own ++ js) (basic o i rest) + 12 * known own
+  plain_short ls i own js o rest between f h rm ih =
       let es = own ++ js in
+      let d = length ls in
       let n = takes i in
-      let r = result_type C es i in
+      let p = result_place C es i in
       let T = takes_of C ls i own js between h in
-      let x = behind ls own js n r T.own1 rest between T.left T.after rm.2 ih in
-      let k = rewrite C ls (grown r (less n es)) rest in
-      let code = store C r (less n es) k in
-      let a = guarded_short ls es o i (load C n es (basic 0 i code)) (can_trap i) le in
-      let b = len_load C few n es (basic 0 i code) le in
-      let c = len_store C few r (less n es) k rm.1 in
-      let d = costs_most (take n es) in
-      let e = length_taken n es in
-      omega (arith, a, b, c, d, e, takes_three i, x.1, x.2)
-
-  const_short : (ls : List Info) (v : Value) (own js : List Place) (rest : Nodes) (between : List ValType) → BasicTypes (original C ls) (Const v) (map place_type own) between → Room C (Known v ∷ own ++ js) rest → Rest ls js rest between → 1 + code_length (rewrite C ls (Known v ∷ own ++ js) rest) ≤ 12 + live_weight C (Known v ∷ own ++ js) rest + 11 * known own
-  const_short ls v own js rest between h rm ih =
-      let e : type_of v ∷ map place_type own ≡ between = const_types ls v own between h in
-      let x = ih (Known v ∷ own) e rm in
-      omega (arith, x)
-    where
-      const_types : (ls : List Info) (v : Value) (own : List Place) (between : List ValType) → BasicTypes (original C ls) (Const v) (map place_type own) between → type_of v ∷ map place_type own ≡ between
-      const_types ls v own between h =
-          let z : ([] ⇒ type_of v ∷ []) ≡ h.arrow_is = some_is h.has in
-          let t : h.above.below ≡ map place_type own = sym (h.above.takes ∙ ap (λ q. q.takes ++ h.above.below) (sym z)) in
-          ap (λ q. type_of v ∷ q) (sym t) ∙ ap (λ q. q.gives ++ h.above.below) z ∙ sym h.above.gives
-
-  instr_short : (ls : List Info) (i : Basic) (own js : List Place) (o : ℕ) (rest : Nodes) (between : List ValType) → BasicTypes (original C ls) i (map place_type own) between → Room C (own ++ js) (basic o i rest) → Rest ls js rest between → code_length (instr C ls (own ++ js) o i (λ es'. rewrite C ls es' rest)) ≤ live_weight C (own ++ js) (basic o i rest) + 11 * known own
-  instr_short ls (Const v) own js o rest between h rm ih = let x = const_short ls v own js rest between h rm.1 ih in omega (arith, x)
-  instr_short ls Nop own js o rest between h rm ih = let x = plain_short ls Nop own js o rest between h rm.0 rm.1 ih in omega (arith, x)
-  instr_short ls Drop own js o rest between h rm ih = let x = plain_short ls Drop own js o rest between h rm.0 rm.1 ih in omega (arith, x)
-  instr_short ls Select own js o rest between h rm ih = let x = plain_short ls Select own js o rest between h rm.0 rm.1 ih in omega (arith, x)
-  instr_short ls (LocalGet x) own js o rest between h rm ih = let x = plain_short ls (LocalGet x) own js o rest between h rm.0 rm.1 ih in omega (arith, x)
-  instr_short ls (LocalSet x) own js o rest between h rm ih = let x = plain_short ls (LocalSet x) own js o rest between h rm.0 rm.1 ih in omega (arith, x)
-  instr_short ls (LocalTee x) own js o rest between h rm ih = let x = plain_short ls (LocalTee x) own js o rest between h rm.0 rm.1 ih in omega (arith, x)
-  instr_short ls (GlobalGet x) own js o rest between h rm ih = let x = plain_short ls (GlobalGet x) own js o rest between h rm.0 rm.1 ih in omega (arith, x)
-  instr_short ls (GlobalSet x) own js o rest between h rm ih = let x = plain_short ls (GlobalSet x) own js o rest between h rm.0 rm.1 ih in omega (arith, x)
-  instr_short ls (Load l al of) own js o rest between h rm ih = let x = plain_short ls (Load l al of) own js o rest between h rm.0 rm.1 ih in omega (arith, x)
-  instr_short ls (Store l al of) own js o rest between h rm ih = let x = plain_short ls (Store l al of) own js o rest between h rm.0 rm.1 ih in omega (arith, x)
-  instr_short ls MemorySize own js o rest between h rm ih = let x = plain_short ls MemorySize own js o rest between h rm.0 rm.1 ih in omega (arith, x)
-  instr_short ls MemoryGrow own js o rest between h rm ih = let x = plain_short ls MemoryGrow own js o rest between h rm.0 rm.1 ih in omega (arith, x)
-  instr_short ls MemoryCopy own js o rest between h rm ih = let x = plain_short ls MemoryCopy own js o rest between h rm.0 rm.1 ih in omega (arith, x)
-  instr_short ls MemoryFill own js o rest between h rm ih = let x = plain_short ls MemoryFill own js o rest between h rm.0 rm.1 ih in omega (arith, x)
-  instr_short ls (Eqz u) own js o rest between h rm ih = let x = plain_short ls (Eqz u) own js o rest between h rm.0 rm.1 ih in omega (arith, x)
-  instr_short ls (Unary u p) own js o rest between h rm ih = let x = plain_short ls (Unary u p) own js o rest between h rm.0 rm.1 ih in omega (arith, x)
-  instr_short ls (Compare u p) own js o rest between h rm ih = let x = plain_short ls (Compare u p) own js o rest between h rm.0 rm.1 ih in omega (arith, x)
-  instr_short ls (Binary u p) own js o rest between h rm ih = let x = plain_short ls (Binary u p) own js o rest between h rm.0 rm.1 ih in omega (arith, x)
-  instr_short ls (Convert c) own js o rest between h rm ih = let x = plain_short ls (Convert c) own js o rest between h rm.0 rm.1 ih in omega (arith, x)
-  instr_short ls (Extend32 c) own js o rest between h rm ih = let x = plain_short ls (Extend32 c) own js o rest between h rm.0 rm.1 ih in omega (arith, x)
-  instr_short ls (Extend64 c) own js o rest between h rm ih = let x = plain_short ls (Extend64 c) own js o rest between h rm.0 rm.1 ih in omega (arith, x)
-
-  -- ---- branches
-
-  go_short : (ls : List Info) (q : Option Info) (es : List Place) (k : Nodes) → length es ≤ C.slots → code_length (go_to C q es k) ≤ 16 + code_length k
-  go_short ls None es k le = omega arith
-  go_short ls (Some i) es k le = len_to_result C few (carries i) es k le
-
-  branch_if_short : (ls : List Info) (l : ℕ) (own js : List Place) (o : ℕ) (rest : Nodes) (between : List ValType) → JumpTypes (original C ls) (BrIf l) (map place_type own) between → Room C (own ++ js) (jump o (BrIf l) rest) → Rest ls js rest between → code_length (branch_if C ls (own ++ js) l (λ es'. rewrite C ls es' rest)) ≤ live_weight C (own ++ js) (jump o (BrIf l) rest) + 11 * known own
-  branch_if_short ls l [] js o rest between h rm ih = absurd (let e : [] ≡ I32 ∷ (h.0 ++ h.2.below) = h.2.takes in cc)
-  branch_if_short ls l (p ∷ own) js o rest between h rm ih =
-      let e : place_type p ∷ map place_type own ≡ I32 ∷ (h.0 ++ h.2.below) = h.2.takes in
-      let below : map place_type own ≡ h.0 ++ h.2.below = cc in
-      let es = own ++ js in
-      let arm = branch_to C (slice_get ls l) es (suc l) in
-      let k = rewrite C ls es rest in
-      let x = ih own (below ∙ sym h.2.gives) rm.1 in
-      let a = len_fetched C few p (length es) (if_any arm k) (omega (arith, rm.0)) in
-      let b = go_short ls (slice_get ls l) es (jump 0 (Br (suc l)) stop) (omega (arith, rm.0)) in
-      let c = len_branch (suc l) in
-      omega (arith, x, a, b, c)
-
-  table_short : (ls : List Info) (es : List Place) (ts : List ℕ) (d : ℕ) → length es ≤ C.slots → code_length (table C ls es ts d) ≤ node_weight (jump_length (BrTable ts d)) (length es)
-  table_short ls [] ts d le = omega arith
-  table_short ls (p ∷ es) ts d le =
-      let go = jump 0 (BrTable ts d) stop in
-      let a = go_short ls (slice_get ls d) es (fetch C p (length es) go) (omega (arith, le)) in
-      let b = len_fetched C few p (length es) go (omega (arith, le)) in
-      omega (arith, a, b)
+      let left = less n es in
+      let own2 = pushed p (freed i T.own1) in
+      let conv : after_plain C es i ≡ own2 ++ js = own_behind C i own js T.own1 T.left f in
+      let k = rewrite C d (after_plain C es i) rest in
+      let x : code_length k ≤ live_weight C (after_plain C es i) rest + 12 * known own2 = subst (λ z. code_length (rewrite C d z rest) ≤ live_weight C z rest + 12 * known own2) (sym conv) (ih own2 (behind_types C es i T.own1 ∙ T.after) (subst (λ z. Room C z rest) conv rm.3)) in
+      let less_ : length left ≤ length es = less_shorter n es in
+      let a = freed_short d es left o i (basic 0 i (keep C p left k)) rm.0 less_ in
+      let b = len_keep C few p left k (subst (λ z. FitsIn C z left) (sym (result_is C es i)) rm.2) in
+      let kp = known_pushed p (freed i T.own1) in
+      let kf = known_freed i T.own1 in
+      omega (arith, a, b, x, kp, kf, known_parts n es, ap known T.left, known-append T.own1 js, known-append own js)
 
   -- ---- calls
 
-  after_short : (ls : List Info) (q : Bool) (r : Option ValType) (left : List Place) (o : ℕ) (rest : Nodes) → length left ≤ C.slots → FitsIn C r left → code_length (after_direct q C ls r left o (λ es'. rewrite C ls es' rest)) ≤ 62 + 16 * length left + code_length (rewrite C ls (grown r left) rest)
-  after_short ls true r left o rest le fit = let a = len_store C few r left (rewrite C ls (grown r left) rest) fit in omega (arith, a)
+  after_short : (ls : List Info) (q : Bool) (r : Option ValType) (left : List Place) (o : ℕ) (rest : Nodes) → length left ≤ C.slots → FitsIn C r left → code_length (after_direct q C (length ls) r left o (λ es'. rewrite C (length ls) es' rest)) ≤ 62 + 16 * length left + code_length (rewrite C (length ls) (grown r left) rest)
+  after_short ls true r left o rest le fit = let a = len_keep_result C few r left (rewrite C (length ls) (grown r left) rest) fit in omega (arith, a)
   after_short ls false r left o rest le fit =
-      let k = rewrite C ls (grown r left) rest in
-      let a = len_store C few r left (test_flag C ls left o k) fit in
-      let b = len_test_flag C few ls left o k le in
+      let k = rewrite C (length ls) (grown r left) rest in
+      let a = len_keep_result C few r left (test_flag C (length ls) left o k) fit in
+      let b = len_test_flag C few (length ls) left o k le in
       omega (arith, a, b)
 
-  call_short : (ls : List Info) (f : ℕ) (own js : List Place) (o : ℕ) (rest : Nodes) (between : List ValType) → ((type : FuncType) → type_at C.source f ≡ Some type → reverse type.results ≡ option_to_list (result_of type)) → JumpTypes (original C ls) (Call f) (map place_type own) between → Room C (own ++ js) (jump o (Call f) rest) → Rest ls js rest between → code_length (call_code C ls (own ++ js) o f (type_at C.source f) (λ es'. rewrite C ls es' rest)) ≤ live_weight C (own ++ js) (jump o (Call f) rest) + 11 * known own
+  call_short : (ls : List Info) (f : ℕ) (own js : List Place) (o : ℕ) (rest : Nodes) (between : List ValType) → ((type : FuncType) → type_at C.source f ≡ Some type → reverse type.results ≡ option_to_list (result_of type)) → JumpTypes (original C ls) (Call f) (map place_type own) between → Room C (own ++ js) (jump o (Call f) rest) → Rest ls js rest between → code_length (call_code C (length ls) (own ++ js) o f (type_at C.source f) (λ es'. rewrite C (length ls) es' rest)) ≤ live_weight C (own ++ js) (jump o (Call f) rest) + 12 * known own
   call_short ls f own js o rest between one h rm ih =
       let type = h.0 in
       let es = own ++ js in
+      let d = length ls in
       let n = length type.params in
       let r = result_of type in
       let left = less n es in
@@ -163,21 +164,25 @@ module _ (C : Ctx) (few : FewNumbers C) where
       let ty = grown_types r c.own1 h.2.below c.types ∙ ap (λ z. z ++ h.2.below) (sym ot) ∙ sym h.2.gives in
       let x = behind ls own js n r c.own1 rest between c.left ty room.1 ih in
       let q = nat_lt f (import_count C.source) in
-      let code = after_direct q C ls r left o (λ es'. rewrite C ls es' rest) in
+      let code = after_direct q C d r left o (λ es'. rewrite C d es' rest) in
       let low : length left ≤ C.slots = omega (arith, less_shorter n es, rm.0) in
-      let a = len_load C few n es (call (mapped C.source f) code) rm.0 in
       let b = len_call (mapped C.source f) code in
-      let d = after_short ls q r left o rest low room.0 in
-      let e = costs_most (take n es) in
+      let e = after_short ls q r left o rest low room.0 in
       let g = length_parts n es in
-      let all : code_length (call_code C ls es o f (Some type) (λ es'. rewrite C ls es' rest)) ≤ node_weight (jump_length (Call f)) (length es) + live_weight C (grown r left) rest + 11 * known own = omega (arith, x.1, x.2, a, b, d, e, g) in
-      subst (λ q. code_length (call_code C ls es o f q (λ es'. rewrite C ls es' rest)) ≤ node_weight (jump_length (Call f)) (length es) + behind_call q es (λ es'. live_weight C es' rest) + 11 * known own) (sym h.1) all
+      let all : code_length (call_code C d es o f (Some type) (λ es'. rewrite C d es' rest)) ≤ node_weight (jump_length (Call f)) (length es) + live_weight C (grown r left) rest + 12 * known own = omega (arith, x.1, x.2, b, e, g) in
+      subst (λ q. code_length (call_code C d es o f q (λ es'. rewrite C d es' rest)) ≤ node_weight (jump_length (Call f)) (length es) + behind_call q es (λ es'. live_weight C es' rest) + 12 * known own) (sym h.1) all
 
-  indirect_short : (ls : List Info) (t : ℕ) (own js : List Place) (o : ℕ) (rest : Nodes) (between : List ValType) → ((type : FuncType) → slice_get C.source.types t ≡ Some type → reverse type.results ≡ option_to_list (result_of type)) → JumpTypes (original C ls) (CallIndirect t) (map place_type own) between → Room C (own ++ js) (jump o (CallIndirect t) rest) → Rest ls js rest between → code_length (indirect_code C ls (own ++ js) o t (slice_get C.source.types t) (λ es'. rewrite C ls es' rest)) ≤ live_weight C (own ++ js) (jump o (CallIndirect t) rest) + 11 * known own
+  -- the index of an entry is moved
+  len_past : (q : Bool) (k : Nodes) → code_length (past_shown q C k) ≤ 12 + code_length k
+  len_past false k = omega arith
+  len_past true k = let a = len_const (i32 (table_min C.source.tables)) (basic 0 (Binary I32 Add) k) in omega (arith, a)
+
+  indirect_short : (ls : List Info) (t : ℕ) (own js : List Place) (o : ℕ) (rest : Nodes) (between : List ValType) → ((type : FuncType) → slice_get C.source.types t ≡ Some type → reverse type.results ≡ option_to_list (result_of type)) → JumpTypes (original C ls) (CallIndirect t) (map place_type own) between → Room C (own ++ js) (jump o (CallIndirect t) rest) → Rest ls js rest between → code_length (indirect_code C (length ls) (own ++ js) o t (slice_get C.source.types t) (λ es'. rewrite C (length ls) es' rest)) ≤ live_weight C (own ++ js) (jump o (CallIndirect t) rest) + 12 * known own
   indirect_short ls t [] js o rest between one h rm ih = absurd (let e : [] ≡ I32 ∷ (reverse h.0.params ++ h.3.below) = h.3.takes in cc)
   indirect_short ls t (p ∷ own) js o rest between one h rm ih =
       let type = h.0 in
       let es = own ++ js in
+      let d = length ls in
       let n = length type.params in
       let r = result_of type in
       let left = less n es in
@@ -188,106 +193,140 @@ module _ (C : Ctx) (few : FewNumbers C) where
       let c = cuts n own js (reverse type.params) h.3.below (length-reverse type.params) below in
       let ty = grown_types r c.own1 h.3.below c.types ∙ ap (λ z. z ++ h.3.below) (sym ot) ∙ sym h.3.gives in
       let x = behind ls (p ∷ own) js (suc n) r c.own1 rest between c.left ty room.1 ih in
-      let k = rewrite C ls (grown r left) rest in
+      let k = rewrite C d (grown r left) rest in
+      let kd = drops (suc n) (reload C r left k) in
       let T = take (suc n) (p ∷ es) in
       let low : length left ≤ C.slots = omega (arith, less_shorter n es, rm.0) in
-      let made = load C (suc n) (p ∷ es) (jump 0 (CallIndirect t) (store C r left stop)) in
-      let both = test_both C ls left o (hand_top C (suc n) (p ∷ es) stop) k in
+      let call_ = jump 0 (CallIndirect t) (store C r left stop) in
+      let inner = past_shown (doubles C.source) C call_ in
+      let made = load C (suc n) (p ∷ es) inner in
+      let both = test_both C d left o (hand_top C (suc n) (p ∷ es) stop) kd in
       let test = basic 0 (Eqz I32) (if_any made both) in
       let a1 = len_fetched C few p (length es) (call (helper_of C t) (set C (kind_at C) (get C (kind_at C) test))) (omega (arith, rm.0)) in
       let a2 = len_call (helper_of C t) (set C (kind_at C) (get C (kind_at C) test)) in
       let a3 = len_set C few (kind_at C) (get C (kind_at C) test) (omega arith) in
       let a4 = len_get C few (kind_at C) test (omega arith) in
-      let a5 = len_load C few (suc n) (p ∷ es) (jump 0 (CallIndirect t) (store C r left stop)) rm.0 in
+      let a5 = len_load C few (suc n) (p ∷ es) inner rm.0 in
+      let a12 = len_past (doubles C.source) call_ in
       let a6 = ten_bytes t in
       let a7 = len_store C few r left stop room.0 in
-      let a8 = len_test_both C few ls (suc n) (p ∷ es) left o k rm.0 low in
+      let a8 = len_test_both C few d (suc n) (p ∷ es) left o kd rm.0 low in
       let a9 = costs_twice T in
+      let a10 = len_drops C few (suc n) (reload C r left k) in
+      let a11 = len_reload C few r left k room.0 in
       let g = length_parts (suc n) (p ∷ es) in
-      let all : code_length (indirect_code C ls (p ∷ es) o t (Some type) (λ es'. rewrite C ls es' rest)) ≤ node_weight (jump_length (CallIndirect t)) (length (p ∷ es)) + live_weight C (grown r left) rest + 11 * known (p ∷ own) = omega (arith, x.1, x.2, a1, a2, a3, a4, a5, a6, a7, a8, a9, g) in
-      subst (λ q. code_length (indirect_code C ls (p ∷ es) o t q (λ es'. rewrite C ls es' rest)) ≤ node_weight (jump_length (CallIndirect t)) (length (p ∷ es)) + behind_call q es (λ es'. live_weight C es' rest) + 11 * known (p ∷ own)) (sym h.2) all
+      let all_taken : suc n ≤ length T = taken_all (suc n) (p ∷ own) js (I32 ∷ reverse type.params) h.3.below (ap suc (length-reverse type.params)) e0 in
+      let all : code_length (indirect_code C d (p ∷ es) o t (Some type) (λ es'. rewrite C d es' rest)) ≤ node_weight (jump_length (CallIndirect t)) (length (p ∷ es)) + live_weight C (grown r left) rest + 12 * known (p ∷ own) = omega (arith, x.1, x.2, a1, a2, a3, a4, a5, a6, a7, a8, a9, a10, a11, a12, g, all_taken) in
+      subst (λ q. code_length (indirect_code C d (p ∷ es) o t q (λ es'. rewrite C d es' rest)) ≤ node_weight (jump_length (CallIndirect t)) (length (p ∷ es)) + behind_call q es (λ es'. live_weight C es' rest) + 12 * known (p ∷ own)) (sym h.2) all
+
+  branch_if_short : (ls : List Info) (l : ℕ) (own js : List Place) (o : ℕ) (rest : Nodes) (between : List ValType) → JumpTypes (original C ls) (BrIf l) (map place_type own) between → Room C (own ++ js) (jump o (BrIf l) rest) → Rest ls js rest between → code_length (jump 0 (BrIf l) (rewrite C (length ls) (less 1 (own ++ js)) rest)) ≤ live_weight C (own ++ js) (jump o (BrIf l) rest) + 12 * known own
+  branch_if_short ls l [] js o rest between h rm ih = absurd (let e : [] ≡ I32 ∷ (h.0 ++ h.2.below) = h.2.takes in cc)
+  branch_if_short ls l (p ∷ own) js o rest between h rm ih =
+      let e : place_type p ∷ map place_type own ≡ I32 ∷ (h.0 ++ h.2.below) = h.2.takes in
+      let below : map place_type own ≡ h.0 ++ h.2.below = cc in
+      let x = ih own (below ∙ sym h.2.gives) rm.1 in
+      omega (arith, x)
 
   module _ (one : (f : ℕ) (type : FuncType) → type_at C.source f ≡ Some type → reverse type.results ≡ option_to_list (result_of type)) (one_of : (t : ℕ) (type : FuncType) → slice_get C.source.types t ≡ Some type → reverse type.results ≡ option_to_list (result_of type)) where
-    control_short : (i : Info) (ls : List Info) (j : Jump) (own js : List Place) (o : ℕ) (rest : Nodes) (between : List ValType) → JumpTypes (original C (i ∷ ls)) j (map place_type own) between → Room C (own ++ js) (jump o j rest) → Rest (i ∷ ls) js rest between → code_length (control C (i ∷ ls) (own ++ js) o j (λ es'. rewrite C (i ∷ ls) es' rest)) ≤ live_weight C (own ++ js) (jump o j rest) + 11 * known own
-    control_short i ls Unreachable own js o rest between h rm ih =
-        let arm = unwind_kind C (i ∷ ls) (own ++ js) o in
-        let a = len_const (i32 1) (tested C (i ∷ ls) (own ++ js) o (const (i32 1)) (jump 0 Unreachable stop)) in
+    control_short : (ls : List Info) (j : Jump) (own js : List Place) (o : ℕ) (rest : Nodes) (between : List ValType) → JumpTypes (original C ls) j (map place_type own) between → Room C (own ++ js) (jump o j rest) → Rest ls js rest between → code_length (control C (length ls) (own ++ js) o j (λ es'. rewrite C (length ls) es' rest)) ≤ live_weight C (own ++ js) (jump o j rest) + 12 * known own
+    control_short ls Unreachable own js o rest between h rm ih =
+        let arm = unwind_kind C (length ls) (own ++ js) o in
+        let a = len_const (i32 1) (tested C (length ls) (own ++ js) o (const (i32 1)) (jump 0 Unreachable stop)) in
         let b = len_const (i32 1) arm in
-        let c = len_unwind_kind C few (i ∷ ls) (own ++ js) o rm.0 in
+        let c = len_unwind_kind C few (length ls) (own ++ js) o rm.0 in
         omega (arith, a, b, c)
-    control_short i ls (Br l) own js o rest between h rm ih =
-        let a = go_short (i ∷ ls) (slice_get (i ∷ ls) l) (own ++ js) (jump 0 (Br l) stop) rm.0 in
-        let b = len_branch l in
-        omega (arith, a, b)
-    control_short i ls (BrIf l) own js o rest between h rm ih = branch_if_short (i ∷ ls) l own js o rest between h rm ih
-    control_short i ls (BrTable ts d) own js o rest between h rm ih = let a = table_short (i ∷ ls) (own ++ js) ts d rm.0 in omega (arith, a)
-    control_short i ls Return own js o rest between h rm ih =
-        let a = len_to_result C few C.result (own ++ js) (jump 0 (Br (body_at (i ∷ ls))) stop) rm.0 in
-        let b = len_branch (body_at (i ∷ ls)) in
-        omega (arith, a, b)
-    control_short i ls (Call f) own js o rest between h rm ih = call_short (i ∷ ls) f own js o rest between (one f) h rm ih
-    control_short i ls (CallIndirect t) own js o rest between h rm ih = indirect_short (i ∷ ls) t own js o rest between (one_of t) h rm ih
+    control_short ls (Br l) own js o rest between h rm ih = omega arith
+    control_short ls (BrIf l) own js o rest between h rm ih = branch_if_short ls l own js o rest between h rm ih
+    control_short ls (BrTable ts d) own js o rest between h rm ih = omega arith
+    control_short ls Return own js o rest between h rm ih = omega arith
+    control_short ls (Call f) own js o rest between h rm ih = call_short ls f own js o rest between (one f) h rm ih
+    control_short ls (CallIndirect t) own js o rest between h rm ih = indirect_short ls t own js o rest between (one_of t) h rm ih
 
     -- behind a block
-    block_behind : (ls : List Info) (t : Option ValType) (own js : List Place) (rest : Nodes) (before : List ValType) → map place_type own ≡ before → FitsIn C t (own ++ js) → Room C (grown t (own ++ js)) rest → Rest ls js rest (option_to_list t ++ before) → code_length (from_result C t (own ++ js) (rewrite C ls (grown t (own ++ js)) rest)) ≤ 10 + live_weight C (grown t (own ++ js)) rest + 11 * known own
+    block_behind : (ls : List Info) (t : Option ValType) (own js : List Place) (rest : Nodes) (before : List ValType) → map place_type own ≡ before → FitsIn C t (own ++ js) → Room C (grown t (own ++ js)) rest → Rest ls js rest (option_to_list t ++ before) → code_length (with_result C t (own ++ js) (λ es'. rewrite C (length ls) es' rest)) ≤ 5 + live_weight C (grown t (own ++ js)) rest + 12 * known own
     block_behind ls t own js rest before e fit rm ih =
         let x = behind ls own js 0 t own rest (option_to_list t ++ before) refl (grown_types t own before e) rm ih in
-        let a = len_from_result C few t (own ++ js) (rewrite C ls (grown t (own ++ js)) rest) fit in
+        let a = len_keep_result C few t (own ++ js) (rewrite C (length ls) (grown t (own ++ js)) rest) fit in
         omega (arith, x.1, x.2, a)
 
     else_short : (ea : Option ℕ) → else_length (option_map (λ at. 0) ea) ≤ 1
     else_short None = omega arith
     else_short (Some at) = omega arith
 
-    ending_short : (ls : List Info) (es : List Place) → length es ≤ C.slots → code_length (ending C ls es) ≤ 16
-    ending_short [] es le = omega arith
-    ending_short (i ∷ ls) es le = let a = len_to_result C few (end_gives i) es stop le in omega (arith, a)
-
-    pub rewrite_short : (nodes : Nodes) (i : Info) (ls : List Info) (own js : List Place) (before : List ValType) → IsTree nodes → map place_type own ≡ before → Room C (own ++ js) nodes → Types (original C (i ∷ ls)) nodes before (option_to_list (end_gives i)) → Short (i ∷ ls) own js nodes
-    rewrite_short stop i ls own js before it e rm ty = let a = ending_short (i ∷ ls) (own ++ js) rm in omega (arith, a)
-    rewrite_short (basic o b rest) i ls own js before it e rm ty =
-        instr_short (i ∷ ls) b own js o rest ty.0 (subst (λ z. BasicTypes (original C (i ∷ ls)) b z ty.0) (sym e) ty.1) rm (λ own' e' rm'. rewrite_short rest i ls own' js ty.0 it e' rm' ty.2)
-    rewrite_short (jump o j rest) i ls own js before it e rm ty =
-        control_short i ls j own js o rest ty.0 (subst (λ z. JumpTypes (original C (i ∷ ls)) j z ty.0) (sym e) ty.1) rm (λ own' e' rm'. rewrite_short rest i ls own' js ty.0 it e' rm' ty.2)
-    rewrite_short (block o t inner end rest) i ls own js before it e rm ty =
-        let a = rewrite_short inner (in_block t) (i ∷ ls) [] (own ++ js) [] it.0 refl rm.1 ty.0 in
-        let b = block_behind (i ∷ ls) t own js rest before e rm.2 rm.3 (λ own' e' rm'. rewrite_short rest i ls own' js (option_to_list t ++ before) it.1 e' rm' ty.1) in
-        omega (arith, a, b)
-    rewrite_short (loop o t inner end rest) i ls own js before it e rm ty =
-        let a = rewrite_short inner (in_loop t) (i ∷ ls) [] (own ++ js) [] it.0 refl rm.1 ty.0 in
-        let b = block_behind (i ∷ ls) t own js rest before e rm.2 rm.3 (λ own' e' rm'. rewrite_short rest i ls own' js (option_to_list t ++ before) it.1 e' rm' ty.1) in
-        omega (arith, a, b)
-    rewrite_short (choose o t x ea y end rest) i ls [] js before it e rm ty = absurd (let z : [] ≡ I32 ∷ ty.2 = e ∙ ty.3 in cc)
-    rewrite_short (choose o t x None y end rest) i ls (p ∷ own) js before it e rm ty =
-        let z : place_type p ∷ map place_type own ≡ I32 ∷ ty.2 = e ∙ ty.3 in
+    pub rewrite_short : (nodes : Nodes) (ls : List Info) (own js : List Place) (before z : List ValType) → IsTree nodes → Fixed js → map place_type own ≡ before → Room C (own ++ js) nodes → Types (original C ls) nodes before z → Short ls own js nodes
+    rewrite_short stop ls own js before z it f e rm ty = omega arith
+    rewrite_short (basic o b rest) ls own js before z it f e rm ty =
+        plain_short ls b own js o rest ty.0 f (subst (λ x. BasicTypes (original C ls) b x ty.0) (sym e) ty.1) rm (λ own' e' rm'. rewrite_short rest ls own' js ty.0 z it f e' rm' ty.2)
+    rewrite_short (jump o j rest) ls own js before z it f e rm ty =
+        control_short ls j own js o rest ty.0 (subst (λ x. JumpTypes (original C ls) j x ty.0) (sym e) ty.1) rm (λ own' e' rm'. rewrite_short rest ls own' js ty.0 z it f e' rm' ty.2)
+    rewrite_short (block o t inner end rest) ls own js before z it f e rm ty =
+        let es = own ++ js in
+        let u = under own in
+        let sp : under es ≡ u ++ js = without_append (λ x. true) own js f in
+        let fu : Fixed (u ++ js) = subst Fixed sp (fixed_under es) in
+        let a = rewrite_short inner (in_block t ∷ ls) [] (u ++ js) [] (option_to_list t) it.0 fu refl (subst (λ x. Room C x inner) sp rm.1) ty.0 in
+        let b = block_behind ls t u js rest before (without_types (λ x. true) own ∙ e) (subst (FitsIn C t) sp rm.2) (subst (λ x. Room C (grown t x) rest) sp rm.3) (λ own' e' rm'. rewrite_short rest ls own' js (option_to_list t ++ before) z it.1 f e' rm' ty.1) in
+        let code = λ (x : List Place). block 0 t (rewrite C (suc (length ls)) x inner) 0 (with_result C t x (λ es'. rewrite C (length ls) es' rest)) in
+        let s = len_spill C few (λ x. true) es (code (under es)) rm.0 in
+        let ku = known_without (λ x. true) own in
+        let c : code_length (code (under es)) ≤ 8 + live_weight C (under es) inner + live_weight C (grown t (under es)) rest + 12 * known own =
+        subst (λ x. code_length (code x) ≤ 8 + live_weight C x inner + live_weight C (grown t x) rest + 12 * known own) (sym sp) (omega (arith, a, b, ku)) in
+        omega (arith, s, c)
+    rewrite_short (loop o t inner end rest) ls own js before z it f e rm ty =
+        let es = own ++ js in
+        let u = under own in
+        let sp : under es ≡ u ++ js = without_append (λ x. true) own js f in
+        let fu : Fixed (u ++ js) = subst Fixed sp (fixed_under es) in
+        let a = rewrite_short inner (in_loop t ∷ ls) [] (u ++ js) [] (option_to_list t) it.0 fu refl (subst (λ x. Room C x inner) sp rm.1) ty.0 in
+        let b = block_behind ls t u js rest before (without_types (λ x. true) own ∙ e) (subst (FitsIn C t) sp rm.2) (subst (λ x. Room C (grown t x) rest) sp rm.3) (λ own' e' rm'. rewrite_short rest ls own' js (option_to_list t ++ before) z it.1 f e' rm' ty.1) in
+        let code = λ (x : List Place). loop 0 t (rewrite C (suc (length ls)) x inner) 0 (with_result C t x (λ es'. rewrite C (length ls) es' rest)) in
+        let s = len_spill C few (λ x. true) es (code (under es)) rm.0 in
+        let ku = known_without (λ x. true) own in
+        let c : code_length (code (under es)) ≤ 8 + live_weight C (under es) inner + live_weight C (grown t (under es)) rest + 12 * known own =
+        subst (λ x. code_length (code x) ≤ 8 + live_weight C x inner + live_weight C (grown t x) rest + 12 * known own) (sym sp) (omega (arith, a, b, ku)) in
+        omega (arith, s, c)
+    rewrite_short (choose o t x ea y end rest) ls [] js before z it f e rm ty = absurd (let q : [] ≡ I32 ∷ ty.2 = e ∙ ty.3 in cc)
+    rewrite_short (choose o t x None y end rest) ls (p ∷ own) js before z it f e rm ty =
+        let q : place_type p ∷ map place_type own ≡ I32 ∷ ty.2 = e ∙ ty.3 in
         let below : map place_type own ≡ ty.2 = cc in
         let es = own ++ js in
+        let d = length ls in
+        let u = under own in
+        let sp : under es ≡ u ++ js = without_append (λ x. true) own js f in
+        let fu : Fixed (u ++ js) = subst Fixed sp (fixed_under es) in
         let low : length es ≤ C.slots = omega (arith, rm.0) in
-        let a = rewrite_short x (in_block t) (i ∷ ls) [] es [] it.0 refl rm.1 ty.0 in
-        let b : code_length (rewrite C (in_block t ∷ i ∷ ls) es y) ≤ 16 = subst (λ n. code_length (rewrite C (in_block t ∷ i ∷ ls) es n) ≤ 16) (sym it.1) (ending_short (in_block t ∷ i ∷ ls) es low) in
-        let c = block_behind (i ∷ ls) t own js rest ty.2 below rm.3 rm.4 (λ own' e' rm'. rewrite_short rest i ls own' js (option_to_list t ++ ty.2) it.3 e' rm' ty.4) in
-        let f = len_fetched C few p (length es) (choose 0 None (rewrite C (in_block t ∷ i ∷ ls) es x) None (rewrite C (in_block t ∷ i ∷ ls) es y) 0 (from_result C t es (rewrite C (i ∷ ls) (grown t es) rest))) low in
-        omega (arith, a, b, c, f)
-    rewrite_short (choose o t x (Some els) y end rest) i ls (p ∷ own) js before it e rm ty =
-        let z : place_type p ∷ map place_type own ≡ I32 ∷ ty.2 = e ∙ ty.3 in
+        let a = rewrite_short x (in_block t ∷ ls) [] (u ++ js) [] (option_to_list t) it.0 fu refl (subst (λ v. Room C v x) sp rm.1) ty.0 in
+        let c = block_behind ls t u js rest ty.2 (without_types (λ x. true) own ∙ below) (subst (FitsIn C t) sp rm.3) (subst (λ v. Room C (grown t v) rest) sp rm.4) (λ own' e' rm'. rewrite_short rest ls own' js (option_to_list t ++ ty.2) z it.3 f e' rm' ty.4) in
+        let code = λ (n : Nodes) (v : List Place). choose 0 t (rewrite C (suc d) v x) None (rewrite C (suc d) v n) 0 (with_result C t v (λ es'. rewrite C d es' rest)) in
+        let s = len_spill C few (λ x. true) es (code y (under es)) low in
+        let ku = known_without (λ x. true) own in
+        let g0 : code_length (code stop (under es)) ≤ 8 + live_weight C (under es) x + live_weight C (grown t (under es)) rest + 12 * known own =
+        subst (λ v. code_length (code stop v) ≤ 8 + live_weight C v x + live_weight C (grown t v) rest + 12 * known own) (sym sp) (omega (arith, a, c, ku)) in
+        let g : code_length (code y (under es)) ≤ 8 + live_weight C (under es) x + live_weight C (grown t (under es)) rest + 12 * known own =
+        subst (λ n. code_length (code n (under es)) ≤ 8 + live_weight C (under es) x + live_weight C (grown t (under es)) rest + 12 * known own) (sym it.1) g0 in
+        let one_ = known-append (p ∷ []) own in
+        omega (arith, s, g, one_)
+    rewrite_short (choose o t x (Some els) y end rest) ls (p ∷ own) js before z it f e rm ty =
+        let q : place_type p ∷ map place_type own ≡ I32 ∷ ty.2 = e ∙ ty.3 in
         let below : map place_type own ≡ ty.2 = cc in
         let es = own ++ js in
+        let d = length ls in
+        let u = under own in
+        let sp : under es ≡ u ++ js = without_append (λ x. true) own js f in
+        let fu : Fixed (u ++ js) = subst Fixed sp (fixed_under es) in
         let low : length es ≤ C.slots = omega (arith, rm.0) in
-        let a = rewrite_short x (in_block t) (i ∷ ls) [] es [] it.0 refl rm.1 ty.0 in
-        let b = rewrite_short y (in_block t) (i ∷ ls) [] es [] it.2 refl rm.2 ty.1 in
-        let c = block_behind (i ∷ ls) t own js rest ty.2 below rm.3 rm.4 (λ own' e' rm'. rewrite_short rest i ls own' js (option_to_list t ++ ty.2) it.3 e' rm' ty.4) in
-        let f = len_fetched C few p (length es) (choose 0 None (rewrite C (in_block t ∷ i ∷ ls) es x) (Some 0) (rewrite C (in_block t ∷ i ∷ ls) es y) 0 (from_result C t es (rewrite C (i ∷ ls) (grown t es) rest))) low in
-        omega (arith, a, b, c, f)
+        let a = rewrite_short x (in_block t ∷ ls) [] (u ++ js) [] (option_to_list t) it.0 fu refl (subst (λ v. Room C v x) sp rm.1) ty.0 in
+        let b = rewrite_short y (in_block t ∷ ls) [] (u ++ js) [] (option_to_list t) it.2 fu refl (subst (λ v. Room C v y) sp rm.2) ty.1 in
+        let c = block_behind ls t u js rest ty.2 (without_types (λ x. true) own ∙ below) (subst (FitsIn C t) sp rm.3) (subst (λ v. Room C (grown t v) rest) sp rm.4) (λ own' e' rm'. rewrite_short rest ls own' js (option_to_list t ++ ty.2) z it.3 f e' rm' ty.4) in
+        let code = λ (v : List Place). choose 0 t (rewrite C (suc d) v x) (Some 0) (rewrite C (suc d) v y) 0 (with_result C t v (λ es'. rewrite C d es' rest)) in
+        let s = len_spill C few (λ x. true) es (code (under es)) low in
+        let ku = known_without (λ x. true) own in
+        let g : code_length (code (under es)) ≤ 9 + live_weight C (under es) x + live_weight C (under es) y + live_weight C (grown t (under es)) rest + 12 * known own =
+        subst (λ v. code_length (code v) ≤ 9 + live_weight C v x + live_weight C v y + live_weight C (grown t v) rest + 12 * known own) (sym sp) (omega (arith, a, b, c, ku)) in
+        let one_ = known-append (p ∷ []) own in
+        omega (arith, s, g, one_)
 
     -- ---- bodies
-
-    result_low : (t : ValType) → result_at C t < 2 * C.slots + 4
-    result_low I32 = omega arith
-    result_low I64 = omega arith
-
-    finish_short : (r : Option ValType) → code_length (result_back C r) ≤ 6
-    finish_short None = omega arith
-    finish_short (Some t) = let a = len_get C few (result_at C t) (jump 0 Return stop) (result_low t) in omega (arith, a)
 
     locals_short : (x : ℕ) (ts : List ValType) (k : Nodes) → code_length (hand_locals C x ts k) ≤ 16 * length ts + code_length k
     locals_short x [] k = omega arith
@@ -322,9 +361,8 @@ module _ (C : Ctx) (few : FewNumbers C) where
 
     pub body_short : (nodes : Nodes) → IsTree nodes → Room C [] nodes → Types (original C (in_body C.result ∷ [])) nodes [] (option_to_list C.result) → code_length (body C nodes) ≤ live_weight C [] nodes + (192 + 16 * length C.locals)
     body_short nodes it rm ty =
-        let a = rewrite_short nodes (in_body C.result) [] [] [] [] it refl rm ty in
-        let b = finish_short C.result in
-        omega (arith, a, b, exit_short)
+        let a = rewrite_short nodes (in_body C.result ∷ []) [] [] [] (option_to_list C.result) it tt refl rm ty in
+        omega (arith, a, exit_short)
 
 type_in : (C : Ctx) (f : ℕ) (type : FuncType) → type_at C.source f ≡ Some type → (t : ℕ) × (slice_get C.source.types t ≡ Some type)
 type_in C f type e = inside (slice_get (function_types C.source) f) e

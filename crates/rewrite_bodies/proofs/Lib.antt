@@ -1,9 +1,12 @@
 pub mod Run
 pub mod Parts
 pub mod Guards
+pub mod Copies
+pub mod Stays
 pub mod Sim
 pub mod Control
 pub mod Unwind
+pub mod Doubled
 pub mod Calls
 pub mod Step
 pub mod TypedPieces

@@ -12,7 +12,7 @@ use Rattle.wasm_syntax.specs.Host.{World}
 use Rattle.wasm_syntax.specs.declared.host.CollectorCall.{CollectorCall}
 use Rattle.wasm_syntax.specs.Effect.{Effect, gives, fails, unfit, effect, takes, with_globals, address}
 use Rattle.wasm_syntax.specs.Machine.{Label, label, Engine, parts, one_more, cut, exactly}
-use Rattle.rewrite_bodies.specs.Slots.{Place, Spilled, Known, place_type, Ctx, slot, added, grown, second_type, result_type}
+use Rattle.rewrite_bodies.specs.Slots.{Place, Spilled, Known, Copied, place_type, Ctx, slot, added, grown, second_type, result_type}
 use Rattle.rewrite_bodies.specs.Guards.{divides, can_trap}
 use Rattle.rewrite_bodies.specs.Numbering.{global_types}
 use Rattle.linear_memory.specs.Memory.{Memory, pages, grow, to_bytes}
@@ -27,17 +27,12 @@ use Rattle.std.proofs.lemmas.List.{length-replicate}
 use Rattle.std.proofs.Math.Nat.{mul-div_cancel_left}
 use Rattle.rewrite_bodies.specs.calls.Agreement.{One, Holds, awaits, pending, joined, FitsLabels, MemoryFits, WorldFits, flagged}
 use Rattle.rewrite_bodies.specs.calls.Steps.{To, Shell, st}
-use Rattle.rewrite_bodies.proofs.Run.{stored, HasPlace, if_same, slice_get-put_same, types-slice_set, added_at, more_parts, one_step, holds_put}
+use Rattle.rewrite_bodies.proofs.Run.{stored, HasPlace, if_same, slice_get-put_same, types-slice_set, added_at, more_parts, one_step, holds_put, get_own}
 use Rattle.int_ops.specs.Integers.{binary as int_binary}
 use Rattle.wasm_laws.proofs.Progress.{value_type, same_of}
 use Rattle.wasm_syntax.proofs.Types.{same_type_is}
 
-get-append_left : (l ex : List Value) (x : ℕ) (v : Value) → slice_get l x ≡ Some v → slice_get (l ++ ex) x ≡ Some v
-get-append_left [] ex x v e = absurd (cc)
-get-append_left (w ∷ l) ex zero v e = e
-get-append_left (w ∷ l) ex (suc x) v e = get-append_left l ex x v e
-
-set-append_left : (l ex : List Value) (x : ℕ) (v w : Value) → slice_get l x ≡ Some w → slice_set (l ++ ex) x v ≡ slice_set l x v ++ ex
+pub set-append_left : (l ex : List Value) (x : ℕ) (v w : Value) → slice_get l x ≡ Some w → slice_set (l ++ ex) x v ≡ slice_set l x v ++ ex
 set-append_left [] ex x v w e = absurd (cc)
 set-append_left (u ∷ l) ex zero v w e = refl
 set-append_left (u ∷ l) ex (suc x) v w e = ap (λ r. u ∷ r) (set-append_left l ex x v w e)
@@ -157,11 +152,11 @@ module _ (M : Engine) (gl : List ValType) (C : Ctx) (es : List Place) (l : List 
 
   local_get : (x : ℕ) (o : Option Value) → slice_get l x ≡ o → Rel M gl (slice_get C.locals x) false l ex b (effects.with_some o (λ v. gives g l (v ∷ []))) (effects.with_some (slice_get (l ++ ex) x) (λ v. gives (flagged M g b) (l ++ ex) (v ∷ [])))
   local_get x None e = tt
-  local_get x (Some v) e = (rw (get-append_left l ex x v e) refl, refl, wf, typed_result C.locals l x v lt e)
+  local_get x (Some v) e = (rw (get_own l ex x v e) refl, refl, wf, typed_result C.locals l x v lt e)
 
   local_set_if : (x : ℕ) (v w : Value) (q : Bool) → slice_get l x ≡ Some w → same_type (type_of w) (type_of v) ≡ q → Rel M gl None false l ex b (effects.when q (gives g (slice_set l x v) [])) (effects.over (slice_get (l ++ ex) x) v (gives (flagged M g b) (slice_set (l ++ ex) x v) []))
   local_set_if x v w false e d = tt
-  local_set_if x v w true e d = (rw (get-append_left l ex x w e, d, set-append_left l ex x v w e) refl, types-slice_set l x (type_of w) v (types_get l x w e) (sym (same_type_is (type_of w) (type_of v) d)), wf, refl)
+  local_set_if x v w true e d = (rw (get_own l ex x w e, d, set-append_left l ex x v w e) refl, types-slice_set l x (type_of w) v (types_get l x w e) (sym (same_type_is (type_of w) (type_of v) d)), wf, refl)
 
   local_set : (x : ℕ) (v : Value) (o : Option Value) → slice_get l x ≡ o → Rel M gl None false l ex b (effects.over o v (gives g (slice_set l x v) [])) (effects.over (slice_get (l ++ ex) x) v (gives (flagged M g b) (slice_set (l ++ ex) x v) []))
   local_set x v None e = tt
@@ -173,7 +168,7 @@ module _ (M : Engine) (gl : List ValType) (C : Ctx) (es : List Place) (l : List 
       let same : type_of w ≡ type_of v = same_type_is (type_of w) (type_of v) d in
       let ty = types-slice_set l x (type_of w) v (types_get l x w e) (sym same) in
       let at : slice_get C.locals x ≡ Some (type_of v) = ap (λ q. slice_get q x) (sym lt) ∙ types_get l x w e ∙ ap Some same in
-      (rw (get-append_left l ex x w e, d, set-append_left l ex x v w e) refl, ty, wf, rw at (one_result v (type_of v) refl))
+      (rw (get_own l ex x w e, d, set-append_left l ex x v w e) refl, ty, wf, rw at (one_result v (type_of v) refl))
 
   local_tee : (x : ℕ) (v : Value) (o : Option Value) → slice_get l x ≡ o → Rel M gl (slice_get C.locals x) false l ex b (effects.over o v (gives g (slice_set l x v) (v ∷ []))) (effects.over (slice_get (l ++ ex) x) v (gives (flagged M g b) (slice_set (l ++ ex) x v) (v ∷ [])))
   local_tee x v None e = tt
@@ -181,12 +176,12 @@ module _ (M : Engine) (gl : List ValType) (C : Ctx) (es : List Place) (l : List 
 
   global_get : (x : ℕ) (o : Option Value) → slice_get g.globals x ≡ o → Rel M gl (slice_get (global_types C.source) x) false l ex b (effects.with_some o (λ v. gives g l (v ∷ []))) (effects.with_some (slice_get (g.globals ++ b ∷ []) x) (λ v. gives (flagged M g b) (l ++ ex) (v ∷ [])))
   global_get x None e = tt
-  global_get x (Some v) e = (rw (get-append_left g.globals (b ∷ []) x v e) refl, refl, wf, typed_result (global_types C.source) g.globals x v (wf.globals ∙ gt) e)
+  global_get x (Some v) e = (rw (get_own g.globals (b ∷ []) x v e) refl, refl, wf, typed_result (global_types C.source) g.globals x v (wf.globals ∙ gt) e)
 
   global_set_if : (x : ℕ) (v w : Value) (q : Bool) → slice_get g.globals x ≡ Some w → same_type (type_of w) (type_of v) ≡ q → Rel M gl None false l ex b (effects.when q (gives (with_globals g (slice_set g.globals x v)) l [])) (effects.over (slice_get (g.globals ++ b ∷ []) x) v (gives (with_globals (flagged M g b) (slice_set (g.globals ++ b ∷ []) x v)) (l ++ ex) []))
   global_set_if x v w false e d = tt
   global_set_if x v w true e d = (
-    rw (get-append_left g.globals (b ∷ []) x w e, d, set-append_left g.globals (b ∷ []) x v w e) refl,
+    rw (get_own g.globals (b ∷ []) x w e, d, set-append_left g.globals (b ∷ []) x v w e) refl,
     refl,
     record { globals = types-slice_set g.globals x (type_of w) v (types_get g.globals x w e) (sym (same_type_is (type_of w) (type_of v) d)) ∙ wf.globals; memory = wf.memory; table = wf.table },
     refl,
@@ -280,18 +275,19 @@ module _ (M : Engine) (gl : List ValType) (C : Ctx) (es : List Place) (l : List 
   framed (Binary t op) vs m = rel_two M gl (Some t) (divides op) l ex b t t _ _ vs (λ n k. binop_rel t op n k)
   framed (Convert c) vs m = rel_one M gl (Some (convert_to c)) false l ex b (convert_from c) _ _ vs (λ a. value_rel (convert_to c) _ false)
 
-pub place_of : (ex : List Value) (h : ℕ) (e : Place) (v : Value) → One ex h e v → type_of v ≡ place_type e
-place_of ex h (Spilled t) v o = o.1
-place_of ex h (Known w) v o = sym (ap type_of o)
+pub place_of : (l ex : List Value) (h : ℕ) (e : Place) (v : Value) → One l ex h e v → type_of v ≡ place_type e
+place_of l ex h (Spilled t) v o = o.1
+place_of l ex h (Known w) v o = sym (ap type_of o)
+place_of l ex h (Copied t x) v o = o.1
 
-pub match_of : (ex : List Value) (m : ℕ) (js es : List Place) (ops vs below : List Value) → Holds ex js ops es → cut m ops ≡ parts vs below → Match vs (es ++ js)
-match_of ex zero js es ops vs below h e = let f : vs ≡ [] = cc in rw f tt
-match_of ex (suc m) js [] [] vs below h e = absurd (cc)
-match_of ex (suc m) js (e ∷ es) [] vs below h c = absurd h
-match_of ex (suc m) js [] (v ∷ ops) vs below h c = absurd h
-match_of ex (suc m) js (e ∷ es) (v ∷ ops) vs below h c =
+pub match_of : (l ex : List Value) (m : ℕ) (js es : List Place) (ops vs below : List Value) → Holds l ex js ops es → cut m ops ≡ parts vs below → Match vs (es ++ js)
+match_of l ex zero js es ops vs below h e = let f : vs ≡ [] = cc in rw f tt
+match_of l ex (suc m) js [] [] vs below h e = absurd (cc)
+match_of l ex (suc m) js (e ∷ es) [] vs below h c = absurd h
+match_of l ex (suc m) js [] (v ∷ ops) vs below h c = absurd h
+match_of l ex (suc m) js (e ∷ es) (v ∷ ops) vs below h c =
     let r = more_parts v (cut m ops) vs below c in
-    rw r.2 (place_of ex (length (es ++ js)) e v h.0, match_of ex m js es ops r.0 below h.1 r.1)
+    rw r.2 (place_of l ex (length (es ++ js)) e v h.0, match_of l ex m js es ops r.0 below h.1 r.1)
 
 pub cut_all : (m : ℕ) (ops vs below s : List Value) → cut m ops ≡ parts vs below → cut m (vs ++ s) ≡ parts vs s
 cut_all zero ops vs below s e = let f : vs ≡ [] = cc in rw f refl
@@ -301,17 +297,17 @@ cut_all (suc m) (v ∷ ops) vs below s e =
     rw r.2 (ap (one_more v) (cut_all m ops r.0 below s r.1))
 
 -- labels under a write at or above their heights
-pub fits_put : (C : Ctx) (ex : List Value) (a : Option ValType) (Ls : List Label) (ss : List (List Place)) (i : ℕ) (v : Value) → 2 * length (joined ss) ≤ i → FitsLabels C ex a Ls ss → FitsLabels C (slice_set ex i v) a Ls ss
-fits_put C ex a [] [] i v le h = tt
-fits_put C ex a [] (_ ∷ _) i v le h = absurd h
-fits_put C ex a (L ∷ Ls) [] i v le h = absurd h
-fits_put C ex a (L ∷ Ls) (e ∷ ss) i v le h =
-    (holds_put ex (joined ss) e L.operands i v le h.0, h.1, h.2, h.3, fits_put C ex (awaits (pending L.kind)) Ls ss i v (omega (arith, length-append e (joined ss))) h.4)
+pub fits_put : (C : Ctx) (l ex : List Value) (a : Option ValType) (Ls : List Label) (ss : List (List Place)) (i : ℕ) (v : Value) → 2 * length (joined ss) ≤ i → FitsLabels C l ex a Ls ss → FitsLabels C l (slice_set ex i v) a Ls ss
+fits_put C l ex a [] [] i v le h = tt
+fits_put C l ex a [] (_ ∷ _) i v le h = absurd h
+fits_put C l ex a (L ∷ Ls) [] i v le h = absurd h
+fits_put C l ex a (L ∷ Ls) (e ∷ ss) i v le h =
+    (holds_put l ex (joined ss) e L.operands i v le h.0, h.1, h.2, h.3, fits_put C [] ex (awaits (pending L.kind)) Ls ss i v (omega (arith, length-append e (joined ss))) h.4)
 
-pub fits_stored : (C : Ctx) (ex : List Value) (a r : Option ValType) (Ls : List Label) (ss : List (List Place)) (i : ValType → ℕ) (vs : List Value) → ((t : ValType) → 2 * length (joined ss) ≤ i t) → FitsLabels C ex a Ls ss → FitsLabels C (stored r i vs ex) a Ls ss
-fits_stored C ex a None Ls ss i vs le h = h
-fits_stored C ex a (Some t) Ls ss i [] le h = h
-fits_stored C ex a (Some t) Ls ss i (v ∷ vs) le h = fits_put C ex a Ls ss (i t) v (le t) h
+pub fits_stored : (C : Ctx) (l ex : List Value) (a r : Option ValType) (Ls : List Label) (ss : List (List Place)) (i : ValType → ℕ) (vs : List Value) → ((t : ValType) → 2 * length (joined ss) ≤ i t) → FitsLabels C l ex a Ls ss → FitsLabels C l (stored r i vs ex) a Ls ss
+fits_stored C l ex a None Ls ss i vs le h = h
+fits_stored C l ex a (Some t) Ls ss i [] le h = h
+fits_stored C l ex a (Some t) Ls ss i (v ∷ vs) le h = fits_put C l ex a Ls ss (i t) v (le t) h
 
 -- a slot at a height within bounds
 pub has_slot : (C : Ctx) (ex : List Value) (r : Option ValType) (h : ℕ) → types ex ≡ added C.slots → h ≤ C.slots → HasPlace r (λ t. slot t h) ex
@@ -319,17 +315,17 @@ has_slot C ex None h ty le = tt
 has_slot C ex (Some t) h ty le = rw ty (added_at C.slots h t le)
 
 -- awaited results have arrived
-pub settle : (C : Ctx) (ex : List Value) (r : Option ValType) (L : Label) (Ls : List Label) (e : List Place) (ss : List (List Place)) (vs : List Value) → types ex ≡ added C.slots → exactly r vs ≡ Some vs → FitsLabels C ex r (L ∷ Ls) (e ∷ ss) → FitsLabels C (stored r (λ t. slot t (length (e ++ joined ss))) vs ex) None (label (vs ++ L.operands) L.nodes L.end L.kind ∷ Ls) (grown r e ∷ ss)
-settle C ex None L Ls e ss [] ty x h = h
-settle C ex None L Ls e ss (_ ∷ _) ty x h = absurd (cc)
-settle C ex (Some t) L Ls e ss [] ty x h = absurd (cc)
-settle C ex (Some t) L Ls e ss (v ∷ []) ty x h =
+pub settle : (C : Ctx) (l ex : List Value) (r : Option ValType) (L : Label) (Ls : List Label) (e : List Place) (ss : List (List Place)) (vs : List Value) → types ex ≡ added C.slots → exactly r vs ≡ Some vs → FitsLabels C l ex r (L ∷ Ls) (e ∷ ss) → FitsLabels C l (stored r (λ t. slot t (length (e ++ joined ss))) vs ex) None (label (vs ++ L.operands) L.nodes L.end L.kind ∷ Ls) (grown r e ∷ ss)
+settle C l ex None L Ls e ss [] ty x h = h
+settle C l ex None L Ls e ss (_ ∷ _) ty x h = absurd (cc)
+settle C l ex (Some t) L Ls e ss [] ty x h = absurd (cc)
+settle C l ex (Some t) L Ls e ss (v ∷ []) ty x h =
     let n = length (e ++ joined ss) in
     let i = slot t n in
     let at : slice_get (types ex) i ≡ Some t = rw ty (added_at C.slots n t (omega (arith, h.1))) in
     let d : type_of v ≡ t = same_type_is (type_of v) t (if_same (same_type (type_of v) t) (v ∷ []) (v ∷ []) x).0 in
-    (((slice_get-put_same ex i t v at, d), holds_put ex (joined ss) e L.operands i v (omega arith) h.0), tt, h.2, h.3, fits_put C ex (awaits (pending L.kind)) Ls ss i v (omega (arith, length-append e (joined ss))) h.4)
-settle C ex (Some t) L Ls e ss (v ∷ w ∷ vs) ty x h = absurd (cc)
+    (((slice_get-put_same ex i t v at, d), holds_put l ex (joined ss) e L.operands i v (omega arith) h.0), tt, h.2, h.3, fits_put C [] ex (awaits (pending L.kind)) Ls ss i v (omega (arith, length-append e (joined ss))) h.4)
+settle C l ex (Some t) L Ls e ss (v ∷ w ∷ vs) ty x h = absurd (cc)
 
 module _ (M : Engine) where
   pub step_plain : {X : Shell} {tl s : List Value} {k : Nodes} {g : World} {co : List CollectorCall} (i : Basic) (vs below tl' : List Value) (g' : World) (ws s' : List Value) → cut (takes i) s ≡ parts vs below → effect i g tl vs ≡ gives g' tl' ws → ws ++ below ≡ s' → To M 1 1 (st X tl s (basic 0 i k) g co) (st X tl' s' k g' co)

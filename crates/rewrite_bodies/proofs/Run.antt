@@ -1,17 +1,16 @@
 -- Runs of so many steps, and what the small pieces of rewritten code do.
-use Rattle.std.proofs.Common.{◌≡◌, ℕ, zero, suc, ◌+◌, ◌*◌, ◌<◌, ◌≤◌, List, [], ◌∷◌, ◌++◌, length, Option, Some, None, Bool, true, false, refl, sym, ap, ◌∙◌, subst, arith, ◌≢◌, slice_get, slice_set}
+use Rattle.std.proofs.Common.{◌≡◌, ℕ, zero, suc, ◌+◌, ◌*◌, ◌<◌, ◌≤◌, List, [], ◌∷◌, ◌++◌, length, Option, Some, None, Bool, true, false, refl, sym, ap, ◌∙◌, subst, arith, ◌≢◌, slice_get, slice_set, option_map}
 use Rattle.wasm_syntax.specs.declared.value.ValType.{ValType}
 use Rattle.wasm_syntax.specs.declared.value.ValType.TheVariants.{I32, I64}
 use Rattle.wasm_syntax.specs.declared.value.Value.{Value}
-use Rattle.wasm_syntax.specs.declared.instruction.Basic.TheVariants.{LocalGet, LocalSet}
+use Rattle.wasm_syntax.specs.declared.instruction.Basic.TheVariants.{Drop, LocalGet, LocalSet, LocalTee}
 use Rattle.wasm_syntax.specs.Numbers.{type_of, types, same_type}
 use Rattle.wasm_syntax.specs.Tree.{Nodes, basic}
 use Rattle.wasm_syntax.specs.Host.{World}
 use Rattle.wasm_syntax.specs.declared.host.CollectorCall.{CollectorCall}
-use Rattle.wasm_syntax.specs.Machine.{Config, Engine, Stepped, next, ends, traps, no_reply, bad_reply, stuck, Cut, short, parts, one_more, cut, top, exactly, deliver, step}
-use Rattle.rewrite_bodies.specs.Slots.{Place, Spilled, Known, Ctx, slot, kind_at, added, less}
-use Rattle.rewrite_bodies.specs.Pieces.{get, set, const, fetch, load, store, to_result, from_result}
-use Rattle.rewrite_bodies.specs.Rewrite.{result_back}
+use Rattle.wasm_syntax.specs.Machine.{Config, Engine, Stepped, next, ends, traps, no_reply, bad_reply, stuck, Cut, short, parts, one_more, cut, exactly, step}
+use Rattle.rewrite_bodies.specs.Slots.{Place, Spilled, Known, Copied, Ctx, slot, kind_at, added, less}
+use Rattle.rewrite_bodies.specs.Pieces.{get, set, const, fetch, load, keep, store, reload, drops}
 use Rattle.rewrite_bodies.specs.calls.Agreement.{One, Holds}
 use Rattle.rewrite_bodies.specs.calls.Steps.{went, run, Gets, To, Shell, st}
 use Rattle.wasm_laws.proofs.Progress.{get_type, same_of}
@@ -23,6 +22,11 @@ slice_get-append [] ex n h e = ap (slice_get ex) (omega arith)
 slice_get-append (x ∷ l) ex n h e =
     let m : n + h ≡ suc (length l + h) = omega arith in
     ap (slice_get (x ∷ (l ++ ex))) m ∙ slice_get-append l ex (length l) h refl
+
+pub get_own : (l ex : List Value) (x : ℕ) (v : Value) → slice_get l x ≡ Some v → slice_get (l ++ ex) x ≡ Some v
+get_own [] ex x v e = absurd (cc)
+get_own (w ∷ l) ex zero v e = e
+get_own (w ∷ l) ex (suc x) v e = get_own l ex x v e
 
 pub slice_set-append : (l ex : List Value) (n h : ℕ) (v : Value) → n ≡ length l → slice_set (l ++ ex) (n + h) v ≡ l ++ slice_set ex h v
 slice_set-append [] ex n h v e = ap (λ k. slice_set ex k v) (omega arith)
@@ -100,28 +104,33 @@ pub more_parts : (v : Value) (u : Cut) (vs below : List Value) → one_more v u 
 more_parts v short vs below e = cc
 more_parts v (parts t b) vs below e = let x : b ≡ below = cc in (t, ap (parts t) x, cc)
 
+pub cut_front : (vs below : List Value) → cut (length vs) (vs ++ below) ≡ parts vs below
+cut_front [] below = refl
+cut_front (v ∷ vs) below = ap (one_more v) (cut_front vs below)
+
 -- what is left of them
-pub less_holds : (ex : List Value) (m : ℕ) (js es : List Place) (ops vs below : List Value) → Holds ex js ops es → cut m ops ≡ parts vs below → (es' : List Place) × (less m (es ++ js) ≡ es' ++ js) × Holds ex js below es'
-less_holds ex zero js es ops vs below h e = let f : ops ≡ below = cc in (es, refl, rw f at h)
-less_holds ex (suc m) js [] [] vs below h e = absurd (cc)
-less_holds ex (suc m) js (e ∷ es) [] vs below h c = absurd h
-less_holds ex (suc m) js [] (v ∷ ops) vs below h c = absurd h
-less_holds ex (suc m) js (e ∷ es) (v ∷ ops) vs below h c =
+pub less_holds : (l ex : List Value) (m : ℕ) (js es : List Place) (ops vs below : List Value) → Holds l ex js ops es → cut m ops ≡ parts vs below → (es' : List Place) × (less m (es ++ js) ≡ es' ++ js) × Holds l ex js below es'
+less_holds l ex zero js es ops vs below h e = let f : ops ≡ below = cc in (es, refl, rw f at h)
+less_holds l ex (suc m) js [] [] vs below h e = absurd (cc)
+less_holds l ex (suc m) js (e ∷ es) [] vs below h c = absurd h
+less_holds l ex (suc m) js [] (v ∷ ops) vs below h c = absurd h
+less_holds l ex (suc m) js (e ∷ es) (v ∷ ops) vs below h c =
     let r = more_parts v (cut m ops) vs below c in
-    less_holds ex m js es ops r.0 below h.1 r.1
+    less_holds l ex m js es ops r.0 below h.1 r.1
 
 -- the places below a height are not touched by a write at it
-pub one_put : (ex : List Value) (h i : ℕ) (v w : Value) (e : Place) → 2 * h + 1 < i → One ex h e v → One (slice_set ex i w) h e v
-one_put ex h i v w (Spilled I32) lt o = let ne : slot I32 h ≢ i = omega arith in (slice_get-put_other ex (slot I32 h) i w ne ∙ o.0, o.1)
-one_put ex h i v w (Spilled I64) lt o = let ne : slot I64 h ≢ i = omega arith in (slice_get-put_other ex (slot I64 h) i w ne ∙ o.0, o.1)
-one_put ex h i v w (Known u) lt o = o
+pub one_put : (l ex : List Value) (h i : ℕ) (v w : Value) (e : Place) → 2 * h + 1 < i → One l ex h e v → One l (slice_set ex i w) h e v
+one_put l ex h i v w (Spilled I32) lt o = let ne : slot I32 h ≢ i = omega arith in (slice_get-put_other ex (slot I32 h) i w ne ∙ o.0, o.1)
+one_put l ex h i v w (Spilled I64) lt o = let ne : slot I64 h ≢ i = omega arith in (slice_get-put_other ex (slot I64 h) i w ne ∙ o.0, o.1)
+one_put l ex h i v w (Known u) lt o = o
+one_put l ex h i v w (Copied t x) lt o = o
 
-pub holds_put : (ex : List Value) (js es : List Place) (ops : List Value) (i : ℕ) (w : Value) → 2 * length (es ++ js) ≤ i → Holds ex js ops es → Holds (slice_set ex i w) js ops es
-holds_put ex js [] [] i w le h = tt
-holds_put ex js (e ∷ es) [] i w le h = absurd h
-holds_put ex js [] (v ∷ ops) i w le h = absurd h
-holds_put ex js (e ∷ es) (v ∷ ops) i w le h =
-    (one_put ex (length (es ++ js)) i v w e (omega arith) h.0, holds_put ex js es ops i w (omega arith) h.1)
+pub holds_put : (l ex : List Value) (js es : List Place) (ops : List Value) (i : ℕ) (w : Value) → 2 * length (es ++ js) ≤ i → Holds l ex js ops es → Holds l (slice_set ex i w) js ops es
+holds_put l ex js [] [] i w le h = tt
+holds_put l ex js (e ∷ es) [] i w le h = absurd h
+holds_put l ex js [] (v ∷ ops) i w le h = absurd h
+holds_put l ex js (e ∷ es) (v ∷ ops) i w le h =
+    (one_put l ex (length (es ++ js)) i v w e (omega arith) h.0, holds_put l ex js es ops i w (omega arith) h.1)
 
 module _ (M : Engine) where
   went-to : (more more' : Config → Stepped) (n k : ℕ) (q r : Stepped) (c' : Config) → ((c : Config) → more c ≡ next c' → more' c ≡ r) → went M more n q ≡ next c' → went M more' k q ≡ r
@@ -169,6 +178,17 @@ module _ (M : Engine) where
   pub get_to : {X : Shell} {tl s : List Value} {k : Nodes} {g : World} {co : List CollectorCall} (x : ℕ) (v : Value) → slice_get tl x ≡ Some v → To M 1 1 (st X tl s (basic 0 (LocalGet x) k) g co) (st X tl (v ∷ s) k g co)
   get_to x v e = one_step _ _ (rw e)
 
+  pub tee_to : {X : Shell} {tl s : List Value} {k : Nodes} {g : World} {co : List CollectorCall} (x : ℕ) (v w : Value) → slice_get tl x ≡ Some w → type_of w ≡ type_of v → To M 1 1 (st X tl (v ∷ s) (basic 0 (LocalTee x) k) g co) (st X (slice_set tl x v) (v ∷ s) k g co)
+  tee_to x v w e d = one_step _ _ (rw (e, same_of (type_of w) (type_of v) d) refl)
+
+  -- operands are dropped
+  pub drops_to : {X : Shell} {tl : List Value} {g : World} {co : List CollectorCall} (m : ℕ) (ops vs below : List Value) (k : Nodes) → cut m ops ≡ parts vs below → To M m m (st X tl ops (drops m k) g co) (st X tl below k g co)
+  drops_to zero ops vs below k c = let f : ops ≡ below = cc in rw f (still _)
+  drops_to (suc m) [] vs below k c = absurd (cc)
+  drops_to (suc m) (v ∷ ops) vs below k c =
+      let r = more_parts v (cut m ops) vs below c in
+      weaken (seq (one_step _ _ refl) (drops_to m ops r.0 below k r.1)) (omega arith) (omega arith)
+
   pub put_to : {X : Shell} {tl s : List Value} {k : Nodes} {g : World} {co : List CollectorCall} (x : ℕ) (v w : Value) → slice_get tl x ≡ Some w → type_of w ≡ type_of v → To M 1 1 (st X tl (v ∷ s) (basic 0 (LocalSet x) k) g co) (st X (slice_set tl x v) s k g co)
   put_to x v w e d = one_step _ _ (rw (e, same_of (type_of w) (type_of v) d) refl)
 
@@ -182,12 +202,18 @@ module _ (M : Engine) where
         let w = get_type ex h t at in
         subst (λ z. To M 1 1 (st X (l ++ ex) (v ∷ s) (set C h k) g co) (st X z s k g co)) (slice_set-append l ex (length C.locals) h v size) (put_to ((length C.locals) + h) v w.0 (slice_get-append l ex (length C.locals) h size ∙ w.1) (w.2 ∙ sym d))
 
-    pub fetch_to : {X : Shell} {s : List Value} {k : Nodes} {g : World} {co : List CollectorCall} (ex : List Value) (h : ℕ) (e : Place) (v : Value) → One ex h e v → To M 1 1 (st X (l ++ ex) s (fetch C e h k) g co) (st X (l ++ ex) (v ∷ s) k g co)
+    pub added_tee : {X : Shell} {s : List Value} {k : Nodes} {g : World} {co : List CollectorCall} (ex : List Value) (h : ℕ) (t : ValType) (v : Value) → slice_get (types ex) h ≡ Some t → type_of v ≡ t → To M 1 1 (st X (l ++ ex) (v ∷ s) (basic 0 (LocalTee (length C.locals + h)) k) g co) (st X (l ++ slice_set ex h v) (v ∷ s) k g co)
+    added_tee {X = X} {s = s} {k = k} {g = g} {co = co} ex h t v at d =
+        let w = get_type ex h t at in
+        subst (λ z. To M 1 1 (st X (l ++ ex) (v ∷ s) (basic 0 (LocalTee (length C.locals + h)) k) g co) (st X z (v ∷ s) k g co)) (slice_set-append l ex (length C.locals) h v size) (tee_to ((length C.locals) + h) v w.0 (slice_get-append l ex (length C.locals) h size ∙ w.1) (w.2 ∙ sym d))
+
+    pub fetch_to : {X : Shell} {s : List Value} {k : Nodes} {g : World} {co : List CollectorCall} (ex : List Value) (h : ℕ) (e : Place) (v : Value) → One l ex h e v → To M 1 1 (st X (l ++ ex) s (fetch C e h k) g co) (st X (l ++ ex) (v ∷ s) k g co)
     fetch_to ex h (Spilled t) v o = added_get ex (slot t h) v o.0
     fetch_to {X = X} {s = s} {k = k} {g = g} {co = co} ex h (Known w) v o = subst (λ t. To M 1 1 (st X (l ++ ex) s (const w k) g co) (st X (l ++ ex) (t ∷ s) k g co)) o (push_to w)
+    fetch_to ex h (Copied t x) v o = get_to x v (get_own l ex x v o.0)
 
     -- operands of the innermost label are fetched
-    pub load_to : {X : Shell} {g : World} {co : List CollectorCall} (ex : List Value) (m : ℕ) (js es : List Place) (ops s vs below : List Value) (k : Nodes) → Holds ex js ops es → cut m ops ≡ parts vs below → To M m m (st X (l ++ ex) s (load C m (es ++ js) k) g co) (st X (l ++ ex) (vs ++ s) k g co)
+    pub load_to : {X : Shell} {g : World} {co : List CollectorCall} (ex : List Value) (m : ℕ) (js es : List Place) (ops s vs below : List Value) (k : Nodes) → Holds l ex js ops es → cut m ops ≡ parts vs below → To M m m (st X (l ++ ex) s (load C m (es ++ js) k) g co) (st X (l ++ ex) (vs ++ s) k g co)
     load_to ex zero js es ops s vs below k h e = let f : vs ≡ [] = cc in rw f (still _)
     load_to ex (suc m) js [] [] s vs below k h e = absurd (cc)
     load_to ex (suc m) js (e ∷ es) [] s vs below k h c = absurd h
@@ -204,31 +230,18 @@ module _ (M : Engine) where
     store_to ex (Some t) es (v ∷ []) k p e = weaken (added_set ex (slot t (length es)) t v p (same_type_is (type_of v) t (if_same (same_type (type_of v) t) (v ∷ []) (v ∷ []) e).0)) (omega arith) (omega arith)
     store_to ex (Some t) es (v ∷ w ∷ vs) k p e = absurd (cc)
 
-    -- the top operand goes to the result local
-    pub to_result_to : {X : Shell} {g : World} {co : List CollectorCall} (ex : List Value) (r : Option ValType) (js es : List Place) (ops vs : List Value) (k : Nodes) → HasPlace r (λ t. slot t C.slots) ex → Holds ex js ops es → top r ops ≡ Some vs → To M 0 2 (st X (l ++ ex) [] (to_result C r (es ++ js) k) g co) (st X (l ++ stored r (λ t. slot t C.slots) vs ex) [] k g co)
-    to_result_to ex None js es ops vs k p h e = weaken (still _) (omega arith) (omega arith)
-    to_result_to ex (Some t) js es [] vs k p h e = absurd (cc)
-    to_result_to ex (Some t) js [] (v ∷ ops) vs k p h e = absurd h
-    to_result_to ex (Some t) js (e ∷ es) (v ∷ ops) vs k p h c =
-        let f = if_same (same_type (type_of v) t) (v ∷ []) vs c in
-        rw (← f.1) (weaken (seq (fetch_to ex (length (es ++ js)) e v h.0) (added_set ex (slot t C.slots) t v p (same_type_is (type_of v) t f.0))) (omega arith) (omega arith))
+    -- and are kept there besides
+    pub kept_to : {X : Shell} {g : World} {co : List CollectorCall} (ex : List Value) (r : Option ValType) (es : List Place) (vs s : List Value) (k : Nodes) → HasPlace r (λ t. slot t (length es)) ex → exactly r vs ≡ Some vs → To M 0 1 (st X (l ++ ex) (vs ++ s) (keep C (option_map Spilled r) es k) g co) (st X (l ++ stored r (λ t. slot t (length es)) vs ex) (vs ++ s) k g co)
+    kept_to ex None es [] s k p e = weaken (still _) (omega arith) (omega arith)
+    kept_to ex None es (v ∷ vs) s k p e = absurd (cc)
+    kept_to ex (Some t) es [] s k p e = absurd (cc)
+    kept_to ex (Some t) es (v ∷ []) s k p e = weaken (added_tee ex (slot t (length es)) t v p (same_type_is (type_of v) t (if_same (same_type (type_of v) t) (v ∷ []) (v ∷ []) e).0)) (omega arith) (omega arith)
+    kept_to ex (Some t) es (v ∷ w ∷ vs) s k p e = absurd (cc)
 
-    -- and from there to its slot
-    pub from_result_to : {X : Shell} {g : World} {co : List CollectorCall} (ex : List Value) (r : Option ValType) (es : List Place) (vs : List Value) (k : Nodes) → HasPlace r (λ t. slot t C.slots) ex → HasPlace r (λ t. slot t (length es)) ex → exactly r vs ≡ Some vs → To M 0 2 (st X (l ++ stored r (λ t. slot t C.slots) vs ex) [] (from_result C r es k) g co) (st X (l ++ stored r (λ t. slot t (length es)) vs (stored r (λ t. slot t C.slots) vs ex)) [] k g co)
-    from_result_to ex None es vs k p p' e = weaken (still _) (omega arith) (omega arith)
-    from_result_to ex (Some t) es [] k p p' e = absurd (cc)
-    from_result_to ex (Some t) es (v ∷ []) k p p' e =
-        let d : type_of v ≡ t = same_type_is (type_of v) t (if_same (same_type (type_of v) t) (v ∷ []) (v ∷ []) e).0 in
-        let i = slot t C.slots in
-        weaken (seq (added_get (slice_set ex i v) i v (slice_get-put_same ex i t v p)) (added_set (slice_set ex i v) (slot t (length es)) t v (rw (types-slice_set ex i t v p d) p') d)) (omega arith) (omega arith)
-    from_result_to ex (Some t) es (v ∷ w ∷ vs) k p p' e = absurd (cc)
-
-    -- a frame ends with its value
-    pub finish_to : {X : Shell} {g : World} {co : List CollectorCall} (ex : List Value) (r : Option ValType) (vs : List Value) → r ≡ X.result → HasPlace r (λ t. slot t C.slots) ex → exactly r vs ≡ Some vs → Gets M 1 2 (st X (l ++ stored r (λ t. slot t C.slots) vs ex) [] (result_back C r) g co) (deliver M vs X.frames g co)
-    finish_to ex None [] re p e = weaken (one_step _ _ (rw (← re) refl)) (omega arith) (omega arith)
-    finish_to ex None (v ∷ vs) re p e = absurd (cc)
-    finish_to ex (Some t) [] re p e = absurd (cc)
-    finish_to ex (Some t) (v ∷ []) re p e =
-        let f = if_same (same_type (type_of v) t) (v ∷ []) (v ∷ []) e in
-        weaken (seq (added_get (slice_set ex (slot t C.slots) v) (slot t C.slots) v (slice_get-put_same ex (slot t C.slots) t v p)) (one_step _ _ (rw (← re, f.0) refl))) (omega arith) (omega arith)
-    finish_to ex (Some t) (v ∷ w ∷ vs) re p e = absurd (cc)
+    -- a result comes back from its slot
+    pub reload_to : {X : Shell} {g : World} {co : List CollectorCall} (ex : List Value) (r : Option ValType) (es : List Place) (vs s : List Value) (k : Nodes) → HasPlace r (λ t. slot t (length es)) ex → exactly r vs ≡ Some vs → To M 0 1 (st X (l ++ stored r (λ t. slot t (length es)) vs ex) s (reload C r es k) g co) (st X (l ++ stored r (λ t. slot t (length es)) vs ex) (vs ++ s) k g co)
+    reload_to ex None es [] s k p e = weaken (still _) (omega arith) (omega arith)
+    reload_to ex None es (v ∷ vs) s k p e = absurd (cc)
+    reload_to ex (Some t) es [] s k p e = absurd (cc)
+    reload_to ex (Some t) es (v ∷ []) s k p e = weaken (added_get (slice_set ex (slot t (length es)) v) (slot t (length es)) v (slice_get-put_same ex (slot t (length es)) t v p)) (omega arith) (omega arith)
+    reload_to ex (Some t) es (v ∷ w ∷ vs) s k p e = absurd (cc)

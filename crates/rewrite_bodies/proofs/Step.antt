@@ -12,17 +12,18 @@ use Rattle.wasm_syntax.specs.Host.{World}
 use Rattle.wasm_syntax.specs.declared.host.CollectorCall.{CollectorCall}
 use Rattle.wasm_syntax.specs.Effect.{Effect, gives, fails, unfit, effect, takes}
 use Rattle.wasm_syntax.specs.Machine.{Kind, Label, Frame, Config, label, frame, config, Engine, traps, Cut, short, parts, cut, result_of, function_type, calls, calls_if, calls_entry, calls_typed, calls_indirect, jumps, affects, does, runs, in_frame, steps, step}
-use Rattle.rewrite_bodies.specs.Slots.{Place, Ctx, less, grown, result_type, after_plain}
-use Rattle.rewrite_bodies.specs.Rewrite.{Info, unwind_kind, tested, guarded, indirect_code, rewrite}
-use Rattle.rewrite_bodies.specs.Pieces.{const, load, store}
+use Rattle.rewrite_bodies.specs.Slots.{Place, Spilled, Ctx, less, grown, result_type}
+use Rattle.rewrite_bodies.specs.Rewrite.{unwind_kind, tested, guarded, indirect_code, rewrite}
+use Rattle.rewrite_bodies.specs.Pieces.{const, keep}
 use Rattle.rewrite_bodies.specs.Guards.{can_trap, kind, entry_label, type_label, first_table}
 use Rattle.rewrite_bodies.specs.calls.Steps.{To, Shell, st}
 use Rattle.rewrite_bodies.proofs.Run.{seq, weaken, push_to}
-use Rattle.rewrite_bodies.specs.calls.Agreement.{info, infos, joined, Wit, FitsIn, Has, Room_call, Room, WorldFits, FitsFrame, FitsFrames, FitsConfig, Wrap, flagged, image}
+use Rattle.rewrite_bodies.specs.calls.Agreement.{joined, Wit, FitsIn, Has, Room_call, Room, WorldFits, FitsFrame, FitsFrames, FitsConfig, Wrap, flagged, image}
 use Rattle.rewrite_bodies.specs.inner.Promises.{kind_of, verdict}
 use Rattle.rewrite_bodies.proofs.Parts.{Rel, framed, match_of}
 use Rattle.rewrite_bodies.specs.calls.Standing.{After, Stands}
-use Rattle.rewrite_bodies.proofs.Sim.{refit, len_of, shell, tgt, wit, armed, if_up_to, verdict_to, kind_to, plain_gives, push_sim, block_sim, loop_sim, if_sim}
+use Rattle.rewrite_bodies.proofs.Sim.{refit, len_of, shell, tgt, wit, armed, if_up_to, verdict_to, kind_to, usual_gives, push_sim, get_sim, set_sim, tee_sim, block_sim, loop_sim, if_sim}
+use Rattle.rewrite_bodies.proofs.Stays.{Stays, Usual, stays}
 use Rattle.rewrite_bodies.proofs.Control.{end_sim, br_node, br_if_node, return_node, table_node}
 use Rattle.rewrite_bodies.proofs.Calls.{trap_from, call_node, same_functype-same, entry_trap, entry_call}
 use Rattle.rewrite_bodies.specs.Offsets.{SmallOffset}
@@ -41,11 +42,11 @@ module _ (M M' : Engine) (E : ℕ) (gl : List ValType) (W : Wrap) (S : Stands M 
     abbrev esi : List Place
     esi = e ++ joined ss
 
-    abbrev lsi : List Info
-    lsi = info kd ∷ infos Ls
+    abbrev lsi : ℕ
+    lsi = suc (length Ls)
 
     abbrev TI : Option FuncType → Config
-    TI ty = st (shell W C r kd Ls ss Fs ws) (l ++ ex) [] (indirect_code C lsi (e1 ∷ esi) at t ty (λ es'. rewrite C lsi es' rest)) (flagged M g (values.I32 0)) co
+    TI ty = st (shell W C r kd Ls ss Fs ws) (l ++ ex) (values.I32 n ∷ ops) (indirect_code C lsi (e1 ∷ esi) at t ty (λ es'. rewrite C lsi es' rest)) (flagged M g (values.I32 0)) co
 
     abbrev RoomI : FuncType → Type 0
     RoomI type = FitsIn C (result_of type) (less (length type.params) esi) × Room C (grown (result_of type) (less (length type.params) esi)) rest
@@ -84,13 +85,13 @@ module _ (M M' : Engine) (E : ℕ) (gl : List ValType) (W : Wrap) (S : Stands M 
     indirect_in None ty rm = tt
     indirect_in (Some type) ty rm = by_entry type ty rm.0 rm.1 (slice_get g.table n) refl
 
-    indirect_here : After M M' E gl W (tgt M W C ex (e1 ∷ e) ss ws r l kd Ls Fs g co (jump at (CallIndirect t) rest)) (calls_typed M (slice_get M.program.module_.types t) (slice_get g.table n) ops at rest FI LI Ls Fs g co)
+    indirect_here : After M M' E gl W (tgt M W C ex (e1 ∷ e) ss ws r l (values.I32 n ∷ ops) kd Ls Fs g co (jump at (CallIndirect t) rest)) (calls_typed M (slice_get M.program.module_.types t) (slice_get g.table n) ops at rest FI LI Ls Fs g co)
     indirect_here =
         let same : slice_get C.source.types t ≡ slice_get M.program.module_.types t = ap (λ z. slice_get z.types t) f.funcs in
         subst (λ z. After M M' E gl W (TI z) (calls_typed M (slice_get M.program.module_.types t) (slice_get g.table n) ops at rest FI LI Ls Fs g co)) (sym same)
         (indirect_in (slice_get M.program.module_.types t) refl (subst (λ z. Has t C.helpers × Room_call C z esi (λ es'. Room C es' rest)) same f.labels.2.1))
 
-  indirect_node : (C : Ctx) (ex : List Value) (e : List Place) (ss : List (List Place)) (ws : List Wit) (ix cl : ℕ) (r : Option ValType) (l ops : List Value) (en : ℕ) (kd : Kind) (Ls : List Label) (Fs : List Frame) (g : World) (co : List CollectorCall) (at t : ℕ) (rest : Nodes) → FitsFrame M E gl None (frame ix r cl l (label ops (jump at (CallIndirect t) rest) en kd ∷ Ls)) (wit C ex (e ∷ ss)) → FitsFrames M E gl W.result r Fs ws → WorldFits M gl g → suc (length Fs) ≤ M.depth → After M M' E gl W (tgt M W C ex e ss ws r l kd Ls Fs g co (jump at (CallIndirect t) rest)) (calls_indirect M t ops at rest (frame ix r cl l (label ops (jump at (CallIndirect t) rest) en kd ∷ Ls)) (label ops (jump at (CallIndirect t) rest) en kd) Ls Fs g co)
+  indirect_node : (C : Ctx) (ex : List Value) (e : List Place) (ss : List (List Place)) (ws : List Wit) (ix cl : ℕ) (r : Option ValType) (l ops : List Value) (en : ℕ) (kd : Kind) (Ls : List Label) (Fs : List Frame) (g : World) (co : List CollectorCall) (at t : ℕ) (rest : Nodes) → FitsFrame M E gl None (frame ix r cl l (label ops (jump at (CallIndirect t) rest) en kd ∷ Ls)) (wit C ex (e ∷ ss)) → FitsFrames M E gl W.result r Fs ws → WorldFits M gl g → suc (length Fs) ≤ M.depth → After M M' E gl W (tgt M W C ex e ss ws r l ops kd Ls Fs g co (jump at (CallIndirect t) rest)) (calls_indirect M t ops at rest (frame ix r cl l (label ops (jump at (CallIndirect t) rest) en kd ∷ Ls)) (label ops (jump at (CallIndirect t) rest) en kd) Ls Fs g co)
   indirect_node C ex e ss ws ix cl r l [] en kd Ls Fs g co at t rest f fs wf sh = tt
   indirect_node C ex e ss ws ix cl r l (values.I64 n ∷ ops) en kd Ls Fs g co at t rest f fs wf sh = tt
   indirect_node C ex [] ss ws ix cl r l (values.I32 n ∷ ops) en kd Ls Fs g co at t rest f fs wf sh = absurd f.labels.0
@@ -98,7 +99,7 @@ module _ (M M' : Engine) (E : ℕ) (gl : List ValType) (W : Wrap) (S : Stands M 
 
   -- ---- a basic instruction, whatever comes of it
 
-  module _ (C : Ctx) (ex : List Value) (e : List Place) (ss : List (List Place)) (ws : List Wit) (ix cl : ℕ) (r : Option ValType) (l ops : List Value) (en : ℕ) (kd : Kind) (Ls : List Label) (Fs : List Frame) (g : World) (co : List CollectorCall) (o : ℕ) (i : Basic) (rest : Nodes) (f : FitsFrame M E gl None (frame ix r cl l (label ops (basic o i rest) en kd ∷ Ls)) (wit C ex (e ∷ ss))) (fs : FitsFrames M E gl W.result r Fs ws) (wf : WorldFits M gl g) (rm : SmallOffset i × FitsIn C (result_type C (e ++ joined ss) i) (less (takes i) (e ++ joined ss)) × Room C (after_plain C (e ++ joined ss) i) rest) where
+  module _ (C : Ctx) (ex : List Value) (e : List Place) (ss : List (List Place)) (ws : List Wit) (ix cl : ℕ) (r : Option ValType) (l ops : List Value) (en : ℕ) (kd : Kind) (Ls : List Label) (Fs : List Frame) (g : World) (co : List CollectorCall) (o : ℕ) (i : Basic) (rest : Nodes) (f : FitsFrame M E gl None (frame ix r cl l (label ops (basic o i rest) en kd ∷ Ls)) (wit C ex (e ∷ ss))) (fs : FitsFrames M E gl W.result r Fs ws) (wf : WorldFits M gl g) (rm : SmallOffset i × FitsIn C (result_type C (e ++ joined ss) i) (less (takes i) (e ++ joined ss)) × Room C (grown (result_type C (e ++ joined ss) i) (less (takes i) (e ++ joined ss))) rest) (usual_ : Usual i) where
     abbrev FB : Frame
     FB = frame ix r cl l (label ops (basic o i rest) en kd ∷ Ls)
 
@@ -108,8 +109,8 @@ module _ (M M' : Engine) (E : ℕ) (gl : List ValType) (W : Wrap) (S : Stands M 
     abbrev esb : List Place
     esb = e ++ joined ss
 
-    abbrev lsb : List Info
-    lsb = info kd ∷ infos Ls
+    abbrev lsb : ℕ
+    lsb = suc (length Ls)
 
     abbrev XB : Shell
     XB = shell W C r kd Ls ss Fs ws
@@ -118,28 +119,31 @@ module _ (M M' : Engine) (E : ℕ) (gl : List ValType) (W : Wrap) (S : Stands M 
     gb = flagged M g (values.I32 0)
 
     abbrev kb : Nodes
-    kb = load C (takes i) esb (basic 0 i (store C (result_type C esb i) (less (takes i) esb) (rewrite C lsb (after_plain C esb i) rest)))
+    kb = basic 0 i (keep C (option_map Spilled (result_type C esb i)) (less (takes i) esb) (rewrite C lsb (grown (result_type C esb i) (less (takes i) esb)) rest))
 
     abbrev TB : Bool → Config
-    TB b = st XB (l ++ ex) [] (guarded b C lsb esb o i kb) gb co
+    TB b = st XB (l ++ ex) ops (guarded b C lsb esb o i kb) gb co
 
     basic_trap : (vs below : List Value) (k : ℕ) → cut (takes i) ops ≡ parts vs below → effect i g l vs ≡ fails k → After M M' E gl W (TB (can_trap i)) (traps k (config (FB ∷ Fs) g co))
     basic_trap vs below k c p =
         let h = f.labels in
-        let tr = subst (λ z. Rel M gl (result_type C esb i) (can_trap i) l ex (values.I32 0) z (effect i gb (l ++ ex) vs)) p (framed M gl C esb l g ex (values.I32 0) f.size wf (sym f.flag) i vs (match_of ex (takes i) (joined ss) e ops vs below h.0 c)) in
+        let tr = subst (λ z. Rel M gl (result_type C esb i) (can_trap i) l ex (values.I32 0) z (effect i gb (l ++ ex) vs)) p (framed M gl C esb l g ex (values.I32 0) f.size wf (sym f.flag) i vs (match_of l ex (takes i) (joined ss) e ops vs below h.0 c)) in
         let j = tr.1 in
         let is : kind_of (effect i g l vs) ≡ suc j = ap kind_of p ∙ tr.2 in
         let v1 = verdict_to M M' E gl W C ex e ss ws ix cl r l ops en kd Ls Fs g co i o kb vs below tr.0 (len_of l C.locals f.size) wf.memory rm.0 h.0 c (λ n. cc) in
         let arm = unwind_kind C lsb esb o in
-        let YB = armed XB kb [] in
-        let v2 : To M' 1 21 (TB true) (st XB (l ++ ex) (values.I32 1 ∷ []) (tested C lsb esb o (kind C i esb) kb) gb co) = subst (λ z. To M' 1 21 (TB true) (st XB (l ++ ex) (values.I32 (verdict z) ∷ []) (tested C lsb esb o (kind C i esb) kb) gb co)) is v1 in
-        let v3 : To M' 1 1 (st XB (l ++ ex) (values.I32 1 ∷ []) (tested C lsb esb o (kind C i esb) kb) gb co) (st YB (l ++ ex) [] (kind C i esb arm) gb co) = if_up_to M' 0 in
+        let YB = armed XB kb ops in
+        let v2 : To M' 1 21 (TB true) (st XB (l ++ ex) (values.I32 1 ∷ ops) (tested C lsb esb o (kind C i esb) kb) gb co) = subst (λ z. To M' 1 21 (TB true) (st XB (l ++ ex) (values.I32 (verdict z) ∷ ops) (tested C lsb esb o (kind C i esb) kb) gb co)) is v1 in
+        let v3 : To M' 1 1 (st XB (l ++ ex) (values.I32 1 ∷ ops) (tested C lsb esb o (kind C i esb) kb) gb co) (st YB (l ++ ex) [] (kind C i esb arm) gb co) = if_up_to M' 0 in
         let v4 = kind_to M M' E gl W C ex e ss ws ix cl r l ops en kd Ls Fs g co YB i j arm vs below tr.0 (len_of l C.locals f.size) wf.memory rm.0 h.0 c (λ n. cc) is in
         subst₂ (λ b z. After M M' E gl W (TB b) (traps z (config (FB ∷ Fs) g co))) (sym tr.0) (sym tr.2)
         (trap_from M M' E gl W S C ex e ss ws ix cl r l ops en kd Ls Fs g co (basic o i rest) f fs wf (TB true) j kb (weaken M' (seq M' v2 (seq M' v3 v4)) (omega arith) (omega arith)))
 
+    stayed : (g' : World) (l' ws' : List Value) (x : Effect) → Stays l x → x ≡ gives g' l' ws' → l' ≡ l
+    stayed g' l' ws' x h p = subst (Stays l) p h
+
     performed : (vs below : List Value) (x : Effect) → cut (takes i) ops ≡ parts vs below → effect i g l vs ≡ x → After M M' E gl W (TB (can_trap i)) (affects M x below rest FB LB Ls Fs g co)
-    performed vs below (gives g' l' ws') c p = plain_gives M M' E gl W C ex e ss ws ix cl r l ops en kd Ls Fs g co i o rest vs below l' g' ws' f fs wf rm c p
+    performed vs below (gives g' l' ws') c p = usual_gives M M' E gl W C ex e ss ws ix cl r l ops en kd Ls Fs g co i o rest vs below l' g' ws' f fs wf rm (stayed g' l' ws' (effect i g l vs) (stays l i g vs usual_) p) c p
     performed vs below (fails k) c p = basic_trap vs below k c p
     performed vs below unfit c p = tt
 
@@ -150,45 +154,45 @@ module _ (M M' : Engine) (E : ℕ) (gl : List ValType) (W : Wrap) (S : Stands M 
     plain_sim : After M M' E gl W (TB (can_trap i)) (does M i (cut (takes i) ops) rest FB LB Ls Fs g co)
     plain_sim = acts (cut (takes i) ops) refl
 
-  unreachable_sim : (C : Ctx) (ex : List Value) (e : List Place) (ss : List (List Place)) (ws : List Wit) (ix cl : ℕ) (r : Option ValType) (l ops : List Value) (en : ℕ) (kd : Kind) (Ls : List Label) (Fs : List Frame) (g : World) (co : List CollectorCall) (o : ℕ) (rest : Nodes) → FitsFrame M E gl None (frame ix r cl l (label ops (jump o Unreachable rest) en kd ∷ Ls)) (wit C ex (e ∷ ss)) → FitsFrames M E gl W.result r Fs ws → WorldFits M gl g → After M M' E gl W (tgt M W C ex e ss ws r l kd Ls Fs g co (jump o Unreachable rest)) (traps 1 (config (frame ix r cl l (label ops (jump o Unreachable rest) en kd ∷ Ls) ∷ Fs) g co))
+  unreachable_sim : (C : Ctx) (ex : List Value) (e : List Place) (ss : List (List Place)) (ws : List Wit) (ix cl : ℕ) (r : Option ValType) (l ops : List Value) (en : ℕ) (kd : Kind) (Ls : List Label) (Fs : List Frame) (g : World) (co : List CollectorCall) (o : ℕ) (rest : Nodes) → FitsFrame M E gl None (frame ix r cl l (label ops (jump o Unreachable rest) en kd ∷ Ls)) (wit C ex (e ∷ ss)) → FitsFrames M E gl W.result r Fs ws → WorldFits M gl g → After M M' E gl W (tgt M W C ex e ss ws r l ops kd Ls Fs g co (jump o Unreachable rest)) (traps 1 (config (frame ix r cl l (label ops (jump o Unreachable rest) en kd ∷ Ls) ∷ Fs) g co))
   unreachable_sim C ex e ss ws ix cl r l ops en kd Ls Fs g co o rest f fs wf = trap_from M M' E gl W S C ex e ss ws ix cl r l ops en kd Ls Fs g co (jump o Unreachable rest) f fs wf _ 0 (jump 0 Unreachable stop)
       (let X = shell W C r kd Ls ss Fs ws in
       let k = jump 0 Unreachable stop in
-      let ls = info kd ∷ infos Ls in
+      let ls = suc (length Ls) in
       let arm = unwind_kind C ls (e ++ joined ss) o in
       let g0 = flagged M g (values.I32 0) in
-      let s1 : To M' 1 1 (st X (l ++ ex) [] (const (values.I32 1) (tested C ls (e ++ joined ss) o (const (values.I32 1)) k)) g0 co) (st X (l ++ ex) (values.I32 1 ∷ []) (tested C ls (e ++ joined ss) o (const (values.I32 1)) k) g0 co) = push_to M' (values.I32 1) in
-      let s2 : To M' 1 1 (st X (l ++ ex) (values.I32 1 ∷ []) (tested C ls (e ++ joined ss) o (const (values.I32 1)) k) g0 co) (st (armed X k []) (l ++ ex) [] (const (values.I32 1) arm) g0 co) = if_up_to M' 0 in
-      let s3 : To M' 1 1 (st (armed X k []) (l ++ ex) [] (const (values.I32 1) arm) g0 co) (st (armed X k []) (l ++ ex) (values.I32 1 ∷ []) arm g0 co) = push_to M' (values.I32 1) in
+      let s1 : To M' 1 1 (st X (l ++ ex) ops (const (values.I32 1) (tested C ls (e ++ joined ss) o (const (values.I32 1)) k)) g0 co) (st X (l ++ ex) (values.I32 1 ∷ ops) (tested C ls (e ++ joined ss) o (const (values.I32 1)) k) g0 co) = push_to M' (values.I32 1) in
+      let s2 : To M' 1 1 (st X (l ++ ex) (values.I32 1 ∷ ops) (tested C ls (e ++ joined ss) o (const (values.I32 1)) k) g0 co) (st (armed X k ops) (l ++ ex) [] (const (values.I32 1) arm) g0 co) = if_up_to M' 0 in
+      let s3 : To M' 1 1 (st (armed X k ops) (l ++ ex) [] (const (values.I32 1) arm) g0 co) (st (armed X k ops) (l ++ ex) (values.I32 1 ∷ []) arm g0 co) = push_to M' (values.I32 1) in
       weaken M' (seq M' s1 (seq M' s2 s3)) (omega arith) (omega arith))
 
   -- ---- each step
 
-  basic_sim : (C : Ctx) (ex : List Value) (e : List Place) (ss : List (List Place)) (ws : List Wit) (ix cl : ℕ) (r : Option ValType) (l ops : List Value) (en : ℕ) (kd : Kind) (Ls : List Label) (Fs : List Frame) (g : World) (co : List CollectorCall) (o : ℕ) (i : Basic) (rest : Nodes) → FitsFrame M E gl None (frame ix r cl l (label ops (basic o i rest) en kd ∷ Ls)) (wit C ex (e ∷ ss)) → FitsFrames M E gl W.result r Fs ws → WorldFits M gl g → After M M' E gl W (tgt M W C ex e ss ws r l kd Ls Fs g co (basic o i rest)) (does M i (cut (takes i) ops) rest (frame ix r cl l (label ops (basic o i rest) en kd ∷ Ls)) (label ops (basic o i rest) en kd) Ls Fs g co)
-  basic_sim C ex e ss ws ix cl r l ops en kd Ls Fs g co o Nop rest f fs wf = plain_sim C ex e ss ws ix cl r l ops en kd Ls Fs g co o Nop rest f fs wf f.labels.2.1
-  basic_sim C ex e ss ws ix cl r l ops en kd Ls Fs g co o Drop rest f fs wf = plain_sim C ex e ss ws ix cl r l ops en kd Ls Fs g co o Drop rest f fs wf f.labels.2.1
-  basic_sim C ex e ss ws ix cl r l ops en kd Ls Fs g co o Select rest f fs wf = plain_sim C ex e ss ws ix cl r l ops en kd Ls Fs g co o Select rest f fs wf f.labels.2.1
-  basic_sim C ex e ss ws ix cl r l ops en kd Ls Fs g co o (LocalGet x) rest f fs wf = plain_sim C ex e ss ws ix cl r l ops en kd Ls Fs g co o (LocalGet x) rest f fs wf f.labels.2.1
-  basic_sim C ex e ss ws ix cl r l ops en kd Ls Fs g co o (LocalSet x) rest f fs wf = plain_sim C ex e ss ws ix cl r l ops en kd Ls Fs g co o (LocalSet x) rest f fs wf f.labels.2.1
-  basic_sim C ex e ss ws ix cl r l ops en kd Ls Fs g co o (LocalTee x) rest f fs wf = plain_sim C ex e ss ws ix cl r l ops en kd Ls Fs g co o (LocalTee x) rest f fs wf f.labels.2.1
-  basic_sim C ex e ss ws ix cl r l ops en kd Ls Fs g co o (GlobalGet x) rest f fs wf = plain_sim C ex e ss ws ix cl r l ops en kd Ls Fs g co o (GlobalGet x) rest f fs wf f.labels.2.1
-  basic_sim C ex e ss ws ix cl r l ops en kd Ls Fs g co o (GlobalSet x) rest f fs wf = plain_sim C ex e ss ws ix cl r l ops en kd Ls Fs g co o (GlobalSet x) rest f fs wf f.labels.2.1
-  basic_sim C ex e ss ws ix cl r l ops en kd Ls Fs g co o (Load y al of) rest f fs wf = plain_sim C ex e ss ws ix cl r l ops en kd Ls Fs g co o (Load y al of) rest f fs wf f.labels.2.1
-  basic_sim C ex e ss ws ix cl r l ops en kd Ls Fs g co o (Store y al of) rest f fs wf = plain_sim C ex e ss ws ix cl r l ops en kd Ls Fs g co o (Store y al of) rest f fs wf f.labels.2.1
-  basic_sim C ex e ss ws ix cl r l ops en kd Ls Fs g co o MemorySize rest f fs wf = plain_sim C ex e ss ws ix cl r l ops en kd Ls Fs g co o MemorySize rest f fs wf f.labels.2.1
-  basic_sim C ex e ss ws ix cl r l ops en kd Ls Fs g co o MemoryGrow rest f fs wf = plain_sim C ex e ss ws ix cl r l ops en kd Ls Fs g co o MemoryGrow rest f fs wf f.labels.2.1
-  basic_sim C ex e ss ws ix cl r l ops en kd Ls Fs g co o (Eqz t) rest f fs wf = plain_sim C ex e ss ws ix cl r l ops en kd Ls Fs g co o (Eqz t) rest f fs wf f.labels.2.1
-  basic_sim C ex e ss ws ix cl r l ops en kd Ls Fs g co o (Unary t op) rest f fs wf = plain_sim C ex e ss ws ix cl r l ops en kd Ls Fs g co o (Unary t op) rest f fs wf f.labels.2.1
-  basic_sim C ex e ss ws ix cl r l ops en kd Ls Fs g co o (Compare t op) rest f fs wf = plain_sim C ex e ss ws ix cl r l ops en kd Ls Fs g co o (Compare t op) rest f fs wf f.labels.2.1
-  basic_sim C ex e ss ws ix cl r l ops en kd Ls Fs g co o (Binary t op) rest f fs wf = plain_sim C ex e ss ws ix cl r l ops en kd Ls Fs g co o (Binary t op) rest f fs wf f.labels.2.1
-  basic_sim C ex e ss ws ix cl r l ops en kd Ls Fs g co o (Convert c) rest f fs wf = plain_sim C ex e ss ws ix cl r l ops en kd Ls Fs g co o (Convert c) rest f fs wf f.labels.2.1
-  basic_sim C ex e ss ws ix cl r l ops en kd Ls Fs g co o MemoryCopy rest f fs wf = plain_sim C ex e ss ws ix cl r l ops en kd Ls Fs g co o MemoryCopy rest f fs wf f.labels.2.1
-  basic_sim C ex e ss ws ix cl r l ops en kd Ls Fs g co o MemoryFill rest f fs wf = plain_sim C ex e ss ws ix cl r l ops en kd Ls Fs g co o MemoryFill rest f fs wf f.labels.2.1
-  basic_sim C ex e ss ws ix cl r l ops en kd Ls Fs g co o (Extend32 k) rest f fs wf = plain_sim C ex e ss ws ix cl r l ops en kd Ls Fs g co o (Extend32 k) rest f fs wf f.labels.2.1
-  basic_sim C ex e ss ws ix cl r l ops en kd Ls Fs g co o (Extend64 k) rest f fs wf = plain_sim C ex e ss ws ix cl r l ops en kd Ls Fs g co o (Extend64 k) rest f fs wf f.labels.2.1
+  basic_sim : (C : Ctx) (ex : List Value) (e : List Place) (ss : List (List Place)) (ws : List Wit) (ix cl : ℕ) (r : Option ValType) (l ops : List Value) (en : ℕ) (kd : Kind) (Ls : List Label) (Fs : List Frame) (g : World) (co : List CollectorCall) (o : ℕ) (i : Basic) (rest : Nodes) → FitsFrame M E gl None (frame ix r cl l (label ops (basic o i rest) en kd ∷ Ls)) (wit C ex (e ∷ ss)) → FitsFrames M E gl W.result r Fs ws → WorldFits M gl g → After M M' E gl W (tgt M W C ex e ss ws r l ops kd Ls Fs g co (basic o i rest)) (does M i (cut (takes i) ops) rest (frame ix r cl l (label ops (basic o i rest) en kd ∷ Ls)) (label ops (basic o i rest) en kd) Ls Fs g co)
+  basic_sim C ex e ss ws ix cl r l ops en kd Ls Fs g co o Nop rest f fs wf = plain_sim C ex e ss ws ix cl r l ops en kd Ls Fs g co o Nop rest f fs wf (f.labels.2.1, f.labels.2.2, f.labels.2.3) tt
+  basic_sim C ex e ss ws ix cl r l ops en kd Ls Fs g co o Drop rest f fs wf = plain_sim C ex e ss ws ix cl r l ops en kd Ls Fs g co o Drop rest f fs wf (f.labels.2.1, f.labels.2.2, f.labels.2.3) tt
+  basic_sim C ex e ss ws ix cl r l ops en kd Ls Fs g co o Select rest f fs wf = plain_sim C ex e ss ws ix cl r l ops en kd Ls Fs g co o Select rest f fs wf (f.labels.2.1, f.labels.2.2, f.labels.2.3) tt
+  basic_sim C ex e ss ws ix cl r l ops en kd Ls Fs g co o (LocalGet x) rest f fs wf = get_sim M M' E gl W C ex e ss ws ix cl r l ops en kd Ls Fs g co o x rest f fs wf
+  basic_sim C ex e ss ws ix cl r l ops en kd Ls Fs g co o (LocalSet x) rest f fs wf = set_sim M M' E gl W C ex e ss ws ix cl r l ops en kd Ls Fs g co o x rest f fs wf
+  basic_sim C ex e ss ws ix cl r l ops en kd Ls Fs g co o (LocalTee x) rest f fs wf = tee_sim M M' E gl W C ex e ss ws ix cl r l ops en kd Ls Fs g co o x rest f fs wf
+  basic_sim C ex e ss ws ix cl r l ops en kd Ls Fs g co o (GlobalGet x) rest f fs wf = plain_sim C ex e ss ws ix cl r l ops en kd Ls Fs g co o (GlobalGet x) rest f fs wf (f.labels.2.1, f.labels.2.2, f.labels.2.3) tt
+  basic_sim C ex e ss ws ix cl r l ops en kd Ls Fs g co o (GlobalSet x) rest f fs wf = plain_sim C ex e ss ws ix cl r l ops en kd Ls Fs g co o (GlobalSet x) rest f fs wf (f.labels.2.1, f.labels.2.2, f.labels.2.3) tt
+  basic_sim C ex e ss ws ix cl r l ops en kd Ls Fs g co o (Load y al of) rest f fs wf = plain_sim C ex e ss ws ix cl r l ops en kd Ls Fs g co o (Load y al of) rest f fs wf (f.labels.2.1, f.labels.2.2, f.labels.2.3) tt
+  basic_sim C ex e ss ws ix cl r l ops en kd Ls Fs g co o (Store y al of) rest f fs wf = plain_sim C ex e ss ws ix cl r l ops en kd Ls Fs g co o (Store y al of) rest f fs wf (f.labels.2.1, f.labels.2.2, f.labels.2.3) tt
+  basic_sim C ex e ss ws ix cl r l ops en kd Ls Fs g co o MemorySize rest f fs wf = plain_sim C ex e ss ws ix cl r l ops en kd Ls Fs g co o MemorySize rest f fs wf (f.labels.2.1, f.labels.2.2, f.labels.2.3) tt
+  basic_sim C ex e ss ws ix cl r l ops en kd Ls Fs g co o MemoryGrow rest f fs wf = plain_sim C ex e ss ws ix cl r l ops en kd Ls Fs g co o MemoryGrow rest f fs wf (f.labels.2.1, f.labels.2.2, f.labels.2.3) tt
+  basic_sim C ex e ss ws ix cl r l ops en kd Ls Fs g co o (Eqz t) rest f fs wf = plain_sim C ex e ss ws ix cl r l ops en kd Ls Fs g co o (Eqz t) rest f fs wf (f.labels.2.1, f.labels.2.2, f.labels.2.3) tt
+  basic_sim C ex e ss ws ix cl r l ops en kd Ls Fs g co o (Unary t op) rest f fs wf = plain_sim C ex e ss ws ix cl r l ops en kd Ls Fs g co o (Unary t op) rest f fs wf (f.labels.2.1, f.labels.2.2, f.labels.2.3) tt
+  basic_sim C ex e ss ws ix cl r l ops en kd Ls Fs g co o (Compare t op) rest f fs wf = plain_sim C ex e ss ws ix cl r l ops en kd Ls Fs g co o (Compare t op) rest f fs wf (f.labels.2.1, f.labels.2.2, f.labels.2.3) tt
+  basic_sim C ex e ss ws ix cl r l ops en kd Ls Fs g co o (Binary t op) rest f fs wf = plain_sim C ex e ss ws ix cl r l ops en kd Ls Fs g co o (Binary t op) rest f fs wf (f.labels.2.1, f.labels.2.2, f.labels.2.3) tt
+  basic_sim C ex e ss ws ix cl r l ops en kd Ls Fs g co o (Convert c) rest f fs wf = plain_sim C ex e ss ws ix cl r l ops en kd Ls Fs g co o (Convert c) rest f fs wf (f.labels.2.1, f.labels.2.2, f.labels.2.3) tt
+  basic_sim C ex e ss ws ix cl r l ops en kd Ls Fs g co o MemoryCopy rest f fs wf = plain_sim C ex e ss ws ix cl r l ops en kd Ls Fs g co o MemoryCopy rest f fs wf (f.labels.2.1, f.labels.2.2, f.labels.2.3) tt
+  basic_sim C ex e ss ws ix cl r l ops en kd Ls Fs g co o MemoryFill rest f fs wf = plain_sim C ex e ss ws ix cl r l ops en kd Ls Fs g co o MemoryFill rest f fs wf (f.labels.2.1, f.labels.2.2, f.labels.2.3) tt
+  basic_sim C ex e ss ws ix cl r l ops en kd Ls Fs g co o (Extend32 k) rest f fs wf = plain_sim C ex e ss ws ix cl r l ops en kd Ls Fs g co o (Extend32 k) rest f fs wf (f.labels.2.1, f.labels.2.2, f.labels.2.3) tt
+  basic_sim C ex e ss ws ix cl r l ops en kd Ls Fs g co o (Extend64 k) rest f fs wf = plain_sim C ex e ss ws ix cl r l ops en kd Ls Fs g co o (Extend64 k) rest f fs wf (f.labels.2.1, f.labels.2.2, f.labels.2.3) tt
   basic_sim C ex e ss ws ix cl r l ops en kd Ls Fs g co o (Const v) rest f fs wf = push_sim M M' E gl W C ex e ss ws ix cl r l ops en kd Ls Fs g co o v rest f fs wf
 
-  jump_sim : (C : Ctx) (ex : List Value) (e : List Place) (ss : List (List Place)) (ws : List Wit) (ix cl : ℕ) (r : Option ValType) (l ops : List Value) (en : ℕ) (kd : Kind) (Ls : List Label) (Fs : List Frame) (g : World) (co : List CollectorCall) (o : ℕ) (j : Jump) (rest : Nodes) → FitsFrame M E gl None (frame ix r cl l (label ops (jump o j rest) en kd ∷ Ls)) (wit C ex (e ∷ ss)) → FitsFrames M E gl W.result r Fs ws → WorldFits M gl g → suc (length Fs) ≤ M.depth → After M M' E gl W (tgt M W C ex e ss ws r l kd Ls Fs g co (jump o j rest)) (jumps M j o rest (frame ix r cl l (label ops (jump o j rest) en kd ∷ Ls)) (label ops (jump o j rest) en kd) Ls Fs g co)
+  jump_sim : (C : Ctx) (ex : List Value) (e : List Place) (ss : List (List Place)) (ws : List Wit) (ix cl : ℕ) (r : Option ValType) (l ops : List Value) (en : ℕ) (kd : Kind) (Ls : List Label) (Fs : List Frame) (g : World) (co : List CollectorCall) (o : ℕ) (j : Jump) (rest : Nodes) → FitsFrame M E gl None (frame ix r cl l (label ops (jump o j rest) en kd ∷ Ls)) (wit C ex (e ∷ ss)) → FitsFrames M E gl W.result r Fs ws → WorldFits M gl g → suc (length Fs) ≤ M.depth → After M M' E gl W (tgt M W C ex e ss ws r l ops kd Ls Fs g co (jump o j rest)) (jumps M j o rest (frame ix r cl l (label ops (jump o j rest) en kd ∷ Ls)) (label ops (jump o j rest) en kd) Ls Fs g co)
   jump_sim C ex e ss ws ix cl r l ops en kd Ls Fs g co o Unreachable rest f fs wf sh = unreachable_sim C ex e ss ws ix cl r l ops en kd Ls Fs g co o rest f fs wf
   jump_sim C ex e ss ws ix cl r l ops en kd Ls Fs g co o (Br n) rest f fs wf sh = br_node M M' E gl W C ex e ss ws ix cl r l ops en kd Ls Fs g co o n rest f fs wf
   jump_sim C ex e ss ws ix cl r l ops en kd Ls Fs g co o (BrIf n) rest f fs wf sh = br_if_node M M' E gl W C ex e ss ws ix cl r l ops en kd Ls Fs g co o n rest f fs wf
@@ -197,7 +201,7 @@ module _ (M M' : Engine) (E : ℕ) (gl : List ValType) (W : Wrap) (S : Stands M 
   jump_sim C ex e ss ws ix cl r l ops en kd Ls Fs g co o (Call g') rest f fs wf sh = call_node M M' E gl W S C ex e ss ws ix cl r l ops en kd Ls Fs g co o g' rest f fs wf (function_at M.program g') refl
   jump_sim C ex e ss ws ix cl r l ops en kd Ls Fs g co o (CallIndirect t) rest f fs wf sh = indirect_node C ex e ss ws ix cl r l ops en kd Ls Fs g co o t rest f fs wf sh
 
-  node_sim : (C : Ctx) (ex : List Value) (e : List Place) (ss : List (List Place)) (ws : List Wit) (ix cl : ℕ) (r : Option ValType) (l ops : List Value) (en : ℕ) (kd : Kind) (Ls : List Label) (Fs : List Frame) (g : World) (co : List CollectorCall) (N : Nodes) → FitsFrame M E gl None (frame ix r cl l (label ops N en kd ∷ Ls)) (wit C ex (e ∷ ss)) → FitsFrames M E gl W.result r Fs ws → WorldFits M gl g → suc (length Fs) ≤ M.depth → After M M' E gl W (tgt M W C ex e ss ws r l kd Ls Fs g co N) (runs M N (frame ix r cl l (label ops N en kd ∷ Ls)) (label ops N en kd) Ls Fs g co)
+  node_sim : (C : Ctx) (ex : List Value) (e : List Place) (ss : List (List Place)) (ws : List Wit) (ix cl : ℕ) (r : Option ValType) (l ops : List Value) (en : ℕ) (kd : Kind) (Ls : List Label) (Fs : List Frame) (g : World) (co : List CollectorCall) (N : Nodes) → FitsFrame M E gl None (frame ix r cl l (label ops N en kd ∷ Ls)) (wit C ex (e ∷ ss)) → FitsFrames M E gl W.result r Fs ws → WorldFits M gl g → suc (length Fs) ≤ M.depth → After M M' E gl W (tgt M W C ex e ss ws r l ops kd Ls Fs g co N) (runs M N (frame ix r cl l (label ops N en kd ∷ Ls)) (label ops N en kd) Ls Fs g co)
   node_sim C ex e ss ws ix cl r l ops en kd Ls Fs g co stop f fs wf sh = end_sim M M' E gl W C ex e ss ws ix cl r l ops en kd Ls Fs g co f fs wf
   node_sim C ex e ss ws ix cl r l ops en kd Ls Fs g co (basic o i rest) f fs wf sh = basic_sim C ex e ss ws ix cl r l ops en kd Ls Fs g co o i rest f fs wf
   node_sim C ex e ss ws ix cl r l ops en kd Ls Fs g co (jump o j rest) f fs wf sh = jump_sim C ex e ss ws ix cl r l ops en kd Ls Fs g co o j rest f fs wf sh

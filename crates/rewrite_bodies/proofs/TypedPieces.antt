@@ -1,5 +1,5 @@
 -- The small pieces of rewritten code are well typed.
-use Rattle.std.proofs.Common.{◌≡◌, ℕ, zero, suc, ◌+◌, ◌<◌, ◌≤◌, List, [], ◌∷◌, ◌++◌, length, map, reverse, Option, Some, None, refl, sym, ap, ◌∙◌, subst, arith, slice_get, option_map, option_to_list}
+use Rattle.std.proofs.Common.{◌≡◌, ℕ, zero, suc, ◌+◌, ◌<◌, ◌≤◌, List, [], ◌∷◌, ◌++◌, length, map, reverse, Option, Some, None, refl, sym, ap, ◌∙◌, subst, arith, slice_get, option_map, option_to_list, Bool, true, false, if◌then◌else◌}
 use Rattle.std.specs.Prelude.{take}
 use Rattle.wasm_syntax.specs.declared.value.ValType.{ValType}
 use Rattle.wasm_syntax.specs.declared.value.ValType.TheVariants.{I32, I64}
@@ -10,7 +10,7 @@ use Rattle.int_ops.specs.declared.operators.Binary.TheVariants.{Add, And, Or, Sh
 use Rattle.int_ops.specs.declared.operators.Compare.TheVariants.{Eq, GtU}
 use Rattle.wasm_syntax.specs.declared.instruction.Convert.TheVariants.{ExtendU}
 use Rattle.wasm_syntax.specs.declared.instruction.Basic.{Basic}
-use Rattle.wasm_syntax.specs.declared.instruction.Basic.TheVariants.{Select, LocalGet, LocalSet, GlobalGet, MemorySize, Const, Eqz, Compare, Binary, Convert}
+use Rattle.wasm_syntax.specs.declared.instruction.Basic.TheVariants.{Drop, Select, LocalGet, LocalSet, LocalTee, GlobalGet, MemorySize, Const, Eqz, Compare, Binary, Convert}
 use Rattle.wasm_syntax.specs.declared.parts.FuncType.{FuncType}
 use Rattle.wasm_syntax.specs.declared.parts.Limits.{Limits}
 use Rattle.wasm_syntax.specs.declared.module.ModuleParts.{ModuleParts as Module}
@@ -18,13 +18,14 @@ use Rattle.wasm_syntax.specs.Numbers.{type_of, value}
 use Rattle.wasm_syntax.specs.Tree.{Br, Nodes, stop, basic, jump}
 use Rattle.wasm_syntax.specs.Module.{type_at}
 use Rattle.wasm_syntax.specs.Typing.{Context, Arrow, ◌⇒◌, arrow, Types}
-use Rattle.rewrite_bodies.specs.Slots.{Place, Spilled, Known, place_type, Ctx, slot, result_at, kind_at, offset_at, added}
+use Rattle.rewrite_bodies.specs.Slots.{Place, Spilled, Known, Copied, place_type, Ctx, slot, kind_at, offset_at, added}
 use Rattle.rewrite_bodies.specs.Numbering.{value_import, flag_of}
-use Rattle.rewrite_bodies.specs.Pieces.{get, set, const, i32, call, if_any, fetch, load, store, to_result, from_result}
+use Rattle.rewrite_bodies.specs.Pieces.{get, set, const, i32, call, if_any, fetch, load, keep, store, reload, spill_one, spill, drops}
 use Rattle.rewrite_bodies.specs.Guards.{guard_zero, guard_signed, past_end, guard_memory, range_test, guard_copy, guard_fill, kind_signed}
-use Rattle.rewrite_bodies.specs.Rewrite.{Info, hand_value, hand, hand_top, to_exit, unwind, test_flag, test_both, unwind_kind, tested}
+use Rattle.rewrite_bodies.specs.Rewrite.{hand_value, hand, hand_top, to_exit, unwind, test_flag, test_both, unwind_kind, tested}
 use Rattle.rewrite_bodies.specs.calls.Agreement.{FitsIn}
-use Rattle.rewrite_bodies.specs.calls.Typed.{Offers}
+use Rattle.rewrite_bodies.specs.calls.Typed.{Own, AllOwn, Offers}
+use Rattle.pm_text.proofs.Lists.{get_front}
 use Rattle.rewrite_bodies.proofs.Run.{slice_get-append, added_at, added_kind, added_offset}
 
 -- the nodes take these types to those
@@ -52,28 +53,13 @@ ok_compare {s = s} t op h = ok_basic s (Compare t op) I32 (t ∷ t ∷ [] ⇒ I3
 ok_extend : {c : Context} {z s : List ValType} {k : Nodes} → Ok c z (I64 ∷ s) k → Ok c z (I32 ∷ s) (basic 0 (Convert ExtendU) k)
 ok_extend {s = s} h = ok_basic s (Convert ExtendU) I32 (I32 ∷ [] ⇒ I64 ∷ []) refl h
 
--- the first so many labels take nothing
-
-abbrev pub Open : ℕ → List (List ValType) → Type 0
-Open zero ls = Unit {0}
-Open (suc n) [] = ⊥
-Open (suc n) (t ∷ ls) = (t ≡ []) × Open n ls
-
-pub open_label : (n : ℕ) (ls : List (List ValType)) (l : ℕ) → Open n ls → l < n → slice_get ls l ≡ Some []
-open_label zero ls l o lt = absurd (omega (arith, lt))
-open_label (suc n) [] l o lt = absurd o
-open_label (suc n) (t ∷ ls) zero o lt = ap Some o.0
-open_label (suc n) (t ∷ ls) (suc l) o lt = open_label n ls l o.1 (omega (arith, lt))
+-- the label outside of these takes nothing
+abbrev pub IsExit : ℕ → List (List ValType) → Type 0
+IsExit d labels = slice_get labels d ≡ Some []
 
 abbrev pub HasMemory : List Limits → Type 0
 HasMemory [] = ⊥
 HasMemory (l ∷ ls) = Unit {0}
-
--- what is on top has this type, where anything is
-abbrev pub TopIs : Option ValType → List Place → Type 0
-TopIs None es = Unit {0}
-TopIs (Some t) [] = Unit {0}
-TopIs (Some t) (e ∷ es) = place_type e ≡ t
 
 -- a context with these labels
 abbrev pub at_labels : Module → List ValType → List ValType → List (List ValType) → Context
@@ -101,71 +87,102 @@ module _ (C : Ctx) (m : Module) (locals : List ValType) (off : Offers C m locals
   pub ok_set : {labels : List (List ValType)} {z s : List ValType} {k : Nodes} (x : ℕ) (t : ValType) → slice_get (added C.slots) x ≡ Some t → Ok (at labels) z s k → Ok (at labels) z (t ∷ s) (set C x k)
   ok_set {s = s} x t e h = ok_basic s (LocalSet (length C.locals + x)) I32 (t ∷ [] ⇒ []) (ap (option_map (λ u. u ∷ [] ⇒ [])) (local_is x t e)) h
 
-  pub ok_fetch : {labels : List (List ValType)} {z s : List ValType} {k : Nodes} (e : Place) (h : ℕ) → h ≤ C.slots → Ok (at labels) z (place_type e ∷ s) k → Ok (at labels) z s (fetch C e h k)
-  ok_fetch (Spilled t) h le k = ok_get (slot t h) t (added_at C.slots h t le) k
-  ok_fetch (Known v) h le k = ok_const v k
+  -- a local of the original
+  ok_own : {labels : List (List ValType)} {z s : List ValType} {k : Nodes} (x : ℕ) (t : ValType) → slice_get C.locals x ≡ Some t → Ok (at labels) z (t ∷ s) k → Ok (at labels) z s (basic 0 (LocalGet x) k)
+  ok_own {s = s} x t e h = ok_basic s (LocalGet x) I32 ([] ⇒ t ∷ []) (ap (λ (ls : List ValType). option_map (λ u. [] ⇒ u ∷ []) (slice_get ls x)) off.locals_are ∙ ap (option_map (λ u. [] ⇒ u ∷ [])) (get_front C.locals (added C.slots) x t e)) h
 
-  pub ok_load : {labels : List (List ValType)} {z s : List ValType} (n : ℕ) (es : List Place) (k : Nodes) → length es ≤ C.slots → Ok (at labels) z (map place_type (take n es) ++ s) k → Ok (at labels) z s (load C n es k)
-  ok_load zero es k le h = h
-  ok_load (suc n) [] k le h = h
-  ok_load (suc n) (e ∷ es) k le h = ok_load n es (fetch C e (length es) k) (omega (arith, le)) (ok_fetch e (length es) (omega (arith, le)) h)
+  ok_tee : {labels : List (List ValType)} {z s : List ValType} {k : Nodes} (x : ℕ) (t : ValType) → slice_get (added C.slots) x ≡ Some t → Ok (at labels) z (t ∷ s) k → Ok (at labels) z (t ∷ s) (basic 0 (LocalTee (length C.locals + x)) k)
+  ok_tee {s = s} x t e h = ok_basic s (LocalTee (length C.locals + x)) I32 (t ∷ [] ⇒ t ∷ []) (ap (option_map (λ u. u ∷ [] ⇒ u ∷ [])) (local_is x t e)) h
+
+  pub ok_fetch : {labels : List (List ValType)} {z s : List ValType} {k : Nodes} (e : Place) (h : ℕ) → h ≤ C.slots → Own C e → Ok (at labels) z (place_type e ∷ s) k → Ok (at labels) z s (fetch C e h k)
+  ok_fetch (Spilled t) h le w k = ok_get (slot t h) t (added_at C.slots h t le) k
+  ok_fetch (Known v) h le w k = ok_const v k
+  ok_fetch (Copied t x) h le w k = ok_own x t w k
+
+  pub ok_load : {labels : List (List ValType)} {z s : List ValType} (n : ℕ) (es : List Place) (k : Nodes) → length es ≤ C.slots → AllOwn C es → Ok (at labels) z (map place_type (take n es) ++ s) k → Ok (at labels) z s (load C n es k)
+  ok_load zero es k le w h = h
+  ok_load (suc n) [] k le w h = h
+  ok_load (suc n) (e ∷ es) k le w h = ok_load n es (fetch C e (length es) k) (omega (arith, le)) w.1 (ok_fetch e (length es) (omega (arith, le)) w.0 h)
 
   pub ok_store : {labels : List (List ValType)} {z s : List ValType} {k : Nodes} (r : Option ValType) (es : List Place) → FitsIn C r es → Ok (at labels) z s k → Ok (at labels) z (option_to_list r ++ s) (store C r es k)
   ok_store None es fit h = h
   ok_store (Some t) es fit h = ok_set (slot t (length es)) t (added_at C.slots (length es) t (omega (arith, fit))) h
 
-  pub ok_to_result : {labels : List (List ValType)} {z s : List ValType} {k : Nodes} (r : Option ValType) (es : List Place) → length es ≤ C.slots → TopIs r es → Ok (at labels) z s k → Ok (at labels) z s (to_result C r es k)
-  ok_to_result None es le top h = h
-  ok_to_result (Some t) [] le top h = h
-  ok_to_result {labels = labels} {z = z} {s = s} {k = k} (Some t) (e ∷ es) le top h =
-      ok_fetch e (length es) (omega (arith, le)) (subst (λ u. Ok (at labels) z (u ∷ s) (set C (result_at C t) k)) (sym top) (ok_set (result_at C t) t (added_at C.slots C.slots t (omega arith)) h))
+  -- a result is kept
+  pub ok_keep : {labels : List (List ValType)} {z : List ValType} {k : Nodes} (s : List ValType) (p : Option Place) (es : List Place) → FitsIn C (option_map place_type p) es → Ok (at labels) z (option_to_list (option_map place_type p) ++ s) k → Ok (at labels) z (option_to_list (option_map place_type p) ++ s) (keep C p es k)
+  ok_keep s None es fit h = h
+  ok_keep s (Some (Spilled t)) es fit h = ok_tee (slot t (length es)) t (added_at C.slots (length es) t (omega (arith, fit))) h
+  ok_keep s (Some (Known v)) es fit h = h
+  ok_keep s (Some (Copied t x)) es fit h = h
 
-  pub ok_from_result : {labels : List (List ValType)} {z s : List ValType} {k : Nodes} (r : Option ValType) (es : List Place) → FitsIn C r es → Ok (at labels) z s k → Ok (at labels) z s (from_result C r es k)
-  ok_from_result None es fit h = h
-  ok_from_result (Some t) es fit h = ok_get (result_at C t) t (added_at C.slots C.slots t (omega arith)) (ok_set (slot t (length es)) t (added_at C.slots (length es) t (omega (arith, fit))) h)
+  pub ok_keep_result : {labels : List (List ValType)} {z : List ValType} {k : Nodes} (s : List ValType) (r : Option ValType) (es : List Place) → FitsIn C r es → Ok (at labels) z (option_to_list r ++ s) k → Ok (at labels) z (option_to_list r ++ s) (keep C (option_map Spilled r) es k)
+  ok_keep_result s None es fit h = h
+  ok_keep_result s (Some t) es fit h = ok_tee (slot t (length es)) t (added_at C.slots (length es) t (omega (arith, fit))) h
+
+  pub ok_reload : {labels : List (List ValType)} {z s : List ValType} {k : Nodes} (r : Option ValType) (es : List Place) → FitsIn C r es → Ok (at labels) z (option_to_list r ++ s) k → Ok (at labels) z s (reload C r es k)
+  ok_reload None es fit h = h
+  ok_reload (Some t) es fit h = ok_get (slot t (length es)) t (added_at C.slots (length es) t (omega (arith, fit))) h
+
+  pub ok_drops : {labels : List (List ValType)} {z s : List ValType} {k : Nodes} (ts : List ValType) → Ok (at labels) z s k → Ok (at labels) z (ts ++ s) (drops (length ts) k)
+  ok_drops [] h = h
+  ok_drops {s = s} (t ∷ ts) h = ok_basic (ts ++ s) Drop t (t ∷ [] ⇒ []) refl (ok_drops ts h)
+
+  -- copies go to their slots
+  ok_spill_if : {labels : List (List ValType)} {z s : List ValType} {k : Nodes} (q : Bool) (t : ValType) (x h : ℕ) → h ≤ C.slots → slice_get C.locals x ≡ Some t → Ok (at labels) z s k → Ok (at labels) z s (if q then basic 0 (LocalGet x) (set C (slot t h) k) else k)
+  ok_spill_if true t x h le w g = ok_own x t w (ok_set (slot t h) t (added_at C.slots h t le) g)
+  ok_spill_if false t x h le w g = g
+
+  ok_spill_one : {labels : List (List ValType)} {z s : List ValType} {k : Nodes} (these : ℕ → Bool) (e : Place) (h : ℕ) → h ≤ C.slots → Own C e → Ok (at labels) z s k → Ok (at labels) z s (spill_one C these e h k)
+  ok_spill_one these (Spilled t) h le w g = g
+  ok_spill_one these (Known v) h le w g = g
+  ok_spill_one these (Copied t x) h le w g = ok_spill_if (these x) t x h le w g
+
+  pub ok_spill : {labels : List (List ValType)} {z s : List ValType} {k : Nodes} (these : ℕ → Bool) (es : List Place) → length es ≤ C.slots → AllOwn C es → Ok (at labels) z s k → Ok (at labels) z s (spill C these es k)
+  ok_spill these [] le w g = g
+  ok_spill {labels = labels} {z = z} {s = s} {k = k} these (e ∷ es) le w g = ok_spill {k = spill_one C these e (length es) k} these es (omega (arith, le)) w.1 (ok_spill_one these e (length es) (omega (arith, le)) w.0 g)
 
   -- ---- handing over
 
   pub ok_hand_value : {labels : List (List ValType)} {z s : List ValType} {k : Nodes} (t : ValType) → Ok (at labels) z s k → Ok (at labels) z (t ∷ s) (hand_value C t k)
   ok_hand_value {s = s} t h = ok_call s (value_import C.source t) _ (off.values t) h
 
-  pub ok_hand : {labels : List (List ValType)} {z s : List ValType} (es : List Place) (k : Nodes) → length es ≤ C.slots → Ok (at labels) z s k → Ok (at labels) z s (hand C es k)
-  ok_hand [] k le h = h
-  ok_hand (e ∷ es) k le h = ok_hand es (fetch C e (length es) (hand_value C (place_type e) k)) (omega (arith, le)) (ok_fetch e (length es) (omega (arith, le)) (ok_hand_value (place_type e) h))
+  pub ok_hand : {labels : List (List ValType)} {z s : List ValType} (es : List Place) (k : Nodes) → length es ≤ C.slots → AllOwn C es → Ok (at labels) z s k → Ok (at labels) z s (hand C es k)
+  ok_hand [] k le w h = h
+  ok_hand (e ∷ es) k le w h = ok_hand es (fetch C e (length es) (hand_value C (place_type e) k)) (omega (arith, le)) w.1 (ok_fetch e (length es) (omega (arith, le)) w.0 (ok_hand_value (place_type e) h))
 
-  ok_hand_top : {labels : List (List ValType)} {z s : List ValType} (n : ℕ) (es : List Place) (k : Nodes) → length es ≤ C.slots → Ok (at labels) z s k → Ok (at labels) z s (hand_top C n es k)
-  ok_hand_top zero es k le h = h
-  ok_hand_top (suc n) [] k le h = h
-  ok_hand_top (suc n) (e ∷ es) k le h = ok_hand_top n es (fetch C e (length es) (hand_value C (place_type e) k)) (omega (arith, le)) (ok_fetch e (length es) (omega (arith, le)) (ok_hand_value (place_type e) h))
+  ok_hand_top : {labels : List (List ValType)} {z s : List ValType} (n : ℕ) (es : List Place) (k : Nodes) → length es ≤ C.slots → AllOwn C es → Ok (at labels) z s k → Ok (at labels) z s (hand_top C n es k)
+  ok_hand_top zero es k le w h = h
+  ok_hand_top (suc n) [] k le w h = h
+  ok_hand_top (suc n) (e ∷ es) k le w h = ok_hand_top n es (fetch C e (length es) (hand_value C (place_type e) k)) (omega (arith, le)) w.1 (ok_fetch e (length es) (omega (arith, le)) w.0 (ok_hand_value (place_type e) h))
 
   ok_stop : {labels : List (List ValType)} → Ok (at labels) [] [] stop
   ok_stop = record { typed = refl }
 
   -- inside an arm
-  ok_exit : {labels : List (List ValType)} {z s : List ValType} (ls : List Info) → Open (suc (length ls)) labels → Ok (at ([] ∷ labels)) z s (to_exit ls)
-  ok_exit {labels = labels} ls o = ok_branch (suc (length ls)) (open_label (suc (length ls)) labels (length ls) o (omega arith))
+  ok_exit : {labels : List (List ValType)} {z s : List ValType} (d : ℕ) → IsExit d labels → Ok (at ([] ∷ labels)) z s (to_exit d)
+  ok_exit d x = ok_branch (suc d) x
 
-  ok_unwind : {labels : List (List ValType)} {s : List ValType} (ls : List Info) (es : List Place) (o : ℕ) → length es ≤ C.slots → Open (suc (length ls)) labels → Ok (at ([] ∷ labels)) [] s (unwind C ls es o)
-  ok_unwind ls es o le op = ok_const (i32 o) (ok_set (offset_at C) I32 (added_offset C.slots) (ok_hand es (to_exit ls) le (ok_exit ls op)))
+  ok_unwind : {labels : List (List ValType)} {s : List ValType} (d : ℕ) (es : List Place) (o : ℕ) → length es ≤ C.slots → AllOwn C es → IsExit d labels → Ok (at ([] ∷ labels)) [] s (unwind C d es o)
+  ok_unwind d es o le w x = ok_const (i32 o) (ok_set (offset_at C) I32 (added_offset C.slots) (ok_hand es (to_exit d) le w (ok_exit d x)))
 
-  ok_unwind_kind : {labels : List (List ValType)} {s : List ValType} (ls : List Info) (es : List Place) (o : ℕ) → length es ≤ C.slots → Open (suc (length ls)) labels → Ok (at ([] ∷ labels)) [] (I32 ∷ s) (unwind_kind C ls es o)
-  ok_unwind_kind ls es o le op = ok_set (kind_at C) I32 (added_kind C.slots) (ok_unwind ls es o le op)
+  ok_unwind_kind : {labels : List (List ValType)} {s : List ValType} (d : ℕ) (es : List Place) (o : ℕ) → length es ≤ C.slots → AllOwn C es → IsExit d labels → Ok (at ([] ∷ labels)) [] (I32 ∷ s) (unwind_kind C d es o)
+  ok_unwind_kind d es o le w x = ok_set (kind_at C) I32 (added_kind C.slots) (ok_unwind d es o le w x)
 
   -- with a piece that pushes the kind
-  pub ok_tested : {labels : List (List ValType)} {z s : List ValType} {k : Nodes} (ls : List Info) (es : List Place) (o : ℕ) (says_kind : Nodes → Nodes) → length es ≤ C.slots → Open (suc (length ls)) labels → ((arm : Nodes) → Ok (at ([] ∷ labels)) [] (I32 ∷ []) arm → Ok (at ([] ∷ labels)) [] [] (says_kind arm)) → Ok (at labels) z s k → Ok (at labels) z (I32 ∷ s) (tested C ls es o says_kind k)
-  ok_tested ls es o says_kind le op says h = ok_if (says (unwind_kind C ls es o) (ok_unwind_kind ls es o le op)) h
+  pub ok_tested : {labels : List (List ValType)} {z s : List ValType} {k : Nodes} (d : ℕ) (es : List Place) (o : ℕ) (says_kind : Nodes → Nodes) → length es ≤ C.slots → AllOwn C es → IsExit d labels → ((arm : Nodes) → Ok (at ([] ∷ labels)) [] (I32 ∷ []) arm → Ok (at ([] ∷ labels)) [] [] (says_kind arm)) → Ok (at labels) z s k → Ok (at labels) z (I32 ∷ s) (tested C d es o says_kind k)
+  ok_tested d es o says_kind le w x says h = ok_if (says (unwind_kind C d es o) (ok_unwind_kind d es o le w x)) h
 
   pub ok_flag : {labels : List (List ValType)} {z s : List ValType} {k : Nodes} → Ok (at labels) z (I32 ∷ s) k → Ok (at labels) z s (basic 0 (GlobalGet (flag_of C.source)) k)
   ok_flag {s = s} h = ok_basic s (GlobalGet (flag_of C.source)) I32 ([] ⇒ I32 ∷ []) (ap (option_map (λ g. [] ⇒ g.vtype ∷ [])) off.flag_there ∙ ap (λ t. Some ([] ⇒ t ∷ [])) off.flag_type) h
 
-  pub ok_test_flag : {labels : List (List ValType)} {z s : List ValType} {k : Nodes} (ls : List Info) (es : List Place) (o : ℕ) → length es ≤ C.slots → Open (suc (length ls)) labels → Ok (at labels) z s k → Ok (at labels) z s (test_flag C ls es o k)
-  ok_test_flag ls es o le op h = ok_flag (ok_if (ok_const (i32 0) (ok_set (kind_at C) I32 (added_kind C.slots) (ok_unwind ls es o le op))) h)
+  pub ok_test_flag : {labels : List (List ValType)} {z s : List ValType} {k : Nodes} (d : ℕ) (es : List Place) (o : ℕ) → length es ≤ C.slots → AllOwn C es → IsExit d labels → Ok (at labels) z s k → Ok (at labels) z s (test_flag C d es o k)
+  ok_test_flag d es o le w x h = ok_flag (ok_if (ok_const (i32 0) (ok_set (kind_at C) I32 (added_kind C.slots) (ok_unwind d es o le w x))) h)
 
-  pub ok_test_both : {labels : List (List ValType)} {z s : List ValType} {k : Nodes} (ls : List Info) (n : ℕ) (es left : List Place) (o : ℕ) → length es ≤ C.slots → length left ≤ C.slots → Open (suc (length ls)) labels → Ok (at labels) z s k → Ok (at labels) z s (test_both C ls left o (hand_top C n es stop) k)
-  ok_test_both ls n es left o le le1 op h =
+  pub ok_test_both : {labels : List (List ValType)} {z s : List ValType} {k : Nodes} (d : ℕ) (n : ℕ) (es left : List Place) (o : ℕ) → length es ≤ C.slots → length left ≤ C.slots → AllOwn C es → AllOwn C left → IsExit d labels → Ok (at labels) z s k → Ok (at labels) z s (test_both C d left o (hand_top C n es stop) k)
+  ok_test_both d n es left o le le1 w w1 x h =
       ok_get (kind_at C) I32 (added_kind C.slots) (ok_flag (ok_binary I32 Or (ok_if
-      (ok_const (i32 o) (ok_set (offset_at C) I32 (added_offset C.slots) (ok_hand left _ le1
-      (ok_get (kind_at C) I32 (added_kind C.slots) (ok_if (ok_hand_top n es stop le ok_stop) (ok_exit ls op)))))) h)))
+      (ok_const (i32 o) (ok_set (offset_at C) I32 (added_offset C.slots) (ok_hand left _ le1 w1
+      (ok_get (kind_at C) I32 (added_kind C.slots) (ok_if (ok_hand_top n es stop le w ok_stop) (ok_exit d x)))))) h)))
 
   -- ---- guards
 
@@ -176,12 +193,12 @@ module _ (C : Ctx) (m : Module) (locals : List ValType) (off : Offers C m locals
       there [] has = absurd has
       there (l ∷ ls) has = refl
 
-  pub ok_guard_zero : {labels : List (List ValType)} {z s : List ValType} {k : Nodes} (t : ValType) (b : Place) (h : ℕ) → h ≤ C.slots → place_type b ≡ t → Ok (at labels) z (I32 ∷ s) k → Ok (at labels) z s (guard_zero C t b h k)
-  ok_guard_zero {labels = labels} {z = z} {s = s} {k = k} t b h le e g =
-      ok_fetch b h le (subst (λ u. Ok (at labels) z (u ∷ s) (basic 0 (Eqz t) k)) (sym e) (ok_eqz t g))
+  pub ok_guard_zero : {labels : List (List ValType)} {z s : List ValType} {k : Nodes} (t : ValType) (b : Place) (h : ℕ) → h ≤ C.slots → Own C b → place_type b ≡ t → Ok (at labels) z (I32 ∷ s) k → Ok (at labels) z s (guard_zero C t b h k)
+  ok_guard_zero {labels = labels} {z = z} {s = s} {k = k} t b h le w e g =
+      ok_fetch b h le w (subst (λ u. Ok (at labels) z (u ∷ s) (basic 0 (Eqz t) k)) (sym e) (ok_eqz t g))
 
-  pub ok_kind_signed : {labels : List (List ValType)} {z s : List ValType} {k : Nodes} (t : ValType) (b : Place) (h : ℕ) → h ≤ C.slots → place_type b ≡ t → Ok (at labels) z (I32 ∷ s) k → Ok (at labels) z s (kind_signed C t b h k)
-  ok_kind_signed t b h le e g = ok_const (i32 2) (ok_const (i32 3) (ok_guard_zero t b h le e (ok_select I32 g)))
+  pub ok_kind_signed : {labels : List (List ValType)} {z s : List ValType} {k : Nodes} (t : ValType) (b : Place) (h : ℕ) → h ≤ C.slots → Own C b → place_type b ≡ t → Ok (at labels) z (I32 ∷ s) k → Ok (at labels) z s (kind_signed C t b h k)
+  ok_kind_signed t b h le w e g = ok_const (i32 2) (ok_const (i32 3) (ok_guard_zero t b h le w e (ok_select I32 g)))
 
   type_value : (t : ValType) (n : ℕ) → type_of (value t n) ≡ t
   type_value I32 n = refl
@@ -190,27 +207,27 @@ module _ (C : Ctx) (m : Module) (locals : List ValType) (off : Offers C m locals
   ok_constant : {labels : List (List ValType)} {z s : List ValType} {k : Nodes} (t : ValType) (n : ℕ) → Ok (at labels) z (t ∷ s) k → Ok (at labels) z s (const (value t n) k)
   ok_constant {labels = labels} {z = z} {s = s} {k = k} t n h = ok_const (value t n) (subst (λ u. Ok (at labels) z (u ∷ s) k) (sym (type_value t n)) h)
 
-  ok_place : {labels : List (List ValType)} {z s : List ValType} {k : Nodes} (e : Place) (t : ValType) (h : ℕ) → h ≤ C.slots → place_type e ≡ t → Ok (at labels) z (t ∷ s) k → Ok (at labels) z s (fetch C e h k)
-  ok_place {labels = labels} {z = z} {s = s} {k = k} e t h le q g = ok_fetch e h le (subst (λ u. Ok (at labels) z (u ∷ s) k) (sym q) g)
+  ok_place : {labels : List (List ValType)} {z s : List ValType} {k : Nodes} (e : Place) (t : ValType) (h : ℕ) → h ≤ C.slots → Own C e → place_type e ≡ t → Ok (at labels) z (t ∷ s) k → Ok (at labels) z s (fetch C e h k)
+  ok_place {labels = labels} {z = z} {s = s} {k = k} e t h le w q g = ok_fetch e h le w (subst (λ u. Ok (at labels) z (u ∷ s) k) (sym q) g)
 
-  pub ok_guard_signed : {labels : List (List ValType)} {z s : List ValType} {k : Nodes} (t : ValType) (b a : Place) (h : ℕ) → suc h ≤ C.slots → place_type b ≡ t → place_type a ≡ t → Ok (at labels) z (I32 ∷ s) k → Ok (at labels) z s (guard_signed C t b a h k)
-  ok_guard_signed t b a h le eb ea g =
-      ok_place a t h (omega (arith, le)) ea (ok_constant t _ (ok_compare t Eq (ok_place b t (suc h) le eb (ok_constant t _ (ok_compare t Eq (ok_binary I32 And
-      (ok_guard_zero t b (suc h) le eb (ok_binary I32 Or g))))))))
+  pub ok_guard_signed : {labels : List (List ValType)} {z s : List ValType} {k : Nodes} (t : ValType) (b a : Place) (h : ℕ) → suc h ≤ C.slots → Own C b → Own C a → place_type b ≡ t → place_type a ≡ t → Ok (at labels) z (I32 ∷ s) k → Ok (at labels) z s (guard_signed C t b a h k)
+  ok_guard_signed t b a h le wb wa eb ea g =
+      ok_place a t h (omega (arith, le)) wa ea (ok_constant t _ (ok_compare t Eq (ok_place b t (suc h) le wb eb (ok_constant t _ (ok_compare t Eq (ok_binary I32 And
+      (ok_guard_zero t b (suc h) le wb eb (ok_binary I32 Or g))))))))
 
   ok_past_end : {labels : List (List ValType)} {z s : List ValType} {k : Nodes} → HasMemory m.memories → Ok (at labels) z (I32 ∷ s) k → Ok (at labels) z (I64 ∷ s) (past_end k)
   ok_past_end has h = ok_size has (ok_extend (ok_const (values.I64 16) (ok_binary I64 Shl (ok_compare I64 GtU h))))
 
-  pub ok_guard_memory : {labels : List (List ValType)} {z s : List ValType} {k : Nodes} (a : Place) (h n : ℕ) → h ≤ C.slots → HasMemory m.memories → place_type a ≡ I32 → Ok (at labels) z (I32 ∷ s) k → Ok (at labels) z s (guard_memory C a h n k)
-  ok_guard_memory a h n le has e g =
-      ok_place a I32 h le e (ok_extend (ok_const (values.I64 n) (ok_binary I64 Add (ok_past_end has g))))
+  pub ok_guard_memory : {labels : List (List ValType)} {z s : List ValType} {k : Nodes} (a : Place) (h n : ℕ) → h ≤ C.slots → HasMemory m.memories → Own C a → place_type a ≡ I32 → Ok (at labels) z (I32 ∷ s) k → Ok (at labels) z s (guard_memory C a h n k)
+  ok_guard_memory a h n le has w e g =
+      ok_place a I32 h le w e (ok_extend (ok_const (values.I64 n) (ok_binary I64 Add (ok_past_end has g))))
 
-  ok_range : {labels : List (List ValType)} {z s : List ValType} {k : Nodes} (a : Place) (h : ℕ) (n : Place) (hn : ℕ) → h ≤ C.slots → hn ≤ C.slots → HasMemory m.memories → place_type a ≡ I32 → place_type n ≡ I32 → Ok (at labels) z (I32 ∷ s) k → Ok (at labels) z s (range_test C a h n hn k)
-  ok_range a h n hn le len has ea en g = ok_place a I32 h le ea (ok_extend (ok_place n I32 hn len en (ok_extend (ok_binary I64 Add (ok_past_end has g)))))
+  ok_range : {labels : List (List ValType)} {z s : List ValType} {k : Nodes} (a : Place) (h : ℕ) (n : Place) (hn : ℕ) → h ≤ C.slots → hn ≤ C.slots → HasMemory m.memories → Own C a → Own C n → place_type a ≡ I32 → place_type n ≡ I32 → Ok (at labels) z (I32 ∷ s) k → Ok (at labels) z s (range_test C a h n hn k)
+  ok_range a h n hn le len has wa wn ea en g = ok_place a I32 h le wa ea (ok_extend (ok_place n I32 hn len wn en (ok_extend (ok_binary I64 Add (ok_past_end has g)))))
 
-  pub ok_guard_copy : {labels : List (List ValType)} {z s : List ValType} {k : Nodes} (n from to : Place) (h : ℕ) → suc (suc h) ≤ C.slots → HasMemory m.memories → place_type n ≡ I32 → place_type from ≡ I32 → place_type to ≡ I32 → Ok (at labels) z (I32 ∷ s) k → Ok (at labels) z s (guard_copy C n from to h k)
-  ok_guard_copy n from to h le has en ef et g =
-      ok_range from (suc h) n (suc (suc h)) (omega (arith, le)) le has ef en (ok_range to h n (suc (suc h)) (omega (arith, le)) le has et en (ok_binary I32 Or g))
+  pub ok_guard_copy : {labels : List (List ValType)} {z s : List ValType} {k : Nodes} (n from to : Place) (h : ℕ) → suc (suc h) ≤ C.slots → HasMemory m.memories → Own C n → Own C from → Own C to → place_type n ≡ I32 → place_type from ≡ I32 → place_type to ≡ I32 → Ok (at labels) z (I32 ∷ s) k → Ok (at labels) z s (guard_copy C n from to h k)
+  ok_guard_copy n from to h le has wn wf wt en ef et g =
+      ok_range from (suc h) n (suc (suc h)) (omega (arith, le)) le has wf wn ef en (ok_range to h n (suc (suc h)) (omega (arith, le)) le has wt wn et en (ok_binary I32 Or g))
 
-  pub ok_guard_fill : {labels : List (List ValType)} {z s : List ValType} {k : Nodes} (n to : Place) (h : ℕ) → suc (suc h) ≤ C.slots → HasMemory m.memories → place_type n ≡ I32 → place_type to ≡ I32 → Ok (at labels) z (I32 ∷ s) k → Ok (at labels) z s (guard_fill C n to h k)
-  ok_guard_fill n to h le has en et g = ok_range to h n (suc (suc h)) (omega (arith, le)) le has et en g
+  pub ok_guard_fill : {labels : List (List ValType)} {z s : List ValType} {k : Nodes} (n to : Place) (h : ℕ) → suc (suc h) ≤ C.slots → HasMemory m.memories → Own C n → Own C to → place_type n ≡ I32 → place_type to ≡ I32 → Ok (at labels) z (I32 ∷ s) k → Ok (at labels) z s (guard_fill C n to h k)
+  ok_guard_fill n to h le has wn wt en et g = ok_range to h n (suc (suc h)) (omega (arith, le)) le has wt wn et en g

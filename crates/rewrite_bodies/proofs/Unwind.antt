@@ -1,5 +1,5 @@
 -- Unwinding: frames hand over their values, the innermost first.
-use Rattle.std.proofs.Common.{◌≡◌, ℕ, zero, suc, ◌+◌, ◌*◌, ◌≤◌, List, [], ◌∷◌, ◌++◌, length, Option, Some, None, refl, sym, ap, ◌∙◌, subst, arith, append_assoc, append-nil, length-append, ◌≢◌, ◌-◌, take, drop, slice_get, slice_set}
+use Rattle.std.proofs.Common.{◌≡◌, ℕ, zero, suc, ◌+◌, ◌*◌, ◌≤◌, List, [], ◌∷◌, ◌++◌, length, Option, Some, None, refl, sym, ap, ◌∙◌, subst, arith, append_assoc, append-nil, length-append, ◌≢◌, ◌-◌, take, drop, slice_get, slice_set, option_map}
 use Rattle.wasm_syntax.specs.declared.value.ValType.{ValType}
 use Rattle.wasm_syntax.specs.declared.value.ValType.TheVariants.{I32, I64}
 use Rattle.wasm_syntax.specs.declared.value.Value.{Value}
@@ -13,14 +13,15 @@ use Rattle.wasm_syntax.specs.Host.{World}
 use Rattle.wasm_syntax.specs.declared.host.CollectorCall.{CollectorCall}
 use Rattle.wasm_syntax.specs.declared.host.CollectorCall.TheVariants as collector_calls
 use Rattle.wasm_syntax.specs.Machine.{Kind, leaves, again, returns, Label, Frame, Config, label, frame, config, Engine, next, exactly, inside, branch, deliver}
-use Rattle.rewrite_bodies.specs.Slots.{Place, place_type, Ctx, slot, kind_at, offset_at, added, less, grown}
+use Rattle.rewrite_bodies.specs.Slots.{Place, Spilled, place_type, Ctx, slot, kind_at, offset_at, added, less, grown}
 use Rattle.rewrite_bodies.specs.Numbering.{mapped, value_import, frame_import, flag_of, global_types}
-use Rattle.rewrite_bodies.specs.Pieces.{get, set, const, call, if_any, fetch, store}
-use Rattle.rewrite_bodies.specs.Rewrite.{Info, hand_value, hand, hand_top, to_exit, unwind, hand_left, test_flag, test_both, rewrite, hand_locals, zero_result, raise_flag, exit_code}
-use Rattle.rewrite_bodies.specs.calls.Agreement.{One, Holds, awaits, code_at, pending, info, infos, joined, t_kind, t_labels, Wit, KindFits, FitsLabels, WorldFits, FitsFrame, FitsFrames, Wrap, w_frame, zero_vs, last_result, t_frames, flagged}
+use Rattle.rewrite_bodies.specs.Pieces.{get, set, const, call, if_any, fetch, keep, store, reload, drops}
+use Rattle.rewrite_bodies.specs.Rewrite.{hand_value, hand, hand_top, to_exit, unwind, hand_left, test_flag, test_both, rewrite, hand_locals, zero_result, raise_flag, exit_code}
+use Rattle.rewrite_bodies.specs.calls.Agreement.{One, Holds, awaits, code_at, pending, joined, t_kind, t_labels, Wit, UnderWay, KindFits, FitsLabels, WorldFits, FitsFrame, FitsFrames, Wrap, w_frame, zero_vs, last_result, t_frames, flagged}
 use Rattle.rewrite_bodies.specs.calls.Steps.{Gets, To, Shell, st}
-use Rattle.rewrite_bodies.proofs.Run.{stored, stored_other, kind_no_slot, types-stored, slice_get-put_same, slice_get-put_other, types-slice_set, added_kind, added_offset, still, one_step, seq, weaken, push_to, get_to, added_get, added_set, fetch_to, store_to}
+use Rattle.rewrite_bodies.proofs.Run.{stored, stored_other, kind_no_slot, types-stored, slice_get-put_same, slice_get-put_other, types-slice_set, added_kind, added_offset, still, one_step, seq, weaken, push_to, get_to, added_get, added_set, fetch_to, store_to, kept_to}
 use Rattle.rewrite_bodies.proofs.Parts.{place_of, fits_put, fits_stored, step_plain}
+use Rattle.rewrite_bodies.proofs.Copies.{fits_any}
 use Rattle.dump_write.specs.Collected.{value_call}
 use Rattle.rewrite_bodies.specs.calls.Telling.{tell_ops, tell_labels, tell_locals, tell_frame, tell_outer}
 use Rattle.rewrite_bodies.proofs.Sim.{room_height, grown_fits, len_of, shell, wit, wit_under, armed, if_zero_to, if_up_to}
@@ -29,34 +30,35 @@ use Rattle.rewrite_bodies.specs.calls.Standing.{Speaks}
 use Rattle.wasm_laws.proofs.Progress.{same_of}
 
 -- all operands of a frame are in their places
-abbrev AllIn : List Value → List Value → List Place → Type 0
-AllIn ex [] [] = Unit {0}
-AllIn ex [] (e ∷ es) = ⊥
-AllIn ex (v ∷ ops) [] = ⊥
-AllIn ex (v ∷ ops) (e ∷ es) = One ex (length es) e v × AllIn ex ops es
+abbrev AllIn : List Value → List Value → List Value → List Place → Type 0
+AllIn l ex [] [] = Unit {0}
+AllIn l ex [] (e ∷ es) = ⊥
+AllIn l ex (v ∷ ops) [] = ⊥
+AllIn l ex (v ∷ ops) (e ∷ es) = One l ex (length es) e v × AllIn l ex ops es
 
 abbrev all_ops : List Label → List Value
 all_ops [] = []
 all_ops (L ∷ Ls) = L.operands ++ all_ops Ls
 
-all_in-append : (ex ops below : List Value) (es js : List Place) → Holds ex js ops es → AllIn ex below js → AllIn ex (ops ++ below) (es ++ js)
-all_in-append ex [] below [] js h a = a
-all_in-append ex [] below (e ∷ es) js h a = absurd h
-all_in-append ex (v ∷ ops) below [] js h a = absurd h
-all_in-append ex (v ∷ ops) below (e ∷ es) js h a = (h.0, all_in-append ex ops below es js h.1 a)
+all_in-append : (l ex ops below : List Value) (es js : List Place) → Holds l ex js ops es → AllIn l ex below js → AllIn l ex (ops ++ below) (es ++ js)
+all_in-append l ex [] below [] js h a = a
+all_in-append l ex [] below (e ∷ es) js h a = absurd h
+all_in-append l ex (v ∷ ops) below [] js h a = absurd h
+all_in-append l ex (v ∷ ops) below (e ∷ es) js h a = (h.0, all_in-append l ex ops below es js h.1 a)
 
-all_in : (C : Ctx) (ex : List Value) (a : Option ValType) (Ls : List Label) (ss : List (List Place)) → FitsLabels C ex a Ls ss → AllIn ex (all_ops Ls) (joined ss)
-all_in C ex a [] [] h = tt
-all_in C ex a [] (_ ∷ _) h = absurd h
-all_in C ex a (L ∷ Ls) [] h = absurd h
-all_in C ex a (L ∷ Ls) (e ∷ ss) h = all_in-append ex L.operands (all_ops Ls) e (joined ss) h.0 (all_in C ex (awaits (pending L.kind)) Ls ss h.4)
+all_in : (C : Ctx) (l ex : List Value) (a : Option ValType) (Ls : List Label) (ss : List (List Place)) → FitsLabels C l ex a Ls ss → AllIn l ex (all_ops Ls) (joined ss)
+all_in C l ex a [] [] h = tt
+all_in C l ex a [] (_ ∷ _) h = absurd h
+all_in C l ex a (L ∷ Ls) [] h = absurd h
+all_in C l ex a (L ∷ Ls) (e ∷ ss) h =
+    all_in-append l ex L.operands (all_ops Ls) e (joined ss) h.0 (all_in C l ex (awaits (pending L.kind)) Ls ss (fits_any C l ex (awaits (pending L.kind)) Ls ss h.4))
 
-all_less : (ex : List Value) (m : ℕ) (ops : List Value) (es : List Place) → AllIn ex ops es → AllIn ex (drop m ops) (less m es)
-all_less ex zero ops es a = a
-all_less ex (suc m) [] [] a = tt
-all_less ex (suc m) [] (e ∷ es) a = absurd a
-all_less ex (suc m) (v ∷ ops) [] a = absurd a
-all_less ex (suc m) (v ∷ ops) (e ∷ es) a = all_less ex m ops es a.1
+all_less : (l ex : List Value) (m : ℕ) (ops : List Value) (es : List Place) → AllIn l ex ops es → AllIn l ex (drop m ops) (less m es)
+all_less l ex zero ops es a = a
+all_less l ex (suc m) [] [] a = tt
+all_less l ex (suc m) [] (e ∷ es) a = absurd a
+all_less l ex (suc m) (v ∷ ops) [] a = absurd a
+all_less l ex (suc m) (v ∷ ops) (e ∷ es) a = all_less l ex m ops es a.1
 
 pub less_shorter : (m : ℕ) (es : List Place) → length (less m es) ≤ length es
 less_shorter zero es = omega arith
@@ -81,25 +83,21 @@ pub put_last : (g : List Value) (n : ℕ) (b v : Value) → n ≡ length g → s
 put_last [] n b v e = let z : n ≡ 0 = e in rw z refl
 put_last (u ∷ g) n b v e = let z : n ≡ suc (length g) = e in rw z (ap (λ r. u ∷ r) (put_last g (length g) b v refl))
 
-length-infos : (Ls : List Label) → length (infos Ls) ≡ length Ls
-length-infos [] = refl
-length-infos (L ∷ Ls) = ap suc (length-infos Ls)
-
 pub get_middle : (done todo ex : List Value) (v : Value) → slice_get ((done ++ v ∷ todo) ++ ex) (length done) ≡ Some v
 get_middle [] todo ex v = refl
 get_middle (u ∷ done) todo ex v = get_middle done todo ex v
 
 -- a branch to the exit block
-exit_branch_last : (C : Ctx) (o : List Value) (k : Nodes) (ss : List (List Place)) (kd : Kind) → KindFits C (joined ss) kd [] → branch 1 [] (label o k 0 (t_kind C [] (joined ss) kd) ∷ t_labels C (pending kd) [] ss) ≡ inside (label [] (exit_code C) 0 (returns C.result) ∷ [])
+exit_branch_last : (C : Ctx) (o : List Value) (k : Nodes) (ss : List (List Place)) (kd : Kind) → KindFits C (joined ss) kd [] → branch 1 [] (label o k 0 (t_kind C 0 (joined ss) kd) ∷ t_labels C (pending kd) [] ss) ≡ inside (label [] (exit_code C) 0 (returns C.result) ∷ [])
 exit_branch_last C o k ss (leaves a) h = absurd h
 exit_branch_last C o k ss (again o1 a inner ee) h = absurd h
 exit_branch_last C o k ss (returns r) h = refl
 
-pub exit_branch : (C : Ctx) (ex : List Value) (a : Option ValType) (o : List Value) (k : Nodes) (L : Label) (Ls : List Label) (e : List Place) (ss : List (List Place)) → FitsLabels C ex a (L ∷ Ls) (e ∷ ss) → branch (suc (length (infos Ls))) [] (label o k 0 (t_kind C (infos Ls) (joined ss) L.kind) ∷ t_labels C (pending L.kind) Ls ss) ≡ inside (label [] (exit_code C) 0 (returns C.result) ∷ [])
-exit_branch C ex a o k L [] e ss h = exit_branch_last C o k ss L.kind h.3
-exit_branch C ex a o k L (L1 ∷ Ls) e [] h = absurd h.4
-exit_branch C ex a o k L (L1 ∷ Ls) e (e1 ∷ ss) h =
-    exit_branch C ex (awaits (pending L.kind)) [] (code_at C (info L1.kind ∷ infos Ls) (e1 ++ joined ss) (pending L.kind) L1.nodes) L1 Ls e1 ss h.4
+pub exit_branch : (C : Ctx) (l ex : List Value) (a : Option ValType) (o : List Value) (k : Nodes) (L : Label) (Ls : List Label) (e : List Place) (ss : List (List Place)) → FitsLabels C l ex a (L ∷ Ls) (e ∷ ss) → branch (suc (length Ls)) [] (label o k 0 (t_kind C (length Ls) (joined ss) L.kind) ∷ t_labels C (pending L.kind) Ls ss) ≡ inside (label [] (exit_code C) 0 (returns C.result) ∷ [])
+exit_branch C l ex a o k L [] e ss h = exit_branch_last C o k ss L.kind h.3
+exit_branch C l ex a o k L (L1 ∷ Ls) e [] h = absurd h.4
+exit_branch C l ex a o k L (L1 ∷ Ls) e (e1 ∷ ss) h =
+    exit_branch C [] ex (awaits (pending L.kind)) L1.operands (code_at C (suc (length Ls)) (e1 ++ joined ss) (pending L.kind) L1.nodes) L1 Ls e1 ss h.4
 
 module _ (M' : Engine) (m : Module) (sp : Speaks M' m) where
   value_at : {X : Shell} {tl s : List Value} {k : Nodes} {g : World} {co : List CollectorCall} (v : Value) → To M' 1 1 (st X tl (v ∷ s) (call (value_import m (type_of v)) k) g co) (st X tl s k g (value_call v ∷ co))
@@ -117,38 +115,38 @@ module _ (M' : Engine) (C : Ctx) (sp : Speaks M' C.source) where
 
   module _ (l : List Value) (size : length C.locals ≡ length l) where
     -- the operands in these places
-    hand_all_to : {X : Shell} {g : World} {co : List CollectorCall} (ex ops : List Value) (es : List Place) (k : Nodes) → AllIn ex ops es → To M' 0 (2 * length es) (st X (l ++ ex) [] (hand C es k) g co) (st X (l ++ ex) [] k g (tell_ops ops co))
+    hand_all_to : {X : Shell} {g : World} {co : List CollectorCall} (ex ops : List Value) (es : List Place) (k : Nodes) → AllIn l ex ops es → To M' 0 (2 * length es) (st X (l ++ ex) [] (hand C es k) g co) (st X (l ++ ex) [] k g (tell_ops ops co))
     hand_all_to ex [] [] k h = weaken M' (still M' _) (omega arith) (omega arith)
     hand_all_to ex [] (e ∷ es) k h = absurd h
     hand_all_to ex (v ∷ ops) [] k h = absurd h
     hand_all_to ex (v ∷ ops) (e ∷ es) k h =
-        weaken M' (seq M' (hand_all_to ex ops es (fetch C e (length es) (hand_value C (place_type e) k)) h.1) (seq M' (fetch_to M' C l size ex (length es) e v h.0) (value_out (place_type e) v (place_of ex (length es) e v h.0)))) (omega arith) (omega arith)
+        weaken M' (seq M' (hand_all_to ex ops es (fetch C e (length es) (hand_value C (place_type e) k)) h.1) (seq M' (fetch_to M' C l size ex (length es) e v h.0) (value_out (place_type e) v (place_of l ex (length es) e v h.0)))) (omega arith) (omega arith)
 
     -- the topmost ones
-    hand_top_to : {X : Shell} {g : World} {co : List CollectorCall} (ex : List Value) (m : ℕ) (ops : List Value) (es : List Place) (k : Nodes) → AllIn ex ops es → To M' 0 (2 * (length es - length (less m es))) (st X (l ++ ex) [] (hand_top C m es k) g co) (st X (l ++ ex) [] k g (tell_ops (take m ops) co))
+    hand_top_to : {X : Shell} {g : World} {co : List CollectorCall} (ex : List Value) (m : ℕ) (ops : List Value) (es : List Place) (k : Nodes) → AllIn l ex ops es → To M' 0 (2 * (length es - length (less m es))) (st X (l ++ ex) [] (hand_top C m es k) g co) (st X (l ++ ex) [] k g (tell_ops (take m ops) co))
     hand_top_to ex zero ops es k h = weaken M' (still M' _) (omega arith) (omega arith)
     hand_top_to ex (suc m) [] [] k h = weaken M' (still M' _) (omega arith) (omega arith)
     hand_top_to ex (suc m) [] (e ∷ es) k h = absurd h
     hand_top_to ex (suc m) (v ∷ ops) [] k h = absurd h
     hand_top_to ex (suc m) (v ∷ ops) (e ∷ es) k h =
-        weaken M' (seq M' (hand_top_to ex m ops es (fetch C e (length es) (hand_value C (place_type e) k)) h.1) (seq M' (fetch_to M' C l size ex (length es) e v h.0) (value_out (place_type e) v (place_of ex (length es) e v h.0)))) (omega arith) (omega (arith, less_shorter m es))
+        weaken M' (seq M' (hand_top_to ex m ops es (fetch C e (length es) (hand_value C (place_type e) k)) h.1) (seq M' (fetch_to M' C l size ex (length es) e v h.0) (value_out (place_type e) v (place_of l ex (length es) e v h.0)))) (omega arith) (omega (arith, less_shorter m es))
 
     -- all operands of the frame
-    pub hand_to : {X : Shell} {g : World} {co : List CollectorCall} (ex : List Value) (a : Option ValType) (Ls : List Label) (ss : List (List Place)) (k : Nodes) → FitsLabels C ex a Ls ss → To M' 0 (2 * length (joined ss)) (st X (l ++ ex) [] (hand C (joined ss) k) g co) (st X (l ++ ex) [] k g (tell_labels Ls co))
-    hand_to {co = co} ex a Ls ss k h = rw (← tell-all Ls co) (hand_all_to ex (all_ops Ls) (joined ss) k (all_in C ex a Ls ss h))
+    pub hand_to : {X : Shell} {g : World} {co : List CollectorCall} (ex : List Value) (a : Option ValType) (Ls : List Label) (ss : List (List Place)) (k : Nodes) → FitsLabels C l ex a Ls ss → To M' 0 (2 * length (joined ss)) (st X (l ++ ex) [] (hand C (joined ss) k) g co) (st X (l ++ ex) [] k g (tell_labels Ls co))
+    hand_to {co = co} ex a Ls ss k h = rw (← tell-all Ls co) (hand_all_to ex (all_ops Ls) (joined ss) k (all_in C l ex a Ls ss h))
 
     -- those below the topmost ones, and then, behind a verdict, these
-    pub hand_left_to : {X : Shell} {g : World} {co : List CollectorCall} (ex : List Value) (a : Option ValType) (Ls : List Label) (ss : List (List Place)) (ls : List Info) (m j : ℕ) → FitsLabels C ex a Ls ss → slice_get ex (kind_at C) ≡ Some (values.I32 (suc j)) → To M' 0 (2 * length (joined ss) + 3) (st X (l ++ ex) [] (hand_left C ls (less m (joined ss)) (hand_top C m (joined ss) stop)) g co) (st X (l ++ ex) [] (to_exit ls) g (tell_labels Ls co))
+    pub hand_left_to : {X : Shell} {g : World} {co : List CollectorCall} (ex : List Value) (a : Option ValType) (Ls : List Label) (ss : List (List Place)) (ls : ℕ) (m j : ℕ) → FitsLabels C l ex a Ls ss → slice_get ex (kind_at C) ≡ Some (values.I32 (suc j)) → To M' 0 (2 * length (joined ss) + 3) (st X (l ++ ex) [] (hand_left C ls (less m (joined ss)) (hand_top C m (joined ss) stop)) g co) (st X (l ++ ex) [] (to_exit ls) g (tell_labels Ls co))
     hand_left_to {X = X} {g = g} {co = co} ex a Ls ss ls m j h kd =
         let es = joined ss in
         let ops = all_ops Ls in
-        let at = all_in C ex a Ls ss h in
+        let at = all_in C l ex a Ls ss h in
         let others = hand_top C m es stop in
         let test = if_any others (to_exit ls) in
         let co1 = tell_ops (drop m ops) co in
         let co2 = tell_ops (take m ops) co1 in
         let A = armed X (to_exit ls) [] in
-        let s1 : To M' 0 (2 * length (less m es)) (st X (l ++ ex) [] (hand C (less m es) (get C (kind_at C) test)) g co) (st X (l ++ ex) [] (get C (kind_at C) test) g co1) = hand_all_to ex (drop m ops) (less m es) (get C (kind_at C) test) (all_less ex m ops es at) in
+        let s1 : To M' 0 (2 * length (less m es)) (st X (l ++ ex) [] (hand C (less m es) (get C (kind_at C) test)) g co) (st X (l ++ ex) [] (get C (kind_at C) test) g co1) = hand_all_to ex (drop m ops) (less m es) (get C (kind_at C) test) (all_less l ex m ops es at) in
         let s2 : To M' 1 1 (st X (l ++ ex) [] (get C (kind_at C) test) g co1) (st X (l ++ ex) (values.I32 (suc j) ∷ []) test g co1) = added_get M' C l size ex (kind_at C) (values.I32 (suc j)) kd in
         let s3 : To M' 1 1 (st X (l ++ ex) (values.I32 (suc j) ∷ []) test g co1) (st A (l ++ ex) [] others g co1) = if_up_to M' j in
         let s4 : To M' 0 (2 * (length es - length (less m es))) (st A (l ++ ex) [] others g co1) (st A (l ++ ex) [] stop g co2) = hand_top_to ex m ops es stop at in
@@ -225,7 +223,7 @@ module _ (M M' : Engine) (E : ℕ) (gl : List ValType) (W : Wrap) (sp : Speaks M
   up_in Fs ws g co t p q r C ex i cl r' l (L ∷ Ls) (e ∷ ss) f fs gl_ u =
       let h = f.labels in
       let es = e ++ joined ss in
-      let ls = info L.kind ∷ infos Ls in
+      let ls = suc (length Ls) in
       let X = shell W C r' L.kind Ls ss Fs ws in
       let size = len_of l C.locals f.size in
       let n = length C.locals in
@@ -234,37 +232,38 @@ module _ (M M' : Engine) (E : ℕ) (gl : List ValType) (W : Wrap) (sp : Speaks M
       let len1 : types ex1 ≡ types ex = types-stored r (λ t. slot t (length es)) (zero_vs r) ex pl (exact_zero r) in
       let k = rewrite C ls (grown r es) L.nodes in
       let k1 = test_flag C ls es cl k in
+      let all_ = zero_vs r ++ L.operands in
       let low : length es ≤ C.slots = omega (arith, grown_longer r es, room_height C (grown r es) L.nodes h.2) in
       let gt : types g.globals ≡ global_types C.source = gl_.globals ∙ sym f.flag in
       let fl = flag_len C g gt in
       let at : slice_get (types ex1) (kind_at C) ≡ Some I32 = rw (len1 ∙ f.room) (added_kind C.slots) in
-      let X1 = armed X k [] in
+      let X1 = armed X k all_ in
       let g1 = flagged M g (values.I32 1) in
-      let h1 = fits_stored C ex r r (L ∷ Ls) (e ∷ ss) (λ t. slot t (length es)) (zero_vs r) (λ t. omega arith) h in
-      let h2 = fits_put C ex1 r (L ∷ Ls) (e ∷ ss) (kind_at C) (values.I32 0) (omega (arith, low)) h1 in
+      let h1 = fits_stored C l ex r r (L ∷ Ls) (e ∷ ss) (λ t. slot t (length es)) (zero_vs r) (λ t. omega arith) h in
+      let h2 = fits_put C l ex1 r (L ∷ Ls) (e ∷ ss) (kind_at C) (values.I32 0) (omega (arith, low)) h1 in
       let ex2 = slice_set ex1 (kind_at C) (values.I32 0) in
-      let go1 : Gets M' p q t (next (st X (l ++ ex) (zero_vs r) (store C r es k1) g1 co)) = rw append-nil at u in
-      let s1 : To M' 0 1 (st X (l ++ ex) (zero_vs r) (store C r es k1) g1 co) (st X (l ++ ex1) [] k1 g1 co) = store_to M' C l size ex r es (zero_vs r) k1 pl (exact_zero r) in
-      let s2 : To M' 1 1 (st X (l ++ ex1) [] k1 g1 co) (st X (l ++ ex1) (values.I32 1 ∷ []) (if_any (const (values.I32 0) (set C (kind_at C) (unwind C ls es cl))) k) g1 co) = step_plain M' (GlobalGet (flag_of C.source)) [] [] (l ++ ex1) g1 (values.I32 1 ∷ []) (values.I32 1 ∷ []) refl (rw (get_last g.globals (flag_of C.source) (values.I32 1) fl) refl) refl in
-      let s3 : To M' 1 1 (st X (l ++ ex1) (values.I32 1 ∷ []) (if_any (const (values.I32 0) (set C (kind_at C) (unwind C ls es cl))) k) g1 co) (st X1 (l ++ ex1) [] (const (values.I32 0) (set C (kind_at C) (unwind C ls es cl))) g1 co) = one_step M' _ _ refl in
+      let go1 : Gets M' p q t (next (st X (l ++ ex) all_ (keep C (option_map Spilled r) es k1) g1 co)) = u in
+      let s1 : To M' 0 1 (st X (l ++ ex) all_ (keep C (option_map Spilled r) es k1) g1 co) (st X (l ++ ex1) all_ k1 g1 co) = kept_to M' C l size ex r es (zero_vs r) L.operands k1 pl (exact_zero r) in
+      let s2 : To M' 1 1 (st X (l ++ ex1) all_ k1 g1 co) (st X (l ++ ex1) (values.I32 1 ∷ all_) (if_any (const (values.I32 0) (set C (kind_at C) (unwind C ls es cl))) k) g1 co) = step_plain M' (GlobalGet (flag_of C.source)) [] all_ (l ++ ex1) g1 (values.I32 1 ∷ []) (values.I32 1 ∷ all_) refl (rw (get_last g.globals (flag_of C.source) (values.I32 1) fl) refl) refl in
+      let s3 : To M' 1 1 (st X (l ++ ex1) (values.I32 1 ∷ all_) (if_any (const (values.I32 0) (set C (kind_at C) (unwind C ls es cl))) k) g1 co) (st X1 (l ++ ex1) [] (const (values.I32 0) (set C (kind_at C) (unwind C ls es cl))) g1 co) = one_step M' _ _ refl in
       let s4 : To M' 2 2 (st X1 (l ++ ex1) [] (const (values.I32 0) (set C (kind_at C) (unwind C ls es cl))) g1 co) (st X1 (l ++ ex2) [] (unwind C ls es cl) g1 co) = seq M' (push_to M' (values.I32 0)) (added_set M' C l size ex1 (kind_at C) I32 (values.I32 0) at refl) in
-      let br = exit_branch C ex r [] k L Ls e ss h in
+      let br = exit_branch C l ex r all_ k L Ls e ss h in
       let sp_ = subst (Speaks M') (sym f.funcs) sp in
-      let h3 = fits_put C ex2 r (L ∷ Ls) (e ∷ ss) (offset_at C) (values.I32 cl) (omega (arith, low)) h2 in
-      let hands : Hands M' C sp_ M l X1.kind X1.below X1.frames g 1 co (length ls) (hand C es (to_exit ls)) (L ∷ Ls) (slice_set ex2 (offset_at C) (values.I32 cl)) = weaken M' (hand_to M' C sp_ l size (slice_set ex2 (offset_at C) (values.I32 cl)) r (L ∷ Ls) (e ∷ ss) (to_exit ls) h3) (omega arith) (omega (arith, low)) in
-      let s5 = frame_out M' C sp_ M l f.size ex2 (L ∷ Ls) (length ls) X1.kind X1.below X1.frames g 1 co cl 0 (hand C es (to_exit ls)) (types-slice_set ex1 (kind_at C) I32 (values.I32 0) at refl ∙ len1 ∙ f.room) (slice_get-put_same ex1 (kind_at C) I32 (values.I32 0) at) gt br hands in
+      let h3 = fits_put C l ex2 r (L ∷ Ls) (e ∷ ss) (offset_at C) (values.I32 cl) (omega (arith, low)) h2 in
+      let hands : Hands M' C sp_ M l X1.kind X1.below X1.frames g 1 co ls (hand C es (to_exit ls)) (L ∷ Ls) (slice_set ex2 (offset_at C) (values.I32 cl)) = weaken M' (hand_to M' C sp_ l size (slice_set ex2 (offset_at C) (values.I32 cl)) r (L ∷ Ls) (e ∷ ss) (to_exit ls) h3) (omega arith) (omega (arith, low)) in
+      let s5 = frame_out M' C sp_ M l f.size ex2 (L ∷ Ls) ls X1.kind X1.below X1.frames g 1 co cl 0 (hand C es (to_exit ls)) (types-slice_set ex1 (kind_at C) I32 (values.I32 0) at refl ∙ len1 ∙ f.room) (slice_get-put_same ex1 (kind_at C) I32 (values.I32 0) at) gt br hands in
       let all : Gets M' p (q + E) t (deliver M' (zero_vs C.result) X.frames g1 (collector_calls.Frame 0 C.index cl n ∷ tell_locals l (tell_labels (L ∷ Ls) co))) = weaken M' (seq M' go1 (seq M' s1 (seq M' s2 (seq M' s3 (seq M' s4 s5))))) (omega arith) (omega (arith, f.small)) in
       renamed t p (q + E) C.result r' C.index i n (length l) cl 0 X.frames g (tell_locals l (tell_labels (L ∷ Ls) co)) f.result f.idx size all
 
   -- the same for a frame that called through the table
-  up_arm : (Fs : List Frame) (ws : List Wit) (g : World) (co : List CollectorCall) (t : Config) (p q : ℕ) (r : Option ValType) (C : Ctx) (ex : List Value) (others : Nodes) (i cl : ℕ) (r' : Option ValType) (l : List Value) (Ls : List Label) (ss : List (List Place)) → FitsFrame M E gl r (frame i r' cl l Ls) (wit_under C ex ss (Some others)) → FitsFrames M E gl W.result r' Fs ws → WorldFits M gl g → Up t p q r (frame i r' cl l Ls ∷ Fs) (wit_under C ex ss (Some others) ∷ ws) g co → Up t p (q + E) r' Fs ws g (tell_frame 0 cl (frame i r' cl l Ls) co)
+  up_arm : (Fs : List Frame) (ws : List Wit) (g : World) (co : List CollectorCall) (t : Config) (p q : ℕ) (r : Option ValType) (C : Ctx) (ex : List Value) (others : UnderWay) (i cl : ℕ) (r' : Option ValType) (l : List Value) (Ls : List Label) (ss : List (List Place)) → FitsFrame M E gl r (frame i r' cl l Ls) (wit_under C ex ss (Some others)) → FitsFrames M E gl W.result r' Fs ws → WorldFits M gl g → Up t p q r (frame i r' cl l Ls ∷ Fs) (wit_under C ex ss (Some others) ∷ ws) g co → Up t p (q + E) r' Fs ws g (tell_frame 0 cl (frame i r' cl l Ls) co)
   unfolding int_binary
   up_arm Fs ws g co t p q r C ex others i cl r' l [] ss f fs gl_ u = absurd f.labels
   up_arm Fs ws g co t p q r C ex others i cl r' l (L ∷ Ls) [] f fs gl_ u = absurd f.labels
   up_arm Fs ws g co t p q r C ex others i cl r' l (L ∷ Ls) (e ∷ ss) f fs gl_ u =
       let h = f.labels in
       let es = e ++ joined ss in
-      let ls = info L.kind ∷ infos Ls in
+      let ls = suc (length Ls) in
       let X = shell W C r' L.kind Ls ss Fs ws in
       let size = len_of l C.locals f.size in
       let n = length C.locals in
@@ -272,38 +271,40 @@ module _ (M M' : Engine) (E : ℕ) (gl : List ValType) (W : Wrap) (sp : Speaks M
       let ex1 = stored r (λ t. slot t (length es)) (zero_vs r) ex in
       let len1 : types ex1 ≡ types ex = types-stored r (λ t. slot t (length es)) (zero_vs r) ex pl (exact_zero r) in
       let k = rewrite C ls (grown r es) L.nodes in
-      let K = test_both C ls es cl others k in
+      let kr = drops (length others.taken) (reload C r es k) in
+      let K = test_both C ls es cl others.others kr in
+      let ops = others.taken ++ L.operands in
       let low : length es ≤ C.slots = omega (arith, grown_longer r es, room_height C (grown r es) L.nodes h.2) in
-      let kd : slice_get ex1 (kind_at C) ≡ Some (values.I32 0) = stored_other r (λ t. slot t (length es)) (zero_vs r) ex (kind_at C) (λ t. kind_no_slot C (length es) t low) ∙ f.no_kind in
+      let kd : slice_get ex1 (kind_at C) ≡ Some (values.I32 0) = stored_other r (λ t. slot t (length es)) (zero_vs r) ex (kind_at C) (λ t. kind_no_slot C (length es) t low) ∙ f.no_kind.0 in
       let gt : types g.globals ≡ global_types C.source = gl_.globals ∙ sym f.flag in
       let fl = flag_len C g gt in
-      let A = armed X K [] in
-      let X1 = armed X k [] in
-      let H = hand_left C ls es others in
+      let A = armed X K ops in
+      let X1 = armed X kr ops in
+      let H = hand_left C ls es others.others in
       let g1 = flagged M g (values.I32 1) in
-      let h1 = fits_stored C ex r r (L ∷ Ls) (e ∷ ss) (λ t. slot t (length es)) (zero_vs r) (λ t. omega arith) h in
+      let h1 = fits_stored C l ex r r (L ∷ Ls) (e ∷ ss) (λ t. slot t (length es)) (zero_vs r) (λ t. omega arith) h in
       let go1 : Gets M' p q t (next (st A (l ++ ex) (zero_vs r) (store C r es stop) g1 co)) = rw append-nil at u in
       let s1 : To M' 0 1 (st A (l ++ ex) (zero_vs r) (store C r es stop) g1 co) (st A (l ++ ex1) [] stop g1 co) = store_to M' C l size ex r es (zero_vs r) stop pl (exact_zero r) in
-      let s2 : To M' 1 1 (st A (l ++ ex1) [] stop g1 co) (st X (l ++ ex1) [] K g1 co) = one_step M' _ _ refl in
-      let s3 = both_to M M' E gl W C X l ex1 g co ls es cl others k 0 1 1 size kd fl refl in
-      let s4 : To M' 1 1 (st X (l ++ ex1) (values.I32 1 ∷ []) (if_any (const (values.I32 cl) (set C (offset_at C) H)) k) g1 co) (st X1 (l ++ ex1) [] (const (values.I32 cl) (set C (offset_at C) H)) g1 co) = one_step M' _ _ refl in
-      let br = exit_branch C ex r [] k L Ls e ss h in
+      let s2 : To M' 1 1 (st A (l ++ ex1) [] stop g1 co) (st X (l ++ ex1) ops K g1 co) = one_step M' _ _ refl in
+      let s3 = both_to M M' E gl W C X l ex1 ops g co ls es cl others.others kr 0 1 1 size kd fl refl in
+      let s4 : To M' 1 1 (st X (l ++ ex1) (values.I32 1 ∷ ops) (if_any (const (values.I32 cl) (set C (offset_at C) H)) kr) g1 co) (st X1 (l ++ ex1) [] (const (values.I32 cl) (set C (offset_at C) H)) g1 co) = one_step M' _ _ refl in
+      let br = exit_branch C l ex r ops kr L Ls e ss h in
       let sp_ = subst (Speaks M') (sym f.funcs) sp in
       let ex3 = slice_set ex1 (offset_at C) (values.I32 cl) in
-      let h3 = fits_put C ex1 r (L ∷ Ls) (e ∷ ss) (offset_at C) (values.I32 cl) (omega (arith, low)) h1 in
+      let h3 = fits_put C l ex1 r (L ∷ Ls) (e ∷ ss) (offset_at C) (values.I32 cl) (omega (arith, low)) h1 in
       let ne : kind_at C ≢ offset_at C = omega arith in
       let kd3 : slice_get ex3 (kind_at C) ≡ Some (values.I32 0) = slice_get-put_other ex1 (kind_at C) (offset_at C) (values.I32 cl) ne ∙ kd in
       let co1 = tell_labels (L ∷ Ls) co in
-      let test = get C (kind_at C) (if_any others (to_exit ls)) in
+      let test = get C (kind_at C) (if_any others.others (to_exit ls)) in
       let b1 : To M' 0 (2 * length es) (st X1 (l ++ ex3) [] H g1 co) (st X1 (l ++ ex3) [] test g1 co1) = hand_to M' C sp_ l size ex3 r (L ∷ Ls) (e ∷ ss) test h3 in
-      let b2 : To M' 1 1 (st X1 (l ++ ex3) [] test g1 co1) (st X1 (l ++ ex3) (values.I32 0 ∷ []) (if_any others (to_exit ls)) g1 co1) = added_get M' C l size ex3 (kind_at C) (values.I32 0) kd3 in
-      let b3 : To M' 2 2 (st X1 (l ++ ex3) (values.I32 0 ∷ []) (if_any others (to_exit ls)) g1 co1) (st X1 (l ++ ex3) [] (to_exit ls) g1 co1) = if_zero_to M' in
-      let hands : Hands M' C sp_ M l X1.kind X1.below X1.frames g 1 co (length ls) H (L ∷ Ls) ex3 = weaken M' (seq M' b1 (seq M' b2 b3)) (omega arith) (omega (arith, low)) in
-      let s5 = frame_out M' C sp_ M l f.size ex1 (L ∷ Ls) (length ls) X1.kind X1.below X1.frames g 1 co cl 0 H (len1 ∙ f.room) kd gt br hands in
+      let b2 : To M' 1 1 (st X1 (l ++ ex3) [] test g1 co1) (st X1 (l ++ ex3) (values.I32 0 ∷ []) (if_any others.others (to_exit ls)) g1 co1) = added_get M' C l size ex3 (kind_at C) (values.I32 0) kd3 in
+      let b3 : To M' 2 2 (st X1 (l ++ ex3) (values.I32 0 ∷ []) (if_any others.others (to_exit ls)) g1 co1) (st X1 (l ++ ex3) [] (to_exit ls) g1 co1) = if_zero_to M' in
+      let hands : Hands M' C sp_ M l X1.kind X1.below X1.frames g 1 co ls H (L ∷ Ls) ex3 = weaken M' (seq M' b1 (seq M' b2 b3)) (omega arith) (omega (arith, low)) in
+      let s5 = frame_out M' C sp_ M l f.size ex1 (L ∷ Ls) ls X1.kind X1.below X1.frames g 1 co cl 0 H (len1 ∙ f.room) kd gt br hands in
       let all : Gets M' p (q + E) t (deliver M' (zero_vs C.result) X.frames g1 (collector_calls.Frame 0 C.index cl n ∷ tell_locals l (tell_labels (L ∷ Ls) co))) = weaken M' (seq M' go1 (seq M' s1 (seq M' s2 (seq M' s3 (seq M' s4 s5))))) (omega arith) (omega (arith, f.small)) in
       renamed t p (q + E) C.result r' C.index i n (length l) cl 0 X.frames g (tell_locals l (tell_labels (L ∷ Ls) co)) f.result f.idx size all
 
-  pub up_under : (Fs : List Frame) (ws : List Wit) (g : World) (co : List CollectorCall) (t : Config) (p q : ℕ) (r : Option ValType) (F : Frame) (C : Ctx) (ex : List Value) (ss : List (List Place)) (others : Option Nodes) → FitsFrame M E gl r F (wit_under C ex ss others) → FitsFrames M E gl W.result F.result Fs ws → WorldFits M gl g → Up t p q r (F ∷ Fs) (wit_under C ex ss others ∷ ws) g co → Up t p (q + E) F.result Fs ws g (tell_frame 0 F.call F co)
+  pub up_under : (Fs : List Frame) (ws : List Wit) (g : World) (co : List CollectorCall) (t : Config) (p q : ℕ) (r : Option ValType) (F : Frame) (C : Ctx) (ex : List Value) (ss : List (List Place)) (others : Option UnderWay) → FitsFrame M E gl r F (wit_under C ex ss others) → FitsFrames M E gl W.result F.result Fs ws → WorldFits M gl g → Up t p q r (F ∷ Fs) (wit_under C ex ss others ∷ ws) g co → Up t p (q + E) F.result Fs ws g (tell_frame 0 F.call F co)
   up_under Fs ws g co t p q r F C ex ss None f fs gl_ u = up_in Fs ws g co t p q r C ex F.function F.call F.result F.locals F.labels ss f fs gl_ u
   up_under Fs ws g co t p q r F C ex ss (Some others) f fs gl_ u = up_arm Fs ws g co t p q r C ex others F.function F.call F.result F.locals F.labels ss f fs gl_ u
 
@@ -313,4 +314,4 @@ module _ (M M' : Engine) (E : ℕ) (gl : List ValType) (W : Wrap) (sp : Speaks M
   up_all (F ∷ Fs) [] g co t p q r fs gl_ u = absurd fs
   up_all (F ∷ Fs) (w ∷ ws) g co t p q r fs gl_ u =
       weaken M' (up_all Fs ws g (tell_frame 0 F.call F co) t p (q + E) F.result fs.1 gl_
-      (up_under Fs ws g co t p q r F w.ctx w.ex w.ss w.others fs.0 fs.1 gl_ u)) (omega arith) (omega arith)
+      (up_under Fs ws g co t p q r F w.ctx w.ex w.ss w.under_way fs.0 fs.1 gl_ u)) (omega arith) (omega arith)

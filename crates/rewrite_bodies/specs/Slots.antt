@@ -1,11 +1,11 @@
--- Where operands are kept in a rewritten function: each operand has a height and a type, and so a slot among the added locals, unless a constant
--- instruction pushed it.
-use Rattle.std.specs.Prelude.{ℕ, zero, suc, ◌+◌, ◌*◌, max, List, [], ◌∷◌, ◌++◌, length, map, slice_get, Option, Some, None}
+-- What is known of operands in a rewritten function, whose stack has the original's operands: each operand has a height and a type, and so a slot
+-- among the added locals, in which its value is besides, unless a constant instruction pushed it or it is a copy of a local.
+use Rattle.std.specs.Prelude.{ℕ, zero, suc, ◌+◌, ◌*◌, ◌==◌, max, List, [], ◌∷◌, ◌++◌, length, map, slice_get, Option, Some, None, option_map, Bool, true, if◌then◌else◌}
 use Rattle.wasm_syntax.specs.declared.value.ValType.{ValType}
 use Rattle.wasm_syntax.specs.declared.value.ValType.TheVariants.{I32, I64}
 use Rattle.wasm_syntax.specs.declared.value.Value.{Value}
 use Rattle.wasm_syntax.specs.declared.instruction.Basic.{Basic}
-use Rattle.wasm_syntax.specs.declared.instruction.Basic.TheVariants.{Select, LocalGet, LocalTee, GlobalGet, Load, MemorySize, MemoryGrow, Const, Eqz, Unary, Compare, Binary, Convert, Extend32, Extend64}
+use Rattle.wasm_syntax.specs.declared.instruction.Basic.TheVariants.{Select, LocalGet, LocalSet, LocalTee, GlobalGet, Load, MemorySize, MemoryGrow, Const, Eqz, Unary, Compare, Binary, Convert, Extend32, Extend64}
 use Rattle.wasm_syntax.specs.declared.parts.LocalGroup.{LocalGroup}
 use Rattle.wasm_syntax.specs.declared.parts.FuncType.{FuncType}
 use Rattle.wasm_syntax.specs.declared.parts.Body.{Body}
@@ -18,15 +18,17 @@ use Rattle.wasm_syntax.specs.Effect.{takes}
 use Rattle.wasm_syntax.specs.Machine.{result_of}
 use Rattle.rewrite_bodies.specs.Numbering.{import_count, type_number, helped, helper_base}
 
--- what is known of an operand: a constant, or its type, and then its value is in its slot
+-- where the value of an operand is besides: in its slot, in a constant, or in a local of the original
 pub data Place : Type 0 where
   Spilled : (t : ValType) → Place
   Known : (v : Value) → Place
+  Copied : (t : ValType) (x : ℕ) → Place
 
 -- the type of the operand there
 abbrev pub place_type : Place → ValType
 place_type (Spilled t) = t
 place_type (Known v) = type_of v
+place_type (Copied t x) = t
 
 -- what is fixed in a function: its module, the index of the first helper and the types that have one, the types of its locals, the
 -- number of heights, its index and its result
@@ -74,10 +76,26 @@ less zero es = es
 less (suc m) [] = []
 less (suc m) (e ∷ es) = less m es
 
--- the places after a result
+-- the places with one more, where there is one, and after a result
+abbrev pub pushed : Option Place → List Place → List Place
+pushed None es = es
+pushed (Some e) es = e ∷ es
+
 abbrev pub grown : Option ValType → List Place → List Place
-grown None es = es
-grown (Some t) es = Spilled t ∷ es
+grown r es = pushed (option_map Spilled r) es
+
+-- where copies of these locals are no more: in their slots
+abbrev pub uncopied : (ℕ → Bool) → Place → Place
+uncopied these (Spilled t) = Spilled t
+uncopied these (Known v) = Known v
+uncopied these (Copied t x) = if these x then Spilled t else Copied t x
+
+abbrev pub without : (ℕ → Bool) → List Place → List Place
+without these es = map (uncopied these) es
+
+-- under a block there are no copies
+abbrev pub under : List Place → List Place
+under es = without (λ x. true) es
 
 -- the type of the operand under the topmost
 abbrev pub second_type : List Place → Option ValType
@@ -103,8 +121,24 @@ result_type C es (Extend32 k) = Some I32
 result_type C es (Extend64 k) = Some I64
 result_type C es _ = None
 
+-- where that is
+abbrev pub copy_of : Ctx → ℕ → Option Place
+copy_of C x = option_map (λ t. Copied t x) (slice_get C.locals x)
+
+abbrev pub result_place : Ctx → List Place → Basic → Option Place
+result_place C es (Const v) = Some (Known v)
+result_place C es (LocalGet x) = copy_of C x
+result_place C es (LocalTee x) = copy_of C x
+result_place C es i = option_map Spilled (result_type C es i)
+
+-- the places when it has written a local
+abbrev pub freed : Basic → List Place → List Place
+freed (LocalSet x) es = without (λ y. x == y) es
+freed (LocalTee x) es = without (λ y. x == y) es
+freed i es = es
+
 abbrev pub after_plain : Ctx → List Place → Basic → List Place
-after_plain C es i = grown (result_type C es i) (less (takes i) es)
+after_plain C es i = pushed (result_place C es i) (freed i (less (takes i) es))
 
 -- ---- what is counted behind a live instruction, by the places that it leaves; nothing where no code behind it is live
 
@@ -112,10 +146,6 @@ after_plain C es i = grown (result_type C es i) (less (takes i) es)
 abbrev pub behind_call : Option FuncType → List Place → (List Place → ℕ) → ℕ
 behind_call None es go = 0
 behind_call (Some type) es go = go (grown (result_of type) (less (length type.params) es))
-
-abbrev pub behind_instr : Ctx → Basic → List Place → (List Place → ℕ) → ℕ
-behind_instr C (Const v) es go = go (Known v ∷ es)
-behind_instr C i es go = go (after_plain C es i)
 
 abbrev pub behind_jump : Ctx → Jump → List Place → (List Place → ℕ) → ℕ
 behind_jump C (BrIf l) es go = go (less 1 es)
@@ -127,12 +157,12 @@ behind_jump C _ es go = 0
 
 abbrev pub peak : Ctx → List Place → Nodes → ℕ
 peak C es stop = length es
-peak C es (basic o i rest) = max (length es) (behind_instr C i es (λ es'. peak C es' rest))
+peak C es (basic o i rest) = max (length es) (peak C (after_plain C es i) rest)
 peak C es (jump o j rest) = max (length es) (behind_jump C j es (λ es'. peak C es' rest))
-peak C es (block o t inner end rest) = max (length es) (max (peak C es inner) (peak C (grown t es) rest))
-peak C es (loop o t inner end rest) = max (length es) (max (peak C es inner) (peak C (grown t es) rest))
+peak C es (block o t inner end rest) = max (length es) (max (peak C (under es) inner) (peak C (grown t (under es)) rest))
+peak C es (loop o t inner end rest) = max (length es) (max (peak C (under es) inner) (peak C (grown t (under es)) rest))
 peak C es (choose o t a else_at b end rest) =
-    max (length es) (max (peak C (less 1 es) a) (max (peak C (less 1 es) b) (peak C (grown t (less 1 es)) rest)))
+    let left = under (less 1 es) in max (length es) (max (peak C left a) (max (peak C left b) (peak C (grown t left) rest)))
 
 -- ---- functions of a program
 

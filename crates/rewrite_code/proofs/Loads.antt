@@ -1,15 +1,15 @@
 -- Operands that are loaded or handed over from the lowest on, and code that unwinds.
-use Rattle.std.proofs.Common.{◌≡◌, ℕ, zero, suc, ◌+◌, ◌-◌, ◌<◌, ◌≤◌, List, [], ◌∷◌, ◌++◌, length, map, reverse, take, drop, get_or, None, OnOk, Ok, Err, refl, sym, ap, ap₂, subst, ◌∙◌, arith, take_all}
+use Rattle.std.proofs.Common.{◌≡◌, ℕ, zero, suc, ◌+◌, ◌-◌, ◌<◌, ◌≤◌, List, [], ◌∷◌, ◌++◌, length, map, reverse, take, drop, get_or, Bool, None, OnOk, Ok, Err, refl, sym, ap, subst, ◌∙◌, arith, take_all}
 use Rattle.std.proofs.lemmas.List.{length-map, length-reverse, reverse-append, map-append, length-take-le, length-drop, take-append-drop}
 use Rattle.std.proofs.Math.Seq.{take-suc, drop-cons}
 use Rattle.std.specs.declared.result.Result.{Result}
 use Rattle.wasm_syntax.specs.declared.value.ValType.{ValType}
-use Rattle.wasm_syntax.specs.declared.instruction.Basic.TheVariants.{LocalGet, GlobalGet}
+use Rattle.wasm_syntax.specs.declared.instruction.Basic.TheVariants.{Drop, LocalGet, LocalTee, GlobalGet}
 use Rattle.wasm_syntax.specs.Tree.{Br, Nodes, stop, basic, jump, choose}
 use Rattle.rewrite_bodies.specs.Numbering.{flag_of}
-use Rattle.rewrite_bodies.specs.Slots.{Place, Ctx, less, place_type, slot, result_at, kind_at, offset_at}
-use Rattle.rewrite_bodies.specs.Pieces.{get, set, const, i32, fetch, load}
-use Rattle.rewrite_bodies.specs.Rewrite.{Info, hand, hand_top, hand_value, hand_locals, to_exit, unwind, unwind_kind, test_flag}
+use Rattle.rewrite_bodies.specs.Slots.{Place, Ctx, less, place_type, slot, kind_at, offset_at}
+use Rattle.rewrite_bodies.specs.Pieces.{set, const, i32, fetch, load, spill_one, spill, drops}
+use Rattle.rewrite_bodies.specs.Rewrite.{hand, hand_top, hand_value, hand_locals, to_exit, unwind, unwind_kind, test_flag}
 use Rattle.rewrite_code.specs.calls.Writing.{Written, Behind, goes, Emits, EmitsLast, Opens, Closes}
 use Rattle.rewrite_code.proofs.Pieces.{emits_then, emits_last, emits_stop, emits_within}
 use Rattle.rewrite_code.specs.declared.place.OperandPlace.{OperandPlace}
@@ -150,24 +150,50 @@ local_step C ls x d {a} {b} {c} lt p q k behind =
 
 -- ---- results
 
-pub result_and_slot : (C : Ctx) (t : ValType) (height x y : ℕ) {a b c : Written} → x ≡ result_at C t → y ≡ slot t height → Emits (get C x) a b → Emits (set C y) b c →
-    Emits (λ k. get C (result_at C t) (set C (slot t height) k)) a c
-result_and_slot C t height x y e d p q = emits_same (λ k. ap₂ (λ x y. get C x (set C y k)) (sym e) (sym d)) (emits_then p q)
+pub own_and_slot : (C : Ctx) (t : ValType) (l height y : ℕ) {a b c : Written} → y ≡ slot t height → Emits (basic 0 (LocalGet l)) a b → Emits (set C y) b c →
+    Emits (λ k. basic 0 (LocalGet l) (set C (slot t height) k)) a c
+own_and_slot C t l height y d p q = emits_same (λ k. ap (λ y. basic 0 (LocalGet l) (set C y k)) (sym d)) (emits_then p q)
+
+pub kept_in : (C : Ctx) (t : ValType) (height x : ℕ) {a b : Written} → x ≡ slot t height → Emits (basic 0 (LocalTee (length C.locals + x))) a b → Emits (basic 0 (LocalTee (length C.locals + slot t height))) a b
+kept_in C t height x {a} {b} e p = subst (λ y. Emits (basic 0 (LocalTee (length C.locals + y))) a b) e p
+
+-- ---- copies that go to their slots
+
+pub spill_step : (C : Ctx) (these : ℕ → Bool) (xs : List OperandPlace) (h : ℕ) (d : OperandPlace) {a b c : Written} → h < length xs →
+    Emits (spill C these (from_top (take h xs))) a b → Emits (spill_one C these (place (get_or xs h d)) h) b c → Emits (spill C these (from_top (take (h + 1) xs))) a c
+spill_step C these xs h d lt p q =
+    emits_same (step (λ m es k. spill C these es k) (spill_one C these) (λ m e es k. refl) xs h 0 d lt (omega arith)) (emits_then p q)
+
+pub spill_done : (C : Ctx) (these : ℕ → Bool) (xs : List OperandPlace) (es : List Place) (m h : ℕ) {a b : Written} → from_top xs ≡ es → h ≡ length xs - m →
+    Emits (spill C these (from_top (take h xs))) a b → Emits (spill C these (less m es)) a b
+spill_done C these xs es m h {a} {b} e f p =
+    subst (λ z. Emits (spill C these z) a b) (ap (λ n. from_top (take n xs)) f ∙ discarded xs m ∙ ap (less m) e) p
+
+-- ---- operands that are dropped
+
+drops_more : (n : ℕ) (k : Nodes) → drops (suc n) k ≡ drops n (basic 0 Drop k)
+drops_more zero k = refl
+drops_more (suc n) k = ap (λ z. basic 0 Drop z) (drops_more n k)
+
+pub drop_step : (n : ℕ) {a b c : Written} → Emits (drops n) a b → Emits (basic 0 Drop) b c → Emits (drops (n + 1)) a c
+drop_step n p q =
+    let one : n + 1 ≡ suc n = omega arith in
+    emits_same (λ k. ap (λ m. drops m k) one ∙ drops_more n k) (emits_then p q)
 
 -- ---- the exit
 
-pub exit_branch : (ls : List Info) (n : ℕ) {a b : Written} → length ls ≡ n → Emits (λ k. jump 0 (Br (n + 1)) k) a b → EmitsLast (to_exit ls) a b
-exit_branch ls n {a} {b} e p =
-    let same : n + 1 ≡ suc (length ls) = omega (arith, e) in
+pub exit_branch : (d : ℕ) {a b : Written} → Emits (λ k. jump 0 (Br (d + 1)) k) a b → EmitsLast (to_exit d) a b
+exit_branch d {a} {b} p =
+    let same : d + 1 ≡ suc d = omega arith in
     subst (λ l. EmitsLast (jump 0 (Br l) stop) a b) same (emits_stop p)
 
-pub unwound : (C : Ctx) (ls : List Info) (es : List Place) (o x : ℕ) {a b c d e : Written} → x ≡ offset_at C → Emits (const (i32 o)) a b → Emits (set C x) b c → Emits (hand C es) c d →
-    EmitsLast (to_exit ls) d e → EmitsLast (unwind C ls es o) a e
-unwound C ls es o x {b = b} {c = c} at p q r s = emits_last p (emits_last (subst (λ y. Emits (set C y) b c) at q) (emits_last r s))
+pub unwound : (C : Ctx) (l : ℕ) (es : List Place) (o x : ℕ) {a b c d e : Written} → x ≡ offset_at C → Emits (const (i32 o)) a b → Emits (set C x) b c → Emits (hand C es) c d →
+    EmitsLast (to_exit l) d e → EmitsLast (unwind C l es o) a e
+unwound C l es o x {b = b} {c = c} at p q r s = emits_last p (emits_last (subst (λ y. Emits (set C y) b c) at q) (emits_last r s))
 
-pub flag_tested : (C : Ctx) (ls : List Info) (es : List Place) (o : ℕ) {a b c d e : Written} → Emits (basic 0 (GlobalGet (flag_of C.source))) a b → Opens (λ arm k. choose 0 None arm None stop 0 k) b c →
-    EmitsLast (const (i32 0) (set C (kind_at C) (unwind C ls es o))) c d → Closes d e → Emits (test_flag C ls es o) a e
-flag_tested C ls es o p q r s = emits_then p (emits_within q r s)
+pub flag_tested : (C : Ctx) (l : ℕ) (es : List Place) (o : ℕ) {a b c d e : Written} → Emits (basic 0 (GlobalGet (flag_of C.source))) a b → Opens (λ arm k. choose 0 None arm None stop 0 k) b c →
+    EmitsLast (const (i32 0) (set C (kind_at C) (unwind C l es o))) c d → Closes d e → Emits (test_flag C l es o) a e
+flag_tested C l es o p q r s = emits_then p (emits_within q r s)
 
-pub kind_kept : (C : Ctx) (ls : List Info) (es : List Place) (o x : ℕ) {a b c : Written} → x ≡ kind_at C → Emits (set C x) a b → EmitsLast (unwind C ls es o) b c → EmitsLast (unwind_kind C ls es o) a c
-kind_kept C ls es o x {a} {b} at p q = emits_last (subst (λ y. Emits (set C y) a b) at p) q
+pub kind_kept : (C : Ctx) (l : ℕ) (es : List Place) (o x : ℕ) {a b c : Written} → x ≡ kind_at C → Emits (set C x) a b → EmitsLast (unwind C l es o) b c → EmitsLast (unwind_kind C l es o) a c
+kind_kept C l es o x {a} {b} at p q = emits_last (subst (λ y. Emits (set C y) a b) at p) q

@@ -1,10 +1,10 @@
 //! What is fixed in a function that is rewritten.
 
-ghost use Rattle.std.specs.Prelude.{◌≡◌, ◌+◌, ◌*◌, ◌≤◌, OnOk};
+ghost use Rattle.std.specs.Prelude.{◌≡◌, ◌+◌, ◌*◌, ◌≤◌, length, OnOk};
 ghost use Rattle.wasm_syntax.specs.Tree.{basic};
-ghost use Rattle.wasm_syntax.specs.declared.instruction.Basic.TheVariants.{GlobalGet as GlobalGetOf};
+ghost use Rattle.wasm_syntax.specs.declared.instruction.Basic.TheVariants.{GlobalGet as GlobalGetOf, LocalTee as LocalTeeOf};
 ghost use Rattle.rewrite_bodies.specs.Numbering.{flag_of};
-ghost use Rattle.rewrite_bodies.specs.Slots.{slot, result_at, kind_at, offset_at};
+ghost use Rattle.rewrite_bodies.specs.Slots.{slot, kind_at, offset_at};
 ghost use Rattle.rewrite_bodies.specs.Pieces.{get, set};
 ghost use Rattle.rewrite_bodies.specs.Rewrite.{hand_value};
 ghost use Rattle.rewrite_code.specs.calls.Writing.{Emits};
@@ -97,13 +97,6 @@ impl<'m, 'a> FunctionContext<'m, 'a> {
         self.gives
     }
 
-    /// The place of the result local of a type among the added locals.
-    pub fn result_at(&self, t: ValType) -> u32
-        ensures { result ≡ result_at self.now t }
-    {
-        slot(t, self.slots)
-    }
-
     /// The place of the slot of a type at a height.
     pub fn slot_at(&self, t: ValType, height: usize) -> u32
         requires { height ≤ self.now.slots }
@@ -142,6 +135,15 @@ impl<'m, 'a> FunctionContext<'m, 'a> {
         ensures { OnOk result (Emits (set self.now x) writer.old writer.new) }
     {
         writer.basic(Basic::LocalSet(self.locals.len() as u32 + x))
+    }
+
+    /// Writes an added local, and leaves the value on the stack.
+    pub fn tee(&self, writer: &mut CodeWriter, x: u32) -> Result<(), NoMemory>
+        requires { x ≤ 2 * self.now.slots + 3 }
+        ensures { OnOk result (Emits (basic 0 (LocalTeeOf (length self.now.locals + x))) writer.old
+            writer.new) }
+    {
+        writer.basic(Basic::LocalTee(self.locals.len() as u32 + x))
     }
 
     /// Reads the flag that says whether frames are being unwound.

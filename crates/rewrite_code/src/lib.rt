@@ -11,6 +11,7 @@ mod unwinding;
 mod writer;
 
 pub use context::FunctionContext;
+pub use moves::drops;
 pub use place::{OperandPlace, OperandPlaces, slot};
 pub use unwinding::to_exit;
 pub use writer::CodeWriter;

@@ -1,19 +1,21 @@
-//! Operands go from their slots to the stack, and results to slots and result locals.
+//! Operands go to their slots, and from where they are to the stack.
 
-ghost use Rattle.std.specs.Prelude.{◌≡◌, ◌≤◌, List, length, OnOk};
-ghost use Rattle.rewrite_bodies.specs.Slots.{Place as PlaceOf, slot, result_at};
-ghost use Rattle.rewrite_bodies.specs.Pieces.{get, set, fetch, load, store, to_result, from_result};
+ghost use Rattle.std.specs.Prelude.{◌≡◌, ◌+◌, ◌≤◌, List, length, option_map, OnOk};
+ghost use Rattle.wasm_syntax.specs.declared.instruction.Basic.TheVariants.{LocalGet as LocalGetOf, LocalTee as LocalTeeOf};
+ghost use Rattle.wasm_syntax.specs.Tree.{basic};
+ghost use Rattle.rewrite_bodies.specs.Slots.{Place as PlaceOf, Spilled as SpilledOf, slot, less};
+ghost use Rattle.rewrite_bodies.specs.Pieces.{set, fetch, load, keep, store, reload, spill_one, spill, drops};
 ghost use Rattle.rewrite_code.specs.calls.Writing.{Emits};
-ghost use Rattle.rewrite_code.specs.calls.Places.{place};
+ghost use Rattle.rewrite_code.specs.calls.Places.{place, these};
 
 use crate::CodeWriter;
 use crate::context::FunctionContext;
-use crate::place::{OperandPlace, OperandPlaces};
+use crate::place::{OperandPlace, OperandPlaces, is_meant};
 use causes::NoMemory;
-use wasm_syntax::ValType;
+use wasm_syntax::{Basic, ValType};
 
 impl<'m, 'a> FunctionContext<'m, 'a> {
-    /// The operand at a height is pushed.
+    /// The operand at a height is pushed once more.
     pub fn fetch(
         &self,
         writer: &mut CodeWriter,
@@ -27,6 +29,7 @@ impl<'m, 'a> FunctionContext<'m, 'a> {
         match operand {
             OperandPlace::Spilled(t) => self.get(writer, self.slot_at(t, height)),
             OperandPlace::Known(value) => writer.const_value(value),
+            OperandPlace::Copied(_, local) => writer.basic(Basic::LocalGet(local)),
         }
     }
 
@@ -65,60 +68,8 @@ impl<'m, 'a> FunctionContext<'m, 'a> {
         }
     }
 
-    // The operand at a height goes to the result local.
-    fn operand_to_result(
-        &self,
-        writer: &mut CodeWriter,
-        t: ValType,
-        operand: OperandPlace,
-        height: usize,
-    ) -> Result<(), NoMemory>
-        requires { height ≤ self.now.slots }
-        ensures { OnOk result (Emits
-            (λ k. fetch self.now (place operand) height (set self.now (result_at self.now t) k))
-            writer.old writer.new) }
-    {
-        self.fetch(writer, operand, height)?;
-        self.set(writer, self.result_at(t))
-    }
-
-    /// The topmost operand goes to the result local, where there is a result.
-    pub fn to_result(
-        &self,
-        writer: &mut CodeWriter,
-        gives: Option<ValType>,
-        places: &OperandPlaces,
-    ) -> Result<(), NoMemory>
-        requires { length places.now ≤ self.now.slots }
-        ensures { OnOk result (Emits (to_result self.now gives places.now) writer.old writer.new) }
-    {
-        let Some(t) = gives else {
-            return Ok(());
-        };
-        match places.peek(0) {
-            Some(top) => self.operand_to_result(writer, t, top, places.len() - 1),
-            None => Ok(()),
-        }
-    }
-
-    // The result local's value goes to the slot at a height.
-    fn result_to_slot(
-        &self,
-        writer: &mut CodeWriter,
-        t: ValType,
-        height: usize,
-    ) -> Result<(), NoMemory>
-        requires { height ≤ self.now.slots }
-        ensures { OnOk result (Emits
-            (λ k. get self.now (result_at self.now t) (set self.now (slot t height) k)) writer.old
-            writer.new) }
-    {
-        self.get(writer, self.result_at(t))?;
-        self.set(writer, self.slot_at(t, height))
-    }
-
-    /// The result local's value goes to its slot, over so many operands.
-    pub fn from_result(
+    /// A result that went to its slot is pushed.
+    pub fn reload(
         &self,
         writer: &mut CodeWriter,
         gives: Option<ValType>,
@@ -126,11 +77,133 @@ impl<'m, 'a> FunctionContext<'m, 'a> {
     ) -> Result<(), NoMemory>
         requires { height ≤ self.now.slots }
         ensures { (places : List PlaceOf) → length places ≡ height
-            → OnOk result (Emits (from_result self.now gives places) writer.old writer.new) }
+            → OnOk result (Emits (reload self.now gives places) writer.old writer.new) }
     {
         match gives {
-            Some(t) => self.result_to_slot(writer, t, height),
+            Some(t) => self.get(writer, self.slot_at(t, height)),
             None => Ok(()),
         }
     }
+
+    // A result on the stack is kept in its slot besides.
+    fn keep_in_slot(
+        &self,
+        writer: &mut CodeWriter,
+        t: ValType,
+        height: usize,
+    ) -> Result<(), NoMemory>
+        requires { height ≤ self.now.slots }
+        ensures { OnOk result (Emits (basic 0 (LocalTeeOf (length self.now.locals + slot t height)))
+            writer.old writer.new) }
+    {
+        self.tee(writer, self.slot_at(t, height))
+    }
+
+    /// A result on the stack is kept, over so many operands, where its value is in no other place.
+    pub fn keep(
+        &self,
+        writer: &mut CodeWriter,
+        kept: Option<OperandPlace>,
+        height: usize,
+    ) -> Result<(), NoMemory>
+        requires { height ≤ self.now.slots }
+        ensures { (places : List PlaceOf) → length places ≡ height
+            → OnOk result (Emits (keep self.now (option_map place kept) places) writer.old
+            writer.new) }
+    {
+        match kept {
+            Some(OperandPlace::Spilled(t)) => self.keep_in_slot(writer, t, height),
+            Some(OperandPlace::Known(_)) => Ok(()),
+            Some(OperandPlace::Copied(_, _)) => Ok(()),
+            None => Ok(()),
+        }
+    }
+
+    /// The same of a result of this type, if there is one.
+    pub fn keep_result(
+        &self,
+        writer: &mut CodeWriter,
+        gives: Option<ValType>,
+        height: usize,
+    ) -> Result<(), NoMemory>
+        requires { height ≤ self.now.slots }
+        ensures { (places : List PlaceOf) → length places ≡ height
+            → OnOk result (Emits (keep self.now (option_map SpilledOf gives) places) writer.old
+            writer.new) }
+    {
+        match gives {
+            Some(t) => self.keep_in_slot(writer, t, height),
+            None => Ok(()),
+        }
+    }
+
+    // A local's value goes to the slot of a type at a height.
+    fn copy_to_slot(
+        &self,
+        writer: &mut CodeWriter,
+        t: ValType,
+        local: u32,
+        height: usize,
+    ) -> Result<(), NoMemory>
+        requires { height ≤ self.now.slots }
+        ensures { OnOk result (Emits (λ k. basic 0 (LocalGetOf local)
+            (set self.now (slot t height) k)) writer.old writer.new) }
+    {
+        writer.basic(Basic::LocalGet(local))?;
+        self.set(writer, self.slot_at(t, height))
+    }
+
+    // An operand at a height goes to its slot where it is a copy of this local, or of any.
+    fn spill_one(
+        &self,
+        writer: &mut CodeWriter,
+        meant: Option<u32>,
+        operand: OperandPlace,
+        height: usize,
+    ) -> Result<(), NoMemory>
+        requires { height ≤ self.now.slots }
+        ensures { OnOk result (Emits (spill_one self.now (these meant) (place operand) height)
+            writer.old writer.new) }
+    {
+        match operand {
+            OperandPlace::Copied(t, local) => {
+                if is_meant(meant, local) {
+                    self.copy_to_slot(writer, t, local, height)
+                } else {
+                    Ok(())
+                }
+            }
+            OperandPlace::Spilled(_) | OperandPlace::Known(_) => Ok(()),
+        }
+    }
+
+    /// The operands under so many that are copies of this local, or of any, go to their slots.
+    pub fn spill(
+        &self,
+        writer: &mut CodeWriter,
+        meant: Option<u32>,
+        count: usize,
+        places: &OperandPlaces,
+    ) -> Result<(), NoMemory>
+        requires { length places.now ≤ self.now.slots }
+        ensures { OnOk result (Emits (spill self.now (these meant) (less count places.now))
+            writer.old writer.new) }
+    {
+        let operands = places.as_slice();
+        let under = operands.len().saturating_sub(count);
+        for height in 0..under {
+            self.spill_one(writer, meant, operands[height], height)?;
+        }
+        Ok(())
+    }
+}
+
+/// So many operands are dropped.
+pub fn drops(writer: &mut CodeWriter, count: usize) -> Result<(), NoMemory>
+    ensures { OnOk result (Emits (drops count) writer.old writer.new) }
+{
+    for _i in 0..count {
+        writer.basic(Basic::Drop)?;
+    }
+    Ok(())
 }

@@ -1,21 +1,22 @@
 //! Where operands are.
 
-ghost use Rattle.std.specs.Prelude.{◌≡◌, ◌+◌, ◌*◌, ◌^◌, ◌<◌, [], ◌∷◌, length, slice_get, option_map, OnOk, OnErr, MatchOption};
+ghost use Rattle.std.specs.Prelude.{◌≡◌, ◌+◌, ◌*◌, ◌^◌, ◌<◌, [], ◌∷◌, length, map, slice_get, option_map, OnOk, OnErr, MatchOption};
 ghost use Rattle.rewrite_bodies.specs.Numbering.{type_number};
-ghost use Rattle.rewrite_bodies.specs.Slots.{place_type, slot, less, grown};
-ghost use Rattle.rewrite_code.specs.calls.Places.{place, from_top};
+ghost use Rattle.rewrite_bodies.specs.Slots.{place_type, slot, less, grown, uncopied, without};
+ghost use Rattle.rewrite_code.specs.calls.Places.{place, from_top, these};
 
 use causes::NoMemory;
 use std::alloc::Global;
 use std::marker::Model;
 use wasm_syntax::{ValType, Value};
 
-/// What is known of an operand: a constant, or its type, and then its value is in the slot of its
-/// type and height.
+/// Where the value of an operand is besides: in the slot of its type and height, in a constant, or
+/// in a local of its type.
 #[derive(Clone, Copy, PartialEq, Eq)]
 pub enum OperandPlace {
     Spilled(ValType),
     Known(Value),
+    Copied(ValType, u32),
 }
 
 fn type_number(t: ValType) -> u32
@@ -44,7 +45,43 @@ impl OperandPlace {
             OperandPlace::Spilled(t) => t,
             OperandPlace::Known(Value::I32(_)) => ValType::I32,
             OperandPlace::Known(Value::I64(_)) => ValType::I64,
+            OperandPlace::Copied(t, _) => t,
         }
+    }
+}
+
+/// Whether a local is this one, or any where there is none.
+pub(crate) fn is_meant(meant: Option<u32>, local: u32) -> bool
+    ensures { result ≡ these meant local }
+{
+    match meant {
+        Some(meant) => meant == local,
+        None => true,
+    }
+}
+
+/// The place of an operand that is not to be a copy of this local, or of any.
+fn uncopied(operand: OperandPlace, meant: Option<u32>) -> OperandPlace
+    ensures { place result ≡ uncopied (these meant) (place operand) }
+{
+    match operand {
+        OperandPlace::Copied(t, local) => {
+            if is_meant(meant, local) {
+                OperandPlace::Spilled(t)
+            } else {
+                operand
+            }
+        }
+        OperandPlace::Spilled(_) | OperandPlace::Known(_) => operand,
+    }
+}
+
+/// The same of each.
+fn uncopy_all(operands: &mut [OperandPlace], meant: Option<u32>)
+    ensures { map place operands.new ≡ map (uncopied (these meant)) (map place operands.old) }
+{
+    for operand in operands.iter_mut() {
+        *operand = uncopied(*operand, meant);
     }
 }
 
@@ -120,6 +157,13 @@ impl OperandPlaces {
             Some(t) => self.push(OperandPlace::Spilled(t)),
             None => Ok(()),
         }
+    }
+
+    /// No operand is a copy of this local any more, or of any: those that are go to their slots.
+    pub fn uncopy(&mut self, meant: Option<u32>)
+        ensures { self.new ≡ without (these meant) self.old }
+    {
+        uncopy_all(self.items.as_mut_slice(), meant);
     }
 
     /// Takes the topmost operand, if there is one.

@@ -1,7 +1,7 @@
 //! Code that goes to the exit of the function, where an instruction or a guard traps.
 
-ghost use Rattle.std.specs.Prelude.{◌≡◌, ◌+◌, ◌^◌, ◌<◌, ◌≤◌, List, length, OnOk};
-ghost use Rattle.rewrite_bodies.specs.Rewrite.{Info, to_exit, unwind, unwind_kind};
+ghost use Rattle.std.specs.Prelude.{◌+◌, ◌^◌, ◌<◌, ◌≤◌, length, OnOk};
+ghost use Rattle.rewrite_bodies.specs.Rewrite.{to_exit, unwind, unwind_kind};
 ghost use Rattle.rewrite_code.specs.calls.Writing.{EmitsLast};
 
 use crate::CodeWriter;
@@ -13,8 +13,7 @@ use wasm_syntax::Value;
 /// The branch to the exit, out of so many open labels.
 pub fn to_exit(writer: &mut CodeWriter, labels: u32) -> Result<(), NoMemory>
     requires { labels + 1 < 2 ^ 32 }
-    ensures { (ls : List Info) → length ls ≡ labels
-        → OnOk result (EmitsLast (to_exit ls) writer.old writer.new) }
+    ensures { OnOk result (EmitsLast (to_exit labels) writer.old writer.new) }
 {
     writer.branch(labels + 1)
 }
@@ -30,8 +29,8 @@ impl<'m, 'a> FunctionContext<'m, 'a> {
     ) -> Result<(), NoMemory>
         requires shallow { labels + 1 < 2 ^ 32 }
         requires room { length places.now ≤ self.now.slots }
-        ensures { (ls : List Info) → length ls ≡ labels
-            → OnOk result (EmitsLast (unwind self.now ls places.now offset) writer.old writer.new) }
+        ensures { OnOk result (EmitsLast (unwind self.now labels places.now offset) writer.old
+            writer.new) }
     {
         writer.const_value(Value::I32(offset))?;
         self.set(writer, self.offset_at())?;
@@ -49,8 +48,7 @@ impl<'m, 'a> FunctionContext<'m, 'a> {
     ) -> Result<(), NoMemory>
         requires shallow { labels + 1 < 2 ^ 32 }
         requires room { length places.now ≤ self.now.slots }
-        ensures { (ls : List Info) → length ls ≡ labels
-            → OnOk result (EmitsLast (unwind_kind self.now ls places.now offset) writer.old
+        ensures { OnOk result (EmitsLast (unwind_kind self.now labels places.now offset) writer.old
             writer.new) }
     {
         self.set(writer, self.kind_at())?;

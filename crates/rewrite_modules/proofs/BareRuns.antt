@@ -13,7 +13,7 @@ use Rattle.wasm_syntax.specs.declared.module.ModuleParts.{ModuleParts as Module}
 use Rattle.wasm_syntax.specs.Module.{Program, Function, imported, defined, function_at, const_value, function_export}
 use Rattle.wasm_syntax.specs.Host.{World, Answer, replied, told, silent, misfit, answer}
 use Rattle.wasm_syntax.specs.Machine.{Config, config, Engine, Stepped, next, ends, traps, no_reply, bad_reply, stuck, entered, host_call, step, zero_of}
-use Rattle.wasm_syntax.specs.Run.{Cause, initial_globals, i32_or_zero, over, first_false, table_min, empty_memory, memory_bytes, globals_at_start, element_at, data_at, element_fits, data_fits, start_world, Ended, ended, host_alone, run_on, run_steps, run_alone, run_function, Outcome, not_started, finished, trapped, lacks_reply, misfits, running, got_stuck, Ran, ran_to, run_entry, go_on, invoked, by_data, by_element, cause_of_entry, cause_of_segments, Invocation, cause_of, goes_on, fresh, session, unless, engine, run}
+use Rattle.wasm_syntax.specs.Run.{Cause, initial_globals, i32_or_zero, over, first_false, table_min, empty_memory, memory_bytes, globals_at_start, element_at, data_at, element_fits, data_fits, start_table, start_world, Ended, ended, host_alone, run_on, run_steps, run_alone, run_function, Outcome, not_started, finished, trapped, lacks_reply, misfits, running, got_stuck, Ran, ran_to, run_entry, go_on, invoked, by_data, by_element, cause_of_entry, cause_of_segments, Invocation, cause_of, goes_on, fresh, session, unless, engine, run}
 use Rattle.linear_memory.specs.Memory.{Memory}
 use Rattle.rewrite_modules.specs.calls.Bare.{bare, bare_config, bare_stepped, bare_ran}
 use Rattle.wasm_syntax.specs.SameCode.{op_code, code_alone, global_code, element_code, segment_code}
@@ -43,7 +43,7 @@ ran_to_bare q (no_reply call c) left = refl
 ran_to_bare q (bad_reply call r c) left = refl
 ran_to_bare q stuck left = refl
 
-fresh_bare : (o : Option Config) (w : World) → fresh (option_map bare_config o) w ≡ fresh o w
+pub fresh_bare : (o : Option Config) (w : World) → fresh (option_map bare_config o) w ≡ fresh o w
 fresh_bare None w = refl
 fresh_bare (Some c) w = refl
 
@@ -52,10 +52,10 @@ fresh_bare (Some c) w = refl
 abbrev rest_of : Engine → List Invocation → World → Ran → List Ran
 rest_of K is w r = if goes_on r.outcome r.entered then session K is None (fresh r.last w) r.left else []
 
-session_some : (K : Engine) (i : Invocation) (is : List Invocation) (st : Option ℕ) (w : World) (n f : ℕ) → function_export K.program.module_ i.name ≡ Some f → session K (i ∷ is) st w n ≡ invoked K st n f i.args w ∷ rest_of K is w (invoked K st n f i.args w)
+pub session_some : (K : Engine) (i : Invocation) (is : List Invocation) (st : Option ℕ) (w : World) (n f : ℕ) → function_export K.program.module_ i.name ≡ Some f → session K (i ∷ is) st w n ≡ invoked K st n f i.args w ∷ rest_of K is w (invoked K st n f i.args w)
 session_some K i is st w n f e = rw (e, session) refl
 
-session_none : (K : Engine) (i : Invocation) (is : List Invocation) (st : Option ℕ) (w : World) (n : ℕ) → function_export K.program.module_ i.name ≡ None → session K (i ∷ is) st w n ≡ []
+pub session_none : (K : Engine) (i : Invocation) (is : List Invocation) (st : Option ℕ) (w : World) (n : ℕ) → function_export K.program.module_ i.name ≡ None → session K (i ∷ is) st w n ≡ []
 session_none K i is st w n e = rw (e, session) refl
 
 module _ (M : Engine) where
@@ -99,7 +99,7 @@ module _ (M : Engine) where
   go_on_bare (bad_reply call r c) n f args = refl
   go_on_bare stuck n f args = refl
 
-  invoked_bare : (st : Option ℕ) (n f : ℕ) (args : List Value) (w : World) → invoked N st n f args w ≡ bare_ran (invoked M st n f args w)
+  pub invoked_bare : (st : Option ℕ) (n f : ℕ) (args : List Value) (w : World) → invoked N st n f args w ≡ bare_ran (invoked M st n f args w)
   invoked_bare None n f args w = run_entry_bare n f args w []
   invoked_bare (Some start) n f args w =
       let e = run_function M n start (function_at M.program start) [] w [] in
@@ -157,6 +157,9 @@ module _ (m : Module) where
   table_same [] t = refl
   table_same (e ∷ es) t = ap (λ n. fold (λ table e. over table (element_at m' e) (map Some e.functions)) (over t n (map Some e.functions)) (map element_code es)) (element_same e) ∙ table_same es (over t (element_at m e) (map Some e.functions))
 
+  pub table_bare : start_table m' ≡ start_table m
+  table_bare = table_same m.elements (replicate (table_min m.tables) None)
+
   memory_same : (ss : List DataSeg) (k : Memory) → fold (λ k s. record k { bytes = over k.bytes (data_at m' s) s.bytes }) k (map segment_code ss) ≡ fold (λ k s. record k { bytes = over k.bytes (data_at m s) s.bytes }) k ss
   memory_same [] k = refl
   memory_same (s ∷ ss) k = ap (λ n. fold (λ k s. record k { bytes = over k.bytes (data_at m' s) s.bytes }) (record k { bytes = over k.bytes n s.bytes }) (map segment_code ss)) (data_same s) ∙ memory_same ss (record k { bytes = over k.bytes (data_at m s) s.bytes })
@@ -165,14 +168,14 @@ module _ (m : Module) where
   memory_option None = refl
   memory_option (Some k) = ap Some (memory_same m.segments k)
 
-  world_same : (replies : List Reply) → start_world m' replies ≡ start_world m replies
+  pub world_same : (replies : List Reply) → start_world m' replies ≡ start_world m replies
   world_same replies = λ i. record { globals = globals_same i; memory = memory_option (empty_memory m.memories) i; table = table_same m.elements (replicate (table_min m.tables) None) i; replies = replies; served = [] }
 
   by_element_same : (o : Option ℕ) → by_element m' o ≡ by_element m o
   by_element_same None = ap (λ bs. by_data (first_false 0 bs)) (data_tests m.segments)
   by_element_same (Some i) = refl
 
-  cause_same : (is : List Invocation) → cause_of m' is ≡ cause_of m is
+  pub cause_same : (is : List Invocation) → cause_of m' is ≡ cause_of m is
   cause_same [] = ap (λ bs. by_element m' (first_false 0 bs)) (element_tests m.elements) ∙ by_element_same (first_false 0 (map (element_fits m) m.elements))
   cause_same (i ∷ is) = ap (option_or (cause_of_entry m (function_export m i.name) i.args)) (cause_same is)
 
@@ -228,13 +231,13 @@ alike_to one other h = record { begun = h.begun; host_calls = h.host_calls; ends
 alike_from : (one other : Ran) → Alike one (bare_ran other) → Alike one other
 alike_from one other h = record { begun = h.begun; host_calls = h.host_calls; ends = ends_from one.outcome one.last other.last other h.ends; state = state_from one.last other.last h.state }
 
-all_to : (ones others : List Ran) → AllAlike ones others → AllAlike ones (map bare_ran others)
+pub all_to : (ones others : List Ran) → AllAlike ones others → AllAlike ones (map bare_ran others)
 all_to [] [] h = tt
 all_to [] (_ ∷ _) h = absurd h
 all_to (_ ∷ _) [] h = absurd h
 all_to (one ∷ ones) (other ∷ others) h = (alike_to one other h.0, all_to ones others h.1)
 
-all_from : (ones others : List Ran) → AllAlike ones (map bare_ran others) → AllAlike ones others
+pub all_from : (ones others : List Ran) → AllAlike ones (map bare_ran others) → AllAlike ones others
 all_from [] [] h = tt
 all_from [] (_ ∷ _) h = absurd h
 all_from (_ ∷ _) [] h = absurd h
@@ -249,7 +252,7 @@ simulates_bare factor p q r e s is replies d n d1 d2 nd =
     (x.0, x.1, x.2, all_from one (run r true is replies (d + 2) x.0) (subst (AllAlike one) same (all_to one (run q true is replies (d + 2) x.0) x.3)))
 
 -- and lowers its flag behind each trap
-last_from : (o : Option Config) (c : Config) → option_map bare_config o ≡ Some (bare_config c) → (b : Config) × (o ≡ Some b) × (bare_config b ≡ bare_config c)
+pub last_from : (o : Option Config) (c : Config) → option_map bare_config o ≡ Some (bare_config c) → (b : Config) × (o ≡ Some b) × (bare_config b ≡ bare_config c)
 last_from None c e = absurd (cc)
 last_from (Some b) c e = (b, refl, some_is e)
 

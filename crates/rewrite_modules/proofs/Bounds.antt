@@ -1,5 +1,6 @@
 -- The slots suffice.
-use Rattle.std.proofs.Common.{◌≡◌, ℕ, ◌≤◌, List, ◌∷◌, length, Option, Some, None, refl, arith, slice_get}
+use Rattle.std.proofs.Common.{◌≡◌, ℕ, ◌==◌, ◌≤◌, List, ◌∷◌, length, Option, Some, None, refl, subst, arith, slice_get, option_map}
+use Rattle.std.proofs.lemmas.List.{length-map}
 use Rattle.wasm_syntax.specs.declared.value.ValType.{ValType}
 use Rattle.wasm_syntax.specs.declared.instruction.Basic.{Basic}
 use Rattle.wasm_syntax.specs.declared.instruction.Basic.TheVariants.{Nop, Drop, Select, LocalGet, LocalSet, LocalTee, GlobalGet, GlobalSet, Load, Store, MemorySize, MemoryGrow, Const, Eqz, Unary, Compare, Binary, Convert, MemoryCopy, MemoryFill, Extend32, Extend64}
@@ -8,14 +9,43 @@ use Rattle.wasm_syntax.specs.Tree.{Unreachable, Br, BrIf, BrTable, Return, Call,
 use Rattle.wasm_syntax.specs.Module.{type_at}
 use Rattle.wasm_syntax.specs.Effect.{takes}
 use Rattle.wasm_syntax.specs.Machine.{result_of}
-use Rattle.rewrite_bodies.specs.Slots.{Place, Spilled, Known, Ctx, less, grown, result_type, after_plain, behind_call, behind_instr, peak}
-use Rattle.rewrite_bodies.specs.calls.Agreement.{FitsIn, Has, Room_call, Room_instr, Room}
+use Rattle.rewrite_bodies.specs.Slots.{Place, Spilled, place_type, Ctx, less, pushed, grown, uncopied, under, result_type, result_place, freed, after_plain, behind_call, peak}
+use Rattle.rewrite_bodies.specs.calls.Agreement.{FitsIn, Has, Room_call, Room}
 use Rattle.rewrite_bodies.proofs.Sim.{room_height}
+use Rattle.rewrite_bodies.proofs.TypedNodes.{result_is}
 use Rattle.rewrite_bodies.specs.Offsets.{SmallOffset}
 
 fits_of : (C : Ctx) (a : Option ValType) (es : List Place) (code : Nodes) → Room C (grown a es) code → FitsIn C a es
 fits_of C None es code r = tt
 fits_of C (Some t) es code r = omega (arith, room_height C (Spilled t ∷ es) code r)
+
+freed_length : (i : Basic) (es : List Place) → length (freed i es) ≡ length es
+freed_length (LocalSet x) es = length-map es (uncopied (λ y. x == y))
+freed_length (LocalTee x) es = length-map es (uncopied (λ y. x == y))
+freed_length Nop es = refl
+freed_length Drop es = refl
+freed_length Select es = refl
+freed_length (LocalGet x) es = refl
+freed_length (GlobalGet x) es = refl
+freed_length (GlobalSet x) es = refl
+freed_length (Load t al of) es = refl
+freed_length (Store t al of) es = refl
+freed_length MemorySize es = refl
+freed_length MemoryGrow es = refl
+freed_length MemoryCopy es = refl
+freed_length MemoryFill es = refl
+freed_length (Extend32 k) es = refl
+freed_length (Extend64 k) es = refl
+freed_length (Const v) es = refl
+freed_length (Eqz t) es = refl
+freed_length (Unary t op) es = refl
+freed_length (Compare t op) es = refl
+freed_length (Binary t op) es = refl
+freed_length (Convert c) es = refl
+
+fits_plain : (C : Ctx) (i : Basic) (q : Option Place) (es : List Place) (code : Nodes) → Room C (pushed q (freed i es)) code → FitsIn C (option_map place_type q) es
+fits_plain C i None es code r = tt
+fits_plain C i (Some p) es code r = omega (arith, room_height C (p ∷ freed i es) code r, freed_length i es)
 
 -- the offsets are small, and the types that are asked for have helpers
 abbrev pub Static : List ℕ → Nodes → Type 0
@@ -62,36 +92,13 @@ module _ (C : Ctx) (n : ℕ) where
   same_type_ es (Binary t op) = refl
   same_type_ es (Convert c) = refl
 
-  room_plain : (i : Basic) (es : List Place) (rest : Nodes) → ((es' : List Place) → peak C es' rest ≤ n → Room D es' rest) → SmallOffset i → peak C (after_plain C es i) rest ≤ n → SmallOffset i × FitsIn D (result_type D es i) (less (takes i) es) × Room D (after_plain D es i) rest
-  room_plain i es rest ih so h = let r = ih (after_plain C es i) h in rw same_type_ (so, fits_of D (result_type C es i) (less (takes i) es) rest r, r)
-
-  room_instr : (i : Basic) (es : List Place) (rest : Nodes) → ((es' : List Place) → peak C es' rest ≤ n → Room D es' rest) → SmallOffset i → behind_instr C i es (λ es'. peak C es' rest) ≤ n → Room_instr D i es (λ es'. Room D es' rest)
-  room_instr Nop es rest ih so h = room_plain Nop es rest ih so h
-  room_instr Drop es rest ih so h = room_plain Drop es rest ih so h
-  room_instr Select es rest ih so h = room_plain Select es rest ih so h
-  room_instr (LocalGet x) es rest ih so h = room_plain (LocalGet x) es rest ih so h
-  room_instr (LocalSet x) es rest ih so h = room_plain (LocalSet x) es rest ih so h
-  room_instr (LocalTee x) es rest ih so h = room_plain (LocalTee x) es rest ih so h
-  room_instr (GlobalGet x) es rest ih so h = room_plain (GlobalGet x) es rest ih so h
-  room_instr (GlobalSet x) es rest ih so h = room_plain (GlobalSet x) es rest ih so h
-  room_instr (Load t al of) es rest ih so h = room_plain (Load t al of) es rest ih so h
-  room_instr (Store t al of) es rest ih so h = room_plain (Store t al of) es rest ih so h
-  room_instr MemorySize es rest ih so h = room_plain MemorySize es rest ih so h
-  room_instr MemoryGrow es rest ih so h = room_plain MemoryGrow es rest ih so h
-  room_instr (Eqz t) es rest ih so h = room_plain (Eqz t) es rest ih so h
-  room_instr (Unary t op) es rest ih so h = room_plain (Unary t op) es rest ih so h
-  room_instr (Compare t op) es rest ih so h = room_plain (Compare t op) es rest ih so h
-  room_instr (Binary t op) es rest ih so h = room_plain (Binary t op) es rest ih so h
-  room_instr (Convert c) es rest ih so h = room_plain (Convert c) es rest ih so h
-  room_instr MemoryCopy es rest ih so h = room_plain MemoryCopy es rest ih so h
-  room_instr MemoryFill es rest ih so h = room_plain MemoryFill es rest ih so h
-  room_instr (Extend32 k) es rest ih so h = room_plain (Extend32 k) es rest ih so h
-  room_instr (Extend64 k) es rest ih so h = room_plain (Extend64 k) es rest ih so h
-  room_instr (Const v) es rest ih so h = ih (Known v ∷ es) h
-
   pub room_of : (nodes : Nodes) (es : List Place) → Static C.helpers nodes → peak C es nodes ≤ n → Room D es nodes
   room_of stop es s h = h
-  room_of (basic o i rest) es s h = (omega (arith, h), room_instr i es rest (λ es' q. room_of rest es' s.1 q) s.0 (omega (arith, h)))
+  room_of (basic o i rest) es s h =
+      let r = room_of rest (after_plain C es i) s.1 (omega (arith, h)) in
+      let left = less (takes i) es in
+      let f : FitsIn D (result_type C es i) left = subst (λ q. FitsIn D q left) (result_is C es i) (fits_plain D i (result_place C es i) left rest r) in
+      rw same_type_ (omega (arith, h), s.0, f, r)
   room_of (jump o Unreachable rest) es s h = (omega (arith, h), tt)
   room_of (jump o (Br l) rest) es s h = (omega (arith, h), tt)
   room_of (jump o (BrIf l) rest) es s h = (omega (arith, h), room_of rest (less 1 es) s (omega (arith, h)))
@@ -100,11 +107,12 @@ module _ (C : Ctx) (n : ℕ) where
   room_of (jump o (Call f) rest) es s h = (omega (arith, h), room_call (type_at C.source f) es rest (λ es' q. room_of rest es' s q) (omega (arith, h)))
   room_of (jump o (CallIndirect t) rest) es s h = (omega (arith, h), (s.0, room_call (slice_get C.source.types t) (less 1 es) rest (λ es' q. room_of rest es' s.1 q) (omega (arith, h))))
   room_of (block o a inner en rest) es s h =
-      let r = room_of rest (grown a es) s.1 (omega (arith, h)) in
-      (omega (arith, h), room_of inner es s.0 (omega (arith, h)), fits_of D a es rest r, r)
+      let r = room_of rest (grown a (under es)) s.1 (omega (arith, h)) in
+      (omega (arith, h), room_of inner (under es) s.0 (omega (arith, h)), fits_of D a (under es) rest r, r)
   room_of (loop o a inner en rest) es s h =
-      let r = room_of rest (grown a es) s.1 (omega (arith, h)) in
-      (omega (arith, h), room_of inner es s.0 (omega (arith, h)), fits_of D a es rest r, r)
+      let r = room_of rest (grown a (under es)) s.1 (omega (arith, h)) in
+      (omega (arith, h), room_of inner (under es) s.0 (omega (arith, h)), fits_of D a (under es) rest r, r)
   room_of (choose o a x ea y en rest) es s h =
-      let r = room_of rest (grown a (less 1 es)) s.2 (omega (arith, h)) in
-      (omega (arith, h), room_of x (less 1 es) s.0 (omega (arith, h)), room_of y (less 1 es) s.1 (omega (arith, h)), fits_of D a (less 1 es) rest r, r)
+      let left = under (less 1 es) in
+      let r = room_of rest (grown a left) s.2 (omega (arith, h)) in
+      (omega (arith, h), room_of x left s.0 (omega (arith, h)), room_of y left s.1 (omega (arith, h)), fits_of D a left rest r, r)

@@ -1,5 +1,5 @@
 -- How deep blocks are nested in rewritten code.
-use Rattle.std.proofs.Common.{◌≡◌, ℕ, zero, suc, ◌+◌, List, [], ◌∷◌, length, Option, Some, None, Bool, true, false, nat_lt, refl, ap, slice_get, option_map, ◌/◌, ◌-◌, ◌≤◌, max, map, ◌∙◌, arith}
+use Rattle.std.proofs.Common.{◌≡◌, ℕ, zero, suc, ◌+◌, List, [], ◌∷◌, length, Option, Some, None, Bool, true, false, nat_lt, if◌then◌else◌, ◌==◌, refl, ap, slice_get, option_map, ◌/◌, ◌-◌, ◌≤◌, max, map, ◌∙◌, arith}
 use Rattle.wasm_syntax.specs.declared.value.ValType.{ValType}
 use Rattle.wasm_syntax.specs.declared.instruction.Basic.{Basic}
 use Rattle.wasm_syntax.specs.declared.parts.FuncType.{FuncType}
@@ -16,11 +16,11 @@ use Rattle.int_ops.specs.declared.operators.Compare.TheVariants.{Eq}
 use Rattle.wasm_syntax.specs.declared.instruction.Convert.TheVariants.{ExtendU}
 use Rattle.wasm_syntax.specs.declared.instruction.Basic.TheVariants.{Nop, Drop, Select, LocalGet, LocalSet, LocalTee, GlobalGet, GlobalSet, Load, Store, MemorySize, MemoryGrow, MemoryCopy, MemoryFill, Const, Eqz, Unary, Compare, Binary, Convert, Extend32, Extend64}
 use Rattle.wasm_syntax.specs.declared.value.ValType.TheVariants.{I32, I64}
-use Rattle.rewrite_bodies.specs.Numbering.{import_count, mapped, frame_import, global_types}
-use Rattle.rewrite_bodies.specs.Slots.{Place, place_type, Ctx, result_at, kind_at, offset_at, less, grown, result_type, after_plain, Spilled, Known}
-use Rattle.rewrite_bodies.specs.Pieces.{get, set, const, i32, call, if_any, fetch, load, store, to_result, from_result}
+use Rattle.rewrite_bodies.specs.Numbering.{import_count, mapped, frame_import, global_types, doubles}
+use Rattle.rewrite_bodies.specs.Slots.{Place, place_type, Ctx, slot, kind_at, offset_at, less, grown, under, result_place, after_plain, Spilled, Known, Copied}
+use Rattle.rewrite_bodies.specs.Pieces.{get, set, const, i32, call, if_any, fetch, load, keep, store, reload, spill_one, spill, drops}
 use Rattle.rewrite_bodies.specs.Guards.{least, minus_one, guard_zero, guard_signed, past_end, out_test, guard_memory, range_test, guard, can_trap, kind, helper}
-use Rattle.rewrite_bodies.specs.Rewrite.{Info, result_back, body_at, hand_value, hand, hand_top, to_exit, unwind, test_flag, test_both, unwind_kind, tested, guarded, plain, instr, carries, end_gives, ending, go_to, branch_to, branch_if, table, after_call, after_direct, call_code, helper_of, indirect_code, control, rewrite, hand_locals, zero_result, raise_flag, exit_code, body, in_block, in_loop, in_body}
+use Rattle.rewrite_bodies.specs.Rewrite.{hand_value, hand, hand_top, to_exit, unwind, test_flag, test_both, unwind_kind, tested, guarded, free, plain, with_result, after_call, after_direct, call_code, helper_of, past_shown, indirect_code, control, rewrite, hand_locals, zero_result, raise_flag, exit_code, body}
 use Rattle.rewrite_modules.specs.Wrappers.{get_all, tell_globals, after_wrapped, wrapper}
 use Rattle.wasm_syntax.specs.declared.instruction.Instr.{Instr}
 use Rattle.wasm_syntax.specs.declared.instruction.Instr.TheVariants as instrs
@@ -168,6 +168,7 @@ module _ (C : Ctx) where
   low_fetch : (lv : ℕ) (e : Place) (h : ℕ) (k : Nodes) → Low lv k → Low lv (fetch C e h k)
   low_fetch lv (Spilled t) h k tk = tk
   low_fetch lv (Known v) h k tk = tk
+  low_fetch lv (Copied t x) h k tk = tk
 
   low_load : (lv : ℕ) (m : ℕ) (es : List Place) (k : Nodes) → Low lv k → Low lv (load C m es k)
   low_load lv zero es k tk = tk
@@ -178,30 +179,44 @@ module _ (C : Ctx) where
   low_store lv None es k tk = tk
   low_store lv (Some t) es k tk = tk
 
-  low_to : (lv : ℕ) (t : Option ValType) (es : List Place) (k : Nodes) → Low lv k → Low lv (to_result C t es k)
-  low_to lv None es k tk = tk
-  low_to lv (Some t) [] k tk = tk
-  low_to lv (Some t) (e ∷ es) k tk = low_fetch lv e (length es) (set C (result_at C t) k) tk
+  low_keep : (lv : ℕ) (q : Option Place) (es : List Place) (k : Nodes) → Low lv k → Low lv (keep C q es k)
+  low_keep lv None es k tk = tk
+  low_keep lv (Some (Spilled t)) es k tk = tk
+  low_keep lv (Some (Known v)) es k tk = tk
+  low_keep lv (Some (Copied t x)) es k tk = tk
 
-  low_from : (lv : ℕ) (t : Option ValType) (es : List Place) (k : Nodes) → Low lv k → Low lv (from_result C t es k)
-  low_from lv None es k tk = tk
-  low_from lv (Some t) es k tk = tk
+  low_reload : (lv : ℕ) (t : Option ValType) (es : List Place) (k : Nodes) → Low lv k → Low lv (reload C t es k)
+  low_reload lv None es k tk = tk
+  low_reload lv (Some t) es k tk = tk
 
-  low_back : (lv : ℕ) (t : Option ValType) → Low lv (result_back C t)
-  low_back lv None = tt
-  low_back lv (Some t) = tt
+  low_drops : (lv : ℕ) (m : ℕ) (k : Nodes) → Low lv k → Low lv (drops m k)
+  low_drops lv zero k tk = tk
+  low_drops lv (suc m) k tk = low_drops lv m k tk
+
+  low_if : (lv : ℕ) (q : Bool) (a b : Nodes) → Low lv a → Low lv b → Low lv (if q then a else b)
+  low_if lv true a b x y = x
+  low_if lv false a b x y = y
+
+  low_spill_one : (lv : ℕ) (these : ℕ → Bool) (e : Place) (h : ℕ) (k : Nodes) → Low lv k → Low lv (spill_one C these e h k)
+  low_spill_one lv these (Spilled t) h k tk = tk
+  low_spill_one lv these (Known v) h k tk = tk
+  low_spill_one lv these (Copied t x) h k tk = low_if lv (these x) (basic 0 (LocalGet x) (set C (slot t h) k)) k tk tk
+
+  low_spill : (lv : ℕ) (these : ℕ → Bool) (es : List Place) (k : Nodes) → Low lv k → Low lv (spill C these es k)
+  low_spill lv these [] k tk = tk
+  low_spill lv these (e ∷ es) k tk = low_spill lv these es (spill_one C these e (length es) k) (low_spill_one lv these e (length es) k tk)
 
   low_hand : (lv : ℕ) (es : List Place) (k : Nodes) → Low lv k → Low lv (hand C es k)
   low_hand lv [] k tk = tk
   low_hand lv (e ∷ es) k tk = low_hand lv es (fetch C e (length es) (hand_value C (place_type e) k)) (low_fetch lv e (length es) (hand_value C (place_type e) k) tk)
 
-  low_unwind : (lv : ℕ) (ls : List Info) (es : List Place) (o : ℕ) → Low lv (unwind C ls es o)
-  low_unwind lv ls es o = low_hand lv es (jump 0 (Br (suc (length ls))) stop) tt
+  low_unwind : (lv : ℕ) (ls : ℕ) (es : List Place) (o : ℕ) → Low lv (unwind C ls es o)
+  low_unwind lv ls es o = low_hand lv es (jump 0 (Br (suc ls)) stop) tt
 
-  low_flag : (d : ℕ) (ls : List Info) (es : List Place) (o : ℕ) (k : Nodes) → Low (suc (suc d)) k → Low (suc (suc d)) (test_flag C ls es o k)
+  low_flag : (d : ℕ) (ls : ℕ) (es : List Place) (o : ℕ) (k : Nodes) → Low (suc (suc d)) k → Low (suc (suc d)) (test_flag C ls es o k)
   low_flag d ls es o k tk = (low_unwind (suc d) ls es o, tt, tk)
 
-  low_tested : (d : ℕ) (ls : List Info) (es : List Place) (o : ℕ) (says_kind : Nodes → Nodes) (k : Nodes) → ((arm : Nodes) → Low (suc d) arm → Low (suc d) (says_kind arm)) → Low (suc (suc d)) k → Low (suc (suc d)) (tested C ls es o says_kind k)
+  low_tested : (d : ℕ) (ls : ℕ) (es : List Place) (o : ℕ) (says_kind : Nodes → Nodes) (k : Nodes) → ((arm : Nodes) → Low (suc d) arm → Low (suc d) (says_kind arm)) → Low (suc (suc d)) k → Low (suc (suc d)) (tested C ls es o says_kind k)
   low_tested d ls es o says_kind k says tk = (says (unwind_kind C ls es o) (low_unwind (suc d) ls es o), tt, tk)
 
   -- ---- guards
@@ -327,7 +342,7 @@ module _ (C : Ctx) where
   low_guard lv (Extend32 j) es k tk = tk
   low_guard lv (Extend64 j) es k tk = tk
 
-  low_guarded : (d : ℕ) (q : Bool) (ls : List Info) (es : List Place) (o : ℕ) (i : Basic) (k : Nodes) → Low (suc (suc d)) k → Low (suc (suc d)) (guarded q C ls es o i k)
+  low_guarded : (d : ℕ) (q : Bool) (ls : ℕ) (es : List Place) (o : ℕ) (i : Basic) (k : Nodes) → Low (suc (suc d)) k → Low (suc (suc d)) (guarded q C ls es o i k)
   low_guarded d false ls es o i k tk = tk
   low_guarded d true ls es o i k tk = low_guard (suc (suc d)) i es (tested C ls es o (kind C i es) k) (low_tested d ls es o (kind C i es) k (λ arm w. low_kind (suc d) i es arm w) tk)
 
@@ -336,76 +351,66 @@ module _ (C : Ctx) where
   abbrev AllLow : ℕ → (List Place → Nodes) → Type 0
   AllLow d go = (es : List Place) → Low (suc (suc d)) (go es)
 
-  low_plain : (d : ℕ) (ls : List Info) (es : List Place) (o : ℕ) (i : Basic) (go : List Place → Nodes) → AllLow d go → Low (suc (suc d)) (plain C ls es o i go)
-  low_plain d ls es o i go h =
-      let k1 = go (after_plain C es i) in
-      let k2 = store C (result_type C es i) (less (takes i) es) k1 in
-      low_guarded d (can_trap i) ls es o i (load C (takes i) es (basic 0 i k2)) (low_load (suc (suc d)) (takes i) es (basic 0 i k2) (low_store (suc (suc d)) (result_type C es i) (less (takes i) es) k1 (h (after_plain C es i))))
+  low_free : (lv : ℕ) (i : Basic) (es : List Place) (k : Nodes) → Low lv k → Low lv (free C i es k)
+  low_free lv (LocalSet x) es k tk = low_spill lv (λ y. x == y) es k tk
+  low_free lv (LocalTee x) es k tk = low_spill lv (λ y. x == y) es k tk
+  low_free lv Nop es k tk = tk
+  low_free lv Drop es k tk = tk
+  low_free lv Select es k tk = tk
+  low_free lv (LocalGet x) es k tk = tk
+  low_free lv (GlobalGet x) es k tk = tk
+  low_free lv (GlobalSet x) es k tk = tk
+  low_free lv (Load t al of) es k tk = tk
+  low_free lv (Store t al of) es k tk = tk
+  low_free lv MemorySize es k tk = tk
+  low_free lv MemoryGrow es k tk = tk
+  low_free lv MemoryCopy es k tk = tk
+  low_free lv MemoryFill es k tk = tk
+  low_free lv (Const v) es k tk = tk
+  low_free lv (Eqz t) es k tk = tk
+  low_free lv (Unary t op) es k tk = tk
+  low_free lv (Compare t op) es k tk = tk
+  low_free lv (Binary t op) es k tk = tk
+  low_free lv (Convert c) es k tk = tk
+  low_free lv (Extend32 j) es k tk = tk
+  low_free lv (Extend64 j) es k tk = tk
 
-  low_instr : (d : ℕ) (i : Basic) (ls : List Info) (es : List Place) (o : ℕ) (go : List Place → Nodes) → AllLow d go → Low (suc (suc d)) (instr C ls es o i go)
-  low_instr d (Const v) ls es o go h = h (Known v ∷ es)
-  low_instr d Nop ls es o go h = low_plain d ls es o Nop go h
-  low_instr d Drop ls es o go h = low_plain d ls es o Drop go h
-  low_instr d Select ls es o go h = low_plain d ls es o Select go h
-  low_instr d (LocalGet x) ls es o go h = low_plain d ls es o (LocalGet x) go h
-  low_instr d (LocalSet x) ls es o go h = low_plain d ls es o (LocalSet x) go h
-  low_instr d (LocalTee x) ls es o go h = low_plain d ls es o (LocalTee x) go h
-  low_instr d (GlobalGet x) ls es o go h = low_plain d ls es o (GlobalGet x) go h
-  low_instr d (GlobalSet x) ls es o go h = low_plain d ls es o (GlobalSet x) go h
-  low_instr d (Load t al of) ls es o go h = low_plain d ls es o (Load t al of) go h
-  low_instr d (Store t al of) ls es o go h = low_plain d ls es o (Store t al of) go h
-  low_instr d MemorySize ls es o go h = low_plain d ls es o MemorySize go h
-  low_instr d MemoryGrow ls es o go h = low_plain d ls es o MemoryGrow go h
-  low_instr d MemoryCopy ls es o go h = low_plain d ls es o MemoryCopy go h
-  low_instr d MemoryFill ls es o go h = low_plain d ls es o MemoryFill go h
-  low_instr d (Eqz t) ls es o go h = low_plain d ls es o (Eqz t) go h
-  low_instr d (Unary t op) ls es o go h = low_plain d ls es o (Unary t op) go h
-  low_instr d (Compare t op) ls es o go h = low_plain d ls es o (Compare t op) go h
-  low_instr d (Binary t op) ls es o go h = low_plain d ls es o (Binary t op) go h
-  low_instr d (Convert c) ls es o go h = low_plain d ls es o (Convert c) go h
-  low_instr d (Extend32 j) ls es o go h = low_plain d ls es o (Extend32 j) go h
-  low_instr d (Extend64 j) ls es o go h = low_plain d ls es o (Extend64 j) go h
+  low_plain : (d : ℕ) (ls : ℕ) (es : List Place) (o : ℕ) (i : Basic) (go : List Place → Nodes) → AllLow d go → Low (suc (suc d)) (plain C ls es o i go)
+  low_plain d ls es o i go h =
+      let left = less (takes i) es in
+      let k1 = go (after_plain C es i) in
+      let k2 = basic 0 i (keep C (result_place C es i) left k1) in
+      low_guarded d (can_trap i) ls es o i (free C i left k2) (low_free (suc (suc d)) i left k2 (low_keep (suc (suc d)) (result_place C es i) left k1 (h (after_plain C es i))))
 
   -- ---- control
-
-  low_go : (lv : ℕ) (q : Option Info) (es : List Place) (k : Nodes) → Low lv k → Low lv (go_to C q es k)
-  low_go lv None es k tk = tt
-  low_go lv (Some i) es k tk = low_to lv (carries i) es k tk
-
-  low_ending : (lv : ℕ) (ls : List Info) (es : List Place) → Low lv (ending C ls es)
-  low_ending lv [] es = tt
-  low_ending lv (i ∷ ls) es = low_to lv (end_gives i) es stop tt
-
-  low_branch_if : (d : ℕ) (ls : List Info) (es : List Place) (l : ℕ) (go : List Place → Nodes) → AllLow d go → Low (suc (suc d)) (branch_if C ls es l go)
-  low_branch_if d ls [] l go h = tt
-  low_branch_if d ls (e ∷ es) l go h = low_fetch (suc (suc d)) e (length es) (if_any (branch_to C (slice_get ls l) es (suc l)) (go es)) (low_go (suc d) (slice_get ls l) es (jump 0 (Br (suc l)) stop) tt, tt, h es)
-
-  low_table : (d : ℕ) (ls : List Info) (es : List Place) (ts : List ℕ) (default : ℕ) → Low (suc (suc d)) (table C ls es ts default)
-  low_table d ls [] ts default = tt
-  low_table d ls (e ∷ es) ts default = low_go (suc (suc d)) (slice_get ls default) es (fetch C e (length es) (jump 0 (BrTable ts default) stop)) (low_fetch (suc (suc d)) e (length es) (jump 0 (BrTable ts default) stop) tt)
 
   low_hand_top : (lv : ℕ) (m : ℕ) (es : List Place) (k : Nodes) → Low lv k → Low lv (hand_top C m es k)
   low_hand_top lv zero es k tk = tk
   low_hand_top lv (suc m) [] k tk = tk
   low_hand_top lv (suc m) (e ∷ es) k tk = low_hand_top lv m es (fetch C e (length es) (hand_value C (place_type e) k)) (low_fetch lv e (length es) (hand_value C (place_type e) k) tk)
 
-  low_both : (d : ℕ) (ls : List Info) (es : List Place) (o : ℕ) (others k : Nodes) → Low d others → Low (suc (suc d)) k → Low (suc (suc d)) (test_both C ls es o others k)
+  low_both : (d : ℕ) (ls : ℕ) (es : List Place) (o : ℕ) (others k : Nodes) → Low d others → Low (suc (suc d)) k → Low (suc (suc d)) (test_both C ls es o others k)
   low_both d ls es o others k to tk = (low_hand (suc d) es (get C (kind_at C) (if_any others (to_exit ls))) (to, tt, tt), tt, tk)
 
-  low_after : (d : ℕ) (ls : List Info) (r : Option ValType) (es : List Place) (o : ℕ) (go : List Place → Nodes) → AllLow d go → Low (suc (suc d)) (after_call C ls r es o go)
-  low_after d ls r es o go h = low_store (suc (suc d)) r es (test_flag C ls es o (go (grown r es))) (low_flag d ls es o (go (grown r es)) (h (grown r es)))
+  low_result : (d : ℕ) (r : Option ValType) (es : List Place) (go : List Place → Nodes) → AllLow d go → Low (suc (suc d)) (with_result C r es go)
+  low_result d r es go h = low_keep (suc (suc d)) (option_map Spilled r) es (go (grown r es)) (h (grown r es))
 
-  low_direct : (d : ℕ) (q : Bool) (ls : List Info) (r : Option ValType) (es : List Place) (o : ℕ) (go : List Place → Nodes) → AllLow d go → Low (suc (suc d)) (after_direct q C ls r es o go)
-  low_direct d true ls r es o go h = low_store (suc (suc d)) r es (go (grown r es)) (h (grown r es))
+  low_after : (d : ℕ) (ls : ℕ) (r : Option ValType) (es : List Place) (o : ℕ) (go : List Place → Nodes) → AllLow d go → Low (suc (suc d)) (after_call C ls r es o go)
+  low_after d ls r es o go h = low_result d r es (λ es'. test_flag C ls es o (go es')) (λ es'. low_flag d ls es o (go es') (h es'))
+
+  low_direct : (d : ℕ) (q : Bool) (ls : ℕ) (r : Option ValType) (es : List Place) (o : ℕ) (go : List Place → Nodes) → AllLow d go → Low (suc (suc d)) (after_direct q C ls r es o go)
+  low_direct d true ls r es o go h = low_result d r es go h
   low_direct d false ls r es o go h = low_after d ls r es o go h
 
-  low_call : (d : ℕ) (q : Option FuncType) (ls : List Info) (es : List Place) (o f : ℕ) (go : List Place → Nodes) → AllLow d go → Low (suc (suc d)) (call_code C ls es o f q go)
+  low_call : (d : ℕ) (q : Option FuncType) (ls : ℕ) (es : List Place) (o f : ℕ) (go : List Place → Nodes) → AllLow d go → Low (suc (suc d)) (call_code C ls es o f q go)
   low_call d None ls es o f go h = tt
-  low_call d (Some type) ls es o f go h =
-      let k = after_direct (nat_lt f (import_count C.source)) C ls (result_of type) (less (length type.params) es) o go in
-      low_load (suc (suc d)) (length type.params) es (call (mapped C.source f) k) (low_direct d (nat_lt f (import_count C.source)) ls (result_of type) (less (length type.params) es) o go h)
+  low_call d (Some type) ls es o f go h = low_direct d (nat_lt f (import_count C.source)) ls (result_of type) (less (length type.params) es) o go h
 
-  low_indirect : (d : ℕ) (q : Option FuncType) (ls : List Info) (es : List Place) (o t : ℕ) (go : List Place → Nodes) → AllLow d go → Low (suc (suc d)) (indirect_code C ls es o t q go)
+  low_past : (d : ℕ) (q : Bool) (k : Nodes) → Low d k → Low d (past_shown q C k)
+  low_past d false k h = h
+  low_past d true k h = h
+
+  low_indirect : (d : ℕ) (q : Option FuncType) (ls : ℕ) (es : List Place) (o t : ℕ) (go : List Place → Nodes) → AllLow d go → Low (suc (suc d)) (indirect_code C ls es o t q go)
   low_indirect d None ls es o t go h = tt
   low_indirect d (Some type) ls [] o t go h = tt
   low_indirect d (Some type) ls (i ∷ es) o t go h =
@@ -413,36 +418,44 @@ module _ (C : Ctx) where
       let left = less n es in
       let r = result_of type in
       let others = hand_top C (suc n) (i ∷ es) stop in
-      let next_ = go (grown r left) in
-      let inner = jump 0 (CallIndirect t) (store C r left stop) in
+      let back = reload C r left (go (grown r left)) in
+      let next_ = drops (suc n) back in
+      let call_ = jump 0 (CallIndirect t) (store C r left stop) in
+      let inner = past_shown (doubles C.source) C call_ in
       let k1 = set C (kind_at C) (get C (kind_at C) (basic 0 (Eqz I32) (if_any (load C (suc n) (i ∷ es) inner) (test_both C ls left o others next_)))) in
-      low_fetch (suc (suc d)) i (length es) (call (helper_of C t) k1) (low_load (suc d) (suc n) (i ∷ es) inner (low_store (suc d) r left stop tt), tt, low_both d ls left o others next_ (low_hand_top d (suc n) (i ∷ es) stop tt) (h (grown r left)))
+      let low_back = low_drops (suc (suc d)) (suc n) back (low_reload (suc (suc d)) r left (go (grown r left)) (h (grown r left))) in
+      low_fetch (suc (suc d)) i (length es) (call (helper_of C t) k1)
+      (low_load (suc d) (suc n) (i ∷ es) inner (low_past (suc d) (doubles C.source) call_ (low_store (suc d) r left stop tt)), tt, low_both d ls left o others next_ (low_hand_top d (suc n) (i ∷ es) stop tt) low_back)
 
-  low_control : (d : ℕ) (j : Jump) (ls : List Info) (es : List Place) (o : ℕ) (go : List Place → Nodes) → AllLow d go → Low (suc (suc d)) (control C ls es o j go)
+  low_control : (d : ℕ) (j : Jump) (ls : ℕ) (es : List Place) (o : ℕ) (go : List Place → Nodes) → AllLow d go → Low (suc (suc d)) (control C ls es o j go)
   low_control d Unreachable ls es o go h = low_tested d ls es o (const (i32 1)) (jump 0 Unreachable stop) (λ arm w. w) tt
-  low_control d (Br l) ls es o go h = low_go (suc (suc d)) (slice_get ls l) es (jump 0 (Br l) stop) tt
-  low_control d (BrIf l) ls es o go h = low_branch_if d ls es l go h
-  low_control d (BrTable ts default) ls es o go h = low_table d ls es ts default
-  low_control d Return ls es o go h = low_to (suc (suc d)) C.result es (jump 0 (Br (body_at ls)) stop) tt
+  low_control d (Br l) ls es o go h = tt
+  low_control d (BrIf l) ls es o go h = h (less 1 es)
+  low_control d (BrTable ts default) ls es o go h = tt
+  low_control d Return ls es o go h = tt
   low_control d (Call f) ls es o go h = low_call d (type_at C.source f) ls es o f go h
   low_control d (CallIndirect t) ls es o go h = low_indirect d (slice_get C.source.types t) ls es o t go h
 
   -- ---- the nodes
 
-  low_rewrite : (d : ℕ) (nodes : Nodes) (ls : List Info) (es : List Place) → Low d nodes → Low (suc (suc d)) (rewrite C ls es nodes)
-  low_rewrite d stop ls es h = low_ending (suc (suc d)) ls es
-  low_rewrite d (basic o i rest) ls es h = low_instr d i ls es o (λ es'. rewrite C ls es' rest) (λ es'. low_rewrite d rest ls es' h)
+  low_rewrite : (d : ℕ) (nodes : Nodes) (ls : ℕ) (es : List Place) → Low d nodes → Low (suc (suc d)) (rewrite C ls es nodes)
+  low_rewrite d stop ls es h = tt
+  low_rewrite d (basic o i rest) ls es h = low_plain d ls es o i (λ es'. rewrite C ls es' rest) (λ es'. low_rewrite d rest ls es' h)
   low_rewrite d (jump o j rest) ls es h = low_control d j ls es o (λ es'. rewrite C ls es' rest) (λ es'. low_rewrite d rest ls es' h)
   low_rewrite zero (block o t inner en rest) ls es h = absurd h
-  low_rewrite (suc d) (block o t inner en rest) ls es h = (low_rewrite d inner (in_block t ∷ ls) es h.0, low_from (suc (suc (suc d))) t es (rewrite C ls (grown t es) rest) (low_rewrite (suc d) rest ls (grown t es) h.1))
+  low_rewrite (suc d) (block o t inner en rest) ls es h =
+      low_spill (suc (suc (suc d))) (λ x. true) es (block 0 t (rewrite C (suc ls) (under es) inner) 0 (with_result C t (under es) (λ es'. rewrite C ls es' rest)))
+      (low_rewrite d inner (suc ls) (under es) h.0, low_result (suc d) t (under es) (λ es'. rewrite C ls es' rest) (λ es'. low_rewrite (suc d) rest ls es' h.1))
   low_rewrite zero (loop o t inner en rest) ls es h = absurd h
-  low_rewrite (suc d) (loop o t inner en rest) ls es h = (low_rewrite d inner (in_loop t ∷ ls) es h.0, low_from (suc (suc (suc d))) t es (rewrite C ls (grown t es) rest) (low_rewrite (suc d) rest ls (grown t es) h.1))
+  low_rewrite (suc d) (loop o t inner en rest) ls es h =
+      low_spill (suc (suc (suc d))) (λ x. true) es (loop 0 t (rewrite C (suc ls) (under es) inner) 0 (with_result C t (under es) (λ es'. rewrite C ls es' rest)))
+      (low_rewrite d inner (suc ls) (under es) h.0, low_result (suc d) t (under es) (λ es'. rewrite C ls es' rest) (λ es'. low_rewrite (suc d) rest ls es' h.1))
   low_rewrite zero (choose o t a ea b en rest) ls es h = absurd h
-  low_rewrite (suc d) (choose o t a ea b en rest) ls [] h = tt
-  low_rewrite (suc d) (choose o t a ea b en rest) ls (e ∷ es) h =
-      let k = from_result C t es (rewrite C ls (grown t es) rest) in
-      low_fetch (suc (suc (suc d))) e (length es) (choose 0 None (rewrite C (in_block t ∷ ls) es a) (option_map (λ at. 0) ea) (rewrite C (in_block t ∷ ls) es b) 0 k)
-      (low_rewrite d a (in_block t ∷ ls) es h.0, low_rewrite d b (in_block t ∷ ls) es h.1, low_from (suc (suc (suc d))) t es (rewrite C ls (grown t es) rest) (low_rewrite (suc d) rest ls (grown t es) h.2))
+  low_rewrite (suc d) (choose o t a ea b en rest) ls es h =
+      let left = under (less 1 es) in
+      low_spill (suc (suc (suc d))) (λ x. true) (less 1 es)
+      (choose 0 t (rewrite C (suc ls) left a) (option_map (λ at. 0) ea) (rewrite C (suc ls) left b) 0 (with_result C t left (λ es'. rewrite C ls es' rest)))
+      (low_rewrite d a (suc ls) left h.0, low_rewrite d b (suc ls) left h.1, low_result (suc d) t left (λ es'. rewrite C ls es' rest) (λ es'. low_rewrite (suc d) rest ls es' h.2))
 
   -- ---- the exit
 
@@ -460,7 +473,7 @@ module _ (C : Ctx) where
       low_locals lv 0 C.locals (get C (kind_at C) (const (i32 C.index) (get C (offset_at C) (const (i32 (length C.locals)) (call (frame_import C.source) (raise_flag C k9)))))) (low_zero_result lv C.result (jump 0 Return stop) tt)
 
   pub low_body : (d : ℕ) (nodes : Nodes) → Low d nodes → Low (suc (suc (suc (suc d)))) (body C nodes)
-  low_body d nodes h = ((low_rewrite d nodes (in_body C.result ∷ []) [] h, low_back (suc (suc (suc d))) C.result), low_exit (suc (suc (suc (suc d)))))
+  low_body d nodes h = ((low_rewrite d nodes 1 [] h, tt), low_exit (suc (suc (suc (suc d)))))
 
 -- ---- wrappers and helpers
 

@@ -46,6 +46,7 @@ given = record {
   pages = tt;
   few_locals = omega arith;
   few_heights = omega arith;
+  few_globals_doubled = λ d. omega arith;
   few_globals = λ name f e. omega arith;
 }
 

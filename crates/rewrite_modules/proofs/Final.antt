@@ -16,7 +16,7 @@ use Rattle.wasm_syntax.specs.declared.host.Reply.{Reply}
 use Rattle.wasm_syntax.specs.declared.host.CollectorCall.{CollectorCall}
 use Rattle.wasm_syntax.specs.Machine.{Frame, Config, config, Engine, Stepped, next, ends, traps, no_reply, bad_reply, stuck, result_of, entered, host_call}
 use Rattle.rewrite_bodies.specs.Guards.{first_table}
-use Rattle.rewrite_bodies.specs.Numbering.{mapped, global_types, wrapped, wrapper_base}
+use Rattle.rewrite_bodies.specs.Numbering.{is_in, element_functions, mapped, global_types, wrapped, wrapper_base}
 use Rattle.rewrite_bodies.specs.Pieces.{call, tree_of}
 use Rattle.std.proofs.lemmas.List.{length-map}
 use Rattle.rewrite_bodies.specs.calls.Agreement.{Wit, MemoryFits, WorldFits, FitsTop, FitsConfig, Wrap, flagged}
@@ -48,6 +48,7 @@ pub record Fits (p : Program) : Type 0 where
   pub memory : cause_of_segments p.module_ ≡ None → MemoryFits (start_memory p.module_)
   pub table : cause_of_segments p.module_ ≡ None → start_table p.module_ ≡ first_table p.module_
   pub exported : (name : List ℕ) (f : ℕ) → function_export p.module_ name ≡ Some f → (type : FuncType) × (type_at p.module_ f ≡ Some type)
+  pub listed : (f : ℕ) → is_in f (element_functions p.module_) ≡ true → (type : FuncType) × (type_at p.module_ f ≡ Some type)
   pub start : (s : ℕ) → p.module_.start ≡ Some s → type_at p.module_ s ≡ Some (record { params = []; results = [] })
   pub few_locals : (greatest p).0 ≤ 10000
   pub few_heights : (greatest p).1 ≤ 1000

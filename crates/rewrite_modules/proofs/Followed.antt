@@ -4,13 +4,14 @@ use Rattle.wasm_syntax.specs.declared.host.Reply.{Reply}
 use Rattle.wasm_syntax.specs.declared.value.Value.TheVariants as values
 use Rattle.wasm_syntax.specs.Module.{Program}
 use Rattle.wasm_syntax.specs.Machine.{Config, Engine, Stepped, next, ends, traps, no_reply, bad_reply, stuck}
-use Rattle.wasm_syntax.specs.Run.{Ran, trapped, running, ran_to, not_begun, Cause, Invocation, run}
+use Rattle.wasm_syntax.specs.Run.{Ran, trapped, running, ran_to, not_begun, Cause}
 use Rattle.wasm_laws.specs.calls.Runs.{with_more}
-use Rattle.wasm_laws.proofs.Longer.{longer_run}
 use Rattle.rewrite_bodies.specs.calls.Agreement.{flagged}
 use Rattle.rewrite_bodies.proofs.Control.{get_last}
 use Rattle.pm_text.proofs.Lists.{some_is}
 use Rattle.rewrite_modules.specs.Simulates.{Alike, AllAlike}
+use Rattle.rewrite_modules.specs.Entries.{Calling, run_calls}
+use Rattle.rewrite_modules.proofs.LongerCalls.{longer_calls}
 
 -- where the run trapped, the flag, which is the global of this number, is down
 abbrev pub Down : ℕ → Ran → Type 0
@@ -61,9 +62,9 @@ lowered M flag q j c c' left fl e k c1 o l =
     ap (λ x. slice_get x.world.globals flag) (sym (some_is l)) ∙ ap (λ w. slice_get w.globals flag) e ∙ get_last c.world.globals flag (values.I32 0) fl
 
 -- with fewer steps
-pub down_before : (p : Program) (flag : ℕ) (is : List Invocation) (replies : List Reply) (d n m : ℕ) → n ≤ m → ((i : ℕ) (r : Ran) → slice_get (run p true is replies d m) i ≡ Some r → Down flag r) → (i : ℕ) (r : Ran) → slice_get (run p true is replies d n) i ≡ Some r → Down flag r
+pub down_before : (p : Program) (flag : ℕ) (is : List Calling) (replies : List Reply) (d n m : ℕ) → n ≤ m → ((i : ℕ) (r : Ran) → slice_get (run_calls p true is replies d m) i ≡ Some r → Down flag r) → (i : ℕ) (r : Ran) → slice_get (run_calls p true is replies d n) i ≡ Some r → Down flag r
 down_before p flag is replies d n m le all i r at k c o l =
-    all i (with_more (m - n) r) (longer_run p true is replies d n m le i r at (λ e. still (sym o ∙ e))) k c o l
+    all i (with_more (m - n) r) (longer_calls p true is replies d n m le i r at (λ e. still (sym o ∙ e))) k c o l
   where
     still : trapped k ≡ running → ⊥
     still e = cc

@@ -9,8 +9,9 @@ use Rattle.wasm_syntax.specs.Module.{Program, is_function}
 use Rattle.rewrite_bodies.specs.Numbering.{wraps, import_count}
 use Rattle.rewrite_modules.specs.Collector.{memory_export}
 use Rattle.rewrite_modules.specs.Instrument.{new_exports, new_index, new_module}
-use Rattle.rewrite_modules.specs.Interface.{named, KeepsInterface}
+use Rattle.rewrite_modules.specs.Interface.{named, KeepsInterface, KeepsTable}
 use Rattle.rewrite_modules.proofs.Links.{get_right}
+use Rattle.rewrite_modules.proofs.Start.{table_start}
 use Rattle.pm_text.proofs.Lists.{get_front}
 
 names_kept : (m : Module) (k : ℕ) (es : List Export) → map named (new_exports m k es) ≡ map named es
@@ -29,6 +30,9 @@ index_kept m k [] i e at f = absurd (cc)
 index_kept m k (x ∷ es) zero e at f = let z : x ≡ e = cc in rw z (first_kept m k e f)
 index_kept m k (x ∷ es) (suc i) e at f = index_kept m (k + length (wraps m x)) es i e at f
 
+pub table_kept : (p : Program) → KeepsTable p.module_ (new_module p)
+table_kept p = record { tables = refl; entries = table_start p }
+
 pub interface : (p : Program) → KeepsInterface p.module_ (new_module p)
 interface p =
     let m = p.module_ in
@@ -40,7 +44,6 @@ interface p =
       takes_frame = get_right m.types _ 2 (length m.types + 2) refl;
       exports = map-append named (new_exports m 0 m.exports) (memory_export m.memories) ∙ ap (λ z. z ++ map named (memory_export m.memories)) (names_kept m 0 m.exports);
       indices = λ i e at f. get_front (new_exports m 0 m.exports) (memory_export m.memories) i e (index_kept m 0 m.exports i e at f);
-      tables = refl;
       memories = refl;
       segments = refl;
     }

@@ -7,6 +7,7 @@ pub mod Start
 pub mod Followed
 pub mod Final
 pub mod SlotMultiple
+pub mod Called
 pub mod Sessions
 pub mod Theorem
 pub mod Starts
@@ -14,6 +15,8 @@ pub mod Rows
 pub mod Divider
 pub mod BareStep
 pub mod BareRuns
+pub mod BareCalls
+pub mod LongerCalls
 pub mod BareSteps
 pub mod FlatOut
 pub mod Arms
@@ -21,6 +24,7 @@ pub mod WrittenOut
 pub mod Modules
 pub mod Copies
 pub mod Interface
+pub mod Listed
 pub mod ValidBodies
 pub mod ValidModule
 pub mod Depths

@@ -52,7 +52,7 @@ pub length-each : {A B : Type 0} (go : ℕ → B) (k : ℕ) (xs : List A) → le
 length-each go k [] = refl
 length-each go k (x ∷ xs) = ap suc (length-each go (suc k) xs)
 
-place_has : (t : ℕ) (ts : List ℕ) → Has t ts → slice_get ts (place_in t ts) ≡ Some t
+pub place_has : (t : ℕ) (ts : List ℕ) → Has t ts → slice_get ts (place_in t ts) ≡ Some t
 place_has t [] h = absurd (omega (arith, h))
 place_has t (u ∷ us) h = by_eq (t == u) refl (place_has t us)
   where

@@ -1,5 +1,5 @@
 -- The operands of a rewritten module are few.
-use Rattle.std.proofs.Common.{◌≡◌, ℕ, zero, suc, ◌+◌, ◌-◌, ◌≤◌, List, [], ◌∷◌, ◌++◌, length, map, reverse, Option, Some, None, refl, sym, ap, ◌∙◌, subst, arith, slice_get, option_to_list, length-append, false}
+use Rattle.std.proofs.Common.{◌≡◌, ℕ, zero, suc, ◌+◌, ◌*◌, ◌-◌, ◌≤◌, List, [], ◌∷◌, ◌++◌, length, map, reverse, Option, Some, None, refl, sym, ap, ◌∙◌, subst, arith, slice_get, option_to_list, length-append, false}
 use Rattle.std.specs.Prelude.{bytes_eq, codes}
 use Rattle.std.specs.List.{AllByRecursion}
 use Rattle.std.proofs.lemmas.List.{length-reverse}
@@ -18,11 +18,12 @@ use Rattle.wasm_laws.proofs.Lists.{at_of, all_append}
 use Rattle.wasm_laws.proofs.Safe.{Typed, one_result}
 use Rattle.wasm_laws.proofs.Unique.{one_tree}
 use Rattle.rewrite_bodies.specs.Numbering.{import_count, mapped, value_import, frame_import, global_types, wrapped, helped}
-use Rattle.rewrite_bodies.specs.Slots.{Ctx, ctx_of, slots_of}
+use Rattle.rewrite_bodies.specs.Slots.{Ctx, ctx_of, slots_of, greatest}
 use Rattle.rewrite_bodies.specs.Pieces.{const, i32, call, tree_of}
 use Rattle.rewrite_bodies.specs.Guards.{helper}
-use Rattle.rewrite_bodies.specs.Rewrite.{in_body, body}
-use Rattle.rewrite_bodies.specs.calls.Typed.{original}
+use Rattle.rewrite_bodies.specs.Rewrite.{body}
+use Rattle.rewrite_bodies.specs.calls.Typed.{in_body, original}
+use Rattle.rewrite_bodies.specs.calls.Agreement.{Room}
 use Rattle.rewrite_bodies.proofs.TypedPieces.{at_labels}
 use Rattle.rewrite_modules.specs.calls.Bare.{bare_tree, bare}
 use Rattle.wasm_syntax.specs.SameCode.{code_alone}
@@ -31,8 +32,10 @@ use Rattle.rewrite_modules.specs.Instrument.{instrument, new_module, new_tree, e
 use Rattle.rewrite_modules.specs.Instrumentable.{program_of, Instrumentable}
 use Rattle.rewrite_modules.specs.calls.LowSizes.{LowHeights}
 use Rattle.rewrite_modules.specs.Wrappers.{get_all, tell_globals, lower_flag, end_of_dump, after_wrapped, wrapper_nodes, wrapper}
+use Rattle.rewrite_modules.proofs.Bounds.{room_of}
+use Rattle.rewrite_modules.proofs.Heights.{heights_low}
 use Rattle.rewrite_modules.proofs.FineBodies.{fine_at, gives_one}
-use Rattle.rewrite_modules.proofs.Links.{Ready, is_defined, function_type_kept, import_types, frame_types}
+use Rattle.rewrite_modules.proofs.Links.{Ready, is_defined, sizes_fit, function_type_kept, import_types, frame_types}
 use Rattle.rewrite_modules.proofs.Modules.{module_given}
 use Rattle.rewrite_modules.proofs.NewSizes.{type_in}
 use Rattle.rewrite_modules.proofs.Spots.{at_spots}
@@ -67,9 +70,12 @@ tree_with P (b ∷ bs) (t ∷ ts) (suc i) body w a e = tree_with P bs ts i body 
 
 -- ---- the trees of the rewritten module
 
-module _ (p : Program) (ready : Ready p) (valid : Valid p.module_) (typed : Typed p) (whole : IsProgram p) (free : AllByRecursion (λ e. bytes_eq e.name (codes "coredump.memory") ≡ false) p.module_.exports) (N : ℕ) (room : 16 ≤ N) (few_of : (t : ℕ) (type : FuncType) → slice_get p.module_.types t ≡ Some type → length type.params + 16 ≤ N) where
+module _ (p : Program) (ready : Ready p) (valid : Valid p.module_) (typed : Typed p) (whole : IsProgram p) (free : AllByRecursion (λ e. bytes_eq e.name (codes "coredump.memory") ≡ false) p.module_.exports) (N : ℕ) (high : 2 * (greatest p).1 + 16 ≤ N) (few_of : (t : ℕ) (type : FuncType) → slice_get p.module_.types t ≡ Some type → length type.params + 16 ≤ N) where
   abbrev m : Module
   m = p.module_
+
+  room : 16 ≤ N
+  room = omega (arith, high)
 
   abbrev m' : Module
   m' = new_module p
@@ -124,7 +130,9 @@ module _ (p : Program) (ready : Ready p) (valid : Valid p.module_) (typed : Type
       let C : Ctx = ctx_of p f b type slots in
       let one : reverse type.results ≡ option_to_list (result_of type) = one_result type.results (typed.few f (defined b tree type) e) in
       let ty : Types (original C (in_body C.result ∷ [])) tree.nodes [] (option_to_list C.result) = subst (λ z. Types (at_labels m C.locals z (z ∷ [])) tree.nodes [] z) one (typed.bodies f b tree type e) in
-      u_body C m' _ (offers p ready typed f b tree type e) N room few few_of tree.nodes (ready.static d.number tree d.tree_is) ty
+      let z = sizes_fit p ready f b tree type d e in
+      let fits : Room C [] tree.nodes = room_of (ctx_of p f b type 0) slots tree.nodes [] (ready.static d.number tree d.tree_is) (omega arith) in
+      u_body C m' _ (offers p ready typed f b tree type e) N (omega (arith, high, z.1)) tree.nodes fits ty
 
   abbrev LowTree : Tree → Type 0
   LowTree tree = Under m' N 0 tree.nodes
@@ -151,13 +159,16 @@ module _ (m other : Module) (x : Instrumentable m) (too : IsModule other) (valid
   typed_ = (startable_given p given).typed
 
   abbrev N : ℕ
-  N = 1016
+  N = 2016
+
+  high_ : 2 * (greatest p).1 + 16 ≤ N
+  high_ = let k = heights_low p x.whole.write typed_ x.lightness.heights x.lightness.heights_are 1000 x.lightness.low in omega (arith, k)
 
   few_types : (t : ℕ) (type : FuncType) → slice_get m.types t ≡ Some type → length type.params + 16 ≤ N
   few_types t type e = let few = at_of (λ type. length type.params ≤ 1000) m.types t type x.lightness.few_parameters e in omega (arith, few)
 
   rewritten_trees : AllByRecursion (λ tree. Under rewritten N 0 tree.nodes) (instrument p).trees
-  rewritten_trees = trees_under p (ready_given p given) x.valid typed_ x.whole.write x.no_export_collision N (omega arith) few_types
+  rewritten_trees = trees_under p (ready_given p given) x.valid typed_ x.whole.write x.no_export_collision N high_ few_types
 
   trees : AllByRecursion (λ tree. Under other N 0 tree.nodes) too.trees
   trees =

@@ -9,10 +9,11 @@ use Rattle.wasm_syntax.specs.Tree.{Nodes, stop, basic, jump, block, loop, choose
 use Rattle.wasm_syntax.specs.Module.{Program, Function, imported, defined, function_at, type_at, declared_locals, AllWrite, is_function}
 use Rattle.wasm_syntax.specs.declared.parts.Export.{Export}
 use Rattle.wasm_laws.proofs.Validity.{typed}
-use Rattle.rewrite_modules.specs.Weight.{entry_weight, exports_weight, start_weight}
+use Rattle.rewrite_modules.specs.Weight.{exports_weight, start_weight}
 use Rattle.rewrite_modules.proofs.Heights.{heights_low}
 use Rattle.rewrite_modules.specs.calls.Given.{Given, SmallCode}
-use Rattle.rewrite_bodies.specs.Numbering.{import_count}
+use Rattle.rewrite_bodies.specs.Numbering.{entry_weight, import_count}
+use Rattle.rewrite_bodies.proofs.Doubled.{table_light}
 use Rattle.rewrite_bodies.specs.Slots.{sizes, most}
 use Rattle.rewrite_modules.proofs.Links.{is_defined, type_is_of}
 use Rattle.rewrite_bodies.specs.Offsets.{SmallOffset}
@@ -124,5 +125,6 @@ module _ (m : Module) (x : Instrumentable m) where
     pages = x.limits_.memories;
     few_locals = most_bound (λ f. sizes p f (function_at p f)) 10000 (λ f. locals_at f (function_at p f) refl) (import_count m) m.bodies;
     few_heights = heights_low p x.whole.write (typed p x.whole.write x.whole.as_many x.valid) x.lightness.heights x.lightness.heights_are 1000 x.lightness.low;
+    few_globals_doubled = λ d. (let t = table_light m d in omega (arith, t, x.lightness.light));
     few_globals = λ name f e. (let g = globals_weigh name m.exports f e in omega (arith, g, x.lightness.light));
   }

@@ -38,7 +38,8 @@ use Rattle.rewrite_modules.proofs.BareRuns.{simulates_bare}
 use Rattle.rewrite_modules.proofs.SlotMultiple.{slot_multiple}
 use Rattle.rewrite_modules.proofs.Spots.{at_spots}
 use Rattle.rewrite_modules.proofs.Starts.{starts_by_slots}
-use Rattle.rewrite_modules.proofs.Theorem.{startable_given, rewriting_simulates}
+use Rattle.rewrite_modules.proofs.Theorem.{startable_given, rewriting_simulates, entries_simulate}
+use Rattle.rewrite_modules.specs.Entries.{SimulatesEntries}
 use Rattle.rewrite_modules.proofs.WrittenOut.{program_bare, same_bare, instrument_bare}
 use Rattle.pm_text.proofs.Lists.{some_is}
 use Rattle.wasm_syntax.proofs.Bodies.{tree_there, declared_length}
@@ -116,7 +117,7 @@ module _ (p : Program) (write_ : IsProgram p) (typed : Typed p) where
     pub slots_high : (op : ℕ) (types : List ValType) → TypesBefore m type b op types → length types ≤ slots_of p f b tree type
     slots_high op types h =
         let n = slots_of p f b tree type in
-        let spots : (s : Spot) → Live (body_context m type b) tree.nodes [] [] s → length (s.here ++ s.outside) ≤ n = λ s l. (let k = spot_peak C ret one_at one_of_at (ret ∷ []) tree.nodes [] [] [] [] s refl refl l in omega (arith, k, length-append s.here s.outside)) in
+        let spots : (s : Spot) → Live (body_context m type b) tree.nodes [] [] s → length (s.here ++ s.outside) ≤ n = λ s l. (let k = spot_peak C ret one_at one_of_at (ret ∷ []) tree.nodes [] [] [] [] s refl refl tt l in omega (arith, k, length-append s.here s.outside)) in
         let k = at_spots (λ us. length us ≤ n) m type b tree (result_of type) gives writes (typed.bodies f b tree type at) (omega arith) spots op types h in
         omega (arith, k.2, ap length k.1, length-reverse k.0)
 
@@ -145,7 +146,7 @@ module _ (p : Program) (write_ : IsProgram p) (typed : Typed p) where
         let start = opened block_kinds.Plain result [] in
         let ty : type_at m (length m.imports + d.number) ≡ Some type = subst (λ z. type_at m z ≡ Some type) d.number_is (type_is_of p f (defined b tree type) at) in
         let types1 : Types (inside (body_context m type b) (start ∷ [])) tree.nodes [] (reverse type.results) = subst (λ z. Types z tree.nodes [] (reverse type.results)) (sym (inside_body m type b result gives)) (typed.bodies f b tree type at) in
-        peak_low C ret (ret ∷ []) N one_at one_of_at tree.nodes start [] [] [] [] (reverse type.results) (placed tree.end End ∷ []) writes.arms tt types1 refl refl
+        peak_low C ret (ret ∷ []) N one_at one_of_at tree.nodes start [] [] [] [] (reverse type.results) (placed tree.end End ∷ []) writes.arms tt types1 refl refl tt
         (λ ps rest blocks s ft lv.
         let split : code ≡ ps ++ rest = writes.out ∙ s in
         let front : take (length ps) code ≡ ps = ap (take (length ps)) split ∙ take-append_seam ps rest in
@@ -228,6 +229,10 @@ module _ (p : Program) (write_ : IsProgram p) (typed : Typed p) (valid : Valid p
 
 pub simulates_by : (p : Program) → Given p → (heights : List (List ℕ)) → AreHeights p.module_ heights → Simulates (multiple p.module_ heights) p (instrument p)
 simulates_by p g heights are = subst (λ k. Simulates k p (instrument p)) (multiple_is p g.program (startable_given p g).typed g.valid heights are) (rewriting_simulates p g)
+
+-- and calls by entries of the table
+pub entries_by_heights : (p : Program) → Given p → (heights : List (List ℕ)) → AreHeights p.module_ heights → SimulatesEntries (multiple p.module_ heights) p (instrument p)
+entries_by_heights p g heights are = subst (λ k. SimulatesEntries k p (instrument p)) (multiple_is p g.program (startable_given p g).typed g.valid heights are) (entries_simulate p g)
 
 -- and the start function alone
 pub starts_by_heights : (p : Program) → Given p → ((s : ℕ) → p.module_.start ≡ Some s → length p.module_.globals ≤ 20000000) → (heights : List (List ℕ)) → AreHeights p.module_ heights → StartsAlike (multiple p.module_ heights) p (instrument p)

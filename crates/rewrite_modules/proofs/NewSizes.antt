@@ -1,5 +1,5 @@
 -- The rewritten module is within the limits of the decoder on locals, nesting, table and memory.
-use Rattle.std.proofs.Common.{◌≡◌, ℕ, zero, suc, ◌+◌, ◌*◌, ◌≤◌, List, [], ◌∷◌, ◌++◌, length, map, Option, Some, None, refl, sym, ap, subst, arith, slice_get, length-append}
+use Rattle.std.proofs.Common.{◌≡◌, ℕ, zero, suc, ◌+◌, ◌*◌, ◌≤◌, List, [], ◌∷◌, ◌++◌, length, map, Option, Some, None, Bool, true, false, if◌then◌else◌, refl, sym, ap, subst, arith, slice_get, leb-true, length-append}
 use Rattle.std.specs.Prelude.{sum}
 use Rattle.std.specs.List.{AllByRecursion}
 use Rattle.wasm_syntax.specs.declared.parts.FuncType.{FuncType}
@@ -8,13 +8,15 @@ use Rattle.wasm_syntax.specs.declared.module.ModuleParts.{ModuleParts as Module}
 use Rattle.wasm_syntax.specs.Tree.{Tree}
 use Rattle.wasm_syntax.specs.Module.{Program, defined, function_at, type_at, declared_locals, option_then, function_types}
 use Rattle.wasm_syntax.specs.Sizes.{local_count, nesting}
-use Rattle.rewrite_bodies.specs.Numbering.{import_count}
+use Rattle.wasm_syntax.specs.declared.parts.Limits.{Limits}
+use Rattle.rewrite_bodies.specs.Numbering.{import_count, can_double, doubles}
+use Rattle.rewrite_bodies.proofs.Doubled.{AllTrue, and_left, limits_double}
 use Rattle.rewrite_bodies.specs.Slots.{added, groups, ctx_of, slots_of}
 use Rattle.rewrite_bodies.specs.Guards.{helper, helper_type}
 use Rattle.wasm_laws.proofs.Lists.{at_of, there_at}
 use Rattle.wasm_laws.proofs.Safe.{Typed}
 use Rattle.rewrite_modules.specs.calls.Given.{Given}
-use Rattle.rewrite_modules.specs.Instrument.{new_module, new_body, new_nodes}
+use Rattle.rewrite_modules.specs.Instrument.{doubled, new_module, new_body, new_nodes}
 use Rattle.rewrite_modules.specs.FlatCode.{body_of}
 use Rattle.rewrite_modules.specs.Wrappers.{wrapper}
 use Rattle.rewrite_modules.specs.Instrumentable.{program_of, Instrumentable}
@@ -98,6 +100,17 @@ module _ (m : Module) (x : Instrumentable m) where
   small_bodies : From Small 0 m'.bodies
   small_bodies = new_bodies p (ready_given p given) x.valid typed_ x.whole.write x.no_export_collision Small rewritten_small wrapper_small helper_small
 
+  twice_small : (ls : List Limits) → AllTrue (map can_double ls) → AllByRecursion (λ l. l.min ≤ 65536) (map doubled ls)
+  twice_small [] h = tt
+  twice_small (l ∷ ls) h = (leb-true (2 * l.min) 65536 (and_left _ _ h.0), twice_small ls h.1)
+
+  tables_small : AllByRecursion (λ l. l.min ≤ 65536) m'.tables
+  tables_small = by (doubles m) refl
+    where
+      by : (q : Bool) → doubles m ≡ q → AllByRecursion (λ l. l.min ≤ 65536) (if q then map doubled m.tables else m.tables)
+      by false d = x.limits_.tables
+      by true d = twice_small m.tables (limits_double m d)
+
   pub new_sizes : LowSizes (new_module (program_of m x.whole))
   new_sizes =
       let both = from_both Few Shallow 0 m'.bodies small_bodies in
@@ -105,6 +118,6 @@ module _ (m : Module) (x : Instrumentable m) where
       record {
         locals = λ i b e. subst (λ k. local_count (type_at m' (k + i)) b ≤ 16384) (sym n) (there_at (Few i) m'.bodies i b (there_from Few 0 m'.bodies i i (omega arith) both.0) e);
         nested = all_from (λ b. nesting b ≤ 1024) 0 m'.bodies both.1;
-        tables = x.limits_.tables;
+        tables = tables_small;
         memories = x.limits_.memories;
       }

@@ -1,21 +1,21 @@
--- Lists of invocations.
-use Rattle.std.proofs.Common.{◌≡◌, ℕ, ◌+◌, ◌*◌, ◌<◌, ◌≤◌, ◌==◌, List, [], ◌∷◌, length, Option, Some, None, Bool, true, false, ◌&&◌, refl, sym, ap, ap₂, ◌∙◌, subst, subst₂, arith, inl, inr, ◌≢◌, option_map, if◌then◌else◌, not, mul-le-mul_right, mul-le-mul_left, add-mul, mul_assoc}
+-- Lists of calls, by names and by entries of the table.
+use Rattle.std.proofs.Common.{◌≡◌, ℕ, ◌+◌, ◌*◌, ◌<◌, ◌≤◌, ◌==◌, List, [], ◌∷◌, length, Option, Some, None, Bool, true, false, ◌&&◌, refl, sym, ap, ap₂, ◌∙◌, subst, subst₂, arith, slice_get, inl, inr, ◌≢◌, option_map, if◌then◌else◌, not, mul-le-mul_right, mul-le-mul_left, add-mul, mul_assoc}
 use Rattle.wasm_syntax.specs.declared.value.ValType.{ValType}
 use Rattle.wasm_syntax.specs.declared.value.Value.{Value}
 use Rattle.wasm_syntax.specs.declared.value.Value.TheVariants as values
 use Rattle.wasm_syntax.specs.declared.parts.FuncType.{FuncType}
 use Rattle.wasm_syntax.specs.Numbers.{types}
 use Rattle.wasm_syntax.specs.declared.module.ModuleParts.{ModuleParts as Module}
-use Rattle.wasm_syntax.specs.Module.{Program, function_at, type_at, same_types, function_export}
+use Rattle.wasm_syntax.specs.Module.{Program, function_at, type_at, same_types}
 use Rattle.wasm_syntax.specs.Host.{World}
 use Rattle.wasm_syntax.specs.declared.host.Reply.{Reply}
 use Rattle.wasm_syntax.specs.Machine.{Config, config, Engine, Stepped, next, ends, traps, no_reply, bad_reply, stuck}
 use Rattle.rewrite_bodies.specs.Pieces.{call}
-use Rattle.rewrite_bodies.specs.Numbering.{global_types}
+use Rattle.rewrite_bodies.specs.Numbering.{global_types, new_entries}
 use Rattle.rewrite_bodies.specs.calls.Steps.{st}
 use Rattle.rewrite_bodies.specs.calls.Agreement.{WorldFits, flagged}
 use Rattle.std.proofs.lemmas.Bool.{eqb-true}
-use Rattle.wasm_syntax.specs.Run.{Ended, ended, run_function, engine, start_world, cause_of_segments, cause_of_entry, Outcome, not_started, finished, lacks_reply, misfits, running, got_stuck, Ran, ran_to, not_begun, run_entry, go_on, invoked, if_fits as entry_fits, Cause, goes_on, fresh, session, run, Invocation}
+use Rattle.wasm_syntax.specs.Run.{Ended, ended, run_function, engine, start_world, cause_of_segments, cause_of_entry, Outcome, not_started, finished, lacks_reply, misfits, running, got_stuck, Ran, ran_to, not_begun, run_entry, go_on, invoked, if_fits as entry_fits, Cause, goes_on, fresh, start_table}
 use Rattle.rewrite_modules.specs.Instrument.{new_module, instrument}
 use Rattle.rewrite_modules.proofs.SlotMultiple.{slot_multiple}
 use Rattle.rewrite_bodies.specs.Slots.{greatest}
@@ -23,11 +23,18 @@ use Rattle.wasm_syntax.specs.Run as runs_
 use Rattle.rewrite_modules.proofs.Links.{half}
 use Rattle.rewrite_modules.specs.Simulates.{EndsAlike, Alike, NoneDeep}
 use Rattle.rewrite_modules.proofs.Followed.{Followed, AllFollowed, not_begun_down}
-use Rattle.rewrite_modules.proofs.Start.{world_start, segments_same, Outside, Named, named, unnamed, started, not_started_}
-use Rattle.wasm_laws.specs.calls.Runs.{NoneStuck}
+use Rattle.rewrite_bodies.specs.Guards.{first_table}
+use Rattle.rewrite_bodies.proofs.Doubled.{first_is_start, segments_fit}
+use Rattle.rewrite_modules.specs.Entries.{Target, Named, Entry, Calling, function_of, cause_of_calls, call_session, unless_cause, run_calls, Reaches, AllReach}
+use Rattle.rewrite_modules.proofs.BareCalls.{rest_of, calls_some}
+use Rattle.rewrite_modules.proofs.Called.{Called, called, uncalled, entry_is}
+use Rattle.rewrite_modules.proofs.Listed.{first_listed}
+use Rattle.rewrite_modules.proofs.Start.{world_start, table_start, segments_same, Outside, started, not_started_}
 use Rattle.rewrite_modules.proofs.Final.{Fits, part, St, Invoked_so, invoked_alone, invoked_behind, world_alike, untrapped, trap_alike, start_fits, out_type, go1}
 use Rattle.wasm_syntax.proofs.Types.{same_types_are}
 use Rattle.std.specs.Option.{option_or}
+use Rattle.wasm_laws.proofs.Progress.{WorldFine}
+use Rattle.wasm_laws.proofs.Never.{Startable, invocation_alive}
 
 other_kind : (k : ℕ) (q : Bool) → (k == 8) ≡ q → (k ≡ 8 → ⊥) → (k == 8) ≡ false
 other_kind k false t n8 = t
@@ -211,24 +218,18 @@ module _ (p : Program) (fit : Fits p) (d : ℕ) (deep : 0 < d) (low : d ≤ 1000
 
   -- ---- lists
 
-  abbrev pub Calls : List Invocation → Type 0
+  abbrev pub Calls : List Calling → Type 0
   Calls [] = Unit {0}
-  Calls (i ∷ is) = (f : ℕ) × (function_export m i.name ≡ Some f) × (type : FuncType) × (type_at m f ≡ Some type) × (types i.args ≡ type.params) × Calls is
+  Calls (i ∷ is) = (f : ℕ) × (function_of m (first_table m) i.target ≡ Some f) × (type : FuncType) × (type_at m f ≡ Some type) × (types i.args ≡ type.params) × Reaches m i.target × Calls is
 
-  abbrev rest_of : Engine → List Invocation → World → Ran → List Ran
-  rest_of N is w r = if goes_on r.outcome r.entered then session N is None (fresh r.last w) r.left else []
-
-  session_is : (N : Engine) (i : Invocation) (is : List Invocation) (start : Option ℕ) (w : World) (n f : ℕ) → function_export N.program.module_ i.name ≡ Some f → session N (i ∷ is) start w n ≡ invoked N start n f i.args w ∷ rest_of N is w (invoked N start n f i.args w)
-  session_is N i is start w n f e = rw (e, session) refl
-
-  rest_false : (N : Engine) (is : List Invocation) (w : World) (r : Ran) → goes_on r.outcome r.entered ≡ false → rest_of N is w r ≡ []
+  rest_false : (N : Engine) (is : List Calling) (w : World) (r : Ran) → goes_on r.outcome r.entered ≡ false → rest_of N is w r ≡ []
   rest_false N is w r e = rw e refl
 
-  rest_true : (N : Engine) (is : List Invocation) (w w1 : World) (left : ℕ) (r : Ran) → goes_on r.outcome r.entered ≡ true → fresh r.last w ≡ w1 → r.left ≡ left → rest_of N is w r ≡ session N is None w1 left
-  rest_true N is w w1 left r e fw fl = ap (λ b. if b then session N is None (fresh r.last w) r.left else []) e ∙ ap₂ (λ w n. session N is None w n) fw fl
+  rest_true : (N : Engine) (is : List Calling) (w w1 : World) (left : ℕ) (r : Ran) → goes_on r.outcome r.entered ≡ true → fresh r.last w ≡ w1 → r.left ≡ left → rest_of N is w r ≡ call_session N is None w1 left
+  rest_true N is w w1 left r e fw fl = ap (λ b. if b then call_session N is None (fresh r.last w) r.left else []) e ∙ ap₂ (λ w n. call_session N is None w n) fw fl
 
-  abbrev Session_so : List Invocation → Option ℕ → Option ℕ → World → ℕ → ℕ → Type 0
-  Session_so is start start' w up n = NoneDeep (session M is start w n) → NoneStuck (session M is start w n) → (k : ℕ) × (n ≤ k) × (k ≤ (2 * n + 4 * length is) * E) × AllFollowed (length m.globals) (session M is start w n) (session M' is start' (flagged M w (values.I32 up)) k)
+  abbrev Session_so : List Calling → Option ℕ → Option ℕ → World → ℕ → ℕ → Type 0
+  Session_so is start start' w up n = NoneDeep (call_session M is start w n) → (k : ℕ) × (n ≤ k) × (k ≤ (2 * n + 4 * length is) * E) × AllFollowed (length m.globals) (call_session M is start w n) (call_session M' is start' (flagged M w (values.I32 up)) k)
 
   small : (n : ℕ) → n ≤ (2 * n + 0) * E
   small n = let z : (2 * n + 0) * 1 ≤ (2 * n + 0) * E = mul-le-mul_left (2 * n + 0) one in omega (arith, z)
@@ -236,46 +237,55 @@ module _ (p : Program) (fit : Fits p) (d : ℕ) (deep : 0 < d) (low : d ≤ 1000
       one : 1 ≤ E
       one = omega arith
 
-  pub session_so : (is : List Invocation) (start start' : Option ℕ) (w : World) (up n : ℕ) → Starts start start' → WorldFits M gl w → Calls is → Session_so is start start' w up n
-  session_so [] start start' w up n st wf cs nd ns = (n, omega arith, small n, tt)
-  session_so (i ∷ is) start start' w up n st wf cs nd ns =
-      by_going (goes_on (invoked M start n cs.0 i.args w).outcome (invoked M start n cs.0 i.args w).entered) refl (λ w1 up1 n1 wf1. session_so is None None w1 up1 n1 tt wf1 cs.5)
+  -- an invocation of a function of this type is not stuck in a world that is fine, and leaves one where the list goes on
+  abbrev pub NotStuck : Type 0
+  NotStuck = (st : Option ℕ) (n f : ℕ) (type : FuncType) (args : List Value) (w : World) → ((g : ℕ) → st ≡ Some g → type_at m g ≡ Some (record { params = []; results = [] })) → type_at m f ≡ Some type → types args ≡ type.params → WorldFine m w → ((invoked M st n f args w).outcome ≢ got_stuck) × ((w' : World) → goes_on (invoked M st n f args w).outcome (invoked M st n f args w).entered ≡ true → WorldFine m (fresh (invoked M st n f args w).last w'))
+
+  starts_type : (start start' : Option ℕ) → Starts start start' → (g : ℕ) → start ≡ Some g → type_at m g ≡ Some (record { params = []; results = [] })
+  starts_type None start' st g e = absurd (cc)
+  starts_type (Some s) None st g e = absurd st
+  starts_type (Some s) (Some s') st g e = subst (λ x. type_at m x ≡ Some (record { params = []; results = [] })) (let same : s ≡ g = cc in same) st.1
+
+  pub session_so : NotStuck → (is : List Calling) (start start' : Option ℕ) (w : World) (up n : ℕ) → Starts start start' → WorldFits M gl w → WorldFine m w → Calls is → Session_so is start start' w up n
+  session_so ns [] start start' w up n st wf fine cs nd = (n, omega arith, small n, tt)
+  session_so ns (i ∷ is) start start' w up n st wf fine cs nd =
+      by_going (goes_on (invoked M start n cs.0 i.args w).outcome (invoked M start n cs.0 i.args w).entered) refl (λ w1 up1 n1 wf1 fine1. session_so ns is None None w1 up1 n1 tt wf1 fine1 cs.6)
     where
-      nm : Named p i.name cs.0
-      nm = named p i.name cs.0 cs.1
+      cd : Called p i.target cs.0
+      cd = called p i.target cs.0 cs.5 cs.1
 
       r : Ran
       r = invoked M start n cs.0 i.args w
 
-      one : session M (i ∷ is) start w n ≡ invoked M start n cs.0 i.args w ∷ rest_of M is w (invoked M start n cs.0 i.args w)
-      one = session_is M i is start w n cs.0 cs.1
+      one : call_session M (i ∷ is) start w n ≡ invoked M start n cs.0 i.args w ∷ rest_of M is w (invoked M start n cs.0 i.args w)
+      one = calls_some M i is start w n cs.0 (ap (λ t. function_of m t i.target) wf.table ∙ cs.1)
 
       nd1 : NoneDeep (invoked M start n cs.0 i.args w ∷ rest_of M is w (invoked M start n cs.0 i.args w))
       nd1 = subst NoneDeep one nd
 
-      ns1 : NoneStuck (invoked M start n cs.0 i.args w ∷ rest_of M is w (invoked M start n cs.0 i.args w))
-      ns1 = subst NoneStuck one ns
+      alive : ((invoked M start n cs.0 i.args w).outcome ≢ got_stuck) × ((w' : World) → goes_on (invoked M start n cs.0 i.args w).outcome (invoked M start n cs.0 i.args w).entered ≡ true → WorldFine m (fresh (invoked M start n cs.0 i.args w).last w'))
+      alive = ns start n cs.0 cs.2 i.args w (starts_type start start' st) cs.3 cs.4 fine
 
-      two : (k : ℕ) → session M' (i ∷ is) start' (flagged M w (values.I32 up)) k ≡ invoked M' start' k (named p i.name cs.0 cs.1).there i.args (flagged M w (values.I32 up)) ∷ rest_of M' is (flagged M w (values.I32 up)) (invoked M' start' k (named p i.name cs.0 cs.1).there i.args (flagged M w (values.I32 up)))
-      two k = session_is M' i is start' (flagged M w (values.I32 up)) k (named p i.name cs.0 cs.1).there (named p i.name cs.0 cs.1).found
+      two : (k : ℕ) → call_session M' (i ∷ is) start' (flagged M w (values.I32 up)) k ≡ invoked M' start' k (called p i.target cs.0 cs.5 cs.1).there i.args (flagged M w (values.I32 up)) ∷ rest_of M' is (flagged M w (values.I32 up)) (invoked M' start' k (called p i.target cs.0 cs.5 cs.1).there i.args (flagged M w (values.I32 up)))
+      two k = calls_some M' i is start' (flagged M w (values.I32 up)) k (called p i.target cs.0 cs.5 cs.1).there (ap (λ t. function_of (new_module p) (new_entries m t) i.target) wf.table ∙ (called p i.target cs.0 cs.5 cs.1).found)
 
-      by_going : (q : Bool) → goes_on (invoked M start n cs.0 i.args w).outcome (invoked M start n cs.0 i.args w).entered ≡ q → ((w1 : World) (up1 n1 : ℕ) → WorldFits M gl w1 → Session_so is None None w1 up1 n1) → (k : ℕ) × (n ≤ k) × (k ≤ (2 * n + 4 * length (i ∷ is)) * E) × AllFollowed (length m.globals) (session M (i ∷ is) start w n) (session M' (i ∷ is) start' (flagged M w (values.I32 up)) k)
+      by_going : (q : Bool) → goes_on (invoked M start n cs.0 i.args w).outcome (invoked M start n cs.0 i.args w).entered ≡ q → ((w1 : World) (up1 n1 : ℕ) → WorldFits M gl w1 → WorldFine m w1 → Session_so is None None w1 up1 n1) → (k : ℕ) × (n ≤ k) × (k ≤ (2 * n + 4 * length (i ∷ is)) * E) × AllFollowed (length m.globals) (call_session M (i ∷ is) start w n) (call_session M' (i ∷ is) start' (flagged M w (values.I32 up)) k)
       by_going false q ih =
-          let x = invoked_so start start' cs.0 (named p i.name cs.0 cs.1).there cs.2 i.args w up n st (named p i.name cs.0 cs.1).outside cs.3 cs.4 wf nd1.0 ns1.0 in
-          let q' = goes_same (invoked M start n cs.0 i.args w) (invoked M' start' x.0 (named p i.name cs.0 cs.1).there i.args (flagged M w (values.I32 up))) x.3.alike nd1.0 ∙ q in
+          let x = invoked_so start start' cs.0 (called p i.target cs.0 cs.5 cs.1).there cs.2 i.args w up n st (called p i.target cs.0 cs.5 cs.1).outside cs.3 cs.4 wf nd1.0 alive.0 in
+          let q' = goes_same (invoked M start n cs.0 i.args w) (invoked M' start' x.0 (called p i.target cs.0 cs.5 cs.1).there i.args (flagged M w (values.I32 up))) x.3.alike nd1.0 ∙ q in
           let b : (2 * n + 4) * E ≤ (2 * n + 4 * length (i ∷ is)) * E = mul-le-mul_right E (omega arith) in
-          (x.0, x.1, omega (arith, x.2, b), subst₂ (AllFollowed (length m.globals)) (sym (one ∙ ap (λ z. invoked M start n cs.0 i.args w ∷ z) (rest_false M is w (invoked M start n cs.0 i.args w) q))) (sym (two x.0 ∙ ap (λ z. invoked M' start' x.0 (named p i.name cs.0 cs.1).there i.args (flagged M w (values.I32 up)) ∷ z) (rest_false M' is (flagged M w (values.I32 up)) (invoked M' start' x.0 (named p i.name cs.0 cs.1).there i.args (flagged M w (values.I32 up))) q'))) (x.3, tt))
+          (x.0, x.1, omega (arith, x.2, b), subst₂ (AllFollowed (length m.globals)) (sym (one ∙ ap (λ z. invoked M start n cs.0 i.args w ∷ z) (rest_false M is w (invoked M start n cs.0 i.args w) q))) (sym (two x.0 ∙ ap (λ z. invoked M' start' x.0 (called p i.target cs.0 cs.5 cs.1).there i.args (flagged M w (values.I32 up)) ∷ z) (rest_false M' is (flagged M w (values.I32 up)) (invoked M' start' x.0 (called p i.target cs.0 cs.5 cs.1).there i.args (flagged M w (values.I32 up))) q'))) (x.3, tt))
       by_going true q ih =
-          let x = invoked_passed start start' cs.0 (named p i.name cs.0 cs.1).there cs.2 i.args w up n st (named p i.name cs.0 cs.1).outside cs.3 cs.4 wf q in
+          let x = invoked_passed start start' cs.0 (called p i.target cs.0 cs.5 cs.1).there cs.2 i.args w up n st (called p i.target cs.0 cs.5 cs.1).outside cs.3 cs.4 wf q in
           let rt = rest_true M is w (fresh (invoked M start n cs.0 i.args w).last w) (invoked M start n cs.0 i.args w).left (invoked M start n cs.0 i.args w) q refl refl in
-          let y = ih (fresh (invoked M start n cs.0 i.args w).last w) x.up (invoked M start n cs.0 i.args w).left x.fits (subst NoneDeep rt nd1.1) (subst NoneStuck rt ns1.1) in
+          let y = ih (fresh (invoked M start n cs.0 i.args w).last w) x.up (invoked M start n cs.0 i.args w).left x.fits (alive.1 w q) (subst NoneDeep rt nd1.1) in
           let al = x.followed y.0 in
-          let q' = goes_same (invoked M start n cs.0 i.args w) (invoked M' start' (x.count + y.0) (named p i.name cs.0 cs.1).there i.args (flagged M w (values.I32 up))) al.alike nd1.0 ∙ q in
-          let rt' = rest_true M' is (flagged M w (values.I32 up)) (flagged M (fresh (invoked M start n cs.0 i.args w).last w) (values.I32 x.up)) y.0 (invoked M' start' (x.count + y.0) (named p i.name cs.0 cs.1).there i.args (flagged M w (values.I32 up))) q' (x.world (flagged M w (values.I32 up)) y.0) (x.left y.0) in (
+          let q' = goes_same (invoked M start n cs.0 i.args w) (invoked M' start' (x.count + y.0) (called p i.target cs.0 cs.5 cs.1).there i.args (flagged M w (values.I32 up))) al.alike nd1.0 ∙ q in
+          let rt' = rest_true M' is (flagged M w (values.I32 up)) (flagged M (fresh (invoked M start n cs.0 i.args w).last w) (values.I32 x.up)) y.0 (invoked M' start' (x.count + y.0) (called p i.target cs.0 cs.5 cs.1).there i.args (flagged M w (values.I32 up))) q' (x.world (flagged M w (values.I32 up)) y.0) (x.left y.0) in (
             x.count + y.0,
             omega (arith, x.in_all, x.least, y.1),
             total x.count y.0 x.made (invoked M start n cs.0 i.args w).left x.in_all x.most_ y.2,
-            subst₂ (AllFollowed (length m.globals)) (sym (one ∙ ap (λ z. invoked M start n cs.0 i.args w ∷ z) rt)) (sym (two (x.count + y.0) ∙ ap (λ z. invoked M' start' (x.count + y.0) (named p i.name cs.0 cs.1).there i.args (flagged M w (values.I32 up)) ∷ z) rt')) (al, y.3),
+            subst₂ (AllFollowed (length m.globals)) (sym (one ∙ ap (λ z. invoked M start n cs.0 i.args w ∷ z) rt)) (sym (two (x.count + y.0) ∙ ap (λ z. invoked M' start' (x.count + y.0) (called p i.target cs.0 cs.5 cs.1).there i.args (flagged M w (values.I32 up)) ∷ z) rt')) (al, y.3),
           )
         where
           total : (c k a l : ℕ) → n ≡ a + l → c ≤ (2 * a + 4) * E → k ≤ (2 * l + 4 * length is) * E → c + k ≤ (2 * n + 4 * length (i ∷ is)) * E
@@ -286,17 +296,31 @@ module _ (p : Program) (fit : Fits p) (d : ℕ) (deep : 0 < d) (low : d ≤ 1000
 
   -- ---- whole lists
 
-  -- the causes are the same, and where there is none, each call is one of a function on fitting arguments
-  entry_cause : (i : Invocation) (q : Option ℕ) → function_export m i.name ≡ q → cause_of_entry (new_module p) (function_export (new_module p) i.name) i.args ≡ cause_of_entry m q i.args
-  entry_cause i None e = ap (λ q. cause_of_entry (new_module p) q i.args) (unnamed p i.name e)
-  entry_cause i (Some f) e =
-      let k = named p i.name f e in
-      let t = fit.exported i.name f e in
-      rw (k.found, out_type p fit d deep low f k.there t.0 k.outside t.1, t.1) refl
+  -- a function that a host calls has a type
+  has_type_of : (t : Target) (f : ℕ) → Reaches m t → function_of m (first_table m) t ≡ Some f → (type : FuncType) × (type_at m f ≡ Some type)
+  has_type_of (Named name) f r e = fit.exported name f e
+  has_type_of (Entry i) f r e = fit.listed f (first_listed m i f (entry_is (slice_get (first_table m) i) f e))
 
-  causes_same : (is : List Invocation) → runs_.cause_of (new_module p) is ≡ runs_.cause_of m is
-  causes_same [] = segments_same p
-  causes_same (i ∷ is) = ap₂ option_or (entry_cause i (function_export m i.name) refl) (causes_same is)
+  -- the tables where instances start, where the segments fit
+  fitted : (t : Target) → Reaches m t → function_of m (start_table m) t ≡ function_of m (first_table m) t
+  fitted (Named name) r = refl
+  fitted (Entry i) r = ap (λ t. function_of m t (Entry i)) (first_is_start m (segments_fit m r.0))
+
+  fitted' : (t : Target) → Reaches m t → function_of (new_module p) (start_table (new_module p)) t ≡ function_of (new_module p) (new_entries m (first_table m)) t
+  fitted' (Named name) r = refl
+  fitted' (Entry i) r = ap (λ t. function_of (new_module p) t (Entry i)) (table_start p ∙ ap (new_entries m) (first_is_start m (segments_fit m r.0)))
+
+  -- the causes are the same, and where there is none, each call is one of a function on fitting arguments
+  entry_cause : (i : Calling) (q : Option ℕ) → Reaches m i.target → function_of m (start_table m) i.target ≡ q → cause_of_entry (new_module p) (function_of (new_module p) (start_table (new_module p)) i.target) i.args ≡ cause_of_entry m q i.args
+  entry_cause i None r e = ap (λ q. cause_of_entry (new_module p) q i.args) (fitted' i.target r ∙ uncalled p i.target r (sym (fitted i.target r) ∙ e))
+  entry_cause i (Some f) r e =
+      let k = called p i.target f r (sym (fitted i.target r) ∙ e) in
+      let t = has_type_of i.target f r (sym (fitted i.target r) ∙ e) in
+      ap (λ q. cause_of_entry (new_module p) q i.args) (fitted' i.target r ∙ k.found) ∙ rw (out_type p fit d deep low f k.there t.0 k.outside t.1, t.1) refl
+
+  causes_same : (is : List Calling) → AllReach m is → cause_of_calls (new_module p) is ≡ cause_of_calls m is
+  causes_same [] r = segments_same p
+  causes_same (i ∷ is) r = ap₂ option_or (entry_cause i (function_of m (start_table m) i.target) r.0 refl) (causes_same is r.1)
 
   no_cause : (a b : Option Cause) → option_or a b ≡ None → (a ≡ None) × (b ≡ None)
   no_cause None b e = (refl, e)
@@ -306,41 +330,42 @@ module _ (p : Program) (fit : Fits p) (d : ℕ) (deep : 0 < d) (low : d ≤ 1000
   true_of true e = refl
   true_of false e = absurd (cc)
 
-  call_of : (i : Invocation) (q : Option ℕ) → function_export m i.name ≡ q → cause_of_entry m q i.args ≡ None → (f : ℕ) × (function_export m i.name ≡ Some f) × (type : FuncType) × (type_at m f ≡ Some type) × (types i.args ≡ type.params)
-  call_of i None e c = absurd (cc)
-  call_of i (Some f) e c =
-      let t = fit.exported i.name f e in
+  call_of : (i : Calling) (q : Option ℕ) → Reaches m i.target → function_of m (start_table m) i.target ≡ q → cause_of_entry m q i.args ≡ None → (f : ℕ) × (function_of m (first_table m) i.target ≡ Some f) × (type : FuncType) × (type_at m f ≡ Some type) × (types i.args ≡ type.params) × Reaches m i.target
+  call_of i None r e c = absurd (cc)
+  call_of i (Some f) r e c =
+      let first = sym (fitted i.target r) ∙ e in
+      let t = has_type_of i.target f r first in
       let c' : entry_fits (Some (same_types t.0.params (types i.args))) ≡ None = ap (λ o. entry_fits (option_map (λ type. same_types type.params (types i.args)) o)) (sym t.1) ∙ c in
-      (f, e, t.0, t.1, sym (same_types_are t.0.params (types i.args) (true_of (same_types t.0.params (types i.args)) c')))
+      (f, first, t.0, t.1, sym (same_types_are t.0.params (types i.args) (true_of (same_types t.0.params (types i.args)) c')), r)
 
-  calls_are_of : (is : List Invocation) → runs_.cause_of m is ≡ None → Calls is × (cause_of_segments m ≡ None)
-  calls_are_of [] e = (tt, e)
-  calls_are_of (i ∷ is) e =
-      let h = no_cause (cause_of_entry m (function_export m i.name) i.args) (runs_.cause_of m is) e in
-      let x = call_of i (function_export m i.name) refl h.0 in
-      let y = calls_are_of is h.1 in
-      ((x.0, x.1, x.2, x.3, x.4, y.0), y.1)
+  calls_are_of : (is : List Calling) → AllReach m is → cause_of_calls m is ≡ None → Calls is × (cause_of_segments m ≡ None)
+  calls_are_of [] r e = (tt, e)
+  calls_are_of (i ∷ is) r e =
+      let h = no_cause (cause_of_entry m (function_of m (start_table m) i.target) i.args) (cause_of_calls m is) e in
+      let x = call_of i (function_of m (start_table m) i.target) r.0 refl h.0 in
+      let y = calls_are_of is r.1 h.1 in
+      ((x.0, x.1, x.2, x.3, x.4, x.5, y.0), y.1)
 
   starts_by : (q : Option ℕ) → m.start ≡ q → (s' : Option ℕ) × ((new_module p).start ≡ s') × Starts q s'
   starts_by None e = (None, not_started_ p [] e, tt)
   starts_by (Some s) e = let x = started p [] s e in (Some x.0, x.1, (x.2, fit.start s e))
 
-  abbrev All_so : List Invocation → List Reply → ℕ → List Ran → Type 0
-  All_so is replies n rs = NoneDeep rs → NoneStuck rs → (k : ℕ) × (n ≤ k) × (k ≤ (2 * n + 4 * length is) * E) × AllFollowed (length m.globals) rs (run (instrument p) true is replies (d + 2) k)
+  abbrev All_so : List Calling → List Reply → ℕ → List Ran → Type 0
+  All_so is replies n rs = NoneDeep rs → (k : ℕ) × (n ≤ k) × (k ≤ (2 * n + 4 * length is) * E) × AllFollowed (length m.globals) rs (run_calls (instrument p) true is replies (d + 2) k)
 
-  all_by : (is : List Invocation) (replies : List Reply) (n : ℕ) (c : Option Cause) → runs_.cause_of m is ≡ c → All_so is replies n (runs_.unless M c is replies n)
-  all_by is replies n (Some c) e nd ns =
+  all_by : NotStuck → ((replies : List Reply) → WorldFine m (start_world m replies)) → (is : List Calling) → AllReach m is → (replies : List Reply) (n : ℕ) (c : Option Cause) → cause_of_calls m is ≡ c → All_so is replies n (unless_cause M c is replies n)
+  all_by ns fine is r replies n (Some c) e nd =
       let b : (2 * n + 0) * E ≤ (2 * n + 4 * length is) * E = mul-le-mul_right E (omega arith) in
-      (n, omega arith, omega (arith, small n, b), subst (λ z. AllFollowed (length m.globals) (not_begun c n ∷ []) (runs_.unless M' z is replies n)) (sym (causes_same is ∙ e)) (record { alike = record { begun = refl; host_calls = refl; ends = (refl, refl); state = tt }; down = not_begun_down (length m.globals) c n }, tt))
-  all_by is replies n None e nd ns =
-      let cs = calls_are_of is e in
+      (n, omega arith, omega (arith, small n, b), subst (λ z. AllFollowed (length m.globals) (not_begun c n ∷ []) (unless_cause M' z is replies n)) (sym (causes_same is r ∙ e)) (record { alike = record { begun = refl; host_calls = refl; ends = (refl, refl); state = tt }; down = not_begun_down (length m.globals) c n }, tt))
+  all_by ns fine is r replies n None e nd =
+      let cs = calls_are_of is r e in
       let st = starts_by m.start refl in
-      let x = session_so is m.start st.0 (start_world m replies) 0 n st.2 (start_fits p fit d deep low replies cs.1) cs.0 nd ns in
-      let other : run (instrument p) true is replies (d + 2) x.0 ≡ session M' is st.0 (flagged M (start_world m replies) (values.I32 0)) x.0 = ap (λ z. runs_.unless M' z is replies x.0) (causes_same is ∙ e) ∙ ap₂ (λ s w. session M' is s w x.0) st.1 (world_start p d replies) in
-      (x.0, x.1, x.2, subst (AllFollowed (length m.globals) (session M is m.start (start_world m replies) n)) (sym other) x.3)
+      let x = session_so ns is m.start st.0 (start_world m replies) 0 n st.2 (start_fits p fit d deep low replies cs.1) (fine replies) cs.0 nd in
+      let other : run_calls (instrument p) true is replies (d + 2) x.0 ≡ call_session M' is st.0 (flagged M (start_world m replies) (values.I32 0)) x.0 = ap (λ z. unless_cause M' z is replies x.0) (causes_same is r ∙ e) ∙ ap₂ (λ s w. call_session M' is s w x.0) st.1 (world_start p d replies) in
+      (x.0, x.1, x.2, subst (AllFollowed (length m.globals) (call_session M is m.start (start_world m replies) n)) (sym other) x.3)
 
-  pub all_so : (is : List Invocation) (replies : List Reply) (n : ℕ) → All_so is replies n (run p false is replies d n)
-  all_so is replies n = all_by is replies n (runs_.cause_of m is) refl
+  pub all_so : NotStuck → ((replies : List Reply) → WorldFine m (start_world m replies)) → (is : List Calling) → AllReach m is → (replies : List Reply) (n : ℕ) → All_so is replies n (run_calls p false is replies d n)
+  all_so ns fine is r replies n = all_by ns fine is r replies n (cause_of_calls m is) refl
 
 -- the bound on the steps
 pub twice : (n l s : ℕ) → (2 * n + 4 * l) * (100 + 4 * s) ≡ (n + 2 * l) * (200 + 8 * s)
@@ -349,15 +374,12 @@ twice n l s =
     let b : 200 + 8 * s ≡ 2 * (100 + 4 * s) = omega arith in
     ap (λ z. z * (100 + 4 * s)) a ∙ mul_assoc (n + 2 * l) 2 (100 + 4 * s) ∙ ap (λ z. (n + 2 * l) * z) (sym b)
 
-abbrev pub NeverStuckAll : Program → Type 0
-NeverStuckAll p = (is : List Invocation) (replies : List Reply) (d n : ℕ) → NoneStuck (run p false is replies d n)
-
-abbrev pub Follows_all : Program → List Invocation → List Reply → ℕ → ℕ → Type 0
-Follows_all p is replies d n = (k : ℕ) × (n ≤ k) × (k ≤ (n + 2 * length is) * slot_multiple p) × AllFollowed (length p.module_.globals) (run p false is replies d n) (run (instrument p) true is replies (d + 2) k)
+abbrev pub Follows_all : Program → List Calling → List Reply → ℕ → ℕ → Type 0
+Follows_all p is replies d n = (k : ℕ) × (n ≤ k) × (k ≤ (n + 2 * length is) * slot_multiple p) × AllFollowed (length p.module_.globals) (run_calls p false is replies d n) (run_calls (instrument p) true is replies (d + 2) k)
 
 -- for every list of invocations on one instance
-pub follows_all : (p : Program) → Fits p → NeverStuckAll p → (is : List Invocation) (replies : List Reply) (d n : ℕ) → 1 ≤ d → d ≤ 10000 → NoneDeep (run p false is replies d n) → Follows_all p is replies d n
-follows_all p fit never is replies d n d1 d2 nd =
-    let x = all_so p fit d (omega (arith, d1)) d2 is replies n nd (never is replies d n) in
+pub follows_all : (p : Program) → Fits p → Startable p → (is : List Calling) → AllReach p.module_ is → (replies : List Reply) (d n : ℕ) → 1 ≤ d → d ≤ 10000 → NoneDeep (run_calls p false is replies d n) → Follows_all p is replies d n
+follows_all p fit s is r replies d n d1 d2 nd =
+    let x = all_so p fit d (omega (arith, d1)) d2 (invocation_alive p s false d) s.world is r replies n nd in
     let z : (2 * n + 4 * length is) * half p fit.ready ≡ (n + 2 * length is) * slot_multiple p = twice n (length is) ((greatest p).0 + (greatest p).1 + length p.module_.globals) in
     (x.0, x.1, subst (λ q. x.0 ≤ q) z x.2, x.3)

@@ -7,7 +7,7 @@ use Rattle.wasm_syntax.specs.declared.host.CollectorCall.TheVariants as collecto
 use Rattle.wasm_syntax.specs.Tree.{Nodes}
 use Rattle.wasm_syntax.specs.Machine.{Label, Frame, Config, frame, Engine, calls, offset_of}
 use Rattle.rewrite_bodies.specs.Slots.{Place, Ctx, grown, greatest}
-use Rattle.rewrite_bodies.specs.calls.Agreement.{awaits, pending, joined, Wit, FitsLabels, FitsFrame, FitsFrames, FitsTop, FitsConfig}
+use Rattle.rewrite_bodies.specs.calls.Agreement.{awaits, pending, joined, UnderWay, Wit, FitsLabels, FitsFrame, FitsFrames, FitsTop, FitsConfig}
 use Rattle.dump_write.specs.Collected.{value_call, Entry, entry_calls, calls_of, HaveKind, Whole, collected_dump}
 use Rattle.rewrite_bodies.specs.calls.Telling.{tell_ops, tell_labels, tell_locals, tell_frame, tell_outer, tell_frames, collected}
 use Rattle.std.proofs.lemmas.List.{map-append, reverse-append, length-reverse}
@@ -96,31 +96,32 @@ len_locals : (l : List Value) (co : List CollectorCall) → length (tell_locals 
 len_locals [] co = omega arith
 len_locals (v ∷ l) co = omega (arith, len_locals l (value_call v ∷ co))
 
-len_labels : (C : Ctx) (ex : List Value) (a : Option ValType) (Ls : List Label) (ss : List (List Place)) (co : List CollectorCall) → FitsLabels C ex a Ls ss → length (tell_labels Ls co) ≡ length (joined ss) + length co
-len_labels C ex a [] [] co h = omega arith
-len_labels C ex a [] (_ ∷ _) co h = absurd h
-len_labels C ex a (L ∷ Ls) [] co h = absurd h
-len_labels C ex a (L ∷ Ls) (e ∷ ss) co h = omega (arith, len_ops L.operands (tell_labels Ls co), holds_len ex (joined ss) e L.operands h.0, len_labels C ex (awaits (pending L.kind)) Ls ss co h.4, length-append e (joined ss))
+len_labels : (C : Ctx) (l ex : List Value) (a : Option ValType) (Ls : List Label) (ss : List (List Place)) (co : List CollectorCall) → FitsLabels C l ex a Ls ss → length (tell_labels Ls co) ≡ length (joined ss) + length co
+len_labels C l ex a [] [] co h = omega arith
+len_labels C l ex a [] (_ ∷ _) co h = absurd h
+len_labels C l ex a (L ∷ Ls) [] co h = absurd h
+len_labels C l ex a (L ∷ Ls) (e ∷ ss) co h =
+    omega (arith, len_ops L.operands (tell_labels Ls co), holds_len l ex (joined ss) e L.operands h.0, len_labels C [] ex (awaits (pending L.kind)) Ls ss co h.4, length-append e (joined ss))
 
-len_frame_in : (M : Engine) (E : ℕ) (gl : List ValType) (a : Option ValType) (k o : ℕ) (C : Ctx) (ex : List Value) (ss : List (List Place)) (others : Option Nodes) (ix cl : ℕ) (r : Option ValType) (l : List Value) (Ls : List Label) (co : List CollectorCall) → FitsFrame M E gl a (frame ix r cl l Ls) (wit_under C ex ss others) → length (tell_frame k o (frame ix r cl l Ls) co) ≤ suc ((greatest M.program).0 + (greatest M.program).1) + length co
+len_frame_in : (M : Engine) (E : ℕ) (gl : List ValType) (a : Option ValType) (k o : ℕ) (C : Ctx) (ex : List Value) (ss : List (List Place)) (others : Option UnderWay) (ix cl : ℕ) (r : Option ValType) (l : List Value) (Ls : List Label) (co : List CollectorCall) → FitsFrame M E gl a (frame ix r cl l Ls) (wit_under C ex ss others) → length (tell_frame k o (frame ix r cl l Ls) co) ≤ suc ((greatest M.program).0 + (greatest M.program).1) + length co
 len_frame_in M E gl a k o C ex ss others ix cl r l [] co f = absurd f.labels
 len_frame_in M E gl a k o C ex [] others ix cl r l (L ∷ Ls) co f = absurd f.labels
 len_frame_in M E gl a k o C ex (e ∷ ss) others ix cl r l (L ∷ Ls) co f =
     let h = f.labels in
     let low : length (e ++ joined ss) ≤ C.slots = omega (arith, grown_longer a (e ++ joined ss), room_height C (grown a (e ++ joined ss)) L.nodes h.2) in
-    omega (arith, len_locals l (tell_labels (L ∷ Ls) co), len_labels C ex a (L ∷ Ls) (e ∷ ss) co h, low, f.narrow, len_of l C.locals f.size)
+    omega (arith, len_locals l (tell_labels (L ∷ Ls) co), len_labels C l ex a (L ∷ Ls) (e ∷ ss) co h, low, f.narrow, len_of l C.locals f.size)
 
 len_outer : (M : Engine) (E : ℕ) (gl : List ValType) (wr r : Option ValType) (Fs : List Frame) (ws : List Wit) (co : List CollectorCall) → FitsFrames M E gl wr r Fs ws → length (tell_outer Fs co) ≤ length Fs * suc ((greatest M.program).0 + (greatest M.program).1) + length co
 len_outer M E gl wr r [] ws co h = omega arith
 len_outer M E gl wr r (F ∷ Fs) [] co h = absurd h
 len_outer M E gl wr r (F ∷ Fs) (w ∷ ws) co h =
-    omega (arith, len_outer M E gl wr F.result Fs ws (tell_frame 0 F.call F co) h.1, len_frame_in M E gl r 0 F.call w.ctx w.ex w.ss w.others F.function F.call F.result F.locals F.labels co h.0)
+    omega (arith, len_outer M E gl wr F.result Fs ws (tell_frame 0 F.call F co) h.1, len_frame_in M E gl r 0 F.call w.ctx w.ex w.ss w.under_way F.function F.call F.result F.locals F.labels co h.0)
 
 len_top : (M : Engine) (E : ℕ) (gl : List ValType) (wr : Option ValType) (k : ℕ) (Fs : List Frame) (ws : List Wit) (co : List CollectorCall) → FitsTop M E gl wr Fs ws → length (tell_frames k Fs co) ≤ length Fs * suc ((greatest M.program).0 + (greatest M.program).1) + length co
 len_top M E gl wr k [] ws co h = absurd h
 len_top M E gl wr k (F ∷ Fs) [] co h = absurd h
 len_top M E gl wr k (F ∷ Fs) (w ∷ ws) co h =
-    omega (arith, len_outer M E gl wr F.result Fs ws (tell_frame k (offset_of F.labels) F co) h.1, len_frame_in M E gl None k (offset_of F.labels) w.ctx w.ex w.ss w.others F.function F.call F.result F.locals F.labels co h.0)
+    omega (arith, len_outer M E gl wr F.result Fs ws (tell_frame k (offset_of F.labels) F co) h.1, len_frame_in M E gl None k (offset_of F.labels) w.ctx w.ex w.ss w.under_way F.function F.call F.result F.locals F.labels co h.0)
 
 pub few_calls : (M : Engine) (E : ℕ) (gl : List ValType) (wr : Option ValType) (k : ℕ) (c : Config) (ws : List Wit) → FitsConfig M E gl wr c ws → c.collected ≡ [] → length c.frames ≤ 10000 → (greatest M.program).0 ≤ 10000 → (greatest M.program).1 ≤ 1000 → length c.world.globals ≤ 20000000 → length (reverse (collected k c)) ≤ 134217728
 few_calls M E gl wr k c ws h e d l s g =

@@ -10,8 +10,6 @@ use Rattle.rewrite_bodies.specs.Numbering.{place_in, helped, uses, distinct, is_
 use Rattle.rewrite_bodies.specs.Rewrite.{body}
 use Rattle.linear_memory.specs.Memory.{Memory}
 use Rattle.std.proofs.lemmas.List.{length-map, length-replicate}
-use Rattle.std.proofs.Math.Seq.{take-length}
-use Rattle.rewrite_bodies.specs.Guards.{first_table}
 use Rattle.wasm_syntax.specs.declared.parts.ElementSeg.{ElementSeg}
 use Rattle.rewrite_bodies.specs.calls.Agreement.{Has, MemoryFits, WorldFits}
 use Rattle.std.proofs.lemmas.Bool.{eqb-true, eq-eqb}
@@ -22,18 +20,26 @@ use Rattle.rewrite_modules.proofs.Bounds.{Static}
 use Rattle.std.specs.List.{AllByRecursion}
 use Rattle.wasm_syntax.specs.declared.parts.DataSeg.{DataSeg}
 use Rattle.wasm_syntax.specs.declared.parts.Limits.{Limits}
-use Rattle.wasm_syntax.specs.Run.{Cause, Invocation, not_begun, first_false, table_min, start_table, element_at, empty_memory, memory_bytes, data_at, element_fits, data_fits, by_data, by_element, cause_of, cause_of_entry, cause_of_segments, unless, engine, run, start_world}
+use Rattle.wasm_syntax.specs.Run.{Cause, Ran, Invocation, not_begun, first_false, table_min, start_table, element_at, empty_memory, memory_bytes, data_at, element_fits, data_fits, by_data, by_element, cause_of, cause_of_entry, cause_of_segments, invoked, goes_on, fresh, session, unless, engine, run, start_world}
 use Rattle.wasm_syntax.specs.Run as runs_
-use Rattle.rewrite_modules.specs.Simulates.{Simulates, NoneDeep}
+use Rattle.rewrite_bodies.proofs.Doubled.{over_len, AllTrue, first_is_start}
+use Rattle.rewrite_modules.specs.Simulates.{AllAlike, Simulates, NoneDeep}
 use Rattle.rewrite_modules.specs.Flag.{LowersFlag}
+use Rattle.rewrite_modules.specs.Entries.{Target, Named, Entry, Calling, calling, cause_of_calls, call_session, unless_cause, run_calls, Reaches, AllReach, SimulatesEntries, EntriesLowerFlag}
+use Rattle.rewrite_modules.proofs.Listed.{listed_below}
+use Rattle.rewrite_modules.proofs.BareRuns.{session_some, session_none}
+use Rattle.rewrite_modules.proofs.BareCalls.{calls_some, calls_none}
+use Rattle.wasm_syntax.specs.declared.value.Value.{Value}
+use Rattle.wasm_syntax.specs.Machine.{Engine}
+use Rattle.wasm_syntax.specs.Host.{World}
 use Rattle.rewrite_modules.proofs.Followed.{AllFollowed, all_alike, all_down, down_before, not_begun_down}
 use Rattle.rewrite_modules.proofs.Links.{Ready}
 use Rattle.rewrite_modules.proofs.Start.{segments_same, unnamed}
 use Rattle.rewrite_modules.proofs.Final.{Fits}
-use Rattle.wasm_laws.proofs.Never.{Startable, never_stuck as never_stuck_all}
+use Rattle.wasm_laws.proofs.Never.{Startable}
 use Rattle.rewrite_modules.proofs.Sessions.{Follows_all, follows_all}
 use Rattle.rewrite_modules.specs.calls.Given.{SmallCode, Given}
-use Rattle.wasm_laws.proofs.Validity.{startable}
+use Rattle.wasm_laws.proofs.Validity.{startable, has_type}
 use Rattle.std.specs.Option.{option_or}
 
 -- ---- the types that are asked for have helpers
@@ -100,14 +106,6 @@ static_of hs (choose o t a ea b en rest) s h =
 
 -- ---- the first memory has whole pages
 
-over_len : {A : Type 0} (xs new : List A) (at : ℕ) → at + length new ≤ length xs → length (runs_.over xs at new) ≡ length xs
-over_len xs new at le =
-    omega (arith, le, length-append (take at xs) (new ++ drop (at + length new) xs), length-append new (drop (at + length new) xs), length-drop (at + length new) xs, length-take-le at xs (omega (arith, le)))
-
-abbrev AllTrue : List Bool → Type 0
-AllTrue [] = Unit {0}
-AllTrue (b ∷ bs) = (b ≡ true) × AllTrue bs
-
 all_true : (n : ℕ) (bs : List Bool) → first_false n bs ≡ None → AllTrue bs
 all_true n [] e = tt
 all_true n (true ∷ bs) e = (refl, all_true (suc n) bs e)
@@ -149,21 +147,6 @@ module _ (m : Module) where
       let x = filled m.segments k (65536 * l.min) n (sym n ∙ same) a in
       (l.min, x.0, omega (arith, h), omega (arith, x.1))
 
--- ---- the first table has the size that the module gives it
-
-table_length : (m : Module) (es : List ElementSeg) (table : List (Option ℕ)) → length table ≡ table_min m.tables → AllTrue (map (element_fits m) es) → length (fold (λ t e. runs_.over t (element_at m e) (map Some e.functions)) table es) ≡ table_min m.tables
-table_length m [] table n h = n
-table_length m (e ∷ es) table n h =
-    let le = leb-true (element_at m e + length e.functions) (table_min m.tables) h.0 in
-    let k : length (map Some e.functions) ≡ length e.functions = length-map e.functions Some in
-    let one = over_len table (map Some e.functions) (element_at m e) (omega (arith, le, k, n)) in
-    table_length m es (runs_.over table (element_at m e) (map Some e.functions)) (omega (arith, one, n)) h.1
-
-first_is_start : (m : Module) → AllTrue (map (element_fits m) m.elements) → start_table m ≡ first_table m
-first_is_start m h =
-    let n = table_length m m.elements _ (length-replicate (table_min m.tables) None) h in
-    sym (take-length (start_table m)) ∙ ap (λ k. take k (start_table m)) n
-
 -- ---- what validity, the limits and the collisions give
 
 same_count : (bodies : List Body) (trees : List Tree) → AllWrite bodies trees → length trees ≡ length bodies
@@ -201,6 +184,7 @@ fits_given p g few =
       memory = λ e. memory_by p.module_ p.module_.memories refl (few_pages p.module_ p.module_.memories g.pages) (all_true 0 _ (segments_true p.module_ (first_false 0 (map (element_fits p.module_) p.module_.elements)) e));
       table = λ e. first_is_start p.module_ (all_true 0 _ (elements_true p.module_ (first_false 0 (map (element_fits p.module_) p.module_.elements)) e));
       exported = s.exported;
+      listed = λ f e. has_type p.module_ g.valid f (listed_below p.module_ g.valid f e);
       start = s.start;
       few_locals = g.few_locals;
       few_heights = g.few_heights;
@@ -216,52 +200,103 @@ not_started_alike flag c n = (record { alike = record { begun = refl; host_calls
 enough : (n l f : ℕ) → n ≤ (n + 2 * l) * (200 + 8 * f)
 enough n l f = let z : (n + 2 * l) * 1 ≤ (n + 2 * l) * (200 + 8 * f) = mul-le-mul (omega arith) (omega arith) in omega (arith, z)
 
+-- Calls by names and by entries of the table. Calls by names alone are invocations.
 module _ (p : Program) (given : Given p) where
-  abbrev SimulatesHere : List Invocation → List Reply → ℕ → ℕ → Type 0
-  SimulatesHere is replies d n = Follows_all p is replies d n
+  abbrev FollowsHere : List Calling → List Reply → ℕ → ℕ → Type 0
+  FollowsHere is replies d n = Follows_all p is replies d n
 
   -- both have this cause, or both have none and nothing is invoked
-  by_cause : (is : List Invocation) (replies : List Reply) (d n : ℕ) (c : Cause) → cause_of p.module_ is ≡ Some c → cause_of (new_module p) is ≡ Some c → SimulatesHere is replies d n
+  by_cause : (is : List Calling) (replies : List Reply) (d n : ℕ) (c : Cause) → cause_of_calls p.module_ is ≡ Some c → cause_of_calls (new_module p) is ≡ Some c → FollowsHere is replies d n
   by_cause is replies d n c e e' = (
     n,
     omega arith,
     enough n (length is) ((greatest p).0 + (greatest p).1 + length p.module_.globals),
-    subst₂ (λ a b. AllFollowed (length p.module_.globals) (unless (engine p false d) a is replies n) (unless (engine (instrument p) true (d + 2)) b is replies n)) (sym e) (sym e') (not_started_alike (length p.module_.globals) c n),
+    subst₂ (λ a b. AllFollowed (length p.module_.globals) (unless_cause (engine p false d) a is replies n) (unless_cause (engine (instrument p) true (d + 2)) b is replies n)) (sym e) (sym e') (not_started_alike (length p.module_.globals) c n),
   )
 
-  no_calls : (replies : List Reply) (d n : ℕ) (c : Option Cause) → cause_of_segments p.module_ ≡ c → SimulatesHere [] replies d n
+  no_calls : (replies : List Reply) (d n : ℕ) (c : Option Cause) → cause_of_segments p.module_ ≡ c → FollowsHere [] replies d n
   no_calls replies d n (Some c) e = by_cause [] replies d n c e (segments_same p ∙ e)
   no_calls replies d n None e = (
     n,
     omega arith,
     enough n 0 ((greatest p).0 + (greatest p).1 + length p.module_.globals),
-    subst₂ (λ a b. AllFollowed (length p.module_.globals) (unless (engine p false d) a [] replies n) (unless (engine (instrument p) true (d + 2)) b [] replies n)) (sym e) (sym (segments_same p ∙ e)) tt,
+    subst₂ (λ a b. AllFollowed (length p.module_.globals) (unless_cause (engine p false d) a [] replies n) (unless_cause (engine (instrument p) true (d + 2)) b [] replies n)) (sym e) (sym (segments_same p ∙ e)) tt,
   )
 
-  no_export : (i : Invocation) (is : List Invocation) (replies : List Reply) (d n : ℕ) → function_export p.module_ i.name ≡ None → SimulatesHere (i ∷ is) replies d n
-  no_export i is replies d n e =
-      by_cause (i ∷ is) replies d n runs_.no_export (ap (λ q. option_or (cause_of_entry p.module_ q i.args) (cause_of p.module_ is)) e) (ap (λ q. option_or (cause_of_entry (new_module p) q i.args) (cause_of (new_module p) is)) (unnamed p i.name e))
+  with_export : (is : List Calling) → AllReach p.module_ is → (replies : List Reply) (d n : ℕ) → 1 ≤ d → d ≤ 10000 → NoneDeep (run_calls p false is replies d n) → length p.module_.globals ≤ 20000000 → FollowsHere is replies d n
+  with_export is r replies d n d1 d2 nd few = follows_all p (fits_given p given few) (startable_given p given) is r replies d n d1 d2 nd
 
-  with_export : (is : List Invocation) (replies : List Reply) (d n : ℕ) → 1 ≤ d → d ≤ 10000 → NoneDeep (run p false is replies d n) → length p.module_.globals ≤ 20000000 → SimulatesHere is replies d n
-  with_export is replies d n d1 d2 nd few = follows_all p (fits_given p given few) (λ is replies d n. never_stuck_all p (startable_given p given) false is replies d n) is replies d n d1 d2 nd
+  no_export : (name : List ℕ) (args : List Value) (is : List Calling) (replies : List Reply) (d n : ℕ) → function_export p.module_ name ≡ None → FollowsHere (calling (Named name) args ∷ is) replies d n
+  no_export name args is replies d n e =
+      by_cause (calling (Named name) args ∷ is) replies d n runs_.no_export (ap (λ q. option_or (cause_of_entry p.module_ q args) (cause_of_calls p.module_ is)) e) (ap (λ q. option_or (cause_of_entry (new_module p) q args) (cause_of_calls (new_module p) is)) (unnamed p name e))
 
-  by_export : (i : Invocation) (is : List Invocation) (replies : List Reply) (d n : ℕ) (q : Option ℕ) → function_export p.module_ i.name ≡ q → 1 ≤ d → d ≤ 10000 → NoneDeep (run p false (i ∷ is) replies d n) → SimulatesHere (i ∷ is) replies d n
-  by_export i is replies d n None e d1 d2 nd = no_export i is replies d n e
-  by_export i is replies d n (Some f) e d1 d2 nd = with_export (i ∷ is) replies d n d1 d2 nd (given.few_globals i.name f e)
+  by_export : (name : List ℕ) (args : List Value) (is : List Calling) → AllReach p.module_ is → (replies : List Reply) (d n : ℕ) (q : Option ℕ) → function_export p.module_ name ≡ q → 1 ≤ d → d ≤ 10000 → NoneDeep (run_calls p false (calling (Named name) args ∷ is) replies d n) → FollowsHere (calling (Named name) args ∷ is) replies d n
+  by_export name args is r replies d n None e d1 d2 nd = no_export name args is replies d n e
+  by_export name args is r replies d n (Some f) e d1 d2 nd = with_export (calling (Named name) args ∷ is) (tt, r) replies d n d1 d2 nd (given.few_globals name f e)
 
-rewriting_follows : (p : Program) → Given p → (is : List Invocation) (replies : List Reply) (d n : ℕ) → 1 ≤ d → d ≤ 10000 → NoneDeep (run p false is replies d n) → Follows_all p is replies d n
-rewriting_follows p g [] replies d n d1 d2 nd = no_calls p g replies d n (cause_of_segments p.module_) refl
-rewriting_follows p g (i ∷ is) replies d n d1 d2 nd = by_export p g i is replies d n (function_export p.module_ i.name) refl d1 d2 nd
+  by_target : (t : Target) (args : List Value) (is : List Calling) → Reaches p.module_ t → AllReach p.module_ is → (replies : List Reply) (d n : ℕ) → 1 ≤ d → d ≤ 10000 → NoneDeep (run_calls p false (calling t args ∷ is) replies d n) → FollowsHere (calling t args ∷ is) replies d n
+  by_target (Named name) args is r rs replies d n d1 d2 nd = by_export name args is rs replies d n (function_export p.module_ name) refl d1 d2 nd
+  by_target (Entry i) args is r rs replies d n d1 d2 nd = with_export (calling (Entry i) args ∷ is) (r, rs) replies d n d1 d2 nd (given.few_globals_doubled r.0)
 
--- the rewritten module does what the module does, for every list of invocations on one instance
-pub rewriting_simulates : (p : Program) → Given p → Simulates (slot_multiple p) p (instrument p)
-rewriting_simulates p g is replies d n d1 d2 nd =
-    let x = rewriting_follows p g is replies d n d1 d2 nd in
-    (x.0, x.1, x.2, all_alike (length p.module_.globals) (run p false is replies d n) (run (instrument p) true is replies (d + 2) x.0) x.3)
+rewriting_follows : (p : Program) → Given p → (is : List Calling) → AllReach p.module_ is → (replies : List Reply) (d n : ℕ) → 1 ≤ d → d ≤ 10000 → NoneDeep (run_calls p false is replies d n) → Follows_all p is replies d n
+rewriting_follows p g [] r replies d n d1 d2 nd = no_calls p g replies d n (cause_of_segments p.module_) refl
+rewriting_follows p g (i ∷ is) r replies d n d1 d2 nd = by_target p g i.target i.args is r.0 r.1 replies d n d1 d2 nd
+
+-- the rewritten module does what the module does, for every list of calls on one instance
+pub entries_simulate : (p : Program) → Given p → SimulatesEntries (slot_multiple p) p (instrument p)
+entries_simulate p g is replies d n d1 d2 r nd =
+    let x = rewriting_follows p g is r replies d n d1 d2 nd in
+    (x.0, x.1, x.2, all_alike (length p.module_.globals) (run_calls p false is replies d n) (run_calls (instrument p) true is replies (d + 2) x.0) x.3)
 
 -- and its flag is down behind each trap
+pub entries_lower : (p : Program) → Given p → EntriesLowerFlag p (instrument p)
+entries_lower p g is replies d n i k r c d1 d2 reach nd at o l =
+    let x = rewriting_follows p g is reach replies d n d1 d2 nd in
+    let flag = length p.module_.globals in
+    down_before (instrument p) flag is replies (d + 2) n x.0 x.1 (all_down flag (run_calls p false is replies d n) (run_calls (instrument p) true is replies (d + 2) x.0) x.3) i r at k c o l
+
+-- ---- invocations
+
+abbrev by_name : Invocation → Calling
+by_name i = calling (Named i.name) i.args
+
+session_named : (M : Engine) (is : List Invocation) (start : Option ℕ) (w : World) (n : ℕ) → session M is start w n ≡ call_session M (map by_name is) start w n
+session_named M [] start w n = refl
+session_named M (i ∷ is) start w n = by (function_export M.program.module_ i.name) refl (λ v k. session_named M is None v k)
+  where
+    going : (q : Bool) (r : Ran) → ((v : World) (k : ℕ) → session M is None v k ≡ call_session M (map by_name is) None v k) → (if q then session M is None (fresh r.last w) r.left else []) ≡ (if q then call_session M (map by_name is) None (fresh r.last w) r.left else [])
+    going false r ih = refl
+    going true r ih = ih (fresh r.last w) r.left
+
+    by : (q : Option ℕ) → function_export M.program.module_ i.name ≡ q → ((v : World) (k : ℕ) → session M is None v k ≡ call_session M (map by_name is) None v k) → session M (i ∷ is) start w n ≡ call_session M (map by_name (i ∷ is)) start w n
+    by None e ih = session_none M i is start w n e ∙ sym (calls_none M (by_name i) (map by_name is) start w n e)
+    by (Some f) e ih =
+        let r = invoked M start n f i.args w in
+        session_some M i is start w n f e ∙ ap (λ z. r ∷ z) (going (goes_on r.outcome r.entered) r ih) ∙ sym (calls_some M (by_name i) (map by_name is) start w n f e)
+
+cause_named : (m : Module) (is : List Invocation) → cause_of m is ≡ cause_of_calls m (map by_name is)
+cause_named m [] = refl
+cause_named m (i ∷ is) = ap (option_or (cause_of_entry m (function_export m i.name) i.args)) (cause_named m is)
+
+unless_named : (M : Engine) (c : Option Cause) (is : List Invocation) (replies : List Reply) (n : ℕ) → unless M c is replies n ≡ unless_cause M c (map by_name is) replies n
+unless_named M None is replies n = session_named M is M.program.module_.start (start_world M.program.module_ replies) n
+unless_named M (Some c) is replies n = refl
+
+pub run_named : (p : Program) (collecting : Bool) (is : List Invocation) (replies : List Reply) (d n : ℕ) → run p collecting is replies d n ≡ run_calls p collecting (map by_name is) replies d n
+run_named p collecting is replies d n =
+    ap (λ c. unless (engine p collecting d) c is replies n) (cause_named p.module_ is) ∙ unless_named (engine p collecting d) (cause_of_calls p.module_ (map by_name is)) is replies n
+
+all_named : (m : Module) (is : List Invocation) → AllReach m (map by_name is)
+all_named m [] = tt
+all_named m (i ∷ is) = (tt, all_named m is)
+
+pub rewriting_simulates : (p : Program) → Given p → Simulates (slot_multiple p) p (instrument p)
+rewriting_simulates p g is replies d n d1 d2 nd =
+    let cs = map by_name is in
+    let x = entries_simulate p g cs replies d n d1 d2 (all_named p.module_ is) (subst NoneDeep (run_named p false is replies d n) nd) in
+    let many : length cs ≡ length is = length-map is by_name in
+    (x.0, x.1, subst (λ l. x.0 ≤ (n + 2 * l) * slot_multiple p) many x.2, subst₂ AllAlike (sym (run_named p false is replies d n)) (sym (run_named (instrument p) true is replies (d + 2) x.0)) x.3)
+
 pub rewriting_lowers : (p : Program) → Given p → LowersFlag p (instrument p)
 rewriting_lowers p g is replies d n i k r c d1 d2 nd at o l =
-    let x = rewriting_follows p g is replies d n d1 d2 nd in
-    let flag = length p.module_.globals in
-    down_before (instrument p) flag is replies (d + 2) n x.0 x.1 (all_down flag (run p false is replies d n) (run (instrument p) true is replies (d + 2) x.0) x.3) i r at k c o l
+    entries_lower p g (map by_name is) replies d n i k r c d1 d2 (all_named p.module_ is) (subst NoneDeep (run_named p false is replies d n) nd) (ap (λ rs. slice_get rs i) (sym (run_named (instrument p) true is replies (d + 2) n)) ∙ at) o l

@@ -74,7 +74,7 @@ module _ (p : Program) (given : Given p) (d : ℕ) where
     starts = λ replies e. starts_fit p given d replies e;
     begins = begins;
     follows = λ W c ws h sh. step_sim M M' n gl W S c ws h sh;
-    one_frame = λ W F Fs w ws g co t q r f fs wf u. up_under M M' n gl W S.speaks Fs ws g co t 0 q r F w.ctx w.ex w.ss w.others f fs wf u;
+    one_frame = λ W F Fs w ws g co t q r f fs wf u. up_under M M' n gl W S.speaks Fs ws g co t 0 q r F w.ctx w.ex w.ss w.under_way f fs wf u;
     all_frames = λ W Fs ws g co t q r fs wf u. up_all M M' n gl W S.speaks Fs ws g co t 0 q r fs wf u;
     wrapper = λ W zs g co rest wf.
         let e = trap_end M M' n gl S refl W zs g co rest wf in

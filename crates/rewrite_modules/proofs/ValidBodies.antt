@@ -1,7 +1,7 @@
 -- The bodies of the rewritten module are well typed.
-use Rattle.std.proofs.Common.{◌≡◌, ℕ, suc, ◌<◌, ◌≤◌, List, [], ◌∷◌, ◌++◌, length, map, reverse, Option, Some, None, Bool, true, false, refl, sym, ap, ◌∙◌, subst, arith, slice_get, option_map, option_to_list, unwrap_or, append_assoc, append-nil, length-append}
+use Rattle.std.proofs.Common.{◌≡◌, ℕ, zero, suc, ◌<◌, ◌≤◌, List, [], ◌∷◌, ◌++◌, length, map, reverse, Option, Some, None, Bool, true, false, if◌then◌else◌, refl, sym, ap, ◌∙◌, subst, arith, slice_get, option_map, option_to_list, unwrap_or, append_assoc, append-nil, length-append}
 use Rattle.std.specs.List.{AllByRecursion}
-use Rattle.std.proofs.lemmas.List.{reverse-append}
+use Rattle.std.proofs.lemmas.List.{length-map, reverse-append}
 use Rattle.wasm_syntax.specs.declared.value.ValType.{ValType}
 use Rattle.wasm_syntax.specs.declared.value.ValType.TheVariants.{I32}
 use Rattle.wasm_syntax.specs.declared.instruction.Basic.TheVariants.{LocalGet, GlobalGet, GlobalSet}
@@ -15,20 +15,19 @@ use Rattle.wasm_syntax.specs.Module.{Program, defined, function_at, type_at, dec
 use Rattle.wasm_syntax.specs.Machine.{result_of}
 use Rattle.wasm_syntax.specs.Typing.{Context, ◌⇒◌, arrow, Types, IsBody, body_context}
 use Rattle.wasm_syntax.specs.Sizes.{parameter_count}
-use Rattle.rewrite_bodies.specs.Numbering.{mapped, value_import, frame_import, flag_of, value_type, frame_type}
+use Rattle.rewrite_bodies.specs.Numbering.{mapped, value_import, frame_import, flag_of, value_type, frame_type, doubles}
 use Rattle.rewrite_bodies.specs.Slots.{Ctx, added, groups, ctx_of, slots_of}
 use Rattle.rewrite_bodies.specs.Pieces.{i32, call, tree_of}
 use Rattle.rewrite_bodies.specs.Guards.{entry_label, type_label, says, helper, helper_type, first_table}
-use Rattle.rewrite_bodies.specs.Rewrite.{in_body}
-use Rattle.rewrite_bodies.specs.calls.Typed.{Offers, original}
-use Rattle.rewrite_bodies.proofs.TypedPieces.{Ok, ok_basic, ok_const, ok_if, ok_call, at_labels, Open, open_label}
+use Rattle.rewrite_bodies.specs.calls.Typed.{in_body, Offers, original}
+use Rattle.rewrite_bodies.proofs.TypedPieces.{Ok, ok_basic, ok_const, ok_if, ok_call, at_labels}
 use Rattle.rewrite_bodies.proofs.TypedNodes.{body_ok}
 use Rattle.wasm_laws.proofs.Safe.{Typed, one_result}
 use Rattle.rewrite_modules.specs.calls.Bare.{bare_nodes, bare_tree}
-use Rattle.rewrite_modules.specs.Instrument.{zero_init, new_module, new_nodes, new_body}
+use Rattle.rewrite_modules.specs.Instrument.{doubled, zero_init, new_module, new_nodes, new_body}
 use Rattle.rewrite_modules.specs.FlatCode.{body_of}
 use Rattle.rewrite_modules.specs.Wrappers.{get_all, tell_globals, lower_flag, end_of_dump, after_wrapped, wrapper_nodes, wrapper}
-use Rattle.rewrite_modules.proofs.Arms.{ifs_typed, tree_body, tree_wrapper, tree_helper, tree_bare}
+use Rattle.rewrite_modules.proofs.Arms.{tree_body, tree_wrapper, tree_helper, tree_bare}
 use Rattle.rewrite_modules.proofs.Bounds.{room_of}
 use Rattle.rewrite_modules.proofs.FlatOut.{body_out}
 use Rattle.rewrite_modules.proofs.Links.{get_right, declared-append, declared-groups, is_defined, Ready, function_type_kept, import_types, frame_types, helper_type_there}
@@ -68,6 +67,18 @@ written_typed m type gs nodes it ty = record {
 reverse-cons : (t : ValType) (ts s : List ValType) → reverse (t ∷ ts) ++ s ≡ reverse ts ++ t ∷ s
 reverse-cons t ts s = ap (λ z. z ++ s) (reverse-append (t ∷ []) ts) ∙ append_assoc (reverse ts) (t ∷ []) s
 
+-- the first so many labels take nothing
+abbrev Open : ℕ → List (List ValType) → Type 0
+Open zero ls = Unit {0}
+Open (suc n) [] = ⊥
+Open (suc n) (t ∷ ls) = (t ≡ []) × Open n ls
+
+open_label : (n : ℕ) (ls : List (List ValType)) (l : ℕ) → Open n ls → l < n → slice_get ls l ≡ Some []
+open_label zero ls l o lt = absurd (omega (arith, lt))
+open_label (suc n) [] l o lt = absurd o
+open_label (suc n) (t ∷ ls) zero o lt = ap Some o.0
+open_label (suc n) (t ∷ ls) (suc l) o lt = open_label n ls l o.1 (omega (arith, lt))
+
 module _ (m : Module) (locals returns : List ValType) where
   abbrev c0 : List (List ValType) → Context
   c0 labels = at_labels m locals returns labels
@@ -84,6 +95,13 @@ module _ (m : Module) (locals returns : List ValType) where
       middle : (done : List ValType) → slice_get (done ++ t ∷ todo) (length done) ≡ Some t
       middle [] = refl
       middle (u ∷ done) = middle done
+
+pub tables_many : (p : Program) → length (new_module p).tables ≡ length p.module_.tables
+tables_many p = by (doubles p.module_)
+  where
+    by : (q : Bool) → length (if q then map doubled p.module_.tables else p.module_.tables) ≡ length p.module_.tables
+    by false = refl
+    by true = length-map p.module_.tables doubled
 
 module _ (p : Program) (ready : Ready p) (typed : Typed p) where
   abbrev m : Module
@@ -195,7 +213,7 @@ module _ (p : Program) (ready : Ready p) (typed : Typed p) where
       flag_type = refl;
       flag_mutable = refl;
       memories = refl;
-      tables = refl;
+      tables = tables_many p;
       types = λ t type e. get_front m.types _ t type e;
       functions = function_type_kept p ready;
       values = import_types p ready;
@@ -214,5 +232,4 @@ module _ (p : Program) (ready : Ready p) (typed : Typed p) where
         let old1 : Types (original C (in_body C.result ∷ [])) tree.nodes [] (option_to_list C.result) = subst (λ z. Types (at_labels m C.locals z (z ∷ [])) tree.nodes [] z) one old in
         let new1 = body_ok C m' new_locals offers tree.nodes room old1 in
         let new2 : Types (body_context m' type (body_of (b.groups ++ groups slots) (new_nodes p f b tree type))) (new_nodes p f b tree type) [] (reverse type.results) = subst (λ z. Types (at_labels m' new_locals z (z ∷ [])) (new_nodes p f b tree type) [] z) (sym one) new1 in
-        let ifs = ifs_typed tree.nodes (body_context m type b) [] (reverse type.results) it old in
-        written_typed m' type (b.groups ++ groups slots) (new_nodes p f b tree type) (tree_body C tree.nodes it ifs) new2
+        written_typed m' type (b.groups ++ groups slots) (new_nodes p f b tree type) (tree_body C tree.nodes it) new2

@@ -1,5 +1,5 @@
 -- The rewritten module is valid.
-use Rattle.std.proofs.Common.{◌≡◌, ◌≢◌, ℕ, zero, suc, ◌+◌, ◌-◌, ◌<◌, ◌≤◌, nat_lt, List, [], ◌∷◌, ◌++◌, length, map, Option, Some, None, Bool, true, false, if◌then◌else◌, refl, sym, ap, ◌∙◌, subst, arith, slice_get, option_map, unwrap_or, length-append, ltb-true, le-ltb, true≢false, codes, ◌⊎◌, inl, inr}
+use Rattle.std.proofs.Common.{◌≡◌, ◌≢◌, ℕ, zero, suc, ◌+◌, ◌-◌, ◌<◌, ◌≤◌, nat_lt, List, [], ◌∷◌, ◌++◌, length, map, Option, Some, None, Bool, true, false, if◌then◌else◌, refl, sym, ap, ◌∙◌, subst, arith, slice_get, option_map, unwrap_or, length-append, ltb-true, ◌*◌, ◌^◌, leb-true, le-ltb, true≢false, codes, ◌⊎◌, inl, inr}
 use Rattle.std.specs.Prelude.{IfSome, bytes_eq, flat_map}
 use Rattle.std.specs.List.{AllByRecursion}
 use Rattle.std.proofs.lemmas.Bool.{ltb-false}
@@ -17,24 +17,28 @@ use Rattle.wasm_syntax.specs.declared.parts.Export.{Export}
 use Rattle.wasm_syntax.specs.declared.parts.ExportKind.{ExportKind}
 use Rattle.wasm_syntax.specs.declared.parts.ExportKind.TheVariants as kinds
 use Rattle.wasm_syntax.specs.declared.parts.Limits.{Limits}
+use Rattle.wasm_syntax.specs.declared.parts.ElementSeg.{ElementSeg}
 use Rattle.wasm_syntax.specs.declared.module.ModuleParts.{ModuleParts as Module}
 use Rattle.wasm_syntax.specs.declared.place.Place.TheVariants as places
 use Rattle.wasm_syntax.specs.Tree.{Tree}
 use Rattle.wasm_syntax.specs.Module.{Program, IsProgram, defined, function_at, function_types, type_at, option_then, is_function}
-use Rattle.wasm_syntax.specs.Valid.{Valid, There, AtIndex, defined_index, FuncTypeFine, ImportFine, DeclarationFine, GlobalFine, ConstBody, ConstTypes, ExportFine, StartFine, ElementFine, DataFine, BodyFine, index_space}
-use Rattle.rewrite_bodies.specs.Numbering.{import_count, mapped, wraps, start_wraps, export_wrapped, wrapped, wrapper_base, helped}
+use Rattle.wasm_syntax.specs.Run.{table_min, element_at}
+use Rattle.wasm_syntax.specs.Valid.{Valid, There, AtIndex, defined_index, FuncTypeFine, ImportFine, DeclarationFine, LimitsFine, TableFine, GlobalFine, ConstBody, ConstTypes, ExportFine, StartFine, ElementFine, DataFine, BodyFine, index_space}
+use Rattle.rewrite_bodies.specs.Numbering.{import_count, mapped, wraps, start_wraps, export_wrapped, is_in, place_in, element_functions, defines, table_functions, can_double, doubles, table_wraps, named_wrapped, wrapped, wrapper_base, shown, helped}
+use Rattle.rewrite_bodies.proofs.Doubled.{AllTrue, and_left, and_right, limits_double}
 use Rattle.rewrite_bodies.specs.Guards.{helper, helper_type}
 use Rattle.wasm_laws.proofs.Lists.{all_of, at_of, there_at, all_append, all_map}
 use Rattle.wasm_laws.proofs.Safe.{Typed}
 use Rattle.wasm_laws.proofs.Validity.{typed_functions, has_type, start_type}
 use Rattle.rewrite_modules.specs.Collector.{memory_export}
-use Rattle.rewrite_modules.specs.Instrument.{each, new_module, instrument, new_body, new_index, new_exports, new_start, wrapper_type, zero_init}
+use Rattle.rewrite_modules.specs.Instrument.{each, number_init, doubled, shown_element, inner_offset, inner_element, shown_elements, new_module, instrument, new_body, new_index, new_exports, new_start, wrapper_type, zero_init}
 use Rattle.rewrite_modules.specs.FlatCode.{body_of}
 use Rattle.rewrite_modules.specs.Wrappers.{wrapper}
 use Rattle.rewrite_modules.proofs.Links.{get_right, length-each, Ready, is_defined, parts_of, type_is_of, function_type_kept, wrapper_there}
-use Rattle.rewrite_modules.proofs.ValidBodies.{wrapper_typed, helper_typed, rewritten_typed}
+use Rattle.rewrite_modules.proofs.ValidBodies.{tables_many, wrapper_typed, helper_typed, rewritten_typed}
 use Rattle.rewrite_modules.proofs.WrittenOut.{tree_at}
 use Rattle.rewrite_modules.proofs.BareValid.{all_as}
+use Rattle.rewrite_modules.proofs.Listed.{place_inside, table_has, defines_both, all_distinct, listed}
 use Rattle.pm_text.proofs.Lists.{some_is, get_front}
 
 -- ---- lists
@@ -221,9 +225,6 @@ module _ (p : Program) (ready : Ready p) (valid : Valid p.module_) (typed : Type
   all_mapped (g ∷ fs) h zero f e = subst (λ x. x < length (function_types m')) (some_is e) (mapped_inside g (h zero g refl))
   all_mapped (g ∷ fs) h (suc i) f e = all_mapped fs (λ j k q. h (suc j) k q) i f e
 
-  elements_fine : AllByRecursion (ElementFine m') m'.elements
-  elements_fine = all_map (ElementFine m') _ m.elements (all_as (ElementFine m) _ m.elements (λ e h. (h.0, body_kept e.offset I32 h.1, all_mapped e.functions h.2)) (all_of (ElementFine m) m.elements (λ i. valid (places.ElementAt i))))
-
   data_fine : AllByRecursion (DataFine m') m'.segments
   data_fine = all_as (DataFine m) (DataFine m') m.segments (λ s h. (h.0, body_kept s.offset I32 h.1)) (all_of (DataFine m) m.segments (λ i. valid (places.DataAt i)))
 
@@ -232,8 +233,80 @@ module _ (p : Program) (ready : Ready p) (valid : Valid p.module_) (typed : Type
   functions_many : length (function_types m') ≡ ic + 3 + length m.functions + length (wrapped m) + length (helped p)
   functions_many = omega (arith, length-append (map (λ i. i.ftype) m'.imports) m'.functions, length-map m'.imports (λ i. i.ftype), imports_many, length-append m.functions (map (wrapper_type m) (wrapped m) ++ map (λ u. nt + 3) (helped p)), length-append (map (wrapper_type m) (wrapped m)) (map (λ u. nt + 3) (helped p)), length-map (wrapped m) (wrapper_type m), length-map (helped p) (λ (u : ℕ). nt + 3))
 
+  -- the wrappers of the table are among all
+  wraps_many : doubles m ≡ true → length (named_wrapped m) + length (table_functions m) ≤ length (wrapped m)
+  wraps_many d =
+      let own : length (table_wraps m) ≡ length (table_functions m) = ap (λ q. length (if q then table_functions m else [])) d in
+      omega (arith, own, length-append (named_wrapped m) (table_wraps m))
+
+  -- ---- tables
+
+  -- twice the limits of a table
+  doubled_fine : (l : Limits) → can_double l ≡ true → LimitsFine (2 ^ 32) l → LimitsFine (2 ^ 32) (doubled l)
+  doubled_fine l can h = (omega (arith, leb-true (2 * l.min) 65536 (and_left _ _ can)), by l.max (ltb-true (2 * unwrap_or l.max 0) (2 ^ 32) (and_right _ _ can)) h.1)
+    where
+      by : (o : Option ℕ) → 2 * unwrap_or o 0 < 2 ^ 32 → IfSome o (λ max. (max ≤ 2 ^ 32) × (l.min ≤ max)) → IfSome (option_map (λ n. 2 * n) o) (λ max. (max ≤ 2 ^ 32) × (2 * l.min ≤ max))
+      by None lt k = tt
+      by (Some n) lt k = (omega (arith, lt), omega (arith, k.1))
+
+  twice_fine : (ls : List Limits) (i k : ℕ) → AllTrue (map can_double ls) → There ls i (TableFine k) → There (map doubled ls) i (TableFine k)
+  twice_fine [] i k can h = tt
+  twice_fine (l ∷ ls) zero k can h = (h.0, doubled_fine l can.0 h.1)
+  twice_fine (l ∷ ls) (suc i) k can h = twice_fine ls i k can.1 h
+
+  table_fine : (i : ℕ) → There m'.tables i (TableFine i)
+  table_fine i = by (doubles m) refl
+    where
+      by : (q : Bool) → doubles m ≡ q → There (if q then map doubled m.tables else m.tables) i (TableFine i)
+      by false d = valid (places.TableAt i)
+      by true d = twice_fine m.tables i i (limits_double m d) (valid (places.TableAt i))
+
+  -- ---- the segments of the table
+
+  -- what a host sees in place of a function of the table
+  shown_inside : doubles m ≡ true → (f : ℕ) → f < length (function_types m) → is_in f (element_functions m) ≡ true → shown m f < length (function_types m')
+  shown_inside d f lt listed = by (nat_lt f ic) refl
+    where
+      by : (q : Bool) → nat_lt f ic ≡ q → (if q then f else wrapper_base m + (length (named_wrapped m) + place_in f (table_functions m))) < length (function_types m')
+      by true q = omega (arith, ltb-true f ic q, functions_many)
+      by false q =
+          let place = place_inside f (table_functions m) (table_has m f q listed) in
+          omega (arith, place, wraps_many d, functions_many)
+
+  all_shown : doubles m ≡ true → (fs : List ℕ) → AtIndex fs (λ _ f. f < length (function_types m)) → AllByRecursion (λ f. is_in f (element_functions m) ≡ true) fs → AtIndex (map (shown m) fs) (λ _ f. f < length (function_types m'))
+  all_shown d [] h l i f e = absurd (cc)
+  all_shown d (g ∷ fs) h l zero f e = subst (λ x. x < length (function_types m')) (some_is e) (shown_inside d g (h zero g refl) l.0)
+  all_shown d (g ∷ fs) h l (suc i) f e = all_shown d fs (λ j k q. h (suc j) k q) l.1 i f e
+
+  all_old : AllByRecursion (ElementFine m) m.elements
+  all_old = all_of (ElementFine m) m.elements (λ i. valid (places.ElementAt i))
+
+  inner_fine : AllByRecursion (ElementFine m') (map (inner_element m) m.elements)
+  inner_fine = all_map (ElementFine m') (inner_element m) m.elements (all_as (ElementFine m) _ m.elements (λ e h. (omega (arith, h.0, tables_many p), offset_fine e h.1, all_mapped e.functions h.2)) all_old)
+    where
+      offset_fine : (e : ElementSeg) → ConstBody m.globals e.offset I32 → ConstBody m'.globals (inner_offset m e) I32
+      offset_fine e h = by (doubles m)
+        where
+          by : (q : Bool) → ConstBody m'.globals (if q then number_init (element_at m e + table_min m.tables) else e.offset) I32
+          by false = body_kept e.offset I32 h
+          by true = (_, refl, refl)
+
+  shown_fine : AllByRecursion (ElementFine m') (shown_elements m)
+  shown_fine = by (doubles m) refl
+    where
+      each_shown : doubles m ≡ true → (es : List ElementSeg) → AllByRecursion (ElementFine m) es → AllByRecursion (λ e. AllByRecursion (λ f. is_in f (element_functions m) ≡ true) e.functions) es → AllByRecursion (ElementFine m') (map (shown_element m) es)
+      each_shown d [] h l = tt
+      each_shown d (e ∷ es) h l = ((omega (arith, h.0.0, tables_many p), body_kept e.offset I32 h.0.1, all_shown d e.functions h.0.2 l.0), each_shown d es h.1 l.1)
+
+      by : (q : Bool) → doubles m ≡ q → AllByRecursion (ElementFine m') (if q then map (shown_element m) m.elements else [])
+      by false d = tt
+      by true d = each_shown d m.elements all_old (listed m)
+
+  elements_fine : AllByRecursion (ElementFine m') m'.elements
+  elements_fine = all_append (ElementFine m') (shown_elements m) (map (inner_element m) m.elements) shown_fine inner_fine
+
   wrapped_many : length (export_wrapped m) ≤ length (wrapped m)
-  wrapped_many = omega (arith, length-append (export_wrapped m) (start_wraps m m.start))
+  wrapped_many = omega (arith, length-append (named_wrapped m) (table_wraps m), length-append (export_wrapped m) (start_wraps m m.start))
 
   old_many : length (function_types m) ≡ ic + length m.functions
   old_many = omega (arith, length-append (map (λ i. i.ftype) m.imports) m.functions, length-map m.imports (λ i. i.ftype))
@@ -248,7 +321,7 @@ module _ (p : Program) (ready : Ready p) (valid : Valid p.module_) (typed : Type
 
       by_kind : (kind : ExportKind) (index : ℕ) → index < index_space m kind → k + length (if is_function kind then (if nat_lt index ic then [] else index ∷ []) else []) ≤ length (wrapped m) → new_index m k (if is_function kind then (if nat_lt index ic then [] else index ∷ []) else []) index < index_space m' kind
       by_kind kinds.Function index lt room = by_test (nat_lt index ic) index lt room (λ q. ltb-true index ic q)
-      by_kind kinds.Table index lt room = lt
+      by_kind kinds.Table index lt room = omega (arith, lt, tables_many p)
       by_kind kinds.Memory index lt room = lt
       by_kind kinds.Global index lt room = omega (arith, lt, length-append m.globals (record { vtype = I32; mutable = true; init = zero_init } ∷ []))
 
@@ -303,7 +376,7 @@ module _ (p : Program) (ready : Ready p) (valid : Valid p.module_) (typed : Type
       by_test true q = let z : mapped m f ≡ f = rw q refl in subst (λ x. type_at m' x ≡ Some (record { params = []; results = [] })) z (function_type_kept p ready f _ old)
       by_test false q =
           let ws : start_wraps m m.start ≡ f ∷ [] = ap (start_wraps m) e ∙ ap (λ b. if b then [] else f ∷ []) q in
-          let at : slice_get (wrapped m) (length (export_wrapped m)) ≡ Some f = get_right (export_wrapped m) (start_wraps m m.start) 0 (length (export_wrapped m)) (omega arith) ∙ ap (λ x. slice_get x 0) ws in
+          let at : slice_get (wrapped m) (length (export_wrapped m)) ≡ Some f = get_front (named_wrapped m) (table_wraps m) (length (export_wrapped m)) f (get_right (export_wrapped m) (start_wraps m m.start) 0 (length (export_wrapped m)) (omega arith) ∙ ap (λ x. slice_get x 0) ws) in
           let fn = wrapper_there p ready (length (export_wrapped m)) f _ at old in
           type_is_of (instrument p) (wrapper_base m + length (export_wrapped m)) _ fn
 
@@ -351,8 +424,32 @@ module _ (p : Program) (ready : Ready p) (valid : Valid p.module_) (typed : Type
 
   pub wrapped_types : AllByRecursion HasType (wrapped m)
   wrapped_types =
-      all_append HasType (export_wrapped m) (start_wraps m m.start)
-      (export_types m.exports (all_of (λ e. e.index < index_space m e.kind) m.exports (λ i. exports_inside i (slice_get m.exports i) (valid (places.ExportAt i))))) (start_types m.start refl)
+      all_append HasType (named_wrapped m) (table_wraps m)
+      (all_append HasType (export_wrapped m) (start_wraps m m.start)
+      (export_types m.exports (all_of (λ e. e.index < index_space m e.kind) m.exports (λ i. exports_inside i (slice_get m.exports i) (valid (places.ExportAt i))))) (start_types m.start refl))
+      table_types
+    where
+      inside : (es : List ElementSeg) → AllByRecursion (ElementFine m) es → AllByRecursion HasType (flat_map (defines m) (flat_map (λ e. e.functions) es))
+      inside [] h = tt
+      inside (e ∷ es) h = all_both e.functions (flat_map (λ e. e.functions) es) (own e.functions h.0.2) (inside es h.1)
+        where
+          one : (q : Bool) (f : ℕ) → f < length (function_types m) → AllByRecursion HasType (if q then [] else f ∷ [])
+          one true f lt = tt
+          one false f lt = (has_type m valid f lt, tt)
+
+          own : (fs : List ℕ) → AtIndex fs (λ _ f. f < length (function_types m)) → AllByRecursion HasType (flat_map (defines m) fs)
+          own [] k = tt
+          own (f ∷ fs) k = all_append HasType (defines m f) (flat_map (defines m) fs) (one (nat_lt f ic) f (k zero f refl)) (own fs (λ j x q. k (suc j) x q))
+
+          all_both : (xs ys : List ℕ) → AllByRecursion HasType (flat_map (defines m) xs) → AllByRecursion HasType (flat_map (defines m) ys) → AllByRecursion HasType (flat_map (defines m) (xs ++ ys))
+          all_both xs ys a b = subst (AllByRecursion HasType) (sym (defines_both m xs ys)) (all_append HasType (flat_map (defines m) xs) (flat_map (defines m) ys) a b)
+
+      by : (q : Bool) → AllByRecursion HasType (if q then table_functions m else [])
+      by false = tt
+      by true = all_distinct HasType (flat_map (defines m) (element_functions m)) (inside m.elements all_old)
+
+      table_types : AllByRecursion HasType (table_wraps m)
+      table_types = by (doubles m)
 
   abbrev nf : ℕ
   nf = length m.functions
@@ -432,7 +529,7 @@ module _ (p : Program) (ready : Ready p) (valid : Valid p.module_) (typed : Type
   new_valid (places.TypeAt i) = there_all FuncTypeFine m'.types i types_fine
   new_valid (places.ImportAt i) = there_all (ImportFine m') m'.imports i imports_fine
   new_valid (places.Declaration f) = if_some (λ i. There m'.functions i (DeclarationFine m')) (defined_index m' f) (λ i. there_all (DeclarationFine m') m'.functions i declarations_fine)
-  new_valid (places.TableAt i) = valid (places.TableAt i)
+  new_valid (places.TableAt i) = table_fine i
   new_valid (places.MemoryAt i) = valid (places.MemoryAt i)
   new_valid (places.GlobalAt i) = there_all GlobalFine m'.globals i globals_fine
   new_valid (places.ExportAt i) = export_there i (slice_get m'.exports i) refl

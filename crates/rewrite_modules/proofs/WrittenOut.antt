@@ -17,7 +17,7 @@ use Rattle.rewrite_bodies.specs.Rewrite.{body}
 use Rattle.rewrite_modules.specs.Wrappers.{wrapper}
 use Rattle.rewrite_modules.specs.FlatCode.{targets_in, body_of}
 use Rattle.rewrite_modules.proofs.FlatOut.{body_out}
-use Rattle.rewrite_modules.proofs.Arms.{ifs_typed, tree_body, tree_wrapper, tree_helper, tree_bare}
+use Rattle.rewrite_modules.proofs.Arms.{tree_body, tree_wrapper, tree_helper, tree_bare}
 use Rattle.wasm_laws.proofs.OneProgram.{all_same}
 use Rattle.wasm_laws.proofs.Safe.{Typed}
 use Rattle.rewrite_modules.proofs.Links.{is_defined}
@@ -116,9 +116,8 @@ module _ (p : Program) (w : IsProgram p) (typed : Typed p) where
   pair_at f (Some (defined b tree type)) e =
       let d = is_defined p f b tree type e in
       let it = tree_at p.module_.bodies p.trees d.number tree w d.tree_is in
-      let ifs = ifs_typed tree.nodes (body_context p.module_ type b) [] (reverse type.results) it (typed.bodies f b tree type e) in
       let slots = slots_of p f b tree type in
-      pair_of (b.groups ++ groups slots) (new_nodes p f b tree type) (tree_body (ctx_of p f b type slots) tree.nodes it ifs)
+      pair_of (b.groups ++ groups slots) (new_nodes p f b tree type) (tree_body (ctx_of p f b type slots) tree.nodes it)
 
   pairs_each : (k : ℕ) (xs : List Body) → Pairs (each (λ f. new_body p f (function_at p f)) k xs) (each (λ f. new_tree p f (function_at p f)) k xs)
   pairs_each k [] = tt

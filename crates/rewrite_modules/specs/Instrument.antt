@@ -1,15 +1,18 @@
 -- The rewritten module.
-use Rattle.std.specs.Prelude.{ℕ, suc, ◌+◌, List, [], ◌∷◌, ◌++◌, length, map, slice_get, Option, Some, None, unwrap_or, true, codes}
+use Rattle.std.specs.Prelude.{ℕ, suc, ◌+◌, ◌*◌, List, [], ◌∷◌, ◌++◌, length, map, slice_get, if◌then◌else◌, Option, Some, None, option_map, unwrap_or, true, codes}
 use Rattle.wasm_syntax.specs.declared.value.ValType.TheVariants.{I32, I64}
 use Rattle.wasm_syntax.specs.declared.instruction.Basic.TheVariants.{Const}
 use Rattle.wasm_syntax.specs.declared.instruction.Instr.TheVariants as instrs
 use Rattle.wasm_syntax.specs.declared.parts.FuncType.{FuncType}
 use Rattle.wasm_syntax.specs.declared.parts.Body.{Body}
 use Rattle.wasm_syntax.specs.declared.parts.Export.{Export}
+use Rattle.wasm_syntax.specs.declared.parts.Limits.{Limits}
+use Rattle.wasm_syntax.specs.declared.parts.ElementSeg.{ElementSeg}
 use Rattle.wasm_syntax.specs.declared.module.ModuleParts.{ModuleParts as Module}
 use Rattle.wasm_syntax.specs.Tree.{Nodes, stop, Tree}
 use Rattle.wasm_syntax.specs.Module.{Program, Function, defined, function_at, function_types}
-use Rattle.rewrite_bodies.specs.Numbering.{import_count, mapped, wraps, start_wraps, export_wrapped, wrapped, wrapper_base, helped, value_type, frame_type}
+use Rattle.wasm_syntax.specs.Run.{table_min, element_at}
+use Rattle.rewrite_bodies.specs.Numbering.{import_count, mapped, wraps, start_wraps, export_wrapped, doubles, wrapped, wrapper_base, shown, helped, value_type, frame_type}
 use Rattle.rewrite_bodies.specs.Slots.{groups, ctx_of, slots_of}
 use Rattle.rewrite_bodies.specs.Pieces.{i32, tree_of}
 use Rattle.rewrite_bodies.specs.Guards.{helper, helper_type}
@@ -35,9 +38,13 @@ abbrev pub each : {A B : Type 0} → (ℕ → B) → ℕ → List A → List B
 each go f [] = []
 each go f (x ∷ xs) = go f ∷ each go (suc f) xs
 
+-- the constant expression of a number
+abbrev pub number_init : ℕ → Body
+number_init n = record { groups = []; ops = op (instrs.Basic (Const (i32 n))) ∷ op instrs.End ∷ []; targets = []; start = 0 }
+
 -- the flag is down at first
 abbrev pub zero_init : Body
-zero_init = record { groups = []; ops = op (instrs.Basic (Const (i32 0))) ∷ op instrs.End ∷ []; targets = []; start = 0 }
+zero_init = number_init 0
 
 -- an export of a defined function is that of its wrapper; k is the number of wrappers before
 abbrev pub new_index : Module → ℕ → List ℕ → ℕ → ℕ
@@ -53,6 +60,30 @@ abbrev pub new_start : Module → Option ℕ → Option ℕ
 new_start m None = None
 new_start m (Some f) = Some (new_index m (length (export_wrapped m)) (start_wraps m (Some f)) f)
 
+-- ---- the table
+
+-- twice as long
+abbrev pub doubled : Limits → Limits
+doubled l = record { min = 2 * l.min; max = option_map (λ n. 2 * n) l.max }
+
+abbrev pub new_tables : Module → List Limits
+new_tables m = if doubles m then map doubled m.tables else m.tables
+
+-- a segment for the host, and one for what the module itself calls, which stands behind the whole table for the host
+abbrev pub shown_element : Module → ElementSeg → ElementSeg
+shown_element m e = record { table = e.table; offset = e.offset; functions = map (shown m) e.functions }
+
+abbrev pub inner_offset : Module → ElementSeg → Body
+inner_offset m e = if doubles m then number_init (element_at m e + table_min m.tables) else e.offset
+
+abbrev pub inner_element : Module → ElementSeg → ElementSeg
+inner_element m e = record { table = e.table; offset = inner_offset m e; functions = map (mapped m) e.functions }
+
+abbrev pub shown_elements : Module → List ElementSeg
+shown_elements m = if doubles m then map (shown_element m) m.elements else []
+
+-- ---- the module
+
 -- a wrapper has the type of its function
 abbrev pub wrapper_type : Module → ℕ → ℕ
 wrapper_type m f = unwrap_or (slice_get (function_types m) f) 0
@@ -65,12 +96,12 @@ new_module p =
       types = m.types ++ value_type I32 ∷ value_type I64 ∷ frame_type ∷ helper_type ∷ [];
       imports = m.imports ++ collector_import (codes "value_i32") t ∷ collector_import (codes "value_i64") (t + 1) ∷ collector_import (codes "frame") (t + 2) ∷ [];
       functions = m.functions ++ (map (wrapper_type m) (wrapped m) ++ map (λ u. t + 3) (helped p));
-      tables = m.tables;
+      tables = new_tables m;
       memories = m.memories;
       globals = m.globals ++ record { vtype = I32; mutable = true; init = zero_init } ∷ [];
       exports = new_exports m 0 m.exports ++ memory_export m.memories;
       start = new_start m m.start;
-      elements = map (λ e. record { table = e.table; offset = e.offset; functions = map (mapped m) e.functions }) m.elements;
+      elements = shown_elements m ++ map (inner_element m) m.elements;
       segments = m.segments;
       bodies = each (λ f. new_body p f (function_at p f)) (import_count m) m.bodies ++ (map (λ f. body_of [] (wrapper m f)) (wrapped m) ++ map (λ u. body_of [] (helper m u)) (helped p));
       customs = [];

@@ -5,8 +5,16 @@ use Rattle.wasm_syntax.specs.declared.parts.Export.{Export}
 use Rattle.wasm_syntax.specs.declared.parts.ExportKind.{ExportKind}
 use Rattle.wasm_syntax.specs.declared.module.ModuleParts.{ModuleParts as Module}
 use Rattle.wasm_syntax.specs.Module.{is_function}
-use Rattle.rewrite_bodies.specs.Numbering.{value_type, frame_type}
+use Rattle.wasm_syntax.specs.Run.{start_table}
+use Rattle.rewrite_bodies.specs.Numbering.{new_entries, value_type, frame_type}
 use Rattle.rewrite_modules.specs.Collector.{collector_import, memory_export}
+use Rattle.rewrite_modules.specs.Instrument.{new_tables}
+
+-- The table with its limits, and its entries where an instance starts; or where a host sees it and it is doubled, twice these limits, with a
+-- wrapper in front for each entry, and the entries of the module behind.
+pub record KeepsTable (m new : Module) : Type 0 where
+  pub tables : new.tables ≡ new_tables m
+  pub entries : start_table new ≡ new_entries m (start_table m)
 
 abbrev pub named : Export → List ℕ × ExportKind
 named e = (e.name, e.kind)
@@ -22,6 +30,5 @@ pub record KeepsInterface (m new : Module) : Type 0 where
   pub exports : map named new.exports ≡ map named m.exports ++ map named (memory_export m.memories)
   -- tables, memories and globals are exported under their indices
   pub indices : (i : ℕ) (e : Export) → slice_get m.exports i ≡ Some e → is_function e.kind ≡ false → slice_get new.exports i ≡ Some e
-  pub tables : new.tables ≡ m.tables
   pub memories : new.memories ≡ m.memories
   pub segments : new.segments ≡ m.segments

@@ -5,6 +5,7 @@ pub mod Instrument
 pub mod Simulates
 pub mod Flag
 pub mod Starts
+pub mod Entries
 pub mod Weight
 pub mod Multiple
 pub mod Instrumentable

@@ -12,10 +12,10 @@ use Rattle.wasm_syntax.specs.declared.parts.FuncType.{FuncType}
 use Rattle.wasm_syntax.specs.declared.module.ModuleParts.{ModuleParts as Module}
 use Rattle.wasm_syntax.specs.Module.{type_at, is_function}
 use Rattle.wasm_syntax.specs.Run.{table_min}
-use Rattle.wasm_syntax.specs.Sizes.{parameter_count, local_count}
+use Rattle.wasm_syntax.specs.Sizes.{local_count}
 use Rattle.wasm_syntax.specs.Tree.{code_of}
 use Rattle.wasm_syntax.specs.FlatTyping.{IsLive, TypesBefore}
-use Rattle.rewrite_bodies.specs.Numbering.{distinct}
+use Rattle.rewrite_bodies.specs.Numbering.{entry_weight, distinct}
 
 -- ---- operand heights: a number for each instruction of each function that the module defines
 
@@ -56,10 +56,8 @@ type_used i = []
 abbrev pub types_used : Module → List ℕ
 types_used m = distinct (flat_map (λ b. flat_map (λ o. type_used o.code) b.ops) m.bodies)
 
--- of a function that is called from outside
-abbrev pub entry_weight : Module → ℕ → ℕ
-entry_weight m f = 128 + 16 * parameter_count (type_at m f) + 16 * length m.globals
-
+-- of the functions that are called from outside by their names; the wrappers of a table that a host sees weigh nothing more, since only those
+-- are written that fit into the bytes that the rest leaves
 abbrev pub exports_weight : Module → List Export → ℕ
 exports_weight m [] = 0
 exports_weight m (e ∷ es) = (if is_function e.kind then entry_weight m e.index else 0) + exports_weight m es

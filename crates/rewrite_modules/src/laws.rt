@@ -10,7 +10,7 @@ ghost use Rattle.wasm_syntax.specs.SameCode.{code_alone};
 ghost use Rattle.rewrite_modules.specs.calls.Given.{Given};
 ghost use Rattle.rewrite_modules.specs.Instrumentable.{Instrumentable, program_of};
 ghost use Rattle.rewrite_modules.specs.Instrument.{instrument, new_module};
-ghost use Rattle.rewrite_modules.specs.Interface.{KeepsInterface};
+ghost use Rattle.rewrite_modules.specs.Interface.{KeepsInterface, KeepsTable};
 ghost use Rattle.rewrite_modules.specs.Simulates.{Simulates};
 ghost use Rattle.rewrite_modules.specs.calls.Example.{divider, HandsOver, Weighs, Multiplies};
 ghost use Rattle.rewrite_modules.specs.calls.LowSizes.{LowSizes, LowHeights};
@@ -70,9 +70,11 @@ pub fn offsets_change_no_run()
 {}
 
 /// The imports are those of the module and then the collector's three, and the exports those of the
-/// module and then its memory.
+/// module and then its memory. The table is that of the module, or twice as long, for a host that
+/// sees it.
 pub fn interface_is_kept()
-    ensures { (p : Program) → KeepsInterface p.module_ (new_module p) }
+    ensures interface { (p : Program) → KeepsInterface p.module_ (new_module p) }
+    ensures table { (p : Program) → KeepsTable p.module_ (new_module p) }
 {}
 
 /// The rewritten module is valid, and so is each one that is the same but for offsets, lengths and

@@ -14,6 +14,8 @@ use Rattle.rewrite_modules.specs.Interface.{KeepsInterface}
 use Rattle.rewrite_modules.specs.Multiple.{multiple}
 use Rattle.rewrite_modules.proofs.BareHeights.{same_heights}
 use Rattle.rewrite_modules.proofs.BareRuns.{simulates_bare, starts_bare}
+use Rattle.rewrite_modules.proofs.BareCalls.{entries_bare}
+use Rattle.rewrite_promise.proofs.Outside.{table_same}
 use Rattle.rewrite_modules.proofs.BareValid.{same_valid}
 use Rattle.rewrite_modules.proofs.WrittenOut.{program_bare, same_bare}
 use Rattle.rewrite_promise.specs.Promise.{Promised}
@@ -26,6 +28,7 @@ module _ (m other decoded : Module) (same : code_alone other ≡ code_alone deco
   outside_kept : KeepsOutside m other → KeepsOutside m decoded
   outside_kept h = record {
     interface = subst (KeepsInterface (code_alone m)) same h.interface;
+    table = table_same other decoded same h.table;
     globals = subst (λ (k : Module). take (length m.globals) k.globals ≡ map global_code m.globals) same h.globals;
   }
 
@@ -51,6 +54,7 @@ admits m other light p d are =
       decoded_whole = too;
       simulates = simulates_bare (multiple m light.heights) (program_of m p.whole) q r bares (p.simulates light.heights light.heights_are);
       starts = starts_bare (multiple m light.heights) (program_of m p.whole) q r bares (p.starts light.heights light.heights_are);
+      entries = entries_bare (multiple m light.heights) (program_of m p.whole) q r bares (p.entries light.heights light.heights_are);
       valid = valid;
       within = limits bytes decoded are d.is;
       low = all_low decoded (same_heights other decoded same (low_heights other p.low));

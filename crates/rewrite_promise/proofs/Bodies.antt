@@ -13,8 +13,7 @@ use Rattle.wasm_encode.specs.Encoding.{import_bytes}
 use Rattle.wasm_format_laws.specs.Sized.{OpsSized, Sized}
 use Rattle.rewrite_bodies.specs.Numbering.{import_count}
 use Rattle.rewrite_bodies.specs.Slots.{ctx_of, slots_of}
-use Rattle.rewrite_bodies.specs.Rewrite.{in_body}
-use Rattle.rewrite_bodies.specs.calls.Typed.{original}
+use Rattle.rewrite_bodies.specs.calls.Typed.{in_body, original}
 use Rattle.rewrite_bodies.specs.calls.Length.{code_length}
 use Rattle.rewrite_bodies.proofs.LengthsNodes.{bodies_short}
 use Rattle.rewrite_bodies.proofs.TypedPieces.{at_labels}

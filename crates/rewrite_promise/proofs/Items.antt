@@ -1,5 +1,6 @@
 -- The bytes of flat code are those of its tree.
-use Rattle.std.proofs.Common.{◌≡◌, ℕ, zero, suc, ◌+◌, ◌≤◌, List, [], ◌∷◌, ◌++◌, length, flat_map, take, drop, Option, Some, None, refl, sym, ap, ap₂, ◌∙◌, arith, length-append, append_assoc, append-nil, slice_get}
+use Rattle.std.proofs.Common.{◌≡◌, ℕ, zero, suc, ◌+◌, ◌≤◌, List, [], ◌∷◌, ◌++◌, length, flat_map, take, drop, Option, Some, None, refl, sym, ap, ap₂, ◌∙◌, arith, length-append, append_assoc, append-nil, slice_get, map, option_to_list, true}
+use Rattle.std.proofs.lemmas.List.{length-map}
 use Rattle.std.proofs.Math.Nat.{max-le}
 use Rattle.wasm_leb.specs.Writing.{unsigned_bytes}
 use Rattle.int_ops.specs.declared.operators.Narrow32.TheVariants as narrow32
@@ -23,7 +24,8 @@ use Rattle.wasm_format.specs.Encoding.{labels_bytes, jump_bytes, encoding}
 use Rattle.wasm_encode.specs.Encoding.{expression_bytes}
 use Rattle.wasm_format_laws.proofs.Measures.{number_rises}
 use Rattle.rewrite_bodies.specs.Numbering.{uses}
-use Rattle.rewrite_bodies.specs.Slots.{Place, Known, Ctx, less, grown, after_plain, result_type, behind_call, behind_instr, behind_jump, peak}
+use Rattle.rewrite_bodies.specs.Slots.{Place, place_type, Ctx, less, grown, uncopied, under, after_plain, result_type, behind_call, behind_jump, peak}
+use Rattle.rewrite_bodies.proofs.TypedNodes.{after_types}
 use Rattle.wasm_syntax.specs.Effect.{takes}
 use Rattle.rewrite_bodies.specs.calls.Length.{basic_length, jump_length, else_length, code_length}
 use Rattle.rewrite_modules.specs.FlatCode.{targets_in, op, else_op, ops_in, body_of}
@@ -146,32 +148,15 @@ grown_longer None es = omega arith
 grown_longer (Some t) es = omega arith
 
 module _ (C : Ctx) (r : ℕ) (go : List Place → ℕ) (h : (es : List Place) → go es ≤ length es + r) where
-  plain_peak : (i : Basic) (es : List Place) → go (after_plain C es i) ≤ length es + 1 + r
-  plain_peak i es = omega (arith, h (after_plain C es i), grown_longer (result_type C es i) (less (takes i) es), less_shorter (takes i) es)
-
-  instr_peak : (i : Basic) (es : List Place) → behind_instr C i es go ≤ length es + 1 + r
-  instr_peak (Const v) es = omega (arith, h (Known v ∷ es))
-  instr_peak Nop es = plain_peak Nop es
-  instr_peak Drop es = plain_peak Drop es
-  instr_peak Select es = plain_peak Select es
-  instr_peak (LocalGet x) es = plain_peak (LocalGet x) es
-  instr_peak (LocalSet x) es = plain_peak (LocalSet x) es
-  instr_peak (LocalTee x) es = plain_peak (LocalTee x) es
-  instr_peak (GlobalGet x) es = plain_peak (GlobalGet x) es
-  instr_peak (GlobalSet x) es = plain_peak (GlobalSet x) es
-  instr_peak (Load l al of) es = plain_peak (Load l al of) es
-  instr_peak (Store l al of) es = plain_peak (Store l al of) es
-  instr_peak MemorySize es = plain_peak MemorySize es
-  instr_peak MemoryGrow es = plain_peak MemoryGrow es
-  instr_peak MemoryCopy es = plain_peak MemoryCopy es
-  instr_peak MemoryFill es = plain_peak MemoryFill es
-  instr_peak (Eqz u) es = plain_peak (Eqz u) es
-  instr_peak (Unary u o) es = plain_peak (Unary u o) es
-  instr_peak (Compare u o) es = plain_peak (Compare u o) es
-  instr_peak (Binary u o) es = plain_peak (Binary u o) es
-  instr_peak (Convert k) es = plain_peak (Convert k) es
-  instr_peak (Extend32 k) es = plain_peak (Extend32 k) es
-  instr_peak (Extend64 k) es = plain_peak (Extend64 k) es
+  instr_peak : (i : Basic) (es : List Place) → go (after_plain C es i) ≤ length es + 1 + r
+  instr_peak i es =
+      let left = less (takes i) es in
+      let n : length (after_plain C es i) ≡ length (option_to_list (result_type C es i)) + length left = sym (length-map (after_plain C es i) place_type) ∙ ap length (after_types C es i) ∙ length-append (option_to_list (result_type C es i)) (map place_type left) ∙ ap (λ z. length (option_to_list (result_type C es i)) + z) (length-map left place_type) in
+      omega (arith, h (after_plain C es i), n, one_at_most (result_type C es i), less_shorter (takes i) es)
+    where
+      one_at_most : (t : Option ValType) → length (option_to_list t) ≤ 1
+      one_at_most None = omega arith
+      one_at_most (Some t) = omega arith
 
   call_peak : (q : Option FuncType) (es : List Place) → behind_call q es go ≤ length es + 1 + r
   call_peak None es = omega arith
@@ -195,18 +180,23 @@ peak_few C (basic at i rest) es =
 peak_few C (jump at j rest) es =
     max-le (omega arith) (let a = jump_peak C (code_length rest) (λ es'. peak C es' rest) (λ es'. peak_few C rest es') j es in omega (arith, a))
 peak_few C (block at t inner end rest) es =
-    let a = peak_few C inner es in
-    let b = peak_few C rest (grown t es) in
-    let c = grown_longer t es in
-    max-le (omega arith) (max-le (omega (arith, a)) (omega (arith, b, c)))
+    let left = under es in
+    let len = length-map es (uncopied (λ x. true)) in
+    let a = peak_few C inner left in
+    let b = peak_few C rest (grown t left) in
+    let c = grown_longer t left in
+    max-le (omega arith) (max-le (omega (arith, a, len)) (omega (arith, b, c, len)))
 peak_few C (loop at t inner end rest) es =
-    let a = peak_few C inner es in
-    let b = peak_few C rest (grown t es) in
-    let c = grown_longer t es in
-    max-le (omega arith) (max-le (omega (arith, a)) (omega (arith, b, c)))
+    let left = under es in
+    let len = length-map es (uncopied (λ x. true)) in
+    let a = peak_few C inner left in
+    let b = peak_few C rest (grown t left) in
+    let c = grown_longer t left in
+    max-le (omega arith) (max-le (omega (arith, a, len)) (omega (arith, b, c, len)))
 peak_few C (choose at t x ea y end rest) es =
-    let left = less 1 es in
-    let low = less_shorter 1 es in
+    let left = under (less 1 es) in
+    let len = length-map (less 1 es) (uncopied (λ x. true)) in
+    let low : length left ≤ length es = omega (arith, len, less_shorter 1 es) in
     let a = peak_few C x left in
     let b = peak_few C y left in
     let c = peak_few C rest (grown t left) in

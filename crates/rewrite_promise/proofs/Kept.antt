@@ -18,11 +18,13 @@ use Rattle.rewrite_modules.specs.Flag.{LowersFlag}
 use Rattle.rewrite_modules.specs.Starts.{StartsAlike}
 use Rattle.rewrite_modules.specs.Weight.{AreHeights, weight}
 use Rattle.rewrite_modules.proofs.BareRuns.{simulates_bare, starts_bare, lowers_bare}
+use Rattle.rewrite_modules.proofs.BareCalls.{entries_bare, entries_lower_bare}
+use Rattle.rewrite_modules.specs.Entries.{SimulatesEntries, EntriesLowerFlag}
 use Rattle.rewrite_modules.proofs.BareValid.{same_valid}
 use Rattle.rewrite_modules.proofs.Modules.{module_given, few_at_start}
 use Rattle.rewrite_modules.proofs.LowOperands.{low_heights}
-use Rattle.rewrite_modules.proofs.Multiple.{simulates_by, starts_by_heights}
-use Rattle.rewrite_modules.proofs.Theorem.{startable_given, ready_given, rewriting_lowers}
+use Rattle.rewrite_modules.proofs.Multiple.{simulates_by, starts_by_heights, entries_by_heights}
+use Rattle.rewrite_modules.proofs.Theorem.{startable_given, ready_given, rewriting_lowers, entries_lower}
 use Rattle.rewrite_modules.proofs.ValidModule.{new_valid}
 use Rattle.rewrite_modules.proofs.WrittenOut.{program_bare, same_bare, instrument_bare}
 use Rattle.rewrite_promise.proofs.Lists.{within}
@@ -55,6 +57,12 @@ module _ (m other : Module) (x : Instrumentable m) (sized : Sized m) (too : IsMo
 
   pub lowers_it : LowersFlag p q
   lowers_it = lowers_bare p (instrument p) q bares (rewriting_lowers p given)
+
+  pub entries_it : (heights : List (List ℕ)) → AreHeights m heights → SimulatesEntries (multiple m heights) p q
+  entries_it heights are = entries_bare (multiple m heights) p (instrument p) q bares (entries_by_heights p given heights are)
+
+  pub entries_lower_it : EntriesLowerFlag p q
+  entries_lower_it = entries_lower_bare p (instrument p) q bares (entries_lower p given)
 
   pub is_valid : Valid other
   is_valid = same_valid (new_module p) other same too (new_valid p (ready_given p given) x.valid (startable_given p given).typed x.whole.write x.no_export_collision)
@@ -112,7 +120,9 @@ promised m other a r =
       other_whole = r.other_whole;
       simulates = does m other x a.sized r.other_whole r.same;
       starts = starts_it m other x a.sized r.other_whole r.same;
+      entries = entries_it m other x a.sized r.other_whole r.same;
       lowers = lowers_it m other x a.sized r.other_whole r.same;
+      entries_lower = entries_lower_it m other x a.sized r.other_whole r.same;
       valid = is_valid m other x a.sized r.other_whole r.same;
       within = within_too m other r x a.sized r.same;
       low = is_low m other x a.sized r.other_whole r.same;

@@ -1,5 +1,5 @@
 -- There is a rewriting: the rewritten module with its instructions at ascending offsets.
-use Rattle.std.proofs.Common.{◌≡◌, ℕ, suc, ◌+◌, true, List, [], ◌∷◌, ◌++◌, length, map, Option, Some, None, refl, sym, ap, ap₂, ◌∙◌, subst, arith, slice_get, append_assoc, length-append}
+use Rattle.std.proofs.Common.{◌≡◌, ℕ, suc, ◌+◌, Bool, true, false, if◌then◌else◌, List, [], ◌∷◌, ◌++◌, length, map, Option, Some, None, refl, sym, ap, ap₂, ◌∙◌, subst, arith, slice_get, append_assoc, length-append}
 use Rattle.std.specs.Prelude.{codes, IsUtf8}
 use Rattle.std.specs.List.{AllByRecursion}
 use Rattle.std.proofs.lemmas.List.{length-map, map-append}
@@ -22,14 +22,16 @@ use Rattle.wasm_syntax.specs.FlatTyping.{OpenBlock, FlatTypes, body_block}
 use Rattle.wasm_syntax.specs.Valid.{Valid}
 use Rattle.wasm_laws.proofs.FlatBodies.{body_steps, steps_body}
 use Rattle.wasm_laws.proofs.Lists.{all_append, all_map}
-use Rattle.rewrite_bodies.specs.Numbering.{import_count, mapped, wraps, wrapped, helped}
+use Rattle.wasm_syntax.specs.declared.parts.ElementSeg.{ElementSeg}
+use Rattle.wasm_syntax.specs.Run.{table_min, element_at}
+use Rattle.rewrite_bodies.specs.Numbering.{import_count, mapped, wraps, wrapped, doubles, helped}
 use Rattle.rewrite_bodies.specs.Slots.{groups, slots_of}
 use Rattle.rewrite_bodies.specs.Pieces.{i32}
 use Rattle.rewrite_bodies.specs.Guards.{helper}
-use Rattle.wasm_syntax.specs.SameCode.{op_code, body_code, global_code, code_alone}
+use Rattle.wasm_syntax.specs.SameCode.{op_code, body_code, global_code, element_code, code_alone}
 use Rattle.rewrite_modules.specs.FlatCode.{targets_in, op, else_op, ops_in, body_of}
 use Rattle.rewrite_modules.specs.Collector.{memory_export}
-use Rattle.rewrite_modules.specs.Instrument.{new_nodes, new_body, each, zero_init, new_exports, wrapper_type, new_module}
+use Rattle.rewrite_modules.specs.Instrument.{new_nodes, new_body, each, number_init, zero_init, shown_element, inner_element, shown_elements, new_exports, wrapper_type, new_module}
 use Rattle.rewrite_modules.specs.Wrappers.{wrapper}
 use Rattle.rewrite_modules.proofs.FineBodies.{fine_at, gives_one}
 use Rattle.rewrite_modules.proofs.Links.{length-each}
@@ -215,13 +217,58 @@ zero_flag init = record { vtype = I32; mutable = true; init = init }
 abbrev numbered_flag : Global
 numbered_flag = zero_flag (number_body zero_init)
 
-flag_is : IsExpression (number_body zero_init)
-flag_is = record {
-  tree = record { nodes = basic 0 (Const (i32 0)) stop; end = 1 };
+pub number_is : (n : ℕ) → IsExpression (number_body (number_init n))
+number_is n = record {
+  tree = record { nodes = basic 0 (Const (i32 n)) stop; end = 1 };
   writes = record { arms = tt; out = refl };
-  in_order = record { offsets = ascends 0 zero_init.ops; targets = refl };
+  in_order = record { offsets = ascends 0 (number_init n).ops; targets = refl };
   no_locals = refl;
 }
+
+flag_is : IsExpression (number_body zero_init)
+flag_is = number_is 0
+
+-- a segment for what the module itself calls
+abbrev laid_offset : Bool → Module → ElementSeg → Body
+laid_offset q m e = if q then number_body (number_init (element_at m e + table_min m.tables)) else e.offset
+
+abbrev laid_element : Bool → Module → ElementSeg → ElementSeg
+laid_element q m e = record { table = e.table; offset = laid_offset q m e; functions = map (mapped m) e.functions }
+
+same_map : (f g : ElementSeg → ElementSeg) → ((e : ElementSeg) → f e ≡ g e) → (es : List ElementSeg) → map f es ≡ map g es
+same_map f g h [] = refl
+same_map f g h (e ∷ es) = ap₂ (λ x xs. x ∷ xs) (h e) (same_map f g h es)
+
+-- the segments of the new module are these, but for offsets
+elements_same : (m : Module) → map element_code (shown_elements m ++ map (inner_element m) m.elements) ≡ map element_code (shown_elements m ++ map (laid_element (doubles m) m) m.elements)
+elements_same m =
+    map-append element_code (shown_elements m) (map (inner_element m) m.elements) ∙ ap (λ z. map element_code (shown_elements m) ++ z) inner ∙ sym (map-append element_code (shown_elements m) (map (laid_element (doubles m) m) m.elements))
+  where
+    one : (q : Bool) (e : ElementSeg) → element_code (record { table = e.table; offset = if q then number_init (element_at m e + table_min m.tables) else e.offset; functions = map (mapped m) e.functions }) ≡ element_code (laid_element q m e)
+    one false e = refl
+    one true e = refl
+
+    codes : (f : ElementSeg → ElementSeg) (es : List ElementSeg) → map element_code (map f es) ≡ map (λ e. element_code (f e)) es
+    codes f [] = refl
+    codes f (e ∷ es) = ap (λ z. element_code (f e) ∷ z) (codes f es)
+
+    inner : map element_code (map (inner_element m) m.elements) ≡ map element_code (map (laid_element (doubles m) m) m.elements)
+    inner = codes (inner_element m) m.elements ∙ same_map (λ e. element_code (inner_element m e)) (λ e. element_code (laid_element (doubles m) m e)) (λ e. one (doubles m) e) m.elements ∙ sym (codes (laid_element (doubles m) m) m.elements)
+
+expressions : (m : Module) → AllByRecursion (λ e. IsExpression e.offset) m.elements → AllByRecursion (λ e. IsExpression e.offset) (shown_elements m ++ map (laid_element (doubles m) m) m.elements)
+expressions m h = all_append (λ e. IsExpression e.offset) (shown_elements m) (map (laid_element (doubles m) m) m.elements) (in_front (doubles m)) (behind (doubles m))
+  where
+    in_front : (q : Bool) → AllByRecursion (λ e. IsExpression e.offset) (if q then map (shown_element m) m.elements else [])
+    in_front false = tt
+    in_front true = all_map (λ e. IsExpression e.offset) (shown_element m) m.elements h
+
+    numbers : (es : List ElementSeg) → AllByRecursion (λ e. IsExpression e.offset) (map (laid_element true m) es)
+    numbers [] = tt
+    numbers (e ∷ es) = (number_is (element_at m e + table_min m.tables), numbers es)
+
+    behind : (q : Bool) → AllByRecursion (λ e. IsExpression e.offset) (map (laid_element q m) m.elements)
+    behind false = all_map (λ e. IsExpression e.offset) (laid_element false m) m.elements h
+    behind true = numbers m.elements
 
 module _ (p : Program) where
   abbrev m : Module
@@ -229,7 +276,7 @@ module _ (p : Program) where
 
   -- the rewritten module, with ascending offsets
   abbrev pub laid : Module
-  laid = record (new_module p) { globals = m.globals ++ numbered_flag ∷ []; bodies = map number_body (new_module p).bodies }
+  laid = record (new_module p) { globals = m.globals ++ numbered_flag ∷ []; elements = shown_elements m ++ map (laid_element (doubles m) m) m.elements; bodies = map number_body (new_module p).bodies }
 
   as_many : length m.bodies ≡ length m.functions → length laid.bodies ≡ length laid.functions
   as_many e =
@@ -259,7 +306,7 @@ module _ (p : Program) where
         in_order = all_in_order (new_module p).bodies (bodies_take p);
         as_many = as_many whole.as_many;
         globals = all_append (λ g. IsExpression g.init) m.globals (numbered_flag ∷ []) whole.globals (flag_is, tt);
-        elements = all_map (λ e. IsExpression e.offset) (λ e. record { table = e.table; offset = e.offset; functions = map (mapped m) e.functions }) m.elements whole.elements;
+        elements = expressions m whole.elements;
         segments = whole.segments;
         import_modules = all_append (λ i. IsUtf8 i.«module») m.imports _ whole.import_modules (utf8_collector, (utf8_collector, (utf8_collector, tt)));
         import_names = all_append (λ i. IsUtf8 i.name) m.imports _ whole.import_names (utf8_i32, (utf8_i64, (utf8_frame, tt)));
@@ -272,7 +319,7 @@ module _ (p : Program) where
   laid_same =
       let globals : map global_code (m.globals ++ zero_flag zero_init ∷ []) ≡ map global_code (m.globals ++ numbered_flag ∷ []) = map-append global_code m.globals (zero_flag zero_init ∷ []) ∙ sym (map-append global_code m.globals (numbered_flag ∷ [])) in
       let bodies = sym (bodies_number (new_module p).bodies) in
-      ap₂ (λ (gs : List Global) (bs : List Body). with_code (code_alone (new_module p)) gs bs) globals bodies
+      all_same globals (elements_same m) bodies
     where
-      with_code : Module → List Global → List Body → Module
-      with_code n gs bs = record n { globals = gs; bodies = bs }
+      all_same : {gs gs' : List Global} {es es' : List ElementSeg} {bs bs' : List Body} → gs ≡ gs' → es ≡ es' → bs ≡ bs' → ◌≡◌ {A = Module} (record (code_alone (new_module p)) { globals = gs; elements = es; bodies = bs }) (record (code_alone (new_module p)) { globals = gs'; elements = es'; bodies = bs' })
+      all_same g e b = cc

@@ -1,5 +1,5 @@
 -- What the layers promise of each rewriting.
-use Rattle.std.proofs.Common.{◌≡◌, ℕ, ◌+◌, ◌*◌, ◌≤◌, List, length, map, Some, option_map, true, slice_get, refl, sym, ap, ◌∙◌, subst}
+use Rattle.std.proofs.Common.{◌≡◌, ℕ, ◌+◌, ◌*◌, ◌≤◌, List, length, map, Some, option_map, true, slice_get, refl, sym, ap, ◌∙◌, subst, arith}
 use Rattle.std.proofs.lemmas.Option.{slice_get-map}
 use Rattle.wasm_syntax.specs.declared.instruction.Instr.{Instr}
 use Rattle.wasm_syntax.specs.declared.parts.LocalGroup.{LocalGroup}
@@ -11,7 +11,7 @@ use Rattle.wasm_syntax.specs.Quantity.{greatest}
 use Rattle.wasm_syntax.specs.Sizes.{local_count, nesting, deepest}
 use Rattle.wasm_syntax.specs.Valid.{Valid}
 use Rattle.wasm_syntax.specs.SameCode.{body_code, code_alone}
-use Rattle.wasm_encode.specs.Encoding.{entry_bytes}
+use Rattle.wasm_encode.specs.Encoding.{entry_bytes, function_bytes}
 use Rattle.wasm_format_laws.specs.Sized.{Sized}
 use Rattle.wasm_laws.proofs.Lists.{at_of}
 use Rattle.pm_text.proofs.Lists.{some_is, get_front}
@@ -36,6 +36,8 @@ use Rattle.rewrite_promise.proofs.Decoded.{with_trees}
 use Rattle.rewrite_promise.proofs.Heights.{same_ops, same_height}
 use Rattle.rewrite_promise.proofs.Sections.{entry_bare}
 use Rattle.rewrite_promise.proofs.Whole.{rewritten_short}
+use Rattle.wasm_format_laws.proofs.Numbers.{some_bytes}
+use Rattle.rewrite_modules.proofs.EncodedLengths.{entry_total}
 
 -- bodies of the same code take as many bytes
 same_entry : (b c : Body) → body_code b ≡ body_code c → entry_bytes b ≡ entry_bytes c
@@ -61,7 +63,8 @@ module _ (m : Module) (x : Instrumentable m) (sized : Sized m) where
   body_short heights are i old new there e =
       let weigh = λ (hs : List (List ℕ)). ops_weight (height_at hs i) 0 old.ops in
       let same : weigh x.lightness.heights ≡ weigh heights = same_ops (height_at x.lightness.heights i) (height_at heights i) (λ j. same_height m x.valid x.lightness.heights heights x.lightness.heights_are are i j old there) 0 old.ops in
-      let most = rewritten_short m x sized i old (function_at p (import_count m + i)) refl there in
+      let six = rewritten_short m x sized i old (function_at p (import_count m + i)) refl there in
+      let most : length (entry_bytes (new_body p (import_count m + i) (function_at p (import_count m + i)))) ≤ share m x.lightness.heights i old = omega (arith, six, entry_total old, some_bytes (length (function_bytes old))) in
       let bytes : entry_bytes (nth i) ≡ entry_bytes new = same_entry (nth i) new (sym e) in
       subst (λ (k : ℕ). length (entry_bytes new) ≤ 8 * length (entry_bytes old) + (192 + 16 * local_count (type_at m (length m.imports + i)) old + k)) same (subst (λ (z : List ℕ). length z ≤ share m x.lightness.heights i old) bytes most)
 

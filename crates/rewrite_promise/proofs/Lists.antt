@@ -1,5 +1,5 @@
 -- The lists of a rewritten module are short, so that it is within the limits of the decoder.
-use Rattle.std.proofs.Common.{◌≡◌, ℕ, suc, ◌+◌, ◌^◌, ◌<◌, ◌≤◌, List, [], ◌∷◌, ◌++◌, length, map, flat_map, Option, Some, None, sym, subst, lit<, arith, length-append}
+use Rattle.std.proofs.Common.{◌≡◌, ℕ, suc, ◌+◌, ◌^◌, ◌<◌, ◌≤◌, List, [], ◌∷◌, ◌++◌, length, map, flat_map, Option, Some, None, sym, subst, lit<, arith, length-append, Bool, if◌then◌else◌, true, false}
 use Rattle.std.specs.List.{AllByRecursion}
 use Rattle.std.proofs.lemmas.List.{length-map}
 use Rattle.wasm_leb.specs.Writing.{unsigned_bytes}
@@ -17,9 +17,10 @@ use Rattle.wasm_syntax.specs.Tree.{Jump, Unreachable, Br, BrIf, BrTable, Return,
 use Rattle.wasm_syntax.specs.Module.{Program, Function, imported, defined, function_at}
 use Rattle.wasm_syntax.specs.Sizes.{Short, ShortBody, ShortType, ShortElement, ShortData, ShortLists, WithinLimits}
 use Rattle.wasm_format.specs.Encoding.{encoding as instruction_bytes, labels_bytes}
-use Rattle.wasm_encode.specs.Encoding.{sized_bytes, group_bytes, function_type_bytes, import_bytes, kind_byte, global_bytes, export_bytes, entry_bytes}
+use Rattle.wasm_encode.specs.Encoding.{vector_bytes, sized_bytes, group_bytes, function_type_bytes, import_bytes, kind_byte, global_bytes, export_bytes, element_bytes, expression_bytes, entry_bytes}
 use Rattle.wasm_format_laws.specs.Sized.{Sized}
-use Rattle.rewrite_bodies.specs.Numbering.{import_count, mapped, wraps, wrapped, helped}
+use Rattle.wasm_syntax.specs.Run.{table_min, element_at}
+use Rattle.rewrite_bodies.specs.Numbering.{import_count, mapped, shown, wraps, wrapped, doubles, helped}
 use Rattle.rewrite_bodies.specs.Slots.{groups, slots_of}
 use Rattle.rewrite_bodies.specs.Guards.{helper}
 use Rattle.rewrite_bodies.specs.calls.Length.{jump_length, code_length}
@@ -27,7 +28,7 @@ use Rattle.wasm_laws.proofs.Lists.{all_append, all_map}
 use Rattle.wasm_syntax.specs.SameCode.{op_code, body_code, global_code, element_code, segment_code, code_alone}
 use Rattle.rewrite_modules.specs.FlatCode.{targets_in, body_of}
 use Rattle.rewrite_modules.specs.Collector.{memory_export}
-use Rattle.rewrite_modules.specs.Instrument.{new_nodes, new_body, each, new_exports, new_module}
+use Rattle.rewrite_modules.specs.Instrument.{new_nodes, new_body, each, number_init, doubled, new_tables, shown_element, inner_offset, inner_element, shown_elements, new_exports, new_module}
 use Rattle.rewrite_modules.specs.Instrumentable.{program_of, Instrumentable}
 use Rattle.rewrite_modules.specs.Wrappers.{wrapper}
 use Rattle.rewrite_modules.proofs.BareValid.{same_sizes, all_as}
@@ -102,10 +103,26 @@ memory_name : (ls : List Limits) → AllByRecursion (λ e. Short e.name) (memory
 memory_name [] = tt
 memory_name (l ∷ ls) = (lit< tt, tt)
 
-elements_kept : (m : Module) (es : List ElementSeg) → AllByRecursion ShortElement es → AllByRecursion ShortElement (map (λ e. record { table = e.table; offset = e.offset; functions = map (mapped m) e.functions }) es)
-elements_kept m [] h = tt
-elements_kept m (e ∷ es) h =
-    (record { offset = h.0.offset; functions = subst (λ n. n < 2 ^ 32) (sym (length-map e.functions (mapped m))) h.0.functions }, elements_kept m es h.1)
+element_some : (e : ElementSeg) → 1 ≤ length (element_bytes e)
+unfolding element_bytes
+element_some e = let a = length-append (unsigned_bytes e.table) (expression_bytes e.offset ++ vector_bytes unsigned_bytes e.functions) in omega (arith, a, some_bytes e.table)
+
+-- segments with other functions, as many, and with offsets that are short
+elements_kept : (h : ℕ → ℕ) (offset : ElementSeg → Body) → ((e : ElementSeg) → ShortElement e → ShortBody (offset e)) → (es : List ElementSeg) → AllByRecursion ShortElement es → AllByRecursion ShortElement (map (λ e. record { table = e.table; offset = offset e; functions = map h e.functions }) es)
+elements_kept h offset short [] all = tt
+elements_kept h offset short (e ∷ es) all =
+    (record { offset = short e all.0; functions = subst (λ n. n < 2 ^ 32) (sym (length-map e.functions h)) all.0.functions }, elements_kept h offset short es all.1)
+
+new_elements : (m : Module) → AllByRecursion ShortElement m.elements → AllByRecursion ShortElement (shown_elements m ++ map (inner_element m) m.elements)
+new_elements m all = all_append ShortElement (shown_elements m) (map (inner_element m) m.elements) (by (doubles m)) (elements_kept (mapped m) (inner_offset m) (λ e s. inner (doubles m) e s) m.elements all)
+  where
+    by : (q : Bool) → AllByRecursion ShortElement (if q then map (shown_element m) m.elements else [])
+    by false = tt
+    by true = elements_kept (shown m) (λ e. e.offset) (λ e s. s.offset) m.elements all
+
+    inner : (q : Bool) (e : ElementSeg) → ShortElement e → ShortBody (if q then number_init (element_at m e + table_min m.tables) else e.offset)
+    inner false e s = s.offset
+    inner true e s = record { groups = lit< tt; ops = lit< tt; targets = lit< tt }
 
 map_bodies : {A : Type 0} (go : A → Nodes) (fs : List A) → total (λ b. length (entry_bytes b)) (map (λ f. body_of [] (go f)) fs) ≤ 134217728 → AllByRecursion ShortBody (map (λ f. body_of [] (go f)) fs)
 map_bodies go [] le = tt
@@ -122,6 +139,13 @@ each_bodies p f (b ∷ bs) le = (new_lists p f (function_at p f) (omega (arith, 
 
 -- ---- the rewritten module
 
+tables_short : (m : Module) → Short m.tables → Short (new_tables m)
+tables_short m s = by (doubles m)
+  where
+    by : (q : Bool) → Short (if q then map doubled m.tables else m.tables)
+    by false = s
+    by true = subst (λ k. k < 2 ^ 32) (sym (length-map m.tables doubled)) s
+
 new_short : (p : Program) → ShortLists p.module_ → contents (new_module p) ≤ 134217728 → ShortLists (new_module p)
 new_short p s le =
     let m = p.module_ in
@@ -131,6 +155,7 @@ new_short p s le =
     let functions = total_many (λ k. length (unsigned_bytes k)) n.functions some_bytes in
     let globals = total_many (λ g. length (global_bytes g)) n.globals global_some in
     let exports = total_many (λ e. length (export_bytes e)) n.exports export_some in
+    let elements = total_many (λ e. length (element_bytes e)) n.elements element_some in
     let bodies = total_many (λ b. length (entry_bytes b)) n.bodies entry_some in
     let both : length n.imports + length n.functions < 4294967296 = omega (arith, imports, functions, le) in
     let news = each (λ f. new_body p f (function_at p f)) (import_count m) m.bodies in
@@ -144,14 +169,14 @@ new_short p s le =
       functions = both;
       import_modules = all_append (λ i. Short i.«module») m.imports _ s.import_modules (lit< tt, (lit< tt, (lit< tt, tt)));
       import_names = all_append (λ i. Short i.name) m.imports _ s.import_names (lit< tt, (lit< tt, (lit< tt, tt)));
-      tables = s.tables;
+      tables = tables_short m s.tables;
       memories = s.memories;
       globals = short_of n.globals (omega (arith, globals, le));
       each_global = all_append (λ g. ShortBody g.init) m.globals _ s.each_global (record { groups = lit< tt; ops = lit< tt; targets = lit< tt }, tt);
       exports = short_of n.exports (omega (arith, exports, le));
       export_names = all_append (λ e. Short e.name) (new_exports m 0 m.exports) _ (names_kept m 0 m.exports s.export_names) (memory_name m.memories);
-      elements = subst (λ k. k < 2 ^ 32) (sym (length-map m.elements (λ e. record { table = e.table; offset = e.offset; functions = map (mapped m) e.functions }))) s.elements;
-      each_element = elements_kept m m.elements s.each_element;
+      elements = short_of n.elements (omega (arith, elements, le));
+      each_element = new_elements m s.each_element;
       segments = s.segments;
       each_segment = s.each_segment;
       bodies = short_of n.bodies (omega (arith, bodies, le));

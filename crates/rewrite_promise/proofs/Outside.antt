@@ -9,8 +9,10 @@ use Rattle.wasm_syntax.specs.declared.module.ModuleParts.{ModuleParts as Module}
 use Rattle.wasm_syntax.specs.Module.{Program}
 use Rattle.wasm_syntax.specs.SameCode.{global_code, segment_code, code_alone}
 use Rattle.rewrite_modules.specs.Instrument.{zero_init, new_module}
-use Rattle.rewrite_modules.specs.Interface.{KeepsInterface}
-use Rattle.rewrite_modules.proofs.Interface.{interface}
+use Rattle.rewrite_modules.specs.Interface.{KeepsInterface, KeepsTable}
+use Rattle.rewrite_modules.proofs.Interface.{interface, table_kept}
+use Rattle.rewrite_modules.proofs.BareRuns.{table_bare}
+use Rattle.wasm_syntax.specs.Run.{start_table}
 use Rattle.rewrite_promise.specs.Outside.{KeepsOutside}
 
 bare_kept : (m n : Module) → KeepsInterface m n → KeepsInterface (code_alone m) (code_alone n)
@@ -22,7 +24,6 @@ bare_kept m n k = record {
   takes_frame = k.takes_frame;
   exports = k.exports;
   indices = k.indices;
-  tables = k.tables;
   memories = k.memories;
   segments = ap (map segment_code) k.segments;
 }
@@ -38,8 +39,16 @@ flag = record { vtype = I32; mutable = true; init = zero_init }
 globals_first : (p : Program) → take (length p.module_.globals) (map global_code (new_module p).globals) ≡ map global_code p.module_.globals
 globals_first p = front_mapped global_code p.module_.globals (flag ∷ [])
 
+-- the table of a module that is the same but for offsets and lengths
+pub table_same : {m : Module} (n other : Module) → code_alone n ≡ code_alone other → KeepsTable m n → KeepsTable m other
+table_same n other e k = record {
+  tables = sym (ap (λ (z : Module). z.tables) e) ∙ k.tables;
+  entries = sym (table_bare other) ∙ ap (λ (z : Module). start_table z) (sym e) ∙ table_bare n ∙ k.entries;
+}
+
 pub outside : (p : Program) (other : Module) → code_alone (new_module p) ≡ code_alone other → KeepsOutside p.module_ other
 outside p other e = record {
   interface = subst (KeepsInterface (code_alone p.module_)) e (bare_kept p.module_ (new_module p) (interface p));
+  table = table_same (new_module p) other e (table_kept p);
   globals = ap (λ (z : Module). take (length p.module_.globals) z.globals) (sym e) ∙ globals_first p;
 }

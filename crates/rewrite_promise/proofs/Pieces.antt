@@ -193,9 +193,9 @@ group_some g =
     let b = some_bytes g.count in
     omega (arith, a, b)
 
--- A body with slots whose code takes W bytes, beside one that holds as many bytes as slots: what is more than W is at most eight times
--- the other's entry.
-pub slots_entry : (old : Body) (slots W : ℕ) (nodes : Nodes) → slots + 1 ≤ length (expression_bytes old) → code_length nodes ≤ W → length (entry_bytes (body_of (old.groups ++ groups slots) nodes)) ≤ W + 8 * length (entry_bytes old)
+-- A body with slots whose code takes W bytes, beside one that holds as many bytes as slots: what is more than W is at most six times the
+-- other's entry and two bytes, so that two bytes are left for each of its bytes.
+pub slots_entry : (old : Body) (slots W : ℕ) (nodes : Nodes) → slots + 1 ≤ length (expression_bytes old) → code_length nodes ≤ W → length (entry_bytes (body_of (old.groups ++ groups slots) nodes)) ≤ W + 6 * length (entry_bytes old) + 2
 slots_entry old slots W nodes many short =
     let gs = old.groups in
     let body = body_of (gs ++ groups slots) nodes in

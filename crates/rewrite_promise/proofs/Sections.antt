@@ -1,5 +1,5 @@
 -- The bytes of the sections of a rewritten module, against those of the module.
-use Rattle.std.proofs.Common.{◌≡◌, ℕ, ◌+◌, ◌*◌, ◌<◌, ◌≤◌, Bool, true, false, nat_lt, if◌then◌else◌, List, [], ◌∷◌, ◌++◌, length, map, flat_map, Option, Some, None, refl, ap, lit≤, arith, length-append}
+use Rattle.std.proofs.Common.{◌≡◌, ℕ, ◌+◌, ◌*◌, ◌<◌, ◌≤◌, Bool, true, false, nat_lt, if◌then◌else◌, List, [], ◌∷◌, ◌++◌, length, map, flat_map, Option, Some, None, option_map, refl, ap, lit≤, arith, length-append, w32}
 use Rattle.std.specs.Prelude.{codes}
 use Rattle.std.proofs.lemmas.List.{length-map}
 use Rattle.wasm_leb.specs.Writing.{unsigned_bytes, signed_groups, signed_bytes}
@@ -17,19 +17,23 @@ use Rattle.wasm_syntax.specs.declared.parts.Body.{Body}
 use Rattle.wasm_syntax.specs.declared.instruction.Op.{Op}
 use Rattle.wasm_syntax.specs.declared.module.ModuleParts.{ModuleParts as Module}
 use Rattle.wasm_format.specs.Encoding.{encoding as instruction_bytes}
-use Rattle.wasm_encode.specs.Encoding.{vector_bytes, sized_bytes, start_section, type_byte, mutability_byte, value_type_bytes, function_type_bytes, import_bytes, table_bytes, limits_bytes, global_bytes, export_bytes, element_bytes, entry_bytes, segment_bytes, expression_bytes, group_bytes, function_bytes, encoding}
+use Rattle.wasm_encode.specs.Encoding.{vector_bytes, sized_bytes, start_section, type_byte, mutability_byte, value_type_bytes, function_type_bytes, import_bytes, table_bytes, limits_bytes, range_bytes, global_bytes, export_bytes, element_bytes, entry_bytes, segment_bytes, expression_bytes, group_bytes, function_bytes, encoding}
 use Rattle.wasm_format_laws.proofs.Measures.{sized_length}
 use Rattle.wasm_format_laws.proofs.Sections.{lengths}
-use Rattle.rewrite_bodies.specs.Numbering.{import_count, mapped, wraps, value_type, frame_type}
+use Rattle.rewrite_bodies.specs.Numbering.{import_count, mapped, wraps, shown, element_functions, doubles, value_type, frame_type}
+use Rattle.wasm_syntax.specs.Run.{table_min, element_at}
 use Rattle.rewrite_bodies.specs.Guards.{helper_type}
 use Rattle.wasm_syntax.specs.SameCode.{op_code, body_code, global_code, element_code, segment_code, code_alone}
 use Rattle.rewrite_modules.specs.Collector.{collector_import, memory_export}
-use Rattle.rewrite_modules.specs.Instrument.{zero_init, new_index, new_exports}
+use Rattle.rewrite_modules.specs.Instrument.{number_init, zero_init, doubled, new_tables, shown_element, shown_elements, inner_element, new_index, new_exports}
 use Rattle.wasm_format_laws.proofs.Numbers.{some_bytes, three_more, single_byte}
 use Rattle.wasm_format_laws.proofs.Totals.{total, total-append, vector_total, section_most, section_least}
 use Rattle.wasm_format_laws.proofs.Entries.{function_import_length, export_length}
-use Rattle.wasm_leb.proofs.Lengths.{ten_bytes}
+use Rattle.wasm_leb.proofs.Lengths.{ten_bytes, ten_signed}
+use Rattle.std.specs.List.{AllByRecursion}
+use Rattle.rewrite_modules.proofs.CodeLengths.{expression_total}
 use Rattle.rewrite_modules.proofs.EncodedLengths.{contents}
+use Rattle.std.specs.Int.{cast_signed}
 
 start_most : (s : Option ℕ) → length (start_section s) ≤ 21
 start_most None = omega arith
@@ -186,15 +190,88 @@ mapped_total : (m : Module) (fs : List ℕ) → total (λ f. length (unsigned_by
 mapped_total m [] = omega arith
 mapped_total m (f ∷ fs) = omega (arith, mapped_more m f, some_bytes f, mapped_total m fs)
 
-pub elements_grow : (m : Module) (es : List ElementSeg) → total (λ e. length (element_bytes e)) (map (λ e. record { table = e.table; offset = e.offset; functions = map (mapped m) e.functions }) es) ≤ 2 * total (λ e. length (element_bytes e)) es
-elements_grow m [] = omega arith
-elements_grow m (e ∷ es) =
+any_total : (h : ℕ → ℕ) (fs : List ℕ) → total (λ f. length (unsigned_bytes f)) (map h fs) ≤ 10 * length fs
+any_total h [] = omega arith
+any_total h (f ∷ fs) = omega (arith, ten_bytes (h f), any_total h fs)
+
+-- the constant expression of a number
+number_length : (n : ℕ) → length (expression_bytes (number_init n)) ≤ 12
+unfolding instruction_bytes
+number_length n = let a = ten_signed (cast_signed w32 n) in let b = expression_total (number_init n) in omega (arith, a, b)
+
+-- where the table is not doubled
+plain_grow : (m : Module) (es : List ElementSeg) → total (λ e. length (element_bytes e)) (map (λ e. record { table = e.table; offset = e.offset; functions = map (mapped m) e.functions }) es) ≤ 2 * total (λ e. length (element_bytes e)) es
+plain_grow m [] = omega arith
+plain_grow m (e ∷ es) =
     let new : ElementSeg = record { table = e.table; offset = e.offset; functions = map (mapped m) e.functions } in
     let a = element_length e in
     let b = element_length new in
     let c = mapped_total m e.functions in
     let d = ap (λ n. length (unsigned_bytes n)) (length-map e.functions (mapped m)) in
-    omega (arith, a, b, c, d, elements_grow m es)
+    omega (arith, a, b, c, d, plain_grow m es)
+
+shown_grow : (m : Module) (es : List ElementSeg) → total (λ e. length (element_bytes e)) (map (shown_element m) es) ≤ total (λ e. length (element_bytes e)) es + 10 * length (flat_map (λ e. e.functions) es)
+shown_grow m [] = omega arith
+shown_grow m (e ∷ es) =
+    let a = element_length e in
+    let b = element_length (shown_element m e) in
+    let c = any_total (shown m) e.functions in
+    let d = ap (λ n. length (unsigned_bytes n)) (length-map e.functions (shown m)) in
+    let f = length-append e.functions (flat_map (λ e. e.functions) es) in
+    omega (arith, a, b, c, d, f, shown_grow m es)
+
+moved_grow : (m : Module) (es : List ElementSeg) → AllByRecursion (λ e. 1 ≤ length (expression_bytes e.offset)) es → total (λ e. length (element_bytes e)) (map (λ e. record { table = e.table; offset = number_init (element_at m e + table_min m.tables); functions = map (mapped m) e.functions }) es) ≤ 5 * total (λ e. length (element_bytes e)) es
+moved_grow m [] some = omega arith
+moved_grow m (e ∷ es) some =
+    let new : ElementSeg = record { table = e.table; offset = number_init (element_at m e + table_min m.tables); functions = map (mapped m) e.functions } in
+    let a = element_length e in
+    let b = element_length new in
+    let c = mapped_total m e.functions in
+    let d = ap (λ n. length (unsigned_bytes n)) (length-map e.functions (mapped m)) in
+    let f = number_length (element_at m e + table_min m.tables) in
+    let g = some_bytes e.table in
+    let h = some_bytes (length e.functions) in
+    omega (arith, a, b, c, d, f, g, h, some.0, moved_grow m es some.1)
+
+abbrev pub added_elements : Bool → Module → ℕ
+added_elements false m = 0
+added_elements true m = 10 * length (element_functions m)
+
+-- the segments of the new module, with ten bytes for each place where it is doubled
+pub elements_grow : (m : Module) → AllByRecursion (λ e. 1 ≤ length (expression_bytes e.offset)) m.elements → total (λ e. length (element_bytes e)) (shown_elements m ++ map (inner_element m) m.elements) ≤ 6 * total (λ e. length (element_bytes e)) m.elements + added_elements (doubles m) m
+elements_grow m some = by (doubles m)
+  where
+    by : (q : Bool) → total (λ e. length (element_bytes e)) ((if q then map (shown_element m) m.elements else []) ++ map (λ e. record { table = e.table; offset = if q then number_init (element_at m e + table_min m.tables) else e.offset; functions = map (mapped m) e.functions }) m.elements) ≤ 6 * total (λ e. length (element_bytes e)) m.elements + added_elements q m
+    by false = let a = plain_grow m m.elements in omega (arith, a)
+    by true =
+        let a = shown_grow m m.elements in
+        let b = moved_grow m m.elements some in
+        let c = total-append (λ e. length (element_bytes e)) (map (shown_element m) m.elements) (map (λ e. record { table = e.table; offset = number_init (element_at m e + table_min m.tables); functions = map (mapped m) e.functions }) m.elements) in
+        omega (arith, a, b, c)
+
+-- ---- tables
+
+range_grows : (n : ℕ) (o : Option ℕ) → 1 + length (range_bytes (2 * n) (option_map (λ k. 2 * k) o)) ≤ 6 * (1 + length (range_bytes n o))
+range_grows n None = omega (arith, ten_bytes (2 * n), some_bytes n)
+range_grows n (Some k) =
+    let a = length-append (unsigned_bytes n) (unsigned_bytes k) in
+    let b = length-append (unsigned_bytes (2 * n)) (unsigned_bytes (2 * k)) in
+    omega (arith, a, b, ten_bytes (2 * n), ten_bytes (2 * k), some_bytes n, some_bytes k)
+
+one_grows : (l : Limits) → length (table_bytes (doubled l)) ≤ 6 * length (table_bytes l)
+unfolding table_bytes limits_bytes
+one_grows l = let a = range_grows l.min l.max in omega (arith, a)
+
+doubled_grow : (ls : List Limits) → total (λ l. length (table_bytes l)) (map doubled ls) ≤ 6 * total (λ l. length (table_bytes l)) ls
+doubled_grow [] = omega arith
+doubled_grow (l ∷ ls) = let a = one_grows l in omega (arith, a, doubled_grow ls)
+
+pub tables_grow : (m : Module) → total (λ l. length (table_bytes l)) (new_tables m) ≤ 6 * total (λ l. length (table_bytes l)) m.tables
+tables_grow m = by (doubles m)
+  where
+    by : (q : Bool) → total (λ l. length (table_bytes l)) (if q then map doubled m.tables else m.tables) ≤ 6 * total (λ l. length (table_bytes l)) m.tables
+    by false = omega arith
+    by true = doubled_grow m.tables
 
 -- ---- offsets and lengths of instructions are not written
 

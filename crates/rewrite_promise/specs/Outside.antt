@@ -4,12 +4,13 @@ use Rattle.wasm_syntax.specs.declared.parts.FuncType.{FuncType}
 use Rattle.wasm_syntax.specs.declared.module.ModuleParts.{ModuleParts as Module}
 use Rattle.wasm_syntax.specs.Module.{type_at, function_export}
 use Rattle.wasm_syntax.specs.SameCode.{global_code, code_alone}
-use Rattle.rewrite_modules.specs.Interface.{KeepsInterface}
+use Rattle.rewrite_modules.specs.Interface.{KeepsInterface, KeepsTable}
 
--- The other module shows those outside what the module shows: its imports and exports, with those that the rewriting adds, its types, tables
--- and memories, its data segments but for the offsets of their code, and its globals in front of any others.
+-- The other module shows those outside what the module shows: its imports and exports, with those that the rewriting adds, its types and
+-- memories, its data segments but for the offsets of their code, its globals in front of any others, and its table, or twice as much of it.
 pub record KeepsOutside (m other : Module) : Type 0 where
   pub interface : KeepsInterface (code_alone m) (code_alone other)
+  pub table : KeepsTable m other
   pub globals : take (length m.globals) (map global_code other.globals) ≡ map global_code m.globals
 
 -- A function of this type is exported under this name.

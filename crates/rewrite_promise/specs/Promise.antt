@@ -20,6 +20,7 @@ use Rattle.rewrite_modules.specs.Multiple.{multiple}
 use Rattle.rewrite_modules.specs.Simulates.{Simulates}
 use Rattle.rewrite_modules.specs.Flag.{LowersFlag}
 use Rattle.rewrite_modules.specs.Starts.{StartsAlike}
+use Rattle.rewrite_modules.specs.Entries.{SimulatesEntries, EntriesLowerFlag}
 use Rattle.rewrite_modules.specs.Weight.{AreHeights, weight}
 use Rattle.rewrite_promise.specs.Outside.{KeepsOutside, KeepsFunctions}
 
@@ -52,7 +53,8 @@ pub record IsRewriting (m other : Module) : Type 0 where
 -- ---- what is promised
 
 -- The other module does what the module does and hands over the dump of each trap, in at most the stated multiple of the steps, also
--- where nothing of it is called and its start function alone runs. Behind each trap its flag is down. It is valid and within the limits of
+-- where nothing of it is called and its start function alone runs, and where a host calls entries of a table that is doubled. Behind each trap
+-- its flag is down. It is valid and within the limits of
 -- the decoder and of validation, and shows the same outside. Its encoding takes at most the weight of the module,
 -- and so at most as many bytes as the decoder takes. Multiple and weight are the same, whichever list of operand heights is taken.
 pub record Promised (m other : Module) : Type 0 where
@@ -60,7 +62,9 @@ pub record Promised (m other : Module) : Type 0 where
   pub other_whole : IsModule other
   pub simulates : (heights : List (List ℕ)) → AreHeights m heights → Simulates (multiple m heights) (program_of m whole) (program_of other other_whole)
   pub starts : (heights : List (List ℕ)) → AreHeights m heights → StartsAlike (multiple m heights) (program_of m whole) (program_of other other_whole)
+  pub entries : (heights : List (List ℕ)) → AreHeights m heights → SimulatesEntries (multiple m heights) (program_of m whole) (program_of other other_whole)
   pub lowers : LowersFlag (program_of m whole) (program_of other other_whole)
+  pub entries_lower : EntriesLowerFlag (program_of m whole) (program_of other other_whole)
   pub valid : Valid other
   pub within : WithinLimits other
   pub low : AllLow other

@@ -26,6 +26,17 @@ const NAMED: [u8; 91] = [
     0x0a, 0x09, 0x02, 0x04, 0x00, 0x20, 0x00, 0x0b, 0x02, 0x00, 0x0b,
 ];
 
+/// An import `a` of `env`, two functions, of which the second is exported as `g`, and a table of
+/// three elements, exported as `t`: the import and twice the first function, from the place on that
+/// byte 52 says, which is 0.
+const SHOWN: [u8; 67] = [
+    0x00, 0x61, 0x73, 0x6d, 0x01, 0x00, 0x00, 0x00, 0x01, 0x04, 0x01, 0x60, 0x00, 0x00, 0x02, 0x09,
+    0x01, 0x03, 0x65, 0x6e, 0x76, 0x01, 0x61, 0x00, 0x00, 0x03, 0x03, 0x02, 0x00, 0x00, 0x04, 0x04,
+    0x01, 0x70, 0x00, 0x03, 0x07, 0x09, 0x02, 0x01, 0x74, 0x01, 0x00, 0x01, 0x67, 0x00, 0x02, 0x09,
+    0x09, 0x01, 0x00, 0x41, 0x00, 0x0b, 0x03, 0x00, 0x01, 0x01, 0x0a, 0x07, 0x02, 0x02, 0x00, 0x0b,
+    0x02, 0x00, 0x0b,
+];
+
 /// Whether the first export is of a function that the module defines.
 fn is_defined(parts: &ModuleParts) -> bool
     ensures { OnTrue result (HasWrapper parts.now 0) }
@@ -73,6 +84,27 @@ fn is_numbered(alloc: Global, source: &Validated) -> Result<bool, NoMemory>
     Ok(has_numbers(&numbers) && has_wrappers(&numbers))
 }
 
+/// The wrapper of the export stands behind the two functions, and then that of the one function of
+/// the table that the module defines; where the table stays as it is, there is none.
+fn is_shown(alloc: Global, source: &Validated, doubled: bool) -> Result<bool, NoMemory>
+    requires { Sized source.now }
+{
+    let numbers = IndexMap::new(alloc, source.module())?;
+    let wrapped = if doubled {
+        [2, 1].as_slice()
+    } else {
+        [2].as_slice()
+    };
+    Ok(
+        numbers.doubles() == doubled
+            && numbers.table_size() == 3
+            && numbers.wrapped() == wrapped
+            && numbers.wrapper_base() == 6
+            && numbers.exports() == [0, 6].as_slice()
+            && numbers.helper_base() == if doubled { 8 } else { 7 },
+    )
+}
+
 /// Whether these are the first import and the first export with a name that the rewriting takes.
 fn has_collisions(alloc: Global, bytes: &[u8], import: Option<u32>, export: Option<u32>) -> bool {
     match decode(alloc, bytes) {
@@ -94,4 +126,24 @@ fn functions_stand_behind_the_collector(rt: HostRuntime) -> Result<(), Fail> {
 fn taken_names_are_told(rt: HostRuntime) {
     assert!(rt; has_collisions(rt.alloc(), &NAMED, Some(1), Some(1)));
     assert!(rt; has_collisions(rt.alloc(), &DIV, None, None));
+}
+
+#[test]
+fn a_table_that_a_host_sees_is_doubled(rt: HostRuntime) -> Result<(), Fail> {
+    match valid(rt.alloc(), &SHOWN) {
+        Some(v) => assert!(rt; is_shown(rt.alloc(), &v, true)?),
+        None => assert!(rt; false),
+    }
+    Ok(())
+}
+
+#[test]
+fn a_table_whose_segments_do_not_fit_stays(rt: HostRuntime) -> Result<(), Fail> {
+    let mut bytes = SHOWN;
+    bytes[52] = 1;
+    match valid(rt.alloc(), &bytes) {
+        Some(v) => assert!(rt; is_shown(rt.alloc(), &v, false)?),
+        None => assert!(rt; false),
+    }
+    Ok(())
 }

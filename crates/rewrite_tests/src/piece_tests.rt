@@ -12,12 +12,12 @@ use causes::NoMemory;
 use guard_insert::guarded;
 use index_map::IndexMap;
 use pm_text::Items;
-use rewrite_code::{CodeWriter, FunctionContext, OperandPlace, OperandPlaces};
+use rewrite_code::{CodeWriter, FunctionContext, OperandPlace, OperandPlaces, drops};
 use std::alloc::Global;
 use std::test::Fail;
 use unwind_rewrite::{
-    Target, TypeNumbers, branch_if, branch_table, call_function, call_through_table, close_body,
-    end_block, helper, open_body, return_from, trap, wrapper,
+    TypeNumbers, branch_table, call_function, call_through_table, close_block, close_body, helper,
+    open_block, open_body, trap, wrapper,
 };
 use wasm_syntax::{Basic, Binary, Compare, FuncType, Instr, Jump, ModuleParts, ValType, Value};
 use wasm_validate::Validated;
@@ -34,16 +34,14 @@ const MODULE: [u8; 66] = [
 
 const EQUAL: Instr = Instr::Basic(Basic::Compare(ValType::I64, Compare::Eq));
 
-// Operands go to the stack and back, to a result local and from one, and to the collector; and a
-// signed division is guarded.
-const MOVES: [Instr; 37] = [
+// Operands go to the stack and to slots, stay there besides, and go to the collector; a signed
+// division is guarded; and copies of one local, or of any, go to their slots.
+const MOVES: [Instr; 44] = [
     Instr::Basic(Basic::Const(Value::I64(7))),
     Instr::Basic(Basic::LocalGet(7)),
     Instr::Basic(Basic::LocalSet(7)),
-    Instr::Basic(Basic::LocalGet(7)),
-    Instr::Basic(Basic::LocalSet(11)),
-    Instr::Basic(Basic::LocalGet(10)),
-    Instr::Basic(Basic::LocalSet(4)),
+    Instr::Basic(Basic::LocalTee(7)),
+    Instr::Basic(Basic::LocalGet(4)),
     Instr::Basic(Basic::LocalGet(7)),
     Instr::Jump(Jump::Call(2)),
     Instr::Basic(Basic::Const(Value::I64(7))),
@@ -73,27 +71,30 @@ const MOVES: [Instr; 37] = [
     Instr::Jump(Jump::Call(2)),
     Instr::Jump(Jump::Br(2)),
     Instr::End,
+    Instr::Basic(Basic::LocalGet(0)),
+    Instr::Basic(Basic::LocalSet(2)),
+    Instr::Basic(Basic::LocalGet(0)),
+    Instr::Basic(Basic::LocalSet(2)),
+    Instr::Basic(Basic::LocalGet(1)),
+    Instr::Basic(Basic::LocalSet(7)),
+    Instr::Basic(Basic::LocalGet(1)),
+    Instr::Basic(Basic::Drop),
+    Instr::Basic(Basic::Drop),
     Instr::End,
 ];
 
-// A branch with a condition, a table, the end of a loop, `return` and `unreachable`, over an i32
-// and an i64.
-const BRANCHES: [Instr; 29] = [
-    Instr::Basic(Basic::Const(Value::I32(1))),
-    Instr::If(None),
-    Instr::Basic(Basic::LocalGet(5)),
-    Instr::Basic(Basic::LocalSet(11)),
-    Instr::Jump(Jump::Br(1)),
+// A block over copies of locals, a table, and `unreachable` over an i32 and an i64.
+const BRANCHES: [Instr; 24] = [
+    Instr::Basic(Basic::LocalGet(0)),
+    Instr::Basic(Basic::LocalSet(2)),
+    Instr::Basic(Basic::LocalGet(1)),
+    Instr::Basic(Basic::LocalSet(7)),
+    Instr::Basic(Basic::LocalGet(0)),
+    Instr::Basic(Basic::LocalSet(8)),
+    Instr::Block(Some(ValType::I64)),
     Instr::End,
-    Instr::Basic(Basic::LocalGet(5)),
-    Instr::Basic(Basic::LocalSet(11)),
-    Instr::Basic(Basic::LocalGet(6)),
+    Instr::Basic(Basic::LocalTee(9)),
     Instr::Jump(Jump::BrTable(0, 2, 1)),
-    Instr::Basic(Basic::LocalGet(5)),
-    Instr::Basic(Basic::LocalSet(11)),
-    Instr::Basic(Basic::LocalGet(5)),
-    Instr::Basic(Basic::LocalSet(10)),
-    Instr::Jump(Jump::Br(1)),
     Instr::Basic(Basic::Const(Value::I32(1))),
     Instr::If(None),
     Instr::Basic(Basic::Const(Value::I32(1))),
@@ -112,7 +113,7 @@ const BRANCHES: [Instr; 29] = [
 
 // A call through the table with an operand left, of the function that the module defines, and of
 // the imported one.
-const CALLS: [Instr; 47] = [
+const CALLS: [Instr; 48] = [
     Instr::Basic(Basic::LocalGet(8)),
     Instr::Jump(Jump::Call(6)),
     Instr::Basic(Basic::LocalSet(12)),
@@ -144,10 +145,12 @@ const CALLS: [Instr; 47] = [
     Instr::End,
     Instr::Jump(Jump::Br(2)),
     Instr::End,
-    Instr::Basic(Basic::LocalGet(3)),
+    Instr::Basic(Basic::Drop),
+    Instr::Basic(Basic::Drop),
+    Instr::Basic(Basic::Drop),
     Instr::Basic(Basic::LocalGet(4)),
     Instr::Jump(Jump::Call(4)),
-    Instr::Basic(Basic::LocalSet(2)),
+    Instr::Basic(Basic::LocalTee(2)),
     Instr::Basic(Basic::GlobalGet(1)),
     Instr::If(None),
     Instr::Basic(Basic::Const(Value::I32(0))),
@@ -156,19 +159,17 @@ const CALLS: [Instr; 47] = [
     Instr::Basic(Basic::LocalSet(13)),
     Instr::Jump(Jump::Br(2)),
     Instr::End,
-    Instr::Basic(Basic::LocalGet(2)),
     Instr::Jump(Jump::Call(0)),
-    Instr::Basic(Basic::LocalSet(2)),
+    Instr::Basic(Basic::LocalTee(2)),
     Instr::End,
 ];
 
 // The ends of a body without nodes, a wrapper, and a helper of a table with an empty entry and one
 // of the right type.
-const ENDS: [Instr; 56] = [
+const ENDS: [Instr; 55] = [
     Instr::Block(None),
-    Instr::Block(None),
+    Instr::Block(Some(ValType::I32)),
     Instr::End,
-    Instr::Basic(Basic::LocalGet(10)),
     Instr::Jump(Jump::Return),
     Instr::End,
     Instr::Basic(Basic::LocalGet(0)),
@@ -234,6 +235,18 @@ fn three_places(alloc: Global) -> Result<OperandPlaces, NoMemory>
     Ok(places)
 }
 
+// A copy of the i32, a constant, a copy of the i64, and one of the i32.
+fn copies(alloc: Global) -> Result<OperandPlaces, NoMemory>
+    ensures { IfOk result (λ places. length places ≡ 4) }
+{
+    let mut places = OperandPlaces::new(alloc);
+    places.push(OperandPlace::Copied(ValType::I32, 0))?;
+    places.push(OperandPlace::Known(Value::I64(7)))?;
+    places.push(OperandPlace::Copied(ValType::I64, 1))?;
+    places.push(OperandPlace::Copied(ValType::I32, 0))?;
+    Ok(places)
+}
+
 // An i32 and an i64.
 fn two_places(alloc: Global) -> Result<OperandPlaces, NoMemory>
     ensures { IfOk result (λ places. length places ≡ 2) }
@@ -266,29 +279,41 @@ fn moves(
 {
     context.load(writer, 2, places)?;
     context.store(writer, Some(ValType::I64), 2)?;
-    context.to_result(writer, Some(ValType::I64), places)?;
-    context.from_result(writer, Some(ValType::I32), 1)?;
+    context.keep(writer, Some(OperandPlace::Spilled(ValType::I64)), 2)?;
+    context.reload(writer, Some(ValType::I32), 1)?;
     context.hand_top(writer, 1, places)?;
     let division = Basic::Binary(ValType::I64, Binary::DivS);
     guarded(context, writer, 1, places, 5, &division)
 }
 
+// What becomes of copies.
+fn spills(
+    context: &FunctionContext<'_, '_>,
+    writer: &mut CodeWriter,
+    copies: &OperandPlaces,
+) -> Result<(), NoMemory>
+    requires room { length copies.now ≤ context.now.slots }
+    requires heights { 4 ≤ context.now.slots }
+{
+    context.spill(writer, Some(0), 1, copies)?;
+    context.spill(writer, None, 1, copies)?;
+    context.fetch(writer, OperandPlace::Copied(ValType::I64, 1), 2)?;
+    drops(writer, 2)
+}
+
 fn branches(
     context: &FunctionContext<'_, '_>,
     writer: &mut CodeWriter,
+    copies: &OperandPlaces,
     places: &OperandPlaces,
 ) -> Result<(), NoMemory>
-    requires { length places.now ≤ context.now.slots }
+    requires room { length places.now ≤ context.now.slots }
+    requires copies { length copies.now ≤ context.now.slots }
+    requires heights { 4 ≤ context.now.slots }
 {
-    let target = Some(Target {
-        carried: Some(ValType::I64),
-    });
-    let condition = OperandPlace::Known(Value::I32(1));
-    let selector = OperandPlace::Spilled(ValType::I32);
-    branch_if(context, writer, target, condition, places, 0)?;
-    branch_table(context, writer, target, selector, places, &[0, 1], 1)?;
-    end_block(context, writer, Some(ValType::I64), places)?;
-    return_from(context, writer, 2, places)?;
+    open_block(context, writer, Some(ValType::I64), copies)?;
+    close_block(context, writer, Some(ValType::I64), 3)?;
+    branch_table(writer, &[0, 1], 1)?;
     trap(context, writer, 1, places, 3)
 }
 
@@ -336,7 +361,7 @@ fn calls(
 fn ends(context: &FunctionContext<'_, '_>, writer: &mut CodeWriter) -> Result<(), NoMemory>
     requires { 1 < length (function_types context.now.source) }
 {
-    open_body(writer)?;
+    open_body(writer, Some(ValType::I32))?;
     close_body(context, writer)?;
     let map = context.map();
     wrapper(map, writer, map.source().globals.as_slice(), 1, 2)?;
@@ -354,6 +379,8 @@ fn writes_moves(alloc: Global, context: &FunctionContext<'_, '_>) -> Result<bool
     let mut writer = CodeWriter::new(alloc);
     let places = three_places(alloc)?;
     moves(context, &mut writer, &places)?;
+    let copies = copies(alloc)?;
+    spills(context, &mut writer, &copies)?;
     is_written(alloc, writer, &MOVES)
 }
 
@@ -361,8 +388,9 @@ fn writes_branches(alloc: Global, context: &FunctionContext<'_, '_>) -> Result<b
     requires { 4 ≤ context.now.slots }
 {
     let mut writer = CodeWriter::new(alloc);
+    let copies = copies(alloc)?;
     let places = two_places(alloc)?;
-    branches(context, &mut writer, &places)?;
+    branches(context, &mut writer, &copies, &places)?;
     is_written(alloc, writer, &BRANCHES)
 }
 

@@ -19,11 +19,15 @@ fn are(places: &OperandPlaces, expected: &[OperandPlace]) -> bool {
     places.as_slice() == expected
 }
 
+fn push_constant(walk: &mut Walk, value: Value) -> Result<(), NoMemory> {
+    walk.perform_basic(Basic::Const(value), 0, Some(OperandPlace::Known(value)))
+}
+
 // An `if` over a constant and an i64, both of which its first arm takes.
 fn first_arm(walk: &mut Walk) -> Result<bool, NoMemory> {
-    walk.push_constant(Value::I32(1))?;
+    push_constant(walk, Value::I32(1))?;
     walk.perform(0, Some(ValType::I64))?;
-    walk.push_constant(Value::I64(5))?;
+    push_constant(walk, Value::I64(5))?;
     let before = are(walk.places(), &[ONE, WIDE, FIVE]);
     let condition = walk.pop() == Some(FIVE);
     walk.open(Label::Block(Some(ValType::I32)))?;
@@ -42,8 +46,19 @@ fn both_arms(walk: &mut Walk) -> Result<bool, NoMemory> {
     Ok(first && second && taken && are(walk.places(), &[ONE, WIDE, NARROW]))
 }
 
-fn labels_are(walk: &Walk, expected: &[Option<Label>; 3]) -> bool {
-    walk.label(0) == expected[0] && walk.label(1) == expected[1] && walk.label(2) == expected[2]
+// A copy of each of two locals; one is written, and then a block begins.
+fn copies(alloc: Global) -> Result<bool, NoMemory> {
+    let one = OperandPlace::Copied(ValType::I32, 1);
+    let two = OperandPlace::Copied(ValType::I64, 2);
+    let mut walk = Walk::new(alloc, None);
+    walk.perform_basic(Basic::LocalGet(1), 0, Some(one))?;
+    walk.perform_basic(Basic::LocalGet(2), 0, Some(two))?;
+    let both = are(walk.places(), &[one, two]);
+    walk.perform(0, Some(ValType::I32))?;
+    walk.perform_basic(Basic::LocalSet(1), 1, None)?;
+    let written = are(walk.places(), &[NARROW, two]);
+    walk.open(Label::Loop(None))?;
+    Ok(both && written && are(walk.places(), &[NARROW, WIDE]))
 }
 
 fn labels(alloc: Global) -> Result<bool, NoMemory> {
@@ -52,11 +67,17 @@ fn labels(alloc: Global) -> Result<bool, NoMemory> {
     let mut walk = Walk::new(alloc, Some(ValType::I32));
     let alone = walk.innermost() == body && walk.depth() == 1;
     walk.open(inner)?;
-    let two = labels_are(&walk, &[Some(inner), Some(body), None]);
-    let carried = inner.carries().is_none() && inner.end_gives() == Some(ValType::I64);
+    let two = walk.innermost() == inner && walk.depth() == 2;
+    let given = inner.end_gives() == Some(ValType::I64);
     walk.close()?;
-    let left = labels_are(&walk, &[Some(body), None, None]);
-    Ok(alone && two && carried && left && are(walk.places(), &[WIDE]))
+    let left = walk.innermost() == body && walk.depth() == 1;
+    Ok(alone && two && given && left && are(walk.places(), &[WIDE]))
+}
+
+#[test]
+fn copies_end_where_their_local_is_written(rt: HostRuntime) -> Result<(), Fail> {
+    assert!(rt; copies(rt.alloc())?);
+    Ok(())
 }
 
 #[test]

@@ -8,10 +8,10 @@ use Rattle.wasm_syntax.specs.declared.parts.Global.{Global}
 use Rattle.wasm_syntax.specs.declared.module.ModuleParts.{ModuleParts as Module}
 use Rattle.wasm_syntax.specs.Tree.{BrTable, Return, Unreachable, Nodes, stop, basic, jump, block, choose}
 use Rattle.rewrite_bodies.specs.Numbering.{mapped, value_import, frame_import, flag_of, global_types}
-use Rattle.rewrite_bodies.specs.Slots.{Ctx, kind_at, offset_at, result_at}
+use Rattle.rewrite_bodies.specs.Slots.{Ctx, kind_at, offset_at}
 use Rattle.rewrite_bodies.specs.Pieces.{get, const, i32, call}
 use Rattle.rewrite_bodies.specs.Guards.{says, helper, entry_label, first_table}
-use Rattle.rewrite_bodies.specs.Rewrite.{in_body, hand_locals, result_back, finish, zero_result, raise_flag, exit_code, rewrite, body}
+use Rattle.rewrite_bodies.specs.Rewrite.{hand_locals, zero_result, raise_flag, exit_code, rewrite, body}
 use Rattle.rewrite_modules.specs.Wrappers.{get_all, tell_globals, lower_flag, end_of_dump, after_wrapped, wrapper_nodes}
 use Rattle.rewrite_code.specs.calls.Writing.{Written, Behind, ends, goes, Emits, EmitsLast, Opens, Closes}
 use Rattle.rewrite_code.proofs.Pieces.{emits_then, emits_last, emits_stop, emits_within}
@@ -20,22 +20,16 @@ use Rattle.unwind_rewrite.proofs.Numbers.{get_at, number_at, call_at, global_get
 
 -- ---- the body around its nodes
 
-pub body_closed : (C : Ctx) (nodes : Nodes) {start inside w a b c d : Written} → OpensTwo start inside → EmitsLast (rewrite C (in_body C.result ∷ []) [] nodes) inside w → Closes w a →
-    EmitsLast (finish C) a b → Closes b c → EmitsLast (exit_code C) c d → EmitsLast (body C nodes) start d
-body_closed C nodes o n c f j e = record {
-  emitted = λ behind.
-      o.opened (rewrite C (in_body C.result ∷ []) [] nodes) (finish C) (exit_code C) behind ∙ n.emitted (ends (finish C) ∷ ends (exit_code C) ∷ behind)
-      ∙ c.closed (finish C) (ends (exit_code C) ∷ behind) ∙ f.emitted (ends (exit_code C) ∷ behind) ∙ j.closed (exit_code C) behind ∙ e.emitted behind;
-}
-
-pub back_with : (C : Ctx) (t : ValType) (x : ℕ) (r : Option ValType) {a b c : Written} → r ≡ Some t → x ≡ result_at C t → Emits (get C x) a b → Emits (jump 0 Return) b c → EmitsLast (result_back C r) a c
-back_with C t x r {a} {c = c} is at p q = subst (λ r. EmitsLast (result_back C r) a c) (sym is) (emits_last (get_at C at p) (emits_stop q))
-
-pub back_bare : (C : Ctx) (r : Option ValType) {a b : Written} → r ≡ None → Emits (jump 0 Return) a b → EmitsLast (result_back C r) a b
-back_bare C r {a} {b} is p = subst (λ r. EmitsLast (result_back C r) a b) (sym is) (emits_stop p)
-
-pub finished : (C : Ctx) (r : Option ValType) {a b : Written} → r ≡ C.result → EmitsLast (result_back C r) a b → EmitsLast (finish C) a b
-finished C r {a} {b} e p = subst (λ r. EmitsLast (result_back C r) a b) e p
+pub body_closed : (C : Ctx) (nodes : Nodes) {start inside w a b c d : Written} → OpensTwo C.result start inside → EmitsLast (rewrite C 1 [] nodes) inside w → Closes w a →
+    Emits (jump 0 Return) a b → Closes b c → EmitsLast (exit_code C) c d → EmitsLast (body C nodes) start d
+body_closed C nodes o n c f j e =
+    let back : Nodes = jump 0 Return stop in
+    let returns = emits_stop f in
+    record {
+      emitted = λ behind.
+          o.opened (rewrite C 1 [] nodes) back (exit_code C) behind ∙ n.emitted (ends back ∷ ends (exit_code C) ∷ behind)
+          ∙ c.closed back (ends (exit_code C) ∷ behind) ∙ returns.emitted (ends (exit_code C) ∷ behind) ∙ j.closed (exit_code C) behind ∙ e.emitted behind;
+    }
 
 pub raised : (C : Ctx) (m : Module) (x : ℕ) {a b c : Written} → m ≡ C.source → x ≡ flag_of m → Emits (const (i32 1)) a b → Emits (basic 0 (GlobalSet x)) b c → Emits (raise_flag C) a c
 raised C m x same at p q = emits_then p (global_set_at (at ∙ ap flag_of same) q)
@@ -113,7 +107,7 @@ wrapper_written m f n x g flag there p q r s = emits_last (flag_lowered m x flag
 pub says_kind : (kind : ℕ) {a b c : Written} → Emits (const (i32 kind)) a b → Emits (jump 0 Return) b c → EmitsLast (says kind) a c
 says_kind kind p q = emits_last p (emits_stop q)
 
-pub helper_written : (m : Module) (t : ℕ) (labels : List ℕ) {a b c d e f g h : Written} → labels ≡ map (entry_label m t) (first_table m) → OpensTwo a b → OpensTwo b c →
+pub helper_written : (m : Module) (t : ℕ) (labels : List ℕ) {a b c d e f g h : Written} → labels ≡ map (entry_label m t) (first_table m) → OpensTwo None a b → OpensTwo None b c →
     EmitsLast (basic 0 (LocalGet 0) (jump 0 (BrTable labels 1) stop)) c d → ClosesWith (says 0) d e → ClosesWith (says 5) e f → ClosesWith (says 6) f g → ClosesWith (says 7) g h → EmitsLast (helper m t) a h
 helper_written m t labels {c = c} {d = d} are o p s z five six seven =
     let inner : Nodes = basic 0 (LocalGet 0) (jump 0 (BrTable (map (entry_label m t) (first_table m)) 1) stop) in

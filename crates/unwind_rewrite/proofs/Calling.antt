@@ -1,16 +1,17 @@
 -- How calls and what stands behind them are put together.
-use Rattle.std.proofs.Common.{◌≡◌, ℕ, suc, ◌-◌, ◌≤◌, true, false, nat_lt, List, ◌∷◌, length, slice_get, take, Option, Some, None, refl, sym, ap, subst, ◌∙◌, arith}
+use Rattle.std.proofs.Common.{◌≡◌, ℕ, suc, ◌-◌, ◌≤◌, Bool, true, false, nat_lt, List, ◌∷◌, length, slice_get, take, option_map, Option, Some, None, refl, sym, ap, subst, ◌∙◌, arith}
 use Rattle.wasm_syntax.specs.declared.value.ValType.{ValType}
 use Rattle.wasm_syntax.specs.declared.value.ValType.TheVariants.{I32}
-use Rattle.int_ops.specs.declared.operators.Binary.TheVariants.{Or}
+use Rattle.int_ops.specs.declared.operators.Binary.TheVariants.{Add, Or}
 use Rattle.wasm_syntax.specs.declared.instruction.Basic.TheVariants.{GlobalGet, Eqz, Binary}
 use Rattle.wasm_syntax.specs.declared.parts.FuncType.{FuncType}
 use Rattle.wasm_syntax.specs.Tree.{CallIndirect, Nodes, stop, basic, jump, choose}
 use Rattle.wasm_syntax.specs.Machine.{result_of}
-use Rattle.rewrite_bodies.specs.Numbering.{import_count, mapped, flag_of}
-use Rattle.rewrite_bodies.specs.Slots.{Place, Ctx, less, kind_at, offset_at}
-use Rattle.rewrite_bodies.specs.Pieces.{get, set, const, i32, call, fetch, load, store}
-use Rattle.rewrite_bodies.specs.Rewrite.{Info, to_exit, unwind, test_flag, hand, hand_top, hand_left, test_both, after_call, after_direct, call_code, helper_of, indirect_code}
+use Rattle.rewrite_bodies.specs.Numbering.{import_count, mapped, flag_of, doubles}
+use Rattle.wasm_syntax.specs.Run.{table_min}
+use Rattle.rewrite_bodies.specs.Slots.{Place, Spilled, Ctx, less, kind_at, offset_at}
+use Rattle.rewrite_bodies.specs.Pieces.{get, set, const, i32, call, fetch, load, keep, store, reload, drops}
+use Rattle.rewrite_bodies.specs.Rewrite.{to_exit, unwind, test_flag, hand, hand_top, hand_left, test_both, after_call, after_direct, call_code, helper_of, past_shown, indirect_code}
 use Rattle.rewrite_code.specs.calls.Writing.{Written, Emits, EmitsLast, Opens, Closes}
 use Rattle.rewrite_code.proofs.Pieces.{emits_then, emits_last, emits_stop, emits_within}
 use Rattle.rewrite_code.specs.declared.place.OperandPlace.{OperandPlace}
@@ -19,45 +20,40 @@ use Rattle.rewrite_code.proofs.Loads.{emits_same, discarded, length_from_top, ha
 use Rattle.unwind_rewrite.proofs.Numbers.{get_at, set_at, call_at}
 use Rattle.unwind_rewrite.proofs.Branching.{less_length}
 
-pub came_back : (C : Ctx) (ls : List Info) (r : Option ValType) (es : List Place) (o : ℕ) {a b c : Written} → Emits (store C r es) a b → Emits (test_flag C ls es o) b c → Emits (λ k. after_call C ls r es o (λ left. k)) a c
+pub came_back : (C : Ctx) (ls : ℕ) (r : Option ValType) (es : List Place) (o : ℕ) {a b c : Written} → Emits (keep C (option_map Spilled r) es) a b → Emits (test_flag C ls es o) b c → Emits (λ k. after_call C ls r es o (λ left. k)) a c
 came_back C ls r es o p q = emits_same (λ k. refl) (emits_then p q)
 
 -- what stands behind a call of a function of this type
-abbrev pub behind : Ctx → List Info → List Place → ℕ → ℕ → FuncType → Nodes → Nodes
+abbrev pub behind : Ctx → ℕ → List Place → ℕ → ℕ → FuncType → Nodes → Nodes
 behind C ls es o f type k = after_direct (nat_lt f (import_count C.source)) C ls (result_of type) (less (length type.params) es) o (λ left. k)
 
-pub came_import : (C : Ctx) (ls : List Info) (es : List Place) (o f : ℕ) (type : FuncType) (n : ℕ) (r : Option ValType) {a b : Written} → n ≡ length type.params → r ≡ result_of type → nat_lt f (import_count C.source) ≡ true →
-    Emits (store C r (less n es)) a b → Emits (behind C ls es o f type) a b
+pub came_import : (C : Ctx) (ls : ℕ) (es : List Place) (o f : ℕ) (type : FuncType) (n : ℕ) (r : Option ValType) {a b : Written} → n ≡ length type.params → r ≡ result_of type → nat_lt f (import_count C.source) ≡ true →
+    Emits (keep C (option_map Spilled r) (less n es)) a b → Emits (behind C ls es o f type) a b
 came_import C ls es o f type n r {a} {b} count gives is p =
-    let one : Emits (store C r (less (length type.params) es)) a b = subst (λ n. Emits (store C r (less n es)) a b) count p in
-    let two : Emits (store C (result_of type) (less (length type.params) es)) a b = subst (λ r. Emits (store C r (less (length type.params) es)) a b) gives one in
+    let one : Emits (keep C (option_map Spilled r) (less (length type.params) es)) a b = subst (λ n. Emits (keep C (option_map Spilled r) (less n es)) a b) count p in
+    let two : Emits (keep C (option_map Spilled (result_of type)) (less (length type.params) es)) a b = subst (λ r. Emits (keep C (option_map Spilled r) (less (length type.params) es)) a b) gives one in
     subst (λ i. Emits (λ k. after_direct i C ls (result_of type) (less (length type.params) es) o (λ left. k)) a b) (sym is) (emits_same (λ k. refl) two)
 
-pub came_defined : (C : Ctx) (ls : List Info) (es : List Place) (o f : ℕ) (type : FuncType) (n : ℕ) (r : Option ValType) {a b : Written} → n ≡ length type.params → r ≡ result_of type → nat_lt f (import_count C.source) ≡ false →
+pub came_defined : (C : Ctx) (ls : ℕ) (es : List Place) (o f : ℕ) (type : FuncType) (n : ℕ) (r : Option ValType) {a b : Written} → n ≡ length type.params → r ≡ result_of type → nat_lt f (import_count C.source) ≡ false →
     Emits (λ k. after_call C ls r (less n es) o (λ left. k)) a b → Emits (behind C ls es o f type) a b
 came_defined C ls es o f type n r {a} {b} count gives is p =
     let one : Emits (λ k. after_call C ls r (less (length type.params) es) o (λ left. k)) a b = subst (λ n. Emits (λ k. after_call C ls r (less n es) o (λ left. k)) a b) count p in
     let two : Emits (λ k. after_call C ls (result_of type) (less (length type.params) es) o (λ left. k)) a b = subst (λ r. Emits (λ k. after_call C ls r (less (length type.params) es) o (λ left. k)) a b) gives one in
     subst (λ i. Emits (λ k. after_direct i C ls (result_of type) (less (length type.params) es) o (λ left. k)) a b) (sym is) (emits_same (λ k. refl) two)
 
-pub loaded_call : (C : Ctx) (n : ℕ) (es : List Place) (f g : ℕ) {a b c : Written} → g ≡ mapped C.source f → Emits (load C n es) a b → Emits (call g) b c → Emits (λ k. load C n es (call (mapped C.source f) k)) a c
-loaded_call C n es f g e p q = emits_then p (call_at e q)
+pub called : (C : Ctx) (ls : ℕ) (es : List Place) (o f g : ℕ) (type : FuncType) {a b c : Written} → g ≡ mapped C.source f →
+    Emits (call g) a b → Emits (behind C ls es o f type) b c → Emits (λ k. call_code C ls es o f (Some type) (λ left. k)) a c
+called C ls es o f g type is p q = emits_same (λ k. refl) (emits_then (call_at is p) q)
 
-pub called : (C : Ctx) (ls : List Info) (es : List Place) (o f n : ℕ) (type : FuncType) {a b c : Written} → n ≡ length type.params →
-    Emits (λ k. load C n es (call (mapped C.source f) k)) a b → Emits (behind C ls es o f type) b c → Emits (λ k. call_code C ls es o f (Some type) (λ left. k)) a c
-called C ls es o f n type {a} {b} count p q =
-    let first : Emits (λ k. load C (length type.params) es (call (mapped C.source f) k)) a b = subst (λ n. Emits (λ k. load C n es (call (mapped C.source f) k)) a b) count p in
-    emits_same (λ k. refl) (emits_then first q)
-
-pub caller_unwound : (C : Ctx) (ls : List Info) (es : List Place) (o : ℕ) {a b c d e : Written} → Emits (λ k. const (i32 0) (set C (kind_at C) k)) a b → Emits (λ k. const (i32 o) (set C (offset_at C) k)) b c →
+pub caller_unwound : (C : Ctx) (ls : ℕ) (es : List Place) (o : ℕ) {a b c d e : Written} → Emits (λ k. const (i32 0) (set C (kind_at C) k)) a b → Emits (λ k. const (i32 o) (set C (offset_at C) k)) b c →
     Emits (hand C es) c d → EmitsLast (to_exit ls) d e → EmitsLast (const (i32 0) (set C (kind_at C) (unwind C ls es o))) a e
 caller_unwound C ls es o p q r s = emits_last p (emits_last q (emits_last r s))
 
-pub left_handed : (C : Ctx) (ls : List Info) (es all : List Place) (n x : ℕ) {a b c d e f g : Written} → x ≡ kind_at C → Emits (hand C es) a b → Emits (get C x) b c →
+pub left_handed : (C : Ctx) (ls : ℕ) (es all : List Place) (n x : ℕ) {a b c d e f g : Written} → x ≡ kind_at C → Emits (hand C es) a b → Emits (get C x) b c →
     Opens (λ arm k. choose 0 None arm None stop 0 k) c d → Emits (hand_top C n all) d e → Closes e f → EmitsLast (to_exit ls) f g → EmitsLast (hand_left C ls es (hand_top C n all stop)) a g
 left_handed C ls es all n x at p q o h j l = emits_last p (emits_last (get_at C at q) (emits_last (emits_within o (emits_stop h) j) l))
 
-pub both_tested : (C : Ctx) (ls : List Info) (es : List Place) (o x : ℕ) (others : Nodes) {a b c d e f g : Written} → x ≡ kind_at C → Emits (get C x) a b → Emits (basic 0 (GlobalGet (flag_of C.source))) b c →
+pub both_tested : (C : Ctx) (ls : ℕ) (es : List Place) (o x : ℕ) (others : Nodes) {a b c d e f g : Written} → x ≡ kind_at C → Emits (get C x) a b → Emits (basic 0 (GlobalGet (flag_of C.source))) b c →
     Emits (basic 0 (Binary I32 Or)) c d → Opens (λ arm k. choose 0 None arm None stop 0 k) d e → EmitsLast (const (i32 o) (set C (offset_at C) (hand_left C ls es others))) e f → Closes f g →
     Emits (test_both C ls es o others) a g
 both_tested C ls es o x others at p q r op i j = emits_then (get_at C at p) (emits_then q (emits_then r (emits_within op i j)))
@@ -66,29 +62,42 @@ pub entry_guarded : (C : Ctx) (e : Place) (h f x y : ℕ) {a c d g j : Written} 
     Emits (λ k. fetch C e h (call f (set C (kind_at C) (get C (kind_at C) (basic 0 (Eqz I32) k))))) a j
 entry_guarded C e h f x y at there p r s t = emits_then p (emits_then (set_at C at r) (emits_then (get_at C there s) t))
 
-pub entry_called : (C : Ctx) (n t : ℕ) (r : Option ValType) (es : List Place) {a b c d : Written} → Emits (load C n es) a b → Emits (jump 0 (CallIndirect t)) b c → Emits (store C r (less n es)) c d →
-    EmitsLast (load C n es (jump 0 (CallIndirect t) (store C r (less n es) stop))) a d
-entry_called C n t r es p q s = emits_last p (emits_last q (emits_stop s))
+-- the index of an entry is moved where the table is doubled
+pub moved : (C : Ctx) (q : Bool) (n : ℕ) {a b c : Written} → q ≡ doubles C.source → n ≡ table_min C.source.tables → q ≡ true → Emits (const (i32 n)) a b → Emits (basic 0 (Binary I32 Add)) b c → Emits (past_shown (doubles C.source) C) a c
+moved C q n {a} {b} {c} d e t p r =
+    let pushed : Emits (const (i32 (table_min C.source.tables))) a b = subst (λ n. Emits (const (i32 n)) a b) e p in
+    subst (λ z. Emits (past_shown z C) a c) (sym t ∙ d) (emits_same (λ k. refl) (emits_then pushed r))
 
-pub through_table : (C : Ctx) (ls : List Info) (all : List Place) (e p : Place) (es : List Place) (o t f h n : ℕ) (type : FuncType) (r : Option ValType) {a b c d g j : Written} → f ≡ helper_of C t → all ≡ e ∷ es → Some p ≡ slice_get all 0 →
+pub unmoved : (C : Ctx) (q : Bool) {a : Written} → q ≡ doubles C.source → q ≡ false → Emits (past_shown (doubles C.source) C) a a
+unmoved C q {a} d f = subst (λ z. Emits (past_shown z C) a a) (sym f ∙ d) (record { emitted = λ k behind. refl })
+
+pub entry_called : (C : Ctx) (n t : ℕ) (r : Option ValType) (es : List Place) {a b c d e : Written} → Emits (load C n es) a b → Emits (past_shown (doubles C.source) C) b c → Emits (jump 0 (CallIndirect t)) c d → Emits (store C r (less n es)) d e →
+    EmitsLast (load C n es (past_shown (doubles C.source) C (jump 0 (CallIndirect t) (store C r (less n es) stop)))) a e
+entry_called C n t r es p m q s = emits_last p (emits_last m (emits_last q (emits_stop s)))
+
+pub through_table : (C : Ctx) (ls : ℕ) (all : List Place) (e p : Place) (es : List Place) (o t f h n : ℕ) (type : FuncType) (r : Option ValType) {a b c d g j u v : Written} → f ≡ helper_of C t → all ≡ e ∷ es → Some p ≡ slice_get all 0 →
     h ≡ length all - 1 → n ≡ suc (length type.params) → r ≡ result_of type →
     Emits (λ k. fetch C p h (call f (set C (kind_at C) (get C (kind_at C) (basic 0 (Eqz I32) k))))) a b → Opens (λ arm k. choose 0 None arm None stop 0 k) b c →
-    EmitsLast (load C n all (jump 0 (CallIndirect t) (store C r (less n all) stop))) c d → Closes d g → Emits (test_both C ls (less n all) o (hand_top C n all stop)) g j →
-    Emits (λ k. indirect_code C ls all o t (Some type) (λ behind. k)) a j
-through_table C ls all e p es o t f h n type r {a} {b} {c} {d} {g} {j} helps is top at count gives q op l cl tb =
+    EmitsLast (load C n all (past_shown (doubles C.source) C (jump 0 (CallIndirect t) (store C r (less n all) stop)))) c d → Closes d g → Emits (test_both C ls (less n all) o (hand_top C n all stop)) g j → Emits (drops n) j u → Emits (reload C r (less n all)) u v →
+    Emits (λ k. indirect_code C ls all o t (Some type) (λ behind. k)) a v
+through_table C ls all e p es o t f h n type r {a} {b} {c} {d} {g} {j} {u} {v} helps is top at count gives q op l cl tb dr re =
     let m = length type.params in
     let same : p ≡ e = some_same (top ∙ ap (λ l. slice_get l 0) is) in
     let height : h ≡ length es = at ∙ ap (λ l. length l - 1) is ∙ omega arith in
     let q1 : Emits (λ k. fetch C e h (call f (set C (kind_at C) (get C (kind_at C) (basic 0 (Eqz I32) k))))) a b = subst (λ p. Emits (λ k. fetch C p h (call f (set C (kind_at C) (get C (kind_at C) (basic 0 (Eqz I32) k))))) a b) same q in
     let q2 : Emits (λ k. fetch C e (length es) (call f (set C (kind_at C) (get C (kind_at C) (basic 0 (Eqz I32) k))))) a b = subst (λ h. Emits (λ k. fetch C e h (call f (set C (kind_at C) (get C (kind_at C) (basic 0 (Eqz I32) k))))) a b) height q1 in
     let q3 : Emits (λ k. fetch C e (length es) (call (helper_of C t) (set C (kind_at C) (get C (kind_at C) (basic 0 (Eqz I32) k))))) a b = subst (λ f. Emits (λ k. fetch C e (length es) (call f (set C (kind_at C) (get C (kind_at C) (basic 0 (Eqz I32) k))))) a b) helps q2 in
-    let l1 : EmitsLast (load C (suc m) all (jump 0 (CallIndirect t) (store C r (less (suc m) all) stop))) c d = subst (λ n. EmitsLast (load C n all (jump 0 (CallIndirect t) (store C r (less n all) stop))) c d) count l in
-    let l2 : EmitsLast (load C (suc m) (e ∷ es) (jump 0 (CallIndirect t) (store C r (less m es) stop))) c d = subst (λ l. EmitsLast (load C (suc m) l (jump 0 (CallIndirect t) (store C r (less (suc m) l) stop))) c d) is l1 in
-    let l3 : EmitsLast (load C (suc m) (e ∷ es) (jump 0 (CallIndirect t) (store C (result_of type) (less m es) stop))) c d = subst (λ r. EmitsLast (load C (suc m) (e ∷ es) (jump 0 (CallIndirect t) (store C r (less m es) stop))) c d) gives l2 in
+    let l1 : EmitsLast (load C (suc m) all (past_shown (doubles C.source) C (jump 0 (CallIndirect t) (store C r (less (suc m) all) stop)))) c d = subst (λ n. EmitsLast (load C n all (past_shown (doubles C.source) C (jump 0 (CallIndirect t) (store C r (less n all) stop)))) c d) count l in
+    let l2 : EmitsLast (load C (suc m) (e ∷ es) (past_shown (doubles C.source) C (jump 0 (CallIndirect t) (store C r (less m es) stop)))) c d = subst (λ l. EmitsLast (load C (suc m) l (past_shown (doubles C.source) C (jump 0 (CallIndirect t) (store C r (less (suc m) l) stop)))) c d) is l1 in
+    let l3 : EmitsLast (load C (suc m) (e ∷ es) (past_shown (doubles C.source) C (jump 0 (CallIndirect t) (store C (result_of type) (less m es) stop)))) c d = subst (λ r. EmitsLast (load C (suc m) (e ∷ es) (past_shown (doubles C.source) C (jump 0 (CallIndirect t) (store C r (less m es) stop)))) c d) gives l2 in
     let t1 : Emits (test_both C ls (less (suc m) all) o (hand_top C (suc m) all stop)) g j = subst (λ n. Emits (test_both C ls (less n all) o (hand_top C n all stop)) g j) count tb in
     let t2 : Emits (test_both C ls (less m es) o (hand_top C (suc m) (e ∷ es) stop)) g j = subst (λ l. Emits (test_both C ls (less (suc m) l) o (hand_top C (suc m) l stop)) g j) is t1 in
-    let whole : Emits (λ k. indirect_code C ls (e ∷ es) o t (Some type) (λ behind. k)) a j = emits_same (λ k. refl) (emits_then q3 (emits_then (emits_within op l3 cl) t2)) in
-    subst (λ l. Emits (λ k. indirect_code C ls l o t (Some type) (λ behind. k)) a j) (sym is) whole
+    let d1 : Emits (drops (suc m)) j u = subst (λ n. Emits (drops n) j u) count dr in
+    let r1 : Emits (reload C r (less (suc m) all)) u v = subst (λ n. Emits (reload C r (less n all)) u v) count re in
+    let r2 : Emits (reload C r (less m es)) u v = subst (λ l. Emits (reload C r (less (suc m) l)) u v) is r1 in
+    let r3 : Emits (reload C (result_of type) (less m es)) u v = subst (λ r. Emits (reload C r (less m es)) u v) gives r2 in
+    let whole : Emits (λ k. indirect_code C ls (e ∷ es) o t (Some type) (λ behind. k)) a v = emits_same (λ k. refl) (emits_then q3 (emits_then (emits_within op l3 cl) (emits_then t2 (emits_then d1 r3)))) in
+    subst (λ l. Emits (λ k. indirect_code C ls l o t (Some type) (λ behind. k)) a v) (sym is) whole
   where
     some_same : {p q : Place} → Some p ≡ Some q → p ≡ q
     some_same e = cc

@@ -8,7 +8,8 @@ use Rattle.wasm_syntax.specs.declared.instruction.Instr.TheVariants as instrs
 use Rattle.wasm_syntax.specs.declared.parts.Body.{Body}
 use Rattle.wasm_syntax.specs.Tree.{Nodes, Tree, stop, basic, jump, block, loop, choose, End, Placed, placed, write, code_of, item_of, jump_of, Writes}
 use Rattle.rewrite_bodies.specs.Slots.{Ctx}
-use Rattle.rewrite_bodies.specs.Rewrite.{in_body, end_gives, rewrite}
+use Rattle.rewrite_bodies.specs.Rewrite.{rewrite}
+use Rattle.rewrite_bodies.specs.calls.Typed.{end_gives}
 use Rattle.rewrite_bodies.proofs.Sim.{room_height}
 use Rattle.rewrite_code.specs.calls.Writing.{Written, EmitsLast}
 use Rattle.operand_spill.specs.declared.labels.OpenBlock.{OpenBlock}
@@ -111,9 +112,9 @@ shallow C body start whole pc w now few r = omega (arith, few, stands_inside C b
 -- ---- the loop
 
 pub begun : (C : Ctx) (body : Body) (tree : Tree) (w : Walking) (now : Written) → Writes body.targets body.ops tree → Fine C [] tree.nodes → w ≡ at_start C.result →
-    Rewrites C (code_in body) now (rewrite C (in_body C.result ∷ []) [] tree.nodes) 0 w now
+    Rewrites C (code_in body) now (rewrite C 1 [] tree.nodes) 0 w now
 begun C body tree w now writes fine is =
-    subst (λ v. Rewrites C (code_in body) now (rewrite C (in_body C.result ∷ []) [] tree.nodes) 0 v now) (sym is) (begin C (code_in body) now tree writes fine.room fine.arms)
+    subst (λ v. Rewrites C (code_in body) now (rewrite C 1 [] tree.nodes) 0 v now) (sym is) (begin C (code_in body) now tree writes fine.room fine.arms)
 
 pub before_last : (n last : ℕ) (p : Point) → last ≡ n - 1 → is_last last p ≡ false → BeforeLast n p
 before_last n last (points.Live pc) e is = tt

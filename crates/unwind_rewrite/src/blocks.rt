@@ -1,46 +1,73 @@
-//! The beginning and the end of blocks, loops and `if`s. A rewritten block gives nothing: its
-//! result is in the result local.
+//! The beginning and the end of blocks, which stand as they are.
 
-ghost use Rattle.std.specs.Prelude.{◌≡◌, ◌≤◌, List, length, Some, None, OnOk};
-ghost use Rattle.wasm_syntax.specs.Tree.{stop, choose};
-ghost use Rattle.rewrite_bodies.specs.Slots.{Place as PlaceOf};
-ghost use Rattle.rewrite_bodies.specs.Pieces.{fetch, from_result};
+ghost use Rattle.std.specs.Prelude.{◌≡◌, ◌≤◌, true, List, length, Some, None, option_map, OnOk};
+ghost use Rattle.wasm_syntax.specs.Tree.{block, loop, choose, stop};
+ghost use Rattle.rewrite_bodies.specs.Slots.{Place as PlaceOf, Spilled as SpilledOf, less};
+ghost use Rattle.rewrite_bodies.specs.Pieces.{keep, spill};
 ghost use Rattle.rewrite_code.specs.calls.Writing.{Opens};
-ghost use Rattle.rewrite_code.specs.calls.Places.{place};
 ghost use Rattle.unwind_rewrite.specs.calls.Bodies.{OpensTwo, OpensBoth, ClosesBefore};
 
 use causes::NoMemory;
-use rewrite_code::{CodeWriter, FunctionContext, OperandPlace};
+use rewrite_code::{CodeWriter, FunctionContext, OperandPlaces};
 use wasm_syntax::ValType;
 
-/// The beginning of a block, and of another one in it.
-pub(crate) fn open_two(writer: &mut CodeWriter) -> Result<(), NoMemory>
-    ensures { OnOk result (OpensTwo writer.old writer.new) }
+/// The beginning of a block, and of another one in it, which gives this.
+pub(crate) fn open_two(writer: &mut CodeWriter, gives: Option<ValType>) -> Result<(), NoMemory>
+    ensures { OnOk result (OpensTwo gives writer.old writer.new) }
 {
     writer.open_block(None)?;
-    writer.open_block(None)
+    writer.open_block(gives)
 }
 
-/// The beginning of an `if`, whose condition is the operand at this height.
+/// `block`: the operands below it that are copies of locals go to their slots first.
+pub fn open_block(
+    context: &FunctionContext<'_, '_>,
+    writer: &mut CodeWriter,
+    gives: Option<ValType>,
+    places: &OperandPlaces,
+) -> Result<(), NoMemory>
+    requires { length places.now ≤ context.now.slots }
+    ensures { OnOk result (Opens (λ inner k. spill context.now (λ x. true) places.now
+        (block 0 gives inner 0 k)) writer.old writer.new) }
+{
+    context.spill(writer, None, 0, places)?;
+    writer.open_block(gives)
+}
+
+/// `loop`, in the same way.
+pub fn open_loop(
+    context: &FunctionContext<'_, '_>,
+    writer: &mut CodeWriter,
+    gives: Option<ValType>,
+    places: &OperandPlaces,
+) -> Result<(), NoMemory>
+    requires { length places.now ≤ context.now.slots }
+    ensures { OnOk result (Opens (λ inner k. spill context.now (λ x. true) places.now
+        (loop 0 gives inner 0 k)) writer.old writer.new) }
+{
+    context.spill(writer, None, 0, places)?;
+    writer.open_loop(gives)
+}
+
+/// `if`, in the same way: these are the operands under its condition.
 pub fn open_if(
     context: &FunctionContext<'_, '_>,
     writer: &mut CodeWriter,
-    condition: OperandPlace,
-    height: usize,
+    gives: Option<ValType>,
+    places: &OperandPlaces,
 ) -> Result<(), NoMemory>
-    requires { height ≤ context.now.slots }
-    ensures one_arm { OnOk result
-        (Opens (λ arm k. fetch context.now (place condition) height
-        (choose 0 None arm None stop 0 k)) writer.old writer.new) }
+    requires { length places.now ≤ context.now.slots }
+    ensures one_arm { OnOk result (Opens (λ arm k. spill context.now (λ x. true) places.now
+        (choose 0 gives arm None stop 0 k)) writer.old writer.new) }
     ensures two_arms { OnOk result
-        (OpensBoth (λ arm other k. fetch context.now (place condition) height
-        (choose 0 None arm (Some 0) other 0 k)) writer.old writer.new) }
+        (OpensBoth (λ arm other k. spill context.now (λ x. true) places.now
+        (choose 0 gives arm (Some 0) other 0 k)) writer.old writer.new) }
 {
-    context.fetch(writer, condition, height)?;
-    writer.open_if(None)
+    context.spill(writer, None, 0, places)?;
+    writer.open_if(gives)
 }
 
-/// `end`, behind which the block's result goes to its slot, over so many operands.
+/// `end`, behind which the block's result is kept, over so many operands.
 pub fn close_block(
     context: &FunctionContext<'_, '_>,
     writer: &mut CodeWriter,
@@ -49,8 +76,9 @@ pub fn close_block(
 ) -> Result<(), NoMemory>
     requires { height ≤ context.now.slots }
     ensures { (places : List PlaceOf) → length places ≡ height
-        → OnOk result (ClosesBefore (from_result context.now gives places) writer.old writer.new) }
+        → OnOk result (ClosesBefore (keep context.now (option_map SpilledOf gives) places)
+        writer.old writer.new) }
 {
     writer.close()?;
-    context.from_result(writer, gives, height)
+    context.keep_result(writer, gives, height)
 }

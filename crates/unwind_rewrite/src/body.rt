@@ -50,7 +50,7 @@ fn write_body(
     ensures offsets { IfOk result (λ out. length out.ops ≤ 2 ^ 32 → Ascend 0 out.ops) }
 {
     let mut writer = CodeWriter::new(alloc);
-    open_body(&mut writer)?;
+    open_body(&mut writer, context.gives())?;
     write_nodes(alloc, context, &mut writer, parts, body)?;
     close_body(context, &mut writer)?;
     let locals = with_added(alloc, body.groups.as_slice(), context.slots())?;

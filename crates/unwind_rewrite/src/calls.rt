@@ -6,18 +6,18 @@ ghost use Rattle.wasm_syntax.specs.declared.instruction.Basic.TheVariants.{Eqz a
 ghost use Rattle.wasm_syntax.specs.Tree.{CallIndirect, stop, basic, jump};
 ghost use Rattle.wasm_syntax.specs.Machine.{result_of};
 ghost use Rattle.wasm_syntax.specs.Module.{function_types};
-ghost use Rattle.rewrite_bodies.specs.Numbering.{import_count, mapped};
+ghost use Rattle.rewrite_bodies.specs.Numbering.{doubles, import_count};
 ghost use Rattle.rewrite_bodies.specs.Slots.{Place as PlaceOf, less, kind_at};
 ghost use Rattle.rewrite_bodies.specs.Pieces.{call, fetch, get, load, set, store};
-ghost use Rattle.rewrite_bodies.specs.Rewrite.{Info, after_call, after_direct, call_code, helper_of, indirect_code};
+ghost use Rattle.rewrite_bodies.specs.Rewrite.{after_call, after_direct, call_code, helper_of, indirect_code, past_shown};
 ghost use Rattle.rewrite_code.specs.calls.Writing.{Emits, EmitsLast};
 ghost use Rattle.rewrite_code.specs.calls.Places.{place};
 
-use crate::left::{store_left, test_both, test_flag};
+use crate::left::{keep_left, reload_left, store_left, test_both, test_flag};
 use causes::NoMemory;
 use guard_insert::guard_entry;
-use rewrite_code::{CodeWriter, FunctionContext, OperandPlace, OperandPlaces};
-use wasm_syntax::{Basic, FuncType, ValType};
+use rewrite_code::{CodeWriter, FunctionContext, OperandPlace, OperandPlaces, drops};
+use wasm_syntax::{Basic, Binary, FuncType, ValType, Value};
 
 /// The index of a type, and that of the function that is its helper.
 #[derive(Clone, Copy)]
@@ -52,11 +52,10 @@ fn after_call(
 ) -> Result<(), NoMemory>
     requires shallow { labels + 1 < 2 ^ 32 }
     requires room { length places.now ≤ context.now.slots }
-    ensures { (ls : List Info) → length ls ≡ labels
-        → OnOk result (Emits (λ k. after_call context.now ls gives (less count places.now) offset
+    ensures { OnOk result (Emits (λ k. after_call context.now labels gives (less count places.now) offset
         (λ es. k)) writer.old writer.new) }
 {
-    store_left(context, writer, gives, places, count)?;
+    keep_left(context, writer, gives, places, count)?;
     test_flag(context, writer, labels, places, count, offset)
 }
 
@@ -72,35 +71,17 @@ fn after_direct(
 ) -> Result<(), NoMemory>
     requires shallow { labels + 1 < 2 ^ 32 }
     requires room { length places.now ≤ context.now.slots }
-    ensures { (ls : List Info) → length ls ≡ labels
-        → OnOk result (Emits (λ k. after_direct (nat_lt function (import_count context.now.source))
-        context.now ls (result_of ftype.now) (less (length ftype.now.params) places.now) offset
+    ensures { OnOk result (Emits (λ k. after_direct (nat_lt function (import_count context.now.source))
+        context.now labels (result_of ftype.now) (less (length ftype.now.params) places.now) offset
         (λ es. k)) writer.old writer.new) }
 {
     let count = ftype.params.len();
     let gives = result_type(ftype);
     if is_imported(context, function) {
-        store_left(context, writer, gives, places, count)
+        keep_left(context, writer, gives, places, count)
     } else {
         after_call(context, writer, labels, places, count, offset, gives)
     }
-}
-
-/// The arguments are loaded, and the call is made.
-fn call_with(
-    context: &FunctionContext<'_, '_>,
-    writer: &mut CodeWriter,
-    places: &OperandPlaces,
-    function: u32,
-    count: usize,
-) -> Result<(), NoMemory>
-    requires there { function < length (function_types context.now.source) }
-    requires room { length places.now ≤ context.now.slots }
-    ensures { OnOk result (Emits (λ k. load context.now count places.now
-        (call (mapped context.now.source function) k)) writer.old writer.new) }
-{
-    context.load(writer, count, places)?;
-    writer.call(context.map().function(function))
 }
 
 /// `call`, of a function of this type.
@@ -116,11 +97,10 @@ pub fn call_function(
     requires there { function < length (function_types context.now.source) }
     requires shallow { labels + 1 < 2 ^ 32 }
     requires room { length places.now ≤ context.now.slots }
-    ensures { (ls : List Info) → length ls ≡ labels
-        → OnOk result (Emits (λ k. call_code context.now ls places.now offset function
+    ensures { OnOk result (Emits (λ k. call_code context.now labels places.now offset function
         (Some ftype.now) (λ es. k)) writer.old writer.new) }
 {
-    call_with(context, writer, places, function, ftype.params.len())?;
+    writer.call(context.map().function(function))?;
     after_direct(context, writer, labels, places, offset, function, ftype)
 }
 
@@ -144,6 +124,21 @@ fn keep_verdict(
     writer.basic(Basic::Eqz(ValType::I32))
 }
 
+/// Behind the index of an entry: where a host sees the table, it has as many entries for the host in
+/// front.
+fn past_shown(context: &FunctionContext<'_, '_>, writer: &mut CodeWriter) -> Result<(), NoMemory>
+    ensures { OnOk result (Emits (past_shown (doubles context.now.source) context.now) writer.old
+        writer.new) }
+{
+    let map = context.map();
+    if map.doubles() {
+        writer.const_value(Value::I32(map.table_size()))?;
+        writer.basic(Basic::Binary(ValType::I32, Binary::Add))
+    } else {
+        Ok(())
+    }
+}
+
 /// The call with its operands, so many with the index of the entry, and its result.
 fn call_entry(
     context: &FunctionContext<'_, '_>,
@@ -155,11 +150,12 @@ fn call_entry(
 ) -> Result<(), NoMemory>
     requires { length places.now ≤ context.now.slots }
     ensures { OnOk result (EmitsLast
-        (load context.now count places.now
-        (jump 0 (CallIndirect type_index) (store context.now gives (less count places.now) stop)))
+        (load context.now count places.now (past_shown (doubles context.now.source) context.now
+        (jump 0 (CallIndirect type_index) (store context.now gives (less count places.now) stop))))
         writer.old writer.new) }
 {
     context.load(writer, count, places)?;
+    past_shown(context, writer)?;
     writer.call_indirect(type_index)?;
     store_left(context, writer, gives, places, count)
 }
@@ -176,9 +172,9 @@ pub fn call_through_table(
 ) -> Result<(), NoMemory>
     requires shallow { labels + 1 < 2 ^ 32 }
     requires room { length places.now ≤ context.now.slots }
-    ensures { (ls : List Info) (e : PlaceOf) (es : List PlaceOf) → length ls ≡ labels
+    ensures { (e : PlaceOf) (es : List PlaceOf)
         → numbers.helper ≡ helper_of context.now numbers.index → places.now ≡ e ∷ es
-        → OnOk result (Emits (λ k. indirect_code context.now ls places.now offset numbers.index
+        → OnOk result (Emits (λ k. indirect_code context.now labels places.now offset numbers.index
         (Some ftype.now) (λ es. k)) writer.old writer.new) }
 {
     let Some(entry) = places.peek(0) else {
@@ -190,5 +186,7 @@ pub fn call_through_table(
     writer.open_if(None)?;
     call_entry(context, writer, places, count, numbers.index, gives)?;
     writer.close()?;
-    test_both(context, writer, labels, places, count, offset)
+    test_both(context, writer, labels, places, count, offset)?;
+    drops(writer, count)?;
+    reload_left(context, writer, gives, places, count)
 }

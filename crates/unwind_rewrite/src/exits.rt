@@ -1,13 +1,13 @@
-//! The body of a rewritten function around its nodes: a block from which results go back, in a
-//! block behind which the frame is handed over.
+//! The body of a rewritten function around its nodes: a block behind which the function returns, in
+//! a block behind which the frame is handed over.
 
-ghost use Rattle.std.specs.Prelude.{◌≡◌, [], ◌∷◌, length, OnOk};
+ghost use Rattle.std.specs.Prelude.{◌≡◌, [], length, OnOk};
 ghost use Rattle.wasm_syntax.specs.Tree.{Nodes};
 ghost use Rattle.wasm_syntax.specs.Machine.{zero_of};
 ghost use Rattle.rewrite_bodies.specs.Numbering.{frame_import};
 ghost use Rattle.rewrite_bodies.specs.Slots.{kind_at, offset_at};
 ghost use Rattle.rewrite_bodies.specs.Pieces.{get, const, i32, call};
-ghost use Rattle.rewrite_bodies.specs.Rewrite.{in_body, rewrite, result_back, finish, zero_result, raise_flag, exit_code, body};
+ghost use Rattle.rewrite_bodies.specs.Rewrite.{rewrite, zero_result, raise_flag, exit_code, body};
 ghost use Rattle.rewrite_code.specs.calls.Writing.{Written, Emits, EmitsLast};
 ghost use Rattle.unwind_rewrite.specs.calls.Bodies.{OpensTwo};
 
@@ -15,30 +15,6 @@ use crate::blocks::open_two;
 use causes::NoMemory;
 use rewrite_code::{CodeWriter, FunctionContext};
 use wasm_syntax::{Basic, ValType, Value};
-
-/// The result goes back to the caller.
-fn result_back(
-    context: &FunctionContext<'_, '_>,
-    writer: &mut CodeWriter,
-    gives: Option<ValType>,
-) -> Result<(), NoMemory>
-    ensures { OnOk result (EmitsLast (result_back context.now gives) writer.old writer.new) }
-{
-    match gives {
-        Some(t) => {
-            context.get(writer, context.result_at(t))?;
-            writer.return_values()
-        }
-        None => writer.return_values(),
-    }
-}
-
-/// Behind the body's block.
-fn finish(context: &FunctionContext<'_, '_>, writer: &mut CodeWriter) -> Result<(), NoMemory>
-    ensures { OnOk result (EmitsLast (finish context.now) writer.old writer.new) }
-{
-    result_back(context, writer, context.gives())
-}
 
 /// The zero of a type.
 fn zero(t: ValType) -> Value
@@ -104,11 +80,11 @@ fn exit(context: &FunctionContext<'_, '_>, writer: &mut CodeWriter) -> Result<()
     writer.return_values()
 }
 
-/// The beginning of the body: the exit block, and the body's block in it.
-pub fn open_body(writer: &mut CodeWriter) -> Result<(), NoMemory>
-    ensures { OnOk result (OpensTwo writer.old writer.new) }
+/// The beginning of the body: the exit block, and the body's block in it, which gives this.
+pub fn open_body(writer: &mut CodeWriter, gives: Option<ValType>) -> Result<(), NoMemory>
+    ensures { OnOk result (OpensTwo gives writer.old writer.new) }
 {
-    open_two(writer)
+    open_two(writer, gives)
 }
 
 /// The end of the body, behind its nodes.
@@ -116,12 +92,12 @@ pub fn close_body(
     context: &FunctionContext<'_, '_>,
     writer: &mut CodeWriter,
 ) -> Result<(), NoMemory>
-    ensures { (nodes : Nodes) (start inside : Written) → OpensTwo start inside
-        → EmitsLast (rewrite context.now (in_body context.now.result ∷ []) [] nodes) inside
-        writer.old → OnOk result (EmitsLast (body context.now nodes) start writer.new) }
+    ensures { (nodes : Nodes) (start inside : Written) → OpensTwo context.now.result start inside
+        → EmitsLast (rewrite context.now 1 [] nodes) inside writer.old
+        → OnOk result (EmitsLast (body context.now nodes) start writer.new) }
 {
     writer.close()?;
-    finish(context, writer)?;
+    writer.return_values()?;
     writer.close()?;
     exit(context, writer)
 }

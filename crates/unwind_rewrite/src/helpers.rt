@@ -49,8 +49,8 @@ pub fn helper(writer: &mut CodeWriter, labels: &[u32]) -> Result<(), NoMemory>
     ensures { (m : Module) (t : ℕ) → labels.now ≡ map (entry_label m t) (first_table m)
         → OnOk result (EmitsLast (helper m t) writer.old writer.new) }
 {
-    open_two(writer)?;
-    open_two(writer)?;
+    open_two(writer, None)?;
+    open_two(writer, None)?;
     select(writer, labels)?;
     close_says(writer, 0)?;
     close_says(writer, 5)?;

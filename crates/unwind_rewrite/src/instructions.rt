@@ -1,38 +1,19 @@
 //! Instructions in live code, and the ends of lists.
 
 ghost use Rattle.std.specs.Prelude.{◌≡◌, ℕ, ◌+◌, ◌^◌, ◌<◌, ◌≤◌, ◌∷◌, List, length, IfOk, OnOk};
-ghost use Rattle.wasm_syntax.specs.Effect.{takes};
 ghost use Rattle.wasm_syntax.specs.Tree.{Plain, Opens, OpensLoop, OpensIf, Else as ElseOf, End as EndOf, item_of};
-ghost use Rattle.rewrite_bodies.specs.Slots.{Ctx as CtxOf, result_type};
+ghost use Rattle.rewrite_bodies.specs.Slots.{Ctx as CtxOf};
 ghost use Rattle.operand_spill.specs.declared.labels.OpenBlock.{OpenBlock as OpenBlockOf};
-ghost use Rattle.operand_spill.specs.calls.Standing.{after_instr};
-ghost use Rattle.operand_spill.specs.calls.Walking.{with_places};
 ghost use Rattle.unwind_rewrite.specs.calls.Numbers.{HasHelpers, Helped};
 ghost use Rattle.unwind_rewrite.specs.calls.Points.{Advances, IsBehind, Resumes};
 
 use crate::jumps::write_jump;
 use crate::points::Flow;
-use crate::{close_block, end_block, instruction, open_if};
+use crate::{close_block, instruction, open_block, open_if, open_loop};
 use causes::NoMemory;
-use operand_spill::{Label, Walk, result_type, takes};
+use operand_spill::{Label, Walk, result_place, takes};
 use rewrite_code::{CodeWriter, FunctionContext};
 use wasm_syntax::{Basic, Instr, ModuleParts, Op, ValType};
-
-/// What becomes of the operands at a basic instruction, which takes so many and gives this.
-fn perform(
-    walk: &mut Walk,
-    basic: Basic,
-    taken: usize,
-    gives: Option<ValType>,
-) -> Result<(), NoMemory>
-    ensures { (C : CtxOf) → takes basic ≡ taken → result_type C walk.old.places basic ≡ gives
-        → OnOk result (walk.new ≡ with_places walk.old (after_instr C walk.old.places basic)) }
-{
-    match basic {
-        Basic::Const(value) => walk.push_constant(value),
-        _ => walk.perform(taken, gives),
-    }
-}
 
 /// A basic instruction.
 fn write_basic(
@@ -50,7 +31,7 @@ fn write_basic(
         writer.new) }
 {
     let taken = takes(basic);
-    let gives = result_type(context.locals(), parts, walk.places(), basic);
+    let gives = result_place(context.locals(), parts, walk.places(), basic);
     let labels = walk.depth() as u32;
     instruction(
         context,
@@ -62,34 +43,38 @@ fn write_basic(
         taken,
         gives,
     )?;
-    perform(walk, basic, taken, gives)?;
+    walk.perform_basic(basic, taken, gives)?;
     Ok(Flow::Next)
 }
 
 /// The beginning of a block.
 fn write_block(
+    context: &FunctionContext<'_, '_>,
     writer: &mut CodeWriter,
     walk: &mut Walk,
     gives: Option<ValType>,
 ) -> Result<Flow, NoMemory>
-    ensures { (C : CtxOf) (o : ℕ)
-        → IfOk result (Advances C o (Opens gives) walk.old writer.old walk.new writer.new) }
+    requires { length walk.old.places ≤ context.now.slots }
+    ensures { (o : ℕ) → IfOk result
+        (Advances context.now o (Opens gives) walk.old writer.old walk.new writer.new) }
 {
-    writer.open_block(None)?;
+    open_block(context, writer, gives, walk.places())?;
     walk.open(Label::Block(gives))?;
     Ok(Flow::Next)
 }
 
 /// The beginning of a loop.
 fn write_loop(
+    context: &FunctionContext<'_, '_>,
     writer: &mut CodeWriter,
     walk: &mut Walk,
     gives: Option<ValType>,
 ) -> Result<Flow, NoMemory>
-    ensures { (C : CtxOf) (o : ℕ)
-        → IfOk result (Advances C o (OpensLoop gives) walk.old writer.old walk.new writer.new) }
+    requires { length walk.old.places ≤ context.now.slots }
+    ensures { (o : ℕ) → IfOk result
+        (Advances context.now o (OpensLoop gives) walk.old writer.old walk.new writer.new) }
 {
-    writer.open_loop(None)?;
+    open_loop(context, writer, gives, walk.places())?;
     walk.open(Label::Loop(gives))?;
     Ok(Flow::Next)
 }
@@ -105,32 +90,13 @@ fn write_if(
     ensures { (o : ℕ) → IfOk result
         (Advances context.now o (OpensIf gives) walk.old writer.old walk.new writer.new) }
 {
-    let Some(condition) = walk.pop() else {
-        return Ok(Flow::Leaves);
-    };
-    open_if(context, writer, condition, walk.places().len())?;
+    walk.perform(1, None)?;
+    open_if(context, writer, gives, walk.places())?;
     walk.open(Label::Block(gives))?;
     Ok(Flow::Next)
 }
 
-/// What the end of the innermost list leaves, in front of its `else` or `end`.
-fn write_ending(
-    context: &FunctionContext<'_, '_>,
-    writer: &mut CodeWriter,
-    walk: &Walk,
-) -> Result<Flow, NoMemory>
-    requires { length walk.now.places ≤ context.now.slots }
-    ensures before_end { (o : ℕ) → IfOk result
-        (Advances context.now o EndOf walk.now writer.old walk.now writer.new) }
-    ensures before_else { (o : ℕ)
-        → IfOk result (Advances context.now o ElseOf walk.now writer.old walk.now writer.new) }
-{
-    end_block(context, writer, walk.innermost().end_gives(), walk.places())?;
-    Ok(Flow::Leaves)
-}
-
-/// A live instruction, in a body with these targets. Of an `else` or `end`, what stands in front of
-/// it.
+/// A live instruction, in a body with these targets; an `else` or `end` leaves its list.
 pub(crate) fn write_live(
     context: &FunctionContext<'_, '_>,
     writer: &mut CodeWriter,
@@ -150,11 +116,11 @@ pub(crate) fn write_live(
     match op.code {
         Instr::Basic(basic) => write_basic(context, writer, walk, parts, op.at, basic),
         Instr::Jump(jump) => write_jump(context, writer, walk, parts, targets, op.at, jump),
-        Instr::Block(gives) => write_block(writer, walk, gives),
-        Instr::Loop(gives) => write_loop(writer, walk, gives),
+        Instr::Block(gives) => write_block(context, writer, walk, gives),
+        Instr::Loop(gives) => write_loop(context, writer, walk, gives),
         Instr::If(gives) => write_if(context, writer, walk, gives),
-        Instr::Else => write_ending(context, writer, walk),
-        Instr::End => write_ending(context, writer, walk),
+        Instr::Else => Ok(Flow::Leaves),
+        Instr::End => Ok(Flow::Leaves),
     }
 }
 

@@ -1,38 +1,21 @@
 //! Control instructions that hold no others.
 
-ghost use Rattle.std.specs.Prelude.{◌≡◌, ℕ, ◌+◌, ◌^◌, ◌<◌, ◌≤◌, true, length, slice_get, take, drop, option_map, IfOk, IfSome, Some};
+ghost use Rattle.std.specs.Prelude.{◌≡◌, ℕ, ◌+◌, ◌^◌, ◌<◌, ◌≤◌, true, length, take, drop, IfOk};
 ghost use Rattle.wasm_syntax.specs.Machine.{result_of};
 ghost use Rattle.wasm_syntax.specs.Tree.{Goes, Br as BrOf, BrIf as BrIfOf, BrTable as BrTableOf, Return as ReturnOf, Unreachable as UnreachableOf, Call as CallOf, CallIndirect as CallIndirectOf, jump_of};
 ghost use Rattle.rewrite_bodies.specs.Numbering.{is_in};
-ghost use Rattle.rewrite_bodies.specs.Rewrite.{carries};
+ghost use Rattle.rewrite_bodies.specs.Slots.{Ctx as CtxOf};
 ghost use Rattle.rewrite_modules.specs.Weight.{types_used};
-ghost use Rattle.operand_spill.specs.calls.Walking.{labels_of};
+ghost use Rattle.operand_spill.specs.calls.Walking.{Walking as WalkingOf};
 ghost use Rattle.unwind_rewrite.specs.calls.Numbers.{HasHelpers, JumpHelped};
 ghost use Rattle.unwind_rewrite.specs.calls.Points.{Advances};
 
 use crate::points::Flow;
-use crate::{
-    Target, TypeNumbers, branch_if, branch_table, branch_to, call_function, call_through_table,
-    return_from, trap,
-};
+use crate::{TypeNumbers, branch_table, call_function, call_through_table, trap};
 use causes::NoMemory;
 use operand_spill::Walk;
 use rewrite_code::{CodeWriter, FunctionContext};
 use wasm_syntax::{FuncType, Jump, ModuleParts, ValType};
-
-/// The label of a branch, where it is there.
-fn target(walk: &Walk, label: u32) -> Option<Target>
-    ensures label { option_map carries (slice_get (labels_of walk.now) label)
-        ≡ option_map (λ t. t.carried) result }
-    ensures inside { IfSome result (λ t. label ≤ length walk.now.opens) }
-{
-    match walk.label(label) {
-        Some(label) => Some(Target {
-            carried: label.carries(),
-        }),
-        None => None,
-    }
-}
 
 /// What a function gives, if anything.
 fn result_type(ftype: &FuncType) -> Option<ValType>
@@ -51,81 +34,43 @@ fn targets_at(targets: &[u32], start: u32, count: u32) -> &[u32]
 }
 
 /// `br`.
-fn write_branch(
-    context: &FunctionContext<'_, '_>,
-    writer: &mut CodeWriter,
-    walk: &Walk,
-    label: u32,
-) -> Result<Flow, NoMemory>
-    requires { length walk.now.places ≤ context.now.slots }
-    ensures { (o : ℕ) → IfOk result
-        (Advances context.now o (Goes (BrOf label)) walk.now writer.old walk.now writer.new) }
+fn write_branch(writer: &mut CodeWriter, label: u32) -> Result<Flow, NoMemory>
+    ensures { (C : CtxOf) (o : ℕ) (w : WalkingOf) → IfOk result
+        (Advances C o (Goes (BrOf label)) w writer.old w writer.new) }
 {
-    branch_to(context, writer, target(walk, label), walk.places(), label)?;
+    writer.branch(label)?;
     Ok(Flow::Leaves)
 }
 
 /// `br_if`, behind which the code goes on.
-fn write_branch_if(
-    context: &FunctionContext<'_, '_>,
-    writer: &mut CodeWriter,
-    walk: &mut Walk,
-    label: u32,
-) -> Result<Flow, NoMemory>
-    requires shallow { length walk.old.opens + 2 < 2 ^ 32 }
-    requires room { length walk.old.places ≤ context.now.slots }
-    ensures { (o : ℕ) → IfOk result
-        (Advances context.now o (Goes (BrIfOf label)) walk.old writer.old walk.new writer.new) }
+fn write_branch_if(writer: &mut CodeWriter, walk: &mut Walk, label: u32) -> Result<Flow, NoMemory>
+    ensures { (C : CtxOf) (o : ℕ) → IfOk result
+        (Advances C o (Goes (BrIfOf label)) walk.old writer.old walk.new writer.new) }
 {
-    let Some(condition) = walk.pop() else {
-        return Ok(Flow::Leaves);
-    };
-    let target = target(walk, label);
-    branch_if(context, writer, target, condition, walk.places(), label)?;
+    writer.branch_if(label)?;
+    walk.perform(1, None)?;
     Ok(Flow::Next)
 }
 
 /// `br_table`.
 fn write_branch_table(
-    context: &FunctionContext<'_, '_>,
     writer: &mut CodeWriter,
-    walk: &mut Walk,
     targets: &[u32],
     default_label: u32,
 ) -> Result<Flow, NoMemory>
-    requires { length walk.old.places ≤ context.now.slots }
-    ensures { (o : ℕ) → IfOk result
-        (Advances context.now o (Goes (BrTableOf targets.now default_label)) walk.old writer.old
-        walk.new writer.new) }
+    ensures { (C : CtxOf) (o : ℕ) (w : WalkingOf) → IfOk result
+        (Advances C o (Goes (BrTableOf targets.now default_label)) w writer.old w writer.new) }
 {
-    let Some(selector) = walk.pop() else {
-        return Ok(Flow::Leaves);
-    };
-    let target = target(walk, default_label);
-    branch_table(
-        context,
-        writer,
-        target,
-        selector,
-        walk.places(),
-        targets,
-        default_label,
-    )?;
+    branch_table(writer, targets, default_label)?;
     Ok(Flow::Leaves)
 }
 
 /// `return`.
-fn write_return(
-    context: &FunctionContext<'_, '_>,
-    writer: &mut CodeWriter,
-    walk: &Walk,
-) -> Result<Flow, NoMemory>
-    requires shallow { length walk.now.opens + 2 < 2 ^ 32 }
-    requires room { length walk.now.places ≤ context.now.slots }
-    ensures { (o : ℕ) → IfOk result
-        (Advances context.now o (Goes ReturnOf) walk.now writer.old walk.now writer.new) }
+fn write_return(writer: &mut CodeWriter) -> Result<Flow, NoMemory>
+    ensures { (C : CtxOf) (o : ℕ) (w : WalkingOf) → IfOk result
+        (Advances C o (Goes ReturnOf) w writer.old w writer.new) }
 {
-    return_from(context, writer, walk.depth() as u32, walk.places())?;
+    writer.return_values()?;
     Ok(Flow::Leaves)
 }
 
@@ -237,13 +182,13 @@ pub(crate) fn write_jump(
 {
     match jump {
         Jump::Unreachable => write_trap(context, writer, walk, offset),
-        Jump::Br(label) => write_branch(context, writer, walk, label),
-        Jump::BrIf(label) => write_branch_if(context, writer, walk, label),
+        Jump::Br(label) => write_branch(writer, label),
+        Jump::BrIf(label) => write_branch_if(writer, walk, label),
         Jump::BrTable(start, count, default_label) => {
             let own = targets_at(targets, start, count);
-            write_branch_table(context, writer, walk, own, default_label)
+            write_branch_table(writer, own, default_label)
         }
-        Jump::Return => write_return(context, writer, walk),
+        Jump::Return => write_return(writer),
         Jump::Call(function) => write_call(context, writer, walk, parts, offset, function),
         Jump::CallIndirect(ftype) => {
             write_call_indirect(context, writer, walk, parts, offset, ftype)

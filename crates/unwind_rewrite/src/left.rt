@@ -1,17 +1,47 @@
 //! The operands that a call leaves: they are handed over where the callee unwound, or where the
 //! call would trap.
 
-ghost use Rattle.std.specs.Prelude.{◌≡◌, ◌+◌, ◌^◌, ◌<◌, ◌≤◌, List, length, OnOk};
+ghost use Rattle.std.specs.Prelude.{◌+◌, ◌^◌, ◌<◌, ◌≤◌, length, option_map, OnOk};
 ghost use Rattle.wasm_syntax.specs.Tree.{stop};
-ghost use Rattle.rewrite_bodies.specs.Slots.{less, kind_at, offset_at, place_type};
-ghost use Rattle.rewrite_bodies.specs.Pieces.{const, fetch, i32, set, store};
-ghost use Rattle.rewrite_bodies.specs.Rewrite.{Info, hand, hand_top, hand_value, hand_left, unwind, test_flag, test_both};
+ghost use Rattle.rewrite_bodies.specs.Slots.{Spilled as SpilledOf, less, kind_at, offset_at, place_type};
+ghost use Rattle.rewrite_bodies.specs.Pieces.{const, fetch, i32, keep, reload, set, store};
+ghost use Rattle.rewrite_bodies.specs.Rewrite.{hand, hand_top, hand_value, hand_left, unwind, test_flag, test_both};
 ghost use Rattle.rewrite_code.specs.calls.Writing.{Emits, EmitsLast};
 ghost use Rattle.rewrite_code.specs.calls.Places.{place};
 
 use causes::NoMemory;
 use rewrite_code::{CodeWriter, FunctionContext, OperandPlace, OperandPlaces, to_exit};
 use wasm_syntax::{Basic, Binary, ValType, Value};
+
+/// A result on the stack is kept over the operands under so many.
+pub(crate) fn keep_left(
+    context: &FunctionContext<'_, '_>,
+    writer: &mut CodeWriter,
+    gives: Option<ValType>,
+    places: &OperandPlaces,
+    count: usize,
+) -> Result<(), NoMemory>
+    requires { length places.now ≤ context.now.slots }
+    ensures { OnOk result (Emits (keep context.now (option_map SpilledOf gives)
+        (less count places.now)) writer.old writer.new) }
+{
+    context.keep_result(writer, gives, places.len().saturating_sub(count))
+}
+
+/// A result comes back from its slot over the operands under so many.
+pub(crate) fn reload_left(
+    context: &FunctionContext<'_, '_>,
+    writer: &mut CodeWriter,
+    gives: Option<ValType>,
+    places: &OperandPlaces,
+    count: usize,
+) -> Result<(), NoMemory>
+    requires { length places.now ≤ context.now.slots }
+    ensures { OnOk result (Emits (reload context.now gives (less count places.now)) writer.old
+        writer.new) }
+{
+    context.reload(writer, gives, places.len().saturating_sub(count))
+}
 
 /// A result goes to its slot over the operands under so many.
 pub(crate) fn store_left(
@@ -94,10 +124,9 @@ fn unwind_caller(
 ) -> Result<(), NoMemory>
     requires shallow { labels + 1 < 2 ^ 32 }
     requires room { length places.now ≤ context.now.slots }
-    ensures { (ls : List Info) → length ls ≡ labels
-        → OnOk result (EmitsLast (const (i32 0)
+    ensures { OnOk result (EmitsLast (const (i32 0)
         (set context.now (kind_at context.now)
-        (unwind context.now ls (less count places.now) offset))) writer.old writer.new) }
+        (unwind context.now labels (less count places.now) offset))) writer.old writer.new) }
 {
     set_no_kind(context, writer)?;
     set_offset(context, writer, offset)?;
@@ -116,8 +145,7 @@ pub(crate) fn test_flag(
 ) -> Result<(), NoMemory>
     requires shallow { labels + 1 < 2 ^ 32 }
     requires room { length places.now ≤ context.now.slots }
-    ensures { (ls : List Info) → length ls ≡ labels
-        → OnOk result (Emits (test_flag context.now ls (less count places.now) offset) writer.old
+    ensures { OnOk result (Emits (test_flag context.now labels (less count places.now) offset) writer.old
         writer.new) }
 {
     context.get_flag(writer)?;
@@ -136,8 +164,7 @@ fn hand_left(
 ) -> Result<(), NoMemory>
     requires shallow { labels + 1 < 2 ^ 32 }
     requires room { length places.now ≤ context.now.slots }
-    ensures { (ls : List Info) → length ls ≡ labels
-        → OnOk result (EmitsLast (hand_left context.now ls (less count places.now)
+    ensures { OnOk result (EmitsLast (hand_left context.now labels (less count places.now)
         (hand_top context.now count places.now stop)) writer.old writer.new) }
 {
     hand_under(context, writer, places, count)?;
@@ -159,10 +186,9 @@ fn unwind_both(
 ) -> Result<(), NoMemory>
     requires shallow { labels + 1 < 2 ^ 32 }
     requires room { length places.now ≤ context.now.slots }
-    ensures { (ls : List Info) → length ls ≡ labels
-        → OnOk result (EmitsLast (const (i32 offset)
+    ensures { OnOk result (EmitsLast (const (i32 offset)
         (set context.now (offset_at context.now)
-        (hand_left context.now ls (less count places.now)
+        (hand_left context.now labels (less count places.now)
         (hand_top context.now count places.now stop)))) writer.old writer.new) }
 {
     set_offset(context, writer, offset)?;
@@ -181,8 +207,7 @@ pub(crate) fn test_both(
 ) -> Result<(), NoMemory>
     requires shallow { labels + 1 < 2 ^ 32 }
     requires room { length places.now ≤ context.now.slots }
-    ensures { (ls : List Info) → length ls ≡ labels
-        → OnOk result (Emits (test_both context.now ls (less count places.now) offset
+    ensures { OnOk result (Emits (test_both context.now labels (less count places.now) offset
         (hand_top context.now count places.now stop)) writer.old writer.new) }
 {
     context.get(writer, context.kind_at())?;

@@ -17,9 +17,9 @@ mod plain;
 mod points;
 mod wrappers;
 
-pub use blocks::{close_block, open_if};
+pub use blocks::{close_block, open_block, open_if, open_loop};
 pub use body::rewrite_body;
-pub use branches::{Target, branch_if, branch_table, branch_to, end_block, return_from, trap};
+pub use branches::{branch_table, trap};
 pub use calls::{TypeNumbers, call_function, call_through_table};
 pub use exits::{close_body, open_body};
 pub use helpers::helper;

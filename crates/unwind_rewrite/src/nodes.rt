@@ -1,8 +1,8 @@
 //! All instructions of a body.
 
-ghost use Rattle.std.specs.Prelude.{◌≡◌, ◌+◌, ◌^◌, ◌<◌, [], ◌∷◌, length, IfOk, OnOk};
+ghost use Rattle.std.specs.Prelude.{◌≡◌, ◌+◌, ◌^◌, ◌<◌, [], length, IfOk, OnOk};
 ghost use Rattle.wasm_syntax.specs.Tree.{Tree as TreeOf, Nodes as NodesOf, Writes};
-ghost use Rattle.rewrite_bodies.specs.Rewrite.{in_body, rewrite};
+ghost use Rattle.rewrite_bodies.specs.Rewrite.{rewrite};
 ghost use Rattle.rewrite_code.specs.calls.Writing.{Written, EmitsLast};
 ghost use Rattle.operand_spill.specs.calls.Standing.{Fine};
 ghost use Rattle.unwind_rewrite.specs.calls.Numbers.{HasHelpers, AllHelped};
@@ -119,8 +119,7 @@ pub fn write_nodes(
     requires tree { CanBeWritten context.now body.now }
     ensures { (tree : TreeOf) → Writes body.now.targets body.now.ops tree
         → Fine context.now [] tree.nodes
-        → OnOk result (EmitsLast (rewrite context.now (in_body context.now.result ∷ []) []
-        tree.nodes) writer.old writer.new) }
+        → OnOk result (EmitsLast (rewrite context.now 1 [] tree.nodes) writer.old writer.new) }
 {
     let mut walk = Walk::new(alloc, context.gives());
     let last = body.ops.len() - 1;

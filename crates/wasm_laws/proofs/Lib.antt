@@ -5,6 +5,9 @@ pub mod Unique
 pub mod Lists
 pub mod Validity
 pub mod Longer
+pub mod Exact
+pub mod MoreReplies
+pub mod NextReply
 pub mod Weaken
 pub mod LiteralTyping
 pub mod FlatSteps

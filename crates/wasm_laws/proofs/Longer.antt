@@ -12,7 +12,7 @@ use Rattle.wasm_laws.specs.calls.Runs.{with_more, Stay}
 use Rattle.pm_text.proofs.Lists.{some_is}
 
 -- it is over
-abbrev Over : Stepped → Type 0
+abbrev pub Over : Stepped → Type 0
 Over (next c) = ⊥
 Over (ends w vs co) = Unit {0}
 Over (traps k c) = Unit {0}
@@ -21,7 +21,7 @@ Over (bad_reply call r c) = Unit {0}
 Over stuck = Unit {0}
 
 -- what comes of more steps
-abbrev more_left : ℕ → Ended → Ended
+abbrev pub more_left : ℕ → Ended → Ended
 more_left more e = ended e.what (e.left + more)
 
 module _ (M : Engine) (more : ℕ) where
@@ -43,12 +43,12 @@ module _ (M : Engine) (more : ℕ) where
   alone_more (suc n) zero e call w co h = absurd (omega (arith, e))
   alone_more (suc n) (suc m) e call w co h = let e' : m ≡ n + more = omega (arith, e) in ap (ended (host_alone (answer M.collects M.program.module_ call w) call w co)) e'
 
-  function_more : (n m f : ℕ) → m ≡ n + more → (fn : Option Function) (args : List Value) (w : World) (co : List CollectorCall) → Over (run_function M n f fn args w co).what → run_function M m f fn args w co ≡ more_left more (run_function M n f fn args w co)
+  pub function_more : (n m f : ℕ) → m ≡ n + more → (fn : Option Function) (args : List Value) (w : World) (co : List CollectorCall) → Over (run_function M n f fn args w co).what → run_function M m f fn args w co ≡ more_left more (run_function M n f fn args w co)
   function_more n m f e None args w co h = ap (ended stuck) e
   function_more n m f e (Some (imported i type)) args w co h = alone_more n m e (host_call f i type args) w co h
   function_more n m f e (Some (defined body tree type)) args w co h = steps_more n m e (config (entered f body tree type args ∷ []) w co) h
 
-  over_of : (q : Bool) (s : Stepped) (left : ℕ) → (ran_to q s left).outcome ≢ running → Over s
+  pub over_of : (q : Bool) (s : Stepped) (left : ℕ) → (ran_to q s left).outcome ≢ running → Over s
   over_of q (next c) left h = h refl
   over_of q (ends w vs co) left h = tt
   over_of q (traps k c) left h = tt
@@ -69,7 +69,7 @@ module _ (M : Engine) (more : ℕ) where
       let x = run_function M n f (function_at M.program f) args w co in
       ap (λ y. ran_to true y.what y.left) (function_more n m f e (function_at M.program f) args w co (over_of true x.what x.left h)) ∙ ran_more true x.what x.left
 
-  over_start : (s : Stepped) (n f : ℕ) (args : List Value) → (go_on M s n f args).outcome ≢ running → Over s
+  pub over_start : (s : Stepped) (n f : ℕ) (args : List Value) → (go_on M s n f args).outcome ≢ running → Over s
   over_start (next c) n f args h = h refl
   over_start (ends w vs co) n f args h = tt
   over_start (traps k c) n f args h = tt

@@ -115,12 +115,18 @@ module _ (p : Program) (s : Startable p) (collecting : Bool) (d : ℕ) where
       let e = run_function N n g (function_at p g) [] w [] in
       behind_last e.what e.left f type args (function_ok N s.typed n g (record { params = []; results = [] }) [] w [] (hs g refl) refl wf) tf ty
 
+  not_stuck : (o : Outcome) → Alive N s.typed o → o ≢ got_stuck
+  not_stuck o h e = subst (Alive N s.typed) e h
+
+  -- an invocation of a function of this type, in a world that is fine: it is not stuck, and leaves such a world where a list goes on
+  pub invocation_alive : (st : Option ℕ) (n f : ℕ) (type : FuncType) (args : List Value) (w : World) → ((g : ℕ) → st ≡ Some g → type_at p.module_ g ≡ Some (record { params = []; results = [] })) → type_at p.module_ f ≡ Some type → types args ≡ type.params → WorldFine p.module_ w → ((invoked N st n f args w).outcome ≢ got_stuck) × ((w' : World) → goes_on (invoked N st n f args w).outcome (invoked N st n f args w).entered ≡ true → WorldFine p.module_ (fresh (invoked N st n f args w).last w'))
+  invocation_alive st n f type args w hs tf ty wf =
+      let x = invoked_last st n f type args w hs tf ty wf in
+      (not_stuck (invoked N st n f args w).outcome x.0, x.1)
+
   abbrev Calls : List Invocation → Type 0
   Calls [] = Unit {0}
   Calls (i ∷ is) = (f : ℕ) × (function_export p.module_ i.name ≡ Some f) × (type : FuncType) × (type_at p.module_ f ≡ Some type) × (types i.args ≡ type.params) × Calls is
-
-  not_stuck : (o : Outcome) → Alive N s.typed o → o ≢ got_stuck
-  not_stuck o h e = subst (Alive N s.typed) e h
 
   session_fine : (is : List Invocation) (st : Option ℕ) (w : World) (n : ℕ) → ((g : ℕ) → st ≡ Some g → type_at p.module_ g ≡ Some (record { params = []; results = [] })) → Calls is → WorldFine p.module_ w → NoneStuck (session N is st w n)
   session_fine [] st w n hs cs wf = tt

@@ -6,8 +6,7 @@ use Rattle.wasm_syntax.specs.declared.parts.FuncType.{FuncType}
 use Rattle.wasm_syntax.specs.Tree.{Jump, Unreachable, Br, BrIf, BrTable, Return, Call, CallIndirect, Nodes, stop, basic, jump, block, loop, choose}
 use Rattle.wasm_syntax.specs.Machine.{result_of}
 use Rattle.wasm_syntax.specs.Module.{type_at}
-use Rattle.rewrite_bodies.specs.Slots.{Place, Spilled, Known, Ctx, less, grown}
-use Rattle.operand_spill.specs.calls.Standing.{after_instr}
+use Rattle.rewrite_bodies.specs.Slots.{Place, Spilled, Known, Copied, Ctx, less, grown, under, after_plain}
 
 -- before an instruction, and then behind it
 abbrev pub first_then : Option (List Place) → (ℕ → Option (List Place)) → ℕ → Option (List Place)
@@ -42,13 +41,13 @@ after_jump C (CallIndirect t) es go over = after_call (slice_get C.source.types 
 -- in live nodes over these places, and then behind the end of their list
 abbrev pub live : Ctx → List Place → Nodes → (ℕ → Option (List Place)) → ℕ → Option (List Place)
 live C es stop behind = first_then (Some es) behind
-live C es (basic at i rest) behind = first_then (Some es) (live C (after_instr C es i) rest behind)
+live C es (basic at i rest) behind = first_then (Some es) (live C (after_plain C es i) rest behind)
 live C es (jump at j rest) behind = first_then (Some es) (after_jump C j es (λ left. live C left rest behind) (dead rest behind))
-live C es (block at t inner end rest) behind = first_then (Some es) (live C es inner (live C (grown t es) rest behind))
-live C es (loop at t inner end rest) behind = first_then (Some es) (live C es inner (live C (grown t es) rest behind))
-live C es (choose at t a None b end rest) behind = first_then (Some es) (live C (less 1 es) a (live C (grown t (less 1 es)) rest behind))
+live C es (block at t inner end rest) behind = first_then (Some es) (live C (under es) inner (live C (grown t (under es)) rest behind))
+live C es (loop at t inner end rest) behind = first_then (Some es) (live C (under es) inner (live C (grown t (under es)) rest behind))
+live C es (choose at t a None b end rest) behind = let left = under (less 1 es) in first_then (Some es) (live C left a (live C (grown t left) rest behind))
 live C es (choose at t a (Some else_at) b end rest) behind =
-    first_then (Some es) (live C (less 1 es) a (live C (less 1 es) b (live C (grown t (less 1 es)) rest behind)))
+    let left = under (less 1 es) in first_then (Some es) (live C left a (live C left b (live C (grown t left) rest behind)))
 
 -- before the instruction of this index of a body
 abbrev pub before : Ctx → Nodes → ℕ → Option (List Place)
@@ -59,6 +58,7 @@ abbrev pub constant_of : Option Place → Option Value
 constant_of None = None
 constant_of (Some (Spilled t)) = None
 constant_of (Some (Known v)) = Some v
+constant_of (Some (Copied t x)) = None
 
 abbrev pub known_among : Option (List Place) → ℕ → Option Value
 known_among None n = None

@@ -1,5 +1,5 @@
 -- Open labels as they are kept.
-use Rattle.rewrite_bodies.specs.Rewrite.{Info, in_block, in_loop, in_body}
+use Rattle.rewrite_bodies.specs.calls.Typed.{Info, in_block, in_loop, in_body}
 use Rattle.operand_spill.specs.declared.labels.Label.{Label}
 use Rattle.operand_spill.specs.declared.labels.Label.TheVariants as kept
 

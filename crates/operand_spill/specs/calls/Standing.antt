@@ -1,16 +1,14 @@
 -- Where a walk stands in a body: which nodes are left of the innermost list, and what is due behind it and behind each list around it.
 use Rattle.std.specs.Prelude.{◌≡◌, ℕ, zero, suc, ◌≤◌, List, [], ◌∷◌, ◌++◌, length, drop, Option, Some, None}
-use Rattle.wasm_syntax.specs.declared.instruction.Basic.{Basic}
-use Rattle.wasm_syntax.specs.declared.instruction.Basic.TheVariants.{Const}
 use Rattle.wasm_syntax.specs.Tree.{Nodes, stop, basic, jump, block, loop, choose, Item, Plain, Goes, Opens, OpensLoop, OpensIf, Else, End, Placed, placed, write}
-use Rattle.rewrite_bodies.specs.Slots.{Place, Known, Ctx, after_plain}
-use Rattle.rewrite_bodies.specs.Pieces.{from_result}
-use Rattle.rewrite_bodies.specs.Rewrite.{Info, end_gives, rewrite}
+use Rattle.rewrite_bodies.specs.Slots.{Place, Ctx}
+use Rattle.rewrite_bodies.specs.Rewrite.{with_result, rewrite}
+use Rattle.rewrite_bodies.specs.calls.Typed.{end_gives}
 use Rattle.rewrite_bodies.specs.calls.Agreement.{Room}
 use Rattle.rewrite_code.specs.calls.Writing.{Written, Behind, ends, alternates, goes}
 use Rattle.operand_spill.specs.declared.labels.OpenBlock.{OpenBlock}
 use Rattle.operand_spill.specs.calls.Labels.{info}
-use Rattle.operand_spill.specs.calls.Walking.{Walking, infos, behind_block}
+use Rattle.operand_spill.specs.calls.Walking.{Walking, behind_block}
 
 -- what is due behind the list of an open block: its `end` and the nodes behind it; or its `else`, the second arm, its `end` and the nodes
 -- behind it
@@ -49,11 +47,6 @@ skip depth (x ∷ xs) = skip_by (passed depth x.code) (x ∷ xs) (λ d. skip d x
 
 -- ---- the rewriting
 
--- the places behind a basic instruction
-abbrev pub after_instr : Ctx → List Place → Basic → List Place
-after_instr C es (Const v) = Known v ∷ es
-after_instr C es i = after_plain C es i
-
 -- an `if` without `else` has no second arm, and gives nothing
 abbrev pub Armed : Nodes → Type 0
 Armed stop = Unit {0}
@@ -64,9 +57,9 @@ Armed (loop at t inner end rest) = Armed inner × Armed rest
 Armed (choose at t a None b end rest) = (t ≡ None) × (b ≡ stop) × Armed a × Armed rest
 Armed (choose at t a (Some else_at) b end rest) = Armed a × Armed b × Armed rest
 
--- the open labels of a function
-abbrev pub labels_in : Ctx → Walking → List Info
-labels_in C w = infos C.result w.opens
+-- how many labels are open, with that of the body
+abbrev pub depth_in : Walking → ℕ
+depth_in w = suc (length w.opens)
 
 -- nodes that can be rewritten over these places
 pub record Fine (C : Ctx) (es : List Place) (nodes : Nodes) : Type 0 where
@@ -88,7 +81,7 @@ Around C (o ∷ os) (before_else at other end rest ∷ ds) = Fine C o.saved othe
 
 -- the nodes behind an open block, rewritten
 abbrev pub rest_of : Ctx → OpenBlock → List OpenBlock → Nodes → Nodes
-rest_of C o os rest = from_result C (end_gives (info o.label)) o.saved (rewrite C (infos C.result os) (behind_block o) rest)
+rest_of C o os rest = with_result C (end_gives (info o.label)) o.saved (λ es. rewrite C (suc (length os)) es rest)
 
 -- what is due in the rewritten code behind each open block; the end of the body is written apart
 abbrev pub due : Ctx → List OpenBlock → List Due → List Behind
@@ -96,7 +89,7 @@ due C [] ds = []
 due C (o ∷ os) [] = []
 due C (o ∷ os) (before_end end rest ∷ ds) = ends (rest_of C o os rest) ∷ due C os ds
 due C (o ∷ os) (before_else at other end rest ∷ ds) =
-    alternates (rewrite C (infos C.result (o ∷ os)) o.saved other) (rest_of C o os rest) ∷ due C os ds
+    alternates (rewrite C (suc (length (o ∷ os))) o.saved other) (rest_of C o os rest) ∷ due C os ds
 
 -- The walk stands in front of these nodes, the last ones of the innermost list, at an index of the code.
 pub record Stands (C : Ctx) (code : List Placed) (pc : ℕ) (w : Walking) (nodes : Nodes) (dues : List Due) : Type 0 where
@@ -122,7 +115,7 @@ pub record Rewrites (C : Ctx) (code : List Placed) (start : Written) (whole : No
   pub nodes : Nodes
   pub dues : List Due
   pub stands : Stands C code pc w nodes dues
-  pub comes : Comes C start whole now (rewrite C (labels_in C w) w.places nodes) w.opens dues
+  pub comes : Comes C start whole now (rewrite C (depth_in w) w.places nodes) w.opens dues
 
 -- The end of a list: its rewriting was written.
 pub record Left (C : Ctx) (code : List Placed) (start : Written) (whole : Nodes) (pc : ℕ) (w : Walking) (now : Written) : Type 0 where

@@ -1,8 +1,8 @@
 -- What a walk over a body keeps, and what becomes of it.
 use Rattle.std.specs.Prelude.{List, [], ◌∷◌, Option}
 use Rattle.wasm_syntax.specs.declared.value.ValType.{ValType}
-use Rattle.rewrite_bodies.specs.Slots.{Place, grown}
-use Rattle.rewrite_bodies.specs.Rewrite.{Info, in_body, end_gives}
+use Rattle.rewrite_bodies.specs.Slots.{Place, grown, under}
+use Rattle.rewrite_bodies.specs.calls.Typed.{end_gives}
 use Rattle.operand_spill.specs.declared.labels.Label.{Label}
 use Rattle.operand_spill.specs.declared.labels.OpenBlock.{OpenBlock}
 use Rattle.operand_spill.specs.calls.Labels.{info}
@@ -23,21 +23,13 @@ with_places w places = walking w.gives places w.opens
 abbrev pub opened : Label → List Place → OpenBlock
 opened label saved = record { label = label; saved = saved }
 
--- the open labels, that of the body among them
-abbrev pub infos : Option ValType → List OpenBlock → List Info
-infos gives [] = in_body gives ∷ []
-infos gives (o ∷ os) = info o.label ∷ infos gives os
-
-abbrev pub labels_of : Walking → List Info
-labels_of w = infos w.gives w.opens
-
 -- before the first instruction of a body
 abbrev pub at_start : Option ValType → Walking
 at_start gives = walking gives [] []
 
--- behind the beginning of a block
+-- behind the beginning of a block, under which there are no copies
 abbrev pub opening : Label → Walking → Walking
-opening label w = walking w.gives w.places (opened label w.places ∷ w.opens)
+opening label w = walking w.gives (under w.places) (opened label (under w.places) ∷ w.opens)
 
 -- the places behind an open block
 abbrev pub behind_block : OpenBlock → List Place

@@ -1,5 +1,5 @@
 -- The configuration of the rewritten module that stands for one of the original.
-use Rattle.std.specs.Prelude.{◌≡◌, ℕ, ◌+◌, ◌*◌, ◌<◌, ◌≤◌, List, [], ◌∷◌, ◌++◌, length, Option, Some, None, slice_get, map, option_map}
+use Rattle.std.specs.Prelude.{◌≡◌, ℕ, suc, ◌+◌, ◌*◌, ◌<◌, ◌≤◌, List, [], ◌∷◌, ◌++◌, length, Option, Some, None, slice_get}
 use Rattle.wasm_syntax.specs.declared.value.ValType.{ValType}
 use Rattle.wasm_syntax.specs.declared.value.Value.{Value}
 use Rattle.wasm_syntax.specs.Numbers.{type_of, types}
@@ -7,97 +7,100 @@ use Rattle.wasm_syntax.specs.Tree.{Nodes, basic, Jump, Unreachable, Br, BrIf, Br
 use Rattle.wasm_syntax.specs.Host.{World}
 use Rattle.wasm_syntax.specs.Machine.{Kind, Label, Frame, Config, label, frame, config, Engine, leaves, again, returns, zero_of, result_of}
 use Rattle.rewrite_bodies.specs.Guards.{first_table}
-use Rattle.rewrite_bodies.specs.Slots.{Place, Spilled, Known, Ctx, slot, kind_at, added, less, grown, result_type, after_plain, greatest}
-use Rattle.rewrite_bodies.specs.Pieces.{store, from_result}
+use Rattle.rewrite_bodies.specs.Slots.{Place, Spilled, Known, Copied, Ctx, slot, kind_at, added, less, grown, under, result_type, after_plain, greatest}
+use Rattle.rewrite_bodies.specs.Pieces.{store, reload, drops}
 use Rattle.wasm_syntax.specs.declared.value.Value.TheVariants as values
-use Rattle.wasm_syntax.specs.declared.instruction.Basic.{Basic}
-use Rattle.wasm_syntax.specs.declared.instruction.Basic.TheVariants.{Const}
 use Rattle.wasm_syntax.specs.declared.parts.FuncType.{FuncType}
 use Rattle.wasm_syntax.specs.Module.{type_at}
 use Rattle.wasm_syntax.specs.Effect.{takes}
-use Rattle.rewrite_bodies.specs.Rewrite.{Info, in_block, in_loop, in_body, finish, after_call, test_both, rewrite, exit_code}
-use Rattle.rewrite_bodies.specs.Numbering.{mapped, place_in, global_types, helper_base, helped}
+use Rattle.rewrite_bodies.specs.Rewrite.{with_result, after_call, test_both, rewrite, exit_code}
+use Rattle.rewrite_bodies.specs.Numbering.{mapped, place_in, global_types, helper_base, helped, new_entries}
 use Rattle.linear_memory.specs.Memory.{Memory}
 use Rattle.rewrite_bodies.specs.Offsets.{SmallOffset}
 
--- the operand is in its slot, or is the constant
-abbrev pub One : List Value → ℕ → Place → Value → Type 0
-One ex h (Spilled t) v = (slice_get ex (slot t h) ≡ Some v) × (type_of v ≡ t)
-One ex h (Known w) v = w ≡ v
+-- the operand is in its slot besides, or is the constant, or in the local
+abbrev pub One : List Value → List Value → ℕ → Place → Value → Type 0
+One l ex h (Spilled t) v = (slice_get ex (slot t h) ≡ Some v) × (type_of v ≡ t)
+One l ex h (Known w) v = w ≡ v
+One l ex h (Copied t x) v = (slice_get l x ≡ Some v) × (type_of v ≡ t)
 
 -- so are all of a label's, above these places
-abbrev pub Holds : List Value → List Place → List Value → List Place → Type 0
-Holds ex js [] [] = Unit {0}
-Holds ex js [] (e ∷ es) = ⊥
-Holds ex js (v ∷ ops) [] = ⊥
-Holds ex js (v ∷ ops) (e ∷ es) = One ex (length (es ++ js)) e v × Holds ex js ops es
+abbrev pub Holds : List Value → List Value → List Place → List Value → List Place → Type 0
+Holds l ex js [] [] = Unit {0}
+Holds l ex js [] (e ∷ es) = ⊥
+Holds l ex js (v ∷ ops) [] = ⊥
+Holds l ex js (v ∷ ops) (e ∷ es) = One l ex (length (es ++ js)) e v × Holds l ex js ops es
 
--- what a label waits for: results of a block, of a call, or of a call through the table, with the code that would hand over its arguments
+-- a call through the table that is under way: the code that would hand over its operands, and these, which are still there
+pub record UnderWay : Type 0 where
+  pub others : Nodes
+  pub taken : List Value
+
+-- what a label waits for: results of a block, of a call, or of a call through the table
 pub data Pending : Type 0 where
   Arrives : (a : Option ValType) → Pending
   Called : (o : ℕ) (r : Option ValType) → Pending
-  Through : (o : ℕ) (r : Option ValType) (others : Nodes) → Pending
+  Through : (o : ℕ) (r : Option ValType) (u : UnderWay) → Pending
 
 abbrev pub awaits : Pending → Option ValType
 awaits (Arrives a) = a
 awaits (Called o r) = r
-awaits (Through o r others) = r
+awaits (Through o r u) = r
 
 abbrev pub now : Pending
 now = Arrives None
 
--- what is still to be run in a label
-abbrev pub code_at : Ctx → List Info → List Place → Pending → Nodes → Nodes
-code_at C ls es (Arrives a) rest = from_result C a es (rewrite C ls (grown a es) rest)
-code_at C ls es (Called o r) rest = after_call C ls r es o (λ es'. rewrite C ls es' rest)
-code_at C ls es (Through o r others) rest = test_both C ls es o others (rewrite C ls (grown r es) rest)
+-- what is still to be run in a label, inside so many
+abbrev pub code_at : Ctx → ℕ → List Place → Pending → Nodes → Nodes
+code_at C d es (Arrives a) rest = with_result C a es (λ es'. rewrite C d es' rest)
+code_at C d es (Called o r) rest = after_call C d r es o (λ es'. rewrite C d es' rest)
+code_at C d es (Through o r u) rest = test_both C d es o u.others (drops (length u.taken) (reload C r es (rewrite C d (grown r es) rest)))
+
+-- its operands besides the original's
+abbrev pub held : Pending → List Value → List Value
+held (Arrives a) ops = ops
+held (Called o r) ops = ops
+held (Through o r u) ops = u.taken ++ ops
 
 abbrev pub pending : Kind → Pending
 pending (leaves a) = Arrives a
 pending (again o a inner en) = Arrives a
 pending (returns r) = now
 
-abbrev pub info : Kind → Info
-info (leaves a) = in_block a
-info (again o a inner en) = in_loop a
-info (returns r) = in_body r
-
-abbrev pub infos : List Label → List Info
-infos [] = []
-infos (L ∷ Ls) = info L.kind ∷ infos Ls
-
 abbrev pub joined : List (List Place) → List Place
 joined [] = []
 joined (e ∷ ss) = e ++ joined ss
 
-abbrev pub t_kind : Ctx → List Info → List Place → Kind → Kind
-t_kind C ls js (leaves a) = leaves None
-t_kind C ls js (again o a inner en) = again 0 None (rewrite C (in_loop a ∷ ls) js inner) 0
-t_kind C ls js (returns r) = leaves None
+-- of a label inside so many
+abbrev pub t_kind : Ctx → ℕ → List Place → Kind → Kind
+t_kind C d js (leaves a) = leaves a
+t_kind C d js (again o a inner en) = again 0 a (rewrite C (suc d) js inner) 0
+t_kind C d js (returns r) = leaves r
 
+-- the same operands, in the original's labels; outside of them the body's block was left, or the exit is reached
 abbrev pub t_labels : Ctx → Pending → List Label → List (List Place) → List Label
-t_labels C p [] ss = label [] (finish C) 0 (leaves None) ∷ label [] (exit_code C) 0 (returns C.result) ∷ []
+t_labels C p [] ss = label [] (jump 0 Return stop) 0 (leaves None) ∷ label [] (exit_code C) 0 (returns C.result) ∷ []
 t_labels C p (L ∷ Ls) [] = []
 t_labels C p (L ∷ Ls) (e ∷ ss) =
-    label [] (code_at C (info L.kind ∷ infos Ls) (e ++ joined ss) p L.nodes) 0 (t_kind C (infos Ls) (joined ss) L.kind) ∷ t_labels C (pending L.kind) Ls ss
+    label (held p L.operands) (code_at C (suc (length Ls)) (e ++ joined ss) p L.nodes) 0 (t_kind C (length Ls) (joined ss) L.kind) ∷ t_labels C (pending L.kind) Ls ss
 
 -- a call through the table is made inside an arm, which puts its result into its slot
 abbrev pub with_arm : Ctx → Pending → List Place → List Label → List Label
 with_arm C (Arrives a) es Ls = Ls
 with_arm C (Called o r) es Ls = Ls
-with_arm C (Through o r others) es Ls = label [] (store C r es stop) 0 (leaves None) ∷ Ls
+with_arm C (Through o r u) es Ls = label [] (store C r es stop) 0 (leaves None) ∷ Ls
 
--- what the configuration does not say: the function's constants, the added locals, what is known of each label's operands, and where a
--- call through the table is under way, the code that would hand over its arguments
+-- what the configuration does not say: the function's constants, the added locals, what is known of each label's operands, and the call
+-- through the table that is under way
 pub record Wit : Type 0 where
   pub ctx : Ctx
   pub ex : List Value
   pub ss : List (List Place)
-  pub others : Option Nodes
+  pub under_way : Option UnderWay
 
-abbrev pub pending_call : Option Nodes → ℕ → Option ValType → Pending
+abbrev pub pending_call : Option UnderWay → ℕ → Option ValType → Pending
 pending_call None o r = Called o r
-pending_call (Some others) o r = Through o r others
+pending_call (Some u) o r = Through o r u
 
 abbrev pub t_frame : Pending → Frame → Wit → Frame
 t_frame p F w =
@@ -115,10 +118,6 @@ abbrev pub Room_call : Ctx → Option FuncType → List Place → (List Place �
 Room_call C None es go = Unit {0}
 Room_call C (Some type) es go = FitsIn C (result_of type) (less (length type.params) es) × go (grown (result_of type) (less (length type.params) es))
 
-abbrev pub Room_instr : Ctx → Basic → List Place → (List Place → Type 0) → Type 0
-Room_instr C (Const v) es go = go (Known v ∷ es)
-Room_instr C i es go = SmallOffset i × FitsIn C (result_type C es i) (less (takes i) es) × go (after_plain C es i)
-
 abbrev pub Room_jump : Ctx → Jump → List Place → (List Place → Type 0) → Type 0
 Room_jump C Unreachable es go = Unit {0}
 Room_jump C (Br l) es go = Unit {0}
@@ -130,12 +129,12 @@ Room_jump C (CallIndirect t) es go = Has t C.helpers × Room_call C (slice_get C
 
 abbrev pub Room : Ctx → List Place → Nodes → Type 0
 Room C es stop = length es ≤ C.slots
-Room C es (basic o i rest) = (length es ≤ C.slots) × Room_instr C i es (λ es'. Room C es' rest)
+Room C es (basic o i rest) = (length es ≤ C.slots) × SmallOffset i × FitsIn C (result_type C es i) (less (takes i) es) × Room C (after_plain C es i) rest
 Room C es (jump o j rest) = (length es ≤ C.slots) × Room_jump C j es (λ es'. Room C es' rest)
-Room C es (block o a inner en rest) = (length es ≤ C.slots) × Room C es inner × FitsIn C a es × Room C (grown a es) rest
-Room C es (loop o a inner en rest) = (length es ≤ C.slots) × Room C es inner × FitsIn C a es × Room C (grown a es) rest
+Room C es (block o a inner en rest) = (length es ≤ C.slots) × Room C (under es) inner × FitsIn C a (under es) × Room C (grown a (under es)) rest
+Room C es (loop o a inner en rest) = (length es ≤ C.slots) × Room C (under es) inner × FitsIn C a (under es) × Room C (grown a (under es)) rest
 Room C es (choose o a x ea y en rest) =
-    (length es ≤ C.slots) × Room C (less 1 es) x × Room C (less 1 es) y × FitsIn C a (less 1 es) × Room C (grown a (less 1 es)) rest
+    (length es ≤ C.slots) × Room C (under (less 1 es)) x × Room C (under (less 1 es)) y × FitsIn C a (under (less 1 es)) × Room C (grown a (under (less 1 es))) rest
 
 -- the function's label is the outermost
 abbrev pub KindFits : Ctx → List Place → Kind → List Label → Type 0
@@ -146,28 +145,29 @@ KindFits C js (again o a inner en) (_ ∷ _) = (length js ≤ C.slots) × Room C
 KindFits C js (returns r) [] = r ≡ C.result
 KindFits C js (returns r) (_ ∷ _) = ⊥
 
-abbrev pub FitsLabels : Ctx → List Value → Option ValType → List Label → List (List Place) → Type 0
-FitsLabels C ex a [] [] = Unit {0}
-FitsLabels C ex a [] (_ ∷ _) = ⊥
-FitsLabels C ex a (L ∷ Ls) [] = ⊥
-FitsLabels C ex a (L ∷ Ls) (e ∷ ss) =
-    Holds ex (joined ss) L.operands e × FitsIn C a (e ++ joined ss) × Room C (grown a (e ++ joined ss)) L.nodes × KindFits C (joined ss) L.kind Ls × FitsLabels C ex (awaits (pending L.kind)) Ls ss
+-- in the innermost label operands may be copies of locals; in the others there are none, so that nothing is asked of locals
+abbrev pub FitsLabels : Ctx → List Value → List Value → Option ValType → List Label → List (List Place) → Type 0
+FitsLabels C l ex a [] [] = Unit {0}
+FitsLabels C l ex a [] (_ ∷ _) = ⊥
+FitsLabels C l ex a (L ∷ Ls) [] = ⊥
+FitsLabels C l ex a (L ∷ Ls) (e ∷ ss) =
+    Holds l ex (joined ss) L.operands e × FitsIn C a (e ++ joined ss) × Room C (grown a (e ++ joined ss)) L.nodes × KindFits C (joined ss) L.kind Ls × FitsLabels C [] ex (awaits (pending L.kind)) Ls ss
 
 -- and there is one
-abbrev pub FitsOpen : Ctx → List Value → Option ValType → List Label → List (List Place) → Type 0
-FitsOpen C ex a [] ss = ⊥
-FitsOpen C ex a (L ∷ Ls) [] = ⊥
-FitsOpen C ex a (L ∷ Ls) (e ∷ ss) = FitsLabels C ex a (L ∷ Ls) (e ∷ ss)
+abbrev pub FitsOpen : Ctx → List Value → List Value → Option ValType → List Label → List (List Place) → Type 0
+FitsOpen C l ex a [] ss = ⊥
+FitsOpen C l ex a (L ∷ Ls) [] = ⊥
+FitsOpen C l ex a (L ∷ Ls) (e ∷ ss) = FitsLabels C l ex a (L ∷ Ls) (e ∷ ss)
 
 -- whole pages, and not too many
 abbrev pub MemoryFits : Option Memory → Type 0
 MemoryFits None = Unit {0}
 MemoryFits (Some m) = (k : ℕ) × (length m.bytes ≡ 65536 * k) × (k ≤ 65535) × (m.max ≤ 65535)
 
--- under a call through the table, the guard gave no kind
-abbrev pub NoKind : Ctx → List Value → Option Nodes → Type 0
+-- under a call through the table, the guard gave no kind, and its operands had room
+abbrev pub NoKind : Ctx → List Value → Option UnderWay → Type 0
 NoKind C ex None = Unit {0}
-NoKind C ex (Some others) = slice_get ex (kind_at C) ≡ Some (values.I32 0)
+NoKind C ex (Some u) = (slice_get ex (kind_at C) ≡ Some (values.I32 0)) × (length u.taken ≤ suc C.slots)
 
 pub record WorldFits (M : Engine) (gl : List ValType) (w : World) : Type 0 where
   pub globals : types w.globals ≡ gl
@@ -183,10 +183,10 @@ pub record FitsFrame (M : Engine) (E : ℕ) (gl : List ValType) (a : Option ValT
   pub base : w.ctx.base ≡ helper_base M.program.module_
   pub helpers : w.ctx.helpers ≡ helped M.program
   pub flag : global_types w.ctx.source ≡ gl
-  pub small : 2 * length w.ctx.locals + 2 * w.ctx.slots + 60 ≤ E
+  pub small : 2 * length w.ctx.locals + 4 * w.ctx.slots + 80 ≤ E
   pub narrow : length w.ctx.locals + w.ctx.slots ≤ (greatest M.program).0 + (greatest M.program).1
-  pub labels : FitsOpen w.ctx w.ex a F.labels w.ss
-  pub no_kind : NoKind w.ctx w.ex w.others
+  pub labels : FitsOpen w.ctx F.locals w.ex a F.labels w.ss
+  pub no_kind : NoKind w.ctx w.ex w.under_way
 
 abbrev pub FitsFrames : Engine → ℕ → List ValType → Option ValType → Option ValType → List Frame → List Wit → Type 0
 FitsFrames M E gl wr r [] [] = r ≡ wr
@@ -215,16 +215,16 @@ w_frame W vs = frame W.idx W.result 0 W.locals (label vs W.rest 0 (returns W.res
 abbrev pub t_frames : Wrap → Option ValType → List Frame → List Wit → List Frame
 t_frames W r [] ws = w_frame W [] ∷ []
 t_frames W r (F ∷ Fs) [] = []
-t_frames W r (F ∷ Fs) (w ∷ ws) = t_frame (pending_call w.others F.call r) F w ∷ t_frames W F.result Fs ws
+t_frames W r (F ∷ Fs) (w ∷ ws) = t_frame (pending_call w.under_way F.call r) F w ∷ t_frames W F.result Fs ws
 
 abbrev pub t_top : Wrap → List Frame → List Wit → List Frame
 t_top W [] ws = []
 t_top W (F ∷ Fs) [] = []
 t_top W (F ∷ Fs) (w ∷ ws) = t_frame now F w ∷ t_frames W F.result Fs ws
 
--- the same world, with a flag behind the globals, and new indices in the table
+-- the same world, with a flag behind the globals, and new indices in the table, behind what a host sees of it
 abbrev pub flagged : Engine → World → Value → World
-flagged M w b = record { globals = w.globals ++ b ∷ []; memory = w.memory; table = map (option_map (mapped M.program.module_)) w.table; replies = w.replies; served = w.served }
+flagged M w b = record { globals = w.globals ++ b ∷ []; memory = w.memory; table = new_entries M.program.module_ w.table; replies = w.replies; served = w.served }
 
 abbrev pub image : Engine → Wrap → Config → List Wit → Config
 image M W c ws = config (t_top W c.frames ws) (flagged M c.world (values.I32 0)) c.collected

@@ -8,10 +8,10 @@ use Rattle.wasm_syntax.specs.Tree.{Jump, Unreachable, Br, BrIf, BrTable, Return,
 use Rattle.wasm_syntax.specs.Typing.{Types}
 use Rattle.wasm_format.specs.Encoding.{basic_bytes, labels_bytes}
 use Rattle.rewrite_bodies.specs.Numbering.{import_count}
-use Rattle.rewrite_bodies.specs.Slots.{Place, Ctx, less, grown, behind_instr, behind_jump}
-use Rattle.rewrite_bodies.specs.Rewrite.{in_body, body}
+use Rattle.rewrite_bodies.specs.Slots.{Place, Ctx, less, grown, under, after_plain, behind_jump}
+use Rattle.rewrite_bodies.specs.Rewrite.{body}
 use Rattle.rewrite_bodies.specs.calls.Agreement.{Room}
-use Rattle.rewrite_bodies.specs.calls.Typed.{original}
+use Rattle.rewrite_bodies.specs.calls.Typed.{in_body, original}
 
 -- ---- lengths of encodings
 
@@ -59,12 +59,12 @@ weight_else (Some at) n = n
 -- to the live instructions of nodes, each with the `end` or `else` behind its sequence
 abbrev pub live_weight : Ctx → List Place → Nodes → ℕ
 live_weight C es stop = node_weight 1 (length es)
-live_weight C es (basic at i rest) = node_weight (basic_length i) (length es) + long_guard i + behind_instr C i es (λ es'. live_weight C es' rest)
+live_weight C es (basic at i rest) = node_weight (basic_length i) (length es) + long_guard i + live_weight C (after_plain C es i) rest
 live_weight C es (jump at j rest) = node_weight (jump_length j) (length es) + behind_jump C j es (λ es'. live_weight C es' rest)
-live_weight C es (block at t inner end rest) = node_weight 2 (length es) + live_weight C es inner + live_weight C (grown t es) rest
-live_weight C es (loop at t inner end rest) = node_weight 2 (length es) + live_weight C es inner + live_weight C (grown t es) rest
+live_weight C es (block at t inner end rest) = node_weight 2 (length es) + live_weight C (under es) inner + live_weight C (grown t (under es)) rest
+live_weight C es (loop at t inner end rest) = node_weight 2 (length es) + live_weight C (under es) inner + live_weight C (grown t (under es)) rest
 live_weight C es (choose at t a else_at b end rest) =
-    node_weight 2 (length es) + live_weight C (less 1 es) a + weight_else else_at (live_weight C (less 1 es) b) + live_weight C (grown t (less 1 es)) rest
+    let left = under (less 1 es) in node_weight 2 (length es) + live_weight C left a + weight_else else_at (live_weight C left b) + live_weight C (grown t left) rest
 
 -- the numbers of locals, and of the collector's imports, take at most four bytes
 pub record FewNumbers (C : Ctx) : Type 0 where

@@ -1,5 +1,5 @@
 -- What a module offers to rewritten code, so that it is well typed there.
-use Rattle.std.specs.Prelude.{◌≡◌, ℕ, ◌+◌, List, [], ◌∷◌, ◌++◌, map, reverse, slice_get, Some, true, option_to_list}
+use Rattle.std.specs.Prelude.{◌≡◌, ℕ, ◌+◌, List, [], ◌∷◌, ◌++◌, length, map, reverse, slice_get, Option, Some, None, true, option_to_list}
 use Rattle.wasm_syntax.specs.declared.value.ValType.{ValType}
 use Rattle.wasm_syntax.specs.declared.value.ValType.TheVariants.{I32}
 use Rattle.wasm_syntax.specs.declared.parts.FuncType.{FuncType}
@@ -10,9 +10,9 @@ use Rattle.wasm_syntax.specs.Module.{type_at}
 use Rattle.wasm_syntax.specs.Machine.{result_of}
 use Rattle.wasm_syntax.specs.Typing.{Context, Types}
 use Rattle.rewrite_bodies.specs.Numbering.{mapped, value_import, frame_import, value_type, frame_type, flag_of, place_in}
-use Rattle.rewrite_bodies.specs.Slots.{Ctx, added}
+use Rattle.rewrite_bodies.specs.Slots.{Place, Spilled, Known, Copied, Ctx, added}
 use Rattle.rewrite_bodies.specs.Guards.{helper_type}
-use Rattle.rewrite_bodies.specs.Rewrite.{Info, in_body, carries, body}
+use Rattle.rewrite_bodies.specs.Rewrite.{body}
 use Rattle.rewrite_bodies.specs.calls.Agreement.{Has, Room}
 
 -- the module has what the code names, and the function has its locals
@@ -24,7 +24,7 @@ pub record Offers (C : Ctx) (m : Module) (locals : List ValType) : Type 0 where
   pub flag_type : flag.vtype ≡ I32
   pub flag_mutable : flag.mutable ≡ true
   pub memories : m.memories ≡ C.source.memories
-  pub tables : m.tables ≡ C.source.tables
+  pub tables : length m.tables ≡ length C.source.tables
   pub types : (t : ℕ) (type : FuncType) → slice_get C.source.types t ≡ Some type → slice_get m.types t ≡ Some type
   pub functions : (f : ℕ) (type : FuncType) → type_at C.source f ≡ Some type → type_at m (mapped C.source f) ≡ Some type
   pub values : (t : ValType) → type_at m (value_import C.source t) ≡ Some (value_type t)
@@ -33,6 +33,33 @@ pub record Offers (C : Ctx) (m : Module) (locals : List ValType) : Type 0 where
   -- types give at most one result
   pub one_result : (f : ℕ) (type : FuncType) → type_at C.source f ≡ Some type → reverse type.results ≡ option_to_list (result_of type)
   pub one_result_of : (t : ℕ) (type : FuncType) → slice_get C.source.types t ≡ Some type → reverse type.results ≡ option_to_list (result_of type)
+
+-- a copy is one of a local of its type
+abbrev pub Own : Ctx → Place → Type 0
+Own C (Spilled t) = Unit {0}
+Own C (Known v) = Unit {0}
+Own C (Copied t x) = slice_get C.locals x ≡ Some t
+
+abbrev pub AllOwn : Ctx → List Place → Type 0
+AllOwn C [] = Unit {0}
+AllOwn C (e ∷ es) = Own C e × AllOwn C es
+
+-- an open label
+pub data Info : Type 0 where
+  in_block : (t : Option ValType) → Info
+  in_loop : (t : Option ValType) → Info
+  in_body : (t : Option ValType) → Info
+
+-- what a branch to a label carries, and what its end gives
+abbrev pub carries : Info → Option ValType
+carries (in_block t) = t
+carries (in_loop t) = None
+carries (in_body t) = t
+
+abbrev pub end_gives : Info → Option ValType
+end_gives (in_block t) = t
+end_gives (in_loop t) = t
+end_gives (in_body t) = t
 
 -- the context of the original's nodes inside these labels
 abbrev pub original : Ctx → List Info → Context

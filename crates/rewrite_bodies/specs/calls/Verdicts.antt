@@ -20,7 +20,7 @@ use Rattle.rewrite_bodies.specs.Slots.{Place, place_type, Ctx}
 use Rattle.rewrite_bodies.specs.Pieces.{tree_of}
 use Rattle.rewrite_bodies.specs.Guards.{helper, helper_type, first_table}
 use Rattle.rewrite_bodies.specs.calls.Agreement.{One, Holds, Has, MemoryFits}
-use Rattle.rewrite_bodies.specs.calls.Typed.{Offers, original}
+use Rattle.rewrite_bodies.specs.calls.Typed.{Own, AllOwn, Offers, original}
 use Rattle.rewrite_bodies.specs.calls.Length.{code_length, FewNumbers}
 use Rattle.rewrite_bodies.specs.Rewrite.{helper_of}
 
@@ -44,10 +44,10 @@ pub record Around : Type 0 where
 abbrev pub at_nodes : Around → List Value → List Value → Nodes → World → List CollectorCall → Config
 at_nodes A locals operands nodes w calls = config (frame A.function A.result 0 locals (label operands nodes 0 A.kind ∷ A.outer) ∷ A.callers) w calls
 
--- Whatever goes on behind the piece, it takes at most 60 steps, and leaves this number. The locals, the globals, the memory, the table, the
+-- Whatever operands lie under it and whatever goes on behind it, the piece takes at most 60 steps, and leaves this number. The locals, the globals, the memory, the table, the
 -- replies and the collector's calls are as they were.
 abbrev pub Leaves : Engine → Around → List Value → World → List CollectorCall → ℕ → (Nodes → Nodes) → Type 0
-Leaves M A locals w calls number piece = (k : Nodes) → Leads M 60 (at_nodes A locals [] (piece k) w calls) (at_nodes A locals (values.I32 number ∷ []) k w calls)
+Leaves M A locals w calls number piece = (under : List Value) (k : Nodes) → Leads M 60 (at_nodes A locals under (piece k) w calls) (at_nodes A locals (values.I32 number ∷ under) k w calls)
 
 -- It is well typed (Core 3.3) in front of code that has an i32 more, inside any labels.
 abbrev pub LeavesI32 : Ctx → (Nodes → Nodes) → Type 0
@@ -75,17 +75,17 @@ verdict (suc k) = 1
 -- On the operands that these places stand for, it leaves 1 where the instruction traps on them, and 0 where it does not.
 pub record IsGuard (C : Ctx) (i : Basic) (places : List Place) (piece : Nodes → Nodes) : Type 0 where
   pub tells : (M : Engine) (A : Around) (locals added_ : List Value) (w : World) (calls : List CollectorCall) (operands taken below : List Value)
-      → length C.locals ≡ length locals → MemoryFits w.memory → SmallOffset i → Holds added_ [] operands places → cut (takes i) operands ≡ parts taken below → effect i w locals taken ≢ unfit
+      → length C.locals ≡ length locals → MemoryFits w.memory → SmallOffset i → Holds locals added_ [] operands places → cut (takes i) operands ≡ parts taken below → effect i w locals taken ≢ unfit
       → Leaves M A (locals ++ added_) w calls (verdict (kind_of (effect i w locals taken))) piece
-  pub typed : (after : List ValType) → BasicTypes (original C []) i (map place_type places) after → LeavesI32 C piece
+  pub typed : (after : List ValType) → AllOwn C places → BasicTypes (original C []) i (map place_type places) after → LeavesI32 C piece
   pub short : IsShort C piece
 
 -- Where the instruction traps on them, it leaves the kind.
 pub record IsKind (C : Ctx) (i : Basic) (places : List Place) (piece : Nodes → Nodes) : Type 0 where
   pub tells : (M : Engine) (A : Around) (locals added_ : List Value) (w : World) (calls : List CollectorCall) (operands taken below : List Value)
-      → length C.locals ≡ length locals → MemoryFits w.memory → SmallOffset i → Holds added_ [] operands places → cut (takes i) operands ≡ parts taken below → effect i w locals taken ≢ unfit
+      → length C.locals ≡ length locals → MemoryFits w.memory → SmallOffset i → Holds locals added_ [] operands places → cut (takes i) operands ≡ parts taken below → effect i w locals taken ≢ unfit
       → (j : ℕ) → kind_of (effect i w locals taken) ≡ suc j → Leaves M A (locals ++ added_) w calls (suc j) piece
-  pub typed : (after : List ValType) → BasicTypes (original C []) i (map place_type places) after → LeavesI32 C piece
+  pub typed : (after : List ValType) → AllOwn C places → BasicTypes (original C []) i (map place_type places) after → LeavesI32 C piece
   pub short : IsShort C piece
 
 -- ---- the guard of `unreachable`
@@ -129,7 +129,7 @@ IsHelper M source t f = (b : Body) × (function_at M.program f ≡ Some (defined
 -- was at the start, or 0. The call of the helper has room among the frames, and its steps count.
 pub record IsGuardOfEntry (C : Ctx) (t f : ℕ) (entry : Place) (height : ℕ) (piece : Nodes → Nodes) : Type 0 where
   pub tells : (M N : Engine) (c : Config) (n : ℕ) → N.program.module_ ≡ C.source → c.world.table ≡ first_table C.source → CallsEntry t n c → step N c ≢ stuck
-      → (A : Around) (locals added_ : List Value) (w : World) (calls : List CollectorCall) → length C.locals ≡ length locals → One added_ height entry (values.I32 n)
+      → (A : Around) (locals added_ : List Value) (w : World) (calls : List CollectorCall) → length C.locals ≡ length locals → One locals added_ height entry (values.I32 n)
       → IsHelper M C.source t f → suc (length A.callers) < M.depth → Leaves M A (locals ++ added_) w calls (kind_of_step (step N c)) piece
-  pub typed : place_type entry ≡ I32 → Has t C.helpers → f ≡ helper_of C t → LeavesI32 C piece
+  pub typed : Own C entry → place_type entry ≡ I32 → Has t C.helpers → f ≡ helper_of C t → LeavesI32 C piece
   pub short : IsShort C piece

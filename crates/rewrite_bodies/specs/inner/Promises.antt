@@ -31,11 +31,11 @@ verdict (suc k) = 1
 -- changes nothing; where it traps, the other piece leaves the kind in at most 5 steps. Kind 8 aside, which no basic instruction has.
 abbrev pub GuardTells : Engine → Basic → Type 0
 GuardTells M i =
-    (C : Ctx) (locals added_ : List Value) (X : Shell) (behind : Nodes) (there here : World) (calls : List CollectorCall) (js es : List Place) (ops vs below : List Value) →
+    (C : Ctx) (locals added_ : List Value) (X : Shell) (behind : Nodes) (there here : World) (calls : List CollectorCall) (js es : List Place) (ops vs below under : List Value) →
     length C.locals ≡ length locals → there.memory ≡ here.memory → MemoryFits here.memory → SmallOffset i → can_trap i ≡ true →
-    Holds added_ js ops es → cut (takes i) ops ≡ parts vs below → effect i here locals vs ≢ unfit →
-    To M 1 21 (st X (locals ++ added_) [] (guard C i (es ++ js) behind) there calls) (st X (locals ++ added_) (values.I32 (verdict (kind_of (effect i here locals vs))) ∷ []) behind there calls)
-    × ((k : ℕ) → kind_of (effect i here locals vs) ≡ suc k → To M 1 5 (st X (locals ++ added_) [] (kind C i (es ++ js) behind) there calls) (st X (locals ++ added_) (values.I32 (suc k) ∷ []) behind there calls))
+    Holds locals added_ js ops es → cut (takes i) ops ≡ parts vs below → effect i here locals vs ≢ unfit →
+    To M 1 21 (st X (locals ++ added_) under (guard C i (es ++ js) behind) there calls) (st X (locals ++ added_) (values.I32 (verdict (kind_of (effect i here locals vs))) ∷ under) behind there calls)
+    × ((k : ℕ) → kind_of (effect i here locals vs) ≡ suc k → To M 1 5 (st X (locals ++ added_) under (kind C i (es ++ js) behind) there calls) (st X (locals ++ added_) (values.I32 (suc k) ∷ under) behind there calls))
 
 -- Each step of the original from an agreeing configuration is from one to E steps of the rewritten module, to an agreeing configuration or to
 -- the same end. Where it traps, with a kind other than 8, each frame of the original takes at most E steps: all frames hand over their

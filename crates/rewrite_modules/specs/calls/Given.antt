@@ -1,5 +1,5 @@
 -- What the rewriting asks of a program, so that its result does what the program does.
-use Rattle.std.specs.Prelude.{◌≡◌, ℕ, ◌≤◌, false, Some, length, slice_get, List, bytes_eq, codes}
+use Rattle.std.specs.Prelude.{◌≡◌, ℕ, ◌≤◌, true, false, Some, length, slice_get, List, bytes_eq, codes}
 use Rattle.std.specs.List.{AllByRecursion}
 use Rattle.wasm_syntax.specs.declared.parts.Import.{Import}
 use Rattle.wasm_syntax.specs.declared.quantity.Quantity.TheVariants.{Memory, InstrumentLocals, InstrumentHeight}
@@ -7,6 +7,7 @@ use Rattle.wasm_syntax.specs.Quantity as limits
 use Rattle.wasm_syntax.specs.Tree.{Nodes, stop, basic, jump, block, loop, choose, Tree}
 use Rattle.wasm_syntax.specs.Module.{Program, IsProgram, function_export}
 use Rattle.wasm_syntax.specs.Valid.{Valid}
+use Rattle.rewrite_bodies.specs.Numbering.{doubles}
 use Rattle.rewrite_bodies.specs.Offsets.{SmallOffset}
 use Rattle.rewrite_bodies.specs.Slots.{greatest}
 
@@ -35,4 +36,5 @@ pub record Given (p : Program) : Type 0 where
   pub few_locals : (greatest p).0 ≤ limits.greatest InstrumentLocals
   pub few_heights : (greatest p).1 ≤ limits.greatest InstrumentHeight
   -- the globals of a dump fit into a whole list of collector calls, where something can be invoked
+  pub few_globals_doubled : doubles p.module_ ≡ true → length p.module_.globals ≤ 20000000
   pub few_globals : (name : List ℕ) (f : ℕ) → function_export p.module_ name ≡ Some f → length p.module_.globals ≤ 20000000

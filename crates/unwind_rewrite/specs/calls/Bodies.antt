@@ -1,11 +1,12 @@
 -- The beginning and the end of pieces that stand around others.
-use Rattle.std.specs.Prelude.{◌≡◌, List, ◌∷◌, None}
+use Rattle.std.specs.Prelude.{◌≡◌, List, ◌∷◌, Option, None}
+use Rattle.wasm_syntax.specs.declared.value.ValType.{ValType}
 use Rattle.wasm_syntax.specs.Tree.{Nodes, stop, block}
 use Rattle.rewrite_code.specs.calls.Writing.{Written, Behind, ends, alternates, goes}
 
--- the beginning of two blocks, the second one in front of all nodes of the first
-pub record OpensTwo (old new : Written) : Type 0 where
-  pub opened : (inner k l : Nodes) (behind : List Behind) → goes old (block 0 None (block 0 None inner 0 k) 0 l) behind ≡ goes new inner (ends k ∷ ends l ∷ behind)
+-- the beginning of two blocks, the second one, which gives this, in front of all nodes of the first
+pub record OpensTwo (t : Option ValType) (old new : Written) : Type 0 where
+  pub opened : (inner k l : Nodes) (behind : List Behind) → goes old (block 0 None (block 0 t inner 0 k) 0 l) behind ≡ goes new inner (ends k ∷ ends l ∷ behind)
 
 -- the beginning of a piece of two arms
 pub record OpensBoth (piece : Nodes → Nodes → Nodes → Nodes) (old new : Written) : Type 0 where

@@ -3,4 +3,4 @@ use Rattle.unwind_rewrite.proofs.Branching.{closed_before}
 use Rattle.unwind_rewrite.proofs.blocks.close_block.Goals as goal
 
 pub returns : goal.returns
-returns c = λ places e. when_ok (closed_before c.in_ok-close.ensures) c.from_result.result (c.from_result.ensures places e)
+returns c = λ places e. when_ok (closed_before c.in_ok-close.ensures) c.keep_result.result (c.keep_result.ensures places e)

@@ -3,5 +3,5 @@ use Rattle.unwind_rewrite.proofs.Branching.{trapped}
 use Rattle.unwind_rewrite.proofs.branches.trap.Goals as goal
 
 pub returns : goal.returns
-returns c = λ ls go e.
-    when_ok (trapped c.args.context.now ls c.args.places.now c.args.offset go c.in_ok-guard_unreachable.ensures.emits c.in_ok-open_if.ensures.one_arm c.in_ok-const_value.ensures (c.in_ok-unwind_kind.ensures ls e) c.in_ok-close.ensures) c.unreachable.result c.unreachable.ensures
+returns c = λ go.
+    when_ok (trapped c.args.context.now c.args.labels c.args.places.now c.args.offset go c.in_ok-guard_unreachable.ensures.emits c.in_ok-open_if.ensures.one_arm c.in_ok-const_value.ensures c.in_ok-unwind_kind.ensures c.in_ok-close.ensures) c.unreachable.result c.unreachable.ensures

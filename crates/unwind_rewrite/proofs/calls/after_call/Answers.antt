@@ -4,5 +4,5 @@ use Rattle.unwind_rewrite.proofs.Calling.{came_back}
 use Rattle.unwind_rewrite.proofs.calls.after_call.Goals as goal
 
 pub returns : goal.returns
-returns c = λ ls e.
-    when_ok (came_back c.args.context.now ls c.args.gives (less c.args.count c.args.places.now) c.args.offset c.in_ok-store_left.ensures) c.test_flag.result (c.test_flag.ensures ls e)
+returns c =
+    when_ok (came_back c.args.context.now c.args.labels c.args.gives (less c.args.count c.args.places.now) c.args.offset c.in_ok-keep_left.ensures) c.test_flag.result c.test_flag.ensures

@@ -1,7 +1,9 @@
+use Rattle.std.proofs.Common.{ap, ◌∙◌}
+use Rattle.rewrite_bodies.specs.Numbering.{mapped}
 use Rattle.rewrite_code.proofs.Loads.{when_ok}
 use Rattle.unwind_rewrite.proofs.Calling.{called}
 use Rattle.unwind_rewrite.proofs.calls.call_function.Goals as goal
 
 pub returns : goal.returns
-returns c = λ ls e.
-    when_ok (called c.args.context.now ls c.args.places.now c.args.offset c.args.function c.len.result c.args.ftype.now c.len.ensures c.in_ok-call_with.ensures) c.after_direct.result (c.after_direct.ensures ls e)
+returns c =
+    when_ok (called c.args.context.now c.args.labels c.args.places.now c.args.offset c.args.function c.function.result c.args.ftype.now (c.function.ensures ∙ ap (λ m. mapped m c.args.function) c.map.ensures) c.in_ok-call.ensures) c.after_direct.result c.after_direct.ensures

@@ -1,8 +1,7 @@
-use Rattle.std.proofs.Common.{option_map}
-use Rattle.unwind_rewrite.specs.declared.branches.Target.{Target}
-use Rattle.unwind_rewrite.proofs.JumpLaws.{branch_left}
+use Rattle.wasm_syntax.specs.Tree.{Br}
+use Rattle.rewrite_code.proofs.Pieces.{emits_stop}
+use Rattle.unwind_rewrite.proofs.JumpLaws.{transfers}
 use Rattle.unwind_rewrite.proofs.jumps.write_branch.Goals as goal
 
 pub returns : goal.returns
-returns c = λ o.
-    branch_left c.args.context.now o c.args.label c.args.walk.now c.places.result.now (option_map (λ (t : Target). t.carried) c.target.result) c.places.ensures c.target.ensures.label c.in_ok-branch_to.ensures
+returns c = λ C o w. transfers C o (Br c.args.label) w (λ go. emits_stop c.in_ok-branch.ensures)

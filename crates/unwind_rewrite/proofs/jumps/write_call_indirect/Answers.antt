@@ -16,4 +16,4 @@ returns c =
     let some : 1 ≤ length c.args.walk.now.places = omega (arith, c.if-len-eq0.false, c.len.ensures, ap length c.places.ensures) in
     called_through c.args.context.now c.args.offset c.args.index c.in-Some.ftype.now c.args.walk.now c.perform.new.self c.places-2.result.now c.depth-labels.result (length c.as_slice.result.now + 1) c.result_type.result c.places-2.ensures some
     c.depth-labels.ensures (ap (λ (m : ModuleParts). slice_get m.types c.args.index) (sym c.requires.source) ∙ sym c.in-Some.ensures.value) count c.result_type.ensures c.in_ok-perform.ensures
-    (λ ls p below n is. c.in_ok-call_through_table.ensures ls p below n (helper_is c.args.context.now c.map.result.now c.args.index c.helper-helper.result c.requires.helpers c.map.ensures c.helper-helper.ensures.flat) is)
+    (λ p below is. c.in_ok-call_through_table.ensures p below (helper_is c.args.context.now c.map.result.now c.args.index c.helper-helper.result c.requires.helpers c.map.ensures c.helper-helper.ensures.flat) is)

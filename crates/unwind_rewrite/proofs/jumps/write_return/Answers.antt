@@ -1,5 +1,7 @@
-use Rattle.unwind_rewrite.proofs.JumpLaws.{returned}
+use Rattle.wasm_syntax.specs.Tree.{Return}
+use Rattle.rewrite_code.proofs.Pieces.{emits_stop}
+use Rattle.unwind_rewrite.proofs.JumpLaws.{transfers}
 use Rattle.unwind_rewrite.proofs.jumps.write_return.Goals as goal
 
 pub returns : goal.returns
-returns c = λ o. returned c.args.context.now o c.args.walk.now c.places.result.now c.depth.result c.places.ensures c.depth.ensures c.in_ok-return_from.ensures
+returns c = λ C o w. transfers C o Return w (λ go. emits_stop c.in_ok-return_values.ensures)

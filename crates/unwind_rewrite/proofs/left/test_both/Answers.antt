@@ -6,5 +6,5 @@ use Rattle.unwind_rewrite.proofs.Calling.{both_tested}
 use Rattle.unwind_rewrite.proofs.left.test_both.Goals as goal
 
 pub returns : goal.returns
-returns c = λ ls e.
-    when_ok (both_tested c.args.context.now ls (less c.args.count c.args.places.now) c.args.offset c.kind_at.result (hand_top c.args.context.now c.args.count c.args.places.now stop) c.kind_at.ensures c.in_ok-get.ensures c.in_ok-get_flag.ensures c.in_ok-basic.ensures c.in_ok-open_if.ensures.one_arm (c.in_ok-unwind_both.ensures ls e)) c.close.result c.close.ensures
+returns c =
+    when_ok (both_tested c.args.context.now c.args.labels (less c.args.count c.args.places.now) c.args.offset c.kind_at.result (hand_top c.args.context.now c.args.count c.args.places.now stop) c.kind_at.ensures c.in_ok-get.ensures c.in_ok-get_flag.ensures c.in_ok-basic.ensures c.in_ok-open_if.ensures.one_arm c.in_ok-unwind_both.ensures) c.close.result c.close.ensures

@@ -3,4 +3,4 @@ use Rattle.rewrite_code.proofs.Loads.{when_ok}
 use Rattle.unwind_rewrite.proofs.left.unwind_both.Goals as goal
 
 pub returns : goal.returns
-returns c = λ ls e. when_ok (emits_last c.in_ok-set_offset.ensures) c.hand_left.result (c.hand_left.ensures ls e)
+returns c = when_ok (emits_last c.in_ok-set_offset.ensures) c.hand_left.result c.hand_left.ensures

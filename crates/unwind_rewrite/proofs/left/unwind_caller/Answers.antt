@@ -4,5 +4,5 @@ use Rattle.unwind_rewrite.proofs.Calling.{caller_unwound}
 use Rattle.unwind_rewrite.proofs.left.unwind_caller.Goals as goal
 
 pub returns : goal.returns
-returns c = λ ls e.
-    when_ok (caller_unwound c.args.context.now ls (less c.args.count c.args.places.now) c.args.offset c.in_ok-set_no_kind.ensures c.in_ok-set_offset.ensures c.in_ok-hand_under.ensures) c.to_exit.result (c.to_exit.ensures ls e)
+returns c =
+    when_ok (caller_unwound c.args.context.now c.args.labels (less c.args.count c.args.places.now) c.args.offset c.in_ok-set_no_kind.ensures c.in_ok-set_offset.ensures c.in_ok-hand_under.ensures) c.to_exit.result c.to_exit.ensures

@@ -1,6 +1,6 @@
-use Rattle.std.proofs.Common.{rules, ◌≡◌, ◌-◌, true, [], ◌∷◌, sym, ap, ◌∙◌, arith}
+use Rattle.std.proofs.Common.{rules, ◌≡◌, ◌-◌, true, [], sym, ap, ◌∙◌, arith}
 use Rattle.operand_spill.specs.calls.Walking.{at_start}
-use Rattle.rewrite_bodies.specs.Rewrite.{in_body, rewrite}
+use Rattle.rewrite_bodies.specs.Rewrite.{rewrite}
 use Rattle.unwind_rewrite.proofs.PointLaws.{stands_inside, begun, all_written}
 use Rattle.unwind_rewrite.proofs.nodes.write_nodes.Goals as goal
 
@@ -17,14 +17,14 @@ points-init c = λ tree writes fine. begun c.args.context.now c.args.body.now tr
 pub write_from-requires-clause-stood : goal.write_from-requires-clause-stood
 write_from-requires-clause-stood c =
     let t = c.requires.tree in
-    (c.args.writer.now, rewrite c.args.context.now (in_body c.args.context.now.result ∷ []) [] t.tree.nodes, c.points.invariant t.tree t.writes t.fine)
+    (c.args.writer.now, rewrite c.args.context.now 1 [] t.tree.nodes, c.points.invariant t.tree t.writes t.fine)
 
 pub points-preserved : goal.points-preserved
 points-preserved c = λ tree writes fine.
-    c.in_ok-point.ensures.goes_on c.args.writer.now (rewrite c.args.context.now (in_body c.args.context.now.result ∷ []) [] tree.nodes) (c.points.invariant tree writes fine)
+    c.in_ok-point.ensures.goes_on c.args.writer.now (rewrite c.args.context.now 1 [] tree.nodes) (c.points.invariant tree writes fine)
 
 pub returns : goal.returns
 returns c = λ tree writes fine.
     let done : c.is_last.result ≡ true = search rules in
-    all_written c.args.context.now c.args.body.now c.args.writer.now (rewrite c.args.context.now (in_body c.args.context.now.result ∷ []) [] tree.nodes) c.points.walk c.points.writer (c.len-last.result - 1) c.points.point (ap (λ n. n - 1) c.len-last.ensures)
+    all_written c.args.context.now c.args.body.now c.args.writer.now (rewrite c.args.context.now 1 [] tree.nodes) c.points.walk c.points.writer (c.len-last.result - 1) c.points.point (ap (λ n. n - 1) c.len-last.ensures)
     (sym c.is_last.ensures ∙ done) (c.points.invariant tree writes fine)
