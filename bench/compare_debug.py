@@ -3,7 +3,7 @@
 usage: compare_debug.py plant PROGRAM OUT          writes a program with a fault in it, which traps
        compare_debug.py addresses MODULE SHOWN     the code address of each frame that `pm show` shows
        compare_debug.py frames PRINTED SYMBOLS     frames of `bt` beside those of llvm-symbolizer, by function, file and line
-       compare_debug.py told PRINTED DUMP [MARK]   printed variables beside the text that the program left in its memory; MARK may stand for a value
+       compare_debug.py told PRINTED DUMP          printed variables beside the text that the program left in its memory
 """
 
 import os
@@ -163,20 +163,18 @@ def frames(printed, symbols):
 
 # ---- variables
 
-def told(printed, dump, mark=None):
+def told(printed, dump):
     # The marks are also among the constants of the program, each with a zero behind it.
     text = re.search(rb"<<([^\0]+)>>", open(dump, "rb").read())[1].decode("ascii").splitlines()
     # lines that show a frame tell no variable
     ours = [line for line in open(printed, encoding="ascii").read().splitlines() if not line.startswith("#")]
-    differences = marks = 0
+    differences = 0
     for mine, other in zip(ours, text):
-        if mark and mine == "%s = %s" % (other.split(" = ")[0], mark):
-            marks += 1
-        elif mine != other:
+        if mine != other:
             differences += 1
             print("  %s beside %s" % (mine, other))
     differences += abs(len(ours) - len(text))
-    print("  %d lines of variables and paths, %d of them with a mark; %d differences" % (len(ours), marks, differences))
+    print("  %d lines of variables and paths; %d differences" % (len(ours), differences))
     return 1 if differences else 0
 
 

@@ -56,18 +56,17 @@ rows() {
   done
 }
 
-# beside COMMAND...: frames beside llvm-symbolizer, and what the commands print beside what the program wrote of its variables, but for types
-# that have no text.
+# beside COMMAND...: frames beside llvm-symbolizer, and what the commands print beside what the program wrote of its variables.
 beside() {
   die 'i32:1234567 i32:77'
   "$pm" debug module.wasm core.wasm bt > printed
   llvm-symbolizer --functions=short --obj=module.wasm < addresses > symbols
   python3 "$helper" frames printed symbols || status=1
   "$pm" debug module.wasm core.wasm "$@" > printed
-  python3 "$helper" told printed core.wasm '<unsupported type>' || status=1
+  python3 "$helper" told printed core.wasm || status=1
 }
 
-# objects CLANG FLAGS: structures by value, static members and namespaces of C++.
+# objects CLANG FLAGS: structures by value, static members, code points, integers of 16 bytes and namespaces of C++.
 objects() {
   echo "clang $1 $2, traps/objects.cc"
   "clang-$1" --target=wasm32 $2 -fno-builtin -fno-exceptions -c -o module.o "$top/bench/programs/traps/objects.cc"
@@ -75,13 +74,23 @@ objects() {
   beside vars 'print counted.pair.b' 'print counted.kMost' 'print stock' 'print shelves' 'print *nowhere'
 }
 
-# statics RUSTC: structures by value of Rust, and the statics of its modules.
+# statics RUSTC: the same of Rust, with its characters and the statics of its modules.
 statics() {
   echo "$("$1" --version), traps/statics.rs"
   "$1" --edition 2021 --target wasm32-unknown-unknown --crate-type cdylib -C panic=abort -C opt-level=0 -g -o module.wasm \
     "$top/bench/programs/traps/statics.rs" 2> warnings
   beside 'print account.balance' 'print account.debt' 'print account.pair' 'print account.initial' 'print account.open' 'print *nowhere' \
     'frame 1' 'print held' 'print letter' 'print debt' 'print most' 'print plain' 'print STOCK' 'print SHELVES'
+}
+
+# choices RUSTC: enumerations of Rust with data.
+choices() {
+  echo "$("$1" --version), traps/choices.rs"
+  "$1" --edition 2021 --target wasm32-unknown-unknown --crate-type cdylib -C panic=abort -C opt-level=0 -g -o module.wasm \
+    "$top/bench/programs/traps/choices.rs" 2> warnings
+  beside 'frame 1' 'print some' 'print none' 'print there' 'print not_there' 'print inner' 'print half' 'print outer' 'print capital' \
+    'print no_letter' 'print circle' 'print empty' 'print only' 'print held' 'print good' 'print some.Some.__0' 'print some.None' \
+    'print *there.Some.__0' 'print held.shape.Rectangle.height' 'print inner.Some.__0.Some.__0'
 }
 
 if command -v clang-14 > /dev/null; then objects 14 '-gdwarf-4 -glldb -O0'; fi
@@ -94,7 +103,12 @@ for name in rustc /usr/bin/rustc; do
     break
   fi
 done
-if test -n "$rust"; then statics "$rust"; else echo 'no rustc has the library of wasm32'; fi
+if test -n "$rust"; then
+  statics "$rust"
+  choices "$rust"
+else
+  echo 'no rustc has the library of wasm32'
+fi
 
 for level in -O0 -O2; do
   if command -v clang-14 > /dev/null; then rows 14 "-gdwarf-4 -glldb $level"; else echo 'clang 14 is missing'; fi

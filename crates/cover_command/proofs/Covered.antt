@@ -13,7 +13,10 @@ use Rattle.dwarf_line.specs.declared.lines.Lines.{Lines}
 use Rattle.dwarf_line.specs.Place.{Located, place}
 use Rattle.debug_frames.specs.declared.programs.Program.{Program}
 use Rattle.debug_frames.specs.declared.programs.Program.TheVariants.{Read, Unreadable}
-use Rattle.debug_frames.specs.Programs.{located_at, readable}
+use Rattle.debug_frames.specs.Information.{SourceInformation}
+use Rattle.debug_frames.specs.Programs.{located_at}
+use Rattle.debug_frames.specs.calls.Kept.{programs_of, readable, located_among}
+use Rattle.debug_frames.proofs.UnitRowLaws.{by_units}
 use Rattle.line_coverage.specs.declared.spots.Spot.{Spot}
 use Rattle.line_coverage.specs.declared.spots.LineCount.{LineCount}
 use Rattle.line_coverage.specs.calls.Spots.{spot, spot_of, spot_from}
@@ -49,18 +52,20 @@ module _ (tables : List Lines) where
   first_or n l (Some row) later other e same = ap Some (in_program n l row e)
   first_or n l None later other e same = same
 
-  placed : (n : ℕ) (programs : List (ℕ × Program)) (address : ℕ) → drop n tables ≡ readable programs → as_line (spot_from n (readable programs) address) ≡ option_map line_of (located_at programs address)
+  placed : (n : ℕ) (programs : List (ℕ × Program)) (address : ℕ) → drop n tables ≡ readable programs → as_line (spot_from n (readable programs) address) ≡ option_map line_of (located_among programs address)
   placed n [] address e = refl
   placed n ((at, Read l) ∷ programs) address e =
-      first_or n l (place address l.sequences) (spot_from (suc n) (readable programs) address) (located_at programs address) (there n l (readable programs) tables e) (placed (suc n) programs address (rest n l (readable programs) tables e))
+      first_or n l (place address l.sequences) (spot_from (suc n) (readable programs) address) (located_among programs address) (there n l (readable programs) tables e) (placed (suc n) programs address (rest n l (readable programs) tables e))
   placed n ((at, Unreadable) ∷ programs) address e = placed n programs address e
 
-module _ (tables : List Lines) (programs : List (ℕ × Program)) (are : tables ≡ readable programs) (m : Module) where
-  spot_is : (address : ℕ) → option_map (spot_line tables) (spot tables address) ≡ option_map line_of (located_at programs address)
+module _ (tables : List Lines) (x : SourceInformation) (are : tables ≡ readable (programs_of x.sections x.units)) (m : Module) where
+  spot_is : (address : ℕ) → option_map (spot_line tables) (spot tables address) ≡ option_map line_of (located_at x.sections x.units address)
   unfolding spot
-  spot_is address = ap (λ ts. option_map (spot_line tables) (spot_from 0 ts address)) are ∙ placed tables 0 programs address are
+  spot_is address =
+      ap (λ ts. option_map (spot_line tables) (spot_from 0 ts address)) are ∙ placed tables 0 (programs_of x.sections x.units) address are
+      ∙ ap (option_map line_of) (by_units x.sections x.units address)
 
-  line_is : (at : Option Place) → option_map (spot_line tables) (fallen tables m at) ≡ source_line programs m at
+  line_is : (at : Option Place) → option_map (spot_line tables) (fallen tables m at) ≡ source_line x m at
   line_is None = refl
   line_is (Some p) = spot_is (address_of m p)
 
@@ -84,27 +89,27 @@ module _ (tables : List Lines) (programs : List (ℕ × Program)) (are : tables 
   mapped f (x ∷ xs) = ap suc (mapped f xs)
 
   module _ (seen : List (Option Place)) where
-    on_line : (q : SourceLine) → count_by (falls_on q) (map (source_line programs m) seen) ≡ count_by (spot_falls_on tables q) (map (fallen tables m) seen)
-    on_line q = counted_alike (falls_on q) (spot_falls_on tables q) (source_line programs m) (fallen tables m) (λ at. ap (falls_on q) (sym (line_is at)) ∙ falls q (fallen tables m at)) seen
+    on_line : (q : SourceLine) → count_by (falls_on q) (map (source_line x m) seen) ≡ count_by (spot_falls_on tables q) (map (fallen tables m) seen)
+    on_line q = counted_alike (falls_on q) (spot_falls_on tables q) (source_line x m) (fallen tables m) (λ at. ap (falls_on q) (sym (line_is at)) ∙ falls q (fallen tables m at)) seen
 
-    on_none : count_by is_none (map (source_line programs m) seen) ≡ count_by is_none (map (fallen tables m) seen)
-    on_none = counted_alike is_none is_none (source_line programs m) (fallen tables m) (λ at. ap is_none (sym (line_is at)) ∙ none (fallen tables m at)) seen
+    on_none : count_by is_none (map (source_line x m) seen) ≡ count_by is_none (map (fallen tables m) seen)
+    on_none = counted_alike is_none is_none (source_line x m) (fallen tables m) (λ at. ap is_none (sym (line_is at)) ∙ none (fallen tables m at)) seen
 
-    as_many : length (map (source_line programs m) seen) ≡ length (map (fallen tables m) seen)
-    as_many = mapped (source_line programs m) seen ∙ sym (mapped (fallen tables m) seen)
+    as_many : length (map (source_line x m) seen) ≡ length (map (fallen tables m) seen)
+    as_many = mapped (source_line x m) seen ∙ sym (mapped (fallen tables m) seen)
 
     module _ (c : Covered) (covers : Covers c (map (fallen tables m) seen)) where
       and_none : (n : ℕ) → n ≡ n + 0
       and_none n = omega arith
 
-      sum_is : (q : SourceLine) → merged tables c.lines q ≡ count_by (falls_on q) (map (source_line programs m) seen)
+      sum_is : (q : SourceLine) → merged tables c.lines q ≡ count_by (falls_on q) (map (source_line x m) seen)
       sum_is q = and_none (merged tables c.lines q) ∙ covers.sums (spot_falls_on tables q) ∙ sym (on_line q)
 
       small : (q : SourceLine) → length seen < 2 ^ 64 → merged tables c.lines q < 2 ^ 64
       small q few =
-          let most : count_by (falls_on q) (map (source_line programs m) seen) ≤ length (map (source_line programs m) seen) = count_by-le-length (falls_on q) (map (source_line programs m) seen) in
+          let most : count_by (falls_on q) (map (source_line x m) seen) ≤ length (map (source_line x m) seen) = count_by-le-length (falls_on q) (map (source_line x m) seen) in
           let same = sum_is q in
-          let all = mapped (source_line programs m) seen in
+          let all = mapped (source_line x m) seen in
           omega (arith, most, same, all, few)
 
       -- what was written behind the ending
@@ -114,7 +119,7 @@ module _ (tables : List Lines) (programs : List (ℕ × Program)) (are : tables 
           → IsOrdered file_line_cmp counts
           → behind ≡ before ++ flat_map count_text (seen_counts counts.entries)
           → after ≡ behind ++ sums_text c.unplaced c.steps
-          → CoverText before (map (source_line programs m) seen) after
+          → CoverText before (map (source_line x m) seen) after
       covered counts before behind after few sums some ordered text ends = record {
         counts = seen_counts counts.entries;
         are = record {
@@ -132,7 +137,7 @@ module _ (tables : List Lines) (programs : List (ℕ × Program)) (are : tables 
           → IsOrdered file_line_cmp counts
           → behind ≡ before ++ flat_map count_text (seen_counts counts.entries)
           → after ≡ behind ++ sums_text unplaced steps
-          → CoverText before (map (source_line programs m) seen) after
+          → CoverText before (map (source_line x m) seen) after
       covered_by counts before behind after told unplaced steps is none_is all_is few sums some ordered text ends =
           covered counts before behind after few
           (subst (λ ls. (q : SourceLine) → merged tables ls q < 2 ^ 64 → counted_on counts q ≡ merged tables ls q) is sums)

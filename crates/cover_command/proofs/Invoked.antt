@@ -40,8 +40,7 @@ use Rattle.run_command.specs.declared.running.Begun.TheVariants.{Ready, Refused}
 use Rattle.run_command.proofs.Answering.{HostFacts, line_is, uses_up, has_failed}
 use Rattle.run_command.proofs.Beginning.{starts_alike}
 use Rattle.run_command.proofs.Hostings.{Began, GaveBack, host_facts, by_script, logs, rose_on}
-use Rattle.debug_frames.specs.Information.{information}
-use Rattle.debug_frames.specs.declared.programs.Program.{Program as LineProgram}
+use Rattle.debug_frames.specs.Information.{SourceInformation, information}
 use Rattle.cover_command.specs.SourceLines.{source_line}
 use Rattle.cover_command.specs.CoverAnswer.{covered_run, covered_places, finished_line, Tells, EndsAs, CoversTo, ModuleAnswer, called}
 use Rattle.cover_command.specs.Stops.{CoversFor}
@@ -80,7 +79,7 @@ fewer fuel left n is few = omega (arith, is, few)
 
 -- ---- the end
 
-had_memory : (lines : List (ℕ × LineProgram)) (m : Module) (t : Counts) (given : ℕ) (a : RunEnd) (o : Outcome) → AnswersEnd lines m t given a o → a ≡ NoMemory → ⊥
+had_memory : (lines : SourceInformation) (m : Module) (t : Counts) (given : ℕ) (a : RunEnd) (o : Outcome) → AnswersEnd lines m t given a o → a ≡ NoMemory → ⊥
 had_memory lines m t given (Finished v) o x e = absurd cc
 had_memory lines m t given (Trapped kind) o x e = absurd cc
 had_memory lines m t given NoReply o x e = absurd cc
@@ -89,7 +88,7 @@ had_memory lines m t given (DeviceFault device) o x e = absurd cc
 had_memory lines m t given FuelSpent o x e = absurd cc
 had_memory lines m t given NoMemory o x e = x
 
-no_refusal : (lines : List (ℕ × LineProgram)) (m : Module) (t : Counts) (given : ℕ) (a : RunEnd) (o : Outcome) (P : Type 0) → AnswersEnd lines m t given a o → IfRefusal o.status P
+no_refusal : (lines : SourceInformation) (m : Module) (t : Counts) (given : ℕ) (a : RunEnd) (o : Outcome) (P : Type 0) → AnswersEnd lines m t given a o → IfRefusal o.status P
 no_refusal lines m t given (Finished v) o P x = subst (λ s. IfRefusal s P) (sym x.0) tt
 no_refusal lines m t given (Trapped kind) o P x = subst (λ s. IfRefusal s P) (sym x.0) tt
 no_refusal lines m t given FuelSpent o P x = subst (λ s. IfRefusal s P) (sym x.0) tt
@@ -98,7 +97,7 @@ no_refusal lines m t given (BadReply reply) o P x = subst (λ (y : Outcome). IfR
 no_refusal lines m t given (DeviceFault device) o P x = subst (λ (y : Outcome). IfRefusal y.status P) (sym x) tt
 no_refusal lines m t given NoMemory o P x = absurd x
 
-pub never_fault : (lines : List (ℕ × LineProgram)) (m : Module) (t : Counts) (given : ℕ) (a : RunEnd) (o : Outcome) → AnswersEnd lines m t given a o → o.status ≡ status.FileFault → ⊥
+pub never_fault : (lines : SourceInformation) (m : Module) (t : Counts) (given : ℕ) (a : RunEnd) (o : Outcome) → AnswersEnd lines m t given a o → o.status ≡ status.FileFault → ⊥
 never_fault lines m t given (Finished v) o x e = let clash : status.Done ≡ status.FileFault = sym x.0 ∙ e in absurd cc
 never_fault lines m t given (Trapped kind) o x e = let clash : status.Done ≡ status.FileFault = sym x.0 ∙ e in absurd cc
 never_fault lines m t given FuelSpent o x e = let clash : status.Done ≡ status.FileFault = sym x.0 ∙ e in absurd cc
@@ -107,7 +106,7 @@ never_fault lines m t given (BadReply reply) o x e = let clash : status.HostStop
 never_fault lines m t given (DeviceFault device) o x e = let clash : status.HostStopped ≡ status.FileFault = sym (ap (λ (y : Outcome). y.status) x) ∙ e in absurd cc
 never_fault lines m t given NoMemory o x e = x
 
-pub never_want : (lines : List (ℕ × LineProgram)) (m : Module) (t : Counts) (given : ℕ) (a : RunEnd) (o : Outcome) → AnswersEnd lines m t given a o → o.status ≡ status.NoMemory → ⊥
+pub never_want : (lines : SourceInformation) (m : Module) (t : Counts) (given : ℕ) (a : RunEnd) (o : Outcome) → AnswersEnd lines m t given a o → o.status ≡ status.NoMemory → ⊥
 never_want lines m t given (Finished v) o x e = let clash : status.Done ≡ status.NoMemory = sym x.0 ∙ e in absurd cc
 never_want lines m t given (Trapped kind) o x e = let clash : status.Done ≡ status.NoMemory = sym x.0 ∙ e in absurd cc
 never_want lines m t given FuelSpent o x e = let clash : status.Done ≡ status.NoMemory = sym x.0 ∙ e in absurd cc
@@ -259,7 +258,7 @@ module _ (before after : List DeviceState) (script : Option (List Reply)) (w : C
 
     -- ---- the answer
 
-    module _ (lines : List (ℕ × LineProgram)) (none : Counted s.module_ t []) (small : w.fuel < 2 ^ 64) (o : Outcome) where
+    module _ (lines : SourceInformation) (none : Counted s.module_ t []) (small : w.fuel < 2 ^ 64) (o : Outcome) where
       told_as : (ending : List ℕ) → TellsCounts lines s.module_ t' ending o → Tells ending (map (source_line lines s.module_) places) o
       told_as ending x = (x.0, x.1 places (counted none) (fewer w.fuel r.ran.left (length places) as_many small))
 
@@ -272,7 +271,7 @@ module _ (before after : List DeviceState) (script : Option (List Reply)) (w : C
       abbrev Stopped : RunOutcome → Type 0
       Stopped out = o ≡ ended status.HostStopped (end_text (names before) s.module_.imports (length r.ran.served) 0 out)
 
-  answer_as : (some : a ≡ NoMemory → ⊥) (cause : HasCause a (count_of h0.devices) (count_of h1.devices)) (lines : List (ℕ × LineProgram)) (none : Counted s.module_ t []) (small : w.fuel < 2 ^ 64) (o : Outcome) (n : ℕ) → n ≡ length given
+  answer_as : (some : a ≡ NoMemory → ⊥) (cause : HasCause a (count_of h0.devices) (count_of h1.devices)) (lines : SourceInformation) (none : Counted s.module_ t []) (small : w.fuel < 2 ^ 64) (o : Outcome) (n : ℕ) → n ≡ length given
       → (b : RunEnd) → a ≡ b → HasOutcome p (is_used_up h1) b r.ran.outcome → AnswersEnd lines s.module_ t' n b o → As some cause lines none small o r.ran.outcome
   answer_as some cause lines none small o n is (Finished v) at out x = subst (λ k. As some cause lines none small o k) (sym out) (told_as some cause lines none small o (finished_line v) x)
   answer_as some cause lines none small o n is (Trapped kind) at out x = subst (λ k. As some cause lines none small o k) (sym out) (told_as some cause lines none small o (kind_line (trap_code kind)) x)
@@ -291,7 +290,7 @@ module _ (before after : List DeviceState) (script : Option (List Reply)) (w : C
   given_is : length h1.served ≡ length given
   given_is = sym (same_length h1.served) ∙ ap length (all_of (calls_of h0).served (calls_of h1).served given (calls_none h0 began.none_served) inv.came.grew.served)
 
-  covers_to : (lines : List (ℕ × LineProgram)) → HasCause a (count_of h0.devices) (count_of h1.devices) → Counted s.module_ t [] → w.fuel < 2 ^ 64 → (o : Outcome) (n : ℕ) → n ≡ length h1.served → AnswersEnd lines s.module_ t' n a o
+  covers_to : (lines : SourceInformation) → HasCause a (count_of h0.devices) (count_of h1.devices) → Counted s.module_ t [] → w.fuel < 2 ^ 64 → (o : Outcome) (n : ℕ) → n ≡ length h1.served → AnswersEnd lines s.module_ t' n a o
       → CoversTo before after script w lines s.module_ given o
   covers_to lines cause none small o n is x =
       let some = had_memory lines s.module_ t' n a o x in
@@ -340,25 +339,25 @@ module _ (before after : List DeviceState) (script : Option (List Reply)) (w : C
   ready_stops = (starts, subst (λ (k : Module). CoversFor w k script before after) new_of.module_is (covers_for before after script w s s' h0 h1 a t t' at_own.0 at_own.1 at_own.2 same back came))
 
   abbrev Told : List ℕ → Outcome → Module → Type 0
-  Told bytes o k = (given : List Served) × CoversTo before after script w ((information bytes k.customs).programs) k given o × Logs k given before after
+  Told bytes o k = (given : List Served) × CoversTo before after script w (information bytes k.customs) k given o × Logs k given before after
 
   told_own : (bytes : List ℕ) → HasCause a (count_of h0.devices) (count_of h1.devices) → Counted s.module_ t [] → w.fuel < 2 ^ 64 → (o : Outcome) (n : ℕ) → n ≡ length h1.served
-      → AnswersEnd ((information bytes s.module_.customs).programs) s.module_ t' n a o → Told bytes o s.module_
+      → AnswersEnd (information bytes s.module_.customs) s.module_ t' n a o → Told bytes o s.module_
   told_own bytes cause none small o n is x = (
     _,
-    covers_to before after script w s s' h0 h1 a t t' at_own.0 at_own.1 at_own.2 same back came ((information bytes s.module_.customs).programs) cause none small o n is x,
+    covers_to before after script w s s' h0 h1 a t t' at_own.0 at_own.1 at_own.2 same back came (information bytes s.module_.customs) cause none small o n is x,
     given_logs before after script w s s' h0 h1 a t t' at_own.0 at_own.1 at_own.2 same back came,
   )
 
   pub ready_told : (bytes : List ℕ) → HasCause a (count_of h0.devices) (count_of h1.devices) → Counted m t [] → w.fuel < 2 ^ 64 → (o : Outcome) (n : ℕ) → n ≡ length h1.served
-      → AnswersEnd ((information bytes m.customs).programs) m t' n a o → IsAnswered (λ given. ModuleAnswer before after w given script bytes m) before after o
+      → AnswersEnd (information bytes m.customs) m t' n a o → IsAnswered (λ given. ModuleAnswer before after w given script bytes m) before after o
   ready_told bytes cause none small o n is x =
       let told : Told bytes o m = subst (Told bytes o) new_of.module_is
-      (told_own bytes cause (subst (λ (k : Module). Counted k t []) (sym new_of.module_is) none) small o n is (subst (λ (k : Module). AnswersEnd ((information bytes k.customs).programs) k t' n a o) (sym new_of.module_is) x)) in
+      (told_own bytes cause (subst (λ (k : Module). Counted k t []) (sym new_of.module_is) none) small o n is (subst (λ (k : Module). AnswersEnd (information bytes k.customs) k t' n a o) (sym new_of.module_is) x)) in
       record {
         given = told.0;
-        answer = subst (λ c. StartsOr c (CoversTo before after script w ((information bytes m.customs).programs) m told.0 o × Logs m told.0 before after) o) (sym starts) (told.1, told.2);
-        untouched = no_refusal ((information bytes m.customs).programs) m t' n a o ((after ≡ before) × (told.0 ≡ [])) x;
+        answer = subst (λ c. StartsOr c (CoversTo before after script w (information bytes m.customs) m told.0 o × Logs m told.0 before after) o) (sym starts) (told.1, told.2);
+        untouched = no_refusal (information bytes m.customs) m t' n a o ((after ≡ before) × (told.0 ≡ [])) x;
       }
 
 abbrev no_calls : List Served
@@ -370,7 +369,7 @@ pub refused_told : (before after : List DeviceState) (script : Option (List Repl
     → IsAnswered (λ given. ModuleAnswer before after w given script bytes m) before after o
 refused_told before after script w bytes m h o valid began back (cause, starts, is) = record {
   given = [];
-  answer = subst (λ c. StartsOr c (CoversTo before after script w ((information bytes m.customs).programs) m [] o × Logs m [] before after) o) (sym (sym (starts_alike m h before script false valid began.devices_are began.script_is (called w)) ∙ starts)) is;
+  answer = subst (λ c. StartsOr c (CoversTo before after script w (information bytes m.customs) m [] o × Logs m [] before after) o) (sym (sym (starts_alike m h before script false valid began.devices_are began.script_is (called w)) ∙ starts)) is;
   untouched = subst (λ (x : Outcome). IfRefusal x.status ((after ≡ before) × (no_calls ≡ []))) (sym is) (back ∙ began.devices_are, refl);
 }
 

@@ -21,8 +21,7 @@ use Rattle.run_words.specs.declared.cover.CoverWords.{CoverWords}
 use Rattle.pm_outside.specs.Held.{Writes}
 use Rattle.run_command.specs.Hosting.{start_text}
 use Rattle.run_command.specs.RunAnswer.{StartsOr, Logs, hosting, replies_input, script_of}
-use Rattle.debug_frames.specs.Information.{information}
-use Rattle.debug_frames.specs.declared.programs.Program.{Program as LineProgram}
+use Rattle.debug_frames.specs.Information.{SourceInformation, information}
 use Rattle.cover_command.specs.SourceLines.{SourceLine, source_line}
 use Rattle.cover_command.specs.CoverText.{CoverText, count_text, sums_text}
 use Rattle.cover_command.specs.CoverAnswer.{covered_run, covered_places, Tells, EndsAs, CoversTo, ModuleAnswer, CoverAnswer, called}
@@ -56,7 +55,7 @@ one_end names imports fitted fell got_stuck a b x y = absurd x
 
 -- ---- the invocation
 
-module _ (one : OneProgram) (before after : List DeviceState) (script : Option (List Reply)) (w : CoverWords) (lines : List (ℕ × LineProgram)) (m : Module) (given : List Served) (a b : Outcome)
+module _ (one : OneProgram) (before after : List DeviceState) (script : Option (List Reply)) (w : CoverWords) (lines : SourceInformation) (m : Module) (given : List Served) (a b : Outcome)
     (x : CoversTo before after script w lines m given a) (y : CoversTo before after script w lines m given b) where
   same_program : x.program ≡ y.program
   same_program = one m x.program y.program x.of_module y.of_module x.writes_out y.writes_out
@@ -72,7 +71,7 @@ module _ (one : OneProgram) (before after : List DeviceState) (script : Option (
       x.placed ∙ ap₂ (λ (p : Program) (f : ℕ). covered_places p w f (replies_of given) (w.fuel - x.ran.left)) same_program same_function
       ∙ ap (λ (r : Ran). covered_places y.program w y.function (replies_of given) (w.fuel - r.left)) same_ran ∙ sym y.placed
 
-  one_answer : a ≡ b
+  pub one_answer : a ≡ b
   one_answer =
       one_end (names before) m.imports (length y.ran.served) (map (source_line lines m) y.places) y.ran.outcome a b
       (subst (λ (ps : List (Option Place)). EndsAs (names before) m.imports (length y.ran.served) (map (source_line lines m) ps) y.ran.outcome a) same_places
@@ -84,7 +83,7 @@ agree_starts None P Q a b agree pa qb = agree pa qb
 
 agree_module : OneProgram → (before after : List DeviceState) (w : CoverWords) (given : List Served) (script : Option (List Reply)) (bytes : List ℕ) (m : Module) → Agree (ModuleAnswer before after w given script bytes m) (ModuleAnswer before after w given script bytes m)
 agree_module one before after w given script bytes m a b pa qb =
-    let lines = (information bytes m.customs).programs in
+    let lines = information bytes m.customs in
     agree_starts (start_text (hosting before script false) m (called w)) (CoversTo before after script w lines m given a × Logs m given before after) (CoversTo before after script w lines m given b × Logs m given before after) a b
     (λ r s. one_answer one before after script w lines m given a b r.0 s.0) pa qb
 

@@ -26,8 +26,7 @@ use Rattle.pm_outside.specs.Held.{Writes}
 use Rattle.run_command.specs.Hosting.{scripted, start_text}
 use Rattle.run_command.specs.AllRan.{end_text}
 use Rattle.run_command.specs.RunAnswer.{hosting, script_of, replies_input, UsesUp, HasFailed, Logs, StartsOr, IfRefusal, IsUntouched}
-use Rattle.debug_frames.specs.Information.{information}
-use Rattle.debug_frames.specs.declared.programs.Program.{Program as LineProgram}
+use Rattle.debug_frames.specs.Information.{SourceInformation, information}
 use Rattle.cover_command.specs.SourceLines.{SourceLine, source_line}
 use Rattle.cover_command.specs.CoverText.{CoverText}
 
@@ -61,7 +60,7 @@ EndsAs names imports fitted fell (misfits call reply) o = o ≡ ended status.Hos
 EndsAs names imports fitted fell _ o = ⊥
 
 -- what the invocation comes to on the replies that were given, those of the script being its first ones; a device that gives none has failed
-pub record CoversTo (before after : List DeviceState) (script : Option (List Reply)) (w : CoverWords) (lines : List (ℕ × LineProgram)) (m : Module) (given : List Served) (o : Outcome) : Type 0 where
+pub record CoversTo (before after : List DeviceState) (script : Option (List Reply)) (w : CoverWords) (lines : SourceInformation) (m : Module) (given : List Served) (o : Outcome) : Type 0 where
   pub program : Program
   pub of_module : program.module_ ≡ m
   pub writes_out : IsProgram program
@@ -88,7 +87,7 @@ called w = invocation_of w.called ∷ []
 abbrev pub ModuleAnswer : (before after : List DeviceState) → CoverWords → List Served → Option (List Reply) → List ℕ → Module → Outcome → Type 0
 ModuleAnswer before after w given script bytes m o =
     StartsOr (start_text (hosting before script false) m (called w))
-    (CoversTo before after script w ((information bytes m.customs).programs) m given o × Logs m given before after) o
+    (CoversTo before after script w (information bytes m.customs) m given o × Logs m given before after) o
 
 -- The answer to `cover`, where the devices are these before and then, files hold this when the module is read and that when the replies are,
 -- and these replies were given in this call. No file is written.

@@ -7,8 +7,8 @@ use Rattle.std.specs.Cmp.Lexicographic.{slice_cmp}
 use Rattle.wasm_syntax.specs.declared.module.ModuleParts.{ModuleParts as Module}
 use Rattle.machine_steps.specs.Places.{Place}
 use Rattle.dwarf_line.specs.Place.{Located}
-use Rattle.debug_frames.specs.declared.programs.Program.{Program}
 use Rattle.debug_frames.specs.Files.{file_text}
+use Rattle.debug_frames.specs.Information.{SourceInformation}
 use Rattle.debug_frames.specs.Programs.{located_at}
 use Rattle.line_coverage.specs.Covers.{address_of}
 
@@ -28,10 +28,10 @@ is_line a b = bytes_eq a.file b.file && (a.line == b.line)
 abbrev pub line_of : Located → SourceLine
 line_of x = record { file = file_text x.lines (Some x.row.file); line = x.row.line }
 
--- Where a step falls that is made at a place: on the line of the row of its code address, in the first line program that has one. With no
--- frame, and where no line program that could be read has a row, it falls on none.
-abbrev pub source_line : List (ℕ × Program) → Module → Option Place → Option SourceLine
-source_line programs m at = option_map line_of (option_and_then (λ p. located_at programs (address_of m p)) at)
+-- Where a step falls that is made at a place: on the line of the row of its code address, by the first unit whose line program has one.
+-- With no frame, and where no line program has a row, it falls on none.
+abbrev pub source_line : SourceInformation → Module → Option Place → Option SourceLine
+source_line x m at = option_map line_of (option_and_then (λ p. located_at x.sections x.units (address_of m p)) at)
 
 abbrev pub falls_on : SourceLine → Option SourceLine → Bool
 falls_on line (Some other) = is_line line other

@@ -52,13 +52,13 @@ fn told(
     first_line: Text,
 ) -> Result<Outcome, NoMemory>
     requires { module_from bytes.now ≡ Ok source.now }
-    ensures { IfOk result (TellsCounts ((information bytes.now source.now.customs).programs)
+    ensures { IfOk result (TellsCounts (information bytes.now source.now.customs)
         source.now tally.now first_line) }
 {
     let information = Information::of(alloc, bytes, source.module())?;
     let mut text = first_line;
     let parts = source.module().parts();
-    push_covered(&mut text, alloc, &information.programs, parts, tally)?;
+    push_covered(&mut text, alloc, &information, parts, tally)?;
     Ok(Outcome {
         status: Status::Done,
         text,
@@ -92,7 +92,7 @@ pub(crate) fn answer_to(
     given: u64,
 ) -> Result<Outcome, NoMemory>
     requires { module_from bytes.now ≡ Ok source.now }
-    ensures { IfOk result (AnswersEnd ((information bytes.now source.now.customs).programs)
+    ensures { IfOk result (AnswersEnd (information bytes.now source.now.customs)
         source.now tally.now given end.now) }
 {
     match end {

@@ -12,7 +12,7 @@ ghost use Rattle.cover_command.specs.inner.Merging.{file_line_cmp, seen_line, se
 use crate::merging::{FileLine, merge};
 use causes::NoMemory;
 use commands::push_number;
-use debug_frames::Programs;
+use debug_frames::Information;
 use line_coverage::Coverage;
 use machine_steps::Tally;
 use pm_text::Text;
@@ -53,20 +53,20 @@ fn push_sums(out: &mut Text, unplaced: u64, steps: u64) -> Result<(), NoMemory>
     out.push_str("\n")
 }
 
-/// Adds the lines that tell where the steps fell that were counted of runs of a module, by its line
-/// programs.
+/// Adds the lines that tell where the steps fell that were counted of runs of a module, by what
+/// its bytes say of its source.
 pub(crate) fn push_covered(
     out: &mut Text,
     alloc: Global,
-    programs: &Programs<'_>,
+    information: &Information<'_>,
     source: &ModuleParts,
     tally: &Tally,
 ) -> Result<(), NoMemory>
     ensures { OnOk result ((seen : List (Option Place)) → Counted source.now tally.now seen
-        → length seen < 2 ^ 64 → CoverText out.old (map (source_line programs.now source.now) seen)
+        → length seen < 2 ^ 64 → CoverText out.old (map (source_line information.now source.now) seen)
         out.new) }
 {
-    let tables = programs.lines(alloc)?;
+    let tables = information.programs().lines(alloc)?;
     let coverage = Coverage::of(alloc, &tables, source, tally)?;
     let counts = merge(alloc, &tables, coverage.lines())?;
     push_counts(out, &counts)?;

@@ -1,6 +1,5 @@
 -- `debug` has at most one answer.
 use Rattle.std.proofs.Common.{◌≡◌, ℕ, zero, suc, ◌+◌, ◌<◌, List, [], ◌∷◌, ◌++◌, slice_get, Option, Some, None, Result, Ok, Err, refl, sym, ap, ap₂, subst, ◌∙◌, arith, inl, inr}
-use Rattle.std.specs.Prelude.{codes}
 use Rattle.pm_outside.specs.Contents.{Contents}
 use Rattle.wasm_syntax.specs.declared.quantity.Quantity.TheVariants.{ModuleBytes, DumpBytes}
 use Rattle.wasm_syntax.specs.declared.parts.FuncType.{FuncType}
@@ -21,13 +20,10 @@ use Rattle.commands.specs.Inputs.{input_of}
 use Rattle.commands.specs.Texts.{ended}
 use Rattle.commands.specs.declared.outcome.Outcome.{Outcome}
 use Rattle.commands.proofs.OneOutcome.{Agree, agree_then, agree_if_loaded}
-use Rattle.debugger.specs.Listings.{listing, recorded_or}
 use Rattle.debugger.specs.declared.command.Command.{Command}
-use Rattle.debugger.specs.declared.command.Command.TheVariants as commands
 use Rattle.debugger.specs.Commands.{read_command}
 use Rattle.debugger.specs.Subject.{Subject, subject_of}
-use Rattle.debugger.specs.Texts.{IsOperandsText}
-use Rattle.debugger.specs.Session.{AreOperands, Prints, PrintsAll, chosen_behind}
+use Rattle.debugger.specs.Session.{Shows, printed, Prints, PrintsAll, chosen_behind}
 use Rattle.debug_command.specs.declared.words.DebugWords.{DebugWords}
 use Rattle.debug_command.specs.Answer.{mismatched, IsTold, DumpAnswer, IfDump, DebugAnswer}
 use Rattle.pm_text.proofs.Lists.{some_is}
@@ -54,26 +50,14 @@ one_shown m i f a b (inl x) (inr y) = absurd (y.0 (fits_there m i f a x))
 one_shown m i f a b (inr x) (inl y) = absurd (x.0 (fits_there m i f b y))
 one_shown m i f a b (inr x) (inr y) = x.1 ∙ sym y.1
 
-one_operands_text : (s : Subject) (i : ℕ) (f : Frame) (a b : List ℕ) → IsOperandsText s i f a → IsOperandsText s i f b → a ≡ b
-unfolding IsOperandsText
-one_operands_text s i f a b x y = x.2 ∙ ap (λ (n : ℕ). listing (codes "operand") (recorded_or n f.operands)) (one_shown s.module_ i f x.0 y.0 x.1 y.1) ∙ sym y.2
-
-one_of_frame : (s : Subject) (i : ℕ) (f : Option Frame) (a b : List ℕ) → AreOperands s i f a → AreOperands s i f b → a ≡ b
-one_of_frame s i (Some f) a b x y = one_operands_text s i f a b x y
-one_of_frame s i None a b x y = x ∙ sym y
+one_shows : (s : Subject) (i : ℕ) (f : Option Frame) (a b : ℕ) → Shows s i f a → Shows s i f b → a ≡ b
+one_shows s i (Some f) a b x y = one_shown s.module_ i f a b x y
+one_shows s i None a b x y = x ∙ sym y
 
 -- ---- what commands print
 
 pub one_printed : (s : Subject) (i : ℕ) (given : List ℕ) (c : Command) (a b : List ℕ) → Prints s i given c a → Prints s i given c b → a ≡ b
-one_printed s i given commands.Backtrace a b x y = x ∙ sym y
-one_printed s i given (commands.Frame n) a b x y = x ∙ sym y
-one_printed s i given commands.Locals a b x y = x ∙ sym y
-one_printed s i given commands.Operands a b x y = one_of_frame s i (slice_get s.dump.frames i) a b x y
-one_printed s i given commands.Globals a b x y = x ∙ sym y
-one_printed s i given commands.Variables a b x y = x ∙ sym y
-one_printed s i given commands.Print a b x y = x ∙ sym y
-one_printed s i given (commands.Examine at n) a b x y = x ∙ sym y
-one_printed s i given commands.Bad a b x y = x ∙ sym y
+one_printed s i given c a b x y = x.2 ∙ ap (λ (n : ℕ). printed s i n given c) (one_shows s i (slice_get s.frames i) x.0 y.0 x.1 y.1) ∙ sym y.2
 
 one_session : (s : Subject) (i : ℕ) (cs : List (List ℕ)) (a b : List ℕ) → PrintsAll s i cs a → PrintsAll s i cs b → a ≡ b
 one_session s i [] a b x y = x ∙ sym y

@@ -1,7 +1,6 @@
 -- The line programs that units name (DWARF 4 and 5, 3.1.1 and 6.2), and the row of an address among them.
-use Rattle.std.specs.Prelude.{ℕ, List, [], ◌∷◌, ◌++◌, fold, flat_map, Option, Some, None, option_map, is_some, nat_eq, if◌then◌else◌}
+use Rattle.std.specs.Prelude.{ℕ, List, [], ◌∷◌, Option, Some, None, option_map}
 use Rattle.std.specs.Option.{option_or}
-use Rattle.std.specs.Map.{lookup}
 use Rattle.dwarf_info.specs.declared.entry.Entry.{Entry}
 use Rattle.dwarf_info.specs.declared.entry.UnitAnswer.{UnitAnswer}
 use Rattle.dwarf_info.specs.declared.entry.UnitAnswer.TheVariants as answers
@@ -31,30 +30,6 @@ abbrev pub named : UnitAnswer → Option ℕ
 named (answers.Tree u) = named_by u.entries
 named (answers.Unreadable section at) = None
 
--- ---- programs by their offsets
-
-abbrev pub program_at : List (ℕ × Program) → ℕ → Option Program
-program_at programs at = lookup (nat_eq at) programs
-
--- with the program at an offset, where there is none yet
-abbrev pub with_program : SectionBytes5 → List (ℕ × Program) → Option ℕ → List (ℕ × Program)
-with_program s programs None = programs
-with_program s programs (Some at) = if is_some (program_at programs at) then programs else programs ++ (at, program_there s at) ∷ []
-
--- those that the units name, each where it is named first
-unfoldable pub programs_of : SectionBytes5 → List UnitAnswer → List (ℕ × Program)
-programs_of s units = fold (λ programs u. with_program s programs (named u)) [] units
-
--- ---- those that could be read
-
-abbrev pub read_in : Program → List Lines
-read_in (Read lines) = lines ∷ []
-read_in Unreadable = []
-
--- in the order in which units name them
-abbrev pub readable : List (ℕ × Program) → List Lines
-readable programs = flat_map (λ p. read_in p.1) programs
-
 -- ---- rows
 
 abbrev pub located : Lines → ℕ → Option Located
@@ -64,7 +39,12 @@ abbrev pub located_in : Program → ℕ → Option Located
 located_in (Read lines) address = located lines address
 located_in Unreadable address = None
 
--- the row of an address: of the first program that has one
-abbrev pub located_at : List (ℕ × Program) → ℕ → Option Located
-located_at [] address = None
-located_at (p ∷ programs) address = option_or (located_in p.1 address) (located_at programs address)
+-- in the line program at the offset that a unit names
+abbrev pub located_there : SectionBytes5 → Option ℕ → ℕ → Option Located
+located_there s None address = None
+located_there s (Some at) address = located_in (program_there s at) address
+
+-- the row of an address: of the first unit whose line program has one
+abbrev pub located_at : SectionBytes5 → List UnitAnswer → ℕ → Option Located
+located_at s [] address = None
+located_at s (u ∷ units) address = option_or (located_there s (named u) address) (located_at s units address)

@@ -1,10 +1,11 @@
 //! The lines that show a frame.
 
-ghost use Rattle.std.specs.Prelude.{◌≡◌, ◌++◌, List, ℕ, None, OnOk, option_copied};
+ghost use Rattle.std.specs.Prelude.{◌≡◌, ◌++◌, List, ℕ, None, OnOk, IfSome, option_copied};
 ghost use Rattle.std.specs.Option.{option_or};
 ghost use Rattle.wasm_decode.specs.Names.{name_of as function_name};
 ghost use Rattle.debug_frames.specs.Frames as definitions;
 ghost use Rattle.debug_frames.specs.inner.Resolving.{resolved_at};
+ghost use Rattle.debug_frames.specs.inner.Standings.{IsOfKept};
 
 use crate::address::address_of;
 use crate::information::Information;
@@ -41,7 +42,7 @@ fn name_at<'r, 'a>(
     if let Some(name) = resolved.name {
         return Some(name);
     }
-    match information.names.get(function) {
+    match information.names().get(function) {
         Some(name) => Some(name.as_bytes()),
         None => None,
     }
@@ -74,8 +75,8 @@ fn push_inlined(
         ≡ out.old ++ definitions.inlined_text information.now standing.now) }
 {
     out.push_str("inlined ")?;
-    let attributes = standing.entry().attributes.as_slice();
-    push_name(out, name_of(&information.units, attributes))
+    let attributes = &standing.entry().attributes;
+    push_name(out, name_of(information.units(), attributes))
 }
 
 /// Adds what each line of the frame of an index begins with.
@@ -97,7 +98,8 @@ fn push_inlined_line(
     before: Option<&Standing<'_, '_>>,
     standing: &Standing<'_, '_>,
 ) -> Result<(), NoMemory>
-    requires { resolved.now ≡ resolved_at information.now resolved.now.address }
+    requires resolved { resolved.now ≡ resolved_at information.now resolved.now.address }
+    requires kept { IfSome (option_copied before) (IsOfKept information.now) }
     ensures { OnOk result (out.new ≡ out.old ++ definitions.line index
         (definitions.inlined_text information.now standing.now)
         (definitions.place_behind information.now resolved.now.address
@@ -120,7 +122,8 @@ fn push_function_line(
     before: Option<&Standing<'_, '_>>,
     frame: &Frame,
 ) -> Result<(), NoMemory>
-    requires { resolved.now ≡ resolved_at information.now resolved.now.address }
+    requires resolved { resolved.now ≡ resolved_at information.now resolved.now.address }
+    requires kept { IfSome (option_copied before) (IsOfKept information.now) }
     ensures { OnOk result (out.new ≡ out.old ++ definitions.line index
         (definitions.function_text information.now resolved.now.address frame.now)
         (definitions.place_behind information.now resolved.now.address

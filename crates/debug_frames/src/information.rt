@@ -1,15 +1,18 @@
 //! What the bytes of a module say of its source.
 
-ghost use Rattle.std.specs.Prelude.{◌≡◌, ◌≤◌, length, IfOk};
+ghost use Rattle.std.specs.Prelude.{◌≡◌, ◌≤◌, length, IfOk, Some};
 ghost use Rattle.dwarf_info.specs.Sections.{IsReadable5, greatest_section};
 ghost use Rattle.debug_frames.specs.Information as definitions;
+ghost use Rattle.debug_frames.specs.Programs.{program_there};
+ghost use Rattle.debug_frames.specs.calls.Kept.{programs_of, IsKept};
 
-use crate::programs::Programs;
+use crate::programs::{Program, Programs};
 use crate::sections::sections_of;
 use causes::NoMemory;
 use dwarf_info::{Sections5, Units};
 use dwarf5_info::read_units5;
 use std::alloc::Global;
+use std::marker::Model;
 use wasm_decode::{Names, function_names};
 use wasm_syntax::Module;
 
@@ -17,12 +20,24 @@ use wasm_syntax::Module;
 /// Texts borrow the module's bytes.
 #[derive(Drop)]
 pub struct Information<'a> {
-    pub sections: Sections5<'a>,
-    /// The units of versions 4 and 5.
-    pub units: Units<'a>,
-    /// The line programs that the units name.
-    pub programs: Programs<'a>,
-    pub names: Names,
+    sections: Sections5<'a>,
+    // The units of versions 4 and 5.
+    units: Units<'a>,
+    // The line programs that the units name, each read once.
+    programs: Programs<'a>,
+    names: Names,
+}
+
+impl<'a> Model for Information<'a> {
+    ghost use Rattle.std.specs.Prelude.{◌≡◌};
+    ghost use Rattle.debug_frames.specs.Information.{SourceInformation};
+    ghost use Rattle.debug_frames.specs.calls.Kept.{programs_of};
+
+    ghost Value = { SourceInformation };
+
+    ghost view = { λ x. record { sections = x.sections; units = x.units; names = x.names } };
+
+    ghost invariant = { λ x. x.programs ≡ programs_of x.sections x.units };
 }
 
 /// What sections of debugging information say, beside names of functions.
@@ -55,5 +70,40 @@ impl<'a> Information<'a> {
         let sections = sections_of(bytes, module_.parts().customs.as_slice());
         let names = function_names(alloc, bytes, module_)?;
         said(alloc, sections, names)
+    }
+
+    pub fn sections(&self) -> &Sections5<'a>
+        ensures { result.now ≡ self.now.sections }
+    {
+        &self.sections
+    }
+
+    /// The units of versions 4 and 5.
+    pub fn units(&self) -> &Units<'a>
+        ensures { result.now ≡ self.now.units }
+    {
+        &self.units
+    }
+
+    /// The line programs that the units name, each once.
+    pub fn programs(&self) -> &Programs<'a>
+        ensures { result.now ≡ programs_of self.now.sections self.now.units }
+    {
+        &self.programs
+    }
+
+    /// The names that the `name` section gives to functions.
+    pub(crate) fn names(&self) -> &Names
+        ensures { result.now ≡ self.now.names }
+    {
+        &self.names
+    }
+
+    /// What stands at an offset of `.debug_line` that a unit names.
+    pub(crate) fn program(&self, at: u32) -> &Program<'a>
+        requires { IsKept self.now.sections self.now.units (Some at) }
+        ensures { result.now ≡ program_there self.now.sections at }
+    {
+        self.programs().get(at).unwrap()
     }
 }

@@ -5,7 +5,6 @@ mod address;
 mod files;
 mod frames;
 mod information;
-pub mod laws;
 mod places;
 mod programs;
 mod sections;

@@ -1,8 +1,9 @@
 //! The places in source that stand in the lines of frames.
 
-ghost use Rattle.std.specs.Prelude.{◌≡◌, ◌++◌, OnOk, option_copied};
+ghost use Rattle.std.specs.Prelude.{◌≡◌, ◌++◌, OnOk, IfSome, option_copied};
 ghost use Rattle.debug_frames.specs.Frames as definitions;
 ghost use Rattle.debug_frames.specs.inner.Resolving.{resolved_at};
+ghost use Rattle.debug_frames.specs.inner.Standings.{IsOfKept};
 
 use crate::files::push_file;
 use crate::information::Information;
@@ -34,11 +35,14 @@ fn program_of_unit<'r, 'a>(
     information: &'r Information<'a>,
     standing: &Standing<'_, 'a>,
 ) -> Option<&'r Program<'a>>
+    requires { IsOfKept information.now standing.now }
     ensures { option_copied result
-        ≡ definitions.program_of_unit information.now.programs standing.now }
+        ≡ definitions.program_of_unit information.now.sections standing.now }
 {
-    let at = named_by(standing.unit().entries.as_slice())?;
-    information.programs.get(at)
+    match named_by(standing.unit().entries.as_slice()) {
+        Some(at) => Some(information.program(at)),
+        None => None,
+    }
 }
 
 /// Adds the file from which an inlined subroutine is called.
@@ -48,10 +52,11 @@ fn push_call_file(
     information: &Information<'_>,
     standing: &Standing<'_, '_>,
 ) -> Result<(), NoMemory>
+    requires { IsOfKept information.now standing.now }
     ensures { OnOk result (out.new
         ≡ out.old ++ definitions.call_file_text information.now standing.now) }
 {
-    let number = natural(standing.entry().attributes.as_slice(), CALL_FILE);
+    let number = natural(&standing.entry().attributes, CALL_FILE);
     match program_of_unit(information, standing) {
         Some(Program::Read(lines)) => push_file(out, alloc, lines, number),
         Some(Program::Unreadable) => out.push_str("?"),
@@ -67,10 +72,11 @@ fn push_call(
     information: &Information<'_>,
     standing: &Standing<'_, '_>,
 ) -> Result<(), NoMemory>
+    requires { IsOfKept information.now standing.now }
     ensures { OnOk result (out.new
         ≡ out.old ++ definitions.call_site information.now standing.now) }
 {
-    let Some(line) = number(standing.entry().attributes.as_slice(), CALL_LINE) else {
+    let Some(line) = number(&standing.entry().attributes, CALL_LINE) else {
         return Ok(());
     };
     out.push_str(" at ")?;
@@ -98,7 +104,8 @@ pub fn push_place_behind(
     resolved: &Resolved<'_, '_>,
     before: Option<&Standing<'_, '_>>,
 ) -> Result<(), NoMemory>
-    requires { resolved.now ≡ resolved_at information.now resolved.now.address }
+    requires resolved { resolved.now ≡ resolved_at information.now resolved.now.address }
+    requires kept { IfSome (option_copied before) (IsOfKept information.now) }
     ensures { OnOk result (out.new
         ≡ out.old ++ definitions.place_behind information.now resolved.now.address
         (option_copied before.entry)) }

@@ -1,8 +1,13 @@
 //! The line programs that units name (DWARF 4 and 5 section 6.2).
 
-ghost use Rattle.std.specs.Prelude.{◌≡◌, ◌++◌, [], map, flat_map, IfOk, OnOk, slice_get, option_copied, option_map};
+ghost use Rattle.std.specs.Prelude.{◌≡◌, ◌==◌, ◌++◌, map, flat_map, find, IfOk, OnOk, slice_get, option_copied, option_map};
+ghost use Rattle.std.specs.Ordering.{nat_cmp};
+ghost use Rattle.std.specs.BTreeMap.{get};
+ghost use Rattle.dwarf_abbrev.specs.calls.Places.{IsPlaced};
 ghost use Rattle.dwarf_scopes.specs.calls.Numbered.{ranges_from, with_number};
+ghost use Rattle.dwarf_scopes.specs.calls.Steps.{Answer};
 ghost use Rattle.debug_frames.specs.Programs as definitions;
+ghost use Rattle.debug_frames.specs.calls.Kept as kept;
 ghost use Rattle.debug_frames.specs.inner.Placing.{held_by, held_in};
 
 use causes::NoMemory;
@@ -13,8 +18,9 @@ use dwarf_info::{Entry, PreparedSections, Sections5, UnitAnswer};
 use dwarf_line::{Lines, Row, Sequence};
 use dwarf_scopes::{Range, Steps};
 use dwarf5_line::read_prepared_lines5;
-use indexmap::IndexMap;
+use pm_text::Items;
 use std::alloc::Global;
+use std::collections::BTreeMap;
 use std::marker::Model;
 
 /// What stands at an offset of `.debug_line`.
@@ -43,16 +49,29 @@ impl<'r, 'a> Model for Located<'r, 'a> {
 /// pairs, each where it is named first.
 #[derive(Drop)]
 pub struct Programs<'a> {
-    programs: IndexMap<u32, Program<'a>>,
+    programs: Items<(u32, Program<'a>)>,
+    // Where the program of each offset stands.
+    places: BTreeMap<u32, usize>,
+    // Which of them holds an address first.
+    held: Steps,
 }
 
 impl<'a> Model for Programs<'a> {
     ghost use Rattle.std.specs.Prelude.{ℕ, List};
+    ghost use Rattle.std.specs.Ordering.{nat_cmp};
+    ghost use Rattle.std.specs.BTreeMap.{get};
+    ghost use Rattle.dwarf_abbrev.specs.calls.Places.{IsPlaced};
+    ghost use Rattle.dwarf_scopes.specs.calls.Numbered.{ranges_from};
+    ghost use Rattle.dwarf_scopes.specs.calls.Steps.{Answer};
     ghost use Rattle.debug_frames.specs.declared.programs.Program.{Program};
+    ghost use Rattle.debug_frames.specs.inner.Placing.{held_in};
 
     ghost Value = { List (ℕ × Program) };
 
-    ghost view = { λ p. p.programs.entries };
+    ghost view = { λ p. p.programs };
+
+    ghost invariant = { λ p. IsPlaced (λ x. x.0) p.programs (get nat_cmp p.places)
+        × Answer (ranges_from held_in 0 p.programs) p.held };
 }
 
 /// What stands at an offset of `.debug_line`.
@@ -75,7 +94,7 @@ pub fn named_by(entries: &[Entry<'_>]) -> Option<u32>
     ensures { result ≡ definitions.named_by entries.now }
 {
     match entries.first() {
-        Some(root) => offset(root.attributes.as_slice(), STMT_LIST),
+        Some(root) => offset(&root.attributes, STMT_LIST),
         None => None,
     }
 }
@@ -133,49 +152,74 @@ fn push_ranges(lines: &Lines<'_>, number: usize, ranges: &mut Vec<Range>) -> Res
     Ok(())
 }
 
+/// The addresses that sequences of programs hold, with the numbers of the programs.
+fn ranges_of(alloc: Global, programs: &[(u32, Program<'_>)]) -> Result<Vec<Range>, NoMemory>
+    ensures { IfOk result (λ ranges. ranges.items ≡ ranges_from held_in 0 programs.now) }
+{
+    let mut ranges = Vec::new(alloc);
+    'programs: for (number, (_, program)) in programs.iter().enumerate() {
+        if let Program::Read(lines) = program {
+            push_ranges(lines, number, &mut ranges)?;
+        }
+    }
+    Ok(ranges)
+}
+
+/// Which of these programs holds an address first.
+fn steps_of(alloc: Global, programs: &[(u32, Program<'_>)]) -> Result<Steps, NoMemory>
+    ensures { IfOk result (Answer (ranges_from held_in 0 programs.now)) }
+{
+    let ranges = ranges_of(alloc, programs)?;
+    let steps = Steps::of(alloc, ranges.as_slice())?;
+    Ok(steps)
+}
+
+/// Reads the program at an offset, where it was not read before.
+fn add<'a>(
+    alloc: Global,
+    sections: &PreparedSections<'a>,
+    at: Option<u32>,
+    programs: &mut Items<(u32, Program<'a>)>,
+    places: &mut BTreeMap<u32, usize>,
+) -> Result<(), NoMemory>
+    requires { IsPlaced (λ x. x.0) programs.old (get nat_cmp places.old) }
+    ensures value { OnOk result (programs.new
+        ≡ kept.with_program sections.now programs.old at) }
+    ensures placed { OnOk result (IsPlaced (λ x. x.0) programs.new (get nat_cmp places.new)) }
+{
+    let Some(at) = at else {
+        return Ok(());
+    };
+    if places.contains_key(&at) {
+        return Ok(());
+    }
+    let program = program_there(alloc, sections, at)?;
+    places.insert(at, programs.len())?;
+    programs.push((at, program))?;
+    Ok(())
+}
+
 impl<'a> Programs<'a> {
-    /// No programs.
-    fn new(alloc: Global) -> Self
-        ensures { result ≡ [] }
-    {
-        Programs {
-            programs: IndexMap::new(alloc),
-        }
-    }
-
-    /// Reads the program at an offset, where it was not read before.
-    fn add(
-        &mut self,
-        alloc: Global,
-        sections: &PreparedSections<'a>,
-        at: Option<u32>,
-    ) -> Result<(), NoMemory>
-        ensures { OnOk result (self.new ≡ definitions.with_program sections.now self.old at) }
-    {
-        let Some(at) = at else {
-            return Ok(());
-        };
-        if self.programs.get(&at).is_none() {
-            let program = program_there(alloc, sections, at)?;
-            self.programs.insert(at, program)?;
-        }
-        Ok(())
-    }
-
-    #[tactic(auto, unfolding(crate::specs::Programs::programs_of))]
+    #[tactic(auto, unfolding(crate::specs::calls::Kept::programs_of))]
     fn read(
         alloc: Global,
         sections: &PreparedSections<'a>,
         units: &[UnitAnswer<'a>],
     ) -> Result<Self, NoMemory>
         ensures { IfOk result (λ programs. programs
-            ≡ definitions.programs_of sections.now units.now) }
+            ≡ kept.programs_of sections.now units.now) }
     {
-        let mut programs = Programs::new(alloc);
+        let mut programs = Items::new(alloc);
+        let mut places = BTreeMap::new(alloc);
         for answer in units {
-            programs.add(alloc, sections, named(answer))?;
+            add(alloc, sections, named(answer), &mut programs, &mut places)?;
         }
-        Ok(programs)
+        let held = steps_of(alloc, programs.as_slice())?;
+        Ok(Programs {
+            programs,
+            places,
+            held,
+        })
     }
 
     /// The line programs that units name.
@@ -185,7 +229,7 @@ impl<'a> Programs<'a> {
         units: &[UnitAnswer<'a>],
     ) -> Result<Self, NoMemory>
         ensures { IfOk result (λ programs. programs
-            ≡ definitions.programs_of sections.now units.now) }
+            ≡ kept.programs_of sections.now units.now) }
     {
         let prepared = PreparedSections::new(alloc, sections)?;
         Programs::read(alloc, &prepared, units)
@@ -198,10 +242,10 @@ impl<'a> Programs<'a> {
     /// `NoMemory` where memory runs out.
     pub fn lines(&self, alloc: Global) -> Result<Vec<&Lines<'a>>, NoMemory>
         ensures { IfOk result (λ lines. map (λ l. l.now) lines.items
-            ≡ definitions.readable self.now) }
+            ≡ kept.readable self.now) }
     {
         let mut lines = Vec::new(alloc);
-        for (_, program) in self.programs.iter() {
+        for (_, program) in self.programs.as_slice() {
             if let Program::Read(read) = program {
                 lines.push(read)?;
             }
@@ -209,74 +253,39 @@ impl<'a> Programs<'a> {
         Ok(lines)
     }
 
+    /// The first program of an offset, beside it.
+    fn placed(&self, at: u32) -> Option<&(u32, Program<'a>)>
+        ensures { option_copied result ≡ find (λ x. x.0 == at) self.now }
+    {
+        let place = self.places.get(&at)?;
+        self.programs.get(*place)
+    }
+
     /// What stands at an offset that a unit names.
     pub fn get(&self, at: u32) -> Option<&Program<'a>>
-        ensures { option_copied result ≡ definitions.program_at self.now at }
+        ensures { option_copied result ≡ kept.program_at self.now at }
     {
-        self.programs.get(&at)
+        match self.placed(at) {
+            Some((_, program)) => Some(program),
+            None => None,
+        }
     }
 
     /// The program of a number, from 0.
     fn nth(&self, number: usize) -> Option<&Program<'a>>
         ensures { option_copied result ≡ option_map (λ p. p.1) (slice_get self.now number) }
     {
-        match self.programs.get_index(number) {
+        match self.programs.get(number) {
             Some((_, program)) => Some(program),
             None => None,
         }
     }
 
-    /// The addresses that sequences of theirs hold, with the numbers of the programs.
-    fn ranges(&self, alloc: Global) -> Result<Vec<Range>, NoMemory>
-        ensures { IfOk result (λ ranges. ranges.items ≡ ranges_from held_in 0 self.now) }
-    {
-        let mut ranges = Vec::new(alloc);
-        'programs: for (number, (_, program)) in self.programs.iter().enumerate() {
-            if let Program::Read(lines) = program {
-                push_ranges(lines, number, &mut ranges)?;
-            }
-        }
-        Ok(ranges)
-    }
-}
-
-/// Line programs, with what finds the one that holds an address. Contracts see the programs.
-#[derive(Drop)]
-pub struct ProgramTable<'r, 'a> {
-    programs: &'r Programs<'a>,
-    // Which of them holds an address first.
-    held: Steps,
-}
-
-impl<'r, 'a> Model for ProgramTable<'r, 'a> {
-    ghost use Rattle.std.specs.Prelude.{ℕ, List};
-    ghost use Rattle.dwarf_scopes.specs.calls.Numbered.{ranges_from};
-    ghost use Rattle.dwarf_scopes.specs.calls.Steps.{Answer};
-    ghost use Rattle.debug_frames.specs.declared.programs.Program.{Program};
-    ghost use Rattle.debug_frames.specs.inner.Placing.{held_in};
-
-    ghost Value = { List (ℕ × Program) };
-
-    ghost view = { λ t. t.programs.now };
-
-    ghost invariant = { λ t. Answer (ranges_from held_in 0 t.programs.now) t.held };
-}
-
-impl<'r, 'a> ProgramTable<'r, 'a> {
-    /// The table of these programs.
-    pub fn of(alloc: Global, programs: &'r Programs<'a>) -> Result<Self, NoMemory>
-        ensures { IfOk result (λ table. table ≡ programs.now) }
-    {
-        let ranges = programs.ranges(alloc)?;
-        let held = Steps::of(alloc, ranges.as_slice())?;
-        Ok(ProgramTable { programs, held })
-    }
-
     /// The row of a code address: of the first program that has one.
-    pub fn located(&self, address: u32) -> Option<Located<'r, 'a>>
-        ensures { result ≡ definitions.located_at self.now address }
+    pub(crate) fn located<'r>(&'r self, address: u32) -> Option<Located<'r, 'a>>
+        ensures { result ≡ kept.located_among self.now address }
     {
-        let program = self.programs.nth(self.held.at(address)?)?;
+        let program = self.nth(self.held.at(address)?)?;
         located_in(program, address)
     }
 }

@@ -2,10 +2,11 @@
 
 ghost use Rattle.std.specs.Prelude.{◌≡◌, IfOk, IfSome, option_copied};
 ghost use Rattle.debug_frames.specs.Frames as definitions;
+ghost use Rattle.debug_frames.specs.Programs.{located_at};
 ghost use Rattle.debug_frames.specs.inner.Resolving.{resolved_at};
 
 use crate::information::Information;
-use crate::programs::{Located, ProgramTable};
+use crate::programs::Located;
 use causes::NoMemory;
 use dwarf_entries::{Standing, name_of};
 use dwarf_scopes::Subprograms;
@@ -48,9 +49,16 @@ fn name_within<'r, 'a>(
     ensures { option_copied result ≡ definitions.name_within information.now.units subprogram.now }
 {
     match subprogram {
-        Some(subprogram) => name_of(&information.units, subprogram.entry().attributes.as_slice()),
+        Some(subprogram) => name_of(information.units(), &subprogram.entry().attributes),
         None => None,
     }
+}
+
+/// The row of an address.
+fn row_at<'r, 'a>(information: &'r Information<'a>, address: u32) -> Option<Located<'r, 'a>>
+    ensures { result ≡ located_at information.now.sections information.now.units address }
+{
+    information.programs().located(address)
 }
 
 impl<'r, 'a> Resolved<'r, 'a> {
@@ -59,19 +67,17 @@ impl<'r, 'a> Resolved<'r, 'a> {
         alloc: Global,
         information: &'r Information<'a>,
         subprograms: &Subprograms<'r, 'a>,
-        programs: &ProgramTable<'r, 'a>,
         address: u32,
     ) -> Result<Self, NoMemory>
-        requires subprograms { subprograms.now ≡ information.now.units }
-        requires programs { programs.now ≡ information.now.programs }
+        requires { subprograms.now ≡ information.now.units }
         ensures { IfOk result (λ x. x ≡ resolved_at information.now address) }
     {
-        let found = subprograms.find(alloc, &information.sections, address)?;
+        let found = subprograms.find(alloc, information.sections(), address)?;
         Ok(Resolved {
             address,
             name: name_within(information, &found.subprogram),
             inlined: found.inlined,
-            located: programs.located(address),
+            located: row_at(information, address),
         })
     }
 }
@@ -82,7 +88,6 @@ impl<'r, 'a> Resolved<'r, 'a> {
 pub struct Symbolizer<'r, 'a> {
     information: &'r Information<'a>,
     subprograms: Subprograms<'r, 'a>,
-    programs: ProgramTable<'r, 'a>,
     known: BTreeMap<u32, Resolved<'r, 'a>>,
 }
 
@@ -90,15 +95,15 @@ impl<'r, 'a> Model for Symbolizer<'r, 'a> {
     ghost use Rattle.std.specs.Prelude.{◌≡◌, ℕ, IfSome};
     ghost use Rattle.std.specs.Ordering.{nat_cmp};
     ghost use Rattle.std.specs.BTreeMap.{get};
-    ghost use Rattle.debug_frames.specs.declared.information.Information.{Information};
+    ghost use Rattle.debug_frames.specs.Information.{SourceInformation};
+    ghost use Rattle.debug_frames.specs.calls.Kept.{programs_of};
     ghost use Rattle.debug_frames.specs.inner.Resolving.{resolved_at};
 
-    ghost Value = { Information };
+    ghost Value = { SourceInformation };
 
     ghost view = { λ s. s.information.now };
 
     ghost invariant = { λ s. (s.subprograms ≡ s.information.now.units)
-        × (s.programs ≡ s.information.now.programs)
         × ((q : ℕ) → IfSome (get nat_cmp s.known q) (λ x. x ≡ resolved_at s.information.now q)) };
 }
 
@@ -107,12 +112,10 @@ impl<'r, 'a> Symbolizer<'r, 'a> {
     pub fn new(alloc: Global, information: &'r Information<'a>) -> Result<Self, NoMemory>
         ensures { IfOk result (λ s. s ≡ information.now) }
     {
-        let subprograms = Subprograms::of(alloc, information.units.as_slice())?;
-        let programs = ProgramTable::of(alloc, &information.programs)?;
+        let subprograms = Subprograms::of(alloc, information.units().as_slice())?;
         Ok(Symbolizer {
             information,
             subprograms,
-            programs,
             known: BTreeMap::new(alloc),
         })
     }
@@ -127,13 +130,7 @@ impl<'r, 'a> Symbolizer<'r, 'a> {
     pub(crate) fn resolve(&self, alloc: Global, address: u32) -> Result<Resolved<'r, 'a>, NoMemory>
         ensures { IfOk result (λ x. x ≡ resolved_at self.now address) }
     {
-        Resolved::of(
-            alloc,
-            self.information,
-            &self.subprograms,
-            &self.programs,
-            address,
-        )
+        Resolved::of(alloc, self.information, &self.subprograms, address)
     }
 
     /// What is known of an address, where it was asked for before.

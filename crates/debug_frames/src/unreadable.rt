@@ -1,10 +1,12 @@
 //! The lines on what could not be read.
 
 ghost use Rattle.std.specs.Prelude.{◌≡◌, ◌++◌, OnOk, option_copied};
+ghost use Rattle.debug_frames.specs.Programs.{named};
 ghost use Rattle.debug_frames.specs.Unreadable as definitions;
+ghost use Rattle.debug_frames.specs.calls.Kept.{IsKept};
 
 use crate::information::Information;
-use crate::programs::{Program, Programs, named};
+use crate::programs::{Program, named};
 use causes::NoMemory;
 use commands::push_number;
 use dwarf_info::UnitAnswer;
@@ -21,29 +23,36 @@ fn push_line(out: &mut Text, section: &str, at: u64) -> Result<(), NoMemory>
 }
 
 /// Adds the line on a line program that a unit names.
-fn push_program(out: &mut Text, programs: &Programs<'_>, at: Option<u32>) -> Result<(), NoMemory>
-    ensures { OnOk result (out.new ≡ out.old ++ definitions.named_line programs.now at) }
+fn push_program(
+    out: &mut Text,
+    information: &Information<'_>,
+    at: Option<u32>,
+) -> Result<(), NoMemory>
+    requires { IsKept information.now.sections information.now.units at }
+    ensures { OnOk result (out.new
+        ≡ out.old ++ definitions.named_line information.now.sections at) }
 {
     let Some(at) = at else {
         return Ok(());
     };
-    match programs.get(at) {
-        Some(Program::Unreadable) => push_line(out, ".debug_line", u64::from(at)),
-        Some(Program::Read(_)) => Ok(()),
-        None => Ok(()),
+    match information.program(at) {
+        Program::Unreadable => push_line(out, ".debug_line", u64::from(at)),
+        Program::Read(_) => Ok(()),
     }
 }
 
 fn push_unit(
     out: &mut Text,
-    programs: &Programs<'_>,
+    information: &Information<'_>,
     answer: &UnitAnswer<'_>,
 ) -> Result<(), NoMemory>
-    ensures { OnOk result (out.new ≡ out.old ++ definitions.unit_line programs.now answer.now) }
+    requires { IsKept information.now.sections information.now.units (named answer.now) }
+    ensures { OnOk result (out.new
+        ≡ out.old ++ definitions.unit_line information.now.sections answer.now) }
 {
     match answer {
         UnitAnswer::Unreadable { section, at } => push_line(out, section.as_str(), *at as u64),
-        UnitAnswer::Tree(_) => push_program(out, programs, named(answer)),
+        UnitAnswer::Tree(_) => push_program(out, information, named(answer)),
     }
 }
 
@@ -53,8 +62,8 @@ fn push_unit(
 pub fn push_unreadable(out: &mut Text, information: &Information<'_>) -> Result<(), NoMemory>
     ensures { OnOk result (out.new ≡ out.old ++ definitions.unreadable_text information.now) }
 {
-    for answer in information.units.as_slice() {
-        push_unit(out, &information.programs, answer)?;
+    for answer in information.units().as_slice() {
+        push_unit(out, information, answer)?;
     }
     Ok(())
 }

@@ -1,6 +1,5 @@
 pub mod Locals
 pub mod Small
-pub mod Operands
 pub mod VariableLines
 pub mod ListingLines
 pub mod Rows

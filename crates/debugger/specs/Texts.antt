@@ -8,9 +8,7 @@ use Rattle.wasm_syntax.specs.Module.{type_at}
 use Rattle.wasm_syntax.specs.Sizes.{local_count}
 use Rattle.wasm_validate.specs.Heights.{body_of}
 use Rattle.dump_format.specs.declared.dump.Frame.{Frame}
-use Rattle.dump_match.specs.States.{StateOperandCount}
 use Rattle.debugger.specs.Listings.{listing, recorded_or}
-use Rattle.debugger.specs.Recorded.{recorded_globals, recorded_memory}
 use Rattle.debugger.specs.Examined.{examined_text}
 use Rattle.debug_frames.specs.Frames.{frame_text}
 use Rattle.debug_frames.specs.Unreadable.{unreadable_text}
@@ -24,7 +22,7 @@ no_frame n = codes "no frame " ++ decimal n ++ codes "\n"
 
 -- the lines of each frame, behind those on what could not be read
 unfoldable pub backtrace_text : Subject → List ℕ
-backtrace_text s = unreadable_text s.information ++ numbered (frame_text s.information s.module_) 0 s.dump.frames
+backtrace_text s = unreadable_text s.information ++ numbered (frame_text s.information s.module_) 0 s.frames
 
 abbrev pub frame_or_none : Subject → ℕ → Option Frame → List ℕ
 frame_or_none s n None = no_frame n
@@ -32,7 +30,7 @@ frame_or_none s n (Some f) = frame_text s.information s.module_ n f
 
 -- the lines of the frame of a number
 unfoldable pub frame_text_at : Subject → ℕ → List ℕ
-frame_text_at s n = frame_or_none s n (slice_get s.dump.frames n)
+frame_text_at s n = frame_or_none s n (slice_get s.frames n)
 
 -- ---- recorded values; a list that is not recorded is one of so many missing values
 
@@ -47,14 +45,14 @@ frame_locals m f = count_of (type_at m f.function) (body_of m f.function)
 unfoldable pub locals_text : Subject → Frame → List ℕ
 locals_text s f = listing (codes "local") (recorded_or (frame_locals s.module_ f) f.locals)
 
--- the operands of the frame of an index, of which so many are shown by the module; at an `else` or `end` those that are recorded
-unfoldable pub IsOperandsText : Subject → ℕ → Frame → List ℕ → Type 0
-IsOperandsText s i f text = (n : ℕ) × StateOperandCount s.module_ i f n × (text ≡ listing (codes "operand") (recorded_or n f.operands))
+-- where so many are shown
+unfoldable pub operands_text : ℕ → Frame → List ℕ
+operands_text n f = listing (codes "operand") (recorded_or n f.operands)
 
 unfoldable pub globals_text : Subject → List ℕ
-globals_text s = listing (codes "global") (recorded_or (length s.module_.globals) (recorded_globals s.dump))
+globals_text s = listing (codes "global") (recorded_or (length s.module_.globals) s.globals)
 
 -- ---- memory
 
 unfoldable pub memory_text : Subject → ℕ → ℕ → List ℕ
-memory_text s at n = examined_text (recorded_memory s.dump) at n
+memory_text s at n = examined_text s.memory at n

@@ -5,6 +5,7 @@ ghost use Rattle.debugger.specs.Texts as texts;
 ghost use Rattle.debugger.specs.Variables as variables;
 ghost use Rattle.debugger.specs.Session as definitions;
 
+use crate::view::{Chosen, looks_of, view_of};
 use crate::{
     Command, Information, Subject, push_backtrace, push_frame_at, push_globals, push_locals,
     push_memory, push_no_frame, push_operands, push_path, push_unread, push_variables, second_word,
@@ -17,9 +18,9 @@ use var_path::{Path, parse_path};
 
 /// The frame of an index.
 fn frame_at<'s>(subject: &'s Subject<'_, '_, '_, '_>, index: u32) -> Option<&'s Frame>
-    ensures { option_copied result ≡ slice_get subject.now.dump.frames index }
+    ensures { option_copied result ≡ slice_get subject.now.frames index }
 {
-    subject.dump().frames.get(index as usize)
+    subject.frames().get(index as usize)
 }
 
 /// Adds the locals of the chosen frame.
@@ -37,42 +38,79 @@ fn push_chosen_locals(
     }
 }
 
+/// Adds the operands of the chosen frame.
+fn push_chosen_operands(
+    out: &mut Text,
+    subject: &Subject<'_, '_, '_, '_>,
+    chosen: Chosen,
+) -> Result<(), NoMemory>
+    ensures { OnOk result (out.new ≡ out.old
+        ++ definitions.of_chosen subject.now chosen.index (texts.operands_text chosen.operands)) }
+{
+    match frame_at(subject, chosen.index) {
+        Some(frame) => push_operands(out, frame, chosen.operands),
+        None => push_no_frame(out, 0),
+    }
+}
+
+/// Adds the variables that are visible in a frame, which is the chosen one.
+#[tactic(auto, unfolding(crate::specs::Variables::variables_text))]
+fn push_frame_variables(
+    out: &mut Text,
+    alloc: Global,
+    information: &Information<'_>,
+    subject: &Subject<'_, '_, '_, '_>,
+    chosen: Chosen,
+    frame: &Frame,
+) -> Result<(), NoMemory>
+    requires { information.now ≡ subject.now.information }
+    ensures { OnOk result (out.new ≡ out.old ++ variables.variables_text subject.now
+        (variables.left_in chosen.index chosen.operands) frame.now) }
+{
+    let view = view_of(subject, frame);
+    let looks = looks_of(alloc, information, subject, frame, chosen, &view)?;
+    push_variables(out, alloc, &looks)
+}
+
 /// Adds the variables that are visible in the chosen frame.
 fn push_chosen_variables(
     out: &mut Text,
     alloc: Global,
     information: &Information<'_>,
     subject: &Subject<'_, '_, '_, '_>,
-    chosen: u32,
+    chosen: Chosen,
 ) -> Result<(), NoMemory>
     requires { information.now ≡ subject.now.information }
-    ensures { OnOk result (out.new ≡ out.old
-        ++ definitions.of_chosen subject.now chosen (variables.variables_text subject.now)) }
+    ensures { OnOk result (out.new ≡ out.old ++ definitions.of_chosen subject.now chosen.index
+        (variables.variables_text subject.now
+        (variables.left_in chosen.index chosen.operands))) }
 {
-    match frame_at(subject, chosen) {
-        Some(frame) => push_variables(out, alloc, information, subject, frame),
+    match frame_at(subject, chosen.index) {
+        Some(frame) => push_frame_variables(out, alloc, information, subject, chosen, frame),
         None => push_no_frame(out, 0),
     }
 }
 
-/// Adds what stands at a path in the chosen frame.
-fn push_chosen_path(
-    out: &mut Text,
+/// The line of what stands at a path in a frame, which is the chosen one.
+#[tactic(auto, unfolding(crate::specs::Variables::path_text))]
+fn path_line(
     alloc: Global,
     information: &Information<'_>,
     subject: &Subject<'_, '_, '_, '_>,
-    chosen: u32,
+    chosen: Chosen,
+    frame: &Frame,
     word: &str,
     path: &Path<'_>,
-) -> Result<(), NoMemory>
+) -> Answer
     requires { information.now ≡ subject.now.information }
-    ensures { OnOk result (out.new ≡ out.old ++ definitions.of_chosen subject.now chosen
-        (λ f. variables.path_text subject.now f word.now path.now)) }
+    ensures { IfOk result (λ text. text ≡ variables.path_text subject.now
+        (variables.left_in chosen.index chosen.operands) word.now path.now frame.now) }
 {
-    match frame_at(subject, chosen) {
-        Some(frame) => push_path(out, alloc, information, subject, frame, word, path),
-        None => push_no_frame(out, 0),
-    }
+    let view = view_of(subject, frame);
+    let looks = looks_of(alloc, information, subject, frame, chosen, &view)?;
+    let mut out = Text::new(alloc);
+    push_path(&mut out, alloc, &looks, word, path)?;
+    Ok(out)
 }
 
 /// What a command prints.
@@ -134,17 +172,12 @@ fn locals(alloc: Global, subject: &Subject<'_, '_, '_, '_>, chosen: u32) -> Answ
     Ok(out)
 }
 
-fn frame_operands(
-    alloc: Global,
-    subject: &Subject<'_, '_, '_, '_>,
-    index: u32,
-    frame: &Frame,
-) -> Answer
-    requires { slice_get subject.now.dump.frames index ≡ Some frame.now }
-    ensures { IfOk result (texts.IsOperandsText subject.now index frame.now) }
+fn operands(alloc: Global, subject: &Subject<'_, '_, '_, '_>, chosen: Chosen) -> Answer
+    ensures { IfOk result (λ text. text ≡ definitions.of_chosen subject.now chosen.index
+        (texts.operands_text chosen.operands)) }
 {
     let mut out = Text::new(alloc);
-    push_operands(&mut out, subject, index, frame)?;
+    push_chosen_operands(&mut out, subject, chosen)?;
     Ok(out)
 }
 
@@ -154,16 +187,6 @@ fn no_frame(alloc: Global) -> Answer
     let mut out = Text::new(alloc);
     push_no_frame(&mut out, 0)?;
     Ok(out)
-}
-
-fn operands(alloc: Global, subject: &Subject<'_, '_, '_, '_>, chosen: u32) -> Answer
-    ensures { IfOk result (definitions.AreOperands subject.now chosen
-        (slice_get subject.now.dump.frames chosen)) }
-{
-    match frame_at(subject, chosen) {
-        Some(frame) => frame_operands(alloc, subject, chosen, frame),
-        None => no_frame(alloc),
-    }
 }
 
 fn globals(alloc: Global, subject: &Subject<'_, '_, '_, '_>) -> Answer
@@ -179,10 +202,11 @@ fn variables_by(
     alloc: Global,
     information: &Information<'_>,
     subject: &Subject<'_, '_, '_, '_>,
-    chosen: u32,
+    chosen: Chosen,
 ) -> Answer
     requires { information.now ≡ subject.now.information }
-    ensures { IfOk result (λ text. text ≡ definitions.chosen_variables subject.now chosen) }
+    ensures { IfOk result (λ text. text
+        ≡ definitions.chosen_variables subject.now chosen.index chosen.operands) }
 {
     let mut out = Text::new(alloc);
     push_unread(&mut out, information, subject)?;
@@ -190,8 +214,9 @@ fn variables_by(
     Ok(out)
 }
 
-fn variables(alloc: Global, subject: &mut Subject<'_, '_, '_, '_>, chosen: u32) -> Answer
-    ensures text { IfOk result (λ text. text ≡ definitions.chosen_variables subject.old chosen) }
+fn variables(alloc: Global, subject: &mut Subject<'_, '_, '_, '_>, chosen: Chosen) -> Answer
+    ensures text { IfOk result (λ text. text
+        ≡ definitions.chosen_variables subject.old chosen.index chosen.operands) }
     ensures same { subject.new ≡ subject.old }
 {
     let information = subject.take_information(alloc)?;
@@ -204,28 +229,29 @@ fn at_path_by(
     alloc: Global,
     information: &Information<'_>,
     subject: &Subject<'_, '_, '_, '_>,
-    chosen: u32,
+    chosen: Chosen,
     word: &str,
     path: &Path<'_>,
 ) -> Answer
     requires { information.now ≡ subject.now.information }
-    ensures { IfOk result (λ text. text
-        ≡ definitions.chosen_path subject.now chosen word.now (Some path.now)) }
+    ensures { IfOk result (λ text. text ≡ definitions.chosen_path subject.now chosen.index
+        chosen.operands word.now (Some path.now)) }
 {
-    let mut out = Text::new(alloc);
-    push_chosen_path(&mut out, alloc, information, subject, chosen, word, path)?;
-    Ok(out)
+    match frame_at(subject, chosen.index) {
+        Some(frame) => path_line(alloc, information, subject, chosen, frame, word, path),
+        None => no_frame(alloc),
+    }
 }
 
 fn at_path(
     alloc: Global,
     subject: &mut Subject<'_, '_, '_, '_>,
-    chosen: u32,
+    chosen: Chosen,
     word: &str,
     path: &Path<'_>,
 ) -> Answer
-    ensures text { IfOk result (λ text. text
-        ≡ definitions.chosen_path subject.old chosen word.now (Some path.now)) }
+    ensures text { IfOk result (λ text. text ≡ definitions.chosen_path subject.old chosen.index
+        chosen.operands word.now (Some path.now)) }
     ensures same { subject.new ≡ subject.old }
 {
     let information = subject.take_information(alloc)?;
@@ -234,9 +260,14 @@ fn at_path(
     answer
 }
 
-fn at_word(alloc: Global, subject: &mut Subject<'_, '_, '_, '_>, chosen: u32, word: &str) -> Answer
+fn at_word(
+    alloc: Global,
+    subject: &mut Subject<'_, '_, '_, '_>,
+    chosen: Chosen,
+    word: &str,
+) -> Answer
     ensures text { IfOk result (λ text. text
-        ≡ definitions.word_text subject.old chosen word.now) }
+        ≡ definitions.word_text subject.old chosen.index chosen.operands word.now) }
     ensures same { subject.new ≡ subject.old }
 {
     match parse_path(alloc, word)? {
@@ -260,21 +291,33 @@ fn bad(alloc: Global) -> Answer
     Text::from_str(alloc, "bad command\n")
 }
 
-/// What a command prints where a frame is chosen.
-pub fn answer(
+/// How many operands the frame of an index shows; none where there is no such frame.
+fn shown_at(subject: &Subject<'_, '_, '_, '_>, index: u32) -> u32
+    ensures { definitions.Shows subject.now index (slice_get subject.now.frames index) result }
+{
+    if (index as usize) < subject.frames().len() {
+        subject.operand_count(index)
+    } else {
+        0
+    }
+}
+
+/// What a command prints where a frame is chosen, which shows so many operands.
+fn printed(
     alloc: Global,
     subject: &mut Subject<'_, '_, '_, '_>,
-    chosen: u32,
+    chosen: Chosen,
     given: &str,
     command: Command,
 ) -> Answer
-    ensures prints { IfOk result (definitions.Prints subject.old chosen given.now command) }
+    ensures text { IfOk result (λ text. text ≡ definitions.printed subject.old chosen.index
+        chosen.operands given.now command) }
     ensures same { subject.new ≡ subject.old }
 {
     match command {
         Command::Backtrace => backtrace(alloc, subject),
         Command::Frame { number } => one_frame(alloc, subject, number),
-        Command::Locals => locals(alloc, subject, chosen),
+        Command::Locals => locals(alloc, subject, chosen.index),
         Command::Operands => operands(alloc, subject, chosen),
         Command::Globals => globals(alloc, subject),
         Command::Variables => variables(alloc, subject, chosen),
@@ -282,4 +325,19 @@ pub fn answer(
         Command::Examine { address, count } => memory(alloc, subject, address, count),
         Command::Bad => bad(alloc),
     }
+}
+
+/// What a command prints where the frame of an index is chosen.
+pub fn answer(
+    alloc: Global,
+    subject: &mut Subject<'_, '_, '_, '_>,
+    index: u32,
+    given: &str,
+    command: Command,
+) -> Answer
+    ensures prints { IfOk result (definitions.Prints subject.old index given.now command) }
+    ensures same { subject.new ≡ subject.old }
+{
+    let operands = shown_at(subject, index);
+    printed(alloc, subject, Chosen { index, operands }, given, command)
 }

@@ -1,13 +1,10 @@
 //! What stands at a path in a frame.
 
 ghost use Rattle.std.specs.Prelude.{◌≡◌, ◌++◌, OnOk};
+ghost use Rattle.var_eval.specs.PathShown.{path_shown};
 ghost use Rattle.debugger.specs.Variables as definitions;
 
-use crate::Subject;
-use crate::view::view_of;
 use causes::NoMemory;
-use debug_frames::{Information, address_of};
-use dump_format::Frame;
 use pm_text::Text;
 use std::alloc::Global;
 use var_eval::{Frame as Looks, Shown, value_of};
@@ -44,29 +41,16 @@ fn push_shown(out: &mut Text, name: &[u8], word: &str, shown: &Shown) -> Result<
 }
 
 /// Adds the line of what stands at a path, which this word spells, in a frame.
-#[tactic(auto, unfolding(crate::specs::Variables::path_text))]
 pub fn push_path(
     out: &mut Text,
     alloc: Global,
-    information: &Information<'_>,
-    subject: &Subject<'_, '_, '_, '_>,
-    frame: &Frame,
+    looks: &Looks<'_, '_, '_, '_, '_>,
     word: &str,
     path: &Path<'_>,
 ) -> Result<(), NoMemory>
-    requires { information.now ≡ subject.now.information }
     ensures { OnOk result (out.new
-        ≡ out.old ++ definitions.path_text subject.now frame.now word.now path.now) }
+        ≡ out.old ++ definitions.shown_line path.now.name word.now (path_shown looks.now path.now)) }
 {
-    let view = view_of(subject, frame);
-    let address = address_of(subject.parts(), frame);
-    let looks = Looks::new(
-        alloc,
-        &information.sections,
-        &information.units,
-        address,
-        &view,
-    )?;
-    let shown = value_of(alloc, &looks, path)?;
+    let shown = value_of(alloc, looks, path)?;
     push_shown(out, path.name.as_slice(), word, &shown)
 }

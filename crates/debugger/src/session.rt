@@ -2,7 +2,7 @@
 
 ghost use Rattle.std.specs.Prelude.{◌≡◌, IfOk, IfSome, None, slice_get};
 ghost use Rattle.debug_frames.specs.Information.{information};
-ghost use Rattle.debugger.specs.Subject.{subject_of, Spells};
+ghost use Rattle.debugger.specs.Subject.{subject_of, subject_on, Spells};
 ghost use Rattle.debugger.specs.Session.{chosen_of, chosen_behind};
 ghost use Rattle.debugger.specs.calls.Sitting.{sitting, Answers};
 
@@ -41,9 +41,9 @@ fn chosen_behind(subject: &Subject<'_, '_, '_, '_>, chosen: u32, command: Comman
 
 /// The frame of a number, where it is there, else the one that was chosen.
 fn chosen_of(subject: &Subject<'_, '_, '_, '_>, chosen: u32, number: u64) -> u32
-    ensures { result ≡ chosen_of chosen number (slice_get subject.now.dump.frames number) }
+    ensures { result ≡ chosen_of chosen number (slice_get subject.now.frames number) }
 {
-    if number < subject.dump().frames.len() as u64 {
+    if number < subject.frames().len() as u64 {
         number as u32
     } else {
         chosen
@@ -62,11 +62,9 @@ impl<'a, 'm, 'd, 'b> Session<'a, 'm, 'd, 'b> {
     ) -> Result<Self, NoMemory>
         requires spells { Spells bytes.now matched.module_ }
         requires known { IfSome known (λ x. x ≡ information bytes.now matched.module_.customs) }
-        ensures { IfOk result (λ s. s ≡ sitting (record {
-          information = information bytes.now matched.entry.module_.customs;
-          module_ = matched.entry.module_;
-          dump = matched.entry.dump;
-        }) chosen) }
+        ensures { IfOk result (λ s. s ≡ sitting (subject_on
+            (information bytes.now matched.entry.module_.customs)
+            matched.entry.module_ matched.entry.dump) chosen) }
     {
         let subject = Subject::new(alloc, bytes, known, matched)?;
         Ok(Session { subject, chosen })

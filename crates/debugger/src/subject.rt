@@ -7,12 +7,12 @@ ghost use Rattle.dwarf_info.specs.Sections.{greatest_section};
 ghost use Rattle.dump_match.specs.States.{StateOperandCount};
 ghost use Rattle.debugger.specs.Recorded as recorded;
 ghost use Rattle.debug_frames.specs.Information.{information};
-ghost use Rattle.debugger.specs.Subject.{Spells};
+ghost use Rattle.debugger.specs.Subject.{Spells, subject_on};
 
 use crate::{recorded_globals, recorded_memory};
 use causes::NoMemory;
 use debug_frames::Information;
-use dump_format::Dump;
+use dump_format::Frame;
 use dump_match::StateMatched;
 use linear_memory::Memory;
 use pm_text::Items;
@@ -22,8 +22,8 @@ use wasm_syntax::{ModuleParts, Seen};
 use wasm_validate::Validated;
 
 /// What the bytes of a module say, which is read when it is first asked for, the module, and a dump
-/// that can show a state of it, with the globals and the memory that it records. Contracts see the
-/// first three.
+/// that can show a state of it, with the globals and the memory that it records. Contracts see of the
+/// dump what it records.
 #[derive(Drop)]
 pub struct Subject<'a, 'm, 'd, 'b> {
     bytes: &'a [u8],
@@ -37,15 +37,12 @@ impl<'a, 'm, 'd, 'b> Model for Subject<'a, 'm, 'd, 'b> {
     ghost use Rattle.std.specs.Prelude.{◌≡◌, IfSome, option_map};
     ghost use Rattle.debug_frames.specs.Information.{information};
     ghost use Rattle.debugger.specs.Recorded.{recorded_globals, recorded_memory};
-    ghost use Rattle.debugger.specs.Subject.{Subject, Spells};
+    ghost use Rattle.debugger.specs.Subject.{Subject, Spells, subject_on};
 
     ghost Value = { Subject };
 
-    ghost view = { λ s. record {
-      information = information s.bytes.now s.matched.module_.customs;
-      module_ = s.matched.module_;
-      dump = s.matched.dump;
-    } };
+    ghost view = { λ s. subject_on (information s.bytes.now s.matched.module_.customs)
+        s.matched.module_ s.matched.dump };
 
     ghost invariant = { λ s. Spells s.bytes.now s.matched.module_
         × IfSome s.known (λ x. x ≡ information s.bytes.now s.matched.module_.customs)
@@ -90,11 +87,9 @@ impl<'a, 'm, 'd, 'b> Subject<'a, 'm, 'd, 'b> {
     ) -> Result<Self, NoMemory>
         requires spells { Spells bytes.now matched.module_ }
         requires known { IfSome known (λ x. x ≡ information bytes.now matched.module_.customs) }
-        ensures { IfOk result (λ s. s ≡ record {
-          information = information bytes.now matched.entry.module_.customs;
-          module_ = matched.entry.module_;
-          dump = matched.entry.dump;
-        }) }
+        ensures { IfOk result (λ s. s ≡ subject_on
+            (information bytes.now matched.entry.module_.customs)
+            matched.entry.module_ matched.entry.dump) }
     {
         let globals = globals_of(alloc, &matched)?;
         let memory = memory_of(alloc, &matched)?;
@@ -143,23 +138,24 @@ impl<'a, 'm, 'd, 'b> Subject<'a, 'm, 'd, 'b> {
         self.matched.module().module().parts()
     }
 
-    pub fn dump(&self) -> &Dump<'b>
-        ensures value { result.now ≡ self.now.dump }
-        ensures frames { length result.now.frames < 2 ^ 32 }
+    /// The recorded frames, the innermost first.
+    pub fn frames(&self) -> &[Frame]
+        ensures value { result.now ≡ self.now.frames }
+        ensures few { length result.now < 2 ^ 32 }
     {
-        self.matched.dump()
+        self.matched.dump().frames.as_slice()
     }
 
     /// The recorded globals.
     pub fn globals(&self) -> &[Seen]
-        ensures { result.now ≡ recorded.recorded_globals self.now.dump }
+        ensures { result.now ≡ self.now.globals }
     {
         self.globals.as_slice()
     }
 
     /// The recorded memory.
     pub fn memory(&self) -> Option<&Memory>
-        ensures { option_map (λ m. m.now.memory) result ≡ recorded.recorded_memory self.now.dump }
+        ensures { option_map (λ m. m.now.memory) result ≡ self.now.memory }
     {
         match &self.memory {
             Some(memory) => Some(memory),
@@ -169,8 +165,8 @@ impl<'a, 'm, 'd, 'b> Subject<'a, 'm, 'd, 'b> {
 
     /// How many operands the frame of an index shows, also where they are not recorded.
     pub fn operand_count(&self, index: u32) -> u32
-        requires { index < length self.now.dump.frames }
-        ensures { There self.now.dump.frames index
+        requires { index < length self.now.frames }
+        ensures { There self.now.frames index
             (λ f. StateOperandCount self.now.module_ index f result) }
     {
         self.matched.operand_count(index)

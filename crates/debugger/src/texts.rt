@@ -84,13 +84,7 @@ pub fn push_backtrace(
     ensures { OnOk result (out.new ≡ out.old ++ definitions.backtrace_text subject.now) }
 {
     push_unread(out, information, subject)?;
-    push_frames(
-        out,
-        alloc,
-        information,
-        subject,
-        subject.dump().frames.as_slice(),
-    )
+    push_frames(out, alloc, information, subject, subject.frames())
 }
 
 /// Adds the lines of the frame of a number, or that there is none.
@@ -105,7 +99,7 @@ pub fn push_frame_at(
     requires { information.now ≡ subject.now.information }
     ensures { OnOk result (out.new ≡ out.old ++ definitions.frame_text_at subject.now number) }
 {
-    match subject.dump().frames.get(number as usize) {
+    match subject.frames().get(number as usize) {
         Some(frame) => {
             let mut symbolizer = Symbolizer::new(alloc, information)?;
             push_one(out, alloc, &mut symbolizer, subject, number, frame)
@@ -127,18 +121,11 @@ pub fn push_locals(
     push_listing(out, "local", frame.locals.as_slice(), count)
 }
 
-/// Adds the operands of the frame of an index, the bottom one first.
-pub fn push_operands(
-    out: &mut Text,
-    subject: &Subject<'_, '_, '_, '_>,
-    index: u32,
-    frame: &Frame,
-) -> Result<(), NoMemory>
-    requires { slice_get subject.now.dump.frames index ≡ Some frame.now }
-    ensures { OnOk result ((text : List ℕ) × (out.new ≡ out.old ++ text)
-        × definitions.IsOperandsText subject.now index frame.now text) }
+/// Adds the operands of a frame, of which so many are shown, the bottom one first.
+#[tactic(auto, unfolding(crate::specs::Texts::operands_text))]
+pub fn push_operands(out: &mut Text, frame: &Frame, count: u32) -> Result<(), NoMemory>
+    ensures { OnOk result (out.new ≡ out.old ++ definitions.operands_text count frame.now) }
 {
-    let count = subject.operand_count(index);
     push_listing(out, "operand", frame.operands.as_slice(), count)
 }
 

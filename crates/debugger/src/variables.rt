@@ -3,11 +3,7 @@
 ghost use Rattle.std.specs.Prelude.{◌≡◌, ◌++◌, flat_map, OnOk};
 ghost use Rattle.debugger.specs.Variables as definitions;
 
-use crate::Subject;
-use crate::view::view_of;
 use causes::NoMemory;
-use debug_frames::{Information, address_of};
-use dump_format::Frame;
 use dwarf_entries::{Standing, name_or_empty};
 use dwarf_scopes::variables_at;
 use pm_text::Text;
@@ -25,7 +21,7 @@ fn push_line<'r, 'a>(
     ensures { OnOk result (out.new ≡ out.old ++ definitions.variable_line looks.now variable.now) }
 {
     let units = looks.units();
-    out.push_plain(name_or_empty(units, variable.entry().attributes.as_slice()))?;
+    out.push_plain(name_or_empty(units, &variable.entry().attributes))?;
     out.push_str(" = ")?;
     push_variable(alloc, out, looks, variable)?;
     out.push_str("\n")
@@ -62,8 +58,8 @@ fn push_lines_or_none<'r, 'a>(
     push_lines(out, alloc, looks, variables)
 }
 
-/// Adds what is visible where a frame stands.
-fn push_visible(
+/// Adds a line for each variable that is visible where a frame stands, or that there are none.
+pub fn push_variables(
     out: &mut Text,
     alloc: Global,
     looks: &Looks<'_, '_, '_, '_, '_>,
@@ -73,28 +69,4 @@ fn push_visible(
     let units = looks.units();
     let variables = variables_at(alloc, looks.sections(), units.as_slice(), looks.address())?;
     push_lines_or_none(out, alloc, looks, variables.as_slice())
-}
-
-/// Adds a line for each variable that is visible in a frame, or that there are none.
-#[tactic(auto, unfolding(crate::specs::Variables::variables_text))]
-pub fn push_variables(
-    out: &mut Text,
-    alloc: Global,
-    information: &Information<'_>,
-    subject: &Subject<'_, '_, '_, '_>,
-    frame: &Frame,
-) -> Result<(), NoMemory>
-    requires { information.now ≡ subject.now.information }
-    ensures { OnOk result (out.new ≡ out.old ++ definitions.variables_text subject.now frame.now) }
-{
-    let view = view_of(subject, frame);
-    let address = address_of(subject.parts(), frame);
-    let looks = Looks::new(
-        alloc,
-        &information.sections,
-        &information.units,
-        address,
-        &view,
-    )?;
-    push_visible(out, alloc, &looks)
 }

@@ -2,19 +2,19 @@
 //! (DWARF 5 section 7.5.3).
 
 ghost use Rattle.std.specs.Prelude.{◌≡◌, IfOk, OnOk};
-ghost use Rattle.wasm_bytes.specs.Place.{Stays};
-ghost use Rattle.wasm_bytes.specs.Reading.{◌▷◌, u64_item};
-ghost use Rattle.wasm_bytes.specs.calls.Answers.{Gives, Reads};
-ghost use Rattle.dwarf_bytes.specs.Items.{read_at};
-ghost use Rattle.dwarf_abbrev.specs.Reading.{pair_item, behind_code};
+ghost use Rattle.wasm_bytes.specs.Place.{Moves, Stays};
+ghost use Rattle.wasm_bytes.specs.calls.Answers.{Reads};
+ghost use Rattle.dwarf_abbrev.specs.Reading.{pair_item};
 ghost use Rattle.dwarf_info.specs.Forms.{form_of};
 ghost use Rattle.dwarf5_info.specs.Forms5.{forms5};
-ghost use Rattle.dwarf5_info.specs.Version5.{slot5_item, shape5, shapes5_item};
+ghost use Rattle.dwarf_info.specs.calls.Keeping.{FirstRow};
+ghost use Rattle.dwarf5_info.specs.Version5.{slot5_item, shape5};
+ghost use Rattle.dwarf5_info.specs.calls.Rows5.{rows5};
 
 use crate::forms::form5;
 use causes::NoMemory;
 use dwarf_abbrev::{Pair, Row, read_row};
-use dwarf_bytes::{Ended, ended_items};
+use dwarf_bytes::Ended;
 use dwarf_info::{Form, Shape, SizedForm, Slot, Slots};
 use pm_text::Items;
 use std::alloc::Global;
@@ -115,14 +115,6 @@ impl<'a> Row<'a> for TableShape {
     }
 }
 
-impl<'a> Ended<'a> for TableShape {
-    ghost item = { u64_item ▷ behind_code shape5 (pair_item slot5_item) };
-
-    fn read(alloc: Global, reader: &mut Reader<'a>) -> Result<Option<TableShape>, ItemFault> {
-        read_row(alloc, reader)
-    }
-}
-
 fn slot(slot: &TableSlot) -> Slot
     ensures { result ≡ slot.now }
 {
@@ -135,7 +127,7 @@ fn slot(slot: &TableSlot) -> Slot
     }
 }
 
-fn slots(alloc: Global, rows: &[TableSlot]) -> Result<Slots, NoMemory>
+fn slots(alloc: Global, rows: &[TableSlot]) -> Result<Items<Slot>, NoMemory>
     ensures { IfOk result (λ slots. slots ≡ rows.now) }
 {
     let mut slots = Vec::new(alloc);
@@ -153,39 +145,18 @@ fn shape(alloc: Global, row: &TableShape) -> Result<Shape, NoMemory>
         code: row.code,
         tag: row.tag,
         children: row.children,
-        slots,
+        slots: Slots::new(alloc, slots)?,
     })
 }
 
-fn shapes(alloc: Global, rows: &[TableShape]) -> Result<Items<Shape>, NoMemory>
-    ensures { IfOk result (λ shapes. shapes ≡ rows.now) }
+/// The first row of the table at a place, with the forms of its codes, or None at its end.
+pub fn read_shape<'a>(alloc: Global, reader: &mut Reader<'a>) -> Result<Option<Shape>, ItemFault>
+    ensures item { FirstRow rows5 reader.old result reader.new }
+    ensures moves { OnOk result (Moves reader.old reader.new) }
 {
-    let mut shapes = Vec::new(alloc);
-    for row in rows {
-        shapes.push(shape(alloc, row)?)?;
-    }
-    Ok(Items::from_vec(shapes))
-}
-
-/// The rows of the table at a place, in order.
-#[tactic(auto, unfolding(dwarf_abbrev::specs::Reading::table_item, crate::specs::Version5::shapes5_item))]
-fn read_shapes<'a>(alloc: Global, reader: &mut Reader<'a>) -> Result<Items<TableShape>, ItemFault>
-    ensures item { Gives result reader.new (shapes5_item reader.old) }
-{
-    ended_items(alloc, reader)
-}
-
-/// The table at an offset of a section of abbreviations, with the forms of its codes, if one stands
-/// there.
-pub fn shapes5_at(alloc: Global, section: &[u8], at: u64) -> Result<Option<Items<Shape>>, NoMemory>
-    ensures { IfOk result (λ shapes. shapes ≡ read_at shapes5_item section.now at) }
-{
-    if at > section.len() as u64 {
-        return Ok(None);
-    }
-    match read_shapes(alloc, &mut Reader::starting_at(section, at as usize)) {
-        Ok(rows) => Ok(Some(shapes(alloc, rows.as_slice())?)),
-        Err(ItemFault::At(_)) => Ok(None),
-        Err(ItemFault::NoMemory) => Err(NoMemory),
+    let row: Option<TableShape> = read_row(alloc, reader)?;
+    match row {
+        Some(row) => Ok(Some(shape(alloc, &row)?)),
+        None => Ok(None),
     }
 }

@@ -1,6 +1,6 @@
 //! Tables that are looked up by index (DWARF 5 sections 7.26 to 7.29).
 
-ghost use Rattle.std.specs.Prelude.{◌≡◌, ◌+◌, ◌*◌};
+ghost use Rattle.std.specs.Prelude.{◌≡◌, ◌+◌, ◌*◌, [], option_copied, unwrap_or};
 ghost use Rattle.dwarf_bytes.specs.Items.{number_item, read_at};
 ghost use Rattle.dwarf_info.specs.Sections.{SectionBytes5};
 ghost use Rattle.dwarf5_info.specs.Indices.{table_section, base_of, list_offset, entry_means, index5};
@@ -8,7 +8,7 @@ ghost use Rattle.dwarf5_info.specs.inner.Bases.{base_in, looked_up};
 
 use dwarf_entries::names::{ADDR_BASE, LOCLISTS_BASE, RNGLISTS_BASE, STR_OFFSETS_BASE};
 use dwarf_entries::offset;
-use dwarf_info::{AttrValue, Attribute, IndexTable, PreparedSections, TextSection};
+use dwarf_info::{AttrValue, Attributes, IndexTable, PreparedSections, TextSection};
 use dwarf_loc::AddressTable;
 
 /// Where the tables of a unit begin, as far as its root says. Its indices are looked up by that.
@@ -21,7 +21,7 @@ pub struct Bases {
 }
 
 /// The bases of the tables, which are attributes of the root.
-fn root_bases(root: &[Attribute<'_>]) -> Bases
+fn root_bases(root: &Attributes<'_>) -> Bases
     ensures { base_in result ≡ base_of root.now }
 {
     let texts = offset(root, STR_OFFSETS_BASE);
@@ -33,6 +33,17 @@ fn root_bases(root: &[Attribute<'_>]) -> Bases
         addresses,
         location_lists,
         range_lists,
+    }
+}
+
+fn no_bases() -> Bases
+    ensures { base_in result ≡ base_of [] }
+{
+    Bases {
+        texts: None,
+        addresses: None,
+        location_lists: None,
+        range_lists: None,
     }
 }
 
@@ -95,10 +106,14 @@ fn meaning<'a>(
 
 impl Bases {
     /// Those of a unit whose root has these attributes.
-    pub fn of(root: &[Attribute<'_>]) -> Self
-        ensures { (s : SectionBytes5) → looked_up s result ≡ index5 s root.now }
+    pub fn of(root: Option<&Attributes<'_>>) -> Self
+        ensures { (s : SectionBytes5) → looked_up s result
+            ≡ index5 s (unwrap_or (option_copied root.entry) []) }
     {
-        root_bases(root)
+        match root {
+            Some(root) => root_bases(root),
+            None => no_bases(),
+        }
     }
 
     /// What an index of a table stands for.

@@ -12,7 +12,7 @@ mod version5;
 
 pub use addresses::with_addresses;
 pub use forms::form5;
-pub use lists::{address_table, list_base, location5_at, range5_holds};
+pub use lists::{address_base, address_table, list_base, location5_at, range5_holds};
 pub use read::read_units5;
 pub use units::plain_expr;
 pub use version5::{Five, UpToFive};

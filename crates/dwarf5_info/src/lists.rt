@@ -1,8 +1,9 @@
 //! What the lists of a unit say of an address (DWARF 5 sections 2.6.2 and 2.17.3).
 
-ghost use Rattle.std.specs.Prelude.{ℕ, ◌≡◌, ◌↔◌, List, Ok, Err, is_some};
+ghost use Rattle.std.specs.Prelude.{ℕ, ◌≡◌, ◌↔◌, List, [], Ok, Err, is_some, option_copied, unwrap_or};
 ghost use Rattle.dwarf_bytes.specs.calls.Answers.{found_at};
 ghost use Rattle.dwarf_bytes.specs.declared.faults.ReadFault.TheVariants.{Unreadable};
+ghost use Rattle.dwarf_info.specs.Attributes.{valued, as_offset, addr_base};
 ghost use Rattle.dwarf_info.specs.Entries.{root_attributes};
 ghost use Rattle.dwarf_loc.specs.declared.entry.ListEntry.{ListEntry as Listed};
 ghost use Rattle.dwarf_loc.specs.declared.contents.Span.{Span as SpanOf};
@@ -14,15 +15,15 @@ ghost use Rattle.dwarf5_info.specs.Lists as lists;
 use dwarf_bytes::ReadFault;
 use dwarf_entries::names::{ADDR_BASE, LOW_PC};
 use dwarf_entries::{address, offset};
-use dwarf_info::{Attribute, Sections5, Unit};
+use dwarf_info::{Attributes, Sections5, Unit};
 use dwarf_loc::{AddressTable, Span};
 
-fn root<'r, 'a>(unit: &'r Unit<'a>) -> &'r [Attribute<'a>]
-    ensures { result.now ≡ root_attributes unit.now.entries }
+fn root<'r, 'a>(unit: &'r Unit<'a>) -> Option<&'r Attributes<'a>>
+    ensures { unwrap_or (option_copied result) [] ≡ root_attributes unit.now.entries }
 {
     match unit.entries.as_slice() {
-        [root, ..] => root.attributes.as_slice(),
-        [] => &[],
+        [root, ..] => Some(&root.attributes),
+        [] => None,
     }
 }
 
@@ -30,14 +31,27 @@ fn root<'r, 'a>(unit: &'r Unit<'a>) -> &'r [Attribute<'a>]
 pub fn list_base(unit: &Unit<'_>) -> u32
     ensures { result ≡ lists.list_base unit.now }
 {
-    address(root(unit), LOW_PC).unwrap_or(0)
+    match root(unit) {
+        Some(root) => address(root, LOW_PC).unwrap_or(0),
+        None => 0,
+    }
+}
+
+/// Where the addresses of the indices of a unit begin, if its root says so.
+pub fn address_base(unit: &Unit<'_>) -> Option<u32>
+    ensures { result ≡ valued as_offset addr_base (root_attributes unit.now.entries) }
+{
+    match root(unit) {
+        Some(root) => offset(root, ADDR_BASE),
+        None => None,
+    }
 }
 
 /// The addresses of the indices of a unit (DWARF 5 section 7.27).
 pub fn address_table<'a>(sections: &Sections5<'a>, unit: &Unit<'_>) -> AddressTable<'a>
     ensures { result ≡ lists.addresses_of sections.now unit.now }
 {
-    AddressTable::new(sections.addr, offset(root(unit), ADDR_BASE))
+    AddressTable::new(sections.addr, address_base(unit))
 }
 
 /// The expression of the entry of a location list of `.debug_loclists` that counts for an address,

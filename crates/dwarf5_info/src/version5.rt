@@ -1,30 +1,29 @@
 //! Units of version 5 (DWARF 5 section 7.5.1.1).
 
-ghost use Rattle.std.specs.Prelude.{◌≡◌, ◌≤◌, length, option_map, IfOk, OnOk, IfSome};
-ghost use Rattle.wasm_bytes.specs.Place.{Stays};
+ghost use Rattle.std.specs.Prelude.{◌≡◌, ◌≤◌, ◌+◌, ◌-◌, [], length, option_map, option_copied, unwrap_or, None, OnOk, IfSome};
+ghost use Rattle.wasm_bytes.specs.Place.{Place, Moves, Stays};
 ghost use Rattle.wasm_bytes.specs.calls.Answers.{Reads, Gives};
-ghost use Rattle.dwarf_bytes.specs.Items.{item_or_none, read_at};
+ghost use Rattle.dwarf_bytes.specs.Items.{item_or_none, reading_of};
 ghost use Rattle.dwarf_info.specs.Sections.{SectionBytes5, greatest_section};
 ghost use Rattle.dwarf_info.specs.Forms.{form_of};
 ghost use Rattle.dwarf_info.specs.Units.{body_item};
-ghost use Rattle.dwarf_info.specs.Version4.{version4};
 ghost use Rattle.dwarf_info.specs.calls.Sizes.{IsSized};
-ghost use Rattle.dwarf_info.specs.calls.Keeping.{Keeps};
+ghost use Rattle.dwarf_info.specs.calls.Keeping.{Keeps, FirstRow};
+ghost use Rattle.dwarf_info.specs.calls.Rows4.{rows4};
 ghost use Rattle.dwarf5_info.specs.Forms5.{forms5};
 ghost use Rattle.dwarf5_info.specs.Indices.{index5};
 ghost use Rattle.dwarf5_info.specs.Version5.{is_unit_type, header5_item, shapes5_item, version5, up_to5};
+ghost use Rattle.dwarf5_info.specs.calls.Rows5.{rows5};
 ghost use Rattle.dwarf5_info.specs.inner.Bases.{looked_up};
 
-use crate::abbreviations::shapes5_at;
+use crate::abbreviations::read_shape;
 use crate::forms::form5;
 use crate::indices::Bases;
-use causes::NoMemory;
 use dwarf_bytes::number;
 use dwarf_info::{
-    AttrValue, Attribute, Form, Four, IndexTable, PreparedSections, Shape, Tables, Unit,
+    AttrValue, Attributes, Form, Four, IndexTable, PreparedSections, Shape, Tables, Unit,
     UnitVersion, UnitVersions, read_body,
 };
-use pm_text::Items;
 use std::alloc::Global;
 use wasm_bytes::{ItemFault, Malformed, Reader};
 
@@ -43,6 +42,8 @@ impl<'a> UnitVersion<'a> for Five {
     type Index = Bases;
 
     ghost version = { version5 };
+
+    ghost rows = { rows5 };
 
     ghost looked = { looked_up };
 
@@ -73,18 +74,22 @@ impl<'a> UnitVersion<'a> for Five {
         Ok(offset)
     }
 
-    fn shapes_at(
-        alloc: Global,
-        section: &'a [u8],
-        at: u64,
-    ) -> Result<Option<Items<Shape>>, NoMemory>
-        ensures { IfOk result (λ shapes. shapes ≡ read_at shapes5_item section.now at) }
+    fn row(alloc: Global, reader: &mut Reader<'a>) -> Result<Option<Shape>, ItemFault>
+        ensures item { FirstRow rows5 reader.old result reader.new }
+        ensures moves { OnOk result (Moves reader.old reader.new) }
     {
-        shapes5_at(alloc, section, at)
+        read_shape(alloc, reader)
     }
 
-    fn index(root: &[Attribute<'a>]) -> Bases
-        ensures { (s : SectionBytes5) → looked_up s result ≡ index5 s root.now }
+    #[tactic(auto, unfolding(crate::specs::Version5::shapes5_item, dwarf_abbrev::specs::Reading::table_item, dwarf_bytes::specs::Items::ended_item, dwarf_bytes::specs::Items::ended_from))]
+    fn rows_are_shapes()
+        ensures are { (p : Place) → shapes5_item p ≡ rows5 (length p.block + 1 - p.at) p }
+        ensures none { (p : Place) → reading_of (rows5 0 p) ≡ None }
+    {}
+
+    fn index(root: Option<&Attributes<'a>>) -> Bases
+        ensures { (s : SectionBytes5) → looked_up s result
+            ≡ index5 s (unwrap_or (option_copied root.entry) []) }
     {
         Bases::of(root)
     }
@@ -112,7 +117,7 @@ impl UpToFive {
     /// No table of abbreviations is read yet.
     pub fn new(alloc: Global) -> Self
         ensures { (s : SectionBytes5)
-            → Keeps version4 s result.four × Keeps version5 s result.five }
+            → Keeps rows4 s result.four × Keeps rows5 s result.five }
     {
         UpToFive {
             four: Tables::new(alloc),
@@ -124,7 +129,7 @@ impl UpToFive {
 impl<'a> UnitVersions<'a> for UpToFive {
     ghost versions = { up_to5 };
 
-    ghost is_ready = { λ s v. Keeps version4 s v.four × Keeps version5 s v.five };
+    ghost is_ready = { λ s v. Keeps rows4 s v.four × Keeps rows5 s v.five };
 
     fn read_body(
         &mut self,
@@ -134,15 +139,15 @@ impl<'a> UnitVersions<'a> for UpToFive {
         version: u32,
         reader: &mut Reader<'a>,
     ) -> Result<Unit<'a>, ItemFault>
-        requires ready { Keeps version4 sections.now self.old.four
-            × Keeps version5 sections.now self.old.five }
+        requires ready { Keeps rows4 sections.now self.old.four
+            × Keeps rows5 sections.now self.old.five }
         requires short { length reader.old.block ≤ greatest_section }
         ensures item { Gives result reader.new
             (item_or_none (option_map (body_item sections.now origin version) (up_to5 version))
             reader.old) }
         ensures stays { OnOk result (Stays reader.old reader.new) }
-        ensures ready { Keeps version4 sections.now self.new.four
-            × Keeps version5 sections.now self.new.five }
+        ensures ready { Keeps rows4 sections.now self.new.four
+            × Keeps rows5 sections.now self.new.five }
     {
         match version {
             5 => read_body::<Five>(alloc, sections, &mut self.five, origin, version, reader),

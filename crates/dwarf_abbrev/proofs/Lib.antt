@@ -1,2 +1,4 @@
 pub mod Places
 pub mod Exact
+pub mod TrieLaws
+pub mod LinkLaws

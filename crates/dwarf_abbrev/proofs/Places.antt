@@ -7,7 +7,7 @@ use Rattle.std.proofs.lemmas.Bool.{eqb-true}
 use Rattle.std.proofs.lemmas.Option.{slice_get_cases}
 use Rattle.std.proofs.lemmas.List.{length-take}
 use Rattle.std.proofs.lemmas.List.Folds.{find-append}
-use Rattle.dwarf_abbrev.specs.inner.Places.{IsPlaced}
+use Rattle.dwarf_abbrev.specs.calls.Places.{IsPlaced}
 use Rattle.pm_text.proofs.Lists.{get_front, get_last, is_eq_at}
 
 -- ---- keys

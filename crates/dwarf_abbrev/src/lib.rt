@@ -2,9 +2,12 @@
 #![tactic(auto)]
 
 mod abbrev;
+mod forks;
 mod read;
+mod shared;
 mod table;
 
 pub use abbrev::{Abbrev, Abbrevs, Pair, Pairs};
 pub use read::{Row, abbrevs, read_abbrevs, read_row};
+pub use shared::SharedLists;
 pub use table::{Coded, Table};

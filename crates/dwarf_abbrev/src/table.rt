@@ -4,7 +4,7 @@ ghost use Rattle.std.specs.Prelude.{◌≡◌, ◌==◌, ℕ, IfOk, find};
 ghost use Rattle.std.specs.Option.{option_copied};
 ghost use Rattle.std.specs.Ordering.{nat_cmp};
 ghost use Rattle.std.specs.BTreeMap.{get};
-ghost use Rattle.dwarf_abbrev.specs.inner.Places.{IsPlaced};
+ghost use Rattle.dwarf_abbrev.specs.calls.Places.{IsPlaced};
 
 use causes::NoMemory;
 use pm_text::Items;
@@ -33,7 +33,7 @@ impl<T: Coded> Model for Table<T> {
     ghost use Rattle.std.specs.Prelude.{List};
     ghost use Rattle.std.specs.Ordering.{nat_cmp};
     ghost use Rattle.std.specs.BTreeMap.{get};
-    ghost use Rattle.dwarf_abbrev.specs.inner.Places.{IsPlaced};
+    ghost use Rattle.dwarf_abbrev.specs.calls.Places.{IsPlaced};
 
     ghost Value = { List T };
 

@@ -7,26 +7,26 @@ use crate::names::{ABSTRACT_ORIGIN, NAME, SPECIFICATION, TYPE};
 use crate::search::standing_at;
 use crate::standing::Standing;
 use crate::values::{reference, text};
-use dwarf_info::{Attribute, Units};
+use dwarf_info::{Attributes, Units};
 
 /// How many entries may follow each other, where one says what another does not, or a type is
 /// another name of one.
 pub const LONGEST_CHAIN: u32 = 16;
 
 /// The attributes of the entry that one with these attributes completes or instantiates.
-fn origin<'r, 'a>(units: &'r Units<'a>, attributes: &[Attribute<'a>]) -> Option<&'r [Attribute<'a>]>
+fn origin<'r, 'a>(units: &'r Units<'a>, attributes: &Attributes<'a>) -> Option<&'r Attributes<'a>>
     ensures { option_copied result ≡ origins.origin units.now attributes.now }
 {
     let abstract_origin = reference(attributes, ABSTRACT_ORIGIN);
     let at = abstract_origin.or(reference(attributes, SPECIFICATION))?;
     let standing = standing_at(units, at)?;
-    Some(standing.entry().attributes.as_slice())
+    Some(&standing.entry().attributes)
 }
 
 #[tactic(auto, using(crate::proofs::Chains::none_further, crate::proofs::Chains::one_further))]
 fn name_within<'r, 'a>(
     units: &'r Units<'a>,
-    attributes: &'r [Attribute<'a>],
+    attributes: &'r Attributes<'a>,
     further: u32,
 ) -> Option<&'a [u8]>
     ensures { option_copied result
@@ -45,7 +45,7 @@ fn name_within<'r, 'a>(
 #[tactic(auto, using(crate::proofs::Chains::none_further, crate::proofs::Chains::one_further))]
 fn type_within<'r, 'a>(
     units: &'r Units<'a>,
-    attributes: &'r [Attribute<'a>],
+    attributes: &'r Attributes<'a>,
     further: u32,
 ) -> Option<u32>
     ensures { result ≡ origins.through units.now origins.own_type further attributes.now }
@@ -62,7 +62,7 @@ fn type_within<'r, 'a>(
 
 /// The name of an entry with these attributes, or of the one behind it that has one.
 #[tactic(auto, unfolding(crate::specs::Origins::name_of))]
-pub fn name_of<'r, 'a>(units: &'r Units<'a>, attributes: &'r [Attribute<'a>]) -> Option<&'a [u8]>
+pub fn name_of<'r, 'a>(units: &'r Units<'a>, attributes: &'r Attributes<'a>) -> Option<&'a [u8]>
     ensures { option_copied result ≡ origins.name_of units.now attributes.now }
 {
     name_within(units, attributes, LONGEST_CHAIN)
@@ -70,7 +70,7 @@ pub fn name_of<'r, 'a>(units: &'r Units<'a>, attributes: &'r [Attribute<'a>]) ->
 
 /// The name of an entry with these attributes, which is empty where neither it nor one behind it
 /// has one.
-pub fn name_or_empty<'r, 'a>(units: &'r Units<'a>, attributes: &'r [Attribute<'a>]) -> &'a [u8]
+pub fn name_or_empty<'r, 'a>(units: &'r Units<'a>, attributes: &'r Attributes<'a>) -> &'a [u8]
     ensures { result.now ≡ origins.name_or_empty units.now attributes.now }
 {
     match name_of(units, attributes) {
@@ -83,7 +83,7 @@ pub fn name_or_empty<'r, 'a>(units: &'r Units<'a>, attributes: &'r [Attribute<'a
 #[tactic(auto, unfolding(crate::specs::Origins::type_entry))]
 pub fn type_entry<'r, 'a>(
     units: &'r Units<'a>,
-    attributes: &'r [Attribute<'a>],
+    attributes: &'r Attributes<'a>,
 ) -> Option<Standing<'r, 'a>>
     ensures { result ≡ origins.type_entry units.now attributes.now }
 {

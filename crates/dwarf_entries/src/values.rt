@@ -7,86 +7,81 @@ ghost use Rattle.dwarf_entries.specs.Names.{as_natural};
 use crate::classes::{
     as_address, as_block, as_natural, as_number, as_offset, as_reference, as_text,
 };
-use dwarf_info::{AttrValue, Attribute};
+use dwarf_info::{AttrValue, Attributes};
 
-/// The value of the first attribute of a name.
-pub fn attribute<'r, 'a>(attributes: &'r [Attribute<'a>], name: u64) -> Option<&'r AttrValue<'a>>
-    ensures { option_copied result ≡ attribute name attributes.now }
+/// The value of the first attribute of a name, in logarithmic time.
+pub fn attribute<'a>(attributes: &Attributes<'a>, name: u64) -> Option<AttrValue<'a>>
+    ensures { result ≡ attribute name attributes.now }
 {
-    for attribute in attributes {
-        if attribute.name == name {
-            return Some(&attribute.value);
-        }
-    }
-    None
+    attributes.get(name)
 }
 
 /// The value of an attribute that is an address.
-pub fn address(attributes: &[Attribute<'_>], name: u64) -> Option<u32>
+pub fn address(attributes: &Attributes<'_>, name: u64) -> Option<u32>
     ensures { result ≡ valued as_address name attributes.now }
 {
     match attribute(attributes, name) {
-        Some(value) => as_address(value),
+        Some(value) => as_address(&value),
         None => None,
     }
 }
 
 /// The value of an attribute that is a constant, with its sign.
-pub fn number(attributes: &[Attribute<'_>], name: u64) -> Option<i128>
+pub fn number(attributes: &Attributes<'_>, name: u64) -> Option<i128>
     ensures { result ≡ valued as_number name attributes.now }
 {
     match attribute(attributes, name) {
-        Some(value) => as_number(value),
+        Some(value) => as_number(&value),
         None => None,
     }
 }
 
 /// The value of an attribute that is a constant not below 0.
-pub fn natural(attributes: &[Attribute<'_>], name: u64) -> Option<u64>
+pub fn natural(attributes: &Attributes<'_>, name: u64) -> Option<u64>
     ensures { result ≡ valued as_natural name attributes.now }
 {
     match attribute(attributes, name) {
-        Some(value) => as_natural(value),
+        Some(value) => as_natural(&value),
         None => None,
     }
 }
 
 /// The offset in the section of the entry that an attribute refers to.
-pub fn reference(attributes: &[Attribute<'_>], name: u64) -> Option<u32>
+pub fn reference(attributes: &Attributes<'_>, name: u64) -> Option<u32>
     ensures { result ≡ valued as_reference name attributes.now }
 {
     match attribute(attributes, name) {
-        Some(value) => as_reference(value),
+        Some(value) => as_reference(&value),
         None => None,
     }
 }
 
 /// The value of an attribute that is an offset in another section.
-pub fn offset(attributes: &[Attribute<'_>], name: u64) -> Option<u32>
+pub fn offset(attributes: &Attributes<'_>, name: u64) -> Option<u32>
     ensures { result ≡ valued as_offset name attributes.now }
 {
     match attribute(attributes, name) {
-        Some(value) => as_offset(value),
+        Some(value) => as_offset(&value),
         None => None,
     }
 }
 
 /// The bytes of an attribute that is a block.
-pub fn block<'a>(attributes: &[Attribute<'a>], name: u64) -> Option<&'a [u8]>
+pub fn block<'a>(attributes: &Attributes<'a>, name: u64) -> Option<&'a [u8]>
     ensures { option_copied result ≡ valued as_block name attributes.now }
 {
     match attribute(attributes, name) {
-        Some(value) => as_block(value),
+        Some(value) => as_block(&value),
         None => None,
     }
 }
 
 /// The bytes of an attribute that is a text.
-pub fn text<'a>(attributes: &[Attribute<'a>], name: u64) -> Option<&'a [u8]>
+pub fn text<'a>(attributes: &Attributes<'a>, name: u64) -> Option<&'a [u8]>
     ensures { option_copied result ≡ valued as_text name attributes.now }
 {
     match attribute(attributes, name) {
-        Some(value) => as_text(value),
+        Some(value) => as_text(&value),
         None => None,
     }
 }

@@ -6,3 +6,4 @@ pub mod Turns
 pub mod LocationLaws
 pub mod OperatorLaws
 pub mod Worked
+pub mod NamedLaws

@@ -8,6 +8,9 @@ pub mod UnitLaws4
 pub mod SettleLaws
 pub mod FindLaws
 pub mod ReadLaws
+pub mod RowLaws
+pub mod KeepLaws
+pub mod JoinedLaws
 pub mod FormLaws
 pub mod PlaceLaws
 pub mod TextLaws

@@ -73,7 +73,10 @@ value_stays m Other met = refl
 attribute_stays : (m : ℕ → Bool) (a : Attribute) → is_met m a.value ≡ true → attribute_by m a ≡ a
 attribute_stays m a met = ap (λ (v : AttrValue). let b : Attribute = record { name = a.name; value = v } in b) (value_stays m a.value met)
 
-pub attributes_stay : (m : ℕ → Bool) (attributes : List Attribute) → are_met m attributes ≡ true → map (attribute_by m) attributes ≡ attributes
+pub values_stay : (m : ℕ → Bool) (values : List AttrValue) → list_all (is_met m) values ≡ true → map (settled_by m) values ≡ values
+values_stay m values met = map_stays (is_met m) (settled_by m) (value_stays m) values met
+
+attributes_stay : (m : ℕ → Bool) (attributes : List Attribute) → are_met m attributes ≡ true → map (attribute_by m) attributes ≡ attributes
 attributes_stay m attributes met = map_stays (λ a. is_met m a.value) (attribute_by m) (attribute_stays m) attributes met
 
 entry_stays : (m : ℕ → Bool) (e : Entry) → are_met m e.attributes ≡ true → entry_by m e ≡ e

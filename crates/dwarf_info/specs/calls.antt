@@ -4,4 +4,5 @@ pub mod Grammar
 pub mod Grammar4
 pub mod Trees
 pub mod Keeping
+pub mod Rows4
 pub mod Sizes

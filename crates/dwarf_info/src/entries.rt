@@ -1,20 +1,23 @@
 //! Reading the entries of a unit (DWARF 4 sections 2.3 and 7.5.2), written out in the order of the
 //! section.
 
-ghost use Rattle.std.specs.Prelude.{◌≡◌, ◌≤◌, ◌<◌, ◌+◌, ◌-◌, ◌^◌, length, OnOk};
+ghost use Rattle.std.specs.Prelude.{◌≡◌, ◌≤◌, ◌<◌, ◌+◌, ◌-◌, ◌^◌, length, IfOk, OnOk};
 ghost use Rattle.wasm_bytes.specs.Place.{Moves, Stays};
 ghost use Rattle.wasm_bytes.specs.Reading.{steps_while_due};
 ghost use Rattle.wasm_bytes.specs.calls.Answers.{Gives, with_state};
 ghost use Rattle.dwarf_info.specs.Sections.{greatest_section};
 ghost use Rattle.dwarf_info.specs.Values.{attributes_item};
 ghost use Rattle.dwarf_info.specs.inner.Contexts.{seen};
+ghost use Rattle.dwarf_info.specs.inner.Reading.{own_item};
 ghost use Rattle.dwarf_info.specs.Entries.{seed, closing_item, shape_item, step_item, is_whole, entries_item};
 
+use crate::attributes::Attributes;
 use crate::context::UnitContext;
-use crate::entry::{Attributes, Entries, Entry};
+use crate::entry::{AttrValue, Entries, Entry};
 use crate::form::{Shape, Slot};
 use crate::growing::Growing;
-use crate::value::read_attribute;
+use crate::slots::Slots;
+use crate::value::read_slot;
 use crate::version::UnitVersion;
 use pm_text::Items;
 use std::alloc::Global;
@@ -39,22 +42,40 @@ impl<'a> Growing<'a> {
     }
 }
 
-/// The attributes of an entry, as its abbreviation lists them.
-pub fn read_attributes<'c, 'a, V: UnitVersion<'a>>(
+/// The values of attributes that take bytes.
+fn read_own<'c, 'a, V: UnitVersion<'a>>(
     alloc: Global,
     context: &UnitContext<'c, 'a, V::Index>,
     slots: &[Slot],
+    reader: &mut Reader<'a>,
+) -> Result<Items<AttrValue<'a>>, ItemFault>
+    ensures item { Gives result reader.new
+        (own_item (seen V.version V.looked context.now) slots.now reader.old) }
+    ensures count { IfOk result (λ own. length own ≡ length slots.now) }
+    ensures stays { OnOk result (Stays reader.old reader.new) }
+{
+    let mut own = Vec::with_capacity(alloc, slots.len())?;
+    'slots: for slot in slots {
+        own.push(read_slot::<V>(context, slot, reader)?)?;
+    }
+    Ok(Items::from_vec(own))
+}
+
+/// The attributes of an entry, as its abbreviation lists them. Only those that take bytes are
+/// visited.
+pub fn read_attributes<'c, 'a, V: UnitVersion<'a>>(
+    alloc: Global,
+    context: &UnitContext<'c, 'a, V::Index>,
+    slots: &Slots,
     reader: &mut Reader<'a>,
 ) -> Result<Attributes<'a>, ItemFault>
     ensures item { Gives result reader.new
         (attributes_item (seen V.version V.looked context.now) slots.now reader.old) }
     ensures stays { OnOk result (Stays reader.old reader.new) }
 {
-    let mut attributes = Vec::with_capacity(alloc, slots.len())?;
-    'slots: for slot in slots {
-        attributes.push(read_attribute::<V>(context, slot, reader)?)?;
-    }
-    Ok(Items::from_vec(attributes))
+    let own = read_own::<V>(alloc, context, slots.own(), reader)?;
+    let shared = slots.shared()?;
+    Ok(Attributes::new(shared, own))
 }
 
 /// The end of the innermost list of children.
@@ -85,7 +106,7 @@ fn open<'c, 'a, V: UnitVersion<'a>>(
     ensures stays { OnOk result (Stays reader.old reader.new) }
     ensures depth { OnOk result (growing.new.depth ≤ growing.old.depth + 1) }
 {
-    let attributes = read_attributes::<V>(alloc, context, shape.slots.as_slice(), reader)?;
+    let attributes = read_attributes::<V>(alloc, context, &shape.slots, reader)?;
     growing.entries.push(Entry {
         at,
         depth: growing.depth,
@@ -118,7 +139,7 @@ pub fn step<'c, 'a, V: UnitVersion<'a>>(
     if code == 0 {
         return close(growing, reader);
     }
-    match context.table.find(code) {
+    match context.tables.find(context.table, code) {
         Some(shape) => open::<V>(alloc, context, shape, at as u32, growing, reader),
         None => Err(ItemFault::At(reader.at())),
     }

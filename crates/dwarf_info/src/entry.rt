@@ -1,11 +1,10 @@
 //! Units, entries and attributes.
 
+use crate::attributes::Attributes;
 use pm_text::{Items, Text};
 use wasm_bytes::Run;
 
 pub type Entries<'a> = Items<Entry<'a>>;
-
-pub type Attributes<'a> = Items<Attribute<'a>>;
 
 /// A unit, or what stands in its place.
 #[derive(Drop)]

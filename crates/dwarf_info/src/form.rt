@@ -3,6 +3,7 @@
 ghost use Rattle.std.specs.Prelude.{◌≡◌};
 ghost use Rattle.dwarf_info.specs.calls.Sizes.{IsSized};
 
+use crate::slots::Slots;
 use dwarf_abbrev::Coded;
 use pm_text::Items;
 use std::marker::Model;
@@ -71,8 +72,6 @@ pub enum Form {
 }
 
 pub type Shapes = Items<Shape>;
-
-pub type Slots = Items<Slot>;
 
 /// An attribute and its form, where its code is that of a form.
 #[derive(Drop)]

@@ -2,6 +2,7 @@
 #![tactic(auto)]
 
 mod answers;
+mod attributes;
 mod context;
 mod entries;
 mod entry;
@@ -12,6 +13,7 @@ mod prepared;
 mod read;
 mod sections;
 mod settle;
+mod slots;
 mod tables;
 mod texts;
 mod unit;
@@ -20,16 +22,18 @@ mod value;
 mod version;
 mod version4;
 
+pub use attributes::Attributes;
 pub use context::UnitContext;
-pub use entry::{AttrValue, Attribute, Attributes, Entries, Entry, Unit, UnitAnswer};
+pub use entry::{AttrValue, Attribute, Entries, Entry, Unit, UnitAnswer};
 pub use form::{
-    Form, IndexTable, Meaning, NumberForm, Shape, Shapes, SizedForm, Slot, Slots, TextSection,
+    Form, IndexTable, Meaning, NumberForm, Shape, Shapes, SizedForm, Slot, TextSection,
 };
 pub use growing::Growing;
 pub use places::EntryPlace;
 pub use prepared::PreparedSections;
 pub use read::{read_all, read_units};
 pub use sections::{Sections, Sections5};
+pub use slots::Slots;
 pub use tables::Tables;
 pub use unit::read_body;
 pub use units::Units;

@@ -1,16 +1,16 @@
 //! References: which of them meet an entry.
 
 ghost use Rattle.std.specs.Prelude.{◌≡◌, map, IfOk};
-ghost use Rattle.dwarf_info.specs.inner.Settling.{placed, meets, settled_by, attribute_by, entry_by, unit_by, answer_by, is_met, are_met, all_met};
+ghost use Rattle.dwarf_info.specs.inner.Settling.{placed, meets, settled_by, entry_by, unit_by, answer_by, is_met, all_met};
 
-use crate::entry::{AttrValue, Attribute, Attributes, Entries, Entry, Unit, UnitAnswer};
+use crate::entry::{AttrValue, Entries, Entry, Unit, UnitAnswer};
 use crate::places::Places;
 use causes::NoMemory;
 use pm_text::Items;
 use std::alloc::Global;
 
 /// A value that stays as it is: no reference, or one that meets an entry.
-fn is_met<'a>(places: &Places, value: &AttrValue<'a>) -> bool
+pub fn is_met<'a>(places: &Places, value: &AttrValue<'a>) -> bool
     ensures { result ≡ is_met (meets (placed places.now)) value.now }
 {
     match value {
@@ -19,24 +19,14 @@ fn is_met<'a>(places: &Places, value: &AttrValue<'a>) -> bool
     }
 }
 
-fn are_met<'a>(places: &Places, attributes: &[Attribute<'a>]) -> bool
-    ensures { result ≡ are_met (meets (placed places.now)) attributes.now }
-{
-    attributes
-        .iter()
-        .all(|attribute| is_met(places, &attribute.value))
-}
-
 fn all_met<'a>(places: &Places, entries: &[Entry<'a>]) -> bool
     ensures { result ≡ all_met (meets (placed places.now)) entries.now }
 {
-    entries
-        .iter()
-        .all(|entry| are_met(places, entry.attributes.as_slice()))
+    entries.iter().all(|entry| entry.attributes.are_met(places))
 }
 
 /// A reference that meets no entry refers to nothing.
-fn settled_value<'a>(places: &Places, value: AttrValue<'a>) -> AttrValue<'a>
+pub fn settled_value<'a>(places: &Places, value: AttrValue<'a>) -> AttrValue<'a>
     ensures { result ≡ settled_by (meets (placed places.now)) value.entry }
 {
     match value {
@@ -51,35 +41,6 @@ fn settled_value<'a>(places: &Places, value: AttrValue<'a>) -> AttrValue<'a>
     }
 }
 
-fn settled_attribute<'a>(places: &Places, attribute: Attribute<'a>) -> Attribute<'a>
-    ensures { result ≡ attribute_by (meets (placed places.now)) attribute.entry }
-{
-    Attribute {
-        name: attribute.name,
-        value: settled_value(places, attribute.value),
-    }
-}
-
-/// Attributes that all stay as they are need no memory.
-#[tactic(auto, using(crate::proofs::SettleLaws::attributes_stay))]
-fn settled_attributes<'a>(
-    alloc: Global,
-    places: &Places,
-    attributes: Attributes<'a>,
-) -> Result<Attributes<'a>, NoMemory>
-    ensures { IfOk result (λ kept. kept
-        ≡ map (attribute_by (meets (placed places.now))) attributes.entry) }
-{
-    if are_met(places, attributes.as_slice()) {
-        return Ok(attributes);
-    }
-    let mut kept = Vec::new(alloc);
-    for attribute in attributes.into_vec() {
-        kept.push(settled_attribute(places, attribute))?;
-    }
-    Ok(Items::from_vec(kept))
-}
-
 fn settled_entry<'a>(
     alloc: Global,
     places: &Places,
@@ -87,7 +48,7 @@ fn settled_entry<'a>(
 ) -> Result<Entry<'a>, NoMemory>
     ensures { IfOk result (λ kept. kept ≡ entry_by (meets (placed places.now)) entry.entry) }
 {
-    let attributes = settled_attributes(alloc, places, entry.attributes)?;
+    let attributes = entry.attributes.settled(alloc, places)?;
     Ok(Entry {
         at: entry.at,
         depth: entry.depth,

@@ -1,134 +1,254 @@
-//! The tables of abbreviations that were read, which units share.
+//! The tables of abbreviations that were read, which units share. Each of their rows is read once,
+//! however many tables have it.
 
-ghost use Rattle.std.specs.Prelude.{◌≡◌, IfOk, OnOk, option_copied};
-ghost use Rattle.std.specs.Option.{is_some};
+ghost use Rattle.std.specs.Prelude.{◌≡◌, ◌≤◌, IfOk, OnOk, [], ◌∷◌, length, option_map};
 ghost use Rattle.dwarf_bytes.specs.Items.{read_at};
 ghost use Rattle.dwarf_info.specs.Sections.{SectionBytes5};
-ghost use Rattle.dwarf_info.specs.Units.{Version};
-ghost use Rattle.dwarf_info.specs.calls.Keeping.{Keeps, KeepsIf, kept_at, table_at as table_there};
+ghost use Rattle.dwarf_info.specs.calls.Keeping.{Rows, IsTable, IsThere, Keeps, KeepsIf, kept_at, numbered};
+ghost use Rattle.dwarf_info.specs.inner.Rows.{Leads};
 
 use crate::form::Shape;
 use crate::prepared::PreparedSections;
 use crate::version::UnitVersion;
 use causes::NoMemory;
-use dwarf_abbrev::Table;
+use dwarf_abbrev::SharedLists;
+use pm_text::Items;
 use std::alloc::Global;
 use std::collections::BTreeMap;
+use wasm_bytes::{ItemFault, Reader};
 
 /// The tables of abbreviations that were read.
 #[derive(Drop)]
 pub struct Tables {
-    /// By where they were looked for; None where no table stands there.
-    pub read: BTreeMap<u64, Option<Table<Shape>>>,
-    /// How many abbreviations and attributes they have, with one for each of them.
+    /// Each table, by its number.
+    pub lists: SharedLists<Shape>,
+    /// The numbers of tables, by where they stand; None where no table stands there.
+    pub read: BTreeMap<u64, Option<u32>>,
+    /// How many rows and attributes were read, together.
     pub size: usize,
 }
 
-/// The table at an offset of a section of abbreviations, if one stands there.
-fn table_at<'a, V: UnitVersion<'a>>(
-    alloc: Global,
-    section: &'a [u8],
+/// A row of a table, with its offset.
+#[derive(Drop)]
+pub struct PlacedRow {
+    pub at: u64,
+    pub shape: Shape,
+}
+
+/// Where the reading of rows stopped, and the number of the table there.
+#[derive(Drop)]
+struct Stop {
     at: u64,
-) -> Result<Option<Table<Shape>>, NoMemory>
-    ensures { IfOk result (λ table. table ≡ read_at V.version.shapes section.now at) }
-{
-    match V::shapes_at(alloc, section, at)? {
-        Some(shapes) => Ok(Some(Table::new(alloc, shapes)?)),
-        None => Ok(None),
-    }
-}
-
-/// How many abbreviations and attributes these are.
-fn size_of(shapes: &[Shape]) -> usize {
-    let mut size: usize = 1;
-    for shape in shapes {
-        size = size.saturating_add(shape.slots.len()).saturating_add(1);
-    }
-    size
-}
-
-fn size_of_read(table: &Option<Table<Shape>>) -> usize {
-    match table {
-        Some(table) => size_of(table.as_slice()),
-        None => 1,
-    }
+    table: Option<u32>,
 }
 
 impl Tables {
     /// No table is read yet.
     pub fn new(alloc: Global) -> Self
-        ensures { (v : Version) (s : SectionBytes5) → Keeps v s result }
+        ensures { (rows : Rows) (s : SectionBytes5) → Keeps rows s result }
     {
         Tables {
+            lists: SharedLists::new(alloc),
             read: BTreeMap::new(alloc),
             size: 0,
         }
     }
 
-    fn contains(&self, at: u64) -> bool
-        ensures { result ≡ is_some (kept_at self.now at) }
-    {
-        self.read.contains_key(&at)
-    }
-
-    /// Lets all tables go where those of more than a section would be kept: they overlap there.
-    fn make_room(&mut self, alloc: Global, size: usize, most: usize)
-        ensures { KeepsIf self.old self.new }
-    {
-        let all = self.size.saturating_add(size);
-        if all > most {
-            self.read = BTreeMap::new(alloc);
-            self.size = size;
-        } else {
-            self.size = all;
-        }
-    }
-
-    /// The table at an offset, where it was read and stands there.
-    pub fn get(&self, at: u64) -> Option<&Table<Shape>>
-        ensures { option_copied result ≡ table_there self.now at }
+    /// The number of the table at an offset, where it was read.
+    fn known(&self, at: u64) -> Option<Option<u32>>
+        ensures { result ≡ kept_at self.now at }
     {
         match self.read.get(&at) {
-            Some(Some(table)) => Some(table),
-            Some(None) => None,
+            Some(Some(table)) => Some(Some(*table)),
+            Some(None) => Some(None),
             None => None,
         }
     }
+
+    /// Lets all tables go where more than a section is kept of them: rows stand in rows there.
+    fn make_room(&mut self, alloc: Global, most: usize)
+        ensures { KeepsIf self.old self.new }
+    {
+        if self.size > most {
+            self.lists = SharedLists::new(alloc);
+            self.read = BTreeMap::new(alloc);
+            self.size = 0;
+        }
+    }
+
+    /// Keeps which table stands at an offset.
+    fn keep(&mut self, at: u64, table: Option<u32>) -> Result<(), NoMemory>
+        requires { IsThere self.old table }
+        ensures same { self.new.lists ≡ self.old.lists }
+        ensures kept { (rows : Rows) (s : SectionBytes5) → Keeps rows s self.old
+            → IsTable rows s.base.abbreviations at (numbered self.old table)
+            → Keeps rows s self.new }
+    {
+        self.read.insert(at, table)?;
+        Ok(())
+    }
+
+    /// Makes the table that has a row in front of the one of a number, if there is one.
+    fn made(&mut self, shape: Shape, behind: Option<u32>) -> Result<Option<u32>, NoMemory>
+        requires { IsThere self.old behind }
+        ensures kept { KeepsIf self.old self.new }
+        ensures there { IfOk result (IsThere self.new) }
+        ensures table { IfOk result (λ table. numbered self.new table
+            ≡ option_map (λ rows. shape ∷ rows) (numbered self.old behind)) }
+    {
+        let Some(behind) = behind else {
+            return Ok(None);
+        };
+        self.size = self
+            .size
+            .saturating_add(shape.slots.len())
+            .saturating_add(1);
+        let table = self.lists.push(shape, behind)?;
+        Ok(Some(table))
+    }
+
+    /// Makes the table that begins with a row, behind which stands the one of a number, and keeps
+    /// where it stands.
+    fn with_row(&mut self, row: PlacedRow, behind: Option<u32>) -> Result<Option<u32>, NoMemory>
+        requires { IsThere self.old behind }
+        ensures kept { (rows : Rows) (s : SectionBytes5) → Keeps rows s self.old
+            → IsTable rows s.base.abbreviations row.at
+            (option_map (λ more. row.shape ∷ more) (numbered self.old behind))
+            → Keeps rows s self.new }
+        ensures there { IfOk result (IsThere self.new) }
+        ensures table { IfOk result (λ table. numbered self.new table
+            ≡ option_map (λ more. row.shape ∷ more) (numbered self.old behind)) }
+    {
+        let at = row.at;
+        let table = self.made(row.shape, behind)?;
+        self.keep(at, table)?;
+        Ok(table)
+    }
 }
 
-/// Reads the table at an offset.
+/// Reads rows from an offset of the section on, up to the end of the table, to where one is known,
+/// or to where none has a reading.
+fn read_rows<'a, V: UnitVersion<'a>>(
+    alloc: Global,
+    sections: &PreparedSections<'a>,
+    section: &'a [u8],
+    tables: &Tables,
+    start: usize,
+    rows: &mut Items<PlacedRow>,
+) -> Result<Stop, NoMemory>
+    requires kept { Keeps V.rows sections.now tables.now }
+    requires section { section.now ≡ sections.now.base.abbreviations }
+    requires inside { start ≤ length section.now }
+    requires none { rows.old ≡ [] }
+    ensures led { IfOk result (λ stop. Leads V.rows sections.now.base.abbreviations rows.new
+        start stop.at) }
+    ensures there { IfOk result (λ stop. IsThere tables.now stop.table) }
+    ensures table { IfOk result (λ stop. IsTable V.rows sections.now.base.abbreviations stop.at
+        (numbered tables.now stop.table)) }
+{
+    let mut reader = Reader::starting_at(section, start);
+    'rows: loop {
+        let at = reader.at() as u64;
+        if let Some(table) = tables.known(at) {
+            return Ok(Stop { at, table });
+        }
+        let row = V::row(alloc, &mut reader);
+        match row {
+            Ok(Some(shape)) => rows.push(PlacedRow { at, shape })?,
+            Ok(None) => return Ok(Stop { at, table: Some(0) }),
+            Err(ItemFault::At(_)) => return Ok(Stop { at, table: None }),
+            Err(ItemFault::NoMemory) => return Err(NoMemory),
+        }
+    }
+}
+
+/// Makes the tables that begin with rows, behind which stands the one of a number, and hands out
+/// the number of the first one.
+fn keep_rows<'a, V: UnitVersion<'a>>(
+    sections: &PreparedSections<'a>,
+    tables: &mut Tables,
+    start: u64,
+    rows: &mut Items<PlacedRow>,
+    stop: Stop,
+) -> Result<Option<u32>, NoMemory>
+    requires kept { Keeps V.rows sections.now tables.old }
+    requires led { Leads V.rows sections.now.base.abbreviations rows.old start stop.at }
+    requires there { IsThere tables.old stop.table }
+    requires table { IsTable V.rows sections.now.base.abbreviations stop.at
+        (numbered tables.old stop.table) }
+    ensures kept { Keeps V.rows sections.now tables.new }
+    ensures table { IfOk result (λ table. IsTable V.rows sections.now.base.abbreviations start
+        (numbered tables.new table)) }
+{
+    let mut table = stop.table;
+    tables.keep(stop.at, table)?;
+    'rows: while let Some(row) = rows.pop() {
+        let first = tables.with_row(row, table)?;
+        table = first;
+    }
+    Ok(table)
+}
+
+/// The number of the table at an offset of the section, if one stands there.
 fn read_table<'a, V: UnitVersion<'a>>(
     alloc: Global,
     sections: &PreparedSections<'a>,
+    section: &'a [u8],
     tables: &mut Tables,
-    at: u64,
-) -> Result<(), NoMemory>
-    requires kept { Keeps V.version sections.now tables.old }
-    ensures table { OnOk result
-        (table_there tables.new at ≡ read_at V.version.shapes sections.now.base.abbreviations at) }
-    ensures kept { Keeps V.version sections.now tables.new }
+    at: usize,
+) -> Result<Option<u32>, NoMemory>
+    requires kept { Keeps V.rows sections.now tables.old }
+    requires section { section.now ≡ sections.now.base.abbreviations }
+    requires inside { at ≤ length section.now }
+    ensures kept { Keeps V.rows sections.now tables.new }
+    ensures table { IfOk result (λ table. IsTable V.rows sections.now.base.abbreviations at
+        (numbered tables.new table)) }
 {
-    let section = sections.sections().base.abbrev;
-    let table = table_at::<V>(alloc, section, at)?;
-    tables.make_room(alloc, size_of_read(&table), section.len());
-    tables.read.insert(at, table)?;
-    Ok(())
+    let mut rows = Items::new(alloc);
+    let stop = read_rows::<V>(alloc, sections, section, tables, at, &mut rows)?;
+    let table = keep_rows::<V>(sections, tables, at as u64, &mut rows, stop)?;
+    Ok(table)
 }
 
-/// Reads the table at an offset, where it was not read before.
+/// `.debug_abbrev`
+fn abbreviations<'a>(sections: &PreparedSections<'a>) -> &'a [u8]
+    ensures { result.now ≡ sections.now.base.abbreviations }
+{
+    sections.sections().base.abbrev
+}
+
+/// Lets all tables go where more than a section is kept of them.
+fn with_room<'a, V: UnitVersion<'a>>(
+    alloc: Global,
+    sections: &PreparedSections<'a>,
+    tables: &mut Tables,
+    most: usize,
+)
+    requires { Keeps V.rows sections.now tables.old }
+    ensures { Keeps V.rows sections.now tables.new }
+{
+    tables.make_room(alloc, most);
+}
+
+/// The number of the table at an offset, if one stands there. What was read before is not read
+/// again.
 pub fn select<'a, V: UnitVersion<'a>>(
     alloc: Global,
     sections: &PreparedSections<'a>,
     tables: &mut Tables,
     at: u64,
-) -> Result<(), NoMemory>
-    requires kept { Keeps V.version sections.now tables.old }
-    ensures table { OnOk result
-        (table_there tables.new at ≡ read_at V.version.shapes sections.now.base.abbreviations at) }
-    ensures kept { Keeps V.version sections.now tables.new }
+) -> Result<Option<u32>, NoMemory>
+    requires kept { Keeps V.rows sections.now tables.old }
+    ensures table { IfOk result (λ table. numbered tables.new table
+        ≡ read_at V.version.shapes sections.now.base.abbreviations at) }
+    ensures kept { Keeps V.rows sections.now tables.new }
 {
-    if tables.contains(at) {
-        return Ok(());
+    V::rows_are_shapes();
+    let section = abbreviations(sections);
+    if at > section.len() as u64 {
+        return Ok(None);
     }
-    read_table::<V>(alloc, sections, tables, at)
+    with_room::<V>(alloc, sections, tables, section.len());
+    let table = read_table::<V>(alloc, sections, section, tables, at as usize)?;
+    Ok(table)
 }

@@ -1,36 +1,38 @@
 //! Reading one unit (DWARF 4 section 7.5.1).
 
-ghost use Rattle.std.specs.Prelude.{◌≡◌, ◌≤◌, ◌<◌, ◌^◌, length, OnOk, option_map};
+ghost use Rattle.std.specs.Prelude.{◌≡◌, ◌≤◌, ◌<◌, ◌^◌, [], length, OnOk, option_map, option_copied, unwrap_or};
 ghost use Rattle.std.specs.List.{list_all};
 ghost use Rattle.wasm_bytes.specs.Place.{Stays};
 ghost use Rattle.wasm_bytes.specs.calls.Answers.{Gives, Reads, result_now};
 ghost use Rattle.dwarf_bytes.specs.Items.{item_or_none, is_zero};
+ghost use Rattle.dwarf_abbrev.specs.calls.Shared.{list_of};
 ghost use Rattle.dwarf_info.specs.Sections.{greatest_section};
 ghost use Rattle.dwarf_info.specs.Entries.{root_attributes};
 ghost use Rattle.dwarf_info.specs.inner.Contexts.{IsIndex};
 ghost use Rattle.dwarf_info.specs.calls.Keeping.{Keeps};
 ghost use Rattle.dwarf_info.specs.Units.{rooted_item, padding_item, body_item, unit_item, whole_unit};
 
+use crate::attributes::Attributes;
 use crate::context::UnitContext;
 use crate::entries::{read_entries, step};
-use crate::entry::{Attribute, Entries, Unit};
+use crate::entry::{Entries, Unit};
 use crate::form::Shape;
 use crate::growing::Growing;
 use crate::prepared::PreparedSections;
 use crate::tables::{Tables, select};
 use crate::version::{UnitVersion, UnitVersions};
-use dwarf_abbrev::Table;
+use dwarf_abbrev::SharedLists;
 use dwarf_bytes::number;
 use std::alloc::Global;
 use wasm_bytes::{ItemFault, Malformed, Reader};
 
 /// The attributes of the root, which comes first.
-fn root<'e, 'a>(entries: &'e Entries<'a>) -> &'e [Attribute<'a>]
-    ensures { result.now ≡ root_attributes entries.now }
+fn root<'e, 'a>(entries: &'e Entries<'a>) -> Option<&'e Attributes<'a>>
+    ensures { unwrap_or (option_copied result) [] ≡ root_attributes entries.now }
 {
     match entries.as_slice() {
-        [root, ..] => root.attributes.as_slice(),
-        [] => &[],
+        [root, ..] => Some(&root.attributes),
+        [] => None,
     }
 }
 
@@ -40,15 +42,17 @@ fn read_index<'a, V: UnitVersion<'a>>(
     alloc: Global,
     sections: &PreparedSections<'a>,
     origin: u32,
-    table: &Table<Shape>,
+    tables: &SharedLists<Shape>,
+    table: u32,
     reader: &Reader<'a>,
 ) -> Result<V::Index, ItemFault>
     requires short { length reader.now.block ≤ greatest_section }
-    ensures item { IsIndex V.version V.looked sections.now origin table.now reader.now result }
+    ensures item { IsIndex V.version V.looked sections.now origin (list_of tables.now table) reader.now result }
 {
     let context: UnitContext<'_, 'a, V::Index> = UnitContext {
         sections,
         origin,
+        tables,
         table,
         index: None,
     };
@@ -62,18 +66,20 @@ fn read_rooted<'a, V: UnitVersion<'a>>(
     alloc: Global,
     sections: &PreparedSections<'a>,
     origin: u32,
-    table: &Table<Shape>,
+    tables: &SharedLists<Shape>,
+    table: u32,
     reader: &mut Reader<'a>,
 ) -> Result<Entries<'a>, ItemFault>
     requires short { length reader.old.block ≤ greatest_section }
     ensures item { Gives result reader.new
-        (rooted_item sections.now V.version origin table.now reader.old) }
+        (rooted_item sections.now V.version origin (list_of tables.now table) reader.old) }
     ensures stays { OnOk result (Stays reader.old reader.new) }
 {
-    let index = read_index::<V>(alloc, sections, origin, table, reader)?;
+    let index = read_index::<V>(alloc, sections, origin, tables, table, reader)?;
     let context: UnitContext<'_, 'a, V::Index> = UnitContext {
         sections,
         origin,
+        tables,
         table,
         index: Some(index),
     };
@@ -89,18 +95,18 @@ pub fn read_body<'a, V: UnitVersion<'a>>(
     version: u32,
     reader: &mut Reader<'a>,
 ) -> Result<Unit<'a>, ItemFault>
-    requires kept { Keeps V.version sections.now tables.old }
+    requires kept { Keeps V.rows sections.now tables.old }
     requires short { length reader.old.block ≤ greatest_section }
     ensures item { Gives result reader.new
         (body_item sections.now origin version V.version reader.old) }
     ensures stays { OnOk result (Stays reader.old reader.new) }
-    ensures kept { Keeps V.version sections.now tables.new }
+    ensures kept { Keeps V.rows sections.now tables.new }
 {
     let offset = V::header(reader)?;
-    select::<V>(alloc, sections, tables, offset)?;
-    match tables.get(offset) {
+    match select::<V>(alloc, sections, tables, offset)? {
         Some(table) => {
-            let entries = read_rooted::<V>(alloc, sections, origin, table, reader)?;
+            let lists = &tables.lists;
+            let entries = read_rooted::<V>(alloc, sections, origin, lists, table, reader)?;
             Ok(Unit {
                 at: origin,
                 version,

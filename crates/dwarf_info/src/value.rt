@@ -5,12 +5,13 @@ ghost use Rattle.wasm_bytes.specs.Place.{Stays};
 ghost use Rattle.wasm_bytes.specs.Reading.{◌▷◌, run_item};
 ghost use Rattle.wasm_bytes.specs.calls.Answers.{Reads};
 ghost use Rattle.dwarf_bytes.specs.Items.{meaning_item};
-ghost use Rattle.dwarf_info.specs.Values.{refers_to, meant, width_item, plain_item, named_item, value_item, slot_item};
+ghost use Rattle.dwarf_info.specs.Values.{refers_to, meant, width_item, plain_item, named_item, value_item};
 ghost use Rattle.dwarf_info.specs.inner.Contexts.{seen};
+ghost use Rattle.dwarf_info.specs.inner.Reading.{slot_value};
 ghost use Rattle.dwarf_info.specs.calls.Sizes.{IsWidth, IsNumber, IsSized, Fits};
 
 use crate::context::UnitContext;
-use crate::entry::{AttrValue, Attribute};
+use crate::entry::AttrValue;
 use crate::form::{Form, Meaning, NumberForm, Slot};
 use crate::version::UnitVersion;
 use dwarf_bytes::{number, text};
@@ -168,25 +169,18 @@ fn read_value<'c, 'a, V: UnitVersion<'a>>(
     }
 }
 
-/// An attribute of an abbreviation.
-#[tactic(auto, unfolding(crate::specs::Values::slot_item))]
-pub fn read_attribute<'c, 'a, V: UnitVersion<'a>>(
+/// The value of an attribute of an abbreviation.
+pub fn read_slot<'c, 'a, V: UnitVersion<'a>>(
     context: &UnitContext<'c, 'a, V::Index>,
     slot: &Slot,
     reader: &mut Reader<'a>,
-) -> Result<Attribute<'a>, Malformed>
+) -> Result<AttrValue<'a>, Malformed>
     ensures item { Reads result reader.new
-        (slot_item (seen V.version V.looked context.now) slot.now reader.old) }
+        (slot_value (seen V.version V.looked context.now) slot.now reader.old) }
     ensures stays { OnOk result (Stays reader.old reader.new) }
 {
     match &slot.form {
-        Some(form) => {
-            let value = read_value::<V>(context, form.form(), reader)?;
-            Ok(Attribute {
-                name: slot.attribute,
-                value,
-            })
-        }
+        Some(form) => read_value::<V>(context, form.form(), reader),
         None => Err(Malformed { at: reader.at() }),
     }
 }

@@ -1,21 +1,21 @@
 //! What a version says of its units.
 
-ghost use Rattle.std.specs.Prelude.{◌≡◌, ◌≤◌, ℕ, length, Option, option_map, IfOk, OnOk, IfSome};
-ghost use Rattle.wasm_bytes.specs.Place.{Stays};
+ghost use Rattle.std.specs.Prelude.{◌≡◌, ◌≤◌, ◌+◌, ◌-◌, ℕ, length, [], Option, None, option_map, option_copied, unwrap_or, OnOk, IfSome};
+ghost use Rattle.wasm_bytes.specs.Place.{Place, Moves, Stays};
 ghost use Rattle.wasm_bytes.specs.calls.Answers.{Reads, Gives};
 ghost use Rattle.dwarf_info.specs.declared.form.IndexTable.{IndexTable};
 ghost use Rattle.dwarf_info.specs.declared.entry.AttrValue.{AttrValue};
-ghost use Rattle.dwarf_bytes.specs.Items.{item_or_none, read_at};
+ghost use Rattle.dwarf_bytes.specs.Items.{item_or_none, reading_of};
 ghost use Rattle.dwarf_info.specs.Sections.{SectionBytes5, greatest_section};
 ghost use Rattle.dwarf_info.specs.Forms.{form_of};
 ghost use Rattle.dwarf_info.specs.Units.{Version, Versions, body_item};
+ghost use Rattle.dwarf_info.specs.calls.Keeping.{Rows, FirstRow};
 ghost use Rattle.dwarf_info.specs.calls.Sizes.{IsSized};
 
-use crate::entry::{AttrValue, Attribute, Unit};
+use crate::attributes::Attributes;
+use crate::entry::{AttrValue, Unit};
 use crate::form::{Form, IndexTable, Shape};
 use crate::prepared::PreparedSections;
-use causes::NoMemory;
-use pm_text::Items;
 use std::alloc::Global;
 use wasm_bytes::{ItemFault, Malformed, Reader};
 
@@ -40,18 +40,23 @@ pub trait UnitVersion<'a>: Drop {
         ensures item { Reads result reader.new (version.header reader.old) }
         ensures stays { OnOk result (Stays reader.old reader.new) };
 
-    /// The table at an offset of a section of abbreviations, with the forms of its codes, if one
-    /// stands there.
-    fn shapes_at(
-        alloc: Global,
-        section: &'a [u8],
-        at: u64,
-    ) -> Result<Option<Items<Shape>>, NoMemory>
-        ensures { IfOk result (λ shapes. shapes ≡ read_at version.shapes section.now at) };
+    /// A table of abbreviations of fewer rows than a number.
+    ghost rows: { Rows };
+
+    /// The first row of the table of abbreviations at a place, with the forms of its codes, or None
+    /// at its end.
+    fn row(alloc: Global, reader: &mut Reader<'a>) -> Result<Option<Shape>, ItemFault>
+        ensures item { FirstRow rows reader.old result reader.new }
+        ensures moves { OnOk result (Moves reader.old reader.new) };
+
+    /// A table has fewer rows than a byte more than stands behind its offset.
+    fn rows_are_shapes()
+        ensures are { (p : Place) → version.shapes p ≡ rows (length p.block + 1 - p.at) p }
+        ensures none { (p : Place) → reading_of (rows 0 p) ≡ None };
 
     /// What indices are looked up by, in a unit whose root has these attributes.
-    fn index(root: &[Attribute<'a>]) -> Self::Index
-        ensures { (s : SectionBytes5) → looked s result ≡ version.index s root.now };
+    fn index(root: Option<&Attributes<'a>>) -> Self::Index
+        ensures { (s : SectionBytes5) → looked s result ≡ version.index s (unwrap_or (option_copied root.entry) []) };
 
     /// What an index of a table stands for.
     fn value(

@@ -1,24 +1,24 @@
 //! Units of version 4 (DWARF 4 section 7.5.1.1).
 
-ghost use Rattle.std.specs.Prelude.{◌≡◌, map, IfOk, IfSome};
-ghost use Rattle.dwarf_bytes.specs.Items.{read_at};
+ghost use Rattle.std.specs.Prelude.{◌≡◌, [], map, option_copied, unwrap_or, IfOk, IfSome};
 ghost use Rattle.dwarf_info.specs.Forms.{forms4, form_of};
-ghost use Rattle.dwarf_info.specs.Version4.{slot_of, shape_in, header4_item, shapes4_item, version4, only4};
+ghost use Rattle.dwarf_info.specs.Version4.{slot_of, shape_in, header4_item, version4, only4};
 ghost use Rattle.dwarf_info.specs.Sections.{SectionBytes5};
 ghost use Rattle.dwarf_info.specs.inner.Contexts.{no_index};
 ghost use Rattle.dwarf_info.specs.calls.Keeping.{Keeps};
+ghost use Rattle.dwarf_info.specs.calls.Rows4.{rows4};
 ghost use Rattle.dwarf_info.specs.calls.Sizes.{IsSized};
 
-use crate::entry::{AttrValue, Attribute, Unit};
-use crate::form::{
-    Form, IndexTable, Meaning, NumberForm, Shape, SizedForm, Slot, Slots, TextSection,
-};
+use crate::attributes::Attributes;
+use crate::entry::{AttrValue, Unit};
+use crate::form::{Form, IndexTable, Meaning, NumberForm, Shape, SizedForm, Slot, TextSection};
 use crate::prepared::PreparedSections;
+use crate::slots::Slots;
 use crate::tables::Tables;
 use crate::unit::read_body;
 use crate::version::{UnitVersion, UnitVersions};
 use causes::NoMemory;
-use dwarf_abbrev::{Abbrev, Pair, abbrevs};
+use dwarf_abbrev::{Abbrev, Pair, read_row};
 use dwarf_bytes::number;
 use pm_text::Items;
 use std::alloc::Global;
@@ -71,7 +71,7 @@ fn slot(pair: &Pair) -> Slot
     }
 }
 
-fn slots(alloc: Global, pairs: &[Pair]) -> Result<Slots, NoMemory>
+fn slots(alloc: Global, pairs: &[Pair]) -> Result<Items<Slot>, NoMemory>
     ensures { IfOk result (λ slots. slots ≡ map (slot_of forms4) pairs.now) }
 {
     let mut slots = Vec::new(alloc);
@@ -89,34 +89,8 @@ fn shape(alloc: Global, row: &Abbrev) -> Result<Shape, NoMemory>
         code: row.code,
         tag: row.tag,
         children: row.children,
-        slots,
+        slots: Slots::new(alloc, slots)?,
     })
-}
-
-fn shapes(alloc: Global, rows: &[Abbrev]) -> Result<Items<Shape>, NoMemory>
-    ensures { IfOk result (λ shapes. shapes ≡ map (shape_in forms4) rows.now) }
-{
-    let mut shapes = Vec::new(alloc);
-    for row in rows {
-        shapes.push(shape(alloc, row)?)?;
-    }
-    Ok(Items::from_vec(shapes))
-}
-
-/// The table at an offset of a section of abbreviations, with the forms of its codes, if one stands
-/// there.
-#[tactic(auto, unfolding(crate::specs::Version4::shapes4_item))]
-fn shapes4_at(alloc: Global, section: &[u8], at: u64) -> Result<Option<Items<Shape>>, NoMemory>
-    ensures { IfOk result (λ shapes. shapes ≡ read_at shapes4_item section.now at) }
-{
-    if at > section.len() as u64 {
-        return Ok(None);
-    }
-    match abbrevs(alloc, &mut Reader::starting_at(section, at as usize)) {
-        Ok(rows) => Ok(Some(shapes(alloc, rows.as_slice())?)),
-        Err(ItemFault::At(_)) => Ok(None),
-        Err(ItemFault::NoMemory) => Err(NoMemory),
-    }
 }
 
 /// Version 4, in which no form is an index.
@@ -127,6 +101,8 @@ impl<'a> UnitVersion<'a> for Four {
     type Index = ();
 
     ghost version = { version4 };
+
+    ghost rows = { rows4 };
 
     ghost looked = { λ _ _. no_index };
 
@@ -145,18 +121,22 @@ impl<'a> UnitVersion<'a> for Four {
         Ok(offset)
     }
 
-    fn shapes_at(
-        alloc: Global,
-        section: &'a [u8],
-        at: u64,
-    ) -> Result<Option<Items<Shape>>, NoMemory> {
-        shapes4_at(alloc, section, at)
+    fn row(alloc: Global, reader: &mut Reader<'a>) -> Result<Option<Shape>, ItemFault> {
+        let row: Option<Abbrev> = read_row(alloc, reader)?;
+        match row {
+            Some(row) => Ok(Some(shape(alloc, &row)?)),
+            None => Ok(None),
+        }
     }
 
-    fn index(root: &[Attribute<'a>])
-        ensures { (s : SectionBytes5) → no_index ≡ version4.index s root.now }
+    #[tactic(auto, unfolding(crate::specs::Version4::shapes4_item, dwarf_abbrev::specs::Reading::abbrevs_item, dwarf_abbrev::specs::Reading::table_item, dwarf_bytes::specs::Items::ended_item, dwarf_bytes::specs::Items::ended_from))]
+    fn rows_are_shapes() {}
+
+    fn index(root: Option<&Attributes<'a>>)
+        ensures { (s : SectionBytes5) → no_index
+            ≡ version4.index s (unwrap_or (option_copied root.entry) []) }
     {
-        let _unused = root.len();
+        let _unused = root.is_some();
     }
 
     fn value(
@@ -181,7 +161,7 @@ pub struct OnlyFour {
 impl OnlyFour {
     /// No table of abbreviations is read yet.
     pub fn new(alloc: Global) -> Self
-        ensures { (s : SectionBytes5) → Keeps version4 s result.tables }
+        ensures { (s : SectionBytes5) → Keeps rows4 s result.tables }
     {
         OnlyFour {
             tables: Tables::new(alloc),
@@ -192,7 +172,7 @@ impl OnlyFour {
 impl<'a> UnitVersions<'a> for OnlyFour {
     ghost versions = { only4 };
 
-    ghost is_ready = { λ s v. Keeps version4 s v.tables };
+    ghost is_ready = { λ s v. Keeps rows4 s v.tables };
 
     fn read_body(
         &mut self,

@@ -3,3 +3,4 @@ pub mod Counts
 pub mod StepLaws
 pub mod NumberLaws
 pub mod HolderLaws
+pub mod KnownLaws

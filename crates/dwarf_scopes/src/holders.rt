@@ -2,10 +2,12 @@
 
 ghost use Rattle.std.specs.Prelude.{◌≡◌, IfOk, find, slice_get, option_and_then};
 ghost use Rattle.dwarf_scopes.specs.Ranges as ranges;
+ghost use Rattle.dwarf_scopes.specs.inner.Knowing.{AreRight};
 ghost use Rattle.dwarf_scopes.specs.inner.Holding.{bounds_in, is_listed, AreHolders};
 ghost use Rattle.dwarf_scopes.specs.calls.Numbered.{ranges_from, numbers_from, passes, is_before, first_or};
 
-use crate::ranges::{bounds, holds};
+use crate::known::KnownLists;
+use crate::ranges::{bounds, holds_by_known};
 use crate::steps::{Range, Steps};
 use causes::NoMemory;
 use dwarf_entries::names::RANGES;
@@ -41,7 +43,7 @@ fn is_listed(standing: &Standing<'_, '_>) -> bool
     ensures { result ≡ is_listed standing.now }
 {
     let entry = standing.entry();
-    bounds(entry).is_none() && offset(entry.attributes.as_slice(), RANGES).is_some()
+    bounds(entry).is_none() && offset(&entry.attributes, RANGES).is_some()
 }
 
 /// The numbers of those that have a list instead.
@@ -63,12 +65,16 @@ fn holds_at(
     entries: &[Standing<'_, '_>],
     index: usize,
     address: u32,
-) -> bool
-    ensures { result ≡ passes (ranges.holds sections.now address) (slice_get entries.now index) }
+    lists: &mut KnownLists,
+) -> Result<bool, NoMemory>
+    requires right { AreRight sections.now address lists.old }
+    ensures is { IfOk result (λ held. held
+        ≡ passes (ranges.holds sections.now address) (slice_get entries.now index)) }
+    ensures right { AreRight sections.now address lists.new }
 {
     match entries.get(index) {
-        Some(standing) => holds(sections, address, standing),
-        None => false,
+        Some(standing) => holds_by_known(sections, address, standing, lists),
+        None => Ok(false),
     }
 }
 
@@ -89,20 +95,22 @@ fn first_or(
     address: u32,
     named: Option<usize>,
     numbers: &[usize],
-) -> Option<usize>
-    ensures { result ≡ first_or
+    lists: &mut KnownLists,
+) -> Result<Option<usize>, NoMemory>
+    requires right { AreRight sections.now address lists.old }
+    ensures is { IfOk result (λ number. number ≡ first_or
         (λ index. passes (ranges.holds sections.now address) (slice_get entries.now index))
-        named numbers.now }
+        named numbers.now) }
 {
     for index in numbers {
         if is_before(named, *index) {
-            return named;
+            return Ok(named);
         }
-        if holds_at(sections, entries, *index, address) {
-            return Some(*index);
+        if holds_at(sections, entries, *index, address, lists)? {
+            return Ok(Some(*index));
         }
     }
-    named
+    Ok(named)
 }
 
 fn entry_of<'r, 'a>(entries: &[Standing<'r, 'a>], number: Option<usize>) -> Option<Standing<'r, 'a>>
@@ -125,15 +133,18 @@ impl Holders {
     /// The first of the entries that holds an address.
     pub fn first<'r, 'a>(
         &self,
+        alloc: Global,
         sections: &Sections5<'a>,
         entries: &[Standing<'r, 'a>],
         address: u32,
-    ) -> Option<Standing<'r, 'a>>
+    ) -> Result<Option<Standing<'r, 'a>>, NoMemory>
         requires { AreHolders entries.now self.now }
-        ensures { result ≡ find (ranges.holds sections.now address) entries.now }
+        ensures { IfOk result (λ x. x ≡ find (ranges.holds sections.now address) entries.now) }
     {
+        let mut lists = KnownLists::new(alloc);
         let named = self.bounded.at(address);
-        let number = first_or(sections, entries, address, named, self.listed.as_slice());
-        entry_of(entries, number)
+        let listed = self.listed.as_slice();
+        let number = first_or(sections, entries, address, named, listed, &mut lists)?;
+        Ok(entry_of(entries, number))
     }
 }

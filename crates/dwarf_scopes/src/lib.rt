@@ -14,7 +14,7 @@ mod variables;
 
 pub use lists::{location_in, range_in};
 pub use ranges::holds;
-pub use scopes::{inlined_at, scopes_at, subprogram_at};
+pub use scopes::{inlined_at, scopes_at};
 pub use steps::{Range, Steps};
-pub use subprograms::{Found, Subprograms};
+pub use subprograms::{Found, Subprograms, subprogram_at};
 pub use variables::variables_at;

@@ -26,7 +26,8 @@ fn high_from(low: u32, high: &AttrValue<'_>) -> Option<i128>
 fn bounds_from(entry: &Entry<'_>, low: u32) -> Option<(u32, i128)>
     ensures { result ≡ ranges.bounds_from entry.now low }
 {
-    let high = high_from(low, attribute(entry.attributes.as_slice(), HIGH_PC)?)?;
+    let value = attribute(&entry.attributes, HIGH_PC)?;
+    let high = high_from(low, &value)?;
     Some((low, high))
 }
 
@@ -34,7 +35,7 @@ fn bounds_from(entry: &Entry<'_>, low: u32) -> Option<(u32, i128)>
 pub fn bounds(entry: &Entry<'_>) -> Option<(u32, i128)>
     ensures { result ≡ ranges.bounds_of entry.now }
 {
-    let low = address(entry.attributes.as_slice(), LOW_PC)?;
+    let low = address(&entry.attributes, LOW_PC)?;
     bounds_from(entry, low)
 }
 
@@ -55,15 +56,15 @@ pub fn holds_by_known(
     standing: &Standing<'_, '_>,
     lists: &mut KnownLists,
 ) -> Result<bool, NoMemory>
-    requires right { AreRight sections.now standing.now.unit address lists.old }
+    requires right { AreRight sections.now address lists.old }
     ensures is { IfOk result (λ held. held ≡ ranges.holds sections.now address standing.now) }
-    ensures right { AreRight sections.now standing.now.unit address lists.new }
+    ensures right { AreRight sections.now address lists.new }
 {
     let entry = standing.entry();
     match bounds(entry) {
         Some((low, high)) => Ok(low <= address && i128::from(address) < high),
         None => {
-            let at = offset(entry.attributes.as_slice(), RANGES);
+            let at = offset(&entry.attributes, RANGES);
             in_list_if(sections, standing.unit(), address, at, lists)
         }
     }
@@ -78,7 +79,7 @@ pub fn holds(sections: &Sections5<'_>, address: u32, standing: &Standing<'_, '_>
     match bounds(entry) {
         Some((low, high)) => low <= address && i128::from(address) < high,
         None => {
-            let at = offset(entry.attributes.as_slice(), RANGES);
+            let at = offset(&entry.attributes, RANGES);
             in_list(sections, standing.unit(), address, at)
         }
     }

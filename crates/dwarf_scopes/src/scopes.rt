@@ -8,11 +8,12 @@ ghost use Rattle.dwarf_scopes.specs.inner.Knowing.{AreRight};
 ghost use Rattle.dwarf_scopes.specs.inner.Picks.{is_scope, is_inlined};
 
 use crate::known::KnownLists;
-use crate::ranges::{holds, holds_by_known};
+use crate::ranges::holds_by_known;
+use crate::subprograms::subprogram_at;
 use causes::NoMemory;
 use dwarf_entries::names::LOW_PC;
-use dwarf_entries::tags::{INLINED_SUBROUTINE, LEXICAL_BLOCK, SUBPROGRAM};
-use dwarf_entries::{Pick, Standing, address as address_of, first_in_units};
+use dwarf_entries::tags::{INLINED_SUBROUTINE, LEXICAL_BLOCK};
+use dwarf_entries::{Standing, address as address_of};
 use dwarf_info::{Entry, Sections5, Unit, UnitAnswer};
 use pm_text::Items;
 use std::alloc::Global;
@@ -21,24 +22,7 @@ use std::alloc::Global;
 pub fn is_removed(standing: &Standing<'_, '_>) -> bool
     ensures { result ≡ scopes.is_removed standing.now }
 {
-    address_of(standing.entry().attributes.as_slice(), LOW_PC) == Some(0)
-}
-
-/// The subprograms that hold an address and are not removed.
-#[derive(Drop)]
-struct SubprogramAt<'s, 'a> {
-    sections: &'s Sections5<'a>,
-    address: u32,
-}
-
-impl<'s, 'a> Pick for SubprogramAt<'s, 'a> {
-    ghost picks = { λ p. scopes.is_subprogram_at p.sections.now p.address };
-
-    fn picks(&self, standing: &Standing<'_, '_>) -> bool {
-        standing.entry().tag == SUBPROGRAM
-            && !is_removed(standing)
-            && holds(self.sections, self.address, standing)
-    }
+    address_of(&standing.entry().attributes, LOW_PC) == Some(0)
 }
 
 /// The lexical blocks and inlined subroutines that hold an address.
@@ -62,11 +46,11 @@ impl<'s, 'a> ScopeAt<'s, 'a> {
         standing: &Standing<'_, '_>,
         lists: &mut KnownLists,
     ) -> Result<bool, NoMemory>
-        requires right { AreRight self.now.sections.now standing.now.unit self.now.address
+        requires right { AreRight self.now.sections.now self.now.address
             lists.old }
         ensures is { IfOk result (λ picked. picked
             ≡ scopes.is_scope_at self.now.sections.now self.now.address standing.now) }
-        ensures right { AreRight self.now.sections.now standing.now.unit self.now.address
+        ensures right { AreRight self.now.sections.now self.now.address
             lists.new }
     {
         if is_scope(standing) {
@@ -77,18 +61,6 @@ impl<'s, 'a> ScopeAt<'s, 'a> {
     }
 }
 
-/// The first subprogram of the section that holds an address and is not removed.
-#[tactic(auto, unfolding(crate::specs::Scopes::subprogram_at))]
-pub fn subprogram_at<'r, 'a>(
-    sections: &Sections5<'a>,
-    units: &'r [UnitAnswer<'a>],
-    address: u32,
-) -> Option<Standing<'r, 'a>>
-    ensures { result ≡ scopes.subprogram_at sections.now units.now address }
-{
-    first_in_units(&SubprogramAt { sections, address }, units)
-}
-
 /// Appends the scopes among these entries.
 fn push_scopes<'r, 'a>(
     pick: &ScopeAt<'_, 'a>,
@@ -97,7 +69,7 @@ fn push_scopes<'r, 'a>(
     lists: &mut KnownLists,
     found: &mut Items<Standing<'r, 'a>>,
 ) -> Result<(), NoMemory>
-    requires { AreRight pick.now.sections.now unit.now pick.now.address lists.old }
+    requires { AreRight pick.now.sections.now pick.now.address lists.old }
     ensures { OnOk result (found.new ≡ found.old
         ++ filter (scopes.is_scope_at pick.now.sections.now pick.now.address)
         (standing_in unit.now entries.now)) }
@@ -147,7 +119,7 @@ pub fn scopes_at<'r, 'a>(
 ) -> Result<Items<Standing<'r, 'a>>, NoMemory>
     ensures { IfOk result (λ xs. xs ≡ scopes.scopes_at sections.now units.now address) }
 {
-    match subprogram_at(sections, units, address) {
+    match subprogram_at(alloc, sections, units, address)? {
         Some(subprogram) => scopes_in(alloc, sections, address, subprogram),
         None => Ok(Items::new(alloc)),
     }

@@ -98,10 +98,16 @@ impl<'r, 'a> Subprograms<'r, 'a> {
 
     /// The first one that holds an address.
     #[tactic(auto, using(crate::proofs::Filters::found_kept))]
-    fn at(&self, sections: &Sections5<'a>, address: u32) -> Option<Standing<'r, 'a>>
-        ensures { result ≡ scopes.subprogram_at sections.now self.now address }
+    fn at(
+        &self,
+        alloc: Global,
+        sections: &Sections5<'a>,
+        address: u32,
+    ) -> Result<Option<Standing<'r, 'a>>, NoMemory>
+        ensures { IfOk result (λ x. x ≡ scopes.subprogram_at sections.now self.now address) }
     {
-        self.holders.first(sections, self.kept.as_slice(), address)
+        self.holders
+            .first(alloc, sections, self.kept.as_slice(), address)
     }
 
     /// What stands at an address.
@@ -117,7 +123,7 @@ impl<'r, 'a> Subprograms<'r, 'a> {
         ensures inlined { IfOk result (λ x. x.inlined
             ≡ scopes.inlined_at sections.now self.now address) }
     {
-        match self.at(sections, address) {
+        match self.at(alloc, sections, address)? {
             Some(subprogram) => {
                 let scopes = scopes_in(alloc, sections, address, subprogram.copied())?;
                 let inlined = inlined_of(alloc, scopes)?;
@@ -132,4 +138,17 @@ impl<'r, 'a> Subprograms<'r, 'a> {
             }),
         }
     }
+}
+
+/// The first subprogram of the section that holds an address and is not removed.
+pub fn subprogram_at<'r, 'a>(
+    alloc: Global,
+    sections: &Sections5<'a>,
+    units: &'r [UnitAnswer<'a>],
+    address: u32,
+) -> Result<Option<Standing<'r, 'a>>, NoMemory>
+    ensures { IfOk result (λ x. x ≡ scopes.subprogram_at sections.now units.now address) }
+{
+    let subprograms = Subprograms::of(alloc, units)?;
+    subprograms.at(alloc, sections, address)
 }

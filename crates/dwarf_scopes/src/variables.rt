@@ -9,7 +9,8 @@ ghost use Rattle.dwarf_scopes.specs.inner.Picks.{is_variable_of};
 
 use crate::insides::insides_of;
 use crate::known::KnownLists;
-use crate::scopes::{ScopeAt, subprogram_at};
+use crate::scopes::ScopeAt;
+use crate::subprograms::subprogram_at;
 use causes::NoMemory;
 use dwarf_entries::Standing;
 use dwarf_entries::tags::{FORMAL_PARAMETER, VARIABLE};
@@ -142,10 +143,10 @@ fn push_if_scope<'r, 'a>(
     lists: &mut KnownLists,
     variables: &mut Items<Standing<'r, 'a>>,
 ) -> Result<(), NoMemory>
-    requires right { AreRight pick.now.sections.now unit.now pick.now.address lists.old }
+    requires right { AreRight pick.now.sections.now pick.now.address lists.old }
     requires inside { inside ≡ deeper entry.now.depth behind.now }
     requires counts { counts.now ≡ insides behind.now }
-    ensures right { AreRight pick.now.sections.now unit.now pick.now.address lists.new }
+    ensures right { AreRight pick.now.sections.now pick.now.address lists.new }
     ensures variables { OnOk result (variables.new ≡ variables.old ++ flat_map scopes.variables_of
         (filter (scopes.is_scope_at pick.now.sections.now pick.now.address)
         (stands unit.now entry.now behind.now ∷ []))) }
@@ -166,7 +167,7 @@ fn push_scopes<'r, 'a>(
     lists: &mut KnownLists,
     variables: &mut Items<Standing<'r, 'a>>,
 ) -> Result<(), NoMemory>
-    requires right { AreRight pick.now.sections.now unit.now pick.now.address lists.old }
+    requires right { AreRight pick.now.sections.now pick.now.address lists.old }
     requires counts { counts.now ≡ insides entries.now }
     ensures { OnOk result (variables.new ≡ variables.old ++ flat_map scopes.variables_of
         (filter (scopes.is_scope_at pick.now.sections.now pick.now.address)
@@ -235,7 +236,7 @@ pub fn variables_at<'r, 'a>(
 ) -> Result<Items<Standing<'r, 'a>>, NoMemory>
     ensures { IfOk result (λ xs. xs ≡ scopes.variables_at sections.now units.now address) }
 {
-    match subprogram_at(sections, units, address) {
+    match subprogram_at(alloc, sections, units, address)? {
         Some(subprogram) => variables_in(alloc, sections, address, &subprogram),
         None => Ok(Items::new(alloc)),
     }

@@ -46,3 +46,5 @@ mod unit5_tests;
 mod unit_tests;
 #[cfg(test)]
 mod value_tests;
+#[cfg(test)]
+mod variant_tests;

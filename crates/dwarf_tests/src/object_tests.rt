@@ -1,5 +1,6 @@
-//! Variables as compilers write them: in memory by an address in a local, with static members, in
-//! namespaces and in other units. The expected texts are from the standard's rules by hand.
+//! Variables as compilers write them: in memory by an address in a local, with static members, code
+//! points and integers of 16 bytes, in namespaces and in other units. The expected texts are from
+//! the standard's rules by hand.
 
 use crate::shown_tests::{Asked, Row, Scene, first_wrong};
 use wasm_syntax::Seen;
@@ -40,6 +41,7 @@ const OBJECTS: Scene = Scene {
     address: 110,
     locals: &[Seen::I32(40), Seen::I32(44)],
     operands: &[],
+    left: None,
     globals: &[],
     contents: (
         40,
@@ -85,6 +87,21 @@ const MEMBERS: [Row; 6] = [
 #[test]
 fn static_members_are_no_part_of_the_object(rt: HostRuntime) {
     assert_eq!(rt; first_wrong(rt.alloc(), &OBJECTS, &MEMBERS), MEMBERS.len());
+}
+
+const BASES: [Row; 7] = [
+    (Asked::Path("p"), "955 '\\u{3bb}'"),
+    (Asked::Path("q"), "65 'A'"),
+    (Asked::Path("r"), "-2"),
+    (Asked::Path("u"), "340282366920938463463374607431768211454"),
+    (Asked::Path("v"), "-170141183460469231731687303715884105728"),
+    (Asked::Path("w"), "170141183460469231731687303715884105728"),
+    (Asked::Path("o"), "<unsupported type>"),
+];
+
+#[test]
+fn code_points_and_wide_integers_have_texts(rt: HostRuntime) {
+    assert_eq!(rt; first_wrong(rt.alloc(), &OBJECTS, &BASES), BASES.len());
 }
 
 const NAMES: [Row; 8] = [

@@ -133,15 +133,18 @@ fn seen(value: &AttrValue<'_>) -> Seen {
     }
 }
 
-fn is_entry(entry: &Entry<'_>, row: &EntryRow<'_>) -> bool {
+fn is_entry(alloc: Global, entry: &Entry<'_>, row: &EntryRow<'_>) -> bool {
+    let Ok(attributes) = entry.attributes.all(alloc) else {
+        return false;
+    };
     if entry.at != row.0
         || entry.depth != row.1
         || entry.tag != row.2
-        || entry.attributes.len() != row.3.len()
+        || attributes.len() != row.3.len()
     {
         return false;
     }
-    for (attribute, wanted) in entry.attributes.as_slice().iter().zip(row.3) {
+    for (attribute, wanted) in attributes.as_slice().iter().zip(row.3) {
         if seen(&attribute.value) != *wanted {
             return false;
         }
@@ -149,12 +152,12 @@ fn is_entry(entry: &Entry<'_>, row: &EntryRow<'_>) -> bool {
     true
 }
 
-fn are_entries(entries: &[Entry<'_>], rows: &[EntryRow<'_>]) -> bool {
+fn are_entries(alloc: Global, entries: &[Entry<'_>], rows: &[EntryRow<'_>]) -> bool {
     if entries.len() != rows.len() {
         return false;
     }
     for (entry, row) in entries.iter().zip(rows) {
-        if !is_entry(entry, row) {
+        if !is_entry(alloc, entry, row) {
             return false;
         }
     }
@@ -162,10 +165,10 @@ fn are_entries(entries: &[Entry<'_>], rows: &[EntryRow<'_>]) -> bool {
 }
 
 /// The first unit has these entries, none where it is unreadable.
-fn has_entries(answers: &[UnitAnswer<'_>], rows: &[EntryRow<'_>]) -> bool {
+fn has_entries(alloc: Global, answers: &[UnitAnswer<'_>], rows: &[EntryRow<'_>]) -> bool {
     match answers.first() {
         Some(answer) => match answer {
-            UnitAnswer::Tree(unit) => are_entries(unit.entries.as_slice(), rows),
+            UnitAnswer::Tree(unit) => are_entries(alloc, unit.entries.as_slice(), rows),
             UnitAnswer::Unreadable { .. } => rows.is_empty(),
         },
         None => false,
@@ -193,11 +196,11 @@ fn are_units(answers: &[UnitAnswer<'_>], rows: &[UnitRow]) -> bool {
     true
 }
 
-fn is_as_wanted(units: &Option<Units<'_>>, sample: &Sample<'_>) -> bool {
+fn is_as_wanted(alloc: Global, units: &Option<Units<'_>>, sample: &Sample<'_>) -> bool {
     match units {
         Some(units) => {
             are_units(units.as_slice(), sample.units)
-                && has_entries(units.as_slice(), sample.entries)
+                && has_entries(alloc, units.as_slice(), sample.entries)
         }
         None => false,
     }
@@ -206,6 +209,7 @@ fn is_as_wanted(units: &Option<Units<'_>>, sample: &Sample<'_>) -> bool {
 /// The sample is read so, by a reader of version 4.
 pub fn is_read4(alloc: Global, sample: &Sample<'_>) -> bool {
     is_as_wanted(
+        alloc,
         &units4(alloc, sample.info, sample.abbrev, sample.str),
         sample,
     )
@@ -214,6 +218,7 @@ pub fn is_read4(alloc: Global, sample: &Sample<'_>) -> bool {
 /// The sample is read so, by a reader of versions 4 and 5.
 pub fn is_read5(alloc: Global, sample: &Sample<'_>) -> bool {
     is_as_wanted(
+        alloc,
         &units5(alloc, sample.info, sample.abbrev, sample.str),
         sample,
     )

@@ -17,6 +17,7 @@ use var_path::parse_path;
 use wasm_syntax::Seen;
 
 // A module, and what is recorded of a frame in it.
+#[derive(Drop)]
 pub struct Scene {
     pub info: &'static [u8],
     pub abbrev: &'static [u8],
@@ -24,6 +25,8 @@ pub struct Scene {
     pub address: u32,
     pub locals: &'static [Seen],
     pub operands: &'static [Seen],
+    // How many operands a call under way has left.
+    pub left: Option<u32>,
     pub globals: &'static [Seen],
     // Bytes at an address of memory.
     pub contents: (u64, &'static [u8]),
@@ -105,7 +108,7 @@ fn first_wrong_of(
         globals: scene.globals,
         memory: memory.as_ref(),
     };
-    match Frame::new(alloc, &sections, units, scene.address, &view) {
+    match Frame::new(alloc, &sections, units, scene.address, &view, scene.left) {
         Ok(frame) => first_wrong_in(alloc, &frame, rows),
         Err(_) => 0,
     }
@@ -128,6 +131,7 @@ const COMPILED: Scene = Scene {
     address: 45,
     locals: &[Seen::I32(65_536), Seen::I32(0), Seen::I32(992)],
     operands: &[Seen::I32(65_536)],
+    left: None,
     globals: &[Seen::I32(992)],
     contents: STACK,
 };
@@ -196,6 +200,7 @@ const LOCATED: Scene = Scene {
     address: 110,
     locals: &[Seen::I32(40)],
     operands: &[],
+    left: None,
     globals: &[],
     contents: (44, &[0x34, 0x12]),
 };
@@ -225,4 +230,73 @@ const SHOWN: [Row; 19] = [
 #[test]
 fn variables_are_shown(rt: HostRuntime) {
     assert_eq!(rt; first_wrong(rt.alloc(), &LOCATED, &SHOWN), SHOWN.len());
+}
+
+// Variables of 2 bytes: at 30 one that is operand 0, at 37 operand 1, at 44 one whose address is in
+// operand 1.
+const OPERANDS: [u8; 52] = [
+    48, 0, 0, 0, 4, 0, 0, 0, 0, 0, 4, 1, 100, 0, 0, 0, 2, 5, 2, 3, 100, 0, 0, 0, 20, 4, 237, 0, 0,
+    159, 7, 16, 4, 237, 2, 0, 159, 7, 16, 4, 237, 2, 1, 159, 7, 16, 3, 237, 2, 1, 0, 0,
+];
+
+fn called(operands: &'static [Seen], left: Option<u32>) -> Scene {
+    Scene {
+        info: &OPERANDS,
+        abbrev: &ABBREV,
+        loc: &[],
+        address: 110,
+        locals: &[Seen::I32(40)],
+        operands,
+        left,
+        globals: &[],
+        contents: (44, &[0x34, 0x12]),
+    }
+}
+
+// A call has taken operand 1, or both, or none; at the last one no operand is recorded.
+const TAKEN: [(&[Seen], Option<u32>, [Row; 3]); 4] = [
+    (
+        &[Seen::I32(7)],
+        Some(1),
+        [
+            (Asked::Entry(30), "7"),
+            (Asked::Entry(37), "<optimised out>"),
+            (Asked::Entry(44), "<optimised out>"),
+        ],
+    ),
+    (
+        &[],
+        Some(0),
+        [
+            (Asked::Entry(30), "<optimised out>"),
+            (Asked::Entry(37), "<optimised out>"),
+            (Asked::Entry(44), "<optimised out>"),
+        ],
+    ),
+    (
+        &[Seen::I32(7), Seen::I32(44)],
+        None,
+        [
+            (Asked::Entry(30), "7"),
+            (Asked::Entry(37), "44"),
+            (Asked::Entry(44), "4660"),
+        ],
+    ),
+    (
+        &[],
+        Some(2),
+        [
+            (Asked::Entry(30), "<not recorded>"),
+            (Asked::Entry(37), "<not recorded>"),
+            (Asked::Entry(44), "<not recorded>"),
+        ],
+    ),
+];
+
+#[test]
+fn operands_that_a_call_has_taken_are_gone(rt: HostRuntime) {
+    for (operands, left, rows) in TAKEN {
+        let scene = called(operands, left);
+        assert_eq!(rt; first_wrong(rt.alloc(), &scene, &rows), rows.len());
+    }
 }

@@ -46,7 +46,13 @@ fn place_of(part: &Part<'_, '_>) -> Reached {
     }
 }
 
-fn walked(units: &Units<'_>, memory: &Option<Memory>, row: &Row, path: &Path<'_>) -> Reached {
+fn walked(
+    alloc: Global,
+    units: &Units<'_>,
+    memory: &Option<Memory>,
+    row: &Row,
+    path: &Path<'_>,
+) -> Reached {
     let view = FrameView {
         locals: &[],
         operands: &[],
@@ -55,7 +61,7 @@ fn walked(units: &Units<'_>, memory: &Option<Memory>, row: &Row, path: &Path<'_>
     };
     let typed = type_at(units, row.0);
     let source = Source::Single(PiecePlace::Address(row.1));
-    match walk(units, &view, path.steps.as_slice(), typed, source) {
+    match walk(alloc, units, &view, path.steps.as_slice(), typed, source) {
         Ok(Ok(part)) => place_of(&part),
         Ok(Err(mark)) => Reached::Unfit(mark),
         Err(_) => Reached::Other,
@@ -64,7 +70,7 @@ fn walked(units: &Units<'_>, memory: &Option<Memory>, row: &Row, path: &Path<'_>
 
 fn reaches(alloc: Global, units: &Units<'_>, memory: &Option<Memory>, row: &Row) -> bool {
     match parse_path(alloc, row.2) {
-        Ok(Some(path)) => walked(units, memory, row, &path) == row.3,
+        Ok(Some(path)) => walked(alloc, units, memory, row, &path) == row.3,
         _ => false,
     }
 }

@@ -16,9 +16,9 @@ use Rattle.dwarf_types.specs.Types.{class_at, type_at, behind}
 abbrev pub encoding : Standing → Option ℕ
 encoding s = valued as_natural at_encoding s.entry.attributes
 
--- the encodings that are read (DWARF 4, 7.8): address, boolean, float, signed, signed_char, unsigned, unsigned_char
+-- the encodings that are read (DWARF 4, 7.8): address, boolean, float, signed, signed_char, unsigned, unsigned_char, UTF
 abbrev pub base_of : ℕ → Kind
-base_of e = if e == 1 || e == 2 || e == 4 || e == 5 || e == 6 || e == 7 || e == 8 then kinds.Base e else kinds.Unsupported
+base_of e = if e == 1 || e == 2 || e == 4 || e == 5 || e == 6 || e == 7 || e == 8 || e == 16 then kinds.Base e else kinds.Unsupported
 
 abbrev pub base_kind : Option ℕ → Kind
 base_kind None = kinds.Unsupported

@@ -6,7 +6,7 @@ ghost use Rattle.dwarf_types.specs.Types as types;
 
 use crate::class::{Class, class_of};
 use dwarf_entries::{Standing, standing_at, type_entry};
-use dwarf_info::{Attribute, Units};
+use dwarf_info::{Attributes, Units};
 
 /// A type: that of an entry, or none. Of an array without its first so many subranges it is that of
 /// the rows behind them (DWARF 4 section 5.4).
@@ -52,7 +52,7 @@ pub fn type_at<'r, 'a>(units: &'r Units<'a>, at: u32) -> Typed<'r, 'a>
 
 /// The type of an entry with these attributes.
 #[tactic(auto, unfolding(crate::specs::Types::type_of))]
-pub fn type_of<'r, 'a>(units: &'r Units<'a>, attributes: &'r [Attribute<'a>]) -> Typed<'r, 'a>
+pub fn type_of<'r, 'a>(units: &'r Units<'a>, attributes: &'r Attributes<'a>) -> Typed<'r, 'a>
     ensures { result ≡ types.type_of units.now attributes.now }
 {
     type_in(type_entry(units, attributes))
@@ -72,7 +72,7 @@ pub fn resolved<'r, 'a>(units: &'r Units<'a>, most: u32, from: Typed<'r, 'a>) ->
             }
             match class_of(standing.entry().tag) {
                 Class::Passed => {
-                    let next = type_of(units, standing.entry().attributes.as_slice());
+                    let next = type_of(units, &standing.entry().attributes);
                     resolved(units, most - 1, next)
                 }
                 _ => Behind::Stands { standing, skipped },

@@ -10,7 +10,7 @@ ghost use Rattle.dwarf_types.specs.Counts as counts;
 use dwarf_entries::names::{COUNT, UPPER_BOUND};
 use dwarf_entries::tags::SUBRANGE;
 use dwarf_entries::{as_natural, attribute, is_child};
-use dwarf_info::{AttrValue, Attribute, Entry};
+use dwarf_info::{AttrValue, Attributes, Entry};
 
 /// A count that is not below 0.
 fn count(value: &AttrValue<'_>) -> Option<u128>
@@ -41,10 +41,13 @@ fn count_to(bound: &AttrValue<'_>) -> Option<u128>
 pub fn subrange_count(entry: &Entry<'_>) -> Option<u128>
     ensures { result ≡ counts.subrange_count entry.now }
 {
-    let attributes = entry.attributes.as_slice();
+    let attributes = &entry.attributes;
     match attribute(attributes, COUNT) {
-        Some(value) => count(value),
-        None => count_to(attribute(attributes, UPPER_BOUND)?),
+        Some(value) => count(&value),
+        None => {
+            let bound = attribute(attributes, UPPER_BOUND)?;
+            count_to(&bound)
+        }
     }
 }
 

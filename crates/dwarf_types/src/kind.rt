@@ -29,7 +29,7 @@ fn base_kind(encoding: Option<u64>) -> Kind
 {
     match encoding {
         Some(encoding) => match encoding {
-            1 | 2 | 4 | 5 | 6 | 7 | 8 => Kind::Base { encoding },
+            1 | 2 | 4 | 5 | 6 | 7 | 8 | 16 => Kind::Base { encoding },
             _ => Kind::Unsupported,
         },
         None => Kind::Unsupported,
@@ -40,7 +40,7 @@ fn base_kind(encoding: Option<u64>) -> Kind
 fn place_of<'r, 'a>(units: &'r Units<'a>, standing: &Standing<'r, 'a>) -> Option<u32>
     ensures { result ≡ kinds.place_in units.now standing.now }
 {
-    let standing = type_entry(units, standing.entry().attributes.as_slice())?;
+    let standing = type_entry(units, &standing.entry().attributes)?;
     Some(standing.entry().at)
 }
 
@@ -58,7 +58,7 @@ fn kind_as<'r, 'a>(units: &'r Units<'a>, standing: &Standing<'r, 'a>) -> Kind
             element: place_of(units, standing),
         },
         Class::Enumeration => Kind::Enumeration { at },
-        Class::Base => base_kind(natural(standing.entry().attributes.as_slice(), ENCODING)),
+        Class::Base => base_kind(natural(&standing.entry().attributes, ENCODING)),
         Class::Passed | Class::Another => Kind::Unsupported,
     }
 }

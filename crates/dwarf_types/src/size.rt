@@ -77,14 +77,15 @@ fn rows_size(standing: &Standing<'_, '_>, skipped: usize, element: Option<u64>) 
 fn stated_size(standing: &Standing<'_, '_>) -> Option<u64>
     ensures { result ≡ sizes.stated_size standing.now None }
 {
-    as_natural(attribute(standing.entry().attributes.as_slice(), BYTE_SIZE)?)
+    let size = attribute(&standing.entry().attributes, BYTE_SIZE)?;
+    as_natural(&size)
 }
 
 /// Whether an entry states a size, in a constant form.
 fn states_size(standing: &Standing<'_, '_>) -> bool
     ensures { result ≡ sizes.states_size standing.now }
 {
-    match attribute(standing.entry().attributes.as_slice(), BYTE_SIZE) {
+    match attribute(&standing.entry().attributes, BYTE_SIZE) {
         Some(AttrValue::Constant(_) | AttrValue::Signed(_)) => true,
         _ => false,
     }
@@ -101,7 +102,7 @@ fn size_within<'r, 'a>(units: &'r Units<'a>, most: u32, typed: &Typed<'r, 'a>) -
     if most == 0 {
         return None;
     }
-    let attributes = standing.entry().attributes.as_slice();
+    let attributes = &standing.entry().attributes;
     match class_of(standing.entry().tag) {
         Class::Passed => size_within(units, most - 1, &type_of(units, attributes)),
         Class::Pointing => Some(4),

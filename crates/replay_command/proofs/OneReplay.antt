@@ -1,11 +1,10 @@
 -- `replay` has at most one answer.
-use Rattle.std.proofs.Common.{◌≡◌, ℕ, ◌<◌, ◌*◌, ◌/◌, List, [], ◌∷◌, ◌++◌, length, replicate, slice_get, Option, Some, None, Result, Ok, Err, refl, sym, ap, ap₂, subst, ◌∙◌, arith, inl, inr}
+use Rattle.std.proofs.Common.{◌≡◌, ℕ, ◌<◌, ◌*◌, ◌/◌, List, [], ◌∷◌, ◌++◌, length, replicate, Option, Some, None, Result, Ok, Err, refl, sym, ap, ap₂, subst, ◌∙◌, arith, inl, inr}
 use Rattle.std.specs.Prelude.{codes, option_map, IfSome}
 use Rattle.std.specs.List.{range_with_len}
 use Rattle.linear_memory.specs.Memory.{Memory, page_size}
 use Rattle.pm_outside.specs.Contents.{Contents}
 use Rattle.wasm_syntax.specs.declared.value.Value.{Value}
-use Rattle.wasm_syntax.specs.declared.value.Seen.{Seen}
 use Rattle.wasm_syntax.specs.declared.quantity.Quantity.TheVariants.{ModuleBytes, RepliesBytes}
 use Rattle.wasm_syntax.specs.declared.host.Reply.{Reply}
 use Rattle.wasm_syntax.specs.declared.module.ModuleParts.{ModuleParts as Module}
@@ -14,7 +13,6 @@ use Rattle.wasm_syntax.specs.Module.{Program}
 use Rattle.wasm_syntax.specs.Run.{Outcome as RunOutcome}
 use Rattle.wasm_decode.specs.Decode.{module_from}
 use Rattle.dump_format.specs.declared.dump.Dump.{Dump}
-use Rattle.dump_format.specs.declared.dump.Frame.{Frame}
 use Rattle.dump_format.specs.declared.dump.Instance.{Instance}
 use Rattle.dump_format.specs.Form.{pages_of}
 use Rattle.dump_write.specs.Pages.{laid_on, memory_bytes}
@@ -25,25 +23,11 @@ use Rattle.host_replies.specs.Replies.{file_replies}
 use Rattle.commands.specs.Inputs.{input_of}
 use Rattle.commands.specs.Texts.{ended}
 use Rattle.commands.proofs.OneOutcome.{Agree, agree_then, agree_if_loaded}
-use Rattle.dwarf_expr.specs.View.{View}
-use Rattle.var_path.specs.declared.path.Path.{Path}
-use Rattle.var_path.specs.Reading.{read_path}
-use Rattle.var_eval.specs.Frames.{frame_of}
-use Rattle.var_eval.specs.PathShown.{path_shown}
-use Rattle.debugger.specs.declared.command.Command.{Command}
-use Rattle.debugger.specs.declared.command.Command.TheVariants as commands
-use Rattle.debugger.specs.Commands.{read_command, second_word}
-use Rattle.debugger.specs.Listings.{listing, recorded_or}
+use Rattle.debugger.specs.Commands.{read_command}
 use Rattle.debugger.specs.Recorded.{globals_in, laid_memory, memory_in, memory_among, recorded_globals, recorded_memory}
-use Rattle.debugger.specs.Examined.{examined_text}
-use Rattle.debug_frames.specs.declared.information.Information.{Information}
-use Rattle.debug_frames.specs.Information.{information}
-use Rattle.debug_frames.specs.Frames.{frame_text, address_of}
-use Rattle.debug_frames.specs.Unreadable.{unreadable_text}
-use Rattle.debugger.specs.Subject.{Subject}
-use Rattle.debugger.specs.Texts.{backtrace_text, frame_or_none, frame_text_at, locals_text, IsOperandsText, globals_text, memory_text}
-use Rattle.debugger.specs.Variables.{view_of, all_variables, variables_text, shown_line, path_text}
-use Rattle.debugger.specs.Session.{of_frame, of_chosen, AreOperands, chosen_variables, chosen_path, Prints, chosen_of, chosen_behind}
+use Rattle.debug_frames.specs.Information.{SourceInformation, information}
+use Rattle.debugger.specs.Subject.{Subject, subject_on}
+use Rattle.debugger.specs.Session.{Prints, chosen_behind}
 use Rattle.debug_command.proofs.OneDebug.{one_printed}
 use Rattle.wasm_laws.proofs.OneProgram.{same_program}
 use Rattle.run_command.specs.Starting.{cause_text}
@@ -58,7 +42,6 @@ use Rattle.replay_command.specs.ReplayText.{At, at_frame, at_step, commands_in, 
 use Rattle.replay_command.specs.ReplayAnswer.{recording, IsTold, ModuleAnswer, IfReplies, ReplayAnswer}
 use Rattle.validate_body.proofs.Flags.{true_false}
 use Rattle.pm_text.proofs.Lists.{some_is}
-use Rattle.commands.specs.Values.{numbered}
 
 same_number : (n k : ℕ) → (n < k → ⊥) → (k < n → ⊥) → n ≡ k
 same_number n k x y = omega (arith, x, y)
@@ -120,87 +103,9 @@ module _ (i : Image) (d e : Dump) (p : Pictures i d) (q : Pictures i e) (whole_d
   unfolding recorded_memory
   one_memory = ap (memory_among e) one_instances ∙ among d.instances
 
--- ---- what is recorded is all that commands print
-
-abbrev view_with : Frame → List Seen → Option Memory → View
-view_with f globals memory = record { locals = f.locals; operands = f.operands; globals = globals; memory = memory }
-
-of_one : (text other : Frame → List ℕ) (f : Option Frame) → ((f : Frame) → text f ≡ other f) → of_frame text f ≡ of_frame other f
-of_one text other None same = refl
-of_one text other (Some f) same = same f
-
-module _ (info : Information) (m : Module) (d e : Dump) (frames : e.frames ≡ d.frames) (globals : recorded_globals e ≡ recorded_globals d) (memory : recorded_memory e ≡ recorded_memory d) where
-  abbrev s : Subject
-  s = record { information = info; module_ = m; dump = d }
-
-  abbrev t : Subject
-  t = record { information = info; module_ = m; dump = e }
-
-  same_backtrace : backtrace_text t ≡ backtrace_text s
-  unfolding backtrace_text
-  same_backtrace = ap (λ fs. unreadable_text info ++ numbered (frame_text info m) 0 fs) frames
-
-  frame_alike : (n : ℕ) (f : Option Frame) → frame_or_none t n f ≡ frame_or_none s n f
-  frame_alike n None = refl
-  frame_alike n (Some f) = refl
-
-  same_frame : (n : ℕ) → frame_text_at t n ≡ frame_text_at s n
-  unfolding frame_text_at
-  same_frame n = ap (λ fs. frame_or_none t n (slice_get fs n)) frames ∙ frame_alike n (slice_get d.frames n)
-
-  same_chosen : (i : ℕ) (text other : Frame → List ℕ) → ((f : Frame) → text f ≡ other f) → of_chosen t i text ≡ of_chosen s i other
-  same_chosen i text other same = ap (λ fs. of_frame text (slice_get fs i)) frames ∙ of_one text other (slice_get d.frames i) same
-
-  same_locals : (f : Frame) → locals_text t f ≡ locals_text s f
-  unfolding locals_text
-  same_locals f = refl
-
-  same_operands : (i : ℕ) (f : Option Frame) (text : List ℕ) → AreOperands t i f text → AreOperands s i f text
-  unfolding IsOperandsText
-  same_operands i (Some f) text x = x
-  same_operands i None text x = x
-
-  same_globals : globals_text t ≡ globals_text s
-  unfolding globals_text
-  same_globals = ap (λ (g : List Seen). listing (codes "global") (recorded_or (length m.globals) g)) globals
-
-  same_view : (f : Frame) → view_of t f ≡ view_of s f
-  same_view f = ap₂ (view_with f) globals memory
-
-  same_variables : (f : Frame) → variables_text t f ≡ variables_text s f
-  unfolding variables_text
-  same_variables f = ap (λ (v : View). all_variables (frame_of info.sections info.units (address_of m f) v)) (same_view f)
-
-  all_same : (i : ℕ) → chosen_variables t i ≡ chosen_variables s i
-  unfolding chosen_variables
-  all_same i = ap (λ (k : List ℕ). unreadable_text info ++ k) (same_chosen i (variables_text t) (variables_text s) same_variables)
-
-  same_path : (word : List ℕ) (path : Path) (f : Frame) → path_text t f word path ≡ path_text s f word path
-  unfolding path_text
-  same_path word path f = ap (λ (v : View). shown_line path.name word (path_shown (frame_of info.sections info.units (address_of m f) v) path)) (same_view f)
-
-  by_path : (i : ℕ) (word : List ℕ) (path : Option Path) → chosen_path t i word path ≡ chosen_path s i word path
-  by_path i word (Some path) = same_chosen i (λ f. path_text t f word path) (λ f. path_text s f word path) (same_path word path)
-  by_path i word None = refl
-
-  same_memory : (at n : ℕ) → memory_text t at n ≡ memory_text s at n
-  unfolding memory_text
-  same_memory at n = ap (λ (k : Option Memory). examined_text k at n) memory
-
-  pub prints_same : (i : ℕ) (given : List ℕ) (c : Command) (text : List ℕ) → Prints t i given c text → Prints s i given c text
-  prints_same i given commands.Backtrace text x = x ∙ same_backtrace
-  prints_same i given (commands.Frame n) text x = x ∙ same_frame n
-  prints_same i given commands.Locals text x = x ∙ same_chosen i (locals_text t) (locals_text s) same_locals
-  prints_same i given commands.Operands text x = same_operands i (slice_get d.frames i) text (subst (λ (fs : List Frame). AreOperands t i (slice_get fs i) text) frames x)
-  prints_same i given commands.Globals text x = x ∙ same_globals
-  prints_same i given commands.Variables text x = x ∙ all_same i
-  prints_same i given commands.Print text x = x ∙ by_path i (second_word given) (read_path (second_word given))
-  prints_same i given (commands.Examine at n) text x = x ∙ same_memory at n
-  prints_same i given commands.Bad text x = x
-
-  pub chooses_same : (i : ℕ) (c : Command) → chosen_behind t i c ≡ chosen_behind s i c
-  chooses_same i (commands.Frame n) = ap (λ (fs : List Frame). chosen_of i n (slice_get fs n)) frames
-  chooses_same i _ = refl
+  -- so a session looks at the same
+  pub one_subject : (known : SourceInformation) (m : Module) → subject_on known m e ≡ subject_on known m d
+  one_subject known m = λ k. record { information = known; module_ = m; frames = one_frames k; globals = one_recorded k; memory = one_memory k }
 
 -- ---- moves
 
@@ -231,12 +136,11 @@ module _ (p : Program) (x : Recording) (bytes : List ℕ) (end : ℕ) (o : RunOu
   one_look old given a b u v h k =
       let state : h.shows.state ≡ k.shows.state = some_is (sym h.shows.is_state ∙ k.shows.is_state) in
       let q : Pictures (image h.shows.state (codes "module")) k.dump = subst (λ (c : Config). Pictures (image c (codes "module")) k.dump) (sym state) k.shows.pictures in
-      let frames : k.dump.frames ≡ h.dump.frames = one_frames (image h.shows.state (codes "module")) h.dump k.dump h.shows.pictures q h.shows.whole k.shows.whole in
-      let globals : recorded_globals k.dump ≡ recorded_globals h.dump = one_recorded (image h.shows.state (codes "module")) h.dump k.dump h.shows.pictures q h.shows.whole k.shows.whole in
-      let memory : recorded_memory k.dump ≡ recorded_memory h.dump = one_memory (image h.shows.state (codes "module")) h.dump k.dump h.shows.pictures q h.shows.whole k.shows.whole in
-      let info : Information = information bytes x.module_.customs in (
-        one_printed (subject_at x bytes h.dump) old.chosen given (read_command given) a b h.prints (prints_same info x.module_ h.dump k.dump frames globals memory old.chosen given (read_command given) b k.prints),
-        h.chooses ∙ ap (at_frame old.step) (sym (chooses_same info x.module_ h.dump k.dump frames globals memory old.chosen (read_command given))) ∙ sym k.chooses,
+      let subject : subject_at x bytes k.dump ≡ subject_at x bytes h.dump =
+      one_subject (image h.shows.state (codes "module")) h.dump k.dump h.shows.pictures q h.shows.whole k.shows.whole (information bytes x.module_.customs) x.module_ in
+      let prints : Prints (subject_at x bytes h.dump) old.chosen given (read_command given) b = subst (λ (s : Subject). Prints s old.chosen given (read_command given) b) subject k.prints in (
+        one_printed (subject_at x bytes h.dump) old.chosen given (read_command given) a b h.prints prints,
+        h.chooses ∙ ap (λ (s : Subject). at_frame old.step (chosen_behind s old.chosen (read_command given))) (sym subject) ∙ sym k.chooses,
       )
 
   one_move : (old : At) (given : List ℕ) (c : Move) (a b : List ℕ) (u v : At) → DoesMove p x bytes end o old given c a u → DoesMove p x bytes end o old given c b v → Same a b u v

@@ -9,9 +9,8 @@ use Rattle.wasm_syntax.specs.Run.{Outcome}
 use Rattle.machine_hosted.specs.declared.answer.RunEnd.{RunEnd}
 use Rattle.dump_format.specs.declared.dump.Dump.{Dump}
 use Rattle.dump_match.specs.Judged.{Match}
-use Rattle.debug_frames.specs.declared.information.Information.{Information}
-use Rattle.debug_frames.specs.Information.{information}
-use Rattle.debugger.specs.Subject.{Subject}
+use Rattle.debug_frames.specs.Information.{SourceInformation, information}
+use Rattle.debugger.specs.Subject.{Subject, subject_on}
 use Rattle.debugger.specs.calls.Sitting.{Sitting, sitting}
 use Rattle.replay.specs.Replays.{Recording, IsOutcome}
 use Rattle.replay.specs.Moves.{Replay, OfEach, Went, Found}
@@ -113,10 +112,10 @@ took_move old new before after out more given commands left move begins reads mo
 }
 
 -- what a session on the dump of a state looks at
-pub looks_at : (x : Recording) (bytes : List ℕ) (m : Module) (d : Dump) (known : Information) (match : Match) → m ≡ x.module_ → known ≡ information bytes m.customs → match.module_ ≡ m → match.dump ≡ d
-    → record { information = known; module_ = match.module_; dump = match.dump } ≡ subject_at x bytes d
+pub looks_at : (x : Recording) (bytes : List ℕ) (m : Module) (d : Dump) (known : SourceInformation) (match : Match) → m ≡ x.module_ → known ≡ information bytes m.customs → match.module_ ≡ m → match.dump ≡ d
+    → subject_on known match.module_ match.dump ≡ subject_at x bytes d
 looks_at x bytes m d known match of is module_is dump_is =
-    λ i. record { information = (is ∙ ap (λ (k : Module). information bytes k.customs) of) i; module_ = (module_is ∙ of) i; dump = dump_is i }
+    λ i. subject_on ((is ∙ ap (λ (k : Module). information bytes k.customs) of) i) ((module_is ∙ of) i) (dump_is i)
 
 -- commands look at one dump of the state
 pub took_looks : (r : Replay) (before after : Seat) (d : Dump) (session : Sitting) (at : Subject) (out more : List ℕ) (commands left : List (List ℕ)) (j : ℕ) → after ≡ choosing before after.chosen → after.chosen ≡ j

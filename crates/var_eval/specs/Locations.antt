@@ -1,5 +1,5 @@
 -- Where a variable is (DWARF 4, 2.6, 3.3.5 and 4.1; DWARF 5, 2.6).
-use Rattle.std.specs.Prelude.{ℕ, List, take, drop, Option, Some, None, if◌then◌else◌}
+use Rattle.std.specs.Prelude.{ℕ, Bool, false, List, take, drop, Option, Some, None, if◌then◌else◌}
 use Rattle.int_ops.specs.Integers.{modulo}
 use Rattle.dwarf_info.specs.declared.entry.AttrValue.{AttrValue}
 use Rattle.dwarf_info.specs.declared.entry.AttrValue.TheVariants.{Block, Offset}
@@ -17,6 +17,7 @@ use Rattle.dwarf_expr.specs.declared.answer.Base.TheVariants as bases
 use Rattle.dwarf_expr.specs.View.{View}
 use Rattle.dwarf_expr.specs.Decode.{operators}
 use Rattle.dwarf_expr.specs.Meaning.{is_location, meaning}
+use Rattle.dwarf_expr.specs.Named.{names_operand_from}
 use Rattle.dwarf_expr.specs.FrameBase.{frame_base}
 use Rattle.dwarf5_info.specs.Units.{plain_of}
 use Rattle.dwarf_scopes.specs.Lists.{is_version5, location_in}
@@ -89,8 +90,16 @@ source_of (evals.Unsupported op at) = Lost UnsupportedExpression
 source_of (evals.BadExpr at) = Lost BadExpression
 source_of evals.TooDeep = Lost ExpressionTooDeep
 
+-- it names an operand that the call under way has taken
+abbrev pub is_gone : Option ℕ → List ℕ → Bool
+is_gone (Some left) e = names_operand_from left (operators e)
+is_gone None e = false
+
+abbrev pub source_in : Frame → List ℕ → Source
+source_in f e = if is_gone f.left e then Lost OptimisedOut else source_of (place_meant e f.view (base_of f))
+
 abbrev pub source_by : Frame → Standing → Located → Source
-source_by f x (Expression e) = source_of (place_meant (plain_of f.sections x.unit e) f.view (base_of f))
+source_by f x (Expression e) = source_in f (plain_of f.sections x.unit e)
 source_by f x NoEntry = Lost OptimisedOut
 source_by f x Unreadable = Lost BadExpression
 source_by f x Unsaid = constant_source x.entry.attributes

@@ -3,8 +3,8 @@ use Rattle.std.specs.Prelude.{ℕ, ◌+◌, ◌*◌, ◌%◌, ◌^◌, ◌==◌,
 use Rattle.dwarf_info.specs.declared.entry.Entry.{Entry}
 use Rattle.dwarf_info.specs.declared.entry.UnitAnswer.{UnitAnswer}
 use Rattle.dwarf_expr.specs.declared.answer.PiecePlace.TheVariants.{Address}
-use Rattle.dwarf_entries.specs.Tags.{tag_pointer, tag_member}
-use Rattle.dwarf_entries.specs.Standing.{Standing, children_tagged}
+use Rattle.dwarf_entries.specs.Tags.{tag_pointer}
+use Rattle.dwarf_entries.specs.Standing.{Standing}
 use Rattle.dwarf_entries.specs.Origins.{name_or_empty, longest_chain}
 use Rattle.dwarf_types.specs.declared.class.Class.{Class}
 use Rattle.dwarf_types.specs.declared.class.Class.TheVariants as classes
@@ -25,6 +25,9 @@ use Rattle.var_values.specs.Bytes.{Recorded, number_at}
 use Rattle.var_values.specs.declared.bits.Bits.{Bits}
 use Rattle.var_values.specs.Places.{Place, start_of, further}
 use Rattle.var_values.specs.Members.{member_at}
+use Rattle.var_values.specs.declared.item.Item.{Item}
+use Rattle.var_values.specs.declared.item.Item.TheVariants as items
+use Rattle.var_values.specs.Variants.{items as items_in}
 use Rattle.var_eval.specs.declared.meeting.Met.{Met}
 
 -- a part of a variable: its type, where it stands, and whether that is behind the end of an array whose count is known
@@ -55,8 +58,13 @@ met units part = met_as part.place.bits (behind units longest_chain part.type)
 
 -- ---- members
 
-abbrev pub member_named : List UnitAnswer → List ℕ → Standing → Option Entry
-member_named units name s = find (λ e. bytes_eq (name_or_empty units e.attributes) name) (children_tagged tag_member s)
+abbrev pub has_name : List UnitAnswer → List ℕ → Item → Bool
+has_name units name (items.Member x) = bytes_eq (name_or_empty units x.entry.attributes) name
+has_name units name (items.Unknown m) = false
+
+-- of a variant part one of the variant that is chosen
+abbrev pub member_named : List UnitAnswer → Recorded → List ℕ → Standing → Place → Option Item
+member_named units memory name s place = find (has_name units name) (items_in units memory place longest_chain s)
 
 abbrev pub part_of : List UnitAnswer → Bool → Entry → Place → Part
 part_of units past e p = record { type = type_of units e.attributes; place = p; past = past }
@@ -65,15 +73,19 @@ part_of units past e p = record { type = type_of units e.attributes; place = p; 
 unfoldable pub at_member : List UnitAnswer → Place → Bool → Entry → Option Part
 at_member units place past e = option_map (part_of units past e) (member_at place e)
 
-abbrev pub member_of : List UnitAnswer → List ℕ → Standing → Place → Bool → Reached
-member_of units name s place past = ok_or (option_and_then (at_member units place past) (member_named units name s)) UnsupportedType
+abbrev pub at_item : List UnitAnswer → Place → Bool → Item → Option Part
+at_item units place past (items.Member x) = at_member units place past x.entry
+at_item units place past (items.Unknown m) = None
 
-abbrev pub member_as : Class → List UnitAnswer → List ℕ → Part → Standing → Reached
-member_as classes.Members units name part s = member_of units name s part.place part.past
-member_as c units name part s = Err UnsupportedType
+abbrev pub member_of : List UnitAnswer → Recorded → List ℕ → Standing → Place → Bool → Reached
+member_of units memory name s place past = ok_or (option_and_then (at_item units place past) (member_named units memory name s place)) UnsupportedType
 
-unfoldable pub member_step : List UnitAnswer → List ℕ → Part → Reached
-member_step units name part = and_then (met units part) (λ x. member_as (class_at x.standing) units name part x.standing)
+abbrev pub member_as : Class → List UnitAnswer → Recorded → List ℕ → Part → Standing → Reached
+member_as classes.Members units memory name part s = member_of units memory name s part.place part.past
+member_as c units memory name part s = Err UnsupportedType
+
+unfoldable pub member_step : List UnitAnswer → Recorded → List ℕ → Part → Reached
+member_step units memory name part = and_then (met units part) (λ x. member_as (class_at x.standing) units memory name part x.standing)
 
 -- ---- pointers and references
 
@@ -133,8 +145,8 @@ element_step units memory n part = and_then (met units part) (λ x. element_as (
 -- ---- steps of a path
 
 unfoldable pub step : List UnitAnswer → Recorded → Part → Step → Reached
-step units memory part (Member name) = member_step units name part
-step units memory part (Arrow name) = and_then (pointer_step units memory part) (member_step units name)
+step units memory part (Member name) = member_step units memory name part
+step units memory part (Arrow name) = and_then (pointer_step units memory part) (member_step units memory name)
 step units memory part (Index n) = element_step units memory n part
 step units memory part Deref = pointer_step units memory part
 

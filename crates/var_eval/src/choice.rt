@@ -15,7 +15,7 @@ use std::alloc::Global;
 fn is_named<'r, 'a>(units: &'r Units<'a>, name: &[u8], standing: &Standing<'r, 'a>) -> bool
     ensures { result ≡ definitions.is_named units.now name.now standing.now }
 {
-    name_or_empty(units, standing.entry().attributes.as_slice()) == name
+    name_or_empty(units, &standing.entry().attributes) == name
 }
 
 /// The last entry of a name.
@@ -177,7 +177,8 @@ pub fn chosen<'r, 'a>(
 ) -> Result<Option<Standing<'r, 'a>>, NoMemory>
     ensures { IfOk result (λ x. x ≡ definitions.chosen sections.now units.now address name.now) }
 {
-    let Some(subprogram) = subprogram_at(sections, units.as_slice(), address) else {
+    let found = subprogram_at(alloc, sections, units.as_slice(), address)?;
+    let Some(subprogram) = found else {
         return Ok(None);
     };
     let visible = variables_at(alloc, sections, units.as_slice(), address)?;

@@ -73,7 +73,7 @@ fn element_type<'r, 'a>(units: &'r Units<'a>, met: Met<'r, 'a>) -> Typed<'r, 'a>
             skipped: skipped + 1,
         };
     }
-    type_of(units, standing.entry().attributes.as_slice())
+    type_of(units, &standing.entry().attributes)
 }
 
 /// So many elements of a size, in bytes.
@@ -136,7 +136,7 @@ fn pointed_element<'r, 'a>(
     ensures { Tells result (steps.pointed_element units.now index standing.now source
         (the_size units.now (the_type units.now standing.now.entry.attributes))) }
 {
-    let to = type_of(units, standing.entry().attributes.as_slice());
+    let to = type_of(units, &standing.entry().attributes);
     let Some(size) = type_size(units, &to) else {
         return Err(Stop::Marked(Mark::UnsupportedType));
     };

@@ -13,13 +13,14 @@ use std::alloc::Global;
 use std::marker::Model;
 
 /// A frame as its variables see it: what the sections of its module say, the address of the code
-/// where it stands, and what is recorded of it.
+/// where it stands, what is recorded of it, and how many operands a call under way there has left.
 #[derive(Drop)]
 pub struct Frame<'s, 'u, 'w, 'v, 'a> {
     sections: &'s Sections5<'a>,
     units: &'u Units<'a>,
     address: u32,
     view: &'w FrameView<'v>,
+    left: Option<u32>,
     base: Base,
 }
 
@@ -30,10 +31,10 @@ impl<'s, 'u, 'w, 'v, 'a> Model for Frame<'s, 'u, 'w, 'v, 'a> {
 
     ghost Value = { Frame };
 
-    ghost view = { λ f. frame_of f.sections.now f.units.now f.address f.view.now };
+    ghost view = { λ f. frame_of f.sections.now f.units.now f.address f.view.now f.left };
 
     ghost invariant = { λ f. f.base
-        ≡ base_of (frame_of f.sections.now f.units.now f.address f.view.now) };
+        ≡ base_of (frame_of f.sections.now f.units.now f.address f.view.now f.left) };
 }
 
 impl<'s, 'u, 'w, 'v, 'a> Frame<'s, 'u, 'w, 'v, 'a> {
@@ -44,16 +45,18 @@ impl<'s, 'u, 'w, 'v, 'a> Frame<'s, 'u, 'w, 'v, 'a> {
         units: &'u Units<'a>,
         address: u32,
         view: &'w FrameView<'v>,
+        left: Option<u32>,
     ) -> Result<Self, NoMemory>
-        ensures { IfOk result (λ f. f ≡ frame_of sections.now units.now address view.now) }
+        ensures { IfOk result (λ f. f ≡ frame_of sections.now units.now address view.now left) }
     {
-        let subprogram = subprogram_at(sections, units.as_slice(), address);
+        let subprogram = subprogram_at(alloc, sections, units.as_slice(), address)?;
         let base = base_in(alloc, sections, address, view, &subprogram)?;
         Ok(Frame {
             sections,
             units,
             address,
             view,
+            left,
             base,
         })
     }
@@ -81,6 +84,13 @@ impl<'s, 'u, 'w, 'v, 'a> Frame<'s, 'u, 'w, 'v, 'a> {
         ensures { result.now ≡ self.now.view }
     {
         self.view
+    }
+
+    /// How many operands a call under way has left, where one is.
+    pub fn left(&self) -> Option<u32>
+        ensures { result ≡ self.now.left }
+    {
+        self.left
     }
 
     /// The frame base (DWARF 4 section 3.3.5).

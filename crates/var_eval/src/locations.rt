@@ -12,7 +12,9 @@ use crate::located::Located;
 use causes::NoMemory;
 use dwarf_entries::names::{FRAME_BASE, LOCATION};
 use dwarf_entries::{Standing, attribute};
-use dwarf_expr::{Base, Eval, FrameView, PiecePlace, eval, frame_base, is_location};
+use dwarf_expr::{
+    Base, Eval, FrameView, PiecePlace, eval, frame_base, is_location, names_operand_from,
+};
 use dwarf_info::{AttrValue, Sections5, Unit};
 use dwarf_loc::Span;
 use dwarf_scopes::location_in;
@@ -97,9 +99,9 @@ fn located<'r, 'a>(
 ) -> Located<'a>
     ensures { result ≡ locations.located sections.now address standing.now name }
 {
-    match attribute(standing.entry().attributes.as_slice(), name) {
+    match attribute(&standing.entry().attributes, name) {
         Some(AttrValue::Block(expr)) => Located::Expression(Run::new(expr.as_slice())),
-        Some(AttrValue::Offset(at)) => in_list(sections, standing.unit(), *at, address),
+        Some(AttrValue::Offset(at)) => in_list(sections, standing.unit(), at, address),
         _ => Located::Unsaid,
     }
 }
@@ -130,26 +132,6 @@ fn place_meant(expr: &[u8], view: &FrameView<'_>, base: Base) -> Eval
             }
         }
         answer => answer,
-    }
-}
-
-/// What an expression of a unit means as the place of a variable, with a frame base.
-fn place_in(
-    alloc: Global,
-    sections: &Sections5<'_>,
-    unit: &Unit<'_>,
-    view: &FrameView<'_>,
-    base: Base,
-    expr: &[u8],
-) -> Result<Eval, NoMemory>
-    ensures { IfOk result (λ e. e
-        ≡ locations.place_meant (plain_of sections.now unit.now expr.now) view.now base) }
-{
-    if unit.version == 5 {
-        let plain = plain_expr(alloc, sections, unit, expr)?;
-        Ok(place_meant(short(plain.as_slice())?, view, base))
-    } else {
-        Ok(place_meant(short(expr)?, view, base))
     }
 }
 
@@ -211,6 +193,46 @@ fn source_meant(eval: Eval) -> Source
     }
 }
 
+/// Whether an expression names an operand that a call under way has taken, which has so many left.
+fn is_gone(left: Option<u32>, expr: &[u8]) -> bool
+    requires { length expr.now < 2 ^ 32 }
+    ensures { result ≡ locations.is_gone left expr.now }
+{
+    match left {
+        Some(left) => names_operand_from(expr, u64::from(left)),
+        None => false,
+    }
+}
+
+/// Where a variable comes from in a frame by its expression.
+fn source_in(frame: &Frame<'_, '_, '_, '_, '_>, expr: &[u8]) -> Source
+    requires { length expr.now < 2 ^ 32 }
+    ensures { result ≡ locations.source_in frame.now expr.now }
+{
+    if is_gone(frame.left(), expr) {
+        return Source::Lost(Mark::OptimisedOut);
+    }
+    source_meant(place_meant(expr, frame.view(), frame.base()))
+}
+
+/// Where a variable of a unit comes from in a frame by its expression.
+fn source_by<'a>(
+    alloc: Global,
+    frame: &Frame<'_, '_, '_, '_, 'a>,
+    unit: &Unit<'a>,
+    expr: &[u8],
+) -> Result<Source, NoMemory>
+    ensures { IfOk result (λ source. source ≡ locations.source_in frame.now
+        (plain_of frame.now.sections unit.now expr.now)) }
+{
+    if unit.version == 5 {
+        let plain = plain_expr(alloc, frame.sections(), unit, expr)?;
+        Ok(source_in(frame, short(plain.as_slice())?))
+    } else {
+        Ok(source_in(frame, short(expr)?))
+    }
+}
+
 /// Where a variable comes from in a frame.
 #[tactic(auto, unfolding(crate::specs::Locations::variable_source))]
 pub fn source_of<'r, 'a>(
@@ -221,14 +243,9 @@ pub fn source_of<'r, 'a>(
     ensures { IfOk result (λ source. source ≡ locations.variable_source frame.now variable.now) }
 {
     match located(frame.sections(), frame.address(), variable, LOCATION) {
-        Located::Expression(expr) => {
-            let (unit, base) = (variable.unit(), frame.base());
-            let expr = expr.as_slice();
-            let meant = place_in(alloc, frame.sections(), unit, frame.view(), base, expr)?;
-            Ok(source_meant(meant))
-        }
+        Located::Expression(expr) => source_by(alloc, frame, variable.unit(), expr.as_slice()),
         Located::NoEntry => Ok(Source::Lost(Mark::OptimisedOut)),
         Located::Unreadable => Ok(Source::Lost(Mark::BadExpression)),
-        Located::Unsaid => Ok(constant_source(variable.entry().attributes.as_slice())),
+        Located::Unsaid => Ok(constant_source(&variable.entry().attributes)),
     }
 }

@@ -1,9 +1,6 @@
 //! Steps to members (DWARF 4 section 5.5.6).
 
-ghost use Rattle.std.specs.Prelude.{◌≡◌, filter, find, bytes_eq, option_map, option_copied, ok_or};
-ghost use Rattle.dwarf_entries.specs.Origins.{name_or_empty as the_name};
-ghost use Rattle.dwarf_entries.specs.Standing.{is_child};
-ghost use Rattle.dwarf_entries.specs.Tags.{tag_member};
+ghost use Rattle.std.specs.Prelude.{◌≡◌, find, option_map, option_copied, ok_or};
 ghost use Rattle.var_values.specs.declared.mark.Mark.TheVariants.{UnsupportedType};
 ghost use Rattle.var_values.specs.Members.{part_at as the_place};
 ghost use Rattle.var_eval.specs.Steps as steps;
@@ -13,28 +10,33 @@ use crate::meeting::meet;
 use crate::part::Part;
 use crate::spot::Spot;
 use crate::stop::Stop;
-use dwarf_entries::tags::MEMBER;
-use dwarf_entries::{Standing, is_child, name_or_empty};
+use dwarf_entries::{Standing, name_or_empty};
+use dwarf_expr::FrameView;
 use dwarf_info::{Entry, Units};
 use dwarf_types::{Class, class_of, type_of};
-use var_values::{Bits, Mark, constant_source, is_static, part_at};
+use std::alloc::Global;
+use var_values::{Bits, Item, Mark, constant_source, is_static, items_of, part_at};
 
-/// The first member of a name, among the entries in one of this depth.
-fn member_named<'r, 'a>(
+fn has_name(units: &Units<'_>, name: &[u8], item: &Item<'_, '_>) -> bool
+    ensures { result ≡ steps.has_name units.now name.now item.now }
+{
+    match item {
+        Item::Member(standing) => { name_or_empty(units, &standing.entry().attributes) == name }
+        Item::Unknown(_) => false,
+    }
+}
+
+/// The first of a name, among what stands in a structure.
+fn member_named<'i, 'r, 'a>(
     units: &'r Units<'a>,
     name: &[u8],
-    entries: &'r [Entry<'a>],
-    depth: u32,
-) -> Option<&'r Entry<'a>>
-    ensures { option_copied result
-        ≡ find (λ e. bytes_eq (the_name units.now e.attributes) name.now)
-        (filter (is_child depth tag_member) entries.now) }
+    items: &'i [Item<'r, 'a>],
+) -> Option<&'i Item<'r, 'a>>
+    ensures { option_copied result ≡ find (steps.has_name units.now name.now) items.now }
 {
-    for entry in entries {
-        if is_child(entry, depth, MEMBER)
-            && name_or_empty(units, entry.attributes.as_slice()) == name
-        {
-            return Some(entry);
+    for item in items {
+        if has_name(units, name, item) {
+            return Some(item);
         }
     }
     None
@@ -66,7 +68,7 @@ fn placed_part<'r, 'a>(
     };
     let spot = spot.moved(offset, bits)?;
     Ok(Part {
-        typed: type_of(units, member.attributes.as_slice()),
+        typed: type_of(units, &member.attributes),
         spot,
         past,
     })
@@ -86,45 +88,66 @@ fn member_part<'r, 'a>(
     if !is_static(member) {
         return placed_part(units, member, spot, past);
     }
-    let constant = constant_source(member.attributes.as_slice());
+    let constant = constant_source(&member.attributes);
     Ok(Part {
-        typed: type_of(units, member.attributes.as_slice()),
+        typed: type_of(units, &member.attributes),
         spot: Spot::start_of(constant),
         past,
     })
 }
 
+/// A member of a structure that stands there, which is among what stands in it.
+fn item_part<'r, 'a>(
+    units: &'r Units<'a>,
+    item: &Item<'r, 'a>,
+    spot: Spot,
+    past: bool,
+) -> Result<Part<'r, 'a>, Stop>
+    ensures { Tells result (ok_or (steps.at_item units.now spot past item.now) UnsupportedType) }
+{
+    match item {
+        Item::Member(standing) => member_part(units, standing.entry(), spot, past),
+        Item::Unknown(_) => Err(Stop::Marked(Mark::UnsupportedType)),
+    }
+}
+
 /// The member of a name of a structure, class or union that stands there.
 fn member_of<'r, 'a>(
+    alloc: Global,
     units: &'r Units<'a>,
+    view: &FrameView<'_>,
     name: &[u8],
     standing: &Standing<'r, 'a>,
     spot: Spot,
     past: bool,
 ) -> Result<Part<'r, 'a>, Stop>
     ensures { Tells result
-        (steps.member_of units.now name.now standing.now spot past) }
+        (steps.member_of units.now view.now.memory name.now standing.now spot past) }
 {
-    let depth = standing.entry().depth;
-    let Some(member) = member_named(units, name, standing.inside(), depth) else {
-        return Err(Stop::Marked(Mark::UnsupportedType));
+    let Ok(items) = items_of(alloc, units, view, standing, &spot.place()) else {
+        return Err(Stop::NoMemory);
     };
-    member_part(units, member, spot, past)
+    match member_named(units, name, items.as_slice()) {
+        Some(item) => item_part(units, item, spot, past),
+        None => Err(Stop::Marked(Mark::UnsupportedType)),
+    }
 }
 
 /// The member of a name, of a structure, class or union.
 #[tactic(auto, using(crate::proofs::Stops::stopped), unfolding(crate::specs::Steps::member_step))]
 pub fn member_step<'r, 'a>(
+    alloc: Global,
     units: &'r Units<'a>,
+    view: &FrameView<'_>,
     name: &[u8],
     part: Part<'r, 'a>,
 ) -> Result<Part<'r, 'a>, Stop>
-    ensures { Tells result (steps.member_step units.now name.now part.entry) }
+    ensures { Tells result (steps.member_step units.now view.now.memory name.now part.entry) }
 {
     let Part { typed, spot, past } = part;
     let met = meet(units, typed, spot.place().bits)?;
     match class_of(met.standing.entry().tag) {
-        Class::Members => member_of(units, name, &met.standing, spot, past),
+        Class::Members => member_of(alloc, units, view, name, &met.standing, spot, past),
         _ => Err(Stop::Marked(Mark::UnsupportedType)),
     }
 }

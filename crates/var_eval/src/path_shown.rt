@@ -60,8 +60,8 @@ fn shown_behind<'r, 'a>(
 {
     let units = frame.units();
     let source = source_of(alloc, frame, variable)?;
-    let typed = type_of(units, variable.entry().attributes.as_slice());
-    let reached = walk(units, frame.view(), steps, typed, source)?;
+    let typed = type_of(units, &variable.entry().attributes);
+    let reached = walk(alloc, units, frame.view(), steps, typed, source)?;
     match reached {
         Ok(part) => shown_part(alloc, units, frame.view(), &part),
         Err(mark) => Ok(Shown::Marked(mark)),

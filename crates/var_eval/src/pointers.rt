@@ -54,7 +54,7 @@ pub fn pointer_step<'r, 'a>(
     let met = meet(units, typed, spot.place().bits)?;
     match class_of(met.standing.entry().tag) {
         Class::Pointing => {
-            let to = type_of(units, met.standing.entry().attributes.as_slice());
+            let to = type_of(units, &met.standing.entry().attributes);
             Ok(Part::whole(to, pointed(view, &spot, past)))
         }
         _ => Err(Stop::Marked(Mark::UnsupportedType)),

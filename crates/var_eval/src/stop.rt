@@ -8,4 +8,6 @@ pub enum Stop {
     Marked(Mark),
     /// So far from the source that sums of offsets may not have 128 bits.
     TooFar,
+    /// Memory ran out.
+    NoMemory,
 }

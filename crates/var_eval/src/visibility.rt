@@ -26,7 +26,7 @@ pub type Variables<'a> = Items<Variable<'a>>;
 fn variable_of<'r, 'a>(units: &'r Units<'a>, standing: &Standing<'r, 'a>) -> Variable<'a>
     ensures { result ≡ definitions.variable_of units.now standing.now }
 {
-    let name = name_or_empty(units, standing.entry().attributes.as_slice());
+    let name = name_or_empty(units, &standing.entry().attributes);
     Variable {
         name: Run::new(name),
         entry: standing.entry().at,

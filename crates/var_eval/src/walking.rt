@@ -13,12 +13,14 @@ use causes::NoMemory;
 use dwarf_expr::FrameView;
 use dwarf_info::Units;
 use dwarf_types::Typed;
+use std::alloc::Global;
 use var_path::Step;
 use var_values::{Mark, Source};
 
 /// One step.
 #[tactic(auto, using(crate::proofs::Stops::stopped), unfolding(crate::specs::Steps::step))]
 fn take_step<'r, 'a>(
+    alloc: Global,
     units: &'r Units<'a>,
     view: &FrameView<'_>,
     part: Part<'r, 'a>,
@@ -27,10 +29,10 @@ fn take_step<'r, 'a>(
     ensures { Tells result (definitions.step units.now view.now.memory part.entry step.now) }
 {
     match step {
-        Step::Member(name) => member_step(units, name.as_slice(), part),
+        Step::Member(name) => member_step(alloc, units, view, name.as_slice(), part),
         Step::Arrow(name) => {
             let to = pointer_step(units, view, part)?;
-            member_step(units, name.as_slice(), to)
+            member_step(alloc, units, view, name.as_slice(), to)
         }
         Step::Index(index) => element_step(units, view, *index, part),
         Step::Deref => pointer_step(units, view, part),
@@ -38,6 +40,7 @@ fn take_step<'r, 'a>(
 }
 
 fn take_steps<'r, 'a>(
+    alloc: Global,
     units: &'r Units<'a>,
     view: &FrameView<'_>,
     steps: &[Step<'_>],
@@ -47,7 +50,7 @@ fn take_steps<'r, 'a>(
 {
     let mut part = whole;
     for step in steps {
-        part = take_step(units, view, part, step)?;
+        part = take_step(alloc, units, view, part, step)?;
     }
     Ok(part)
 }
@@ -60,6 +63,7 @@ fn take_steps<'r, 'a>(
 /// Want of memory also where an offset in a source passes 2^118 bytes, which takes millions of
 /// steps.
 pub fn walk<'r, 'a>(
+    alloc: Global,
     units: &'r Units<'a>,
     view: &FrameView<'_>,
     steps: &[Step<'_>],
@@ -70,9 +74,9 @@ pub fn walk<'r, 'a>(
         ≡ definitions.walk units.now view.now.memory steps.now
         (definitions.whole typed.entry source)) }
 {
-    match take_steps(units, view, steps, Part::whole(typed, source)) {
+    match take_steps(alloc, units, view, steps, Part::whole(typed, source)) {
         Ok(part) => Ok(Ok(part)),
         Err(Stop::Marked(mark)) => Ok(Err(mark)),
-        Err(Stop::TooFar) => Err(NoMemory),
+        Err(Stop::TooFar | Stop::NoMemory) => Err(NoMemory),
     }
 }

@@ -28,7 +28,7 @@ fn push_whole<'r, 'a>(
 {
     let source = source_of(alloc, frame, variable)?;
     let units = frame.units();
-    let typed = type_of(units, variable.entry().attributes.as_slice());
+    let typed = type_of(units, &variable.entry().attributes);
     let place = Place {
         source: &source,
         offset: 0,

@@ -8,3 +8,4 @@ pub mod ArrayLaws
 pub mod NearLaws
 pub mod MemberLaws
 pub mod ScalarLaws
+pub mod VariantLaws

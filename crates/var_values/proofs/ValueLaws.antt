@@ -1,6 +1,6 @@
 -- Texts of values, case by case.
 use Rattle.std.proofs.Common.{◌≡◌, ℕ, zero, suc, ◌+◌, ◌-◌, ◌<◌, Bool, true, false, List, [], ◌∷◌, ◌++◌, Option, Some, None, Ok, Err, length, drop, get_or, refl, sym, ap, subst, ◌∙◌, append_assoc, arith}
-use Rattle.std.specs.Prelude.{filter, if◌then◌else◌, codes}
+use Rattle.std.specs.Prelude.{map, filter, if◌then◌else◌, codes}
 use Rattle.std.proofs.lemmas.List.{append-nil}
 use Rattle.dwarf_info.specs.declared.entry.UnitAnswer.{UnitAnswer}
 use Rattle.dwarf_entries.specs.Standing.{Standing}
@@ -17,7 +17,8 @@ use Rattle.var_values.specs.declared.source.Source.TheVariants.{Lost, Single, Pi
 use Rattle.var_values.specs.Bytes.{Recorded}
 use Rattle.var_values.specs.Marks.{mark_text}
 use Rattle.var_values.specs.Places.{Place}
-use Rattle.var_values.specs.Values.{Text, in_place, suits, content_as, unless_lost, sized_text, value_as, value_text, braced}
+use Rattle.var_values.specs.Suits.{suits}
+use Rattle.var_values.specs.Values.{Text, in_place, content_as, unless_lost, sized_text, value_as, value_text, braced}
 use Rattle.var_values.specs.calls.Told.{Tells}
 use Rattle.var_values.specs.inner.Parts.{joined, separator}
 use Rattle.dwarf_bytes.proofs.Loops.{next}
@@ -145,6 +146,12 @@ joined_begins old text xs is =
 pub joined_ends : (text new total : List ℕ) (first : Bool) → new ≡ text ++ codes "}" → text ++ (joined first [] ++ codes "}") ≡ total → new ≡ total
 joined_ends text new total true is all = is ∙ all
 joined_ends text new total false is all = is ∙ all
+
+-- that of an item of a list
+pub item_joined : {E : Type 0} (f : E → List ℕ) (xs : List E) (i : ℕ) (x : E) (text mid new total : List ℕ) (first : Bool) → i < length xs → x ≡ get_or xs i x → mid ≡ text ++ separator first → new ≡ mid ++ f x
+    → text ++ (joined first (map f (drop i xs)) ++ codes "}") ≡ total → new ++ (joined false (map f (drop (i + 1) xs)) ++ codes "}") ≡ total
+item_joined {E = E} f xs i x text mid new total first lt is between here all =
+    one_joined text mid new total first (f x) (map f (drop (i + 1) xs)) between here (ap (λ (ys : List E). text ++ (joined first (map f ys) ++ codes "}")) (sym (next xs i x lt is)) ∙ all)
 
 pub filter_takes : {E : Type 0} (test : E → Bool) (xs : List E) (i : ℕ) (x : E) → i < length xs → x ≡ get_or xs i x → test x ≡ true → filter test (drop i xs) ≡ x ∷ filter test (drop (i + 1) xs)
 filter_takes test xs i x lt is passes = ap (filter test) (next xs i x lt is) ∙ ap (λ (b : Bool). if b then x ∷ filter test (drop (i + 1) xs) else filter test (drop (i + 1) xs)) passes

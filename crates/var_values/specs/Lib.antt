@@ -4,6 +4,9 @@ pub mod Texts
 pub mod Places
 pub mod Scalars
 pub mod Members
+pub mod Suits
+pub mod Lists
+pub mod Variants
 pub mod Values
 pub mod inner
 pub mod calls

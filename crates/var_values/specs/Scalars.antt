@@ -51,13 +51,21 @@ number_of signed k w = if signed then as_signed k w else pos w
 abbrev pub is_size : ℕ → Bool
 is_size size = size == 1 || size == 2 || size == 4 || size == 8
 
+abbrev pub is_integer_size : ℕ → Bool
+is_integer_size size = is_size size || size == 16
+
+abbrev pub is_code_point_size : ℕ → Bool
+is_code_point_size size = size == 1 || size == 2 || size == 4
+
 -- the sizes of each encoding
 abbrev pub encoding_suits : ℕ → ℕ → Bool
 encoding_suits e size =
     if e == 1 then size == 4
-    else (if e == 2 || e == 5 || e == 7 then is_size size
+    else (if e == 2 then is_size size
+    else (if e == 5 || e == 7 then is_integer_size size
     else (if e == 4 then nat_le 1 size && nat_le size 16
-    else (e == 6 || e == 8) && size == 1))
+    else (if e == 16 then is_code_point_size size
+    else (e == 6 || e == 8) && size == 1))))
 
 abbrev pub size_suits : Option ℕ → ℕ → Bool
 size_suits None size = false
@@ -74,11 +82,14 @@ abbrev pub behind_is_signed : Behind → Bool
 behind_is_signed (behinds.Stands s k) = s.entry.tag == tag_base && is_signed (encoding s)
 behind_is_signed _ = false
 
+abbrev pub type_is_signed : Class → List UnitAnswer → Standing → Bool
+type_is_signed classes.Enumeration units s = behind_is_signed (behind units longest_chain (type_of units s.entry.attributes))
+type_is_signed c units s = is_signed (encoding s)
+
 -- of a word in k bits: a pointer, an enumeration or a base type
 abbrev pub word_text : Class → List UnitAnswer → Standing → ℕ → ℕ → ℕ → List ℕ
 word_text classes.Pointing units s size k w = address_text w
-word_text classes.Enumeration units s size k w =
-    enumeration_text units s size (number_of (behind_is_signed (behind units longest_chain (type_of units s.entry.attributes))) k w)
+word_text classes.Enumeration units s size k w = enumeration_text units s size (number_of (type_is_signed classes.Enumeration units s) k w)
 word_text c units s size k w = base_text (unwrap_or (encoding s) 0) size w (number_of (is_signed (encoding s)) k w)
 
 -- of a type of that size

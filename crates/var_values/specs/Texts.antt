@@ -1,6 +1,6 @@
 -- Texts of scalars: pointers, enumerations and base types by their encodings (DWARF 4, 5.1, 5.7 and 7.8).
 use Rattle.std.specs.Prelude.{ℕ, zero, suc, ◌*◌, ◌/◌, ◌%◌, ◌^◌, ◌==◌, ◌&&◌, ◌||◌, Bool, false, nat_le, ℤ, pos, negsuc, List, [], ◌∷◌, ◌++◌, find, Option, Some, None, if◌then◌else◌, codes}
-use Rattle.std.specs.Fmt.{signed_decimal}
+use Rattle.std.specs.Fmt.{decimal, signed_decimal}
 use Rattle.std.specs.Int.{int_rem_euclid}
 use Rattle.pm_text.specs.Hex.{hex_padded}
 use Rattle.pm_text.specs.Names.{plain}
@@ -20,6 +20,17 @@ character (negsuc n) = []
 -- a number, and behind one from 32 to 126 the character
 abbrev pub with_character : ℤ → List ℕ
 with_character z = signed_decimal z ++ character z
+
+-- a code point that does not print, by its number
+abbrev pub escaped : ℕ → List ℕ
+escaped w = codes "\\u{" ++ hex_padded 1 w ++ codes "}"
+
+abbrev pub point : ℕ → List ℕ
+point w = if nat_le 32 w && nat_le w 126 then w ∷ [] else escaped w
+
+-- a code point: its number, and behind it the character in marks
+abbrev pub code_point_text : ℕ → List ℕ
+code_point_text w = decimal w ++ codes " '" ++ point w ++ codes "'"
 
 -- an address
 abbrev pub address_text : ℕ → List ℕ
@@ -43,7 +54,8 @@ base_text encoding size w z =
     else (if encoding == 2 then boolean_text w
     else (if encoding == 4 then float_text size w
     else (if encoding == 6 || encoding == 8 then with_character z
-    else signed_decimal z)))
+    else (if encoding == 16 then code_point_text w
+    else signed_decimal z))))
 
 -- ---- enumerations
 

@@ -1,32 +1,31 @@
 -- The text of a value, by recursion on its type (DWARF 4, 5.4, 5.5 and 5.7).
-use Rattle.std.specs.Prelude.{ℕ, zero, suc, ◌*◌, ◌&&◌, Bool, true, false, nat_lt, nat_le, min, pos, List, [], ◌∷◌, ◌++◌, map, drop, Option, Some, None, unwrap_or, Result, Ok, Err, if◌then◌else◌, codes}
+use Rattle.std.specs.Prelude.{ℕ, zero, suc, ◌*◌, nat_lt, min, pos, List, [], ◌∷◌, ◌++◌, map, drop, Option, Some, None, unwrap_or, Result, Ok, Err, if◌then◌else◌, codes}
 use Rattle.std.specs.List.{join_by, range_with_len}
 use Rattle.pm_text.specs.Names.{plain}
 use Rattle.dwarf_info.specs.declared.entry.Entry.{Entry}
 use Rattle.dwarf_info.specs.declared.entry.UnitAnswer.{UnitAnswer}
-use Rattle.dwarf_expr.specs.declared.answer.PiecePlace.{PiecePlace}
-use Rattle.dwarf_expr.specs.declared.answer.PiecePlace.TheVariants.{Value, Address, Nothing}
-use Rattle.dwarf_entries.specs.Tags.{tag_member}
-use Rattle.dwarf_entries.specs.Standing.{Standing, children_tagged}
-use Rattle.dwarf_entries.specs.Origins.{name_or_empty}
+use Rattle.dwarf_entries.specs.Standing.{Standing}
+use Rattle.dwarf_entries.specs.Origins.{name_or_empty, longest_chain}
 use Rattle.dwarf_types.specs.declared.class.Class.{Class}
 use Rattle.dwarf_types.specs.declared.class.Class.TheVariants as classes
 use Rattle.dwarf_types.specs.declared.behind.Typed.{Typed}
 use Rattle.dwarf_types.specs.declared.behind.Typed.TheVariants as typeds
 use Rattle.dwarf_types.specs.Types.{class_at, type_of}
-use Rattle.dwarf_types.specs.Kinds.{encoding}
 use Rattle.dwarf_types.specs.Counts.{counts}
 use Rattle.dwarf_types.specs.Sizes.{type_size}
 use Rattle.var_values.specs.declared.mark.Mark.{Mark}
 use Rattle.var_values.specs.declared.mark.Mark.TheVariants.{TypeTooDeep, UnsupportedType}
 use Rattle.var_values.specs.declared.source.Source.{Source}
-use Rattle.var_values.specs.declared.source.Source.TheVariants.{Lost, Single, Pieces}
+use Rattle.var_values.specs.declared.source.Source.TheVariants.{Lost}
 use Rattle.var_values.specs.Marks.{mark_text}
 use Rattle.var_values.specs.Bytes.{Recorded}
-use Rattle.var_values.specs.declared.bits.Bits.{Bits}
+use Rattle.var_values.specs.declared.item.Item.{Item}
+use Rattle.var_values.specs.declared.item.Item.TheVariants.{Member, Unknown}
 use Rattle.var_values.specs.Places.{Place, further}
-use Rattle.var_values.specs.Scalars.{is_size, size_suits, scalar_text}
+use Rattle.var_values.specs.Scalars.{scalar_text}
 use Rattle.var_values.specs.Members.{member_place}
+use Rattle.var_values.specs.Suits.{suits}
+use Rattle.var_values.specs.Variants.{items}
 
 -- a text, or the mark that counts
 abbrev pub Text : Type 0
@@ -37,38 +36,6 @@ abbrev pub in_place : Text → List ℕ
 in_place (Ok text) = text
 in_place (Err m) = mark_text m
 
--- ---- which types have values
-
-abbrev pub class_suits : Class → Standing → ℕ → Bool
-class_suits classes.Passed s size = false
-class_suits classes.Pointing s size = true
-class_suits classes.Members s size = true
-class_suits classes.Array s size = true
-class_suits classes.Enumeration s size = is_size size
-class_suits classes.Base s size = size_suits (encoding s) size
-class_suits classes.Another s size = false
-
--- a bit-field is of a base type or an enumeration, and not wider than its type
-abbrev pub bits_suit : Class → ℕ → Option Bits → Bool
-bits_suit c size None = true
-bits_suit classes.Enumeration size (Some b) = nat_le b.count (8 * size)
-bits_suit classes.Base size (Some b) = nat_le b.count (8 * size)
-bits_suit c size (Some b) = false
-
--- a value of 64 bits holds at most eight bytes
-abbrev pub place_suits : PiecePlace → ℕ → Bool
-place_suits (Value w) size = nat_le size 8
-place_suits (Address a) size = true
-place_suits Nothing size = true
-
-abbrev pub source_suits : Source → ℕ → Bool
-source_suits (Lost m) size = true
-source_suits (Single place) size = place_suits place size
-source_suits (Pieces ps) size = true
-
-abbrev pub suits : Standing → Place → ℕ → Bool
-suits s p size = class_suits (class_at s) s size && bits_suit (class_at s) size p.bits && source_suits p.source size
-
 -- ---- structures and arrays
 
 abbrev pub braced : List (List ℕ) → List ℕ
@@ -76,6 +43,11 @@ braced texts = codes "{" ++ join_by (λ t. t) (codes ", ") texts ++ codes "}"
 
 abbrev pub member_text : List UnitAnswer → (Typed → Place → Text) → Place → Entry → List ℕ
 member_text units value p e = plain (name_or_empty units e.attributes) ++ codes " = " ++ in_place (value (type_of units e.attributes) (member_place p e))
+
+-- the mark of a variant part stands without a name
+abbrev pub item_text : List UnitAnswer → (Typed → Place → Text) → Place → Item → List ℕ
+item_text units value p (Member x) = member_text units value p x.entry
+item_text units value p (Unknown m) = mark_text m
 
 abbrev pub shown_elements : ℕ
 shown_elements = 64
@@ -102,7 +74,7 @@ array_text text (c ∷ cs) size p = elements_text (array_text text cs size) (unw
 
 -- of that size
 abbrev pub content_as : Class → List UnitAnswer → Recorded → (Typed → Place → Text) → Standing → ℕ → ℕ → Place → Text
-content_as classes.Members units memory value s k size p = Ok (braced (map (member_text units value p) (children_tagged tag_member s)))
+content_as classes.Members units memory value s k size p = Ok (braced (map (item_text units value p) (items units memory p longest_chain s)))
 content_as classes.Array units memory value s k size p =
     array_text (value (type_of units s.entry.attributes)) (drop k (counts s)) (unwrap_or (type_size units (type_of units s.entry.attributes)) 0) p
 content_as c units memory value s k size p = scalar_text units memory s size p

@@ -3,3 +3,4 @@ pub mod Parts
 pub mod Close
 pub mod Scalar
 pub mod Odometer
+pub mod Passing

@@ -3,7 +3,10 @@
 
 mod bits;
 mod bytes;
+mod discriminant;
+mod item;
 mod levels;
+mod lists;
 mod mark;
 mod members;
 mod numbers;
@@ -15,10 +18,12 @@ mod subranges;
 mod suits;
 mod texts;
 mod values;
+mod variants;
 mod word;
 
 pub use bits::Bits;
 pub use bytes::byte_at;
+pub use item::Item;
 pub use mark::{Mark, first_mark};
 pub use members::{is_static, part_at};
 pub use numbers::number_at;
@@ -26,3 +31,4 @@ pub use place::Place;
 pub use source::{Source, constant_source};
 pub use texts::{push_address, push_base, push_enumeration};
 pub use values::push_value;
+pub use variants::items_of;

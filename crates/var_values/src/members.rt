@@ -11,18 +11,18 @@ use crate::bits::Bits;
 use crate::place::Place;
 use dwarf_entries::names::{BIT_SIZE, DATA_BIT_OFFSET, DATA_MEMBER_LOCATION};
 use dwarf_entries::{attribute, natural};
-use dwarf_info::{AttrValue, Attribute, Entry};
+use dwarf_info::{AttrValue, Attributes, Entry};
 
 const DECLARATION: u64 = 0x3c;
 
 const EXTERNAL: u64 = 0x3f;
 
 /// Whether an attribute is a flag that is set.
-fn is_set(attributes: &[Attribute<'_>], name: u64) -> bool
+fn is_set(attributes: &Attributes<'_>, name: u64) -> bool
     ensures { result ≡ members.is_set (attribute name attributes.now) }
 {
     match attribute(attributes, name) {
-        Some(AttrValue::Flag(set)) => *set,
+        Some(AttrValue::Flag(set)) => set,
         _ => false,
     }
 }
@@ -31,7 +31,7 @@ fn is_set(attributes: &[Attribute<'_>], name: u64) -> bool
 pub fn is_static(entry: &Entry<'_>) -> bool
     ensures { result ≡ members.is_static entry.now }
 {
-    let attributes = entry.attributes.as_slice();
+    let attributes = &entry.attributes;
     is_set(attributes, EXTERNAL) || is_set(attributes, DECLARATION)
 }
 
@@ -55,14 +55,14 @@ fn at_location<'s>(place: &Place<'s>, entry: &Entry<'_>) -> Option<Place<'s>>
     ensures near { (n : ℕ) → IsNear (suc n) place.now.offset
         → IfSome result (λ p. IsNear n p.offset) }
 {
-    let Some(location) = attribute(entry.attributes.as_slice(), DATA_MEMBER_LOCATION) else {
+    let Some(location) = attribute(&entry.attributes, DATA_MEMBER_LOCATION) else {
         return Some(Place {
             source: place.source,
             offset: place.offset,
             bits: place.bits,
         });
     };
-    let further = distance(location)?;
+    let further = distance(&location)?;
     Some(Place {
         source: place.source,
         offset: place.offset + further,
@@ -78,7 +78,7 @@ fn at_bits<'s>(place: &Place<'s>, entry: &Entry<'_>) -> Option<Place<'s>>
     ensures near { (n : ℕ) → IsNear (suc n) place.now.offset
         → IfSome result (λ p. IsNear n p.offset) }
 {
-    let attributes = entry.attributes.as_slice();
+    let attributes = &entry.attributes;
     let count = natural(attributes, BIT_SIZE)?;
     let first = natural(attributes, DATA_BIT_OFFSET)?;
     Some(Place {
@@ -97,7 +97,7 @@ pub fn part_at<'s>(place: &Place<'s>, entry: &Entry<'_>) -> Option<Place<'s>>
     ensures near { (n : ℕ) → IsNear (suc n) place.now.offset
         → IfSome result (λ p. IsNear n p.offset) }
 {
-    match attribute(entry.attributes.as_slice(), BIT_SIZE) {
+    match attribute(&entry.attributes, BIT_SIZE) {
         Some(_) => at_bits(place, entry),
         None => at_location(place, entry),
     }

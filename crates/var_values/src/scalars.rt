@@ -1,6 +1,6 @@
 //! Texts of scalars where they stand (DWARF 4 sections 5.1, 5.5.6 and 5.7).
 
-ghost use Rattle.std.specs.Prelude.{◌≡◌, ◌≤◌, ◌<◌, ◌*◌, ◌^◌, ◌++◌, true, Some, unwrap_or, OnOk, IfOk};
+ghost use Rattle.std.specs.Prelude.{◌≡◌, ◌≤◌, ◌<◌, ◌*◌, ◌^◌, ◌-◌, ◌-ℤ◌, ◌++◌, pos, true, false, Some, unwrap_or, OnOk, IfOk};
 ghost use Rattle.dwarf_entries.specs.Origins.{longest_chain};
 ghost use Rattle.dwarf_types.specs.Kinds.{encoding};
 ghost use Rattle.dwarf_types.specs.Types.{class_at, behind, type_of as type_at};
@@ -12,6 +12,7 @@ ghost use Rattle.var_values.specs.calls.Told.{Tells};
 ghost use Rattle.var_values.specs.inner.Scalar.{IsScalar};
 
 use crate::place::Place;
+use crate::texts::push_unsigned;
 use crate::word::{bits_of, word_in};
 use crate::{Mark, push_address, push_base, push_enumeration};
 use causes::NoMemory;
@@ -27,24 +28,54 @@ use pm_text::Text;
 pub fn encoding_of(standing: &Standing<'_, '_>) -> Option<u64>
     ensures { result ≡ encoding standing.now }
 {
-    natural(standing.entry().attributes.as_slice(), ENCODING)
+    natural(&standing.entry().attributes, ENCODING)
+}
+
+/// Half of as many numbers as so many bits have.
+#[tactic(auto, using(crate::proofs::ScalarLaws::half_twice, crate::proofs::ScalarLaws::half_few, crate::proofs::ScalarLaws::half_some))]
+fn half_of(count: u64) -> u128
+    requires some { 0 < count }
+    requires few { count ≤ 128 }
+    ensures is { result ≡ 2 ^ (count - 1) }
+    ensures twice { 2 ^ count ≡ 2 * result }
+    ensures few { result ≤ 2 ^ 127 }
+    ensures some { 0 < result }
+{
+    1 << (count - 1)
+}
+
+/// A number less twice another one.
+fn less_twice(word: u128, half: u128) -> i128
+    requires few { half ≤ 2 ^ 127 }
+    requires from { half ≤ word }
+    requires to { word < 2 * half }
+    ensures { result ≡ (pos word -ℤ pos (2 * half)) }
+{
+    (word - half) as i128 - 1 - (half - 1) as i128
 }
 
 /// A number of so many bits in two's complement.
+#[tactic(auto, using(crate::proofs::ScalarLaws::none_signed, crate::proofs::ScalarLaws::low_signed, crate::proofs::ScalarLaws::signed_is))]
 fn as_signed(count: u64, word: u128) -> i128
-    requires few { count ≤ 64 }
+    requires few { count ≤ 128 }
     requires below { word < 2 ^ count }
     ensures { result ≡ scalars.as_signed count word }
 {
-    if count == 0 || word < 1 << (count - 1) {
+    if count == 0 {
+        return 0;
+    }
+    let half = half_of(count);
+    if word < half {
         word as i128
     } else {
-        word as i128 - (1 << count)
+        less_twice(word, half)
     }
 }
 
-fn number_of(signed: bool, count: u64, word: u128) -> i128
-    requires few { count ≤ 64 }
+/// The number that a word in so many bits is.
+pub fn number_of(signed: bool, count: u64, word: u128) -> i128
+    requires few { count ≤ 128 }
+    requires narrow { signed ≡ false → count ≤ 64 }
     requires below { word < 2 ^ count }
     ensures { result ≡ scalars.number_of signed count word }
 {
@@ -69,7 +100,7 @@ fn behind_is_signed<'r, 'a>(units: &'r Units<'a>, standing: &Standing<'r, 'a>) -
     ensures { result ≡ scalars.behind_is_signed (behind units.now longest_chain
         (type_at units.now standing.now.entry.attributes)) }
 {
-    let from = type_of(units, standing.entry().attributes.as_slice());
+    let from = type_of(units, &standing.entry().attributes);
     match resolved(units, LONGEST_CHAIN, from) {
         Behind::Stands {
             standing,
@@ -79,7 +110,23 @@ fn behind_is_signed<'r, 'a>(units: &'r Units<'a>, standing: &Standing<'r, 'a>) -
     }
 }
 
+/// Whether the numbers of a type are signed.
+pub fn type_is_signed<'r, 'a>(units: &'r Units<'a>, standing: &Standing<'r, 'a>) -> bool
+    ensures { result ≡ scalars.type_is_signed (class_at standing.now) units.now standing.now }
+{
+    match class_of(standing.entry().tag) {
+        Class::Enumeration => behind_is_signed(units, standing),
+        Class::Passed
+        | Class::Pointing
+        | Class::Members
+        | Class::Array
+        | Class::Base
+        | Class::Another => is_signed(encoding_of(standing)),
+    }
+}
+
 /// Appends the text of a base type of an encoding with this word in so many bits.
+#[tactic(auto, using(crate::proofs::ScalarLaws::encoding_short, crate::proofs::ScalarLaws::narrow_word, crate::proofs::ScalarLaws::narrow_unless_signed))]
 fn push_encoded(
     text: &mut Text,
     encoding: u64,
@@ -95,6 +142,9 @@ fn push_encoded(
 {
     if encoding == 4 {
         return push_base(text, encoding, size, word, 0);
+    }
+    if encoding == 7 {
+        return push_unsigned(text, word);
     }
     let number = number_of(is_signed(Some(encoding)), count, word);
     push_base(text, encoding, size, word, number)

@@ -7,7 +7,7 @@ use crate::mark::Mark;
 use dwarf_entries::names::CONST_VALUE;
 use dwarf_entries::number;
 use dwarf_expr::{PieceList, PiecePlace};
-use dwarf_info::Attribute;
+use dwarf_info::Attributes;
 
 /// Where a value comes from (DWARF 4 section 2.6).
 #[derive(Drop)]
@@ -20,7 +20,7 @@ pub enum Source {
 }
 
 /// What is no more than its constant, modulo 2^64.
-pub fn constant_source(attributes: &[Attribute<'_>]) -> Source
+pub fn constant_source(attributes: &Attributes<'_>) -> Source
     ensures { result ≡ places.constant_source attributes.now }
 {
     match number(attributes, CONST_VALUE) {

@@ -3,7 +3,7 @@
 ghost use Rattle.std.specs.Prelude.{◌≡◌};
 ghost use Rattle.dwarf_types.specs.Types.{class_at};
 ghost use Rattle.var_values.specs.Scalars as scalars;
-ghost use Rattle.var_values.specs.Values as values;
+ghost use Rattle.var_values.specs.Suits as suiting;
 
 use crate::Source;
 use crate::bits::Bits;
@@ -19,15 +19,29 @@ fn is_size(size: u64) -> bool
     size == 1 || size == 2 || size == 4 || size == 8
 }
 
+fn is_integer_size(size: u64) -> bool
+    ensures { result ≡ scalars.is_integer_size size }
+{
+    is_size(size) || size == 16
+}
+
+fn is_code_point_size(size: u64) -> bool
+    ensures { result ≡ scalars.is_code_point_size size }
+{
+    size == 1 || size == 2 || size == 4
+}
+
 /// Whether a base type of an encoding has this size (DWARF 4 section 7.8).
 fn encoding_suits(encoding: u64, size: u64) -> bool
     ensures { result ≡ scalars.encoding_suits encoding size }
 {
     match encoding {
         1 => size == 4,
-        2 | 5 | 7 => is_size(size),
+        2 => is_size(size),
+        5 | 7 => is_integer_size(size),
         4 => 1 <= size && size <= 16,
         6 | 8 => size == 1,
+        16 => is_code_point_size(size),
         _ => false,
     }
 }
@@ -42,7 +56,7 @@ fn size_suits(encoding: Option<u64>, size: u64) -> bool
 }
 
 fn class_suits(standing: &Standing<'_, '_>, size: u64) -> bool
-    ensures { result ≡ values.class_suits (class_at standing.now) standing.now size }
+    ensures { result ≡ suiting.class_suits (class_at standing.now) standing.now size }
 {
     match class_of(standing.entry().tag) {
         Class::Pointing | Class::Members | Class::Array => true,
@@ -54,7 +68,7 @@ fn class_suits(standing: &Standing<'_, '_>, size: u64) -> bool
 
 /// Whether a value of this class and size may stand in these bits.
 fn bits_suit(class: Class, size: u64, bits: Option<Bits>) -> bool
-    ensures { result ≡ values.bits_suit class size bits }
+    ensures { result ≡ suiting.bits_suit class size bits }
 {
     let Some(bits) = bits else {
         return true;
@@ -66,7 +80,7 @@ fn bits_suit(class: Class, size: u64, bits: Option<Bits>) -> bool
 }
 
 fn place_suits(place: PiecePlace, size: u64) -> bool
-    ensures { result ≡ values.place_suits place size }
+    ensures { result ≡ suiting.place_suits place size }
 {
     match place {
         PiecePlace::Value(_) => size <= 8,
@@ -75,7 +89,7 @@ fn place_suits(place: PiecePlace, size: u64) -> bool
 }
 
 fn source_suits(source: &Source, size: u64) -> bool
-    ensures { result ≡ values.source_suits source.now size }
+    ensures { result ≡ suiting.source_suits source.now size }
 {
     match source {
         Source::Single(place) => place_suits(*place, size),
@@ -85,7 +99,7 @@ fn source_suits(source: &Source, size: u64) -> bool
 
 /// Whether a type of this size has values, and one may stand at the place.
 pub fn suits(standing: &Standing<'_, '_>, place: &Place<'_>, size: u64) -> bool
-    ensures { result ≡ values.suits standing.now place.now size }
+    ensures { result ≡ suiting.suits standing.now place.now size }
 {
     class_suits(standing, size)
         && bits_suit(class_of(standing.entry().tag), size, place.bits)

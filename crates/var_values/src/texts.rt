@@ -1,6 +1,7 @@
 //! Texts of scalars (DWARF 4 sections 5.1, 5.7 and 7.8).
 
 ghost use Rattle.std.specs.Prelude.{◌≡◌, ◌<◌, ◌≤◌, ◌^◌, ◌*◌, ◌∷◌, [], ◌++◌, pos, filter, find, OnOk, option_copied};
+ghost use Rattle.std.specs.Fmt.{signed_decimal};
 ghost use Rattle.dwarf_entries.specs.Standing.{is_child};
 ghost use Rattle.dwarf_entries.specs.Tags.{tag_enumerator};
 ghost use Rattle.var_values.specs.Texts as texts;
@@ -10,6 +11,7 @@ use dwarf_entries::names::CONST_VALUE;
 use dwarf_entries::tags::ENUMERATOR;
 use dwarf_entries::{Standing, is_child, name_or_empty, number};
 use dwarf_info::{Entry, Units};
+use itoa::Buffer;
 use pm_text::Text;
 use std::str;
 
@@ -43,6 +45,43 @@ fn push_with_character(text: &mut Text, number: i128) -> Result<(), NoMemory>
 {
     text.push_decimal(number)?;
     push_character(text, number)
+}
+
+/// Appends a number that no signed type may hold.
+pub fn push_unsigned(text: &mut Text, number: u128) -> Result<(), NoMemory>
+    ensures { OnOk result (text.new ≡ text.old ++ signed_decimal (pos number)) }
+{
+    text.push_str(Buffer::new().format(number))
+}
+
+/// Appends a code point that does not print, by its number.
+fn push_escaped(text: &mut Text, word: u64) -> Result<(), NoMemory>
+    ensures { OnOk result (text.new ≡ text.old ++ texts.escaped word) }
+{
+    text.push_str("\\u{")?;
+    text.push_hex(word, 1)?;
+    text.push_str("}")
+}
+
+/// Appends what stands between the marks of a code point.
+fn push_point(text: &mut Text, word: u64) -> Result<(), NoMemory>
+    ensures { OnOk result (text.new ≡ text.old ++ texts.point word) }
+{
+    if 32 <= word && word <= 126 {
+        push_ascii(text, word as u8)
+    } else {
+        push_escaped(text, word)
+    }
+}
+
+/// Appends a code point: its number, and behind it the character in marks.
+fn push_code_point(text: &mut Text, word: u64) -> Result<(), NoMemory>
+    ensures { OnOk result (text.new ≡ text.old ++ texts.code_point_text word) }
+{
+    text.push_decimal(i128::from(word))?;
+    text.push_str(" '")?;
+    push_point(text, word)?;
+    text.push_str("'")
 }
 
 /// Appends an address.
@@ -91,7 +130,8 @@ pub fn push_base(
     word: u128,
     number: i128,
 ) -> Result<(), NoMemory>
-    requires { encoding ≡ 1 → word < 2 ^ 64 }
+    requires address { encoding ≡ 1 → word < 2 ^ 64 }
+    requires point { encoding ≡ 16 → word < 2 ^ 64 }
     ensures { OnOk result (text.new ≡ text.old ++ texts.base_text encoding size word number) }
 {
     match encoding {
@@ -99,6 +139,7 @@ pub fn push_base(
         2 => push_boolean(text, word),
         4 => push_float(text, size, word),
         6 | 8 => push_with_character(text, number),
+        16 => push_code_point(text, word as u64),
         _ => text.push_decimal(number),
     }
 }
@@ -111,15 +152,23 @@ fn range(size: u64) -> i128
     1 << (8 * size)
 }
 
+/// Whether a constant is a value, as numbers of a type of this size.
+pub fn equals(size: u64, value: i128, constant: Option<i128>) -> bool
+    requires { size ≤ 8 }
+    ensures { result ≡ texts.equals size value constant }
+{
+    match constant {
+        Some(constant) => constant.rem_euclid(range(size)) == value.rem_euclid(range(size)),
+        None => false,
+    }
+}
+
 /// Whether an enumerator has a value, as numbers of the type's size.
 fn has_value(entry: &Entry<'_>, size: u64, value: i128) -> bool
     requires { size ≤ 8 }
     ensures { result ≡ texts.has_value size value entry.now }
 {
-    match number(entry.attributes.as_slice(), CONST_VALUE) {
-        Some(constant) => constant.rem_euclid(range(size)) == value.rem_euclid(range(size)),
-        None => false,
-    }
+    equals(size, value, number(&entry.attributes, CONST_VALUE))
 }
 
 /// The first enumerator of a value.
@@ -155,7 +204,7 @@ pub fn push_enumeration<'r, 'a>(
         ≡ text.old ++ texts.enumeration_text units.now standing.now size value) }
 {
     match enumerator(standing.inside(), standing.entry().depth, size, value) {
-        Some(entry) => text.push_plain(name_or_empty(units, entry.attributes.as_slice())),
+        Some(entry) => text.push_plain(name_or_empty(units, &entry.attributes)),
         None => text.push_decimal(value),
     }
 }

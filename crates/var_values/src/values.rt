@@ -2,8 +2,6 @@
 
 ghost use Rattle.std.specs.Prelude.{◌≡◌, ◌≢◌, ◌<◌, ◌^◌, ◌++◌, suc, true, drop, map, reverse, unwrap_or, Some, IsSome, OnOk, IfOk};
 ghost use Rattle.dwarf_entries.specs.Origins.{longest_chain};
-ghost use Rattle.dwarf_entries.specs.Standing.{children_tagged};
-ghost use Rattle.dwarf_entries.specs.Tags.{tag_member};
 ghost use Rattle.dwarf_types.specs.Types.{class_at, type_of as type_at};
 ghost use Rattle.dwarf_types.specs.Counts.{counts};
 ghost use Rattle.dwarf_types.specs.Sizes as sizes;
@@ -11,22 +9,25 @@ ghost use Rattle.dwarf_types.specs.declared.behind.Typed.TheVariants as typeds;
 ghost use Rattle.dwarf_types.specs.declared.class.Class.TheVariants as classes;
 ghost use Rattle.var_values.specs.calls.Near.{IsNear};
 ghost use Rattle.var_values.specs.Members.{member_place, part_at, unplaced};
+ghost use Rattle.var_values.specs.Suits as suiting;
+ghost use Rattle.var_values.specs.Variants.{items as the_items};
 ghost use Rattle.var_values.specs.Values as values;
 ghost use Rattle.var_values.specs.Values.{value_text, in_place};
 ghost use Rattle.var_values.specs.inner.Odometer as odometer;
 ghost use Rattle.var_values.specs.calls.Told.{Tells};
 ghost use Rattle.var_values.specs.inner.Parts.{element_text, inner_size, separator};
 
+use crate::item::Item;
 use crate::levels::{Level, Rows};
 use crate::members::{self, is_static};
 use crate::place::Place;
 use crate::scalars::push_scalar;
 use crate::subranges::levels_of;
 use crate::suits::suits;
+use crate::variants::items_of;
 use crate::{Mark, Source, constant_source};
 use causes::NoMemory;
-use dwarf_entries::tags::MEMBER;
-use dwarf_entries::{LONGEST_CHAIN, Standing, is_child, name_or_empty};
+use dwarf_entries::{LONGEST_CHAIN, Standing, name_or_empty};
 use dwarf_expr::FrameView;
 use dwarf_info::{Entry, Units};
 use dwarf_types::{Class, Typed, class_of, type_of, type_size};
@@ -52,7 +53,7 @@ fn class_at(standing: &Standing<'_, '_>) -> Class
 fn inner_type<'r, 'a>(units: &'r Units<'a>, standing: &Standing<'r, 'a>) -> Typed<'r, 'a>
     ensures { result ≡ type_at units.now standing.now.entry.attributes }
 {
-    type_of(units, standing.entry().attributes.as_slice())
+    type_of(units, &standing.entry().attributes)
 }
 
 /// The levels of an array without its first so many subranges, the outermost last.
@@ -174,7 +175,7 @@ fn push_content<'r, 'w, 'v, 'a>(
     requires near { IsNear (suc further) place.now.offset }
     requires size { sizes.type_size context.now.units.now (typeds.At standing.now skipped)
         ≡ Some size }
-    requires suits { values.suits standing.now place.now size ≡ true }
+    requires suits { suiting.suits standing.now place.now size ≡ true }
     ensures { IfOk result (λ mark. Tells (values.content_as (class_at standing.now)
         context.now.units.now
         context.now.view.now.memory
@@ -224,7 +225,7 @@ fn push_part_value<'r, 'w, 'v, 'a>(
         context.now.view.now.memory further (type_at context.now.units.now entry.now.attributes)
         (unwrap_or (part_at place.now entry.now) (unplaced place.now)))) }
 {
-    let typed = type_of(context.units, entry.attributes.as_slice());
+    let typed = type_of(context.units, &entry.attributes);
     if let Some(member) = members::part_at(place, entry) {
         return push_in_place(text, context, further, &typed, &member);
     }
@@ -254,8 +255,8 @@ fn push_member_value<'r, 'w, 'v, 'a>(
     if !is_static(entry) {
         return push_part_value(text, context, further, entry, place);
     }
-    let typed = type_of(context.units, entry.attributes.as_slice());
-    let constant = constant_source(entry.attributes.as_slice());
+    let typed = type_of(context.units, &entry.attributes);
+    let constant = constant_source(&entry.attributes);
     let member = Place {
         source: &constant,
         offset: 0,
@@ -278,9 +279,29 @@ fn push_member<'r, 'w, 'v, 'a>(
         (value_text context.now.units.now context.now.view.now.memory further)
         place.now entry.now) }
 {
-    text.push_plain(name_or_empty(context.units, entry.attributes.as_slice()))?;
+    text.push_plain(name_or_empty(context.units, &entry.attributes))?;
     text.push_str(" = ")?;
     push_member_value(text, context, further, entry, place)
+}
+
+/// Appends a member, or the mark in the place of a variant part.
+#[cycle(values)]
+fn push_item<'r, 'w, 'v, 'a>(
+    text: &mut Text,
+    context: &Context<'r, 'w, 'v, 'a>,
+    further: u32,
+    item: &Item<'r, 'a>,
+    place: &Place<'_>,
+) -> Result<(), NoMemory>
+    requires near { IsNear (suc further) place.now.offset }
+    ensures { OnOk result (text.new ≡ text.old ++ values.item_text context.now.units.now
+        (value_text context.now.units.now context.now.view.now.memory further)
+        place.now item.now) }
+{
+    match item {
+        Item::Member(standing) => push_member(text, context, further, standing.entry(), place),
+        Item::Unknown(mark) => text.push_str(mark.text()),
+    }
 }
 
 /// Appends what stands between members: nothing in front of the first one.
@@ -305,20 +326,19 @@ fn push_members<'r, 'w, 'v, 'a>(
 ) -> Result<(), NoMemory>
     requires near { IsNear (suc further) place.now.offset }
     ensures { OnOk result (text.new ≡ text.old ++ values.braced (map
-        (values.member_text context.now.units.now
+        (values.item_text context.now.units.now
         (value_text context.now.units.now context.now.view.now.memory further) place.now)
-        (children_tagged tag_member standing.now))) }
+        (the_items context.now.units.now context.now.view.now.memory place.now longest_chain
+        standing.now))) }
 {
+    let items = items_of(context.alloc, context.units, context.view, standing, place)?;
     text.push_str("{")?;
-    let depth = standing.entry().depth;
-    let entries = standing.inside();
+    let entries = items.as_slice();
     let mut is_first = true;
-    for entry in entries {
-        if is_child(entry, depth, MEMBER) {
-            push_separator(text, is_first)?;
-            push_member(text, context, further, entry, place)?;
-            is_first = false;
-        }
+    for item in entries {
+        push_separator(text, is_first)?;
+        push_item(text, context, further, item, place)?;
+        is_first = false;
     }
     text.push_str("}")
 }

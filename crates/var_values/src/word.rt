@@ -1,6 +1,6 @@
 //! The bits of scalars as numbers (DWARF 4 section 5.5.6).
 
-ghost use Rattle.std.specs.Prelude.{◌≡◌, ◌≤◌, ◌<◌, ◌^◌, ◌/◌, ◌%◌, ◌+ℤ◌, pos, IfOk};
+ghost use Rattle.std.specs.Prelude.{◌≡◌, ◌≤◌, ◌<◌, ◌^◌, ◌/◌, ◌%◌, ◌+ℤ◌, ◌<ℤ◌, pos, IfOk};
 ghost use Rattle.var_values.specs.Bytes.{joined, number_at};
 ghost use Rattle.var_values.specs.calls.Near.{IsNear};
 ghost use Rattle.var_values.specs.Scalars as scalars;
@@ -66,7 +66,7 @@ fn with_first(first: Result<u8, Mark>, rest: Result<u128, Mark>) -> Result<Wide,
 #[tactic(auto, using(crate::proofs::WordLaws::no_word))]
 fn wide_at(view: &FrameView<'_>, source: &Source, index: i128, count: u32) -> Result<Wide, Mark>
     requires few { count ≤ 17 }
-    requires near { IsNear 0 index }
+    requires near { (index +ℤ pos 17) <ℤ pos (2 ^ 120) }
     ensures { wides.number result ≡ number_at view.now.memory source.now index count }
 {
     if count == 0 {
@@ -107,7 +107,7 @@ fn shifted(wide: Wide, count: u64) -> u128
 /// The number in the bytes that hold bits at a place, or the mark that counts.
 fn wide_in(view: &FrameView<'_>, place: &Place<'_>, bits: Bits) -> Result<Wide, Mark>
     requires few { bits.count ≤ 128 }
-    requires near { IsNear 1 place.now.offset }
+    requires near { IsNear 0 place.now.offset }
     ensures { wides.number result ≡ number_at view.now.memory place.now.source
         (place.now.offset +ℤ pos (bits.first / 8)) (scalars.holding bits) }
 {
@@ -118,7 +118,7 @@ fn wide_in(view: &FrameView<'_>, place: &Place<'_>, bits: Bits) -> Result<Wide, 
 /// The bits at a place as an unsigned number, or the mark that counts.
 pub fn word_in(view: &FrameView<'_>, place: &Place<'_>, bits: Bits) -> Result<u128, Mark>
     requires few { bits.count ≤ 128 }
-    requires near { IsNear 1 place.now.offset }
+    requires near { IsNear 0 place.now.offset }
     ensures is { result ≡ scalars.word_in view.now.memory place.now bits }
     ensures below { IfOk result (λ word. word < 2 ^ bits.count) }
 {

@@ -1,4 +1,5 @@
 -- The invocation and its end, as the code comes to them.
+use Rattle.debug_frames.specs.Information.{SourceInformation}
 use Rattle.std.specs.Prelude.{◌≡◌, ◌<◌, ◌^◌, ℕ, Bool, List, map, length, Option, Some, codes}
 use Rattle.wasm_syntax.specs.declared.parts.Import.{Import}
 use Rattle.wasm_syntax.specs.declared.module.ModuleParts.{ModuleParts as Module}
@@ -17,7 +18,6 @@ use Rattle.commands.specs.declared.status.Status.TheVariants as status
 use Rattle.run_words.specs.declared.cover.CoverWords.{CoverWords}
 use Rattle.commands.specs.Lines.{kind_line}
 use Rattle.run_session.specs.calls.Answers.{answer_line}
-use Rattle.debug_frames.specs.declared.programs.Program.{Program as LineProgram}
 use Rattle.cover_command.specs.SourceLines.{source_line}
 use Rattle.cover_command.specs.CoverText.{CoverText}
 use Rattle.cover_command.specs.CoverAnswer.{finished_line}
@@ -31,13 +31,13 @@ Came w collecting used_up before now answer uncounted counted old new =
     × Seen Counted p collecting w.depth f w.called.args w.fuel before now answer uncounted counted old new)
 
 -- these counts are told behind an ending, wherever the steps were made
-abbrev pub TellsCounts : List (ℕ × LineProgram) → Module → Counts → (ending : List ℕ) → Outcome → Type 0
+abbrev pub TellsCounts : SourceInformation → Module → Counts → (ending : List ℕ) → Outcome → Type 0
 TellsCounts lines m t ending o =
     (o.status ≡ status.Done)
     × ((seen : List (Option Place)) → Counted m t seen → length seen < 2 ^ 64 → CoverText ending (map (source_line lines m) seen) o.text)
 
 -- what is answered where the invocation came to this, behind so many calls that were replied to
-abbrev pub AnswersEnd : List (ℕ × LineProgram) → Module → Counts → (given : ℕ) → RunEnd → Outcome → Type 0
+abbrev pub AnswersEnd : SourceInformation → Module → Counts → (given : ℕ) → RunEnd → Outcome → Type 0
 AnswersEnd lines m t given (Finished v) o = TellsCounts lines m t (finished_line v) o
 AnswersEnd lines m t given (Trapped kind) o = TellsCounts lines m t (kind_line (trap_code kind)) o
 AnswersEnd lines m t given FuelSpent o = TellsCounts lines m t (codes "fuel spent\n") o

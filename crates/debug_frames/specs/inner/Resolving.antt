@@ -3,7 +3,7 @@ use Rattle.std.specs.Prelude.{ℕ, List, Option}
 use Rattle.dwarf_entries.specs.Standing.{Standing}
 use Rattle.dwarf_scopes.specs.Scopes.{inlined_at}
 use Rattle.dwarf_line.specs.Place.{Located}
-use Rattle.debug_frames.specs.declared.information.Information.{Information}
+use Rattle.debug_frames.specs.Information.{SourceInformation}
 use Rattle.debug_frames.specs.Programs.{located_at}
 use Rattle.debug_frames.specs.Frames.{name_within, subprogram_there}
 
@@ -16,10 +16,10 @@ pub record Resolved : Type 0 where
   -- its row
   pub located : Option Located
 
-abbrev pub resolved_at : Information → ℕ → Resolved
+abbrev pub resolved_at : SourceInformation → ℕ → Resolved
 resolved_at x address = record {
   address = address;
   name = name_within x.units (subprogram_there x address);
   inlined = inlined_at x.sections x.units address;
-  located = located_at x.programs address;
+  located = located_at x.sections x.units address;
 }

@@ -49,6 +49,11 @@ IfKnown (Known op) claim = claim
 IfKnown Cut claim = Unit {0}
 IfKnown Foreign claim = Unit {0}
 
+abbrev pub is_known : Begun → Bool
+is_known (Known op) = true
+is_known Cut = false
+is_known Foreign = false
+
 -- an operator in front of the others
 abbrev pub listed : Option Placed → List Placed → List Placed
 listed None xs = []

@@ -3,6 +3,7 @@ use Rattle.std.specs.Prelude.{◌≡◌, ℕ, List, Option, Some, None, Result, 
 use Rattle.wasm_bytes.specs.declared.faults.ItemFault.{ItemFault}
 use Rattle.wasm_bytes.specs.Place.{Place}
 use Rattle.wasm_bytes.specs.calls.Answers.{Fails}
+use Rattle.dwarf_abbrev.specs.calls.Shared.{list_of}
 use Rattle.dwarf_info.specs.declared.form.Shape.{Shape}
 use Rattle.dwarf_info.specs.declared.growing.Growing.{Growing}
 use Rattle.dwarf_info.specs.Sections.{SectionBytes5}
@@ -28,4 +29,4 @@ IsIndex v look s origin table p (Err e) = Fails e (step_item (context s v origin
 
 -- what entries are read by, as the definitions have it
 abbrev pub seen : {I : Type 0} → Version → (SectionBytes5 → I → IndexTable → ℕ → Option AttrValue) → UnitContext I → Context
-seen v look c = context c.sections.now v c.origin c.table.now (looked_up (look c.sections.now) c.index)
+seen v look c = context c.sections.now v c.origin (list_of c.tables.now c.table) (looked_up (look c.sections.now) c.index)

@@ -2,10 +2,11 @@
 use Rattle.std.specs.Prelude.{◌≡◌, Result, Ok, Err}
 use Rattle.var_values.specs.declared.mark.Mark.{Mark}
 use Rattle.var_eval.specs.declared.stop.Stop.{Stop}
-use Rattle.var_eval.specs.declared.stop.Stop.TheVariants.{Marked, TooFar}
+use Rattle.var_eval.specs.declared.stop.Stop.TheVariants.{Marked, TooFar, NoMemory}
 
--- the same, unless the steps lead too far
+-- the same, unless the steps lead too far or memory runs out
 abbrev pub Tells : {A : Type 0} → Result A Stop → Result A Mark → Type 0
 Tells (Ok x) answer = answer ≡ Ok x
 Tells (Err (Marked m)) answer = answer ≡ Err m
 Tells (Err TooFar) answer = Unit {0}
+Tells (Err NoMemory) answer = Unit {0}

@@ -24,7 +24,7 @@ returns-in-Ready-clause-told g c =
     let w = c.args.words.now in
     let m = c.args.source.now in
     let h0 = c.new-hosts.result in
-    in_result (AnswersEnd ((information c.args.bytes.now m.customs).programs) m c.invoke-end.new.tally c.given.result c.invoke-end.result) (IsAnswered (λ given. ModuleAnswer before after w given c.args.script c.args.bytes.now m) before after)
+    in_result (AnswersEnd (information c.args.bytes.now m.customs) m c.invoke-end.new.tally c.given.result c.invoke-end.result) (IsAnswered (λ given. ModuleAnswer before after w given c.args.script c.args.bytes.now m) before after)
     (λ o x.
     ready_told before after c.args.script w m c.in-Ready.instance c.invoke-end.new.instance h0 c.invoke-end.new.hosts c.invoke-end.result c.in_ok-tally.tally c.invoke-end.new.tally
     (subst IsModule (c.parts-parts.ensures.value ∙ c.module.ensures.value) c.parts-parts.ensures.whole) c.module.ensures.valid

@@ -1,7 +1,7 @@
 use Rattle.std.proofs.Common.{◌+◌, take, sym, subst, ◌∙◌}
 use Rattle.std.specs.Ordering.{nat_cmp}
 use Rattle.std.specs.BTreeMap.{get}
-use Rattle.dwarf_abbrev.specs.inner.Places.{IsPlaced}
+use Rattle.dwarf_abbrev.specs.calls.Places.{IsPlaced}
 use Rattle.dwarf_abbrev.proofs.Places.{known_next, new_next}
 use Rattle.dwarf_abbrev.proofs.table.places_of.Goals as goal
 use Rattle.dwarf_abbrev.proofs.table.places_of.Goals.{then-not-contains_key+in_ok-insert, else-not-contains_key}

@@ -1,7 +1,7 @@
 use Rattle.std.proofs.Common.{take}
 use Rattle.std.specs.Ordering.{nat_cmp}
 use Rattle.std.specs.BTreeMap.{get}
-use Rattle.dwarf_abbrev.specs.inner.Places.{IsPlaced}
+use Rattle.dwarf_abbrev.specs.calls.Places.{IsPlaced}
 use Rattle.dwarf_abbrev.proofs.table.places_of.Given as goal
 
 abbrev pub invariant-items : goal.invariant-items

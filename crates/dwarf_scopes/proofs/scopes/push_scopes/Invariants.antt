@@ -6,7 +6,7 @@ use Rattle.dwarf_scopes.specs.inner.Knowing.{AreRight}
 use Rattle.dwarf_scopes.proofs.scopes.push_scopes.Given as goal
 
 abbrev pub invariant-entries : goal.invariant-entries
-invariant-entries l = AreRight l.pick.sections.now l.unit l.pick.address l.lists × (l.initial.found ++ filter (is_scope_at l.pick.sections.now l.pick.address) (standing_in l.unit l.entries) ≡ l.found ++ filter (is_scope_at l.pick.sections.now l.pick.address) (standing_in l.unit l.left))
+invariant-entries l = AreRight l.pick.sections.now l.pick.address l.lists × (l.initial.found ++ filter (is_scope_at l.pick.sections.now l.pick.address) (standing_in l.unit l.entries) ≡ l.found ++ filter (is_scope_at l.pick.sections.now l.pick.address) (standing_in l.unit l.left))
 
 abbrev pub decreases-entries : goal.decreases-entries
 decreases-entries l = length l.left

@@ -6,7 +6,7 @@ use Rattle.dwarf_scopes.specs.inner.Knowing.{AreRight}
 use Rattle.dwarf_scopes.proofs.variables.push_scopes.Given as goal
 
 abbrev pub invariant-entries : goal.invariant-entries
-invariant-entries l = (l.at ≤ length l.entries) × AreRight l.pick.sections.now l.unit l.pick.address l.lists × (l.initial.variables ++ flat_map variables_of (filter (is_scope_at l.pick.sections.now l.pick.address) (standing_in l.unit l.entries)) ≡ l.variables ++ flat_map variables_of (filter (is_scope_at l.pick.sections.now l.pick.address) (standing_in l.unit (drop l.at l.entries))))
+invariant-entries l = (l.at ≤ length l.entries) × AreRight l.pick.sections.now l.pick.address l.lists × (l.initial.variables ++ flat_map variables_of (filter (is_scope_at l.pick.sections.now l.pick.address) (standing_in l.unit l.entries)) ≡ l.variables ++ flat_map variables_of (filter (is_scope_at l.pick.sections.now l.pick.address) (standing_in l.unit (drop l.at l.entries))))
 
 abbrev pub decreases-entries : goal.decreases-entries
 decreases-entries l = length l.entries - l.at

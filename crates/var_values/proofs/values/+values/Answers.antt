@@ -5,11 +5,11 @@ use Rattle.dwarf_types.specs.Types.{class_at, type_of}
 use Rattle.dwarf_types.specs.declared.behind.Typed.{Typed}
 use Rattle.dwarf_types.specs.declared.class.Class.TheVariants as classes
 use Rattle.var_values.specs.declared.mark.Mark.TheVariants.{TypeTooDeep, UnsupportedType}
-use Rattle.var_values.specs.Values.{Text, array_text, value_text}
+use Rattle.var_values.specs.Values.{Text, array_text, item_text, value_text}
 use Rattle.var_values.specs.calls.Told.{Tells}
 use Rattle.var_values.specs.inner.Parts.{element_text, inner_size}
 use Rattle.var_values.specs.inner.Odometer.{rows_text}
-use Rattle.var_values.proofs.ValueLaws.{nothing_tells, deep_tells, passed_is, sized_is, mark_tells}
+use Rattle.var_values.proofs.ValueLaws.{nothing_tells, deep_tells, passed_is, sized_is, mark_tells, item_joined}
 use Rattle.var_values.proofs.ArrayLaws.{rows_none, rows_tell}
 use Rattle.var_values.proofs.ScalarLaws.{suits_scalar, suits_narrow}
 use Rattle.var_values.proofs.values.+values.Goals as goal
@@ -82,3 +82,10 @@ push_passed-returns-in-None t c =
     let p = c.args.place.now in
     mark_tells (value_text units m c.args.most c.args.typed.now p) UnsupportedType c.args.text.now
     (sized_is units m c.args.most c.args.typed.now c.args.standing.now c.args.skipped p None c.requires.typed c.requires.some c.requires.class (sym c.in-None.is ∙ c.type_size.ensures))
+
+pub push_members-loop-item-preserved : goal.push_members-loop-item-preserved
+push_members-loop-item-preserved t c =
+    let units = c.args.context.now.units.now in
+    let m = c.args.context.now.view.now.memory in
+    item_joined (item_text units (value_text units m c.args.further) c.args.place.now) c.as_slice-entries.result.now c.loop-item.item-index c.item-item.result c.loop-item.text c.push_separator.new.text c.push_item.new.text _
+    c.loop-item.is_first c.loop-item-test.true c.item-item.is c.in_ok-push_separator.ensures c.in_ok-push_item.ensures c.loop-item.invariant

@@ -1,8 +1,6 @@
 use Rattle.std.proofs.Common.{◌≡◌, ◌+◌, ◌*◌, ◌++◌, drop}
-use Rattle.std.specs.Prelude.{map, filter, reverse, codes}
-use Rattle.dwarf_entries.specs.Standing.{is_child}
-use Rattle.dwarf_entries.specs.Tags.{tag_member}
-use Rattle.var_values.specs.Values.{value_text, member_text, braced}
+use Rattle.std.specs.Prelude.{map, reverse, codes}
+use Rattle.var_values.specs.Values.{value_text, item_text, braced}
 use Rattle.var_values.specs.inner.Parts.{joined, element_text}
 use Rattle.var_values.specs.inner.Odometer.{AreSound, rows_left, rows_text, extent}
 use Rattle.var_values.proofs.values.+values.Given as goal
@@ -14,13 +12,16 @@ abbrev pub decreases-push_passed : goal.decreases-push_passed
 decreases-push_passed l = 16 * l.most
 
 abbrev pub decreases-push_sized : goal.decreases-push_sized
-decreases-push_sized l = 16 * l.further + 8
+decreases-push_sized l = 16 * l.further + 9
 
 abbrev pub decreases-push_content : goal.decreases-push_content
-decreases-push_content l = 16 * l.further + 7
+decreases-push_content l = 16 * l.further + 8
 
 abbrev pub decreases-push_members : goal.decreases-push_members
-decreases-push_members l = 16 * l.further + 6
+decreases-push_members l = 16 * l.further + 7
+
+abbrev pub decreases-push_item : goal.decreases-push_item
+decreases-push_item l = 16 * l.further + 6
 
 abbrev pub decreases-push_array : goal.decreases-push_array
 decreases-push_array l = 16 * l.further + 6
@@ -40,10 +41,10 @@ decreases-push_part_value l = 16 * l.further + 3
 abbrev pub decreases-push_in_place : goal.decreases-push_in_place
 decreases-push_in_place l = 16 * l.most + 2
 
-abbrev pub invariant-push_members-loop-entry : goal.invariant-push_members-loop-entry
-invariant-push_members-loop-entry l =
-    l.text ++ (joined l.is_first (map (member_text l.context.units.now (value_text l.context.units.now l.context.view.now.memory l.further) l.place) (filter (is_child l.depth tag_member) (drop l.entry-index l.entries))) ++ codes "}")
-    ≡ l.fn.text ++ braced (map (member_text l.context.units.now (value_text l.context.units.now l.context.view.now.memory l.further) l.place) (filter (is_child l.depth tag_member) l.entries))
+abbrev pub invariant-push_members-loop-item : goal.invariant-push_members-loop-item
+invariant-push_members-loop-item l =
+    l.text ++ (joined l.is_first (map (item_text l.context.units.now (value_text l.context.units.now l.context.view.now.memory l.further) l.place) (drop l.item-index l.entries)) ++ codes "}")
+    ≡ l.fn.text ++ braced (map (item_text l.context.units.now (value_text l.context.units.now l.context.view.now.memory l.further) l.place) l.entries)
 
 abbrev pub invariant-push_rows-elements : goal.invariant-push_rows-elements
 invariant-push_rows-elements l = record {

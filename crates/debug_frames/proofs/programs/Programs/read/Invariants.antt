@@ -1,7 +1,14 @@
 use Rattle.std.proofs.Common.{◌≡◌, [], drop}
 use Rattle.std.specs.Prelude.{fold}
-use Rattle.debug_frames.specs.Programs.{with_program, named}
+use Rattle.std.specs.Ordering.{nat_cmp}
+use Rattle.std.specs.BTreeMap.{get}
+use Rattle.dwarf_abbrev.specs.calls.Places.{IsPlaced}
+use Rattle.debug_frames.specs.Programs.{named}
+use Rattle.debug_frames.specs.calls.Kept.{with_program}
 use Rattle.debug_frames.proofs.programs.Programs.read.Given as goal
 
 abbrev pub invariant-loop-answer : goal.invariant-loop-answer
-invariant-loop-answer l = fold (λ programs u. with_program l.sections programs (named u)) l.programs (drop l.answer-index l.units) ≡ fold (λ programs u. with_program l.sections programs (named u)) [] l.units
+invariant-loop-answer l = record {
+  programs : fold (λ programs u. with_program l.sections programs (named u)) l.programs (drop l.answer-index l.units) ≡ fold (λ programs u. with_program l.sections programs (named u)) [] l.units;
+  placed : IsPlaced (λ x. x.0) l.programs (get nat_cmp l.places);
+}

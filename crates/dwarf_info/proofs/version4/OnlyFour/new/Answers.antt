@@ -1,5 +1,5 @@
-use Rattle.dwarf_info.specs.Version4.{version4}
+use Rattle.dwarf_info.specs.calls.Rows4.{rows4}
 use Rattle.dwarf_info.proofs.version4.OnlyFour.new.Goals as goal
 
 pub returns : goal.returns
-returns c = c.new.ensures version4
+returns c = c.new.ensures rows4

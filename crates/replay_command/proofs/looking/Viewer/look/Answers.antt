@@ -1,8 +1,7 @@
 use Rattle.std.proofs.Common.{◌≡◌, ℕ, List, ap, ◌∙◌}
 use Rattle.wasm_syntax.specs.declared.module.ModuleParts.{ModuleParts as Module}
-use Rattle.debug_frames.specs.declared.information.Information.{Information}
-use Rattle.debug_frames.specs.Information.{information}
-use Rattle.debugger.specs.Subject.{Subject}
+use Rattle.debug_frames.specs.Information.{SourceInformation, information}
+use Rattle.debugger.specs.Subject.{Subject, subject_on}
 use Rattle.debugger.specs.calls.Sitting.{sitting}
 use Rattle.replay_command.specs.ReplayText.{commands_in}
 use Rattle.replay_command.specs.inner.Steps.{Seat, choosing, left_in}
@@ -12,8 +11,8 @@ use Rattle.replay_command.proofs.looking.Viewer.look.Goals as goal
 pub returns-clause-took : goal.returns-clause-took
 returns-clause-took c =
     let m = c.matched-matched.result in
-    let known : Information = information c.self.inside.bytes.now m.module_.customs in
-    let at : Subject = record { information = known; module_ = m.module_; dump = m.dump } in
+    let known : SourceInformation = information c.self.inside.bytes.now m.module_.customs in
+    let at : Subject = subject_on known m.module_ m.dump in
     let after : Seat = record { module_ = c.self.inside.source.now; bytes = c.self.inside.bytes.now; chosen = c.chosen-self-inside.result } in
     let first = c.self.view_is in
     let looked_at : c.self.inside.source.now ≡ c.args.self.now.module_ = ap (λ (v : Seat). v.module_) first in

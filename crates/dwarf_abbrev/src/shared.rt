@@ -1,0 +1,131 @@
+//! Lists of values with codes, of which each is another one with a value in front.
+
+ghost use Rattle.std.specs.Prelude.{◌≡◌, ◌≤◌, ◌==◌, ◌++◌, ◌+◌, [], ◌∷◌, ℕ, find, length, IfOk, OnOk, OnErr};
+ghost use Rattle.std.specs.Option.{option_copied};
+ghost use Rattle.dwarf_abbrev.specs.calls.Shared.{list_of};
+ghost use Rattle.dwarf_abbrev.specs.inner.Linked.{lists, first_of, map_of, Finds};
+
+use crate::forks::{Fork, found, with};
+use crate::table::Coded;
+use causes::NoMemory;
+use pm_text::Items;
+use std::alloc::Global;
+use std::marker::Model;
+
+/// A value in front of a list. Lists are numbered: 0 is the empty one, and n + 1 begins with the
+/// value of index n.
+#[derive(Drop)]
+pub struct Link<T: Drop> {
+    pub value: T,
+    /// The list behind the value.
+    pub rest: u32,
+    /// The map from codes to the numbers of the lists that begin with their first values.
+    pub map: u32,
+}
+
+/// Lists of values, of which each but the empty one is another one with a value in front; the first
+/// value of a code is found in logarithmic time in each of them. Contracts see the lists but the
+/// empty one, which has the number 0.
+#[derive(Drop)]
+pub struct SharedLists<T: Coded> {
+    links: Items<Link<T>>,
+    forks: Items<Fork>,
+}
+
+impl<T: Coded> Model for SharedLists<T> {
+    ghost use Rattle.std.specs.Prelude.{List};
+    ghost use Rattle.dwarf_abbrev.specs.inner.Linked.{lists, Finds};
+
+    ghost Value = { List (List T) };
+
+    ghost view = { λ s. lists s.links };
+
+    ghost invariant = { λ s. Finds T.code s.links s.forks };
+}
+
+/// The value that the list of a number begins with.
+#[tactic(auto, using(crate::proofs::LinkLaws::first_at))]
+fn first_of<T: Coded>(links: &[Link<T>], number: u32) -> Option<&T>
+    ensures { option_copied result ≡ first_of links.now number }
+{
+    if number == 0 {
+        return None;
+    }
+    match links.get(number as usize - 1) {
+        Some(link) => Some(&link.value),
+        None => None,
+    }
+}
+
+/// The map of the list of a number.
+#[tactic(auto, using(crate::proofs::LinkLaws::map_at))]
+fn map_of<T: Coded>(links: &[Link<T>], number: u32) -> u32
+    ensures { result ≡ map_of links.now number }
+{
+    if number == 0 {
+        return 0;
+    }
+    match links.get(number as usize - 1) {
+        Some(link) => link.map,
+        None => 0,
+    }
+}
+
+/// Adds the list that has a value in front of that of a number, and hands out its own number.
+fn add_link<T: Coded>(
+    links: &mut Items<Link<T>>,
+    forks: &mut Items<Fork>,
+    value: T,
+    rest: u32,
+) -> Result<u32, NoMemory>
+    requires finds { Finds T.code links.old forks.old }
+    requires rest { rest ≤ length (lists links.old) }
+    ensures finds { Finds T.code links.new forks.new }
+    ensures made { OnOk result (lists links.new
+        ≡ lists links.old ++ (value ∷ list_of (lists links.old) rest) ∷ []) }
+    ensures number { IfOk result (λ number. number ≡ length (lists links.old) + 1) }
+    ensures err { OnErr result (links.new ≡ links.old) }
+{
+    let len = links.len();
+    if len >= 0xFFFF_FFFF {
+        return Err(NoMemory);
+    }
+    let number = len as u32 + 1;
+    let before = map_of(links.as_slice(), rest);
+    let map = with(forks, before, value.code(), number)?;
+    links.push(Link { value, rest, map })?;
+    Ok(number)
+}
+
+impl<T: Coded> SharedLists<T> {
+    /// No list but the empty one.
+    pub fn new(alloc: Global) -> Self
+        ensures { result ≡ [] }
+    {
+        SharedLists {
+            links: Items::new(alloc),
+            forks: Items::new(alloc),
+        }
+    }
+
+    /// Adds the list that has a value in front of that of a number, and hands out its own number.
+    pub fn push(&mut self, value: T, rest: u32) -> Result<u32, NoMemory>
+        requires { rest ≤ length self.old }
+        ensures made { OnOk result (self.new
+            ≡ self.old ++ (value ∷ list_of self.old rest) ∷ []) }
+        ensures number { IfOk result (λ number. number ≡ length self.old + 1) }
+        ensures err { OnErr result (self.new ≡ self.old) }
+    {
+        add_link(&mut self.links, &mut self.forks, value, rest)
+    }
+
+    /// The first value of a code in the list of a number.
+    pub fn find(&self, list: u32, code: u64) -> Option<&T>
+        ensures { option_copied result
+            ≡ find (λ item. T.code item == code) (list_of self.now list) }
+    {
+        let links = self.links.as_slice();
+        let number = found(self.forks.as_slice(), map_of(links, list), code);
+        first_of(links, number)
+    }
+}

@@ -1,0 +1,173 @@
+//! The attributes of an entry.
+
+ghost use Rattle.std.specs.Prelude.{◌≡◌, map, slice_get, IfOk};
+ghost use Rattle.std.specs.List.{list_all};
+ghost use Rattle.dwarf_info.specs.Attributes.{attribute};
+ghost use Rattle.dwarf_info.specs.inner.Joined.{joined, value_at, AreOwn};
+ghost use Rattle.dwarf_info.specs.inner.Settling.{placed, meets, settled_by, attribute_by, is_met, are_met};
+
+use crate::entry::{AttrValue, Attribute};
+use crate::form::Slot;
+use crate::places::Places;
+use crate::settle::{is_met, settled_value};
+use crate::slots::{SlotPlace, Slots, counted, held};
+use causes::NoMemory;
+use pm_text::Items;
+use std::alloc::Global;
+use std::marker::Model;
+use wasm_bytes::Run;
+
+/// The attributes of an entry. What its abbreviation says of them is shared with the other entries
+/// of it; what stands in its own bytes is kept here. Contracts see them as the list.
+#[derive(Drop)]
+pub struct Attributes<'a> {
+    slots: Slots,
+    // The value of each attribute that takes bytes, in order.
+    own: Items<AttrValue<'a>>,
+}
+
+impl<'a> Model for Attributes<'a> {
+    ghost use Rattle.std.specs.Prelude.{List};
+    ghost use Rattle.dwarf_info.specs.declared.entry.Attribute.{Attribute};
+    ghost use Rattle.dwarf_info.specs.inner.Joined.{joined, AreOwn};
+
+    ghost Value = { List Attribute };
+
+    ghost view = { λ a. joined a.slots a.own };
+
+    ghost invariant = { λ a. AreOwn a.slots a.own };
+}
+
+fn copied<'a>(value: &AttrValue<'a>) -> AttrValue<'a>
+    ensures { result ≡ value.now }
+{
+    match value {
+        AttrValue::Address(address) => AttrValue::Address(*address),
+        AttrValue::Constant(number) => AttrValue::Constant(*number),
+        AttrValue::Signed(number) => AttrValue::Signed(*number),
+        AttrValue::Block(bytes) => AttrValue::Block(Run::new(bytes.as_slice())),
+        AttrValue::Text(bytes) => AttrValue::Text(Run::new(bytes.as_slice())),
+        AttrValue::Flag(is_set) => AttrValue::Flag(*is_set),
+        AttrValue::Reference(at) => AttrValue::Reference(*at),
+        AttrValue::Offset(at) => AttrValue::Offset(*at),
+        AttrValue::Other => AttrValue::Other,
+    }
+}
+
+/// The value of a number, from 0.
+fn own_value<'a>(own: &[AttrValue<'a>], number: usize) -> Option<AttrValue<'a>>
+    ensures { result ≡ slice_get own.now number }
+{
+    match own.get(number) {
+        Some(value) => Some(copied(value)),
+        None => None,
+    }
+}
+
+/// The value at a place, among those of an entry.
+fn value_at<'a>(own: &[AttrValue<'a>], place: SlotPlace) -> Option<AttrValue<'a>>
+    ensures { result ≡ value_at own.now place }
+{
+    match place {
+        SlotPlace::Present => Some(AttrValue::Flag(true)),
+        SlotPlace::Implicit(value) => Some(AttrValue::Signed(value)),
+        SlotPlace::Own(number) => own_value(own, number),
+    }
+}
+
+/// Each slot with its value.
+fn all_of<'a>(
+    alloc: Global,
+    slots: &[Slot],
+    own: &[AttrValue<'a>],
+) -> Result<Items<Attribute<'a>>, NoMemory>
+    ensures { IfOk result (λ all. all ≡ joined slots.now own.now) }
+{
+    let mut all = Items::new(alloc);
+    let mut count: usize = 0;
+    'slots: for slot in slots {
+        let Some(value) = value_at(own, held(&slot.form, count)) else {
+            return Ok(all);
+        };
+        all.push(Attribute {
+            name: slot.attribute,
+            value,
+        })?;
+        count = counted(slot, count);
+    }
+    Ok(all)
+}
+
+fn all_own_met<'a>(places: &Places, own: &[AttrValue<'a>]) -> bool
+    ensures { result ≡ list_all (is_met (meets (placed places.now))) own.now }
+{
+    own.iter().all(|value| is_met(places, value))
+}
+
+/// Values, where nothing is left of each reference that meets no entry. Values that all stay as they
+/// are need no memory.
+fn settled_values<'a>(
+    alloc: Global,
+    places: &Places,
+    values: Items<AttrValue<'a>>,
+) -> Result<Items<AttrValue<'a>>, NoMemory>
+    ensures { IfOk result (λ kept. kept ≡ map (settled_by (meets (placed places.now)))
+        values.entry) }
+{
+    if all_own_met(places, values.as_slice()) {
+        return Ok(values);
+    }
+    let mut kept = Vec::with_capacity(alloc, values.len())?;
+    for value in values.into_vec() {
+        kept.push(settled_value(places, value))?;
+    }
+    Ok(Items::from_vec(kept))
+}
+
+impl<'a> Attributes<'a> {
+    /// The attributes of an abbreviation, with a value for each that takes bytes.
+    pub(crate) fn new(slots: Slots, own: Items<AttrValue<'a>>) -> Self
+        requires { AreOwn slots own }
+        ensures { result ≡ joined slots own.entry }
+    {
+        Attributes { slots, own }
+    }
+
+    /// The value of the first attribute of a name, in logarithmic time.
+    pub fn get(&self, name: u64) -> Option<AttrValue<'a>>
+        ensures { result ≡ attribute name self.now }
+    {
+        let place = self.slots.place(name)?;
+        value_at(self.own.as_slice(), place)
+    }
+
+    /// All attributes, in order.
+    ///
+    /// # Errors
+    ///
+    /// `NoMemory` where memory runs out.
+    pub fn all(&self, alloc: Global) -> Result<Items<Attribute<'a>>, NoMemory>
+        ensures { IfOk result (λ all. all ≡ self.now) }
+    {
+        all_of(alloc, self.slots.as_slice(), self.own.as_slice())
+    }
+
+    /// Each is no reference, or one that meets an entry.
+    pub(crate) fn are_met(&self, places: &Places) -> bool
+        ensures { result ≡ are_met (meets (placed places.now)) self.now }
+    {
+        all_own_met(places, self.own.as_slice())
+    }
+
+    /// Nothing is left of each reference that meets no entry.
+    pub(crate) fn settled(self, alloc: Global, places: &Places) -> Result<Self, NoMemory>
+        ensures { IfOk result (λ kept. kept
+            ≡ map (attribute_by (meets (placed places.now))) self.entry) }
+    {
+        let own = settled_values(alloc, places, self.own)?;
+        Ok(Attributes {
+            slots: self.slots,
+            own,
+        })
+    }
+}
