@@ -27,7 +27,7 @@ module _ (m : Module) where
   trap_over kind (Some a) None other e h t = absurd h
   trap_over kind (Some a) (Some b) other e h t = let same : a ≡ t.0 = some_is t.1 in shown kind a b other e h (λ name text. subst (λ c. IsAcceptedIfFew m (bytes_of (image c name))) (sym same) (t.2 name text))
 
-  over : (o : Outcome) (last : Option Config) (other : Ran) → EndsAlike o last other.last other → TrapAccepted m o last → HandsOverAt m o other
+  pub over : (o : Outcome) (last : Option Config) (other : Ran) → EndsAlike o last other.last other → TrapAccepted m o last → HandsOverAt m o other
   over (trapped kind) last other h t = trap_over kind last other.last other refl h t
   over (not_started cause) last other h t = tt
   over (finished value) last other h t = tt

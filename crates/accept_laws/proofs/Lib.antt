@@ -7,3 +7,4 @@ pub mod Spelled
 pub mod Traps
 pub mod Collecting
 pub mod Written
+pub mod CollectedRuns

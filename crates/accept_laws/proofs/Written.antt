@@ -75,40 +75,20 @@ front_accepted m tell (r ∷ rs) t = (t.0, unless_accepted m (torn_in (told tell
 
 -- ---- the answer
 
-module _ (before after : List DeviceState) (w : RunWords) (first later : Contents) (given : List Served) (writes : Writes) (o : Outcome) (bounds : InBounds w) (plain : w.collect ≡ false) (bytes_held : HoldBytes first) (untouched : IfRefusal o.status (IsUntouched before after given writes)) where
-  abbrev Goal : Type 0
-  Goal = DumpsAccepted w first writes
-
+-- Words that are refused write nothing, and others run a module that was read.
+module _ (before after : List DeviceState) (w : RunWords) (first later : Contents) (given : List Served) (writes : Writes) (o : Outcome) (untouched : IfRefusal o.status (IsUntouched before after given writes)) (Goal : Type 0) (none : writes ≡ [] → Goal)
+    (ran : (bytes : List ℕ) → first w.source ≡ Some bytes → (script : Option (List Reply)) (m : Module) → module_from bytes ≡ Ok m → Valid m → RunsTo before after script w m given o writes → Goal) where
   -- what comes behind the files
   abbrev Behind : List ℕ → Option (List ℕ) → Outcome → Type 0
   Behind bytes q o' = IfLoaded (λ m. Then (script_of q) (λ script. ModuleAnswer before after w given writes script m)) (module_from bytes) o'
 
   -- a refusal writes nothing
   refused : (refusal : Outcome) → o ≡ refusal → (IfRefusal refusal.status (IsUntouched before after given writes) → IsUntouched before after given writes) → Goal
-  refused refusal e is = inl (is (subst (λ x. IfRefusal x.status (IsUntouched before after given writes)) e untouched)).writes_none
-
-  -- without a collector
-  front_of : (p : Program) (deliver : List CollectorCall → Delivery) → TrapsAccepted p.module_ (run p false (map invocation_of w.invocations) (replies_of given) w.depth w.fuel)
-      → TrapsAccepted p.module_ (up_to_torn (tells w.collect deliver) (run p w.collect (map invocation_of w.invocations) (replies_of given) (depth_of w) w.fuel))
-  front_of p deliver t =
-      subst (λ (collect : Bool). TrapsAccepted p.module_ (up_to_torn (tells collect deliver) (run p collect (map invocation_of w.invocations) (replies_of given) (if collect then w.depth + 2 else w.depth) w.fuel))) (sym plain)
-      (front_accepted p.module_ (tells false deliver) (run p false (map invocation_of w.invocations) (replies_of given) w.depth w.fuel) t)
+  refused refusal e is = none (is (subst (λ x. IfRefusal x.status (IsUntouched before after given writes)) e untouched)).writes_none
 
   module _ (bytes : List ℕ) (there : first w.source ≡ Some bytes) where
-    ran : (script : Option (List Reply)) (m : Module) → module_from bytes ≡ Ok m → Valid m → RunsTo before after script w m given o writes → Goal
-    ran script m e valid r =
-        let is_bytes = bytes_held w.source bytes there in
-        let p : Program = r.program in
-        let e' : module_from bytes ≡ Ok p.module_ = e ∙ ap Ok (sym r.of_module) in
-        let t : TrapsAccepted p.module_ (run p false (map invocation_of w.invocations) (replies_of given) w.depth w.fuel) =
-        traps_accepted p false (map invocation_of w.invocations) (replies_of given) w.depth w.fuel r.writes_out (whole bytes p.module_ is_bytes e') (subst Valid (sym r.of_module) valid) (limits bytes p.module_ is_bytes e') (decoded bytes p.module_ is_bytes e') (omega (arith, bounds.depth)) in
-        let t' : TrapsAccepted m r.rans = subst (λ x. TrapsAccepted x r.rans) r.of_module (subst (TrapsAccepted p.module_) (sym r.runs) (front_of p r.deliver t)) in
-        let files : AllAccepted m (dumps_from (tells w.collect r.deliver) w.dump w.name 0 r.rans) =
-        subst (λ (collect : Bool). AllAccepted m (dumps_from (tells collect r.deliver) w.dump w.name 0 r.rans)) (sym plain) (files_accepted m w.dump w.name bounds.name r.deliver r.rans 0 t') in
-        inr (bytes, m, there, e, dumps_from (tells w.collect r.deliver) w.dump w.name 0 r.rans, replies_of (served_in r.rans), r.wrote, files)
-
     started : (script : Option (List Reply)) (m : Module) (cause : Option (List ℕ)) → module_from bytes ≡ Ok m → Valid m → StartsOr cause (RunsTo before after script w m given o writes × Logs m given before after) o → Goal
-    started script m None e valid h = ran script m e valid h.0
+    started script m None e valid h = ran bytes there script m e valid h.0
     started script m (Some cause) e valid h = refused (not_started_with cause) h (λ x. x)
 
     scripted : (m : Module) (r : Result (List Reply) ℕ) → module_from bytes ≡ Ok m → Valid m → Then (script_of_bytes r) (λ script. ModuleAnswer before after w given writes script m) o → Goal
@@ -147,13 +127,35 @@ module _ (before after : List DeviceState) (w : RunWords) (first later : Content
     with_replies None h = loaded None (module_from bytes) refl h
     with_replies (Some file) h = replies_by file (later file) h
 
-  by_file : (q : Option (List ℕ)) → first w.source ≡ q → Then (input_of ModuleBytes w.source q) (λ bytes. Then (replies_input w.replies later) (Behind bytes)) o → Goal
-  by_file None e h = refused (no_file w.source) h (λ x. x)
-  by_file (Some bytes) e h = by_test (nat_lt (greatest ModuleBytes) (length bytes)) h
+  pub answered_by_run : (q : Option (List ℕ)) → first w.source ≡ q → Then (input_of ModuleBytes w.source q) (λ bytes. Then (replies_input w.replies later) (Behind bytes)) o → Goal
+  answered_by_run None e h = refused (no_file w.source) h (λ x. x)
+  answered_by_run (Some bytes) e h = by_test (nat_lt (greatest ModuleBytes) (length bytes)) h
     where
       by_test : (b : Bool) → Then (if b then Err (over_limit ModuleBytes (greatest ModuleBytes + 1)) else Ok bytes) (λ bytes. Then (replies_input w.replies later) (Behind bytes)) o → Goal
       by_test true h = refused (over_limit ModuleBytes (greatest ModuleBytes + 1)) h (λ x. x)
       by_test false h = with_replies bytes e w.replies h
 
+-- ---- without a collector
+
+module _ (before after : List DeviceState) (w : RunWords) (first later : Contents) (given : List Served) (writes : Writes) (o : Outcome) (bounds : InBounds w) (plain : w.collect ≡ false) (bytes_held : HoldBytes first) where
+  front_of : (p : Program) (deliver : List CollectorCall → Delivery) → TrapsAccepted p.module_ (run p false (map invocation_of w.invocations) (replies_of given) w.depth w.fuel)
+      → TrapsAccepted p.module_ (up_to_torn (tells w.collect deliver) (run p w.collect (map invocation_of w.invocations) (replies_of given) (depth_of w) w.fuel))
+  front_of p deliver t =
+      subst (λ (collect : Bool). TrapsAccepted p.module_ (up_to_torn (tells collect deliver) (run p collect (map invocation_of w.invocations) (replies_of given) (if collect then w.depth + 2 else w.depth) w.fuel))) (sym plain)
+      (front_accepted p.module_ (tells false deliver) (run p false (map invocation_of w.invocations) (replies_of given) w.depth w.fuel) t)
+
+  ran_accepted : (bytes : List ℕ) (there : first w.source ≡ Some bytes) (script : Option (List Reply)) (m : Module) → module_from bytes ≡ Ok m → Valid m → RunsTo before after script w m given o writes → DumpsAccepted w first writes
+  ran_accepted bytes there script m e valid r =
+      let is_bytes = bytes_held w.source bytes there in
+      let p : Program = r.program in
+      let e' : module_from bytes ≡ Ok p.module_ = e ∙ ap Ok (sym r.of_module) in
+      let t : TrapsAccepted p.module_ (run p false (map invocation_of w.invocations) (replies_of given) w.depth w.fuel) =
+      traps_accepted p false (map invocation_of w.invocations) (replies_of given) w.depth w.fuel r.writes_out (whole bytes p.module_ is_bytes e') (subst Valid (sym r.of_module) valid) (limits bytes p.module_ is_bytes e') (decoded bytes p.module_ is_bytes e') (omega (arith, bounds.depth)) in
+      let t' : TrapsAccepted m r.rans = subst (λ x. TrapsAccepted x r.rans) r.of_module (subst (TrapsAccepted p.module_) (sym r.runs) (front_of p r.deliver t)) in
+      let files : AllAccepted m (dumps_from (tells w.collect r.deliver) w.dump w.name 0 r.rans) =
+      subst (λ (collect : Bool). AllAccepted m (dumps_from (tells collect r.deliver) w.dump w.name 0 r.rans)) (sym plain) (files_accepted m w.dump w.name bounds.name r.deliver r.rans 0 t') in
+      inr (bytes, m, there, e, dumps_from (tells w.collect r.deliver) w.dump w.name 0 r.rans, replies_of (served_in r.rans), r.wrote, files)
+
 pub run_accepted : (before after : List DeviceState) (w : RunWords) (first later : Contents) (given : List Served) (writes : Writes) (o : Outcome) → InBounds w → w.collect ≡ false → HoldBytes first → RunAnswer before after w first later given writes o → DumpsAccepted w first writes
-run_accepted before after w first later given writes o bounds plain held a = by_file before after w first later given writes o bounds plain held a.untouched (first w.source) refl a.answer
+run_accepted before after w first later given writes o bounds plain held a =
+    answered_by_run before after w first later given writes o a.untouched (DumpsAccepted w first writes) (λ none. inl none) (ran_accepted before after w first later given writes o bounds plain held) (first w.source) refl a.answer

@@ -1,6 +1,9 @@
 mod Numbered
 mod OneAnswer
+mod NextGiven
+mod OneGiven
 mod OneRun
+mod OneCovered
 mod Respond
 mod Taken
 mod Stopping

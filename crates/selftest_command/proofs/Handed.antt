@@ -1,6 +1,7 @@
 -- What the rewriting of a self-test hands over when it is run.
 use Rattle.std.proofs.Common.{◌≡◌, ℕ, suc, ◌+◌, ◌-◌, ◌*◌, ◌≤◌, List, [], ◌∷◌, length, map, slice_get, Option, Some, None, option_map, Bool, true, false, refl, sym, ap, subst, ◌∙◌, arith}
 use Rattle.std.specs.List.{range_with_len}
+use Rattle.std.specs.Prelude.{codes}
 use Rattle.std.proofs.Math.Nat.{mul-le-mul}
 use Rattle.std.proofs.lemmas.List.{length-map}
 use Rattle.wasm_syntax.specs.declared.module.ModuleParts.{ModuleParts as Module}
@@ -14,7 +15,7 @@ use Rattle.wasm_laws.proofs.Longer.{longer_run}
 use Rattle.rewrite_modules.specs.calls.Bare.{bare, bare_frame, bare_config, bare_ran}
 use Rattle.rewrite_modules.specs.Instrumentable.{program_of}
 use Rattle.rewrite_modules.specs.Multiple.{multiple}
-use Rattle.rewrite_modules.specs.Simulates.{EndsAlike, AllAlike, NoneDeep}
+use Rattle.rewrite_modules.specs.Simulates.{Shows, EndsAlike, AllAlike, NoneDeep}
 use Rattle.rewrite_modules.proofs.BareRuns.{runs_alike}
 use Rattle.rewrite_modules.proofs.WrittenOut.{program_bare, same_bare}
 use Rattle.rewrite_promise.specs.Admitted.{Admits}
@@ -87,6 +88,7 @@ hands_still at more r h = record {
   there = h.there;
   last = h.last;
   shows = record { trapped_too = h.shows.trapped_too; whole = h.shows.whole; kind = h.shows.kind; dump = h.shows.dump; bytes = h.shows.bytes };
+  one_dump = h.one_dump;
 }
 
 -- one run that trapped stays with more steps, where they are a run too
@@ -116,6 +118,9 @@ record Shown (at : Config) (rs : List Ran) : Type 0 where
   is : rs ≡ one ∷ []
   hands : HandsOver at one
 
+hands_by : (c b : Config) (other : Ran) → other.last ≡ Some b → Shows 2 c b other → HandsOver c other
+hands_by c b other last shows = record { there = b; last = last; shows = shows; one_dump = shows.bytes (codes "module") (omega arith) }
+
 shown_by : (r : Ran) (c : Config) (others : List Ran) → r.outcome ≡ trapped 2 → r.last ≡ Some c → AllAlike (r ∷ []) others → Shown c others
 shown_by r c [] outcome last h = absurd h
 shown_by r c (o ∷ p ∷ os) outcome last h = absurd h.1
@@ -123,7 +128,7 @@ shown_by r c (o ∷ []) outcome last h = by_last o.last refl (subst (λ x. EndsA
   where
     by_last : (b : Option Config) → o.last ≡ b → EndsAlike (trapped 2) (Some c) b o → Shown c (o ∷ [])
     by_last None f e = absurd e
-    by_last (Some b) f e = record { one = o; is = refl; hands = record { there = b; last = f; shows = e } }
+    by_last (Some b) f e = record { one = o; is = refl; hands = hands_by c b o f e }
 
 few_steps : (steps n factor : ℕ) → steps ≤ 40 * n → n ≤ 900 → factor ≤ 544 → (steps + 1 + 2 * 1) * factor ≤ 100000000
 few_steps steps n factor few most small = let a : steps + 1 + 2 * 1 ≤ 36003 = omega (arith, few, most) in let k = mul-le-mul a small in omega (arith, k)

@@ -31,7 +31,7 @@ served_all m k are one two three =
     ∙ ap (λ o. tested k (Some (value_type I32)) o (slice_get m.types (k + 2))) two
     ∙ ap (λ o. tested k (Some (value_type I32)) (Some (value_type I64)) o) three
 
-no_imports : (n : ℕ) (m : Module) → IsSelftest n m → m.imports ≡ []
+pub no_imports : (n : ℕ) (m : Module) → IsSelftest n m → m.imports ≡ []
 unfolding selftest
 no_imports n m s = ap (λ (x : Module). x.imports) s.same
 

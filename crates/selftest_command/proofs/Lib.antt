@@ -1,5 +1,7 @@
 pub mod Imports
 pub mod Runs
+pub mod OneRun
+pub mod Alone
 pub mod Files
 pub mod Steps
 pub mod OneSelftest

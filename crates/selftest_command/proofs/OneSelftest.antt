@@ -1,26 +1,27 @@
 -- Two answers tell of one dump.
-use Rattle.std.proofs.Common.{◌≡◌, ℕ, ◌-◌, Bool, true, false, List, [], ◌∷◌, map, slice_get, sym, ap, ◌∙◌, take}
-use Rattle.std.specs.Prelude.{codes}
-use Rattle.wasm_syntax.specs.declared.module.ModuleParts.{ModuleParts as Module}
+use Rattle.std.proofs.Common.{◌≡◌, ℕ, ◌<◌, true, false, List, [], ◌∷◌, map, sym, ap, subst, ◌∙◌, arith, take}
+use Rattle.wasm_syntax.specs.Module.{Program}
 use Rattle.wasm_syntax.specs.Machine.{Config}
-use Rattle.wasm_syntax.specs.Run.{Ran, run}
+use Rattle.wasm_syntax.specs.Run.{Ran}
 use Rattle.wasm_decode.specs.Decode.{module_from}
-use Rattle.dump_write.specs.Image.{image}
-use Rattle.dump_write.specs.ImageBytes.{bytes_of}
 use Rattle.commands.specs.declared.outcome.Outcome.{Outcome}
 use Rattle.pm_outside.specs.Held.{Writes}
-use Rattle.selftest_command.specs.Handing.{main_on, fuel, depth, RunsOnce}
-use Rattle.wasm_laws.proofs.OneProgram.{same_program}
-use Rattle.selftest_command.specs.Summary.{summary}
-use Rattle.selftest_command.specs.SelftestAnswer.{module_bytes, division, SelftestAnswer, OneDump}
+use Rattle.selftest_command.specs.Handing.{own_dump, IsEnd}
+use Rattle.selftest_command.specs.Summary.{line}
+use Rattle.selftest_command.specs.SelftestAnswer.{module_bytes, SelftestAnswer, OneDump}
+use Rattle.selftest_command.proofs.OneRun.{one_program, one_run}
 use Rattle.selftest_command.proofs.Steps.{ok_is}
 use Rattle.pm_text.proofs.Lists.{some_is}
 
--- one module has one run
-one_run : (collecting : Bool) (n : ℕ) (m other : Module) → m ≡ other → (r : RunsOnce collecting n m) (s : RunsOnce collecting n other) → r.ran ≡ s.ran
-one_run collecting n m other same r s =
-    let program : r.program ≡ s.program = same_program other r.program s.program (r.of_module ∙ same) s.of_module r.writes_out s.writes_out in
-    some_is (ap (λ l. slice_get l 0) (sym r.runs ∙ ap (λ p. run p collecting (main_on n ∷ []) [] (depth collecting) fuel) program ∙ s.runs))
+-- a run ends once
+one_end : (n : ℕ) (p : Program) (a b : ℕ) → IsEnd p n a → IsEnd p n b → a ≡ b
+one_end n p a b h k =
+    let x : a < b → ⊥ = earlier a b h k in
+    let y : b < a → ⊥ = earlier b a k h in
+    omega (arith, x, y)
+  where
+    earlier : (a b : ℕ) → IsEnd p n a → IsEnd p n b → a < b → ⊥
+    earlier a b h k lt = h.ended (k.going a lt)
 
 -- files are written with the bytes of the second one
 abbrev second_bytes : Writes → List ℕ
@@ -38,20 +39,20 @@ module _ (n : ℕ) (x y : Writes) (a b : Outcome) (p : SelftestAnswer n x a) (q 
   same_rewriting : x ≡ y → p.rewritten ≡ q.rewritten
   same_rewriting same = ap second_bytes (sym p.both ∙ same ∙ q.both)
 
-  same_second : x ≡ y → p.other.ran ≡ q.other.ran
+  same_second : x ≡ y → p.other.program ≡ q.other.program
   same_second same =
       let r = p.modules.admitted in
       let s = q.modules.admitted in
-      one_run true n r.decoded s.decoded (ok_is (module_from q.rewritten) r.decoded s.decoded (ap module_from (sym (same_rewriting same)) ∙ r.is) s.is) p.other q.other
+      one_program true n r.decoded s.decoded (ok_is (module_from q.rewritten) r.decoded s.decoded (ap module_from (sym (same_rewriting same)) ∙ r.is) s.is) p.other q.other
 
   pub one_dump : OneDump n x y a b
   one_dump = record {
-    dump = bytes_of (image p.divides.at (codes "module"));
-    steps = fuel - p.other.ran.left;
-    others = fuel - q.other.ran.left;
+    dump = own_dump p.divides.at;
+    steps = p.steps;
+    others = q.steps;
     first = p.answer;
-    second = q.answer ∙ ap (λ (c : Config). summary n (division n (bytes_of (image c (codes "module")))) (fuel - q.other.ran.left)) (sym one_place);
-    same_steps = λ same. ap (λ (r : Ran). fuel - r.left) (same_second same);
+    second = q.answer ∙ ap (λ (c : Config). line n 2 n (own_dump c) q.steps) (sym one_place);
+    same_steps = λ same. one_end n q.other.program p.steps q.steps (subst (λ (r : Program). IsEnd r n p.steps) (same_second same) p.is_end) q.is_end;
   }
 
   pub same_files : (map (λ w. w.0) x ≡ map (λ w. w.0) y) × (take 1 x ≡ take 1 y)

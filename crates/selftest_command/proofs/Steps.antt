@@ -1,6 +1,7 @@
 -- The steps of the command, from what the next ones answer.
-use Rattle.std.proofs.Common.{◌≡◌, ℕ, ◌≤◌, ◌-◌, List, [], ◌∷◌, length, refl, sym, ap, subst, ◌∙◌, arith, inl, inr, Option, Some, None, Result, Ok, Err}
-use Rattle.std.specs.Prelude.{IfOk, codes}
+use Rattle.std.proofs.Common.{◌≡◌, ◌≢◌, ℕ, ◌≤◌, ◌-◌, List, [], ◌∷◌, length, refl, sym, ap, subst, ◌∙◌, arith, inl, inr, Option, Some, None, true, false, Result, Ok, Err}
+use Rattle.std.specs.Prelude.{IfOk, Bool, codes, if◌then◌else◌}
+use Rattle.std.proofs.lemmas.Slice.Eq.{bytes_eq-Decides}
 use Rattle.causes.specs.declared.NoMemory.{NoMemory as WantOfMemory}
 use Rattle.pm_outside.specs.Contents.{Contents}
 use Rattle.wasm_syntax.specs.declared.module.ModuleParts.{ModuleParts as Module}
@@ -12,7 +13,7 @@ use Rattle.wasm_decode.specs.declared.fault.DecodeFault.{DecodeFault}
 use Rattle.wasm_validate.specs.Heights.{AllLow}
 use Rattle.wasm_validate.proofs.Once.{valid_not_invalid, low_not_high}
 use Rattle.wasm_format_laws.specs.calls.Laws.{DecodesSame}
-use Rattle.dump_write.specs.Image.{Dump, image}
+use Rattle.dump_write.specs.Image.{Dump}
 use Rattle.dump_write.specs.ImageBytes.{bytes_of}
 use Rattle.pm_outside.specs.Written.{OnTold}
 use Rattle.rewrite_modules.specs.Simulates.{memory_of}
@@ -28,12 +29,15 @@ use Rattle.run_session.specs.Telling.{memory_in}
 use Rattle.pm_outside.specs.Held.{HoldThen}
 use Rattle.instrument_command.specs.calls.Steps.{Refuses}
 use Rattle.selftest_command.specs.Selftest.{selftest}
-use Rattle.selftest_command.specs.Handing.{fuel, HandsAllOver}
+use Rattle.wasm_syntax.specs.Machine.{Config}
+use Rattle.wasm_syntax.specs.Run.{Ran, trapped, running}
+use Rattle.wasm_laws.proofs.Exact.{ended_within, running_before}
+use Rattle.selftest_command.specs.Handing.{main_on, fuel, depth, RunsOnce, own_dump, HandsOver, HandsAllOver, IsEnd}
+use Rattle.selftest_command.proofs.OneRun.{one_run}
 use Rattle.selftest_command.proofs.Taken.{accepted, all_handed}
-use Rattle.selftest_command.specs.Summary.{summary}
-use Rattle.selftest_command.specs.SelftestAnswer.{module_file, rewritten_file, module_bytes, both_files, IsRewritten, division, SelftestAnswer, AnsweredOn}
+use Rattle.selftest_command.specs.SelftestAnswer.{module_file, rewritten_file, module_bytes, both_files, IsRewritten, SelftestAnswer, AnsweredOn}
 use Rattle.selftest_command.specs.Stops.{Left, SelftestStops}
-use Rattle.selftest_command.specs.inner.Steps.{IsTaken, IsSelftest, dumped, Runs, RunsBytes}
+use Rattle.selftest_command.specs.inner.Steps.{IsTaken, IsSelftest, RunsAlone, Dumped, summary, none_dumped, compared, dumped, Runs, RunsBytes}
 use Rattle.dump_write.proofs.Images.{images_count}
 use Rattle.run_session.proofs.Stops.{map_stop}
 
@@ -51,14 +55,28 @@ not_refused m o valid low (inr (also, (count, high, is))) = low_not_high m count
 pub not_turned : (bytes : List ℕ) (o : Outcome) → IsTaken bytes → IsTurnedDown (module_from bytes) o → ⊥
 not_turned bytes o t down = not_refused t.decoded o t.valid t.low (subst (λ d. IsTurnedDown d o) t.is down)
 
-pub run_taken : (n : ℕ) (bytes : List ℕ) (m : Module) (o : Outcome) → module_from bytes ≡ Ok m → Runs n m o → RunsBytes n bytes o
-run_taken n bytes m o is runs = record { decoded = m; is = is; runs = runs }
+pub run_taken : (n : ℕ) (own bytes : List ℕ) (m : Module) (o : Outcome) → module_from bytes ≡ Ok m → Runs n own m o → RunsBytes n own bytes o
+run_taken n own bytes m o is runs = record { decoded = m; is = is; runs = runs }
 
 -- ---- what is handed over
 
+-- a division by zero with so many frames, and the bytes of its dump
+abbrev division : ℕ → (dump : List ℕ) → Dumped
+division n dump = record { kind = 2; frames = n; bytes = dump }
+
+-- the first module's dump is that of its division by zero
+own_is : (n : ℕ) (own : List ℕ) (m other : Module) (all : HandsAllOver n m other) → RunsAlone n m own → own ≡ own_dump all.divides.at
+own_is n own m other all alone =
+    let same : alone.run.ran ≡ all.one.ran = one_run false n m m refl alone.run all.one in
+    alone.dump_is 2 all.divides.at (ap (λ (x : Ran). x.outcome) same ∙ all.divides.outcome) (ap (λ (x : Ran). x.last) same ∙ all.divides.last)
+
+-- a dump with these bytes stays
+compared_is : (own : List ℕ) (d : Dumped) → own ≡ d.bytes → compared own d ≡ d
+compared_is own d same = ap (λ (b : Bool). if b then d else none_dumped) ((bytes_eq-Decides own d.bytes).1 same)
+
 -- the line of a run tells of the division by zero that it hands over
-line_of : (n : ℕ) (m other : Module) (o : Outcome) (all : HandsAllOver n m other) (r : Runs n other o) → o ≡ summary n (division n (bytes_of (image all.divides.at (codes "module")))) (fuel - r.run.ran.left)
-line_of n m other o all r =
+line_of : (n : ℕ) (own : List ℕ) (m other : Module) (o : Outcome) (all : HandsAllOver n m other) → RunsAlone n m own → (r : Runs n own other o) → o ≡ summary n (division n (own_dump all.divides.at)) (fuel - r.run.ran.left)
+line_of n own m other o all alone r =
     let h = all.hands r.run in
     let w = h.shows.whole in
     let ran = r.run.ran in
@@ -67,9 +85,21 @@ line_of n m other o all r =
     let told : r.delivery ≡ whole (handed_by w) = one ran.collected r.delivery (whole (handed_by w)) r.delivers (w, refl) in
     let memory : memory_in ran.last ≡ memory_of h.there = ap memory_in h.last in
     let frames : length (handed_by w).frames ≡ n = ap (λ (d : Dump). length d.frames) (h.shows.dump name short) ∙ images_count all.divides.at.frames ∙ all.divides.frames in
-    let bytes : bytes_of (dump_of (handed_by w) (memory_in ran.last) name) ≡ bytes_of (image all.divides.at name) = ap (λ b. bytes_of (dump_of (handed_by w) b name)) memory ∙ h.shows.bytes name short in
-    let is : dumped (whole (handed_by w)) (memory_in ran.last) ≡ division n (bytes_of (image all.divides.at name)) = λ i. record { kind = h.shows.kind i; frames = frames i; bytes = bytes i } in
-    r.answer ∙ ap (λ d. summary n (dumped d (memory_in ran.last)) (fuel - ran.left)) told ∙ ap (λ d. summary n d (fuel - ran.left)) is
+    let bytes : bytes_of (dump_of (handed_by w) (memory_in ran.last) name) ≡ own_dump all.divides.at = ap (λ b. bytes_of (dump_of (handed_by w) b name)) memory ∙ h.one_dump in
+    let found : Dumped = record { kind = (handed_by w).kind; frames = length (handed_by w).frames; bytes = bytes_of (dump_of (handed_by w) (memory_in ran.last) name) } in
+    let stays : dumped own (whole (handed_by w)) (memory_in ran.last) ≡ found = compared_is own found (own_is n own m other all alone ∙ sym bytes) in
+    let is : found ≡ division n (own_dump all.divides.at) = λ i. record { kind = h.shows.kind i; frames = frames i; bytes = bytes i } in
+    r.answer ∙ ap (λ d. summary n (dumped own d (memory_in ran.last)) (fuel - ran.left)) told ∙ ap (λ d. summary n d (fuel - ran.left)) (stays ∙ is)
+
+-- it ends behind the steps that it made
+end_of : (n : ℕ) (m : Module) {at : Config} (r : RunsOnce true n m) → HandsOver at r.ran → IsEnd r.program n (fuel - r.ran.left)
+end_of n m r h = record {
+  going = running_before r.program true (main_on n) [] (depth true) fuel r.ran r.runs over;
+  ended = ended_within r.program true (main_on n) [] (depth true) fuel r.ran r.runs over;
+}
+  where
+    over : r.ran.outcome ≢ running
+    over e = let clash : trapped 1 ≡ running = sym h.shows.trapped_too ∙ e in absurd cc
 
 -- ---- a module that is rewritten
 
@@ -77,10 +107,10 @@ module _ (n : ℕ) (m : Module) (rewritten : List ℕ) (s : IsSelftest n m) (adm
   abbrev modules : IsRewritten n rewritten
   modules = record { taken = m; decoded = s.decoded; valid = s.valid; admitted = admits }
 
-  all_told : (done : Outcome) → RunsBytes n rewritten done → SelftestAnswer n (both_files n rewritten) done
-  all_told done runs =
+  all_told : (own : List ℕ) (done : Outcome) → RunsAlone n m own → RunsBytes n own rewritten done → SelftestAnswer n (both_files n rewritten) done
+  all_told own done alone runs =
       let all = all_handed n m rewritten admits s.least s.most s.are_bytes (record { is = s.decoded; same = s.same }) in
-      let ran : Runs n admits.decoded done = subst (λ x. Runs n x done) (ok_is (module_from rewritten) runs.decoded admits.decoded runs.is admits.is) runs.runs in
+      let ran : Runs n own admits.decoded done = subst (λ x. Runs n own x done) (ok_is (module_from rewritten) runs.decoded admits.decoded runs.is admits.is) runs.runs in
       record {
         rewritten = rewritten;
         both = refl;
@@ -89,16 +119,18 @@ module _ (n : ℕ) (m : Module) (rewritten : List ℕ) (s : IsSelftest n m) (adm
         divides = all.divides;
         other = ran.run;
         hands = all.hands ran.run;
-        answer = line_of n m admits.decoded done all ran;
+        steps = fuel - ran.run.ran.left;
+        is_end = end_of n admits.decoded ran.run (all.hands ran.run);
+        answer = line_of n own m admits.decoded done all alone ran;
       }
 
-  pub rewritten_told : (done : Outcome) (result : Result Outcome WantOfMemory) → RunsBytes n rewritten done
+  pub rewritten_told : (own : List ℕ) (done : Outcome) (result : Result Outcome WantOfMemory) → RunsAlone n m own → RunsBytes n own rewritten done
       → OnAnswer (λ o. (o ≡ done) × OnTold (HoldThen (both_files n rewritten)) old new) result → OnAnswer (AnsweredOn n old new) result
-  rewritten_told done result runs x =
+  rewritten_told own done result alone runs x =
       map_answer (λ o. (o ≡ done) × OnTold (HoldThen (both_files n rewritten)) old new) (AnsweredOn n old new) result
       (λ o k. record {
         writes = both_files n rewritten;
-        answer = subst (λ p. SelftestAnswer n (both_files n rewritten) p) (sym k.0) (all_told done runs);
+        answer = subst (λ p. SelftestAnswer n (both_files n rewritten) p) (sym k.0) (all_told own done alone runs);
         files = k.1;
       }) x
 
@@ -135,9 +167,9 @@ never_turned n bytes o least most are spells same down =
     let ok = accepted n same.decoded least most (subst IsBytes spells are) (record { is = same.is; same = same.code }) in
     not_refused same.decoded o ok.valid ok.low (subst (λ d. IsTurnedDown d o) (ap module_from spells ∙ same.is) down)
 
-pub run_told : (n : ℕ) (bytes : List ℕ) (m : Module) (result : Result Outcome WantOfMemory) → module_from bytes ≡ Ok m → IfOk result (Runs n m) → IfOk result (RunsBytes n bytes)
-run_told n bytes m (Err e) is x = tt
-run_told n bytes m (Ok o) is x = run_taken n bytes m o is x
+pub run_told : (n : ℕ) (own bytes : List ℕ) (m : Module) (result : Result Outcome WantOfMemory) → module_from bytes ≡ Ok m → IfOk result (Runs n own m) → IfOk result (RunsBytes n own bytes)
+run_told n own bytes m (Err e) is x = tt
+run_told n own bytes m (Ok o) is x = run_taken n own bytes m o is x
 
 -- ---- the bytes as they were written
 

@@ -1,19 +1,17 @@
 -- What `selftest` answers, and what it writes.
-use Rattle.std.specs.Prelude.{◌≡◌, ℕ, ◌-◌, true, false, List, [], ◌∷◌, Option, Ok, codes}
+use Rattle.std.specs.Prelude.{◌≡◌, ℕ, true, false, List, [], ◌∷◌, Option, Ok, codes}
 use Rattle.pm_outside.specs.Contents.{Contents}
 use Rattle.wasm_syntax.specs.declared.module.ModuleParts.{ModuleParts as Module}
 use Rattle.wasm_syntax.specs.Valid.{Valid}
 use Rattle.wasm_decode.specs.Decode.{module_from}
 use Rattle.wasm_encode.specs.Encoding.{encoding}
-use Rattle.dump_write.specs.Image.{image}
-use Rattle.dump_write.specs.ImageBytes.{bytes_of}
 use Rattle.pm_outside.specs.Written.{OnTold}
 use Rattle.rewrite_promise.specs.Admitted.{Admits}
 use Rattle.commands.specs.declared.outcome.Outcome.{Outcome}
 use Rattle.pm_outside.specs.Held.{Writes, HoldThen}
 use Rattle.selftest_command.specs.Selftest.{selftest}
-use Rattle.selftest_command.specs.Handing.{fuel, RunsOnce, Divides, HandsOver}
-use Rattle.selftest_command.specs.Summary.{Dumped, summary}
+use Rattle.selftest_command.specs.Handing.{RunsOnce, Divides, own_dump, HandsOver, IsEnd}
+use Rattle.selftest_command.specs.Summary.{line}
 
 -- ---- the files
 
@@ -40,12 +38,8 @@ pub record IsRewritten (n : ℕ) (rewritten : List ℕ) : Type 0 where
 
 -- ---- the answer
 
--- a division by zero with so many frames, and the bytes of its dump
-abbrev pub division : ℕ → (dump : List ℕ) → Dumped
-division n dump = record { kind = 2; frames = n; bytes = dump }
-
 -- The answer to `selftest`, where these files are written: both are. The module of the first one divides by zero with as many frames as it
--- has functions, and that of the second one hands that over. The line tells of the dump, and of the steps of the second one.
+-- has functions, and that of the second one hands that over, as one dump. The line tells of it, and of the steps up to the end of the second one.
 pub record SelftestAnswer (n : ℕ) (writes : Writes) (o : Outcome) : Type 0 where
   pub rewritten : List ℕ
   pub both : writes ≡ both_files n rewritten
@@ -54,7 +48,9 @@ pub record SelftestAnswer (n : ℕ) (writes : Writes) (o : Outcome) : Type 0 whe
   pub divides : Divides n one.ran
   pub other : RunsOnce true n modules.admitted.decoded
   pub hands : HandsOver divides.at other.ran
-  pub answer : o ≡ summary n (division n (bytes_of (image divides.at (codes "module")))) (fuel - other.ran.left)
+  pub steps : ℕ
+  pub is_end : IsEnd other.program n steps
+  pub answer : o ≡ line n 2 n (own_dump divides.at) steps
 
 -- Files then hold what is written.
 pub record AnsweredOn (n : ℕ) (old new : Option Contents) (o : Outcome) : Type 0 where
@@ -69,6 +65,6 @@ pub record OneDump (n : ℕ) (x y : Writes) (a b : Outcome) : Type 0 where
   pub dump : List ℕ
   pub steps : ℕ
   pub others : ℕ
-  pub first : a ≡ summary n (division n dump) steps
-  pub second : b ≡ summary n (division n dump) others
+  pub first : a ≡ line n 2 n dump steps
+  pub second : b ≡ line n 2 n dump others
   pub same_steps : x ≡ y → steps ≡ others

@@ -14,6 +14,7 @@ ghost use Rattle.wasm_format_laws.specs.calls.Laws.{DecodesSame};
 ghost use Rattle.wasm_format_laws.specs.Sized.{Sized};
 ghost use Rattle.wasm_syntax.specs.Valid.{Valid};
 
+use crate::original::original_dump;
 use crate::running::run_bytes;
 use crate::selftest_bytes;
 use crate::writing::write_both;
@@ -26,7 +27,7 @@ use std::alloc::Global;
 use wasm_syntax::Module;
 use wasm_validate::Validated;
 
-/// Runs what the module is rewritten to, and writes both.
+/// Runs the module and what it is rewritten to, and writes both.
 fn test_rewritten<F: Files, D: Devices>(
     alloc: Global,
     files: &mut F,
@@ -53,7 +54,8 @@ fn test_rewritten<F: Files, D: Devices>(
     ensures later { F.faults files.old ≤ F.faults files.new }
 {
     let rewritten = admitted_bytes(alloc, source, other)?;
-    let done = run_bytes::<D>(alloc, &rewritten, count)?;
+    let own = original_dump::<D>(alloc, source, count)?;
+    let done = run_bytes::<D>(alloc, &rewritten, count, &own)?;
     write_both(alloc, files, bytes, &rewritten, done)
 }
 
@@ -125,9 +127,9 @@ fn test_bytes<F: Files, D: Devices>(
 }
 
 /// Makes the module of a self-test of so many functions, writes it as `selftest.wasm` and what it
-/// is rewritten to as `selftest.inst.wasm`, and answers with a line on the dump that the rewritten
-/// module hands over, and on the steps that it made. A file that faults is named in the answer. The
-/// host side that runs it has no devices, of any kind.
+/// is rewritten to as `selftest.inst.wasm`, runs both, and answers with a line on the dump, which
+/// both have, and on the steps that the second one made. A file that faults is named in the answer.
+/// The host side that runs them has no devices, of any kind.
 ///
 /// # Errors
 ///

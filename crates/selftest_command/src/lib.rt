@@ -1,5 +1,5 @@
 //! The command `selftest`: a module that divides by zero under so many calls is written, and its
-//! rewriting, which is run with a collector.
+//! rewriting; both are run, the second one with a collector, and their dumps compared.
 #![tactic(auto)]
 
 mod bytes;
@@ -8,6 +8,7 @@ mod command;
 pub mod laws;
 mod module;
 mod numbers;
+mod original;
 mod running;
 mod summary;
 mod words;

@@ -1,16 +1,15 @@
-//! The run of a module that hands over its own dump.
+//! The run of a module that hands over its own dump, which is compared with another module's.
 
-ghost use Rattle.std.specs.Prelude.{◌≡◌, ◌≢◌, [], Err, None, IfOk};
+ghost use Rattle.std.specs.Prelude.{◌≡◌, ◌≢◌, [], Err, None, List, IfOk, ℕ};
 ghost use Rattle.dump_write.specs.Pictured.{bytes_in};
-ghost use Rattle.host_set.specs.Sets.{names};
 ghost use Rattle.run_session.specs.Delivery.{Delivery, Delivers};
-ghost use Rattle.selftest_command.specs.Summary.{summary};
-ghost use Rattle.selftest_command.specs.inner.Steps.{IsCollected, IsTaken, Runs, RunsBytes, dumped};
+ghost use Rattle.selftest_command.specs.inner.Steps.{IsCollected, IsTaken, Runs, RunsBytes, dumped, none_dumped, summary};
 ghost use Rattle.wasm_machine.specs.calls.Instances.{Begins, IsNew};
 ghost use Rattle.wasm_syntax.specs.declared.module.ModuleParts.{ModuleParts as Parts};
 ghost use Rattle.wasm_syntax.specs.Module.{IsModule};
 ghost use Rattle.wasm_syntax.specs.Run.{cause_of_segments};
 
+use crate::original::{FUEL, drop_hosts};
 use crate::summary::{handed_summary, summary};
 use causes::NoMemory;
 use commands::{Loaded, Outcome, load};
@@ -26,31 +25,21 @@ use wasm_validate::Validated;
 /// helper of an indirect call.
 const DEPTH: u32 = 1_002;
 
-/// How many steps may be made: the default number.
-const FUEL: u64 = 100_000_000;
-
-/// A host side without devices and without a script serves nothing.
-fn drop_hosts<D: Devices>(hosts: Hosts<'_, D>)
-    requires devices { names hosts.devices ≡ [] }
-    requires script { hosts.script ≡ None }
-    ensures { hosts.entry.served ≡ [] }
-{
-    let _devices = hosts.into_devices();
-}
-
 /// The line of an instance that was run, and made these calls of the collector.
 fn shown(
     alloc: Global,
     instance: &Instance<'_>,
     calls: &[CollectorCall],
     count: u32,
+    own: &[u8],
 ) -> Result<Outcome, NoMemory>
     ensures { IfOk result (λ o. (delivery : Delivery) × Delivers calls.now delivery
-        × (o ≡ summary count (dumped delivery (bytes_in instance.now.machine.shared.memory))
+        × (o ≡ summary count
+        (dumped own.now delivery (bytes_in instance.now.machine.shared.memory))
         instance.now.steps)) }
 {
     let handed = handed_over(alloc, calls, instance.memory(), "module")?;
-    handed_summary(alloc, count, &handed, instance.steps())
+    handed_summary(alloc, count, own, &handed, instance.steps())
 }
 
 /// The line of an instance that was run up to this end.
@@ -60,28 +49,31 @@ fn ended(
     end: &RunEnd,
     calls: &[CollectorCall],
     count: u32,
+    own: &[u8],
 ) -> Result<Outcome, NoMemory>
     ensures { IfOk result (λ o. (end.now ≢ RunEnd.NoMemory)
         × ((delivery : Delivery) × Delivers calls.now delivery
-        × (o ≡ summary count (dumped delivery (bytes_in instance.now.machine.shared.memory))
+        × (o ≡ summary count
+        (dumped own.now delivery (bytes_in instance.now.machine.shared.memory))
         instance.now.steps))) }
 {
     match end {
         RunEnd::NoMemory => Err(NoMemory),
-        _ => shown(alloc, instance, calls, count),
+        _ => shown(alloc, instance, calls, count, own),
     }
 }
 
 /// The line where nothing was run.
 fn nothing_run(alloc: Global, count: u32) -> Result<Outcome, NoMemory>
-    ensures { IfOk result (λ o. o ≡ summary count (record { kind = 0; frames = 0; bytes = [] }) 0) }
+    ensures { IfOk result (λ o. o ≡ summary count none_dumped 0) }
 {
     summary(alloc, count, 0, 0, &[], 0)
 }
 
 /// The line where no instance was made.
 fn not_begun(alloc: Global, fault: StartFault, count: u32) -> Result<Outcome, NoMemory>
-    ensures { (m : Parts) → IsModule m → Begins (Err fault) m → IfOk result (Runs count m) }
+    ensures { (m : Parts) (own : List ℕ) → IsModule m → Begins (Err fault) m
+        → IfOk result (Runs count own m) }
 {
     match fault {
         StartFault::ElementOut { .. } => nothing_run(alloc, count),
@@ -90,17 +82,18 @@ fn not_begun(alloc: Global, fault: StartFault, count: u32) -> Result<Outcome, No
     }
 }
 
-/// Runs `main` on a new instance.
+/// Runs `main` on a new instance, and compares what it hands over with the first module's dump.
 fn run_instance<D: Devices>(
     alloc: Global,
     source: &Validated,
     instance: Instance<'_>,
     count: u32,
+    own: &[u8],
 ) -> Result<Outcome, NoMemory>
     requires collected { IsCollected source.now }
     requires segments { cause_of_segments source.now ≡ None }
     requires new { IsNew source.now instance }
-    ensures { IfOk result (Runs count source.now) }
+    ensures { IfOk result (Runs count own.now source.now) }
 {
     let mut instance = instance;
     let imports = source.module().parts().imports.as_slice();
@@ -110,7 +103,7 @@ fn run_instance<D: Devices>(
     let answer = instance.invoke("main", &args, DEPTH, FUEL, &mut collecting);
     match answer {
         Ok(end) => {
-            let outcome = ended(alloc, &instance, &end, collecting.calls(), count);
+            let outcome = ended(alloc, &instance, &end, collecting.calls(), count, own);
             drop_hosts(collecting.into_inner());
             outcome
         }
@@ -123,30 +116,32 @@ fn run_module<D: Devices>(
     alloc: Global,
     source: &Validated,
     count: u32,
+    own: &[u8],
 ) -> Result<Outcome, NoMemory>
     requires { IsCollected source.now }
-    ensures { IfOk result (Runs count source.now) }
+    ensures { IfOk result (Runs count own.now source.now) }
 {
     let _ = source.module().parts();
     match Instance::new(alloc, source) {
-        Ok(instance) => run_instance::<D>(alloc, source, instance, count),
+        Ok(instance) => run_instance::<D>(alloc, source, instance, count, own),
         Err(fault) => not_begun(alloc, fault, count),
     }
 }
 
 /// Runs the module that the bytes spell. They are admitted as what a module is rewritten to that
-/// imports nothing.
+/// imports nothing, and whose own dump has these bytes.
 pub(crate) fn run_bytes<D: Devices>(
     alloc: Global,
     bytes: &[u8],
     count: u32,
+    own: &[u8],
 ) -> Result<Outcome, NoMemory>
     requires { IsTaken bytes.now }
-    ensures { IfOk result (RunsBytes count bytes.now) }
+    ensures { IfOk result (RunsBytes count own.now bytes.now) }
 {
     let loaded = load(alloc, bytes)?;
     match loaded {
-        Loaded::Valid(source) => run_module::<D>(alloc, &source, count),
+        Loaded::Valid(source) => run_module::<D>(alloc, &source, count, own),
         Loaded::TurnedDown(refusal) => Ok(refusal),
     }
 }

@@ -22,6 +22,10 @@ DumpsAccepted w files writes =
     (writes ≡ []) ⊎ ((bytes : List ℕ) × (m : Module) × (files w.source ≡ Some bytes) × (module_from bytes ≡ Ok m)
     × (dumps : Writes) × (replies : List Reply) × (writes ≡ dumps ++ record_file w.log_to replies) × AllAccepted m dumps)
 
+-- No file was written; or each, but for the record behind them, is accepted with this module.
+abbrev pub AcceptedWith : Module → RunWords → Writes → Type 0
+AcceptedWith m w writes = (writes ≡ []) ⊎ ((dumps : Writes) × (replies : List Reply) × (writes ≡ dumps ++ record_file w.log_to replies) × AllAccepted m dumps)
+
 -- What words of `run` always keep: the name that a dump has inside is a text, and no more than 10,000 frames may stand.
 pub record InBounds (w : RunWords) : Type 0 where
   pub name : IsUtf8 w.name

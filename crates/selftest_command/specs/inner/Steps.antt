@@ -1,9 +1,12 @@
 -- The steps of the command.
-use Rattle.std.specs.Prelude.{◌≡◌, ℕ, ◌≤◌, ◌-◌, true, false, Bool, List, [], length, Option, None, Ok, if◌then◌else◌, codes}
+use Rattle.std.specs.Prelude.{◌≡◌, ℕ, ◌≤◌, ◌-◌, true, false, Bool, List, [], length, Option, Some, None, Ok, if◌then◌else◌, codes}
+use Rattle.std.specs.Str.{bytes_eq}
 use Rattle.wasm_syntax.specs.declared.parts.FuncType.{FuncType}
 use Rattle.wasm_syntax.specs.declared.parts.Import.{Import}
 use Rattle.wasm_syntax.specs.declared.module.ModuleParts.{ModuleParts as Module}
 use Rattle.wasm_syntax.specs.SameCode.{code_alone}
+use Rattle.wasm_syntax.specs.Machine.{Config}
+use Rattle.wasm_syntax.specs.Run.{trapped}
 use Rattle.wasm_syntax.specs.Valid.{Valid}
 use Rattle.wasm_decode.specs.Decode.{module_from}
 use Rattle.wasm_validate.specs.Heights.{AllLow}
@@ -15,8 +18,8 @@ use Rattle.commands.specs.declared.outcome.Outcome.{Outcome}
 use Rattle.run_session.specs.Delivery.{Delivery, nothing, whole, torn, Delivers, dump_of}
 use Rattle.run_session.specs.Telling.{memory_in}
 use Rattle.selftest_command.specs.Selftest.{selftest}
-use Rattle.selftest_command.specs.Handing.{fuel, RunsOnce}
-use Rattle.selftest_command.specs.Summary.{Dumped, summary}
+use Rattle.selftest_command.specs.Handing.{fuel, RunsOnce, own_dump}
+use Rattle.selftest_command.specs.Summary.{line}
 use Rattle.selftest_command.specs.SelftestAnswer.{module_bytes}
 
 -- the collector's imports are served, and no others
@@ -35,26 +38,51 @@ pub record IsTaken (bytes : List ℕ) : Type 0 where
   pub low : AllLow decoded
   pub collected : IsCollected decoded
 
--- ---- the run
+-- ---- the run of the first module
 
--- what was handed over, with these bytes of a memory; where that is no whole dump there is nothing to count
-abbrev pub dumped : Delivery → Option (List ℕ) → Dumped
-dumped (whole d) memory = record { kind = d.kind; frames = length d.frames; bytes = bytes_of (dump_of d memory (codes "module")) }
-dumped nothing memory = record { kind = 0; frames = 0; bytes = [] }
-dumped (torn at) memory = record { kind = 0; frames = 0; bytes = [] }
+-- The module was run without a collector, and where it trapped these are the bytes of its dump.
+pub record RunsAlone (n : ℕ) (m : Module) (dump : List ℕ) : Type 0 where
+  pub run : RunsOnce false n m
+  pub dump_is : (kind : ℕ) (at : Config) → run.ran.outcome ≡ trapped kind → run.ran.last ≡ Some at → dump ≡ own_dump at
 
--- The line of a module that was run with a collector: the dump that it handed over, and the steps that it made until it ended, or all of them.
-pub record Runs (n : ℕ) (m : Module) (o : Outcome) : Type 0 where
+-- ---- the run of the second module
+
+-- the kind of a trap, how many frames its dump has, and the canonical bytes of the dump
+pub record Dumped : Type 0 where
+  pub kind : ℕ
+  pub frames : ℕ
+  pub bytes : List ℕ
+
+abbrev pub summary : ℕ → Dumped → (steps : ℕ) → Outcome
+summary n d steps = line n d.kind d.frames d.bytes steps
+
+-- there is nothing to count
+abbrev pub none_dumped : Dumped
+none_dumped = record { kind = 0; frames = 0; bytes = [] }
+
+-- a dump, where it has the bytes of the first module's
+abbrev pub compared : (own : List ℕ) → Dumped → Dumped
+compared own d = if bytes_eq own d.bytes then d else none_dumped
+
+-- what was handed over, with these bytes of a memory, where that is a whole dump, and that of the first module
+abbrev pub dumped : (own : List ℕ) → Delivery → Option (List ℕ) → Dumped
+dumped own (whole d) memory = compared own (record { kind = d.kind; frames = length d.frames; bytes = bytes_of (dump_of d memory (codes "module")) })
+dumped own nothing memory = none_dumped
+dumped own (torn at) memory = none_dumped
+
+-- The line of a module that was run with a collector: the dump that it handed over, where the first module has the same, and the steps that it
+-- made until it ended, or all of them.
+pub record Runs (n : ℕ) (own : List ℕ) (m : Module) (o : Outcome) : Type 0 where
   pub run : RunsOnce true n m
   pub delivery : Delivery
   pub delivers : Delivers run.ran.collected delivery
-  pub answer : o ≡ summary n (dumped delivery (memory_in run.ran.last)) (fuel - run.ran.left)
+  pub answer : o ≡ summary n (dumped own delivery (memory_in run.ran.last)) (fuel - run.ran.left)
 
 -- of the module that these bytes spell
-pub record RunsBytes (n : ℕ) (bytes : List ℕ) (o : Outcome) : Type 0 where
+pub record RunsBytes (n : ℕ) (own bytes : List ℕ) (o : Outcome) : Type 0 where
   pub decoded : Module
   pub is : module_from bytes ≡ Ok decoded
-  pub runs : Runs n decoded o
+  pub runs : Runs n own decoded o
 
 -- ---- the module
 

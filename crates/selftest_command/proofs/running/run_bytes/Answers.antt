@@ -13,7 +13,7 @@ run_module-requires g c =
 pub returns-in-Valid : goal.returns-in-Valid
 returns-in-Valid g c =
     let known = subst (λ l. IsLoaded l (module_from c.args.bytes.now)) c.in-Valid.is c.in_ok-loaded.ensures.told in
-    run_told c.args.count c.args.bytes.now c.in-Valid.source c.run_module.result known.0 c.run_module.ensures
+    run_told c.args.count c.args.own.now c.args.bytes.now c.in-Valid.source c.run_module.result known.0 c.run_module.ensures
 
 pub returns-in-TurnedDown : goal.returns-in-TurnedDown
 returns-in-TurnedDown g c =
