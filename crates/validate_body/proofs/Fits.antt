@@ -9,10 +9,9 @@ use Rattle.validate_body.specs.calls.Frames.{Known, Frame, set_known, labels, po
 use Rattle.validate_body.specs.calls.Algorithm.{apply}
 use Rattle.validate_body.proofs.Options.{none_is, IsNil, then_some, map_inv, map_some, if_inv}
 use Rattle.wasm_syntax.specs.FlatTyping.{OpenBlock, opened, label_types, given}
-use Rattle.wasm_laws.proofs.Validity.{then_found}
 use Rattle.wasm_laws.proofs.FlatSteps.{given_none}
 use Rattle.pm_text.proofs.Lists.{some_is}
-use Rattle.wasm_syntax.proofs.Types.{same_type_is, same_type_refl}
+use Rattle.wasm_syntax.proofs.Types.{same_type_is, same_type_refl, then_found}
 
 abbrev pub Fits : Known → Bool → List ValType → Type 0
 Fits [] false ts = ts ≡ []

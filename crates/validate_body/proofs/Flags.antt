@@ -4,7 +4,6 @@ use Rattle.std.specs.Prelude.{Bool, true, false, Option, Some, None, option_map,
 use Rattle.wasm_syntax.specs.declared.value.ValType.{ValType}
 use Rattle.wasm_syntax.specs.declared.value.ValType.TheVariants.{I32}
 use Rattle.wasm_syntax.specs.declared.instruction.Basic.{Basic}
-use Rattle.wasm_syntax.specs.declared.instruction.Basic.TheVariants.{Nop, Drop, Select, LocalGet, LocalSet, LocalTee, GlobalGet, GlobalSet, Load, Store, MemorySize, MemoryGrow, MemoryCopy, MemoryFill, Const, Eqz, Unary, Compare, Binary, Convert, Extend32, Extend64}
 use Rattle.wasm_syntax.specs.Tree.{Jump, Unreachable, Br, BrIf, BrTable, Return, Call, CallIndirect, Item, Plain, Goes, Opens, OpensLoop, OpensIf, Else, End}
 use Rattle.wasm_syntax.specs.declared.parts.Limits.{Limits}
 use Rattle.wasm_syntax.specs.Numbers.{same_type}
@@ -20,8 +19,9 @@ use Rattle.validate_body.specs.calls.Marks.{flags, AllSome, Sure}
 use Rattle.validate_body.proofs.Options.{none_is, map_inv, if_inv}
 use Rattle.validate_body.proofs.Jumps.{any_sound_inv, drop_inv}
 use Rattle.validate_body.proofs.Same.{emptied_inv, else_inv}
-use Rattle.wasm_laws.proofs.Validity.{then_found}
 use Rattle.pm_text.proofs.Lists.{some_is}
+use Rattle.wasm_syntax.proofs.Types.{then_found}
+use Rattle.validate_body.proofs.Arrows.{Steps, drops, selects, by_arrow, steps_of}
 
 abbrev pub Kept : List Frame → List Frame → Type 0
 Kept fs fs' = (flags fs' ≡ flags fs) × (Sure fs → Sure fs')
@@ -107,29 +107,13 @@ select_kept (f ∷ fs) fs' e =
 arrow_kept : (o : Option Arrow) (fs fs' : List Frame) → option_then o (apply fs) ≡ Some fs' → Kept fs fs'
 arrow_kept o fs fs' e = let i = then_found o (apply fs) fs' e in apply_kept fs fs' i.0 i.2
 
+kept_as : (c : Context) (fs fs' : List Frame) (i : Basic) → Steps i → step_basic c fs i ≡ Some fs' → Kept fs fs'
+kept_as c fs fs' i drops e = drop_kept fs fs' e
+kept_as c fs fs' i selects e = select_kept fs fs' e
+kept_as c fs fs' i (by_arrow one goes) e = arrow_kept (arrow c I32 i) fs fs' (sym (goes c fs) ∙ e)
+
 basic_kept : (c : Context) (fs fs' : List Frame) (i : Basic) → step_basic c fs i ≡ Some fs' → Kept fs fs'
-basic_kept c fs fs' Drop e = drop_kept fs fs' e
-basic_kept c fs fs' Select e = select_kept fs fs' e
-basic_kept c fs fs' Nop e = arrow_kept (arrow c I32 Nop) fs fs' e
-basic_kept c fs fs' (LocalGet x) e = arrow_kept (arrow c I32 (LocalGet x)) fs fs' e
-basic_kept c fs fs' (LocalSet x) e = arrow_kept (arrow c I32 (LocalSet x)) fs fs' e
-basic_kept c fs fs' (LocalTee x) e = arrow_kept (arrow c I32 (LocalTee x)) fs fs' e
-basic_kept c fs fs' (GlobalGet x) e = arrow_kept (arrow c I32 (GlobalGet x)) fs fs' e
-basic_kept c fs fs' (GlobalSet x) e = arrow_kept (arrow c I32 (GlobalSet x)) fs fs' e
-basic_kept c fs fs' (Load l a o) e = arrow_kept (arrow c I32 (Load l a o)) fs fs' e
-basic_kept c fs fs' (Store s a o) e = arrow_kept (arrow c I32 (Store s a o)) fs fs' e
-basic_kept c fs fs' MemorySize e = arrow_kept (arrow c I32 MemorySize) fs fs' e
-basic_kept c fs fs' MemoryGrow e = arrow_kept (arrow c I32 MemoryGrow) fs fs' e
-basic_kept c fs fs' MemoryCopy e = arrow_kept (arrow c I32 MemoryCopy) fs fs' e
-basic_kept c fs fs' MemoryFill e = arrow_kept (arrow c I32 MemoryFill) fs fs' e
-basic_kept c fs fs' (Const v) e = arrow_kept (arrow c I32 (Const v)) fs fs' e
-basic_kept c fs fs' (Eqz t) e = arrow_kept (arrow c I32 (Eqz t)) fs fs' e
-basic_kept c fs fs' (Unary t op) e = arrow_kept (arrow c I32 (Unary t op)) fs fs' e
-basic_kept c fs fs' (Compare t op) e = arrow_kept (arrow c I32 (Compare t op)) fs fs' e
-basic_kept c fs fs' (Binary t op) e = arrow_kept (arrow c I32 (Binary t op)) fs fs' e
-basic_kept c fs fs' (Convert k) e = arrow_kept (arrow c I32 (Convert k)) fs fs' e
-basic_kept c fs fs' (Extend32 k) e = arrow_kept (arrow c I32 (Extend32 k)) fs fs' e
-basic_kept c fs fs' (Extend64 k) e = arrow_kept (arrow c I32 (Extend64 k)) fs fs' e
+basic_kept c fs fs' i e = kept_as c fs fs' i (steps_of i) e
 
 -- ---- jumps
 

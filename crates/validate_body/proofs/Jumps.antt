@@ -5,7 +5,7 @@ use Rattle.std.proofs.lemmas.Option.{slice_get-map}
 use Rattle.wasm_syntax.specs.declared.value.ValType.{ValType}
 use Rattle.wasm_syntax.specs.declared.value.ValType.TheVariants.{I32}
 use Rattle.wasm_syntax.specs.declared.instruction.Basic.{Basic}
-use Rattle.wasm_syntax.specs.declared.instruction.Basic.TheVariants.{Nop, Drop, Select, LocalGet, LocalSet, LocalTee, GlobalGet, GlobalSet, Load, Store, MemorySize, MemoryGrow, MemoryCopy, MemoryFill, Const, Eqz, Unary, Compare, Binary, Convert, Extend32, Extend64}
+use Rattle.wasm_syntax.specs.declared.instruction.Basic.TheVariants.{Drop, Select}
 use Rattle.wasm_syntax.specs.Tree.{Jump, Unreachable, Br, BrIf, BrTable, Return, Call, CallIndirect}
 use Rattle.wasm_syntax.specs.declared.parts.Limits.{Limits}
 use Rattle.wasm_syntax.specs.Numbers.{same_type}
@@ -17,9 +17,9 @@ use Rattle.validate_body.proofs.Options.{none_is, IsNil, then_some, map_inv, map
 use Rattle.wasm_syntax.specs.FlatTyping.{OpenBlock, opened, given, inside}
 use Rattle.validate_body.proofs.Fits.{Fits, FitAll, type_sound, type_complete, pops_sound, pops_complete, apply_sound, apply_complete, forget_sound, forget_complete, retype, labels_fit}
 use Rattle.std.proofs.lemmas.Bool.{and_parts, and_from}
-use Rattle.wasm_laws.proofs.Validity.{then_found}
 use Rattle.pm_text.proofs.Lists.{some_is}
-use Rattle.wasm_syntax.proofs.Types.{same_type_is, same_type_refl}
+use Rattle.wasm_syntax.proofs.Types.{same_type_is, same_type_refl, then_found}
+use Rattle.validate_body.proofs.Arrows.{OneArrow, Steps, drops, selects, by_arrow, steps_of}
 
 -- ---- an arrow, and what lies on top before a transfer
 
@@ -143,10 +143,6 @@ select_complete free ks t below h =
 abbrev pub BasicSound : Context → Frame → List Frame → Basic → List OpenBlock → Type 0
 BasicSound c f fs i hs = Sound f fs hs (λ g gs after. BasicTypes (inside c (g ∷ gs)) i g.types after)
 
--- those with one arrow in every context
-abbrev OneArrow : Context → Basic → Type 0
-OneArrow c i = (gs : List OpenBlock) (t : ValType) → arrow (inside c gs) t i ≡ arrow c I32 i
-
 one_sound : (c : Context) (f : Frame) (fs fs' : List Frame) (i : Basic) (hs : List OpenBlock) → OneArrow c i → option_then (arrow c I32 i) (apply (f ∷ fs)) ≡ Some fs' → FitAll fs' hs → BasicSound c f fs i hs
 one_sound c f fs fs' i hs one e h =
     let a = then_found (arrow c I32 i) (apply (f ∷ fs)) fs' e in
@@ -205,29 +201,13 @@ select_frames c f fs fs' (g ∷ gs) e h =
       then = refl;
     }
 
+sound_as : (c : Context) (f : Frame) (fs fs' : List Frame) (i : Basic) → Steps i → (hs : List OpenBlock) → step_basic c (f ∷ fs) i ≡ Some fs' → FitAll fs' hs → BasicSound c f fs i hs
+sound_as c f fs fs' i drops hs e h = drop_sound c f fs fs' hs e h
+sound_as c f fs fs' i selects hs e h = select_frames c f fs fs' hs e h
+sound_as c f fs fs' i (by_arrow one goes) hs e h = one_sound c f fs fs' i hs (one c) (sym (goes c (f ∷ fs)) ∙ e) h
+
 pub basic_sound : (c : Context) (f : Frame) (fs fs' : List Frame) (i : Basic) (hs : List OpenBlock) → step_basic c (f ∷ fs) i ≡ Some fs' → FitAll fs' hs → BasicSound c f fs i hs
-basic_sound c f fs fs' Drop hs e h = drop_sound c f fs fs' hs e h
-basic_sound c f fs fs' Select hs e h = select_frames c f fs fs' hs e h
-basic_sound c f fs fs' Nop hs e h = one_sound c f fs fs' Nop hs (λ gs t. refl) e h
-basic_sound c f fs fs' (LocalGet x) hs e h = one_sound c f fs fs' (LocalGet x) hs (λ gs t. refl) e h
-basic_sound c f fs fs' (LocalSet x) hs e h = one_sound c f fs fs' (LocalSet x) hs (λ gs t. refl) e h
-basic_sound c f fs fs' (LocalTee x) hs e h = one_sound c f fs fs' (LocalTee x) hs (λ gs t. refl) e h
-basic_sound c f fs fs' (GlobalGet x) hs e h = one_sound c f fs fs' (GlobalGet x) hs (λ gs t. refl) e h
-basic_sound c f fs fs' (GlobalSet x) hs e h = one_sound c f fs fs' (GlobalSet x) hs (λ gs t. refl) e h
-basic_sound c f fs fs' (Load l a o) hs e h = one_sound c f fs fs' (Load l a o) hs (λ gs t. refl) e h
-basic_sound c f fs fs' (Store s a o) hs e h = one_sound c f fs fs' (Store s a o) hs (λ gs t. refl) e h
-basic_sound c f fs fs' MemorySize hs e h = one_sound c f fs fs' MemorySize hs (λ gs t. refl) e h
-basic_sound c f fs fs' MemoryGrow hs e h = one_sound c f fs fs' MemoryGrow hs (λ gs t. refl) e h
-basic_sound c f fs fs' MemoryCopy hs e h = one_sound c f fs fs' MemoryCopy hs (λ gs t. refl) e h
-basic_sound c f fs fs' MemoryFill hs e h = one_sound c f fs fs' MemoryFill hs (λ gs t. refl) e h
-basic_sound c f fs fs' (Const v) hs e h = one_sound c f fs fs' (Const v) hs (λ gs t. refl) e h
-basic_sound c f fs fs' (Eqz t) hs e h = one_sound c f fs fs' (Eqz t) hs (λ gs t. refl) e h
-basic_sound c f fs fs' (Unary t op) hs e h = one_sound c f fs fs' (Unary t op) hs (λ gs t. refl) e h
-basic_sound c f fs fs' (Compare t op) hs e h = one_sound c f fs fs' (Compare t op) hs (λ gs t. refl) e h
-basic_sound c f fs fs' (Binary t op) hs e h = one_sound c f fs fs' (Binary t op) hs (λ gs t. refl) e h
-basic_sound c f fs fs' (Convert k) hs e h = one_sound c f fs fs' (Convert k) hs (λ gs t. refl) e h
-basic_sound c f fs fs' (Extend32 k) hs e h = one_sound c f fs fs' (Extend32 k) hs (λ gs t. refl) e h
-basic_sound c f fs fs' (Extend64 k) hs e h = one_sound c f fs fs' (Extend64 k) hs (λ gs t. refl) e h
+basic_sound c f fs fs' i hs e h = sound_as c f fs fs' i (steps_of i) hs e h
 
 abbrev pub Arrives : Option (List Frame) → List OpenBlock → Type 0
 Arrives o hs = (fs' : List Frame) × (o ≡ Some fs') × FitAll fs' hs
@@ -246,29 +226,14 @@ select_goes c (f ∷ fs) g gs after h b =
     let i = select_complete f.free f.known b.any ab.below (subst (λ x. Fits f.known f.free x) ab.takes h.0.2) in
     (set_known f fs i.0, map_some (set_known f fs) (select_known f.free f.known) i.0 i.1, ((h.0.0, h.0.1, subst (λ x. Fits i.0 f.free x) (sym ab.gives) i.2), h.1))
 
+complete_as : (c : Context) (fs : List Frame) (i : Basic) → Steps i → (g : OpenBlock) (gs : List OpenBlock) (after : List ValType) → FitAll fs (g ∷ gs) → BasicTypes (inside c (g ∷ gs)) i g.types after → Arrives (step_basic c fs i) (opened g.kind g.result after ∷ gs)
+complete_as c fs i drops g gs after h b = drop_complete c fs g gs after h b
+complete_as c fs i selects g gs after h b = select_goes c fs g gs after h b
+complete_as c fs i (by_arrow one goes) g gs after h b =
+    subst (λ (o : Option (List Frame)). Arrives o (opened g.kind g.result after ∷ gs)) (sym (goes c fs)) (one_complete c fs i g gs after (one c) h b)
+
 pub basic_complete : (c : Context) (fs : List Frame) (i : Basic) (g : OpenBlock) (gs : List OpenBlock) (after : List ValType) → FitAll fs (g ∷ gs) → BasicTypes (inside c (g ∷ gs)) i g.types after → Arrives (step_basic c fs i) (opened g.kind g.result after ∷ gs)
-basic_complete c fs Drop g gs after h b = drop_complete c fs g gs after h b
-basic_complete c fs Select g gs after h b = select_goes c fs g gs after h b
-basic_complete c fs Nop g gs after h b = one_complete c fs Nop g gs after (λ gs t. refl) h b
-basic_complete c fs (LocalGet x) g gs after h b = one_complete c fs (LocalGet x) g gs after (λ gs t. refl) h b
-basic_complete c fs (LocalSet x) g gs after h b = one_complete c fs (LocalSet x) g gs after (λ gs t. refl) h b
-basic_complete c fs (LocalTee x) g gs after h b = one_complete c fs (LocalTee x) g gs after (λ gs t. refl) h b
-basic_complete c fs (GlobalGet x) g gs after h b = one_complete c fs (GlobalGet x) g gs after (λ gs t. refl) h b
-basic_complete c fs (GlobalSet x) g gs after h b = one_complete c fs (GlobalSet x) g gs after (λ gs t. refl) h b
-basic_complete c fs (Load l a o) g gs after h b = one_complete c fs (Load l a o) g gs after (λ gs t. refl) h b
-basic_complete c fs (Store s a o) g gs after h b = one_complete c fs (Store s a o) g gs after (λ gs t. refl) h b
-basic_complete c fs MemorySize g gs after h b = one_complete c fs MemorySize g gs after (λ gs t. refl) h b
-basic_complete c fs MemoryGrow g gs after h b = one_complete c fs MemoryGrow g gs after (λ gs t. refl) h b
-basic_complete c fs MemoryCopy g gs after h b = one_complete c fs MemoryCopy g gs after (λ gs t. refl) h b
-basic_complete c fs MemoryFill g gs after h b = one_complete c fs MemoryFill g gs after (λ gs t. refl) h b
-basic_complete c fs (Const v) g gs after h b = one_complete c fs (Const v) g gs after (λ gs t. refl) h b
-basic_complete c fs (Eqz t) g gs after h b = one_complete c fs (Eqz t) g gs after (λ gs t. refl) h b
-basic_complete c fs (Unary t op) g gs after h b = one_complete c fs (Unary t op) g gs after (λ gs t. refl) h b
-basic_complete c fs (Compare t op) g gs after h b = one_complete c fs (Compare t op) g gs after (λ gs t. refl) h b
-basic_complete c fs (Binary t op) g gs after h b = one_complete c fs (Binary t op) g gs after (λ gs t. refl) h b
-basic_complete c fs (Convert k) g gs after h b = one_complete c fs (Convert k) g gs after (λ gs t. refl) h b
-basic_complete c fs (Extend32 k) g gs after h b = one_complete c fs (Extend32 k) g gs after (λ gs t. refl) h b
-basic_complete c fs (Extend64 k) g gs after h b = one_complete c fs (Extend64 k) g gs after (λ gs t. refl) h b
+basic_complete c fs i g gs after h b = complete_as c fs i (steps_of i) g gs after h b
 
 -- ---- labels
 

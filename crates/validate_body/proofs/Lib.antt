@@ -1,5 +1,6 @@
 pub mod Options
 pub mod Fits
+pub mod Arrows
 pub mod Jumps
 pub mod Same
 pub mod LocalsLaws

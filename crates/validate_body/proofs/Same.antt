@@ -22,8 +22,8 @@ use Rattle.wasm_laws.proofs.FlatSteps.{opens, opens_steps}
 use Rattle.wasm_laws.proofs.FlatBodies.{Gives, body_steps, steps_body, begins_steps, steps_begins}
 use Rattle.validate_body.proofs.Fits.{Fits, FitAll, no_below, pop_sound, pop_complete, pops_sound, pops_complete, pushes_sound, pushes_complete, fill_all}
 use Rattle.validate_body.proofs.Jumps.{basic_sound, basic_complete, jump_sound, jump_complete, Arrives}
-use Rattle.wasm_laws.proofs.Validity.{then_found}
 use Rattle.pm_text.proofs.Lists.{some_is}
+use Rattle.wasm_syntax.proofs.Types.{then_found}
 
 -- ---- a frame's end
 

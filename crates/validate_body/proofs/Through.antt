@@ -4,7 +4,6 @@ use Rattle.std.specs.Prelude.{Option, Some, None, slice_get, option_to_list}
 use Rattle.wasm_syntax.specs.declared.value.ValType.{ValType}
 use Rattle.wasm_syntax.specs.declared.value.ValType.TheVariants.{I32}
 use Rattle.wasm_syntax.specs.declared.instruction.Basic.{Basic}
-use Rattle.wasm_syntax.specs.declared.instruction.Basic.TheVariants.{Nop, Drop, Select, LocalGet, LocalSet, LocalTee, GlobalGet, GlobalSet, Load, Store, MemorySize, MemoryGrow, MemoryCopy, MemoryFill, Const, Eqz, Unary, Compare, Binary, Convert, Extend32, Extend64}
 use Rattle.wasm_syntax.specs.declared.instruction.Op.{Op}
 use Rattle.wasm_syntax.specs.declared.parts.FuncType.{FuncType}
 use Rattle.wasm_syntax.specs.declared.parts.Body.{Body}
@@ -25,30 +24,15 @@ use Rattle.validate_body.specs.inner.Steps.{HasShape, context_of}
 use Rattle.std.proofs.Common.{subst}
 use Rattle.validate_body.proofs.Same.{run_append, wrong_there, went}
 use Rattle.wasm_laws.proofs.FlatBodies.{Gives}
+use Rattle.validate_body.proofs.Arrows.{Steps, drops, selects, by_arrow, steps_of}
+
+is_as : (c : Context) (fs : List Frame) (i : Basic) → Steps i → HasShape i → step_basic c fs i ≡ option_then (arrow c I32 i) (apply fs)
+is_as c fs i drops h = absurd (h.0 refl)
+is_as c fs i selects h = absurd (h.1 refl)
+is_as c fs i (by_arrow one goes) h = goes c fs
 
 pub basic_is : (c : Context) (fs : List Frame) (i : Basic) → HasShape i → step_basic c fs i ≡ option_then (arrow c I32 i) (apply fs)
-basic_is c fs Drop h = absurd (h.0 refl)
-basic_is c fs Select h = absurd (h.1 refl)
-basic_is c fs Nop h = refl
-basic_is c fs (LocalGet x) h = refl
-basic_is c fs (LocalSet x) h = refl
-basic_is c fs (LocalTee x) h = refl
-basic_is c fs (GlobalGet x) h = refl
-basic_is c fs (GlobalSet x) h = refl
-basic_is c fs (Load l a o) h = refl
-basic_is c fs (Store s a o) h = refl
-basic_is c fs MemorySize h = refl
-basic_is c fs MemoryGrow h = refl
-basic_is c fs MemoryCopy h = refl
-basic_is c fs MemoryFill h = refl
-basic_is c fs (Const v) h = refl
-basic_is c fs (Eqz t) h = refl
-basic_is c fs (Unary t op) h = refl
-basic_is c fs (Compare t op) h = refl
-basic_is c fs (Binary t op) h = refl
-basic_is c fs (Convert k) h = refl
-basic_is c fs (Extend32 k) h = refl
-basic_is c fs (Extend64 k) h = refl
+basic_is c fs i h = is_as c fs i (steps_of i) h
 
 -- ---- the first instructions, and the next one
 

@@ -14,7 +14,7 @@ use crate::{StackFault, TypeStack};
 use causes::NoMemory;
 use pm_text::Items;
 use std::alloc::Global;
-use wasm_syntax::{BlockKind, Body, FuncType, ModuleParts, Op, ValType};
+use wasm_syntax::{BlockKind, Body, FuncType, ModuleParts, ValType, read_op};
 
 /// Why a body is refused: at the code offset of the first instruction such that the body up to and
 /// with it begins no well-typed body, or for want of memory.
@@ -67,14 +67,6 @@ pub fn check_body(
     }
 }
 
-/// The n-th instruction.
-fn op_at(ops: &[Op], n: usize) -> Op
-    requires { n < length ops.now }
-    ensures { slice_get ops.now n ≡ Some result }
-{
-    ops[n]
-}
-
 /// Goes through the instructions of a body, and marks each.
 fn through(
     stack: &mut TypeStack,
@@ -97,7 +89,7 @@ fn through(
     let targets = body.targets.as_slice();
     let mut n = 0;
     while n < ops.len() {
-        let op = op_at(ops, n);
+        let op = read_op(ops, n);
         marks.push(mark_of(stack))?;
         match step(stack, m, locals, results, targets, op.code) {
             Ok(()) => {}

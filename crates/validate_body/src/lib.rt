@@ -12,6 +12,4 @@ mod step;
 
 pub use body::{BodyFault, check_body};
 pub use marks::{Mark, Marks};
-pub use shape::type_of_value;
 pub use stack::{Control, StackFault, TypeStack};
-pub use step::type_of;

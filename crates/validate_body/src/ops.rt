@@ -2,7 +2,8 @@
 
 ghost use Rattle.std.specs.Prelude.{◌≡◌, ◌∷◌, [], ◌++◌, reverse, option_to_list, Some, None};
 ghost use Rattle.validate_body.specs.calls.Frames.{pops, pushes, forget};
-ghost use Rattle.validate_body.specs.calls.Algorithm.{apply as apply_arrow, select as select_frames, both as both_types, closed, drop_any};
+ghost use Rattle.validate_body.specs.calls.Algorithm.{apply as apply_arrow, select as select_frames};
+ghost use Rattle.validate_body.specs.calls.Algorithm.{both as both_types, closed, drop_any};
 ghost use Rattle.validate_body.specs.inner.Steps.{Closed, arrow_of};
 ghost use Rattle.validate_body.specs.inner.Stacked.{Did};
 ghost use Rattle.wasm_syntax.specs.declared.value.ValType.TheVariants as types;

@@ -3,12 +3,11 @@
 ghost use Rattle.std.specs.Prelude.{◌≡◌, ◌≤◌, [], ◌∷◌, option_map, slice_get, Some, None, List};
 ghost use Rattle.validate_body.specs.inner.Steps.{arrow_of, HasShape, context_of};
 ghost use Rattle.wasm_syntax.specs.declared.value.ValType.TheVariants as types;
-ghost use Rattle.wasm_syntax.specs.Numbers.{type_of, convert_from, convert_to};
-ghost use Rattle.wasm_syntax.specs.Access.{load_type, load_bits, store_type, store_bits};
+ghost use Rattle.wasm_syntax.specs.Numbers.{convert_from, convert_to};
 ghost use Rattle.wasm_syntax.specs.Typing.{arrow, aligned, if_any, ◌⇒◌};
 
 use crate::locals::Locals;
-use wasm_syntax::{Basic, Convert, Load, ModuleParts, Narrow32, Narrow64, Store, ValType, Value};
+use wasm_syntax::{Basic, Convert, ModuleParts, ValType};
 
 /// The topmost operand that is taken, those below it, and what is given.
 #[derive(Clone, Copy)]
@@ -27,63 +26,6 @@ fn to_shape(first: Option<ValType>, second: Option<ValType>, gives: Option<ValTy
         second,
         third: None,
         gives,
-    }
-}
-
-pub fn type_of_value(v: Value) -> ValType
-    ensures { result ≡ type_of v }
-{
-    match v {
-        Value::I32(_) => ValType::I32,
-        Value::I64(_) => ValType::I64,
-    }
-}
-
-pub fn type_of_load(l: Load) -> ValType
-    ensures { result ≡ load_type l }
-{
-    match l {
-        Load::Full(t) => t,
-        Load::Part32(_, _) => ValType::I32,
-        Load::Part64(_, _) => ValType::I64,
-    }
-}
-
-pub fn bits_of_load(l: Load) -> u32
-    ensures { result ≡ load_bits l }
-{
-    match l {
-        Load::Full(ValType::I32) => 32,
-        Load::Full(ValType::I64) => 64,
-        Load::Part32(Narrow32::Eight, _) => 8,
-        Load::Part32(Narrow32::Sixteen, _) => 16,
-        Load::Part64(Narrow64::Eight, _) => 8,
-        Load::Part64(Narrow64::Sixteen, _) => 16,
-        Load::Part64(Narrow64::ThirtyTwo, _) => 32,
-    }
-}
-
-pub fn type_of_store(s: Store) -> ValType
-    ensures { result ≡ store_type s }
-{
-    match s {
-        Store::Full(t) => t,
-        Store::Part32(_) => ValType::I32,
-        Store::Part64(_) => ValType::I64,
-    }
-}
-
-pub fn bits_of_store(s: Store) -> u32
-    ensures { result ≡ store_bits s }
-{
-    match s {
-        Store::Full(ValType::I32) => 32,
-        Store::Full(ValType::I64) => 64,
-        Store::Part32(Narrow32::Eight) => 8,
-        Store::Part32(Narrow32::Sixteen) => 16,
-        Store::Part64(Narrow64::Eight) => 8,
-        Store::Part64(Narrow64::Sixteen) => 16,
-        Store::Part64(Narrow64::ThirtyTwo) => 32,
     }
 }
 
@@ -158,15 +100,15 @@ pub fn shape_of(m: &ModuleParts, locals: &Locals, i: Basic) -> Option<Shape>
             None => None,
         },
         Basic::Load(l, align, _) => {
-            if is_aligned(align, bits_of_load(l)) {
-                with_memory(m, to_shape(i32, None, Some(type_of_load(l))))
+            if is_aligned(align, l.bits()) {
+                with_memory(m, to_shape(i32, None, Some(l.value_type())))
             } else {
                 None
             }
         }
         Basic::Store(s, align, _) => {
-            if is_aligned(align, bits_of_store(s)) {
-                with_memory(m, to_shape(Some(type_of_store(s)), i32, None))
+            if is_aligned(align, s.bits()) {
+                with_memory(m, to_shape(Some(s.value_type()), i32, None))
             } else {
                 None
             }
@@ -182,7 +124,7 @@ pub fn shape_of(m: &ModuleParts, locals: &Locals, i: Basic) -> Option<Shape>
                 gives: None,
             },
         ),
-        Basic::Const(v) => Some(to_shape(None, None, Some(type_of_value(v)))),
+        Basic::Const(v) => Some(to_shape(None, None, Some(v.type_of()))),
         Basic::Eqz(t) => Some(to_shape(Some(t), None, i32)),
         Basic::Unary(t, _) => Some(to_shape(Some(t), None, Some(t))),
         Basic::Compare(t, _) => Some(to_shape(Some(t), Some(t), i32)),

@@ -1,10 +1,12 @@
 //! The stack of types with its control frames.
 
-ghost use Rattle.std.specs.Prelude.{◌≡◌, ◌-◌, ◌≤◌, List, [], ◌∷◌, length, drop, slice_get, OnOk, OnErr, MatchOption, Some, None, Option, option_to_list};
-ghost use Rattle.validate_body.specs.calls.Frames.{Frame, opening, pop as pop_frames, push as push_frames, emptied, forget as forget_frames, label as label_at, result_of, any_free, height_of, no_frame, gives_any, operands, topmost};
+ghost use Rattle.std.specs.Prelude.{◌≡◌, ◌-◌, ◌≤◌, List, [], ◌∷◌, length, drop, slice_get, OnOk, OnErr, MatchOption};
+ghost use Rattle.std.specs.Prelude.{Some, None, Option, option_to_list};
+ghost use Rattle.validate_body.specs.calls.Frames.{Frame, opening, pop as pop_frames, push as push_frames, emptied};
+ghost use Rattle.validate_body.specs.calls.Frames.{forget as forget_frames, label as label_at, result_of, any_free};
+ghost use Rattle.validate_body.specs.calls.Frames.{height_of, no_frame, gives_any, operands, topmost};
 ghost use Rattle.validate_body.specs.inner.Stacked.{Did, Made, Took, Left};
 ghost use Rattle.validate_body.specs.declared.stack.StackFault.TheVariants as faults;
-ghost use Rattle.wasm_syntax.specs.Numbers.{same_type};
 
 use causes::NoMemory;
 use pm_text::Stack;
@@ -61,17 +63,6 @@ impl Model for TypeStack {
     ghost invariant = { λ s. Heights (length s.types) s.controls };
 }
 
-/// Whether two types are the same.
-pub fn same(a: ValType, b: ValType) -> bool
-    ensures { result ≡ same_type a b }
-{
-    match (a, b) {
-        (ValType::I32, ValType::I32) => true,
-        (ValType::I64, ValType::I64) => true,
-        _ => false,
-    }
-}
-
 impl TypeStack {
     /// An empty stack without a frame, which takes no memory.
     pub fn new(alloc: Global) -> Self
@@ -105,7 +96,7 @@ impl TypeStack {
     {
         match self.pop_any()? {
             Some(u) => {
-                if same(u, t) {
+                if u.is_same(t) {
                     return Ok(());
                 }
                 Err(StackFault::Wrong)

@@ -1,15 +1,18 @@
 //! One instruction of the validation algorithm.
 
-ghost use Rattle.std.specs.Prelude.{◌≡◌, ◌∷◌, [], List, reverse, option_to_list, option_map, slice_get, take, drop, length, Some, None, true, false};
+ghost use Rattle.std.specs.Prelude.{◌≡◌, ◌∷◌, [], List, reverse, option_to_list, option_map, slice_get, take, drop};
+ghost use Rattle.std.specs.Prelude.{length, Some, None, true, false};
 ghost use Rattle.validate_body.specs.calls.Frames.{pops, pushes, forget, label, no_frame};
-ghost use Rattle.validate_body.specs.calls.Algorithm.{apply as apply_arrow, closed, same_option as are_same, step_open as step_inside, is_label, targets_fit as targets_do_fit, step_basic, step_jump, step as step_frames, at_else, at_end, may_end as may_end_there};
+ghost use Rattle.validate_body.specs.calls.Algorithm.{apply as apply_arrow, closed, same_option as are_same};
+ghost use Rattle.validate_body.specs.calls.Algorithm.{step_open as step_inside, is_label};
+ghost use Rattle.validate_body.specs.calls.Algorithm.{targets_fit as targets_do_fit, step_basic, step_jump};
+ghost use Rattle.validate_body.specs.calls.Algorithm.{step as step_frames, at_else, at_end, may_end as may_end_there};
 ghost use Rattle.validate_body.specs.inner.Stacked.{Did};
 ghost use Rattle.validate_body.specs.inner.Steps.{HasShape, context_of};
 ghost use Rattle.wasm_syntax.specs.Tree.{item_of, jump_of};
-ghost use Rattle.std.specs.Option.{option_copied};
 ghost use Rattle.wasm_syntax.specs.declared.value.ValType.TheVariants as types;
 ghost use Rattle.wasm_syntax.specs.Typing.{◌⇒◌, arrow, only_if};
-ghost use Rattle.wasm_syntax.specs.Module.{option_then, type_at};
+ghost use Rattle.wasm_syntax.specs.Module.{option_then};
 
 use crate::locals::Locals;
 use crate::ops::{
@@ -17,7 +20,7 @@ use crate::ops::{
 };
 use crate::shape::{Shape, shape_of};
 use crate::{StackFault, TypeStack};
-use wasm_syntax::{Basic, BlockKind, FuncType, Instr, Jump, ModuleParts, ValType};
+use wasm_syntax::{Basic, BlockKind, Instr, Jump, ModuleParts, ValType};
 
 fn with_shape(
     stack: &mut TypeStack,
@@ -153,22 +156,6 @@ pub fn branch_table(
     }
 }
 
-/// The type of a function, the imported ones first.
-pub fn type_of(m: &ModuleParts, f: usize) -> Option<&FuncType>
-    ensures { option_copied result ≡ type_at m.now f }
-{
-    let imported = m.imports.len();
-    let t = if f < imported {
-        m.imports.as_slice()[f].ftype
-    } else {
-        match m.functions.get(f - imported) {
-            Some(t) => *t,
-            None => return None,
-        }
-    };
-    m.types.get(t as usize)
-}
-
 pub fn jump(
     stack: &mut TypeStack,
     m: &ModuleParts,
@@ -189,7 +176,7 @@ pub fn jump(
             pop_all(stack, results)?;
             stack.forget()
         }
-        Jump::Call(g) => match type_of(m, g as usize) {
+        Jump::Call(g) => match m.type_of(g as usize) {
             Some(t) => call(stack, t),
             None => Err(StackFault::Wrong),
         },

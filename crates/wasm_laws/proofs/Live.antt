@@ -4,7 +4,6 @@ use Rattle.std.specs.Prelude.{option_to_list}
 use Rattle.wasm_syntax.specs.declared.value.ValType.{ValType}
 use Rattle.wasm_syntax.specs.declared.value.ValType.TheVariants.{I32}
 use Rattle.wasm_syntax.specs.declared.instruction.Basic.{Basic}
-use Rattle.wasm_syntax.specs.declared.instruction.Basic.TheVariants.{Nop, Drop, Select, LocalGet, LocalSet, LocalTee, GlobalGet, GlobalSet, Load, Store, MemorySize, MemoryGrow, MemoryCopy, MemoryFill, Const, Eqz, Unary, Compare, Binary, Convert, Extend32, Extend64}
 use Rattle.wasm_syntax.specs.declared.instruction.Op.{Op}
 use Rattle.wasm_syntax.specs.declared.parts.FuncType.{FuncType}
 use Rattle.wasm_syntax.specs.declared.parts.Body.{Body}
@@ -17,6 +16,8 @@ use Rattle.wasm_syntax.specs.Static.{Spot, spot, goes_on, Live, IsNode, LiveAt, 
 use Rattle.wasm_laws.proofs.Progress.{head, tail, takes_len}
 use Rattle.wasm_laws.proofs.Unique.{one_tree}
 use Rattle.pm_text.proofs.Lists.{some_is}
+use Rattle.wasm_syntax.specs.calls.Classes.{TypeSource, DropsAny, SelectsAny, FromLocal, IntoLocal, TeesLocal, FromGlobal, IntoGlobal, OverMemory, OfItself, type_source, source_arrow}
+use Rattle.wasm_syntax.proofs.Classes.{arrow_is}
 
 -- ---- what an instruction leaves is determined by what it found
 
@@ -37,32 +38,22 @@ same_arrow : (o : Option Arrow) (a b : Arrow) → o ≡ Some a → o ≡ Some b 
 same_arrow o a b e f = ap (λ z. z.gives) (some_is (sym e ∙ f))
 
 module _ (c : Context) where
-  gives_one : (i : Basic) (t u : ValType) (a b : Arrow) → arrow c t i ≡ Some a → arrow c u i ≡ Some b → a.takes ≡ b.takes → a.gives ≡ b.gives
-  gives_one Nop t u a b e f s = same_arrow (arrow c t Nop) a b e f
-  gives_one Drop t u a b e f s = sym (ap (λ z. z.gives) (some_is e)) ∙ ap (λ z. z.gives) (some_is f)
-  gives_one Select t u a b e f s =
+  gives_typed : (k : TypeSource) (t u : ValType) (a b : Arrow) → source_arrow c t k ≡ Some a → source_arrow c u k ≡ Some b → a.takes ≡ b.takes → a.gives ≡ b.gives
+  gives_typed DropsAny t u a b e f s = sym (ap (λ z. z.gives) (some_is e)) ∙ ap (λ z. z.gives) (some_is f)
+  gives_typed SelectsAny t u a b e f s =
       let p : head (tail a.takes) ∷ [] ≡ a.gives = ap (λ z. head (tail z.takes) ∷ []) (sym (some_is e)) ∙ ap (λ z. z.gives) (some_is e) in
       let q : head (tail b.takes) ∷ [] ≡ b.gives = ap (λ z. head (tail z.takes) ∷ []) (sym (some_is f)) ∙ ap (λ z. z.gives) (some_is f) in
       sym p ∙ ap (λ z. head (tail z) ∷ []) s ∙ q
-  gives_one (LocalGet x) t u a b e f s = same_arrow (arrow c t (LocalGet x)) a b e f
-  gives_one (LocalSet x) t u a b e f s = same_arrow (arrow c t (LocalSet x)) a b e f
-  gives_one (LocalTee x) t u a b e f s = same_arrow (arrow c t (LocalTee x)) a b e f
-  gives_one (GlobalGet x) t u a b e f s = same_arrow (arrow c t (GlobalGet x)) a b e f
-  gives_one (GlobalSet x) t u a b e f s = same_arrow (arrow c t (GlobalSet x)) a b e f
-  gives_one (Load l x o) t u a b e f s = same_arrow (arrow c t (Load l x o)) a b e f
-  gives_one (Store l x o) t u a b e f s = same_arrow (arrow c t (Store l x o)) a b e f
-  gives_one MemorySize t u a b e f s = same_arrow (arrow c t MemorySize) a b e f
-  gives_one MemoryGrow t u a b e f s = same_arrow (arrow c t MemoryGrow) a b e f
-  gives_one MemoryCopy t u a b e f s = same_arrow (arrow c t MemoryCopy) a b e f
-  gives_one MemoryFill t u a b e f s = same_arrow (arrow c t MemoryFill) a b e f
-  gives_one (Const v) t u a b e f s = same_arrow (arrow c t (Const v)) a b e f
-  gives_one (Eqz v) t u a b e f s = same_arrow (arrow c t (Eqz v)) a b e f
-  gives_one (Unary v p) t u a b e f s = same_arrow (arrow c t (Unary v p)) a b e f
-  gives_one (Compare v p) t u a b e f s = same_arrow (arrow c t (Compare v p)) a b e f
-  gives_one (Binary v p) t u a b e f s = same_arrow (arrow c t (Binary v p)) a b e f
-  gives_one (Convert k) t u a b e f s = same_arrow (arrow c t (Convert k)) a b e f
-  gives_one (Extend32 k) t u a b e f s = same_arrow (arrow c t (Extend32 k)) a b e f
-  gives_one (Extend64 k) t u a b e f s = same_arrow (arrow c t (Extend64 k)) a b e f
+  gives_typed (FromLocal x) t u a b e f s = same_arrow (source_arrow c t (FromLocal x)) a b e f
+  gives_typed (IntoLocal x) t u a b e f s = same_arrow (source_arrow c t (IntoLocal x)) a b e f
+  gives_typed (TeesLocal x) t u a b e f s = same_arrow (source_arrow c t (TeesLocal x)) a b e f
+  gives_typed (FromGlobal x) t u a b e f s = same_arrow (source_arrow c t (FromGlobal x)) a b e f
+  gives_typed (IntoGlobal x) t u a b e f s = same_arrow (source_arrow c t (IntoGlobal x)) a b e f
+  gives_typed (OverMemory fits ts given) t u a b e f s = same_arrow (source_arrow c t (OverMemory fits ts given)) a b e f
+  gives_typed (OfItself ts given) t u a b e f s = same_arrow (source_arrow c t (OfItself ts given)) a b e f
+
+  gives_one : (i : Basic) (t u : ValType) (a b : Arrow) → arrow c t i ≡ Some a → arrow c u i ≡ Some b → a.takes ≡ b.takes → a.gives ≡ b.gives
+  gives_one i t u a b e f s = gives_typed (type_source i) t u a b (sym (arrow_is c t i) ∙ e) (sym (arrow_is c u i) ∙ f) s
 
   pub basic_one : (i : Basic) (before after after' : List ValType) → BasicTypes c i before after → BasicTypes c i before after' → after ≡ after'
   basic_one i before after after' h k =

@@ -1,27 +1,26 @@
 -- With more replies behind those that are left a step is the same, unless it finds none: then it asks for the first of them.
-use Rattle.std.proofs.Common.{◌≡◌, ℕ, zero, suc, ◌+◌, Bool, true, false, nat_lt, List, [], ◌∷◌, ◌++◌, length, reverse, slice_get, if◌then◌else◌, Option, Some, None, Result, Ok, Err, refl, sym, ap, subst, ◌∙◌, arith, unwrap_or}
+use Rattle.std.proofs.Common.{◌≡◌, ℕ, zero, suc, ◌+◌, Bool, true, false, nat_lt, List, [], ◌∷◌, ◌++◌, length, reverse, slice_get, if◌then◌else◌, Option, Some, None, Result, Ok, Err, refl, sym, ap, subst, arith, subst₂}
 use Rattle.std.specs.Prelude.{◌/◌, ◌%◌, ◌==◌, slice_set}
 use Rattle.int_ops.specs.declared.operators.ArithTrap.{ArithTrap}
-use Rattle.int_ops.specs.Integers.{extend32, extend64}
 use Rattle.linear_memory.specs.Memory.{Memory, pages, load, put, grow, copy, fill, to_bytes}
 use Rattle.wasm_syntax.specs.declared.value.ValType.{ValType}
 use Rattle.wasm_syntax.specs.declared.value.ValType.TheVariants.{I32, I64}
 use Rattle.wasm_syntax.specs.declared.value.Value.{Value}
 use Rattle.wasm_syntax.specs.declared.value.Value.TheVariants as values
 use Rattle.wasm_syntax.specs.declared.instruction.Basic.{Basic}
-use Rattle.wasm_syntax.specs.declared.instruction.Basic.TheVariants.{Nop, Drop, Select, LocalGet, LocalSet, LocalTee, GlobalGet, GlobalSet, Load, Store, MemorySize, MemoryGrow, MemoryCopy, MemoryFill, Const, Eqz, Unary, Compare, Binary, Convert, Extend32, Extend64}
 use Rattle.wasm_syntax.specs.declared.parts.FuncType.{FuncType}
 use Rattle.wasm_syntax.specs.declared.host.HostCall.{HostCall}
 use Rattle.wasm_syntax.specs.declared.host.Reply.{Reply}
 use Rattle.wasm_syntax.specs.declared.host.Served.{Served}
 use Rattle.wasm_syntax.specs.declared.host.CollectorCall.{CollectorCall}
 use Rattle.wasm_syntax.specs.Tree.{Jump, Unreachable, Br, BrIf, BrTable, Return, Call, CallIndirect, Nodes, stop, basic, jump, block, loop, choose}
-use Rattle.wasm_syntax.specs.Module.{Program, Function, imported, defined, function_at, type_at, same_types, same_functype}
-use Rattle.wasm_syntax.specs.Numbers.{types, type_of, same_type, number, value, modulo, bool_number, unary, compare, binary, convert, convert_from, convert_to}
+use Rattle.wasm_syntax.specs.Module.{Function, imported, defined, function_at, same_types}
+use Rattle.wasm_syntax.specs.Numbers.{types, type_of, same_type, number, value, modulo, bool_number, compare, binary}
 use Rattle.wasm_syntax.specs.Access.{load_type, load_bits, loaded, store_type, store_bits}
 use Rattle.wasm_syntax.specs.Host.{World, collector_of, after_writes, fits_type, if_written, if_fits, served_by, told_or}
 use Rattle.wasm_syntax.specs.Effect.{Effect, gives, fails, unfit, effect, takes, when, with_some, on_none, on_any, on_one, on_two, on_three, on_choice, over, in_bounds, divides, grown, address, with_globals, with_memory}
-use Rattle.wasm_syntax.specs.Machine.{Engine, Frame, Label, Config, config, Stepped, next, ends, traps, no_reply, bad_reply, stuck, Cut, short, parts, cut, Went, inside, outside, nowhere, arrive, branch, leave, out_some, top, carry, same_carry, pick, entered, function_type, host_call, goes_to, deliver, moved, host, enters, applied, applied_if, calls_on, calls, trapped, calls_if, fits_entry, calls_entry, calls_typed, calls_indirect, branch_if, moved_if, branch_table, jumps, affects, does, opens_arm, chooses, runs, in_frame, steps, step}
+use Rattle.wasm_syntax.specs.Machine.{Engine, Frame, Label, Config, Stepped, next, ends, traps, no_reply, bad_reply, stuck, Cut, short, parts, cut, Went, inside, outside, nowhere, arrive, branch, leave, out_some, top, carry, same_carry, pick, entered, function_type, host_call, goes_to, deliver, moved, host, enters, applied, applied_if, calls_on, calls, calls_if, fits_entry, calls_entry, calls_typed, calls_indirect, branch_if, moved_if, branch_table, jumps, affects, does, chooses, runs, in_frame, steps, step}
+use Rattle.wasm_syntax.proofs.Classes.{OneByOne, computes, is_nop, is_drop, is_select, is_local_get, is_local_set, is_local_tee, is_global_get, is_global_set, is_load, is_store, is_size, is_grow, is_copy, is_fill, is_const, is_compare, is_binary, one_by_one}
 
 -- ---- more replies behind those that are left
 
@@ -155,49 +154,49 @@ module _ (more : List Reply) (w : World) where
   globals_set : (gs ls vs : List Value) → R (gives (with_globals w gs) ls vs) (gives (with_globals V gs) ls vs)
   globals_set gs ls vs = (refl, record { count = refl; more_served = []; served = refl })
 
-  effect_more : (i : Basic) (ls vs : List Value) → R (effect i w ls vs) (effect i V ls vs)
-  effect_more Nop ls vs = none_more vs (λ u. gives u ls []) (refl, same)
-  effect_more Drop ls vs = any_more vs (λ u v. gives u ls []) (λ v. (refl, same))
-  effect_more Select ls vs = choice_more vs (λ u n b a. gives u ls ((if n == 0 then b else a) ∷ [])) (λ n b a. (refl, same))
-  effect_more (LocalGet x) ls vs = none_more vs (λ u. with_some (slice_get ls x) (λ v. gives u ls (v ∷ []))) (some_more (slice_get ls x) (λ u v. gives u ls (v ∷ [])) (λ v. (refl, same)))
-  effect_more (LocalSet x) ls vs =
+  more_as : (i : Basic) → OneByOne i → (ls vs : List Value) → R (effect i w ls vs) (effect i V ls vs)
+  more_as i is_nop ls vs = none_more vs (λ u. gives u ls []) (refl, same)
+  more_as i is_drop ls vs = any_more vs (λ u v. gives u ls []) (λ v. (refl, same))
+  more_as i is_select ls vs = choice_more vs (λ u n b a. gives u ls ((if n == 0 then b else a) ∷ [])) (λ n b a. (refl, same))
+  more_as i (is_local_get x) ls vs = none_more vs (λ u. with_some (slice_get ls x) (λ v. gives u ls (v ∷ []))) (some_more (slice_get ls x) (λ u v. gives u ls (v ∷ [])) (λ v. (refl, same)))
+  more_as i (is_local_set x) ls vs =
       any_more vs (λ u v. over (slice_get ls x) v (gives u (slice_set ls x v) [])) (λ v. over_more (slice_get ls x) v (λ u. gives u (slice_set ls x v) []) (refl, same))
-  effect_more (LocalTee x) ls vs =
+  more_as i (is_local_tee x) ls vs =
       any_more vs (λ u v. over (slice_get ls x) v (gives u (slice_set ls x v) (v ∷ []))) (λ v. over_more (slice_get ls x) v (λ u. gives u (slice_set ls x v) (v ∷ [])) (refl, same))
-  effect_more (GlobalGet x) ls vs =
+  more_as i (is_global_get x) ls vs =
       none_more vs (λ u. with_some (slice_get u.globals x) (λ v. gives u ls (v ∷ []))) (some_more (slice_get w.globals x) (λ u v. gives u ls (v ∷ [])) (λ v. (refl, same)))
-  effect_more (GlobalSet x) ls vs =
+  more_as i (is_global_set x) ls vs =
       any_more vs (λ u v. over (slice_get u.globals x) v (gives (with_globals u (slice_set u.globals x v)) ls []))
       (λ v. over_more (slice_get w.globals x) v (λ u. gives (with_globals u (slice_set u.globals x v)) ls []) (globals_set (slice_set w.globals x v) ls []))
-  effect_more (Load l align offset) ls vs =
+  more_as i (is_load l align offset) ls vs =
       number_more I32 vs (λ u a. with_some u.memory (λ m. in_bounds (load m (address a offset) (load_bits l / 8)) (λ n. gives u ls (value (load_type l) (loaded l n) ∷ []))))
       (λ a. some_more w.memory (λ u m. in_bounds (load m (address a offset) (load_bits l / 8)) (λ n. gives u ls (value (load_type l) (loaded l n) ∷ [])))
       (λ m. bounds_more (load m (address a offset) (load_bits l / 8)) (λ u n. gives u ls (value (load_type l) (loaded l n) ∷ [])) (λ n. (refl, same))))
-  effect_more (Store l align offset) ls vs =
+  more_as i (is_store l align offset) ls vs =
       two_more (store_type l) I32 vs (λ u n a. with_some u.memory (λ m. in_bounds (put m (address a offset) (to_bytes (store_bits l / 8) n)) (λ m'. gives (with_memory u m') ls [])))
       (λ n a. some_more w.memory (λ u m. in_bounds (put m (address a offset) (to_bytes (store_bits l / 8) n)) (λ m'. gives (with_memory u m') ls []))
       (λ m. bounds_more (put m (address a offset) (to_bytes (store_bits l / 8) n)) (λ u m'. gives (with_memory u m') ls []) (λ m'. memory_set m' ls [])))
-  effect_more MemorySize ls vs =
+  more_as i is_size ls vs =
       none_more vs (λ u. with_some u.memory (λ m. gives u ls (values.I32 (pages m) ∷ []))) (some_more w.memory (λ u m. gives u ls (values.I32 (pages m) ∷ [])) (λ m. (refl, same)))
-  effect_more MemoryGrow ls vs =
+  more_as i is_grow ls vs =
       number_more I32 vs (λ u n. with_some u.memory (λ m. grown (grow m n) u (pages m) ls)) (λ n. some_more w.memory (λ u m. grown (grow m n) u (pages m) ls) (λ m. grown_more (grow m n) (pages m) ls))
-  effect_more MemoryCopy ls vs =
+  more_as i is_copy ls vs =
       three_more vs (λ u n from to. with_some u.memory (λ m. in_bounds (copy m (modulo I32 to) (modulo I32 from) (modulo I32 n)) (λ m'. gives (with_memory u m') ls [])))
       (λ n from to. some_more w.memory (λ u m. in_bounds (copy m (modulo I32 to) (modulo I32 from) (modulo I32 n)) (λ m'. gives (with_memory u m') ls []))
       (λ m. bounds_more (copy m (modulo I32 to) (modulo I32 from) (modulo I32 n)) (λ u m'. gives (with_memory u m') ls []) (λ m'. memory_set m' ls [])))
-  effect_more MemoryFill ls vs =
+  more_as i is_fill ls vs =
       three_more vs (λ u n byte to. with_some u.memory (λ m. in_bounds (fill m (modulo I32 to) (byte % 256) (modulo I32 n)) (λ m'. gives (with_memory u m') ls [])))
       (λ n byte to. some_more w.memory (λ u m. in_bounds (fill m (modulo I32 to) (byte % 256) (modulo I32 n)) (λ m'. gives (with_memory u m') ls []))
       (λ m. bounds_more (fill m (modulo I32 to) (byte % 256) (modulo I32 n)) (λ u m'. gives (with_memory u m') ls []) (λ m'. memory_set m' ls [])))
-  effect_more (Const v) ls vs = none_more vs (λ u. gives u ls (v ∷ [])) (refl, same)
-  effect_more (Eqz t) ls vs = number_more t vs (λ u a. gives u ls (values.I32 (bool_number (a == 0)) ∷ [])) (λ a. (refl, same))
-  effect_more (Unary t op) ls vs = number_more t vs (λ u a. gives u ls (value t (unary t op a) ∷ [])) (λ a. (refl, same))
-  effect_more (Compare t op) ls vs = two_more t t vs (λ u b a. gives u ls (values.I32 (bool_number (compare t op a b)) ∷ [])) (λ b a. (refl, same))
-  effect_more (Binary t op) ls vs =
+  more_as i (is_const v) ls vs = none_more vs (λ u. gives u ls (v ∷ [])) (refl, same)
+  more_as i (is_compare t op) ls vs = two_more t t vs (λ u b a. gives u ls (values.I32 (bool_number (compare t op a b)) ∷ [])) (λ b a. (refl, same))
+  more_as i (is_binary t op) ls vs =
       two_more t t vs (λ u b a. divides (binary t op a b) (λ n. gives u ls (value t n ∷ []))) (λ b a. divides_more (binary t op a b) (λ u n. gives u ls (value t n ∷ [])) (λ n. (refl, same)))
-  effect_more (Convert c) ls vs = number_more (convert_from c) vs (λ u a. gives u ls (value (convert_to c) (convert c a) ∷ [])) (λ a. (refl, same))
-  effect_more (Extend32 k) ls vs = number_more I32 vs (λ u a. gives u ls (values.I32 (extend32 k a) ∷ [])) (λ a. (refl, same))
-  effect_more (Extend64 k) ls vs = number_more I64 vs (λ u a. gives u ls (values.I64 (extend64 k a) ∷ [])) (λ a. (refl, same))
+  more_as i (computes o) ls vs =
+      subst₂ R (sym (o.effect_is w ls vs)) (sym (o.effect_is V ls vs)) (number_more o.from vs (λ u a. gives u ls (value o.to (o.result a) ∷ [])) (λ a. (refl, same)))
+
+  effect_more : (i : Basic) (ls vs : List Value) → R (effect i w ls vs) (effect i V ls vs)
+  effect_more i ls vs = more_as i (one_by_one i) ls vs
 
 -- ---- steps
 

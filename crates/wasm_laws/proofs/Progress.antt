@@ -7,11 +7,11 @@ use Rattle.wasm_syntax.specs.declared.value.Value.{Value}
 use Rattle.wasm_syntax.specs.declared.value.Value.TheVariants as values
 use Rattle.int_ops.specs.declared.operators.ArithTrap.{ArithTrap}
 use Rattle.wasm_syntax.specs.declared.instruction.Basic.{Basic}
-use Rattle.wasm_syntax.specs.declared.instruction.Basic.TheVariants.{Nop, Drop, Select, LocalGet, LocalSet, LocalTee, GlobalGet, GlobalSet, Load, Store, MemorySize, MemoryGrow, MemoryCopy, MemoryFill, Const, Eqz, Unary, Compare, Binary, Convert, Extend32, Extend64}
+use Rattle.wasm_syntax.specs.declared.instruction.Basic.TheVariants.{Nop, Drop, Select, LocalGet, LocalSet, LocalTee, GlobalGet, GlobalSet, Load, Store, MemorySize, MemoryGrow, MemoryCopy, MemoryFill, Const, Compare, Binary}
 use Rattle.wasm_syntax.specs.declared.parts.FuncType.{FuncType}
 use Rattle.wasm_syntax.specs.declared.parts.Limits.{Limits}
 use Rattle.wasm_syntax.specs.declared.parts.Global.{Global}
-use Rattle.wasm_syntax.specs.Numbers.{modulo, type_of, types, same_type, value, number, unary, binary, convert, convert_from, convert_to}
+use Rattle.wasm_syntax.specs.Numbers.{modulo, type_of, types, same_type, value, number, binary}
 use Rattle.linear_memory.specs.Memory.{Memory, pages, load, put, grow, copy, fill, to_bytes}
 use Rattle.wasm_syntax.specs.Access.{load_type, load_bits, loaded, store_type, store_bits}
 use Rattle.wasm_syntax.specs.Module.{type_at, same_types, option_then}
@@ -22,7 +22,10 @@ use Rattle.wasm_syntax.specs.Effect as effects
 use Rattle.wasm_syntax.specs.Machine.{parts, one_more, cut, zeros}
 use Rattle.wasm_syntax.specs.Typing.{Context, Arrow, ◌⇒◌, arrow, set_global, only_if, if_any}
 use Rattle.pm_text.proofs.Lists.{some_is}
-use Rattle.wasm_syntax.proofs.Types.{any_found}
+use Rattle.wasm_syntax.proofs.Types.{any_found, only_found}
+use Rattle.wasm_syntax.proofs.Classes.{counts}
+use Rattle.wasm_syntax.proofs.Classes.{OneByOne, computes, is_nop, is_drop, is_select, is_local_get, is_local_set, is_local_tee, is_global_get, is_global_set, is_load, is_store, is_size, is_grow, is_copy, is_fill, is_const, is_compare, is_binary, one_by_one, arrow_is}
+use Rattle.wasm_syntax.specs.calls.Classes.{source_arrow}
 
 -- ---- values and lists of types
 
@@ -192,10 +195,6 @@ found_then : {A : Type 0} (o : Option A) (f : A → Option Arrow) (a : Arrow) �
 found_then None f a e = absurd (cc)
 found_then (Some x) f a e = (x, refl, e)
 
-only_found : (b : Bool) (o : Option Arrow) (a : Arrow) → only_if b o ≡ Some a → o ≡ Some a
-only_found true o a e = e
-only_found false o a e = absurd (cc)
-
 memory_of_limits : (ls : List Limits) (k : Option Memory) (a : Arrow) (o : Option Arrow) → if_any ls o ≡ Some a → HasMemory ls k → (m : Memory) × (k ≡ Some m)
 memory_of_limits [] k a o e h = absurd (cc)
 memory_of_limits (l ∷ ls) None a o e h = absurd h
@@ -240,73 +239,54 @@ module _ (c : Context) (w : World) (ls vs : List Value) (wf : WorldFine c.module
   grown_fine None k old e = (wf, lf, refl)
   grown_fine (Some k') k old e = (with_put k k' e, lf, refl)
 
-  pub effect_fine : (i : Basic) (t : ValType) (a : Arrow) → arrow c t i ≡ Some a → types vs ≡ a.takes → EffectFine c a.gives (effect i w ls vs)
-  effect_fine Nop t a e = by_arrow Nop a [] [] (some_is e) (λ h. none_fine c [] _ vs h (wf, lf, refl))
-  effect_fine Drop t a e = by_arrow Drop a (t ∷ []) [] (some_is e) (λ h. any_fine c [] t _ vs h (λ v tv. (wf, lf, refl)))
-  effect_fine Select t a e = by_arrow Select a (I32 ∷ t ∷ t ∷ []) (t ∷ []) (some_is e) (λ h. choice_fine c (t ∷ []) t _ vs h (λ n b x tb ta. (wf, lf, ap (λ u. u ∷ []) (choice_type (n == 0) b x t tb ta))))
-  effect_fine (LocalGet x) t a e =
+  fine_as : (i : Basic) → OneByOne i → (t : ValType) (a : Arrow) → arrow c t i ≡ Some a → types vs ≡ a.takes → EffectFine c a.gives (effect i w ls vs)
+  fine_as i is_nop t a e = by_arrow Nop a [] [] (some_is e) (λ h. none_fine c [] _ vs h (wf, lf, refl))
+  fine_as i is_drop t a e = by_arrow Drop a (t ∷ []) [] (some_is e) (λ h. any_fine c [] t _ vs h (λ v tv. (wf, lf, refl)))
+  fine_as i is_select t a e = by_arrow Select a (I32 ∷ t ∷ t ∷ []) (t ∷ []) (some_is e) (λ h. choice_fine c (t ∷ []) t _ vs h (λ n b x tb ta. (wf, lf, ap (λ u. u ∷ []) (choice_type (n == 0) b x t tb ta))))
+  fine_as i (is_local_get x) t a e =
       let u = found (slice_get c.locals x) _ a e in let v = local_at x u.0 u.1 in
       by_arrow (LocalGet x) a [] (u.0 ∷ []) u.2 (λ h. none_fine c (u.0 ∷ []) _ vs h (some_fine c (u.0 ∷ []) (slice_get ls x) v.0 _ v.1 (wf, lf, ap (λ u. u ∷ []) v.2)))
-  effect_fine (LocalSet x) t a e =
+  fine_as i (is_local_set x) t a e =
       let u = found (slice_get c.locals x) _ a e in let v = local_at x u.0 u.1 in
       by_arrow (LocalSet x) a (u.0 ∷ []) [] u.2 (λ h. any_fine c [] u.0 _ vs h (λ n tn. over_fine c [] (slice_get ls x) v.0 n _ v.1 (v.2 ∙ sym tn) (wf, set_types ls x n v.0 v.1 (tn ∙ sym v.2) ∙ lf, refl)))
-  effect_fine (LocalTee x) t a e =
+  fine_as i (is_local_tee x) t a e =
       let u = found (slice_get c.locals x) _ a e in let v = local_at x u.0 u.1 in
       by_arrow (LocalTee x) a (u.0 ∷ []) (u.0 ∷ []) u.2 (λ h. any_fine c (u.0 ∷ []) u.0 _ vs h (λ n tn. over_fine c (u.0 ∷ []) (slice_get ls x) v.0 n _ v.1 (v.2 ∙ sym tn) (wf, set_types ls x n v.0 v.1 (tn ∙ sym v.2) ∙ lf, ap (λ u. u ∷ []) tn)))
-  effect_fine (GlobalGet x) t a e =
+  fine_as i (is_global_get x) t a e =
       let u = found (slice_get c.module_.globals x) _ a e in let v = global_at x u.0 u.1 in
       by_arrow (GlobalGet x) a [] (u.0.vtype ∷ []) u.2 (λ h. none_fine c (u.0.vtype ∷ []) _ vs h (some_fine c (u.0.vtype ∷ []) (slice_get w.globals x) v.0 _ v.1 (wf, lf, ap (λ u. u ∷ []) v.2)))
-  effect_fine (GlobalSet x) t a e =
+  fine_as i (is_global_set x) t a e =
       let u = found_then (slice_get c.module_.globals x) set_global a e in let v = global_at x u.0 u.1 in
       by_arrow (GlobalSet x) a (u.0.vtype ∷ []) [] (set_found u.0 u.0.mutable a u.2) (λ h. any_fine c [] u.0.vtype _ vs h (λ n tn. over_fine c [] (slice_get w.globals x) v.0 n _ v.1 (v.2 ∙ sym tn) (record { globals = set_types w.globals x n v.0 v.1 (tn ∙ sym v.2) ∙ wf.globals; memory = wf.memory; table = wf.table }, lf, refl)))
-  effect_fine (Load l al o) t a e =
+  fine_as i (is_load l al o) t a e =
       let m = memory_of_limits c.module_.memories w.memory a _ e wf.memory in
       by_arrow (Load l al o) a (I32 ∷ []) (load_type l ∷ []) (some_is (only_found _ _ a (any_found c.module_.memories _ a e))) (λ h. one_fine c (load_type l ∷ []) I32 _ vs h (λ n. some_fine c (load_type l ∷ []) w.memory m.0 _ m.1 (bounds_fine c (load_type l ∷ []) (load m.0 (address n o) (load_bits l / 8)) _ (λ k. (wf, lf, one_type (load_type l) (loaded l k))))))
-  effect_fine (Store l al o) t a e =
+  fine_as i (is_store l al o) t a e =
       let m = memory_of_limits c.module_.memories w.memory a _ e wf.memory in
       by_arrow (Store l al o) a (store_type l ∷ I32 ∷ []) [] (some_is (only_found _ _ a (any_found c.module_.memories _ a e))) (λ h. two_fine c [] (store_type l) I32 _ vs h (λ n k. some_fine c [] w.memory m.0 _ m.1 (bounds_fine c [] (put m.0 (address k o) (to_bytes (store_bits l / 8) n)) _ (λ k'. (with_put m.0 k' m.1, lf, refl)))))
-  effect_fine MemorySize t a e =
+  fine_as i is_size t a e =
       let m = memory_of_limits c.module_.memories w.memory a _ e wf.memory in
       by_arrow MemorySize a [] (I32 ∷ []) (some_is (any_found c.module_.memories _ a e)) (λ h. none_fine c (I32 ∷ []) _ vs h (some_fine c (I32 ∷ []) w.memory m.0 _ m.1 (wf, lf, refl)))
-  effect_fine MemoryGrow t a e =
+  fine_as i is_grow t a e =
       let m = memory_of_limits c.module_.memories w.memory a _ e wf.memory in
       by_arrow MemoryGrow a (I32 ∷ []) (I32 ∷ []) (some_is (any_found c.module_.memories _ a e)) (λ h. one_fine c (I32 ∷ []) I32 _ vs h (λ n. some_fine c (I32 ∷ []) w.memory m.0 (λ m. effects.grown (grow m n) w (pages m) ls) m.1 (grown_fine (grow m.0 n) m.0 (pages m.0) m.1)))
-  effect_fine MemoryCopy t a e =
+  fine_as i is_copy t a e =
       let m = memory_of_limits c.module_.memories w.memory a _ e wf.memory in
       by_arrow MemoryCopy a (I32 ∷ I32 ∷ I32 ∷ []) [] (some_is (any_found c.module_.memories _ a e)) (λ h. three_fine c [] _ vs h (λ n k l. some_fine c [] w.memory m.0 _ m.1 (bounds_fine c [] (copy m.0 (modulo I32 l) (modulo I32 k) (modulo I32 n)) _ (λ k'. (with_put m.0 k' m.1, lf, refl)))))
-  effect_fine MemoryFill t a e =
+  fine_as i is_fill t a e =
       let m = memory_of_limits c.module_.memories w.memory a _ e wf.memory in
       by_arrow MemoryFill a (I32 ∷ I32 ∷ I32 ∷ []) [] (some_is (any_found c.module_.memories _ a e)) (λ h. three_fine c [] _ vs h (λ n k l. some_fine c [] w.memory m.0 _ m.1 (bounds_fine c [] (fill m.0 (modulo I32 l) (k % 256) (modulo I32 n)) _ (λ k'. (with_put m.0 k' m.1, lf, refl)))))
-  effect_fine (Const v) t a e = by_arrow (Const v) a [] (type_of v ∷ []) (some_is e) (λ h. none_fine c (type_of v ∷ []) _ vs h (wf, lf, refl))
-  effect_fine (Eqz u) t a e = by_arrow (Eqz u) a (u ∷ []) (I32 ∷ []) (some_is e) (λ h. one_fine c (I32 ∷ []) u _ vs h (λ n. (wf, lf, refl)))
-  effect_fine (Unary u op) t a e = by_arrow (Unary u op) a (u ∷ []) (u ∷ []) (some_is e) (λ h. one_fine c (u ∷ []) u _ vs h (λ n. (wf, lf, one_type u (unary u op n))))
-  effect_fine (Compare u op) t a e = by_arrow (Compare u op) a (u ∷ u ∷ []) (I32 ∷ []) (some_is e) (λ h. two_fine c (I32 ∷ []) u u _ vs h (λ n k. (wf, lf, refl)))
-  effect_fine (Binary u op) t a e = by_arrow (Binary u op) a (u ∷ u ∷ []) (u ∷ []) (some_is e) (λ h. two_fine c (u ∷ []) u u _ vs h (λ n k. divides_fine c (u ∷ []) (binary u op k n) _ (λ x. (wf, lf, one_type u x))))
-  effect_fine (Convert k) t a e = by_arrow (Convert k) a (convert_from k ∷ []) (convert_to k ∷ []) (some_is e) (λ h. one_fine c (convert_to k ∷ []) (convert_from k) _ vs h (λ n. (wf, lf, one_type (convert_to k) (convert k n))))
-  effect_fine (Extend32 k) t a e = by_arrow (Extend32 k) a (I32 ∷ []) (I32 ∷ []) (some_is e) (λ h. one_fine c (I32 ∷ []) I32 _ vs h (λ n. (wf, lf, refl)))
-  effect_fine (Extend64 k) t a e = by_arrow (Extend64 k) a (I64 ∷ []) (I64 ∷ []) (some_is e) (λ h. one_fine c (I64 ∷ []) I64 _ vs h (λ n. (wf, lf, refl)))
+  fine_as i (is_const v) t a e = by_arrow (Const v) a [] (type_of v ∷ []) (some_is e) (λ h. none_fine c (type_of v ∷ []) _ vs h (wf, lf, refl))
+  fine_as i (is_compare u op) t a e = by_arrow (Compare u op) a (u ∷ u ∷ []) (I32 ∷ []) (some_is e) (λ h. two_fine c (I32 ∷ []) u u _ vs h (λ n k. (wf, lf, refl)))
+  fine_as i (is_binary u op) t a e = by_arrow (Binary u op) a (u ∷ u ∷ []) (u ∷ []) (some_is e) (λ h. two_fine c (u ∷ []) u u _ vs h (λ n k. divides_fine c (u ∷ []) (binary u op k n) _ (λ x. (wf, lf, one_type u x))))
+  fine_as i (computes o) t a e =
+      let is : (o.from ∷ [] ⇒ o.to ∷ []) ≡ a = some_is (sym (ap (source_arrow c t) o.source_is) ∙ sym (arrow_is c t i) ∙ e) in
+      by_arrow i a (o.from ∷ []) (o.to ∷ []) is
+      (λ h. subst (EffectFine c (o.to ∷ [])) (sym (o.effect_is w ls vs)) (one_fine c (o.to ∷ []) o.from (λ n. gives w ls (value o.to (o.result n) ∷ [])) vs h (λ n. (wf, lf, one_type o.to (o.result n)))))
+
+  pub effect_fine : (i : Basic) (t : ValType) (a : Arrow) → arrow c t i ≡ Some a → types vs ≡ a.takes → EffectFine c a.gives (effect i w ls vs)
+  effect_fine i t a e = fine_as i (one_by_one i) t a e
 
 -- as many operands as the arrow takes
 pub takes_len : (c : Context) (i : Basic) (t : ValType) (a : Arrow) → arrow c t i ≡ Some a → length a.takes ≡ takes i
-takes_len c Nop t a e = sym (ap (λ z. length z.takes) (some_is e))
-takes_len c Drop t a e = sym (ap (λ z. length z.takes) (some_is e))
-takes_len c Select t a e = sym (ap (λ z. length z.takes) (some_is e))
-takes_len c (LocalGet x) t a e = sym (ap (λ z. length z.takes) ((found (slice_get c.locals x) _ a e).2))
-takes_len c (LocalSet x) t a e = sym (ap (λ z. length z.takes) ((found (slice_get c.locals x) _ a e).2))
-takes_len c (LocalTee x) t a e = sym (ap (λ z. length z.takes) ((found (slice_get c.locals x) _ a e).2))
-takes_len c (GlobalGet x) t a e = sym (ap (λ z. length z.takes) ((found (slice_get c.module_.globals x) _ a e).2))
-takes_len c (Load l al o) t a e = sym (ap (λ z. length z.takes) (some_is (only_found _ _ a (any_found c.module_.memories _ a e))))
-takes_len c (Store l al o) t a e = sym (ap (λ z. length z.takes) (some_is (only_found _ _ a (any_found c.module_.memories _ a e))))
-takes_len c MemorySize t a e = sym (ap (λ z. length z.takes) (some_is (any_found c.module_.memories _ a e)))
-takes_len c MemoryGrow t a e = sym (ap (λ z. length z.takes) (some_is (any_found c.module_.memories _ a e)))
-takes_len c MemoryCopy t a e = sym (ap (λ z. length z.takes) (some_is (any_found c.module_.memories _ a e)))
-takes_len c MemoryFill t a e = sym (ap (λ z. length z.takes) (some_is (any_found c.module_.memories _ a e)))
-takes_len c (Const v) t a e = sym (ap (λ z. length z.takes) (some_is e))
-takes_len c (Eqz u) t a e = sym (ap (λ z. length z.takes) (some_is e))
-takes_len c (Unary u op) t a e = sym (ap (λ z. length z.takes) (some_is e))
-takes_len c (Compare u op) t a e = sym (ap (λ z. length z.takes) (some_is e))
-takes_len c (Binary u op) t a e = sym (ap (λ z. length z.takes) (some_is e))
-takes_len c (Convert k) t a e = sym (ap (λ z. length z.takes) (some_is e))
-takes_len c (GlobalSet x) t a e = let u = found_then (slice_get c.module_.globals x) set_global a e in sym (ap (λ z. length z.takes) (some_is (only_found u.0.mutable (Some (u.0.vtype ∷ [] ⇒ [])) a u.2)))
-takes_len c (Extend32 k) t a e = sym (ap (λ z. length z.takes) (some_is e))
-takes_len c (Extend64 k) t a e = sym (ap (λ z. length z.takes) (some_is e))
+takes_len c i t a e = (counts c t i a e).0

@@ -37,6 +37,7 @@ use Rattle.wasm_laws.proofs.Lists.{all_of, at_of, there_at, all_append, all_take
 use Rattle.pm_text.proofs.Lists.{some_is, get_behind}
 use Rattle.std.proofs.lemmas.Option.{slice_get_within}
 use Rattle.wasm_syntax.proofs.Bodies.{tree_there}
+use Rattle.wasm_syntax.proofs.Types.{then_found, map_found}
 
 -- ---- trees
 
@@ -47,14 +48,6 @@ same_count (b ∷ bodies) [] w = absurd w
 same_count (b ∷ bodies) (t ∷ trees) w = ap suc (same_count bodies trees w.1)
 
 -- ---- options
-
-pub then_found : {A B : Type 0} (o : Option A) (go : A → Option B) (b : B) → option_then o go ≡ Some b → (x : A) × (o ≡ Some x) × (go x ≡ Some b)
-then_found None go b e = absurd (cc)
-then_found (Some x) go b e = (x, refl, e)
-
-pub map_found : {A B : Type 0} (o : Option A) (f : A → B) (b : B) → option_map f o ≡ Some b → (x : A) × (o ≡ Some x) × (f x ≡ b)
-map_found None f b e = absurd (cc)
-map_found (Some x) f b e = (x, refl, some_is e)
 
 -- ---- constant expressions
 

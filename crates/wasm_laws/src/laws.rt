@@ -1,7 +1,10 @@
 //! Laws of the definitions.
 
-ghost use Rattle.std.specs.Prelude.{◌≡◌, ◌↔◌, ◌-◌, ◌≤◌, ◌+◌, ℕ, length, reverse, slice_get, Bool, List, [], Option, option_to_list};
+ghost use Rattle.std.specs.Prelude.{◌≡◌, ◌↔◌, ◌-◌, ◌≤◌, ◌+◌, ℕ, length, reverse, slice_get, Bool, List, [], Option};
+ghost use Rattle.std.specs.Prelude.{option_to_list};
 ghost use Rattle.wasm_syntax.specs.declared.value.ValType.{ValType};
+ghost use Rattle.wasm_syntax.specs.declared.value.Value.{Value as AnyValue};
+ghost use Rattle.wasm_syntax.specs.declared.instruction.Basic.{Basic as Instruction};
 ghost use Rattle.wasm_syntax.specs.declared.instruction.Op.{Op as CodeOp};
 ghost use Rattle.wasm_syntax.specs.declared.parts.Body.{Body as FunctionBody};
 ghost use Rattle.wasm_syntax.specs.declared.parts.FuncType.{FuncType as Signature};
@@ -9,13 +12,24 @@ ghost use Rattle.wasm_syntax.specs.declared.module.ModuleParts.{ModuleParts as P
 ghost use Rattle.wasm_syntax.specs.declared.host.Reply.{Reply as HostReply};
 ghost use Rattle.wasm_syntax.specs.Module.{Program, IsProgram, InOrder};
 ghost use Rattle.wasm_syntax.specs.Tree.{Placed, Tree, Nodes, WritesOut, code_of, item_of};
-ghost use Rattle.wasm_syntax.specs.Typing.{Context, Types, IsBody, BeginsBody, body_context};
+ghost use Rattle.wasm_syntax.specs.Host.{World};
+ghost use Rattle.wasm_syntax.specs.Effect.{effect};
+ghost use Rattle.wasm_syntax.specs.Typing.{Context, arrow, Types, IsBody, BeginsBody, body_context};
 ghost use Rattle.wasm_syntax.specs.FlatTyping.{FlatTypes, OpenBlock, body_block, BeginsNode, TypesBefore};
 ghost use Rattle.wasm_syntax.specs.Valid.{Valid};
 ghost use Rattle.wasm_syntax.specs.Static.{Static, Left};
 ghost use Rattle.wasm_syntax.specs.Run.{Invocation, run};
+ghost use Rattle.wasm_syntax.specs.calls.Classes.{Does, effect_class, type_source, source_arrow};
 ghost use Rattle.wasm_laws.specs.calls.Literal.{Has};
 ghost use Rattle.wasm_laws.specs.calls.Runs.{Stay, NoneStuck};
+
+/// An instruction does what its class may do, and its type is what it comes from.
+pub fn each_is_of_its_class()
+    ensures does { (i : Instruction) (w : World) (locals operands : List AnyValue)
+        → Does (effect_class i) w locals (effect i w locals operands) }
+    ensures types { (c : Context) (any : ValType) (i : Instruction)
+        → arrow c any i ≡ source_arrow c any (type_source i) }
+{}
 
 /// A flat body writes out at most one tree.
 pub fn one_tree()

@@ -1,3 +1,6 @@
+pub mod Counts
 pub mod Differ
+pub mod Over
 pub mod Types
 pub mod Bodies
+pub mod Classes

@@ -1,12 +1,13 @@
 -- What the tests of types say.
-use Rattle.std.proofs.Common.{◌≡◌, ◌≢◌, suc, true, false, ◌&&◌, List, [], ◌∷◌, length, Option, Some, refl, ap, ap₂, ◌∙◌}
+use Rattle.std.proofs.Common.{◌≡◌, ◌≢◌, suc, true, false, ◌&&◌, Bool, List, [], ◌∷◌, length, Option, Some, None, option_map, refl, ap, ap₂, ◌∙◌}
 use Rattle.std.proofs.Math.Bool.{and-false}
 use Rattle.wasm_syntax.specs.declared.value.ValType.{ValType}
 use Rattle.wasm_syntax.specs.declared.value.ValType.TheVariants.{I32, I64}
 use Rattle.wasm_syntax.specs.declared.parts.FuncType.{FuncType}
 use Rattle.wasm_syntax.specs.Numbers.{same_type}
-use Rattle.wasm_syntax.specs.Module.{same_types, same_functype}
-use Rattle.wasm_syntax.specs.Typing.{if_any}
+use Rattle.wasm_syntax.specs.Module.{option_then, same_types, same_functype}
+use Rattle.wasm_syntax.specs.Typing.{only_if, if_any}
+use Rattle.pm_text.proofs.Lists.{some_is}
 
 pub same_type_is : (t u : ValType) → same_type t u ≡ true → t ≡ u
 same_type_is I32 I32 e = refl
@@ -44,3 +45,15 @@ same_functype_refl type = ap₂ (λ p q. p && q) (same_types_refl type.params) (
 pub any_found : {A B : Type 0} (ls : List A) (o : Option B) (b : B) → if_any ls o ≡ Some b → o ≡ Some b
 any_found [] o b e = absurd (cc)
 any_found (l ∷ ls) o b e = e
+
+pub then_found : {A B : Type 0} (o : Option A) (go : A → Option B) (b : B) → option_then o go ≡ Some b → (x : A) × (o ≡ Some x) × (go x ≡ Some b)
+then_found None go b e = absurd (cc)
+then_found (Some x) go b e = (x, refl, e)
+
+pub map_found : {A B : Type 0} (o : Option A) (f : A → B) (b : B) → option_map f o ≡ Some b → (x : A) × (o ≡ Some x) × (f x ≡ b)
+map_found None f b e = absurd (cc)
+map_found (Some x) f b e = (x, refl, some_is e)
+
+pub only_found : {A : Type 0} (q : Bool) (o : Option A) (b : A) → only_if q o ≡ Some b → o ≡ Some b
+only_found true o b e = e
+only_found false o b e = absurd (cc)

@@ -13,3 +13,4 @@ pub mod Static
 pub mod FlatTyping
 pub mod SameCode
 pub mod Sizes
+pub mod calls

@@ -4,6 +4,8 @@ use Rattle.wasm_syntax.specs.declared.value.ValType.{ValType}
 use Rattle.wasm_syntax.specs.declared.value.ValType.TheVariants.{I32, I64}
 use Rattle.wasm_syntax.specs.declared.value.Value.{Value}
 use Rattle.wasm_syntax.specs.declared.value.Value.TheVariants as values
+use Rattle.wasm_syntax.specs.declared.value.Seen.{Seen}
+use Rattle.wasm_syntax.specs.declared.value.Seen.TheVariants as seen
 use Rattle.int_ops.specs.declared.operators.Unary.{Unary}
 use Rattle.int_ops.specs.declared.operators.Compare.{Compare}
 use Rattle.int_ops.specs.declared.operators.Binary.{Binary}
@@ -44,6 +46,11 @@ number _ _ = None
 abbrev pub IsValue : Value → Type 0
 IsValue (values.I32 n) = n < 2 ^ 32
 IsValue (values.I64 n) = n < 2 ^ 64
+
+-- a value that is recorded, as a dump shows it
+abbrev pub seen_of : Value → Seen
+seen_of (values.I32 n) = seen.I32 n
+seen_of (values.I64 n) = seen.I64 n
 
 -- ---- operations at a type
 

@@ -94,6 +94,10 @@ There xs i P = IfSome (slice_get xs i) P
 abbrev pub defined_index : Module → ℕ → Option ℕ
 defined_index m f = if nat_lt f (length m.imports) then None else Some (f - length m.imports)
 
+-- the body of a function that the module defines
+abbrev pub body_of : Module → ℕ → Option Body
+body_of m f = option_then (defined_index m f) (slice_get m.bodies)
+
 abbrev pub Fine : Module → Place → Type 0
 Fine m (TypeAt i) = There m.types i FuncTypeFine
 Fine m (ImportAt i) = There m.imports i (ImportFine m)
@@ -155,7 +159,7 @@ pub record FirstWrong (m : Module) (type : FuncType) (body : Body) (offset : ℕ
 -- in a function, the place says the offset
 abbrev pub OffsetIs : Module → Place → Type 0
 OffsetIs m (Function f offset) =
-    (type : FuncType) × (body : Body) × (type_at m f ≡ Some type) × (option_then (defined_index m f) (slice_get m.bodies) ≡ Some body) × FirstWrong m type body offset
+    (type : FuncType) × (body : Body) × (type_at m f ≡ Some type) × (body_of m f ≡ Some body) × FirstWrong m type body offset
 OffsetIs m place = Unit {0}
 
 pub record FirstInvalid (m : Module) (place : Place) : Type 0 where

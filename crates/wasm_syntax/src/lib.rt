@@ -10,12 +10,15 @@ mod module;
 mod parts;
 mod place;
 mod quantity;
+mod signature;
+mod sizes;
+mod start;
 mod value;
 
 pub use blocks::BlockKind;
 pub use equality::same_code;
 pub use host::{CollectorCall, HostCall, Reply, Served, Values, Write, Writes};
-pub use instruction::{Basic, Convert, Instr, Jump, Load, Op, Sign, Store};
+pub use instruction::{Basic, Convert, Instr, Jump, Load, Op, Sign, Store, read_op};
 pub use int_ops::{ArithTrap, Binary, Compare, Narrow32, Narrow64, Unary};
 pub use module::{Module, ModuleParts};
 pub use parts::{
@@ -25,4 +28,6 @@ pub use parts::{
 };
 pub use place::Place;
 pub use quantity::Quantity;
+pub use sizes::greater;
+pub use start::put_functions;
 pub use value::{Seen, ValType, Value};

@@ -2,9 +2,10 @@
 
 ghost use Rattle.std.specs.Prelude.{◌≡◌, option_copied, slice_get};
 ghost use Rattle.wasm_syntax.specs.Module.{IsModule, type_at, function_types};
+ghost use Rattle.wasm_syntax.specs.Valid.{body_of};
 
 use crate::parts::{
-    Bodies, Customs, DataSegs, ElementSegs, Exports, FuncType, FuncTypes, Globals, Imports,
+    Bodies, Body, Customs, DataSegs, ElementSegs, Exports, FuncType, FuncTypes, Globals, Imports,
     Indices, LimitsList,
 };
 use std::marker::Model;
@@ -47,6 +48,19 @@ impl ModuleParts {
             return self.imports.get(function).map(|import| import.ftype);
         }
         self.functions.get(function - imported).copied()
+    }
+
+    /// The body of a function, where the module defines it (Core 2.5.1).
+    pub fn body_of(&self, function: u32) -> Option<&Body>
+        ensures { option_copied result ≡ body_of self.now function }
+    {
+        let imported = self.imports.len();
+        let f = function as usize;
+        if f < imported {
+            None
+        } else {
+            self.bodies.get(f - imported)
+        }
     }
 }
 

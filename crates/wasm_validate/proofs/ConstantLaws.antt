@@ -9,7 +9,8 @@ use Rattle.wasm_syntax.specs.declared.parts.Global.{Global}
 use Rattle.wasm_syntax.specs.declared.parts.Body.{Body}
 use Rattle.wasm_syntax.specs.Typing.{only_if}
 use Rattle.wasm_syntax.specs.Valid.{ConstBody, ConstTypes}
-use Rattle.wasm_validate.specs.inner.Places.{Decides, is_end, one_instr}
+use Rattle.wasm_validate.specs.calls.Deciding.{Decides}
+use Rattle.wasm_validate.specs.inner.Places.{is_end, one_instr}
 use Rattle.pm_text.proofs.Lists.{some_is}
 
 is_end_is : (i : Instr) → is_end i ≡ true → i ≡ instr.End

@@ -9,23 +9,24 @@ use Rattle.wasm_syntax.specs.declared.blocks.BlockKind.{BlockKind}
 use Rattle.wasm_syntax.specs.declared.blocks.BlockKind.TheVariants.{Loop, Then}
 use Rattle.wasm_syntax.specs.declared.blocks.BlockKind.TheVariants as kinds
 use Rattle.wasm_syntax.specs.declared.instruction.Basic.{Basic}
-use Rattle.wasm_syntax.specs.declared.instruction.Basic.TheVariants.{Nop, Drop, Select, LocalGet, LocalSet, LocalTee, GlobalGet, GlobalSet, Load, Store, MemorySize, MemoryGrow, MemoryCopy, MemoryFill, Const, Eqz, Unary, Compare, Binary, Convert, Extend32, Extend64}
 use Rattle.wasm_syntax.specs.declared.parts.FuncType.{FuncType}
 use Rattle.wasm_syntax.specs.declared.parts.Limits.{Limits}
 use Rattle.wasm_syntax.specs.declared.module.ModuleParts.{ModuleParts as Module}
 use Rattle.wasm_syntax.specs.Numbers.{same_type}
 use Rattle.wasm_syntax.specs.Module.{type_at, function_types, option_then}
 use Rattle.wasm_syntax.specs.Tree.{Jump, Unreachable, Br, BrIf, BrTable, Return, Call, CallIndirect, Item, Plain, Goes, Opens, OpensLoop, OpensIf, Else, End}
-use Rattle.wasm_syntax.specs.Typing.{Context, Arrow, ◌⇒◌, arrow, call_arrow, set_global}
+use Rattle.wasm_syntax.specs.Typing.{Context, Arrow, ◌⇒◌, arrow, call_arrow}
 use Rattle.validate_body.specs.calls.Frames.{Known, Frame, opening, set_known, pop_type, pop_any, pop, push, pops, pushes, forget, label, emptied, operands, any_free}
 use Rattle.validate_body.specs.calls.Algorithm.{apply, drop_any, both, select_known, select, step_basic, step_jump, step, targets_fit, closed, at_else, may_end, at_end}
 use Rattle.validate_body.proofs.Options.{none_is, map_inv, if_inv}
 use Rattle.validate_body.proofs.Jumps.{any_sound_inv, drop_inv}
 use Rattle.validate_body.proofs.Same.{emptied_inv, else_inv}
 use Rattle.std.proofs.lemmas.Bool.{or_parts}
-use Rattle.wasm_laws.proofs.Validity.{then_found}
 use Rattle.validate_body.proofs.Flags.{true_false}
 use Rattle.pm_text.proofs.Lists.{some_is}
+use Rattle.wasm_syntax.proofs.Types.{then_found}
+use Rattle.wasm_syntax.proofs.Classes.{gives_one}
+use Rattle.validate_body.proofs.Arrows.{Steps, drops, selects, by_arrow, steps_of}
 
 -- the operands under the outermost dead sequence, the topmost first; in live code those of all frames
 abbrev pub base : List Frame → Known
@@ -154,38 +155,6 @@ apply_grows fs fs' a le e =
 
 -- ---- basic instructions
 
-gives_none : (takes : List ValType) (a : Arrow) → (takes ⇒ []) ≡ a → length a.gives ≤ 1
-gives_none takes a e = subst (λ z. length z.gives ≤ 1) e (omega arith)
-
-gives_single : (takes : List ValType) (t : ValType) (a : Arrow) → (takes ⇒ t ∷ []) ≡ a → length a.gives ≤ 1
-gives_single takes t a e = subst (λ z. length z.gives ≤ 1) e (omega arith)
-
-gives_one : (c : Context) (i : Basic) (t : ValType) (a : Arrow) → arrow c t i ≡ Some a → length a.gives ≤ 1
-gives_one c Nop t a e = gives_none _ a (some_is e)
-gives_one c Drop t a e = gives_none _ a (some_is e)
-gives_one c Select t a e = gives_single _ _ a (some_is e)
-gives_one c (LocalGet x) t a e = gives_single _ _ a (map_inv _ (slice_get c.locals x) a e).2
-gives_one c (LocalSet x) t a e = gives_none _ a (map_inv _ (slice_get c.locals x) a e).2
-gives_one c (LocalTee x) t a e = gives_single _ _ a (map_inv _ (slice_get c.locals x) a e).2
-gives_one c (GlobalGet x) t a e = gives_single _ _ a (map_inv _ (slice_get c.module_.globals x) a e).2
-gives_one c (GlobalSet x) t a e =
-    let u = then_found (slice_get c.module_.globals x) set_global a e in
-    gives_none _ a (some_is (if_inv u.0.mutable (Some (u.0.vtype ∷ [] ⇒ [])) a u.2).1)
-gives_one c (Load l al o) t a e = gives_single _ _ a (some_is (if_inv _ _ a (any_sound_inv c.module_.memories _ a e).1).1)
-gives_one c (Store s al o) t a e = gives_none _ a (some_is (if_inv _ _ a (any_sound_inv c.module_.memories _ a e).1).1)
-gives_one c MemorySize t a e = gives_single _ _ a (some_is (any_sound_inv c.module_.memories _ a e).1)
-gives_one c MemoryGrow t a e = gives_single _ _ a (some_is (any_sound_inv c.module_.memories _ a e).1)
-gives_one c MemoryCopy t a e = gives_none _ a (some_is (any_sound_inv c.module_.memories _ a e).1)
-gives_one c MemoryFill t a e = gives_none _ a (some_is (any_sound_inv c.module_.memories _ a e).1)
-gives_one c (Const v) t a e = gives_single _ _ a (some_is e)
-gives_one c (Eqz u) t a e = gives_single _ _ a (some_is e)
-gives_one c (Unary u op) t a e = gives_single _ _ a (some_is e)
-gives_one c (Compare u op) t a e = gives_single _ _ a (some_is e)
-gives_one c (Binary u op) t a e = gives_single _ _ a (some_is e)
-gives_one c (Convert k) t a e = gives_single _ _ a (some_is e)
-gives_one c (Extend32 k) t a e = gives_single _ _ a (some_is e)
-gives_one c (Extend64 k) t a e = gives_single _ _ a (some_is e)
-
 drop_grows : (fs fs' : List Frame) → drop_any fs ≡ Some fs' → Grows fs fs'
 drop_grows [] fs' e = absurd (none_is e)
 drop_grows (f ∷ fs) fs' e =
@@ -224,31 +193,15 @@ select_grows (f ∷ fs) fs' e =
         subst (λ x. Grows (f ∷ fs) x) (ap (set_known f fs) h.are ∙ q) p
 
 arrow_grows : (c : Context) (i : Basic) (fs fs' : List Frame) → option_then (arrow c I32 i) (apply fs) ≡ Some fs' → Grows fs fs'
-arrow_grows c i fs fs' e = let a = then_found (arrow c I32 i) (apply fs) fs' e in apply_grows fs fs' a.0 (gives_one c i I32 a.0 a.1) a.2
+arrow_grows c i fs fs' e = let a = then_found (arrow c I32 i) (apply fs) fs' e in apply_grows fs fs' a.0 (gives_one c I32 i a.0 a.1) a.2
+
+grows_as : (c : Context) (fs fs' : List Frame) (i : Basic) → Steps i → step_basic c fs i ≡ Some fs' → Grows fs fs'
+grows_as c fs fs' i drops e = drop_grows fs fs' e
+grows_as c fs fs' i selects e = select_grows fs fs' e
+grows_as c fs fs' i (by_arrow one goes) e = arrow_grows c i fs fs' (sym (goes c fs) ∙ e)
 
 basic_grows : (c : Context) (fs fs' : List Frame) (i : Basic) → step_basic c fs i ≡ Some fs' → Grows fs fs'
-basic_grows c fs fs' Drop e = drop_grows fs fs' e
-basic_grows c fs fs' Select e = select_grows fs fs' e
-basic_grows c fs fs' Nop e = arrow_grows c Nop fs fs' e
-basic_grows c fs fs' (LocalGet x) e = arrow_grows c (LocalGet x) fs fs' e
-basic_grows c fs fs' (LocalSet x) e = arrow_grows c (LocalSet x) fs fs' e
-basic_grows c fs fs' (LocalTee x) e = arrow_grows c (LocalTee x) fs fs' e
-basic_grows c fs fs' (GlobalGet x) e = arrow_grows c (GlobalGet x) fs fs' e
-basic_grows c fs fs' (GlobalSet x) e = arrow_grows c (GlobalSet x) fs fs' e
-basic_grows c fs fs' (Load l a o) e = arrow_grows c (Load l a o) fs fs' e
-basic_grows c fs fs' (Store s a o) e = arrow_grows c (Store s a o) fs fs' e
-basic_grows c fs fs' MemorySize e = arrow_grows c MemorySize fs fs' e
-basic_grows c fs fs' MemoryGrow e = arrow_grows c MemoryGrow fs fs' e
-basic_grows c fs fs' MemoryCopy e = arrow_grows c MemoryCopy fs fs' e
-basic_grows c fs fs' MemoryFill e = arrow_grows c MemoryFill fs fs' e
-basic_grows c fs fs' (Const v) e = arrow_grows c (Const v) fs fs' e
-basic_grows c fs fs' (Eqz t) e = arrow_grows c (Eqz t) fs fs' e
-basic_grows c fs fs' (Unary t op) e = arrow_grows c (Unary t op) fs fs' e
-basic_grows c fs fs' (Compare t op) e = arrow_grows c (Compare t op) fs fs' e
-basic_grows c fs fs' (Binary t op) e = arrow_grows c (Binary t op) fs fs' e
-basic_grows c fs fs' (Convert k) e = arrow_grows c (Convert k) fs fs' e
-basic_grows c fs fs' (Extend32 k) e = arrow_grows c (Extend32 k) fs fs' e
-basic_grows c fs fs' (Extend64 k) e = arrow_grows c (Extend64 k) fs fs' e
+basic_grows c fs fs' i e = grows_as c fs fs' i (steps_of i) e
 
 -- ---- jumps
 

@@ -20,8 +20,8 @@ use Rattle.wasm_validate.specs.calls.MarkedHeights.{height_or_zero, heights_of, 
 use Rattle.wasm_validate.specs.calls.Whole.{MarkedAt, MarkedUpTo}
 use Rattle.wasm_validate.proofs.Order.{index_back}
 use Rattle.wasm_validate.proofs.WholeLaws.{body_at}
-use Rattle.wasm_laws.proofs.Validity.{then_found}
 use Rattle.pm_text.proofs.Lists.{some_is}
+use Rattle.wasm_syntax.proofs.Types.{then_found}
 
 -- ---- one function
 

@@ -7,15 +7,14 @@ use Rattle.wasm_syntax.specs.declared.instruction.Op.{Op}
 use Rattle.wasm_syntax.specs.declared.parts.Body.{Body}
 use Rattle.wasm_syntax.specs.declared.module.ModuleParts.{ModuleParts as Module}
 use Rattle.wasm_syntax.specs.Module.{Ascend, InOrder, IsModule}
-use Rattle.wasm_syntax.specs.Valid.{defined_index}
+use Rattle.wasm_syntax.specs.Valid.{defined_index, body_of}
 use Rattle.wasm_laws.proofs.Lists.{at_of, get_within}
 use Rattle.validate_body.proofs.Options.{none_is}
-use Rattle.wasm_validate.specs.Heights.{body_of}
 use Rattle.wasm_validate.specs.calls.Instructions.{OpIs}
 use Rattle.wasm_syntax.specs.Sizes.{WithinLimits, ShortBody}
 use Rattle.wasm_validate.specs.inner.Offsets.{SplitsAt, IsNodeAt}
-use Rattle.wasm_laws.proofs.Validity.{then_found}
 use Rattle.pm_text.proofs.Lists.{some_is}
+use Rattle.wasm_syntax.proofs.Types.{then_found}
 
 pub least_at : (least : ℕ) (ops : List Op) (k : ℕ) (b : Op) → Ascend least ops → slice_get ops k ≡ Some b → least ≤ b.at
 least_at least [] k b a e = none_is e

@@ -22,9 +22,9 @@ use Rattle.wasm_validate.specs.declared.validated.ValidateFault.{ValidateFault}
 use Rattle.wasm_validate.specs.declared.validated.ValidateFault.TheVariants.{Invalid, Limit, NoMemory}
 use Rattle.wasm_validate.specs.Heights.{AllLow, FirstHigh, StandsIn}
 use Rattle.wasm_validate.specs.calls.Answers.{Answered}
-use Rattle.wasm_laws.proofs.Validity.{then_found}
 use Rattle.wasm_validate.proofs.HeightLaws.{below_or}
 use Rattle.pm_text.proofs.Lists.{some_is}
+use Rattle.wasm_syntax.proofs.Types.{then_found}
 
 -- ---- the first wrong instruction
 

@@ -30,8 +30,8 @@ use Rattle.wasm_validate.specs.calls.Whole.{MarkedUpTo}
 use Rattle.wasm_validate.proofs.HeightLaws.{at_of, mark_at, height_of_mark, height_option, below_or}
 use Rattle.wasm_validate.proofs.RowLaws.{in_more}
 use Rattle.wasm_validate.proofs.Growth.{base, Below, tail_of, OneResult, base_live, Grows, step_grows}
-use Rattle.wasm_laws.proofs.Validity.{then_found}
 use Rattle.pm_text.proofs.Lists.{some_is}
+use Rattle.wasm_syntax.proofs.Types.{then_found}
 
 -- the last instruction with a height has this topmost type
 abbrev pub Found : List (Option Mark) → ℕ → ℕ → Option ValType → Type 0

@@ -27,9 +27,9 @@ use Rattle.wasm_syntax.specs.Sizes.{WithinLimits, local_count}
 use Rattle.wasm_validate.specs.inner.Places.{UpTo}
 use Rattle.wasm_validate.specs.calls.Whole.{BodiesUpTo, BodyJudged, MarkedAt, MarkedUpTo}
 use Rattle.wasm_validate.proofs.Order.{there_is, there_from, index_back}
-use Rattle.wasm_laws.proofs.Validity.{then_found}
 use Rattle.pm_text.proofs.Lists.{some_is, get_behind}
 use Rattle.wasm_syntax.proofs.Bodies.{index_of, declared_length}
+use Rattle.wasm_syntax.proofs.Types.{then_found}
 
 -- ---- the type of a defined function
 

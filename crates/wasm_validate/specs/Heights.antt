@@ -1,18 +1,14 @@
 -- The operand types and heights before the instructions of a module's functions.
-use Rattle.std.specs.Prelude.{◌≡◌, ℕ, ◌<◌, ◌≤◌, List, length, slice_get, Option, Some, None}
+use Rattle.std.specs.Prelude.{◌≡◌, ℕ, ◌<◌, ◌≤◌, List, length, Option, Some, None}
 use Rattle.wasm_syntax.specs.declared.value.ValType.{ValType}
 use Rattle.wasm_syntax.specs.declared.quantity.Quantity.TheVariants as quantities
 use Rattle.wasm_syntax.specs.declared.module.ModuleParts.{ModuleParts as Module}
 use Rattle.wasm_syntax.specs.declared.parts.FuncType.{FuncType}
 use Rattle.wasm_syntax.specs.declared.parts.Body.{Body}
 use Rattle.wasm_syntax.specs.Quantity.{greatest}
-use Rattle.wasm_syntax.specs.Module.{type_at, option_then}
+use Rattle.wasm_syntax.specs.Module.{type_at}
 use Rattle.wasm_syntax.specs.FlatTyping.{TypesBefore}
-use Rattle.wasm_syntax.specs.Valid.{defined_index}
-
--- the body of a function that the module defines
-abbrev pub body_of : Module → ℕ → Option Body
-body_of m f = option_then (defined_index m f) (slice_get m.bodies)
+use Rattle.wasm_syntax.specs.Valid.{body_of}
 
 -- the operand types before an instruction of a function, bottom first, where its code is live; `else` and `end` count
 abbrev pub TypesAt : Module → ℕ → ℕ → List ValType → Type 0

@@ -10,7 +10,7 @@ ghost use Rattle.wasm_validate.specs.declared.bodies.BodiesFault.TheVariants as 
 use causes::NoMemory;
 use pm_text::Items;
 use std::alloc::Global;
-use validate_body::{BodyFault, Marks, check_body, type_of};
+use validate_body::{BodyFault, Marks, check_body};
 use wasm_syntax::{Body, ModuleParts, Place};
 
 /// Why a module is refused: at a place, or for want of memory.
@@ -45,7 +45,7 @@ fn check_at(alloc: Global, m: &ModuleParts, i: usize) -> Result<Marks, BodyFault
     ensures { BodyJudged result m.now i }
 {
     let body = body_at(m, i);
-    match type_of(m, m.imports.len() + i) {
+    match m.type_of(m.imports.len() + i) {
         Some(t) => check_body(alloc, m, t, body),
         None => unreachable!(),
     }

@@ -2,9 +2,9 @@
 
 ghost use Rattle.std.specs.Prelude.{◌≡◌, true, false};
 ghost use Rattle.wasm_syntax.specs.Valid.{ConstBody, ConstTypes};
-ghost use Rattle.wasm_validate.specs.inner.Places.{Decides, is_end as is_last, one_instr};
+ghost use Rattle.wasm_validate.specs.calls.Deciding.{Decides};
+ghost use Rattle.wasm_validate.specs.inner.Places.{is_end as is_last, one_instr};
 
-use validate_body::type_of_value;
 use wasm_syntax::{Basic, Body, Global, Instr, Op, ValType};
 
 fn is_end(code: Instr) -> bool
@@ -39,7 +39,7 @@ fn is_const_instr(globals: &[Global], code: Instr, t: ValType) -> bool
     ensures { Decides result (ConstTypes globals.now code t) }
 {
     match code {
-        Instr::Basic(Basic::Const(v)) => type_of_value(v) == t,
+        Instr::Basic(Basic::Const(v)) => v.type_of() == t,
         Instr::Basic(Basic::GlobalGet(x)) => match globals.get(x as usize) {
             Some(g) => !g.mutable && g.vtype == t,
             None => false,

@@ -2,7 +2,8 @@
 
 ghost use Rattle.std.specs.Prelude.{◌<◌, ◌+◌, ◌^◌, ℕ, length};
 ghost use Rattle.wasm_syntax.specs.declared.module.ModuleParts.{ModuleParts as Parts};
-ghost use Rattle.wasm_validate.specs.inner.Places.{Decides, FirstBad};
+ghost use Rattle.wasm_validate.specs.calls.Deciding.{Decides};
+ghost use Rattle.wasm_validate.specs.inner.Places.{FirstBad};
 
 use pm_text::Items;
 use wasm_syntax::ModuleParts;

@@ -1,7 +1,8 @@
 //! The greatest heights of operands.
 
 ghost use Rattle.std.specs.Prelude.{◌≡◌, ◌<◌, ◌≤◌, ◌⊎◌, map, length, slice_get, IfOk, Some, None};
-ghost use Rattle.wasm_validate.specs.calls.MarkedHeights.{height_or_zero, heights_of, IsGreatest, FirstHighMarks, LowMarks};
+ghost use Rattle.wasm_validate.specs.calls.MarkedHeights.{height_or_zero, heights_of, IsGreatest, FirstHighMarks};
+ghost use Rattle.wasm_validate.specs.calls.MarkedHeights.{LowMarks};
 
 use causes::NoMemory;
 use pm_text::Items;

@@ -1,22 +1,12 @@
 //! Instructions by their offsets.
 
-ghost use Rattle.std.specs.Prelude.{◌≡◌, ◌<◌, length, slice_get, Some};
-ghost use Rattle.std.specs.Option.{option_copied};
+ghost use Rattle.std.specs.Prelude.{◌≡◌};
 ghost use Rattle.wasm_syntax.specs.Module.{IsModule};
-ghost use Rattle.wasm_validate.specs.Heights.{body_of as body_there};
 ghost use Rattle.wasm_validate.specs.calls.Instructions.{is_node as is_node_there, OpIs};
 ghost use Rattle.wasm_syntax.specs.Sizes.{WithinLimits};
 ghost use Rattle.wasm_validate.specs.inner.Offsets.{SplitsAt, IsNodeAt};
 
-use wasm_syntax::{Body, Instr, ModuleParts, Op};
-
-/// An instruction of a body.
-fn op_in(ops: &[Op], n: usize) -> Op
-    requires { n < length ops.now }
-    ensures { slice_get ops.now n ≡ Some result }
-{
-    ops[n]
-}
+use wasm_syntax::{Instr, ModuleParts, Op, read_op};
 
 /// The first instruction at an offset or behind it.
 fn first_from(ops: &[Op], at: u32) -> usize
@@ -26,26 +16,13 @@ fn first_from(ops: &[Op], at: u32) -> usize
     let mut high = ops.len();
     while low < high {
         let middle = low + (high - low) / 2;
-        if op_in(ops, middle).at < at {
+        if read_op(ops, middle).at < at {
             low = middle + 1;
         } else {
             high = middle;
         }
     }
     low
-}
-
-/// The body of a function that the module defines.
-fn body_of(m: &ModuleParts, func: u32) -> Option<&Body>
-    ensures { option_copied result ≡ body_there m.now func }
-{
-    let imported = m.imports.len();
-    let f = func as usize;
-    if f < imported {
-        None
-    } else {
-        m.bodies.get(f - imported)
-    }
 }
 
 /// Whether an instruction is none of `else` and `end`.
@@ -79,7 +56,7 @@ pub fn op_at(m: &ModuleParts, func: u32, at: u32) -> Option<u32>
     requires limits { WithinLimits m.now }
     ensures { OpIs result m.now func at }
 {
-    match body_of(m, func) {
+    match m.body_of(func) {
         Some(body) => {
             let ops = body.ops.as_slice();
             let n = first_from(ops, at);

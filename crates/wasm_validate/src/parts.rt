@@ -1,14 +1,15 @@
 //! The parts of a module that are judged by themselves.
 
 ghost use Rattle.std.specs.Prelude.{◌≡◌, ◌<◌, ◌≤◌, ◌^◌, ◌+◌, ℕ, length, slice_get, None, Some};
-ghost use Rattle.wasm_syntax.specs.Valid.{AtIndex, FuncTypeFine, ImportFine, DeclarationFine, LimitsFine, GlobalFine, ElementFine, DataFine, StartFine};
+ghost use Rattle.wasm_syntax.specs.Valid.{AtIndex, FuncTypeFine, ImportFine, DeclarationFine, LimitsFine, GlobalFine};
+ghost use Rattle.wasm_syntax.specs.Valid.{ElementFine, DataFine, StartFine};
 ghost use Rattle.wasm_syntax.specs.Module.{function_types};
-ghost use Rattle.wasm_validate.specs.inner.Places.{Decides, FirstBad, OneFine};
+ghost use Rattle.wasm_validate.specs.calls.Deciding.{Decides};
+ghost use Rattle.wasm_validate.specs.inner.Places.{FirstBad, OneFine};
 
 use crate::expressions::is_const_body;
 use crate::first::Part;
 use pm_text::Items;
-use validate_body::type_of;
 use wasm_syntax::{DataSeg, ElementSeg, FuncType, Global, Import, Limits, ModuleParts, ValType};
 
 impl Part for FuncType {
@@ -137,7 +138,7 @@ pub fn first_bad_limits(list: &Items<Limits>, most: u64) -> Option<u32>
 pub fn is_start_fine(m: &ModuleParts, f: u32) -> bool
     ensures { Decides result (StartFine m.now f) }
 {
-    match type_of(m, f as usize) {
+    match m.type_of(f as usize) {
         Some(t) => t.params.is_empty() && t.results.is_empty(),
         None => false,
     }

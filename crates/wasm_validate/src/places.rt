@@ -3,7 +3,8 @@
 ghost use Rattle.std.specs.Prelude.{◌≡◌, ◌<◌, ◌+◌, ◌^◌, length, IfOk, None, IfSome};
 ghost use Rattle.wasm_syntax.specs.Valid.{StartFine};
 ghost use Rattle.wasm_syntax.specs.Sizes.{ShortLists};
-ghost use Rattle.wasm_validate.specs.inner.Places.{Decides, SoFar, UpTo};
+ghost use Rattle.wasm_validate.specs.calls.Deciding.{Decides};
+ghost use Rattle.wasm_validate.specs.inner.Places.{SoFar, UpTo};
 
 use crate::exports::bad_export;
 use crate::first::first_bad;

@@ -1,6 +1,7 @@
 //! The instructions of a function by their operand heights.
 
-ghost use Rattle.std.specs.Prelude.{◌≡◌, ◌<◌, ◌+◌, ◌^◌, ℕ, List, [], ◌∷◌, ◌++◌, length, slice_get, slice_set, IfOk, OnOk, Some};
+ghost use Rattle.std.specs.Prelude.{◌≡◌, ◌<◌, ◌+◌, ◌^◌, ℕ, List, [], ◌∷◌, ◌++◌, length, slice_get, slice_set, IfOk};
+ghost use Rattle.std.specs.Prelude.{OnOk, Some};
 ghost use Rattle.validate_body.specs.declared.marks.Mark.{Mark as MarkThere};
 ghost use Rattle.wasm_validate.specs.calls.Operands.{Ascends, UpTo, AreRows, LastOf, FewMarks, RowsUpTo};
 

@@ -6,7 +6,7 @@ use Rattle.wasm_syntax.specs.declared.blocks.BlockKind.TheVariants as kinds
 use Rattle.wasm_syntax.specs.declared.value.ValType.{ValType}
 use Rattle.wasm_syntax.specs.declared.value.ValType.TheVariants.{I32}
 use Rattle.wasm_syntax.specs.declared.instruction.Basic.{Basic}
-use Rattle.wasm_syntax.specs.declared.instruction.Basic.TheVariants.{Nop, Drop, Select, LocalGet, LocalSet, LocalTee, GlobalGet, GlobalSet, Load, Store, MemorySize, MemoryGrow, MemoryCopy, MemoryFill, Const, Eqz, Unary, Compare, Binary, Convert, Extend32, Extend64}
+use Rattle.wasm_syntax.specs.declared.instruction.Basic.TheVariants.{Drop, Select}
 use Rattle.wasm_syntax.specs.Numbers.{same_type}
 use Rattle.wasm_syntax.specs.Tree.{Jump, Unreachable, Br, BrIf, BrTable, Return, Call, CallIndirect, Item, Plain, Goes, Opens, OpensLoop, OpensIf, Else, End, Placed}
 use Rattle.wasm_syntax.specs.Module.{type_at, option_then}
@@ -42,26 +42,7 @@ select (f ∷ fs) = option_map (set_known f fs) (select_known f.free f.known)
 abbrev pub step_basic : Context → List Frame → Basic → Option (List Frame)
 step_basic c fs Drop = drop_any fs
 step_basic c fs Select = select fs
-step_basic c fs Nop = option_then (arrow c I32 Nop) (apply fs)
-step_basic c fs (LocalGet x) = option_then (arrow c I32 (LocalGet x)) (apply fs)
-step_basic c fs (LocalSet x) = option_then (arrow c I32 (LocalSet x)) (apply fs)
-step_basic c fs (LocalTee x) = option_then (arrow c I32 (LocalTee x)) (apply fs)
-step_basic c fs (GlobalGet x) = option_then (arrow c I32 (GlobalGet x)) (apply fs)
-step_basic c fs (GlobalSet x) = option_then (arrow c I32 (GlobalSet x)) (apply fs)
-step_basic c fs (Load l a o) = option_then (arrow c I32 (Load l a o)) (apply fs)
-step_basic c fs (Store s a o) = option_then (arrow c I32 (Store s a o)) (apply fs)
-step_basic c fs MemorySize = option_then (arrow c I32 MemorySize) (apply fs)
-step_basic c fs MemoryGrow = option_then (arrow c I32 MemoryGrow) (apply fs)
-step_basic c fs MemoryCopy = option_then (arrow c I32 MemoryCopy) (apply fs)
-step_basic c fs MemoryFill = option_then (arrow c I32 MemoryFill) (apply fs)
-step_basic c fs (Const v) = option_then (arrow c I32 (Const v)) (apply fs)
-step_basic c fs (Eqz t) = option_then (arrow c I32 (Eqz t)) (apply fs)
-step_basic c fs (Unary t op) = option_then (arrow c I32 (Unary t op)) (apply fs)
-step_basic c fs (Compare t op) = option_then (arrow c I32 (Compare t op)) (apply fs)
-step_basic c fs (Binary t op) = option_then (arrow c I32 (Binary t op)) (apply fs)
-step_basic c fs (Convert k) = option_then (arrow c I32 (Convert k)) (apply fs)
-step_basic c fs (Extend32 k) = option_then (arrow c I32 (Extend32 k)) (apply fs)
-step_basic c fs (Extend64 k) = option_then (arrow c I32 (Extend64 k)) (apply fs)
+step_basic c fs i = option_then (arrow c I32 i) (apply fs)
 
 -- ---- jumps
 

@@ -5,7 +5,8 @@ use Rattle.wasm_syntax.specs.declared.instruction.Instr.TheVariants as instr
 use Rattle.wasm_syntax.specs.declared.instruction.Op.{Op}
 use Rattle.wasm_syntax.specs.declared.module.ModuleParts.{ModuleParts as Module}
 use Rattle.wasm_syntax.specs.declared.parts.Body.{Body}
-use Rattle.wasm_validate.specs.Heights.{body_of, HeightIs}
+use Rattle.wasm_syntax.specs.Valid.{body_of}
+use Rattle.wasm_validate.specs.Heights.{HeightIs}
 
 -- the height of each instruction of each function that the module defines, or 0 in dead code
 pub record HeightsAre (heights : List (List ℕ)) (m : Module) : Type 0 where

@@ -8,7 +8,8 @@ use Rattle.wasm_syntax.specs.declared.parts.Body.{Body}
 use Rattle.wasm_syntax.specs.Module.{type_at}
 use Rattle.wasm_syntax.specs.Static.{Static}
 use Rattle.validate_body.specs.declared.marks.Mark.{Mark}
-use Rattle.wasm_validate.specs.Heights.{TypesAt, body_of}
+use Rattle.wasm_syntax.specs.Valid.{body_of}
+use Rattle.wasm_validate.specs.Heights.{TypesAt}
 
 -- more than n operands stand before an instruction
 abbrev pub HasOperand : Module → ℕ → ℕ → ℕ → Type 0

@@ -9,11 +9,6 @@ use Rattle.wasm_syntax.specs.declared.place.Place.{Place}
 use Rattle.wasm_syntax.specs.Typing.{only_if}
 use Rattle.wasm_syntax.specs.Valid.{AtIndex, LimitsFine, Fine, FirstInvalid, kind_number, index_number}
 
--- a test says whether a fact holds
-abbrev pub Decides : Bool → Type 0 → Type 0
-Decides true P = P
-Decides false P = P → ⊥
-
 abbrev pub FineUpTo : {A : Type 0} → List A → (ℕ → A → Type 0) → ℕ → Type 0
 FineUpTo xs P i = (j : ℕ) (x : _) → j < i → slice_get xs j ≡ Some x → P j x
 

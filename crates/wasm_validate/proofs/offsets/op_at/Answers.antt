@@ -1,7 +1,7 @@
 use Rattle.std.proofs.Common.{◌≡◌, ◌<◌, ◌^◌, sym, ap, subst, ◌∙◌, arith}
 use Rattle.std.specs.Prelude.{Some}
 use Rattle.std.specs.Option.{option_copied}
-use Rattle.wasm_validate.specs.Heights.{body_of}
+use Rattle.wasm_syntax.specs.Valid.{body_of}
 use Rattle.wasm_validate.specs.inner.Offsets.{SplitsAt, IsNodeAt}
 use Rattle.wasm_validate.proofs.OffsetLaws.{not_there, few_ops}
 use Rattle.wasm_validate.proofs.offsets.op_at.Goals as goal

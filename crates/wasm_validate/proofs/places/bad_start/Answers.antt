@@ -1,7 +1,7 @@
 use Rattle.std.proofs.Common.{subst}
 use Rattle.std.specs.Prelude.{IfSome}
 use Rattle.wasm_syntax.specs.Valid.{StartFine}
-use Rattle.wasm_validate.specs.inner.Places.{Decides}
+use Rattle.wasm_validate.specs.calls.Deciding.{Decides}
 use Rattle.wasm_validate.proofs.Order.{start_fine, start_bad}
 use Rattle.wasm_validate.proofs.places.bad_start.Goals as goal
 
