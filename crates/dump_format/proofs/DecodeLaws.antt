@@ -11,7 +11,8 @@ use Rattle.dump_format.specs.Sections.{parts_item}
 use Rattle.dump_format.specs.inner.Gathering.{found_or, repeated_in, refusal_in, dump_in, judged_in, gathered_item, dump_gathered}
 use Rattle.dump_format.specs.Decode.{dump_from, judged_parts}
 use Rattle.dump_format.proofs.Summary.{found_or-found, is_found_again-found, summary}
-use Rattle.dump_format.proofs.Steps.{made, closed-made}
+use Rattle.dump_format.proofs.Steps.{closed-made}
+use Rattle.wasm_bytes.proofs.Vectors.{made}
 use Rattle.dump_format.proofs.SectionLaws.{memory_known, complete_made}
 
 two_repeated : {A : Type 0} (xs : List A) → nat_lt 1 (length xs) ≡ is_repeated xs

@@ -13,12 +13,14 @@ use Rattle.dump_format.specs.Parts.{Part, core, modules, instances, stack, memor
 use Rattle.dump_format.specs.Form.{module_item, instance_item, stack_item, limits_item, global_item, segment_item}
 use Rattle.dump_format.specs.Judged.{value_of, frame_of, float_in, frame_floats, memories_in, memory_of, last_id, first_of, names_in}
 use Rattle.dump_format.specs.Sections.{custom_behind, custom_item, contents_item, may_follow, section_behind, section_item, with_section, sections_item, has_core, parts_item}
-use Rattle.dump_format.specs.calls.Noting.{value_noting, noted_vector, stack_noting}
+use Rattle.dump_format.specs.calls.Noting.{value_noting, stack_noting}
 use Rattle.dump_format.specs.inner.Gathering.{added, name_step, module_names, segment_step, memory_segments, custom_gathering, contents_gathering, section_step, nothing_gathered, is_found, has_name, all_gathered, gathered_item, first_memory, with_stack, with_globals}
 use Rattle.dump_format.proofs.Summary.{found, found_or-found, summary, taken, summary-more}
-use Rattle.dump_format.proofs.Steps.{made, bind-made, until_end-made, vector-steps, within-made}
+use Rattle.dump_format.proofs.Steps.{until_end-made, within-made}
 use Rattle.dump_format.proofs.Values.{noted_by, stack-noted, globals-noted}
 use Rattle.wasm_bytes.proofs.Offsets.{bind-same}
+use Rattle.wasm_bytes.proofs.Vectors.{made, bind-made, made-made, vector-steps}
+use Rattle.wasm_bytes.specs.Notes.{noted_vector_item}
 use Rattle.wasm_bytes.specs.Tables.{header}
 
 -- ---- vectors
@@ -26,10 +28,6 @@ use Rattle.wasm_bytes.specs.Tables.{header}
 unmade : {A : Type 0} (read : Read A) → made (λ (x : A). x) read ≡ read
 unmade (Ok x) = refl
 unmade (Err at) = refl
-
-made-made : {A B C : Type 0} (f : A → B) (g : B → C) (read : Read A) → made g (made f read) ≡ made (λ x. g (f x)) read
-made-made f g (Ok x) = refl
-made-made f g (Err at) = refl
 
 abbrev names_so_far : List (List ℕ) → ModuleNames
 names_so_far names = record { names = names }
@@ -80,18 +78,18 @@ modules_arm ps p = rw (names_made p) (arm ps modules (λ x. record (summary ps) 
 instances_arm : (ps : List Part) (p : Place) → mapped (λ x. record (summary ps) { instances = added (summary ps).instances x }) (vector_item instance_item) p ≡ made (with_part ps) (mapped instances (vector_item instance_item) p)
 instances_arm ps p = arm ps instances (λ x. record (summary ps) { instances = added (summary ps).instances x }) (λ x. refl) (vector_item instance_item p)
 
-stack_arm : (ps : List Part) (p : Place) → mapped (with_stack (summary ps)) (stack_noting (summary ps).first) p ≡ made (with_part ps) (mapped stack stack_item p)
+stack_arm : (ps : List Part) (p : Place) → mapped (with_stack (summary ps)) stack_noting p ≡ made (with_part ps) (mapped stack stack_item p)
 stack_arm ps p =
-    rw (stack-noted (summary ps).first p, made-made (noted_by frame_of frame_floats (summary ps).first) (with_stack (summary ps)) (stack_item p))
-    (arm ps stack (λ x. with_stack (summary ps) (noted_by frame_of frame_floats (summary ps).first x)) (λ x. refl) (stack_item p))
+    rw (stack-noted p, made-made (noted_by frame_of frame_floats) (with_stack (summary ps)) (stack_item p))
+    (arm ps stack (λ x. with_stack (summary ps) (noted_by frame_of frame_floats x)) (λ x. refl) (stack_item p))
 
 memories_arm : (ps : List Part) (p : Place) → mapped (λ x. record (summary ps) { last = 5; memories = added (summary ps).memories x }) (vector_item limits_item) p ≡ made (with_part ps) (mapped memories (vector_item limits_item) p)
 memories_arm ps p = arm ps memories (λ x. record (summary ps) { last = 5; memories = added (summary ps).memories x }) (λ x. refl) (vector_item limits_item p)
 
-globals_arm : (ps : List Part) (p : Place) → mapped (with_globals (summary ps)) (noted_vector value_noting (summary ps).first) p ≡ made (with_part ps) (mapped globals (vector_item global_item) p)
+globals_arm : (ps : List Part) (p : Place) → mapped (with_globals (summary ps)) (noted_vector_item value_noting) p ≡ made (with_part ps) (mapped globals (vector_item global_item) p)
 globals_arm ps p =
-    rw (globals-noted (summary ps).first p, made-made (noted_by value_of float_in (summary ps).first) (with_globals (summary ps)) (vector_item global_item p))
-    (arm ps globals (λ x. with_globals (summary ps) (noted_by value_of float_in (summary ps).first x)) (λ x. refl) (vector_item global_item p))
+    rw (globals-noted p, made-made (noted_by value_of float_in) (with_globals (summary ps)) (vector_item global_item p))
+    (arm ps globals (λ x. with_globals (summary ps) (noted_by value_of float_in x)) (λ x. refl) (vector_item global_item p))
 
 segments_arm : (ps : List Part) (p : Place) → mapped (λ x. record (summary ps) { last = 11; segments = added (summary ps).segments x }) (memory_segments (first_memory (summary ps).memories)) p ≡ made (with_part ps) (mapped segments (vector_item (segment_item (memory_of ps))) p)
 segments_arm ps p =

@@ -1,33 +1,12 @@
 -- Reading into a state, where the state is a function of what was read.
-use Rattle.std.proofs.Common.{◌≡◌, ℕ, zero, suc, List, [], ◌∷◌, ◌++◌, length, Bool, true, false, Ok, Err, refl, ◌∙◌, append_assoc}
+use Rattle.std.proofs.Common.{◌≡◌, ℕ, zero, suc, length, Bool, true, false, Ok, Err, refl}
 use Rattle.std.specs.Prelude.{nat_lt, if◌then◌else◌}
-use Rattle.std.proofs.lemmas.List.{append-nil}
 use Rattle.wasm_bytes.specs.Place.{Place, Read}
-use Rattle.wasm_bytes.specs.Reading.{◌>>=◌, ◌▷◌, u32_item, vector_item, items_from, steps_from, steps_until_end, end_item, block_item, closed, within}
+use Rattle.wasm_bytes.specs.Reading.{◌>>=◌, steps_until_end, end_item, block_item, closed, within}
 use Rattle.wasm_bytes.proofs.Offsets.{bind-same}
-
--- the value made of what was read
-abbrev pub made : {A B : Type 0} → (A → B) → Read A → Read B
-made to read = read >>= λ x. Ok (to x.0, x.1)
-
--- a function of a read, at each of its cases
-pub made-bind : {A B C : Type 0} (to : A → B) (read : Read A) (f : B × Place → Read C) → (made to read >>= f) ≡ (read >>= λ x. f (to x.0, x.1))
-made-bind to (Ok x) f = refl
-made-bind to (Err at) f = refl
-
-pub bind-made : {A B C : Type 0} (to : B → C) (read : Read A) (f : A × Place → Read B) → made to (read >>= f) ≡ (read >>= λ x. made to (f x))
-bind-made to (Ok x) f = refl
-bind-made to (Err at) f = refl
+use Rattle.wasm_bytes.proofs.Vectors.{made, made-bind, bind-made}
 
 -- ---- steps
-
-pub steps-made : {S T : Type 0} (h : S → T) (f : S → Place → Read S) (g : T → Place → Read T) → ((s : S) (p : Place) → g (h s) p ≡ made h (f s p))
-    → (n : ℕ) (s : S) (p : Place) → steps_from g n (h s) p ≡ made h (steps_from f n s p)
-unfolding steps_from
-steps-made h f g step zero s p = refl
-steps-made h f g step (suc n) s p =
-    rw (step s p, made-bind h (f s p) (λ x. steps_from g n x.0 x.1), bind-made h (f s p) (λ x. steps_from f n x.0 x.1))
-    (bind-same (f s p) _ _ (λ x q. steps-made h f g step n x q))
 
 -- a test decides whether anything is read
 test_made : {S T : Type 0} (h : S → T) (b : Bool) (x : Read T) (y : Read S) (z : Read T) (w : Read S) → x ≡ made h y → z ≡ made h w → (if b then x else z) ≡ made h (if b then y else w)
@@ -42,28 +21,6 @@ until_end-made h f g step (suc n) s p =
     test_made h (nat_lt p.at (length p.block)) (g (h s) p >>= λ x. steps_until_end g n x.0 x.1) (f s p >>= λ x. steps_until_end f n x.0 x.1) (Ok (h s, p)) (Ok (s, p))
     (rw (step s p, made-bind h (f s p) (λ x. steps_until_end g n x.0 x.1), bind-made h (f s p) (λ x. steps_until_end f n x.0 x.1))
     (bind-same (f s p) _ _ (λ x q. until_end-made h f g step n x q))) refl
-
--- ---- vectors
-
-pub items-steps : {A S : Type 0} (to : List A → S) (item : Place → Read A) (step : S → Place → Read S)
-    → ((front : List A) (p : Place) → step (to front) p ≡ made (λ x. to (front ++ x ∷ [])) (item p))
-    → (n : ℕ) (front : List A) (p : Place) → steps_from step n (to front) p ≡ made (λ xs. to (front ++ xs)) (items_from item n p)
-unfolding steps_from items_from
-items-steps to item step one zero front p = rw (append-nil front) refl
-items-steps {A} to item step one (suc n) front p =
-    rw (one front p, made-bind (λ x. to (front ++ x ∷ [])) (item p) (λ x. steps_from step n x.0 x.1), bind-made (λ xs. to (front ++ xs)) (item p) (λ x. items_from item n x.1 >>= λ others. Ok (x.0 ∷ others.0, others.1)))
-    (bind-same (item p) _ _ (λ x q. items-steps to item step one n (front ++ x ∷ []) q ∙ behind x (items_from item n q)))
-  where
-    behind : (x : A) (read : Read (List A)) → made (λ xs. to ((front ++ x ∷ []) ++ xs)) read ≡ made (λ xs. to (front ++ xs)) (read >>= λ others. Ok (x ∷ others.0, others.1))
-    behind x (Ok xs) = rw (append_assoc front (x ∷ []) xs.0) refl
-    behind x (Err at) = refl
-
-pub vector-steps : {A S : Type 0} (to : List A → S) (item : Place → Read A) (step : S → Place → Read S)
-    → ((front : List A) (p : Place) → step (to front) p ≡ made (λ x. to (front ++ x ∷ [])) (item p))
-    → (p : Place) → (u32_item ▷ λ count. steps_from step count (to [])) p ≡ made to (vector_item item p)
-unfolding vector_item
-vector-steps to item step one p =
-    rw (bind-made to (u32_item p) (λ x. items_from item x.0 x.1)) (bind-same (u32_item p) _ _ (λ count q. items-steps to item step one count [] q))
 
 -- ---- blocks and inputs
 

@@ -3,7 +3,8 @@
 ghost use Rattle.std.specs.Prelude.{◌≡◌, [], length};
 ghost use Rattle.dump_format.specs.Judged.{over};
 ghost use Rattle.wasm_bytes.specs.Refusals.{unless_refused};
-ghost use Rattle.dump_format.specs.inner.Gathering.{nothing_gathered, first_memory, found_or, repeated_in, too_many_in, refusal_in, dump_in};
+ghost use Rattle.dump_format.specs.inner.Gathering.{nothing_gathered, first_memory, found_or, repeated_in, too_many_in};
+ghost use Rattle.dump_format.specs.inner.Gathering.{refusal_in, dump_in};
 
 use crate::dump::{Dump, Frames, Instances, Segments, Texts, Values};
 use crate::fault::{DumpFault, DumpPart};

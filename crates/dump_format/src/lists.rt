@@ -29,7 +29,7 @@ pub struct ModuleNames {
     pub names: Texts,
 }
 
-impl<'a> Gather<'a> for ModuleNames {
+impl<'a> Gather<Reader<'a>> for ModuleNames {
     ghost step = { name_step };
 
     #[tactic(auto, unfolding(crate::specs::inner::Gathering::name_step))]
@@ -53,15 +53,17 @@ pub fn module_names<'a>(alloc: Global, reader: &mut Reader<'a>) -> Result<Texts,
     Ok(list.names)
 }
 
-impl<'a> Item<'a> for Instance {
+impl<'a> Item<Reader<'a>> for Instance {
+    type Value = Instance;
+
     ghost item = { instance_item };
 
     #[tactic(auto, unfolding(crate::specs::Form::instance_item))]
     fn read(alloc: Global, reader: &mut Reader<'a>) -> Result<Instance, ItemFault> {
         reader.fixed(0x00)?;
         let module = reader.u32()?;
-        let memories = Items::read(alloc, reader)?;
-        let globals = Items::read(alloc, reader)?;
+        let memories = Items::<u32>::read(alloc, reader)?;
+        let globals = Items::<u32>::read(alloc, reader)?;
         Ok(Instance {
             module,
             memories,
@@ -93,7 +95,9 @@ impl Pages {
 }
 
 /// The least size of a memory; the greatest one is passed over (Core 5.3.4).
-impl<'a> Item<'a> for Pages {
+impl<'a> Item<Reader<'a>> for Pages {
+    type Value = Pages;
+
     ghost item = { limits_item };
 
     #[tactic(auto, unfolding(wasm_bytes::specs::Reading::choose, crate::specs::Form::limits_item))]
@@ -130,7 +134,7 @@ fn has_room(pages: u32, address: u32, len: usize) -> bool
     address <= size && len as u64 <= size - address
 }
 
-impl<'a> Gather<'a> for MemorySegments<'a> {
+impl<'a> Gather<Reader<'a>> for MemorySegments<'a> {
     ghost step = { segment_step };
 
     #[tactic(auto, unfolding(crate::specs::Form::segment_item, crate::specs::inner::Gathering::segment_step))]

@@ -3,17 +3,18 @@
 ghost use Rattle.std.specs.Prelude.{◌≡◌, OnOk};
 ghost use Rattle.wasm_bytes.specs.Place.{Moves, Stays};
 ghost use Rattle.wasm_bytes.specs.Reading.{whole};
-ghost use Rattle.wasm_bytes.specs.calls.Answers.{Gives, with_state};
+ghost use Rattle.wasm_bytes.specs.calls.Answers.{Gives, GivesWhole, with_state};
 ghost use Rattle.dump_format.specs.Sections.{may_follow};
 ghost use Rattle.wasm_bytes.specs.Tables.{header};
-ghost use Rattle.dump_format.specs.inner.Gathering.{custom_gathering, contents_gathering, section_step, gathered_item, GivesWhole};
+ghost use Rattle.dump_format.specs.inner.Gathering.{custom_gathering, contents_gathering, section_step, gathered_item};
 
+use crate::dump::Instance;
 use crate::gathered::Gathered;
-use crate::lists::{memory_segments, module_name, module_names};
-use crate::noted::{noted_vector, stack};
+use crate::lists::{Pages, memory_segments, module_name, module_names};
+use crate::noted::{GlobalValues, stack};
 use pm_text::Items;
 use std::alloc::Global;
-use wasm_bytes::{Gather, Item, ItemFault, Reader, gather_to_end};
+use wasm_bytes::{Gather, Item, ItemFault, Reader, gather_to_end, noted_vector};
 
 /// The magic and the version of a module (Core 5.5.15).
 const HEADER: [u8; 8] = [0x00, 0x61, 0x73, 0x6d, 0x01, 0x00, 0x00, 0x00];
@@ -44,12 +45,12 @@ impl<'a> Gathered<'a> {
             let names = module_names(alloc, reader)?;
             self.modules.add(names);
         } else if name == "coreinstances" {
-            let instances = Items::read(alloc, reader)?;
+            let instances = Items::<Instance>::read(alloc, reader)?;
             self.instances.add(instances);
         } else if name == "corestack" {
-            let noted = stack(alloc, self.first, reader)?;
-            self.frames.add(noted.items);
-            self.first = noted.first;
+            let noted = stack(alloc, reader)?;
+            self.frames.add(noted.value);
+            self.first = self.first.or(noted.float);
         } else {
             reader.rest();
         }
@@ -68,13 +69,13 @@ impl<'a> Gathered<'a> {
                 return self.custom(alloc, name, reader);
             }
             5 => {
-                let memories = Items::read(alloc, reader)?;
+                let memories = Items::<Pages>::read(alloc, reader)?;
                 self.memories.add(memories);
             }
             6 => {
-                let noted = noted_vector(alloc, self.first, reader)?;
-                self.globals.add(noted.items);
-                self.first = noted.first;
+                let noted = noted_vector::<_, GlobalValues>(alloc, reader)?;
+                self.globals.add(noted.value);
+                self.first = self.first.or(noted.float);
             }
             11 => {
                 let segments = memory_segments(alloc, self.memory(), reader)?;
@@ -89,7 +90,7 @@ impl<'a> Gathered<'a> {
     }
 }
 
-impl<'a> Gather<'a> for Gathered<'a> {
+impl<'a> Gather<Reader<'a>> for Gathered<'a> {
     ghost step = { section_step };
 
     #[tactic(auto, unfolding(wasm_bytes::specs::Reading::choose, crate::specs::inner::Gathering::section_step))]

@@ -11,6 +11,7 @@ use Rattle.wasm_syntax.specs.declared.value.Value.{Value}
 use Rattle.wasm_syntax.specs.declared.quantity.Quantity.{Quantity}
 use Rattle.wasm_syntax.specs.declared.quantity.Quantity.TheVariants.{DumpBytes, DumpPages, DumpFrames}
 use Rattle.wasm_syntax.specs.Quantity.{greatest}
+use Rattle.wasm_syntax.specs.Numbers.{IsValue}
 use Rattle.dump_format.specs.declared.dump.Dump.{Dump}
 use Rattle.dump_format.specs.declared.dump.Frame.{Frame}
 use Rattle.dump_format.specs.declared.dump.Instance.{Instance}
@@ -25,7 +26,7 @@ use Rattle.dump_format.specs.Sections.{has_core, parts_item}
 use Rattle.dump_format.specs.calls.Grammar.{section_entry, one_section, dump_file}
 use Rattle.dump_format.proofs.ExactSections.{parts_read}
 use Rattle.dump_write.specs.Canonical.{core_bytes, modules_bytes, instances_bytes, stack_bytes, memory_section, globals_section, data_section, sections_before_data, segments_of, instance_of, in_instance, canonical, canonical_bytes}
-use Rattle.dump_write.specs.calls.Typed.{IsValueTyped, IsFrameTyped}
+use Rattle.dump_write.specs.calls.Typed.{IsFrameTyped}
 use Rattle.dump_write.proofs.SpelledParts.{shown_frame, IsPlaced}
 use Rattle.dump_write.proofs.SpelledSections.{IsSmallInstance, core_spelled, modules_spelled, instances_spelled, stack_spelled, memory_spelled, globals_spelled, data_spelled, step_on, step_last}
 use Rattle.wasm_bytes.specs.Tables.{header}
@@ -78,7 +79,7 @@ unfolding memory_section last_id
 memory_once name i frames None at few short = refl
 memory_once name i frames (Some pages) at few short = memory_spelled (four name i frames) pages at refl (omega arith) short
 
-globals_once : (name : List ℕ) (i : Instance) (frames : List Frame) (memory : Option ℕ) (vs : List Value) (at : ℕ) → All IsValueTyped vs → length (globals_section vs) < 2 ^ 32 → IsSpelledOnce (four name i frames ++ memory_parts memory) (globals_parts vs) at (globals_section vs)
+globals_once : (name : List ℕ) (i : Instance) (frames : List Frame) (memory : Option ℕ) (vs : List Value) (at : ℕ) → All IsValue vs → length (globals_section vs) < 2 ^ 32 → IsSpelledOnce (four name i frames ++ memory_parts memory) (globals_parts vs) at (globals_section vs)
 unfolding globals_section last_id
 globals_once name i frames memory [] at typed short = refl
 globals_once name i frames None (v ∷ vs) at typed short = globals_spelled (four name i frames) v vs at refl typed short
@@ -98,7 +99,7 @@ pub record IsSpelt (name : List ℕ) (i : Instance) (frames : List Frame) (memor
   pub text : IsUtf8 name
   pub small : IsSmallInstance i
   pub frames_typed : All IsFrameTyped frames
-  pub values_typed : All IsValueTyped vs
+  pub values_typed : All IsValue vs
   pub few : pages_of memory ≤ 4096
   pub placed : ArePlaced memory rs
   pub core_short : length (core_bytes name) < 2 ^ 32

@@ -22,8 +22,9 @@ use Rattle.dump_format.specs.Form.{is_inside}
 use Rattle.dump_format.specs.calls.Grammar.{value_entry, module_entry, instance_entry, frame_entry, limits_entry, global_entry, segment_entry}
 use Rattle.dump_write.specs.Spelled.{name_bytes, vector_bytes, module_bytes, seen_bytes, frame_bytes, global_bytes, segment_head, segment_bytes}
 use Rattle.dump_write.specs.Canonical.{instance_bytes}
-use Rattle.dump_write.specs.calls.Typed.{IsSeenTyped, IsValueTyped, IsFrameTyped}
+use Rattle.dump_write.specs.calls.Typed.{IsSeenTyped, IsFrameTyped}
 use Rattle.wasm_syntax.proofs.Differ.{map_same}
+use Rattle.wasm_syntax.specs.Numbers.{IsValue}
 use Rattle.wasm_bytes.proofs.Numbers.{u32_spelled, within_32, within_64}
 
 -- ---- numbers and names
@@ -90,7 +91,7 @@ unfolding global_bytes
 global_long (value.I32 n) = omega arith
 global_long (value.I64 n) = omega arith
 
-pub global_spelled : (v : Value) (at : ℕ) → IsValueTyped v → global_entry (known v) at (global_bytes v)
+pub global_spelled : (v : Value) (at : ℕ) → IsValue v → global_entry (known v) at (global_bytes v)
 unfolding global_bytes
 global_spelled (value.I32 n) at h =
     let z = cast_signed w32 n in (

@@ -7,6 +7,7 @@ use Rattle.std.proofs.lemmas.List.Elements.{All-cons}
 use Rattle.wasm_leb.specs.Writing.{unsigned_bytes}
 use Rattle.wasm_bytes.specs.calls.Spelling.{some_steps}
 use Rattle.wasm_syntax.specs.declared.value.Value.{Value}
+use Rattle.wasm_syntax.specs.Numbers.{IsValue}
 use Rattle.dump_format.specs.declared.dump.Frame.{Frame}
 use Rattle.dump_format.specs.declared.dump.Instance.{Instance}
 use Rattle.dump_format.specs.Region.{Region}
@@ -16,7 +17,7 @@ use Rattle.dump_format.specs.Sections.{may_follow}
 use Rattle.dump_format.specs.calls.Grammar.{module_entry, instance_entry, frame_entry, limits_entry, global_entry, segment_entry, custom_tail, contents, section_entry, one_section}
 use Rattle.dump_write.specs.Spelled.{name_bytes, vector_bytes, module_bytes, frame_bytes, global_bytes, segment_bytes, section_bytes, custom_bytes}
 use Rattle.dump_write.specs.Canonical.{instance_bytes, core_bytes, modules_bytes, instances_bytes, stack_bytes, memory_section, globals_section, data_section}
-use Rattle.dump_write.specs.calls.Typed.{IsValueTyped, IsFrameTyped}
+use Rattle.dump_write.specs.calls.Typed.{IsFrameTyped}
 use Rattle.dump_write.proofs.Lists.{ascii_text}
 use Rattle.dump_write.proofs.SpelledParts.{name_spelled, module_spelled, vector_spelled, list_spelled, no_longer, global_long, global_spelled, frame_long, shown_frame, IsSmallFrame, frame_spelled, instance_spelled, limits_spelled, segment_long, IsPlaced, segment_spelled}
 use Rattle.wasm_bytes.proofs.Numbers.{u32_spelled}
@@ -146,12 +147,12 @@ unfolding memory_section
 memory_spelled before pages at may few small =
     section_spelled before 5 (memories (pages ∷ [])) _ at may (λ o. inr (refl, inl (refl, (pages ∷ [], refl, list_spelled limits_entry (λ n. 0x00 ∷ unsigned_bytes n) (λ n. n < 2 ^ 32) limits_spelled (pages ∷ []) o (all_one (λ n. n < 2 ^ 32) pages few) (lit< tt))))) small
 
-pub globals_spelled : (before : List Part) (v : Value) (vs : List Value) (at : ℕ) → may_follow (last_id before) 6 ≡ true → All IsValueTyped (v ∷ vs) → length (globals_section (v ∷ vs)) < 2 ^ 32 → section_entry before (globals (map known (v ∷ vs))) at (globals_section (v ∷ vs))
+pub globals_spelled : (before : List Part) (v : Value) (vs : List Value) (at : ℕ) → may_follow (last_id before) 6 ≡ true → All IsValue (v ∷ vs) → length (globals_section (v ∷ vs)) < 2 ^ 32 → section_entry before (globals (map known (v ∷ vs))) at (globals_section (v ∷ vs))
 unfolding globals_section
 globals_spelled before v vs at may typed small =
     let few : length (v ∷ vs) < 2 ^ 32 = omega (arith, no_longer global_bytes global_long (v ∷ vs), body_short 6 (vector_bytes global_bytes (v ∷ vs))) in
     section_spelled before 6 (globals (map known (v ∷ vs))) (vector_bytes global_bytes (v ∷ vs)) at may
-    (λ o. inr (refl, inr (refl, inl (refl, (map known (v ∷ vs), refl, vector_spelled global_entry known global_bytes IsValueTyped global_spelled (v ∷ vs) o typed few))))) small
+    (λ o. inr (refl, inr (refl, inl (refl, (map known (v ∷ vs), refl, vector_spelled global_entry known global_bytes IsValue global_spelled (v ∷ vs) o typed few))))) small
 
 pub data_spelled : (before : List Part) (pages : ℕ) (r : Region) (rs : List Region) (at : ℕ) → may_follow (last_id before) 11 ≡ true → memory_of before ≡ Some pages → All (IsPlaced pages) (r ∷ rs) → length (data_section (r ∷ rs)) < 2 ^ 32 → section_entry before (segments (r ∷ rs)) at (data_section (r ∷ rs))
 unfolding data_section

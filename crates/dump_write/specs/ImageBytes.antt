@@ -1,9 +1,6 @@
 -- The canonical bytes of a dump.
 use Rattle.std.specs.Prelude.{ℕ, ◌/◌, List, [], ◌∷◌, length, map, Option, Some, None, option_map}
-use Rattle.wasm_syntax.specs.declared.value.Value.{Value}
-use Rattle.wasm_syntax.specs.declared.value.Value.TheVariants as values
-use Rattle.wasm_syntax.specs.declared.value.Seen.{Seen}
-use Rattle.wasm_syntax.specs.declared.value.Seen.TheVariants as seen
+use Rattle.wasm_syntax.specs.Numbers.{seen_of}
 use Rattle.linear_memory.specs.Memory.{page_size}
 use Rattle.dump_format.specs.declared.dump.Dump.{Dump as FormatDump}
 use Rattle.dump_format.specs.declared.dump.Frame.{Frame as FormatFrame}
@@ -11,12 +8,7 @@ use Rattle.dump_format.specs.Region.{Region}
 use Rattle.dump_write.specs.Canonical.{canonical_bytes}
 use Rattle.dump_write.specs.Image.{DumpFrame, Dump}
 
--- each value is recorded
-abbrev pub seen_of : Value → Seen
-seen_of (values.I32 n) = seen.I32 n
-seen_of (values.I64 n) = seen.I64 n
-
--- of the one instance, which has the index 0
+-- of the one instance, which has the index 0; each value is recorded
 abbrev pub frame_of : DumpFrame → FormatFrame
 frame_of f = record { instance = 0; function = f.function; offset = f.offset; locals = map seen_of f.locals; operands = map seen_of f.operands }
 

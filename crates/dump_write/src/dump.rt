@@ -1,6 +1,7 @@
 //! A dump of one module and one instance.
 
-ghost use Rattle.std.specs.Prelude.{◌≡◌, ◌∷◌, ◌-◌, ◌^◌, ◌≤◌, [], List, map, min, IfOk, Option, option_copied, option_map};
+ghost use Rattle.std.specs.Prelude.{◌≡◌, ◌∷◌, ◌-◌, ◌^◌, ◌≤◌, [], List, map, min, IfOk, Option, option_copied};
+ghost use Rattle.std.specs.Prelude.{option_map};
 ghost use Rattle.std.specs.List.{range_with_len};
 ghost use Rattle.linear_memory.specs.Memory.{pages};
 ghost use Rattle.linear_memory.specs.calls.Paged.{Paged};
@@ -8,7 +9,8 @@ ghost use Rattle.dump_format.specs.Form.{pages_of};
 ghost use Rattle.dump_format.specs.calls.Contained.{IsContained};
 ghost use Rattle.dump_write.specs.Canonical.{canonical_bytes, memory_indices};
 ghost use Rattle.dump_write.specs.Image.{DumpFrame};
-ghost use Rattle.dump_write.specs.ImageBytes.{seen_of, frame_of, bytes_of};
+ghost use Rattle.wasm_syntax.specs.Numbers.{seen_of};
+ghost use Rattle.dump_write.specs.ImageBytes.{frame_of, bytes_of};
 ghost use Rattle.dump_write.specs.Pictured.{Pictures, bytes_in, CoversIfThere};
 
 use crate::memory_segments;
@@ -19,16 +21,7 @@ use dump_format::{
 use linear_memory::Memory;
 use pm_text::{Items, Text};
 use std::alloc::Global;
-use wasm_syntax::{Seen, Value};
-
-fn seen(value: Value) -> Seen
-    ensures { result ≡ seen_of value }
-{
-    match value {
-        Value::I32(bits) => Seen::I32(bits),
-        Value::I64(bits) => Seen::I64(bits),
-    }
-}
+use wasm_syntax::Value;
 
 /// Each value is recorded.
 fn all_seen(alloc: Global, values: &[Value]) -> Result<Seens, NoMemory>
@@ -36,7 +29,7 @@ fn all_seen(alloc: Global, values: &[Value]) -> Result<Seens, NoMemory>
 {
     let mut out = Items::new(alloc);
     for value in values {
-        out.push(seen(*value))?;
+        out.push(value.shown())?;
     }
     Ok(out)
 }

@@ -2,8 +2,10 @@
 
 ghost use Rattle.std.specs.Prelude.{◌≡◌, ◌++◌, ◌^◌, ◌<◌, ℕ, List, OnOk, All};
 ghost use Rattle.std.specs.Str.{IsUtf8};
-ghost use Rattle.dump_write.specs.Spelled.{name_bytes, vector_bytes, module_bytes, seen_bytes, frame_bytes, global_bytes};
-ghost use Rattle.dump_write.specs.calls.Typed.{IsSeenTyped, IsValueTyped, IsFrameTyped};
+ghost use Rattle.dump_write.specs.Spelled.{name_bytes, vector_bytes, module_bytes, seen_bytes, frame_bytes};
+ghost use Rattle.dump_write.specs.Spelled.{global_bytes};
+ghost use Rattle.dump_write.specs.calls.Typed.{IsSeenTyped, IsFrameTyped};
+ghost use Rattle.wasm_syntax.specs.Numbers.{IsValue};
 
 use causes::NoMemory;
 use dump_format::Frame;
@@ -62,7 +64,7 @@ impl Encode for Seen {
 impl Encode for Value {
     ghost bytes = { global_bytes };
 
-    ghost IsTyped = { IsValueTyped };
+    ghost IsTyped = { IsValue };
 
     /// A constant global of this value (Core 5.5.9).
     #[tactic(auto, unfolding(crate::specs::Spelled::global_bytes))]

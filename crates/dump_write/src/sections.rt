@@ -4,8 +4,11 @@ ghost use Rattle.std.specs.Prelude.{◌≡◌, ◌++◌, ◌∷◌, [], codes, l
 ghost use Rattle.std.specs.List.{range_with_len};
 ghost use Rattle.wasm_leb.specs.Writing.{unsigned_bytes};
 ghost use Rattle.dump_write.specs.Spelled.{name_bytes, vector_bytes, section_bytes};
-ghost use Rattle.dump_write.specs.Canonical.{memory_indices, instance_of, instance_bytes, core_bytes, modules_bytes, instances_bytes, stack_bytes, memory_section, globals_section, sections_before_data};
-ghost use Rattle.dump_write.specs.calls.Typed.{IsValueTyped, IsFrameTyped, IsTyped};
+ghost use Rattle.dump_write.specs.Canonical.{memory_indices, instance_of, instance_bytes, core_bytes, modules_bytes};
+ghost use Rattle.dump_write.specs.Canonical.{instances_bytes, stack_bytes, memory_section, globals_section};
+ghost use Rattle.dump_write.specs.Canonical.{sections_before_data};
+ghost use Rattle.dump_write.specs.calls.Typed.{IsFrameTyped, IsTyped};
+ghost use Rattle.wasm_syntax.specs.Numbers.{IsValue};
 
 use crate::parts::{Encode, encode_module, encode_name, encode_vector};
 use causes::NoMemory;
@@ -132,7 +135,7 @@ fn push_memory(alloc: Global, out: &mut Vec<u8>, memory: Option<u32>) -> Result<
 #[tactic(auto, unfolding(crate::specs::Canonical::globals_section))]
 fn push_globals(alloc: Global, out: &mut Vec<u8>, globals: &[Value]) -> Result<(), NoMemory>
     ensures bytes { OnOk result (out.new.items ≡ out.old.items ++ globals_section globals.now) }
-    ensures typed { OnOk result (All IsValueTyped globals.now) }
+    ensures typed { OnOk result (All IsValue globals.now) }
 {
     if globals.is_empty() {
         return Ok(());

@@ -1,6 +1,6 @@
 //! Dumps as bytes, and as files.
 
-ghost use Rattle.std.specs.Prelude.{◌≡◌, ◌++◌, ◌≤◌, ◌*◌, ◌⊎◌, filter, length, is_some, IfOk, All, Contains};
+ghost use Rattle.std.specs.Prelude.{◌≡◌, ◌++◌, ◌≤◌, ◌*◌, ◌⊎◌, filter, length, IfOk, All, Contains};
 ghost use Rattle.causes.specs.Counts.{Rose};
 ghost use Rattle.pm_outside.specs.calls.Answers.{Appends};
 ghost use Rattle.pm_outside.specs.Created.{with_name};
@@ -12,6 +12,7 @@ ghost use Rattle.dump_write.specs.inner.Pieces.{data_head, pages_bytes};
 ghost use Rattle.dump_write.specs.Canonical.{sections_before_data, segments_of, canonical_bytes};
 ghost use Rattle.dump_write.specs.calls.Typed.{IsTyped};
 ghost use Rattle.pm_outside.specs.Written.{OnTold, Leaves};
+ghost use Rattle.pm_outside.specs.calls.Kept.{FilesGoOn};
 
 use crate::pages::{are_pages, laid_memory, memory_segments, used_segments};
 use crate::sections::sections_before_data;
@@ -76,9 +77,8 @@ fn append_segment<F: Files>(
     requires { Contains (F.created files.old) name.now }
     ensures content { OnTold (Appends name.now (segment_bytes segment.now) result)
         (F.told files.old) (F.told files.new) }
-    ensures telling { is_some (F.told files.new) ≡ is_some (F.told files.old) }
+    ensures files { FilesGoOn F.told F.faults files.old files.new }
     ensures names { F.created files.new ≡ F.created files.old }
-    ensures later { F.faults files.old ≤ F.faults files.new }
     ensures failed { result ≡ WriteAnswer.Failed → Rose (F.faults files.old) (F.faults files.new) }
 {
     let Ok(head) = segment_head(alloc, segment) else {
@@ -100,10 +100,9 @@ fn write_pieces<F: Files>(
 ) -> WriteAnswer
     ensures content { OnTold (Leaves name.now (head.now ++ pages_bytes segments.now) result)
         (F.told files.old) (F.told files.new) }
-    ensures telling { is_some (F.told files.new) ≡ is_some (F.told files.old) }
+    ensures files { FilesGoOn F.told F.faults files.old files.new }
     ensures names { (F.created files.new ≡ F.created files.old)
         ⊎ (F.created files.new ≡ with_name (F.created files.old) name.now) }
-    ensures later { F.faults files.old ≤ F.faults files.new }
     ensures failed { result ≡ WriteAnswer.Failed → Rose (F.faults files.old) (F.faults files.new) }
 {
     match files.create(name) {
@@ -136,10 +135,9 @@ fn write_with<F: Files>(
     requires used { filter is_used segments.now ≡ segments_of dump.now }
     ensures content { OnTold (Leaves name.now (canonical_bytes dump.now) result) (F.told files.old)
         (F.told files.new) }
-    ensures telling { is_some (F.told files.new) ≡ is_some (F.told files.old) }
+    ensures files { FilesGoOn F.told F.faults files.old files.new }
     ensures names { (F.created files.new ≡ F.created files.old)
         ⊎ (F.created files.new ≡ with_name (F.created files.old) name.now) }
-    ensures later { F.faults files.old ≤ F.faults files.new }
     ensures failed { result ≡ WriteAnswer.Failed → Rose (F.faults files.old) (F.faults files.new) }
     ensures typed { result ≡ WriteAnswer.Done → IsTyped dump.now }
 {
@@ -164,10 +162,9 @@ pub fn write_dump<F: Files>(
     requires contained { IsContained dump.now }
     ensures content { OnTold (Leaves name.now (canonical_bytes dump.now) result) (F.told files.old)
         (F.told files.new) }
-    ensures telling { is_some (F.told files.new) ≡ is_some (F.told files.old) }
+    ensures files { FilesGoOn F.told F.faults files.old files.new }
     ensures names { (F.created files.new ≡ F.created files.old)
         ⊎ (F.created files.new ≡ with_name (F.created files.old) name.now) }
-    ensures later { F.faults files.old ≤ F.faults files.new }
     ensures failed { result ≡ WriteAnswer.Failed → Rose (F.faults files.old) (F.faults files.new) }
     ensures typed { result ≡ WriteAnswer.Done → IsTyped dump.now }
 {

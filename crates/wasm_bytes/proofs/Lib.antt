@@ -12,4 +12,5 @@ pub mod UntilDone
 pub mod SectionLaws
 pub mod Takes
 pub mod Offsets
+pub mod Vectors
 pub mod Numbers

@@ -3,3 +3,4 @@ pub mod Answers
 pub mod Sections
 pub mod Spelling
 pub mod Stopping
+pub mod NotedSteps

@@ -5,24 +5,26 @@ ghost use Rattle.wasm_bytes.specs.Place.{Place, Read, Moves, Stays};
 ghost use Rattle.wasm_bytes.specs.Reading.{steps_from, steps_until_end, steps_to_end, steps_until_done};
 ghost use Rattle.wasm_bytes.specs.calls.Answers.{Gives, with_state};
 
+use crate::cursor::Cursor;
 use crate::faults::ItemFault;
 use crate::reader::Reader;
 use std::alloc::Global;
 
 /// A state that takes one element after another. What an element may be can depend on those before
 /// it.
-pub trait Gather<'a> {
+pub trait Gather<R: Cursor> {
     /// The state with the next element and the place behind that, or the offset of the first item
     /// without a reading.
     ghost step: { Self → Place → Read Self };
 
-    fn take(&mut self, alloc: Global, reader: &mut Reader<'a>) -> Result<(), ItemFault>
-        ensures item { Gives (with_state self.new result) reader.new (step self.old reader.old) }
-        ensures moves { OnOk result (Moves reader.old reader.new) };
+    fn take(&mut self, alloc: Global, reader: &mut R) -> Result<(), ItemFault>
+        ensures item { Gives (with_state self.new result) (R.place reader.new)
+            (step self.old (R.place reader.old)) }
+        ensures moves { OnOk result (Moves (R.place reader.old) (R.place reader.new)) };
 }
 
 /// A state that says when nothing more is due.
-pub trait GatherUntilDone<'a>: Gather<'a> {
+pub trait GatherUntilDone<'a>: Gather<Reader<'a>> {
     ghost done: { Self → Bool };
 
     fn is_done(&self) -> bool
@@ -30,15 +32,15 @@ pub trait GatherUntilDone<'a>: Gather<'a> {
 }
 
 /// Takes so many elements.
-pub fn gather_count<'a, S: Gather<'a>>(
+pub fn gather_count<R: Cursor, S: Gather<R>>(
     alloc: Global,
     count: u32,
     state: &mut S,
-    reader: &mut Reader<'a>,
+    reader: &mut R,
 ) -> Result<(), ItemFault>
-    ensures item { Gives (with_state state.new result) reader.new
-        (steps_from S.step count state.old reader.old) }
-    ensures stays { OnOk result (Stays reader.old reader.new) }
+    ensures item { Gives (with_state state.new result) (R.place reader.new)
+        (steps_from S.step count state.old (R.place reader.old)) }
+    ensures stays { OnOk result (Stays (R.place reader.old) (R.place reader.new)) }
 {
     for _ in 0..count {
         state.take(alloc, reader)?;
@@ -46,7 +48,7 @@ pub fn gather_count<'a, S: Gather<'a>>(
     Ok(())
 }
 
-fn gather_left<'a, S: Gather<'a>>(
+fn gather_left<'a, S: Gather<Reader<'a>>>(
     alloc: Global,
     state: &mut S,
     reader: &mut Reader<'a>,
@@ -63,7 +65,7 @@ fn gather_left<'a, S: Gather<'a>>(
 
 /// Takes elements up to the end of the block.
 #[tactic(auto, unfolding(crate::specs::Reading::steps_to_end))]
-pub fn gather_to_end<'a, S: Gather<'a>>(
+pub fn gather_to_end<'a, S: Gather<Reader<'a>>>(
     alloc: Global,
     state: &mut S,
     reader: &mut Reader<'a>,

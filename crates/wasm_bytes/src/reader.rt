@@ -2,7 +2,9 @@
 
 ghost use Rattle.std.specs.Prelude.{◌==◌, ◌-◌, ◌≡◌, ◌≤◌, List, length, OnOk};
 ghost use Rattle.wasm_bytes.specs.Place.{Moves, Stays};
-ghost use Rattle.wasm_bytes.specs.Reading.{byte_item, fixed_item, bytes_item, u32_item, u64_item, s32_item, s64_item, run_item, sized_run_item, name_item, named_item, if_inside, block_item, end_item, rest_item};
+ghost use Rattle.wasm_bytes.specs.Reading.{byte_item, fixed_item, bytes_item, u32_item, u64_item, s32_item, s64_item};
+ghost use Rattle.wasm_bytes.specs.Reading.{run_item, sized_run_item, name_item, named_item, if_inside, block_item};
+ghost use Rattle.wasm_bytes.specs.Reading.{end_item, rest_item};
 ghost use Rattle.wasm_bytes.specs.calls.Answers.{Reads, result_now};
 
 use crate::faults::Malformed;

@@ -1,4 +1,3 @@
-pub mod Counts
 pub mod Trees
 pub mod Targets
 pub mod Reached

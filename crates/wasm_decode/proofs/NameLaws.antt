@@ -7,7 +7,7 @@ use Rattle.std.proofs.lemmas.Grind.{fold-append}
 use Rattle.wasm_bytes.specs.Place.{Place, Read}
 use Rattle.wasm_bytes.specs.Reading.{u32_item, vector_item, items_from}
 use Rattle.wasm_decode.specs.Names.{Named, name_of, with_name, firsts, named_item, names_item, name_step, name_steps}
-use Rattle.wasm_decode.proofs.Vectors.{made, bind-made, items-steps}
+use Rattle.wasm_bytes.proofs.Vectors.{made, bind-made, items-steps}
 use Rattle.wasm_bytes.proofs.Offsets.{bind-same}
 
 one_behind : (front : List Named) (x : Named) → with_name (firsts front) x ≡ firsts (front ++ x ∷ [])

@@ -9,7 +9,7 @@ use Rattle.wasm_syntax.specs.Module.{InOrder, IsExpression}
 use Rattle.wasm_bytes.specs.calls.Spelling.{pair, u32, sized_run, vector}
 use Rattle.wasm_bytes.specs.Laws.{TakesBytes}
 use Rattle.wasm_bytes.proofs.Takes.{u32_takes, then_takes, image_takes, sized_takes}
-use Rattle.wasm_format.specs.declared.noted.Noted.{Noted}
+use Rattle.wasm_bytes.specs.declared.noted.Noted.{Noted}
 use Rattle.wasm_format.specs.declared.expression.Expression.{Expression}
 use Rattle.wasm_format.specs.Expressions.{function_body, code_body}
 use Rattle.wasm_format.specs.Sections.{global_of, element_of, segment_of}

@@ -12,11 +12,11 @@ use Rattle.wasm_syntax.specs.declared.parts.Export.{Export}
 use Rattle.wasm_bytes.specs.calls.Spelling.{pair, always, passing, byte, u32, name, items, vector, steps, tagged}
 use Rattle.wasm_bytes.specs.Laws.{TakesBytes}
 use Rattle.wasm_bytes.proofs.Takes.{u32_takes, one_of_takes, fixed_takes, then_takes, leads_takes, image_takes, passing_takes, name_takes, tagged_takes}
-use Rattle.wasm_format.specs.declared.noted.Noted.{Noted}
+use Rattle.wasm_bytes.specs.declared.noted.Noted.{Noted}
 use Rattle.wasm_format.specs.declared.expression.Locals.{Locals}
 use Rattle.wasm_format.specs.declared.module.Imported.{Imported}
 use Rattle.wasm_format.specs.declared.module.Imported.TheVariants.{Function, Table, Memory, Global}
-use Rattle.wasm_format.specs.Notes.{plain, with_noted, together}
+use Rattle.wasm_bytes.specs.Notes.{plain, with_noted, together}
 use Rattle.wasm_format.specs.Form.{is_valtype, functype_of, export_of, is_room, with_group, no_locals}
 use Rattle.wasm_format.specs.calls.Grammar.{valtype, noted_vector, functype, limits, limits_tail, table, import_entry, import_tail, export_kind, export_entry, group_entry, locals}
 

@@ -7,19 +7,18 @@ ghost use Rattle.wasm_format.specs.Expressions.{code_item};
 ghost use Rattle.wasm_format.specs.Sections.{global_item, element_item, segment_item, bodies_item};
 ghost use Rattle.wasm_decode.specs.calls.Steps.{code_step, bodies_steps};
 
-use crate::collect::{Collect, collect_count};
 use crate::expression::{constant, expression};
 use crate::form::{global_type, locals};
 use crate::input::Input;
-use crate::noted::Noting;
 use pm_text::Items;
 use std::alloc::Global;
-use wasm_bytes::{ItemFault, Run};
-use wasm_format::Noted;
+use wasm_bytes::{Gather, ItemFault, Noted, Noting, Run, gather_count};
 use wasm_syntax::{Bodies, Body, DataSeg, ElementSeg, Global as GlobalPart};
 
 /// A global (Core 5.5.9).
-impl<'a> Noting<'a> for GlobalPart {
+impl<'a> Noting<Input<'a>> for GlobalPart {
+    type Value = GlobalPart;
+
     ghost item = { global_item };
 
     #[tactic(auto, unfolding(wasm_format::specs::Sections::global_item))]
@@ -38,14 +37,16 @@ impl<'a> Noting<'a> for GlobalPart {
 }
 
 /// An element segment (Core 5.5.12).
-impl<'a> Noting<'a> for ElementSeg {
+impl<'a> Noting<Input<'a>> for ElementSeg {
+    type Value = ElementSeg;
+
     ghost item = { element_item };
 
     #[tactic(auto, unfolding(wasm_format::specs::Sections::element_item))]
     fn read(alloc: Global, input: &mut Input<'a>) -> Result<Noted<ElementSeg>, ItemFault> {
         let table = input.u32()?;
         let offset = constant(alloc, input)?;
-        let functions = input.item(alloc)?;
+        let functions = input.item::<Items<u32>>(alloc)?;
         Ok(Noted {
             value: ElementSeg {
                 table,
@@ -58,14 +59,16 @@ impl<'a> Noting<'a> for ElementSeg {
 }
 
 /// A data segment (Core 5.5.14), whose bytes are copied once.
-impl<'a> Noting<'a> for DataSeg {
+impl<'a> Noting<Input<'a>> for DataSeg {
+    type Value = DataSeg;
+
     ghost item = { segment_item };
 
     #[tactic(auto, unfolding(wasm_format::specs::Sections::segment_item))]
     fn read(alloc: Global, input: &mut Input<'a>) -> Result<Noted<DataSeg>, ItemFault> {
         let memory = input.u32()?;
         let offset = constant(alloc, input)?;
-        let run: Run<'a> = input.item(alloc)?;
+        let run = input.item::<Run<'a>>(alloc)?;
         let bytes = Items::from_slice(alloc, run.as_slice())?;
         Ok(Noted {
             value: DataSeg {
@@ -108,7 +111,7 @@ pub struct CodeEntries {
     pub bodies: Noted<Bodies>,
 }
 
-impl<'a> Collect<'a> for CodeEntries {
+impl<'a> Gather<Input<'a>> for CodeEntries {
     ghost step = { code_step };
 
     #[tactic(auto, unfolding(crate::specs::calls::Steps::code_step))]
@@ -137,7 +140,7 @@ fn entries(alloc: Global, due: usize, input: &mut Input<'_>) -> Result<Noted<Bod
             float: None,
         },
     };
-    collect_count(alloc, count, &mut entries, input)?;
+    gather_count(alloc, count, &mut entries, input)?;
     Ok(entries.bodies)
 }
 

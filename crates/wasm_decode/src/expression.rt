@@ -3,15 +3,16 @@
 ghost use Rattle.std.specs.Prelude.{◌≡◌, ◌≤◌, length, OnOk};
 ghost use Rattle.wasm_bytes.specs.Place.{Moves, Stays};
 ghost use Rattle.wasm_bytes.specs.calls.Answers.{Gives, with_state};
-ghost use Rattle.wasm_format.specs.Expressions.{stand_in, code_of, float_of, may_stand, open_behind, instr_step, expression_from, expression_item};
+ghost use Rattle.wasm_format.specs.Expressions.{stand_in, code_of, float_of, may_stand, open_behind, instr_step};
+ghost use Rattle.wasm_format.specs.Expressions.{expression_from, expression_item};
 ghost use Rattle.wasm_decode.specs.calls.Steps.{instr_steps};
 
 use crate::input::Input;
 use causes::NoMemory;
 use pm_text::{Items, Stack};
 use std::alloc::Global;
-use wasm_bytes::ItemFault;
-use wasm_format::{Code, Expression, Noted};
+use wasm_bytes::{ItemFault, Noted};
+use wasm_format::{Code, Expression};
 use wasm_syntax::{Basic, BlockKind, Body, Instr, Op};
 
 /// What stands in the place of an instruction that has a float type: one that opens the same, or

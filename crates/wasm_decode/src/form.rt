@@ -3,15 +3,15 @@
 ghost use Rattle.std.specs.Prelude.{◌≡◌, OnOk};
 ghost use Rattle.wasm_bytes.specs.Place.{Moves};
 ghost use Rattle.wasm_bytes.specs.calls.Answers.{Reads, Gives};
-ghost use Rattle.wasm_format.specs.Form.{valtype_item, functype_item, limits_item, table_item, mutability_item, globaltype_item, import_item, export_kind_item, export_item, group_step, locals_item};
+ghost use Rattle.wasm_format.specs.Form.{valtype_item, functype_item, limits_item, table_item, mutability_item};
+ghost use Rattle.wasm_format.specs.Form.{globaltype_item, import_item, export_kind_item, export_item, group_step};
+ghost use Rattle.wasm_format.specs.Form.{locals_item};
 
-use crate::collect::{Collect, Entry, collect_count};
 use crate::input::Input;
-use crate::noted::{Noting, noted_vector};
 use pm_text::{Items, Text};
 use std::alloc::Global;
-use wasm_bytes::{ItemFault, Malformed};
-use wasm_format::{Imported, Locals, Noted};
+use wasm_bytes::{Gather, Item, ItemFault, Malformed, Noted, Noting, gather_count, noted_vector};
+use wasm_format::{Imported, Locals};
 use wasm_syntax::{Export, ExportKind, FuncType, Import, Limits, LocalGroup, ValType};
 
 /// A value type (Core 5.3.1).
@@ -38,7 +38,9 @@ pub fn value_type(input: &mut Input<'_>) -> Result<Noted<ValType>, Malformed>
     }
 }
 
-impl<'a> Noting<'a> for ValType {
+impl<'a> Noting<Input<'a>> for ValType {
+    type Value = ValType;
+
     ghost item = { valtype_item };
 
     fn read(_alloc: Global, input: &mut Input<'a>) -> Result<Noted<ValType>, ItemFault> {
@@ -47,14 +49,16 @@ impl<'a> Noting<'a> for ValType {
 }
 
 /// A function type (Core 5.3.3).
-impl<'a> Noting<'a> for FuncType {
+impl<'a> Noting<Input<'a>> for FuncType {
+    type Value = FuncType;
+
     ghost item = { functype_item };
 
     #[tactic(auto, unfolding(wasm_format::specs::Form::functype_item))]
     fn read(alloc: Global, input: &mut Input<'a>) -> Result<Noted<FuncType>, ItemFault> {
         input.fixed(0x60)?;
-        let params = noted_vector(alloc, input)?;
-        let results = noted_vector(alloc, input)?;
+        let params = noted_vector::<_, ValType>(alloc, input)?;
+        let results = noted_vector::<_, ValType>(alloc, input)?;
         Ok(Noted {
             value: FuncType {
                 params: params.value,
@@ -102,7 +106,7 @@ fn table(input: &mut Input<'_>) -> Result<Limits, Malformed>
 /// Types of memories (Core 5.3.5).
 pub struct MemoryTypes;
 
-impl<'a> Entry<'a> for MemoryTypes {
+impl<'a> Item<Input<'a>> for MemoryTypes {
     type Value = Limits;
 
     ghost item = { limits_item };
@@ -115,7 +119,7 @@ impl<'a> Entry<'a> for MemoryTypes {
 /// Types of tables (Core 5.3.6).
 pub struct TableTypes;
 
-impl<'a> Entry<'a> for TableTypes {
+impl<'a> Item<Input<'a>> for TableTypes {
     type Value = Limits;
 
     ghost item = { table_item };
@@ -151,13 +155,15 @@ pub fn global_type(input: &mut Input<'_>) -> Result<(Noted<ValType>, bool), Malf
 }
 
 /// An import (Core 5.5.5).
-impl<'a> Noting<'a> for Imported {
+impl<'a> Noting<Input<'a>> for Imported {
+    type Value = Imported;
+
     ghost item = { import_item };
 
     #[tactic(auto, unfolding(wasm_bytes::specs::Reading::choose, wasm_format::specs::Form::import_item))]
     fn read(alloc: Global, input: &mut Input<'a>) -> Result<Noted<Imported>, ItemFault> {
-        let module: Text = input.item(alloc)?;
-        let name: Text = input.item(alloc)?;
+        let module = input.item::<Text>(alloc)?;
+        let name = input.item::<Text>(alloc)?;
         let at = input.at() as usize;
         match input.byte()? {
             0x00 => {
@@ -215,14 +221,14 @@ fn export_kind(input: &mut Input<'_>) -> Result<ExportKind, Malformed>
 /// Exports (Core 5.5.10).
 pub struct ExportEntries;
 
-impl<'a> Entry<'a> for ExportEntries {
+impl<'a> Item<Input<'a>> for ExportEntries {
     type Value = Export;
 
     ghost item = { export_item };
 
     #[tactic(auto, unfolding(wasm_format::specs::Form::export_item))]
     fn read(alloc: Global, input: &mut Input<'a>) -> Result<Export, ItemFault> {
-        let name = input.item(alloc)?;
+        let name = input.item::<Text>(alloc)?;
         let kind = export_kind(input)?;
         let index = input.u32()?;
         Ok(Export { name, kind, index })
@@ -230,7 +236,7 @@ impl<'a> Entry<'a> for ExportEntries {
 }
 
 /// A group of locals (Core 5.5.13). A function has fewer than 2^32 of them.
-impl<'a> Collect<'a> for Locals {
+impl<'a> Gather<Input<'a>> for Locals {
     ghost step = { group_step };
 
     #[tactic(auto, unfolding(wasm_format::specs::Form::group_step))]
@@ -263,6 +269,6 @@ pub fn locals(alloc: Global, input: &mut Input<'_>) -> Result<Locals, ItemFault>
         count: 0,
         float: None,
     };
-    collect_count(alloc, count, &mut locals, input)?;
+    gather_count(alloc, count, &mut locals, input)?;
     Ok(locals)
 }

@@ -2,13 +2,14 @@
 
 ghost use Rattle.std.specs.Prelude.{◌≡◌, ◌+◌, ◌-◌, ◌^◌, ◌<◌, ◌≤◌, length, get_or, take, Ok, OnOk};
 ghost use Rattle.wasm_bytes.specs.Place.{Moves, Stays};
-ghost use Rattle.wasm_bytes.specs.Reading.{byte_item, fixed_item, bytes_item, u32_item, block_item, end_item, rest_item};
+ghost use Rattle.wasm_bytes.specs.Reading.{byte_item, fixed_item, bytes_item, u32_item, block_item, end_item};
+ghost use Rattle.wasm_bytes.specs.Reading.{rest_item};
 ghost use Rattle.wasm_bytes.specs.calls.Answers.{Reads, Gives};
 ghost use Rattle.wasm_format.specs.Reading.{code_item, beside};
 
 use std::alloc::Global;
 use std::marker::Model;
-use wasm_bytes::{Item, ItemFault, Malformed, Reader};
+use wasm_bytes::{Cursor, Item, ItemFault, Malformed, Reader};
 use wasm_format::{Code, read_code};
 use wasm_syntax::Labels;
 
@@ -89,7 +90,7 @@ impl<'a> Input<'a> {
     }
 
     /// Reads a value.
-    pub fn item<T: Item<'a>>(&mut self, alloc: Global) -> Result<T, ItemFault>
+    pub fn item<T: Item<Reader<'a>>>(&mut self, alloc: Global) -> Result<T::Value, ItemFault>
         ensures item { Gives result self.new (T.item self.old) }
         ensures moves { OnOk result (Moves self.old self.new) }
     {
@@ -202,5 +203,13 @@ impl<'a> Input<'a> {
         let code = read_code(targets, &mut reader)?;
         self.at = reader.at() as u32;
         Ok(code)
+    }
+}
+
+impl<'a> Cursor for Input<'a> {
+    ghost place = { λ input. input };
+
+    fn count(&mut self) -> Result<u32, Malformed> {
+        self.u32()
     }
 }

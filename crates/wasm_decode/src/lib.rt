@@ -3,7 +3,6 @@
 #![tactic(auto)]
 
 mod bodies;
-mod collect;
 mod expression;
 mod fault;
 mod form;
@@ -11,10 +10,8 @@ mod input;
 mod limits;
 mod module;
 mod name_section;
-mod noted;
 mod sections;
 
-pub use collect::{Collect, collect_count};
 pub use fault::DecodeFault;
 pub use input::Input;
 pub use module::decode;

@@ -1,15 +1,15 @@
 //! The limits that a module keeps.
 
-ghost use Rattle.std.specs.Prelude.{◌≡◌, ◌+◌, ◌<◌, ◌^◌, ℕ, length, map, max, sum, slice_get};
+ghost use Rattle.std.specs.Prelude.{◌≡◌, ◌<◌, ◌^◌, ℕ, length, map, slice_get};
 ghost use Rattle.std.specs.List.{AllByRecursion};
 ghost use Rattle.wasm_syntax.specs.declared.quantity.Quantity.TheVariants.{Locals};
-ghost use Rattle.wasm_syntax.specs.Sizes.{ShortType, parameter_count, depth_behind, deepest, nesting};
+ghost use Rattle.wasm_syntax.specs.Sizes.{ShortType, parameter_count, nesting};
 ghost use Rattle.wasm_decode.specs.Decode.{all_locals, first_over, too_much};
 ghost use Rattle.wasm_decode.specs.inner.Fit.{FewLocals};
 
 use crate::fault::DecodeFault;
 use pm_text::Items;
-use wasm_syntax::{Body, FuncTypes, Instr, Limits, LocalGroup, ModuleParts, Ops, Quantity};
+use wasm_syntax::{Body, FuncTypes, Limits, ModuleParts, Quantity};
 
 /// What is counted against a limit.
 trait Counted {
@@ -28,43 +28,12 @@ impl Counted for Limits {
     }
 }
 
-/// The blocks that are open behind an instruction, where so many are open before it.
-fn depth_behind(depth: u64, code: &Instr) -> u64
-    requires { depth + 1 < 2 ^ 64 }
-    ensures { result ≡ depth_behind depth code.now }
-{
-    match code {
-        Instr::Basic(_) | Instr::Jump(_) | Instr::Else => depth,
-        Instr::Block(_) | Instr::Loop(_) | Instr::If(_) => depth + 1,
-        Instr::End => depth.saturating_sub(1),
-    }
-}
-
-fn greater(a: u64, b: u64) -> u64
-    ensures { result ≡ max a b }
-{
-    if a < b { b } else { a }
-}
-
-/// The most blocks that are open at once.
-fn most_open(ops: &Ops) -> u64
-    ensures { result ≡ deepest 0 (map (λ o. o.code) ops.now) }
-{
-    let mut depth = 0;
-    let mut most = 0;
-    for op in ops.as_slice() {
-        depth = depth_behind(depth, &op.code);
-        most = greater(most, depth);
-    }
-    most
-}
-
 /// The nesting of a body.
 impl Counted for Body {
     ghost count = { nesting };
 
     fn count(&self) -> u64 {
-        most_open(&self.ops)
+        self.nesting()
     }
 }
 
@@ -79,18 +48,6 @@ fn first_over<T: Counted>(what: Quantity, items: &Items<T>) -> Option<DecodeFaul
         }
     }
     None
-}
-
-/// How many locals these groups are.
-fn sum_of(groups: &[LocalGroup]) -> u64
-    requires { sum (map (λ g. g.count) groups.now) < 2 ^ 32 }
-    ensures { result ≡ sum (map (λ g. g.count) groups.now) }
-{
-    let mut sum = 0;
-    for group in groups {
-        sum += u64::from(group.count);
-    }
-    sum
 }
 
 /// The parameters of a type; none where its index is out of range.
@@ -113,8 +70,7 @@ fn locals_over(types: &FuncTypes, functions: &[u32], bodies: &[Body]) -> Option<
     ensures { result ≡ first_over Locals (all_locals types.now functions.now bodies.now) }
 {
     for index in 0..bodies.len() {
-        let count = parameter_count(types, functions[index])
-            + sum_of(bodies[index].groups.as_slice());
+        let count = parameter_count(types, functions[index]) + bodies[index].declared();
         if count > Quantity::Locals.limit() {
             return Some(DecodeFault::Limit {
                 what: Quantity::Locals,

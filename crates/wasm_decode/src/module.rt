@@ -6,7 +6,8 @@ ghost use Rattle.wasm_syntax.specs.declared.module.ModuleParts.{ModuleParts as P
 ghost use Rattle.wasm_syntax.specs.Sizes.{WithinLimits};
 ghost use Rattle.wasm_decode.specs.declared.fault.DecodeFault.TheVariants.{Malformed, Float, ImportKind, Limit};
 ghost use Rattle.wasm_decode.specs.Decode.{functions_of, first_other, judged, module_from, Answers};
-ghost use Rattle.wasm_decode.specs.calls.Meaning.{Exactly, IsModuleOf, BreaksAt, HasFloatAt, HasOtherImport, PassesLimit};
+ghost use Rattle.wasm_decode.specs.calls.Meaning.{Exactly, IsModuleOf, BreaksAt, HasFloatAt, HasOtherImport};
+ghost use Rattle.wasm_decode.specs.calls.Meaning.{PassesLimit};
 ghost use Rattle.wasm_decode.specs.inner.Fit.{Fit};
 
 use crate::fault::DecodeFault;

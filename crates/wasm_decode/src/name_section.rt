@@ -6,15 +6,16 @@ ghost use Rattle.wasm_bytes.specs.Place.{Moves, Stays};
 ghost use Rattle.wasm_bytes.specs.Reading.{steps_to_end};
 ghost use Rattle.wasm_bytes.specs.calls.Answers.{Gives, with_state};
 ghost use Rattle.wasm_decode.specs.calls.NameGrammar.{AreNamesOf};
-ghost use Rattle.wasm_decode.specs.Names.{Named, name_of, with_name, names_from, name_step, name_steps, names_item, subsection_step, names_in};
+ghost use Rattle.wasm_decode.specs.Names.{Named, name_of, with_name, names_from, name_step, name_steps, names_item};
+ghost use Rattle.wasm_decode.specs.Names.{subsection_step, names_in};
 
-use crate::{Collect, Input, collect_count};
+use crate::Input;
 use causes::NoMemory;
 use indexmap::IndexMap;
 use pm_text::Text;
 use std::alloc::Global;
 use std::marker::Model;
-use wasm_bytes::ItemFault;
+use wasm_bytes::{Gather, ItemFault, gather_count};
 use wasm_syntax::{Custom, Module};
 
 /// Names by the indices of functions, which contracts see as pairs in the order of their first
@@ -64,13 +65,13 @@ impl Names {
 }
 
 /// An index and a name.
-impl<'a> Collect<'a> for Names {
+impl<'a> Gather<Input<'a>> for Names {
     ghost step = { name_step };
 
     #[tactic(auto, unfolding(crate::specs::Names::named_item, crate::specs::Names::name_step))]
     fn take(&mut self, alloc: Global, input: &mut Input<'a>) -> Result<(), ItemFault> {
         let index = input.u32()?;
-        let name: Text = input.item(alloc)?;
+        let name = input.item::<Text>(alloc)?;
         self.add(index, name)?;
         Ok(())
     }
@@ -83,7 +84,7 @@ fn kept_names(alloc: Global, input: &mut Input<'_>) -> Result<Names, ItemFault>
 {
     let count = input.u32()?;
     let mut names = Names::new(alloc);
-    collect_count(alloc, count, &mut names, input)?;
+    gather_count(alloc, count, &mut names, input)?;
     Ok(names)
 }
 

@@ -3,23 +3,23 @@
 ghost use Rattle.std.specs.Prelude.{◌≡◌, ◌≤◌, ◌<◌, ◌^◌, length, OnOk};
 ghost use Rattle.wasm_bytes.specs.Place.{Moves, Stays};
 ghost use Rattle.wasm_bytes.specs.Reading.{mapped, u32_item, vector_item, bytes_item, steps_to_end, whole};
-ghost use Rattle.wasm_bytes.specs.calls.Answers.{Gives, with_state};
-ghost use Rattle.wasm_format.specs.Notes.{noted_vector_item};
+ghost use Rattle.wasm_bytes.specs.calls.Answers.{Gives, GivesWhole, with_state};
+ghost use Rattle.wasm_bytes.specs.Notes.{noted_vector_item};
 ghost use Rattle.wasm_format.specs.Form.{functype_item, limits_item, table_item, import_item, export_item};
-ghost use Rattle.wasm_format.specs.Sections.{global_item, element_item, segment_item, bodies_item, with_types, with_imports, with_functions, with_tables, with_memories, with_globals, with_exports, with_start, with_elements, with_bodies, with_segments, contents_item, custom_item, section_step, no_sections, module_item};
+ghost use Rattle.wasm_format.specs.Sections.{global_item, element_item, segment_item, bodies_item, with_types};
+ghost use Rattle.wasm_format.specs.Sections.{with_imports, with_functions, with_tables, with_memories, with_globals};
+ghost use Rattle.wasm_format.specs.Sections.{with_exports, with_start, with_elements, with_bodies, with_segments};
+ghost use Rattle.wasm_format.specs.Sections.{contents_item, custom_item, section_step, no_sections, module_item};
 ghost use Rattle.wasm_bytes.specs.Tables.{header};
-ghost use Rattle.wasm_decode.specs.calls.Steps.{GivesWhole};
 
 use crate::bodies::bodies;
-use crate::collect::vector;
 use crate::form::{ExportEntries, MemoryTypes, TableTypes};
 use crate::input::Input;
-use crate::noted::noted_vector;
 use pm_text::{Items, Text};
 use std::alloc::Global;
-use wasm_bytes::ItemFault;
-use wasm_format::SpelledModule;
-use wasm_syntax::{Custom, ModuleParts};
+use wasm_bytes::{Item, ItemFault, noted_vector};
+use wasm_format::{Imported, SpelledModule};
+use wasm_syntax::{Custom, DataSeg, ElementSeg, FuncType, Global as GlobalPart, ModuleParts};
 
 /// The magic and the version (Core 5.5.15).
 const HEADER: [u8; 8] = [0x00, 0x61, 0x73, 0x6d, 0x01, 0x00, 0x00, 0x00];
@@ -29,7 +29,7 @@ fn types(alloc: Global, spelled: &mut SpelledModule, input: &mut Input<'_>) -> R
         (mapped (with_types spelled.old) (noted_vector_item functype_item) input.old) }
     ensures kept { OnOk result (spelled.new.parts.plain_bytes ≡ spelled.old.parts.plain_bytes) }
 {
-    let types = noted_vector(alloc, input)?;
+    let types = noted_vector::<_, FuncType>(alloc, input)?;
     spelled.parts.types = types.value;
     spelled.float = spelled.float.or(types.float);
     spelled.last = 1;
@@ -45,7 +45,7 @@ fn imports(
         (mapped (with_imports spelled.old) (noted_vector_item import_item) input.old) }
     ensures kept { OnOk result (spelled.new.parts.plain_bytes ≡ spelled.old.parts.plain_bytes) }
 {
-    let imports = noted_vector(alloc, input)?;
+    let imports = noted_vector::<_, Imported>(alloc, input)?;
     spelled.imports = imports.value;
     spelled.float = spelled.float.or(imports.float);
     spelled.last = 2;
@@ -61,7 +61,7 @@ fn functions(
         (mapped (with_functions spelled.old) (vector_item u32_item) input.old) }
     ensures kept { OnOk result (spelled.new.parts.plain_bytes ≡ spelled.old.parts.plain_bytes) }
 {
-    spelled.parts.functions = input.item(alloc)?;
+    spelled.parts.functions = input.item::<Items<u32>>(alloc)?;
     spelled.last = 3;
     Ok(())
 }
@@ -75,7 +75,7 @@ fn tables(
         (mapped (with_tables spelled.old) (vector_item table_item) input.old) }
     ensures kept { OnOk result (spelled.new.parts.plain_bytes ≡ spelled.old.parts.plain_bytes) }
 {
-    spelled.parts.tables = vector::<TableTypes>(alloc, input)?;
+    spelled.parts.tables = Items::<TableTypes>::read(alloc, input)?;
     spelled.last = 4;
     Ok(())
 }
@@ -89,7 +89,7 @@ fn memories(
         (mapped (with_memories spelled.old) (vector_item limits_item) input.old) }
     ensures kept { OnOk result (spelled.new.parts.plain_bytes ≡ spelled.old.parts.plain_bytes) }
 {
-    spelled.parts.memories = vector::<MemoryTypes>(alloc, input)?;
+    spelled.parts.memories = Items::<MemoryTypes>::read(alloc, input)?;
     spelled.last = 5;
     Ok(())
 }
@@ -103,7 +103,7 @@ fn globals(
         (mapped (with_globals spelled.old) (noted_vector_item global_item) input.old) }
     ensures kept { OnOk result (spelled.new.parts.plain_bytes ≡ spelled.old.parts.plain_bytes) }
 {
-    let globals = noted_vector(alloc, input)?;
+    let globals = noted_vector::<_, GlobalPart>(alloc, input)?;
     spelled.parts.globals = globals.value;
     spelled.float = spelled.float.or(globals.float);
     spelled.last = 6;
@@ -119,7 +119,7 @@ fn exports(
         (mapped (with_exports spelled.old) (vector_item export_item) input.old) }
     ensures kept { OnOk result (spelled.new.parts.plain_bytes ≡ spelled.old.parts.plain_bytes) }
 {
-    spelled.parts.exports = vector::<ExportEntries>(alloc, input)?;
+    spelled.parts.exports = Items::<ExportEntries>::read(alloc, input)?;
     spelled.last = 7;
     Ok(())
 }
@@ -144,7 +144,7 @@ fn elements(
         (mapped (with_elements spelled.old) (noted_vector_item element_item) input.old) }
     ensures kept { OnOk result (spelled.new.parts.plain_bytes ≡ spelled.old.parts.plain_bytes) }
 {
-    let elements = noted_vector(alloc, input)?;
+    let elements = noted_vector::<_, ElementSeg>(alloc, input)?;
     spelled.parts.elements = elements.value;
     spelled.float = spelled.float.or(elements.float);
     spelled.last = 9;
@@ -173,7 +173,7 @@ fn segments(
         (mapped (with_segments spelled.old) (noted_vector_item segment_item) input.old) }
     ensures kept { OnOk result (spelled.new.parts.plain_bytes ≡ spelled.old.parts.plain_bytes) }
 {
-    let segments = noted_vector(alloc, input)?;
+    let segments = noted_vector::<_, DataSeg>(alloc, input)?;
     spelled.parts.segments = segments.value;
     spelled.float = spelled.float.or(segments.float);
     spelled.last = 11;
@@ -218,7 +218,7 @@ fn custom(
         (custom_item spelled.old input.old) }
     ensures kept { OnOk result (spelled.new.parts.plain_bytes ≡ spelled.old.parts.plain_bytes) }
 {
-    let name: Text = input.item(alloc)?;
+    let name = input.item::<Text>(alloc)?;
     let at = input.at();
     let len = input.rest().len() as u32;
     spelled.parts.customs.push(Custom { name, at, len })?;

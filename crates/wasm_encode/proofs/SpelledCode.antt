@@ -18,10 +18,10 @@ use Rattle.wasm_format.specs.Spelled.{Spelled}
 use Rattle.wasm_format.specs.calls.InstructionGrammar.{instruction}
 use Rattle.wasm_format.specs.Encoding.{encoding, IsInside, IsCode, targets_of, BeginsAt, spelled_of}
 use Rattle.wasm_format.proofs.Encoded.{encoding_spells}
-use Rattle.wasm_format.specs.declared.noted.Noted.{Noted}
+use Rattle.wasm_bytes.specs.declared.noted.Noted.{Noted}
 use Rattle.wasm_format.specs.declared.expression.Expression.{Expression}
 use Rattle.wasm_format.specs.calls.Choices.{first_and}
-use Rattle.wasm_format.specs.Notes.{plain}
+use Rattle.wasm_bytes.specs.Notes.{plain}
 use Rattle.wasm_format.specs.Expressions.{may_stand, instr_of, no_code, with_instr, is_closed, code_body}
 use Rattle.wasm_format.specs.calls.Grammar.{instr_entry, expression_entries, expression}
 use Rattle.wasm_encode.specs.Encoding.{expression_bytes}

@@ -10,7 +10,7 @@ use Rattle.wasm_syntax.specs.Sizes.{ShortBody, ShortElement, ShortData}
 use Rattle.wasm_syntax.specs.SameCode.{body_code, global_code, element_code, segment_code}
 use Rattle.wasm_syntax.specs.Tree.{Tree, Writes}
 use Rattle.wasm_bytes.specs.calls.Spelling.{u32}
-use Rattle.wasm_format.specs.Notes.{plain}
+use Rattle.wasm_bytes.specs.Notes.{plain}
 use Rattle.wasm_format.specs.Expressions.{code_body}
 use Rattle.wasm_format.specs.calls.Grammar.{code_contents, code, global_entry, element_entry, segment_entry}
 use Rattle.wasm_encode.specs.Encoding.{vector_bytes, sized_bytes, type_byte, value_type_bytes, mutability_byte, expression_bytes, global_bytes, element_bytes, group_bytes, function_bytes, entry_bytes, segment_bytes}

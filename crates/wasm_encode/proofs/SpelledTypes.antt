@@ -19,10 +19,10 @@ use Rattle.wasm_syntax.specs.declared.parts.LocalGroup.{LocalGroup}
 use Rattle.wasm_syntax.specs.Sizes.{ShortType}
 use Rattle.wasm_leb.specs.Writing.{unsigned_bytes}
 use Rattle.wasm_bytes.specs.calls.Spelling.{vector, tagged, steps}
-use Rattle.wasm_format.specs.declared.noted.Noted.{Noted}
+use Rattle.wasm_bytes.specs.declared.noted.Noted.{Noted}
 use Rattle.wasm_format.specs.declared.expression.Locals.{Locals}
 use Rattle.wasm_format.specs.declared.module.Imported.TheVariants.{Function}
-use Rattle.wasm_format.specs.Notes.{plain, together, with_noted}
+use Rattle.wasm_bytes.specs.Notes.{plain, together, with_noted}
 use Rattle.wasm_format.specs.calls.Grammar.{valtype, noted_vector, functype, limits, table, mutability, import_entry, export_kind, export_entry, group_entry, locals, limits_tail, import_tail}
 use Rattle.wasm_encode.specs.Encoding.{vector_bytes, sized_bytes, range_bytes, type_byte, value_type_bytes, function_type_bytes, limits_bytes, table_bytes, mutability_byte, import_bytes, kind_byte, export_bytes, group_bytes}
 use Rattle.wasm_encode.specs.calls.Fits.{Fits32, FitsLimits}

@@ -19,7 +19,7 @@ use Rattle.wasm_bytes.specs.calls.Spelling.{u32}
 use Rattle.wasm_format.specs.declared.module.Imported.{Imported}
 use Rattle.wasm_format.specs.declared.module.Imported.TheVariants.{Function}
 use Rattle.wasm_format.specs.declared.module.SpelledModule.{SpelledModule}
-use Rattle.wasm_format.specs.Notes.{plain}
+use Rattle.wasm_bytes.specs.Notes.{plain}
 use Rattle.wasm_format.specs.Sections.{with_parts, with_plain, with_types, with_imports, with_functions, with_tables, with_memories, with_globals, with_exports, with_start, with_elements, with_bodies, with_segments, no_parts, no_sections}
 use Rattle.wasm_format.specs.calls.Grammar.{functype, import_entry, table, limits, global_entry, export_entry, element_entry, code, segment_entry}
 use Rattle.wasm_encode.specs.Encoding.{vector_bytes, vector_section, start_section, function_type_bytes, import_bytes, table_bytes, limits_bytes, global_bytes, export_bytes, element_bytes, entry_bytes, segment_bytes, declarations, front_sections, encoding}

@@ -2,7 +2,10 @@
 
 ghost use Rattle.wasm_syntax.specs.Module.{InOrder};
 ghost use Rattle.std.specs.Prelude.{◌≡◌, ◌++◌, OnOk};
-ghost use Rattle.wasm_encode.specs.Encoding.{type_byte, mutability_byte, kind_byte, value_type_bytes, function_type_bytes, limits_bytes, import_bytes, global_bytes, export_bytes, element_bytes, group_bytes, function_bytes, entry_bytes, segment_bytes};
+ghost use Rattle.wasm_encode.specs.Encoding.{type_byte, mutability_byte, kind_byte, value_type_bytes};
+ghost use Rattle.wasm_encode.specs.Encoding.{function_type_bytes, limits_bytes, import_bytes, global_bytes};
+ghost use Rattle.wasm_encode.specs.Encoding.{export_bytes, element_bytes, group_bytes, function_bytes, entry_bytes};
+ghost use Rattle.wasm_encode.specs.Encoding.{segment_bytes};
 ghost use Rattle.wasm_encode.specs.calls.Fits.{Fits32, FitsLimits, FitsExpression, FitsBody, FitsElement, FitsSegment};
 
 use crate::expression::write_expression;

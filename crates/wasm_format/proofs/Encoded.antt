@@ -30,13 +30,14 @@ use Rattle.wasm_syntax.specs.declared.instruction.Jump.{Jump}
 use Rattle.wasm_syntax.specs.declared.instruction.Jump.TheVariants as jumps
 use Rattle.wasm_syntax.specs.declared.instruction.Instr.{Instr}
 use Rattle.wasm_syntax.specs.declared.instruction.Instr.TheVariants as instr
+use Rattle.wasm_syntax.specs.Numbers.{IsValue}
 use Rattle.wasm_bytes.specs.calls.Spelling.{pair, u32, items, vector}
 use Rattle.wasm_format.specs.declared.code.Code.TheVariants.{Known}
 use Rattle.wasm_format.specs.Spelled.{Spelled, alone}
 use Rattle.wasm_format.specs.InstructionForm.{Form, bare, indexed, access, typed, labels, indirect, reserved, constant_i32, constant_i64, bulk}
 use Rattle.wasm_format.specs.Table.{form_of, numeric, load, store}
 use Rattle.wasm_format.specs.calls.InstructionGrammar.{immediates, behind_opcode, instruction}
-use Rattle.wasm_format.specs.Encoding.{load_opcode, store_opcode, comparison_place, unary_place, operation_place, by_type, conversion_opcode, two_numbers, constant_bytes, basic_bytes, targets_from, jump_bytes, block_type_byte, encoding, JumpInside, ValueFits, BasicFits, JumpFits, IsCode, AllWords, targets_of, BeginsAt, spelled_of}
+use Rattle.wasm_format.specs.Encoding.{load_opcode, store_opcode, comparison_place, unary_place, operation_place, by_type, conversion_opcode, two_numbers, constant_bytes, basic_bytes, targets_from, jump_bytes, block_type_byte, encoding, JumpInside, BasicFits, JumpFits, IsCode, AllWords, targets_of, BeginsAt, spelled_of}
 use Rattle.wasm_bytes.proofs.Numbers.{u32_spelled, within_32, within_64}
 
 abbrev some : Form → Option Form
@@ -172,7 +173,7 @@ block_spells base at opcode to (Some I64) row = begins base at opcode (typed to)
 
 -- ---- constants
 
-constant_spells : (base at : ℕ) (v : Value) → ValueFits v → instruction base (alone (instr.Basic (basics.Const v))) at (constant_bytes v)
+constant_spells : (base at : ℕ) (v : Value) → IsValue v → instruction base (alone (instr.Basic (basics.Const v))) at (constant_bytes v)
 unfolding form_of
 constant_spells base at (value.I32 n) small =
     begins base at 0x41 constant_i32 (alone (instr.Basic (basics.Const (value.I32 n)))) (signed_bytes (cast_signed w32 n)) refl

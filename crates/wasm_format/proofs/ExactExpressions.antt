@@ -15,10 +15,10 @@ use Rattle.wasm_bytes.proofs.Takes.{image_takes, passing_takes, then_takes}
 use Rattle.wasm_format.specs.Reading.{instruction_item}
 use Rattle.wasm_format.specs.calls.InstructionGrammar.{instruction}
 use Rattle.wasm_format.proofs.Exact.{instruction_exact, instruction_takes}
-use Rattle.wasm_format.specs.declared.noted.Noted.{Noted}
+use Rattle.wasm_bytes.specs.declared.noted.Noted.{Noted}
 use Rattle.wasm_format.specs.declared.expression.Expression.{Expression}
 use Rattle.wasm_format.specs.calls.Choices.{first_and}
-use Rattle.wasm_format.specs.Notes.{together}
+use Rattle.wasm_bytes.specs.Notes.{together}
 use Rattle.wasm_format.specs.Form.{locals_item}
 use Rattle.wasm_format.specs.Expressions.{with_first, may_stand, instr_of, no_code, with_instr, instr_step, is_closed, expression_from, constant_body, expression_item, function_body, code_from, code_item}
 use Rattle.wasm_format.specs.Sections.{due_vector_item, bodies_item}

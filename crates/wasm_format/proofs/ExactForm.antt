@@ -8,9 +8,9 @@ use Rattle.wasm_bytes.specs.Laws.{IsExact, PicksExact}
 use Rattle.wasm_bytes.proofs.Exact.{then_exact, mapped_exact, image_exact, checked_exact, leads_exact}
 use Rattle.wasm_bytes.proofs.ExactItems.{u32_exact, one_of_exact, fixed_exact, name_exact}
 use Rattle.wasm_bytes.proofs.ExactLists.{vector_exact, choose_exact, steps_exact}
-use Rattle.wasm_format.specs.declared.noted.Noted.{Noted}
+use Rattle.wasm_bytes.specs.declared.noted.Noted.{Noted}
 use Rattle.wasm_format.specs.declared.expression.Locals.{Locals}
-use Rattle.wasm_format.specs.Notes.{together, noted_vector_item}
+use Rattle.wasm_bytes.specs.Notes.{together, noted_vector_item}
 use Rattle.wasm_format.specs.Form.{is_valtype, valtype_of, valtype_item, functype_of, functype_item, least, bounded, limits_behind, limits_item, table_item, is_mutability, is_variable, mutability_item, globaltype_item, function_import, table_import, memory_import, global_import, import_behind, import_item, is_export_kind, export_kind_of, export_kind_item, export_of, export_item, no_locals, is_room, with_group, group_step, locals_item}
 use Rattle.wasm_format.specs.calls.Grammar.{valtype, noted_vector, functype, limits_tail, limits, table, mutability, globaltype, import_tail, import_entry, export_kind, export_entry, group_entry, locals}
 use Rattle.wasm_format.proofs.Tests.{on_test_picks, no_spelling_picks}

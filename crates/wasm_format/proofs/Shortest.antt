@@ -346,7 +346,8 @@ operators_short t =
     (short_map (λ op. basic (basics.Unary t op)) (λ op. basic_short (basics.Unary t op) (λ targets. lit≤ tt)) unaries)
     (short_map (λ op. basic (basics.Binary t op)) (λ op. basic_short (basics.Binary t op) (λ targets. lit≤ tt)) operations)
 
-last_forms : List Form
+-- the last ones of the table of numeric instructions
+unfoldable pub last_forms : List Form
 last_forms =
     basic (basics.Extend32 narrow32.Eight) ∷ basic (basics.Extend32 narrow32.Sixteen)
     ∷ basic (basics.Extend64 narrow64.Eight) ∷ basic (basics.Extend64 narrow64.Sixteen) ∷ basic (basics.Extend64 narrow64.ThirtyTwo) ∷ []
@@ -419,3 +420,32 @@ encoding_least targets base at i bytes s =
     let b = s.1 in
     let behind = behind_least base at (at + length b.0) opcode targets i b.1 (form_of opcode) refl b.3 in
     omega (arith, behind, ap length b.2, ap length b.4, length-append b.0 b.1)
+
+-- an encoding has a byte
+pub some_bytes : (i : Basic) → 1 ≤ length (basic_bytes i)
+some_bytes basics.Nop = omega arith
+some_bytes basics.Drop = omega arith
+some_bytes basics.Select = omega arith
+some_bytes (basics.LocalGet x) = omega arith
+some_bytes (basics.LocalSet x) = omega arith
+some_bytes (basics.LocalTee x) = omega arith
+some_bytes (basics.GlobalGet x) = omega arith
+some_bytes (basics.GlobalSet x) = omega arith
+some_bytes (basics.Load l al of) = omega arith
+some_bytes (basics.Store l al of) = omega arith
+some_bytes basics.MemorySize = omega arith
+some_bytes basics.MemoryGrow = omega arith
+some_bytes basics.MemoryCopy = omega arith
+some_bytes basics.MemoryFill = omega arith
+some_bytes (basics.Const (value.I32 n)) = omega arith
+some_bytes (basics.Const (value.I64 n)) = omega arith
+some_bytes (basics.Eqz t) = omega arith
+some_bytes (basics.Unary t o) = omega arith
+some_bytes (basics.Compare t o) = omega arith
+some_bytes (basics.Binary t o) = omega arith
+some_bytes (basics.Convert c) = omega arith
+some_bytes (basics.Extend32 narrow32.Eight) = omega arith
+some_bytes (basics.Extend32 narrow32.Sixteen) = omega arith
+some_bytes (basics.Extend64 narrow64.Eight) = omega arith
+some_bytes (basics.Extend64 narrow64.Sixteen) = omega arith
+some_bytes (basics.Extend64 narrow64.ThirtyTwo) = omega arith

@@ -17,7 +17,7 @@ use Rattle.wasm_format.specs.calls.InstructionBreaking.{instruction_stops}
 use Rattle.wasm_format.proofs.Stops.{instruction_stops_at}
 use Rattle.wasm_format.specs.declared.expression.Expression.{Expression}
 use Rattle.wasm_format.specs.calls.Choices.{first_and}
-use Rattle.wasm_format.specs.Notes.{together}
+use Rattle.wasm_bytes.specs.Notes.{together}
 use Rattle.wasm_format.specs.Form.{locals_item}
 use Rattle.wasm_format.specs.Expressions.{with_first, may_stand, instr_of, no_code, with_instr, instr_step, is_closed, expression_from, constant_body, expression_item, function_body, code_from, code_item}
 use Rattle.wasm_format.specs.Sections.{due_vector_item, bodies_item}

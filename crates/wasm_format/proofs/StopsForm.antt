@@ -9,9 +9,9 @@ use Rattle.wasm_bytes.specs.Laws.{IsExact, StopsAt, PicksStops}
 use Rattle.wasm_bytes.proofs.ExactItems.{u32_exact, fixed_exact, name_exact}
 use Rattle.wasm_bytes.proofs.Stops.{unread_stops_at, u32_front, checked_front, one_of_stops_at, fixed_stops_at, u32_stops_at, name_stops_at, mapped_stops_at, then_stops_at, leads_stops_at}
 use Rattle.wasm_bytes.proofs.StopsLists.{choose_stops_at, vector_stops_at, steps_stops_at}
-use Rattle.wasm_format.specs.declared.noted.Noted.{Noted}
+use Rattle.wasm_bytes.specs.declared.noted.Noted.{Noted}
 use Rattle.wasm_format.specs.declared.expression.Locals.{Locals}
-use Rattle.wasm_format.specs.Notes.{together, noted_vector_item}
+use Rattle.wasm_bytes.specs.Notes.{together, noted_vector_item}
 use Rattle.wasm_format.specs.Form.{is_valtype, valtype_of, valtype_item, functype_of, functype_item, least, bounded, limits_behind, limits_item, table_item, is_mutability, is_variable, mutability_item, globaltype_item, function_import, table_import, memory_import, global_import, import_behind, import_item, is_export_kind, export_kind_of, export_kind_item, export_of, export_item, no_locals, is_room, with_group, group_step, locals_item}
 use Rattle.wasm_format.specs.calls.Grammar.{valtype, noted_vector, export_kind, group_entry}
 use Rattle.wasm_format.specs.calls.Breaking.{no_valtype, valtypes_stops, functype_stops, IsLimitsFlag, limits_tail_stops, limits_stops, table_stops, globaltype_stops, IsImportKind, import_tail_stops, names_stops, import_stops, export_stops, group_stops, locals_stops}

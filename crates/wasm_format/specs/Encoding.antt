@@ -28,6 +28,7 @@ use Rattle.wasm_syntax.specs.declared.instruction.Jump.{Jump}
 use Rattle.wasm_syntax.specs.declared.instruction.Jump.TheVariants as jumps
 use Rattle.wasm_syntax.specs.declared.instruction.Instr.{Instr}
 use Rattle.wasm_syntax.specs.declared.instruction.Instr.TheVariants as instr
+use Rattle.wasm_syntax.specs.Numbers.{IsValue}
 use Rattle.wasm_format.specs.declared.code.Code.TheVariants.{Known}
 use Rattle.wasm_format.specs.Spelled.{Spelled}
 
@@ -182,10 +183,6 @@ IsInside targets _ = Unit {0}
 -- ---- what is written
 
 -- The numbers in an instruction have their widths.
-abbrev pub ValueFits : Value → Type 0
-ValueFits (value.I32 n) = n < 2 ^ 32
-ValueFits (value.I64 n) = n < 2 ^ 64
-
 abbrev pub BasicFits : Basic → Type 0
 BasicFits (basics.LocalGet x) = x < 2 ^ 32
 BasicFits (basics.LocalSet x) = x < 2 ^ 32
@@ -194,7 +191,7 @@ BasicFits (basics.GlobalGet x) = x < 2 ^ 32
 BasicFits (basics.GlobalSet x) = x < 2 ^ 32
 BasicFits (basics.Load l align offset) = (align < 2 ^ 32) × (offset < 2 ^ 32)
 BasicFits (basics.Store s align offset) = (align < 2 ^ 32) × (offset < 2 ^ 32)
-BasicFits (basics.Const v) = ValueFits v
+BasicFits (basics.Const v) = IsValue v
 BasicFits _ = Unit {0}
 
 abbrev pub JumpFits : Jump → Type 0

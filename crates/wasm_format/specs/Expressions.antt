@@ -14,7 +14,7 @@ use Rattle.wasm_format.specs.declared.code.Code.{Code}
 use Rattle.wasm_format.specs.declared.code.Code.TheVariants.{Known, Float}
 use Rattle.wasm_format.specs.Spelled.{Spelled}
 use Rattle.wasm_format.specs.Reading.{instruction_item}
-use Rattle.wasm_format.specs.declared.noted.Noted.{Noted}
+use Rattle.wasm_bytes.specs.declared.noted.Noted.{Noted}
 use Rattle.wasm_format.specs.declared.expression.Expression.{Expression}
 use Rattle.wasm_format.specs.declared.expression.Locals.{Locals}
 use Rattle.wasm_format.specs.Form.{locals_item}

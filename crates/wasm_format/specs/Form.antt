@@ -9,11 +9,11 @@ use Rattle.wasm_syntax.specs.declared.parts.ExportKind.{ExportKind}
 use Rattle.wasm_syntax.specs.declared.parts.ExportKind.TheVariants as kinds
 use Rattle.wasm_bytes.specs.Place.{Place, Read}
 use Rattle.wasm_bytes.specs.Reading.{◌⊗◌, ◌▷◌, mapped, checked, choose, fixed_item, one_of_item, u32_item, name_item, here_item, steps_from}
-use Rattle.wasm_format.specs.declared.noted.Noted.{Noted}
+use Rattle.wasm_bytes.specs.declared.noted.Noted.{Noted}
 use Rattle.wasm_format.specs.declared.expression.Locals.{Locals}
 use Rattle.wasm_format.specs.declared.module.Imported.{Imported}
 use Rattle.wasm_format.specs.declared.module.Imported.TheVariants.{Function, Table, Memory, Global}
-use Rattle.wasm_format.specs.Notes.{plain, noted_as, noted_both, noted_vector_item}
+use Rattle.wasm_bytes.specs.Notes.{plain, noted_as, noted_both, noted_vector_item}
 use Rattle.std.specs.Option.{option_or}
 
 -- ---- types (Core 5.3)

@@ -1,4 +1,3 @@
-pub mod Notes
 pub mod Form
 pub mod Expressions
 pub mod Sections

@@ -12,10 +12,10 @@ use Rattle.wasm_syntax.specs.declared.parts.Custom.{Custom}
 use Rattle.wasm_syntax.specs.declared.module.ModuleParts.{ModuleParts}
 use Rattle.wasm_bytes.specs.Place.{Place, Read}
 use Rattle.wasm_bytes.specs.Reading.{◌⊗◌, ◌▷◌, mapped, checked, choose, complete, bytes_item, u32_item, name_item, sized_run_item, here_item, rest_item, vector_item, items_from, within, steps_to_end}
-use Rattle.wasm_format.specs.declared.noted.Noted.{Noted}
+use Rattle.wasm_bytes.specs.declared.noted.Noted.{Noted}
 use Rattle.wasm_format.specs.declared.module.Imported.{Imported}
 use Rattle.wasm_format.specs.declared.module.SpelledModule.{SpelledModule}
-use Rattle.wasm_format.specs.Notes.{noted_as, noted_both, together, noted_vector_item}
+use Rattle.wasm_bytes.specs.Notes.{noted_as, noted_both, together, noted_vector_item}
 use Rattle.wasm_format.specs.Form.{functype_item, limits_item, table_item, globaltype_item, import_item, export_item}
 use Rattle.wasm_format.specs.Expressions.{expression_item, code_item}
 use Rattle.std.specs.Option.{option_or}

@@ -4,7 +4,8 @@ ghost use Rattle.std.specs.Prelude.{ℕ, ◌≡◌, ◌≢◌, ◌+◌, ◌^◌,
 ghost use Rattle.wasm_bytes.specs.declared.faults.ItemFault.TheVariants.{At};
 ghost use Rattle.wasm_bytes.specs.Place.{Moves, Stays};
 ghost use Rattle.wasm_bytes.specs.calls.Answers.{Reads, Gives, with_state};
-ghost use Rattle.wasm_format.specs.Reading.{made, opcode_item, more_targets, labels_code, code_item, beside, instr_at, Answers};
+ghost use Rattle.wasm_format.specs.Reading.{made, opcode_item, more_targets, labels_code, code_item, beside, instr_at};
+ghost use Rattle.wasm_format.specs.Reading.{Answers};
 ghost use Rattle.wasm_format.specs.calls.Meaning.{IsInstrAt, BreaksAt, Exactly};
 ghost use Rattle.wasm_format.specs.declared.code.ReadInstr.{ReadInstr};
 

@@ -4,7 +4,10 @@ ghost use Rattle.std.specs.Prelude.{ℕ, ◌≡◌, ◌+◌, ◌≤◌, List, []
 ghost use Rattle.std.specs.List.{flat_map};
 ghost use Rattle.std.specs.Int.{w32, w64, cast_signed};
 ghost use Rattle.wasm_leb.specs.Writing.{unsigned_bytes, signed_bytes};
-ghost use Rattle.wasm_format.specs.Encoding.{load_opcode, store_opcode, unary_place, comparison_place, operation_place, by_type, conversion_opcode, two_numbers, constant_bytes, basic_bytes, targets_from, labels_bytes, jump_bytes, block_type_byte, encoding, IsInside, JumpInside, BasicFits, AllWords, IsCode, BeginsAt, spelled_of};
+ghost use Rattle.wasm_format.specs.Encoding.{load_opcode, store_opcode, unary_place, comparison_place, operation_place};
+ghost use Rattle.wasm_format.specs.Encoding.{by_type, conversion_opcode, two_numbers, constant_bytes, basic_bytes};
+ghost use Rattle.wasm_format.specs.Encoding.{targets_from, labels_bytes, jump_bytes, block_type_byte, encoding};
+ghost use Rattle.wasm_format.specs.Encoding.{IsInside, JumpInside, BasicFits, AllWords, IsCode, BeginsAt, spelled_of};
 ghost use Rattle.wasm_format.specs.calls.InstructionGrammar.{instruction};
 
 use causes::NoMemory;

@@ -7,10 +7,10 @@ use Rattle.wasm_syntax.specs.declared.parts.ElementSeg.{ElementSeg}
 use Rattle.wasm_syntax.specs.declared.parts.DataSeg.{DataSeg}
 use Rattle.wasm_bytes.specs.calls.Spelling.{u32, vector}
 use Rattle.wasm_format.proofs.Shortest.{number_least}
-use Rattle.wasm_format.specs.declared.noted.Noted.{Noted}
+use Rattle.wasm_bytes.specs.declared.noted.Noted.{Noted}
 use Rattle.wasm_format.specs.calls.Grammar.{expression, code_contents, code, global_entry, element_entry, segment_entry}
 use Rattle.wasm_encode.specs.Encoding.{vector_bytes, sized_bytes, expression_bytes, group_bytes, function_bytes, entry_bytes, global_bytes, element_bytes, segment_bytes}
-use Rattle.wasm_format_laws.specs.Sized.{OpsSized, ops_length}
+use Rattle.wasm_format_laws.specs.calls.Sized.{OpsSized, ops_length}
 use Rattle.wasm_format_laws.proofs.Measures.{Least, Each, sized_least, sized_length, run_least, vector_least, vector_length}
 use Rattle.wasm_format_laws.proofs.Instructions.{LongCode, entries_long, encoded_least}
 use Rattle.wasm_format_laws.proofs.Entries.{globaltype_long, locals_least}

@@ -9,7 +9,7 @@ use Rattle.wasm_syntax.specs.declared.parts.Import.{Import}
 use Rattle.wasm_syntax.specs.declared.parts.Export.{Export}
 use Rattle.wasm_bytes.specs.calls.Spelling.{steps}
 use Rattle.wasm_format.proofs.Shortest.{number_least}
-use Rattle.wasm_format.specs.declared.noted.Noted.{Noted}
+use Rattle.wasm_bytes.specs.declared.noted.Noted.{Noted}
 use Rattle.wasm_format.specs.declared.expression.Locals.{Locals}
 use Rattle.wasm_format.specs.declared.module.Imported.{Imported}
 use Rattle.wasm_format.specs.declared.module.Imported.TheVariants as imported

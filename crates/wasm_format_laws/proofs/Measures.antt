@@ -9,8 +9,8 @@ use Rattle.std.proofs.lemmas.List.Sums.{sum_by-cons}
 use Rattle.wasm_leb.specs.Writing.{unsigned_groups, unsigned_bytes}
 use Rattle.wasm_bytes.specs.calls.Spelling.{items, name, sized, sized_run, vector}
 use Rattle.wasm_format.proofs.Shortest.{number_least}
-use Rattle.wasm_format.specs.declared.noted.Noted.{Noted}
-use Rattle.wasm_format.specs.Notes.{plain, together}
+use Rattle.wasm_bytes.specs.declared.noted.Noted.{Noted}
+use Rattle.wasm_bytes.specs.Notes.{plain, together}
 use Rattle.wasm_format.specs.calls.Grammar.{noted_vector}
 use Rattle.wasm_encode.specs.Encoding.{vector_bytes, sized_bytes}
 use Rattle.wasm_decode.proofs.SoundForm.{values_of as values_from}

@@ -12,14 +12,14 @@ use Rattle.wasm_syntax.specs.declared.parts.DataSeg.{DataSeg}
 use Rattle.wasm_syntax.specs.declared.module.ModuleParts.{ModuleParts}
 use Rattle.wasm_bytes.specs.calls.Spelling.{vector}
 use Rattle.wasm_format.proofs.Shortest.{number_least}
-use Rattle.wasm_format.specs.declared.noted.Noted.{Noted}
+use Rattle.wasm_bytes.specs.declared.noted.Noted.{Noted}
 use Rattle.wasm_format.specs.declared.module.Imported.{Imported}
 use Rattle.wasm_format.specs.declared.module.SpelledModule.{SpelledModule}
 use Rattle.wasm_format.specs.calls.Grammar.{noted_vector, functype, limits, table, import_entry, export_entry, code, global_entry, element_entry, segment_entry, contents}
 use Rattle.wasm_format.specs.Sections.{with_types, with_imports, with_functions, with_tables, with_memories, with_globals, with_exports, with_start, with_elements, with_bodies, with_segments}
 use Rattle.wasm_decode.specs.Decode.{functions_of, module_of}
 use Rattle.wasm_encode.specs.Encoding.{vector_bytes, sized_bytes, vector_section, start_section, function_type_bytes, import_bytes, table_bytes, limits_bytes, global_bytes, export_bytes, element_bytes, entry_bytes, segment_bytes, declarations, front_sections, encoding}
-use Rattle.wasm_format_laws.specs.Sized.{OpsSized, ops_length, CodeSized, code_length}
+use Rattle.wasm_format_laws.specs.calls.Sized.{OpsSized, ops_length, CodeSized, code_length}
 use Rattle.wasm_format_laws.proofs.Measures.{Least, number_rises, sized_length, vector_least, vector_length, noted_least, noted_each}
 use Rattle.wasm_format_laws.proofs.Entries.{function_type_least, limits_least, table_least, import_least, imported_length, functions_length, export_least}
 use Rattle.wasm_format_laws.proofs.Bodies.{Holds, global_holds, element_holds, segment_holds, code_holds, numbers_least}

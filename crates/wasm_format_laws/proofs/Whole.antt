@@ -14,7 +14,7 @@ use Rattle.wasm_decode.specs.Decode.{module_of, module_from}
 use Rattle.wasm_decode.specs.calls.Meaning.{IsModuleOf}
 use Rattle.wasm_decode.proofs.Meanings.{found_exactly}
 use Rattle.wasm_encode.specs.Encoding.{encoding}
-use Rattle.wasm_format_laws.specs.Sized.{CodeSized, code_length, Sized}
+use Rattle.wasm_format_laws.specs.calls.Sized.{CodeSized, code_length, Sized}
 use Rattle.wasm_format_laws.proofs.Sections.{Adds, lengths, contents_add}
 
 -- ---- sections

@@ -1,2 +1,1 @@
-pub mod Sized
 pub mod calls

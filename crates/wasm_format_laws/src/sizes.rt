@@ -5,7 +5,7 @@ ghost use Rattle.wasm_syntax.specs.declared.module.ModuleParts.{ModuleParts as P
 ghost use Rattle.wasm_bytes.specs.Laws.{IsBytes};
 ghost use Rattle.wasm_decode.specs.Decode.{module_from};
 ghost use Rattle.wasm_decode.specs.calls.Meaning.{IsModuleOf};
-ghost use Rattle.wasm_format_laws.specs.Sized.{Sized};
+ghost use Rattle.wasm_format_laws.specs.calls.Sized.{Sized};
 
 /// A module that bytes spell is sized, so that one from `decode` is.
 pub fn spelled_is_sized()

@@ -1,12 +1,13 @@
 -- Reading sections into what was gathered from those before them.
-use Rattle.std.specs.Prelude.{◌≡◌, ℕ, List, [], ◌∷◌, ◌++◌, length, Option, Some, None, Result, Ok, Err, Bool, false, true, ◌==◌, nat_lt, codes, if◌then◌else◌}
+use Rattle.std.specs.Prelude.{ℕ, List, [], ◌∷◌, ◌++◌, length, Option, Some, None, Result, Ok, Err, Bool, false, true, ◌==◌, nat_lt, codes, if◌then◌else◌}
 use Rattle.std.specs.Str.{bytes_eq}
+use Rattle.std.specs.Option.{option_or}
 use Rattle.wasm_syntax.specs.declared.value.Value.{Value}
 use Rattle.wasm_syntax.specs.declared.quantity.Quantity.TheVariants.{DumpBytes, DumpPages, DumpFrames}
 use Rattle.wasm_syntax.specs.Quantity.{greatest}
-use Rattle.wasm_bytes.specs.declared.faults.ItemFault.{ItemFault}
-use Rattle.wasm_bytes.specs.declared.faults.ItemFault.TheVariants as faults
 use Rattle.wasm_bytes.specs.Place.{Place, Read}
+use Rattle.wasm_bytes.specs.Notes.{noted_vector_item}
+use Rattle.wasm_bytes.specs.declared.noted.Noted.{Noted}
 use Rattle.wasm_bytes.specs.Reading.{◌⊗◌, ◌▷◌, mapped, bytes_item, u32_item, name_item, rest_item, vector_item, within, choose, steps_from, steps_to_end, complete, whole}
 use Rattle.dump_format.specs.declared.dump.Dump.{Dump}
 use Rattle.dump_format.specs.declared.dump.Frame.{Frame}
@@ -16,7 +17,6 @@ use Rattle.dump_format.specs.declared.fault.DumpFault.{DumpFault}
 use Rattle.dump_format.specs.declared.fault.DumpFault.TheVariants.{Malformed, Limit}
 use Rattle.dump_format.specs.declared.found.Found.{Found}
 use Rattle.dump_format.specs.declared.found.Found.TheVariants.{Absent, Once, Repeated}
-use Rattle.dump_format.specs.declared.noted.Noted.{Noted}
 use Rattle.dump_format.specs.declared.lists.ModuleNames.{ModuleNames}
 use Rattle.dump_format.specs.declared.lists.MemorySegments.{MemorySegments}
 use Rattle.dump_format.specs.declared.gathered.Gathered.{Gathered}
@@ -24,7 +24,7 @@ use Rattle.dump_format.specs.Region.{Region}
 use Rattle.dump_format.specs.Form.{module_item, instance_item, limits_item, segment_item, pages_of}
 use Rattle.dump_format.specs.Judged.{first_of, over, at_float, at_repeated}
 use Rattle.dump_format.specs.Sections.{may_follow}
-use Rattle.dump_format.specs.calls.Noting.{noted_vector, value_noting, stack_noting}
+use Rattle.dump_format.specs.calls.Noting.{value_noting, stack_noting}
 use Rattle.wasm_bytes.specs.Tables.{header}
 use Rattle.wasm_bytes.specs.Refusals.{◌orelse◌, unless_refused}
 
@@ -67,19 +67,19 @@ memory_segments memory = u32_item ▷ λ count. mapped (λ s. s.segments) (steps
 -- ---- sections
 
 -- the frames of a stack
-abbrev pub with_stack : Gathered → Noted Frame → Gathered
-with_stack g noted = record g { frames = added g.frames noted.items; first = noted.first }
+abbrev pub with_stack : Gathered → Noted (List Frame) → Gathered
+with_stack g noted = record g { frames = added g.frames noted.value; first = option_or g.first noted.float }
 
 unfoldable pub custom_gathering : Gathered → List ℕ → Place → Read Gathered
 custom_gathering g name =
     if bytes_eq name (codes "core") then mapped (λ x. record g { name = added g.name x }) module_item
     else (if bytes_eq name (codes "coremodules") then mapped (λ x. record g { modules = added g.modules x }) module_names
     else (if bytes_eq name (codes "coreinstances") then mapped (λ x. record g { instances = added g.instances x }) (vector_item instance_item)
-    else (if bytes_eq name (codes "corestack") then mapped (with_stack g) (stack_noting g.first)
+    else (if bytes_eq name (codes "corestack") then mapped (with_stack g) stack_noting
     else mapped (λ _. g) rest_item)))
 
-abbrev pub with_globals : Gathered → Noted Value → Gathered
-with_globals g noted = record g { last = 6; globals = added g.globals noted.items; first = noted.first }
+abbrev pub with_globals : Gathered → Noted (List Value) → Gathered
+with_globals g noted = record g { last = 6; globals = added g.globals noted.value; first = option_or g.first noted.float }
 
 -- the size of the first memory, where one is known
 abbrev pub first_memory : Found (List ℕ) → Option ℕ
@@ -89,7 +89,7 @@ unfoldable pub contents_gathering : Gathered → ℕ → Place → Read Gathered
 contents_gathering g id =
     if id == 0 then name_item ▷ custom_gathering g
     else (if id == 5 then mapped (λ x. record g { last = 5; memories = added g.memories x }) (vector_item limits_item)
-    else (if id == 6 then mapped (with_globals g) (noted_vector value_noting g.first)
+    else (if id == 6 then mapped (with_globals g) (noted_vector_item value_noting)
     else (if id == 11 then mapped (λ x. record g { last = 11; segments = added g.segments x }) (memory_segments (first_memory g.memories))
     else mapped (λ _. record g { last = id }) rest_item)))
 
@@ -120,12 +120,6 @@ has_name g = is_found g.name
 
 unfoldable pub gathered_item : Place → Read Gathered
 gathered_item = complete has_name all_gathered
-
--- A function gave what reading all of an input gives, unless memory ran out.
-abbrev pub GivesWhole : {A : Type 0} → Result A ItemFault → Result A ℕ → Type 0
-GivesWhole (Ok x) read = read ≡ Ok x
-GivesWhole (Err faults.NoMemory) read = Unit {0}
-GivesWhole (Err (faults.At at)) read = read ≡ Err at
 
 -- ---- what was gathered in all
 

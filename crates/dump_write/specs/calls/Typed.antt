@@ -3,8 +3,7 @@ use Rattle.std.specs.Prelude.{◌^◌, ◌<◌, All}
 use Rattle.std.specs.Str.{IsUtf8}
 use Rattle.wasm_syntax.specs.declared.value.Seen.{Seen}
 use Rattle.wasm_syntax.specs.declared.value.Seen.TheVariants as seen
-use Rattle.wasm_syntax.specs.declared.value.Value.{Value}
-use Rattle.wasm_syntax.specs.declared.value.Value.TheVariants as value
+use Rattle.wasm_syntax.specs.Numbers.{IsValue}
 use Rattle.dump_format.specs.declared.dump.Dump.{Dump}
 use Rattle.dump_format.specs.declared.dump.Frame.{Frame}
 
@@ -12,10 +11,6 @@ abbrev pub IsSeenTyped : Seen → Type 0
 IsSeenTyped (seen.I32 n) = n < 2 ^ 32
 IsSeenTyped (seen.I64 n) = n < 2 ^ 64
 IsSeenTyped seen.Missing = Unit {0}
-
-abbrev pub IsValueTyped : Value → Type 0
-IsValueTyped (value.I32 n) = n < 2 ^ 32
-IsValueTyped (value.I64 n) = n < 2 ^ 64
 
 pub record IsFrameTyped (f : Frame) : Type 0 where
   pub function : f.function < 2 ^ 32
@@ -26,4 +21,4 @@ pub record IsFrameTyped (f : Frame) : Type 0 where
 pub record IsTyped (d : Dump) : Type 0 where
   pub name : IsUtf8 d.name
   pub frames : All IsFrameTyped d.frames
-  pub globals : All IsValueTyped d.globals
+  pub globals : All IsValue d.globals

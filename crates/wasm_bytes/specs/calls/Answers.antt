@@ -35,3 +35,9 @@ Gives (Err e) after read = Fails e read
 abbrev pub with_state : {S X : Type 0} → S → Result X ItemFault → Result S ItemFault
 with_state s (Ok x) = Ok s
 with_state s (Err e) = Err e
+
+-- A function gave what reading all of an input gives, unless memory ran out.
+abbrev pub GivesWhole : {A : Type 0} → Result A ItemFault → Result A ℕ → Type 0
+GivesWhole (Ok x) read = read ≡ Ok x
+GivesWhole (Err faults.NoMemory) read = Unit {0}
+GivesWhole (Err (faults.At at)) read = read ≡ Err at

@@ -1,22 +1,13 @@
 -- Reading vectors into states, one element after another.
-use Rattle.std.specs.Prelude.{◌≡◌, ℕ, List, [], Result, Ok, Err, ◌==◌}
+use Rattle.std.specs.Prelude.{ℕ, List, [], ◌==◌}
 use Rattle.wasm_bytes.specs.Place.{Place, Read}
 use Rattle.wasm_bytes.specs.Reading.{◌▷◌, mapped, checked, u32_item, here_item, steps_from, steps_until_done}
-use Rattle.wasm_bytes.specs.declared.faults.ItemFault.{ItemFault}
-use Rattle.wasm_bytes.specs.declared.faults.ItemFault.TheVariants as faults
 use Rattle.wasm_syntax.specs.declared.parts.Body.{Body}
-use Rattle.wasm_format.specs.declared.noted.Noted.{Noted}
+use Rattle.wasm_bytes.specs.declared.noted.Noted.{Noted}
 use Rattle.wasm_format.specs.declared.expression.Expression.{Expression}
 use Rattle.wasm_decode.specs.declared.bodies.CodeEntries.{CodeEntries}
-use Rattle.wasm_format.specs.Notes.{plain, with_noted}
+use Rattle.wasm_bytes.specs.Notes.{plain, with_noted}
 use Rattle.wasm_format.specs.Expressions.{instr_step, is_closed, code_item}
-
--- one more value that may hold floats
-unfoldable pub noted_step : {A : Type 0} → (Place → Read (Noted A)) → Noted (List A) → Place → Read (Noted (List A))
-noted_step item xs = mapped (with_noted xs) item
-
-unfoldable pub noted_steps : {A : Type 0} → (Place → Read (Noted A)) → Place → Read (Noted (List A))
-noted_steps item = u32_item ▷ λ count. steps_from (noted_step item) count (plain [])
 
 -- instructions up to the `end` of an expression
 unfoldable pub instr_steps : Expression → Place → Read Expression
@@ -37,11 +28,3 @@ entries_steps origin count = mapped (λ (s : CodeEntries). s.bodies) (steps_from
 
 unfoldable pub bodies_steps : ℕ → Place → Read (Noted (List Body))
 bodies_steps due = here_item ▷ λ origin. checked (λ n. n == due) u32_item ▷ entries_steps origin
-
--- ---- all of an input
-
--- A function gave what reading all of an input gives, unless memory ran out.
-abbrev pub GivesWhole : {A : Type 0} → Result A ItemFault → Result A ℕ → Type 0
-GivesWhole (Ok x) read = read ≡ Ok x
-GivesWhole (Err faults.NoMemory) read = Unit {0}
-GivesWhole (Err (faults.At at)) read = read ≡ Err at

@@ -11,13 +11,13 @@ use Rattle.wasm_syntax.specs.declared.parts.ElementSeg.{ElementSeg}
 use Rattle.wasm_syntax.specs.declared.parts.DataSeg.{DataSeg}
 use Rattle.wasm_bytes.specs.calls.Spelling.{Spellings, ◌&◌, pair, leads, always, image, passing, here, byte, one_of, text, u32, sized_run, name, sized, vector, tagged, steps, some_steps, steps_to_done}
 use Rattle.wasm_format.specs.calls.InstructionGrammar.{instruction}
-use Rattle.wasm_format.specs.declared.noted.Noted.{Noted}
+use Rattle.wasm_bytes.specs.declared.noted.Noted.{Noted}
 use Rattle.wasm_format.specs.declared.expression.Expression.{Expression}
 use Rattle.wasm_format.specs.declared.expression.Locals.{Locals}
 use Rattle.wasm_format.specs.declared.module.Imported.{Imported}
 use Rattle.wasm_format.specs.declared.module.SpelledModule.{SpelledModule}
 use Rattle.wasm_format.specs.calls.Choices.{on_test, no_spelling, first_and}
-use Rattle.wasm_format.specs.Notes.{together}
+use Rattle.wasm_bytes.specs.Notes.{together}
 use Rattle.wasm_format.specs.Form.{is_valtype, valtype_of, functype_of, least, bounded, is_mutability, is_variable, function_import, table_import, memory_import, global_import, is_export_kind, export_kind_of, export_of, no_locals, is_room, with_group}
 use Rattle.wasm_format.specs.Expressions.{may_stand, instr_of, no_code, with_instr, is_closed, constant_body, function_body}
 use Rattle.wasm_format.specs.Sections.{global_of, element_of, segment_of, with_types, with_imports, with_functions, with_tables, with_memories, with_globals, with_exports, with_start, with_elements, with_bodies, with_segments, with_custom, may_follow, measured, no_sections, has_bodies}

@@ -1,5 +1,5 @@
 use Rattle.std.proofs.Common.{◌≡◌, map, take}
-use Rattle.dump_write.specs.ImageBytes.{seen_of}
+use Rattle.wasm_syntax.specs.Numbers.{seen_of}
 use Rattle.dump_write.proofs.dump.all_seen.Given as goal
 
 abbrev pub invariant-loop-value : goal.invariant-loop-value

@@ -29,8 +29,7 @@ returns g c =
     record {
       content = subst (λ (bs : List ℕ). OnTold (Appends name bs answer) (g.F.Files.told c.args.files.now) (g.F.Files.told c.append.new.self)) pieces
           (same_told (Appends name head answer) (Appends name (head ++ body) answer) (g.F.Files.told c.args.files.now) (g.F.Files.told c.append.new.self) (λ o n. first_refused answer name head body o n c.in_default-append.not-Done) c.append.ensures.content);
-      telling = c.append.ensures.telling;
+      files = record { telling = c.append.ensures.telling; later = c.append.ensures.later };
       names = c.append.ensures.names;
-      later = c.append.ensures.later;
       failed = c.append.ensures.failed;
     }

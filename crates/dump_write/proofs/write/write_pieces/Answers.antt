@@ -46,8 +46,8 @@ loop-segment-preserved g c =
       file = subst (λ (bs : List ℕ). OnTold (HasFile name bs) (g.F.Files.told c.args.files.now) (g.F.Files.told c.append_segment.new.files)) grown
           (then_told (HasFile name front) (HasMore name (segment_bytes r)) (HasFile name (front ++ segment_bytes r)) (g.F.Files.told c.args.files.now) (g.F.Files.told c.loop-segment.files) (g.F.Files.told c.append_segment.new.files)
           (file_more name front (segment_bytes r)) known.file done.content);
-      telling = done.telling ∙ known.telling;
+      telling = done.files.telling ∙ known.telling;
       named = rw done.names known.named;
       names = done.names ∙ known.names;
-      later = omega (arith, done.later, known.later);
+      later = omega (arith, done.files.later, known.later);
     }

@@ -1,5 +1,6 @@
 use Rattle.std.proofs.Common.{◌≡◌, ◌-◌, ◌∙◌, sym, suc, length, true, false, ap, arith}
 use Rattle.std.proofs.lemmas.Result.{err_from_is_err_and}
+use Rattle.wasm_bytes.specs.Place.{Moves}
 use Rattle.wasm_bytes.specs.Reading.{steps_while_due, steps_until_done}
 use Rattle.wasm_bytes.proofs.Loops.{due_on, due_fails, none_due}
 use Rattle.wasm_bytes.proofs.gather.gather_until_done.Goals as goal
@@ -11,13 +12,14 @@ elements-preserved g c =
     let n : s.0 ≡ suc (s.0 - 1) = omega (arith, s.1, c.at-at.ensures.inside) in
     let due : done c.elements.state ≡ false = sym c.is_done.ensures ∙ c.elements-test.true in
     let on = due_on done g.S.Gather.step (s.0 - 1) c.elements.state c.take.new.self c.elements.reader c.take.new.reader due c.in_ok-take.ensures.item in
+    let moves : Moves c.elements.reader c.take.new.reader = c.in_ok-take.ensures.moves in
     record {
       so_far = (
         s.0 - 1,
-        omega (arith, s.1, c.at-at.ensures.inside, c.in_ok-take.ensures.moves.0, ap length c.in_ok-take.ensures.moves.1),
+        omega (arith, s.1, c.at-at.ensures.inside, moves.0, ap length moves.1),
         s.2 ∙ ap (λ k. steps_while_due done g.S.Gather.step k c.elements.state c.elements.reader) n ∙ on,
       );
-      stays = grind arith;
+      stays = (omega (arith, c.elements.invariant.stays.0, moves.0), moves.1 ∙ c.elements.invariant.stays.1);
     }
 
 pub returns-in_err-take-clause-item : goal.returns-in_err-take-clause-item

@@ -2,7 +2,7 @@
 use Rattle.std.specs.Prelude.{List, [], ◌∷◌, ◌++◌, fold, None}
 use Rattle.wasm_bytes.specs.Place.{Place, Read}
 use Rattle.wasm_bytes.specs.Reading.{mapped, vector_item}
-use Rattle.wasm_format.specs.declared.noted.Noted.{Noted}
+use Rattle.wasm_bytes.specs.declared.noted.Noted.{Noted}
 use Rattle.std.specs.Option.{option_or}
 
 -- a value without floats
