@@ -12,7 +12,8 @@ use Rattle.wasm_syntax.specs.declared.host.CollectorCall.{CollectorCall}
 use Rattle.wasm_syntax.specs.declared.host.CollectorCall.TheVariants.{Frame}
 use Rattle.dump_format.specs.declared.dump.Frame.{Frame as FormatFrame}
 use Rattle.dump_write.specs.Image.{DumpFrame}
-use Rattle.dump_write.specs.ImageBytes.{seen_of, frame_of}
+use Rattle.wasm_syntax.specs.Numbers.{seen_of}
+use Rattle.dump_write.specs.ImageBytes.{frame_of}
 use Rattle.dump_write.specs.Collected.{value_call, Entry, entry_calls, calls_of, HaveKind, Whole, collected_dump}
 use Rattle.host_collector.specs.declared.gathered.Gathered.{Gathered}
 use Rattle.host_collector.specs.inner.Gathering.{nothing, with_value, with_entry, with_call, gathered}

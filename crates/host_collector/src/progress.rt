@@ -1,7 +1,8 @@
 //! How far calls of the collector have come.
 
 ghost use Rattle.std.specs.Prelude.{◌≡◌, ◌+◌, ◌≤◌, ◌<◌, ◌^◌};
-ghost use Rattle.host_collector.specs.inner.Progress.{values_in, missing, with_value, with_first, with_later, with_last, with_frame, with_call, stepped, ended, judged};
+ghost use Rattle.host_collector.specs.inner.Progress.{values_in, missing, with_value, with_first, with_later};
+ghost use Rattle.host_collector.specs.inner.Progress.{with_last, with_frame, with_call, stepped, ended, judged};
 
 use wasm_syntax::CollectorCall;
 

@@ -3,7 +3,8 @@
 ghost use Rattle.std.specs.Prelude.{◌≡◌, ◌≤◌, ℕ, List, Bool, true, Some, slice_get};
 ghost use Rattle.wasm_syntax.specs.declared.parts.Import.{Import as ImportValue};
 ghost use Rattle.wasm_syntax.specs.declared.parts.FuncType.{FuncType as TypeValue};
-ghost use Rattle.host_devices.specs.calls.HostSides.{Origin, Calls, IsOfType, told, Answers, IsExhausted, HasCause, KeepsUse};
+ghost use Rattle.host_devices.specs.calls.HostSides.{Origin, Calls, IsOfType, told, Answers, IsExhausted, HasCause};
+ghost use Rattle.host_devices.specs.calls.HostSides.{KeepsUse};
 
 use linear_memory::Memory;
 use pm_text::Text;

@@ -55,8 +55,8 @@ write_word word = sides word (position (λ b. b == 61) word)
 
 -- ---- lines
 
-abbrev pub one_more : Option Write → Option (List Write) → Option (List Write)
-one_more (Some w) (Some ws) = Some (w ∷ ws)
+abbrev pub one_more : {A : Type 0} → Option A → Option (List A) → Option (List A)
+one_more (Some x) (Some xs) = Some (x ∷ xs)
 one_more _ _ = None
 
 -- the writes in the parts between spaces; an empty part before another one stands between two spaces

@@ -10,3 +10,4 @@ mod words;
 
 pub use record::{push_record, push_reply};
 pub use replies::{Replies, ReplyFault, read_replies};
+pub use words::typed;

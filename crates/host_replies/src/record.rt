@@ -5,7 +5,8 @@ ghost use Rattle.std.specs.Fmt.{decimal};
 ghost use Rattle.hex.specs.Hex.{IsBytes, encode_lower};
 ghost use Rattle.wasm_syntax.specs.Numbers.{IsValue};
 ghost use Rattle.host_replies.specs.Replies.{file_replies};
-ghost use Rattle.host_replies.specs.Record.{IsReplyTyped, behind_space, record_text, reply_line, value_word, without_empty, write_text};
+ghost use Rattle.host_replies.specs.Record.{IsReplyTyped, behind_space, record_text, reply_line, value_word};
+ghost use Rattle.host_replies.specs.Record.{without_empty, write_text};
 ghost use Rattle.host_replies.specs.inner.Written.{IsWriteKept};
 
 use causes::NoMemory;

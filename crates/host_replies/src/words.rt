@@ -3,7 +3,8 @@
 ghost use Rattle.std.specs.Prelude.{◌≡◌, ◌==◌, ◌<◌, ◌^◌, true, false, length, MatchOption};
 ghost use Rattle.std.specs.Str.{is_utf8};
 ghost use Rattle.host_replies.specs.declared.words.LineFault.TheVariants.{NoMemory};
-ghost use Rattle.host_replies.specs.Replies.{first_word, address, pairs, write_word, writes_of, line_reply, Gives, typed};
+ghost use Rattle.host_replies.specs.Replies.{first_word, address, pairs, write_word, writes_of, line_reply, Gives};
+ghost use Rattle.host_replies.specs.Replies.{typed};
 ghost use Rattle.host_replies.specs.inner.Parts.{parts_behind};
 ghost use Rattle.std.specs.List.{slice_split};
 
@@ -42,7 +43,7 @@ fn as_text(word: &[u8]) -> Option<&str>
 }
 
 /// A number of 32 or 64 bits as a value.
-fn typed(number: Number) -> Value
+pub fn typed(number: Number) -> Value
     requires { number.wide ≡ false → number.bits < 2 ^ 32 }
     ensures { result ≡ typed number }
 {

@@ -1,12 +1,15 @@
 //! What serves the imports of a module in a run: devices by name, and else a script.
 
-ghost use Rattle.std.specs.Prelude.{◌≡◌, ◌<◌, ◌≤◌, ◌++◌, ℕ, List, None, Some, IfOk, [], false, true, map, length, slice_get, take};
+ghost use Rattle.std.specs.Prelude.{◌≡◌, ◌<◌, ◌≤◌, ◌++◌, ℕ, List, None, Some, IfOk, [], false, true, map, length};
+ghost use Rattle.std.specs.Prelude.{slice_get, take};
 ghost use Rattle.std.specs.Option.{option_map};
 ghost use Rattle.wasm_syntax.specs.declared.parts.FuncType.{FuncType as TypeValue};
 ghost use Rattle.wasm_syntax.specs.declared.parts.Import.{Import as ImportValue};
 ghost use Rattle.host_devices.specs.calls.HostSides.{Answers, HasCause, IsExhausted, KeepsUse};
 ghost use Rattle.host_set.specs.Sets.{AreDistinct, IsPlace, IsUnnamed, count_of, is_named, log_of, names};
-ghost use Rattle.host_set.specs.calls.Hosting.{IsAnswered, IsFailed, ServesNext, calls_of, is_used_up, log_named, logs, logs_before, of_module, of_script, origin_of, replies_of, serves, with_module};
+ghost use Rattle.host_set.specs.calls.Hosting.{IsAnswered, IsFailed, ServesNext, calls_of, is_used_up, log_named, logs};
+ghost use Rattle.host_set.specs.calls.Hosting.{logs_before, of_module, of_script, origin_of, replies_of, serves};
+ghost use Rattle.host_set.specs.calls.Hosting.{with_module};
 
 use crate::devices::Devices;
 use crate::entry::Entry;

@@ -1,6 +1,7 @@
 //! A memory as a table of pages.
 
-ghost use Rattle.std.specs.Prelude.{◌≡◌, ◌+◌, ◌*◌, ◌^◌, ◌<◌, ◌≤◌, ◌↔◌, ◌⊎◌, length, replicate, false, IfOk, OnOk, OnErr, IfSome, IfNone, IsSome, Some};
+ghost use Rattle.std.specs.Prelude.{◌≡◌, ◌+◌, ◌*◌, ◌^◌, ◌<◌, ◌≤◌, ◌↔◌, ◌⊎◌, length, replicate, false, IfOk, OnOk};
+ghost use Rattle.std.specs.Prelude.{OnErr, IfSome, IfNone, IsSome, Some};
 ghost use Rattle.linear_memory.specs.Memory.{page_size, pages, zeroed, window, to_bytes, load, store, put, fill, copy};
 ghost use Rattle.linear_memory.specs.calls.Paged.{IsWidth, IsMade, AllMade, Makes};
 ghost use Rattle.linear_memory.specs.calls.Growth.{Grows};

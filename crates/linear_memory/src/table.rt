@@ -1,6 +1,7 @@
 //! A table of pages, read and written as one list of bytes.
 
-ghost use Rattle.std.specs.Prelude.{◌≡◌, ◌+◌, ◌-◌, ◌*◌, ◌/◌, ◌%◌, ◌^◌, ◌<◌, ◌≤◌, ◌↔◌, ◌++◌, length, map, is_some, replicate, if◌then◌else◌, IsTrue, IfOk, IsSome, IfSome, IfNone, false, ℕ, ◌⊎◌};
+ghost use Rattle.std.specs.Prelude.{◌≡◌, ◌+◌, ◌-◌, ◌*◌, ◌/◌, ◌%◌, ◌^◌, ◌<◌, ◌≤◌, ◌↔◌, ◌++◌, length, map, is_some};
+ghost use Rattle.std.specs.Prelude.{replicate, if◌then◌else◌, IsTrue, IfOk, IsSome, IfSome, IfNone, false, ℕ, ◌⊎◌};
 ghost use Rattle.linear_memory.specs.Memory.{window, splice, from_bytes, to_bytes};
 ghost use Rattle.linear_memory.specs.calls.Paged.{IsWidth, AllMade, IsMade, StaysMade, Makes};
 ghost use Rattle.linear_memory.specs.inner.Table.{contents, AllWhole, zeros};

@@ -1,8 +1,7 @@
 //! Loads and stores of a memory, by what they move (Core 2.4.4, 4.4.4).
 
-ghost use Rattle.std.specs.Prelude.{◌≡◌, ◌<◌, ◌^◌, ◌*◌, ◌/◌, ◌+◌, ◌%◌, option_map};
+ghost use Rattle.std.specs.Prelude.{◌≡◌, ◌<◌, ◌^◌, ◌/◌, ◌+◌, ◌%◌, option_map};
 ghost use Rattle.linear_memory.specs.Memory.{load as load_of, store as store_of, copy as copy_of, fill as fill_of};
-ghost use Rattle.linear_memory.specs.calls.Paged.{IsWidth};
 ghost use Rattle.wasm_syntax.specs.Access.{load_type, load_bits, loaded, store_type, store_bits, widen};
 ghost use Rattle.wasm_syntax.specs.Effect.{address as address_of};
 ghost use Rattle.wasm_syntax.specs.Numbers.{number, value as value_of};
@@ -23,24 +22,6 @@ pub(crate) fn address(a: u32, offset: u32) -> u64
 }
 
 // ---- loads
-
-/// How many bytes a load reads.
-#[inline(always)]
-fn load_width(load: Load) -> u32
-    ensures width { result ≡ load_bits load / 8 }
-    ensures bits { 8 * result ≡ load_bits load }
-    ensures one_of { IsWidth result }
-{
-    match load {
-        Load::Full(ValType::I32) => 4,
-        Load::Full(ValType::I64) => 8,
-        Load::Part32(Narrow32::Eight, _) => 1,
-        Load::Part32(Narrow32::Sixteen, _) => 2,
-        Load::Part64(Narrow64::Eight, _) => 1,
-        Load::Part64(Narrow64::Sixteen, _) => 2,
-        Load::Part64(Narrow64::ThirtyTwo, _) => 4,
-    }
-}
 
 /// The lowest bits of an i32, as what they are in all its bits.
 #[inline(always)]
@@ -86,30 +67,13 @@ pub(crate) fn load_at(memory: &Memory, load: Load, at: u64) -> Option<Value>
     ensures { result ≡ option_map (λ n. value_of (load_type load) (loaded load n))
         (load_of memory.now.memory at (load_bits load / 8)) }
 {
-    match memory.load(at, load_width(load)) {
+    match memory.load(at, load.bytes()) {
         Some(n) => Some(loaded_value(load, n)),
         None => None,
     }
 }
 
 // ---- stores
-
-/// How many bytes a store writes.
-#[inline(always)]
-fn store_width(store: Store) -> u32
-    ensures width { result ≡ store_bits store / 8 }
-    ensures one_of { IsWidth result }
-{
-    match store {
-        Store::Full(ValType::I32) => 4,
-        Store::Full(ValType::I64) => 8,
-        Store::Part32(Narrow32::Eight) => 1,
-        Store::Part32(Narrow32::Sixteen) => 2,
-        Store::Part64(Narrow64::Eight) => 1,
-        Store::Part64(Narrow64::Sixteen) => 2,
-        Store::Part64(Narrow64::ThirtyTwo) => 4,
-    }
-}
 
 /// The number of a value of the type that a store writes, or None where it is of the other type.
 #[inline(always)]
@@ -131,7 +95,7 @@ pub(crate) fn store_at(memory: &mut Memory, store: Store, at: u64, n: u64) -> Pe
     ensures { Writes (store_of memory.old.memory at (store_bits store / 8) n) result memory.old
         memory.new }
 {
-    match memory.store(at, store_width(store), n) {
+    match memory.store(at, store.bytes(), n) {
         Ok(()) => Performed::Done,
         Err(StoreFault::Out) => Performed::Trap(TrapKind::OutOfBounds),
         Err(StoreFault::NoMemory) => Performed::NoMemory,

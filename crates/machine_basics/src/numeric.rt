@@ -3,7 +3,8 @@
 
 ghost use Rattle.std.specs.Prelude.{◌≡◌, ◌==◌, option_map};
 ghost use Rattle.int_ops.specs.Integers.{extend32 as extended_32, extend64 as extended_64};
-ghost use Rattle.wasm_syntax.specs.Numbers.{number, value, bool_number, unary as unary_of, compare as compare_of, binary as binary_of, convert as convert_of, convert_from, convert_to};
+ghost use Rattle.wasm_syntax.specs.Numbers.{number, value, bool_number, unary as unary_of, compare as compare_of};
+ghost use Rattle.wasm_syntax.specs.Numbers.{binary as binary_of, convert as convert_of, convert_from, convert_to};
 ghost use Rattle.wasm_syntax.specs.declared.value.ValType.TheVariants as types;
 ghost use Rattle.wasm_syntax.specs.declared.value.Value.TheVariants as values;
 ghost use Rattle.machine_basics.specs.inner.Numeric.{compare_values, binary_values, valued};

@@ -2,7 +2,8 @@
 
 ghost use Rattle.std.specs.Prelude.{◌≡◌, ◌<◌, ◌∷◌, ◌++◌, List, map, reverse, length, IfOk, Some};
 ghost use Rattle.machine_code.specs.declared.tree.Letter.{Letter as Symbol};
-ghost use Rattle.machine_code.specs.inner.Tree.{IsTree, Extends, edge as edge_of, with_edge as put, empty, reaches, letter_of, word};
+ghost use Rattle.machine_code.specs.inner.Tree.{IsTree, Extends, edge as edge_of, with_edge as put, empty, reaches};
+ghost use Rattle.machine_code.specs.inner.Tree.{letter_of, word};
 
 use causes::NoMemory;
 use std::alloc::Global;

@@ -2,7 +2,7 @@
 
 ghost use Rattle.std.specs.Prelude.{◌≡◌, ◌≤◌, true, length, slice_get, is_some, Some, IfOk};
 ghost use Rattle.wasm_syntax.specs.Numbers.{types};
-ghost use Rattle.wasm_syntax.specs.Machine.{host_call, result_of};
+ghost use Rattle.wasm_syntax.specs.Machine.{host_call};
 ghost use Rattle.machine_hosted.specs.calls.Settings.{HostKept};
 ghost use Rattle.host_devices.specs.calls.HostSides.{told, Answers, IsExhausted, HasCause, KeepsUse};
 
@@ -12,7 +12,7 @@ use host_devices::{HostAnswer, HostSide};
 use linear_memory::Memory;
 use pm_text::Text;
 use std::alloc::Global;
-use wasm_syntax::{FuncType, HostCall, Import, ValType, Values};
+use wasm_syntax::{FuncType, HostCall, Import, Values};
 
 /// What a host side answered to a call of an import, and whether that was a call of the collector,
 /// which takes no reply.
@@ -20,13 +20,6 @@ use wasm_syntax::{FuncType, HostCall, Import, ValType, Values};
 pub struct Heard {
     pub answer: HostAnswer,
     pub told: bool,
-}
-
-/// The type of a function's result, if it has one.
-pub(crate) fn result_type(ftype: &FuncType) -> Option<ValType>
-    ensures { result ≡ result_of ftype.now }
-{
-    ftype.results.get(0).copied()
 }
 
 fn make_call(
@@ -42,7 +35,7 @@ fn make_call(
         import: function,
         name: Text::from_str(alloc, import.name.as_str())?,
         args,
-        result: result_type(ftype),
+        result: ftype.result_type(),
     })
 }
 
@@ -76,7 +69,7 @@ pub(crate) fn call_host<H: HostSide>(
     let told = is_told(
         hosts.collects(),
         import,
-        result_type(ftype),
+        ftype.result_type(),
         args.as_slice(),
     );
     let answer = match make_call(alloc, import, ftype, function, args) {

@@ -7,6 +7,7 @@ mod alone;
 mod answer;
 mod begin;
 mod collector;
+mod entry;
 mod function;
 mod heard;
 mod invocation;
@@ -24,6 +25,7 @@ mod watched_run;
 mod writes;
 
 pub use answer::{EntryRun, RunEnd};
+pub use entry::Entry;
 pub use resume::resume_invocation;
 pub use runner::Runner;
 pub use watched_invocation::watch_invocation;

@@ -9,10 +9,11 @@ ghost use Rattle.wasm_syntax.specs.Machine.{Engine, Config, host_call};
 ghost use Rattle.machine_code.specs.declared.code.Code.{Code as FlatCode};
 ghost use Rattle.machine_hosted.specs.calls.Answers.{HasCause};
 ghost use Rattle.machine_hosted.specs.calls.Settings.{HostKept, Knows};
-ghost use Rattle.machine_hosted.specs.inner.Turns.{Calling, AtCall, told_by, one_reply, one_told, Turned, TurnMeets, IsReplied, end_of};
+ghost use Rattle.machine_hosted.specs.inner.Turns.{Calling, AtCall, told_by, one_reply, one_told, Turned, TurnMeets};
+ghost use Rattle.machine_hosted.specs.inner.Turns.{IsReplied, end_of};
 
 use crate::answer::RunEnd;
-use crate::heard::{Heard, call_host, result_type};
+use crate::heard::{Heard, call_host};
 use crate::replies::finish_call;
 use crate::reply::{Replied, serve};
 use crate::runner::Runner;
@@ -44,7 +45,7 @@ fn after_reply(m: &mut Machine, call: ImportCall, ftype: &FuncType, reply: Reply
         (one_reply (host_call call.function import ftype.now args) reply) result c m.new left }
 {
     let count = ftype.params.len();
-    match serve(m, call, count, result_type(ftype), &reply) {
+    match serve(m, call, count, ftype.result_type(), &reply) {
         Replied::Done => Turn::Goes,
         Replied::Misfit => Turn::Ends(RunEnd::BadReply { reply }),
         Replied::NoMemory => Turn::Ends(RunEnd::NoMemory),

@@ -12,7 +12,7 @@ ghost use Rattle.machine_hosted.specs.calls.Settings.{Sound, MachineFits, HostSe
 ghost use Rattle.machine_hosted.specs.calls.Answers.{FunctionCameWith, function_going, FitsThen, HasCause};
 ghost use Rattle.machine_hosted.specs.calls.Watching.{Watched, function_placing};
 
-use crate::alone::call_alone;
+use crate::alone::{Imported, call_alone};
 use crate::answer::{FunctionRun, RunEnd};
 use crate::begin::begin_function;
 use crate::runner::Runner;
@@ -114,7 +114,12 @@ pub(crate) fn watch_function<H: HostSide, W: Watch>(
     match (source.imports.get(index), source.type_of(index)) {
         (Some(import), Some(ftype)) => {
             see_alone(fuel, watch);
-            call_alone(runner.alloc, m, function, import, ftype, args, fuel, hosts)
+            let called = Imported {
+                index: function,
+                import,
+                ftype,
+            };
+            call_alone(runner.alloc, m, &called, args, fuel, hosts)
         }
         _ => unreachable!(),
     }

@@ -1,6 +1,7 @@
 //! Functions are called (Core 4.4.7).
 
-ghost use Rattle.std.specs.Prelude.{◌≡◌, ℕ, true, false, ◌+◌, ◌-◌, ◌<◌, ◌≤◌, ◌∷◌, ◌++◌, List, length, reverse, replicate, map, slice_get, OnOk, MatchOption, Some, None};
+ghost use Rattle.std.specs.Prelude.{◌≡◌, ℕ, true, false, ◌+◌, ◌-◌, ◌<◌, ◌≤◌, ◌∷◌, ◌++◌, List, length, reverse};
+ghost use Rattle.std.specs.Prelude.{replicate, map, slice_get, OnOk, MatchOption, Some, None};
 ghost use Rattle.wasm_syntax.specs.declared.value.Value.{Value as Val};
 ghost use Rattle.wasm_syntax.specs.Module.{declared_locals};
 ghost use Rattle.wasm_syntax.specs.Machine.{zero_of, zeros};
@@ -14,22 +15,13 @@ use causes::NoMemory;
 use machine_basics::TrapKind;
 use machine_code::Code;
 use pm_text::Stack;
-use wasm_syntax::{LocalGroup, ValType, Value};
-
-fn zero(t: ValType) -> Value
-    ensures { result ≡ zero_of t }
-{
-    match t {
-        ValType::I32 => Value::I32(0),
-        ValType::I64 => Value::I64(0),
-    }
-}
+use wasm_syntax::{LocalGroup, Value};
 
 /// A zero for each local of a group, on top.
 fn push_group(values: &mut Stack<Value>, group: LocalGroup) -> Result<(), NoMemory>
     ensures { OnOk result (values.new ≡ replicate group.count (zero_of group.vtype) ++ values.old) }
 {
-    let zero = zero(group.vtype);
+    let zero = group.vtype.zero();
     for i in 0..group.count {
         values.push(zero)?;
     }

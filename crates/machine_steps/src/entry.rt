@@ -26,8 +26,9 @@ fn push_values(values: &mut Stack<Value>, args: &[Value]) -> Result<(), NoMemory
 }
 
 /// Leaves all frames.
-fn clear(m: &mut CallStack)
-    ensures { m.new ≡ record m.old { values = []; controls = []; frames = [] } }
+pub fn leave_frames(m: &mut CallStack)
+    ensures whole { m.new ≡ record m.old { values = []; controls = []; frames = [] } }
+    ensures frames { m.new.frames ≡ [] }
 {
     m.values.keep(0);
     m.controls.keep(0);
@@ -42,7 +43,7 @@ pub fn begin(m: &mut CallStack, codes: &[Code], function: usize, args: &[Value])
         → length args.now ≡ length type.params
         → Begun p codes.now function body tree type args.now result m.new }
 {
-    clear(m);
+    leave_frames(m);
     match code_at(codes, function) {
         Some(callee) => match push_values(&mut m.values, args) {
             Ok(()) => enter(m, callee, function, 0),

@@ -16,10 +16,10 @@ mod tally;
 mod watch;
 
 pub use calls::{call, call_under_index, code_at};
-pub use entry::begin;
+pub use entry::{begin, leave_frames};
 pub use layout::{CallFrame, CallStack, Control, Stepped};
 pub use machine::{ImportCall, Machine, Outcome};
 pub use returns::leave;
-pub use runs::{Ended, run, run_watched};
+pub use runs::{Ended, run_watched};
 pub use tally::Tally;
 pub use watch::{Position, Unwatched, Watch};

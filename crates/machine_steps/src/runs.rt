@@ -8,11 +8,10 @@ ghost use Rattle.machine_steps.specs.calls.Watched.{Watched};
 ghost use Rattle.machine_steps.specs.inner.Turns.{Made, Went};
 
 use crate::calls::code_at;
-use crate::layout::CallFrame;
 use crate::machine::{Machine, Outcome};
-use crate::steps::{Turn, step_in};
-use crate::watch::{Unwatched, Watch, standing};
-use machine_code::{Code, Prepared};
+use crate::steps::{Innermost, Turn, step_in};
+use crate::watch::{Watch, standing};
+use machine_code::Prepared;
 
 /// What a run came to, and the number of steps that it made. The step that traps counts; a call of
 /// an import is not made yet.
@@ -22,13 +21,11 @@ pub struct Ended {
     pub steps: u64,
 }
 
-/// At most so many steps, up to the first one that does not go on. `Next` says that the fuel is
-/// spent.
-pub fn run(m: &mut Machine, prepared: &Prepared, depth: usize, fuel: u64) -> Ended
-    ensures { (engine : Engine) (c : Config) → Begins engine prepared.now depth c m.old
-        → Came engine prepared.now.codes.items c fuel result.outcome result.steps m.new }
-{
-    run_watched(m, prepared, depth, fuel, &mut Unwatched {})
+/// How many steps of a run were made, and how many there may be.
+#[derive(Clone, Copy)]
+struct Steps {
+    made: u64,
+    fuel: u64,
 }
 
 /// Steps in the innermost frame, behind the first ones of a run, up to one that may have gone
@@ -37,24 +34,26 @@ pub fn run(m: &mut Machine, prepared: &Prepared, depth: usize, fuel: u64) -> End
 fn steps_in<W: Watch>(
     m: &mut Machine,
     prepared: &Prepared,
-    frame: CallFrame,
-    code: &Code,
+    innermost: &Innermost<'_, '_>,
     depth: usize,
-    made: u64,
-    fuel: u64,
+    steps: Steps,
     watch: &mut W,
     told: &mut Outcome,
 ) -> u64
-    requires frame { slice_get m.old.stack.frames 0 ≡ Some frame }
-    requires code { slice_get prepared.now.codes.items frame.function ≡ Some code.now }
-    requires fuel { made < fuel }
-    ensures { (first : Kept) (before : W) → Made W.Saw prepared.now depth first before made m.old watch.old
-        → Went W.Saw prepared.now depth first before made fuel told.new result m.new watch.new }
+    requires frame { slice_get m.old.stack.frames 0 ≡ Some innermost.now.frame }
+    requires code { slice_get prepared.now.codes.items innermost.now.frame.function
+        ≡ Some innermost.now.code.now }
+    requires fuel { steps.made < steps.fuel }
+    ensures { (first : Kept) (before : W)
+        → Made W.Saw prepared.now depth first before steps.made m.old watch.old
+        → Went W.Saw prepared.now depth first before steps.made steps.fuel told.new result m.new
+        watch.new }
 {
+    let code = innermost.code;
     let ops = code.body.ops.as_slice();
-    for i in made..fuel {
-        watch.see(standing(m, frame));
-        match step_in(m, prepared, frame, code, ops, depth, told) {
+    for i in steps.made..steps.fuel {
+        watch.see(standing(m, innermost.frame));
+        match step_in(m, prepared, innermost, ops, depth, told) {
             Turn::Straight => {}
             Turn::Came => match *told {
                 Outcome::Import(_) => return i,
@@ -63,7 +62,7 @@ fn steps_in<W: Watch>(
         }
     }
     *told = Outcome::Next;
-    fuel
+    steps.fuel
 }
 
 /// The same, in the frame that is the innermost one.
@@ -83,7 +82,18 @@ fn go_on<W: Watch>(
 {
     match m.stack.frames.peek(0) {
         Some(frame) => match code_at(&prepared.codes, frame.function) {
-            Some(code) => steps_in(m, prepared, frame, code, depth, made, fuel, watch, told),
+            Some(code) => {
+                let innermost = Innermost { frame, code };
+                steps_in(
+                    m,
+                    prepared,
+                    &innermost,
+                    depth,
+                    Steps { made, fuel },
+                    watch,
+                    told,
+                )
+            }
             None => {
                 *told = Outcome::Stuck;
                 made
@@ -96,7 +106,8 @@ fn go_on<W: Watch>(
     }
 }
 
-/// The same, and a watch sees each step, also that of the call of an import.
+/// At most so many steps, up to the first one that does not go on. `Next` says that the fuel is
+/// spent. A watch sees each step, also that of the call of an import.
 pub fn run_watched<W: Watch>(
     m: &mut Machine,
     prepared: &Prepared,

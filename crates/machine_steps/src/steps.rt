@@ -214,26 +214,36 @@ fn call_indirect(
     *told = indirect(m, prepared, t as usize, depth, next);
 }
 
+/// The innermost frame, and the code of its function.
+#[derive(Drop)]
+pub(crate) struct Innermost<'c, 'a> {
+    pub(crate) frame: CallFrame,
+    pub(crate) code: &'c Code<'a>,
+}
+
 /// An instruction that may go elsewhere.
 #[inline(always)]
 fn jump(
     m: &mut Machine,
     prepared: &Prepared,
-    frame: CallFrame,
-    code: &Code,
+    innermost: &Innermost<'_, '_>,
     jump: &Jump,
     depth: usize,
     next: usize,
     told: &mut Outcome,
 ) -> Turn
     requires next { next ≡ m.old.stack.position + 1 }
-    requires frame { slice_get m.old.stack.frames 0 ≡ Some frame }
-    ensures meets { (x : Point) → Here x m.old code.now → x.codes ≡ prepared.now.codes.items
+    requires frame { slice_get m.old.stack.frames 0 ≡ Some innermost.now.frame }
+    ensures meets { (x : Point) → Here x m.old innermost.now.code.now
+        → x.codes ≡ prepared.now.codes.items
         → IsPrepared x.engine.program prepared.now → x.engine.depth ≡ depth
-        → Reads m.old.stack code.now (Goes (jump_of code.now.body.now.targets jump.now))
+        → Reads m.old.stack innermost.now.code.now
+        (Goes (jump_of innermost.now.code.now.body.now.targets jump.now))
         → MeetsAt x (came_to result told.new) (step_at x) m.new }
     ensures stays { Stays result m.old m.new }
 {
+    let frame = innermost.frame;
+    let code = innermost.code;
     match jump {
         Jump::Br(n) => reached(branch(&mut m.stack, frame, code.gives, *n as usize), told),
         Jump::BrIf(n) => reached(branch_if(&mut m.stack, frame, code.gives, *n, next), told),
@@ -258,24 +268,27 @@ fn jump(
 fn run_op(
     m: &mut Machine,
     prepared: &Prepared,
-    frame: CallFrame,
-    code: &Code,
+    innermost: &Innermost<'_, '_>,
     instruction: &Instr,
     depth: usize,
     next: usize,
     told: &mut Outcome,
 ) -> Turn
     requires next { next ≡ m.old.stack.position + 1 }
-    requires frame { slice_get m.old.stack.frames 0 ≡ Some frame }
-    ensures meets { (x : Point) → Here x m.old code.now → x.codes ≡ prepared.now.codes.items
+    requires frame { slice_get m.old.stack.frames 0 ≡ Some innermost.now.frame }
+    ensures meets { (x : Point) → Here x m.old innermost.now.code.now
+        → x.codes ≡ prepared.now.codes.items
         → IsPrepared x.engine.program prepared.now → x.engine.depth ≡ depth
-        → Reads m.old.stack code.now (item_of code.now.body.now.targets instruction.now)
+        → Reads m.old.stack innermost.now.code.now
+        (item_of innermost.now.code.now.body.now.targets instruction.now)
         → MeetsAt x (came_to result told.new) (step_at x) m.new }
     ensures stays { Stays result m.old m.new }
 {
+    let frame = innermost.frame;
+    let code = innermost.code;
     match instruction {
         Instr::Basic(instruction) => basic(m, frame, instruction, next, told),
-        Instr::Jump(to) => jump(m, prepared, frame, code, to, depth, next, told),
+        Instr::Jump(to) => jump(m, prepared, innermost, to, depth, next, told),
         Instr::Block(t) => reached(inside(block(&mut m.stack, code, *t, next)), told),
         Instr::Loop(_) => reached(inside(loop_(&mut m.stack, next)), told),
         Instr::If(t) => reached(inside(if_(&mut m.stack, code, *t, next)), told),
@@ -305,15 +318,15 @@ fn op_at(ops: &[Op], position: usize) -> Option<&Op>
 pub(crate) fn step_in(
     m: &mut Machine,
     prepared: &Prepared,
-    frame: CallFrame,
-    code: &Code,
+    innermost: &Innermost<'_, '_>,
     ops: &[Op],
     depth: usize,
     told: &mut Outcome,
 ) -> Turn
-    requires frame { slice_get m.old.stack.frames 0 ≡ Some frame }
-    requires code { slice_get prepared.now.codes.items frame.function ≡ Some code.now }
-    requires ops { ops.now ≡ code.now.body.now.ops }
+    requires frame { slice_get m.old.stack.frames 0 ≡ Some innermost.now.frame }
+    requires code { slice_get prepared.now.codes.items innermost.now.frame.function
+        ≡ Some innermost.now.code.now }
+    requires ops { ops.now ≡ innermost.now.code.now.body.now.ops }
     ensures meets { (engine : Engine) (c : Config) → IsPrepared engine.program prepared.now
         → engine.depth ≡ depth → StandsFor engine.program prepared.now.codes.items m.old c
         → Meets engine prepared.now.codes.items c (came_to result told.new) (step engine c) m.new }
@@ -322,7 +335,7 @@ pub(crate) fn step_in(
     match op_at(ops, m.stack.position) {
         Some(op) => {
             let next = m.stack.position + 1;
-            run_op(m, prepared, frame, code, &op.code, depth, next, told)
+            run_op(m, prepared, innermost, &op.code, depth, next, told)
         }
         None => {
             tell(Stepped::Stuck, told);

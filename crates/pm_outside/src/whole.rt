@@ -4,6 +4,7 @@ ghost use Rattle.std.specs.Prelude.{◌≡◌, ◌≤◌, length, vec_len, Some,
 ghost use Rattle.causes.specs.Counts.{Rose};
 ghost use Rattle.pm_outside.specs.calls.Whole.{Refuses};
 ghost use Rattle.pm_outside.specs.declared.whole.FileError.TheVariants.{NoMemory};
+ghost use Rattle.pm_outside.specs.calls.Kept.{FilesKept};
 
 use crate::{Files, ReadAnswer};
 use std::alloc::{AllocError, Global};
@@ -54,9 +55,7 @@ pub fn read_file<F: Files>(
         (λ held. IfErr result (Refuses limit (held name.now))) }
     ensures failed { IsErrOf result FileError.Failed
         → Rose (F.faults files.old) (F.faults files.new) }
-    ensures later { F.faults files.old ≤ F.faults files.new }
-    ensures same { F.told files.new ≡ F.told files.old }
-    ensures names { F.created files.new ≡ F.created files.old }
+    ensures files { FilesKept F.told F.created F.faults files.old files.new }
 {
     let mut bytes = Vec::new(alloc);
     let mut buffer = zeros(alloc, PIECE)?;

@@ -1,6 +1,7 @@
 //! A list in a vector.
 
-ghost use Rattle.std.specs.Prelude.{◌≡◌, ◌==◌, ◌<◌, ◌-◌, ◌↔◌, ◌++◌, [], ◌∷◌, length, take, slice_get, List, IfOk, IsSome, OnOk, OnErr};
+ghost use Rattle.std.specs.Prelude.{◌≡◌, ◌==◌, ◌<◌, ◌-◌, ◌↔◌, ◌++◌, [], ◌∷◌, length, take, slice_get, List, IfOk};
+ghost use Rattle.std.specs.Prelude.{IsSome, OnOk, OnErr};
 ghost use Rattle.std.specs.Cmp.Lexicographic.{pointwise, lists_per, lists_equiv};
 ghost use Rattle.std.specs.Fmt.{debug_list};
 ghost use Rattle.std.specs.Option.{option_copied, option_to_list};

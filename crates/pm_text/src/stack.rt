@@ -1,6 +1,7 @@
 //! A stack in a vector. Contracts see it as a list with the topmost element first.
 
-ghost use Rattle.std.specs.Prelude.{◌≡◌, ◌+◌, ◌-◌, ◌<◌, ◌≤◌, List, [], ◌∷◌, ◌++◌, length, reverse, drop, take, slice_get, slice_set, OnOk, OnErr, IfOk, MatchOption};
+ghost use Rattle.std.specs.Prelude.{◌≡◌, ◌+◌, ◌-◌, ◌<◌, ◌≤◌, List, [], ◌∷◌, ◌++◌, length, reverse, drop, take};
+ghost use Rattle.std.specs.Prelude.{slice_get, slice_set, OnOk, OnErr, IfOk, MatchOption};
 
 use causes::NoMemory;
 use std::alloc::Global;

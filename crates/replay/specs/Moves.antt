@@ -5,8 +5,8 @@ use Rattle.wasm_syntax.specs.Machine.{Config}
 use Rattle.wasm_syntax.specs.Run.{no_export, bad_arguments, element_out, data_out}
 use Rattle.machine_hosted.specs.declared.answer.RunEnd.{RunEnd}
 use Rattle.wasm_machine.specs.calls.Instances.{State, StandsAt}
-use Rattle.replay.specs.declared.fault.ReplayFault.{ReplayFault}
-use Rattle.replay.specs.declared.fault.ReplayFault.TheVariants.{NoExport, BadArguments, ElementOut, DataOut, NoMemory}
+use Rattle.replay.specs.declared.fault.StartRefusal.{StartRefusal}
+use Rattle.replay.specs.declared.fault.StartRefusal.TheVariants.{NoExport, BadArguments, ElementOut, DataOut, NoMemory}
 use Rattle.replay.specs.Replays.{Recording, IsOf, cause_in, state_at, is_there}
 
 -- A replay: what is run, how far apart its checkpoints are at first, its last step and how the run ended there, how many checkpoints are kept,
@@ -29,7 +29,7 @@ abbrev pub OfEach : Recording → (Program → Type 0) → Type 0
 OfEach x P = (p : Program) → IsOf x p → P p
 
 -- the cause for which the run does not start
-abbrev pub IsFault : ReplayFault → Recording → Type 0
+abbrev pub IsFault : StartRefusal → Recording → Type 0
 IsFault NoExport x = cause_in x ≡ Some no_export
 IsFault BadArguments x = cause_in x ≡ Some bad_arguments
 IsFault (ElementOut i) x = cause_in x ≡ Some (element_out i)
@@ -37,7 +37,7 @@ IsFault (DataOut i) x = cause_in x ≡ Some (data_out i)
 IsFault NoMemory x = Unit {0}
 
 -- A new replay stands at the first state; or the run does not start.
-abbrev pub Starts : Result Replay ReplayFault → Recording → ℕ → Type 0
+abbrev pub Starts : Result Replay StartRefusal → Recording → ℕ → Type 0
 Starts (Ok r) x every = (cause_in x ≡ None) × (r.recording ≡ x) × (r.every ≡ every) × (r.step ≡ 0)
 Starts (Err fault) x every = IsFault fault x
 

@@ -1,7 +1,7 @@
 //! Why a run does not start.
 
 ghost use Rattle.std.specs.Prelude.{◌≡◌};
-ghost use Rattle.replay.specs.declared.fault.ReplayFault.TheVariants as faults;
+ghost use Rattle.replay.specs.declared.fault.StartRefusal.TheVariants as faults;
 
 use causes::NoMemory;
 use wasm_machine::{EntryFault, StartFault};
@@ -10,7 +10,7 @@ use wasm_machine::{EntryFault, StartFault};
 /// as its parameters, or not of their types; or the element or data segment of an index lies
 /// outside, the first such one.
 #[derive(Clone, Copy, Debug, PartialEq, Eq)]
-pub enum ReplayFault {
+pub enum StartRefusal {
     NoExport,
     BadArguments,
     ElementOut { index: u32 },
@@ -18,10 +18,10 @@ pub enum ReplayFault {
     NoMemory,
 }
 
-impl From<NoMemory> for ReplayFault {
+impl From<NoMemory> for StartRefusal {
     ghost from_gives = { λ _ e. e ≡ faults.NoMemory };
 
-    fn from(_e: NoMemory) -> ReplayFault {
-        ReplayFault::NoMemory
+    fn from(_e: NoMemory) -> StartRefusal {
+        StartRefusal::NoMemory
     }
 }

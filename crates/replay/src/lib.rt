@@ -9,6 +9,7 @@ mod recorded;
 mod replayer;
 mod track;
 
-pub use fault::ReplayFault;
+pub use fault::StartRefusal;
 pub use machine_hosted::RunEnd;
+pub use recorded::Recorded;
 pub use replayer::Replayer;

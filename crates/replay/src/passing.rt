@@ -3,7 +3,7 @@
 ghost use Rattle.std.specs.Prelude.{◌≡◌, ◌≢◌, ◌≤◌, true, false};
 ghost use Rattle.replay.specs.inner.Tracks.{Passes};
 
-use crate::fault::ReplayFault;
+use crate::fault::StartRefusal;
 use crate::point::Point;
 use crate::recorded::Recorded;
 use crate::track::Track;
@@ -34,7 +34,7 @@ pub(crate) fn pass<'a>(
     alloc: Global,
     recorded: &Recorded<'a>,
     every: u64,
-) -> Result<Passed<'a>, ReplayFault>
+) -> Result<Passed<'a>, StartRefusal>
     requires { 1 ≤ every }
     ensures { Passes result recorded.now every }
 {

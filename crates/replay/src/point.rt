@@ -10,7 +10,7 @@ ghost use Rattle.replay.specs.Moves.{IsFault};
 ghost use Rattle.replay.specs.inner.Starting.{early, of_segments, Started};
 ghost use Rattle.replay.specs.inner.Tracks.{Begun, WaitsAt, ReachedAt};
 
-use crate::fault::ReplayFault;
+use crate::fault::StartRefusal;
 use crate::recorded::Recorded;
 use causes::NoMemory;
 use machine_hosted::RunEnd;
@@ -25,29 +25,29 @@ pub(crate) struct Point<'a> {
 }
 
 /// Why an entry may not be invoked, where each import is served.
-fn early_fault(fault: Option<EntryFault>) -> Option<ReplayFault>
+fn early_fault(fault: Option<EntryFault>) -> Option<StartRefusal>
     ensures { result ≡ early fault }
 {
     match fault {
-        Some(EntryFault::NoExport) => Some(ReplayFault::NoExport),
-        Some(EntryFault::BadArguments) => Some(ReplayFault::BadArguments),
+        Some(EntryFault::NoExport) => Some(StartRefusal::NoExport),
+        Some(EntryFault::BadArguments) => Some(StartRefusal::BadArguments),
         Some(EntryFault::Unserved { .. }) => None,
         None => None,
     }
 }
 
-fn segment_fault(fault: StartFault) -> ReplayFault
+fn segment_fault(fault: StartFault) -> StartRefusal
     ensures { result ≡ of_segments fault }
 {
     match fault {
-        StartFault::ElementOut { index } => ReplayFault::ElementOut { index },
-        StartFault::DataOut { index } => ReplayFault::DataOut { index },
-        StartFault::NoMemory => ReplayFault::NoMemory,
+        StartFault::ElementOut { index } => StartRefusal::ElementOut { index },
+        StartFault::DataOut { index } => StartRefusal::DataOut { index },
+        StartFault::NoMemory => StartRefusal::NoMemory,
     }
 }
 
 /// The first cause for which the entry may not be invoked.
-fn entry_cause(alloc: Global, recorded: &Recorded<'_>) -> Option<ReplayFault>
+fn entry_cause(alloc: Global, recorded: &Recorded<'_>) -> Option<StartRefusal>
     ensures none { result ≡ None → cause_of_entry recorded.now.module_
         (function_export recorded.now.module_ recorded.now.entry) recorded.now.args ≡ None }
     ensures some { IfSome result (λ fault. IsFault fault recorded.now) }
@@ -58,7 +58,7 @@ fn entry_cause(alloc: Global, recorded: &Recorded<'_>) -> Option<ReplayFault>
 }
 
 /// A new instance, or why the run does not start.
-fn started<'a>(alloc: Global, recorded: &Recorded<'a>) -> Result<Instance<'a>, ReplayFault>
+fn started<'a>(alloc: Global, recorded: &Recorded<'a>) -> Result<Instance<'a>, StartRefusal>
     ensures { Started result recorded.now }
 {
     if let Some(fault) = entry_cause(alloc, recorded) {
@@ -120,7 +120,7 @@ fn begun<'a>(
 
 impl<'a> Point<'a> {
     /// The first state of a run, or why it does not start.
-    pub(crate) fn first(alloc: Global, recorded: &Recorded<'a>) -> Result<Point<'a>, ReplayFault>
+    pub(crate) fn first(alloc: Global, recorded: &Recorded<'a>) -> Result<Point<'a>, StartRefusal>
         ensures { Begun result recorded.now }
     {
         let instance = started(alloc, recorded)?;

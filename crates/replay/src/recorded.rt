@@ -11,13 +11,17 @@ use wasm_validate::Validated;
 
 /// An invocation of a module, with the replies that its host gave.
 #[derive(Drop)]
-pub(crate) struct Recorded<'a> {
-    pub(crate) source: &'a Validated,
-    pub(crate) entry: &'a str,
-    pub(crate) args: &'a [Value],
-    pub(crate) replies: &'a [Reply],
-    pub(crate) depth: u32,
-    pub(crate) fuel: u64,
+pub struct Recorded<'a> {
+    pub source: &'a Validated,
+    /// The name of an exported function.
+    pub entry: &'a str,
+    pub args: &'a [Value],
+    /// They serve all imports, in order.
+    pub replies: &'a [Reply],
+    /// How many frames there may be at once.
+    pub depth: u32,
+    /// How many steps may be made.
+    pub fuel: u64,
 }
 
 impl<'a> Model for Recorded<'a> {

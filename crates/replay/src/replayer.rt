@@ -5,7 +5,7 @@ ghost use Rattle.replay.specs.Replays.{IsEnd, EndsWith};
 ghost use Rattle.replay.specs.Moves.{Starts, Went, Found, OfEach, Shows, near};
 
 use crate::ahead::next_at;
-use crate::fault::ReplayFault;
+use crate::fault::StartRefusal;
 use crate::passing::pass;
 use crate::point::Point;
 use crate::recorded::Recorded;
@@ -15,8 +15,6 @@ use machine_hosted::RunEnd;
 use std::alloc::Global;
 use std::marker::Model;
 use wasm_machine::Instance;
-use wasm_syntax::{Reply, Value};
-use wasm_validate::Validated;
 
 /// A run whose replies are there, from its first step to its last one, and the state behind one of
 /// its steps.
@@ -57,41 +55,20 @@ impl<'a> Model for Replayer<'a> {
 }
 
 impl<'a> Replayer<'a> {
-    /// Runs an exported function on arguments up to its end, with at most `depth` frames at once
-    /// and for at most `fuel` steps. The replies serve all imports, in order. Then it stands at
-    /// step 0. Checkpoints are `every` steps apart at first.
+    /// Runs the exported function on its arguments up to its end, within its depth and fuel. Then
+    /// it stands at step 0. Checkpoints are `every` steps apart at first.
     ///
     /// # Errors
     ///
     /// The first cause for which the run does not start. `NoMemory` where memory runs out.
     pub fn new(
         alloc: Global,
-        source: &'a Validated,
-        entry: &'a str,
-        args: &'a [Value],
-        replies: &'a [Reply],
-        depth: u32,
-        fuel: u64,
+        recorded: Recorded<'a>,
         every: u64,
-    ) -> Result<Replayer<'a>, ReplayFault>
+    ) -> Result<Replayer<'a>, StartRefusal>
         requires { 1 ≤ every }
-        ensures { Starts result (record {
-          module_ = source.now;
-          entry = entry.now;
-          args = args.now;
-          replies = replies.now;
-          depth = depth;
-          fuel = fuel;
-        }) every }
+        ensures { Starts result recorded.entry every }
     {
-        let recorded = Recorded {
-            source,
-            entry,
-            args,
-            replies,
-            depth,
-            fuel,
-        };
         let passed = pass(alloc, &recorded, every)?;
         let shown = passed.track.point_at(alloc, &recorded, 0)?;
         Ok(Replayer {

@@ -1,9 +1,11 @@
 //! The checkpoints of a run.
 
-ghost use Rattle.std.specs.Prelude.{◌≡◌, ◌+◌, ◌*◌, ◌<◌, ◌≤◌, ◌^◌, ℕ, ◌∷◌, [], ◌++◌, Some, IfOk, OnOk, length, slice_get};
+ghost use Rattle.std.specs.Prelude.{◌≡◌, ◌+◌, ◌*◌, ◌<◌, ◌≤◌, ◌^◌, ℕ, ◌∷◌, [], ◌++◌, Some, IfOk, OnOk, length};
+ghost use Rattle.std.specs.Prelude.{slice_get};
 ghost use Rattle.machine_hosted.specs.declared.answer.RunEnd.{RunEnd as Answer};
 ghost use Rattle.replay.specs.Replays.{Recording};
-ghost use Rattle.replay.specs.inner.Tracks.{WaitsAt, ReachedAt, DueIn, FreshIn, CoversIn, every_second as every_second_of};
+ghost use Rattle.replay.specs.inner.Tracks.{WaitsAt, ReachedAt, DueIn, FreshIn, CoversIn};
+ghost use Rattle.replay.specs.inner.Tracks.{every_second as every_second_of};
 
 use crate::point::Point;
 use crate::recorded::Recorded;

@@ -2,7 +2,8 @@
 
 ghost use Rattle.std.specs.Prelude.{◌≡◌, ◌<◌, ◌≤◌, ◌^◌, ◌↔◌, length, drop, slice_range, IfOk, IfSome, IsErrOf};
 ghost use Rattle.wasm_leb.specs.calls.Numbers.{IsUnsigned, IsSigned, IsUnfinished, BeginsNone};
-ghost use Rattle.wasm_leb.specs.Reading.{Gives, unsigned_at, u32_at, u64_at, signed_at, last_signed, IsWithin, s32_at, s64_at};
+ghost use Rattle.wasm_leb.specs.Reading.{Gives, unsigned_at, u32_at, u64_at, signed_at, last_signed, IsWithin, s32_at};
+ghost use Rattle.wasm_leb.specs.Reading.{s64_at};
 
 use crate::LebFault;
 

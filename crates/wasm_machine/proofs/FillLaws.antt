@@ -1,6 +1,5 @@
 -- A table and a memory, over which segments are put.
-use Rattle.std.proofs.Common.{◌≡◌, ℕ, suc, ◌+◌, ◌<◌, ◌≤◌, ◌^◌, List, [], ◌∷◌, ◌++◌, take, drop, set, length, map, get_or, min, sym, ap, ◌∙◌, append_assoc, length-append, arith, unwrap_or}
-use Rattle.std.proofs.lemmas.List.{drop_more, set_at, length-take-le}
+use Rattle.std.proofs.Common.{◌≡◌, ℕ, suc, ◌+◌, ◌<◌, ◌≤◌, ◌^◌, List, [], ◌∷◌, length, map, get_or, min, ap, arith, unwrap_or}
 use Rattle.std.proofs.lemmas.Bool.Decides.{nat_tests}
 use Rattle.std.specs.Prelude.{true, nat_le, slice_get, IfSome, Option, Some, None}
 use Rattle.std.specs.List.{AllByRecursion}
@@ -11,20 +10,9 @@ use Rattle.wasm_syntax.specs.declared.place.Place.TheVariants.{MemoryAt}
 use Rattle.wasm_syntax.specs.declared.module.ModuleParts.{ModuleParts as Module}
 use Rattle.wasm_syntax.specs.Valid.{Valid, There, MemoryFine, LimitsFine}
 use Rattle.wasm_syntax.specs.Sizes.{WithinLimits}
-use Rattle.wasm_syntax.specs.Run.{over, first_false, element_at, element_fits, data_at, data_fits, table_min, memory_bytes, empty_memory}
+use Rattle.wasm_syntax.specs.Run.{first_false, element_at, element_fits, data_at, data_fits, table_min, memory_bytes, empty_memory}
 use Rattle.wasm_machine.specs.calls.Starts.{MayBegin}
 use Rattle.wasm_machine.proofs.BoundLaws.{each_passes}
-
--- one value more is put over a list
-pub over_more : {A : Type 0} (xs new : List A) (at n : ℕ) (y : A) → n ≡ at + length new → n < length xs → set (over xs at new) n y ≡ over xs at (new ++ y ∷ [])
-over_more xs new at n y e lt =
-    let count : length (take at xs ++ new) ≡ n = omega (arith, length-append (take at xs) new, length-take-le at xs (omega arith)) in
-    let next : at + length (new ++ y ∷ []) ≡ n + 1 = omega (arith, length-append new (y ∷ [])) in
-    ap (λ l. set l n y) (ap (λ k. take at xs ++ (new ++ drop k xs)) (sym e) ∙ ap (λ l. take at xs ++ (new ++ l)) (drop_more xs n y lt) ∙ sym (append_assoc (take at xs) new (get_or xs n y ∷ drop (n + 1) xs)))
-    ∙ set_at (take at xs ++ new) (get_or xs n y) (drop (n + 1) xs) y n count
-    ∙ append_assoc (take at xs) new (y ∷ drop (n + 1) xs)
-    ∙ ap (λ l. take at xs ++ l) (sym (append_assoc new (y ∷ []) (drop (n + 1) xs)))
-    ∙ ap (λ k. take at xs ++ ((new ++ y ∷ []) ++ drop k xs)) (sym next)
 
 -- ---- element segments
 

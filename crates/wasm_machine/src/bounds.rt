@@ -4,27 +4,17 @@
 ghost use Rattle.std.specs.Prelude.{◌≡◌, ◌<◌, ◌^◌, ◌*◌, option_map, length, map};
 ghost use Rattle.linear_memory.specs.Memory.{page_size};
 ghost use Rattle.wasm_syntax.specs.Sizes.{Short};
-ghost use Rattle.wasm_syntax.specs.Run.{element_at as element_place, data_at as data_place, element_fits as is_element_inside, data_fits as is_data_inside, table_min as least_table, empty_memory, memory_bytes, first_false, cause_of_segments};
+ghost use Rattle.wasm_syntax.specs.Run.{element_fits as is_element_inside, data_fits as is_data_inside, empty_memory};
+ghost use Rattle.wasm_syntax.specs.Run.{memory_bytes, first_false, cause_of_segments};
 ghost use Rattle.wasm_machine.specs.calls.Starts.{segment_cause};
 
-use crate::constants::offset;
-use wasm_syntax::{DataSeg, ElementSeg, ModuleParts};
+use wasm_syntax::{DataSeg, ModuleParts};
 
 /// A segment that passes the end of the table or of the memory, by its index among its kind.
 #[derive(Clone, Copy, Debug, PartialEq, Eq)]
 pub enum SegmentOut {
     Element { index: u32 },
     Data { index: u32 },
-}
-
-/// How many elements the table has at the start.
-pub(crate) fn table_min(m: &ModuleParts) -> u32
-    ensures { result ≡ least_table m.now.tables }
-{
-    match m.tables.as_slice() {
-        [] => 0,
-        [limits, ..] => limits.min,
-    }
 }
 
 /// How many bytes the memory has at the start.
@@ -37,32 +27,10 @@ fn memory_size(m: &ModuleParts) -> u64
     }
 }
 
-/// Where the functions of an element segment begin in the table.
-pub(crate) fn element_at(m: &ModuleParts, element: &ElementSeg) -> u32
-    ensures { result ≡ element_place m.now element.now }
-{
-    offset(m.globals.as_slice(), &element.offset)
-}
-
-/// Where the bytes of a data segment begin in the memory.
-pub(crate) fn data_at(m: &ModuleParts, segment: &DataSeg) -> u32
-    ensures { result ≡ data_place m.now segment.now }
-{
-    offset(m.globals.as_slice(), &segment.offset)
-}
-
-fn element_fits(m: &ModuleParts, element: &ElementSeg) -> bool
-    ensures { result ≡ is_element_inside m.now element.now }
-{
-    let at = u64::from(element_at(m, element));
-    let size = u64::from(table_min(m));
-    at <= size && element.functions.len() as u64 <= size - at
-}
-
 fn data_fits(m: &ModuleParts, segment: &DataSeg) -> bool
     ensures { result ≡ is_data_inside m.now segment.now }
 {
-    let at = u64::from(data_at(m, segment));
+    let at = u64::from(m.data_at(segment));
     let size = memory_size(m);
     at <= size && segment.bytes.len() as u64 <= size - at
 }
@@ -75,7 +43,7 @@ fn element_out(m: &ModuleParts) -> Option<u32>
     let elements = m.elements.as_slice();
     let mut index = 0u32;
     for element in elements {
-        if !element_fits(m, element) {
+        if !m.element_fits(element) {
             return Some(index);
         }
         index += 1;

@@ -2,7 +2,7 @@
 
 ghost use Rattle.std.specs.Prelude.{◌≡◌, ◌<◌, ◌^◌, length, Some, IfOk};
 ghost use Rattle.wasm_syntax.specs.Module.{function_export, is_function as names_function, same_types};
-ghost use Rattle.wasm_syntax.specs.Numbers.{types, type_of as type_of_value, same_type as are_same};
+ghost use Rattle.wasm_syntax.specs.Numbers.{types};
 ghost use Rattle.wasm_machine.specs.calls.Entries.{is_served, first_unserved, entry_fault};
 ghost use Rattle.wasm_machine.specs.calls.Answers.{fault_in};
 ghost use Rattle.wasm_machine.specs.inner.Callees.{is_entry, takes_arguments};
@@ -50,26 +50,6 @@ fn entry_function(m: &ModuleParts, entry: &str) -> Option<u32>
     None
 }
 
-fn type_of(value: Value) -> ValType
-    ensures { result ≡ type_of_value value }
-{
-    match value {
-        Value::I32(_) => ValType::I32,
-        Value::I64(_) => ValType::I64,
-    }
-}
-
-fn same_type(a: ValType, b: ValType) -> bool
-    ensures { result ≡ are_same a b }
-{
-    match (a, b) {
-        (ValType::I32, ValType::I32) => true,
-        (ValType::I32, ValType::I64) => false,
-        (ValType::I64, ValType::I32) => false,
-        (ValType::I64, ValType::I64) => true,
-    }
-}
-
 /// Whether values are as many as these types, and of these types.
 fn have_types(params: &[ValType], args: &[Value]) -> bool
     ensures { result ≡ same_types params.now (types args.now) }
@@ -78,7 +58,7 @@ fn have_types(params: &[ValType], args: &[Value]) -> bool
         return false;
     }
     for i in 0..params.len() {
-        if !same_type(params[i], type_of(args[i])) {
+        if !params[i].is_same(args[i].type_of()) {
             return false;
         }
     }

@@ -1,6 +1,7 @@
 //! An instance of a module.
 
-ghost use Rattle.std.specs.Prelude.{[], ◌≡◌, ◌+◌, ◌<◌, ◌^◌, ℕ, true, Some, None, IfOk, OnOk, OnErr, length, option_map, slice_get};
+ghost use Rattle.std.specs.Prelude.{[], ◌≡◌, ◌+◌, ◌<◌, ◌^◌, ℕ, true, Some, None, IfOk, OnOk, OnErr, length, option_map};
+ghost use Rattle.std.specs.Prelude.{slice_get};
 ghost use Rattle.std.specs.Option.{option_copied};
 ghost use Rattle.wasm_syntax.specs.declared.value.Value.{Value as Val};
 ghost use Rattle.wasm_syntax.specs.Module.{Program, function_export};
@@ -11,7 +12,8 @@ ghost use Rattle.machine_hosted.specs.calls.Answers.{HasCause};
 ghost use Rattle.wasm_machine.specs.calls.Entries.{entry_fault};
 ghost use Rattle.wasm_machine.specs.calls.Answers.{fault_in};
 ghost use Rattle.machine_hosted.specs.calls.Courses.{Course};
-ghost use Rattle.wasm_machine.specs.calls.Instances.{Begins, IsOf, IsSpent, StandsAt, Invoked, Resumed, Stopped, StoppedBy, copied, last_of};
+ghost use Rattle.wasm_machine.specs.calls.Instances.{Begins, IsOf, IsSpent, StandsAt, Invoked, Resumed, Stopped};
+ghost use Rattle.wasm_machine.specs.calls.Instances.{StoppedBy, copied, last_of};
 ghost use Rattle.wasm_machine.specs.calls.Watching.{Seen};
 ghost use Rattle.wasm_machine.specs.declared.invocation.LastInvocation.{LastInvocation as Kept};
 
@@ -23,7 +25,7 @@ use causes::NoMemory;
 use host_devices::HostSide;
 use linear_memory::Memory;
 use machine_code::{Prepared, prepare};
-use machine_hosted::{RunEnd, Runner, resume_invocation, watch_invocation};
+use machine_hosted::{Entry, RunEnd, Runner, resume_invocation, watch_invocation};
 use machine_steps::{CallStack, Machine, Unwatched, Watch};
 use pm_text::Stack;
 use std::alloc::Global;
@@ -256,8 +258,12 @@ impl<'a> Instance<'a> {
             prepared,
             depth: depth as usize,
         };
+        let entry = Entry {
+            index: function,
+            args,
+        };
         let machine = &mut self.machine;
-        let run = watch_invocation(&runner, machine, start, function, args, fuel, hosts, watch);
+        let run = watch_invocation(&runner, machine, start, &entry, fuel, hosts, watch);
         self.ready = run.ready;
         self.entered = run.entered;
         self.steps += run.steps;

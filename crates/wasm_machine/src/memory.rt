@@ -1,11 +1,13 @@
 //! The memory of an instance, into whose pages the data segments are written.
 
-ghost use Rattle.std.specs.Prelude.{◌≡◌, ◌+◌, ◌≤◌, ◌^◌, length, map, fold, min, unwrap_or, option_map, IfOk, OnOk, Some, None};
+ghost use Rattle.std.specs.Prelude.{◌≡◌, ◌+◌, ◌≤◌, ◌^◌, length, map, fold, min, unwrap_or, option_map, IfOk, OnOk};
+ghost use Rattle.std.specs.Prelude.{Some, None};
 ghost use Rattle.std.specs.List.{AllByRecursion};
-ghost use Rattle.wasm_syntax.specs.Run.{data_fits, first_false, empty_memory as memory_at_first, memory_bytes, start_memory as memory_at_start};
-ghost use Rattle.wasm_machine.specs.calls.Starts.{most_pages, MayBegin, put_data};
+ghost use Rattle.wasm_syntax.specs.Run.{data_fits, first_false, empty_memory as memory_at_first, memory_bytes};
+ghost use Rattle.wasm_syntax.specs.Run.{start_memory as memory_at_start};
+ghost use Rattle.wasm_syntax.specs.calls.Starting.{put_data};
+ghost use Rattle.wasm_machine.specs.calls.Starts.{most_pages, MayBegin};
 
-use crate::bounds::data_at;
 use causes::NoMemory;
 use linear_memory::{Memory, StoreFault};
 use std::alloc::Global;
@@ -46,7 +48,7 @@ fn fill_memory(memory: &mut Memory, m: &ModuleParts) -> Result<(), NoMemory>
 {
     let segments = m.segments.as_slice();
     for segment in segments {
-        let at = u64::from(data_at(m, segment));
+        let at = u64::from(m.data_at(segment));
         match memory.write(at, segment.bytes.as_slice()) {
             Ok(()) => {}
             Err(StoreFault::NoMemory) => return Err(NoMemory),

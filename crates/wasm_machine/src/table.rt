@@ -1,26 +1,14 @@
 //! The table of an instance, filled in place.
 
-ghost use Rattle.std.specs.Prelude.{◌≡◌, ◌+◌, ◌≤◌, length, map, fold, replicate, IfOk, Some, None};
-ghost use Rattle.wasm_syntax.specs.Run.{element_fits, table_min as least_table, first_false, start_table as table_at_start, over};
-ghost use Rattle.wasm_machine.specs.calls.Starts.{put_element};
+ghost use Rattle.std.specs.Prelude.{◌≡◌, length, map, fold, IfOk, None};
+ghost use Rattle.wasm_syntax.specs.Run.{element_fits, table_min as least_table, first_false};
+ghost use Rattle.wasm_syntax.specs.Run.{start_table as table_at_start};
+ghost use Rattle.wasm_syntax.specs.calls.Starting.{put_element};
 
-use crate::bounds::{element_at, table_min};
 use causes::NoMemory;
 use pm_text::Items;
 use std::alloc::Global;
-use wasm_syntax::ModuleParts;
-
-/// Puts functions into a table, from a place on.
-fn put_functions(table: &mut [Option<u32>], at: usize, functions: &[u32])
-    requires { at + length functions.now ≤ length table.old }
-    ensures { table.new ≡ over table.old at (map Some functions.now) }
-{
-    let mut next = at;
-    for function in functions {
-        table[next] = Some(*function);
-        next += 1;
-    }
-}
+use wasm_syntax::{ModuleParts, put_functions};
 
 /// Puts the functions of all element segments into a table, in the order of the segments.
 fn fill_table(table: &mut [Option<u32>], m: &ModuleParts)
@@ -30,7 +18,7 @@ fn fill_table(table: &mut [Option<u32>], m: &ModuleParts)
 {
     let elements = m.elements.as_slice();
     for element in elements {
-        let at = element_at(m, element) as usize;
+        let at = m.element_at(element) as usize;
         put_functions(table, at, element.functions.as_slice());
     }
 }
@@ -40,7 +28,7 @@ pub(crate) fn start_table(alloc: Global, m: &ModuleParts) -> Result<Items<Option
     requires fits { first_false 0 (map (element_fits m.now) m.now.elements) ≡ None }
     ensures { IfOk result (λ table. table ≡ table_at_start m.now) }
 {
-    let mut table = Vec::from_elem(alloc, None, table_min(m) as usize)?;
+    let mut table = Vec::from_elem(alloc, None, m.table_min() as usize)?;
     fill_table(&mut table, m);
     Ok(Items::from_vec(table))
 }

@@ -2,7 +2,7 @@
 use Rattle.std.specs.Prelude.{◌≡◌, Bool, true, false, ◌++◌, List, reverse, option_map}
 use Rattle.wasm_syntax.specs.declared.value.Value.{Value}
 use Rattle.wasm_syntax.specs.declared.instruction.Basic.{Basic}
-use Rattle.wasm_syntax.specs.declared.instruction.Basic.TheVariants.{Nop, Drop, Select, LocalGet, LocalSet, LocalTee, GlobalGet, GlobalSet, Load, Store, MemorySize, MemoryGrow, MemoryCopy, MemoryFill, Const, Eqz, Unary, Compare, Binary, Convert, Extend32, Extend64}
+use Rattle.wasm_syntax.specs.declared.instruction.Basic.TheVariants.{LocalGet, GlobalGet, Store, MemorySize, MemoryGrow, MemoryCopy, MemoryFill, Const}
 use Rattle.wasm_syntax.specs.Effect.{Effect, gives, fails, unfit, effect, takes}
 use Rattle.wasm_syntax.specs.Host.{World}
 use Rattle.wasm_syntax.specs.Machine.{Cut, short, parts, cut}
@@ -63,25 +63,12 @@ UnlessDone NoMemory P = P
 
 -- where a value is put on the stack, a page is made or pages are added
 abbrev pub takes_memory : Basic → Bool
-takes_memory Nop = false
-takes_memory Drop = false
-takes_memory Select = false
 takes_memory (LocalGet x) = true
-takes_memory (LocalSet x) = false
-takes_memory (LocalTee x) = false
 takes_memory (GlobalGet x) = true
-takes_memory (GlobalSet x) = false
-takes_memory (Load l align offset) = false
 takes_memory (Store l align offset) = true
 takes_memory MemorySize = true
 takes_memory MemoryGrow = true
 takes_memory MemoryCopy = true
 takes_memory MemoryFill = true
 takes_memory (Const v) = true
-takes_memory (Eqz t) = false
-takes_memory (Unary t op) = false
-takes_memory (Compare t op) = false
-takes_memory (Binary t op) = false
-takes_memory (Convert c) = false
-takes_memory (Extend32 k) = false
-takes_memory (Extend64 k) = false
+takes_memory i = false

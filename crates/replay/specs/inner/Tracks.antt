@@ -1,7 +1,7 @@
 -- The checkpoints of a run.
 use Rattle.std.specs.Prelude.{◌≡◌, ℕ, ◌+◌, ◌*◌, ◌/◌, ◌≤◌, max, List, [], ◌∷◌, length, Option, Some, None, Result, Ok, Err}
 use Rattle.machine_hosted.specs.declared.answer.RunEnd.{RunEnd}
-use Rattle.replay.specs.declared.fault.ReplayFault.{ReplayFault}
+use Rattle.replay.specs.declared.fault.StartRefusal.{StartRefusal}
 use Rattle.replay.specs.declared.passing.Passed.{Passed}
 use Rattle.replay.specs.declared.point.Point.{Point}
 use Rattle.replay.specs.declared.track.Track.{Track}
@@ -17,7 +17,7 @@ abbrev pub ReachedAt : Recording → ℕ → RunEnd → Point → Type 0
 ReachedAt x n answer q = Reached x n q.next answer q.instance
 
 -- the first point of a run, or why it does not start
-abbrev pub Begun : Result Point ReplayFault → Recording → Type 0
+abbrev pub Begun : Result Point StartRefusal → Recording → Type 0
 Begun (Ok q) x = WaitsAt x 0 q
 Begun (Err fault) x = IsFault fault x
 
@@ -74,7 +74,7 @@ pub record Ends (x : Recording) (end : ℕ) (answer : RunEnd) : Type 0 where
   pub last : OfEach x (λ p. IsEnd p x end)
   pub outcome : OfEach x (λ p. EndsWith p x end answer)
 
-abbrev pub Passes : Result Passed ReplayFault → Recording → ℕ → Type 0
+abbrev pub Passes : Result Passed StartRefusal → Recording → ℕ → Type 0
 Passes (Ok passed) x every = Ends x passed.end passed.outcome × CoversIn x every passed.end passed.track
 Passes (Err fault) x every = IsFault fault x
 

@@ -1,34 +1,16 @@
 -- The start of an instance (Core 4.5.4).
-use Rattle.std.specs.Prelude.{◌≡◌, ℕ, ◌≤◌, List, [], map, min, unwrap_or, Option, Some, None, Result, Ok, Err}
-use Rattle.linear_memory.specs.Memory.{Memory}
+use Rattle.std.specs.Prelude.{◌≡◌, ℕ, ◌≤◌, List, min, unwrap_or, Some, None, Result, Ok, Err}
 use Rattle.machine_basics.specs.calls.Performs.{Holds}
-use Rattle.wasm_syntax.specs.declared.value.Value.{Value}
 use Rattle.wasm_syntax.specs.declared.parts.Limits.{Limits}
-use Rattle.wasm_syntax.specs.declared.parts.Global.{Global}
-use Rattle.wasm_syntax.specs.declared.parts.ElementSeg.{ElementSeg}
-use Rattle.wasm_syntax.specs.declared.parts.DataSeg.{DataSeg}
 use Rattle.wasm_syntax.specs.declared.module.ModuleParts.{ModuleParts as Module}
 use Rattle.wasm_syntax.specs.declared.host.Reply.{Reply}
-use Rattle.wasm_syntax.specs.Module.{const_value}
 use Rattle.wasm_syntax.specs.Host.{World}
-use Rattle.wasm_syntax.specs.Machine.{zero_of}
-use Rattle.wasm_syntax.specs.Run.{Cause, element_out, data_out, over, element_at, data_at, start_world, cause_of_segments}
+use Rattle.wasm_syntax.specs.Run.{Cause, element_out, data_out, start_world, cause_of_segments}
 use Rattle.wasm_machine.specs.declared.bounds.SegmentOut.{SegmentOut}
 use Rattle.wasm_machine.specs.declared.bounds.SegmentOut.TheVariants as segments
 use Rattle.wasm_machine.specs.declared.started.Started.{Started}
 use Rattle.wasm_machine.specs.declared.started.StartFault.{StartFault}
 use Rattle.wasm_machine.specs.declared.started.StartFault.TheVariants as faults
-
--- the value that a global has first
-abbrev pub initial_value : Global → Value
-initial_value g = unwrap_or (const_value [] g.init.ops) (zero_of g.vtype)
-
--- a table with the functions of an element segment, and a memory with the bytes of a data segment
-abbrev pub put_element : Module → List (Option ℕ) → ElementSeg → List (Option ℕ)
-put_element m table e = over table (element_at m e) (map Some e.functions)
-
-abbrev pub put_data : Module → Memory → DataSeg → Memory
-put_data m k s = record k { bytes = over k.bytes (data_at m s) s.bytes }
 
 -- the most pages of a memory, and when it can begin
 abbrev pub most_pages : Limits → ℕ

@@ -9,14 +9,14 @@ pub returns-then-fuel-eq0-clause-came : goal.returns-then-fuel-eq0-clause-came
 returns-then-fuel-eq0-clause-came g c = λ p codes depth w co there s wf.
     let calls = g.H.HostSide.calls c.args.hosts.now in
     let none : c.args.fuel ≡ 0 = omega (arith, c.if-fuel-eq0.true) in
-    spent p codes (g.H.HostSide.used_up c.args.hosts.now) (g.H.HostSide.collecting c.args.hosts.now) depth c.args.index c.args.import.now c.args.ftype.now c.args.args.now w co
-    (record c.args.m.now { stack = c.leave_frames.new.m }) c.args.fuel calls calls none refl c.leave_frames.ensures (record { holds = s.holds; table = s.table })
+    spent p codes (g.H.HostSide.used_up c.args.hosts.now) (g.H.HostSide.collecting c.args.hosts.now) depth c.args.imported.now.index c.args.imported.now.import.now c.args.imported.now.ftype.now c.args.args.now w co
+    (record c.args.m.now { stack = c.leave_frames.new.m }) c.args.fuel calls calls none refl c.leave_frames.ensures.frames (record { holds = s.holds; table = s.table })
 
 pub returns-in-Replied-clause-came : goal.returns-in-Replied-clause-came
 returns-in-Replied-clause-came g c = λ p codes depth w co there s wf.
     let some : 0 < c.args.fuel = omega (arith, c.if-fuel-eq0.false) in
-    replied p codes (g.H.HostSide.used_up c.ask.new.hosts) (g.H.HostSide.collecting c.args.hosts.now) depth c.args.index c.args.import.now c.args.ftype.now c.args.args.now w co there wf
-    (record c.args.m.now { stack = c.leave_frames.new.m; shared = c.take_reply.new.shared }) c.args.fuel some c.args.m.now c.in-Replied.reply c.leave_frames.ensures refl s
+    replied p codes (g.H.HostSide.used_up c.ask.new.hosts) (g.H.HostSide.collecting c.args.hosts.now) depth c.args.imported.now.index c.args.imported.now.import.now c.args.imported.now.ftype.now c.args.args.now w co there wf
+    (record c.args.m.now { stack = c.leave_frames.new.m; shared = c.take_reply.new.shared }) c.args.fuel some c.args.m.now c.in-Replied.reply c.leave_frames.ensures.frames refl s
     c.take_reply.result (g.H.HostSide.calls c.args.hosts.now) (g.H.HostSide.calls c.ask.new.hosts) c.in-Replied.ensures.calls
     (subst (λ t. Took c.take_reply.result t c.in-Replied.reply w c.args.m.now.shared c.take_reply.new.shared) c.result_type.ensures (c.take_reply.ensures w s.holds))
 
@@ -29,18 +29,18 @@ returns-in-Replied-clause-cause g c =
 pub returns-in-NoReply-clause-came : goal.returns-in-NoReply-clause-came
 returns-in-NoReply-clause-came g c = λ p codes depth w co there s wf.
     let some : 0 < c.args.fuel = omega (arith, c.if-fuel-eq0.false) in
-    without_reply p codes (g.H.HostSide.used_up c.ask.new.hosts) (g.H.HostSide.collecting c.args.hosts.now) depth c.args.index c.args.import.now c.args.ftype.now c.args.args.now w co there wf
+    without_reply p codes (g.H.HostSide.used_up c.ask.new.hosts) (g.H.HostSide.collecting c.args.hosts.now) depth c.args.imported.now.index c.args.imported.now.import.now c.args.imported.now.ftype.now c.args.args.now w co there wf
     (record c.args.m.now { stack = c.leave_frames.new.m }) c.args.fuel some (g.H.HostSide.calls c.args.hosts.now) (g.H.HostSide.calls c.ask.new.hosts) c.in-NoReply.ensures.calls.0 c.in-NoReply.ensures.calls.1
-    (c.in-NoReply.ensures.used c.args.import.now ∙ c.in-NoReply.ensures.exhausted) c.leave_frames.ensures (record { holds = s.holds; table = s.table })
+    (c.in-NoReply.ensures.used c.args.imported.now.import.now ∙ c.in-NoReply.ensures.exhausted) c.leave_frames.ensures.frames (record { holds = s.holds; table = s.table })
 
 pub returns-in-Failed-clause-came : goal.returns-in-Failed-clause-came
 returns-in-Failed-clause-came g c = λ p codes depth w co there s wf.
     let some : 0 < c.args.fuel = omega (arith, c.if-fuel-eq0.false) in
-    faulted p codes (g.H.HostSide.used_up c.ask.new.hosts) (g.H.HostSide.collecting c.args.hosts.now) depth c.args.index c.args.import.now c.args.ftype.now c.args.args.now w co there wf
+    faulted p codes (g.H.HostSide.used_up c.ask.new.hosts) (g.H.HostSide.collecting c.args.hosts.now) depth c.args.imported.now.index c.args.imported.now.import.now c.args.imported.now.ftype.now c.args.args.now w co there wf
     (record c.args.m.now { stack = c.leave_frames.new.m }) c.args.fuel some c.in-Failed.name (g.H.HostSide.calls c.args.hosts.now) (g.H.HostSide.calls c.ask.new.hosts) c.in-Failed.ensures.calls.0 c.in-Failed.ensures.calls.1
-    c.in-Failed.ensures.cause.0 (c.in-Failed.ensures.used c.args.import.now ∙ c.in-Failed.ensures.exhausted) c.leave_frames.ensures (record { holds = s.holds; table = s.table })
+    c.in-Failed.ensures.cause.0 (c.in-Failed.ensures.used c.args.imported.now.import.now ∙ c.in-Failed.ensures.exhausted) c.leave_frames.ensures.frames (record { holds = s.holds; table = s.table })
 
 pub returns-in-NoMemory-clause-came : goal.returns-in-NoMemory-clause-came
 returns-in-NoMemory-clause-came g c = λ p codes depth w co there s wf.
-    no_memory p codes (g.H.HostSide.used_up c.ask.new.hosts) (g.H.HostSide.collecting c.args.hosts.now) depth c.args.index c.args.import.now c.args.ftype.now c.args.args.now w co
+    no_memory p codes (g.H.HostSide.used_up c.ask.new.hosts) (g.H.HostSide.collecting c.args.hosts.now) depth c.args.imported.now.index c.args.imported.now.import.now c.args.imported.now.ftype.now c.args.args.now w co
     (record c.args.m.now { stack = c.leave_frames.new.m }) c.args.fuel (g.H.HostSide.calls c.args.hosts.now) (g.H.HostSide.calls c.ask.new.hosts) c.in-NoMemory.ensures.calls

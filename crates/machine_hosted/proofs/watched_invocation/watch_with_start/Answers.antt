@@ -23,10 +23,10 @@ returns-then-not-is_finished-clause-came g c = λ p e is.
     let old = g.H.HostSide.calls c.args.hosts.now in
     let middle = g.H.HostSide.calls c.watch_function-first.new.hosts in
     let up = g.H.HostSide.used_up c.watch_function-first.new.hosts in
-    let fn = function_there p c.args.runner.now.source.now c.args.runner.now.prepared.now c.args.entry c.args.args.now c.requires.sound e is c.requires.entry in
+    let fn = function_there p c.args.runner.now.source.now c.args.runner.now.prepared.now c.args.entry.now.index c.args.entry.now.args.now c.requires.sound e is c.requires.entry in
     let no : finishes c.watch_function-first.result.answer ≡ false = sym c.is_finished.ensures ∙ c.if-not-is_finished.true in
-    subst (λ (r : EntryRun). InvocationCameWith p codes up (invoking M (Some c.args.start) c.args.entry c.args.args.now w) c.args.fuel r.answer r.steps r.ready r.entered mid old middle) (sym c.ended.ensures)
-    (inside_start p codes up M refl c.args.m.now c.args.entry c.args.args.now c.args.fuel c.args.start fn.0 fn.1 c.watch_function-first.result.answer (not_finished c.watch_function-first.result.answer no) c.watch_function-first.result.steps mid old middle
+    subst (λ (r : EntryRun). InvocationCameWith p codes up (invoking M (Some c.args.start) c.args.entry.now.index c.args.entry.now.args.now w) c.args.fuel r.answer r.steps r.ready r.entered mid old middle) (sym c.ended.ensures)
+    (inside_start p codes up M refl c.args.m.now c.args.entry.now.index c.args.entry.now.args.now c.args.fuel c.args.start fn.0 fn.1 c.watch_function-first.result.answer (not_finished c.watch_function-first.result.answer no) c.watch_function-first.result.steps mid old middle
     (c.watch_function-first.ensures.came p w [] e is (shares_own c.args.m.now [])))
 
 pub returns-clause-came : goal.returns-clause-came
@@ -44,13 +44,13 @@ returns-clause-came g c = λ p e is.
     let v = has_finished c.watch_function-first.result.answer yes in
     let first : FunctionCameWith p codes (g.H.HostSide.used_up c.watch_function-first.new.hosts) (function_going M c.args.start [] w []) w [] c.args.fuel (Finished v.0) made mid old middle =
     subst (λ (a : RunEnd). FunctionCameWith p codes (g.H.HostSide.used_up c.watch_function-first.new.hosts) (function_going M c.args.start [] w []) w [] c.args.fuel a made mid old middle) v.1 (c.watch_function-first.ensures.came p w [] e is (shares_own c.args.m.now [])) in
-    let u = w1 p codes up M refl c.args.m.now c.args.entry c.args.args.now c.args.fuel c.args.start mid made first.asked in
-    let uo = co1 p codes up M refl c.args.m.now c.args.entry c.args.args.now c.args.fuel c.args.start mid made first.asked in
-    let second : FunctionCameWith p codes up (function_going M c.args.entry c.args.args.now u uo) u uo (c.args.fuel - made) c.watch_function-then.result.answer c.watch_function-then.result.steps c.watch_function-then.new.m middle new =
-    subst (λ b. FunctionCameWith p codes up (function_going (engine p b c.args.runner.now.depth) c.args.entry c.args.args.now u uo) u uo (c.args.fuel - made) c.watch_function-then.result.answer c.watch_function-then.result.steps c.watch_function-then.new.m middle new) c.watch_function-first.ensures.host.collecting_is
+    let u = w1 p codes up M refl c.args.m.now c.args.entry.now.index c.args.entry.now.args.now c.args.fuel c.args.start mid made first.asked in
+    let uo = co1 p codes up M refl c.args.m.now c.args.entry.now.index c.args.entry.now.args.now c.args.fuel c.args.start mid made first.asked in
+    let second : FunctionCameWith p codes up (function_going M c.args.entry.now.index c.args.entry.now.args.now u uo) u uo (c.args.fuel - made) c.watch_function-then.result.answer c.watch_function-then.result.steps c.watch_function-then.new.m middle new =
+    subst (λ b. FunctionCameWith p codes up (function_going (engine p b c.args.runner.now.depth) c.args.entry.now.index c.args.entry.now.args.now u uo) u uo (c.args.fuel - made) c.watch_function-then.result.answer c.watch_function-then.result.steps c.watch_function-then.new.m middle new) c.watch_function-first.ensures.host.collecting_is
     (c.watch_function-then.ensures.came p u uo e is (record { holds = record { globals = refl; memory = refl }; table = refl })) in
-    subst (λ (r : EntryRun). InvocationCameWith p codes up (invoking M (Some c.args.start) c.args.entry c.args.args.now w) c.args.fuel r.answer r.steps r.ready r.entered c.watch_function-then.new.m old new) (sym c.ended-2.ensures)
-    (behind_start p codes up M refl c.args.m.now c.args.entry c.args.args.now c.args.fuel c.args.start mid made first.asked (g.H.HostSide.used_up c.watch_function-first.new.hosts) v.0 old middle new c.watch_function-then.result.answer c.watch_function-then.result.steps c.watch_function-then.new.m
+    subst (λ (r : EntryRun). InvocationCameWith p codes up (invoking M (Some c.args.start) c.args.entry.now.index c.args.entry.now.args.now w) c.args.fuel r.answer r.steps r.ready r.entered c.watch_function-then.new.m old new) (sym c.ended-2.ensures)
+    (behind_start p codes up M refl c.args.m.now c.args.entry.now.index c.args.entry.now.args.now c.args.fuel c.args.start mid made first.asked (g.H.HostSide.used_up c.watch_function-first.new.hosts) v.0 old middle new c.watch_function-then.result.answer c.watch_function-then.result.steps c.watch_function-then.new.m
     (λ more. first.came more tt) first.grew second)
 
 pub returns-then-not-is_finished-clause-watched : goal.returns-then-not-is_finished-clause-watched
@@ -59,8 +59,8 @@ returns-then-not-is_finished-clause-watched g c = λ p e is.
     let w = world_of c.args.m.now [] in
     let old = g.H.HostSide.calls c.args.hosts.now in
     let middle = g.H.HostSide.calls c.watch_function-first.new.hosts in
-    subst (λ (r : EntryRun). Watched g.W.Watch.Saw p.module_ (invocation_placing M (Some c.args.start) c.args.entry c.args.args.now w) c.args.fuel r.answer r.steps c.args.watch.now c.watch_function-first.new.watch old middle) (sym c.ended.ensures)
-    (joins.inside_start g.W.Watch.Saw p.module_ M c.args.m.now c.args.entry c.args.args.now c.args.fuel c.args.start c.watch_function-first.result.answer c.watch_function-first.result.steps c.args.watch.now c.watch_function-first.new.watch old middle
+    subst (λ (r : EntryRun). Watched g.W.Watch.Saw p.module_ (invocation_placing M (Some c.args.start) c.args.entry.now.index c.args.entry.now.args.now w) c.args.fuel r.answer r.steps c.args.watch.now c.watch_function-first.new.watch old middle) (sym c.ended.ensures)
+    (joins.inside_start g.W.Watch.Saw p.module_ M c.args.m.now c.args.entry.now.index c.args.entry.now.args.now c.args.fuel c.args.start c.watch_function-first.result.answer c.watch_function-first.result.steps c.args.watch.now c.watch_function-first.new.watch old middle
     (c.watch_function-first.ensures.watched p w [] e is (shares_own c.args.m.now [])))
 
 pub returns-clause-watched : goal.returns-clause-watched
@@ -86,11 +86,11 @@ returns-clause-watched g c = λ p e is.
     subst (λ (a : RunEnd). FunctionCameWith p codes first_up (function_going M c.args.start [] w []) w [] c.args.fuel a made mid old middle) v.1 (c.watch_function-first.ensures.came p w [] e is (shares_own c.args.m.now [])) in
     let one : Watched g.W.Watch.Saw p.module_ (function_placing M c.args.start [] w []) c.args.fuel (Finished v.0) made unseen between old middle =
     subst (λ (a : RunEnd). Watched g.W.Watch.Saw p.module_ (function_placing M c.args.start [] w []) c.args.fuel a made unseen between old middle) v.1 (c.watch_function-first.ensures.watched p w [] e is (shares_own c.args.m.now [])) in
-    let u = w1 p codes up M refl c.args.m.now c.args.entry c.args.args.now c.args.fuel c.args.start mid made first.asked in
-    let uo = co1 p codes up M refl c.args.m.now c.args.entry c.args.args.now c.args.fuel c.args.start mid made first.asked in
-    let two : Watched g.W.Watch.Saw p.module_ (function_placing M c.args.entry c.args.args.now u uo) (c.args.fuel - made) answer steps between seen middle new =
-    subst (λ b. Watched g.W.Watch.Saw p.module_ (function_placing (engine p b c.args.runner.now.depth) c.args.entry c.args.args.now u uo) (c.args.fuel - made) answer steps between seen middle new) c.watch_function-first.ensures.host.collecting_is
+    let u = w1 p codes up M refl c.args.m.now c.args.entry.now.index c.args.entry.now.args.now c.args.fuel c.args.start mid made first.asked in
+    let uo = co1 p codes up M refl c.args.m.now c.args.entry.now.index c.args.entry.now.args.now c.args.fuel c.args.start mid made first.asked in
+    let two : Watched g.W.Watch.Saw p.module_ (function_placing M c.args.entry.now.index c.args.entry.now.args.now u uo) (c.args.fuel - made) answer steps between seen middle new =
+    subst (λ b. Watched g.W.Watch.Saw p.module_ (function_placing (engine p b c.args.runner.now.depth) c.args.entry.now.index c.args.entry.now.args.now u uo) (c.args.fuel - made) answer steps between seen middle new) c.watch_function-first.ensures.host.collecting_is
     (c.watch_function-then.ensures.watched p u uo e is (record { holds = record { globals = refl; memory = refl }; table = refl })) in
-    subst (λ (r : EntryRun). Watched g.W.Watch.Saw p.module_ (invocation_placing M (Some c.args.start) c.args.entry c.args.args.now w) c.args.fuel r.answer r.steps unseen seen old new) (sym c.ended-2.ensures)
-    (joins.behind_start g.W.Watch.Saw p.module_ M c.args.m.now c.args.entry c.args.args.now c.args.fuel c.args.start mid made first.asked p codes first_up v.0 unseen between seen old middle new answer steps
+    subst (λ (r : EntryRun). Watched g.W.Watch.Saw p.module_ (invocation_placing M (Some c.args.start) c.args.entry.now.index c.args.entry.now.args.now w) c.args.fuel r.answer r.steps unseen seen old new) (sym c.ended-2.ensures)
+    (joins.behind_start g.W.Watch.Saw p.module_ M c.args.m.now c.args.entry.now.index c.args.entry.now.args.now c.args.fuel c.args.start mid made first.asked p codes first_up v.0 unseen between seen old middle new answer steps
     (λ more. first.came more tt) first.grew one two)

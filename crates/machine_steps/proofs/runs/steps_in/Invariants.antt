@@ -6,6 +6,6 @@ use Rattle.machine_steps.proofs.runs.steps_in.Given as goal
 
 abbrev pub invariant-loop-i : goal.invariant-loop-i
 invariant-loop-i g l = record {
-  frame : slice_get l.m.stack.frames 0 ≡ Some l.frame;
-  so_far : (first : Machine) (before : _) → Made g.W.Watch.Saw l.prepared l.depth first before l.made l.initial.m l.initial.watch → Made g.W.Watch.Saw l.prepared l.depth first before l.i l.m l.watch;
+  frame : slice_get l.m.stack.frames 0 ≡ Some l.fn.innermost.frame;
+  so_far : (first : Machine) (before : _) → Made g.W.Watch.Saw l.prepared l.depth first before l.fn.steps.made l.initial.m l.initial.watch → Made g.W.Watch.Saw l.prepared l.depth first before l.i l.m l.watch;
 }

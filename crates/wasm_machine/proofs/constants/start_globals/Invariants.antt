@@ -1,5 +1,5 @@
 use Rattle.std.proofs.Common.{◌≡◌, take, map}
-use Rattle.wasm_machine.specs.calls.Starts.{initial_value}
+use Rattle.wasm_syntax.specs.calls.Starting.{initial_value}
 use Rattle.wasm_machine.proofs.constants.start_globals.Given as goal
 
 abbrev pub invariant-loop-global : goal.invariant-loop-global

@@ -1,6 +1,6 @@
 use Rattle.std.proofs.Common.{◌≡◌, drop, length}
 use Rattle.std.specs.Prelude.{fold}
-use Rattle.wasm_machine.specs.calls.Starts.{put_data}
+use Rattle.wasm_syntax.specs.calls.Starting.{put_data}
 use Rattle.wasm_machine.proofs.memory.fill_memory.Given as goal
 
 abbrev pub invariant-loop-segment : goal.invariant-loop-segment
