@@ -5,10 +5,10 @@ use Rattle.wasm_syntax.specs.declared.value.Value.{Value}
 use Rattle.wasm_syntax.specs.declared.instruction.Basic.{Basic}
 use Rattle.wasm_syntax.specs.declared.instruction.Basic.TheVariants.{MemoryCopy}
 use Rattle.wasm_syntax.specs.Tree.{stop, choose}
-use Rattle.rewrite_bodies.specs.Slots.{Place, Ctx}
-use Rattle.rewrite_bodies.specs.Pieces.{const, fetch}
-use Rattle.rewrite_bodies.specs.Guards.{guard, guard_zero, guard_copy, range_test, kind}
-use Rattle.rewrite_bodies.specs.Rewrite.{unwind_kind, tested}
+use Rattle.rewrite_bodies.specs.calls.Slots.{Place, Ctx}
+use Rattle.rewrite_bodies.specs.calls.Pieces.{const, fetch}
+use Rattle.rewrite_bodies.specs.calls.Guards.{guard, guard_zero, guard_copy, range_test, kind}
+use Rattle.rewrite_bodies.specs.calls.Rewrite.{unwind_kind, tested}
 use Rattle.rewrite_code.specs.calls.Writing.{Written, Emits, EmitsLast, Opens, Closes}
 use Rattle.rewrite_code.proofs.Pieces.{emits_last, emits_within}
 use Rattle.rewrite_code.proofs.Loads.{emits_same}

@@ -3,9 +3,9 @@ use Rattle.std.proofs.Common.{◌≡◌, ℕ, ◌≤◌, true, List, length, Res
 use Rattle.std.specs.Prelude.{OnOk}
 use Rattle.causes.specs.declared.NoMemory.{NoMemory}
 use Rattle.wasm_syntax.specs.declared.instruction.Basic.{Basic}
-use Rattle.rewrite_bodies.specs.Slots.{Place, Ctx}
-use Rattle.rewrite_bodies.specs.Pieces.{const, i32, call, fetch}
-use Rattle.rewrite_bodies.specs.Guards.{can_trap, guard, kind}
+use Rattle.rewrite_bodies.specs.calls.Slots.{Place, Ctx}
+use Rattle.rewrite_bodies.specs.calls.Pieces.{const, i32, call, fetch}
+use Rattle.rewrite_bodies.specs.calls.Guards.{can_trap, guard, kind}
 use Rattle.rewrite_bodies.specs.calls.Verdicts.{IsGuard, IsKind, IsGuardOfUnreachable, IsGuardOfEntry}
 use Rattle.rewrite_bodies.proofs.Verdicts.{guard_means, kind_means, unreachable_means, entry_means}
 use Rattle.rewrite_code.specs.calls.Writing.{Written, Emits}

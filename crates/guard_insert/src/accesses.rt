@@ -1,47 +1,13 @@
 //! Guards of accesses to the memory.
 
-ghost use Rattle.std.specs.Prelude.{◌≡◌, ◌+◌, ◌/◌, ◌≤◌, OnOk};
-ghost use Rattle.wasm_syntax.specs.Access.{load_bits, store_bits};
-ghost use Rattle.rewrite_bodies.specs.Guards.{past_end, out_test, guard_memory, range_test, guard_copy, guard_fill};
+ghost use Rattle.std.specs.Prelude.{◌≡◌, ◌+◌, ◌≤◌, OnOk};
+ghost use Rattle.rewrite_bodies.specs.calls.Guards.{memory_length, past_end, out_test, guard_memory, range_test, guard_copy, guard_fill};
 ghost use Rattle.rewrite_code.specs.calls.Writing.{Emits};
 ghost use Rattle.rewrite_code.specs.calls.Places.{place};
 
 use causes::NoMemory;
-use int_ops::{Narrow32, Narrow64};
 use rewrite_code::{CodeWriter, FunctionContext, OperandPlace};
-use wasm_syntax::{Basic, Binary, Compare, Convert, Load, Store, ValType, Value};
-
-/// How many bytes a load reads.
-pub(crate) fn load_bytes(load: Load) -> u64
-    ensures bytes { result ≡ load_bits load / 8 }
-    ensures few { result ≤ 8 }
-{
-    match load {
-        Load::Full(ValType::I32) => 4,
-        Load::Full(ValType::I64) => 8,
-        Load::Part32(Narrow32::Eight, _) => 1,
-        Load::Part32(Narrow32::Sixteen, _) => 2,
-        Load::Part64(Narrow64::Eight, _) => 1,
-        Load::Part64(Narrow64::Sixteen, _) => 2,
-        Load::Part64(Narrow64::ThirtyTwo, _) => 4,
-    }
-}
-
-/// How many bytes a store writes.
-pub(crate) fn store_bytes(store: Store) -> u64
-    ensures bytes { result ≡ store_bits store / 8 }
-    ensures few { result ≤ 8 }
-{
-    match store {
-        Store::Full(ValType::I32) => 4,
-        Store::Full(ValType::I64) => 8,
-        Store::Part32(Narrow32::Eight) => 1,
-        Store::Part32(Narrow32::Sixteen) => 2,
-        Store::Part64(Narrow64::Eight) => 1,
-        Store::Part64(Narrow64::Sixteen) => 2,
-        Store::Part64(Narrow64::ThirtyTwo) => 4,
-    }
-}
+use wasm_syntax::{Basic, Binary, Compare, Convert, ValType, Value};
 
 /// The height so many operands above another one.
 pub(crate) fn above(context: &FunctionContext<'_, '_>, height: usize, count: usize) -> usize
@@ -53,26 +19,35 @@ pub(crate) fn above(context: &FunctionContext<'_, '_>, height: usize, count: usi
     height + count
 }
 
-/// Whether the i64 on top is past the end of the memory.
-fn past_end(writer: &mut CodeWriter) -> Result<(), NoMemory>
-    ensures { OnOk result (Emits past_end writer.old writer.new) }
+/// The length of the memory in bytes, as an i64.
+fn memory_length(writer: &mut CodeWriter) -> Result<(), NoMemory>
+    ensures { OnOk result (Emits memory_length writer.old writer.new) }
 {
     writer.basic(Basic::MemorySize)?;
     writer.basic(Basic::Convert(Convert::ExtendU))?;
     // A page has 2 ^ 16 bytes, and the shift is spelled in fewer bytes than the product.
     writer.const_value(Value::I64(16))?;
-    writer.basic(Basic::Binary(ValType::I64, Binary::Shl))?;
+    writer.basic(Basic::Binary(ValType::I64, Binary::Shl))
+}
+
+/// Whether the i64 on top is past the end of the memory.
+fn past_end(writer: &mut CodeWriter) -> Result<(), NoMemory>
+    ensures { OnOk result (Emits past_end writer.old writer.new) }
+{
+    memory_length(writer)?;
     writer.basic(Basic::Compare(ValType::I64, Compare::GtU))
 }
 
-/// Whether so many bytes from the address on top pass the end.
+/// Whether so many bytes from the address on top pass the end: whether it is greater than the
+/// length less these bytes, which an engine can keep through a loop.
 fn out_test(writer: &mut CodeWriter, count: u64) -> Result<(), NoMemory>
     ensures { OnOk result (Emits (out_test count) writer.old writer.new) }
 {
     writer.basic(Basic::Convert(Convert::ExtendU))?;
+    memory_length(writer)?;
     writer.const_value(Value::I64(count))?;
-    writer.basic(Basic::Binary(ValType::I64, Binary::Add))?;
-    past_end(writer)
+    writer.basic(Basic::Binary(ValType::I64, Binary::Sub))?;
+    writer.basic(Basic::Compare(ValType::I64, Compare::GtS))
 }
 
 /// Whether an access of so many bytes, offset included, passes the end.

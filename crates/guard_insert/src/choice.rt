@@ -1,16 +1,21 @@
 //! Which instructions have a guard, and which one.
 
-ghost use Rattle.std.specs.Prelude.{◌≡◌, ◌+◌, ◌^◌, ◌<◌, ◌≤◌, true, length, OnOk};
-ghost use Rattle.rewrite_bodies.specs.Guards.{can_trap, divides, guard, kind};
-ghost use Rattle.rewrite_bodies.specs.Pieces.{const, i32};
-ghost use Rattle.rewrite_bodies.specs.Rewrite.{tested, guarded};
-ghost use Rattle.int_ops.specs.declared.operators.Binary.TheVariants.{DivS as DivSOf, DivU as DivUOf, RemS as RemSOf, RemU as RemUOf};
-ghost use Rattle.wasm_syntax.specs.declared.instruction.Basic.TheVariants.{Binary as BinaryOf, Load as LoadOf, Store as StoreOf, MemoryCopy as MemoryCopyOf, MemoryFill as MemoryFillOf};
+ghost use Rattle.std.specs.Prelude.{◌≡◌, ◌+◌, ◌^◌, ◌<◌, ◌≤◌, true, length, Some, None, OnOk};
+ghost use Rattle.rewrite_bodies.specs.calls.Guards.{can_trap, divides, guard, kind};
+ghost use Rattle.rewrite_bodies.specs.calls.Pieces.{const, i32};
+ghost use Rattle.rewrite_bodies.specs.calls.Landings.{most_landings};
+ghost use Rattle.rewrite_bodies.specs.calls.Rewrite.{checked, tested, guarded};
+ghost use Rattle.int_ops.specs.declared.operators.Binary.TheVariants.{DivS as DivSOf, DivU as DivUOf, RemS as RemSOf};
+ghost use Rattle.int_ops.specs.declared.operators.Binary.TheVariants.{RemU as RemUOf};
+ghost use Rattle.wasm_syntax.specs.declared.instruction.Basic.TheVariants.{Binary as BinaryOf, Load as LoadOf};
+ghost use Rattle.wasm_syntax.specs.declared.instruction.Basic.TheVariants.{Store as StoreOf};
+ghost use Rattle.wasm_syntax.specs.declared.instruction.Basic.TheVariants.{MemoryCopy as MemoryCopyOf};
+ghost use Rattle.wasm_syntax.specs.declared.instruction.Basic.TheVariants.{MemoryFill as MemoryFillOf};
 ghost use Rattle.rewrite_bodies.specs.calls.Verdicts.{IsGuard, IsKind};
 ghost use Rattle.rewrite_code.specs.calls.Writing.{Emits};
 ghost use Rattle.guard_insert.specs.calls.Meaning.{Writes};
 
-use crate::accesses::{guard_copy, guard_fill, guard_memory, load_bytes, store_bytes};
+use crate::accesses::{guard_copy, guard_fill, guard_memory};
 use crate::division::{guard_signed, guard_zero, kind_signed};
 use causes::NoMemory;
 use rewrite_code::{CodeWriter, FunctionContext, OperandPlaces};
@@ -124,7 +129,7 @@ fn guard_load(
     let Some(address) = places.peek(0) else {
         return no_trap(writer);
     };
-    let count = u64::from(offset) + load_bytes(load);
+    let count = u64::from(offset) + u64::from(load.bytes());
     guard_memory(context, writer, address, places.len() - 1, count)
 }
 
@@ -144,7 +149,7 @@ fn guard_store(
     let Some(address) = places.peek(1) else {
         return no_trap(writer);
     };
-    let count = u64::from(offset) + store_bytes(store);
+    let count = u64::from(offset) + u64::from(store.bytes());
     guard_memory(context, writer, address, places.len() - 2, count)
 }
 
@@ -311,7 +316,7 @@ fn tested(
     offset: u32,
     instruction: &Basic,
 ) -> Result<(), NoMemory>
-    requires shallow { labels + 1 < 2 ^ 32 }
+    requires shallow { labels + most_landings + 1 < 2 ^ 32 }
     requires room { length places.now ≤ context.now.slots }
     ensures { OnOk result (Emits (tested context.now labels places.now offset
         (kind context.now instruction.now places.now)) writer.old writer.new) }
@@ -320,6 +325,46 @@ fn tested(
     kind(context, writer, instruction, places)?;
     context.unwind_kind(writer, labels, places, offset)?;
     writer.close()
+}
+
+/// The guard with the test of its verdict, which hands over in place.
+fn guarded_in_place(
+    context: &FunctionContext<'_, '_>,
+    writer: &mut CodeWriter,
+    labels: u32,
+    places: &OperandPlaces,
+    offset: u32,
+    instruction: &Basic,
+) -> Result<(), NoMemory>
+    requires shallow { labels + most_landings + 1 < 2 ^ 32 }
+    requires room { length places.now ≤ context.now.slots }
+    ensures { OnOk result (Emits (checked None context.now labels places.now offset
+        (guard context.now instruction.now places.now)
+        (kind context.now instruction.now places.now)) writer.old writer.new) }
+{
+    guard(context, writer, instruction, places)?;
+    tested(context, writer, labels, places, offset, instruction)
+}
+
+/// The guard, where it leaves 1 the code goes to this landing.
+fn guarded_by_landing(
+    context: &FunctionContext<'_, '_>,
+    writer: &mut CodeWriter,
+    labels: u32,
+    places: &OperandPlaces,
+    offset: u32,
+    instruction: &Basic,
+    number: u32,
+) -> Result<(), NoMemory>
+    requires shallow { labels + number < 2 ^ 32 }
+    requires room { length places.now ≤ context.now.slots }
+    ensures { OnOk result (Emits (checked (Some number) context.now labels places.now offset
+        (guard context.now instruction.now places.now)
+        (kind context.now instruction.now places.now)) writer.old writer.new) }
+{
+    context.set_offset(writer, offset)?;
+    guard(context, writer, instruction, places)?;
+    context.to_landing(writer, labels, number)
 }
 
 /// The guard with the test of its verdict, where the instruction has one.
@@ -331,15 +376,18 @@ pub fn guarded(
     offset: u32,
     instruction: &Basic,
 ) -> Result<(), NoMemory>
-    requires shallow { labels + 1 < 2 ^ 32 }
+    requires shallow { labels + most_landings + 1 < 2 ^ 32 }
     requires room { length places.now ≤ context.now.slots }
     ensures { OnOk result (Emits (guarded (can_trap instruction.now) context.now labels places.now
         offset instruction.now) writer.old writer.new) }
 {
-    if can_trap(instruction) {
-        guard(context, writer, instruction, places)?;
-        tested(context, writer, labels, places, offset, instruction)
-    } else {
-        Ok(())
+    if !can_trap(instruction) {
+        return Ok(());
+    }
+    match context.landing_of(instruction, places) {
+        Some(number) => {
+            guarded_by_landing(context, writer, labels, places, offset, instruction, number)
+        }
+        None => guarded_in_place(context, writer, labels, places, offset, instruction),
     }
 }

@@ -1,8 +1,8 @@
 //! Guards of `unreachable` and of `call_indirect`.
 
 ghost use Rattle.std.specs.Prelude.{◌≤◌, ℕ, OnOk};
-ghost use Rattle.rewrite_bodies.specs.Pieces.{const, i32, call, fetch};
-ghost use Rattle.rewrite_bodies.specs.Slots.{Ctx};
+ghost use Rattle.rewrite_bodies.specs.calls.Pieces.{const, i32, call, fetch};
+ghost use Rattle.rewrite_bodies.specs.calls.Slots.{Ctx};
 ghost use Rattle.rewrite_bodies.specs.calls.Verdicts.{IsGuardOfUnreachable, IsGuardOfEntry};
 ghost use Rattle.rewrite_code.specs.calls.Writing.{Emits};
 ghost use Rattle.rewrite_code.specs.calls.Places.{place};

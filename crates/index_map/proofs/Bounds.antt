@@ -21,8 +21,9 @@ use Rattle.wasm_syntax.specs.Sizes.{WithinLimits, ShortType, parameter_count, lo
 use Rattle.wasm_laws.proofs.Lists.{at_of}
 use Rattle.wasm_format.specs.Encoding.{encoding as instruction_bytes}
 use Rattle.wasm_encode.specs.Encoding.{sized_bytes, kind_byte, global_bytes, export_bytes}
-use Rattle.wasm_format_laws.specs.Sized.{Sized, OpsSized, ops_length}
-use Rattle.rewrite_modules.specs.Weight.{height_at, extra, ops_weight, bodies_weight, types_used, exports_weight, start_weight, weight}
+use Rattle.wasm_format_laws.specs.calls.Sized.{Sized, OpsSized, ops_length}
+use Rattle.rewrite_modules.specs.Weight.{height_at, ops_weight, bodies_weight, types_used, exports_weight, start_weight, weight}
+use Rattle.rewrite_bodies.specs.Numbering.{extra}
 use Rattle.rewrite_bodies.specs.Numbering.{entry_weight}
 use Rattle.wasm_format_laws.proofs.Totals.{total_many}
 use Rattle.index_map.proofs.Few.{few}

@@ -13,7 +13,7 @@ use Rattle.wasm_syntax.specs.Module.{is_function}
 use Rattle.wasm_syntax.specs.Valid.{Valid}
 use Rattle.wasm_format.specs.Encoding.{encoding as instruction_bytes}
 use Rattle.wasm_encode.specs.Encoding.{import_bytes, global_bytes, export_bytes, entry_bytes}
-use Rattle.wasm_format_laws.specs.Sized.{Sized}
+use Rattle.wasm_format_laws.specs.calls.Sized.{Sized}
 use Rattle.rewrite_bodies.specs.Numbering.{import_count, wraps, start_wraps, export_wrapped, named_wrapped, entry_weight, table_functions, doubles, table_wraps, wrapped, is_in, distinct}
 use Rattle.rewrite_bodies.proofs.Doubled.{table_light, weights_more}
 use Rattle.index_map.proofs.TableSizes.{distinct_few, wrappers_fit, places_fit}

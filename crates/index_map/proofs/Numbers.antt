@@ -10,7 +10,7 @@ use Rattle.wasm_syntax.specs.declared.parts.Export.{Export}
 use Rattle.wasm_syntax.specs.declared.module.ModuleParts.{ModuleParts as Module}
 use Rattle.wasm_syntax.specs.Module.{function_types}
 use Rattle.rewrite_bodies.specs.Numbering.{import_count, mapped, type_number, value_import, frame_import, wraps, start_wraps, export_wrapped, named_wrapped, table_wraps, wrapper_base, helper_base, is_in, place_in}
-use Rattle.rewrite_modules.specs.Instrument.{new_index, new_exports}
+use Rattle.rewrite_modules.specs.calls.Instrument.{new_index, new_exports}
 use Rattle.index_map.specs.calls.Wrapper.{HasWrapper, wrapper_of}
 use Rattle.pm_text.proofs.Lists.{some_is}
 

@@ -1,5 +1,5 @@
 -- Sums over the front of a list, in the words of what is left.
-use Rattle.std.proofs.Common.{◌≡◌, ℕ, zero, suc, ◌+◌, ◌*◌, ◌<◌, ◌≤◌, List, [], ◌∷◌, length, get_or, drop, map, flat_map, length-append, ap, ap₂, ◌∙◌, arith, slice_get, unwrap_or, if◌then◌else◌, Bool, Option, Some}
+use Rattle.std.proofs.Common.{◌≡◌, ℕ, suc, ◌+◌, ◌*◌, ◌<◌, ◌≤◌, List, [], ◌∷◌, length, get_or, drop, map, flat_map, length-append, ap, ap₂, ◌∙◌, arith, slice_get, unwrap_or, if◌then◌else◌, Bool, Option, Some}
 use Rattle.std.specs.Prelude.{max, sum}
 use Rattle.std.proofs.Math.Seq.{drop-cons}
 use Rattle.std.proofs.lemmas.Bool.{le-ltb}
@@ -72,12 +72,6 @@ places_more es i d lt =
     let next : suc i ≡ i + 1 = omega arith in
     at_front (λ (n : ℕ) (xs : List ElementSeg). length (flat_map (λ e. e.functions) xs)) es i d lt ∙ length-append (get_or es i d).functions (flat_map (λ e. e.functions) (drop (suc i) es))
     ∙ ap (λ (k : ℕ). length (get_or es i d).functions + length (flat_map (λ e. e.functions) (drop k es))) next
-
--- a segment has no more places than all of them
-pub places_few : (es : List ElementSeg) (i : ℕ) (d : ElementSeg) → i < length es → length (get_or es i d).functions ≤ length (flat_map (λ e. e.functions) es)
-places_few [] i d lt = absurd (omega (arith, lt))
-places_few (e ∷ es) zero d lt = omega (arith, length-append e.functions (flat_map (λ e. e.functions) es))
-places_few (e ∷ es) (suc i) d lt = omega (arith, length-append e.functions (flat_map (λ e. e.functions) es), places_few es i d (omega (arith, lt)))
 
 -- ---- the first number that passes
 

@@ -12,7 +12,7 @@ use Rattle.wasm_syntax.specs.Module.{function_types, option_then}
 use Rattle.wasm_syntax.specs.Sizes.{parameter_count}
 use Rattle.wasm_syntax.specs.Valid.{Valid, AtIndex, ElementFine}
 use Rattle.wasm_encode.specs.Encoding.{vector_bytes, value_type_bytes, function_type_bytes, global_bytes, element_bytes, expression_bytes}
-use Rattle.wasm_format_laws.specs.Sized.{Sized}
+use Rattle.wasm_format_laws.specs.calls.Sized.{Sized}
 use Rattle.wasm_format_laws.proofs.Numbers.{some_bytes}
 use Rattle.wasm_format_laws.proofs.Totals.{total, total_many, vector_total}
 use Rattle.wasm_laws.proofs.Lists.{all_of, all_append}

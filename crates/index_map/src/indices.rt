@@ -4,15 +4,16 @@ ghost use Rattle.std.specs.Prelude.{◌≡◌, ℕ, suc, ◌+◌, ◌<◌, true,
 ghost use Rattle.wasm_syntax.specs.declared.module.ModuleParts.{ModuleParts as Parts};
 ghost use Rattle.wasm_syntax.specs.Module.{Program, IsProgram, function_types};
 ghost use Rattle.wasm_syntax.specs.Valid.{Valid};
-ghost use Rattle.wasm_format_laws.specs.Sized.{Sized};
+ghost use Rattle.wasm_format_laws.specs.calls.Sized.{Sized};
 ghost use Rattle.wasm_syntax.specs.Run.{table_min};
-ghost use Rattle.rewrite_bodies.specs.Numbering.{doubles, element_functions, flag_of, frame_import, helped, helper_base, is_in, mapped, place_in, shown, value_import, wrapped, wrapper_base};
-ghost use Rattle.rewrite_modules.specs.Instrument.{new_exports, new_start};
+ghost use Rattle.rewrite_bodies.specs.Numbering.{doubles, element_functions, flag_of, frame_import, helped};
+ghost use Rattle.rewrite_bodies.specs.Numbering.{helper_base, is_in, mapped, place_in, shown, value_import, wrapped};
+ghost use Rattle.rewrite_bodies.specs.Numbering.{wrapper_base};
+ghost use Rattle.rewrite_modules.specs.calls.Instrument.{new_exports, new_start};
 ghost use Rattle.rewrite_modules.specs.Weight.{types_used};
 ghost use Rattle.index_map.specs.calls.Wrapper.{HasWrapper, wrapper_of};
 ghost use Rattle.index_map.specs.inner.Kept.{CanBeNumbered};
 
-use crate::count::least_size;
 use crate::shown::{TableFunctions, doubles, push_table, table_functions};
 use crate::used::used_types;
 use crate::wrapped::{indices, of_exports, push_start};
@@ -164,7 +165,7 @@ impl<'a> IndexMap<'a> {
     pub fn table_size(&self) -> u32
         ensures { result ≡ table_min self.now.tables }
     {
-        least_size(&self.parts.tables) as u32
+        self.parts.table_min()
     }
 
     /// What a host sees in place of a function of the table: its wrapper, where the module defines

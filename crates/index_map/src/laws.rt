@@ -6,7 +6,8 @@ ghost use Rattle.wasm_syntax.specs.declared.parts.Body.{Body};
 ghost use Rattle.wasm_syntax.specs.declared.module.ModuleParts.{ModuleParts as Parts};
 ghost use Rattle.wasm_syntax.specs.declared.value.ValType.{ValType as Sort};
 ghost use Rattle.wasm_syntax.specs.Module.{Program, IsProgram, function_types};
-ghost use Rattle.rewrite_bodies.specs.Numbering.{frame_import, helped, helper_base, is_in, mapped, place_in, value_import, wrapper_base};
+ghost use Rattle.rewrite_bodies.specs.Numbering.{frame_import, helped, helper_base, is_in, mapped, place_in};
+ghost use Rattle.rewrite_bodies.specs.Numbering.{value_import, wrapper_base};
 ghost use Rattle.rewrite_modules.specs.Weight.{type_used, types_used};
 ghost use Rattle.index_map.specs.calls.Wrapper.{HasWrapper, wrapper_of};
 

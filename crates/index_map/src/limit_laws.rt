@@ -6,7 +6,7 @@ ghost use Rattle.wasm_syntax.specs.declared.module.ModuleParts.{ModuleParts as P
 ghost use Rattle.wasm_syntax.specs.Quantity.{greatest};
 ghost use Rattle.wasm_syntax.specs.Sizes.{WithinLimits};
 ghost use Rattle.wasm_syntax.specs.Valid.{Valid};
-ghost use Rattle.wasm_format_laws.specs.Sized.{Sized};
+ghost use Rattle.wasm_format_laws.specs.calls.Sized.{Sized};
 ghost use Rattle.rewrite_modules.specs.Instrumentable.{LightEnough};
 ghost use Rattle.rewrite_modules.specs.Weight.{AreHeights, height_at, weight};
 ghost use Rattle.index_map.specs.Limits.{first_excess};

@@ -1,17 +1,18 @@
 //! The limits of the rewriting.
 
 ghost use Rattle.std.specs.Prelude.{◌≡◌, ◌+◌, ◌<◌, ◌≤◌, ◌^◌, [], ◌∷◌, ℕ, length, map, None};
-ghost use Rattle.wasm_syntax.specs.declared.quantity.Quantity.TheVariants.{Height, InstrumentHeight, InstrumentLocals, Locals};
+ghost use Rattle.wasm_syntax.specs.declared.quantity.Quantity.TheVariants.{Height, InstrumentHeight, InstrumentLocals};
+ghost use Rattle.wasm_syntax.specs.declared.quantity.Quantity.TheVariants.{Locals};
 ghost use Rattle.wasm_syntax.specs.Module.{type_at};
 ghost use Rattle.wasm_syntax.specs.Quantity.{greatest};
 ghost use Rattle.wasm_syntax.specs.Sizes.{WithinLimits, local_count, nesting};
 ghost use Rattle.wasm_syntax.specs.Valid.{AtIndex};
-ghost use Rattle.wasm_format_laws.specs.Sized.{Sized};
+ghost use Rattle.wasm_format_laws.specs.calls.Sized.{Sized};
 ghost use Rattle.rewrite_modules.specs.Weight.{height_at};
 ghost use Rattle.index_map.specs.Limits.{first_excess, first_over, function_heights, function_locals};
 
 use crate::IndexMap;
-use crate::count::{heights_of, highest_of, locals_of, nesting_of};
+use crate::count::{heights_of, highest_of};
 use crate::weights::weight;
 use pm_text::Items;
 use wasm_syntax::{Body, FuncType, Heights, ModuleParts, Quantity};
@@ -45,7 +46,7 @@ impl Counted for Body {
     ghost count = { nesting };
 
     fn count(&self) -> u64 {
-        nesting_of(self)
+        self.nesting()
     }
 }
 
@@ -84,7 +85,7 @@ fn locals_over(parts: &ModuleParts) -> Option<Excess>
     let what = Quantity::InstrumentLocals;
     let bodies = parts.bodies.as_slice();
     for i in 0..bodies.len() {
-        let count = locals_of(parts.type_of(parts.imports.len() + i), &bodies[i]);
+        let count = bodies[i].locals(parts.type_of(parts.imports.len() + i));
         if count > what.limit() {
             return Some(Excess { what, count });
         }

@@ -1,17 +1,18 @@
 //! What a host sees of a table: whether it is doubled, and the functions that have wrappers there.
 
-ghost use Rattle.std.specs.Prelude.{◌≡◌, ℕ, ◌+◌, ◌*◌, ◌<◌, ◌≤◌, ◌^◌, ◌++◌, ◌&&◌, List, [], ◌∷◌, flat_map, length, map, nat_le, nat_lt, sum, unwrap_or, if◌then◌else◌, IfOk, OnOk};
+ghost use Rattle.std.specs.Prelude.{◌≡◌, ℕ, ◌+◌, ◌*◌, ◌<◌, ◌≤◌, ◌^◌, ◌++◌, ◌&&◌, List, [], ◌∷◌, flat_map, length, map};
+ghost use Rattle.std.specs.Prelude.{nat_le, nat_lt, sum, unwrap_or, if◌then◌else◌, IfOk, OnOk};
 ghost use Rattle.wasm_syntax.specs.declared.module.ModuleParts.{ModuleParts as Parts};
 ghost use Rattle.wasm_syntax.specs.declared.quantity.Quantity.TheVariants.{Table};
 ghost use Rattle.wasm_syntax.specs.Module.{function_types};
 ghost use Rattle.wasm_syntax.specs.Quantity.{greatest};
 ghost use Rattle.wasm_syntax.specs.Run.{element_fits};
-ghost use Rattle.rewrite_bodies.specs.Numbering.{all_true, can_double, defines, doubles, element_functions, entry_weight, is_table, table_functions, table_shown, table_weight};
+ghost use Rattle.rewrite_bodies.specs.Numbering.{all_true, can_double, defines, doubles, element_functions};
+ghost use Rattle.rewrite_bodies.specs.Numbering.{entry_weight, is_table, table_functions, table_shown, table_weight};
 ghost use Rattle.index_map.specs.inner.Used.{AllBelow, HasMet};
 ghost use Rattle.index_map.specs.inner.Kept.{AreShown};
 
-use crate::count::{entry_weight, least_size, wide};
-use crate::offsets::element_at;
+use crate::count::{entry_weight, wide};
 use crate::used::{meet, new_places};
 use causes::NoMemory;
 use pm_text::Items;
@@ -127,21 +128,12 @@ fn table_shown(exports: &[Export]) -> bool
     false
 }
 
-/// Whether a segment lies inside of the table.
-fn element_fits(parts: &ModuleParts, element: &ElementSeg) -> bool
-    requires { length element.now.functions < 2 ^ 59 }
-    ensures { result ≡ element_fits parts.now element.now }
-{
-    wide(element_at(parts, element)) + element.functions.len() as u64 <= least_size(&parts.tables)
-}
-
 /// Whether each segment lies inside of the table, so that instances start.
 fn elements_fit(parts: &ModuleParts) -> bool
-    requires { length (element_functions parts.now) < 2 ^ 59 }
     ensures { result ≡ all_true (map (element_fits parts.now) parts.now.elements) }
 {
     for element in parts.elements.as_slice() {
-        if !element_fits(parts, element) {
+        if !parts.element_fits(element) {
             return false;
         }
     }

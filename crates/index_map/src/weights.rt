@@ -8,12 +8,14 @@ ghost use Rattle.wasm_syntax.specs.Valid.{AtIndex};
 ghost use Rattle.wasm_syntax.specs.Quantity.{greatest};
 ghost use Rattle.wasm_syntax.specs.Run.{table_min};
 ghost use Rattle.wasm_syntax.specs.Sizes.{WithinLimits, local_count};
-ghost use Rattle.wasm_format_laws.specs.Sized.{Sized};
+ghost use Rattle.wasm_format_laws.specs.calls.Sized.{Sized};
 ghost use Rattle.rewrite_bodies.specs.Numbering.{entry_weight};
-ghost use Rattle.rewrite_modules.specs.Weight.{bodies_weight, exports_weight, extra, height_at, op_weight, ops_weight, start_weight, types_used, weight};
+ghost use Rattle.rewrite_modules.specs.Weight.{bodies_weight, exports_weight, height_at, op_weight, ops_weight};
+ghost use Rattle.rewrite_modules.specs.Weight.{start_weight, types_used, weight};
+ghost use Rattle.rewrite_bodies.specs.Numbering.{extra};
 
 use crate::IndexMap;
-use crate::count::{entry_weight, height_before, heights_of, least_size, locals_of};
+use crate::count::{entry_weight, height_before, heights_of, least_size};
 use wasm_syntax::{
     Basic, Body, Export, ExportKind, FuncType, Heights, Instr, LimitsList, ModuleParts, Op,
 };
@@ -55,7 +57,7 @@ fn body_weight(ftype: Option<&FuncType>, body: &Body, heights: &[u32]) -> u64
     ensures { result ≡ 192 + 16 * local_count (option_copied ftype.entry) body.now
         + ops_weight (λ j. unwrap_or (slice_get heights.now j) 0) 0 body.now.ops }
 {
-    192 + 16 * locals_of(ftype, body) + ops_weight(body.ops.as_slice(), heights)
+    192 + 16 * body.locals(ftype) + ops_weight(body.ops.as_slice(), heights)
 }
 
 /// The weight of all functions that the module defines.

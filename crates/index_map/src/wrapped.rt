@@ -1,10 +1,11 @@
 //! The functions that have a wrapper.
 
-ghost use Rattle.std.specs.Prelude.{◌≡◌, ℕ, ◌+◌, ◌<◌, ◌^◌, ◌++◌, [], ◌∷◌, map, nat_lt, not, false, length, IfOk, OnOk, if◌then◌else◌};
+ghost use Rattle.std.specs.Prelude.{◌≡◌, ℕ, ◌+◌, ◌<◌, ◌^◌, ◌++◌, [], ◌∷◌, map, nat_lt, not, false, length, IfOk, OnOk};
+ghost use Rattle.std.specs.Prelude.{if◌then◌else◌};
 ghost use Rattle.wasm_syntax.specs.declared.module.ModuleParts.{ModuleParts as Parts};
 ghost use Rattle.wasm_syntax.specs.Module.{is_function};
 ghost use Rattle.rewrite_bodies.specs.Numbering.{export_wrapped, start_wraps, wrapper_base, wraps};
-ghost use Rattle.rewrite_modules.specs.Instrument.{new_exports, new_index};
+ghost use Rattle.rewrite_modules.specs.calls.Instrument.{new_exports, new_index};
 
 use causes::NoMemory;
 use std::alloc::Global;

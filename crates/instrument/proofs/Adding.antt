@@ -4,12 +4,12 @@ use Rattle.std.proofs.lemmas.List.{map-append, take_all}
 use Rattle.std.proofs.lemmas.Option.{slice_get-get_or}
 use Rattle.wasm_syntax.specs.declared.parts.Body.{Body}
 use Rattle.wasm_syntax.specs.declared.module.ModuleParts.{ModuleParts as Module}
-use Rattle.rewrite_bodies.specs.Guards.{helper}
+use Rattle.rewrite_bodies.specs.calls.Guards.{helper}
 use Rattle.rewrite_bodies.specs.Numbering.{helped}
 use Rattle.wasm_syntax.specs.SameCode.{body_code}
-use Rattle.rewrite_modules.specs.FlatCode.{body_of}
-use Rattle.rewrite_modules.specs.Instrument.{each, new_module}
-use Rattle.rewrite_promise.specs.Promise.{Accepted}
+use Rattle.rewrite_modules.specs.calls.FlatCode.{body_of}
+use Rattle.rewrite_modules.specs.calls.Instrument.{each, new_module}
+use Rattle.rewrite_promise.specs.calls.Promise.{Accepted}
 use Rattle.index_map.proofs.Trees.{helped_used}
 use Rattle.instrument.specs.calls.Assembly.{AreBodies}
 use Rattle.unwind_rewrite.specs.calls.Rewritten.{Ascends, program_in}

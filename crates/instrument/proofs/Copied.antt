@@ -9,7 +9,7 @@ use Rattle.wasm_syntax.specs.declared.parts.Limits.{Limits}
 use Rattle.wasm_syntax.specs.declared.module.ModuleParts.{ModuleParts as Module}
 use Rattle.rewrite_bodies.specs.Numbering.{wraps}
 use Rattle.rewrite_modules.specs.Collector.{memory_export}
-use Rattle.rewrite_modules.specs.Instrument.{new_index, new_exports}
+use Rattle.rewrite_modules.specs.calls.Instrument.{new_index, new_exports}
 use Rattle.instrument.specs.inner.Parts.{renumbered}
 
 -- ---- exports

@@ -4,8 +4,8 @@ use Rattle.std.proofs.lemmas.Option.{slice_get-get_or}
 use Rattle.wasm_syntax.specs.declared.parts.Body.{Body}
 use Rattle.wasm_syntax.specs.declared.module.ModuleParts.{ModuleParts as Module}
 use Rattle.wasm_syntax.specs.Module.{option_then, function_at}
-use Rattle.rewrite_modules.specs.Instrument.{new_body}
-use Rattle.rewrite_promise.specs.Promise.{Accepted}
+use Rattle.rewrite_modules.specs.calls.Instrument.{new_body}
+use Rattle.rewrite_promise.specs.calls.Promise.{Accepted}
 use Rattle.operand_spill.specs.calls.Plans.{IsDefined}
 use Rattle.unwind_rewrite.specs.calls.Rewritten.{Ascends, program_in, IsRewritten}
 use Rattle.instrument.specs.inner.Adding.{Adds, new_bodies}

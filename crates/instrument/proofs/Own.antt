@@ -13,10 +13,10 @@ use Rattle.wasm_syntax.specs.Module.{type_at, option_then}
 use Rattle.wasm_syntax.specs.Machine.{result_of}
 use Rattle.wasm_syntax.specs.Typing.{body_context}
 use Rattle.wasm_syntax.specs.FlatTyping.{FlatTypes, body_block, IsLive, TypesBefore}
-use Rattle.wasm_syntax.specs.Valid.{Valid}
+use Rattle.wasm_syntax.specs.Valid.{Valid, body_of}
 use Rattle.wasm_laws.proofs.FlatBodies.{body_steps}
 use Rattle.wasm_laws.proofs.FlatOne.{one_before}
-use Rattle.wasm_validate.specs.Heights.{body_of, TypesAt, HeightIs, AllLow}
+use Rattle.wasm_validate.specs.Heights.{TypesAt, HeightIs, AllLow}
 use Rattle.wasm_validate.specs.calls.Instructions.{HeightsAre}
 use Rattle.rewrite_modules.specs.Weight.{height_at, AreHeights}
 use Rattle.rewrite_modules.proofs.FineBodies.{fine_at, gives_one}

@@ -7,11 +7,11 @@ use Rattle.wasm_syntax.specs.declared.module.ModuleParts.{ModuleParts as Module}
 use Rattle.wasm_syntax.specs.Module.{IsModule}
 use Rattle.wasm_syntax.specs.Sizes.{WithinLimits}
 use Rattle.wasm_syntax.specs.Valid.{Valid}
-use Rattle.wasm_format_laws.specs.Sized.{Sized}
+use Rattle.wasm_format_laws.specs.calls.Sized.{Sized}
 use Rattle.rewrite_promise.specs.calls.Light.{SmallOffsets}
 use Rattle.index_map.specs.Limits.{first_excess}
 use Rattle.index_map.proofs.WithinLimits.{kept}
-use Rattle.rewrite_promise.specs.Promise.{Accepted}
+use Rattle.rewrite_promise.specs.calls.Promise.{Accepted}
 use Rattle.instrument.specs.Refusal.{OwnHeights}
 
 pub accepted : (m : Module) (heights : List (List ℕ)) → IsModule m → Valid m → WithinLimits m → Sized m → SmallOffsets m → OwnHeights m heights

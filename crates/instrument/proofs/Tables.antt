@@ -7,7 +7,7 @@ use Rattle.std.proofs.Math.Seq.{take-append-add}
 use Rattle.wasm_syntax.specs.declared.parts.ElementSeg.{ElementSeg}
 use Rattle.wasm_syntax.specs.declared.module.ModuleParts.{ModuleParts as Module}
 use Rattle.wasm_syntax.specs.Run.{element_at, over}
-use Rattle.wasm_machine.specs.calls.Starts.{put_element}
+use Rattle.wasm_syntax.specs.calls.Starting.{put_element}
 
 drop_whole : {A : Type 0} (xs : List A) → drop (length xs) xs ≡ []
 drop_whole [] = refl

@@ -17,7 +17,7 @@ use Rattle.wasm_syntax.specs.Run.{table_min, element_at}
 use Rattle.rewrite_bodies.specs.Numbering.{mapped, doubles, wrapped, helped}
 use Rattle.wasm_syntax.specs.SameCode.{body_code, global_code, element_code, code_alone}
 use Rattle.rewrite_modules.specs.calls.Given.{Given}
-use Rattle.rewrite_modules.specs.Instrument.{wrapper_type, number_init, zero_init, shown_element, inner_element, shown_elements, new_module}
+use Rattle.rewrite_modules.specs.calls.Instrument.{wrapper_type, number_init, zero_init, shown_element, inner_element, shown_elements, new_module}
 use Rattle.rewrite_modules.specs.Instrumentable.{program_of}
 use Rattle.rewrite_modules.specs.Weight.{types_used}
 use Rattle.rewrite_modules.proofs.Modules.{module_given}
@@ -25,7 +25,7 @@ use Rattle.rewrite_modules.proofs.Theorem.{startable_given, ready_given}
 use Rattle.rewrite_modules.proofs.ValidModule.{new_valid}
 use Rattle.wasm_format_laws.proofs.Totals.{total_many}
 use Rattle.rewrite_promise.proofs.Lists.{within, type_some}
-use Rattle.rewrite_promise.specs.Promise.{Accepted, IsRewriting, Promised}
+use Rattle.rewrite_promise.specs.calls.Promise.{Accepted, IsRewriting, Promised}
 use Rattle.rewrite_promise.proofs.Laid.{laid, laid_is, laid_same, number_is}
 use Rattle.rewrite_promise.proofs.Kept.{promised}
 use Rattle.rewrite_promise.specs.calls.Layers.{Layered}

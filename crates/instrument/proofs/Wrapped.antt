@@ -6,13 +6,14 @@ use Rattle.wasm_syntax.specs.declared.module.ModuleParts.{ModuleParts as Module}
 use Rattle.wasm_syntax.specs.Module.{Program, function_types, type_at}
 use Rattle.wasm_syntax.specs.Sizes.{parameter_count}
 use Rattle.wasm_laws.proofs.Lists.{at_of}
-use Rattle.wasm_laws.proofs.Validity.{typed, then_found}
+use Rattle.wasm_laws.proofs.Validity.{typed}
 use Rattle.rewrite_bodies.specs.Numbering.{wrapped}
 use Rattle.rewrite_modules.proofs.Modules.{module_given}
 use Rattle.rewrite_modules.proofs.Theorem.{ready_given}
 use Rattle.rewrite_modules.proofs.ValidModule.{wrapped_types}
-use Rattle.rewrite_promise.specs.Promise.{Accepted}
+use Rattle.rewrite_promise.specs.calls.Promise.{Accepted}
 use Rattle.unwind_rewrite.specs.calls.Rewritten.{program_in}
+use Rattle.wasm_syntax.proofs.Types.{then_found}
 
 module _ (m : Module) (a : Accepted m) (i f : ℕ) (at : slice_get (wrapped m) i ≡ Some f) where
   abbrev p : Program

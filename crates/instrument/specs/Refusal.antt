@@ -8,7 +8,7 @@ use Rattle.wasm_syntax.specs.Quantity.{greatest}
 use Rattle.rewrite_modules.specs.Weight.{height_at, AreHeights}
 use Rattle.index_map.specs.declared.limits.Excess.{Excess}
 use Rattle.index_map.specs.Limits.{first_excess}
-use Rattle.rewrite_promise.specs.Promise.{Accepted}
+use Rattle.rewrite_promise.specs.calls.Promise.{Accepted}
 use Rattle.instrument.specs.declared.refusal.InstrFault.{InstrFault}
 use Rattle.instrument.specs.declared.refusal.InstrFault.TheVariants.{ImportCollision, ExportCollision, Limit, NoMemory}
 

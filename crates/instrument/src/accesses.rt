@@ -2,7 +2,7 @@
 
 ghost use Rattle.std.specs.Prelude.{◌<◌, ◌^◌};
 ghost use Rattle.std.specs.List.{AllByRecursion};
-ghost use Rattle.rewrite_bodies.specs.Offsets.{SmallOffset};
+ghost use Rattle.rewrite_bodies.specs.calls.Offsets.{SmallOffset};
 ghost use Rattle.rewrite_modules.specs.Instrumentable.{SmallInstr};
 ghost use Rattle.rewrite_promise.specs.calls.Light.{SmallOffsets};
 

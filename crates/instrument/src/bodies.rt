@@ -1,7 +1,7 @@
 //! The bodies of all functions of a rewritten module.
 
 ghost use Rattle.std.specs.Prelude.{◌≡◌, IfOk, OnOk};
-ghost use Rattle.rewrite_promise.specs.Promise.{Accepted};
+ghost use Rattle.rewrite_promise.specs.calls.Promise.{Accepted};
 ghost use Rattle.operand_spill.specs.calls.Plans.{IsDefined};
 ghost use Rattle.instrument.specs.calls.Assembly.{AreBodies};
 ghost use Rattle.unwind_rewrite.specs.calls.Rewritten.{Ascends, IsRewritten};

@@ -2,7 +2,7 @@
 
 ghost use Rattle.std.specs.Prelude.{◌≡◌, ◌+◌, ◌<◌, ◌^◌, ◌++◌, [], ◌∷◌, codes, length, IfOk};
 ghost use Rattle.wasm_syntax.specs.declared.value.ValType.TheVariants.{I32, I64};
-ghost use Rattle.rewrite_bodies.specs.Guards.{helper_type};
+ghost use Rattle.rewrite_bodies.specs.calls.Guards.{helper_type};
 ghost use Rattle.rewrite_bodies.specs.Numbering.{frame_type, value_type};
 ghost use Rattle.rewrite_modules.specs.Collector.{collector_import};
 ghost use Rattle.instrument.specs.inner.Parts.{flag, more_imports, more_types, number_code};

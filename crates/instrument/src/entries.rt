@@ -1,13 +1,12 @@
 //! The bodies of wrappers and of helpers.
 
 ghost use Rattle.std.specs.Prelude.{◌≡◌, ◌<◌, ◌^◌, ◌++◌, [], map, length, IfOk};
-ghost use Rattle.wasm_syntax.specs.Numbers.{same_type as are_same};
-ghost use Rattle.wasm_syntax.specs.Module.{function_types, same_functype, same_types as lists_are_same, type_at};
+ghost use Rattle.wasm_syntax.specs.Module.{function_types, type_at};
 ghost use Rattle.wasm_syntax.specs.Sizes.{parameter_count};
-ghost use Rattle.rewrite_bodies.specs.Guards.{entry_label, first_table, helper};
+ghost use Rattle.rewrite_bodies.specs.calls.Guards.{entry_label, first_table, helper};
 ghost use Rattle.wasm_syntax.specs.SameCode.{body_code};
-ghost use Rattle.rewrite_modules.specs.FlatCode.{body_of};
-ghost use Rattle.rewrite_modules.specs.Wrappers.{wrapper};
+ghost use Rattle.rewrite_modules.specs.calls.FlatCode.{body_of};
+ghost use Rattle.rewrite_modules.specs.calls.Wrappers.{wrapper};
 ghost use Rattle.unwind_rewrite.specs.calls.Rewritten.{Ascends};
 
 use causes::NoMemory;
@@ -16,17 +15,14 @@ use pm_text::Items;
 use rewrite_code::CodeWriter;
 use std::alloc::Global;
 use unwind_rewrite::{helper, wrapper};
-use wasm_syntax::{Body, FuncType, Indices, ModuleParts, ValType};
+use wasm_syntax::{Body, Indices, ModuleParts};
 
 /// How many parameters a function has.
 fn parameter_count(parts: &ModuleParts, function: u32) -> u32
     requires { parameter_count (type_at parts.now function) < 2 ^ 32 }
     ensures { result ≡ parameter_count (type_at parts.now function) }
 {
-    match parts.type_of(function as usize) {
-        Some(ftype) => ftype.params.len() as u32,
-        None => 0,
-    }
+    parts.parameters(function) as u32
 }
 
 /// The body of the wrapper of a function.
@@ -54,40 +50,6 @@ pub(crate) fn wrapper_body(
     writer.finish(Items::new(alloc))
 }
 
-fn same_type(a: ValType, b: ValType) -> bool
-    ensures { result ≡ are_same a b }
-{
-    match (a, b) {
-        (ValType::I32, ValType::I32) => true,
-        (ValType::I32, ValType::I64) => false,
-        (ValType::I64, ValType::I32) => false,
-        (ValType::I64, ValType::I64) => true,
-    }
-}
-
-/// Whether two lists of types are the same.
-fn same_types(a: &[ValType], b: &[ValType]) -> bool
-    ensures { result ≡ lists_are_same a.now b.now }
-{
-    if a.len() != b.len() {
-        return false;
-    }
-    for i in 0..a.len() {
-        if !same_type(a[i], b[i]) {
-            return false;
-        }
-    }
-    true
-}
-
-/// Whether two function types are the same by structure (Core 2.3.3).
-fn same_signature(a: &FuncType, b: &FuncType) -> bool
-    ensures { result ≡ same_functype a.now b.now }
-{
-    same_types(a.params.as_slice(), b.params.as_slice())
-        && same_types(a.results.as_slice(), b.results.as_slice())
-}
-
 /// The label of a table entry in the helper of a type, by which the kind of the trap of its call is
 /// given.
 fn entry_label(parts: &ModuleParts, ftype: u32, entry: Option<u32>) -> u32
@@ -100,7 +62,7 @@ fn entry_label(parts: &ModuleParts, ftype: u32, entry: Option<u32>) -> u32
         parts.types.get(ftype as usize),
         parts.type_of(function as usize),
     ) {
-        (Some(asked), Some(own)) if same_signature(own, asked) => 0,
+        (Some(asked), Some(own)) if own.is_same(asked) => 0,
         (Some(_), Some(_)) => 3,
         _ => 0,
     }

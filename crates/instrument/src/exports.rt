@@ -3,7 +3,7 @@
 ghost use Rattle.std.specs.Prelude.{◌≡◌, ◌++◌, codes, length, IfOk, OnOk};
 ghost use Rattle.wasm_syntax.specs.declared.parts.ExportKind.TheVariants.{Memory};
 ghost use Rattle.rewrite_modules.specs.Collector.{memory_export};
-ghost use Rattle.rewrite_modules.specs.Instrument.{new_exports};
+ghost use Rattle.rewrite_modules.specs.calls.Instrument.{new_exports};
 ghost use Rattle.instrument.specs.inner.Parts.{renumbered};
 
 use causes::NoMemory;

@@ -5,14 +5,16 @@ ghost use Rattle.std.specs.List.{AllByRecursion};
 ghost use Rattle.wasm_syntax.specs.Module.{function_types};
 ghost use Rattle.wasm_syntax.specs.Run.{element_fits};
 ghost use Rattle.rewrite_bodies.specs.Numbering.{can_double, doubles, element_functions, is_in, mapped, shown, wrapped};
-ghost use Rattle.rewrite_modules.specs.Instrument.{doubled, new_tables, shown_element, shown_elements, wrapper_type};
+ghost use Rattle.rewrite_modules.specs.calls.Instrument.{shown_element, shown_elements, wrapper_type};
+ghost use Rattle.rewrite_modules.specs.Interface.{doubled};
+ghost use Rattle.rewrite_modules.specs.Interface.{new_tables};
 ghost use Rattle.rewrite_modules.specs.Weight.{types_used};
 ghost use Rattle.instrument.specs.inner.Parts.{ElementThere, inner_code, written_element, written_elements};
 
 use crate::copies::Duplicate;
 use crate::declarations::number_code;
 use causes::NoMemory;
-use index_map::{IndexMap, element_at};
+use index_map::IndexMap;
 use pm_text::Items;
 use std::alloc::Global;
 use wasm_syntax::{Body, ElementSeg, ElementSegs, Indices, Limits, LimitsList, ModuleParts};
@@ -143,7 +145,7 @@ fn inner_offset(
     ensures { IfOk result (λ body. body ≡ inner_code numbers.now element.now) }
 {
     if numbers.doubles() {
-        let at = element_at(numbers.source(), element);
+        let at = numbers.source().element_at(element);
         number_code(alloc, at + numbers.table_size())
     } else {
         element.offset.duplicate(alloc)

@@ -4,7 +4,7 @@ ghost use Rattle.std.specs.Prelude.{◌≡◌, ◌+◌, ◌<◌, ◌^◌, [], tr
 ghost use Rattle.std.specs.List.{AllByRecursion};
 ghost use Rattle.wasm_syntax.specs.Run.{element_fits};
 ghost use Rattle.rewrite_bodies.specs.Numbering.{can_double, doubles, element_functions, is_in};
-ghost use Rattle.rewrite_promise.specs.Promise.{IsRewriting, Promised};
+ghost use Rattle.rewrite_promise.specs.calls.Promise.{IsRewriting, Promised};
 ghost use Rattle.rewrite_promise.specs.calls.Layers.{Layered};
 ghost use Rattle.instrument.specs.calls.Assembly.{AreBodies};
 ghost use Rattle.instrument.specs.inner.Parts.{ElementThere, new_parts};

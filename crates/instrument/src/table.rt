@@ -1,38 +1,15 @@
 //! The table where an instance starts (Core 4.5.4), as far as its first size. A segment may pass
 //! the end, and then no instance starts.
 
-ghost use Rattle.std.specs.Prelude.{◌≡◌, ◌+◌, ◌≤◌, length, map, replicate, take, IfOk, Some, None};
-ghost use Rattle.wasm_syntax.specs.Run.{table_min as least_table, over};
-ghost use Rattle.rewrite_bodies.specs.Guards.{first_table};
+ghost use Rattle.std.specs.Prelude.{◌≡◌, replicate, take, IfOk, None};
+ghost use Rattle.wasm_syntax.specs.Run.{table_min as least_table};
+ghost use Rattle.rewrite_bodies.specs.calls.Guards.{first_table};
 ghost use Rattle.instrument.specs.inner.Tables.{put_inside};
 
 use causes::NoMemory;
-use index_map::element_at;
 use pm_text::Items;
 use std::alloc::Global;
-use wasm_syntax::ModuleParts;
-
-/// How many elements the table has at the start.
-fn table_min(m: &ModuleParts) -> u32
-    ensures { result ≡ least_table m.now.tables }
-{
-    match m.tables.as_slice() {
-        [] => 0,
-        [limits, ..] => limits.min,
-    }
-}
-
-/// Puts functions into a table, from a place on.
-fn put_functions(table: &mut [Option<u32>], at: usize, functions: &[u32])
-    requires { at + length functions.now ≤ length table.old }
-    ensures { table.new ≡ over table.old at (map Some functions.now) }
-{
-    let mut next = at;
-    for function in functions {
-        table[next] = Some(*function);
-        next += 1;
-    }
-}
+use wasm_syntax::{ModuleParts, put_functions};
 
 /// At most so many functions, the first ones.
 fn first(functions: &[u32], count: usize) -> &[u32]
@@ -59,7 +36,7 @@ fn fill(table: &mut [Option<u32>], m: &ModuleParts)
 {
     let elements = m.elements.as_slice();
     for element in elements {
-        let at = element_at(m, element) as usize;
+        let at = m.element_at(element) as usize;
         put_inside(table, at, element.functions.as_slice());
     }
 }
@@ -68,7 +45,7 @@ fn fill(table: &mut [Option<u32>], m: &ModuleParts)
 pub(crate) fn first_table(alloc: Global, m: &ModuleParts) -> Result<Items<Option<u32>>, NoMemory>
     ensures { IfOk result (λ table. table ≡ first_table m.now) }
 {
-    let mut table = Vec::from_elem(alloc, None, table_min(m) as usize)?;
+    let mut table = Vec::from_elem(alloc, None, m.table_min() as usize)?;
     fill(&mut table, m);
     Ok(Items::from_vec(table))
 }

@@ -1,6 +1,6 @@
 //! The whole module.
 
-ghost use Rattle.wasm_format_laws.specs.Sized.{Sized};
+ghost use Rattle.wasm_format_laws.specs.calls.Sized.{Sized};
 ghost use Rattle.instrument.specs.calls.Answers.{Instrumented};
 
 use crate::bodies::all_bodies;

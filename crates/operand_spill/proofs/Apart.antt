@@ -2,7 +2,7 @@
 use Rattle.std.proofs.Common.{◌≡◌, ℕ, ◌+◌, ◌*◌, ◌<◌, ◌≤◌, length, refl, ap, ap₂, arith}
 use Rattle.wasm_syntax.specs.declared.value.ValType.{ValType}
 use Rattle.wasm_syntax.specs.declared.value.ValType.TheVariants.{I32, I64}
-use Rattle.rewrite_bodies.specs.Slots.{slot}
+use Rattle.rewrite_bodies.specs.calls.Slots.{slot}
 use Rattle.operand_spill.specs.calls.Plans.{Planned, AddedLocal, Slot, Result, Kind, Offset, IsAdded, number}
 
 slot_low : (t : ValType) (h : ℕ) → 2 * h ≤ slot t h

@@ -8,14 +8,14 @@ use Rattle.wasm_syntax.specs.declared.parts.Body.{Body}
 use Rattle.wasm_syntax.specs.declared.module.ModuleParts.{ModuleParts as Module}
 use Rattle.wasm_syntax.specs.Module.{type_at, declared_locals}
 use Rattle.wasm_syntax.specs.Sizes.{WithinLimits, ShortBody, local_count}
-use Rattle.wasm_syntax.specs.Valid.{defined_index}
+use Rattle.wasm_syntax.specs.Valid.{defined_index, body_of}
 use Rattle.wasm_laws.proofs.Lists.{at_of}
-use Rattle.wasm_validate.specs.Heights.{body_of, TypesAt, HasOp, HeightIs, StandsIn, AllLow}
+use Rattle.wasm_validate.specs.Heights.{TypesAt, HasOp, HeightIs, StandsIn, AllLow}
 use Rattle.wasm_validate.proofs.Order.{index_back}
 use Rattle.operand_spill.specs.calls.Plans.{own_types, planned, Fits}
 use Rattle.operand_spill.specs.inner.Greatest.{height_or_zero, IsGreatestUpTo}
-use Rattle.wasm_laws.proofs.Validity.{then_found}
 use Rattle.wasm_syntax.proofs.Bodies.{declared_length}
+use Rattle.wasm_syntax.proofs.Types.{then_found}
 
 pub none_greatest : (m : Module) (f : ℕ) → IsGreatestUpTo m f 0 0
 none_greatest m f = record { bound = λ op types lt h. absurd (omega (arith, lt)); there = inl refl }

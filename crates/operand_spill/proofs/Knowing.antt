@@ -16,15 +16,15 @@ use Rattle.wasm_syntax.specs.declared.module.ModuleParts.{ModuleParts as Module}
 use Rattle.wasm_syntax.specs.Machine.{result_of}
 use Rattle.wasm_syntax.specs.Module.{type_at}
 use Rattle.wasm_syntax.specs.Tree.{Jump, Call, CallIndirect, Nodes, stop, basic, jump, block, loop, choose, Tree, Item, Plain, Goes as JumpGoes, Opens as BlockOpens, OpensLoop, OpensIf, Else, End, IsTree, Placed, placed, else_out, write, Writes, WritesOut, code_of, item_of}
-use Rattle.rewrite_bodies.specs.Slots.{Place, Ctx, less, grown, after_plain}
+use Rattle.rewrite_bodies.specs.calls.Slots.{Place, Ctx, less, grown, after_plain}
 use Rattle.operand_spill.specs.declared.labels.Label.TheVariants as kept
 use Rattle.operand_spill.specs.declared.labels.OpenBlock.{OpenBlock}
 use Rattle.operand_spill.specs.calls.Walking.{Walking, walking, with_places, opening, behind_block, at_start, alternating_in, alternating, closing_in, closing}
 use Rattle.operand_spill.specs.calls.Standing.{Due, before_end, before_else, flat, IsLast}
 use Rattle.operand_spill.proofs.Shapes.{Begins, Shape, shape, begins}
 use Rattle.operand_spill.specs.calls.Before.{dead, live, after_call, after_jump, before, constant_of, known_among}
-use Rattle.operand_spill.specs.declared.places.Flow.{Flow}
-use Rattle.operand_spill.specs.declared.places.Flow.TheVariants.{Next, Ends}
+use Rattle.operand_spill.specs.declared.flow.Flow.{Flow}
+use Rattle.operand_spill.specs.declared.flow.Flow.TheVariants.{Next, Ends}
 use Rattle.operand_spill.specs.inner.Knowing.{Places, Matched, after, Knows, Ended, Over, Proceeds, Flowed, Jumped, AreDead, is_else}
 
 -- ---- lengths

@@ -17,11 +17,11 @@ use Rattle.wasm_laws.proofs.FlatBodies.{inside_body, body_steps}
 use Rattle.wasm_laws.proofs.FlatOne.{one_before}
 use Rattle.wasm_laws.proofs.Safe.{Typed, one_result}
 use Rattle.wasm_laws.proofs.Validity.{typed}
-use Rattle.wasm_syntax.specs.Valid.{Valid}
-use Rattle.wasm_validate.specs.Heights.{body_of, TypesAt}
+use Rattle.wasm_syntax.specs.Valid.{Valid, body_of}
+use Rattle.wasm_validate.specs.Heights.{TypesAt}
 use Rattle.wasm_validate.proofs.HeightLaws.{at_of}
 use Rattle.wasm_validate.proofs.WholeLaws.{body_at}
-use Rattle.rewrite_bodies.specs.Slots.{Place, Ctx, ctx_of, slots_of}
+use Rattle.rewrite_bodies.specs.calls.Slots.{Place, Ctx, ctx_of, slots_of}
 use Rattle.rewrite_modules.proofs.Heights.{peak_low}
 use Rattle.rewrite_modules.proofs.Links.{is_defined, type_is_of, IsDefined}
 use Rattle.rewrite_modules.proofs.Multiple.{slots_high, code_length}

@@ -8,3 +8,4 @@ pub mod Shapes
 pub mod Steps
 pub mod Skips
 pub mod Arms
+pub mod Gathered

@@ -6,10 +6,10 @@ use Rattle.wasm_syntax.specs.declared.parts.FuncType.{FuncType}
 use Rattle.wasm_syntax.specs.Tree.{Jump, BrIf, Call, CallIndirect, Nodes, stop, basic, jump, block, loop, choose, Item, Plain, Goes, Opens as BlockOpens, OpensLoop, OpensIf, Else, End, Placed, placed, else_out, write, Tree, WritesOut}
 use Rattle.wasm_syntax.specs.Machine.{result_of}
 use Rattle.wasm_syntax.specs.Module.{type_at}
-use Rattle.rewrite_bodies.specs.Slots.{Place, Spilled, Ctx, less, grown, under, after_plain}
+use Rattle.rewrite_bodies.specs.calls.Slots.{Place, Spilled, Ctx, less, grown, under, after_plain}
 use Rattle.rewrite_bodies.specs.Numbering.{import_count, mapped}
-use Rattle.rewrite_bodies.specs.Pieces.{call, keep, spill}
-use Rattle.rewrite_bodies.specs.Rewrite.{plain, control, call_code, indirect_code, after_direct, rewrite}
+use Rattle.rewrite_bodies.specs.calls.Pieces.{call, keep, spill}
+use Rattle.rewrite_bodies.specs.calls.Rewrite.{plain, control, call_code, indirect_code, after_direct, rewrite}
 use Rattle.rewrite_bodies.specs.calls.Typed.{end_gives}
 use Rattle.rewrite_bodies.specs.calls.Agreement.{Room, Room_jump, Room_call}
 use Rattle.rewrite_bodies.proofs.Sim.{room_height}

@@ -1,14 +1,14 @@
 //! What a basic instruction takes and gives.
 
 ghost use Rattle.std.specs.Prelude.{◌≡◌, map, option_map, slice_get};
-ghost use Rattle.wasm_syntax.specs.Access.{load_type};
 ghost use Rattle.wasm_syntax.specs.Effect.{takes};
-ghost use Rattle.wasm_syntax.specs.Numbers.{convert_to, type_of};
-ghost use Rattle.rewrite_bodies.specs.Slots.{Ctx, Spilled as SpilledOf, Copied as CopiedOf, second_type, result_type, result_place};
+ghost use Rattle.wasm_syntax.specs.Numbers.{convert_to};
+ghost use Rattle.rewrite_bodies.specs.calls.Slots.{Ctx, Spilled as SpilledOf, Copied as CopiedOf, second_type, result_type};
+ghost use Rattle.rewrite_bodies.specs.calls.Slots.{result_place};
 ghost use Rattle.rewrite_code.specs.calls.Places.{place};
 
 use rewrite_code::{OperandPlace, OperandPlaces};
-use wasm_syntax::{Basic, Convert, Load, ModuleParts, ValType, Value};
+use wasm_syntax::{Basic, Convert, ModuleParts, ValType};
 
 /// How many operands an instruction takes.
 pub fn takes(instruction: Basic) -> usize
@@ -36,31 +36,12 @@ pub fn takes(instruction: Basic) -> usize
     }
 }
 
-fn load_type(load: Load) -> ValType
-    ensures { result ≡ load_type load }
-{
-    match load {
-        Load::Full(t) => t,
-        Load::Part32(_, _) => ValType::I32,
-        Load::Part64(_, _) => ValType::I64,
-    }
-}
-
 fn convert_to(conversion: Convert) -> ValType
     ensures { result ≡ convert_to conversion }
 {
     match conversion {
         Convert::Wrap => ValType::I32,
         Convert::ExtendS | Convert::ExtendU => ValType::I64,
-    }
-}
-
-fn constant_type(value: Value) -> ValType
-    ensures { result ≡ type_of value }
-{
-    match value {
-        Value::I32(_) => ValType::I32,
-        Value::I64(_) => ValType::I64,
     }
 }
 
@@ -111,8 +92,8 @@ fn result_type(
         Basic::Select => second_type(places),
         Basic::LocalGet(local) | Basic::LocalTee(local) => local_type(locals, local),
         Basic::GlobalGet(global) => global_type(source, global),
-        Basic::Load(load, _, _) => Some(load_type(load)),
-        Basic::Const(value) => Some(constant_type(value)),
+        Basic::Load(load, _, _) => Some(load.value_type()),
+        Basic::Const(value) => Some(value.type_of()),
         Basic::Unary(t, _) | Basic::Binary(t, _) => Some(t),
         Basic::Convert(conversion) => Some(convert_to(conversion)),
         Basic::MemorySize

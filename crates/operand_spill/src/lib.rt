@@ -3,17 +3,21 @@
 #![tactic(auto)]
 
 mod effect;
+mod flow;
 mod heights;
 mod labels;
 pub mod laws;
 mod locals;
+mod noting;
 mod places;
 mod skip;
 mod slots;
 mod walk;
 
 pub use effect::{result_place, takes};
+pub use flow::Flow;
 pub use labels::{Label, OpenBlock};
+pub use noting::landings;
 pub use skip::end_of_list;
-pub use slots::{SlotPlan, plan};
+pub use slots::{SlotPlan, body_at, plan};
 pub use walk::{Walk, copy_of};

@@ -2,25 +2,20 @@
 
 ghost use Rattle.std.specs.Prelude.{◌≡◌, ℕ, suc, ◌+◌, ◌<◌, ◌≤◌, List, length, slice_get, IfOk, OnOk, MatchOption, Some};
 ghost use Rattle.wasm_syntax.specs.declared.instruction.Basic.TheVariants.{Const};
-ghost use Rattle.wasm_syntax.specs.Tree.{Tree, Placed, Writes, Opens, OpensLoop, OpensIf, Call, CallIndirect, code_of, item_of, jump_of};
+ghost use Rattle.wasm_syntax.specs.Tree.{Tree, Placed, Writes, Opens, OpensLoop, OpensIf, Call, CallIndirect, code_of};
+ghost use Rattle.wasm_syntax.specs.Tree.{item_of, jump_of};
 ghost use Rattle.wasm_syntax.specs.Machine.{result_of};
-ghost use Rattle.rewrite_bodies.specs.Slots.{Ctx, Place, less, grown, after_plain};
+ghost use Rattle.rewrite_bodies.specs.calls.Slots.{Ctx, Place, less, grown, after_plain};
 ghost use Rattle.operand_spill.specs.calls.Walking.{with_places};
 ghost use Rattle.operand_spill.specs.calls.Before.{before};
-ghost use Rattle.operand_spill.specs.inner.Knowing.{Places, Knows, Ended, Over, Proceeds, Flowed, Jumped, AreDead, Starts, is_else};
+ghost use Rattle.operand_spill.specs.inner.Knowing.{Places, Knows, Ended, Over, Proceeds, Flowed, Jumped, AreDead};
+ghost use Rattle.operand_spill.specs.inner.Knowing.{Starts, is_else};
 
-use crate::{Label, Walk, copy_of, end_of_list, result_place, takes};
+use crate::{Flow, Label, Walk, copy_of, end_of_list, result_place, takes};
 use causes::NoMemory;
 use rewrite_code::OperandPlaces;
 use std::alloc::Global;
-use wasm_syntax::{Basic, FuncType, Instr, Jump, ModuleParts, Op, ValType};
-
-/// Whether the next instruction is run behind one, or nothing more of its list.
-#[derive(Clone, Copy)]
-pub(crate) enum Flow {
-    Next,
-    Ends,
-}
+use wasm_syntax::{Basic, FuncType, Instr, Jump, ModuleParts, Op, ValType, read_op};
 
 /// A basic instruction.
 fn basic(
@@ -38,20 +33,13 @@ fn basic(
     walk.perform_basic(instruction, taken, gives)
 }
 
-/// What a function gives, if anything.
-fn given(ftype: &FuncType) -> Option<ValType>
-    ensures { result ≡ result_of ftype.now }
-{
-    ftype.results.get(0).copied()
-}
-
 /// A call of a function of this type.
 fn call(walk: &mut Walk, ftype: &FuncType) -> Result<(), NoMemory>
     ensures { OnOk result (walk.new
         ≡ with_places walk.old (grown (result_of ftype.now)
         (less (length ftype.now.params) walk.old.places))) }
 {
-    walk.perform(ftype.params.len(), given(ftype))
+    walk.perform(ftype.params.len(), ftype.result_type())
 }
 
 /// A call of a function.
@@ -192,13 +180,6 @@ fn op_at(ops: &[Op], index: usize) -> Option<Op>
     ops.get(index).copied()
 }
 
-fn read_op(ops: &[Op], index: usize) -> Op
-    requires { index < length ops.now }
-    ensures { slice_get ops.now index ≡ Some result }
-{
-    ops[index]
-}
-
 /// From dead code to the instruction behind the end of its list.
 fn leave(walk: &mut Walk, ops: &[Op], from: usize) -> Result<usize, NoMemory>
     requires { from ≤ length ops.now }
@@ -220,7 +201,7 @@ fn leave(walk: &mut Walk, ops: &[Op], from: usize) -> Result<usize, NoMemory>
 }
 
 /// From a live instruction to the next one that is live.
-fn advance(
+pub(crate) fn advance(
     walk: &mut Walk,
     locals: &[ValType],
     source: &ModuleParts,

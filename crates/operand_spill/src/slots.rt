@@ -5,11 +5,12 @@ ghost use Rattle.wasm_syntax.specs.declared.parts.Body.{Body as BodyOf};
 ghost use Rattle.wasm_syntax.specs.declared.parts.FuncType.{FuncType as TypeOf};
 ghost use Rattle.wasm_syntax.specs.Tree.{Tree};
 ghost use Rattle.wasm_syntax.specs.Module.{Program, IsProgram, defined, function_at, type_at};
-ghost use Rattle.wasm_validate.specs.Heights.{body_of};
+ghost use Rattle.wasm_syntax.specs.Valid.{body_of};
 ghost use Rattle.operand_spill.specs.calls.Before.{before, constant_of, known_among};
-ghost use Rattle.rewrite_bodies.specs.Slots.{ctx_of};
+ghost use Rattle.rewrite_bodies.specs.calls.Slots.{ctx_of};
 ghost use Rattle.rewrite_code.specs.calls.Places.{place};
-ghost use Rattle.operand_spill.specs.calls.Plans.{Fits, IsDefined, IsPlan, own_types, number, Slot, Result, Kind, Offset};
+ghost use Rattle.operand_spill.specs.calls.Plans.{Fits, IsDefined, IsPlan, own_types, number, Slot, Result, Kind};
+ghost use Rattle.operand_spill.specs.calls.Plans.{Offset};
 
 use crate::heights::greatest_height;
 use crate::locals::local_types;
@@ -40,7 +41,7 @@ impl Model for SlotPlan {
 }
 
 /// The body of a function that the module defines.
-fn body_at(parts: &ModuleParts, func: u32) -> &Body
+pub fn body_at(parts: &ModuleParts, func: u32) -> &Body
     requires { IsDefined parts.now func }
     ensures { body_of parts.now func ≡ Some result.now }
 {

@@ -1,7 +1,7 @@
 //! What is known at an instruction of a body: where the operands are, and which blocks are open.
 
 ghost use Rattle.std.specs.Prelude.{◌≡◌, suc, ◌∷◌, [], List, length, option_map, IfOk, OnOk, MatchOption};
-ghost use Rattle.rewrite_bodies.specs.Slots.{Ctx, less, pushed, grown, result_place, freed, after_plain};
+ghost use Rattle.rewrite_bodies.specs.calls.Slots.{Ctx, less, pushed, grown, result_place, freed, after_plain};
 ghost use Rattle.wasm_syntax.specs.Effect.{takes};
 ghost use Rattle.rewrite_code.specs.calls.Places.{place};
 ghost use Rattle.operand_spill.specs.declared.labels.Label.TheVariants.{Body as BodyOf};

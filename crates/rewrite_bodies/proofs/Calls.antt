@@ -13,7 +13,7 @@ use Rattle.std.proofs.Math.Nat.{mod-eq_of_lt}
 use Rattle.int_ops.specs.Integers.{binary as int_binary}
 use Rattle.int_ops.specs.declared.operators.Binary.TheVariants.{Add, Or}
 use Rattle.wasm_syntax.specs.declared.instruction.Basic.TheVariants.{Eqz, Binary}
-use Rattle.wasm_syntax.specs.Tree.{BrTable, Call, CallIndirect, Nodes, stop, basic, jump, Tree}
+use Rattle.wasm_syntax.specs.Tree.{BrTable, Call, CallIndirect, Nodes, stop, basic, jump, Tree, BrIf}
 use Rattle.wasm_syntax.specs.declared.module.ModuleParts.{ModuleParts as Module}
 use Rattle.wasm_syntax.specs.Module.{Function, imported, defined, function_at, type_at, declared_locals, same_types, same_functype, option_then}
 use Rattle.wasm_syntax.specs.Host.{World, Answer, replied, told, silent, misfit, answer, told_or, served_by, after_writes, if_fits, if_written, fits_type}
@@ -21,28 +21,31 @@ use Rattle.wasm_syntax.specs.declared.host.HostCall.{HostCall}
 use Rattle.wasm_syntax.specs.declared.host.Reply.{Reply}
 use Rattle.wasm_syntax.specs.declared.host.CollectorCall.{CollectorCall}
 use Rattle.wasm_syntax.specs.declared.host.CollectorCall.TheVariants as collector_calls
-use Rattle.wasm_syntax.specs.Machine.{Kind, leaves, returns, Label, Frame, Config, label, frame, config, Engine, Stepped, next, traps, Cut, short, parts, one_more, cut, exactly, pick, zero_of, zeros, result_of, function_type, entered, host_call, deliver, host, enters, applied_if, calls_on, calls, step, offset_in}
-use Rattle.rewrite_bodies.specs.Slots.{Place, Spilled, Ctx, slot, kind_at, offset_at, added, less, grown, ctx_of}
-use Rattle.rewrite_bodies.specs.Rewrite.{hand, hand_top, to_exit, hand_left, test_flag, test_both, unwind, unwind_kind, after_direct, call_code, helper_of, past_shown, rewrite, body}
+use Rattle.wasm_syntax.specs.Machine.{Kind, leaves, returns, Label, Frame, Config, label, frame, config, Engine, Stepped, next, traps, Cut, short, parts, one_more, cut, exactly, pick, zero_of, zeros, result_of, function_type, entered, host_call, deliver, host, enters, applied_if, calls_on, calls, step, offset_in, top}
+use Rattle.rewrite_bodies.specs.calls.Slots.{Place, Spilled, Ctx, slot, kind_at, offset_at, added, less, grown, ctx_of, Landing}
+use Rattle.rewrite_bodies.specs.calls.Rewrite.{hand, hand_top, to_exit, hand_left, test_flag, test_both, unwind, unwind_kind, after_direct, call_code, helper_of, past_shown, rewrite, body}
 use Rattle.rewrite_bodies.specs.Numbering.{import_count, mapped, place_in, global_types, helper_base, helped, doubles}
 use Rattle.rewrite_bodies.proofs.Doubled.{past, entry_past, entry_low}
-use Rattle.rewrite_bodies.specs.Pieces.{get, set, const, call, if_any, fetch, load, keep, store, reload, drops, tree_of}
+use Rattle.rewrite_bodies.specs.calls.Pieces.{get, set, const, call, if_any, fetch, load, keep, store, reload, drops, tree_of}
 use Rattle.linear_memory.specs.Memory.{Memory}
 use Rattle.linear_memory.specs.Memory as memories
 use Rattle.rewrite_bodies.specs.calls.Agreement.{Holds, now, joined, Wit, UnderWay, t_frame, FitsIn, Has, Room_call, Room, FitsLabels, MemoryFits, NoKind, WorldFits, FitsFrame, FitsFrames, Wrap, zero_vs, t_frames, flagged}
 use Rattle.rewrite_bodies.specs.calls.Steps.{Gets, To, Shell, st}
-use Rattle.rewrite_bodies.proofs.Run.{stored, stored_other, kind_no_slot, slice_get-put_other, added_get, added_set, types-stored, slice_get-put_same, types-slice_set, added_kind, more_parts, one_step, seq, weaken, push_to, still, fetch_to, load_to, less_holds, store_to, kept_to, reload_to, drops_to, cut_front}
+use Rattle.rewrite_bodies.proofs.Run.{stored, stored_other, kind_no_slot, slice_get-put_other, added_get, added_set, types-stored, slice_get-put_same, types-slice_set, added_kind, more_parts, one_step, seq, weaken, push_to, still, fetch_to, load_to, less_holds, store_to, kept_to, reload_to, drops_to, cut_front, added_offset}
 use Rattle.rewrite_bodies.proofs.Parts.{put_keeps, cut_all, fits_put, settle, step_plain}
-use Rattle.rewrite_bodies.specs.Guards.{helper, entry_label, says, first_table}
-use Rattle.rewrite_bodies.specs.calls.Telling.{tell_labels, tell_locals, tell_frame}
+use Rattle.rewrite_bodies.specs.calls.Guards.{helper, entry_label, says, first_table}
+use Rattle.rewrite_bodies.specs.calls.Telling.{tell_labels, tell_locals, tell_frame, tell_ops}
 use Rattle.std.proofs.lemmas.List.{map-append}
 use Rattle.rewrite_bodies.specs.calls.Standing.{Linked, After, Speaks, HelperLinked, Stands}
 use Rattle.rewrite_bodies.proofs.Sim.{refit, refit_under, room_height, grown-append, grown_fits, len_of, shell, tgt, wit, wit_under, armed, if_zero_to}
 use Rattle.rewrite_bodies.proofs.Control.{flag_len, flag_down, both_to, grown_longer}
-use Rattle.rewrite_bodies.proofs.Unwind.{exit_branch, frame_out, Hands, hand_to, hand_left_to, Up, up_all, renamed}
+use Rattle.rewrite_bodies.proofs.Unwind.{frame_out, Hands, hand_to, hand_left_to, Up, up_all, renamed, AllIn, landed_out}
 use Rattle.wasm_syntax.specs.declared.host.Write.{Write}
 use Rattle.wasm_laws.proofs.Progress.{types_append, zero_types, same_of}
 use Rattle.wasm_syntax.proofs.Types.{same_type_is, same_types_are, same_functype_refl}
+use Rattle.rewrite_bodies.proofs.Laid.{few_landings, room_landed, into_body}
+use Rattle.rewrite_bodies.specs.calls.Landings.{number_of, landing_behind, landings_from, with_landings}
+use Rattle.rewrite_bodies.proofs.Landed.{exit_branch, marked, types_marked, fits_marked}
 
 -- the locals of a function that is called on these arguments
 pub types-locals : (args : List Value) (ps ls : List ValType) → types args ≡ ps → types (args ++ zeros ls) ≡ ps ++ ls
@@ -163,10 +166,10 @@ module _ (M M' : Engine) (E : ℕ) (gl : List ValType) (W : Wrap) (S : Stands M 
     size = len_of l C.locals f.size
 
     -- a verdict is a trap, and this code hands over the operands of this frame: it hands over its values, and then the others do
-    trap_out : (t : Config) (j : ℕ) (k : Nodes) (s ex1 : List Value) (H : Nodes) → types ex1 ≡ added C.slots → slice_get ex1 (kind_at C) ≡ Some (values.I32 (suc j)) → Hands M' C sp M l (leaves None) (armed X k s).below X.frames g 0 co ls H (LL ∷ Ls) (slice_set ex1 (offset_at C) (values.I32 o)) → To M' 1 (C.slots + 40) t (st (armed X k s) (l ++ ex1) [] (const (values.I32 o) (set C (offset_at C) H)) g0 co) → After M M' E gl W t (traps (suc j) (config (FF ∷ Fs) g co))
+    trap_out : (t : Config) (j : ℕ) (k : Nodes) (s ex1 : List Value) (H : Nodes) → types ex1 ≡ added C.slots → slice_get ex1 (kind_at C) ≡ Some (values.I32 (suc j)) → Hands M' C sp M l (leaves None) (armed X k s).below X.frames g 0 co (ls + length C.landings) H (LL ∷ Ls) (slice_set ex1 (offset_at C) (values.I32 o)) → To M' 1 (C.slots + 40) t (st (armed X k s) (l ++ ex1) [] (const (values.I32 o) (set C (offset_at C) H)) g0 co) → After M M' E gl W t (traps (suc j) (config (FF ∷ Fs) g co))
     trap_out t j k s ex1 H room kd hands pre =
         let X1 = armed X k s in
-        let v3 = frame_out M' C sp M l f.size ex1 (LL ∷ Ls) ls X1.kind X1.below X1.frames g 0 co o (suc j) H room kd gt (exit_branch C l ex None s k LL Ls e ss f.labels) hands in
+        let v3 = frame_out M' C sp M l f.size ex1 (LL ∷ Ls) (ls + length C.landings) X1.kind X1.below X1.frames g 0 co o (suc j) H room kd gt (exit_branch C l ex None s k LL Ls e ss f.labels) hands in
         let all : Gets M' 1 E t (deliver M' (zero_vs C.result) X.frames (flagged M g (values.I32 1)) (collector_calls.Frame (suc j) C.index o (length C.locals) ∷ tell_locals l (tell_labels (LL ∷ Ls) co))) = weaken M' (seq M' pre v3) (omega arith) (omega (arith, f.small)) in
         let up : Up M M' E gl W S.speaks t 1 E r Fs ws g (tell_frame (suc j) o FF co) = renamed M M' E gl W S.speaks t 1 E C.result r C.index ix (length C.locals) (length l) o (suc j) X.frames g (tell_locals l (tell_labels (LL ∷ Ls) co)) f.result f.idx size all in
         inr (wf, weaken M' (up_all M M' E gl W S.speaks Fs ws g (tell_frame (suc j) o FF co) t 1 E r fs wf up) (omega arith) (omega arith))
@@ -183,8 +186,23 @@ module _ (M M' : Engine) (E : ℕ) (gl : List ValType) (W : Wrap) (S : Stands M 
         let h1 = fits_put C l ex None (LL ∷ Ls) (e ∷ ss) (kind_at C) v (omega (arith, low)) h in
         let h2 = fits_put C l ex1 None (LL ∷ Ls) (e ∷ ss) (offset_at C) (values.I32 o) (omega (arith, low)) h1 in
         let X1 = armed X k ops in
-        let hands : Hands M' C sp M l X1.kind X1.below X1.frames g 0 co ls (hand C es (to_exit ls)) (LL ∷ Ls) (slice_set ex1 (offset_at C) (values.I32 o)) = weaken M' (hand_to M' C sp l size (slice_set ex1 (offset_at C) (values.I32 o)) None (LL ∷ Ls) (e ∷ ss) (to_exit ls) h2) (omega arith) (omega (arith, low)) in
-        trap_out t j k ops ex1 (hand C es (to_exit ls)) (types-slice_set ex (kind_at C) I32 v at refl ∙ f.room) (slice_get-put_same ex (kind_at C) I32 v at) hands (weaken M' (seq M' pre v1) (omega arith) (omega arith))
+        let hands : Hands M' C sp M l X1.kind X1.below X1.frames g 0 co (ls + length C.landings) (hand C es (to_exit C ls)) (LL ∷ Ls) (slice_set ex1 (offset_at C) (values.I32 o)) = weaken M' (hand_to M' C sp l size (slice_set ex1 (offset_at C) (values.I32 o)) None (LL ∷ Ls) (e ∷ ss) (to_exit C ls) h2) (omega arith) (omega (arith, low)) in
+        trap_out t j k ops ex1 (hand C es (to_exit C ls)) (types-slice_set ex (kind_at C) I32 v at refl ∙ f.room) (slice_get-put_same ex (kind_at C) I32 v at) hands (weaken M' (seq M' pre v1) (omega arith) (omega arith))
+
+    -- or the frame is left for a landing, the topmost operands along with the branch
+    pub trap_landed : (t : Config) (j : ℕ) (k : Nodes) (x : Landing) (n : ℕ) (vs others : List Value) → number_of x C.landings ≡ Some n → x.kind ≡ suc j → top x.carried ops ≡ Some vs → ((ex2 : List Value) → FitsLabels C l ex2 None (LL ∷ Ls) (e ∷ ss) → AllIn l ex2 others x.places) → length x.places ≤ C.slots → tell_ops (vs ++ others) co ≡ tell_labels (LL ∷ Ls) co → To M' 1 30 t (st X (l ++ slice_set ex (offset_at C) (values.I32 o)) (values.I32 1 ∷ ops) (jump 0 (BrIf (ls + n)) k) g0 co) → After M M' E gl W t (traps (suc j) (config (FF ∷ Fs) g co))
+    trap_landed t j k x n vs others is kind top_is places few told_ pre =
+        let low = room_height C es N f.labels.2 in
+        let at : slice_get (types ex) (offset_at C) ≡ Some I32 = rw f.room (added_offset C.slots) in
+        let exm = slice_set ex (offset_at C) (values.I32 o) in
+        let roomm : types exm ≡ added C.slots = types-slice_set ex (offset_at C) I32 (values.I32 o) at refl ∙ f.room in
+        let hm = fits_put C l ex None (LL ∷ Ls) (e ∷ ss) (offset_at C) (values.I32 o) (omega (arith, low)) f.labels in
+        let hk = fits_put C l exm None (LL ∷ Ls) (e ∷ ss) (kind_at C) (values.I32 x.kind) (omega (arith, low)) hm in
+        let out = landed_out M' C sp M l f.size exm LL Ls e ss x n X.frames g 0 co o 0 ops vs others k None hm roomm (slice_get-put_same ex (offset_at C) I32 (values.I32 o) at) gt is top_is (places (slice_set exm (kind_at C) (values.I32 x.kind)) hk) few in
+        let all_ : Gets M' 1 E t (deliver M' (zero_vs C.result) X.frames (flagged M g (values.I32 1)) (collector_calls.Frame x.kind C.index o (length C.locals) ∷ tell_locals l (tell_ops (vs ++ others) co))) = weaken M' (seq M' pre out) (omega arith) (omega (arith, f.small)) in
+        let all : Gets M' 1 E t (deliver M' (zero_vs C.result) X.frames (flagged M g (values.I32 1)) (collector_calls.Frame (suc j) C.index o (length C.locals) ∷ tell_locals l (tell_labels (LL ∷ Ls) co))) = rw (kind, told_) at all_ in
+        let up : Up M M' E gl W S.speaks t 1 E r Fs ws g (tell_frame (suc j) o FF co) = renamed M M' E gl W S.speaks t 1 E C.result r C.index ix (length C.locals) (length l) o (suc j) X.frames g (tell_locals l (tell_labels (LL ∷ Ls) co)) f.result f.idx size all in
+        inr (wf, weaken M' (up_all M M' E gl W S.speaks Fs ws g (tell_frame (suc j) o FF co) t 1 E r fs wf up) (omega arith) (omega arith))
 
     -- a function is called, from a state of the target that is about to call it: directly, or through the table inside an arm
     module _ (ex1 : List Value) (below : List Value) (e' : List Place) (rest : Nodes) (fn : Function) (vs : List Value) (dq : Bool) (others : Option UnderWay) where
@@ -226,6 +244,24 @@ module _ (M M' : Engine) (E : ℕ) (gl : List ValType) (W : Wrap) (S : Stands M 
       abbrev after_of : List Value → List Value
       after_of vs' = stored r1 (λ t. slot t (length es1)) vs' ex1
 
+      -- and behind the test of the flag, where there is one
+      abbrev marks : Bool → Option UnderWay → List Value → List Value
+      marks false None ex2 = marked (number_of (landing_behind es1) C.landings) C o ex2
+      marks true None ex2 = ex2
+      marks q (Some u) ex2 = ex2
+
+      types_marks : (q : Bool) (u : Option UnderWay) (ex2 : List Value) → types ex2 ≡ added C.slots → types (marks q u ex2) ≡ types ex2
+      types_marks false None ex2 room = types_marked (number_of (landing_behind es1) C.landings) C o ex2 room
+      types_marks true None ex2 room = refl
+      types_marks false (Some u) ex2 room = refl
+      types_marks true (Some u) ex2 room = refl
+
+      fits_marks : (q : Bool) (u : Option UnderWay) (ex2 : List Value) (Ls' : List Label) (ss' : List (List Place)) → length (joined ss') ≤ C.slots → FitsLabels C l ex2 None Ls' ss' → FitsLabels C l (marks q u ex2) None Ls' ss'
+      fits_marks false None ex2 Ls' ss' low h = fits_marked (number_of (landing_behind es1) C.landings) C o l ex2 None Ls' ss' low h
+      fits_marks true None ex2 Ls' ss' low h = h
+      fits_marks false (Some u) ex2 Ls' ss' low h = h
+      fits_marks true (Some u) ex2 Ls' ss' low h = h
+
       -- where the target stands when the function has given its results
       come_back : (g' : World) (vs' : List Value) (t : Config) → types ex1 ≡ types ex → NoKind C ex1 others → Below → WorldFits M gl g' → exactly r1 vs' ≡ Some vs' → (q : ℕ) → q ≤ 2 * C.slots + 40 → To M' 1 q t (st Y (l ++ ex1) (vs' ++ lies_under others) k1 (flagged M g' (values.I32 0)) co) → After M M' E gl W t (next (config (frame ix r cl l (label (vs' ++ below) rest en kd ∷ Ls) ∷ Fs) g' co))
       unfolding int_binary
@@ -234,9 +270,13 @@ module _ (M M' : Engine) (E : ℕ) (gl : List ValType) (W : Wrap) (S : Stands M 
           let pl = grown_fits C r1 es1 ex1 room1 hb.1 in
           let hs = settle C l ex1 r1 (label below rest en kd) Ls e' ss vs' room1 x hb in
           let g1 = flagged M g' (values.I32 0) in
-          let go : To M' 1 (3 * C.slots + 51) t (st X (l ++ (after_of vs')) (vs' ++ below) goes_on g1 co) = weaken M' (seq M' pre (behind others nk dq)) (omega arith) (omega (arith, le)) in (
-            wit C (after_of vs') (grown r1 e' ∷ ss) ∷ ws,
-            (wf', (refit l (label (vs' ++ below) rest en kd ∷ Ls) (after_of vs') (grown r1 e' ∷ ss) None cl f refl (types-stored r1 (λ t. slot t (length es1)) vs' ex1 pl x ∙ same) hs, fs)),
+          let ts = types-stored r1 (λ t. slot t (length es1)) vs' ex1 pl x ∙ same in
+          let ex2 = marks dq others (after_of vs') in
+          let tm = types_marks dq others (after_of vs') (ts ∙ f.room) ∙ ts in
+          let hm = fits_marks dq others (after_of vs') (label (vs' ++ below) rest en kd ∷ Ls) (grown r1 e' ∷ ss) (room_height C (grown r1 e' ++ joined ss) rest hs.2) hs in
+          let go : To M' 1 (3 * C.slots + 53) t (st X (l ++ ex2) (vs' ++ below) goes_on g1 co) = weaken M' (seq M' pre (behind others nk dq)) (omega arith) (omega (arith, le)) in (
+            wit C ex2 (grown r1 e' ∷ ss) ∷ ws,
+            (wf', (refit l (label (vs' ++ below) rest en kd ∷ Ls) ex2 (grown r1 e' ∷ ss) None cl f refl tm hm, fs)),
             rw (← grown-append r1 e' (joined ss)) (weaken M' go (omega arith) (omega (arith, f.small))),
           )
         where
@@ -247,11 +287,8 @@ module _ (M M' : Engine) (E : ℕ) (gl : List ValType) (W : Wrap) (S : Stands M 
           kept_here : (k : Nodes) → To M' 0 1 (st X (l ++ ex1) (vs' ++ below) (keep C (option_map Spilled r1) es1 k) (flagged M g' (values.I32 0)) co) (st X (l ++ (after_of vs')) (vs' ++ below) k (flagged M g' (values.I32 0)) co)
           kept_here k = kept_to M' C l size ex1 r1 es1 vs' below k (grown_fits C r1 es1 ex1 (same ∙ f.room) hb.1) x
 
-          behind : (under : Option UnderWay) → NoKind C ex1 under → (q : Bool) → To M' 0 (C.slots + 11) (st (Y_of under) (l ++ ex1) (vs' ++ lies_under under) (k1_of q under) (flagged M g' (values.I32 0)) co) (st X (l ++ (after_of vs')) (vs' ++ below) goes_on (flagged M g' (values.I32 0)) co)
-          behind None nk true = weaken M' (kept_here goes_on) (omega arith) (omega arith)
-          behind None nk false =
-              weaken M' (seq M' (kept_here (test_flag C ls es1 o goes_on)) (flag_down M M' E gl W C X (l ++ (after_of vs')) (vs' ++ below) g' co ls es1 o goes_on (flag_len C g' (wf'.globals ∙ sym f.flag)))) (omega arith) (omega arith)
-          behind (Some u) nk q =
+          through : (u : UnderWay) → NoKind C ex1 (Some u) → To M' 0 (C.slots + 13) (st (Y_of (Some u)) (l ++ ex1) (vs' ++ []) (store C r1 es1 stop) (flagged M g' (values.I32 0)) co) (st X (l ++ (after_of vs')) (vs' ++ below) goes_on (flagged M g' (values.I32 0)) co)
+          through u nk =
               let kd0 : slice_get (after_of vs') (kind_at C) ≡ Some (values.I32 0) = stored_other r1 (λ t. slot t (length es1)) vs' ex1 (kind_at C) (λ t. kind_no_slot C (length es1) t low) ∙ nk.0 in
               let kr = drops (length u.taken) (reload C r1 es1 goes_on) in
               let K = test_both C ls es1 o u.others kr in
@@ -265,6 +302,13 @@ module _ (M M' : Engine) (E : ℕ) (gl : List ValType) (W : Wrap) (S : Stands M 
               let s5 : To M' 0 1 (st X (l ++ (after_of vs')) below (reload C r1 es1 goes_on) g1 co) (st X (l ++ (after_of vs')) (vs' ++ below) goes_on g1 co) = reload_to M' C l size ex1 r1 es1 vs' below goes_on pl x in
               let alone : vs' ++ [] ≡ vs' = append-nil vs' in
               rw alone (weaken M' (seq M' s1 (seq M' s2 (seq M' s3 (seq M' (if_zero_to M') (seq M' s4 s5))))) (omega arith) (omega (arith, nk.1)))
+
+          behind : (under : Option UnderWay) → NoKind C ex1 under → (q : Bool) → To M' 0 (C.slots + 13) (st (Y_of under) (l ++ ex1) (vs' ++ lies_under under) (k1_of q under) (flagged M g' (values.I32 0)) co) (st X (l ++ marks q under (after_of vs')) (vs' ++ below) goes_on (flagged M g' (values.I32 0)) co)
+          behind None nk true = weaken M' (kept_here goes_on) (omega arith) (omega arith)
+          behind None nk false =
+              weaken M' (seq M' (kept_here (test_flag C ls es1 o goes_on)) (flag_down M M' E gl W C X l (after_of vs') (vs' ++ below) g' co ls es1 o goes_on size (types-stored r1 (λ t. slot t (length es1)) vs' ex1 (grown_fits C r1 es1 ex1 (same ∙ f.room) hb.1) x ∙ same ∙ f.room) (flag_len C g' (wf'.globals ∙ sym f.flag)))) (omega arith) (omega arith)
+          behind (Some u) nk false = through u nk
+          behind (Some u) nk true = through u nk
 
     abbrev DirectFits : Function → Bool → Option UnderWay → Type 0
     DirectFits (imported i type) dq others = Unit {0}
@@ -301,7 +345,9 @@ module _ (M M' : Engine) (E : ℕ) (gl : List ValType) (W : Wrap) (S : Stands M 
     begun ex1 below e' rest b tree type vs dq others g' stk nd t n false at df same nk hb ty le d pre = inl refl
     begun ex1 below e' rest b tree type vs dq others g' stk nd t n true at df same nk hb ty le d pre =
         let k = S.functions g' b tree type at in
-        let C' = ctx_of M.program g' b type k.slots in
+        let C0 = ctx_of M.program g' b type k.slots in
+        let C' = with_landings C0 tree.nodes in
+        let few_ = few_landings C0 [] tree.nodes [] (omega arith) in
         let args = reverse vs in
         let ex' = zeros (added k.slots) in
         let Z = Y ex1 below e' rest (defined b tree type) vs dq others in
@@ -309,11 +355,11 @@ module _ (M M' : Engine) (E : ℕ) (gl : List ValType) (W : Wrap) (S : Stands M 
         let few : length Z.frames ≡ suc (length Fs) = ap length (frames_same ex1 below e' rest (defined b tree type) vs dq others) ∙ length-frames r Fs ws fs in
         let depth : nat_lt (suc (length Z.frames)) M'.depth ≡ true = rw (few, S.deeper) (deep (suc (length Fs)) M.depth d) in
         let locals : args ++ zeros (declared_locals k.new.groups) ≡ (args ++ zeros (declared_locals b.groups)) ++ ex' = new_locals args (declared_locals k.new.groups) (declared_locals b.groups) (added k.slots) k.locals in
-        let mid = config (frame (mapped M.program.module_ g') (result_of type) 0 ((args ++ zeros (declared_locals b.groups)) ++ ex') (label [] (body C' tree.nodes) 0 (returns (result_of type)) ∷ []) ∷ stands_under Z ex1 (lies_under ex1 below e' rest (defined b tree type) vs dq others others) code) g0 co in
+        let mid = config (frame (mapped M.program.module_ g') (result_of type) 0 ((args ++ zeros (declared_locals b.groups)) ++ ex') (label [] (body C0 tree.nodes) 0 (returns (result_of type)) ∷ []) ∷ stands_under Z ex1 (lies_under ex1 below e' rest (defined b tree type) vs dq others others) code) g0 co in
         let s1 : To M' 1 n t mid = rw (depth, locals) at (pre k) in
-        let s3 : To M' 2 2 mid (config (t_frame now (entered g' b tree type args) (wit C' ex' ([] ∷ [])) ∷ stands_under Z ex1 (lies_under ex1 below e' rest (defined b tree type) vs dq others others) code) g0 co) = seq M' (one_step M' mid _ refl) (one_step M' _ _ refl) in
+        let s3 : To M' 0 25 mid (config (t_frame now (entered g' b tree type args) (wit C' ex' ([] ∷ [])) ∷ stands_under Z ex1 (lies_under ex1 below e' rest (defined b tree type) vs dq others others) code) g0 co) = into_body M' (mapped M.program.module_ g') (result_of type) ((args ++ zeros (declared_locals b.groups)) ++ ex') (stands_under Z ex1 (lies_under ex1 below e' rest (defined b tree type) vs dq others others) code) g0 co C' tree.nodes few_ in
         let callee : FitsFrame M E gl None (entered g' b tree type args) (wit C' ex' ([] ∷ [])) =
-        record { size = types-locals args type.params (declared_locals b.groups) ty; room = zero_types (added k.slots); idx = refl; result = refl; funcs = refl; base = refl; helpers = refl; flag = ap global_types (sym f.funcs) ∙ f.flag; small = k.small; narrow = k.narrow; labels = (tt, tt, k.room, refl, tt); no_kind = tt } in (
+        record { size = types-locals args type.params (declared_locals b.groups) ty; room = zero_types (added k.slots); idx = refl; result = refl; funcs = refl; base = refl; helpers = refl; flag = ap global_types (sym f.funcs) ∙ f.flag; small = k.small; narrow = k.narrow; labels = (tt, tt, room_landed C0 (landings_from C0 [] tree.nodes []) [] tree.nodes k.room, refl, tt); no_kind = tt } in (
           wit C' ex' ([] ∷ []) ∷ wit_under C ex1 (e' ∷ ss) others ∷ ws,
           (wf, (callee, (refit_under l (label below rest en kd ∷ Ls) ex1 (e' ∷ ss) others (result_of type) o f refl same hb nk, fs))),
           subst (λ z. To M' 1 E t (config (t_frame now (entered g' b tree type args) (wit C' ex' ([] ∷ [])) ∷ z) g0 co)) (frames_under ex1 below e' rest b tree type vs dq others df) (weaken M' (seq M' s1 s3) (omega arith) (omega (arith, le, f.small))),
@@ -558,7 +604,7 @@ module _ (M M' : Engine) (E : ℕ) (gl : List ValType) (W : Wrap) (S : Stands M 
         let h1 = fits_put C l ex None (LI ∷ Ls) ((e1 ∷ e) ∷ ss) (kind_at C) v (omega (arith, low)) h in
         let h3 = fits_put C l exk None (LI ∷ Ls) ((e1 ∷ e) ∷ ss) (offset_at C) (values.I32 at) (omega (arith, low)) h1 in
         let sp_ = subst (Speaks M') (sym f.funcs) S.speaks in
-        let hands : Hands M' C sp_ M l X1.kind X1.below X1.frames g 0 co lsi H (LI ∷ Ls) ex3 = weaken M' (hand_left_to M' C sp_ l size_i ex3 None (LI ∷ Ls) ((e1 ∷ e) ∷ ss) lsi (suc (length type.params)) j h3 kd3) (omega arith) (omega (arith, low)) in
+        let hands : Hands M' C sp_ M l X1.kind X1.below X1.frames g 0 co (lsi + length C.landings) H (LI ∷ Ls) ex3 = weaken M' (hand_left_to M' C sp_ l size_i ex3 None (LI ∷ Ls) ((e1 ∷ e) ∷ ss) lsi (suc (length type.params)) j h3 kd3) (omega arith) (omega (arith, low)) in
         let s0 = judged type q lbl (suc j) has tq le lk in
         let s1 : To M' 3 3 (st XI (l ++ ex) (v ∷ all_i) (weighed type) gi co) (st XI (l ++ exk) (values.I32 0 ∷ all_i) (if_any (made type) (behind_i type)) gi co) = subst (λ z. To M' 3 3 (st XI (l ++ ex) (v ∷ all_i) (weighed type) gi co) (st XI (l ++ exk) (values.I32 z ∷ all_i) (if_any (made type) (behind_i type)) gi co)) ks.0 (weighed_to type (suc j)) in
         let s2 : To M' 2 2 (st XI (l ++ exk) (values.I32 0 ∷ all_i) (if_any (made type) (behind_i type)) gi co) (st XI (l ++ exk) all_i (behind_i type) gi co) = if_zero_to M' in

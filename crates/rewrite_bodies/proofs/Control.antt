@@ -12,10 +12,12 @@ use Rattle.wasm_syntax.specs.Tree.{Br, BrIf, BrTable, Return, Nodes, stop, basic
 use Rattle.wasm_syntax.specs.Host.{World}
 use Rattle.wasm_syntax.specs.declared.host.CollectorCall.{CollectorCall}
 use Rattle.wasm_syntax.specs.Machine.{Kind, leaves, again, returns, Label, Frame, Config, label, frame, Engine, top, exactly, Went, arrive, arrive_some, out_some, leave, loops, land, branch, carried_by, carry, same_result, same_carry, pick, deliver, moved, branch_if, moved_if, branch_table}
-use Rattle.rewrite_bodies.specs.Slots.{Place, Spilled, Ctx, slot, kind_at, offset_at, grown, under}
-use Rattle.rewrite_bodies.specs.Rewrite.{hand_left, test_flag, test_both, with_result, rewrite, exit_code}
+use Rattle.rewrite_bodies.specs.calls.Slots.{added, Place, Spilled, Ctx, slot, kind_at, offset_at, grown, under}
+use Rattle.rewrite_bodies.specs.calls.Rewrite.{hand_left, test_flag, test_both, with_result, rewrite, get_flag, checked}
+use Rattle.rewrite_bodies.specs.calls.Landings.{number_of, landing_behind}
+use Rattle.rewrite_bodies.proofs.Landed.{marked, types_marked, fits_marked, br_if_down, mark_to, first_kind, l_below, l_head}
 use Rattle.rewrite_bodies.specs.Numbering.{mapped, flag_of, global_types}
-use Rattle.rewrite_bodies.specs.Pieces.{get, set, const, if_any, keep, store, reload, drops}
+use Rattle.rewrite_bodies.specs.calls.Pieces.{get, set, const, if_any, keep, store, reload, drops}
 use Rattle.std.proofs.lemmas.List.{length-map}
 use Rattle.rewrite_bodies.specs.calls.Agreement.{Pending, Arrives, awaits, now, pending, joined, t_kind, t_labels, Wit, UnderWay, FitsIn, Room, KindFits, FitsLabels, WorldFits, FitsFrame, FitsFrames, Wrap, t_frames, flagged}
 use Rattle.rewrite_bodies.specs.calls.Steps.{Gets, To, Shell, st}
@@ -41,7 +43,7 @@ exactly_top (Some t) [] vs e = absurd (cc)
 exactly_top (Some t) (v ∷ []) vs e = e
 exactly_top (Some t) (v ∷ w ∷ ops) vs e = absurd (cc)
 
-top_exact : (r : Option ValType) (ops vs : List Value) → top r ops ≡ Some vs → exactly r vs ≡ Some vs
+pub top_exact : (r : Option ValType) (ops vs : List Value) → top r ops ≡ Some vs → exactly r vs ≡ Some vs
 top_exact None ops vs e = let f : [] ≡ vs = cc in rw (← f) refl
 top_exact (Some t) [] vs e = absurd (cc)
 top_exact (Some t) (v ∷ ops) vs e = let f = if_same (same_type (type_of v) t) (v ∷ []) vs e in rw (← f.1) (rw f.0 refl)
@@ -62,10 +64,21 @@ exactly_exact : (r : Option ValType) (ops vs : List Value) → exactly r ops ≡
 exactly_exact r ops vs e = top_exact r ops vs (exactly_top r ops vs e)
 
 module _ (M M' : Engine) (E : ℕ) (gl : List ValType) (W : Wrap) where
+  -- the flag is read
+  pub flag_to : {X : Shell} {tl s : List Value} {k : Nodes} {co : List CollectorCall} (C : Ctx) (g : World) (b : ℕ) → flag_of C.source ≡ length g.globals → To M' 1 1 (st X tl s (get_flag C k) (flagged M g (values.I32 b)) co) (st X tl (values.I32 b ∷ s) k (flagged M g (values.I32 b)) co)
+  flag_to {tl = tl} {s = s} C g b fl = step_plain M' (GlobalGet (flag_of C.source)) [] s tl (flagged M g (values.I32 b)) (values.I32 b ∷ []) (values.I32 b ∷ s) refl (rw (get_last g.globals (flag_of C.source) (values.I32 b) fl) refl) refl
+
+  -- the added locals behind the test of a call that left these operands
+  abbrev pub behind_test : Ctx → List Place → ℕ → List Value → List Value
+  behind_test C es o ex = marked (number_of (landing_behind es) C.landings) C o ex
+
   -- the flag is down behind a call
-  pub flag_down : (C : Ctx) (X : Shell) (tl s : List Value) (g : World) (co : List CollectorCall) (d : ℕ) (es : List Place) (o : ℕ) (k : Nodes) → flag_of C.source ≡ length g.globals → To M' 3 3 (st X tl s (test_flag C d es o k) (flagged M g (values.I32 0)) co) (st X tl s k (flagged M g (values.I32 0)) co)
-  flag_down C X tl s g co d es o k fl =
-      seq M' (step_plain M' (GlobalGet (flag_of C.source)) [] s tl (flagged M g (values.I32 0)) (values.I32 0 ∷ []) (values.I32 0 ∷ s) refl (rw (get_last g.globals (flag_of C.source) (values.I32 0) fl) refl) refl) (if_zero_to M')
+  pub flag_down : (C : Ctx) (X : Shell) (l ex s : List Value) (g : World) (co : List CollectorCall) (d : ℕ) (es : List Place) (o : ℕ) (k : Nodes) → length C.locals ≡ length l → types ex ≡ added C.slots → flag_of C.source ≡ length g.globals → To M' 1 5 (st X (l ++ ex) s (test_flag C d es o k) (flagged M g (values.I32 0)) co) (st X (l ++ behind_test C es o ex) s k (flagged M g (values.I32 0)) co)
+  flag_down C X l ex s g co d es o k size room fl = by_number (number_of (landing_behind es) C.landings)
+    where
+      by_number : (q : Option ℕ) → To M' 1 5 (st X (l ++ ex) s (checked q C d es o (get_flag C) (const (values.I32 0)) k) (flagged M g (values.I32 0)) co) (st X (l ++ marked q C o ex) s k (flagged M g (values.I32 0)) co)
+      by_number None = weaken M' (seq M' (flag_to C g 0 fl) (if_zero_to M')) (omega arith) (omega arith)
+      by_number (Some n) = weaken M' (seq M' (mark_to M' C l size o ex room) (seq M' (flag_to C g 0 fl) (br_if_down M'))) (omega arith) (omega arith)
 
   -- the kind and the flag are tested together
   pub both_to : (C : Ctx) (X : Shell) (l ex s : List Value) (g : World) (co : List CollectorCall) (d : ℕ) (es : List Place) (o : ℕ) (others k : Nodes) (x y z : ℕ) → length C.locals ≡ length l → slice_get ex (kind_at C) ≡ Some (values.I32 x) → flag_of C.source ≡ length g.globals → binary I32 Or x y ≡ Ok z → To M' 3 3 (st X (l ++ ex) s (test_both C d es o others k) (flagged M g (values.I32 y)) co) (st X (l ++ ex) (values.I32 z ∷ s) (if_any (const (values.I32 o) (set C (offset_at C) (hand_left C d es others))) k) (flagged M g (values.I32 y)) co)
@@ -96,9 +109,14 @@ module _ (M M' : Engine) (E : ℕ) (gl : List ValType) (W : Wrap) where
       let k1 = test_flag C d es cl k in
       let go1 : To M' 1 10 t (st X (l ++ ex) (vs ++ L.operands) (keep C (option_map Spilled r) es k1) (flagged M g (values.I32 0)) co) = rw grown-append at go in
       let s1 = kept_to M' C l size ex r es vs L.operands k1 pl x in
-      let s2 = flag_down C X (l ++ ex') (vs ++ L.operands) g co d es cl k (flag_len C g (gl_.globals ∙ sym f.flag)) in (
-        wit C ex' (grown r e ∷ ss) ∷ ws,
-        (gl_, (refit l (label (vs ++ L.operands) L.nodes L.end L.kind ∷ Ls) ex' (grown r e ∷ ss) None cl f refl (types-stored r (λ t. slot t (length es)) vs ex pl x) hs, fs)),
+      let te = types-stored r (λ t. slot t (length es)) vs ex pl x in
+      let ex2 = behind_test C es cl ex' in
+      let low = room_height C (grown r e ++ joined ss) L.nodes hs.2 in
+      let hs2 = fits_marked (number_of (landing_behind es) C.landings) C cl l ex' None (label (vs ++ L.operands) L.nodes L.end L.kind ∷ Ls) (grown r e ∷ ss) low hs in
+      let te2 = types_marked (number_of (landing_behind es) C.landings) C cl ex' (te ∙ f.room) ∙ te in
+      let s2 = flag_down C X l ex' (vs ++ L.operands) g co d es cl k size (te ∙ f.room) (flag_len C g (gl_.globals ∙ sym f.flag)) in (
+        wit C ex2 (grown r e ∷ ss) ∷ ws,
+        (gl_, (refit l (label (vs ++ L.operands) L.nodes L.end L.kind ∷ Ls) ex2 (grown r e ∷ ss) None cl f refl te2 hs2, fs)),
         weaken M' (seq M' go1 (seq M' s1 s2)) (omega arith) (omega (arith, f.small)),
       )
 
@@ -177,8 +195,8 @@ module _ (M M' : Engine) (E : ℕ) (gl : List ValType) (W : Wrap) where
     gone : (b : Option ValType) (vs : List Value) → b ≡ C.result → exactly b vs ≡ Some vs → Moved C ex r l Fs ws g co t Lx (arrive vs (t_labels C now [] [])) → After M M' E gl W t (deliver M vs Fs g co)
     gone b vs be x go =
         let x' : exactly C.result vs ≡ Some vs = subst (λ z. exactly z vs ≡ Some vs) be x in
-        let X2 : Shell = record { idx = mapped C.source C.index; result = C.result; kind = leaves None; below = label [] (exit_code C) 0 (returns C.result) ∷ []; frames = t_frames W r Fs ws } in
-        let s1 : To M' 1 2 t (st X2 (l ++ ex) (vs ++ []) (jump 0 Return stop) (flagged M g (values.I32 0)) co) = go in
+        let X2 : Shell = record { idx = mapped C.source C.index; result = C.result; kind = first_kind C.landings; below = l_below C C.landings; frames = t_frames W r Fs ws } in
+        let s1 : To M' 1 2 t (st X2 (l ++ ex) (vs ++ []) (jump 0 Return stop) (flagged M g (values.I32 0)) co) = subst (λ z. Moved C ex r l Fs ws g co t Lx (arrive vs z)) (l_head C (jump 0 Return stop) C.landings) go in
         let s2 : Gets M' 1 1 (st X2 (l ++ ex) (vs ++ []) (jump 0 Return stop) (flagged M g (values.I32 0)) co) (deliver M' vs (t_frames W r Fs ws) (flagged M g (values.I32 0)) co) = one_step M' _ _ (rw (alone_on_top C.result vs x') refl) in
         handed vs x' (weaken M' (seq M' s1 s2) (omega arith) (omega arith))
 

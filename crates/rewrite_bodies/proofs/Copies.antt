@@ -1,19 +1,19 @@
 -- Operands that are copies of locals: they go to their slots before their local is written, and before a block.
-use Rattle.std.proofs.Common.{◌≡◌, ℕ, zero, suc, ◌+◌, ◌*◌, ◌<◌, ◌≤◌, ◌==◌, ◌≢◌, List, [], ◌∷◌, ◌++◌, length, map, Option, Some, None, Bool, true, false, refl, sym, ap, ap₂, ◌∙◌, subst, arith, ◌⊎◌, inl, inr, length-append, slice_get, slice_set}
+use Rattle.std.proofs.Common.{◌≡◌, ℕ, suc, ◌+◌, ◌*◌, ◌<◌, ◌≤◌, ◌==◌, ◌≢◌, List, [], ◌∷◌, ◌++◌, length, Option, Some, None, Bool, true, false, refl, sym, ap, ◌∙◌, subst, arith, ◌⊎◌, inl, inr, length-append, slice_get, slice_set}
 use Rattle.std.proofs.lemmas.List.{length-map, map-append}
 use Rattle.std.proofs.lemmas.Bool.{eqb-false}
 use Rattle.wasm_syntax.specs.declared.value.ValType.{ValType}
 use Rattle.wasm_syntax.specs.declared.value.ValType.TheVariants.{I32, I64}
 use Rattle.wasm_syntax.specs.declared.value.Value.{Value}
 use Rattle.wasm_syntax.specs.declared.instruction.Basic.{Basic}
-use Rattle.wasm_syntax.specs.declared.instruction.Basic.TheVariants.{Nop, Drop, Select, LocalGet, LocalSet, LocalTee, GlobalGet, GlobalSet, Load, Store, MemorySize, MemoryGrow, MemoryCopy, MemoryFill, Const, Eqz, Unary, Compare, Binary, Convert, Extend32, Extend64}
+use Rattle.wasm_syntax.specs.declared.instruction.Basic.TheVariants.{LocalGet}
 use Rattle.wasm_syntax.specs.Numbers.{types}
 use Rattle.wasm_syntax.specs.Tree.{Nodes, basic}
 use Rattle.wasm_syntax.specs.Host.{World}
 use Rattle.wasm_syntax.specs.declared.host.CollectorCall.{CollectorCall}
 use Rattle.wasm_syntax.specs.Machine.{Label, Engine}
-use Rattle.rewrite_bodies.specs.Slots.{Place, Spilled, Known, Copied, Ctx, slot, added, pushed, uncopied, without, under, freed}
-use Rattle.rewrite_bodies.specs.Pieces.{set, spill_one, spill}
+use Rattle.rewrite_bodies.specs.calls.Slots.{Place, Spilled, Known, Copied, Ctx, slot, added, pushed, uncopied, without, under, freed, freed_at, local_written}
+use Rattle.rewrite_bodies.specs.calls.Pieces.{set, spill_one, spill}
 use Rattle.rewrite_bodies.specs.calls.Agreement.{One, Holds, awaits, pending, joined, FitsLabels}
 use Rattle.rewrite_bodies.specs.calls.Steps.{To, Shell, st}
 use Rattle.rewrite_bodies.proofs.Run.{get_own, slice_get-put_same, slice_get-put_other, types-slice_set, added_at, still, weaken, seq, get_to, added_set}
@@ -92,28 +92,11 @@ pub without_append : (these : ℕ → Bool) (e js : List Place) → Fixed js →
 without_append these e js f = map-append (uncopied these) e js ∙ ap (λ (z : List Place). without these e ++ z) (fixed_without these js f)
 
 pub freed_append : (i : Basic) (e js : List Place) → Fixed js → freed i (e ++ js) ≡ freed i e ++ js
-freed_append (LocalSet x) e js f = without_append (λ y. x == y) e js f
-freed_append (LocalTee x) e js f = without_append (λ y. x == y) e js f
-freed_append Nop e js f = refl
-freed_append Drop e js f = refl
-freed_append Select e js f = refl
-freed_append (LocalGet x) e js f = refl
-freed_append (GlobalGet x) e js f = refl
-freed_append (GlobalSet x) e js f = refl
-freed_append (Load l al o) e js f = refl
-freed_append (Store l al o) e js f = refl
-freed_append MemorySize e js f = refl
-freed_append MemoryGrow e js f = refl
-freed_append MemoryCopy e js f = refl
-freed_append MemoryFill e js f = refl
-freed_append (Const v) e js f = refl
-freed_append (Eqz u) e js f = refl
-freed_append (Unary u op) e js f = refl
-freed_append (Compare u op) e js f = refl
-freed_append (Binary u op) e js f = refl
-freed_append (Convert k) e js f = refl
-freed_append (Extend32 k) e js f = refl
-freed_append (Extend64 k) e js f = refl
+freed_append i e js f = by_local (local_written i)
+  where
+    by_local : (o : Option ℕ) → freed_at o (e ++ js) ≡ freed_at o e ++ js
+    by_local None = refl
+    by_local (Some x) = without_append (λ y. x == y) e js f
 
 pub pushed_append : (p : Option Place) (e js : List Place) → pushed p (e ++ js) ≡ pushed p e ++ js
 pushed_append None e js = refl

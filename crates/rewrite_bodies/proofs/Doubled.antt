@@ -11,7 +11,7 @@ use Rattle.wasm_syntax.specs.declared.parts.Limits.{Limits}
 use Rattle.wasm_syntax.specs.declared.module.ModuleParts.{ModuleParts as Module}
 use Rattle.wasm_syntax.specs.Run.{table_min, start_table, element_at, element_fits}
 use Rattle.wasm_syntax.specs.Run as runs_
-use Rattle.rewrite_bodies.specs.Guards.{first_table}
+use Rattle.rewrite_bodies.specs.calls.Guards.{first_table}
 use Rattle.rewrite_bodies.specs.Numbering.{mapped, shown, shown_entries, new_entries, all_true, can_double, table_shown, entry_weight, table_weight, doubles}
 use Rattle.pm_text.proofs.Lists.{get_behind}
 

@@ -1,20 +1,20 @@
 -- The guards.
-use Rattle.std.proofs.Common.{◌≡◌, ℕ, zero, suc, ◌+◌, ◌-◌, ◌*◌, ◌/◌, ◌%◌, ◌^◌, ◌<◌, ◌≤◌, ◌==◌, List, [], ◌∷◌, ◌++◌, length, Option, Some, None, Bool, true, false, ◌&&◌, nat_lt, nat_le, refl, sym, ap, ◌∙◌, subst, arith, inl, inr, ◌≢◌, if◌then◌else◌, lt-ltb, le-ltb, take, drop, replicate, Ok, Err, leb-true, length-drop, length-take-le, not, int_div, int_rem, true≢false}
+use Rattle.std.proofs.Common.{◌≡◌, ℕ, zero, suc, ◌+◌, ◌-◌, ◌*◌, ◌/◌, ◌%◌, ◌^◌, ◌<◌, ◌≤◌, ◌==◌, List, [], ◌∷◌, ◌++◌, length, Option, Some, None, Bool, true, false, ◌&&◌, nat_lt, nat_le, refl, sym, ap, ◌∙◌, subst, arith, inl, inr, ◌≢◌, if◌then◌else◌, lt-ltb, le-ltb, take, drop, replicate, Ok, Err, leb-true, length-drop, length-take-le, not, int_div, int_rem, int_lt, ◌⊎◌, ℤ, pos, negsuc, ap₂, true≢false}
 use Rattle.wasm_syntax.specs.declared.value.ValType.{ValType}
 use Rattle.wasm_syntax.specs.declared.value.ValType.TheVariants.{I32, I64}
 use Rattle.wasm_syntax.specs.declared.value.Value.{Value}
 use Rattle.wasm_syntax.specs.declared.value.Value.TheVariants as values
 use Rattle.wasm_syntax.specs.declared.instruction.Basic.{Basic}
-use Rattle.wasm_syntax.specs.declared.instruction.Basic.TheVariants.{Nop, Drop, Select, LocalGet, LocalSet, LocalTee, GlobalGet, GlobalSet, Load, Store, MemorySize, MemoryGrow, Const, Eqz, Unary, Compare, Binary, Convert, MemoryCopy, MemoryFill, Extend32, Extend64}
+use Rattle.wasm_syntax.specs.declared.instruction.Basic.TheVariants.{Select, Load, Store, Eqz, Compare, Binary, Convert, MemoryCopy, MemoryFill}
 use Rattle.wasm_syntax.specs.Numbers.{bits, value, number, modulo, bool_number, binary}
 use Rattle.wasm_syntax.specs.Tree.{Nodes, basic}
 use Rattle.wasm_syntax.specs.Host.{World}
 use Rattle.wasm_syntax.specs.declared.host.CollectorCall.{CollectorCall}
 use Rattle.wasm_syntax.specs.Effect.{Effect, gives, unfit, effect, takes, with_memory, address}
 use Rattle.wasm_syntax.specs.Machine.{Engine, next, parts, cut}
-use Rattle.rewrite_bodies.specs.Slots.{Place, Ctx}
-use Rattle.rewrite_bodies.specs.Pieces.{const, fetch}
-use Rattle.rewrite_bodies.specs.Guards.{least, minus_one, guard_zero, overflow_test, guard_signed, out_test, guard_memory, guard, divides, can_trap, past_end, range_test, guard_copy, guard_fill, kind_signed, kind}
+use Rattle.rewrite_bodies.specs.calls.Slots.{Place, Ctx}
+use Rattle.rewrite_bodies.specs.calls.Pieces.{const, fetch}
+use Rattle.rewrite_bodies.specs.calls.Guards.{memory_length, least, minus_one, guard_zero, overflow_test, guard_signed, out_test, guard_memory, guard, divides, can_trap, past_end, range_test, guard_copy, guard_fill, kind_signed, kind}
 use Rattle.linear_memory.specs.Memory.{Memory, pages, to_bytes}
 use Rattle.wasm_syntax.specs.Access.{load_type, load_bits, store_type, store_bits}
 use Rattle.linear_memory.specs.Memory as memories
@@ -24,12 +24,13 @@ use Rattle.int_ops.specs.declared.operators.ArithTrap.TheVariants.{DivideByZero,
 use Rattle.int_ops.specs.declared.operators.Binary.{Binary as BinaryOp}
 use Rattle.int_ops.specs.declared.operators.Binary.TheVariants.{Add, Sub, Mul, DivS, DivU, RemS, RemU, And, Or, Xor, Shl, ShrS, ShrU, Rotl, Rotr}
 use Rattle.std.proofs.lemmas.List.{length-replicate}
-use Rattle.std.proofs.Math.Nat.{mod-lt, mod-eq_of_lt}
+use Rattle.std.proofs.Math.Nat.{mod-lt, mod-eq_of_lt, add-mod_left}
 use Rattle.rewrite_bodies.specs.calls.Agreement.{One, Holds, MemoryFits}
 use Rattle.rewrite_bodies.specs.calls.Steps.{To, Shell, st}
 use Rattle.rewrite_bodies.proofs.Run.{one_step, seq, weaken, push_to, fetch_to}
 use Rattle.std.proofs.lemmas.Bool.Decides.{leb_tells}
-use Rattle.int_ops.specs.declared.operators.Compare.TheVariants.{Eq, GtU}
+use Rattle.std.proofs.lemmas.Bool.{cases_lt}
+use Rattle.int_ops.specs.declared.operators.Compare.TheVariants.{Eq, GtU, GtS}
 use Rattle.wasm_syntax.specs.declared.instruction.Convert.TheVariants.{ExtendU}
 use Rattle.wasm_syntax.specs.declared.instruction.Load.{Load as Load_}
 use Rattle.wasm_syntax.specs.declared.instruction.Load.TheVariants as loads
@@ -41,7 +42,9 @@ use Rattle.rewrite_bodies.specs.inner.Promises.{kind_of, verdict}
 use Rattle.rewrite_bodies.proofs.Parts.{pages_are}
 use Rattle.int_ops.specs.Integers as integers
 use Rattle.int_ops.specs.Integers.{binary as int_binary, compare as int_compare, div_s, rem_s}
-use Rattle.rewrite_bodies.specs.Offsets.{SmallOffset}
+use Rattle.rewrite_bodies.specs.calls.Offsets.{SmallOffset}
+use Rattle.wasm_syntax.specs.calls.Classes.{Risky, risky_binary, risky_load, risky_store, risky_copy, risky_fill}
+use Rattle.rewrite_bodies.proofs.Risks.{risk_of}
 
 -- the divisor is zero, and then 2, or else x
 abbrev pub if_zero : Bool → ℕ → ℕ
@@ -80,6 +83,38 @@ two_of t u w v go nw = first_ (number t w) refl
 number_value : (t : ValType) (n : ℕ) → number t (value t n) ≡ Some n
 number_value I32 n = refl
 number_value I64 n = refl
+
+-- ---- numbers of 64 bits as signed ones
+
+signed_low : (a : ℕ) → a < 2 ^ 63 → integers.signed 64 a ≡ pos a
+signed_low a low = let t : nat_lt a (2 ^ 63) ≡ true = lt-ltb a (2 ^ 63) low in rw t refl
+
+signed_high : (a : ℕ) → 2 ^ 63 ≤ a → a < 2 ^ 64 → integers.signed 64 a ≡ negsuc (2 ^ 64 - suc a)
+signed_high a high low =
+    let f : nat_lt a (2 ^ 63) ≡ false = le-ltb a (2 ^ 63) high in
+    let t : nat_lt a (2 ^ 64) ≡ true = lt-ltb a (2 ^ 64) low in
+    rw (f, t) refl
+
+-- an address is past the place from which n bytes end with the memory, where the n bytes from it on pass the end
+passes_end : (a s n : ℕ) → a < 2 ^ 32 → s < 2 ^ 32 → n < 2 ^ 32 + 64 + 1 → int_lt (integers.signed 64 (integers.modulo 64 (s + (2 ^ 64 - n)))) (integers.signed 64 a) ≡ nat_lt s (a + n)
+passes_end a s n la ls ln = by_place (cases_lt s n)
+  where
+    given : (d : ℕ) → integers.modulo 64 (s + (2 ^ 64 - n)) ≡ d → int_lt (integers.signed 64 d) (pos a) ≡ nat_lt s (a + n) → int_lt (integers.signed 64 (integers.modulo 64 (s + (2 ^ 64 - n)))) (integers.signed 64 a) ≡ nat_lt s (a + n)
+    given d e h = ap₂ (λ x y. int_lt (integers.signed 64 x) y) e (signed_low a (omega (arith, la))) ∙ h
+
+    by_place : (s < n) ⊎ (n ≤ s) → int_lt (integers.signed 64 (integers.modulo 64 (s + (2 ^ 64 - n)))) (integers.signed 64 a) ≡ nat_lt s (a + n)
+    by_place (inr le) =
+        let d = s - n in
+        let e : integers.modulo 64 (s + (2 ^ 64 - n)) ≡ d = ap (integers.modulo 64) (omega (arith, le, ls, ln)) ∙ add-mod_left (2 ^ 64) d ∙ mod-eq_of_lt (omega (arith, ls)) in
+        given d e (ap (λ z. int_lt z (pos a)) (signed_low d (omega (arith, ls))) ∙ moved (cases_lt s (a + n)))
+      where
+        moved : (s < a + n) ⊎ (a + n ≤ s) → nat_lt (s - n) a ≡ nat_lt s (a + n)
+        moved (inr h) = le-ltb (s - n) a (omega (arith, h)) ∙ sym (le-ltb s (a + n) h)
+        moved (inl h) = lt-ltb (s - n) a (omega (arith, h, le)) ∙ sym (lt-ltb s (a + n) h)
+    by_place (inl lt) =
+        let d = s + (2 ^ 64 - n) in
+        let e : integers.modulo 64 d ≡ d = mod-eq_of_lt (omega (arith, lt, ln)) in
+        given d e (ap (λ z. int_lt z (pos a)) (signed_high d (omega (arith, ln)) (omega (arith, lt, ln))) ∙ sym (lt-ltb s (a + n) (omega (arith, lt))))
 
 module _ (M : Engine) (C : Ctx) (l : List Value) (size : length C.locals ≡ length l) (sb : List Value) where
   module _ (X : Shell) (g : World) (co : List CollectorCall) (tl : List Value) where
@@ -217,40 +252,51 @@ module _ (M : Engine) (C : Ctx) (l : List Value) (size : length C.locals ≡ len
       past : (m n : ℕ) → nat_le m n ≡ false → n < m
       past m n h = elim (leb_tells m n) [ inl t ↦ absurd (true≢false (sym t.0 ∙ h)) | inr f ↦ f.1 ]
 
-  -- a number against the length of the memory
-  past_end_to : (X : Shell) (k : Nodes) (g : World) (m : Memory) (co : List CollectorCall) (tl base : List Value) (s : ℕ) → g.memory ≡ Some m → MemoryFits (Some m) → To M 5 5 (st X tl (values.I64 s ∷ base) (past_end k) g co) (st X tl (values.I32 (bool_number (nat_lt (length m.bytes) s)) ∷ base) k g co)
-  unfolding int_binary int_compare
-  past_end_to X k g m co tl base s gm mf =
+  -- the length of the memory
+  memory_length_to : (X : Shell) (k : Nodes) (g : World) (m : Memory) (co : List CollectorCall) (tl base : List Value) → g.memory ≡ Some m → MemoryFits (Some m) → To M 4 4 (st X tl base (memory_length k) g co) (st X tl (values.I64 (length m.bytes) ∷ base) k g co)
+  unfolding int_binary
+  memory_length_to X k g m co tl base gm mf =
       let pg : pages m ≡ mf.0 = pages_are m mf in
       let p32 : modulo I32 (pages m) ≡ pages m = mod-eq_of_lt (omega (arith, pg, mf.2)) in
       let len : modulo I64 (modulo I32 (pages m) * 65536) ≡ length m.bytes = ap (λ z. modulo I64 (z * 65536)) p32 ∙ mod-eq_of_lt (omega (arith, pg, mf.2)) ∙ (omega (arith, pg, mf.1)) in
-      let k7 = basic 0 (Compare I64 GtU) k in
-      let k6 = const (values.I64 16) (basic 0 (Binary I64 Shl) k7) in
+      let k6 = const (values.I64 16) (basic 0 (Binary I64 Shl) k) in
       let k5 = basic 0 (Convert ExtendU) k6 in
       let size64 = modulo I64 (modulo I32 (pages m) * 65536) in
-      let s3 : To M 1 1 (st X tl (values.I64 s ∷ base) (past_end k) g co) (st X tl (values.I32 (pages m) ∷ values.I64 s ∷ base) k5 g co) = one_step M _ _ (rw gm refl) in
-      let s4 : To M 3 3 (st X tl (values.I32 (pages m) ∷ values.I64 s ∷ base) k5 g co) (st X tl (values.I64 size64 ∷ values.I64 s ∷ base) k7 g co) = seq M (one_step M _ (next (st X tl (values.I64 (modulo I32 (pages m)) ∷ values.I64 s ∷ base) k6 g co)) refl) (seq M (push_to M (values.I64 16)) (one_step M _ _ refl)) in
-      let cmp : nat_lt size64 s ≡ nat_lt (length m.bytes) s = ap (λ z. nat_lt z s) len in
-      let s5 : To M 1 1 (st X tl (values.I64 size64 ∷ values.I64 s ∷ base) k7 g co) (st X tl (values.I32 (bool_number (nat_lt (length m.bytes) s)) ∷ base) k g co) = one_step M _ _ (rw cmp refl) in
-      seq M s3 (seq M s4 s5)
+      let s3 : To M 1 1 (st X tl base (memory_length k) g co) (st X tl (values.I32 (pages m) ∷ base) k5 g co) = one_step M _ _ (rw gm refl) in
+      let s4 : To M 3 3 (st X tl (values.I32 (pages m) ∷ base) k5 g co) (st X tl (values.I64 size64 ∷ base) k g co) = seq M (one_step M _ (next (st X tl (values.I64 (modulo I32 (pages m)) ∷ base) k6 g co)) refl) (seq M (push_to M (values.I64 16)) (one_step M _ _ refl)) in
+      subst (λ z. To M 4 4 (st X tl base (memory_length k) g co) (st X tl (values.I64 z ∷ base) k g co)) len (seq M s3 s4)
+
+  -- a number against the length of the memory
+  past_end_to : (X : Shell) (k : Nodes) (g : World) (m : Memory) (co : List CollectorCall) (tl base : List Value) (s : ℕ) → g.memory ≡ Some m → MemoryFits (Some m) → To M 5 5 (st X tl (values.I64 s ∷ base) (past_end k) g co) (st X tl (values.I32 (bool_number (nat_lt (length m.bytes) s)) ∷ base) k g co)
+  unfolding int_compare
+  past_end_to X k g m co tl base s gm mf =
+      let k7 = basic 0 (Compare I64 GtU) k in
+      let s5 : To M 1 1 (st X tl (values.I64 (length m.bytes) ∷ values.I64 s ∷ base) k7 g co) (st X tl (values.I32 (bool_number (nat_lt (length m.bytes) s)) ∷ base) k g co) = one_step M _ _ refl in
+      seq M (memory_length_to X k7 g m co tl (values.I64 s ∷ base) gm mf) s5
 
   guard_memory_to : (X : Shell) (k : Nodes) (g : World) (m : Memory) (co : List CollectorCall) (ex : List Value) (e : Place) (h x n o b : ℕ) (q : Bool) → One l ex h e (values.I32 x) → g.memory ≡ Some m → MemoryFits (Some m) → o < 2 ^ 32 → b ≤ 64 → n ≡ o + b → nat_le (address x o + b) (length m.bytes) ≡ q →
       To M 1 21 (st X (l ++ ex) sb (guard_memory C e h n k) g co) (st X (l ++ ex) (values.I32 (verdict (out_kind q)) ∷ sb) k g co)
       × ((j : ℕ) → out_kind q ≡ suc j → To M 1 5 (st X (l ++ ex) sb (const (values.I32 4) k) g co) (st X (l ++ ex) (values.I32 (suc j) ∷ sb) k g co))
-  unfolding int_binary
+  unfolding int_binary int_compare
   guard_memory_to X k g m co ex e h x n o b q on gm mf lo lb ne inside_ =
       let tl = l ++ ex in
       let x' = modulo I32 x in
       let lt : n < 2 ^ 32 + 64 + 1 = omega (arith, lo, lb, ne) in
-      let sum : modulo I64 (x' + n) ≡ x' + n = (let y : x % 2 ^ 32 < 2 ^ 32 = mod-lt x (omega arith) in mod-eq_of_lt (omega (arith, y, lt))) in
-      let k4 = past_end k in
-      let k3 = basic 0 (Binary I64 Add) k4 in
-      let sum64 = modulo I64 (x' + n) in
+      let low : x' < 2 ^ 32 = mod-lt x (omega arith) in
+      let len : length m.bytes < 2 ^ 32 = omega (arith, mf.1, mf.2) in
+      let k5 = basic 0 (Compare I64 GtS) k in
+      let k4 = const (values.I64 n) (basic 0 (Binary I64 Sub) k5) in
+      let k3 = memory_length k4 in
+      let from = modulo I64 (length m.bytes + (2 ^ 64 - n)) in
       let s1 : To M 1 1 (st X tl sb (fetch C e h (out_test n k)) g co) (st X tl (values.I32 x ∷ sb) (out_test n k) g co) = fetch_to M C l size ex h e (values.I32 x) on in
-      let s2 : To M 3 3 (st X tl (values.I32 x ∷ sb) (out_test n k) g co) (st X tl (values.I64 sum64 ∷ sb) k4 g co) = seq M (one_step M _ (next (st X tl (values.I64 x' ∷ sb) (const (values.I64 n) k3) g co)) refl) (seq M (push_to M (values.I64 n)) (one_step M _ _ refl)) in
-      let cmp : bool_number (nat_lt (length m.bytes) sum64) ≡ verdict (out_kind q) = ap bool_number (not_le (address x o) b (length m.bytes) sum64 q (sum ∙ omega (arith, ne)) inside_) ∙ out_verdict q in
-      let s3 : To M 5 5 (st X tl (values.I64 sum64 ∷ sb) k4 g co) (st X tl (values.I32 (verdict (out_kind q)) ∷ sb) k g co) = subst (λ z. To M 5 5 (st X tl (values.I64 sum64 ∷ sb) k4 g co) (st X tl (values.I32 z ∷ sb) k g co)) cmp (past_end_to X k g m co tl sb sum64 gm mf) in
-      (weaken M (seq M s1 (seq M s2 s3)) (omega arith) (omega arith), λ j z. one_kind_to X k g co tl 4 j (four_is q j z))
+      let s2 : To M 1 1 (st X tl (values.I32 x ∷ sb) (out_test n k) g co) (st X tl (values.I64 x' ∷ sb) k3 g co) = one_step M _ _ refl in
+      let s3 : To M 4 4 (st X tl (values.I64 x' ∷ sb) k3 g co) (st X tl (values.I64 (length m.bytes) ∷ values.I64 x' ∷ sb) k4 g co) = memory_length_to X k4 g m co tl (values.I64 x' ∷ sb) gm mf in
+      let s4 : To M 2 2 (st X tl (values.I64 (length m.bytes) ∷ values.I64 x' ∷ sb) k4 g co) (st X tl (values.I64 from ∷ values.I64 x' ∷ sb) k5 g co) = seq M (push_to M (values.I64 n)) (one_step M _ _ refl) in
+      let passes : int_lt (integers.signed 64 from) (integers.signed 64 x') ≡ nat_lt (length m.bytes) (x' + n) = passes_end x' (length m.bytes) n low len lt in
+      let cmp : bool_number (int_lt (integers.signed 64 from) (integers.signed 64 x')) ≡ verdict (out_kind q) = ap bool_number (passes ∙ not_le (address x o) b (length m.bytes) (x' + n) q (omega (arith, ne)) inside_) ∙ out_verdict q in
+      let s5 : To M 1 1 (st X tl (values.I64 from ∷ values.I64 x' ∷ sb) k5 g co) (st X tl (values.I32 (bool_number (int_lt (integers.signed 64 from) (integers.signed 64 x'))) ∷ sb) k g co) = one_step M _ _ refl in
+      let s6 : To M 1 1 (st X tl (values.I64 from ∷ values.I64 x' ∷ sb) k5 g co) (st X tl (values.I32 (verdict (out_kind q)) ∷ sb) k g co) = subst (λ z. To M 1 1 (st X tl (values.I64 from ∷ values.I64 x' ∷ sb) k5 g co) (st X tl (values.I32 z ∷ sb) k g co)) cmp s5 in
+      (weaken M (seq M s1 (seq M s2 (seq M s3 (seq M s4 s6)))) (omega arith) (omega arith), λ j z. one_kind_to X k g co tl 4 j (four_is q j z))
 
   -- a range of bytes against the length of the memory
   range_to : (X : Shell) (k : Nodes) (g : World) (m : Memory) (co : List CollectorCall) (ex base : List Value) (a n : Place) (h hn x y : ℕ) → One l ex h a (values.I32 x) → One l ex hn n (values.I32 y) → g.memory ≡ Some m → MemoryFits (Some m) → To M 10 10 (st X (l ++ ex) base (range_test C a h n hn k) g co) (st X (l ++ ex) (values.I32 (bool_number (not (nat_le (modulo I32 x + modulo I32 y) (length m.bytes)))) ∷ base) k g co)
@@ -398,63 +444,49 @@ module _ (M : Engine) (C : Ctx) (l : List Value) (size : length C.locals ≡ len
           subst (Guards X k g co ex (e ∷ e' ∷ e'' ∷ es) MemoryFill) (sym kind) (guard_fill_to X k g m co ex e e'' (length es) to n o o'' (gm ∙ r) (subst MemoryFits r mf))
 
   -- a guard tells whether the instruction traps, and the other piece with which kind; both change nothing
-  pub guard_to : (X : Shell) (k : Nodes) (g gg : World) (co : List CollectorCall) (ex : List Value) (js es : List Place) (ops vs below : List Value) (i : Basic) → g.memory ≡ gg.memory → MemoryFits gg.memory → SmallOffset i → can_trap i ≡ true → Holds l ex js ops es → cut (takes i) ops ≡ parts vs below → effect i gg l vs ≢ unfit → Guards X k g co ex (es ++ js) i (kind_of (effect i gg l vs))
-  guard_to X k g gg co ex js es ops vs below Nop gm mf so t h c nw = absurd (cc)
-  guard_to X k g gg co ex js es ops vs below Drop gm mf so t h c nw = absurd (cc)
-  guard_to X k g gg co ex js es ops vs below Select gm mf so t h c nw = absurd (cc)
-  guard_to X k g gg co ex js es ops vs below (LocalGet x) gm mf so t h c nw = absurd (cc)
-  guard_to X k g gg co ex js es ops vs below (LocalSet x) gm mf so t h c nw = absurd (cc)
-  guard_to X k g gg co ex js es ops vs below (LocalTee x) gm mf so t h c nw = absurd (cc)
-  guard_to X k g gg co ex js es ops vs below (GlobalGet x) gm mf so t h c nw = absurd (cc)
-  guard_to X k g gg co ex js es ops vs below (GlobalSet x) gm mf so t h c nw = absurd (cc)
-  guard_to X k g gg co ex js es ops vs below MemorySize gm mf so t h c nw = absurd (cc)
-  guard_to X k g gg co ex js es ops vs below MemoryGrow gm mf so t h c nw = absurd (cc)
-  guard_to X k g gg co ex js es ops vs below (Const v) gm mf so t h c nw = absurd (cc)
-  guard_to X k g gg co ex js es ops vs below (Eqz t1) gm mf so t h c nw = absurd (cc)
-  guard_to X k g gg co ex js es ops vs below (Unary t1 op) gm mf so t h c nw = absurd (cc)
-  guard_to X k g gg co ex js es ops vs below (Compare t1 op) gm mf so t h c nw = absurd (cc)
-  guard_to X k g gg co ex js es ops vs below (Convert c1) gm mf so t h c nw = absurd (cc)
-  guard_to X k g gg co ex js es [] vs below (Binary t1 op) gm mf so t h c nw = absurd (cc)
-  guard_to X k g gg co ex js es (y ∷ []) vs below (Binary t1 op) gm mf so t h c nw = absurd (cc)
-  guard_to X k g gg co ex js [] (y ∷ x ∷ ops) vs below (Binary t1 op) gm mf so t h c nw = absurd h
-  guard_to X k g gg co ex js (e ∷ []) (y ∷ x ∷ ops) vs below (Binary t1 op) gm mf so t h c nw = absurd h.1
-  guard_to X k g gg co ex js (e ∷ e' ∷ es) (y ∷ x ∷ ops) vs below (Binary t1 op) gm mf so t h c nw =
+  guard_by : (X : Shell) (k : Nodes) (g gg : World) (co : List CollectorCall) (ex : List Value) (js es : List Place) (ops vs below : List Value) (i : Basic) → Risky i → g.memory ≡ gg.memory → MemoryFits gg.memory → SmallOffset i → can_trap i ≡ true → Holds l ex js ops es → cut (takes i) ops ≡ parts vs below → effect i gg l vs ≢ unfit → Guards X k g co ex (es ++ js) i (kind_of (effect i gg l vs))
+  guard_by X k g gg co ex js es [] vs below i (risky_binary t1 op by) gm mf so t h c nw = absurd (cc)
+  guard_by X k g gg co ex js es (y ∷ []) vs below i (risky_binary t1 op by) gm mf so t h c nw = absurd (cc)
+  guard_by X k g gg co ex js [] (y ∷ x ∷ ops) vs below i (risky_binary t1 op by) gm mf so t h c nw = absurd h
+  guard_by X k g gg co ex js (e ∷ []) (y ∷ x ∷ ops) vs below i (risky_binary t1 op by) gm mf so t h c nw = absurd h.1
+  guard_by X k g gg co ex js (e ∷ e' ∷ es) (y ∷ x ∷ ops) vs below i (risky_binary t1 op by) gm mf so t h c nw =
       let f : vs ≡ y ∷ x ∷ [] = cc in
       let nw' = subst (λ z. effect (Binary t1 op) gg l z ≢ unfit) f nw in
       subst (λ z. Guards X k g co ex (e ∷ e' ∷ (es ++ js)) (Binary t1 op) (kind_of (effect (Binary t1 op) gg l z))) (sym f) (guard_div X k g gg co ex t1 op e e' y x (es ++ js) t h.0 h.1.0 nw')
-  guard_to X k g gg co ex js es [] vs below (Load t1 al o) gm mf so t h c nw = absurd (cc)
-  guard_to X k g gg co ex js [] (y ∷ ops) vs below (Load t1 al o) gm mf so t h c nw = absurd h
-  guard_to X k g gg co ex js (e ∷ es) (y ∷ ops) vs below (Load t1 al o) gm mf so t h c nw =
+  guard_by X k g gg co ex js es [] vs below i (risky_load t1 al o) gm mf so t h c nw = absurd (cc)
+  guard_by X k g gg co ex js [] (y ∷ ops) vs below i (risky_load t1 al o) gm mf so t h c nw = absurd h
+  guard_by X k g gg co ex js (e ∷ es) (y ∷ ops) vs below i (risky_load t1 al o) gm mf so t h c nw =
       let f : vs ≡ y ∷ [] = cc in
       let nw' = subst (λ z. effect (Load t1 al o) gg l z ≢ unfit) f nw in
       subst (λ z. Guards X k g co ex (e ∷ (es ++ js)) (Load t1 al o) (kind_of (effect (Load t1 al o) gg l z))) (sym f) (guard_load X k g gg co ex t1 al o e y (es ++ js) gm mf so h.0 nw')
-  guard_to X k g gg co ex js es [] vs below (Store t1 al o) gm mf so t h c nw = absurd (cc)
-  guard_to X k g gg co ex js es (y ∷ []) vs below (Store t1 al o) gm mf so t h c nw = absurd (cc)
-  guard_to X k g gg co ex js [] (y ∷ x ∷ ops) vs below (Store t1 al o) gm mf so t h c nw = absurd h
-  guard_to X k g gg co ex js (e ∷ []) (y ∷ x ∷ ops) vs below (Store t1 al o) gm mf so t h c nw = absurd h.1
-  guard_to X k g gg co ex js (e ∷ e' ∷ es) (y ∷ x ∷ ops) vs below (Store t1 al o) gm mf so t h c nw =
+  guard_by X k g gg co ex js es [] vs below i (risky_store t1 al o) gm mf so t h c nw = absurd (cc)
+  guard_by X k g gg co ex js es (y ∷ []) vs below i (risky_store t1 al o) gm mf so t h c nw = absurd (cc)
+  guard_by X k g gg co ex js [] (y ∷ x ∷ ops) vs below i (risky_store t1 al o) gm mf so t h c nw = absurd h
+  guard_by X k g gg co ex js (e ∷ []) (y ∷ x ∷ ops) vs below i (risky_store t1 al o) gm mf so t h c nw = absurd h.1
+  guard_by X k g gg co ex js (e ∷ e' ∷ es) (y ∷ x ∷ ops) vs below i (risky_store t1 al o) gm mf so t h c nw =
       let f : vs ≡ y ∷ x ∷ [] = cc in
       let nw' = subst (λ z. effect (Store t1 al o) gg l z ≢ unfit) f nw in
       subst (λ z. Guards X k g co ex (e ∷ e' ∷ (es ++ js)) (Store t1 al o) (kind_of (effect (Store t1 al o) gg l z))) (sym f) (guard_store X k g gg co ex t1 al o e e' y x (es ++ js) gm mf so h.1.0 nw')
-  guard_to X k g gg co ex js es [] vs below MemoryCopy gm mf so t h c nw = absurd (cc)
-  guard_to X k g gg co ex js es (y ∷ []) vs below MemoryCopy gm mf so t h c nw = absurd (cc)
-  guard_to X k g gg co ex js es (y ∷ x ∷ []) vs below MemoryCopy gm mf so t h c nw = absurd (cc)
-  guard_to X k g gg co ex js [] (y ∷ x ∷ z ∷ ops) vs below MemoryCopy gm mf so t h c nw = absurd h
-  guard_to X k g gg co ex js (e ∷ []) (y ∷ x ∷ z ∷ ops) vs below MemoryCopy gm mf so t h c nw = absurd h.1
-  guard_to X k g gg co ex js (e ∷ e' ∷ []) (y ∷ x ∷ z ∷ ops) vs below MemoryCopy gm mf so t h c nw = absurd h.1.1
-  guard_to X k g gg co ex js (e ∷ e' ∷ e'' ∷ es) (y ∷ x ∷ z ∷ ops) vs below MemoryCopy gm mf so t h c nw =
+  guard_by X k g gg co ex js es [] vs below i risky_copy gm mf so t h c nw = absurd (cc)
+  guard_by X k g gg co ex js es (y ∷ []) vs below i risky_copy gm mf so t h c nw = absurd (cc)
+  guard_by X k g gg co ex js es (y ∷ x ∷ []) vs below i risky_copy gm mf so t h c nw = absurd (cc)
+  guard_by X k g gg co ex js [] (y ∷ x ∷ z ∷ ops) vs below i risky_copy gm mf so t h c nw = absurd h
+  guard_by X k g gg co ex js (e ∷ []) (y ∷ x ∷ z ∷ ops) vs below i risky_copy gm mf so t h c nw = absurd h.1
+  guard_by X k g gg co ex js (e ∷ e' ∷ []) (y ∷ x ∷ z ∷ ops) vs below i risky_copy gm mf so t h c nw = absurd h.1.1
+  guard_by X k g gg co ex js (e ∷ e' ∷ e'' ∷ es) (y ∷ x ∷ z ∷ ops) vs below i risky_copy gm mf so t h c nw =
       let f : vs ≡ y ∷ x ∷ z ∷ [] = cc in
       let nw' = subst (λ z. effect MemoryCopy gg l z ≢ unfit) f nw in
       subst (λ z. Guards X k g co ex (e ∷ e' ∷ e'' ∷ (es ++ js)) MemoryCopy (kind_of (effect MemoryCopy gg l z))) (sym f) (guard_copies X k g gg co ex e e' e'' y x z (es ++ js) gm mf h.0 h.1.0 h.1.1.0 nw')
-  guard_to X k g gg co ex js es [] vs below MemoryFill gm mf so t h c nw = absurd (cc)
-  guard_to X k g gg co ex js es (y ∷ []) vs below MemoryFill gm mf so t h c nw = absurd (cc)
-  guard_to X k g gg co ex js es (y ∷ x ∷ []) vs below MemoryFill gm mf so t h c nw = absurd (cc)
-  guard_to X k g gg co ex js [] (y ∷ x ∷ z ∷ ops) vs below MemoryFill gm mf so t h c nw = absurd h
-  guard_to X k g gg co ex js (e ∷ []) (y ∷ x ∷ z ∷ ops) vs below MemoryFill gm mf so t h c nw = absurd h.1
-  guard_to X k g gg co ex js (e ∷ e' ∷ []) (y ∷ x ∷ z ∷ ops) vs below MemoryFill gm mf so t h c nw = absurd h.1.1
-  guard_to X k g gg co ex js (e ∷ e' ∷ e'' ∷ es) (y ∷ x ∷ z ∷ ops) vs below MemoryFill gm mf so t h c nw =
+  guard_by X k g gg co ex js es [] vs below i risky_fill gm mf so t h c nw = absurd (cc)
+  guard_by X k g gg co ex js es (y ∷ []) vs below i risky_fill gm mf so t h c nw = absurd (cc)
+  guard_by X k g gg co ex js es (y ∷ x ∷ []) vs below i risky_fill gm mf so t h c nw = absurd (cc)
+  guard_by X k g gg co ex js [] (y ∷ x ∷ z ∷ ops) vs below i risky_fill gm mf so t h c nw = absurd h
+  guard_by X k g gg co ex js (e ∷ []) (y ∷ x ∷ z ∷ ops) vs below i risky_fill gm mf so t h c nw = absurd h.1
+  guard_by X k g gg co ex js (e ∷ e' ∷ []) (y ∷ x ∷ z ∷ ops) vs below i risky_fill gm mf so t h c nw = absurd h.1.1
+  guard_by X k g gg co ex js (e ∷ e' ∷ e'' ∷ es) (y ∷ x ∷ z ∷ ops) vs below i risky_fill gm mf so t h c nw =
       let f : vs ≡ y ∷ x ∷ z ∷ [] = cc in
       let nw' = subst (λ z. effect MemoryFill gg l z ≢ unfit) f nw in
       subst (λ z. Guards X k g co ex (e ∷ e' ∷ e'' ∷ (es ++ js)) MemoryFill (kind_of (effect MemoryFill gg l z))) (sym f) (guard_fills X k g gg co ex e e' e'' y x z (es ++ js) gm mf h.0 h.1.1.0 nw')
-  guard_to X k g gg co ex js es ops vs below (Extend32 j) gm mf so t h c nw = absurd (cc)
-  guard_to X k g gg co ex js es ops vs below (Extend64 j) gm mf so t h c nw = absurd (cc)
+
+  pub guard_to : (X : Shell) (k : Nodes) (g gg : World) (co : List CollectorCall) (ex : List Value) (js es : List Place) (ops vs below : List Value) (i : Basic) → g.memory ≡ gg.memory → MemoryFits gg.memory → SmallOffset i → can_trap i ≡ true → Holds l ex js ops es → cut (takes i) ops ≡ parts vs below → effect i gg l vs ≢ unfit → Guards X k g co ex (es ++ js) i (kind_of (effect i gg l vs))
+  guard_to X k g gg co ex js es ops vs below i gm mf so t h c nw = guard_by X k g gg co ex js es ops vs below i (risk_of i t) gm mf so t h c nw

@@ -11,8 +11,8 @@ use Rattle.wasm_syntax.specs.Tree.{BrTable, Nodes, stop, jump}
 use Rattle.wasm_syntax.specs.Module.{Function, imported, defined, function_at, type_at, same_functype, option_then}
 use Rattle.wasm_syntax.specs.Host.{World, Answer, replied, told, silent, misfit}
 use Rattle.wasm_syntax.specs.Machine.{leaves, returns, Label, Frame, Config, label, frame, config, Engine, Stepped, next, stuck, Cut, short, parts, cut, pick, step, host, enters, applied_if, calls_on, calls, calls_if, calls_entry, calls_typed, calls_indirect, runs, in_frame, steps, function_type}
-use Rattle.rewrite_bodies.specs.Pieces.{call}
-use Rattle.rewrite_bodies.specs.Guards.{helper, says, type_label, entry_label, first_table}
+use Rattle.rewrite_bodies.specs.calls.Pieces.{call}
+use Rattle.rewrite_bodies.specs.calls.Guards.{helper, says, type_label, entry_label, first_table}
 use Rattle.rewrite_bodies.specs.calls.Steps.{To, Shell, st}
 use Rattle.rewrite_bodies.proofs.Run.{one_step, seq, weaken}
 use Rattle.rewrite_bodies.specs.calls.Verdicts.{kind_of_step, CallsEntry, IsHelper}

@@ -1,4 +1,6 @@
 -- The bytes of rewritten code.
+use Rattle.rewrite_bodies.proofs.Charges.{charge, charge_behind}
+use Rattle.rewrite_bodies.specs.calls.Landings.{number_of, landing_behind}
 use Rattle.std.proofs.Common.{◌≡◌, ℕ, zero, suc, ◌+◌, ◌*◌, ◌/◌, ◌%◌, ◌^◌, ◌<◌, ◌≤◌, nat_lt, List, [], ◌∷◌, ◌++◌, length, Option, Some, None, option_map, Bool, true, false, refl, arith, take, if◌then◌else◌}
 use Rattle.std.specs.Int.{w32, w64, cast_signed}
 use Rattle.std.proofs.lemmas.Bool.{ltb-false}
@@ -9,21 +11,22 @@ use Rattle.wasm_syntax.specs.declared.value.ValType.TheVariants.{I32, I64}
 use Rattle.wasm_syntax.specs.declared.value.Value.{Value}
 use Rattle.wasm_syntax.specs.declared.value.Value.TheVariants as values
 use Rattle.int_ops.specs.declared.operators.Binary.{Binary as BinaryOp}
-use Rattle.int_ops.specs.declared.operators.Binary.TheVariants.{Add, Sub, Mul, DivS, DivU, RemS, RemU, And, Or, Xor, Shl, ShrS, ShrU, Rotl, Rotr}
-use Rattle.int_ops.specs.declared.operators.Compare.TheVariants.{Eq, GtU}
+use Rattle.int_ops.specs.declared.operators.Binary.TheVariants.{Add, And, Or, Shl, Sub}
+use Rattle.int_ops.specs.declared.operators.Compare.TheVariants.{Eq, GtU, GtS}
 use Rattle.wasm_syntax.specs.declared.instruction.Convert.TheVariants.{ExtendU}
 use Rattle.wasm_syntax.specs.declared.instruction.Basic.{Basic}
-use Rattle.wasm_syntax.specs.declared.instruction.Basic.TheVariants.{Nop, Drop, Select, LocalGet, LocalSet, LocalTee, GlobalGet, GlobalSet, Load, Store, MemorySize, MemoryGrow, MemoryCopy, MemoryFill, Const, Eqz, Unary, Compare, Binary, Convert, Extend32, Extend64}
+use Rattle.wasm_syntax.specs.declared.instruction.Basic.TheVariants.{Select, LocalGet, LocalTee, GlobalGet, GlobalSet, Eqz, Compare, Binary, Convert}
 use Rattle.wasm_syntax.specs.Access.{load_bits, store_bits}
-use Rattle.wasm_syntax.specs.Tree.{Br, Nodes, stop, basic, jump}
+use Rattle.wasm_syntax.specs.Tree.{Br, Nodes, stop, basic, jump, BrIf}
 use Rattle.rewrite_bodies.specs.Numbering.{import_count, flag_of}
-use Rattle.rewrite_bodies.specs.Slots.{Place, Spilled, Known, Copied, place_type, Ctx, slot, kind_at, offset_at, less, pushed, grown, without}
-use Rattle.rewrite_bodies.specs.Pieces.{get, set, const, i32, call, if_any, fetch, load, keep, store, reload, spill_one, spill, drops}
-use Rattle.rewrite_bodies.specs.Guards.{least, minus_one, guard_zero, guard_signed, past_end, out_test, guard_memory, range_test, guard_copy, guard_fill, guard, kind_signed, kind}
-use Rattle.rewrite_bodies.specs.Rewrite.{hand_value, hand, hand_top, to_exit, unwind, unwind_kind, hand_left, test_flag, test_both}
+use Rattle.rewrite_bodies.specs.calls.Slots.{Place, Spilled, Known, Copied, place_type, Ctx, slot, kind_at, offset_at, less, pushed, grown, without}
+use Rattle.rewrite_bodies.specs.calls.Pieces.{get, set, const, i32, call, if_any, fetch, load, keep, store, reload, spill_one, spill, drops}
+use Rattle.rewrite_bodies.specs.calls.Guards.{least, minus_one, guard_zero, guard_signed, past_end, out_test, guard_memory, range_test, guard_copy, guard_fill, guard, kind_signed, kind, memory_length}
+use Rattle.rewrite_bodies.specs.calls.Rewrite.{hand_value, hand, hand_top, to_exit, unwind, unwind_kind, hand_left, test_flag, test_both, checked, get_flag}
 use Rattle.rewrite_bodies.specs.calls.Agreement.{FitsIn}
 use Rattle.rewrite_bodies.specs.calls.Length.{code_length, FewNumbers}
 use Rattle.wasm_leb.proofs.Lengths.{ten_bytes, ten_signed}
+use Rattle.wasm_syntax.specs.calls.Classes.{Divider, by_div_s, by_div_u, by_rem_s, by_rem_u, Risky, risky_binary, risky_load, risky_store, risky_copy, risky_fill}
 
 -- ---- numbers
 
@@ -242,14 +245,14 @@ module _ (C : Ctx) (few : FewNumbers C) where
       let b = len_spill_one these e (length es) k (omega (arith, le)) in
       omega (arith, a, b)
 
-  len_exit : (ls : ℕ) → code_length (to_exit ls) ≤ 11
-  len_exit ls = len_branch (suc ls)
+  len_exit : (ls : ℕ) → code_length (to_exit C ls) ≤ 11
+  len_exit ls = len_branch (suc (ls + length C.landings))
 
   len_unwind : (ls : ℕ) (es : List Place) (o : ℕ) → length es ≤ C.slots → code_length (unwind C ls es o) ≤ 27 + 16 * length es
   len_unwind ls es o le =
-      let a = len_const (i32 o) (set C (offset_at C) (hand C es (to_exit ls))) in
-      let b = len_set (offset_at C) (hand C es (to_exit ls)) (omega arith) in
-      let c = len_hand es (to_exit ls) le in
+      let a = len_const (i32 o) (set C (offset_at C) (hand C es (to_exit C ls))) in
+      let b = len_set (offset_at C) (hand C es (to_exit C ls)) (omega arith) in
+      let c = len_hand es (to_exit C ls) le in
       let d = len_exit ls in
       omega (arith, a, b, c, d)
 
@@ -259,19 +262,35 @@ module _ (C : Ctx) (few : FewNumbers C) where
       let b = len_unwind ls es o le in
       omega (arith, a, b)
 
-  pub len_test_flag : (ls : ℕ) (es : List Place) (o : ℕ) (k : Nodes) → length es ≤ C.slots → code_length (test_flag C ls es o k) ≤ 57 + 16 * length es + code_length k
-  len_test_flag ls es o k le =
-      let arm = set C (kind_at C) (unwind C ls es o) in
-      let a = len_global_get (flag_of C.source) (if_any (const (i32 0) arm) k) in
-      let b = len_const (i32 0) arm in
-      let c = len_set (kind_at C) (unwind C ls es o) (omega arith) in
-      let d = len_unwind ls es o le in
+  -- a guard that goes to a landing, and the landing
+  pub len_landing : (ls n o : ℕ) (es : List Place) (test says_kind : Nodes → Nodes) (k : Nodes) (size : ℕ) → ((k : Nodes) → code_length (test k) ≤ size + code_length k) → code_length (checked (Some n) C ls es o test says_kind k) ≤ 27 + size + code_length k
+  len_landing ls n o es test says_kind k size h =
+      let go = jump 0 (BrIf (ls + n)) k in
+      let a = len_const (i32 o) (set C (offset_at C) (test go)) in
+      let b = len_set (offset_at C) (test go) (omega arith) in
+      let c = h go in
+      let d = ten_bytes (ls + n) in
       omega (arith, a, b, c, d)
+
+  pub len_test_flag : (ls : ℕ) (es : List Place) (o : ℕ) (k : Nodes) → length es ≤ C.slots → code_length (test_flag C ls es o k) + charge_behind C es ≤ 73 + 16 * length es + code_length k
+  len_test_flag ls es o k le = by_number (number_of (landing_behind es) C.landings)
+    where
+      by_number : (q : Option ℕ) → code_length (checked q C ls es o (get_flag C) (const (i32 0)) k) + charge q (Some (landing_behind es)) ≤ 73 + 16 * length es + code_length k
+      by_number None =
+          let arm = set C (kind_at C) (unwind C ls es o) in
+          let a = len_global_get (flag_of C.source) (if_any (const (i32 0) arm) k) in
+          let b = len_const (i32 0) arm in
+          let c = len_set (kind_at C) (unwind C ls es o) (omega arith) in
+          let d = len_unwind ls es o le in
+          omega (arith, a, b, c, d)
+      by_number (Some n) =
+          let a = len_landing ls n o es (get_flag C) (const (i32 0)) k 11 (λ k. len_global_get (flag_of C.source) k) in
+          omega (arith, a)
 
   pub len_test_both : (ls : ℕ) (n : ℕ) (es left : List Place) (o : ℕ) (k : Nodes) → length es ≤ C.slots → length left ≤ C.slots → code_length (test_both C ls left o (hand_top C n es stop) k) ≤ 60 + 16 * length left + (costs (take n es) + 5 * length (take n es)) + code_length k
   len_test_both ls n es left o k le le1 =
       let others = hand_top C n es stop in
-      let inner = get C (kind_at C) (if_any others (to_exit ls)) in
+      let inner = get C (kind_at C) (if_any others (to_exit C ls)) in
       let arm = set C (offset_at C) (hand_left C ls left others) in
       let rest = if_any (const (i32 o) arm) k in
       let a = len_get (kind_at C) (basic 0 (GlobalGet (flag_of C.source)) (basic 0 (Binary I32 Or) rest)) (omega arith) in
@@ -279,7 +298,7 @@ module _ (C : Ctx) (few : FewNumbers C) where
       let c = len_const (i32 o) arm in
       let d = len_set (offset_at C) (hand_left C ls left others) (omega arith) in
       let e = len_hand left inner le1 in
-      let f = len_get (kind_at C) (if_any others (to_exit ls)) (omega arith) in
+      let f = len_get (kind_at C) (if_any others (to_exit C ls)) (omega arith) in
       let g = len_hand_top n es stop le in
       let h = len_exit ls in
       omega (arith, a, b, c, d, e, f, g, h)
@@ -304,15 +323,18 @@ module _ (C : Ctx) (few : FewNumbers C) where
       let x5 = len_guard_zero t b (suc h) (basic 0 (Binary I32 Or) k) (omega (arith, le)) in
       omega (arith, x1, x2, x3, x4, x5)
 
+  len_memory : (k : Nodes) → code_length (memory_length k) ≤ 15 + code_length k
+  len_memory k = let x = len_const (values.I64 16) (basic 0 (Binary I64 Shl) k) in omega (arith, x)
+
   len_past_end : (k : Nodes) → code_length (past_end k) ≤ 16 + code_length k
-  len_past_end k = let x = len_const (values.I64 16) (basic 0 (Binary I64 Shl) (basic 0 (Compare I64 GtU) k)) in omega (arith, x)
+  len_past_end k = let x = len_memory (basic 0 (Compare I64 GtU) k) in omega (arith, x)
 
   len_guard_memory : (a : Place) (h n : ℕ) (k : Nodes) → h ≤ C.slots → code_length (guard_memory C a h n k) ≤ 40 + code_length k
   len_guard_memory a h n k le =
-      let k1 = past_end k in
+      let k1 = basic 0 (Binary I64 Sub) (basic 0 (Compare I64 GtS) k) in
       let x1 = len_fetched a h (out_test n k) le in
-      let x2 = len_const (values.I64 n) (basic 0 (Binary I64 Add) k1) in
-      let x3 = len_past_end k in
+      let x2 = len_const (values.I64 n) k1 in
+      let x3 = len_memory (const (values.I64 n) k1) in
       omega (arith, x1, x2, x3)
 
   len_range : (a : Place) (h : ℕ) (n : Place) (hn : ℕ) (k : Nodes) → h ≤ C.slots → hn ≤ C.slots → code_length (range_test C a h n hn k) ≤ 41 + code_length k
@@ -337,30 +359,19 @@ module _ (C : Ctx) (few : FewNumbers C) where
   len_none : (k : Nodes) → code_length (const (i32 0) k) ≤ 83 + code_length k
   len_none k = let x = len_const (i32 0) k in omega (arith, x)
 
-  len_division : (op : BinaryOp) (t : ValType) (es : List Place) (k : Nodes) → length es ≤ C.slots → code_length (guard C (Binary t op) es k) ≤ 83 + code_length k
-  len_division DivS t [] k le = len_none k
-  len_division DivS t (b ∷ []) k le = len_none k
-  len_division DivS t (b ∷ a ∷ es) k le = let x = len_guard_signed t b a (length es) k (omega (arith, le)) in omega (arith, x)
-  len_division DivU t [] k le = len_none k
-  len_division DivU t (b ∷ []) k le = len_none k
-  len_division DivU t (b ∷ a ∷ es) k le = let x = len_guard_zero t b (suc (length es)) k (omega (arith, le)) in omega (arith, x)
-  len_division RemS t [] k le = len_none k
-  len_division RemS t (b ∷ []) k le = len_none k
-  len_division RemS t (b ∷ a ∷ es) k le = let x = len_guard_zero t b (suc (length es)) k (omega (arith, le)) in omega (arith, x)
-  len_division RemU t [] k le = len_none k
-  len_division RemU t (b ∷ []) k le = len_none k
-  len_division RemU t (b ∷ a ∷ es) k le = let x = len_guard_zero t b (suc (length es)) k (omega (arith, le)) in omega (arith, x)
-  len_division Add t es k le = len_none k
-  len_division Sub t es k le = len_none k
-  len_division Mul t es k le = len_none k
-  len_division And t es k le = len_none k
-  len_division Or t es k le = len_none k
-  len_division Xor t es k le = len_none k
-  len_division Shl t es k le = len_none k
-  len_division ShrS t es k le = len_none k
-  len_division ShrU t es k le = len_none k
-  len_division Rotl t es k le = len_none k
-  len_division Rotr t es k le = len_none k
+  len_division : (op : BinaryOp) → Divider op → (t : ValType) (es : List Place) (k : Nodes) → length es ≤ C.slots → code_length (guard C (Binary t op) es k) ≤ 83 + code_length k
+  len_division op by_div_s t [] k le = len_none k
+  len_division op by_div_s t (b ∷ []) k le = len_none k
+  len_division op by_div_s t (b ∷ a ∷ es) k le = let x = len_guard_signed t b a (length es) k (omega (arith, le)) in omega (arith, x)
+  len_division op by_div_u t [] k le = len_none k
+  len_division op by_div_u t (b ∷ []) k le = len_none k
+  len_division op by_div_u t (b ∷ a ∷ es) k le = let x = len_guard_zero t b (suc (length es)) k (omega (arith, le)) in omega (arith, x)
+  len_division op by_rem_s t [] k le = len_none k
+  len_division op by_rem_s t (b ∷ []) k le = len_none k
+  len_division op by_rem_s t (b ∷ a ∷ es) k le = let x = len_guard_zero t b (suc (length es)) k (omega (arith, le)) in omega (arith, x)
+  len_division op by_rem_u t [] k le = len_none k
+  len_division op by_rem_u t (b ∷ []) k le = len_none k
+  len_division op by_rem_u t (b ∷ a ∷ es) k le = let x = len_guard_zero t b (suc (length es)) k (omega (arith, le)) in omega (arith, x)
 
   -- ---- kinds of traps
 
@@ -375,80 +386,35 @@ module _ (C : Ctx) (few : FewNumbers C) where
       let x3 = len_guard_zero t b h (basic 0 Select k) le in
       omega (arith, x1, x2, x3)
 
-  len_kind_division : (op : BinaryOp) (t : ValType) (es : List Place) (k : Nodes) → length es ≤ C.slots → code_length (kind C (Binary t op) es k) ≤ 35 + code_length k
-  len_kind_division DivS t [] k le = len_one_kind 2 k
-  len_kind_division DivS t (b ∷ []) k le = len_one_kind 2 k
-  len_kind_division DivS t (b ∷ a ∷ es) k le = len_kind_signed t b (suc (length es)) k (omega (arith, le))
-  len_kind_division DivU t es k le = len_one_kind 2 k
-  len_kind_division RemS t es k le = len_one_kind 2 k
-  len_kind_division RemU t es k le = len_one_kind 2 k
-  len_kind_division Add t es k le = len_one_kind 2 k
-  len_kind_division Sub t es k le = len_one_kind 2 k
-  len_kind_division Mul t es k le = len_one_kind 2 k
-  len_kind_division And t es k le = len_one_kind 2 k
-  len_kind_division Or t es k le = len_one_kind 2 k
-  len_kind_division Xor t es k le = len_one_kind 2 k
-  len_kind_division Shl t es k le = len_one_kind 2 k
-  len_kind_division ShrS t es k le = len_one_kind 2 k
-  len_kind_division ShrU t es k le = len_one_kind 2 k
-  len_kind_division Rotl t es k le = len_one_kind 2 k
-  len_kind_division Rotr t es k le = len_one_kind 2 k
+  len_kind_division : (op : BinaryOp) → Divider op → (t : ValType) (es : List Place) (k : Nodes) → length es ≤ C.slots → code_length (kind C (Binary t op) es k) ≤ 35 + code_length k
+  len_kind_division op by_div_s t [] k le = len_one_kind 2 k
+  len_kind_division op by_div_s t (b ∷ []) k le = len_one_kind 2 k
+  len_kind_division op by_div_s t (b ∷ a ∷ es) k le = len_kind_signed t b (suc (length es)) k (omega (arith, le))
+  len_kind_division op by_div_u t es k le = len_one_kind 2 k
+  len_kind_division op by_rem_s t es k le = len_one_kind 2 k
+  len_kind_division op by_rem_u t es k le = len_one_kind 2 k
 
-  pub len_kind : (i : Basic) (es : List Place) (k : Nodes) → length es ≤ C.slots → code_length (kind C i es k) ≤ 35 + code_length k
-  len_kind (Binary t op) es k le = len_kind_division op t es k le
-  len_kind Nop es k le = len_one_kind 4 k
-  len_kind Drop es k le = len_one_kind 4 k
-  len_kind Select es k le = len_one_kind 4 k
-  len_kind (LocalGet x) es k le = len_one_kind 4 k
-  len_kind (LocalSet x) es k le = len_one_kind 4 k
-  len_kind (LocalTee x) es k le = len_one_kind 4 k
-  len_kind (GlobalGet x) es k le = len_one_kind 4 k
-  len_kind (GlobalSet x) es k le = len_one_kind 4 k
-  len_kind (Load l al o) es k le = len_one_kind 4 k
-  len_kind (Store l al o) es k le = len_one_kind 4 k
-  len_kind MemorySize es k le = len_one_kind 4 k
-  len_kind MemoryGrow es k le = len_one_kind 4 k
-  len_kind MemoryCopy es k le = len_one_kind 4 k
-  len_kind MemoryFill es k le = len_one_kind 4 k
-  len_kind (Const v) es k le = len_one_kind 4 k
-  len_kind (Eqz u) es k le = len_one_kind 4 k
-  len_kind (Unary u op) es k le = len_one_kind 4 k
-  len_kind (Compare u op) es k le = len_one_kind 4 k
-  len_kind (Convert c) es k le = len_one_kind 4 k
-  len_kind (Extend32 c) es k le = len_one_kind 4 k
-  len_kind (Extend64 c) es k le = len_one_kind 4 k
+  pub len_kind : (i : Basic) → Risky i → (es : List Place) (k : Nodes) → length es ≤ C.slots → code_length (kind C i es k) ≤ 35 + code_length k
+  len_kind i (risky_binary t op by) es k le = len_kind_division op by t es k le
+  len_kind i (risky_load l al o) es k le = len_one_kind 4 k
+  len_kind i (risky_store l al o) es k le = len_one_kind 4 k
+  len_kind i risky_copy es k le = len_one_kind 4 k
+  len_kind i risky_fill es k le = len_one_kind 4 k
 
   -- ---- guards of instructions
 
-  pub len_guard : (i : Basic) (es : List Place) (k : Nodes) → length es ≤ C.slots → code_length (guard C i es k) ≤ 83 + code_length k
-  len_guard (Binary t op) es k le = len_division op t es k le
-  len_guard (Load l al o) [] k le = len_none k
-  len_guard (Load l al o) (a ∷ es) k le = let x = len_guard_memory a (length es) (o + load_bits l / 8) k (omega (arith, le)) in omega (arith, x)
-  len_guard (Store l al o) [] k le = len_none k
-  len_guard (Store l al o) (v ∷ []) k le = len_none k
-  len_guard (Store l al o) (v ∷ a ∷ es) k le = let x = len_guard_memory a (length es) (o + store_bits l / 8) k (omega (arith, le)) in omega (arith, x)
-  len_guard MemoryCopy [] k le = len_none k
-  len_guard MemoryCopy (n ∷ []) k le = len_none k
-  len_guard MemoryCopy (n ∷ from ∷ []) k le = len_none k
-  len_guard MemoryFill [] k le = len_none k
-  len_guard MemoryFill (n ∷ []) k le = len_none k
-  len_guard MemoryFill (n ∷ from ∷ []) k le = len_none k
-  len_guard MemoryCopy (n ∷ from ∷ to ∷ es) k le = len_guard_copy n from to (length es) k (omega (arith, le))
-  len_guard MemoryFill (n ∷ byte ∷ to ∷ es) k le = let x = len_guard_fill n to (length es) k (omega (arith, le)) in omega (arith, x)
-  len_guard Nop es k le = len_none k
-  len_guard Drop es k le = len_none k
-  len_guard Select es k le = len_none k
-  len_guard (LocalGet x) es k le = len_none k
-  len_guard (LocalSet x) es k le = len_none k
-  len_guard (LocalTee x) es k le = len_none k
-  len_guard (GlobalGet x) es k le = len_none k
-  len_guard (GlobalSet x) es k le = len_none k
-  len_guard MemorySize es k le = len_none k
-  len_guard MemoryGrow es k le = len_none k
-  len_guard (Const v) es k le = len_none k
-  len_guard (Eqz u) es k le = len_none k
-  len_guard (Unary u op) es k le = len_none k
-  len_guard (Compare u op) es k le = len_none k
-  len_guard (Convert c) es k le = len_none k
-  len_guard (Extend32 c) es k le = len_none k
-  len_guard (Extend64 c) es k le = len_none k
+  pub len_guard : (i : Basic) → Risky i → (es : List Place) (k : Nodes) → length es ≤ C.slots → code_length (guard C i es k) ≤ 83 + code_length k
+  len_guard i (risky_binary t op by) es k le = len_division op by t es k le
+  len_guard i (risky_load l al o) [] k le = len_none k
+  len_guard i (risky_load l al o) (a ∷ es) k le = let x = len_guard_memory a (length es) (o + load_bits l / 8) k (omega (arith, le)) in omega (arith, x)
+  len_guard i (risky_store l al o) [] k le = len_none k
+  len_guard i (risky_store l al o) (v ∷ []) k le = len_none k
+  len_guard i (risky_store l al o) (v ∷ a ∷ es) k le = let x = len_guard_memory a (length es) (o + store_bits l / 8) k (omega (arith, le)) in omega (arith, x)
+  len_guard i risky_copy [] k le = len_none k
+  len_guard i risky_copy (n ∷ []) k le = len_none k
+  len_guard i risky_copy (n ∷ from ∷ []) k le = len_none k
+  len_guard i risky_fill [] k le = len_none k
+  len_guard i risky_fill (n ∷ []) k le = len_none k
+  len_guard i risky_fill (n ∷ from ∷ []) k le = len_none k
+  len_guard i risky_copy (n ∷ from ∷ to ∷ es) k le = len_guard_copy n from to (length es) k (omega (arith, le))
+  len_guard i risky_fill (n ∷ byte ∷ to ∷ es) k le = let x = len_guard_fill n to (length es) k (omega (arith, le)) in omega (arith, x)

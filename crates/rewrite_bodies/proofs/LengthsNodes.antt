@@ -1,37 +1,38 @@
 -- The bytes of rewritten nodes and bodies.
-use Rattle.std.proofs.Common.{◌≡◌, ℕ, zero, suc, ◌==◌, ◌+◌, ◌*◌, ◌<◌, ◌≤◌, nat_lt, List, [], ◌∷◌, ◌++◌, length, map, reverse, Option, Some, None, Bool, true, false, refl, sym, ap, ◌∙◌, subst, arith, slice_get, option_map, option_to_list, take}
+use Rattle.rewrite_bodies.proofs.Laid.{same_at, room_landed}
+use Rattle.rewrite_bodies.proofs.Charges.{costs_of, charge, charge_at, charge_behind, charge_call, charged, charge_low, all_paid}
+use Rattle.rewrite_bodies.specs.calls.Landings.{number_in, landing_of, one_kind, with_some, landing_call, landings_call, landings_jump, landings_from, landed}
+use Rattle.std.proofs.Common.{◌≡◌, ℕ, zero, suc, ◌==◌, ◌+◌, ◌*◌, ◌≤◌, nat_lt, List, [], ◌∷◌, ◌++◌, length, map, reverse, Option, Some, None, Bool, true, false, refl, sym, ap, ◌∙◌, subst, arith, slice_get, option_map, option_to_list, take}
 use Rattle.std.proofs.lemmas.List.{length-reverse}
 use Rattle.wasm_syntax.specs.declared.value.ValType.{ValType}
-use Rattle.wasm_syntax.specs.declared.value.ValType.TheVariants.{I32, I64}
-use Rattle.wasm_syntax.specs.declared.value.Value.{Value}
+use Rattle.wasm_syntax.specs.declared.value.ValType.TheVariants.{I32}
 use Rattle.wasm_syntax.specs.declared.instruction.Basic.{Basic}
-use Rattle.wasm_syntax.specs.declared.instruction.Basic.TheVariants.{Nop, Drop, Select, LocalGet, LocalSet, LocalTee, GlobalGet, GlobalSet, Load, Store, MemorySize, MemoryGrow, MemoryCopy, MemoryFill, Const, Eqz, Unary, Compare, Binary, Convert, Extend32, Extend64}
+use Rattle.wasm_syntax.specs.declared.instruction.Basic.TheVariants.{LocalGet, GlobalSet, Const, Eqz, Binary}
 use Rattle.wasm_syntax.specs.declared.parts.FuncType.{FuncType}
-use Rattle.wasm_syntax.specs.Numbers.{type_of}
 use Rattle.wasm_syntax.specs.Tree.{Jump, Unreachable, Br, BrIf, BrTable, Return, Call, CallIndirect, Nodes, stop, basic, jump, block, loop, choose, IsTree}
 use Rattle.wasm_syntax.specs.Module.{type_at, function_types, option_then}
 use Rattle.wasm_syntax.specs.Effect.{takes}
 use Rattle.wasm_syntax.specs.Machine.{result_of, zero_of}
-use Rattle.wasm_syntax.specs.Typing.{◌⇒◌, BasicTypes, JumpTypes, Types}
+use Rattle.wasm_syntax.specs.Typing.{BasicTypes, JumpTypes, Types}
 use Rattle.rewrite_bodies.specs.Numbering.{import_count, mapped, frame_import, flag_of, doubles}
 use Rattle.wasm_syntax.specs.Run.{table_min}
+use Rattle.wasm_syntax.specs.calls.Classes.{Risky}
 use Rattle.int_ops.specs.declared.operators.Binary.TheVariants.{Add}
-use Rattle.rewrite_bodies.specs.Slots.{Place, place_type, Ctx, kind_at, offset_at, less, pushed, grown, under, result_place, freed, after_plain, behind_call}
-use Rattle.rewrite_bodies.specs.Pieces.{get, set, const, i32, call, if_any, load, keep, store, reload, drops}
-use Rattle.rewrite_bodies.specs.Guards.{can_trap, kind}
-use Rattle.rewrite_bodies.specs.Rewrite.{guarded, tested, free, plain, with_result, after_direct, call_code, helper_of, hand_top, test_flag, test_both, past_shown, indirect_code, control, rewrite, hand_locals, zero_result, raise_flag, exit_code, body, unwind_kind}
+use Rattle.rewrite_bodies.specs.calls.Slots.{Place, place_type, Ctx, kind_at, offset_at, less, pushed, grown, under, result_place, freed, after_plain, behind_call, Landing, behind_jump, freed_at, local_written}
+use Rattle.rewrite_bodies.specs.calls.Pieces.{get, set, const, i32, call, if_any, load, keep, store, reload, drops}
+use Rattle.rewrite_bodies.specs.calls.Guards.{can_trap, kind, guard}
+use Rattle.rewrite_bodies.specs.calls.Rewrite.{guarded, tested, free, plain, with_result, after_direct, call_code, helper_of, hand_top, test_flag, test_both, past_shown, indirect_code, control, rewrite, hand_locals, zero_result, raise_flag, exit_code, body, unwind_kind, checked, hand, hand_carried, landing_code, nested, laid, free_at}
 use Rattle.rewrite_bodies.specs.calls.Agreement.{FitsIn, Room_call, Room}
-use Rattle.rewrite_bodies.specs.Offsets.{SmallOffset}
 use Rattle.rewrite_bodies.specs.calls.Typed.{Info, in_block, in_loop, in_body, original}
-use Rattle.rewrite_bodies.specs.calls.Length.{basic_length, jump_length, else_length, code_length, node_weight, live_weight, FewNumbers, BodyShort}
-use Rattle.rewrite_bodies.proofs.Sim.{grown-append, takes_three}
+use Rattle.rewrite_bodies.specs.calls.Length.{basic_length, jump_length, else_length, code_length, node_weight, live_weight, FewNumbers, BodyShort, long_guard}
+use Rattle.rewrite_bodies.proofs.Sim.{grown-append}
 use Rattle.rewrite_bodies.proofs.Unwind.{less_shorter}
-use Rattle.rewrite_bodies.proofs.TypedNodes.{cuts, grown_types, takes_of, own_behind, behind_types, result_is, without_types}
+use Rattle.rewrite_bodies.proofs.TypedNodes.{cuts, grown_types, takes_of, own_behind, behind_types, result_is, without_types, AllFine, all_fine_landed, fine_landings}
 use Rattle.rewrite_bodies.proofs.Copies.{Fixed, fixed_under, without_append}
 use Rattle.wasm_laws.proofs.Safe.{one_result}
-use Rattle.rewrite_bodies.proofs.Lengths.{len_const, len_call, len_global_set, costs_twice, known, known-append, known_parts, known_grown, known_pushed, known_without, length_parts, len_get, len_fetched, len_load, len_hand_value, len_store, len_keep, len_keep_result, len_reload, len_drops, len_spill, len_unwind_kind, len_test_flag, len_test_both, len_guard, len_kind, len_set}
-use Rattle.pm_text.proofs.Lists.{some_is}
+use Rattle.rewrite_bodies.proofs.Lengths.{len_const, len_call, len_global_set, costs_twice, known, known-append, known_parts, known_grown, known_pushed, known_without, length_parts, len_get, len_fetched, len_load, len_hand_value, len_store, len_keep, len_keep_result, len_reload, len_drops, len_spill, len_unwind_kind, len_test_flag, len_test_both, len_guard, len_kind, len_set, len_branch, len_hand, len_landing}
 use Rattle.wasm_leb.proofs.Lengths.{ten_bytes}
+use Rattle.rewrite_bodies.proofs.Risks.{risk_of, Treated, gets, sets, tees, constant, spills, treated}
 
 -- so many are there to be taken
 taken_all : (n : ℕ) (own js : List Place) (taken below : List ValType) → length taken ≡ n → map place_type own ≡ taken ++ below → n ≤ length (take n (own ++ js))
@@ -46,14 +47,14 @@ taken_all (suc k) (p ∷ own) js (t ∷ ts) below n e =
 module _ (C : Ctx) (few : FewNumbers C) where
   -- the rewritten code behind these places takes at most the weight, and twelve bytes more for each operand of its own that is in no slot
   abbrev Short : List Info → List Place → List Place → Nodes → Type 0
-  Short ls own js rest = code_length (rewrite C (length ls) (own ++ js) rest) ≤ live_weight C (own ++ js) rest + 12 * known own
+  Short ls own js rest = code_length (rewrite C (length ls) (own ++ js) rest) + charged C (own ++ js) rest ≤ live_weight C (own ++ js) rest + 12 * known own
 
   abbrev Rest : List Info → List Place → Nodes → List ValType → Type 0
   Rest ls js rest between = (own : List Place) → map place_type own ≡ between → Room C (own ++ js) rest → Short ls own js rest
 
   -- the same, where the places are given by what was taken and added
   abbrev Behind : List Info → List Place → Nodes → ℕ → Type 0
-  Behind ls es rest k = code_length (rewrite C (length ls) es rest) ≤ live_weight C es rest + 12 * k
+  Behind ls es rest k = code_length (rewrite C (length ls) es rest) + charged C es rest ≤ live_weight C es rest + 12 * k
 
   behind : (ls : List Info) (own js : List Place) (n : ℕ) (r : Option ValType) (own1 : List Place) (rest : Nodes) (between : List ValType) → less n (own ++ js) ≡ own1 ++ js → map place_type (grown r own1) ≡ between → Room C (grown r (less n (own ++ js))) rest → Rest ls js rest between → (k : ℕ) × (k + known (take n (own ++ js)) ≤ known own) × Behind ls (grown r (less n (own ++ js))) rest k
   behind ls own js n r own1 rest between left ty rm ih =
@@ -62,66 +63,43 @@ module _ (C : Ctx) (few : FewNumbers C) where
       let kg = known_grown r own1 in (
         known own1,
         omega (arith, known_parts n (own ++ js), ap known left, known-append own1 js, known-append own js),
-        subst (λ z. Behind ls z rest (known own1)) (sym conv) (subst (λ k. code_length (rewrite C (length ls) (grown r own1 ++ js) rest) ≤ live_weight C (grown r own1 ++ js) rest + 12 * k) kg x),
+        subst (λ z. Behind ls z rest (known own1)) (sym conv) (subst (λ k. code_length (rewrite C (length ls) (grown r own1 ++ js) rest) + charged C (grown r own1 ++ js) rest ≤ live_weight C (grown r own1 ++ js) rest + 12 * k) kg x),
       )
 
-  guarded_short : (d : ℕ) (es : List Place) (o : ℕ) (i : Basic) (k : Nodes) (q : Bool) → length es ≤ C.slots → code_length (guarded q C d es o i k) ≤ 153 + 16 * length es + code_length k
-  guarded_short d es o i k false le = omega arith
-  guarded_short d es o i k true le =
-      let a = len_guard C few i es (tested C d es o (kind C i es) k) le in
-      let b = len_kind C few i es (unwind_kind C d es o) le in
+  checked_short : (q : Option ℕ) (d : ℕ) (es : List Place) (o : ℕ) (i : Basic) (k : Nodes) → Risky i → length es ≤ C.slots → code_length (checked q C d es o (guard C i es) (kind C i es) k) + charge q (landing_of i es) ≤ 153 + 16 * length es + code_length k
+  checked_short None d es o i k r le =
+      let a = len_guard C few i r es (tested C d es o (kind C i es) k) le in
+      let b = len_kind C few i r es (unwind_kind C d es o) le in
       let c = len_unwind_kind C few d es o le in
       omega (arith, a, b, c)
+  checked_short (Some n) d es o i k r le =
+      let a = len_landing C few d n o es (guard C i es) (kind C i es) k 83 (λ k. len_guard C few i r es k le) in
+      let b = charge_low (Some n) (one_kind i) es in
+      omega (arith, a, b)
 
-  freed_short : (d : ℕ) (es left : List Place) (o : ℕ) (i : Basic) (k : Nodes) → length es ≤ C.slots → length left ≤ length es → code_length (guarded (can_trap i) C d es o i (free C i left k)) ≤ 153 + 16 * length es + code_length k
-  freed_short d es left o (LocalSet x) k le ll = let a = len_spill C few (λ y. x == y) left k (omega (arith, le, ll)) in omega (arith, a, ll)
-  freed_short d es left o (LocalTee x) k le ll = let a = len_spill C few (λ y. x == y) left k (omega (arith, le, ll)) in omega (arith, a, ll)
-  freed_short d es left o Nop k le ll = guarded_short d es o Nop k (can_trap Nop) le
-  freed_short d es left o Drop k le ll = guarded_short d es o Drop k (can_trap Drop) le
-  freed_short d es left o Select k le ll = guarded_short d es o Select k (can_trap Select) le
-  freed_short d es left o (LocalGet x) k le ll = guarded_short d es o (LocalGet x) k (can_trap (LocalGet x)) le
-  freed_short d es left o (GlobalGet x) k le ll = guarded_short d es o (GlobalGet x) k (can_trap (GlobalGet x)) le
-  freed_short d es left o (GlobalSet x) k le ll = guarded_short d es o (GlobalSet x) k (can_trap (GlobalSet x)) le
-  freed_short d es left o (Load l al of) k le ll = guarded_short d es o (Load l al of) k (can_trap (Load l al of)) le
-  freed_short d es left o (Store l al of) k le ll = guarded_short d es o (Store l al of) k (can_trap (Store l al of)) le
-  freed_short d es left o MemorySize k le ll = guarded_short d es o MemorySize k (can_trap MemorySize) le
-  freed_short d es left o MemoryGrow k le ll = guarded_short d es o MemoryGrow k (can_trap MemoryGrow) le
-  freed_short d es left o MemoryCopy k le ll = guarded_short d es o MemoryCopy k (can_trap MemoryCopy) le
-  freed_short d es left o MemoryFill k le ll = guarded_short d es o MemoryFill k (can_trap MemoryFill) le
-  freed_short d es left o (Const v) k le ll = guarded_short d es o (Const v) k (can_trap (Const v)) le
-  freed_short d es left o (Eqz u) k le ll = guarded_short d es o (Eqz u) k (can_trap (Eqz u)) le
-  freed_short d es left o (Unary u p) k le ll = guarded_short d es o (Unary u p) k (can_trap (Unary u p)) le
-  freed_short d es left o (Compare u p) k le ll = guarded_short d es o (Compare u p) k (can_trap (Compare u p)) le
-  freed_short d es left o (Binary u p) k le ll = guarded_short d es o (Binary u p) k (can_trap (Binary u p)) le
-  freed_short d es left o (Convert c) k le ll = guarded_short d es o (Convert c) k (can_trap (Convert c)) le
-  freed_short d es left o (Extend32 c) k le ll = guarded_short d es o (Extend32 c) k (can_trap (Extend32 c)) le
-  freed_short d es left o (Extend64 c) k le ll = guarded_short d es o (Extend64 c) k (can_trap (Extend64 c)) le
+  guarded_short : (d : ℕ) (es : List Place) (o : ℕ) (i : Basic) (k : Nodes) (q : Bool) → can_trap i ≡ q → length es ≤ C.slots → code_length (guarded q C d es o i k) + charge_at C i es ≤ 153 + 16 * length es + code_length k
+  guarded_short d es o i k false t le = let a = charge_low (number_in C.landings (landing_of i es)) (one_kind i) es in omega (arith, a)
+  guarded_short d es o i k true t le = checked_short (number_in C.landings (landing_of i es)) d es o i k (risk_of i t) le
+
+  freed_as : (i : Basic) → Treated i → (d : ℕ) (es left : List Place) (o : ℕ) (k : Nodes) → length es ≤ C.slots → length left ≤ length es → code_length (guarded (can_trap i) C d es o i (free C i left k)) + charge_at C i es ≤ 153 + 16 * length es + code_length k
+  freed_as i (sets x) d es left o k le ll = let a = len_spill C few (λ y. x == y) left k (omega (arith, le, ll)) in omega (arith, a, ll)
+  freed_as i (tees x) d es left o k le ll = let a = len_spill C few (λ y. x == y) left k (omega (arith, le, ll)) in omega (arith, a, ll)
+  freed_as i (gets x) d es left o k le ll = guarded_short d es o (LocalGet x) k (can_trap (LocalGet x)) refl le
+  freed_as i (constant v) d es left o k le ll = guarded_short d es o (Const v) k (can_trap (Const v)) refl le
+  freed_as i (spills none no_local given) d es left o k le ll =
+      subst (λ (x : Option ℕ). code_length (guarded (can_trap i) C d es o i (free_at C x left k)) + charge_at C i es ≤ 153 + 16 * length es + code_length k) (sym none) (guarded_short d es o i k (can_trap i) refl le)
+
+  freed_short : (d : ℕ) (es left : List Place) (o : ℕ) (i : Basic) (k : Nodes) → length es ≤ C.slots → length left ≤ length es → code_length (guarded (can_trap i) C d es o i (free C i left k)) + charge_at C i es ≤ 153 + 16 * length es + code_length k
+  freed_short d es left o i k le ll = freed_as i (treated i) d es left o k le ll
 
   known_freed : (i : Basic) (es : List Place) → known (freed i es) ≤ known es
-  known_freed (LocalSet x) es = known_without (λ y. x == y) es
-  known_freed (LocalTee x) es = known_without (λ y. x == y) es
-  known_freed Nop es = omega arith
-  known_freed Drop es = omega arith
-  known_freed Select es = omega arith
-  known_freed (LocalGet x) es = omega arith
-  known_freed (GlobalGet x) es = omega arith
-  known_freed (GlobalSet x) es = omega arith
-  known_freed (Load l al o) es = omega arith
-  known_freed (Store l al o) es = omega arith
-  known_freed MemorySize es = omega arith
-  known_freed MemoryGrow es = omega arith
-  known_freed MemoryCopy es = omega arith
-  known_freed MemoryFill es = omega arith
-  known_freed (Const v) es = omega arith
-  known_freed (Eqz u) es = omega arith
-  known_freed (Unary u op) es = omega arith
-  known_freed (Compare u op) es = omega arith
-  known_freed (Binary u op) es = omega arith
-  known_freed (Convert k) es = omega arith
-  known_freed (Extend32 k) es = omega arith
-  known_freed (Extend64 k) es = omega arith
+  known_freed i es = by_local (local_written i)
+    where
+      by_local : (o : Option ℕ) → known (freed_at o es) ≤ known es
+      by_local None = omega arith
+      by_local (Some x) = known_without (λ y. x == y) es
 
-  plain_short : (ls : List Info) (i : Basic) (own js : List Place) (o : ℕ) (rest : Nodes) (between : List ValType) → Fixed js → BasicTypes (original C ls) i (map place_type own) between → Room C (own ++ js) (basic o i rest) → Rest ls js rest between → code_length (plain C (length ls) (own ++ js) o i (λ es'. rewrite C (length ls) es' rest)) ≤ live_weight C (own ++ js) (basic o i rest) + 12 * known own
+  plain_short : (ls : List Info) (i : Basic) (own js : List Place) (o : ℕ) (rest : Nodes) (between : List ValType) → Fixed js → BasicTypes (original C ls) i (map place_type own) between → Room C (own ++ js) (basic o i rest) → Rest ls js rest between → code_length (plain C (length ls) (own ++ js) o i (λ es'. rewrite C (length ls) es' rest)) + charged C (own ++ js) (basic o i rest) ≤ live_weight C (own ++ js) (basic o i rest) + 12 * known own
   plain_short ls i own js o rest between f h rm ih =
       let es = own ++ js in
       let d = length ls in
@@ -132,7 +110,7 @@ module _ (C : Ctx) (few : FewNumbers C) where
       let own2 = pushed p (freed i T.own1) in
       let conv : after_plain C es i ≡ own2 ++ js = own_behind C i own js T.own1 T.left f in
       let k = rewrite C d (after_plain C es i) rest in
-      let x : code_length k ≤ live_weight C (after_plain C es i) rest + 12 * known own2 = subst (λ z. code_length (rewrite C d z rest) ≤ live_weight C z rest + 12 * known own2) (sym conv) (ih own2 (behind_types C es i T.own1 ∙ T.after) (subst (λ z. Room C z rest) conv rm.3)) in
+      let x : code_length k + charged C (after_plain C es i) rest ≤ live_weight C (after_plain C es i) rest + 12 * known own2 = subst (λ z. code_length (rewrite C d z rest) + charged C z rest ≤ live_weight C z rest + 12 * known own2) (sym conv) (ih own2 (behind_types C es i T.own1 ∙ T.after) (subst (λ z. Room C z rest) conv rm.3)) in
       let less_ : length left ≤ length es = less_shorter n es in
       let a = freed_short d es left o i (basic 0 i (keep C p left k)) rm.0 less_ in
       let b = len_keep C few p left k (subst (λ z. FitsIn C z left) (sym (result_is C es i)) rm.2) in
@@ -142,7 +120,15 @@ module _ (C : Ctx) (few : FewNumbers C) where
 
   -- ---- calls
 
-  after_short : (ls : List Info) (q : Bool) (r : Option ValType) (left : List Place) (o : ℕ) (rest : Nodes) → length left ≤ C.slots → FitsIn C r left → code_length (after_direct q C (length ls) r left o (λ es'. rewrite C (length ls) es' rest)) ≤ 62 + 16 * length left + code_length (rewrite C (length ls) (grown r left) rest)
+  abbrev behind_if : Bool → List Place → ℕ
+  behind_if true left = 0
+  behind_if false left = charge_behind C left
+
+  call_charge : (q : Bool) (type : FuncType) (es : List Place) → charge_call q C (Some type) es ≡ behind_if q (less (length type.params) es)
+  call_charge true type es = refl
+  call_charge false type es = refl
+
+  after_short : (ls : List Info) (q : Bool) (r : Option ValType) (left : List Place) (o : ℕ) (rest : Nodes) → length left ≤ C.slots → FitsIn C r left → code_length (after_direct q C (length ls) r left o (λ es'. rewrite C (length ls) es' rest)) + behind_if q left ≤ 78 + 16 * length left + code_length (rewrite C (length ls) (grown r left) rest)
   after_short ls true r left o rest le fit = let a = len_keep_result C few r left (rewrite C (length ls) (grown r left) rest) fit in omega (arith, a)
   after_short ls false r left o rest le fit =
       let k = rewrite C (length ls) (grown r left) rest in
@@ -150,7 +136,7 @@ module _ (C : Ctx) (few : FewNumbers C) where
       let b = len_test_flag C few (length ls) left o k le in
       omega (arith, a, b)
 
-  call_short : (ls : List Info) (f : ℕ) (own js : List Place) (o : ℕ) (rest : Nodes) (between : List ValType) → ((type : FuncType) → type_at C.source f ≡ Some type → reverse type.results ≡ option_to_list (result_of type)) → JumpTypes (original C ls) (Call f) (map place_type own) between → Room C (own ++ js) (jump o (Call f) rest) → Rest ls js rest between → code_length (call_code C (length ls) (own ++ js) o f (type_at C.source f) (λ es'. rewrite C (length ls) es' rest)) ≤ live_weight C (own ++ js) (jump o (Call f) rest) + 12 * known own
+  call_short : (ls : List Info) (f : ℕ) (own js : List Place) (o : ℕ) (rest : Nodes) (between : List ValType) → ((type : FuncType) → type_at C.source f ≡ Some type → reverse type.results ≡ option_to_list (result_of type)) → JumpTypes (original C ls) (Call f) (map place_type own) between → Room C (own ++ js) (jump o (Call f) rest) → Rest ls js rest between → code_length (call_code C (length ls) (own ++ js) o f (type_at C.source f) (λ es'. rewrite C (length ls) es' rest)) + charged C (own ++ js) (jump o (Call f) rest) ≤ live_weight C (own ++ js) (jump o (Call f) rest) + 12 * known own
   call_short ls f own js o rest between one h rm ih =
       let type = h.0 in
       let es = own ++ js in
@@ -169,15 +155,16 @@ module _ (C : Ctx) (few : FewNumbers C) where
       let b = len_call (mapped C.source f) code in
       let e = after_short ls q r left o rest low room.0 in
       let g = length_parts n es in
-      let all : code_length (call_code C d es o f (Some type) (λ es'. rewrite C d es' rest)) ≤ node_weight (jump_length (Call f)) (length es) + live_weight C (grown r left) rest + 12 * known own = omega (arith, x.1, x.2, b, e, g) in
-      subst (λ q. code_length (call_code C d es o f q (λ es'. rewrite C d es' rest)) ≤ node_weight (jump_length (Call f)) (length es) + behind_call q es (λ es'. live_weight C es' rest) + 12 * known own) (sym h.1) all
+      let cc_ = call_charge q type es in
+      let all : code_length (call_code C d es o f (Some type) (λ es'. rewrite C d es' rest)) + (charge_call q C (Some type) es + charged C (grown r left) rest) ≤ node_weight (jump_length (Call f)) (length es) + live_weight C (grown r left) rest + 12 * known own = omega (arith, x.1, x.2, b, e, g, cc_) in
+      subst (λ y. code_length (call_code C d es o f y (λ es'. rewrite C d es' rest)) + (charge_call q C y es + behind_call y es (λ es'. charged C es' rest)) ≤ node_weight (jump_length (Call f)) (length es) + behind_call y es (λ es'. live_weight C es' rest) + 12 * known own) (sym h.1) all
 
   -- the index of an entry is moved
   len_past : (q : Bool) (k : Nodes) → code_length (past_shown q C k) ≤ 12 + code_length k
   len_past false k = omega arith
   len_past true k = let a = len_const (i32 (table_min C.source.tables)) (basic 0 (Binary I32 Add) k) in omega (arith, a)
 
-  indirect_short : (ls : List Info) (t : ℕ) (own js : List Place) (o : ℕ) (rest : Nodes) (between : List ValType) → ((type : FuncType) → slice_get C.source.types t ≡ Some type → reverse type.results ≡ option_to_list (result_of type)) → JumpTypes (original C ls) (CallIndirect t) (map place_type own) between → Room C (own ++ js) (jump o (CallIndirect t) rest) → Rest ls js rest between → code_length (indirect_code C (length ls) (own ++ js) o t (slice_get C.source.types t) (λ es'. rewrite C (length ls) es' rest)) ≤ live_weight C (own ++ js) (jump o (CallIndirect t) rest) + 12 * known own
+  indirect_short : (ls : List Info) (t : ℕ) (own js : List Place) (o : ℕ) (rest : Nodes) (between : List ValType) → ((type : FuncType) → slice_get C.source.types t ≡ Some type → reverse type.results ≡ option_to_list (result_of type)) → JumpTypes (original C ls) (CallIndirect t) (map place_type own) between → Room C (own ++ js) (jump o (CallIndirect t) rest) → Rest ls js rest between → code_length (indirect_code C (length ls) (own ++ js) o t (slice_get C.source.types t) (λ es'. rewrite C (length ls) es' rest)) + charged C (own ++ js) (jump o (CallIndirect t) rest) ≤ live_weight C (own ++ js) (jump o (CallIndirect t) rest) + 12 * known own
   indirect_short ls t [] js o rest between one h rm ih = absurd (let e : [] ≡ I32 ∷ (reverse h.0.params ++ h.3.below) = h.3.takes in cc)
   indirect_short ls t (p ∷ own) js o rest between one h rm ih =
       let type = h.0 in
@@ -216,10 +203,10 @@ module _ (C : Ctx) (few : FewNumbers C) where
       let a11 = len_reload C few r left k room.0 in
       let g = length_parts (suc n) (p ∷ es) in
       let all_taken : suc n ≤ length T = taken_all (suc n) (p ∷ own) js (I32 ∷ reverse type.params) h.3.below (ap suc (length-reverse type.params)) e0 in
-      let all : code_length (indirect_code C d (p ∷ es) o t (Some type) (λ es'. rewrite C d es' rest)) ≤ node_weight (jump_length (CallIndirect t)) (length (p ∷ es)) + live_weight C (grown r left) rest + 12 * known (p ∷ own) = omega (arith, x.1, x.2, a1, a2, a3, a4, a5, a6, a7, a8, a9, a10, a11, a12, g, all_taken) in
-      subst (λ q. code_length (indirect_code C d (p ∷ es) o t q (λ es'. rewrite C d es' rest)) ≤ node_weight (jump_length (CallIndirect t)) (length (p ∷ es)) + behind_call q es (λ es'. live_weight C es' rest) + 12 * known (p ∷ own)) (sym h.2) all
+      let all : code_length (indirect_code C d (p ∷ es) o t (Some type) (λ es'. rewrite C d es' rest)) + (0 + charged C (grown r left) rest) ≤ node_weight (jump_length (CallIndirect t)) (length (p ∷ es)) + live_weight C (grown r left) rest + 12 * known (p ∷ own) = omega (arith, x.1, x.2, a1, a2, a3, a4, a5, a6, a7, a8, a9, a10, a11, a12, g, all_taken) in
+      subst (λ q. code_length (indirect_code C d (p ∷ es) o t q (λ es'. rewrite C d es' rest)) + (0 + behind_call q es (λ es'. charged C es' rest)) ≤ node_weight (jump_length (CallIndirect t)) (length (p ∷ es)) + behind_call q es (λ es'. live_weight C es' rest) + 12 * known (p ∷ own)) (sym h.2) all
 
-  branch_if_short : (ls : List Info) (l : ℕ) (own js : List Place) (o : ℕ) (rest : Nodes) (between : List ValType) → JumpTypes (original C ls) (BrIf l) (map place_type own) between → Room C (own ++ js) (jump o (BrIf l) rest) → Rest ls js rest between → code_length (jump 0 (BrIf l) (rewrite C (length ls) (less 1 (own ++ js)) rest)) ≤ live_weight C (own ++ js) (jump o (BrIf l) rest) + 12 * known own
+  branch_if_short : (ls : List Info) (l : ℕ) (own js : List Place) (o : ℕ) (rest : Nodes) (between : List ValType) → JumpTypes (original C ls) (BrIf l) (map place_type own) between → Room C (own ++ js) (jump o (BrIf l) rest) → Rest ls js rest between → code_length (jump 0 (BrIf l) (rewrite C (length ls) (less 1 (own ++ js)) rest)) + charged C (own ++ js) (jump o (BrIf l) rest) ≤ live_weight C (own ++ js) (jump o (BrIf l) rest) + 12 * known own
   branch_if_short ls l [] js o rest between h rm ih = absurd (let e : [] ≡ I32 ∷ (h.0 ++ h.2.below) = h.2.takes in cc)
   branch_if_short ls l (p ∷ own) js o rest between h rm ih =
       let e : place_type p ∷ map place_type own ≡ I32 ∷ (h.0 ++ h.2.below) = h.2.takes in
@@ -228,7 +215,7 @@ module _ (C : Ctx) (few : FewNumbers C) where
       omega (arith, x)
 
   module _ (one : (f : ℕ) (type : FuncType) → type_at C.source f ≡ Some type → reverse type.results ≡ option_to_list (result_of type)) (one_of : (t : ℕ) (type : FuncType) → slice_get C.source.types t ≡ Some type → reverse type.results ≡ option_to_list (result_of type)) where
-    control_short : (ls : List Info) (j : Jump) (own js : List Place) (o : ℕ) (rest : Nodes) (between : List ValType) → JumpTypes (original C ls) j (map place_type own) between → Room C (own ++ js) (jump o j rest) → Rest ls js rest between → code_length (control C (length ls) (own ++ js) o j (λ es'. rewrite C (length ls) es' rest)) ≤ live_weight C (own ++ js) (jump o j rest) + 12 * known own
+    control_short : (ls : List Info) (j : Jump) (own js : List Place) (o : ℕ) (rest : Nodes) (between : List ValType) → JumpTypes (original C ls) j (map place_type own) between → Room C (own ++ js) (jump o j rest) → Rest ls js rest between → code_length (control C (length ls) (own ++ js) o j (λ es'. rewrite C (length ls) es' rest)) + charged C (own ++ js) (jump o j rest) ≤ live_weight C (own ++ js) (jump o j rest) + 12 * known own
     control_short ls Unreachable own js o rest between h rm ih =
         let arm = unwind_kind C (length ls) (own ++ js) o in
         let a = len_const (i32 1) (tested C (length ls) (own ++ js) o (const (i32 1)) (jump 0 Unreachable stop)) in
@@ -243,7 +230,7 @@ module _ (C : Ctx) (few : FewNumbers C) where
     control_short ls (CallIndirect t) own js o rest between h rm ih = indirect_short ls t own js o rest between (one_of t) h rm ih
 
     -- behind a block
-    block_behind : (ls : List Info) (t : Option ValType) (own js : List Place) (rest : Nodes) (before : List ValType) → map place_type own ≡ before → FitsIn C t (own ++ js) → Room C (grown t (own ++ js)) rest → Rest ls js rest (option_to_list t ++ before) → code_length (with_result C t (own ++ js) (λ es'. rewrite C (length ls) es' rest)) ≤ 5 + live_weight C (grown t (own ++ js)) rest + 12 * known own
+    block_behind : (ls : List Info) (t : Option ValType) (own js : List Place) (rest : Nodes) (before : List ValType) → map place_type own ≡ before → FitsIn C t (own ++ js) → Room C (grown t (own ++ js)) rest → Rest ls js rest (option_to_list t ++ before) → code_length (with_result C t (own ++ js) (λ es'. rewrite C (length ls) es' rest)) + charged C (grown t (own ++ js)) rest ≤ 5 + live_weight C (grown t (own ++ js)) rest + 12 * known own
     block_behind ls t own js rest before e fit rm ih =
         let x = behind ls own js 0 t own rest (option_to_list t ++ before) refl (grown_types t own before e) rm ih in
         let a = len_keep_result C few t (own ++ js) (rewrite C (length ls) (grown t (own ++ js)) rest) fit in
@@ -269,8 +256,8 @@ module _ (C : Ctx) (few : FewNumbers C) where
         let code = λ (x : List Place). block 0 t (rewrite C (suc (length ls)) x inner) 0 (with_result C t x (λ es'. rewrite C (length ls) es' rest)) in
         let s = len_spill C few (λ x. true) es (code (under es)) rm.0 in
         let ku = known_without (λ x. true) own in
-        let c : code_length (code (under es)) ≤ 8 + live_weight C (under es) inner + live_weight C (grown t (under es)) rest + 12 * known own =
-        subst (λ x. code_length (code x) ≤ 8 + live_weight C x inner + live_weight C (grown t x) rest + 12 * known own) (sym sp) (omega (arith, a, b, ku)) in
+        let c : code_length (code (under es)) + (charged C (under es) inner + charged C (grown t (under es)) rest) ≤ 8 + live_weight C (under es) inner + live_weight C (grown t (under es)) rest + 12 * known own =
+        subst (λ x. code_length (code x) + (charged C x inner + charged C (grown t x) rest) ≤ 8 + live_weight C x inner + live_weight C (grown t x) rest + 12 * known own) (sym sp) (omega (arith, a, b, ku)) in
         omega (arith, s, c)
     rewrite_short (loop o t inner end rest) ls own js before z it f e rm ty =
         let es = own ++ js in
@@ -282,8 +269,8 @@ module _ (C : Ctx) (few : FewNumbers C) where
         let code = λ (x : List Place). loop 0 t (rewrite C (suc (length ls)) x inner) 0 (with_result C t x (λ es'. rewrite C (length ls) es' rest)) in
         let s = len_spill C few (λ x. true) es (code (under es)) rm.0 in
         let ku = known_without (λ x. true) own in
-        let c : code_length (code (under es)) ≤ 8 + live_weight C (under es) inner + live_weight C (grown t (under es)) rest + 12 * known own =
-        subst (λ x. code_length (code x) ≤ 8 + live_weight C x inner + live_weight C (grown t x) rest + 12 * known own) (sym sp) (omega (arith, a, b, ku)) in
+        let c : code_length (code (under es)) + (charged C (under es) inner + charged C (grown t (under es)) rest) ≤ 8 + live_weight C (under es) inner + live_weight C (grown t (under es)) rest + 12 * known own =
+        subst (λ x. code_length (code x) + (charged C x inner + charged C (grown t x) rest) ≤ 8 + live_weight C x inner + live_weight C (grown t x) rest + 12 * known own) (sym sp) (omega (arith, a, b, ku)) in
         omega (arith, s, c)
     rewrite_short (choose o t x ea y end rest) ls [] js before z it f e rm ty = absurd (let q : [] ≡ I32 ∷ ty.2 = e ∙ ty.3 in cc)
     rewrite_short (choose o t x None y end rest) ls (p ∷ own) js before z it f e rm ty =
@@ -300,10 +287,10 @@ module _ (C : Ctx) (few : FewNumbers C) where
         let code = λ (n : Nodes) (v : List Place). choose 0 t (rewrite C (suc d) v x) None (rewrite C (suc d) v n) 0 (with_result C t v (λ es'. rewrite C d es' rest)) in
         let s = len_spill C few (λ x. true) es (code y (under es)) low in
         let ku = known_without (λ x. true) own in
-        let g0 : code_length (code stop (under es)) ≤ 8 + live_weight C (under es) x + live_weight C (grown t (under es)) rest + 12 * known own =
-        subst (λ v. code_length (code stop v) ≤ 8 + live_weight C v x + live_weight C (grown t v) rest + 12 * known own) (sym sp) (omega (arith, a, c, ku)) in
-        let g : code_length (code y (under es)) ≤ 8 + live_weight C (under es) x + live_weight C (grown t (under es)) rest + 12 * known own =
-        subst (λ n. code_length (code n (under es)) ≤ 8 + live_weight C (under es) x + live_weight C (grown t (under es)) rest + 12 * known own) (sym it.1) g0 in
+        let g0 : code_length (code stop (under es)) + (charged C (under es) x + charged C (under es) stop + charged C (grown t (under es)) rest) ≤ 8 + live_weight C (under es) x + live_weight C (grown t (under es)) rest + 12 * known own =
+        subst (λ v. code_length (code stop v) + (charged C v x + charged C v stop + charged C (grown t v) rest) ≤ 8 + live_weight C v x + live_weight C (grown t v) rest + 12 * known own) (sym sp) (omega (arith, a, c, ku)) in
+        let g : code_length (code y (under es)) + (charged C (under es) x + charged C (under es) y + charged C (grown t (under es)) rest) ≤ 8 + live_weight C (under es) x + live_weight C (grown t (under es)) rest + 12 * known own =
+        subst (λ n. code_length (code n (under es)) + (charged C (under es) x + charged C (under es) n + charged C (grown t (under es)) rest) ≤ 8 + live_weight C (under es) x + live_weight C (grown t (under es)) rest + 12 * known own) (sym it.1) g0 in
         let one_ = known-append (p ∷ []) own in
         omega (arith, s, g, one_)
     rewrite_short (choose o t x (Some els) y end rest) ls (p ∷ own) js before z it f e rm ty =
@@ -321,8 +308,8 @@ module _ (C : Ctx) (few : FewNumbers C) where
         let code = λ (v : List Place). choose 0 t (rewrite C (suc d) v x) (Some 0) (rewrite C (suc d) v y) 0 (with_result C t v (λ es'. rewrite C d es' rest)) in
         let s = len_spill C few (λ x. true) es (code (under es)) low in
         let ku = known_without (λ x. true) own in
-        let g : code_length (code (under es)) ≤ 9 + live_weight C (under es) x + live_weight C (under es) y + live_weight C (grown t (under es)) rest + 12 * known own =
-        subst (λ v. code_length (code v) ≤ 9 + live_weight C v x + live_weight C v y + live_weight C (grown t v) rest + 12 * known own) (sym sp) (omega (arith, a, b, c, ku)) in
+        let g : code_length (code (under es)) + (charged C (under es) x + charged C (under es) y + charged C (grown t (under es)) rest) ≤ 9 + live_weight C (under es) x + live_weight C (under es) y + live_weight C (grown t (under es)) rest + 12 * known own =
+        subst (λ v. code_length (code v) + (charged C v x + charged C v y + charged C (grown t v) rest) ≤ 9 + live_weight C v x + live_weight C v y + live_weight C (grown t v) rest + 12 * known own) (sym sp) (omega (arith, a, b, c, ku)) in
         let one_ = known-append (p ∷ []) own in
         omega (arith, s, g, one_)
 
@@ -359,10 +346,34 @@ module _ (C : Ctx) (few : FewNumbers C) where
         let i = zero_short C.result in
         omega (arith, a, b, c, d, e, f, g, h, i)
 
-    pub body_short : (nodes : Nodes) → IsTree nodes → Room C [] nodes → Types (original C (in_body C.result ∷ [])) nodes [] (option_to_list C.result) → code_length (body C nodes) ≤ live_weight C [] nodes + (192 + 16 * length C.locals)
-    body_short nodes it rm ty =
+    carried_short : (r : Option ValType) (k : Nodes) → code_length (hand_carried C r k) ≤ 5 + code_length k
+    carried_short None k = omega arith
+    carried_short (Some t) k = len_hand_value C few t k
+
+    landing_short : (n : ℕ) (x : Landing) → length x.places ≤ C.slots → code_length (landing_code C n x) ≤ 32 + 16 * length x.places
+    landing_short n x le =
+        let k2 = hand_carried C x.carried (jump 0 (Br n) stop) in
+        let k1 = hand C x.places k2 in
+        let a = len_const (i32 x.kind) (set C (kind_at C) k1) in
+        let b = len_set C few (kind_at C) k1 (omega arith) in
+        let c = len_hand C few x.places k2 le in
+        let d = carried_short x.carried (jump 0 (Br n) stop) in
+        let e = len_branch n in
+        omega (arith, a, b, c, d, e)
+
+    nested_short : (xs : List Landing) (inner : Nodes) → AllFine C xs → code_length (nested C xs inner) ≤ costs_of xs + code_length inner
+    nested_short [] inner h = omega arith
+    nested_short (x ∷ xs) inner h =
+        let a = nested_short xs (block 0 x.carried inner 0 (landing_code C (length xs) x)) h.1 in
+        let b = landing_short (length xs) x h.0.0 in
+        omega (arith, a, b)
+
+    pub laid_short : (nodes : Nodes) → AllFine C C.landings → landings_from C [] nodes [] ≡ C.landings → IsTree nodes → Room C [] nodes → Types (original C (in_body C.result ∷ [])) nodes [] (option_to_list C.result) → code_length (laid C nodes) ≤ live_weight C [] nodes + (192 + 16 * length C.locals)
+    laid_short nodes fine all it rm ty =
         let a = rewrite_short nodes (in_body C.result ∷ []) [] [] [] (option_to_list C.result) it tt refl rm ty in
-        omega (arith, a, exit_short)
+        let b = nested_short C.landings (block 0 C.result (rewrite C 1 [] nodes) 0 (jump 0 Return stop)) fine in
+        let c = all_paid C nodes all in
+        omega (arith, a, b, c, exit_short)
 
 type_in : (C : Ctx) (f : ℕ) (type : FuncType) → type_at C.source f ≡ Some type → (t : ℕ) × (slice_get C.source.types t ≡ Some type)
 type_in C f type e = inside (slice_get (function_types C.source) f) e
@@ -371,7 +382,65 @@ type_in C f type e = inside (slice_get (function_types C.source) f) e
     inside None e = absurd (cc)
     inside (Some t) e = (t, e)
 
+-- the landings and the weight do not depend on what landings are known
+module _ (C : Ctx) (ys : List Landing) where
+  same_called : (b : Bool) (o : Option FuncType) (es : List Place) (xs : List Landing) (go go' : List Place → List Landing → List Landing) → ((es' : List Place) (xs' : List Landing) → go es' xs' ≡ go' es' xs') → landings_call b o es xs go ≡ landings_call b o es xs go'
+  same_called b None es xs go go' f = refl
+  same_called b (Some type) es xs go go' f = f (grown (result_of type) (less (length type.params) es)) (landing_call b (less (length type.params) es) xs)
+
+  same_jump : (j : Jump) (es : List Place) (xs : List Landing) (go go' : List Place → List Landing → List Landing) → ((es' : List Place) (xs' : List Landing) → go es' xs' ≡ go' es' xs') → landings_jump C j es xs go ≡ landings_jump (landed C ys) j es xs go'
+  same_jump Unreachable es xs go go' f = refl
+  same_jump (Br l) es xs go go' f = refl
+  same_jump (BrIf l) es xs go go' f = f (less 1 es) xs
+  same_jump (BrTable ts d) es xs go go' f = refl
+  same_jump Return es xs go go' f = refl
+  same_jump (Call g) es xs go go' f = same_called (nat_lt g (import_count C.source)) (type_at C.source g) es xs go go' f
+  same_jump (CallIndirect t) es xs go go' f = same_called true (slice_get C.source.types t) (less 1 es) xs go go' f
+
+  same_landings : (es : List Place) (nodes : Nodes) (xs : List Landing) → landings_from C es nodes xs ≡ landings_from (landed C ys) es nodes xs
+  same_landings es stop xs = refl
+  same_landings es (basic o i rest) xs =
+      same_landings (after_plain C es i) rest (with_some (landing_of i es) xs) ∙ ap (λ z. landings_from (landed C ys) z rest (with_some (landing_of i es) xs)) (same_at C ys es i).1
+  same_landings es (jump o j rest) xs = same_jump j es xs (λ es' xs'. landings_from C es' rest xs') (λ es' xs'. landings_from (landed C ys) es' rest xs') (λ es' xs'. same_landings es' rest xs')
+  same_landings es (block o t inner end rest) xs =
+      same_landings (grown t (under es)) rest (landings_from C (under es) inner xs) ∙ ap (landings_from (landed C ys) (grown t (under es)) rest) (same_landings (under es) inner xs)
+  same_landings es (loop o t inner end rest) xs =
+      same_landings (grown t (under es)) rest (landings_from C (under es) inner xs) ∙ ap (landings_from (landed C ys) (grown t (under es)) rest) (same_landings (under es) inner xs)
+  same_landings es (choose o t a ea b end rest) xs =
+      let left = under (less 1 es) in
+      same_landings (grown t left) rest (landings_from C left b (landings_from C left a xs))
+      ∙ ap (landings_from (landed C ys) (grown t left) rest) (same_landings left b (landings_from C left a xs) ∙ ap (landings_from (landed C ys) left b) (same_landings left a xs))
+
+  same_behind : (o : Option FuncType) (es : List Place) (go go' : List Place → ℕ) → ((es' : List Place) → go es' ≡ go' es') → behind_call o es go ≡ behind_call o es go'
+  same_behind None es go go' f = refl
+  same_behind (Some type) es go go' f = f (grown (result_of type) (less (length type.params) es))
+
+  same_weights : (j : Jump) (es : List Place) (go go' : List Place → ℕ) → ((es' : List Place) → go es' ≡ go' es') → behind_jump C j es go ≡ behind_jump (landed C ys) j es go'
+  same_weights Unreachable es go go' f = refl
+  same_weights (Br l) es go go' f = refl
+  same_weights (BrIf l) es go go' f = f (less 1 es)
+  same_weights (BrTable ts d) es go go' f = refl
+  same_weights Return es go go' f = refl
+  same_weights (Call g) es go go' f = same_behind (type_at C.source g) es go go' f
+  same_weights (CallIndirect t) es go go' f = same_behind (slice_get C.source.types t) (less 1 es) go go' f
+
+  same_weight : (es : List Place) (nodes : Nodes) → live_weight C es nodes ≡ live_weight (landed C ys) es nodes
+  same_weight es stop = refl
+  same_weight es (basic o i rest) =
+      ap (λ z. node_weight (basic_length i) (length es) + long_guard i + z) (same_weight (after_plain C es i) rest ∙ ap (λ z. live_weight (landed C ys) z rest) (same_at C ys es i).1)
+  same_weight es (jump o j rest) = ap (λ z. node_weight (jump_length j) (length es) + z) (same_weights j es (λ es'. live_weight C es' rest) (λ es'. live_weight (landed C ys) es' rest) (λ es'. same_weight es' rest))
+  same_weight es (block o t inner end rest) = let a = same_weight (under es) inner in let b = same_weight (grown t (under es)) rest in omega (arith, a, b)
+  same_weight es (loop o t inner end rest) = let a = same_weight (under es) inner in let b = same_weight (grown t (under es)) rest in omega (arith, a, b)
+  same_weight es (choose o t a None b end rest) =
+      let left = under (less 1 es) in let x = same_weight left a in let z = same_weight (grown t left) rest in omega (arith, x, z)
+  same_weight es (choose o t a (Some at) b end rest) =
+      let left = under (less 1 es) in let x = same_weight left a in let y = same_weight left b in let z = same_weight (grown t left) rest in omega (arith, x, y, z)
+
 pub bodies_short : (C : Ctx) → BodyShort C
 bodies_short C nodes few results it rm ty =
     let of = λ (t : ℕ) (type : FuncType) (e : slice_get C.source.types t ≡ Some type). one_result type.results (results t type e) in
-    body_short C few (λ f type e. let t = type_in C f type e in of t.0 type t.1) of nodes it rm ty
+    let xs = landings_from C [] nodes [] in
+    let D = landed C xs in
+    let few' : FewNumbers D = record { locals = few.locals; imports = few.imports } in
+    let a : code_length (body C nodes) ≤ live_weight D [] nodes + (192 + 16 * length C.locals) = laid_short D few' (λ f type e. let t = type_in C f type e in of t.0 type t.1) of nodes (all_fine_landed C xs xs (fine_landings C [] nodes [] tt rm tt)) (sym (same_landings C xs [] nodes [])) it (room_landed C xs [] nodes rm) ty in
+    subst (λ w. code_length (body C nodes) ≤ w + (192 + 16 * length C.locals)) (sym (same_weight C xs [] nodes)) a

@@ -1,5 +1,10 @@
 pub mod Run
 pub mod Parts
+pub mod Risks
+pub mod Landed
+pub mod Laid
+pub mod OneKind
+pub mod Charges
 pub mod Guards
 pub mod Copies
 pub mod Stays

@@ -1,19 +1,19 @@
 -- Lemmas on single parts: a basic instruction under more locals and globals, results that arrive.
-use Rattle.std.proofs.Common.{◌≡◌, ℕ, zero, suc, ◌+◌, ◌*◌, ◌/◌, ◌%◌, ◌≤◌, ◌==◌, List, [], ◌∷◌, ◌++◌, length, Option, Some, None, Bool, true, false, nat_le, refl, sym, ap, ◌∙◌, subst, arith, length-append, slice_get, slice_set, if◌then◌else◌, take, drop, replicate, Result, Ok, Err, leb-true, length-drop, length-take-le}
+use Rattle.std.proofs.Common.{◌≡◌, ℕ, zero, suc, ◌+◌, ◌*◌, ◌/◌, ◌%◌, ◌≤◌, ◌==◌, List, [], ◌∷◌, ◌++◌, length, Option, Some, None, Bool, true, false, nat_le, refl, sym, ap, ◌∙◌, subst, arith, length-append, slice_get, slice_set, if◌then◌else◌, take, drop, replicate, Result, Ok, Err, leb-true, length-drop, length-take-le, subst₂}
 use Rattle.wasm_syntax.specs.declared.value.ValType.{ValType}
 use Rattle.wasm_syntax.specs.declared.value.ValType.TheVariants.{I32, I64}
 use Rattle.wasm_syntax.specs.declared.value.Value.{Value}
 use Rattle.wasm_syntax.specs.declared.value.Value.TheVariants as values
 use Rattle.wasm_syntax.specs.declared.instruction.Basic.{Basic}
-use Rattle.wasm_syntax.specs.declared.instruction.Basic.TheVariants.{Nop, Drop, Select, LocalGet, LocalSet, LocalTee, GlobalGet, GlobalSet, Load, Store, MemorySize, MemoryGrow, Const, Eqz, Unary, Compare, Binary, Convert, MemoryCopy, MemoryFill, Extend32, Extend64}
-use Rattle.wasm_syntax.specs.Numbers.{type_of, types, same_type, value, number, modulo, binary, convert_from, convert_to}
+use Rattle.wasm_syntax.specs.declared.instruction.Basic.TheVariants.{Select}
+use Rattle.wasm_syntax.specs.Numbers.{type_of, types, same_type, value, number, modulo, binary}
 use Rattle.wasm_syntax.specs.Tree.{Nodes, basic}
 use Rattle.wasm_syntax.specs.Host.{World}
 use Rattle.wasm_syntax.specs.declared.host.CollectorCall.{CollectorCall}
 use Rattle.wasm_syntax.specs.Effect.{Effect, gives, fails, unfit, effect, takes, with_globals, address}
 use Rattle.wasm_syntax.specs.Machine.{Label, label, Engine, parts, one_more, cut, exactly}
-use Rattle.rewrite_bodies.specs.Slots.{Place, Spilled, Known, Copied, place_type, Ctx, slot, added, grown, second_type, result_type}
-use Rattle.rewrite_bodies.specs.Guards.{divides, can_trap}
+use Rattle.rewrite_bodies.specs.calls.Slots.{Place, Spilled, Known, Copied, place_type, Ctx, slot, added, grown, second_type, result_type}
+use Rattle.rewrite_bodies.specs.calls.Guards.{divides, can_trap}
 use Rattle.rewrite_bodies.specs.Numbering.{global_types}
 use Rattle.linear_memory.specs.Memory.{Memory, pages, grow, to_bytes}
 use Rattle.wasm_syntax.specs.Access.{load_type, load_bits, store_type, store_bits}
@@ -31,6 +31,8 @@ use Rattle.rewrite_bodies.proofs.Run.{stored, HasPlace, if_same, slice_get-put_s
 use Rattle.int_ops.specs.Integers.{binary as int_binary}
 use Rattle.wasm_laws.proofs.Progress.{value_type, same_of}
 use Rattle.wasm_syntax.proofs.Types.{same_type_is}
+use Rattle.wasm_syntax.proofs.Classes.{OneByOne, computes, is_nop, is_drop, is_select, is_local_get, is_local_set, is_local_tee, is_global_get, is_global_set, is_load, is_store, is_size, is_grow, is_copy, is_fill, is_const, is_compare, is_binary, one_by_one}
+use Rattle.rewrite_bodies.proofs.Risks.{never_traps, result_by, result_typed}
 
 pub set-append_left : (l ex : List Value) (x : ℕ) (v w : Value) → slice_get l x ≡ Some w → slice_set (l ++ ex) x v ≡ slice_set l x v ++ ex
 set-append_left [] ex x v w e = absurd (cc)
@@ -240,40 +242,44 @@ module _ (M : Engine) (gl : List ValType) (C : Ctx) (es : List Place) (l : List 
   abbrev pub Framed : Basic → List Value → Type 0
   Framed i vs = Rel M gl (result_type C es i) (can_trap i) l ex b (effect i g l vs) (effect i (flagged M g b) (l ++ ex) vs)
 
-  pub framed : (i : Basic) (vs : List Value) → Match vs es → Framed i vs
-  framed Nop vs m = rel_none M gl None false l ex b (gives g l []) (gives (flagged M g b) (l ++ ex) []) vs (refl, refl, wf, refl)
-  framed Drop vs m = rel_any M gl None false l ex b _ _ vs (λ v. (refl, refl, wf, refl))
-  framed Select vs m = select vs m
-  framed (LocalGet x) vs m = rel_none M gl (slice_get C.locals x) false l ex b _ _ vs (local_get x (slice_get l x) refl)
-  framed (LocalSet x) vs m = rel_any M gl None false l ex b _ _ vs (λ v. local_set x v (slice_get l x) refl)
-  framed (LocalTee x) vs m = rel_any M gl (slice_get C.locals x) false l ex b _ _ vs (λ v. local_tee x v (slice_get l x) refl)
-  framed (GlobalGet x) vs m = rel_none M gl (slice_get (global_types C.source) x) false l ex b _ _ vs (global_get x (slice_get g.globals x) refl)
-  framed (GlobalSet x) vs m = rel_any M gl None false l ex b _ _ vs (λ v. global_set x v (slice_get g.globals x) refl)
-  framed (Load t align o) vs m =
+  framed_as : (i : Basic) → OneByOne i → (vs : List Value) → Match vs es → Framed i vs
+  framed_as i is_nop vs m = rel_none M gl None false l ex b (gives g l []) (gives (flagged M g b) (l ++ ex) []) vs (refl, refl, wf, refl)
+  framed_as i is_drop vs m = rel_any M gl None false l ex b _ _ vs (λ v. (refl, refl, wf, refl))
+  framed_as i is_select vs m = select vs m
+  framed_as i (is_local_get x) vs m = rel_none M gl (slice_get C.locals x) false l ex b _ _ vs (local_get x (slice_get l x) refl)
+  framed_as i (is_local_set x) vs m = rel_any M gl None false l ex b _ _ vs (λ v. local_set x v (slice_get l x) refl)
+  framed_as i (is_local_tee x) vs m = rel_any M gl (slice_get C.locals x) false l ex b _ _ vs (λ v. local_tee x v (slice_get l x) refl)
+  framed_as i (is_global_get x) vs m = rel_none M gl (slice_get (global_types C.source) x) false l ex b _ _ vs (global_get x (slice_get g.globals x) refl)
+  framed_as i (is_global_set x) vs m = rel_any M gl None false l ex b _ _ vs (λ v. global_set x v (slice_get g.globals x) refl)
+  framed_as i (is_load t align o) vs m =
       rel_one M gl (Some (load_type t)) true l ex b I32 _ _ vs (λ a. rel_some M gl (Some (load_type t)) true l ex b g.memory _ _ (λ k e.
       rel_bounds M gl (Some (load_type t)) true l ex b (memories.load k (address a o) (load_bits t / 8)) _ _ refl (λ n d. value_rel (load_type t) _ true)))
-  framed (Store t align o) vs m =
+  framed_as i (is_store t align o) vs m =
       rel_two M gl None true l ex b (store_type t) I32 _ _ vs (λ n a. rel_some M gl None true l ex b g.memory _ _ (λ k e.
       rel_bounds M gl None true l ex b (memories.put k (address a o) (to_bytes (store_bits t / 8) n)) _ _ refl (λ k' d.
       (refl, refl, record { globals = wf.globals; memory = put_keeps k k' (address a o) (to_bytes (store_bits t / 8) n) d (memory_is M gl g k wf e); table = wf.table }, refl))))
-  framed MemorySize vs m = rel_none M gl (Some I32) false l ex b _ _ vs (rel_some M gl (Some I32) false l ex b g.memory _ _ (λ k e. (refl, refl, wf, refl)))
-  framed MemoryGrow vs m = rel_one M gl (Some I32) false l ex b I32 _ _ vs (λ n. rel_some M gl (Some I32) false l ex b g.memory _ _ (λ k e. grown_rel (grow k n) k n (pages k) refl e))
-  framed MemoryCopy vs m =
+  framed_as i is_size vs m = rel_none M gl (Some I32) false l ex b _ _ vs (rel_some M gl (Some I32) false l ex b g.memory _ _ (λ k e. (refl, refl, wf, refl)))
+  framed_as i is_grow vs m = rel_one M gl (Some I32) false l ex b I32 _ _ vs (λ n. rel_some M gl (Some I32) false l ex b g.memory _ _ (λ k e. grown_rel (grow k n) k n (pages k) refl e))
+  framed_as i is_copy vs m =
       rel_three M gl None true l ex b _ _ vs (λ n from to. rel_some M gl None true l ex b g.memory _ _ (λ k e.
       rel_bounds M gl None true l ex b (memories.copy k (modulo I32 to) (modulo I32 from) (modulo I32 n)) _ _ refl (λ k' d.
       (refl, refl, record { globals = wf.globals; memory = copy_keeps k k' (modulo I32 to) (modulo I32 from) (modulo I32 n) d (memory_is M gl g k wf e); table = wf.table }, refl))))
-  framed MemoryFill vs m =
+  framed_as i is_fill vs m =
       rel_three M gl None true l ex b _ _ vs (λ n byte to. rel_some M gl None true l ex b g.memory _ _ (λ k e.
       rel_bounds M gl None true l ex b (memories.fill k (modulo I32 to) (byte % 256) (modulo I32 n)) _ _ refl (λ k' d.
       (refl, refl, record { globals = wf.globals; memory = put_keeps k k' (modulo I32 to) (replicate (modulo I32 n) (byte % 256)) d (memory_is M gl g k wf e); table = wf.table }, refl))))
-  framed (Extend32 j) vs m = rel_one M gl (Some I32) false l ex b I32 _ _ vs (λ a. (refl, refl, wf, refl))
-  framed (Extend64 j) vs m = rel_one M gl (Some I64) false l ex b I64 _ _ vs (λ a. (refl, refl, wf, refl))
-  framed (Const v) vs m = rel_none M gl (Some (type_of v)) false l ex b _ _ vs (refl, refl, wf, one_result v (type_of v) refl)
-  framed (Eqz t) vs m = rel_one M gl (Some I32) false l ex b t _ _ vs (λ a. (refl, refl, wf, refl))
-  framed (Unary t op) vs m = rel_one M gl (Some t) false l ex b t _ _ vs (λ a. value_rel t _ false)
-  framed (Compare t op) vs m = rel_two M gl (Some I32) false l ex b t t _ _ vs (λ n k. (refl, refl, wf, refl))
-  framed (Binary t op) vs m = rel_two M gl (Some t) (divides op) l ex b t t _ _ vs (λ n k. binop_rel t op n k)
-  framed (Convert c) vs m = rel_one M gl (Some (convert_to c)) false l ex b (convert_from c) _ _ vs (λ a. value_rel (convert_to c) _ false)
+  framed_as i (is_const v) vs m = rel_none M gl (Some (type_of v)) false l ex b _ _ vs (refl, refl, wf, one_result v (type_of v) refl)
+  framed_as i (is_compare t op) vs m = rel_two M gl (Some I32) false l ex b t t _ _ vs (λ n k. (refl, refl, wf, refl))
+  framed_as i (is_binary t op) vs m = rel_two M gl (Some t) (divides op) l ex b t t _ _ vs (λ n k. binop_rel t op n k)
+  framed_as i (computes o) vs m =
+      let gives_to : result_type C es i ≡ Some o.to = result_typed C es i ∙ ap (result_by C es) o.source_is in
+      let safe : can_trap i ≡ false = never_traps i o (can_trap i) refl in
+      subst₂ (λ (r : Option ValType) (q : Bool). Rel M gl r q l ex b (effect i g l vs) (effect i (flagged M g b) (l ++ ex) vs)) (sym gives_to) (sym safe)
+      (subst₂ (λ (x y : Effect). Rel M gl (Some o.to) false l ex b x y) (sym (o.effect_is g l vs)) (sym (o.effect_is (flagged M g b) (l ++ ex) vs))
+      (rel_one M gl (Some o.to) false l ex b o.from (λ a. gives g l (value o.to (o.result a) ∷ [])) (λ a. gives (flagged M g b) (l ++ ex) (value o.to (o.result a) ∷ [])) vs (λ a. value_rel o.to (o.result a) false)))
+
+  pub framed : (i : Basic) (vs : List Value) → Match vs es → Framed i vs
+  framed i vs m = framed_as i (one_by_one i) vs m
 
 pub place_of : (l ex : List Value) (h : ℕ) (e : Place) (v : Value) → One l ex h e v → type_of v ≡ place_type e
 place_of l ex h (Spilled t) v o = o.1

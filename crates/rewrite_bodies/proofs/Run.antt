@@ -9,8 +9,8 @@ use Rattle.wasm_syntax.specs.Tree.{Nodes, basic}
 use Rattle.wasm_syntax.specs.Host.{World}
 use Rattle.wasm_syntax.specs.declared.host.CollectorCall.{CollectorCall}
 use Rattle.wasm_syntax.specs.Machine.{Config, Engine, Stepped, next, ends, traps, no_reply, bad_reply, stuck, Cut, short, parts, one_more, cut, exactly, step}
-use Rattle.rewrite_bodies.specs.Slots.{Place, Spilled, Known, Copied, Ctx, slot, kind_at, added, less}
-use Rattle.rewrite_bodies.specs.Pieces.{get, set, const, fetch, load, keep, store, reload, drops}
+use Rattle.rewrite_bodies.specs.calls.Slots.{Place, Spilled, Known, Copied, Ctx, slot, kind_at, added, less}
+use Rattle.rewrite_bodies.specs.calls.Pieces.{get, set, const, fetch, load, keep, store, reload, drops}
 use Rattle.rewrite_bodies.specs.calls.Agreement.{One, Holds}
 use Rattle.rewrite_bodies.specs.calls.Steps.{went, run, Gets, To, Shell, st}
 use Rattle.wasm_laws.proofs.Progress.{get_type, same_of}

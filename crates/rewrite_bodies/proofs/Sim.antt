@@ -6,19 +6,19 @@ use Rattle.wasm_syntax.specs.declared.value.ValType.TheVariants.{I32}
 use Rattle.wasm_syntax.specs.declared.value.Value.{Value}
 use Rattle.wasm_syntax.specs.declared.value.Value.TheVariants as values
 use Rattle.wasm_syntax.specs.declared.instruction.Basic.{Basic}
-use Rattle.wasm_syntax.specs.declared.instruction.Basic.TheVariants.{Nop, Drop, Select, LocalGet, LocalSet, LocalTee, GlobalGet, GlobalSet, Load, Store, MemorySize, MemoryGrow, Const, Eqz, Unary, Compare, Binary, Convert, MemoryCopy, MemoryFill, Extend32, Extend64}
+use Rattle.wasm_syntax.specs.declared.instruction.Basic.TheVariants.{LocalGet, LocalSet, LocalTee, Const}
 use Rattle.wasm_syntax.specs.Numbers.{type_of, types, same_type}
-use Rattle.wasm_syntax.specs.Tree.{Nodes, stop, basic, jump, block, loop, choose}
+use Rattle.wasm_syntax.specs.Tree.{BrIf, Nodes, stop, basic, jump, block, loop, choose}
 use Rattle.wasm_syntax.specs.Host.{World}
 use Rattle.wasm_syntax.specs.declared.host.CollectorCall.{CollectorCall}
 use Rattle.wasm_syntax.specs.Effect.{gives, unfit, when, with_some, over, effect, takes}
 use Rattle.wasm_syntax.specs.Machine.{Kind, leaves, again, Label, Frame, Config, label, frame, config, Engine, next, parts, cut, affects, does, chooses}
-use Rattle.rewrite_bodies.specs.Slots.{Place, Spilled, Known, Copied, Ctx, slot, added, less, pushed, grown, without, under, result_type, after_plain}
-use Rattle.rewrite_bodies.specs.Rewrite.{tested, guarded, with_result, rewrite}
-use Rattle.rewrite_bodies.specs.Numbering.{mapped, global_types}
-use Rattle.rewrite_bodies.specs.Pieces.{if_any, keep, spill}
-use Rattle.rewrite_bodies.specs.Guards.{can_trap, kind}
-use Rattle.rewrite_bodies.specs.calls.Agreement.{Holds, awaits, pending, joined, t_kind, t_labels, Wit, UnderWay, FitsIn, Room, FitsLabels, FitsOpen, MemoryFits, NoKind, WorldFits, FitsFrame, FitsFrames, Wrap, t_frames, flagged, image}
+use Rattle.rewrite_bodies.specs.calls.Slots.{Place, Spilled, Known, Copied, Ctx, slot, added, less, pushed, grown, without, under, result_type, after_plain}
+use Rattle.rewrite_bodies.specs.calls.Rewrite.{tested, checked, guarded, with_result, rewrite}
+use Rattle.rewrite_bodies.specs.Numbering.{mapped}
+use Rattle.rewrite_bodies.specs.calls.Pieces.{if_any, keep, spill}
+use Rattle.rewrite_bodies.specs.calls.Guards.{can_trap, guard, kind}
+use Rattle.rewrite_bodies.specs.calls.Agreement.{Holds, awaits, pending, joined, t_kind, t_labels, Wit, UnderWay, FitsIn, Room, FitsLabels, FitsOpen, MemoryFits, NoKind, WorldFits, FitsFrame, FitsFrames, Wrap, t_frames, flagged}
 use Rattle.rewrite_bodies.specs.calls.Steps.{To, Shell, st}
 use Rattle.rewrite_bodies.proofs.Run.{stored, HasPlace, types-stored, get_own, slice_get-put_same, types-slice_set, added_at, still, one_step, seq, weaken, get_to, put_to, tee_to, kept_to, less_holds}
 use Rattle.rewrite_bodies.specs.inner.Promises.{kind_of, verdict}
@@ -26,7 +26,9 @@ use Rattle.rewrite_bodies.proofs.Parts.{Rel, framed, match_of, settle, step_plai
 use Rattle.rewrite_bodies.proofs.Copies.{labels_fixed, fixed_under, fixed_holds, fits_within, without_append, without_length, spill_to, holds_set}
 use Rattle.wasm_syntax.proofs.Types.{same_type_is}
 use Rattle.rewrite_bodies.proofs.Guards.{guard_to}
-use Rattle.rewrite_bodies.specs.Offsets.{SmallOffset}
+use Rattle.rewrite_bodies.proofs.Landed.{marked, types_marked, fits_marked, br_if_down, mark_to}
+use Rattle.rewrite_bodies.specs.calls.Landings.{number_in, landing_of}
+use Rattle.rewrite_bodies.specs.calls.Offsets.{SmallOffset}
 use Rattle.rewrite_bodies.specs.calls.Standing.{After}
 use Rattle.std.specs.Prelude.{unwrap_or}
 
@@ -49,30 +51,6 @@ room_height C es (choose o a x ea y en rest) h = h.0
 pub grown-append : (a : Option ValType) (e js : List Place) → grown a (e ++ js) ≡ grown a e ++ js
 grown-append None e js = refl
 grown-append (Some t) e js = refl
-
-pub takes_three : (i : Basic) → takes i ≤ 3
-takes_three Nop = omega arith
-takes_three Drop = omega arith
-takes_three Select = omega arith
-takes_three (LocalGet x) = omega arith
-takes_three (LocalSet x) = omega arith
-takes_three (LocalTee x) = omega arith
-takes_three (GlobalGet x) = omega arith
-takes_three (GlobalSet x) = omega arith
-takes_three (Load t al o) = omega arith
-takes_three (Store t al o) = omega arith
-takes_three MemorySize = omega arith
-takes_three MemoryGrow = omega arith
-takes_three MemoryCopy = omega arith
-takes_three MemoryFill = omega arith
-takes_three (Extend32 k) = omega arith
-takes_three (Extend64 k) = omega arith
-takes_three (Const v) = omega arith
-takes_three (Eqz t) = omega arith
-takes_three (Unary t op) = omega arith
-takes_three (Compare t op) = omega arith
-takes_three (Binary t op) = omega arith
-takes_three (Convert c) = omega arith
 
 pub grown_fits : (C : Ctx) (a : Option ValType) (es : List Place) (ex : List Value) → types ex ≡ added C.slots → FitsIn C a es → HasPlace a (λ t. slot t (length es)) ex
 grown_fits C None es ex room h = tt
@@ -132,17 +110,39 @@ module _ (M M' : Engine) (E : ℕ) (gl : List ValType) (W : Wrap) where
     abbrev pub g0 : World
     g0 = flagged M g (values.I32 0)
 
-    pub verdict_to : (i : Basic) (o : ℕ) (k : Nodes) (vs below : List Value) → can_trap i ≡ true → length C.locals ≡ length l → MemoryFits g.memory → SmallOffset i → Holds l ex (joined ss) ops e → cut (takes i) ops ≡ parts vs below → effect i g l vs ≢ unfit → To M' 1 21 (st X (l ++ ex) ops (guarded true C ls es o i k) g0 co) (st X (l ++ ex) (values.I32 (verdict (kind_of (effect i g l vs))) ∷ ops) (tested C ls es o (kind C i es) k) g0 co)
-    verdict_to i o k vs below t size mf so h c nw = (guard_to M' C l size ops X (tested C ls es o (kind C i es) k) g0 g co ex (joined ss) e ops vs below i refl mf so t h c nw).0
+    pub verdict_to : (ex2 : List Value) (i : Basic) (k : Nodes) (vs below : List Value) → can_trap i ≡ true → length C.locals ≡ length l → MemoryFits g.memory → SmallOffset i → Holds l ex2 (joined ss) ops e → cut (takes i) ops ≡ parts vs below → effect i g l vs ≢ unfit → To M' 1 21 (st X (l ++ ex2) ops (guard C i es k) g0 co) (st X (l ++ ex2) (values.I32 (verdict (kind_of (effect i g l vs))) ∷ ops) k g0 co)
+    verdict_to ex2 i k vs below t size mf so h c nw = (guard_to M' C l size ops X k g0 g co ex2 (joined ss) e ops vs below i refl mf so t h c nw).0
 
     -- the kind of a trap, inside the arm
     pub kind_to : (Y : Shell) (i : Basic) (j : ℕ) (k : Nodes) (vs below : List Value) → can_trap i ≡ true → length C.locals ≡ length l → MemoryFits g.memory → SmallOffset i → Holds l ex (joined ss) ops e → cut (takes i) ops ≡ parts vs below → effect i g l vs ≢ unfit → kind_of (effect i g l vs) ≡ suc j → To M' 1 5 (st Y (l ++ ex) [] (kind C i es k) g0 co) (st Y (l ++ ex) (values.I32 (suc j) ∷ []) k g0 co)
     kind_to Y i j k vs below t size mf so h c nw is = (guard_to M' C l size [] Y k g0 g co ex (joined ss) e ops vs below i refl mf so t h c nw).1 j is
 
+    -- the number of its landing, and the added locals behind a guard
+    abbrev pub number : Basic → Option ℕ
+    number i = number_in C.landings (landing_of i es)
+
+    abbrev pub behind_guard : Bool → Basic → ℕ → List Value
+    behind_guard false i o = ex
+    behind_guard true i o = marked (number i) C o ex
+
+    types_behind : (b : Bool) (i : Basic) (o : ℕ) → types ex ≡ added C.slots → types (behind_guard b i o) ≡ types ex
+    types_behind false i o room = refl
+    types_behind true i o room = types_marked (number i) C o ex room
+
+    fits_behind : (b : Bool) (i : Basic) (o : ℕ) (a : Option ValType) (Ls' : List Label) (ss' : List (List Place)) → length (joined ss') ≤ C.slots → FitsLabels C l ex a Ls' ss' → FitsLabels C l (behind_guard b i o) a Ls' ss'
+    fits_behind false i o a Ls' ss' low h = h
+    fits_behind true i o a Ls' ss' low h = fits_marked (number i) C o l ex a Ls' ss' low h
+
     -- a guard that finds no trap
-    guarded_to : (i : Basic) (b : Bool) (o : ℕ) (k : Nodes) (vs below : List Value) → can_trap i ≡ b → length C.locals ≡ length l → MemoryFits g.memory → SmallOffset i → Holds l ex (joined ss) ops e → cut (takes i) ops ≡ parts vs below → effect i g l vs ≢ unfit → kind_of (effect i g l vs) ≡ 0 → To M' 0 30 (st X (l ++ ex) ops (guarded b C ls es o i k) g0 co) (st X (l ++ ex) ops k g0 co)
-    guarded_to i false o k vs below t size mf so h c nw z = weaken M' (still M' _) (omega arith) (omega arith)
-    guarded_to i true o k vs below t size mf so h c nw z = weaken M' (seq M' (rw z at (verdict_to i o k vs below t size mf so h c nw)) (if_zero_to M')) (omega arith) (omega arith)
+    checked_to : (q : Option ℕ) (i : Basic) (o : ℕ) (k : Nodes) (vs below : List Value) → types ex ≡ added C.slots → can_trap i ≡ true → length C.locals ≡ length l → MemoryFits g.memory → SmallOffset i → Holds l (marked q C o ex) (joined ss) ops e → cut (takes i) ops ≡ parts vs below → effect i g l vs ≢ unfit → kind_of (effect i g l vs) ≡ 0 → To M' 0 30 (st X (l ++ ex) ops (checked q C ls es o (guard C i es) (kind C i es) k) g0 co) (st X (l ++ marked q C o ex) ops k g0 co)
+    checked_to None i o k vs below room t size mf so h c nw z =
+        weaken M' (seq M' (rw z at (verdict_to ex i (tested C ls es o (kind C i es) k) vs below t size mf so h c nw)) (if_zero_to M')) (omega arith) (omega arith)
+    checked_to (Some n) i o k vs below room t size mf so h c nw z =
+        weaken M' (seq M' (mark_to M' C l size o ex room) (seq M' (rw z at (verdict_to (marked (Some n) C o ex) i (jump 0 (BrIf (ls + n)) k) vs below t size mf so h c nw)) (br_if_down M'))) (omega arith) (omega arith)
+
+    guarded_to : (i : Basic) (b : Bool) (o : ℕ) (k : Nodes) (vs below : List Value) → types ex ≡ added C.slots → can_trap i ≡ b → length C.locals ≡ length l → MemoryFits g.memory → SmallOffset i → Holds l (behind_guard b i o) (joined ss) ops e → cut (takes i) ops ≡ parts vs below → effect i g l vs ≢ unfit → kind_of (effect i g l vs) ≡ 0 → To M' 0 30 (st X (l ++ ex) ops (guarded b C ls es o i k) g0 co) (st X (l ++ behind_guard b i o) ops k g0 co)
+    guarded_to i false o k vs below room t size mf so h c nw z = weaken M' (still M' _) (omega arith) (omega arith)
+    guarded_to i true o k vs below room t size mf so h c nw z = checked_to (number i) i o k vs below room t size mf so h c nw z
 
     abbrev pub F : Nodes → Frame
     F rest = frame ix r cl l (label ops rest en kd ∷ Ls)
@@ -164,26 +164,30 @@ module _ (M M' : Engine) (E : ℕ) (gl : List ValType) (W : Wrap) where
 
     pub usual_gives : (i : Basic) (o : ℕ) (rest : Nodes) (vs below l' : List Value) (g' : World) (ws' : List Value) → FitsFrame M E gl None (F (basic o i rest)) w → FitsFrames M E gl W.result r Fs ws → WorldFits M gl g → RoomUsual i rest → l' ≡ l → cut (takes i) ops ≡ parts vs below → effect i g l vs ≡ gives g' l' ws' → After M M' E gl W (st X (l ++ ex) ops (usual (can_trap i) i o rest) g0 co) (next (config (frame ix r cl l' (label (ws' ++ below) rest en kd ∷ Ls) ∷ Fs) g' co))
     usual_gives i o rest vs below l' g' ws' f fs wf rm lsame c p =
-        let h = f.labels in
+        let low : length es ≤ C.slots = room_height C es (basic o i rest) f.labels.2 in
+        let exm = behind_guard (can_trap i) i o in
+        let te : types exm ≡ types ex = types_behind (can_trap i) i o f.room in
+        let roomm : types exm ≡ added C.slots = te ∙ f.room in
+        let h : FitsLabels C l exm None (label ops (basic o i rest) en kd ∷ Ls) (e ∷ ss) = fits_behind (can_trap i) i o None (label ops (basic o i rest) en kd ∷ Ls) (e ∷ ss) low f.labels in
         let size = len_of l C.locals f.size in
-        let lh = less_holds l ex (takes i) (joined ss) e ops vs below h.0 c in
+        let lh = less_holds l exm (takes i) (joined ss) e ops vs below h.0 c in
         let e2 = lh.0 in
         let r1 = result_type C es i in
-        let fr = subst (λ z. Rel M gl r1 (can_trap i) l ex (values.I32 0) z (effect i g0 (l ++ ex) vs)) p (framed M gl C es l g ex (values.I32 0) f.size wf (sym f.flag) i vs (match_of l ex (takes i) (joined ss) e ops vs below h.0 c)) in
-        let hb : FitsLabels C l ex r1 (label below rest en kd ∷ Ls) (e2 ∷ ss) = (lh.2, subst (FitsIn C r1) lh.1 rm.1, subst (λ z. Room C (grown r1 z) rest) lh.1 rm.2, h.3, h.4) in
-        let hs = settle C l ex r1 (label below rest en kd) Ls e2 ss ws' f.room fr.3 hb in
+        let fr = subst (λ z. Rel M gl r1 (can_trap i) l exm (values.I32 0) z (effect i g0 (l ++ exm) vs)) p (framed M gl C es l g exm (values.I32 0) f.size wf (sym f.flag) i vs (match_of l exm (takes i) (joined ss) e ops vs below h.0 c)) in
+        let hb : FitsLabels C l exm r1 (label below rest en kd ∷ Ls) (e2 ∷ ss) = (lh.2, subst (FitsIn C r1) lh.1 rm.1, subst (λ z. Room C (grown r1 z) rest) lh.1 rm.2, h.3, h.4) in
+        let hs = settle C l exm r1 (label below rest en kd) Ls e2 ss ws' roomm fr.3 hb in
         let k1 = rewrite C ls (grown r1 (e2 ++ joined ss)) rest in
-        let pl = grown_fits C r1 (e2 ++ joined ss) ex f.room hb.1 in
-        let ex2 = stored r1 (λ t. slot t (length (e2 ++ joined ss))) ws' ex in
+        let pl = grown_fits C r1 (e2 ++ joined ss) exm roomm hb.1 in
+        let ex2 = stored r1 (λ t. slot t (length (e2 ++ joined ss))) ws' exm in
         let kept = keep C (option_map Spilled r1) (e2 ++ joined ss) k1 in
         let code = basic 0 i kept in
         let g1 = flagged M g' (values.I32 0) in
-        let s0 : To M' 0 30 (st X (l ++ ex) ops (guarded (can_trap i) C ls es o i code) g0 co) (st X (l ++ ex) ops code g0 co) = guarded_to i (can_trap i) o code vs below refl size wf.memory rm.0 h.0 c (λ n. cc) (ap kind_of p) in
-        let s1 : To M' 1 1 (st X (l ++ ex) ops code g0 co) (st X (l' ++ ex) (ws' ++ below) kept g1 co) = step_plain M' i vs below (l' ++ ex) g1 ws' (ws' ++ below) c fr.0 refl in
-        let s2 : To M' 0 1 (st X (l' ++ ex) (ws' ++ below) kept g1 co) (st X (l' ++ ex2) (ws' ++ below) k1 g1 co) = kept_to M' C l' (len_of l' C.locals (fr.1 ∙ f.size)) ex r1 (e2 ++ joined ss) ws' below k1 pl fr.3 in
+        let s0 : To M' 0 30 (st X (l ++ ex) ops (guarded (can_trap i) C ls es o i code) g0 co) (st X (l ++ exm) ops code g0 co) = guarded_to i (can_trap i) o code vs below f.room refl size wf.memory rm.0 h.0 c (λ n. cc) (ap kind_of p) in
+        let s1 : To M' 1 1 (st X (l ++ exm) ops code g0 co) (st X (l' ++ exm) (ws' ++ below) kept g1 co) = step_plain M' i vs below (l' ++ exm) g1 ws' (ws' ++ below) c fr.0 refl in
+        let s2 : To M' 0 1 (st X (l' ++ exm) (ws' ++ below) kept g1 co) (st X (l' ++ ex2) (ws' ++ below) k1 g1 co) = kept_to M' C l' (len_of l' C.locals (fr.1 ∙ f.size)) exm r1 (e2 ++ joined ss) ws' below k1 pl fr.3 in
         let all : To M' 1 E (st X (l ++ ex) ops (guarded (can_trap i) C ls es o i code) g0 co) (st X (l' ++ ex2) (ws' ++ below) k1 g1 co) = weaken M' (seq M' s0 (seq M' s1 s2)) (omega arith) (omega (arith, f.small)) in (
           wit C ex2 (grown r1 e2 ∷ ss) ∷ ws,
-          (fr.2, (refit l' (label (ws' ++ below) rest en kd ∷ Ls) ex2 (grown r1 e2 ∷ ss) None cl f fr.1 (types-stored r1 (λ t. slot t (length (e2 ++ joined ss))) ws' ex pl fr.3) (subst (λ z. FitsLabels C z ex2 None (label (ws' ++ below) rest en kd ∷ Ls) (grown r1 e2 ∷ ss)) (sym lsame) hs), fs)),
+          (fr.2, (refit l' (label (ws' ++ below) rest en kd ∷ Ls) ex2 (grown r1 e2 ∷ ss) None cl f fr.1 (types-stored r1 (λ t. slot t (length (e2 ++ joined ss))) ws' exm pl fr.3 ∙ te) (subst (λ z. FitsLabels C z ex2 None (label (ws' ++ below) rest en kd ∷ Ls) (grown r1 e2 ∷ ss)) (sym lsame) hs), fs)),
           subst₂ (λ a b. To M' 1 E (st X (l ++ ex) ops (guarded (can_trap i) C ls es o i (basic 0 i (keep C (option_map Spilled r1) a (rewrite C ls (grown r1 a) rest)))) g0 co) (st X (l' ++ ex2) (ws' ++ below) (rewrite C ls b rest) g1 co)) (sym lh.1) (grown-append r1 e2 (joined ss)) all,
         )
 

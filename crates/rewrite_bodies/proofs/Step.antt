@@ -1,33 +1,38 @@
 -- The whole step.
-use Rattle.std.proofs.Common.{◌≡◌, ℕ, suc, ◌≤◌, List, [], ◌∷◌, ◌++◌, length, Option, Some, None, Bool, true, false, refl, sym, ap, ◌∙◌, subst, subst₂, arith, inl, inr, slice_get, option_map, unwrap_or}
+use Rattle.wasm_syntax.specs.Numbers.{type_of}
+use Rattle.std.proofs.Common.{◌≡◌, ℕ, suc, ◌≤◌, List, [], ◌∷◌, ◌++◌, length, Option, Some, None, Bool, true, false, refl, sym, ap, ◌∙◌, subst, subst₂, arith, inl, inr, slice_get, option_map, unwrap_or, slice_set, ◌+◌, ap₂}
 use Rattle.wasm_syntax.specs.declared.value.ValType.{ValType}
 use Rattle.wasm_syntax.specs.declared.value.Value.{Value}
 use Rattle.wasm_syntax.specs.declared.value.Value.TheVariants as values
 use Rattle.wasm_syntax.specs.declared.instruction.Basic.{Basic}
-use Rattle.wasm_syntax.specs.declared.instruction.Basic.TheVariants.{Nop, Drop, Select, LocalGet, LocalSet, LocalTee, GlobalGet, GlobalSet, Load, Store, MemorySize, MemoryGrow, Const, Eqz, Unary, Compare, Binary, Convert, MemoryCopy, MemoryFill, Extend32, Extend64}
 use Rattle.wasm_syntax.specs.declared.parts.FuncType.{FuncType}
 use Rattle.wasm_syntax.specs.Tree.{Jump, Unreachable, Br, BrIf, BrTable, Return, Call, CallIndirect, Nodes, stop, basic, jump, block, loop, choose}
 use Rattle.wasm_syntax.specs.Module.{Function, function_at, type_at, same_functype}
 use Rattle.wasm_syntax.specs.Host.{World}
 use Rattle.wasm_syntax.specs.declared.host.CollectorCall.{CollectorCall}
 use Rattle.wasm_syntax.specs.Effect.{Effect, gives, fails, unfit, effect, takes}
-use Rattle.wasm_syntax.specs.Machine.{Kind, Label, Frame, Config, label, frame, config, Engine, traps, Cut, short, parts, cut, result_of, function_type, calls, calls_if, calls_entry, calls_typed, calls_indirect, jumps, affects, does, runs, in_frame, steps, step}
-use Rattle.rewrite_bodies.specs.Slots.{Place, Spilled, Ctx, less, grown, result_type}
-use Rattle.rewrite_bodies.specs.Rewrite.{unwind_kind, tested, guarded, indirect_code, rewrite}
-use Rattle.rewrite_bodies.specs.Pieces.{const, keep}
-use Rattle.rewrite_bodies.specs.Guards.{can_trap, kind, entry_label, type_label, first_table}
+use Rattle.wasm_syntax.specs.Machine.{Kind, Label, Frame, Config, label, frame, config, Engine, traps, Cut, short, parts, cut, result_of, function_type, calls, calls_if, calls_entry, calls_typed, calls_indirect, jumps, affects, does, runs, in_frame, steps, step, top}
+use Rattle.rewrite_bodies.specs.calls.Slots.{Place, Spilled, Ctx, less, grown, result_type, Landing, place_type, offset_at, pushed, local_written, freed_at, result_place, after_plain}
+use Rattle.rewrite_bodies.specs.calls.Rewrite.{unwind_kind, tested, guarded, indirect_code, rewrite, checked, free_at}
+use Rattle.rewrite_bodies.specs.calls.Pieces.{const, keep, set}
+use Rattle.rewrite_bodies.specs.calls.Guards.{can_trap, kind, entry_label, type_label, first_table, guard}
 use Rattle.rewrite_bodies.specs.calls.Steps.{To, Shell, st}
 use Rattle.rewrite_bodies.proofs.Run.{seq, weaken, push_to}
 use Rattle.rewrite_bodies.specs.calls.Agreement.{joined, Wit, FitsIn, Has, Room_call, Room, WorldFits, FitsFrame, FitsFrames, FitsConfig, Wrap, flagged, image}
 use Rattle.rewrite_bodies.specs.inner.Promises.{kind_of, verdict}
-use Rattle.rewrite_bodies.proofs.Parts.{Rel, framed, match_of}
+use Rattle.rewrite_bodies.proofs.Parts.{Rel, framed, match_of, place_of, fits_put}
 use Rattle.rewrite_bodies.specs.calls.Standing.{After, Stands}
-use Rattle.rewrite_bodies.proofs.Sim.{refit, len_of, shell, tgt, wit, armed, if_up_to, verdict_to, kind_to, usual_gives, push_sim, get_sim, set_sim, tee_sim, block_sim, loop_sim, if_sim}
+use Rattle.rewrite_bodies.proofs.Sim.{refit, len_of, shell, tgt, wit, armed, if_up_to, verdict_to, kind_to, usual_gives, push_sim, get_sim, set_sim, tee_sim, block_sim, loop_sim, if_sim, room_height}
 use Rattle.rewrite_bodies.proofs.Stays.{Stays, Usual, stays}
 use Rattle.rewrite_bodies.proofs.Control.{end_sim, br_node, br_if_node, return_node, table_node}
-use Rattle.rewrite_bodies.proofs.Calls.{trap_from, call_node, same_functype-same, entry_trap, entry_call}
-use Rattle.rewrite_bodies.specs.Offsets.{SmallOffset}
-use Rattle.wasm_syntax.proofs.Types.{same_functype_refl}
+use Rattle.rewrite_bodies.specs.calls.Landings.{number_of, number_in, landing_of, one_kind, carrying}
+use Rattle.rewrite_bodies.proofs.Landed.{mark_to}
+use Rattle.rewrite_bodies.proofs.OneKind.{only_kind, takes_one}
+use Rattle.rewrite_bodies.proofs.Unwind.{all_ops, all_in, tell-all}
+use Rattle.rewrite_bodies.proofs.Calls.{trap_landed, trap_from, call_node, same_functype-same, entry_trap, entry_call}
+use Rattle.rewrite_bodies.specs.calls.Offsets.{SmallOffset}
+use Rattle.wasm_syntax.proofs.Types.{same_functype_refl, same_type_refl}
+use Rattle.rewrite_bodies.proofs.Risks.{Treated, gets, sets, tees, constant, spills, treated}
 
 module _ (M M' : Engine) (E : ℕ) (gl : List ValType) (W : Wrap) (S : Stands M M' E gl) where
   -- ---- an indirect call
@@ -97,6 +102,47 @@ module _ (M M' : Engine) (E : ℕ) (gl : List ValType) (W : Wrap) (S : Stands M 
   indirect_node C ex [] ss ws ix cl r l (values.I32 n ∷ ops) en kd Ls Fs g co at t rest f fs wf sh = absurd f.labels.0
   indirect_node C ex (e1 ∷ e) ss ws ix cl r l (values.I32 n ∷ ops) en kd Ls Fs g co at t rest f fs wf sh = indirect_here C ex e1 e ss ws ix cl r l n ops en kd Ls Fs g co at t rest f fs wf sh
 
+  -- ---- a trap at a landing
+
+  module _ (C : Ctx) (ex : List Value) (e1 : Place) (e : List Place) (ss : List (List Place)) (ws : List Wit) (ix cl : ℕ) (r : Option ValType) (l : List Value) (v : Value) (ops : List Value) (en : ℕ) (kd : Kind) (Ls : List Label) (Fs : List Frame) (g : World) (co : List CollectorCall) (o : ℕ) (i : Basic) (rest : Nodes) (f : FitsFrame M E gl None (frame ix r cl l (label (v ∷ ops) (basic o i rest) en kd ∷ Ls)) (wit C ex ((e1 ∷ e) ∷ ss))) (fs : FitsFrames M E gl W.result r Fs ws) (wf : WorldFits M gl g) (t : Config) (k : Nodes) (j n : ℕ) where
+    abbrev LC : Label
+    LC = label (v ∷ ops) (basic o i rest) en kd
+
+    abbrev Found : Landing
+    Found = record { carried = Some (place_type e1); places = e ++ joined ss; kind = suc j }
+
+    abbrev Before : Config
+    Before = st (shell W C r kd Ls ss Fs ws) (l ++ slice_set ex (offset_at C) (values.I32 o)) (values.I32 1 ∷ (v ∷ ops)) (jump 0 (BrIf (suc (length Ls) + n)) k) (flagged M g (values.I32 0)) co
+
+    carried_trap : number_of Found C.landings ≡ Some n → To M' 1 30 t Before → After M M' E gl W t (traps (suc j) (config (frame ix r cl l (LC ∷ Ls) ∷ Fs) g co))
+    carried_trap is pre =
+        let h = f.labels in
+        let low : length (e1 ∷ (e ++ joined ss)) ≤ C.slots = room_height C (e1 ∷ (e ++ joined ss)) (basic o i rest) h.2 in
+        let ty : type_of v ≡ place_type e1 = place_of l ex (length (e ++ joined ss)) e1 v h.0.0 in
+        let top_is : top (Some (place_type e1)) (v ∷ ops) ≡ Some (v ∷ []) = rw (ty, same_type_refl (place_type e1)) refl in
+        trap_landed M M' E gl W S C ex (e1 ∷ e) ss ws ix cl r l (v ∷ ops) en kd Ls Fs g co (basic o i rest) f fs wf t j k Found n (v ∷ []) (ops ++ all_ops Ls) is refl top_is
+        (λ ex2 hk. (all_in C l ex2 None (LC ∷ Ls) ((e1 ∷ e) ∷ ss) hk).1) (omega (arith, low)) (tell-all (LC ∷ Ls) co) pre
+
+  landed_trap : (C : Ctx) (ex : List Value) (e : List Place) (ss : List (List Place)) (ws : List Wit) (ix cl : ℕ) (r : Option ValType) (l ops : List Value) (en : ℕ) (kd : Kind) (Ls : List Label) (Fs : List Frame) (g : World) (co : List CollectorCall) (o : ℕ) (i : Basic) (rest : Nodes) → FitsFrame M E gl None (frame ix r cl l (label ops (basic o i rest) en kd ∷ Ls)) (wit C ex (e ∷ ss)) → FitsFrames M E gl W.result r Fs ws → WorldFits M gl g
+      → (t : Config) (k : Nodes) (vs below : List Value) (j n : ℕ) → cut (takes i) ops ≡ parts vs below → effect i g l vs ≡ fails (suc j) → number_in C.landings (landing_of i (e ++ joined ss)) ≡ Some n → To M' 1 30 t (st (shell W C r kd Ls ss Fs ws) (l ++ slice_set ex (offset_at C) (values.I32 o)) (values.I32 1 ∷ ops) (jump 0 (BrIf (suc (length Ls) + n)) k) (flagged M g (values.I32 0)) co) → After M M' E gl W t (traps (suc j) (config (frame ix r cl l (label ops (basic o i rest) en kd ∷ Ls) ∷ Fs) g co))
+  landed_trap C ex e ss ws ix cl r l ops en kd Ls Fs g co o i rest f fs wf t k vs below j n c p is pre = by_kind (one_kind i) refl is
+    where
+      by_places : (e : List Place) (ops : List Value) (k1 : ℕ) → FitsFrame M E gl None (frame ix r cl l (label ops (basic o i rest) en kd ∷ Ls)) (wit C ex (e ∷ ss)) → one_kind i ≡ Some k1 → cut (takes i) ops ≡ parts vs below → number_in C.landings (carrying (Some k1) (e ++ joined ss)) ≡ Some n → To M' 1 30 t (st (shell W C r kd Ls ss Fs ws) (l ++ slice_set ex (offset_at C) (values.I32 o)) (values.I32 1 ∷ ops) (jump 0 (BrIf (suc (length Ls) + n)) k) (flagged M g (values.I32 0)) co) → After M M' E gl W t (traps (suc j) (config (frame ix r cl l (label ops (basic o i rest) en kd ∷ Ls) ∷ Fs) g co))
+      by_places [] [] k1 f one c is pre =
+          let m = takes_one i k1 one in
+          let z : cut (takes i) [] ≡ short = ap (λ m. cut m []) m.1 in
+          absurd (cc)
+      by_places [] (v ∷ ops) k1 f one c is pre = absurd f.labels.0
+      by_places (e1 ∷ e) [] k1 f one c is pre = absurd f.labels.0
+      by_places (e1 ∷ e) (v ∷ ops) k1 f one c is pre =
+          let same : suc j ≡ k1 = only_kind i g l vs k1 (suc j) one p in
+          let is' : number_of (Found C ex e1 e ss ws ix cl r l v ops en kd Ls Fs g co o i rest f fs wf t k j n) C.landings ≡ Some n = subst (λ z. number_in C.landings (carrying (Some z) ((e1 ∷ e) ++ joined ss)) ≡ Some n) (sym same) is in
+          carried_trap C ex e1 e ss ws ix cl r l v ops en kd Ls Fs g co o i rest f fs wf t k j n is' pre
+
+      by_kind : (q : Option ℕ) → one_kind i ≡ q → number_in C.landings (carrying q (e ++ joined ss)) ≡ Some n → After M M' E gl W t (traps (suc j) (config (frame ix r cl l (label ops (basic o i rest) en kd ∷ Ls) ∷ Fs) g co))
+      by_kind None one is = absurd (cc)
+      by_kind (Some k1) one is = by_places e ops k1 f one c is pre
+
   -- ---- a basic instruction, whatever comes of it
 
   module _ (C : Ctx) (ex : List Value) (e : List Place) (ss : List (List Place)) (ws : List Wit) (ix cl : ℕ) (r : Option ValType) (l ops : List Value) (en : ℕ) (kd : Kind) (Ls : List Label) (Fs : List Frame) (g : World) (co : List CollectorCall) (o : ℕ) (i : Basic) (rest : Nodes) (f : FitsFrame M E gl None (frame ix r cl l (label ops (basic o i rest) en kd ∷ Ls)) (wit C ex (e ∷ ss))) (fs : FitsFrames M E gl W.result r Fs ws) (wf : WorldFits M gl g) (rm : SmallOffset i × FitsIn C (result_type C (e ++ joined ss) i) (less (takes i) (e ++ joined ss)) × Room C (grown (result_type C (e ++ joined ss) i) (less (takes i) (e ++ joined ss))) rest) (usual_ : Usual i) where
@@ -130,14 +176,29 @@ module _ (M M' : Engine) (E : ℕ) (gl : List ValType) (W : Wrap) (S : Stands M 
         let tr = subst (λ z. Rel M gl (result_type C esb i) (can_trap i) l ex (values.I32 0) z (effect i gb (l ++ ex) vs)) p (framed M gl C esb l g ex (values.I32 0) f.size wf (sym f.flag) i vs (match_of l ex (takes i) (joined ss) e ops vs below h.0 c)) in
         let j = tr.1 in
         let is : kind_of (effect i g l vs) ≡ suc j = ap kind_of p ∙ tr.2 in
-        let v1 = verdict_to M M' E gl W C ex e ss ws ix cl r l ops en kd Ls Fs g co i o kb vs below tr.0 (len_of l C.locals f.size) wf.memory rm.0 h.0 c (λ n. cc) in
-        let arm = unwind_kind C lsb esb o in
-        let YB = armed XB kb ops in
-        let v2 : To M' 1 21 (TB true) (st XB (l ++ ex) (values.I32 1 ∷ ops) (tested C lsb esb o (kind C i esb) kb) gb co) = subst (λ z. To M' 1 21 (TB true) (st XB (l ++ ex) (values.I32 (verdict z) ∷ ops) (tested C lsb esb o (kind C i esb) kb) gb co)) is v1 in
-        let v3 : To M' 1 1 (st XB (l ++ ex) (values.I32 1 ∷ ops) (tested C lsb esb o (kind C i esb) kb) gb co) (st YB (l ++ ex) [] (kind C i esb arm) gb co) = if_up_to M' 0 in
-        let v4 = kind_to M M' E gl W C ex e ss ws ix cl r l ops en kd Ls Fs g co YB i j arm vs below tr.0 (len_of l C.locals f.size) wf.memory rm.0 h.0 c (λ n. cc) is in
-        subst₂ (λ b z. After M M' E gl W (TB b) (traps z (config (FB ∷ Fs) g co))) (sym tr.0) (sym tr.2)
-        (trap_from M M' E gl W S C ex e ss ws ix cl r l ops en kd Ls Fs g co (basic o i rest) f fs wf (TB true) j kb (weaken M' (seq M' v2 (seq M' v3 v4)) (omega arith) (omega arith)))
+        subst₂ (λ b z. After M M' E gl W (TB b) (traps z (config (FB ∷ Fs) g co))) (sym tr.0) (sym tr.2) (by_number (number_in C.landings (landing_of i esb)) j refl tr.0 is (p ∙ ap fails tr.2))
+      where
+        by_number : (q : Option ℕ) (j : ℕ) → number_in C.landings (landing_of i esb) ≡ q → can_trap i ≡ true → kind_of (effect i g l vs) ≡ suc j → effect i g l vs ≡ fails (suc j) → After M M' E gl W (st XB (l ++ ex) ops (checked q C lsb esb o (guard C i esb) (kind C i esb) kb) gb co) (traps (suc j) (config (FB ∷ Fs) g co))
+        by_number None j num ct is p =
+            let h = f.labels in
+            let T0 = st XB (l ++ ex) ops (guard C i esb (tested C lsb esb o (kind C i esb) kb)) gb co in
+            let v1 = verdict_to M M' E gl W C ex e ss ws ix cl r l ops en kd Ls Fs g co ex i (tested C lsb esb o (kind C i esb) kb) vs below ct (len_of l C.locals f.size) wf.memory rm.0 h.0 c (λ n. cc) in
+            let arm = unwind_kind C lsb esb o in
+            let YB = armed XB kb ops in
+            let v2 : To M' 1 21 T0 (st XB (l ++ ex) (values.I32 1 ∷ ops) (tested C lsb esb o (kind C i esb) kb) gb co) = subst (λ z. To M' 1 21 T0 (st XB (l ++ ex) (values.I32 (verdict z) ∷ ops) (tested C lsb esb o (kind C i esb) kb) gb co)) is v1 in
+            let v3 : To M' 1 1 (st XB (l ++ ex) (values.I32 1 ∷ ops) (tested C lsb esb o (kind C i esb) kb) gb co) (st YB (l ++ ex) [] (kind C i esb arm) gb co) = if_up_to M' 0 in
+            let v4 = kind_to M M' E gl W C ex e ss ws ix cl r l ops en kd Ls Fs g co YB i j arm vs below ct (len_of l C.locals f.size) wf.memory rm.0 h.0 c (λ n. cc) is in
+            trap_from M M' E gl W S C ex e ss ws ix cl r l ops en kd Ls Fs g co (basic o i rest) f fs wf T0 j kb (weaken M' (seq M' v2 (seq M' v3 v4)) (omega arith) (omega arith))
+        by_number (Some n) j num ct is p =
+            let low : length esb ≤ C.slots = room_height C esb (basic o i rest) f.labels.2 in
+            let exm = slice_set ex (offset_at C) (values.I32 o) in
+            let go = jump 0 (BrIf (lsb + n)) kb in
+            let hm = fits_put C l ex None (LB ∷ Ls) (e ∷ ss) (offset_at C) (values.I32 o) (omega (arith, low)) f.labels in
+            let T0 = st XB (l ++ ex) ops (const (values.I32 o) (set C (offset_at C) (guard C i esb go))) gb co in
+            let v0 : To M' 2 2 T0 (st XB (l ++ exm) ops (guard C i esb go) gb co) = mark_to M' C l (len_of l C.locals f.size) o ex f.room in
+            let v1 = verdict_to M M' E gl W C ex e ss ws ix cl r l ops en kd Ls Fs g co exm i go vs below ct (len_of l C.locals f.size) wf.memory rm.0 hm.0 c (λ n. cc) in
+            let v2 : To M' 1 21 (st XB (l ++ exm) ops (guard C i esb go) gb co) (st XB (l ++ exm) (values.I32 1 ∷ ops) go gb co) = subst (λ z. To M' 1 21 (st XB (l ++ exm) ops (guard C i esb go) gb co) (st XB (l ++ exm) (values.I32 (verdict z) ∷ ops) go gb co)) is v1 in
+            landed_trap C ex e ss ws ix cl r l ops en kd Ls Fs g co o i rest f fs wf T0 kb vs below j n c p num (weaken M' (seq M' v0 v2) (omega arith) (omega arith))
 
     stayed : (g' : World) (l' ws' : List Value) (x : Effect) → Stays l x → x ≡ gives g' l' ws' → l' ≡ l
     stayed g' l' ws' x h p = subst (Stays l) p h
@@ -168,29 +229,28 @@ module _ (M M' : Engine) (E : ℕ) (gl : List ValType) (W : Wrap) (S : Stands M 
 
   -- ---- each step
 
+  basic_as : (C : Ctx) (ex : List Value) (e : List Place) (ss : List (List Place)) (ws : List Wit) (ix cl : ℕ) (r : Option ValType) (l ops : List Value) (en : ℕ) (kd : Kind) (Ls : List Label) (Fs : List Frame) (g : World) (co : List CollectorCall) (o : ℕ) (i : Basic) → Treated i → (rest : Nodes) → FitsFrame M E gl None (frame ix r cl l (label ops (basic o i rest) en kd ∷ Ls)) (wit C ex (e ∷ ss)) → FitsFrames M E gl W.result r Fs ws → WorldFits M gl g → After M M' E gl W (tgt M W C ex e ss ws r l ops kd Ls Fs g co (basic o i rest)) (does M i (cut (takes i) ops) rest (frame ix r cl l (label ops (basic o i rest) en kd ∷ Ls)) (label ops (basic o i rest) en kd) Ls Fs g co)
+  basic_as C ex e ss ws ix cl r l ops en kd Ls Fs g co o i (gets x) rest f fs wf = get_sim M M' E gl W C ex e ss ws ix cl r l ops en kd Ls Fs g co o x rest f fs wf
+  basic_as C ex e ss ws ix cl r l ops en kd Ls Fs g co o i (sets x) rest f fs wf = set_sim M M' E gl W C ex e ss ws ix cl r l ops en kd Ls Fs g co o x rest f fs wf
+  basic_as C ex e ss ws ix cl r l ops en kd Ls Fs g co o i (tees x) rest f fs wf = tee_sim M M' E gl W C ex e ss ws ix cl r l ops en kd Ls Fs g co o x rest f fs wf
+  basic_as C ex e ss ws ix cl r l ops en kd Ls Fs g co o i (constant v) rest f fs wf = push_sim M M' E gl W C ex e ss ws ix cl r l ops en kd Ls Fs g co o v rest f fs wf
+  basic_as C ex e ss ws ix cl r l ops en kd Ls Fs g co o i (spills none no_local given) rest f fs wf =
+      let es = e ++ joined ss in
+      let left = less (takes i) es in
+      let d = suc (length Ls) in
+      let X = shell W C r kd Ls ss Fs ws in
+      let code : Option ℕ → Option Place → Nodes = λ x p. free_at C x left (basic 0 i (keep C p left (rewrite C d (pushed p (freed_at x left)) rest))) in
+      let behind : after_plain C es i ≡ grown (result_type C es i) left = ap₂ (λ (x : Option ℕ) (p : Option Place). pushed p (freed_at x left)) none (given C es) in
+      let same : code (local_written i) (result_place C es i) ≡ code None (option_map Spilled (result_type C es i)) = ap₂ code none (given C es) in
+      let rm : SmallOffset i × FitsIn C (result_type C es i) left × Room C (grown (result_type C es i) left) rest = (f.labels.2.1, f.labels.2.2, subst (λ (z : List Place). Room C z rest) behind f.labels.2.3) in
+      subst
+      (λ (k : Nodes).
+      After M M' E gl W (st X (l ++ ex) ops (guarded (can_trap i) C d es o i k) (flagged M g (values.I32 0)) co)
+      (does M i (cut (takes i) ops) rest (frame ix r cl l (label ops (basic o i rest) en kd ∷ Ls)) (label ops (basic o i rest) en kd) Ls Fs g co))
+      (sym same) (plain_sim C ex e ss ws ix cl r l ops en kd Ls Fs g co o i rest f fs wf rm no_local)
+
   basic_sim : (C : Ctx) (ex : List Value) (e : List Place) (ss : List (List Place)) (ws : List Wit) (ix cl : ℕ) (r : Option ValType) (l ops : List Value) (en : ℕ) (kd : Kind) (Ls : List Label) (Fs : List Frame) (g : World) (co : List CollectorCall) (o : ℕ) (i : Basic) (rest : Nodes) → FitsFrame M E gl None (frame ix r cl l (label ops (basic o i rest) en kd ∷ Ls)) (wit C ex (e ∷ ss)) → FitsFrames M E gl W.result r Fs ws → WorldFits M gl g → After M M' E gl W (tgt M W C ex e ss ws r l ops kd Ls Fs g co (basic o i rest)) (does M i (cut (takes i) ops) rest (frame ix r cl l (label ops (basic o i rest) en kd ∷ Ls)) (label ops (basic o i rest) en kd) Ls Fs g co)
-  basic_sim C ex e ss ws ix cl r l ops en kd Ls Fs g co o Nop rest f fs wf = plain_sim C ex e ss ws ix cl r l ops en kd Ls Fs g co o Nop rest f fs wf (f.labels.2.1, f.labels.2.2, f.labels.2.3) tt
-  basic_sim C ex e ss ws ix cl r l ops en kd Ls Fs g co o Drop rest f fs wf = plain_sim C ex e ss ws ix cl r l ops en kd Ls Fs g co o Drop rest f fs wf (f.labels.2.1, f.labels.2.2, f.labels.2.3) tt
-  basic_sim C ex e ss ws ix cl r l ops en kd Ls Fs g co o Select rest f fs wf = plain_sim C ex e ss ws ix cl r l ops en kd Ls Fs g co o Select rest f fs wf (f.labels.2.1, f.labels.2.2, f.labels.2.3) tt
-  basic_sim C ex e ss ws ix cl r l ops en kd Ls Fs g co o (LocalGet x) rest f fs wf = get_sim M M' E gl W C ex e ss ws ix cl r l ops en kd Ls Fs g co o x rest f fs wf
-  basic_sim C ex e ss ws ix cl r l ops en kd Ls Fs g co o (LocalSet x) rest f fs wf = set_sim M M' E gl W C ex e ss ws ix cl r l ops en kd Ls Fs g co o x rest f fs wf
-  basic_sim C ex e ss ws ix cl r l ops en kd Ls Fs g co o (LocalTee x) rest f fs wf = tee_sim M M' E gl W C ex e ss ws ix cl r l ops en kd Ls Fs g co o x rest f fs wf
-  basic_sim C ex e ss ws ix cl r l ops en kd Ls Fs g co o (GlobalGet x) rest f fs wf = plain_sim C ex e ss ws ix cl r l ops en kd Ls Fs g co o (GlobalGet x) rest f fs wf (f.labels.2.1, f.labels.2.2, f.labels.2.3) tt
-  basic_sim C ex e ss ws ix cl r l ops en kd Ls Fs g co o (GlobalSet x) rest f fs wf = plain_sim C ex e ss ws ix cl r l ops en kd Ls Fs g co o (GlobalSet x) rest f fs wf (f.labels.2.1, f.labels.2.2, f.labels.2.3) tt
-  basic_sim C ex e ss ws ix cl r l ops en kd Ls Fs g co o (Load y al of) rest f fs wf = plain_sim C ex e ss ws ix cl r l ops en kd Ls Fs g co o (Load y al of) rest f fs wf (f.labels.2.1, f.labels.2.2, f.labels.2.3) tt
-  basic_sim C ex e ss ws ix cl r l ops en kd Ls Fs g co o (Store y al of) rest f fs wf = plain_sim C ex e ss ws ix cl r l ops en kd Ls Fs g co o (Store y al of) rest f fs wf (f.labels.2.1, f.labels.2.2, f.labels.2.3) tt
-  basic_sim C ex e ss ws ix cl r l ops en kd Ls Fs g co o MemorySize rest f fs wf = plain_sim C ex e ss ws ix cl r l ops en kd Ls Fs g co o MemorySize rest f fs wf (f.labels.2.1, f.labels.2.2, f.labels.2.3) tt
-  basic_sim C ex e ss ws ix cl r l ops en kd Ls Fs g co o MemoryGrow rest f fs wf = plain_sim C ex e ss ws ix cl r l ops en kd Ls Fs g co o MemoryGrow rest f fs wf (f.labels.2.1, f.labels.2.2, f.labels.2.3) tt
-  basic_sim C ex e ss ws ix cl r l ops en kd Ls Fs g co o (Eqz t) rest f fs wf = plain_sim C ex e ss ws ix cl r l ops en kd Ls Fs g co o (Eqz t) rest f fs wf (f.labels.2.1, f.labels.2.2, f.labels.2.3) tt
-  basic_sim C ex e ss ws ix cl r l ops en kd Ls Fs g co o (Unary t op) rest f fs wf = plain_sim C ex e ss ws ix cl r l ops en kd Ls Fs g co o (Unary t op) rest f fs wf (f.labels.2.1, f.labels.2.2, f.labels.2.3) tt
-  basic_sim C ex e ss ws ix cl r l ops en kd Ls Fs g co o (Compare t op) rest f fs wf = plain_sim C ex e ss ws ix cl r l ops en kd Ls Fs g co o (Compare t op) rest f fs wf (f.labels.2.1, f.labels.2.2, f.labels.2.3) tt
-  basic_sim C ex e ss ws ix cl r l ops en kd Ls Fs g co o (Binary t op) rest f fs wf = plain_sim C ex e ss ws ix cl r l ops en kd Ls Fs g co o (Binary t op) rest f fs wf (f.labels.2.1, f.labels.2.2, f.labels.2.3) tt
-  basic_sim C ex e ss ws ix cl r l ops en kd Ls Fs g co o (Convert c) rest f fs wf = plain_sim C ex e ss ws ix cl r l ops en kd Ls Fs g co o (Convert c) rest f fs wf (f.labels.2.1, f.labels.2.2, f.labels.2.3) tt
-  basic_sim C ex e ss ws ix cl r l ops en kd Ls Fs g co o MemoryCopy rest f fs wf = plain_sim C ex e ss ws ix cl r l ops en kd Ls Fs g co o MemoryCopy rest f fs wf (f.labels.2.1, f.labels.2.2, f.labels.2.3) tt
-  basic_sim C ex e ss ws ix cl r l ops en kd Ls Fs g co o MemoryFill rest f fs wf = plain_sim C ex e ss ws ix cl r l ops en kd Ls Fs g co o MemoryFill rest f fs wf (f.labels.2.1, f.labels.2.2, f.labels.2.3) tt
-  basic_sim C ex e ss ws ix cl r l ops en kd Ls Fs g co o (Extend32 k) rest f fs wf = plain_sim C ex e ss ws ix cl r l ops en kd Ls Fs g co o (Extend32 k) rest f fs wf (f.labels.2.1, f.labels.2.2, f.labels.2.3) tt
-  basic_sim C ex e ss ws ix cl r l ops en kd Ls Fs g co o (Extend64 k) rest f fs wf = plain_sim C ex e ss ws ix cl r l ops en kd Ls Fs g co o (Extend64 k) rest f fs wf (f.labels.2.1, f.labels.2.2, f.labels.2.3) tt
-  basic_sim C ex e ss ws ix cl r l ops en kd Ls Fs g co o (Const v) rest f fs wf = push_sim M M' E gl W C ex e ss ws ix cl r l ops en kd Ls Fs g co o v rest f fs wf
+  basic_sim C ex e ss ws ix cl r l ops en kd Ls Fs g co o i rest f fs wf = basic_as C ex e ss ws ix cl r l ops en kd Ls Fs g co o i (treated i) rest f fs wf
 
   jump_sim : (C : Ctx) (ex : List Value) (e : List Place) (ss : List (List Place)) (ws : List Wit) (ix cl : ℕ) (r : Option ValType) (l ops : List Value) (en : ℕ) (kd : Kind) (Ls : List Label) (Fs : List Frame) (g : World) (co : List CollectorCall) (o : ℕ) (j : Jump) (rest : Nodes) → FitsFrame M E gl None (frame ix r cl l (label ops (jump o j rest) en kd ∷ Ls)) (wit C ex (e ∷ ss)) → FitsFrames M E gl W.result r Fs ws → WorldFits M gl g → suc (length Fs) ≤ M.depth → After M M' E gl W (tgt M W C ex e ss ws r l ops kd Ls Fs g co (jump o j rest)) (jumps M j o rest (frame ix r cl l (label ops (jump o j rest) en kd ∷ Ls)) (label ops (jump o j rest) en kd) Ls Fs g co)
   jump_sim C ex e ss ws ix cl r l ops en kd Ls Fs g co o Unreachable rest f fs wf sh = unreachable_sim C ex e ss ws ix cl r l ops en kd Ls Fs g co o rest f fs wf

@@ -1,45 +1,49 @@
 -- Rewritten nodes are well typed.
-use Rattle.std.proofs.Common.{◌≡◌, ℕ, zero, suc, ◌==◌, if◌then◌else◌, ◌+◌, ◌/◌, ◌<◌, ◌≤◌, nat_lt, List, [], ◌∷◌, ◌++◌, length, map, reverse, Option, Some, None, Bool, true, false, refl, sym, ap, ap₂, ◌∙◌, subst, subst₂, arith, slice_get, option_map, option_to_list, append_assoc, append-nil, length-append}
+use Rattle.rewrite_bodies.proofs.OneKind.{takes_one}
+use Rattle.rewrite_bodies.proofs.Laid.{room_landed}
+use Rattle.rewrite_bodies.proofs.Landed.{same_landing_is}
+use Rattle.rewrite_bodies.specs.calls.Landings.{same_landing, number_of, number_in, landing_of, landing_behind, one_kind, carrying, most_landings, at_end, unless_there, with_some, landing_call, landings_call, landings_jump, landings_from, landed}
+use Rattle.std.proofs.Common.{◌≡◌, ℕ, zero, suc, ◌==◌, if◌then◌else◌, ◌+◌, ◌≤◌, nat_lt, List, [], ◌∷◌, ◌++◌, length, map, reverse, Option, Some, None, Bool, true, false, refl, sym, ap, ap₂, ◌∙◌, subst, subst₂, arith, slice_get, option_map, option_to_list, append_assoc, append-nil, length-append, unwrap_or}
 use Rattle.std.specs.Prelude.{take}
 use Rattle.std.specs.List.{AllByRecursion}
 use Rattle.std.proofs.lemmas.Option.{slice_get-map}
 use Rattle.std.proofs.lemmas.List.{length-reverse}
 use Rattle.wasm_syntax.specs.declared.value.ValType.{ValType}
 use Rattle.wasm_syntax.specs.declared.value.ValType.TheVariants.{I32, I64}
-use Rattle.wasm_syntax.specs.declared.value.Value.{Value}
 use Rattle.int_ops.specs.declared.operators.Binary.{Binary as BinaryOp}
-use Rattle.int_ops.specs.declared.operators.Binary.TheVariants.{Add, Sub, Mul, DivS, DivU, RemS, RemU, And, Or, Xor, Shl, ShrS, ShrU, Rotl, Rotr}
+use Rattle.int_ops.specs.declared.operators.Binary.TheVariants.{Add}
 use Rattle.wasm_syntax.specs.declared.instruction.Basic.{Basic}
-use Rattle.wasm_syntax.specs.declared.instruction.Basic.TheVariants.{Nop, Drop, Select, LocalGet, LocalSet, LocalTee, GlobalGet, GlobalSet, Load, Store, MemorySize, MemoryGrow, MemoryCopy, MemoryFill, Const, Eqz, Unary, Compare, Binary, Convert, Extend32, Extend64}
+use Rattle.wasm_syntax.specs.declared.instruction.Basic.TheVariants.{LocalGet, GlobalSet, Eqz, Binary}
 use Rattle.wasm_syntax.specs.declared.parts.FuncType.{FuncType}
-use Rattle.wasm_syntax.specs.declared.parts.Limits.{Limits}
 use Rattle.wasm_syntax.specs.declared.module.ModuleParts.{ModuleParts as Module}
 use Rattle.wasm_syntax.specs.Numbers.{type_of}
-use Rattle.wasm_syntax.specs.Access.{load_bits, store_type, store_bits}
 use Rattle.wasm_syntax.specs.Tree.{Jump, Unreachable, Br, BrIf, BrTable, Return, Call, CallIndirect, Nodes, stop, basic, jump, block, loop, choose}
 use Rattle.wasm_syntax.specs.Module.{type_at}
 use Rattle.wasm_syntax.specs.Effect.{takes}
 use Rattle.wasm_syntax.specs.Machine.{result_of, zero_of}
-use Rattle.wasm_syntax.specs.Typing.{Context, Arrow, ◌⇒◌, BasicTypes, JumpTypes, IsLabel, AreLabels, arrow, only_if, set_global, Types}
+use Rattle.wasm_syntax.specs.Typing.{Context, Arrow, ◌⇒◌, BasicTypes, JumpTypes, IsLabel, AreLabels, arrow, set_global, Types}
 use Rattle.wasm_syntax.specs.Typing as typing
 use Rattle.rewrite_bodies.specs.Numbering.{import_count, mapped, frame_import, frame_type, flag_of, doubles}
 use Rattle.wasm_syntax.specs.Run.{table_min}
-use Rattle.rewrite_bodies.specs.Slots.{Place, Spilled, Known, Copied, place_type, Ctx, kind_at, offset_at, added, less, pushed, grown, uncopied, without, under, second_type, result_type, result_place, freed, after_plain}
-use Rattle.rewrite_bodies.specs.Pieces.{const, get, set, i32, call, if_any, fetch, load, keep, store, reload, drops}
-use Rattle.rewrite_bodies.specs.Guards.{guard, can_trap, kind, divides, helper_type}
-use Rattle.rewrite_bodies.specs.Rewrite.{guarded, tested, free, plain, with_result, after_direct, call_code, helper_of, hand_top, test_both, past_shown, indirect_code, control, rewrite, hand_locals, zero_result, exit_code, body}
-use Rattle.rewrite_bodies.specs.calls.Agreement.{FitsIn, Room_call, Room}
-use Rattle.rewrite_bodies.specs.Offsets.{SmallOffset}
+use Rattle.rewrite_bodies.specs.calls.Slots.{Place, Spilled, Known, Copied, place_type, Ctx, kind_at, offset_at, added, less, pushed, grown, uncopied, without, under, second_type, result_type, result_place, freed, after_plain, Landing, freed_at, local_written}
+use Rattle.rewrite_bodies.specs.calls.Pieces.{const, get, set, i32, call, if_any, fetch, load, keep, store, reload, drops}
+use Rattle.rewrite_bodies.specs.calls.Guards.{guard, can_trap, kind, helper_type}
+use Rattle.rewrite_bodies.specs.calls.Rewrite.{guarded, tested, free, plain, with_result, after_direct, call_code, helper_of, hand_top, test_both, past_shown, indirect_code, control, rewrite, hand_locals, zero_result, exit_code, body, checked, hand_carried, landing_code, nested, laid, free_at}
+use Rattle.rewrite_bodies.specs.calls.Agreement.{FitsIn, Room_call, Room, Room_jump}
 use Rattle.rewrite_bodies.specs.calls.Typed.{Info, in_block, in_loop, in_body, carries, Own, AllOwn, Offers, original, rewritten}
-use Rattle.rewrite_bodies.proofs.Run.{added_at, added_kind, added_offset}
+use Rattle.rewrite_bodies.proofs.Run.{added_kind, added_offset, slice_get-append}
 use Rattle.rewrite_bodies.proofs.Sim.{grown-append}
 use Rattle.rewrite_bodies.proofs.Unwind.{less_shorter}
-use Rattle.rewrite_bodies.proofs.TypedPieces.{Ok, ok_basic, ok_binary, ok_const, ok_eqz, IsExit, at_labels, ok_if, ok_call, ok_get, ok_set, ok_fetch, ok_load, ok_store, ok_keep, ok_keep_result, ok_reload, ok_drops, ok_spill, ok_hand_value, ok_tested, ok_test_flag, ok_test_both, HasMemory, ok_guard_zero, ok_guard_signed, ok_guard_memory, ok_guard_copy, ok_guard_fill, ok_kind_signed}
+use Rattle.rewrite_bodies.proofs.TypedPieces.{Ok, ok_basic, ok_binary, ok_const, ok_eqz, IsExit, at_labels, ok_if, ok_call, ok_get, ok_set, ok_fetch, ok_load, ok_store, ok_keep, ok_keep_result, ok_reload, ok_drops, ok_spill, ok_hand_value, ok_tested, ok_test_flag, ok_test_both, ok_kind_signed, ok_landing, ok_branch, ok_hand}
+use Rattle.rewrite_bodies.proofs.TypedGuards.{one_is, guard_ok}
 use Rattle.rewrite_bodies.proofs.Copies.{Fixed, fixed_under, without_append, freed_append, pushed_append}
 use Rattle.wasm_laws.proofs.Progress.{takes_len}
-use Rattle.wasm_laws.proofs.Validity.{then_found, map_found}
 use Rattle.pm_text.proofs.Lists.{some_is, get_front}
-use Rattle.wasm_syntax.proofs.Types.{any_found}
+use Rattle.wasm_syntax.proofs.Types.{any_found, then_found, map_found, only_found}
+use Rattle.rewrite_bodies.proofs.Risks.{risk_of, Treated, gets, sets, tees, constant, spills, treated, result_by, result_typed}
+use Rattle.wasm_syntax.specs.calls.Classes.{Divider, by_div_s, by_div_u, by_rem_s, by_rem_u, Risky, risky_binary, risky_load, risky_store, risky_copy, risky_fill}
+use Rattle.wasm_syntax.specs.calls.Classes.{TypeSource, DropsAny, SelectsAny, FromLocal, IntoLocal, TeesLocal, FromGlobal, IntoGlobal, OverMemory, OfItself, type_source, source_arrow, source_takes}
+use Rattle.wasm_syntax.proofs.Classes.{arrow_is, takes_is}
 
 -- ---- the operands that are taken, and those that are left
 
@@ -75,29 +79,9 @@ own_without : (C : Ctx) (these : ℕ → Bool) (es : List Place) → AllOwn C es
 own_without C these [] w = tt
 own_without C these (e ∷ es) w = (own_one C these e w.0, own_without C these es w.1)
 
-own_freed : (C : Ctx) (i : Basic) (es : List Place) → AllOwn C es → AllOwn C (freed i es)
-own_freed C (LocalSet x) es w = own_without C (λ y. x == y) es w
-own_freed C (LocalTee x) es w = own_without C (λ y. x == y) es w
-own_freed C Nop es w = w
-own_freed C Drop es w = w
-own_freed C Select es w = w
-own_freed C (LocalGet x) es w = w
-own_freed C (GlobalGet x) es w = w
-own_freed C (GlobalSet x) es w = w
-own_freed C (Load l al o) es w = w
-own_freed C (Store l al o) es w = w
-own_freed C MemorySize es w = w
-own_freed C MemoryGrow es w = w
-own_freed C MemoryCopy es w = w
-own_freed C MemoryFill es w = w
-own_freed C (Const v) es w = w
-own_freed C (Eqz u) es w = w
-own_freed C (Unary u op) es w = w
-own_freed C (Compare u op) es w = w
-own_freed C (Binary u op) es w = w
-own_freed C (Convert k) es w = w
-own_freed C (Extend32 k) es w = w
-own_freed C (Extend64 k) es w = w
+own_freed : (C : Ctx) (o : Option ℕ) (es : List Place) → AllOwn C es → AllOwn C (freed_at o es)
+own_freed C None es w = w
+own_freed C (Some x) es w = own_without C (λ y. x == y) es w
 
 own_spilled : (C : Ctx) (r : Option ValType) (es : List Place) → AllOwn C es → AllOwn C (pushed (option_map Spilled r) es)
 own_spilled C None es w = w
@@ -107,32 +91,15 @@ own_copy : (C : Ctx) (x : ℕ) (o : Option ValType) (es : List Place) → slice_
 own_copy C x None es e w = w
 own_copy C x (Some t) es e w = (e, w)
 
-own_pushed : (C : Ctx) (i : Basic) (es left : List Place) → AllOwn C left → AllOwn C (pushed (result_place C es i) left)
-own_pushed C (Const v) es left w = (tt, w)
-own_pushed C (LocalGet x) es left w = own_copy C x (slice_get C.locals x) left refl w
-own_pushed C (LocalTee x) es left w = own_copy C x (slice_get C.locals x) left refl w
-own_pushed C (LocalSet x) es left w = w
-own_pushed C Nop es left w = w
-own_pushed C Drop es left w = w
-own_pushed C Select es left w = own_spilled C (result_type C es Select) left w
-own_pushed C (GlobalGet x) es left w = own_spilled C (result_type C es (GlobalGet x)) left w
-own_pushed C (GlobalSet x) es left w = w
-own_pushed C (Load l al o) es left w = own_spilled C (result_type C es (Load l al o)) left w
-own_pushed C (Store l al o) es left w = w
-own_pushed C MemorySize es left w = (tt, w)
-own_pushed C MemoryGrow es left w = (tt, w)
-own_pushed C MemoryCopy es left w = w
-own_pushed C MemoryFill es left w = w
-own_pushed C (Eqz u) es left w = (tt, w)
-own_pushed C (Unary u op) es left w = (tt, w)
-own_pushed C (Compare u op) es left w = (tt, w)
-own_pushed C (Binary u op) es left w = (tt, w)
-own_pushed C (Convert k) es left w = own_spilled C (result_type C es (Convert k)) left w
-own_pushed C (Extend32 k) es left w = (tt, w)
-own_pushed C (Extend64 k) es left w = (tt, w)
+own_as : (C : Ctx) (i : Basic) → Treated i → (es left : List Place) → AllOwn C left → AllOwn C (pushed (result_place C es i) left)
+own_as C i (constant v) es left w = (tt, w)
+own_as C i (gets x) es left w = own_copy C x (slice_get C.locals x) left refl w
+own_as C i (tees x) es left w = own_copy C x (slice_get C.locals x) left refl w
+own_as C i (sets x) es left w = w
+own_as C i (spills none no_local given) es left w = subst (λ (p : Option Place). AllOwn C (pushed p left)) (sym (given C es)) (own_spilled C (result_type C es i) left w)
 
 pub own_after : (C : Ctx) (i : Basic) (es : List Place) → AllOwn C es → AllOwn C (after_plain C es i)
-own_after C i es w = own_pushed C i es (freed i (less (takes i) es)) (own_freed C i (less (takes i) es) (own_less C (takes i) es w))
+own_after C i es w = own_as C i (treated i) es (freed i (less (takes i) es)) (own_freed C (local_written i) (less (takes i) es) (own_less C (takes i) es w))
 
 -- the types are the same without copies
 pub without_types : (these : ℕ → Bool) (es : List Place) → map place_type (without these es) ≡ map place_type es
@@ -146,28 +113,11 @@ without_types these (Copied t x ∷ es) = ap₂ (λ (a : ValType) (z : List ValT
     one_type false t x = refl
 
 freed_types : (i : Basic) (es : List Place) → map place_type (freed i es) ≡ map place_type es
-freed_types (LocalSet x) es = without_types (λ y. x == y) es
-freed_types (LocalTee x) es = without_types (λ y. x == y) es
-freed_types Nop es = refl
-freed_types Drop es = refl
-freed_types Select es = refl
-freed_types (LocalGet x) es = refl
-freed_types (GlobalGet x) es = refl
-freed_types (GlobalSet x) es = refl
-freed_types (Load l al o) es = refl
-freed_types (Store l al o) es = refl
-freed_types MemorySize es = refl
-freed_types MemoryGrow es = refl
-freed_types MemoryCopy es = refl
-freed_types MemoryFill es = refl
-freed_types (Const v) es = refl
-freed_types (Eqz u) es = refl
-freed_types (Unary u op) es = refl
-freed_types (Compare u op) es = refl
-freed_types (Binary u op) es = refl
-freed_types (Convert k) es = refl
-freed_types (Extend32 k) es = refl
-freed_types (Extend64 k) es = refl
+freed_types i es = by_local (local_written i)
+  where
+    by_local : (o : Option ℕ) → map place_type (freed_at o es) ≡ map place_type es
+    by_local None = refl
+    by_local (Some x) = without_types (λ y. x == y) es
 
 spilled_type : (o : Option ValType) → option_map place_type (option_map Spilled o) ≡ o
 spilled_type None = refl
@@ -178,29 +128,15 @@ copied_type x None = refl
 copied_type x (Some t) = refl
 
 -- the place of a result has its type
+result_as : (C : Ctx) (es : List Place) (i : Basic) → Treated i → option_map place_type (result_place C es i) ≡ result_type C es i
+result_as C es i (constant v) = refl
+result_as C es i (gets x) = copied_type x (slice_get C.locals x)
+result_as C es i (tees x) = copied_type x (slice_get C.locals x)
+result_as C es i (sets x) = refl
+result_as C es i (spills none no_local given) = ap (option_map place_type) (given C es) ∙ spilled_type (result_type C es i)
+
 pub result_is : (C : Ctx) (es : List Place) (i : Basic) → option_map place_type (result_place C es i) ≡ result_type C es i
-result_is C es (Const v) = refl
-result_is C es (LocalGet x) = copied_type x (slice_get C.locals x)
-result_is C es (LocalTee x) = copied_type x (slice_get C.locals x)
-result_is C es Nop = refl
-result_is C es Drop = refl
-result_is C es Select = spilled_type (result_type C es Select)
-result_is C es (LocalSet x) = refl
-result_is C es (GlobalGet x) = spilled_type (result_type C es (GlobalGet x))
-result_is C es (GlobalSet x) = refl
-result_is C es (Load l al o) = refl
-result_is C es (Store l al o) = refl
-result_is C es MemorySize = refl
-result_is C es MemoryGrow = refl
-result_is C es MemoryCopy = refl
-result_is C es MemoryFill = refl
-result_is C es (Eqz u) = refl
-result_is C es (Unary u op) = refl
-result_is C es (Compare u op) = refl
-result_is C es (Binary u op) = refl
-result_is C es (Convert k) = refl
-result_is C es (Extend32 k) = refl
-result_is C es (Extend64 k) = refl
+result_is C es i = result_as C es i (treated i)
 
 pushed_types : (p : Option Place) (es : List Place) → map place_type (pushed p es) ≡ option_to_list (option_map place_type p) ++ map place_type es
 pushed_types None es = refl
@@ -237,50 +173,33 @@ grown_types (Some t) own below e = ap (λ z. t ∷ z) e
 
 -- ---- tables of arrows
 
-pub only_found : {A : Type 0} (q : Bool) (o : Option A) (b : A) → only_if q o ≡ Some b → o ≡ Some b
-only_found true o b e = e
-only_found false o b e = absurd (cc)
-
-any_has : {B : Type 0} (ls : List Limits) (o : Option B) (b : B) → typing.if_any ls o ≡ Some b → HasMemory ls
-any_has [] o b e = absurd (cc)
-any_has (l ∷ ls) o b e = tt
-
 -- what an instruction gives has the type that the rewriting takes for it
 gives_is : (C : Ctx) (ls : List Info) (t : ValType) (i : Basic) (a : Arrow) (es : List Place) → arrow (original C ls) t i ≡ Some a → map place_type (take (takes i) es) ≡ a.takes → a.gives ≡ option_to_list (result_type C es i)
-gives_is C ls t Nop a es e h = sym (ap (λ z. z.gives) (some_is e))
-gives_is C ls t Drop a es e h = sym (ap (λ z. z.gives) (some_is e))
-gives_is C ls t Select a es e h =
-    let z : (I32 ∷ t ∷ t ∷ [] ⇒ t ∷ []) ≡ a = some_is e in
-    sym (ap (λ q. q.gives) z) ∙ second es (h ∙ sym (ap (λ q. q.takes) z))
+gives_is C ls t i a es e h =
+    by_kind (type_source i) (sym (arrow_is (original C ls) t i) ∙ e) (ap (λ (n : ℕ). map place_type (take n es)) (sym (takes_is i)) ∙ h) ∙ ap option_to_list (sym (result_typed C es i))
   where
     second : (es : List Place) → map place_type (take 3 es) ≡ I32 ∷ t ∷ t ∷ [] → t ∷ [] ≡ option_to_list (second_type es)
     second [] q = absurd (cc)
     second (c ∷ []) q = absurd (cc)
     second (c ∷ b ∷ es) q = let z : place_type b ≡ t = cc in ap (λ u. u ∷ []) (sym z)
-gives_is C ls t (LocalGet x) a es e h = let f = map_found (slice_get C.locals x) _ a e in rw f.1 (sym (ap (λ z. z.gives) f.2))
-gives_is C ls t (LocalSet x) a es e h = let f = map_found (slice_get C.locals x) _ a e in sym (ap (λ z. z.gives) f.2)
-gives_is C ls t (LocalTee x) a es e h = let f = map_found (slice_get C.locals x) _ a e in rw f.1 (sym (ap (λ z. z.gives) f.2))
-gives_is C ls t (GlobalGet x) a es e h =
-    let f = map_found (slice_get C.source.globals x) _ a e in
-    let z : slice_get (map (λ g. g.vtype) C.source.globals) x ≡ Some f.0.vtype = slice_get-map (λ g. g.vtype) C.source.globals x ∙ ap (option_map (λ g. g.vtype)) f.1 in
-    rw z (sym (ap (λ z. z.gives) f.2))
-gives_is C ls t (GlobalSet x) a es e h =
-    let u = then_found (slice_get C.source.globals x) set_global a e in
-    sym (ap (λ z. z.gives) (some_is (only_found u.0.mutable _ a u.2)))
-gives_is C ls t (Load l al o) a es e h = sym (ap (λ z. z.gives) (some_is (only_found _ _ a (any_found C.source.memories _ a e))))
-gives_is C ls t (Store l al o) a es e h = sym (ap (λ z. z.gives) (some_is (only_found _ _ a (any_found C.source.memories _ a e))))
-gives_is C ls t MemorySize a es e h = sym (ap (λ z. z.gives) (some_is (any_found C.source.memories _ a e)))
-gives_is C ls t MemoryGrow a es e h = sym (ap (λ z. z.gives) (some_is (any_found C.source.memories _ a e)))
-gives_is C ls t MemoryCopy a es e h = sym (ap (λ z. z.gives) (some_is (any_found C.source.memories _ a e)))
-gives_is C ls t MemoryFill a es e h = sym (ap (λ z. z.gives) (some_is (any_found C.source.memories _ a e)))
-gives_is C ls t (Const v) a es e h = sym (ap (λ z. z.gives) (some_is e))
-gives_is C ls t (Eqz u) a es e h = sym (ap (λ z. z.gives) (some_is e))
-gives_is C ls t (Unary u op) a es e h = sym (ap (λ z. z.gives) (some_is e))
-gives_is C ls t (Compare u op) a es e h = sym (ap (λ z. z.gives) (some_is e))
-gives_is C ls t (Binary u op) a es e h = sym (ap (λ z. z.gives) (some_is e))
-gives_is C ls t (Convert k) a es e h = sym (ap (λ z. z.gives) (some_is e))
-gives_is C ls t (Extend32 k) a es e h = sym (ap (λ z. z.gives) (some_is e))
-gives_is C ls t (Extend64 k) a es e h = sym (ap (λ z. z.gives) (some_is e))
+
+    by_kind : (k : TypeSource) → source_arrow (original C ls) t k ≡ Some a → map place_type (take (source_takes k) es) ≡ a.takes → a.gives ≡ option_to_list (result_by C es k)
+    by_kind DropsAny e h = sym (ap (λ (z : Arrow). z.gives) (some_is e))
+    by_kind SelectsAny e h =
+        let z : (I32 ∷ t ∷ t ∷ [] ⇒ t ∷ []) ≡ a = some_is e in
+        sym (ap (λ (q : Arrow). q.gives) z) ∙ second es (h ∙ sym (ap (λ (q : Arrow). q.takes) z))
+    by_kind (FromLocal x) e h = let f = map_found (slice_get C.locals x) _ a e in rw f.1 (sym (ap (λ (z : Arrow). z.gives) f.2))
+    by_kind (IntoLocal x) e h = let f = map_found (slice_get C.locals x) _ a e in sym (ap (λ (z : Arrow). z.gives) f.2)
+    by_kind (TeesLocal x) e h = let f = map_found (slice_get C.locals x) _ a e in rw f.1 (sym (ap (λ (z : Arrow). z.gives) f.2))
+    by_kind (FromGlobal x) e h =
+        let f = map_found (slice_get C.source.globals x) _ a e in
+        let z : slice_get (map (λ g. g.vtype) C.source.globals) x ≡ Some f.0.vtype = slice_get-map (λ g. g.vtype) C.source.globals x ∙ ap (option_map (λ g. g.vtype)) f.1 in
+        rw z (sym (ap (λ (z : Arrow). z.gives) f.2))
+    by_kind (IntoGlobal x) e h =
+        let u = then_found (slice_get C.source.globals x) set_global a e in
+        sym (ap (λ (z : Arrow). z.gives) (some_is (only_found u.0.mutable _ a u.2)))
+    by_kind (OverMemory fits ts given) e h = sym (ap (λ (z : Arrow). z.gives) (some_is (only_found _ _ a (any_found C.source.memories _ a e))))
+    by_kind (OfItself ts given) e h = sym (ap (λ (z : Arrow). z.gives) (some_is e))
 
 -- an instruction of the original, on these places
 pub record Takes (C : Ctx) (i : Basic) (own js : List Place) (between : List ValType) (a : Arrow) : Type 0 where
@@ -307,179 +226,117 @@ module _ (C : Ctx) (m : Module) (locals : List ValType) (off : Offers C m locals
   abbrev at : List (List ValType) → Context
   at labels = at_labels m locals returns labels
 
-  memory_there : (ls : List Limits) → m.memories ≡ C.source.memories → HasMemory C.source.memories → HasMemory m.memories
-  memory_there ls e h = subst HasMemory (sym e) h
-
   any_kept : {B : Type 0} (o : Option B) (b : B) → typing.if_any C.source.memories o ≡ Some b → typing.if_any m.memories o ≡ Some b
   any_kept o b e = rw off.memories e
 
   -- an instruction of the original takes and gives the same here
   arrow_kept : (ls : List Info) (labels : List (List ValType)) (t : ValType) (i : Basic) (a : Arrow) → arrow (original C ls) t i ≡ Some a → arrow (at labels) t i ≡ Some a
-  arrow_kept ls labels t Nop a e = e
-  arrow_kept ls labels t Drop a e = e
-  arrow_kept ls labels t Select a e = e
-  arrow_kept ls labels t (LocalGet x) a e = let f = map_found (slice_get C.locals x) _ a e in rw (off.locals_are, get_front C.locals (added C.slots) x f.0 f.1) (ap Some f.2)
-  arrow_kept ls labels t (LocalSet x) a e = let f = map_found (slice_get C.locals x) _ a e in rw (off.locals_are, get_front C.locals (added C.slots) x f.0 f.1) (ap Some f.2)
-  arrow_kept ls labels t (LocalTee x) a e = let f = map_found (slice_get C.locals x) _ a e in rw (off.locals_are, get_front C.locals (added C.slots) x f.0 f.1) (ap Some f.2)
-  arrow_kept ls labels t (GlobalGet x) a e = let f = map_found (slice_get C.source.globals x) _ a e in rw (off.globals x f.0 f.1) (ap Some f.2)
-  arrow_kept ls labels t (GlobalSet x) a e = let f = then_found (slice_get C.source.globals x) set_global a e in rw (off.globals x f.0 f.1) f.2
-  arrow_kept ls labels t (Load l al o) a e = any_kept _ a e
-  arrow_kept ls labels t (Store l al o) a e = any_kept _ a e
-  arrow_kept ls labels t MemorySize a e = any_kept _ a e
-  arrow_kept ls labels t MemoryGrow a e = any_kept _ a e
-  arrow_kept ls labels t MemoryCopy a e = any_kept _ a e
-  arrow_kept ls labels t MemoryFill a e = any_kept _ a e
-  arrow_kept ls labels t (Const v) a e = e
-  arrow_kept ls labels t (Eqz u) a e = e
-  arrow_kept ls labels t (Unary u op) a e = e
-  arrow_kept ls labels t (Compare u op) a e = e
-  arrow_kept ls labels t (Binary u op) a e = e
-  arrow_kept ls labels t (Convert k) a e = e
-  arrow_kept ls labels t (Extend32 k) a e = e
-  arrow_kept ls labels t (Extend64 k) a e = e
+  arrow_kept ls labels t i a e = arrow_is (at labels) t i ∙ by_kind (type_source i) (sym (arrow_is (original C ls) t i) ∙ e)
+    where
+      by_kind : (k : TypeSource) → source_arrow (original C ls) t k ≡ Some a → source_arrow (at labels) t k ≡ Some a
+      by_kind DropsAny e = e
+      by_kind SelectsAny e = e
+      by_kind (FromLocal x) e = let f = map_found (slice_get C.locals x) _ a e in rw (off.locals_are, get_front C.locals (added C.slots) x f.0 f.1) (ap Some f.2)
+      by_kind (IntoLocal x) e = let f = map_found (slice_get C.locals x) _ a e in rw (off.locals_are, get_front C.locals (added C.slots) x f.0 f.1) (ap Some f.2)
+      by_kind (TeesLocal x) e = let f = map_found (slice_get C.locals x) _ a e in rw (off.locals_are, get_front C.locals (added C.slots) x f.0 f.1) (ap Some f.2)
+      by_kind (FromGlobal x) e = let f = map_found (slice_get C.source.globals x) _ a e in rw (off.globals x f.0 f.1) (ap Some f.2)
+      by_kind (IntoGlobal x) e = let f = then_found (slice_get C.source.globals x) set_global a e in rw (off.globals x f.0 f.1) f.2
+      by_kind (OverMemory fits ts given) e = any_kept _ a e
+      by_kind (OfItself ts given) e = e
 
   -- ---- guards
 
-  kind_division : {labels : List (List ValType)} {z s : List ValType} {k : Nodes} (op : BinaryOp) (t : ValType) (es : List Place) → length es ≤ C.slots → AllOwn C es → map place_type (take 2 es) ≡ t ∷ t ∷ [] → Ok (at labels) z (I32 ∷ s) k → Ok (at labels) z s (kind C (Binary t op) es k)
-  kind_division DivS t [] le w h g = ok_const (i32 2) g
-  kind_division DivS t (b ∷ []) le w h g = ok_const (i32 2) g
-  kind_division DivS t (b ∷ a ∷ es) le w h g = ok_kind_signed C m locals off returns t b (suc (length es)) (omega (arith, le)) w.0 (let same : place_type b ≡ t = cc in same) g
-  kind_division DivU t es le w h g = ok_const (i32 2) g
-  kind_division RemS t es le w h g = ok_const (i32 2) g
-  kind_division RemU t es le w h g = ok_const (i32 2) g
-  kind_division Add t es le w h g = ok_const (i32 2) g
-  kind_division Sub t es le w h g = ok_const (i32 2) g
-  kind_division Mul t es le w h g = ok_const (i32 2) g
-  kind_division And t es le w h g = ok_const (i32 2) g
-  kind_division Or t es le w h g = ok_const (i32 2) g
-  kind_division Xor t es le w h g = ok_const (i32 2) g
-  kind_division Shl t es le w h g = ok_const (i32 2) g
-  kind_division ShrS t es le w h g = ok_const (i32 2) g
-  kind_division ShrU t es le w h g = ok_const (i32 2) g
-  kind_division Rotl t es le w h g = ok_const (i32 2) g
-  kind_division Rotr t es le w h g = ok_const (i32 2) g
+  kind_division : {labels : List (List ValType)} {z s : List ValType} {k : Nodes} (op : BinaryOp) → Divider op → (t : ValType) (es : List Place) → length es ≤ C.slots → AllOwn C es → map place_type (take 2 es) ≡ t ∷ t ∷ [] → Ok (at labels) z (I32 ∷ s) k → Ok (at labels) z s (kind C (Binary t op) es k)
+  kind_division op by_div_s t [] le w h g = ok_const (i32 2) g
+  kind_division op by_div_s t (b ∷ []) le w h g = ok_const (i32 2) g
+  kind_division op by_div_s t (b ∷ a ∷ es) le w h g = ok_kind_signed C m locals off returns t b (suc (length es)) (omega (arith, le)) w.0 (let same : place_type b ≡ t = cc in same) g
+  kind_division op by_div_u t es le w h g = ok_const (i32 2) g
+  kind_division op by_rem_s t es le w h g = ok_const (i32 2) g
+  kind_division op by_rem_u t es le w h g = ok_const (i32 2) g
 
   -- the piece that pushes the kind, where the operands are there
-  pub kind_ok : {labels : List (List ValType)} {z s : List ValType} {k : Nodes} (ls : List Info) (i : Basic) (t : ValType) (a : Arrow) (es : List Place) → length es ≤ C.slots → AllOwn C es → arrow (original C ls) t i ≡ Some a → map place_type (take (takes i) es) ≡ a.takes → can_trap i ≡ true → Ok (at labels) z (I32 ∷ s) k → Ok (at labels) z s (kind C i es k)
-  kind_ok ls (Binary u op) t a es le w e h d g = kind_division op u es le w (h ∙ sym (ap (λ z. z.takes) (some_is e))) g
-  kind_ok ls (Load l al o) t a es le w e h d g = ok_const (i32 4) g
-  kind_ok ls (Store l al o) t a es le w e h d g = ok_const (i32 4) g
-  kind_ok ls MemoryCopy t a es le w e h d g = ok_const (i32 4) g
-  kind_ok ls MemoryFill t a es le w e h d g = ok_const (i32 4) g
-  kind_ok ls Nop t a es le w e h d g = absurd (cc)
-  kind_ok ls Drop t a es le w e h d g = absurd (cc)
-  kind_ok ls Select t a es le w e h d g = absurd (cc)
-  kind_ok ls (LocalGet x) t a es le w e h d g = absurd (cc)
-  kind_ok ls (LocalSet x) t a es le w e h d g = absurd (cc)
-  kind_ok ls (LocalTee x) t a es le w e h d g = absurd (cc)
-  kind_ok ls (GlobalGet x) t a es le w e h d g = absurd (cc)
-  kind_ok ls (GlobalSet x) t a es le w e h d g = absurd (cc)
-  kind_ok ls MemorySize t a es le w e h d g = absurd (cc)
-  kind_ok ls MemoryGrow t a es le w e h d g = absurd (cc)
-  kind_ok ls (Const v) t a es le w e h d g = absurd (cc)
-  kind_ok ls (Eqz u) t a es le w e h d g = absurd (cc)
-  kind_ok ls (Unary u op) t a es le w e h d g = absurd (cc)
-  kind_ok ls (Compare u op) t a es le w e h d g = absurd (cc)
-  kind_ok ls (Convert c) t a es le w e h d g = absurd (cc)
-  kind_ok ls (Extend32 c) t a es le w e h d g = absurd (cc)
-  kind_ok ls (Extend64 c) t a es le w e h d g = absurd (cc)
-
-  abbrev Guarded : List (List ValType) → List ValType → List ValType → Basic → List Place → Nodes → Type 0
-  Guarded labels z s i es k = Ok (at labels) z (I32 ∷ s) k → Ok (at labels) z s (guard C i es k)
-
-  one_is : {t u : ValType} {ts us : List ValType} → t ∷ ts ≡ u ∷ us → t ≡ u
-  one_is e = cc
-
-  two_is : {t u t1 u1 : ValType} {ts us : List ValType} → t ∷ t1 ∷ ts ≡ u ∷ u1 ∷ us → t1 ≡ u1
-  two_is e = cc
-
-  three_is : {t u t1 u1 t2 u2 : ValType} {ts us : List ValType} → t ∷ t1 ∷ t2 ∷ ts ≡ u ∷ u1 ∷ u2 ∷ us → t2 ≡ u2
-  three_is e = cc
-
-  guard_division : (labels : List (List ValType)) (z s : List ValType) (op : BinaryOp) (t : ValType) (es : List Place) (k : Nodes) → length es ≤ C.slots → AllOwn C es → map place_type (take 2 es) ≡ t ∷ t ∷ [] → divides op ≡ true → Guarded labels z s (Binary t op) es k
-  guard_division labels z s op t [] k le w h d g = absurd (cc)
-  guard_division labels z s op t (b ∷ []) k le w h d g = absurd (cc)
-  guard_division labels z s DivS t (b ∷ a ∷ es) k le w h d g = ok_guard_signed C m locals off returns t b a (length es) (omega (arith, le)) w.0 w.1.0 (one_is h) (two_is h) g
-  guard_division labels z s DivU t (b ∷ a ∷ es) k le w h d g = ok_guard_zero C m locals off returns t b (suc (length es)) (omega (arith, le)) w.0 (one_is h) g
-  guard_division labels z s RemS t (b ∷ a ∷ es) k le w h d g = ok_guard_zero C m locals off returns t b (suc (length es)) (omega (arith, le)) w.0 (one_is h) g
-  guard_division labels z s RemU t (b ∷ a ∷ es) k le w h d g = ok_guard_zero C m locals off returns t b (suc (length es)) (omega (arith, le)) w.0 (one_is h) g
-  guard_division labels z s Add t (b ∷ a ∷ es) k le w h d g = absurd (cc)
-  guard_division labels z s Sub t (b ∷ a ∷ es) k le w h d g = absurd (cc)
-  guard_division labels z s Mul t (b ∷ a ∷ es) k le w h d g = absurd (cc)
-  guard_division labels z s And t (b ∷ a ∷ es) k le w h d g = absurd (cc)
-  guard_division labels z s Or t (b ∷ a ∷ es) k le w h d g = absurd (cc)
-  guard_division labels z s Xor t (b ∷ a ∷ es) k le w h d g = absurd (cc)
-  guard_division labels z s Shl t (b ∷ a ∷ es) k le w h d g = absurd (cc)
-  guard_division labels z s ShrS t (b ∷ a ∷ es) k le w h d g = absurd (cc)
-  guard_division labels z s ShrU t (b ∷ a ∷ es) k le w h d g = absurd (cc)
-  guard_division labels z s Rotl t (b ∷ a ∷ es) k le w h d g = absurd (cc)
-  guard_division labels z s Rotr t (b ∷ a ∷ es) k le w h d g = absurd (cc)
-
-  has_memory : (q : Bool) {B : Type 0} (o : Option B) (b : B) → typing.if_any C.source.memories o ≡ Some b → HasMemory m.memories
-  has_memory q o b e = memory_there m.memories off.memories (any_has C.source.memories o b e)
-
-  -- the guard of an instruction whose operands are there
-  guard_ok : (ls : List Info) (labels : List (List ValType)) (z s : List ValType) (i : Basic) (t : ValType) (a : Arrow) (es : List Place) (k : Nodes) → length es ≤ C.slots → AllOwn C es → arrow (original C ls) t i ≡ Some a → map place_type (take (takes i) es) ≡ a.takes → can_trap i ≡ true → Guarded labels z s i es k
-  guard_ok ls labels z s (Binary u op) t a es k le w e h d g = guard_division labels z s op u es k le w (h ∙ sym (ap (λ z. z.takes) (some_is e))) d g
-  guard_ok ls labels z s (Load l al o) t a [] k le w e h d g = absurd (let y : [] ≡ I32 ∷ [] = h ∙ sym (ap (λ z. z.takes) (some_is (only_found _ _ a (any_found C.source.memories _ a e)))) in cc)
-  guard_ok ls labels z s (Load l al o) t a (p ∷ es) k le w e h d g =
-      let x = ap (λ z. z.takes) (some_is (only_found _ _ a (any_found C.source.memories _ a e))) in
-      ok_guard_memory C m locals off returns p (length es) (o + load_bits l / 8) (omega (arith, le)) (has_memory true _ a e) w.0 (one_is (h ∙ sym x)) g
-  guard_ok ls labels z s (Store l al o) t a [] k le w e h d g = let x = ap (λ z. z.takes) (some_is (only_found _ _ a (any_found C.source.memories _ a e))) in absurd (let y : [] ≡ store_type l ∷ I32 ∷ [] = h ∙ sym x in cc)
-  guard_ok ls labels z s (Store l al o) t a (v ∷ []) k le w e h d g = let x = ap (λ z. z.takes) (some_is (only_found _ _ a (any_found C.source.memories _ a e))) in absurd (let y : place_type v ∷ [] ≡ store_type l ∷ I32 ∷ [] = h ∙ sym x in cc)
-  guard_ok ls labels z s (Store l al o) t a (v ∷ p ∷ es) k le w e h d g =
-      let x = ap (λ z. z.takes) (some_is (only_found _ _ a (any_found C.source.memories _ a e))) in
-      ok_guard_memory C m locals off returns p (length es) (o + store_bits l / 8) (omega (arith, le)) (has_memory true _ a e) w.1.0 (two_is (h ∙ sym x)) g
-  guard_ok ls labels z s MemoryCopy t a es k le w e h d g = copy es le w (h ∙ sym (ap (λ z. z.takes) (some_is (any_found C.source.memories _ a e)))) g
-    where
-      copy : (es : List Place) → length es ≤ C.slots → AllOwn C es → map place_type (take 3 es) ≡ I32 ∷ I32 ∷ I32 ∷ [] → Guarded labels z s MemoryCopy es k
-      copy [] le w h g = absurd (cc)
-      copy (n ∷ []) le w h g = absurd (cc)
-      copy (n ∷ from ∷ []) le w h g = absurd (cc)
-      copy (n ∷ from ∷ to ∷ es) le w h g = ok_guard_copy C m locals off returns n from to (length es) (omega (arith, le)) (has_memory true _ a e) w.0 w.1.0 w.1.1.0 (one_is h) (two_is h) (three_is h) g
-  guard_ok ls labels z s MemoryFill t a es k le w e h d g = fill es le w (h ∙ sym (ap (λ z. z.takes) (some_is (any_found C.source.memories _ a e)))) g
-    where
-      fill : (es : List Place) → length es ≤ C.slots → AllOwn C es → map place_type (take 3 es) ≡ I32 ∷ I32 ∷ I32 ∷ [] → Guarded labels z s MemoryFill es k
-      fill [] le w h g = absurd (cc)
-      fill (n ∷ []) le w h g = absurd (cc)
-      fill (n ∷ byte ∷ []) le w h g = absurd (cc)
-      fill (n ∷ byte ∷ to ∷ es) le w h g = ok_guard_fill C m locals off returns n to (length es) (omega (arith, le)) (has_memory true _ a e) w.0 w.1.1.0 (one_is h) (three_is h) g
-  guard_ok ls labels z s Nop t a es k le w e h d g = absurd (cc)
-  guard_ok ls labels z s Drop t a es k le w e h d g = absurd (cc)
-  guard_ok ls labels z s Select t a es k le w e h d g = absurd (cc)
-  guard_ok ls labels z s (LocalGet x) t a es k le w e h d g = absurd (cc)
-  guard_ok ls labels z s (LocalSet x) t a es k le w e h d g = absurd (cc)
-  guard_ok ls labels z s (LocalTee x) t a es k le w e h d g = absurd (cc)
-  guard_ok ls labels z s (GlobalGet x) t a es k le w e h d g = absurd (cc)
-  guard_ok ls labels z s (GlobalSet x) t a es k le w e h d g = absurd (cc)
-  guard_ok ls labels z s MemorySize t a es k le w e h d g = absurd (cc)
-  guard_ok ls labels z s MemoryGrow t a es k le w e h d g = absurd (cc)
-  guard_ok ls labels z s (Const v) t a es k le w e h d g = absurd (cc)
-  guard_ok ls labels z s (Eqz u) t a es k le w e h d g = absurd (cc)
-  guard_ok ls labels z s (Unary u op) t a es k le w e h d g = absurd (cc)
-  guard_ok ls labels z s (Compare u op) t a es k le w e h d g = absurd (cc)
-  guard_ok ls labels z s (Convert c) t a es k le w e h d g = absurd (cc)
-  guard_ok ls labels z s (Extend32 c) t a es k le w e h d g = absurd (cc)
-  guard_ok ls labels z s (Extend64 c) t a es k le w e h d g = absurd (cc)
-
-  guarded_ok : (ls : List Info) (labels : List (List ValType)) (z s : List ValType) (i : Basic) (t : ValType) (a : Arrow) (es : List Place) (o : ℕ) (k : Nodes) (q : Bool) → IsExit (length ls) labels → length es ≤ C.slots → AllOwn C es → arrow (original C ls) t i ≡ Some a → map place_type (take (takes i) es) ≡ a.takes → can_trap i ≡ q → Ok (at labels) z s k → Ok (at labels) z s (guarded q C (length ls) es o i k)
-  guarded_ok ls labels z s i t a es o k false x le w e h d g = g
-  guarded_ok ls labels z s i t a es o k true x le w e h d g =
-      guard_ok ls labels z s i t a es (tested C (length ls) es o (kind C i es) k) le w e h d
-      (ok_tested C m locals off returns (length ls) es o (kind C i es) le w x (λ arm y. kind_ok ls i t a es le w e h d y) g)
+  pub kind_ok : {labels : List (List ValType)} {z s : List ValType} {k : Nodes} (ls : List Info) (i : Basic) → Risky i → (t : ValType) (a : Arrow) (es : List Place) → length es ≤ C.slots → AllOwn C es → arrow (original C ls) t i ≡ Some a → map place_type (take (takes i) es) ≡ a.takes → can_trap i ≡ true → Ok (at labels) z (I32 ∷ s) k → Ok (at labels) z s (kind C i es k)
+  kind_ok ls i (risky_binary u op by) t a es le w e h d g = kind_division op by u es le w (h ∙ sym (ap (λ z. z.takes) (some_is e))) g
+  kind_ok ls i (risky_load l al o) t a es le w e h d g = ok_const (i32 4) g
+  kind_ok ls i (risky_store l al o) t a es le w e h d g = ok_const (i32 4) g
+  kind_ok ls i risky_copy t a es le w e h d g = ok_const (i32 4) g
+  kind_ok ls i risky_fill t a es le w e h d g = ok_const (i32 4) g
 
   -- ---- the labels
 
-  -- those of the original, and outside of them the exit and the function
-  abbrev pub inside : List Info → List (List ValType)
-  inside ls = map (λ i. option_to_list (carries i)) ls ++ [] ∷ returns ∷ []
+  -- those of landings, and outside of them the exit and the function
+  abbrev pub outside : List Landing → List (List ValType)
+  outside [] = [] ∷ returns ∷ []
+  outside (x ∷ xs) = option_to_list x.carried ∷ outside xs
 
-  exit_there : (ls : List Info) → IsExit (length ls) (inside ls)
-  exit_there [] = refl
-  exit_there (i ∷ ls) = exit_there ls
+  -- those of the original, inside of them
+  abbrev pub inside : List Info → List (List ValType)
+  inside ls = map (λ i. option_to_list (carries i)) ls ++ outside C.landings
+
+  pub outside_exit : (xs : List Landing) → IsExit (length xs) (outside xs)
+  outside_exit [] = refl
+  outside_exit (x ∷ xs) = outside_exit xs
+
+  outside_land : (xs : List Landing) (x : Landing) (n : ℕ) → number_of x xs ≡ Some n → slice_get (outside xs) n ≡ Some (option_to_list x.carried)
+  outside_land [] x n e = absurd (cc)
+  outside_land (y ∷ ys) x n e = by_same (λ m is. outside_land ys x m is) (same_landing x y) refl e
+    where
+      beyond : ((m : ℕ) → number_of x ys ≡ Some m → slice_get (outside ys) m ≡ Some (option_to_list x.carried)) → (q : Option ℕ) → number_of x ys ≡ q → option_map suc q ≡ Some n → slice_get (outside (y ∷ ys)) n ≡ Some (option_to_list x.carried)
+      beyond more None is e = absurd (cc)
+      beyond more (Some m) is e =
+          let z : suc m ≡ n = ap (λ o. unwrap_or o 0) e in
+          subst (λ n. slice_get (outside (y ∷ ys)) n ≡ Some (option_to_list x.carried)) z (more m is)
+
+      by_same : ((m : ℕ) → number_of x ys ≡ Some m → slice_get (outside ys) m ≡ Some (option_to_list x.carried)) → (b : Bool) → same_landing x y ≡ b → (if b then Some 0 else option_map suc (number_of x ys)) ≡ Some n → slice_get (outside (y ∷ ys)) n ≡ Some (option_to_list x.carried)
+      by_same more true s e =
+          let z : 0 ≡ n = ap (λ o. unwrap_or o 0) e in
+          subst (λ n. slice_get (outside (y ∷ ys)) n ≡ Some (option_to_list x.carried)) z (ap (λ (u : Landing). Some (option_to_list u.carried)) (sym (same_landing_is x y s)))
+      by_same more false s e = beyond more (number_of x ys) refl e
+
+  infos_length : (ls : List Info) → length ls ≡ length (map (λ i. option_to_list (carries i)) ls)
+  infos_length [] = refl
+  infos_length (i ∷ ls) = ap suc (infos_length ls)
+
+  exit_there : (ls : List Info) → IsExit (length ls + length C.landings) (inside ls)
+  exit_there ls = slice_get-append (map (λ i. option_to_list (carries i)) ls) (outside C.landings) (length ls) (length C.landings) (infos_length ls) ∙ outside_exit C.landings
+
+  land_there : (ls : List Info) (x : Landing) (n : ℕ) → number_of x C.landings ≡ Some n → slice_get (inside ls) (length ls + n) ≡ Some (option_to_list x.carried)
+  land_there ls x n e = slice_get-append (map (λ i. option_to_list (carries i)) ls) (outside C.landings) (length ls) n (infos_length ls) ∙ outside_land C.landings x n e
+
+  -- a guard and its test, in front of an instruction whose operands are on the stack
+  guarded_ok : (ls : List Info) (z : List ValType) (i : Basic) (t : ValType) (a : Arrow) (own js : List Place) (below : List ValType) (o : ℕ) (k : Nodes) (q : Bool) → length (own ++ js) ≤ C.slots → AllOwn C (own ++ js) → arrow (original C ls) t i ≡ Some a → map place_type (take (takes i) (own ++ js)) ≡ a.takes → map place_type own ≡ a.takes ++ below → can_trap i ≡ q → Ok (at (inside ls)) z (map place_type own) k → Ok (at (inside ls)) z (map place_type own) (guarded q C (length ls) (own ++ js) o i k)
+  guarded_ok ls z i t a own js below o k false le w e h is d g = g
+  guarded_ok ls z i t a own js below o k true le w e h is d g = by_kind own (one_kind i) refl le w h is g
+    where
+      in_place : (own : List Place) → length (own ++ js) ≤ C.slots → AllOwn C (own ++ js) → map place_type (take (takes i) (own ++ js)) ≡ a.takes → Ok (at (inside ls)) z (map place_type own) k → Ok (at (inside ls)) z (map place_type own) (checked None C (length ls) (own ++ js) o (guard C i (own ++ js)) (kind C i (own ++ js)) k)
+      in_place own le w h g =
+          guard_ok C m locals off returns (inside ls) z (map place_type own) (tested C (length ls) (own ++ js) o (kind C i (own ++ js)) k) ls i (risk_of i d) t a (own ++ js) le w e h d
+          (ok_tested C m locals off returns (length ls) (own ++ js) o (kind C i (own ++ js)) le w (exit_there ls) (λ arm y. kind_ok ls i (risk_of i d) t a (own ++ js) le w e h d y) g)
+
+      no_operand : (js : List Place) (m : ℕ) → takes i ≡ suc m → map place_type (take (takes i) js) ≡ a.takes → [] ≡ a.takes ++ below → js ≡ []
+      no_operand [] m tk h is = refl
+      no_operand (p ∷ js) m tk h is =
+          let x : place_type p ∷ map place_type (take m js) ≡ a.takes = subst (λ n. map place_type (take n (p ∷ js)) ≡ a.takes) tk h in
+          let y : [] ≡ (place_type p ∷ map place_type (take m js)) ++ below = is ∙ ap (λ (q : List ValType). q ++ below) (sym x) in
+          absurd (cc)
+
+      by_number : (own : List Place) (k1 : ℕ) → one_kind i ≡ Some k1 → (q : Option ℕ) → number_in C.landings (carrying (Some k1) (own ++ js)) ≡ q → length (own ++ js) ≤ C.slots → AllOwn C (own ++ js) → map place_type (take (takes i) (own ++ js)) ≡ a.takes → map place_type own ≡ a.takes ++ below → Ok (at (inside ls)) z (map place_type own) k → Ok (at (inside ls)) z (map place_type own) (checked q C (length ls) (own ++ js) o (guard C i (own ++ js)) (kind C i (own ++ js)) k)
+      by_number own k1 one None num le w h is g = in_place own le w h g
+      by_number [] k1 one (Some n) num le w h is g =
+          let tk = takes_one i k1 one in
+          let none : js ≡ [] = no_operand js tk.0 tk.1 h is in
+          let num' : number_in C.landings (carrying (Some k1) []) ≡ Some n = subst (λ (x : List Place). number_in C.landings (carrying (Some k1) x) ≡ Some n) none num in
+          absurd (cc)
+      by_number (p ∷ own) k1 one (Some n) num le w h is g =
+          ok_landing C m locals off returns (length ls) n o (place_type p ∷ []) (map place_type own) (guard C i ((p ∷ own) ++ js)) (kind C i ((p ∷ own) ++ js)) ((p ∷ own) ++ js) (land_there ls (record { carried = Some (place_type p); places = own ++ js; kind = k1 }) n num) refl
+          (λ k y. guard_ok C m locals off returns (inside ls) z (map place_type (p ∷ own)) k ls i (risk_of i d) t a ((p ∷ own) ++ js) le w e h d y) g
+
+      by_kind : (own : List Place) (q : Option ℕ) → one_kind i ≡ q → length (own ++ js) ≤ C.slots → AllOwn C (own ++ js) → map place_type (take (takes i) (own ++ js)) ≡ a.takes → map place_type own ≡ a.takes ++ below → Ok (at (inside ls)) z (map place_type own) k → Ok (at (inside ls)) z (map place_type own) (checked (number_in C.landings (carrying q (own ++ js))) C (length ls) (own ++ js) o (guard C i (own ++ js)) (kind C i (own ++ js)) k)
+      by_kind own None one le w h is g = in_place own le w h g
+      by_kind own (Some k1) one le w h is g = by_number own k1 one (number_in C.landings (carrying (Some k1) (own ++ js))) refl le w h is g
 
   label_there : (ls : List Info) (l : ℕ) (types : List ValType) → IsLabel (original C ls) l types → slice_get (inside ls) l ≡ Some types
-  label_there ls l types e = get_front (map (λ i. option_to_list (carries i)) ls) ([] ∷ returns ∷ []) l types e
+  label_there ls l types e = get_front (map (λ i. option_to_list (carries i)) ls) (outside C.landings) l types e
 
   labels_there : (ls : List Info) (ts : List ℕ) (types : List ValType) → AreLabels (original C ls) ts types → AllByRecursion (λ n. slice_get (inside ls) n ≡ Some types) ts
   labels_there ls [] types h = tt
@@ -490,29 +347,9 @@ module _ (C : Ctx) (m : Module) (locals : List ValType) (off : Offers C m locals
   abbrev Rest : List Info → List Place → Nodes → List ValType → List ValType → Type 0
   Rest ls js rest between z = (own : List Place) → map place_type own ≡ between → AllOwn C (own ++ js) → Room C (own ++ js) rest → Ok (at (inside ls)) z between (rewrite C (length ls) (own ++ js) rest)
 
-  free_ok : {labels : List (List ValType)} {z s : List ValType} {k : Nodes} (i : Basic) (es : List Place) → length es ≤ C.slots → AllOwn C es → Ok (at labels) z s k → Ok (at labels) z s (free C i es k)
-  free_ok (LocalSet x) es le w g = ok_spill C m locals off returns (λ y. x == y) es le w g
-  free_ok (LocalTee x) es le w g = ok_spill C m locals off returns (λ y. x == y) es le w g
-  free_ok Nop es le w g = g
-  free_ok Drop es le w g = g
-  free_ok Select es le w g = g
-  free_ok (LocalGet x) es le w g = g
-  free_ok (GlobalGet x) es le w g = g
-  free_ok (GlobalSet x) es le w g = g
-  free_ok (Load l al o) es le w g = g
-  free_ok (Store l al o) es le w g = g
-  free_ok MemorySize es le w g = g
-  free_ok MemoryGrow es le w g = g
-  free_ok MemoryCopy es le w g = g
-  free_ok MemoryFill es le w g = g
-  free_ok (Const v) es le w g = g
-  free_ok (Eqz u) es le w g = g
-  free_ok (Unary u op) es le w g = g
-  free_ok (Compare u op) es le w g = g
-  free_ok (Binary u op) es le w g = g
-  free_ok (Convert k) es le w g = g
-  free_ok (Extend32 k) es le w g = g
-  free_ok (Extend64 k) es le w g = g
+  free_ok : {labels : List (List ValType)} {z s : List ValType} {k : Nodes} (o : Option ℕ) (es : List Place) → length es ≤ C.slots → AllOwn C es → Ok (at labels) z s k → Ok (at labels) z s (free_at C o es k)
+  free_ok None es le w g = g
+  free_ok (Some x) es le w g = ok_spill C m locals off returns (λ y. x == y) es le w g
 
   plain_ok : (ls : List Info) (i : Basic) (own js : List Place) (o : ℕ) (rest : Nodes) (between z : List ValType) → Fixed js → BasicTypes (original C ls) i (map place_type own) between → AllOwn C (own ++ js) → Room C (own ++ js) (basic o i rest) → Rest ls js rest between z → Ok (at (inside ls)) z (map place_type own) (plain C (length ls) (own ++ js) o i (λ es'. rewrite C (length ls) es' rest))
   plain_ok ls i own js o rest between z f h w rm ih =
@@ -533,14 +370,14 @@ module _ (C : Ctx) (m : Module) (locals : List ValType) (off : Offers C m locals
       let gives_is_ : a.gives ++ below ≡ option_to_list (option_map place_type p) ++ below = ap (λ (y : List ValType). y ++ below) (T.gives ∙ ap option_to_list (sym (result_is C es i))) in
       let k2 : Ok (at (inside ls)) z (a.gives ++ below) (keep C p left k) = subst (λ x. Ok (at (inside ls)) z x (keep C p left k)) (sym gives_is_) (ok_keep C m locals off returns below p left (subst (λ x. FitsIn C x left) (sym (result_is C es i)) rm.2) (subst (λ x. Ok (at (inside ls)) z x k) (h.above.gives ∙ gives_is_) k1)) in
       let k3 : Ok (at (inside ls)) z (a.takes ++ below) (basic 0 i (keep C p left k)) = ok_basic below i h.any a (arrow_kept ls (inside ls) h.any i a h.has) k2 in
-      let k4 : Ok (at (inside ls)) z (map place_type own) (free C i left (basic 0 i (keep C p left k))) = free_ok i left low (own_less C n es w) (subst (λ x. Ok (at (inside ls)) z x (basic 0 i (keep C p left k))) (sym h.above.takes) k3) in
-      guarded_ok ls (inside ls) z (map place_type own) i h.any a es o (free C i left (basic 0 i (keep C p left k))) (can_trap i) (exit_there ls) rm.0 w h.has T.taken refl k4
+      let k4 : Ok (at (inside ls)) z (map place_type own) (free C i left (basic 0 i (keep C p left k))) = free_ok (local_written i) left low (own_less C n es w) (subst (λ x. Ok (at (inside ls)) z x (basic 0 i (keep C p left k))) (sym h.above.takes) k3) in
+      guarded_ok ls z i h.any a own js below o (free C i left (basic 0 i (keep C p left k))) (can_trap i) rm.0 w h.has T.taken h.above.takes refl k4
 
   -- ---- calls
 
   after_ok : (ls : List Info) (z s : List ValType) (q : Bool) (r : Option ValType) (left : List Place) (o : ℕ) (rest : Nodes) → length left ≤ C.slots → AllOwn C left → FitsIn C r left → Ok (at (inside ls)) z (option_to_list r ++ s) (rewrite C (length ls) (grown r left) rest) → Ok (at (inside ls)) z (option_to_list r ++ s) (after_direct q C (length ls) r left o (λ es'. rewrite C (length ls) es' rest))
   after_ok ls z s true r left o rest le w fit k = ok_keep_result C m locals off returns s r left fit k
-  after_ok ls z s false r left o rest le w fit k = ok_keep_result C m locals off returns s r left fit (ok_test_flag C m locals off returns (length ls) left o le w (exit_there ls) k)
+  after_ok ls z s false r left o rest le w fit k = ok_keep_result C m locals off returns s r left fit (ok_test_flag C m locals off returns (length ls) left o le w (exit_there ls) (λ n is. land_there ls (landing_behind left) n is) k)
 
   -- what a call leaves, and its result
   pub record Called (type : FuncType) (own js : List Place) (rest : Nodes) (ls : List Info) (z below : List ValType) : Type 0 where
@@ -694,6 +531,84 @@ module _ (C : Ctx) (m : Module) (locals : List ValType) (off : Offers C m locals
       let high : length es ≤ C.slots = omega (arith, rm.0) in
       ok_spill C m locals off returns (λ x. true) es high w.1 (subst (λ v. Ok (at (inside ls)) z before (code v)) (sym sp) k)
 
+-- ---- the operands of landings have their places
+
+abbrev pub Fine : Ctx → Landing → Type 0
+Fine C x = (length x.places ≤ C.slots) × AllOwn C x.places
+
+abbrev pub AllFine : Ctx → List Landing → Type 0
+AllFine C [] = Unit {0}
+AllFine C (x ∷ xs) = Fine C x × AllFine C xs
+
+own_landed : (C : Ctx) (ys : List Landing) (e : Place) → Own C e → Own (landed C ys) e
+own_landed C ys (Spilled t) h = tt
+own_landed C ys (Known v) h = tt
+own_landed C ys (Copied t x) h = h
+
+all_own_landed : (C : Ctx) (ys : List Landing) (es : List Place) → AllOwn C es → AllOwn (landed C ys) es
+all_own_landed C ys [] h = tt
+all_own_landed C ys (e ∷ es) h = (own_landed C ys e h.0, all_own_landed C ys es h.1)
+
+pub all_fine_landed : (C : Ctx) (ys xs : List Landing) → AllFine C xs → AllFine (landed C ys) xs
+all_fine_landed C ys [] h = tt
+all_fine_landed C ys (x ∷ xs) h = ((h.0.0, all_own_landed C ys x.places h.0.1), all_fine_landed C ys xs h.1)
+
+module _ (C : Ctx) where
+  fine_append : (x : Landing) (xs : List Landing) → Fine C x → AllFine C xs → AllFine C (xs ++ x ∷ [])
+  fine_append x [] f h = (f, tt)
+  fine_append x (y ∷ xs) f h = (h.0, fine_append x xs f h.1)
+
+  fine_end : (b : Bool) (x : Landing) (xs : List Landing) → Fine C x → AllFine C xs → AllFine C (at_end b x xs)
+  fine_end false x xs f h = h
+  fine_end true x xs f h = fine_append x xs f h
+
+  fine_unless : (q : Option ℕ) (x : Landing) (xs : List Landing) → Fine C x → AllFine C xs → AllFine C (unless_there q x xs)
+  fine_unless None x xs f h = fine_end (nat_lt (length xs) most_landings) x xs f h
+  fine_unless (Some n) x xs f h = h
+
+  fine_carrying : (q : Option ℕ) (es : List Place) (xs : List Landing) → length es ≤ C.slots → AllOwn C es → AllFine C xs → AllFine C (with_some (carrying q es) xs)
+  fine_carrying None es xs le w h = h
+  fine_carrying (Some k) [] xs le w h = h
+  fine_carrying (Some k) (e ∷ es) xs le w h = let x : Landing = record { carried = Some (place_type e); places = es; kind = k } in fine_unless (number_of x xs) x xs (omega (arith, le), w.1) h
+
+  fine_call : (b : Bool) (es : List Place) (xs : List Landing) → length es ≤ C.slots → AllOwn C es → AllFine C xs → AllFine C (landing_call b es xs)
+  fine_call true es xs le w h = h
+  fine_call false es xs le w h = fine_unless (number_of (landing_behind es) xs) (landing_behind es) xs (le, w) h
+
+  abbrev Goes : Nodes → (List Place → List Landing → List Landing) → Type 0
+  Goes rest go = (es' : List Place) (xs' : List Landing) → AllOwn C es' → Room C es' rest → AllFine C xs' → AllFine C (go es' xs')
+
+  fine_called : (b : Bool) (o : Option FuncType) (es : List Place) (xs : List Landing) (rest : Nodes) (go : List Place → List Landing → List Landing) → Goes rest go → length es ≤ C.slots → AllOwn C es → Room_call C o es (λ es'. Room C es' rest) → AllFine C xs → AllFine C (landings_call b o es xs go)
+  fine_called b None es xs rest go g le w rm h = h
+  fine_called b (Some type) es xs rest go g le w rm h =
+      let left = less (length type.params) es in
+      let wl = own_less C (length type.params) es w in
+      g (grown (result_of type) left) (landing_call b left xs) (own_grown C (result_of type) left wl) rm.1 (fine_call b left xs (omega (arith, le, less_shorter (length type.params) es)) wl h)
+
+  fine_jump : (j : Jump) (es : List Place) (xs : List Landing) (rest : Nodes) (go : List Place → List Landing → List Landing) → Goes rest go → length es ≤ C.slots → AllOwn C es → Room_jump C j es (λ es'. Room C es' rest) → AllFine C xs → AllFine C (landings_jump C j es xs go)
+  fine_jump Unreachable es xs rest go g le w rm h = h
+  fine_jump (Br l) es xs rest go g le w rm h = h
+  fine_jump (BrIf l) es xs rest go g le w rm h = g (less 1 es) xs (own_less C 1 es w) rm h
+  fine_jump (BrTable ts d) es xs rest go g le w rm h = h
+  fine_jump Return es xs rest go g le w rm h = h
+  fine_jump (Call f) es xs rest go g le w rm h = fine_called (nat_lt f (import_count C.source)) (type_at C.source f) es xs rest go g le w rm h
+  fine_jump (CallIndirect t) es xs rest go g le w rm h = fine_called true (slice_get C.source.types t) (less 1 es) xs rest go g (omega (arith, le, less_shorter 1 es)) (own_less C 1 es w) rm.1 h
+
+  pub fine_landings : (es : List Place) (nodes : Nodes) (xs : List Landing) → AllOwn C es → Room C es nodes → AllFine C xs → AllFine C (landings_from C es nodes xs)
+  fine_landings es stop xs w rm h = h
+  fine_landings es (basic o i rest) xs w rm h = fine_landings (after_plain C es i) rest (with_some (landing_of i es) xs) (own_after C i es w) rm.3 (fine_carrying (one_kind i) es xs rm.0 w h)
+  fine_landings es (jump o j rest) xs w rm h = fine_jump j es xs rest (λ es' xs'. landings_from C es' rest xs') (λ es' xs' w' rm' h'. fine_landings es' rest xs' w' rm' h') rm.0 w rm.1 h
+  fine_landings es (block o t inner end rest) xs w rm h =
+      let wu = own_without C (λ x. true) es w in
+      fine_landings (grown t (under es)) rest (landings_from C (under es) inner xs) (own_grown C t (under es) wu) rm.3 (fine_landings (under es) inner xs wu rm.1 h)
+  fine_landings es (loop o t inner end rest) xs w rm h =
+      let wu = own_without C (λ x. true) es w in
+      fine_landings (grown t (under es)) rest (landings_from C (under es) inner xs) (own_grown C t (under es) wu) rm.3 (fine_landings (under es) inner xs wu rm.1 h)
+  fine_landings es (choose o t a ea b end rest) xs w rm h =
+      let left = under (less 1 es) in
+      let wu = own_without C (λ x. true) (less 1 es) (own_less C 1 es w) in
+      fine_landings (grown t left) rest (landings_from C left b (landings_from C left a xs)) (own_grown C t left wu) rm.4 (fine_landings left b (landings_from C left a xs) wu rm.2 (fine_landings left a xs wu rm.1 h))
+
 -- ---- bodies
 
 module _ (C : Ctx) (m : Module) (locals : List ValType) (off : Offers C m locals) where
@@ -737,7 +652,33 @@ module _ (C : Ctx) (m : Module) (locals : List ValType) (off : Offers C m locals
       (ok_get C m locals off returns (kind_at C) I32 (added_kind C.slots) (ok_const (i32 C.index) (ok_get C m locals off returns (offset_at C) I32 (added_offset C.slots) (ok_const (i32 (length C.locals))
       (ok_call [] (frame_import C.source) frame_type off.frames (ok_const (i32 1) (set_flag (zero_ok labels returns C.result refl))))))))
 
-  pub body_ok : (nodes : Nodes) → Room C [] nodes → Types (original C (in_body C.result ∷ [])) nodes [] returns → Types (rewritten C m locals) (body C nodes) [] returns
-  body_ok nodes rm ty =
+  -- ---- landings
+
+  landing_ok : (n : ℕ) (labels : List (List ValType)) (z : List ValType) (x : Landing) → IsExit n labels → Fine C x → Ok (at_body labels) z (option_to_list x.carried) (landing_code C n x)
+  landing_ok n labels z x e h = ok_const (i32 x.kind) (ok_set C m locals off returns (kind_at C) I32 (added_kind C.slots) (ok_hand C m locals off returns x.places _ h.0 h.1 (carried x.carried)))
+    where
+      carried : (r : Option ValType) → Ok (at_body labels) z (option_to_list r) (hand_carried C r (jump 0 (Br n) stop))
+      carried None = ok_branch n e
+      carried (Some t) = ok_hand_value C m locals off returns t (ok_branch n e)
+
+  nested_ok : (xs : List Landing) (inner : Nodes) → AllFine C xs → ((z : List ValType) → Ok (at_body (outside C m locals off returns xs)) z [] inner) → Ok (at_body (outside C m locals off returns [])) [] [] (nested C xs inner)
+  nested_ok [] inner h g = g []
+  nested_ok (x ∷ xs) inner h g =
+      nested_ok xs (block 0 x.carried inner 0 (landing_code C (length xs) x)) h.1
+      (λ z. let labels = outside C m locals off returns xs in let k : Ok (at_body labels) z (option_to_list x.carried ++ []) (landing_code C (length xs) x) = subst (λ s. Ok (at_body labels) z s (landing_code C (length xs) x)) (sym (append-nil (option_to_list x.carried))) (landing_ok (length xs) labels z x (outside_exit C m locals off returns xs) h.0) in record { typed = ((g (option_to_list x.carried)).typed, k.typed) })
+
+  pub laid_ok : (nodes : Nodes) → AllFine C C.landings → Room C [] nodes → Types (original C (in_body C.result ∷ [])) nodes [] returns → Types (rewritten C m locals) (laid C nodes) [] returns
+  laid_ok nodes fine rm ty =
       let a = rewrite_ok C m locals off returns refl nodes (in_body C.result ∷ []) [] [] [] returns refl tt tt rm ty in
-      ((a.typed, ([], record { below = []; takes = refl }, refl)), (exit_ok (returns ∷ [])).typed)
+      let core = nested_ok C.landings (block 0 C.result (rewrite C 1 [] nodes) 0 (jump 0 Return stop)) fine (λ z. record { typed = (a.typed, (subst (λ s. Ok (at_body (outside C m locals off returns C.landings)) z s (jump 0 Return stop)) (sym (append-nil returns)) ok_return).typed) }) in
+      (core.typed, (exit_ok (returns ∷ [])).typed)
+
+-- the rewritten module offers the same with landings
+pub offers_landed : (C : Ctx) (m : Module) (locals : List ValType) (xs : List Landing) → Offers C m locals → Offers (landed C xs) m locals
+offers_landed C m locals xs off =
+    record { locals_are = off.locals_are; globals = off.globals; flag = off.flag; flag_there = off.flag_there; flag_type = off.flag_type; flag_mutable = off.flag_mutable; memories = off.memories; tables = off.tables; types = off.types; functions = off.functions; values = off.values; frames = off.frames; helpers = off.helpers; one_result = off.one_result; one_result_of = off.one_result_of }
+
+pub body_ok : (C : Ctx) (m : Module) (locals : List ValType) → Offers C m locals → (nodes : Nodes) → Room C [] nodes → Types (original C (in_body C.result ∷ [])) nodes [] (option_to_list C.result) → Types (rewritten C m locals) (body C nodes) [] (option_to_list C.result)
+body_ok C m locals off nodes rm ty =
+    let xs = landings_from C [] nodes [] in
+    laid_ok (landed C xs) m locals (offers_landed C m locals xs off) nodes (all_fine_landed C xs xs (fine_landings C [] nodes [] tt rm tt)) (room_landed C xs [] nodes rm) ty

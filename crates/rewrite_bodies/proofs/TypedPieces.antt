@@ -1,13 +1,14 @@
 -- The small pieces of rewritten code are well typed.
-use Rattle.std.proofs.Common.{◌≡◌, ℕ, zero, suc, ◌+◌, ◌<◌, ◌≤◌, List, [], ◌∷◌, ◌++◌, length, map, reverse, Option, Some, None, refl, sym, ap, ◌∙◌, subst, arith, slice_get, option_map, option_to_list, Bool, true, false, if◌then◌else◌}
+use Rattle.rewrite_bodies.specs.calls.Landings.{number_of, landing_behind}
+use Rattle.std.proofs.Common.{◌≡◌, ℕ, zero, suc, ◌+◌, ◌≤◌, List, [], ◌∷◌, ◌++◌, length, map, reverse, Option, Some, None, refl, sym, ap, ◌∙◌, subst, arith, slice_get, option_map, option_to_list, Bool, true, false, if◌then◌else◌}
 use Rattle.std.specs.Prelude.{take}
 use Rattle.wasm_syntax.specs.declared.value.ValType.{ValType}
 use Rattle.wasm_syntax.specs.declared.value.ValType.TheVariants.{I32, I64}
 use Rattle.wasm_syntax.specs.declared.value.Value.{Value}
 use Rattle.wasm_syntax.specs.declared.value.Value.TheVariants as values
 use Rattle.int_ops.specs.declared.operators.Binary.{Binary as BinaryOp}
-use Rattle.int_ops.specs.declared.operators.Binary.TheVariants.{Add, And, Or, Shl}
-use Rattle.int_ops.specs.declared.operators.Compare.TheVariants.{Eq, GtU}
+use Rattle.int_ops.specs.declared.operators.Binary.TheVariants.{Add, And, Or, Shl, Sub}
+use Rattle.int_ops.specs.declared.operators.Compare.TheVariants.{Eq, GtU, GtS}
 use Rattle.wasm_syntax.specs.declared.instruction.Convert.TheVariants.{ExtendU}
 use Rattle.wasm_syntax.specs.declared.instruction.Basic.{Basic}
 use Rattle.wasm_syntax.specs.declared.instruction.Basic.TheVariants.{Drop, Select, LocalGet, LocalSet, LocalTee, GlobalGet, MemorySize, Const, Eqz, Compare, Binary, Convert}
@@ -15,14 +16,14 @@ use Rattle.wasm_syntax.specs.declared.parts.FuncType.{FuncType}
 use Rattle.wasm_syntax.specs.declared.parts.Limits.{Limits}
 use Rattle.wasm_syntax.specs.declared.module.ModuleParts.{ModuleParts as Module}
 use Rattle.wasm_syntax.specs.Numbers.{type_of, value}
-use Rattle.wasm_syntax.specs.Tree.{Br, Nodes, stop, basic, jump}
+use Rattle.wasm_syntax.specs.Tree.{Br, Nodes, stop, basic, jump, BrIf}
 use Rattle.wasm_syntax.specs.Module.{type_at}
 use Rattle.wasm_syntax.specs.Typing.{Context, Arrow, ◌⇒◌, arrow, Types}
-use Rattle.rewrite_bodies.specs.Slots.{Place, Spilled, Known, Copied, place_type, Ctx, slot, kind_at, offset_at, added}
+use Rattle.rewrite_bodies.specs.calls.Slots.{Place, Spilled, Known, Copied, place_type, Ctx, slot, kind_at, offset_at, added}
 use Rattle.rewrite_bodies.specs.Numbering.{value_import, flag_of}
-use Rattle.rewrite_bodies.specs.Pieces.{get, set, const, i32, call, if_any, fetch, load, keep, store, reload, spill_one, spill, drops}
-use Rattle.rewrite_bodies.specs.Guards.{guard_zero, guard_signed, past_end, guard_memory, range_test, guard_copy, guard_fill, kind_signed}
-use Rattle.rewrite_bodies.specs.Rewrite.{hand_value, hand, hand_top, to_exit, unwind, test_flag, test_both, unwind_kind, tested}
+use Rattle.rewrite_bodies.specs.calls.Pieces.{get, set, const, i32, call, if_any, fetch, load, keep, store, reload, spill_one, spill, drops}
+use Rattle.rewrite_bodies.specs.calls.Guards.{guard_zero, guard_signed, past_end, guard_memory, range_test, guard_copy, guard_fill, kind_signed, memory_length}
+use Rattle.rewrite_bodies.specs.calls.Rewrite.{hand_value, hand, hand_top, to_exit, unwind, test_flag, test_both, unwind_kind, tested, checked, get_flag}
 use Rattle.rewrite_bodies.specs.calls.Agreement.{FitsIn}
 use Rattle.rewrite_bodies.specs.calls.Typed.{Own, AllOwn, Offers}
 use Rattle.pm_text.proofs.Lists.{get_front}
@@ -70,6 +71,9 @@ ok_if {s = s} a k = record { typed = (a.typed, refl, s, refl, k.typed) }
 
 pub ok_branch : {m : Module} {locals returns : List ValType} {labels : List (List ValType)} {z s : List ValType} (l : ℕ) → slice_get labels l ≡ Some [] → Ok (at_labels m locals returns labels) z s (jump 0 (Br l) stop)
 ok_branch {z = z} {s = s} l e = record { typed = (z, ([], e, record { below = s; takes = refl }), refl) }
+
+pub ok_branch_if : {m : Module} {locals returns : List ValType} {labels : List (List ValType)} {z s : List ValType} {k : Nodes} (l : ℕ) (c below : List ValType) → slice_get labels l ≡ Some c → s ≡ c ++ below → Ok (at_labels m locals returns labels) z s k → Ok (at_labels m locals returns labels) z (I32 ∷ s) (jump 0 (BrIf l) k)
+ok_branch_if {s = s} l c below e is h = record { typed = (s, (c, e, record { below = below; takes = ap (λ (x : List ValType). I32 ∷ x) is; gives = is }), h.typed) }
 
 pub ok_call : {m : Module} {locals returns : List ValType} {labels : List (List ValType)} {z : List ValType} {k : Nodes} (s : List ValType) (f : ℕ) (type : FuncType) → type_at m f ≡ Some type → Ok (at_labels m locals returns labels) z (reverse type.results ++ s) k → Ok (at_labels m locals returns labels) z (reverse type.params ++ s) (call f k)
 ok_call s f type e h = record { typed = (reverse type.results ++ s, (type, e, record { below = s; takes = refl; gives = refl }), h.typed) }
@@ -159,26 +163,35 @@ module _ (C : Ctx) (m : Module) (locals : List ValType) (off : Offers C m locals
   ok_stop = record { typed = refl }
 
   -- inside an arm
-  ok_exit : {labels : List (List ValType)} {z s : List ValType} (d : ℕ) → IsExit d labels → Ok (at ([] ∷ labels)) z s (to_exit d)
-  ok_exit d x = ok_branch (suc d) x
+  ok_exit : {labels : List (List ValType)} {z s : List ValType} (d : ℕ) → IsExit (d + length C.landings) labels → Ok (at ([] ∷ labels)) z s (to_exit C d)
+  ok_exit d x = ok_branch (suc (d + length C.landings)) x
 
-  ok_unwind : {labels : List (List ValType)} {s : List ValType} (d : ℕ) (es : List Place) (o : ℕ) → length es ≤ C.slots → AllOwn C es → IsExit d labels → Ok (at ([] ∷ labels)) [] s (unwind C d es o)
-  ok_unwind d es o le w x = ok_const (i32 o) (ok_set (offset_at C) I32 (added_offset C.slots) (ok_hand es (to_exit d) le w (ok_exit d x)))
+  ok_unwind : {labels : List (List ValType)} {s : List ValType} (d : ℕ) (es : List Place) (o : ℕ) → length es ≤ C.slots → AllOwn C es → IsExit (d + length C.landings) labels → Ok (at ([] ∷ labels)) [] s (unwind C d es o)
+  ok_unwind d es o le w x = ok_const (i32 o) (ok_set (offset_at C) I32 (added_offset C.slots) (ok_hand es (to_exit C d) le w (ok_exit d x)))
 
-  ok_unwind_kind : {labels : List (List ValType)} {s : List ValType} (d : ℕ) (es : List Place) (o : ℕ) → length es ≤ C.slots → AllOwn C es → IsExit d labels → Ok (at ([] ∷ labels)) [] (I32 ∷ s) (unwind_kind C d es o)
+  ok_unwind_kind : {labels : List (List ValType)} {s : List ValType} (d : ℕ) (es : List Place) (o : ℕ) → length es ≤ C.slots → AllOwn C es → IsExit (d + length C.landings) labels → Ok (at ([] ∷ labels)) [] (I32 ∷ s) (unwind_kind C d es o)
   ok_unwind_kind d es o le w x = ok_set (kind_at C) I32 (added_kind C.slots) (ok_unwind d es o le w x)
 
   -- with a piece that pushes the kind
-  pub ok_tested : {labels : List (List ValType)} {z s : List ValType} {k : Nodes} (d : ℕ) (es : List Place) (o : ℕ) (says_kind : Nodes → Nodes) → length es ≤ C.slots → AllOwn C es → IsExit d labels → ((arm : Nodes) → Ok (at ([] ∷ labels)) [] (I32 ∷ []) arm → Ok (at ([] ∷ labels)) [] [] (says_kind arm)) → Ok (at labels) z s k → Ok (at labels) z (I32 ∷ s) (tested C d es o says_kind k)
+  pub ok_tested : {labels : List (List ValType)} {z s : List ValType} {k : Nodes} (d : ℕ) (es : List Place) (o : ℕ) (says_kind : Nodes → Nodes) → length es ≤ C.slots → AllOwn C es → IsExit (d + length C.landings) labels → ((arm : Nodes) → Ok (at ([] ∷ labels)) [] (I32 ∷ []) arm → Ok (at ([] ∷ labels)) [] [] (says_kind arm)) → Ok (at labels) z s k → Ok (at labels) z (I32 ∷ s) (tested C d es o says_kind k)
   ok_tested d es o says_kind le w x says h = ok_if (says (unwind_kind C d es o) (ok_unwind_kind d es o le w x)) h
 
   pub ok_flag : {labels : List (List ValType)} {z s : List ValType} {k : Nodes} → Ok (at labels) z (I32 ∷ s) k → Ok (at labels) z s (basic 0 (GlobalGet (flag_of C.source)) k)
   ok_flag {s = s} h = ok_basic s (GlobalGet (flag_of C.source)) I32 ([] ⇒ I32 ∷ []) (ap (option_map (λ g. [] ⇒ g.vtype ∷ [])) off.flag_there ∙ ap (λ t. Some ([] ⇒ t ∷ [])) off.flag_type) h
 
-  pub ok_test_flag : {labels : List (List ValType)} {z s : List ValType} {k : Nodes} (d : ℕ) (es : List Place) (o : ℕ) → length es ≤ C.slots → AllOwn C es → IsExit d labels → Ok (at labels) z s k → Ok (at labels) z s (test_flag C d es o k)
-  ok_test_flag d es o le w x h = ok_flag (ok_if (ok_const (i32 0) (ok_set (kind_at C) I32 (added_kind C.slots) (ok_unwind d es o le w x))) h)
+  -- the topmost operands come along to a landing
+  pub ok_landing : {labels : List (List ValType)} {z s : List ValType} {k : Nodes} (d n o : ℕ) (c below : List ValType) (test says_kind : Nodes → Nodes) (es : List Place) → slice_get labels (d + n) ≡ Some c → s ≡ c ++ below → ((k : Nodes) → Ok (at labels) z (I32 ∷ s) k → Ok (at labels) z s (test k)) → Ok (at labels) z s k → Ok (at labels) z s (checked (Some n) C d es o test says_kind k)
+  ok_landing {k = k} d n o c below test says_kind es at_ is tests h =
+      ok_const (i32 o) (ok_set (offset_at C) I32 (added_offset C.slots) (tests (jump 0 (BrIf (d + n)) k) (ok_branch_if (d + n) c below at_ is h)))
 
-  pub ok_test_both : {labels : List (List ValType)} {z s : List ValType} {k : Nodes} (d : ℕ) (n : ℕ) (es left : List Place) (o : ℕ) → length es ≤ C.slots → length left ≤ C.slots → AllOwn C es → AllOwn C left → IsExit d labels → Ok (at labels) z s k → Ok (at labels) z s (test_both C d left o (hand_top C n es stop) k)
+  pub ok_test_flag : {labels : List (List ValType)} {z s : List ValType} {k : Nodes} (d : ℕ) (es : List Place) (o : ℕ) → length es ≤ C.slots → AllOwn C es → IsExit (d + length C.landings) labels → ((n : ℕ) → number_of (landing_behind es) C.landings ≡ Some n → slice_get labels (d + n) ≡ Some []) → Ok (at labels) z s k → Ok (at labels) z s (test_flag C d es o k)
+  ok_test_flag {labels = labels} {z = z} {s = s} {k = k} d es o le w x lands h = by_number (number_of (landing_behind es) C.landings) refl
+    where
+      by_number : (q : Option ℕ) → number_of (landing_behind es) C.landings ≡ q → Ok (at labels) z s (checked q C d es o (get_flag C) (const (i32 0)) k)
+      by_number None is = ok_flag (ok_if (ok_const (i32 0) (ok_set (kind_at C) I32 (added_kind C.slots) (ok_unwind d es o le w x))) h)
+      by_number (Some n) is = ok_landing d n o [] s (get_flag C) (const (i32 0)) es (lands n is) refl (λ k g. ok_flag g) h
+
+  pub ok_test_both : {labels : List (List ValType)} {z s : List ValType} {k : Nodes} (d : ℕ) (n : ℕ) (es left : List Place) (o : ℕ) → length es ≤ C.slots → length left ≤ C.slots → AllOwn C es → AllOwn C left → IsExit (d + length C.landings) labels → Ok (at labels) z s k → Ok (at labels) z s (test_both C d left o (hand_top C n es stop) k)
   ok_test_both d n es left o le le1 w w1 x h =
       ok_get (kind_at C) I32 (added_kind C.slots) (ok_flag (ok_binary I32 Or (ok_if
       (ok_const (i32 o) (ok_set (offset_at C) I32 (added_offset C.slots) (ok_hand left _ le1 w1
@@ -215,12 +228,15 @@ module _ (C : Ctx) (m : Module) (locals : List ValType) (off : Offers C m locals
       ok_place a t h (omega (arith, le)) wa ea (ok_constant t _ (ok_compare t Eq (ok_place b t (suc h) le wb eb (ok_constant t _ (ok_compare t Eq (ok_binary I32 And
       (ok_guard_zero t b (suc h) le wb eb (ok_binary I32 Or g))))))))
 
+  ok_length : {labels : List (List ValType)} {z s : List ValType} {k : Nodes} → HasMemory m.memories → Ok (at labels) z (I64 ∷ s) k → Ok (at labels) z s (memory_length k)
+  ok_length has h = ok_size has (ok_extend (ok_const (values.I64 16) (ok_binary I64 Shl h)))
+
   ok_past_end : {labels : List (List ValType)} {z s : List ValType} {k : Nodes} → HasMemory m.memories → Ok (at labels) z (I32 ∷ s) k → Ok (at labels) z (I64 ∷ s) (past_end k)
-  ok_past_end has h = ok_size has (ok_extend (ok_const (values.I64 16) (ok_binary I64 Shl (ok_compare I64 GtU h))))
+  ok_past_end has h = ok_length has (ok_compare I64 GtU h)
 
   pub ok_guard_memory : {labels : List (List ValType)} {z s : List ValType} {k : Nodes} (a : Place) (h n : ℕ) → h ≤ C.slots → HasMemory m.memories → Own C a → place_type a ≡ I32 → Ok (at labels) z (I32 ∷ s) k → Ok (at labels) z s (guard_memory C a h n k)
   ok_guard_memory a h n le has w e g =
-      ok_place a I32 h le w e (ok_extend (ok_const (values.I64 n) (ok_binary I64 Add (ok_past_end has g))))
+      ok_place a I32 h le w e (ok_extend (ok_length has (ok_const (values.I64 n) (ok_binary I64 Sub (ok_compare I64 GtS g)))))
 
   ok_range : {labels : List (List ValType)} {z s : List ValType} {k : Nodes} (a : Place) (h : ℕ) (n : Place) (hn : ℕ) → h ≤ C.slots → hn ≤ C.slots → HasMemory m.memories → Own C a → Own C n → place_type a ≡ I32 → place_type n ≡ I32 → Ok (at labels) z (I32 ∷ s) k → Ok (at labels) z s (range_test C a h n hn k)
   ok_range a h n hn le len has wa wn ea en g = ok_place a I32 h le wa ea (ok_extend (ok_place n I32 hn len wn en (ok_extend (ok_binary I64 Add (ok_past_end has g)))))

@@ -7,9 +7,9 @@ use Rattle.wasm_syntax.specs.declared.instruction.Basic.{Basic}
 use Rattle.wasm_syntax.specs.Effect.{Effect, gives, fails, unfit, effect, takes}
 use Rattle.wasm_syntax.specs.Machine.{step}
 use Rattle.wasm_syntax.specs.Module.{type_at}
-use Rattle.rewrite_bodies.specs.Slots.{Place, place_type, Ctx}
-use Rattle.rewrite_bodies.specs.Pieces.{const, i32, call, fetch}
-use Rattle.rewrite_bodies.specs.Guards.{guard, kind, can_trap, entry_label, first_table, helper_type}
+use Rattle.rewrite_bodies.specs.calls.Slots.{Place, place_type, Ctx}
+use Rattle.rewrite_bodies.specs.calls.Pieces.{const, i32, call, fetch}
+use Rattle.rewrite_bodies.specs.calls.Guards.{guard, kind, can_trap, entry_label, first_table, helper_type}
 use Rattle.rewrite_bodies.specs.inner.Promises as promises
 use Rattle.rewrite_bodies.specs.calls.Steps.{To, st}
 use Rattle.rewrite_bodies.proofs.Run.{push_to, fetch_to, seq}
@@ -22,6 +22,7 @@ use Rattle.rewrite_bodies.specs.calls.Verdicts.{kind_of, kind_of_step, verdict, 
 use Rattle.rewrite_bodies.proofs.Runs.{shell, to_leads}
 use Rattle.rewrite_bodies.proofs.Helpers.{LabelOf, helper_in, told_by_helper}
 use Rattle.rewrite_bodies.proofs.TypedGuards.{guard_ok}
+use Rattle.rewrite_bodies.proofs.Risks.{risk_of}
 
 same_kind : (e : Effect) → promises.kind_of e ≡ kind_of e
 same_kind (gives w l vs) = refl
@@ -46,8 +47,8 @@ guard_means C i es trap room = record {
   typed = λ after own h m locals returns labels before z k off t.
       let T = takes_of C [] i es [] after h in
       let taken = subst (λ (x : List Place). map place_type (take (takes i) x) ≡ h.arrow_is.takes) (append-nil es) T.taken in
-      (guard_ok C m locals off returns labels z before k i h.any h.arrow_is es room own h.has taken trap (record { typed = t })).typed;
-  short = λ few k. let x = len_guard C few i es k room in omega (arith, x);
+      (guard_ok C m locals off returns labels z before k [] i (risk_of i trap) h.any h.arrow_is es room own h.has taken trap (record { typed = t })).typed;
+  short = λ few k. let x = len_guard C few i (risk_of i trap) es k room in omega (arith, x);
 }
 
 pub kind_means : (C : Ctx) (i : Basic) (es : List Place) → can_trap i ≡ true → length es ≤ C.slots → IsKind C i es (kind C i es)
@@ -60,8 +61,8 @@ kind_means C i es trap room = record {
   typed = λ after own h m locals returns labels before z k off t.
       let T = takes_of C [] i es [] after h in
       let taken = subst (λ (x : List Place). map place_type (take (takes i) x) ≡ h.arrow_is.takes) (append-nil es) T.taken in
-      (kind_ok C m locals off returns {labels = labels} {z = z} {s = before} {k = k} [] i h.any h.arrow_is es room own h.has taken trap (record { typed = t })).typed;
-  short = λ few k. let x = len_kind C few i es k room in omega (arith, x);
+      (kind_ok C m locals off returns {labels = labels} {z = z} {s = before} {k = k} [] i (risk_of i trap) h.any h.arrow_is es room own h.has taken trap (record { typed = t })).typed;
+  short = λ few k. let x = len_kind C few i (risk_of i trap) es k room in omega (arith, x);
 }
 
 -- ---- the guard of `unreachable`

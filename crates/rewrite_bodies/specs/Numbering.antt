@@ -4,6 +4,9 @@
 use Rattle.std.specs.Prelude.{ℕ, suc, ◌+◌, ◌*◌, ◌^◌, ◌==◌, ◌&&◌, nat_lt, nat_le, sum, List, [], ◌∷◌, ◌++◌, length, map, flat_map, if◌then◌else◌, Option, Some, None, option_map, unwrap_or, Bool, true, false}
 use Rattle.wasm_syntax.specs.declared.value.ValType.{ValType}
 use Rattle.wasm_syntax.specs.declared.value.ValType.TheVariants.{I32, I64}
+use Rattle.wasm_syntax.specs.declared.instruction.Basic.TheVariants.{MemoryCopy, MemoryFill}
+use Rattle.wasm_syntax.specs.declared.instruction.Instr.{Instr}
+use Rattle.wasm_syntax.specs.declared.instruction.Instr.TheVariants as instrs
 use Rattle.wasm_syntax.specs.declared.parts.FuncType.{FuncType}
 use Rattle.wasm_syntax.specs.declared.parts.Export.{Export}
 use Rattle.wasm_syntax.specs.declared.parts.ExportKind.{ExportKind}
@@ -54,6 +57,12 @@ start_wraps m (Some f) = if nat_lt f (import_count m) then [] else f ∷ []
 -- one for each export
 abbrev pub export_wrapped : Module → List ℕ
 export_wrapped m = flat_map (wraps m) m.exports
+
+-- what instructions whose guards are long weigh more
+abbrev pub extra : Instr → ℕ
+extra (instrs.Basic MemoryCopy) = 128
+extra (instrs.Basic MemoryFill) = 128
+extra i = 0
 
 -- of a function that is called from outside: what the bytes of its wrapper weigh
 abbrev pub entry_weight : Module → ℕ → ℕ

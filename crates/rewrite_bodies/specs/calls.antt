@@ -6,3 +6,9 @@ pub mod Verdicts
 pub mod Standing
 pub mod Steps
 pub mod Telling
+pub mod Landings
+pub mod Offsets
+pub mod Pieces
+pub mod Rewrite
+pub mod Slots
+pub mod Guards

@@ -2,9 +2,9 @@
 
 ghost use Rattle.std.specs.Prelude.{◌≡◌, ℕ, ◌≤◌, true, List, length};
 ghost use Rattle.wasm_syntax.specs.declared.instruction.Basic.{Basic};
-ghost use Rattle.rewrite_bodies.specs.Slots.{Place, Ctx};
-ghost use Rattle.rewrite_bodies.specs.Pieces.{const, i32, call, fetch};
-ghost use Rattle.rewrite_bodies.specs.Guards.{can_trap, guard, kind};
+ghost use Rattle.rewrite_bodies.specs.calls.Slots.{Place, Ctx};
+ghost use Rattle.rewrite_bodies.specs.calls.Pieces.{const, i32, call, fetch};
+ghost use Rattle.rewrite_bodies.specs.calls.Guards.{can_trap, guard, kind};
 ghost use Rattle.rewrite_bodies.specs.calls.Verdicts.{IsGuard, IsKind, IsGuardOfUnreachable, IsGuardOfEntry};
 
 /// The guard of an instruction that can trap, on operands that have their slots.

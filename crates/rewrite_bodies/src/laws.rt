@@ -6,7 +6,7 @@ ghost use Rattle.wasm_syntax.specs.declared.instruction.Basic.{Basic};
 ghost use Rattle.wasm_syntax.specs.Machine.{Engine};
 ghost use Rattle.rewrite_bodies.specs.calls.Agreement.{Wrap};
 ghost use Rattle.rewrite_bodies.specs.inner.Promises.{GuardTells, StepFollows};
-ghost use Rattle.rewrite_bodies.specs.Slots.{Ctx};
+ghost use Rattle.rewrite_bodies.specs.calls.Slots.{Ctx};
 ghost use Rattle.rewrite_bodies.specs.calls.Typed.{BodyTyped};
 ghost use Rattle.rewrite_bodies.specs.calls.Length.{BodyShort};
 

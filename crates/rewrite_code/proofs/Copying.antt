@@ -2,7 +2,7 @@
 use Rattle.std.proofs.Common.{◌≡◌, ℕ, zero, suc, ◌+◌, ◌<◌, ◌≤◌, List, [], ◌∷◌, ◌++◌, length, map, reverse, Bool, refl, sym, ap, ap₂, ◌∙◌, arith, append-nil}
 use Rattle.std.specs.Prelude.{get_or, slice_set, take, drop}
 use Rattle.std.proofs.lemmas.List.{take_all, drop_all, length-map, map-append, reverse-append}
-use Rattle.rewrite_bodies.specs.Slots.{Place, uncopied, without}
+use Rattle.rewrite_bodies.specs.calls.Slots.{Place, uncopied, without}
 use Rattle.rewrite_code.specs.declared.place.OperandPlace.{OperandPlace}
 use Rattle.rewrite_code.specs.calls.Places.{place, from_top}
 

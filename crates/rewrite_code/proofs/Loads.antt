@@ -1,15 +1,14 @@
 -- Operands that are loaded or handed over from the lowest on, and code that unwinds.
-use Rattle.std.proofs.Common.{◌≡◌, ℕ, zero, suc, ◌+◌, ◌-◌, ◌<◌, ◌≤◌, List, [], ◌∷◌, ◌++◌, length, map, reverse, take, drop, get_or, Bool, None, OnOk, Ok, Err, refl, sym, ap, subst, ◌∙◌, arith, take_all}
+use Rattle.std.proofs.Common.{◌≡◌, ℕ, zero, suc, ◌+◌, ◌-◌, ◌<◌, ◌≤◌, List, [], ◌∷◌, ◌++◌, length, map, reverse, take, drop, get_or, Bool, None, OnOk, Ok, Err, refl, sym, ap, subst, ◌∙◌, arith, take_all, Some}
 use Rattle.std.proofs.lemmas.List.{length-map, length-reverse, reverse-append, map-append, length-take-le, length-drop, take-append-drop}
 use Rattle.std.proofs.Math.Seq.{take-suc, drop-cons}
 use Rattle.std.specs.declared.result.Result.{Result}
 use Rattle.wasm_syntax.specs.declared.value.ValType.{ValType}
-use Rattle.wasm_syntax.specs.declared.instruction.Basic.TheVariants.{Drop, LocalGet, LocalTee, GlobalGet}
-use Rattle.wasm_syntax.specs.Tree.{Br, Nodes, stop, basic, jump, choose}
-use Rattle.rewrite_bodies.specs.Numbering.{flag_of}
-use Rattle.rewrite_bodies.specs.Slots.{Place, Ctx, less, place_type, slot, kind_at, offset_at}
-use Rattle.rewrite_bodies.specs.Pieces.{set, const, i32, fetch, load, spill_one, spill, drops}
-use Rattle.rewrite_bodies.specs.Rewrite.{hand, hand_top, hand_value, hand_locals, to_exit, unwind, unwind_kind, test_flag}
+use Rattle.wasm_syntax.specs.declared.instruction.Basic.TheVariants.{Drop, LocalGet, LocalTee}
+use Rattle.wasm_syntax.specs.Tree.{Br, BrIf, Nodes, stop, basic, jump, choose}
+use Rattle.rewrite_bodies.specs.calls.Slots.{Place, Ctx, less, place_type, slot, kind_at, offset_at}
+use Rattle.rewrite_bodies.specs.calls.Pieces.{set, const, i32, fetch, load, spill_one, spill, drops}
+use Rattle.rewrite_bodies.specs.calls.Rewrite.{hand, hand_top, hand_value, hand_locals, to_exit, unwind, unwind_kind, checked, get_flag}
 use Rattle.rewrite_code.specs.calls.Writing.{Written, Behind, goes, Emits, EmitsLast, Opens, Closes}
 use Rattle.rewrite_code.proofs.Pieces.{emits_then, emits_last, emits_stop, emits_within}
 use Rattle.rewrite_code.specs.declared.place.OperandPlace.{OperandPlace}
@@ -182,17 +181,27 @@ drop_step n p q =
 
 -- ---- the exit
 
-pub exit_branch : (d : ℕ) {a b : Written} → Emits (λ k. jump 0 (Br (d + 1)) k) a b → EmitsLast (to_exit d) a b
-exit_branch d {a} {b} p =
-    let same : d + 1 ≡ suc d = omega arith in
+pub exit_branch : (C : Ctx) (d n : ℕ) {a b : Written} → n ≡ length C.landings → Emits (λ k. jump 0 (Br (d + n + 1)) k) a b → EmitsLast (to_exit C d) a b
+exit_branch C d n {a} {b} e p =
+    let same : d + n + 1 ≡ suc (d + length C.landings) = omega (arith, e) in
     subst (λ l. EmitsLast (jump 0 (Br l) stop) a b) same (emits_stop p)
 
-pub unwound : (C : Ctx) (l : ℕ) (es : List Place) (o x : ℕ) {a b c d e : Written} → x ≡ offset_at C → Emits (const (i32 o)) a b → Emits (set C x) b c → Emits (hand C es) c d →
-    EmitsLast (to_exit l) d e → EmitsLast (unwind C l es o) a e
-unwound C l es o x {b = b} {c = c} at p q r s = emits_last p (emits_last (subst (λ y. Emits (set C y) b c) at q) (emits_last r s))
+-- the code offset is kept
+abbrev pub offset_kept : Ctx → ℕ → Nodes → Nodes
+offset_kept C o k = const (i32 o) (set C (offset_at C) k)
 
-pub flag_tested : (C : Ctx) (l : ℕ) (es : List Place) (o : ℕ) {a b c d e : Written} → Emits (basic 0 (GlobalGet (flag_of C.source))) a b → Opens (λ arm k. choose 0 None arm None stop 0 k) b c →
-    EmitsLast (const (i32 0) (set C (kind_at C) (unwind C l es o))) c d → Closes d e → Emits (test_flag C l es o) a e
+pub keeps_offset : (C : Ctx) (o x : ℕ) {a b c : Written} → x ≡ offset_at C → Emits (const (i32 o)) a b → Emits (set C x) b c → Emits (offset_kept C o) a c
+keeps_offset C o x {b = b} {c = c} at p q = emits_then p (subst (λ y. Emits (set C y) b c) at q)
+
+pub unwound : (C : Ctx) (l : ℕ) (es : List Place) (o : ℕ) {a b c d : Written} → Emits (offset_kept C o) a b → Emits (hand C es) b c → EmitsLast (to_exit C l) c d → EmitsLast (unwind C l es o) a d
+unwound C l es o p q r = emits_last p (emits_last q r)
+
+-- a guard that goes to a landing
+pub landed : (C : Ctx) (l n : ℕ) (es : List Place) (o : ℕ) (test says_kind : Nodes → Nodes) {a b c d : Written} → Emits (offset_kept C o) a b → Emits test b c → Emits (jump 0 (BrIf (l + n))) c d → Emits (checked (Some n) C l es o test says_kind) a d
+landed C l n es o test says_kind p q r = emits_then p (emits_then q r)
+
+pub flag_tested : (C : Ctx) (l : ℕ) (es : List Place) (o : ℕ) {a b c d e : Written} → Emits (get_flag C) a b → Opens (λ arm k. choose 0 None arm None stop 0 k) b c →
+    EmitsLast (const (i32 0) (set C (kind_at C) (unwind C l es o))) c d → Closes d e → Emits (checked None C l es o (get_flag C) (const (i32 0))) a e
 flag_tested C l es o p q r s = emits_then p (emits_within q r s)
 
 pub kind_kept : (C : Ctx) (l : ℕ) (es : List Place) (o x : ℕ) {a b c : Written} → x ≡ kind_at C → Emits (set C x) a b → EmitsLast (unwind C l es o) b c → EmitsLast (unwind_kind C l es o) a c

@@ -7,7 +7,7 @@ use Rattle.wasm_syntax.specs.declared.parts.LocalGroup.{LocalGroup}
 use Rattle.wasm_syntax.specs.declared.parts.Body.{Body}
 use Rattle.wasm_syntax.specs.Tree.{Nodes, stop, choose}
 use Rattle.wasm_syntax.specs.SameCode.{op_code, body_code}
-use Rattle.rewrite_modules.specs.FlatCode.{body_of}
+use Rattle.rewrite_modules.specs.calls.FlatCode.{body_of}
 use Rattle.rewrite_code.specs.inner.Numbered.{numbered}
 use Rattle.rewrite_code.proofs.Numbers.{bare_numbered}
 use Rattle.rewrite_code.specs.calls.Writing.{Written, written, nothing, with_op, with_nodes, ends, alternates, Emits, EmitsLast, Opens, OpensArms, Alternates, Closes}

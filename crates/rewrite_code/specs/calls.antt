@@ -2,3 +2,4 @@
 pub mod Contexts
 pub mod Places
 pub mod Writing
+pub mod KeptLandings

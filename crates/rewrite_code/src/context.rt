@@ -1,16 +1,20 @@
 //! What is fixed in a function that is rewritten.
 
-ghost use Rattle.std.specs.Prelude.{◌≡◌, ◌+◌, ◌*◌, ◌≤◌, length, OnOk};
+ghost use Rattle.std.specs.Prelude.{◌≡◌, ◌+◌, ◌*◌, ◌≤◌, length, map, OnOk};
 ghost use Rattle.wasm_syntax.specs.Tree.{basic};
-ghost use Rattle.wasm_syntax.specs.declared.instruction.Basic.TheVariants.{GlobalGet as GlobalGetOf, LocalTee as LocalTeeOf};
+ghost use Rattle.wasm_syntax.specs.declared.instruction.Basic.TheVariants.{GlobalGet as GlobalGetOf};
+ghost use Rattle.wasm_syntax.specs.declared.instruction.Basic.TheVariants.{LocalTee as LocalTeeOf};
 ghost use Rattle.rewrite_bodies.specs.Numbering.{flag_of};
-ghost use Rattle.rewrite_bodies.specs.Slots.{slot, kind_at, offset_at};
-ghost use Rattle.rewrite_bodies.specs.Pieces.{get, set};
-ghost use Rattle.rewrite_bodies.specs.Rewrite.{hand_value};
+ghost use Rattle.rewrite_bodies.specs.calls.Slots.{slot, kind_at, offset_at};
+ghost use Rattle.rewrite_bodies.specs.calls.Pieces.{get, set};
+ghost use Rattle.rewrite_bodies.specs.calls.Rewrite.{hand_value};
 ghost use Rattle.rewrite_code.specs.calls.Writing.{Emits};
+ghost use Rattle.rewrite_bodies.specs.calls.Landings.{most_landings};
+ghost use Rattle.rewrite_code.specs.calls.KeptLandings.{landing};
 ghost use Rattle.rewrite_code.specs.calls.Contexts.{context, FewLocals};
 
 use crate::CodeWriter;
+use crate::landing::{Landing, Landings};
 use crate::place::slot;
 use causes::NoMemory;
 use index_map::IndexMap;
@@ -19,7 +23,7 @@ use std::marker::Model;
 use wasm_syntax::{Basic, ValType};
 
 /// The module, the types of a function's locals with its parameters, the number of heights, its
-/// index and its result.
+/// index, its result and its landings.
 #[derive(Drop)]
 pub struct FunctionContext<'m, 'a> {
     map: &'m IndexMap<'a>,
@@ -27,15 +31,16 @@ pub struct FunctionContext<'m, 'a> {
     slots: u32,
     index: u32,
     gives: Option<ValType>,
+    landings: Landings,
 }
 
 impl<'m, 'a> Model for FunctionContext<'m, 'a> {
-    ghost use Rattle.rewrite_bodies.specs.Slots.{Ctx};
+    ghost use Rattle.rewrite_bodies.specs.calls.Slots.{Ctx};
     ghost use Rattle.rewrite_code.specs.calls.Contexts.{context, FewLocals};
 
     ghost Value = { Ctx };
 
-    ghost view = { λ s. context s.map.now s.locals s.slots s.index s.gives };
+    ghost view = { λ s. context s.map.now s.locals s.slots s.index s.gives s.landings };
 
     ghost invariant = { λ s. FewLocals s.locals s.slots };
 }
@@ -48,9 +53,10 @@ impl<'m, 'a> FunctionContext<'m, 'a> {
         slots: u32,
         index: u32,
         gives: Option<ValType>,
+        landings: Landings,
     ) -> Self
         requires { FewLocals locals slots }
-        ensures { result ≡ context map.now locals slots index gives }
+        ensures { result ≡ context map.now locals slots index gives landings }
     {
         FunctionContext {
             map,
@@ -58,6 +64,7 @@ impl<'m, 'a> FunctionContext<'m, 'a> {
             slots,
             index,
             gives,
+            landings,
         }
     }
 
@@ -95,6 +102,22 @@ impl<'m, 'a> FunctionContext<'m, 'a> {
         ensures { result ≡ self.now.result }
     {
         self.gives
+    }
+
+    /// The landings.
+    pub fn landings(&self) -> &[Landing]
+        ensures list { map landing result.now ≡ self.now.landings }
+        ensures few { length result.now ≤ most_landings }
+    {
+        self.landings.as_slice()
+    }
+
+    /// How many there are.
+    pub fn landing_count(&self) -> u32
+        ensures count { result ≡ length self.now.landings }
+        ensures few { result ≤ most_landings }
+    {
+        self.landings.count()
     }
 
     /// The place of the slot of a type at a height.

@@ -1,9 +1,9 @@
 //! Operands and locals are handed over to the collector.
 
 ghost use Rattle.std.specs.Prelude.{◌≤◌, length, OnOk};
-ghost use Rattle.rewrite_bodies.specs.Slots.{place_type};
-ghost use Rattle.rewrite_bodies.specs.Pieces.{fetch};
-ghost use Rattle.rewrite_bodies.specs.Rewrite.{hand, hand_locals, hand_top, hand_value};
+ghost use Rattle.rewrite_bodies.specs.calls.Slots.{place_type};
+ghost use Rattle.rewrite_bodies.specs.calls.Pieces.{fetch};
+ghost use Rattle.rewrite_bodies.specs.calls.Rewrite.{hand, hand_locals, hand_top, hand_value};
 ghost use Rattle.rewrite_code.specs.calls.Writing.{Emits};
 ghost use Rattle.rewrite_code.specs.calls.Places.{place};
 
@@ -15,7 +15,7 @@ use wasm_syntax::Basic;
 
 impl<'m, 'a> FunctionContext<'m, 'a> {
     /// The operand at a height.
-    fn hand_one(
+    pub fn hand_one(
         &self,
         writer: &mut CodeWriter,
         operand: OperandPlace,

@@ -3,8 +3,9 @@
 ghost use Rattle.std.specs.Prelude.{◌≡◌, List, Option, Some};
 ghost use Rattle.wasm_syntax.specs.declared.value.ValType.{ValType as TypeOf};
 ghost use Rattle.wasm_syntax.specs.Tree.{Nodes, stop, choose};
-ghost use Rattle.rewrite_modules.specs.FlatCode.{ops_in, targets_in};
-ghost use Rattle.rewrite_code.specs.calls.Writing.{Written, written, nothing, with_nodes, Emits, EmitsLast, Opens, OpensArms, Alternates, Closes};
+ghost use Rattle.rewrite_modules.specs.calls.FlatCode.{ops_in, targets_in};
+ghost use Rattle.rewrite_code.specs.calls.Writing.{Written, written, nothing, with_nodes, Emits, EmitsLast, Opens};
+ghost use Rattle.rewrite_code.specs.calls.Writing.{OpensArms, Alternates, Closes};
 
 /// A piece and the one behind it; a piece and the last nodes; the beginning of a block, its nodes
 /// and its end; both arms of an `if`.

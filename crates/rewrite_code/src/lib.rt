@@ -4,6 +4,7 @@
 
 mod context;
 mod handing;
+mod landing;
 pub mod laws;
 mod moves;
 mod place;
@@ -11,7 +12,7 @@ mod unwinding;
 mod writer;
 
 pub use context::FunctionContext;
+pub use landing::{Landing, Landings};
 pub use moves::drops;
 pub use place::{OperandPlace, OperandPlaces, slot};
-pub use unwinding::to_exit;
 pub use writer::CodeWriter;

@@ -1,10 +1,11 @@
 //! Operands go to their slots, and from where they are to the stack.
 
 ghost use Rattle.std.specs.Prelude.{◌≡◌, ◌+◌, ◌≤◌, List, length, option_map, OnOk};
-ghost use Rattle.wasm_syntax.specs.declared.instruction.Basic.TheVariants.{LocalGet as LocalGetOf, LocalTee as LocalTeeOf};
+ghost use Rattle.wasm_syntax.specs.declared.instruction.Basic.TheVariants.{LocalGet as LocalGetOf};
+ghost use Rattle.wasm_syntax.specs.declared.instruction.Basic.TheVariants.{LocalTee as LocalTeeOf};
 ghost use Rattle.wasm_syntax.specs.Tree.{basic};
-ghost use Rattle.rewrite_bodies.specs.Slots.{Place as PlaceOf, Spilled as SpilledOf, slot, less};
-ghost use Rattle.rewrite_bodies.specs.Pieces.{set, fetch, load, keep, store, reload, spill_one, spill, drops};
+ghost use Rattle.rewrite_bodies.specs.calls.Slots.{Place as PlaceOf, Spilled as SpilledOf, slot, less};
+ghost use Rattle.rewrite_bodies.specs.calls.Pieces.{set, fetch, load, keep, store, reload, spill_one, spill, drops};
 ghost use Rattle.rewrite_code.specs.calls.Writing.{Emits};
 ghost use Rattle.rewrite_code.specs.calls.Places.{place, these};
 

@@ -1,8 +1,9 @@
 //! Where operands are.
 
-ghost use Rattle.std.specs.Prelude.{◌≡◌, ◌+◌, ◌*◌, ◌^◌, ◌<◌, [], ◌∷◌, length, map, slice_get, option_map, OnOk, OnErr, MatchOption};
+ghost use Rattle.std.specs.Prelude.{◌≡◌, ◌+◌, ◌*◌, ◌^◌, ◌<◌, [], ◌∷◌, length, map, slice_get, option_map, OnOk, OnErr};
+ghost use Rattle.std.specs.Prelude.{MatchOption};
 ghost use Rattle.rewrite_bodies.specs.Numbering.{type_number};
-ghost use Rattle.rewrite_bodies.specs.Slots.{place_type, slot, less, grown, uncopied, without};
+ghost use Rattle.rewrite_bodies.specs.calls.Slots.{place_type, slot, less, grown, uncopied, without};
 ghost use Rattle.rewrite_code.specs.calls.Places.{place, from_top, these};
 
 use causes::NoMemory;
@@ -43,8 +44,7 @@ impl OperandPlace {
     {
         match self {
             OperandPlace::Spilled(t) => t,
-            OperandPlace::Known(Value::I32(_)) => ValType::I32,
-            OperandPlace::Known(Value::I64(_)) => ValType::I64,
+            OperandPlace::Known(value) => value.type_of(),
             OperandPlace::Copied(t, _) => t,
         }
     }
@@ -94,7 +94,7 @@ pub struct OperandPlaces {
 
 impl Model for OperandPlaces {
     ghost use Rattle.std.specs.Prelude.{List};
-    ghost use Rattle.rewrite_bodies.specs.Slots.{Place};
+    ghost use Rattle.rewrite_bodies.specs.calls.Slots.{Place};
     ghost use Rattle.rewrite_code.specs.calls.Places.{from_top};
 
     ghost Value = { List Place };

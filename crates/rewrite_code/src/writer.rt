@@ -2,12 +2,14 @@
 
 ghost use Rattle.std.specs.Prelude.{◌≡◌, ◌+◌, ◌<◌, ◌≤◌, ◌^◌, nat_lt, length, IfOk, OnOk, None};
 ghost use Rattle.wasm_syntax.specs.Module.{Ascend};
-ghost use Rattle.wasm_syntax.specs.Tree.{Nodes, stop, basic, jump, block, loop, choose, Unreachable, Br, BrIf, BrTable, Return, CallIndirect};
-ghost use Rattle.rewrite_bodies.specs.Pieces.{const, call};
+ghost use Rattle.wasm_syntax.specs.Tree.{Nodes, stop, basic, jump, block, loop, choose, Unreachable, Br, BrIf, BrTable};
+ghost use Rattle.wasm_syntax.specs.Tree.{Return, CallIndirect};
+ghost use Rattle.rewrite_bodies.specs.calls.Pieces.{const, call};
 ghost use Rattle.wasm_syntax.specs.SameCode.{body_code};
-ghost use Rattle.rewrite_modules.specs.FlatCode.{body_of};
+ghost use Rattle.rewrite_modules.specs.calls.FlatCode.{body_of};
 ghost use Rattle.rewrite_code.specs.inner.Numbered.{numbered};
-ghost use Rattle.rewrite_code.specs.calls.Writing.{nothing, with_op, Emits, EmitsLast, Opens, OpensArms, Alternates, Closes};
+ghost use Rattle.rewrite_code.specs.calls.Writing.{nothing, with_op, Emits, EmitsLast, Opens, OpensArms, Alternates};
+ghost use Rattle.rewrite_code.specs.calls.Writing.{Closes};
 
 use causes::NoMemory;
 use pm_text::Items;

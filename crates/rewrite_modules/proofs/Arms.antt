@@ -1,4 +1,5 @@
 -- An `if` without `else` has an empty second arm, in rewritten code too.
+use Rattle.rewrite_bodies.specs.calls.Landings.{number_of, number_in, landing_of, landing_behind, with_landings}
 use Rattle.std.proofs.Common.{◌≡◌, ℕ, zero, suc, ◌+◌, List, [], ◌∷◌, length, Option, Some, None, Bool, true, false, nat_lt, if◌then◌else◌, ◌==◌, refl, ap, slice_get, option_map, ◌/◌}
 use Rattle.wasm_syntax.specs.declared.value.ValType.{ValType}
 use Rattle.wasm_syntax.specs.declared.instruction.Basic.{Basic}
@@ -11,19 +12,21 @@ use Rattle.wasm_syntax.specs.Machine.{result_of}
 use Rattle.rewrite_modules.specs.calls.Bare.{bare_nodes}
 use Rattle.wasm_syntax.specs.Access.{load_bits, store_bits}
 use Rattle.int_ops.specs.declared.operators.Binary.{Binary as BinaryOp}
-use Rattle.int_ops.specs.declared.operators.Binary.TheVariants.{Add, Sub, Mul, DivS, DivU, RemS, RemU, And, Or, Xor, Shl, ShrS, ShrU, Rotl, Rotr}
+use Rattle.int_ops.specs.declared.operators.Binary.TheVariants.{Add, And, Or}
 use Rattle.int_ops.specs.declared.operators.Compare.TheVariants.{Eq}
 use Rattle.wasm_syntax.specs.declared.instruction.Convert.TheVariants.{ExtendU}
-use Rattle.wasm_syntax.specs.declared.instruction.Basic.TheVariants.{Nop, Drop, Select, LocalGet, LocalSet, LocalTee, GlobalGet, GlobalSet, Load, Store, MemorySize, MemoryGrow, MemoryCopy, MemoryFill, Const, Eqz, Unary, Compare, Binary, Convert, Extend32, Extend64}
+use Rattle.wasm_syntax.specs.declared.instruction.Basic.TheVariants.{Select, LocalGet, Eqz, Compare, Binary, Convert}
 use Rattle.wasm_syntax.specs.declared.value.ValType.TheVariants.{I32, I64}
 use Rattle.wasm_syntax.specs.Sizes.{parameter_count}
 use Rattle.rewrite_bodies.specs.Numbering.{import_count, mapped, frame_import, global_types, doubles}
-use Rattle.rewrite_bodies.specs.Slots.{Place, place_type, Ctx, slot, kind_at, offset_at, less, grown, under, result_place, after_plain, Spilled, Known, Copied}
-use Rattle.rewrite_bodies.specs.Pieces.{get, set, const, i32, call, if_any, fetch, load, keep, store, reload, spill_one, spill, drops}
-use Rattle.rewrite_bodies.specs.Guards.{least, minus_one, guard_zero, guard_signed, past_end, out_test, guard_memory, range_test, guard, can_trap, kind, helper}
-use Rattle.rewrite_bodies.specs.Rewrite.{hand_value, hand, hand_top, to_exit, unwind, test_flag, test_both, unwind_kind, tested, guarded, free, plain, with_result, after_call, after_direct, call_code, helper_of, past_shown, indirect_code, control, rewrite, hand_locals, zero_result, raise_flag, exit_code, body}
-use Rattle.rewrite_modules.specs.Wrappers.{get_all, tell_globals, after_wrapped, wrapper}
-use Rattle.rewrite_modules.specs.FlatCode.{op}
+use Rattle.rewrite_bodies.specs.calls.Slots.{Place, place_type, Ctx, slot, kind_at, offset_at, less, grown, under, result_place, after_plain, Spilled, Known, Copied, Landing, local_written}
+use Rattle.rewrite_bodies.specs.calls.Pieces.{get, set, const, i32, call, if_any, fetch, load, keep, store, reload, spill_one, spill, drops}
+use Rattle.rewrite_bodies.specs.calls.Guards.{least, minus_one, guard_zero, guard_signed, past_end, out_test, guard_memory, range_test, guard, can_trap, kind, helper}
+use Rattle.rewrite_bodies.specs.calls.Rewrite.{hand_value, hand, hand_top, to_exit, unwind, test_flag, test_both, unwind_kind, tested, guarded, free, plain, with_result, after_call, after_direct, call_code, helper_of, past_shown, indirect_code, control, rewrite, hand_locals, zero_result, raise_flag, exit_code, body, checked, get_flag, hand_carried, landing_code, nested, laid, free_at}
+use Rattle.rewrite_modules.specs.calls.Wrappers.{get_all, tell_globals, after_wrapped, wrapper}
+use Rattle.rewrite_modules.specs.calls.FlatCode.{op}
+use Rattle.rewrite_bodies.proofs.Risks.{risk_of}
+use Rattle.wasm_syntax.specs.calls.Classes.{Divider, by_div_s, by_div_u, by_rem_s, by_rem_u, Risky, risky_binary, risky_load, risky_store, risky_copy, risky_fill}
 
 module _ (C : Ctx) where
   tree_fetch : (e : Place) (h : ℕ) (k : Nodes) → IsTree k → IsTree (fetch C e h k)
@@ -72,13 +75,17 @@ module _ (C : Ctx) where
   tree_hand (e ∷ es) k tk = tree_hand es (fetch C e (length es) (hand_value C (place_type e) k)) (tree_fetch e (length es) (hand_value C (place_type e) k) tk)
 
   tree_unwind : (ls : ℕ) (es : List Place) (o : ℕ) → IsTree (unwind C ls es o)
-  tree_unwind ls es o = tree_hand es (jump 0 (Br (suc ls)) stop) tt
-
-  tree_flag : (ls : ℕ) (es : List Place) (o : ℕ) (k : Nodes) → IsTree k → IsTree (test_flag C ls es o k)
-  tree_flag ls es o k tk = (tree_unwind ls es o, refl, tt, tk)
+  tree_unwind ls es o = tree_hand es (to_exit C ls) tt
 
   tree_tested : (ls : ℕ) (es : List Place) (o : ℕ) (says_kind : Nodes → Nodes) (k : Nodes) → ((arm : Nodes) → IsTree arm → IsTree (says_kind arm)) → IsTree k → IsTree (tested C ls es o says_kind k)
   tree_tested ls es o says_kind k says tk = (says (unwind_kind C ls es o) (tree_unwind ls es o), refl, tt, tk)
+
+  tree_checked : (q : Option ℕ) (ls : ℕ) (es : List Place) (o : ℕ) (test says_kind : Nodes → Nodes) (k : Nodes) → ((k : Nodes) → IsTree k → IsTree (test k)) → ((arm : Nodes) → IsTree arm → IsTree (says_kind arm)) → IsTree k → IsTree (checked q C ls es o test says_kind k)
+  tree_checked None ls es o test says_kind k tests says tk = tests (tested C ls es o says_kind k) (tree_tested ls es o says_kind k says tk)
+  tree_checked (Some n) ls es o test says_kind k tests says tk = tests (jump 0 (BrIf (ls + n)) k) tk
+
+  tree_flag : (ls : ℕ) (es : List Place) (o : ℕ) (k : Nodes) → IsTree k → IsTree (test_flag C ls es o k)
+  tree_flag ls es o k tk = tree_checked (number_of (landing_behind es) C.landings) ls es o (get_flag C) (const (i32 0)) k (λ k w. w) (λ arm w. w) tk
 
   -- ---- guards
 
@@ -99,149 +106,74 @@ module _ (C : Ctx) where
       let k2 = basic 0 (Convert ExtendU) (basic 0 (Binary I64 Add) (past_end k)) in
       tree_fetch a h (basic 0 (Convert ExtendU) (fetch C n hn k2)) (tree_fetch n hn k2 tk)
 
-  tree_kind_division : (op : BinaryOp) (t : ValType) (es : List Place) (k : Nodes) → IsTree k → IsTree (kind C (Binary t op) es k)
-  tree_kind_division DivS t [] k tk = tk
-  tree_kind_division DivS t (b ∷ []) k tk = tk
-  tree_kind_division DivS t (b ∷ a ∷ es) k tk = tree_zero t b (suc (length es)) (basic 0 Select k) tk
-  tree_kind_division DivU t es k tk = tk
-  tree_kind_division RemS t es k tk = tk
-  tree_kind_division RemU t es k tk = tk
-  tree_kind_division Add t es k tk = tk
-  tree_kind_division Sub t es k tk = tk
-  tree_kind_division Mul t es k tk = tk
-  tree_kind_division And t es k tk = tk
-  tree_kind_division Or t es k tk = tk
-  tree_kind_division Xor t es k tk = tk
-  tree_kind_division Shl t es k tk = tk
-  tree_kind_division ShrS t es k tk = tk
-  tree_kind_division ShrU t es k tk = tk
-  tree_kind_division Rotl t es k tk = tk
-  tree_kind_division Rotr t es k tk = tk
+  tree_kind_division : (op : BinaryOp) → Divider op → (t : ValType) (es : List Place) (k : Nodes) → IsTree k → IsTree (kind C (Binary t op) es k)
+  tree_kind_division op by_div_s t [] k tk = tk
+  tree_kind_division op by_div_s t (b ∷ []) k tk = tk
+  tree_kind_division op by_div_s t (b ∷ a ∷ es) k tk = tree_zero t b (suc (length es)) (basic 0 Select k) tk
+  tree_kind_division op by_div_u t es k tk = tk
+  tree_kind_division op by_rem_s t es k tk = tk
+  tree_kind_division op by_rem_u t es k tk = tk
 
-  tree_kind : (i : Basic) (es : List Place) (k : Nodes) → IsTree k → IsTree (kind C i es k)
-  tree_kind (Binary t op) es k tk = tree_kind_division op t es k tk
-  tree_kind Nop es k tk = tk
-  tree_kind Drop es k tk = tk
-  tree_kind Select es k tk = tk
-  tree_kind (LocalGet x) es k tk = tk
-  tree_kind (LocalSet x) es k tk = tk
-  tree_kind (LocalTee x) es k tk = tk
-  tree_kind (GlobalGet x) es k tk = tk
-  tree_kind (GlobalSet x) es k tk = tk
-  tree_kind (Load l al of) es k tk = tk
-  tree_kind (Store l al of) es k tk = tk
-  tree_kind MemorySize es k tk = tk
-  tree_kind MemoryGrow es k tk = tk
-  tree_kind MemoryCopy es k tk = tk
-  tree_kind MemoryFill es k tk = tk
-  tree_kind (Const v) es k tk = tk
-  tree_kind (Eqz w) es k tk = tk
-  tree_kind (Unary w op) es k tk = tk
-  tree_kind (Compare w op) es k tk = tk
-  tree_kind (Convert c) es k tk = tk
-  tree_kind (Extend32 j) es k tk = tk
-  tree_kind (Extend64 j) es k tk = tk
+  tree_kind : (i : Basic) → Risky i → (es : List Place) (k : Nodes) → IsTree k → IsTree (kind C i es k)
+  tree_kind i (risky_binary t op by) es k tk = tree_kind_division op by t es k tk
+  tree_kind i (risky_load l al of) es k tk = tk
+  tree_kind i (risky_store l al of) es k tk = tk
+  tree_kind i risky_copy es k tk = tk
+  tree_kind i risky_fill es k tk = tk
 
-  tree_division : (op : BinaryOp) (t : ValType) (es : List Place) (k : Nodes) → IsTree k → IsTree (guard C (Binary t op) es k)
-  tree_division DivS t [] k tk = tk
-  tree_division DivS t (b ∷ []) k tk = tk
-  tree_division DivS t (b ∷ a ∷ es) k tk = tree_signed t b a (length es) k tk
-  tree_division DivU t [] k tk = tk
-  tree_division DivU t (b ∷ []) k tk = tk
-  tree_division DivU t (b ∷ a ∷ es) k tk = tree_zero t b (suc (length es)) k tk
-  tree_division RemS t [] k tk = tk
-  tree_division RemS t (b ∷ []) k tk = tk
-  tree_division RemS t (b ∷ a ∷ es) k tk = tree_zero t b (suc (length es)) k tk
-  tree_division RemU t [] k tk = tk
-  tree_division RemU t (b ∷ []) k tk = tk
-  tree_division RemU t (b ∷ a ∷ es) k tk = tree_zero t b (suc (length es)) k tk
-  tree_division Add t es k tk = tk
-  tree_division Sub t es k tk = tk
-  tree_division Mul t es k tk = tk
-  tree_division And t es k tk = tk
-  tree_division Or t es k tk = tk
-  tree_division Xor t es k tk = tk
-  tree_division Shl t es k tk = tk
-  tree_division ShrS t es k tk = tk
-  tree_division ShrU t es k tk = tk
-  tree_division Rotl t es k tk = tk
-  tree_division Rotr t es k tk = tk
+  tree_division : (op : BinaryOp) → Divider op → (t : ValType) (es : List Place) (k : Nodes) → IsTree k → IsTree (guard C (Binary t op) es k)
+  tree_division op by_div_s t [] k tk = tk
+  tree_division op by_div_s t (b ∷ []) k tk = tk
+  tree_division op by_div_s t (b ∷ a ∷ es) k tk = tree_signed t b a (length es) k tk
+  tree_division op by_div_u t [] k tk = tk
+  tree_division op by_div_u t (b ∷ []) k tk = tk
+  tree_division op by_div_u t (b ∷ a ∷ es) k tk = tree_zero t b (suc (length es)) k tk
+  tree_division op by_rem_s t [] k tk = tk
+  tree_division op by_rem_s t (b ∷ []) k tk = tk
+  tree_division op by_rem_s t (b ∷ a ∷ es) k tk = tree_zero t b (suc (length es)) k tk
+  tree_division op by_rem_u t [] k tk = tk
+  tree_division op by_rem_u t (b ∷ []) k tk = tk
+  tree_division op by_rem_u t (b ∷ a ∷ es) k tk = tree_zero t b (suc (length es)) k tk
 
-  tree_guard : (i : Basic) (es : List Place) (k : Nodes) → IsTree k → IsTree (guard C i es k)
-  tree_guard (Binary t op) es k tk = tree_division op t es k tk
-  tree_guard (Load t align o) [] k tk = tk
-  tree_guard (Load t align o) (a ∷ es) k tk = tree_memory a (length es) (o + load_bits t / 8) k tk
-  tree_guard (Store t align o) [] k tk = tk
-  tree_guard (Store t align o) (v ∷ []) k tk = tk
-  tree_guard (Store t align o) (v ∷ a ∷ es) k tk = tree_memory a (length es) (o + store_bits t / 8) k tk
-  tree_guard MemoryCopy [] k tk = tk
-  tree_guard MemoryCopy (n ∷ []) k tk = tk
-  tree_guard MemoryCopy (n ∷ from ∷ []) k tk = tk
-  tree_guard MemoryCopy (n ∷ from ∷ to ∷ es) k tk =
+  tree_guard : (i : Basic) → Risky i → (es : List Place) (k : Nodes) → IsTree k → IsTree (guard C i es k)
+  tree_guard i (risky_binary t op by) es k tk = tree_division op by t es k tk
+  tree_guard i (risky_load t align o) [] k tk = tk
+  tree_guard i (risky_load t align o) (a ∷ es) k tk = tree_memory a (length es) (o + load_bits t / 8) k tk
+  tree_guard i (risky_store t align o) [] k tk = tk
+  tree_guard i (risky_store t align o) (v ∷ []) k tk = tk
+  tree_guard i (risky_store t align o) (v ∷ a ∷ es) k tk = tree_memory a (length es) (o + store_bits t / 8) k tk
+  tree_guard i risky_copy [] k tk = tk
+  tree_guard i risky_copy (n ∷ []) k tk = tk
+  tree_guard i risky_copy (n ∷ from ∷ []) k tk = tk
+  tree_guard i risky_copy (n ∷ from ∷ to ∷ es) k tk =
       let h = length es in
       let k2 = basic 0 (Binary I32 Or) k in
       tree_range from (suc h) n (suc (suc h)) (range_test C to h n (suc (suc h)) k2) (tree_range to h n (suc (suc h)) k2 tk)
-  tree_guard MemoryFill [] k tk = tk
-  tree_guard MemoryFill (n ∷ []) k tk = tk
-  tree_guard MemoryFill (n ∷ byte ∷ []) k tk = tk
-  tree_guard MemoryFill (n ∷ byte ∷ to ∷ es) k tk = tree_range to (length es) n (suc (suc (length es))) k tk
-  tree_guard Nop es k tk = tk
-  tree_guard Drop es k tk = tk
-  tree_guard Select es k tk = tk
-  tree_guard (LocalGet x) es k tk = tk
-  tree_guard (LocalSet x) es k tk = tk
-  tree_guard (LocalTee x) es k tk = tk
-  tree_guard (GlobalGet x) es k tk = tk
-  tree_guard (GlobalSet x) es k tk = tk
-  tree_guard MemorySize es k tk = tk
-  tree_guard MemoryGrow es k tk = tk
-  tree_guard (Const v) es k tk = tk
-  tree_guard (Eqz t) es k tk = tk
-  tree_guard (Unary t op) es k tk = tk
-  tree_guard (Compare t op) es k tk = tk
-  tree_guard (Convert c) es k tk = tk
-  tree_guard (Extend32 j) es k tk = tk
-  tree_guard (Extend64 j) es k tk = tk
+  tree_guard i risky_fill [] k tk = tk
+  tree_guard i risky_fill (n ∷ []) k tk = tk
+  tree_guard i risky_fill (n ∷ byte ∷ []) k tk = tk
+  tree_guard i risky_fill (n ∷ byte ∷ to ∷ es) k tk = tree_range to (length es) n (suc (suc (length es))) k tk
 
-  tree_guarded : (q : Bool) (ls : ℕ) (es : List Place) (o : ℕ) (i : Basic) (k : Nodes) → IsTree k → IsTree (guarded q C ls es o i k)
-  tree_guarded false ls es o i k tk = tk
-  tree_guarded true ls es o i k tk = tree_guard i es (tested C ls es o (kind C i es) k) (tree_tested ls es o (kind C i es) k (λ arm w. tree_kind i es arm w) tk)
+  tree_guarded : (q : Bool) (ls : ℕ) (es : List Place) (o : ℕ) (i : Basic) (k : Nodes) → can_trap i ≡ q → IsTree k → IsTree (guarded q C ls es o i k)
+  tree_guarded false ls es o i k t tk = tk
+  tree_guarded true ls es o i k t tk =
+      tree_checked (number_in C.landings (landing_of i es)) ls es o (guard C i es) (kind C i es) k (λ k w. tree_guard i (risk_of i t) es k w) (λ arm w. tree_kind i (risk_of i t) es arm w) tk
 
   -- ---- instructions
 
   abbrev Goes : (List Place → Nodes) → Type 0
   Goes go = (es : List Place) → IsTree (go es)
 
-  tree_free : (i : Basic) (es : List Place) (k : Nodes) → IsTree k → IsTree (free C i es k)
-  tree_free (LocalSet x) es k tk = tree_spill (λ y. x == y) es k tk
-  tree_free (LocalTee x) es k tk = tree_spill (λ y. x == y) es k tk
-  tree_free Nop es k tk = tk
-  tree_free Drop es k tk = tk
-  tree_free Select es k tk = tk
-  tree_free (LocalGet x) es k tk = tk
-  tree_free (GlobalGet x) es k tk = tk
-  tree_free (GlobalSet x) es k tk = tk
-  tree_free (Load t al of) es k tk = tk
-  tree_free (Store t al of) es k tk = tk
-  tree_free MemorySize es k tk = tk
-  tree_free MemoryGrow es k tk = tk
-  tree_free MemoryCopy es k tk = tk
-  tree_free MemoryFill es k tk = tk
-  tree_free (Const v) es k tk = tk
-  tree_free (Eqz t) es k tk = tk
-  tree_free (Unary t op) es k tk = tk
-  tree_free (Compare t op) es k tk = tk
-  tree_free (Binary t op) es k tk = tk
-  tree_free (Convert c) es k tk = tk
-  tree_free (Extend32 j) es k tk = tk
-  tree_free (Extend64 j) es k tk = tk
+  tree_free : (o : Option ℕ) (es : List Place) (k : Nodes) → IsTree k → IsTree (free_at C o es k)
+  tree_free None es k tk = tk
+  tree_free (Some x) es k tk = tree_spill (λ y. x == y) es k tk
 
   tree_plain : (ls : ℕ) (es : List Place) (o : ℕ) (i : Basic) (go : List Place → Nodes) → Goes go → IsTree (plain C ls es o i go)
   tree_plain ls es o i go h =
       let left = less (takes i) es in
       let k1 = go (after_plain C es i) in
       let k2 = basic 0 i (keep C (result_place C es i) left k1) in
-      tree_guarded (can_trap i) ls es o i (free C i left k2) (tree_free i left k2 (tree_keep (result_place C es i) left k1 (h (after_plain C es i))))
+      tree_guarded (can_trap i) ls es o i (free C i left k2) refl (tree_free (local_written i) left k2 (tree_keep (result_place C es i) left k1 (h (after_plain C es i))))
 
   -- ---- control
 
@@ -251,7 +183,7 @@ module _ (C : Ctx) where
   tree_hand_top (suc m) (e ∷ es) k tk = tree_hand_top m es (fetch C e (length es) (hand_value C (place_type e) k)) (tree_fetch e (length es) (hand_value C (place_type e) k) tk)
 
   tree_both : (ls : ℕ) (es : List Place) (o : ℕ) (others k : Nodes) → IsTree others → IsTree k → IsTree (test_both C ls es o others k)
-  tree_both ls es o others k to tk = (tree_hand es (get C (kind_at C) (if_any others (to_exit ls))) (to, refl, tt, tt), refl, tt, tk)
+  tree_both ls es o others k to tk = (tree_hand es (get C (kind_at C) (if_any others (to_exit C ls))) (to, refl, tt, tt), refl, tt, tk)
 
   tree_result : (r : Option ValType) (es : List Place) (go : List Place → Nodes) → Goes go → IsTree (with_result C r es go)
   tree_result r es go h = tree_keep (option_map Spilled r) es (go (grown r es)) (h (grown r es))
@@ -333,8 +265,22 @@ module _ (C : Ctx) where
       let k9 = zero_result C.result (jump 0 Return stop) in
       tree_locals 0 C.locals (get C (kind_at C) (const (i32 C.index) (get C (offset_at C) (const (i32 (length C.locals)) (call (frame_import C.source) (raise_flag C k9)))))) (tree_zero_result C.result (jump 0 Return stop) tt)
 
-  pub tree_body : (nodes : Nodes) → IsTree nodes → IsTree (body C nodes)
-  tree_body nodes it = ((tree_rewrite nodes 1 [] it, tt), tree_exit)
+  tree_landing : (n : ℕ) (x : Landing) → IsTree (landing_code C n x)
+  tree_landing n x = tree_hand x.places (hand_carried C x.carried (jump 0 (Br n) stop)) (carried x.carried)
+    where
+      carried : (r : Option ValType) → IsTree (hand_carried C r (jump 0 (Br n) stop))
+      carried None = tt
+      carried (Some t) = tt
+
+  tree_nested : (xs : List Landing) (inner : Nodes) → IsTree inner → IsTree (nested C xs inner)
+  tree_nested [] inner h = h
+  tree_nested (x ∷ xs) inner h = tree_nested xs (block 0 x.carried inner 0 (landing_code C (length xs) x)) (h, tree_landing (length xs) x)
+
+  tree_laid : (nodes : Nodes) → IsTree nodes → IsTree (laid C nodes)
+  tree_laid nodes it = (tree_nested C.landings (block 0 C.result (rewrite C 1 [] nodes) 0 (jump 0 Return stop)) (tree_rewrite nodes 1 [] it, tt), tree_exit)
+
+pub tree_body : (C : Ctx) (nodes : Nodes) → IsTree nodes → IsTree (body C nodes)
+tree_body C nodes it = tree_laid (with_landings C nodes) nodes it
 
 -- ---- wrappers and helpers
 

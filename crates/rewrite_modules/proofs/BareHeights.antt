@@ -13,7 +13,7 @@ use Rattle.wasm_syntax.specs.SameCode.{op_code, body_code, code_alone}
 use Rattle.rewrite_modules.specs.calls.LowSizes.{LowHeights}
 use Rattle.rewrite_modules.proofs.BareValid.{basic_to, basic_from, jump_to, jump_from}
 use Rattle.rewrite_modules.proofs.WrittenOut.{at_zero, zero_code}
-use Rattle.wasm_laws.proofs.Validity.{map_found}
+use Rattle.wasm_syntax.proofs.Types.{map_found}
 
 take_zero : (i : ℕ) (code : List Placed) → take i (map at_zero code) ≡ map at_zero (take i code)
 take_zero zero [] = refl

@@ -6,9 +6,7 @@ use Rattle.std.proofs.lemmas.List.{length-map}
 use Rattle.std.proofs.lemmas.Option.{slice_get-map}
 use Rattle.wasm_syntax.specs.declared.value.ValType.{ValType}
 use Rattle.wasm_syntax.specs.declared.instruction.Instr.{Instr}
-use Rattle.wasm_syntax.specs.declared.instruction.Instr.TheVariants as instrs
 use Rattle.wasm_syntax.specs.declared.instruction.Basic.{Basic}
-use Rattle.wasm_syntax.specs.declared.instruction.Basic.TheVariants.{Nop, Drop, Select, LocalGet, LocalSet, LocalTee, GlobalGet, GlobalSet, Load, Store, MemorySize, MemoryGrow, MemoryCopy, MemoryFill, Const, Eqz, Unary, Compare, Binary, Convert, Extend32, Extend64}
 use Rattle.wasm_syntax.specs.declared.instruction.Op.{Op}
 use Rattle.wasm_syntax.specs.declared.parts.Body.{Body}
 use Rattle.wasm_syntax.specs.declared.parts.Global.{Global}
@@ -29,8 +27,10 @@ use Rattle.wasm_syntax.specs.SameCode.{op_code, body_code, global_code, element_
 use Rattle.rewrite_modules.specs.calls.LowSizes.{LowSizes}
 use Rattle.rewrite_modules.proofs.ValidBodies.{typed_bare, bare_typed}
 use Rattle.rewrite_modules.proofs.WrittenOut.{bare_writes}
-use Rattle.wasm_laws.proofs.Validity.{map_found}
 use Rattle.wasm_syntax.proofs.Bodies.{tree_of}
+use Rattle.wasm_syntax.proofs.Types.{map_found}
+use Rattle.wasm_syntax.specs.calls.Classes.{TypeSource, DropsAny, SelectsAny, FromLocal, IntoLocal, TeesLocal, FromGlobal, IntoGlobal, OverMemory, OfItself, type_source, source_arrow}
+use Rattle.wasm_syntax.proofs.Classes.{arrow_is, Constant, holds_value, reads_global, not_constant, constant_of}
 
 -- ---- lists
 
@@ -58,73 +58,23 @@ codes_bare (o ∷ ops) = ap (λ z. o.code ∷ z) (codes_bare ops)
 
 -- ---- constant expressions
 
-const_bare : (gs : List Global) (i : Instr) (t : ValType) → ConstTypes gs i t → ConstTypes (map global_code gs) i t
-const_bare gs (instrs.Basic (Const v)) t h = h
-const_bare gs (instrs.Basic (GlobalGet x)) t h = (global_code h.0, slice_get-map global_code gs x ∙ ap (option_map global_code) h.1, h.2, h.3)
-const_bare gs (instrs.Basic Nop) t h = absurd h
-const_bare gs (instrs.Basic Drop) t h = absurd h
-const_bare gs (instrs.Basic Select) t h = absurd h
-const_bare gs (instrs.Basic (LocalGet x)) t h = absurd h
-const_bare gs (instrs.Basic (LocalSet x)) t h = absurd h
-const_bare gs (instrs.Basic (LocalTee x)) t h = absurd h
-const_bare gs (instrs.Basic (Load l al of)) t h = absurd h
-const_bare gs (instrs.Basic (Store l al of)) t h = absurd h
-const_bare gs (instrs.Basic MemorySize) t h = absurd h
-const_bare gs (instrs.Basic MemoryGrow) t h = absurd h
-const_bare gs (instrs.Basic MemoryCopy) t h = absurd h
-const_bare gs (instrs.Basic MemoryFill) t h = absurd h
-const_bare gs (instrs.Basic (Eqz u)) t h = absurd h
-const_bare gs (instrs.Basic (Unary u op)) t h = absurd h
-const_bare gs (instrs.Basic (Compare u op)) t h = absurd h
-const_bare gs (instrs.Basic (Binary u op)) t h = absurd h
-const_bare gs (instrs.Basic (Convert k)) t h = absurd h
-const_bare gs (instrs.Basic (Extend32 k)) t h = absurd h
-const_bare gs (instrs.Basic (Extend64 k)) t h = absurd h
-const_bare gs (instrs.Basic (GlobalSet x)) t h = absurd h
-const_bare gs (instrs.Jump j) t h = absurd h
-const_bare gs (instrs.Block b) t h = absurd h
-const_bare gs (instrs.Loop b) t h = absurd h
-const_bare gs (instrs.If b) t h = absurd h
-const_bare gs instrs.Else t h = absurd h
-const_bare gs instrs.End t h = absurd h
+const_bare : (gs : List Global) (i : Instr) (t : ValType) → Constant i → ConstTypes gs i t → ConstTypes (map global_code gs) i t
+const_bare gs i t (holds_value v) h = h
+const_bare gs i t (reads_global x) h = (global_code h.0, slice_get-map global_code gs x ∙ ap (option_map global_code) h.1, h.2, h.3)
+const_bare gs i t (not_constant none never) h = absurd (never gs t h)
 
-bare_const : (gs : List Global) (i : Instr) (t : ValType) → ConstTypes (map global_code gs) i t → ConstTypes gs i t
-bare_const gs (instrs.Basic (Const v)) t h = h
-bare_const gs (instrs.Basic (GlobalGet x)) t h =
+bare_const : (gs : List Global) (i : Instr) (t : ValType) → Constant i → ConstTypes (map global_code gs) i t → ConstTypes gs i t
+bare_const gs i t (holds_value v) h = h
+bare_const gs i t (reads_global x) h =
     let f = map_found (slice_get gs x) global_code h.0 (sym (slice_get-map global_code gs x) ∙ h.1) in
     (f.0, f.1, ap (λ g. g.mutable) f.2 ∙ h.2, ap (λ g. g.vtype) f.2 ∙ h.3)
-bare_const gs (instrs.Basic Nop) t h = absurd h
-bare_const gs (instrs.Basic Drop) t h = absurd h
-bare_const gs (instrs.Basic Select) t h = absurd h
-bare_const gs (instrs.Basic (LocalGet x)) t h = absurd h
-bare_const gs (instrs.Basic (LocalSet x)) t h = absurd h
-bare_const gs (instrs.Basic (LocalTee x)) t h = absurd h
-bare_const gs (instrs.Basic (Load l al of)) t h = absurd h
-bare_const gs (instrs.Basic (Store l al of)) t h = absurd h
-bare_const gs (instrs.Basic MemorySize) t h = absurd h
-bare_const gs (instrs.Basic MemoryGrow) t h = absurd h
-bare_const gs (instrs.Basic MemoryCopy) t h = absurd h
-bare_const gs (instrs.Basic MemoryFill) t h = absurd h
-bare_const gs (instrs.Basic (Eqz u)) t h = absurd h
-bare_const gs (instrs.Basic (Unary u op)) t h = absurd h
-bare_const gs (instrs.Basic (Compare u op)) t h = absurd h
-bare_const gs (instrs.Basic (Binary u op)) t h = absurd h
-bare_const gs (instrs.Basic (Convert k)) t h = absurd h
-bare_const gs (instrs.Basic (Extend32 k)) t h = absurd h
-bare_const gs (instrs.Basic (Extend64 k)) t h = absurd h
-bare_const gs (instrs.Basic (GlobalSet x)) t h = absurd h
-bare_const gs (instrs.Jump j) t h = absurd h
-bare_const gs (instrs.Block b) t h = absurd h
-bare_const gs (instrs.Loop b) t h = absurd h
-bare_const gs (instrs.If b) t h = absurd h
-bare_const gs instrs.Else t h = absurd h
-bare_const gs instrs.End t h = absurd h
+bare_const gs i t (not_constant none never) h = absurd (never (map global_code gs) t h)
 
 body_bare : (gs : List Global) (b : Body) (t : ValType) → ConstBody gs b t → ConstBody (map global_code gs) (body_code b) t
-body_bare gs b t h = (h.0, codes_bare b.ops ∙ h.1, const_bare gs h.0 t h.2)
+body_bare gs b t h = (h.0, codes_bare b.ops ∙ h.1, const_bare gs h.0 t (constant_of h.0) h.2)
 
 bare_body_ : (gs : List Global) (b : Body) (t : ValType) → ConstBody (map global_code gs) (body_code b) t → ConstBody gs b t
-bare_body_ gs b t h = (h.0, sym (codes_bare b.ops) ∙ h.1, bare_const gs h.0 t h.2)
+bare_body_ gs b t h = (h.0, sym (codes_bare b.ops) ∙ h.1, bare_const gs h.0 t (constant_of h.0) h.2)
 
 -- ---- typing in the module without offsets
 
@@ -151,28 +101,18 @@ module _ (m : Module) where
 
   module _ (locals : List ValType) (returns : List ValType) where
     arrow_bare : (labels : List (List ValType)) (t : ValType) (i : Basic) → arrow (at m0 locals labels returns) t i ≡ arrow (at m locals labels returns) t i
-    arrow_bare labels t (GlobalGet x) = global_mapped x
-    arrow_bare labels t (GlobalSet x) = global_found x set_global (λ g. refl)
-    arrow_bare labels t Nop = refl
-    arrow_bare labels t Drop = refl
-    arrow_bare labels t Select = refl
-    arrow_bare labels t (LocalGet x) = refl
-    arrow_bare labels t (LocalSet x) = refl
-    arrow_bare labels t (LocalTee x) = refl
-    arrow_bare labels t (Load l al of) = refl
-    arrow_bare labels t (Store l al of) = refl
-    arrow_bare labels t MemorySize = refl
-    arrow_bare labels t MemoryGrow = refl
-    arrow_bare labels t MemoryCopy = refl
-    arrow_bare labels t MemoryFill = refl
-    arrow_bare labels t (Eqz u) = refl
-    arrow_bare labels t (Unary u op) = refl
-    arrow_bare labels t (Compare u op) = refl
-    arrow_bare labels t (Binary u op) = refl
-    arrow_bare labels t (Convert k) = refl
-    arrow_bare labels t (Extend32 k) = refl
-    arrow_bare labels t (Extend64 k) = refl
-    arrow_bare labels t (Const v) = refl
+    arrow_bare labels t i = arrow_is (at m0 locals labels returns) t i ∙ by_kind (type_source i) ∙ sym (arrow_is (at m locals labels returns) t i)
+      where
+        by_kind : (k : TypeSource) → source_arrow (at m0 locals labels returns) t k ≡ source_arrow (at m locals labels returns) t k
+        by_kind (FromGlobal x) = global_mapped x
+        by_kind (IntoGlobal x) = global_found x set_global (λ g. refl)
+        by_kind DropsAny = refl
+        by_kind SelectsAny = refl
+        by_kind (FromLocal x) = refl
+        by_kind (IntoLocal x) = refl
+        by_kind (TeesLocal x) = refl
+        by_kind (OverMemory fits ts given) = refl
+        by_kind (OfItself ts given) = refl
 
     pub basic_to : (labels : List (List ValType)) (i : Basic) (before after : List ValType) → BasicTypes (at m locals labels returns) i before after → BasicTypes (at m0 locals labels returns) i before after
     basic_to labels i before after h = record { any = h.any; arrow_is = h.arrow_is; has = arrow_bare labels h.any i ∙ h.has; above = h.above }

@@ -3,45 +3,28 @@ use Rattle.std.proofs.Common.{◌≡◌, ℕ, ◌==◌, ◌≤◌, List, ◌∷�
 use Rattle.std.proofs.lemmas.List.{length-map}
 use Rattle.wasm_syntax.specs.declared.value.ValType.{ValType}
 use Rattle.wasm_syntax.specs.declared.instruction.Basic.{Basic}
-use Rattle.wasm_syntax.specs.declared.instruction.Basic.TheVariants.{Nop, Drop, Select, LocalGet, LocalSet, LocalTee, GlobalGet, GlobalSet, Load, Store, MemorySize, MemoryGrow, Const, Eqz, Unary, Compare, Binary, Convert, MemoryCopy, MemoryFill, Extend32, Extend64}
 use Rattle.wasm_syntax.specs.declared.parts.FuncType.{FuncType}
 use Rattle.wasm_syntax.specs.Tree.{Unreachable, Br, BrIf, BrTable, Return, Call, CallIndirect, Nodes, stop, basic, jump, block, loop, choose}
 use Rattle.wasm_syntax.specs.Module.{type_at}
 use Rattle.wasm_syntax.specs.Effect.{takes}
 use Rattle.wasm_syntax.specs.Machine.{result_of}
-use Rattle.rewrite_bodies.specs.Slots.{Place, Spilled, place_type, Ctx, less, pushed, grown, uncopied, under, result_type, result_place, freed, after_plain, behind_call, peak}
+use Rattle.rewrite_bodies.specs.calls.Slots.{Place, Spilled, place_type, Ctx, less, pushed, grown, uncopied, under, result_type, result_place, freed, after_plain, behind_call, peak, freed_at, local_written}
 use Rattle.rewrite_bodies.specs.calls.Agreement.{FitsIn, Has, Room_call, Room}
 use Rattle.rewrite_bodies.proofs.Sim.{room_height}
 use Rattle.rewrite_bodies.proofs.TypedNodes.{result_is}
-use Rattle.rewrite_bodies.specs.Offsets.{SmallOffset}
+use Rattle.rewrite_bodies.specs.calls.Offsets.{SmallOffset}
+use Rattle.rewrite_bodies.proofs.Risks.{result_alike}
 
 fits_of : (C : Ctx) (a : Option ValType) (es : List Place) (code : Nodes) → Room C (grown a es) code → FitsIn C a es
 fits_of C None es code r = tt
 fits_of C (Some t) es code r = omega (arith, room_height C (Spilled t ∷ es) code r)
 
 freed_length : (i : Basic) (es : List Place) → length (freed i es) ≡ length es
-freed_length (LocalSet x) es = length-map es (uncopied (λ y. x == y))
-freed_length (LocalTee x) es = length-map es (uncopied (λ y. x == y))
-freed_length Nop es = refl
-freed_length Drop es = refl
-freed_length Select es = refl
-freed_length (LocalGet x) es = refl
-freed_length (GlobalGet x) es = refl
-freed_length (GlobalSet x) es = refl
-freed_length (Load t al of) es = refl
-freed_length (Store t al of) es = refl
-freed_length MemorySize es = refl
-freed_length MemoryGrow es = refl
-freed_length MemoryCopy es = refl
-freed_length MemoryFill es = refl
-freed_length (Extend32 k) es = refl
-freed_length (Extend64 k) es = refl
-freed_length (Const v) es = refl
-freed_length (Eqz t) es = refl
-freed_length (Unary t op) es = refl
-freed_length (Compare t op) es = refl
-freed_length (Binary t op) es = refl
-freed_length (Convert c) es = refl
+freed_length i es = by_local (local_written i)
+  where
+    by_local : (o : Option ℕ) → length (freed_at o es) ≡ length es
+    by_local None = refl
+    by_local (Some x) = length-map es (uncopied (λ y. x == y))
 
 fits_plain : (C : Ctx) (i : Basic) (q : Option Place) (es : List Place) (code : Nodes) → Room C (pushed q (freed i es)) code → FitsIn C (option_map place_type q) es
 fits_plain C i None es code r = tt
@@ -58,7 +41,7 @@ Static hs (loop o t inner en rest) = Static hs inner × Static hs rest
 Static hs (choose o t a ea b en rest) = Static hs a × Static hs b × Static hs rest
 
 abbrev pub with_slots : Ctx → ℕ → Ctx
-with_slots C n = record { source = C.source; base = C.base; helpers = C.helpers; locals = C.locals; slots = n; index = C.index; result = C.result }
+with_slots C n = record { source = C.source; base = C.base; helpers = C.helpers; locals = C.locals; slots = n; index = C.index; result = C.result; landings = C.landings }
 
 module _ (C : Ctx) (n : ℕ) where
   abbrev D : Ctx
@@ -69,28 +52,7 @@ module _ (C : Ctx) (n : ℕ) where
   room_call (Some type) es rest ih h = let r = ih (grown (result_of type) (less (length type.params) es)) h in (fits_of D (result_of type) (less (length type.params) es) rest r, r)
 
   same_type_ : (es : List Place) (i : Basic) → result_type D es i ≡ result_type C es i
-  same_type_ es Nop = refl
-  same_type_ es Drop = refl
-  same_type_ es Select = refl
-  same_type_ es (LocalGet x) = refl
-  same_type_ es (LocalSet x) = refl
-  same_type_ es (LocalTee x) = refl
-  same_type_ es (GlobalGet x) = refl
-  same_type_ es (GlobalSet x) = refl
-  same_type_ es (Load t al of) = refl
-  same_type_ es (Store t al of) = refl
-  same_type_ es MemorySize = refl
-  same_type_ es MemoryGrow = refl
-  same_type_ es MemoryCopy = refl
-  same_type_ es MemoryFill = refl
-  same_type_ es (Extend32 k) = refl
-  same_type_ es (Extend64 k) = refl
-  same_type_ es (Const v) = refl
-  same_type_ es (Eqz t) = refl
-  same_type_ es (Unary t op) = refl
-  same_type_ es (Compare t op) = refl
-  same_type_ es (Binary t op) = refl
-  same_type_ es (Convert c) = refl
+  same_type_ es i = result_alike D C es i refl refl
 
   pub room_of : (nodes : Nodes) (es : List Place) → Static C.helpers nodes → peak C es nodes ≤ n → Room D es nodes
   room_of stop es s h = h

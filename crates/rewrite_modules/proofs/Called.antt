@@ -4,9 +4,9 @@ use Rattle.std.proofs.lemmas.Option.{slice_get-map}
 use Rattle.wasm_syntax.specs.declared.module.ModuleParts.{ModuleParts as Module}
 use Rattle.wasm_syntax.specs.Module.{Program, function_export, option_then}
 use Rattle.wasm_syntax.specs.Run.{table_min}
-use Rattle.rewrite_bodies.specs.Guards.{first_table}
+use Rattle.rewrite_bodies.specs.calls.Guards.{first_table}
 use Rattle.rewrite_bodies.specs.Numbering.{import_count, mapped, shown, place_in, table_functions, doubles, new_entries, table_wraps, named_wrapped, wrapped, wrapper_base}
-use Rattle.rewrite_modules.specs.Instrument.{new_module}
+use Rattle.rewrite_modules.specs.calls.Instrument.{new_module}
 use Rattle.rewrite_modules.specs.Entries.{Target, Named, Entry, function_of, Reaches}
 use Rattle.rewrite_bodies.proofs.Doubled.{first_long}
 use Rattle.rewrite_modules.proofs.Links.{get_right, place_has}

@@ -1,9 +1,7 @@
 -- How long the encodings of code are, and which types code uses.
-use Rattle.std.proofs.Common.{◌≡◌, ℕ, zero, suc, ◌+◌, ◌≤◌, List, [], ◌∷◌, ◌++◌, length, flat_map, take, drop, Option, Some, None, refl, sym, ap, ap₂, ◌∙◌, arith, length-append, append_assoc, append-nil, slice_get}
-use Rattle.std.proofs.Math.Nat.{max-le}
+use Rattle.std.proofs.Common.{◌≡◌, ℕ, zero, suc, ◌+◌, ◌≤◌, List, [], ◌∷◌, ◌++◌, length, flat_map, take, drop, Option, Some, None, refl, sym, ap, ap₂, ◌∙◌, arith, length-append, append_assoc, append-nil}
 use Rattle.wasm_leb.specs.Writing.{unsigned_bytes}
 use Rattle.wasm_syntax.specs.declared.instruction.Basic.{Basic}
-use Rattle.wasm_syntax.specs.declared.instruction.Basic.TheVariants.{Nop, Drop, Select, LocalGet, LocalSet, LocalTee, GlobalGet, GlobalSet, Load, Store, MemorySize, MemoryGrow, MemoryCopy, MemoryFill, Const, Eqz, Unary, Compare, Binary, Convert, Extend32, Extend64}
 use Rattle.wasm_syntax.specs.declared.instruction.Jump.{Jump as FlatJump}
 use Rattle.wasm_syntax.specs.declared.instruction.Instr.{Instr}
 use Rattle.wasm_syntax.specs.declared.instruction.Op.{Op}
@@ -18,11 +16,9 @@ use Rattle.rewrite_bodies.specs.calls.Length.{basic_length, jump_length}
 use Rattle.rewrite_modules.specs.Weight.{type_used}
 use Rattle.wasm_format_laws.proofs.Totals.{total, flat_total}
 use Rattle.wasm_format.proofs.Shortest.{labels_length}
-use Rattle.int_ops.specs.declared.operators.Narrow32.TheVariants as narrow32
-use Rattle.int_ops.specs.declared.operators.Narrow64.TheVariants as narrow64
-use Rattle.wasm_syntax.specs.declared.value.Value.TheVariants as values
 use Rattle.wasm_syntax.specs.declared.instruction.Jump.TheVariants as flat
 use Rattle.wasm_syntax.specs.declared.instruction.Instr.TheVariants as instrs
+use Rattle.wasm_format.proofs.Shortest.{some_bytes}
 
 -- ---- lengths of items
 
@@ -137,29 +133,4 @@ all_used (b ∷ bs) (t ∷ ts) w = ap₂ (λ x y. x ++ y) (sym (body_used b t w.
 -- ---- no more operands than bytes
 
 pub basic_some : (i : Basic) → 1 ≤ basic_length i
-basic_some Nop = omega arith
-basic_some Drop = omega arith
-basic_some Select = omega arith
-basic_some (LocalGet x) = omega arith
-basic_some (LocalSet x) = omega arith
-basic_some (LocalTee x) = omega arith
-basic_some (GlobalGet x) = omega arith
-basic_some (GlobalSet x) = omega arith
-basic_some (Load l al of) = omega arith
-basic_some (Store l al of) = omega arith
-basic_some MemorySize = omega arith
-basic_some MemoryGrow = omega arith
-basic_some MemoryCopy = omega arith
-basic_some MemoryFill = omega arith
-basic_some (Const (values.I32 n)) = omega arith
-basic_some (Const (values.I64 n)) = omega arith
-basic_some (Eqz t) = omega arith
-basic_some (Unary t o) = omega arith
-basic_some (Compare t o) = omega arith
-basic_some (Binary t o) = omega arith
-basic_some (Convert c) = omega arith
-basic_some (Extend32 narrow32.Eight) = omega arith
-basic_some (Extend32 narrow32.Sixteen) = omega arith
-basic_some (Extend64 narrow64.Eight) = omega arith
-basic_some (Extend64 narrow64.Sixteen) = omega arith
-basic_some (Extend64 narrow64.ThirtyTwo) = omega arith
+basic_some i = some_bytes i

@@ -1,5 +1,7 @@
 -- How deep blocks are nested in rewritten code.
-use Rattle.std.proofs.Common.{◌≡◌, ℕ, zero, suc, ◌+◌, List, [], ◌∷◌, length, Option, Some, None, Bool, true, false, nat_lt, if◌then◌else◌, ◌==◌, refl, ap, slice_get, option_map, ◌/◌, ◌-◌, ◌≤◌, max, map, ◌∙◌, arith}
+use Rattle.rewrite_bodies.proofs.Laid.{few_landings}
+use Rattle.rewrite_bodies.specs.calls.Landings.{number_of, number_in, landing_of, landing_behind, with_landings}
+use Rattle.std.proofs.Common.{◌≡◌, ℕ, zero, suc, ◌+◌, List, [], ◌∷◌, length, Option, Some, None, Bool, true, false, nat_lt, if◌then◌else◌, ◌==◌, refl, ap, slice_get, option_map, ◌/◌, ◌-◌, ◌≤◌, max, map, ◌∙◌, arith, subst}
 use Rattle.wasm_syntax.specs.declared.value.ValType.{ValType}
 use Rattle.wasm_syntax.specs.declared.instruction.Basic.{Basic}
 use Rattle.wasm_syntax.specs.declared.parts.FuncType.{FuncType}
@@ -11,17 +13,17 @@ use Rattle.wasm_syntax.specs.Machine.{result_of}
 use Rattle.rewrite_modules.specs.calls.Bare.{bare_nodes}
 use Rattle.wasm_syntax.specs.Access.{load_bits, store_bits}
 use Rattle.int_ops.specs.declared.operators.Binary.{Binary as BinaryOp}
-use Rattle.int_ops.specs.declared.operators.Binary.TheVariants.{Add, Sub, Mul, DivS, DivU, RemS, RemU, And, Or, Xor, Shl, ShrS, ShrU, Rotl, Rotr}
+use Rattle.int_ops.specs.declared.operators.Binary.TheVariants.{Add, And, Or}
 use Rattle.int_ops.specs.declared.operators.Compare.TheVariants.{Eq}
 use Rattle.wasm_syntax.specs.declared.instruction.Convert.TheVariants.{ExtendU}
-use Rattle.wasm_syntax.specs.declared.instruction.Basic.TheVariants.{Nop, Drop, Select, LocalGet, LocalSet, LocalTee, GlobalGet, GlobalSet, Load, Store, MemorySize, MemoryGrow, MemoryCopy, MemoryFill, Const, Eqz, Unary, Compare, Binary, Convert, Extend32, Extend64}
+use Rattle.wasm_syntax.specs.declared.instruction.Basic.TheVariants.{Select, LocalGet, Eqz, Compare, Binary, Convert}
 use Rattle.wasm_syntax.specs.declared.value.ValType.TheVariants.{I32, I64}
 use Rattle.rewrite_bodies.specs.Numbering.{import_count, mapped, frame_import, global_types, doubles}
-use Rattle.rewrite_bodies.specs.Slots.{Place, place_type, Ctx, slot, kind_at, offset_at, less, grown, under, result_place, after_plain, Spilled, Known, Copied}
-use Rattle.rewrite_bodies.specs.Pieces.{get, set, const, i32, call, if_any, fetch, load, keep, store, reload, spill_one, spill, drops}
-use Rattle.rewrite_bodies.specs.Guards.{least, minus_one, guard_zero, guard_signed, past_end, out_test, guard_memory, range_test, guard, can_trap, kind, helper}
-use Rattle.rewrite_bodies.specs.Rewrite.{hand_value, hand, hand_top, to_exit, unwind, test_flag, test_both, unwind_kind, tested, guarded, free, plain, with_result, after_call, after_direct, call_code, helper_of, past_shown, indirect_code, control, rewrite, hand_locals, zero_result, raise_flag, exit_code, body}
-use Rattle.rewrite_modules.specs.Wrappers.{get_all, tell_globals, after_wrapped, wrapper}
+use Rattle.rewrite_bodies.specs.calls.Slots.{Place, place_type, Ctx, slot, kind_at, offset_at, less, grown, under, result_place, after_plain, Spilled, Known, Copied, Landing, local_written}
+use Rattle.rewrite_bodies.specs.calls.Pieces.{get, set, const, i32, call, if_any, fetch, load, keep, store, reload, spill_one, spill, drops}
+use Rattle.rewrite_bodies.specs.calls.Guards.{least, minus_one, guard_zero, guard_signed, past_end, out_test, guard_memory, range_test, guard, can_trap, kind, helper}
+use Rattle.rewrite_bodies.specs.calls.Rewrite.{hand_value, hand, hand_top, to_exit, unwind, test_flag, test_both, unwind_kind, tested, guarded, free, plain, with_result, after_call, after_direct, call_code, helper_of, past_shown, indirect_code, control, rewrite, hand_locals, zero_result, raise_flag, exit_code, body, checked, get_flag, hand_carried, landing_code, nested, laid, free_at}
+use Rattle.rewrite_modules.specs.calls.Wrappers.{get_all, tell_globals, after_wrapped, wrapper}
 use Rattle.wasm_syntax.specs.declared.instruction.Instr.{Instr}
 use Rattle.wasm_syntax.specs.declared.instruction.Instr.TheVariants as instrs
 use Rattle.wasm_syntax.specs.declared.instruction.Op.{Op}
@@ -29,8 +31,10 @@ use Rattle.wasm_syntax.specs.declared.parts.Body.{Body}
 use Rattle.wasm_syntax.specs.declared.parts.LocalGroup.{LocalGroup}
 use Rattle.wasm_syntax.specs.Tree.{Tree}
 use Rattle.wasm_syntax.specs.Sizes.{depth_behind, deepest, nesting, parameter_count}
-use Rattle.rewrite_modules.specs.FlatCode.{body_of}
+use Rattle.rewrite_modules.specs.calls.FlatCode.{body_of}
 use Rattle.rewrite_modules.proofs.FlatOut.{body_out}
+use Rattle.rewrite_bodies.proofs.Risks.{risk_of}
+use Rattle.wasm_syntax.specs.calls.Classes.{Divider, by_div_s, by_div_u, by_rem_s, by_rem_u, Risky, risky_binary, risky_load, risky_store, risky_copy, risky_fill}
 
 -- at most so many blocks are open at once inside the nodes
 abbrev pub Low : ℕ → Nodes → Type 0
@@ -211,13 +215,17 @@ module _ (C : Ctx) where
   low_hand lv (e ∷ es) k tk = low_hand lv es (fetch C e (length es) (hand_value C (place_type e) k)) (low_fetch lv e (length es) (hand_value C (place_type e) k) tk)
 
   low_unwind : (lv : ℕ) (ls : ℕ) (es : List Place) (o : ℕ) → Low lv (unwind C ls es o)
-  low_unwind lv ls es o = low_hand lv es (jump 0 (Br (suc ls)) stop) tt
-
-  low_flag : (d : ℕ) (ls : ℕ) (es : List Place) (o : ℕ) (k : Nodes) → Low (suc (suc d)) k → Low (suc (suc d)) (test_flag C ls es o k)
-  low_flag d ls es o k tk = (low_unwind (suc d) ls es o, tt, tk)
+  low_unwind lv ls es o = low_hand lv es (to_exit C ls) tt
 
   low_tested : (d : ℕ) (ls : ℕ) (es : List Place) (o : ℕ) (says_kind : Nodes → Nodes) (k : Nodes) → ((arm : Nodes) → Low (suc d) arm → Low (suc d) (says_kind arm)) → Low (suc (suc d)) k → Low (suc (suc d)) (tested C ls es o says_kind k)
   low_tested d ls es o says_kind k says tk = (says (unwind_kind C ls es o) (low_unwind (suc d) ls es o), tt, tk)
+
+  low_checked : (d : ℕ) (q : Option ℕ) (ls : ℕ) (es : List Place) (o : ℕ) (test says_kind : Nodes → Nodes) (k : Nodes) → ((k : Nodes) → Low (suc (suc d)) k → Low (suc (suc d)) (test k)) → ((arm : Nodes) → Low (suc d) arm → Low (suc d) (says_kind arm)) → Low (suc (suc d)) k → Low (suc (suc d)) (checked q C ls es o test says_kind k)
+  low_checked d None ls es o test says_kind k tests says tk = tests (tested C ls es o says_kind k) (low_tested d ls es o says_kind k says tk)
+  low_checked d (Some n) ls es o test says_kind k tests says tk = tests (jump 0 (BrIf (ls + n)) k) tk
+
+  low_flag : (d : ℕ) (ls : ℕ) (es : List Place) (o : ℕ) (k : Nodes) → Low (suc (suc d)) k → Low (suc (suc d)) (test_flag C ls es o k)
+  low_flag d ls es o k tk = low_checked d (number_of (landing_behind es) C.landings) ls es o (get_flag C) (const (i32 0)) k (λ k w. w) (λ arm w. w) tk
 
   -- ---- guards
 
@@ -238,149 +246,74 @@ module _ (C : Ctx) where
       let k2 = basic 0 (Convert ExtendU) (basic 0 (Binary I64 Add) (past_end k)) in
       low_fetch lv a h (basic 0 (Convert ExtendU) (fetch C n hn k2)) (low_fetch lv n hn k2 tk)
 
-  low_kind_division : (lv : ℕ) (op : BinaryOp) (t : ValType) (es : List Place) (k : Nodes) → Low lv k → Low lv (kind C (Binary t op) es k)
-  low_kind_division lv DivS t [] k tk = tk
-  low_kind_division lv DivS t (b ∷ []) k tk = tk
-  low_kind_division lv DivS t (b ∷ a ∷ es) k tk = low_zero lv t b (suc (length es)) (basic 0 Select k) tk
-  low_kind_division lv DivU t es k tk = tk
-  low_kind_division lv RemS t es k tk = tk
-  low_kind_division lv RemU t es k tk = tk
-  low_kind_division lv Add t es k tk = tk
-  low_kind_division lv Sub t es k tk = tk
-  low_kind_division lv Mul t es k tk = tk
-  low_kind_division lv And t es k tk = tk
-  low_kind_division lv Or t es k tk = tk
-  low_kind_division lv Xor t es k tk = tk
-  low_kind_division lv Shl t es k tk = tk
-  low_kind_division lv ShrS t es k tk = tk
-  low_kind_division lv ShrU t es k tk = tk
-  low_kind_division lv Rotl t es k tk = tk
-  low_kind_division lv Rotr t es k tk = tk
+  low_kind_division : (lv : ℕ) (op : BinaryOp) → Divider op → (t : ValType) (es : List Place) (k : Nodes) → Low lv k → Low lv (kind C (Binary t op) es k)
+  low_kind_division lv op by_div_s t [] k tk = tk
+  low_kind_division lv op by_div_s t (b ∷ []) k tk = tk
+  low_kind_division lv op by_div_s t (b ∷ a ∷ es) k tk = low_zero lv t b (suc (length es)) (basic 0 Select k) tk
+  low_kind_division lv op by_div_u t es k tk = tk
+  low_kind_division lv op by_rem_s t es k tk = tk
+  low_kind_division lv op by_rem_u t es k tk = tk
 
-  low_kind : (lv : ℕ) (i : Basic) (es : List Place) (k : Nodes) → Low lv k → Low lv (kind C i es k)
-  low_kind lv (Binary t op) es k tk = low_kind_division lv op t es k tk
-  low_kind lv Nop es k tk = tk
-  low_kind lv Drop es k tk = tk
-  low_kind lv Select es k tk = tk
-  low_kind lv (LocalGet x) es k tk = tk
-  low_kind lv (LocalSet x) es k tk = tk
-  low_kind lv (LocalTee x) es k tk = tk
-  low_kind lv (GlobalGet x) es k tk = tk
-  low_kind lv (GlobalSet x) es k tk = tk
-  low_kind lv (Load l al of) es k tk = tk
-  low_kind lv (Store l al of) es k tk = tk
-  low_kind lv MemorySize es k tk = tk
-  low_kind lv MemoryGrow es k tk = tk
-  low_kind lv MemoryCopy es k tk = tk
-  low_kind lv MemoryFill es k tk = tk
-  low_kind lv (Const v) es k tk = tk
-  low_kind lv (Eqz w) es k tk = tk
-  low_kind lv (Unary w op) es k tk = tk
-  low_kind lv (Compare w op) es k tk = tk
-  low_kind lv (Convert c) es k tk = tk
-  low_kind lv (Extend32 j) es k tk = tk
-  low_kind lv (Extend64 j) es k tk = tk
+  low_kind : (lv : ℕ) (i : Basic) → Risky i → (es : List Place) (k : Nodes) → Low lv k → Low lv (kind C i es k)
+  low_kind lv i (risky_binary t op by) es k tk = low_kind_division lv op by t es k tk
+  low_kind lv i (risky_load l al of) es k tk = tk
+  low_kind lv i (risky_store l al of) es k tk = tk
+  low_kind lv i risky_copy es k tk = tk
+  low_kind lv i risky_fill es k tk = tk
 
-  low_division : (lv : ℕ) (op : BinaryOp) (t : ValType) (es : List Place) (k : Nodes) → Low lv k → Low lv (guard C (Binary t op) es k)
-  low_division lv DivS t [] k tk = tk
-  low_division lv DivS t (b ∷ []) k tk = tk
-  low_division lv DivS t (b ∷ a ∷ es) k tk = low_signed lv t b a (length es) k tk
-  low_division lv DivU t [] k tk = tk
-  low_division lv DivU t (b ∷ []) k tk = tk
-  low_division lv DivU t (b ∷ a ∷ es) k tk = low_zero lv t b (suc (length es)) k tk
-  low_division lv RemS t [] k tk = tk
-  low_division lv RemS t (b ∷ []) k tk = tk
-  low_division lv RemS t (b ∷ a ∷ es) k tk = low_zero lv t b (suc (length es)) k tk
-  low_division lv RemU t [] k tk = tk
-  low_division lv RemU t (b ∷ []) k tk = tk
-  low_division lv RemU t (b ∷ a ∷ es) k tk = low_zero lv t b (suc (length es)) k tk
-  low_division lv Add t es k tk = tk
-  low_division lv Sub t es k tk = tk
-  low_division lv Mul t es k tk = tk
-  low_division lv And t es k tk = tk
-  low_division lv Or t es k tk = tk
-  low_division lv Xor t es k tk = tk
-  low_division lv Shl t es k tk = tk
-  low_division lv ShrS t es k tk = tk
-  low_division lv ShrU t es k tk = tk
-  low_division lv Rotl t es k tk = tk
-  low_division lv Rotr t es k tk = tk
+  low_division : (lv : ℕ) (op : BinaryOp) → Divider op → (t : ValType) (es : List Place) (k : Nodes) → Low lv k → Low lv (guard C (Binary t op) es k)
+  low_division lv op by_div_s t [] k tk = tk
+  low_division lv op by_div_s t (b ∷ []) k tk = tk
+  low_division lv op by_div_s t (b ∷ a ∷ es) k tk = low_signed lv t b a (length es) k tk
+  low_division lv op by_div_u t [] k tk = tk
+  low_division lv op by_div_u t (b ∷ []) k tk = tk
+  low_division lv op by_div_u t (b ∷ a ∷ es) k tk = low_zero lv t b (suc (length es)) k tk
+  low_division lv op by_rem_s t [] k tk = tk
+  low_division lv op by_rem_s t (b ∷ []) k tk = tk
+  low_division lv op by_rem_s t (b ∷ a ∷ es) k tk = low_zero lv t b (suc (length es)) k tk
+  low_division lv op by_rem_u t [] k tk = tk
+  low_division lv op by_rem_u t (b ∷ []) k tk = tk
+  low_division lv op by_rem_u t (b ∷ a ∷ es) k tk = low_zero lv t b (suc (length es)) k tk
 
-  low_guard : (lv : ℕ) (i : Basic) (es : List Place) (k : Nodes) → Low lv k → Low lv (guard C i es k)
-  low_guard lv (Binary t op) es k tk = low_division lv op t es k tk
-  low_guard lv (Load t align o) [] k tk = tk
-  low_guard lv (Load t align o) (a ∷ es) k tk = low_memory lv a (length es) (o + load_bits t / 8) k tk
-  low_guard lv (Store t align o) [] k tk = tk
-  low_guard lv (Store t align o) (v ∷ []) k tk = tk
-  low_guard lv (Store t align o) (v ∷ a ∷ es) k tk = low_memory lv a (length es) (o + store_bits t / 8) k tk
-  low_guard lv MemoryCopy [] k tk = tk
-  low_guard lv MemoryCopy (n ∷ []) k tk = tk
-  low_guard lv MemoryCopy (n ∷ from ∷ []) k tk = tk
-  low_guard lv MemoryCopy (n ∷ from ∷ to ∷ es) k tk =
+  low_guard : (lv : ℕ) (i : Basic) → Risky i → (es : List Place) (k : Nodes) → Low lv k → Low lv (guard C i es k)
+  low_guard lv i (risky_binary t op by) es k tk = low_division lv op by t es k tk
+  low_guard lv i (risky_load t align o) [] k tk = tk
+  low_guard lv i (risky_load t align o) (a ∷ es) k tk = low_memory lv a (length es) (o + load_bits t / 8) k tk
+  low_guard lv i (risky_store t align o) [] k tk = tk
+  low_guard lv i (risky_store t align o) (v ∷ []) k tk = tk
+  low_guard lv i (risky_store t align o) (v ∷ a ∷ es) k tk = low_memory lv a (length es) (o + store_bits t / 8) k tk
+  low_guard lv i risky_copy [] k tk = tk
+  low_guard lv i risky_copy (n ∷ []) k tk = tk
+  low_guard lv i risky_copy (n ∷ from ∷ []) k tk = tk
+  low_guard lv i risky_copy (n ∷ from ∷ to ∷ es) k tk =
       let h = length es in
       let k2 = basic 0 (Binary I32 Or) k in
       low_range lv from (suc h) n (suc (suc h)) (range_test C to h n (suc (suc h)) k2) (low_range lv to h n (suc (suc h)) k2 tk)
-  low_guard lv MemoryFill [] k tk = tk
-  low_guard lv MemoryFill (n ∷ []) k tk = tk
-  low_guard lv MemoryFill (n ∷ byte ∷ []) k tk = tk
-  low_guard lv MemoryFill (n ∷ byte ∷ to ∷ es) k tk = low_range lv to (length es) n (suc (suc (length es))) k tk
-  low_guard lv Nop es k tk = tk
-  low_guard lv Drop es k tk = tk
-  low_guard lv Select es k tk = tk
-  low_guard lv (LocalGet x) es k tk = tk
-  low_guard lv (LocalSet x) es k tk = tk
-  low_guard lv (LocalTee x) es k tk = tk
-  low_guard lv (GlobalGet x) es k tk = tk
-  low_guard lv (GlobalSet x) es k tk = tk
-  low_guard lv MemorySize es k tk = tk
-  low_guard lv MemoryGrow es k tk = tk
-  low_guard lv (Const v) es k tk = tk
-  low_guard lv (Eqz t) es k tk = tk
-  low_guard lv (Unary t op) es k tk = tk
-  low_guard lv (Compare t op) es k tk = tk
-  low_guard lv (Convert c) es k tk = tk
-  low_guard lv (Extend32 j) es k tk = tk
-  low_guard lv (Extend64 j) es k tk = tk
+  low_guard lv i risky_fill [] k tk = tk
+  low_guard lv i risky_fill (n ∷ []) k tk = tk
+  low_guard lv i risky_fill (n ∷ byte ∷ []) k tk = tk
+  low_guard lv i risky_fill (n ∷ byte ∷ to ∷ es) k tk = low_range lv to (length es) n (suc (suc (length es))) k tk
 
-  low_guarded : (d : ℕ) (q : Bool) (ls : ℕ) (es : List Place) (o : ℕ) (i : Basic) (k : Nodes) → Low (suc (suc d)) k → Low (suc (suc d)) (guarded q C ls es o i k)
-  low_guarded d false ls es o i k tk = tk
-  low_guarded d true ls es o i k tk = low_guard (suc (suc d)) i es (tested C ls es o (kind C i es) k) (low_tested d ls es o (kind C i es) k (λ arm w. low_kind (suc d) i es arm w) tk)
+  low_guarded : (d : ℕ) (q : Bool) (ls : ℕ) (es : List Place) (o : ℕ) (i : Basic) (k : Nodes) → can_trap i ≡ q → Low (suc (suc d)) k → Low (suc (suc d)) (guarded q C ls es o i k)
+  low_guarded d false ls es o i k t tk = tk
+  low_guarded d true ls es o i k t tk =
+      low_checked d (number_in C.landings (landing_of i es)) ls es o (guard C i es) (kind C i es) k (λ k w. low_guard (suc (suc d)) i (risk_of i t) es k w) (λ arm w. low_kind (suc d) i (risk_of i t) es arm w) tk
 
   -- ---- instructions
 
   abbrev AllLow : ℕ → (List Place → Nodes) → Type 0
   AllLow d go = (es : List Place) → Low (suc (suc d)) (go es)
 
-  low_free : (lv : ℕ) (i : Basic) (es : List Place) (k : Nodes) → Low lv k → Low lv (free C i es k)
-  low_free lv (LocalSet x) es k tk = low_spill lv (λ y. x == y) es k tk
-  low_free lv (LocalTee x) es k tk = low_spill lv (λ y. x == y) es k tk
-  low_free lv Nop es k tk = tk
-  low_free lv Drop es k tk = tk
-  low_free lv Select es k tk = tk
-  low_free lv (LocalGet x) es k tk = tk
-  low_free lv (GlobalGet x) es k tk = tk
-  low_free lv (GlobalSet x) es k tk = tk
-  low_free lv (Load t al of) es k tk = tk
-  low_free lv (Store t al of) es k tk = tk
-  low_free lv MemorySize es k tk = tk
-  low_free lv MemoryGrow es k tk = tk
-  low_free lv MemoryCopy es k tk = tk
-  low_free lv MemoryFill es k tk = tk
-  low_free lv (Const v) es k tk = tk
-  low_free lv (Eqz t) es k tk = tk
-  low_free lv (Unary t op) es k tk = tk
-  low_free lv (Compare t op) es k tk = tk
-  low_free lv (Binary t op) es k tk = tk
-  low_free lv (Convert c) es k tk = tk
-  low_free lv (Extend32 j) es k tk = tk
-  low_free lv (Extend64 j) es k tk = tk
+  low_free : (lv : ℕ) (o : Option ℕ) (es : List Place) (k : Nodes) → Low lv k → Low lv (free_at C o es k)
+  low_free lv None es k tk = tk
+  low_free lv (Some x) es k tk = low_spill lv (λ y. x == y) es k tk
 
   low_plain : (d : ℕ) (ls : ℕ) (es : List Place) (o : ℕ) (i : Basic) (go : List Place → Nodes) → AllLow d go → Low (suc (suc d)) (plain C ls es o i go)
   low_plain d ls es o i go h =
       let left = less (takes i) es in
       let k1 = go (after_plain C es i) in
       let k2 = basic 0 i (keep C (result_place C es i) left k1) in
-      low_guarded d (can_trap i) ls es o i (free C i left k2) (low_free (suc (suc d)) i left k2 (low_keep (suc (suc d)) (result_place C es i) left k1 (h (after_plain C es i))))
+      low_guarded d (can_trap i) ls es o i (free C i left k2) refl (low_free (suc (suc d)) (local_written i) left k2 (low_keep (suc (suc d)) (result_place C es i) left k1 (h (after_plain C es i))))
 
   -- ---- control
 
@@ -390,7 +323,7 @@ module _ (C : Ctx) where
   low_hand_top lv (suc m) (e ∷ es) k tk = low_hand_top lv m es (fetch C e (length es) (hand_value C (place_type e) k)) (low_fetch lv e (length es) (hand_value C (place_type e) k) tk)
 
   low_both : (d : ℕ) (ls : ℕ) (es : List Place) (o : ℕ) (others k : Nodes) → Low d others → Low (suc (suc d)) k → Low (suc (suc d)) (test_both C ls es o others k)
-  low_both d ls es o others k to tk = (low_hand (suc d) es (get C (kind_at C) (if_any others (to_exit ls))) (to, tt, tt), tt, tk)
+  low_both d ls es o others k to tk = (low_hand (suc d) es (get C (kind_at C) (if_any others (to_exit C ls))) (to, tt, tt), tt, tk)
 
   low_result : (d : ℕ) (r : Option ValType) (es : List Place) (go : List Place → Nodes) → AllLow d go → Low (suc (suc d)) (with_result C r es go)
   low_result d r es go h = low_keep (suc (suc d)) (option_map Spilled r) es (go (grown r es)) (h (grown r es))
@@ -472,8 +405,42 @@ module _ (C : Ctx) where
       let k9 = zero_result C.result (jump 0 Return stop) in
       low_locals lv 0 C.locals (get C (kind_at C) (const (i32 C.index) (get C (offset_at C) (const (i32 (length C.locals)) (call (frame_import C.source) (raise_flag C k9)))))) (low_zero_result lv C.result (jump 0 Return stop) tt)
 
-  pub low_body : (d : ℕ) (nodes : Nodes) → Low d nodes → Low (suc (suc (suc (suc d)))) (body C nodes)
-  low_body d nodes h = ((low_rewrite d nodes 1 [] h, tt), low_exit (suc (suc (suc (suc d)))))
+  low_landing : (lv n : ℕ) (x : Landing) → Low lv (landing_code C n x)
+  low_landing lv n x = low_hand lv x.places (hand_carried C x.carried (jump 0 (Br n) stop)) (carried x.carried)
+    where
+      carried : (r : Option ValType) → Low lv (hand_carried C r (jump 0 (Br n) stop))
+      carried None = tt
+      carried (Some t) = tt
+
+  -- each landing has a block
+  low_nested : (xs : List Landing) (lv t : ℕ) (inner : Nodes) → t ≡ length xs + lv → Low lv inner → Low t (nested C xs inner)
+  low_nested [] lv t inner e h = let z : lv ≡ t = omega (arith, e) in subst (λ n. Low n inner) z h
+  low_nested (x ∷ xs) lv t inner e h = low_nested xs (suc lv) t (block 0 x.carried inner 0 (landing_code C (length xs) x)) (omega (arith, e)) (h, low_landing (suc lv) (length xs) x)
+
+  low_laid : (d : ℕ) (nodes : Nodes) → Low d nodes → Low (suc (length C.landings + suc (suc (suc d)))) (laid C nodes)
+  low_laid d nodes h =
+      (low_nested C.landings (suc (suc (suc d))) (length C.landings + suc (suc (suc d))) (block 0 C.result (rewrite C 1 [] nodes) 0 (jump 0 Return stop)) refl (low_rewrite d nodes 1 [] h, tt), low_exit (suc (length C.landings + suc (suc (suc d)))))
+
+-- within more blocks
+low_more : (nodes : Nodes) (a b : ℕ) → a ≤ b → Low a nodes → Low b nodes
+low_more stop a b le h = tt
+low_more (basic at i rest) a b le h = low_more rest a b le h
+low_more (jump at j rest) a b le h = low_more rest a b le h
+low_more (block at t inner end rest) zero b le h = absurd h
+low_more (block at t inner end rest) (suc a) zero le h = absurd (omega (arith, le))
+low_more (block at t inner end rest) (suc a) (suc b) le h = (low_more inner a b (omega (arith, le)) h.0, low_more rest (suc a) (suc b) le h.1)
+low_more (loop at t inner end rest) zero b le h = absurd h
+low_more (loop at t inner end rest) (suc a) zero le h = absurd (omega (arith, le))
+low_more (loop at t inner end rest) (suc a) (suc b) le h = (low_more inner a b (omega (arith, le)) h.0, low_more rest (suc a) (suc b) le h.1)
+low_more (choose at t x ea y end rest) zero b le h = absurd h
+low_more (choose at t x ea y end rest) (suc a) zero le h = absurd (omega (arith, le))
+low_more (choose at t x ea y end rest) (suc a) (suc b) le h = (low_more x a b (omega (arith, le)) h.0, low_more y a b (omega (arith, le)) h.1, low_more rest (suc a) (suc b) le h.2)
+
+pub low_body : (C : Ctx) (d : ℕ) (nodes : Nodes) → Low d nodes → Low (24 + d) (body C nodes)
+low_body C d nodes h =
+    let D = with_landings C nodes in
+    let few = few_landings C [] nodes [] (omega arith) in
+    low_more (body C nodes) (suc (length D.landings + suc (suc (suc d)))) (24 + d) (omega (arith, few)) (low_laid D d nodes h)
 
 -- ---- wrappers and helpers
 

@@ -14,7 +14,7 @@ use Rattle.rewrite_modules.proofs.CodeLengths.{item_length, item_short, basic_so
 use Rattle.wasm_syntax.specs.declared.parts.LocalGroup.{LocalGroup}
 use Rattle.wasm_syntax.specs.declared.parts.Body.{Body}
 use Rattle.wasm_format_laws.proofs.Measures.{sized_length}
-use Rattle.rewrite_bodies.specs.Slots.{groups}
+use Rattle.rewrite_bodies.specs.calls.Slots.{groups}
 use Rattle.wasm_format_laws.proofs.Totals.{total, vector_total, section_least}
 use Rattle.std.specs.Prelude.{codes}
 use Rattle.wasm_syntax.specs.declared.parts.Import.{Import}

@@ -15,9 +15,9 @@ use Rattle.wasm_syntax.specs.declared.host.HostCall.{HostCall}
 use Rattle.wasm_syntax.specs.declared.host.Reply.{Reply}
 use Rattle.wasm_syntax.specs.declared.host.CollectorCall.{CollectorCall}
 use Rattle.wasm_syntax.specs.Machine.{Frame, Config, config, Engine, Stepped, next, ends, traps, no_reply, bad_reply, stuck, result_of, entered, host_call}
-use Rattle.rewrite_bodies.specs.Guards.{first_table}
+use Rattle.rewrite_bodies.specs.calls.Guards.{first_table}
 use Rattle.rewrite_bodies.specs.Numbering.{is_in, element_functions, mapped, global_types, wrapped, wrapper_base}
-use Rattle.rewrite_bodies.specs.Pieces.{call, tree_of}
+use Rattle.rewrite_bodies.specs.calls.Pieces.{call, tree_of}
 use Rattle.std.proofs.lemmas.List.{length-map}
 use Rattle.rewrite_bodies.specs.calls.Agreement.{Wit, MemoryFits, WorldFits, FitsTop, FitsConfig, Wrap, flagged}
 use Rattle.rewrite_bodies.specs.calls.Telling.{collected}
@@ -25,10 +25,10 @@ use Rattle.rewrite_bodies.proofs.Sim.{len_of}
 use Rattle.rewrite_bodies.specs.calls.Standing.{Stands}
 use Rattle.rewrite_bodies.proofs.Calls.{AnswerRel, served_rel}
 use Rattle.wasm_syntax.specs.Run.{Ended, ended, run_steps, run_function, run_alone, host_alone, engine, globals_at_start, start_memory, start_table, start_world, cause_of_segments, got_stuck, Ran, ran_to, run_entry, go_on, invoked}
-use Rattle.rewrite_modules.specs.Wrappers.{wrapper_nodes, wrapper}
-use Rattle.rewrite_modules.specs.FlatCode.{body_of}
-use Rattle.rewrite_modules.specs.Instrument.{new_module, instrument}
-use Rattle.rewrite_bodies.specs.Slots.{greatest}
+use Rattle.rewrite_modules.specs.calls.Wrappers.{wrapper_nodes, wrapper}
+use Rattle.rewrite_modules.specs.calls.FlatCode.{body_of}
+use Rattle.rewrite_modules.specs.calls.Instrument.{new_module, instrument}
+use Rattle.rewrite_bodies.specs.calls.Slots.{greatest}
 use Rattle.wasm_syntax.specs.Run as runs_
 use Rattle.wasm_syntax.specs.Sizes.{parameter_count}
 use Rattle.rewrite_modules.proofs.Links.{Ready, half, stands, wrapper_there, type_is_of, function_type_kept, sizes_fit, import_linked, is_defined, import_of}

@@ -7,9 +7,9 @@ use Rattle.wasm_syntax.specs.Tree.{Unreachable, Br, BrIf, BrTable, Return, Call,
 use Rattle.rewrite_modules.specs.calls.Bare.{bare_nodes, bare_tree}
 use Rattle.std.proofs.Math.Seq.{take-append_seam, drop-append_seam}
 use Rattle.wasm_syntax.specs.declared.parts.LocalGroup.{LocalGroup}
-use Rattle.rewrite_bodies.specs.Slots.{groups}
-use Rattle.rewrite_bodies.specs.Pieces.{tree_of}
-use Rattle.rewrite_modules.specs.FlatCode.{targets_in, else_op, ops_in, body_of, op}
+use Rattle.rewrite_bodies.specs.calls.Slots.{groups}
+use Rattle.rewrite_bodies.specs.calls.Pieces.{tree_of}
+use Rattle.rewrite_modules.specs.calls.FlatCode.{targets_in, else_op, ops_in, body_of, op}
 
 pub taken : (T pre ts more : List ℕ) (n : ℕ) → T ≡ pre ++ (ts ++ more) → n ≡ length pre → take (length ts) (drop n T) ≡ ts
 taken T pre ts more n e d = ap₂ (λ m xs. take (length ts) (drop m xs)) d e ∙ ap (take (length ts)) (drop-append_seam pre (ts ++ more)) ∙ take-append_seam ts more

@@ -6,7 +6,6 @@ use Rattle.wasm_syntax.specs.declared.blocks.BlockKind.TheVariants as block_kind
 use Rattle.wasm_syntax.specs.declared.value.ValType.{ValType}
 use Rattle.wasm_syntax.specs.declared.value.ValType.TheVariants.{I32}
 use Rattle.wasm_syntax.specs.declared.instruction.Basic.{Basic}
-use Rattle.wasm_syntax.specs.declared.instruction.Basic.TheVariants.{Nop, Drop, Select, LocalGet, LocalSet, LocalTee, GlobalGet, GlobalSet, Load, Store, MemorySize, MemoryGrow, MemoryCopy, MemoryFill, Const, Eqz, Unary, Compare, Binary, Convert, Extend32, Extend64}
 use Rattle.wasm_syntax.specs.declared.parts.FuncType.{FuncType}
 use Rattle.wasm_syntax.specs.Tree.{Unreachable, Br, BrIf, BrTable, Return, Call, CallIndirect, Nodes, stop, basic, jump, block, loop, choose, IsTree, Plain, Goes, Opens, OpensLoop, OpensIf, Else, End, Placed, placed, else_out, write}
 use Rattle.wasm_syntax.specs.Module.{Program, IsProgram, Function, imported, defined, function_at, type_at}
@@ -17,7 +16,7 @@ use Rattle.wasm_syntax.specs.Machine.{result_of}
 use Rattle.wasm_syntax.specs.Typing.{Context, arrow, BasicTypes, Types, body_context}
 use Rattle.wasm_syntax.specs.FlatTyping.{OpenBlock, opened, label_types, inside, FlatTypes, dead_behind, AllLive, all_types, TypesBefore}
 use Rattle.wasm_syntax.specs.Static.{Spot, spot, Live}
-use Rattle.rewrite_bodies.specs.Slots.{Place, place_type, Ctx, less, pushed, grown, under, result_place, freed, after_plain, behind_call, peak, ctx_of, slots_of, sizes, most, greatest}
+use Rattle.rewrite_bodies.specs.calls.Slots.{Place, place_type, Ctx, less, pushed, grown, under, result_place, freed, after_plain, behind_call, peak, ctx_of, slots_of, sizes, most, greatest}
 use Rattle.rewrite_bodies.specs.Numbering.{import_count}
 use Rattle.rewrite_bodies.specs.calls.Typed.{original}
 use Rattle.rewrite_bodies.proofs.Sim.{grown-append}
@@ -30,31 +29,23 @@ use Rattle.wasm_laws.proofs.FlatStatic.{write_append, dead_pass}
 use Rattle.rewrite_modules.specs.Weight.{height_at, AreHeights}
 use Rattle.rewrite_modules.proofs.Links.{is_defined, type_is_of}
 use Rattle.wasm_syntax.proofs.Bodies.{tree_there}
+use Rattle.wasm_syntax.specs.calls.Classes.{TypeSource, DropsAny, SelectsAny, FromLocal, IntoLocal, TeesLocal, FromGlobal, IntoGlobal, OverMemory, OfItself, type_source, source_arrow}
+use Rattle.wasm_syntax.proofs.Classes.{arrow_is}
 
 -- what basic instructions take does not hang on labels
 pub arrow_labels : (C : Ctx) (ret : List ValType) (labels : List (List ValType)) (t : ValType) (i : Basic) → arrow (at_labels C.source C.locals ret labels) t i ≡ arrow (original C []) t i
-arrow_labels C ret labels t Nop = refl
-arrow_labels C ret labels t Drop = refl
-arrow_labels C ret labels t Select = refl
-arrow_labels C ret labels t (LocalGet x) = refl
-arrow_labels C ret labels t (LocalSet x) = refl
-arrow_labels C ret labels t (LocalTee x) = refl
-arrow_labels C ret labels t (GlobalGet x) = refl
-arrow_labels C ret labels t (GlobalSet x) = refl
-arrow_labels C ret labels t (Load l al o) = refl
-arrow_labels C ret labels t (Store l al o) = refl
-arrow_labels C ret labels t MemorySize = refl
-arrow_labels C ret labels t MemoryGrow = refl
-arrow_labels C ret labels t MemoryCopy = refl
-arrow_labels C ret labels t MemoryFill = refl
-arrow_labels C ret labels t (Const v) = refl
-arrow_labels C ret labels t (Eqz u) = refl
-arrow_labels C ret labels t (Unary u op) = refl
-arrow_labels C ret labels t (Compare u op) = refl
-arrow_labels C ret labels t (Binary u op) = refl
-arrow_labels C ret labels t (Convert k) = refl
-arrow_labels C ret labels t (Extend32 k) = refl
-arrow_labels C ret labels t (Extend64 k) = refl
+arrow_labels C ret labels t i = arrow_is (at_labels C.source C.locals ret labels) t i ∙ by_kind (type_source i) ∙ sym (arrow_is (original C []) t i)
+  where
+    by_kind : (k : TypeSource) → source_arrow (at_labels C.source C.locals ret labels) t k ≡ source_arrow (original C []) t k
+    by_kind DropsAny = refl
+    by_kind SelectsAny = refl
+    by_kind (FromLocal x) = refl
+    by_kind (IntoLocal x) = refl
+    by_kind (TeesLocal x) = refl
+    by_kind (FromGlobal x) = refl
+    by_kind (IntoGlobal x) = refl
+    by_kind (OverMemory fits ts given) = refl
+    by_kind (OfItself ts given) = refl
 
 -- ---- the greatest height behind an instruction
 

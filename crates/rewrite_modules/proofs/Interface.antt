@@ -8,7 +8,7 @@ use Rattle.wasm_syntax.specs.declared.module.ModuleParts.{ModuleParts as Module}
 use Rattle.wasm_syntax.specs.Module.{Program, is_function}
 use Rattle.rewrite_bodies.specs.Numbering.{wraps, import_count}
 use Rattle.rewrite_modules.specs.Collector.{memory_export}
-use Rattle.rewrite_modules.specs.Instrument.{new_exports, new_index, new_module}
+use Rattle.rewrite_modules.specs.calls.Instrument.{new_exports, new_index, new_module}
 use Rattle.rewrite_modules.specs.Interface.{named, KeepsInterface, KeepsTable}
 use Rattle.rewrite_modules.proofs.Links.{get_right}
 use Rattle.rewrite_modules.proofs.Start.{table_start}

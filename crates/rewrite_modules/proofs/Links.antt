@@ -15,27 +15,27 @@ use Rattle.wasm_syntax.specs.Host.{World, told, answer, collector_call, if_none}
 use Rattle.wasm_syntax.specs.declared.host.CollectorCall.TheVariants as collector_calls
 use Rattle.wasm_syntax.specs.Machine.{result_of, function_type, host_call}
 use Rattle.rewrite_bodies.specs.Numbering.{import_count, mapped, value_import, frame_import, place_in, global_types, helper_base, helped, value_type, frame_type, wrapped, wrapper_base}
-use Rattle.rewrite_bodies.specs.Slots.{added, ctx_of, groups, slots_of, sizes, most, greatest}
+use Rattle.rewrite_bodies.specs.calls.Slots.{added, ctx_of, groups, slots_of, sizes, most, greatest}
 use Rattle.std.proofs.lemmas.List.{length-map}
 use Rattle.rewrite_bodies.specs.calls.Agreement.{Has}
 use Rattle.std.proofs.lemmas.Bool.{eqb-true}
 use Rattle.std.proofs.lemmas.Bool.Decides.{leb_tells}
 use Rattle.dump_write.specs.Collected.{value_call}
-use Rattle.rewrite_bodies.specs.Pieces.{tree_of}
-use Rattle.rewrite_bodies.specs.Guards.{helper_type, helper}
+use Rattle.rewrite_bodies.specs.calls.Pieces.{tree_of}
+use Rattle.rewrite_bodies.specs.calls.Guards.{helper_type, helper}
 use Rattle.rewrite_bodies.specs.calls.Standing.{Linked, Speaks, ImportLinked, HelperLinked, Stands}
 use Rattle.std.specs.Prelude.{bytes_eq, codes}
 use Rattle.std.proofs.lemmas.Option.{slice_get-map, slice_get_within}
 use Rattle.std.proofs.lemmas.Grind.{flat_map-append}
 use Rattle.wasm_syntax.specs.Run.{engine}
 use Rattle.rewrite_modules.specs.Collector.{collector_import}
-use Rattle.rewrite_modules.specs.Instrument.{each, new_body, new_tree, new_module, instrument, wrapper_type}
-use Rattle.rewrite_modules.specs.FlatCode.{body_of}
-use Rattle.rewrite_modules.specs.Wrappers.{wrapper}
+use Rattle.rewrite_modules.specs.calls.Instrument.{each, new_body, new_tree, new_module, instrument, wrapper_type}
+use Rattle.rewrite_modules.specs.calls.FlatCode.{body_of}
+use Rattle.rewrite_modules.specs.calls.Wrappers.{wrapper}
 use Rattle.rewrite_modules.proofs.Bounds.{Static, room_of}
-use Rattle.wasm_laws.proofs.Validity.{then_found, map_found}
 use Rattle.wasm_laws.proofs.Lists.{get_within}
 use Rattle.pm_text.proofs.Lists.{get_front}
+use Rattle.wasm_syntax.proofs.Types.{then_found, map_found}
 
 -- ---- lists
 

@@ -10,7 +10,7 @@ use Rattle.wasm_syntax.specs.declared.place.Place.TheVariants.{ElementAt}
 use Rattle.wasm_syntax.specs.Module.{function_types}
 use Rattle.wasm_syntax.specs.Valid.{Valid, AtIndex, ElementFine}
 use Rattle.wasm_laws.proofs.Lists.{all_of, all_append, at_of}
-use Rattle.rewrite_bodies.specs.Guards.{first_table}
+use Rattle.rewrite_bodies.specs.calls.Guards.{first_table}
 use Rattle.rewrite_bodies.specs.Numbering.{import_count, is_in, distinct, place_in, element_functions, defines, table_functions}
 
 -- ---- the functions of a table

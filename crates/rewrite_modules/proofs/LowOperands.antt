@@ -18,20 +18,20 @@ use Rattle.wasm_laws.proofs.Lists.{at_of, all_append}
 use Rattle.wasm_laws.proofs.Safe.{Typed, one_result}
 use Rattle.wasm_laws.proofs.Unique.{one_tree}
 use Rattle.rewrite_bodies.specs.Numbering.{import_count, mapped, value_import, frame_import, global_types, wrapped, helped}
-use Rattle.rewrite_bodies.specs.Slots.{Ctx, ctx_of, slots_of, greatest}
-use Rattle.rewrite_bodies.specs.Pieces.{const, i32, call, tree_of}
-use Rattle.rewrite_bodies.specs.Guards.{helper}
-use Rattle.rewrite_bodies.specs.Rewrite.{body}
+use Rattle.rewrite_bodies.specs.calls.Slots.{Ctx, ctx_of, slots_of, greatest}
+use Rattle.rewrite_bodies.specs.calls.Pieces.{const, i32, call, tree_of}
+use Rattle.rewrite_bodies.specs.calls.Guards.{helper}
+use Rattle.rewrite_bodies.specs.calls.Rewrite.{body}
 use Rattle.rewrite_bodies.specs.calls.Typed.{in_body, original}
 use Rattle.rewrite_bodies.specs.calls.Agreement.{Room}
 use Rattle.rewrite_bodies.proofs.TypedPieces.{at_labels}
 use Rattle.rewrite_modules.specs.calls.Bare.{bare_tree, bare}
 use Rattle.wasm_syntax.specs.SameCode.{code_alone}
 use Rattle.rewrite_modules.specs.calls.Given.{Given}
-use Rattle.rewrite_modules.specs.Instrument.{instrument, new_module, new_tree, each}
+use Rattle.rewrite_modules.specs.calls.Instrument.{instrument, new_module, new_tree, each}
 use Rattle.rewrite_modules.specs.Instrumentable.{program_of, Instrumentable}
 use Rattle.rewrite_modules.specs.calls.LowSizes.{LowHeights}
-use Rattle.rewrite_modules.specs.Wrappers.{get_all, tell_globals, lower_flag, end_of_dump, after_wrapped, wrapper_nodes, wrapper}
+use Rattle.rewrite_modules.specs.calls.Wrappers.{get_all, tell_globals, lower_flag, end_of_dump, after_wrapped, wrapper_nodes, wrapper}
 use Rattle.rewrite_modules.proofs.Bounds.{room_of}
 use Rattle.rewrite_modules.proofs.Heights.{heights_low}
 use Rattle.rewrite_modules.proofs.FineBodies.{fine_at, gives_one}

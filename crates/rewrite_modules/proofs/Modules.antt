@@ -14,9 +14,9 @@ use Rattle.rewrite_modules.proofs.Heights.{heights_low}
 use Rattle.rewrite_modules.specs.calls.Given.{Given, SmallCode}
 use Rattle.rewrite_bodies.specs.Numbering.{entry_weight, import_count}
 use Rattle.rewrite_bodies.proofs.Doubled.{table_light}
-use Rattle.rewrite_bodies.specs.Slots.{sizes, most}
+use Rattle.rewrite_bodies.specs.calls.Slots.{sizes, most}
 use Rattle.rewrite_modules.proofs.Links.{is_defined, type_is_of}
-use Rattle.rewrite_bodies.specs.Offsets.{SmallOffset}
+use Rattle.rewrite_bodies.specs.calls.Offsets.{SmallOffset}
 use Rattle.rewrite_modules.specs.Instrumentable.{program_of, SmallInstr, Instrumentable}
 use Rattle.wasm_syntax.specs.Sizes.{local_count}
 use Rattle.wasm_syntax.specs.declared.instruction.Instr.{Instr}

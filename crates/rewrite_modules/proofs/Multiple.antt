@@ -23,10 +23,10 @@ use Rattle.wasm_laws.proofs.FlatOne.{one_before}
 use Rattle.wasm_laws.proofs.FlatSteps.{steps_split}
 use Rattle.wasm_laws.proofs.Safe.{Typed, one_result}
 use Rattle.rewrite_bodies.specs.Numbering.{import_count}
-use Rattle.rewrite_bodies.specs.Slots.{Ctx, ctx_of, slots_of, sizes, most, greatest}
+use Rattle.rewrite_bodies.specs.calls.Slots.{Ctx, ctx_of, slots_of, sizes, most, greatest}
 use Rattle.wasm_syntax.specs.SameCode.{code_alone}
 use Rattle.rewrite_modules.specs.calls.Given.{Given}
-use Rattle.rewrite_modules.specs.Instrument.{instrument, new_module}
+use Rattle.rewrite_modules.specs.calls.Instrument.{instrument, new_module}
 use Rattle.rewrite_modules.specs.Simulates.{Simulates}
 use Rattle.rewrite_modules.specs.Starts.{StartsAlike}
 use Rattle.rewrite_modules.specs.Weight.{height_at, AreHeights}

@@ -11,14 +11,15 @@ use Rattle.wasm_syntax.specs.Sizes.{local_count, nesting}
 use Rattle.wasm_syntax.specs.declared.parts.Limits.{Limits}
 use Rattle.rewrite_bodies.specs.Numbering.{import_count, can_double, doubles}
 use Rattle.rewrite_bodies.proofs.Doubled.{AllTrue, and_left, limits_double}
-use Rattle.rewrite_bodies.specs.Slots.{added, groups, ctx_of, slots_of}
-use Rattle.rewrite_bodies.specs.Guards.{helper, helper_type}
+use Rattle.rewrite_bodies.specs.calls.Slots.{added, groups, ctx_of, slots_of}
+use Rattle.rewrite_bodies.specs.calls.Guards.{helper, helper_type}
 use Rattle.wasm_laws.proofs.Lists.{at_of, there_at}
 use Rattle.wasm_laws.proofs.Safe.{Typed}
 use Rattle.rewrite_modules.specs.calls.Given.{Given}
-use Rattle.rewrite_modules.specs.Instrument.{doubled, new_module, new_body, new_nodes}
-use Rattle.rewrite_modules.specs.FlatCode.{body_of}
-use Rattle.rewrite_modules.specs.Wrappers.{wrapper}
+use Rattle.rewrite_modules.specs.calls.Instrument.{new_module, new_body, new_nodes}
+use Rattle.rewrite_modules.specs.Interface.{doubled}
+use Rattle.rewrite_modules.specs.calls.FlatCode.{body_of}
+use Rattle.rewrite_modules.specs.calls.Wrappers.{wrapper}
 use Rattle.rewrite_modules.specs.Instrumentable.{program_of, Instrumentable}
 use Rattle.rewrite_modules.specs.calls.LowSizes.{LowSizes}
 use Rattle.rewrite_modules.proofs.Links.{declared-append, declared-groups, is_defined, sizes_fit}
@@ -85,7 +86,7 @@ module _ (m : Module) (x : Instrumentable m) where
       let w = tree_there m.bodies x.whole.trees d.number b tree x.whole.write d.body_is d.tree_is in
       let deep = at_of (λ body. nesting body ≤ 1000) m.bodies d.number b x.lightness.shallow d.body_is in (
         few_by i (body_of (gs ++ groups slots) (new_nodes p f b tree type)) type ty (omega (arith, n, old, z.0, z.1, given.few_locals, given.few_heights)),
-        (let low = low_nesting (gs ++ groups slots) (new_nodes p f b tree type) 1004 (low_body (ctx_of p f b type slots) 1000 tree.nodes (body_low b tree 1000 w.out deep)) in omega (arith, low)),
+        (let low = low_nesting (gs ++ groups slots) (new_nodes p f b tree type) 1024 (low_body (ctx_of p f b type slots) 1000 tree.nodes (body_low b tree 1000 w.out deep)) in omega (arith, low)),
       )
 
   wrapper_small : (i f : ℕ) (type : FuncType) → type_at m' (import_count m + 3 + i) ≡ Some type → type_at m f ≡ Some type → Small i (body_of [] (wrapper m f))

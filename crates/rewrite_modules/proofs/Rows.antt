@@ -9,7 +9,7 @@ use Rattle.wasm_syntax.specs.declared.host.CollectorCall.{CollectorCall}
 use Rattle.wasm_syntax.specs.declared.host.CollectorCall.TheVariants.{ValueI32, Frame}
 use Rattle.wasm_syntax.specs.Run.{Outcome, finished, trapped, Ran, Invocation, run}
 use Rattle.wasm_laws.proofs.RowModules.{program_of, divides, loads_word, nested, branches, calls_table, recurs, asks, fills, fills_none, copies, counts}
-use Rattle.rewrite_modules.specs.Instrument.{instrument}
+use Rattle.rewrite_modules.specs.calls.Instrument.{instrument}
 
 abbrev call : List ℕ → List Value → Invocation
 call name args = record { name = name; args = args }

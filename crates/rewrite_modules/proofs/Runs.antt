@@ -1,29 +1,24 @@
 -- Runs of one function.
-use Rattle.std.proofs.Common.{◌≡◌, ℕ, zero, suc, ◌+◌, ◌*◌, ◌/◌, ◌%◌, ◌≤◌, List, [], ◌∷◌, ◌++◌, length, reverse, Option, Some, None, Bool, true, false, nat_lt, refl, sym, ap, subst, arith, ◌⊎◌, inl, inr, slice_get, ltb-true, Result, Ok, Err}
+use Rattle.std.proofs.Common.{◌≡◌, ℕ, zero, suc, ◌+◌, ◌*◌, ◌≤◌, List, [], ◌∷◌, ◌++◌, length, reverse, Option, Some, None, Bool, true, false, nat_lt, refl, sym, ap, subst, arith, ◌⊎◌, inl, inr, slice_get, ltb-true}
 use Rattle.wasm_syntax.specs.declared.value.ValType.{ValType}
 use Rattle.wasm_syntax.specs.declared.value.ValType.TheVariants.{I32, I64}
 use Rattle.wasm_syntax.specs.declared.value.Value.{Value}
 use Rattle.wasm_syntax.specs.declared.value.Value.TheVariants as values
 use Rattle.wasm_syntax.specs.declared.instruction.Basic.{Basic}
-use Rattle.wasm_syntax.specs.declared.instruction.Basic.TheVariants.{Nop, Drop, Select, LocalGet, LocalSet, LocalTee, GlobalGet, GlobalSet, Load, Store, MemorySize, MemoryGrow, Const, Eqz, Unary, Compare, Binary, Convert, MemoryCopy, MemoryFill, Extend32, Extend64}
 use Rattle.wasm_syntax.specs.declared.parts.FuncType.{FuncType}
-use Rattle.wasm_syntax.specs.Numbers.{type_of, types, same_type, value, number, modulo, binary, convert_from}
+use Rattle.wasm_syntax.specs.Numbers.{types, value}
 use Rattle.wasm_syntax.specs.Tree.{Jump, Unreachable, Br, BrIf, BrTable, Return, Call, CallIndirect, Nodes, stop, basic, jump, block, loop, choose}
 use Rattle.wasm_syntax.specs.Module.{Function, imported, defined, function_at, same_types}
 use Rattle.wasm_syntax.specs.Host.{World, Answer, replied, told, silent, misfit, answer, served_by, after_writes, if_fits, if_written, fits_type}
 use Rattle.wasm_syntax.specs.declared.host.HostCall.{HostCall}
 use Rattle.wasm_syntax.specs.declared.host.Reply.{Reply}
 use Rattle.wasm_syntax.specs.declared.host.CollectorCall.{CollectorCall}
-use Rattle.wasm_syntax.specs.Effect.{Effect, gives, fails, unfit, effect, takes, with_memory, address}
+use Rattle.wasm_syntax.specs.Effect.{Effect, gives, fails, unfit, effect, takes}
 use Rattle.wasm_syntax.specs.Machine.{Label, Frame, Config, frame, config, Engine, Stepped, next, ends, traps, no_reply, bad_reply, stuck, Cut, short, parts, cut, top, exactly, Went, inside, outside, nowhere, arrive, out_some, leave, branch, carry, same_carry, pick, function_type, entered, host_call, goes_to, deliver, moved, host, enters, applied, applied_if, calls_on, calls, calls_if, fits_entry, calls_entry, calls_typed, calls_indirect, branch_if, moved_if, branch_table, jumps, affects, does, chooses, runs, in_frame, steps, step}
-use Rattle.rewrite_bodies.specs.Pieces.{call}
-use Rattle.linear_memory.specs.Memory.{Memory, pages, grow, to_bytes}
-use Rattle.wasm_syntax.specs.Access.{load_type, load_bits, store_type, store_bits}
-use Rattle.linear_memory.specs.Memory as memories
-use Rattle.wasm_syntax.specs.Access as accesses
-use Rattle.wasm_syntax.specs.Effect as effects
-use Rattle.int_ops.specs.declared.operators.ArithTrap.{ArithTrap}
-use Rattle.int_ops.specs.declared.operators.ArithTrap.TheVariants.{DivideByZero, Overflow}
+use Rattle.rewrite_bodies.specs.calls.Pieces.{call}
+use Rattle.linear_memory.specs.Memory.{Memory}
+use Rattle.wasm_syntax.specs.calls.Classes.{EffectClass, Pure, Dividing, Accessing, SetsLocal, SetsGlobal, effect_class, Does}
+use Rattle.wasm_syntax.proofs.Classes.{acts_as_class}
 use Rattle.rewrite_bodies.specs.calls.Steps.{Gets, To}
 use Rattle.rewrite_bodies.proofs.Run.{still, seq, weaken}
 use Rattle.rewrite_bodies.specs.calls.Agreement.{Wit, WorldFits, FitsConfig, Wrap, w_frame, zero_vs, last_of, flagged, image}
@@ -195,90 +190,18 @@ Kinds (gives g l vs) = Unit {0}
 Kinds (fails k) = (1 ≤ k) × (k ≤ 8)
 Kinds unfit = Unit {0}
 
-kinds_none : (e : Effect) (vs : List Value) → Kinds e → Kinds (effects.on_none e vs)
-kinds_none e [] h = h
-kinds_none e (_ ∷ _) h = tt
-
-kinds_any : (go : Value → Effect) (vs : List Value) → ((v : Value) → Kinds (go v)) → Kinds (effects.on_any go vs)
-kinds_any go [] h = tt
-kinds_any go (v ∷ []) h = h v
-kinds_any go (v ∷ _ ∷ _) h = tt
-
-kinds_some : {A : Type 0} (o : Option A) (go : A → Effect) → ((x : A) → Kinds (go x)) → Kinds (effects.with_some o go)
-kinds_some None go h = tt
-kinds_some (Some x) go h = h x
-
-kinds_when : (q : Bool) (e : Effect) → Kinds e → Kinds (effects.when q e)
-kinds_when false e h = tt
-kinds_when true e h = h
-
-kinds_over : (o : Option Value) (v : Value) (e : Effect) → Kinds e → Kinds (effects.over o v e)
-kinds_over None v e h = tt
-kinds_over (Some w) v e h = kinds_when (same_type (type_of w) (type_of v)) e h
-
-kinds_one : (t : ValType) (go : ℕ → Effect) (vs : List Value) → ((n : ℕ) → Kinds (go n)) → Kinds (effects.on_one t go vs)
-kinds_one t go [] h = tt
-kinds_one t go (v ∷ []) h = kinds_some (number t v) go h
-kinds_one t go (v ∷ _ ∷ _) h = tt
-
-kinds_two : (t u : ValType) (go : ℕ → ℕ → Effect) (vs : List Value) → ((n k : ℕ) → Kinds (go n k)) → Kinds (effects.on_two t u go vs)
-kinds_two t u go [] h = tt
-kinds_two t u go (v ∷ []) h = tt
-kinds_two t u go (v ∷ w ∷ []) h = kinds_some (number t v) (λ n. effects.with_some (number u w) (go n)) (λ n. kinds_some (number u w) (go n) (h n))
-kinds_two t u go (v ∷ w ∷ _ ∷ _) h = tt
-
-kinds_three : (go : ℕ → ℕ → ℕ → Effect) (vs : List Value) → ((n k j : ℕ) → Kinds (go n k j)) → Kinds (effects.on_three go vs)
-kinds_three go [] h = tt
-kinds_three go (v ∷ []) h = tt
-kinds_three go (v ∷ w ∷ []) h = tt
-kinds_three go (v ∷ w ∷ u ∷ []) h =
-    kinds_some (number I32 v) (λ n. effects.with_some (number I32 w) (λ k. effects.with_some (number I32 u) (go n k)))
-    (λ n. kinds_some (number I32 w) (λ k. effects.with_some (number I32 u) (go n k)) (λ k. kinds_some (number I32 u) (go n k) (h n k)))
-kinds_three go (v ∷ w ∷ u ∷ _ ∷ _) h = tt
-
-kinds_choice : (go : ℕ → Value → Value → Effect) (vs : List Value) → ((n : ℕ) (a b : Value) → Kinds (go n a b)) → Kinds (effects.on_choice go vs)
-kinds_choice go [] h = tt
-kinds_choice go (c ∷ []) h = tt
-kinds_choice go (c ∷ b ∷ []) h = tt
-kinds_choice go (c ∷ b ∷ a ∷ []) h = kinds_some (number I32 c) (λ n. effects.when (same_type (type_of a) (type_of b)) (go n b a)) (λ n. kinds_when (same_type (type_of a) (type_of b)) (go n b a) (h n b a))
-kinds_choice go (c ∷ b ∷ a ∷ _ ∷ _) h = tt
-
-kinds_bounds : {A : Type 0} (o : Option A) (go : A → Effect) → ((x : A) → Kinds (go x)) → Kinds (effects.in_bounds o go)
-kinds_bounds None go h = (omega arith, omega arith)
-kinds_bounds (Some x) go h = h x
-
-kinds_divides : (q : Result ℕ ArithTrap) (go : ℕ → Effect) → ((n : ℕ) → Kinds (go n)) → Kinds (effects.divides q go)
-kinds_divides (Ok n) go h = h n
-kinds_divides (Err DivideByZero) go h = (omega arith, omega arith)
-kinds_divides (Err Overflow) go h = (omega arith, omega arith)
-
-kinds_grown : (o : Option Memory) (w : World) (n : ℕ) (ls : List Value) → Kinds (effects.grown o w n ls)
-kinds_grown None w n ls = tt
-kinds_grown (Some m) w n ls = tt
+by_class : (k : EffectClass) (w : World) (ls : List Value) (e : Effect) → Does k w ls e → Kinds e
+by_class k w ls (gives w' ls' vs) d = tt
+by_class k w ls unfit d = tt
+by_class Pure w ls (fails kind) d = absurd d
+by_class Dividing w ls (fails kind) (inl e) = (omega (arith, e), omega (arith, e))
+by_class Dividing w ls (fails kind) (inr e) = (omega (arith, e), omega (arith, e))
+by_class Accessing w ls (fails kind) e = (omega (arith, e), omega (arith, e))
+by_class (SetsLocal x) w ls (fails kind) d = absurd d
+by_class (SetsGlobal x) w ls (fails kind) d = absurd d
 
 kinds : (i : Basic) (w : World) (ls vs : List Value) → Kinds (effect i w ls vs)
-kinds Nop w ls vs = kinds_none _ vs tt
-kinds Drop w ls vs = kinds_any _ vs (λ v. tt)
-kinds Select w ls vs = kinds_choice _ vs (λ n a b. tt)
-kinds (LocalGet x) w ls vs = kinds_none _ vs (kinds_some (slice_get ls x) _ (λ v. tt))
-kinds (LocalSet x) w ls vs = kinds_any _ vs (λ v. kinds_over (slice_get ls x) v _ tt)
-kinds (LocalTee x) w ls vs = kinds_any _ vs (λ v. kinds_over (slice_get ls x) v _ tt)
-kinds (GlobalGet x) w ls vs = kinds_none _ vs (kinds_some (slice_get w.globals x) _ (λ v. tt))
-kinds (GlobalSet x) w ls vs = kinds_any _ vs (λ v. kinds_over (slice_get w.globals x) v _ tt)
-kinds (Load t al o) w ls vs = kinds_one I32 _ vs (λ a. kinds_some w.memory _ (λ m. kinds_bounds (memories.load m (address a o) (load_bits t / 8)) (λ n. gives w ls (value (load_type t) (accesses.loaded t n) ∷ [])) (λ n. tt)))
-kinds (Store t al o) w ls vs = kinds_two (store_type t) I32 _ vs (λ n a. kinds_some w.memory _ (λ m. kinds_bounds (memories.put m (address a o) (to_bytes (store_bits t / 8) n)) (λ m'. gives (with_memory w m') ls []) (λ k. tt)))
-kinds MemorySize w ls vs = kinds_none _ vs (kinds_some w.memory _ (λ m. tt))
-kinds MemoryGrow w ls vs = kinds_one I32 _ vs (λ n. kinds_some w.memory _ (λ m. kinds_grown (grow m n) w (pages m) ls))
-kinds MemoryCopy w ls vs = kinds_three _ vs (λ n from to. kinds_some w.memory _ (λ m. kinds_bounds (memories.copy m (modulo I32 to) (modulo I32 from) (modulo I32 n)) (λ m'. gives (with_memory w m') ls []) (λ k. tt)))
-kinds MemoryFill w ls vs = kinds_three _ vs (λ n byte to. kinds_some w.memory _ (λ m. kinds_bounds (memories.fill m (modulo I32 to) (byte % 256) (modulo I32 n)) (λ m'. gives (with_memory w m') ls []) (λ k. tt)))
-kinds (Extend32 j) w ls vs = kinds_one I32 _ vs (λ a. tt)
-kinds (Extend64 j) w ls vs = kinds_one I64 _ vs (λ a. tt)
-kinds (Const v) w ls vs = kinds_none _ vs tt
-kinds (Eqz t) w ls vs = kinds_one t _ vs (λ a. tt)
-kinds (Unary t op) w ls vs = kinds_one t _ vs (λ a. tt)
-kinds (Compare t op) w ls vs = kinds_two t t _ vs (λ n k. tt)
-kinds (Binary t op) w ls vs = kinds_two t t _ vs (λ n k. kinds_divides (binary t op k n) (λ x. gives w ls (value t x ∷ [])) (λ x. tt))
-kinds (Convert c) w ls vs = kinds_one (convert_from c) _ vs (λ a. tt)
+kinds i w ls vs = by_class (effect_class i) w ls (effect i w ls vs) (acts_as_class w ls i vs)
 
 module _ (M : Engine) where
   abbrev pub Same : Config → Stepped → Type 0

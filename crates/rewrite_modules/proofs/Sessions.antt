@@ -10,20 +10,20 @@ use Rattle.wasm_syntax.specs.Module.{Program, function_at, type_at, same_types}
 use Rattle.wasm_syntax.specs.Host.{World}
 use Rattle.wasm_syntax.specs.declared.host.Reply.{Reply}
 use Rattle.wasm_syntax.specs.Machine.{Config, config, Engine, Stepped, next, ends, traps, no_reply, bad_reply, stuck}
-use Rattle.rewrite_bodies.specs.Pieces.{call}
+use Rattle.rewrite_bodies.specs.calls.Pieces.{call}
 use Rattle.rewrite_bodies.specs.Numbering.{global_types, new_entries}
 use Rattle.rewrite_bodies.specs.calls.Steps.{st}
 use Rattle.rewrite_bodies.specs.calls.Agreement.{WorldFits, flagged}
 use Rattle.std.proofs.lemmas.Bool.{eqb-true}
 use Rattle.wasm_syntax.specs.Run.{Ended, ended, run_function, engine, start_world, cause_of_segments, cause_of_entry, Outcome, not_started, finished, lacks_reply, misfits, running, got_stuck, Ran, ran_to, not_begun, run_entry, go_on, invoked, if_fits as entry_fits, Cause, goes_on, fresh, start_table}
-use Rattle.rewrite_modules.specs.Instrument.{new_module, instrument}
+use Rattle.rewrite_modules.specs.calls.Instrument.{new_module, instrument}
 use Rattle.rewrite_modules.proofs.SlotMultiple.{slot_multiple}
-use Rattle.rewrite_bodies.specs.Slots.{greatest}
+use Rattle.rewrite_bodies.specs.calls.Slots.{greatest}
 use Rattle.wasm_syntax.specs.Run as runs_
 use Rattle.rewrite_modules.proofs.Links.{half}
 use Rattle.rewrite_modules.specs.Simulates.{EndsAlike, Alike, NoneDeep}
 use Rattle.rewrite_modules.proofs.Followed.{Followed, AllFollowed, not_begun_down}
-use Rattle.rewrite_bodies.specs.Guards.{first_table}
+use Rattle.rewrite_bodies.specs.calls.Guards.{first_table}
 use Rattle.rewrite_bodies.proofs.Doubled.{first_is_start, segments_fit}
 use Rattle.rewrite_modules.specs.Entries.{Target, Named, Entry, Calling, function_of, cause_of_calls, call_session, unless_cause, run_calls, Reaches, AllReach}
 use Rattle.rewrite_modules.proofs.BareCalls.{rest_of, calls_some}

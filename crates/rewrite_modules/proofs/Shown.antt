@@ -6,7 +6,7 @@ use Rattle.wasm_syntax.specs.declared.host.CollectorCall.{CollectorCall}
 use Rattle.wasm_syntax.specs.declared.host.CollectorCall.TheVariants as collector_calls
 use Rattle.wasm_syntax.specs.Tree.{Nodes}
 use Rattle.wasm_syntax.specs.Machine.{Label, Frame, Config, frame, Engine, calls, offset_of}
-use Rattle.rewrite_bodies.specs.Slots.{Place, Ctx, grown, greatest}
+use Rattle.rewrite_bodies.specs.calls.Slots.{Place, Ctx, grown, greatest}
 use Rattle.rewrite_bodies.specs.calls.Agreement.{awaits, pending, joined, UnderWay, Wit, FitsLabels, FitsFrame, FitsFrames, FitsTop, FitsConfig}
 use Rattle.dump_write.specs.Collected.{value_call, Entry, entry_calls, calls_of, HaveKind, Whole, collected_dump}
 use Rattle.rewrite_bodies.specs.calls.Telling.{tell_ops, tell_labels, tell_locals, tell_frame, tell_outer, tell_frames, collected}

@@ -1,16 +1,18 @@
 -- Rewritten bodies, wrappers and helpers hold few operands.
+use Rattle.rewrite_bodies.proofs.Laid.{room_landed}
+use Rattle.rewrite_bodies.specs.calls.Landings.{number_of, number_in, landing_of, landing_behind, landings_from, landed}
 use Rattle.std.proofs.Common.{◌≡◌, ℕ, zero, suc, ◌+◌, ◌*◌, ◌-◌, ◌/◌, ◌≤◌, nat_lt, if◌then◌else◌, ◌==◌, Bool, true, false, List, [], ◌∷◌, ◌++◌, length, length-append, map, reverse, Option, Some, None, refl, sym, ap, ◌∙◌, subst, arith, slice_get, option_map, option_to_list}
 use Rattle.std.proofs.lemmas.List.{length-reverse, length-map}
 use Rattle.int_ops.specs.declared.operators.Binary.{Binary as BinaryOp}
-use Rattle.int_ops.specs.declared.operators.Binary.TheVariants.{Add, Sub, Mul, DivS, DivU, RemS, RemU, And, Or, Xor, Shl, ShrS, ShrU, Rotl, Rotr}
-use Rattle.int_ops.specs.declared.operators.Compare.TheVariants.{Eq, GtU}
+use Rattle.int_ops.specs.declared.operators.Binary.TheVariants.{Add, And, Or, Shl, Sub}
+use Rattle.int_ops.specs.declared.operators.Compare.TheVariants.{Eq, GtU, GtS}
 use Rattle.wasm_syntax.specs.declared.instruction.Convert.TheVariants.{ExtendU}
 use Rattle.wasm_syntax.specs.declared.value.ValType.{ValType}
 use Rattle.wasm_syntax.specs.declared.value.ValType.TheVariants.{I32, I64}
 use Rattle.wasm_syntax.specs.declared.value.Value.{Value}
 use Rattle.wasm_syntax.specs.declared.value.Value.TheVariants as values
 use Rattle.wasm_syntax.specs.declared.instruction.Basic.{Basic}
-use Rattle.wasm_syntax.specs.declared.instruction.Basic.TheVariants.{Nop, Drop, Select, LocalGet, LocalSet, LocalTee, GlobalGet, GlobalSet, Load, Store, MemorySize, MemoryGrow, MemoryCopy, MemoryFill, Const, Eqz, Unary, Compare, Binary, Convert, Extend32, Extend64}
+use Rattle.wasm_syntax.specs.declared.instruction.Basic.TheVariants.{Drop, Select, LocalGet, LocalSet, LocalTee, GlobalGet, MemorySize, Const, Eqz, Compare, Binary, Convert}
 use Rattle.wasm_syntax.specs.declared.parts.FuncType.{FuncType}
 use Rattle.wasm_syntax.specs.declared.module.ModuleParts.{ModuleParts as Module}
 use Rattle.wasm_syntax.specs.Access.{load_bits, store_bits}
@@ -21,16 +23,18 @@ use Rattle.wasm_syntax.specs.Machine.{result_of}
 use Rattle.wasm_syntax.specs.Typing.{BasicTypes, JumpTypes, Types}
 use Rattle.wasm_syntax.specs.Run.{table_min}
 use Rattle.rewrite_bodies.specs.Numbering.{import_count, mapped, value_import, frame_import, flag_of, value_type, frame_type, doubles}
-use Rattle.rewrite_bodies.specs.Slots.{Place, Spilled, Known, Copied, place_type, Ctx, slot, kind_at, offset_at, less, pushed, grown, uncopied, under, result_type, result_place, freed, after_plain}
-use Rattle.rewrite_bodies.specs.Pieces.{get, set, const, i32, call, if_any, fetch, load, keep, store, reload, spill_one, spill, drops}
-use Rattle.rewrite_bodies.specs.Guards.{guard, can_trap, least, minus_one, past_end, out_test, range_test, guard_zero, guard_signed, guard_memory, kind, helper, helper_type}
-use Rattle.rewrite_bodies.specs.Rewrite.{hand_value, hand, hand_top, to_exit, unwind, test_flag, hand_left, test_both, unwind_kind, tested, guarded, free, plain, with_result, after_direct, call_code, helper_of, past_shown, indirect_code, rewrite, hand_locals, raise_flag, zero_result, exit_code, body}
+use Rattle.rewrite_bodies.specs.calls.Slots.{Place, Spilled, Known, Copied, place_type, Ctx, slot, kind_at, offset_at, less, pushed, grown, uncopied, under, result_type, result_place, freed, after_plain, Landing, local_written}
+use Rattle.rewrite_bodies.specs.calls.Pieces.{get, set, const, i32, call, if_any, fetch, load, keep, store, reload, spill_one, spill, drops}
+use Rattle.rewrite_bodies.specs.calls.Guards.{guard, can_trap, least, minus_one, past_end, out_test, range_test, guard_zero, guard_signed, guard_memory, kind, helper, helper_type, memory_length}
+use Rattle.rewrite_bodies.specs.calls.Rewrite.{hand_value, hand, hand_top, to_exit, unwind, test_flag, hand_left, test_both, unwind_kind, tested, guarded, free, plain, with_result, after_direct, call_code, helper_of, past_shown, indirect_code, rewrite, hand_locals, raise_flag, zero_result, exit_code, body, checked, get_flag, hand_carried, landing_code, nested, laid, free_at}
 use Rattle.rewrite_bodies.specs.calls.Typed.{Info, in_block, in_loop, in_body, Offers, original}
 use Rattle.rewrite_bodies.specs.calls.Agreement.{Room_call, Room}
-use Rattle.rewrite_bodies.proofs.Sim.{room_height, grown-append}
+use Rattle.rewrite_bodies.proofs.Sim.{grown-append}
 use Rattle.rewrite_bodies.proofs.Copies.{Fixed, fixed_under, without_append}
-use Rattle.rewrite_bodies.proofs.TypedNodes.{cuts, result_is, grown_types, takes_of, own_behind, behind_types, after_types, without_types}
+use Rattle.rewrite_bodies.proofs.TypedNodes.{cuts, result_is, grown_types, takes_of, own_behind, behind_types, after_types, without_types, offers_landed}
 use Rattle.rewrite_modules.proofs.Stacks.{gives_count, gives_len, Under_call, Under, fewer}
+use Rattle.rewrite_bodies.proofs.Risks.{risk_of}
+use Rattle.wasm_syntax.specs.calls.Classes.{Divider, by_div_s, by_div_u, by_rem_s, by_rem_u, Risky, risky_binary, risky_load, risky_store, risky_copy, risky_fill}
 
 -- the operands of the original are on the stack, and those of a call through the table once more
 module _ (C : Ctx) (m : Module) (locals : List ValType) (off : Offers C m locals) (N : ℕ) (room : 2 * C.slots + 16 ≤ N) where
@@ -120,7 +124,7 @@ module _ (C : Ctx) (m : Module) (locals : List ValType) (off : Offers C m locals
       u_hand_top b n es (fetch C e (length es) (hand_value C (place_type e) k)) le
       (u_fetch b e (length es) (hand_value C (place_type e) k) (omega (arith, le)) (u_value b (place_type e) k le u))
 
-  u_exit : (b d : ℕ) → b ≤ N → U b (to_exit d)
+  u_exit : (b d : ℕ) → b ≤ N → U b (to_exit C d)
   u_exit b d le = (le, tt)
 
   u_if : (b : ℕ) (a k : Nodes) → suc b ≤ N → U b a → U b k → U (suc b) (if_any a k)
@@ -128,8 +132,8 @@ module _ (C : Ctx) (m : Module) (locals : List ValType) (off : Offers C m locals
 
   u_unwind : (b d : ℕ) (es : List Place) (o : ℕ) → suc b ≤ N → U b (unwind C d es o)
   u_unwind b d es o le =
-      u_const b (i32 o) (set C (offset_at C) (hand C es (to_exit d))) (omega (arith, le))
-      (u_set b (offset_at C) (hand C es (to_exit d)) le (u_hand b es (to_exit d) le (u_exit b d (omega (arith, le)))))
+      u_const b (i32 o) (set C (offset_at C) (hand C es (to_exit C d))) (omega (arith, le))
+      (u_set b (offset_at C) (hand C es (to_exit C d)) le (u_hand b es (to_exit C d) le (u_exit b d (omega (arith, le)))))
 
   u_unwind_kind : (b d : ℕ) (es : List Place) (o : ℕ) → suc b ≤ N → U (suc b) (unwind_kind C d es o)
   u_unwind_kind b d es o le = u_set b (kind_at C) (unwind C d es o) le (u_unwind b d es o le)
@@ -137,16 +141,23 @@ module _ (C : Ctx) (m : Module) (locals : List ValType) (off : Offers C m locals
   u_tested : (b d : ℕ) (es : List Place) (o : ℕ) (says_kind : Nodes → Nodes) (k : Nodes) → suc b ≤ N → ((arm : Nodes) → U (suc b) arm → U b (says_kind arm)) → U b k → U (suc b) (tested C d es o says_kind k)
   u_tested b d es o says_kind k le says u = u_if b (says_kind (unwind_kind C d es o)) k le (says (unwind_kind C d es o) (u_unwind_kind b d es o le)) u
 
+  u_checked : (b d : ℕ) (es : List Place) (o : ℕ) (q : Option ℕ) (test says_kind : Nodes → Nodes) (k : Nodes) → suc b ≤ N → ((k : Nodes) → U (suc b) k → U b (test k)) → ((arm : Nodes) → U (suc b) arm → U b (says_kind arm)) → U b k → U b (checked q C d es o test says_kind k)
+  u_checked b d es o None test says_kind k le tests says u = tests (tested C d es o says_kind k) (u_tested b d es o says_kind k le says u)
+  u_checked b d es o (Some n) test says_kind k le tests says u =
+      let go = jump 0 (BrIf (d + n)) k in
+      let ug : U (suc b) go = (omega (arith, le), fewer m N k b (suc b - 1) (omega arith) u) in
+      u_const b (i32 o) (set C (offset_at C) (test go)) (omega (arith, le)) (u_set b (offset_at C) (test go) le (tests go ug))
+
+  u_get_flag : (b : ℕ) (k : Nodes) → suc b ≤ N → U (suc b) k → U b (get_flag C k)
+  u_get_flag b k le u = u_basic b (GlobalGet (flag_of C.source)) (suc b) k (omega (arith, le)) (omega arith) u
+
   u_flag : (b d : ℕ) (es : List Place) (o : ℕ) (k : Nodes) → suc b ≤ N → U b k → U b (test_flag C d es o k)
-  u_flag b d es o k le u =
-      let arm = const (i32 0) (set C (kind_at C) (unwind C d es o)) in
-      let ua : U b arm = u_const b (i32 0) (set C (kind_at C) (unwind C d es o)) (omega (arith, le)) (u_set b (kind_at C) (unwind C d es o) le (u_unwind b d es o le)) in
-      u_basic b (GlobalGet (flag_of C.source)) (suc b) (if_any arm k) (omega (arith, le)) (omega arith) (u_if b arm k le ua u)
+  u_flag b d es o k le u = u_checked b d es o (number_of (landing_behind es) C.landings) (get_flag C) (const (i32 0)) k le (λ k w. u_get_flag b k le w) (λ arm w. u_const b (i32 0) arm (omega (arith, le)) w) u
 
   u_both : (b d : ℕ) (es : List Place) (o : ℕ) (others k : Nodes) → Roomy b → U b others → U b k → U b (test_both C d es o others k)
   u_both b d es o others k r uo u =
-      let more = get C (kind_at C) (if_any others (to_exit d)) in
-      let um : U b more = u_get b (kind_at C) (if_any others (to_exit d)) (omega (arith, r)) (u_if b others (to_exit d) (omega (arith, r)) uo (u_exit b d (omega (arith, r)))) in
+      let more = get C (kind_at C) (if_any others (to_exit C d)) in
+      let um : U b more = u_get b (kind_at C) (if_any others (to_exit C d)) (omega (arith, r)) (u_if b others (to_exit C d) (omega (arith, r)) uo (u_exit b d (omega (arith, r)))) in
       let arm = const (i32 o) (set C (offset_at C) (hand_left C d es others)) in
       let ua : U b arm = u_const b (i32 o) (set C (offset_at C) (hand_left C d es others)) (omega (arith, r)) (u_set b (offset_at C) (hand_left C d es others) (omega (arith, r)) (u_hand b es more (omega (arith, r)) um)) in
       let u1 : U (suc b) (if_any arm k) = u_if b arm k (omega (arith, r)) ua u in
@@ -177,25 +188,31 @@ module _ (C : Ctx) (m : Module) (locals : List ValType) (off : Offers C m locals
       let u6 : U (suc (suc b)) k6 = u_basic (suc (suc b)) (Compare t Eq) (suc b) k5 (omega (arith, r)) (omega arith) u5 in
       u_fetch b a h (const (least t) k6) (omega (arith, r)) (u_const (suc b) (least t) k6 (omega (arith, r)) u6)
 
+  u_length : (b : ℕ) → b + 6 ≤ N → (k : Nodes) → U (suc b) k → U b (memory_length k)
+  u_length b r k u =
+      let k2 = basic 0 (Binary I64 Shl) k in
+      let u2 : U (suc (suc b)) k2 = u_basic (suc (suc b)) (Binary I64 Shl) (suc b) k (omega (arith, r)) (omega arith) u in
+      let k3 = const (values.I64 16) k2 in
+      let u3 : U (suc b) k3 = u_const (suc b) (values.I64 16) k2 (omega (arith, r)) u2 in
+      let k4 = basic 0 (Convert ExtendU) k3 in
+      let u4 : U (suc b) k4 = u_basic (suc b) (Convert ExtendU) (suc b) k3 (omega (arith, r)) (omega arith) u3 in
+      u_basic b MemorySize (suc b) k4 (omega (arith, r)) (omega arith) u4
+
   u_past : (b : ℕ) → b + 8 ≤ N → (k : Nodes) → U (suc b) k → U (suc b) (past_end k)
   u_past b r k u =
       let k1 = basic 0 (Compare I64 GtU) k in
-      let u1 : U (suc (suc b)) k1 = u_basic (suc (suc b)) (Compare I64 GtU) (suc b) k (omega (arith, r)) (omega arith) u in
-      let k2 = basic 0 (Binary I64 Shl) k1 in
-      let u2 : U (suc (suc (suc b))) k2 = u_basic (suc (suc (suc b))) (Binary I64 Shl) (suc (suc b)) k1 (omega (arith, r)) (omega arith) u1 in
-      let k3 = const (values.I64 16) k2 in
-      let u3 : U (suc (suc b)) k3 = u_const (suc (suc b)) (values.I64 16) k2 (omega (arith, r)) u2 in
-      let k4 = basic 0 (Convert ExtendU) k3 in
-      let u4 : U (suc (suc b)) k4 = u_basic (suc (suc b)) (Convert ExtendU) (suc (suc b)) k3 (omega (arith, r)) (omega arith) u3 in
-      u_basic (suc b) MemorySize (suc (suc b)) k4 (omega (arith, r)) (omega arith) u4
+      u_length (suc b) (omega (arith, r)) k1 (u_basic (suc (suc b)) (Compare I64 GtU) (suc b) k (omega (arith, r)) (omega arith) u)
 
   u_memory : (b : ℕ) → Roomy b → (a : Place) (h n : ℕ) (k : Nodes) → U (suc b) k → U b (guard_memory C a h n k)
   u_memory b r a h n k u =
-      let k1 = basic 0 (Binary I64 Add) (past_end k) in
-      let u1 : U (suc (suc b)) k1 = u_basic (suc (suc b)) (Binary I64 Add) (suc b) (past_end k) (omega (arith, r)) (omega arith) (u_past b (omega (arith, r)) k u) in
-      let k2 = const (values.I64 n) k1 in
-      let u2 : U (suc b) k2 = u_const (suc b) (values.I64 n) k1 (omega (arith, r)) u1 in
-      u_fetch b a h (out_test n k) (omega (arith, r)) (u_basic (suc b) (Convert ExtendU) (suc b) k2 (omega (arith, r)) (omega arith) u2)
+      let k1 = basic 0 (Compare I64 GtS) k in
+      let u1 : U (suc (suc b)) k1 = u_basic (suc (suc b)) (Compare I64 GtS) (suc b) k (omega (arith, r)) (omega arith) u in
+      let k2 = basic 0 (Binary I64 Sub) k1 in
+      let u2 : U (suc (suc (suc b))) k2 = u_basic (suc (suc (suc b))) (Binary I64 Sub) (suc (suc b)) k1 (omega (arith, r)) (omega arith) u1 in
+      let k3 = const (values.I64 n) k2 in
+      let u3 : U (suc (suc b)) k3 = u_const (suc (suc b)) (values.I64 n) k2 (omega (arith, r)) u2 in
+      let u4 : U (suc b) (memory_length k3) = u_length (suc b) (omega (arith, r)) k3 u3 in
+      u_fetch b a h (out_test n k) (omega (arith, r)) (u_basic (suc b) (Convert ExtendU) (suc b) (memory_length k3) (omega (arith, r)) (omega arith) u4)
 
   u_range : (b : ℕ) → b + 12 ≤ N → (a : Place) (h : ℕ) (n : Place) (hn : ℕ) (k : Nodes) → U (suc b) k → U b (range_test C a h n hn k)
   u_range b r a h n hn k u =
@@ -207,151 +224,76 @@ module _ (C : Ctx) (m : Module) (locals : List ValType) (off : Offers C m locals
       let u3 : U (suc b) k3 = u_fetch (suc b) n hn k2 (omega (arith, r)) u2 in
       u_fetch b a h (basic 0 (Convert ExtendU) k3) (omega (arith, r)) (u_basic (suc b) (Convert ExtendU) (suc b) k3 (omega (arith, r)) (omega arith) u3)
 
-  u_kind_division : (b : ℕ) → Roomy b → (op : BinaryOp) (t : ValType) (es : List Place) (k : Nodes) → U (suc b) k → U b (kind C (Binary t op) es k)
-  u_kind_division b r DivS t [] k u = u_const b (i32 2) k (omega (arith, r)) u
-  u_kind_division b r DivS t (x ∷ []) k u = u_const b (i32 2) k (omega (arith, r)) u
-  u_kind_division b r DivS t (x ∷ a ∷ es) k u =
+  u_kind_division : (b : ℕ) → Roomy b → (op : BinaryOp) → Divider op → (t : ValType) (es : List Place) (k : Nodes) → U (suc b) k → U b (kind C (Binary t op) es k)
+  u_kind_division b r op by_div_s t [] k u = u_const b (i32 2) k (omega (arith, r)) u
+  u_kind_division b r op by_div_s t (x ∷ []) k u = u_const b (i32 2) k (omega (arith, r)) u
+  u_kind_division b r op by_div_s t (x ∷ a ∷ es) k u =
       let k1 = basic 0 Select k in
       let u1 : U (suc (suc (suc b))) k1 = u_basic (suc (suc (suc b))) Select (suc b) k (omega (arith, r)) (omega arith) u in
       let k2 = guard_zero C t x (suc (length es)) k1 in
       let u2 : U (suc (suc b)) k2 = u_zero (suc (suc b)) t x (suc (length es)) k1 (omega (arith, r)) u1 in
       u_const b (i32 2) (const (i32 3) k2) (omega (arith, r)) (u_const (suc b) (i32 3) k2 (omega (arith, r)) u2)
-  u_kind_division b r DivU t es k u = u_const b (i32 2) k (omega (arith, r)) u
-  u_kind_division b r RemS t es k u = u_const b (i32 2) k (omega (arith, r)) u
-  u_kind_division b r RemU t es k u = u_const b (i32 2) k (omega (arith, r)) u
-  u_kind_division b r Add t es k u = u_const b (i32 2) k (omega (arith, r)) u
-  u_kind_division b r Sub t es k u = u_const b (i32 2) k (omega (arith, r)) u
-  u_kind_division b r Mul t es k u = u_const b (i32 2) k (omega (arith, r)) u
-  u_kind_division b r And t es k u = u_const b (i32 2) k (omega (arith, r)) u
-  u_kind_division b r Or t es k u = u_const b (i32 2) k (omega (arith, r)) u
-  u_kind_division b r Xor t es k u = u_const b (i32 2) k (omega (arith, r)) u
-  u_kind_division b r Shl t es k u = u_const b (i32 2) k (omega (arith, r)) u
-  u_kind_division b r ShrS t es k u = u_const b (i32 2) k (omega (arith, r)) u
-  u_kind_division b r ShrU t es k u = u_const b (i32 2) k (omega (arith, r)) u
-  u_kind_division b r Rotl t es k u = u_const b (i32 2) k (omega (arith, r)) u
-  u_kind_division b r Rotr t es k u = u_const b (i32 2) k (omega (arith, r)) u
+  u_kind_division b r op by_div_u t es k u = u_const b (i32 2) k (omega (arith, r)) u
+  u_kind_division b r op by_rem_s t es k u = u_const b (i32 2) k (omega (arith, r)) u
+  u_kind_division b r op by_rem_u t es k u = u_const b (i32 2) k (omega (arith, r)) u
 
-  u_kind : (b : ℕ) → Roomy b → (i : Basic) (es : List Place) (k : Nodes) → U (suc b) k → U b (kind C i es k)
-  u_kind b r (Binary t op) es k u = u_kind_division b r op t es k u
-  u_kind b r Nop es k u = u_const b (i32 4) k (omega (arith, r)) u
-  u_kind b r Drop es k u = u_const b (i32 4) k (omega (arith, r)) u
-  u_kind b r Select es k u = u_const b (i32 4) k (omega (arith, r)) u
-  u_kind b r (LocalGet x) es k u = u_const b (i32 4) k (omega (arith, r)) u
-  u_kind b r (LocalSet x) es k u = u_const b (i32 4) k (omega (arith, r)) u
-  u_kind b r (LocalTee x) es k u = u_const b (i32 4) k (omega (arith, r)) u
-  u_kind b r (GlobalGet x) es k u = u_const b (i32 4) k (omega (arith, r)) u
-  u_kind b r (GlobalSet x) es k u = u_const b (i32 4) k (omega (arith, r)) u
-  u_kind b r (Load l al o) es k u = u_const b (i32 4) k (omega (arith, r)) u
-  u_kind b r (Store l al o) es k u = u_const b (i32 4) k (omega (arith, r)) u
-  u_kind b r MemorySize es k u = u_const b (i32 4) k (omega (arith, r)) u
-  u_kind b r MemoryGrow es k u = u_const b (i32 4) k (omega (arith, r)) u
-  u_kind b r MemoryCopy es k u = u_const b (i32 4) k (omega (arith, r)) u
-  u_kind b r MemoryFill es k u = u_const b (i32 4) k (omega (arith, r)) u
-  u_kind b r (Const v) es k u = u_const b (i32 4) k (omega (arith, r)) u
-  u_kind b r (Eqz w) es k u = u_const b (i32 4) k (omega (arith, r)) u
-  u_kind b r (Unary w p) es k u = u_const b (i32 4) k (omega (arith, r)) u
-  u_kind b r (Compare w p) es k u = u_const b (i32 4) k (omega (arith, r)) u
-  u_kind b r (Convert c) es k u = u_const b (i32 4) k (omega (arith, r)) u
-  u_kind b r (Extend32 c) es k u = u_const b (i32 4) k (omega (arith, r)) u
-  u_kind b r (Extend64 c) es k u = u_const b (i32 4) k (omega (arith, r)) u
+  u_kind : (b : ℕ) → Roomy b → (i : Basic) → Risky i → (es : List Place) (k : Nodes) → U (suc b) k → U b (kind C i es k)
+  u_kind b r i (risky_binary t op by) es k u = u_kind_division b r op by t es k u
+  u_kind b r i (risky_load l al o) es k u = u_const b (i32 4) k (omega (arith, r)) u
+  u_kind b r i (risky_store l al o) es k u = u_const b (i32 4) k (omega (arith, r)) u
+  u_kind b r i risky_copy es k u = u_const b (i32 4) k (omega (arith, r)) u
+  u_kind b r i risky_fill es k u = u_const b (i32 4) k (omega (arith, r)) u
 
   -- no guard
   u_none : (b : ℕ) (k : Nodes) → Roomy b → U (suc b) k → U b (const (i32 0) k)
   u_none b k r u = u_const b (i32 0) k (omega (arith, r)) u
 
-  u_division : (b : ℕ) → Roomy b → (op : BinaryOp) (t : ValType) (es : List Place) (k : Nodes) → U (suc b) k → U b (guard C (Binary t op) es k)
-  u_division b r DivS t [] k u = u_none b k r u
-  u_division b r DivS t (x ∷ []) k u = u_none b k r u
-  u_division b r DivS t (x ∷ a ∷ es) k u = u_signed b r t x a (length es) k u
-  u_division b r DivU t [] k u = u_none b k r u
-  u_division b r DivU t (x ∷ []) k u = u_none b k r u
-  u_division b r DivU t (x ∷ a ∷ es) k u = u_zero b t x (suc (length es)) k (omega (arith, r)) u
-  u_division b r RemS t [] k u = u_none b k r u
-  u_division b r RemS t (x ∷ []) k u = u_none b k r u
-  u_division b r RemS t (x ∷ a ∷ es) k u = u_zero b t x (suc (length es)) k (omega (arith, r)) u
-  u_division b r RemU t [] k u = u_none b k r u
-  u_division b r RemU t (x ∷ []) k u = u_none b k r u
-  u_division b r RemU t (x ∷ a ∷ es) k u = u_zero b t x (suc (length es)) k (omega (arith, r)) u
-  u_division b r Add t es k u = u_none b k r u
-  u_division b r Sub t es k u = u_none b k r u
-  u_division b r Mul t es k u = u_none b k r u
-  u_division b r And t es k u = u_none b k r u
-  u_division b r Or t es k u = u_none b k r u
-  u_division b r Xor t es k u = u_none b k r u
-  u_division b r Shl t es k u = u_none b k r u
-  u_division b r ShrS t es k u = u_none b k r u
-  u_division b r ShrU t es k u = u_none b k r u
-  u_division b r Rotl t es k u = u_none b k r u
-  u_division b r Rotr t es k u = u_none b k r u
+  u_division : (b : ℕ) → Roomy b → (op : BinaryOp) → Divider op → (t : ValType) (es : List Place) (k : Nodes) → U (suc b) k → U b (guard C (Binary t op) es k)
+  u_division b r op by_div_s t [] k u = u_none b k r u
+  u_division b r op by_div_s t (x ∷ []) k u = u_none b k r u
+  u_division b r op by_div_s t (x ∷ a ∷ es) k u = u_signed b r t x a (length es) k u
+  u_division b r op by_div_u t [] k u = u_none b k r u
+  u_division b r op by_div_u t (x ∷ []) k u = u_none b k r u
+  u_division b r op by_div_u t (x ∷ a ∷ es) k u = u_zero b t x (suc (length es)) k (omega (arith, r)) u
+  u_division b r op by_rem_s t [] k u = u_none b k r u
+  u_division b r op by_rem_s t (x ∷ []) k u = u_none b k r u
+  u_division b r op by_rem_s t (x ∷ a ∷ es) k u = u_zero b t x (suc (length es)) k (omega (arith, r)) u
+  u_division b r op by_rem_u t [] k u = u_none b k r u
+  u_division b r op by_rem_u t (x ∷ []) k u = u_none b k r u
+  u_division b r op by_rem_u t (x ∷ a ∷ es) k u = u_zero b t x (suc (length es)) k (omega (arith, r)) u
 
-  u_guard : (b : ℕ) → Roomy b → (i : Basic) (es : List Place) (k : Nodes) → U (suc b) k → U b (guard C i es k)
-  u_guard b r (Binary t op) es k u = u_division b r op t es k u
-  u_guard b r (Load t align o) [] k u = u_none b k r u
-  u_guard b r (Load t align o) (a ∷ es) k u = u_memory b r a (length es) (o + load_bits t / 8) k u
-  u_guard b r (Store t align o) [] k u = u_none b k r u
-  u_guard b r (Store t align o) (v ∷ []) k u = u_none b k r u
-  u_guard b r (Store t align o) (v ∷ a ∷ es) k u = u_memory b r a (length es) (o + store_bits t / 8) k u
-  u_guard b r MemoryCopy [] k u = u_none b k r u
-  u_guard b r MemoryCopy (n ∷ []) k u = u_none b k r u
-  u_guard b r MemoryCopy (n ∷ from ∷ []) k u = u_none b k r u
-  u_guard b r MemoryCopy (n ∷ from ∷ to ∷ es) k u =
+  u_guard : (b : ℕ) → Roomy b → (i : Basic) → Risky i → (es : List Place) (k : Nodes) → U (suc b) k → U b (guard C i es k)
+  u_guard b r i (risky_binary t op by) es k u = u_division b r op by t es k u
+  u_guard b r i (risky_load t align o) [] k u = u_none b k r u
+  u_guard b r i (risky_load t align o) (a ∷ es) k u = u_memory b r a (length es) (o + load_bits t / 8) k u
+  u_guard b r i (risky_store t align o) [] k u = u_none b k r u
+  u_guard b r i (risky_store t align o) (v ∷ []) k u = u_none b k r u
+  u_guard b r i (risky_store t align o) (v ∷ a ∷ es) k u = u_memory b r a (length es) (o + store_bits t / 8) k u
+  u_guard b r i risky_copy [] k u = u_none b k r u
+  u_guard b r i risky_copy (n ∷ []) k u = u_none b k r u
+  u_guard b r i risky_copy (n ∷ from ∷ []) k u = u_none b k r u
+  u_guard b r i risky_copy (n ∷ from ∷ to ∷ es) k u =
       let h = length es in
       let k1 = basic 0 (Binary I32 Or) k in
       let u1 : U (suc (suc b)) k1 = u_basic (suc (suc b)) (Binary I32 Or) (suc b) k (omega (arith, r)) (omega arith) u in
       let k2 = range_test C to h n (suc (suc h)) k1 in
       let u2 : U (suc b) k2 = u_range (suc b) (omega (arith, r)) to h n (suc (suc h)) k1 u1 in
       u_range b (omega (arith, r)) from (suc h) n (suc (suc h)) k2 u2
-  u_guard b r MemoryFill [] k u = u_none b k r u
-  u_guard b r MemoryFill (n ∷ []) k u = u_none b k r u
-  u_guard b r MemoryFill (n ∷ byte ∷ []) k u = u_none b k r u
-  u_guard b r MemoryFill (n ∷ byte ∷ to ∷ es) k u = u_range b (omega (arith, r)) to (length es) n (suc (suc (length es))) k u
-  u_guard b r Nop es k u = u_none b k r u
-  u_guard b r Drop es k u = u_none b k r u
-  u_guard b r Select es k u = u_none b k r u
-  u_guard b r (LocalGet x) es k u = u_none b k r u
-  u_guard b r (LocalSet x) es k u = u_none b k r u
-  u_guard b r (LocalTee x) es k u = u_none b k r u
-  u_guard b r (GlobalGet x) es k u = u_none b k r u
-  u_guard b r (GlobalSet x) es k u = u_none b k r u
-  u_guard b r MemorySize es k u = u_none b k r u
-  u_guard b r MemoryGrow es k u = u_none b k r u
-  u_guard b r (Const v) es k u = u_none b k r u
-  u_guard b r (Eqz w) es k u = u_none b k r u
-  u_guard b r (Unary w p) es k u = u_none b k r u
-  u_guard b r (Compare w p) es k u = u_none b k r u
-  u_guard b r (Convert c) es k u = u_none b k r u
-  u_guard b r (Extend32 c) es k u = u_none b k r u
-  u_guard b r (Extend64 c) es k u = u_none b k r u
+  u_guard b r i risky_fill [] k u = u_none b k r u
+  u_guard b r i risky_fill (n ∷ []) k u = u_none b k r u
+  u_guard b r i risky_fill (n ∷ byte ∷ []) k u = u_none b k r u
+  u_guard b r i risky_fill (n ∷ byte ∷ to ∷ es) k u = u_range b (omega (arith, r)) to (length es) n (suc (suc (length es))) k u
 
-  u_guarded : (b : ℕ) → Roomy b → (q : Bool) (d : ℕ) (es : List Place) (o : ℕ) (i : Basic) (k : Nodes) → U b k → U b (guarded q C d es o i k)
-  u_guarded b r false d es o i k u = u
-  u_guarded b r true d es o i k u = u_guard b r i es (tested C d es o (kind C i es) k) (u_tested b d es o (kind C i es) k (omega (arith, r)) (λ arm w. u_kind b r i es arm w) u)
+  u_guarded : (b : ℕ) → Roomy b → (q : Bool) (d : ℕ) (es : List Place) (o : ℕ) (i : Basic) (k : Nodes) → can_trap i ≡ q → U b k → U b (guarded q C d es o i k)
+  u_guarded b r false d es o i k t u = u
+  u_guarded b r true d es o i k t u =
+      u_checked b d es o (number_in C.landings (landing_of i es)) (guard C i es) (kind C i es) k (omega (arith, r)) (λ k w. u_guard b r i (risk_of i t) es k w) (λ arm w. u_kind b r i (risk_of i t) es arm w) u
 
   -- ---- instructions
 
-  u_free : (b : ℕ) → Roomy b → (i : Basic) (es : List Place) (k : Nodes) → U b k → U b (free C i es k)
-  u_free b r (LocalSet x) es k u = u_spill b (λ y. x == y) es k (omega (arith, r)) u
-  u_free b r (LocalTee x) es k u = u_spill b (λ y. x == y) es k (omega (arith, r)) u
-  u_free b r Nop es k u = u
-  u_free b r Drop es k u = u
-  u_free b r Select es k u = u
-  u_free b r (LocalGet x) es k u = u
-  u_free b r (GlobalGet x) es k u = u
-  u_free b r (GlobalSet x) es k u = u
-  u_free b r (Load l al o) es k u = u
-  u_free b r (Store l al o) es k u = u
-  u_free b r MemorySize es k u = u
-  u_free b r MemoryGrow es k u = u
-  u_free b r MemoryCopy es k u = u
-  u_free b r MemoryFill es k u = u
-  u_free b r (Const v) es k u = u
-  u_free b r (Eqz w) es k u = u
-  u_free b r (Unary w p) es k u = u
-  u_free b r (Compare w p) es k u = u
-  u_free b r (Convert c) es k u = u
-  u_free b r (Extend32 c) es k u = u
-  u_free b r (Extend64 c) es k u = u
-  u_free b r (Binary w p) es k u = u
+  u_free : (b : ℕ) → Roomy b → (o : Option ℕ) (es : List Place) (k : Nodes) → U b k → U b (free_at C o es k)
+  u_free b r None es k u = u
+  u_free b r (Some x) es k u = u_spill b (λ y. x == y) es k (omega (arith, r)) u
 
   -- of places with room
   roomy : (es : List Place) → length es ≤ C.slots → Roomy (length es)
@@ -389,7 +331,7 @@ module _ (C : Ctx) (m : Module) (locals : List ValType) (off : Offers C m locals
       let lm = less_minus (takes i) es in
       let k2 : U (length (option_to_list (option_map place_type p)) + length left) code = u_keep (length left) p left k (omega (arith, r, lm)) (fewer m N k (length (after_plain C es i)) (length (option_to_list (option_map place_type p)) + length left) (omega (arith, rp, count, same)) k1) in
       let k3 : U b (basic 0 i code) = u_basic b i (length (option_to_list (option_map place_type p)) + length left) code (omega (arith, r)) (omega (arith, rp, lm)) k2 in
-      u_guarded b r (can_trap i) d es o i (free C i left (basic 0 i code)) (u_free b r i left (basic 0 i code) k3)
+      u_guarded b r (can_trap i) d es o i (free C i left (basic 0 i code)) refl (u_free b r (local_written i) left (basic 0 i code) k3)
 
   -- ---- calls
 
@@ -595,10 +537,40 @@ module _ (C : Ctx) (m : Module) (locals : List ValType) (off : Offers C m locals
   u_returned None = (omega arith, tt)
   u_returned (Some t) = (omega (arith, room), tt)
 
-  pub u_body : (nodes : Nodes) → Room C [] nodes → Types (original C (in_body C.result ∷ [])) nodes [] (option_to_list C.result) → Under m N 0 (body C nodes)
-  u_body nodes rm ty =
+  -- ---- landings
+
+  u_out : (b n : ℕ) → b ≤ N → U b (jump 0 (Br n) stop)
+  u_out b n le = (le, tt)
+
+  u_landing : (n : ℕ) (x : Landing) → U (length (option_to_list x.carried)) (landing_code C n x)
+  u_landing n x = above x.carried
+    where
+      above : (r : Option ValType) → U (length (option_to_list r)) (const (i32 x.kind) (set C (kind_at C) (hand C x.places (hand_carried C r (jump 0 (Br n) stop)))))
+      above None =
+          let k = hand C x.places (jump 0 (Br n) stop) in
+          u_const 0 (i32 x.kind) (set C (kind_at C) k) (omega arith) (u_set 0 (kind_at C) k (omega (arith, room)) (u_hand 0 x.places (jump 0 (Br n) stop) (omega (arith, room)) (u_out 0 n (omega arith))))
+      above (Some t) =
+          let out = hand_value C t (jump 0 (Br n) stop) in
+          let k = hand C x.places out in
+          u_const 1 (i32 x.kind) (set C (kind_at C) k) (omega (arith, room)) (u_set 1 (kind_at C) k (omega (arith, room)) (u_hand 1 x.places out (omega (arith, room)) (u_value 0 t (jump 0 (Br n) stop) (omega (arith, room)) (u_out 0 n (omega arith)))))
+
+  u_nested : (xs : List Landing) (inner : Nodes) → U 0 inner → U 0 (nested C xs inner)
+  u_nested [] inner u = u
+  u_nested (x ∷ xs) inner u =
+      let c = length (option_to_list x.carried) in
+      let k = landing_code C (length xs) x in
+      u_nested xs (block 0 x.carried inner 0 k) (omega arith, u, fewer m N k c (c + 0) (omega arith) (u_landing (length xs) x))
+
+  u_laid : (nodes : Nodes) → Room C [] nodes → Types (original C (in_body C.result ∷ [])) nodes [] (option_to_list C.result) → U 0 (laid C nodes)
+  u_laid nodes rm ty =
       let a = u_rewrite nodes (in_body C.result ∷ []) [] [] [] (option_to_list C.result) refl tt rm ty in
-      (omega arith, (omega arith, a, fewer m N (jump 0 Return stop) (length (option_to_list C.result)) (length (option_to_list C.result) + 0) (omega arith) (u_returned C.result)), u_exit_code)
+      let core = block 0 C.result (rewrite C 1 [] nodes) 0 (jump 0 Return stop) in
+      (omega arith, u_nested C.landings core (omega arith, a, fewer m N (jump 0 Return stop) (length (option_to_list C.result)) (length (option_to_list C.result) + 0) (omega arith) (u_returned C.result)), u_exit_code)
+
+pub u_body : (C : Ctx) (m : Module) (locals : List ValType) → Offers C m locals → (N : ℕ) → 2 * C.slots + 16 ≤ N → (nodes : Nodes) → Room C [] nodes → Types (original C (in_body C.result ∷ [])) nodes [] (option_to_list C.result) → Under m N 0 (body C nodes)
+u_body C m locals off N room nodes rm ty =
+    let xs = landings_from C [] nodes [] in
+    u_laid (landed C xs) m locals (offers_landed C m locals xs off) N room nodes (room_landed C xs [] nodes rm) ty
 
 -- ---- helpers
 

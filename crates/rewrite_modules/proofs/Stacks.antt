@@ -1,74 +1,28 @@
 -- How many operands stand in rewritten code: at most as many as the parameters of a function, and a few.
-use Rattle.std.proofs.Common.{◌≡◌, ℕ, ◌+◌, ◌-◌, ◌≤◌, List, [], ◌∷◌, ◌++◌, inl, inr, length, reverse, Option, Some, None, sym, ap, ◌∙◌, subst, arith, slice_get, option_to_list, length-append}
+use Rattle.std.proofs.Common.{◌≡◌, ℕ, ◌+◌, ◌-◌, ◌≤◌, List, [], ◌∷◌, ◌++◌, inl, inr, length, reverse, Option, Some, None, ap, ◌∙◌, subst, arith, slice_get, option_to_list, length-append}
 use Rattle.std.proofs.lemmas.List.{length-reverse}
 use Rattle.wasm_syntax.specs.declared.value.ValType.{ValType}
 use Rattle.wasm_syntax.specs.declared.value.ValType.TheVariants.{I32}
 use Rattle.wasm_syntax.specs.declared.instruction.Basic.{Basic}
-use Rattle.wasm_syntax.specs.declared.instruction.Basic.TheVariants.{Nop, Drop, Select, LocalGet, LocalSet, LocalTee, GlobalGet, GlobalSet, Load, Store, MemorySize, MemoryGrow, MemoryCopy, MemoryFill, Const, Eqz, Unary, Compare, Binary, Convert, Extend32, Extend64}
 use Rattle.wasm_syntax.specs.declared.parts.FuncType.{FuncType}
 use Rattle.wasm_syntax.specs.declared.module.ModuleParts.{ModuleParts as Module}
 use Rattle.wasm_syntax.specs.Tree.{Jump, Unreachable, Br, BrIf, BrTable, Return, Call, CallIndirect, Nodes, stop, basic, jump, block, loop, choose}
 use Rattle.wasm_syntax.specs.Module.{type_at}
 use Rattle.wasm_syntax.specs.Effect.{takes}
 use Rattle.wasm_syntax.specs.Static.{Spot, Live}
-use Rattle.wasm_syntax.specs.Typing.{Context, Arrow, ◌⇒◌, arrow, set_global, within}
-use Rattle.wasm_syntax.specs.Typing as typing
+use Rattle.wasm_syntax.specs.Typing.{Context, Arrow, arrow, within}
 use Rattle.wasm_laws.proofs.Progress.{takes_len}
 use Rattle.rewrite_modules.specs.calls.Bare.{bare_nodes}
-use Rattle.wasm_laws.proofs.Validity.{then_found, map_found}
-use Rattle.rewrite_bodies.proofs.TypedNodes.{only_found}
-use Rattle.pm_text.proofs.Lists.{some_is}
-use Rattle.wasm_syntax.proofs.Types.{any_found}
+use Rattle.wasm_syntax.specs.calls.Classes.{type_source, source_gives}
+use Rattle.wasm_syntax.proofs.Classes.{counts}
 
 -- ---- what an instruction takes and gives
 
 abbrev pub gives_count : Basic → ℕ
-gives_count Nop = 0
-gives_count Drop = 0
-gives_count Select = 1
-gives_count (LocalGet x) = 1
-gives_count (LocalSet x) = 0
-gives_count (LocalTee x) = 1
-gives_count (GlobalGet x) = 1
-gives_count (GlobalSet x) = 0
-gives_count (Load l al o) = 1
-gives_count (Store l al o) = 0
-gives_count MemorySize = 1
-gives_count MemoryGrow = 1
-gives_count MemoryCopy = 0
-gives_count MemoryFill = 0
-gives_count (Const v) = 1
-gives_count (Eqz u) = 1
-gives_count (Unary u op) = 1
-gives_count (Compare u op) = 1
-gives_count (Binary u op) = 1
-gives_count (Convert k) = 1
-gives_count (Extend32 k) = 1
-gives_count (Extend64 k) = 1
+gives_count i = source_gives (type_source i)
 
 pub gives_len : (c : Context) (i : Basic) (t : ValType) (a : Arrow) → arrow c t i ≡ Some a → length a.gives ≡ gives_count i
-gives_len c Nop t a e = sym (ap (λ z. length z.gives) (some_is e))
-gives_len c Drop t a e = sym (ap (λ z. length z.gives) (some_is e))
-gives_len c Select t a e = sym (ap (λ z. length z.gives) (some_is e))
-gives_len c (LocalGet x) t a e = sym (ap (λ z. length z.gives) ((map_found (slice_get c.locals x) _ a e).2))
-gives_len c (LocalSet x) t a e = sym (ap (λ z. length z.gives) ((map_found (slice_get c.locals x) _ a e).2))
-gives_len c (LocalTee x) t a e = sym (ap (λ z. length z.gives) ((map_found (slice_get c.locals x) _ a e).2))
-gives_len c (GlobalGet x) t a e = sym (ap (λ z. length z.gives) ((map_found (slice_get c.module_.globals x) _ a e).2))
-gives_len c (GlobalSet x) t a e = let u = then_found (slice_get c.module_.globals x) set_global a e in sym (ap (λ z. length z.gives) (some_is (only_found u.0.mutable (Some (u.0.vtype ∷ [] ⇒ [])) a u.2)))
-gives_len c (Load l al o) t a e = sym (ap (λ z. length z.gives) (some_is (only_found _ _ a (any_found c.module_.memories _ a e))))
-gives_len c (Store l al o) t a e = sym (ap (λ z. length z.gives) (some_is (only_found _ _ a (any_found c.module_.memories _ a e))))
-gives_len c MemorySize t a e = sym (ap (λ z. length z.gives) (some_is (any_found c.module_.memories _ a e)))
-gives_len c MemoryGrow t a e = sym (ap (λ z. length z.gives) (some_is (any_found c.module_.memories _ a e)))
-gives_len c MemoryCopy t a e = sym (ap (λ z. length z.gives) (some_is (any_found c.module_.memories _ a e)))
-gives_len c MemoryFill t a e = sym (ap (λ z. length z.gives) (some_is (any_found c.module_.memories _ a e)))
-gives_len c (Const v) t a e = sym (ap (λ z. length z.gives) (some_is e))
-gives_len c (Eqz u) t a e = sym (ap (λ z. length z.gives) (some_is e))
-gives_len c (Unary u op) t a e = sym (ap (λ z. length z.gives) (some_is e))
-gives_len c (Compare u op) t a e = sym (ap (λ z. length z.gives) (some_is e))
-gives_len c (Binary u op) t a e = sym (ap (λ z. length z.gives) (some_is e))
-gives_len c (Convert k) t a e = sym (ap (λ z. length z.gives) (some_is e))
-gives_len c (Extend32 k) t a e = sym (ap (λ z. length z.gives) (some_is e))
-gives_len c (Extend64 k) t a e = sym (ap (λ z. length z.gives) (some_is e))
+gives_len c i t a e = (counts c t i a e).1
 
 -- ---- nodes in which there are never more than so many operands
 

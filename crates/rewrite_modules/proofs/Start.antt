@@ -2,7 +2,6 @@
 use Rattle.std.proofs.Common.{◌≡◌, ℕ, zero, suc, ◌+◌, ◌≤◌, List, [], ◌∷◌, ◌++◌, length, map, Option, Some, None, Bool, true, false, ◌&&◌, nat_lt, nat_le, refl, sym, ap, ap₂, ◌∙◌, subst, arith, ◌⊎◌, inl, inr, slice_get, option_map, take, drop, replicate, unwrap_or, if◌then◌else◌, append_assoc, leb-true, le-leb}
 use Rattle.wasm_syntax.specs.declared.value.Value.{Value}
 use Rattle.wasm_syntax.specs.declared.value.Value.TheVariants as values
-use Rattle.wasm_syntax.specs.declared.instruction.Basic.TheVariants.{Nop, Drop, Select, LocalGet, LocalSet, LocalTee, GlobalGet, GlobalSet, Load, Store, MemorySize, MemoryGrow, Const, Eqz, Unary, Compare, Binary, Convert, MemoryCopy, MemoryFill, Extend32, Extend64}
 use Rattle.wasm_syntax.specs.declared.module.ModuleParts.{ModuleParts as Module}
 use Rattle.wasm_syntax.specs.Module.{Program, const_value, const_code, function_export, is_function}
 use Rattle.wasm_syntax.specs.declared.host.Reply.{Reply}
@@ -15,8 +14,8 @@ use Rattle.rewrite_bodies.specs.calls.Agreement.{flagged}
 use Rattle.wasm_syntax.specs.Run.{start_table, engine, i32_or_zero, first_false, table_min, empty_memory, memory_bytes, globals_at_start, element_at, data_at, element_fits, data_fits, start_memory, start_world, by_data, by_element, cause_of_segments}
 use Rattle.std.specs.Prelude.{flat_map, bytes_eq, fold, find, cond}
 use Rattle.rewrite_modules.specs.Collector.{memory_export}
-use Rattle.rewrite_modules.specs.Instrument.{number_init, doubled, shown_element, new_module, new_exports, new_index}
-use Rattle.wasm_syntax.specs.declared.instruction.Instr.TheVariants as instrs
+use Rattle.rewrite_modules.specs.calls.Instrument.{number_init, shown_element, new_module, new_exports, new_index}
+use Rattle.rewrite_modules.specs.Interface.{doubled}
 use Rattle.wasm_syntax.specs.declared.instruction.Op.{Op}
 use Rattle.wasm_syntax.specs.declared.instruction.Instr.{Instr}
 use Rattle.wasm_syntax.specs.declared.parts.Export.{Export}
@@ -27,6 +26,7 @@ use Rattle.wasm_syntax.specs.declared.parts.DataSeg.{DataSeg}
 use Rattle.wasm_syntax.specs.Run as runs_
 use Rattle.rewrite_modules.proofs.Links.{get_right}
 use Rattle.pm_text.proofs.Lists.{get_front}
+use Rattle.wasm_syntax.proofs.Classes.{Constant, holds_value, reads_global, not_constant, constant_of}
 
 -- ---- constant expressions with one more global, a zero
 
@@ -36,35 +36,13 @@ zero_more [] (suc x) = refl
 zero_more (g ∷ gs) zero = refl
 zero_more (g ∷ gs) (suc x) = zero_more gs x
 
+code_as : (gs : List Value) (i : Instr) → Constant i → i32_or_zero (const_code (gs ++ values.I32 0 ∷ []) i) ≡ i32_or_zero (const_code gs i)
+code_as gs i (holds_value v) = refl
+code_as gs i (reads_global x) = zero_more gs x
+code_as gs i (not_constant none never) = ap i32_or_zero (none (gs ++ values.I32 0 ∷ []) ∙ sym (none gs))
+
 code_more : (gs : List Value) (i : Instr) → i32_or_zero (const_code (gs ++ values.I32 0 ∷ []) i) ≡ i32_or_zero (const_code gs i)
-code_more gs (instrs.Basic (GlobalGet x)) = zero_more gs x
-code_more gs (instrs.Basic Nop) = refl
-code_more gs (instrs.Basic Drop) = refl
-code_more gs (instrs.Basic Select) = refl
-code_more gs (instrs.Basic (LocalGet x)) = refl
-code_more gs (instrs.Basic (LocalSet x)) = refl
-code_more gs (instrs.Basic (LocalTee x)) = refl
-code_more gs (instrs.Basic (GlobalSet x)) = refl
-code_more gs (instrs.Basic (Load t al of)) = refl
-code_more gs (instrs.Basic (Store t al of)) = refl
-code_more gs (instrs.Basic MemorySize) = refl
-code_more gs (instrs.Basic MemoryGrow) = refl
-code_more gs (instrs.Basic MemoryCopy) = refl
-code_more gs (instrs.Basic MemoryFill) = refl
-code_more gs (instrs.Basic (Extend32 k)) = refl
-code_more gs (instrs.Basic (Extend64 k)) = refl
-code_more gs (instrs.Basic (Const v)) = refl
-code_more gs (instrs.Basic (Eqz t)) = refl
-code_more gs (instrs.Basic (Unary t op)) = refl
-code_more gs (instrs.Basic (Compare t op)) = refl
-code_more gs (instrs.Basic (Binary t op)) = refl
-code_more gs (instrs.Basic (Convert c)) = refl
-code_more gs (instrs.Jump j) = refl
-code_more gs (instrs.Block t) = refl
-code_more gs (instrs.Loop t) = refl
-code_more gs (instrs.If t) = refl
-code_more gs instrs.Else = refl
-code_more gs instrs.End = refl
+code_more gs i = code_as gs i (constant_of i)
 
 const_more : (gs : List Value) (ops : List Op) → i32_or_zero (const_value (gs ++ values.I32 0 ∷ []) ops) ≡ i32_or_zero (const_value gs ops)
 const_more gs [] = refl

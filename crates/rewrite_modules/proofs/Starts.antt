@@ -6,8 +6,8 @@ use Rattle.wasm_syntax.specs.Host.{World}
 use Rattle.wasm_syntax.specs.Machine.{Engine}
 use Rattle.wasm_syntax.specs.Run.{ran_to, run_function, start_world, engine}
 use Rattle.wasm_laws.proofs.Never.{start_alive}
-use Rattle.rewrite_bodies.specs.Slots.{greatest}
-use Rattle.rewrite_modules.specs.Instrument.{instrument}
+use Rattle.rewrite_bodies.specs.calls.Slots.{greatest}
+use Rattle.rewrite_modules.specs.calls.Instrument.{instrument}
 use Rattle.rewrite_modules.specs.Simulates.{Alike}
 use Rattle.rewrite_modules.specs.Starts.{start_run, StartsAlike}
 use Rattle.rewrite_modules.specs.calls.Given.{Given}

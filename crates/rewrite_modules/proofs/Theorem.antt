@@ -5,16 +5,16 @@ use Rattle.wasm_syntax.specs.Tree.{Unreachable, Br, BrIf, BrTable, Return, Call,
 use Rattle.wasm_syntax.specs.declared.module.ModuleParts.{ModuleParts as Module}
 use Rattle.wasm_syntax.specs.Module.{Program, AllWrite, function_export}
 use Rattle.wasm_syntax.specs.declared.host.Reply.{Reply}
-use Rattle.rewrite_bodies.specs.Slots.{greatest}
+use Rattle.rewrite_bodies.specs.calls.Slots.{greatest}
 use Rattle.rewrite_bodies.specs.Numbering.{place_in, helped, uses, distinct, is_in, global_types}
-use Rattle.rewrite_bodies.specs.Rewrite.{body}
+use Rattle.rewrite_bodies.specs.calls.Rewrite.{body}
 use Rattle.linear_memory.specs.Memory.{Memory}
 use Rattle.std.proofs.lemmas.List.{length-map, length-replicate}
 use Rattle.wasm_syntax.specs.declared.parts.ElementSeg.{ElementSeg}
 use Rattle.rewrite_bodies.specs.calls.Agreement.{Has, MemoryFits, WorldFits}
 use Rattle.std.proofs.lemmas.Bool.{eqb-true, eq-eqb}
 use Rattle.std.specs.Prelude.{flat_map, fold, min}
-use Rattle.rewrite_modules.specs.Instrument.{instrument, new_module}
+use Rattle.rewrite_modules.specs.calls.Instrument.{instrument, new_module}
 use Rattle.rewrite_modules.proofs.SlotMultiple.{slot_multiple}
 use Rattle.rewrite_modules.proofs.Bounds.{Static}
 use Rattle.std.specs.List.{AllByRecursion}

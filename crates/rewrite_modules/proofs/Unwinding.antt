@@ -13,18 +13,18 @@ use Rattle.wasm_syntax.specs.Machine.{Engine}
 use Rattle.wasm_syntax.specs.Run.{engine}
 use Rattle.wasm_syntax.specs.Sizes.{parameter_count}
 use Rattle.rewrite_bodies.specs.Numbering.{wrapped, wrapper_base, global_types}
-use Rattle.rewrite_bodies.specs.Pieces.{tree_of}
+use Rattle.rewrite_bodies.specs.calls.Pieces.{tree_of}
 use Rattle.rewrite_bodies.specs.calls.Agreement.{WorldFits}
 use Rattle.rewrite_bodies.specs.calls.Standing.{Stands}
 use Rattle.rewrite_bodies.proofs.Run.{weaken}
 use Rattle.rewrite_bodies.proofs.Step.{step_sim}
 use Rattle.rewrite_bodies.proofs.Unwind.{up_under, up_all}
-use Rattle.rewrite_modules.specs.FlatCode.{body_of}
+use Rattle.rewrite_modules.specs.calls.FlatCode.{body_of}
 use Rattle.rewrite_modules.specs.calls.Given.{Given}
-use Rattle.rewrite_modules.specs.Instrument.{instrument}
+use Rattle.rewrite_modules.specs.calls.Instrument.{instrument}
 use Rattle.rewrite_modules.specs.Multiple.{half}
 use Rattle.rewrite_modules.specs.Weight.{AreHeights}
-use Rattle.rewrite_modules.specs.Wrappers.{wrapper_nodes, wrapper}
+use Rattle.rewrite_modules.specs.calls.Wrappers.{wrapper_nodes, wrapper}
 use Rattle.rewrite_modules.specs.calls.Unwinding.{Begins, Unwinds}
 use Rattle.rewrite_modules.proofs.Links.{Ready, is_defined, sizes_fit, type_is_of, wrapper_there, stands}
 use Rattle.rewrite_modules.proofs.Links as links

@@ -16,17 +16,18 @@ use Rattle.wasm_syntax.specs.Machine.{result_of}
 use Rattle.wasm_syntax.specs.Typing.{Context, ◌⇒◌, arrow, Types, IsBody, body_context}
 use Rattle.wasm_syntax.specs.Sizes.{parameter_count}
 use Rattle.rewrite_bodies.specs.Numbering.{mapped, value_import, frame_import, flag_of, value_type, frame_type, doubles}
-use Rattle.rewrite_bodies.specs.Slots.{Ctx, added, groups, ctx_of, slots_of}
-use Rattle.rewrite_bodies.specs.Pieces.{i32, call, tree_of}
-use Rattle.rewrite_bodies.specs.Guards.{entry_label, type_label, says, helper, helper_type, first_table}
+use Rattle.rewrite_bodies.specs.calls.Slots.{Ctx, added, groups, ctx_of, slots_of}
+use Rattle.rewrite_bodies.specs.calls.Pieces.{i32, call, tree_of}
+use Rattle.rewrite_bodies.specs.calls.Guards.{entry_label, type_label, says, helper, helper_type, first_table}
 use Rattle.rewrite_bodies.specs.calls.Typed.{in_body, Offers, original}
 use Rattle.rewrite_bodies.proofs.TypedPieces.{Ok, ok_basic, ok_const, ok_if, ok_call, at_labels}
 use Rattle.rewrite_bodies.proofs.TypedNodes.{body_ok}
 use Rattle.wasm_laws.proofs.Safe.{Typed, one_result}
 use Rattle.rewrite_modules.specs.calls.Bare.{bare_nodes, bare_tree}
-use Rattle.rewrite_modules.specs.Instrument.{doubled, zero_init, new_module, new_nodes, new_body}
-use Rattle.rewrite_modules.specs.FlatCode.{body_of}
-use Rattle.rewrite_modules.specs.Wrappers.{get_all, tell_globals, lower_flag, end_of_dump, after_wrapped, wrapper_nodes, wrapper}
+use Rattle.rewrite_modules.specs.calls.Instrument.{zero_init, new_module, new_nodes, new_body}
+use Rattle.rewrite_modules.specs.Interface.{doubled}
+use Rattle.rewrite_modules.specs.calls.FlatCode.{body_of}
+use Rattle.rewrite_modules.specs.calls.Wrappers.{get_all, tell_globals, lower_flag, end_of_dump, after_wrapped, wrapper_nodes, wrapper}
 use Rattle.rewrite_modules.proofs.Arms.{tree_body, tree_wrapper, tree_helper, tree_bare}
 use Rattle.rewrite_modules.proofs.Bounds.{room_of}
 use Rattle.rewrite_modules.proofs.FlatOut.{body_out}

@@ -9,8 +9,6 @@ use Rattle.std.proofs.lemmas.Option.{slice_get-map, slice_get_within}
 use Rattle.wasm_syntax.specs.declared.value.ValType.{ValType}
 use Rattle.wasm_syntax.specs.declared.value.ValType.TheVariants.{I32}
 use Rattle.wasm_syntax.specs.declared.instruction.Instr.{Instr}
-use Rattle.wasm_syntax.specs.declared.instruction.Instr.TheVariants as instrs
-use Rattle.wasm_syntax.specs.declared.instruction.Basic.TheVariants as basics
 use Rattle.wasm_syntax.specs.declared.parts.FuncType.{FuncType}
 use Rattle.wasm_syntax.specs.declared.parts.Body.{Body}
 use Rattle.wasm_syntax.specs.declared.parts.Export.{Export}
@@ -26,20 +24,22 @@ use Rattle.wasm_syntax.specs.Run.{table_min, element_at}
 use Rattle.wasm_syntax.specs.Valid.{Valid, There, AtIndex, defined_index, FuncTypeFine, ImportFine, DeclarationFine, LimitsFine, TableFine, GlobalFine, ConstBody, ConstTypes, ExportFine, StartFine, ElementFine, DataFine, BodyFine, index_space}
 use Rattle.rewrite_bodies.specs.Numbering.{import_count, mapped, wraps, start_wraps, export_wrapped, is_in, place_in, element_functions, defines, table_functions, can_double, doubles, table_wraps, named_wrapped, wrapped, wrapper_base, shown, helped}
 use Rattle.rewrite_bodies.proofs.Doubled.{AllTrue, and_left, and_right, limits_double}
-use Rattle.rewrite_bodies.specs.Guards.{helper, helper_type}
+use Rattle.rewrite_bodies.specs.calls.Guards.{helper, helper_type}
 use Rattle.wasm_laws.proofs.Lists.{all_of, at_of, there_at, all_append, all_map}
 use Rattle.wasm_laws.proofs.Safe.{Typed}
 use Rattle.wasm_laws.proofs.Validity.{typed_functions, has_type, start_type}
 use Rattle.rewrite_modules.specs.Collector.{memory_export}
-use Rattle.rewrite_modules.specs.Instrument.{each, number_init, doubled, shown_element, inner_offset, inner_element, shown_elements, new_module, instrument, new_body, new_index, new_exports, new_start, wrapper_type, zero_init}
-use Rattle.rewrite_modules.specs.FlatCode.{body_of}
-use Rattle.rewrite_modules.specs.Wrappers.{wrapper}
+use Rattle.rewrite_modules.specs.calls.Instrument.{each, number_init, shown_element, inner_offset, inner_element, shown_elements, new_module, instrument, new_body, new_index, new_exports, new_start, wrapper_type, zero_init}
+use Rattle.rewrite_modules.specs.Interface.{doubled}
+use Rattle.rewrite_modules.specs.calls.FlatCode.{body_of}
+use Rattle.rewrite_modules.specs.calls.Wrappers.{wrapper}
 use Rattle.rewrite_modules.proofs.Links.{get_right, length-each, Ready, is_defined, parts_of, type_is_of, function_type_kept, wrapper_there}
 use Rattle.rewrite_modules.proofs.ValidBodies.{tables_many, wrapper_typed, helper_typed, rewritten_typed}
 use Rattle.rewrite_modules.proofs.WrittenOut.{tree_at}
 use Rattle.rewrite_modules.proofs.BareValid.{all_as}
 use Rattle.rewrite_modules.proofs.Listed.{place_inside, table_has, defines_both, all_distinct, listed}
 use Rattle.pm_text.proofs.Lists.{some_is, get_front}
+use Rattle.wasm_syntax.proofs.Classes.{Constant, holds_value, reads_global, not_constant, constant_of}
 
 -- ---- lists
 
@@ -184,38 +184,13 @@ module _ (p : Program) (ready : Ready p) (valid : Valid p.module_) (typed : Type
 
   -- ---- segments
 
-  const_kept : (i : Instr) (t : ValType) → ConstTypes m.globals i t → ConstTypes m'.globals i t
-  const_kept (instrs.Basic (basics.Const v)) t h = h
-  const_kept (instrs.Basic (basics.GlobalGet x)) t h = (h.0, get_front m.globals _ x h.0 h.1, h.2, h.3)
-  const_kept (instrs.Basic basics.Nop) t h = absurd h
-  const_kept (instrs.Basic basics.Drop) t h = absurd h
-  const_kept (instrs.Basic basics.Select) t h = absurd h
-  const_kept (instrs.Basic (basics.LocalGet x)) t h = absurd h
-  const_kept (instrs.Basic (basics.LocalSet x)) t h = absurd h
-  const_kept (instrs.Basic (basics.LocalTee x)) t h = absurd h
-  const_kept (instrs.Basic (basics.GlobalSet x)) t h = absurd h
-  const_kept (instrs.Basic (basics.Load l al o)) t h = absurd h
-  const_kept (instrs.Basic (basics.Store l al o)) t h = absurd h
-  const_kept (instrs.Basic basics.MemorySize) t h = absurd h
-  const_kept (instrs.Basic basics.MemoryGrow) t h = absurd h
-  const_kept (instrs.Basic basics.MemoryCopy) t h = absurd h
-  const_kept (instrs.Basic basics.MemoryFill) t h = absurd h
-  const_kept (instrs.Basic (basics.Eqz u)) t h = absurd h
-  const_kept (instrs.Basic (basics.Unary u op)) t h = absurd h
-  const_kept (instrs.Basic (basics.Compare u op)) t h = absurd h
-  const_kept (instrs.Basic (basics.Binary u op)) t h = absurd h
-  const_kept (instrs.Basic (basics.Convert c)) t h = absurd h
-  const_kept (instrs.Basic (basics.Extend32 c)) t h = absurd h
-  const_kept (instrs.Basic (basics.Extend64 c)) t h = absurd h
-  const_kept (instrs.Jump j) t h = absurd h
-  const_kept (instrs.Block b) t h = absurd h
-  const_kept (instrs.Loop b) t h = absurd h
-  const_kept (instrs.If b) t h = absurd h
-  const_kept instrs.Else t h = absurd h
-  const_kept instrs.End t h = absurd h
+  const_kept : (i : Instr) (t : ValType) → Constant i → ConstTypes m.globals i t → ConstTypes m'.globals i t
+  const_kept i t (holds_value v) h = h
+  const_kept i t (reads_global x) h = (h.0, get_front m.globals _ x h.0 h.1, h.2, h.3)
+  const_kept i t (not_constant none never) h = absurd (never m.globals t h)
 
   body_kept : (b : Body) (t : ValType) → ConstBody m.globals b t → ConstBody m'.globals b t
-  body_kept b t h = (h.0, h.1, const_kept h.0 t h.2)
+  body_kept b t h = (h.0, h.1, const_kept h.0 t (constant_of h.0) h.2)
 
   mapped_inside : (f : ℕ) → f < length (function_types m) → mapped m f < length (function_types m')
   mapped_inside f lt = let t = has_type m valid f lt in type_inside m' (mapped m f) t.0 (function_type_kept p ready f t.0 t.1)

@@ -1,4 +1,6 @@
 -- One invocation by its wrapper.
+use Rattle.rewrite_bodies.specs.calls.Landings.{landings_from, with_landings}
+use Rattle.rewrite_bodies.proofs.Laid.{few_landings, room_landed, into_body}
 use Rattle.std.proofs.Common.{◌≡◌, ℕ, zero, suc, ◌+◌, ◌*◌, ◌<◌, ◌≤◌, List, [], ◌∷◌, ◌++◌, length, reverse, Option, Some, true, nat_lt, refl, sym, ap, ap₂, ◌∙◌, subst, subst₂, arith, append_assoc, append-nil, length-append, ◌⊎◌, inl, inr, slice_get, lt-ltb, mul-le-mul_right}
 use Rattle.wasm_syntax.specs.declared.value.ValType.{ValType}
 use Rattle.wasm_syntax.specs.declared.value.Value.{Value}
@@ -14,10 +16,10 @@ use Rattle.wasm_syntax.specs.Host.{World}
 use Rattle.wasm_syntax.specs.declared.host.CollectorCall.{CollectorCall}
 use Rattle.wasm_syntax.specs.declared.host.CollectorCall.TheVariants as collector_calls
 use Rattle.wasm_syntax.specs.Machine.{returns, Config, label, frame, config, Engine, Stepped, next, ends, traps, no_reply, bad_reply, stuck, parts, cut, exactly, zeros, result_of, entered, step}
-use Rattle.rewrite_bodies.specs.Slots.{Ctx, added, ctx_of}
+use Rattle.rewrite_bodies.specs.calls.Slots.{Ctx, added, ctx_of}
 use Rattle.rewrite_bodies.specs.Numbering.{mapped, frame_import, flag_of, global_types}
-use Rattle.rewrite_bodies.specs.Pieces.{const, i32, call, if_any, tree_of}
-use Rattle.rewrite_bodies.specs.Rewrite.{body}
+use Rattle.rewrite_bodies.specs.calls.Pieces.{const, i32, call, if_any, tree_of}
+use Rattle.rewrite_bodies.specs.calls.Rewrite.{body}
 use Rattle.std.proofs.lemmas.List.{length-map, reverse-append, reverse-reverse, length-reverse}
 use Rattle.rewrite_bodies.specs.calls.Steps.{went, run, Gets, To, Shell, st}
 use Rattle.rewrite_bodies.proofs.Run.{still, one_step, seq, weaken, push_to, get_to}
@@ -31,7 +33,7 @@ use Rattle.rewrite_bodies.proofs.Control.{get_last}
 use Rattle.rewrite_bodies.proofs.Unwind.{value_to, entry_to, put_last, get_middle}
 use Rattle.rewrite_bodies.proofs.Calls.{types-locals, new_locals}
 use Rattle.wasm_syntax.specs.Run.{Ended, ended, run_on, run_steps}
-use Rattle.rewrite_modules.specs.Wrappers.{get_all, tell_globals, end_of_dump, after_wrapped, wrapper_nodes}
+use Rattle.rewrite_modules.specs.calls.Wrappers.{get_all, tell_globals, end_of_dump, after_wrapped, wrapper_nodes}
 use Rattle.rewrite_modules.proofs.Runs.{ReachS, AllMade, run_sim}
 use Rattle.wasm_laws.proofs.Progress.{zero_types}
 use Rattle.wasm_syntax.proofs.Types.{same_types_refl}
@@ -186,8 +188,12 @@ module _ (M M' : Engine) (E : ℕ) (gl : List ValType) (S : Stands M M' E gl) (g
     abbrev pub W : Wrap
     W = record { idx = wi; result = result_of type; locals = args; rest = after_wrapped m }
 
+    -- with its landings
+    abbrev pub D : Ctx
+    D = with_landings C tree.nodes
+
     abbrev pub w0 : Wit
-    w0 = wit C (zeros (added k.slots)) ([] ∷ [])
+    w0 = wit D (zeros (added k.slots)) ([] ∷ [])
 
     abbrev pub wtree : Tree
     wtree = tree_of (wrapper_nodes m f (length type.params))
@@ -199,9 +205,9 @@ module _ (M M' : Engine) (E : ℕ) (gl : List ValType) (S : Stands M M' E gl) (g
     target = config (entered wi wb wtree type args ∷ []) (flagged M g (values.I32 up)) []
 
     pub fits : FitsConfig M E gl W.result source (w0 ∷ [])
-    fits = (wf, (record { size = types-locals args type.params (declared_locals b.groups) ty; room = zero_types (added k.slots); idx = refl; result = refl; funcs = refl; base = refl; helpers = refl; flag = sym gm; small = k.small; narrow = k.narrow; labels = (tt, tt, k.room, refl, tt); no_kind = tt }, refl))
+    fits = (wf, (record { size = types-locals args type.params (declared_locals b.groups) ty; room = zero_types (added k.slots); idx = refl; result = refl; funcs = refl; base = refl; helpers = refl; flag = sym gm; small = k.small; narrow = k.narrow; labels = (tt, tt, room_landed C (landings_from C [] tree.nodes []) [] tree.nodes k.room, refl, tt); no_kind = tt }, refl))
 
-    pub begin : To M' 1 (length type.params + 10) target (image M W source (w0 ∷ []))
+    pub begin : To M' 1 (length type.params + 33) target (image M W source (w0 ∷ []))
     begin =
         let X : Shell = record { idx = wi; result = result_of type; kind = returns (result_of type); below = []; frames = [] } in
         let n = length type.params in
@@ -224,8 +230,8 @@ module _ (M M' : Engine) (E : ℕ) (gl : List ValType) (S : Stands M M' E gl) (g
         let tys : same_types (types args) type.params ≡ true = ap (λ z. same_types z type.params) ty ∙ same_types_refl type.params in
         let locals : args ++ zeros (declared_locals k.new.groups) ≡ (args ++ zeros (declared_locals b.groups)) ++ ex = new_locals args (declared_locals k.new.groups) (declared_locals b.groups) (added k.slots) k.locals in
         let s4 : To M' 1 1 (st X args (reverse args) kc g0 []) mid = one_step M' _ _ (rw (k.target, whole, twice, tys, depth, locals) refl) in
-        let s5 : To M' 2 2 mid (image M W source (w0 ∷ [])) = seq M' (one_step M' mid _ refl) (one_step M' _ _ refl) in
-        subst (λ z. To M' 1 (length type.params + 10) (config (z ∷ []) gu []) (image M W source (w0 ∷ []))) (sym noted) (weaken M' (seq M' s1 (seq M' s2 (seq M' s3 (seq M' s4 s5)))) (omega arith) (omega arith))
+        let s5 : To M' 0 25 mid (image M W source (w0 ∷ [])) = into_body M' (mapped m f) (result_of type) ((args ++ zeros (declared_locals b.groups)) ++ ex) (caller ∷ []) g0 [] D tree.nodes (few_landings C [] tree.nodes [] (omega arith)) in
+        subst (λ z. To M' 1 (length type.params + 33) (config (z ∷ []) gu []) (image M W source (w0 ∷ []))) (sym noted) (weaken M' (seq M' s1 (seq M' s2 (seq M' s3 (seq M' s4 s5)))) (omega arith) (omega arith))
 
     abbrev pub target_run : ℕ → Ended
     target_run n = run_steps M' n target

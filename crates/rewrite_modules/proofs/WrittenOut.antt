@@ -6,16 +6,16 @@ use Rattle.wasm_syntax.specs.Tree.{Nodes, stop, basic, jump, block, loop, choose
 use Rattle.wasm_syntax.specs.Module.{Program, Function, imported, defined, function_at, AllWrite, IsProgram}
 use Rattle.rewrite_modules.specs.calls.Bare.{bare_nodes, bare_tree, bare}
 use Rattle.wasm_syntax.specs.SameCode.{op_code, body_code, code_alone}
-use Rattle.rewrite_modules.specs.Instrument.{instrument, new_nodes, new_body, new_tree, each}
+use Rattle.rewrite_modules.specs.calls.Instrument.{instrument, new_nodes, new_body, new_tree, each}
 use Rattle.wasm_syntax.specs.declared.parts.LocalGroup.{LocalGroup}
 use Rattle.wasm_syntax.specs.Typing.{body_context}
 use Rattle.rewrite_bodies.specs.Numbering.{import_count, wrapped, helped}
-use Rattle.rewrite_bodies.specs.Slots.{groups, ctx_of, slots_of}
-use Rattle.rewrite_bodies.specs.Pieces.{tree_of}
-use Rattle.rewrite_bodies.specs.Guards.{helper}
-use Rattle.rewrite_bodies.specs.Rewrite.{body}
-use Rattle.rewrite_modules.specs.Wrappers.{wrapper}
-use Rattle.rewrite_modules.specs.FlatCode.{targets_in, body_of}
+use Rattle.rewrite_bodies.specs.calls.Slots.{groups, ctx_of, slots_of}
+use Rattle.rewrite_bodies.specs.calls.Pieces.{tree_of}
+use Rattle.rewrite_bodies.specs.calls.Guards.{helper}
+use Rattle.rewrite_bodies.specs.calls.Rewrite.{body}
+use Rattle.rewrite_modules.specs.calls.Wrappers.{wrapper}
+use Rattle.rewrite_modules.specs.calls.FlatCode.{targets_in, body_of}
 use Rattle.rewrite_modules.proofs.FlatOut.{body_out}
 use Rattle.rewrite_modules.proofs.Arms.{tree_body, tree_wrapper, tree_helper, tree_bare}
 use Rattle.wasm_laws.proofs.OneProgram.{all_same}

@@ -10,7 +10,7 @@ use Rattle.wasm_syntax.specs.Quantity as limits
 use Rattle.wasm_syntax.specs.Sizes.{WithinLimits, local_count, nesting}
 use Rattle.wasm_syntax.specs.Module.{Program, IsModule, type_at}
 use Rattle.wasm_syntax.specs.Valid.{Valid, AtIndex}
-use Rattle.rewrite_bodies.specs.Offsets.{SmallOffset}
+use Rattle.rewrite_bodies.specs.calls.Offsets.{SmallOffset}
 use Rattle.rewrite_modules.specs.Weight.{height_at, AreHeights, weight}
 
 -- a module with the trees that its bodies write out

@@ -1,14 +1,21 @@
 -- What of a module its rewriting keeps for those outside.
-use Rattle.std.specs.Prelude.{◌≡◌, ℕ, ◌+◌, List, [], ◌∷◌, ◌++◌, map, length, take, slice_get, Some, false, codes}
+use Rattle.std.specs.Prelude.{◌≡◌, ℕ, ◌+◌, ◌*◌, List, [], ◌∷◌, ◌++◌, map, option_map, length, take, slice_get, if◌then◌else◌, Some, false, codes}
 use Rattle.wasm_syntax.specs.declared.value.ValType.TheVariants.{I32, I64}
 use Rattle.wasm_syntax.specs.declared.parts.Export.{Export}
 use Rattle.wasm_syntax.specs.declared.parts.ExportKind.{ExportKind}
+use Rattle.wasm_syntax.specs.declared.parts.Limits.{Limits}
 use Rattle.wasm_syntax.specs.declared.module.ModuleParts.{ModuleParts as Module}
 use Rattle.wasm_syntax.specs.Module.{is_function}
 use Rattle.wasm_syntax.specs.Run.{start_table}
-use Rattle.rewrite_bodies.specs.Numbering.{new_entries, value_type, frame_type}
+use Rattle.rewrite_bodies.specs.Numbering.{doubles, new_entries, value_type, frame_type}
 use Rattle.rewrite_modules.specs.Collector.{collector_import, memory_export}
-use Rattle.rewrite_modules.specs.Instrument.{new_tables}
+
+-- twice as long
+abbrev pub doubled : Limits → Limits
+doubled l = record { min = 2 * l.min; max = option_map (λ n. 2 * n) l.max }
+
+abbrev pub new_tables : Module → List Limits
+new_tables m = if doubles m then map doubled m.tables else m.tables
 
 -- The table with its limits, and its entries where an instance starts; or where a host sees it and it is doubled, twice these limits, with a
 -- wrapper in front for each entry, and the entries of the module behind.

@@ -1,7 +1,4 @@
-pub mod Wrappers
-pub mod FlatCode
 pub mod Collector
-pub mod Instrument
 pub mod Simulates
 pub mod Flag
 pub mod Starts

@@ -1,7 +1,6 @@
 -- The weight of a module, by which the bytes of its rewriting are bounded.
 use Rattle.std.specs.Prelude.{◌≡◌, ℕ, suc, ◌+◌, ◌*◌, List, [], ◌∷◌, length, flat_map, slice_get, unwrap_or, if◌then◌else◌, Option, Some, None}
 use Rattle.wasm_syntax.specs.declared.value.ValType.{ValType}
-use Rattle.wasm_syntax.specs.declared.instruction.Basic.TheVariants as basics
 use Rattle.wasm_syntax.specs.declared.instruction.Instr.{Instr}
 use Rattle.wasm_syntax.specs.declared.instruction.Instr.TheVariants as instrs
 use Rattle.wasm_syntax.specs.declared.instruction.Jump.TheVariants as jumps
@@ -15,7 +14,7 @@ use Rattle.wasm_syntax.specs.Run.{table_min}
 use Rattle.wasm_syntax.specs.Sizes.{local_count}
 use Rattle.wasm_syntax.specs.Tree.{code_of}
 use Rattle.wasm_syntax.specs.FlatTyping.{IsLive, TypesBefore}
-use Rattle.rewrite_bodies.specs.Numbering.{entry_weight, distinct}
+use Rattle.rewrite_bodies.specs.Numbering.{entry_weight, extra, distinct}
 
 -- ---- operand heights: a number for each instruction of each function that the module defines
 
@@ -28,12 +27,6 @@ pub record AreHeights (m : Module) (heights : List (List ℕ)) : Type 0 where
   pub dead : (i op : ℕ) (body : Body) → slice_get m.bodies i ≡ Some body → (IsLive (code_of body.targets body.ops) op → ⊥) → height_at heights i op ≡ 0
 
 -- ---- the weight
-
--- the guards of these two are long
-abbrev pub extra : Instr → ℕ
-extra (instrs.Basic basics.MemoryCopy) = 128
-extra (instrs.Basic basics.MemoryFill) = 128
-extra i = 0
 
 -- of an instruction with its encoded length, at this height; `else` and `end` count
 abbrev pub op_weight : Op → ℕ → ℕ

@@ -4,3 +4,6 @@ pub mod Example
 pub mod Given
 pub mod LowSizes
 pub mod Unwinding
+pub mod FlatCode
+pub mod Wrappers
+pub mod Instrument

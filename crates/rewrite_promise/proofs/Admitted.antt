@@ -13,12 +13,12 @@ use Rattle.rewrite_modules.specs.Instrumentable.{program_of, LightEnough}
 use Rattle.rewrite_modules.specs.Interface.{KeepsInterface}
 use Rattle.rewrite_modules.specs.Multiple.{multiple}
 use Rattle.rewrite_modules.proofs.BareHeights.{same_heights}
-use Rattle.rewrite_modules.proofs.BareRuns.{simulates_bare, starts_bare}
-use Rattle.rewrite_modules.proofs.BareCalls.{entries_bare}
+use Rattle.rewrite_modules.proofs.BareRuns.{simulates_bare, starts_bare, lowers_bare}
+use Rattle.rewrite_modules.proofs.BareCalls.{entries_bare, entries_lower_bare}
 use Rattle.rewrite_promise.proofs.Outside.{table_same}
 use Rattle.rewrite_modules.proofs.BareValid.{same_valid}
 use Rattle.rewrite_modules.proofs.WrittenOut.{program_bare, same_bare}
-use Rattle.rewrite_promise.specs.Promise.{Promised}
+use Rattle.rewrite_promise.specs.calls.Promise.{Promised}
 use Rattle.rewrite_promise.specs.Outside.{KeepsOutside, ExportsFunction, KeepsFunctions}
 use Rattle.rewrite_promise.specs.Admitted.{Admits}
 use Rattle.rewrite_promise.proofs.Decoded.{whole, limits}
@@ -49,12 +49,15 @@ admits m other light p d are =
       whole = p.whole;
       heights = light.heights;
       heights_are = light.heights_are;
+      are_bytes = are;
       decoded = decoded;
       is = d.is;
       decoded_whole = too;
       simulates = simulates_bare (multiple m light.heights) (program_of m p.whole) q r bares (p.simulates light.heights light.heights_are);
       starts = starts_bare (multiple m light.heights) (program_of m p.whole) q r bares (p.starts light.heights light.heights_are);
       entries = entries_bare (multiple m light.heights) (program_of m p.whole) q r bares (p.entries light.heights light.heights_are);
+      lowers = lowers_bare (program_of m p.whole) q r bares p.lowers;
+      entries_lower = entries_lower_bare (program_of m p.whole) q r bares p.entries_lower;
       valid = valid;
       within = limits bytes decoded are d.is;
       low = all_low decoded (same_heights other decoded same (low_heights other p.low));

@@ -10,9 +10,9 @@ use Rattle.wasm_syntax.specs.Machine.{result_of}
 use Rattle.wasm_syntax.specs.Sizes.{local_count}
 use Rattle.wasm_syntax.specs.Typing.{Types}
 use Rattle.wasm_encode.specs.Encoding.{import_bytes}
-use Rattle.wasm_format_laws.specs.Sized.{OpsSized, Sized}
+use Rattle.wasm_format_laws.specs.calls.Sized.{OpsSized, Sized}
 use Rattle.rewrite_bodies.specs.Numbering.{import_count}
-use Rattle.rewrite_bodies.specs.Slots.{ctx_of, slots_of}
+use Rattle.rewrite_bodies.specs.calls.Slots.{ctx_of, slots_of}
 use Rattle.rewrite_bodies.specs.calls.Typed.{in_body, original}
 use Rattle.rewrite_bodies.specs.calls.Length.{code_length}
 use Rattle.rewrite_bodies.proofs.LengthsNodes.{bodies_short}
@@ -20,7 +20,7 @@ use Rattle.rewrite_bodies.proofs.TypedPieces.{at_labels}
 use Rattle.wasm_laws.proofs.Lists.{at_of}
 use Rattle.wasm_laws.proofs.Safe.{Typed, one_result}
 use Rattle.rewrite_modules.specs.calls.Given.{Given}
-use Rattle.rewrite_modules.specs.Instrument.{new_nodes}
+use Rattle.rewrite_modules.specs.calls.Instrument.{new_nodes}
 use Rattle.rewrite_modules.specs.Instrumentable.{program_of, Instrumentable}
 use Rattle.rewrite_modules.specs.Weight.{height_at, ops_weight, bodies_weight}
 use Rattle.rewrite_modules.proofs.Bounds.{room_of}

@@ -12,7 +12,7 @@ use Rattle.wasm_decode.proofs.Sounds.{module_is, decoded_within}
 use Rattle.wasm_format_laws.proofs.Whole.{decoded as decoded_sized}
 use Rattle.rewrite_modules.specs.Instrumentable.{Instrumentable}
 use Rattle.rewrite_promise.proofs.Spelled as sizes
-use Rattle.rewrite_promise.specs.Promise.{Accepted, AcceptedBytes}
+use Rattle.rewrite_promise.specs.calls.Promise.{Accepted, AcceptedBytes}
 
 pub spelled : (bytes : List ℕ) (m : Module) → IsBytes bytes → module_from bytes ≡ Ok m → IsModuleOf bytes m
 spelled bytes m fits e = (found_exactly bytes (Ok m) fits (sym e) m).only refl

@@ -7,7 +7,7 @@ use Rattle.wasm_bytes.specs.Laws.{IsBytes}
 use Rattle.wasm_bytes.specs.Reading.{byte_item, one_of_item, fixed_item, bytes_item, u32_item, run_item, sized_run_item, name_item, block_item, end_item, choose, items_from, vector_item, steps_from, steps_until_end, steps_to_end, steps_while_due, steps_until_done}
 use Rattle.wasm_format.specs.Table.{numeric, form_of}
 use Rattle.wasm_format.specs.Reading.{instruction_item, code_item, instr_at}
-use Rattle.wasm_format.specs.Notes.{noted_vector_item}
+use Rattle.wasm_bytes.specs.Notes.{noted_vector_item}
 use Rattle.wasm_format.specs.Form.{valtype_item, functype_item, export_kind_item, export_item, group_step, locals_item}
 use Rattle.wasm_format.specs.Expressions.{instr_step, expression_from, expression_item}
 use Rattle.wasm_format.specs.Expressions.{code_item as body_item}
@@ -15,7 +15,7 @@ use Rattle.wasm_format.specs.Sections.{bodies_item, contents_item, section_step,
 use Rattle.wasm_decode.specs.Decode.{module_of, too_much, refusal, module_from}
 use Rattle.rewrite_modules.specs.calls.Example.{divider}
 use Rattle.rewrite_modules.proofs.Divider.{instrumentable}
-use Rattle.rewrite_promise.specs.Promise.{AcceptedBytes}
+use Rattle.rewrite_promise.specs.calls.Promise.{AcceptedBytes}
 use Rattle.rewrite_promise.specs.calls.Example.{divider_bytes}
 
 is_decoded : module_from divider_bytes ≡ Ok divider.module_

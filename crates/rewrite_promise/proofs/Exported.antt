@@ -5,7 +5,7 @@ use Rattle.wasm_syntax.specs.declared.module.ModuleParts.{ModuleParts as Module}
 use Rattle.wasm_syntax.specs.Module.{Program, type_at}
 use Rattle.rewrite_bodies.specs.Numbering.{mapped, wrapper_base}
 use Rattle.wasm_syntax.specs.SameCode.{code_alone}
-use Rattle.rewrite_modules.specs.Instrument.{instrument, new_module}
+use Rattle.rewrite_modules.specs.calls.Instrument.{instrument, new_module}
 use Rattle.rewrite_modules.proofs.Links.{Ready, type_is_of, function_type_kept, wrapper_there}
 use Rattle.rewrite_modules.proofs.Start.{Outside, named}
 use Rattle.rewrite_promise.specs.Outside.{ExportsFunction, KeepsFunctions}

@@ -2,8 +2,6 @@
 use Rattle.std.proofs.Common.{◌≡◌, ℕ, zero, suc, ◌+◌, ◌^◌, ◌<◌, Bool, true, false, List, [], ◌∷◌, ◌++◌, length, map, Option, Some, None, refl, sym, subst, inl, inr}
 use Rattle.std.specs.Prelude.{◌==◌, nat_le, if◌then◌else◌}
 use Rattle.std.specs.List.{AllByRecursion}
-use Rattle.int_ops.specs.declared.operators.Narrow32.TheVariants as narrow32
-use Rattle.int_ops.specs.declared.operators.Narrow64.TheVariants as narrow64
 use Rattle.wasm_syntax.specs.declared.value.ValType.{ValType}
 use Rattle.wasm_syntax.specs.declared.value.ValType.TheVariants.{I32, I64}
 use Rattle.wasm_syntax.specs.declared.instruction.Convert.TheVariants.{Wrap, ExtendS, ExtendU}
@@ -21,6 +19,7 @@ use Rattle.wasm_format.specs.Expressions.{stand_in, code_of}
 use Rattle.wasm_format.proofs.Shortest.{unsigned_small}
 use Rattle.wasm_leb.proofs.Tools.{chosen}
 use Rattle.wasm_bytes.specs.Tables.{lookup, rows_from}
+use Rattle.wasm_format.proofs.Shortest.{last_forms}
 
 abbrev pub CodeSmall : Code → Type 0
 CodeSmall (Known i) = SmallInstr i
@@ -117,11 +116,6 @@ operators_small t =
     small_append (map (λ op. basic (basics.Unary t op)) unaries) (map (λ op. basic (basics.Binary t op)) operations)
     (small_map (λ op. basic (basics.Unary t op)) (λ op. tt) unaries)
     (small_map (λ op. basic (basics.Binary t op)) (λ op. tt) operations)
-
-last_forms : List Form
-last_forms =
-    basic (basics.Extend32 narrow32.Eight) ∷ basic (basics.Extend32 narrow32.Sixteen)
-    ∷ basic (basics.Extend64 narrow64.Eight) ∷ basic (basics.Extend64 narrow64.Sixteen) ∷ basic (basics.Extend64 narrow64.ThirtyTwo) ∷ []
 
 last_small : FormsSmall last_forms
 unfolding last_forms

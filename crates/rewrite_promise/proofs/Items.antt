@@ -1,39 +1,28 @@
 -- The bytes of flat code are those of its tree.
-use Rattle.std.proofs.Common.{◌≡◌, ℕ, zero, suc, ◌+◌, ◌≤◌, List, [], ◌∷◌, ◌++◌, length, flat_map, take, drop, Option, Some, None, refl, sym, ap, ap₂, ◌∙◌, arith, length-append, append_assoc, append-nil, slice_get, map, option_to_list, true}
+use Rattle.std.proofs.Common.{◌≡◌, ℕ, ◌+◌, ◌≤◌, List, [], ◌∷◌, ◌++◌, length, Option, Some, None, refl, sym, ap, ◌∙◌, arith, length-append, append_assoc, append-nil, slice_get, map, option_to_list, true}
 use Rattle.std.proofs.lemmas.List.{length-map}
 use Rattle.std.proofs.Math.Nat.{max-le}
 use Rattle.wasm_leb.specs.Writing.{unsigned_bytes}
-use Rattle.int_ops.specs.declared.operators.Narrow32.TheVariants as narrow32
-use Rattle.int_ops.specs.declared.operators.Narrow64.TheVariants as narrow64
 use Rattle.wasm_syntax.specs.declared.value.ValType.{ValType}
-use Rattle.wasm_syntax.specs.declared.value.Value.TheVariants as values
 use Rattle.wasm_syntax.specs.declared.instruction.Basic.{Basic}
-use Rattle.wasm_syntax.specs.declared.instruction.Basic.TheVariants.{Nop, Drop, Select, LocalGet, LocalSet, LocalTee, GlobalGet, GlobalSet, Load, Store, MemorySize, MemoryGrow, MemoryCopy, MemoryFill, Const, Eqz, Unary, Compare, Binary, Convert, Extend32, Extend64}
-use Rattle.wasm_syntax.specs.declared.instruction.Jump.{Jump as FlatJump}
-use Rattle.wasm_syntax.specs.declared.instruction.Jump.TheVariants as flat
-use Rattle.wasm_syntax.specs.declared.instruction.Instr.{Instr}
 use Rattle.wasm_syntax.specs.declared.instruction.Instr.TheVariants as instrs
 use Rattle.wasm_syntax.specs.declared.instruction.Op.{Op}
 use Rattle.wasm_syntax.specs.declared.parts.LocalGroup.{LocalGroup}
 use Rattle.wasm_syntax.specs.declared.parts.Body.{Body}
 use Rattle.wasm_syntax.specs.declared.parts.FuncType.{FuncType}
-use Rattle.wasm_syntax.specs.Tree.{Jump, Unreachable, Br, BrIf, BrTable, Return, Call, CallIndirect, Nodes, stop, basic, jump, block, loop, choose, Tree, Item, Plain, Goes, Opens, OpensLoop, OpensIf, Else, End, Placed, placed, else_out, write, item_of, jump_of, code_of, Writes}
-use Rattle.wasm_syntax.specs.Module.{AllWrite, type_at}
+use Rattle.wasm_syntax.specs.Tree.{Jump, Unreachable, Br, BrIf, BrTable, Return, Call, CallIndirect, Nodes, stop, basic, jump, block, loop, choose, Tree, End, Placed, placed, else_out, write, code_of, Writes}
+use Rattle.wasm_syntax.specs.Module.{type_at}
 use Rattle.wasm_syntax.specs.Machine.{result_of}
-use Rattle.wasm_format.specs.Encoding.{labels_bytes, jump_bytes, encoding}
+use Rattle.wasm_format.specs.Encoding.{labels_bytes, encoding}
 use Rattle.wasm_encode.specs.Encoding.{expression_bytes}
-use Rattle.wasm_format_laws.proofs.Measures.{number_rises}
-use Rattle.rewrite_bodies.specs.Numbering.{uses}
-use Rattle.rewrite_bodies.specs.Slots.{Place, place_type, Ctx, less, grown, uncopied, under, after_plain, result_type, behind_call, behind_jump, peak}
+use Rattle.rewrite_bodies.specs.calls.Slots.{Place, place_type, Ctx, less, grown, uncopied, under, after_plain, result_type, behind_call, behind_jump, peak}
 use Rattle.rewrite_bodies.proofs.TypedNodes.{after_types}
 use Rattle.wasm_syntax.specs.Effect.{takes}
-use Rattle.rewrite_bodies.specs.calls.Length.{basic_length, jump_length, else_length, code_length}
-use Rattle.rewrite_modules.specs.FlatCode.{targets_in, op, else_op, ops_in, body_of}
-use Rattle.rewrite_modules.specs.Weight.{type_used}
-use Rattle.wasm_format_laws.proofs.Totals.{total, total-append, flat_total}
+use Rattle.rewrite_bodies.specs.calls.Length.{jump_length, else_length, code_length}
+use Rattle.rewrite_modules.specs.calls.FlatCode.{targets_in, op, else_op, ops_in, body_of}
+use Rattle.wasm_format_laws.proofs.Totals.{total, total-append}
 use Rattle.rewrite_bodies.proofs.Unwind.{less_shorter}
 use Rattle.rewrite_modules.proofs.FlatOut.{taken}
-use Rattle.wasm_format.proofs.Shortest.{labels_length}
 use Rattle.rewrite_modules.proofs.CodeLengths.{item_length, item_short, ops_bytes, expression_total, basic_some}
 
 -- ---- an expression holds its tree

@@ -6,11 +6,11 @@ use Rattle.wasm_syntax.specs.Sizes.{WithinLimits}
 use Rattle.wasm_syntax.specs.Valid.{Valid}
 use Rattle.wasm_validate.specs.Heights.{AllLow}
 use Rattle.wasm_encode.specs.Encoding.{encoding}
-use Rattle.wasm_format_laws.specs.Sized.{Sized}
+use Rattle.wasm_format_laws.specs.calls.Sized.{Sized}
 use Rattle.wasm_syntax.specs.SameCode.{code_alone}
 use Rattle.rewrite_modules.specs.calls.Bare.{bare}
 use Rattle.rewrite_modules.specs.calls.Given.{Given}
-use Rattle.rewrite_modules.specs.Instrument.{instrument, new_module}
+use Rattle.rewrite_modules.specs.calls.Instrument.{instrument, new_module}
 use Rattle.rewrite_modules.specs.Multiple.{multiple}
 use Rattle.rewrite_modules.specs.Instrumentable.{program_of, Instrumentable}
 use Rattle.rewrite_modules.specs.Simulates.{Simulates}
@@ -29,7 +29,7 @@ use Rattle.rewrite_modules.proofs.ValidModule.{new_valid}
 use Rattle.rewrite_modules.proofs.WrittenOut.{program_bare, same_bare, instrument_bare}
 use Rattle.rewrite_promise.proofs.Lists.{within}
 use Rattle.rewrite_promise.proofs.Whole.{encoding_weighs}
-use Rattle.rewrite_promise.specs.Promise.{Accepted, IsRewriting, Promised}
+use Rattle.rewrite_promise.specs.calls.Promise.{Accepted, IsRewriting, Promised}
 use Rattle.rewrite_promise.proofs.Decoded.{with_trees}
 use Rattle.rewrite_promise.proofs.Exported.{functions_kept}
 use Rattle.rewrite_promise.proofs.Heights.{one_weight}

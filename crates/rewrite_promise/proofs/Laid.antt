@@ -25,14 +25,14 @@ use Rattle.wasm_laws.proofs.Lists.{all_append, all_map}
 use Rattle.wasm_syntax.specs.declared.parts.ElementSeg.{ElementSeg}
 use Rattle.wasm_syntax.specs.Run.{table_min, element_at}
 use Rattle.rewrite_bodies.specs.Numbering.{import_count, mapped, wraps, wrapped, doubles, helped}
-use Rattle.rewrite_bodies.specs.Slots.{groups, slots_of}
-use Rattle.rewrite_bodies.specs.Pieces.{i32}
-use Rattle.rewrite_bodies.specs.Guards.{helper}
+use Rattle.rewrite_bodies.specs.calls.Slots.{groups, slots_of}
+use Rattle.rewrite_bodies.specs.calls.Pieces.{i32}
+use Rattle.rewrite_bodies.specs.calls.Guards.{helper}
 use Rattle.wasm_syntax.specs.SameCode.{op_code, body_code, global_code, element_code, code_alone}
-use Rattle.rewrite_modules.specs.FlatCode.{targets_in, op, else_op, ops_in, body_of}
+use Rattle.rewrite_modules.specs.calls.FlatCode.{targets_in, op, else_op, ops_in, body_of}
 use Rattle.rewrite_modules.specs.Collector.{memory_export}
-use Rattle.rewrite_modules.specs.Instrument.{new_nodes, new_body, each, number_init, zero_init, shown_element, inner_element, shown_elements, new_exports, wrapper_type, new_module}
-use Rattle.rewrite_modules.specs.Wrappers.{wrapper}
+use Rattle.rewrite_modules.specs.calls.Instrument.{new_nodes, new_body, each, number_init, zero_init, shown_element, inner_element, shown_elements, new_exports, wrapper_type, new_module}
+use Rattle.rewrite_modules.specs.calls.Wrappers.{wrapper}
 use Rattle.rewrite_modules.proofs.FineBodies.{fine_at, gives_one}
 use Rattle.rewrite_modules.proofs.Links.{length-each}
 

@@ -12,11 +12,11 @@ use Rattle.wasm_syntax.specs.Sizes.{local_count, nesting, deepest}
 use Rattle.wasm_syntax.specs.Valid.{Valid}
 use Rattle.wasm_syntax.specs.SameCode.{body_code, code_alone}
 use Rattle.wasm_encode.specs.Encoding.{entry_bytes, function_bytes}
-use Rattle.wasm_format_laws.specs.Sized.{Sized}
+use Rattle.wasm_format_laws.specs.calls.Sized.{Sized}
 use Rattle.wasm_laws.proofs.Lists.{at_of}
 use Rattle.pm_text.proofs.Lists.{some_is, get_front}
 use Rattle.rewrite_bodies.specs.Numbering.{import_count}
-use Rattle.rewrite_modules.specs.Instrument.{instrument, new_module, new_body}
+use Rattle.rewrite_modules.specs.calls.Instrument.{instrument, new_module, new_body}
 use Rattle.rewrite_modules.specs.Instrumentable.{program_of, Instrumentable}
 use Rattle.rewrite_modules.specs.Weight.{height_at, AreHeights, ops_weight}
 use Rattle.rewrite_modules.specs.calls.Bare.{bare}
@@ -30,7 +30,7 @@ use Rattle.rewrite_modules.proofs.Theorem.{startable_given, ready_given}
 use Rattle.rewrite_modules.proofs.Unwinding.{unwinds}
 use Rattle.rewrite_modules.proofs.ValidModule.{new_valid}
 use Rattle.rewrite_modules.proofs.WrittenOut.{program_bare, same_bare, instrument_bare}
-use Rattle.rewrite_promise.specs.Promise.{Accepted, IsRewriting}
+use Rattle.rewrite_promise.specs.calls.Promise.{Accepted, IsRewriting}
 use Rattle.rewrite_promise.specs.calls.Layers.{share, BodyPromised, Layered}
 use Rattle.rewrite_promise.proofs.Decoded.{with_trees}
 use Rattle.rewrite_promise.proofs.Heights.{same_ops, same_height}

@@ -18,19 +18,20 @@ use Rattle.wasm_syntax.specs.Module.{Program, Function, imported, defined, funct
 use Rattle.wasm_syntax.specs.Sizes.{Short, ShortBody, ShortType, ShortElement, ShortData, ShortLists, WithinLimits}
 use Rattle.wasm_format.specs.Encoding.{encoding as instruction_bytes, labels_bytes}
 use Rattle.wasm_encode.specs.Encoding.{vector_bytes, sized_bytes, group_bytes, function_type_bytes, import_bytes, kind_byte, global_bytes, export_bytes, element_bytes, expression_bytes, entry_bytes}
-use Rattle.wasm_format_laws.specs.Sized.{Sized}
+use Rattle.wasm_format_laws.specs.calls.Sized.{Sized}
 use Rattle.wasm_syntax.specs.Run.{table_min, element_at}
 use Rattle.rewrite_bodies.specs.Numbering.{import_count, mapped, shown, wraps, wrapped, doubles, helped}
-use Rattle.rewrite_bodies.specs.Slots.{groups, slots_of}
-use Rattle.rewrite_bodies.specs.Guards.{helper}
+use Rattle.rewrite_bodies.specs.calls.Slots.{groups, slots_of}
+use Rattle.rewrite_bodies.specs.calls.Guards.{helper}
 use Rattle.rewrite_bodies.specs.calls.Length.{jump_length, code_length}
 use Rattle.wasm_laws.proofs.Lists.{all_append, all_map}
 use Rattle.wasm_syntax.specs.SameCode.{op_code, body_code, global_code, element_code, segment_code, code_alone}
-use Rattle.rewrite_modules.specs.FlatCode.{targets_in, body_of}
+use Rattle.rewrite_modules.specs.calls.FlatCode.{targets_in, body_of}
 use Rattle.rewrite_modules.specs.Collector.{memory_export}
-use Rattle.rewrite_modules.specs.Instrument.{new_nodes, new_body, each, number_init, doubled, new_tables, shown_element, inner_offset, inner_element, shown_elements, new_exports, new_module}
+use Rattle.rewrite_modules.specs.calls.Instrument.{new_nodes, new_body, each, number_init, shown_element, inner_offset, inner_element, shown_elements, new_exports, new_module}
+use Rattle.rewrite_modules.specs.Interface.{doubled, new_tables}
 use Rattle.rewrite_modules.specs.Instrumentable.{program_of, Instrumentable}
-use Rattle.rewrite_modules.specs.Wrappers.{wrapper}
+use Rattle.rewrite_modules.specs.calls.Wrappers.{wrapper}
 use Rattle.rewrite_modules.proofs.BareValid.{same_sizes, all_as}
 use Rattle.rewrite_modules.proofs.NewSizes.{new_sizes}
 use Rattle.wasm_format_laws.proofs.Numbers.{some_bytes}

@@ -6,7 +6,8 @@ use Rattle.wasm_syntax.specs.declared.parts.Body.{Body}
 use Rattle.wasm_syntax.specs.declared.module.ModuleParts.{ModuleParts as Module}
 use Rattle.wasm_syntax.specs.Module.{type_at, option_then}
 use Rattle.wasm_syntax.specs.FlatTyping.{TypesBefore}
-use Rattle.wasm_validate.specs.Heights.{body_of, AllLow}
+use Rattle.wasm_syntax.specs.Valid.{body_of}
+use Rattle.wasm_validate.specs.Heights.{AllLow}
 use Rattle.rewrite_modules.specs.calls.LowSizes.{LowHeights}
 use Rattle.pm_text.proofs.Lists.{some_is}
 use Rattle.wasm_syntax.proofs.Bodies.{index_of}

@@ -8,7 +8,7 @@ use Rattle.wasm_syntax.specs.declared.parts.Body.{Body}
 use Rattle.wasm_syntax.specs.declared.module.ModuleParts.{ModuleParts as Module}
 use Rattle.wasm_format.specs.Encoding.{BasicFits, NumbersFit, IsCode}
 use Rattle.wasm_encode.specs.calls.Fits.{FitsBody, FitsModule}
-use Rattle.rewrite_bodies.specs.Offsets.{SmallOffset}
+use Rattle.rewrite_bodies.specs.calls.Offsets.{SmallOffset}
 use Rattle.rewrite_modules.specs.Instrumentable.{SmallInstr}
 use Rattle.rewrite_promise.specs.calls.Light.{SmallOffsets}
 use Rattle.rewrite_modules.proofs.BareValid.{all_as}

@@ -8,7 +8,7 @@ use Rattle.wasm_syntax.specs.declared.parts.Global.{Global}
 use Rattle.wasm_syntax.specs.declared.module.ModuleParts.{ModuleParts as Module}
 use Rattle.wasm_syntax.specs.Module.{Program}
 use Rattle.wasm_syntax.specs.SameCode.{global_code, segment_code, code_alone}
-use Rattle.rewrite_modules.specs.Instrument.{zero_init, new_module}
+use Rattle.rewrite_modules.specs.calls.Instrument.{zero_init, new_module}
 use Rattle.rewrite_modules.specs.Interface.{KeepsInterface, KeepsTable}
 use Rattle.rewrite_modules.proofs.Interface.{interface, table_kept}
 use Rattle.rewrite_modules.proofs.BareRuns.{table_bare}

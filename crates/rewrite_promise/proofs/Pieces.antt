@@ -16,13 +16,13 @@ use Rattle.wasm_syntax.specs.Sizes.{parameter_count}
 use Rattle.wasm_encode.specs.Encoding.{vector_bytes, value_type_bytes, group_bytes, function_bytes, entry_bytes, expression_bytes}
 use Rattle.wasm_format_laws.proofs.Measures.{sized_length}
 use Rattle.rewrite_bodies.specs.Numbering.{import_count, mapped, value_import, frame_import, flag_of, global_types}
-use Rattle.rewrite_bodies.specs.Slots.{group, groups}
-use Rattle.rewrite_bodies.specs.Pieces.{const, i32, call, if_any}
-use Rattle.rewrite_bodies.specs.Guards.{first_table, type_label, entry_label, says, helper}
+use Rattle.rewrite_bodies.specs.calls.Slots.{group, groups}
+use Rattle.rewrite_bodies.specs.calls.Pieces.{const, i32, call, if_any}
+use Rattle.rewrite_bodies.specs.calls.Guards.{first_table, type_label, entry_label, says, helper}
 use Rattle.rewrite_bodies.specs.calls.Length.{code_length, jump_length}
 use Rattle.rewrite_bodies.proofs.Lengths.{len_const, len_call, len_global_get, len_global_set}
-use Rattle.rewrite_modules.specs.FlatCode.{body_of}
-use Rattle.rewrite_modules.specs.Wrappers.{get_all, tell_globals, lower_flag, end_of_dump, after_wrapped, wrapper}
+use Rattle.rewrite_modules.specs.calls.FlatCode.{body_of}
+use Rattle.rewrite_modules.specs.calls.Wrappers.{get_all, tell_globals, lower_flag, end_of_dump, after_wrapped, wrapper}
 use Rattle.wasm_format_laws.proofs.Numbers.{some_bytes, few_bytes, single_byte, four_bytes}
 use Rattle.wasm_format_laws.proofs.Totals.{total, total-append, total_many, vector_total}
 use Rattle.rewrite_promise.proofs.Items.{new_expression}

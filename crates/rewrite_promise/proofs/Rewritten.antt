@@ -16,15 +16,16 @@ use Rattle.wasm_syntax.specs.declared.instruction.Op.{Op}
 use Rattle.wasm_syntax.specs.declared.parts.Body.{Body}
 use Rattle.wasm_syntax.specs.declared.module.ModuleParts.{ModuleParts as Module}
 use Rattle.wasm_syntax.specs.Module.{InOrder, IsModule}
+use Rattle.wasm_syntax.specs.Numbers.{IsValue}
 use Rattle.wasm_laws.proofs.Lists.{all_take, all_drop}
-use Rattle.wasm_format.specs.Encoding.{encoding as instruction_bytes, ValueFits, BasicFits, JumpFits, NumbersFit, IsInside, IsCode, targets_of}
+use Rattle.wasm_format.specs.Encoding.{encoding as instruction_bytes, BasicFits, JumpFits, NumbersFit, IsInside, IsCode, targets_of}
 use Rattle.wasm_encode.specs.Encoding.{type_byte, value_type_bytes, function_type_bytes, mutability_byte, import_bytes, global_bytes, expression_bytes, kind_byte, export_bytes, group_bytes, function_bytes, entry_bytes, declarations, front_sections, encoding}
 use Rattle.wasm_encode.specs.calls.Fits.{FitsExpression, FitsModule}
 use Rattle.wasm_encode.proofs.Targets.{all_inside}
 use Rattle.rewrite_modules.specs.calls.Example.{divider}
 use Rattle.rewrite_modules.specs.Instrumentable.{program_of, Instrumentable}
 use Rattle.rewrite_modules.proofs.Divider.{instrumentable}
-use Rattle.rewrite_promise.specs.Promise.{IsRewriting, DecodesAsRewriting}
+use Rattle.rewrite_promise.specs.calls.Promise.{IsRewriting, DecodesAsRewriting}
 use Rattle.rewrite_promise.specs.calls.Example.{divider_bytes}
 use Rattle.rewrite_promise.specs.Admitted.{Admits}
 use Rattle.rewrite_promise.proofs.Admitted as admitting
@@ -48,7 +49,7 @@ abbrev value_test : Value → Bool
 value_test (values.I32 n) = nat_lt n 4294967296
 value_test (values.I64 n) = nat_lt n 18446744073709551616
 
-value_fits : (v : Value) → value_test v ≡ true → ValueFits v
+value_fits : (v : Value) → value_test v ≡ true → IsValue v
 value_fits (values.I32 n) e = ltb-true n 4294967296 e
 value_fits (values.I64 n) e = ltb-true n 18446744073709551616 e
 

@@ -22,10 +22,11 @@ use Rattle.wasm_format_laws.proofs.Measures.{sized_length}
 use Rattle.wasm_format_laws.proofs.Sections.{lengths}
 use Rattle.rewrite_bodies.specs.Numbering.{import_count, mapped, wraps, shown, element_functions, doubles, value_type, frame_type}
 use Rattle.wasm_syntax.specs.Run.{table_min, element_at}
-use Rattle.rewrite_bodies.specs.Guards.{helper_type}
+use Rattle.rewrite_bodies.specs.calls.Guards.{helper_type}
 use Rattle.wasm_syntax.specs.SameCode.{op_code, body_code, global_code, element_code, segment_code, code_alone}
 use Rattle.rewrite_modules.specs.Collector.{collector_import, memory_export}
-use Rattle.rewrite_modules.specs.Instrument.{number_init, zero_init, doubled, new_tables, shown_element, shown_elements, inner_element, new_index, new_exports}
+use Rattle.rewrite_modules.specs.calls.Instrument.{number_init, zero_init, shown_element, shown_elements, inner_element, new_index, new_exports}
+use Rattle.rewrite_modules.specs.Interface.{doubled, new_tables}
 use Rattle.wasm_format_laws.proofs.Numbers.{some_bytes, three_more, single_byte}
 use Rattle.wasm_format_laws.proofs.Totals.{total, total-append, vector_total, section_most, section_least}
 use Rattle.wasm_format_laws.proofs.Entries.{function_import_length, export_length}

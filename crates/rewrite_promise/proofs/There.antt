@@ -7,7 +7,7 @@ use Rattle.rewrite_modules.specs.Instrumentable.{program_of, Instrumentable}
 use Rattle.rewrite_modules.proofs.Modules.{module_given}
 use Rattle.rewrite_modules.proofs.Theorem.{startable_given, ready_given}
 use Rattle.rewrite_modules.proofs.ValidModule.{new_valid}
-use Rattle.rewrite_promise.specs.Promise.{Accepted, IsRewriting, Promised}
+use Rattle.rewrite_promise.specs.calls.Promise.{Accepted, IsRewriting, Promised}
 use Rattle.rewrite_promise.proofs.Kept.{promised}
 use Rattle.rewrite_promise.proofs.Laid.{laid, laid_is, laid_same}
 

@@ -7,7 +7,6 @@ use Rattle.wasm_syntax.specs.declared.blocks.BlockKind.TheVariants as block_kind
 use Rattle.wasm_syntax.specs.declared.value.ValType.{ValType}
 use Rattle.wasm_syntax.specs.declared.value.ValType.TheVariants.{I32}
 use Rattle.wasm_syntax.specs.declared.instruction.Basic.{Basic}
-use Rattle.wasm_syntax.specs.declared.instruction.Basic.TheVariants.{Nop, Drop, Select, LocalGet, LocalSet, LocalTee, GlobalGet, GlobalSet, Load, Store, MemorySize, MemoryGrow, MemoryCopy, MemoryFill, Const, Eqz, Unary, Compare, Binary, Convert, Extend32, Extend64}
 use Rattle.wasm_syntax.specs.declared.instruction.Instr.{Instr}
 use Rattle.wasm_syntax.specs.declared.instruction.Instr.TheVariants as instrs
 use Rattle.wasm_syntax.specs.declared.instruction.Op.{Op}
@@ -20,10 +19,10 @@ use Rattle.wasm_syntax.specs.Machine.{result_of}
 use Rattle.wasm_syntax.specs.Typing.{Context, BasicTypes, Types, body_context}
 use Rattle.wasm_syntax.specs.FlatTyping.{OpenBlock, opened, label_types, inside, FlatTypes, dead_behind, AllLive, all_types, TypesBefore}
 use Rattle.wasm_format.specs.Encoding.{encoding}
-use Rattle.rewrite_bodies.specs.Slots.{Place, place_type, Ctx, less, pushed, grown, under, result_place, freed, after_plain, ctx_of, slots_of, behind_call}
+use Rattle.rewrite_bodies.specs.calls.Slots.{Place, place_type, Ctx, less, pushed, grown, under, result_place, freed, after_plain, ctx_of, slots_of, behind_call}
 use Rattle.rewrite_bodies.specs.Numbering.{import_count}
 use Rattle.rewrite_bodies.specs.calls.Typed.{original}
-use Rattle.rewrite_bodies.specs.calls.Length.{else_length, node_weight, long_guard, live_weight}
+use Rattle.rewrite_bodies.specs.calls.Length.{else_length, node_weight, live_weight}
 use Rattle.rewrite_bodies.proofs.Sim.{grown-append}
 use Rattle.rewrite_bodies.proofs.TypedPieces.{at_labels}
 use Rattle.rewrite_bodies.proofs.TypedNodes.{cuts, grown_types, takes_of, own_behind, behind_types, without_types}
@@ -31,11 +30,13 @@ use Rattle.rewrite_bodies.proofs.Copies.{Fixed, fixed_under, without_append}
 use Rattle.wasm_laws.proofs.FlatBodies.{tree_steps, inside_body}
 use Rattle.wasm_laws.proofs.Safe.{Typed, one_result}
 use Rattle.wasm_laws.proofs.FlatStatic.{write_append, dead_pass}
-use Rattle.rewrite_modules.specs.Weight.{height_at, AreHeights, extra, ops_weight}
+use Rattle.rewrite_modules.specs.Weight.{height_at, AreHeights, ops_weight}
+use Rattle.rewrite_bodies.specs.Numbering.{extra}
 use Rattle.rewrite_modules.proofs.Links.{is_defined, type_is_of}
 use Rattle.rewrite_modules.proofs.Heights.{arrow_labels}
 use Rattle.wasm_syntax.proofs.Bodies.{tree_there}
 use Rattle.rewrite_modules.proofs.CodeLengths.{item_length, item_short}
+use Rattle.rewrite_bodies.specs.calls.Length.{long_guard}
 
 -- ---- the weight of flat code, item by item
 
@@ -47,32 +48,8 @@ abbrev items_weight : (ℕ → ℕ) → ℕ → List Placed → ℕ
 items_weight h j [] = 0
 items_weight h j (x ∷ xs) = node_weight (item_length x.code) (h j) + item_extra x.code + items_weight h (suc j) xs
 
-basic_extra : (i : Basic) → extra (instrs.Basic i) ≡ long_guard i
-basic_extra Nop = refl
-basic_extra Drop = refl
-basic_extra Select = refl
-basic_extra (LocalGet x) = refl
-basic_extra (LocalSet x) = refl
-basic_extra (LocalTee x) = refl
-basic_extra (GlobalGet x) = refl
-basic_extra (GlobalSet x) = refl
-basic_extra (Load l al of) = refl
-basic_extra (Store l al of) = refl
-basic_extra MemorySize = refl
-basic_extra MemoryGrow = refl
-basic_extra MemoryCopy = refl
-basic_extra MemoryFill = refl
-basic_extra (Const v) = refl
-basic_extra (Eqz u) = refl
-basic_extra (Unary u o) = refl
-basic_extra (Compare u o) = refl
-basic_extra (Binary u o) = refl
-basic_extra (Convert k) = refl
-basic_extra (Extend32 k) = refl
-basic_extra (Extend64 k) = refl
-
 instr_extra : (T : List ℕ) (i : Instr) → extra i ≡ item_extra (item_of T i)
-instr_extra T (instrs.Basic i) = basic_extra i
+instr_extra T (instrs.Basic i) = refl
 instr_extra T (instrs.Jump j) = refl
 instr_extra T (instrs.Block t) = refl
 instr_extra T (instrs.Loop t) = refl

@@ -9,17 +9,17 @@ use Rattle.wasm_syntax.specs.Module.{Program, Function, imported, defined, funct
 use Rattle.wasm_syntax.specs.Run.{table_min}
 use Rattle.wasm_syntax.specs.Sizes.{local_count}
 use Rattle.wasm_encode.specs.Encoding.{entry_bytes, encoding, expression_bytes}
-use Rattle.wasm_format_laws.specs.Sized.{Sized}
+use Rattle.wasm_format_laws.specs.calls.Sized.{Sized}
 use Rattle.rewrite_bodies.specs.Numbering.{import_count, wraps, start_wraps, export_wrapped, named_wrapped, table_functions, doubles, table_wraps, wrapped, entry_weight, helped, distinct}
 use Rattle.rewrite_bodies.proofs.Doubled.{table_light, weights_more}
-use Rattle.rewrite_bodies.specs.Slots.{ctx_of, slots_of}
-use Rattle.rewrite_bodies.specs.Guards.{helper}
+use Rattle.rewrite_bodies.specs.calls.Slots.{ctx_of, slots_of}
+use Rattle.rewrite_bodies.specs.calls.Guards.{helper}
 use Rattle.wasm_syntax.specs.SameCode.{code_alone}
-use Rattle.rewrite_modules.specs.FlatCode.{body_of}
-use Rattle.rewrite_modules.specs.Instrument.{new_nodes, new_body, each, wrapper_type, new_module}
+use Rattle.rewrite_modules.specs.calls.FlatCode.{body_of}
+use Rattle.rewrite_modules.specs.calls.Instrument.{new_nodes, new_body, each, wrapper_type, new_module}
 use Rattle.rewrite_modules.specs.Instrumentable.{program_of, Instrumentable}
 use Rattle.rewrite_modules.specs.Weight.{height_at, ops_weight, bodies_weight, types_used, exports_weight, start_weight, weight}
-use Rattle.rewrite_modules.specs.Wrappers.{wrapper}
+use Rattle.rewrite_modules.specs.calls.Wrappers.{wrapper}
 use Rattle.rewrite_modules.proofs.Links.{is_defined}
 use Rattle.wasm_format_laws.proofs.Totals.{total, total-append, total-map, total_times, total_many}
 use Rattle.wasm_format_laws.proofs.Numbers.{some_bytes}

@@ -9,7 +9,7 @@ use Rattle.wasm_encode.specs.calls.Fits.{FitsModule}
 use Rattle.wasm_encode.specs.calls.SameModule.{SpellsSame}
 use Rattle.wasm_format_laws.specs.calls.Laws.{DecodesSame}
 use Rattle.wasm_format_laws.proofs.Decoding.{encoding_decodes, spelled_decodes}
-use Rattle.rewrite_promise.specs.Promise.{Accepted, IsRewriting, DecodesAsRewriting}
+use Rattle.rewrite_promise.specs.calls.Promise.{Accepted, IsRewriting, DecodesAsRewriting}
 use Rattle.rewrite_promise.proofs.Decoded.{whole, limits}
 use Rattle.rewrite_promise.proofs.Kept.{promised}
 

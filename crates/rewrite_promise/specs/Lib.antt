@@ -1,4 +1,3 @@
 pub mod Outside
-pub mod Promise
 pub mod Admitted
 pub mod calls

@@ -2,3 +2,4 @@
 pub mod Example
 pub mod Light
 pub mod Layers
+pub mod Promise

@@ -11,14 +11,14 @@ ghost use Rattle.wasm_encode.specs.Encoding.{encoding};
 ghost use Rattle.wasm_encode.specs.calls.Fits.{FitsModule};
 ghost use Rattle.wasm_encode.specs.calls.SameModule.{SpellsSame};
 ghost use Rattle.wasm_syntax.specs.SameCode.{code_alone};
-ghost use Rattle.rewrite_modules.specs.Instrument.{new_module};
+ghost use Rattle.rewrite_modules.specs.calls.Instrument.{new_module};
 ghost use Rattle.rewrite_modules.specs.Instrumentable.{LightEnough};
 ghost use Rattle.rewrite_modules.specs.Multiple.{multiple};
 ghost use Rattle.rewrite_modules.specs.calls.Example.{divider};
 ghost use Rattle.rewrite_modules.specs.Weight.{AreHeights, weight};
 ghost use Rattle.rewrite_promise.specs.calls.Example.{divider_bytes};
 ghost use Rattle.rewrite_promise.specs.calls.Layers.{Layered};
-ghost use Rattle.rewrite_promise.specs.Promise.{Accepted, AcceptedBytes, IsRewriting, Promised, DecodesAsRewriting};
+ghost use Rattle.rewrite_promise.specs.calls.Promise.{Accepted, AcceptedBytes, IsRewriting, Promised, DecodesAsRewriting};
 ghost use Rattle.rewrite_promise.specs.Outside.{KeepsOutside};
 ghost use Rattle.rewrite_promise.specs.Admitted.{Admits};
 

@@ -2,7 +2,7 @@
 use Rattle.std.proofs.Common.{◌≡◌, ℕ, suc, ◌+◌, ◌-◌, ◌<◌, ◌≤◌, List, [], ◌∷◌, ◌++◌, ap, ◌∙◌, arith, append_assoc}
 use Rattle.wasm_syntax.specs.declared.value.ValType.TheVariants.{I32, I64}
 use Rattle.wasm_syntax.specs.declared.parts.LocalGroup.{LocalGroup}
-use Rattle.rewrite_bodies.specs.Slots.{group, groups}
+use Rattle.rewrite_bodies.specs.calls.Slots.{group, groups}
 
 -- the slots of a height more
 pub added_step : (xs : List LocalGroup) (n h : ℕ) → h < n → (xs ++ (group I32 ∷ group I64 ∷ [])) ++ groups (n - (h + 1)) ≡ xs ++ groups (n - h)

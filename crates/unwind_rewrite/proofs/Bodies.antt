@@ -1,5 +1,5 @@
 -- How the code around the nodes of a body, wrappers and helpers are put together.
-use Rattle.std.proofs.Common.{◌≡◌, ℕ, suc, ◌+◌, ◌-◌, ◌<◌, ◌≤◌, List, [], ◌∷◌, length, map, drop, get_or, Option, Some, None, sym, ap, subst, ◌∙◌, arith}
+use Rattle.std.proofs.Common.{◌≡◌, ℕ, suc, ◌+◌, ◌-◌, ◌<◌, ◌≤◌, List, [], ◌∷◌, length, map, drop, get_or, Option, None, sym, ap, subst, ◌∙◌, arith}
 use Rattle.std.proofs.lemmas.List.{length-map, drop_all, get_or-map}
 use Rattle.std.proofs.Math.Seq.{drop-cons}
 use Rattle.wasm_syntax.specs.declared.value.ValType.{ValType}
@@ -8,28 +8,17 @@ use Rattle.wasm_syntax.specs.declared.parts.Global.{Global}
 use Rattle.wasm_syntax.specs.declared.module.ModuleParts.{ModuleParts as Module}
 use Rattle.wasm_syntax.specs.Tree.{BrTable, Return, Unreachable, Nodes, stop, basic, jump, block, choose}
 use Rattle.rewrite_bodies.specs.Numbering.{mapped, value_import, frame_import, flag_of, global_types}
-use Rattle.rewrite_bodies.specs.Slots.{Ctx, kind_at, offset_at}
-use Rattle.rewrite_bodies.specs.Pieces.{get, const, i32, call}
-use Rattle.rewrite_bodies.specs.Guards.{says, helper, entry_label, first_table}
-use Rattle.rewrite_bodies.specs.Rewrite.{hand_locals, zero_result, raise_flag, exit_code, rewrite, body}
-use Rattle.rewrite_modules.specs.Wrappers.{get_all, tell_globals, lower_flag, end_of_dump, after_wrapped, wrapper_nodes}
+use Rattle.rewrite_bodies.specs.calls.Slots.{Ctx, kind_at, offset_at}
+use Rattle.rewrite_bodies.specs.calls.Pieces.{get, const, i32, call}
+use Rattle.rewrite_bodies.specs.calls.Guards.{says, helper, entry_label, first_table}
+use Rattle.rewrite_bodies.specs.calls.Rewrite.{hand_locals, zero_result, raise_flag, exit_code, rewrite, body}
+use Rattle.rewrite_modules.specs.calls.Wrappers.{get_all, tell_globals, lower_flag, end_of_dump, after_wrapped, wrapper_nodes}
 use Rattle.rewrite_code.specs.calls.Writing.{Written, Behind, ends, goes, Emits, EmitsLast, Opens, Closes}
 use Rattle.rewrite_code.proofs.Pieces.{emits_then, emits_last, emits_stop, emits_within}
 use Rattle.unwind_rewrite.specs.calls.Bodies.{OpensTwo, ClosesWith}
 use Rattle.unwind_rewrite.proofs.Numbers.{get_at, number_at, call_at, global_get_at, global_set_at}
 
--- ---- the body around its nodes
-
-pub body_closed : (C : Ctx) (nodes : Nodes) {start inside w a b c d : Written} → OpensTwo C.result start inside → EmitsLast (rewrite C 1 [] nodes) inside w → Closes w a →
-    Emits (jump 0 Return) a b → Closes b c → EmitsLast (exit_code C) c d → EmitsLast (body C nodes) start d
-body_closed C nodes o n c f j e =
-    let back : Nodes = jump 0 Return stop in
-    let returns = emits_stop f in
-    record {
-      emitted = λ behind.
-          o.opened (rewrite C 1 [] nodes) back (exit_code C) behind ∙ n.emitted (ends back ∷ ends (exit_code C) ∷ behind)
-          ∙ c.closed back (ends (exit_code C) ∷ behind) ∙ returns.emitted (ends (exit_code C) ∷ behind) ∙ j.closed (exit_code C) behind ∙ e.emitted behind;
-    }
+-- ---- the exit
 
 pub raised : (C : Ctx) (m : Module) (x : ℕ) {a b c : Written} → m ≡ C.source → x ≡ flag_of m → Emits (const (i32 1)) a b → Emits (basic 0 (GlobalSet x)) b c → Emits (raise_flag C) a c
 raised C m x same at p q = emits_then p (global_set_at (at ∙ ap flag_of same) q)

@@ -2,16 +2,16 @@
 use Rattle.std.proofs.Common.{◌≡◌, ℕ, zero, suc, ◌+◌, ◌-◌, List, [], ◌∷◌, length, Option, Some, None, refl, sym, ap, subst, ◌∙◌, arith}
 use Rattle.wasm_syntax.specs.declared.value.ValType.{ValType}
 use Rattle.wasm_syntax.specs.Tree.{Unreachable, Nodes, stop, basic, jump, block, choose}
-use Rattle.rewrite_bodies.specs.Slots.{Place, Ctx, less, result_place}
-use Rattle.rewrite_bodies.specs.Pieces.{const, i32, keep}
-use Rattle.rewrite_bodies.specs.Rewrite.{unwind_kind, control, guarded, free, plain}
+use Rattle.rewrite_bodies.specs.calls.Slots.{Place, Ctx, less, result_place}
+use Rattle.rewrite_bodies.specs.calls.Pieces.{const, i32, keep}
+use Rattle.rewrite_bodies.specs.calls.Rewrite.{unwind_kind, control, guarded, free, plain}
 use Rattle.rewrite_code.specs.calls.Writing.{Written, ends, Emits, EmitsLast, Opens, Closes, OpensArms}
 use Rattle.rewrite_code.proofs.Pieces.{emits_then, emits_last, emits_stop, emits_within}
 use Rattle.rewrite_code.proofs.Loads.{emits_same}
 use Rattle.unwind_rewrite.specs.calls.Bodies.{OpensTwo, ClosesWith, OpensBoth, ClosesBefore}
 use Rattle.wasm_syntax.specs.declared.instruction.Basic.{Basic}
 use Rattle.wasm_syntax.specs.Effect.{takes}
-use Rattle.rewrite_bodies.specs.Guards.{can_trap}
+use Rattle.rewrite_bodies.specs.calls.Guards.{can_trap}
 
 pub trapped : (C : Ctx) (ls : ℕ) (es : List Place) (o : ℕ) (go : List Place → Nodes) {a b c d e f g : Written} → Emits (const (i32 1)) a b → Opens (λ arm k. choose 0 None arm None stop 0 k) b c → Emits (const (i32 1)) c d →
     EmitsLast (unwind_kind C ls es o) d e → Closes e f → Emits (jump 0 Unreachable) f g → EmitsLast (control C ls es o Unreachable go) a g

@@ -9,9 +9,9 @@ use Rattle.wasm_syntax.specs.Tree.{CallIndirect, Nodes, stop, basic, jump, choos
 use Rattle.wasm_syntax.specs.Machine.{result_of}
 use Rattle.rewrite_bodies.specs.Numbering.{import_count, mapped, flag_of, doubles}
 use Rattle.wasm_syntax.specs.Run.{table_min}
-use Rattle.rewrite_bodies.specs.Slots.{Place, Spilled, Ctx, less, kind_at, offset_at}
-use Rattle.rewrite_bodies.specs.Pieces.{get, set, const, i32, call, fetch, load, keep, store, reload, drops}
-use Rattle.rewrite_bodies.specs.Rewrite.{to_exit, unwind, test_flag, hand, hand_top, hand_left, test_both, after_call, after_direct, call_code, helper_of, past_shown, indirect_code}
+use Rattle.rewrite_bodies.specs.calls.Slots.{Place, Spilled, Ctx, less, kind_at, offset_at}
+use Rattle.rewrite_bodies.specs.calls.Pieces.{get, set, const, i32, call, fetch, load, keep, store, reload, drops}
+use Rattle.rewrite_bodies.specs.calls.Rewrite.{to_exit, unwind, test_flag, hand, hand_top, hand_left, test_both, after_call, after_direct, call_code, helper_of, past_shown, indirect_code}
 use Rattle.rewrite_code.specs.calls.Writing.{Written, Emits, EmitsLast, Opens, Closes}
 use Rattle.rewrite_code.proofs.Pieces.{emits_then, emits_last, emits_stop, emits_within}
 use Rattle.rewrite_code.specs.declared.place.OperandPlace.{OperandPlace}
@@ -46,11 +46,11 @@ pub called : (C : Ctx) (ls : ℕ) (es : List Place) (o f g : ℕ) (type : FuncTy
 called C ls es o f g type is p q = emits_same (λ k. refl) (emits_then (call_at is p) q)
 
 pub caller_unwound : (C : Ctx) (ls : ℕ) (es : List Place) (o : ℕ) {a b c d e : Written} → Emits (λ k. const (i32 0) (set C (kind_at C) k)) a b → Emits (λ k. const (i32 o) (set C (offset_at C) k)) b c →
-    Emits (hand C es) c d → EmitsLast (to_exit ls) d e → EmitsLast (const (i32 0) (set C (kind_at C) (unwind C ls es o))) a e
+    Emits (hand C es) c d → EmitsLast (to_exit C ls) d e → EmitsLast (const (i32 0) (set C (kind_at C) (unwind C ls es o))) a e
 caller_unwound C ls es o p q r s = emits_last p (emits_last q (emits_last r s))
 
 pub left_handed : (C : Ctx) (ls : ℕ) (es all : List Place) (n x : ℕ) {a b c d e f g : Written} → x ≡ kind_at C → Emits (hand C es) a b → Emits (get C x) b c →
-    Opens (λ arm k. choose 0 None arm None stop 0 k) c d → Emits (hand_top C n all) d e → Closes e f → EmitsLast (to_exit ls) f g → EmitsLast (hand_left C ls es (hand_top C n all stop)) a g
+    Opens (λ arm k. choose 0 None arm None stop 0 k) c d → Emits (hand_top C n all) d e → Closes e f → EmitsLast (to_exit C ls) f g → EmitsLast (hand_left C ls es (hand_top C n all stop)) a g
 left_handed C ls es all n x at p q o h j l = emits_last p (emits_last (get_at C at q) (emits_last (emits_within o (emits_stop h) j) l))
 
 pub both_tested : (C : Ctx) (ls : ℕ) (es : List Place) (o x : ℕ) (others : Nodes) {a b c d e f g : Written} → x ≡ kind_at C → Emits (get C x) a b → Emits (basic 0 (GlobalGet (flag_of C.source))) b c →

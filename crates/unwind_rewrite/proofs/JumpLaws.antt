@@ -9,17 +9,17 @@ use Rattle.wasm_syntax.specs.declared.parts.FuncType.{FuncType}
 use Rattle.wasm_syntax.specs.Tree.{Jump, BrIf, Unreachable, Call, CallIndirect, Nodes, stop, jump, Goes}
 use Rattle.wasm_syntax.specs.Machine.{result_of}
 use Rattle.wasm_syntax.specs.Module.{type_at}
-use Rattle.rewrite_bodies.specs.Slots.{Place, Ctx, less, grown}
-use Rattle.rewrite_bodies.specs.Rewrite.{control, call_code, indirect_code, helper_of}
+use Rattle.rewrite_bodies.specs.calls.Slots.{Place, Ctx, less, grown}
+use Rattle.rewrite_bodies.specs.calls.Rewrite.{control, call_code, indirect_code, helper_of}
 use Rattle.rewrite_code.specs.calls.Writing.{Written, Emits, EmitsLast}
 use Rattle.operand_spill.specs.calls.Walking.{Walking, with_places}
 use Rattle.operand_spill.specs.calls.Standing.{depth_in, Rewrites}
 use Rattle.operand_spill.proofs.Steps.{step_branch_if, step_call, step_call_indirect, step_transfer}
-use Rattle.unwind_rewrite.specs.declared.points.Flow.TheVariants.{Next, Leaves}
+use Rattle.operand_spill.specs.declared.flow.Flow.TheVariants.{Next, Ends}
 use Rattle.unwind_rewrite.specs.calls.Points.{Advances}
 
 -- a transfer to somewhere else
-pub transfers : (C : Ctx) (o : ℕ) (j : Jump) (w : Walking) {now next : Written} → ((go : List Place → Nodes) → EmitsLast (control C (depth_in w) w.places o j go) now next) → Advances C o (Goes j) w now w next Leaves
+pub transfers : (C : Ctx) (o : ℕ) (j : Jump) (w : Walking) {now next : Written} → ((go : List Place → Nodes) → EmitsLast (control C (depth_in w) w.places o j go) now next) → Advances C o (Goes j) w now w next Ends
 transfers C o j w {now} {next} e = λ code start whole pc b r to end le. step_transfer C code start whole pc to w now next o j b end le e r
 
 pub condition_taken : (C : Ctx) (o l : ℕ) (w w' : Walking) {now next : Written} → w' ≡ with_places w (less 1 w.places) → Emits (λ k. jump 0 (BrIf l) k) now next → Advances C o (Goes (BrIf l)) w now w' next Next
@@ -27,13 +27,13 @@ condition_taken C o l w w' {now} {next} becomes e = λ code start whole pc b r.
     subst (λ v. Rewrites C code start whole (suc pc) v next) (sym becomes) (step_branch_if C code start whole pc w now next o l b e r)
 
 pub trapped : (C : Ctx) (o : ℕ) (w : Walking) (es : List Place) (n : ℕ) {now next : Written} → es ≡ w.places → n ≡ suc (length w.opens) →
-    ((go : List Place → Nodes) → EmitsLast (control C n es o Unreachable go) now next) → Advances C o (Goes Unreachable) w now w next Leaves
+    ((go : List Place → Nodes) → EmitsLast (control C n es o Unreachable go) now next) → Advances C o (Goes Unreachable) w now w next Ends
 trapped C o w es n {now} {next} same count e = transfers C o Unreachable w (λ go.
     subst (λ m. EmitsLast (control C m w.places o Unreachable go) now next) count (subst (λ z. EmitsLast (control C n z o Unreachable go) now next) same (e go)))
 
 -- ---- calls
 
-pub no_function : (C : Ctx) (o f : ℕ) (w : Walking) {now : Written} → type_at C.source f ≡ None → Advances C o (Goes (Call f)) w now w now Leaves
+pub no_function : (C : Ctx) (o f : ℕ) (w : Walking) {now : Written} → type_at C.source f ≡ None → Advances C o (Goes (Call f)) w now w now Ends
 no_function C o f w {now} none = transfers C o (Call f) w (λ go.
     let nothing : EmitsLast stop now now = record { emitted = λ behind. refl } in
     subst (λ q. EmitsLast (call_code C (depth_in w) w.places o f q go) now now) (sym none) nothing)
@@ -47,12 +47,12 @@ called C o f type w w' es n count r {now} {next} same depth is takes gives becom
     let goes : w' ≡ with_places w (grown (result_of type) (less (length type.params) w.places)) = becomes ∙ ap (λ k. with_places w (grown r (less k w.places))) takes ∙ ap (λ t. with_places w (grown t (less (length type.params) w.places))) gives in
     subst (λ v. Rewrites C code start whole (suc pc) v next) (sym goes) (step_call C code start whole pc w now next o f type b is piece at)
 
-pub no_type : (C : Ctx) (o t : ℕ) (w : Walking) {now : Written} → slice_get C.source.types t ≡ None → Advances C o (Goes (CallIndirect t)) w now w now Leaves
+pub no_type : (C : Ctx) (o t : ℕ) (w : Walking) {now : Written} → slice_get C.source.types t ≡ None → Advances C o (Goes (CallIndirect t)) w now w now Ends
 no_type C o t w {now} none = transfers C o (CallIndirect t) w (λ go.
     let nothing : EmitsLast stop now now = record { emitted = λ behind. refl } in
     subst (λ q. EmitsLast (indirect_code C (depth_in w) w.places o t q go) now now) (sym none) nothing)
 
-pub no_index : (C : Ctx) (o t : ℕ) (w : Walking) {now : Written} → w.places ≡ [] → Advances C o (Goes (CallIndirect t)) w now w now Leaves
+pub no_index : (C : Ctx) (o t : ℕ) (w : Walking) {now : Written} → w.places ≡ [] → Advances C o (Goes (CallIndirect t)) w now w now Ends
 no_index C o t w {now} none = transfers C o (CallIndirect t) w (λ go.
     let nothing : EmitsLast stop now now = record { emitted = λ behind. refl } in
     subst (λ es. EmitsLast (indirect_code C (depth_in w) es o t (slice_get C.source.types t) go) now now) (sym none) (by (slice_get C.source.types t) (depth_in w) go nothing))

@@ -7,3 +7,4 @@ pub mod JumpLaws
 pub mod NodeLaws
 pub mod PointLaws
 pub mod Premises
+pub mod Landings

@@ -5,9 +5,9 @@ use Rattle.wasm_syntax.specs.declared.instruction.Basic.{Basic}
 use Rattle.wasm_syntax.specs.declared.instruction.Instr.{Instr}
 use Rattle.wasm_syntax.specs.declared.instruction.Instr.TheVariants as instrs
 use Rattle.wasm_syntax.specs.Tree.{Nodes, stop, choose, block, loop, Placed, Plain, Opens as BlockOpens, OpensLoop, OpensIf, Else, End, item_of}
-use Rattle.rewrite_bodies.specs.Slots.{Place, Spilled, Ctx, less, after_plain}
-use Rattle.rewrite_bodies.specs.Pieces.{keep, spill}
-use Rattle.rewrite_bodies.specs.Rewrite.{plain}
+use Rattle.rewrite_bodies.specs.calls.Slots.{Place, Spilled, Ctx, less, after_plain}
+use Rattle.rewrite_bodies.specs.calls.Pieces.{keep, spill}
+use Rattle.rewrite_bodies.specs.calls.Rewrite.{plain}
 use Rattle.rewrite_bodies.specs.calls.Typed.{end_gives}
 use Rattle.rewrite_code.specs.calls.Writing.{Written, Emits, Opens, Alternates}
 use Rattle.operand_spill.specs.declared.labels.Label.{Label}
@@ -18,7 +18,7 @@ use Rattle.operand_spill.specs.calls.Walking.{Walking, with_places, opening, alt
 use Rattle.operand_spill.specs.calls.Standing.{depth_in, Rewrites, Left}
 use Rattle.operand_spill.proofs.Steps.{step_basic, step_block, step_loop, step_if, step_end, step_else, alternate, close}
 use Rattle.unwind_rewrite.specs.calls.Bodies.{OpensBoth, ClosesBefore}
-use Rattle.unwind_rewrite.specs.declared.points.Flow.TheVariants.{Next, Leaves}
+use Rattle.operand_spill.specs.declared.flow.Flow.TheVariants.{Next, Ends}
 use Rattle.unwind_rewrite.specs.calls.Points.{EndsAt, Advances, IsBehind, Resumes}
 
 pub performed : (C : Ctx) (o : ℕ) (i : Basic) (w w' : Walking) (es : List Place) (n : ℕ) {now next : Written} → es ≡ w.places → n ≡ suc (length w.opens) → w' ≡ with_places w (after_plain C w.places i) →
@@ -63,10 +63,10 @@ ends_there C code start whole pc to w now end le r = record {
   comes = record { comes = r.comes.comes };
 }
 
-pub before_end : (C : Ctx) (o : ℕ) (w : Walking) {now : Written} → Advances C o End w now w now Leaves
+pub before_end : (C : Ctx) (o : ℕ) (w : Walking) {now : Written} → Advances C o End w now w now Ends
 before_end C o w {now} = λ code start whole pc b r to end le. ends_there C code start whole pc to w now end le (step_end C code start whole pc w now o b r)
 
-pub before_else : (C : Ctx) (o : ℕ) (w : Walking) {now : Written} → Advances C o Else w now w now Leaves
+pub before_else : (C : Ctx) (o : ℕ) (w : Walking) {now : Written} → Advances C o Else w now w now Ends
 before_else C o w {now} = λ code start whole pc b r to end le. ends_there C code start whole pc to w now end le (step_else C code start whole pc w now o b r)
 
 -- ---- `else` and `end`

@@ -3,8 +3,8 @@ use Rattle.std.proofs.Common.{◌≡◌, ℕ, OnOk, Ok, Err, subst}
 use Rattle.std.specs.declared.result.Result.{Result}
 use Rattle.wasm_syntax.specs.declared.instruction.Basic.TheVariants.{GlobalGet, GlobalSet}
 use Rattle.wasm_syntax.specs.Tree.{Br, basic, jump}
-use Rattle.rewrite_bodies.specs.Slots.{Place, Ctx}
-use Rattle.rewrite_bodies.specs.Pieces.{get, set, const, i32, call, fetch}
+use Rattle.rewrite_bodies.specs.calls.Slots.{Place, Ctx}
+use Rattle.rewrite_bodies.specs.calls.Pieces.{get, set, const, i32, call, fetch}
 use Rattle.rewrite_code.specs.calls.Writing.{Written, Emits}
 
 -- a fact that does not depend on the answer

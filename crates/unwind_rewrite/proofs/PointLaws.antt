@@ -1,4 +1,5 @@
 -- What is known at a point of a body, and where the code goes from there.
+use Rattle.rewrite_bodies.specs.calls.Landings.{most_landings}
 use Rattle.std.proofs.Common.{◌≡◌, ℕ, suc, ◌+◌, ◌-◌, ◌^◌, ◌<◌, ◌≤◌, true, false, nat_le, List, [], ◌∷◌, length, drop, get_or, slice_get, sym, ap, subst, ◌∙◌, arith, length-drop}
 use Rattle.std.proofs.lemmas.Option.{slice_get-get_or}
 use Rattle.std.proofs.lemmas.Bool.Decides.{nat_tests}
@@ -7,8 +8,8 @@ use Rattle.wasm_syntax.specs.declared.instruction.Instr.{Instr}
 use Rattle.wasm_syntax.specs.declared.instruction.Instr.TheVariants as instrs
 use Rattle.wasm_syntax.specs.declared.parts.Body.{Body}
 use Rattle.wasm_syntax.specs.Tree.{Nodes, Tree, stop, basic, jump, block, loop, choose, End, Placed, placed, write, code_of, item_of, jump_of, Writes}
-use Rattle.rewrite_bodies.specs.Slots.{Ctx}
-use Rattle.rewrite_bodies.specs.Rewrite.{rewrite}
+use Rattle.rewrite_bodies.specs.calls.Slots.{Ctx}
+use Rattle.rewrite_bodies.specs.calls.Rewrite.{rewrite}
 use Rattle.rewrite_bodies.specs.calls.Typed.{end_gives}
 use Rattle.rewrite_bodies.proofs.Sim.{room_height}
 use Rattle.rewrite_code.specs.calls.Writing.{Written, EmitsLast}
@@ -18,8 +19,8 @@ use Rattle.operand_spill.specs.calls.Walking.{Walking, behind_block, at_start}
 use Rattle.operand_spill.specs.calls.Standing.{Due, before_end, before_else, flat, Fine, Around, Rewrites, Left}
 use Rattle.operand_spill.proofs.Shapes.{Shape, shape, begins_read}
 use Rattle.operand_spill.proofs.Steps.{point_within, end_within, whole_written, begin}
-use Rattle.unwind_rewrite.specs.declared.points.Flow.{Flow}
-use Rattle.unwind_rewrite.specs.declared.points.Flow.TheVariants.{Next, Leaves}
+use Rattle.operand_spill.specs.declared.flow.Flow.{Flow}
+use Rattle.operand_spill.specs.declared.flow.Flow.TheVariants.{Next, Ends}
 use Rattle.unwind_rewrite.specs.declared.points.Point.{Point}
 use Rattle.unwind_rewrite.specs.declared.points.Point.TheVariants as points
 use Rattle.unwind_rewrite.specs.calls.Numbers.{Helped, AllHelped}
@@ -98,15 +99,15 @@ goes_next C body ts xs start whole pc d w w' flow {now} {next} targets ops is a 
     let one : suc pc ≡ pc + 1 = omega arith in
     subst (λ n. Rewrites C (code_in body) start whole n w' next) one (advance_of C body ts xs pc d w w' flow Next now next targets ops is a (code_in body) start whole pc (begins_read body.targets body.ops pc d lt) r)
 
-pub goes_out : (C : Ctx) (body : Body) (ts : List ℕ) (xs : List Op) (start : Written) (whole : Nodes) (pc to : ℕ) (d : Op) (w w' : Walking) (flow : Flow) {now next : Written} → ts ≡ body.targets → xs ≡ body.ops → flow ≡ Leaves →
+pub goes_out : (C : Ctx) (body : Body) (ts : List ℕ) (xs : List Op) (start : Written) (whole : Nodes) (pc to : ℕ) (d : Op) (w w' : Walking) (flow : Flow) {now next : Written} → ts ≡ body.targets → xs ≡ body.ops → flow ≡ Ends →
     Advances C (get_or xs pc d).at (item_of ts (get_or xs pc d).code) w now w' next flow → pc ≤ to →
     ((targets : List ℕ) (nodes : Nodes) (dues : List Due) → drop pc (code_of targets xs) ≡ write nodes (flat dues) → drop to (code_of targets xs) ≡ flat dues) → Rewrites C (code_in body) start whole pc w now → Left C (code_in body) start whole to w' next
 goes_out C body ts xs start whole pc to d w w' flow {now} {next} targets ops is a le end r =
     let lt : pc < length body.ops = stands_inside C body start whole pc w now r in
     let ends : EndsAt (code_in body) pc to = subst (λ os. EndsAt (code_of body.targets os) pc to) ops (end body.targets) in
-    advance_of C body ts xs pc d w w' flow Leaves now next targets ops is a (code_in body) start whole pc (begins_read body.targets body.ops pc d lt) r to ends le
+    advance_of C body ts xs pc d w w' flow Ends now next targets ops is a (code_in body) start whole pc (begins_read body.targets body.ops pc d lt) r to ends le
 
-pub shallow : (C : Ctx) (body : Body) (start : Written) (whole : Nodes) (pc : ℕ) (w : Walking) (now : Written) → length body.ops + 1 < 2 ^ 32 → Rewrites C (code_in body) start whole pc w now → length w.opens + 2 < 2 ^ 32
+pub shallow : (C : Ctx) (body : Body) (start : Written) (whole : Nodes) (pc : ℕ) (w : Walking) (now : Written) → length body.ops + most_landings + 1 < 2 ^ 32 → Rewrites C (code_in body) start whole pc w now → length w.opens + most_landings + 2 < 2 ^ 32
 shallow C body start whole pc w now few r = omega (arith, few, stands_inside C body start whole pc w now r, r.stands.shallow)
 
 -- ---- the loop

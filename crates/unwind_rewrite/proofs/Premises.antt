@@ -1,4 +1,9 @@
 -- What the writing of a body asks of an accepted module, and what it gives.
+use Rattle.std.specs.Prelude.{slice_get, unwrap_or}
+use Rattle.rewrite_bodies.specs.calls.Landings.{most_landings, landings_from, landed}
+use Rattle.rewrite_bodies.proofs.Laid.{room_landed}
+use Rattle.rewrite_bodies.proofs.TypedNodes.{AllFine, fine_landings}
+use Rattle.unwind_rewrite.specs.calls.Bodies.{LowLandings}
 use Rattle.std.proofs.Common.{◌≡◌, ℕ, zero, suc, ◌+◌, ◌^◌, ◌<◌, ◌≤◌, true, List, [], ◌∷◌, ◌++◌, length, reverse, Some, Option, slice_get, refl, sym, ap, ◌∙◌, subst, arith}
 use Rattle.std.specs.Prelude.{Result, Ok, Err, IfOk}
 use Rattle.std.proofs.lemmas.Bool.Decides.{nat_tests}
@@ -16,20 +21,20 @@ use Rattle.wasm_syntax.specs.Module.{Program, Function, imported, defined, funct
 use Rattle.wasm_syntax.specs.Typing.{body_context}
 use Rattle.wasm_laws.proofs.Safe.{Typed}
 use Rattle.wasm_laws.proofs.Validity.{typed}
-use Rattle.wasm_validate.specs.Heights.{body_of as body_in}
+use Rattle.wasm_syntax.specs.Valid.{body_of as body_in}
 use Rattle.rewrite_bodies.specs.Numbering.{helper_base, is_in}
-use Rattle.rewrite_bodies.specs.Rewrite.{body}
-use Rattle.rewrite_bodies.specs.Slots.{Ctx, ctx_of, slots_of, groups}
+use Rattle.rewrite_bodies.specs.calls.Rewrite.{body, laid}
+use Rattle.rewrite_bodies.specs.calls.Slots.{Landing, Ctx, ctx_of, slots_of, groups}
 use Rattle.wasm_syntax.specs.SameCode.{body_code}
-use Rattle.rewrite_modules.specs.FlatCode.{body_of}
-use Rattle.rewrite_modules.specs.Instrument.{new_body}
+use Rattle.rewrite_modules.specs.calls.FlatCode.{body_of}
+use Rattle.rewrite_modules.specs.calls.Instrument.{new_body}
 use Rattle.rewrite_modules.specs.Weight.{height_at, type_used, types_used, ops_weight, bodies_weight}
 use Rattle.rewrite_modules.proofs.Bounds.{room_of}
 use Rattle.rewrite_modules.proofs.FineBodies.{fine_at}
 use Rattle.rewrite_modules.proofs.Links.{IsDefined, is_defined, import_of, type_is_of}
 use Rattle.rewrite_modules.proofs.Modules.{module_given}
 use Rattle.rewrite_modules.proofs.Theorem.{ready_given}
-use Rattle.rewrite_promise.specs.Promise.{Accepted}
+use Rattle.rewrite_promise.specs.calls.Promise.{Accepted}
 use Rattle.index_map.proofs.Trees.{helped_used}
 use Rattle.index_map.proofs.Within.{used_within}
 use Rattle.rewrite_code.specs.calls.Contexts.{context}
@@ -89,7 +94,7 @@ module _ (m : Module) (a : Accepted m) (f : ℕ) (b : Body) (here : body_in m f 
   at : slice_get m.bodies number ≡ Some b
   at = (there m f b here).2
 
-  pub few : length b.ops + 1 < 2 ^ 32
+  pub few : length b.ops + most_landings + 1 < 2 ^ 32
   few = let heights = a.premises.lightness.heights in omega (arith, body_light m heights 0 m.bodies number b at, a.premises.lightness.light)
 
   pub helped : (C : Ctx) → C.source ≡ m → AllHelped C b.ops
@@ -123,13 +128,13 @@ module _ (m : Module) (a : Accepted m) (f : ℕ) (b : Body) (here : body_in m f 
 
   module _ (plan : Planned) (tree : Tree) (type : FuncType) (is : function_at p f ≡ Some (defined b tree type)) (planned : IsPlan p f b tree type plan) where
     abbrev C : Ctx
-    C = context m plan.locals plan.slots f (gives_of m f)
+    C = context m plan.locals plan.slots f (gives_of m f) []
 
     abbrev D : Ctx
     D = ctx_of p f b type (slots_of p f b tree type)
 
     abbrev made : List ℕ → List ValType → ℕ → Option ValType → Ctx
-    made hs ls n r = record { source = m; base = helper_base m; helpers = hs; locals = ls; slots = n; index = f; result = r }
+    made hs ls n r = record { source = m; base = helper_base m; helpers = hs; locals = ls; slots = n; index = f; result = r; landings = [] }
 
     same : C ≡ D
     same =
@@ -151,27 +156,60 @@ module _ (m : Module) (a : Accepted m) (f : ℕ) (b : Body) (here : body_in m f 
       arms = armed (body_context m type b) tree.nodes [] (reverse type.results) writes.arms (typed_.bodies f b tree type is);
     })
 
-    can_be : CanBeWritten C b
-    can_be = record { tree = tree; writes = writes; fine = fine }
+    -- with any landings
+    fine_with : (xs : List Landing) → Fine (landed C xs) [] tree.nodes
+    fine_with xs = record { room = room_landed C xs [] tree.nodes fine.room; arms = fine.arms }
+
+    can_be : (xs : List Landing) → CanBeWritten (landed C xs) b
+    can_be xs = record { tree = tree; writes = writes; fine = fine_with xs }
+
+    -- the operands of its own have slots
+    low_ones : (xs : List Landing) → xs ≡ landings_from C [] tree.nodes [] → LowLandings (landed C xs)
+    low_ones xs e = subst (λ ys. LowLandings (landed C ys)) (sym e) (low_in (landings_from C [] tree.nodes []) (fine_landings C [] tree.nodes [] tt fine.room tt))
+      where
+        low_in : (xs : List Landing) → AllFine C xs → (n : ℕ) (x : Landing) → slice_get xs n ≡ Some x → length x.places ≤ C.slots
+        low_in [] h n x e = absurd (cc)
+        low_in (y ∷ xs) h zero x e = let same : y ≡ x = ap (λ o. unwrap_or o y) e in subst (λ (z : Landing). length z.places ≤ C.slots) same h.0.0
+        low_in (y ∷ xs) h (suc n) x e = low_in xs h.1 n x e
 
     -- what is written is the body of the definitions
-    written_is : (out : Body) → ((t : Tree) → Writes b.targets b.ops t → Fine C [] t.nodes → body_code out ≡ body_code (body_of (b.groups ++ groups C.slots) (body C t.nodes))) → body_code out ≡ body_code (new_body p f (function_at p f))
-    written_is out h =
-        h tree writes fine
+    written_is : (out : Body) (xs : List Landing) → xs ≡ landings_from C [] tree.nodes [] → ((t : Tree) → Writes b.targets b.ops t → Fine (landed C xs) [] t.nodes → body_code out ≡ body_code (body_of (b.groups ++ groups C.slots) (laid (landed C xs) t.nodes))) → body_code out ≡ body_code (new_body p f (function_at p f))
+    written_is out xs e h =
+        h tree writes (fine_with xs)
+        ∙ ap (λ ys. body_code (body_of (b.groups ++ groups C.slots) (laid (landed C ys) tree.nodes))) e
         ∙ ap (λ (c : Ctx). body_code (body_of (b.groups ++ groups c.slots) (body c tree.nodes))) same
         ∙ sym (ap (λ q. body_code (new_body p f q)) is)
 
   -- there is a tree
-  pub can : (plan : Planned) → IsPlanIn m f plan → CanBeWritten (context m plan.locals plan.slots f (gives_of m f)) b
-  can plan planned = can_be plan found.tree found.type found.is (planned a b found.tree found.type found.is)
+  pub can : (plan : Planned) → IsPlanIn m f plan → (xs : List Landing) → CanBeWritten (context m plan.locals plan.slots f (gives_of m f) xs) b
+  can plan planned xs = can_be plan found.tree found.type found.is (planned a b found.tree found.type found.is) xs
 
-pub is_rewritten : {E : Type 0} (m : Module) (f : ℕ) (b : Body) → body_in m f ≡ Some b → (plan : Planned) → IsPlanIn m f plan → (C : Ctx) → C ≡ context m plan.locals plan.slots f (gives_of m f) → (r : Result Body E)
-    → ((t : Tree) → Writes b.targets b.ops t → Fine C [] t.nodes → IfOk r (λ out. body_code out ≡ body_code (body_of (b.groups ++ groups C.slots) (body C t.nodes)))) → IfOk r (IsRewritten m f)
-is_rewritten m f b here plan planned C e (Err x) h = tt
-is_rewritten m f b here plan planned C e (Ok out) h = λ a.
+  pub low : (plan : Planned) → IsPlanIn m f plan → (xs : List Landing) → ((t : Tree) → Writes b.targets b.ops t → xs ≡ landings_from (context m plan.locals plan.slots f (gives_of m f) []) [] t.nodes []) → LowLandings (context m plan.locals plan.slots f (gives_of m f) xs)
+  low plan planned xs e =
+      let is = planned a b found.tree found.type found.is in
+      low_ones plan found.tree found.type found.is is xs (e found.tree (writes plan found.tree found.type found.is is))
+
+pub is_rewritten : {E : Type 0} (m : Module) (f : ℕ) (b : Body) → body_in m f ≡ Some b → (plan : Planned) → IsPlanIn m f plan → (xs : List Landing) → ((t : Tree) → Writes b.targets b.ops t → xs ≡ landings_from (context m plan.locals plan.slots f (gives_of m f) []) [] t.nodes []) → (C : Ctx) → C ≡ context m plan.locals plan.slots f (gives_of m f) xs → (r : Result Body E)
+    → ((t : Tree) → Writes b.targets b.ops t → Fine C [] t.nodes → IfOk r (λ out. body_code out ≡ body_code (body_of (b.groups ++ groups C.slots) (laid C t.nodes)))) → IfOk r (IsRewritten m f)
+is_rewritten m f b here plan planned xs es C e (Err x) h = tt
+is_rewritten m f b here plan planned xs es C e (Ok out) h = λ a.
     let q = found m a f b here in
-    written_is m a f b here plan q.tree q.type q.is (planned a b q.tree q.type q.is) out
-    (subst (λ (c : Ctx). (t : Tree) → Writes b.targets b.ops t → Fine c [] t.nodes → body_code out ≡ body_code (body_of (b.groups ++ groups c.slots) (body c t.nodes))) e h)
+    let is = planned a b q.tree q.type q.is in
+    written_is m a f b here plan q.tree q.type q.is is out xs (es q.tree (writes m a f b here plan q.tree q.type q.is is))
+    (subst (λ (c : Ctx). (t : Tree) → Writes b.targets b.ops t → Fine c [] t.nodes → body_code out ≡ body_code (body_of (b.groups ++ groups c.slots) (laid c t.nodes))) e h)
+
+-- the context that is made is that of the plan
+pub planned_context : (m : Module) (f : ℕ) (plan : Planned) (xs : List Landing) {C : Ctx} {parts : Module} {ls ts : List ValType} {n : ℕ} {gives : Option ValType} → C ≡ context m ls n f gives xs → ls ≡ ts → ts ≡ plan.locals → n ≡ plan.slots → gives ≡ gives_of parts f → parts ≡ m → C ≡ context m plan.locals plan.slots f (gives_of m f) xs
+planned_context m f plan xs {n = n} {gives = gives} made locals types heights result source =
+    made
+    ∙ ap (λ ls. context m ls n f gives xs) (locals ∙ types)
+    ∙ ap (λ n. context m plan.locals n f gives xs) heights
+    ∙ ap (λ g. context m plan.locals plan.slots f g xs) (result ∙ ap (λ (x : Module). gives_of x f) source)
+
+-- the landings that were noted are the function's own
+pub own_landings : (m : Module) (f : ℕ) (plan : Planned) (b : Body) (xs : List Landing) {parts : Module} {ts : List ValType} {ops : List Op} → ts ≡ plan.locals → parts ≡ m → ops ≡ b.ops → ((C : Ctx) (targets : List ℕ) (t : Tree) → C.locals ≡ ts → C.source ≡ parts → Writes targets ops t → xs ≡ landings_from C [] t.nodes []) → (t : Tree) → Writes b.targets b.ops t → xs ≡ landings_from (context m plan.locals plan.slots f (gives_of m f) []) [] t.nodes []
+own_landings m f plan b xs types source code noted t w =
+    noted (context m plan.locals plan.slots f (gives_of m f) []) b.targets t (sym types) (sym source) (subst (λ (os : List Op). Writes b.targets os t) (sym code) w)
 
 -- what is promised of it
 pub promised : {E : Type 0} (m : Module) (f : ℕ) (r : Result Body E) → IfOk r (IsRewritten m f) → (a : Accepted m) (i : ℕ) (old : Body) → f ≡ length m.imports + i → slice_get m.bodies i ≡ Some old → IfOk r (BodyPromised m a.premises.whole i old)

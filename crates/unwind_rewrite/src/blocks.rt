@@ -2,8 +2,8 @@
 
 ghost use Rattle.std.specs.Prelude.{◌≡◌, ◌≤◌, true, List, length, Some, None, option_map, OnOk};
 ghost use Rattle.wasm_syntax.specs.Tree.{block, loop, choose, stop};
-ghost use Rattle.rewrite_bodies.specs.Slots.{Place as PlaceOf, Spilled as SpilledOf, less};
-ghost use Rattle.rewrite_bodies.specs.Pieces.{keep, spill};
+ghost use Rattle.rewrite_bodies.specs.calls.Slots.{Place as PlaceOf, Spilled as SpilledOf, less};
+ghost use Rattle.rewrite_bodies.specs.calls.Pieces.{keep, spill};
 ghost use Rattle.rewrite_code.specs.calls.Writing.{Opens};
 ghost use Rattle.unwind_rewrite.specs.calls.Bodies.{OpensTwo, OpensBoth, ClosesBefore};
 

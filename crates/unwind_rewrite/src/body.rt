@@ -4,17 +4,18 @@ ghost use Rattle.std.specs.Prelude.{◌≡◌, ◌+◌, ◌^◌, ◌<◌, ◌≤
 ghost use Rattle.wasm_syntax.specs.declared.parts.Body.{Body as FunctionBody};
 ghost use Rattle.wasm_syntax.specs.Module.{Ascend};
 ghost use Rattle.wasm_syntax.specs.Tree.{Tree as TreeOf, Writes};
-ghost use Rattle.wasm_validate.specs.Heights.{body_of as body_in};
-ghost use Rattle.rewrite_bodies.specs.Rewrite.{body as rewriting};
-ghost use Rattle.rewrite_bodies.specs.Slots.{groups};
+ghost use Rattle.rewrite_bodies.specs.calls.Landings.{most_landings};
+ghost use Rattle.rewrite_bodies.specs.calls.Rewrite.{laid};
+ghost use Rattle.rewrite_bodies.specs.calls.Slots.{groups};
 ghost use Rattle.wasm_syntax.specs.SameCode.{body_code};
-ghost use Rattle.rewrite_modules.specs.FlatCode.{body_of};
+ghost use Rattle.rewrite_modules.specs.calls.FlatCode.{body_of};
 ghost use Rattle.rewrite_modules.specs.Multiple.{half};
 ghost use Rattle.rewrite_modules.specs.Weight.{AreHeights};
 ghost use Rattle.rewrite_modules.specs.calls.Unwinding.{Unwinds};
-ghost use Rattle.rewrite_promise.specs.Promise.{Accepted};
+ghost use Rattle.rewrite_promise.specs.calls.Promise.{Accepted};
 ghost use Rattle.rewrite_promise.specs.calls.Layers.{BodyPromised};
 ghost use Rattle.operand_spill.specs.calls.Standing.{Fine};
+ghost use Rattle.unwind_rewrite.specs.calls.Bodies.{LowLandings};
 ghost use Rattle.unwind_rewrite.specs.calls.Numbers.{HasHelpers, AllHelped};
 ghost use Rattle.unwind_rewrite.specs.calls.Points.{CanBeWritten};
 ghost use Rattle.operand_spill.specs.calls.Plans.{IsDefined};
@@ -23,7 +24,7 @@ ghost use Rattle.unwind_rewrite.specs.calls.Rewritten.{Ascends, IsPlanIn, IsRewr
 use crate::{close_body, open_body, with_added, write_nodes};
 use causes::NoMemory;
 use index_map::IndexMap;
-use operand_spill::SlotPlan;
+use operand_spill::{SlotPlan, body_at, landings};
 use pm_text::Items;
 use rewrite_code::{CodeWriter, FunctionContext};
 use std::alloc::Global;
@@ -40,29 +41,22 @@ fn write_body(
     requires source { parts.now ≡ context.now.source }
     requires helpers { HasHelpers context.now }
     requires helped { AllHelped context.now body.now.ops }
-    requires few { length body.now.ops + 1 < 2 ^ 32 }
+    requires few { length body.now.ops + most_landings + 1 < 2 ^ 32 }
     requires tree { CanBeWritten context.now body.now }
+    requires low { LowLandings context.now }
     ensures code { (tree : TreeOf) → Writes body.now.targets body.now.ops tree
         → Fine context.now [] tree.nodes
         → IfOk result (λ out. body_code out
         ≡ body_code (body_of (body.now.groups ++ groups context.now.slots)
-        (rewriting context.now tree.nodes))) }
+        (laid context.now tree.nodes))) }
     ensures offsets { IfOk result (λ out. length out.ops ≤ 2 ^ 32 → Ascend 0 out.ops) }
 {
     let mut writer = CodeWriter::new(alloc);
-    open_body(&mut writer, context.gives())?;
+    open_body(context, &mut writer)?;
     write_nodes(alloc, context, &mut writer, parts, body)?;
     close_body(context, &mut writer)?;
     let locals = with_added(alloc, body.groups.as_slice(), context.slots())?;
     writer.finish(locals)
-}
-
-/// The body of a function that the module defines.
-fn body_at(parts: &ModuleParts, func: u32) -> &Body
-    requires { IsDefined parts.now func }
-    ensures { body_in parts.now func ≡ Some result.now }
-{
-    &parts.bodies.as_slice()[func as usize - parts.imports.len()]
 }
 
 /// What a function gives, if anything.
@@ -70,7 +64,7 @@ fn gives(parts: &ModuleParts, func: u32) -> Option<ValType>
     ensures { result ≡ gives_of parts.now func }
 {
     match parts.type_of(func as usize) {
-        Some(ftype) => ftype.results.get(0).copied(),
+        Some(ftype) => ftype.result_type(),
         None => None,
     }
 }
@@ -101,6 +95,7 @@ pub fn rewrite_body(
     let body = body_at(parts, func);
     let locals = Items::from_slice(alloc, plan.types())?;
     let result = gives(parts, func);
-    let context = FunctionContext::new(numbers, locals, plan.heights(), func, result);
+    let found = landings(alloc, plan.types(), parts, body.ops.as_slice())?;
+    let context = FunctionContext::new(numbers, locals, plan.heights(), func, result, found);
     write_body(alloc, &context, parts, body)
 }

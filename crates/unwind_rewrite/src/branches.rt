@@ -2,13 +2,15 @@
 
 ghost use Rattle.std.specs.Prelude.{◌≡◌, ℕ, ◌+◌, ◌^◌, ◌<◌, ◌≤◌, List, length, OnOk};
 ghost use Rattle.wasm_syntax.specs.Tree.{Nodes, BrTable, Unreachable, stop, jump};
-ghost use Rattle.rewrite_bodies.specs.Slots.{Place as PlaceOf};
-ghost use Rattle.rewrite_bodies.specs.Rewrite.{control};
+ghost use Rattle.rewrite_bodies.specs.calls.Landings.{most_landings};
+ghost use Rattle.rewrite_bodies.specs.calls.Slots.{Place as PlaceOf};
+ghost use Rattle.rewrite_bodies.specs.calls.Rewrite.{control};
 ghost use Rattle.rewrite_code.specs.calls.Writing.{EmitsLast};
 
+use crate::Site;
 use causes::NoMemory;
 use guard_insert::guard_unreachable;
-use rewrite_code::{CodeWriter, FunctionContext, OperandPlaces};
+use rewrite_code::{CodeWriter, FunctionContext};
 use wasm_syntax::Value;
 
 /// `br_table`. A body whose targets cannot be counted in 32 bits has no room.
@@ -31,20 +33,18 @@ pub fn branch_table(
 pub fn trap(
     context: &FunctionContext<'_, '_>,
     writer: &mut CodeWriter,
-    labels: u32,
-    places: &OperandPlaces,
-    offset: u32,
+    site: &Site<'_>,
 ) -> Result<(), NoMemory>
-    requires shallow { labels + 1 < 2 ^ 32 }
-    requires room { length places.now ≤ context.now.slots }
+    requires shallow { site.now.labels + most_landings + 1 < 2 ^ 32 }
+    requires room { length site.now.places.now ≤ context.now.slots }
     ensures { (go : List PlaceOf → Nodes)
-        → OnOk result (EmitsLast (control context.now labels places.now offset Unreachable go)
-        writer.old writer.new) }
+        → OnOk result (EmitsLast (control context.now site.now.labels site.now.places.now
+        site.now.offset Unreachable go) writer.old writer.new) }
 {
     guard_unreachable(writer)?;
     writer.open_if(None)?;
     writer.const_value(Value::I32(1))?;
-    context.unwind_kind(writer, labels, places, offset)?;
+    context.unwind_kind(writer, site.labels, site.places, site.offset)?;
     writer.close()?;
     writer.unreachable()
 }

@@ -7,12 +7,15 @@ ghost use Rattle.wasm_syntax.specs.Tree.{CallIndirect, stop, basic, jump};
 ghost use Rattle.wasm_syntax.specs.Machine.{result_of};
 ghost use Rattle.wasm_syntax.specs.Module.{function_types};
 ghost use Rattle.rewrite_bodies.specs.Numbering.{doubles, import_count};
-ghost use Rattle.rewrite_bodies.specs.Slots.{Place as PlaceOf, less, kind_at};
-ghost use Rattle.rewrite_bodies.specs.Pieces.{call, fetch, get, load, set, store};
-ghost use Rattle.rewrite_bodies.specs.Rewrite.{after_call, after_direct, call_code, helper_of, indirect_code, past_shown};
+ghost use Rattle.rewrite_bodies.specs.calls.Slots.{Place as PlaceOf, less, kind_at};
+ghost use Rattle.rewrite_bodies.specs.calls.Pieces.{call, fetch, get, load, set, store};
+ghost use Rattle.rewrite_bodies.specs.calls.Rewrite.{after_call, after_direct, call_code, helper_of, indirect_code};
+ghost use Rattle.rewrite_bodies.specs.calls.Rewrite.{past_shown};
 ghost use Rattle.rewrite_code.specs.calls.Writing.{Emits, EmitsLast};
 ghost use Rattle.rewrite_code.specs.calls.Places.{place};
+ghost use Rattle.rewrite_bodies.specs.calls.Landings.{most_landings};
 
+use crate::Site;
 use crate::left::{keep_left, reload_left, store_left, test_both, test_flag};
 use causes::NoMemory;
 use guard_insert::guard_entry;
@@ -26,13 +29,6 @@ pub struct TypeNumbers {
     pub helper: u32,
 }
 
-/// What a function gives, if anything.
-fn result_type(ftype: &FuncType) -> Option<ValType>
-    ensures { result ≡ result_of ftype.now }
-{
-    ftype.results.get(0).copied()
-}
-
 /// Whether a function is imported: the collector's imports stand behind the module's.
 fn is_imported(context: &FunctionContext<'_, '_>, function: u32) -> bool
     ensures { result ≡ nat_lt function (import_count context.now.source) }
@@ -44,43 +40,40 @@ fn is_imported(context: &FunctionContext<'_, '_>, function: u32) -> bool
 fn after_call(
     context: &FunctionContext<'_, '_>,
     writer: &mut CodeWriter,
-    labels: u32,
-    places: &OperandPlaces,
+    site: &Site<'_>,
     count: usize,
-    offset: u32,
     gives: Option<ValType>,
 ) -> Result<(), NoMemory>
-    requires shallow { labels + 1 < 2 ^ 32 }
-    requires room { length places.now ≤ context.now.slots }
-    ensures { OnOk result (Emits (λ k. after_call context.now labels gives (less count places.now) offset
-        (λ es. k)) writer.old writer.new) }
+    requires shallow { site.now.labels + most_landings + 1 < 2 ^ 32 }
+    requires room { length site.now.places.now ≤ context.now.slots }
+    ensures { OnOk result (Emits (λ k. after_call context.now site.now.labels gives
+        (less count site.now.places.now) site.now.offset (λ es. k)) writer.old writer.new) }
 {
-    keep_left(context, writer, gives, places, count)?;
-    test_flag(context, writer, labels, places, count, offset)
+    keep_left(context, writer, gives, site.places, count)?;
+    test_flag(context, writer, site, count)
 }
 
 /// Behind the call of a function. An import cannot come back with the flag up.
 fn after_direct(
     context: &FunctionContext<'_, '_>,
     writer: &mut CodeWriter,
-    labels: u32,
-    places: &OperandPlaces,
-    offset: u32,
+    site: &Site<'_>,
     function: u32,
     ftype: &FuncType,
 ) -> Result<(), NoMemory>
-    requires shallow { labels + 1 < 2 ^ 32 }
-    requires room { length places.now ≤ context.now.slots }
+    requires shallow { site.now.labels + most_landings + 1 < 2 ^ 32 }
+    requires room { length site.now.places.now ≤ context.now.slots }
     ensures { OnOk result (Emits (λ k. after_direct (nat_lt function (import_count context.now.source))
-        context.now labels (result_of ftype.now) (less (length ftype.now.params) places.now) offset
-        (λ es. k)) writer.old writer.new) }
+        context.now site.now.labels (result_of ftype.now)
+        (less (length ftype.now.params) site.now.places.now) site.now.offset (λ es. k)) writer.old
+        writer.new) }
 {
     let count = ftype.params.len();
-    let gives = result_type(ftype);
+    let gives = ftype.result_type();
     if is_imported(context, function) {
-        keep_left(context, writer, gives, places, count)
+        keep_left(context, writer, gives, site.places, count)
     } else {
-        after_call(context, writer, labels, places, count, offset, gives)
+        after_call(context, writer, site, count, gives)
     }
 }
 
@@ -88,20 +81,18 @@ fn after_direct(
 pub fn call_function(
     context: &FunctionContext<'_, '_>,
     writer: &mut CodeWriter,
-    labels: u32,
-    places: &OperandPlaces,
-    offset: u32,
+    site: &Site<'_>,
     function: u32,
     ftype: &FuncType,
 ) -> Result<(), NoMemory>
     requires there { function < length (function_types context.now.source) }
-    requires shallow { labels + 1 < 2 ^ 32 }
-    requires room { length places.now ≤ context.now.slots }
-    ensures { OnOk result (Emits (λ k. call_code context.now labels places.now offset function
-        (Some ftype.now) (λ es. k)) writer.old writer.new) }
+    requires shallow { site.now.labels + most_landings + 1 < 2 ^ 32 }
+    requires room { length site.now.places.now ≤ context.now.slots }
+    ensures { OnOk result (Emits (λ k. call_code context.now site.now.labels site.now.places.now
+        site.now.offset function (Some ftype.now) (λ es. k)) writer.old writer.new) }
 {
     writer.call(context.map().function(function))?;
-    after_direct(context, writer, labels, places, offset, function, ftype)
+    after_direct(context, writer, site, function, ftype)
 }
 
 /// The kind that a helper gives for the index of an entry, which is kept, and whether it is none.
@@ -164,29 +155,28 @@ fn call_entry(
 pub fn call_through_table(
     context: &FunctionContext<'_, '_>,
     writer: &mut CodeWriter,
-    labels: u32,
-    places: &OperandPlaces,
-    offset: u32,
+    site: &Site<'_>,
     numbers: TypeNumbers,
     ftype: &FuncType,
 ) -> Result<(), NoMemory>
-    requires shallow { labels + 1 < 2 ^ 32 }
-    requires room { length places.now ≤ context.now.slots }
+    requires shallow { site.now.labels + most_landings + 1 < 2 ^ 32 }
+    requires room { length site.now.places.now ≤ context.now.slots }
     ensures { (e : PlaceOf) (es : List PlaceOf)
-        → numbers.helper ≡ helper_of context.now numbers.index → places.now ≡ e ∷ es
-        → OnOk result (Emits (λ k. indirect_code context.now labels places.now offset numbers.index
-        (Some ftype.now) (λ es. k)) writer.old writer.new) }
+        → numbers.helper ≡ helper_of context.now numbers.index → site.now.places.now ≡ e ∷ es
+        → OnOk result (Emits (λ k. indirect_code context.now site.now.labels site.now.places.now
+        site.now.offset numbers.index (Some ftype.now) (λ es. k)) writer.old writer.new) }
 {
+    let places = site.places;
     let Some(entry) = places.peek(0) else {
         return Ok(());
     };
-    let gives = result_type(ftype);
+    let gives = ftype.result_type();
     let count = ftype.params.as_slice().len() + 1;
     keep_verdict(context, writer, entry, places.len() - 1, numbers.helper)?;
     writer.open_if(None)?;
     call_entry(context, writer, places, count, numbers.index, gives)?;
     writer.close()?;
-    test_both(context, writer, labels, places, count, offset)?;
+    test_both(context, writer, site, count)?;
     drops(writer, count)?;
     reload_left(context, writer, gives, places, count)
 }

@@ -1,37 +1,26 @@
 //! The body of a rewritten function around its nodes: a block behind which the function returns, in
-//! a block behind which the frame is handed over.
+//! those of its landings, in a block behind which the frame is handed over.
 
-ghost use Rattle.std.specs.Prelude.{◌≡◌, [], length, OnOk};
-ghost use Rattle.wasm_syntax.specs.Tree.{Nodes};
-ghost use Rattle.wasm_syntax.specs.Machine.{zero_of};
+ghost use Rattle.std.specs.Prelude.{◌≡◌, ◌≤◌, [], length, OnOk};
+ghost use Rattle.wasm_syntax.specs.Tree.{Nodes, block};
 ghost use Rattle.rewrite_bodies.specs.Numbering.{frame_import};
-ghost use Rattle.rewrite_bodies.specs.Slots.{kind_at, offset_at};
-ghost use Rattle.rewrite_bodies.specs.Pieces.{get, const, i32, call};
-ghost use Rattle.rewrite_bodies.specs.Rewrite.{rewrite, zero_result, raise_flag, exit_code, body};
-ghost use Rattle.rewrite_code.specs.calls.Writing.{Written, Emits, EmitsLast};
-ghost use Rattle.unwind_rewrite.specs.calls.Bodies.{OpensTwo};
+ghost use Rattle.rewrite_bodies.specs.calls.Slots.{kind_at, offset_at};
+ghost use Rattle.rewrite_bodies.specs.calls.Pieces.{get, const, i32, call};
+ghost use Rattle.rewrite_bodies.specs.calls.Rewrite.{rewrite, zero_result, raise_flag, exit_code, hand_carried, landing_code, laid};
+ghost use Rattle.rewrite_code.specs.calls.Writing.{Written, Emits, EmitsLast, Opens};
+ghost use Rattle.rewrite_code.specs.calls.KeptLandings.{landing as landing_in};
+ghost use Rattle.unwind_rewrite.specs.calls.Bodies.{OpensBody, OpensNested, ClosesNested, LowLandings};
 
-use crate::blocks::open_two;
 use causes::NoMemory;
-use rewrite_code::{CodeWriter, FunctionContext};
+use rewrite_code::{CodeWriter, FunctionContext, Landing};
 use wasm_syntax::{Basic, ValType, Value};
-
-/// The zero of a type.
-fn zero(t: ValType) -> Value
-    ensures { result ≡ zero_of t }
-{
-    match t {
-        ValType::I32 => Value::I32(0),
-        ValType::I64 => Value::I64(0),
-    }
-}
 
 /// A zero, where there is a result.
 fn zero_result(writer: &mut CodeWriter, gives: Option<ValType>) -> Result<(), NoMemory>
     ensures { OnOk result (Emits (zero_result gives) writer.old writer.new) }
 {
     match gives {
-        Some(t) => writer.const_value(zero(t)),
+        Some(t) => writer.const_value(t.zero()),
         None => Ok(()),
     }
 }
@@ -80,11 +69,89 @@ fn exit(context: &FunctionContext<'_, '_>, writer: &mut CodeWriter) -> Result<()
     writer.return_values()
 }
 
-/// The beginning of the body: the exit block, and the body's block in it, which gives this.
-pub fn open_body(writer: &mut CodeWriter, gives: Option<ValType>) -> Result<(), NoMemory>
-    ensures { OnOk result (OpensTwo gives writer.old writer.new) }
+/// The operand that came with the branch to a landing.
+fn hand_carried(
+    context: &FunctionContext<'_, '_>,
+    writer: &mut CodeWriter,
+    carried: Option<ValType>,
+) -> Result<(), NoMemory>
+    ensures { OnOk result (Emits (hand_carried context.now carried) writer.old writer.new) }
 {
-    open_two(writer, gives)
+    match carried {
+        Some(t) => context.hand_value(writer, t),
+        None => Ok(()),
+    }
+}
+
+/// Behind the block of a landing, in those of so many others: the operands are handed over, and the
+/// code goes to the exit.
+fn landing(
+    context: &FunctionContext<'_, '_>,
+    writer: &mut CodeWriter,
+    found: &Landing,
+    others: u32,
+) -> Result<(), NoMemory>
+    requires { length found.now.places ≤ context.now.slots }
+    ensures { OnOk result (EmitsLast (landing_code context.now others (landing_in found.now))
+        writer.old writer.new) }
+{
+    writer.const_value(Value::I32(found.kind))?;
+    context.set(writer, context.kind_at())?;
+    context.hand(writer, &found.places)?;
+    hand_carried(context, writer, found.carried)?;
+    writer.branch(others)
+}
+
+/// The beginning of the block of a landing, which gives the operand that comes with the branch.
+fn open_landing(writer: &mut CodeWriter, found: &Landing) -> Result<(), NoMemory>
+    ensures { OnOk result (Opens (λ inner k. block 0 found.now.carried inner 0 k) writer.old
+        writer.new) }
+{
+    writer.open_block(found.carried)
+}
+
+/// The beginning of the blocks of landings, the last one outermost.
+fn open_landings(context: &FunctionContext<'_, '_>, writer: &mut CodeWriter) -> Result<(), NoMemory>
+    ensures { OnOk result (OpensNested context.now context.now.landings writer.old writer.new) }
+{
+    let landings = context.landings();
+    let mut left = landings.len();
+    while left > 0 {
+        left -= 1;
+        open_landing(writer, &landings[left])?;
+    }
+    Ok(())
+}
+
+/// The ends of the blocks of landings, the first one innermost, each with its code.
+fn close_landings(
+    context: &FunctionContext<'_, '_>,
+    writer: &mut CodeWriter,
+) -> Result<(), NoMemory>
+    requires { LowLandings context.now }
+    ensures { OnOk result (ClosesNested context.now context.now.landings writer.old writer.new) }
+{
+    let landings = context.landings();
+    for number in 0..landings.len() {
+        writer.close()?;
+        landing(
+            context,
+            writer,
+            &landings[number],
+            (landings.len() - 1 - number) as u32,
+        )?;
+    }
+    Ok(())
+}
+
+/// The beginning of the body: the exit block, those of the landings in it, and the body's block,
+/// which gives what the function does.
+pub fn open_body(context: &FunctionContext<'_, '_>, writer: &mut CodeWriter) -> Result<(), NoMemory>
+    ensures { OnOk result (OpensBody context.now writer.old writer.new) }
+{
+    writer.open_block(None)?;
+    open_landings(context, writer)?;
+    writer.open_block(context.gives())
 }
 
 /// The end of the body, behind its nodes.
@@ -92,12 +159,14 @@ pub fn close_body(
     context: &FunctionContext<'_, '_>,
     writer: &mut CodeWriter,
 ) -> Result<(), NoMemory>
-    ensures { (nodes : Nodes) (start inside : Written) → OpensTwo context.now.result start inside
+    requires { LowLandings context.now }
+    ensures { (nodes : Nodes) (start inside : Written) → OpensBody context.now start inside
         → EmitsLast (rewrite context.now 1 [] nodes) inside writer.old
-        → OnOk result (EmitsLast (body context.now nodes) start writer.new) }
+        → OnOk result (EmitsLast (laid context.now nodes) start writer.new) }
 {
     writer.close()?;
     writer.return_values()?;
+    close_landings(context, writer)?;
     writer.close()?;
     exit(context, writer)
 }

@@ -4,7 +4,7 @@ ghost use Rattle.std.specs.Prelude.{◌≡◌, ℕ, map, OnOk};
 ghost use Rattle.wasm_syntax.specs.declared.module.ModuleParts.{ModuleParts as Module};
 ghost use Rattle.wasm_syntax.specs.declared.instruction.Basic.TheVariants.{LocalGet as LocalGetOf};
 ghost use Rattle.wasm_syntax.specs.Tree.{BrTable, stop, basic, jump};
-ghost use Rattle.rewrite_bodies.specs.Guards.{entry_label, first_table, helper, says};
+ghost use Rattle.rewrite_bodies.specs.calls.Guards.{entry_label, first_table, helper, says};
 ghost use Rattle.rewrite_code.specs.calls.Writing.{EmitsLast};
 ghost use Rattle.unwind_rewrite.specs.calls.Bodies.{ClosesWith};
 

@@ -2,16 +2,16 @@
 
 ghost use Rattle.std.specs.Prelude.{◌≡◌, ℕ, ◌+◌, ◌^◌, ◌<◌, ◌≤◌, ◌∷◌, List, length, IfOk, OnOk};
 ghost use Rattle.wasm_syntax.specs.Tree.{Plain, Opens, OpensLoop, OpensIf, Else as ElseOf, End as EndOf, item_of};
-ghost use Rattle.rewrite_bodies.specs.Slots.{Ctx as CtxOf};
+ghost use Rattle.rewrite_bodies.specs.calls.Landings.{most_landings};
+ghost use Rattle.rewrite_bodies.specs.calls.Slots.{Ctx as CtxOf};
 ghost use Rattle.operand_spill.specs.declared.labels.OpenBlock.{OpenBlock as OpenBlockOf};
 ghost use Rattle.unwind_rewrite.specs.calls.Numbers.{HasHelpers, Helped};
 ghost use Rattle.unwind_rewrite.specs.calls.Points.{Advances, IsBehind, Resumes};
 
 use crate::jumps::write_jump;
-use crate::points::Flow;
-use crate::{close_block, instruction, open_block, open_if, open_loop};
+use crate::{Site, close_block, instruction, open_block, open_if, open_loop};
 use causes::NoMemory;
-use operand_spill::{Label, Walk, result_place, takes};
+use operand_spill::{Flow, Label, Walk, result_place, takes};
 use rewrite_code::{CodeWriter, FunctionContext};
 use wasm_syntax::{Basic, Instr, ModuleParts, Op, ValType};
 
@@ -25,7 +25,7 @@ fn write_basic(
     basic: Basic,
 ) -> Result<Flow, NoMemory>
     requires source { parts.now ≡ context.now.source }
-    requires shallow { length walk.old.opens + 2 < 2 ^ 32 }
+    requires shallow { length walk.old.opens + most_landings + 2 < 2 ^ 32 }
     requires room { length walk.old.places ≤ context.now.slots }
     ensures { IfOk result (Advances context.now offset (Plain basic) walk.old writer.old walk.new
         writer.new) }
@@ -36,9 +36,11 @@ fn write_basic(
     instruction(
         context,
         writer,
-        labels,
-        walk.places(),
-        offset,
+        &Site {
+            labels,
+            places: walk.places(),
+            offset,
+        },
         basic,
         taken,
         gives,
@@ -108,7 +110,7 @@ pub(crate) fn write_live(
     requires source { parts.now ≡ context.now.source }
     requires helpers { HasHelpers context.now }
     requires helped { Helped context.now op.code }
-    requires shallow { length walk.old.opens + 2 < 2 ^ 32 }
+    requires shallow { length walk.old.opens + most_landings + 2 < 2 ^ 32 }
     requires room { length walk.old.places ≤ context.now.slots }
     ensures { IfOk result (Advances context.now op.at (item_of targets.now op.code) walk.old
         writer.old walk.new writer.new) }
@@ -119,8 +121,8 @@ pub(crate) fn write_live(
         Instr::Block(gives) => write_block(context, writer, walk, gives),
         Instr::Loop(gives) => write_loop(context, writer, walk, gives),
         Instr::If(gives) => write_if(context, writer, walk, gives),
-        Instr::Else => Ok(Flow::Leaves),
-        Instr::End => Ok(Flow::Leaves),
+        Instr::Else => Ok(Flow::Ends),
+        Instr::End => Ok(Flow::Ends),
     }
 }
 

@@ -1,28 +1,22 @@
 //! Control instructions that hold no others.
 
 ghost use Rattle.std.specs.Prelude.{◌≡◌, ℕ, ◌+◌, ◌^◌, ◌<◌, ◌≤◌, true, length, take, drop, IfOk};
-ghost use Rattle.wasm_syntax.specs.Machine.{result_of};
-ghost use Rattle.wasm_syntax.specs.Tree.{Goes, Br as BrOf, BrIf as BrIfOf, BrTable as BrTableOf, Return as ReturnOf, Unreachable as UnreachableOf, Call as CallOf, CallIndirect as CallIndirectOf, jump_of};
+ghost use Rattle.wasm_syntax.specs.Tree.{Goes, Br as BrOf, BrIf as BrIfOf, BrTable as BrTableOf, Return as ReturnOf};
+ghost use Rattle.wasm_syntax.specs.Tree.{Unreachable as UnreachableOf, Call as CallOf, CallIndirect as CallIndirectOf};
+ghost use Rattle.wasm_syntax.specs.Tree.{jump_of};
+ghost use Rattle.rewrite_bodies.specs.calls.Landings.{most_landings};
 ghost use Rattle.rewrite_bodies.specs.Numbering.{is_in};
-ghost use Rattle.rewrite_bodies.specs.Slots.{Ctx as CtxOf};
+ghost use Rattle.rewrite_bodies.specs.calls.Slots.{Ctx as CtxOf};
 ghost use Rattle.rewrite_modules.specs.Weight.{types_used};
 ghost use Rattle.operand_spill.specs.calls.Walking.{Walking as WalkingOf};
 ghost use Rattle.unwind_rewrite.specs.calls.Numbers.{HasHelpers, JumpHelped};
 ghost use Rattle.unwind_rewrite.specs.calls.Points.{Advances};
 
-use crate::points::Flow;
-use crate::{TypeNumbers, branch_table, call_function, call_through_table, trap};
+use crate::{Site, TypeNumbers, branch_table, call_function, call_through_table, trap};
 use causes::NoMemory;
-use operand_spill::Walk;
+use operand_spill::{Flow, Walk};
 use rewrite_code::{CodeWriter, FunctionContext};
-use wasm_syntax::{FuncType, Jump, ModuleParts, ValType};
-
-/// What a function gives, if anything.
-fn result_type(ftype: &FuncType) -> Option<ValType>
-    ensures { result ≡ result_of ftype.now }
-{
-    ftype.results.get(0).copied()
-}
+use wasm_syntax::{Jump, ModuleParts};
 
 /// So many targets of a `br_table`, from a place on.
 fn targets_at(targets: &[u32], start: u32, count: u32) -> &[u32]
@@ -39,7 +33,7 @@ fn write_branch(writer: &mut CodeWriter, label: u32) -> Result<Flow, NoMemory>
         (Advances C o (Goes (BrOf label)) w writer.old w writer.new) }
 {
     writer.branch(label)?;
-    Ok(Flow::Leaves)
+    Ok(Flow::Ends)
 }
 
 /// `br_if`, behind which the code goes on.
@@ -62,7 +56,7 @@ fn write_branch_table(
         (Advances C o (Goes (BrTableOf targets.now default_label)) w writer.old w writer.new) }
 {
     branch_table(writer, targets, default_label)?;
-    Ok(Flow::Leaves)
+    Ok(Flow::Ends)
 }
 
 /// `return`.
@@ -71,7 +65,7 @@ fn write_return(writer: &mut CodeWriter) -> Result<Flow, NoMemory>
         (Advances C o (Goes ReturnOf) w writer.old w writer.new) }
 {
     writer.return_values()?;
-    Ok(Flow::Leaves)
+    Ok(Flow::Ends)
 }
 
 /// `unreachable`.
@@ -81,13 +75,21 @@ fn write_trap(
     walk: &Walk,
     offset: u32,
 ) -> Result<Flow, NoMemory>
-    requires shallow { length walk.now.opens + 2 < 2 ^ 32 }
+    requires shallow { length walk.now.opens + most_landings + 2 < 2 ^ 32 }
     requires room { length walk.now.places ≤ context.now.slots }
     ensures { IfOk result (Advances context.now offset (Goes UnreachableOf) walk.now writer.old
         walk.now writer.new) }
 {
-    trap(context, writer, walk.depth() as u32, walk.places(), offset)?;
-    Ok(Flow::Leaves)
+    trap(
+        context,
+        writer,
+        &Site {
+            labels: walk.depth() as u32,
+            places: walk.places(),
+            offset,
+        },
+    )?;
+    Ok(Flow::Ends)
 }
 
 /// `call`.
@@ -100,25 +102,27 @@ fn write_call(
     function: u32,
 ) -> Result<Flow, NoMemory>
     requires source { parts.now ≡ context.now.source }
-    requires shallow { length walk.old.opens + 2 < 2 ^ 32 }
+    requires shallow { length walk.old.opens + most_landings + 2 < 2 ^ 32 }
     requires room { length walk.old.places ≤ context.now.slots }
     ensures { IfOk result (Advances context.now offset (Goes (CallOf function)) walk.old writer.old
         walk.new writer.new) }
 {
     let Some(ftype) = parts.type_of(function as usize) else {
-        return Ok(Flow::Leaves);
+        return Ok(Flow::Ends);
     };
     let labels = walk.depth() as u32;
     call_function(
         context,
         writer,
-        labels,
-        walk.places(),
-        offset,
+        &Site {
+            labels,
+            places: walk.places(),
+            offset,
+        },
         function,
         ftype,
     )?;
-    walk.perform(ftype.params.len(), result_type(ftype))?;
+    walk.perform(ftype.params.len(), ftype.result_type())?;
     Ok(Flow::Next)
 }
 
@@ -134,16 +138,16 @@ fn write_call_indirect(
     requires source { parts.now ≡ context.now.source }
     requires helpers { HasHelpers context.now }
     requires helped { is_in index (types_used context.now.source) ≡ true }
-    requires shallow { length walk.old.opens + 2 < 2 ^ 32 }
+    requires shallow { length walk.old.opens + most_landings + 2 < 2 ^ 32 }
     requires room { length walk.old.places ≤ context.now.slots }
     ensures { IfOk result (Advances context.now offset (Goes (CallIndirectOf index)) walk.old
         writer.old walk.new writer.new) }
 {
     let Some(ftype) = parts.types.get(index as usize) else {
-        return Ok(Flow::Leaves);
+        return Ok(Flow::Ends);
     };
     if walk.places().len() == 0 {
-        return Ok(Flow::Leaves);
+        return Ok(Flow::Ends);
     }
     let taken = ftype.params.as_slice().len() + 1;
     let labels = walk.depth() as u32;
@@ -152,13 +156,15 @@ fn write_call_indirect(
     call_through_table(
         context,
         writer,
-        labels,
-        walk.places(),
-        offset,
+        &Site {
+            labels,
+            places: walk.places(),
+            offset,
+        },
         numbers,
         ftype,
     )?;
-    walk.perform(taken, result_type(ftype))?;
+    walk.perform(taken, ftype.result_type())?;
     Ok(Flow::Next)
 }
 
@@ -175,7 +181,7 @@ pub(crate) fn write_jump(
     requires source { parts.now ≡ context.now.source }
     requires helpers { HasHelpers context.now }
     requires helped { JumpHelped context.now jump }
-    requires shallow { length walk.old.opens + 2 < 2 ^ 32 }
+    requires shallow { length walk.old.opens + most_landings + 2 < 2 ^ 32 }
     requires room { length walk.old.places ≤ context.now.slots }
     ensures { IfOk result (Advances context.now offset (Goes (jump_of targets.now jump)) walk.old
         writer.old walk.new writer.new) }

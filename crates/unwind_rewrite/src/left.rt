@@ -1,16 +1,18 @@
 //! The operands that a call leaves: they are handed over where the callee unwound, or where the
 //! call would trap.
 
-ghost use Rattle.std.specs.Prelude.{◌+◌, ◌^◌, ◌<◌, ◌≤◌, length, option_map, OnOk};
+ghost use Rattle.std.specs.Prelude.{◌+◌, ◌^◌, ◌<◌, ◌≤◌, length, option_map, Some, None, OnOk};
 ghost use Rattle.wasm_syntax.specs.Tree.{stop};
-ghost use Rattle.rewrite_bodies.specs.Slots.{Spilled as SpilledOf, less, kind_at, offset_at, place_type};
-ghost use Rattle.rewrite_bodies.specs.Pieces.{const, fetch, i32, keep, reload, set, store};
-ghost use Rattle.rewrite_bodies.specs.Rewrite.{hand, hand_top, hand_value, hand_left, unwind, test_flag, test_both};
+ghost use Rattle.rewrite_bodies.specs.calls.Landings.{most_landings};
+ghost use Rattle.rewrite_bodies.specs.calls.Slots.{Spilled as SpilledOf, less, kind_at, offset_at};
+ghost use Rattle.rewrite_bodies.specs.calls.Pieces.{const, i32, keep, reload, set, store};
+ghost use Rattle.rewrite_bodies.specs.calls.Rewrite.{hand, hand_top, hand_left, unwind, checked, get_flag, test_flag};
+ghost use Rattle.rewrite_bodies.specs.calls.Rewrite.{test_both};
 ghost use Rattle.rewrite_code.specs.calls.Writing.{Emits, EmitsLast};
-ghost use Rattle.rewrite_code.specs.calls.Places.{place};
 
+use crate::Site;
 use causes::NoMemory;
-use rewrite_code::{CodeWriter, FunctionContext, OperandPlace, OperandPlaces, to_exit};
+use rewrite_code::{CodeWriter, FunctionContext, OperandPlaces};
 use wasm_syntax::{Basic, Binary, ValType, Value};
 
 /// A result on the stack is kept over the operands under so many.
@@ -58,21 +60,6 @@ pub(crate) fn store_left(
     context.store(writer, gives, places.len().saturating_sub(count))
 }
 
-/// The operand at a height.
-fn hand_one(
-    context: &FunctionContext<'_, '_>,
-    writer: &mut CodeWriter,
-    operand: OperandPlace,
-    height: usize,
-) -> Result<(), NoMemory>
-    requires { height ≤ context.now.slots }
-    ensures { OnOk result (Emits (λ k. fetch context.now (place operand) height
-        (hand_value context.now (place_type (place operand)) k)) writer.old writer.new) }
-{
-    context.fetch(writer, operand, height)?;
-    context.hand_value(writer, operand.value_type())
-}
-
 /// The operands under so many, the lowest first.
 fn hand_under(
     context: &FunctionContext<'_, '_>,
@@ -86,22 +73,9 @@ fn hand_under(
     let operands = places.as_slice();
     let kept = operands.len().saturating_sub(count);
     for height in 0..kept {
-        hand_one(context, writer, operands[height], height)?;
+        context.hand_one(writer, operands[height], height)?;
     }
     Ok(())
-}
-
-/// The code offset is kept.
-fn set_offset(
-    context: &FunctionContext<'_, '_>,
-    writer: &mut CodeWriter,
-    offset: u32,
-) -> Result<(), NoMemory>
-    ensures { OnOk result (Emits (λ k. const (i32 offset)
-        (set context.now (offset_at context.now) k)) writer.old writer.new) }
-{
-    writer.const_value(Value::I32(offset))?;
-    context.set(writer, context.offset_at())
 }
 
 /// The kind of a trap in another frame is kept.
@@ -117,41 +91,75 @@ fn set_no_kind(context: &FunctionContext<'_, '_>, writer: &mut CodeWriter) -> Re
 fn unwind_caller(
     context: &FunctionContext<'_, '_>,
     writer: &mut CodeWriter,
-    labels: u32,
-    places: &OperandPlaces,
+    site: &Site<'_>,
     count: usize,
-    offset: u32,
 ) -> Result<(), NoMemory>
-    requires shallow { labels + 1 < 2 ^ 32 }
-    requires room { length places.now ≤ context.now.slots }
+    requires shallow { site.now.labels + most_landings + 1 < 2 ^ 32 }
+    requires room { length site.now.places.now ≤ context.now.slots }
     ensures { OnOk result (EmitsLast (const (i32 0)
         (set context.now (kind_at context.now)
-        (unwind context.now labels (less count places.now) offset))) writer.old writer.new) }
+        (unwind context.now site.now.labels (less count site.now.places.now) site.now.offset)))
+        writer.old writer.new) }
 {
     set_no_kind(context, writer)?;
-    set_offset(context, writer, offset)?;
-    hand_under(context, writer, places, count)?;
-    to_exit(writer, labels)
+    context.set_offset(writer, site.offset)?;
+    hand_under(context, writer, site.places, count)?;
+    context.to_exit(writer, site.labels)
+}
+
+/// Where the flag is up behind a call that took so many operands, they are handed over in place.
+fn test_in_place(
+    context: &FunctionContext<'_, '_>,
+    writer: &mut CodeWriter,
+    site: &Site<'_>,
+    count: usize,
+) -> Result<(), NoMemory>
+    requires shallow { site.now.labels + most_landings + 1 < 2 ^ 32 }
+    requires room { length site.now.places.now ≤ context.now.slots }
+    ensures { OnOk result (Emits (checked None context.now site.now.labels
+        (less count site.now.places.now) site.now.offset (get_flag context.now) (const (i32 0)))
+        writer.old writer.new) }
+{
+    context.get_flag(writer)?;
+    writer.open_if(None)?;
+    unwind_caller(context, writer, site, count)?;
+    writer.close()
+}
+
+/// Or at this landing.
+fn test_by_landing(
+    context: &FunctionContext<'_, '_>,
+    writer: &mut CodeWriter,
+    site: &Site<'_>,
+    count: usize,
+    number: u32,
+) -> Result<(), NoMemory>
+    requires shallow { site.now.labels + number < 2 ^ 32 }
+    ensures { OnOk result (Emits (checked (Some number) context.now site.now.labels
+        (less count site.now.places.now) site.now.offset (get_flag context.now) (const (i32 0)))
+        writer.old writer.new) }
+{
+    context.set_offset(writer, site.offset)?;
+    context.get_flag(writer)?;
+    context.to_landing(writer, site.labels, number)
 }
 
 /// Where the flag is up behind a call that took so many operands, the code unwinds.
 pub(crate) fn test_flag(
     context: &FunctionContext<'_, '_>,
     writer: &mut CodeWriter,
-    labels: u32,
-    places: &OperandPlaces,
+    site: &Site<'_>,
     count: usize,
-    offset: u32,
 ) -> Result<(), NoMemory>
-    requires shallow { labels + 1 < 2 ^ 32 }
-    requires room { length places.now ≤ context.now.slots }
-    ensures { OnOk result (Emits (test_flag context.now labels (less count places.now) offset) writer.old
-        writer.new) }
+    requires shallow { site.now.labels + most_landings + 1 < 2 ^ 32 }
+    requires room { length site.now.places.now ≤ context.now.slots }
+    ensures { OnOk result (Emits (test_flag context.now site.now.labels
+        (less count site.now.places.now) site.now.offset) writer.old writer.new) }
 {
-    context.get_flag(writer)?;
-    writer.open_if(None)?;
-    unwind_caller(context, writer, labels, places, count, offset)?;
-    writer.close()
+    match context.landing_behind(site.places, count) {
+        Some(number) => test_by_landing(context, writer, site, count, number),
+        None => test_in_place(context, writer, site, count),
+    }
 }
 
 /// The operands under so many are handed over, and those too where the guard gave a kind.
@@ -162,7 +170,7 @@ fn hand_left(
     places: &OperandPlaces,
     count: usize,
 ) -> Result<(), NoMemory>
-    requires shallow { labels + 1 < 2 ^ 32 }
+    requires shallow { labels + most_landings + 1 < 2 ^ 32 }
     requires room { length places.now ≤ context.now.slots }
     ensures { OnOk result (EmitsLast (hand_left context.now labels (less count places.now)
         (hand_top context.now count places.now stop)) writer.old writer.new) }
@@ -172,27 +180,25 @@ fn hand_left(
     writer.open_if(None)?;
     context.hand_top(writer, count, places)?;
     writer.close()?;
-    to_exit(writer, labels)
+    context.to_exit(writer, labels)
 }
 
 /// The code offset is kept, and the operands are handed over.
 fn unwind_both(
     context: &FunctionContext<'_, '_>,
     writer: &mut CodeWriter,
-    labels: u32,
-    places: &OperandPlaces,
+    site: &Site<'_>,
     count: usize,
-    offset: u32,
 ) -> Result<(), NoMemory>
-    requires shallow { labels + 1 < 2 ^ 32 }
-    requires room { length places.now ≤ context.now.slots }
-    ensures { OnOk result (EmitsLast (const (i32 offset)
+    requires shallow { site.now.labels + most_landings + 1 < 2 ^ 32 }
+    requires room { length site.now.places.now ≤ context.now.slots }
+    ensures { OnOk result (EmitsLast (const (i32 site.now.offset)
         (set context.now (offset_at context.now)
-        (hand_left context.now labels (less count places.now)
-        (hand_top context.now count places.now stop)))) writer.old writer.new) }
+        (hand_left context.now site.now.labels (less count site.now.places.now)
+        (hand_top context.now count site.now.places.now stop)))) writer.old writer.new) }
 {
-    set_offset(context, writer, offset)?;
-    hand_left(context, writer, labels, places, count)
+    context.set_offset(writer, site.offset)?;
+    hand_left(context, writer, site.labels, site.places, count)
 }
 
 /// The code unwinds where the guard of a call gave a kind or the flag is up; so many operands were
@@ -200,20 +206,19 @@ fn unwind_both(
 pub(crate) fn test_both(
     context: &FunctionContext<'_, '_>,
     writer: &mut CodeWriter,
-    labels: u32,
-    places: &OperandPlaces,
+    site: &Site<'_>,
     count: usize,
-    offset: u32,
 ) -> Result<(), NoMemory>
-    requires shallow { labels + 1 < 2 ^ 32 }
-    requires room { length places.now ≤ context.now.slots }
-    ensures { OnOk result (Emits (test_both context.now labels (less count places.now) offset
-        (hand_top context.now count places.now stop)) writer.old writer.new) }
+    requires shallow { site.now.labels + most_landings + 1 < 2 ^ 32 }
+    requires room { length site.now.places.now ≤ context.now.slots }
+    ensures { OnOk result (Emits (test_both context.now site.now.labels
+        (less count site.now.places.now) site.now.offset
+        (hand_top context.now count site.now.places.now stop)) writer.old writer.new) }
 {
     context.get(writer, context.kind_at())?;
     context.get_flag(writer)?;
     writer.basic(Basic::Binary(ValType::I32, Binary::Or))?;
     writer.open_if(None)?;
-    unwind_both(context, writer, labels, places, count, offset)?;
+    unwind_both(context, writer, site, count)?;
     writer.close()
 }

@@ -15,6 +15,7 @@ mod locals;
 mod nodes;
 mod plain;
 mod points;
+mod site;
 mod wrappers;
 
 pub use blocks::{close_block, open_block, open_if, open_loop};
@@ -26,4 +27,5 @@ pub use helpers::helper;
 pub use locals::with_added;
 pub use nodes::write_nodes;
 pub use plain::instruction;
+pub use site::Site;
 pub use wrappers::wrapper;

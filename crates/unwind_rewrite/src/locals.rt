@@ -2,7 +2,7 @@
 
 ghost use Rattle.std.specs.Prelude.{◌≡◌, ◌++◌, [], ◌∷◌, IfOk, OnOk};
 ghost use Rattle.wasm_syntax.specs.declared.value.ValType.TheVariants.{I32 as I32Of, I64 as I64Of};
-ghost use Rattle.rewrite_bodies.specs.Slots.{group, groups};
+ghost use Rattle.rewrite_bodies.specs.calls.Slots.{group, groups};
 
 use causes::NoMemory;
 use pm_text::Items;

@@ -2,7 +2,8 @@
 
 ghost use Rattle.std.specs.Prelude.{◌≡◌, ◌+◌, ◌^◌, ◌<◌, [], length, IfOk, OnOk};
 ghost use Rattle.wasm_syntax.specs.Tree.{Tree as TreeOf, Nodes as NodesOf, Writes};
-ghost use Rattle.rewrite_bodies.specs.Rewrite.{rewrite};
+ghost use Rattle.rewrite_bodies.specs.calls.Landings.{most_landings};
+ghost use Rattle.rewrite_bodies.specs.calls.Rewrite.{rewrite};
 ghost use Rattle.rewrite_code.specs.calls.Writing.{Written, EmitsLast};
 ghost use Rattle.operand_spill.specs.calls.Standing.{Fine};
 ghost use Rattle.unwind_rewrite.specs.calls.Numbers.{HasHelpers, AllHelped};
@@ -10,9 +11,9 @@ ghost use Rattle.unwind_rewrite.specs.declared.points.Point.TheVariants.{Live, E
 ghost use Rattle.unwind_rewrite.specs.calls.Points.{BeforeLast, CanBeWritten, Holds, Stood, code_in, is_last, left_of};
 
 use crate::instructions::{write_behind, write_live};
-use crate::points::{Flow, Point};
+use crate::points::Point;
 use causes::NoMemory;
-use operand_spill::{Walk, end_of_list};
+use operand_spill::{Flow, Walk, end_of_list};
 use rewrite_code::{CodeWriter, FunctionContext};
 use std::alloc::Global;
 use wasm_syntax::{Body, ModuleParts};
@@ -29,7 +30,7 @@ fn write_from_live(
     requires source { parts.now ≡ context.now.source }
     requires helpers { HasHelpers context.now }
     requires helped { AllHelped context.now body.now.ops }
-    requires few { length body.now.ops + 1 < 2 ^ 32 }
+    requires few { length body.now.ops + most_landings + 1 < 2 ^ 32 }
     requires stood { Stood context.now (code_in body.now) walk.old writer.old (Live index) }
     ensures goes_on { (start : Written) (whole : NodesOf)
         → Holds context.now (code_in body.now) start whole walk.old writer.old (Live index)
@@ -42,7 +43,7 @@ fn write_from_live(
     let op = ops[index];
     match write_live(context, writer, walk, parts, targets, op)? {
         Flow::Next => Ok(Point::Live(index + 1)),
-        Flow::Leaves => Ok(Point::Ended(end_of_list(ops, index))),
+        Flow::Ends => Ok(Point::Ended(end_of_list(ops, index))),
     }
 }
 
@@ -79,7 +80,7 @@ fn write_from(
     requires source { parts.now ≡ context.now.source }
     requires helpers { HasHelpers context.now }
     requires helped { AllHelped context.now body.now.ops }
-    requires few { length body.now.ops + 1 < 2 ^ 32 }
+    requires few { length body.now.ops + most_landings + 1 < 2 ^ 32 }
     requires before_last { BeforeLast (length body.now.ops) point }
     requires stood { Stood context.now (code_in body.now) walk.old writer.old point }
     ensures goes_on { (start : Written) (whole : NodesOf)
@@ -115,7 +116,7 @@ pub fn write_nodes(
     requires source { parts.now ≡ context.now.source }
     requires helpers { HasHelpers context.now }
     requires helped { AllHelped context.now body.now.ops }
-    requires few { length body.now.ops + 1 < 2 ^ 32 }
+    requires few { length body.now.ops + most_landings + 1 < 2 ^ 32 }
     requires tree { CanBeWritten context.now body.now }
     ensures { (tree : TreeOf) → Writes body.now.targets body.now.ops tree
         → Fine context.now [] tree.nodes

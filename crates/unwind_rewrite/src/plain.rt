@@ -3,12 +3,14 @@
 ghost use Rattle.std.specs.Prelude.{◌≡◌, ◌+◌, ◌^◌, ◌<◌, ◌≤◌, length, option_map, OnOk};
 ghost use Rattle.wasm_syntax.specs.Effect.{takes};
 ghost use Rattle.wasm_syntax.specs.Tree.{basic};
-ghost use Rattle.rewrite_bodies.specs.Slots.{less, result_place};
-ghost use Rattle.rewrite_bodies.specs.Pieces.{keep};
-ghost use Rattle.rewrite_bodies.specs.Rewrite.{free, plain};
+ghost use Rattle.rewrite_bodies.specs.calls.Landings.{most_landings};
+ghost use Rattle.rewrite_bodies.specs.calls.Slots.{less, result_place};
+ghost use Rattle.rewrite_bodies.specs.calls.Pieces.{keep};
+ghost use Rattle.rewrite_bodies.specs.calls.Rewrite.{free, plain};
 ghost use Rattle.rewrite_code.specs.calls.Writing.{Emits};
 ghost use Rattle.rewrite_code.specs.calls.Places.{place};
 
+use crate::Site;
 use causes::NoMemory;
 use guard_insert::guarded;
 use rewrite_code::{CodeWriter, FunctionContext, OperandPlace, OperandPlaces};
@@ -57,20 +59,25 @@ fn on_operands(
 pub fn instruction(
     context: &FunctionContext<'_, '_>,
     writer: &mut CodeWriter,
-    labels: u32,
-    places: &OperandPlaces,
-    offset: u32,
+    site: &Site<'_>,
     instruction: Basic,
     taken: usize,
     gives: Option<OperandPlace>,
 ) -> Result<(), NoMemory>
-    requires shallow { labels + 1 < 2 ^ 32 }
-    requires room { length places.now ≤ context.now.slots }
+    requires shallow { site.now.labels + most_landings + 1 < 2 ^ 32 }
+    requires room { length site.now.places.now ≤ context.now.slots }
     ensures { takes instruction ≡ taken
-        → result_place context.now places.now instruction ≡ option_map place gives
-        → OnOk result (Emits (λ k. plain context.now labels places.now offset instruction (λ es. k))
-        writer.old writer.new) }
+        → result_place context.now site.now.places.now instruction ≡ option_map place gives
+        → OnOk result (Emits (λ k. plain context.now site.now.labels site.now.places.now
+        site.now.offset instruction (λ es. k)) writer.old writer.new) }
 {
-    guarded(context, writer, labels, places, offset, &instruction)?;
-    on_operands(context, writer, places, instruction, taken, gives)
+    guarded(
+        context,
+        writer,
+        site.labels,
+        site.places,
+        site.offset,
+        &instruction,
+    )?;
+    on_operands(context, writer, site.places, instruction, taken, gives)
 }

@@ -8,12 +8,3 @@ pub enum Point {
     /// At the `else` or the `end` of a list of instructions that was written.
     Ended(usize),
 }
-
-/// Where the code goes on behind an instruction.
-#[derive(Clone, Copy)]
-pub(crate) enum Flow {
-    /// With the next one.
-    Next,
-    /// Nowhere in its list: what is left of it is dead code.
-    Leaves,
-}

@@ -2,11 +2,13 @@
 
 ghost use Rattle.std.specs.Prelude.{◌≡◌, ◌<◌, length, OnOk};
 ghost use Rattle.wasm_syntax.specs.Module.{function_types};
-ghost use Rattle.wasm_syntax.specs.declared.instruction.Basic.TheVariants.{GlobalGet as GlobalGetOf, GlobalSet as GlobalSetOf};
+ghost use Rattle.wasm_syntax.specs.declared.instruction.Basic.TheVariants.{GlobalGet as GlobalGetOf};
+ghost use Rattle.wasm_syntax.specs.declared.instruction.Basic.TheVariants.{GlobalSet as GlobalSetOf};
 ghost use Rattle.wasm_syntax.specs.Tree.{Unreachable, stop, basic, jump};
 ghost use Rattle.rewrite_bodies.specs.Numbering.{value_import, frame_import, global_types};
-ghost use Rattle.rewrite_bodies.specs.Pieces.{const, i32, call};
-ghost use Rattle.rewrite_modules.specs.Wrappers.{get_all, tell_globals, lower_flag, end_of_dump, after_wrapped, wrapper_nodes};
+ghost use Rattle.rewrite_bodies.specs.calls.Pieces.{const, i32, call};
+ghost use Rattle.rewrite_modules.specs.calls.Wrappers.{get_all, tell_globals, lower_flag, end_of_dump, after_wrapped};
+ghost use Rattle.rewrite_modules.specs.calls.Wrappers.{wrapper_nodes};
 ghost use Rattle.rewrite_code.specs.calls.Writing.{Emits, EmitsLast};
 
 use causes::NoMemory;

@@ -3,7 +3,7 @@ use Rattle.std.specs.Prelude.{◌≡◌, ℕ, ◌+◌, ◌<◌, ◌^◌, Bool, L
 use Rattle.wasm_syntax.specs.declared.module.ModuleParts.{ModuleParts as Module}
 use Rattle.wasm_syntax.specs.Module.{function_types}
 use Rattle.rewrite_bodies.specs.Numbering.{export_wrapped, named_wrapped, wrapped, entry_weight, element_functions, table_functions, doubles, flag_of, helper_base}
-use Rattle.rewrite_modules.specs.Instrument.{new_exports}
+use Rattle.rewrite_modules.specs.calls.Instrument.{new_exports}
 use Rattle.rewrite_modules.specs.Weight.{types_used}
 use Rattle.index_map.specs.inner.Used.{AllBelow, bodies_used, behind}
 

@@ -1,7 +1,7 @@
 -- What the rewriting of a module answers.
 use Rattle.std.specs.Prelude.{◌≡◌, ℕ, List, [], Some, None, Result, Ok, Err}
 use Rattle.wasm_syntax.specs.declared.module.ModuleParts.{ModuleParts as Module}
-use Rattle.rewrite_promise.specs.Promise.{Promised}
+use Rattle.rewrite_promise.specs.calls.Promise.{Promised}
 use Rattle.rewrite_promise.specs.calls.Layers.{Layered}
 use Rattle.instrument.specs.Refusal.{OwnHeights, refusal}
 use Rattle.instrument.specs.declared.refusal.InstrFault.{InstrFault}

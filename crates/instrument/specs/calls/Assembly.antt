@@ -5,9 +5,9 @@ use Rattle.wasm_syntax.specs.declared.parts.Body.{Body}
 use Rattle.wasm_syntax.specs.declared.module.ModuleParts.{ModuleParts as Module}
 use Rattle.unwind_rewrite.specs.calls.Rewritten.{Ascends}
 use Rattle.wasm_syntax.specs.SameCode.{body_code}
-use Rattle.rewrite_modules.specs.Instrument.{new_module}
+use Rattle.rewrite_modules.specs.calls.Instrument.{new_module}
 use Rattle.rewrite_modules.specs.Instrumentable.{program_of}
-use Rattle.rewrite_promise.specs.Promise.{Accepted}
+use Rattle.rewrite_promise.specs.calls.Promise.{Accepted}
 
 -- The bodies are those of the rewriting of an accepted module, but for offsets: of its functions, of wrappers and of helpers.
 pub record AreBodies (m : Module) (bodies : List Body) : Type 0 where

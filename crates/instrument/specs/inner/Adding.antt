@@ -4,14 +4,14 @@ use Rattle.std.specs.List.{AllByRecursion}
 use Rattle.wasm_syntax.specs.declared.parts.Body.{Body}
 use Rattle.wasm_syntax.specs.declared.module.ModuleParts.{ModuleParts as Module}
 use Rattle.wasm_syntax.specs.Module.{function_at}
-use Rattle.rewrite_bodies.specs.Guards.{helper}
+use Rattle.rewrite_bodies.specs.calls.Guards.{helper}
 use Rattle.rewrite_bodies.specs.Numbering.{import_count, wrapped}
 use Rattle.wasm_syntax.specs.SameCode.{body_code}
-use Rattle.rewrite_modules.specs.FlatCode.{body_of}
-use Rattle.rewrite_modules.specs.Instrument.{each, new_body}
+use Rattle.rewrite_modules.specs.calls.FlatCode.{body_of}
+use Rattle.rewrite_modules.specs.calls.Instrument.{each, new_body}
 use Rattle.rewrite_modules.specs.Weight.{types_used}
-use Rattle.rewrite_modules.specs.Wrappers.{wrapper}
-use Rattle.rewrite_promise.specs.Promise.{Accepted}
+use Rattle.rewrite_modules.specs.calls.Wrappers.{wrapper}
+use Rattle.rewrite_promise.specs.calls.Promise.{Accepted}
 use Rattle.unwind_rewrite.specs.calls.Rewritten.{Ascends, program_in}
 
 -- behind the old ones there are these, but for offsets, each with its instructions in order

@@ -14,10 +14,11 @@ use Rattle.wasm_syntax.specs.declared.module.ModuleParts.{ModuleParts as Module}
 use Rattle.wasm_syntax.specs.Module.{function_types}
 use Rattle.wasm_syntax.specs.Run.{table_min, element_at}
 use Rattle.rewrite_bodies.specs.Numbering.{doubles, mapped, wrapped, value_type, frame_type}
-use Rattle.rewrite_bodies.specs.Pieces.{i32}
-use Rattle.rewrite_bodies.specs.Guards.{helper_type}
+use Rattle.rewrite_bodies.specs.calls.Pieces.{i32}
+use Rattle.rewrite_bodies.specs.calls.Guards.{helper_type}
 use Rattle.rewrite_modules.specs.Collector.{collector_import, memory_export}
-use Rattle.rewrite_modules.specs.Instrument.{new_exports, new_start, new_tables, shown_elements, wrapper_type}
+use Rattle.rewrite_modules.specs.calls.Instrument.{new_exports, new_start, shown_elements, wrapper_type}
+use Rattle.rewrite_modules.specs.Interface.{new_tables}
 use Rattle.rewrite_modules.specs.Weight.{types_used}
 
 abbrev pub more_types : List FuncType

@@ -6,7 +6,7 @@ use Rattle.wasm_syntax.specs.declared.parts.FuncType.{FuncType}
 use Rattle.wasm_syntax.specs.Tree.{Jump, Unreachable, Br, BrIf, BrTable, Return, Call, CallIndirect, Nodes, stop, basic, jump, block, loop, choose}
 use Rattle.wasm_syntax.specs.Machine.{result_of}
 use Rattle.wasm_syntax.specs.Module.{type_at}
-use Rattle.rewrite_bodies.specs.Slots.{Place, Spilled, Known, Copied, Ctx, less, grown, under, after_plain}
+use Rattle.rewrite_bodies.specs.calls.Slots.{Place, Spilled, Known, Copied, Ctx, less, grown, under, after_plain}
 
 -- before an instruction, and then behind it
 abbrev pub first_then : Option (List Place) → (ℕ → Option (List Place)) → ℕ → Option (List Place)

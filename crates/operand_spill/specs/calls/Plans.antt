@@ -6,8 +6,8 @@ use Rattle.wasm_syntax.specs.declared.parts.Body.{Body}
 use Rattle.wasm_syntax.specs.declared.module.ModuleParts.{ModuleParts as Module}
 use Rattle.wasm_syntax.specs.Tree.{Tree}
 use Rattle.wasm_syntax.specs.Module.{Program, declared_locals}
-use Rattle.rewrite_bodies.specs.Slots.{slot, slots_of}
-use Rattle.wasm_validate.specs.Heights.{body_of}
+use Rattle.rewrite_bodies.specs.calls.Slots.{slot, slots_of}
+use Rattle.wasm_syntax.specs.Valid.{body_of}
 
 -- the module defines the function
 abbrev pub IsDefined : Module → ℕ → Type 0

@@ -1,8 +1,8 @@
 -- Where a walk stands in a body: which nodes are left of the innermost list, and what is due behind it and behind each list around it.
 use Rattle.std.specs.Prelude.{◌≡◌, ℕ, zero, suc, ◌≤◌, List, [], ◌∷◌, ◌++◌, length, drop, Option, Some, None}
 use Rattle.wasm_syntax.specs.Tree.{Nodes, stop, basic, jump, block, loop, choose, Item, Plain, Goes, Opens, OpensLoop, OpensIf, Else, End, Placed, placed, write}
-use Rattle.rewrite_bodies.specs.Slots.{Place, Ctx}
-use Rattle.rewrite_bodies.specs.Rewrite.{with_result, rewrite}
+use Rattle.rewrite_bodies.specs.calls.Slots.{Place, Ctx}
+use Rattle.rewrite_bodies.specs.calls.Rewrite.{with_result, rewrite}
 use Rattle.rewrite_bodies.specs.calls.Typed.{end_gives}
 use Rattle.rewrite_bodies.specs.calls.Agreement.{Room}
 use Rattle.rewrite_code.specs.calls.Writing.{Written, Behind, ends, alternates, goes}

@@ -1,7 +1,7 @@
 -- What a walk over a body keeps, and what becomes of it.
 use Rattle.std.specs.Prelude.{List, [], ◌∷◌, Option}
 use Rattle.wasm_syntax.specs.declared.value.ValType.{ValType}
-use Rattle.rewrite_bodies.specs.Slots.{Place, grown, under}
+use Rattle.rewrite_bodies.specs.calls.Slots.{Place, grown, under}
 use Rattle.rewrite_bodies.specs.calls.Typed.{end_gives}
 use Rattle.operand_spill.specs.declared.labels.Label.{Label}
 use Rattle.operand_spill.specs.declared.labels.OpenBlock.{OpenBlock}

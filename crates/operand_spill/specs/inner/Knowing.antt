@@ -1,13 +1,13 @@
 -- A walk that knows where the operands are: what stands before the instructions that are left.
 use Rattle.std.specs.Prelude.{◌≡◌, Bool, true, false, ℕ, suc, ◌+◌, ◌<◌, ◌≤◌, List, [], ◌∷◌, length, drop, Option, None}
 use Rattle.wasm_syntax.specs.Tree.{Jump, Nodes, IsTree, Item, Plain, Goes, Opens, OpensLoop, OpensIf, Else, End, Placed, placed, write}
-use Rattle.rewrite_bodies.specs.Slots.{Place, Ctx}
+use Rattle.rewrite_bodies.specs.calls.Slots.{Place, Ctx}
 use Rattle.operand_spill.specs.declared.labels.OpenBlock.{OpenBlock}
 use Rattle.operand_spill.specs.calls.Walking.{Walking, behind_block}
 use Rattle.operand_spill.specs.calls.Standing.{Due, before_end, before_else, flat, IsLast}
 use Rattle.operand_spill.specs.calls.Before.{dead, live, after_jump}
-use Rattle.operand_spill.specs.declared.places.Flow.{Flow}
-use Rattle.operand_spill.specs.declared.places.Flow.TheVariants.{Next, Ends}
+use Rattle.operand_spill.specs.declared.flow.Flow.{Flow}
+use Rattle.operand_spill.specs.declared.flow.Flow.TheVariants.{Next, Ends}
 
 -- the places before each instruction of a body
 abbrev pub Places : Type 0

@@ -6,17 +6,17 @@ use Rattle.wasm_syntax.specs.Numbers.{type_of, types}
 use Rattle.wasm_syntax.specs.Tree.{Nodes, basic, Jump, Unreachable, Br, BrIf, BrTable, Return, Call, CallIndirect, stop, jump, block, loop, choose}
 use Rattle.wasm_syntax.specs.Host.{World}
 use Rattle.wasm_syntax.specs.Machine.{Kind, Label, Frame, Config, label, frame, config, Engine, leaves, again, returns, zero_of, result_of}
-use Rattle.rewrite_bodies.specs.Guards.{first_table}
-use Rattle.rewrite_bodies.specs.Slots.{Place, Spilled, Known, Copied, Ctx, slot, kind_at, added, less, grown, under, result_type, after_plain, greatest}
-use Rattle.rewrite_bodies.specs.Pieces.{store, reload, drops}
+use Rattle.rewrite_bodies.specs.calls.Guards.{first_table}
+use Rattle.rewrite_bodies.specs.calls.Slots.{Place, Spilled, Known, Copied, Ctx, slot, kind_at, added, less, grown, under, result_type, after_plain, greatest, Landing}
+use Rattle.rewrite_bodies.specs.calls.Pieces.{store, reload, drops}
 use Rattle.wasm_syntax.specs.declared.value.Value.TheVariants as values
 use Rattle.wasm_syntax.specs.declared.parts.FuncType.{FuncType}
 use Rattle.wasm_syntax.specs.Module.{type_at}
 use Rattle.wasm_syntax.specs.Effect.{takes}
-use Rattle.rewrite_bodies.specs.Rewrite.{with_result, after_call, test_both, rewrite, exit_code}
+use Rattle.rewrite_bodies.specs.calls.Rewrite.{with_result, after_call, test_both, rewrite, exit_code, landing_code}
 use Rattle.rewrite_bodies.specs.Numbering.{mapped, place_in, global_types, helper_base, helped, new_entries}
 use Rattle.linear_memory.specs.Memory.{Memory}
-use Rattle.rewrite_bodies.specs.Offsets.{SmallOffset}
+use Rattle.rewrite_bodies.specs.calls.Offsets.{SmallOffset}
 
 -- the operand is in its slot besides, or is the constant, or in the local
 abbrev pub One : List Value → List Value → ℕ → Place → Value → Type 0
@@ -77,9 +77,14 @@ t_kind C d js (leaves a) = leaves a
 t_kind C d js (again o a inner en) = again 0 a (rewrite C (suc d) js inner) 0
 t_kind C d js (returns r) = leaves r
 
--- the same operands, in the original's labels; outside of them the body's block was left, or the exit is reached
+-- of landings, with this behind the innermost block; and of the exit
+abbrev pub l_labels : Ctx → Nodes → List Landing → List Label
+l_labels C k [] = label [] k 0 (leaves None) ∷ label [] (exit_code C) 0 (returns C.result) ∷ []
+l_labels C k (x ∷ xs) = label [] k 0 (leaves x.carried) ∷ l_labels C (landing_code C (length xs) x) xs
+
+-- the same operands, in the original's labels; outside of them the body's block was left, or a landing or the exit is reached
 abbrev pub t_labels : Ctx → Pending → List Label → List (List Place) → List Label
-t_labels C p [] ss = label [] (jump 0 Return stop) 0 (leaves None) ∷ label [] (exit_code C) 0 (returns C.result) ∷ []
+t_labels C p [] ss = l_labels C (jump 0 Return stop) C.landings
 t_labels C p (L ∷ Ls) [] = []
 t_labels C p (L ∷ Ls) (e ∷ ss) =
     label (held p L.operands) (code_at C (suc (length Ls)) (e ++ joined ss) p L.nodes) 0 (t_kind C (length Ls) (joined ss) L.kind) ∷ t_labels C (pending L.kind) Ls ss

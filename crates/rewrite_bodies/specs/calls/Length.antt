@@ -2,16 +2,17 @@
 use Rattle.std.specs.Prelude.{◌≡◌, ℕ, ◌+◌, ◌*◌, ◌^◌, ◌≤◌, List, [], ◌∷◌, length, slice_get, Option, Some, None, option_to_list}
 use Rattle.wasm_leb.specs.Writing.{unsigned_bytes}
 use Rattle.wasm_syntax.specs.declared.instruction.Basic.{Basic}
-use Rattle.wasm_syntax.specs.declared.instruction.Basic.TheVariants.{MemoryCopy, MemoryFill}
 use Rattle.wasm_syntax.specs.declared.parts.FuncType.{FuncType}
 use Rattle.wasm_syntax.specs.Tree.{Jump, Unreachable, Br, BrIf, BrTable, Return, Call, CallIndirect, Nodes, stop, basic, jump, block, loop, choose, IsTree}
 use Rattle.wasm_syntax.specs.Typing.{Types}
 use Rattle.wasm_format.specs.Encoding.{basic_bytes, labels_bytes}
 use Rattle.rewrite_bodies.specs.Numbering.{import_count}
-use Rattle.rewrite_bodies.specs.Slots.{Place, Ctx, less, grown, under, after_plain, behind_jump}
-use Rattle.rewrite_bodies.specs.Rewrite.{body}
+use Rattle.rewrite_bodies.specs.calls.Slots.{Place, Ctx, less, grown, under, after_plain, behind_jump}
+use Rattle.rewrite_bodies.specs.calls.Rewrite.{body}
 use Rattle.rewrite_bodies.specs.calls.Agreement.{Room}
 use Rattle.rewrite_bodies.specs.calls.Typed.{in_body, original}
+use Rattle.rewrite_bodies.specs.Numbering.{extra}
+use Rattle.wasm_syntax.specs.declared.instruction.Instr.TheVariants as instrs
 
 -- ---- lengths of encodings
 
@@ -47,9 +48,7 @@ abbrev pub node_weight : ℕ → ℕ → ℕ
 node_weight bytes height = 192 + 8 * bytes + 16 * height
 
 abbrev pub long_guard : Basic → ℕ
-long_guard MemoryCopy = 128
-long_guard MemoryFill = 128
-long_guard i = 0
+long_guard i = extra (instrs.Basic i)
 
 -- an `if` without `else` has one `end`
 abbrev pub weight_else : Option ℕ → ℕ → ℕ

@@ -5,8 +5,8 @@ use Rattle.wasm_syntax.specs.declared.value.Value.{Value}
 use Rattle.wasm_syntax.specs.Numbers.{type_of}
 use Rattle.wasm_syntax.specs.Host.{World, told, answer, collector_of}
 use Rattle.wasm_syntax.specs.Machine.{Config, config, Engine, Stepped, next, ends, traps, no_reply, bad_reply, stuck, exactly, host_call, function_type}
-use Rattle.rewrite_bodies.specs.Slots.{added, greatest, ctx_of}
-use Rattle.rewrite_bodies.specs.Pieces.{call, tree_of}
+use Rattle.rewrite_bodies.specs.calls.Slots.{added, greatest, ctx_of}
+use Rattle.rewrite_bodies.specs.calls.Pieces.{call, tree_of}
 use Rattle.wasm_syntax.specs.declared.value.Value.TheVariants as values
 use Rattle.wasm_syntax.specs.declared.parts.FuncType.{FuncType}
 use Rattle.wasm_syntax.specs.Module.{type_at, defined, function_at, declared_locals, imported, Function}
@@ -15,10 +15,10 @@ use Rattle.wasm_syntax.specs.declared.host.CollectorCall.TheVariants as collecto
 use Rattle.dump_write.specs.Collected.{value_call}
 use Rattle.wasm_syntax.specs.declared.parts.Body.{Body}
 use Rattle.wasm_syntax.specs.Tree.{Tree}
-use Rattle.rewrite_bodies.specs.Rewrite.{body}
+use Rattle.rewrite_bodies.specs.calls.Rewrite.{body}
 use Rattle.wasm_syntax.specs.declared.parts.Import.{Import}
 use Rattle.wasm_syntax.specs.declared.module.ModuleParts.{ModuleParts as Module}
-use Rattle.rewrite_bodies.specs.Guards.{helper_type, helper}
+use Rattle.rewrite_bodies.specs.calls.Guards.{helper_type, helper}
 use Rattle.rewrite_bodies.specs.calls.Steps.{Gets, To}
 use Rattle.rewrite_bodies.specs.calls.Agreement.{Wit, Has, Room, WorldFits, FitsConfig, Wrap, w_frame, flagged, image, zero_vs, last_of}
 use Rattle.rewrite_bodies.specs.calls.Telling.{tell_frames}

@@ -6,7 +6,7 @@ use Rattle.wasm_syntax.specs.Tree.{Nodes}
 use Rattle.wasm_syntax.specs.Host.{World}
 use Rattle.wasm_syntax.specs.declared.host.CollectorCall.{CollectorCall}
 use Rattle.wasm_syntax.specs.Machine.{Kind, Label, Frame, Config, label, frame, config, Engine, Stepped, next, ends, traps, no_reply, bad_reply, stuck, step}
-use Rattle.rewrite_bodies.specs.Pieces.{call}
+use Rattle.rewrite_bodies.specs.calls.Pieces.{call}
 
 -- exactly so many steps, each of which but the last goes on
 module _ (M : Engine) where

@@ -10,9 +10,9 @@ use Rattle.wasm_syntax.specs.Module.{type_at}
 use Rattle.wasm_syntax.specs.Machine.{result_of}
 use Rattle.wasm_syntax.specs.Typing.{Context, Types}
 use Rattle.rewrite_bodies.specs.Numbering.{mapped, value_import, frame_import, value_type, frame_type, flag_of, place_in}
-use Rattle.rewrite_bodies.specs.Slots.{Place, Spilled, Known, Copied, Ctx, added}
-use Rattle.rewrite_bodies.specs.Guards.{helper_type}
-use Rattle.rewrite_bodies.specs.Rewrite.{body}
+use Rattle.rewrite_bodies.specs.calls.Slots.{Place, Spilled, Known, Copied, Ctx, added}
+use Rattle.rewrite_bodies.specs.calls.Guards.{helper_type}
+use Rattle.rewrite_bodies.specs.calls.Rewrite.{body}
 use Rattle.rewrite_bodies.specs.calls.Agreement.{Has, Room}
 
 -- the module has what the code names, and the function has its locals

@@ -15,14 +15,14 @@ use Rattle.wasm_syntax.specs.Host.{World}
 use Rattle.wasm_syntax.specs.Typing.{Context, BasicTypes, Types}
 use Rattle.wasm_syntax.specs.Effect.{Effect, gives, fails, unfit, effect, takes}
 use Rattle.wasm_syntax.specs.Machine.{Kind, Label, Frame, Config, label, frame, config, Engine, Stepped, next, ends, traps, no_reply, bad_reply, stuck, parts, cut, step}
-use Rattle.rewrite_bodies.specs.Offsets.{SmallOffset}
-use Rattle.rewrite_bodies.specs.Slots.{Place, place_type, Ctx}
-use Rattle.rewrite_bodies.specs.Pieces.{tree_of}
-use Rattle.rewrite_bodies.specs.Guards.{helper, helper_type, first_table}
+use Rattle.rewrite_bodies.specs.calls.Offsets.{SmallOffset}
+use Rattle.rewrite_bodies.specs.calls.Slots.{Place, place_type, Ctx}
+use Rattle.rewrite_bodies.specs.calls.Pieces.{tree_of}
+use Rattle.rewrite_bodies.specs.calls.Guards.{helper, helper_type, first_table}
 use Rattle.rewrite_bodies.specs.calls.Agreement.{One, Holds, Has, MemoryFits}
 use Rattle.rewrite_bodies.specs.calls.Typed.{Own, AllOwn, Offers, original}
 use Rattle.rewrite_bodies.specs.calls.Length.{code_length, FewNumbers}
-use Rattle.rewrite_bodies.specs.Rewrite.{helper_of}
+use Rattle.rewrite_bodies.specs.calls.Rewrite.{helper_of}
 
 -- ---- runs of a piece of code
 

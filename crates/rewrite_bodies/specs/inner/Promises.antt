@@ -6,12 +6,12 @@ use Rattle.wasm_syntax.specs.Tree.{Nodes}
 use Rattle.wasm_syntax.specs.Host.{World}
 use Rattle.wasm_syntax.specs.declared.host.CollectorCall.{CollectorCall}
 use Rattle.wasm_syntax.specs.Machine.{Config, Engine, parts, cut, step}
-use Rattle.rewrite_bodies.specs.Slots.{Place, Ctx}
+use Rattle.rewrite_bodies.specs.calls.Slots.{Place, Ctx}
 use Rattle.wasm_syntax.specs.declared.value.Value.TheVariants as values
 use Rattle.wasm_syntax.specs.declared.instruction.Basic.{Basic}
 use Rattle.wasm_syntax.specs.Effect.{takes, Effect, gives, fails, unfit, effect}
-use Rattle.rewrite_bodies.specs.Offsets.{SmallOffset}
-use Rattle.rewrite_bodies.specs.Guards.{can_trap, guard, kind}
+use Rattle.rewrite_bodies.specs.calls.Offsets.{SmallOffset}
+use Rattle.rewrite_bodies.specs.calls.Guards.{can_trap, guard, kind}
 use Rattle.rewrite_bodies.specs.calls.Steps.{To, Shell, st}
 use Rattle.rewrite_bodies.specs.calls.Agreement.{Holds, Wit, MemoryFits, FitsConfig, Wrap, image}
 use Rattle.rewrite_bodies.specs.calls.Standing.{After, Stands}

@@ -3,13 +3,13 @@ use Rattle.std.specs.Prelude.{ℕ, ◌+◌, ◌*◌, ◌^◌, ◌<◌, List, len
 use Rattle.wasm_syntax.specs.declared.value.ValType.{ValType}
 use Rattle.wasm_syntax.specs.declared.module.ModuleParts.{ModuleParts as Module}
 use Rattle.rewrite_bodies.specs.Numbering.{helper_base}
-use Rattle.rewrite_bodies.specs.Slots.{Ctx}
+use Rattle.rewrite_bodies.specs.calls.Slots.{Landing, Ctx}
 use Rattle.rewrite_modules.specs.Weight.{types_used}
 
--- a function of this module: the types of its locals, the number of heights, its index, and what it gives
-abbrev pub context : Module → List ValType → ℕ → ℕ → Option ValType → Ctx
-context m locals slots index gives =
-    record { source = m; base = helper_base m; helpers = types_used m; locals = locals; slots = slots; index = index; result = gives }
+-- a function of this module: the types of its locals, the number of heights, its index, what it gives, and its landings
+abbrev pub context : Module → List ValType → ℕ → ℕ → Option ValType → List Landing → Ctx
+context m locals slots index gives landings =
+    record { source = m; base = helper_base m; helpers = types_used m; locals = locals; slots = slots; index = index; result = gives; landings = landings }
 
 -- all locals have numbers of 32 bits, those added too
 abbrev pub FewLocals : List ValType → ℕ → Type 0

@@ -1,6 +1,6 @@
 -- Places of operands as they are kept.
 use Rattle.std.specs.Prelude.{ℕ, ◌==◌, List, map, reverse, Option, Some, None, Bool, true}
-use Rattle.rewrite_bodies.specs.Slots.{Place, Spilled, Known, Copied}
+use Rattle.rewrite_bodies.specs.calls.Slots.{Place, Spilled, Known, Copied}
 use Rattle.rewrite_code.specs.declared.place.OperandPlace.{OperandPlace}
 use Rattle.rewrite_code.specs.declared.place.OperandPlace.TheVariants as kept
 

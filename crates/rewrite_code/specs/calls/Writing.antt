@@ -6,7 +6,7 @@ use Rattle.wasm_syntax.specs.declared.instruction.Instr.{Instr}
 use Rattle.wasm_syntax.specs.declared.instruction.Instr.TheVariants as instrs
 use Rattle.wasm_syntax.specs.declared.instruction.Op.{Op}
 use Rattle.wasm_syntax.specs.Tree.{Nodes, stop, choose}
-use Rattle.rewrite_modules.specs.FlatCode.{op, ops_in, targets_in}
+use Rattle.rewrite_modules.specs.calls.FlatCode.{op, ops_in, targets_in}
 
 -- instructions, each at offset 0 with length 0, and the targets of their `br_table`s
 pub record Written : Type 0 where

@@ -13,7 +13,7 @@ use Rattle.wasm_syntax.specs.Module.{Program}
 use Rattle.wasm_syntax.specs.declared.host.CollectorCall.{CollectorCall}
 use Rattle.wasm_syntax.specs.declared.host.CollectorCall.TheVariants.{ValueI32, Frame}
 use Rattle.wasm_syntax.specs.Run.{Outcome, finished, trapped, Ran, Invocation, run}
-use Rattle.rewrite_modules.specs.Instrument.{instrument}
+use Rattle.rewrite_modules.specs.calls.Instrument.{instrument}
 use Rattle.rewrite_modules.specs.Multiple.{multiple}
 use Rattle.rewrite_modules.specs.Weight.{weight}
 

@@ -8,8 +8,8 @@ use Rattle.wasm_syntax.specs.Tree.{Nodes, stop, basic, jump, block, loop, choose
 use Rattle.wasm_syntax.specs.Module.{Program, IsProgram, function_export}
 use Rattle.wasm_syntax.specs.Valid.{Valid}
 use Rattle.rewrite_bodies.specs.Numbering.{doubles}
-use Rattle.rewrite_bodies.specs.Offsets.{SmallOffset}
-use Rattle.rewrite_bodies.specs.Slots.{greatest}
+use Rattle.rewrite_bodies.specs.calls.Offsets.{SmallOffset}
+use Rattle.rewrite_bodies.specs.calls.Slots.{greatest}
 
 -- the offset of each access is a number of 32 bits (Core 5.4.3)
 abbrev pub SmallCode : Nodes → Type 0

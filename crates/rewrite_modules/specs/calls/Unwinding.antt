@@ -19,8 +19,8 @@ use Rattle.rewrite_bodies.specs.calls.Agreement.{Wit, WorldFits, FitsFrame, Fits
 use Rattle.rewrite_bodies.specs.calls.Standing.{After}
 use Rattle.rewrite_bodies.specs.calls.Steps.{Gets, To}
 use Rattle.rewrite_bodies.specs.calls.Telling.{tell_locals, tell_frame, tell_outer}
-use Rattle.rewrite_modules.specs.Instrument.{instrument}
-use Rattle.rewrite_modules.specs.Wrappers.{after_wrapped}
+use Rattle.rewrite_modules.specs.calls.Instrument.{instrument}
+use Rattle.rewrite_modules.specs.calls.Wrappers.{after_wrapped}
 
 module _ (p : Program) (n d : ℕ) where
   -- the program, and its rewriting, which has two frames more

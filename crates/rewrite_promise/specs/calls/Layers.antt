@@ -11,7 +11,7 @@ use Rattle.wasm_syntax.specs.Sizes.{local_count, nesting}
 use Rattle.wasm_syntax.specs.Valid.{BodyFine}
 use Rattle.wasm_encode.specs.Encoding.{entry_bytes}
 use Rattle.rewrite_bodies.specs.calls.Steps.{run}
-use Rattle.rewrite_modules.specs.Instrument.{instrument, new_module}
+use Rattle.rewrite_modules.specs.calls.Instrument.{instrument, new_module}
 use Rattle.rewrite_modules.specs.Instrumentable.{program_of}
 use Rattle.rewrite_modules.specs.Multiple.{half}
 use Rattle.rewrite_modules.specs.Weight.{height_at, AreHeights, ops_weight}

@@ -7,9 +7,9 @@ use Rattle.wasm_syntax.specs.declared.module.ModuleParts.{ModuleParts as Module}
 use Rattle.wasm_syntax.specs.Tree.{Tree}
 use Rattle.wasm_syntax.specs.Module.{Program, Function, defined, function_at}
 use Rattle.rewrite_bodies.specs.Numbering.{import_count}
-use Rattle.rewrite_bodies.specs.Slots.{ctx_of, slots_of}
+use Rattle.rewrite_bodies.specs.calls.Slots.{ctx_of, slots_of}
 use Rattle.rewrite_bodies.specs.calls.Length.{code_length, live_weight}
-use Rattle.rewrite_modules.specs.Instrument.{new_nodes}
+use Rattle.rewrite_modules.specs.calls.Instrument.{new_nodes}
 use Rattle.rewrite_modules.specs.Instrumentable.{SmallInstr}
 use Rattle.rewrite_modules.specs.Weight.{height_at, ops_weight}
 

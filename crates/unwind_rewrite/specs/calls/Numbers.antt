@@ -6,7 +6,7 @@ use Rattle.wasm_syntax.specs.declared.instruction.Op.{Op}
 use Rattle.wasm_syntax.specs.declared.instruction.Jump.{Jump}
 use Rattle.wasm_syntax.specs.declared.instruction.Jump.TheVariants as jumps
 use Rattle.rewrite_bodies.specs.Numbering.{helper_base, is_in}
-use Rattle.rewrite_bodies.specs.Slots.{Ctx}
+use Rattle.rewrite_bodies.specs.calls.Slots.{Ctx}
 use Rattle.rewrite_modules.specs.Weight.{types_used}
 
 -- its helpers are those of its module

@@ -4,14 +4,14 @@ use Rattle.wasm_syntax.specs.declared.instruction.Instr.{Instr}
 use Rattle.wasm_syntax.specs.declared.instruction.Instr.TheVariants as instrs
 use Rattle.wasm_syntax.specs.declared.parts.Body.{Body}
 use Rattle.wasm_syntax.specs.Tree.{Nodes, Tree, Item, Placed, placed, write, code_of, Writes}
-use Rattle.rewrite_bodies.specs.Slots.{Ctx}
+use Rattle.rewrite_bodies.specs.calls.Slots.{Ctx}
 use Rattle.rewrite_code.specs.calls.Writing.{Written}
 use Rattle.operand_spill.specs.calls.Walking.{Walking}
 use Rattle.operand_spill.specs.calls.Standing.{Due, flat, Fine, Rewrites, Left}
 use Rattle.unwind_rewrite.specs.declared.points.Point.{Point}
 use Rattle.unwind_rewrite.specs.declared.points.Point.TheVariants as points
-use Rattle.unwind_rewrite.specs.declared.points.Flow.{Flow}
-use Rattle.unwind_rewrite.specs.declared.points.Flow.TheVariants as flows
+use Rattle.operand_spill.specs.declared.flow.Flow.{Flow}
+use Rattle.operand_spill.specs.declared.flow.Flow.TheVariants as flows
 
 -- the code at an index begins with this instruction
 abbrev pub Begins : List Placed → ℕ → ℕ → Item → Type 0
@@ -24,7 +24,7 @@ EndsAt code pc to = (nodes : Nodes) (dues : List Due) → drop pc code ≡ write
 -- behind an instruction: the next one is live, or its list was written
 abbrev pub Flows : Ctx → List Placed → Written → Nodes → ℕ → Walking → Written → Flow → Type 0
 Flows C code start whole pc w now flows.Next = Rewrites C code start whole (suc pc) w now
-Flows C code start whole pc w now flows.Leaves = (to : ℕ) → EndsAt code pc to → pc ≤ to → Left C code start whole to w now
+Flows C code start whole pc w now flows.Ends = (to : ℕ) → EndsAt code pc to → pc ≤ to → Left C code start whole to w now
 
 -- what a live instruction with this code offset comes to, wherever it stands
 abbrev pub Advances : Ctx → ℕ → Item → Walking → Written → Walking → Written → Flow → Type 0

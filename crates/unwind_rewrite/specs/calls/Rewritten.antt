@@ -8,9 +8,9 @@ use Rattle.wasm_syntax.specs.Tree.{Tree}
 use Rattle.wasm_syntax.specs.Machine.{result_of}
 use Rattle.wasm_syntax.specs.Module.{Ascend, Program, option_then, type_at, defined, function_at}
 use Rattle.wasm_syntax.specs.SameCode.{body_code}
-use Rattle.rewrite_modules.specs.Instrument.{new_body}
+use Rattle.rewrite_modules.specs.calls.Instrument.{new_body}
 use Rattle.rewrite_modules.specs.Instrumentable.{program_of}
-use Rattle.rewrite_promise.specs.Promise.{Accepted}
+use Rattle.rewrite_promise.specs.calls.Promise.{Accepted}
 use Rattle.operand_spill.specs.calls.Plans.{Planned, IsPlan}
 
 -- an accepted module with its trees

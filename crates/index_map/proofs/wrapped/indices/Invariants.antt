@@ -1,6 +1,6 @@
 use Rattle.std.proofs.Common.{◌≡◌, ◌+◌, ◌++◌, length, flat_map, map, take, drop}
 use Rattle.rewrite_bodies.specs.Numbering.{wraps, wrapper_base}
-use Rattle.rewrite_modules.specs.Instrument.{new_exports}
+use Rattle.rewrite_modules.specs.calls.Instrument.{new_exports}
 use Rattle.index_map.proofs.wrapped.indices.Given as goal
 
 abbrev pub invariant-loop-export : goal.invariant-loop-export

@@ -1,5 +1,5 @@
 use Rattle.std.proofs.Common.{take}
-use Rattle.rewrite_promise.specs.Promise.{Accepted}
+use Rattle.rewrite_promise.specs.calls.Promise.{Accepted}
 use Rattle.instrument.specs.inner.Adding.{Adds, new_bodies}
 use Rattle.instrument.proofs.bodies.push_functions.Given as goal
 

@@ -1,8 +1,8 @@
 use Rattle.std.proofs.Common.{◌+◌, [], take, get_or, sym, ap, ◌∙◌, subst}
 use Rattle.wasm_syntax.specs.declared.module.ModuleParts.{ModuleParts as Module}
-use Rattle.rewrite_bodies.specs.Guards.{helper}
+use Rattle.rewrite_bodies.specs.calls.Guards.{helper}
 use Rattle.wasm_syntax.specs.SameCode.{body_code}
-use Rattle.rewrite_modules.specs.FlatCode.{body_of}
+use Rattle.rewrite_modules.specs.calls.FlatCode.{body_of}
 use Rattle.instrument.specs.inner.Adding.{Adds, helper_bodies}
 use Rattle.instrument.proofs.Adding.{one_added, mapped_at, item_at}
 use Rattle.instrument.proofs.bodies.push_helpers.Goals as goal

@@ -1,6 +1,6 @@
 use Rattle.std.proofs.Common.{◌+◌, [], take, get_or, sym, subst}
-use Rattle.rewrite_modules.specs.FlatCode.{body_of}
-use Rattle.rewrite_modules.specs.Wrappers.{wrapper}
+use Rattle.rewrite_modules.specs.calls.FlatCode.{body_of}
+use Rattle.rewrite_modules.specs.calls.Wrappers.{wrapper}
 use Rattle.instrument.specs.inner.Adding.{Adds, wrapper_bodies}
 use Rattle.instrument.proofs.Adding.{one_added, mapped_at, item_at}
 use Rattle.instrument.proofs.Wrapped.{function_there, few_parameters}

@@ -1,5 +1,5 @@
 use Rattle.std.proofs.Common.{◌≡◌, map, take}
-use Rattle.rewrite_bodies.specs.Guards.{entry_label}
+use Rattle.rewrite_bodies.specs.calls.Guards.{entry_label}
 use Rattle.instrument.proofs.entries.entry_labels.Given as goal
 
 abbrev pub invariant-loop-entry : goal.invariant-loop-entry

@@ -1,8 +1,8 @@
 use Rattle.std.proofs.Common.{◌≡◌, map, ap, ◌∙◌, subst}
 use Rattle.std.specs.Prelude.{IfOk}
-use Rattle.rewrite_bodies.specs.Guards.{entry_label, helper}
+use Rattle.rewrite_bodies.specs.calls.Guards.{entry_label, helper}
 use Rattle.wasm_syntax.specs.SameCode.{body_code}
-use Rattle.rewrite_modules.specs.FlatCode.{body_of}
+use Rattle.rewrite_modules.specs.calls.FlatCode.{body_of}
 use Rattle.rewrite_code.specs.calls.Writing.{EmitsLast, nothing}
 use Rattle.instrument.proofs.entries.helper_body.Goals as goal
 

@@ -1,5 +1,5 @@
 use Rattle.std.proofs.Common.{◌≡◌, map, take}
-use Rattle.rewrite_modules.specs.Instrument.{doubled}
+use Rattle.rewrite_modules.specs.Interface.{doubled}
 use Rattle.instrument.proofs.functions.doubled_tables.Given as goal
 
 abbrev pub invariant-loop-limits : goal.invariant-loop-limits

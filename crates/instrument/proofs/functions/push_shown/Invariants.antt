@@ -1,5 +1,5 @@
 use Rattle.std.proofs.Common.{◌≡◌, ◌++◌, map, take}
-use Rattle.rewrite_modules.specs.Instrument.{shown_element}
+use Rattle.rewrite_modules.specs.calls.Instrument.{shown_element}
 use Rattle.instrument.proofs.functions.push_shown.Given as goal
 
 abbrev pub invariant-loop-element : goal.invariant-loop-element

@@ -1,5 +1,5 @@
 use Rattle.std.proofs.Common.{◌≡◌, ◌++◌, map, take}
-use Rattle.rewrite_modules.specs.Instrument.{wrapper_type}
+use Rattle.rewrite_modules.specs.calls.Instrument.{wrapper_type}
 use Rattle.instrument.proofs.functions.push_wrappers.Given as goal
 
 abbrev pub invariant-loop-function : goal.invariant-loop-function

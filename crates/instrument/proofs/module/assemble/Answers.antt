@@ -1,7 +1,7 @@
 use Rattle.std.proofs.Common.{◌∙◌, sym, ap, subst}
 use Rattle.wasm_syntax.specs.declared.module.ModuleParts.{ModuleParts as Module}
 use Rattle.wasm_syntax.specs.Module.{IsModule}
-use Rattle.rewrite_promise.specs.Promise.{IsRewriting, Promised}
+use Rattle.rewrite_promise.specs.calls.Promise.{IsRewriting, Promised}
 use Rattle.rewrite_promise.specs.calls.Layers.{Layered}
 use Rattle.instrument.proofs.WholeModule.{few_types, elements_there, made_whole, made_rewriting, made_promised, made_layered}
 use Rattle.rewrite_bodies.proofs.Doubled.{each_fits, each_doubles}

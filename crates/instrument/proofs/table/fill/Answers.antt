@@ -1,7 +1,7 @@
 use Rattle.std.proofs.Common.{◌≡◌, ℕ, List, length, map, take, ap, ◌∙◌}
 use Rattle.std.specs.Prelude.{Option, Some}
 use Rattle.wasm_syntax.specs.Run.{element_at, over}
-use Rattle.wasm_machine.specs.calls.Starts.{put_element}
+use Rattle.wasm_syntax.specs.calls.Starting.{put_element}
 use Rattle.instrument.proofs.Tables.{put_length, put_next}
 use Rattle.instrument.proofs.table.fill.Goals as goal
 

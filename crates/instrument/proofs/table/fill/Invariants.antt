@@ -1,6 +1,6 @@
 use Rattle.std.proofs.Common.{◌≡◌, drop, take, length}
 use Rattle.std.specs.Prelude.{fold}
-use Rattle.wasm_machine.specs.calls.Starts.{put_element}
+use Rattle.wasm_syntax.specs.calls.Starting.{put_element}
 use Rattle.instrument.proofs.table.fill.Given as goal
 
 abbrev pub invariant-loop-element : goal.invariant-loop-element

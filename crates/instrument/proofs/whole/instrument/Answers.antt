@@ -2,7 +2,7 @@ use Rattle.std.proofs.Common.{◌≡◌, sym, ◌∙◌, subst}
 use Rattle.std.specs.Prelude.{None, Err}
 use Rattle.std.proofs.lemmas.Result.{err_from_is_err_and}
 use Rattle.wasm_syntax.specs.declared.module.ModuleParts.{ModuleParts as Module}
-use Rattle.rewrite_promise.specs.Promise.{Promised}
+use Rattle.rewrite_promise.specs.calls.Promise.{Promised}
 use Rattle.rewrite_promise.specs.calls.Layers.{Layered}
 use Rattle.instrument.specs.Refusal.{Decided, OwnHeights, refusal}
 use Rattle.instrument.proofs.Own.{own}

@@ -1,5 +1,5 @@
 use Rattle.std.proofs.Common.{sym, ap, ◌∙◌, option_map}
-use Rattle.rewrite_bodies.specs.Slots.{Spilled}
+use Rattle.rewrite_bodies.specs.calls.Slots.{Spilled}
 use Rattle.operand_spill.proofs.Performing.{placed}
 use Rattle.operand_spill.proofs.effect.result_place.Goals as goal
 

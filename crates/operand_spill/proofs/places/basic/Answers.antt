@@ -1,5 +1,5 @@
 use Rattle.std.proofs.Common.{sym, ap, ◌∙◌}
-use Rattle.rewrite_bodies.specs.Slots.{result_place}
+use Rattle.rewrite_bodies.specs.calls.Slots.{result_place}
 use Rattle.operand_spill.proofs.places.basic.Goals as goal
 
 pub returns : goal.returns

@@ -1,6 +1,6 @@
 use Rattle.std.proofs.Common.{◌≡◌, ◌<◌, ℕ, ◌-◌, List, None}
 use Rattle.wasm_syntax.specs.Tree.{Tree, Writes, code_of}
-use Rattle.rewrite_bodies.specs.Slots.{Ctx}
+use Rattle.rewrite_bodies.specs.calls.Slots.{Ctx}
 use Rattle.operand_spill.specs.calls.Before.{before}
 use Rattle.operand_spill.specs.inner.Knowing.{Proceeds}
 use Rattle.operand_spill.proofs.places.places_before.Given as goal

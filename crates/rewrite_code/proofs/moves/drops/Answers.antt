@@ -1,5 +1,5 @@
 use Rattle.std.proofs.Common.{rules, ◌≡◌, ◌≤◌, ◌<◌, subst, arith}
-use Rattle.rewrite_bodies.specs.Pieces.{drops}
+use Rattle.rewrite_bodies.specs.calls.Pieces.{drops}
 use Rattle.rewrite_code.specs.calls.Writing.{Emits}
 use Rattle.rewrite_code.proofs.Loads.{drop_step}
 use Rattle.rewrite_code.proofs.moves.drops.Goals as goal

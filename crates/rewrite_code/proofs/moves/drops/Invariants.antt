@@ -1,5 +1,5 @@
 use Rattle.std.proofs.Common.{◌≤◌}
-use Rattle.rewrite_bodies.specs.Pieces.{drops}
+use Rattle.rewrite_bodies.specs.calls.Pieces.{drops}
 use Rattle.rewrite_code.specs.calls.Writing.{Emits}
 use Rattle.rewrite_code.proofs.moves.drops.Given as goal
 

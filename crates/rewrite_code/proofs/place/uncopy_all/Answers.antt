@@ -1,6 +1,6 @@
 use Rattle.std.proofs.Common.{◌∙◌, map, arith}
 use Rattle.std.proofs.lemmas.List.{length-map}
-use Rattle.rewrite_bodies.specs.Slots.{uncopied}
+use Rattle.rewrite_bodies.specs.calls.Slots.{uncopied}
 use Rattle.rewrite_code.specs.calls.Places.{place, these}
 use Rattle.rewrite_code.proofs.Copying.{uncopied_more, all_uncopied}
 use Rattle.rewrite_code.proofs.place.uncopy_all.Goals as goal

@@ -1,6 +1,6 @@
 use Rattle.std.proofs.Common.{◌≡◌, ◌++◌, map}
 use Rattle.std.specs.Prelude.{take, drop}
-use Rattle.rewrite_bodies.specs.Slots.{uncopied}
+use Rattle.rewrite_bodies.specs.calls.Slots.{uncopied}
 use Rattle.rewrite_code.specs.calls.Places.{place, these}
 use Rattle.rewrite_code.proofs.place.uncopy_all.Given as goal
 

@@ -1,4 +1,4 @@
-use Rattle.rewrite_modules.specs.Instrument.{new_module}
+use Rattle.rewrite_modules.specs.calls.Instrument.{new_module}
 use Rattle.rewrite_modules.specs.Instrumentable.{program_of}
 use Rattle.rewrite_modules.proofs.BareValid.{same_valid}
 use Rattle.rewrite_modules.proofs.LowOperands.{low_heights}

@@ -1,10 +1,10 @@
-use Rattle.std.proofs.Common.{◌≡◌, ap, ◌∙◌, subst, sym, Some}
+use Rattle.std.proofs.Common.{◌≡◌, ap, subst, sym, Some}
 use Rattle.wasm_syntax.specs.declared.module.ModuleParts.{ModuleParts as Module}
-use Rattle.wasm_validate.specs.Heights.{body_of}
-use Rattle.rewrite_bodies.specs.Slots.{Ctx}
-use Rattle.rewrite_code.specs.calls.Contexts.{context}
+use Rattle.wasm_syntax.specs.Valid.{body_of}
+use Rattle.rewrite_bodies.specs.calls.Slots.{Ctx}
+use Rattle.rewrite_bodies.specs.calls.Landings.{landings_from}
+use Rattle.unwind_rewrite.specs.calls.Bodies.{LowLandings}
 use Rattle.unwind_rewrite.specs.calls.Points.{CanBeWritten}
-use Rattle.unwind_rewrite.specs.calls.Rewritten.{gives_of}
 use Rattle.unwind_rewrite.proofs.Premises as premises
 use Rattle.rewrite_modules.proofs.Modules.{module_given}
 use Rattle.rewrite_modules.proofs.Unwinding.{unwinds}
@@ -31,12 +31,21 @@ write_body-requires-clause-tree c =
     let plan = c.args.plan.now in
     let b = c.body_at-body.result.now in
     let here = subst (λ (x : Module). body_of x f ≡ Some b) c.source-parts.ensures c.body_at-body.ensures in
-    let is : c.new-context.result ≡ context m plan.locals plan.slots f (gives_of m f) =
-    c.new-context.ensures
-    ∙ ap (λ ls. context m ls c.heights.result f c.gives-result.result) (c.in_ok-locals.ensures ∙ c.types.ensures.types)
-    ∙ ap (λ n. context m plan.locals n f c.gives-result.result) c.heights.ensures
-    ∙ ap (context m plan.locals plan.slots f) (c.gives-result.ensures ∙ ap (λ (x : Module). gives_of x f) c.source-parts.ensures) in
-    subst (λ (x : Ctx). CanBeWritten x b) (sym is) (premises.can m c.requires.accepted f b here plan c.requires.plan)
+    let xs = c.in_ok-found.found in
+    let is = premises.planned_context m f plan xs c.new-context.ensures c.in_ok-locals.ensures c.types.ensures.types c.heights.ensures c.gives-result.ensures c.source-parts.ensures in
+    subst (λ (x : Ctx). CanBeWritten x b) (sym is) (premises.can m c.requires.accepted f b here plan c.requires.plan xs)
+
+pub write_body-requires-clause-low : goal.write_body-requires-clause-low
+write_body-requires-clause-low c =
+    let m = c.args.numbers.now in
+    let f = c.args.func in
+    let plan = c.args.plan.now in
+    let b = c.body_at-body.result.now in
+    let here = subst (λ (x : Module). body_of x f ≡ Some b) c.source-parts.ensures c.body_at-body.ensures in
+    let xs = c.in_ok-found.found in
+    let is = premises.planned_context m f plan xs c.new-context.ensures c.in_ok-locals.ensures c.types.ensures.types c.heights.ensures c.gives-result.ensures c.source-parts.ensures in
+    let own = premises.own_landings m f plan b xs c.types-2.ensures.types c.source-parts.ensures c.as_slice.ensures c.in_ok-found.ensures in
+    subst LowLandings (sym is) (premises.low m c.requires.accepted f b here plan c.requires.plan xs own)
 
 pub returns-clause-code : goal.returns-clause-code
 returns-clause-code c =
@@ -45,12 +54,10 @@ returns-clause-code c =
     let plan = c.args.plan.now in
     let b = c.body_at-body.result.now in
     let here = subst (λ (x : Module). body_of x f ≡ Some b) c.source-parts.ensures c.body_at-body.ensures in
-    let is : c.new-context.result ≡ context m plan.locals plan.slots f (gives_of m f) =
-    c.new-context.ensures
-    ∙ ap (λ ls. context m ls c.heights.result f c.gives-result.result) (c.in_ok-locals.ensures ∙ c.types.ensures.types)
-    ∙ ap (λ n. context m plan.locals n f c.gives-result.result) c.heights.ensures
-    ∙ ap (context m plan.locals plan.slots f) (c.gives-result.ensures ∙ ap (λ (x : Module). gives_of x f) c.source-parts.ensures) in
-    premises.is_rewritten m f b here plan c.requires.plan c.new-context.result is c.write_body.result c.write_body.ensures.code
+    let xs = c.in_ok-found.found in
+    let is = premises.planned_context m f plan xs c.new-context.ensures c.in_ok-locals.ensures c.types.ensures.types c.heights.ensures c.gives-result.ensures c.source-parts.ensures in
+    let own = premises.own_landings m f plan b xs c.types-2.ensures.types c.source-parts.ensures c.as_slice.ensures c.in_ok-found.ensures in
+    premises.is_rewritten m f b here plan c.requires.plan xs own c.new-context.result is c.write_body.result c.write_body.ensures.code
 
 pub returns-clause-promised : goal.returns-clause-promised
 returns-clause-promised c = λ a i old e there. premises.promised c.args.numbers.now c.args.func c.write_body.result (returns-clause-code c) a i old e there
@@ -60,3 +67,6 @@ returns-clause-unwinds c = λ a heights are depth. unwinds (program_in c.args.nu
 
 pub returns-in_err-locals-clause-unwinds : goal.returns-in_err-locals-clause-unwinds
 returns-in_err-locals-clause-unwinds c = λ a heights are depth. unwinds (program_in c.args.numbers.now a) (module_given c.args.numbers.now a.premises) heights are depth
+
+pub returns-in_err-found-clause-unwinds : goal.returns-in_err-found-clause-unwinds
+returns-in_err-found-clause-unwinds c = λ a heights are depth. unwinds (program_in c.args.numbers.now a) (module_given c.args.numbers.now a.premises) heights are depth

@@ -5,8 +5,8 @@ use Rattle.unwind_rewrite.proofs.calls.after_direct.Goals as goal
 
 pub returns-then-is_imported : goal.returns-then-is_imported
 returns-then-is_imported c =
-    when_ok (came_import c.args.context.now c.args.labels c.args.places.now c.args.offset c.args.function c.args.ftype.now c.len-count.result c.result_type-gives.result c.len-count.ensures c.result_type-gives.ensures (sym c.is_imported.ensures ∙ c.if-is_imported.true)) c.keep_left.result c.keep_left.ensures
+    when_ok (came_import c.args.context.now c.args.site.now.labels c.args.site.now.places.now c.args.site.now.offset c.args.function c.args.ftype.now c.len-count.result c.result_type-gives.result c.len-count.ensures c.result_type-gives.ensures (sym c.is_imported.ensures ∙ c.if-is_imported.true)) c.keep_left.result c.keep_left.ensures
 
 pub returns-else-is_imported : goal.returns-else-is_imported
 returns-else-is_imported c =
-    when_ok (came_defined c.args.context.now c.args.labels c.args.places.now c.args.offset c.args.function c.args.ftype.now c.len-count.result c.result_type-gives.result c.len-count.ensures c.result_type-gives.ensures (sym c.is_imported.ensures ∙ c.if-is_imported.false)) c.after_call.result c.after_call.ensures
+    when_ok (came_defined c.args.context.now c.args.site.now.labels c.args.site.now.places.now c.args.site.now.offset c.args.function c.args.ftype.now c.len-count.result c.result_type-gives.result c.len-count.ensures c.result_type-gives.ensures (sym c.is_imported.ensures ∙ c.if-is_imported.false)) c.after_call.result c.after_call.ensures

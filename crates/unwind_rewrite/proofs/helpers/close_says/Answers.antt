@@ -1,4 +1,4 @@
-use Rattle.rewrite_bodies.specs.Guards.{says}
+use Rattle.rewrite_bodies.specs.calls.Guards.{says}
 use Rattle.rewrite_code.proofs.Loads.{when_ok}
 use Rattle.unwind_rewrite.proofs.Branching.{closed_with}
 use Rattle.unwind_rewrite.proofs.helpers.close_says.Goals as goal

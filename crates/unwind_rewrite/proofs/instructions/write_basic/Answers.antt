@@ -1,5 +1,5 @@
 use Rattle.std.proofs.Common.{◌≡◌, sym, ap, ◌∙◌, option_map}
-use Rattle.rewrite_bodies.specs.Slots.{result_place}
+use Rattle.rewrite_bodies.specs.calls.Slots.{result_place}
 use Rattle.rewrite_code.specs.calls.Places.{place}
 use Rattle.unwind_rewrite.proofs.NodeLaws.{performed}
 use Rattle.unwind_rewrite.proofs.instructions.write_basic.Goals as goal

@@ -1,4 +1,4 @@
-use Rattle.rewrite_bodies.specs.Slots.{less}
+use Rattle.rewrite_bodies.specs.calls.Slots.{less}
 use Rattle.rewrite_code.proofs.Loads.{when_ok}
 use Rattle.unwind_rewrite.proofs.Calling.{left_handed}
 use Rattle.unwind_rewrite.proofs.left.hand_left.Goals as goal

@@ -1,5 +1,5 @@
 use Rattle.std.proofs.Common.{◌≤◌, ◌-◌, take}
-use Rattle.rewrite_bodies.specs.Rewrite.{hand_top}
+use Rattle.rewrite_bodies.specs.calls.Rewrite.{hand_top}
 use Rattle.rewrite_code.specs.calls.Writing.{Emits}
 use Rattle.rewrite_code.specs.calls.Places.{from_top}
 use Rattle.unwind_rewrite.proofs.left.hand_under.Given as goal

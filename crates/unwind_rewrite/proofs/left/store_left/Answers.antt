@@ -1,5 +1,5 @@
 use Rattle.std.proofs.Common.{rules, ◌≡◌, ◌-◌}
-use Rattle.rewrite_bodies.specs.Slots.{less}
+use Rattle.rewrite_bodies.specs.calls.Slots.{less}
 use Rattle.unwind_rewrite.proofs.Branching.{under_height}
 use Rattle.unwind_rewrite.proofs.left.store_left.Goals as goal
 

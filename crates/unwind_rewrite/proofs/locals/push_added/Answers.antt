@@ -1,6 +1,6 @@
 use Rattle.std.proofs.Common.{rules, ◌≤◌, ◌<◌, ◌∙◌, ap, ◌++◌, ◌-◌, ◌+◌, [], ◌∷◌, arith}
 use Rattle.wasm_syntax.specs.declared.value.ValType.TheVariants.{I32}
-use Rattle.rewrite_bodies.specs.Slots.{group, groups}
+use Rattle.rewrite_bodies.specs.calls.Slots.{group, groups}
 use Rattle.rewrite_code.proofs.Loads.{when_ok}
 use Rattle.unwind_rewrite.proofs.Adding.{added_step, added_done}
 use Rattle.unwind_rewrite.proofs.locals.push_added.Goals as goal

@@ -1,5 +1,5 @@
 use Rattle.std.proofs.Common.{◌≡◌, ◌≤◌, ◌-◌, ◌++◌}
-use Rattle.rewrite_bodies.specs.Slots.{groups}
+use Rattle.rewrite_bodies.specs.calls.Slots.{groups}
 use Rattle.unwind_rewrite.proofs.locals.push_added.Given as goal
 
 abbrev pub invariant-loop-height : goal.invariant-loop-height

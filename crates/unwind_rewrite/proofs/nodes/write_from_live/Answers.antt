@@ -36,7 +36,7 @@ pub returns-in-Next-clause-less : goal.returns-in-Next-clause-less
 returns-in-Next-clause-less c =
     let s = c.requires.stood in omega (arith, stands_inside c.args.context.now c.args.body.now s.0 s.1 c.args.index c.args.walk.now c.args.writer.now s.2)
 
-pub returns-in-Leaves-clause-goes_on : goal.returns-in-Leaves-clause-goes_on
-returns-in-Leaves-clause-goes_on c = λ start whole r.
-    goes_out c.args.context.now c.args.body.now c.as_slice-targets.result.now c.as_slice-ops.result.now start whole c.args.index c.end_of_list.result _ c.args.walk.now c.write_live.new.walk c.in_ok-write_live.field-0 c.as_slice-targets.ensures c.as_slice-ops.ensures c.in-Leaves.is
+pub returns-in-Ends-clause-goes_on : goal.returns-in-Ends-clause-goes_on
+returns-in-Ends-clause-goes_on c = λ start whole r.
+    goes_out c.args.context.now c.args.body.now c.as_slice-targets.result.now c.as_slice-ops.result.now start whole c.args.index c.end_of_list.result _ c.args.walk.now c.write_live.new.walk c.in_ok-write_live.field-0 c.as_slice-targets.ensures c.as_slice-ops.ensures c.in-Ends.is
     c.in_ok-write_live.ensures c.end_of_list.ensures.forward c.end_of_list.ensures.end r

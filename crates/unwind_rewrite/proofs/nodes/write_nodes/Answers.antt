@@ -1,6 +1,6 @@
 use Rattle.std.proofs.Common.{rules, ◌≡◌, ◌-◌, true, [], sym, ap, ◌∙◌, arith}
 use Rattle.operand_spill.specs.calls.Walking.{at_start}
-use Rattle.rewrite_bodies.specs.Rewrite.{rewrite}
+use Rattle.rewrite_bodies.specs.calls.Rewrite.{rewrite}
 use Rattle.unwind_rewrite.proofs.PointLaws.{stands_inside, begun, all_written}
 use Rattle.unwind_rewrite.proofs.nodes.write_nodes.Goals as goal
 

@@ -1,6 +1,6 @@
 use Rattle.std.proofs.Common.{[], length}
 use Rattle.wasm_syntax.specs.Tree.{Tree, Writes}
-use Rattle.rewrite_bodies.specs.Rewrite.{rewrite}
+use Rattle.rewrite_bodies.specs.calls.Rewrite.{rewrite}
 use Rattle.operand_spill.specs.calls.Standing.{Fine}
 use Rattle.unwind_rewrite.specs.calls.Points.{Holds, code_in, left_of}
 use Rattle.unwind_rewrite.proofs.nodes.write_nodes.Given as goal

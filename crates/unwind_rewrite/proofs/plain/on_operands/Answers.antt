@@ -1,5 +1,5 @@
 use Rattle.std.proofs.Common.{rules, ◌≡◌, ◌-◌, option_map}
-use Rattle.rewrite_bodies.specs.Slots.{less}
+use Rattle.rewrite_bodies.specs.calls.Slots.{less}
 use Rattle.rewrite_code.specs.calls.Places.{place}
 use Rattle.rewrite_code.proofs.Loads.{when_ok}
 use Rattle.unwind_rewrite.proofs.Branching.{put_on, under_height}

@@ -1,6 +1,6 @@
 use Rattle.std.proofs.Common.{◌≡◌, ◌≤◌, ◌-◌, List}
 use Rattle.wasm_syntax.specs.Tree.{Nodes}
-use Rattle.rewrite_modules.specs.Wrappers.{get_all}
+use Rattle.rewrite_modules.specs.calls.Wrappers.{get_all}
 use Rattle.rewrite_code.specs.calls.Writing.{Behind, goes}
 use Rattle.unwind_rewrite.proofs.wrappers.get_all.Given as goal
 

@@ -1,7 +1,7 @@
 use Rattle.std.proofs.Common.{◌≡◌, ◌≤◌, List, drop}
 use Rattle.wasm_syntax.specs.Tree.{Nodes}
 use Rattle.rewrite_bodies.specs.Numbering.{global_types}
-use Rattle.rewrite_modules.specs.Wrappers.{tell_globals}
+use Rattle.rewrite_modules.specs.calls.Wrappers.{tell_globals}
 use Rattle.rewrite_code.specs.calls.Writing.{Behind, goes}
 use Rattle.unwind_rewrite.proofs.wrappers.tell_globals.Given as goal
 

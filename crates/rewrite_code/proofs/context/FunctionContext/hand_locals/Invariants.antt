@@ -1,6 +1,6 @@
 use Rattle.std.proofs.Common.{◌≡◌, ◌≤◌, List, length, drop}
 use Rattle.wasm_syntax.specs.Tree.{Nodes}
-use Rattle.rewrite_bodies.specs.Rewrite.{hand_locals}
+use Rattle.rewrite_bodies.specs.calls.Rewrite.{hand_locals}
 use Rattle.rewrite_code.specs.calls.Writing.{Behind, goes}
 use Rattle.rewrite_code.proofs.context.FunctionContext.hand_locals.Given as goal
 

@@ -1,5 +1,5 @@
 use Rattle.std.proofs.Common.{◌≡◌, ◌≤◌, take}
-use Rattle.rewrite_bodies.specs.Pieces.{spill}
+use Rattle.rewrite_bodies.specs.calls.Pieces.{spill}
 use Rattle.rewrite_code.specs.calls.Writing.{Emits}
 use Rattle.rewrite_code.specs.calls.Places.{from_top, these}
 use Rattle.rewrite_code.proofs.context.FunctionContext.spill.Given as goal

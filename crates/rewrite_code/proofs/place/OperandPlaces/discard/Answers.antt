@@ -1,5 +1,5 @@
 use Rattle.std.proofs.Common.{rules, ap, ◌∙◌, length, take, ◌-◌, ◌≡◌}
-use Rattle.rewrite_bodies.specs.Slots.{less}
+use Rattle.rewrite_bodies.specs.calls.Slots.{less}
 use Rattle.rewrite_code.specs.calls.Places.{from_top}
 use Rattle.rewrite_code.proofs.Loads.{discarded}
 use Rattle.rewrite_code.proofs.place.OperandPlaces.discard.Goals as goal

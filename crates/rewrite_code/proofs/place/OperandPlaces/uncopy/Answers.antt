@@ -1,6 +1,6 @@
 use Rattle.std.proofs.Common.{◌≡◌, drop, length, map, ap, ◌∙◌, arith}
 use Rattle.std.proofs.lemmas.List.{length-map, take_at}
-use Rattle.rewrite_bodies.specs.Slots.{uncopied, without}
+use Rattle.rewrite_bodies.specs.calls.Slots.{uncopied, without}
 use Rattle.rewrite_code.specs.calls.Places.{place, from_top, these}
 use Rattle.rewrite_code.proofs.Copying.{uncopied_places}
 use Rattle.rewrite_code.proofs.place.OperandPlaces.uncopy.Goals as goal

@@ -1,0 +1,7 @@
+use Rattle.rewrite_code.proofs.Pieces.{emits_then}
+use Rattle.rewrite_code.proofs.Loads.{when_ok}
+use Rattle.guard_insert.proofs.accesses.memory_length.Goals as goal
+
+pub returns : goal.returns
+returns c =
+    when_ok (λ last. emits_then c.in_ok-basic.ensures (emits_then c.in_ok-basic-2.ensures (emits_then c.in_ok-const_value.ensures last))) c.basic-3.result c.basic-3.ensures

@@ -1,0 +1,122 @@
+//! The landings of a function: which lists of operands a guard, or the test behind a call, may have
+//! to hand over.
+
+ghost use Rattle.std.specs.Prelude.{◌≡◌, ◌<◌, ◌≤◌, ℕ, List, [], nat_lt, length, Some, IfOk, OnOk};
+ghost use Rattle.wasm_syntax.specs.Module.{type_at};
+ghost use Rattle.wasm_syntax.specs.Tree.{Tree, Writes, Call as CallOf, jump_of, item_of};
+ghost use Rattle.rewrite_bodies.specs.Numbering.{import_count};
+ghost use Rattle.rewrite_bodies.specs.calls.Slots.{Ctx};
+ghost use Rattle.rewrite_bodies.specs.calls.Landings.{landings_from};
+ghost use Rattle.operand_spill.specs.inner.Noting.{noted, noted_call, noted_jump};
+
+use crate::Walk;
+use crate::places::advance;
+use causes::NoMemory;
+use rewrite_code::Landings;
+use std::alloc::Global;
+use wasm_syntax::{FuncType, Instr, Jump, ModuleParts, Op, ValType, read_op};
+
+/// The landing behind a call of a function of this type, which may be an import.
+fn note_type(
+    found: &mut Landings,
+    walk: &Walk,
+    imported: bool,
+    ftype: &FuncType,
+) -> Result<(), NoMemory>
+    ensures { OnOk result (found.new
+        ≡ noted_call imported (Some ftype.now) walk.now.places found.old) }
+{
+    if imported {
+        Ok(())
+    } else {
+        found.note_call(walk.places(), ftype.params.len())
+    }
+}
+
+/// Whether a function is an import.
+fn is_imported(source: &ModuleParts, function: u32) -> bool
+    ensures { result ≡ nat_lt function (import_count source.now) }
+{
+    (function as usize) < source.imports.len()
+}
+
+/// The landing behind a call.
+fn note_call(
+    found: &mut Landings,
+    walk: &Walk,
+    source: &ModuleParts,
+    function: u32,
+) -> Result<(), NoMemory>
+    ensures { OnOk result (found.new ≡ noted_call (nat_lt function (import_count source.now))
+        (type_at source.now function) walk.now.places found.old) }
+{
+    let imported = is_imported(source, function);
+    match source.type_of(function as usize) {
+        Some(ftype) => note_type(found, walk, imported, ftype),
+        None => Ok(()),
+    }
+}
+
+/// The landing behind a jump, if it has one.
+fn note_jump(
+    found: &mut Landings,
+    walk: &Walk,
+    source: &ModuleParts,
+    code: Jump,
+) -> Result<(), NoMemory>
+    ensures { (C : Ctx) (targets : List ℕ) → C.source ≡ source.now → OnOk result
+        (found.new ≡ noted_jump C (jump_of targets code) walk.now.places found.old) }
+{
+    match code {
+        Jump::Call(function) => note_call(found, walk, source, function),
+        Jump::Unreachable => Ok(()),
+        Jump::Br(_) => Ok(()),
+        Jump::BrIf(_) => Ok(()),
+        Jump::BrTable(_, _, _) => Ok(()),
+        Jump::Return => Ok(()),
+        Jump::CallIndirect(_) => Ok(()),
+    }
+}
+
+/// The landing of a live instruction, if it has one.
+fn note(
+    found: &mut Landings,
+    walk: &Walk,
+    source: &ModuleParts,
+    code: Instr,
+) -> Result<(), NoMemory>
+    ensures { (C : Ctx) (targets : List ℕ) → C.source ≡ source.now → OnOk result
+        (found.new ≡ noted C (Some walk.now.places) (item_of targets code) found.old) }
+{
+    match code {
+        Instr::Basic(instruction) => found.note_guard(&instruction, walk.places()),
+        Instr::Jump(code) => note_jump(found, walk, source, code),
+        Instr::Block(_) => Ok(()),
+        Instr::Loop(_) => Ok(()),
+        Instr::If(_) => Ok(()),
+        Instr::Else => Ok(()),
+        Instr::End => Ok(()),
+    }
+}
+
+/// The landings of a body in a function with these locals.
+pub fn landings(
+    alloc: Global,
+    locals: &[ValType],
+    source: &ModuleParts,
+    ops: &[Op],
+) -> Result<Landings, NoMemory>
+    ensures { (C : Ctx) (targets : List ℕ) (tree : Tree) → C.locals ≡ locals.now
+        → C.source ≡ source.now → Writes targets ops.now tree
+        → IfOk result (λ found. found ≡ landings_from C [] tree.nodes []) }
+{
+    let mut found = Landings::new(alloc);
+    let mut walk = Walk::new(alloc, None);
+    let mut pc = 0;
+    while pc < ops.len() {
+        let op = read_op(ops, pc);
+        note(&mut found, &walk, source, op.code)?;
+        pc = advance(&mut walk, locals, source, ops, pc)?;
+    }
+    Ok(found)
+}

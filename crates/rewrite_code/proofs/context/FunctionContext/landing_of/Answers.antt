@@ -1,0 +1,17 @@
+use Rattle.std.proofs.Common.{rules, ◌≡◌, ◌∙◌, ◌-◌, length, ap, sym, refl, take, Some, option_map}
+use Rattle.rewrite_bodies.specs.calls.Landings.{number_of, number_in}
+use Rattle.rewrite_code.specs.calls.Places.{place}
+use Rattle.rewrite_code.specs.calls.KeptLandings.{made_landing}
+use Rattle.rewrite_code.proofs.Same.{made_carrying}
+use Rattle.rewrite_code.proofs.context.FunctionContext.landing_of.Goals as goal
+
+pub returns-clause-number : goal.returns-clause-number
+returns-clause-number c =
+    let ops = c.as_slice-operands.result.now in
+    let one = sym c.one_kind.ensures ∙ c.in-Some.is in
+    let there = sym (ap (λ o. option_map place o) c.in-Some-peek.is) ∙ c.peek.ensures in
+    let made = made_carrying c.args.instruction.now ops c.args.places.now c.in-Some.kind c.in-Some-peek.top c.value_type.result _ c.as_slice-operands.ensures.value one there c.value_type.ensures refl in
+    c.number_of.ensures.number ∙ ap (number_of (made_landing (Some c.value_type.result) (take (length ops - 1) ops) c.in-Some.kind)) c.landings.ensures.list ∙ sym (ap (number_in c.args.self.now.landings) made)
+
+pub returns-clause-few : goal.returns-clause-few
+returns-clause-few c = c.number_of.ensures.few

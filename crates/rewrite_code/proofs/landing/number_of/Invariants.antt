@@ -1,0 +1,15 @@
+use Rattle.std.proofs.Common.{◌≡◌, ◌+◌, drop, map, option_map}
+use Rattle.rewrite_bodies.specs.calls.Landings.{number_of}
+use Rattle.rewrite_code.specs.calls.KeptLandings.{landing, made_landing}
+use Rattle.rewrite_code.proofs.landing.number_of.Given as goal
+
+abbrev pub invariant-loop-number : goal.invariant-loop-number
+invariant-loop-number l = record {
+  list : l.landings ≡ l.fn.landings;
+  first : l.carried ≡ l.fn.carried;
+  second : l.operands ≡ l.fn.operands;
+  third : l.kind ≡ l.fn.kind;
+  so_far :
+      number_of (made_landing l.fn.carried l.fn.operands l.fn.kind) (map landing l.fn.landings)
+      ≡ option_map (λ n. l.number + n) (number_of (made_landing l.fn.carried l.fn.operands l.fn.kind) (map landing (drop l.number l.fn.landings)));
+}

@@ -1,0 +1,302 @@
+//! The landings of a function: places behind its body at which its frame is handed over, one for each
+//! list of operands and kind of trap.
+
+ghost use Rattle.std.specs.Prelude.{◌≡◌, ◌+◌, ◌*◌, ◌^◌, ◌<◌, ◌≤◌, [], List, map, length, reverse, IfOk, IfSome, OnOk};
+ghost use Rattle.wasm_syntax.specs.Machine.{same_result};
+ghost use Rattle.wasm_syntax.specs.Numbers.{same_type};
+ghost use Rattle.rewrite_bodies.specs.calls.Slots.{Landing as LandingOf, Copied as CopiedOf, less};
+ghost use Rattle.rewrite_bodies.specs.calls.Landings.{same_value, same_place, same_places, same_landing, number_of, division_kind, one_kind, carrying, landing_of, landing_behind, number_in, most_landings, with_landing, with_some};
+ghost use Rattle.rewrite_code.specs.calls.Places.{place, from_top};
+ghost use Rattle.rewrite_code.specs.calls.KeptLandings.{landing, made_landing};
+
+use crate::context::FunctionContext;
+use crate::place::{OperandPlace, OperandPlaces};
+use causes::NoMemory;
+use std::alloc::Global;
+use std::marker::Model;
+use wasm_syntax::{Basic, Binary, ValType, Value};
+
+/// The most landings of a function: with them, no body whose blocks a rewriting takes passes the
+/// decoder's limit of nesting.
+const MOST: usize = 20;
+
+/// The types of the topmost operand, where it comes with the branch, the places of the others, and
+/// the kind of the trap.
+#[derive(Drop)]
+pub struct Landing {
+    pub carried: Option<ValType>,
+    pub places: OperandPlaces,
+    pub kind: u32,
+}
+
+fn same_result(a: Option<ValType>, b: Option<ValType>) -> bool
+    ensures { result ≡ same_result a b }
+{
+    match a {
+        Some(t) => match b {
+            Some(u) => t.is_same(u),
+            None => false,
+        },
+        None => match b {
+            Some(_) => false,
+            None => true,
+        },
+    }
+}
+
+fn same_value(a: Value, b: Value) -> bool
+    ensures { result ≡ same_value a b }
+{
+    match a {
+        Value::I32(n) => match b {
+            Value::I32(m) => n == m,
+            Value::I64(_) => false,
+        },
+        Value::I64(n) => match b {
+            Value::I32(_) => false,
+            Value::I64(m) => n == m,
+        },
+    }
+}
+
+fn same_copy(t: ValType, x: u32, b: OperandPlace) -> bool
+    ensures { result ≡ same_place (CopiedOf t x) (place b) }
+{
+    match b {
+        OperandPlace::Copied(u, y) => t.is_same(u) && x == y,
+        OperandPlace::Spilled(_) | OperandPlace::Known(_) => false,
+    }
+}
+
+fn same_place(a: OperandPlace, b: OperandPlace) -> bool
+    ensures { result ≡ same_place (place a) (place b) }
+{
+    match a {
+        OperandPlace::Spilled(t) => match b {
+            OperandPlace::Spilled(u) => t.is_same(u),
+            OperandPlace::Known(_) | OperandPlace::Copied(_, _) => false,
+        },
+        OperandPlace::Known(v) => match b {
+            OperandPlace::Known(w) => same_value(v, w),
+            OperandPlace::Spilled(_) | OperandPlace::Copied(_, _) => false,
+        },
+        OperandPlace::Copied(t, x) => same_copy(t, x, b),
+    }
+}
+
+/// The same of all, which are as many.
+fn same_places(a: &[OperandPlace], b: &[OperandPlace]) -> bool
+    ensures { result ≡ same_places (from_top a.now) (from_top b.now) }
+{
+    if a.len() != b.len() {
+        return false;
+    }
+    let mut left = a.len();
+    while left > 0 {
+        left -= 1;
+        if !same_place(a[left], b[left]) {
+            return false;
+        }
+    }
+    true
+}
+
+/// Whether a landing is for these operands, with the topmost last, and this kind.
+fn is_for(found: &Landing, carried: Option<ValType>, operands: &[OperandPlace], kind: u32) -> bool
+    ensures { result ≡ same_landing (made_landing carried operands.now kind) (landing found.now) }
+{
+    same_result(carried, found.carried)
+        && kind == found.kind
+        && same_places(operands, found.places.as_slice())
+}
+
+/// The number of the first landing for these.
+fn number_of(
+    landings: &[Landing],
+    carried: Option<ValType>,
+    operands: &[OperandPlace],
+    kind: u32,
+) -> Option<u32>
+    requires { length landings.now ≤ most_landings }
+    ensures few { IfSome result (λ number. number < most_landings) }
+    ensures number { result ≡ number_of (made_landing carried operands.now kind)
+        (map landing landings.now) }
+{
+    for number in 0..landings.len() {
+        if is_for(&landings[number], carried, operands, kind) {
+            return Some(number as u32);
+        }
+    }
+    None
+}
+
+fn division_kind(operator: Binary) -> Option<u32>
+    ensures { result ≡ division_kind operator }
+{
+    match operator {
+        Binary::DivU | Binary::RemS | Binary::RemU => Some(2),
+        _ => None,
+    }
+}
+
+/// The kind of an instruction that traps with no other one.
+fn one_kind(instruction: &Basic) -> Option<u32>
+    ensures { result ≡ one_kind instruction.now }
+{
+    match *instruction {
+        Basic::Binary(_, operator) => division_kind(operator),
+        Basic::Load(..) | Basic::Store(..) | Basic::MemoryCopy | Basic::MemoryFill => Some(4),
+        _ => None,
+    }
+}
+
+/// A copy of operands.
+fn copied(alloc: Global, operands: &[OperandPlace]) -> Result<OperandPlaces, NoMemory>
+    ensures { IfOk result (λ copy. copy ≡ from_top operands.now) }
+{
+    let mut copy = OperandPlaces::new(alloc);
+    for operand in operands {
+        copy.push(*operand)?;
+    }
+    Ok(copy)
+}
+
+/// The landings of a function, which contracts see as a list, in the order in which they were
+/// noted.
+#[derive(Drop)]
+pub struct Landings {
+    alloc: Global,
+    items: Vec<Landing>,
+}
+
+impl Model for Landings {
+    ghost use Rattle.std.specs.Prelude.{List, map, length, ◌≤◌};
+    ghost use Rattle.rewrite_bodies.specs.calls.Slots.{Landing as LandingOf};
+    ghost use Rattle.rewrite_bodies.specs.calls.Landings.{most_landings};
+    ghost use Rattle.rewrite_code.specs.calls.KeptLandings.{landing};
+
+    ghost Value = { List LandingOf };
+
+    ghost view = { λ s. map landing s.items.items };
+
+    ghost invariant = { λ s. length s.items.items ≤ most_landings };
+}
+
+impl Landings {
+    /// None, which takes no memory.
+    pub fn new(alloc: Global) -> Self
+        ensures { result ≡ [] }
+    {
+        Landings {
+            alloc,
+            items: Vec::new(alloc),
+        }
+    }
+
+    /// The landings, the first one first.
+    pub fn as_slice(&self) -> &[Landing]
+        ensures list { map landing result.now ≡ self.now }
+        ensures few { length result.now ≤ most_landings }
+    {
+        self.items.as_slice()
+    }
+
+    /// How many there are.
+    pub fn count(&self) -> u32
+        ensures count { result ≡ length self.now }
+        ensures few { result ≤ most_landings }
+    {
+        self.items.len() as u32
+    }
+
+    /// One more for these operands and this kind, where there is none yet, and room.
+    fn note(
+        &mut self,
+        carried: Option<ValType>,
+        operands: &[OperandPlace],
+        kind: u32,
+    ) -> Result<(), NoMemory>
+        ensures { OnOk result (self.new
+            ≡ with_landing (made_landing carried operands.now kind) self.old) }
+    {
+        if number_of(self.items.as_slice(), carried, operands, kind).is_some() {
+            return Ok(());
+        }
+        if self.items.len() < MOST {
+            let places = copied(self.alloc, operands)?;
+            self.items.push(Landing {
+                carried,
+                places,
+                kind,
+            })?;
+        }
+        Ok(())
+    }
+
+    /// The landing of an instruction on these operands, if it has one.
+    pub fn note_guard(
+        &mut self,
+        instruction: &Basic,
+        places: &OperandPlaces,
+    ) -> Result<(), NoMemory>
+        ensures { OnOk result (self.new ≡ with_some (landing_of instruction.now places.now)
+            self.old) }
+    {
+        let Some(kind) = one_kind(instruction) else {
+            return Ok(());
+        };
+        let Some(top) = places.peek(0) else {
+            return Ok(());
+        };
+        let operands = places.as_slice();
+        self.note(
+            Some(top.value_type()),
+            &operands[..operands.len() - 1],
+            kind,
+        )
+    }
+
+    /// The landing behind a call that takes so many of these operands.
+    pub fn note_call(&mut self, places: &OperandPlaces, taken: usize) -> Result<(), NoMemory>
+        ensures { OnOk result (self.new ≡ with_landing (landing_behind (less taken places.now))
+            self.old) }
+    {
+        let operands = places.as_slice();
+        let left = operands.len().saturating_sub(taken);
+        self.note(None, &operands[..left], 0)
+    }
+}
+
+impl<'m, 'a> FunctionContext<'m, 'a> {
+    /// The number of the landing of an instruction on these operands.
+    pub fn landing_of(&self, instruction: &Basic, places: &OperandPlaces) -> Option<u32>
+        ensures number { result ≡ number_in self.now.landings
+            (landing_of instruction.now places.now) }
+        ensures few { IfSome result (λ number. number < most_landings) }
+    {
+        let Some(kind) = one_kind(instruction) else {
+            return None;
+        };
+        let Some(top) = places.peek(0) else {
+            return None;
+        };
+        let operands = places.as_slice();
+        number_of(
+            self.landings(),
+            Some(top.value_type()),
+            &operands[..operands.len() - 1],
+            kind,
+        )
+    }
+
+    /// The number of the landing behind a call that took so many of these operands.
+    pub fn landing_behind(&self, places: &OperandPlaces, taken: usize) -> Option<u32>
+        ensures number { result
+            ≡ number_of (landing_behind (less taken places.now)) self.now.landings }
+        ensures few { IfSome result (λ number. number < most_landings) }
+    {
+        let operands = places.as_slice();
+        let left = operands.len().saturating_sub(taken);
+        number_of(self.landings(), None, &operands[..left], 0)
+    }
+}

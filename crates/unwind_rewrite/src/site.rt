@@ -1,0 +1,12 @@
+//! Where a piece of code stands.
+
+use rewrite_code::OperandPlaces;
+
+/// How many labels are open around an instruction of a body, where the operands are before it, and
+/// its code offset.
+#[derive(Drop)]
+pub struct Site<'p> {
+    pub labels: u32,
+    pub places: &'p OperandPlaces,
+    pub offset: u32,
+}
