@@ -16,6 +16,7 @@ use Rattle.wasm_syntax.specs.Module.{IsModule, function_types}
 use Rattle.wasm_syntax.specs.Sizes.{WithinLimits}
 use Rattle.wasm_syntax.specs.Static.{LiveAt}
 use Rattle.wasm_syntax.specs.Valid.{Valid, defined_index}
+use Rattle.wasm_syntax.specs.Numbers.{IsValue}
 use Rattle.wasm_laws.proofs.Lists.{all_of, at_of}
 use Rattle.dump_format.specs.declared.dump.Frame.{Frame}
 use Rattle.dump_format.specs.declared.dump.Dump.{Dump}
@@ -23,7 +24,7 @@ use Rattle.dump_format.specs.declared.dump.Instance.{Instance}
 use Rattle.dump_format.specs.Form.{pages_of}
 use Rattle.dump_format.specs.Decode.{dump_from}
 use Rattle.dump_write.specs.Canonical.{memory_indices, instance_of, in_instance, canonical, canonical_bytes}
-use Rattle.dump_write.specs.calls.Typed.{IsSeenTyped, IsValueTyped, IsFrameTyped, IsTyped}
+use Rattle.dump_write.specs.calls.Typed.{IsSeenTyped, IsFrameTyped, IsTyped}
 use Rattle.dump_write.proofs.CanonicalLaws.{reads_back}
 use Rattle.dump_match.specs.declared.mismatch.Mismatch.TheVariants as rows
 use Rattle.dump_match.specs.Frames.{IsOf, FunctionFits, OffsetFits, instruction}
@@ -34,13 +35,13 @@ use Rattle.accept_laws.specs.calls.Accepted.{IsAccepted}
 use Rattle.accept_laws.proofs.Held.{held, held_seen, held_frame, held_dump, below_32, below_64}
 use Rattle.accept_laws.proofs.HeldBytes.{instance_same, bytes_same}
 use Rattle.accept_laws.proofs.HeldMatches.{Holds, matches_held}
-use Rattle.wasm_laws.proofs.Validity.{then_found}
 use Rattle.pm_text.proofs.Lists.{some_is}
 use Rattle.std.proofs.lemmas.Option.{slice_get_within}
+use Rattle.wasm_syntax.proofs.Types.{then_found}
 
 -- ---- values
 
-all_values : (vs : List Value) → AllByRecursion IsValueTyped (map held vs)
+all_values : (vs : List Value) → AllByRecursion IsValue (map held vs)
 all_values [] = tt
 all_values (value.I32 n ∷ vs) = (below_32 n, all_values vs)
 all_values (value.I64 n ∷ vs) = (below_64 n, all_values vs)
@@ -135,7 +136,7 @@ module _ (m : Module) (whole : IsModule m) (valid : Valid m) (limits : WithinLim
   typed_held d text h = record {
     name = text;
     frames = All-from_recursion IsFrameTyped (map held_frame d.frames) (frames_typed d.frames (small_frames (canonical d) h));
-    globals = All-from_recursion IsValueTyped (map held d.globals) (all_values d.globals);
+    globals = All-from_recursion IsValue (map held d.globals) (all_values d.globals);
   }
 
   -- the bytes are those of the dump with held values, which has its types and is read back

@@ -5,8 +5,6 @@ use Rattle.std.specs.Int.{w32, w64, cast_unsigned}
 use Rattle.std.specs.List.{AllByRecursion}
 use Rattle.std.proofs.lemmas.Int.{ints}
 use Rattle.wasm_leb.specs.Reading.{IsWithin}
-use Rattle.int_ops.specs.declared.operators.Narrow32.TheVariants as narrow32
-use Rattle.int_ops.specs.declared.operators.Narrow64.TheVariants as narrow64
 use Rattle.wasm_syntax.specs.declared.value.ValType.{ValType}
 use Rattle.wasm_syntax.specs.declared.value.ValType.TheVariants.{I32, I64}
 use Rattle.wasm_syntax.specs.declared.instruction.Convert.TheVariants.{Wrap, ExtendS, ExtendU}
@@ -25,6 +23,7 @@ use Rattle.wasm_format.specs.Expressions.{stand_in, code_of}
 use Rattle.wasm_format.proofs.Shortest.{signed_within}
 use Rattle.wasm_leb.proofs.Tools.{chosen}
 use Rattle.wasm_bytes.specs.Tables.{lookup, rows_from}
+use Rattle.wasm_format.proofs.Shortest.{last_forms}
 
 -- a constant is a number of its type
 abbrev pub BasicFine : Basic → Type 0
@@ -138,11 +137,6 @@ operators_fine t =
     fine_append (map (λ op. basic (basics.Unary t op)) unaries) (map (λ op. basic (basics.Binary t op)) operations)
     (fine_map (λ op. basic (basics.Unary t op)) (λ op. tt) unaries)
     (fine_map (λ op. basic (basics.Binary t op)) (λ op. tt) operations)
-
-last_forms : List Form
-last_forms =
-    basic (basics.Extend32 narrow32.Eight) ∷ basic (basics.Extend32 narrow32.Sixteen)
-    ∷ basic (basics.Extend64 narrow64.Eight) ∷ basic (basics.Extend64 narrow64.Sixteen) ∷ basic (basics.Extend64 narrow64.ThirtyTwo) ∷ []
 
 last_fine : FormsFine last_forms
 unfolding last_forms

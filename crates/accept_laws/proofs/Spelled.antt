@@ -19,7 +19,7 @@ use Rattle.wasm_bytes.specs.calls.Spelling.{pair, passing, here, items, vector, 
 use Rattle.wasm_format.specs.Spelled.{Spelled}
 use Rattle.wasm_format.specs.calls.InstructionGrammar.{instruction}
 use Rattle.wasm_format.specs.declared.expression.Expression.{Expression}
-use Rattle.wasm_format.specs.declared.noted.Noted.{Noted}
+use Rattle.wasm_bytes.specs.declared.noted.Noted.{Noted}
 use Rattle.wasm_format.specs.declared.module.SpelledModule.{SpelledModule}
 use Rattle.wasm_format.specs.calls.Choices.{first_and}
 use Rattle.wasm_format.specs.Expressions.{instr_of, may_stand, no_code, with_instr, is_closed}

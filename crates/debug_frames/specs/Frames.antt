@@ -1,12 +1,11 @@
 -- The lines that show a frame: one for each inlined subroutine that holds its address, the innermost first, and one for its function.
-use Rattle.std.specs.Prelude.{ℕ, ◌+◌, ◌%◌, ◌^◌, ℤ, pos, List, [], ◌∷◌, ◌++◌, slice_get, Option, Some, None, option_and_then, option_map, codes}
+use Rattle.std.specs.Prelude.{ℕ, ◌+◌, ◌%◌, ◌^◌, ℤ, pos, List, [], ◌∷◌, ◌++◌, Option, Some, None, option_and_then, option_map, codes}
 use Rattle.std.specs.Option.{option_or}
 use Rattle.std.specs.Fmt.{decimal, signed_decimal}
 use Rattle.pm_text.specs.Names.{plain}
 use Rattle.wasm_syntax.specs.declared.parts.Body.{Body}
 use Rattle.wasm_syntax.specs.declared.module.ModuleParts.{ModuleParts as Module}
-use Rattle.wasm_syntax.specs.Module.{option_then}
-use Rattle.wasm_syntax.specs.Valid.{defined_index}
+use Rattle.wasm_syntax.specs.Valid.{body_of}
 use Rattle.wasm_decode.specs.Names.{name_of as function_name}
 use Rattle.dump_format.specs.declared.dump.Frame.{Frame}
 use Rattle.dwarf_info.specs.declared.entry.UnitAnswer.{UnitAnswer}
@@ -37,7 +36,7 @@ body_start (Some body) = body.start
 body_start None = 0
 
 abbrev pub start_of : Module → ℕ → ℕ
-start_of m f = body_start (option_then (defined_index m f) (slice_get m.bodies))
+start_of m f = body_start (body_of m f)
 
 -- The code address of a frame: where the code entry of its function begins, and its offset. Code addresses have 32 bits (WebAssembly DWARF).
 abbrev pub address_of : Module → Frame → ℕ

@@ -1,6 +1,7 @@
 //! The line programs that units name (DWARF 4 and 5 section 6.2).
 
-ghost use Rattle.std.specs.Prelude.{◌≡◌, ◌==◌, ◌++◌, map, flat_map, find, IfOk, OnOk, slice_get, option_copied, option_map};
+ghost use Rattle.std.specs.Prelude.{◌≡◌, ◌==◌, ◌++◌, map, flat_map, find, IfOk, OnOk, slice_get, option_copied};
+ghost use Rattle.std.specs.Prelude.{option_map};
 ghost use Rattle.std.specs.Ordering.{nat_cmp};
 ghost use Rattle.std.specs.BTreeMap.{get};
 ghost use Rattle.dwarf_abbrev.specs.calls.Places.{IsPlaced};

@@ -6,10 +6,9 @@ use Rattle.wasm_syntax.specs.declared.parts.Body.{Body}
 use Rattle.wasm_syntax.specs.declared.module.ModuleParts.{ModuleParts as Module}
 use Rattle.wasm_syntax.specs.Module.{type_at}
 use Rattle.wasm_syntax.specs.Sizes.{WithinLimits, local_count}
-use Rattle.wasm_syntax.specs.Valid.{defined_index}
-use Rattle.wasm_validate.specs.Heights.{body_of}
-use Rattle.wasm_laws.proofs.Validity.{then_found}
+use Rattle.wasm_syntax.specs.Valid.{body_of, defined_index}
 use Rattle.pm_text.proofs.Lists.{some_is}
+use Rattle.wasm_syntax.proofs.Types.{then_found}
 
 -- the index of a function that is defined
 behind_imports : (n f i : ℕ) (b : Bool) → nat_lt f n ≡ b → (if b then None else Some (f - n)) ≡ Some i → n + i ≡ f

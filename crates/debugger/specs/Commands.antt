@@ -5,9 +5,9 @@ use Rattle.pm_text.specs.Numbers.{decimal_value}
 use Rattle.debugger.specs.declared.command.Command.{Command}
 use Rattle.debugger.specs.declared.command.Command.TheVariants.{Backtrace, Frame, Locals, Operands, Globals, Variables, Print, Examine, Bad}
 
--- the command of a word, or another one
-abbrev pub is_word : List ℕ → List ℕ → Command → Command → Command
-is_word given word command other = if bytes_eq given word then command else other
+-- what a word stands for, or something else
+abbrev pub is_word : {A : Type 0} → List ℕ → List ℕ → A → A → A
+is_word given word this other = if bytes_eq given word then this else other
 
 abbrev pub one_word : List ℕ → Command
 one_word w =

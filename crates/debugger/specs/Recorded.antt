@@ -1,22 +1,17 @@
 -- The globals and the memory that a dump records: those that its instance lists (tool-conventions Coredump.md).
 use Rattle.std.specs.Prelude.{ℕ, List, [], ◌∷◌, filter_map, slice_get, Option, None, option_map}
 use Rattle.wasm_syntax.specs.declared.value.Value.{Value}
-use Rattle.wasm_syntax.specs.declared.value.Value.TheVariants as values
 use Rattle.wasm_syntax.specs.declared.value.Seen.{Seen}
-use Rattle.wasm_syntax.specs.declared.value.Seen.TheVariants as seens
+use Rattle.wasm_syntax.specs.Numbers.{seen_of}
 use Rattle.linear_memory.specs.Memory.{Memory, zeroed}
 use Rattle.dump_format.specs.declared.dump.Dump.{Dump}
 use Rattle.dump_format.specs.declared.dump.Instance.{Instance}
 use Rattle.dump_format.specs.Region.{Region}
 use Rattle.dump_write.specs.Pages.{laid_on}
 
-abbrev pub seen : Value → Seen
-seen (values.I32 n) = seens.I32 n
-seen (values.I64 n) = seens.I64 n
-
 -- what an index of the dump's list of globals names
 abbrev pub listed : List Value → ℕ → Option Seen
-listed globals i = option_map seen (slice_get globals i)
+listed globals i = option_map seen_of (slice_get globals i)
 
 abbrev pub globals_in : List Value → List Instance → List Seen
 globals_in globals [] = []

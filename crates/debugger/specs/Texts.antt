@@ -6,7 +6,7 @@ use Rattle.wasm_syntax.specs.declared.parts.Body.{Body}
 use Rattle.wasm_syntax.specs.declared.module.ModuleParts.{ModuleParts as Module}
 use Rattle.wasm_syntax.specs.Module.{type_at}
 use Rattle.wasm_syntax.specs.Sizes.{local_count}
-use Rattle.wasm_validate.specs.Heights.{body_of}
+use Rattle.wasm_syntax.specs.Valid.{body_of}
 use Rattle.dump_format.specs.declared.dump.Frame.{Frame}
 use Rattle.debugger.specs.Listings.{listing, recorded_or}
 use Rattle.debugger.specs.Examined.{examined_text}

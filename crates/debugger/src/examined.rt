@@ -1,6 +1,7 @@
 //! Bytes of the recorded memory in lines.
 
-ghost use Rattle.std.specs.Prelude.{◌≡◌, ◌<◌, ◌+◌, ◌*◌, ◌≤◌, ◌∷◌, [], ◌^◌, ◌++◌, nat_le, flat_map, length, OnOk, IfOk, option_map};
+ghost use Rattle.std.specs.Prelude.{◌≡◌, ◌<◌, ◌+◌, ◌*◌, ◌≤◌, ◌∷◌, [], ◌^◌, ◌++◌, nat_le, flat_map, length, OnOk, IfOk};
+ghost use Rattle.std.specs.Prelude.{option_map};
 ghost use Rattle.std.specs.List.{range_with_len};
 ghost use Rattle.linear_memory.specs.Memory.{window};
 ghost use Rattle.debugger.specs.Examined as definitions;

@@ -9,20 +9,11 @@ use pm_text::Items;
 use std::alloc::Global;
 use wasm_syntax::{Seen, Value};
 
-fn seen(value: Value) -> Seen
-    ensures { result ≡ definitions.seen value }
-{
-    match value {
-        Value::I32(bits) => Seen::I32(bits),
-        Value::I64(bits) => Seen::I64(bits),
-    }
-}
-
 fn listed(globals: &[Value], index: u32) -> Option<Seen>
     ensures { result ≡ definitions.listed globals.now index }
 {
     match globals.get(index as usize) {
-        Some(value) => Some(seen(*value)),
+        Some(value) => Some(value.shown()),
         None => None,
     }
 }

@@ -23,7 +23,7 @@ pub use globals::recorded_globals;
 pub use listing::push_listing;
 pub use memory::recorded_memory;
 pub use paths::push_path;
-pub use reading::{read_command, second_word};
+pub use reading::{first_word, read_command, second_word};
 pub use session::Session;
 pub use subject::Subject;
 pub use texts::{

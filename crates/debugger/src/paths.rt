@@ -7,7 +7,7 @@ ghost use Rattle.debugger.specs.Variables as definitions;
 use causes::NoMemory;
 use pm_text::Text;
 use std::alloc::Global;
-use var_eval::{Frame as Looks, Shown, value_of};
+use var_eval::{Shown, VariableFrame, value_of};
 use var_path::Path;
 
 fn push_no_variable(out: &mut Text, name: &[u8]) -> Result<(), NoMemory>
@@ -44,7 +44,7 @@ fn push_shown(out: &mut Text, name: &[u8], word: &str, shown: &Shown) -> Result<
 pub fn push_path(
     out: &mut Text,
     alloc: Global,
-    looks: &Looks<'_, '_, '_, '_, '_>,
+    looks: &VariableFrame<'_, '_, '_, '_, '_>,
     word: &str,
     path: &Path<'_>,
 ) -> Result<(), NoMemory>

@@ -2,7 +2,10 @@
 
 ghost use Rattle.std.specs.Prelude.{◌≡◌, ◌∷◌, ◌==◌};
 ghost use Rattle.std.specs.List.{slice_split};
-ghost use Rattle.debugger.specs.Commands.{one_word as one_word_there, frame as frame_there, two_words as two_words_there, examine as examine_there, three_words as three_words_there, command_of, read_command as command_there, second_word as second_there};
+ghost use Rattle.debugger.specs.Commands.{one_word as one_word_there, frame as frame_there};
+ghost use Rattle.debugger.specs.Commands.{two_words as two_words_there, examine as examine_there};
+ghost use Rattle.debugger.specs.Commands.{three_words as three_words_there, command_of, read_command as command_there};
+ghost use Rattle.debugger.specs.Commands.{second_word as second_there};
 ghost use Rattle.debugger.specs.calls.Words.{words_behind};
 
 use crate::command::Command;
@@ -12,7 +15,7 @@ use pm_text::read_decimal;
 const MOST_BYTES: u64 = 4096;
 
 /// The first word, and the text behind the space after it, where there is one.
-fn first_word(text: &str) -> (&str, Option<&str>)
+pub fn first_word(text: &str) -> (&str, Option<&str>)
     ensures { slice_split (λ b. b == 32) text.now ≡ result.0.now ∷ words_behind result.1 }
 {
     match text.split_once(' ') {

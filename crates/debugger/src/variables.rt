@@ -8,14 +8,14 @@ use dwarf_entries::{Standing, name_or_empty};
 use dwarf_scopes::variables_at;
 use pm_text::Text;
 use std::alloc::Global;
-use var_eval::{Frame as Looks, push_variable};
+use var_eval::{VariableFrame, push_variable};
 
 /// Adds the line of a variable.
 #[tactic(auto, unfolding(crate::specs::Variables::variable_line))]
 fn push_line<'r, 'a>(
     out: &mut Text,
     alloc: Global,
-    looks: &Looks<'_, 'r, '_, '_, 'a>,
+    looks: &VariableFrame<'_, 'r, '_, '_, 'a>,
     variable: &Standing<'r, 'a>,
 ) -> Result<(), NoMemory>
     ensures { OnOk result (out.new ≡ out.old ++ definitions.variable_line looks.now variable.now) }
@@ -30,7 +30,7 @@ fn push_line<'r, 'a>(
 fn push_lines<'r, 'a>(
     out: &mut Text,
     alloc: Global,
-    looks: &Looks<'_, 'r, '_, '_, 'a>,
+    looks: &VariableFrame<'_, 'r, '_, '_, 'a>,
     variables: &[Standing<'r, 'a>],
 ) -> Result<(), NoMemory>
     ensures { OnOk result (out.new
@@ -47,7 +47,7 @@ fn push_lines<'r, 'a>(
 fn push_lines_or_none<'r, 'a>(
     out: &mut Text,
     alloc: Global,
-    looks: &Looks<'_, 'r, '_, '_, 'a>,
+    looks: &VariableFrame<'_, 'r, '_, '_, 'a>,
     variables: &[Standing<'r, 'a>],
 ) -> Result<(), NoMemory>
     ensures { OnOk result (out.new ≡ out.old ++ definitions.lines_or_none looks.now variables.now) }
@@ -62,7 +62,7 @@ fn push_lines_or_none<'r, 'a>(
 pub fn push_variables(
     out: &mut Text,
     alloc: Global,
-    looks: &Looks<'_, '_, '_, '_, '_>,
+    looks: &VariableFrame<'_, '_, '_, '_, '_>,
 ) -> Result<(), NoMemory>
     ensures { OnOk result (out.new ≡ out.old ++ definitions.all_variables looks.now) }
 {

@@ -9,7 +9,7 @@ use debug_frames::{Information, address_of};
 use dump_format::Frame;
 use dwarf_expr::FrameView;
 use std::alloc::Global;
-use var_eval::Frame as Looks;
+use var_eval::VariableFrame;
 
 /// What expressions see of a frame.
 pub fn view_of<'s>(subject: &'s Subject<'_, '_, '_, '_>, frame: &'s Frame) -> FrameView<'s>
@@ -52,14 +52,14 @@ pub fn looks_of<'s, 'w, 'v, 'a>(
     frame: &Frame,
     chosen: Chosen,
     view: &'w FrameView<'v>,
-) -> Result<Looks<'s, 's, 'w, 'v, 'a>, NoMemory>
+) -> Result<VariableFrame<'s, 's, 'w, 'v, 'a>, NoMemory>
     requires information { information.now ≡ subject.now.information }
     requires view { view.now ≡ definitions.view_of subject.now frame.now }
     ensures { IfOk result (λ looks. looks ≡ definitions.looks_of subject.now
         (definitions.left_in chosen.index chosen.operands) frame.now) }
 {
     let address = address_of(subject.parts(), frame);
-    Looks::new(
+    VariableFrame::new(
         alloc,
         information.sections(),
         information.units(),

@@ -4,12 +4,11 @@ use Rattle.std.proofs.lemmas.Option.{slice_get_within}
 use Rattle.wasm_syntax.specs.declared.instruction.Op.{Op}
 use Rattle.wasm_syntax.specs.declared.parts.Body.{Body}
 use Rattle.wasm_syntax.specs.declared.module.ModuleParts.{ModuleParts as Module}
-use Rattle.wasm_syntax.specs.Valid.{Valid}
-use Rattle.wasm_validate.specs.Heights.{body_of}
+use Rattle.wasm_syntax.specs.Valid.{Valid, body_of}
 use Rattle.dump_format.specs.declared.dump.Frame.{Frame}
 use Rattle.dump_match.specs.Frames.{IsOf, FunctionFits}
 use Rattle.dump_match.specs.States.{AtClose, ClosesAt, SomeClosesAt}
-use Rattle.dump_match.specs.inner.Decides.{Decides}
+use Rattle.wasm_validate.specs.calls.Deciding.{Decides}
 use Rattle.dump_match.proofs.Spots.{defined_fits}
 use Rattle.pm_text.proofs.Lists.{some_is}
 

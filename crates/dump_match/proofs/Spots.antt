@@ -19,7 +19,7 @@ use Rattle.wasm_syntax.specs.Typing.{Context, Types, IsBody, body_context}
 use Rattle.wasm_syntax.specs.FlatTyping.{OpenBlock, opened, inside, BeginsNode, TypesBefore}
 use Rattle.wasm_syntax.specs.Machine.{offset_in}
 use Rattle.wasm_syntax.specs.Static.{Spot, Live, IsNode, LiveAt, Static}
-use Rattle.wasm_syntax.specs.Valid.{Valid, FuncTypeFine, BodyFine, There, defined_index}
+use Rattle.wasm_syntax.specs.Valid.{Valid, FuncTypeFine, BodyFine, There, defined_index, body_of}
 use Rattle.wasm_laws.proofs.Lists.{there_at, at_of as in_list}
 use Rattle.wasm_laws.proofs.Unique.{one_tree}
 use Rattle.wasm_laws.proofs.Live.{one_static}
@@ -27,19 +27,19 @@ use Rattle.wasm_laws.proofs.FlatBodies.{Gives, inside_body}
 use Rattle.wasm_laws.proofs.FlatStatic.{live_front}
 use Rattle.wasm_laws.proofs.FlatOne.{to_tree, get_front_end}
 use Rattle.validate_body.proofs.Through.{first_gives}
-use Rattle.wasm_validate.specs.Heights.{body_of, HeightIs, TypesAt}
+use Rattle.wasm_validate.specs.Heights.{HeightIs, TypesAt}
 use Rattle.wasm_validate.specs.calls.Instructions.{is_node, OpIs}
 use Rattle.wasm_validate.proofs.OperandLaws.{static_there}
 use Rattle.dump_format.specs.declared.dump.Frame.{Frame}
 use Rattle.dump_match.specs.declared.stand.Stand.{Stand}
 use Rattle.dump_match.specs.Values.{can_be}
 use Rattle.dump_match.specs.Frames.{IsOf, StandsAt, instruction, taken, shown, OperandCount, FunctionFits, OperandsFit}
-use Rattle.dump_match.specs.inner.Decides.{Decides}
+use Rattle.wasm_validate.specs.calls.Deciding.{Decides}
 use Rattle.dump_match.specs.inner.Stands.{CodeIs, Stands, count_shown}
 use Rattle.dump_match.proofs.ValueLaws.{take_reverse, take_all}
-use Rattle.wasm_laws.proofs.Validity.{then_found}
 use Rattle.wasm_validate.proofs.OffsetLaws.{least_at}
 use Rattle.pm_text.proofs.Lists.{some_is}
+use Rattle.wasm_syntax.proofs.Types.{then_found}
 
 -- ---- one instruction at each offset
 

@@ -5,10 +5,10 @@ use Rattle.wasm_syntax.specs.declared.parts.FuncType.{FuncType}
 use Rattle.wasm_syntax.specs.declared.parts.Body.{Body}
 use Rattle.wasm_syntax.specs.declared.module.ModuleParts.{ModuleParts as Module}
 use Rattle.wasm_syntax.specs.Tree.{Call, CallIndirect, Item, Plain, Goes, Opens, OpensLoop, OpensIf, End, Nodes, stop, basic, jump, block, loop, choose}
-use Rattle.wasm_syntax.specs.Module.{type_at, declared_locals, option_then, same_functype}
+use Rattle.wasm_syntax.specs.Module.{type_at, declared_locals, same_functype}
 use Rattle.wasm_syntax.specs.Sizes.{parameter_count}
 use Rattle.wasm_syntax.specs.Static.{Spot, LiveAt}
-use Rattle.wasm_syntax.specs.Valid.{There, defined_index}
+use Rattle.wasm_syntax.specs.Valid.{There, body_of}
 use Rattle.dump_format.specs.declared.dump.Frame.{Frame}
 use Rattle.dump_match.specs.Values.{can_be}
 
@@ -49,7 +49,7 @@ can_call m i callee = false
 -- the frame is of a function that the module defines, with this type and this body
 pub record IsOf (m : Module) (f : Frame) (type : FuncType) (body : Body) : Type 0 where
   pub type_is : type_at m f.function ≡ Some type
-  pub body_is : option_then (defined_index m f.function) (slice_get m.bodies) ≡ Some body
+  pub body_is : body_of m f.function ≡ Some body
 
 abbrev pub OfFunction : Module → Frame → (FuncType → Body → Type 0) → Type 0
 OfFunction m f P = (type : FuncType) × (body : Body) × IsOf m f type body × P type body

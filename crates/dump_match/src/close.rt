@@ -3,9 +3,8 @@
 ghost use Rattle.std.specs.Prelude.{◌≡◌, false, not};
 ghost use Rattle.wasm_validate.specs.calls.Instructions.{is_node};
 ghost use Rattle.dump_match.specs.States.{AtClose, ClosesAt, SomeClosesAt};
-ghost use Rattle.dump_match.specs.inner.Decides.{Decides};
+ghost use Rattle.wasm_validate.specs.calls.Deciding.{Decides};
 
-use crate::code::body_of;
 use dump_format::Frame;
 use wasm_syntax::{Instr, Op};
 use wasm_validate::Validated;
@@ -50,7 +49,7 @@ fn some_closes_at(ops: &[Op], at: u32) -> bool
 pub fn is_at_close(m: &Validated, frame: &Frame) -> bool
     ensures { Decides result (AtClose m.now frame.now) }
 {
-    match body_of(m.module().parts(), frame.function) {
+    match m.module().parts().body_of(frame.function) {
         Some(body) => some_closes_at(body.ops.as_slice(), frame.offset),
         None => false,
     }

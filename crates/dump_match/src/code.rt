@@ -1,34 +1,21 @@
 //! The code of the functions that a module defines.
 
-ghost use Rattle.std.specs.Prelude.{◌≡◌, ◌<◌, ◌^◌, ℕ, List, option_copied, slice_get};
+ghost use Rattle.std.specs.Prelude.{◌≡◌, ◌<◌, ◌^◌, ℕ, List, slice_get};
 ghost use Rattle.wasm_syntax.specs.Sizes.{parameter_count, WithinLimits};
 ghost use Rattle.wasm_syntax.specs.Module.{type_at};
 ghost use Rattle.wasm_syntax.specs.Tree.{item_of};
-ghost use Rattle.wasm_validate.specs.Heights.{body_of as body_there, HasOp};
-ghost use Rattle.dump_match.specs.Frames.{is_call as is_call_there, taken as taken_there, can_call as can_call_there, same_signature as signatures_agree};
+ghost use Rattle.wasm_validate.specs.Heights.{HasOp};
+ghost use Rattle.dump_match.specs.Frames.{is_call as is_call_there, taken as taken_there, can_call as can_call_there};
+ghost use Rattle.dump_match.specs.Frames.{same_signature as signatures_agree};
 ghost use Rattle.dump_match.specs.inner.Stands.{CodeIs};
 
-use crate::values::same_signature;
-use wasm_syntax::{Body, Instr, Jump, ModuleParts};
-
-/// The body of a function that the module defines.
-pub fn body_of(m: &ModuleParts, function: u32) -> Option<&Body>
-    ensures { option_copied result ≡ body_there m.now function }
-{
-    let imported = m.imports.len();
-    let f = function as usize;
-    if f < imported {
-        None
-    } else {
-        m.bodies.get(f - imported)
-    }
-}
+use wasm_syntax::{Instr, Jump, ModuleParts};
 
 /// The instruction of a function at a number.
 pub fn code_at(m: &ModuleParts, function: u32, n: u32) -> Option<Instr>
     ensures { CodeIs result m.now function n }
 {
-    match body_of(m, function) {
+    match m.body_of(function) {
         Some(body) => match body.ops.get(n as usize).copied() {
             Some(op) => Some(op.code),
             None => None,
@@ -59,23 +46,13 @@ fn parameters_at(m: &ModuleParts, t: u32) -> usize
     }
 }
 
-/// How many parameters a function has, if there is one.
-fn parameters_of(m: &ModuleParts, function: u32) -> usize
-    ensures { result ≡ parameter_count (type_at m.now function) }
-{
-    match m.type_of(function as usize) {
-        Some(ftype) => ftype.params.len(),
-        None => 0,
-    }
-}
-
 /// How many operands an instruction takes, if it is a call.
 pub fn taken(m: &ModuleParts, code: Instr) -> usize
     requires { WithinLimits m.now }
     ensures { (targets : List ℕ) → result ≡ taken_there m.now (item_of targets code) }
 {
     match code {
-        Instr::Jump(Jump::Call(g)) => parameters_of(m, g),
+        Instr::Jump(Jump::Call(g)) => m.parameters(g),
         Instr::Jump(Jump::CallIndirect(t)) => parameters_at(m, t) + 1,
         _ => 0,
     }
@@ -86,7 +63,7 @@ fn is_of_type(m: &ModuleParts, t: u32, function: u32) -> bool
     ensures { result ≡ signatures_agree (slice_get m.now.types t) (type_at m.now function) }
 {
     match (m.types.get(t as usize), m.type_of(function as usize)) {
-        (Some(a), Some(b)) => same_signature(a, b),
+        (Some(a), Some(b)) => a.is_same(b),
         _ => false,
     }
 }

@@ -7,10 +7,11 @@ ghost use Rattle.wasm_syntax.specs.Tree.{item_of};
 ghost use Rattle.dump_format.specs.declared.dump.Frame.{Frame as ShownFrame};
 ghost use Rattle.dump_match.specs.Frames.{FunctionFits, LocalsFit, OperandsFit, CallFits, CalleeFits};
 ghost use Rattle.dump_match.specs.States.{StateOperandCount};
-ghost use Rattle.dump_match.specs.inner.Decides.{Decides, FrameJudged, FramesJudged};
+ghost use Rattle.wasm_validate.specs.calls.Deciding.{Decides};
+ghost use Rattle.dump_match.specs.inner.Decides.{FrameJudged, FramesJudged};
 ghost use Rattle.dump_match.specs.inner.Stands.{Stands, OperandsAre, count_shown};
 
-use crate::code::{body_of, can_call, is_call, taken};
+use crate::code::{can_call, is_call, taken};
 use crate::mismatch::Mismatch;
 use crate::stand::{Stand, stand_of};
 use crate::values::{can_be_locals, has_type};
@@ -22,7 +23,7 @@ use wasm_validate::Validated;
 fn is_defined(m: &Validated, frame: &Frame) -> bool
     ensures { Decides result (FunctionFits m.now frame.now) }
 {
-    match body_of(m.module().parts(), frame.function) {
+    match m.module().parts().body_of(frame.function) {
         Some(_body) => true,
         None => false,
     }
@@ -35,7 +36,7 @@ pub fn locals_fit(m: &ModuleParts, frame: &Frame) -> bool
 {
     match (
         m.type_of(frame.function as usize),
-        body_of(m, frame.function),
+        m.body_of(frame.function),
     ) {
         (Some(ftype), Some(body)) => can_be_locals(
             ftype.params.as_slice(),

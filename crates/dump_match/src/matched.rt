@@ -53,25 +53,6 @@ impl<'m, 'd, 'b> Matched<'m, 'd, 'b> {
             dump,
         }
     }
-
-    /// The module.
-    pub fn module(&self) -> &Validated
-        ensures value { result.now ≡ self.now.module_ }
-        ensures matches { Matches result.now self.now.dump }
-    {
-        self.module
-    }
-
-    /// The dump.
-    pub fn dump(&self) -> &Dump<'b>
-        ensures value { result.now ≡ self.now.dump }
-        ensures matches { Matches self.now.module_ result.now }
-        ensures frames { length result.now.frames < 2 ^ 32 }
-        ensures globals { length result.now.globals < 2 ^ 32 }
-        ensures contained { IsContained result.now }
-    {
-        self.dump
-    }
 }
 
 /// A module and a dump that can show a state of it, which contracts see as the two.

@@ -1,46 +1,10 @@
 //! Whether what a dump shows of values can be values of some types.
 
 ghost use Rattle.std.specs.Prelude.{◌≡◌, ◌++◌, length, replicate, IsTrue, ◌↔◌};
-ghost use Rattle.wasm_syntax.specs.Numbers.{type_of as type_of_value, same_type as are_same};
-ghost use Rattle.wasm_syntax.specs.Module.{declared_locals, same_types as lists_are_same, same_functype};
+ghost use Rattle.wasm_syntax.specs.Module.{declared_locals};
 ghost use Rattle.dump_match.specs.Values.{has_type as has_type_there, have_types as have_types_there, can_be};
 
-use wasm_syntax::{FuncType, LocalGroup, Seen, ValType, Value};
-
-pub fn type_of(value: Value) -> ValType
-    ensures { result ≡ type_of_value value }
-{
-    match value {
-        Value::I32(_) => ValType::I32,
-        Value::I64(_) => ValType::I64,
-    }
-}
-
-fn same_type(a: ValType, b: ValType) -> bool
-    ensures { result ≡ are_same a b }
-{
-    match (a, b) {
-        (ValType::I32, ValType::I32) => true,
-        (ValType::I32, ValType::I64) => false,
-        (ValType::I64, ValType::I32) => false,
-        (ValType::I64, ValType::I64) => true,
-    }
-}
-
-/// Whether two lists of types are equal.
-pub fn same_types(a: &[ValType], b: &[ValType]) -> bool
-    ensures { result ≡ lists_are_same a.now b.now }
-{
-    if a.len() != b.len() {
-        return false;
-    }
-    for i in 0..a.len() {
-        if !same_type(a[i], b[i]) {
-            return false;
-        }
-    }
-    true
-}
+use wasm_syntax::{LocalGroup, Seen, ValType};
 
 /// Whether a value is missing, or of a type.
 pub fn has_type(t: ValType, value: Seen) -> bool
@@ -48,8 +12,8 @@ pub fn has_type(t: ValType, value: Seen) -> bool
 {
     match value {
         Seen::Missing => true,
-        Seen::I32(_) => same_type(t, ValType::I32),
-        Seen::I64(_) => same_type(t, ValType::I64),
+        Seen::I32(_) => t.is_same(ValType::I32),
+        Seen::I64(_) => t.is_same(ValType::I64),
     }
 }
 
@@ -111,12 +75,4 @@ pub fn can_be_locals(params: &[ValType], groups: &[LocalGroup], values: &[Seen])
     }
     let (given, declared) = values.split_at(params.len());
     have_types(params, given) && have_declared_types(groups, declared)
-}
-
-/// Whether two function types are the same by structure.
-pub fn same_signature(a: &FuncType, b: &FuncType) -> bool
-    ensures { result ≡ same_functype a.now b.now }
-{
-    same_types(a.params.as_slice(), b.params.as_slice())
-        && same_types(a.results.as_slice(), b.results.as_slice())
 }

@@ -1,15 +1,16 @@
 //! The tests of a whole dump: its instance, its memory and its globals.
 
-ghost use Rattle.std.specs.Prelude.{◌≡◌, ◌≢◌, ◌≤◌, ◌<◌, ◌⊎◌, ◌∷◌, [], All, None, length, min, unwrap_or, slice_get, option_copied};
-ghost use Rattle.wasm_syntax.specs.Module.{const_code, const_value};
+ghost use Rattle.std.specs.Prelude.{◌≡◌, ◌≢◌, ◌≤◌, ◌<◌, ◌⊎◌, ◌∷◌, [], All, None, length, min, unwrap_or, slice_get};
+ghost use Rattle.std.specs.Prelude.{option_copied};
 ghost use Rattle.wasm_syntax.specs.Sizes.{WithinLimits};
-ghost use Rattle.dump_match.specs.Matching.{OneInstance, MemoryFits, GlobalFits, IsOfGlobal, BothHave, global_of as recorded};
-ghost use Rattle.dump_match.specs.inner.Decides.{Decides, InstanceFound, GlobalsFound, WholeJudged};
+ghost use Rattle.dump_match.specs.Matching.{OneInstance, MemoryFits, GlobalFits, IsOfGlobal, BothHave};
+ghost use Rattle.dump_match.specs.Matching.{global_of as recorded};
+ghost use Rattle.wasm_validate.specs.calls.Deciding.{Decides};
+ghost use Rattle.dump_match.specs.inner.Decides.{InstanceFound, GlobalsFound, WholeJudged};
 
 use crate::mismatch::Mismatch;
-use crate::values::type_of;
 use dump_format::{Dump, Frame, Instance};
-use wasm_syntax::{Basic, Global, Instr, Limits, ModuleParts, Value};
+use wasm_syntax::{Global, Limits, ModuleParts, Value};
 
 /// The most pages of a memory.
 const MOST_PAGES: u32 = 4096;
@@ -89,36 +90,16 @@ fn global_of(dump: &Dump<'_>, one: &Instance, i: usize) -> Option<Value>
     }
 }
 
-/// The value of a constant instruction that reads no global.
-fn constant(code: Instr) -> Option<Value>
-    ensures { result ≡ const_code [] code }
-{
-    match code {
-        Instr::Basic(Basic::Const(value)) => Some(value),
-        _ => None,
-    }
-}
-
-/// The first value of a global.
-fn first_value(global: &Global) -> Option<Value>
-    ensures { result ≡ const_value [] global.now.init.ops }
-{
-    match global.init.ops.get(0).copied() {
-        Some(op) => constant(op.code),
-        None => None,
-    }
-}
-
 fn is_of_global(value: Value, global: &Global) -> bool
     ensures { Decides result (IsOfGlobal value global.now) }
 {
-    if type_of(value) != global.vtype {
+    if value.type_of() != global.vtype {
         return false;
     }
     if global.mutable {
         return true;
     }
-    match first_value(global) {
+    match global.literal() {
         Some(first) => first == value,
         None => false,
     }

@@ -1,6 +1,7 @@
 //! Units of version 5 (DWARF 5 section 7.5.1.1).
 
-ghost use Rattle.std.specs.Prelude.{◌≡◌, ◌≤◌, ◌+◌, ◌-◌, [], length, option_map, option_copied, unwrap_or, None, OnOk, IfSome};
+ghost use Rattle.std.specs.Prelude.{◌≡◌, ◌≤◌, ◌+◌, ◌-◌, [], length, option_map, option_copied, unwrap_or, None, OnOk};
+ghost use Rattle.std.specs.Prelude.{IfSome};
 ghost use Rattle.wasm_bytes.specs.Place.{Place, Moves, Stays};
 ghost use Rattle.wasm_bytes.specs.calls.Answers.{Reads, Gives};
 ghost use Rattle.dwarf_bytes.specs.Items.{item_or_none, reading_of};

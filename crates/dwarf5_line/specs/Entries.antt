@@ -7,8 +7,8 @@ use Rattle.dwarf_bytes.specs.Format.{Format, made, unread, unsigned, number, run
 use Rattle.dwarf_line.specs.declared.lines.LineFile.{LineFile}
 use Rattle.dwarf_line.specs.declared.header.Tables.{Tables}
 use Rattle.dwarf5_line.specs.declared.entries.Pair.{Pair}
-use Rattle.dwarf5_line.specs.declared.entries.Content.{Content}
-use Rattle.dwarf5_line.specs.declared.entries.Content.TheVariants.{Number, Text, Unused}
+use Rattle.dwarf5_line.specs.declared.entries.FormContent.{FormContent}
+use Rattle.dwarf5_line.specs.declared.entries.FormContent.TheVariants.{Number, Text, Unused}
 
 -- the sections that texts of a line header stand in
 pub record Texts : Type 0 where
@@ -16,19 +16,19 @@ pub record Texts : Type 0 where
   pub line_str : List ℕ
 
 -- a text, if there is one
-abbrev pub text_or_unread : Option (List ℕ) → Format Content
+abbrev pub text_or_unread : Option (List ℕ) → Format FormContent
 text_or_unread (Some t) = made (Text t)
 text_or_unread None = unread
 
 -- the offset of a text in a section
-abbrev pub text_in : List ℕ → Format Content
+abbrev pub text_in : List ℕ → Format FormContent
 text_in section = number 4 (λ at. text_or_unread (read_at text_item section at))
 
-abbrev pub number_of : ℕ → Format Content
+abbrev pub number_of : ℕ → Format FormContent
 number_of width = number width (λ n. made (Number n))
 
 -- data2, data4, data8, string, block, data1, strp, udata, data16 and line_strp (7.5.6)
-abbrev pub content : Texts → ℕ → Format Content
+abbrev pub content : Texts → ℕ → Format FormContent
 content texts form =
     if form == 0x05 then number_of 2
     else (if form == 0x06 then number_of 4
@@ -51,23 +51,23 @@ pair = unsigned (λ kind. unsigned (λ form. made (record { kind = kind; form = 
 -- what an entry says of a content type
 pub record Described : Type 0 where
   pub kind : ℕ
-  pub content : Content
+  pub content : FormContent
 
-abbrev pub describes : ℕ → Content → Described
+abbrev pub describes : ℕ → FormContent → Described
 describes kind c = record { kind = kind; content = c }
 
 abbrev pub described_item : Texts → Pair → Place → Read Described
 described_item texts p = mapped (describes p.kind) (read (content texts p.form))
 
 -- Of a content type twice, the first counts.
-abbrev pub content_of : ℕ → List Described → Option Content
+abbrev pub content_of : ℕ → List Described → Option FormContent
 content_of kind xs = option_map (λ (x : Described). x.content) (find (λ (x : Described). x.kind == kind) xs)
 
-abbrev pub path_of : Option Content → List ℕ
+abbrev pub path_of : Option FormContent → List ℕ
 path_of (Some (Text t)) = t
 path_of _ = []
 
-abbrev pub directory_of : Option Content → ℕ
+abbrev pub directory_of : Option FormContent → ℕ
 directory_of (Some (Number n)) = n
 directory_of _ = 0
 

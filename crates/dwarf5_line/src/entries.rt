@@ -6,7 +6,8 @@ ghost use Rattle.wasm_bytes.specs.Reading.{forgotten, run_item, items_from};
 ghost use Rattle.wasm_bytes.specs.calls.Answers.{Reads, Gives};
 ghost use Rattle.dwarf_bytes.specs.Format.{read};
 ghost use Rattle.dwarf_info.specs.Values.{texts};
-ghost use Rattle.dwarf5_line.specs.Entries.{text_in, content, pair, describes, path_of, directory_of, entry_item, counted_item, pairs_item, entries_item, name_of, tables_item};
+ghost use Rattle.dwarf5_line.specs.Entries.{text_in, content, pair, describes, path_of, directory_of, entry_item};
+ghost use Rattle.dwarf5_line.specs.Entries.{counted_item, pairs_item, entries_item, name_of, tables_item};
 ghost use Rattle.dwarf5_line.specs.Layout5.{texts_of};
 ghost use Rattle.dwarf5_line.specs.inner.Summary.{summary_item, with_first};
 
@@ -27,7 +28,7 @@ pub struct Pair {
 
 /// What a form gives.
 #[derive(Drop)]
-pub enum Content<'a> {
+pub enum FormContent<'a> {
     Number(u64),
     Text(Run<'a>),
     /// A block or a checksum.
@@ -37,8 +38,8 @@ pub enum Content<'a> {
 /// What an entry says that is used.
 #[derive(Drop)]
 pub struct Summary<'a> {
-    pub path: Option<Content<'a>>,
-    pub directory: Option<Content<'a>>,
+    pub path: Option<FormContent<'a>>,
+    pub directory: Option<FormContent<'a>>,
 }
 
 /// The text at the offset that stands here.
@@ -47,14 +48,14 @@ fn text_in<'a>(
     sections: &PreparedSections<'a>,
     section: TextSection,
     reader: &mut Reader<'a>,
-) -> Result<Content<'a>, Malformed>
+) -> Result<FormContent<'a>, Malformed>
     ensures item { Reads result reader.new
         (read (text_in (texts sections.now section)) reader.old) }
     ensures stays { OnOk result (Stays reader.old reader.new) }
 {
     let at = number(reader, 4)?;
     match sections.text_at(section, at) {
-        Some(text) => Ok(Content::Text(text)),
+        Some(text) => Ok(FormContent::Text(text)),
         None => Err(Malformed { at: reader.at() }),
     }
 }
@@ -65,27 +66,27 @@ fn read_content<'a>(
     sections: &PreparedSections<'a>,
     form: u64,
     reader: &mut Reader<'a>,
-) -> Result<Content<'a>, Malformed>
+) -> Result<FormContent<'a>, Malformed>
     ensures item { Reads result reader.new
         (read (content (texts_of sections.now) form) reader.old) }
     ensures stays { OnOk result (Stays reader.old reader.new) }
 {
     match form {
-        0x05 => Ok(Content::Number(number(reader, 2)?)),
-        0x06 => Ok(Content::Number(number(reader, 4)?)),
-        0x07 => Ok(Content::Number(number(reader, 8)?)),
-        0x08 => Ok(Content::Text(Run::new(text(reader)?))),
+        0x05 => Ok(FormContent::Number(number(reader, 2)?)),
+        0x06 => Ok(FormContent::Number(number(reader, 4)?)),
+        0x07 => Ok(FormContent::Number(number(reader, 8)?)),
+        0x08 => Ok(FormContent::Text(Run::new(text(reader)?))),
         0x09 => {
             let len = reader.u64()?;
             skip(len, reader)?;
-            Ok(Content::Unused)
+            Ok(FormContent::Unused)
         }
-        0x0b => Ok(Content::Number(number(reader, 1)?)),
+        0x0b => Ok(FormContent::Number(number(reader, 1)?)),
         0x0e => text_in(sections, TextSection::Str, reader),
-        0x0f => Ok(Content::Number(reader.u64()?)),
+        0x0f => Ok(FormContent::Number(reader.u64()?)),
         0x1e => {
             reader.run(16)?;
-            Ok(Content::Unused)
+            Ok(FormContent::Unused)
         }
         0x1f => text_in(sections, TextSection::LineStr, reader),
         _ => Err(Malformed { at: reader.at() }),
@@ -107,7 +108,7 @@ fn skip(len: u64, reader: &mut Reader<'_>) -> Result<(), Malformed>
 
 impl<'a> Summary<'a> {
     /// The same with a content in front.
-    fn add(&mut self, kind: u64, content: Content<'a>)
+    fn add(&mut self, kind: u64, content: FormContent<'a>)
         ensures { self.new ≡ with_first (describes kind content.entry) self.old }
     {
         match kind {
@@ -140,20 +141,20 @@ fn read_summary<'a>(
     Ok(summary)
 }
 
-fn path_of<'a>(content: Option<Content<'a>>) -> Run<'a>
+fn path_of<'a>(content: Option<FormContent<'a>>) -> Run<'a>
     ensures { result ≡ path_of content.entry }
 {
     match content {
-        Some(Content::Text(text)) => text,
+        Some(FormContent::Text(text)) => text,
         _ => Run::new(&[]),
     }
 }
 
-fn directory_of(content: Option<Content<'_>>) -> u64
+fn directory_of(content: Option<FormContent<'_>>) -> u64
     ensures { result ≡ directory_of content.entry }
 {
     match content {
-        Some(Content::Number(number)) => number,
+        Some(FormContent::Number(number)) => number,
         _ => 0,
     }
 }

@@ -1,7 +1,8 @@
 //! Maps from numbers to numbers, of which each is another one with a pair more: binary tries over
 //! the bits of keys, the lowest bit first, that share what they have in common.
 
-ghost use Rattle.std.specs.Prelude.{◌≡◌, ◌≤◌, ◌==◌, ◌++◌, ◌+◌, [], ◌∷◌, ℕ, Bool, length, IfOk, OnOk, OnErr, if◌then◌else◌};
+ghost use Rattle.std.specs.Prelude.{◌≡◌, ◌≤◌, ◌==◌, ◌++◌, ◌+◌, [], ◌∷◌, ℕ, Bool, length, IfOk, OnOk, OnErr};
+ghost use Rattle.std.specs.Prelude.{if◌then◌else◌};
 ghost use Rattle.dwarf_abbrev.specs.inner.Forks.{node, here_of, behind, found, IsClosed, Side};
 
 use causes::NoMemory;

@@ -8,7 +8,8 @@ ghost use Rattle.dwarf_bytes.specs.Items.{ended_item, read_at};
 ghost use Rattle.dwarf_bytes.specs.calls.Spelled.{StandsAt};
 ghost use Rattle.dwarf_bytes.specs.calls.Answers.{Answers, found_at};
 ghost use Rattle.dwarf_abbrev.specs.declared.abbrev.Abbrev.{Abbrev as AbbrevThere};
-ghost use Rattle.dwarf_abbrev.specs.Reading.{pair_item, is_flag, is_one, behind_code, abbrev_of, abbrevs_item, abbrevs_at};
+ghost use Rattle.dwarf_abbrev.specs.Reading.{pair_item, is_flag, is_one, behind_code, abbrev_of, abbrevs_item};
+ghost use Rattle.dwarf_abbrev.specs.Reading.{abbrevs_at};
 ghost use Rattle.dwarf_abbrev.specs.calls.Grammar.{abbrevs};
 
 use crate::abbrev::{Abbrev, Abbrevs, Pair};

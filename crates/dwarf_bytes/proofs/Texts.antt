@@ -86,10 +86,3 @@ text_open p inside e =
     let all : length (before_first is_zero xs) ≡ length xs = omega (arith, length-take (position_or_len is_zero xs) xs, z) in
     let outside : ltb (p.at + length (before_first is_zero xs)) (length p.block) ≡ false = grind (arith, all, inside, length-drop) in
     rw outside refl
-
--- Behind the end there is no text.
-pub text_past : (p : Place) → length p.block < p.at → text_item p ≡ failed p.at
-unfolding text_item
-text_past p past =
-    let outside : ltb (p.at + length (before_first is_zero (drop p.at p.block))) (length p.block) ≡ false = grind (arith, past) in
-    rw outside refl

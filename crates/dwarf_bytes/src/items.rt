@@ -3,9 +3,10 @@
 ghost use Rattle.std.specs.Prelude.{◌≤◌, ◌<◌, ◌≡◌, ◌+◌, ◌^◌, IfOk, OnOk, length, position};
 ghost use Rattle.wasm_bytes.specs.Place.{Moves, Stays};
 ghost use Rattle.wasm_bytes.specs.calls.Answers.{Reads, result_now};
-ghost use Rattle.dwarf_bytes.specs.Items.{little_endian, number_item, is_zero, text_item, long_block_item, unit_block_item, read_at};
+ghost use Rattle.dwarf_bytes.specs.Items.{little_endian, number_item, is_zero, text_item, long_block_item};
+ghost use Rattle.dwarf_bytes.specs.Items.{unit_block_item};
 
-use wasm_bytes::{Malformed, Reader, Run};
+use wasm_bytes::{Malformed, Reader};
 
 /// The number that at most 8 bytes spell, the lowest first.
 fn little_endian(bytes: &[u8]) -> u64
@@ -37,20 +38,6 @@ fn zero_at(bytes: &[u8]) -> Option<usize>
     ensures { result ≡ position is_zero bytes.now }
 {
     bytes.iter().position(|byte| *byte == 0)
-}
-
-/// The text at an offset of a section, where one stands there (DWARF 4 section 7.5.4,
-/// `DW_FORM_strp`).
-pub fn text_at<'a>(section: &'a [u8], at: u64) -> Option<Run<'a>>
-    ensures { result ≡ read_at text_item section.now at }
-{
-    if at > section.len() as u64 {
-        return None;
-    }
-    match text(&mut Reader::starting_at(section, at as usize)) {
-        Ok(bytes) => Some(Run::new(bytes)),
-        Err(_) => None,
-    }
 }
 
 /// A text: the bytes up to a zero byte, which is read too (DWARF 4 section 7.5.4).

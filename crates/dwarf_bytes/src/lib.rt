@@ -11,4 +11,4 @@ mod names;
 pub use bytes::{byte, open_counted};
 pub use ended::{Ended, ended_items};
 pub use faults::ReadFault;
-pub use items::{number, open_long, open_unit, text, text_at};
+pub use items::{number, open_long, open_unit, text};

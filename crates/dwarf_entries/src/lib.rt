@@ -11,9 +11,9 @@ mod standing;
 pub mod tags;
 mod values;
 
-pub use classes::{as_address, as_block, as_natural, as_number, as_offset, as_reference, as_text};
+pub use classes::as_natural;
 pub use origins::{LONGEST_CHAIN, name_of, name_or_empty, type_entry};
 pub use pick::{Pick, first_picked, push_picked};
-pub use search::{first_in_units, standing_at};
+pub use search::standing_at;
 pub use standing::{Standing, is_child};
-pub use values::{address, attribute, block, natural, number, offset, reference, text};
+pub use values::{address, attribute, block, natural, number, offset, reference};

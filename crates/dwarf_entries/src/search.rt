@@ -1,38 +1,11 @@
-//! The first entry of all units that passes a test.
+//! The entry at an offset of the section.
 
-ghost use Rattle.std.specs.Prelude.{◌≡◌, ◌<◌, ◌+◌, length, drop, find};
-ghost use Rattle.dwarf_entries.specs.Standing.{of_unit, standing};
+ghost use Rattle.std.specs.Prelude.{◌≡◌, ◌<◌, ◌+◌, length, drop};
 ghost use Rattle.dwarf_entries.specs.Standing as places;
 ghost use Rattle.dwarf_entries.specs.inner.Numbered as numbers;
 
-use crate::pick::{Pick, first_picked};
 use crate::standing::Standing;
 use dwarf_info::{Entry, EntryPlace, Unit, UnitAnswer, Units};
-
-/// The first entry of a unit that passes a test.
-fn first_of_unit<'r, 'a, P: Pick>(pick: &P, answer: &'r UnitAnswer<'a>) -> Option<Standing<'r, 'a>>
-    ensures { result ≡ find (P.picks pick.now) (of_unit answer.now) }
-{
-    match answer {
-        UnitAnswer::Tree(unit) => first_picked(pick, unit, unit.entries.as_slice()),
-        UnitAnswer::Unreadable { section: _, at: _ } => None,
-    }
-}
-
-/// The first entry of all units that passes a test, in the order of the section.
-pub fn first_in_units<'r, 'a, P: Pick>(
-    pick: &P,
-    units: &'r [UnitAnswer<'a>],
-) -> Option<Standing<'r, 'a>>
-    ensures { result ≡ find (P.picks pick.now) (standing units.now) }
-{
-    for answer in units {
-        if let Some(standing) = first_of_unit(pick, answer) {
-            return Some(standing);
-        }
-    }
-    None
-}
 
 /// What stands behind an entry of that number.
 fn rest_behind<'r, 'a>(entries: &'r [Entry<'a>], number: usize) -> &'r [Entry<'a>]

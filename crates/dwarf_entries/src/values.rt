@@ -1,7 +1,8 @@
 //! The attribute of a name.
 
 ghost use Rattle.std.specs.Prelude.{◌≡◌, option_copied};
-ghost use Rattle.dwarf_info.specs.Attributes.{attribute, valued, as_address, as_number, as_block, as_text, as_reference, as_offset};
+ghost use Rattle.dwarf_info.specs.Attributes.{attribute, valued, as_address, as_number, as_block, as_text};
+ghost use Rattle.dwarf_info.specs.Attributes.{as_reference, as_offset};
 ghost use Rattle.dwarf_entries.specs.Names.{as_natural};
 
 use crate::classes::{

@@ -4,7 +4,7 @@ use Rattle.std.specs.Prelude.{◌==◌, ◌&&◌}
 use Rattle.wasm_bytes.specs.Place.{Place, Read, Moves}
 use Rattle.wasm_bytes.specs.Reading.{byte_item}
 use Rattle.wasm_bytes.specs.Laws.{got, failed}
-use Rattle.dwarf_expr.specs.declared.operators.Placed.{Placed}
+use Rattle.dwarf_expr.specs.declared.operators.PlacedOperator.{PlacedOperator}
 use Rattle.dwarf_expr.specs.Decode.{others_behind, from_opcode, operators_from, operators}
 use Rattle.dwarf_expr.specs.Meaning.{is_empty, is_location}
 use Rattle.dwarf_expr.specs.inner.Steps.{IfKnown, IsNext}
@@ -22,7 +22,7 @@ some_there p q opcode zero e left = let inside = byte_inside p q opcode e in abs
 some_there p q opcode (suc n) e left = first_there p q opcode n e
 
 -- the first operator, and those behind it
-alone_by : (x : Placed) (xs : List Placed) → (is_empty xs && x.opcode == 0xed) ≡ is_location (x ∷ xs)
+alone_by : (x : PlacedOperator) (xs : List PlacedOperator) → (is_empty xs && x.opcode == 0xed) ≡ is_location (x ∷ xs)
 alone_by x [] = refl
 alone_by x (y ∷ ys) = refl
 
@@ -36,7 +36,7 @@ operators_are bytes p start = ap (λ (q : Place). operators_from (length bytes) 
 pub none_alone : (bytes : List ℕ) (p after : Place) → p ≡ begins bytes → IsNext None after p → false ≡ is_location (operators bytes)
 none_alone bytes p after start next = ap is_location (sym (operators_are bytes p start ∙ none_left p after (length bytes) next))
 
-pub first_alone : (bytes : List ℕ) (p after : Place) (x : Placed) (last : Bool) → p ≡ begins bytes → IsNext (Some x) after p → p.at < length p.block → IfKnown x.begun (Moves p after)
+pub first_alone : (bytes : List ℕ) (p after : Place) (x : PlacedOperator) (last : Bool) → p ≡ begins bytes → IsNext (Some x) after p → p.at < length p.block → IfKnown x.begun (Moves p after)
     → ((n : ℕ) → IfKnown x.begun (length after.block - after.at ≤ n) → last ≡ is_empty (others_behind x.begun (operators_from n after)))
     → (last && x.opcode == 0xed) ≡ is_location (operators bytes)
 first_alone bytes p after x last start next inside moves ends =

@@ -3,7 +3,7 @@ use Rattle.std.proofs.Common.{◌≡◌, ℕ, Bool, true, false, List, [], ◌�
 use Rattle.std.specs.Prelude.{◌||◌}
 use Rattle.dwarf_expr.specs.declared.operators.Begun.{Begun}
 use Rattle.dwarf_expr.specs.declared.operators.Begun.TheVariants.{Known, Cut, Foreign}
-use Rattle.dwarf_expr.specs.declared.operators.Placed.{Placed}
+use Rattle.dwarf_expr.specs.declared.operators.PlacedOperator.{PlacedOperator}
 use Rattle.dwarf_expr.specs.Decode.{others_behind}
 use Rattle.dwarf_expr.specs.Named.{is_operand_from, names_operand_from}
 use Rattle.dwarf_expr.specs.inner.Steps.{is_known, IfKnown}
@@ -13,7 +13,7 @@ moved (Known op) claim known h = h
 moved Cut claim known h = absurd cc
 moved Foreign claim known h = absurd cc
 
-module _ (least : ℕ) (x : Placed) (xs : List Placed) where
+module _ (least : ℕ) (x : PlacedOperator) (xs : List PlacedOperator) where
   pub named_here : is_operand_from least x.begun ≡ true → names_operand_from least (x ∷ others_behind x.begun xs) ≡ true
   named_here e = ap (λ (t : Bool). t || names_operand_from least (others_behind x.begun xs)) e
 

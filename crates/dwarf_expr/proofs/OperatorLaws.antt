@@ -10,7 +10,7 @@ use Rattle.dwarf_bytes.proofs.Formats.{format_exact}
 use Rattle.dwarf_expr.specs.declared.operators.Operator.{Operator}
 use Rattle.dwarf_expr.specs.declared.operators.Begun.{Begun}
 use Rattle.dwarf_expr.specs.declared.operators.Begun.TheVariants.{Known, Cut, Foreign}
-use Rattle.dwarf_expr.specs.declared.operators.Placed.{Placed}
+use Rattle.dwarf_expr.specs.declared.operators.PlacedOperator.{PlacedOperator}
 use Rattle.dwarf_expr.specs.Operators.{behind}
 use Rattle.dwarf_expr.specs.Decode.{IsBegun, AreOperators, placed, begun_by, begun_at, with_others, from_opcode, operators_from, operators}
 
@@ -80,13 +80,13 @@ operators_are bytes fits = operators_from_are (length bytes) [] bytes fits (omeg
 -- ---- no other list is
 
 abbrev Only : ℕ → Type 0
-Only n = (xs : List Placed) (before after : List ℕ) → IsBytes after → length after ≤ n → AreOperators xs (length before) after → xs ≡ operators_from n (place before after)
+Only n = (xs : List PlacedOperator) (before after : List ℕ) → IsBytes after → length after ≤ n → AreOperators xs (length before) after → xs ≡ operators_from n (place before after)
 
 -- what is listed behind an opcode, by what stands behind that
-abbrev listed : ℕ → List ℕ → ℕ → List ℕ → Option (Format Operator) → List Placed
+abbrev listed : ℕ → List ℕ → ℕ → List ℕ → Option (Format Operator) → List PlacedOperator
 listed n before opcode bs found = with_others (length before) opcode (begun_at (place (before ++ opcode ∷ []) bs) found) (λ q. operators_from n q)
 
-abbrev listed_read : ℕ → List ℕ → ℕ → List ℕ → Read Operator → List Placed
+abbrev listed_read : ℕ → List ℕ → ℕ → List ℕ → Read Operator → List PlacedOperator
 listed_read n before opcode bs r = with_others (length before) opcode (begun_by (place (before ++ opcode ∷ []) bs) r) (λ q. operators_from n q)
 
 -- Nothing that stands there is spelled, so nothing is read.
@@ -98,7 +98,7 @@ cut_only n before bs opcode f fits none (Ok x) e =
     absurd (none x.0 t.front t.rest (subst (λ (k : ℕ). spelled f x.0 k t.front) one t.is) t.parts)
 cut_only n before bs opcode f fits none (Err o) e = refl
 
-only_begun : (n : ℕ) → Only n → (xs : List Placed) (before bs : List ℕ) (opcode : ℕ) (begun : Begun) → IsBytes bs → length bs ≤ n → IsBegun (length before + 1) bs opcode begun (AreOperators xs) (xs ≡ [])
+only_begun : (n : ℕ) → Only n → (xs : List PlacedOperator) (before bs : List ℕ) (opcode : ℕ) (begun : Begun) → IsBytes bs → length bs ≤ n → IsBegun (length before + 1) bs opcode begun (AreOperators xs) (xs ≡ [])
     → placed (length before) opcode begun ∷ xs ≡ listed n before opcode bs (behind opcode)
 only_begun n more xs before bs opcode (Known op) fits short b =
     let one : length (before ++ opcode ∷ []) ≡ length before + 1 = length-append before (opcode ∷ []) in
@@ -107,15 +107,15 @@ only_begun n more xs before bs opcode (Known op) fits short b =
     let len : length ((before ++ opcode ∷ []) ++ b.2) ≡ length before + 1 + length b.2 = length-append (before ++ opcode ∷ []) b.2 ∙ ap (λ (k : ℕ). k + length b.2) one in
     let less : length b.3 ≤ n = omega (arith, short, ap length b.5, length-append b.2 b.3) in
     let others = more xs ((before ++ opcode ∷ []) ++ b.2) b.3 (IsBytes-rest b.2 b.3 (subst IsBytes b.5 fits)) less (subst (λ (k : ℕ). AreOperators xs k b.3) (sym len) b.6) in
-    ap (λ (ys : List Placed). placed (length before) opcode (Known op) ∷ ys) others
+    ap (λ (ys : List PlacedOperator). placed (length before) opcode (Known op) ∷ ys) others
     ∙ sym (ap (listed_read n before opcode bs) here)
     ∙ sym (ap (listed n before opcode bs) b.1)
 only_begun n more xs before bs opcode Cut fits short b =
-    ap (λ (ys : List Placed). placed (length before) opcode Cut ∷ ys) b.3
+    ap (λ (ys : List PlacedOperator). placed (length before) opcode Cut ∷ ys) b.3
     ∙ cut_only n before bs opcode b.0 fits b.2 (read b.0 (place (before ++ opcode ∷ []) bs)) refl
     ∙ sym (ap (listed n before opcode bs) b.1)
 only_begun n more xs before bs opcode Foreign fits short b =
-    ap (λ (ys : List Placed). placed (length before) opcode Foreign ∷ ys) b.1
+    ap (λ (ys : List PlacedOperator). placed (length before) opcode Foreign ∷ ys) b.1
     ∙ sym (ap (listed n before opcode bs) b.0)
 
 -- the operators at a place, by the byte that stands there
@@ -132,16 +132,16 @@ at_the_end zero before = refl
 at_the_end (suc n) before = ap (λ (o : Option ℕ). from_opcode (length before) (byte_of (place before []) o) (λ q. operators_from n q)) (byte_here before [])
 
 -- an operator where it stands
-placed_is : (x : Placed) (at opcode : ℕ) → x.at ≡ at → x.opcode ≡ opcode → x ≡ placed at opcode x.begun
+placed_is : (x : PlacedOperator) (at opcode : ℕ) → x.at ≡ at → x.opcode ≡ opcode → x ≡ placed at opcode x.begun
 placed_is x at opcode e f i = placed (e i) (f i) x.begun
 
-only_first : (n : ℕ) → Only n → (x : Placed) (xs : List Placed) (before bs : List ℕ) (b : ℕ) → IsBytes (b ∷ bs) → length (b ∷ bs) ≤ suc n → AreOperators (x ∷ xs) (length before) (b ∷ bs)
+only_first : (n : ℕ) → Only n → (x : PlacedOperator) (xs : List PlacedOperator) (before bs : List ℕ) (b : ℕ) → IsBytes (b ∷ bs) → length (b ∷ bs) ≤ suc n → AreOperators (x ∷ xs) (length before) (b ∷ bs)
     → x ∷ xs ≡ operators_from (suc n) (place before (b ∷ bs))
 only_first n more x xs before bs b fits short a =
     let opcode : x.opcode ≡ b = cc in
     let rest : a.0 ≡ bs = cc in
     let begun : IsBegun (length before + 1) bs b x.begun (AreOperators xs) (xs ≡ []) = subst (λ (o : ℕ). IsBegun (length before + 1) bs o x.begun (AreOperators xs) (xs ≡ [])) opcode (subst (λ (t : List ℕ). IsBegun (length before + 1) t x.opcode x.begun (AreOperators xs) (xs ≡ [])) rest a.3) in
-    ap (λ (y : Placed). y ∷ xs) (placed_is x (length before) b a.2 opcode)
+    ap (λ (y : PlacedOperator). y ∷ xs) (placed_is x (length before) b a.2 opcode)
     ∙ only_begun n more xs before bs b x.begun (IsBytes-rest (b ∷ []) bs fits) (omega (arith, short)) begun
     ∙ sym (at_opcode n before bs b)
 
@@ -153,6 +153,6 @@ only_from zero (x ∷ xs) before (b ∷ bs) fits short a = absurd (omega (arith,
 only_from (suc n) (x ∷ xs) before (b ∷ bs) fits short a = only_first n (only_from n) x xs before bs b fits short a
 
 -- No other list is that of the operators of the bytes.
-pub operators_only : (bytes : List ℕ) (xs : List Placed) → IsBytes bytes → AreOperators xs 0 bytes → xs ≡ operators bytes
+pub operators_only : (bytes : List ℕ) (xs : List PlacedOperator) → IsBytes bytes → AreOperators xs 0 bytes → xs ≡ operators bytes
 unfolding operators
 operators_only bytes xs fits a = only_from (length bytes) xs [] bytes fits (omega arith) a

@@ -11,7 +11,7 @@ use Rattle.dwarf_expr.specs.declared.answer.Eval.{Eval}
 use Rattle.dwarf_expr.specs.declared.answer.PiecePlace.{PiecePlace}
 use Rattle.dwarf_expr.specs.declared.operators.Begun.{Begun}
 use Rattle.dwarf_expr.specs.declared.operators.Begun.TheVariants.{Known, Cut, Foreign}
-use Rattle.dwarf_expr.specs.declared.operators.Placed.{Placed}
+use Rattle.dwarf_expr.specs.declared.operators.PlacedOperator.{PlacedOperator}
 use Rattle.dwarf_expr.specs.declared.progress.Part.TheVariants.{Empty}
 use Rattle.dwarf_expr.specs.declared.progress.Progress.{Progress}
 use Rattle.dwarf_expr.specs.View.{View}
@@ -25,7 +25,7 @@ use Rattle.dwarf_expr.specs.inner.Steps.{Begins, IfKnown, IsNext, is_end, piece_
 abbrev failed_at : ℕ → Read ℕ
 failed_at at = Err at
 
-with_begun : (at opcode : ℕ) (begun : Begun) (after : Place) (x : Begun × Place) (more : Place → List Placed) → Begins begun after x
+with_begun : (at opcode : ℕ) (begun : Begun) (after : Place) (x : Begun × Place) (more : Place → List PlacedOperator) → Begins begun after x
     → with_others at opcode x more ≡ placed at opcode begun ∷ others_behind begun (more after)
 with_begun at opcode (Known op) after x more e = ap (λ (y : Begun × Place). with_others at opcode y more) e
 with_begun at opcode Cut after x more e = ap (λ (y : Begun). placed at opcode y ∷ others_behind y (more x.1)) e
@@ -71,7 +71,7 @@ opcode_there p q opcode (suc n) e left = piece_there p q opcode n e
 -- ---- a turn
 
 -- One that is not known fails, whatever stands behind it.
-same_last : (v : View) (b : Base) (at opcode : ℕ) (begun : Begun) (xs : List Placed) (is_last : Bool) (s : Progress) → IfKnown begun (is_last ≡ is_end xs)
+same_last : (v : View) (b : Base) (at opcode : ℕ) (begun : Begun) (xs : List PlacedOperator) (is_last : Bool) (s : Progress) → IfKnown begun (is_last ≡ is_end xs)
     → advanced v b (placed at opcode begun) (is_end (others_behind begun xs)) s ≡ advanced v b (placed at opcode begun) is_last s
 unfolding advanced stepped
 same_last v b at opcode (Known op) xs is_last s e = ap (λ (t : Bool). advanced v b (placed at opcode (Known op)) t s) (sym e)
@@ -85,14 +85,14 @@ abbrev went_on : Progress → Result Progress Eval
 went_on s = Ok s
 
 -- the operators from there on, of which this is the first
-turn : (v : View) (b : Base) (end n : ℕ) (p after : Place) (x : Placed) (is_last : Bool) (s : Progress) → IsNext (Some x) after p → IfKnown x.begun (is_last ≡ is_end (operators_from n after))
+turn : (v : View) (b : Base) (end n : ℕ) (p after : Place) (x : PlacedOperator) (is_last : Bool) (s : Progress) → IsNext (Some x) after p → IfKnown x.begun (is_last ≡ is_end (operators_from n after))
     → continued v b end (operators_from (suc n) p) s ≡ (advanced v b x is_last s >>= λ t. continued v b end (others_behind x.begun (operators_from n after)) t)
 unfolding continued
 turn v b end n p after x is_last s next last =
-    ap (λ (xs : List Placed). continued v b end xs s) (next n)
+    ap (λ (xs : List PlacedOperator). continued v b end xs s) (next n)
     ∙ ap (λ (r : Result Progress Eval). r >>= λ t. continued v b end (others_behind x.begun (operators_from n after)) t) (same_last v b x.at x.opcode x.begun (operators_from n after) is_last s last)
 
-pub turn_fails : (v : View) (b : Base) (end n : ℕ) (p after : Place) (x : Placed) (is_last : Bool) (s : Progress) (e : Eval) → IsNext (Some x) after p → IfKnown x.begun (is_last ≡ is_end (operators_from n after))
+pub turn_fails : (v : View) (b : Base) (end n : ℕ) (p after : Place) (x : PlacedOperator) (is_last : Bool) (s : Progress) (e : Eval) → IsNext (Some x) after p → IfKnown x.begun (is_last ≡ is_end (operators_from n after))
     → advanced v b x is_last s ≡ failed e → continued v b end (operators_from (suc n) p) s ≡ failed e
 turn_fails v b end n p after x is_last s e next last h =
     turn v b end n p after x is_last s next last
@@ -123,29 +123,29 @@ not_advanced v b at opcode begun is_last p t none h = by_kind (is_piece (placed 
   by_kind false h = no_step v b at opcode begun is_last p t none h
 
 -- what holds where it is known
-pub if_advanced : (v : View) (b : Base) (x : Placed) (is_last : Bool) (p t : Progress) (P : Type 0) → advanced v b x is_last p ≡ went_on t → IfKnown x.begun P → P
+pub if_advanced : (v : View) (b : Base) (x : PlacedOperator) (is_last : Bool) (p t : Progress) (P : Type 0) → advanced v b x is_last p ≡ went_on t → IfKnown x.begun P → P
 if_advanced v b x is_last p t P h = by_begun x.begun h where
   by_begun : (c : Begun) → advanced v b (placed x.at x.opcode c) is_last p ≡ went_on t → IfKnown c P → P
   by_begun (Known o) h holds = holds
   by_begun Cut h holds = absurd (not_advanced v b x.at x.opcode Cut is_last p t tt h)
   by_begun Foreign h holds = absurd (not_advanced v b x.at x.opcode Foreign is_last p t tt h)
 
-others_are : (begun : Begun) (xs : List Placed) → IfKnown begun (others_behind begun xs ≡ xs)
+others_are : (begun : Begun) (xs : List PlacedOperator) → IfKnown begun (others_behind begun xs ≡ xs)
 others_are (Known o) xs = refl
 others_are Cut xs = tt
 others_are Foreign xs = tt
 
-pub turn_on : (v : View) (b : Base) (end n : ℕ) (p after : Place) (x : Placed) (is_last : Bool) (s t : Progress) → IsNext (Some x) after p → IfKnown x.begun (is_last ≡ is_end (operators_from n after))
+pub turn_on : (v : View) (b : Base) (end n : ℕ) (p after : Place) (x : PlacedOperator) (is_last : Bool) (s t : Progress) → IsNext (Some x) after p → IfKnown x.begun (is_last ≡ is_end (operators_from n after))
     → advanced v b x is_last s ≡ went_on t → continued v b end (operators_from (suc n) p) s ≡ continued v b end (operators_from n after) t
 turn_on v b end n p after x is_last s t next last h =
     turn v b end n p after x is_last s next last
     ∙ ap (λ (r : Result Progress Eval). r >>= λ u. continued v b end (others_behind x.begun (operators_from n after)) u) h
-    ∙ ap (λ (xs : List Placed). continued v b end xs t) (if_advanced v b x is_last s t (others_behind x.begun (operators_from n after) ≡ operators_from n after) h (others_are x.begun (operators_from n after)))
+    ∙ ap (λ (xs : List PlacedOperator). continued v b end xs t) (if_advanced v b x is_last s t (others_behind x.begun (operators_from n after) ≡ operators_from n after) h (others_are x.begun (operators_from n after)))
 
 -- behind the last operator
 pub turn_ends : (v : View) (b : Base) (end n : ℕ) (p after : Place) (s : Progress) → IsNext None after p → continued v b end (operators_from n p) s ≡ completed end s.pieces s.part s.stack
 unfolding continued
-turn_ends v b end n p after s next = ap (λ (xs : List Placed). continued v b end xs s) (none_left p after n next)
+turn_ends v b end n p after s next = ap (λ (xs : List PlacedOperator). continued v b end xs s) (none_left p after n next)
 
 -- ---- for the loop
 

@@ -23,7 +23,7 @@ use Rattle.dwarf_expr.specs.declared.operators.Operator.{Operator}
 use Rattle.dwarf_expr.specs.declared.operators.Operator.TheVariants as op
 use Rattle.dwarf_expr.specs.declared.operators.Begun.{Begun}
 use Rattle.dwarf_expr.specs.declared.operators.Begun.TheVariants.{Known, Cut, Foreign}
-use Rattle.dwarf_expr.specs.declared.operators.Placed.{Placed}
+use Rattle.dwarf_expr.specs.declared.operators.PlacedOperator.{PlacedOperator}
 use Rattle.dwarf_expr.specs.View.{View}
 use Rattle.dwarf_expr.specs.Decode.{operators}
 
@@ -162,62 +162,62 @@ abbrev pub ◌>>=◌ : {A B : Type 0} → Result A Eval → (A → Result B Eval
 (Ok x) >>= f = f x
 (Err e) >>= f = Err e
 
-abbrev pub is_empty : List Placed → Bool
+abbrev pub is_empty : List PlacedOperator → Bool
 is_empty [] = true
 is_empty (x ∷ xs) = false
 
 -- what the operators of a part leave, or the first event
-unfoldable pub run : View → Base → List Placed → Stack → Result Stack Eval
+unfoldable pub run : View → Base → List PlacedOperator → Stack → Result Stack Eval
 run v b [] s = Ok s
 run v b (x ∷ xs) s = begun_step v b x.at x.opcode x.begun (is_empty xs) s >>= λ t. run v b xs t
 
 -- The part ends with a stack_value, or is one WASM_location.
-abbrev pub ends_with_value : List Placed → Bool
+abbrev pub ends_with_value : List PlacedOperator → Bool
 ends_with_value [] = false
 ends_with_value (x ∷ []) = x.opcode == 0x9f
 ends_with_value (x ∷ y ∷ xs) = ends_with_value (y ∷ xs)
 
-abbrev pub is_location : List Placed → Bool
+abbrev pub is_location : List PlacedOperator → Bool
 is_location (x ∷ []) = x.opcode == 0xed
 is_location _ = false
 
-abbrev pub gives_value : List Placed → Bool
+abbrev pub gives_value : List PlacedOperator → Bool
 gives_value part = is_location part || ends_with_value part
 
 -- what a part gives that leaves these entries; at the fault, where it leaves none
-abbrev pub given : ℕ → List Placed → Stack → Result PiecePlace Eval
+abbrev pub given : ℕ → List PlacedOperator → Stack → Result PiecePlace Eval
 given at part [] = Err (eval.BadExpr at)
 given at part (w ∷ s) = Ok (if gives_value part then at_place.Value w else at_place.Address (modulo 32 w))
 
 -- a part read by itself
-abbrev pub place_of : View → Base → ℕ → List Placed → Result PiecePlace Eval
+abbrev pub place_of : View → Base → ℕ → List PlacedOperator → Result PiecePlace Eval
 place_of v b at part = run v b part [] >>= given at part
 
 -- ---- pieces (2.6.1.2)
 
 -- an expression cut behind its pieces: each part with its piece, and what stands behind the last piece
 pub record Parts : Type 0 where
-  pub closed : List (List Placed × Placed)
-  pub behind : List Placed
+  pub closed : List (List PlacedOperator × PlacedOperator)
+  pub behind : List PlacedOperator
 
-abbrev pub is_piece : Placed → Bool
+abbrev pub is_piece : PlacedOperator → Bool
 is_piece x = x.opcode == 0x93
 
 -- an operator in front of the first part
-abbrev pub in_front : Placed → List (List Placed × Placed) → List Placed → Parts
+abbrev pub in_front : PlacedOperator → List (List PlacedOperator × PlacedOperator) → List PlacedOperator → Parts
 in_front x [] behind = record { closed = []; behind = x ∷ behind }
 in_front x (part ∷ more) behind = record { closed = (x ∷ part.0, part.1) ∷ more; behind = behind }
 
 -- behind a piece
-abbrev pub closed_by : Placed → Parts → Parts
+abbrev pub closed_by : PlacedOperator → Parts → Parts
 closed_by x parts = record parts { closed = ([], x) ∷ parts.closed }
 
-unfoldable pub parts : List Placed → Parts
+unfoldable pub parts : List PlacedOperator → Parts
 parts [] = record { closed = []; behind = [] }
 parts (x ∷ xs) = if is_piece x then closed_by x (parts xs) else in_front x (parts xs).closed (parts xs).behind
 
 -- An empty part gives nothing.
-abbrev pub piece_place : View → Base → ℕ → List Placed → Result PiecePlace Eval
+abbrev pub piece_place : View → Base → ℕ → List PlacedOperator → Result PiecePlace Eval
 piece_place v b at [] = Ok at_place.Nothing
 piece_place v b at (x ∷ xs) = place_of v b at (x ∷ xs)
 
@@ -227,10 +227,10 @@ piece_of (Known (op.Piece n)) at place = place >>= λ x. Ok (record { size = n; 
 piece_of begun at place = place >>= λ x. Err (eval.BadExpr at)
 
 -- at most 16 pieces
-abbrev pub added : Placed → List Piece → Piece → Result (List Piece) Eval
+abbrev pub added : PlacedOperator → List Piece → Piece → Result (List Piece) Eval
 added x pieces p = if nat_lt (length pieces) 16 then Ok (pieces ++ p ∷ []) else Err (eval.Unsupported x.opcode x.at)
 
-unfoldable pub pieces_of : View → Base → List (List Placed × Placed) → List Piece → Result (List Piece) Eval
+unfoldable pub pieces_of : View → Base → List (List PlacedOperator × PlacedOperator) → List Piece → Result (List Piece) Eval
 pieces_of v b [] pieces = Ok pieces
 pieces_of v b (x ∷ xs) pieces = piece_of x.1.begun x.1.at (piece_place v b x.1.at x.0) >>= λ p. added x.1 pieces p >>= λ more. pieces_of v b xs more
 
@@ -246,12 +246,12 @@ single (at_place.Address a) = eval.Address a
 single at_place.Nothing = eval.Empty
 
 -- What stands behind the last piece makes none.
-abbrev pub ended : ℕ → List Placed → List Piece → Result Eval Eval
+abbrev pub ended : ℕ → List PlacedOperator → List Piece → Result Eval Eval
 ended end [] pieces = Ok (eval.Pieces pieces)
 ended end (x ∷ xs) pieces = Err (eval.BadExpr end)
 
 -- without pieces, or with some
-abbrev pub by_pieces : View → Base → ℕ → List (List Placed × Placed) → List Placed → Result Eval Eval
+abbrev pub by_pieces : View → Base → ℕ → List (List PlacedOperator × PlacedOperator) → List PlacedOperator → Result Eval Eval
 by_pieces v b end [] behind = place_of v b end behind >>= λ x. Ok (single x)
 by_pieces v b end (x ∷ xs) behind = pieces_of v b (x ∷ xs) [] >>= λ pieces. run v b behind [] >>= λ s. ended end behind pieces
 

@@ -4,7 +4,7 @@ ghost use Rattle.std.specs.Prelude.{◌≡◌, ◌==◌, [], length};
 ghost use Rattle.dwarf_expr.specs.Meaning.{added};
 ghost use Rattle.dwarf_expr.specs.inner.Steps.{Leaves};
 
-use crate::operators::Placed;
+use crate::operators::PlacedOperator;
 use arrayvec::ArrayVec;
 use std::marker::Model;
 
@@ -82,7 +82,7 @@ impl PieceList {
     }
 
     /// Puts the piece that an operator makes behind the others. `Unsupported` where there are 16.
-    pub(crate) fn add(&mut self, placed: &Placed, piece: Piece) -> Result<(), Eval>
+    pub(crate) fn add(&mut self, placed: &PlacedOperator, piece: Piece) -> Result<(), Eval>
         ensures { Leaves result self.new (added placed.now self.old piece) }
     {
         if self.pieces.is_full() {

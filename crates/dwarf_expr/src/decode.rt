@@ -13,7 +13,7 @@ ghost use Rattle.dwarf_expr.specs.Decode.{begun_at, operators_from};
 ghost use Rattle.dwarf_expr.specs.inner.Steps.{ReadsBehind, IfRead, Begins, IfKnown, IsNext, is_end};
 ghost use Rattle.dwarf_expr.specs.declared.operators.Operator.TheVariants.{Constant, PlusUconst, Deref, Fbreg, Piece};
 
-use crate::operators::{Begun, Operator, Placed, Space};
+use crate::operators::{Begun, Operator, PlacedOperator, Space};
 use dwarf_bytes::number;
 use int_ops::{Binary, Compare, Narrow64, i64_narrow};
 use wasm_bytes::{Malformed, Reader};
@@ -267,7 +267,7 @@ fn begun(opcode: u8, reader: &mut Reader<'_>) -> Begun
 
 /// The next operator, unless the expression ends. Behind one that is not known the reader stands
 /// anywhere.
-pub(crate) fn next_operator(reader: &mut Reader<'_>) -> Option<Placed>
+pub(crate) fn next_operator(reader: &mut Reader<'_>) -> Option<PlacedOperator>
     requires short { length reader.old.block < 2 ^ 32 }
     ensures next { IsNext result reader.new reader.old }
     ensures inside { IfSome result (λ x. reader.old.at < length reader.old.block) }
@@ -277,7 +277,7 @@ pub(crate) fn next_operator(reader: &mut Reader<'_>) -> Option<Placed>
     let Ok(opcode) = reader.byte() else {
         return None;
     };
-    Some(Placed {
+    Some(PlacedOperator {
         at,
         opcode,
         begun: begun(opcode, reader),

@@ -19,5 +19,5 @@ pub use answer::{Base, Eval, Piece, PieceList, PiecePlace};
 pub use decode::read_operator;
 pub use evaluate::{eval, frame_base};
 pub use named::names_operand_from;
-pub use operators::{Begun, Operator, Placed, Space};
+pub use operators::{Begun, Operator, PlacedOperator, Space};
 pub use view::FrameView;

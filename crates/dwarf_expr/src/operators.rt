@@ -49,7 +49,7 @@ pub enum Begun {
 
 /// An operator where it stands.
 #[derive(Clone, Copy)]
-pub struct Placed {
+pub struct PlacedOperator {
     /// The offset of the opcode.
     pub at: u32,
     pub opcode: u8,

@@ -4,11 +4,12 @@ ghost use Rattle.std.specs.Prelude.{◌≡◌, ◌<◌, [], length};
 ghost use Rattle.dwarf_expr.specs.Meaning.{begun_step, added};
 ghost use Rattle.dwarf_expr.specs.Meaning as meaning;
 ghost use Rattle.dwarf_expr.specs.inner.Steps as steps;
-ghost use Rattle.dwarf_expr.specs.inner.Steps.{Leaves, part_behind, given_by, piece_given_by, stepped, closed, advanced, completed};
+ghost use Rattle.dwarf_expr.specs.inner.Steps.{Leaves, part_behind, given_by, piece_given_by, stepped, closed};
+ghost use Rattle.dwarf_expr.specs.inner.Steps.{advanced, completed};
 
 use crate::answer::{Base, Eval, Piece, PieceList, PiecePlace};
 use crate::effects::{Event, apply};
-use crate::operators::{Begun, Operator, Placed};
+use crate::operators::{Begun, Operator, PlacedOperator};
 use crate::stack::Stack;
 use crate::view::FrameView;
 use int_ops::wrap;
@@ -62,7 +63,7 @@ fn stands_well(operator: &Operator, is_last: bool) -> bool
 /// Applies what an opcode begins. `is_last`: it is the last one of its part.
 fn step(
     stack: &mut Stack,
-    placed: &Placed,
+    placed: &PlacedOperator,
     is_last: bool,
     view: &FrameView<'_>,
     base: Base,
@@ -140,7 +141,7 @@ impl Progress {
     #[tactic(auto, unfolding(crate::specs::inner::Steps::stepped))]
     fn apply(
         &mut self,
-        placed: &Placed,
+        placed: &PlacedOperator,
         is_last: bool,
         view: &FrameView<'_>,
         base: Base,
@@ -154,7 +155,7 @@ impl Progress {
 
     /// Behind a piece.
     #[tactic(auto, unfolding(crate::specs::inner::Steps::closed))]
-    fn close(&mut self, placed: &Placed) -> Result<(), Eval>
+    fn close(&mut self, placed: &PlacedOperator) -> Result<(), Eval>
         ensures { Leaves result self.new (closed placed.now self.old) }
     {
         let at = placed.at;
@@ -172,7 +173,7 @@ impl Progress {
     #[tactic(auto, unfolding(crate::specs::inner::Steps::advanced))]
     pub(crate) fn advance(
         &mut self,
-        placed: &Placed,
+        placed: &PlacedOperator,
         is_last: bool,
         view: &FrameView<'_>,
         base: Base,

@@ -1,7 +1,8 @@
 //! References: which of them meet an entry.
 
 ghost use Rattle.std.specs.Prelude.{◌≡◌, map, IfOk};
-ghost use Rattle.dwarf_info.specs.inner.Settling.{placed, meets, settled_by, entry_by, unit_by, answer_by, is_met, all_met};
+ghost use Rattle.dwarf_info.specs.inner.Settling.{placed, meets, settled_by, entry_by, unit_by, answer_by, is_met};
+ghost use Rattle.dwarf_info.specs.inner.Settling.{all_met};
 
 use crate::entry::{AttrValue, Entries, Entry, Unit, UnitAnswer};
 use crate::places::Places;

@@ -1,6 +1,7 @@
 //! What a version says of its units.
 
-ghost use Rattle.std.specs.Prelude.{◌≡◌, ◌≤◌, ◌+◌, ◌-◌, ℕ, length, [], Option, None, option_map, option_copied, unwrap_or, OnOk, IfSome};
+ghost use Rattle.std.specs.Prelude.{◌≡◌, ◌≤◌, ◌+◌, ◌-◌, ℕ, length, [], Option, None, option_map, option_copied};
+ghost use Rattle.std.specs.Prelude.{unwrap_or, OnOk, IfSome};
 ghost use Rattle.wasm_bytes.specs.Place.{Place, Moves, Stays};
 ghost use Rattle.wasm_bytes.specs.calls.Answers.{Reads, Gives};
 ghost use Rattle.dwarf_info.specs.declared.form.IndexTable.{IndexTable};

@@ -1,7 +1,8 @@
 //! What the opcodes of a line program make (DWARF 4 sections 6.2.2 and 6.2.5).
 
 ghost use Rattle.std.specs.Prelude.{◌≡◌, ◌+◌, ◌*◌, OnOk};
-ghost use Rattle.dwarf_line.specs.Rows.{first_registers, with_address, with_line, appended, ended, first_matrix, step};
+ghost use Rattle.dwarf_line.specs.Rows.{first_registers, with_address, with_line, appended};
+ghost use Rattle.dwarf_line.specs.Rows.{ended, first_matrix, step};
 ghost use Rattle.dwarf_line.specs.inner.Running.{running_step};
 
 use crate::lines::{LineFiles, Row, Sequence};
@@ -125,7 +126,7 @@ pub struct Running<'a> {
     pub matrix: Matrix<'a>,
 }
 
-impl<'a> Gather<'a> for Running<'a> {
+impl<'a> Gather<Reader<'a>> for Running<'a> {
     ghost step = { running_step };
 
     fn take(&mut self, alloc: Global, reader: &mut Reader<'a>) -> Result<(), ItemFault> {

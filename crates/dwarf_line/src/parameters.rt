@@ -1,6 +1,7 @@
 //! What the header of a line program says to its opcodes.
 
-ghost use Rattle.std.specs.Prelude.{◌≡◌, ◌≢◌, ◌+◌, ◌-◌, ◌*◌, ℤ, pos, ◌+ℤ◌, ◌∷◌, [], slice_index_or, if◌then◌else◌, OnOk};
+ghost use Rattle.std.specs.Prelude.{◌≡◌, ◌≢◌, ◌+◌, ◌-◌, ◌*◌, ℤ, pos, ◌+ℤ◌, ◌∷◌, [], slice_index_or, if◌then◌else◌};
+ghost use Rattle.std.specs.Prelude.{OnOk};
 ghost use Rattle.wasm_bytes.specs.Place.{Moves};
 ghost use Rattle.wasm_bytes.specs.calls.Answers.{Reads};
 ghost use Rattle.dwarf_bytes.specs.Format.{read};

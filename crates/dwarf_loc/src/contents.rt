@@ -28,9 +28,9 @@ pub trait Contents {
 }
 
 /// The entries of range lists hold nothing.
-pub struct Nothing;
+pub struct NoContents;
 
-impl Contents for Nothing {
+impl Contents for NoContents {
     type Value = ();
 
     ghost item = { nothing_item };

@@ -14,7 +14,7 @@ mod version5_entry;
 
 pub use address::read_address;
 pub use addresses::AddressTable;
-pub use contents::{Contents, Nothing, Span, read_span};
+pub use contents::{Contents, NoContents, Span, read_span};
 pub use entry::ListEntry;
 pub use kind::EntryKind;
 pub use search::{Entries, chosen_at};

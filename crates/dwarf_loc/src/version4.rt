@@ -15,7 +15,7 @@ ghost use Rattle.dwarf_loc.specs.Contents.{nothing_item};
 ghost use Rattle.dwarf_loc.specs.calls.Grammar.{IsLocations, IsRanges};
 
 use crate::address::read_address;
-use crate::contents::{Contents, Nothing, Span, read_span};
+use crate::contents::{Contents, NoContents, Span, read_span};
 use crate::entry::ListEntry;
 use crate::search::{Entries, chosen_at};
 use dwarf_bytes::{ReadFault, number};
@@ -90,7 +90,7 @@ impl Entries for Ranges {
     ghost item = { λ _. entry4_item nothing_item };
 
     fn read(&self, reader: &mut Reader<'_>) -> Result<Option<ListEntry<()>>, Malformed> {
-        entry::<Nothing>(reader)
+        entry::<NoContents>(reader)
     }
 }
 

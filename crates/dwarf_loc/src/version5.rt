@@ -19,7 +19,7 @@ ghost use Rattle.dwarf_loc.specs.calls.Grammar5.{IsLocations5, IsRanges5};
 use crate::addresses::AddressTable;
 use crate::kind::{location_kind, range_kind};
 use crate::version5_entry::behind;
-use crate::{Contents, Entries, ListEntry, Nothing, Span, chosen_at, read_span};
+use crate::{Contents, Entries, ListEntry, NoContents, Span, chosen_at, read_span};
 use dwarf_bytes::ReadFault;
 use wasm_bytes::{Malformed, Reader};
 
@@ -75,7 +75,7 @@ impl<'r, 'a> Entries for Ranges<'r, 'a> {
     fn read(&self, reader: &mut Reader<'_>) -> Result<Option<ListEntry<()>>, Malformed> {
         let at = reader.at();
         match range_kind(reader.byte()?) {
-            Some(kind) => behind::<Nothing>(kind, self.addresses, reader),
+            Some(kind) => behind::<NoContents>(kind, self.addresses, reader),
             None => Err(Malformed { at }),
         }
     }

@@ -13,7 +13,6 @@ mod subprograms;
 mod variables;
 
 pub use lists::{location_in, range_in};
-pub use ranges::holds;
 pub use scopes::{inlined_at, scopes_at};
 pub use steps::{Range, Steps};
 pub use subprograms::{Found, Subprograms, subprogram_at};

@@ -49,7 +49,8 @@ pub fn in_list(sections: &Sections5<'_>, unit: &Unit<'_>, address: u32, at: Opti
     }
 }
 
-/// The same as `holds`, where lists of the unit were asked before.
+/// Whether an entry holds an address: from its low_pc up to but not including its high_pc, where it
+/// has both, else by its list, where lists of the unit were asked before.
 pub fn holds_by_known(
     sections: &Sections5<'_>,
     address: u32,
@@ -66,21 +67,6 @@ pub fn holds_by_known(
         None => {
             let at = offset(&entry.attributes, RANGES);
             in_list_if(sections, standing.unit(), address, at, lists)
-        }
-    }
-}
-
-/// Whether an entry holds an address: from its low_pc up to but not including its high_pc, where it
-/// has both, else by its list.
-pub fn holds(sections: &Sections5<'_>, address: u32, standing: &Standing<'_, '_>) -> bool
-    ensures { result ≡ ranges.holds sections.now address standing.now }
-{
-    let entry = standing.entry();
-    match bounds(entry) {
-        Some((low, high)) => low <= address && i128::from(address) < high,
-        None => {
-            let at = offset(&entry.attributes, RANGES);
-            in_list(sections, standing.unit(), address, at)
         }
     }
 }

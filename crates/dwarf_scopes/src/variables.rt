@@ -1,6 +1,7 @@
 //! The variables that are visible at an address (DWARF 4 sections 3.5 and 4.1).
 
-ghost use Rattle.std.specs.Prelude.{◌≡◌, ◌++◌, ◌+◌, ◌<◌, ◌^◌, ◌==◌, suc, OnOk, IfOk, length, take, drop, ◌≤◌, [], ◌∷◌, filter, flat_map, if◌then◌else◌};
+ghost use Rattle.std.specs.Prelude.{◌≡◌, ◌++◌, ◌+◌, ◌<◌, ◌^◌, ◌==◌, suc, OnOk, IfOk, length, take, drop, ◌≤◌, [], ◌∷◌};
+ghost use Rattle.std.specs.Prelude.{filter, flat_map, if◌then◌else◌};
 ghost use Rattle.dwarf_entries.specs.Standing.{stands, standing_in};
 ghost use Rattle.dwarf_scopes.specs.Scopes as scopes;
 ghost use Rattle.dwarf_scopes.specs.inner.Insides.{deeper, insides};
@@ -132,27 +133,40 @@ fn push_variables<'r, 'a>(
     push_children(unit, entry.depth, entries, counts, variables)
 }
 
+/// How many entries stand in an entry, and in each of those behind it.
+#[derive(Drop)]
+struct Counted<'c> {
+    inside: usize,
+    behind: &'c [usize],
+}
+
 /// The same where the entry is a scope at the address.
 fn push_if_scope<'r, 'a>(
     pick: &ScopeAt<'_, 'a>,
     unit: &'r Unit<'a>,
     entry: &'r Entry<'a>,
     behind: &'r [Entry<'a>],
-    inside: usize,
-    counts: &[usize],
+    counted: &Counted<'_>,
     lists: &mut KnownLists,
     variables: &mut Items<Standing<'r, 'a>>,
 ) -> Result<(), NoMemory>
     requires right { AreRight pick.now.sections.now pick.now.address lists.old }
-    requires inside { inside ≡ deeper entry.now.depth behind.now }
-    requires counts { counts.now ≡ insides behind.now }
+    requires inside { counted.now.inside ≡ deeper entry.now.depth behind.now }
+    requires counts { counted.now.behind.now ≡ insides behind.now }
     ensures right { AreRight pick.now.sections.now pick.now.address lists.new }
     ensures variables { OnOk result (variables.new ≡ variables.old ++ flat_map scopes.variables_of
         (filter (scopes.is_scope_at pick.now.sections.now pick.now.address)
         (stands unit.now entry.now behind.now ∷ []))) }
 {
     if pick.picks(&Standing::new(unit, entry, behind), lists)? {
-        return push_variables(unit, entry, behind, inside, counts, variables);
+        return push_variables(
+            unit,
+            entry,
+            behind,
+            counted.inside,
+            counted.behind,
+            variables,
+        );
     }
     Ok(())
 }
@@ -183,8 +197,10 @@ fn push_scopes<'r, 'a>(
             unit,
             entry,
             behind,
-            counts[at],
-            counts_behind,
+            &Counted {
+                inside: counts[at],
+                behind: counts_behind,
+            },
             lists,
             variables,
         )?;

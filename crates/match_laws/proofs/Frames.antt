@@ -8,7 +8,7 @@ use Rattle.wasm_syntax.specs.declared.value.Seen.{Seen}
 use Rattle.wasm_syntax.specs.declared.parts.FuncType.{FuncType}
 use Rattle.wasm_syntax.specs.declared.parts.Body.{Body}
 use Rattle.wasm_syntax.specs.declared.module.ModuleParts.{ModuleParts as Module}
-use Rattle.wasm_syntax.specs.Numbers.{types}
+use Rattle.wasm_syntax.specs.Numbers.{types, seen_of}
 use Rattle.wasm_syntax.specs.Tree.{Tree, Writes, Call, CallIndirect, Item, Goes, Nodes, stop, basic, jump, block, loop, choose}
 use Rattle.wasm_syntax.specs.Module.{Program, IsProgram, Function, imported, defined, function_at, imported_at, defined_at, function_types, type_at, option_then, declared_locals}
 use Rattle.wasm_syntax.specs.Machine.{Label, Frame, joined, operands, offset_in, offset_of}
@@ -19,14 +19,14 @@ use Rattle.wasm_laws.proofs.Progress.{types_append, types_reverse}
 use Rattle.wasm_laws.proofs.Safe.{FrameFine, context_of}
 use Rattle.dump_format.specs.declared.dump.Frame.{Frame as ShownFrame}
 use Rattle.dump_write.specs.Image.{frame_image}
-use Rattle.dump_write.specs.ImageBytes.{seen_of, frame_of}
+use Rattle.dump_write.specs.ImageBytes.{frame_of}
 use Rattle.dump_write.specs.Canonical.{in_instance}
 use Rattle.dump_match.specs.Values.{have_types, can_be}
 use Rattle.dump_match.specs.Frames.{instruction, is_call, taken, can_call, IsOf, StandsAt, FunctionFits, LocalsFit}
 use Rattle.match_laws.proofs.Placed.{outs, OpenAt, CalledAt, live_in, CallersAt, FramesAt, FirstIsNode, AtNode}
-use Rattle.wasm_laws.proofs.Validity.{then_found, map_found}
 use Rattle.pm_text.proofs.Lists.{some_is, get_behind}
 use Rattle.wasm_syntax.proofs.Bodies.{tree_there}
+use Rattle.wasm_syntax.proofs.Types.{then_found, map_found}
 
 -- ---- a function that the module defines
 

@@ -1,15 +1,10 @@
 -- What stays true of the world: a global that can't change has its first value, and the memory has a size that the module allows.
-use Rattle.std.proofs.Common.{◌≡◌, ℕ, zero, suc, ◌+◌, ◌*◌, ◌/◌, ◌%◌, ◌≤◌, ◌==◌, nat_le, min, Bool, true, false, List, [], ◌∷◌, ◌++◌, length, take, drop, replicate, slice_get, slice_set, if◌then◌else◌, Option, Some, None, unwrap_or, Result, Ok, Err, refl, sym, ap, subst, ◌∙◌, arith, leb-true, length-append, inl, inr, ⊎_elim}
+use Rattle.std.proofs.Common.{◌≡◌, ℕ, zero, suc, ◌+◌, ◌*◌, ◌/◌, ◌≤◌, nat_le, min, Bool, true, false, List, [], ◌∷◌, ◌++◌, length, take, drop, replicate, slice_get, slice_set, if◌then◌else◌, Option, Some, None, unwrap_or, refl, sym, ap, subst, ◌∙◌, arith, leb-true, length-append, inl, inr, ⊎_elim}
 use Rattle.std.specs.Prelude.{◌⊎◌}
 use Rattle.std.proofs.lemmas.List.{length-take-le, length-drop, length-replicate}
 use Rattle.wasm_syntax.specs.declared.value.ValType.{ValType}
-use Rattle.wasm_syntax.specs.declared.value.ValType.TheVariants.{I32, I64}
 use Rattle.wasm_syntax.specs.declared.value.Value.{Value}
-use Rattle.wasm_syntax.specs.declared.value.Value.TheVariants as values
-use Rattle.int_ops.specs.declared.operators.ArithTrap.{ArithTrap}
-use Rattle.int_ops.specs.Integers.{extend32, extend64}
 use Rattle.wasm_syntax.specs.declared.instruction.Basic.{Basic}
-use Rattle.wasm_syntax.specs.declared.instruction.Basic.TheVariants.{Nop, Drop, Select, LocalGet, LocalSet, LocalTee, GlobalGet, GlobalSet, Load, Store, MemorySize, MemoryGrow, MemoryCopy, MemoryFill, Const, Eqz, Unary, Compare, Binary, Convert, Extend32, Extend64}
 use Rattle.wasm_syntax.specs.declared.parts.Limits.{Limits}
 use Rattle.wasm_syntax.specs.declared.parts.Global.{Global}
 use Rattle.wasm_syntax.specs.declared.module.ModuleParts.{ModuleParts as Module}
@@ -17,14 +12,15 @@ use Rattle.wasm_syntax.specs.declared.host.HostCall.{HostCall}
 use Rattle.wasm_syntax.specs.declared.host.Write.{Write}
 use Rattle.wasm_syntax.specs.declared.host.Reply.{Reply}
 use Rattle.wasm_syntax.specs.declared.host.CollectorCall.{CollectorCall}
-use Rattle.linear_memory.specs.Memory.{Memory, page_size, load, put, copy, fill, grow, pages, to_bytes, splice, window}
-use Rattle.wasm_syntax.specs.Access.{load_type, load_bits, loaded, store_type, store_bits}
-use Rattle.wasm_syntax.specs.Numbers.{number, value, modulo, bool_number, unary, compare, binary, convert, convert_from, convert_to, same_type, type_of}
+use Rattle.linear_memory.specs.Memory.{Memory, page_size, put, copy, grow, pages, splice, window}
+use Rattle.wasm_syntax.specs.Numbers.{value}
 use Rattle.wasm_syntax.specs.Module.{const_value, option_then}
-use Rattle.wasm_syntax.specs.Effect.{Effect, gives, fails, unfit, effect, when, with_some, on_none, on_any, on_one, on_two, on_three, on_choice, over, in_bounds, divides, grown, with_globals, with_memory, address}
+use Rattle.wasm_syntax.specs.Effect.{Effect, gives, fails, unfit, effect, with_globals, with_memory}
 use Rattle.wasm_syntax.specs.Host.{World, Answer, replied, told, silent, misfit, answer, told_or, served_by, if_fits, if_written, after_writes, fits_type, collector_of}
-use Rattle.wasm_syntax.specs.Typing.{Context, Arrow, ◌⇒◌, arrow, set_global, only_if}
+use Rattle.wasm_syntax.specs.Typing.{Context, Arrow, arrow}
 use Rattle.pm_text.proofs.Lists.{some_is}
+use Rattle.wasm_syntax.specs.calls.Classes.{EffectClass, Pure, Dividing, Accessing, SetsLocal, SetsGlobal, effect_class, Accessed, MayWrite, Does, Asks}
+use Rattle.wasm_syntax.proofs.Classes.{acts_as_class, asks}
 
 -- ---- what is kept
 
@@ -108,65 +104,6 @@ EffectKept m (fails kind) = Unit {0}
 EffectKept m unfit = Unit {0}
 
 module _ (m : Module) where
-  abbrev K : Effect → Type 0
-  K e = EffectKept m e
-
-  on_test : (b : Bool) (e : Effect) → K e → K (when b e)
-  on_test true e h = h
-  on_test false e h = tt
-
-  on_some : {A : Type 0} (o : Option A) (go : A → Effect) → ((x : A) → o ≡ Some x → K (go x)) → K (with_some o go)
-  on_some (Some x) go h = h x refl
-  on_some None go h = tt
-
-  with_none : (e : Effect) (vs : List Value) → K e → K (on_none e vs)
-  with_none e [] h = h
-  with_none e (v ∷ vs) h = tt
-
-  with_any : (go : Value → Effect) (vs : List Value) → ((v : Value) → K (go v)) → K (on_any go vs)
-  with_any go [] h = tt
-  with_any go (v ∷ []) h = h v
-  with_any go (v ∷ u ∷ vs) h = tt
-
-  with_one : (t : ValType) (go : ℕ → Effect) (vs : List Value) → ((n : ℕ) → K (go n)) → K (on_one t go vs)
-  with_one t go [] h = tt
-  with_one t go (v ∷ []) h = on_some (number t v) go (λ n e. h n)
-  with_one t go (v ∷ u ∷ vs) h = tt
-
-  with_two : (t u : ValType) (go : ℕ → ℕ → Effect) (vs : List Value) → ((n k : ℕ) → K (go n k)) → K (on_two t u go vs)
-  with_two t u go [] h = tt
-  with_two t u go (a ∷ []) h = tt
-  with_two t u go (a ∷ b ∷ []) h = on_some (number t a) (λ n. with_some (number u b) (go n)) (λ n e. on_some (number u b) (go n) (λ k f. h n k))
-  with_two t u go (a ∷ b ∷ c ∷ vs) h = tt
-
-  with_three : (go : ℕ → ℕ → ℕ → Effect) (vs : List Value) → ((n k j : ℕ) → K (go n k j)) → K (on_three go vs)
-  with_three go [] h = tt
-  with_three go (a ∷ []) h = tt
-  with_three go (a ∷ b ∷ []) h = tt
-  with_three go (a ∷ b ∷ c ∷ []) h =
-      on_some (number I32 a) (λ n. with_some (number I32 b) (λ k. with_some (number I32 c) (go n k)))
-      (λ n e. on_some (number I32 b) (λ k. with_some (number I32 c) (go n k)) (λ k f. on_some (number I32 c) (go n k) (λ j g. h n k j)))
-  with_three go (a ∷ b ∷ c ∷ d ∷ vs) h = tt
-
-  with_choice : (go : ℕ → Value → Value → Effect) (vs : List Value) → ((n : ℕ) (b a : Value) → K (go n b a)) → K (on_choice go vs)
-  with_choice go [] h = tt
-  with_choice go (c ∷ []) h = tt
-  with_choice go (c ∷ b ∷ []) h = tt
-  with_choice go (c ∷ b ∷ a ∷ []) h = on_some (number I32 c) (λ n. when (same_type (type_of a) (type_of b)) (go n b a)) (λ n e. on_test (same_type (type_of a) (type_of b)) (go n b a) (h n b a))
-  with_choice go (c ∷ b ∷ a ∷ d ∷ vs) h = tt
-
-  written_over : (o : Option Value) (v : Value) (e : Effect) → K e → K (over o v e)
-  written_over None v e h = tt
-  written_over (Some old) v e h = on_test (same_type (type_of old) (type_of v)) e h
-
-  bounded : {A : Type 0} (o : Option A) (go : A → Effect) → ((x : A) → o ≡ Some x → K (go x)) → K (in_bounds o go)
-  bounded (Some x) go h = h x refl
-  bounded None go h = tt
-
-  divided : (r : Result ℕ ArithTrap) (go : ℕ → Effect) → ((n : ℕ) → K (go n)) → K (divides r go)
-  divided (Ok n) go h = h n
-  divided (Err trap) go h = tt
-
   module _ (w : World) (ls : List Value) (kept : WorldKept m w) where
     size_of : (k : Memory) → w.memory ≡ Some k → SizeKept m.memories (Some k)
     size_of k e = subst (SizeKept m.memories) e kept.memory
@@ -184,67 +121,27 @@ module _ (m : Module) where
             absurd (cc)
         by_place i h u f im (inr p) = kept.globals i h u f im p
 
-    written : (o : Option Memory) → ((k : Memory) → o ≡ Some k → SizeKept m.memories (Some k)) → K (in_bounds o (λ k. gives (with_memory w k) ls []))
-    written o h = bounded o (λ k. gives (with_memory w k) ls []) (λ k e. new_memory k (h k e))
+    accessed : (k k' : Memory) → Accessed k k' → SizeKept m.memories (Some k) → SizeKept m.memories (Some k')
+    accessed k k' (inl p) h = put_sized m.memories k k' p.0 p.1 p.2 h
+    accessed k k' (inr (inl c)) h = copy_sized m.memories k k' c.0 c.1 c.2 c.3 h
+    accessed k k' (inr (inr g)) h = grow_sized m.memories k k' g.0 g.1 h
 
-    grew : (o : Option Memory) (old : ℕ) → ((k : Memory) → o ≡ Some k → SizeKept m.memories (Some k)) → K (grown o w old ls)
-    grew None old h = kept
-    grew (Some k) old h = new_memory k (h k refl)
+    by_write : (w' : World) → MayWrite w w' → WorldKept m w'
+    by_write w' (inl e) = subst (WorldKept m) (sym e) kept
+    by_write w' (inr q) = subst (WorldKept m) (sym q.4) (new_memory q.1 (accessed q.0 q.1 q.3 (size_of q.0 q.2)))
 
-    mutable_of : (x : ℕ) (o : Option Global) (a : Arrow) → option_then o set_global ≡ Some a → (g : Global) × (o ≡ Some g) × (g.mutable ≡ true)
-    mutable_of x None a e = absurd (cc)
-    mutable_of x (Some g) a e = by_test g.mutable refl e
-      where
-        by_test : (b : Bool) → g.mutable ≡ b → only_if b (Some (g.vtype ∷ [] ⇒ [])) ≡ Some a → (h : Global) × (Some g ≡ Some h) × (h.mutable ≡ true)
-        by_test true q e = (g, refl, q)
-        by_test false q e = absurd (cc)
+    by_class : (c : Context) (k : EffectClass) (e : Effect) → c.module_ ≡ m → Asks k c → Does k w ls e → EffectKept m e
+    by_class c k unfit cm a d = tt
+    by_class c k (fails kind) cm a d = tt
+    by_class c Pure (gives w' ls' vs) cm a d = subst (WorldKept m) (sym d.1) kept
+    by_class c Dividing (gives w' ls' vs) cm a d = subst (WorldKept m) (sym d.1) kept
+    by_class c Accessing (gives w' ls' vs) cm a d = by_write w' d.1
+    by_class c (SetsLocal x) (gives w' ls' vs) cm a d = subst (WorldKept m) (sym d.0) kept
+    by_class c (SetsGlobal x) (gives w' ls' vs) cm a d =
+        subst (WorldKept m) (sym d.2) (new_global x a.0 d.1 (subst (λ (y : Module). slice_get y.globals x ≡ Some a.0) cm a.1) a.2)
 
     pub effect_kept : (c : Context) (i : Basic) (t : ValType) (a : Arrow) (vs : List Value) → c.module_ ≡ m → arrow c t i ≡ Some a → EffectKept m (effect i w ls vs)
-    effect_kept c Nop t a vs cm e = with_none (gives w ls []) vs kept
-    effect_kept c Drop t a vs cm e = with_any (λ v. gives w ls []) vs (λ v. kept)
-    effect_kept c Select t a vs cm e = with_choice (λ n b a. gives w ls ((if n == 0 then b else a) ∷ [])) vs (λ n b a. kept)
-    effect_kept c (LocalGet x) t a vs cm e = with_none (with_some (slice_get ls x) (λ v. gives w ls (v ∷ []))) vs (on_some (slice_get ls x) (λ v. gives w ls (v ∷ [])) (λ v q. kept))
-    effect_kept c (LocalSet x) t a vs cm e = with_any (λ v. over (slice_get ls x) v (gives w (slice_set ls x v) [])) vs (λ v. written_over (slice_get ls x) v (gives w (slice_set ls x v) []) kept)
-    effect_kept c (LocalTee x) t a vs cm e = with_any (λ v. over (slice_get ls x) v (gives w (slice_set ls x v) (v ∷ []))) vs (λ v. written_over (slice_get ls x) v (gives w (slice_set ls x v) (v ∷ [])) kept)
-    effect_kept c (GlobalGet x) t a vs cm e = with_none (with_some (slice_get w.globals x) (λ v. gives w ls (v ∷ []))) vs (on_some (slice_get w.globals x) (λ v. gives w ls (v ∷ [])) (λ v q. kept))
-    effect_kept c (GlobalSet x) t a vs cm e =
-        let g = mutable_of x (slice_get m.globals x) a (subst (λ y. option_then (slice_get y.globals x) set_global ≡ Some a) cm e) in
-        let set : Value → Effect = λ v. gives (with_globals w (slice_set w.globals x v)) ls [] in
-        with_any (λ v. over (slice_get w.globals x) v (set v)) vs (λ v. written_over (slice_get w.globals x) v (set v) (new_global x g.0 v g.1 g.2))
-    effect_kept c (Load l align offset) t a vs cm e =
-        let go : ℕ → Memory → Effect = λ a k. in_bounds (load k (address a offset) (load_bits l / 8)) (λ n. gives w ls (value (load_type l) (loaded l n) ∷ [])) in
-        with_one I32 (λ a. with_some w.memory (go a)) vs (λ a. on_some w.memory (go a) (λ k q. bounded (load k (address a offset) (load_bits l / 8)) (λ n. gives w ls (value (load_type l) (loaded l n) ∷ [])) (λ n r. kept)))
-    effect_kept c (Store l align offset) t a vs cm e =
-        let to : ℕ → ℕ → Memory → Option Memory = λ n a k. put k (address a offset) (to_bytes (store_bits l / 8) n) in
-        let go : ℕ → ℕ → Memory → Effect = λ n a k. in_bounds (to n a k) (λ k'. gives (with_memory w k') ls []) in
-        with_two (store_type l) I32 (λ n a. with_some w.memory (go n a)) vs
-        (λ n a. on_some w.memory (go n a) (λ k q. written (to n a k) (λ k' r. put_sized m.memories k k' (address a offset) (to_bytes (store_bits l / 8) n) r (size_of k q))))
-    effect_kept c MemorySize t a vs cm e =
-        let go : Memory → Effect = λ k. gives w ls (values.I32 (pages k) ∷ []) in
-        with_none (with_some w.memory go) vs (on_some w.memory go (λ k q. kept))
-    effect_kept c MemoryGrow t a vs cm e =
-        let go : ℕ → Memory → Effect = λ n k. grown (grow k n) w (pages k) ls in
-        with_one I32 (λ n. with_some w.memory (go n)) vs (λ n. on_some w.memory (go n) (λ k q. grew (grow k n) (pages k) (λ k' r. grow_sized m.memories k k' n r (size_of k q))))
-    effect_kept c MemoryCopy t a vs cm e =
-        let to : ℕ → ℕ → ℕ → Memory → Option Memory = λ n from to k. copy k (modulo I32 to) (modulo I32 from) (modulo I32 n) in
-        let go : ℕ → ℕ → ℕ → Memory → Effect = λ n from at k. in_bounds (to n from at k) (λ k'. gives (with_memory w k') ls []) in
-        with_three (λ n from at. with_some w.memory (go n from at)) vs
-        (λ n from at. on_some w.memory (go n from at) (λ k q. written (to n from at k) (λ k' r. copy_sized m.memories k k' (modulo I32 at) (modulo I32 from) (modulo I32 n) r (size_of k q))))
-    effect_kept c MemoryFill t a vs cm e =
-        let to : ℕ → ℕ → ℕ → Memory → Option Memory = λ n byte to k. fill k (modulo I32 to) (byte % 256) (modulo I32 n) in
-        let go : ℕ → ℕ → ℕ → Memory → Effect = λ n byte at k. in_bounds (to n byte at k) (λ k'. gives (with_memory w k') ls []) in
-        with_three (λ n byte at. with_some w.memory (go n byte at)) vs
-        (λ n byte at. on_some w.memory (go n byte at) (λ k q. written (to n byte at k) (λ k' r. put_sized m.memories k k' (modulo I32 at) (replicate (modulo I32 n) (byte % 256)) r (size_of k q))))
-    effect_kept c (Const v) t a vs cm e = with_none (gives w ls (v ∷ [])) vs kept
-    effect_kept c (Eqz u) t a vs cm e = with_one u (λ a. gives w ls (values.I32 (bool_number (a == 0)) ∷ [])) vs (λ a. kept)
-    effect_kept c (Unary u op) t a vs cm e = with_one u (λ a. gives w ls (value u (unary u op a) ∷ [])) vs (λ a. kept)
-    effect_kept c (Compare u op) t a vs cm e = with_two u u (λ b a. gives w ls (values.I32 (bool_number (compare u op a b)) ∷ [])) vs (λ b a. kept)
-    effect_kept c (Binary u op) t a vs cm e =
-        let result : ℕ → Effect = λ n. gives w ls (value u n ∷ []) in
-        with_two u u (λ b a. divides (binary u op a b) result) vs (λ b a. divided (binary u op a b) result (λ n. kept))
-    effect_kept c (Convert k) t a vs cm e = with_one (convert_from k) (λ a. gives w ls (value (convert_to k) (convert k a) ∷ [])) vs (λ a. kept)
-    effect_kept c (Extend32 k) t a vs cm e = with_one I32 (λ a. gives w ls (values.I32 (extend32 k a) ∷ [])) vs (λ a. kept)
-    effect_kept c (Extend64 k) t a vs cm e = with_one I64 (λ a. gives w ls (values.I64 (extend64 k a) ∷ [])) vs (λ a. kept)
+    effect_kept c i t a vs cm e = by_class c (effect_class i) (effect i w ls vs) cm (asks c t i a e) (acts_as_class w ls i vs)
 
 -- ---- the host
 

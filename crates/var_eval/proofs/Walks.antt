@@ -4,7 +4,7 @@ use Rattle.std.specs.Prelude.{Ok, Err}
 use Rattle.dwarf_info.specs.declared.entry.UnitAnswer.{UnitAnswer}
 use Rattle.var_path.specs.declared.path.Step.{Step}
 use Rattle.var_values.specs.Bytes.{Recorded}
-use Rattle.var_eval.specs.declared.stop.Stop.{Stop}
+use Rattle.var_eval.specs.declared.dead_end.DeadEnd.{DeadEnd}
 use Rattle.var_eval.specs.Steps.{Part, Reached, and_then, step, walk}
 use Rattle.var_eval.specs.inner.Told.{Tells}
 use Rattle.var_eval.proofs.Stops.{stopped}
@@ -22,7 +22,7 @@ pub goes_on : (units : List UnitAnswer) (memory : Recorded) (all : List Step) (i
 goes_on units memory all i s whole part next so_far lt is there =
     so_far ∙ walk_on units memory all i s part lt is ∙ ap (λ (r : Reached). and_then r (walk units memory (drop (i + 1) all))) there
 
-pub stops : (units : List UnitAnswer) (memory : Recorded) (all : List Step) (i : ℕ) (s : Step) (whole part : Part) (e : Stop) → walk units memory all whole ≡ walk units memory (drop i all) part
+pub stops : (units : List UnitAnswer) (memory : Recorded) (all : List Step) (i : ℕ) (s : Step) (whole part : Part) (e : DeadEnd) → walk units memory all whole ≡ walk units memory (drop i all) part
     → i < length all → s ≡ get_or all i s → Tells (Err e) (step units memory part s) → Tells (Err e) (walk units memory all whole)
 stops units memory all i s whole part e so_far lt is told =
     subst (λ (r : Reached). Tells (Err e) r) (sym (so_far ∙ walk_on units memory all i s part lt is)) (stopped e (step units memory part s) (walk units memory (drop (i + 1) all)) told)

@@ -9,11 +9,11 @@ ghost use Rattle.dwarf_types.specs.Sizes.{type_size as the_size};
 ghost use Rattle.var_eval.specs.Steps as steps;
 ghost use Rattle.var_eval.specs.inner.Told.{Tells};
 
+use crate::dead_end::DeadEnd;
 use crate::meeting::{Met, meet};
 use crate::part::Part;
 use crate::pointers::pointed;
-use crate::spot::Spot;
-use crate::stop::Stop;
+use crate::sourced_place::SourcedPlace;
 use dwarf_entries::tags::{POINTER, SUBRANGE};
 use dwarf_entries::{Standing, is_child};
 use dwarf_expr::{FrameView, PiecePlace};
@@ -97,16 +97,16 @@ fn array_element<'r, 'a>(
     units: &'r Units<'a>,
     index: u32,
     met: Met<'r, 'a>,
-    spot: Spot,
+    spot: SourcedPlace,
     past: bool,
-) -> Result<Part<'r, 'a>, Stop>
+) -> Result<Part<'r, 'a>, DeadEnd>
     ensures { Tells result (steps.element_at units.now index spot past met.entry
         (the_size units.now (steps.element_type units.now met.entry.standing met.entry.skipped))) }
 {
     let past = is_behind_end(past, &met, index);
     let typed = element_type(units, met);
     let Some(size) = type_size(units, &typed) else {
-        return Err(Stop::Marked(Mark::UnsupportedType));
+        return Err(DeadEnd::Marked(Mark::UnsupportedType));
     };
     let spot = spot.further(bytes_of(index, size))?;
     Ok(Part { typed, spot, past })
@@ -132,16 +132,16 @@ fn pointed_element<'r, 'a>(
     index: u32,
     standing: &Standing<'r, 'a>,
     source: Source,
-) -> Result<Part<'r, 'a>, Stop>
+) -> Result<Part<'r, 'a>, DeadEnd>
     ensures { Tells result (steps.pointed_element units.now index standing.now source
         (the_size units.now (the_type units.now standing.now.entry.attributes))) }
 {
     let to = type_of(units, &standing.entry().attributes);
     let Some(size) = type_size(units, &to) else {
-        return Err(Stop::Marked(Mark::UnsupportedType));
+        return Err(DeadEnd::Marked(Mark::UnsupportedType));
     };
     if standing.entry().tag != POINTER {
-        return Err(Stop::Marked(Mark::UnsupportedType));
+        return Err(DeadEnd::Marked(Mark::UnsupportedType));
     }
     Ok(Part::whole(to, address_further(bytes_of(index, size), source)))
 }
@@ -153,7 +153,7 @@ pub fn element_step<'r, 'a>(
     view: &FrameView<'_>,
     index: u32,
     part: Part<'r, 'a>,
-) -> Result<Part<'r, 'a>, Stop>
+) -> Result<Part<'r, 'a>, DeadEnd>
     ensures { Tells result (steps.element_step units.now view.now.memory index part.entry) }
 {
     let Part { typed, spot, past } = part;
@@ -164,6 +164,6 @@ pub fn element_step<'r, 'a>(
             let source = pointed(view, &spot, past);
             pointed_element(units, index, &met.standing, source)
         }
-        _ => Err(Stop::Marked(Mark::UnsupportedType)),
+        _ => Err(DeadEnd::Marked(Mark::UnsupportedType)),
     }
 }

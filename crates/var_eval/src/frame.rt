@@ -15,7 +15,7 @@ use std::marker::Model;
 /// A frame as its variables see it: what the sections of its module say, the address of the code
 /// where it stands, what is recorded of it, and how many operands a call under way there has left.
 #[derive(Drop)]
-pub struct Frame<'s, 'u, 'w, 'v, 'a> {
+pub struct VariableFrame<'s, 'u, 'w, 'v, 'a> {
     sections: &'s Sections5<'a>,
     units: &'u Units<'a>,
     address: u32,
@@ -24,7 +24,7 @@ pub struct Frame<'s, 'u, 'w, 'v, 'a> {
     base: Base,
 }
 
-impl<'s, 'u, 'w, 'v, 'a> Model for Frame<'s, 'u, 'w, 'v, 'a> {
+impl<'s, 'u, 'w, 'v, 'a> Model for VariableFrame<'s, 'u, 'w, 'v, 'a> {
     ghost use Rattle.std.specs.Prelude.{◌≡◌};
     ghost use Rattle.var_eval.specs.Frames.{Frame, frame_of};
     ghost use Rattle.var_eval.specs.Locations.{base_of};
@@ -37,7 +37,7 @@ impl<'s, 'u, 'w, 'v, 'a> Model for Frame<'s, 'u, 'w, 'v, 'a> {
         ≡ base_of (frame_of f.sections.now f.units.now f.address f.view.now f.left) };
 }
 
-impl<'s, 'u, 'w, 'v, 'a> Frame<'s, 'u, 'w, 'v, 'a> {
+impl<'s, 'u, 'w, 'v, 'a> VariableFrame<'s, 'u, 'w, 'v, 'a> {
     #[tactic(auto, unfolding(crate::specs::Locations::base_of))]
     pub fn new(
         alloc: Global,
@@ -51,7 +51,7 @@ impl<'s, 'u, 'w, 'v, 'a> Frame<'s, 'u, 'w, 'v, 'a> {
     {
         let subprogram = subprogram_at(alloc, sections, units.as_slice(), address)?;
         let base = base_in(alloc, sections, address, view, &subprogram)?;
-        Ok(Frame {
+        Ok(VariableFrame {
             sections,
             units,
             address,

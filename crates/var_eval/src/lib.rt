@@ -3,6 +3,7 @@
 #![tactic(auto)]
 
 mod choice;
+mod dead_end;
 mod elements;
 mod frame;
 mod located;
@@ -13,14 +14,13 @@ mod part;
 mod path_shown;
 mod pointers;
 mod shown;
-mod spot;
-mod stop;
+mod sourced_place;
 mod visibility;
 mod walking;
 mod whole;
 
 pub use choice::chosen;
-pub use frame::Frame;
+pub use frame::VariableFrame;
 pub use located::Located;
 pub use locations::source_of;
 pub use part::Part;

@@ -7,7 +7,7 @@ ghost use Rattle.dwarf5_info.specs.Units.{plain_of};
 ghost use Rattle.dwarf_expr.specs.FrameBase.{frame_base as base_given};
 ghost use Rattle.var_eval.specs.Locations as locations;
 
-use crate::frame::Frame;
+use crate::frame::VariableFrame;
 use crate::located::Located;
 use causes::NoMemory;
 use dwarf_entries::names::{FRAME_BASE, LOCATION};
@@ -205,7 +205,7 @@ fn is_gone(left: Option<u32>, expr: &[u8]) -> bool
 }
 
 /// Where a variable comes from in a frame by its expression.
-fn source_in(frame: &Frame<'_, '_, '_, '_, '_>, expr: &[u8]) -> Source
+fn source_in(frame: &VariableFrame<'_, '_, '_, '_, '_>, expr: &[u8]) -> Source
     requires { length expr.now < 2 ^ 32 }
     ensures { result ≡ locations.source_in frame.now expr.now }
 {
@@ -218,7 +218,7 @@ fn source_in(frame: &Frame<'_, '_, '_, '_, '_>, expr: &[u8]) -> Source
 /// Where a variable of a unit comes from in a frame by its expression.
 fn source_by<'a>(
     alloc: Global,
-    frame: &Frame<'_, '_, '_, '_, 'a>,
+    frame: &VariableFrame<'_, '_, '_, '_, 'a>,
     unit: &Unit<'a>,
     expr: &[u8],
 ) -> Result<Source, NoMemory>
@@ -237,7 +237,7 @@ fn source_by<'a>(
 #[tactic(auto, unfolding(crate::specs::Locations::variable_source))]
 pub fn source_of<'r, 'a>(
     alloc: Global,
-    frame: &Frame<'_, '_, '_, '_, 'a>,
+    frame: &VariableFrame<'_, '_, '_, '_, 'a>,
     variable: &Standing<'r, 'a>,
 ) -> Result<Source, NoMemory>
     ensures { IfOk result (λ source. source ≡ locations.variable_source frame.now variable.now) }

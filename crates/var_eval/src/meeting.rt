@@ -6,7 +6,7 @@ ghost use Rattle.dwarf_types.specs.Types.{behind};
 ghost use Rattle.var_eval.specs.Steps as steps;
 ghost use Rattle.var_eval.specs.inner.Told.{Tells};
 
-use crate::stop::Stop;
+use crate::dead_end::DeadEnd;
 use dwarf_entries::{LONGEST_CHAIN, Standing};
 use dwarf_info::Units;
 use dwarf_types::{Behind, Typed, resolved};
@@ -24,14 +24,14 @@ pub fn meet<'r, 'a>(
     units: &'r Units<'a>,
     typed: Typed<'r, 'a>,
     bits: Option<Bits>,
-) -> Result<Met<'r, 'a>, Stop>
+) -> Result<Met<'r, 'a>, DeadEnd>
     ensures { Tells result (steps.met_as bits (behind units.now longest_chain typed.entry)) }
 {
     match resolved(units, LONGEST_CHAIN, typed) {
-        Behind::Nothing => Err(Stop::Marked(Mark::UnsupportedType)),
-        Behind::TooDeep => Err(Stop::Marked(Mark::TypeTooDeep)),
+        Behind::Nothing => Err(DeadEnd::Marked(Mark::UnsupportedType)),
+        Behind::TooDeep => Err(DeadEnd::Marked(Mark::TypeTooDeep)),
         Behind::Stands { standing, skipped } => match bits {
-            Some(_) => Err(Stop::Marked(Mark::UnsupportedType)),
+            Some(_) => Err(DeadEnd::Marked(Mark::UnsupportedType)),
             None => Ok(Met { standing, skipped }),
         },
     }

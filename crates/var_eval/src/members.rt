@@ -6,10 +6,10 @@ ghost use Rattle.var_values.specs.Members.{part_at as the_place};
 ghost use Rattle.var_eval.specs.Steps as steps;
 ghost use Rattle.var_eval.specs.inner.Told.{Tells};
 
+use crate::dead_end::DeadEnd;
 use crate::meeting::meet;
 use crate::part::Part;
-use crate::spot::Spot;
-use crate::stop::Stop;
+use crate::sourced_place::SourcedPlace;
 use dwarf_entries::{Standing, name_or_empty};
 use dwarf_expr::FrameView;
 use dwarf_info::{Entry, Units};
@@ -44,7 +44,7 @@ fn member_named<'i, 'r, 'a>(
 
 /// The offset and the bits of a member that is part of a structure that stands there; None where it
 /// is of another form.
-fn offset_of(spot: &Spot, member: &Entry<'_>) -> Option<(i128, Option<Bits>)>
+fn offset_of(spot: &SourcedPlace, member: &Entry<'_>) -> Option<(i128, Option<Bits>)>
     ensures { option_map
         (λ x. record { source = spot.now.source; offset = x.0; bits = x.1 }) result
         ≡ the_place spot.now member.now }
@@ -57,14 +57,14 @@ fn offset_of(spot: &Spot, member: &Entry<'_>) -> Option<(i128, Option<Bits>)>
 fn placed_part<'r, 'a>(
     units: &'r Units<'a>,
     member: &'r Entry<'a>,
-    spot: Spot,
+    spot: SourcedPlace,
     past: bool,
-) -> Result<Part<'r, 'a>, Stop>
+) -> Result<Part<'r, 'a>, DeadEnd>
     ensures { Tells result (ok_or (option_map (steps.part_of units.now past member.now)
         (the_place spot member.now)) UnsupportedType) }
 {
     let Some((offset, bits)) = offset_of(&spot, member) else {
-        return Err(Stop::Marked(Mark::UnsupportedType));
+        return Err(DeadEnd::Marked(Mark::UnsupportedType));
     };
     let spot = spot.moved(offset, bits)?;
     Ok(Part {
@@ -79,9 +79,9 @@ fn placed_part<'r, 'a>(
 fn member_part<'r, 'a>(
     units: &'r Units<'a>,
     member: &'r Entry<'a>,
-    spot: Spot,
+    spot: SourcedPlace,
     past: bool,
-) -> Result<Part<'r, 'a>, Stop>
+) -> Result<Part<'r, 'a>, DeadEnd>
     ensures { Tells result
         (ok_or (steps.at_member units.now spot past member.now) UnsupportedType) }
 {
@@ -91,7 +91,7 @@ fn member_part<'r, 'a>(
     let constant = constant_source(&member.attributes);
     Ok(Part {
         typed: type_of(units, &member.attributes),
-        spot: Spot::start_of(constant),
+        spot: SourcedPlace::start_of(constant),
         past,
     })
 }
@@ -100,14 +100,14 @@ fn member_part<'r, 'a>(
 fn item_part<'r, 'a>(
     units: &'r Units<'a>,
     item: &Item<'r, 'a>,
-    spot: Spot,
+    spot: SourcedPlace,
     past: bool,
-) -> Result<Part<'r, 'a>, Stop>
+) -> Result<Part<'r, 'a>, DeadEnd>
     ensures { Tells result (ok_or (steps.at_item units.now spot past item.now) UnsupportedType) }
 {
     match item {
         Item::Member(standing) => member_part(units, standing.entry(), spot, past),
-        Item::Unknown(_) => Err(Stop::Marked(Mark::UnsupportedType)),
+        Item::Unknown(_) => Err(DeadEnd::Marked(Mark::UnsupportedType)),
     }
 }
 
@@ -118,18 +118,18 @@ fn member_of<'r, 'a>(
     view: &FrameView<'_>,
     name: &[u8],
     standing: &Standing<'r, 'a>,
-    spot: Spot,
+    spot: SourcedPlace,
     past: bool,
-) -> Result<Part<'r, 'a>, Stop>
+) -> Result<Part<'r, 'a>, DeadEnd>
     ensures { Tells result
         (steps.member_of units.now view.now.memory name.now standing.now spot past) }
 {
     let Ok(items) = items_of(alloc, units, view, standing, &spot.place()) else {
-        return Err(Stop::NoMemory);
+        return Err(DeadEnd::NoMemory);
     };
     match member_named(units, name, items.as_slice()) {
         Some(item) => item_part(units, item, spot, past),
-        None => Err(Stop::Marked(Mark::UnsupportedType)),
+        None => Err(DeadEnd::Marked(Mark::UnsupportedType)),
     }
 }
 
@@ -141,13 +141,13 @@ pub fn member_step<'r, 'a>(
     view: &FrameView<'_>,
     name: &[u8],
     part: Part<'r, 'a>,
-) -> Result<Part<'r, 'a>, Stop>
+) -> Result<Part<'r, 'a>, DeadEnd>
     ensures { Tells result (steps.member_step units.now view.now.memory name.now part.entry) }
 {
     let Part { typed, spot, past } = part;
     let met = meet(units, typed, spot.place().bits)?;
     match class_of(met.standing.entry().tag) {
         Class::Members => member_of(alloc, units, view, name, &met.standing, spot, past),
-        _ => Err(Stop::Marked(Mark::UnsupportedType)),
+        _ => Err(DeadEnd::Marked(Mark::UnsupportedType)),
     }
 }

@@ -4,7 +4,7 @@ ghost use Rattle.std.specs.Prelude.{◌≡◌};
 ghost use Rattle.var_values.specs.calls.Near.{IsNear};
 ghost use Rattle.var_eval.specs.Steps as steps;
 
-use crate::spot::Spot;
+use crate::sourced_place::SourcedPlace;
 use dwarf_types::Typed;
 use std::marker::Model;
 use var_values::{Place, Source};
@@ -13,7 +13,7 @@ use var_values::{Place, Source};
 #[derive(Drop)]
 pub struct Part<'r, 'a> {
     pub(crate) typed: Typed<'r, 'a>,
-    pub(crate) spot: Spot,
+    pub(crate) spot: SourcedPlace,
     /// It stands behind the end of an array whose count is known.
     pub(crate) past: bool,
 }
@@ -33,7 +33,7 @@ impl<'r, 'a> Part<'r, 'a> {
     {
         Part {
             typed,
-            spot: Spot::start_of(source),
+            spot: SourcedPlace::start_of(source),
             past: false,
         }
     }

@@ -5,7 +5,7 @@ ghost use Rattle.var_eval.specs.Shown.{shown_as};
 ghost use Rattle.var_eval.specs.PathShown as definitions;
 ghost use Rattle.var_eval.specs.inner.PathTold.{shown_by};
 
-use crate::{Frame, Part, Shown, chosen, source_of, walk};
+use crate::{Part, Shown, VariableFrame, chosen, source_of, walk};
 use causes::NoMemory;
 use dwarf_entries::Standing;
 use dwarf_expr::FrameView;
@@ -51,7 +51,7 @@ fn shown_part<'r, 'a>(
 #[tactic(auto, unfolding(crate::specs::PathShown::steps_text))]
 fn shown_behind<'r, 'a>(
     alloc: Global,
-    frame: &Frame<'_, 'r, '_, '_, 'a>,
+    frame: &VariableFrame<'_, 'r, '_, '_, 'a>,
     steps: &[Step<'_>],
     variable: &Standing<'r, 'a>,
 ) -> Result<Shown, NoMemory>
@@ -78,7 +78,7 @@ fn shown_behind<'r, 'a>(
 #[tactic(auto, unfolding(crate::specs::PathShown::path_shown))]
 pub fn value_of<'r, 'a>(
     alloc: Global,
-    frame: &Frame<'_, 'r, '_, '_, 'a>,
+    frame: &VariableFrame<'_, 'r, '_, '_, 'a>,
     path: &Path<'_>,
 ) -> Result<Shown, NoMemory>
     ensures { IfOk result (λ shown. shown ≡ definitions.path_shown frame.now path.now) }

@@ -5,10 +5,10 @@ ghost use Rattle.var_values.specs.Bytes.{number_at as the_number};
 ghost use Rattle.var_eval.specs.Steps as steps;
 ghost use Rattle.var_eval.specs.inner.Told.{Tells};
 
+use crate::dead_end::DeadEnd;
 use crate::meeting::meet;
 use crate::part::Part;
-use crate::spot::Spot;
-use crate::stop::Stop;
+use crate::sourced_place::SourcedPlace;
 use dwarf_expr::{FrameView, PiecePlace};
 use dwarf_info::Units;
 use dwarf_types::{Class, class_of, type_of};
@@ -33,7 +33,7 @@ fn at_address(past: bool, address: Result<u128, Mark>) -> Source
 
 /// Where the pointer leads that stands there.
 #[tactic(auto, unfolding(crate::specs::Steps::pointed))]
-pub fn pointed(view: &FrameView<'_>, spot: &Spot, past: bool) -> Source
+pub fn pointed(view: &FrameView<'_>, spot: &SourcedPlace, past: bool) -> Source
     ensures { result ≡ steps.pointed view.now.memory spot.now past }
 {
     let place = spot.place();
@@ -47,7 +47,7 @@ pub fn pointer_step<'r, 'a>(
     units: &'r Units<'a>,
     view: &FrameView<'_>,
     part: Part<'r, 'a>,
-) -> Result<Part<'r, 'a>, Stop>
+) -> Result<Part<'r, 'a>, DeadEnd>
     ensures { Tells result (steps.pointer_step units.now view.now.memory part.entry) }
 {
     let Part { typed, spot, past } = part;
@@ -57,6 +57,6 @@ pub fn pointer_step<'r, 'a>(
             let to = type_of(units, &met.standing.entry().attributes);
             Ok(Part::whole(to, pointed(view, &spot, past)))
         }
-        _ => Err(Stop::Marked(Mark::UnsupportedType)),
+        _ => Err(DeadEnd::Marked(Mark::UnsupportedType)),
     }
 }

@@ -4,11 +4,11 @@ ghost use Rattle.std.specs.Prelude.{◌≡◌, IfOk};
 ghost use Rattle.var_eval.specs.Steps as definitions;
 ghost use Rattle.var_eval.specs.inner.Told.{Tells};
 
+use crate::dead_end::DeadEnd;
 use crate::elements::element_step;
 use crate::members::member_step;
 use crate::part::Part;
 use crate::pointers::pointer_step;
-use crate::stop::Stop;
 use causes::NoMemory;
 use dwarf_expr::FrameView;
 use dwarf_info::Units;
@@ -25,7 +25,7 @@ fn take_step<'r, 'a>(
     view: &FrameView<'_>,
     part: Part<'r, 'a>,
     step: &Step<'_>,
-) -> Result<Part<'r, 'a>, Stop>
+) -> Result<Part<'r, 'a>, DeadEnd>
     ensures { Tells result (definitions.step units.now view.now.memory part.entry step.now) }
 {
     match step {
@@ -45,7 +45,7 @@ fn take_steps<'r, 'a>(
     view: &FrameView<'_>,
     steps: &[Step<'_>],
     whole: Part<'r, 'a>,
-) -> Result<Part<'r, 'a>, Stop>
+) -> Result<Part<'r, 'a>, DeadEnd>
     ensures { Tells result (definitions.walk units.now view.now.memory steps.now whole.entry) }
 {
     let mut part = whole;
@@ -76,7 +76,7 @@ pub fn walk<'r, 'a>(
 {
     match take_steps(alloc, units, view, steps, Part::whole(typed, source)) {
         Ok(part) => Ok(Ok(part)),
-        Err(Stop::Marked(mark)) => Ok(Err(mark)),
-        Err(Stop::TooFar | Stop::NoMemory) => Err(NoMemory),
+        Err(DeadEnd::Marked(mark)) => Ok(Err(mark)),
+        Err(DeadEnd::TooFar | DeadEnd::NoMemory) => Err(NoMemory),
     }
 }

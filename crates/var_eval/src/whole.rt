@@ -5,7 +5,7 @@ ghost use Rattle.var_values.specs.Values.{in_place};
 ghost use Rattle.var_values.specs.calls.Told.{Tells};
 ghost use Rattle.var_eval.specs.Shown as shown;
 
-use crate::frame::Frame;
+use crate::frame::VariableFrame;
 use crate::locations::source_of;
 use crate::shown::Shown;
 use causes::NoMemory;
@@ -20,7 +20,7 @@ use var_values::{Mark, Place, push_value};
 fn push_whole<'r, 'a>(
     alloc: Global,
     text: &mut Text,
-    frame: &Frame<'_, 'r, '_, '_, 'a>,
+    frame: &VariableFrame<'_, 'r, '_, '_, 'a>,
     variable: &Standing<'r, 'a>,
 ) -> Result<Option<Mark>, NoMemory>
     ensures { IfOk result (λ mark. Tells (shown.variable_text frame.now variable.now) mark
@@ -41,7 +41,7 @@ fn push_whole<'r, 'a>(
 pub fn push_variable<'r, 'a>(
     alloc: Global,
     text: &mut Text,
-    frame: &Frame<'_, 'r, '_, '_, 'a>,
+    frame: &VariableFrame<'_, 'r, '_, '_, 'a>,
     variable: &Standing<'r, 'a>,
 ) -> Result<(), NoMemory>
     ensures { OnOk result (text.new
@@ -56,7 +56,7 @@ pub fn push_variable<'r, 'a>(
 #[tactic(auto, using(crate::proofs::ShownLaws::marked_shown, crate::proofs::ShownLaws::text_shown))]
 fn shown_whole<'r, 'a>(
     alloc: Global,
-    frame: &Frame<'_, 'r, '_, '_, 'a>,
+    frame: &VariableFrame<'_, 'r, '_, '_, 'a>,
     variable: &Standing<'r, 'a>,
 ) -> Result<Shown, NoMemory>
     ensures { IfOk result (λ s. s ≡ shown.shown_as (shown.variable_text frame.now variable.now)) }
@@ -72,7 +72,7 @@ fn shown_whole<'r, 'a>(
 #[tactic(auto, unfolding(crate::specs::Shown::entry_shown))]
 pub fn value_at(
     alloc: Global,
-    frame: &Frame<'_, '_, '_, '_, '_>,
+    frame: &VariableFrame<'_, '_, '_, '_, '_>,
     entry: u32,
 ) -> Result<Shown, NoMemory>
     ensures { IfOk result (λ s. s ≡ shown.entry_shown frame.now entry) }

@@ -1,6 +1,7 @@
 //! The rows of an array, written without recursion: an array may have very many subranges.
 
-ghost use Rattle.std.specs.Prelude.{ℕ, ◌≡◌, ◌<◌, ◌+◌, ◌*◌, ◌^◌, ◌++◌, ◌∷◌, [], Some, None, List, length, reverse, OnOk, IfOk};
+ghost use Rattle.std.specs.Prelude.{ℕ, ◌≡◌, ◌<◌, ◌+◌, ◌*◌, ◌^◌, ◌++◌, ◌∷◌, [], Some, None, List, length, reverse, OnOk};
+ghost use Rattle.std.specs.Prelude.{IfOk};
 ghost use Rattle.var_values.specs.inner.Odometer as odometer;
 ghost use Rattle.var_values.specs.inner.Odometer.{IsSound, AreSound, left, rows_left};
 

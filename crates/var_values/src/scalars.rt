@@ -1,6 +1,7 @@
 //! Texts of scalars where they stand (DWARF 4 sections 5.1, 5.5.6 and 5.7).
 
-ghost use Rattle.std.specs.Prelude.{◌≡◌, ◌≤◌, ◌<◌, ◌*◌, ◌^◌, ◌-◌, ◌-ℤ◌, ◌++◌, pos, true, false, Some, unwrap_or, OnOk, IfOk};
+ghost use Rattle.std.specs.Prelude.{◌≡◌, ◌≤◌, ◌<◌, ◌*◌, ◌^◌, ◌-◌, ◌-ℤ◌, ◌++◌, pos, true, false, Some, unwrap_or, OnOk};
+ghost use Rattle.std.specs.Prelude.{IfOk};
 ghost use Rattle.dwarf_entries.specs.Origins.{longest_chain};
 ghost use Rattle.dwarf_types.specs.Kinds.{encoding};
 ghost use Rattle.dwarf_types.specs.Types.{class_at, behind, type_of as type_at};

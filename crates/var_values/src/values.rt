@@ -1,6 +1,7 @@
 //! Texts of values, by recursion on their types (DWARF 4 sections 5.4, 5.5 and 5.7).
 
-ghost use Rattle.std.specs.Prelude.{◌≡◌, ◌≢◌, ◌<◌, ◌^◌, ◌++◌, suc, true, drop, map, reverse, unwrap_or, Some, IsSome, OnOk, IfOk};
+ghost use Rattle.std.specs.Prelude.{◌≡◌, ◌≢◌, ◌<◌, ◌^◌, ◌++◌, suc, true, drop, map, reverse, unwrap_or, Some, IsSome};
+ghost use Rattle.std.specs.Prelude.{OnOk, IfOk};
 ghost use Rattle.dwarf_entries.specs.Origins.{longest_chain};
 ghost use Rattle.dwarf_types.specs.Types.{class_at, type_of as type_at};
 ghost use Rattle.dwarf_types.specs.Counts.{counts};

@@ -1,6 +1,7 @@
 //! The variant that a discriminant chooses, and what stands in a structure (DWARF 4 section 5.5.9).
 
-ghost use Rattle.std.specs.Prelude.{◌≡◌, ◌≤◌, ◌<◌, ◌^◌, ◌&&◌, ◌++◌, true, nat_le, Some, Ok, ok_or, unwrap_or, IfSome, IfOk, OnOk};
+ghost use Rattle.std.specs.Prelude.{◌≡◌, ◌≤◌, ◌<◌, ◌^◌, ◌&&◌, ◌++◌, true, nat_le, Some, Ok, ok_or, unwrap_or, IfSome};
+ghost use Rattle.std.specs.Prelude.{IfOk, OnOk};
 ghost use Rattle.std.specs.Option.{is_none};
 ghost use Rattle.dwarf_info.specs.Attributes.{as_block, attribute as the_attribute, valued};
 ghost use Rattle.dwarf_entries.specs.Origins.{longest_chain};

@@ -1,16 +1,11 @@
 -- Tests, and tests in a row.
-use Rattle.std.specs.Prelude.{◌≡◌, ℕ, ◌<◌, ◌≤◌, Bool, true, false, Option, Some, None, Result, Ok, Err, suc}
+use Rattle.std.specs.Prelude.{◌≡◌, ℕ, ◌<◌, ◌≤◌, Option, Some, None, Result, Ok, Err, suc}
 use Rattle.wasm_syntax.specs.declared.module.ModuleParts.{ModuleParts as Module}
 use Rattle.dump_format.specs.declared.dump.Dump.{Dump}
 use Rattle.dump_format.specs.declared.dump.Instance.{Instance}
 use Rattle.dump_match.specs.declared.mismatch.Mismatch.{Mismatch}
 use Rattle.dump_match.specs.Matching.{OneInstance, GlobalFits, Passes, FirstMismatch, Before, group, place}
 use Rattle.dump_match.specs.States.{PassesInState}
-
--- a test says whether a fact holds
-abbrev pub Decides : Bool → Type 0 → Type 0
-Decides true P = P
-Decides false P = P → ⊥
 
 -- the only instance, or none passes
 abbrev pub InstanceFound : Option Instance → Dump → Type 0

@@ -7,7 +7,8 @@ use Rattle.wasm_syntax.specs.declared.parts.Body.{Body}
 use Rattle.wasm_syntax.specs.declared.module.ModuleParts.{ModuleParts as Module}
 use Rattle.wasm_syntax.specs.Tree.{Item, item_of}
 use Rattle.wasm_syntax.specs.Static.{Spot, LiveAt}
-use Rattle.wasm_validate.specs.Heights.{HasOp, TypesAt, body_of}
+use Rattle.wasm_syntax.specs.Valid.{body_of}
+use Rattle.wasm_validate.specs.Heights.{HasOp, TypesAt}
 use Rattle.dump_format.specs.declared.dump.Frame.{Frame}
 use Rattle.dump_match.specs.declared.stand.Stand.{Stand}
 use Rattle.dump_match.specs.Frames.{IsOf, StandsAt, instruction, taken}

@@ -16,7 +16,7 @@ use Rattle.dwarf_expr.specs.declared.effects.Event.TheVariants.{Bad}
 use Rattle.dwarf_expr.specs.declared.operators.Operator.{Operator}
 use Rattle.dwarf_expr.specs.declared.operators.Begun.{Begun}
 use Rattle.dwarf_expr.specs.declared.operators.Begun.TheVariants.{Known, Cut, Foreign}
-use Rattle.dwarf_expr.specs.declared.operators.Placed.{Placed}
+use Rattle.dwarf_expr.specs.declared.operators.PlacedOperator.{PlacedOperator}
 use Rattle.dwarf_expr.specs.declared.progress.Part.{Part}
 use Rattle.dwarf_expr.specs.declared.progress.Part.TheVariants.{Empty, Value, Address}
 use Rattle.dwarf_expr.specs.declared.progress.Progress.{Progress}
@@ -55,12 +55,12 @@ is_known Cut = false
 is_known Foreign = false
 
 -- an operator in front of the others
-abbrev pub listed : Option Placed → List Placed → List Placed
+abbrev pub listed : Option PlacedOperator → List PlacedOperator → List PlacedOperator
 listed None xs = []
 listed (Some x) xs = x ∷ others_behind x.begun xs
 
 -- This is the first operator of those at a place, and the place behind it.
-abbrev pub IsNext : Option Placed → Place → Place → Type 0
+abbrev pub IsNext : Option PlacedOperator → Place → Place → Type 0
 IsNext x after p = (n : ℕ) → operators_from (suc n) p ≡ listed x (operators_from n after)
 
 -- The topmost entry was taken, where there is one.
@@ -76,7 +76,7 @@ Leaves (Err e) new state = state ≡ Err e
 -- ---- between two operators
 
 -- no more operators of the part stand there
-abbrev pub is_end : List Placed → Bool
+abbrev pub is_end : List PlacedOperator → Bool
 is_end [] = true
 is_end (x ∷ xs) = is_piece x
 
@@ -105,14 +105,14 @@ abbrev pub progress : List Piece → Part → Stack → Progress
 progress pieces part stack = record { pieces = pieces; part = part; stack = stack }
 
 -- behind an operator that is no piece, and is the last of its part or not
-unfoldable pub stepped : View → Base → Placed → Bool → Progress → Result Progress Eval
+unfoldable pub stepped : View → Base → PlacedOperator → Bool → Progress → Result Progress Eval
 stepped v b x is_last p = begun_step v b x.at x.opcode x.begun is_last p.stack >>= λ s. Ok (progress p.pieces (part_behind p.part x.opcode) s)
 
 -- behind a piece
-unfoldable pub closed : Placed → Progress → Result Progress Eval
+unfoldable pub closed : PlacedOperator → Progress → Result Progress Eval
 closed x p = piece_of x.begun x.at (piece_given_by x.at p.part p.stack) >>= λ piece. added x p.pieces piece >>= λ more. Ok (progress more Empty [])
 
-unfoldable pub advanced : View → Base → Placed → Bool → Progress → Result Progress Eval
+unfoldable pub advanced : View → Base → PlacedOperator → Bool → Progress → Result Progress Eval
 advanced v b x is_last p = if is_piece x then closed x p else stepped v b x is_last p
 
 -- behind the last operator
@@ -126,6 +126,6 @@ completed end [] part s = given_by end part s >>= λ x. Ok (single x)
 completed end (p ∷ pieces) part s = ended_by end part (p ∷ pieces)
 
 -- what the operators to come make of it
-unfoldable pub continued : View → Base → ℕ → List Placed → Progress → Result Eval Eval
+unfoldable pub continued : View → Base → ℕ → List PlacedOperator → Progress → Result Eval Eval
 continued v b end [] p = completed end p.pieces p.part p.stack
 continued v b end (x ∷ xs) p = advanced v b x (is_end xs) p >>= λ q. continued v b end xs q

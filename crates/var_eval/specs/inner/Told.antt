@@ -1,11 +1,11 @@
 -- What the code tells of steps, against the definitions.
 use Rattle.std.specs.Prelude.{◌≡◌, Result, Ok, Err}
 use Rattle.var_values.specs.declared.mark.Mark.{Mark}
-use Rattle.var_eval.specs.declared.stop.Stop.{Stop}
-use Rattle.var_eval.specs.declared.stop.Stop.TheVariants.{Marked, TooFar, NoMemory}
+use Rattle.var_eval.specs.declared.dead_end.DeadEnd.{DeadEnd}
+use Rattle.var_eval.specs.declared.dead_end.DeadEnd.TheVariants.{Marked, TooFar, NoMemory}
 
 -- the same, unless the steps lead too far or memory runs out
-abbrev pub Tells : {A : Type 0} → Result A Stop → Result A Mark → Type 0
+abbrev pub Tells : {A : Type 0} → Result A DeadEnd → Result A Mark → Type 0
 Tells (Ok x) answer = answer ≡ Ok x
 Tells (Err (Marked m)) answer = answer ≡ Err m
 Tells (Err TooFar) answer = Unit {0}

@@ -1,9 +1,9 @@
 use Rattle.std.proofs.Common.{◌≡◌, sym, ap, subst, ◌∙◌}
 use Rattle.std.specs.Prelude.{Some, None}
 use Rattle.std.specs.Option.{option_copied}
-use Rattle.wasm_validate.specs.Heights.{body_of}
+use Rattle.wasm_syntax.specs.Valid.{body_of}
 use Rattle.dump_match.specs.States.{SomeClosesAt}
-use Rattle.dump_match.specs.inner.Decides.{Decides}
+use Rattle.wasm_validate.specs.calls.Deciding.{Decides}
 use Rattle.dump_match.proofs.Closings.{frame_closes, none_closes}
 use Rattle.dump_match.proofs.close.is_at_close.Goals as goal
 

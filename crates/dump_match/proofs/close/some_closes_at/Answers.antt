@@ -1,6 +1,6 @@
 use Rattle.std.proofs.Common.{subst, arith}
 use Rattle.dump_match.specs.States.{ClosesAt}
-use Rattle.dump_match.specs.inner.Decides.{Decides}
+use Rattle.wasm_validate.specs.calls.Deciding.{Decides}
 use Rattle.dump_match.proofs.Closings.{one_more, none_at_all}
 use Rattle.dump_match.proofs.close.some_closes_at.Goals as goal
 

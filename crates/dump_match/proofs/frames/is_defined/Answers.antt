@@ -1,7 +1,7 @@
 use Rattle.std.proofs.Common.{◌≡◌, sym, ap, ◌∙◌}
 use Rattle.std.specs.Prelude.{Some, None}
 use Rattle.std.specs.Option.{option_copied}
-use Rattle.wasm_validate.specs.Heights.{body_of}
+use Rattle.wasm_syntax.specs.Valid.{body_of}
 use Rattle.dump_match.proofs.Spots.{defined_fits, undefined}
 use Rattle.dump_match.proofs.frames.is_defined.Goals as goal
 

@@ -1,7 +1,7 @@
 use Rattle.std.proofs.Common.{subst, ◌∙◌}
 use Rattle.dump_format.specs.declared.dump.Frame.{Frame}
 use Rattle.dump_match.specs.Frames.{FunctionFits, LocalsFit, OperandsFit, CallFits, CalleeFits}
-use Rattle.dump_match.specs.inner.Decides.{Decides}
+use Rattle.wasm_validate.specs.calls.Deciding.{Decides}
 use Rattle.dump_match.specs.inner.Stands.{Stands}
 use Rattle.dump_match.proofs.Order.{no_locals, no_operands, no_call, no_callee, passes_all}
 use Rattle.dump_match.proofs.Spots.{from_spot}

@@ -3,7 +3,7 @@
 use var_values::Mark;
 
 #[derive(Clone, Copy, Debug, PartialEq, Eq)]
-pub enum Stop {
+pub enum DeadEnd {
     /// A step does not fit, for this reason.
     Marked(Mark),
     /// So far from the source that sums of offsets may not have 128 bits.

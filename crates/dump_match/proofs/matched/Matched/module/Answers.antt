@@ -1,6 +1,0 @@
-use Rattle.std.proofs.Common.{subst}
-use Rattle.dump_match.specs.Matching.{Matches}
-use Rattle.dump_match.proofs.matched.Matched.module.Goals as goal
-
-pub returns-clause-matches : goal.returns-clause-matches
-returns-clause-matches c = subst (λ x. Matches c.self.inside.«module».now x.dump) c.self.view_is c.self.invariant.matches
