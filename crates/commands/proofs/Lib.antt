@@ -1,4 +1,6 @@
 mod Loads
+pub mod Endings
+pub mod Givens
 pub mod OneOutcome
 pub mod Unless
 pub mod ReadFiles

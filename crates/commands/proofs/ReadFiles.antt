@@ -15,8 +15,8 @@ use Rattle.commands.specs.calls.Input.{IsInput, IsUnread}
 use Rattle.commands.specs.Inputs.{input_of, Then}
 use Rattle.commands.specs.Texts.{over_limit}
 use Rattle.commands.specs.Told.{UnlessFault, OnContents}
-use Rattle.commands.specs.declared.input.Input.{Input}
-use Rattle.commands.specs.declared.input.Input.TheVariants.{Whole, Refused}
+use Rattle.commands.specs.declared.given.Given.{Given}
+use Rattle.commands.specs.declared.given.Given.TheVariants.{Value, Refused}
 use Rattle.commands.specs.declared.outcome.Outcome.{Outcome}
 use Rattle.commands.proofs.Unless.{OnAnswer, unless, on_all, map_answer}
 use Rattle.causes.specs.Counts.{Rose}
@@ -42,7 +42,7 @@ refused_as what file o NoMemory content is any = absurd is
 -- ---- what files may hold
 
 pub input_whole : (told : Option Contents) (what : Quantity) (file : List ℕ) (bytes : Vec ℕ Global) → length bytes.items ≤ greatest what → IfSome told (λ held. held file ≡ Some bytes.items)
-    → OnContents told (λ held. IsInput (Whole bytes) (input_of what file (held file)))
+    → OnContents told (λ held. IsInput (Value bytes) (input_of what file (held file)))
 input_whole None what file bytes le is = record { files = λ name. Some bytes.items; may = tt; holds = fits what file bytes.items le }
 input_whole (Some held) what file bytes le is = record { files = held; may = refl; holds = ap (λ c. input_of what file c) is ∙ fits what file bytes.items le }
 
@@ -69,16 +69,16 @@ pub then_err : {A : Type 0} (r : Result A Outcome) (Answers : A → Outcome → 
 then_err r Answers o is = subst (λ s. Then s Answers o) (sym is) refl
 
 -- an input that was read whole, of which this is answered
-pub whole_then : {E : Type 0} (told : Option Contents) (what : Quantity) (file : List ℕ) (input : Input) (bytes : Vec ℕ Global) (spelled : List ℕ) (Answers : List ℕ → Outcome → Type 0) (r : Result Outcome E)
-    → input ≡ Whole bytes → spelled ≡ bytes.items → OnContents told (λ held. IsInput input (input_of what file (held file))) → OnAnswer (Answers spelled) r
+pub whole_then : {E : Type 0} (told : Option Contents) (what : Quantity) (file : List ℕ) (input : Given (Vec ℕ Global)) (bytes : Vec ℕ Global) (spelled : List ℕ) (Answers : List ℕ → Outcome → Type 0) (r : Result Outcome E)
+    → input ≡ Value bytes → spelled ≡ bytes.items → OnContents told (λ held. IsInput input (input_of what file (held file))) → OnAnswer (Answers spelled) r
     → OnAnswer (λ o. OnContents told (λ held. Then (input_of what file (held file)) Answers o)) r
 whole_then told what file input bytes spelled Answers r is spells x = map_answer (Answers spelled) (λ o. OnContents told (λ held. Then (input_of what file (held file)) Answers o)) r
-    (λ o a. map_contents told (λ held. IsInput (Whole bytes) (input_of what file (held file))) (λ held. Then (input_of what file (held file)) Answers o)
+    (λ o a. map_contents told (λ held. IsInput (Value bytes) (input_of what file (held file))) (λ held. Then (input_of what file (held file)) Answers o)
     (λ held e. then_ok (input_of what file (held file)) spelled Answers o (e ∙ ap Ok (sym spells)) a)
     (subst (λ i. OnContents told (λ held. IsInput i (input_of what file (held file)))) is x))
 
 -- one that was refused
-pub refused_then : (told : Option Contents) (what : Quantity) (file : List ℕ) (input : Input) (o : Outcome) (Answers : List ℕ → Outcome → Type 0)
+pub refused_then : (told : Option Contents) (what : Quantity) (file : List ℕ) (input : Given (Vec ℕ Global)) (o : Outcome) (Answers : List ℕ → Outcome → Type 0)
     → input ≡ Refused o → OnContents told (λ held. IsInput input (input_of what file (held file)))
     → UnlessFault o.status (OnContents told (λ held. Then (input_of what file (held file)) Answers o))
 refused_then told what file input o Answers is x =

@@ -3,6 +3,7 @@
 #![tactic(auto)]
 
 mod fault;
+mod given;
 mod input;
 mod lines;
 mod loading;
@@ -13,9 +14,10 @@ mod status;
 mod values;
 
 pub use fault::WordsFault;
-pub use input::{Input, read_input};
+pub use given::Given;
+pub use input::read_input;
 pub use lines::{kind_name, numbered, push_kind, push_result};
-pub use loading::{Loaded, load};
+pub use loading::load;
 pub use outcome::{Outcome, about_file, over_limit, plain, push_number};
 pub use reading::{Kind, Options, Reading, read_words};
 pub use refused::refused_dump;

@@ -1,13 +1,16 @@
 //! Modules from their bytes, or what is answered in their place.
 
-ghost use Rattle.std.specs.Prelude.{◌≡◌, ◌≢◌, ◌++◌, IfOk, OnOk, codes};
+ghost use Rattle.std.specs.Prelude.{◌≡◌, ◌++◌, IfOk, OnOk, codes};
 ghost use Rattle.wasm_decode.specs.Decode.{module_from};
 ghost use Rattle.std.specs.Fmt.{decimal};
 ghost use Rattle.commands.specs.Refusal.{place_name, invalid};
 ghost use Rattle.commands.specs.Loading.{undecoded};
 ghost use Rattle.commands.specs.Texts.{ended};
-ghost use Rattle.commands.specs.calls.Loaded.{IsLoaded, IfTurnedDown};
+ghost use Rattle.commands.specs.calls.Given.{IfRefused};
+ghost use Rattle.commands.specs.calls.Loaded.{IsLoaded};
+ghost use Rattle.commands.specs.calls.Ended.{Ended};
 
+use crate::given::Given;
 use crate::outcome::{Outcome, over_limit, push_number};
 use crate::status::Status;
 use causes::NoMemory;
@@ -16,13 +19,6 @@ use std::alloc::Global;
 use wasm_decode::{DecodeFault, decode};
 use wasm_syntax::Place;
 use wasm_validate::{ValidateFault, Validated, validate};
-
-/// A valid module within the limits, or what is answered in its place.
-#[derive(Drop)]
-pub enum Loaded {
-    Valid(Validated),
-    TurnedDown(Outcome),
-}
 
 /// Adds the name of a place.
 #[tactic(auto, unfolding(crate::specs::Refusal::place_name))]
@@ -86,8 +82,7 @@ fn bad_import(alloc: Global, index: u32) -> Result<Outcome, NoMemory>
 /// Why bytes are refused as a module.
 fn undecoded(alloc: Global, fault: DecodeFault) -> Result<Outcome, NoMemory>
     ensures value { IfOk result (λ o. o ≡ undecoded fault) }
-    ensures memory { IfOk result (λ o. o.status ≢ Status.NoMemory) }
-    ensures fault { IfOk result (λ o. o.status ≢ Status.FileFault) }
+    ensures ended { IfOk result (Ended (λ _. ⊥)) }
 {
     match fault {
         DecodeFault::Malformed { at } => {
@@ -100,21 +95,21 @@ fn undecoded(alloc: Global, fault: DecodeFault) -> Result<Outcome, NoMemory>
     }
 }
 
-/// Loads the module that the bytes spell, and validates it.
-pub fn load(alloc: Global, bytes: &[u8]) -> Result<Loaded, NoMemory>
+/// The module that the bytes spell, where it is valid and within the limits, or what is answered in
+/// its place.
+pub fn load(alloc: Global, bytes: &[u8]) -> Result<Given<Validated>, NoMemory>
     ensures told { IfOk result (λ loaded. IsLoaded loaded (module_from bytes.now)) }
-    ensures fault { IfOk result (IfTurnedDown (λ o. o.status ≢ Status.FileFault)) }
-    ensures memory { IfOk result (IfTurnedDown (λ o. o.status ≢ Status.NoMemory)) }
+    ensures ended { IfOk result (IfRefused (Ended (λ _. ⊥))) }
 {
     let m = match decode(alloc, bytes) {
         Ok(m) => m,
-        Err(fault) => return Ok(Loaded::TurnedDown(undecoded(alloc, fault)?)),
+        Err(fault) => return Ok(Given::Refused(undecoded(alloc, fault)?)),
     };
     let refusal = match validate(alloc, m) {
-        Ok(valid) => return Ok(Loaded::Valid(valid)),
+        Ok(valid) => return Ok(Given::Value(valid)),
         Err(ValidateFault::Invalid { place }) => invalid(alloc, place)?,
         Err(ValidateFault::Limit { what, count }) => over_limit(alloc, what, count)?,
         Err(ValidateFault::NoMemory) => return Err(NoMemory),
     };
-    Ok(Loaded::TurnedDown(refusal))
+    Ok(Given::Refused(refusal))
 }

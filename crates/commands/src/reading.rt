@@ -1,9 +1,11 @@
 //! The words behind a command: plain words and options.
 
-ghost use Rattle.std.specs.Prelude.{◌≡◌, ◌<◌, ◌≤◌, ◌++◌, ◌∷◌, [], true, false, length, map, OnOk, IfOk, IfSome, MatchOption};
+ghost use Rattle.std.specs.Prelude.{◌≡◌, ◌<◌, ◌≤◌, ◌++◌, ◌∷◌, [], true, false, length, map, OnOk, IfOk, IfSome};
+ghost use Rattle.std.specs.Prelude.{MatchOption};
 ghost use Rattle.std.specs.Option.{option_map};
 ghost use Rattle.std.specs.String.{string_bytes};
-ghost use Rattle.commands.specs.Reading.{is_dashed, is_among, is_distinct, names, name_of, value_of, given_value, nothing, kind_of, read_words, no_options};
+ghost use Rattle.commands.specs.Reading.{is_dashed, is_among, is_distinct, names, name_of, value_of, given_value};
+ghost use Rattle.commands.specs.Reading.{nothing, kind_of, read_words, no_options};
 ghost use Rattle.commands.specs.inner.Progress.{plain_also, plain_behind, given_also, outcome};
 
 use causes::NoMemory;

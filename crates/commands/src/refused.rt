@@ -1,8 +1,9 @@
 //! Dumps that are refused.
 
-ghost use Rattle.std.specs.Prelude.{◌≡◌, ◌≢◌, ◌++◌, IfOk};
+ghost use Rattle.std.specs.Prelude.{◌≡◌, ◌++◌, IfOk};
 ghost use Rattle.std.specs.Fmt.{decimal};
 ghost use Rattle.commands.specs.Refused.{bad_dump, refused};
+ghost use Rattle.commands.specs.calls.Ended.{Ended};
 
 use crate::{Outcome, Status, over_limit, push_number};
 use causes::NoMemory;
@@ -39,8 +40,7 @@ fn bad_part(alloc: Global, part: DumpPart) -> Result<Outcome, NoMemory>
 /// What is answered where a dump is refused.
 pub fn refused_dump(alloc: Global, fault: DumpFault) -> Result<Outcome, NoMemory>
     ensures value { IfOk result (λ o. o ≡ refused fault) }
-    ensures memory { IfOk result (λ o. o.status ≢ Status.NoMemory) }
-    ensures fault { IfOk result (λ o. o.status ≢ Status.FileFault) }
+    ensures ended { IfOk result (Ended (λ _. ⊥)) }
 {
     match fault {
         DumpFault::Malformed { at } => bad_at(alloc, "malformed at ", at),

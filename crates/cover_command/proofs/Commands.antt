@@ -15,17 +15,18 @@ use Rattle.pm_outside.specs.Written.{OnTold}
 use Rattle.host_set.specs.Sets.{DeviceState}
 use Rattle.commands.specs.Inputs.{input_of, Then}
 use Rattle.commands.specs.Texts.{file_fault}
-use Rattle.commands.specs.calls.Input.{IsInput, IfRefused}
+use Rattle.commands.specs.calls.Ended.{Ended}
+use Rattle.commands.specs.calls.Given.{IfRefused}
+use Rattle.commands.specs.calls.Input.{IsInput}
 use Rattle.commands.specs.calls.Loaded.{IsLoaded}
 use Rattle.commands.specs.Told.{UnlessFault, OnContents}
 use Rattle.commands.specs.declared.outcome.Outcome.{Outcome}
 use Rattle.commands.specs.declared.status.Status.{Status}
 use Rattle.commands.specs.declared.status.Status.TheVariants as status
-use Rattle.commands.specs.declared.loading.Loaded.{Loaded}
-use Rattle.commands.specs.declared.loading.Loaded.TheVariants.{Valid as IsValid, TurnedDown}
-use Rattle.commands.specs.declared.input.Input.{Input}
-use Rattle.commands.specs.declared.input.Input.TheVariants as inputs
+use Rattle.commands.specs.declared.given.Given.{Given}
+use Rattle.commands.specs.declared.given.Given.TheVariants as givens
 use Rattle.commands.proofs.Unless.{unless, map_answer, all_answers}
+use Rattle.commands.proofs.Givens.{of_refusal}
 use Rattle.commands.proofs.ReadFiles.{map_contents, then_ok, then_err}
 use Rattle.run_words.specs.declared.cover.CoverWords.{CoverWords}
 use Rattle.run_session.specs.Stop.{Stop, no_memory, file_failed, OnStop}
@@ -34,9 +35,7 @@ use Rattle.run_command.specs.RunAnswer.{AnsweredOn, IfRefusal, IsUntouched, bad_
 use Rattle.run_command.specs.Stops.{NothingDone}
 use Rattle.run_command.specs.calls.Scripts.{script_result, IsAsked, IsRepliesFault}
 use Rattle.run_command.specs.declared.scripts.Script.{Script}
-use Rattle.run_command.specs.declared.scripts.Script.TheVariants.{Whole, Bad}
-use Rattle.run_command.specs.declared.scripts.Asked.{Asked}
-use Rattle.run_command.specs.declared.scripts.Asked.TheVariants.{Read, Refused}
+use Rattle.run_command.specs.declared.scripts.Script.TheVariants.{Bad}
 use Rattle.cover_command.specs.CoverAnswer.{ModuleAnswer, CoverAnswer, IsReadBy}
 use Rattle.cover_command.specs.Stops.{CoverStops}
 use Rattle.cover_command.specs.inner.Steps.{IsAnswered, ScriptAnswer, BytesAnswer, SourceAnswer, ModuleStops, ScriptStops, BytesStops, SourceStops, StepStops}
@@ -119,14 +118,14 @@ module _ (before after : List DeviceState) (w : CoverWords) (r : Result Outcome 
 
   -- ---- the bytes
 
-  pub with_module : (script : Result (Option (List Reply)) Outcome) (bytes : List ℕ) (loaded : Loaded) (m : Module) → loaded ≡ IsValid m → IsLoaded loaded (module_from bytes)
+  pub with_module : (script : Result (Option (List Reply)) Outcome) (bytes : List ℕ) (loaded : Given Module) (m : Module) → loaded ≡ givens.Value m → IsLoaded loaded (module_from bytes)
       → IfOk r (IsAnswered (ScriptAnswer before after w script bytes m) before after) → IfOk r (IsAnswered (BytesAnswer before after w script bytes) before after)
   with_module script bytes loaded m is known x =
       map_ok r (IsAnswered (ScriptAnswer before after w script bytes m) before after) (IsAnswered (BytesAnswer before after w script bytes) before after)
       (λ o. carried before after (ScriptAnswer before after w script bytes m) (BytesAnswer before after w script bytes) o
       (λ given a. if_loaded (λ k. ScriptAnswer before after w script bytes k given) (module_from bytes) m o (subst (λ l. IsLoaded l (module_from bytes)) is known) a)) x
 
-  pub module_stops : (script : Result (Option (List Reply)) Outcome) (bytes : List ℕ) (loaded : Loaded) (m : Module) → loaded ≡ IsValid m → IsLoaded loaded (module_from bytes)
+  pub module_stops : (script : Result (Option (List Reply)) Outcome) (bytes : List ℕ) (loaded : Given Module) (m : Module) → loaded ≡ givens.Value m → IsLoaded loaded (module_from bytes)
       → OnErr r ((after ≡ before) ⊎ ScriptStops before after w m script) → OnErr r ((after ≡ before) ⊎ BytesStops before after w bytes script)
   module_stops script bytes loaded m is known x = map_err r ((after ≡ before) ⊎ ScriptStops before after w m script) ((after ≡ before) ⊎ BytesStops before after w bytes script) either x
     where
@@ -140,18 +139,18 @@ module _ (before after : List DeviceState) (w : CoverWords) (r : Result Outcome 
     nothing_done : after ≡ before → told' ≡ told → NothingDone no_memory (IsReadBy w) before after told told'
     nothing_done devices same = record { devices = devices; files = same; file = tt }
 
-    pub with_replies : (bytes : List ℕ) (asked : Asked) (script : Script) → asked ≡ Read script → OnContents told (λ held. IsAsked asked (replies_input w.replies held))
+    pub with_replies : (bytes : List ℕ) (asked : Given Script) (script : Script) → asked ≡ givens.Value script → OnContents told (λ held. IsAsked asked (replies_input w.replies held))
         → IfOk r (IsAnswered (BytesAnswer before after w (script_result script) bytes) before after)
         → IfOk r (λ o. UnlessFault o.status (OnContents told (λ later. IsAnswered (SourceAnswer before after w later bytes) before after o)))
     with_replies bytes asked script is known x =
         map_answer (IsAnswered (BytesAnswer before after w (script_result script) bytes) before after) (λ o. OnContents told (λ later. IsAnswered (SourceAnswer before after w later bytes) before after o)) r
-        (λ o a. map_contents told (λ held. IsAsked (Read script) (replies_input w.replies held)) (λ later. IsAnswered (SourceAnswer before after w later bytes) before after o)
+        (λ o a. map_contents told (λ held. IsAsked (givens.Value script) (replies_input w.replies held)) (λ later. IsAnswered (SourceAnswer before after w later bytes) before after o)
         (λ held k. carried before after (BytesAnswer before after w (script_result script) bytes) (SourceAnswer before after w held bytes) o
         (λ given b. then_ok (replies_input w.replies held) k.0 (λ s. BytesAnswer before after w (script_of s) bytes given) o k.1 (subst (λ s. BytesAnswer before after w s bytes given o) k.2 b)) a)
         (subst (λ y. OnContents told (λ held. IsAsked y (replies_input w.replies held))) is known))
         (all_answers (IsAnswered (BytesAnswer before after w (script_result script) bytes) before after) r x)
 
-    pub replies_stop : (bytes : List ℕ) (asked : Asked) (script : Script) → told' ≡ told → asked ≡ Read script → OnContents told (λ held. IsAsked asked (replies_input w.replies held))
+    pub replies_stop : (bytes : List ℕ) (asked : Given Script) (script : Script) → told' ≡ told → asked ≡ givens.Value script → OnContents told (λ held. IsAsked asked (replies_input w.replies held))
         → OnErr r ((after ≡ before) ⊎ BytesStops before after w bytes (script_result script)) → IfOk r (λ o. o.status ≡ status.FileFault → ⊥)
         → OnStop (StepStops before after w told told' (SourceStops before after w bytes told)) r
     replies_stop bytes asked script same is known x never = want_only (StepStops before after w told told' (SourceStops before after w bytes told)) ((after ≡ before) ⊎ BytesStops before after w bytes (script_result script)) r either x never
@@ -161,7 +160,7 @@ module _ (before after : List DeviceState) (w : CoverWords) (r : Result Outcome 
         either (inr y) = inr (
           refl,
           same,
-          map_contents told (λ held. IsAsked (Read script) (replies_input w.replies held)) (λ later. (replies : Option (List ℕ)) × (replies_input w.replies later ≡ Ok replies) × BytesStops before after w bytes (script_of replies))
+          map_contents told (λ held. IsAsked (givens.Value script) (replies_input w.replies held)) (λ later. (replies : Option (List ℕ)) × (replies_input w.replies later ≡ Ok replies) × BytesStops before after w bytes (script_of replies))
               (λ held k. (k.0, k.1, subst (λ s. BytesStops before after w bytes s) k.2 y)) (subst (λ a. OnContents told (λ held. IsAsked a (replies_input w.replies held))) is known),
         )
 
@@ -187,22 +186,22 @@ module _ (before after : List DeviceState) (w : CoverWords) (r : Result Outcome 
           files = subst (λ t. OnTold (HoldThen []) told t) (sym same) (none_held told);
         }
 
-    pub with_source : (name : List ℕ) (input : Input) (bytes : Vec ℕ Global) (spelled : List ℕ) → told' ≡ told → name ≡ w.source → input ≡ inputs.Whole bytes → spelled ≡ bytes.items
+    pub with_source : (name : List ℕ) (input : Given (Vec ℕ Global)) (bytes : Vec ℕ Global) (spelled : List ℕ) → told' ≡ told → name ≡ w.source → input ≡ givens.Value bytes → spelled ≡ bytes.items
         → OnContents told (λ held. IsInput input (input_of ModuleBytes name (held name)))
         → IfOk r (λ o. UnlessFault o.status (OnContents told (λ later. IsAnswered (SourceAnswer before after w later spelled) before after o)))
         → IfOk r (λ o. UnlessFault o.status (AnsweredOn (CoverAnswer before after w) told told' o))
     with_source name input bytes spelled same named is spells known x =
         map_answer (λ o. OnContents told (λ later. IsAnswered (SourceAnswer before after w later spelled) before after o)) (λ o. AnsweredOn (CoverAnswer before after w) told told' o) r
-        (λ o a. whole_answer o same (map_contents told (λ held. IsInput (inputs.Whole bytes) (input_of ModuleBytes w.source (held w.source)))
+        (λ o a. whole_answer o same (map_contents told (λ held. IsInput (givens.Value bytes) (input_of ModuleBytes w.source (held w.source)))
         (λ first. OnContents told (λ later. IsAnswered (λ given o. Then (input_of ModuleBytes w.source (first w.source)) (λ bytes. SourceAnswer before after w later bytes given) o) before after o))
         (λ first e. map_contents told (λ later. IsAnswered (SourceAnswer before after w later spelled) before after o) (λ later. IsAnswered (λ given o. Then (input_of ModuleBytes w.source (first w.source)) (λ bytes. SourceAnswer before after w later bytes given) o) before after o)
         (λ later b. carried before after (SourceAnswer before after w later spelled) (λ given o. Then (input_of ModuleBytes w.source (first w.source)) (λ bytes. SourceAnswer before after w later bytes given) o) o
         (λ given c. then_ok (input_of ModuleBytes w.source (first w.source)) spelled (λ bytes. SourceAnswer before after w later bytes given) o (e ∙ ap Ok (sym spells)) c) b) a)
-        (subst (λ n. OnContents told (λ held. IsInput (inputs.Whole bytes) (input_of ModuleBytes n (held n)))) named (subst (λ i. OnContents told (λ held. IsInput i (input_of ModuleBytes name (held name)))) is known))))
+        (subst (λ n. OnContents told (λ held. IsInput (givens.Value bytes) (input_of ModuleBytes n (held n)))) named (subst (λ i. OnContents told (λ held. IsInput i (input_of ModuleBytes name (held name)))) is known))))
         x
 
     -- what is left behind a step is what the command leaves
-    source_stop : (name : List ℕ) (input : Input) (bytes : Vec ℕ Global) (spelled : List ℕ) → name ≡ w.source → input ≡ inputs.Whole bytes → spelled ≡ bytes.items
+    source_stop : (name : List ℕ) (input : Given (Vec ℕ Global)) (bytes : Vec ℕ Global) (spelled : List ℕ) → name ≡ w.source → input ≡ givens.Value bytes → spelled ≡ bytes.items
         → OnContents told (λ held. IsInput input (input_of ModuleBytes name (held name)))
         → (stop : Stop) → StepStops before after w told told' (SourceStops before after w spelled told) stop → CoverStops stop w before after told told'
     source_stop name input bytes spelled named is spells known stop (inl nothing) = inl nothing
@@ -214,9 +213,9 @@ module _ (before after : List DeviceState) (w : CoverWords) (r : Result Outcome 
           same,
           record {
             bytes = spelled;
-            read = map_contents told (λ held. IsInput (inputs.Whole bytes) (input_of ModuleBytes w.source (held w.source))) (λ first. input_of ModuleBytes w.source (first w.source) ≡ Ok spelled)
+            read = map_contents told (λ held. IsInput (givens.Value bytes) (input_of ModuleBytes w.source (held w.source))) (λ first. input_of ModuleBytes w.source (first w.source) ≡ Ok spelled)
                 (λ held e. e ∙ ap Ok (sym spells))
-                (subst (λ n. OnContents told (λ held. IsInput (inputs.Whole bytes) (input_of ModuleBytes n (held n)))) named (subst (λ i. OnContents told (λ held. IsInput i (input_of ModuleBytes name (held name)))) is known));
+                (subst (λ n. OnContents told (λ held. IsInput (givens.Value bytes) (input_of ModuleBytes n (held n)))) named (subst (λ i. OnContents told (λ held. IsInput i (input_of ModuleBytes name (held name)))) is known));
             replies = k.0;
             replies_read = record { files = y.files; may = y.may; holds = k.1 };
             decoded = b.0;
@@ -230,7 +229,7 @@ module _ (before after : List DeviceState) (w : CoverWords) (r : Result Outcome 
           },
         )
 
-    pub source_stops : (name : List ℕ) (input : Input) (bytes : Vec ℕ Global) (spelled : List ℕ) → name ≡ w.source → input ≡ inputs.Whole bytes → spelled ≡ bytes.items
+    pub source_stops : (name : List ℕ) (input : Given (Vec ℕ Global)) (bytes : Vec ℕ Global) (spelled : List ℕ) → name ≡ w.source → input ≡ givens.Value bytes → spelled ≡ bytes.items
         → OnContents told (λ held. IsInput input (input_of ModuleBytes name (held name)))
         → OnStop (StepStops before after w told told' (SourceStops before after w spelled told)) r → OnStop (λ stop. CoverStops stop w before after told told') r
     source_stops name input bytes spelled named is spells known x =
@@ -253,17 +252,17 @@ module _ (devices : List DeviceState) (w : CoverWords) where
   pub bad_status : {E : Type 0} (r : Result Outcome E) (line : ℕ) (s : Status) → (status.BadReplies ≡ s → ⊥) → IfOk r (λ o. o ≡ bad_replies line) → IfOk r (λ o. o.status ≡ s → ⊥)
   bad_status r line s apart x = map_ok r (λ o. o ≡ bad_replies line) (λ o. o.status ≡ s → ⊥) (λ o e is. apart (sym (ap (λ (y : Outcome). y.status) e) ∙ is)) x
 
-  pub module_refused : (o : Outcome) (script : Result (Option (List Reply)) Outcome) (bytes : List ℕ) (loaded : Loaded) → loaded ≡ TurnedDown o → IsLoaded loaded (module_from bytes)
+  pub module_refused : (o : Outcome) (script : Result (Option (List Reply)) Outcome) (bytes : List ℕ) (loaded : Given Module) → loaded ≡ givens.Refused o → IsLoaded loaded (module_from bytes)
       → IsAnswered (BytesAnswer devices devices w script bytes) devices devices o
   module_refused o script bytes loaded is x =
       untouched devices (BytesAnswer devices devices w script bytes) o
       (turned_down (λ m. ScriptAnswer devices devices w script bytes m []) (module_from bytes) o (subst (λ l. IsLoaded l (module_from bytes)) is x))
 
   module _ (told told' : Option Contents) (same : told' ≡ told) where
-    pub replies_refused : (o : Outcome) (bytes : List ℕ) (asked : Asked) → asked ≡ Refused o → OnContents told (λ held. IsAsked asked (replies_input w.replies held))
+    pub replies_refused : (o : Outcome) (bytes : List ℕ) (asked : Given Script) → asked ≡ givens.Refused o → OnContents told (λ held. IsAsked asked (replies_input w.replies held))
         → UnlessFault o.status (OnContents told (λ later. IsAnswered (SourceAnswer devices devices w later bytes) devices devices o))
     replies_refused o bytes asked is x =
-        let k : OnContents told (λ held. IsAsked (Refused o) (replies_input w.replies held)) = subst (λ a. OnContents told (λ held. IsAsked a (replies_input w.replies held))) is x in
+        let k : OnContents told (λ held. IsAsked (givens.Refused o) (replies_input w.replies held)) = subst (λ a. OnContents told (λ held. IsAsked a (replies_input w.replies held))) is x in
         unless o.status (replies_input w.replies k.files ≡ Err o) (OnContents told (λ later. IsAnswered (SourceAnswer devices devices w later bytes) devices devices o))
         (λ e. record {
           files = k.files;
@@ -272,11 +271,11 @@ module _ (devices : List DeviceState) (w : CoverWords) where
         })
         k.holds
 
-    pub source_refused : (o : Outcome) (name : List ℕ) (input : Input) → name ≡ w.source → input ≡ inputs.Refused o → OnContents told (λ held. IsInput input (input_of ModuleBytes name (held name)))
+    pub source_refused : (o : Outcome) (name : List ℕ) (input : Given (Vec ℕ Global)) → name ≡ w.source → input ≡ givens.Refused o → OnContents told (λ held. IsInput input (input_of ModuleBytes name (held name)))
         → UnlessFault o.status (AnsweredOn (CoverAnswer devices devices w) told told' o)
     source_refused o name input named is x =
-        let k : OnContents told (λ held. IsInput (inputs.Refused o) (input_of ModuleBytes w.source (held w.source))) =
-        subst (λ n. OnContents told (λ held. IsInput (inputs.Refused o) (input_of ModuleBytes n (held n)))) named (subst (λ i. OnContents told (λ held. IsInput i (input_of ModuleBytes name (held name)))) is x) in
+        let k : OnContents told (λ held. IsInput (givens.Refused o) (input_of ModuleBytes w.source (held w.source))) =
+        subst (λ n. OnContents told (λ held. IsInput (givens.Refused o) (input_of ModuleBytes n (held n)))) named (subst (λ i. OnContents told (λ held. IsInput i (input_of ModuleBytes name (held name)))) is x) in
         unless o.status (input_of ModuleBytes w.source (k.files w.source) ≡ Err o) (AnsweredOn (CoverAnswer devices devices w) told told' o)
         (λ e. record {
           first = k.files;
@@ -311,10 +310,10 @@ module _ (devices : List DeviceState) (w : CoverWords) where
       memory = inl (record { devices = refl; files = same; file = tt });
     }
 
-    pub source_failed : (before now : ℕ) (name : List ℕ) (input : Input) (o : Outcome) → input ≡ inputs.Refused o → name ≡ w.source
-        → IfRefused (λ o. o.status ≡ status.FileFault → (o ≡ file_fault name) × Rose before now) input → OnStop (λ stop. CoverStops stop w devices devices told told') (Ok o)
+    pub source_failed : (before now : ℕ) (name : List ℕ) (input : Given (Vec ℕ Global)) (o : Outcome) → input ≡ givens.Refused o → name ≡ w.source
+        → IfRefused (Ended (λ o. (o ≡ file_fault name) × Rose before now)) input → OnStop (λ stop. CoverStops stop w devices devices told told') (Ok o)
     source_failed before now name input o is named x = λ faulted.
-        let known : (o ≡ file_fault name) × Rose before now = subst (λ i. IfRefused (λ o. o.status ≡ status.FileFault → (o ≡ file_fault name) × Rose before now) i) is x faulted in
+        let known : (o ≡ file_fault name) × Rose before now = (of_refusal input o (Ended (λ o. (o ≡ file_fault name) × Rose before now)) is x).fault faulted in
         record {
           file = name;
           named = known.0;

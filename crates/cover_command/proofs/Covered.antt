@@ -5,7 +5,7 @@ use Rattle.std.specs.List.{flat_map, AllByRecursion}
 use Rattle.std.specs.Option.{option_or, option_map}
 use Rattle.std.specs.BTreeMap.{BTreeMap, IsOrdered}
 use Rattle.std.proofs.lemmas.List.Sums.{count_by-le-length}
-use Rattle.cover_command.specs.declared.merging.FileLine.{FileLine}
+use Rattle.cover_command.specs.declared.merging.NamedLine.{NamedLine}
 use Rattle.wasm_syntax.specs.declared.module.ModuleParts.{ModuleParts as Module}
 use Rattle.machine_steps.specs.Places.{Place}
 use Rattle.dwarf_line.specs.declared.lines.Row.{Row}
@@ -113,7 +113,7 @@ module _ (tables : List Lines) (x : SourceInformation) (are : tables ≡ readabl
           omega (arith, most, same, all, few)
 
       -- what was written behind the ending
-      pub covered : (counts : BTreeMap FileLine ℕ) (before behind after : List ℕ) → length seen < 2 ^ 64
+      pub covered : (counts : BTreeMap NamedLine ℕ) (before behind after : List ℕ) → length seen < 2 ^ 64
           → ((q : SourceLine) → merged tables c.lines q < 2 ^ 64 → counted_on counts q ≡ merged tables c.lines q)
           → (AllByRecursion (λ (l : LineCount). 0 < l.steps) c.lines → HaveSteps counts)
           → IsOrdered file_line_cmp counts
@@ -131,7 +131,7 @@ module _ (tables : List Lines) (x : SourceInformation) (are : tables ≡ readabl
       }
 
       -- the same as the code comes to it
-      pub covered_by : (counts : BTreeMap FileLine ℕ) (before behind after : List ℕ) (told : List LineCount) (unplaced steps : ℕ) → told ≡ c.lines → unplaced ≡ c.unplaced → steps ≡ c.steps → length seen < 2 ^ 64
+      pub covered_by : (counts : BTreeMap NamedLine ℕ) (before behind after : List ℕ) (told : List LineCount) (unplaced steps : ℕ) → told ≡ c.lines → unplaced ≡ c.unplaced → steps ≡ c.steps → length seen < 2 ^ 64
           → ((q : SourceLine) → merged tables told q < 2 ^ 64 → counted_on counts q ≡ merged tables told q)
           → (AllByRecursion (λ (l : LineCount). 0 < l.steps) told → HaveSteps counts)
           → IsOrdered file_line_cmp counts

@@ -36,7 +36,7 @@ use Rattle.run_command.specs.Hosting.{start_text}
 use Rattle.run_command.specs.AllRan.{end_text}
 use Rattle.run_command.specs.RunAnswer.{hosting, Logs, StartsOr, IfRefusal}
 use Rattle.run_command.specs.calls.Begun.{HasBegun}
-use Rattle.run_command.specs.declared.running.Begun.TheVariants.{Ready, Refused}
+use Rattle.commands.specs.declared.given.Given.TheVariants as givens
 use Rattle.run_command.proofs.Answering.{HostFacts, line_is, uses_up, has_failed}
 use Rattle.run_command.proofs.Beginning.{starts_alike}
 use Rattle.run_command.proofs.Hostings.{Began, GaveBack, host_facts, by_script, logs, rose_on}
@@ -320,7 +320,7 @@ module _ (before after : List DeviceState) (script : Option (List Reply)) (w : C
 -- ---- as the code comes to it
 
 module _ (before after : List DeviceState) (script : Option (List Reply)) (w : CoverWords) (m : Module) (s s' : State) (h0 h1 : HostsState) (a : RunEnd) (t t' : Counts)
-    (whole : IsModule m) (valid : Valid m) (begun : HasBegun (λ i type. serves h0 i) m (called w) (Ready s)) (began : Began m.imports before script h0) (same : origin_of h1 ≡ origin_of h0) (back : GaveBack h1 after)
+    (whole : IsModule m) (valid : Valid m) (begun : HasBegun (λ i type. serves h0 i) m (called w) (givens.Value s)) (began : Began m.imports before script h0) (same : origin_of h1 ≡ origin_of h0) (back : GaveBack h1 after)
     (came : Came w false (is_used_up h1) s s' a t t' (calls_of h0) (calls_of h1)) where
   starts : start_text (hosting before script false) m (called w) ≡ None
   starts = sym (starts_alike m h0 before script false valid began.devices_are began.script_is (called w)) ∙ begun.0
@@ -365,7 +365,7 @@ no_calls = []
 
 -- nothing was run, and the devices were given back
 pub refused_told : (before after : List DeviceState) (script : Option (List Reply)) (w : CoverWords) (bytes : List ℕ) (m : Module) (h : HostsState) (o : Outcome)
-    → Valid m → Began m.imports before script h → after ≡ h.devices → HasBegun (λ i type. serves h i) m (called w) (Refused o)
+    → Valid m → Began m.imports before script h → after ≡ h.devices → HasBegun (λ i type. serves h i) m (called w) (givens.Refused o)
     → IsAnswered (λ given. ModuleAnswer before after w given script bytes m) before after o
 refused_told before after script w bytes m h o valid began back (cause, starts, is) = record {
   given = [];

@@ -1,6 +1,6 @@
 //! The command on the module in a file.
 
-ghost use Rattle.std.specs.Prelude.{◌≡◌, ◌≢◌, ◌≤◌, ◌⊎◌, Ok, IfOk, OnErr, is_some};
+ghost use Rattle.std.specs.Prelude.{◌≡◌, ◌⊎◌, Ok, IfOk, OnErr};
 ghost use Rattle.causes.specs.Counts.{Rose};
 ghost use Rattle.wasm_decode.specs.Decode.{module_from};
 ghost use Rattle.host_set.specs.Sets.{names, AreDistinct};
@@ -11,14 +11,17 @@ ghost use Rattle.run_command.specs.Stops.{NothingDone};
 ghost use Rattle.run_command.specs.calls.Scripts.{script_result};
 ghost use Rattle.cover_command.specs.CoverAnswer.{CoverAnswer, IsReadBy};
 ghost use Rattle.cover_command.specs.Stops.{CoverStops};
-ghost use Rattle.cover_command.specs.inner.Steps.{IsAnswered, ScriptAnswer, BytesAnswer, SourceAnswer, ScriptStops, BytesStops, SourceStops, StepStops};
+ghost use Rattle.cover_command.specs.inner.Steps.{IsAnswered, ScriptAnswer, BytesAnswer, SourceAnswer, ScriptStops};
+ghost use Rattle.cover_command.specs.inner.Steps.{BytesStops, SourceStops, StepStops};
+ghost use Rattle.pm_outside.specs.calls.Kept.{FilesKept};
+ghost use Rattle.commands.specs.calls.Ended.{Ended};
 
 use crate::covering::cover_valid;
 use causes::NoMemory;
-use commands::{Input, Loaded, Outcome, Status, load, read_input};
+use commands::{Given, Outcome, load, read_input};
 use host_set::Devices;
 use pm_outside::Files;
-use run_command::{Asked, Script, asked_script, bad_replies};
+use run_command::{Script, asked_script, bad_replies};
 use run_words::CoverWords;
 use std::alloc::Global;
 use wasm_syntax::Quantity;
@@ -42,8 +45,7 @@ fn cover_scripted<D: Devices>(
     ensures stops { OnErr result ((D.shown devices.new ≡ D.shown devices.old)
         ⊎ ScriptStops (D.shown devices.old) (D.shown devices.new)
         words.now source.now (script_result script)) }
-    ensures fault { IfOk result (λ o. o.status ≢ Status.FileFault) }
-    ensures memory { IfOk result (λ o. o.status ≢ Status.NoMemory) }
+    ensures ended { IfOk result (Ended (λ _. ⊥)) }
     ensures distinct { AreDistinct (names (D.shown devices.new)) }
 {
     match script {
@@ -68,14 +70,13 @@ fn cover_bytes<D: Devices>(
     ensures stops { OnErr result ((D.shown devices.new ≡ D.shown devices.old)
         ⊎ BytesStops (D.shown devices.old) (D.shown devices.new)
         words.now bytes.now (script_result script)) }
-    ensures fault { IfOk result (λ o. o.status ≢ Status.FileFault) }
-    ensures memory { IfOk result (λ o. o.status ≢ Status.NoMemory) }
+    ensures ended { IfOk result (Ended (λ _. ⊥)) }
     ensures distinct { AreDistinct (names (D.shown devices.new)) }
 {
     let loaded = load(alloc, bytes)?;
     match loaded {
-        Loaded::Valid(source) => cover_scripted(alloc, words, bytes, &source, script, devices),
-        Loaded::TurnedDown(refusal) => Ok(refusal),
+        Given::Value(source) => cover_scripted(alloc, words, bytes, &source, script, devices),
+        Given::Refused(refusal) => Ok(refusal),
     }
 }
 
@@ -96,18 +97,14 @@ fn cover_source<F: Files, D: Devices>(
         words.now (F.told files.old) (F.told files.new)
         (SourceStops (D.shown devices.old) (D.shown devices.new)
         words.now bytes.now (F.told files.old))) result }
-    ensures fault { IfOk result (λ o. o.status ≡ Status.FileFault
-        → Rose (F.faults files.old) (F.faults files.new)) }
-    ensures memory { IfOk result (λ o. o.status ≢ Status.NoMemory) }
+    ensures ended { IfOk result (Ended (λ _. Rose (F.faults files.old) (F.faults files.new))) }
     ensures distinct { AreDistinct (names (D.shown devices.new)) }
-    ensures same { F.told files.new ≡ F.told files.old }
-    ensures names { F.created files.new ≡ F.created files.old }
-    ensures later { F.faults files.old ≤ F.faults files.new }
+    ensures files { FilesKept F.told F.created F.faults files.old files.new }
 {
     let asked = asked_script(alloc, files, &words.replies)?;
     match asked {
-        Asked::Read(script) => cover_bytes(alloc, words, bytes, script, devices),
-        Asked::Refused(refusal) => Ok(refusal),
+        Given::Value(script) => cover_bytes(alloc, words, bytes, script, devices),
+        Given::Refused(refusal) => Ok(refusal),
     }
 }
 
@@ -130,17 +127,13 @@ pub fn cover_file<F: Files, D: Devices>(
         (F.told files.old) (F.told files.new) o)) }
     ensures stops { OnStop (λ stop. CoverStops stop words.now
         (D.shown devices.old) (D.shown devices.new) (F.told files.old) (F.told files.new)) result }
-    ensures fault { IfOk result (λ o. o.status ≡ Status.FileFault
-        → Rose (F.faults files.old) (F.faults files.new)) }
-    ensures memory { IfOk result (λ o. o.status ≢ Status.NoMemory) }
+    ensures ended { IfOk result (Ended (λ _. Rose (F.faults files.old) (F.faults files.new))) }
     ensures distinct { AreDistinct (names (D.shown devices.new)) }
-    ensures same { F.told files.new ≡ F.told files.old }
-    ensures names { F.created files.new ≡ F.created files.old }
-    ensures later { F.faults files.old ≤ F.faults files.new }
+    ensures files { FilesKept F.told F.created F.faults files.old files.new }
 {
     let input = read_input(alloc, files, words.source.as_str(), Quantity::ModuleBytes)?;
     match input {
-        Input::Whole(bytes) => cover_source(alloc, files, words, &bytes, devices),
-        Input::Refused(refusal) => Ok(refusal),
+        Given::Value(bytes) => cover_source(alloc, files, words, &bytes, devices),
+        Given::Refused(refusal) => Ok(refusal),
     }
 }

@@ -1,6 +1,6 @@
 //! The invocation on a valid module, with its steps counted.
 
-ghost use Rattle.std.specs.Prelude.{◌≡◌, ◌≢◌, ◌<◌, ◌^◌, ◌⊎◌, Ok, None, true, IfOk, OnErr};
+ghost use Rattle.std.specs.Prelude.{◌≡◌, ◌<◌, ◌^◌, ◌⊎◌, Ok, None, true, IfOk, OnErr};
 ghost use Rattle.wasm_decode.specs.Decode.{module_from};
 ghost use Rattle.machine_hosted.specs.calls.Answers.{HasCause};
 ghost use Rattle.host_set.specs.Sets.{AreDistinct, names};
@@ -8,16 +8,17 @@ ghost use Rattle.wasm_machine.specs.calls.Entries.{entry_fault};
 ghost use Rattle.cover_command.specs.CoverAnswer.{ModuleAnswer};
 ghost use Rattle.cover_command.specs.inner.Running.{Came};
 ghost use Rattle.cover_command.specs.inner.Steps.{IsAnswered, ModuleStops};
+ghost use Rattle.commands.specs.calls.Ended.{Ended};
 
 use crate::ending::answer_to;
 use causes::NoMemory;
-use commands::{Outcome, Status};
+use commands::{Given, Outcome};
 use host_devices::HostSide;
 use host_set::{Devices, Hosts};
 use machine_hosted::RunEnd;
 use machine_steps::Tally;
 use pm_text::Items;
-use run_command::{Begun, begin};
+use run_command::begin;
 use run_words::CoverWords;
 use std::alloc::Global;
 use std::{mem, slice};
@@ -71,8 +72,7 @@ pub(crate) fn cover_valid<D: Devices>(
         (D.shown devices.old) (D.shown devices.new)) }
     ensures stops { OnErr result ((D.shown devices.new ≡ D.shown devices.old)
         ⊎ ModuleStops (D.shown devices.old) (D.shown devices.new) words.now source.now script) }
-    ensures fault { IfOk result (λ o. o.status ≢ Status.FileFault) }
-    ensures memory { IfOk result (λ o. o.status ≢ Status.NoMemory) }
+    ensures ended { IfOk result (Ended (λ _. ⊥)) }
     ensures distinct { AreDistinct (names (D.shown devices.new)) }
 {
     let parts = source.module().parts();
@@ -85,13 +85,13 @@ pub(crate) fn cover_valid<D: Devices>(
         return Err(NoMemory);
     };
     match begun {
-        Begun::Ready(mut instance) => {
+        Given::Value(mut instance) => {
             let end = invoke(words, &mut instance, &mut hosts, &mut tally);
             let outcome = answer_to(alloc, bytes, source, &tally, &end, hosts.given());
             *devices = hosts.into_devices();
             outcome
         }
-        Begun::Refused(refusal) => {
+        Given::Refused(refusal) => {
             *devices = hosts.into_devices();
             Ok(refusal)
         }

@@ -18,7 +18,7 @@ use std::collections::BTreeMap;
 /// A line of a source file, by the text that names the file. They are ordered by the bytes of the
 /// text, and then by the line.
 #[derive(PartialEq, Eq, PartialOrd, Ord, Drop)]
-pub(crate) struct FileLine {
+pub(crate) struct NamedLine {
     pub file: String,
     pub line: u32,
 }
@@ -45,19 +45,19 @@ fn file_at(alloc: Global, tables: &Vec<&Lines<'_>>, spot: &Spot) -> Result<Text,
 }
 
 /// A line of a line program as one of a file.
-fn file_line(alloc: Global, tables: &Vec<&Lines<'_>>, spot: &Spot) -> Result<FileLine, NoMemory>
+fn file_line(alloc: Global, tables: &Vec<&Lines<'_>>, spot: &Spot) -> Result<NamedLine, NoMemory>
     ensures { IfOk result (λ line. seen_line line
         ≡ spot_line (map (λ l. l.now) tables.now.items) spot.now) }
 {
     let file = file_at(alloc, tables, spot)?;
-    Ok(FileLine {
+    Ok(NamedLine {
         file: file.into_string(),
         line: spot.line,
     })
 }
 
 /// So many more steps on a line.
-fn add(counts: &mut BTreeMap<FileLine, u64>, line: FileLine, steps: u64) -> Result<(), NoMemory>
+fn add(counts: &mut BTreeMap<NamedLine, u64>, line: NamedLine, steps: u64) -> Result<(), NoMemory>
     ensures on { OnOk result ((q : SourceLine)
         → counted_on counts.old q + (if is_line q (seen_line line) then steps else 0) < 2 ^ 64
         → counted_on counts.new q ≡ counted_on counts.old q
@@ -75,7 +75,7 @@ pub(crate) fn merge(
     alloc: Global,
     tables: &Vec<&Lines<'_>>,
     lines: &[LineCount],
-) -> Result<BTreeMap<FileLine, u64>, NoMemory>
+) -> Result<BTreeMap<NamedLine, u64>, NoMemory>
     ensures merged { IfOk result (λ counts. (q : SourceLine)
         → merged (map (λ l. l.now) tables.now.items) lines.now q < 2 ^ 64
         → counted_on counts q ≡ merged (map (λ l. l.now) tables.now.items) lines.now q) }

@@ -9,7 +9,7 @@ ghost use Rattle.cover_command.specs.CoverText.{CoverText, count_text, sums_text
 ghost use Rattle.cover_command.specs.SourceLines.{source_line};
 ghost use Rattle.cover_command.specs.inner.Merging.{file_line_cmp, seen_line, seen_counts};
 
-use crate::merging::{FileLine, merge};
+use crate::merging::{NamedLine, merge};
 use causes::NoMemory;
 use commands::push_number;
 use debug_frames::Information;
@@ -22,7 +22,7 @@ use wasm_syntax::ModuleParts;
 
 /// Adds the line that tells how many steps fell on a line of a file.
 #[tactic(auto, unfolding(crate::specs::CoverText::count_text))]
-fn push_count(out: &mut Text, line: &FileLine, steps: u64) -> Result<(), NoMemory>
+fn push_count(out: &mut Text, line: &NamedLine, steps: u64) -> Result<(), NoMemory>
     ensures { OnOk result (out.new ≡ out.old ++ count_text (seen_line line.now, steps)) }
 {
     out.push_str(line.file.as_str())?;
@@ -32,7 +32,7 @@ fn push_count(out: &mut Text, line: &FileLine, steps: u64) -> Result<(), NoMemor
 }
 
 /// Adds the lines of all lines of files on which steps fell.
-fn push_counts(out: &mut Text, counts: &BTreeMap<FileLine, u64>) -> Result<(), NoMemory>
+fn push_counts(out: &mut Text, counts: &BTreeMap<NamedLine, u64>) -> Result<(), NoMemory>
     ensures text { OnOk result (out.new
         ≡ out.old ++ flat_map count_text (seen_counts counts.now.entries)) }
     ensures ordered { IsOrdered file_line_cmp counts.now }

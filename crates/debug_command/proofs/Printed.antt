@@ -4,7 +4,7 @@ use Rattle.std.proofs.lemmas.List.{append-nil, drop_all}
 use Rattle.debugger.specs.Commands.{read_command}
 use Rattle.debugger.specs.Session.{PrintsAll, chosen_behind}
 use Rattle.debugger.specs.calls.Sitting.{Sitting}
-use Rattle.debug_command.specs.inner.Steps.{Adds}
+use Rattle.debug_command.specs.calls.Steps.{Adds}
 
 -- whatever is printed behind, all of it is this
 abbrev pub Leads : (List ℕ → Type 0) → Sitting → List (List ℕ) → List ℕ → Type 0

@@ -1,4 +1,4 @@
 pub mod Words
 pub mod Answer
 pub mod Headline
-pub mod inner
+pub mod calls

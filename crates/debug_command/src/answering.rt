@@ -1,14 +1,15 @@
 //! The answer on the bytes of a module and of a dump.
 
-ghost use Rattle.std.specs.Prelude.{◌≡◌, ◌≢◌, ◌++◌, IfOk, OnOk};
+ghost use Rattle.std.specs.Prelude.{◌≡◌, ◌++◌, IfOk, OnOk};
 ghost use Rattle.dump_format.specs.calls.Contained.{IsContained, IsLimited};
 ghost use Rattle.dump_format.specs.Decode.{dump_from};
 ghost use Rattle.debugger.specs.Subject.{Spells};
 ghost use Rattle.debug_command.specs.Answer as answers;
+ghost use Rattle.commands.specs.calls.Ended.{Ended};
 
 use crate::command_list::printed;
 use causes::NoMemory;
-use commands::{Loaded, Outcome, Status, load, push_number, refused_dump};
+use commands::{Given, Outcome, Status, load, push_number, refused_dump};
 use debugger::Session;
 use dump_format::{Dump, decode_dump};
 use dump_match::{Matched, Mismatch, matches};
@@ -37,8 +38,7 @@ fn push_row(out: &mut Text, row: Mismatch) -> Result<(), NoMemory>
 /// The first test that fails.
 fn mismatched(alloc: Global, row: Mismatch) -> Result<Outcome, NoMemory>
     ensures value { IfOk result (λ o. o ≡ answers.mismatched row) }
-    ensures memory { IfOk result (λ o. o.status ≢ Status.NoMemory) }
-    ensures fault { IfOk result (λ o. o.status ≢ Status.FileFault) }
+    ensures ended { IfOk result (Ended (λ _. ⊥)) }
 {
     let mut text = Text::from_str(alloc, "mismatch ")?;
     push_row(&mut text, row)?;
@@ -59,8 +59,7 @@ fn told(
     requires { Spells bytes.now matched.module_ }
     ensures value { IfOk result (answers.IsTold commands.now bytes.now matched.entry.module_
         matched.entry.dump) }
-    ensures memory { IfOk result (λ o. o.status ≢ Status.NoMemory) }
-    ensures fault { IfOk result (λ o. o.status ≢ Status.FileFault) }
+    ensures ended { IfOk result (Ended (λ _. ⊥)) }
 {
     let mut session = Session::new(alloc, bytes, matched)?;
     let text = printed(alloc, &mut session, commands)?;
@@ -82,8 +81,7 @@ fn judged(
     requires contained { IsContained dump.now }
     requires limited { IsLimited dump.now }
     ensures value { IfOk result (answers.DumpAnswer commands.now bytes.now m.now dump.now) }
-    ensures memory { IfOk result (λ o. o.status ≢ Status.NoMemory) }
-    ensures fault { IfOk result (λ o. o.status ≢ Status.FileFault) }
+    ensures ended { IfOk result (Ended (λ _. ⊥)) }
 {
     match matches(m, dump) {
         Ok(matched) => told(alloc, bytes, matched, commands),
@@ -102,8 +100,7 @@ fn on_dump(
     requires { Spells bytes.now m.now }
     ensures value { IfOk result (answers.IfDump (answers.DumpAnswer commands.now bytes.now m.now)
         (dump_from dump_bytes.now)) }
-    ensures memory { IfOk result (λ o. o.status ≢ Status.NoMemory) }
-    ensures fault { IfOk result (λ o. o.status ≢ Status.FileFault) }
+    ensures ended { IfOk result (Ended (λ _. ⊥)) }
 {
     match decode_dump(alloc, dump_bytes) {
         Ok(dump) => judged(alloc, bytes, m, &dump, commands),
@@ -119,12 +116,11 @@ pub fn on_bytes(
     commands: &[Text],
 ) -> Result<Outcome, NoMemory>
     ensures value { IfOk result (answers.BytesAnswer commands.now bytes.now dump_bytes.now) }
-    ensures memory { IfOk result (λ o. o.status ≢ Status.NoMemory) }
-    ensures fault { IfOk result (λ o. o.status ≢ Status.FileFault) }
+    ensures ended { IfOk result (Ended (λ _. ⊥)) }
 {
     let loaded = load(alloc, bytes)?;
     match loaded {
-        Loaded::Valid(m) => on_dump(alloc, bytes, &m, dump_bytes, commands),
-        Loaded::TurnedDown(refusal) => Ok(refusal),
+        Given::Value(m) => on_dump(alloc, bytes, &m, dump_bytes, commands),
+        Given::Refused(refusal) => Ok(refusal),
     }
 }

@@ -2,7 +2,7 @@
 
 ghost use Rattle.std.specs.Prelude.{IfOk, OnOk};
 ghost use Rattle.debugger.specs.Session.{PrintsAll};
-ghost use Rattle.debug_command.specs.inner.Steps.{Adds};
+ghost use Rattle.debug_command.specs.calls.Steps.{Adds};
 
 use causes::NoMemory;
 use debugger::Session;
@@ -10,7 +10,7 @@ use pm_text::Text;
 use std::alloc::Global;
 
 /// Adds what a command prints.
-fn push_command(
+pub fn push_command(
     out: &mut Text,
     alloc: Global,
     session: &mut Session<'_, '_, '_, '_>,

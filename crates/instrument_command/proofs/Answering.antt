@@ -16,8 +16,8 @@ use Rattle.commands.specs.calls.Input.{IsInput}
 use Rattle.commands.specs.Inputs.{input_of}
 use Rattle.commands.specs.Loading.{IfLoaded, IsTurnedDown}
 use Rattle.commands.specs.Told.{UnlessFault, OnContents}
-use Rattle.commands.specs.declared.input.Input.{Input}
-use Rattle.commands.specs.declared.input.Input.TheVariants.{Whole, Refused}
+use Rattle.commands.specs.declared.given.Given.{Given}
+use Rattle.commands.specs.declared.given.Given.TheVariants.{Value, Refused}
 use Rattle.commands.specs.declared.outcome.Outcome.{Outcome}
 use Rattle.commands.proofs.ReadFiles.{then_ok, then_err}
 use Rattle.commands.proofs.Unless.{OnAnswer, unless, on_all, map_answer}
@@ -67,11 +67,11 @@ module _ (A : Writes → Module → Outcome → Type 0) where
 
 -- ---- the file
 
-module _ (source out : List ℕ) (old mid new : Option Contents) (same : mid ≡ old) (input : Input) (told : OnContents old (λ held. IsInput input (input_of ModuleBytes source (held source)))) where
-  pub with_bytes : (bytes : Vec ℕ Global) (spelled : List ℕ) (result : Result Outcome WantOfMemory) → input ≡ Whole bytes → spelled ≡ bytes.items
+module _ (source out : List ℕ) (old mid new : Option Contents) (same : mid ≡ old) (input : Given (Vec ℕ Global)) (told : OnContents old (λ held. IsInput input (input_of ModuleBytes source (held source)))) where
+  pub with_bytes : (bytes : Vec ℕ Global) (spelled : List ℕ) (result : Result Outcome WantOfMemory) → input ≡ Value bytes → spelled ≡ bytes.items
       → OnAnswer (IsAnswered (λ writes. IfLoaded (ModuleAnswer out writes) (module_from spelled)) mid new) result → OnAnswer (AnsweredOn source out old new) result
   with_bytes bytes spelled result is spells x =
-      let k : OnContents old (λ held. IsInput (Whole bytes) (input_of ModuleBytes source (held source))) = subst (λ i. OnContents old (λ held. IsInput i (input_of ModuleBytes source (held source)))) is told in
+      let k : OnContents old (λ held. IsInput (Value bytes) (input_of ModuleBytes source (held source))) = subst (λ i. OnContents old (λ held. IsInput i (input_of ModuleBytes source (held source)))) is told in
       map_answer (IsAnswered (λ writes. IfLoaded (ModuleAnswer out writes) (module_from spelled)) mid new) (AnsweredOn source out old new) result
       (λ o a. record {
         held = k.files;

@@ -8,7 +8,7 @@ use Rattle.wasm_encode.specs.calls.SameModule.{SpellsSame}
 use Rattle.index_map.specs.declared.limits.Excess.{Excess}
 use Rattle.index_map.specs.Limits.{first_excess}
 use Rattle.index_map.proofs.WithinLimits.{kept}
-use Rattle.rewrite_promise.specs.Promise.{Promised}
+use Rattle.rewrite_promise.specs.calls.Promise.{Promised}
 use Rattle.rewrite_promise.specs.Admitted.{Admits}
 use Rattle.rewrite_promise.proofs.Admitted.{spelled}
 use Rattle.instrument.specs.Refusal.{OwnHeights, import_taken, export_taken, at_import, at_export, at_limit, refusal}

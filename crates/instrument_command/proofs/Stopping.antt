@@ -9,17 +9,19 @@ use Rattle.wasm_syntax.specs.declared.quantity.Quantity.TheVariants.{ModuleBytes
 use Rattle.wasm_syntax.specs.Valid.{Valid}
 use Rattle.wasm_decode.specs.Decode.{module_from}
 use Rattle.wasm_validate.specs.Heights.{AllLow}
-use Rattle.commands.specs.calls.Input.{IsInput, IfRefused}
+use Rattle.commands.specs.calls.Ended.{Ended}
+use Rattle.commands.specs.calls.Given.{IfRefused}
+use Rattle.commands.specs.calls.Input.{IsInput}
 use Rattle.commands.specs.Inputs.{input_of}
 use Rattle.commands.specs.Texts.{file_fault}
 use Rattle.commands.specs.Told.{OnContents}
-use Rattle.commands.specs.declared.input.Input.{Input}
-use Rattle.commands.specs.declared.input.Input.TheVariants.{Whole, Refused}
+use Rattle.commands.specs.declared.given.Given.{Given}
+use Rattle.commands.specs.declared.given.Given.TheVariants.{Value, Refused}
 use Rattle.commands.specs.declared.outcome.Outcome.{Outcome}
-use Rattle.commands.specs.declared.status.Status.TheVariants as status
 use Rattle.run_session.specs.Stop.{Stop, no_memory, file_failed, OnStop}
 use Rattle.instrument_command.specs.Stops.{IsFailed, LeftInPart, InstrumentStops}
 use Rattle.instrument_command.specs.calls.Steps.{IsWant, ModuleStops, BytesStops}
+use Rattle.commands.proofs.Givens.{of_refusal}
 use Rattle.run_session.proofs.Stops.{map_stop}
 
 -- ---- bytes
@@ -38,12 +40,12 @@ want_of : (stop : Stop) (file : List ℕ) → IsWant stop → IsFailed stop file
 want_of no_memory file w = tt
 want_of (file_failed failed) file w = absurd w
 
-pub file_stop : (source out : List ℕ) (old mid new : Option Contents) (input : Input) (bytes : Vec ℕ Global) (spelled : List ℕ) (result : Result Outcome WantOfMemory) → mid ≡ old
-    → OnContents old (λ held. IsInput input (input_of ModuleBytes source (held source))) → input ≡ Whole bytes → spelled ≡ bytes.items
+pub file_stop : (source out : List ℕ) (old mid new : Option Contents) (input : Given (Vec ℕ Global)) (bytes : Vec ℕ Global) (spelled : List ℕ) (result : Result Outcome WantOfMemory) → mid ≡ old
+    → OnContents old (λ held. IsInput input (input_of ModuleBytes source (held source))) → input ≡ Value bytes → spelled ≡ bytes.items
     → OnStop (λ stop. BytesStops stop out spelled mid new) result → OnStop (λ stop. InstrumentStops stop source out old new) result
 file_stop source out old mid new input bytes spelled result same told is spells x = map_stop (λ stop. BytesStops stop out spelled mid new) (λ stop. InstrumentStops stop source out old new) result go x
   where
-    k : OnContents old (λ held. IsInput (Whole bytes) (input_of ModuleBytes source (held source)))
+    k : OnContents old (λ held. IsInput (Value bytes) (input_of ModuleBytes source (held source)))
     k = subst (λ i. OnContents old (λ held. IsInput i (input_of ModuleBytes source (held source)))) is told
 
     go : (stop : Stop) → BytesStops stop out spelled mid new → InstrumentStops stop source out old new
@@ -62,11 +64,11 @@ file_stop source out old mid new input bytes spelled result same told is spells 
     }
 
 -- the file was not read
-pub unread_stop : (source out : List ℕ) (old mid : Option Contents) (input : Input) (o : Outcome) (R : Type 0) → mid ≡ old → input ≡ Refused o
-    → IfRefused (λ o. o.status ≡ status.FileFault → (o ≡ file_fault source) × R) input → OnStop (λ stop. InstrumentStops stop source out old mid) (Ok o)
-unread_stop source out old mid input o R same is fault = λ faulted. record {
+pub unread_stop : (source out : List ℕ) (old mid : Option Contents) (input : Given (Vec ℕ Global)) (o : Outcome) (R : Type 0) → mid ≡ old → input ≡ Refused o
+    → IfRefused (Ended (λ o. (o ≡ file_fault source) × R)) input → OnStop (λ stop. InstrumentStops stop source out old mid) (Ok o)
+unread_stop source out old mid input o R same is ended = λ faulted. record {
   file = source;
-  named = ((subst (IfRefused (λ o. o.status ≡ status.FileFault → (o ≡ file_fault source) × R)) is fault) faulted).0;
+  named = ((of_refusal input o (Ended (λ o. (o ≡ file_fault source) × R)) is ended).fault faulted).0;
   failed = inl (same, refl);
   memory = inl (same, tt);
 }

@@ -1,6 +1,6 @@
 //! The command on the module in a file.
 
-ghost use Rattle.std.specs.Prelude.{◌≡◌, ◌≢◌, ◌≤◌, ◌⊎◌, IfOk, is_some};
+ghost use Rattle.std.specs.Prelude.{◌≡◌, ◌⊎◌, IfOk};
 ghost use Rattle.causes.specs.Counts.{Rose};
 ghost use Rattle.pm_outside.specs.Contents.{SameBut};
 ghost use Rattle.pm_outside.specs.Created.{with_name};
@@ -12,13 +12,15 @@ ghost use Rattle.instrument_command.specs.Stops.{InstrumentStops};
 ghost use Rattle.instrument_command.specs.calls.Steps.{BytesStops, IsAnswered, ModuleStops};
 ghost use Rattle.run_session.specs.Stop.{OnStop};
 ghost use Rattle.wasm_decode.specs.Decode.{module_from};
-ghost use Rattle.wasm_format_laws.specs.Sized.{Sized};
+ghost use Rattle.wasm_format_laws.specs.calls.Sized.{Sized};
 ghost use Rattle.wasm_syntax.specs.Valid.{Valid};
+ghost use Rattle.pm_outside.specs.calls.Kept.{FilesGoOn};
+ghost use Rattle.commands.specs.calls.Ended.{Ended};
 
-use crate::rewriting::{Rewritten, rewrite};
+use crate::rewriting::rewrite;
 use crate::writing::write_rewritten;
 use causes::NoMemory;
-use commands::{Input, Loaded, Outcome, Status, load, read_input};
+use commands::{Given, Outcome, load, read_input};
 use pm_outside::Files;
 use std::alloc::Global;
 use wasm_syntax::Quantity;
@@ -38,19 +40,16 @@ fn instrument_valid<F: Files>(
         (F.told files.old) (F.told files.new) o)) }
     ensures stops { OnStop (λ stop.
         ModuleStops stop out.now source.now (F.told files.old) (F.told files.new)) result }
-    ensures fault { IfOk result (λ o. o.status ≡ Status.FileFault
-        → Rose (F.faults files.old) (F.faults files.new)) }
-    ensures memory { IfOk result (λ o. o.status ≢ Status.NoMemory) }
-    ensures telling { is_some (F.told files.new) ≡ is_some (F.told files.old) }
+    ensures ended { IfOk result (Ended (λ _. Rose (F.faults files.old) (F.faults files.new))) }
+    ensures files { FilesGoOn F.told F.faults files.old files.new }
     ensures others { OnTold (SameBut out.now) (F.told files.old) (F.told files.new) }
     ensures names { (F.created files.new ≡ F.created files.old)
         ⊎ (F.created files.new ≡ with_name (F.created files.old) out.now) }
-    ensures later { F.faults files.old ≤ F.faults files.new }
 {
     let rewritten = rewrite(alloc, source)?;
     match rewritten {
-        Rewritten::Whole(other) => write_rewritten(alloc, files, source, &other, out),
-        Rewritten::Refused(refusal) => Ok(refusal),
+        Given::Value(other) => write_rewritten(alloc, files, source, &other, out),
+        Given::Refused(refusal) => Ok(refusal),
     }
 }
 
@@ -66,19 +65,16 @@ fn instrument_bytes<F: Files>(
         (F.told files.old) (F.told files.new) o)) }
     ensures stops { OnStop (λ stop.
         BytesStops stop out.now bytes.now (F.told files.old) (F.told files.new)) result }
-    ensures fault { IfOk result (λ o. o.status ≡ Status.FileFault
-        → Rose (F.faults files.old) (F.faults files.new)) }
-    ensures memory { IfOk result (λ o. o.status ≢ Status.NoMemory) }
-    ensures telling { is_some (F.told files.new) ≡ is_some (F.told files.old) }
+    ensures ended { IfOk result (Ended (λ _. Rose (F.faults files.old) (F.faults files.new))) }
+    ensures files { FilesGoOn F.told F.faults files.old files.new }
     ensures others { OnTold (SameBut out.now) (F.told files.old) (F.told files.new) }
     ensures names { (F.created files.new ≡ F.created files.old)
         ⊎ (F.created files.new ≡ with_name (F.created files.old) out.now) }
-    ensures later { F.faults files.old ≤ F.faults files.new }
 {
     let loaded = load(alloc, bytes)?;
     match loaded {
-        Loaded::Valid(source) => instrument_valid(alloc, files, &source, out),
-        Loaded::TurnedDown(refusal) => Ok(refusal),
+        Given::Value(source) => instrument_valid(alloc, files, &source, out),
+        Given::Refused(refusal) => Ok(refusal),
     }
 }
 
@@ -98,18 +94,15 @@ pub fn instrument_file<F: Files>(
         (AnsweredOn source.now out.now (F.told files.old) (F.told files.new) o)) }
     ensures stops { OnStop (λ stop.
         InstrumentStops stop source.now out.now (F.told files.old) (F.told files.new)) result }
-    ensures fault { IfOk result (λ o. o.status ≡ Status.FileFault
-        → Rose (F.faults files.old) (F.faults files.new)) }
-    ensures memory { IfOk result (λ o. o.status ≢ Status.NoMemory) }
-    ensures telling { is_some (F.told files.new) ≡ is_some (F.told files.old) }
+    ensures ended { IfOk result (Ended (λ _. Rose (F.faults files.old) (F.faults files.new))) }
+    ensures files { FilesGoOn F.told F.faults files.old files.new }
     ensures others { OnTold (SameBut out.now) (F.told files.old) (F.told files.new) }
     ensures names { (F.created files.new ≡ F.created files.old)
         ⊎ (F.created files.new ≡ with_name (F.created files.old) out.now) }
-    ensures later { F.faults files.old ≤ F.faults files.new }
 {
     let input = read_input(alloc, files, source, Quantity::ModuleBytes)?;
     match input {
-        Input::Whole(bytes) => instrument_bytes(alloc, files, &bytes, out),
-        Input::Refused(refusal) => Ok(refusal),
+        Given::Value(bytes) => instrument_bytes(alloc, files, &bytes, out),
+        Given::Refused(refusal) => Ok(refusal),
     }
 }

@@ -7,5 +7,5 @@ mod rewriting;
 mod writing;
 
 pub use command::instrument_file;
-pub use rewriting::{Rewritten, rewrite};
+pub use rewriting::rewrite;
 pub use writing::admitted_bytes;

@@ -1,28 +1,23 @@
 //! A module that is rewritten, or why it is not, and its weight.
 
-ghost use Rattle.std.specs.Prelude.{◌≡◌, ◌≢◌, ◌++◌, IfOk, codes, ℕ};
+ghost use Rattle.std.specs.Prelude.{◌≡◌, ◌++◌, IfOk, codes, ℕ};
 ghost use Rattle.std.specs.Fmt.{decimal};
 ghost use Rattle.commands.specs.Texts.{ended};
+ghost use Rattle.commands.specs.calls.Given.{IfRefused};
 ghost use Rattle.instrument_command.specs.InstrumentAnswer.{instrumented, refused};
-ghost use Rattle.instrument_command.specs.calls.Steps.{IfRefused, IsRewritten, Weighs};
-ghost use Rattle.wasm_format_laws.specs.Sized.{Sized};
+ghost use Rattle.instrument_command.specs.calls.Steps.{IsRewritten, Weighs};
+ghost use Rattle.wasm_format_laws.specs.calls.Sized.{Sized};
 ghost use Rattle.wasm_syntax.specs.Valid.{Valid};
+ghost use Rattle.commands.specs.calls.Ended.{Ended};
 
 use causes::NoMemory;
-use commands::{Outcome, Status, over_limit, push_number};
+use commands::{Given, Outcome, Status, over_limit, push_number};
 use index_map::{IndexMap, weight};
 use instrument::{InstrFault, instrument};
 use pm_text::Text;
 use std::alloc::Global;
 use wasm_syntax::Module;
 use wasm_validate::Validated;
-
-/// What a module is rewritten to, or what is answered in its place.
-#[derive(Drop)]
-pub enum Rewritten {
-    Whole(Module),
-    Refused(Outcome),
-}
 
 /// A line that ends with a number.
 fn counted(alloc: Global, status: Status, words: &str, number: u64) -> Result<Outcome, NoMemory>
@@ -37,8 +32,7 @@ fn counted(alloc: Global, status: Status, words: &str, number: u64) -> Result<Ou
 /// Why a module is not rewritten.
 fn refused(alloc: Global, fault: InstrFault) -> Result<Outcome, NoMemory>
     ensures value { IfOk result (λ o. o ≡ refused fault) }
-    ensures memory { IfOk result (λ o. o.status ≢ Status.NoMemory) }
-    ensures fault { IfOk result (λ o. o.status ≢ Status.FileFault) }
+    ensures ended { IfOk result (Ended (λ _. ⊥)) }
 {
     match fault {
         InstrFault::ImportCollision { index } => {
@@ -62,20 +56,19 @@ fn refused(alloc: Global, fault: InstrFault) -> Result<Outcome, NoMemory>
     }
 }
 
-/// Rewrites a valid module, or refuses it for the first cause. The module's lengths are those of a
-/// spelling.
-pub fn rewrite(alloc: Global, source: &Validated) -> Result<Rewritten, NoMemory>
+/// What a valid module is rewritten to, or its refusal for the first cause. The module's lengths
+/// are those of a spelling.
+pub fn rewrite(alloc: Global, source: &Validated) -> Result<Given<Module>, NoMemory>
     requires valid { Valid source.now }
     requires sized { Sized source.now }
     ensures told { IfOk result (IsRewritten source.now) }
-    ensures fault { IfOk result (IfRefused (λ o. o.status ≢ Status.FileFault)) }
-    ensures memory { IfOk result (IfRefused (λ o. o.status ≢ Status.NoMemory)) }
+    ensures ended { IfOk result (IfRefused (Ended (λ _. ⊥))) }
 {
     match instrument(alloc, source) {
-        Ok(other) => Ok(Rewritten::Whole(other)),
+        Ok(other) => Ok(Given::Value(other)),
         Err(fault) => {
             let refusal = refused(alloc, fault)?;
-            Ok(Rewritten::Refused(refusal))
+            Ok(Given::Refused(refusal))
         }
     }
 }

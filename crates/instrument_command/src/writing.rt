@@ -1,6 +1,6 @@
 //! What a module is rewritten to, as a file.
 
-ghost use Rattle.std.specs.Prelude.{◌≡◌, ◌≢◌, ◌≤◌, ◌⊎◌, IfOk, is_some};
+ghost use Rattle.std.specs.Prelude.{◌≡◌, ◌⊎◌, IfOk};
 ghost use Rattle.causes.specs.Counts.{Rose};
 ghost use Rattle.pm_outside.specs.Contents.{SameBut};
 ghost use Rattle.pm_outside.specs.Created.{with_name};
@@ -11,7 +11,9 @@ ghost use Rattle.instrument_command.specs.calls.Steps.{IsAnswered, ModuleStops, 
 ghost use Rattle.rewrite_promise.specs.Admitted.{Admits};
 ghost use Rattle.run_session.specs.Stop.{OnStop};
 ghost use Rattle.wasm_bytes.specs.Laws.{IsBytes};
-ghost use Rattle.wasm_format_laws.specs.Sized.{Sized};
+ghost use Rattle.wasm_format_laws.specs.calls.Sized.{Sized};
+ghost use Rattle.pm_outside.specs.calls.Kept.{FilesGoOn};
+ghost use Rattle.commands.specs.calls.Ended.{Ended};
 
 use crate::rewriting::weighed;
 use causes::NoMemory;
@@ -58,14 +60,11 @@ pub(crate) fn write_rewritten<F: Files>(
         (F.told files.old) (F.told files.new) o)) }
     ensures stops { OnStop (λ stop.
         ModuleStops stop out.now source.now (F.told files.old) (F.told files.new)) result }
-    ensures fault { IfOk result (λ o. o.status ≡ Status.FileFault
-        → Rose (F.faults files.old) (F.faults files.new)) }
-    ensures memory { IfOk result (λ o. o.status ≢ Status.NoMemory) }
-    ensures telling { is_some (F.told files.new) ≡ is_some (F.told files.old) }
+    ensures ended { IfOk result (Ended (λ _. Rose (F.faults files.old) (F.faults files.new))) }
+    ensures files { FilesGoOn F.told F.faults files.old files.new }
     ensures others { OnTold (SameBut out.now) (F.told files.old) (F.told files.new) }
     ensures names { (F.created files.new ≡ F.created files.old)
         ⊎ (F.created files.new ≡ with_name (F.created files.old) out.now) }
-    ensures later { F.faults files.old ≤ F.faults files.new }
 {
     let done = weighed(alloc, source)?;
     let bytes = admitted_bytes(alloc, source, other)?;

@@ -4,6 +4,7 @@ use Rattle.std.specs.Prelude.{◌⊎◌, IfSome, IfOk}
 use Rattle.causes.specs.declared.NoMemory.{NoMemory}
 use Rattle.pm_outside.specs.Contents.{Contents}
 use Rattle.host_set.specs.Sets.{DeviceState}
+use Rattle.commands.specs.calls.Ended.{Ended}
 use Rattle.commands.specs.Texts.{usage, file_fault}
 use Rattle.commands.specs.Told.{UnlessFault, Takes, HasTakenFront}
 use Rattle.commands.specs.declared.outcome.Outcome.{Outcome}
@@ -40,40 +41,40 @@ module _ (devices : List DeviceState) (words : List (List ℕ)) (told told' : Op
   abbrev Leaves : Stop → Type 0
   Leaves stop = WordsStop stop words devices devices told told'
 
-  pub check_stops : (result : Result Outcome NoMemory) (m file : List ℕ) → command words ≡ Some (Check m) → file ≡ m → IfOk result (λ o. o.status ≡ status.FileFault → (o ≡ file_fault file) × R) → OnStop Leaves result
-  check_stops (Err e) m file asked named fault = of_command words (Some (Check m)) devices devices no_memory told told' asked record { devices = refl; files = same; file = tt }
-  check_stops (Ok o) m file asked named fault = λ faulted. record {
+  pub check_stops : (result : Result Outcome NoMemory) (m file : List ℕ) → command words ≡ Some (Check m) → file ≡ m → IfOk result (Ended (λ o. (o ≡ file_fault file) × R)) → OnStop Leaves result
+  check_stops (Err e) m file asked named ended = of_command words (Some (Check m)) devices devices no_memory told told' asked record { devices = refl; files = same; file = tt }
+  check_stops (Ok o) m file asked named ended = λ faulted. record {
     file = file;
-    named = (fault faulted).0;
+    named = (ended.fault faulted).0;
     failed = of_command words (Some (Check m)) devices devices (file_failed file) told told' asked record { devices = refl; files = same; file = named };
     memory = of_command words (Some (Check m)) devices devices no_memory told told' asked record { devices = refl; files = same; file = tt };
   }
 
-  pub show_stops : (result : Result Outcome NoMemory) (dump file : List ℕ) → command words ≡ Some (Show dump) → file ≡ dump → IfOk result (λ o. o.status ≡ status.FileFault → (o ≡ file_fault file) × R) → OnStop Leaves result
-  show_stops (Err e) dump file asked named fault = of_command words (Some (Show dump)) devices devices no_memory told told' asked record { devices = refl; files = same; file = tt }
-  show_stops (Ok o) dump file asked named fault = λ faulted. record {
+  pub show_stops : (result : Result Outcome NoMemory) (dump file : List ℕ) → command words ≡ Some (Show dump) → file ≡ dump → IfOk result (Ended (λ o. (o ≡ file_fault file) × R)) → OnStop Leaves result
+  show_stops (Err e) dump file asked named ended = of_command words (Some (Show dump)) devices devices no_memory told told' asked record { devices = refl; files = same; file = tt }
+  show_stops (Ok o) dump file asked named ended = λ faulted. record {
     file = file;
-    named = (fault faulted).0;
+    named = (ended.fault faulted).0;
     failed = of_command words (Some (Show dump)) devices devices (file_failed file) told told' asked record { devices = refl; files = same; file = named };
     memory = of_command words (Some (Show dump)) devices devices no_memory told told' asked record { devices = refl; files = same; file = tt };
   }
 
   -- of a command that reads files, calls no device and writes nothing
   read_stops : (result : Result Outcome NoMemory) (c : Option Command) (IsRead : List ℕ → Type 0) → command words ≡ c → ((stop : Stop) → NothingDone stop IsRead devices devices told told' → CommandStops stop c devices devices told told')
-      → IfOk result (λ o. o.status ≡ status.FileFault → ((file : List ℕ) × IsRead file × (o ≡ file_fault file)) × R) → OnStop Leaves result
-  read_stops (Err e) c IsRead asked fits fault = of_command words c devices devices no_memory told told' asked (fits no_memory record { devices = refl; files = same; file = tt })
-  read_stops (Ok o) c IsRead asked fits fault = λ faulted. record {
-    file = (fault faulted).0.0;
-    named = (fault faulted).0.2;
-    failed = of_command words c devices devices (file_failed (fault faulted).0.0) told told' asked (fits (file_failed (fault faulted).0.0) record { devices = refl; files = same; file = (fault faulted).0.1 });
+      → IfOk result (Ended (λ o. ((file : List ℕ) × IsRead file × (o ≡ file_fault file)) × R)) → OnStop Leaves result
+  read_stops (Err e) c IsRead asked fits ended = of_command words c devices devices no_memory told told' asked (fits no_memory record { devices = refl; files = same; file = tt })
+  read_stops (Ok o) c IsRead asked fits ended = λ faulted. record {
+    file = (ended.fault faulted).0.0;
+    named = (ended.fault faulted).0.2;
+    failed = of_command words c devices devices (file_failed (ended.fault faulted).0.0) told told' asked (fits (file_failed (ended.fault faulted).0.0) record { devices = refl; files = same; file = (ended.fault faulted).0.1 });
     memory = of_command words c devices devices no_memory told told' asked (fits no_memory record { devices = refl; files = same; file = tt });
   }
 
-  pub debug_stops : (result : Result Outcome NoMemory) (w : DebugWords) → command words ≡ Some (Debug w) → IfOk result (λ o. o.status ≡ status.FileFault → ((file : List ℕ) × IsReadBy w file × (o ≡ file_fault file)) × R) → OnStop Leaves result
-  debug_stops result w asked fault = read_stops result (Some (Debug w)) (IsReadBy w) asked (λ stop k. k) fault
+  pub debug_stops : (result : Result Outcome NoMemory) (w : DebugWords) → command words ≡ Some (Debug w) → IfOk result (Ended (λ o. ((file : List ℕ) × IsReadBy w file × (o ≡ file_fault file)) × R)) → OnStop Leaves result
+  debug_stops result w asked ended = read_stops result (Some (Debug w)) (IsReadBy w) asked (λ stop k. k) ended
 
-  pub replay_stops : (result : Result Outcome NoMemory) (w : ReplayWords) → command words ≡ Some (Replay w) → IfOk result (λ o. o.status ≡ status.FileFault → ((file : List ℕ) × IsReplayed w file × (o ≡ file_fault file)) × R) → OnStop Leaves result
-  replay_stops result w asked fault = read_stops result (Some (Replay w)) (IsReplayed w) asked (λ stop k. k) fault
+  pub replay_stops : (result : Result Outcome NoMemory) (w : ReplayWords) → command words ≡ Some (Replay w) → IfOk result (Ended (λ o. ((file : List ℕ) × IsReplayed w file × (o ≡ file_fault file)) × R)) → OnStop Leaves result
+  replay_stops result w asked ended = read_stops result (Some (Replay w)) (IsReplayed w) asked (λ stop k. k) ended
 
 -- no words that are wrong fail a file
 no_usage_fault : (o : Outcome) → o ≡ usage → o.status ≡ status.FileFault → ⊥

@@ -1,6 +1,6 @@
 //! `check`.
 
-ghost use Rattle.std.specs.Prelude.{◌≡◌, ◌≢◌, ◌≤◌, ◌++◌, IfOk, OnOk};
+ghost use Rattle.std.specs.Prelude.{◌≡◌, ◌++◌, IfOk, OnOk};
 ghost use Rattle.causes.specs.Counts.{Rose};
 ghost use Rattle.wasm_decode.specs.Decode.{module_from};
 ghost use Rattle.pm_cli.specs.Answer.{CheckAnswer, checked};
@@ -8,9 +8,11 @@ ghost use Rattle.pm_cli.specs.Check.{code_text, other_text, valid_text, counted}
 ghost use Rattle.commands.specs.Loading.{IfLoaded};
 ghost use Rattle.commands.specs.Texts.{file_fault};
 ghost use Rattle.commands.specs.Told.{UnlessFault, OnContents};
+ghost use Rattle.pm_outside.specs.calls.Kept.{FilesKept};
+ghost use Rattle.commands.specs.calls.Ended.{Ended};
 
 use causes::NoMemory;
-use commands::{Input, Loaded, Outcome, Status, load, push_number, read_input};
+use commands::{Given, Outcome, Status, load, push_number, read_input};
 use pm_outside::Files;
 use pm_text::Text;
 use std::alloc::Global;
@@ -58,12 +60,11 @@ fn counted(alloc: Global, parts: &ModuleParts) -> Result<Outcome, NoMemory>
 /// What the bytes of a module get.
 fn check_bytes(alloc: Global, bytes: &[u8]) -> Result<Outcome, NoMemory>
     ensures value { IfOk result (IfLoaded checked (module_from bytes.now)) }
-    ensures memory { IfOk result (λ o. o.status ≢ Status.NoMemory) }
-    ensures fault { IfOk result (λ o. o.status ≢ Status.FileFault) }
+    ensures ended { IfOk result (Ended (λ _. ⊥)) }
 {
     match load(alloc, bytes)? {
-        Loaded::Valid(valid) => counted(alloc, valid.module().parts()),
-        Loaded::TurnedDown(refusal) => Ok(refusal),
+        Given::Value(valid) => counted(alloc, valid.module().parts()),
+        Given::Refused(refusal) => Ok(refusal),
     }
 }
 
@@ -71,16 +72,13 @@ fn check_bytes(alloc: Global, bytes: &[u8]) -> Result<Outcome, NoMemory>
 pub fn check_file<F: Files>(alloc: Global, files: &mut F, file: &str) -> Result<Outcome, NoMemory>
     ensures told { IfOk result (λ o. UnlessFault o.status (OnContents (F.told files.old) (λ held.
         CheckAnswer file.now (held file.now) o))) }
-    ensures fault { IfOk result (λ o. o.status ≡ Status.FileFault
-        → (o ≡ file_fault file.now) × Rose (F.faults files.old) (F.faults files.new)) }
-    ensures memory { IfOk result (λ o. o.status ≢ Status.NoMemory) }
-    ensures later { F.faults files.old ≤ F.faults files.new }
-    ensures same { F.told files.new ≡ F.told files.old }
-    ensures names { F.created files.new ≡ F.created files.old }
+    ensures ended { IfOk result (Ended (λ o.
+        (o ≡ file_fault file.now) × Rose (F.faults files.old) (F.faults files.new))) }
+    ensures files { FilesKept F.told F.created F.faults files.old files.new }
 {
     let input = read_input(alloc, files, file, Quantity::ModuleBytes)?;
     match input {
-        Input::Whole(bytes) => check_bytes(alloc, &bytes),
-        Input::Refused(refusal) => Ok(refusal),
+        Given::Value(bytes) => check_bytes(alloc, &bytes),
+        Given::Refused(refusal) => Ok(refusal),
     }
 }

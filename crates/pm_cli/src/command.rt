@@ -1,6 +1,6 @@
 //! What the commands answer.
 
-ghost use Rattle.std.specs.Prelude.{◌≡◌, ◌≢◌, ◌≤◌, map, is_some, IfOk};
+ghost use Rattle.std.specs.Prelude.{map, IfOk};
 ghost use Rattle.std.specs.String.{string_bytes};
 ghost use Rattle.causes.specs.Counts.{Rose};
 ghost use Rattle.host_set.specs.Sets.{AreDistinct, names};
@@ -9,6 +9,8 @@ ghost use Rattle.commands.specs.Told.{UnlessFault};
 ghost use Rattle.pm_cli.specs.Stops.{Quiet, WordsStop};
 ghost use Rattle.pm_cli.specs.Words.{command};
 ghost use Rattle.run_session.specs.Stop.{OnStop};
+ghost use Rattle.pm_outside.specs.calls.Kept.{FilesGoOn};
+ghost use Rattle.commands.specs.calls.Ended.{Ended};
 
 use crate::checking::check_file;
 use crate::showing::show_file;
@@ -43,11 +45,8 @@ pub fn respond<F: Files, D: Devices>(
         (D.shown devices.new)
         (F.told files.old) (F.told files.new) (F.created files.old) (F.created files.new) }
     ensures distinct { AreDistinct (names (D.shown devices.new)) }
-    ensures telling { is_some (F.told files.new) ≡ is_some (F.told files.old) }
-    ensures fault { IfOk result (λ o. o.status ≡ Status.FileFault
-        → Rose (F.faults files.old) (F.faults files.new)) }
-    ensures memory { IfOk result (λ o. o.status ≢ Status.NoMemory) }
-    ensures later { F.faults files.old ≤ F.faults files.new }
+    ensures files { FilesGoOn F.told F.faults files.old files.new }
+    ensures ended { IfOk result (Ended (λ _. Rose (F.faults files.old) (F.faults files.new))) }
 {
     match parse_words(alloc, words) {
         Ok(Command::Check { module }) => check_file(alloc, files, module.as_str()),

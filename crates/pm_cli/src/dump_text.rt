@@ -2,7 +2,8 @@
 
 ghost use Rattle.std.specs.Prelude.{◌≡◌, ◌++◌, OnOk, IfOk};
 ghost use Rattle.commands.specs.Values.{value_text};
-ghost use Rattle.pm_cli.specs.Show.{seen_text, values_text, place_text, frame_text, global_text, memory_text, head_text, show_text};
+ghost use Rattle.pm_cli.specs.Show.{seen_text, values_text, place_text, frame_text, global_text, memory_text};
+ghost use Rattle.pm_cli.specs.Show.{head_text, show_text};
 ghost use Rattle.commands.specs.Values.{numbered};
 
 use causes::NoMemory;

@@ -7,7 +7,7 @@ use Rattle.wasm_syntax.specs.declared.module.ModuleParts.{ModuleParts as Module}
 use Rattle.commands.specs.declared.outcome.Outcome.{Outcome}
 use Rattle.run_command.specs.Starting.{cause_text}
 use Rattle.run_command.specs.RunAnswer.{StartsOr}
-use Rattle.replay.specs.declared.fault.ReplayFault.{ReplayFault}
+use Rattle.replay.specs.declared.fault.StartRefusal.{StartRefusal}
 use Rattle.replay.specs.Moves.{IsFault, Replay, Starts}
 use Rattle.replay.specs.Replays.{Recording, cause_in}
 use Rattle.replay_command.specs.declared.asking.ReplayWords.{ReplayWords}
@@ -39,7 +39,7 @@ starts_told w bytes commands m replies entry args depth every r (Ok o) ee ea ed 
     subst (λ c. StartsOr (cause_text w.entry c) (IsTold (recording w m replies) bytes w.commands o) o) (sym cause) here
 
 -- it does not start
-pub fault_told : {E : Type 0} (w : ReplayWords) (bytes : List ℕ) (m : Module) (replies : List Reply) (entry : List ℕ) (args : List Value) (depth every : ℕ) (fault : ReplayFault) (result : Result Outcome E)
+pub fault_told : {E : Type 0} (w : ReplayWords) (bytes : List ℕ) (m : Module) (replies : List Reply) (entry : List ℕ) (args : List Value) (depth every : ℕ) (fault : StartRefusal) (result : Result Outcome E)
     → entry ≡ w.entry → args ≡ w.args → depth ≡ w.depth → Starts (Err fault) (asked m entry args replies depth w.fuel) every → IfOk result (TellsFault fault w.entry) → IfOk result (ModuleAnswer w bytes m replies)
 fault_told w bytes m replies entry args depth every fault (Err e) ee ea ed starts tells = tt
 fault_told w bytes m replies entry args depth every fault (Ok o) ee ea ed starts tells =

@@ -5,14 +5,14 @@ use Rattle.std.specs.Global.{Global}
 use Rattle.std.specs.Prelude.{IfOk}
 use Rattle.pm_outside.specs.Contents.{Contents}
 use Rattle.wasm_syntax.specs.declared.quantity.Quantity.TheVariants.{ModuleBytes, RepliesBytes}
-use Rattle.commands.specs.calls.Input.{IsInput, IfRefused}
+use Rattle.commands.specs.calls.Ended.{Ended}
+use Rattle.commands.specs.calls.Input.{IsInput}
 use Rattle.commands.specs.Inputs.{input_of, Then}
 use Rattle.commands.specs.Texts.{file_fault}
 use Rattle.commands.specs.Told.{UnlessFault, OnContents}
-use Rattle.commands.specs.declared.input.Input.{Input}
-use Rattle.commands.specs.declared.input.Input.TheVariants.{Whole, Refused}
+use Rattle.commands.specs.declared.given.Given.{Given}
+use Rattle.commands.specs.declared.given.Given.TheVariants.{Value, Refused}
 use Rattle.commands.specs.declared.outcome.Outcome.{Outcome}
-use Rattle.commands.specs.declared.status.Status.TheVariants as status
 use Rattle.commands.proofs.ReadFiles.{map_contents, whole_then, refused_then}
 use Rattle.commands.proofs.Unless.{OnAnswer, unless, map_answer}
 use Rattle.replay_command.specs.declared.asking.ReplayWords.{ReplayWords}
@@ -27,14 +27,14 @@ LogThen w bytes later o = Then (input_of RepliesBytes w.log (later w.log)) (Byte
 abbrev pub OnLog : Option Contents → ReplayWords → List ℕ → Outcome → Type 0
 OnLog told w bytes o = OnContents told (λ later. LogThen w bytes later o)
 
-pub log_whole : {E : Type 0} (told : Option Contents) (w : ReplayWords) (bytes file : List ℕ) (input : Input) (read : Vec ℕ Global) (spelled : List ℕ) (r : Result Outcome E)
-    → file ≡ w.log → input ≡ Whole read → spelled ≡ read.items → OnContents told (λ held. IsInput input (input_of RepliesBytes file (held file)))
+pub log_whole : {E : Type 0} (told : Option Contents) (w : ReplayWords) (bytes file : List ℕ) (input : Given (Vec ℕ Global)) (read : Vec ℕ Global) (spelled : List ℕ) (r : Result Outcome E)
+    → file ≡ w.log → input ≡ Value read → spelled ≡ read.items → OnContents told (λ held. IsInput input (input_of RepliesBytes file (held file)))
     → OnAnswer (BytesAnswer w bytes spelled) r → OnAnswer (OnLog told w bytes) r
 log_whole {E} told w bytes file input read spelled r named is spells x a =
     let y = whole_then told RepliesBytes file input read spelled (BytesAnswer w bytes) r is spells x a in
     subst (λ (f : List ℕ). OnAnswer {E = E} (λ o. OnContents told (λ held. Then (input_of RepliesBytes f (held f)) (BytesAnswer w bytes) o)) r) named y
 
-pub log_refused : (told : Option Contents) (w : ReplayWords) (bytes file : List ℕ) (input : Input) (o : Outcome) → file ≡ w.log → input ≡ Refused o → OnContents told (λ held. IsInput input (input_of RepliesBytes file (held file)))
+pub log_refused : (told : Option Contents) (w : ReplayWords) (bytes file : List ℕ) (input : Given (Vec ℕ Global)) (o : Outcome) → file ≡ w.log → input ≡ Refused o → OnContents told (λ held. IsInput input (input_of RepliesBytes file (held file)))
     → UnlessFault o.status (OnLog told w bytes o)
 log_refused told w bytes file input o named is x =
     let y = refused_then told RepliesBytes file input o (BytesAnswer w bytes) is x in
@@ -49,8 +49,8 @@ both : (told : Option Contents) (w : ReplayWords) (o : Outcome) → OnContents t
 both told w o x = map_contents told (λ held. Then (input_of ModuleBytes w.source (held w.source)) (OnLog told w) o) (λ first. OnContents told (λ later. ReplayAnswer w first later o))
     (λ held h. then_contents told (input_of ModuleBytes w.source (held w.source)) (λ later bytes. LogThen w bytes later) o h) x
 
-pub module_whole : {E : Type 0} (told told' : Option Contents) (w : ReplayWords) (file : List ℕ) (input : Input) (read : Vec ℕ Global) (spelled : List ℕ) (r : Result Outcome E)
-    → told' ≡ told → file ≡ w.source → input ≡ Whole read → spelled ≡ read.items → OnContents told (λ held. IsInput input (input_of ModuleBytes file (held file)))
+pub module_whole : {E : Type 0} (told told' : Option Contents) (w : ReplayWords) (file : List ℕ) (input : Given (Vec ℕ Global)) (read : Vec ℕ Global) (spelled : List ℕ) (r : Result Outcome E)
+    → told' ≡ told → file ≡ w.source → input ≡ Value read → spelled ≡ read.items → OnContents told (λ held. IsInput input (input_of ModuleBytes file (held file)))
     → OnAnswer (OnLog told' w spelled) r → OnAnswer (OnBoth told w) r
 module_whole {E} told told' w file input read spelled r same named is spells x a =
     let b : OnAnswer (OnLog told w spelled) r = subst (λ (t : Option Contents). OnAnswer {E = E} (OnLog t w spelled) r) same a in
@@ -58,7 +58,7 @@ module_whole {E} told told' w file input read spelled r same named is spells x a
     let z : OnAnswer (λ o. OnContents told (λ held. Then (input_of ModuleBytes w.source (held w.source)) (OnLog told w) o)) r = subst (λ (f : List ℕ). OnAnswer {E = E} (λ o. OnContents told (λ held. Then (input_of ModuleBytes f (held f)) (OnLog told w) o)) r) named y in
     map_answer (λ o. OnContents told (λ held. Then (input_of ModuleBytes w.source (held w.source)) (OnLog told w) o)) (OnBoth told w) r (both told w) z
 
-pub module_refused : (told : Option Contents) (w : ReplayWords) (file : List ℕ) (input : Input) (o : Outcome) → file ≡ w.source → input ≡ Refused o → OnContents told (λ held. IsInput input (input_of ModuleBytes file (held file)))
+pub module_refused : (told : Option Contents) (w : ReplayWords) (file : List ℕ) (input : Given (Vec ℕ Global)) (o : Outcome) → file ≡ w.source → input ≡ Refused o → OnContents told (λ held. IsInput input (input_of ModuleBytes file (held file)))
     → UnlessFault o.status (OnBoth told w o)
 module_refused told w file input o named is x =
     let y = refused_then told ModuleBytes file input o (OnLog told w) is x in
@@ -67,22 +67,11 @@ module_refused told w file input o named is x =
 
 -- ---- faults of files
 
--- of a file with this name
-abbrev pub Faults : List ℕ → Type 0 → Outcome → Type 0
-Faults file rose o = o.status ≡ status.FileFault → (o ≡ file_fault file) × rose
+-- of one of the two files that are read
+pub source_ended : (w : ReplayWords) (rose : Type 0) (o : Outcome) → Ended (λ o. (o ≡ file_fault w.source) × rose) o → Ended (λ o. ((file : List ℕ) × IsReadBy w file × (o ≡ file_fault file)) × rose) o
+source_ended w rose o x = record { fault = λ at. let y = x.fault at in ((w.source, inl refl, y.0), y.1); memory = x.memory }
 
-pub named_fault : (file name : List ℕ) (rose : Type 0) (o : Outcome) → file ≡ name → Faults file rose o → Faults name rose o
-named_fault file name rose o named x = subst (λ (f : List ℕ). Faults f rose o) named x
-
-abbrev pub SomeFaults : ReplayWords → Type 0 → Outcome → Type 0
-SomeFaults w rose o = o.status ≡ status.FileFault → ((file : List ℕ) × IsReadBy w file × (o ≡ file_fault file)) × rose
-
-pub source_fault : (w : ReplayWords) (rose : Type 0) (o : Outcome) → Faults w.source rose o → SomeFaults w rose o
-source_fault w rose o x = λ at. let y = x at in ((w.source, inl refl, y.0), y.1)
-
-pub log_fault : {E : Type 0} (w : ReplayWords) (rose rose' : Type 0) (r : Result Outcome E) → (rose → rose') → IfOk r (Faults w.log rose) → IfOk r (SomeFaults w rose')
-log_fault w rose rose' (Ok o) to x = λ at. let y = x at in ((w.log, inr refl, y.0), to y.1)
-log_fault w rose rose' (Err e) to x = tt
-
-pub read_fault : (file name : List ℕ) (rose : Type 0) (input : Input) (o : Outcome) → file ≡ name → input ≡ Refused o → IfRefused (Faults file rose) input → Faults name rose o
-read_fault file name rose input o named is x = named_fault file name rose o named (subst (λ (i : Input). IfRefused (Faults file rose) i) is x)
+pub log_ended : {E : Type 0} (w : ReplayWords) (rose rose' : Type 0) (r : Result Outcome E) → (rose → rose') → IfOk r (Ended (λ o. (o ≡ file_fault w.log) × rose))
+    → IfOk r (Ended (λ o. ((file : List ℕ) × IsReadBy w file × (o ≡ file_fault file)) × rose'))
+log_ended w rose rose' (Ok o) to x = record { fault = λ at. let y = x.fault at in ((w.log, inr refl, y.0), to y.1); memory = x.memory }
+log_ended w rose rose' (Err e) to x = tt

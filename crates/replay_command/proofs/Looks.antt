@@ -13,7 +13,8 @@ use Rattle.replay_command.specs.declared.moves.Move.{Move}
 use Rattle.replay_command.specs.declared.moves.Move.TheVariants.{Look}
 use Rattle.replay_command.specs.Moves.{read_move}
 use Rattle.replay_command.specs.ReplayText.{at_frame, subject_at, ShowsStep, Looked, DoesMove, DoAll}
-use Rattle.replay_command.specs.inner.Steps.{Adds, Looks, LookedThrough}
+use Rattle.debug_command.specs.calls.Steps.{Adds}
+use Rattle.replay_command.specs.inner.Steps.{Looks, LookedThrough}
 
 -- one command more
 looks_more : (s : Subject) (taken : List (List ℕ)) (i j : ℕ) (out more given first : List ℕ) → Looks s i out taken j more → read_move given ≡ Look → Prints s j given (read_command given) first

@@ -1,13 +1,10 @@
 -- Moves between the steps of a run: words with exactly one space between them.
-use Rattle.std.specs.Prelude.{ℕ, ◌+◌, ◌==◌, List, [], ◌∷◌, take, drop, position, Option, Some, None, option_and_then, if◌then◌else◌, codes, bytes_eq, option_map}
+use Rattle.std.specs.Prelude.{ℕ, ◌+◌, ◌==◌, List, [], ◌∷◌, take, drop, position, Option, Some, None, option_and_then, codes, option_map}
 use Rattle.std.specs.List.{slice_split}
 use Rattle.pm_text.specs.Numbers.{decimal_value, positive_bits}
+use Rattle.debugger.specs.Commands.{is_word}
 use Rattle.replay_command.specs.declared.moves.Move.{Move}
 use Rattle.replay_command.specs.declared.moves.Move.TheVariants.{Goto, Back, Until, Look}
-
--- the move of a word, or another one
-abbrev pub is_word : List ℕ → List ℕ → Move → Move → Move
-is_word given word move other = if bytes_eq given word then move else other
 
 -- a decimal number below 2 ^ 32
 abbrev pub number_32 : List ℕ → Option ℕ

@@ -1,56 +1,46 @@
 //! The answer on the contents of two files.
 
-ghost use Rattle.std.specs.Prelude.{◌≡◌, ◌≢◌, ◌≤◌, ◌<◌, ◌^◌, ◌++◌, IfOk, Some, codes};
-ghost use Rattle.pm_text.specs.Names.{quoted};
+ghost use Rattle.std.specs.Prelude.{◌≡◌, ◌≤◌, ◌<◌, ◌^◌, IfOk, Some};
 ghost use Rattle.host_replies.specs.Replies.{file_replies};
 ghost use Rattle.debugger.specs.Subject.{Spells};
-ghost use Rattle.run_command.specs.RunAnswer.{bad_replies as bad_replies_at};
 ghost use Rattle.run_command.specs.Starting.{cause_text, not_started_with};
 ghost use Rattle.replay.specs.Moves.{IsFault};
 ghost use Rattle.replay.specs.Replays.{Recording, cause_in};
 ghost use Rattle.replay_command.specs.ReplayAnswer.{BytesAnswer, IfReplies, IsTold, ModuleAnswer};
 ghost use Rattle.replay_command.specs.inner.Told.{StandsAtStart, TellsFault};
+ghost use Rattle.commands.specs.calls.Ended.{Ended};
 
 use crate::ReplayWords;
 use crate::looking::Viewer;
 use crate::moving::replayed;
 use causes::NoMemory;
-use commands::{Loaded, Outcome, Status, load, numbered, push_number};
+use commands::{Given, Outcome, Status, load, numbered};
 use host_replies::{ReplyFault, read_replies};
 use pm_text::Text;
-use replay::{ReplayFault, Replayer};
+use replay::{Recorded, Replayer, StartRefusal};
+use run_command::{bad_replies, no_export};
 use std::alloc::Global;
 use wasm_syntax::Reply;
 use wasm_validate::Validated;
 
-/// The cause that names an export.
-fn no_export(alloc: Global, entry: &Text) -> Result<Text, NoMemory>
-    ensures { IfOk result (λ t. t ≡ codes "export " ++ quoted entry.now) }
-{
-    let mut text = Text::from_str(alloc, "export ")?;
-    text.push_quoted(entry.as_bytes())?;
-    Ok(text)
-}
-
 /// The cause that a fault is.
-fn cause_of(alloc: Global, entry: &Text, fault: ReplayFault) -> Result<Text, NoMemory>
+fn cause_of(alloc: Global, entry: &Text, fault: StartRefusal) -> Result<Text, NoMemory>
     ensures { IfOk result (λ t. (x : Recording) → IsFault fault x
         → cause_text entry.now (cause_in x) ≡ Some t) }
 {
     match fault {
-        ReplayFault::NoExport => no_export(alloc, entry),
-        ReplayFault::BadArguments => Text::from_str(alloc, "arguments"),
-        ReplayFault::ElementOut { index } => numbered(alloc, "element ", u64::from(index)),
-        ReplayFault::DataOut { index } => numbered(alloc, "data ", u64::from(index)),
-        ReplayFault::NoMemory => Err(NoMemory),
+        StartRefusal::NoExport => no_export(alloc, entry),
+        StartRefusal::BadArguments => Text::from_str(alloc, "arguments"),
+        StartRefusal::ElementOut { index } => numbered(alloc, "element ", u64::from(index)),
+        StartRefusal::DataOut { index } => numbered(alloc, "data ", u64::from(index)),
+        StartRefusal::NoMemory => Err(NoMemory),
     }
 }
 
 /// The answer where the run does not start.
-fn not_started(alloc: Global, entry: &Text, fault: ReplayFault) -> Result<Outcome, NoMemory>
+fn not_started(alloc: Global, entry: &Text, fault: StartRefusal) -> Result<Outcome, NoMemory>
     ensures value { IfOk result (TellsFault fault entry.now) }
-    ensures memory { IfOk result (λ o. o.status ≢ Status.NoMemory) }
-    ensures fault { IfOk result (λ o. o.status ≢ Status.FileFault) }
+    ensures ended { IfOk result (Ended (λ _. ⊥)) }
 {
     let cause = cause_of(alloc, entry, fault)?;
     let mut text = Text::from_str(alloc, "not started: ")?;
@@ -58,21 +48,6 @@ fn not_started(alloc: Global, entry: &Text, fault: ReplayFault) -> Result<Outcom
     text.push_str("\n")?;
     Ok(Outcome {
         status: Status::NotStarted,
-        text,
-    })
-}
-
-/// The answer where a line of the file of replies is no reply.
-fn bad_replies(alloc: Global, line: u64) -> Result<Outcome, NoMemory>
-    ensures value { IfOk result (λ o. o ≡ bad_replies_at line) }
-    ensures memory { IfOk result (λ o. o.status ≢ Status.NoMemory) }
-    ensures fault { IfOk result (λ o. o.status ≢ Status.FileFault) }
-{
-    let mut text = Text::new(alloc);
-    push_number(&mut text, "bad replies at line ", line)?;
-    text.push_str("\n")?;
-    Ok(Outcome {
-        status: Status::BadReplies,
         text,
     })
 }
@@ -88,8 +63,7 @@ fn told(
     requires spells { Spells bytes.now source.now }
     requires starts { StandsAtStart source.now replayer }
     ensures value { IfOk result (IsTold replayer.entry.recording bytes.now commands.now) }
-    ensures memory { IfOk result (λ o. o.status ≢ Status.NoMemory) }
-    ensures fault { IfOk result (λ o. o.status ≢ Status.FileFault) }
+    ensures ended { IfOk result (Ended (λ _. ⊥)) }
 {
     let _parts = source.module().parts();
     let mut viewer = Viewer::new(source, bytes);
@@ -125,17 +99,18 @@ fn on_replies(
 ) -> Result<Outcome, NoMemory>
     requires { Spells bytes.now source.now }
     ensures value { IfOk result (ModuleAnswer words.now bytes.now source.now replies.now) }
-    ensures memory { IfOk result (λ o. o.status ≢ Status.NoMemory) }
-    ensures fault { IfOk result (λ o. o.status ≢ Status.FileFault) }
+    ensures ended { IfOk result (Ended (λ _. ⊥)) }
 {
     let replayer = Replayer::new(
         alloc,
-        source,
-        words.entry.as_str(),
-        words.args.as_slice(),
-        replies,
-        depth_of(words),
-        words.fuel,
+        Recorded {
+            source,
+            entry: words.entry.as_str(),
+            args: words.args.as_slice(),
+            replies,
+            depth: depth_of(words),
+            fuel: words.fuel,
+        },
         spacing(words),
     );
     match replayer {
@@ -155,8 +130,7 @@ fn on_log(
     requires { Spells bytes.now source.now }
     ensures value { IfOk result (IfReplies (ModuleAnswer words.now bytes.now source.now)
         (file_replies log.now)) }
-    ensures memory { IfOk result (λ o. o.status ≢ Status.NoMemory) }
-    ensures fault { IfOk result (λ o. o.status ≢ Status.FileFault) }
+    ensures ended { IfOk result (Ended (λ _. ⊥)) }
 {
     match read_replies(alloc, log) {
         Ok(replies) => on_replies(alloc, words, bytes, source, replies.as_slice()),
@@ -173,12 +147,11 @@ pub(crate) fn on_bytes(
     log: &[u8],
 ) -> Result<Outcome, NoMemory>
     ensures value { IfOk result (BytesAnswer words.now bytes.now log.now) }
-    ensures memory { IfOk result (λ o. o.status ≢ Status.NoMemory) }
-    ensures fault { IfOk result (λ o. o.status ≢ Status.FileFault) }
+    ensures ended { IfOk result (Ended (λ _. ⊥)) }
 {
     let loaded = load(alloc, bytes)?;
     match loaded {
-        Loaded::Valid(source) => on_log(alloc, words, bytes, &source, log),
-        Loaded::TurnedDown(refusal) => Ok(refusal),
+        Given::Value(source) => on_log(alloc, words, bytes, &source, log),
+        Given::Refused(refusal) => Ok(refusal),
     }
 }

@@ -1,17 +1,19 @@
 //! The command on two files.
 
-ghost use Rattle.std.specs.Prelude.{◌≡◌, ◌≢◌, ◌≤◌, ℕ, List, IfOk};
+ghost use Rattle.std.specs.Prelude.{◌≡◌, ℕ, List, IfOk};
 ghost use Rattle.causes.specs.Counts.{Rose};
 ghost use Rattle.wasm_syntax.specs.declared.quantity.Quantity.TheVariants.{RepliesBytes};
 ghost use Rattle.commands.specs.Inputs.{input_of, Then};
 ghost use Rattle.commands.specs.Told.{UnlessFault, OnContents};
 ghost use Rattle.commands.specs.Texts.{file_fault};
 ghost use Rattle.replay_command.specs.ReplayAnswer.{BytesAnswer, ReplayAnswer, IsReadBy};
+ghost use Rattle.pm_outside.specs.calls.Kept.{FilesKept};
+ghost use Rattle.commands.specs.calls.Ended.{Ended};
 
 use crate::ReplayWords;
 use crate::answering::on_bytes;
 use causes::NoMemory;
-use commands::{Input, Outcome, Status, read_input};
+use commands::{Given, Outcome, read_input};
 use pm_outside::Files;
 use std::alloc::Global;
 use wasm_syntax::Quantity;
@@ -26,17 +28,14 @@ fn replay_log<F: Files>(
     ensures told { IfOk result (λ o. UnlessFault o.status (OnContents (F.told files.old) (λ later.
         Then (input_of RepliesBytes words.now.log (later words.now.log))
         (BytesAnswer words.now bytes.now) o))) }
-    ensures fault { IfOk result (λ o. o.status ≡ Status.FileFault
-        → (o ≡ file_fault words.now.log) × Rose (F.faults files.old) (F.faults files.new)) }
-    ensures memory { IfOk result (λ o. o.status ≢ Status.NoMemory) }
-    ensures later { F.faults files.old ≤ F.faults files.new }
-    ensures same { F.told files.new ≡ F.told files.old }
-    ensures names { F.created files.new ≡ F.created files.old }
+    ensures ended { IfOk result (Ended (λ o.
+        (o ≡ file_fault words.now.log) × Rose (F.faults files.old) (F.faults files.new))) }
+    ensures files { FilesKept F.told F.created F.faults files.old files.new }
 {
     let input = read_input(alloc, files, words.log.as_str(), Quantity::RepliesBytes)?;
     match input {
-        Input::Whole(log) => on_bytes(alloc, words, bytes, &log),
-        Input::Refused(refusal) => Ok(refusal),
+        Given::Value(log) => on_bytes(alloc, words, bytes, &log),
+        Given::Refused(refusal) => Ok(refusal),
     }
 }
 
@@ -53,17 +52,14 @@ pub fn replay_file<F: Files>(
 ) -> Result<Outcome, NoMemory>
     ensures told { IfOk result (λ o. UnlessFault o.status (OnContents (F.told files.old) (λ first.
         OnContents (F.told files.old) (λ later. ReplayAnswer words.now first later o)))) }
-    ensures fault { IfOk result (λ o. o.status ≡ Status.FileFault
-        → ((file : List ℕ) × IsReadBy words.now file × (o ≡ file_fault file))
-        × Rose (F.faults files.old) (F.faults files.new)) }
-    ensures memory { IfOk result (λ o. o.status ≢ Status.NoMemory) }
-    ensures later { F.faults files.old ≤ F.faults files.new }
-    ensures same { F.told files.new ≡ F.told files.old }
-    ensures names { F.created files.new ≡ F.created files.old }
+    ensures ended { IfOk result (Ended (λ o.
+        ((file : List ℕ) × IsReadBy words.now file × (o ≡ file_fault file))
+        × Rose (F.faults files.old) (F.faults files.new))) }
+    ensures files { FilesKept F.told F.created F.faults files.old files.new }
 {
     let input = read_input(alloc, files, words.source.as_str(), Quantity::ModuleBytes)?;
     match input {
-        Input::Whole(bytes) => replay_log(alloc, files, words, &bytes),
-        Input::Refused(refusal) => Ok(refusal),
+        Given::Value(bytes) => replay_log(alloc, files, words, &bytes),
+        Given::Refused(refusal) => Ok(refusal),
     }
 }

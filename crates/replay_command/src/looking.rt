@@ -5,10 +5,11 @@ ghost use Rattle.debugger.specs.Subject.{Spells};
 ghost use Rattle.dump_match.specs.States.{KeptState};
 ghost use Rattle.replay.specs.Moves.{OfEach};
 ghost use Rattle.replay_command.specs.ReplayText.{ShowsStep, commands_in};
-ghost use Rattle.replay_command.specs.inner.Steps.{Adds, BeginsWithLook, IsShorter, LookedThrough, Took, choosing, left_in};
+ghost use Rattle.replay_command.specs.inner.Steps.{BeginsWithLook, IsShorter, LookedThrough, Took, choosing, left_in};
 
 use crate::reading::{begins_with_look, first_command};
 use causes::NoMemory;
+use debug_command::push_command;
 use debugger::{Information, Session};
 use dump_format::Dump;
 use dump_match::{StateMatched, matches_state};
@@ -41,19 +42,6 @@ impl<'a> Model for Viewer<'a> {
 
     ghost invariant = { λ v. Spells v.bytes.now v.source.now
         × IfSome v.known (λ x. x ≡ information v.bytes.now v.source.now.customs) };
-}
-
-/// Adds what a command prints.
-fn push_command(
-    out: &mut Text,
-    alloc: Global,
-    session: &mut Session<'_, '_, '_, '_>,
-    command: &str,
-) -> Result<(), NoMemory>
-    ensures { OnOk result (Adds session.old out.old command.now session.new out.new) }
-{
-    let text = session.command(alloc, command)?;
-    out.push_str(text.as_str())
 }
 
 /// Adds what the commands before the first move print, and hands out the text that is left from

@@ -2,21 +2,13 @@
 
 ghost use Rattle.std.specs.Prelude.{◌≡◌, ◌∷◌, ◌==◌};
 ghost use Rattle.std.specs.List.{slice_split};
-ghost use Rattle.debugger.specs.calls.Words.{words_behind};
-ghost use Rattle.replay_command.specs.Moves.{number_32 as number_there, place as place_there, one_word as one_word_there, goto_step, until_place, two_words as two_words_there, move_of, read_move as move_there};
+ghost use Rattle.replay_command.specs.Moves.{number_32 as number_there, place as place_there};
+ghost use Rattle.replay_command.specs.Moves.{one_word as one_word_there, goto_step, until_place};
+ghost use Rattle.replay_command.specs.Moves.{two_words as two_words_there, move_of, read_move as move_there};
 
 use crate::moves::Move;
+use debugger::first_word;
 use pm_text::read_decimal;
-
-/// The first word, and the text behind the space after it, where there is one.
-fn first_word(text: &str) -> (&str, Option<&str>)
-    ensures { slice_split (λ b. b == 32) text.now ≡ result.0.now ∷ words_behind result.1 }
-{
-    match text.split_once(' ') {
-        Some(parts) => (parts.0, Some(parts.1)),
-        None => (text, None),
-    }
-}
 
 /// A decimal number below 2^32.
 fn number_32(digits: &str) -> Option<u32>

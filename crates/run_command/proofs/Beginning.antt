@@ -28,8 +28,8 @@ use Rattle.run_command.specs.Starting.{cause_text, segment_of, entries_text}
 use Rattle.run_command.specs.Hosting.{is_replied, is_served, import_text, first_unserved, start_text}
 use Rattle.run_command.specs.RunAnswer.{hosting}
 use Rattle.run_command.specs.calls.Begun.{fault_text, import_in, start_cause, HasBegun}
-use Rattle.run_command.specs.declared.running.Begun.{Begun}
-use Rattle.run_command.specs.declared.running.Begun.TheVariants.{Ready}
+use Rattle.commands.specs.declared.given.Given.{Given}
+use Rattle.commands.specs.declared.given.Given.TheVariants as givens
 use Rattle.run_command.proofs.Answering.{none_then}
 use Rattle.run_command.proofs.Entries.{own_text}
 use Rattle.std.specs.Option.{option_or, option_map_or}
@@ -132,24 +132,24 @@ all_begin serving m (i ∷ is) e u zero d lt =
 all_begin serving m (i ∷ is) e u (suc k) d lt = all_begin serving m is (none_then i.entry (cause_of_entry m (function_export m i.entry) i.args) (entries_text m (map invocation_of is)) e).1 u k d (omega (arith, lt))
 
 -- with an instance that was made
-pub begun_begin : (serving : Import → FuncType → Bool) (m : Module) (is : List InvocationWords) (s : State) → HasBegun serving m (map invocation_of is) (Ready s) → All (λ i. entry_fault serving s.module_ i.entry i.args ≡ None) is
+pub begun_begin : (serving : Import → FuncType → Bool) (m : Module) (is : List InvocationWords) (s : State) → HasBegun serving m (map invocation_of is) (givens.Value s) → All (λ i. entry_fault serving s.module_ i.entry i.args ≡ None) is
 begun_begin serving m is s (starts, segments, new) =
     let k = none_starts serving m (map invocation_of is) starts in
     subst (λ (x : Module). All (λ i. entry_fault serving x i.entry i.args ≡ None) is) (sym new.module_is) (all_begin serving m is k.0 k.1)
 
-pub of_begun : (result : Result Begun WantOfMemory) (begun is_it : Begun) (P : Begun → Type 0) → result ≡ Ok begun → begun ≡ is_it → IfOk result P → P is_it
+pub of_begun : (result : Result (Given State) WantOfMemory) (begun is_it : Given State) (P : Given State → Type 0) → result ≡ Ok begun → begun ≡ is_it → IfOk result P → P is_it
 of_begun result begun is_it P is same x = subst P same (subst (λ r. IfOk r P) is x)
 
-pub same_list : (serving : Import → FuncType → Bool) (m : Module) (xs is : List InvocationWords) (result : Result Begun WantOfMemory) → xs ≡ is → IfOk result (HasBegun serving m (map invocation_of xs)) → IfOk result (HasBegun serving m (map invocation_of is))
+pub same_list : (serving : Import → FuncType → Bool) (m : Module) (xs is : List InvocationWords) (result : Result (Given State) WantOfMemory) → xs ≡ is → IfOk result (HasBegun serving m (map invocation_of xs)) → IfOk result (HasBegun serving m (map invocation_of is))
 same_list serving m xs is result same begun = subst (λ l. IfOk result (HasBegun serving m (map invocation_of l))) same begun
 
 -- with a collector in front of the host side, and without one
-pub behind_collector : {H : Type 0} (serving : H → Import → FuncType → Bool) (collect : Bool) (c : CollectingState H) (h : H) (m : Module) (is : List Invocation) (result : Result Begun WantOfMemory) → collect ≡ true → h ≡ c.inner
+pub behind_collector : {H : Type 0} (serving : H → Import → FuncType → Bool) (collect : Bool) (c : CollectingState H) (h : H) (m : Module) (is : List Invocation) (result : Result (Given State) WantOfMemory) → collect ≡ true → h ≡ c.inner
     → IfOk result (HasBegun (λ i type. collected serving c i type) m is) → IfOk result (HasBegun (serving_of collect (serving h)) m is)
 behind_collector serving collect c h m is result asked back begun =
     subst (λ b. IfOk result (HasBegun (serving_of b (serving h)) m is)) (sym asked) (subst (λ k. IfOk result (HasBegun (serving_of true (serving k)) m is)) (sym back) begun)
 
-pub without_collector : {H : Type 0} (serving : H → Import → FuncType → Bool) (collect : Bool) (h : H) (m : Module) (is : List Invocation) (result : Result Begun WantOfMemory) → collect ≡ false
+pub without_collector : {H : Type 0} (serving : H → Import → FuncType → Bool) (collect : Bool) (h : H) (m : Module) (is : List Invocation) (result : Result (Given State) WantOfMemory) → collect ≡ false
     → IfOk result (HasBegun (serving h) m is) → IfOk result (HasBegun (serving_of collect (serving h)) m is)
 without_collector serving collect h m is result none begun = subst (λ b. IfOk result (HasBegun (serving_of b (serving h)) m is)) (sym none) begun
 

@@ -19,12 +19,10 @@ use Rattle.commands.specs.calls.Input.{IsInput}
 use Rattle.commands.specs.Inputs.{input_of}
 use Rattle.commands.specs.calls.Loaded.{IsLoaded}
 use Rattle.commands.specs.Told.{OnContents}
-use Rattle.commands.specs.declared.input.Input.{Input}
-use Rattle.commands.specs.declared.input.Input.TheVariants as inputs
+use Rattle.commands.specs.declared.given.Given.{Given}
+use Rattle.commands.specs.declared.given.Given.TheVariants as givens
 use Rattle.commands.specs.declared.outcome.Outcome.{Outcome}
 use Rattle.commands.specs.declared.status.Status.TheVariants as status
-use Rattle.commands.specs.declared.loading.Loaded.{Loaded}
-use Rattle.commands.specs.declared.loading.Loaded.TheVariants.{Valid as IsValid}
 use Rattle.commands.proofs.ReadFiles.{map_contents}
 use Rattle.run_words.specs.declared.words.RunWords.{RunWords}
 use Rattle.wasm_syntax.specs.declared.host.CollectorCall.{CollectorCall}
@@ -41,11 +39,8 @@ use Rattle.run_command.specs.calls.Scripts.{script_result, IsAsked, IsReadFault}
 use Rattle.run_command.specs.Stops.{RunsFor, dumps_of, StopsRecord, StopsRun, NothingDone, ModuleStops, ScriptStops, BytesStops, SourceStops, FileStops, RunStops}
 use Rattle.run_command.specs.declared.scripts.Script.{Script}
 use Rattle.run_command.specs.declared.scripts.Script.TheVariants.{Whole}
-use Rattle.run_command.specs.declared.scripts.Asked.{Asked}
-use Rattle.run_command.specs.declared.scripts.Asked.TheVariants.{Read}
 use Rattle.run_command.proofs.Answering.{none_then, is_run, told_uses, told_fails}
 use Rattle.run_command.specs.calls.Begun.{HasBegun}
-use Rattle.run_command.specs.declared.running.Begun.TheVariants.{Ready}
 use Rattle.run_command.proofs.Beginning.{none_starts, starts_alike}
 use Rattle.run_command.specs.inner.Recording.{Records, fitting}
 use Rattle.run_command.proofs.Fitting.{recorded_stops}
@@ -203,7 +198,7 @@ module _ (devices : List DeviceState) (w : RunWords) (P : Stop → Option Conten
 module _ (before after : List DeviceState) (w : RunWords) (result : Result Outcome WantOfMemory) where
   -- a new instance was made, and the invocations were run on it
   pub ready_stops : (deliver : List CollectorCall → Delivery) → IsDelivery deliver → (rose : Type 0) (ran : Result Outcome WantOfMemory) (script : Option (List Reply)) (m : Module) (s : State) (bad : Bool) (h0 h1 : HostsState) (told mid told' : Option Contents)
-      → IsModule m → Valid m → HasBegun (serving_of w.collect (λ i type. serves h0 i)) m (map invocation_of w.invocations) (Ready s)
+      → IsModule m → Valid m → HasBegun (serving_of w.collect (λ i type. serves h0 i)) m (map invocation_of w.invocations) (givens.Value s)
       → Began m.imports before script h0 → origin_of h1 ≡ origin_of h0 → GaveBack h1 after
       → ((p : Program) → IsOf s p → OnAnswer (RanSo deliver p w s bad h0 h1 told mid) ran) → IfOk ran (λ o. o.status ≡ status.NoMemory → ⊥)
       → ((p : Program) → IsOf s p → OnStop (StopsSo deliver p w s h0 h1 told mid) ran)
@@ -225,28 +220,28 @@ module _ (before after : List DeviceState) (w : RunWords) (result : Result Outco
       reached before after w (λ stop old new. ModuleStops stop w m script before after old new) (λ stop old new. ScriptStops stop w m (script_result given) before after old new) told told told' result refl
       (λ stop y. (script, ap (λ s. script_result s) is, y)) x
 
-  pub bytes_stop : (script : Result (Option (List Reply)) Outcome) (bytes : List ℕ) (loaded : Loaded) (m : Module) (told told' : Option Contents) → loaded ≡ IsValid m → IsLoaded loaded (module_from bytes)
+  pub bytes_stop : (script : Result (Option (List Reply)) Outcome) (bytes : List ℕ) (loaded : Given Module) (m : Module) (told told' : Option Contents) → loaded ≡ givens.Value m → IsLoaded loaded (module_from bytes)
       → OnStop (StepStops before after w (λ stop old new. ScriptStops stop w m script before after old new) told told') result
       → OnStop (StepStops before after w (λ stop old new. BytesStops stop w bytes script before after old new) told told') result
   bytes_stop script bytes loaded m told told' is facts x =
       reached before after w (λ stop old new. ScriptStops stop w m script before after old new) (λ stop old new. BytesStops stop w bytes script before after old new) told told told' result refl
       (λ stop y. (m, subst (λ l. IsLoaded l (module_from bytes)) is facts, y)) x
 
-  pub source_stops : (bytes : List ℕ) (asked : Asked) (script : Script) (told mid told' : Option Contents) → mid ≡ told → asked ≡ Read script → OnContents told (λ held. IsAsked asked (replies_input w.replies held))
+  pub source_stops : (bytes : List ℕ) (asked : Given Script) (script : Script) (told mid told' : Option Contents) → mid ≡ told → asked ≡ givens.Value script → OnContents told (λ held. IsAsked asked (replies_input w.replies held))
       → OnStop (StepStops before after w (λ stop old new. BytesStops stop w bytes (script_result script) before after old new) mid told') result
       → OnStop (StepStops before after w (λ stop old new. SourceStops stop w bytes before after old new) told told') result
   source_stops bytes asked script told mid told' same is facts x =
       reached before after w (λ stop old new. BytesStops stop w bytes (script_result script) before after old new) (λ stop old new. SourceStops stop w bytes before after old new) told mid told' result same
-      (λ stop y. map_contents told (λ held. IsAsked (Read script) (replies_input w.replies held)) (λ later. (replies : Option (List ℕ)) × (replies_input w.replies later ≡ Ok replies) × BytesStops stop w bytes (script_of replies) before after told told')
+      (λ stop y. map_contents told (λ held. IsAsked (givens.Value script) (replies_input w.replies held)) (λ later. (replies : Option (List ℕ)) × (replies_input w.replies later ≡ Ok replies) × BytesStops stop w bytes (script_of replies) before after told told')
       (λ held read. (read.0, read.1, subst (λ s. BytesStops stop w bytes s before after told told') read.2 y))
       (subst (λ a. OnContents told (λ held. IsAsked a (replies_input w.replies held))) is facts)) x
 
-  pub file_stops : (name : List ℕ) (input : Input) (bytes : Vec ℕ Global) (spelled : List ℕ) (told mid told' : Option Contents) → mid ≡ told → name ≡ w.source → input ≡ inputs.Whole bytes → spelled ≡ bytes.items
+  pub file_stops : (name : List ℕ) (input : Given (Vec ℕ Global)) (bytes : Vec ℕ Global) (spelled : List ℕ) (told mid told' : Option Contents) → mid ≡ told → name ≡ w.source → input ≡ givens.Value bytes → spelled ≡ bytes.items
       → OnContents told (λ held. IsInput input (input_of ModuleBytes name (held name)))
       → OnStop (StepStops before after w (λ stop old new. SourceStops stop w spelled before after old new) mid told') result
       → OnStop (λ stop. RunStops stop w before after told told') result
   file_stops name input bytes spelled told mid told' same named is spells facts x =
       reached before after w (λ stop old new. SourceStops stop w spelled before after old new) (λ stop old new. FileStops stop w before after old new) told mid told' result same
-      (λ stop y. map_contents told (λ held. IsInput (inputs.Whole bytes) (input_of ModuleBytes w.source (held w.source))) (λ first. (bytes : List ℕ) × (input_of ModuleBytes w.source (first w.source) ≡ Ok bytes) × SourceStops stop w bytes before after told told')
+      (λ stop y. map_contents told (λ held. IsInput (givens.Value bytes) (input_of ModuleBytes w.source (held w.source))) (λ first. (bytes : List ℕ) × (input_of ModuleBytes w.source (first w.source) ≡ Ok bytes) × SourceStops stop w bytes before after told told')
       (λ held read. (bytes.items, read, subst (λ b. SourceStops stop w b before after told told') spells y))
-      (subst (λ n. OnContents told (λ held. IsInput (inputs.Whole bytes) (input_of ModuleBytes n (held n)))) named (subst (λ i. OnContents told (λ held. IsInput i (input_of ModuleBytes name (held name)))) is facts))) x
+      (subst (λ n. OnContents told (λ held. IsInput (givens.Value bytes) (input_of ModuleBytes n (held n)))) named (subst (λ i. OnContents told (λ held. IsInput i (input_of ModuleBytes name (held name)))) is facts))) x

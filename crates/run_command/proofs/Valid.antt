@@ -37,7 +37,7 @@ use Rattle.pm_outside.specs.Held.{Writes, HoldThen}
 use Rattle.pm_outside.proofs.Held.{held_also}
 use Rattle.pm_outside.specs.Written.{OnTold}
 use Rattle.run_command.specs.calls.Begun.{HasBegun}
-use Rattle.run_command.specs.declared.running.Begun.TheVariants.{Ready, Refused}
+use Rattle.commands.specs.declared.given.Given.TheVariants as givens
 use Rattle.run_command.proofs.Beginning.{none_starts, starts_alike}
 use Rattle.run_command.proofs.Refusals.{untouched}
 use Rattle.run_command.proofs.Hostings.{Began, GaveBack, host_facts, given_is, by_script, logs, rose_on}
@@ -144,7 +144,7 @@ valid_told result before after script w m n told told' same starts runs =
 
 -- a new instance was made, and the invocations were run on it
 pub ready_told : (deliver : List CollectorCall → Delivery) → IsDelivery deliver → (rose : Type 0) (ran result : Result Outcome WantOfMemory) (before after : List DeviceState) (script : Option (List Reply)) (w : RunWords) (m : Module) (s : State) (bad : Bool) (h0 h1 : HostsState) (told mid told' : Option Contents)
-    → IsModule m → Valid m → HasBegun (serving_of w.collect (λ i type. serves h0 i)) m (map invocation_of w.invocations) (Ready s)
+    → IsModule m → Valid m → HasBegun (serving_of w.collect (λ i type. serves h0 i)) m (map invocation_of w.invocations) (givens.Value s)
     → Began m.imports before script h0 → origin_of h1 ≡ origin_of h0 → GaveBack h1 after
     → ((p : Program) → IsOf s p → OnAnswer (RanSo deliver p w s bad h0 h1 told mid) ran)
     → Records w.log_to (fitting bad h1.served) rose ran result mid told'
@@ -159,7 +159,7 @@ ready_told deliver delivers rose ran result before after script w m s bad h0 h1 
 
 -- nothing was run, and the devices were given back
 pub refused_back : (result : Result Outcome WantOfMemory) (before after : List DeviceState) (script : Option (List Reply)) (w : RunWords) (m : Module) (h : HostsState) (told : Option Contents) (o : Outcome)
-    → Valid m → Began m.imports before script h → after ≡ h.devices → HasBegun (serving_of w.collect (λ i type. serves h i)) m (map invocation_of w.invocations) (Refused o) → result ≡ Ok o
+    → Valid m → Began m.imports before script h → after ≡ h.devices → HasBegun (serving_of w.collect (λ i type. serves h i)) m (map invocation_of w.invocations) (givens.Refused o) → result ≡ Ok o
     → OnAnswer (IsAnswered (λ given writes. ModuleAnswer before after w given writes script m) before after told told) result
 refused_back result before after script w m h told o valid began back (cause, starts, is) same =
     subst (λ ds. OnAnswer (IsAnswered (λ given writes. ModuleAnswer before ds w given writes script m) before ds told told) result) (sym (back ∙ began.devices_are))

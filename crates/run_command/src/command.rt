@@ -1,6 +1,6 @@
 //! The command on the module in a file.
 
-ghost use Rattle.std.specs.Prelude.{◌≡◌, ◌≢◌, ◌≤◌, ◌<◌, ◌⊎◌, length, IfOk, is_some};
+ghost use Rattle.std.specs.Prelude.{◌≤◌, ◌<◌, ◌⊎◌, length, IfOk};
 ghost use Rattle.causes.specs.Counts.{Rose};
 ghost use Rattle.host_set.specs.Sets.{names, AreDistinct};
 ghost use Rattle.commands.specs.Told.{UnlessFault, OnContents};
@@ -10,11 +10,13 @@ ghost use Rattle.run_command.specs.inner.Steps.{IsAnswered};
 ghost use Rattle.run_command.specs.Stops.{NothingDone, ScriptStops, BytesStops, SourceStops, RunStops};
 ghost use Rattle.run_command.specs.RunAnswer.{IsReadBy, RunAnswer, AnsweredOn};
 ghost use Rattle.run_command.specs.calls.Scripts.{script_result, ScriptAnswer, BytesAnswer, SourceAnswer};
+ghost use Rattle.pm_outside.specs.calls.Kept.{FilesGoOn};
+ghost use Rattle.commands.specs.calls.Ended.{Ended};
 
 use crate::running::run_valid;
-use crate::scripts::{Asked, Script, asked_script, bad_replies};
+use crate::scripts::{Script, asked_script, bad_replies};
 use causes::NoMemory;
-use commands::{Input, Loaded, Outcome, Status, load, read_input};
+use commands::{Given, Outcome, load, read_input};
 use host_set::Devices;
 use pm_outside::Files;
 use run_words::RunWords;
@@ -44,14 +46,11 @@ fn run_scripted<F: Files, D: Devices>(
         ⊎ ScriptStops stop words.now source.now (script_result script)
         (D.shown devices.old) (D.shown devices.new) (F.told files.old) (F.told files.new))
         result }
-    ensures fault { IfOk result (λ o. o.status ≡ Status.FileFault
-        → Rose (F.faults files.old) (F.faults files.new)) }
-    ensures memory { IfOk result (λ o. o.status ≢ Status.NoMemory) }
+    ensures ended { IfOk result (Ended (λ _. Rose (F.faults files.old) (F.faults files.new))) }
     ensures distinct { AreDistinct (names (D.shown devices.new)) }
     ensures names { CreatesOnly (IsRunName words.now) (F.created files.old)
         (F.created files.new) }
-    ensures telling { is_some (F.told files.new) ≡ is_some (F.told files.old) }
-    ensures later { F.faults files.old ≤ F.faults files.new }
+    ensures files { FilesGoOn F.told F.faults files.old files.new }
 {
     match script {
         Script::Whole(script) => run_valid(alloc, files, words, source, script, devices),
@@ -81,19 +80,16 @@ fn run_bytes<F: Files, D: Devices>(
         ⊎ BytesStops stop words.now bytes.now (script_result script)
         (D.shown devices.old) (D.shown devices.new) (F.told files.old) (F.told files.new))
         result }
-    ensures fault { IfOk result (λ o. o.status ≡ Status.FileFault
-        → Rose (F.faults files.old) (F.faults files.new)) }
-    ensures memory { IfOk result (λ o. o.status ≢ Status.NoMemory) }
+    ensures ended { IfOk result (Ended (λ _. Rose (F.faults files.old) (F.faults files.new))) }
     ensures distinct { AreDistinct (names (D.shown devices.new)) }
     ensures names { CreatesOnly (IsRunName words.now) (F.created files.old)
         (F.created files.new) }
-    ensures telling { is_some (F.told files.new) ≡ is_some (F.told files.old) }
-    ensures later { F.faults files.old ≤ F.faults files.new }
+    ensures files { FilesGoOn F.told F.faults files.old files.new }
 {
     let loaded = load(alloc, bytes)?;
     match loaded {
-        Loaded::Valid(source) => run_scripted(alloc, files, words, &source, script, devices),
-        Loaded::TurnedDown(refusal) => Ok(refusal),
+        Given::Value(source) => run_scripted(alloc, files, words, &source, script, devices),
+        Given::Refused(refusal) => Ok(refusal),
     }
 }
 
@@ -118,19 +114,16 @@ fn run_source<F: Files, D: Devices>(
         ⊎ SourceStops stop words.now bytes.now
         (D.shown devices.old) (D.shown devices.new) (F.told files.old) (F.told files.new))
         result }
-    ensures fault { IfOk result (λ o. o.status ≡ Status.FileFault
-        → Rose (F.faults files.old) (F.faults files.new)) }
-    ensures memory { IfOk result (λ o. o.status ≢ Status.NoMemory) }
+    ensures ended { IfOk result (Ended (λ _. Rose (F.faults files.old) (F.faults files.new))) }
     ensures distinct { AreDistinct (names (D.shown devices.new)) }
     ensures names { CreatesOnly (IsRunName words.now) (F.created files.old)
         (F.created files.new) }
-    ensures telling { is_some (F.told files.new) ≡ is_some (F.told files.old) }
-    ensures later { F.faults files.old ≤ F.faults files.new }
+    ensures files { FilesGoOn F.told F.faults files.old files.new }
 {
     let asked = asked_script(alloc, files, &words.replies)?;
     match asked {
-        Asked::Read(script) => run_bytes(alloc, files, words, bytes, script, devices),
-        Asked::Refused(refusal) => Ok(refusal),
+        Given::Value(script) => run_bytes(alloc, files, words, bytes, script, devices),
+        Given::Refused(refusal) => Ok(refusal),
     }
 }
 
@@ -155,18 +148,15 @@ pub fn run_file<F: Files, D: Devices>(
         (F.told files.old) (F.told files.new) o)) }
     ensures stops { OnStop (λ stop. RunStops stop words.now
         (D.shown devices.old) (D.shown devices.new) (F.told files.old) (F.told files.new)) result }
-    ensures fault { IfOk result (λ o. o.status ≡ Status.FileFault
-        → Rose (F.faults files.old) (F.faults files.new)) }
-    ensures memory { IfOk result (λ o. o.status ≢ Status.NoMemory) }
+    ensures ended { IfOk result (Ended (λ _. Rose (F.faults files.old) (F.faults files.new))) }
     ensures distinct { AreDistinct (names (D.shown devices.new)) }
     ensures names { CreatesOnly (IsRunName words.now) (F.created files.old)
         (F.created files.new) }
-    ensures telling { is_some (F.told files.new) ≡ is_some (F.told files.old) }
-    ensures later { F.faults files.old ≤ F.faults files.new }
+    ensures files { FilesGoOn F.told F.faults files.old files.new }
 {
     let input = read_input(alloc, files, words.source.as_str(), Quantity::ModuleBytes)?;
     match input {
-        Input::Whole(bytes) => run_source(alloc, files, words, &bytes, devices),
-        Input::Refused(refusal) => Ok(refusal),
+        Given::Value(bytes) => run_source(alloc, files, words, &bytes, devices),
+        Given::Refused(refusal) => Ok(refusal),
     }
 }

@@ -8,5 +8,6 @@ mod scripts;
 mod starting;
 
 pub use command::run_file;
-pub use running::{Begun, begin};
-pub use scripts::{Asked, Script, asked_script, bad_replies};
+pub use running::begin;
+pub use scripts::{Script, asked_script, bad_replies};
+pub use starting::no_export;

@@ -1,12 +1,13 @@
 //! The record of a run.
 
-ghost use Rattle.std.specs.Prelude.{◌≡◌, ◌≢◌, ◌≤◌, ◌-◌, All, IfOk, OnOk, is_some, length, map, take};
+ghost use Rattle.std.specs.Prelude.{◌≡◌, ◌≢◌, ◌≤◌, ◌-◌, All, IfOk, OnOk, length, map, take};
 ghost use Rattle.causes.specs.Counts.{Rose};
 ghost use Rattle.host_replies.specs.Record.{IsReplyTyped, record_text};
 ghost use Rattle.run_session.specs.calls.Sessions.{ends_badly};
 ghost use Rattle.run_session.specs.Created.{CreatesOnly};
 ghost use Rattle.run_session.specs.calls.Creating.{MayCreate};
 ghost use Rattle.run_command.specs.inner.Recording.{Behind, Records, fitting, misfits_in};
+ghost use Rattle.pm_outside.specs.calls.Kept.{FilesGoOn};
 
 use causes::NoMemory;
 use commands::{Outcome, Status, about_file};
@@ -70,8 +71,7 @@ fn write_record<F: Files, D: Devices>(
     ensures memory { outcome.status ≢ Status.NoMemory
         → IfOk result (λ o. o.status ≢ Status.NoMemory) }
     ensures names { MayCreate file.now (F.created files.old) (F.created files.new) }
-    ensures telling { is_some (F.told files.new) ≡ is_some (F.told files.old) }
-    ensures later { F.faults files.old ≤ F.faults files.new }
+    ensures files { FilesGoOn F.told F.faults files.old files.new }
 {
     let text = record_of(alloc, hosts, fitting_count(instance, hosts))?;
     match write_file(files, file.as_str(), text.as_bytes()) {
@@ -99,8 +99,7 @@ pub(crate) fn recorded<F: Files, D: Devices>(
         → IfOk result (λ o. o.status ≢ Status.NoMemory) }
     ensures names { CreatesOnly (λ name. log_to.now ≡ Some name) (F.created files.old)
         (F.created files.new) }
-    ensures telling { is_some (F.told files.new) ≡ is_some (F.told files.old) }
-    ensures later { F.faults files.old ≤ F.faults files.new }
+    ensures files { FilesGoOn F.told F.faults files.old files.new }
 {
     let outcome = outcome?;
     if outcome.status == Status::FileFault {

@@ -1,6 +1,6 @@
 //! The run of a list of invocations on a valid module.
 
-ghost use Rattle.std.specs.Prelude.{◌≡◌, ◌≢◌, ◌<◌, ◌≤◌, ◌⊎◌, [], Some, map, IfOk, length, is_some};
+ghost use Rattle.std.specs.Prelude.{◌≡◌, ◌<◌, ◌≤◌, ◌⊎◌, [], Some, map, IfOk, length};
 ghost use Rattle.causes.specs.Counts.{Rose};
 ghost use Rattle.host_set.specs.Sets.{AreDistinct, names};
 ghost use Rattle.commands.specs.Told.{UnlessFault};
@@ -13,11 +13,13 @@ ghost use Rattle.run_command.specs.RunAnswer.{ModuleAnswer, IsReadBy};
 ghost use Rattle.run_command.specs.calls.Begun.{HasBegun};
 ghost use Rattle.run_command.specs.inner.Steps.{IsAnswered};
 ghost use Rattle.run_command.specs.Stops.{NothingDone, ModuleStops};
+ghost use Rattle.pm_outside.specs.calls.Kept.{FilesGoOn};
+ghost use Rattle.commands.specs.calls.Ended.{Ended};
 
 use crate::recording::recorded;
 use crate::starting::{early_cause, not_started};
 use causes::NoMemory;
-use commands::{Outcome, Status, numbered};
+use commands::{Given, Outcome, numbered};
 use host_collector::Collecting;
 use host_devices::HostSide;
 use host_set::{Devices, Hosts};
@@ -30,13 +32,6 @@ use std::mem;
 use wasm_machine::{Instance, StartFault};
 use wasm_syntax::Reply;
 use wasm_validate::Validated;
-
-/// A new instance, or what is answered where nothing is run.
-#[derive(Drop)]
-pub enum Begun<'a> {
-    Ready(Instance<'a>),
-    Refused(Outcome),
-}
 
 /// The cause that names a segment that lies outside.
 fn segment_cause(alloc: Global, fault: StartFault) -> Result<Text, NoMemory>
@@ -60,7 +55,7 @@ pub fn begin<'a, H: HostSide>(
     source: &'a Validated,
     invocations: &[Invocation],
     hosts: &H,
-) -> Result<Begun<'a>, NoMemory>
+) -> Result<Given<Instance<'a>>, NoMemory>
     requires { 0 < length invocations.now }
     ensures { IfOk result (HasBegun (H.serving hosts.now) source.now
         (map invocation_of invocations.now)) }
@@ -69,16 +64,16 @@ pub fn begin<'a, H: HostSide>(
     match cause {
         Some(text) => {
             let refusal = not_started(alloc, &text)?;
-            return Ok(Begun::Refused(refusal));
+            return Ok(Given::Refused(refusal));
         }
         None => {}
     }
     match Instance::new(alloc, source) {
-        Ok(instance) => Ok(Begun::Ready(instance)),
+        Ok(instance) => Ok(Given::Value(instance)),
         Err(fault) => {
             let text = segment_cause(alloc, fault)?;
             let refusal = not_started(alloc, &text)?;
-            Ok(Begun::Refused(refusal))
+            Ok(Given::Refused(refusal))
         }
     }
 }
@@ -91,7 +86,7 @@ fn begin_with<'a, H: HostSide>(
     source: &'a Validated,
     words: &RunWords,
     hosts: H,
-) -> (Result<Begun<'a>, NoMemory>, H)
+) -> (Result<Given<Instance<'a>>, NoMemory>, H)
     requires { 0 < length words.now.invocations }
     ensures begun { IfOk result.0
         (HasBegun (serving_of words.now.collect (H.serving result.1)) source.now
@@ -131,14 +126,11 @@ pub(crate) fn run_valid<F: Files, D: Devices>(
         ⊎ ModuleStops stop words.now source.now script
         (D.shown devices.old) (D.shown devices.new) (F.told files.old) (F.told files.new))
         result }
-    ensures fault { IfOk result (λ o. o.status ≡ Status.FileFault
-        → Rose (F.faults files.old) (F.faults files.new)) }
-    ensures memory { IfOk result (λ o. o.status ≢ Status.NoMemory) }
+    ensures ended { IfOk result (Ended (λ _. Rose (F.faults files.old) (F.faults files.new))) }
     ensures distinct { AreDistinct (names (D.shown devices.new)) }
     ensures names { CreatesOnly (IsRunName words.now) (F.created files.old)
         (F.created files.new) }
-    ensures telling { is_some (F.told files.new) ≡ is_some (F.told files.old) }
-    ensures later { F.faults files.old ≤ F.faults files.new }
+    ensures files { FilesGoOn F.told F.faults files.old files.new }
 {
     let set = mem::replace(devices, D::empty(alloc));
     let imports = source.module().parts().imports.as_slice();
@@ -149,13 +141,13 @@ pub(crate) fn run_valid<F: Files, D: Devices>(
         return Err(NoMemory);
     };
     match begun {
-        Begun::Ready(mut instance) => {
+        Given::Value(mut instance) => {
             let (ran, hosts) = run_all(alloc, files, words, &mut instance, hosts);
             let outcome = recorded(alloc, files, &words.log_to, &instance, &hosts, ran);
             *devices = hosts.into_devices();
             outcome
         }
-        Begun::Refused(refusal) => {
+        Given::Refused(refusal) => {
             *devices = hosts.into_devices();
             Ok(refusal)
         }

@@ -1,14 +1,17 @@
 //! Scripts from files of replies.
 
-ghost use Rattle.std.specs.Prelude.{◌≡◌, ◌≢◌, ◌≤◌, IfOk, Some};
+ghost use Rattle.std.specs.Prelude.{◌≡◌, ◌≢◌, IfOk, Some};
 ghost use Rattle.causes.specs.Counts.{Rose};
 ghost use Rattle.commands.specs.Texts.{file_fault};
 ghost use Rattle.commands.specs.Told.{OnContents};
+ghost use Rattle.commands.specs.calls.Ended.{Ended};
+ghost use Rattle.commands.specs.calls.Given.{IfRefused};
 ghost use Rattle.run_command.specs.RunAnswer.{replies_input, bad_replies, script_of};
-ghost use Rattle.run_command.specs.calls.Scripts.{script_result, IsAsked, IfAskedRefused, IsRepliesFault};
+ghost use Rattle.run_command.specs.calls.Scripts.{script_result, IsAsked, IsRepliesFault};
+ghost use Rattle.pm_outside.specs.calls.Kept.{FilesKept};
 
 use causes::NoMemory;
-use commands::{Input, Outcome, Status, push_number, read_input};
+use commands::{Given, Outcome, Status, push_number, read_input};
 use host_replies::{ReplyFault, read_replies};
 use pm_outside::Files;
 use pm_text::{Items, Text};
@@ -23,20 +26,14 @@ pub enum Script {
     Bad(u64),
 }
 
-/// A script that was read where one is asked for, or what is answered in its place.
-#[derive(Drop)]
-pub enum Asked {
-    Read(Script),
-    Refused(Outcome),
-}
-
 /// The answer where a line of the file of replies is no reply.
 ///
 /// # Errors
 ///
 /// `NoMemory` where memory runs out.
 pub fn bad_replies(alloc: Global, line: u64) -> Result<Outcome, NoMemory>
-    ensures { IfOk result (λ o. o ≡ bad_replies line) }
+    ensures value { IfOk result (λ o. o ≡ bad_replies line) }
+    ensures ended { IfOk result (Ended (λ _. ⊥)) }
 {
     let mut text = Text::new(alloc);
     push_number(&mut text, "bad replies at line ", line)?;
@@ -58,7 +55,7 @@ fn script_from(alloc: Global, bytes: &[u8]) -> Result<Script, NoMemory>
     }
 }
 
-/// Reads the script in a file of replies, where one is asked for.
+/// The script in a file of replies, where one is asked for, or what is answered in its place.
 ///
 /// # Errors
 ///
@@ -67,25 +64,23 @@ pub fn asked_script<F: Files>(
     alloc: Global,
     files: &mut F,
     replies: &Option<Text>,
-) -> Result<Asked, NoMemory>
+) -> Result<Given<Script>, NoMemory>
     ensures told { IfOk result (λ asked. OnContents (F.told files.old) (λ held.
         IsAsked asked (replies_input replies.now held))) }
-    ensures fault { IfOk result (IfAskedRefused
+    ensures fault { IfOk result (IfRefused
         (IsRepliesFault replies.now (F.faults files.old) (F.faults files.new))) }
-    ensures memory { IfOk result (IfAskedRefused (λ o. o.status ≢ Status.NoMemory)) }
-    ensures same { F.told files.new ≡ F.told files.old }
-    ensures names { F.created files.new ≡ F.created files.old }
-    ensures later { F.faults files.old ≤ F.faults files.new }
+    ensures memory { IfOk result (IfRefused (λ o. o.status ≢ Status.NoMemory)) }
+    ensures files { FilesKept F.told F.created F.faults files.old files.new }
 {
     let Some(file) = replies else {
-        return Ok(Asked::Read(Script::Whole(None)));
+        return Ok(Given::Value(Script::Whole(None)));
     };
     let input = read_input(alloc, files, file.as_str(), Quantity::RepliesBytes)?;
     match input {
-        Input::Whole(bytes) => {
+        Given::Value(bytes) => {
             let script = script_from(alloc, &bytes)?;
-            Ok(Asked::Read(script))
+            Ok(Given::Value(script))
         }
-        Input::Refused(refusal) => Ok(Asked::Refused(refusal)),
+        Given::Refused(refusal) => Ok(Given::Refused(refusal)),
     }
 }

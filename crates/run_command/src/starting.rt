@@ -19,7 +19,7 @@ use wasm_machine::{EntryFault, entry_fault};
 use wasm_validate::Validated;
 
 /// The cause that names an export.
-fn no_export(alloc: Global, entry: &Text) -> Result<Text, NoMemory>
+pub fn no_export(alloc: Global, entry: &Text) -> Result<Text, NoMemory>
     ensures { IfOk result (λ t. t ≡ codes "export " ++ quoted entry.now) }
 {
     let mut text = Text::from_str(alloc, "export ")?;

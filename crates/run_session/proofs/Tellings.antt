@@ -22,13 +22,13 @@ use Rattle.run_session.specs.Telling.{Telling, nothing, finish, trap, bare_trap,
 use Rattle.run_session.specs.RunText.{finished_text, trapped_text, bare_text, telling_text, dump_name, with_trap, place_text, calls_text}
 use Rattle.commands.specs.Lines.{kind_line}
 use Rattle.pm_outside.specs.Held.{HoldPart}
-use Rattle.commands.specs.declared.outcome.Outcome.{Outcome as Answer}
-use Rattle.run_session.specs.inner.Dumping.{place_in, handed_text, IsTrap, IsTold, own_dump, AddsTold, LeavesDump, IfWritten, IfRefused}
+use Rattle.commands.specs.calls.Given.{IfRefused, IfValue}
+use Rattle.commands.specs.declared.given.Given.{Given}
+use Rattle.commands.specs.declared.given.Given.TheVariants as givens
+use Rattle.run_session.specs.inner.Dumping.{place_in, handed_text, IsTrap, IsTold, own_dump, AddsTold, LeavesDump}
 use Rattle.run_session.specs.declared.told.Told.{Told}
 use Rattle.run_session.specs.declared.told.Told.TheVariants as code
 use Rattle.run_session.specs.declared.turns.Lines.{Lines}
-use Rattle.run_session.specs.declared.dumps.Written.{Written}
-use Rattle.run_session.specs.declared.dumps.Written.TheVariants.{Whole, Refused}
 use Rattle.pm_outside.proofs.Held.{none_held, one_held, no_part, none_few, one_few, front_part}
 
 -- ---- what is told by outcomes
@@ -155,15 +155,9 @@ adds_trap base name calls old new before after kind d text traps held = record {
 }
 
 -- of another value that is this one
-pub adds_that : (base name : List ℕ) (calls : ℕ) (old new : Lines) (before after : Option Contents) (told : Told) (kind : ℕ) (d : FormatDump) (written : Result Written WantOfMemory) → told ≡ code.Trap kind d
-    → IfOk written (IfWritten (AddsTold base name (code.Trap kind d) calls old new before after)) → IfOk written (IfWritten (AddsTold base name told calls old new before after))
-adds_that base name calls old new before after told kind d written is x = subst (λ y. IfOk written (IfWritten (AddsTold base name y calls old new before after))) (sym is) x
-
-pub of_whole : (written : Written) (P : Type 0) → written ≡ Whole → IfWritten P written → P
-of_whole written P is x = subst (λ w. IfWritten P w) is x
-
-pub of_refusal : (written : Written) (o : Answer) (P : Answer → Type 0) → written ≡ Refused o → IfRefused P written → P o
-of_refusal written o P is x = subst (λ w. IfRefused P w) is x
+pub adds_that : (base name : List ℕ) (calls : ℕ) (old new : Lines) (before after : Option Contents) (told : Told) (kind : ℕ) (d : FormatDump) (written : Result (Given (Unit {0})) WantOfMemory) → told ≡ code.Trap kind d
+    → IfOk written (IfValue (λ done. AddsTold base name (code.Trap kind d) calls old new before after)) → IfOk written (IfValue (λ done. AddsTold base name told calls old new before after))
+adds_that base name calls old new before after told kind d written is x = subst (λ y. IfOk written (IfValue (λ done. AddsTold base name y calls old new before after))) (sym is) x
 
 -- ---- the dump, which may be there in part
 
@@ -194,10 +188,10 @@ trap_dumped name told kind d is t x =
     let y : IsTrap t name kind d = subst (λ u. IsTold t name u) is x in
     subst (λ u. HasDump u) (sym y.is) tt
 
-if_refused : (written : Written) (P : Type 0) → P → IfRefused (λ o. P) written
-if_refused Whole P x = tt
-if_refused (Refused o) P x = x
+if_refused : (written : Given (Unit {0})) (P : Type 0) → P → IfRefused (λ o. P) written
+if_refused (givens.Value done) P x = tt
+if_refused (givens.Refused o) P x = x
 
-pub dumped_that : (name : List ℕ) (told : Told) (kind : ℕ) (d : FormatDump) → told ≡ code.Trap kind d → (written : Result Written WantOfMemory) → IfOk written (IfRefused (λ o. (t : Telling) → IsTold t name told → HasDump t))
+pub dumped_that : (name : List ℕ) (told : Told) (kind : ℕ) (d : FormatDump) → told ≡ code.Trap kind d → (written : Result (Given (Unit {0})) WantOfMemory) → IfOk written (IfRefused (λ o. (t : Telling) → IsTold t name told → HasDump t))
 dumped_that name told kind d is (Ok written) = if_refused written ((t : Telling) → IsTold t name told → HasDump t) (trap_dumped name told kind d is)
 dumped_that name told kind d is (Err e) = tt

@@ -1,7 +1,8 @@
 //! The lines of `run`.
 
 ghost use Rattle.std.specs.Prelude.{◌≡◌, ◌++◌, IfOk, OnOk};
-ghost use Rattle.run_session.specs.RunText.{place_line, calls_text, finished_text, bare_text, torn_text, not_invoked_text};
+ghost use Rattle.run_session.specs.RunText.{place_line, calls_text, finished_text, bare_text, torn_text};
+ghost use Rattle.run_session.specs.RunText.{not_invoked_text};
 ghost use Rattle.run_session.specs.inner.Dumping.{place_in, handed_text};
 
 use causes::NoMemory;

@@ -1,6 +1,7 @@
 //! Lists of invocations on one instance.
 
-ghost use Rattle.std.specs.Prelude.{◌≡◌, ◌≢◌, ◌<◌, ◌≤◌, ◌+◌, ◌-◌, ◌^◌, ◌∷◌, [], List, None, All, map, IfOk, true, false, length, is_some};
+ghost use Rattle.std.specs.Prelude.{◌≡◌, ◌≢◌, ◌<◌, ◌≤◌, ◌+◌, ◌-◌, ◌^◌, ◌∷◌, [], List, None, All, map, IfOk, true};
+ghost use Rattle.std.specs.Prelude.{false, length};
 ghost use Rattle.causes.specs.Counts.{Rose};
 ghost use Rattle.wasm_syntax.specs.declared.host.CollectorCall.{CollectorCall as Call};
 ghost use Rattle.wasm_syntax.specs.Module.{Program};
@@ -20,10 +21,12 @@ ghost use Rattle.run_session.specs.Invocations.{invocation_of, depth_of};
 ghost use Rattle.run_session.specs.calls.Collecting.{serving_of, used_up_of, collecting_of, KeptBehind};
 ghost use Rattle.run_session.specs.inner.Turns.{UnlessRefused, IfGoesOn, IfEnds, IfTurnRefused};
 ghost use Rattle.run_session.specs.Stop.{OnStop};
-ghost use Rattle.run_session.specs.calls.Sessions.{point_of, ends_badly, MadeOne, RanAll, IsDumpFault, StopsIn, OnTurnStop};
+ghost use Rattle.run_session.specs.calls.Sessions.{point_of, ends_badly, MadeOne, RanAll, IsDumpFault, StopsIn};
+ghost use Rattle.run_session.specs.calls.Sessions.{OnTurnStop};
+ghost use Rattle.pm_outside.specs.calls.Kept.{FilesGoOn};
 
 use crate::ending::{all_made, ended_with, torn_with};
-use crate::turns::{Lines, Turn, end_turn};
+use crate::turns::{Lines, Outside, Turn, end_turn};
 use causes::NoMemory;
 use commands::{Outcome, Status};
 use host_collector::Collecting;
@@ -126,8 +129,7 @@ pub(crate) fn run_one<F: Files, H: Counting>(
         × Rose (F.faults files.old) (F.faults files.new))) }
     ensures names { MayCreate (dump_name words.now.dump lines.old.traps) (F.created files.old)
         (F.created files.new) }
-    ensures telling { is_some (F.told files.new) ≡ is_some (F.told files.old) }
-    ensures later { F.faults files.old ≤ F.faults files.new }
+    ensures files { FilesGoOn F.told F.faults files.old files.new }
 {
     let before = hosts.given();
     let left = words.fuel.saturating_sub(instance.steps());
@@ -143,8 +145,10 @@ pub(crate) fn run_one<F: Files, H: Counting>(
         words,
         instance,
         end,
-        hosts.collected(),
-        calls,
+        &Outside {
+            collected: hosts.collected(),
+            calls,
+        },
         lines,
     )
 }
@@ -195,8 +199,7 @@ fn run_next<F: Files, H: Counting>(
         × Rose (F.faults files.old) (F.faults files.new))) }
     ensures names { MayCreate (dump_name words.now.dump lines.old.traps) (F.created files.old)
         (F.created files.new) }
-    ensures telling { is_some (F.told files.new) ≡ is_some (F.told files.old) }
-    ensures later { F.faults files.old ≤ F.faults files.new }
+    ensures files { FilesGoOn F.told F.faults files.old files.new }
 {
     if words.collect {
         let mut collecting = Collecting::new(alloc, hosts);
@@ -265,8 +268,7 @@ pub fn run_all<F: Files, H: Counting>(
     ensures origin { H.origin result.1 ≡ H.origin hosts }
     ensures names { CreatesOnly (IsDumpName words.now.dump (length words.now.invocations))
         (F.created files.old) (F.created files.new) }
-    ensures telling { is_some (F.told files.new) ≡ is_some (F.told files.old) }
-    ensures later { F.faults files.old ≤ F.faults files.new }
+    ensures files { FilesGoOn F.told F.faults files.old files.new }
 {
     let mut hosts = hosts;
     let mut lines = Lines {

@@ -1,23 +1,26 @@
 //! One invocation of a list.
 
-ghost use Rattle.std.specs.Prelude.{◌≡◌, ◌≢◌, ◌<◌, ◌≤◌, ◌+◌, ◌-◌, ◌^◌, List, IfOk, is_some, true};
+ghost use Rattle.std.specs.Prelude.{◌≡◌, ◌≢◌, ◌<◌, ◌≤◌, ◌+◌, ◌-◌, ◌^◌, List, IfOk, true};
 ghost use Rattle.causes.specs.Counts.{Rose};
 ghost use Rattle.wasm_syntax.specs.declared.host.CollectorCall.{CollectorCall as Call};
 ghost use Rattle.dump_format.specs.Form.{pages_of};
 ghost use Rattle.dump_format.specs.calls.Contained.{IsContained};
 ghost use Rattle.commands.specs.Texts.{file_fault};
+ghost use Rattle.commands.specs.calls.Given.{IfRefused, IfValue};
 ghost use Rattle.run_session.specs.Delivery.{Delivery, IsDelivery};
 ghost use Rattle.run_session.specs.Telling.{Telling, HasDump, tells};
 ghost use Rattle.run_session.specs.RunText.{dump_name};
 ghost use Rattle.run_session.specs.calls.Creating.{MayCreate};
-ghost use Rattle.run_session.specs.inner.Dumping.{IsTold, IfDump, AddsTold, LeavesDump, IfWritten, IfRefused};
-ghost use Rattle.run_session.specs.inner.Turns.{turn_of, UnlessRefused, IfGoesOn, IfEnds, IfTurnRefused, Added, LeavesPart, Dumps};
+ghost use Rattle.run_session.specs.inner.Dumping.{IsTold, IfDump, AddsTold, LeavesDump};
+ghost use Rattle.run_session.specs.inner.Turns.{turn_of, UnlessRefused, IfGoesOn, IfEnds, IfTurnRefused, Added};
+ghost use Rattle.run_session.specs.inner.Turns.{LeavesPart, Dumps};
+ghost use Rattle.pm_outside.specs.calls.Kept.{FilesGoOn};
 
-use crate::dumps::{Written, dump_at_trap};
+use crate::dumps::dump_at_trap;
 use crate::lines::{push_bare, push_finished, push_trapped};
 use crate::told::{Told, tell};
 use causes::NoMemory;
-use commands::Outcome;
+use commands::{Given, Outcome};
 use dump_format::Dump;
 use machine_hosted::RunEnd;
 use pm_outside::Files;
@@ -71,12 +74,12 @@ fn add_trap<F: Files>(
     dump: &Dump<'_>,
     calls: u64,
     lines: &mut Lines,
-) -> Result<Written, NoMemory>
+) -> Result<Given<()>, NoMemory>
     requires traps { lines.old.traps < 2 ^ 64 - 1 }
     requires contained { IsContained dump.now }
     requires pages { pages_of dump.now.memory ≤ 4096 }
-    ensures added { IfOk result (IfWritten
-        (AddsTold words.now.dump words.now.name (Told.Trap kind dump.now) calls lines.old lines.new
+    ensures added { IfOk result (IfValue (λ _.
+        AddsTold words.now.dump words.now.name (Told.Trap kind dump.now) calls lines.old lines.new
         (F.told files.old) (F.told files.new))) }
     ensures front { LeavesDump words.now.dump words.now.name (Told.Trap kind dump.now)
         lines.old.traps (F.told files.old) (F.told files.new) }
@@ -86,18 +89,17 @@ fn add_trap<F: Files>(
     ensures one { lines.new.traps ≤ lines.old.traps + 1 }
     ensures names { MayCreate (dump_name words.now.dump lines.old.traps) (F.created files.old)
         (F.created files.new) }
-    ensures telling { is_some (F.told files.new) ≡ is_some (F.told files.old) }
-    ensures later { F.faults files.old ≤ F.faults files.new }
+    ensures files { FilesGoOn F.told F.faults files.old files.new }
 {
     let number = lines.traps;
     let written = dump_at_trap(alloc, files, dump, &words.dump, number)?;
     match written {
-        Written::Whole => {
+        Given::Value(()) => {
             push_trapped(&mut lines.text, kind, dump, calls)?;
             lines.traps = number + 1;
-            Ok(Written::Whole)
+            Ok(Given::Value(()))
         }
-        Written::Refused(outcome) => Ok(Written::Refused(outcome)),
+        Given::Refused(outcome) => Ok(Given::Refused(outcome)),
     }
 }
 
@@ -109,12 +111,12 @@ fn add_told<F: Files>(
     told: &Told<'_>,
     calls: u64,
     lines: &mut Lines,
-) -> Result<Written, NoMemory>
+) -> Result<Given<()>, NoMemory>
     requires traps { lines.old.traps < 2 ^ 64 - 1 }
     requires contained { IfDump (λ d. IsContained d) told.now }
     requires pages { IfDump (λ d. pages_of d.memory ≤ 4096) told.now }
-    ensures added { IfOk result (IfWritten
-        (AddsTold words.now.dump words.now.name told.now calls lines.old lines.new
+    ensures added { IfOk result (IfValue (λ _.
+        AddsTold words.now.dump words.now.name told.now calls lines.old lines.new
         (F.told files.old) (F.told files.new))) }
     ensures front { LeavesDump words.now.dump words.now.name told.now lines.old.traps
         (F.told files.old) (F.told files.new) }
@@ -126,51 +128,56 @@ fn add_told<F: Files>(
     ensures one { lines.new.traps ≤ lines.old.traps + 1 }
     ensures names { MayCreate (dump_name words.now.dump lines.old.traps) (F.created files.old)
         (F.created files.new) }
-    ensures telling { is_some (F.told files.new) ≡ is_some (F.told files.old) }
-    ensures later { F.faults files.old ≤ F.faults files.new }
+    ensures files { FilesGoOn F.told F.faults files.old files.new }
 {
     match told {
-        Told::Nothing => Ok(Written::Whole),
+        Told::Nothing => Ok(Given::Value(())),
         Told::Finish(value) => {
             push_finished(&mut lines.text, *value, calls)?;
-            Ok(Written::Whole)
+            Ok(Given::Value(()))
         }
         Told::Trap { kind, dump } => add_trap(alloc, files, words, *kind, dump, calls, lines),
         Told::BareTrap { kind } => {
             push_bare(&mut lines.text, *kind, calls)?;
             lines.traps += 1;
-            Ok(Written::Whole)
+            Ok(Given::Value(()))
         }
-        Told::Torn { .. } => Ok(Written::Whole),
+        Told::Torn { .. } => Ok(Given::Value(())),
     }
 }
 
-/// Adds the lines of an invocation with this answer and these collector calls, which left the
-/// instance so and was given so many replies, and says how the list goes on.
+/// What an invocation was told and given from outside: the collector calls, and how many replies.
+#[derive(Drop)]
+pub(crate) struct Outside<'c> {
+    pub collected: &'c [CollectorCall],
+    pub calls: u64,
+}
+
+/// Adds the lines of an invocation with this answer, which left the instance so, and says how the
+/// list goes on.
 pub(crate) fn end_turn<F: Files>(
     alloc: Global,
     files: &mut F,
     words: &RunWords,
     instance: &Instance,
     answer: RunEnd,
-    collected: &[CollectorCall],
-    calls: u64,
+    outside: &Outside<'_>,
     lines: &mut Lines,
 ) -> Result<Turn, NoMemory>
     requires { lines.old.traps < 2 ^ 64 - 1 }
     ensures added { (deliver : List Call → Delivery) → IsDelivery deliver
         → IfOk result (λ turn. UnlessRefused turn
         (Added (tells words.now.collect deliver) words.now.collect words.now.dump words.now.name
-        instance.now answer calls collected.now lines.old lines.new (F.told files.old)
-        (F.told files.new) turn)) }
+        instance.now answer outside.now.calls outside.now.collected.now lines.old lines.new
+        (F.told files.old) (F.told files.new) turn)) }
     ensures part { (deliver : List Call → Delivery) → IsDelivery deliver
         → LeavesPart (tells words.now.collect deliver) words.now.collect words.now.dump
-        words.now.name instance.now answer collected.now lines.old.traps (F.told files.old)
-        (F.told files.new) }
+        words.now.name instance.now answer outside.now.collected.now lines.old.traps
+        (F.told files.old) (F.told files.new) }
     ensures dumped { (deliver : List Call → Delivery) → IsDelivery deliver
         → IfOk result (IfTurnRefused
         (λ _. Dumps (tells words.now.collect deliver) words.now.collect answer instance.now
-        collected.now)) }
+        outside.now.collected.now)) }
     ensures refused { IfOk result
         (IfTurnRefused (λ o. (o ≡ file_fault (dump_name words.now.dump lines.old.traps))
         × Rose (F.faults files.old) (F.faults files.new))) }
@@ -180,13 +187,12 @@ pub(crate) fn end_turn<F: Files>(
     ensures one { lines.new.traps ≤ lines.old.traps + 1 }
     ensures names { MayCreate (dump_name words.now.dump lines.old.traps) (F.created files.old)
         (F.created files.new) }
-    ensures telling { is_some (F.told files.new) ≡ is_some (F.told files.old) }
-    ensures later { F.faults files.old ≤ F.faults files.new }
+    ensures files { FilesGoOn F.told F.faults files.old files.new }
 {
-    let told = tell(alloc, words, instance, &answer, collected)?;
-    let written = add_told(alloc, files, words, &told, calls, lines)?;
+    let told = tell(alloc, words, instance, &answer, outside.collected)?;
+    let written = add_told(alloc, files, words, &told, outside.calls, lines)?;
     match written {
-        Written::Whole => Ok(turn_after(instance, told.torn(), answer)),
-        Written::Refused(outcome) => Ok(Turn::Refused(outcome)),
+        Given::Value(()) => Ok(turn_after(instance, told.torn(), answer)),
+        Given::Refused(outcome) => Ok(Turn::Refused(outcome)),
     }
 }

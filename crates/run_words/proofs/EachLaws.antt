@@ -3,7 +3,8 @@ use Rattle.std.proofs.Common.{◌≡◌, ℕ, suc, Bool, ◌+◌, ◌<◌, ◌�
 use Rattle.std.proofs.lemmas.List.{append-nil, drop_all}
 use Rattle.std.proofs.lemmas.List.Splits.{length-slice_split}
 use Rattle.std.specs.List.{slice_split}
-use Rattle.run_words.specs.Invocations.{one_more, each}
+use Rattle.host_replies.specs.Replies.{one_more}
+use Rattle.run_words.specs.Invocations.{each}
 
 -- what was read, in front of what is still to be read
 abbrev pub in_front : {B : Type 0} → List B → Option (List B) → Option (List B)

@@ -5,17 +5,13 @@ use Rattle.std.specs.Option.{option_map}
 use Rattle.std.specs.Str.{bytes_eq}
 use Rattle.pm_text.specs.Numbers.{number_value}
 use Rattle.wasm_syntax.specs.declared.value.Value.{Value}
-use Rattle.host_replies.specs.Replies.{typed}
+use Rattle.host_replies.specs.Replies.{typed, one_more}
 use Rattle.commands.specs.Reading.{Word}
 use Rattle.run_words.specs.declared.invocation.Invocation.{Invocation}
 
 -- `i32:` or `i64:`, and an integer of that width, as in a file of replies
 abbrev pub argument : Word → Option Value
 argument word = option_map typed (number_value word)
-
-abbrev pub one_more : {B : Type 0} → Option B → Option (List B) → Option (List B)
-one_more (Some y) (Some ys) = Some (y ∷ ys)
-one_more _ _ = None
 
 -- what the values of a list read as, in order, where each of them reads as something
 unfoldable pub each : {A B : Type 0} → (A → Option B) → List A → Option (List B)

@@ -1,28 +1,16 @@
 //! The words of invocations.
 
-ghost use Rattle.std.specs.Prelude.{◌≡◌, ◌<◌, ◌^◌, length, map, false, Some, None, IfOk};
+ghost use Rattle.std.specs.Prelude.{◌≡◌, ◌<◌, length, map, Some, None, IfOk};
 ghost use Rattle.std.specs.List.{slice_split};
-ghost use Rattle.host_replies.specs.Replies.{typed};
 ghost use Rattle.run_words.specs.Invocations.{argument, each, invocation, invocations, is_plus};
 
 use crate::invocation::{Invocation, Invocations};
 use causes::NoMemory;
 use commands::WordsFault;
-use pm_text::{Items, Number, Text, read_value};
+use host_replies::typed;
+use pm_text::{Items, Text, read_value};
 use std::alloc::Global;
 use wasm_syntax::{Value, Values};
-
-/// A number of 32 or 64 bits as a value.
-fn typed(number: Number) -> Value
-    requires { number.wide ≡ false → number.bits < 2 ^ 32 }
-    ensures { result ≡ typed number }
-{
-    if number.wide {
-        Value::I64(number.bits)
-    } else {
-        Value::I32(number.bits as u32)
-    }
-}
 
 /// A value such as `i32:-1` or `i64:255`.
 fn argument(word: &str) -> Option<Value>

@@ -1,11 +1,13 @@
 //! The words behind `run`.
 
-ghost use Rattle.std.specs.Prelude.{◌≡◌, ◌<◌, ◌≤◌, ◌↔◌, true, false, IsTrue, drop, length, map, nat_eq, Some, None, IfOk, IfSome, MatchOption, unwrap_or};
+ghost use Rattle.std.specs.Prelude.{◌≡◌, ◌<◌, ◌≤◌, ◌↔◌, true, false, IsTrue, drop, length, map, nat_eq, Some, None};
+ghost use Rattle.std.specs.Prelude.{IfOk, IfSome, MatchOption, unwrap_or};
 ghost use Rattle.std.specs.Char.{is_ascii_digit};
 ghost use Rattle.std.specs.List.{AllPass, starts_with};
 ghost use Rattle.std.specs.String.{string_bytes};
 ghost use Rattle.commands.specs.Reading.{given_value};
-ghost use Rattle.run_words.specs.RunWords.{run_options, number_or, fuel, depth, name, dump, replies, is_number, is_for_dumps, log_to, collect, asked, run_words};
+ghost use Rattle.run_words.specs.RunWords.{run_options, number_or, fuel, depth, name, dump, replies, is_number};
+ghost use Rattle.run_words.specs.RunWords.{is_for_dumps, log_to, collect, asked, run_words};
 
 use crate::invocation::Invocations;
 use crate::invoking::invocations;

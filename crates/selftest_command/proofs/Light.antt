@@ -22,9 +22,10 @@ use Rattle.wasm_syntax.specs.Module.{type_at, option_then}
 use Rattle.wasm_syntax.specs.Run.{table_min}
 use Rattle.wasm_syntax.specs.Sizes.{parameter_count, local_count, depth_behind, deepest, nesting}
 use Rattle.wasm_syntax.specs.Valid.{Valid}
-use Rattle.wasm_format_laws.specs.Sized.{ops_length, code_length}
+use Rattle.wasm_format_laws.specs.calls.Sized.{ops_length, code_length}
 use Rattle.rewrite_bodies.specs.Numbering.{distinct}
-use Rattle.rewrite_modules.specs.Weight.{height_at, AreHeights, op_weight, ops_weight, bodies_weight, type_used, exports_weight, start_weight, extra, weight}
+use Rattle.rewrite_modules.specs.Weight.{height_at, AreHeights, op_weight, ops_weight, bodies_weight, type_used, exports_weight, start_weight, weight}
+use Rattle.rewrite_bodies.specs.Numbering.{extra}
 use Rattle.rewrite_modules.specs.Multiple.{most_locals, highest, most_operands, multiple}
 use Rattle.index_map.specs.Limits.{function_locals, function_heights, first_over, first_excess}
 use Rattle.instrument.specs.Refusal.{export_taken, at_import, at_export, at_limit, refusal}

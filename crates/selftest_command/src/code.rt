@@ -4,7 +4,10 @@ ghost use Rattle.std.specs.Prelude.{◌≡◌, ◌*◌, ◌+◌, ◌<◌, ◌≤
 ghost use Rattle.wasm_syntax.specs.declared.value.ValType.TheVariants.{I32};
 ghost use Rattle.wasm_syntax.specs.declared.instruction.Basic.TheVariants as basics;
 ghost use Rattle.wasm_syntax.specs.declared.instruction.Instr.TheVariants as instrs;
-ghost use Rattle.selftest_command.specs.Selftest.{number, constant as constant_there, local_get as local_get_there, mix as mix_there, mixed as mixed_there, beginning as beginning_there, mixing as mixing_there, ending as ending_there, function_code as function_code_there, body_of as body_there};
+ghost use Rattle.selftest_command.specs.Selftest.{number, constant as constant_there, local_get as local_get_there};
+ghost use Rattle.selftest_command.specs.Selftest.{mix as mix_there, mixed as mixed_there, beginning as beginning_there};
+ghost use Rattle.selftest_command.specs.Selftest.{mixing as mixing_there, ending as ending_there};
+ghost use Rattle.selftest_command.specs.Selftest.{function_code as function_code_there, body_of as body_there};
 
 use crate::numbers::{next, odd};
 use causes::NoMemory;

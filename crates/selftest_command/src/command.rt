@@ -1,6 +1,6 @@
 //! The command.
 
-ghost use Rattle.std.specs.Prelude.{◌≡◌, ◌≢◌, ◌≤◌, IfOk, is_some};
+ghost use Rattle.std.specs.Prelude.{◌≡◌, ◌≤◌, IfOk};
 ghost use Rattle.causes.specs.Counts.{Rose};
 ghost use Rattle.commands.specs.Told.{UnlessFault};
 ghost use Rattle.pm_outside.specs.Written.{OnTold};
@@ -11,17 +11,19 @@ ghost use Rattle.selftest_command.specs.Stops.{CreatedBoth, SameButBoth, Selftes
 ghost use Rattle.selftest_command.specs.inner.Steps.{IsSelftest};
 ghost use Rattle.selftest_command.specs.Selftest.{selftest};
 ghost use Rattle.wasm_format_laws.specs.calls.Laws.{DecodesSame};
-ghost use Rattle.wasm_format_laws.specs.Sized.{Sized};
+ghost use Rattle.wasm_format_laws.specs.calls.Sized.{Sized};
 ghost use Rattle.wasm_syntax.specs.Valid.{Valid};
+ghost use Rattle.pm_outside.specs.calls.Kept.{FilesGoOn};
+ghost use Rattle.commands.specs.calls.Ended.{Ended};
 
 use crate::original::original_dump;
 use crate::running::run_bytes;
 use crate::selftest_bytes;
 use crate::writing::write_both;
 use causes::NoMemory;
-use commands::{Loaded, Outcome, Status, load};
+use commands::{Given, Outcome, load};
 use host_set::Devices;
-use instrument_command::{Rewritten, admitted_bytes, rewrite};
+use instrument_command::{admitted_bytes, rewrite};
 use pm_outside::Files;
 use std::alloc::Global;
 use wasm_syntax::Module;
@@ -43,15 +45,12 @@ fn test_rewritten<F: Files, D: Devices>(
         (AnsweredOn count (F.told files.old) (F.told files.new) o)) }
     ensures stops { OnStop (λ stop.
         SelftestStops stop count (F.told files.old) (F.told files.new)) result }
-    ensures fault { IfOk result (λ o. o.status ≡ Status.FileFault
-        → Rose (F.faults files.old) (F.faults files.new)) }
-    ensures memory { IfOk result (λ o. o.status ≢ Status.NoMemory) }
-    ensures telling { is_some (F.told files.new) ≡ is_some (F.told files.old) }
+    ensures ended { IfOk result (Ended (λ _. Rose (F.faults files.old) (F.faults files.new))) }
+    ensures files { FilesGoOn F.told F.faults files.old files.new }
     ensures others { OnTold (SameButBoth module_file rewritten_file)
         (F.told files.old) (F.told files.new) }
     ensures names { CreatedBoth module_file rewritten_file
         (F.created files.old) (F.created files.new) }
-    ensures later { F.faults files.old ≤ F.faults files.new }
 {
     let rewritten = admitted_bytes(alloc, source, other)?;
     let own = original_dump::<D>(alloc, source, count)?;
@@ -75,22 +74,19 @@ fn test_module<F: Files, D: Devices>(
         (AnsweredOn count (F.told files.old) (F.told files.new) o)) }
     ensures stops { OnStop (λ stop.
         SelftestStops stop count (F.told files.old) (F.told files.new)) result }
-    ensures fault { IfOk result (λ o. o.status ≡ Status.FileFault
-        → Rose (F.faults files.old) (F.faults files.new)) }
-    ensures memory { IfOk result (λ o. o.status ≢ Status.NoMemory) }
-    ensures telling { is_some (F.told files.new) ≡ is_some (F.told files.old) }
+    ensures ended { IfOk result (Ended (λ _. Rose (F.faults files.old) (F.faults files.new))) }
+    ensures files { FilesGoOn F.told F.faults files.old files.new }
     ensures others { OnTold (SameButBoth module_file rewritten_file)
         (F.told files.old) (F.told files.new) }
     ensures names { CreatedBoth module_file rewritten_file
         (F.created files.old) (F.created files.new) }
-    ensures later { F.faults files.old ≤ F.faults files.new }
 {
     let rewritten = rewrite(alloc, source)?;
     match rewritten {
-        Rewritten::Whole(other) => {
+        Given::Value(other) => {
             test_rewritten::<F, D>(alloc, files, bytes, source, &other, count)
         },
-        Rewritten::Refused(refusal) => Ok(refusal),
+        Given::Refused(refusal) => Ok(refusal),
     }
 }
 
@@ -109,20 +105,17 @@ fn test_bytes<F: Files, D: Devices>(
         (AnsweredOn count (F.told files.old) (F.told files.new) o)) }
     ensures stops { OnStop (λ stop.
         SelftestStops stop count (F.told files.old) (F.told files.new)) result }
-    ensures fault { IfOk result (λ o. o.status ≡ Status.FileFault
-        → Rose (F.faults files.old) (F.faults files.new)) }
-    ensures memory { IfOk result (λ o. o.status ≢ Status.NoMemory) }
-    ensures telling { is_some (F.told files.new) ≡ is_some (F.told files.old) }
+    ensures ended { IfOk result (Ended (λ _. Rose (F.faults files.old) (F.faults files.new))) }
+    ensures files { FilesGoOn F.told F.faults files.old files.new }
     ensures others { OnTold (SameButBoth module_file rewritten_file)
         (F.told files.old) (F.told files.new) }
     ensures names { CreatedBoth module_file rewritten_file
         (F.created files.old) (F.created files.new) }
-    ensures later { F.faults files.old ≤ F.faults files.new }
 {
     let loaded = load(alloc, bytes)?;
     match loaded {
-        Loaded::Valid(source) => test_module::<F, D>(alloc, files, bytes, &source, count),
-        Loaded::TurnedDown(refusal) => Ok(refusal),
+        Given::Value(source) => test_module::<F, D>(alloc, files, bytes, &source, count),
+        Given::Refused(refusal) => Ok(refusal),
     }
 }
 
@@ -145,15 +138,12 @@ pub fn selftest_files<F: Files, D: Devices>(
         (AnsweredOn count (F.told files.old) (F.told files.new) o)) }
     ensures stops { OnStop (λ stop.
         SelftestStops stop count (F.told files.old) (F.told files.new)) result }
-    ensures fault { IfOk result (λ o. o.status ≡ Status.FileFault
-        → Rose (F.faults files.old) (F.faults files.new)) }
-    ensures memory { IfOk result (λ o. o.status ≢ Status.NoMemory) }
-    ensures telling { is_some (F.told files.new) ≡ is_some (F.told files.old) }
+    ensures ended { IfOk result (Ended (λ _. Rose (F.faults files.old) (F.faults files.new))) }
+    ensures files { FilesGoOn F.told F.faults files.old files.new }
     ensures others { OnTold (SameButBoth module_file rewritten_file)
         (F.told files.old) (F.told files.new) }
     ensures names { CreatedBoth module_file rewritten_file
         (F.created files.old) (F.created files.new) }
-    ensures later { F.faults files.old ≤ F.faults files.new }
 {
     let bytes = selftest_bytes(alloc, count)?;
     test_bytes::<F, D>(alloc, files, &bytes, count)

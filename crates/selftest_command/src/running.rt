@@ -3,7 +3,8 @@
 ghost use Rattle.std.specs.Prelude.{◌≡◌, ◌≢◌, [], Err, None, List, IfOk, ℕ};
 ghost use Rattle.dump_write.specs.Pictured.{bytes_in};
 ghost use Rattle.run_session.specs.Delivery.{Delivery, Delivers};
-ghost use Rattle.selftest_command.specs.inner.Steps.{IsCollected, IsTaken, Runs, RunsBytes, dumped, none_dumped, summary};
+ghost use Rattle.selftest_command.specs.inner.Steps.{IsCollected, IsTaken, Runs, RunsBytes, dumped, none_dumped};
+ghost use Rattle.selftest_command.specs.inner.Steps.{summary};
 ghost use Rattle.wasm_machine.specs.calls.Instances.{Begins, IsNew};
 ghost use Rattle.wasm_syntax.specs.declared.module.ModuleParts.{ModuleParts as Parts};
 ghost use Rattle.wasm_syntax.specs.Module.{IsModule};
@@ -12,7 +13,7 @@ ghost use Rattle.wasm_syntax.specs.Run.{cause_of_segments};
 use crate::original::{FUEL, drop_hosts};
 use crate::summary::{handed_summary, summary};
 use causes::NoMemory;
-use commands::{Loaded, Outcome, load};
+use commands::{Given, Outcome, load};
 use host_collector::Collecting;
 use host_set::{Devices, Hosts};
 use run_session::handed_over;
@@ -141,7 +142,7 @@ pub(crate) fn run_bytes<D: Devices>(
 {
     let loaded = load(alloc, bytes)?;
     match loaded {
-        Loaded::Valid(source) => run_module::<D>(alloc, &source, count, own),
-        Loaded::TurnedDown(refusal) => Ok(refusal),
+        Given::Value(source) => run_module::<D>(alloc, &source, count, own),
+        Given::Refused(refusal) => Ok(refusal),
     }
 }

@@ -1,6 +1,6 @@
 //! The two files of a self-test, which are written one after the other.
 
-ghost use Rattle.std.specs.Prelude.{◌≡◌, ◌≢◌, ◌≤◌, ◌⊎◌, ◌∷◌, [], IfOk, is_some};
+ghost use Rattle.std.specs.Prelude.{◌≡◌, ◌⊎◌, ◌∷◌, [], IfOk};
 ghost use Rattle.causes.specs.Counts.{Rose};
 ghost use Rattle.pm_outside.specs.Contents.{SameBut};
 ghost use Rattle.pm_outside.specs.Created.{with_name};
@@ -11,6 +11,8 @@ ghost use Rattle.run_session.specs.Stop.{OnStop};
 ghost use Rattle.pm_outside.specs.Held.{HoldThen};
 ghost use Rattle.selftest_command.specs.SelftestAnswer.{module_file, rewritten_file};
 ghost use Rattle.selftest_command.specs.Stops.{CreatedBoth, Left, SameButBoth};
+ghost use Rattle.pm_outside.specs.calls.Kept.{FilesGoOn};
+ghost use Rattle.commands.specs.calls.Ended.{Ended};
 
 use causes::NoMemory;
 use commands::{Outcome, Status, about_file};
@@ -30,14 +32,11 @@ fn write_last<F: Files>(
         × OnTold (HasFile name.now bytes.now) (F.told files.old) (F.told files.new))) }
     ensures stops { OnStop (λ stop. IsFailed stop name.now
         × OnTold (HasFront name.now bytes.now) (F.told files.old) (F.told files.new)) result }
-    ensures fault { IfOk result (λ o. o.status ≡ Status.FileFault
-        → Rose (F.faults files.old) (F.faults files.new)) }
-    ensures memory { IfOk result (λ o. o.status ≢ Status.NoMemory) }
-    ensures telling { is_some (F.told files.new) ≡ is_some (F.told files.old) }
+    ensures ended { IfOk result (Ended (λ _. Rose (F.faults files.old) (F.faults files.new))) }
+    ensures files { FilesGoOn F.told F.faults files.old files.new }
     ensures others { OnTold (SameBut name.now) (F.told files.old) (F.told files.new) }
     ensures names { (F.created files.new ≡ F.created files.old)
         ⊎ (F.created files.new ≡ with_name (F.created files.old) name.now) }
-    ensures later { F.faults files.old ≤ F.faults files.new }
 {
     match write_file(files, name, bytes) {
         WriteAnswer::Done => Ok(done),
@@ -60,15 +59,12 @@ pub(crate) fn write_both<F: Files>(
         (F.told files.old) (F.told files.new))) }
     ensures stops { OnStop (λ stop. Left stop module_file bytes.now rewritten_file rewritten.now
         (F.told files.old) (F.told files.new)) result }
-    ensures fault { IfOk result (λ o. o.status ≡ Status.FileFault
-        → Rose (F.faults files.old) (F.faults files.new)) }
-    ensures memory { IfOk result (λ o. o.status ≢ Status.NoMemory) }
-    ensures telling { is_some (F.told files.new) ≡ is_some (F.told files.old) }
+    ensures ended { IfOk result (Ended (λ _. Rose (F.faults files.old) (F.faults files.new))) }
+    ensures files { FilesGoOn F.told F.faults files.old files.new }
     ensures others { OnTold (SameButBoth module_file rewritten_file)
         (F.told files.old) (F.told files.new) }
     ensures names { CreatedBoth module_file rewritten_file
         (F.created files.old) (F.created files.new) }
-    ensures later { F.faults files.old ≤ F.faults files.new }
 {
     match write_file(files, "selftest.wasm", bytes) {
         WriteAnswer::Done => write_last(alloc, files, "selftest.inst.wasm", rewritten, done),

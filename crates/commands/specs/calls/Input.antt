@@ -1,23 +1,19 @@
 -- What reading a file whole gives.
-use Rattle.std.specs.Prelude.{◌≡◌, ℕ, ◌+◌, List, Result, Ok, Err}
+use Rattle.std.specs.Prelude.{◌≡◌, ℕ, ◌+◌, List, Result, Ok}
+use Rattle.std.specs.declared.vec.Vec.{Vec}
+use Rattle.std.specs.Global.{Global}
 use Rattle.pm_outside.specs.declared.whole.FileError.{FileError}
 use Rattle.pm_outside.specs.declared.whole.FileError.TheVariants.{Missing, TooLong, Failed, NoMemory}
 use Rattle.wasm_syntax.specs.declared.quantity.Quantity.{Quantity}
 use Rattle.wasm_syntax.specs.Quantity.{greatest}
-use Rattle.commands.specs.declared.input.Input.{Input}
-use Rattle.commands.specs.declared.input.Input.TheVariants.{Whole, Refused}
+use Rattle.commands.specs.declared.given.Given.{Given}
 use Rattle.commands.specs.declared.outcome.Outcome.{Outcome}
 use Rattle.commands.specs.Texts.{no_file, over_limit, file_fault}
-use Rattle.commands.specs.Told.{UnlessFault}
+use Rattle.commands.specs.calls.Given.{IsGiven}
 
 -- this is the input, but for a fault
-abbrev pub IsInput : Input → Result (List ℕ) Outcome → Type 0
-IsInput (Whole bytes) input = input ≡ Ok bytes.items
-IsInput (Refused o) input = UnlessFault o.status (input ≡ Err o)
-
-abbrev pub IfRefused : (Outcome → Type 0) → Input → Type 0
-IfRefused P (Whole bytes) = Unit {0}
-IfRefused P (Refused o) = P o
+abbrev pub IsInput : Given (Vec ℕ Global) → Result (List ℕ) Outcome → Type 0
+IsInput given input = IsGiven (λ bytes input. input ≡ Ok bytes.items) given input
 
 -- the answer where a file is not read
 abbrev pub IsUnread : Quantity → List ℕ → FileError → Outcome → Type 0

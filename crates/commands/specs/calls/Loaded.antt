@@ -5,15 +5,10 @@ use Rattle.wasm_syntax.specs.declared.module.ModuleParts.{ModuleParts as Module}
 use Rattle.wasm_syntax.specs.Valid.{Valid}
 use Rattle.wasm_validate.specs.Heights.{AllLow}
 use Rattle.commands.specs.Loading.{IsTurnedDown}
-use Rattle.commands.specs.declared.outcome.Outcome.{Outcome}
-use Rattle.commands.specs.declared.loading.Loaded.{Loaded}
-use Rattle.commands.specs.declared.loading.Loaded.TheVariants as loaded
+use Rattle.commands.specs.declared.given.Given.{Given}
+use Rattle.commands.specs.declared.given.Given.TheVariants.{Value, Refused}
 
 -- the module itself, which is valid, or what is answered in its place
-abbrev pub IsLoaded : Loaded → Result Module DecodeFault → Type 0
-IsLoaded (loaded.Valid m) decoded = (decoded ≡ Ok m) × Valid m × AllLow m
-IsLoaded (loaded.TurnedDown o) decoded = IsTurnedDown decoded o
-
-abbrev pub IfTurnedDown : (Outcome → Type 0) → Loaded → Type 0
-IfTurnedDown P (loaded.Valid v) = Unit {0}
-IfTurnedDown P (loaded.TurnedDown o) = P o
+abbrev pub IsLoaded : Given Module → Result Module DecodeFault → Type 0
+IsLoaded (Value m) decoded = (decoded ≡ Ok m) × Valid m × AllLow m
+IsLoaded (Refused o) decoded = IsTurnedDown decoded o

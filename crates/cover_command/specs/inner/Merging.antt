@@ -9,29 +9,29 @@ use Rattle.debug_frames.specs.Files.{file_text}
 use Rattle.line_coverage.specs.declared.spots.Spot.{Spot}
 use Rattle.line_coverage.specs.declared.spots.LineCount.{LineCount}
 use Rattle.line_coverage.specs.calls.Spots.{lines_sum}
-use Rattle.cover_command.specs.declared.merging.FileLine.{FileLine}
-use Rattle.cover_command.specs.contracts.merging.FileLineOrd.TheImpl as file_line_ord
+use Rattle.cover_command.specs.declared.merging.NamedLine.{NamedLine}
+use Rattle.cover_command.specs.contracts.merging.NamedLineOrd.TheImpl as file_line_ord
 use Rattle.cover_command.specs.SourceLines.{SourceLine, is_line}
 
 -- the order of the map
-abbrev pub file_line_cmp : FileLine → FileLine → Ordering
+abbrev pub file_line_cmp : NamedLine → NamedLine → Ordering
 file_line_cmp = (file_line_ord.ghosts).cmp
 
-abbrev pub seen_line : FileLine → SourceLine
+abbrev pub seen_line : NamedLine → SourceLine
 seen_line l = record { file = string_bytes l.file; line = l.line }
 
 -- a map as the lines that are told
-abbrev pub seen_counts : List (FileLine × ℕ) → List (SourceLine × ℕ)
+abbrev pub seen_counts : List (NamedLine × ℕ) → List (SourceLine × ℕ)
 seen_counts entries = map (λ e. (seen_line e.0, e.1)) entries
 
-abbrev pub at_line : SourceLine → FileLine → Bool
+abbrev pub at_line : SourceLine → NamedLine → Bool
 at_line line l = is_line line (seen_line l)
 
-abbrev pub counted_on : BTreeMap FileLine ℕ → SourceLine → ℕ
+abbrev pub counted_on : BTreeMap NamedLine ℕ → SourceLine → ℕ
 counted_on counts line = unwrap_or (lookup (at_line line) counts.entries) 0
 
 -- no line has the number 0
-abbrev pub HaveSteps : BTreeMap FileLine ℕ → Type 0
+abbrev pub HaveSteps : BTreeMap NamedLine ℕ → Type 0
 HaveSteps counts = (line : SourceLine) (n : ℕ) → lookup (at_line line) counts.entries ≡ Some n → 0 < n
 
 -- ---- lines of line programs

@@ -8,7 +8,7 @@ use Rattle.wasm_validate.specs.Heights.{AllLow}
 use Rattle.pm_outside.specs.Written.{OnTold}
 use Rattle.rewrite_modules.specs.Instrumentable.{LightEnough}
 use Rattle.rewrite_modules.specs.Weight.{AreHeights, weight}
-use Rattle.rewrite_promise.specs.Promise.{Promised}
+use Rattle.rewrite_promise.specs.calls.Promise.{Promised}
 use Rattle.instrument.specs.Refusal.{refusal}
 use Rattle.instrument.specs.declared.refusal.InstrFault.{InstrFault}
 use Rattle.commands.specs.declared.outcome.Outcome.{Outcome}
@@ -17,8 +17,8 @@ use Rattle.run_session.specs.Stop.{Stop, no_memory, file_failed}
 use Rattle.pm_outside.specs.Held.{Writes, HoldThen}
 use Rattle.instrument_command.specs.InstrumentAnswer.{refused}
 use Rattle.instrument_command.specs.Stops.{IsFailed, LeftInPart}
-use Rattle.instrument_command.specs.declared.rewriting.Rewritten.{Rewritten}
-use Rattle.instrument_command.specs.declared.rewriting.Rewritten.TheVariants.{Whole, Refused}
+use Rattle.commands.specs.declared.given.Given.{Given}
+use Rattle.commands.specs.declared.given.Given.TheVariants.{Value, Refused}
 
 -- the module is valid, there is no cause to refuse it, and the other one keeps all promises
 pub record Rewrites (m other : Module) : Type 0 where
@@ -37,13 +37,9 @@ pub record Refuses (m : Module) (o : Outcome) : Type 0 where
   pub first : refusal m heights ≡ Some fault
   pub told : o ≡ refused fault
 
-abbrev pub IsRewritten : Module → Rewritten → Type 0
-IsRewritten m (Whole other) = Rewrites m other
+abbrev pub IsRewritten : Module → Given Module → Type 0
+IsRewritten m (Value other) = Rewrites m other
 IsRewritten m (Refused o) = Refuses m o
-
-abbrev pub IfRefused : (Outcome → Type 0) → Rewritten → Type 0
-IfRefused P (Whole other) = Unit {0}
-IfRefused P (Refused o) = P o
 
 -- the weight of the module, by the heights of its operands
 pub record Weighs (m : Module) (w : ℕ) : Type 0 where

@@ -8,7 +8,6 @@ use Rattle.machine_hosted.specs.declared.answer.RunEnd.{RunEnd}
 use Rattle.debugger.specs.Commands.{read_command}
 use Rattle.debugger.specs.Subject.{Subject}
 use Rattle.debugger.specs.Session.{Prints, chosen_behind}
-use Rattle.debugger.specs.calls.Sitting.{Sitting, sitting}
 use Rattle.replay.specs.Replays.{Recording, IsOf, IsEnd, IsOutcome, EndsWith, outcome_at}
 use Rattle.replay.specs.Moves.{Replay}
 use Rattle.replay_command.specs.declared.moves.Move.{Move}
@@ -45,12 +44,6 @@ abbrev pub BeginsWithLook : List ℕ → Type 0
 BeginsWithLook text = (given : List ℕ) (more : List (List ℕ)) → commands_in text ≡ given ∷ more → read_move given ≡ Look
 
 -- ---- commands of a session
-
--- a command adds its text
-abbrev pub Adds : Sitting → List ℕ → List ℕ → Sitting → List ℕ → Type 0
-Adds before out given after more =
-    (text : List ℕ) × Prints before.subject before.chosen given (read_command given) text
-    × (after ≡ sitting before.subject (chosen_behind before.subject before.chosen (read_command given))) × (more ≡ out ++ text)
 
 -- these commands look one after the other, where a frame is chosen at first, and add their texts, and then another frame is chosen
 abbrev pub Looks : Subject → ℕ → List ℕ → List (List ℕ) → ℕ → List ℕ → Type 0

@@ -8,11 +8,11 @@ use Rattle.wasm_syntax.specs.Run.{Invocation, cause_of_segments}
 use Rattle.wasm_machine.specs.declared.entries.EntryFault.{EntryFault}
 use Rattle.wasm_machine.specs.declared.entries.EntryFault.TheVariants.{NoExport, BadArguments, Unserved}
 use Rattle.wasm_machine.specs.calls.Entries.{first_unserved}
-use Rattle.wasm_machine.specs.calls.Instances.{IsNew}
+use Rattle.wasm_machine.specs.calls.Instances.{State, IsNew}
 use Rattle.run_command.specs.Starting.{cause_text, entries_text, not_started_with}
 use Rattle.run_command.specs.Hosting.{import_text}
-use Rattle.run_command.specs.declared.running.Begun.{Begun}
-use Rattle.run_command.specs.declared.running.Begun.TheVariants.{Ready, Refused}
+use Rattle.commands.specs.declared.given.Given.{Given}
+use Rattle.commands.specs.declared.given.Given.TheVariants.{Value, Refused}
 use Rattle.std.specs.Option.{option_or}
 
 -- the cause of an invocation by itself; that an import is not served comes behind those of all invocations
@@ -33,6 +33,6 @@ abbrev pub start_cause : (Import → FuncType → Bool) → Module → List Invo
 start_cause serving m is = option_or (entries_text m is) (option_or (import_text (first_unserved serving m)) (cause_text [] (cause_of_segments m)))
 
 -- a new instance of the module, where nothing hinders its start; or the answer that tells the cause
-abbrev pub HasBegun : (Import → FuncType → Bool) → Module → List Invocation → Begun → Type 0
-HasBegun serving m is (Ready s) = (start_cause serving m is ≡ None) × (cause_of_segments m ≡ None) × IsNew m s
+abbrev pub HasBegun : (Import → FuncType → Bool) → Module → List Invocation → Given State → Type 0
+HasBegun serving m is (Value s) = (start_cause serving m is ≡ None) × (cause_of_segments m ≡ None) × IsNew m s
 HasBegun serving m is (Refused o) = (cause : List ℕ) × (start_cause serving m is ≡ Some cause) × (o ≡ not_started_with cause)

@@ -10,15 +10,14 @@ use Rattle.host_set.specs.Sets.{DeviceState}
 use Rattle.run_words.specs.declared.words.RunWords.{RunWords}
 use Rattle.commands.specs.Inputs.{Then}
 use Rattle.commands.specs.Loading.{IfLoaded}
-use Rattle.commands.specs.Told.{UnlessFault}
+use Rattle.commands.specs.calls.Given.{IsGiven}
 use Rattle.commands.specs.Texts.{file_fault}
 use Rattle.commands.specs.declared.outcome.Outcome.{Outcome}
 use Rattle.commands.specs.declared.status.Status.TheVariants as status
 use Rattle.pm_outside.specs.Held.{Writes}
 use Rattle.run_command.specs.declared.scripts.Script.{Script}
 use Rattle.run_command.specs.declared.scripts.Script.TheVariants.{Whole, Bad}
-use Rattle.run_command.specs.declared.scripts.Asked.{Asked}
-use Rattle.run_command.specs.declared.scripts.Asked.TheVariants.{Read, Refused}
+use Rattle.commands.specs.declared.given.Given.{Given}
 use Rattle.run_command.specs.RunAnswer.{IsReadBy, ModuleAnswer, replies_input, bad_replies, script_of}
 
 -- the replies, where there are any, or the refusal that names a line
@@ -27,13 +26,8 @@ script_result (Whole script) = Ok script
 script_result (Bad line) = Err (bad_replies line)
 
 -- this came of the bytes of the file of replies, but for a fault
-abbrev pub IsAsked : Asked → Result (Option (List ℕ)) Outcome → Type 0
-IsAsked (Read script) input = (bytes : Option (List ℕ)) × (input ≡ Ok bytes) × (script_result script ≡ script_of bytes)
-IsAsked (Refused o) input = UnlessFault o.status (input ≡ Err o)
-
-abbrev pub IfAskedRefused : (Outcome → Type 0) → Asked → Type 0
-IfAskedRefused P (Read script) = Unit {0}
-IfAskedRefused P (Refused o) = P o
+abbrev pub IsAsked : Given Script → Result (Option (List ℕ)) Outcome → Type 0
+IsAsked given input = IsGiven (λ script input. (bytes : Option (List ℕ)) × (input ≡ Ok bytes) × (script_result script ≡ script_of bytes)) given input
 
 -- a fault of the file of replies names it, and was counted
 abbrev pub IsRepliesFault : Option (List ℕ) → (before now : ℕ) → Outcome → Type 0

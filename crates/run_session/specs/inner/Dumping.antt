@@ -7,7 +7,6 @@ use Rattle.dump_write.specs.Canonical.{canonical_bytes}
 use Rattle.dump_write.specs.Image.{DumpFrame, Dump}
 use Rattle.dump_write.specs.ImageBytes.{bytes_of}
 use Rattle.pm_outside.specs.Written.{OnTold}
-use Rattle.commands.specs.declared.outcome.Outcome.{Outcome}
 use Rattle.run_session.specs.Telling.{Telling}
 use Rattle.run_session.specs.Telling as telling
 use Rattle.run_session.specs.RunText.{place_line, place_text, calls_text, telling_text, with_dump, with_trap}
@@ -16,8 +15,6 @@ use Rattle.pm_outside.specs.Held.{Writes, HoldThen, HoldPart}
 use Rattle.run_session.specs.declared.told.Told.{Told}
 use Rattle.run_session.specs.declared.told.Told.TheVariants.{Nothing, Finish, Trap, BareTrap, Torn}
 use Rattle.run_session.specs.declared.turns.Lines.{Lines}
-use Rattle.run_session.specs.declared.dumps.Written.{Written}
-use Rattle.run_session.specs.declared.dumps.Written.TheVariants.{Whole, Refused}
 
 -- the place of the first of these frames
 abbrev pub place_in : List FormatFrame → List ℕ
@@ -76,13 +73,3 @@ pub record AddsTold (base name : List ℕ) (told : Told) (calls : ℕ) (old new 
 -- the dump is there in part
 abbrev pub LeavesDump : (base name : List ℕ) → Told → (number : ℕ) → (before after : Option Contents) → Type 0
 LeavesDump base name told number before after = (t : Telling) → IsTold t name told → OnTold (HoldPart (own_dump base name number t)) before after
-
--- a fact where the dump was written
-abbrev pub IfWritten : Type 0 → Written → Type 0
-IfWritten P Whole = P
-IfWritten P (Refused o) = Unit {0}
-
--- a fact on what is answered in its place
-abbrev pub IfRefused : (Outcome → Type 0) → Written → Type 0
-IfRefused P Whole = Unit {0}
-IfRefused P (Refused o) = P o

@@ -10,21 +10,21 @@ use Rattle.instrument_command.proofs.command.instrument_bytes.Goals as goal
 
 pub instrument_valid-requires-clause-sized : goal.instrument_valid-requires-clause-sized
 instrument_valid-requires-clause-sized g c =
-    let known = subst (λ l. IsLoaded l (module_from c.args.bytes.now)) c.in-Valid.is c.in_ok-loaded.ensures.told in
+    let known = subst (λ l. IsLoaded l (module_from c.args.bytes.now)) c.in-Value.is c.in_ok-loaded.ensures.told in
     let are : IsBytes c.args.bytes.now = λ i. omega (arith, c.type_inv.bytes i) in
-    decoded c.args.bytes.now c.in-Valid.source are known.0
+    decoded c.args.bytes.now c.in-Value.source are known.0
 
-pub returns-in-Valid-clause-told : goal.returns-in-Valid-clause-told
-returns-in-Valid-clause-told g c =
-    let known = subst (λ l. IsLoaded l (module_from c.args.bytes.now)) c.in-Valid.is c.in_ok-loaded.ensures.told in
-    with_module (λ writes. ModuleAnswer c.args.out.now writes) (g.F.Files.told c.args.files.now) (g.F.Files.told c.instrument_valid.new.files) c.instrument_valid.result c.in-Valid.source (module_from c.args.bytes.now) known.0 known.1 known.2 c.instrument_valid.ensures.told
+pub returns-in-Value-clause-told : goal.returns-in-Value-clause-told
+returns-in-Value-clause-told g c =
+    let known = subst (λ l. IsLoaded l (module_from c.args.bytes.now)) c.in-Value.is c.in_ok-loaded.ensures.told in
+    with_module (λ writes. ModuleAnswer c.args.out.now writes) (g.F.Files.told c.args.files.now) (g.F.Files.told c.instrument_valid.new.files) c.instrument_valid.result c.in-Value.source (module_from c.args.bytes.now) known.0 known.1 known.2 c.instrument_valid.ensures.told
 
-pub returns-in-Valid-clause-stops : goal.returns-in-Valid-clause-stops
-returns-in-Valid-clause-stops g c =
-    let known = subst (λ l. IsLoaded l (module_from c.args.bytes.now)) c.in-Valid.is c.in_ok-loaded.ensures.told in
-    bytes_stop c.args.out.now c.args.bytes.now c.in-Valid.source (g.F.Files.told c.args.files.now) (g.F.Files.told c.instrument_valid.new.files) c.instrument_valid.result known.0 known.1 known.2 c.instrument_valid.ensures.stops
+pub returns-in-Value-clause-stops : goal.returns-in-Value-clause-stops
+returns-in-Value-clause-stops g c =
+    let known = subst (λ l. IsLoaded l (module_from c.args.bytes.now)) c.in-Value.is c.in_ok-loaded.ensures.told in
+    bytes_stop c.args.out.now c.args.bytes.now c.in-Value.source (g.F.Files.told c.args.files.now) (g.F.Files.told c.instrument_valid.new.files) c.instrument_valid.result known.0 known.1 known.2 c.instrument_valid.ensures.stops
 
-pub returns-in-TurnedDown-clause-told : goal.returns-in-TurnedDown-clause-told
-returns-in-TurnedDown-clause-told g c =
-    let known = subst (λ l. IsLoaded l (module_from c.args.bytes.now)) c.in-TurnedDown.is c.in_ok-loaded.ensures.told in
-    without_module (λ writes. ModuleAnswer c.args.out.now writes) (g.F.Files.told c.args.files.now) (module_from c.args.bytes.now) c.in-TurnedDown.refusal known
+pub returns-in-Refused-clause-told : goal.returns-in-Refused-clause-told
+returns-in-Refused-clause-told g c =
+    let known = subst (λ l. IsLoaded l (module_from c.args.bytes.now)) c.in-Refused.is c.in_ok-loaded.ensures.told in
+    without_module (λ writes. ModuleAnswer c.args.out.now writes) (g.F.Files.told c.args.files.now) (module_from c.args.bytes.now) c.in-Refused.refusal known

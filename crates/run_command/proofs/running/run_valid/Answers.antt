@@ -1,3 +1,4 @@
+use Rattle.commands.proofs.Endings.{ended_both}
 use Rattle.std.proofs.Common.{List, map, refl, ap, ◌∙◌, arith, subst, inl, Ok}
 use Rattle.causes.specs.Counts.{Rose}
 use Rattle.run_session.specs.calls.Sessions.{ends_badly}
@@ -10,7 +11,7 @@ use Rattle.run_session.proofs.Deliveries.{delivery}
 use Rattle.run_session.specs.calls.Collecting.{serving_of}
 use Rattle.run_session.specs.Invocations.{invocation_of}
 use Rattle.run_command.specs.calls.Begun.{HasBegun}
-use Rattle.run_command.specs.declared.running.Begun.TheVariants.{Ready, Refused}
+use Rattle.commands.specs.declared.given.Given.TheVariants as givens
 use Rattle.run_command.proofs.Hostings.{began_behind}
 use Rattle.run_command.proofs.Beginning.{begun_begin, of_begun}
 use Rattle.run_command.specs.inner.Recording.{fitting}
@@ -28,42 +29,44 @@ delivers calls = (delivery calls).1
 
 pub run_all-ran-requires-clause-entries : goal.run_all-ran-requires-clause-entries
 run_all-ran-requires-clause-entries g c =
-    begun_begin (serving_of c.args.words.now.collect (λ i type. serves c.begin_with-begun.result.1 i)) c.args.source.now c.args.words.now.invocations c.in-Ready.instance
-    (of_begun c.begin_with-begun.result.0 c.in-Ok.begun (Ready c.in-Ready.instance) (HasBegun (serving_of c.args.words.now.collect (λ i type. serves c.begin_with-begun.result.1 i)) c.args.source.now (map invocation_of c.args.words.now.invocations)) c.in-Ok.is c.in-Ready.is c.begin_with-begun.ensures.begun)
+    begun_begin (serving_of c.args.words.now.collect (λ i type. serves c.begin_with-begun.result.1 i)) c.args.source.now c.args.words.now.invocations c.in-Value.instance
+    (of_begun c.begin_with-begun.result.0 c.in-Ok.begun (givens.Value c.in-Value.instance) (HasBegun (serving_of c.args.words.now.collect (λ i type. serves c.begin_with-begun.result.1 i)) c.args.source.now (map invocation_of c.args.words.now.invocations)) c.in-Ok.is c.in-Value.is c.begin_with-begun.ensures.begun)
 
-pub returns-in-Ready-clause-told : goal.returns-in-Ready-clause-told
-returns-in-Ready-clause-told g c =
-    ready_told deliver delivers (Rose (g.F.Files.faults c.run_all-ran.new.files) (g.F.Files.faults c.recorded-outcome.new.files)) c.run_all-ran.result.0 c.recorded-outcome.result (g.D.Devices.shown c.args.devices.now) (g.D.Devices.shown c.into_devices-in-Ready.result) c.args.script c.args.words.now c.args.source.now c.in-Ready.instance
+pub returns-in-Value-clause-told : goal.returns-in-Value-clause-told
+returns-in-Value-clause-told g c =
+    ready_told deliver delivers (Rose (g.F.Files.faults c.run_all-ran.new.files) (g.F.Files.faults c.recorded-outcome.new.files)) c.run_all-ran.result.0 c.recorded-outcome.result (g.D.Devices.shown c.args.devices.now) (g.D.Devices.shown c.into_devices-in-Value.result) c.args.script c.args.words.now c.args.source.now c.in-Value.instance
     (ends_badly c.run_all-ran.new.instance.last) c.begin_with-begun.result.1 c.run_all-ran.result.1
     (g.F.Files.told c.args.files.now) (g.F.Files.told c.run_all-ran.new.files) (g.F.Files.told c.recorded-outcome.new.files)
     (subst IsModule (c.parts.ensures.value ∙ c.module.ensures.value) c.parts.ensures.whole) c.module.ensures.valid
-    (of_begun c.begin_with-begun.result.0 c.in-Ok.begun (Ready c.in-Ready.instance) (HasBegun (serving_of c.args.words.now.collect (λ i type. serves c.begin_with-begun.result.1 i)) c.args.source.now (map invocation_of c.args.words.now.invocations)) c.in-Ok.is c.in-Ready.is c.begin_with-begun.ensures.begun)
+    (of_begun c.begin_with-begun.result.0 c.in-Ok.begun (givens.Value c.in-Value.instance) (HasBegun (serving_of c.args.words.now.collect (λ i type. serves c.begin_with-begun.result.1 i)) c.args.source.now (map invocation_of c.args.words.now.invocations)) c.in-Ok.is c.in-Value.is c.begin_with-begun.ensures.begun)
     (began_behind c.args.source.now.imports c.as_slice-imports.result.now (g.D.Devices.shown c.args.devices.now) (g.D.Devices.shown c.replace-set.result) c.args.script c.new-hosts.result c.begin_with-begun.result.1 c.begin_with-begun.ensures.same c.new-hosts.ensures.state c.new-hosts.ensures.logs
     (c.as_slice-imports.ensures ∙ ap (λ (m : Module). m.imports) (c.parts.ensures.value ∙ c.module.ensures.value)) (ap (λ d. g.D.Devices.shown d) c.replace-set.ensures.value))
     c.run_all-ran.ensures.origin
-    (record { devices = c.into_devices-in-Ready.ensures.devices; logged = c.into_devices-in-Ready.ensures.logged; modules = c.into_devices-in-Ready.ensures.modules; scripted = c.into_devices-in-Ready.ensures.scripted })
+    (record { devices = c.into_devices-in-Value.ensures.devices; logged = c.into_devices-in-Value.ensures.logged; modules = c.into_devices-in-Value.ensures.modules; scripted = c.into_devices-in-Value.ensures.scripted })
     (c.run_all-ran.ensures.ran deliver delivers) c.recorded-outcome.ensures.records
 
-pub returns-in-Ready-clause-stops : goal.returns-in-Ready-clause-stops
-returns-in-Ready-clause-stops g c =
-    ready_stops (g.D.Devices.shown c.args.devices.now) (g.D.Devices.shown c.into_devices-in-Ready.result) c.args.words.now c.recorded-outcome.result deliver delivers (Rose (g.F.Files.faults c.run_all-ran.new.files) (g.F.Files.faults c.recorded-outcome.new.files)) c.run_all-ran.result.0 c.args.script c.args.source.now c.in-Ready.instance
+pub returns-in-Value-clause-stops : goal.returns-in-Value-clause-stops
+returns-in-Value-clause-stops g c =
+    ready_stops (g.D.Devices.shown c.args.devices.now) (g.D.Devices.shown c.into_devices-in-Value.result) c.args.words.now c.recorded-outcome.result deliver delivers (Rose (g.F.Files.faults c.run_all-ran.new.files) (g.F.Files.faults c.recorded-outcome.new.files)) c.run_all-ran.result.0 c.args.script c.args.source.now c.in-Value.instance
     (ends_badly c.run_all-ran.new.instance.last) c.begin_with-begun.result.1 c.run_all-ran.result.1
     (g.F.Files.told c.args.files.now) (g.F.Files.told c.run_all-ran.new.files) (g.F.Files.told c.recorded-outcome.new.files)
     (subst IsModule (c.parts.ensures.value ∙ c.module.ensures.value) c.parts.ensures.whole) c.module.ensures.valid
-    (of_begun c.begin_with-begun.result.0 c.in-Ok.begun (Ready c.in-Ready.instance) (HasBegun (serving_of c.args.words.now.collect (λ i type. serves c.begin_with-begun.result.1 i)) c.args.source.now (map invocation_of c.args.words.now.invocations)) c.in-Ok.is c.in-Ready.is c.begin_with-begun.ensures.begun)
+    (of_begun c.begin_with-begun.result.0 c.in-Ok.begun (givens.Value c.in-Value.instance) (HasBegun (serving_of c.args.words.now.collect (λ i type. serves c.begin_with-begun.result.1 i)) c.args.source.now (map invocation_of c.args.words.now.invocations)) c.in-Ok.is c.in-Value.is c.begin_with-begun.ensures.begun)
     (began_behind c.args.source.now.imports c.as_slice-imports.result.now (g.D.Devices.shown c.args.devices.now) (g.D.Devices.shown c.replace-set.result) c.args.script c.new-hosts.result c.begin_with-begun.result.1 c.begin_with-begun.ensures.same c.new-hosts.ensures.state c.new-hosts.ensures.logs
     (c.as_slice-imports.ensures ∙ ap (λ (m : Module). m.imports) (c.parts.ensures.value ∙ c.module.ensures.value)) (ap (λ d. g.D.Devices.shown d) c.replace-set.ensures.value))
     c.run_all-ran.ensures.origin
-    (record { devices = c.into_devices-in-Ready.ensures.devices; logged = c.into_devices-in-Ready.ensures.logged; modules = c.into_devices-in-Ready.ensures.modules; scripted = c.into_devices-in-Ready.ensures.scripted })
+    (record { devices = c.into_devices-in-Value.ensures.devices; logged = c.into_devices-in-Value.ensures.logged; modules = c.into_devices-in-Value.ensures.modules; scripted = c.into_devices-in-Value.ensures.scripted })
     (c.run_all-ran.ensures.ran deliver delivers) c.run_all-ran.ensures.memory (c.run_all-ran.ensures.stops deliver delivers) c.recorded-outcome.ensures.records
 
-pub returns-in-Ready-clause-fault : goal.returns-in-Ready-clause-fault
-returns-in-Ready-clause-fault g c =
-    recorded_fault c.args.words.now.log_to (fitting (ends_badly c.run_all-ran.new.instance.last) c.run_all-ran.result.1.served) (Rose (g.F.Files.faults c.run_all-ran.new.files) (g.F.Files.faults c.recorded-outcome.new.files)) (g.F.Files.told c.run_all-ran.new.files) (g.F.Files.told c.recorded-outcome.new.files)
+pub returns-in-Value-clause-ended : goal.returns-in-Value-clause-ended
+returns-in-Value-clause-ended g c =
+    ended_both (λ o. Rose (g.F.Files.faults c.args.files.now) (g.F.Files.faults c.recorded-outcome.new.files)) c.recorded-outcome.result
+    (recorded_fault c.args.words.now.log_to (fitting (ends_badly c.run_all-ran.new.instance.last) c.run_all-ran.result.1.served) (Rose (g.F.Files.faults c.run_all-ran.new.files) (g.F.Files.faults c.recorded-outcome.new.files)) (g.F.Files.told c.run_all-ran.new.files) (g.F.Files.told c.recorded-outcome.new.files)
     (Rose (g.F.Files.faults c.args.files.now) (g.F.Files.faults c.recorded-outcome.new.files)) c.run_all-ran.result.0 c.recorded-outcome.result
-    (λ rose. omega (arith, rose, c.run_all-ran.ensures.later))
-    (fault_since c.args.words.now.dump c.run_all-ran.result.0 (g.F.Files.faults c.args.files.now) (g.F.Files.faults c.run_all-ran.new.files) (g.F.Files.faults c.recorded-outcome.new.files) c.recorded-outcome.ensures.later c.run_all-ran.ensures.fault)
-    c.recorded-outcome.ensures.records
+    (λ rose. omega (arith, rose, c.run_all-ran.ensures.files.later))
+    (fault_since c.args.words.now.dump c.run_all-ran.result.0 (g.F.Files.faults c.args.files.now) (g.F.Files.faults c.run_all-ran.new.files) (g.F.Files.faults c.recorded-outcome.new.files) c.recorded-outcome.ensures.files.later c.run_all-ran.ensures.fault)
+    c.recorded-outcome.ensures.records)
+    (c.recorded-outcome.ensures.memory c.run_all-ran.ensures.memory)
 
 pub returns-in-Refused-clause-told : goal.returns-in-Refused-clause-told
 returns-in-Refused-clause-told g c =
@@ -72,7 +75,7 @@ returns-in-Refused-clause-told g c =
     (began_behind c.args.source.now.imports c.as_slice-imports.result.now (g.D.Devices.shown c.args.devices.now) (g.D.Devices.shown c.replace-set.result) c.args.script c.new-hosts.result c.begin_with-begun.result.1 c.begin_with-begun.ensures.same c.new-hosts.ensures.state c.new-hosts.ensures.logs
     (c.as_slice-imports.ensures ∙ ap (λ (m : Module). m.imports) (c.parts.ensures.value ∙ c.module.ensures.value)) (ap (λ d. g.D.Devices.shown d) c.replace-set.ensures.value))
     c.into_devices-in-Refused.ensures.devices
-    (of_begun c.begin_with-begun.result.0 c.in-Ok.begun (Refused c.in-Refused.refusal) (HasBegun (serving_of c.args.words.now.collect (λ i type. serves c.begin_with-begun.result.1 i)) c.args.source.now (map invocation_of c.args.words.now.invocations)) c.in-Ok.is c.in-Refused.is c.begin_with-begun.ensures.begun) refl
+    (of_begun c.begin_with-begun.result.0 c.in-Ok.begun (givens.Refused c.in-Refused.refusal) (HasBegun (serving_of c.args.words.now.collect (λ i type. serves c.begin_with-begun.result.1 i)) c.args.source.now (map invocation_of c.args.words.now.invocations)) c.in-Ok.is c.in-Refused.is c.begin_with-begun.ensures.begun) refl
 
 pub returns-in_default-clause-names : goal.returns-in_default-clause-names
 returns-in_default-clause-names g c = λ name has. inl has
@@ -80,5 +83,5 @@ returns-in_default-clause-names g c = λ name has. inl has
 pub returns-in-Refused-clause-names : goal.returns-in-Refused-clause-names
 returns-in-Refused-clause-names g c = λ name has. inl has
 
-pub returns-in-Ready-clause-names : goal.returns-in-Ready-clause-names
-returns-in-Ready-clause-names g c = creates_run c.args.words.now (g.F.Files.created c.args.files.now) (g.F.Files.created c.run_all-ran.new.files) (g.F.Files.created c.recorded-outcome.new.files) c.run_all-ran.ensures.names c.recorded-outcome.ensures.names
+pub returns-in-Value-clause-names : goal.returns-in-Value-clause-names
+returns-in-Value-clause-names g c = creates_run c.args.words.now (g.F.Files.created c.args.files.now) (g.F.Files.created c.run_all-ran.new.files) (g.F.Files.created c.recorded-outcome.new.files) c.run_all-ran.ensures.names c.recorded-outcome.ensures.names

@@ -49,8 +49,8 @@ loop-index-preserved g c =
       same = c.run_next-turn.ensures.same ∙ h.same;
       host = kept_on g.H.HostSide.origin (λ h. collecting_of c.args.words.now.collect (g.H.HostSide.collecting h)) (λ h. serving_of c.args.words.now.collect (g.H.HostSide.serving h)) g.H.HostSide.fault_count c.args.hosts c.loop-index.hosts c.run_next-turn.result.1 h.host c.run_next-turn.ensures.host;
       traps = omega (arith, c.run_next-turn.ensures.one, h.traps);
-      telling = c.run_next-turn.ensures.telling ∙ h.telling;
-      later = omega (arith, c.run_next-turn.ensures.later, h.later);
+      telling = c.run_next-turn.ensures.files.telling ∙ h.telling;
+      later = omega (arith, c.run_next-turn.ensures.files.later, h.later);
       names = creates_dump c.args.words.now.dump c.loop-index.lines.traps c.loop-index.index (length c.as_slice-invocations.result.now) (g.F.Files.created c.args.files.now) (g.F.Files.created c.loop-index.files) (g.F.Files.created c.run_next-turn.new.files) c.loop-index.invariant.traps c.loop-index-test.true c.loop-index.invariant.names c.run_next-turn.ensures.names;
       come = λ deliver delivers p is_of.
           come_next (tells c.args.words.now.collect deliver) p (engine p c.args.words.now.collect (depth_of c.args.words.now)) c.args.words.now.dump c.args.words.now.name (used_up_of c.args.words.now.collect (g.H.HostSide.used_up c.run_next-turn.result.1)) c.args.instance.now c.loop-index.instance c.run_next-turn.new.instance

@@ -11,21 +11,21 @@ returns-in_err-loaded-clause-names g c = (g.F.Files.created c.args.files.now, in
 
 pub test_module-requires-clause-sized : goal.test_module-requires-clause-sized
 test_module-requires-clause-sized g c =
-    let known = subst (λ l. IsLoaded l (module_from c.args.bytes.now)) c.in-Valid.is c.in_ok-loaded.ensures.told in
+    let known = subst (λ l. IsLoaded l (module_from c.args.bytes.now)) c.in-Value.is c.in_ok-loaded.ensures.told in
     let are : IsBytes c.args.bytes.now = λ i. omega (arith, c.type_inv.bytes i) in
-    decoded c.args.bytes.now c.in-Valid.source are known.0
+    decoded c.args.bytes.now c.in-Value.source are known.0
 
 pub test_module-requires-clause-selftest : goal.test_module-requires-clause-selftest
 test_module-requires-clause-selftest g c =
-    let known = subst (λ l. IsLoaded l (module_from c.args.bytes.now)) c.in-Valid.is c.in_ok-loaded.ensures.told in
+    let known = subst (λ l. IsLoaded l (module_from c.args.bytes.now)) c.in-Value.is c.in_ok-loaded.ensures.told in
     let are : IsBytes c.args.bytes.now = λ i. omega (arith, c.type_inv.bytes i) in
-    selftest_is c.args.count c.args.bytes.now c.in-Valid.source c.requires.least c.requires.most are c.requires.bytes c.requires.same known.0 known.1 known.2
+    selftest_is c.args.count c.args.bytes.now c.in-Value.source c.requires.least c.requires.most are c.requires.bytes c.requires.same known.0 known.1 known.2
 
-pub returns-in-TurnedDown-clause-told : goal.returns-in-TurnedDown-clause-told
-returns-in-TurnedDown-clause-told g c =
-    let known = subst (λ l. IsLoaded l (module_from c.args.bytes.now)) c.in-TurnedDown.is c.in_ok-loaded.ensures.told in
+pub returns-in-Refused-clause-told : goal.returns-in-Refused-clause-told
+returns-in-Refused-clause-told g c =
+    let known = subst (λ l. IsLoaded l (module_from c.args.bytes.now)) c.in-Refused.is c.in_ok-loaded.ensures.told in
     let are : IsBytes c.args.bytes.now = λ i. omega (arith, c.type_inv.bytes i) in
-    absurd (never_turned c.args.count c.args.bytes.now c.in-TurnedDown.refusal c.requires.least c.requires.most are c.requires.bytes c.requires.same known)
+    absurd (never_turned c.args.count c.args.bytes.now c.in-Refused.refusal c.requires.least c.requires.most are c.requires.bytes c.requires.same known)
 
-pub returns-in-TurnedDown-clause-names : goal.returns-in-TurnedDown-clause-names
-returns-in-TurnedDown-clause-names g c = (g.F.Files.created c.args.files.now, inl refl, inl refl)
+pub returns-in-Refused-clause-names : goal.returns-in-Refused-clause-names
+returns-in-Refused-clause-names g c = (g.F.Files.created c.args.files.now, inl refl, inl refl)

@@ -7,15 +7,15 @@ use Rattle.selftest_command.proofs.running.run_bytes.Goals as goal
 
 pub run_module-requires : goal.run_module-requires
 run_module-requires g c =
-    let known = subst (λ l. IsLoaded l (module_from c.args.bytes.now)) c.in-Valid.is c.in_ok-loaded.ensures.told in
-    subst IsCollected (ok_is (module_from c.args.bytes.now) c.requires.decoded c.in-Valid.source c.requires.is known.0) c.requires.collected
+    let known = subst (λ l. IsLoaded l (module_from c.args.bytes.now)) c.in-Value.is c.in_ok-loaded.ensures.told in
+    subst IsCollected (ok_is (module_from c.args.bytes.now) c.requires.decoded c.in-Value.source c.requires.is known.0) c.requires.collected
 
-pub returns-in-Valid : goal.returns-in-Valid
-returns-in-Valid g c =
-    let known = subst (λ l. IsLoaded l (module_from c.args.bytes.now)) c.in-Valid.is c.in_ok-loaded.ensures.told in
-    run_told c.args.count c.args.own.now c.args.bytes.now c.in-Valid.source c.run_module.result known.0 c.run_module.ensures
+pub returns-in-Value : goal.returns-in-Value
+returns-in-Value g c =
+    let known = subst (λ l. IsLoaded l (module_from c.args.bytes.now)) c.in-Value.is c.in_ok-loaded.ensures.told in
+    run_told c.args.count c.args.own.now c.args.bytes.now c.in-Value.source c.run_module.result known.0 c.run_module.ensures
 
-pub returns-in-TurnedDown : goal.returns-in-TurnedDown
-returns-in-TurnedDown g c =
-    let known = subst (λ l. IsLoaded l (module_from c.args.bytes.now)) c.in-TurnedDown.is c.in_ok-loaded.ensures.told in
-    absurd (not_turned c.args.bytes.now c.in-TurnedDown.refusal c.requires known)
+pub returns-in-Refused : goal.returns-in-Refused
+returns-in-Refused g c =
+    let known = subst (λ l. IsLoaded l (module_from c.args.bytes.now)) c.in-Refused.is c.in_ok-loaded.ensures.told in
+    absurd (not_turned c.args.bytes.now c.in-Refused.refusal c.requires known)
