@@ -320,7 +320,8 @@ const LISTS: [Row; 2] = [
         replies: "",
         line: "f + f",
         status: 1,
-        text: "trap 1 unreachable\nat function 0 offset 8\nhost calls 0\ntrap 1 unreachable\nat function 0 offset 8\nhost calls 0\n",
+        text: "trap 1 unreachable\nat function 0 offset 8\nhost calls 0\ntrap 1 unreachable\n\
+               at function 0 offset 8\nhost calls 0\n",
     },
 ];
 

@@ -88,7 +88,8 @@ const SHOWN: [Row<'static>; 3] = [
         &[&HEADER, &CORE, &MISSING_STACK, &GLOBALS],
         NONE,
         0,
-        "dump \"\" frames 1\n#0 instance 0 function 0 offset 5 locals ? i64:-2 operands -\nglobal 0 i32:-1\nglobal 1 i64:64\n",
+        "dump \"\" frames 1\n#0 instance 0 function 0 offset 5 locals ? i64:-2 operands -\n\
+         global 0 i32:-1\nglobal 1 i64:64\n",
     ),
 ];
 

@@ -96,21 +96,24 @@ const SESSIONS: [Row<'static>; 7] = [
         &CHAIN_DUMP,
         "bt;frame 2;locals;operands",
         0,
-        "#0 ? (function 0 offset 1)\n#1 ? (function 1 offset 1)\n#2 ? (function 2 offset 1)\n#2 ? (function 2 offset 1)\nno locals\nno operands\n",
+        "#0 ? (function 0 offset 1)\n#1 ? (function 1 offset 1)\n#2 ? (function 2 offset 1)\n\
+         #2 ? (function 2 offset 1)\nno locals\nno operands\n",
     ),
     (
         &CALLS,
         &CALLS_DUMP,
         "operands;frame 1;locals;operands;frame 7;locals;frame 0;locals",
         0,
-        "operand 0 i32:9\n#1 ? (function 0 offset 17)\nlocal 0 i32:1\nno operands\nno frame 7\nlocal 0 i32:1\n#0 ? (function 0 offset 8)\nlocal 0 i32:0\n",
+        "operand 0 i32:9\n#1 ? (function 0 offset 17)\nlocal 0 i32:1\nno operands\nno frame 7\n\
+         local 0 i32:1\n#0 ? (function 0 offset 8)\nlocal 0 i32:0\n",
     ),
     (
         &SOURCE,
         &NO_FRAMES,
         "bt;frame 0;locals;operands;vars;print q;print q.;globals;x 0 1",
         0,
-        "no frame 0\nno frame 0\nno frame 0\nno frame 0\nno frame 0\nbad command\nglobal 0 <not recorded>\n<not recorded>\n",
+        "no frame 0\nno frame 0\nno frame 0\nno frame 0\nno frame 0\nbad command\n\
+         global 0 <not recorded>\n<not recorded>\n",
     ),
     (
         &SOURCE,
@@ -141,7 +144,9 @@ const BAD: [Row<'static>; 2] = [
         &SOURCE_DUMP,
         ";bt ; bt;frame;frame x;frame -1;frame 0 0;locals 0;print;print a b;print 1;x;x 0;x 0 0",
         0,
-        "bad command\nbad command\nbad command\nbad command\nbad command\nbad command\nbad command\nbad command\nbad command\nbad command\nbad command\nbad command\nbad command\nbad command\n",
+        "bad command\nbad command\nbad command\nbad command\nbad command\nbad command\n\
+         bad command\nbad command\nbad command\nbad command\nbad command\nbad command\n\
+         bad command\nbad command\n",
     ),
     (
         &SOURCE,
@@ -158,21 +163,25 @@ const SOURCES: [Row<'static>; 6] = [
         &SOURCE_DUMP,
         "bt;vars;print s.b[1];print *p",
         0,
-        "#0 f (function 0 offset 43) at t.c:5\np = 0x00010000\nx = 7\ns = {a = 3, b = {0, 66 'B', 0, 0}}\ns.b[1] = 66 'B'\n*p = <outside memory>\n",
+        "#0 f (function 0 offset 43) at t.c:5\np = 0x00010000\nx = 7\n\
+         s = {a = 3, b = {0, 66 'B', 0, 0}}\ns.b[1] = 66 'B'\n*p = <outside memory>\n",
     ),
     (
         &SOURCE5,
         &SOURCE_DUMP,
         "bt;vars;print s.b[1];print *p",
         0,
-        "#0 f (function 0 offset 43) at t.c:5\np = 0x00010000\nx = 7\ns = {a = 3, b = {0, 66 'B', 0, 0}}\ns.b[1] = 66 'B'\n*p = <outside memory>\n",
+        "#0 f (function 0 offset 43) at t.c:5\np = 0x00010000\nx = 7\n\
+         s = {a = 3, b = {0, 66 'B', 0, 0}}\ns.b[1] = 66 'B'\n*p = <outside memory>\n",
     ),
     (
         &SOURCE,
         &SOURCE_DUMP,
         "locals;operands;globals;x 1000 17;x 65535 1;x 65535 2",
         0,
-        "local 0 i32:65536\nlocal 1 i32:0\nlocal 2 i32:992\noperand 0 i32:65536\nglobal 0 i32:992\n000003e8: 00 00 01 00 07 00 00 00 03 00 00 00 00 42 00 00\n000003f8: 00\n0000ffff: 00\n<outside memory>\n",
+        "local 0 i32:65536\nlocal 1 i32:0\nlocal 2 i32:992\noperand 0 i32:65536\nglobal 0 i32:992\n\
+         000003e8: 00 00 01 00 07 00 00 00 03 00 00 00 00 42 00 00\n000003f8: 00\n0000ffff: 00\n\
+         <outside memory>\n",
     ),
     (
         &INLINED,
@@ -193,7 +202,9 @@ const SOURCES: [Row<'static>; 6] = [
         &SOURCE_DUMP,
         "bt;vars",
         0,
-        "unreadable .debug_info at 0\nunreadable .debug_line at 0\n#0 f (function 0 offset 43)\nunreadable .debug_info at 0\nunreadable .debug_line at 0\np = 0x00010000\nx = 7\ns = {a = 3, b = {0, 66 'B', 0, 0}}\n",
+        "unreadable .debug_info at 0\nunreadable .debug_line at 0\n#0 f (function 0 offset 43)\n\
+         unreadable .debug_info at 0\nunreadable .debug_line at 0\np = 0x00010000\nx = 7\n\
+         s = {a = 3, b = {0, 66 'B', 0, 0}}\n",
     ),
 ];
 

@@ -12,7 +12,7 @@ use dwarf_info::Units;
 use linear_memory::Memory;
 use pm_text::Text;
 use std::alloc::Global;
-use var_eval::{Frame, Shown, push_variable, value_at, value_of};
+use var_eval::{Shown, VariableFrame, push_variable, value_at, value_of};
 use var_path::parse_path;
 use wasm_syntax::Seen;
 
@@ -45,7 +45,7 @@ pub type Row = (Asked, &'static str);
 
 fn by_path(
     alloc: Global,
-    frame: &Frame<'_, '_, '_, '_, '_>,
+    frame: &VariableFrame<'_, '_, '_, '_, '_>,
     path: &str,
 ) -> Result<Shown, NoMemory> {
     match parse_path(alloc, path)? {
@@ -54,7 +54,11 @@ fn by_path(
     }
 }
 
-fn listed(alloc: Global, frame: &Frame<'_, '_, '_, '_, '_>, at: u32) -> Result<Shown, NoMemory> {
+fn listed(
+    alloc: Global,
+    frame: &VariableFrame<'_, '_, '_, '_, '_>,
+    at: u32,
+) -> Result<Shown, NoMemory> {
     let Some(variable) = standing_at(frame.units(), at) else {
         return Ok(Shown::NoVariable);
     };
@@ -65,7 +69,7 @@ fn listed(alloc: Global, frame: &Frame<'_, '_, '_, '_, '_>, at: u32) -> Result<S
 
 fn shown(
     alloc: Global,
-    frame: &Frame<'_, '_, '_, '_, '_>,
+    frame: &VariableFrame<'_, '_, '_, '_, '_>,
     asked: Asked,
 ) -> Result<Shown, NoMemory> {
     match asked {
@@ -85,7 +89,7 @@ fn has_text(shown: &Result<Shown, NoMemory>, text: &str) -> bool {
     }
 }
 
-fn first_wrong_in(alloc: Global, frame: &Frame<'_, '_, '_, '_, '_>, rows: &[Row]) -> usize {
+fn first_wrong_in(alloc: Global, frame: &VariableFrame<'_, '_, '_, '_, '_>, rows: &[Row]) -> usize {
     for (i, (asked, text)) in rows.iter().enumerate() {
         if !has_text(&shown(alloc, frame, *asked), text) {
             return i;
@@ -108,7 +112,7 @@ fn first_wrong_of(
         globals: scene.globals,
         memory: memory.as_ref(),
     };
-    match Frame::new(alloc, &sections, units, scene.address, &view, scene.left) {
+    match VariableFrame::new(alloc, &sections, units, scene.address, &view, scene.left) {
         Ok(frame) => first_wrong_in(alloc, &frame, rows),
         Err(_) => 0,
     }

@@ -49,12 +49,14 @@ const ROWS: [Row; 26] = [
     (
         27,
         Origin::Number(0xe0),
-        "{a = -1, b = <optimised out>, c = <unsupported type>, d = <unsupported type>, e = <unsupported type>, f = <unsupported type>, g = 0}",
+        "{a = -1, b = <optimised out>, c = <unsupported type>, d = <unsupported type>, e = \
+         <unsupported type>, f = <unsupported type>, g = 0}",
     ),
     (
         27,
         Origin::Address(65_536),
-        "{a = <outside memory>, b = 5, c = <unsupported type>, d = <unsupported type>, e = <unsupported type>, f = <unsupported type>, g = 0}",
+        "{a = <outside memory>, b = 5, c = <unsupported type>, d = <unsupported type>, e = \
+         <unsupported type>, f = <unsupported type>, g = 0}",
     ),
     (27, Origin::BadExpression, "<bad expression>"),
     (
@@ -87,7 +89,8 @@ const ROWS: [Row; 26] = [
     (
         168,
         Origin::Number(0),
-        "{r = {r = {r = {r = {r = {r = {r = {r = {r = {r = {r = {r = {r = {r = {r = {r = <type too deep>}}}}}}}}}}}}}}}}",
+        "{r = {r = {r = {r = {r = {r = {r = {r = {r = {r = {r = {r = {r = {r = {r = {r = <type too \
+         deep>}}}}}}}}}}}}}}}}",
     ),
     (175, Origin::Number(0xfffe_0001), "{i = -131071, s = -2}"),
     (
@@ -106,7 +109,9 @@ const ROWS: [Row; 26] = [
     (
         107,
         Origin::Address(32),
-        "{10, 0, 0, 0, 0, 0, 0, 0, 0, 0, 0, 0, 0, 0, 0, 0, 0, 0, 0, 0, 0, 0, 0, 0, 0, 0, 0, 0, 0, 0, 0, 0, 0, 0, 0, 0, 0, 0, 0, 0, 0, 0, 0, 0, 0, 0, 0, 0, 0, 0, 0, 0, 0, 0, 0, 0, 0, 0, 0, 0, 0, 0, 0, 0, ...}",
+        "{10, 0, 0, 0, 0, 0, 0, 0, 0, 0, 0, 0, 0, 0, 0, 0, 0, 0, 0, 0, 0, 0, 0, 0, 0, 0, 0, 0, 0, \
+         0, 0, 0, 0, 0, 0, 0, 0, 0, 0, 0, 0, 0, 0, 0, 0, 0, 0, 0, 0, 0, 0, 0, 0, 0, 0, 0, 0, 0, 0, \
+         0, 0, 0, 0, 0, ...}",
     ),
 ];
 

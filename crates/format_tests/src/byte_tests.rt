@@ -20,12 +20,12 @@ const BYTES: [u8; 13] = [
 #[test]
 fn lists_are_read(rt: HostRuntime) -> Result<(), Fail> {
     let mut reader = Reader::new(&BYTES);
-    let lists: Result<Items<Items<u32>>, ItemFault> = named_section(rt.alloc(), b"ab", &mut reader);
+    let lists = named_section::<Items<Items<u32>>>(rt.alloc(), b"ab", &mut reader);
     let lists = lists.ok().ok_or("the section is there")?;
     assert!(rt; lists.len() == 2);
     assert!(rt; matches!(lists.as_slice()[0].as_slice(), [128]));
     assert!(rt; matches!(lists.as_slice()[1].as_slice(), [7]));
-    let rest: Result<Items<u32>, ItemFault> = items_to_end(rt.alloc(), &mut reader);
+    let rest = items_to_end::<u32>(rt.alloc(), &mut reader);
     let rest = rest.ok().ok_or("two numbers are left")?;
     assert!(rt; matches!(rest.as_slice(), [5, 6]));
     Ok(())
@@ -50,7 +50,7 @@ struct Kept {
     numbers: Items<u32>,
 }
 
-impl<'a> Gather<'a> for Kept {
+impl<'a> Gather<Reader<'a>> for Kept {
     ghost step = { λ kept. mapped (λ x. record { numbers = kept.numbers ++ x ∷ [] }) u32_item };
 
     fn take(&mut self, alloc: Global, reader: &mut Reader<'a>) -> Result<(), ItemFault> {

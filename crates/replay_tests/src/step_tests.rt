@@ -2,7 +2,7 @@
 
 use host_replies::read_replies;
 use machine_basics::TrapKind;
-use replay::{Replayer, RunEnd};
+use replay::{Recorded, Replayer, RunEnd};
 use std::alloc::Global;
 use test_modules::{DIVISION, READING, RECURSIVE, TABLE_BRANCH};
 use wasm_decode::decode;
@@ -251,9 +251,15 @@ fn ask_replay(
     if every == 0 {
         return Told::Nothing;
     }
-    match Replayer::new(
-        alloc, source, case.entry, case.args, replies, 100, case.fuel, every,
-    ) {
+    let recorded = Recorded {
+        source,
+        entry: case.entry,
+        args: case.args,
+        replies,
+        depth: 100,
+        fuel: case.fuel,
+    };
+    match Replayer::new(alloc, recorded, every) {
         Ok(mut replayer) => answer(&mut replayer, asked, every),
         Err(_) => Told::Nothing,
     }

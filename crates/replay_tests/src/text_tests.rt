@@ -163,7 +163,8 @@ const LOOKS: [Row<'static>; 5] = [
         (1_000, 100),
         "goto 3;operands;frame 0;goto 4;operands;frame 0",
         0,
-        "step 3 of 4\noperand 0 i32:4\n#0 ? (function 0 offset 6)\nstep 4 of 4 finished i32:4\nno frame 0\nno frame 0\n",
+        "step 3 of 4\noperand 0 i32:4\n#0 ? (function 0 offset 6)\nstep 4 of 4 finished i32:4\n\
+         no frame 0\nno frame 0\n",
     ),
     (
         &RECURSIVE,
@@ -193,7 +194,8 @@ const LOOKS: [Row<'static>; 5] = [
         (1_000, 100),
         "goto 8;frame 1;locals;until 9:9;locals;goto 9;locals",
         0,
-        "step 8 of 13\n#1 ? (function 0 offset 17)\nlocal 0 i32:1\nnot reached\nlocal 0 i32:1\nstep 9 of 13\nlocal 0 i32:0\n",
+        "step 8 of 13\n#1 ? (function 0 offset 17)\nlocal 0 i32:1\nnot reached\nlocal 0 i32:1\n\
+         step 9 of 13\nlocal 0 i32:0\n",
     ),
     (
         &DIVISION,
@@ -254,17 +256,20 @@ const STEPS: [(u32, &str, &str); 39] = [
     (
         0,
         "goto 7;frame 0;operands",
-        "step 7 of 14\n#0 ? (function 0 offset 15)\noperand 0 i32:10\noperand 1 i32:20\noperand 2 i32:30\noperand 3 i32:7\n",
+        "step 7 of 14\n#0 ? (function 0 offset 15)\noperand 0 i32:10\noperand 1 i32:20\n\
+         operand 2 i32:30\noperand 3 i32:7\n",
     ),
     (
         0,
         "goto 8;frame 0;operands",
-        "step 8 of 14\n#0 ? (function 0 offset 17)\noperand 0 i32:10\noperand 1 i32:20\noperand 2 i32:30\noperand 3 i32:7\noperand 4 i32:0\n",
+        "step 8 of 14\n#0 ? (function 0 offset 17)\noperand 0 i32:10\noperand 1 i32:20\n\
+         operand 2 i32:30\noperand 3 i32:7\noperand 4 i32:0\n",
     ),
     (
         0,
         "goto 9;frame 0;operands",
-        "step 9 of 14\n#0 ? (function 0 offset 23)\noperand 0 i32:10\noperand 1 i32:20\noperand 2 i32:30\noperand 3 i32:7\n",
+        "step 9 of 14\n#0 ? (function 0 offset 23)\noperand 0 i32:10\noperand 1 i32:20\n\
+         operand 2 i32:30\noperand 3 i32:7\n",
     ),
     (
         0,
@@ -329,12 +334,14 @@ const STEPS: [(u32, &str, &str); 39] = [
     (
         1,
         "goto 7;frame 0;operands",
-        "step 7 of 12\n#0 ? (function 0 offset 15)\noperand 0 i32:10\noperand 1 i32:20\noperand 2 i32:30\noperand 3 i32:7\n",
+        "step 7 of 12\n#0 ? (function 0 offset 15)\noperand 0 i32:10\noperand 1 i32:20\n\
+         operand 2 i32:30\noperand 3 i32:7\n",
     ),
     (
         1,
         "goto 8;frame 0;operands",
-        "step 8 of 12\n#0 ? (function 0 offset 17)\noperand 0 i32:10\noperand 1 i32:20\noperand 2 i32:30\noperand 3 i32:7\noperand 4 i32:1\n",
+        "step 8 of 12\n#0 ? (function 0 offset 17)\noperand 0 i32:10\noperand 1 i32:20\n\
+         operand 2 i32:30\noperand 3 i32:7\noperand 4 i32:1\n",
     ),
     (
         1,
@@ -394,12 +401,14 @@ const STEPS: [(u32, &str, &str); 39] = [
     (
         5,
         "goto 7;frame 0;operands",
-        "step 7 of 10\n#0 ? (function 0 offset 15)\noperand 0 i32:10\noperand 1 i32:20\noperand 2 i32:30\noperand 3 i32:7\n",
+        "step 7 of 10\n#0 ? (function 0 offset 15)\noperand 0 i32:10\noperand 1 i32:20\n\
+         operand 2 i32:30\noperand 3 i32:7\n",
     ),
     (
         5,
         "goto 8;frame 0;operands",
-        "step 8 of 10\n#0 ? (function 0 offset 17)\noperand 0 i32:10\noperand 1 i32:20\noperand 2 i32:30\noperand 3 i32:7\noperand 4 i32:5\n",
+        "step 8 of 10\n#0 ? (function 0 offset 17)\noperand 0 i32:10\noperand 1 i32:20\n\
+         operand 2 i32:30\noperand 3 i32:7\noperand 4 i32:5\n",
     ),
     (
         5,

@@ -1,7 +1,7 @@
 //! Verdicts of guards, and kinds of traps, which are run on constants.
 
 ghost use Rattle.std.specs.Prelude.{◌≡◌, ◌≤◌, ◌∷◌, [], length, IfOk, OnOk};
-ghost use Rattle.wasm_format_laws.specs.Sized.{Sized};
+ghost use Rattle.wasm_format_laws.specs.calls.Sized.{Sized};
 
 use crate::modules::{DIV, valid};
 use causes::NoMemory;
@@ -9,7 +9,7 @@ use guard_insert::{guard, guard_unreachable, kind};
 use index_map::IndexMap;
 use machine_basics::{Globals, Performed, Shared, perform};
 use pm_text::{Items, Stack};
-use rewrite_code::{CodeWriter, FunctionContext, OperandPlace, OperandPlaces};
+use rewrite_code::{CodeWriter, FunctionContext, Landings, OperandPlace, OperandPlaces};
 use std::alloc::Global;
 use std::test::Fail;
 use wasm_syntax::{Basic, Binary, Body, Instr, ValType, Value};
@@ -126,7 +126,14 @@ fn divisions_are_judged(alloc: Global, source: &Validated) -> Result<bool, NoMem
 {
     let locals = parameters(alloc)?;
     let map = IndexMap::new(alloc, source.module())?;
-    let context = FunctionContext::new(&map, locals, 4, 0, Some(ValType::I32));
+    let context = FunctionContext::new(
+        &map,
+        locals,
+        4,
+        0,
+        Some(ValType::I32),
+        Landings::new(alloc),
+    );
     let judged = all_leave(alloc, &context)?;
     Ok(judged)
 }

@@ -2,7 +2,7 @@
 
 ghost use Rattle.std.specs.Bool.{OnTrue};
 ghost use Rattle.index_map.specs.calls.Wrapper.{HasWrapper};
-ghost use Rattle.wasm_format_laws.specs.Sized.{Sized};
+ghost use Rattle.wasm_format_laws.specs.calls.Sized.{Sized};
 
 use crate::modules::{DIV, valid};
 use crate::piece_tests::has_two_functions;

@@ -4,7 +4,7 @@
 ghost use Rattle.std.specs.Prelude.{◌≡◌, ◌≤◌, ◌<◌, length, IfOk};
 ghost use Rattle.std.specs.Bool.{OnTrue};
 ghost use Rattle.wasm_syntax.specs.Module.{function_types};
-ghost use Rattle.wasm_format_laws.specs.Sized.{Sized};
+ghost use Rattle.wasm_format_laws.specs.calls.Sized.{Sized};
 
 use crate::code_tests::is_code;
 use crate::modules::valid;
@@ -12,12 +12,12 @@ use causes::NoMemory;
 use guard_insert::guarded;
 use index_map::IndexMap;
 use pm_text::Items;
-use rewrite_code::{CodeWriter, FunctionContext, OperandPlace, OperandPlaces, drops};
+use rewrite_code::{CodeWriter, FunctionContext, Landings, OperandPlace, OperandPlaces, drops};
 use std::alloc::Global;
 use std::test::Fail;
 use unwind_rewrite::{
-    TypeNumbers, branch_table, call_function, call_through_table, close_block, close_body, helper,
-    open_block, open_body, trap, wrapper,
+    Site, TypeNumbers, branch_table, call_function, call_through_table, close_block, close_body,
+    helper, open_block, open_body, trap, wrapper,
 };
 use wasm_syntax::{Basic, Binary, Compare, FuncType, Instr, Jump, ModuleParts, ValType, Value};
 use wasm_validate::Validated;
@@ -314,7 +314,15 @@ fn branches(
     open_block(context, writer, Some(ValType::I64), copies)?;
     close_block(context, writer, Some(ValType::I64), 3)?;
     branch_table(writer, &[0, 1], 1)?;
-    trap(context, writer, 1, places, 3)
+    trap(
+        context,
+        writer,
+        &Site {
+            labels: 1,
+            places,
+            offset: 3,
+        },
+    )
 }
 
 // A call behind one that took so many operands and gave an i32.
@@ -333,7 +341,12 @@ fn call_behind(
     places.discard(taken);
     places.push(OperandPlace::Spilled(ValType::I32))?;
     if places.len() <= 4 {
-        call_function(context, writer, 1, places, offset, function, ftype)
+        let site = Site {
+            labels: 1,
+            places,
+            offset,
+        };
+        call_function(context, writer, &site, function, ftype)
     } else {
         Ok(())
     }
@@ -353,7 +366,12 @@ fn calls(
         index: 0,
         helper: 6,
     };
-    call_through_table(context, writer, 1, places, 9, numbers, ftype)?;
+    let site = Site {
+        labels: 1,
+        places,
+        offset: 9,
+    };
+    call_through_table(context, writer, &site, numbers, ftype)?;
     call_behind(context, writer, places, 3, 12, 1, ftype)?;
     call_behind(context, writer, places, 2, 15, 0, ftype)
 }
@@ -361,7 +379,7 @@ fn calls(
 fn ends(context: &FunctionContext<'_, '_>, writer: &mut CodeWriter) -> Result<(), NoMemory>
     requires { 1 < length (function_types context.now.source) }
 {
-    open_body(writer, Some(ValType::I32))?;
+    open_body(context, writer)?;
     close_body(context, writer)?;
     let map = context.map();
     wrapper(map, writer, map.source().globals.as_slice(), 1, 2)?;
@@ -455,7 +473,14 @@ fn writes_pieces(alloc: Global, source: &Validated) -> Result<bool, NoMemory>
 {
     let locals = two_locals(alloc)?;
     let map = IndexMap::new(alloc, source.module())?;
-    let context = FunctionContext::new(&map, locals, 4, 1, Some(ValType::I32));
+    let context = FunctionContext::new(
+        &map,
+        locals,
+        4,
+        1,
+        Some(ValType::I32),
+        Landings::new(alloc),
+    );
     let same = writes_all(alloc, &context)?;
     Ok(same)
 }

@@ -3,7 +3,7 @@
 ghost use Rattle.std.specs.Prelude.{◌≡◌, ◌≤◌, ℕ, [], ◌∷◌, List, IfOk};
 ghost use Rattle.wasm_syntax.specs.declared.quantity.Quantity.TheVariants.{Height};
 ghost use Rattle.wasm_syntax.specs.Quantity.{greatest};
-ghost use Rattle.wasm_format_laws.specs.Sized.{Sized};
+ghost use Rattle.wasm_format_laws.specs.calls.Sized.{Sized};
 ghost use Rattle.rewrite_modules.specs.Weight.{height_at};
 
 use crate::modules::{DIV, valid};

@@ -31,7 +31,9 @@ const NUMBERS: [Row; 6] = [
         replies: "",
         status: 1,
         text: "trap 3 integer overflow\nat function 0 offset 5\nhost calls 0\n",
-        shown: "dump \"module\" frames 1\n#0 instance 0 function 0 offset 5 locals i32:-2147483648 i32:-1 operands i32:-2147483648 i32:-1\n",
+        shown: "dump \"module\" frames 1\n\
+                #0 instance 0 function 0 offset 5 locals i32:-2147483648 i32:-1 operands \
+                i32:-2147483648 i32:-1\n",
     },
     Row {
         source: &REMAINDER,
@@ -82,7 +84,8 @@ const MEMORIES: [Row; 11] = [
         replies: "",
         status: 1,
         text: "trap 4 out of bounds memory access\nat function 0 offset 3\nhost calls 0\n",
-        shown: "dump \"module\" frames 1\n#0 instance 0 function 0 offset 3 locals i32:65533 operands i32:65533\nmemory 1\n",
+        shown: "dump \"module\" frames 1\n\
+                #0 instance 0 function 0 offset 3 locals i32:65533 operands i32:65533\nmemory 1\n",
     },
     Row {
         source: &FAR_LOADING,
@@ -130,7 +133,9 @@ const MEMORIES: [Row; 11] = [
         replies: "",
         status: 1,
         text: "trap 4 out of bounds memory access\nat function 0 offset 7\nhost calls 0\n",
-        shown: "dump \"module\" frames 1\n#0 instance 0 function 0 offset 7 locals i32:65533 operands i32:65533 i32:7 i32:4\nmemory 1\n",
+        shown: "dump \"module\" frames 1\n\
+                #0 instance 0 function 0 offset 7 locals i32:65533 operands i32:65533 i32:7 i32:4\n\
+                memory 1\n",
     },
     Row {
         source: &FILLING_NONE,
@@ -146,7 +151,9 @@ const MEMORIES: [Row; 11] = [
         replies: "",
         status: 1,
         text: "trap 4 out of bounds memory access\nat function 0 offset 7\nhost calls 0\n",
-        shown: "dump \"module\" frames 1\n#0 instance 0 function 0 offset 7 locals i32:65537 operands i32:65537 i32:7 i32:0\nmemory 1\n",
+        shown: "dump \"module\" frames 1\n\
+                #0 instance 0 function 0 offset 7 locals i32:65537 operands i32:65537 i32:7 i32:0\n\
+                memory 1\n",
     },
     Row {
         source: &COPYING,
@@ -264,7 +271,10 @@ const CALLS: [Row; 5] = [
         replies: "",
         status: 1,
         text: "trap 5 undefined element\nat function 0 offset 8\nhost calls 0\n",
-        shown: "dump \"module\" frames 3\n#0 instance 0 function 0 offset 8 locals i32:0 operands i32:9\n#1 instance 0 function 0 offset 17 locals i32:1 operands -\n#2 instance 0 function 0 offset 17 locals i32:2 operands -\n",
+        shown: "dump \"module\" frames 3\n\
+                #0 instance 0 function 0 offset 8 locals i32:0 operands i32:9\n\
+                #1 instance 0 function 0 offset 17 locals i32:1 operands -\n\
+                #2 instance 0 function 0 offset 17 locals i32:2 operands -\n",
     },
     Row {
         source: &RECURSIVE,
@@ -272,7 +282,10 @@ const CALLS: [Row; 5] = [
         replies: "",
         status: 1,
         text: "trap 8 call stack exhausted\nat function 0 offset 17\nhost calls 0\n",
-        shown: "dump \"module\" frames 3\n#0 instance 0 function 0 offset 17 locals i32:1 operands i32:0\n#1 instance 0 function 0 offset 17 locals i32:2 operands -\n#2 instance 0 function 0 offset 17 locals i32:3 operands -\n",
+        shown: "dump \"module\" frames 3\n\
+                #0 instance 0 function 0 offset 17 locals i32:1 operands i32:0\n\
+                #1 instance 0 function 0 offset 17 locals i32:2 operands -\n\
+                #2 instance 0 function 0 offset 17 locals i32:3 operands -\n",
     },
     Row {
         source: &STARTING,
@@ -416,7 +429,8 @@ const LISTS: [Row; 4] = [
         line: "f + f",
         replies: "",
         status: 1,
-        text: "trap 1 unreachable\nat function 0 offset 8\nhost calls 0\ntrap 1 unreachable\nat function 0 offset 8\nhost calls 0\n",
+        text: "trap 1 unreachable\nat function 0 offset 8\nhost calls 0\ntrap 1 unreachable\n\
+               at function 0 offset 8\nhost calls 0\n",
         shown: "dump \"module\" frames 1\n#0 instance 0 function 0 offset 8 locals - operands -\nglobal 0 i32:1\n",
     },
     Row {
@@ -425,15 +439,22 @@ const LISTS: [Row; 4] = [
         replies: "",
         status: 1,
         text: "trap 8 call stack exhausted\nat function 0 offset 17\nhost calls 0\nnot invoked 1\n",
-        shown: "dump \"module\" frames 3\n#0 instance 0 function 0 offset 17 locals i32:1 operands i32:0\n#1 instance 0 function 0 offset 17 locals i32:2 operands -\n#2 instance 0 function 0 offset 17 locals i32:3 operands -\n",
+        shown: "dump \"module\" frames 3\n\
+                #0 instance 0 function 0 offset 17 locals i32:1 operands i32:0\n\
+                #1 instance 0 function 0 offset 17 locals i32:2 operands -\n\
+                #2 instance 0 function 0 offset 17 locals i32:3 operands -\n",
     },
     Row {
         source: &RECURSIVE,
         line: "--depth 3 f i32:2 + f i32:3",
         replies: "",
         status: 1,
-        text: "trap 5 undefined element\nat function 0 offset 8\nhost calls 0\ntrap 8 call stack exhausted\nat function 0 offset 17\nhost calls 0\n",
-        shown: "dump \"module\" frames 3\n#0 instance 0 function 0 offset 8 locals i32:0 operands i32:9\n#1 instance 0 function 0 offset 17 locals i32:1 operands -\n#2 instance 0 function 0 offset 17 locals i32:2 operands -\n",
+        text: "trap 5 undefined element\nat function 0 offset 8\nhost calls 0\n\
+               trap 8 call stack exhausted\nat function 0 offset 17\nhost calls 0\n",
+        shown: "dump \"module\" frames 3\n\
+                #0 instance 0 function 0 offset 8 locals i32:0 operands i32:9\n\
+                #1 instance 0 function 0 offset 17 locals i32:1 operands -\n\
+                #2 instance 0 function 0 offset 17 locals i32:2 operands -\n",
     },
 ];
 

@@ -34,7 +34,8 @@ const ROWS: [Row; 8] = [
         line: "--replies r --record log f + f",
         replies: "# two\ni32:4294967295 4=AB\ni32:2\ni32:3",
         status: 1,
-        text: "trap 1 unreachable\nat function 1 offset 5\nhost calls 1\ntrap 1 unreachable\nat function 1 offset 5\nhost calls 1\n",
+        text: "trap 1 unreachable\nat function 1 offset 5\nhost calls 1\ntrap 1 unreachable\n\
+               at function 1 offset 5\nhost calls 1\n",
         record: Some("i32:-1 4=ab\ni32:2\n"),
     },
     Row {
