@@ -8,7 +8,7 @@ A file of which something must be believed stands directly in a crate's specs/, 
 specs/calls/, what nobody outside the crate names in specs/inner/. The page has a row for each crate with its files, in a good order to read them.
 
 Run it at the top of a clone. A ROOT is a function's name, FILE:NAME, or FILE for all its `pub` functions;
-the default is post_mortem and rewriting_promises.
+the default is post_mortem.
 
 It goes by names: from the clauses of the roots through the definitions of specs/, and the structs, enums, type aliases and members of traits
 in src/ that these mention. Of a type with an `impl Model` it follows what contracts see (`Value`), and not its fields. A name that a binder or
@@ -21,7 +21,7 @@ from collections import defaultdict
 from pathlib import Path
 from typing import NamedTuple
 
-DEFAULT = ['post_mortem', 'rewriting_promises']
+DEFAULT = ['post_mortem']
 TOP = Path('.')
 STRING = re.compile(r'"(?:[^"\\]|\\.)*"')
 
@@ -598,7 +598,7 @@ ANSWERS = {
     'cover': ('cover_command.specs.CoverAnswer', 'CoverAnswer'),
 }
 # All files; all but those that say what DWARF says, and print its values; and those that whoever relies on one command has to read.
-MOST, MOST_BESIDE_DWARF, MOST_OF_ONE = 6890, 5110, 5000
+MOST, MOST_BESIDE_DWARF, MOST_OF_ONE = 6380, 4600, 5000
 DWARF = ('dwarf', 'var_')
 
 

@@ -3,9 +3,9 @@
 public_calls.py --program  compares those that the program does not run with the table of docs/ARCHITECTURE.md; status 1 where they differ
 
 It goes by names, from the tests, or from `main`, through the bodies of the functions that they name; a function of another crate counts only
-where the file names it with its crate. A method counts where a function that is run calls one of its name in a file that names its type; the
-few whose type is never written where they are called are listed below with such a place. Laws (functions with an empty body) have nothing to
-run. Run it at the top of a clone.
+where the file names it with its crate. A method counts where a function that is run calls one of its name in a file that names its type, but
+not on `iter()`; the few whose type is never written where they are called are listed below with such a place. Laws (functions with an empty
+body) have nothing to run. Run it at the top of a clone.
 """
 import re
 import sys
@@ -21,12 +21,17 @@ ELSEWHERE = {
     ('Found', 'add'): 'dump_format, for each part',
     ('Found', 'is_found'): 'dump_format, behind the sections',
     ('Gathered', 'judged'): 'dump_format, behind the sections',
-    ('Module', 'into_parts'): 'machine_tests, of a decoded module',
-    ('Table', 'find'): 'dwarf_info, for each entry',
+    ('SharedLists', 'find'): 'dwarf_info, for each entry',
+    ('Programs', 'lines'): 'cover_command, where it tells counts',
     ('Rows', 'first'): 'dwarf_line, for each sequence',
     ('Rows', 'nearest'): 'dwarf_line, for each address',
     ('IndexMap', 'helper'): 'unwind_rewrite, at a call_indirect',
     ('Globals', 'set'): 'machine_basics, at a global.set',
+}
+IN_TESTS = {
+    ('Module', 'into_parts'): 'machine_tests, of a decoded module',
+    ('Table', 'find'): 'dwarf_tests, of a table that is read',
+    ('Attributes', 'all'): 'dwarf_tests, of each entry',
 }
 
 
@@ -107,23 +112,23 @@ def run_from(begins, by_name, files):
     return run
 
 
-def is_called(f, texts, files):
+def is_called(f, texts, files, elsewhere):
     """Whether a function that is run names this one, and where it is one of a type, the type too."""
     if not f.owner:
         return True
-    if (f.owner, f.name) in ELSEWHERE:
+    if (f.owner, f.name) in elsewhere:
         return True
-    call = re.compile(rf'\.{f.name}\(' if f.takes_self else rf'\b(?:{f.owner}|Self)::(?:<[^>]*>::)?{f.name}\b')
+    call = re.compile(rf'(?<!\.iter\(\))\.{f.name}(?:::<[^()]*>)?\(' if f.takes_self else rf'\b(?:{f.owner}|Self)::(?:<[^>]*>::)?{f.name}\b')
     return any(call.search(text) and re.search(rf'\b{f.owner}\b', files[file]) for file, text in texts.items())
 
 
-def not_run(begins, by_name, files):
+def not_run(begins, by_name, files, elsewhere):
     """The public functions that these do not reach, laws aside, and how many there are in all."""
     run, texts = run_from(begins, by_name, files), defaultdict(str)
     for f in run:
         texts[f.file] += f.body + '\n'
     public = [f for functions in by_name.values() for f in functions if f.is_public and not f.is_test and not f.body.rstrip().endswith('{}')]
-    return sorted(f for f in public if f not in run or not is_called(f, texts, files)), len(public)
+    return sorted(f for f in public if f not in run or not is_called(f, texts, files, elsewhere)), len(public)
 
 
 def listed():
@@ -158,8 +163,8 @@ def main(args):
             by_name[f.name].append(f)
     every = [f for functions in by_name.values() for f in functions]
     if args:
-        return compare(not_run([f for f in every if f.file.endswith('pm_main/src/main.rt')], by_name, files)[0])
-    lacking, count = not_run([f for f in every if f.is_test], by_name, files)
+        return compare(not_run([f for f in every if f.file.endswith('pm_main/src/main.rt')], by_name, files, ELSEWHERE)[0])
+    lacking, count = not_run([f for f in every if f.is_test], by_name, files, ELSEWHERE | IN_TESTS)
     for f in lacking:
         print(f'{f.file}:{f.line}: {title(f)} is run by no test')
     print(f'{count} public functions, {len(lacking)} of which no test runs')
