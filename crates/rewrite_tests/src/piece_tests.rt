@@ -1,7 +1,7 @@
 //! Pieces of rewritten bodies, written out by hand from the definitions, for a function of an i32
 //! and an i64 that gives an i32, with four heights.
 
-ghost use Rattle.std.specs.Prelude.{◌≡◌, ◌≤◌, ◌<◌, length, IfOk};
+ghost use Rattle.std.specs.Prelude.{◌≡◌, ◌≤◌, ◌<◌, [], length, IfOk};
 ghost use Rattle.std.specs.Bool.{OnTrue};
 ghost use Rattle.wasm_syntax.specs.Module.{function_types};
 ghost use Rattle.wasm_format_laws.specs.calls.Sized.{Sized};
@@ -377,7 +377,8 @@ fn calls(
 }
 
 fn ends(context: &FunctionContext<'_, '_>, writer: &mut CodeWriter) -> Result<(), NoMemory>
-    requires { 1 < length (function_types context.now.source) }
+    requires there { 1 < length (function_types context.now.source) }
+    requires none { context.now.landings ≡ [] }
 {
     open_body(context, writer)?;
     close_body(context, writer)?;
@@ -427,7 +428,8 @@ fn writes_calls(
 }
 
 fn writes_ends(alloc: Global, context: &FunctionContext<'_, '_>) -> Result<bool, NoMemory>
-    requires { 1 < length (function_types context.now.source) }
+    requires there { 1 < length (function_types context.now.source) }
+    requires none { context.now.landings ≡ [] }
 {
     let mut writer = CodeWriter::new(alloc);
     ends(context, &mut writer)?;
@@ -445,7 +447,8 @@ pub fn has_two_functions(parts: &ModuleParts) -> bool
 }
 
 fn writes_all(alloc: Global, context: &FunctionContext<'_, '_>) -> Result<bool, NoMemory>
-    requires { 4 ≤ context.now.slots }
+    requires heights { 4 ≤ context.now.slots }
+    requires none { context.now.landings ≡ [] }
 {
     let parts = context.map().source();
     let Some(ftype) = parts.types.get(0) else {
